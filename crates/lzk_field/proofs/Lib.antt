@@ -1,0 +1,5 @@
+pub mod ByteForms
+pub mod RingBasics
+pub mod Solve
+pub mod SolveExamples
+pub mod SumLaws

@@ -1,0 +1,4 @@
+pub mod Bytes
+pub mod Ring
+pub mod Sums
+pub mod Words
