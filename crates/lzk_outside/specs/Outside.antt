@@ -36,7 +36,8 @@ pub record ReadsFrom (file : List ℕ) (from n : ℕ) (buf : List ℕ) : Type 0 
   pub fits : n ≤ length file - from
   pub ends : n ≡ 0 → length file ≤ from
 
--- what a read answers of the file under its name, if there is one: Ok only where it is there, Missing only where it isn't
+-- what a read answers of the file under its name, if there is one: Ok only where it is there, and
+-- Missing only where it isn't
 abbrev pub ReadsFile : Option (List ℕ) → ℕ → Result ℕ ShelfFault → List ℕ → Type 0
 ReadsFile file from (Ok n) buf = IsSomeAnd file (λ bytes. ReadsFrom bytes from n buf)
 ReadsFile file from (Err Missing) buf = file ≡ None

@@ -1,14 +1,14 @@
 //! What a run reads from, puts to and prints on: a shelf of files by name, and a sink of bytes.
 //!
-//! A `Shelf` is seen by what it holds, where it tells that, and by three counts that never fall: reads
-//! that failed, puts that failed, and reads of a name that is not there. A `Sink` is seen by what was
-//! written, where it tells that, and by a count of faults. So a caller's contract can say that it
-//! answers a fault only where a count rose, and what it answers where none did.
+//! A `Shelf` is seen by what it holds, where it tells that, and by three counts that never fall:
+//! reads that failed, puts that failed, and reads of a name that is not there. A `Sink` is seen by
+//! what was written, where it tells that, and by a count of faults. So a caller's contract can say
+//! that it answers a fault only where a count rose, and what it answers where none did.
 //!
 //! `MemShelf` and `MemSink` keep all in memory, tell their contents, and fail at the calls that are
-//! named when they are made. `DiskShelf` and `StdoutSink` are files of the system and standard output,
-//! and tell nothing of contents. The public source is this project's own profile: no outside document
-//! describes this layer.
+//! numbered when they are made. `DiskShelf` and `StdoutSink` are files of the system and standard
+//! output, and tell nothing of contents. This layer is the project's own: no outside document
+//! describes it.
 //!
 //! ```text
 //! let mut shelf = MemShelf::new(alloc, Vec::new(alloc), None);

@@ -10,9 +10,10 @@ use crate::outside::{PutFault, Shelf, ShelfFault, Sink, SinkFault};
 use std::alloc::{AllocError, Global};
 use std::collections::BTreeMap;
 
-/// A shelf that keeps its files in memory, always tells them, and fails at the calls that are named
-/// when it is made: with none named it never fails. Its calls of `read` and `put` are numbered together
-/// from 0. A call that ends for want of memory leaves the whole shelf as it was and takes no number.
+/// A shelf that keeps its files in memory, always tells them, and fails at the calls that are
+/// numbered when it is made: with no number given it never fails. Its calls of `read` and `put` are
+/// numbered together from 0, and the number stands at the last value of u64 as the counts do. A call
+/// that ends for want of memory leaves the whole shelf as it was, and takes no number.
 #[derive(Drop)]
 pub struct MemShelf {
     alloc: Global,
@@ -25,9 +26,10 @@ pub struct MemShelf {
     misses: u64,
 }
 
-/// A sink that keeps what was written in memory, always tells it, and fails at the writes that are named
-/// when it is made: with none named it never fails. Writes are numbered from 0. One that ends for want of
-/// memory leaves the whole sink as it was and takes no number.
+/// A sink that keeps what was written in memory, always tells it, and fails at the writes that are
+/// numbered when it is made: with no number given it never fails. Writes are numbered from 0, and the
+/// number stands at the last value of u64 as the count does. A write that ends for want of memory
+/// leaves the whole sink as it was, and takes no number.
 #[derive(Drop)]
 pub struct MemSink {
     bytes: Vec<u8>,
@@ -85,8 +87,9 @@ fn set_file(
 impl MemShelf {
     ghost use Rattle.lzk_outside.specs.Memory.{files_of, settings_of, tally_of};
 
-    /// A shelf that holds nothing and has counted nothing. The calls that are numbered in `failing` will
-    /// fail; such a put leaves the old state, or where `tear` is given the first `tear` bytes of the new.
+    /// A shelf that holds nothing and has counted nothing. The calls whose numbers are in `failing`
+    /// will fail. Such a put leaves the old state, or where `tear` is given the first `tear` bytes of
+    /// the new content, or all of it where it has fewer.
     pub fn new(alloc: Global, failing: Vec<u64>, tear: Option<u64>) -> MemShelf
         ensures files { files_of result ≡ no_files }
         ensures settings { settings_of result ≡ record { failing = failing.items; tear = tear; calls = 0 } }
@@ -104,7 +107,7 @@ impl MemShelf {
         }
     }
 
-    /// Sets a file, whether or not its name was there. It is no numbered call and never fails on purpose.
+    /// Sets a file, whether or not its name was there. It has no number, and only memory can stop it.
     pub fn add(&mut self, name: &str, bytes: &[u8]) -> Result<(), AllocError>
         ensures ok { OnOk result (files_of self.new ≡ with_file (files_of self.old) name.now bytes.now) }
         ensures err { OnErr result (files_of self.new ≡ files_of self.old) }
@@ -127,11 +130,11 @@ impl Shelf for MemShelf {
 
     ghost held = { λ s. Some (files_of s) };
 
-    ghost read_faults = { λ s. s.read_faults };
+    ghost read_faults = { λ s. (tally_of s).read_faults };
 
-    ghost put_faults = { λ s. s.put_faults };
+    ghost put_faults = { λ s. (tally_of s).put_faults };
 
-    ghost misses = { λ s. s.misses };
+    ghost misses = { λ s. (tally_of s).misses };
 
     /// Takes no memory, and gives all that there is room for.
     fn read(&mut self, name: &str, from: u64, buf: &mut [u8]) -> Result<usize, ShelfFault>
@@ -141,8 +144,10 @@ impl Shelf for MemShelf {
         ensures within { IfOk result (λ n. n ≤ length buf.new) }
         ensures told { Reads (Some (files_of self.old)) name.now from result buf.new }
         ensures same { Some (files_of self.new) ≡ Some (files_of self.old) }
-        ensures failed { Counts (result ≡ Err ShelfFault.Failed) (tally_of self.old).read_faults (tally_of self.new).read_faults }
-        ensures missing { Counts (result ≡ Err ShelfFault.Missing) (tally_of self.old).misses (tally_of self.new).misses }
+        ensures failed { Counts (result ≡ Err ShelfFault.Failed)
+            (tally_of self.old).read_faults (tally_of self.new).read_faults }
+        ensures missing { Counts (result ≡ Err ShelfFault.Missing)
+            (tally_of self.old).misses (tally_of self.new).misses }
         ensures puts { (tally_of self.new).put_faults ≡ (tally_of self.old).put_faults }
 
         // The calls that fail are those that were named.
@@ -151,7 +156,8 @@ impl Shelf for MemShelf {
         ensures memory { result ≢ Err ShelfFault.OutOfMemory }
 
         // What it gives and leaves, exactly.
-        ensures count { IfOk result (λ n. n ≡ min (length buf.old) (length (bytes_under (files_of self.old) name.now) - from)) }
+        ensures count { let file = bytes_under (files_of self.old) name.now in
+            IfOk result (λ n. n ≡ min (length buf.old) (length file - from)) }
         ensures rest { IfOk result (λ n. drop n buf.new ≡ drop n buf.old) }
         ensures untouched { OnErr result (buf.new ≡ buf.old) }
         ensures settings { settings_of self.new ≡ next_settings (settings_of self.old) }
@@ -172,13 +178,17 @@ impl Shelf for MemShelf {
         }
     }
 
-    /// A failing put that is to leave a front of the bytes takes memory for it, as any other put does.
+    /// A failing put that is to leave a front of the bytes takes memory for it, as other puts do.
     fn put(&mut self, name: &str, bytes: &[u8]) -> Result<(), PutFault>
         // What every shelf does.
-        ensures ok { OnOk result (Holds (Some (files_of self.old)) name.now bytes.now (Some (files_of self.new))) }
-        ensures failed { result ≡ Err PutFault.Failed → Torn (Some (files_of self.old)) name.now bytes.now (Some (files_of self.new)) }
-        ensures memory { result ≡ Err PutFault.OutOfMemory → Some (files_of self.new) ≡ Some (files_of self.old) }
-        ensures cause { Counts (result ≡ Err PutFault.Failed) (tally_of self.old).put_faults (tally_of self.new).put_faults }
+        ensures ok { OnOk result
+            (Holds (Some (files_of self.old)) name.now bytes.now (Some (files_of self.new))) }
+        ensures failed { result ≡ Err PutFault.Failed →
+            Torn (Some (files_of self.old)) name.now bytes.now (Some (files_of self.new)) }
+        ensures memory { result ≡ Err PutFault.OutOfMemory →
+            Some (files_of self.new) ≡ Some (files_of self.old) }
+        ensures cause { Counts (result ≡ Err PutFault.Failed)
+            (tally_of self.old).put_faults (tally_of self.new).put_faults }
         ensures reads { (tally_of self.new).read_faults ≡ (tally_of self.old).read_faults }
         ensures misses { (tally_of self.new).misses ≡ (tally_of self.old).misses }
 
@@ -188,7 +198,9 @@ impl Shelf for MemShelf {
         ensures never { (settings_of self.old).failing ≡ [] → result ≢ Err PutFault.Failed }
 
         // What it leaves, exactly.
-        ensures torn { result ≡ Err PutFault.Failed → TornFiles (files_of self.old) (settings_of self.old).tear name.now bytes.now (files_of self.new) }
+        ensures torn { let tear = (settings_of self.old).tear in
+            result ≡ Err PutFault.Failed →
+            TornFiles (files_of self.old) tear name.now bytes.now (files_of self.new) }
         ensures settings { settings_of self.new ≡ settings_after_put (settings_of self.old) result }
         ensures tally { tally_of self.new ≡ tally_after_put (tally_of self.old) result }
     {
@@ -215,8 +227,8 @@ impl Shelf for MemShelf {
 impl MemSink {
     ghost use Rattle.lzk_outside.specs.Memory.{bytes_of, sink_settings_of, faults_of};
 
-    /// A sink that has written nothing and counted nothing. The writes that are numbered in `failing` will
-    /// fail, and one write takes at most `most` bytes.
+    /// A sink that has written nothing and counted nothing. The writes whose numbers are in `failing`
+    /// will fail, and one write takes at most `most` bytes.
     pub fn new(alloc: Global, failing: Vec<u64>, most: usize) -> MemSink
         requires { 0 < most }
         ensures bytes { bytes_of result ≡ [] }
@@ -245,15 +257,17 @@ impl Sink for MemSink {
 
     ghost written = { λ s. Some (bytes_of s) };
 
-    ghost faults = { λ s. s.faults };
+    ghost faults = { λ s. faults_of s };
 
+    /// Takes as many bytes as there are, up to the most that the sink takes in one write.
     fn write(&mut self, bytes: &[u8]) -> Result<usize, SinkFault>
         requires { 0 < length bytes.now }
 
         // What every sink does.
         ensures some { IfOk result (λ n. 0 < n) }
         ensures within { IfOk result (λ n. n ≤ length bytes.now) }
-        ensures ok { IfOk result (λ n. Appends (Some (bytes_of self.old)) (take n bytes.now) (Some (bytes_of self.new))) }
+        ensures ok { IfOk result
+            (λ n. Appends (Some (bytes_of self.old)) (take n bytes.now) (Some (bytes_of self.new))) }
         ensures err { OnErr result (Some (bytes_of self.new) ≡ Some (bytes_of self.old)) }
         ensures cause { Counts (result ≡ Err SinkFault.Failed) (faults_of self.old) (faults_of self.new) }
 

@@ -37,7 +37,8 @@ pub trait Shelf {
     /// The bytes under each name, where the shelf tells them. No call changes whether it does.
     ghost held: { Self → Option Files };
 
-    /// How many reads failed. Like the other counts it never falls, and it may stand still at the last value of u64.
+    /// How many reads failed. Like the other counts it never falls, and it may stand still at the last
+    /// value of u64.
     ghost read_faults: { Self → ℕ };
 
     /// How many puts failed.
@@ -46,9 +47,9 @@ pub trait Shelf {
     /// How many reads were of a name that is not there.
     ghost misses: { Self → ℕ };
 
-    /// Fills the front of `buf` with the bytes of a name from byte `from` on, and answers how many. That
-    /// may be fewer than there is room for; it is 0 at the end of the file and past it, and only there.
-    /// Nothing is said of the bytes of `buf` after them.
+    /// Fills the front of `buf` with the bytes of a name from byte `from` on, and answers how many.
+    /// That may be fewer than there is room for. It is 0 at the end of the file and past it, and only
+    /// there. Nothing is said of the bytes of `buf` after them.
     fn read(&mut self, name: &str, from: u64, buf: &mut [u8]) -> Result<usize, ShelfFault>
         requires { 0 < length buf.old }
         ensures within { IfOk result (λ n. n ≤ length buf.new) }
@@ -60,11 +61,12 @@ pub trait Shelf {
         ensures missing { Counts (result ≡ Err ShelfFault.Missing) (misses self.old) (misses self.new) }
         ensures puts { put_faults self.new ≡ put_faults self.old };
 
-    /// Makes a name hold exactly these bytes, whether or not it was there. A failure leaves under that name
-    /// what was there, or a front of the new bytes.
+    /// Makes a name hold exactly these bytes, whether or not it was there. A failure leaves under that
+    /// name what was there, or a front of the new bytes.
     fn put(&mut self, name: &str, bytes: &[u8]) -> Result<(), PutFault>
         ensures ok { OnOk result (Holds (held self.old) name.now bytes.now (held self.new)) }
-        ensures failed { result ≡ Err PutFault.Failed → Torn (held self.old) name.now bytes.now (held self.new) }
+        ensures failed { result ≡ Err PutFault.Failed →
+            Torn (held self.old) name.now bytes.now (held self.new) }
         ensures memory { result ≡ Err PutFault.OutOfMemory → held self.new ≡ held self.old }
 
         // A failure is counted, and nothing else is answered so.
@@ -81,8 +83,8 @@ pub trait Sink {
     /// How many writes failed. It never falls, and may stand still at the last value of u64.
     ghost faults: { Self → ℕ };
 
-    /// Takes some bytes, one or more, from the front of `bytes`, and answers how many. The caller goes on
-    /// with the rest.
+    /// Takes some bytes, one or more, from the front of `bytes`, and answers how many. The caller goes
+    /// on with the rest.
     fn write(&mut self, bytes: &[u8]) -> Result<usize, SinkFault>
         requires { 0 < length bytes.now }
         ensures some { IfOk result (λ n. 0 < n) }

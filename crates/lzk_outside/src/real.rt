@@ -15,6 +15,7 @@ use std::{fs, io};
 #[derive(Drop)]
 pub struct DiskShelf<R: Files + Drop> {
     rt: R,
+    // Each object of this crate keeps the allocator that it is made with. The system's files need none.
     alloc: Global,
     read_faults: u64,
     put_faults: u64,
@@ -25,6 +26,7 @@ pub struct DiskShelf<R: Files + Drop> {
 #[derive(Drop)]
 pub struct StdoutSink<R: Print + Drop> {
     rt: R,
+    // Kept as in `DiskShelf`. Writing without a buffer needs none.
     alloc: Global,
     faults: u64,
 }
@@ -60,18 +62,20 @@ impl<R: Files + Drop> Shelf for DiskShelf<R> {
 
     ghost held = { λ s. None };
 
-    ghost read_faults = { λ s. s.read_faults };
+    ghost read_faults = { λ s. (tally_of s).read_faults };
 
-    ghost put_faults = { λ s. s.put_faults };
+    ghost put_faults = { λ s. (tally_of s).put_faults };
 
-    ghost misses = { λ s. s.misses };
+    ghost misses = { λ s. (tally_of s).misses };
 
     /// A file that is not found is missing, and every other error is a failure.
     fn read(&mut self, name: &str, from: u64, buf: &mut [u8]) -> Result<usize, ShelfFault>
         requires { 0 < length buf.old }
         ensures within { IfOk result (λ n. n ≤ length buf.new) }
-        ensures failed { Counts (result ≡ Err ShelfFault.Failed) (tally_of self.old).read_faults (tally_of self.new).read_faults }
-        ensures missing { Counts (result ≡ Err ShelfFault.Missing) (tally_of self.old).misses (tally_of self.new).misses }
+        ensures failed { Counts (result ≡ Err ShelfFault.Failed)
+            (tally_of self.old).read_faults (tally_of self.new).read_faults }
+        ensures missing { Counts (result ≡ Err ShelfFault.Missing)
+            (tally_of self.old).misses (tally_of self.new).misses }
         ensures puts { (tally_of self.new).put_faults ≡ (tally_of self.old).put_faults }
         ensures memory { result ≢ Err ShelfFault.OutOfMemory }
         ensures tally { tally_of self.new ≡ tally_after_read (tally_of self.old) result }
@@ -92,7 +96,8 @@ impl<R: Files + Drop> Shelf for DiskShelf<R> {
 
     /// Writes the whole file anew. Every error is a failure.
     fn put(&mut self, name: &str, bytes: &[u8]) -> Result<(), PutFault>
-        ensures cause { Counts (result ≡ Err PutFault.Failed) (tally_of self.old).put_faults (tally_of self.new).put_faults }
+        ensures cause { Counts (result ≡ Err PutFault.Failed)
+            (tally_of self.old).put_faults (tally_of self.new).put_faults }
         ensures reads { (tally_of self.new).read_faults ≡ (tally_of self.old).read_faults }
         ensures misses { (tally_of self.new).misses ≡ (tally_of self.old).misses }
         ensures memory { result ≢ Err PutFault.OutOfMemory }
@@ -136,7 +141,7 @@ impl<R: Print + Drop> Sink for StdoutSink<R> {
 
     ghost written = { λ s. None };
 
-    ghost faults = { λ s. s.faults };
+    ghost faults = { λ s. faults_of s };
 
     /// Writes and flushes. An error is a failure, and so is a write that takes nothing.
     fn write(&mut self, bytes: &[u8]) -> Result<usize, SinkFault>

@@ -1,5 +1,5 @@
-//! That each call succeeds where there is memory, and what no clause can say: files of the system and
-//! standard output. Each trait is called through its bound.
+//! That each call succeeds where there is memory, and what no clause can say: files of the system
+//! and standard output. Each trait is called through its bound.
 use crate::{
     DiskShelf, MemShelf, MemSink, PutFault, Shelf, ShelfFault, Sink, SinkFault, StdoutSink,
 };
