@@ -1,0 +1,5 @@
+pub mod Memory
+pub mod Outside
+pub mod Real
+pub mod Tallies
+pub mod Texts
