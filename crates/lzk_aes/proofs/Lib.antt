@@ -1,0 +1,4 @@
+pub mod Entries
+pub mod Rounds
+mod Vectors
+pub mod Xor

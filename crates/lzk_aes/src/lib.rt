@@ -1,0 +1,48 @@
+//! AES-256 (FIPS 197).
+#![tactic(auto)]
+
+mod columns;
+mod schedule;
+mod tables;
+mod words;
+
+ghost use Rattle.std.specs.Prelude.{◌≡◌, ℕ, List, map};
+ghost use Rattle.lzk_aes.specs.Aes.{key_words, aes};
+ghost use Rattle.lzk_aes.specs.Words.{word_bytes};
+
+use std::marker::Model;
+
+/// AES-256 under one key, its key schedule computed. Contracts see the key's 32 bytes.
+#[derive(Drop)]
+pub struct Aes256 {
+    key: [u8; 32],
+    words: [u32; 60],
+}
+
+impl Model for Aes256 {
+    ghost Value = { List ℕ };
+
+    ghost view = { λ a. a.key };
+
+    ghost invariant = { λ a. map word_bytes a.words ≡ key_words a.key 60 };
+}
+
+impl Aes256 {
+    /// The cipher under this key (FIPS 197, section 5.2).
+    pub fn new(key: &[u8; 32]) -> Aes256
+        ensures { result ≡ key.now }
+    {
+        Aes256 {
+            key: *key,
+            words: schedule::key_schedule(key),
+        }
+    }
+
+    /// The block enciphered (FIPS 197, section 5.1). Bytes stand in the order of the standard's inputs and outputs.
+    #[tactic(auto, unfolding(crate::specs::Aes::aes))]
+    pub fn encrypt(&self, block: [u8; 16]) -> [u8; 16]
+        ensures { result ≡ aes self.now block }
+    {
+        columns::encrypt(&self.words, block)
+    }
+}

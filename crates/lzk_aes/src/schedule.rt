@@ -1,0 +1,70 @@
+//! The key schedule.
+
+ghost use Rattle.std.specs.Prelude.{◌≡◌, ◌+◌, ◌*◌, ◌<◌, ◌≤◌, [], ◌∷◌, map, take, drop};
+ghost use Rattle.lzk_aes.specs.Aes.{key_mask, next_key_word, key_words};
+ghost use Rattle.lzk_aes.specs.Words.{word_bytes};
+
+use crate::words::{byte_0, byte_1, byte_2, byte_3, substituted, word_of, xor};
+
+fn key_part(key: &[u8; 32], i: usize) -> [u8; 4]
+    requires { i < 8 }
+    ensures { result ≡ take 4 (drop (4 * i) key.now) }
+{
+    [key[4 * i], key[4 * i + 1], key[4 * i + 2], key[4 * i + 3]]
+}
+
+fn small_word(byte: u8) -> u32
+    ensures { word_bytes result ≡ byte ∷ 0 ∷ 0 ∷ 0 ∷ [] }
+{
+    byte as u32
+}
+
+/// What key word i adds to word i - 8, where word i - 1 is `before`.
+#[tactic(auto, unfolding(crate::specs::Aes::key_mask))]
+fn key_mask(i: usize, before: u32) -> u32
+    requires low { 8 ≤ i }
+    requires high { i < 60 }
+    ensures { word_bytes result ≡ key_mask i (word_bytes before) }
+{
+    if i % 8 == 0 {
+        let rotated = substituted(
+            byte_1(before),
+            byte_2(before),
+            byte_3(before),
+            byte_0(before),
+        );
+        xor(rotated, small_word(1 << (i / 8 - 1)))
+    } else if i % 8 == 4 {
+        substituted(
+            byte_0(before),
+            byte_1(before),
+            byte_2(before),
+            byte_3(before),
+        )
+    } else {
+        before
+    }
+}
+
+#[tactic(auto, unfolding(crate::specs::Aes::next_key_word))]
+fn next_key_word(key: &[u8; 32], words: &[u32; 60], i: usize) -> u32
+    requires { i < 60 }
+    ensures { word_bytes result ≡ next_key_word key.now (map word_bytes (take i words.now)) i }
+{
+    if i < 8 {
+        return word_of(key_part(key, i));
+    }
+    xor(words[i - 8], key_mask(i, words[i - 1]))
+}
+
+/// The 60 key words.
+#[tactic(auto, unfolding(crate::specs::Aes::key_words))]
+pub fn key_schedule(key: &[u8; 32]) -> [u32; 60]
+    ensures { map word_bytes result ≡ key_words key.now 60 }
+{
+    let mut words = [0; 60];
+    'words: for i in 0..60 {
+        words[i] = next_key_word(key, &words, i);
+    }
+    words
+}
