@@ -93,10 +93,14 @@ round_key ws r =
 abbrev pub add_round_key : List (List ℕ) → ℕ → List ℕ → List ℕ
 add_round_key ws r s = xor_bytes s (round_key ws r)
 
--- the state after round n of those that mix columns; round 0 only adds its key
+-- round r of those that mix columns
+abbrev pub round : List (List ℕ) → ℕ → List ℕ → List ℕ
+round ws r s = add_round_key ws r (mix_columns (shift_rows (sub_bytes s)))
+
+-- the state after the first n rounds that mix columns; before them stands the round key 0
 unfoldable pub after_round : List (List ℕ) → List ℕ → ℕ → List ℕ
 after_round ws block zero = add_round_key ws 0 block
-after_round ws block (suc n) = add_round_key ws (suc n) (mix_columns (shift_rows (sub_bytes (after_round ws block n))))
+after_round ws block (suc n) = round ws (suc n) (after_round ws block n)
 
 -- the block under these 60 key words: 13 rounds, and the last round that mixes no columns
 abbrev pub cipher : List (List ℕ) → List ℕ → List ℕ

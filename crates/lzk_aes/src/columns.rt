@@ -1,7 +1,7 @@
 //! The state as four columns, and its rounds.
 
 ghost use Rattle.std.specs.Prelude.{◌≡◌, ◌+◌, ◌*◌, ◌<◌, map};
-ghost use Rattle.lzk_aes.specs.Aes.{sub_bytes, shift_rows, mix_columns, round_key, add_round_key, after_round, cipher};
+ghost use Rattle.lzk_aes.specs.Aes.{sub_bytes, shift_rows, mix_columns, add_round_key, round, after_round, cipher};
 ghost use Rattle.lzk_aes.specs.Words.{word_bytes, state_bytes};
 
 use crate::words::{mixed, shifted, word_of, xor};
@@ -14,6 +14,7 @@ pub struct Columns {
     pub fourth: u32,
 }
 
+#[inline(always)]
 fn columns_of(block: [u8; 16]) -> Columns
     ensures { state_bytes result.first result.second result.third result.fourth ≡ block }
 {
@@ -25,6 +26,7 @@ fn columns_of(block: [u8; 16]) -> Columns
     }
 }
 
+#[inline(always)]
 fn block_of(s: Columns) -> [u8; 16]
     ensures { result ≡ state_bytes s.first s.second s.third s.fourth }
 {
@@ -38,6 +40,7 @@ fn block_of(s: Columns) -> [u8; 16]
     ]
 }
 
+#[inline(always)]
 fn add_round_key(s: Columns, words: &[u32; 60], round: usize) -> Columns
     requires { round < 15 }
     ensures { state_bytes result.first result.second result.third result.fourth ≡ add_round_key (map word_bytes words.now) round (state_bytes s.first s.second s.third s.fourth) }
@@ -50,6 +53,7 @@ fn add_round_key(s: Columns, words: &[u32; 60], round: usize) -> Columns
     }
 }
 
+#[inline(always)]
 #[tactic(auto, unfolding(crate::specs::Aes::shift_rows, crate::specs::Aes::mix_columns))]
 fn mix(s: Columns) -> Columns
     ensures { state_bytes result.first result.second result.third result.fourth ≡ mix_columns (shift_rows (sub_bytes (state_bytes s.first s.second s.third s.fourth))) }
@@ -62,6 +66,7 @@ fn mix(s: Columns) -> Columns
     }
 }
 
+#[inline(always)]
 #[tactic(auto, unfolding(crate::specs::Aes::shift_rows))]
 fn shift(s: Columns) -> Columns
     ensures { state_bytes result.first result.second result.third result.fourth ≡ shift_rows (sub_bytes (state_bytes s.first s.second s.third s.fourth)) }
@@ -74,17 +79,35 @@ fn shift(s: Columns) -> Columns
     }
 }
 
-/// The 13 rounds that mix columns.
-#[tactic(auto, unfolding(crate::specs::Aes::after_round))]
+/// Round `number` of those that mix columns.
+#[inline(always)]
+fn round(s: Columns, words: &[u32; 60], number: usize) -> Columns
+    requires { number < 15 }
+    ensures { state_bytes result.first result.second result.third result.fourth ≡ round (map word_bytes words.now) number (state_bytes s.first s.second s.third s.fourth) }
+{
+    add_round_key(mix(s), words, number)
+}
+
+/// The 13 rounds that mix columns, written out: in a loop LLVM moves the columns into and out of one vector register
+/// each round, which takes half as long again.
+#[inline(always)]
 fn rounds(words: &[u32; 60], block: [u8; 16]) -> Columns
     ensures { state_bytes result.first result.second result.third result.fourth ≡ after_round (map word_bytes words.now) block 13 }
 {
-    let mut s = add_round_key(columns_of(block), words, 0);
-    'rounds: for done in 0..13 {
-        let next = add_round_key(mix(s), words, done + 1);
-        s = next;
-    }
-    s
+    let s = add_round_key(columns_of(block), words, 0);
+    let s = round(s, words, 1);
+    let s = round(s, words, 2);
+    let s = round(s, words, 3);
+    let s = round(s, words, 4);
+    let s = round(s, words, 5);
+    let s = round(s, words, 6);
+    let s = round(s, words, 7);
+    let s = round(s, words, 8);
+    let s = round(s, words, 9);
+    let s = round(s, words, 10);
+    let s = round(s, words, 11);
+    let s = round(s, words, 12);
+    round(s, words, 13)
 }
 
 /// The block under these key words.

@@ -6,6 +6,7 @@ ghost use Rattle.lzk_aes.specs.Words.{word_bytes};
 
 use crate::words::{byte_0, byte_1, byte_2, byte_3, substituted, word_of, xor};
 
+#[inline(always)]
 fn key_part(key: &[u8; 32], i: usize) -> [u8; 4]
     requires { i < 8 }
     ensures { result ≡ take 4 (drop (4 * i) key.now) }
@@ -13,6 +14,7 @@ fn key_part(key: &[u8; 32], i: usize) -> [u8; 4]
     [key[4 * i], key[4 * i + 1], key[4 * i + 2], key[4 * i + 3]]
 }
 
+#[inline(always)]
 fn small_word(byte: u8) -> u32
     ensures { word_bytes result ≡ byte ∷ 0 ∷ 0 ∷ 0 ∷ [] }
 {
@@ -20,6 +22,7 @@ fn small_word(byte: u8) -> u32
 }
 
 /// What key word i adds to word i - 8, where word i - 1 is `before`.
+#[inline(always)]
 #[tactic(auto, unfolding(crate::specs::Aes::key_mask))]
 fn key_mask(i: usize, before: u32) -> u32
     requires low { 8 ≤ i }
@@ -46,6 +49,7 @@ fn key_mask(i: usize, before: u32) -> u32
     }
 }
 
+#[inline(always)]
 #[tactic(auto, unfolding(crate::specs::Aes::next_key_word))]
 fn next_key_word(key: &[u8; 32], words: &[u32; 60], i: usize) -> u32
     requires { i < 60 }
