@@ -1,6 +1,6 @@
 //! The key schedule.
 
-ghost use Rattle.std.specs.Prelude.{◌≡◌, ◌+◌, ◌*◌, ◌<◌, ◌≤◌, [], ◌∷◌, map, take, drop};
+ghost use Rattle.std.specs.Prelude.{◌≡◌, ℕ, ◌+◌, ◌-◌, ◌*◌, ◌<◌, ◌≤◌, List, [], ◌∷◌, slice_index, map, take, drop};
 ghost use Rattle.lzk_aes.specs.Aes.{key_mask, next_key_word, key_words};
 ghost use Rattle.lzk_aes.specs.Words.{word_bytes};
 
@@ -51,24 +51,38 @@ fn key_mask(i: usize, before: u32) -> u32
 
 #[inline(always)]
 #[tactic(auto, unfolding(crate::specs::Aes::next_key_word))]
-fn next_key_word(key: &[u8; 32], words: &[u32; 60], i: usize) -> u32
-    requires { i < 60 }
-    ensures { word_bytes result ≡ next_key_word key.now (map word_bytes (take i words.now)) i }
+fn first_key_word(key: &[u8; 32], i: usize) -> u32
+    requires { i < 8 }
+    ensures { (ws : List (List ℕ)) → word_bytes result ≡ next_key_word key.now ws i }
 {
-    if i < 8 {
-        return word_of(key_part(key, i));
-    }
-    xor(words[i - 8], key_mask(i, words[i - 1]))
+    word_of(key_part(key, i))
 }
 
-/// The 60 key words.
+#[inline(always)]
+#[tactic(auto, unfolding(crate::specs::Aes::next_key_word))]
+fn next_key_word(words: &[u32; 60], i: usize, before: u32) -> u32
+    requires low { 8 ≤ i }
+    requires high { i < 60 }
+    requires before { before ≡ slice_index words.now (i - 1) }
+    ensures { (key : List ℕ) → word_bytes result ≡ next_key_word key (map word_bytes (take i words.now)) i }
+{
+    xor(words[i - 8], key_mask(i, before))
+}
+
+/// The 60 key words. The word before is kept at hand, so that no turn of the loop waits for memory.
 #[tactic(auto, unfolding(crate::specs::Aes::key_words))]
 pub fn key_schedule(key: &[u8; 32]) -> [u32; 60]
     ensures { map word_bytes result ≡ key_words key.now 60 }
 {
     let mut words = [0; 60];
-    'words: for i in 0..60 {
-        words[i] = next_key_word(key, &words, i);
+    'first: for i in 0..8 {
+        words[i] = first_key_word(key, i);
+    }
+    let mut before = words[7];
+    'further: for i in 8..60 {
+        let next = next_key_word(&words, i, before);
+        words[i] = next;
+        before = next;
     }
     words
 }

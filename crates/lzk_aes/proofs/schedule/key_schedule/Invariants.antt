@@ -1,7 +1,18 @@
-use Rattle.std.proofs.Common.{◌≡◌, take, map, length}
+use Rattle.std.proofs.Common.{◌≡◌, ◌-◌, take, map, length}
+use Rattle.std.specs.Prelude.{slice_index}
 use Rattle.lzk_aes.specs.Aes.{key_words}
 use Rattle.lzk_aes.specs.Words.{word_bytes}
 use Rattle.lzk_aes.proofs.schedule.key_schedule.Given as goal
 
-abbrev pub invariant-words : goal.invariant-words
-invariant-words l = (length l.words ≡ 60) × (map word_bytes (take l.i l.words) ≡ key_words l.key l.i)
+abbrev pub invariant-first : goal.invariant-first
+invariant-first l = record {
+  whole : length l.words ≡ 60;
+  so_far : map word_bytes (take l.i l.words) ≡ key_words l.key l.i
+}
+
+abbrev pub invariant-further : goal.invariant-further
+invariant-further l = record {
+  whole : length l.words ≡ 60;
+  so_far : map word_bytes (take l.i l.words) ≡ key_words l.key l.i;
+  at_hand : l.before ≡ slice_index l.words (l.i - 1)
+}
