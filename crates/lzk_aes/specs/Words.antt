@@ -1,11 +1,16 @@
 -- What the code's 32-bit words stand for: four bytes, the first the lowest.
-use Rattle.std.specs.Prelude.{ℕ, List, [], ◌∷◌, ◌++◌, map}
+use Rattle.std.specs.Prelude.{ℕ, List, [], ◌∷◌, ◌++◌, map, take}
+use Rattle.std.specs.List.{concat}
 use Rattle.std.specs.Int.{w32, to_le_bytes, byte_at}
 use Rattle.lzk_aes.specs.Bytes.{times, sbox}
 
 -- a word's bytes
 abbrev pub word_bytes : ℕ → List ℕ
 word_bytes w = to_le_bytes w32 w
+
+-- the key that these key words begin with
+abbrev pub key_of : List ℕ → List ℕ
+key_of ws = concat (map word_bytes (take 8 ws))
 
 -- the bytes of four columns
 abbrev pub state_bytes : ℕ → ℕ → ℕ → ℕ → List ℕ

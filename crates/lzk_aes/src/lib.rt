@@ -8,23 +8,22 @@ mod words;
 
 ghost use Rattle.std.specs.Prelude.{◌≡◌, ℕ, List, map};
 ghost use Rattle.lzk_aes.specs.Aes.{key_words, aes};
-ghost use Rattle.lzk_aes.specs.Words.{word_bytes};
+ghost use Rattle.lzk_aes.specs.Words.{word_bytes, key_of};
 
 use std::marker::Model;
 
 /// AES-256 under one key, its key schedule computed. Contracts see the key's 32 bytes.
 #[derive(Drop)]
 pub struct Aes256 {
-    key: [u8; 32],
     words: [u32; 60],
 }
 
 impl Model for Aes256 {
     ghost Value = { List ℕ };
 
-    ghost view = { λ a. a.key };
+    ghost view = { λ a. key_of a.words };
 
-    ghost invariant = { λ a. map word_bytes a.words ≡ key_words a.key 60 };
+    ghost invariant = { λ a. map word_bytes a.words ≡ key_words (key_of a.words) 60 };
 }
 
 impl Aes256 {
@@ -33,7 +32,6 @@ impl Aes256 {
         ensures { result ≡ key.now }
     {
         Aes256 {
-            key: *key,
             words: schedule::key_schedule(key),
         }
     }

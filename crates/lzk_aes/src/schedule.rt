@@ -2,7 +2,7 @@
 
 ghost use Rattle.std.specs.Prelude.{◌≡◌, ℕ, ◌+◌, ◌-◌, ◌*◌, ◌<◌, ◌≤◌, List, [], ◌∷◌, slice_index, map, take, drop};
 ghost use Rattle.lzk_aes.specs.Aes.{key_mask, next_key_word, key_words};
-ghost use Rattle.lzk_aes.specs.Words.{word_bytes};
+ghost use Rattle.lzk_aes.specs.Words.{word_bytes, key_of};
 
 use crate::words::{byte_0, byte_1, byte_2, byte_3, substituted, word_of, xor};
 
@@ -72,7 +72,8 @@ fn next_key_word(words: &[u32; 60], i: usize, before: u32) -> u32
 /// The 60 key words. The word before is kept at hand, so that no turn of the loop waits for memory.
 #[tactic(auto, unfolding(crate::specs::Aes::key_words))]
 pub fn key_schedule(key: &[u8; 32]) -> [u32; 60]
-    ensures { map word_bytes result ≡ key_words key.now 60 }
+    ensures words { map word_bytes result ≡ key_words key.now 60 }
+    ensures key { key_of result ≡ key.now }
 {
     let mut words = [0; 60];
     'first: for i in 0..8 {

@@ -14,5 +14,6 @@ abbrev pub invariant-further : goal.invariant-further
 invariant-further l = record {
   whole : length l.words ≡ 60;
   so_far : map word_bytes (take l.i l.words) ≡ key_words l.key l.i;
+  begins : map word_bytes (take 8 l.words) ≡ key_words l.key 8;
   at_hand : l.before ≡ slice_index l.words (l.i - 1)
 }
