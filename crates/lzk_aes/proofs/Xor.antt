@@ -1,5 +1,5 @@
 -- The exclusive or of words is that of their bytes.
-use Rattle.std.proofs.Common.{◌≡◌, ℕ, ◌/◌, ◌%◌, ◌^◌, bit_xor, ap, sym, ◌∙◌}
+use Rattle.std.proofs.Common.{◌≡◌, ℕ, ◌/◌, ◌%◌, ◌^◌, bit_xor, ap, ◌∙◌}
 use Rattle.std.proofs.lemmas.Nat.{xor_mod, xor_shr}
 use Rattle.lzk_aes.specs.Aes.{xor_bytes}
 use Rattle.lzk_aes.specs.Words.{word_bytes}

@@ -1,4 +1,4 @@
-//! The state as four columns, and its rounds.
+//! The state as four columns, and its rounds (FIPS 197, section 5.1).
 
 ghost use Rattle.std.specs.Prelude.{◌≡◌, ◌+◌, ◌*◌, ◌<◌, map};
 ghost use Rattle.lzk_aes.specs.Aes.{sub_bytes, shift_rows, mix_columns, add_round_key, round, after_round, cipher};
@@ -6,6 +6,7 @@ ghost use Rattle.lzk_aes.specs.Words.{word_bytes, state_bytes};
 
 use crate::words::{mixed, shifted, word_of, xor};
 
+/// The state's columns, each a word with the byte of row 0 lowest.
 #[derive(Clone, Copy)]
 pub struct Columns {
     pub first: u32,
@@ -53,6 +54,7 @@ fn add_round_key(s: Columns, words: &[u32; 60], round: usize) -> Columns
     }
 }
 
+/// `SubBytes`, `ShiftRows` and `MixColumns`.
 #[inline(always)]
 #[tactic(auto, unfolding(crate::specs::Aes::shift_rows, crate::specs::Aes::mix_columns))]
 fn mix(s: Columns) -> Columns
@@ -66,6 +68,7 @@ fn mix(s: Columns) -> Columns
     }
 }
 
+/// `SubBytes` and `ShiftRows`.
 #[inline(always)]
 #[tactic(auto, unfolding(crate::specs::Aes::shift_rows))]
 fn shift(s: Columns) -> Columns

@@ -1,4 +1,13 @@
-//! AES-256 (FIPS 197).
+//! The AES-256 block function of FIPS 197, from its definition: `encrypt` gives `aes key block`, where `aes`, in
+//! `specs/Aes.antt`, is the standard's cipher on lists of bytes.
+//!
+//! ```text
+//! let cipher = Aes256::new(&key);
+//! let block = cipher.encrypt(counter.to_le_bytes());
+//! ```
+//!
+//! A block is looked up in tables of columns, so its time depends on the key and the block: it is not for secrets whose
+//! timing can be watched.
 #![tactic(auto)]
 
 mod columns;
@@ -44,3 +53,6 @@ impl Aes256 {
         columns::encrypt(&self.words, block)
     }
 }
+
+#[cfg(test)]
+mod tests;

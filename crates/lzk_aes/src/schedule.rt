@@ -1,7 +1,7 @@
-//! The key schedule.
+//! The key schedule (FIPS 197, section 5.2).
 
 ghost use Rattle.std.specs.Prelude.{◌≡◌, ℕ, ◌+◌, ◌-◌, ◌*◌, ◌<◌, ◌≤◌, List, [], ◌∷◌, slice_index, map, take, drop};
-ghost use Rattle.lzk_aes.specs.Aes.{key_mask, next_key_word, key_words};
+ghost use Rattle.lzk_aes.specs.Aes.{sub_word, rot_word, key_mask, next_key_word, key_words};
 ghost use Rattle.lzk_aes.specs.Words.{word_bytes, key_of};
 
 use crate::words::{byte_0, byte_1, byte_2, byte_3, substituted, word_of, xor};
@@ -21,6 +21,21 @@ fn small_word(byte: u8) -> u32
     byte as u32
 }
 
+#[inline(always)]
+fn sub_word(word: u32) -> u32
+    ensures { word_bytes result ≡ sub_word (word_bytes word) }
+{
+    substituted(byte_0(word), byte_1(word), byte_2(word), byte_3(word))
+}
+
+/// `RotWord`, then `SubWord`.
+#[inline(always)]
+fn sub_rot_word(word: u32) -> u32
+    ensures { word_bytes result ≡ sub_word (rot_word (word_bytes word)) }
+{
+    substituted(byte_1(word), byte_2(word), byte_3(word), byte_0(word))
+}
+
 /// What key word i adds to word i - 8, where word i - 1 is `before`.
 #[inline(always)]
 #[tactic(auto, unfolding(crate::specs::Aes::key_mask))]
@@ -30,20 +45,9 @@ fn key_mask(i: usize, before: u32) -> u32
     ensures { word_bytes result ≡ key_mask i (word_bytes before) }
 {
     if i % 8 == 0 {
-        let rotated = substituted(
-            byte_1(before),
-            byte_2(before),
-            byte_3(before),
-            byte_0(before),
-        );
-        xor(rotated, small_word(1 << (i / 8 - 1)))
+        xor(sub_rot_word(before), small_word(1 << (i / 8 - 1)))
     } else if i % 8 == 4 {
-        substituted(
-            byte_0(before),
-            byte_1(before),
-            byte_2(before),
-            byte_3(before),
-        )
+        sub_word(before)
     } else {
         before
     }

@@ -93,7 +93,7 @@ pub fn substituted(a: u8, b: u8, c: u8, d: u8) -> u32
     word_of([sub_byte(a), sub_byte(b), sub_byte(c), sub_byte(d)])
 }
 
-/// A column after SubBytes and ShiftRows.
+/// A column after `SubBytes` and `ShiftRows`: row 0 is of `a`, row 1 of `b`, row 2 of `c` and row 3 of `d`.
 #[inline(always)]
 pub fn shifted(a: u32, b: u32, c: u32, d: u32) -> u32
     ensures { word_bytes result ≡ gathered a b c d }
@@ -101,7 +101,7 @@ pub fn shifted(a: u32, b: u32, c: u32, d: u32) -> u32
     substituted(byte_0(a), byte_1(b), byte_2(c), byte_3(d))
 }
 
-/// A column after SubBytes, ShiftRows and MixColumns.
+/// A column after `SubBytes`, `ShiftRows` and `MixColumns`, its rows taken likewise.
 #[inline(always)]
 pub fn mixed(a: u32, b: u32, c: u32, d: u32) -> u32
     ensures { word_bytes result ≡ mix_column (gathered a b c d) }

@@ -7,7 +7,7 @@ use Rattle.lzk_aes.proofs.schedule.key_schedule.Given as goal
 abbrev pub invariant-first : goal.invariant-first
 invariant-first l = record {
   whole : length l.words ≡ 60;
-  so_far : map word_bytes (take l.i l.words) ≡ key_words l.key l.i
+  so_far : map word_bytes (take l.i l.words) ≡ key_words l.key l.i;
 }
 
 abbrev pub invariant-further : goal.invariant-further
@@ -15,5 +15,5 @@ invariant-further l = record {
   whole : length l.words ≡ 60;
   so_far : map word_bytes (take l.i l.words) ≡ key_words l.key l.i;
   begins : map word_bytes (take 8 l.words) ≡ key_words l.key 8;
-  at_hand : l.before ≡ slice_index l.words (l.i - 1)
+  at_hand : l.before ≡ slice_index l.words (l.i - 1);
 }
