@@ -18,3 +18,5 @@ mod element;
 
 pub use element::Gold;
 
+#[cfg(test)]
+mod tests;
