@@ -1,4 +1,4 @@
-//! Each call against expected values, through the bound.
+//! Each call against expected values, through the bound. Each helper gives the first row that is wrong.
 
 mod vectors;
 
@@ -16,35 +16,109 @@ fn of<F: Field>(n: u64) -> F {
     F::of_word(n as u128)
 }
 
-fn zero_and_one<F: Field>() -> (u128, u128) {
-    (F::zero().number(), F::one().number())
-}
-
-fn same<F: Field>(a: u64, b: u64) -> bool {
-    of::<F>(a) == of::<F>(b)
-}
-
-fn product<F: Field>(a: u64, b: u64) -> u128 {
-    of::<F>(a).mul(of(b)).number()
-}
-
-fn sum<F: Field>(a: u64, b: u64) -> u128 {
-    of::<F>(a).add(of(b)).number()
-}
-
-fn difference<F: Field>(a: u64, b: u64) -> u128 {
-    of::<F>(a).sub(of(b)).number()
-}
-
-fn negative<F: Field>(a: u64) -> u128 {
-    of::<F>(a).neg().number()
-}
-
-fn inverse<F: Field>(a: u64) -> Option<u128> {
-    match of::<F>(a).inv() {
+fn number<F: Field>(found: Option<F>) -> Option<u128> {
+    match found {
         Some(x) => Some(x.number()),
         None => None,
     }
+}
+
+fn wrong_product<F: Field>(rows: &[(u64, u64, u64)]) -> Option<usize> {
+    for i in 0..rows.len() {
+        let (a, b, product) = rows[i];
+        if of::<F>(a).mul(of(b)).number() != product as u128 {
+            return Some(i);
+        }
+    }
+    None
+}
+
+fn wrong_sum<F: Field>(rows: &[(u64, u64, u64, u64)]) -> Option<usize> {
+    for i in 0..rows.len() {
+        let (a, b, sum, difference) = rows[i];
+        if of::<F>(a).add(of(b)).number() != sum as u128 {
+            return Some(i);
+        }
+        if of::<F>(a).sub(of(b)).number() != difference as u128 {
+            return Some(i);
+        }
+    }
+    None
+}
+
+fn wrong_negative<F: Field>(rows: &[(u64, u64)]) -> Option<usize> {
+    for i in 0..rows.len() {
+        let (a, negative) = rows[i];
+        if of::<F>(a).neg().number() != negative as u128 {
+            return Some(i);
+        }
+    }
+    None
+}
+
+fn wrong_inverse<F: Field>(rows: &[(u64, u64)]) -> Option<usize> {
+    for i in 0..rows.len() {
+        let (a, inverse) = rows[i];
+        if number(of::<F>(a).inv()) != Some(inverse as u128) {
+            return Some(i);
+        }
+    }
+    None
+}
+
+fn wrong_word<F: Field>(rows: &[(u128, u64)]) -> Option<usize> {
+    for i in 0..rows.len() {
+        let (w, remainder) = rows[i];
+        if F::of_word(w).number() != remainder as u128 {
+            return Some(i);
+        }
+    }
+    None
+}
+
+fn wrong_number<F: Field>(rows: &[(u128, bool)]) -> Option<usize> {
+    for i in 0..rows.len() {
+        let (n, stands) = rows[i];
+        let wanted = if stands { Some(n) } else { None };
+        if number(F::of_number(n)) != wanted {
+            return Some(i);
+        }
+    }
+    None
+}
+
+fn written<F: Field>(n: u64) -> [u8; 8]
+    requires { F.BYTES ≡ 8 }
+{
+    let mut out = [255; 8];
+    of::<F>(n).to_le(&mut out);
+    out
+}
+
+fn wrong_bytes<F: Field>(rows: &[(u64, [u8; 8])]) -> Option<usize>
+    requires { F.BYTES ≡ 8 }
+{
+    for i in 0..rows.len() {
+        let (n, bytes) = rows[i];
+        if written::<F>(n) != bytes {
+            return Some(i);
+        }
+        if number(F::of_le(&bytes)) != Some(n as u128) {
+            return Some(i);
+        }
+    }
+    None
+}
+
+fn element_at<F: Field>(rows: &[[u8; 8]]) -> Option<usize>
+    requires { F.BYTES ≡ 8 }
+{
+    for i in 0..rows.len() {
+        if F::of_le(&rows[i]).is_some() {
+            return Some(i);
+        }
+    }
+    None
 }
 
 fn elements<F: Field>(numbers: &[u64], alloc: Global) -> Result<Vec<F>, AllocError> {
@@ -55,91 +129,45 @@ fn elements<F: Field>(numbers: &[u64], alloc: Global) -> Result<Vec<F>, AllocErr
     Ok(list)
 }
 
-fn write<F: Field>(n: u64, out: &mut [u8])
-    requires { length out.old ≡ F.BYTES }
-{
-    of::<F>(n).to_le(out);
-}
-
-fn read<F: Field>(bytes: &[u8]) -> Option<u128>
-    requires { length bytes.now ≡ F.BYTES }
-{
-    match F::of_le(bytes) {
-        Some(x) => Some(x.number()),
-        None => None,
+fn wrong_dot<F: Field>(left: &[F], right: &[F], rows: &[(usize, u64)]) -> Option<usize> {
+    for i in 0..rows.len() {
+        let (n, sum) = rows[i];
+        if n > left.len() || n > right.len() {
+            return Some(i);
+        }
+        if F::dot(&left[..n], &right[..n]).number() != sum as u128 {
+            return Some(i);
+        }
     }
-}
-
-fn numbered<F: Field>(n: u128) -> Option<u128> {
-    match F::of_number(n) {
-        Some(x) => Some(x.number()),
-        None => None,
-    }
-}
-
-fn dot<F: Field>(left: &[F], right: &[F]) -> u128
-    requires { length left.now ≡ length right.now }
-{
-    F::dot(left, right).number()
+    None
 }
 
 #[test]
 fn arithmetic_is_that_of_numbers_modulo_the_prime(rt: HostRuntime) {
-    for (a, b, wanted) in PRODUCTS {
-        assert_eq!(rt; product::<Gold>(a, b), wanted as u128, "{a} * {b}");
-    }
-    for (a, b, added, taken) in SUMS {
-        assert_eq!(rt; sum::<Gold>(a, b), added as u128, "{a} + {b}");
-        assert_eq!(rt; difference::<Gold>(a, b), taken as u128, "{a} - {b}");
-    }
-    for (a, wanted) in NEGATIVES {
-        assert_eq!(rt; negative::<Gold>(a), wanted as u128, "- {a}");
-    }
-    for (a, wanted) in INVERSES {
-        assert_eq!(rt; inverse::<Gold>(a), Some(wanted as u128), "1 / {a}");
-    }
-    assert_eq!(rt; inverse::<Gold>(0), None);
+    assert_eq!(rt; wrong_product::<Gold>(&PRODUCTS), None);
+    assert_eq!(rt; wrong_sum::<Gold>(&SUMS), None);
+    assert_eq!(rt; wrong_negative::<Gold>(&NEGATIVES), None);
+    assert_eq!(rt; wrong_inverse::<Gold>(&INVERSES), None);
+    assert_eq!(rt; number(Gold::zero().inv()), None);
+    assert_eq!(rt; Gold::one().number(), 1);
 }
 
 #[test]
-fn numbers_words_and_bytes_are_those_of_elements(rt: HostRuntime) {
+fn numbers_and_bytes_are_those_of_elements(rt: HostRuntime) {
+    assert_eq!(rt; wrong_word::<Gold>(&WORDS), None);
+    assert_eq!(rt; wrong_number::<Gold>(&NUMBERS), None);
+    assert_eq!(rt; wrong_bytes::<Gold>(&BYTES), None);
+    assert_eq!(rt; element_at::<Gold>(&NO_ELEMENTS), None);
     assert_eq!(rt; (Gold::BYTES, Gold::ID), (8, 1));
-    assert_eq!(rt; zero_and_one::<Gold>(), (0, 1));
-    for (w, wanted) in WORDS {
-        assert_eq!(rt; Gold::of_word(w).number(), wanted as u128, "word {w}");
-    }
-    for i in [0, 1, 65535] {
-        assert_eq!(rt; Gold::point(i).number(), i as u128, "point {i}");
-    }
-    for (n, is_one) in NUMBERS {
-        let wanted = if is_one { Some(n) } else { None };
-        assert_eq!(rt; numbered::<Gold>(n), wanted, "number {n}");
-    }
-    for (n, bytes) in BYTES {
-        let mut out = [255; 8];
-        write::<Gold>(n, &mut out);
-        assert_eq!(rt; out, bytes, "bytes of {n}");
-        assert_eq!(rt;
-            read::<Gold>(&bytes),
-            Some(n as u128),
-            "number of the bytes of {n}"
-        );
-    }
-    for bytes in NO_ELEMENTS {
-        assert_eq!(rt; read::<Gold>(&bytes), None);
-    }
-    assert!(rt; same::<Gold>(5, 5));
-    assert!(rt; !same::<Gold>(5, 6));
+    assert_eq!(rt; Gold::point(65535).number(), 65535);
+    assert!(rt; of::<Gold>(5) == of(5));
+    assert!(rt; of::<Gold>(5) != of(6));
 }
 
 #[test]
 fn dot_is_the_sum_of_the_products(rt: HostRuntime) -> Result<(), Fail> {
     let left = elements::<Gold>(&LEFT, rt.alloc())?;
-    let right = elements::<Gold>(&RIGHT, rt.alloc())?;
-    for (n, wanted) in DOTS {
-        assert!(rt; n <= left.len());
-        assert!(rt; n <= right.len());
-        assert_eq!(rt; dot(&left[..n], &right[..n]), wanted as u128, "{n} pairs");
-    }
+    let right = elements(&RIGHT, rt.alloc())?;
+    assert_eq!(rt; wrong_dot(&left, &right, &DOTS), None);
     Ok(())
 }
