@@ -1,0 +1,3 @@
+pub mod Delayed
+pub mod Descent
+pub mod Found

@@ -1,0 +1,5 @@
+pub mod Prime
+pub mod Pigeonhole
+pub mod Powers
+pub mod Primality
+pub mod Elements
