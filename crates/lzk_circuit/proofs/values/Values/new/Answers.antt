@@ -1,0 +1,32 @@
+use Rattle.std.proofs.Common.{◌∙◌, [], ap, map, length, arith, ◌≡◌, ◌≤◌, ◌<◌, get_or}
+use Rattle.lzk_circuit.specs.Valid.{widths}
+use Rattle.std.proofs.lemmas.List.{take_all}
+use Rattle.lzk_circuit.proofs.DepthLaws.{items_of, zero_lists, zeros-widths, are-zeros, widths-count, narrow, zeros-more}
+use Rattle.lzk_circuit.proofs.values.Values.new.Goals as goal
+
+pub loop-l-preserved : goal.loop-l-preserved
+loop-l-preserved g c =
+    let o = g.F.Field.ops in
+    let l : c.loop-l.l < length (widths c.args.circuit.now) = omega (arith, widths-count o c.args.circuit.now) in
+    zeros-more o (widths c.args.circuit.now) c.loop-l.l c.width.result c.loop-l.lists.items c.push.new.self.items c.in_ok-zeros.field-0 l c.in_ok-push.ensures.items c.in_ok-zeros.ensures c.width.ensures c.loop-l.invariant
+
+pub invariant_of-result : goal.invariant_of-result
+invariant_of-result g c =
+    let o = g.F.Field.ops in
+    let done : length (widths c.args.circuit.now) ≤ c.loop-l.l = omega (arith, widths-count o c.args.circuit.now) in
+    let e : items_of c.loop-l.lists.items ≡ zero_lists o (widths c.args.circuit.now) = c.loop-l.invariant ∙ ap (zero_lists o) (take_all c.loop-l.l (widths c.args.circuit.now) done) in
+    narrow o c.args.circuit.now c.loop-l.lists.items c.depth-count.ensures.valid (ap (map length) e ∙ zeros-widths o (widths c.args.circuit.now))
+
+pub returns-clause-widths : goal.returns-clause-widths
+returns-clause-widths g c =
+    let o = g.F.Field.ops in
+    let done : length (widths c.args.circuit.now) ≤ c.loop-l.l = omega (arith, widths-count o c.args.circuit.now) in
+    let e : items_of c.loop-l.lists.items ≡ zero_lists o (widths c.args.circuit.now) = c.loop-l.invariant ∙ ap (zero_lists o) (take_all c.loop-l.l (widths c.args.circuit.now) done) in
+    ap (map length) e ∙ zeros-widths o (widths c.args.circuit.now)
+
+pub returns-clause-zeros : goal.returns-clause-zeros
+returns-clause-zeros g c = λ l k.
+    let o = g.F.Field.ops in
+    let done : length (widths c.args.circuit.now) ≤ c.loop-l.l = omega (arith, widths-count o c.args.circuit.now) in
+    let e : items_of c.loop-l.lists.items ≡ zero_lists o (widths c.args.circuit.now) = c.loop-l.invariant ∙ ap (zero_lists o) (take_all c.loop-l.l (widths c.args.circuit.now) done) in
+    ap (λ lists. get_or (get_or lists l []) k o.zero) e ∙ are-zeros o (widths c.args.circuit.now) l k

@@ -1,0 +1,55 @@
+-- The first fault of layers that make no valid circuit, in the order in which they are checked.
+use Rattle.std.specs.Prelude.{ℕ, ◌+◌, ◌==◌, ◌&&◌, nat_lt, nat_le, not, Bool, cond, Option, Some, None, List, [], ◌∷◌, length}
+use Rattle.lzk_circuit.specs.declared.layer.Term.{Term}
+use Rattle.lzk_circuit.specs.declared.layer.Layer.{Layer}
+use Rattle.lzk_circuit.specs.declared.fault.CircuitKind.{CircuitKind}
+use Rattle.lzk_circuit.specs.declared.fault.CircuitKind.TheVariants.{Range, Order, ZeroCoef, Limit}
+use Rattle.lzk_circuit.specs.declared.fault.CircuitFault.{CircuitFault}
+use Rattle.lzk_circuit.specs.Valid.{Under, under_of, follows}
+
+-- the first of two faults
+abbrev pub first_of : {X : Type 0} → Option X → Option X → Option X
+first_of None y = y
+first_of (Some x) y = Some x
+
+-- a fault of this kind, unless the check holds
+abbrev pub unless : {X : Type 0} → Bool → X → Option X
+unless holds fault = cond holds None (Some fault)
+
+abbrev pub over_limit : ℕ → CircuitFault
+over_limit layer = record { kind = Limit; layer = layer; place = 0 }
+
+abbrev pub term_fault : {A : Type 0} → (A → ℕ) → ℕ → ℕ → Option (Term A) → Term A → Option CircuitKind
+term_fault number wires width before t =
+    first_of (unless (nat_lt t.g wires && (nat_le t.a t.b && nat_lt t.b width)) Range)
+    (first_of (unless (follows before t) Order) (unless (not (number t.coef == 0)) ZeroCoef))
+
+abbrev pub at_term : ℕ → ℕ → Option CircuitKind → Option CircuitFault
+at_term layer place None = None
+at_term layer place (Some kind) = Some (record { kind = kind; layer = layer; place = place })
+
+-- the first fault of terms, the first of which has this place
+abbrev pub terms_fault : {A : Type 0} → (A → ℕ) → ℕ → ℕ → ℕ → Option (Term A) → ℕ → List (Term A) → Option CircuitFault
+terms_fault number layer wires width before place [] = None
+terms_fault number layer wires width before place (t ∷ ts) =
+    first_of (at_term layer place (term_fault number wires width before t)) (terms_fault number layer wires width (Some t) (place + 1) ts)
+
+abbrev pub limits_fault : ℕ → ℕ → ℕ → ℕ → ℕ → Option CircuitFault
+limits_fault l under_wires under_terms wires terms =
+    unless (nat_le 1 wires && (nat_le wires 131072 && (nat_le (under_wires + wires) 2097152 && nat_le (under_terms + terms) 2097152))) (over_limit l)
+
+abbrev pub layer_fault : {A : Type 0} → (A → ℕ) → ℕ → Under → Layer A → Option CircuitFault
+layer_fault number l under layer =
+    first_of (limits_fault l under.wires under.terms layer.wires (length layer.terms)) (terms_fault number l layer.wires under.width None 0 layer.terms)
+
+-- the first fault of layers, the first of which has this number: the last one is checked first
+abbrev pub layers_fault : {A : Type 0} → (A → ℕ) → ℕ → ℕ → List (Layer A) → Option CircuitFault
+layers_fault number inputs l [] = None
+layers_fault number inputs l (layer ∷ layers) = first_of (layers_fault number inputs (l + 1) layers) (layer_fault number l (under_of inputs layers) layer)
+
+abbrev pub counts_fault : ℕ → ℕ → ℕ → Option CircuitFault
+counts_fault publics privates depth =
+    unless (nat_le publics 65535 && (nat_le privates 65536 && (nat_le 1 depth && nat_le depth 512))) (over_limit 0)
+
+abbrev pub first_fault : {A : Type 0} → (A → ℕ) → ℕ → ℕ → List (Layer A) → Option CircuitFault
+first_fault number publics privates layers = first_of (counts_fault publics privates (length layers)) (layers_fault number (1 + publics + privates) 0 layers)

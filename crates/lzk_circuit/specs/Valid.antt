@@ -1,0 +1,83 @@
+-- Which circuits are valid.
+use Rattle.std.specs.Prelude.{◌≡◌, ◌≢◌, ℕ, ◌+◌, ◌<◌, ◌≤◌, ◌==◌, ◌&&◌, ◌||◌, nat_lt, Bool, true, IsTrue, Option, Some, None, List, [], ◌∷◌, ◌++◌, length, map}
+use Rattle.lzk_circuit.specs.declared.layer.Term.{Term}
+use Rattle.lzk_circuit.specs.declared.layer.Layer.{Layer}
+use Rattle.lzk_field.specs.Ring.{Ops}
+
+-- a circuit: its numbers of inputs, and its layers, the outputs' first
+pub record Wiring (A : Type 0) : Type 0 where
+  pub publics : ℕ
+  pub privates : ℕ
+  pub layers : List (Layer A)
+
+abbrev pub wiring : {A : Type 0} → ℕ → ℕ → List (Layer A) → Wiring A
+wiring publics privates layers = record { publics = publics; privates = privates; layers = layers }
+
+-- how many wires the input layer has: the one, and the inputs
+abbrev pub input_width : {A : Type 0} → Wiring A → ℕ
+input_width c = 1 + c.publics + c.privates
+
+-- what the layers below a place are: the width of the uppermost, and the wires and terms of all together, the input layer's not counted
+pub record Under : Type 0 where
+  pub width : ℕ
+  pub wires : ℕ
+  pub terms : ℕ
+
+-- below the last layer stand the inputs alone
+abbrev pub above_inputs : ℕ → Under
+above_inputs inputs = record { width = inputs; wires = 0; terms = 0 }
+
+abbrev pub above_layer : {A : Type 0} → Under → Layer A → Under
+above_layer under layer = record { width = layer.wires; wires = under.wires + layer.wires; terms = under.terms + length layer.terms }
+
+abbrev pub under_of : {A : Type 0} → ℕ → List (Layer A) → Under
+under_of inputs [] = above_inputs inputs
+under_of inputs (layer ∷ layers) = above_layer (under_of inputs layers) layer
+
+-- t comes before u by (g, a, b)
+abbrev pub precedes : {A : Type 0} → Term A → Term A → Bool
+precedes t u = nat_lt t.g u.g || ((t.g == u.g) && (nat_lt t.a u.a || ((t.a == u.a) && nat_lt t.b u.b)))
+
+-- t may stand behind the term before it
+abbrev pub follows : {A : Type 0} → Option (Term A) → Term A → Bool
+follows None t = true
+follows (Some s) t = precedes s t
+
+-- a term of a layer with so many wires, over a layer with so many
+pub record IsTerm {A : Type 0} (o : Ops A) (wires width : ℕ) (t : Term A) : Type 0 where
+  pub g : t.g < wires
+  pub a : t.a ≤ t.b
+  pub b : t.b < width
+  pub coef : t.coef ≢ o.zero
+
+-- each is a term, and comes after the one before it
+abbrev pub AreTerms : {A : Type 0} → Ops A → ℕ → ℕ → Option (Term A) → List (Term A) → Type 0
+AreTerms o wires width before [] = Unit {0}
+AreTerms o wires width before (t ∷ ts) = IsTerm o wires width t × IsTrue (follows before t) × AreTerms o wires width (Some t) ts
+
+pub record IsLayer {A : Type 0} (o : Ops A) (under : Under) (layer : Layer A) : Type 0 where
+  pub some : 1 ≤ layer.wires
+  pub most : layer.wires ≤ 131072
+  pub wires : under.wires + layer.wires ≤ 2097152
+  pub terms : under.terms + length layer.terms ≤ 2097152
+  pub each : AreTerms o layer.wires under.width None layer.terms
+
+-- each layer stands on the one below it, the last one on the inputs
+abbrev pub AreLayers : {A : Type 0} → Ops A → ℕ → List (Layer A) → Type 0
+AreLayers o inputs [] = Unit {0}
+AreLayers o inputs (layer ∷ layers) = IsLayer o (under_of inputs layers) layer × AreLayers o inputs layers
+
+pub record IsValid {A : Type 0} (o : Ops A) (c : Wiring A) : Type 0 where
+  pub publics : c.publics ≤ 65535
+  pub privates : c.privates ≤ 65536
+  pub some : 1 ≤ length c.layers
+  pub depth : length c.layers ≤ 512
+  pub layers : AreLayers o (input_width c) c.layers
+
+-- how wide the layers are, and the input layer last
+abbrev pub widths : {A : Type 0} → Wiring A → List ℕ
+widths c = map (λ layer. layer.wires) c.layers ++ input_width c ∷ []
+
+-- as many lists as layers and one for the inputs, each as long as its layer is wide
+abbrev pub HaveWidths : {A : Type 0} → Wiring A → List (List A) → Type 0
+HaveWidths c values = map length values ≡ widths c

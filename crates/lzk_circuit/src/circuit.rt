@@ -1,0 +1,103 @@
+//! Valid circuits.
+
+ghost use Rattle.std.specs.Prelude.{◌≡◌, ◌<◌, ◌≤◌, length, slice_get, slice_index_or, Some, MatchResult};
+ghost use Rattle.lzk_circuit.specs.Faults.{first_fault};
+ghost use Rattle.lzk_circuit.specs.Valid.{IsValid, wiring, widths};
+
+use crate::check::{check_counts, check_layers};
+use crate::fault::CircuitFault;
+use crate::layer::Layer;
+use lzk_field::Field;
+use std::marker::Model;
+
+/// A valid circuit: its counts are within the limits, each layer's terms ascend strictly by (g, a, b) and stay in range, with a at most b, and no coefficient is zero.
+#[derive(Drop)]
+pub struct Circuit<F: Field> {
+    publics: u32,
+    privates: u32,
+    layers: Vec<Layer<F>>,
+}
+
+impl<F: Field> Model for Circuit<F> {
+    ghost use Rattle.lzk_circuit.specs.Valid.{Wiring, IsValid, wiring};
+
+    ghost Value = { Wiring F };
+
+    ghost view = { λ c. wiring c.publics c.privates c.layers.items };
+
+    ghost invariant = { λ c. IsValid F.ops (wiring c.publics c.privates c.layers.items) };
+}
+
+impl<F: Field> Circuit<F> {
+    /// The circuit with these layers, the outputs' first. The layers are dropped on a refusal.
+    pub fn of_layers(
+        publics: u32,
+        privates: u32,
+        layers: Vec<Layer<F>>,
+    ) -> Result<Circuit<F>, CircuitFault>
+        ensures circuit { MatchResult result
+            (λ c. c ≡ wiring publics privates layers.items)
+            (λ fault. first_fault F.number_of publics privates layers.items ≡ Some fault) }
+        ensures valid { MatchResult result
+            (λ c. IsValid F.ops (wiring publics privates layers.items))
+            (λ fault. ¬ IsValid F.ops (wiring publics privates layers.items)) }
+    {
+        check_counts(publics, privates, layers.len())?;
+        check_layers(1 + publics + privates, &layers)?;
+        Ok(Circuit {
+            publics,
+            privates,
+            layers,
+        })
+    }
+
+    /// How many public inputs there are.
+    pub fn publics(&self) -> u32
+        ensures { result ≡ self.now.publics }
+    {
+        self.publics
+    }
+
+    /// How many private inputs there are.
+    pub fn privates(&self) -> u32
+        ensures { result ≡ self.now.privates }
+    {
+        self.privates
+    }
+
+    /// How many layers there are, the input layer not counted.
+    pub fn depth(&self) -> u32
+        ensures depth { result ≡ length self.now.layers }
+        ensures valid { IsValid F.ops self.now }
+    {
+        self.layers.len() as u32
+    }
+
+    /// Layer `l`, the outputs' being layer 0.
+    pub fn layer(&self, l: u32) -> &Layer<F>
+        requires { l < length self.now.layers }
+        ensures { slice_get self.now.layers l ≡ Some result.now }
+    {
+        &self.layers[l as usize]
+    }
+
+    // The layers, the outputs' first.
+    pub(crate) fn layers(&self) -> &[Layer<F>]
+        ensures layers { result.now ≡ self.now.layers }
+        ensures valid { IsValid F.ops self.now }
+    {
+        &self.layers
+    }
+
+    /// How many wires layer `l` has, the input layer being the one after the last.
+    pub fn width(&self, l: u32) -> u32
+        requires { l ≤ length self.now.layers }
+        ensures { result ≡ slice_index_or (widths self.now) l 0 }
+    {
+        if (l as usize) < self.layers.len() {
+            self.layers[l as usize].wires
+        } else {
+            1 + self.publics + self.privates
+        }
+    }
+}

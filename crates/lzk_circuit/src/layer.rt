@@ -1,0 +1,59 @@
+//! Terms and layers.
+
+ghost use Rattle.std.specs.Prelude.{◌≡◌};
+
+use std::marker::Model;
+
+/// `coef` times wire `a` times wire `b` of the layer below counts for wire `g`.
+#[derive(Clone, Copy)]
+pub struct Term<F> {
+    pub g: u32,
+    pub a: u32,
+    pub b: u32,
+    pub coef: F,
+}
+
+/// A list of terms. It is made from a `Vec` and gives it back, with no memory taken.
+#[derive(Drop)]
+pub struct Terms<F> {
+    list: Vec<Term<F>>,
+}
+
+impl<F> Model for Terms<F> {
+    ghost use Rattle.std.specs.Prelude.{List};
+    ghost use Rattle.lzk_circuit.specs.declared.layer.Term.{Term};
+
+    ghost Value = { List (Term F) };
+
+    ghost view = { λ t. t.list.items };
+}
+
+impl<F> Terms<F> {
+    /// These terms, with no check.
+    pub fn new(list: Vec<Term<F>>) -> Terms<F>
+        ensures { result ≡ list.items }
+    {
+        Terms { list }
+    }
+
+    /// The terms as they were handed in.
+    pub fn into_vec(self) -> Vec<Term<F>>
+        ensures { result.items ≡ self }
+    {
+        self.list
+    }
+
+    /// The terms in order.
+    pub fn as_slice(&self) -> &[Term<F>]
+        ensures { result.now ≡ self.now }
+    {
+        &self.list
+    }
+}
+
+/// A layer's number of wires, and its terms, which ascend by (g, a, b).
+#[derive(Drop)]
+pub struct Layer<F> {
+    pub wires: u32,
+    pub terms: Terms<F>,
+}

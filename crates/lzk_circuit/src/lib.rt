@@ -1,0 +1,29 @@
+//! Layered arithmetic circuits, and the values of their wires.
+//!
+//! A circuit has layers of wires, as in draft-google-cfrg-libzk: a wire's value is the sum, over pairs
+//! of wires of the layer below, of a coefficient times the two wires' values. Layer 0 holds the outputs.
+//! Below the last layer stand the inputs: the one, the public inputs and the private ones. The limits
+//! are those of the profile in docs/FORMATS.md. A caller writes
+//!
+//! ```text
+//! let circuit = Circuit::of_layers(publics, privates, layers)?;
+//! let mut values = Values::new(alloc, &circuit)?;
+//! circuit.eval(&public, &private, &mut values);
+//! let satisfied = values.first_nonzero().is_none();
+//! ```
+#![tactic(auto)]
+
+mod check;
+mod circuit;
+mod eval;
+mod fault;
+mod layer;
+mod values;
+
+pub use circuit::Circuit;
+pub use fault::{CircuitFault, CircuitKind};
+pub use layer::{Layer, Term, Terms};
+pub use values::Values;
+
+#[cfg(test)]
+mod tests;
