@@ -1,0 +1,6 @@
+use Rattle.std.proofs.Common.{◌≡◌, drop}
+use Rattle.lzk_expr.specs.Texts.{value_in}
+use Rattle.lzk_expr.proofs.digits.value.Given as goal
+
+abbrev pub invariant-loop-i : goal.invariant-loop-i
+invariant-loop-i l = value_in l.base 0 l.digits ≡ value_in l.base l.have (drop l.i l.digits)

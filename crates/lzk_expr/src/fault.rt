@@ -1,0 +1,50 @@
+//! Why a text is no list of numbers.
+
+ghost use Rattle.std.specs.Prelude.{◌≡◌};
+ghost use Rattle.lzk_expr.specs.declared.fault.NumberError.TheVariants.{OutOfMemory};
+
+use std::alloc::{AllocError, AllocFailed};
+use thiserror::Error;
+
+/// The rule that a token breaks: it is no number, or not below the field's size; or there are fewer
+/// numbers than wanted, or more.
+#[derive(Clone, Copy, Debug, PartialEq, Eq)]
+pub enum NumberKind {
+    Syntax,
+    TooLarge,
+    TooFew,
+    TooMany,
+}
+
+/// The line of the first token that breaks a rule, from 1, and the first rule that it breaks. A text
+/// with too few numbers is at fault on its last line.
+#[derive(Clone, Copy, Debug, PartialEq, Eq)]
+pub struct NumberFault {
+    pub line: u32,
+    pub kind: NumberKind,
+}
+
+/// Why a text gives no numbers: a rule that it breaks, or want of memory.
+#[derive(Debug, Drop, Error)]
+pub enum NumberError {
+    #[error("line {}: {:?}", .0.line, .0.kind)]
+    Fault(NumberFault),
+    #[error("out of memory")]
+    OutOfMemory,
+}
+
+impl From<AllocError> for NumberError {
+    ghost from_gives = { λ _ e. e ≡ OutOfMemory };
+
+    fn from(_e: AllocError) -> NumberError {
+        NumberError::OutOfMemory
+    }
+}
+
+impl<T: Drop> From<AllocFailed<T>> for NumberError {
+    ghost from_gives = { λ _ e. e ≡ OutOfMemory };
+
+    fn from(_e: AllocFailed<T>) -> NumberError {
+        NumberError::OutOfMemory
+    }
+}
