@@ -1,0 +1,4 @@
+pub mod Blocks
+pub mod Entries
+pub mod Opened
+pub mod PutIn

@@ -1,0 +1,3 @@
+pub mod Columns
+pub mod Insertion
+pub mod Tape
