@@ -1,0 +1,47 @@
+//! The work that `bench/run` times: `WORK TIMES` does it so often, and prints a checksum.
+#![tactic(auto)]
+
+mod blocks;
+mod circuits;
+mod elements;
+mod texts;
+
+use lzk_gf128::Gf128;
+use lzk_goldilocks::Gold;
+use std::alloc::{AllocError, Global};
+use std::env;
+
+// The checksum of a work, done so often. None where there is no such work.
+fn done(alloc: Global, work: &str, times: u32) -> Result<Option<u128>, AllocError> {
+    let sum = match work {
+        "gold-mul" => elements::products::<Gold>(times),
+        "gold-inv" => elements::inverses::<Gold>(times),
+        "gold-dot" => elements::dots::<Gold>(alloc, times)?,
+        "gf-mul" => elements::products::<Gf128>(times),
+        "gf-inv" => elements::inverses::<Gf128>(times),
+        "aes" => blocks::encrypted(times),
+        "draw" => blocks::drawn(times),
+        "absorb" => blocks::absorbed(times),
+        "eval" => circuits::evaluated(alloc, times)?,
+        "decode" => circuits::decoded(alloc, times)?,
+        "encode" => circuits::encoded(alloc, times)?,
+        "numbers" => texts::read(alloc, times)?,
+        _ => return Ok(None),
+    };
+    Ok(Some(sum))
+}
+
+fn main(rt: HostRuntime) -> anyhow::Result<()> {
+    let mut words = env::args(&rt)?;
+    let _program = words.next();
+    let work = words.next().unwrap_or(String::new(rt.alloc()));
+    let times = match words.next() {
+        Some(word) => word.parse::<u32>().unwrap_or(0),
+        None => 0,
+    };
+    match done(rt.alloc(), &work, times)? {
+        Some(sum) => println!(rt; "{work} {times}: {sum}")?,
+        None => println!(rt; "no such work")?,
+    }
+    Ok(())
+}

@@ -1,0 +1,96 @@
+-- What stands behind the counts, as it is read.
+use Rattle.std.proofs.Common.{◌≡◌, ℕ, suc, ◌+◌, ◌*◌, ◌≤◌, Bool, true, false, eqb, ◌||◌, List, [], ◌∷◌, ◌++◌, length, get_or, map, reverse, Ok, refl, sym, ap, subst, ◌∙◌, arith, length-append, take, drop, Fits, w8}
+use Rattle.std.specs.Prelude.{replicate, slice_index}
+use Rattle.std.specs.List.Sorted.{IsStrictlyIncreasing}
+use Rattle.std.proofs.lemmas.List.{get_or-replicate, length-drop, nil_from_length, take_all, append-nil}
+use Rattle.lzk_field.specs.Bytes.{bytes_of}
+use Rattle.lzk_field.proofs.ByteForms.{length-bytes_of}
+use Rattle.lzk_circuit.specs.declared.layer.Layer.{Layer}
+use Rattle.lzk_circuit.specs.Valid.{wiring}
+use Rattle.lzk_circbytes.specs.declared.fault.ByteKind.TheVariants.{Trailing}
+use Rattle.lzk_circbytes.specs.declared.fault.ReadError.{ReadError}
+use Rattle.lzk_circbytes.specs.declared.fault.ReadError.TheVariants as errors
+use Rattle.lzk_circbytes.specs.Numbered.{Shape, numbered_layer, numbered, is_coefficient}
+use Rattle.lzk_circbytes.specs.Reading.{stops, as_last, constants_at, layers_at, unused_from, all_used, limited_at, body_at, wiring_at}
+use Rattle.lzk_circbytes.specs.Spelling.{spells, constants_bytes}
+use Rattle.lzk_circbytes.specs.Answers.{Fails, Marks, unmarked_from}
+use Rattle.lzk_circbytes.proofs.Steps.{IsBytes}
+use Rattle.lzk_circbytes.proofs.Fields.{constants_take}
+use Rattle.lzk_circbytes.proofs.Ascending.{increasing-from_Above}
+use Rattle.lzk_circbytes.proofs.Validity.{Above-constants}
+use Rattle.lzk_circbytes.proofs.Marking.{unmarked_is}
+use Rattle.lzk_circbytes.proofs.FileLaws.{map-reverse}
+
+length-constants : (shape : Shape) (before : ℕ) (cs : List ℕ) → length (spells as_last (λ b c. bytes_of shape.bytes c) before cs) ≡ length cs * shape.bytes
+unfolding spells
+length-constants shape before [] = (let z : 0 ≡ 0 * shape.bytes = grind arith in z)
+length-constants shape before (c ∷ cs) =
+    let k : length (bytes_of shape.bytes c) ≡ shape.bytes = length-bytes_of shape.bytes c in
+    let ih = length-constants shape c cs in
+    length-append (bytes_of shape.bytes c) (spells as_last (λ b x. bytes_of shape.bytes x) c cs) ∙ (let m : length (bytes_of shape.bytes c) + length (spells as_last (λ b x. bytes_of shape.bytes x) c cs) ≡ suc (length cs) * shape.bytes = grind (arith, k, ih) in m)
+
+pub record Constants (shape : Shape) (count : ℕ) (bytes cs : List ℕ) : Type 0 where
+  pub many : length cs ≡ count
+  pub rising : IsStrictlyIncreasing cs
+  pub room : length cs * shape.bytes ≤ length bytes
+
+pub constants_are : (shape : Shape) (count : ℕ) (bytes cs rest : List ℕ) → IsBytes bytes → constants_at shape count bytes ≡ Ok (cs, rest) → Constants shape count bytes cs
+unfolding constants_bytes
+constants_are shape count bytes cs rest fits e =
+    let t = constants_take shape count bytes (cs, rest) fits e in
+    let sum = length-append (constants_bytes shape cs) rest in
+    record {
+      many = t.1;
+      rising = increasing-from_Above 0 cs (Above-constants shape 0 cs t.2);
+      room = omega (arith, ap length t.0.parts, sum, length-constants shape 0 cs);
+    }
+
+-- flags that were all false before, after the layers were read
+pub flags_are : (shape : Shape) (layers : List (Layer ℕ)) (numbers : List ℕ) (old new : List Bool) (bytes : List ℕ) → old ≡ replicate (length numbers) false → length new ≡ length numbers
+    → Marks numbers (is_coefficient layers) old new → unmarked_from shape.bytes new bytes ≡ unused_from shape.bytes layers numbers bytes
+flags_are shape layers numbers old new bytes none len marks =
+    unmarked_is shape.bytes layers numbers new bytes len
+    (λ i lt. marks i lt ∙ ap (λ b. b || is_coefficient layers (slice_index numbers i)) (ap (λ us. get_or us i false) none ∙ get_or-replicate (length numbers) i false false lt))
+
+module _ (shape : Shape) (inputs depth count : ℕ) (bytes cs r1 r2 : List ℕ) (layers : List (Layer ℕ)) (at_cs : constants_at shape count bytes ≡ Ok (cs, r1)) (at_layers : layers_at cs inputs depth r1 ≡ Ok (layers, r2)) where
+  pub body_unused : (e : ReadError) → Fails e (all_used (unused_from shape.bytes layers cs bytes)) → Fails e (body_at shape inputs depth count bytes)
+  unfolding body_at
+  body_unused errors.OutOfMemory h = tt
+  body_unused (errors.Stops left kind) h = rw (at_cs, at_layers, h) refl
+
+  pub body_left : all_used (unused_from shape.bytes layers cs bytes) ≡ Ok tt → eqb (length r2) 0 ≡ false → body_at shape inputs depth count bytes ≡ stops Trailing r2
+  unfolding body_at
+  body_left h some = rw (at_cs, at_layers, h, some) refl
+
+  pub body_whole : all_used (unused_from shape.bytes layers cs bytes) ≡ Ok tt → eqb (length r2) 0 ≡ true → body_at shape inputs depth count bytes ≡ Ok layers
+  unfolding body_at
+  body_whole h all = rw (at_cs, at_layers, h, all) refl
+
+pub bytes_fit : (bytes : List ℕ) → ((i : ℕ) → Fits w8 (get_or bytes i 0)) → IsBytes bytes
+bytes_fit bytes h i = omega (arith, h i)
+
+-- a list that was lent whole, and came back
+pub lent_back : {A : Type 0} (n : ℕ) (new old : List A) → length new ≡ length old → n ≡ length old → take n (new ++ drop (length new) old) ≡ new
+lent_back n new old same all =
+    let none : drop (length new) old ≡ [] = nil_from_length (drop (length new) old) (omega (arith, same, length-drop (length new) old)) in
+    ap (λ (r : List _). take n (new ++ r)) none ∙ ap (take n) (append-nil new) ∙ take_all n new (omega (arith, same, all))
+
+-- the same, where lists and width are given by equations
+pub flags_read : (shape : Shape) (layers : List (Layer ℕ)) (numbers given : List ℕ) (old before new after : List Bool) (width : ℕ) (bytes : List ℕ) → given ≡ numbers → before ≡ old → after ≡ new → width ≡ shape.bytes
+    → old ≡ replicate (length numbers) false → length new ≡ length numbers → Marks given (is_coefficient layers) before new
+    → all_used (unmarked_from width after bytes) ≡ all_used (unused_from shape.bytes layers numbers bytes)
+flags_read shape layers numbers given old before new after width bytes e1 e2 e3 e4 none len marks =
+    let one : Marks numbers (is_coefficient layers) before new = subst (λ (ns : List ℕ). Marks ns (is_coefficient layers) before new) e1 marks in
+    let two : Marks numbers (is_coefficient layers) old new = subst (λ (us : List Bool). Marks numbers (is_coefficient layers) us new) e2 one in
+    ap (λ (us : List Bool). all_used (unmarked_from width us bytes)) e3 ∙ ap (λ (n : ℕ). all_used (unmarked_from n new bytes)) e4 ∙ ap all_used (flags_are shape layers numbers old new bytes none len two)
+
+pub wiring_done : (shape : Shape) (publics privates depth count : ℕ) (bytes r1 r2 r3 r4 : List ℕ) (layers : List (Layer ℕ)) → limited_at 0 65535 bytes ≡ Ok (publics, r1) → limited_at 0 65536 r1 ≡ Ok (privates, r2) → limited_at 1 512 r2 ≡ Ok (depth, r3)
+    → limited_at 0 2097152 r3 ≡ Ok (count, r4) → body_at shape (1 + publics + privates) depth count r4 ≡ Ok layers → wiring_at shape bytes ≡ Ok (wiring publics privates (reverse layers))
+unfolding wiring_at
+wiring_done shape publics privates depth count bytes r1 r2 r3 r4 layers e1 e2 e3 e4 e5 = rw (e1, e2, e3, e4, e5) refl
+
+-- the circuit of layers that were read and turned
+pub turned : {A : Type 0} (number : A → ℕ) (shape : Shape) (publics privates : ℕ) (bytes : List ℕ) (layers back : List (Layer A)) → back ≡ reverse layers → wiring_at shape bytes ≡ Ok (wiring publics privates (reverse (map (numbered_layer number) layers)))
+    → wiring_at shape bytes ≡ Ok (numbered number (wiring publics privates back))
+turned number shape publics privates bytes layers back e read =
+    read ∙ ap (λ (ls : List (Layer ℕ)). Ok (wiring publics privates ls)) (sym (map-reverse (numbered_layer number) layers)) ∙ ap (λ (ls : List (Layer _)). Ok (numbered number (wiring publics privates ls))) (sym e)

@@ -1,0 +1,17 @@
+pub mod Powers
+pub mod Loop
+pub mod Steps
+pub mod Varints
+pub mod Fields
+pub mod Layers
+pub mod Wirings
+pub mod Ascending
+pub mod Validity
+pub mod Coefficients
+pub mod FileLaws
+pub mod Marking
+pub mod Bodies
+pub mod Bounds
+pub mod Whole
+pub mod Written
+pub mod OneFile

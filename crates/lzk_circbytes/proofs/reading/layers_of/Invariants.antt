@@ -1,0 +1,19 @@
+use Rattle.std.proofs.Common.{◌≡◌, ◌≤◌, ◌-◌, map, length}
+use Rattle.lzk_circuit.specs.Valid.{above_layer}
+use Rattle.lzk_circbytes.specs.Numbered.{numbered_layer, is_coefficient}
+use Rattle.lzk_circbytes.specs.Reading.{many, layer_at, layers_at}
+use Rattle.lzk_circbytes.specs.Answers.{Marks, under}
+use Rattle.lzk_circbytes.proofs.Loop.{with_front}
+use Rattle.lzk_circbytes.proofs.reading.layers_of.Given as goal
+
+abbrev pub invariant-loop : goal.invariant-loop
+invariant-loop g l =
+    let number = g.F.Field.number_of in
+    record {
+      wires : l.below.wires ≤ 2097152;
+      terms : l.below.terms ≤ 2097152;
+      flags : length l.used ≡ length l.constants;
+      used : Marks (map number l.constants) (is_coefficient (map (numbered_layer number) l.layers.items)) l.fn.used l.used;
+      read : with_front (map (numbered_layer number) l.layers.items) (many above_layer (layer_at (map number l.constants)) (l.count - l.counter) (under l.below.width l.below.wires l.below.terms) l.rest)
+          ≡ layers_at (map number l.constants) l.inputs l.count l.bytes;
+    }

@@ -1,0 +1,63 @@
+-- What the parts of a circuit's file are like, over what the parts before them left.
+use Rattle.std.specs.Prelude.{◌≡◌, ℕ, ◌+◌, ◌^◌, ◌<◌, ◌≤◌, List, [], ◌∷◌, length, Option, None, true, IsTrue, nat_eq}
+use Rattle.std.specs.List.{list_any}
+use Rattle.lzk_circuit.specs.declared.layer.Term.{Term}
+use Rattle.lzk_circuit.specs.declared.layer.Layer.{Layer}
+use Rattle.lzk_circuit.specs.Valid.{Under, above_inputs, above_layer}
+use Rattle.lzk_circbytes.specs.Numbered.{Shape, is_coefficient}
+use Rattle.lzk_circbytes.specs.Reading.{stands_behind, wire_before, as_before, as_last}
+use Rattle.lzk_circbytes.specs.Spelling.{index_of}
+
+-- each item fits what the items before it left
+abbrev pub FitAlong : {S A : Type 0} → (S → A → S) → (S → A → Type 0) → S → List A → Type 0
+FitAlong next Fits s [] = Unit {0}
+FitAlong next Fits s (x ∷ xs) = Fits s x × FitAlong next Fits (next s x) xs
+
+pub record FitsTerm (coefs : List ℕ) (wires below : ℕ) (before : Option (Term ℕ)) (t : Term ℕ) : Type 0 where
+  pub g : t.g < wires
+  pub a : t.a ≤ t.b
+  pub b : t.b < below
+  pub rising : wire_before before ≤ t.g
+  pub behind : stands_behind before t.g t.a t.b ≡ true
+  pub number : index_of coefs t.coef < length coefs
+
+pub record FitsLayer (coefs : List ℕ) (under : Under) (l : Layer ℕ) : Type 0 where
+  pub some : 1 ≤ l.wires
+  pub wires : l.wires ≤ 131072
+  pub all_wires : under.wires + l.wires ≤ 2097152
+  pub all_terms : under.terms + length l.terms ≤ 2097152
+  pub terms : FitAlong as_before (FitsTerm coefs l.wires under.width) None l.terms
+
+pub record FitsConstant (shape : Shape) (before c : ℕ) : Type 0 where
+  pub above : before < c
+  pub below : c < shape.size
+
+-- constants that rise from above 0 to below the field's size
+abbrev pub AreConstants : Shape → ℕ → List ℕ → Type 0
+AreConstants shape before cs = FitAlong as_last (FitsConstant shape) before cs
+
+-- what stands behind the field's byte, with these constants and with the layers from the inputs up
+pub record FitsWiring (shape : Shape) (publics privates : ℕ) (layers : List (Layer ℕ)) (cs : List ℕ) : Type 0 where
+  pub few_publics : publics ≤ 65535
+  pub few_privates : privates ≤ 65536
+  pub some : 1 ≤ length layers
+  pub depth : length layers ≤ 512
+  pub few_constants : length cs ≤ 2097152
+  pub rising : AreConstants shape 0 cs
+  pub each : FitAlong above_layer (FitsLayer cs) (above_inputs (1 + publics + privates)) layers
+  -- each constant is a coefficient
+  pub used : (c : ℕ) → IsTrue (list_any (nat_eq c) cs) → IsTrue (is_coefficient layers c)
+
+-- what lets a term be written behind the one before: its steps are no less than 0, and its coefficient is a constant
+pub record CanWrite (coefs : List ℕ) (before : Option (Term ℕ)) (t : Term ℕ) : Type 0 where
+  pub rising : wire_before before ≤ t.g
+  pub a : t.a ≤ t.b
+  pub number : index_of coefs t.coef < length coefs
+
+abbrev pub CanWriteAll : List ℕ → List (Term ℕ) → Type 0
+CanWriteAll coefs terms = FitAlong as_before (CanWrite coefs) None terms
+
+-- the layers' terms can be written
+abbrev pub CanWriteLayers : List ℕ → List (Layer ℕ) → Type 0
+CanWriteLayers coefs [] = Unit {0}
+CanWriteLayers coefs (layer ∷ layers) = CanWriteAll coefs layer.terms × (length layer.terms < 2 ^ 32) × CanWriteLayers coefs layers

@@ -1,0 +1,102 @@
+//! The circuit whose file the bytes are.
+
+ghost use Rattle.std.specs.Prelude.{◌≡◌, ◌≤◌, map, reverse, IfOk, IfErr};
+ghost use Rattle.lzk_circuit.specs.Valid.{IsValid, wiring};
+ghost use Rattle.lzk_circbytes.specs.Numbered.{shape, numbered, numbered_layer};
+ghost use Rattle.lzk_circbytes.specs.Reading.{body_at, wiring_at};
+ghost use Rattle.lzk_circbytes.specs.Files.{CircuitBytes, circuit_at, OneCircuit, OneFile, OneFault, NoFault};
+ghost use Rattle.lzk_circbytes.specs.Answers.{Gives, IsFirstFault, IsNoCircuit, numbers_of, IsValidCircuit};
+
+use crate::any::AnyCircuit;
+use crate::fault::{ByteFault, ByteKind, DecodeError, ReadError};
+use crate::reading::{check_used, constants_of, layers_of, limited_of, stop};
+use lzk_circuit::{Circuit, Layer};
+use lzk_field::Field;
+use lzk_gf128::Gf128;
+use lzk_goldilocks::Gold;
+use std::alloc::Global;
+
+/// The layers, from the inputs up, behind the counts.
+#[tactic(auto, unfolding(crate::specs::Reading::body_at))]
+fn body_of<F: Field>(
+    alloc: Global,
+    inputs: u32,
+    depth: u32,
+    count: u32,
+    bytes: &[u8],
+) -> Result<Vec<Layer<F>>, ReadError>
+    requires { count ≤ 2097152 }
+    ensures { Gives (λ layers. map (numbered_layer F.number_of) layers.items) result (body_at (shape F.ID F.BYTES F.size) inputs depth count bytes.now) }
+{
+    let (constants, rest) = constants_of::<F>(alloc, count, bytes)?;
+    let mut used = vec![in alloc; false; constants.len()]?;
+    let (layers, rest) = layers_of(alloc, &constants, inputs, depth, &mut used, rest)?;
+    check_used(&used, F::BYTES, bytes)?;
+    if !rest.is_empty() {
+        return Err(stop(ByteKind::Trailing, rest));
+    }
+    Ok(layers)
+}
+
+/// The circuit behind the field's byte.
+#[tactic(auto, unfolding(crate::specs::Reading::wiring_at))]
+fn circuit_of<F: Field>(alloc: Global, bytes: &[u8]) -> Result<Circuit<F>, ReadError>
+    ensures value { Gives (λ c. numbered F.number_of c) result (wiring_at (shape F.ID F.BYTES F.size) bytes.now) }
+    ensures valid { IfOk result (λ c. IsValid F.ops c) }
+{
+    let (publics, rest) = limited_of(0, 65_535, bytes)?;
+    let (privates, rest) = limited_of(0, 65_536, rest)?;
+    let (depth, rest) = limited_of(1, 512, rest)?;
+    let (count, rest) = limited_of(0, 2_097_152, rest)?;
+    let mut layers = body_of(alloc, 1 + publics + privates, depth, count, rest)?;
+    layers.reverse();
+    match Circuit::of_layers(publics, privates, layers) {
+        Ok(circuit) => Ok(circuit),
+        Err(_) => unreachable!(),
+    }
+}
+
+/// The circuit of a whole file.
+#[tactic(auto, unfolding(crate::specs::Files::circuit_at))]
+fn file_of(alloc: Global, bytes: &[u8]) -> Result<AnyCircuit, ReadError>
+    ensures value { Gives numbers_of result (circuit_at bytes.now) }
+    ensures valid { IfOk result IsValidCircuit }
+{
+    if bytes.len() < 4 {
+        return Err(stop(ByteKind::Truncated, bytes));
+    }
+    match bytes {
+        [b'L', b'Z', b'C', b'1'] => Err(stop(ByteKind::Truncated, &bytes[4..])),
+        [b'L', b'Z', b'C', b'1', 1, rest @ ..] => Ok(AnyCircuit::Gold(circuit_of::<Gold>(
+            alloc, rest,
+        )?)),
+        [b'L', b'Z', b'C', b'1', 2, rest @ ..] => Ok(AnyCircuit::Gf(circuit_of::<Gf128>(
+            alloc, rest,
+        )?)),
+        [b'L', b'Z', b'C', b'1', ..] => Err(stop(ByteKind::FieldId, &bytes[4..])),
+        _ => Err(stop(ByteKind::Magic, bytes)),
+    }
+}
+
+/// The circuit whose file the bytes are. Want of memory may come at any time.
+#[tactic(auto, using(crate::proofs::Whole::one_circuit, crate::proofs::Whole::one_file, crate::proofs::Whole::no_fault))]
+pub fn decode(alloc: Global, bytes: &[u8]) -> Result<AnyCircuit, DecodeError>
+    ensures circuit { IfOk result (λ c. CircuitBytes c bytes.now) }
+    ensures fault { IfErr result (IsFirstFault bytes.now) }
+    ensures no_circuit { IfErr result (IsNoCircuit bytes.now) }
+
+    // What is a file, and what is a fault, is so in one way only.
+    ensures one_circuit { OneCircuit }
+    ensures one_file { OneFile }
+    ensures one_fault { OneFault }
+    ensures no_fault { NoFault }
+{
+    match file_of(alloc, bytes) {
+        Ok(circuit) => Ok(circuit),
+        Err(ReadError::Stops(left, kind)) => {
+            let offset = (bytes.len() - left) as u64;
+            Err(DecodeError::Fault(ByteFault { offset, kind }))
+        }
+        Err(ReadError::OutOfMemory) => Err(DecodeError::OutOfMemory),
+    }
+}

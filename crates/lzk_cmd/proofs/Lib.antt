@@ -1,0 +1,9 @@
+pub mod Causes
+pub mod Evals
+pub mod Outputs
+pub mod Printing
+pub mod Ready
+pub mod Shows
+pub mod Steps
+pub mod Told
+pub mod Works

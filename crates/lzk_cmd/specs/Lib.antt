@@ -1,0 +1,18 @@
+pub mod Answers
+pub mod Complete
+pub mod Decoded
+pub mod Ends
+pub mod Evaluations
+pub mod Files
+pub mod Lines
+pub mod Outcome
+pub mod Run
+pub mod Views
+pub mod Words
+pub use Rattle.lzk_outside.specs as lzk_outside
+pub use Rattle.lzk_circbytes.specs as lzk_circbytes
+pub use Rattle.lzk_circuit.specs as lzk_circuit
+pub use Rattle.lzk_expr.specs as lzk_expr
+pub use Rattle.lzk_goldilocks.specs as lzk_goldilocks
+pub use Rattle.lzk_gf128.specs as lzk_gf128
+pub use Rattle.lzk_field.specs as lzk_field

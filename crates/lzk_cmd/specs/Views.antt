@@ -1,0 +1,8 @@
+-- A command in memory as its words.
+use Rattle.lzk_cmd.specs.declared.words.Command.{Command}
+use Rattle.lzk_cmd.specs.declared.words.Command.TheVariants as codes
+use Rattle.lzk_cmd.specs.Words as words
+
+abbrev pub command_view : Command → words.Command
+command_view (codes.Eval circuit public private) = words.Eval circuit.now public.now private.now
+command_view (codes.Show circuit) = words.Show circuit.now

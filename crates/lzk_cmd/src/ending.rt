@@ -1,0 +1,29 @@
+//! How a run ends.
+
+ghost use Rattle.std.specs.Prelude.{◌≡◌};
+ghost use Rattle.lzk_cmd.specs.declared.ending.Halt.TheVariants.{Memory};
+
+use std::alloc::AllocError;
+
+/// The status of a run, all that it prints, and whether a file was missing.
+#[derive(Drop)]
+pub struct Ending {
+    pub status: u8,
+    pub text: String,
+    pub missing: bool,
+}
+
+/// Why a walk over the files goes no further: there is no memory, or the run ends here.
+#[derive(Drop)]
+pub enum Halt {
+    Memory,
+    End(Ending),
+}
+
+impl From<AllocError> for Halt {
+    ghost from_gives = { λ _ e. e ≡ Memory };
+
+    fn from(_: AllocError) -> Halt {
+        Halt::Memory
+    }
+}

@@ -1,0 +1,98 @@
+//! The top call.
+
+ghost use Rattle.std.specs.Prelude.{◌≡◌, ◌⊎◌, ◌↔◌, map, string_bytes, IfSome};
+ghost use Rattle.lzk_outside.specs.Outside.{Rose};
+ghost use Rattle.lzk_cmd.specs.Answers.{RunHasCause, ending_of};
+ghost use Rattle.lzk_cmd.specs.Words.{command_of};
+ghost use Rattle.lzk_cmd.specs.Outcome.{Outcome, Worked, Refused};
+ghost use Rattle.lzk_cmd.specs.Complete.{Completes};
+
+use crate::ending::{Ending, Halt};
+use crate::eval::eval;
+use crate::lines;
+use crate::print::print;
+use crate::show::show;
+use crate::words::{Command, parse_words};
+use lzk_field::Gate;
+use lzk_outside::{Shelf, Sink, SinkFault};
+use std::alloc::Global;
+
+// All but the printing.
+fn work<S: Shelf>(alloc: Global, words: &[String], shelf: &mut S) -> Result<Ending, Halt>
+    ensures told { IfSome (S.held shelf.old) (λ files. Worked (map (λ w. string_bytes w) words.now) files (S.held shelf.new)
+        (Rose (S.read_faults shelf.old) (S.read_faults shelf.new)) (Rose (S.put_faults shelf.old) (S.put_faults shelf.new)) (ending_of result)) }
+    ensures words { IfSome (ending_of result) (λ e. (e.status ≡ 2) ↔ (command_of (map (λ w. string_bytes w) words.now) ≡ None)) }
+    ensures cause { IfSome (ending_of result) (RunHasCause (Rose (S.read_faults shelf.old) (S.read_faults shelf.new)) (Rose (S.misses shelf.old) (S.misses shelf.new))) }
+{
+    match parse_words(words) {
+        None => {
+            let text = lines::refuse_words(alloc)?;
+            Ok(Ending {
+                status: 2,
+                text,
+                missing: false,
+            })
+        }
+        Some(
+            Command::Eval {
+                circuit,
+                public,
+                private,
+            },
+        ) => eval(alloc, circuit, public, private, shelf),
+        Some(Command::Show { circuit }) => show(alloc, circuit, shelf),
+    }
+}
+
+// Does what the words say, and prints it.
+fn conclude<S: Shelf, K: Sink>(alloc: Global, words: &[String], shelf: &mut S, out: &mut K) -> u8
+    ensures told { IfSome (S.held shelf.old) (λ files. IfSome (K.written out.old) (λ before.
+        Outcome (map (λ w. string_bytes w) words.now) files before result (S.held shelf.new) (K.written out.new)
+        (Rose (S.read_faults shelf.old) (S.read_faults shelf.new)) (Rose (S.put_faults shelf.old) (S.put_faults shelf.new)) (Rose (S.misses shelf.old) (S.misses shelf.new)) (Rose (K.faults out.old) (K.faults out.new)))) }
+    ensures words { result ≡ 2 → command_of (map (λ w. string_bytes w) words.now) ≡ None }
+    ensures refused { command_of (map (λ w. string_bytes w) words.now) ≡ None → (result ≡ 2) ⊎ (((result ≡ 5) × Rose (K.faults out.old) (K.faults out.new)) ⊎ (result ≡ 6)) }
+    ensures missing { result ≡ 3 → IfSome (K.written out.old) (λ before. Refused (Rose (S.misses shelf.old) (S.misses shelf.new)) before (K.written out.new)) }
+    ensures reading { result ≡ 4 → Rose (S.read_faults shelf.old) (S.read_faults shelf.new) }
+    ensures printing { result ≡ 5 → Rose (K.faults out.old) (K.faults out.new) }
+{
+    let ending = match work(alloc, words, shelf) {
+        Ok(ending) => ending,
+        Err(Halt::End(ending)) => ending,
+        Err(Halt::Memory) => return 6,
+    };
+    match print(out, ending.text.as_bytes()) {
+        Ok(()) => ending.status,
+        Err(SinkFault::Failed) => 5,
+        Err(SinkFault::OutOfMemory) => 6,
+    }
+}
+
+/// Does what the words say, and answers the status: 0 done, 1 unsatisfied, 2 the words are no command,
+/// 3 a file is refused, 4 a read failed, 5 a put or a write failed, 6 want of memory. Nothing is printed
+/// after a failed write or at want of memory.
+pub fn run<S: Shelf, K: Sink, G: Gate>(
+    alloc: Global,
+    words: &[String],
+    shelf: &mut S,
+    out: &mut K,
+    _gate: &G,
+) -> u8
+    // Where shelf and sink tell their contents, the run is the definition's.
+    ensures told { IfSome (S.held shelf.old) (λ files. IfSome (K.written out.old) (λ before.
+        Outcome (map (λ w. string_bytes w) words.now) files before result (S.held shelf.new) (K.written out.new)
+        (Rose (S.read_faults shelf.old) (S.read_faults shelf.new)) (Rose (S.put_faults shelf.old) (S.put_faults shelf.new)) (Rose (S.misses shelf.old) (S.misses shelf.new)) (Rose (K.faults out.old) (K.faults out.new)))) }
+
+    // Where the files are ready and nothing rose, the run is done.
+    ensures complete { IfSome (S.held shelf.old) (λ files. IfSome (K.written out.old) (λ before.
+        Completes (map (λ w. string_bytes w) words.now) files before result (K.written out.new)
+        (Rose (S.read_faults shelf.old) (S.read_faults shelf.new)) (Rose (S.put_faults shelf.old) (S.put_faults shelf.new)) (Rose (K.faults out.old) (K.faults out.new)))) }
+
+    // Each status has its cause, whether or not they tell.
+    ensures words { result ≡ 2 → command_of (map (λ w. string_bytes w) words.now) ≡ None }
+    ensures refused { command_of (map (λ w. string_bytes w) words.now) ≡ None → (result ≡ 2) ⊎ (((result ≡ 5) × Rose (K.faults out.old) (K.faults out.new)) ⊎ (result ≡ 6)) }
+    ensures missing { result ≡ 3 → IfSome (K.written out.old) (λ before. Refused (Rose (S.misses shelf.old) (S.misses shelf.new)) before (K.written out.new)) }
+    ensures reading { result ≡ 4 → Rose (S.read_faults shelf.old) (S.read_faults shelf.new) }
+    ensures printing { result ≡ 5 → Rose (K.faults out.old) (K.faults out.new) }
+{
+    conclude(alloc, words, shelf, out)
+}
