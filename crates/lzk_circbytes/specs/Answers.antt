@@ -25,8 +25,8 @@ IsNoCircuit bytes refused.OutOfMemory = Unit {0}
 
 -- the field's byte and the numbers of a circuit
 abbrev pub numbers_of : AnyCircuit → ℕ × Wiring ℕ
-numbers_of (Gold c) = (1, numbered (λ x. x.n) c)
-numbers_of (Gf c) = (2, numbered (λ x. x.n) c)
+numbers_of (Gold c) = (1, numbered gold.number c)
+numbers_of (Gf c) = (2, numbered gf.number c)
 
 -- the circuit is valid
 abbrev pub IsValidCircuit : AnyCircuit → Type 0

@@ -31,8 +31,8 @@ gf128 = shape 2 16 (2 ^ 128)
 
 -- the bytes are the file of a circuit over one of the two fields
 abbrev pub CircuitBytes : AnyCircuit → List ℕ → Type 0
-CircuitBytes (Gold c) bytes = IsFile gold.ops (λ x. x.n) goldilocks c bytes
-CircuitBytes (Gf c) bytes = IsFile gf.ops (λ x. x.n) gf128 c bytes
+CircuitBytes (Gold c) bytes = IsFile gold.ops gold.number goldilocks c bytes
+CircuitBytes (Gf c) bytes = IsFile gf.ops gf.number gf128 c bytes
 
 -- SHA-256 of a circuit's file
 abbrev pub circuit_id : Shape → Wiring ℕ → List ℕ

@@ -40,8 +40,8 @@ EvalOver o size number c public private files stop end =
     Evaluated o number (wires_of o c.layers (inputs_of o publics privates)) end))
 
 abbrev pub EvalAny : AnyCircuit → List ℕ → List ℕ → Files → Stop → End → Type 0
-EvalAny (Gold c) = EvalOver gold.ops p (λ x. x.n) c
-EvalAny (Gf c) = EvalOver gf.ops (2 ^ 128) (λ x. x.n) c
+EvalAny (Gold c) = EvalOver gold.ops p gold.number c
+EvalAny (Gf c) = EvalOver gf.ops (2 ^ 128) gf.number c
 
 unfoldable pub EvalRun : List ℕ → List ℕ → List ℕ → Files → Stop → End → Type 0
 EvalRun circuit public private files stop end =
@@ -57,8 +57,8 @@ abbrev pub shown : {A : Type 0} → List ℕ → List ℕ → Wiring A → List 
 shown field id c = counts_lines field id c.publics c.privates (length c.layers) ++ layer_lines 0 c.layers
 
 abbrev pub shown_any : AnyCircuit → List ℕ
-shown_any (Gold c) = shown (codes "goldilocks") (circuit_id goldilocks (numbered (λ x. x.n) c)) c
-shown_any (Gf c) = shown (codes "gf2_128") (circuit_id gf128 (numbered (λ x. x.n) c)) c
+shown_any (Gold c) = shown (codes "goldilocks") (circuit_id goldilocks (numbered gold.number c)) c
+shown_any (Gf c) = shown (codes "gf2_128") (circuit_id gf128 (numbered gf.number c)) c
 
 unfoldable pub ShowRun : List ℕ → Files → Stop → End → Type 0
 ShowRun circuit files stop end = AtCircuitFile files stop 0 circuit end (λ c. end ≡ says 0 (shown_any c))

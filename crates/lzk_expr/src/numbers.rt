@@ -96,8 +96,8 @@ fn numbers<F: Field>(alloc: Global, text: &[u8], count: u32) -> Result<Vec<F>, N
     Ok(found)
 }
 
-/// The elements of a text of exactly `count` numbers, each below the field's size. Want of memory may come
-/// at any time. A text from 4 MiB on is not asked for.
+/// The elements of a text of exactly `count` numbers, each below the field's size: the number files of
+/// the profile in docs/FORMATS.md. The text has at most 4 MiB. Want of memory may come at any time.
 pub fn read_numbers<F: Field>(alloc: Global, text: &[u8], count: u32) -> Result<Vec<F>, NumberError>
     requires { length text.now ≤ 4194304 }
     ensures found { IfOk result (λ v. NumberText F.size count text.now (map F.number_of v.items)) }
