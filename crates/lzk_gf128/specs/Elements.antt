@@ -23,6 +23,10 @@ product_below x y = times_bits_lt 128 x.n y.n x.small
 pub xor_below : (x y : Gf128) → bit_xor x.n y.n < 2 ^ 128
 xor_below x y = xor_lt 128 x.n y.n x.small y.small
 
+-- the number of an element
+abbrev pub number : Gf128 → ℕ
+number x = x.n
+
 abbrev pub of_nat : ℕ → Gf128
 of_nat n = record { n = n % 2 ^ 128; small = mod_below n }
 
