@@ -1,4 +1,4 @@
-//! A circuit of a million terms, evaluated, written and read.
+//! Circuits of a million and of two million terms, evaluated, written and read.
 
 ghost use Rattle.std.specs.Prelude.{◌≡◌, length};
 ghost use Rattle.lzk_circuit.specs.Valid.{HaveWidths};
@@ -50,9 +50,10 @@ fn layer(alloc: Global, number: u64) -> Result<Layer<Gold>, AllocError> {
     })
 }
 
-fn circuit(alloc: Global) -> Result<Option<Circuit<Gold>>, AllocError> {
+// A circuit of so many layers.
+fn circuit(alloc: Global, depth: u64) -> Result<Option<Circuit<Gold>>, AllocError> {
     let mut layers = Vec::new(alloc);
-    for number in 0..8u64 {
+    for number in 0..depth {
         layers.push(layer(alloc, number)?)?;
     }
     Ok(Circuit::of_layers(INPUTS, INPUTS, layers).ok())
@@ -76,7 +77,7 @@ fn repeat(
 
 /// Evaluations of the circuit.
 pub fn evaluated(alloc: Global, times: u32) -> Result<u128, AllocError> {
-    let Some(circuit) = circuit(alloc)? else {
+    let Some(circuit) = circuit(alloc, 8)? else {
         return Ok(0);
     };
     let mut values = Values::new(alloc, &circuit)?;
@@ -95,7 +96,7 @@ pub fn evaluated(alloc: Global, times: u32) -> Result<u128, AllocError> {
 
 /// Readings of the circuit's file, and the file's length.
 pub fn decoded(alloc: Global, times: u32) -> Result<u128, AllocError> {
-    let Some(circuit) = circuit(alloc)? else {
+    let Some(circuit) = circuit(alloc, 16)? else {
         return Ok(0);
     };
     let file = encode(alloc, &circuit)?;
@@ -110,7 +111,7 @@ pub fn decoded(alloc: Global, times: u32) -> Result<u128, AllocError> {
 
 /// Writings of the circuit's file, and the file's length.
 pub fn encoded(alloc: Global, times: u32) -> Result<u128, AllocError> {
-    let Some(circuit) = circuit(alloc)? else {
+    let Some(circuit) = circuit(alloc, 16)? else {
         return Ok(0);
     };
     let mut total = 0u128;

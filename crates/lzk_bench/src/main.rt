@@ -4,7 +4,9 @@
 mod blocks;
 mod circuits;
 mod elements;
+mod rows;
 mod texts;
+mod trees;
 
 use lzk_gf128::Gf128;
 use lzk_goldilocks::Gold;
@@ -15,9 +17,12 @@ use std::env;
 fn done(alloc: Global, work: &str, times: u32) -> Result<Option<u128>, AllocError> {
     let sum = match work {
         "gold-mul" => elements::products::<Gold>(times),
+        "gold-many" => elements::many_products::<Gold>(alloc, times)?,
         "gold-inv" => elements::inverses::<Gold>(times),
         "gold-dot" => elements::dots::<Gold>(alloc, times)?,
         "gf-mul" => elements::products::<Gf128>(times),
+        "gf-many" => elements::many_products::<Gf128>(alloc, times)?,
+        "gf-dot" => elements::dots::<Gf128>(alloc, times)?,
         "gf-inv" => elements::inverses::<Gf128>(times),
         "aes" => blocks::encrypted(times),
         "draw" => blocks::drawn(times),
@@ -25,6 +30,13 @@ fn done(alloc: Global, work: &str, times: u32) -> Result<Option<u128>, AllocErro
         "eval" => circuits::evaluated(alloc, times)?,
         "decode" => circuits::decoded(alloc, times)?,
         "encode" => circuits::encoded(alloc, times)?,
+        "gold-extend-192" => rows::extended::<Gold>(alloc, times, 192)?,
+        "gold-extend-640" => rows::extended::<Gold>(alloc, times, 640)?,
+        "gf-extend-192" => rows::extended::<Gf128>(alloc, times, 192)?,
+        "gf-extend-640" => rows::extended::<Gf128>(alloc, times, 640)?,
+        "leaf-7" => trees::leaves(alloc, times, 7)?,
+        "leaf-80" => trees::leaves(alloc, times, 80)?,
+        "tree" => trees::trees(alloc, times)?,
         "numbers" => texts::read(alloc, times)?,
         _ => return Ok(None),
     };

@@ -31,7 +31,7 @@ circuit_read (Gold c) bytes f =
     ∙ ap (λ (r : Result (Wiring ℕ) Stop). r >>= λ w. Ok (1, w)) (wiring_read gold.ops p (λ x. x.n) gold.of_number 8 gold.laws 1 c bytes f)
 circuit_read (Gf c) bytes f =
     ap circuit_at f.bytes_are ∙ behind_magic (2 ∷ tail_bytes gf128 (numbered (λ x. x.n) c) f.constants)
-    ∙ ap (λ (r : Result (Wiring ℕ) Stop). r >>= λ w. Ok (2, w)) (wiring_read gf.ops (2 ^ 128) (λ x. x.n) gf.of_nat 16 gf.laws 2 c bytes f)
+    ∙ ap (λ (r : Result (Wiring ℕ) Stop). r >>= λ w. Ok (2, w)) (wiring_read gf.ops (2 ^ 128) (λ x. x.n) gf.of_number 16 gf.laws 2 c bytes f)
 
 abbrev done : ℕ × Wiring ℕ → Result (ℕ × Wiring ℕ) Stop
 done x = Ok x
@@ -43,7 +43,7 @@ same_circuit : (c d : AnyCircuit) → numbers_of c ≡ numbers_of d → c ≡ d
 same_circuit (Gold c) (Gold d) e = ap Gold (same_numbers gold.ops p (λ x. x.n) gold.of_number 8 gold.laws 1 c d (ap (λ (x : ℕ × Wiring ℕ). x.1) e))
 same_circuit (Gold c) (Gf d) e = absurd (let n : 1 ≡ 2 = ap (λ (x : ℕ × Wiring ℕ). x.0) e in omega (arith, n))
 same_circuit (Gf c) (Gold d) e = absurd (let n : 2 ≡ 1 = ap (λ (x : ℕ × Wiring ℕ). x.0) e in omega (arith, n))
-same_circuit (Gf c) (Gf d) e = ap Gf (same_numbers gf.ops (2 ^ 128) (λ x. x.n) gf.of_nat 16 gf.laws 2 c d (ap (λ (x : ℕ × Wiring ℕ). x.1) e))
+same_circuit (Gf c) (Gf d) e = ap Gf (same_numbers gf.ops (2 ^ 128) (λ x. x.n) gf.of_number 16 gf.laws 2 c d (ap (λ (x : ℕ × Wiring ℕ). x.1) e))
 
 pub one_circuit : OneCircuit
 one_circuit bytes c d f g = same_circuit c d (same_done (numbers_of c) (numbers_of d) (sym (circuit_read c bytes f) ∙ circuit_read d bytes g))
@@ -52,7 +52,7 @@ pub one_file : OneFile
 one_file (Gold c) xs ys f g =
     file_is gold.ops p (λ x. x.n) gold.of_number 8 gold.laws 1 c xs f ∙ sym (file_is gold.ops p (λ x. x.n) gold.of_number 8 gold.laws 1 c ys g)
 one_file (Gf c) xs ys f g =
-    file_is gf.ops (2 ^ 128) (λ x. x.n) gf.of_nat 16 gf.laws 2 c xs f ∙ sym (file_is gf.ops (2 ^ 128) (λ x. x.n) gf.of_nat 16 gf.laws 2 c ys g)
+    file_is gf.ops (2 ^ 128) (λ x. x.n) gf.of_number 16 gf.laws 2 c xs f ∙ sym (file_is gf.ops (2 ^ 128) (λ x. x.n) gf.of_number 16 gf.laws 2 c ys g)
 
 apart : (x : ℕ × Wiring ℕ) (e : Stop) → done x ≡ Err e → ⊥
 apart x e h = absurd cc
@@ -136,7 +136,7 @@ circuit_bytes_from_read (Gf c) bytes fits valid e =
     let f = field_read b.rest (2, numbered (λ x. x.n) c) b.read in
     let is : bytes ≡ 76 ∷ 90 ∷ 67 ∷ 49 ∷ 2 ∷ f.rest = b.is ∙ ap (λ (t : List ℕ). 76 ∷ 90 ∷ 67 ∷ 49 ∷ t) f.is in
     subst (λ (t : List ℕ). IsFile gf.ops (λ x. x.n) gf128 c t) (sym is)
-    (file_from_read gf.ops (2 ^ 128) (λ x. x.n) gf.of_nat 16 gf.laws 2 c f.rest (fits_behind bytes f.rest 2 fits is) valid (f.gf_read refl))
+    (file_from_read gf.ops (2 ^ 128) (λ x. x.n) gf.of_number 16 gf.laws 2 c f.rest (fits_behind bytes f.rest 2 fits is) valid (f.gf_read refl))
 
 -- the offset of a fault, where so many bytes are left
 pub fault_found : (bytes : List ℕ) (left : ℕ) (kind : ByteKind) → circuit_at bytes ≡ Err (record { left = left; kind = kind }) → CircuitFaultAt bytes (length bytes - left) kind

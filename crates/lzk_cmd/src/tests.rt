@@ -277,6 +277,31 @@ fn words_and_missing_files_are_refused(rt: HostRuntime) -> Result<(), Fail> {
 }
 
 #[test]
+fn files_over_their_limit_are_refused(rt: HostRuntime) -> Result<(), Fail> {
+    let alloc = rt.alloc();
+    for (len, status, printed) in [
+        (4_194_304usize, 0, "output 0 = 0\nsatisfied\n"),
+        (
+            4_194_305usize,
+            3,
+            "refused: y is larger than 4194304 bytes\n",
+        ),
+    ] {
+        let mut text = Vec::new(alloc);
+        text.resize(len, b' ')?;
+        if let Some(first) = text.first_mut() {
+            *first = b'9';
+        }
+        let mut shelf = shelf_of(alloc, &SQUARE, "", "3", Vec::new(alloc))?;
+        shelf.add("y", &text)?;
+        let (got, out) = ran(alloc, "eval c y x", &mut shelf)?;
+        assert_eq!(rt; got, status, "at {len}");
+        assert!(rt; out.bytes() == printed.as_bytes(), "at {len}");
+    }
+    Ok(())
+}
+
+#[test]
 fn each_read_may_fail(rt: HostRuntime) -> Result<(), Fail> {
     let alloc = rt.alloc();
     for (call, status, printed) in [

@@ -1,6 +1,6 @@
 -- The field of 2^128 elements.
-use Rattle.std.specs.Prelude.{◌≡◌, ◌≢◌, ℕ, ◌+◌, ◌*◌, ◌-◌, ◌^◌, ◌%◌, ◌<◌, ◌≤◌, ◌⊎◌, ◌↔◌, IsTrue, bit_xor}
-use Rattle.std.proofs.Common.{refl, sym, ap, ◌∙◌, arith, eqb, inl, inr}
+use Rattle.std.specs.Prelude.{◌≡◌, ◌≢◌, ℕ, ◌^◌, ◌%◌, ◌<◌, ◌⊎◌, ◌↔◌, IsTrue, bit_xor}
+use Rattle.std.proofs.Common.{refl, ap, ◌∙◌, arith, eqb, inl, inr}
 use Rattle.std.proofs.lemmas.Bool.{eqb-true, eq-eqb}
 use Rattle.std.proofs.Math.Nat.{mod-lt, mod-eq_of_lt}
 use Rattle.std.specs.Int.Bits.{xor_assoc, xor_comm, xor_self, xor_zero_r, xor_lt}
@@ -8,7 +8,7 @@ use Rattle.std.specs.Coded.{le_prop}
 use mathlib.Core.HLevel.{is_prop→PathP}
 use native.Mathlib.Decide.{dec_lt}
 use Rattle.lzk_gf128.specs.declared.element.Gf128.{Gf128}
-use Rattle.lzk_gf128.specs.Product.{product, times_bits}
+use Rattle.lzk_gf128.specs.Product.{product}
 use Rattle.lzk_gf128.specs.Linear.{times_bits-right, times_bits_lt, times_comm, times_assoc, one_times}
 use Rattle.lzk_gf128.specs.Inverse.{inverse, times_inverse, inverse_lt}
 use Rattle.lzk_field.specs.Ring.{Ops, RingLaws, NumberLaws, FieldLaws, Laws}
@@ -27,8 +27,9 @@ xor_below x y = xor_lt 128 x.n y.n x.small y.small
 abbrev pub number : Gf128 → ℕ
 number x = x.n
 
-abbrev pub of_nat : ℕ → Gf128
-of_nat n = record { n = n % 2 ^ 128; small = mod_below n }
+-- the element that a number stands for
+abbrev pub of_number : ℕ → Gf128
+of_number n = record { n = n % 2 ^ 128; small = mod_below n }
 
 pub Gf128-ext : (x y : Gf128) → x.n ≡ y.n → x ≡ y
 Gf128-ext x y e = λ i. record { n = e i; small = is_prop→PathP (λ j. e j < 2 ^ 128) (λ j. le_prop) x.small y.small i }
@@ -38,8 +39,8 @@ inverse_element x = record { n = inverse x.n; small = inverse_lt x.n }
 
 abbrev pub ops : Ops Gf128
 ops = record {
-  zero = of_nat 0;
-  one = of_nat 1;
+  zero = of_number 0;
+  one = of_number 1;
   plus = λ x y. record { n = bit_xor x.n y.n; small = xor_below x y };
   times = λ x y. record { n = product 128 x.n y.n; small = product_below x y };
   neg = λ x. x;
@@ -59,10 +60,10 @@ ring = record {
   times_plus = λ x y z. Gf128-ext _ _ (times_bits-right 128 x.n y.n z.n);
 }
 
-pub numbers : NumberLaws ops (2 ^ 128) (λ x. x.n) of_nat 16
+pub numbers : NumberLaws ops (2 ^ 128) (λ x. x.n) of_number 16
 numbers = record {
   below = λ x. x.small;
-  element_number = λ x. Gf128-ext (of_nat x.n) x (mod-eq_of_lt x.small);
+  element_number = λ x. Gf128-ext (of_number x.n) x (mod-eq_of_lt x.small);
   number_element = λ n. refl;
   zero_number = refl;
   one_number = refl;
@@ -91,7 +92,7 @@ field = record {
 pub same : (x y : Gf128) → IsTrue (eqb x.n y.n) ↔ x ≡ y
 same x y = (λ t. Gf128-ext x y (eqb-true x.n y.n t), λ e. eq-eqb x.n y.n (ap (λ w. w.n) e))
 
-pub laws : Laws ops (2 ^ 128) (λ x. x.n) of_nat 16
+pub laws : Laws ops (2 ^ 128) (λ x. x.n) of_number 16
 laws = record { ring = ring; field = field; numbers = numbers }
 
 pub inverse_works : (x : Gf128) → 0 < x.n → product 128 x.n (inverse x.n) ≡ 1

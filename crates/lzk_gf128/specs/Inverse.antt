@@ -1,13 +1,13 @@
 -- Each number but 0 has an inverse.
-use Rattle.std.specs.Prelude.{◌≡◌, ◌≢◌, ℕ, ◌+◌, ◌*◌, ◌-◌, ◌/◌, ◌%◌, ◌^◌, ◌<◌, ◌≤◌, bit_xor, List, [], ◌∷◌, Bool, true, false, cond}
+use Rattle.std.specs.Prelude.{◌≡◌, ℕ, ◌+◌, ◌*◌, ◌/◌, ◌%◌, ◌^◌, ◌<◌, ◌≤◌, List, [], ◌∷◌, Bool, true, false, cond}
 use Rattle.std.proofs.Common.{zero, suc, refl, sym, ap, subst, ◌∙◌, arith, eqb}
-use Rattle.std.specs.Int.Bits.{xor_assoc, xor_comm, xor_self, xor_zero_r, xor_shr, xor_mod, xor_lt, xor_shifted}
+use Rattle.std.specs.Int.Bits.{xor_assoc, xor_self, xor_zero_r, xor_shr, xor_lt, xor_shifted}
 use Rattle.std.proofs.lemmas.Nat.{pow_pos, pow_below, div_below, mod_below, shr_split}
 use Rattle.std.proofs.Math.Nat.{zero-mul, one-mul}
 use Rattle.std.proofs.Math.Numerals.{add-one}
 use native.Mathlib.Decide.{dec_lt}
 use Rattle.std.proofs.lemmas.Bool.{eqb-true, false≢true}
-use Rattle.lzk_gf128.specs.Product.{times_x, times_bits, shift, product}
+use Rattle.lzk_gf128.specs.Product.{times_bits, product}
 use Rattle.lzk_gf128.specs.Table.{table}
 use Rattle.lzk_gf128.specs.Linear.{◌⊕◌, xor_swap, pick-xor, bit_lt, low_bit, low_bit_xor, times_bits-left, times_bits-right, times_bits-zero, times_bits_lt, times_comm, times_assoc, one_times, times_pow, shift-one, pick_lt}
 
@@ -49,7 +49,7 @@ pick-below f h zero c p = rw (zero-mul c, zero-mul (f c)) (AdditiveBelow-zero f 
 pick-below f h (suc zero) c p = rw (one-mul c, one-mul (f c)) refl
 pick-below f h (suc (suc i)) c p = absurd (omega arith)
 
-same_below : (f g : ℕ → ℕ) → AdditiveBelow f → AdditiveBelow g → (k : ℕ) → k ≤ 128 → ((j : ℕ) → j < k → f (2 ^ j) ≡ g (2 ^ j)) → (n : ℕ) → n < 2 ^ k → f n ≡ g n
+pub same_below : (f g : ℕ → ℕ) → AdditiveBelow f → AdditiveBelow g → (k : ℕ) → k ≤ 128 → ((j : ℕ) → j < k → f (2 ^ j) ≡ g (2 ^ j)) → (n : ℕ) → n < 2 ^ k → f n ≡ g n
 same_below f g hf hg zero fits agree n small = let e : n ≡ 0 = omega arith in rw e (AdditiveBelow-zero f hf ∙ sym (AdditiveBelow-zero g hg))
 same_below f g hf hg (suc k) fits agree n small =
     let low = n % 2 ^ k in
@@ -69,7 +69,7 @@ same_below f g hf hg (suc k) fits agree n small =
 square_lt : (n : ℕ) → Below n → Below (square n)
 square_lt n h = times_bits_lt 128 n n h
 
-square-additive : AdditiveBelow square
+pub square-additive : AdditiveBelow square
 square-additive a b ha hb =
     let m = times_bits 128 in
     times_bits-left 128 (a ⊕ b) a b
@@ -85,10 +85,10 @@ swap_times a b c d ha hb hc hd =
     ∙ ap (m a) (sym (times_assoc b c d hb hc hd) ∙ ap (λ w. m w d) (times_comm b c hb hc) ∙ times_assoc c b d hc hb hd)
     ∙ sym (times_assoc a c (m b d) ha hc (times_bits_lt 128 b d hb))
 
-square-times : (a b : ℕ) → Below a → Below b → square (times_bits 128 a b) ≡ times_bits 128 (square a) (square b)
+pub square-times : (a b : ℕ) → Below a → Below b → square (times_bits 128 a b) ≡ times_bits 128 (square a) (square b)
 square-times a b ha hb = swap_times a b a b ha hb ha hb
 
-squares_lt : (k n : ℕ) → Below n → Below (squares k n)
+pub squares_lt : (k n : ℕ) → Below n → Below (squares k n)
 squares_lt zero n h = h
 squares_lt (suc k) n h = square_lt (squares k n) (squares_lt k n h)
 
@@ -96,7 +96,7 @@ squares-additive : (k : ℕ) → AdditiveBelow (squares k)
 squares-additive zero a b ha hb = refl
 squares-additive (suc k) a b ha hb = ap square (squares-additive k a b ha hb) ∙ square-additive (squares k a) (squares k b) (squares_lt k a ha) (squares_lt k b hb)
 
-squares-times : (k a b : ℕ) → Below a → Below b → squares k (times_bits 128 a b) ≡ times_bits 128 (squares k a) (squares k b)
+pub squares-times : (k a b : ℕ) → Below a → Below b → squares k (times_bits 128 a b) ≡ times_bits 128 (squares k a) (squares k b)
 squares-times zero a b ha hb = refl
 squares-times (suc k) a b ha hb = ap square (squares-times k a b ha hb) ∙ square-times (squares k a) (squares k b) (squares_lt k a ha) (squares_lt k b hb)
 
@@ -167,7 +167,7 @@ abbrev pub most : ℕ → ℕ → ℕ
 most a zero = 1
 most a (suc k) = times_bits 128 (square (most a k)) a
 
-most_lt : (a k : ℕ) → Below (most a k)
+pub most_lt : (a k : ℕ) → Below (most a k)
 most_lt a zero = omega arith
 most_lt a (suc k) = times_bits_lt 128 (square (most a k)) a (square_lt (most a k) (most_lt a k))
 

@@ -4,5 +4,6 @@ pub mod Table
 pub mod Inverse
 pub mod Basis
 pub mod ByteLists
+pub mod Squares
 pub mod Multiples
 pub mod Elements

@@ -1,12 +1,11 @@
 -- Maps that keep exclusive or.
-use Rattle.std.specs.Prelude.{◌≡◌, ◌≢◌, ℕ, ◌+◌, ◌*◌, ◌-◌, ◌/◌, ◌%◌, ◌^◌, ◌<◌, ◌≤◌, bit_xor}
+use Rattle.std.specs.Prelude.{◌≡◌, ℕ, ◌+◌, ◌*◌, ◌/◌, ◌%◌, ◌^◌, ◌<◌, ◌≤◌, bit_xor}
 use Rattle.std.proofs.Common.{zero, suc, refl, sym, ap, ◌∙◌, arith}
-use Rattle.std.specs.Int.Bits.{xor_assoc, xor_comm, xor_self, xor_zero_r, xor_shr, xor_mod, xor_lt, xor_block, xor_shifted, xor_disjoint}
+use Rattle.std.specs.Int.Bits.{xor_assoc, xor_comm, xor_self, xor_zero_r, xor_shr, xor_mod, xor_lt, xor_block, xor_shifted}
 use Rattle.std.specs.Int.{bit_at}
 use Rattle.std.proofs.lemmas.Nat.Bits.{bit_at_xor, bit_at_lowest}
 use Rattle.std.proofs.lemmas.Nat.{pow_pos, pow_below, div_below, mod_below, shr_split}
-use native.Mathlib.Decide.{dec_lt}
-use Rattle.std.proofs.Math.Nat.{zero-mul, one-mul, mod-lt, mod-eq_of_lt, pow-suc, mul_comm, mul_assoc, div-eq_of_lt, zero-add, add-zero}
+use Rattle.std.proofs.Math.Nat.{zero-mul, one-mul, mod-eq_of_lt, div-eq_of_lt, zero-add, add-zero}
 use Rattle.lzk_gf128.specs.Product.{times_x, times_bits, shift}
 
 infixl 65 ◌⊕◌

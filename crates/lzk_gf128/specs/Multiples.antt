@@ -1,11 +1,11 @@
 -- The table of a's multiples by the polynomials below degree 4.
-use Rattle.std.specs.Prelude.{◌≡◌, ℕ, ◌+◌, ◌*◌, ◌-◌, ◌/◌, ◌%◌, ◌^◌, ◌<◌, ◌≤◌, bit_xor, List, [], ◌∷◌, slice_index, length}
+use Rattle.std.specs.Prelude.{◌≡◌, ℕ, ◌+◌, ◌*◌, ◌-◌, ◌/◌, ◌%◌, ◌^◌, ◌<◌, List, [], ◌∷◌, slice_index, length}
 use Rattle.std.proofs.Common.{zero, suc, refl, sym, ap, ◌∙◌, arith}
-use Rattle.std.specs.Int.Bits.{xor_assoc, xor_comm, xor_self, xor_zero_r}
-use Rattle.std.proofs.Math.Nat.{zero-mul, one-mul, add-zero, zero-add}
+use Rattle.std.specs.Int.Bits.{xor_assoc, xor_comm, xor_zero_r}
+use Rattle.std.proofs.Math.Nat.{zero-mul, one-mul}
 use Rattle.std.proofs.lemmas.Nat.{shr-shr, shr_split, mod_below}
 use Rattle.lzk_gf128.specs.Product.{times_x, times_bits, shift, product, moved}
-use Rattle.lzk_gf128.specs.Linear.{◌⊕◌, times_bits-shift, times_bits-times_x}
+use Rattle.lzk_gf128.specs.Linear.{◌⊕◌, times_bits-times_x}
 
 abbrev pub IsMultiples : ℕ → List ℕ → Type 0
 IsMultiples a xs = (length xs ≡ 16) × ((i : ℕ) → i < 16 → slice_index xs i ≡ product 4 a i)
@@ -74,28 +74,21 @@ pub product-none : (a b : ℕ) → product 0 a b ≡ 0
 unfolding product
 product-none a b = refl
 
--- one more hexadecimal digit of a factor of 32 bits
-pub product-digit : (a b i : ℕ) → i < 8 → product (4 * (i + 1)) a (b / 2 ^ (32 - 4 * (i + 1))) ≡ moved 4 (product (4 * i) a (b / 2 ^ (32 - 4 * i))) ⊕ product 4 a (b / 2 ^ (28 - 4 * i) % 16)
+-- one more hexadecimal digit of a factor of 64 bits
+pub product-digit : (a b i : ℕ) → i < 16 → product (4 * (i + 1)) a (b / 2 ^ (64 - 4 * (i + 1))) ≡ moved 4 (product (4 * i) a (b / 2 ^ (64 - 4 * i))) ⊕ product 4 a (b / 2 ^ (60 - 4 * i) % 16)
 product-digit a b i h =
     let n : 4 * (i + 1) ≡ 4 + 4 * i = omega arith in
-    let e : 32 - 4 * (i + 1) ≡ 28 - 4 * i = omega arith in
-    let up : 28 - 4 * i + 4 ≡ 32 - 4 * i = omega arith in
-    let d = b / 2 ^ (28 - 4 * i) in
-    let q : d / 2 ^ 4 ≡ b / 2 ^ (32 - 4 * i) = shr-shr b (28 - 4 * i) 4 ∙ ap (λ w. b / 2 ^ w) up in
-    ap (λ w. product w a (b / 2 ^ (32 - 4 * (i + 1)))) n
+    let e : 64 - 4 * (i + 1) ≡ 60 - 4 * i = omega arith in
+    let up : 60 - 4 * i + 4 ≡ 64 - 4 * i = omega arith in
+    let d = b / 2 ^ (60 - 4 * i) in
+    let q : d / 2 ^ 4 ≡ b / 2 ^ (64 - 4 * i) = shr-shr b (60 - 4 * i) 4 ∙ ap (λ w. b / 2 ^ w) up in
+    ap (λ w. product w a (b / 2 ^ (64 - 4 * (i + 1)))) n
     ∙ ap (λ w. product (4 + 4 * i) a (b / 2 ^ w)) e
     ∙ ap (product (4 + 4 * i) a) (sym (shr_split d 4))
     ∙ product-split 4 (4 * i) a (d / 2 ^ 4) (d % 2 ^ 4) (mod_below d 16 (omega arith))
     ∙ xor_comm (product 4 a (d % 16)) (moved 4 (product (4 * i) a (d / 2 ^ 4)))
     ∙ ap (λ w. moved 4 (product (4 * i) a w) ⊕ product 4 a (d % 16)) q
 
--- a factor of 128 bits by its four parts
-pub product-parts : (a b : ℕ) → b < 2 ^ 128
-    → product 32 a (b % 2 ^ 32) ⊕ moved 32 (product 32 a (b / 2 ^ 32 % 2 ^ 32) ⊕ moved 32 (product 32 a (b / 2 ^ 64 % 2 ^ 32) ⊕ moved 32 (product 32 a (b / 2 ^ 96)))) ≡ product 128 a b
-product-parts a b h =
-    let two = part 32 (b / 2 ^ 64) ∙ ap (λ w. product 32 a (b / 2 ^ 64 % 2 ^ 32) ⊕ moved 32 (product 32 a w)) (shr-shr b 64 32) in
-    let three = part 64 (b / 2 ^ 32) ∙ ap (λ w. product 32 a (b / 2 ^ 32 % 2 ^ 32) ⊕ moved 32 (product 64 a w)) (shr-shr b 32 32) in
-    sym (part 96 b ∙ ap (λ w. product 32 a (b % 2 ^ 32) ⊕ moved 32 w) (three ∙ ap (λ w. product 32 a (b / 2 ^ 32 % 2 ^ 32) ⊕ moved 32 w) two))
-  where
-    part : (k b : ℕ) → product (32 + k) a b ≡ product 32 a (b % 2 ^ 32) ⊕ moved 32 (product k a (b / 2 ^ 32))
-    part k b = ap (product (32 + k) a) (sym (shr_split b 32)) ∙ product-split 32 k a (b / 2 ^ 32) (b % 2 ^ 32) (mod_below b (2 ^ 32) (omega arith))
+-- a factor of 128 bits by its halves
+pub product-halves : (a b : ℕ) → product 64 a (b % 2 ^ 64) ⊕ moved 64 (product 64 a (b / 2 ^ 64)) ≡ product 128 a b
+product-halves a b = sym (product-split 64 64 a (b / 2 ^ 64) (b % 2 ^ 64) (mod_below b (2 ^ 64) (omega arith))) ∙ ap (product 128 a) (shr_split b 64)

@@ -15,7 +15,7 @@ pub struct Gf128 {
 
 impl Field for Gf128 {
     ghost use Rattle.std.specs.Prelude.{◌^◌};
-    ghost use Rattle.lzk_gf128.specs.Elements.{of_nat, ops, laws, same};
+    ghost use Rattle.lzk_gf128.specs.Elements.{of_number, ops, laws, same};
 
     ghost ops = { ops };
 
@@ -23,7 +23,7 @@ impl Field for Gf128 {
 
     ghost number_of = { λ x. x.n };
 
-    ghost element = { of_nat };
+    ghost element = { of_number };
 
     ghost BYTES = { 16 };
 

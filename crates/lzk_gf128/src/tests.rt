@@ -1,7 +1,8 @@
 //! Worked values, through the trait.
 
 use crate::Gf128;
-use crate::vectors::{INVERSES, PRODUCTS};
+use crate::arith::square;
+use crate::vectors::{INVERSES, PRODUCTS, SQUARES};
 use lzk_field::Field;
 use std::process::Abort;
 
@@ -37,6 +38,14 @@ fn products_are_those_of_the_definition(rt: HostRuntime) {
             [1 << 64, 1 << 64, 0x87],
         ],
     );
+}
+
+#[test]
+fn squares_are_those_of_the_definition(rt: HostRuntime) {
+    for row in &SQUARES {
+        assert_eq!(rt; square(row[0]), row[1]);
+        assert_eq!(rt; product::<Gf128>(row[0], row[0]), row[1]);
+    }
 }
 
 #[test]

@@ -1,4 +1,4 @@
-use Rattle.std.proofs.Common.{◌≡◌, ℕ, ◌<◌, sym, ap, ◌∙◌, arith}
+use Rattle.std.proofs.Common.{sym, ◌∙◌, arith}
 use Rattle.lzk_gf128.specs.Elements.{Gf128-ext, inverse_found, inverse_number}
 use Rattle.lzk_gf128.proofs.element.Gf128Field.inv.Goals as goal
 

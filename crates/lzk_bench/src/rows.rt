@@ -1,0 +1,34 @@
+//! Rows that are extended.
+
+use lzk_field::Field;
+use lzk_poly::Extender;
+use std::alloc::{AllocError, Global};
+
+/// Extensions of `n` values to twice as many less one and four times as many behind them, as a row of the
+/// prover is extended, the first value of each being the last one before.
+pub fn extended<F: Field>(alloc: Global, times: u32, n: u32) -> Result<u128, AllocError> {
+    if n < 1 || n > 1_000 {
+        return Ok(0);
+    }
+    let upto = 6 * n - 1;
+    let extender = Extender::<F>::new(alloc, n, upto)?;
+    let mut values = Vec::new(alloc);
+    for i in 0..n {
+        values.push(F::of_word((i as u128 + 1) * 0x1_0000_0001))?;
+    }
+    let mut out = Vec::new(alloc);
+    out.resize((upto - n) as usize, F::zero())?;
+    let mut last = F::zero();
+    if values.len() == n as usize && out.len() == (upto - n) as usize {
+        for _ in 0..times {
+            extender.extend(&values, &mut out);
+            if let Some(value) = out.last() {
+                last = *value;
+            }
+            if let Some(first) = values.first_mut() {
+                *first = last;
+            }
+        }
+    }
+    Ok(last.number())
+}

@@ -1,0 +1,11 @@
+pub mod Built
+pub mod Elements
+pub mod Law
+pub mod Levels
+pub mod Marks
+pub mod Places
+pub mod Rest
+pub mod Room
+pub mod Steps
+pub mod Values
+pub mod Written

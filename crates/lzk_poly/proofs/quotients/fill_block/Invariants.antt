@@ -1,0 +1,8 @@
+use Rattle.std.proofs.Common.{◌≡◌, ℕ, ◌-◌, ◌<◌, length}
+use Rattle.lzk_field.specs.Sums.{entry}
+use Rattle.lzk_poly.proofs.quotients.fill_block.Given as goal
+
+abbrev pub invariant-loop-k : goal.invariant-loop-k
+invariant-loop-k g l =
+    let o = g.F.Field.ops in
+    (k : ℕ) → k < l.k → entry o l.block k ≡ o.times (entry o l.values (length l.block - 1 - k)) (entry o l.weights (length l.block - 1 - k))

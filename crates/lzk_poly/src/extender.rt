@@ -1,0 +1,199 @@
+//! The polynomial through given values, at further points.
+
+ghost use Rattle.std.specs.Prelude.{◌≡◌, ◌≢◌, ◌+◌, ℕ, List, ◌<◌, ◌≤◌, length, IfOk};
+ghost use Rattle.lzk_field.specs.Sums.{entry};
+ghost use Rattle.lzk_poly.specs.Extension.{IsExtension, IsInterpolated, Reach, extension};
+ghost use Rattle.lzk_poly.specs.Weights.{parts, quotient_sum};
+
+use crate::quotients::{by_numbers, by_steps, fill_block, inverse_of};
+use crate::tables::{are_even, inverse_table, passed_products, weights};
+use lzk_field::Field;
+use std::alloc::{AllocError, Global};
+use std::marker::Model;
+
+// How many values are taken at a time.
+const BLOCK: usize = 64;
+
+/// The weights that extend lists of `count` values, to points with numbers below `upto`.
+///
+/// They are computed once. One extender serves every list of that length. Away from the points of the
+/// values, the polynomial's value is the product of the differences from these points, times the sum of
+/// each value times its weight over the difference from its point (the barycentric form of Lagrange's
+/// formula).
+#[derive(Drop)]
+pub struct Extender<F: Field> {
+    weights: Vec<F>,
+    // At each point from `count` on, the product of the differences from the first points.
+    products: Vec<F>,
+    // The inverses of the elements, by number. The differences of points are among them in a binary
+    // field, where numbers subtract without carries, and where the points are even.
+    inverses: Vec<F>,
+    // Whether each point is one more than the one before.
+    even: bool,
+    count: u32,
+    upto: u32,
+}
+
+impl<F: Field> Model for Extender<F> {
+    ghost use Rattle.std.specs.Prelude.{◌≤◌, length, IsTrue};
+    ghost use Rattle.lzk_poly.specs.Extension.{Reach};
+    ghost use Rattle.lzk_poly.specs.Weights.{IsWeights, IsPassed, IsInverseTable, IsEven};
+
+    ghost Value = { Reach };
+
+    ghost view = { λ e. record { count = e.count; upto = e.upto } };
+
+    ghost invariant = { λ e. (e.count ≤ e.upto) × (e.upto ≤ 65536) × IsWeights F.ops F.element e.count e.weights.items × IsPassed F.ops F.element e.count e.upto e.products.items × (e.upto ≤ length e.inverses.items) × IsInverseTable F.ops F.element e.inverses.items × (IsTrue e.even → IsEven F.ops F.element e.upto) };
+}
+
+impl<F: Field> Extender<F> {
+    /// An extender of lists of `n` values. Through every list of at most 65,536 values there is exactly
+    /// one polynomial with as many coefficients.
+    pub fn new(alloc: Global, n: u32, upto: u32) -> Result<Extender<F>, AllocError>
+        requires some { 1 ≤ n }
+        requires order { n ≤ upto }
+        requires limit { upto ≤ 65536 }
+        ensures reach { IfOk result (λ e. e ≡ record { count = n; upto = upto }) }
+        ensures one { (values : List F) → length values ≤ 65536 → IsInterpolated F.ops F.element values }
+    {
+        // In a binary field the differences' numbers are below the next power of two.
+        let size = if upto <= 32768 { 2 * upto } else { 65536 };
+        let weights = weights(alloc, n)?;
+        let products = passed_products(alloc, n, upto)?;
+        let inverses = inverse_table(alloc, size)?;
+        Ok(Extender {
+            weights,
+            products,
+            inverses,
+            even: are_even::<F>(upto),
+            count: n,
+            upto,
+        })
+    }
+
+    /// The value at point `j` of the polynomial through `values`, `values[i]` at point `i`.
+    pub fn extend_at(&self, values: &[F], j: u32) -> F
+        requires fits { length values.now ≡ self.now.count }
+        requires reached { j < self.now.upto }
+        ensures through { IsExtension F.ops F.element values.now j result }
+        ensures value { result ≡ extension F.ops F.element values.now j }
+    {
+        if j < self.count {
+            return values[j as usize];
+        }
+        let product = self.products[(j - self.count) as usize];
+        self.sum_at(values, F::point(j)).mul(product)
+    }
+
+    // The sum of what each value adds at `x`.
+    fn sum_at(&self, values: &[F], x: F) -> F
+        requires fits { length values.now ≡ self.now.count }
+        requires apart { (i : ℕ) → i < length values.now → x ≢ F.element i }
+        ensures { result ≡ parts F.ops F.element values.now (length values.now) x }
+    {
+        let mut total = F::zero();
+        for i in 0..values.len() {
+            let scaled = values[i].mul(self.weights[i]);
+            let difference = x.sub(F::point(i as u32));
+            total = total.add(scaled.mul(inverse_of(&self.inverses, difference)));
+        }
+        total
+    }
+
+    /// Writes the values at points `n` and on of the polynomial through `values`.
+    pub fn extend(&self, values: &[F], out: &mut [F])
+        requires fits { length values.now ≡ self.now.count }
+        requires room { length out.old + self.now.count ≡ self.now.upto }
+        ensures through { (k : ℕ) → k < length out.new → IsExtension F.ops F.element values.now (self.now.count + k) (entry F.ops out.new k) }
+        ensures value { (k : ℕ) → k < length out.new → entry F.ops out.new k ≡ extension F.ops F.element values.now (self.now.count + k) }
+    {
+        self.extend_from(values, self.count, out);
+    }
+
+    // The values at points `from` and on. Until its own turn comes, the end of `out` is room for values
+    // times weights.
+    fn extend_from(&self, values: &[F], from: u32, out: &mut [F])
+        requires fits { length values.now ≡ self.now.count }
+        requires after { self.now.count ≤ from }
+        requires reached { from + length out.old ≤ self.now.upto }
+        requires limit { self.now.upto ≤ 65536 }
+        ensures { (k : ℕ) → k < length out.new → entry F.ops out.new k ≡ extension F.ops F.element values.now (from + k) }
+    {
+        if out.is_empty() {
+            return;
+        }
+        if out.len() == 1 {
+            out[0] = self.extend_at(values, from);
+            return;
+        }
+        let half = out.len() / 2;
+        let size = half.min(BLOCK);
+        let (head, room) = out.split_at_mut(out.len() - size);
+        self.extend_in(values, from, head, room);
+        self.extend_from(values, from + head.len() as u32, room);
+    }
+
+    // The values at points `from` and on, with room for some values times weights.
+    fn extend_in(&self, values: &[F], from: u32, out: &mut [F], room: &mut [F])
+        requires fits { length values.now ≡ self.now.count }
+        requires after { self.now.count ≤ from }
+        requires reached { from + length out.old ≤ self.now.upto }
+        requires room { 1 ≤ length room.old }
+        ensures { (k : ℕ) → k < length out.new → entry F.ops out.new k ≡ extension F.ops F.element values.now (from + k) }
+    {
+        self.sum_parts(values, from, out, room);
+        let first = (from - self.count) as usize;
+        for t in 0..out.len() {
+            out[t] = out[t].mul(self.products[first + t]);
+        }
+    }
+
+    // At points `from` and on, the sum of what each value adds.
+    fn sum_parts(&self, values: &[F], from: u32, out: &mut [F], room: &mut [F])
+        requires fits { length values.now ≡ self.now.count }
+        requires after { self.now.count ≤ from }
+        requires reached { from + length out.old ≤ self.now.upto }
+        requires room { 1 ≤ length room.old }
+        ensures { (k : ℕ) → k < length out.new → entry F.ops out.new k ≡ parts F.ops F.element values.now (length values.now) (F.element (from + k)) }
+    {
+        for t in 0..out.len() {
+            out[t] = F::zero();
+        }
+        let mut start = 0;
+        while start < values.len() {
+            let rest = values.len() - start;
+            let size = rest.min(room.len());
+            self.add_parts(values, start, from, out, &mut room[..size]);
+            start += size;
+        }
+    }
+
+    // Adds what the values from `start` on add, as many as fit into the block.
+    fn add_parts(&self, values: &[F], start: usize, from: u32, out: &mut [F], block: &mut [F])
+        requires fits { length values.now ≡ self.now.count }
+        requires within { start + length block.old ≤ length values.now }
+        requires after { self.now.count ≤ from }
+        requires reached { from + length out.old ≤ self.now.upto }
+        ensures { (k : ℕ) → k < length out.new → (let x = F.element (from + k) in entry F.ops out.old k ≡ parts F.ops F.element values.now start x → entry F.ops out.new k ≡ parts F.ops F.element values.now (start + length block.old) x) }
+    {
+        let end = start + block.len();
+        fill_block(&values[start..end], &self.weights[start..end], block);
+        for t in 0..out.len() {
+            out[t] = out[t].add(self.quotients(block, end as u32, from + t as u32));
+        }
+    }
+
+    // The block's values over the differences of point `j` from their points.
+    fn quotients(&self, block: &[F], end: u32, j: u32) -> F
+        requires enough { length block.now ≤ end }
+        requires within { end ≤ self.now.count }
+        requires after { self.now.count ≤ j }
+        requires reached { j < self.now.upto }
+        ensures { result ≡ quotient_sum F.ops F.element block.now end (F.element j) }
+    {
+        if self.even {
+            return by_steps(block, &self.inverses, (j + 1 - end) as usize);
+        }
+        by_numbers(block, &self.inverses, end, F::point(j))
+    }
+}

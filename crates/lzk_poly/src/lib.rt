@@ -1,0 +1,25 @@
+//! Polynomials over a field: their values, and the values at further points of the polynomial
+//! through given ones.
+//!
+//! The points are the field's elements with the numbers 0, 1, 2 and so on. Reed-Solomon rows are
+//! extended so in Ligero (CCS 2017), by the numbering of the profile in docs/FORMATS.md. A caller
+//! writes
+//!
+//! ```text
+//! let extender = Extender::new(alloc, 3, 6)?;
+//! let mut further = [F::zero(); 3];
+//! extender.extend(&values, &mut further);
+//! let fifth = extender.extend_at(&values, 5);
+//! ```
+#![tactic(auto)]
+
+mod extender;
+mod polynomial;
+mod quotients;
+mod tables;
+
+pub use extender::Extender;
+pub use polynomial::eval;
+
+#[cfg(test)]
+mod tests;

@@ -1,0 +1,181 @@
+//! Values against those of the definitions, through the bound. Each helper gives the first row that is wrong.
+//!
+//! The expected values were computed in Python, by divided differences for up to 64 values and by
+//! Lagrange's formula.
+
+use super::*;
+use lzk_field::Field;
+use lzk_gf128::Gf128;
+use lzk_goldilocks::Gold;
+use std::alloc::{AllocError, Global};
+use std::test::Fail;
+
+// So many values, then the end of the points, then the value at Point(3) of the polynomial whose
+// coefficients are the extension.
+type Row = (u32, u32, u128);
+
+const GOLD_ROWS: [Row; 4] = [
+    (1, 9, 0x32b6_a3fc_9577_b520),
+    (2, 9, 0x86f5_18f8_7c70_62c9),
+    (64, 200, 0xfa92_4d5b_7b02_09db),
+    (192, 1151, 0xada1_a421_da4d_58e6),
+];
+
+const GF_ROWS: [Row; 4] = [
+    (1, 9, 0x1bbc_dcbf_a53e_0af9_ce60_302e_76e4_3ced),
+    (2, 9, 0xa72b_075b_205b_f96e_3903_e4b9_76f3_bcaf),
+    (64, 200, 0x2165_1bed_50f8_c096_8f44_addd_be8a_6d85),
+    (192, 1151, 0x83b6_41ca_ecd3_e93d_344e_3baa_2c2a_d8a4),
+];
+
+// The number of a point, and the value there of the polynomial through 192 values.
+type Place = (u32, u128);
+
+const GOLD_PLACES: [Place; 5] = [
+    (0, 0x72e7_3c75_3f6b_d266),
+    (191, 0x9cf6_54c1_0375_2bd6),
+    (192, 0x9a65_2d20_fc5d_23c4),
+    (197, 0xb884_c7f3_e894_09b5),
+    (1150, 0xc780_e733_4709_62a1),
+];
+
+const GF_PLACES: [Place; 5] = [
+    (0, 0x9e37_79b9_7f4a_7c15_f39c_c060_5ced_c835),
+    (191, 0x1db0_b4cd_f4a7_3046_a84f_247b_15cd_10ea),
+    (192, 0xb2e2_14b5_3629_8f28_74a0_8e6b_0b93_aa95),
+    (197, 0x1f68_761d_c6d0_0be4_8cb8_5393_7a95_fe8f),
+    (1150, 0xf6fd_27b1_ec9b_0495_d9f4_67a6_7855_b177),
+];
+
+// The value at the element with this number of the polynomial with so many coefficients.
+const GOLD_VALUES: [(u32, u128, u128); 3] = [
+    (0, 7, 0),
+    (5, 7, 0x8fac_a89f_1e6b_9d3a),
+    (3, 0xffff_ffff_ffff_fffb, 0xb0f0_a844_6af2_4d8d),
+];
+
+const GF_VALUES: [(u32, u128, u128); 3] = [
+    (0, 7, 0),
+    (5, 7, 0x69a3_7910_9bf9_92eb_1712_4eb2_2669_f238),
+    (
+        3,
+        0xffff_ffff_ffff_fffb,
+        0x302b_6f27_2533_c42f_112b_cca8_387c_0ce3,
+    ),
+];
+
+fn elements<F: Field>(numbers: &[u128], alloc: Global) -> Result<Vec<F>, AllocError> {
+    let mut list = Vec::new(alloc);
+    for &n in numbers {
+        list.push(F::of_word(n))?;
+    }
+    Ok(list)
+}
+
+// The elements of the words (i * i + 1) * c, i from 0 on.
+fn mixed<F: Field>(n: u32, alloc: Global) -> Result<Vec<F>, AllocError> {
+    let mut list = Vec::new(alloc);
+    for i in 0..n {
+        let word = u128::from(i) * u128::from(i) + 1;
+        list.push(F::of_word(word.wrapping_mul(0x9e37_79b9_7f4a_7c15_f39c_c060_5ced_c835)))?;
+    }
+    Ok(list)
+}
+
+// None where no extender can be had for so many values.
+fn extended<F: Field>(
+    values: &[F],
+    upto: u32,
+    alloc: Global,
+) -> Result<Option<Vec<F>>, AllocError> {
+    if values.is_empty() || upto > 65536 || values.len() > upto as usize {
+        return Ok(None);
+    }
+    let n = values.len() as u32;
+    let extender = Extender::new(alloc, n, upto)?;
+    let mut out = vec![in alloc; F::zero(); (upto - n) as usize]?;
+    extender.extend(values, &mut out);
+    Ok(Some(out))
+}
+
+fn wrong_row<F: Field>(rows: &[Row], alloc: Global) -> Result<Option<usize>, AllocError> {
+    for i in 0..rows.len() {
+        let (n, upto, wanted) = rows[i];
+        let values = mixed::<F>(n, alloc)?;
+        match extended(&values, upto, alloc)? {
+            Some(out) => {
+                if eval(&out, F::point(3)).number() != wanted {
+                    return Ok(Some(i));
+                }
+            }
+            None => return Ok(Some(i)),
+        }
+    }
+    Ok(None)
+}
+
+fn wrong_place<F: Field>(places: &[Place], alloc: Global) -> Result<Option<usize>, AllocError> {
+    let values = mixed::<F>(192, alloc)?;
+    let extender = Extender::new(alloc, 192, 1151)?;
+    for i in 0..places.len() {
+        let (j, wanted) = places[i];
+        if values.len() != 192 || j >= 1151 {
+            return Ok(Some(i));
+        }
+        if extender.extend_at(&values, j).number() != wanted {
+            return Ok(Some(i));
+        }
+    }
+    Ok(None)
+}
+
+fn wrong_value<F: Field>(
+    rows: &[(u32, u128, u128)],
+    alloc: Global,
+) -> Result<Option<usize>, AllocError> {
+    for i in 0..rows.len() {
+        let (n, t, wanted) = rows[i];
+        let coeffs = mixed::<F>(n, alloc)?;
+        if eval(&coeffs, F::of_word(t)).number() != wanted {
+            return Ok(Some(i));
+        }
+    }
+    Ok(None)
+}
+
+// Whether the polynomial through `values` goes on with `further`.
+fn goes_on<F: Field>(values: &[u128], further: &[u128], alloc: Global) -> Result<bool, AllocError> {
+    let values = elements::<F>(values, alloc)?;
+    match extended(&values, 4, alloc)? {
+        Some(out) => Ok(out == elements::<F>(further, alloc)?),
+        None => Ok(false),
+    }
+}
+
+#[test]
+fn squares_and_a_line_go_on(rt: HostRuntime) -> Result<(), Fail> {
+    assert!(rt; goes_on::<Gold>(&[1, 2, 5], &[10], rt.alloc())?);
+    assert!(rt; goes_on::<Gf128>(&[5, 4], &[7, 6], rt.alloc())?);
+    Ok(())
+}
+
+#[test]
+fn extensions_are_those_of_the_definition(rt: HostRuntime) -> Result<(), Fail> {
+    assert_eq!(rt; wrong_row::<Gold>(&GOLD_ROWS, rt.alloc())?, None);
+    assert_eq!(rt; wrong_row::<Gf128>(&GF_ROWS, rt.alloc())?, None);
+    Ok(())
+}
+
+#[test]
+fn single_places_are_those_of_the_definition(rt: HostRuntime) -> Result<(), Fail> {
+    assert_eq!(rt; wrong_place::<Gold>(&GOLD_PLACES, rt.alloc())?, None);
+    assert_eq!(rt; wrong_place::<Gf128>(&GF_PLACES, rt.alloc())?, None);
+    Ok(())
+}
+
+#[test]
+fn values_are_sums_of_powers(rt: HostRuntime) -> Result<(), Fail> {
+    assert_eq!(rt; wrong_value::<Gold>(&GOLD_VALUES, rt.alloc())?, None);
+    assert_eq!(rt; wrong_value::<Gf128>(&GF_VALUES, rt.alloc())?, None);
+    Ok(())
+}
