@@ -76,30 +76,77 @@ fn gold_dot(times: u32) -> u128 {
     total as u128
 }
 
-// Products with a table of sixteen multiples, four bits a step.
+// Products with a table of sixteen multiples, four bits a step, in two halves that are folded once each.
 fn times_x(a: u128) -> u128 {
     (a << 1) ^ ((a >> 127) * 135)
 }
 
-fn moved(a: u128, bits: u32) -> u128 {
-    let top = a >> (128 - bits);
-    (a << bits) ^ top ^ (top << 1) ^ (top << 2) ^ (top << 7)
+fn folded(top: u128) -> u128 {
+    top ^ (top << 1) ^ (top << 2) ^ (top << 7)
+}
+
+fn gf_half(table: &[u128; 16], b: u64) -> u128 {
+    let (mut total, mut over) = (0u128, 0u64);
+    for i in (0..16).rev() {
+        over = (over << 4) ^ (total >> 124) as u64;
+        total = (total << 4) ^ table[(b >> (4 * i)) as usize % 16];
+    }
+    total ^ folded(over as u128)
 }
 
 fn gf_product(a: u128, b: u128) -> u128 {
-    let mut table = [0u128; 16];
-    let mut power = a;
-    for bit in 0..4 {
-        for i in 0..1 << bit {
-            table[(1 << bit) + i] = table[i] ^ power;
+    let (a2, a4) = (times_x(a), times_x(times_x(a)));
+    let a8 = times_x(a4);
+    let (a3, a12) = (a ^ a2, a4 ^ a8);
+    let table = [
+        0, a, a2, a3, a4, a ^ a4, a2 ^ a4, a3 ^ a4, a8, a ^ a8, a2 ^ a8, a3 ^ a8, a12, a ^ a12, a2 ^ a12, a3 ^ a12,
+    ];
+    let low = gf_half(&table, b as u64);
+    let high = gf_half(&table, (b >> 64) as u64);
+    low ^ (high << 64) ^ folded(high >> 64)
+}
+
+// The bits of a half, each followed by a zero.
+fn spread(n: u32) -> u64 {
+    let mut n = n as u64;
+    for (by, mask) in [
+        (16, 0x0000_ffff_0000_ffff),
+        (8, 0x00ff_00ff_00ff_00ff),
+        (4, 0x0f0f_0f0f_0f0f_0f0f),
+        (2, 0x3333_3333_3333_3333),
+        (1, 0x5555_5555_5555_5555),
+    ] {
+        n = (n ^ (n << by)) & mask;
+    }
+    n
+}
+
+fn gf_squared(a: u128) -> u128 {
+    let low = (spread((a >> 32) as u32) as u128) << 64 | spread(a as u32) as u128;
+    let high = (spread((a >> 96) as u32) as u128) << 64 | spread((a >> 64) as u32) as u128;
+    let top = high ^ (high >> 121) ^ (high >> 126);
+    low ^ folded(top)
+}
+
+// a^(2^128 - 2), by powers 2^k - 1 for k = 1, 2, 3, 6, 12, 24, 48, 96, 120, 126, 127.
+fn gf_inverse(a: u128) -> u128 {
+    let meet = |x: u128, n: u32, y: u128| {
+        let mut x = x;
+        for _ in 0..n {
+            x = gf_squared(x);
         }
-        power = times_x(power);
-    }
-    let mut total = 0u128;
-    for i in (0..32).rev() {
-        total = moved(total, 4) ^ table[(b >> (4 * i)) as usize % 16];
-    }
-    total
+        gf_product(x, y)
+    };
+    let p2 = meet(a, 1, a);
+    let p3 = meet(p2, 1, a);
+    let p6 = meet(p3, 3, p3);
+    let p12 = meet(p6, 6, p6);
+    let p24 = meet(p12, 12, p12);
+    let p48 = meet(p24, 24, p24);
+    let p96 = meet(p48, 48, p48);
+    let p120 = meet(p96, 24, p24);
+    let p126 = meet(p120, 6, p6);
+    gf_squared(meet(p126, 1, a))
 }
 
 fn gf_mul(times: u32) -> u128 {
@@ -113,13 +160,26 @@ fn gf_mul(times: u32) -> u128 {
 fn gf_inv(times: u32) -> u128 {
     let mut total = SEED;
     for _ in 0..times {
-        let mut most = 1;
-        for _ in 0..127 {
-            most = gf_product(gf_product(most, most), total);
-        }
-        total = gf_product(most, most) ^ SEED;
+        total = gf_inverse(total) ^ SEED;
     }
     total
+}
+
+fn gf_square(times: u32) -> u128 {
+    let mut total = SEED;
+    for _ in 0..times {
+        total = gf_squared(total) ^ SEED;
+    }
+    total
+}
+
+fn gold_square(times: u32) -> u128 {
+    let x = (SEED % P as u128) as u64;
+    let mut total = x;
+    for _ in 0..times {
+        total = add(mul(total, total), x);
+    }
+    total as u128
 }
 
 #[derive(Clone, Copy)]
@@ -637,6 +697,8 @@ fn main() {
         "gold-inv" => gold_inv(times),
         "gold-dot" => gold_dot(times),
         "gf-mul" => gf_mul(times),
+        "gold-square" => gold_square(times),
+        "gf-square" => gf_square(times),
         "gf-inv" => gf_inv(times),
         "eval" => eval(times),
         "decode" => decoded(times),

@@ -18,6 +18,8 @@ fn done(alloc: Global, work: &str, times: u32) -> Result<Option<u128>, AllocErro
     let sum = match work {
         "gold-mul" => elements::products::<Gold>(times),
         "gold-many" => elements::many_products::<Gold>(alloc, times)?,
+        "gold-square" => elements::gold_squares(times),
+        "gf-square" => elements::gf_squares(times),
         "gold-inv" => elements::inverses::<Gold>(times),
         "gold-dot" => elements::dots::<Gold>(alloc, times)?,
         "gf-mul" => elements::products::<Gf128>(times),

@@ -2,7 +2,7 @@
 
 ghost use Rattle.std.specs.Prelude.{◌≡◌, ◌≢◌, ℕ, ◌^◌, ◌<◌};
 
-use crate::arith::{invert, multiply};
+use crate::arith::{invert, multiply, square};
 use crate::bytes::{read, write};
 use lzk_field::Field;
 
@@ -11,6 +11,17 @@ use lzk_field::Field;
 pub struct Gf128 {
     n: u128,
     ghost small: { n < 2 ^ 128 },
+}
+
+impl Gf128 {
+    ghost use Rattle.lzk_gf128.specs.Elements.{ops};
+
+    /// The product with itself, at a third of a product's cost.
+    pub fn square(self) -> Gf128
+        ensures { result ≡ ops.times self self }
+    {
+        Gf128 { n: square(self.n) }
+    }
 }
 
 impl Field for Gf128 {

@@ -1,7 +1,6 @@
 //! Worked values, through the trait.
 
 use crate::Gf128;
-use crate::arith::square;
 use crate::vectors::{INVERSES, PRODUCTS, SQUARES};
 use lzk_field::Field;
 use std::process::Abort;
@@ -43,7 +42,7 @@ fn products_are_those_of_the_definition(rt: HostRuntime) {
 #[test]
 fn squares_are_those_of_the_definition(rt: HostRuntime) {
     for row in &SQUARES {
-        assert_eq!(rt; square(row[0]), row[1]);
+        assert_eq!(rt; Gf128::of_word(row[0]).square().number(), row[1]);
         assert_eq!(rt; product::<Gf128>(row[0], row[0]), row[1]);
     }
 }
