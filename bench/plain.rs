@@ -679,6 +679,64 @@ fn trees(times: u32) -> u128 {
     u128::from_le_bytes(nodes[1][..16].try_into().unwrap())
 }
 
+// Rows of n values, extended to 6n - 1 points by weights and a table of inverses.
+struct Rows<T> {
+    inverses: Vec<T>,
+    weights: Vec<T>,
+    passed: Vec<T>,
+}
+
+fn gold_extend(times: u32, n: usize) -> u128 {
+    let upto = 6 * n - 1;
+    let minus = |a: u64, b: u64| add(a, P - b);
+    let product = |at: usize| (0..n).filter(|k| *k != at).fold(1, |m, k| mul(m, minus(at as u64, k as u64)));
+    let rows = Rows {
+        inverses: (0..upto as u64).map(|d| if d == 0 { 0 } else { inverse(d) }).collect(),
+        weights: (0..n).map(|i| inverse(product(i))).collect(),
+        passed: (n..upto).map(product).collect(),
+    };
+    let mut values: Vec<u64> = (0..n as u64).map(|i| (i + 1) * 0x1_0000_0001).collect();
+    let mut block = vec![0; n];
+    let mut out = vec![0; upto - n];
+    for _ in 0..times {
+        for i in 0..n {
+            block[n - 1 - i] = mul(values[i], rows.weights[i]);
+        }
+        for j in n..upto {
+            out[j - n] = mul(rows.passed[j - n], dot(&block, &rows.inverses[j + 1 - n..j + 1]));
+        }
+        values[0] = out[upto - n - 1];
+    }
+    if times == 0 { 0 } else { values[0] as u128 }
+}
+
+fn gf_extend(times: u32, n: usize) -> u128 {
+    let upto = 6 * n - 1;
+    let product = |at: usize| (0..n).filter(|k| *k != at).fold(1, |m, k| gf_product(m, (at ^ k) as u128));
+    let rows = Rows {
+        inverses: (0..upto.next_power_of_two() as u128).map(gf_inverse).collect(),
+        weights: (0..n).map(|i| gf_inverse(product(i))).collect(),
+        passed: (n..upto).map(product).collect(),
+    };
+    let mut values: Vec<u128> = (0..n as u128).map(|i| (i + 1) * 0x1_0000_0001).collect();
+    let mut block = vec![0; n];
+    let mut out = vec![0; upto - n];
+    for _ in 0..times {
+        for i in 0..n {
+            block[i] = gf_product(values[i], rows.weights[i]);
+        }
+        for j in n..upto {
+            let mut total = 0;
+            for i in 0..n {
+                total ^= gf_product(block[i], rows.inverses[j ^ i]);
+            }
+            out[j - n] = gf_product(rows.passed[j - n], total);
+        }
+        values[0] = out[upto - n - 1];
+    }
+    if times == 0 { 0 } else { values[0] }
+}
+
 fn main() {
     let words: Vec<String> = std::env::args().collect();
     let times = words[2].parse().unwrap_or(0);
@@ -691,6 +749,10 @@ fn main() {
         "aes" => aes(times),
         "draw" => draw(times),
         "absorb" => absorb(times),
+        "gold-extend-192" => gold_extend(times, 192),
+        "gold-extend-640" => gold_extend(times, 640),
+        "gf-extend-192" => gf_extend(times, 192),
+        "gf-extend-640" => gf_extend(times, 640),
         "leaf-7" => leaves(times, 7),
         "leaf-80" => leaves(times, 80),
         "tree" => trees(times),
