@@ -19,15 +19,16 @@ pub fn extended<F: Field>(alloc: Global, times: u32, n: u32) -> Result<u128, All
     let mut out = Vec::new(alloc);
     out.resize((upto - n) as usize, F::zero())?;
     let mut last = F::zero();
-    if values.len() == n as usize && out.len() == (upto - n) as usize {
-        for _ in 0..times {
-            extender.extend(&values, &mut out);
-            if let Some(value) = out.last() {
-                last = *value;
-            }
-            if let Some(first) = values.first_mut() {
-                *first = last;
-            }
+    for _ in 0..times {
+        if values.len() != n as usize || out.len() != (upto - n) as usize {
+            break;
+        }
+        extender.extend(&values, &mut out);
+        if let Some(value) = out.last() {
+            last = *value;
+        }
+        if let Some(first) = values.first_mut() {
+            *first = last;
         }
     }
     Ok(last.number())

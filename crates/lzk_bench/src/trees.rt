@@ -1,5 +1,8 @@
 //! Leaves of columns, and trees over them.
 
+ghost use Rattle.std.specs.Prelude.{◌≡◌, ◌≤◌, length};
+ghost use Rattle.lzk_merkle.specs.Tree.{IsBuilt};
+
 use lzk_field::Field;
 use lzk_goldilocks::Gold;
 use lzk_merkle::{Tree, leaf};
@@ -28,17 +31,34 @@ pub fn leaves(alloc: Global, times: u32, count: u32) -> Result<u128, AllocError>
     Ok(front(&nonce))
 }
 
-/// Trees of 65,536 leaves, the first leaf of each being the root before.
-pub fn trees(alloc: Global, times: u32) -> Result<u128, AllocError> {
-    let mut tree = Tree::new(alloc, 65_536)?;
-    for j in 0..65_536u32 {
+// Sets each leaf of a tree of so many.
+fn fill(tree: &mut Tree, count: u32)
+    requires { length tree.old.leaves ≡ count }
+    ensures { length tree.new.leaves ≡ count }
+{
+    for j in 0..count {
         tree.set_leaf(j, [5; 32]);
     }
-    tree.build();
+}
+
+// Builds a tree so often, the first leaf of each being the root before.
+fn rebuild(tree: &mut Tree, times: u32)
+    requires some { 1 ≤ length tree.old.leaves }
+    requires built { IsBuilt tree.old }
+    ensures { IsBuilt tree.new }
+{
     for _ in 1..times {
         let root = tree.root();
         tree.set_leaf(0, root);
         tree.build();
     }
+}
+
+/// Trees of 65,536 leaves, the first leaf of each being the root before.
+pub fn trees(alloc: Global, times: u32) -> Result<u128, AllocError> {
+    let mut tree = Tree::new(alloc, 65_536)?;
+    fill(&mut tree, 65_536);
+    tree.build();
+    rebuild(&mut tree, times);
     Ok(front(&tree.root()))
 }
