@@ -1,0 +1,109 @@
+-- What the limits on circuits leave of their parameters.
+use Rattle.std.specs.Prelude.{◌≡◌, ℕ, ◌+◌, ◌*◌, ◌<◌, ◌≤◌, ◌++◌, List, [], ◌∷◌, length, map, drop, take}
+use Rattle.std.proofs.Common.{zero, suc, refl, sym, ap, ◌∙◌, arith, inl, inr, subst, get_or}
+use Rattle.std.specs.Int.{div_ceil}
+use Rattle.std.specs.List.{sum_by}
+use Rattle.std.proofs.lemmas.Bool.{cases_lt}
+use Rattle.std.proofs.lemmas.Nat.{mul-le}
+use Rattle.std.proofs.lemmas.List.{length-map, length-append, length-drop}
+use Rattle.std.proofs.lemmas.List.Sums.{sum_by-cons, sum_by_more}
+use Rattle.lzk_field.specs.Ring.{Ops}
+use Rattle.lzk_circuit.specs.declared.layer.Layer.{Layer}
+use Rattle.lzk_circuit.specs.Valid.{Wiring, input_width, AreLayers, IsValid, widths}
+use Rattle.lzk_layout.specs.declared.params.Params.{Params}
+use Rattle.lzk_layout.specs.Sizes.{row_width, under_widths, sent_count, pad_count, sent_counts, committed_count, sizes, params_of, AreParams, AreBounded}
+use Rattle.lzk_layout.proofs.Least.{bits_few, width_64, width_128, width_256, width_512}
+
+-- ---- widths
+
+narrow_from : {A : Type 0} (o : Ops A) (n l : ℕ) (layers : List (Layer A)) → n ≤ 131072 → AreLayers o n layers → get_or (map (λ layer. layer.wires) layers ++ n ∷ []) l 0 ≤ 131072
+narrow_from o n zero [] le h = le
+narrow_from o n (suc l) [] le h = omega arith
+narrow_from o n zero (layer ∷ layers) le h = let one = h.0 in one.most
+narrow_from o n (suc l) (layer ∷ layers) le h = narrow_from o n l layers le h.1
+
+pub narrow : {A : Type 0} (o : Ops A) (c : Wiring A) (l : ℕ) → IsValid o c → get_or (widths c) l 0 ≤ 131072
+narrow o c l valid = narrow_from o (input_width c) l c.layers (omega (arith, valid.publics, valid.privates)) valid.layers
+
+get_or_next : (xs : List ℕ) (l : ℕ) → get_or (drop 1 xs) l 0 ≡ get_or xs (l + 1) 0
+get_or_next [] l = refl
+get_or_next (x ∷ xs) l = let e : suc l ≡ l + 1 = omega arith in ap (λ (k : ℕ). get_or (x ∷ xs) k 0) e
+
+pub under_is : {A : Type 0} (c : Wiring A) (l : ℕ) → get_or (under_widths c) l 0 ≡ get_or (widths c) (l + 1) 0
+under_is c l = get_or_next (widths c) l
+
+pub under_count : {A : Type 0} (c : Wiring A) → length (under_widths c) ≡ length c.layers
+under_count c =
+    omega (arith, length-drop 1 (widths c), length-append (map (λ layer. layer.wires) c.layers) (input_width c ∷ []), length-map c.layers (λ layer. layer.wires))
+
+-- ---- counts
+
+few_in_all : (f : ℕ → ℕ) (most : ℕ) (ws : List ℕ) → ((w : ℕ) → w ≤ 131072 → f w ≤ most) → ((l : ℕ) → get_or ws l 0 ≤ 131072) → sum_by f ws ≤ most * length ws
+few_in_all f most [] each h = omega arith
+few_in_all f most (w ∷ ws) each h =
+    let one = each w (h 0) in
+    let others = few_in_all f most ws each (λ l. h (suc l)) in
+    grind (arith, one, others, sum_by-cons f w ws)
+
+pub sent_few : {A : Type 0} (o : Ops A) (c : Wiring A) → IsValid o c → sent_counts c ≤ 35840
+sent_few o c valid =
+    let all = few_in_all sent_count 70 (under_widths c) (λ w le. omega (arith, bits_few w le)) (λ l. rw (under_is c l) (narrow o c (l + 1) valid)) in
+    omega (arith, all, under_count c, valid.depth)
+
+pub committed_few : {A : Type 0} (o : Ops A) (c : Wiring A) → IsValid o c → committed_count c ≤ 101888
+committed_few o c valid =
+    let all = few_in_all pad_count 71 (under_widths c) (λ w le. omega (arith, bits_few w le)) (λ l. rw (under_is c l) (narrow o c (l + 1) valid)) in
+    omega (arith, all, under_count c, valid.depth, valid.privates)
+
+-- one more layer of the walk over them
+pub counts_more : {A : Type 0} (f : ℕ → ℕ) (c : Wiring A) (l w : ℕ) → l < length c.layers → w ≡ get_or (widths c) (l + 1) 0
+    → sum_by f (take l (under_widths c)) + f w ≡ sum_by f (take (l + 1) (under_widths c))
+counts_more f c l w lt is =
+    let e : w ≡ get_or (under_widths c) l 0 = is ∙ sym (under_is c l) in
+    sym (sum_by_more f (under_widths c) l 0 (omega (arith, under_count c)) ∙ ap (λ (x : ℕ). sum_by f (take l (under_widths c)) + f x) (sym e))
+
+-- ---- bounds
+
+-- with rows of a known width
+with_width : (nw nsum layers wr : ℕ) → row_width nw ≡ wr → nw ≤ 101888 → nsum ≤ 35840 → 1 ≤ layers → layers ≤ 512 → 64 ≤ wr → wr ≤ 512
+    → 3 + div_ceil nw wr + 3 * div_ceil layers wr ≤ 265 → AreBounded (sizes nw nsum layers)
+with_width nw nsum layers wr e few sent some most wide narrow rows = record {
+  nw = few;
+  wide = omega arith;
+  wr = omega arith;
+  block = refl;
+  dblock = refl;
+  mcol = refl;
+  ncol = omega arith;
+  nrow = rw e rows;
+  nsum = sent;
+  some = some;
+  layers = most;
+}
+
+pub bounded : (nw nsum layers : ℕ) → nw ≤ 101888 → nsum ≤ 35840 → 1 ≤ layers → layers ≤ 512 → AreBounded (sizes nw nsum layers)
+bounded nw nsum layers few sent some most =
+    elim (cases_lt 4096 nw) [
+      | inr le ↦ with_width nw nsum layers 64 (width_64 nw le) few sent some most (omega arith) (omega arith) (omega arith)
+      | inl lt ↦
+          elim (cases_lt 16384 nw) [
+            | inr le ↦ with_width nw nsum layers 128 (width_128 nw lt le) few sent some most (omega arith) (omega arith) (omega arith)
+            | inl lt' ↦
+                elim (cases_lt 65536 nw) [
+                  | inr le ↦ with_width nw nsum layers 256 (width_256 nw lt' le) few sent some most (omega arith) (omega arith) (omega arith)
+                  | inl lt'' ↦ with_width nw nsum layers 512 (width_512 nw lt'' (omega arith)) few sent some most (omega arith) (omega arith) (omega arith)
+                ]
+          ]
+    ]
+
+pub params_bounded : {A : Type 0} (o : Ops A) (c : Wiring A) → IsValid o c → AreBounded (params_of c)
+params_bounded o c valid = bounded (committed_count c) (sent_counts c) (length c.layers) (committed_few o c valid) (sent_few o c valid) valid.some valid.depth
+
+pub are_bounded : {A : Type 0} (o : Ops A) (p : Params) → AreParams o p → AreBounded p
+are_bounded o p h = subst (λ (q : Params). AreBounded q) (sym h.are) (params_bounded o h.circuit h.valid)
+
+-- ---- a file's length
+
+pub file_fits : (width elements rows digests : ℕ) → width ≤ 16 → elements ≤ 38526 → rows ≤ 265 → digests ≤ 1536
+    → 72 + width * elements + 128 * (32 + width * rows) + 32 * digests ≤ 2097152
+file_fits width elements rows digests w e r d = omega (arith, mul-le width elements 16 38526 w e, mul-le width rows 16 265 w r)

@@ -1,0 +1,17 @@
+use Rattle.std.proofs.Common.{◌≡◌, ℕ, subst, arith}
+use Rattle.lzk_layout.proofs.Least.{AllFall, bits_is, fall_more, power_more}
+use Rattle.lzk_layout.proofs.params.bits_of.Goals as goal
+
+pub returns-then-wires-power-clause-bits : goal.returns-then-wires-power-clause-bits
+returns-then-wires-power-clause-bits c = bits_is c.args.wires c.loop-k.k c.loop-k.invariant.below (omega (arith, c.if-wires-power.true, c.loop-k.invariant.power))
+
+pub loop-k-preserved : goal.loop-k-preserved
+loop-k-preserved c = record {
+  power = omega (arith, power_more c.loop-k.k, c.loop-k.invariant.power);
+  below = fall_more c.args.wires c.loop-k.k c.loop-k.invariant.below (omega (arith, c.if-wires-power.false, c.loop-k.invariant.power));
+}
+
+pub returns-clause-bits : goal.returns-clause-bits
+returns-clause-bits c =
+    let e : c.loop-k.k ≡ 17 = omega arith in
+    bits_is c.args.wires 17 (subst (λ (k : ℕ). AllFall c.args.wires k) e c.loop-k.invariant.below) c.requires

@@ -1,0 +1,2 @@
+pub mod Sizes
+pub use Rattle.lzk_circuit.specs
