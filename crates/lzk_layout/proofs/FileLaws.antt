@@ -1,0 +1,65 @@
+-- The bytes of a proof's file, from the first on.
+use Rattle.std.specs.Prelude.{◌≡◌, ℕ, ◌+◌, ◌-◌, ◌*◌, ◌<◌, ◌≤◌, List, [], ◌∷◌, ◌++◌, length, map, take, drop}
+use Rattle.std.specs.Int.{w32, to_le_bytes}
+use Rattle.std.proofs.Common.{refl, sym, ap, ◌∙◌, arith, append_assoc, get_or}
+use Rattle.std.proofs.lemmas.List.{drop_more}
+use Rattle.std.proofs.Math.Nat.{mul-le-mul_right}
+use Rattle.lzk_layout.specs.Proofs.{flat, opened_fields, answers_bytes, fields_of, HasLengths}
+use Rattle.lzk_layout.specs.Sizes.{proof_length}
+use Rattle.lzk_layout.specs.declared.params.Params.{Params}
+use Rattle.lzk_layout.specs.declared.proof.Proof.{Proof}
+
+pub flat-append : (xs ys : List (List ℕ)) → flat (xs ++ ys) ≡ flat xs ++ flat ys
+flat-append [] ys = refl
+flat-append (x ∷ xs) ys = ap (λ (t : List ℕ). x ++ t) (flat-append xs ys) ∙ sym (append_assoc x (flat xs) (flat ys))
+
+-- one more column was written
+pub opened_step : {A : Type 0} (field : A → List ℕ) (rows : ℕ) (nonces : List (List ℕ)) (rest : List A) (i : ℕ) (before middle after all : List ℕ)
+    → i < length nonces → middle ≡ before ++ get_or nonces i [] → after ≡ middle ++ flat (map field (take rows rest))
+    → before ++ flat (opened_fields field rows (drop i nonces) rest) ≡ all → after ++ flat (opened_fields field rows (drop (i + 1) nonces) (drop rows rest)) ≡ all
+opened_step field rows nonces rest i before middle after all lt m a h =
+    let n = get_or nonces i [] in
+    let column : List ℕ = flat (map field (take rows rest)) in
+    let others = opened_fields field rows (drop (i + 1) nonces) (drop rows rest) in
+    let front : drop i nonces ≡ n ∷ drop (i + 1) nonces = drop_more nonces i [] lt in
+    ap (λ (t : List ℕ). t ++ flat others) (a ∙ ap (λ (t : List ℕ). t ++ column) m)
+    ∙ append_assoc (before ++ n) column (flat others)
+    ∙ append_assoc before n (column ++ flat others)
+    ∙ sym (ap (λ (t : List ℕ). before ++ (n ++ t)) (flat-append (map field (take rows rest)) others))
+    ∙ sym (ap (λ (ns : List (List ℕ)). before ++ flat (opened_fields field rows ns rest)) front)
+    ∙ h
+
+-- the parts of a file, written one after the other
+pub file_parts : {A : Type 0} (field : A → List ℕ) (rows : ℕ) (proof : Proof A) (head answers opened file : List ℕ)
+    → head ≡ (76 ∷ 90 ∷ 80 ∷ 49 ∷ []) ++ (proof.id ++ proof.root) → answers ≡ head ++ answers_bytes field proof
+    → opened ≡ answers ++ flat (opened_fields field rows proof.nonces proof.columns)
+    → file ≡ opened ++ (to_le_bytes w32 (length proof.path.digests) ++ flat proof.path.digests) → file ≡ flat (fields_of field rows proof)
+file_parts field rows proof head answers opened file h a o f =
+    let columns = flat (opened_fields field rows proof.nonces proof.columns) in
+    let path : List ℕ = to_le_bytes w32 (length proof.path.digests) ++ flat proof.path.digests in
+    f ∙ ap (λ (t : List ℕ). t ++ path) (o ∙ ap (λ (t : List ℕ). t ++ columns) (a ∙ ap (λ (t : List ℕ). t ++ answers_bytes field proof) h)) ∙ simp (append_assoc, flat-append) refl
+
+-- the room of one more column
+pub column_room : (i n each : ℕ) → i < n → i * each + each ≤ n * each
+column_room i n each lt = let h : (i + 1) * each ≤ n * each = mul-le-mul_right each (omega arith) in grind (arith, h)
+
+pub next_end : (at i each end stop : ℕ) → end ≡ at + i * each → stop ≡ end + each → stop ≡ at + (i + 1) * each
+next_end at i each end stop e f = grind (arith, e, f)
+
+pub next_rest : (i rows before after all : ℕ) → before + i * rows ≡ all → after + rows ≡ before → after + (i + 1) * rows ≡ all
+next_rest i rows before after all e f = grind (arith, e, f)
+
+sums : (w a b c d r k x y z : ℕ) → x ≡ 68 + w * (a + b + c + 128 + d) → y ≡ x + 128 * (32 + w * r) → z ≡ y + 4 + 32 * k
+    → z ≡ 4 + 32 + 32 + w * a + w * b + w * c + w * 128 + w * d + 128 * (32 + w * r) + 4 + 32 * k
+sums w a b c d r k x y z e f g = grind (arith, e, f, g)
+
+-- where the path ends, the file ends
+pub file_end : {A : Type 0} (width digests answers opened end n : ℕ) (p : Params) (proof : Proof A) → HasLengths p proof → n ≡ 128
+    → answers ≡ 68 + width * (length proof.messages + length proof.ldt + length proof.dot + length proof.quad_head + length proof.quad_tail)
+    → opened ≡ answers + n * (32 + width * p.nrow) → end ≡ opened + 4 + 32 * digests → end ≡ proof_length width p digests
+file_end width digests answers opened end n p proof h is a o e =
+    let total : length proof.messages + length proof.ldt + length proof.dot + length proof.quad_head + length proof.quad_tail ≡ p.nsum + p.block + p.dblock + 128 + (p.dblock - p.block) =
+    omega (arith, h.messages, h.ldt, h.dot, h.quad_head, h.quad_tail) in
+    let elements : answers ≡ 68 + width * (p.nsum + p.block + p.dblock + 128 + (p.dblock - p.block)) = a ∙ ap (λ (x : ℕ). 68 + width * x) total in
+    let columns : opened ≡ answers + 128 * (32 + width * p.nrow) = o ∙ ap (λ (x : ℕ). answers + x * (32 + width * p.nrow)) is in
+    sums width p.nsum p.block p.dblock (p.dblock - p.block) p.nrow digests answers opened end elements columns e

@@ -1,0 +1,34 @@
+use Rattle.std.proofs.Common.{ℕ, ◌+◌, ◌*◌, ◌++◌, ◌≤◌, length, take, arith, sym, ap, ◌∙◌}
+use Rattle.std.proofs.lemmas.List.{take_all}
+use Rattle.lzk_layout.specs.Proofs.{flat, element_field, opened_fields}
+use Rattle.lzk_layout.proofs.FileLaws.{file_parts, file_end}
+use Rattle.lzk_layout.proofs.encoding.encode_proof.Goals as goal
+
+pub returns : goal.returns
+returns g c =
+    let field = element_field g.F.Field.BYTES g.F.Field.number_of in
+    let width = g.F.Field.BYTES in
+    let p = c.args.params.now in
+    let proof = c.args.proof.now in
+    let lengths = c.requires.lengths in
+    let head = c.put_head-end in
+    let answers = c.put_answers-end in
+    let opened = c.put_opened-end in
+    let path = c.put_path in
+    let digests = length proof.path.digests in
+    let end = file_end width digests answers.result opened.result path.result (length c.as_slice.result.now) p proof lengths (ap length c.as_slice.ensures ∙ lengths.nonces)
+    (answers.ensures.end ∙ ap (λ (n : ℕ). n + width * (length proof.messages + length proof.ldt + length proof.dot + length proof.quad_head + length proof.quad_tail)) head.ensures.end) opened.ensures.end path.ensures.end in
+    let reach : length path.new.out ≤ path.result = omega (arith, end, c.requires.room, head.ensures.length, answers.ensures.length, opened.ensures.length, path.ensures.length) in
+    let columns = opened.ensures.front
+    ∙ ap (λ ns. take answers.result answers.new.out ++ flat (opened_fields field p.nrow ns c.as_slice-2.result.now)) c.as_slice.ensures
+    ∙ ap (λ xs. take answers.result answers.new.out ++ flat (opened_fields field p.nrow proof.nonces xs)) c.as_slice-2.ensures in
+    record {
+      lengths = lengths;
+      few = c.requires.few;
+      id = head.ensures.id;
+      root = head.ensures.root;
+      nonces = rw (sym c.as_slice.ensures) opened.ensures.digests;
+      path = path.ensures.digests;
+      are = sym (take_all path.result path.new.out reach) ∙ file_parts field p.nrow proof (take head.result head.new.out) (take answers.result answers.new.out) (take opened.result opened.new.out) (take path.result path.new.out)
+          head.ensures.front answers.ensures.front columns path.ensures.front;
+    }

@@ -1,0 +1,140 @@
+//! The lists that a proof has.
+
+ghost use Rattle.std.specs.Prelude.{◌≡◌, ◌<◌, ◌≤◌, ◌++◌, [], ◌∷◌, length, replicate, take, IfOk};
+
+use std::alloc::{AllocError, Global};
+use std::marker::Model;
+
+/// A list of elements. It is made from a `Vec` and gives it back, with no memory taken.
+#[derive(Drop)]
+pub struct Elements<F> {
+    pub(crate) list: Vec<F>,
+}
+
+impl<F> Model for Elements<F> {
+    ghost use Rattle.std.specs.Prelude.{List};
+
+    ghost Value = { List F };
+
+    ghost view = { λ e. e.list.items };
+}
+
+impl<F> Elements<F> {
+    /// These elements.
+    pub fn new(list: Vec<F>) -> Elements<F>
+        ensures { result ≡ list.items }
+    {
+        Elements { list }
+    }
+
+    /// The elements as they were handed in.
+    pub fn into_vec(self) -> Vec<F>
+        ensures { result.items ≡ self }
+    {
+        self.list
+    }
+
+    /// The elements in order.
+    pub fn as_slice(&self) -> &[F]
+        ensures { result.now ≡ self.now }
+    {
+        &self.list
+    }
+}
+
+/// A list of digests or nonces.
+#[derive(Drop)]
+pub struct Blocks {
+    pub(crate) list: Vec<[u8; 32]>,
+}
+
+impl Model for Blocks {
+    ghost use Rattle.std.specs.Prelude.{List, ℕ};
+
+    ghost Value = { List (List ℕ) };
+
+    ghost view = { λ b. b.list.items };
+}
+
+impl Blocks {
+    /// These blocks.
+    pub fn new(list: Vec<[u8; 32]>) -> Blocks
+        ensures { result ≡ list.items }
+    {
+        Blocks { list }
+    }
+
+    /// The blocks in order.
+    pub fn as_slice(&self) -> &[[u8; 32]]
+        ensures { result.now ≡ self.now }
+    {
+        &self.list
+    }
+}
+
+/// The digests of a path, with room for more.
+#[derive(Drop)]
+pub struct Path {
+    pub(crate) list: Vec<[u8; 32]>,
+    pub(crate) count: usize,
+}
+
+impl Model for Path {
+    ghost use Rattle.std.specs.Prelude.{◌≤◌, take, vec_len};
+    ghost use Rattle.lzk_layout.specs.Lists.{Digests};
+
+    ghost Value = { Digests };
+
+    ghost view = { λ p. record { digests = take p.count p.list.items; room = vec_len p.list } };
+
+    ghost invariant = { λ p. p.count ≤ vec_len p.list };
+}
+
+impl Path {
+    /// No digests, and room for so many.
+    pub fn with_room(alloc: Global, room: usize) -> Result<Path, AllocError>
+        ensures { IfOk result (λ p. p ≡ record { digests = []; room = room }) }
+    {
+        let mut list = Vec::new(alloc);
+        list.resize(room, [0; 32])?;
+        Ok(Path { list, count: 0 })
+    }
+
+    /// How many digests there are.
+    pub fn len(&self) -> usize
+        ensures { result ≡ length self.now.digests }
+    {
+        self.count
+    }
+
+    /// How many digests there is room for.
+    pub fn room(&self) -> usize
+        ensures { result ≡ self.now.room }
+    {
+        self.list.len()
+    }
+
+    /// Removes all digests.
+    pub fn clear(&mut self)
+        ensures { self.new ≡ record { digests = []; room = self.old.room } }
+    {
+        self.count = 0;
+    }
+
+    /// Adds a digest at the end, with no memory taken.
+    pub fn push(&mut self, digest: [u8; 32])
+        requires { length self.old.digests < self.old.room }
+        ensures { self.new ≡ record { digests = self.old.digests ++ digest ∷ []; room = self.old.room } }
+    {
+        self.list[self.count] = digest;
+        self.count += 1;
+    }
+
+    /// The digests in order.
+    pub fn as_slice(&self) -> &[[u8; 32]]
+        ensures { result.now ≡ self.now.digests }
+    {
+        let (digests, _) = self.list.split_at(self.count);
+        digests
+    }
+}

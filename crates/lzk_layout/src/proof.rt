@@ -1,0 +1,79 @@
+//! Proofs.
+
+ghost use Rattle.std.specs.Prelude.{◌≡◌, ◌≤◌, length, replicate, IfOk};
+ghost use Rattle.lzk_layout.specs.Sizes.{AreParams};
+ghost use Rattle.lzk_layout.specs.Proofs.{zero_digest, zero_proof, HasLengths};
+
+use crate::lists::{Blocks, Elements, Path};
+use crate::params::Params;
+use lzk_field::Field;
+use std::alloc::{AllocError, Global};
+
+/// The columns that are opened.
+pub(crate) const OPENED: usize = 128;
+
+/// The digests of a path, at most.
+pub(crate) const MOST_DIGESTS: usize = 1536;
+
+/// A proof: what the prover sends, in the order of the profile's proof file.
+#[derive(Drop)]
+pub struct Proof<F> {
+    /// The circuit's id.
+    pub id: [u8; 32],
+    /// The root of the tree of columns.
+    pub root: [u8; 32],
+    /// The elements that the sumchecks send.
+    pub messages: Elements<F>,
+    /// The low degree answer.
+    pub ldt: Elements<F>,
+    /// The linear answer.
+    pub dot: Elements<F>,
+    /// The quadratic answer's first 128 values.
+    pub quad_head: Elements<F>,
+    /// The quadratic answer's last values, those behind the row's elements.
+    pub quad_tail: Elements<F>,
+    /// The opened columns' nonces.
+    pub nonces: Blocks,
+    /// The opened columns, one after the other.
+    pub columns: Elements<F>,
+    /// The digests that the root is found with.
+    pub path: Path,
+}
+
+fn zeros<F: Field>(alloc: Global, count: usize) -> Result<Elements<F>, AllocError>
+    ensures { IfOk result (λ list. list ≡ replicate count F.ops.zero) }
+{
+    let mut list = Vec::new(alloc);
+    list.resize(count, F::zero())?;
+    Ok(Elements { list })
+}
+
+fn zero_blocks(alloc: Global, count: usize) -> Result<Blocks, AllocError>
+    ensures { IfOk result (λ list. list ≡ replicate count zero_digest) }
+{
+    let mut list = Vec::new(alloc);
+    list.resize(count, [0; 32])?;
+    Ok(Blocks { list })
+}
+
+impl<F: Field> Proof<F> {
+    /// A proof of zeros for these parameters, with an empty path and room for 1,536 digests.
+    pub fn new(alloc: Global, params: &Params) -> Result<Proof<F>, AllocError>
+        requires { AreParams F.ops params.now }
+        ensures zeros { IfOk result (λ proof. proof ≡ zero_proof F.ops params.now) }
+        ensures lengths { IfOk result (λ proof. HasLengths params.now proof) }
+    {
+        Ok(Proof {
+            id: [0; 32],
+            root: [0; 32],
+            messages: zeros(alloc, params.nsum as usize)?,
+            ldt: zeros(alloc, params.block as usize)?,
+            dot: zeros(alloc, params.dblock as usize)?,
+            quad_head: zeros(alloc, OPENED)?,
+            quad_tail: zeros(alloc, (params.dblock - params.block) as usize)?,
+            nonces: zero_blocks(alloc, OPENED)?,
+            columns: zeros(alloc, OPENED * params.nrow as usize)?,
+            path: Path::with_room(alloc, MOST_DIGESTS)?,
+        })
+    }
+}
