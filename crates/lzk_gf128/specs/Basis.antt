@@ -1,14 +1,16 @@
 -- Additive maps are compared at the powers of 2, by computing.
-use Rattle.std.specs.Prelude.{◌≡◌, ℕ, ◌+◌, ◌*◌, ◌/◌, ◌%◌, ◌^◌, ◌<◌, ◌≤◌, Bool, true, false, cond}
+use Rattle.std.specs.Prelude.{◌≡◌, ℕ, ◌+◌, ◌*◌, ◌/◌, ◌%◌, ◌^◌, ◌<◌, ◌≤◌, bit_and, min, Bool, true, false, cond}
 use Rattle.std.proofs.Common.{zero, suc, refl, sym, ap, subst, ◌∙◌, arith, eqb}
 use Rattle.std.proofs.lemmas.Bool.{eqb-true, false≢true}
+use Rattle.std.specs.Int.{bit_at}
+use Rattle.std.proofs.lemmas.Nat.Bits.{bit_at_xor, bit_at_and, same_from_bits}
 use Rattle.std.specs.Int.Bits.{xor_assoc, xor_comm, xor_shr, xor_mod, xor_lt, xor_block}
 use native.Mathlib.Decide.{dec_lt}
 use Rattle.std.proofs.lemmas.Nat.{pow_pos, pow-add}
-use Rattle.std.proofs.Math.Nat.{add-zero, mod-le}
+use Rattle.std.proofs.Math.Nat.{zero-add, add-zero, mod-le}
 use Rattle.std.proofs.Math.Pow.{pow_mono}
 use Rattle.lzk_gf128.specs.Product.{times_x, shift, moved}
-use Rattle.lzk_gf128.specs.Linear.{◌⊕◌, Additive, Additive-zero, xor_swap, same_from_powers, shift-additive}
+use Rattle.lzk_gf128.specs.Linear.{◌⊕◌, Additive, Additive-zero, xor_swap, bit_lt, same_from_powers, shift-additive}
 
 abbrev pub agree : (ℕ → ℕ) → (ℕ → ℕ) → ℕ → Bool
 agree f g zero = true
@@ -43,52 +45,80 @@ add_shl_in k w a b = ap (λ n. n % 2 ^ w) (add_shl k a b) ∙ xor_mod (a * 2 ^ k
 pub add_shr : (k : ℕ) → Additive (λ n. n / 2 ^ k)
 add_shr k a b = xor_shr a b k
 
-pub add_shr_shl : (k j w : ℕ) → Additive (λ n. n / 2 ^ k * 2 ^ j % 2 ^ w)
-add_shr_shl k j w a b = ap (λ n. n * 2 ^ j % 2 ^ w) (add_shr k a b) ∙ add_shl_in j w (a / 2 ^ k) (b / 2 ^ k)
-
 pub compose : (f g : ℕ → ℕ) → Additive f → Additive g → Additive (λ n. f (g n))
 compose f g hf hg a b = ap f (hg a b) ∙ hf (g a) (g b)
 
+pub and_spreads : (a b m : ℕ) → bit_and (a ⊕ b) m ≡ bit_and a m ⊕ bit_and b m
+and_spreads a b m =
+    same_from_bits _ _ (λ i.
+    bit_at_and (a ⊕ b) m i
+    ∙ ap (λ w. min w (bit_at m i)) (bit_at_xor a b i)
+    ∙ by_bits (bit_at a i) (bit_at b i) (bit_at m i) (bit_lt _) (bit_lt _) (bit_lt _)
+    ∙ ap (λ w. (w + min (bit_at b i) (bit_at m i)) % 2) (sym (bit_at_and a m i))
+    ∙ ap (λ w. (bit_at (bit_and a m) i + w) % 2) (sym (bit_at_and b m i))
+    ∙ sym (bit_at_xor (bit_and a m) (bit_and b m) i))
+  where
+    by_bits : (x y z : ℕ) → x < 2 → y < 2 → z < 2 → min ((x + y) % 2) z ≡ (min x z + min y z) % 2
+    by_bits x y z hx hy hz = omega arith
+
 -- n times x^128, as the code has it
 abbrev pub over_128 : ℕ → ℕ
-over_128 n = ((n ⊕ (n * 2 ^ 1 % 2 ^ 128)) ⊕ (n * 2 ^ 2 % 2 ^ 128)) ⊕ (n * 2 ^ 7 % 2 ^ 128)
+over_128 n =
+    let top = ((n ⊕ (n / 2 ^ 121)) ⊕ (n / 2 ^ 126)) ⊕ (n / 2 ^ 127) in
+    ((top ⊕ (top * 2 ^ 1 % 2 ^ 128)) ⊕ (top * 2 ^ 2 % 2 ^ 128)) ⊕ (top * 2 ^ 7 % 2 ^ 128)
 
 over_128-additive : Additive over_128
 over_128-additive =
-    let t : ℕ → ℕ → ℕ = λ k n. n * 2 ^ k % 2 ^ 128 in
-    add_xor (λ n. (n ⊕ t 1 n) ⊕ t 2 n) (t 7) (add_xor (λ n. n ⊕ t 1 n) (t 2) (add_xor (λ n. n) (t 1) (λ a b. refl) (add_shl_in 1 128)) (add_shl_in 2 128)) (add_shl_in 7 128)
+    let h : ℕ → ℕ → ℕ = λ k n. n / 2 ^ k in
+    let top : ℕ → ℕ = λ n. ((n ⊕ h 121 n) ⊕ h 126 n) ⊕ h 127 n in
+    let ht : Additive top = add_xor (λ n. (n ⊕ h 121 n) ⊕ h 126 n) (h 127) (add_xor (λ n. n ⊕ h 121 n) (h 126) (add_xor (λ n. n) (h 121) (λ a b. refl) (add_shr 121)) (add_shr 126)) (add_shr 127) in
+    let t : ℕ → ℕ → ℕ = λ k n. top n * 2 ^ k % 2 ^ 128 in
+    let at : (k : ℕ) → Additive (t k) = λ k. compose (λ n. n * 2 ^ k % 2 ^ 128) top (add_shl_in k 128) ht in
+    add_xor (λ n. (top n ⊕ t 1 n) ⊕ t 2 n) (t 7) (add_xor (λ n. top n ⊕ t 1 n) (t 2) (add_xor top (t 1) ht (at 1)) (at 2)) (at 7)
 
--- times x^64, as the code has it
-abbrev pub quick_64 : ℕ → ℕ
-quick_64 n = ((((n * 2 ^ 64 % 2 ^ 128) ⊕ (n / 2 ^ 64)) ⊕ (n / 2 ^ 64 * 2 ^ 1 % 2 ^ 128)) ⊕ (n / 2 ^ 64 * 2 ^ 2 % 2 ^ 128)) ⊕ (n / 2 ^ 64 * 2 ^ 7 % 2 ^ 128)
-
-quick_64-additive : Additive quick_64
-quick_64-additive =
-    let t : ℕ → ℕ = λ n. n * 2 ^ 64 % 2 ^ 128 in
-    let h : ℕ → ℕ = λ n. n / 2 ^ 64 in
-    let hs : ℕ → ℕ → ℕ = λ k n. n / 2 ^ 64 * 2 ^ k % 2 ^ 128 in
-    let f2 : ℕ → ℕ = λ n. (t n ⊕ h n) ⊕ hs 1 n in
-    let f3 : ℕ → ℕ = λ n. f2 n ⊕ hs 2 n in
-    add_xor f3 (hs 7) (add_xor f2 (hs 2) (add_xor (λ n. t n ⊕ h n) (hs 1) (add_xor t h (add_shl_in 64 128) (add_shr 64)) (add_shr_shl 64 1 128)) (add_shr_shl 64 2 128)) (add_shr_shl 64 7 128)
-
-pub quick_moved_64 : (n : ℕ) → n < 2 ^ 128 → quick_64 n ≡ moved 64 n
+pub over_128_is : (n : ℕ) → n < 2 ^ 128 → over_128 n ≡ moved 128 n
 unfolding moved
-quick_moved_64 n h = same_by_test quick_64 (shift 64) quick_64-additive (shift-additive 64) 128 refl n h
+over_128_is n h = same_by_test over_128 (shift 128) over_128-additive (shift-additive 128) 128 refl n h
 
-pub over_128_is : (n : ℕ) → n < 2 ^ 64 → over_128 n ≡ moved 128 n
-unfolding moved
-over_128_is n h = same_by_test over_128 (shift 128) over_128-additive (shift-additive 128) 64 refl n h
+-- times x^k, in a width w that holds n and no more: the k highest bits go over
+up_over : (k w j : ℕ) → agree (shift k) (λ m. (m * 2 ^ k % 2 ^ w) ⊕ shift w (m / 2 ^ j)) w ≡ true → (n : ℕ) → n < 2 ^ w → shift k n ≡ (n * 2 ^ k % 2 ^ w) ⊕ shift w (n / 2 ^ j)
+up_over k w j e n h =
+    same_by_test (shift k) (λ m. (m * 2 ^ k % 2 ^ w) ⊕ shift w (m / 2 ^ j)) (shift-additive k)
+    (add_xor (λ m. m * 2 ^ k % 2 ^ w) (λ m. shift w (m / 2 ^ j)) (add_shl_in k w) (compose (shift w) (λ m. m / 2 ^ j) (shift-additive w) (add_shr j))) w e n h
 
--- times x^4: the four highest bits go over
-up_4 : (n : ℕ) → n < 2 ^ 128 → moved 4 n ≡ (n * 2 ^ 4 % 2 ^ 128) ⊕ moved 128 (n / 2 ^ 124)
+pub up_64 : (n : ℕ) → n < 2 ^ 128 → moved 64 n ≡ (n * 2 ^ 64 % 2 ^ 128) ⊕ moved 128 (n / 2 ^ 64)
 unfolding moved
-up_4 n h = same_by_test (shift 4) (λ m. (m * 2 ^ 4 % 2 ^ 128) ⊕ shift 128 (m / 2 ^ 124)) (shift-additive 4) (add_xor (λ m. m * 2 ^ 4 % 2 ^ 128) (λ m. shift 128 (m / 2 ^ 124)) (add_shl_in 4 128) (compose (shift 128) (λ m. m / 2 ^ 124) (shift-additive 128) (add_shr 124))) 128 refl n h
+up_64 n h = up_over 64 128 64 refl n h
+
+pub up_1 : (n : ℕ) → n < 2 ^ 64 → moved 1 n ≡ (n * 2 ^ 1 % 2 ^ 64) ⊕ moved 64 (n / 2 ^ 63)
+unfolding moved
+up_1 n h = up_over 1 64 63 refl n h
+
+pub up_2 : (n : ℕ) → n < 2 ^ 64 → moved 2 n ≡ (n * 2 ^ 2 % 2 ^ 64) ⊕ moved 64 (n / 2 ^ 62)
+unfolding moved
+up_2 n h = up_over 2 64 62 refl n h
+
+pub up_3 : (n : ℕ) → n < 2 ^ 64 → moved 3 n ≡ (n * 2 ^ 3 % 2 ^ 64) ⊕ moved 64 (n / 2 ^ 61)
+unfolding moved
+up_3 n h = up_over 3 64 61 refl n h
+
+up_4 : (n : ℕ) → n < 2 ^ 64 → moved 4 n ≡ (n * 2 ^ 4 % 2 ^ 64) ⊕ moved 64 (n / 2 ^ 60)
+unfolding moved
+up_4 n h = up_over 4 64 60 refl n h
 
 small_4 : (n : ℕ) → n < 2 ^ 60 → moved 4 n ≡ n * 2 ^ 4 % 2 ^ 64
 unfolding moved
 small_4 n h = same_by_test (shift 4) (λ m. m * 2 ^ 4 % 2 ^ 64) (shift-additive 4) (add_shl_in 4 64) 60 refl n h
 
-moved-xor : (k a b : ℕ) → moved k (a ⊕ b) ≡ moved k a ⊕ moved k b
+pub plain_4 : (n : ℕ) → n < 2 ^ 64 → moved 4 n ≡ n * 2 ^ 4
+unfolding moved
+plain_4 n h = same_by_test (shift 4) (λ m. m * 2 ^ 4) (shift-additive 4) (add_shl 4) 64 refl n h
+
+pub plain_64 : (n : ℕ) → n < 2 ^ 64 → moved 64 n ≡ n * 2 ^ 64 % 2 ^ 128
+unfolding moved
+plain_64 n h = same_by_test (shift 64) (λ m. m * 2 ^ 64 % 2 ^ 128) (shift-additive 64) (add_shl_in 64 128) 64 refl n h
+
+pub moved-xor : (k a b : ℕ) → moved k (a ⊕ b) ≡ moved k a ⊕ moved k b
 unfolding moved
 moved-xor k a b = shift-additive k a b
 
@@ -104,32 +134,40 @@ shift-swap : (j k a : ℕ) → shift j (shift k a) ≡ shift k (shift j a)
 shift-swap zero k a = refl
 shift-swap (suc j) k a = ap (shift j) (sym (shift-times_x k a)) ∙ shift-swap j k (times_x a)
 
-moved-swap : (j k a : ℕ) → moved j (moved k a) ≡ moved k (moved j a)
+pub moved-swap : (j k a : ℕ) → moved j (moved k a) ≡ moved k (moved j a)
 unfolding moved
 moved-swap j k a = shift-swap j k a
 
--- a total and what went over it, both four places up
-pub up_both : (total over : ℕ) → total < 2 ^ 128 → over < 2 ^ 60
-    → (total * 2 ^ 4 % 2 ^ 128) ⊕ moved 128 ((over * 2 ^ 4 % 2 ^ 64) ⊕ (total / 2 ^ 124)) ≡ moved 4 (total ⊕ moved 128 over)
-up_both total over ht ho =
-    let t = total * 2 ^ 4 % 2 ^ 128 in
-    let h = moved 128 (total / 2 ^ 124) in
-    let o = moved 128 (over * 2 ^ 4 % 2 ^ 64) in
-    ap (λ w. t ⊕ w) (moved-xor 128 (over * 2 ^ 4 % 2 ^ 64) (total / 2 ^ 124) ∙ xor_comm o h)
-    ∙ sym (xor_assoc t h o)
-    ∙ ap (λ w. w ⊕ o) (sym (up_4 total ht))
-    ∙ ap (λ w. moved 4 total ⊕ w) (ap (moved 128) (sym (small_4 over ho)) ∙ moved-swap 128 4 over)
-    ∙ sym (moved-xor 4 total (moved 128 over))
+shift-more : (j k a : ℕ) → shift j (shift k a) ≡ shift (j + k) a
+shift-more zero k a = ap (λ w. shift w a) (sym (zero-add k))
+shift-more (suc j) k a = let e : suc j + k ≡ suc (j + k) = omega arith in ap (shift j) (sym (shift-times_x k a)) ∙ shift-more j k (times_x a) ∙ ap (λ w. shift w a) (sym e)
 
-pub over_more : (total over i : ℕ) → total < 2 ^ 128 → over < 2 ^ (4 * i) → i < 16 → (over * 2 ^ 4 % 2 ^ 64) ⊕ (total / 2 ^ 124) < 2 ^ (4 * (i + 1))
-over_more total over i ht ho hi =
+pub twice_64 : (a : ℕ) → moved 64 (moved 64 a) ≡ moved 128 a
+unfolding moved
+twice_64 a = shift-more 64 64 a
+
+-- the low word of a total and the one above it, both four places up
+pub up_both : (low high : ℕ) → low < 2 ^ 64 → high < 2 ^ 60
+    → (low * 2 ^ 4 % 2 ^ 64) ⊕ moved 64 ((high * 2 ^ 4 % 2 ^ 64) ⊕ (low / 2 ^ 60)) ≡ moved 4 (low ⊕ moved 64 high)
+up_both low high ht ho =
+    let t = low * 2 ^ 4 % 2 ^ 64 in
+    let h = moved 64 (low / 2 ^ 60) in
+    let o = moved 64 (high * 2 ^ 4 % 2 ^ 64) in
+    ap (λ w. t ⊕ w) (moved-xor 64 (high * 2 ^ 4 % 2 ^ 64) (low / 2 ^ 60) ∙ xor_comm o h)
+    ∙ sym (xor_assoc t h o)
+    ∙ ap (λ w. w ⊕ o) (sym (up_4 low ht))
+    ∙ ap (λ w. moved 4 low ⊕ w) (ap (moved 64) (sym (small_4 high ho)) ∙ moved-swap 64 4 high)
+    ∙ sym (moved-xor 4 low (moved 64 high))
+
+pub high_more : (low high i : ℕ) → low < 2 ^ 64 → high < 2 ^ (4 * i) → i < 16 → (high * 2 ^ 4 % 2 ^ 64) ⊕ (low / 2 ^ 60) < 2 ^ (4 * (i + 1))
+high_more low high i ht ho hi =
     let more : 4 * (i + 1) ≡ 4 * i + 4 = omega arith in
     let power : 2 ^ (4 * i + 4) ≡ 2 ^ (4 * i) * 16 = pow-add 2 (4 * i) 4 in
-    let up : over * 2 ^ 4 < 2 ^ (4 * i) * 16 = omega (arith, ho) in
-    let low : over * 2 ^ 4 % 2 ^ 64 ≤ over * 2 ^ 4 = mod-le (over * 2 ^ 4) (2 ^ 64) in
+    let up : high * 2 ^ 4 < 2 ^ (4 * i) * 16 = omega (arith, ho) in
+    let part : high * 2 ^ 4 % 2 ^ 64 ≤ high * 2 ^ 4 = mod-le (high * 2 ^ 4) (2 ^ 64) in
     let least : 16 ≤ 2 ^ (4 * i) * 16 = omega (arith, pow_pos (4 * i)) in
-    subst (λ w. (over * 2 ^ 4 % 2 ^ 64) ⊕ (total / 2 ^ 124) < 2 ^ w) (sym more)
-    (xor_lt (4 * i + 4) (over * 2 ^ 4 % 2 ^ 64) (total / 2 ^ 124) (omega (arith, power, up, low)) (omega (arith, power, least, ht)))
+    subst (λ w. (high * 2 ^ 4 % 2 ^ 64) ⊕ (low / 2 ^ 60) < 2 ^ w) (sym more)
+    (xor_lt (4 * i + 4) (high * 2 ^ 4 % 2 ^ 64) (low / 2 ^ 60) (omega (arith, power, up, part)) (omega (arith, power, least, ht)))
 
-pub over_small : (over i : ℕ) → over < 2 ^ (4 * i) → i < 16 → over < 2 ^ 60
-over_small over i h hi = omega (arith, h, pow_mono {i = 4 * i} {j = 60} (omega arith))
+pub high_small : (high i : ℕ) → high < 2 ^ (4 * i) → i < 16 → high < 2 ^ 60
+high_small high i h hi = omega (arith, h, pow_mono {i = 4 * i} {j = 60} (omega arith))

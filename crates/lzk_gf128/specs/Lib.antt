@@ -3,7 +3,10 @@ pub mod Linear
 pub mod Table
 pub mod Inverse
 pub mod Basis
+pub mod Lost
 pub mod ByteLists
 pub mod Squares
 pub mod Multiples
+pub mod Halves
+pub mod Sums
 pub mod Elements

@@ -34,10 +34,15 @@ pick-xor zero (suc (suc j)) c p q = absurd (omega arith)
 pick-xor (suc zero) (suc (suc j)) c p q = absurd (omega arith)
 pick-xor (suc (suc i)) j c p q = absurd (omega arith)
 
-pick-additive : (f : ℕ → ℕ) → Additive f → (i c : ℕ) → i < 2 → f (i * c) ≡ i * f c
+pub pick-additive : (f : ℕ → ℕ) → Additive f → (i c : ℕ) → i < 2 → f (i * c) ≡ i * f c
 pick-additive f h zero c p = rw (zero-mul c, zero-mul (f c)) (Additive-zero f h)
 pick-additive f h (suc zero) c p = rw (one-mul c, one-mul (f c)) refl
 pick-additive f h (suc (suc i)) c p = absurd (omega arith)
+
+pub pick_each : (i a c : ℕ) → i < 2 → i * (a ⊕ c) ≡ (i * a) ⊕ (i * c)
+pick_each zero a c p = rw (zero-mul (a ⊕ c), zero-mul a, zero-mul c) refl
+pick_each (suc zero) a c p = rw (one-mul (a ⊕ c), one-mul a, one-mul c) refl
+pick_each (suc (suc i)) a c p = absurd (omega arith)
 
 pub bit_lt : (n : ℕ) → n % 2 < 2
 bit_lt n = omega arith
@@ -66,14 +71,9 @@ low_bit_xor b c = xor_mod b c 1
 pub times_bits-left : (k b : ℕ) → Additive (λ a. times_bits k a b)
 times_bits-left zero b a c = refl
 times_bits-left (suc k) b a c =
-    ap (λ w. w ⊕ times_bits k (times_x (a ⊕ c)) (b / 2)) (pick-of (b % 2) a c (bit_lt b))
+    ap (λ w. w ⊕ times_bits k (times_x (a ⊕ c)) (b / 2)) (pick_each (b % 2) a c (bit_lt b))
     ∙ ap (λ w. ((b % 2 * a) ⊕ (b % 2 * c)) ⊕ w) (ap (λ w. times_bits k w (b / 2)) (times_x-additive a c) ∙ times_bits-left k (b / 2) (times_x a) (times_x c))
     ∙ xor_swap (b % 2 * a) (b % 2 * c) (times_bits k (times_x a) (b / 2)) (times_bits k (times_x c) (b / 2))
-  where
-    pick-of : (i a c : ℕ) → i < 2 → i * (a ⊕ c) ≡ (i * a) ⊕ (i * c)
-    pick-of zero a c p = rw (zero-mul (a ⊕ c), zero-mul a, zero-mul c) refl
-    pick-of (suc zero) a c p = rw (one-mul (a ⊕ c), one-mul a, one-mul c) refl
-    pick-of (suc (suc i)) a c p = absurd (omega arith)
 
 -- and in its second
 pub times_bits-right : (k a : ℕ) → Additive (times_bits k a)

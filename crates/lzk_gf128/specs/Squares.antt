@@ -1,12 +1,10 @@
 -- Squares are had by moving each bit i to 2 * i, and repeated squares give a power 2^k - 1 from two such.
-use Rattle.std.specs.Prelude.{◌≡◌, ℕ, ◌+◌, ◌*◌, ◌/◌, ◌%◌, ◌^◌, ◌<◌, bit_and, true, min}
+use Rattle.std.specs.Prelude.{◌≡◌, ℕ, ◌+◌, ◌*◌, ◌/◌, ◌%◌, ◌^◌, ◌<◌, bit_and, true}
 use Rattle.std.proofs.Common.{zero, suc, refl, sym, ap, ◌∙◌, arith}
-use Rattle.std.specs.Int.{bit_at}
 use Rattle.std.specs.Int.Bits.{xor_shr, xor_mod}
-use Rattle.std.proofs.lemmas.Nat.Bits.{bit_at_xor, bit_at_and, same_from_bits}
 use Rattle.lzk_gf128.specs.Product.{product, times_bits}
-use Rattle.lzk_gf128.specs.Linear.{◌⊕◌, Additive, xor_swap, bit_lt, low_bit_xor, times_bits_lt, times_comm, times_assoc, one_times}
-use Rattle.lzk_gf128.specs.Basis.{agree, agree_at, same_by_test, compose, add_xor, add_shl, add_shl_in, add_shr}
+use Rattle.lzk_gf128.specs.Linear.{◌⊕◌, Additive, xor_swap, low_bit_xor, times_bits_lt, times_comm, times_assoc, one_times}
+use Rattle.lzk_gf128.specs.Basis.{agree, agree_at, and_spreads, same_by_test, compose, add_xor, add_shl, add_shl_in, add_shr}
 use Rattle.lzk_gf128.specs.Inverse.{square, squares, same_below, square-additive, square-times, squares_lt, most, most_lt, power_most}
 
 -- the low k bits of n, bit i at the place 2 * i
@@ -21,19 +19,6 @@ spread n = at_even 32 n
 -- n beside itself moved up, where mask is set
 abbrev pub beside : ℕ → ℕ → ℕ → ℕ
 beside n by mask = bit_and (n ⊕ (n * 2 ^ by % 2 ^ 64)) mask
-
-and_spreads : (a b m : ℕ) → bit_and (a ⊕ b) m ≡ bit_and a m ⊕ bit_and b m
-and_spreads a b m =
-    same_from_bits _ _ (λ i.
-    bit_at_and (a ⊕ b) m i
-    ∙ ap (λ w. min w (bit_at m i)) (bit_at_xor a b i)
-    ∙ by_bits (bit_at a i) (bit_at b i) (bit_at m i) (bit_lt _) (bit_lt _) (bit_lt _)
-    ∙ ap (λ w. (w + min (bit_at b i) (bit_at m i)) % 2) (sym (bit_at_and a m i))
-    ∙ ap (λ w. (bit_at (bit_and a m) i + w) % 2) (sym (bit_at_and b m i))
-    ∙ sym (bit_at_xor (bit_and a m) (bit_and b m) i))
-  where
-    by_bits : (x y z : ℕ) → x < 2 → y < 2 → z < 2 → min ((x + y) % 2) z ≡ (min x z + min y z) % 2
-    by_bits x y z hx hy hz = omega arith
 
 add_beside : (by mask : ℕ) → Additive (λ n. beside n by mask)
 add_beside by mask a b =

@@ -2,7 +2,7 @@
 
 ghost use Rattle.std.specs.Prelude.{◌≡◌, ◌≢◌, ℕ, ◌^◌, ◌<◌};
 
-use crate::arith::{invert, multiply, square};
+use crate::arith::{Parts, invert, multiply, square};
 use crate::bytes::{read, write};
 use lzk_field::Field;
 
@@ -108,6 +108,15 @@ impl Field for Gf128 {
 
     fn of_le(bytes: &[u8]) -> Option<Gf128> {
         Some(Gf128 { n: read(bytes) })
+    }
+
+    // Products are added up by their parts, and reduced once.
+    fn dot(left: &[Gf128], right: &[Gf128]) -> Gf128 {
+        let mut total = Parts::zero();
+        for i in 0..left.len() {
+            total = total.plus(Parts::product(left[i].n, right[i].n));
+        }
+        Gf128 { n: total.reduced() }
     }
 
     ghost same = { same };

@@ -1,7 +1,7 @@
 //! Worked values, through the trait.
 
 use crate::Gf128;
-use crate::vectors::{INVERSES, PRODUCTS, SQUARES};
+use crate::vectors::{HALVES, INVERSES, PRODUCTS, SQUARES};
 use lzk_field::Field;
 use std::process::Abort;
 
@@ -28,6 +28,7 @@ fn products_are<R: Abort>(rt: &R, rows: &[[u128; 3]]) {
 #[test]
 fn products_are_those_of_the_definition(rt: HostRuntime) {
     products_are(&rt, &PRODUCTS);
+    products_are(&rt, &HALVES);
     products_are(
         &rt,
         &[
@@ -91,4 +92,25 @@ fn dot_sums_the_products(rt: HostRuntime) {
     ];
     let right = [Gf128::of_word(3), Gf128::of_word(2), Gf128::zero()];
     assert_eq!(rt; Gf128::dot(&left, &right).number(), 6 ^ 0x87);
+    assert_eq!(rt; Gf128::dot(&left[..0], &right[..0]).number(), 0);
+    let left = [
+        Gf128::of_word(u128::MAX),
+        Gf128::of_word(1 << 63),
+        Gf128::of_word(1 << 64),
+        Gf128::of_word(1 << 127),
+        Gf128::of_word(0x70abb56564410cdb2a260c58c9f32479),
+        Gf128::of_word(0x5b6fda88df1a0bfc76227f918373441),
+    ];
+    let right = [
+        Gf128::of_word(u128::MAX),
+        Gf128::of_word(1 << 63),
+        Gf128::of_word(1 << 127),
+        Gf128::of_word(1 << 127),
+        Gf128::of_word(0xca5555cc16e96216d7cbb3e5daeb0c1e),
+        Gf128::of_word(0xa94a0718df65d7661b9d78ed99839b5a),
+    ];
+    assert_eq!(rt;
+        Gf128::dot(&left, &right).number(),
+        0xa6201e81f22811594a2f68a9bbf77ea2
+    );
 }
