@@ -1,6 +1,9 @@
+pub mod BinaryProducts
 pub mod Blocks
+pub mod EvenProducts
 pub mod Extensions
 pub mod Interpolate
 pub mod Inverses
 pub mod Polynomials
+pub mod ProductLaws
 pub mod Roots

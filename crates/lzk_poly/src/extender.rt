@@ -5,8 +5,10 @@ ghost use Rattle.lzk_field.specs.Sums.{entry};
 ghost use Rattle.lzk_poly.specs.Extension.{IsExtension, IsInterpolated, Reach, extension};
 ghost use Rattle.lzk_poly.specs.Weights.{parts, quotient_sum};
 
+use crate::factors::{inverse_table, inverted_products, running_products};
 use crate::quotients::{by_numbers, by_steps, fill_block, inverse_of};
-use crate::tables::{are_even, inverse_table, passed_products, weights};
+use crate::spacing::Spacing;
+use crate::tables::{passed_products, weights};
 use lzk_field::Field;
 use std::alloc::{AllocError, Global};
 use std::marker::Model;
@@ -49,6 +51,9 @@ impl<F: Field> Model for Extender<F> {
 impl<F: Field> Extender<F> {
     /// An extender of lists of `n` values. Through every list of at most 65,536 values there is exactly
     /// one polynomial with as many coefficients.
+    ///
+    /// Over a prime or a binary field with the usual numbers this takes time and memory linear in `upto`,
+    /// and one inversion.
     pub fn new(alloc: Global, n: u32, upto: u32) -> Result<Extender<F>, AllocError>
         requires some { 1 ≤ n }
         requires order { n ≤ upto }
@@ -56,16 +61,18 @@ impl<F: Field> Extender<F> {
         ensures reach { IfOk result (λ e. e ≡ record { count = n; upto = upto }) }
         ensures one { (values : List F) → length values ≤ 65536 → IsInterpolated F.ops F.element values }
     {
-        // In a binary field the differences' numbers are below the next power of two.
-        let size = if upto <= 32768 { 2 * upto } else { 65536 };
-        let weights = weights(alloc, n)?;
-        let products = passed_products(alloc, n, upto)?;
-        let inverses = inverse_table(alloc, size)?;
+        let spacing = Spacing::of::<F>(upto);
+        let size = spacing.size(upto);
+        let running = running_products(alloc, size)?;
+        let inverted = inverted_products(alloc, size, &running)?;
+        let weights = weights(alloc, n, upto, spacing, &running, &inverted)?;
+        let products = passed_products(alloc, n, upto, spacing, &running, &inverted)?;
+        let inverses = inverse_table(alloc, size, &running, &inverted)?;
         Ok(Extender {
             weights,
             products,
             inverses,
-            even: are_even::<F>(upto),
+            even: spacing.is_even(),
             count: n,
             upto,
         })

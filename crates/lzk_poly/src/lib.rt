@@ -13,9 +13,14 @@
 //! ```
 #![tactic(auto)]
 
+mod binary;
+mod even;
 mod extender;
+mod factors;
+mod other;
 mod polynomial;
 mod quotients;
+mod spacing;
 mod tables;
 
 pub use extender::Extender;

@@ -14,17 +14,29 @@ use std::test::Fail;
 // coefficients are the extension.
 type Row = (u32, u32, u128);
 
-const GOLD_ROWS: [Row; 4] = [
+const GOLD_ROWS: [Row; 10] = [
     (1, 9, 0x32b6_a3fc_9577_b520),
     (2, 9, 0x86f5_18f8_7c70_62c9),
+    (3, 8, 0x9b0e_24a7_eac8_07e2),
+    (5, 5, 0),
+    (5, 16, 0x5d26_4f05_4c0d_3d9b),
+    (64, 128, 0xfa5a_ebee_f2e8_514f),
     (64, 200, 0xfa92_4d5b_7b02_09db),
+    (100, 256, 0x4dc5_b77e_c63b_d27e),
+    (100, 300, 0x9696_7df4_28b4_d171),
     (192, 1151, 0xada1_a421_da4d_58e6),
 ];
 
-const GF_ROWS: [Row; 4] = [
+const GF_ROWS: [Row; 10] = [
     (1, 9, 0x1bbc_dcbf_a53e_0af9_ce60_302e_76e4_3ced),
     (2, 9, 0xa72b_075b_205b_f96e_3903_e4b9_76f3_bcaf),
+    (3, 8, 0x8683_3ada_addf_76e8_5d83_9dea_5491_0205),
+    (5, 5, 0),
+    (5, 16, 0xef74_b37c_7454_338d_a3fe_4b91_cc58_9ceb),
+    (64, 128, 0xb383_6057_4a51_ceb2_bf83_df13_579e_a07d),
     (64, 200, 0x2165_1bed_50f8_c096_8f44_addd_be8a_6d85),
+    (100, 256, 0x860e_c32b_bfdb_4ce2_6176_a928_8ffa_3fa3),
+    (100, 300, 0xf202_4bbd_2924_dcc5_fa66_293c_3743_cf69),
     (192, 1151, 0x83b6_41ca_ecd3_e93d_344e_3baa_2c2a_d8a4),
 ];
 

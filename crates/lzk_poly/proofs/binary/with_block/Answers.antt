@@ -1,0 +1,19 @@
+use Rattle.std.proofs.Common.{◌≡◌, ◌+◌, ap, ◌∙◌}
+use Rattle.std.proofs.lemmas.List.{get_or_default}
+use Rattle.lzk_field.specs.Sums.{entry}
+use Rattle.lzk_poly.proofs.ProductLaws.{product_between}
+use Rattle.lzk_poly.proofs.binary.with_block.Goals as goal
+
+pub returns : goal.returns
+returns g c =
+    let m = g.F.Field in
+    let o = m.ops in
+    let xs = c.args.running.now in
+    let ys = c.args.inverted.now in
+    let base = c.args.base in
+    let size = c.args.size in
+    λ e running inverted.
+    let first : c.index-running-base.result ≡ entry o xs (base + size) = c.index-running-base.is ∙ get_or_default xs (base + size) c.index-running-base.result o.zero c.requires.running in
+    let second : c.index-inverted-base.result ≡ entry o ys base = c.index-inverted-base.is ∙ get_or_default ys base c.index-inverted-base.result o.zero c.requires.inverted in
+    c.mul-2.ensures
+    ∙ ap (o.times c.args.scale) (c.mul.ensures ∙ product_between o m.laws.ring xs ys e base size c.index-running-base.result c.index-inverted-base.result running inverted c.requires.running c.requires.inverted first second)

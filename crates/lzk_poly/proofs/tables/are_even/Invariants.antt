@@ -1,5 +1,0 @@
-use Rattle.std.proofs.Common.{◌≡◌, ℕ, ◌+◌, ◌<◌}
-use Rattle.lzk_poly.proofs.tables.are_even.Given as goal
-
-abbrev pub invariant-loop-k : goal.invariant-loop-k
-invariant-loop-k g l = let m = g.F.Field in (i : ℕ) → i + 1 < l.k → m.element (i + 1) ≡ m.ops.plus (m.element i) m.ops.one
