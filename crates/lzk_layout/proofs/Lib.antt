@@ -1,3 +1,9 @@
+pub mod Faults
+pub mod FieldLaws
 pub mod FileLaws
 pub mod Least
+pub mod Lengths
+pub mod OneProof
+pub mod OpenedLaws
 pub mod SizeLaws
+pub mod WholeFiles

@@ -4,6 +4,7 @@ ghost use Rattle.std.specs.Prelude.{◌≡◌, ◌+◌, ◌*◌, ◌≤◌, ◌+
 ghost use Rattle.std.specs.Int.{w32, to_le_bytes};
 ghost use Rattle.lzk_layout.specs.Sizes.{AreParams, proof_length};
 ghost use Rattle.lzk_layout.specs.Proofs.{flat, element_field, opened_fields, answers_bytes, HasLengths, ProofBytes, AreDigests};
+ghost use Rattle.lzk_layout.specs.Files.{OneFile};
 
 use crate::params::Params;
 use crate::proof::Proof;
@@ -134,7 +135,8 @@ pub fn encode_proof<F: Field>(params: &Params, proof: &Proof<F>, out: &mut [u8])
     requires lengths { HasLengths params.now proof.now }
     requires few { length proof.now.path.digests ≤ 1536 }
     requires room { length out.old ≡ proof_length F.BYTES params.now (length proof.now.path.digests) }
-    ensures { ProofBytes F.BYTES F.number_of params.now proof.now out.new }
+    ensures file { ProofBytes F.BYTES F.number_of params.now proof.now out.new }
+    ensures one_file { OneFile F.BYTES F.number_of params.now }
 {
     let end = put_head(out, proof);
     let end = put_answers(out, end, proof);

@@ -10,18 +10,30 @@
 //! let mut proof = Proof::new(alloc, &params)?;
 //! let mut bytes = vec![in alloc; 0; proof_len::<F>(&params, 0) as usize]?;
 //! encode_proof(&params, &proof, &mut bytes);
+//! if let Err(fault) = decode_proof(&params, &bytes, &mut proof) {
+//!     println!(rt; "{:?} at byte {}", fault.kind, fault.offset)?;
+//! }
 //! ```
 #![tactic(auto)]
 
+mod decoding;
 mod encoding;
+mod fault;
 mod lists;
 mod params;
 mod proof;
+mod reading;
 
+pub use decoding::decode_proof;
 pub use encoding::encode_proof;
+pub use fault::{ProofFault, ProofKind};
 pub use lists::{Blocks, Elements, Path};
 pub use params::{Params, proof_len};
 pub use proof::Proof;
 
 #[cfg(test)]
+mod file_tests;
+#[cfg(test)]
 mod tests;
+#[cfg(test)]
+mod vectors;

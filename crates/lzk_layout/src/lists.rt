@@ -1,6 +1,8 @@
 //! The lists that a proof has.
 
 ghost use Rattle.std.specs.Prelude.{◌≡◌, ◌<◌, ◌≤◌, ◌++◌, [], ◌∷◌, length, replicate, take, IfOk};
+ghost use Rattle.std.specs.Borrow.{sem};
+ghost use Rattle.lzk_layout.specs.Lending.{lends_elements, lends_blocks};
 
 use std::alloc::{AllocError, Global};
 use std::marker::Model;
@@ -40,9 +42,17 @@ impl<F> Elements<F> {
     {
         &self.list
     }
+
+    /// The elements in order, to be written.
+    pub fn as_mut_slice(&mut self) -> &mut [F]
+        ensures* writes_back { sem 𝓛 (lends_elements F.row self.entry result) }
+        ensures value { result.now ≡ self.old }
+    {
+        self.list.as_mut_slice()
+    }
 }
 
-/// A list of digests or nonces.
+/// A list of digests or nonces. It is made from a `Vec` and gives it back, with no memory taken.
 #[derive(Drop)]
 pub struct Blocks {
     pub(crate) list: Vec<[u8; 32]>,
@@ -64,11 +74,26 @@ impl Blocks {
         Blocks { list }
     }
 
+    /// The blocks as they were handed in.
+    pub fn into_vec(self) -> Vec<[u8; 32]>
+        ensures { result.items ≡ self }
+    {
+        self.list
+    }
+
     /// The blocks in order.
     pub fn as_slice(&self) -> &[[u8; 32]]
         ensures { result.now ≡ self.now }
     {
         &self.list
+    }
+
+    /// The blocks in order, to be written.
+    pub fn as_mut_slice(&mut self) -> &mut [[u8; 32]]
+        ensures* writes_back { sem 𝓛 (lends_blocks self.entry result) }
+        ensures value { result.now ≡ self.old }
+    {
+        self.list.as_mut_slice()
     }
 }
 

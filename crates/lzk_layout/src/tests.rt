@@ -3,6 +3,7 @@
 ghost use Rattle.std.specs.Prelude.{◌≡◌, length};
 
 use super::*;
+use crate::vectors::{Facts, GF_FACTS, GOLD_FACTS, Shape};
 use lzk_circuit::{Circuit, Layer, Terms};
 use lzk_field::Field;
 use lzk_gf128::Gf128;
@@ -10,40 +11,11 @@ use lzk_goldilocks::Gold;
 use std::alloc::{AllocError, Global};
 use std::test::Fail;
 
-// x * x = y, with x private and y public.
-const SQUARE: Params = Params {
-    nw: 12,
-    wr: 64,
-    block: 192,
-    dblock: 383,
-    mcol: 768,
-    ncol: 1151,
-    nwrow: 1,
-    ntriple: 1,
-    nrow: 7,
-    nsum: 10,
-    layers: 1,
-};
-
-// 4,046 private inputs, one more than rows of 64 hold.
-const WIDE: Params = Params {
-    nw: 4097,
-    wr: 128,
-    block: 256,
-    dblock: 511,
-    mcol: 1024,
-    ncol: 1535,
-    nwrow: 33,
-    ntriple: 1,
-    nrow: 39,
-    nsum: 50,
-    layers: 1,
-};
-
-// Public and private inputs, the first layers' widths, and how many layers of two wires come after them.
-type Shape<'a> = (u32, u32, &'a [u32], u32);
-
-fn circuit<F: Field>(alloc: Global, shape: Shape<'_>) -> Result<Option<Circuit<F>>, AllocError> {
+// A circuit of this shape.
+pub fn circuit<F: Field>(
+    alloc: Global,
+    shape: Shape<'_>,
+) -> Result<Option<Circuit<F>>, AllocError> {
     let (publics, privates, widths, more) = shape;
     let mut layers = Vec::new(alloc);
     for i in 0..widths.len() {
@@ -61,88 +33,32 @@ fn circuit<F: Field>(alloc: Global, shape: Shape<'_>) -> Result<Option<Circuit<F
     Ok(Circuit::of_layers(publics, privates, layers).ok())
 }
 
-// The parameters, and how long a proof with so many digests is.
-fn laid_out<F: Field>(
-    alloc: Global,
-    shape: Shape<'_>,
-    digests: u32,
-) -> Result<Option<(Params, u64)>, AllocError> {
-    let Some(circuit) = circuit::<F>(alloc, shape)? else {
-        return Ok(None);
-    };
-    let params = Params::of(&circuit);
-    Ok(Some((params, proof_len::<F>(&params, digests))))
+// The parameters in their order.
+fn listed(p: &Params) -> [u32; 11] {
+    [
+        p.nw, p.wr, p.block, p.dblock, p.mcol, p.ncol, p.nwrow, p.ntriple, p.nrow, p.nsum, p.layers,
+    ]
+}
+
+// The first circuit that has other parameters, or a proof of another length.
+fn wrong_facts<F: Field>(alloc: Global, table: &[Facts]) -> Result<Option<usize>, AllocError> {
+    for i in 0..table.len() {
+        let (shape, numbers, digests, bytes) = table[i];
+        let Some(circuit) = circuit::<F>(alloc, shape)? else {
+            return Ok(Some(i));
+        };
+        let params = Params::of(&circuit);
+        if listed(&params) != numbers || proof_len::<F>(&params, digests) != bytes {
+            return Ok(Some(i));
+        }
+    }
+    Ok(None)
 }
 
 #[test]
 fn circuits_have_their_parameters(rt: HostRuntime) -> Result<(), Fail> {
-    let table: [(Shape<'_>, Params, u32, u64); 6] = [
-        ((1, 1, &[1], 0), SQUARE, 239, 26216),
-        (
-            (0, 0, &[1], 0),
-            Params {
-                nw: 3,
-                nsum: 2,
-                ..SQUARE
-            },
-            260,
-            26824,
-        ),
-        (
-            (2, 3, &[2, 5, 5], 0),
-            Params {
-                nw: 48,
-                nsum: 42,
-                layers: 3,
-                ..SQUARE
-            },
-            261,
-            27176,
-        ),
-        (
-            (0, 4045, &[1], 0),
-            Params {
-                nw: 4096,
-                nwrow: 64,
-                nrow: 70,
-                nsum: 50,
-                ..SQUARE
-            },
-            257,
-            91624,
-        ),
-        ((0, 4046, &[1], 0), WIDE, 308, 63560),
-        (
-            (1, 1, &[1], 64),
-            Params {
-                nw: 460,
-                nwrow: 8,
-                ntriple: 2,
-                nrow: 17,
-                nsum: 394,
-                layers: 65,
-                ..SQUARE
-            },
-            258,
-            40136,
-        ),
-    ];
-    for i in 0..table.len() {
-        let (shape, params, digests, bytes) = table[i];
-        assert_eq!(rt;
-            laid_out::<Gold>(rt.alloc(), shape, digests)?,
-            Some((params, bytes))
-        );
-    }
-    Ok(())
-}
-
-#[test]
-fn longer_elements_make_longer_files(rt: HostRuntime) -> Result<(), Fail> {
-    assert_eq!(rt;
-        laid_out::<Gf128>(rt.alloc(), (1, 1, &[1], 0), 259)?,
-        Some((SQUARE, 41256))
-    );
+    assert_eq!(rt; wrong_facts::<Gold>(rt.alloc(), &GOLD_FACTS)?, None);
+    assert_eq!(rt; wrong_facts::<Gf128>(rt.alloc(), &GF_FACTS)?, None);
     Ok(())
 }
 

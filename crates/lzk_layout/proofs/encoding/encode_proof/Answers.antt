@@ -2,10 +2,11 @@ use Rattle.std.proofs.Common.{ℕ, ◌+◌, ◌*◌, ◌++◌, ◌≤◌, length
 use Rattle.std.proofs.lemmas.List.{take_all}
 use Rattle.lzk_layout.specs.Proofs.{flat, element_field, opened_fields}
 use Rattle.lzk_layout.proofs.FileLaws.{file_parts, file_end}
+use Rattle.lzk_layout.proofs.OneProof.{one_file}
 use Rattle.lzk_layout.proofs.encoding.encode_proof.Goals as goal
 
-pub returns : goal.returns
-returns g c =
+pub returns-clause-file : goal.returns-clause-file
+returns-clause-file g c =
     let field = element_field g.F.Field.BYTES g.F.Field.number_of in
     let width = g.F.Field.BYTES in
     let p = c.args.params.now in
@@ -32,3 +33,6 @@ returns g c =
       are = sym (take_all path.result path.new.out reach) ∙ file_parts field p.nrow proof (take head.result head.new.out) (take answers.result answers.new.out) (take opened.result opened.new.out) (take path.result path.new.out)
           head.ensures.front answers.ensures.front columns path.ensures.front;
     }
+
+pub returns-clause-one_file : goal.returns-clause-one_file
+returns-clause-one_file g c = one_file g.F.Field.BYTES g.F.Field.number_of c.args.params.now

@@ -1,0 +1,30 @@
+//! Why bytes are no proof's file.
+
+/// The check that failed.
+#[derive(Clone, Copy, Debug, PartialEq, Eq)]
+pub enum ProofKind {
+    /// The bytes end before a field does.
+    Truncated,
+    /// The file does not begin with `LZP1`.
+    Magic,
+    /// The number of an element is not below the field's size.
+    Element,
+    /// The number of digests is above 1,536.
+    PathLimit,
+    /// Bytes are left behind the last digest.
+    Trailing,
+}
+
+/// The first check that failed, and the offset in bytes of the first byte of its field.
+#[derive(Clone, Copy, Debug, PartialEq, Eq)]
+pub struct ProofFault {
+    pub offset: u64,
+    pub kind: ProofKind,
+}
+
+/// The first check that failed, with how many bytes are left from its field on.
+#[derive(Clone, Copy, Debug, PartialEq, Eq)]
+pub struct Stop {
+    pub left: usize,
+    pub kind: ProofKind,
+}
