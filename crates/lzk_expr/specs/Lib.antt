@@ -1,4 +1,17 @@
 pub mod Texts
 pub mod Numbers
 pub mod Readings
+pub mod Tokens
+pub mod Grammar
+pub mod Trees
+pub mod Sources
+pub mod View
+pub mod Table
+pub mod TokenReadings
+pub mod Meanings
+pub mod Halves
+pub mod SourceValues
+pub mod Printing
+pub mod NameLists
+pub mod Readers
 pub use Rattle.lzk_field.specs

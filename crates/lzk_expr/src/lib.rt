@@ -1,22 +1,57 @@
-//! Number files.
+//! Source texts and number files.
+//!
+//! A source names a field, declares public and private inputs and let names, and asserts equations of
+//! expressions over them, as the profile in docs/FORMATS.md says. `parse` takes exactly the texts of its
+//! grammar, and names the first line that breaks a rule and the first rule that it breaks; `print` writes a
+//! text that reads as the same source; `values` gives left minus right for each assert. A caller writes
+//!
+//! ```text
+//! let source = parse(alloc, text)?;
+//! let values: Vec<Gold> = source.values(alloc, &public, &private)?;
+//! let text = print(alloc, &source)?;
+//! ```
 //!
 //! A number file is a list of numbers in decimal or hexadecimal digits, parted by blanks and line feeds,
-//! with comments from `#` to the end of a line, as the profile in docs/FORMATS.md says. A caller writes
+//! with comments from `#` to the end of a line:
 //!
 //! ```text
 //! let values: Vec<Gold> = read_numbers(alloc, text, count)?;
 //! ```
 #![tactic(auto)]
 
+mod ast;
 mod digits;
+mod evaluate;
 mod fault;
+mod half;
+mod names;
 mod numbers;
+mod parsing;
+mod printing;
+mod reader;
+mod reads;
+mod rules;
+mod source;
+mod source_fault;
+mod sums;
+mod tokens;
 mod words;
 
+pub use ast::{Expr, FieldId, Name, Part, Statement};
 pub use fault::{NumberError, NumberFault, NumberKind};
 pub use numbers::read_numbers;
+pub use parsing::parse;
+pub use printing::print;
+pub use source::Source;
+pub use source_fault::{SourceError, SourceFault, SourceKind};
 
 #[cfg(test)]
+mod source_tests;
+#[cfg(test)]
+mod source_vectors;
+#[cfg(test)]
 mod tests;
+#[cfg(test)]
+mod value_vectors;
 #[cfg(test)]
 mod vectors;

@@ -4,7 +4,7 @@ ghost use Rattle.std.specs.Prelude.{◌≡◌, ◌<◌, ◌≤◌, [], ◌∷◌
 ghost use Rattle.std.specs.List.{slice_split, prefix_len, position_or_len};
 ghost use Rattle.lzk_expr.specs.Texts.{lines, content, runs, is_plain, is_blank, is_feed, is_hash, IsRun, IsLine};
 
-fn is_blank(b: u8) -> bool
+pub fn is_blank(b: u8) -> bool
     ensures { result ≡ is_blank b }
 {
     b == b' ' || b == b'\t' || b == b'\r'
@@ -23,7 +23,7 @@ fn feed_at(line: &[u8]) -> Option<usize>
 }
 
 // Where the first byte stands that is no blank.
-fn word_at(bytes: &[u8]) -> Option<usize>
+pub fn word_at(bytes: &[u8]) -> Option<usize>
     ensures { result ≡ position is_plain bytes.now }
 {
     bytes.iter().position(|b| !is_blank(*b))

@@ -1,0 +1,82 @@
+//! Fields, names, expressions and statements.
+
+use std::alloc::{AllocError, Global};
+use std::marker::Model;
+
+/// The field of a source: the prime field of 2^64 - 2^32 + 1 elements, or the one of 2^128.
+#[derive(Clone, Copy, Debug, PartialEq, Eq)]
+pub enum FieldId {
+    Goldilocks,
+    Gf2_128,
+}
+
+/// A name of a source: 1 to 32 letters, digits and `_`.
+#[derive(Drop)]
+pub struct Name {
+    bytes: Vec<u8>,
+}
+
+impl Model for Name {
+    ghost use Rattle.std.specs.Prelude.{List, ℕ, ◌≤◌, length};
+
+    ghost Value = { List ℕ };
+
+    ghost view = { λ n. n.bytes.items };
+
+    ghost invariant = { λ n. (1 ≤ length n.bytes.items) × (length n.bytes.items ≤ 32) };
+}
+
+impl Name {
+    ghost use Rattle.std.specs.Prelude.{◌≡◌, ◌≤◌, length, IfOk};
+
+    // The name with these bytes.
+    pub(crate) fn new(alloc: Global, bytes: &[u8]) -> Result<Name, AllocError>
+        requires some { 1 ≤ length bytes.now }
+        requires few { length bytes.now ≤ 32 }
+        ensures { IfOk result (λ n. n ≡ bytes.now) }
+    {
+        Ok(Name {
+            bytes: Vec::from_slice(alloc, bytes)?,
+        })
+    }
+
+    /// The name's bytes.
+    pub fn text(&self) -> &[u8]
+        ensures text { result.now ≡ self.now }
+        ensures some { 1 ≤ length self.now }
+        ensures few { length self.now ≤ 32 }
+    {
+        &self.bytes
+    }
+}
+
+/// An expression: a number, an input or the value of a let name by its index, or a negative, a sum or
+/// a product.
+#[cycle(ast)]
+#[derive(Drop)]
+pub enum Expr {
+    Number(u128),
+    Public(u32),
+    Private(u32),
+    Named(u32),
+    Neg(Box<Expr>),
+    Sum(Vec<Part>),
+    Product(Vec<Expr>),
+}
+
+/// A part of a sum; with `minus` it is subtracted.
+#[cycle(ast)]
+#[derive(Drop)]
+pub struct Part {
+    pub minus: bool,
+    pub expr: Expr,
+}
+
+/// A statement: a public or a private input, a let name with its expression, or an equation.
+#[derive(Drop)]
+pub enum Statement {
+    Public(Name),
+    Private(Name),
+    Let(Name, Expr),
+    Assert(Expr, Expr),
+}

@@ -1,0 +1,47 @@
+//! The names that were declared.
+
+ghost use Rattle.std.specs.Prelude.{◌≡◌, None, Some, OnOk, bytes_eq};
+ghost use Rattle.std.specs.Map.{update};
+ghost use Rattle.lzk_expr.specs.Table.{found};
+
+use std::alloc::{AllocError, Global};
+use std::collections::BTreeMap;
+
+// What a name stands for, by its number.
+#[derive(Clone, Copy)]
+pub enum Binding {
+    Public(u32),
+    Private(u32),
+    Named(u32),
+}
+
+#[derive(Drop)]
+pub struct Names<'a> {
+    pub table: BTreeMap<&'a [u8], Binding>,
+}
+
+impl<'a> Names<'a> {
+    pub fn new(alloc: Global) -> Names<'a>
+        ensures { (w : _) → found result.table w ≡ None }
+    {
+        Names {
+            table: BTreeMap::new(alloc),
+        }
+    }
+
+    pub fn find(&self, name: &[u8]) -> Option<Binding>
+        ensures { result ≡ found self.now.table name.now }
+    {
+        match self.table.get(name) {
+            Some(binding) => Some(*binding),
+            None => None,
+        }
+    }
+
+    pub fn declare(&mut self, name: &'a [u8], binding: Binding) -> Result<(), AllocError>
+        ensures { OnOk result ((w : _) → found self.new.table w ≡ update bytes_eq (found self.old.table) name.now (Some binding) w) }
+    {
+        self.table.insert(name, binding)?;
+        Ok(())
+    }
+}
