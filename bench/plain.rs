@@ -43,11 +43,19 @@ fn dot(left: &[u64], right: &[u64]) -> u64 {
 
 const SEED: u128 = 0x0123_4567_89ab_cdef_fedc_ba98_7654_3210;
 
-fn gold_mul(times: u32) -> u128 {
+// The powers of a number from the first on.
+fn gold_powers() -> Vec<u64> {
     let x = (SEED % P as u128) as u64;
-    let mut total = x;
+    std::iter::successors(Some(x), |power| Some(mul(*power, x))).take(1024).collect()
+}
+
+fn gold_mul(times: u32) -> u128 {
+    let list = gold_powers();
+    let mut total = (SEED % P as u128) as u64;
     for _ in 0..times {
-        total = mul(total, x);
+        for entry in &list {
+            total = mul(total, *entry);
+        }
     }
     total as u128
 }
@@ -77,34 +85,65 @@ fn gold_dot(times: u32) -> u128 {
     total as u128
 }
 
-// Products with a table of sixteen multiples, four bits a step, in two halves that are folded once each.
-fn times_x(a: u128) -> u128 {
-    (a << 1) ^ ((a >> 127) * 135)
+// A product of halves in two words, with a table of sixteen multiples that are cut to 64 bits, four bits a step. What the
+// cut loses, of the three highest bits of a, is added at the end.
+#[inline(always)]
+fn gf_half(a: u64, b: u64) -> [u64; 2] {
+    let a2 = a << 1;
+    let a3 = a ^ a2;
+    let a4 = a2 << 1;
+    let a5 = a ^ a4;
+    let a6 = a3 << 1;
+    let a7 = a ^ a6;
+    let (a8, a10, a12, a14) = (a4 << 1, a5 << 1, a6 << 1, a7 << 1);
+    let table = [0, a, a2, a3, a4, a5, a6, a7, a8, a ^ a8, a10, a ^ a10, a12, a ^ a12, a14, a ^ a14];
+    let (mut low, mut high) = (0u64, 0u64);
+    for i in (0..16).rev() {
+        high = (high << 4) ^ (low >> 60);
+        low = (low << 4) ^ table[(b >> (4 * i)) as usize % 16];
+    }
+    let lowest = 0x1111_1111_1111_1111;
+    let lost = ((a >> 63) * ((b >> 1) & lowest)) ^ ((a >> 62) * ((b >> 2) & lowest)) ^ ((a >> 61) * ((b >> 3) & lowest));
+    [low, high ^ lost]
+}
+
+// Three products of halves in place of four, which add up before they are reduced.
+#[inline(always)]
+fn gf_parts(a: u128, b: u128) -> [[u64; 2]; 3] {
+    let (a0, a1) = (a as u64, (a >> 64) as u64);
+    let (b0, b1) = (b as u64, (b >> 64) as u64);
+    let low = gf_half(a0, b0);
+    let high = gf_half(a1, b1);
+    [low, gf_half(a0 ^ a1, b0 ^ b1), high]
 }
 
 fn folded(top: u128) -> u128 {
     top ^ (top << 1) ^ (top << 2) ^ (top << 7)
 }
 
-fn gf_half(table: &[u128; 16], b: u64) -> u128 {
-    let (mut total, mut over) = (0u128, 0u64);
-    for i in (0..16).rev() {
-        over = (over << 4) ^ (total >> 124) as u64;
-        total = (total << 4) ^ table[(b >> (4 * i)) as usize % 16];
-    }
-    total ^ folded(over as u128)
+#[inline(always)]
+fn gf_reduced(parts: [[u64; 2]; 3]) -> u128 {
+    let [low, both, high] = parts.map(|[low, high]| (high as u128) << 64 | low as u128);
+    let cross = both ^ low ^ high;
+    let high = high ^ (cross >> 64);
+    low ^ (cross << 64) ^ folded(high ^ (high >> 121) ^ (high >> 126) ^ (high >> 127))
 }
 
 fn gf_product(a: u128, b: u128) -> u128 {
-    let (a2, a4) = (times_x(a), times_x(times_x(a)));
-    let a8 = times_x(a4);
-    let (a3, a12) = (a ^ a2, a4 ^ a8);
-    let table = [
-        0, a, a2, a3, a4, a ^ a4, a2 ^ a4, a3 ^ a4, a8, a ^ a8, a2 ^ a8, a3 ^ a8, a12, a ^ a12, a2 ^ a12, a3 ^ a12,
-    ];
-    let low = gf_half(&table, b as u64);
-    let high = gf_half(&table, (b >> 64) as u64);
-    low ^ (high << 64) ^ folded(high >> 64)
+    gf_reduced(gf_parts(a, b))
+}
+
+fn gf_sum_of_products(left: &[u128], right: &[u128]) -> u128 {
+    let mut total = [[0; 2]; 3];
+    for (a, b) in left.iter().zip(right) {
+        let parts = gf_parts(*a, *b);
+        for i in 0..3 {
+            for j in 0..2 {
+                total[i][j] ^= parts[i][j];
+            }
+        }
+    }
+    gf_reduced(total)
 }
 
 // The bits of a half, each followed by a zero.
@@ -150,10 +189,17 @@ fn gf_inverse(a: u128) -> u128 {
     gf_squared(meet(p126, 1, a))
 }
 
+fn gf_powers() -> Vec<u128> {
+    std::iter::successors(Some(SEED), |power| Some(gf_product(*power, SEED))).take(1024).collect()
+}
+
 fn gf_mul(times: u32) -> u128 {
+    let list = gf_powers();
     let mut total = SEED;
     for _ in 0..times {
-        total = gf_product(total, SEED);
+        for entry in &list {
+            total = gf_product(total, *entry);
+        }
     }
     total
 }
@@ -386,43 +432,227 @@ fn read(text: &[u8], count: usize) -> Option<Vec<u64>> {
 }
 
 fn numbers(times: u32) -> u128 {
-    let text = b"18446744069414584320\n".repeat(100_000);
+    let text = b"18446744069414584320\n".repeat(199_728);
     let mut total = 0;
     for _ in 0..times {
-        for x in read(std::hint::black_box(&text), 100_000).unwrap_or_default() {
+        for x in read(std::hint::black_box(&text), 199_728).unwrap_or_default() {
             total = add(total, x);
         }
     }
     total as u128
 }
 
-// Products, inverses and sums of products that do not wait for each other.
-fn gold_many(times: u32) -> u128 {
-    let x = (SEED % P as u128) as u64;
-    let mut list = vec![];
-    let mut power = x;
-    for _ in 0..1024 {
-        list.push(power);
-        power = mul(power, x);
+// An expression of a source: an input or a let name by its number. The trees are built and dropped alone.
+#[allow(dead_code)]
+enum Expr {
+    Number(u128),
+    Public(u32),
+    Private(u32),
+    Named(u32),
+    Neg(Box<Expr>),
+    Sum(Vec<(bool, Expr)>),
+    Product(Vec<Expr>),
+}
+
+#[derive(Clone, Copy)]
+enum Binding {
+    Public(u32),
+    Private(u32),
+    Named(u32),
+}
+
+#[derive(Clone, Copy, PartialEq)]
+enum Token<'a> {
+    Word(&'a [u8]),
+    Sign(u8),
+}
+
+#[allow(dead_code)]
+enum Statement {
+    Public(Vec<u8>),
+    Private(Vec<u8>),
+    Let(Vec<u8>, Expr),
+    Assert(Expr, Expr),
+}
+
+// The tokens of a line, where each byte is a blank or of one.
+fn tokens<'a>(line: &'a [u8], out: &mut Vec<Token<'a>>) -> Option<()> {
+    out.clear();
+    let mut i = 0;
+    while i < line.len() {
+        let b = line[i];
+        if b.is_ascii_alphanumeric() || b == b'_' {
+            let start = i;
+            while i < line.len() && (line[i].is_ascii_alphanumeric() || line[i] == b'_') {
+                i += 1;
+            }
+            out.push(Token::Word(&line[start..i]));
+            continue;
+        }
+        if b"+-*()=".contains(&b) {
+            out.push(Token::Sign(b));
+        } else if !b" \t\r".contains(&b) {
+            return None;
+        }
+        i += 1;
     }
+    Some(())
+}
+
+fn number(word: &[u8]) -> Option<u128> {
+    let (base, digits) = match word {
+        [b'0', b'x', rest @ ..] if !rest.is_empty() => (16, rest),
+        _ => (10, word),
+    };
+    digits.iter().try_fold(0u128, |n, d| n.checked_mul(base as u128)?.checked_add((*d as char).to_digit(base)? as u128))
+}
+
+struct Parser<'a, 'b> {
+    tokens: &'b [Token<'a>],
+    at: usize,
+    names: &'b std::collections::BTreeMap<&'a [u8], Binding>,
+}
+
+impl Parser<'_, '_> {
+    fn takes(&mut self, sign: u8) -> bool {
+        let there = self.tokens.get(self.at) == Some(&Token::Sign(sign));
+        self.at += there as usize;
+        there
+    }
+
+    fn sum(&mut self) -> Option<Expr> {
+        let mut parts = vec![(false, self.product()?)];
+        loop {
+            let minus = self.takes(b'-');
+            if !minus && !self.takes(b'+') {
+                break;
+            }
+            parts.push((minus, self.product()?));
+        }
+        if parts.len() == 1 { Some(parts.pop()?.1) } else { Some(Expr::Sum(parts)) }
+    }
+
+    fn product(&mut self) -> Option<Expr> {
+        let mut factors = vec![self.factor()?];
+        while self.takes(b'*') {
+            factors.push(self.factor()?);
+        }
+        if factors.len() == 1 { factors.pop() } else { Some(Expr::Product(factors)) }
+    }
+
+    fn factor(&mut self) -> Option<Expr> {
+        if self.takes(b'-') { Some(Expr::Neg(Box::new(self.atom()?))) } else { self.atom() }
+    }
+
+    fn atom(&mut self) -> Option<Expr> {
+        if self.takes(b'(') {
+            let inner = self.sum()?;
+            return self.takes(b')').then_some(inner);
+        }
+        let Some(Token::Word(word)) = self.tokens.get(self.at) else { return None };
+        self.at += 1;
+        if word[0].is_ascii_digit() {
+            return number(word).filter(|n| *n < P as u128).map(Expr::Number);
+        }
+        Some(match self.names.get(word)? {
+            Binding::Public(i) => Expr::Public(*i),
+            Binding::Private(i) => Expr::Private(*i),
+            Binding::Named(i) => Expr::Named(*i),
+        })
+    }
+}
+
+fn parse_source(text: &[u8]) -> Option<Vec<Statement>> {
+    let mut names = std::collections::BTreeMap::new();
+    let (mut statements, mut found) = (vec![], vec![]);
+    let (mut field, mut publics, mut privates, mut lets) = (false, 0, 0, 0);
+    for line in text.split(|b| *b == b'\n') {
+        tokens(line.split(|b| *b == b'#').next()?, &mut found)?;
+        let Some(Token::Word(key)) = found.first() else { continue };
+        let mut open = 0;
+        for token in &found {
+            match token {
+                Token::Word(word) if word.len() > 32 && !word[0].is_ascii_digit() => return None,
+                Token::Sign(b'(') => open += 1,
+                Token::Sign(b')') => open = (open - 1).max(0),
+                _ => {}
+            }
+            if open > 64 {
+                return None;
+            }
+        }
+        let mut parser = Parser { tokens: &found, at: 1, names: &names };
+        match *key {
+            b"field" => field = found.len() == 2 && found[1] == Token::Word(b"goldilocks"),
+            b"public" | b"private" if field => {
+                let public = *key == b"public";
+                for token in &found[1..] {
+                    let Token::Word(name) = token else { return None };
+                    let (binding, statement) = if public {
+                        publics += 1;
+                        (Binding::Public(publics - 1), Statement::Public(name.to_vec()))
+                    } else {
+                        privates += 1;
+                        (Binding::Private(privates - 1), Statement::Private(name.to_vec()))
+                    };
+                    if names.insert(*name, binding).is_some() {
+                        return None;
+                    }
+                    statements.push(statement);
+                }
+            }
+            b"let" if field => {
+                let Some(Token::Word(name)) = found.get(1) else { return None };
+                parser.at = 2;
+                let expr = parser.takes(b'=').then(|| parser.sum())??;
+                if parser.at != found.len() || names.insert(*name, Binding::Named(lets)).is_some() {
+                    return None;
+                }
+                lets += 1;
+                statements.push(Statement::Let(name.to_vec(), expr));
+            }
+            b"assert" if field => {
+                let left = parser.sum()?;
+                let right = parser.takes(b'=').then(|| parser.sum())??;
+                if parser.at != found.len() {
+                    return None;
+                }
+                statements.push(Statement::Assert(left, right));
+            }
+            _ => return None,
+        }
+    }
+    field.then_some(statements)
+}
+
+fn source(times: u32) -> u128 {
+    let mut text = b"field goldilocks\npublic y\nprivate x\n".to_vec();
+    text.extend(b"assert x * (x + 18446744069414584320) - 7 * y = x * x - 7 * -y\n".repeat(66_575));
+    let mut total = 0;
     for _ in 0..times {
-        for entry in list.iter_mut() {
-            *entry = mul(*entry, x);
+        total += std::hint::black_box(parse_source(std::hint::black_box(&text))).unwrap_or_default().len() as u128;
+    }
+    total
+}
+
+// Products that do not wait for each other.
+fn gold_many(times: u32) -> u128 {
+    let factors = gold_powers();
+    let mut list = gold_powers();
+    for _ in 0..times {
+        for (entry, factor) in list.iter_mut().zip(&factors) {
+            *entry = mul(*entry, *factor);
         }
     }
     list.iter().fold(0, |total, x| add(total, *x)) as u128
 }
 
 fn gf_many(times: u32) -> u128 {
-    let mut list = vec![];
-    let mut power = SEED;
-    for _ in 0..1024 {
-        list.push(power);
-        power = gf_product(power, SEED);
-    }
+    let factors = gf_powers();
+    let mut list = gf_powers();
     for _ in 0..times {
-        for entry in list.iter_mut() {
-            *entry = gf_product(*entry, SEED);
+        for (entry, factor) in list.iter_mut().zip(&factors) {
+            *entry = gf_product(*entry, *factor);
         }
     }
     list.iter().fold(0, |total, x| total ^ x)
@@ -439,9 +669,7 @@ fn gf_dot(times: u32) -> u128 {
     let mut total = 0;
     for _ in 0..times {
         left[0] = total;
-        for i in 0..left.len() {
-            total ^= gf_product(left[i], right[i]);
-        }
+        total ^= gf_sum_of_products(&left, &right);
     }
     total
 }
@@ -680,22 +908,81 @@ fn trees(times: u32) -> u128 {
     u128::from_le_bytes(nodes[1][..16].try_into().unwrap())
 }
 
-// Rows of n values, extended to 6n - 1 points by weights and a table of inverses.
+// Rows of n values, extended to 6n - 1 points by weights and a table of inverses. Products of differences of points
+// are quotients of running products of the elements: each is one over a range in the prime field, and one over each of
+// a few aligned blocks in the binary field. One inversion serves all.
 struct Rows<T> {
     inverses: Vec<T>,
     weights: Vec<T>,
     passed: Vec<T>,
 }
 
+// Entry k is the product of the elements from 1 to below k, and then its inverse.
+fn running<T: Copy>(size: usize, one: T, times: impl Fn(T, usize) -> T, inverse: impl Fn(T) -> T) -> (Vec<T>, Vec<T>) {
+    let mut products = vec![one; size + 1];
+    for k in 1..size {
+        products[k + 1] = times(products[k], k);
+    }
+    let mut inverted = vec![inverse(products[size]); size + 1];
+    for k in (1..size).rev() {
+        inverted[k] = times(inverted[k + 1], k);
+    }
+    inverted[0] = one;
+    (products, inverted)
+}
+
+fn gold_rows(n: usize) -> Rows<u64> {
+    let upto = 6 * n - 1;
+    let (products, inverted) = running(upto, 1, |a, k| mul(a, k as u64), inverse);
+    let weight = |i: usize| {
+        let w = mul(inverted[i + 1], inverted[n - i]);
+        if (n - 1 - i) % 2 == 0 { w } else { P - w }
+    };
+    Rows {
+        inverses: (0..upto).map(|d| mul(products[d], inverted[d + 1])).collect(),
+        weights: (0..n).map(weight).collect(),
+        passed: (n..upto).map(|j| mul(products[j + 1], inverted[j + 1 - n])).collect(),
+    }
+}
+
+fn gf_fill(running: &[u128], inverted: &[u128], base: usize, count: usize, scale: u128, out: &mut [u128]) {
+    let size = out.len();
+    let block = |base: usize, size: usize| gf_product(scale, gf_product(running[base + size], inverted[base]));
+    if count == 0 {
+        return out.fill(scale);
+    }
+    if count == size {
+        return out.fill(block(base, size));
+    }
+    let half = size / 2;
+    let (low, high) = out.split_at_mut(half);
+    if count <= half {
+        gf_fill(running, inverted, base, count, scale, low);
+        gf_fill(running, inverted, base + half, count, scale, high);
+    } else {
+        gf_fill(running, inverted, base + half, count - half, block(base, half), low);
+        gf_fill(running, inverted, base, count - half, block(base + half, half), high);
+    }
+}
+
+fn gf_rows(n: usize) -> Rows<u128> {
+    let upto = 6 * n - 1;
+    let size = upto.next_power_of_two();
+    let (products, inverted) = running(size, 1, |a, k| gf_product(a, k as u128), gf_inverse);
+    let mut weights = vec![0; size];
+    gf_fill(&inverted, &products, 0, n, 1, &mut weights);
+    let mut passed = vec![0; size];
+    gf_fill(&products, &inverted, 0, n, 1, &mut passed);
+    Rows {
+        inverses: (0..size).map(|d| gf_product(products[d], inverted[d + 1])).collect(),
+        weights: weights[..n].to_vec(),
+        passed: passed[n..upto].to_vec(),
+    }
+}
+
 fn gold_extend(times: u32, n: usize) -> u128 {
     let upto = 6 * n - 1;
-    let minus = |a: u64, b: u64| add(a, P - b);
-    let product = |at: usize| (0..n).filter(|k| *k != at).fold(1, |m, k| mul(m, minus(at as u64, k as u64)));
-    let rows = Rows {
-        inverses: (0..upto as u64).map(|d| if d == 0 { 0 } else { inverse(d) }).collect(),
-        weights: (0..n).map(|i| inverse(product(i))).collect(),
-        passed: (n..upto).map(product).collect(),
-    };
+    let rows = gold_rows(n);
     let mut values: Vec<u64> = (0..n as u64).map(|i| (i + 1) * 0x1_0000_0001).collect();
     let mut block = vec![0; n];
     let mut out = vec![0; upto - n];
@@ -713,12 +1000,7 @@ fn gold_extend(times: u32, n: usize) -> u128 {
 
 fn gf_extend(times: u32, n: usize) -> u128 {
     let upto = 6 * n - 1;
-    let product = |at: usize| (0..n).filter(|k| *k != at).fold(1, |m, k| gf_product(m, (at ^ k) as u128));
-    let rows = Rows {
-        inverses: (0..upto.next_power_of_two() as u128).map(gf_inverse).collect(),
-        weights: (0..n).map(|i| gf_inverse(product(i))).collect(),
-        passed: (n..upto).map(product).collect(),
-    };
+    let rows = gf_rows(n);
     let mut values: Vec<u128> = (0..n as u128).map(|i| (i + 1) * 0x1_0000_0001).collect();
     let mut block = vec![0; n];
     let mut out = vec![0; upto - n];
@@ -738,6 +1020,187 @@ fn gf_extend(times: u32, n: usize) -> u128 {
     if times == 0 { 0 } else { values[0] }
 }
 
+fn gold_extenders(times: u32, n: usize) -> u128 {
+    let last = 6 * n - 2;
+    let mut values: Vec<u64> = (0..n as u64).map(|i| (i + 1) * 0x1_0000_0001).collect();
+    for _ in 0..times {
+        let rows = gold_rows(n);
+        let total = (0..n).fold(0, |t, i| add(t, mul(mul(values[i], rows.weights[i]), rows.inverses[last - i])));
+        values[0] = mul(total, rows.passed[last - n]);
+    }
+    if times == 0 { 0 } else { values[0] as u128 }
+}
+
+fn gf_extenders(times: u32, n: usize) -> u128 {
+    let last = 6 * n - 2;
+    let mut values: Vec<u128> = (0..n as u128).map(|i| (i + 1) * 0x1_0000_0001).collect();
+    for _ in 0..times {
+        let rows = gf_rows(n);
+        let total = (0..n).fold(0, |t, i| t ^ gf_product(gf_product(values[i], rows.weights[i]), rows.inverses[last ^ i]));
+        values[0] = gf_product(total, rows.passed[last - n]);
+    }
+    if times == 0 { 0 } else { values[0] }
+}
+
+// A proof over Goldilocks.
+struct Proof {
+    id: [u8; 32],
+    root: [u8; 32],
+    lists: [Vec<u64>; 5],
+    nonces: Vec<[u8; 32]>,
+    columns: Vec<u64>,
+    path: Vec<[u8; 32]>,
+}
+
+enum Kind {
+    Truncated,
+    Magic,
+    Element,
+    PathLimit,
+    Trailing,
+}
+
+struct Fault {
+    offset: usize,
+    kind: Kind,
+}
+
+fn read_elements(out: &mut [u64], bytes: &[u8], at: &mut usize) -> Result<(), Fault> {
+    for x in out {
+        let Some(field) = bytes.get(*at..*at + 8) else {
+            return Err(Fault { offset: *at, kind: Kind::Truncated });
+        };
+        let n = u64::from_le_bytes(field.try_into().unwrap());
+        if n >= P {
+            return Err(Fault { offset: *at, kind: Kind::Element });
+        }
+        *x = n;
+        *at += 8;
+    }
+    Ok(())
+}
+
+fn read_block(bytes: &[u8], at: &mut usize) -> Result<[u8; 32], Fault> {
+    let Some(field) = bytes.get(*at..*at + 32) else {
+        return Err(Fault { offset: *at, kind: Kind::Truncated });
+    };
+    *at += 32;
+    Ok(field.try_into().unwrap())
+}
+
+fn read_word(bytes: &[u8], at: usize) -> Result<[u8; 4], Fault> {
+    match bytes.get(at..at + 4) {
+        Some(field) => Ok(field.try_into().unwrap()),
+        None => Err(Fault { offset: at, kind: Kind::Truncated }),
+    }
+}
+
+fn read_proof(rows: usize, bytes: &[u8], proof: &mut Proof) -> Result<(), Fault> {
+    if &read_word(bytes, 0)? != b"LZP1" {
+        return Err(Fault { offset: 0, kind: Kind::Magic });
+    }
+    let mut at = 4;
+    proof.id = read_block(bytes, &mut at)?;
+    proof.root = read_block(bytes, &mut at)?;
+    for list in &mut proof.lists {
+        read_elements(list, bytes, &mut at)?;
+    }
+    for (nonce, column) in proof.nonces.iter_mut().zip(proof.columns.chunks_mut(rows)) {
+        *nonce = read_block(bytes, &mut at)?;
+        read_elements(column, bytes, &mut at)?;
+    }
+    let count = u32::from_le_bytes(read_word(bytes, at)?);
+    if count > 1536 {
+        return Err(Fault { offset: at, kind: Kind::PathLimit });
+    }
+    at += 4;
+    proof.path.clear();
+    for _ in 0..count {
+        proof.path.push(read_block(bytes, &mut at)?);
+    }
+    if at < bytes.len() {
+        return Err(Fault { offset: at, kind: Kind::Trailing });
+    }
+    Ok(())
+}
+
+fn put(out: &mut [u8], at: &mut usize, bytes: &[u8]) {
+    out[*at..*at + bytes.len()].copy_from_slice(bytes);
+    *at += bytes.len();
+}
+
+fn write_proof(rows: usize, proof: &Proof, out: &mut [u8]) {
+    let at = &mut 0;
+    put(out, at, b"LZP1");
+    put(out, at, &proof.id);
+    put(out, at, &proof.root);
+    for list in &proof.lists {
+        for x in list {
+            put(out, at, &x.to_le_bytes());
+        }
+    }
+    for (nonce, column) in proof.nonces.iter().zip(proof.columns.chunks(rows)) {
+        put(out, at, nonce);
+        for x in column {
+            put(out, at, &x.to_le_bytes());
+        }
+    }
+    put(out, at, &(proof.path.len() as u32).to_le_bytes());
+    for digest in &proof.path {
+        put(out, at, digest);
+    }
+}
+
+// The parameters of a circuit of one wire over 65,536 private inputs.
+const ROWS: usize = 3 + 129 + 3;
+
+fn large_proof() -> (Proof, Vec<u8>) {
+    let list = |count: usize, seed: u64| {
+        let mut word = seed;
+        (0..count)
+            .map(|_| {
+                word = word.wrapping_mul(6364136223846793005).wrapping_add(1442695040888963407);
+                word % P
+            })
+            .collect::<Vec<u64>>()
+    };
+    let proof = Proof {
+        id: [0; 32],
+        root: [0; 32],
+        lists: [list(70, 1), list(640, 2), list(1279, 3), list(128, 4), list(639, 5)],
+        nonces: vec![[0; 32]; 128],
+        columns: list(128 * ROWS, 6),
+        path: (0..1000).map(|k| [k as u8; 32]).collect(),
+    };
+    let mut bytes = vec![0; 72 + 8 * (70 + 640 + 1279 + 128 + 639) + 128 * (32 + 8 * ROWS) + 32 * 1000];
+    write_proof(ROWS, &proof, &mut bytes);
+    (proof, bytes)
+}
+
+fn proofs_read(times: u32) -> u128 {
+    let (mut proof, mut bytes) = large_proof();
+    let mut total = 0;
+    for k in 0..times {
+        bytes[4] = k as u8;
+        match read_proof(ROWS, &bytes, &mut proof) {
+            Ok(()) => total += 1 + proof.id[0] as u128,
+            Err(fault) => println!("{} at {}", fault.kind as u8, fault.offset),
+        }
+    }
+    total + bytes.len() as u128
+}
+
+fn proofs_written(times: u32) -> u128 {
+    let (mut proof, mut bytes) = large_proof();
+    let mut total = 0;
+    for k in 0..times {
+        proof.id[0] = k as u8;
+        write_proof(ROWS, &proof, &mut bytes);
+        total += 1 + bytes[bytes.len() - 1] as u128;
+    }
+    total + bytes.len() as u128
+}
+
 fn main() {
     let words: Vec<String> = std::env::args().collect();
     let times = words[2].parse().unwrap_or(0);
@@ -752,6 +1215,8 @@ fn main() {
         "absorb" => absorb(times),
         "gold-extend-192" => gold_extend(times, 192),
         "gold-extend-640" => gold_extend(times, 640),
+        "gold-extender" => gold_extenders(times, 640),
+        "gf-extender" => gf_extenders(times, 640),
         "gf-extend-192" => gf_extend(times, 192),
         "gf-extend-640" => gf_extend(times, 640),
         "leaf-7" => leaves(times, 7),
@@ -767,6 +1232,9 @@ fn main() {
         "decode" => decoded(times),
         "encode" => encoded(times),
         "numbers" => numbers(times),
+        "proof-read" => proofs_read(times),
+        "proof-write" => proofs_written(times),
+        "source" => source(times),
         _ => return println!("no such work"),
     };
     println!("{work} {times}: {sum}");

@@ -4,25 +4,27 @@
 mod blocks;
 mod circuits;
 mod elements;
+mod proofs;
 mod rows;
 mod texts;
 mod trees;
 
 use lzk_gf128::Gf128;
 use lzk_goldilocks::Gold;
-use std::alloc::{AllocError, Global};
 use std::env;
+use std::rt::Files;
 
 // The checksum of a work, done so often. None where there is no such work.
-fn done(alloc: Global, work: &str, times: u32) -> Result<Option<u128>, AllocError> {
+fn done<R: Files + AllocGlobal>(rt: &R, work: &str, times: u32) -> anyhow::Result<Option<u128>> {
+    let alloc = rt.alloc();
     let sum = match work {
-        "gold-mul" => elements::products::<Gold>(times),
+        "gold-mul" => elements::products::<Gold>(alloc, times)?,
         "gold-many" => elements::many_products::<Gold>(alloc, times)?,
         "gold-square" => elements::gold_squares(times),
         "gf-square" => elements::gf_squares(times),
         "gold-inv" => elements::inverses::<Gold>(times),
         "gold-dot" => elements::dots::<Gold>(alloc, times)?,
-        "gf-mul" => elements::products::<Gf128>(times),
+        "gf-mul" => elements::products::<Gf128>(alloc, times)?,
         "gf-many" => elements::many_products::<Gf128>(alloc, times)?,
         "gf-dot" => elements::dots::<Gf128>(alloc, times)?,
         "gf-inv" => elements::inverses::<Gf128>(times),
@@ -34,12 +36,18 @@ fn done(alloc: Global, work: &str, times: u32) -> Result<Option<u128>, AllocErro
         "encode" => circuits::encoded(alloc, times)?,
         "gold-extend-192" => rows::extended::<Gold>(alloc, times, 192)?,
         "gold-extend-640" => rows::extended::<Gold>(alloc, times, 640)?,
+        "gold-extender" => rows::extenders::<Gold>(alloc, times, 640)?,
+        "gf-extender" => rows::extenders::<Gf128>(alloc, times, 640)?,
         "gf-extend-192" => rows::extended::<Gf128>(alloc, times, 192)?,
         "gf-extend-640" => rows::extended::<Gf128>(alloc, times, 640)?,
         "leaf-7" => trees::leaves(alloc, times, 7)?,
         "leaf-80" => trees::leaves(alloc, times, 80)?,
         "tree" => trees::trees(alloc, times)?,
+        "proof-read" => proofs::read::<Gold>(alloc, times)?,
+        "proof-write" => proofs::write::<Gold>(alloc, times)?,
+        "proof-files" => proofs::written_as_read(rt)?,
         "numbers" => texts::read(alloc, times)?,
+        "source" => texts::parsed(alloc, times)?,
         _ => return Ok(None),
     };
     Ok(Some(sum))
@@ -53,7 +61,7 @@ fn main(rt: HostRuntime) -> anyhow::Result<()> {
         Some(word) => word.parse::<u32>().unwrap_or(0),
         None => 0,
     };
-    match done(rt.alloc(), &work, times)? {
+    match done(&rt, &work, times)? {
         Some(sum) => println!(rt; "{work} {times}: {sum}")?,
         None => println!(rt; "no such work")?,
     }

@@ -4,6 +4,15 @@ use lzk_field::Field;
 use lzk_poly::Extender;
 use std::alloc::{AllocError, Global};
 
+// The values that a row begins with.
+fn first_values<F: Field>(alloc: Global, n: u32) -> Result<Vec<F>, AllocError> {
+    let mut values = Vec::new(alloc);
+    for i in 0..n {
+        values.push(F::of_word((i as u128 + 1) * 0x1_0000_0001))?;
+    }
+    Ok(values)
+}
+
 /// Extensions of `n` values to twice as many less one and four times as many behind them, as a row of the
 /// prover is extended, the first value of each being the last one before.
 pub fn extended<F: Field>(alloc: Global, times: u32, n: u32) -> Result<u128, AllocError> {
@@ -12,10 +21,7 @@ pub fn extended<F: Field>(alloc: Global, times: u32, n: u32) -> Result<u128, All
     }
     let upto = 6 * n - 1;
     let extender = Extender::<F>::new(alloc, n, upto)?;
-    let mut values = Vec::new(alloc);
-    for i in 0..n {
-        values.push(F::of_word((i as u128 + 1) * 0x1_0000_0001))?;
-    }
+    let mut values = first_values::<F>(alloc, n)?;
     let mut out = Vec::new(alloc);
     out.resize((upto - n) as usize, F::zero())?;
     let mut last = F::zero();
@@ -27,6 +33,27 @@ pub fn extended<F: Field>(alloc: Global, times: u32, n: u32) -> Result<u128, All
         if let Some(value) = out.last() {
             last = *value;
         }
+        if let Some(first) = values.first_mut() {
+            *first = last;
+        }
+    }
+    Ok(last.number())
+}
+
+/// Extenders of such rows, the value at the last point by each being the first value of the next row.
+pub fn extenders<F: Field>(alloc: Global, times: u32, n: u32) -> Result<u128, AllocError> {
+    if n < 1 || n > 1_000 {
+        return Ok(0);
+    }
+    let upto = 6 * n - 1;
+    let mut values = first_values::<F>(alloc, n)?;
+    let mut last = F::zero();
+    for _ in 0..times {
+        let extender = Extender::<F>::new(alloc, n, upto)?;
+        if values.len() != n as usize {
+            break;
+        }
+        last = extender.extend_at(&values, upto - 1);
         if let Some(first) = values.first_mut() {
             *first = last;
         }

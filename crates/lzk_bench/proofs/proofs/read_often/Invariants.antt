@@ -1,0 +1,6 @@
+use Rattle.std.proofs.Common.{◌≤◌}
+use Rattle.lzk_layout.specs.Proofs.{HasLengths}
+use Rattle.lzk_bench.proofs.proofs.read_often.Given as goal
+
+abbrev pub invariant-loop-k : goal.invariant-loop-k
+invariant-loop-k g l = record { lengths : HasLengths l.params l.proof; room : 1536 ≤ l.proof.path.room }
