@@ -162,5 +162,5 @@ pub source_end : (text : List ℕ) (line : ℕ) (r : Reader) (f : FieldId) → S
 source_end text line r f h e some = end_is text line r h _ (ended_some (line - 1) (before_of r) r.field f e (some_count is_assertion (statements_of r.statements.items) (omega (arith, some, h.holds.asserts_are))))
 
 -- a source that was read is well formed
-pub is_source : (text : List ℕ) (r : Reader) (f : FieldId) → IsReader r → SourceText text (record { field_is = f; statements = statements_of r.statements.items }) → IsSource (record { field_is = f; statements = statements_of r.statements.items }) r.publics r.privates r.asserts
-is_source text r f h t = record { formed = record { text = text; reads = t }; publics_are = h.publics_are; privates_are = h.privates_are; asserts_are = h.asserts_are }
+pub is_source : (text : List ℕ) (r : Reader) (f : FieldId) → length text ≤ 4194304 → IsReader r → SourceText text (record { field_is = f; statements = statements_of r.statements.items }) → IsSource (record { field_is = f; statements = statements_of r.statements.items }) r.publics r.privates r.asserts
+is_source text r f l h t = record { formed = record { text = text; short = l; reads = t }; publics_are = h.publics_are; privates_are = h.privates_are; asserts_are = h.asserts_are }

@@ -1,5 +1,5 @@
 -- What a text reads as: its source, or the first rule that it breaks.
-use Rattle.std.specs.Prelude.{◌≡◌, ℕ, ◌+◌, ◌-◌, List, [], ◌∷◌, ◌++◌, length, nat_le, nat_lt, ◌&&◌, ◌||◌, not, Bool, true, false, Option, Some, None, is_some, Result, Ok, Err, if◌then◌else◌, count_by}
+use Rattle.std.specs.Prelude.{◌≡◌, ℕ, ◌+◌, ◌-◌, ◌≤◌, List, [], ◌∷◌, ◌++◌, length, nat_le, nat_lt, ◌&&◌, ◌||◌, not, Bool, true, false, Option, Some, None, is_some, Result, Ok, Err, if◌then◌else◌, count_by}
 use Rattle.std.specs.List.{list_all, list_any}
 use Rattle.lzk_expr.specs.Texts.{lines, content}
 use Rattle.lzk_expr.specs.Tokens.{Token, tokens, keeps_characters, is_empty_line}
@@ -167,9 +167,10 @@ abbrev pub IsFirstSourceFault : List ℕ → SourceError → Type 0
 IsFirstSourceFault text errors.OutOfMemory = Unit {0}
 IsFirstSourceFault text (errors.Fault f) = IsSourceFault text f
 
--- A source is well formed: some text is it.
+-- A source is well formed: some text of at most 4 MiB is it.
 pub record IsWellFormed (source : SourceTree) : Type 0 where
   pub text : List ℕ
+  pub short : length text ≤ 4194304
   pub reads : SourceText text source
 
 -- a source that is well formed, with its counts of public inputs, private inputs and asserts

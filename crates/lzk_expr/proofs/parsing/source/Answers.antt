@@ -37,7 +37,7 @@ pub new-requires : goal.new-requires
 new-requires c =
     let l = c.loop-left in
     let left = subst (λ o. SourceLeft c.args.text.now l.line l.reader o) c.in_default.is l.invariant in
-    is_source c.args.text.now l.reader c.in-Some-field.field l.invariant.holds (source_end c.args.text.now l.line l.reader c.in-Some-field.field left c.in-Some-field.is (omega (arith, c.if-asserts-eq0.false)))
+    is_source c.args.text.now l.reader c.in-Some-field.field c.requires l.invariant.holds (source_end c.args.text.now l.line l.reader c.in-Some-field.field left c.in-Some-field.is (omega (arith, c.if-asserts-eq0.false)))
 
 pub returns : goal.returns
 returns c =
