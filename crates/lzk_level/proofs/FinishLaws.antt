@@ -1,0 +1,116 @@
+-- From nodes within the limits to their circuit.
+use Rattle.std.specs.Prelude.{◌≡◌, ℕ, ◌+◌, ◌-◌, ◌<◌, ◌≤◌, min, ◌^◌, nat_le, if◌then◌else◌, Some, None, List, [], ◌∷◌, length, map, replicate}
+use Rattle.std.proofs.Common.{zero, suc, inl, inr, sym, ap, ◌∙◌, arith, subst}
+use Rattle.std.proofs.lemmas.Bool.{cases_lt, lt-leb, le-leb}
+use Rattle.std.proofs.lemmas.List.{length-append, length-replicate}
+use Rattle.lzk_field.specs.Ring.{Ops}
+use Rattle.lzk_circuit.specs.declared.layer.Layer.{Layer}
+use Rattle.lzk_circuit.specs.Valid.{wiring, AreLayers, IsValid}
+use Rattle.lzk_circuit.specs.Wires.{inputs_of}
+use Rattle.lzk_level.specs.declared.node.Gate.{Gate}
+use Rattle.lzk_level.specs.declared.fault.LevelFault.{LevelFault}
+use Rattle.lzk_level.specs.declared.fault.LevelFault.TheVariants.{Layers, LayerWires, Terms}
+use Rattle.lzk_level.specs.Nodes.{nodes_from, node_values, gate_value, AreGates}
+use Rattle.lzk_level.specs.Bounds.{at, greatest, gate_depth, node_depths, node_weights, limit_fault}
+use Rattle.lzk_level.specs.Levels.{AreDepths, AreWeights, AreValues, Stands}
+use Rattle.lzk_level.proofs.AfterLaws.{after-length, after-front, depths-are, weights-are, values-are}
+use Rattle.lzk_level.proofs.TowerLaws.{inputs-stand}
+
+-- no limit is passed
+pub record Within (layers wires terms : ℕ) : Type 0 where
+  pub layers_most : layers ≤ 512
+  pub wires_most : wires ≤ 131072
+  pub terms_most : terms ≤ 2097152
+
+pub within-limits : (layers wires terms : ℕ) → limit_fault layers wires terms ≡ None → Within layers wires terms
+within-limits layers wires terms e = elim (cases_lt 512 layers) [
+  | inl l ↦ absurd (some_none (Layers layers) (sym (over_layers layers wires terms l) ∙ e))
+  | inr l ↦ elim (cases_lt 131072 wires) [
+    | inl m ↦ absurd (some_none (LayerWires wires) (sym (over_wires layers wires terms l m) ∙ e))
+    | inr m ↦ elim (cases_lt 2097152 terms) [
+      | inl n ↦ absurd (some_none (Terms (min (2 ^ 64 - 1) terms)) (sym (over_terms layers wires terms l m n) ∙ e))
+      | inr n ↦ record { layers_most = l; wires_most = m; terms_most = n }
+    ]
+  ]
+]
+  where
+    some_none : (f : LevelFault) → Some f ≡ None → ⊥
+    some_none f e = cc
+
+    over_layers : (layers wires terms : ℕ) → 512 < layers → limit_fault layers wires terms ≡ Some (Layers layers)
+    over_layers layers wires terms l = ap (λ b. if b then (if nat_le wires 131072 then (if nat_le terms 2097152 then None else Some (Terms (min (2 ^ 64 - 1) terms))) else Some (LayerWires wires)) else Some (Layers layers)) (lt-leb layers 512 l)
+
+    over_wires : (layers wires terms : ℕ) → layers ≤ 512 → 131072 < wires → limit_fault layers wires terms ≡ Some (LayerWires wires)
+    over_wires layers wires terms l m =
+        ap (λ b. if b then (if nat_le wires 131072 then (if nat_le terms 2097152 then None else Some (Terms (min (2 ^ 64 - 1) terms))) else Some (LayerWires wires)) else Some (Layers layers)) (le-leb layers 512 l)
+        ∙ ap (λ b. if b then (if nat_le terms 2097152 then None else Some (Terms (min (2 ^ 64 - 1) terms))) else Some (LayerWires wires)) (lt-leb wires 131072 m)
+
+    over_terms : (layers wires terms : ℕ) → layers ≤ 512 → wires ≤ 131072 → 2097152 < terms → limit_fault layers wires terms ≡ Some (Terms (min (2 ^ 64 - 1) terms))
+    over_terms layers wires terms l m n =
+        ap (λ b. if b then (if nat_le wires 131072 then (if nat_le terms 2097152 then None else Some (Terms (min (2 ^ 64 - 1) terms))) else Some (LayerWires wires)) else Some (Layers layers)) (le-leb layers 512 l)
+        ∙ ap (λ b. if b then (if nat_le terms 2097152 then None else Some (Terms (min (2 ^ 64 - 1) terms))) else Some (LayerWires wires)) (le-leb wires 131072 m)
+        ∙ ap (λ b. if b then None else Some (Terms (min (2 ^ 64 - 1) terms))) (lt-leb terms 2097152 n)
+
+pub greatest-some : (m : ℕ) (ns : List ℕ) → m ≤ greatest m ns
+greatest-some m [] = omega arith
+greatest-some m (n ∷ ns) = omega (arith, greatest-some m ns)
+
+pub greatest-each : (m : ℕ) (ds ks : List ℕ) (i : ℕ) → i < length ks → at ds (at ks i) ≤ greatest m (map (at ds) ks)
+greatest-each m ds [] i l = absurd (omega (arith, l))
+greatest-each m ds (k ∷ ks) zero l = omega arith
+greatest-each m ds (k ∷ ks) (suc i) l = omega (arith, greatest-each m ds ks i (omega (arith, l)))
+
+module _ {A : Type 0} where
+  pub depths-long : (publics privates : ℕ) (made : List (Gate A)) → length (node_depths (nodes_from publics privates made)) ≡ 1 + (publics + privates) + length made
+  depths-long publics privates made =
+      let start : List ℕ = replicate (1 + (publics + privates)) 0 in
+      after-length gate_depth start made ∙ ap (λ k. k + length made) (length-replicate (1 + (publics + privates)) 0)
+
+  -- what the layers' builder asks of the depths
+  pub record Ready (made : List (Gate A)) (depths : List ℕ) (inputs : ℕ) : Type 0 where
+    pub inputs_are : length depths - length made ≡ inputs
+    pub long : 1 + length made ≤ length depths
+    pub gates_are : AreGates (length depths - length made - 1) made
+    pub depths_are : AreDepths (length depths - length made) made depths
+
+  pub ready : (publics privates : ℕ) (made : List (Gate A)) (depths : List ℕ) → depths ≡ node_depths (nodes_from publics privates made) → AreGates (publics + privates) made → Ready made depths (1 + (publics + privates))
+  ready publics privates made depths e h =
+      let inputs = 1 + (publics + privates) in
+      let long : length depths ≡ inputs + length made = ap length e ∙ depths-long publics privates made in
+      let is : inputs ≡ length depths - length made = omega (arith, long) in
+      let less : publics + privates ≡ length depths - length made - 1 = omega (arith, long) in
+      let before : publics + privates ≡ inputs - 1 = omega arith in
+      record {
+        inputs_are = sym is;
+        long = omega (arith, long);
+        gates_are = subst (λ n. AreGates n made) less h;
+        depths_are = subst (λ n. AreDepths n made depths) is (subst (AreDepths inputs made) (sym e) (depths-are inputs made (omega arith) (subst (λ n. AreGates n made) before h)));
+      }
+
+  pub ready-weights : (publics privates : ℕ) (made : List (Gate A)) (inputs : ℕ) → inputs ≡ 1 + (publics + privates) → AreGates (publics + privates) made → AreWeights inputs made (node_weights (nodes_from publics privates made))
+  ready-weights publics privates made inputs e h = subst (λ n. AreWeights n made (node_weights (nodes_from publics privates made))) (sym e) (weights-are (publics + privates) made h)
+
+module _ {A : Type 0} (o : Ops A) where
+  pub valid-layers : (publics privates inputs : ℕ) (layers : List (Layer A)) → publics ≤ 65535 → privates ≤ 65536 → inputs ≡ 1 + (publics + privates) → 1 ≤ length layers → length layers ≤ 512 → AreLayers o inputs layers → IsValid o (wiring publics privates layers)
+  valid-layers publics privates inputs layers p q e some most h =
+      let width : inputs ≡ 1 + publics + privates = omega (arith, e) in
+      record {
+        publics = p;
+        privates = q;
+        some = some;
+        depth = most;
+        layers = subst (λ n. AreLayers o n layers) width h;
+      }
+
+  pub ready-values : (publics privates inputs : ℕ) (made : List (Gate A)) (public private : List A) → inputs ≡ 1 + (publics + privates) → AreGates (publics + privates) made → length public ≡ publics → length private ≡ privates
+      → AreValues o inputs made (node_values o (nodes_from publics privates made) public private)
+  ready-values publics privates inputs made public private e h p q =
+      let before : publics + privates ≡ inputs - 1 = omega (arith, e) in
+      values-are o inputs made public private (omega (arith, e, p, q)) (subst (λ n. AreGates n made) before h)
+
+  pub ready-inputs : (publics privates inputs : ℕ) (made : List (Gate A)) (depths : List ℕ) (public private : List A) → inputs ≡ 1 + (publics + privates) → AreDepths inputs made depths → length public ≡ publics → length private ≡ privates
+      → Stands o depths 0 (node_values o (nodes_from publics privates made) public private) (inputs_of o public private)
+  ready-inputs publics privates inputs made depths public private e d p q =
+      let ins = inputs_of o public private in
+      let long : length ins ≡ inputs = omega (arith, e, p, q, length-append public private) in
+      inputs-stand o inputs made depths (node_values o (nodes_from publics privates made) public private) ins d long (λ k l. after-front o.zero (gate_value o) ins made k (omega (arith, l, long)))

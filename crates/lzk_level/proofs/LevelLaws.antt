@@ -1,0 +1,50 @@
+-- Where nodes stand in a level.
+use Rattle.std.specs.Prelude.{◌≡◌, ℕ, ◌+◌, ◌<◌, ◌≤◌, nat_le, cond, true, false, Bool, List, [], ◌∷◌, ◌++◌, length}
+use Rattle.std.proofs.Common.{zero, suc, ◌⊎◌, inl, inr, sym, ap, ◌∙◌, arith, subst}
+use Rattle.std.proofs.lemmas.Bool.{cases_lt, le-leb}
+use Rattle.lzk_level.specs.Bounds.{at}
+use Rattle.lzk_circuit.specs.declared.layer.Term.{Term}
+use Rattle.lzk_level.specs.Levels.{place_in, row_at}
+
+counts : ℕ → ℕ → ℕ
+counts d level = cond (nat_le d level) 1 0
+
+one_at_most : (b : Bool) → cond b 1 0 ≤ 1
+one_at_most true = omega arith
+one_at_most false = omega arith
+
+pub place-most : (depths : List ℕ) (level k : ℕ) → place_in depths level k ≤ k
+place-most depths level zero = omega arith
+place-most depths level (suc k) = omega (arith, one_at_most (nat_le (at depths k) level), place-most depths level k)
+
+pub place-more : (depths : List ℕ) (level k n : ℕ) → k ≤ n → place_in depths level k ≤ place_in depths level n
+place-more depths level k zero l = let e : k ≡ 0 = omega arith in subst (λ i. place_in depths level i ≤ 0) (sym e) (omega arith)
+place-more depths level k (suc n) l = elim (le_cases k n l) [
+  | inl m ↦ omega (arith, place-more depths level k n m)
+  | inr e ↦ subst (λ i. place_in depths level i ≤ place_in depths level (suc n)) (sym e) (omega arith)
+]
+  where
+    le_cases : (k n : ℕ) → k ≤ suc n → (k ≤ n) ⊎ (k ≡ suc n)
+    le_cases k n l = elim (cases_lt n k) [ inl m ↦ inr (omega (arith, l, m)) | inr m ↦ inl m ]
+
+-- a node with a place stands before those behind it
+pub place-step : (depths : List ℕ) (level k : ℕ) → at depths k ≤ level → place_in depths level (suc k) ≡ suc (place_in depths level k)
+place-step depths level k l = ap (λ b. cond b 1 0 + place_in depths level k) (le-leb (at depths k) level l) ∙ omega arith
+
+pub place-below : (depths : List ℕ) (level k n : ℕ) → k < n → at depths k ≤ level → place_in depths level k < place_in depths level n
+place-below depths level k n l d = omega (arith, place-step depths level k d, place-more depths level (suc k) n l)
+
+module _ {A : Type 0} where
+  -- one more row
+  pub row-more : (P : ℕ → List (Term A) → Type 0) (rows : List (List (Term A))) (row : List (Term A)) → ((k : ℕ) → k < length rows → P k (row_at rows k)) → P (length rows) row
+      → (k : ℕ) → k < length (rows ++ row ∷ []) → P k (row_at (rows ++ row ∷ []) k)
+  row-more P [] row f p zero l = p
+  row-more P [] row f p (suc k) l = absurd (omega (arith, l))
+  row-more P (r ∷ rs) row f p zero l = f 0 (omega arith)
+  row-more P (r ∷ rs) row f p (suc k) l = row-more (λ i. P (suc i)) rs row (λ i m. f (suc i) (omega (arith, m))) p k (omega (arith, l))
+
+  -- the same, as a loop comes to it
+  pub row-next : (P : ℕ → List (Term A) → Type 0) (old seen new : List (List (Term A))) (x row : List (Term A)) → seen ≡ old → x ≡ row → new ≡ old ++ x ∷ [] → ((k : ℕ) → k < length old → P k (row_at old k)) → P (length seen) row
+      → (k : ℕ) → k < length new → P k (row_at new k)
+  row-next P old seen new x row s e n f p =
+      subst (λ rows. (k : ℕ) → k < length rows → P k (row_at rows k)) (sym n) (row-more P old x f (subst (λ rows. P (length rows) x) s (subst (P (length seen)) (sym e) p)))

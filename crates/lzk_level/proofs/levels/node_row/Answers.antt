@@ -1,0 +1,96 @@
+use Rattle.std.proofs.Common.{◌≡◌, ◌∙◌, ap, sym, subst, ◌-◌, ◌<◌, ◌≤◌, length, map, arith}
+use Rattle.std.proofs.lemmas.Result.{IfOk-weaker}
+use Rattle.lzk_field.specs.Sums.{entry}
+use Rattle.lzk_level.specs.Bounds.{at, gate_weight}
+use Rattle.lzk_level.specs.Rows.{row_value}
+use Rattle.lzk_level.specs.Levels.{width_of, placed_value, IsShort}
+use Rattle.lzk_level.proofs.LevelLaws.{place-below}
+use Rattle.lzk_level.proofs.NodeLaws.{gate-counts, copy-counts, first-one, heavy, gate-short, factors-below, gate-facts}
+use Rattle.lzk_level.proofs.levels.node_row.Goals as goal
+
+pub returns-then-depths-k-2-clause-row : goal.returns-then-depths-k-2-clause-row
+returns-then-depths-k-2-clause-row g c all =
+    let depths = c.args.depths.now in
+    let k = length c.args.rows.now in
+    let level = c.args.level in
+    let next = c.requires.next in
+    let zero_depth : at depths 0 ≡ 0 = c.requires.depths.at_inputs 0 (omega (arith, c.requires.inputs)) in
+    let deep : at depths k < level = c.if-depths-k-2.true in
+    c.single.ensures.row (width_of depths (level - 1))
+    (place-below depths (level - 1) 0 (length depths) (omega (arith, next)) (omega (arith, zero_depth)))
+    (subst (λ q. q < width_of depths (level - 1)) (sym (c.requires.places.1 k next)) (place-below depths (level - 1) k (length depths) next (omega (arith, deep))))
+
+pub returns-then-depths-k-2-clause-value : goal.returns-then-depths-k-2-clause-value
+returns-then-depths-k-2-clause-value g c values wires v s counted =
+    let o = g.F.Field.ops in
+    let r = g.F.Field.laws.ring in
+    let depths = c.args.depths.now in
+    let k = length c.args.rows.now in
+    let level = c.args.level in
+    let next = c.requires.next in
+    let p = at c.args.below.now k in
+    let deep : at depths k < level = c.if-depths-k-2.true in
+    let one = first-one o r (length depths - length c.args.made.now) c.args.made.now depths (level - 1) values wires (omega (arith, c.requires.inputs)) c.requires.depths v s in
+    let wire : entry o wires p ≡ entry o values k = ap (entry o wires) (c.requires.places.1 k next) ∙ s.each k next (omega (arith, deep)) in
+    IfOk-weaker c.single.result (λ row. row_value o wires row.items ≡ o.times c.one.result (o.times (entry o wires 0) (entry o wires p))) (λ row. at depths k ≤ level → row_value o wires row.items ≡ entry o values k)
+    (λ row e l. e ∙ copy-counts o r wires p c.one.result (entry o values k) one c.one.ensures wire) (c.single.ensures.value wires)
+
+pub returns-then-depths-k-2-clause-short : goal.returns-then-depths-k-2-clause-short
+returns-then-depths-k-2-clause-short g c weights w short =
+    let depths = c.args.depths.now in
+    let k = length c.args.rows.now in
+    let inputs = length depths - length c.args.made.now in
+    IfOk-weaker c.single.result (λ row. length row.items ≤ 1) (λ row. IsShort depths c.args.level weights k (length row.items))
+    (λ row l. ((λ _. l), (λ some. omega (arith, l, heavy inputs c.args.made.now weights k (omega (arith, c.requires.inputs)) w c.requires.gates some (omega (arith, c.requires.next, c.requires.inputs)))))) c.single.ensures.short
+
+pub gate_row-requires-clause-gate : goal.gate_row-requires-clause-gate
+gate_row-requires-clause-gate g c κs within =
+    let depths = c.args.depths.now in
+    let made = c.args.made.now in
+    let k = length c.args.rows.now in
+    let level = c.args.level in
+    let inputs = length depths - length made in
+    let facts = gate-facts g.F.Field.ops inputs made depths level k c.index-made-k.result (omega (arith, c.requires.inputs)) c.requires.depths c.requires.gates c.requires.level c.if-depths-k.false c.if-depths-k-2.false c.requires.next c.index-made-k.is in
+    facts.is_gate
+
+pub returns-clause-row : goal.returns-clause-row
+returns-clause-row g c all =
+    let depths = c.args.depths.now in
+    let made = c.args.made.now in
+    let k = length c.args.rows.now in
+    let level = c.args.level in
+    let inputs = length depths - length made in
+    let facts = gate-facts g.F.Field.ops inputs made depths level k c.index-made-k.result (omega (arith, c.requires.inputs)) c.requires.depths c.requires.gates c.requires.level c.if-depths-k.false c.if-depths-k-2.false c.requires.next c.index-made-k.is in
+    let next = c.requires.next in
+    let zero_depth : at depths 0 ≡ 0 = c.requires.depths.at_inputs 0 (omega (arith, c.requires.inputs)) in
+    c.gate_row.ensures.row (width_of depths (level - 1)) (place-below depths (level - 1) 0 (length depths) (omega (arith, next)) (omega (arith, zero_depth))) all
+    (factors-below depths c.args.below.now (k - 1) level c.index-made-k.result (omega (arith, next)) facts.is_gate facts.depth c.requires.places)
+
+pub returns-clause-value : goal.returns-clause-value
+returns-clause-value g c values wires v s counted =
+    let depths = c.args.depths.now in
+    let made = c.args.made.now in
+    let k = length c.args.rows.now in
+    let level = c.args.level in
+    let inputs = length depths - length made in
+    let facts = gate-facts g.F.Field.ops inputs made depths level k c.index-made-k.result (omega (arith, c.requires.inputs)) c.requires.depths c.requires.gates c.requires.level c.if-depths-k.false c.if-depths-k-2.false c.requires.next c.index-made-k.is in
+    let o = g.F.Field.ops in
+    let r = g.F.Field.laws.ring in
+    let gate = c.index-made-k.result in
+    let value = placed_value o (map (row_value o wires) c.args.rows.now) c.args.below.now wires gate in
+    let one = first-one o r inputs made depths (level - 1) values wires (omega (arith, c.requires.inputs)) c.requires.depths v s in
+    IfOk-weaker c.gate_row.result (λ row. row_value o wires row.items ≡ value) (λ row. at depths k ≤ level → row_value o wires row.items ≡ entry o values k)
+    (λ row e l. e ∙ gate-counts o r depths c.args.below.now level values wires c.args.rows.now gate (omega (arith, c.requires.next)) counted s c.requires.places facts.is_gate facts.depth ∙ facts.value values v) (c.gate_row.ensures.value wires one)
+
+pub returns-clause-short : goal.returns-clause-short
+returns-clause-short g c weights w short =
+    let depths = c.args.depths.now in
+    let made = c.args.made.now in
+    let k = length c.args.rows.now in
+    let level = c.args.level in
+    let inputs = length depths - length made in
+    let facts = gate-facts g.F.Field.ops inputs made depths level k c.index-made-k.result (omega (arith, c.requires.inputs)) c.requires.depths c.requires.gates c.requires.level c.if-depths-k.false c.if-depths-k-2.false c.requires.next c.index-made-k.is in
+    let gate = c.index-made-k.result in
+    let most = gate-short level depths weights c.args.rows.now gate short facts.is_gate in
+    IfOk-weaker c.gate_row.result (λ row. length row.items ≤ gate_weight (map length c.args.rows.now) gate) (λ row. IsShort depths level weights k (length row.items))
+    (λ row l. ((λ less. absurd (omega (arith, less, c.if-depths-k-2.false))), (λ some. omega (arith, l, most, facts.weight weights w)))) c.gate_row.ensures.short

@@ -1,0 +1,27 @@
+use Rattle.std.proofs.Common.{◌≡◌, ◌∙◌, ap, sym, subst, ℕ, ◌+◌, ◌-◌, ◌<◌, length, replicate, arith, [], ◌∷◌, ◌++◌}
+use Rattle.std.proofs.lemmas.List.{length-append}
+use Rattle.lzk_level.specs.Nodes.{IsGate}
+use Rattle.lzk_level.specs.Bounds.{at, gate_depth}
+use Rattle.lzk_level.proofs.GateLaws.{after-next, gate-of, depth-most, below-more}
+use Rattle.lzk_level.proofs.measure.depths_of.Goals as goal
+
+pub depth_of-depth-requires-clause-gate : goal.depth_of-depth-requires-clause-gate
+depth_of-depth-requires-clause-gate g c =
+    gate-of c.args.inputs c.loop-i.i (length c.deref.result.now) c.args.made.now c.index-made-i.result (ap length c.deref.ensures.value ∙ c.loop-i.invariant.0) c.loop-i-test.true c.index-made-i.is c.requires.gates
+
+pub loop-i-preserved : goal.loop-i-preserved
+loop-i-preserved g c =
+    let old = c.loop-i.depths.items in
+    let seen = c.deref.result.now in
+    let gate = c.index-made-i.result in
+    let d = c.depth_of-depth.result in
+    let i = c.loop-i.invariant in
+    let same : seen ≡ old = c.deref.ensures.value in
+    let grown : c.push.new.self.items ≡ old ++ d ∷ [] = c.in_ok-push.ensures.items in
+    let is : d ≡ gate_depth old gate = c.depth_of-depth.ensures.depth ∙ ap (λ ds. gate_depth ds gate) same in
+    let start = replicate (1 + c.args.inputs) 0 in
+    let is_gate : IsGate (length old - 1) gate = gate-of c.args.inputs c.loop-i.i (length old) c.args.made.now gate i.0 c.loop-i-test.true c.index-made-i.is c.requires.gates in (
+      omega (arith, ap length grown, length-append old (d ∷ []), i.0),
+      grown ∙ ap (λ x. old ++ x ∷ []) is ∙ ap (λ ds. ds ++ gate_depth ds gate ∷ []) i.1 ∙ sym (after-next gate_depth start c.args.made.now c.loop-i.i gate c.loop-i-test.true c.index-made-i.is),
+      subst (λ ds. (k : ℕ) → k < length ds → at ds k < length ds) (sym grown) (below-more old d i.2 (omega (arith, is, depth-most old gate (omega (arith, i.0)) i.2 is_gate))),
+    )

@@ -1,0 +1,32 @@
+use Rattle.std.proofs.Common.{◌≡◌, ◌∙◌, sym, subst, ◌+◌, suc, arith, []}
+use Rattle.std.proofs.lemmas.List.{get_or_default}
+use Rattle.lzk_level.proofs.InnerLaws.{Inner, inner-starts, inner-skips, inner-adds}
+use Rattle.lzk_level.proofs.stack.inner_layer.Goals.{then-depths-k+in_ok-append, else-depths-k}
+use Rattle.lzk_level.proofs.stack.inner_layer.Goals as goal
+
+pub loop-k-init : goal.loop-k-init
+loop-k-init g c = subst (Inner g.F.Field.ops c.args.depths.now c.args.level c.args.rows.now 0 0) (sym c.new-terms.ensures.items) (inner-starts g.F.Field.ops c.args.depths.now c.args.level c.args.rows.now)
+
+pub loop-k-preserved : goal.loop-k-preserved
+loop-k-preserved g c =
+    let o = g.F.Field.ops in
+    let depths = c.args.depths.now in
+    let rows = c.args.rows.now in
+    let k = c.loop-k.k in
+    let next : suc k ≡ k + 1 = omega arith in
+    let old = c.loop-k.terms.items in
+    elim c.if-depths-k.branch [
+      | then-depths-k+in_ok-append w ↦
+          let row = w.as_slice.result.now in
+          let new = w.append.new.terms.items in
+          let e = w.in_ok-append.ensures in
+          subst (λ n. Inner o depths c.args.level rows n c.if-depths-k.wires c.if-depths-k.terms.items) next
+          (subst (λ n. Inner o depths c.args.level rows (suc k) n c.if-depths-k.terms.items) (sym w.wires-is)
+          (subst (λ v. Inner o depths c.args.level rows (suc k) (c.loop-k.wires + 1) v.items) (sym w.terms-is)
+          (inner-adds o depths c.args.level rows k c.loop-k.wires old new row w.if-depths-k.true (omega (arith, c.requires.rows, c.loop-k-test.true)) (w.as_slice.ensures ∙ w.index-rows-k.is ∙ get_or_default rows k w.index-rows-k.result [] (omega (arith, c.requires.rows, c.loop-k-test.true))) e.terms e.before e.added e.count c.loop-k.invariant)))
+      | else-depths-k w ↦
+          subst (λ n. Inner o depths c.args.level rows n c.if-depths-k.wires c.if-depths-k.terms.items) next
+          (subst (λ n. Inner o depths c.args.level rows (suc k) n c.if-depths-k.terms.items) (sym w.wires-is)
+          (subst (λ v. Inner o depths c.args.level rows (suc k) c.loop-k.wires v.items) (sym w.terms-is)
+          (inner-skips o depths c.args.level rows k c.loop-k.wires old w.if-depths-k.false c.loop-k.invariant)))
+    ]

@@ -1,0 +1,88 @@
+-- The levels of a circuit of nodes: where each node stands, and what the rows of a level are.
+use Rattle.std.specs.Prelude.{◌≡◌, ℕ, ◌+◌, ◌<◌, ◌≤◌, nat_le, cond, List, [], ◌∷◌, length, slice_index_or}
+use Rattle.std.proofs.Common.{zero, suc}
+use Rattle.lzk_field.specs.Ring.{Ops}
+use Rattle.lzk_field.specs.Sums.{entry}
+use Rattle.lzk_circuit.specs.declared.layer.Term.{Term}
+use Rattle.lzk_level.specs.declared.node.Gate.{Gate}
+use Rattle.lzk_level.specs.declared.node.Gate.TheVariants.{Constant, Combine, Mul}
+use Rattle.lzk_level.specs.Nodes.{combined, gate_value}
+use Rattle.lzk_level.specs.Bounds.{at, gate_depth, gate_weight}
+use Rattle.lzk_level.specs.Rows.{IsRow, row_value}
+
+-- how many of the first k depths are no greater than the level
+abbrev pub place_in : List ℕ → ℕ → ℕ → ℕ
+place_in depths level zero = 0
+place_in depths level (suc k) = cond (nat_le (at depths k) level) 1 0 + place_in depths level k
+
+-- how many wires a level has
+abbrev pub width_of : List ℕ → ℕ → ℕ
+width_of depths level = place_in depths level (length depths)
+
+-- each node's place by its number
+abbrev pub ArePlaces : List ℕ → ℕ → List ℕ → Type 0
+ArePlaces depths level places = (length places ≡ length depths) × ((k : ℕ) → k < length depths → at places k ≡ place_in depths level k)
+
+abbrev pub row_at : {A : Type 0} → List (List (Term A)) → ℕ → List (Term A)
+row_at rows k = slice_index_or rows k []
+
+-- the depths of so many inputs, the one among them, and of these gates behind them
+pub record AreDepths {A : Type 0} (inputs : ℕ) (made : List (Gate A)) (depths : List ℕ) : Type 0 where
+  pub count : length depths ≡ inputs + length made
+  pub at_inputs : (k : ℕ) → k < inputs → at depths k ≡ 0
+  pub gates : (i : ℕ) (d : Gate A) → i < length made → at depths (inputs + i) ≡ gate_depth depths (slice_index_or made i d)
+
+-- their weights; the one weighs nothing
+pub record AreWeights {A : Type 0} (inputs : ℕ) (made : List (Gate A)) (weights : List ℕ) : Type 0 where
+  pub count : length weights ≡ inputs + length made
+  pub one : at weights 0 ≡ 0
+  pub at_inputs : (k : ℕ) → 1 ≤ k → k < inputs → at weights k ≡ 1
+  pub gates : (i : ℕ) (d : Gate A) → i < length made → at weights (inputs + i) ≡ gate_weight weights (slice_index_or made i d)
+
+-- their values
+pub record AreValues {A : Type 0} (o : Ops A) (inputs : ℕ) (made : List (Gate A)) (values : List A) : Type 0 where
+  pub count : length values ≡ inputs + length made
+  pub one : entry o values 0 ≡ o.one
+  pub gates : (i : ℕ) (d : Gate A) → i < length made → entry o values (inputs + i) ≡ gate_value o values (slice_index_or made i d)
+
+-- the wires of a level have the values of the nodes that have a place there
+pub record Stands {A : Type 0} (o : Ops A) (depths : List ℕ) (level : ℕ) (values wires : List A) : Type 0 where
+  pub width : length wires ≡ width_of depths level
+  pub each : (k : ℕ) → k < length depths → at depths k ≤ level → entry o wires (place_in depths level k) ≡ entry o values k
+
+-- every row is over so many wires
+abbrev pub AreRows : {A : Type 0} → Ops A → ℕ → List (List (Term A)) → Type 0
+AreRows o width rows = (k : ℕ) → k < length rows → IsRow o width (row_at rows k)
+
+-- the rows of the nodes with a place in a level count their values
+abbrev pub HaveValues : {A : Type 0} → Ops A → List ℕ → ℕ → List A → List A → List (List (Term A)) → Type 0
+HaveValues o depths level values below rows = (k : ℕ) → k < length rows → at depths k ≤ level → row_value o below (row_at rows k) ≡ entry o values k
+
+-- a row may have one term for a node that goes on from below, and else as many as the node is heavy
+abbrev pub IsShort : List ℕ → ℕ → List ℕ → ℕ → ℕ → Type 0
+IsShort depths level weights k n = (at depths k < level → n ≤ 1) × (1 ≤ k → n ≤ at weights k)
+
+abbrev pub AreShort : {A : Type 0} → List ℕ → ℕ → List ℕ → List (List (Term A)) → Type 0
+AreShort depths level weights rows = (k : ℕ) → k < length rows → IsShort depths level weights k (length (row_at rows k))
+
+-- the places of a product's factors are below the width
+abbrev pub AreFactorsBelow : {A : Type 0} → ℕ → List ℕ → Gate A → Type 0
+AreFactorsBelow width places (Constant c) = Unit {0}
+AreFactorsBelow width places (Combine parts) = Unit {0}
+AreFactorsBelow width places (Mul x y) = (at places x < width) × (at places y < width)
+
+-- a gate's value, by what the rows of its parts count and by the wires of its factors
+abbrev pub placed_value : {A : Type 0} → Ops A → List A → List ℕ → List A → Gate A → A
+placed_value o counted places below (Constant c) = c
+placed_value o counted places below (Combine parts) = combined o counted parts
+placed_value o counted places below (Mul x y) = o.times (entry o below (at places x)) (entry o below (at places y))
+
+-- how many terms the rows with a place in a level have, of the first k
+abbrev pub lengths_in : {A : Type 0} → List ℕ → ℕ → List (List (Term A)) → ℕ → ℕ
+lengths_in depths level rows zero = 0
+lengths_in depths level rows (suc k) = cond (nat_le (at depths k) level) (length (row_at rows k)) 0 + lengths_in depths level rows k
+
+-- how many terms the rows with these numbers have
+abbrev pub lengths_of : {A : Type 0} → List (List (Term A)) → List ℕ → ℕ
+lengths_of rows [] = 0
+lengths_of rows (k ∷ ks) = length (row_at rows k) + lengths_of rows ks

@@ -1,0 +1,9 @@
+pub mod Nodes
+pub mod Bounds
+pub mod Meanings
+pub mod Rows
+pub mod Levels
+pub mod Compilable
+pub mod Compiling
+pub mod Compiled
+pub use Rattle.lzk_field.specs

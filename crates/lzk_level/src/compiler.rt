@@ -1,0 +1,157 @@
+//! Circuits of sources.
+
+ghost use Rattle.std.specs.Prelude.{◌≡◌, ◌+◌, ◌≤◌, ◌++◌, None, count_by, length, IfOk, IfErr, OnOk};
+ghost use Rattle.lzk_expr.specs.Trees.{is_public, is_private};
+ghost use Rattle.lzk_expr.specs.View.{expr_of, statement_of, statements_of, tree_of};
+ghost use Rattle.lzk_level.specs.Nodes.{node_count};
+ghost use Rattle.lzk_level.specs.Compilable.{IsWithin, size_of, AreOperands, IsStatementWithin, statement_size};
+ghost use Rattle.lzk_level.specs.Compiling.{scope, let_nodes, let_operand, made_assert, statement_lets, statement_nodes, statement_outputs, nodes_of};
+ghost use Rattle.lzk_level.specs.Compiled.{IsCompilable, HasValues, layers_needed, limit_passed, IsFaultOf, field_of, publics_of, privates_of, depth_of, HasSourceValues, source_layers, source_limit};
+
+use crate::builder::Builder;
+use crate::constants::constant;
+use crate::fault::LevelError;
+use crate::lets::Operand;
+use crate::making::make;
+use crate::node::Node;
+use lzk_circbytes::AnyCircuit;
+use lzk_circuit::Circuit;
+use lzk_expr::{Expr, FieldId, Source, Statement};
+use lzk_field::Field;
+use std::alloc::{AllocError, Global};
+
+// What a let name stands for: a constant expression makes no nodes.
+fn define<F: Field>(
+    alloc: Global,
+    builder: &mut Builder<F>,
+    lets: &[Operand<F>],
+    expr: &Expr,
+) -> Result<Operand<F>, AllocError>
+    requires inputs { IsWithin builder.old.publics builder.old.privates (expr_of expr.now) }
+    requires lets { AreOperands (node_count builder.old) lets.now }
+    requires room { node_count builder.old + size_of (expr_of expr.now) ≤ 2147483648 }
+    ensures nodes { IfOk result (λ _. builder.new ≡ let_nodes (scope F.ops F.element lets.now) builder.old (expr_of expr.now)) }
+    ensures operand { IfOk result (λ operand. operand ≡ let_operand (scope F.ops F.element lets.now) builder.old (expr_of expr.now)) }
+{
+    match constant(lets, expr) {
+        Some(c) => Ok(Operand::Constant(c)),
+        None => Ok(Operand::AtNode(make(alloc, builder, lets, expr)?)),
+    }
+}
+
+// Makes the nodes of both sides of an equation, and their difference.
+fn subtract<F: Field>(
+    alloc: Global,
+    builder: &mut Builder<F>,
+    lets: &[Operand<F>],
+    left: &Expr,
+    right: &Expr,
+) -> Result<Node, AllocError>
+    requires left { IsWithin builder.old.publics builder.old.privates (expr_of left.now) }
+    requires right { IsWithin builder.old.publics builder.old.privates (expr_of right.now) }
+    requires lets { AreOperands (node_count builder.old) lets.now }
+    requires room { node_count builder.old + 1 + size_of (expr_of left.now) + size_of (expr_of right.now) ≤ 2147483648 }
+    ensures nodes { IfOk result (λ _. builder.new ≡ (made_assert (scope F.ops F.element lets.now) builder.old (expr_of left.now) (expr_of right.now)).nodes) }
+    ensures node { IfOk result (λ node. node ≡ (made_assert (scope F.ops F.element lets.now) builder.old (expr_of left.now) (expr_of right.now)).node) }
+{
+    let x = make(alloc, builder, lets, left)?;
+    let y = make(alloc, builder, lets, right)?;
+    let mut parts = Vec::new(alloc);
+    parts.push((F::one(), x))?;
+    parts.push((F::one().neg(), y))?;
+    builder.combine(&parts)
+}
+
+fn take_statement<F: Field>(
+    alloc: Global,
+    statement: &Statement,
+    builder: &mut Builder<F>,
+    lets: &mut Vec<Operand<F>>,
+    outputs: &mut Vec<Node>,
+) -> Result<(), AllocError>
+    requires inputs { IsStatementWithin builder.old.publics builder.old.privates (statement_of statement.now) }
+    requires lets { AreOperands (node_count builder.old) lets.old.items }
+    requires room { node_count builder.old + statement_size (statement_of statement.now) ≤ 2147483648 }
+    ensures nodes { OnOk result (builder.new ≡ statement_nodes (scope F.ops F.element lets.old.items) builder.old (statement_of statement.now)) }
+    ensures lets { OnOk result (lets.new.items ≡ lets.old.items ++ statement_lets (scope F.ops F.element lets.old.items) builder.old (statement_of statement.now)) }
+    ensures outputs { OnOk result (outputs.new.items ≡ outputs.old.items ++ statement_outputs (scope F.ops F.element lets.old.items) builder.old (statement_of statement.now)) }
+{
+    match statement {
+        Statement::Public(_) => {}
+        Statement::Private(_) => {}
+        Statement::Let(_, expr) => {
+            let operand = define(alloc, builder, lets, expr)?;
+            lets.push(operand)?;
+        }
+        Statement::Assert(left, right) => {
+            let output = subtract(alloc, builder, lets, left, right)?;
+            outputs.push(output)?;
+        }
+    }
+    Ok(())
+}
+
+// The nodes of a source's statements, and its outputs.
+fn build<F: Field>(
+    alloc: Global,
+    publics: u32,
+    privates: u32,
+    statements: &[Statement],
+) -> Result<(Builder<F>, Vec<Node>), AllocError>
+    requires publics { publics ≡ count_by is_public (statements_of statements.now) }
+    requires privates { privates ≡ count_by is_private (statements_of statements.now) }
+    requires compilable { IsCompilable (statements_of statements.now) }
+    ensures nodes { IfOk result (λ built. built.0 ≡ (nodes_of F.ops F.element (statements_of statements.now)).nodes) }
+    ensures outputs { IfOk result (λ built. built.1.items ≡ (nodes_of F.ops F.element (statements_of statements.now)).outputs) }
+{
+    let mut builder = Builder::new(alloc, publics, privates)?;
+    let mut lets = Vec::new(alloc);
+    let mut outputs = Vec::new(alloc);
+    for i in 0..statements.len() {
+        take_statement(alloc, &statements[i], &mut builder, &mut lets, &mut outputs)?;
+    }
+    Ok((builder, outputs))
+}
+
+// The circuit of a source's statements over a field.
+fn compile_over<F: Field>(
+    alloc: Global,
+    publics: u32,
+    privates: u32,
+    statements: &[Statement],
+) -> Result<Circuit<F>, LevelError>
+    requires publics { publics ≡ count_by is_public (statements_of statements.now) }
+    requires privates { privates ≡ count_by is_private (statements_of statements.now) }
+    requires compilable { IsCompilable (statements_of statements.now) }
+    ensures publics { IfOk result (λ c. c.publics ≡ publics) }
+    ensures privates { IfOk result (λ c. c.privates ≡ privates) }
+    ensures layers { IfOk result (λ c. length c.layers ≡ layers_needed (nodes_of F.ops F.element (statements_of statements.now))) }
+    ensures outputs { IfOk result (HasValues F.ops F.element (statements_of statements.now)) }
+    ensures within { IfOk result (λ _. limit_passed (nodes_of F.ops F.element (statements_of statements.now)) ≡ None) }
+    ensures fault { IfErr result (IsFaultOf (limit_passed (nodes_of F.ops F.element (statements_of statements.now)))) }
+{
+    let (builder, outputs) = build::<F>(alloc, publics, privates, statements)?;
+    builder.finish(&outputs)
+}
+
+/// The circuit of a source: the nodes that the profile in docs/FORMATS.md makes of it, finished with a
+/// node for each assert. Want of memory may come at any time.
+pub fn compile(alloc: Global, source: &Source) -> Result<AnyCircuit, LevelError>
+    ensures field { IfOk result (λ c. field_of c ≡ source.now.field_is) }
+    ensures publics { IfOk result (λ c. publics_of c ≡ count_by is_public (statements_of source.now.statements)) }
+    ensures privates { IfOk result (λ c. privates_of c ≡ count_by is_private (statements_of source.now.statements)) }
+    ensures layers { IfOk result (λ c. depth_of c ≡ source_layers (tree_of source.now)) }
+    ensures outputs { IfOk result (HasSourceValues (statements_of source.now.statements)) }
+    ensures within { IfOk result (λ _. source_limit (tree_of source.now) ≡ None) }
+    ensures fault { IfErr result (IsFaultOf (source_limit (tree_of source.now))) }
+{
+    let publics = source.publics();
+    let privates = source.privates();
+    let statements = source.statements();
+    match source.field() {
+        FieldId::Goldilocks => Ok(AnyCircuit::Gold(compile_over(
+            alloc, publics, privates, statements,
+        )?)),
+        FieldId::Gf2_128 => Ok(AnyCircuit::Gf(compile_over(alloc, publics, privates, statements)?)),
+    }
+}

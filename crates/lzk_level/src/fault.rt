@@ -1,0 +1,41 @@
+//! Why nodes make no circuit.
+
+ghost use Rattle.std.specs.Prelude.{◌≡◌};
+ghost use Rattle.lzk_level.specs.declared.fault.LevelError.TheVariants.{OutOfMemory};
+
+use std::alloc::{AllocError, AllocFailed};
+use thiserror::Error;
+
+/// The first limit that a circuit would pass, with the number that passes it: layers over 512, wires of
+/// a layer over 131,072, terms over 2,097,152 (the last value of u64 where there are more).
+#[derive(Clone, Copy, Debug, PartialEq, Eq)]
+pub enum LevelFault {
+    Layers(u64),
+    LayerWires(u64),
+    Terms(u64),
+}
+
+/// Why nodes give no circuit: a limit that it would pass, or want of memory.
+#[derive(Debug, Drop, Error)]
+pub enum LevelError {
+    #[error("{0:?}")]
+    Fault(LevelFault),
+    #[error("out of memory")]
+    OutOfMemory,
+}
+
+impl From<AllocError> for LevelError {
+    ghost from_gives = { λ _ e. e ≡ OutOfMemory };
+
+    fn from(_e: AllocError) -> LevelError {
+        LevelError::OutOfMemory
+    }
+}
+
+impl<T: Drop> From<AllocFailed<T>> for LevelError {
+    ghost from_gives = { λ _ e. e ≡ OutOfMemory };
+
+    fn from(_e: AllocFailed<T>) -> LevelError {
+        LevelError::OutOfMemory
+    }
+}

@@ -1,0 +1,42 @@
+//! Circuits from arithmetic nodes: what a compiler builds, level by level.
+//!
+//! A [`Builder`] holds nodes over a field: inputs, constants, sums of multiples and products. `finish`
+//! lays them out as a layered circuit (draft-google-cfrg-libzk), by the profile in docs/FORMATS.md. A
+//! caller writes
+//!
+//! ```text
+//! let mut builder = Builder::<Gold>::new(alloc, 1, 1)?;
+//! let (y, x) = (builder.public(0), builder.private(0));
+//! let square = builder.mul(x, x)?;
+//! let difference = builder.combine(&[(Gold::one(), square), (Gold::one().neg(), y)])?;
+//! let circuit = builder.finish(&[difference])?;
+//! ```
+//!
+//! [`compile`] builds and finishes the nodes of a source: its circuit has an output for each assert, which is
+//! left minus right on every input.
+#![tactic(auto)]
+
+mod builder;
+mod compiler;
+mod constants;
+mod fault;
+mod finish;
+mod lets;
+mod levels;
+mod making;
+mod measure;
+mod node;
+mod rows;
+mod stack;
+
+pub use builder::Builder;
+pub use compiler::compile;
+pub use fault::{LevelError, LevelFault};
+pub use node::{Gate, Node, Parts};
+
+#[cfg(test)]
+mod compiler_tests;
+#[cfg(test)]
+mod compiler_vectors;
+#[cfg(test)]
+mod tests;

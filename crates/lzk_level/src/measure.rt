@@ -1,0 +1,171 @@
+//! Depths, weights and limits.
+
+ghost use Rattle.std.specs.Prelude.{◌≡◌, ℕ, ◌+◌, ◌-◌, ◌*◌, ◌^◌, ◌<◌, ◌≤◌, max, min, List, [], ◌∷◌, length, map, replicate, IfOk, MatchResult, None, Some};
+ghost use Rattle.lzk_level.specs.Nodes.{ArePartsOf, IsGate, AreGates, after};
+ghost use Rattle.lzk_level.specs.Bounds.{at, at_parts, greatest, total, gate_depth, gate_weight, limit_fault};
+
+use crate::fault::LevelFault;
+use crate::node::{Gate, Node};
+use std::alloc::{AllocError, Global};
+
+const MOST_LAYERS: u32 = 512;
+
+const MOST_WIRES: u32 = 131_072;
+
+const MOST_TERMS: u64 = 2_097_152;
+
+fn larger(a: u32, b: u32) -> u32
+    ensures { result ≡ max a b }
+{
+    if a < b { b } else { a }
+}
+
+// A sum is no less deep than any part, and at least 1.
+fn parts_depth<F>(depths: &[u32], parts: &[(F, Node)]) -> u32
+    requires { ArePartsOf (length depths.now - 1) parts.now }
+    ensures { result ≡ greatest 1 (at_parts depths.now parts.now) }
+{
+    let mut depth = 1;
+    for i in 0..parts.len() {
+        depth = larger(depth, depths[parts[i].1.number() as usize]);
+    }
+    depth
+}
+
+fn parts_weight<F>(weights: &[u64], parts: &[(F, Node)]) -> u64
+    requires { ArePartsOf (length weights.now - 1) parts.now }
+    ensures { result ≡ min (2 ^ 64 - 1) (total (at_parts weights.now parts.now)) }
+{
+    let mut weight = 0u64;
+    for i in 0..parts.len() {
+        weight = weight.saturating_add(weights[parts[i].1.number() as usize]);
+    }
+    weight
+}
+
+fn depth_of<F>(depths: &[u32], gate: &Gate<F>) -> u32
+    requires gate { IsGate (length depths.now - 1) gate.now }
+    requires few { length depths.now ≤ 2147483649 }
+    requires below { (k : ℕ) → k < length depths.now → at depths.now k < length depths.now }
+    ensures depth { result ≡ gate_depth depths.now gate.now }
+{
+    match gate {
+        Gate::Constant(_) => 1,
+        Gate::Combine(parts) => parts_depth(depths, parts.as_slice()),
+        Gate::Mul(x, y) => {
+            let left = depths[x.number() as usize];
+            let right = depths[y.number() as usize];
+            1 + larger(left, right)
+        }
+    }
+}
+
+fn weight_of<F>(weights: &[u64], gate: &Gate<F>) -> u64
+    requires gate { IsGate (length weights.now - 1) gate.now }
+    ensures { result ≡ min (2 ^ 64 - 1) (gate_weight weights.now gate.now) }
+{
+    match gate {
+        Gate::Constant(_) => 1,
+        Gate::Combine(parts) => parts_weight(weights, parts.as_slice()),
+        Gate::Mul(_, _) => 1,
+    }
+}
+
+/// The depths of the one, of so many inputs, and of these gates.
+pub fn depths_of<F>(alloc: Global, inputs: u32, made: &[Gate<F>]) -> Result<Vec<u32>, AllocError>
+    requires few { inputs + length made.now ≤ 2147483648 }
+    requires gates { AreGates inputs made.now }
+    ensures { IfOk result (λ depths. depths.items ≡ after gate_depth (replicate (1 + inputs) 0) made.now) }
+{
+    let mut depths = vec![in alloc; 0; 1 + inputs as usize]?;
+    for i in 0..made.len() {
+        let depth = depth_of(&depths, &made[i]);
+        depths.push(depth)?;
+    }
+    Ok(depths)
+}
+
+/// Their weights, which stop at the last value of u64. The one weighs nothing.
+pub fn weights_of<F>(alloc: Global, inputs: u32, made: &[Gate<F>]) -> Result<Vec<u64>, AllocError>
+    requires few { inputs + length made.now ≤ 2147483648 }
+    requires gates { AreGates inputs made.now }
+    ensures { IfOk result (λ weights. weights.items ≡ map (min (2 ^ 64 - 1)) (after gate_weight (0 ∷ replicate inputs 1) made.now)) }
+{
+    let mut weights = vec![in alloc; 1; 1 + inputs as usize]?;
+    weights[0] = 0;
+    for i in 0..made.len() {
+        let weight = weight_of(&weights, &made[i]);
+        weights.push(weight)?;
+    }
+    Ok(weights)
+}
+
+// The greatest depth of the outputs, and at least 1.
+fn layers_of(depths: &[u32], outputs: &[Node]) -> u32
+    requires { (i : ℕ) → i < length outputs.now → at outputs.now i < length depths.now }
+    ensures { result ≡ greatest 1 (map (at depths.now) outputs.now) }
+{
+    let mut layers = 1;
+    for i in 0..outputs.len() {
+        layers = larger(layers, depths[outputs[i].number() as usize]);
+    }
+    layers
+}
+
+// Adds up weights to a number, as far as u64 goes.
+fn add_all(start: u64, weights: &[u64]) -> u64
+    ensures { result ≡ min (2 ^ 64 - 1) (start + total weights.now) }
+{
+    let mut sum = start;
+    for i in 0..weights.len() {
+        sum = sum.saturating_add(weights[i]);
+    }
+    sum
+}
+
+// The same for the weights of outputs.
+fn add_outputs(start: u64, weights: &[u64], outputs: &[Node]) -> u64
+    requires { (i : ℕ) → i < length outputs.now → at outputs.now i < length weights.now }
+    ensures { result ≡ min (2 ^ 64 - 1) (start + total (map (at weights.now) outputs.now)) }
+{
+    let mut sum = start;
+    for i in 0..outputs.len() {
+        sum = sum.saturating_add(weights[outputs[i].number() as usize]);
+    }
+    sum
+}
+
+fn check(layers: u32, wires: u32, terms: u64) -> Result<u32, LevelFault>
+    ensures { (all : ℕ) → terms ≡ min (2 ^ 64 - 1) all → MatchResult result
+        (λ count. (count ≡ layers) × (limit_fault layers wires all ≡ None))
+        (λ fault. limit_fault layers wires all ≡ Some fault) }
+{
+    if layers > MOST_LAYERS {
+        return Err(LevelFault::Layers(layers as u64));
+    }
+    if wires > MOST_WIRES {
+        return Err(LevelFault::LayerWires(wires as u64));
+    }
+    if terms > MOST_TERMS {
+        return Err(LevelFault::Terms(terms));
+    }
+    Ok(layers)
+}
+
+/// How many layers the outputs need, where they keep the limits.
+pub fn check_limits(depths: &[u32], weights: &[u64], outputs: &[Node]) -> Result<u32, LevelFault>
+    requires few { length depths.now ≤ 2147483649 }
+    requires same { length weights.now ≡ length depths.now }
+    requires nodes { (i : ℕ) → i < length outputs.now → at outputs.now i < length depths.now }
+    ensures { (all : List ℕ) → weights.now ≡ map (min (2 ^ 64 - 1)) all → (let layers = greatest 1 (map (at depths.now) outputs.now) in
+        let terms = layers * length depths.now + total all + total (map (at all) outputs.now) in
+        MatchResult result
+        (λ count. (count ≡ layers) × (limit_fault layers (length depths.now) terms ≡ None))
+        (λ fault. limit_fault layers (length depths.now) terms ≡ Some fault)) }
+{
+    let layers = layers_of(depths, outputs);
+    let wires = depths.len() as u32;
+    let copies = layers as u64 * wires as u64;
+    let terms = add_outputs(add_all(copies, weights), weights, outputs);
+    check(layers, wires, terms)
+}

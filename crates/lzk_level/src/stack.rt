@@ -1,0 +1,82 @@
+//! Layers from rows.
+
+ghost use Rattle.std.specs.Prelude.{◌≡◌, ℕ, ◌+◌, ◌-◌, ◌<◌, ◌≤◌, None, List, length, map, IfOk};
+ghost use Rattle.lzk_circuit.specs.Valid.{AreTerms};
+ghost use Rattle.lzk_circuit.specs.Wires.{coef, wire};
+ghost use Rattle.lzk_level.specs.Bounds.{at};
+ghost use Rattle.lzk_level.specs.Rows.{IsRow, row_value};
+ghost use Rattle.lzk_level.specs.Levels.{place_in, width_of, row_at, AreRows, lengths_in, lengths_of};
+
+use crate::node::Node;
+use lzk_circuit::{Layer, Term, Terms};
+use lzk_field::Field;
+use std::alloc::{AllocError, Global};
+
+// Appends a row as the terms of wire `g`, which is the next one.
+fn append<F: Field>(terms: &mut Vec<Term<F>>, g: u32, row: &[Term<F>]) -> Result<(), AllocError>
+    ensures terms { (width : ℕ) → AreTerms F.ops g width None terms.old.items → IsRow F.ops width row.now → IfOk result (λ _. AreTerms F.ops (g + 1) width None terms.new.items) }
+    ensures before { (below : List F) (i : ℕ) → i < g → IfOk result (λ _. wire F.ops (coef F.ops terms.new.items) below i ≡ wire F.ops (coef F.ops terms.old.items) below i) }
+    ensures added { (below : List F) → AreTerms F.ops g (length below) None terms.old.items → IsRow F.ops (length below) row.now → IfOk result (λ _. wire F.ops (coef F.ops terms.new.items) below g ≡ row_value F.ops below row.now) }
+    ensures count { IfOk result (λ _. length terms.new.items ≡ length terms.old.items + length row.now) }
+{
+    for term in row {
+        terms.push(Term { g, ..*term })?;
+    }
+    Ok(())
+}
+
+/// The layer of all nodes with a place in a level.
+pub fn inner_layer<F: Field>(
+    alloc: Global,
+    depths: &[u32],
+    level: u32,
+    rows: &[Terms<F>],
+) -> Result<Layer<F>, AllocError>
+    requires rows { length rows.now ≡ length depths.now }
+    requires few { length depths.now ≤ 131072 }
+    ensures wires { IfOk result (λ layer. layer.wires ≡ width_of depths.now level) }
+    ensures terms { (width : ℕ) → AreRows F.ops width rows.now → IfOk result (λ layer. AreTerms F.ops (width_of depths.now level) width None layer.terms) }
+    ensures values { (below : List F) → AreRows F.ops (length below) rows.now → IfOk result (λ layer. (k : ℕ) → k < length depths.now → at depths.now k ≤ level → wire F.ops (coef F.ops layer.terms) below (place_in depths.now level k) ≡ row_value F.ops below (row_at rows.now k)) }
+    ensures count { IfOk result (λ layer. length layer.terms ≡ lengths_in depths.now level rows.now (length depths.now)) }
+{
+    let mut terms = Vec::new(alloc);
+    let mut wires = 0;
+    for k in 0..depths.len() {
+        if depths[k] <= level {
+            append(&mut terms, wires, rows[k].as_slice())?;
+            wires += 1;
+        }
+    }
+    Ok(Layer {
+        wires,
+        terms: Terms::new(terms),
+    })
+}
+
+/// The outputs' layer: a wire for each, with the row of its node.
+pub fn output_layer<F: Field>(
+    alloc: Global,
+    rows: &[Terms<F>],
+    outputs: &[Node],
+) -> Result<Layer<F>, AllocError>
+    requires nodes { (i : ℕ) → i < length outputs.now → at outputs.now i < length rows.now }
+    requires few { length outputs.now ≤ 131072 }
+    ensures wires { IfOk result (λ layer. layer.wires ≡ length outputs.now) }
+    ensures terms { (width : ℕ) → AreRows F.ops width rows.now → IfOk result (λ layer. AreTerms F.ops (length outputs.now) width None layer.terms) }
+    ensures values { (below : List F) → AreRows F.ops (length below) rows.now → IfOk result (λ layer. (i : ℕ) → i < length outputs.now → wire F.ops (coef F.ops layer.terms) below i ≡ row_value F.ops below (row_at rows.now (at outputs.now i))) }
+    ensures count { IfOk result (λ layer. length layer.terms ≡ lengths_of rows.now outputs.now) }
+{
+    let mut terms = Vec::new(alloc);
+    for g in 0..outputs.len() {
+        let node = outputs[g];
+        append(
+            &mut terms,
+            g as u32,
+            rows[node.number() as usize].as_slice(),
+        )?;
+    }
+    Ok(Layer {
+        wires: outputs.len() as u32,
+        terms: Terms::new(terms),
+    })
+}
