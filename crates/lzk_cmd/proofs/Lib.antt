@@ -1,9 +1,11 @@
 pub mod Causes
+pub mod Compiles
 pub mod Evals
 pub mod Outputs
 pub mod Printing
 pub mod Ready
 pub mod Shows
 pub mod Steps
+pub mod Terms
 pub mod Told
 pub mod Works

@@ -1,5 +1,5 @@
 -- A run whose files are ready is done.
-use Rattle.std.proofs.Common.{◌≡◌, ℕ, inl, inr, ◌⊎◌, List, length, Option, Some, None, refl, sym, subst}
+use Rattle.std.proofs.Common.{◌≡◌, ℕ, inl, inr, ◌⊎◌, List, length, Option, Some, None, Ok, Err, refl, sym, subst}
 use Rattle.std.specs.Prelude.{IfSome, ◌^◌}
 use Rattle.std.proofs.lemmas.Bool.{le-ltb}
 use Rattle.lzk_circbytes.specs.declared.any.AnyCircuit.{AnyCircuit}
@@ -8,18 +8,23 @@ use Rattle.lzk_circbytes.proofs.Whole.{one_circuit, no_fault}
 use Rattle.lzk_circuit.specs.Valid.{Wiring}
 use Rattle.lzk_expr.specs.Numbers.{NumberText, IsNumberFault}
 use Rattle.lzk_expr.proofs.Laws.{text_again}
+use Rattle.lzk_expr.proofs.TextLaws.{one_text}
+use Rattle.lzk_expr.specs.declared.source_fault.SourceFault.{SourceFault}
+use Rattle.lzk_expr.specs.Sources.{SourceText, IsSourceFault}
+use Rattle.lzk_expr.specs.Trees.{SourceTree}
 use Rattle.lzk_field.specs.Ring.{Ops}
 use Rattle.lzk_goldilocks.specs.Prime.{p}
 use Rattle.lzk_goldilocks.specs.Elements as gold
 use Rattle.lzk_gf128.specs.Elements as gf
 use Rattle.lzk_outside.specs.Outside.{Files}
 use Rattle.lzk_cmd.specs.Answers.{HasFile}
-use Rattle.lzk_cmd.specs.Complete.{HasCircuit, HasNumbers, HasInputs, HasInputsOf, IsReady, Completed}
-use Rattle.lzk_cmd.specs.Decoded.{circuit_limit, text_limit, AtCircuitFile, AtNumberFile}
+use Rattle.lzk_cmd.specs.Compiled.{CompileRun}
+use Rattle.lzk_cmd.specs.Complete.{HasCircuit, HasNumbers, HasSource, HasInputs, HasInputsOf, IsReady, Completed}
+use Rattle.lzk_cmd.specs.Decoded.{circuit_limit, text_limit, AtCircuitFile, AtNumberFile, AtSourceFile}
 use Rattle.lzk_cmd.specs.Ends.{End, Nowhere, AtRead, AtPut, AtFile}
 use Rattle.lzk_cmd.specs.Outcome.{Outcome}
 use Rattle.lzk_cmd.specs.Run.{EvalOver, EvalAny, EvalRun, ShowRun, CommandRun, RunOf, verdict}
-use Rattle.lzk_cmd.specs.Words.{Command, Eval, Show, command_of}
+use Rattle.lzk_cmd.specs.Words.{Command, Eval, Compile, Show, command_of}
 
 file_ready : (files : Files) (name bytes : List ℕ) (k limit : ℕ) (end : End) (next : List ℕ → Type 0) → HasFile (files name) limit bytes → AtFile files Nowhere k name limit end next → next bytes
 file_ready files name bytes k limit end next f h = rw (f.there, le-ltb limit (length bytes) f.fits) at h
@@ -38,6 +43,18 @@ numbers_ready : {A : Type 0} (size : ℕ) (number : A → ℕ) (files : Files) (
 numbers_ready size number files name count k end next has h = elim (file_ready files name has.0 k text_limit end _ has.2 h) [
   | inl found ↦ (found.0, found.2)
   | inr refused ↦ absurd (no_number_fault size count has.0 has.1 has.3 refused.0 refused.1)
+]
+
+same_source : (text : List ℕ) (s t : SourceTree) → SourceText text s → SourceText text t → s ≡ t
+same_source text s t h k = let same = one_text text (Ok s) (Ok t) h k in cc
+
+no_source_fault : (text : List ℕ) (s : SourceTree) (fault : SourceFault) → SourceText text s → IsSourceFault text fault → ⊥
+no_source_fault text s fault h k = let no = one_text text (Ok s) (Err fault) h k in absurd cc
+
+source_ready : (files : Files) (name : List ℕ) (k : ℕ) (end : End) (s : SourceTree) (next : SourceTree → Type 0) → HasSource files name s → AtSourceFile files Nowhere k name end next → next s
+source_ready files name k end s next has h = elim (file_ready files name has.0 k text_limit end _ has.1 h) [
+  | inl found ↦ subst next (same_source has.0 found.0 s found.1 has.2) found.2
+  | inr refused ↦ absurd (no_source_fault has.0 s refused.0 has.2 refused.1)
 ]
 
 abbrev Done : End → Type 0
@@ -61,8 +78,11 @@ eval_any_done (Gold c) public private files end has h = eval_over_done gold.ops 
 eval_any_done (Gf c) public private files end has h = eval_over_done gf.ops (2 ^ 128) (λ x. x.n) c public private files end has h
 
 ready_done : (files : Files) (command : Command) (end : End) → IsReady files command → CommandRun command files Nowhere end → Done end
-unfolding EvalRun ShowRun
+unfolding EvalRun CompileRun ShowRun
 ready_done files (Eval circuit public private) end has h = eval_any_done has.0 public private files end has.2 (circuit_ready files circuit 0 end has.0 _ has.1 h)
+ready_done files (Compile source circuit) end has h =
+    let made = rw has.1.3 at (source_ready files source 0 end has.0 _ has.1 h) in
+    subst Done (sym made.4) (inl refl)
 ready_done files (Show circuit) end has h = subst Done (sym (circuit_ready files circuit 0 end has.0 _ has.1 h)) (inl refl)
 
 run_command : (words : List (List ℕ)) (files : Files) (command : Command) (end : End) → command_of words ≡ Some command → RunOf words files Nowhere end → CommandRun command files Nowhere end

@@ -1,5 +1,5 @@
 -- One step of a walk, forwards where it goes on and at its end.
-use Rattle.std.proofs.Common.{◌≡◌, ◌+◌, inl, inr, ℕ, ◌<◌, ◌⊎◌, List, length, map, Option, Some, None, refl, arith}
+use Rattle.std.proofs.Common.{◌≡◌, ◌+◌, inl, inr, ℕ, ◌<◌, ◌⊎◌, List, length, map, Option, Some, None, refl, sym, subst, arith}
 use Rattle.std.specs.Option.{IsSomeAnd}
 use Rattle.std.proofs.lemmas.Bool.{le-ltb, lt-ltb, ne_eqb, eq-eqb}
 use Rattle.lzk_circbytes.specs.declared.any.AnyCircuit.{AnyCircuit}
@@ -8,9 +8,12 @@ use Rattle.lzk_expr.specs.Numbers.{NumberText}
 use Rattle.lzk_outside.specs.Outside.{Files}
 use Rattle.lzk_cmd.specs.declared.ending.Ending.{Ending}
 use Rattle.lzk_cmd.specs.Lines.{reading_line, larger_line}
-use Rattle.lzk_cmd.specs.Ends.{End, Stop, Nowhere, AtRead, AtFile, says, missing_file}
-use Rattle.lzk_cmd.specs.Decoded.{circuit_limit, text_limit, circuit_refused, numbers_refused, AtCircuit, AtNumbers, AtCircuitFile, AtNumberFile}
+use Rattle.lzk_cmd.specs.Ends.{End, Stop, Nowhere, AtRead, AtFile, says, missing_file, Leaves}
+use Rattle.lzk_cmd.specs.Decoded.{circuit_limit, text_limit, circuit_refused, numbers_refused, source_refused, AtCircuit, AtNumbers, AtSource, AtCircuitFile, AtNumberFile, AtSourceFile}
 use Rattle.lzk_cmd.specs.Answers.{HasFile, FileEnds, CircuitRefused, NumbersRefused, Halted}
+use Rattle.lzk_cmd.specs.Putting.{SourceRefused, Settled}
+use Rattle.lzk_expr.specs.Sources.{SourceText}
+use Rattle.lzk_expr.specs.Trees.{SourceTree}
 
 some_and : (o : Option (List ℕ)) (P : List ℕ → Type 0) → IsSomeAnd o P → (x : List ℕ) × (o ≡ Some x) × P x
 some_and None P h = elim h [ ]
@@ -66,3 +69,30 @@ module _ (read_rose put_rose : Type 0) (e : Ending) where
   number_file_then size number files name count k values next f h =
       file_then files name f.0 k (k + 1) text_limit (λ stop end text. AtNumbers size number name text count end (next stop end)) (omega arith) f.1
       (h.0, h.1, h.2, h.3, inl (values, f.2, h.4), h.5, h.6)
+
+  source_ends : (name text : List ℕ) (k : ℕ) (next : Stop → End → SourceTree → Type 0) → SourceRefused name text e → Halted (λ stop end. AtSource name text end (next stop end)) k read_rose put_rose e
+  source_ends name text k next r = (Nowhere, source_refused name r.found, tt, (λ j l. refl), inr (r.found, r.fault, refl), r.ends, refl)
+
+  pub source_file_ends : (files : Files) (name : List ℕ) (k : ℕ) (next : Stop → End → SourceTree → Type 0)
+      → FileEnds (files name) name text_limit read_rose e ⊎ ((text : List ℕ) × HasFile (files name) text_limit text × SourceRefused name text e)
+      → Halted (λ stop end. AtSourceFile files stop k name end (next stop end)) k read_rose put_rose e
+  source_file_ends files name k next (inl h) = file_ends files name k text_limit (λ stop end text. AtSource name text end (next stop end)) h
+  source_file_ends files name k next (inr h) =
+      file_then files name h.0 k (k + 1) text_limit (λ stop end text. AtSource name text end (next stop end)) (omega arith) h.1 (source_ends name h.0 (k + 1) next h.2)
+
+  -- a walk that puts nothing leaves what was there
+  pub settled : (tail : Stop → End → Type 0) (k : ℕ) (files : Files) (held : Option Files) → held ≡ Some files → Halted tail k read_rose put_rose e → Settled tail k files read_rose put_rose held e
+  settled tail k files held same h = (h.0, h.1, h.2, h.3, h.4, h.5, subst (λ (put : Option (List ℕ × List ℕ)). Leaves files h.0 put held) (sym h.6) same)
+
+  settled_then : (files : Files) (name bytes : List ℕ) (j k limit : ℕ) (next : Stop → End → List ℕ → Type 0) (held : Option Files) → j < k → HasFile (files name) limit bytes
+      → Settled (λ stop end. next stop end bytes) k files read_rose put_rose held e → Settled (λ stop end. AtFile files stop j name limit end (next stop end)) j files read_rose put_rose held e
+  settled_then files name bytes j k limit next held lt f h =
+      (h.0, h.1, h.2, (λ i l. h.3 i (omega arith)), rw (h.3 j lt, f.there, le-ltb limit (length bytes) f.fits) h.4, h.5, h.6)
+
+  -- the walk goes on with a file's source
+  pub source_file_then : (files : Files) (name : List ℕ) (k : ℕ) (source : SourceTree) (next : Stop → End → SourceTree → Type 0) (held : Option Files)
+      → (text : List ℕ) × HasFile (files name) text_limit text × SourceText text source
+      → Settled (λ stop end. next stop end source) (k + 1) files read_rose put_rose held e → Settled (λ stop end. AtSourceFile files stop k name end (next stop end)) k files read_rose put_rose held e
+  source_file_then files name k source next held f h =
+      settled_then files name f.0 k (k + 1) text_limit (λ stop end text. AtSource name text end (next stop end)) held (omega arith) f.1
+      (h.0, h.1, h.2, h.3, inl (source, f.2, h.4), h.5, h.6)

@@ -12,7 +12,7 @@ use Rattle.lzk_cmd.specs.declared.ending.Halt.{Halt}
 use Rattle.lzk_cmd.specs.declared.ending.Halt.TheVariants as halts
 use Rattle.lzk_cmd.specs.Decoded.{circuit_limit, text_limit, circuit_refused, numbers_refused}
 use Rattle.lzk_cmd.specs.Ends.{End as Ended, says, missing_file, Stop, MayStop, stops_at}
-use Rattle.lzk_cmd.specs.Lines.{missing_line, larger_line, reading_line, byte_line, text_line}
+use Rattle.lzk_cmd.specs.Lines.{missing_line, larger_line, reading_line, byte_line, text_line, limit_line}
 
 -- the run's end, as the code has it
 pub record IsEnding (end : Ended) (e : Ending) : Type 0 where
@@ -80,7 +80,8 @@ IsRefusal miss_rose text =
     ((name : List ℕ) × (text ≡ missing_line name) × miss_rose)
     ⊎ (((name : List ℕ) × (limit : ℕ) × (text ≡ larger_line name limit))
     ⊎ (((name : List ℕ) × (offset : ℕ) × (kind : List ℕ) × (text ≡ byte_line name offset kind))
-    ⊎ ((name : List ℕ) × (number : ℕ) × (kind : List ℕ) × (text ≡ text_line name number kind))))
+    ⊎ (((name : List ℕ) × (number : ℕ) × (kind : List ℕ) × (text ≡ text_line name number kind))
+    ⊎ ((name : List ℕ) × (kind : List ℕ) × (count : ℕ) × (limit : ℕ) × (text ≡ limit_line name kind count limit)))))
 
 -- each status has its cause, whether or not the shelf tells its files
 pub record HasCause (read_rose miss_rose : Type 0) (e : Ending) : Type 0 where
@@ -91,11 +92,12 @@ pub record HasCause (read_rose miss_rose : Type 0) (e : Ending) : Type 0 where
   pub words : e.status ≡ 2 → ⊥
 
 -- the same of a whole run, where the words may be at fault
-pub record RunHasCause (read_rose miss_rose : Type 0) (e : Ending) : Type 0 where
+pub record RunHasCause (read_rose write_rose miss_rose : Type 0) (e : Ending) : Type 0 where
   pub reading : e.status ≡ 4 → read_rose
+  pub writing : e.status ≡ 5 → write_rose
   pub missing : e.missing ≡ true → miss_rose
   pub refusal : e.status ≡ 3 → IsRefusal miss_rose (string_bytes e.text)
-  pub others : e.status < 5
+  pub others : e.status < 6
 
 -- contents are refused, whatever was counted
 pub record RefusesContents (e : Ending) : Type 0 where

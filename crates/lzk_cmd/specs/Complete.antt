@@ -1,17 +1,20 @@
 -- Runs in which nothing is refused.
-use Rattle.std.specs.Prelude.{◌≡◌, ◌⊎◌, ◌^◌, ℕ, List, ◌++◌, Option, Some}
+use Rattle.std.specs.Prelude.{◌≡◌, ◌⊎◌, ◌^◌, ℕ, List, ◌++◌, Option, Some, None}
 use Rattle.lzk_circbytes.specs.declared.any.AnyCircuit.{AnyCircuit}
 use Rattle.lzk_circbytes.specs.declared.any.AnyCircuit.TheVariants.{Gold, Gf}
 use Rattle.lzk_circbytes.specs.Files.{CircuitBytes}
 use Rattle.lzk_circuit.specs.Valid.{Wiring}
 use Rattle.lzk_expr.specs.Numbers.{NumberText}
+use Rattle.lzk_expr.specs.Sources.{SourceText}
+use Rattle.lzk_expr.specs.Trees.{SourceTree}
 use Rattle.lzk_goldilocks.specs.Prime.{p}
+use Rattle.lzk_level.specs.Compiled.{source_limit}
 use Rattle.lzk_outside.specs.Outside.{Files}
 use Rattle.lzk_cmd.specs.Answers.{HasFile}
 use Rattle.lzk_cmd.specs.Decoded.{circuit_limit, text_limit}
 use Rattle.lzk_cmd.specs.Ends.{End, Nowhere}
 use Rattle.lzk_cmd.specs.Run.{RunOf}
-use Rattle.lzk_cmd.specs.Words.{Command, Eval, Show, command_of}
+use Rattle.lzk_cmd.specs.Words.{Command, Eval, Compile, Show, command_of}
 
 -- the circuit's file is there, within its limit
 abbrev pub HasCircuit : Files → List ℕ → AnyCircuit → Type 0
@@ -28,9 +31,14 @@ abbrev pub HasInputsOf : AnyCircuit → Files → List ℕ → List ℕ → Type
 HasInputsOf (Gold c) files public private = HasInputs p files c public private
 HasInputsOf (Gf c) files public private = HasInputs (2 ^ 128) files c public private
 
+-- the source's file is there, within its limit, and its circuit keeps the limits
+abbrev pub HasSource : Files → List ℕ → SourceTree → Type 0
+HasSource files name source = (text : List ℕ) × HasFile (files name) text_limit text × SourceText text source × (source_limit source ≡ None)
+
 -- the files that a command reads are there, within their limits and of their formats
 abbrev pub IsReady : Files → Command → Type 0
 IsReady files (Eval circuit public private) = (c : AnyCircuit) × HasCircuit files circuit c × HasInputsOf c files public private
+IsReady files (Compile source circuit) = (s : SourceTree) × HasSource files source s
 IsReady files (Show circuit) = (c : AnyCircuit) × HasCircuit files circuit c
 
 -- the run is done, or its inputs don't satisfy the circuit, and its text is printed to the end

@@ -1,4 +1,5 @@
 pub mod Answers
+pub mod Compiled
 pub mod Complete
 pub mod Decoded
 pub mod Ends
@@ -6,6 +7,7 @@ pub mod Evaluations
 pub mod Files
 pub mod Lines
 pub mod Outcome
+pub mod Putting
 pub mod Run
 pub mod Views
 pub mod Words
@@ -13,6 +15,7 @@ pub use Rattle.lzk_outside.specs as lzk_outside
 pub use Rattle.lzk_circbytes.specs as lzk_circbytes
 pub use Rattle.lzk_circuit.specs as lzk_circuit
 pub use Rattle.lzk_expr.specs as lzk_expr
+pub use Rattle.lzk_level.specs as lzk_level
 pub use Rattle.lzk_goldilocks.specs as lzk_goldilocks
 pub use Rattle.lzk_gf128.specs as lzk_gf128
 pub use Rattle.lzk_field.specs as lzk_field

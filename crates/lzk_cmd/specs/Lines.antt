@@ -6,6 +6,10 @@ use Rattle.lzk_circbytes.specs.declared.fault.ByteKind.{ByteKind}
 use Rattle.lzk_circbytes.specs.declared.fault.ByteKind.TheVariants as bytes
 use Rattle.lzk_expr.specs.declared.fault.NumberKind.{NumberKind}
 use Rattle.lzk_expr.specs.declared.fault.NumberKind.TheVariants as numbers
+use Rattle.lzk_expr.specs.declared.source_fault.SourceKind.{SourceKind}
+use Rattle.lzk_expr.specs.declared.source_fault.SourceKind.TheVariants as sources
+use Rattle.lzk_level.specs.declared.fault.LevelFault.{LevelFault}
+use Rattle.lzk_level.specs.declared.fault.LevelFault.TheVariants.{Layers, LayerWires, Terms}
 
 -- a line, with its end
 abbrev pub line : List ℕ → List ℕ
@@ -42,6 +46,33 @@ number_kind_name numbers.Syntax = codes "Syntax"
 number_kind_name numbers.TooLarge = codes "TooLarge"
 number_kind_name numbers.TooFew = codes "TooFew"
 number_kind_name numbers.TooMany = codes "TooMany"
+
+abbrev pub source_kind_name : SourceKind → List ℕ
+source_kind_name sources.Character = codes "Character"
+source_kind_name sources.Syntax = codes "Syntax"
+source_kind_name sources.Keyword = codes "Keyword"
+source_kind_name sources.Unknown = codes "Unknown"
+source_kind_name sources.Twice = codes "Twice"
+source_kind_name sources.TooLarge = codes "TooLarge"
+source_kind_name sources.NoField = codes "NoField"
+source_kind_name sources.NoAssert = codes "NoAssert"
+source_kind_name sources.Limit = codes "Limit"
+
+-- a number of a circuit that its source gives is over a limit
+abbrev pub limit_line : List ℕ → List ℕ → ℕ → ℕ → List ℕ
+limit_line name kind count limit = codes "refused: " ++ (name ++ (codes ": " ++ (kind ++ (codes " " ++ (decimal count ++ (codes " over " ++ line (decimal limit)))))))
+
+abbrev pub level_line : List ℕ → LevelFault → List ℕ
+level_line name (Layers count) = limit_line name (codes "Layers") count 512
+level_line name (LayerWires count) = limit_line name (codes "LayerWires") count 131072
+level_line name (Terms count) = limit_line name (codes "Terms") count 2097152
+
+abbrev pub writing_line : List ℕ → List ℕ
+writing_line name = line (codes "fault: writing " ++ name)
+
+abbrev pub compiled_line : List ℕ → ℕ → ℕ → ℕ → List ℕ
+compiled_line name layers terms bytes =
+    codes "compiled " ++ (name ++ (codes ": layers " ++ (decimal layers ++ (codes ", terms " ++ (decimal terms ++ (codes ", " ++ (decimal bytes ++ line (codes " bytes"))))))))
 
 abbrev pub reading_line : List ℕ → List ℕ
 reading_line name = line (codes "fault: reading " ++ name)

@@ -12,10 +12,11 @@ use Rattle.lzk_goldilocks.specs.Prime.{p}
 use Rattle.lzk_goldilocks.specs.Elements as gold
 use Rattle.lzk_gf128.specs.Elements as gf
 use Rattle.lzk_outside.specs.Outside.{Files}
+use Rattle.lzk_cmd.specs.Compiled.{CompileRun}
 use Rattle.lzk_cmd.specs.Decoded.{AtCircuitFile, AtNumberFile}
 use Rattle.lzk_cmd.specs.Lines.{output_line, satisfied_line, unsatisfied_line, counts_lines, layer_line}
 use Rattle.lzk_cmd.specs.Ends.{End, says, refused_words, Stop}
-use Rattle.lzk_cmd.specs.Words.{Command, Eval, Show, command_of}
+use Rattle.lzk_cmd.specs.Words.{Command, Eval, Compile, Show, command_of}
 
 -- the outputs' lines, from output k on
 abbrev pub output_lines : ℕ → List ℕ → List ℕ
@@ -65,6 +66,7 @@ ShowRun circuit files stop end = AtCircuitFile files stop 0 circuit end (λ c. e
 
 abbrev pub CommandRun : Command → Files → Stop → End → Type 0
 CommandRun (Eval circuit public private) = EvalRun circuit public private
+CommandRun (Compile source circuit) = CompileRun source circuit
 CommandRun (Show circuit) = ShowRun circuit
 
 -- a run of these words over these files may end so

@@ -5,4 +5,5 @@ use Rattle.lzk_cmd.specs.Words as words
 
 abbrev pub command_view : Command → words.Command
 command_view (codes.Eval circuit public private) = words.Eval circuit.now public.now private.now
+command_view (codes.Compile source circuit) = words.Compile source.now circuit.now
 command_view (codes.Show circuit) = words.Show circuit.now

@@ -13,7 +13,7 @@ use std::alloc::{AllocError, Global};
 /// The largest circuit file that is read, in bytes.
 pub const CIRCUIT_LIMIT: usize = 67_108_864;
 
-/// The largest number file that is read, in bytes.
+/// The largest number or source file that is read, in bytes.
 pub const TEXT_LIMIT: usize = 4_194_304;
 
 /// A whole file, or the end of the run.

@@ -9,6 +9,7 @@
 #![tactic(auto)]
 
 mod circuits;
+mod compiling;
 mod ending;
 mod eval;
 mod files;

@@ -4,7 +4,8 @@ ghost use Rattle.std.specs.Prelude.{◌≡◌, ◌++◌, IfOk, OnOk, string_byte
 ghost use Rattle.lzk_cmd.specs.Lines as lines;
 
 use lzk_circbytes::{ByteFault, ByteKind};
-use lzk_expr::{NumberFault, NumberKind};
+use lzk_expr::{NumberFault, NumberKind, SourceFault, SourceKind};
+use lzk_level::LevelFault;
 use std::alloc::{AllocError, Global};
 
 pub fn refuse_words(alloc: Global) -> Result<String, AllocError>
@@ -29,6 +30,12 @@ pub fn tell_reading(alloc: Global, name: &str) -> Result<String, AllocError>
     ensures { IfOk result (λ s. string_bytes s ≡ lines.reading_line name.now) }
 {
     format!(in alloc; "fault: reading {name}\n")
+}
+
+pub fn tell_writing(alloc: Global, name: &str) -> Result<String, AllocError>
+    ensures { IfOk result (λ s. string_bytes s ≡ lines.writing_line name.now) }
+{
+    format!(in alloc; "fault: writing {name}\n")
 }
 
 fn byte_kind_name(kind: ByteKind) -> &'static str
@@ -58,6 +65,22 @@ fn number_kind_name(kind: NumberKind) -> &'static str
     }
 }
 
+fn source_kind_name(kind: SourceKind) -> &'static str
+    ensures { result.now ≡ lines.source_kind_name kind }
+{
+    match kind {
+        SourceKind::Character => "Character",
+        SourceKind::Syntax => "Syntax",
+        SourceKind::Keyword => "Keyword",
+        SourceKind::Unknown => "Unknown",
+        SourceKind::Twice => "Twice",
+        SourceKind::TooLarge => "TooLarge",
+        SourceKind::NoField => "NoField",
+        SourceKind::NoAssert => "NoAssert",
+        SourceKind::Limit => "Limit",
+    }
+}
+
 fn tell_byte(alloc: Global, name: &str, offset: u64, kind: &str) -> Result<String, AllocError>
     ensures { IfOk result (λ s. string_bytes s ≡ lines.byte_line name.now offset kind.now) }
 {
@@ -80,6 +103,47 @@ pub fn refuse_numbers(alloc: Global, name: &str, fault: NumberFault) -> Result<S
     ensures { IfOk result (λ s. string_bytes s ≡ lines.text_line name.now fault.line (lines.number_kind_name fault.kind)) }
 {
     tell_line(alloc, name, fault.line, number_kind_name(fault.kind))
+}
+
+pub fn refuse_source(alloc: Global, name: &str, fault: SourceFault) -> Result<String, AllocError>
+    ensures { IfOk result (λ s. string_bytes s ≡ lines.text_line name.now fault.line (lines.source_kind_name fault.kind)) }
+{
+    tell_line(alloc, name, fault.line, source_kind_name(fault.kind))
+}
+
+fn tell_limit(
+    alloc: Global,
+    name: &str,
+    kind: &str,
+    count: u64,
+    limit: u32,
+) -> Result<String, AllocError>
+    ensures { IfOk result (λ s. string_bytes s ≡ lines.limit_line name.now kind.now count limit) }
+{
+    format!(in alloc; "refused: {name}: {kind} {count} over {limit}\n")
+}
+
+pub fn refuse_level(alloc: Global, name: &str, fault: LevelFault) -> Result<String, AllocError>
+    ensures { IfOk result (λ s. string_bytes s ≡ lines.level_line name.now fault) }
+{
+    match fault {
+        LevelFault::Layers(count) => tell_limit(alloc, name, "Layers", count, 512),
+        LevelFault::LayerWires(count) => tell_limit(alloc, name, "LayerWires", count, 131_072),
+        LevelFault::Terms(count) => tell_limit(alloc, name, "Terms", count, 2_097_152),
+    }
+}
+
+/// The line of a circuit whose file was put.
+pub fn tell_compiled(
+    alloc: Global,
+    name: &str,
+    layers: u32,
+    terms: usize,
+    bytes: usize,
+) -> Result<String, AllocError>
+    ensures { IfOk result (λ s. string_bytes s ≡ lines.compiled_line name.now layers terms bytes) }
+{
+    format!(in alloc; "compiled {name}: layers {layers}, terms {terms}, {bytes} bytes\n")
 }
 
 pub fn push_output(text: &mut String, k: u32, value: u128) -> Result<(), AllocError>

@@ -1,6 +1,7 @@
 //! Runs over a shelf and a sink in memory.
 
 mod circuits;
+mod compiling;
 
 use self::circuits::{GF_SQUARE, GF_THREE_LAYERS, ONE_WIRE, SQUARE, THREE_LAYERS};
 use crate::run;

@@ -3,10 +3,11 @@
 ghost use Rattle.std.specs.Prelude.{◌≡◌, ◌⊎◌, ◌↔◌, map, string_bytes, IfSome};
 ghost use Rattle.lzk_outside.specs.Outside.{Rose};
 ghost use Rattle.lzk_cmd.specs.Answers.{RunHasCause, ending_of};
-ghost use Rattle.lzk_cmd.specs.Words.{command_of};
+ghost use Rattle.lzk_cmd.specs.Words.{PutsFile, command_of};
 ghost use Rattle.lzk_cmd.specs.Outcome.{Outcome, Worked, Refused};
 ghost use Rattle.lzk_cmd.specs.Complete.{Completes};
 
+use crate::compiling::compile_source;
 use crate::ending::{Ending, Halt};
 use crate::eval::eval;
 use crate::lines;
@@ -22,7 +23,7 @@ fn work<S: Shelf>(alloc: Global, words: &[String], shelf: &mut S) -> Result<Endi
     ensures told { IfSome (S.held shelf.old) (λ files. Worked (map (λ w. string_bytes w) words.now) files (S.held shelf.new)
         (Rose (S.read_faults shelf.old) (S.read_faults shelf.new)) (Rose (S.put_faults shelf.old) (S.put_faults shelf.new)) (ending_of result)) }
     ensures words { IfSome (ending_of result) (λ e. (e.status ≡ 2) ↔ (command_of (map (λ w. string_bytes w) words.now) ≡ None)) }
-    ensures cause { IfSome (ending_of result) (RunHasCause (Rose (S.read_faults shelf.old) (S.read_faults shelf.new)) (Rose (S.misses shelf.old) (S.misses shelf.new))) }
+    ensures cause { IfSome (ending_of result) (RunHasCause (Rose (S.read_faults shelf.old) (S.read_faults shelf.new)) (PutsFile (command_of (map (λ w. string_bytes w) words.now)) × Rose (S.put_faults shelf.old) (S.put_faults shelf.new)) (Rose (S.misses shelf.old) (S.misses shelf.new))) }
 {
     match parse_words(words) {
         None => {
@@ -40,6 +41,7 @@ fn work<S: Shelf>(alloc: Global, words: &[String], shelf: &mut S) -> Result<Endi
                 private,
             },
         ) => eval(alloc, circuit, public, private, shelf),
+        Some(Command::Compile { source, circuit }) => compile_source(alloc, source, circuit, shelf),
         Some(Command::Show { circuit }) => show(alloc, circuit, shelf),
     }
 }
@@ -53,7 +55,7 @@ fn conclude<S: Shelf, K: Sink>(alloc: Global, words: &[String], shelf: &mut S, o
     ensures refused { command_of (map (λ w. string_bytes w) words.now) ≡ None → (result ≡ 2) ⊎ (((result ≡ 5) × Rose (K.faults out.old) (K.faults out.new)) ⊎ (result ≡ 6)) }
     ensures missing { result ≡ 3 → IfSome (K.written out.old) (λ before. Refused (Rose (S.misses shelf.old) (S.misses shelf.new)) before (K.written out.new)) }
     ensures reading { result ≡ 4 → Rose (S.read_faults shelf.old) (S.read_faults shelf.new) }
-    ensures printing { result ≡ 5 → Rose (K.faults out.old) (K.faults out.new) }
+    ensures printing { result ≡ 5 → Rose (K.faults out.old) (K.faults out.new) ⊎ (PutsFile (command_of (map (λ w. string_bytes w) words.now)) × Rose (S.put_faults shelf.old) (S.put_faults shelf.new)) }
 {
     let ending = match work(alloc, words, shelf) {
         Ok(ending) => ending,
@@ -92,7 +94,7 @@ pub fn run<S: Shelf, K: Sink, G: Gate>(
     ensures refused { command_of (map (λ w. string_bytes w) words.now) ≡ None → (result ≡ 2) ⊎ (((result ≡ 5) × Rose (K.faults out.old) (K.faults out.new)) ⊎ (result ≡ 6)) }
     ensures missing { result ≡ 3 → IfSome (K.written out.old) (λ before. Refused (Rose (S.misses shelf.old) (S.misses shelf.new)) before (K.written out.new)) }
     ensures reading { result ≡ 4 → Rose (S.read_faults shelf.old) (S.read_faults shelf.new) }
-    ensures printing { result ≡ 5 → Rose (K.faults out.old) (K.faults out.new) }
+    ensures printing { result ≡ 5 → Rose (K.faults out.old) (K.faults out.new) ⊎ (PutsFile (command_of (map (λ w. string_bytes w) words.now)) × Rose (S.put_faults shelf.old) (S.put_faults shelf.new)) }
 {
     conclude(alloc, words, shelf, out)
 }

@@ -1,0 +1,161 @@
+//! The command `compile`.
+
+ghost use Rattle.std.specs.Prelude.{◌≡◌, ◌≤◌, length, IfOk, IfErr, IfSome, string_bytes};
+ghost use Rattle.lzk_circbytes.specs.Files.{CircuitBytes, IsFile};
+ghost use Rattle.lzk_circbytes.specs.Numbered.{shape};
+ghost use Rattle.lzk_expr.specs.View.{tree_of};
+ghost use Rattle.lzk_outside.specs.Outside.{Rose};
+ghost use Rattle.lzk_cmd.specs.Lines.{compiled_line};
+ghost use Rattle.lzk_cmd.specs.Answers.{HaltHasCause, HaltRefuses, ending_of};
+ghost use Rattle.lzk_cmd.specs.Compiled.{CompileRun, compiled_text, term_count};
+ghost use Rattle.lzk_cmd.specs.Putting.{ParseAnswers, SourceAnswers, CompileAnswers, PutAnswers, Settles, PutHasCause};
+
+use crate::ending::{Ending, Halt};
+use crate::files::{TEXT_LIMIT, read_file};
+use crate::lines;
+use lzk_circbytes::{AnyCircuit, encode};
+use lzk_circuit::Circuit;
+use lzk_expr::{Source, SourceError, parse};
+use lzk_field::Field;
+use lzk_level::{LevelError, compile};
+use lzk_outside::{PutFault, Shelf};
+use std::alloc::{AllocError, Global};
+
+// The source of this text.
+fn source_of(alloc: Global, name: &str, text: &[u8]) -> Result<Source, Halt>
+    requires { length text.now ≤ 4194304 }
+    ensures told { ParseAnswers name.now text.now result }
+    ensures refuses { IfErr result HaltRefuses }
+{
+    match parse(alloc, text) {
+        Ok(source) => Ok(source),
+        Err(SourceError::OutOfMemory) => Err(Halt::Memory),
+        Err(SourceError::Fault(fault)) => {
+            let text = lines::refuse_source(alloc, name, fault)?;
+            Err(Halt::End(Ending {
+                status: 3,
+                text,
+                missing: false,
+            }))
+        }
+    }
+}
+
+// The source in a file.
+fn read_source<S: Shelf>(alloc: Global, shelf: &mut S, name: &str) -> Result<Source, Halt>
+    ensures told { IfSome (S.held shelf.old) (λ files. SourceAnswers (files name.now) name.now (Rose (S.read_faults shelf.old) (S.read_faults shelf.new)) result) }
+    ensures same { S.held shelf.new ≡ S.held shelf.old }
+    ensures puts { S.put_faults shelf.new ≡ S.put_faults shelf.old }
+    ensures reads { S.read_faults shelf.old ≤ S.read_faults shelf.new }
+    ensures misses { S.misses shelf.old ≤ S.misses shelf.new }
+    ensures cause { IfErr result (HaltHasCause (Rose (S.read_faults shelf.old) (S.read_faults shelf.new)) (Rose (S.misses shelf.old) (S.misses shelf.new))) }
+{
+    let text = read_file(alloc, shelf, name, TEXT_LIMIT)?;
+    source_of(alloc, name, &text)
+}
+
+// How many terms all layers have together.
+fn count_terms<F: Field>(circuit: &Circuit<F>) -> usize
+    ensures { result ≡ term_count circuit.now.layers }
+{
+    let mut count = 0;
+    for l in 0..circuit.depth() {
+        count += circuit.layer(l).terms.as_slice().len();
+    }
+    count
+}
+
+// The file of a circuit over a field, and the line that tells of it under this name.
+fn file_over<F: Field>(
+    alloc: Global,
+    circuit: &Circuit<F>,
+    name: &str,
+) -> Result<(Vec<u8>, String), AllocError>
+    ensures file { IfOk result (λ made. IsFile F.ops F.number_of (shape F.ID F.BYTES F.size) circuit.now made.0.items) }
+    ensures text { IfOk result (λ made. string_bytes made.1 ≡ compiled_line name.now (length circuit.now.layers) (term_count circuit.now.layers) (length made.0.items)) }
+{
+    let bytes = encode(alloc, circuit)?;
+    let terms = count_terms(circuit);
+    let text = lines::tell_compiled(alloc, name, circuit.depth(), terms, bytes.len())?;
+    Ok((bytes, text))
+}
+
+// The same over either field.
+fn file_of(alloc: Global, circuit: &AnyCircuit, name: &str) -> Result<(Vec<u8>, String), AllocError>
+    ensures file { IfOk result (λ made. CircuitBytes circuit.now made.0.items) }
+    ensures text { IfOk result (λ made. string_bytes made.1 ≡ compiled_text name.now circuit.now (length made.0.items)) }
+{
+    match circuit {
+        AnyCircuit::Gold(c) => file_over(alloc, c, name),
+        AnyCircuit::Gf(c) => file_over(alloc, c, name),
+    }
+}
+
+// The file of a source's circuit and the line that tells of it, or the limit that the source passes.
+fn compiled(
+    alloc: Global,
+    name: &str,
+    source: &Source,
+    circuit: &str,
+) -> Result<(Vec<u8>, String), Halt>
+    ensures told { CompileAnswers name.now circuit.now (tree_of source.now) result }
+    ensures refuses { IfErr result HaltRefuses }
+{
+    match compile(alloc, source) {
+        Ok(made) => Ok(file_of(alloc, &made, circuit)?),
+        Err(LevelError::OutOfMemory) => Err(Halt::Memory),
+        Err(LevelError::Fault(fault)) => {
+            let text = lines::refuse_level(alloc, name, fault)?;
+            Err(Halt::End(Ending {
+                status: 3,
+                text,
+                missing: false,
+            }))
+        }
+    }
+}
+
+// Puts a file, and says this text. There is no want of memory after a put that was done or failed.
+fn put_file<S: Shelf>(
+    alloc: Global,
+    shelf: &mut S,
+    name: &str,
+    bytes: &[u8],
+    text: String,
+) -> Result<Ending, Halt>
+    ensures told { IfSome (S.held shelf.old) (λ files. PutAnswers files name.now bytes.now (string_bytes text) (Rose (S.put_faults shelf.old) (S.put_faults shelf.new)) (S.held shelf.new) result) }
+    ensures reads { S.read_faults shelf.new ≡ S.read_faults shelf.old }
+    ensures misses { S.misses shelf.new ≡ S.misses shelf.old }
+    ensures cause { IfSome (ending_of result) (PutHasCause (Rose (S.read_faults shelf.old) (S.read_faults shelf.new)) (Rose (S.put_faults shelf.old) (S.put_faults shelf.new)) (Rose (S.misses shelf.old) (S.misses shelf.new))) }
+{
+    let fault = lines::tell_writing(alloc, name)?;
+    match shelf.put(name, bytes) {
+        Ok(()) => Ok(Ending {
+            status: 0,
+            text,
+            missing: false,
+        }),
+        Err(PutFault::Failed) => Ok(Ending {
+            status: 5,
+            text: fault,
+            missing: false,
+        }),
+        Err(PutFault::OutOfMemory) => Err(Halt::Memory),
+    }
+}
+
+/// Compiles a source file to a circuit file.
+pub fn compile_source<S: Shelf>(
+    alloc: Global,
+    source: &str,
+    circuit: &str,
+    shelf: &mut S,
+) -> Result<Ending, Halt>
+    ensures told { IfSome (S.held shelf.old) (λ files.
+        Settles (CompileRun source.now circuit.now files) 0 files (Rose (S.read_faults shelf.old) (S.read_faults shelf.new)) (Rose (S.put_faults shelf.old) (S.put_faults shelf.new)) (S.held shelf.new) (ending_of result)) }
+    ensures cause { IfSome (ending_of result) (PutHasCause (Rose (S.read_faults shelf.old) (S.read_faults shelf.new)) (Rose (S.put_faults shelf.old) (S.put_faults shelf.new)) (Rose (S.misses shelf.old) (S.misses shelf.new))) }
+{
+    let tree = read_source(alloc, shelf, source)?;
+    let (bytes, text) = compiled(alloc, source, &tree, circuit)?;
+    put_file(alloc, shelf, circuit, &bytes, text)
+}
