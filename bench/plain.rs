@@ -85,10 +85,9 @@ fn gold_dot(times: u32) -> u128 {
     total as u128
 }
 
-// A product of halves in two words, with a table of sixteen multiples that are cut to 64 bits, four bits a step. What the
-// cut loses, of the three highest bits of a, is added at the end.
+// The multiples of a by the polynomials below degree 4, cut to 128 bits.
 #[inline(always)]
-fn gf_half(a: u64, b: u64) -> [u64; 2] {
+fn gf_multiples(a: u128) -> [u128; 16] {
     let a2 = a << 1;
     let a3 = a ^ a2;
     let a4 = a2 << 1;
@@ -96,25 +95,32 @@ fn gf_half(a: u64, b: u64) -> [u64; 2] {
     let a6 = a3 << 1;
     let a7 = a ^ a6;
     let (a8, a10, a12, a14) = (a4 << 1, a5 << 1, a6 << 1, a7 << 1);
-    let table = [0, a, a2, a3, a4, a5, a6, a7, a8, a ^ a8, a10, a ^ a10, a12, a ^ a12, a14, a ^ a14];
-    let (mut low, mut high) = (0u64, 0u64);
-    for i in (0..16).rev() {
-        high = (high << 4) ^ (low >> 60);
-        low = (low << 4) ^ table[(b >> (4 * i)) as usize % 16];
-    }
-    let lowest = 0x1111_1111_1111_1111;
-    let lost = ((a >> 63) * ((b >> 1) & lowest)) ^ ((a >> 62) * ((b >> 2) & lowest)) ^ ((a >> 61) * ((b >> 3) & lowest));
-    [low, high ^ lost]
+    [0, a, a2, a3, a4, a5, a6, a7, a8, a ^ a8, a10, a ^ a10, a12, a ^ a12, a14, a ^ a14]
 }
 
-// Three products of halves in place of four, which add up before they are reduced.
+// What the cut loses at the digits of b, of the three highest bits of a.
 #[inline(always)]
-fn gf_parts(a: u128, b: u128) -> [[u64; 2]; 3] {
-    let (a0, a1) = (a as u64, (a >> 64) as u64);
-    let (b0, b1) = (b as u64, (b >> 64) as u64);
-    let low = gf_half(a0, b0);
-    let high = gf_half(a1, b1);
-    [low, gf_half(a0 ^ a1, b0 ^ b1), high]
+fn gf_lost(a: u64, b: u64) -> u64 {
+    let lowest = 0x1111_1111_1111_1111;
+    ((a >> 63) * ((b >> 1) & lowest)) ^ ((a >> 62) * ((b >> 2) & lowest)) ^ ((a >> 61) * ((b >> 3) & lowest))
+}
+
+#[derive(Clone, Copy)]
+struct Wide {
+    low: u128,
+    high: u128,
+}
+
+#[inline(always)]
+fn gf_comb(table: &[u128; 16], x: u32, y: u32) -> Wide {
+    let mut sum = Wide { low: 0, high: 0 };
+    for i in 0..8u32 {
+        let x = table[(x >> (28 - 4 * i)) as usize % 16];
+        let y = table[(y >> (28 - 4 * i)) as usize % 16];
+        let (low, high) = (sum.low, sum.high);
+        sum = Wide { low: (low << 4) ^ x ^ (y << 64), high: (high << 4) ^ (low >> 124) ^ (y >> 64) };
+    }
+    sum
 }
 
 fn folded(top: u128) -> u128 {
@@ -122,28 +128,59 @@ fn folded(top: u128) -> u128 {
 }
 
 #[inline(always)]
-fn gf_reduced(parts: [[u64; 2]; 3]) -> u128 {
-    let [low, both, high] = parts.map(|[low, high]| (high as u128) << 64 | low as u128);
-    let cross = both ^ low ^ high;
-    let high = high ^ (cross >> 64);
-    low ^ (cross << 64) ^ folded(high ^ (high >> 121) ^ (high >> 126) ^ (high >> 127))
+fn gf_reduced(low: u128, high: u128) -> u128 {
+    low ^ folded(high ^ (high >> 121) ^ (high >> 126) ^ (high >> 127))
 }
 
+// One table of multiples serves both words of b. The upper halves of the words and the lower ones are summed up apart.
 fn gf_product(a: u128, b: u128) -> u128 {
-    gf_reduced(gf_parts(a, b))
+    let table = gf_multiples(a);
+    let (a1, b0, b1) = ((a >> 64) as u64, b as u64, (b >> 64) as u64);
+    let upper = gf_comb(&table, (b0 >> 32) as u32, (b1 >> 32) as u32);
+    let lower = gf_comb(&table, b0 as u32, b1 as u32);
+    let over = gf_lost(a1, b0) as u128 ^ (gf_lost(a1, b1) as u128) << 64;
+    gf_reduced(lower.low ^ upper.low << 32, lower.high ^ upper.high << 32 ^ upper.low >> 96 ^ over)
+}
+
+// One digit on, in four words: the fastest form for sums of products.
+#[inline(always)]
+fn gf_digit_on(c: [u64; 4], x: u128, y: u128) -> [u64; 4] {
+    [
+        (c[0] << 4) ^ x as u64,
+        (c[1] << 4) ^ (c[0] >> 60) ^ (x >> 64) as u64 ^ y as u64,
+        (c[2] << 4) ^ (c[1] >> 60) ^ (y >> 64) as u64,
+        (c[3] << 4) ^ (c[2] >> 60),
+    ]
+}
+
+#[inline(always)]
+fn gf_long_product(a: u128, b: u128) -> [u64; 4] {
+    let table = gf_multiples(a);
+    let (a1, b0, b1) = ((a >> 64) as u64, b as u64, (b >> 64) as u64);
+    let (mut w, mut t) = ([0u64; 4], [0u64; 4]);
+    for i in 0..8 {
+        t = gf_digit_on(t, table[(b0 >> (60 - 4 * i)) as usize % 16], table[(b1 >> (60 - 4 * i)) as usize % 16]);
+    }
+    for i in 0..8 {
+        w = gf_digit_on(w, table[(b0 >> (28 - 4 * i)) as usize % 16], table[(b1 >> (28 - 4 * i)) as usize % 16]);
+    }
+    [
+        w[0] ^ t[0] << 32,
+        w[1] ^ (t[1] << 32 | t[0] >> 32),
+        w[2] ^ (t[2] << 32 | t[1] >> 32) ^ gf_lost(a1, b0),
+        w[3] ^ (t[3] << 32 | t[2] >> 32) ^ gf_lost(a1, b1),
+    ]
 }
 
 fn gf_sum_of_products(left: &[u128], right: &[u128]) -> u128 {
-    let mut total = [[0; 2]; 3];
+    let mut total = [0; 4];
     for (a, b) in left.iter().zip(right) {
-        let parts = gf_parts(*a, *b);
-        for i in 0..3 {
-            for j in 0..2 {
-                total[i][j] ^= parts[i][j];
-            }
+        let product = gf_long_product(*a, *b);
+        for i in 0..4 {
+            total[i] ^= product[i];
         }
     }
-    gf_reduced(total)
+    gf_reduced((total[1] as u128) << 64 | total[0] as u128, (total[3] as u128) << 64 | total[2] as u128)
 }
 
 // The bits of a half, each followed by a zero.
@@ -162,8 +199,12 @@ fn spread(n: u32) -> u64 {
 }
 
 fn gf_squared(a: u128) -> u128 {
-    let low = (spread((a >> 32) as u32) as u128) << 64 | spread(a as u32) as u128;
-    let high = (spread((a >> 96) as u32) as u128) << 64 | spread((a >> 64) as u32) as u128;
+    let s = spread((a >> 96) as u32);
+    let r = spread((a >> 64) as u32);
+    let q = spread((a >> 32) as u32);
+    let p = spread(a as u32);
+    let high = (s as u128) << 64 | r as u128;
+    let low = (q as u128) << 64 | p as u128;
     let top = high ^ (high >> 121) ^ (high >> 126);
     low ^ folded(top)
 }

@@ -90,25 +90,33 @@ pub up_64 : (n : ℕ) → n < 2 ^ 128 → moved 64 n ≡ (n * 2 ^ 64 % 2 ^ 128) 
 unfolding moved
 up_64 n h = up_over 64 128 64 refl n h
 
-pub up_1 : (n : ℕ) → n < 2 ^ 64 → moved 1 n ≡ (n * 2 ^ 1 % 2 ^ 64) ⊕ moved 64 (n / 2 ^ 63)
+pub up_1 : (n : ℕ) → n < 2 ^ 128 → moved 1 n ≡ (n * 2 ^ 1 % 2 ^ 128) ⊕ moved 128 (n / 2 ^ 127)
 unfolding moved
-up_1 n h = up_over 1 64 63 refl n h
+up_1 n h = up_over 1 128 127 refl n h
 
-pub up_2 : (n : ℕ) → n < 2 ^ 64 → moved 2 n ≡ (n * 2 ^ 2 % 2 ^ 64) ⊕ moved 64 (n / 2 ^ 62)
+pub up_2 : (n : ℕ) → n < 2 ^ 128 → moved 2 n ≡ (n * 2 ^ 2 % 2 ^ 128) ⊕ moved 128 (n / 2 ^ 126)
 unfolding moved
-up_2 n h = up_over 2 64 62 refl n h
+up_2 n h = up_over 2 128 126 refl n h
 
-pub up_3 : (n : ℕ) → n < 2 ^ 64 → moved 3 n ≡ (n * 2 ^ 3 % 2 ^ 64) ⊕ moved 64 (n / 2 ^ 61)
+pub up_3 : (n : ℕ) → n < 2 ^ 128 → moved 3 n ≡ (n * 2 ^ 3 % 2 ^ 128) ⊕ moved 128 (n / 2 ^ 125)
 unfolding moved
-up_3 n h = up_over 3 64 61 refl n h
+up_3 n h = up_over 3 128 125 refl n h
 
-up_4 : (n : ℕ) → n < 2 ^ 64 → moved 4 n ≡ (n * 2 ^ 4 % 2 ^ 64) ⊕ moved 64 (n / 2 ^ 60)
+up_4 : (n : ℕ) → n < 2 ^ 128 → moved 4 n ≡ (n * 2 ^ 4 % 2 ^ 128) ⊕ moved 128 (n / 2 ^ 124)
 unfolding moved
-up_4 n h = up_over 4 64 60 refl n h
+up_4 n h = up_over 4 128 124 refl n h
 
-small_4 : (n : ℕ) → n < 2 ^ 60 → moved 4 n ≡ n * 2 ^ 4 % 2 ^ 64
+up_32 : (n : ℕ) → n < 2 ^ 128 → moved 32 n ≡ (n * 2 ^ 32 % 2 ^ 128) ⊕ moved 128 (n / 2 ^ 96)
 unfolding moved
-small_4 n h = same_by_test (shift 4) (λ m. m * 2 ^ 4 % 2 ^ 64) (shift-additive 4) (add_shl_in 4 64) 60 refl n h
+up_32 n h = up_over 32 128 96 refl n h
+
+small_4 : (n : ℕ) → n < 2 ^ 124 → moved 4 n ≡ n * 2 ^ 4 % 2 ^ 128
+unfolding moved
+small_4 n h = same_by_test (shift 4) (λ m. m * 2 ^ 4 % 2 ^ 128) (shift-additive 4) (add_shl_in 4 128) 124 refl n h
+
+small_32 : (n : ℕ) → n < 2 ^ 96 → moved 32 n ≡ n * 2 ^ 32 % 2 ^ 128
+unfolding moved
+small_32 n h = same_by_test (shift 32) (λ m. m * 2 ^ 32 % 2 ^ 128) (shift-additive 32) (add_shl_in 32 128) 96 refl n h
 
 pub plain_4 : (n : ℕ) → n < 2 ^ 64 → moved 4 n ≡ n * 2 ^ 4
 unfolding moved
@@ -142,32 +150,35 @@ shift-more : (j k a : ℕ) → shift j (shift k a) ≡ shift (j + k) a
 shift-more zero k a = ap (λ w. shift w a) (sym (zero-add k))
 shift-more (suc j) k a = let e : suc j + k ≡ suc (j + k) = omega arith in ap (shift j) (sym (shift-times_x k a)) ∙ shift-more j k (times_x a) ∙ ap (λ w. shift w a) (sym e)
 
-pub twice_64 : (a : ℕ) → moved 64 (moved 64 a) ≡ moved 128 a
+pub moved-more : (j k a : ℕ) → moved j (moved k a) ≡ moved (j + k) a
 unfolding moved
-twice_64 a = shift-more 64 64 a
+moved-more j k a = shift-more j k a
 
--- the low word of a total and the one above it, both four places up
-pub up_both : (low high : ℕ) → low < 2 ^ 64 → high < 2 ^ 60
-    → (low * 2 ^ 4 % 2 ^ 64) ⊕ moved 64 ((high * 2 ^ 4 % 2 ^ 64) ⊕ (low / 2 ^ 60)) ≡ moved 4 (low ⊕ moved 64 high)
-up_both low high ht ho =
-    let t = low * 2 ^ 4 % 2 ^ 64 in
-    let h = moved 64 (low / 2 ^ 60) in
-    let o = moved 64 (high * 2 ^ 4 % 2 ^ 64) in
-    ap (λ w. t ⊕ w) (moved-xor 64 (high * 2 ^ 4 % 2 ^ 64) (low / 2 ^ 60) ∙ xor_comm o h)
-    ∙ sym (xor_assoc t h o)
-    ∙ ap (λ w. w ⊕ o) (sym (up_4 low ht))
-    ∙ ap (λ w. moved 4 low ⊕ w) (ap (moved 64) (sym (small_4 high ho)) ∙ moved-swap 64 4 high)
-    ∙ sym (moved-xor 4 low (moved 64 high))
+-- both words of a total are moved up: t is what stays of the low one, o what goes over, and u the high one
+up_both : (k low high t o u : ℕ) → moved k low ≡ t ⊕ moved 128 o → moved k high ≡ u → t ⊕ moved 128 (u ⊕ o) ≡ moved k (low ⊕ moved 128 high)
+up_both k low high t o u el eh =
+    ap (λ w. t ⊕ w) (moved-xor 128 u o ∙ xor_comm (moved 128 u) (moved 128 o))
+    ∙ sym (xor_assoc t (moved 128 o) (moved 128 u))
+    ∙ ap (λ w. w ⊕ moved 128 u) (sym el)
+    ∙ ap (λ w. moved k low ⊕ w) (ap (moved 128) (sym eh) ∙ moved-swap 128 k high)
+    ∙ sym (moved-xor k low (moved 128 high))
 
-pub high_more : (low high i : ℕ) → low < 2 ^ 64 → high < 2 ^ (4 * i) → i < 16 → (high * 2 ^ 4 % 2 ^ 64) ⊕ (low / 2 ^ 60) < 2 ^ (4 * (i + 1))
-high_more low high i ht ho hi =
-    let more : 4 * (i + 1) ≡ 4 * i + 4 = omega arith in
-    let power : 2 ^ (4 * i + 4) ≡ 2 ^ (4 * i) * 16 = pow-add 2 (4 * i) 4 in
-    let up : high * 2 ^ 4 < 2 ^ (4 * i) * 16 = omega (arith, ho) in
-    let part : high * 2 ^ 4 % 2 ^ 64 ≤ high * 2 ^ 4 = mod-le (high * 2 ^ 4) (2 ^ 64) in
-    let least : 16 ≤ 2 ^ (4 * i) * 16 = omega (arith, pow_pos (4 * i)) in
-    subst (λ w. (high * 2 ^ 4 % 2 ^ 64) ⊕ (low / 2 ^ 60) < 2 ^ w) (sym more)
-    (xor_lt (4 * i + 4) (high * 2 ^ 4 % 2 ^ 64) (low / 2 ^ 60) (omega (arith, power, up, part)) (omega (arith, power, least, ht)))
+pub both_4 : (low high : ℕ) → low < 2 ^ 128 → high < 2 ^ 124
+    → (low * 2 ^ 4 % 2 ^ 128) ⊕ moved 128 ((high * 2 ^ 4 % 2 ^ 128) ⊕ (low / 2 ^ 124)) ≡ moved 4 (low ⊕ moved 128 high)
+both_4 low high hl hh = up_both 4 low high (low * 2 ^ 4 % 2 ^ 128) (low / 2 ^ 124) (high * 2 ^ 4 % 2 ^ 128) (up_4 low hl) (small_4 high hh)
 
-pub high_small : (high i : ℕ) → high < 2 ^ (4 * i) → i < 16 → high < 2 ^ 60
-high_small high i h hi = omega (arith, h, pow_mono {i = 4 * i} {j = 60} (omega arith))
+pub both_32 : (low high : ℕ) → low < 2 ^ 128 → high < 2 ^ 96
+    → (low * 2 ^ 32 % 2 ^ 128) ⊕ moved 128 ((high * 2 ^ 32 % 2 ^ 128) ⊕ (low / 2 ^ 96)) ≡ moved 32 (low ⊕ moved 128 high)
+both_32 low high hl hh = up_both 32 low high (low * 2 ^ 32 % 2 ^ 128) (low / 2 ^ 96) (high * 2 ^ 32 % 2 ^ 128) (up_32 low hl) (small_32 high hh)
+
+-- the high word stays small, one digit on
+pub high_more : (low high y k : ℕ) → low < 2 ^ 128 → y < 2 ^ 128 → high < 2 ^ (60 + k) → ((high * 2 ^ 4 % 2 ^ 128) ⊕ (low / 2 ^ 124)) ⊕ (y / 2 ^ 64) < 2 ^ (64 + k)
+high_more low high y k hl hy hh =
+    let power : 2 ^ (64 + k) ≡ 2 ^ 64 * 2 ^ k = pow-add 2 64 k in
+    let before : 2 ^ (60 + k) ≡ 2 ^ 60 * 2 ^ k = pow-add 2 60 k in
+    let least : 1 ≤ 2 ^ k = pow_pos k in
+    let part : high * 2 ^ 4 % 2 ^ 128 ≤ high * 2 ^ 4 = mod-le (high * 2 ^ 4) (2 ^ 128) in
+    xor_lt (64 + k) ((high * 2 ^ 4 % 2 ^ 128) ⊕ (low / 2 ^ 124)) (y / 2 ^ 64) (xor_lt (64 + k) (high * 2 ^ 4 % 2 ^ 128) (low / 2 ^ 124) (omega (arith, power, before, hh, part)) (omega (arith, power, least, hl))) (omega (arith, power, least, hy))
+
+pub high_small : (high k m : ℕ) → high < 2 ^ (60 + k) → 60 + k ≤ m → high < 2 ^ m
+high_small high k m h most = omega (arith, h, pow_mono {i = 60 + k} {j = m} most)

@@ -7,6 +7,5 @@ pub mod Lost
 pub mod ByteLists
 pub mod Squares
 pub mod Multiples
-pub mod Halves
 pub mod Sums
 pub mod Elements

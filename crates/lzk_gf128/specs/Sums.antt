@@ -1,41 +1,36 @@
--- What the parts of a product stand for, and sums of products.
-use Rattle.std.specs.Prelude.{◌≡◌, ℕ, ◌+◌, ◌*◌, ◌%◌, ◌^◌, ◌<◌, List, length, slice_index_or, bit_xor}
+-- What the words of a product stand for, and sums of products.
+use Rattle.std.specs.Prelude.{◌≡◌, ℕ, ◌+◌, ◌*◌, ◌/◌, ◌%◌, ◌^◌, ◌<◌, List, length, slice_index_or, bit_xor}
 use Rattle.std.proofs.Common.{sym, ap, ◌∙◌, arith}
+use Rattle.std.specs.Int.Bits.{xor_assoc}
 use Rattle.std.proofs.Math.Numerals.{add-one}
 use Rattle.std.proofs.lemmas.List.{get_or_default}
 use Rattle.lzk_field.specs.Sums.{sum_below}
-use Rattle.lzk_gf128.specs.declared.arith.Parts.{Parts}
-use Rattle.lzk_gf128.specs.declared.arith.Words.{Words}
+use Rattle.lzk_gf128.specs.declared.arith.Wide.{Wide}
 use Rattle.lzk_gf128.specs.declared.element.Gf128.{Gf128}
 use Rattle.lzk_gf128.specs.Linear.{◌⊕◌, xor_swap}
-use Rattle.lzk_gf128.specs.Basis.{add_shl_in}
-use Rattle.lzk_gf128.specs.Squares.{joined}
-use Rattle.lzk_gf128.specs.Halves.{joined_up, joined_up-plus}
-use Rattle.lzk_gf128.specs.Product.{product}
+use Rattle.lzk_gf128.specs.Basis.{moved-xor, both_4, up_64}
+use Rattle.lzk_gf128.specs.Product.{product, moved}
 use Rattle.lzk_gf128.specs.Elements.{ops}
 
-abbrev pub in_words : Words → ℕ
-in_words w = joined w.high w.low
+-- the low word, and the high word times x^128
+abbrev pub in_wide : Wide → ℕ
+in_wide w = w.low ⊕ moved 128 w.high
 
-abbrev pub in_parts : Parts → ℕ
-in_parts p = joined_up (in_words p.low) (in_words p.both) (in_words p.high)
+pub wide_plus : (a b c d : ℕ) → (a ⊕ b) ⊕ moved 128 (c ⊕ d) ≡ (a ⊕ moved 128 c) ⊕ (b ⊕ moved 128 d)
+wide_plus a b c d = ap (λ w. (a ⊕ b) ⊕ w) (moved-xor 128 c d) ∙ xor_swap a b (moved 128 c) (moved 128 d)
 
-in_words-plus : (u v : Words) → joined (u.high ⊕ v.high) (u.low ⊕ v.low) ≡ in_words u ⊕ in_words v
-in_words-plus u v = ap (λ w. w ⊕ (u.low ⊕ v.low)) (add_shl_in 64 128 u.high v.high) ∙ xor_swap (u.high * 2 ^ 64 % 2 ^ 128) (v.high * 2 ^ 64 % 2 ^ 128) u.low v.low
-
-pub words_plus : (u v w : Words) → w.low ≡ u.low ⊕ v.low → w.high ≡ u.high ⊕ v.high → in_words w ≡ in_words u ⊕ in_words v
-words_plus u v w el eh = ap (λ h. joined h w.low) eh ∙ ap (joined (u.high ⊕ v.high)) el ∙ in_words-plus u v
-
-pub parts_plus : (p q : Parts) (l b h : Words) → in_words l ≡ in_words p.low ⊕ in_words q.low → in_words b ≡ in_words p.both ⊕ in_words q.both → in_words h ≡ in_words p.high ⊕ in_words q.high
-    → joined_up (in_words l) (in_words b) (in_words h) ≡ in_parts p ⊕ in_parts q
-parts_plus p q l b h el eb eh =
-    ap (λ w. joined_up w (in_words b) (in_words h)) el
-    ∙ ap (λ w. joined_up (in_words p.low ⊕ in_words q.low) w (in_words h)) eb
-    ∙ ap (joined_up (in_words p.low ⊕ in_words q.low) (in_words p.both ⊕ in_words q.both)) eh
-    ∙ joined_up-plus (in_words p.low) (in_words p.both) (in_words p.high) (in_words q.low) (in_words q.both) (in_words q.high)
-
-pub joined_three : (low both high u v w : ℕ) → low ≡ u → both ≡ v → high ≡ w → joined_up low both high ≡ joined_up u v w
-joined_three low both high u v w el eb eh = ap (λ t. joined_up t both high) el ∙ ap (λ t. joined_up u t high) eb ∙ ap (joined_up u v) eh
+-- one digit on: both words are moved, and two multiples are added, the second 64 places up
+pub wide_digit : (low high x y : ℕ) → low < 2 ^ 128 → high < 2 ^ 124 → y < 2 ^ 128
+    → (((low * 2 ^ 4 % 2 ^ 128) ⊕ x) ⊕ (y * 2 ^ 64 % 2 ^ 128)) ⊕ moved 128 (((high * 2 ^ 4 % 2 ^ 128) ⊕ (low / 2 ^ 124)) ⊕ (y / 2 ^ 64)) ≡ moved 4 (low ⊕ moved 128 high) ⊕ (x ⊕ moved 64 y)
+wide_digit low high x y hl hh hy =
+    let t = low * 2 ^ 4 % 2 ^ 128 in
+    let u = (high * 2 ^ 4 % 2 ^ 128) ⊕ (low / 2 ^ 124) in
+    let s = y * 2 ^ 64 % 2 ^ 128 in
+    let o = y / 2 ^ 64 in
+    ap (λ w. w ⊕ moved 128 (u ⊕ o)) (xor_assoc t x s)
+    ∙ wide_plus t (x ⊕ s) u o
+    ∙ ap (λ w. w ⊕ ((x ⊕ s) ⊕ moved 128 o)) (both_4 low high hl hh)
+    ∙ ap (λ w. moved 4 (low ⊕ moved 128 high) ⊕ w) (xor_assoc x s (moved 128 o) ∙ ap (λ w. x ⊕ w) (sym (up_64 y hy)))
 
 -- the sum of the first n products
 abbrev pub first_products : List Gf128 → List Gf128 → ℕ → Gf128

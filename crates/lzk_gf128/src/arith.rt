@@ -1,16 +1,15 @@
 //! Products and inverses of numbers.
 
-ghost use Rattle.std.specs.Prelude.{◌≡◌, ◌<◌, bit_xor};
+ghost use Rattle.std.specs.Prelude.{◌≡◌, ℕ, ◌+◌, ◌<◌, ◌≤◌, ◌^◌, bit_xor};
 ghost use Rattle.lzk_gf128.specs.Product.{product, moved};
-ghost use Rattle.lzk_gf128.specs.Multiples.{IsMultiples};
+ghost use Rattle.lzk_gf128.specs.Multiples.{IsMultiples, combed};
 ghost use Rattle.lzk_gf128.specs.Lost.{lost};
-ghost use Rattle.lzk_gf128.specs.Halves.{joined_up};
-ghost use Rattle.lzk_gf128.specs.Sums.{in_words, in_parts};
+ghost use Rattle.lzk_gf128.specs.Sums.{in_wide};
 ghost use Rattle.lzk_gf128.specs.Inverse.{inverse};
 ghost use Rattle.lzk_gf128.specs.Squares.{spread, beside, joined, squared};
 
-// The multiples by the polynomials below degree 4, cut to 64 bits.
-fn multiples(a: u64) -> [u64; 16]
+// The multiples by the polynomials below degree 4, cut to 128 bits.
+fn multiples(a: u128) -> [u128; 16]
     ensures { IsMultiples a result }
 {
     let a2 = a << 1;
@@ -60,50 +59,6 @@ fn joined(upper: u64, lower: u64) -> u128
     ((upper as u128) << 64) ^ (lower as u128)
 }
 
-/// A polynomial below degree 128, in two words.
-#[derive(Clone, Copy)]
-pub struct Words {
-    pub low: u64,
-    pub high: u64,
-}
-
-impl Words {
-    #[inline(always)]
-    fn plus(self, other: Words) -> Words
-        ensures { in_words result ≡ bit_xor (in_words self) (in_words other) }
-    {
-        Words {
-            low: self.low ^ other.low,
-            high: self.high ^ other.high,
-        }
-    }
-
-    #[inline(always)]
-    fn number(self) -> u128
-        ensures { result ≡ in_words self }
-    {
-        joined(self.high, self.low)
-    }
-}
-
-// Digits of four bits, the highest first. The product is below degree 127, and needs no reduction.
-#[inline(always)]
-fn long_product(a: u64, b: u64) -> Words
-    ensures { in_words result ≡ product 64 a b }
-{
-    let table = multiples(a);
-    let mut low = 0u64;
-    let mut high = 0u64;
-    for i in 0..16u32 {
-        high = (high << 4) ^ (low >> 60);
-        low = (low << 4) ^ table[((b >> (60 - 4 * i)) % 16) as usize];
-    }
-    Words {
-        low,
-        high: high ^ lost(a, b),
-    }
-}
-
 #[tactic(auto, using(crate::specs::Basis::over_128_is))]
 fn over_128(n: u128) -> u128
     ensures { result ≡ moved 128 n }
@@ -112,76 +67,114 @@ fn over_128(n: u128) -> u128
     top ^ (top << 1) ^ (top << 2) ^ (top << 7)
 }
 
-#[inline(always)]
-fn reduced(low: u128, both: u128, high: u128) -> u128
-    ensures { result ≡ joined_up low both high }
-{
-    let cross = both ^ low ^ high;
-    low ^ (cross << 64) ^ over_128(high ^ (cross >> 64))
-}
-
-/// A product, or a sum of products, before it is reduced: of the low halves, of the sums of halves, and of the high
-/// halves, three products in place of four.
+/// A polynomial below degree 256 in two words: a product, or a sum of products, before it is reduced.
 #[derive(Clone, Copy)]
-pub struct Parts {
-    pub low: Words,
-    pub both: Words,
-    pub high: Words,
+pub struct Wide {
+    pub low: u128,
+    pub high: u128,
 }
 
-impl Parts {
+impl Wide {
     /// The sum of no products.
-    pub fn zero() -> Parts
-        ensures { in_parts result ≡ 0 }
+    pub fn zero() -> Wide
+        ensures { in_wide result ≡ 0 }
     {
-        let none = Words { low: 0, high: 0 };
-        Parts {
-            low: none,
-            both: none,
-            high: none,
+        Wide { low: 0, high: 0 }
+    }
+
+    /// The sum of both.
+    #[inline(always)]
+    pub fn plus(self, other: Wide) -> Wide
+        ensures { in_wide result ≡ bit_xor (in_wide self) (in_wide other) }
+    {
+        Wide {
+            low: self.low ^ other.low,
+            high: self.high ^ other.high,
         }
     }
 
-    /// The parts of one product.
+    // One digit on, with the multiples of the next digits of two words of a factor.
     #[inline(always)]
-    pub fn product(a: u128, b: u128) -> Parts
-        ensures { in_parts result ≡ product 128 a b }
+    fn digit_on(self, x: u128, y: u128) -> Wide
+        requires small { self.high < 2 ^ 124 }
+        ensures value { in_wide result ≡ bit_xor (moved 4 (in_wide self)) (bit_xor x (moved 64 y)) }
+        ensures room { (k : ℕ) → k ≤ 64 → self.high < 2 ^ (60 + k) → result.high < 2 ^ (64 + k) }
     {
-        let a0 = (a % (1 << 64)) as u64;
-        let a1 = (a >> 64) as u64;
+        Wide {
+            low: (self.low << 4) ^ x ^ (y << 64),
+            high: (self.high << 4) ^ (self.low >> 124) ^ (y >> 64),
+        }
+    }
+
+    // Eight digits on.
+    #[inline(always)]
+    fn half_on(self) -> Wide
+        requires { self.high < 2 ^ 96 }
+        ensures { in_wide result ≡ moved 32 (in_wide self) }
+    {
+        Wide {
+            low: self.low << 32,
+            high: (self.high << 32) ^ (self.low >> 96),
+        }
+    }
+
+    /// A product of two numbers.
+    #[inline(always)]
+    pub fn product(a: u128, b: u128) -> Wide
+        ensures { in_wide result ≡ product 128 a b }
+    {
+        let table = multiples(a);
         let b0 = (b % (1 << 64)) as u64;
         let b1 = (b >> 64) as u64;
-        let low = long_product(a0, b0);
-        let high = long_product(a1, b1);
-        let both = long_product(a0 ^ a1, b0 ^ b1);
-        Parts { low, both, high }
+        let upper = comb(&table, (b0 >> 32) as u32, (b1 >> 32) as u32);
+        let lower = comb(&table, (b0 % (1 << 32)) as u32, (b1 % (1 << 32)) as u32);
+        let top = (a >> 64) as u64;
+        let over = Wide {
+            low: 0,
+            high: joined(lost(top, b1), lost(top, b0)),
+        };
+        lower.plus(upper.half_on()).plus(over)
     }
 
-    /// The parts of a sum.
-    #[inline(always)]
-    pub fn plus(self, other: Parts) -> Parts
-        ensures { in_parts result ≡ bit_xor (in_parts self) (in_parts other) }
-    {
-        Parts {
-            low: self.low.plus(other.low),
-            both: self.both.plus(other.both),
-            high: self.high.plus(other.high),
-        }
-    }
-
-    /// The one number that the parts stand for.
+    /// The one number that the words stand for.
     #[inline(always)]
     pub fn reduced(self) -> u128
-        ensures { result ≡ in_parts self }
+        ensures { result ≡ in_wide self }
     {
-        reduced(self.low.number(), self.both.number(), self.high.number())
+        self.low ^ over_128(self.high)
     }
+}
+
+// The sum of the multiples at the digits of two words, the highest digit first and the second word's 64 places up.
+// The two halves of a factor's words are handed in apart, so that the processor works at both at once.
+#[inline(always)]
+fn comb(table: &[u128; 16], x: u32, y: u32) -> Wide
+    ensures value { in_wide result ≡ bit_xor (combed 8 table.now x) (moved 64 (combed 8 table.now y)) }
+    ensures room { result.high < 2 ^ 96 }
+{
+    let mut sum = Wide { low: 0, high: 0 };
+    for i in 0..8u32 {
+        let place = 28 - 4 * i;
+        sum = sum.digit_on(
+            table[((x >> place) % 16) as usize],
+            table[((y >> place) % 16) as usize],
+        );
+    }
+    sum
+}
+
+/// A product for a long sum. It is a call of its own, so that the sum does not take the product's registers.
+#[inline(never)]
+pub fn long_product(a: u128, b: u128) -> Wide
+    ensures { in_wide result ≡ product 128 a b }
+{
+    Wide::product(a, b)
 }
 
 pub fn multiply(a: u128, b: u128) -> u128
     ensures { result ≡ product 128 a b }
 {
-    Parts::product(a, b).reduced()
+    Wide::product(a, b).reduced()
 }
 
 fn beside(n: u64, by: u32, mask: u64) -> u64
@@ -202,16 +195,16 @@ fn spread(n: u32) -> u64
     beside(pairs, 1, 0x5555_5555_5555_5555)
 }
 
-// Squaring moves bit i to 2 * i: no cross terms are left.
+// Squaring moves bit i to 2 * i: no cross terms are left. The upper half comes first, since its bits are folded.
 pub fn square(a: u128) -> u128
     ensures { result ≡ product 128 a a }
 {
-    let p = spread((a % (1 << 32)) as u32);
-    let q = spread(((a >> 32) % (1 << 32)) as u32);
-    let r = spread(((a >> 64) % (1 << 32)) as u32);
     let s = spread((a >> 96) as u32);
-    let low = joined(q, p);
+    let r = spread(((a >> 64) % (1 << 32)) as u32);
+    let q = spread(((a >> 32) % (1 << 32)) as u32);
+    let p = spread((a % (1 << 32)) as u32);
     let high = joined(s, r);
+    let low = joined(q, p);
     let top = high ^ ((high >> 121) ^ (high >> 126));
     low ^ top ^ (top << 1) ^ (top << 2) ^ (top << 7)
 }

@@ -2,7 +2,7 @@
 
 ghost use Rattle.std.specs.Prelude.{◌≡◌, ◌≢◌, ℕ, ◌^◌, ◌<◌};
 
-use crate::arith::{Parts, invert, multiply, square};
+use crate::arith::{Wide, invert, long_product, multiply, square};
 use crate::bytes::{read, write};
 use lzk_field::Field;
 
@@ -110,11 +110,11 @@ impl Field for Gf128 {
         Some(Gf128 { n: read(bytes) })
     }
 
-    // Products are added up by their parts, and reduced once.
+    // Products are added up in full, and reduced once.
     fn dot(left: &[Gf128], right: &[Gf128]) -> Gf128 {
-        let mut total = Parts::zero();
+        let mut total = Wide::zero();
         for i in 0..left.len() {
-            total = total.plus(Parts::product(left[i].n, right[i].n));
+            total = total.plus(long_product(left[i].n, right[i].n));
         }
         Gf128 { n: total.reduced() }
     }

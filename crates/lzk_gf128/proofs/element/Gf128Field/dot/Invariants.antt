@@ -1,6 +1,6 @@
 use Rattle.std.proofs.Common.{◌≡◌}
-use Rattle.lzk_gf128.specs.Sums.{in_parts, first_products}
+use Rattle.lzk_gf128.specs.Sums.{in_wide, first_products}
 use Rattle.lzk_gf128.proofs.element.Gf128Field.dot.Given as goal
 
 abbrev pub invariant-loop-i : goal.invariant-loop-i
-invariant-loop-i l = in_parts l.total ≡ (first_products l.left l.right l.i).n
+invariant-loop-i l = in_wide l.total ≡ (first_products l.left l.right l.i).n
