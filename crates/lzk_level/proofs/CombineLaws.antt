@@ -8,7 +8,7 @@ use Rattle.lzk_field.proofs.RingBasics.{zero_plus}
 use Rattle.lzk_circuit.specs.declared.layer.Term.{Term}
 use Rattle.lzk_level.specs.Nodes.{combined, ArePartsOf}
 use Rattle.lzk_level.specs.Bounds.{at, at_parts, total}
-use Rattle.lzk_level.specs.Rows.{row_value}
+use Rattle.lzk_reduce.specs.Rows.{row_value}
 use Rattle.lzk_level.specs.Levels.{row_at}
 
 module _ {A : Type 0} (o : Ops A) (r : RingLaws o) where

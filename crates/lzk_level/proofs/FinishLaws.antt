@@ -108,6 +108,9 @@ module _ {A : Type 0} (o : Ops A) where
       let before : publics + privates ≡ inputs - 1 = omega (arith, e) in
       values-are o inputs made public private (omega (arith, e, p, q)) (subst (λ n. AreGates n made) before h)
 
+  pub inputs-long : (publics privates : ℕ) (public private : List A) → length public ≡ publics → length private ≡ privates → length (inputs_of o public private) ≡ 1 + publics + privates
+  inputs-long publics privates public private p q = omega (arith, p, q, length-append public private)
+
   pub ready-inputs : (publics privates inputs : ℕ) (made : List (Gate A)) (depths : List ℕ) (public private : List A) → inputs ≡ 1 + (publics + privates) → AreDepths inputs made depths → length public ≡ publics → length private ≡ privates
       → Stands o depths 0 (node_values o (nodes_from publics privates made) public private) (inputs_of o public private)
   ready-inputs publics privates inputs made depths public private e d p q =

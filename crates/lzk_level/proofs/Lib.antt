@@ -1,9 +1,7 @@
-pub mod RowLaws
-pub mod MergeLaws
 pub mod LevelLaws
 pub mod CombineLaws
 pub mod NodeLaws
-pub mod StackLaws
+pub mod OneLaws
 pub mod InnerLaws
 pub mod ConstantLaws
 pub mod MadeLaws

@@ -13,7 +13,7 @@ use Rattle.lzk_level.specs.declared.lets.Operand.{Operand}
 use Rattle.lzk_level.specs.declared.lets.Operand.TheVariants.{Constant, AtNode}
 use Rattle.lzk_level.specs.Nodes.{Nodes, node_count, with_gate, IsNode, ArePartsOf}
 use Rattle.lzk_level.specs.Compilable.{IsWithin, ArePartsWithin, AreFactorsWithin, size_of, parts_size, factors_size, IsOperand, AreOperands, IsNodeOrNone}
-use Rattle.lzk_level.specs.Compiling.{Scope, let_at, is_known, known, is_constant, are_constant_parts, are_constant, constant, constant_of, constant_factor, Made, MadeFactors, next, there, at_let, multiple, summed, joined, factored, scaled, product, made, made_parts, made_factors}
+use Rattle.lzk_level.specs.Compiling.{Scope, let_at, is_known, known, is_constant, are_constant_parts, are_constant, constant, constant_of, constant_factor, Made, MadeFactors, next, at_let, multiple, summed, joined, factored, scaled, product, made, made_parts, made_factors}
 use Rattle.lzk_level.proofs.ConstantLaws.{known-at, constant-is}
 
 pub node-more : (n m k : ℕ) → n ≤ m → IsNode n k → IsNode m k

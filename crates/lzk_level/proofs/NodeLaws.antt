@@ -10,7 +10,7 @@ use Rattle.lzk_level.specs.declared.node.Gate.{Gate}
 use Rattle.lzk_level.specs.declared.node.Gate.TheVariants.{Constant, Combine, Mul}
 use Rattle.lzk_level.specs.Nodes.{combined, gate_value, ArePartsOf, IsGate, AreGates}
 use Rattle.lzk_level.specs.Bounds.{at, at_parts, total, greatest, gate_depth, gate_weight}
-use Rattle.lzk_level.specs.Rows.{row_value}
+use Rattle.lzk_reduce.specs.Rows.{row_value}
 use Rattle.lzk_level.specs.Levels.{width_of, ArePlaces, AreDepths, AreWeights, AreValues, AreShort, AreFactorsBelow, HaveValues, Stands, placed_value}
 use Rattle.lzk_level.proofs.CombineLaws.{value-at, length-at}
 use Rattle.lzk_level.proofs.LevelLaws.{place-below}

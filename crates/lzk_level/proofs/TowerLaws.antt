@@ -16,7 +16,8 @@ use Rattle.lzk_level.specs.declared.node.Gate.{Gate}
 use Rattle.lzk_level.specs.declared.node.Gate.TheVariants.{Constant, Combine, Mul}
 use Rattle.lzk_level.specs.Nodes.{AreGates}
 use Rattle.lzk_level.specs.Bounds.{at, at_parts, total, greatest, gate_depth}
-use Rattle.lzk_level.specs.Rows.{row_value}
+use Rattle.lzk_reduce.specs.Rows.{row_value}
+use Rattle.lzk_reduce.specs.Reduced.{HasOne, HaveOnes, HaveOnesUnder}
 use Rattle.lzk_level.specs.Levels.{place_in, width_of, row_at, AreDepths, AreWeights, AreValues, AreRows, AreShort, HaveValues, Stands, lengths_in, lengths_of}
 use Rattle.lzk_level.proofs.LevelLaws.{place-most, place-below}
 use Rattle.lzk_level.proofs.NodeLaws.{heavy}
@@ -160,6 +161,7 @@ module _ {A : Type 0} (o : Ops A) where
     pub count : length layers ≡ level
     pub sound : (weights : List ℕ) → AreWeights inputs made weights → level * length depths + total weights ≤ 2097152 → Sound inputs depths level weights (reverse layers)
     pub stands : (values ins : List A) → AreValues o inputs made values → Stands o depths 0 values ins → Stands o depths level values (wires_of o (reverse layers) ins)
+    pub ones : HaveOnesUnder o (reverse layers)
 
   pub tower-starts : (inputs : ℕ) (made : List (Gate A)) (depths : List ℕ) → AreDepths inputs made depths → Tower inputs made depths 0 []
   tower-starts inputs made depths d = record {
@@ -171,6 +173,7 @@ module _ {A : Type 0} (o : Ops A) where
       terms = omega arith;
     };
     stands = λ values ins v s. s;
+    ones = tt;
   }
 
   layer-stands : (depths : List ℕ) (level : ℕ) (values below : List A) (rows : List (List (Term A))) (layer : Layer A) → layer.wires ≡ width_of depths level → length rows ≡ length depths
@@ -190,8 +193,8 @@ module _ {A : Type 0} (o : Ops A) where
       → ((weights : List ℕ) → AreWeights inputs made weights → AreShort depths level weights rows)
       → layer.wires ≡ width_of depths level → ((width : ℕ) → AreRows o width rows → AreTerms o (width_of depths level) width None layer.terms)
       → ((below : List A) → AreRows o (length below) rows → (k : ℕ) → k < length depths → at depths k ≤ level → wire o (coef o layer.terms) below (place_in depths level k) ≡ row_value o below (row_at rows k))
-      → length layer.terms ≡ lengths_in depths level rows (length depths) → Tower inputs made depths (level - 1) layers → Tower inputs made depths level all
-  tower-adds inputs made depths level layers all layer rows some few first d grown long ordered have short wires terms each count t =
+      → length layer.terms ≡ lengths_in depths level rows (length depths) → HasOne o layer → Tower inputs made depths (level - 1) layers → Tower inputs made depths level all
+  tower-adds inputs made depths level layers all layer rows some few first d grown long ordered have short wires terms each count one t =
       let turned : reverse all ≡ layer ∷ reverse layers = reverse-push layers all layer grown in
       let zero_depth : at depths 0 ≡ 0 = d.at_inputs 0 (omega (arith, first)) in
       let more : level * length depths ≡ (level - 1) * length depths + length depths = one-more level (length depths) some in
@@ -221,6 +224,7 @@ module _ {A : Type 0} (o : Ops A) where
             let under = t.stands values ins v s in
             subst (λ ls. Stands o depths level values (wires_of o ls ins)) (sym turned)
             (layer-stands depths level values below rows layer wires long (each below (subst (λ n. AreRows o n rows) (sym under.width) ordered)) (have values below v under));
+        ones = subst (HaveOnesUnder o) (sym turned) (one, t.ones);
       }
 
   -- the layers for outputs
@@ -228,6 +232,7 @@ module _ {A : Type 0} (o : Ops A) where
     pub count_is : length layers ≡ count
     pub valid : (weights : List ℕ) → AreWeights inputs made weights → 1 ≤ length outputs → ((i : ℕ) → i < length outputs → 1 ≤ at outputs i) → count * length depths + total weights + total (map (at weights) outputs) ≤ 2097152 → AreLayers o inputs (reverse layers)
     pub values : (values ins : List A) → AreValues o inputs made values → Stands o depths 0 values ins → wires_of o (reverse layers) ins ≡ map (entry o values) outputs
+    pub ones : HaveOnes o (reverse layers)
 
   -- with the outputs' layer on top
   pub tower-ends : (inputs : ℕ) (made : List (Gate A)) (depths : List ℕ) (count : ℕ) (layers all : List (Layer A)) (layer : Layer A) (rows : List (List (Term A))) (outputs : List ℕ) → 1 ≤ count → 1 ≤ inputs → AreGates (inputs - 1) made → AreDepths inputs made depths
@@ -268,4 +273,5 @@ module _ {A : Type 0} (o : Ops A) where
             (λ i l.
             let li : i < length outputs = omega (arith, l, length-map-range_with_len f 0 layer.wires, wires) in
             get_or-map-range_with_len f 0 layer.wires i i o.zero (omega (arith, li, wires)) (omega arith) ∙ each below rows_are i li ∙ have values below v under (at outputs i) (omega (arith, nodes i li, long)) (deep i li) ∙ sym (value-of outputs i li));
+        ones = subst (HaveOnes o) (sym turned) t.ones;
       }

@@ -5,6 +5,7 @@ use Rattle.lzk_goldilocks.specs.Elements as gold
 use Rattle.lzk_gf128.specs.Elements as gf
 use Rattle.lzk_circuit.specs.Valid.{Wiring}
 use Rattle.lzk_circuit.specs.Wires.{inputs_of, wires_of}
+use Rattle.lzk_reduce.specs.Reduced.{IsReduced}
 use Rattle.lzk_circbytes.specs.declared.any.AnyCircuit.{AnyCircuit}
 use Rattle.lzk_circbytes.specs.declared.any.AnyCircuit.TheVariants.{Gold, Gf}
 use Rattle.lzk_expr.specs.Trees.{Statement, SourceTree, is_public, is_private, is_assertion}
@@ -56,6 +57,11 @@ depth_of (Gf c) = length c.layers
 abbrev pub HasSourceValues : List Statement → AnyCircuit → Type 0
 HasSourceValues ss (Gold c) = HasValues gold.ops gold.of_number ss c
 HasSourceValues ss (Gf c) = HasValues gf.ops gf.of_number ss c
+
+-- no inner wire is there twice, or for nothing
+abbrev pub HasReducedLayers : AnyCircuit → Type 0
+HasReducedLayers (Gold c) = IsReduced gold.ops c.layers
+HasReducedLayers (Gf c) = IsReduced gf.ops c.layers
 
 abbrev pub layers_in : FieldId → List Statement → ℕ
 layers_in Goldilocks ss = layers_needed (nodes_of gold.ops gold.of_number ss)

@@ -8,7 +8,7 @@ use Rattle.lzk_level.specs.declared.node.Gate.{Gate}
 use Rattle.lzk_level.specs.declared.node.Gate.TheVariants.{Constant, Combine, Mul}
 use Rattle.lzk_level.specs.Nodes.{combined, gate_value}
 use Rattle.lzk_level.specs.Bounds.{at, gate_depth, gate_weight}
-use Rattle.lzk_level.specs.Rows.{IsRow, row_value}
+use Rattle.lzk_reduce.specs.Rows.{IsRow, row_value, ordered}
 
 -- how many of the first k depths are no greater than the level
 abbrev pub place_in : List ℕ → ℕ → ℕ → ℕ
@@ -25,6 +25,10 @@ ArePlaces depths level places = (length places ≡ length depths) × ((k : ℕ) 
 
 abbrev pub row_at : {A : Type 0} → List (List (Term A)) → ℕ → List (Term A)
 row_at rows k = slice_index_or rows k []
+
+-- the first row is that of the one, which goes on from wire 0 below
+abbrev pub StartsWithOne : {A : Type 0} → Ops A → List (List (Term A)) → Type 0
+StartsWithOne o rows = row_at rows 0 ≡ ordered o.one 0 0 ∷ []
 
 -- the depths of so many inputs, the one among them, and of these gates behind them
 pub record AreDepths {A : Type 0} (inputs : ℕ) (made : List (Gate A)) (depths : List ℕ) : Type 0 where

@@ -1,7 +1,6 @@
 pub mod Nodes
 pub mod Bounds
 pub mod Meanings
-pub mod Rows
 pub mod Levels
 pub mod Compilable
 pub mod Compiling

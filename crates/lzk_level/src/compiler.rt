@@ -3,10 +3,11 @@
 ghost use Rattle.std.specs.Prelude.{◌≡◌, ◌+◌, ◌≤◌, ◌++◌, None, count_by, length, IfOk, IfErr, OnOk};
 ghost use Rattle.lzk_expr.specs.Trees.{is_public, is_private};
 ghost use Rattle.lzk_expr.specs.View.{expr_of, statement_of, statements_of, tree_of};
+ghost use Rattle.lzk_reduce.specs.Reduced.{IsReduced};
 ghost use Rattle.lzk_level.specs.Nodes.{node_count};
 ghost use Rattle.lzk_level.specs.Compilable.{IsWithin, size_of, AreOperands, IsStatementWithin, statement_size};
 ghost use Rattle.lzk_level.specs.Compiling.{scope, let_nodes, let_operand, made_assert, statement_lets, statement_nodes, statement_outputs, nodes_of};
-ghost use Rattle.lzk_level.specs.Compiled.{IsCompilable, HasValues, layers_needed, limit_passed, IsFaultOf, field_of, publics_of, privates_of, depth_of, HasSourceValues, source_layers, source_limit};
+ghost use Rattle.lzk_level.specs.Compiled.{IsCompilable, HasValues, layers_needed, limit_passed, IsFaultOf, field_of, publics_of, privates_of, depth_of, HasSourceValues, HasReducedLayers, source_layers, source_limit};
 
 use crate::builder::Builder;
 use crate::constants::constant;
@@ -127,6 +128,7 @@ fn compile_over<F: Field>(
     ensures privates { IfOk result (λ c. c.privates ≡ privates) }
     ensures layers { IfOk result (λ c. length c.layers ≡ layers_needed (nodes_of F.ops F.element (statements_of statements.now))) }
     ensures outputs { IfOk result (HasValues F.ops F.element (statements_of statements.now)) }
+    ensures reduced { IfOk result (λ c. IsReduced F.ops c.layers) }
     ensures within { IfOk result (λ _. limit_passed (nodes_of F.ops F.element (statements_of statements.now)) ≡ None) }
     ensures fault { IfErr result (IsFaultOf (limit_passed (nodes_of F.ops F.element (statements_of statements.now)))) }
 {
@@ -134,14 +136,15 @@ fn compile_over<F: Field>(
     builder.finish(&outputs)
 }
 
-/// The circuit of a source: the nodes that the profile in docs/FORMATS.md makes of it, finished with a
-/// node for each assert. Want of memory may come at any time.
+/// The reduced circuit of a source: the nodes that the profile in docs/FORMATS.md makes of it, finished with
+/// a node for each assert. Want of memory may come at any time.
 pub fn compile(alloc: Global, source: &Source) -> Result<AnyCircuit, LevelError>
     ensures field { IfOk result (λ c. field_of c ≡ source.now.field_is) }
     ensures publics { IfOk result (λ c. publics_of c ≡ count_by is_public (statements_of source.now.statements)) }
     ensures privates { IfOk result (λ c. privates_of c ≡ count_by is_private (statements_of source.now.statements)) }
     ensures layers { IfOk result (λ c. depth_of c ≡ source_layers (tree_of source.now)) }
     ensures outputs { IfOk result (HasSourceValues (statements_of source.now.statements)) }
+    ensures reduced { IfOk result HasReducedLayers }
     ensures within { IfOk result (λ _. source_limit (tree_of source.now) ≡ None) }
     ensures fault { IfErr result (IsFaultOf (source_limit (tree_of source.now))) }
 {

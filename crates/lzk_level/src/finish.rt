@@ -4,6 +4,7 @@ ghost use Rattle.std.specs.Prelude.{◌≡◌, ℕ, ◌+◌, ◌-◌, ◌*◌, �
 ghost use Rattle.lzk_field.specs.Sums.{entry};
 ghost use Rattle.lzk_circuit.specs.Valid.{AreLayers, wiring};
 ghost use Rattle.lzk_circuit.specs.Wires.{wires_of};
+ghost use Rattle.lzk_reduce.specs.Reduced.{HaveOnes, IsReduced};
 ghost use Rattle.lzk_level.specs.Nodes.{AreGates, IsNode, node_count, nodes_from};
 ghost use Rattle.lzk_level.specs.Bounds.{at, total, layer_count, level_fault, node_depths, IsLevelError};
 ghost use Rattle.lzk_level.specs.Meanings.{HasOutputs};
@@ -17,6 +18,7 @@ use crate::node::{Gate, Node};
 use crate::stack::{inner_layer, output_layer};
 use lzk_circuit::{Circuit, Layer};
 use lzk_field::Field;
+use lzk_reduce::reduced;
 use std::alloc::{AllocError, Global};
 
 // The layers for these outputs, the last first. In an inner layer each node has a wire from the level of its
@@ -41,6 +43,7 @@ fn stacked<F: Field>(
         → count * length depths.now + total weights + total (map (at weights) outputs.now) ≤ 2097152 → IfOk result (λ layers. AreLayers F.ops (length depths.now - length made.now) (reverse layers.items)) }
     ensures values { (values inputs : List F) → AreValues F.ops (length depths.now - length made.now) made.now values → Stands F.ops depths.now 0 values inputs
         → IfOk result (λ layers. wires_of F.ops (reverse layers.items) inputs ≡ map (entry F.ops values) outputs.now) }
+    ensures ones { IfOk result (λ layers. HaveOnes F.ops (reverse layers.items)) }
 {
     let mut layers = Vec::new(alloc);
     let mut below = places(alloc, depths, 0)?;
@@ -95,7 +98,7 @@ fn circuit_of<F: Field>(publics: u32, privates: u32, layers: Vec<Layer<F>>) -> C
     }
 }
 
-// The circuit whose outputs are these nodes.
+// The reduced circuit whose outputs are these nodes.
 fn laid_out<F: Field>(
     alloc: Global,
     publics: u32,
@@ -114,19 +117,21 @@ fn laid_out<F: Field>(
     ensures privates { IfOk result (λ c. c.privates ≡ privates) }
     ensures layers { IfOk result (λ c. length c.layers ≡ layer_count (nodes_from publics privates made.now) outputs.now) }
     ensures outputs { IfOk result (HasOutputs F.ops (nodes_from publics privates made.now) outputs.now) }
+    ensures reduced { IfOk result (λ c. IsReduced F.ops c.layers) }
     ensures within { IfOk result (λ _. level_fault (nodes_from publics privates made.now) outputs.now ≡ None) }
     ensures fault { IfErr result (IsLevelError (nodes_from publics privates made.now) outputs.now) }
 {
     let (depths, count) = measured(alloc, publics, privates, made, outputs)?;
     let mut layers = stacked(alloc, made, &depths, outputs, count)?;
     layers.reverse();
+    let layers = reduced(alloc, 1 + publics + privates, &layers)?;
     Ok(circuit_of(publics, privates, layers))
 }
 
 impl<F: Field> Builder<F> {
-    /// The circuit with a wire in layer 0 for each entry of `outputs`, in order. In each inner layer every
-    /// node that is no deeper has a wire of its own, behind the one. The builder is consumed, and dropped
-    /// where a limit is passed.
+    /// The circuit with a wire in layer 0 for each entry of `outputs`, in order. It is reduced: in an inner
+    /// layer no two wires have the same terms, and each is used above or is the one. The builder is consumed,
+    /// and dropped where a limit is passed.
     pub fn finish(self, outputs: &[Node]) -> Result<Circuit<F>, LevelError>
         requires some { 1 ≤ length outputs.now }
         requires few { length outputs.now ≤ 131072 }
@@ -135,6 +140,7 @@ impl<F: Field> Builder<F> {
         ensures privates { IfOk result (λ c. c.privates ≡ self.privates) }
         ensures layers { IfOk result (λ c. length c.layers ≡ layer_count self outputs.now) }
         ensures outputs { IfOk result (HasOutputs F.ops self outputs.now) }
+        ensures reduced { IfOk result (λ c. IsReduced F.ops c.layers) }
         ensures within { IfOk result (λ _. level_fault self outputs.now ≡ None) }
         ensures fault { IfErr result (IsLevelError self outputs.now) }
     {

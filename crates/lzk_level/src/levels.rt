@@ -1,16 +1,16 @@
 //! Levels of wires, from the inputs up.
 
-ghost use Rattle.std.specs.Prelude.{◌≡◌, ℕ, ◌+◌, ◌-◌, ◌<◌, ◌≤◌, List, length, map, IfOk};
+ghost use Rattle.std.specs.Prelude.{◌≡◌, ℕ, ◌+◌, ◌-◌, ◌<◌, ◌≤◌, List, [], ◌∷◌, length, map, IfOk};
 ghost use Rattle.lzk_field.specs.Sums.{entry};
 ghost use Rattle.lzk_level.specs.Nodes.{combined, ArePartsOf, IsGate, AreGates};
 ghost use Rattle.lzk_level.specs.Bounds.{at, at_parts, total, gate_depth, gate_weight};
-ghost use Rattle.lzk_level.specs.Rows.{IsRow, row_value};
-ghost use Rattle.lzk_level.specs.Levels.{place_in, width_of, row_at, ArePlaces, AreDepths, AreWeights, AreValues, AreRows, AreShort, IsShort, AreFactorsBelow, HaveValues, Stands, placed_value};
+ghost use Rattle.lzk_reduce.specs.Rows.{IsRow, row_value, ordered};
+ghost use Rattle.lzk_level.specs.Levels.{place_in, width_of, row_at, ArePlaces, AreDepths, AreWeights, AreValues, AreRows, AreShort, IsShort, AreFactorsBelow, HaveValues, Stands, placed_value, StartsWithOne};
 
 use crate::node::{Gate, Node};
-use crate::rows::{merged, scaled, single};
 use lzk_circuit::{Term, Terms};
 use lzk_field::Field;
+use lzk_reduce::{merged, scaled, single};
 use std::alloc::{AllocError, Global};
 
 /// Each node's wire in a level: a node has a place there if it is no deeper.
@@ -113,6 +113,7 @@ fn node_row<F: Field>(
         → IfOk result (λ row. at depths.now (length rows.now) ≤ level → row_value F.ops wires row.items ≡ entry F.ops values (length rows.now)) }
     ensures short { (weights : List ℕ) → AreWeights (length depths.now - length made.now) made.now weights → AreShort depths.now level weights rows.now
         → IfOk result (λ row. IsShort depths.now level weights (length rows.now) (length row.items)) }
+    ensures one { length rows.now ≡ 0 → IfOk result (λ row. row.items ≡ ordered F.ops.one 0 0 ∷ []) }
 {
     let k = rows.len();
     if depths[k] > level {
@@ -142,6 +143,7 @@ pub fn level_rows<F: Field>(
     ensures row { IfOk result (λ rows. AreRows F.ops (width_of depths.now (level - 1)) rows.items) }
     ensures value { (values wires : List F) → AreValues F.ops (length depths.now - length made.now) made.now values → Stands F.ops depths.now (level - 1) values wires → IfOk result (λ rows. HaveValues F.ops depths.now level values wires rows.items) }
     ensures short { (weights : List ℕ) → AreWeights (length depths.now - length made.now) made.now weights → IfOk result (λ rows. AreShort depths.now level weights rows.items) }
+    ensures one { IfOk result (λ rows. StartsWithOne F.ops rows.items) }
 {
     let mut rows = Vec::new(alloc);
     for k in 0..depths.len() {

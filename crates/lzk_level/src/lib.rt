@@ -1,8 +1,8 @@
 //! Circuits from arithmetic nodes: what a compiler builds, level by level.
 //!
 //! A [`Builder`] holds nodes over a field: inputs, constants, sums of multiples and products. `finish`
-//! lays them out as a layered circuit (draft-google-cfrg-libzk), by the profile in docs/FORMATS.md. A
-//! caller writes
+//! lays them out as a layered circuit (draft-google-cfrg-libzk), by the profile in docs/FORMATS.md, in which
+//! no inner wire is there twice, or for nothing. A caller writes
 //!
 //! ```text
 //! let mut builder = Builder::<Gold>::new(alloc, 1, 1)?;
@@ -26,7 +26,6 @@ mod levels;
 mod making;
 mod measure;
 mod node;
-mod rows;
 mod stack;
 
 pub use builder::Builder;
@@ -40,3 +39,5 @@ mod compiler_tests;
 mod compiler_vectors;
 #[cfg(test)]
 mod tests;
+#[cfg(test)]
+mod value_tests;

@@ -4,28 +4,17 @@ ghost use Rattle.std.specs.Prelude.{◌≡◌, ℕ, ◌+◌, ◌-◌, ◌<◌, �
 ghost use Rattle.lzk_circuit.specs.Valid.{AreTerms};
 ghost use Rattle.lzk_circuit.specs.Wires.{coef, wire};
 ghost use Rattle.lzk_level.specs.Bounds.{at};
-ghost use Rattle.lzk_level.specs.Rows.{IsRow, row_value};
-ghost use Rattle.lzk_level.specs.Levels.{place_in, width_of, row_at, AreRows, lengths_in, lengths_of};
+ghost use Rattle.lzk_reduce.specs.Rows.{IsRow, row_value};
+ghost use Rattle.lzk_reduce.specs.Reduced.{HasOne};
+ghost use Rattle.lzk_level.specs.Levels.{place_in, width_of, row_at, AreRows, lengths_in, lengths_of, StartsWithOne};
 
 use crate::node::Node;
-use lzk_circuit::{Layer, Term, Terms};
+use lzk_circuit::{Layer, Terms};
 use lzk_field::Field;
+use lzk_reduce::append;
 use std::alloc::{AllocError, Global};
 
-// Appends a row as the terms of wire `g`, which is the next one.
-fn append<F: Field>(terms: &mut Vec<Term<F>>, g: u32, row: &[Term<F>]) -> Result<(), AllocError>
-    ensures terms { (width : ℕ) → AreTerms F.ops g width None terms.old.items → IsRow F.ops width row.now → IfOk result (λ _. AreTerms F.ops (g + 1) width None terms.new.items) }
-    ensures before { (below : List F) (i : ℕ) → i < g → IfOk result (λ _. wire F.ops (coef F.ops terms.new.items) below i ≡ wire F.ops (coef F.ops terms.old.items) below i) }
-    ensures added { (below : List F) → AreTerms F.ops g (length below) None terms.old.items → IsRow F.ops (length below) row.now → IfOk result (λ _. wire F.ops (coef F.ops terms.new.items) below g ≡ row_value F.ops below row.now) }
-    ensures count { IfOk result (λ _. length terms.new.items ≡ length terms.old.items + length row.now) }
-{
-    for term in row {
-        terms.push(Term { g, ..*term })?;
-    }
-    Ok(())
-}
-
-/// The layer of all nodes with a place in a level.
+//// The layer of all nodes with a place in a level.
 pub fn inner_layer<F: Field>(
     alloc: Global,
     depths: &[u32],
@@ -38,6 +27,7 @@ pub fn inner_layer<F: Field>(
     ensures terms { (width : ℕ) → AreRows F.ops width rows.now → IfOk result (λ layer. AreTerms F.ops (width_of depths.now level) width None layer.terms) }
     ensures values { (below : List F) → AreRows F.ops (length below) rows.now → IfOk result (λ layer. (k : ℕ) → k < length depths.now → at depths.now k ≤ level → wire F.ops (coef F.ops layer.terms) below (place_in depths.now level k) ≡ row_value F.ops below (row_at rows.now k)) }
     ensures count { IfOk result (λ layer. length layer.terms ≡ lengths_in depths.now level rows.now (length depths.now)) }
+    ensures one { at depths.now 0 ≡ 0 → StartsWithOne F.ops rows.now → IfOk result (HasOne F.ops) }
 {
     let mut terms = Vec::new(alloc);
     let mut wires = 0;

@@ -1,5 +1,5 @@
 use Rattle.std.proofs.Common.{◌≡◌, ◌∙◌, ap, sym, subst, ◌+◌, ◌-◌, length, arith}
-use Rattle.lzk_level.specs.Levels.{width_of, ArePlaces, AreRows, AreShort, HaveValues}
+use Rattle.lzk_level.specs.Levels.{width_of, ArePlaces, AreRows, AreShort, HaveValues, StartsWithOne}
 use Rattle.lzk_level.proofs.TowerLaws.{Tower, Topped, tower-starts, tower-adds, tower-ends}
 use Rattle.lzk_level.proofs.finish.stacked.Goals as goal
 
@@ -30,7 +30,7 @@ loop-level-preserved g c =
           (tower-adds o inputs made depths level c.loop-level.layers.items c.push.new.self.items c.in_ok-inner_layer.field-0 rows i.0 c.requires.few (omega (arith, c.requires.inputs)) c.requires.depths
           c.in_ok-push.ensures.items (ap length (sym same) ∙ e.count) (subst (AreRows o (width_of depths (level - 1))) same e.row)
           (λ values wires v s. subst (HaveValues o depths level values wires) same (e.value values wires v s)) (λ weights w. subst (AreShort depths level weights) same (e.short weights w))
-          f.wires f.terms f.values f.count i.2),
+          f.wires f.terms f.values f.count (f.one (c.requires.depths.at_inputs 0 (omega (arith, c.requires.inputs))) (subst (StartsWithOne o) same e.one)) i.2),
     )
 
 pub level_rows-requires-2-clause-places : goal.level_rows-requires-2-clause-places
@@ -79,3 +79,24 @@ returns-clause-values g c =
     (λ values wires v s. subst (HaveValues o depths count values wires) same (e.value values wires v s)) (λ weights w. subst (AreShort depths count weights) same (e.short weights w))
     f.terms f.values f.count c.requires.nodes c.requires.deep under in
     all.values
+
+pub returns-clause-ones : goal.returns-clause-ones
+returns-clause-ones g c =
+    let o = g.F.Field.ops in
+    let depths = c.args.depths.now in
+    let made = c.args.made.now in
+    let outputs = c.args.outputs.now in
+    let count = c.args.count in
+    let inputs = length depths - length made in
+    let top : c.loop-level.level ≡ count = omega (arith, c.loop-level-test.false, c.loop-level.auto.level-end c.requires.some) in
+    let under : Tower o inputs made depths (count - 1) c.loop-level.layers.items = subst (λ n. Tower o inputs made depths (n - 1) c.loop-level.layers.items) top c.loop-level.invariant.2 in
+    let rows = c.deref-3.result.now in
+    let same : c.in_ok-rows-2.rows.items ≡ rows = sym c.deref-3.ensures.value in
+    let e = c.in_ok-rows-2.ensures in
+    let f = c.in_ok-output_layer.ensures in
+    let all : Topped o inputs made depths count outputs c.push-2.new.self.items =
+    tower-ends o inputs made depths count c.loop-level.layers.items c.push-2.new.self.items c.in_ok-output_layer.field-0 rows outputs c.requires.some (omega (arith, c.requires.inputs)) c.requires.gates c.requires.depths
+    c.in_ok-push-2.ensures.items (ap length (sym same) ∙ e.count) (subst (AreRows o (width_of depths (count - 1))) same e.row) f.wires c.requires.outputs
+    (λ values wires v s. subst (HaveValues o depths count values wires) same (e.value values wires v s)) (λ weights w. subst (AreShort depths count weights) same (e.short weights w))
+    f.terms f.values f.count c.requires.nodes c.requires.deep under in
+    all.ones

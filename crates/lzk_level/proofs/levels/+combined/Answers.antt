@@ -2,7 +2,7 @@ use Rattle.std.proofs.Common.{◌≡◌, ◌∙◌, ap, subst, length, map, ◌+
 use Rattle.std.proofs.lemmas.Result.{IfOk-weaker}
 use Rattle.lzk_level.specs.Nodes.{combined, ArePartsOf}
 use Rattle.lzk_level.specs.Bounds.{at_parts, total}
-use Rattle.lzk_level.specs.Rows.{row_value}
+use Rattle.lzk_reduce.specs.Rows.{row_value}
 use Rattle.lzk_level.specs.Levels.{row_at}
 use Rattle.lzk_level.proofs.CombineLaws.{parts-append, halves, value-of-one, value-of-halves, short-of-halves}
 use Rattle.lzk_level.proofs.levels.+combined.Goals as goal

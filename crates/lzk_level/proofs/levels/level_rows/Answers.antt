@@ -1,10 +1,11 @@
-use Rattle.std.proofs.Common.{◌≡◌, ◌∙◌, ap, sym, subst, ◌+◌, ◌-◌, ◌≤◌, length, [], ◌∷◌, ◌++◌}
+use Rattle.std.proofs.Common.{◌≡◌, ◌∙◌, ap, sym, subst, ◌+◌, ◌-◌, ◌≤◌, length, [], ◌∷◌, ◌++◌, arith}
 use Rattle.std.proofs.lemmas.List.{length-append}
 use Rattle.lzk_field.specs.Sums.{entry}
 use Rattle.lzk_level.specs.Bounds.{at}
-use Rattle.lzk_level.specs.Rows.{IsRow, row_value}
+use Rattle.lzk_reduce.specs.Rows.{IsRow, row_value}
 use Rattle.lzk_level.specs.Levels.{width_of, IsShort, AreRows, HaveValues, AreShort}
 use Rattle.lzk_level.proofs.LevelLaws.{row-next}
+use Rattle.lzk_level.proofs.OneLaws.{starts-with-one}
 use Rattle.lzk_level.proofs.levels.level_rows.Goals as goal
 
 pub loop-k-preserved : goal.loop-k-preserved
@@ -28,4 +29,8 @@ loop-k-preserved g c =
           (c.in_ok-row.ensures.value values wires v s (subst (HaveValues o depths level values wires) (sym same) (i.2 values wires v s))),
       λ weights w. row-next (λ k us. IsShort depths level weights k (length us)) old seen new x row same c.new.ensures grown (i.3 weights w)
           (c.in_ok-row.ensures.short weights w (subst (AreShort depths level weights) (sym same) (i.3 weights w))),
+      λ some. starts-with-one o old seen new x row same c.new.ensures grown (λ more. i.4 (omega (arith, i.0, more))) c.in_ok-row.ensures.one,
     )
+
+pub returns-clause-one : goal.returns-clause-one
+returns-clause-one g c = c.loop-k.invariant.4 (omega (arith, c.loop-k-test.false, c.requires.inputs))

@@ -1,5 +1,5 @@
-use Rattle.std.proofs.Common.{◌≡◌, ℕ, List, ◌-◌, length}
-use Rattle.lzk_level.specs.Levels.{width_of, AreRows, AreValues, AreWeights, AreShort, HaveValues, Stands}
+use Rattle.std.proofs.Common.{◌≡◌, ℕ, List, ◌-◌, ◌≤◌, length}
+use Rattle.lzk_level.specs.Levels.{width_of, AreRows, AreValues, AreWeights, AreShort, HaveValues, Stands, StartsWithOne}
 use Rattle.lzk_level.proofs.levels.level_rows.Given as goal
 
 abbrev pub invariant-loop-k : goal.invariant-loop-k
@@ -9,3 +9,4 @@ invariant-loop-k g l =
     (length l.rows.items ≡ l.k) × AreRows o (width_of l.depths (l.level - 1)) l.rows.items
     × ((values wires : List _) → AreValues o inputs l.made values → Stands o l.depths (l.level - 1) values wires → HaveValues o l.depths l.level values wires l.rows.items)
     × ((weights : List ℕ) → AreWeights inputs l.made weights → AreShort l.depths l.level weights l.rows.items)
+    × (1 ≤ l.k → StartsWithOne o l.rows.items)

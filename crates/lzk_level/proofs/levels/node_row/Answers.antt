@@ -1,9 +1,9 @@
-use Rattle.std.proofs.Common.{◌≡◌, ◌∙◌, ap, sym, subst, ◌-◌, ◌<◌, ◌≤◌, length, map, arith}
+use Rattle.std.proofs.Common.{◌≡◌, ◌∙◌, ap, ap₂, sym, subst, ◌-◌, ◌<◌, ◌≤◌, length, map, arith, [], ◌∷◌}
 use Rattle.std.proofs.lemmas.Result.{IfOk-weaker}
 use Rattle.lzk_field.specs.Sums.{entry}
 use Rattle.lzk_level.specs.Bounds.{at, gate_weight}
-use Rattle.lzk_level.specs.Rows.{row_value}
-use Rattle.lzk_level.specs.Levels.{width_of, placed_value, IsShort}
+use Rattle.lzk_reduce.specs.Rows.{row_value, ordered}
+use Rattle.lzk_level.specs.Levels.{place_in, width_of, placed_value, IsShort}
 use Rattle.lzk_level.proofs.LevelLaws.{place-below}
 use Rattle.lzk_level.proofs.NodeLaws.{gate-counts, copy-counts, first-one, heavy, gate-short, factors-below, gate-facts}
 use Rattle.lzk_level.proofs.levels.node_row.Goals as goal
@@ -94,3 +94,25 @@ returns-clause-short g c weights w short =
     let most = gate-short level depths weights c.args.rows.now gate short facts.is_gate in
     IfOk-weaker c.gate_row.result (λ row. length row.items ≤ gate_weight (map length c.args.rows.now) gate) (λ row. IsShort depths level weights k (length row.items))
     (λ row l. ((λ less. absurd (omega (arith, less, c.if-depths-k-2.false))), (λ some. omega (arith, l, most, facts.weight weights w)))) c.gate_row.ensures.short
+
+pub returns-then-depths-k-clause-one : goal.returns-then-depths-k-clause-one
+returns-then-depths-k-clause-one g c first =
+    let depths = c.args.depths.now in
+    let zero_depth : at depths 0 ≡ 0 = c.requires.depths.at_inputs 0 (omega (arith, c.requires.inputs)) in
+    absurd (omega (arith, ap (at depths) first, zero_depth, c.if-depths-k.true))
+
+pub returns-then-depths-k-2-clause-one : goal.returns-then-depths-k-2-clause-one
+returns-then-depths-k-2-clause-one g c first =
+    let o = g.F.Field.ops in
+    let k = length c.args.rows.now in
+    let p = at c.args.below.now k in
+    let place : p ≡ 0 = c.requires.places.1 k c.requires.next ∙ ap (place_in c.args.depths.now (c.args.level - 1)) first in
+    let one = c.one.ensures in
+    IfOk-weaker c.single.result (λ row. row.items ≡ ordered c.one.result 0 p ∷ []) (λ row. row.items ≡ ordered o.one 0 0 ∷ []) (λ row e. e ∙ ap₂ (λ x n. ordered x 0 n ∷ []) one place)
+    (c.single.ensures.exact (λ e. g.F.Field.laws.field.one_not_zero (sym one ∙ e)))
+
+pub returns-clause-one : goal.returns-clause-one
+returns-clause-one g c first =
+    let depths = c.args.depths.now in
+    let zero_depth : at depths 0 ≡ 0 = c.requires.depths.at_inputs 0 (omega (arith, c.requires.inputs)) in
+    absurd (omega (arith, ap (at depths) first, zero_depth, c.requires.level, c.if-depths-k-2.false))

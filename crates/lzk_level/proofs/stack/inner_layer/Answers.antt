@@ -1,6 +1,8 @@
-use Rattle.std.proofs.Common.{◌≡◌, ◌∙◌, sym, subst, ◌+◌, suc, arith, []}
+use Rattle.std.proofs.Common.{◌≡◌, ◌∙◌, sym, subst, ◌+◌, suc, arith, [], ◌∷◌}
 use Rattle.std.proofs.lemmas.List.{get_or_default}
+use Rattle.lzk_reduce.specs.Reduced.{terms_of}
 use Rattle.lzk_level.proofs.InnerLaws.{Inner, inner-starts, inner-skips, inner-adds}
+use Rattle.lzk_level.proofs.OneLaws.{has-one}
 use Rattle.lzk_level.proofs.stack.inner_layer.Goals.{then-depths-k+in_ok-append, else-depths-k}
 use Rattle.lzk_level.proofs.stack.inner_layer.Goals as goal
 
@@ -23,10 +25,15 @@ loop-k-preserved g c =
           subst (λ n. Inner o depths c.args.level rows n c.if-depths-k.wires c.if-depths-k.terms.items) next
           (subst (λ n. Inner o depths c.args.level rows (suc k) n c.if-depths-k.terms.items) (sym w.wires-is)
           (subst (λ v. Inner o depths c.args.level rows (suc k) (c.loop-k.wires + 1) v.items) (sym w.terms-is)
-          (inner-adds o depths c.args.level rows k c.loop-k.wires old new row w.if-depths-k.true (omega (arith, c.requires.rows, c.loop-k-test.true)) (w.as_slice.ensures ∙ w.index-rows-k.is ∙ get_or_default rows k w.index-rows-k.result [] (omega (arith, c.requires.rows, c.loop-k-test.true))) e.terms e.before e.added e.count c.loop-k.invariant)))
+          (inner-adds o depths c.args.level rows k c.loop-k.wires old new row w.if-depths-k.true (omega (arith, c.requires.rows, c.loop-k-test.true)) (w.as_slice.ensures ∙ w.index-rows-k.is ∙ get_or_default rows k w.index-rows-k.result [] (omega (arith, c.requires.rows, c.loop-k-test.true))) e.terms e.before e.added e.count e.exact c.loop-k.invariant)))
       | else-depths-k w ↦
           subst (λ n. Inner o depths c.args.level rows n c.if-depths-k.wires c.if-depths-k.terms.items) next
           (subst (λ n. Inner o depths c.args.level rows (suc k) n c.if-depths-k.terms.items) (sym w.wires-is)
           (subst (λ v. Inner o depths c.args.level rows (suc k) c.loop-k.wires v.items) (sym w.terms-is)
           (inner-skips o depths c.args.level rows k c.loop-k.wires old w.if-depths-k.false c.loop-k.invariant)))
     ]
+
+pub returns-clause-one : goal.returns-clause-one
+returns-clause-one g c zero_depth first =
+    subst (λ ts. terms_of 0 ts ≡ (0, 0, g.F.Field.ops.one) ∷ []) (sym c.new.ensures)
+    (has-one g.F.Field.ops c.args.depths.now c.args.level c.args.rows.now c.loop-k.k c.loop-k.terms.items zero_depth (omega (arith, c.requires.rows, c.loop-k-test.false)) c.loop-k.invariant.one first)

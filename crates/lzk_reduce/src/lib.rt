@@ -1,0 +1,28 @@
+//! Circuits without needless wires: rows of terms, and the reduced form of layers.
+//!
+//! A row holds the terms of one wire over the layer below. [`reduced`] gives layers with the same outputs in
+//! which no inner wire is there twice, or for nothing (the profile in docs/FORMATS.md). A caller writes
+//!
+//! ```text
+//! let product = single(alloc, coef, a, b)?;
+//! let row = merged(alloc, &scaled(alloc, factor, &product)?, &other)?;
+//! append(&mut terms, g, &row)?;
+//! let layers = reduced(alloc, inputs, &layers)?;
+//! ```
+#![tactic(auto)]
+
+mod kept;
+mod marks;
+mod prune;
+mod reduce;
+mod renumber;
+mod rows;
+mod share;
+
+pub use reduce::reduced;
+pub use rows::{append, merged, scaled, single};
+
+#[cfg(test)]
+mod kept_tests;
+#[cfg(test)]
+mod tests;

@@ -1,0 +1,58 @@
+//! Rows over both fields.
+
+use super::*;
+use lzk_circuit::Term;
+use lzk_field::Field;
+use lzk_gf128::Gf128;
+use lzk_goldilocks::Gold;
+use std::alloc::{AllocError, Global};
+use std::test::Fail;
+
+// Wire, the two wires below, and the coefficient's number.
+type Entry = (u32, u32, u32, u128);
+
+fn entries<F: Field>(alloc: Global, terms: &[Term<F>]) -> Result<Vec<Entry>, AllocError> {
+    let mut list = Vec::new(alloc);
+    for term in terms {
+        list.push((term.g, term.a, term.b, term.coef.number()))?;
+    }
+    Ok(list)
+}
+
+// 2 x y + 5 times (3 + 4 x), and then its terms as those of wire 7: a product, a multiple, a sum.
+fn row_of<F: Field>(alloc: Global) -> Result<Vec<Entry>, AllocError> {
+    let three = single(alloc, F::of_word(3), 0, 0)?;
+    let four = single(alloc, F::of_word(4), 1, 0)?;
+    let sum = scaled(alloc, F::of_word(5), &merged(alloc, &four, &three)?)?;
+    let row = merged(alloc, &single(alloc, F::of_word(2), 2, 1)?, &sum)?;
+    let mut terms = Vec::new(alloc);
+    append(&mut terms, 7, &row)?;
+    entries(alloc, &terms)
+}
+
+// What goes out: a zero coefficient, a multiple by zero, and a sum of a row and its negative.
+fn nothing<F: Field>(alloc: Global) -> Result<(usize, usize, usize), AllocError> {
+    let row = single(alloc, F::of_word(9), 1, 2)?;
+    let none = single(alloc, F::zero(), 1, 2)?;
+    let multiple = scaled(alloc, F::zero(), &row)?;
+    let negative = scaled(alloc, F::one().neg(), &row)?;
+    let difference = merged(alloc, &row, &negative)?;
+    Ok((none.len(), multiple.len(), difference.len()))
+}
+
+#[test]
+fn rows_are_sums_of_products(rt: HostRuntime) -> Result<(), Fail> {
+    let alloc = rt.alloc();
+    let expected: [Entry; 3] = [(7, 0, 0, 15), (7, 0, 1, 20), (7, 1, 2, 2)];
+    assert!(rt; row_of::<Gold>(alloc)?.as_slice() == expected.as_slice());
+    assert!(rt; row_of::<Gf128>(alloc)?.as_slice() == expected.as_slice());
+    Ok(())
+}
+
+#[test]
+fn zero_terms_go_out(rt: HostRuntime) -> Result<(), Fail> {
+    let alloc = rt.alloc();
+    assert_eq!(rt; nothing::<Gold>(alloc), Ok((0, 0, 0)));
+    assert_eq!(rt; nothing::<Gf128>(alloc), Ok((0, 0, 0)));
+    Ok(())
+}
