@@ -5,19 +5,20 @@ use Rattle.lzk_circbytes.specs.declared.any.AnyCircuit.TheVariants.{Gold, Gf}
 use Rattle.lzk_circbytes.specs.Files.{CircuitBytes}
 use Rattle.lzk_circuit.specs.declared.layer.Layer.{Layer}
 use Rattle.lzk_expr.specs.Trees.{SourceTree, is_public, is_private}
-use Rattle.lzk_level.specs.Compiled.{field_of, publics_of, privates_of, depth_of, HasSourceValues, source_layers, source_limit}
+use Rattle.lzk_level.specs.Compiled.{field_of, publics_of, privates_of, depth_of, HasSourceValues, HasReducedLayers, source_layers, source_limit}
 use Rattle.lzk_outside.specs.Outside.{Files}
 use Rattle.lzk_cmd.specs.Decoded.{AtSourceFile, level_refused}
 use Rattle.lzk_cmd.specs.Ends.{End, Stop, puts}
 use Rattle.lzk_cmd.specs.Lines.{compiled_line}
 
--- The circuit has the source's field and counts, the layers that its nodes need, and on every input the values of its asserts as outputs, one for one.
+-- The circuit has the source's field and counts, the layers that its nodes need, and on every input the values of its asserts as outputs, one for one; and it is reduced.
 pub record Compiled (source : SourceTree) (c : AnyCircuit) : Type 0 where
   pub field_is : field_of c ≡ source.field_is
   pub publics : publics_of c ≡ count_by is_public source.statements
   pub privates : privates_of c ≡ count_by is_private source.statements
   pub layers : depth_of c ≡ source_layers source
   pub outputs : HasSourceValues source.statements c
+  pub reduced : HasReducedLayers c
 
 -- the number of terms of all layers together
 abbrev pub term_count : {A : Type 0} → List (Layer A) → ℕ

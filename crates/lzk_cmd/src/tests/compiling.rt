@@ -13,6 +13,17 @@ const NO_TERMS: [u8; 29] = [
     76, 90, 67, 49, 2, 0, 0, 0, 0, 1, 0, 0, 0, 1, 0, 0, 0, 0, 0, 0, 0, 1, 0, 0, 0, 0, 0, 0, 0,
 ];
 
+// Two sums that are written in both orders, and products of them in three layers with 4, 5 and 6 terms.
+const SUMS_SOURCE: &str =
+    "field goldilocks\npublic y\nprivate x z\nassert (x+z)*(x+z)*x = y\nassert (z+x)*(x+z)*z = y\n";
+
+const SUMS: [u8; 121] = [
+    76, 90, 67, 49, 1, 1, 0, 0, 0, 2, 0, 0, 0, 3, 0, 0, 0, 2, 0, 0, 0, 1, 0, 0, 0, 0, 0, 0, 0, 0,
+    0, 0, 0, 255, 255, 255, 255, 5, 0, 0, 0, 6, 0, 0, 0, 0, 0, 0, 0, 1, 0, 1, 0, 1, 0, 2, 0, 1, 0,
+    3, 0, 1, 0, 2, 0, 0, 0, 3, 0, 5, 0, 0, 0, 5, 0, 0, 0, 0, 0, 0, 0, 1, 0, 1, 0, 1, 0, 2, 0, 1, 0,
+    3, 0, 1, 4, 0, 0, 2, 0, 0, 0, 4, 0, 0, 0, 0, 0, 1, 1, 0, 2, 2, 0, 1, 0, 1, 1, 0, 3, 1, 0,
+];
+
 // A shelf with a source `s`, some of whose calls fail, and a put that fails after three bytes.
 fn shelf_of(alloc: Global, source: &[u8], failing: Vec<u64>) -> Result<MemShelf, AllocError> {
     let mut shelf = MemShelf::new(alloc, failing, Some(3));
@@ -31,6 +42,28 @@ fn product(alloc: Global, times: u32) -> Result<Vec<u8>, AllocError> {
     Ok(text)
 }
 
+// A source that doubles an input so often, which takes a term for each time it is counted.
+fn doubled(alloc: Global, times: u32) -> Result<Vec<u8>, AllocError> {
+    let mut text = Vec::new(alloc);
+    text.extend_from_slice(b"field goldilocks\npublic y\nprivate x\nlet a = x + x\n")?;
+    let mut name = b'a';
+    for _ in 0..times {
+        let next = name.wrapping_add(1);
+        text.extend_from_slice(b"let ")?;
+        text.push(next)?;
+        text.extend_from_slice(b" = ")?;
+        text.push(name)?;
+        text.extend_from_slice(b" + ")?;
+        text.push(name)?;
+        text.push(b'\n')?;
+        name = next;
+    }
+    text.extend_from_slice(b"assert ")?;
+    text.push(name)?;
+    text.extend_from_slice(b" = y\n")?;
+    Ok(text)
+}
+
 #[test]
 fn sources_are_compiled(rt: HostRuntime) -> Result<(), Fail> {
     let alloc = rt.alloc();
@@ -44,6 +77,11 @@ fn sources_are_compiled(rt: HostRuntime) -> Result<(), Fail> {
             "field gf2_128\nprivate x\nassert x - x = 0\n",
             NO_TERMS.as_slice(),
             "compiled c: layers 1, terms 0, 29 bytes\n",
+        ),
+        (
+            SUMS_SOURCE,
+            SUMS.as_slice(),
+            "compiled c: layers 3, terms 15, 121 bytes\n",
         ),
     ] {
         let mut shelf = shelf_of(alloc, source.as_bytes(), Vec::new(alloc))?;
@@ -59,6 +97,7 @@ fn sources_are_compiled(rt: HostRuntime) -> Result<(), Fail> {
 fn sources_are_refused(rt: HostRuntime) -> Result<(), Fail> {
     let alloc = rt.alloc();
     let deep = product(alloc, 513)?;
+    let heavy = doubled(alloc, 19)?;
     let long = vec![in alloc; b'#'; 4_194_305]?;
     for (words, source, status, printed) in [
         (
@@ -84,6 +123,12 @@ fn sources_are_refused(rt: HostRuntime) -> Result<(), Fail> {
             deep.as_slice(),
             3,
             "refused: s: Layers 513 over 512\n",
+        ),
+        (
+            "compile s c",
+            heavy.as_slice(),
+            3,
+            "refused: s: Terms 4194330 over 2097152\n",
         ),
         (
             "compile s c",
