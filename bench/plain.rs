@@ -1,5 +1,7 @@
 //! The work of the program `lzk_bench`, written plainly. Built by `rustc -O`.
 
+mod compile;
+
 const P: u64 = 18446744069414584321;
 const CARRY: u64 = 4294967295;
 
@@ -483,8 +485,7 @@ fn numbers(times: u32) -> u128 {
     total as u128
 }
 
-// An expression of a source: an input or a let name by its number. The trees are built and dropped alone.
-#[allow(dead_code)]
+// An expression of a source: an input or a let name by its number.
 enum Expr {
     Number(u128),
     Public(u32),
@@ -1276,6 +1277,7 @@ fn main() {
         "proof-read" => proofs_read(times),
         "proof-write" => proofs_written(times),
         "source" => source(times),
+        "compile" => compile::compiled(times),
         _ => return println!("no such work"),
     };
     println!("{work} {times}: {sum}");

@@ -48,6 +48,7 @@ fn done<R: Files + AllocGlobal>(rt: &R, work: &str, times: u32) -> anyhow::Resul
         "proof-files" => proofs::written_as_read(rt)?,
         "numbers" => texts::read(alloc, times)?,
         "source" => texts::parsed(alloc, times)?,
+        "compile" => texts::compiled(alloc, times)?,
         _ => return Ok(None),
     };
     Ok(Some(sum))

@@ -1,13 +1,20 @@
-//! A number file and a source of 4 MiB.
+//! A number file and a source of 4 MiB, and a source of 49,150 nodes compiled.
 
+ghost use Rattle.std.specs.Prelude.{◌≤◌, length};
+
+use lzk_circbytes::AnyCircuit;
+use lzk_circuit::Circuit;
 use lzk_expr::{parse, read_numbers};
 use lzk_field::Field;
 use lzk_goldilocks::Gold;
+use lzk_level::compile;
 use std::alloc::{AllocError, Global};
 
 const COUNT: u32 = 199_728;
 
 const ASSERTS: u32 = 66_575;
+
+const BITS: u32 = 16_384;
 
 /// Readings of 199,728 numbers of 20 digits.
 pub fn read(alloc: Global, times: u32) -> Result<u128, AllocError> {
@@ -43,6 +50,99 @@ pub fn parsed(alloc: Global, times: u32) -> Result<u128, AllocError> {
             if let Ok(source) = parse(alloc, &text) {
                 total = total.wrapping_add(source.statements().len() as u128);
             }
+        }
+    }
+    Ok(total)
+}
+
+// Appends a number's decimal digits.
+fn push_number(alloc: Global, n: u32, text: &mut Vec<u8>) -> Result<(), AllocError> {
+    let digits = n.to_string(alloc)?;
+    text.extend_from_slice(digits.as_bytes())
+}
+
+// Appends the name of bit `i`, or behind the bits that of the pair which comes so much later.
+fn push_name(alloc: Global, i: u32, text: &mut Vec<u8>) -> Result<(), AllocError> {
+    if i <= BITS {
+        text.push(b'x')?;
+        return push_number(alloc, i, text);
+    }
+    text.push(b't')?;
+    push_number(alloc, i - BITS, text)
+}
+
+// Appends the line of pair `i`, which is 1 where just one of two earlier names is.
+fn push_pair(alloc: Global, i: u32, text: &mut Vec<u8>) -> Result<(), AllocError>
+    requires some { 1 ≤ i }
+    requires few { i ≤ 16384 }
+{
+    let (a, b) = (2 * i - 1, 2 * i);
+    text.extend_from_slice(b"let t")?;
+    push_number(alloc, i, text)?;
+    text.extend_from_slice(b" = ")?;
+    push_name(alloc, a, text)?;
+    text.extend_from_slice(b" + ")?;
+    push_name(alloc, b, text)?;
+    text.extend_from_slice(b" - 2 * ")?;
+    push_name(alloc, a, text)?;
+    text.extend_from_slice(b" * ")?;
+    push_name(alloc, b, text)?;
+    text.push(b'\n')?;
+    Ok(())
+}
+
+// A source which says that y is 1 where an odd number of its bits are, and 0 where an even number are. It
+// pairs the names from the first on, and puts a name for each pair behind the others.
+fn parity_source(alloc: Global) -> Result<Vec<u8>, AllocError> {
+    let mut text = Vec::new(alloc);
+    text.extend_from_slice(b"field goldilocks\npublic y\n")?;
+    for i in 0..BITS {
+        text.extend_from_slice(b"private x")?;
+        push_number(alloc, i + 1, &mut text)?;
+        text.push(b'\n')?;
+    }
+    for i in 1..BITS {
+        push_pair(alloc, i, &mut text)?;
+    }
+    text.extend_from_slice(b"assert ")?;
+    push_name(alloc, 2 * BITS - 1, &mut text)?;
+    text.extend_from_slice(b" = y\n")?;
+    Ok(text)
+}
+
+// How many terms and wires a circuit has.
+fn size(circuit: &Circuit<Gold>) -> u128 {
+    let mut total = 0u128;
+    for l in 0..circuit.depth() {
+        let layer = circuit.layer(l);
+        total = total
+            .wrapping_add(layer.terms.as_slice().len() as u128)
+            .wrapping_add(layer.wires as u128);
+    }
+    total
+}
+
+// The size of a text's circuit, and 0 where it has none.
+fn compiled_size(alloc: Global, text: &[u8]) -> u128
+    requires { length text.now ≤ 4194304 }
+{
+    let Ok(source) = parse(alloc, text) else {
+        return 0;
+    };
+    match compile(alloc, &source) {
+        Ok(AnyCircuit::Gold(circuit)) => size(&circuit),
+        Ok(AnyCircuit::Gf(_)) => 0,
+        Err(_) => 0,
+    }
+}
+
+/// Circuits of a source over 16,384 bits: how many terms and wires they have.
+pub fn compiled(alloc: Global, times: u32) -> Result<u128, AllocError> {
+    let text = parity_source(alloc)?;
+    let mut total = 0u128;
+    if text.len() <= 4_194_304 {
+        for _ in 0..times {
+            total = total.wrapping_add(compiled_size(alloc, &text));
         }
     }
     Ok(total)
