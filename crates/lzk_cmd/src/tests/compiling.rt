@@ -24,6 +24,26 @@ const SUMS: [u8; 121] = [
     3, 0, 1, 4, 0, 0, 2, 0, 0, 0, 4, 0, 0, 0, 0, 0, 1, 1, 0, 2, 2, 0, 1, 0, 1, 1, 0, 3, 1, 0,
 ];
 
+// An input that is doubled eighteen times: one term counts it 2^18 times.
+const DOUBLED: [u8; 53] = [
+    76, 90, 67, 49, 1, 1, 0, 0, 0, 1, 0, 0, 0, 1, 0, 0, 0, 2, 0, 0, 0, 0, 0, 4, 0, 0, 0, 0, 0, 0,
+    0, 0, 0, 255, 255, 255, 255, 1, 0, 0, 0, 2, 0, 0, 0, 0, 0, 1, 1, 0, 0, 2, 0,
+];
+
+// Somebody was born at least 18 years before a year: the years beyond are a number of seven bits.
+const CREDENTIAL: &str = "field goldilocks
+public year
+private birth b0 b1 b2 b3 b4 b5 b6
+assert year - birth - 18 = b0 + 2*b1 + 4*b2 + 8*b3 + 16*b4 + 32*b5 + 64*b6
+assert b0*b0 = b0
+assert b1*b1 = b1
+assert b2*b2 = b2
+assert b3*b3 = b3
+assert b4*b4 = b4
+assert b5*b5 = b5
+assert b6*b6 = b6
+";
+
 // A shelf with a source `s`, some of whose calls fail, and a put that fails after three bytes.
 fn shelf_of(alloc: Global, source: &[u8], failing: Vec<u64>) -> Result<MemShelf, AllocError> {
     let mut shelf = MemShelf::new(alloc, failing, Some(3));
@@ -90,6 +110,39 @@ fn sources_are_compiled(rt: HostRuntime) -> Result<(), Fail> {
         assert!(rt; out.bytes() == printed.as_bytes());
         assert!(rt; shelf.get("c") == Some(file));
     }
+    Ok(())
+}
+
+#[test]
+fn sums_of_many_terms_keep_the_limit(rt: HostRuntime) -> Result<(), Fail> {
+    let alloc = rt.alloc();
+    let source = doubled(alloc, 17)?;
+    let mut shelf = shelf_of(alloc, &source, Vec::new(alloc))?;
+    let (status, out) = ran(alloc, "compile s c", &mut shelf)?;
+    assert_eq!(rt; status, 0);
+    assert!(rt; out.bytes() == "compiled c: layers 1, terms 2, 53 bytes\n".as_bytes());
+    assert!(rt; shelf.get("c") == Some(DOUBLED.as_slice()));
+    Ok(())
+}
+
+#[test]
+fn compiled_circuits_are_evaluated(rt: HostRuntime) -> Result<(), Fail> {
+    let alloc = rt.alloc();
+    let mut shelf = shelf_of(alloc, CREDENTIAL.as_bytes(), Vec::new(alloc))?;
+    shelf.add("year", b"2024\n")?;
+    shelf.add("birth", b"2000 0 1 1 0 0 0 0\n")?;
+    shelf.add("later", b"2007 0 1 1 0 0 0 0\n")?;
+    let (status, out) = ran(alloc, "compile s c", &mut shelf)?;
+    assert_eq!(rt; status, 0);
+    assert!(rt; out.bytes() == "compiled c: layers 1, terms 24, 197 bytes\n".as_bytes());
+    let (status, out) = ran(alloc, "eval c year birth", &mut shelf)?;
+    assert_eq!(rt; status, 0);
+    assert!(rt;
+        out.bytes()
+            == "output 0 = 0\noutput 1 = 0\noutput 2 = 0\noutput 3 = 0\noutput 4 = 0\noutput 5 = 0\noutput 6 = 0\noutput 7 = 0\nsatisfied\n".as_bytes()
+    );
+    let (status, _) = ran(alloc, "eval c year later", &mut shelf)?;
+    assert_eq!(rt; status, 1);
     Ok(())
 }
 
