@@ -92,7 +92,7 @@ fn round(s: Columns, words: &[u32; 60], number: usize) -> Columns
 }
 
 /// The 13 rounds that mix columns, written out: in a loop LLVM moves the columns into and out of one vector register
-/// each round, which takes half as long again.
+/// each round, which takes 1.4 times as long.
 #[inline(always)]
 fn rounds(words: &[u32; 60], block: [u8; 16]) -> Columns
     ensures { state_bytes result.first result.second result.third result.fourth ≡ after_round (map word_bytes words.now) block 13 }

@@ -7,7 +7,7 @@ use Rattle.std.proofs.lemmas.Nat.Bits.{bit_at_xor, bit_at_and, same_from_bits}
 use Rattle.std.specs.Int.Bits.{xor_assoc, xor_comm, xor_shr, xor_mod, xor_lt, xor_block}
 use native.Mathlib.Decide.{dec_lt}
 use Rattle.std.proofs.lemmas.Nat.{pow_pos, pow-add}
-use Rattle.std.proofs.Math.Nat.{zero-add, add-zero, mod-le}
+use Rattle.std.proofs.Math.Nat.{add-zero, mod-le}
 use Rattle.std.proofs.Math.Pow.{pow_mono}
 use Rattle.lzk_gf128.specs.Product.{times_x, shift, moved}
 use Rattle.lzk_gf128.specs.Linear.{◌⊕◌, Additive, Additive-zero, xor_swap, bit_lt, same_from_powers, shift-additive}
@@ -90,18 +90,6 @@ pub up_64 : (n : ℕ) → n < 2 ^ 128 → moved 64 n ≡ (n * 2 ^ 64 % 2 ^ 128) 
 unfolding moved
 up_64 n h = up_over 64 128 64 refl n h
 
-pub up_1 : (n : ℕ) → n < 2 ^ 128 → moved 1 n ≡ (n * 2 ^ 1 % 2 ^ 128) ⊕ moved 128 (n / 2 ^ 127)
-unfolding moved
-up_1 n h = up_over 1 128 127 refl n h
-
-pub up_2 : (n : ℕ) → n < 2 ^ 128 → moved 2 n ≡ (n * 2 ^ 2 % 2 ^ 128) ⊕ moved 128 (n / 2 ^ 126)
-unfolding moved
-up_2 n h = up_over 2 128 126 refl n h
-
-pub up_3 : (n : ℕ) → n < 2 ^ 128 → moved 3 n ≡ (n * 2 ^ 3 % 2 ^ 128) ⊕ moved 128 (n / 2 ^ 125)
-unfolding moved
-up_3 n h = up_over 3 128 125 refl n h
-
 up_4 : (n : ℕ) → n < 2 ^ 128 → moved 4 n ≡ (n * 2 ^ 4 % 2 ^ 128) ⊕ moved 128 (n / 2 ^ 124)
 unfolding moved
 up_4 n h = up_over 4 128 124 refl n h
@@ -117,14 +105,6 @@ small_4 n h = same_by_test (shift 4) (λ m. m * 2 ^ 4 % 2 ^ 128) (shift-additive
 small_32 : (n : ℕ) → n < 2 ^ 96 → moved 32 n ≡ n * 2 ^ 32 % 2 ^ 128
 unfolding moved
 small_32 n h = same_by_test (shift 32) (λ m. m * 2 ^ 32 % 2 ^ 128) (shift-additive 32) (add_shl_in 32 128) 96 refl n h
-
-pub plain_4 : (n : ℕ) → n < 2 ^ 64 → moved 4 n ≡ n * 2 ^ 4
-unfolding moved
-plain_4 n h = same_by_test (shift 4) (λ m. m * 2 ^ 4) (shift-additive 4) (add_shl 4) 64 refl n h
-
-pub plain_64 : (n : ℕ) → n < 2 ^ 64 → moved 64 n ≡ n * 2 ^ 64 % 2 ^ 128
-unfolding moved
-plain_64 n h = same_by_test (shift 64) (λ m. m * 2 ^ 64 % 2 ^ 128) (shift-additive 64) (add_shl_in 64 128) 64 refl n h
 
 pub moved-xor : (k a b : ℕ) → moved k (a ⊕ b) ≡ moved k a ⊕ moved k b
 unfolding moved
@@ -145,14 +125,6 @@ shift-swap (suc j) k a = ap (shift j) (sym (shift-times_x k a)) ∙ shift-swap j
 pub moved-swap : (j k a : ℕ) → moved j (moved k a) ≡ moved k (moved j a)
 unfolding moved
 moved-swap j k a = shift-swap j k a
-
-shift-more : (j k a : ℕ) → shift j (shift k a) ≡ shift (j + k) a
-shift-more zero k a = ap (λ w. shift w a) (sym (zero-add k))
-shift-more (suc j) k a = let e : suc j + k ≡ suc (j + k) = omega arith in ap (shift j) (sym (shift-times_x k a)) ∙ shift-more j k (times_x a) ∙ ap (λ w. shift w a) (sym e)
-
-pub moved-more : (j k a : ℕ) → moved j (moved k a) ≡ moved (j + k) a
-unfolding moved
-moved-more j k a = shift-more j k a
 
 -- both words of a total are moved up: t is what stays of the low one, o what goes over, and u the high one
 up_both : (k low high t o u : ℕ) → moved k low ≡ t ⊕ moved 128 o → moved k high ≡ u → t ⊕ moved 128 (u ⊕ o) ≡ moved k (low ⊕ moved 128 high)
@@ -182,3 +154,11 @@ high_more low high y k hl hy hh =
 
 pub high_small : (high k m : ℕ) → high < 2 ^ (60 + k) → 60 + k ≤ m → high < 2 ^ m
 high_small high k m h most = omega (arith, h, pow_mono {i = 60 + k} {j = m} most)
+
+-- the bound for the high word, as the next digit asks for it
+pub raised : (k high : ℕ) → high < 2 ^ (64 + k) → high < 2 ^ (60 + (k + 4))
+raised k high h = let e : 64 + k ≡ 60 + (k + 4) = omega arith in subst (λ w. high < 2 ^ w) e h
+
+-- and as the next byte does
+pub twice : (i high : ℕ) → high < 2 ^ (64 + (8 * i + 4)) → high < 2 ^ (60 + 8 * (i + 1))
+twice i high h = let e : 64 + (8 * i + 4) ≡ 60 + 8 * (i + 1) = omega arith in subst (λ w. high < 2 ^ w) e h

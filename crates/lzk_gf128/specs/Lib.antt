@@ -3,8 +3,8 @@ pub mod Linear
 pub mod Table
 pub mod Inverse
 pub mod Basis
-pub mod Lost
 pub mod ByteLists
+pub mod Digits
 pub mod Squares
 pub mod Multiples
 pub mod Sums

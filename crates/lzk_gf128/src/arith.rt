@@ -1,27 +1,54 @@
 //! Products and inverses of numbers.
 
-ghost use Rattle.std.specs.Prelude.{◌≡◌, ℕ, ◌+◌, ◌<◌, ◌≤◌, ◌^◌, bit_xor};
+ghost use Rattle.std.specs.Prelude.{
+  ◌≡◌,
+  ℕ,
+  ◌+◌,
+  ◌*◌,
+  ◌<◌,
+  ◌≤◌,
+  ◌/◌,
+  ◌%◌,
+  ◌^◌,
+  bit_xor,
+  slice_index,
+};
 ghost use Rattle.lzk_gf128.specs.Product.{product, moved};
-ghost use Rattle.lzk_gf128.specs.Multiples.{IsMultiples, combed};
-ghost use Rattle.lzk_gf128.specs.Lost.{lost};
+ghost use Rattle.lzk_gf128.specs.Multiples.{IsMultiples, entry};
 ghost use Rattle.lzk_gf128.specs.Sums.{in_wide};
 ghost use Rattle.lzk_gf128.specs.Inverse.{inverse};
 ghost use Rattle.lzk_gf128.specs.Squares.{spread, beside, joined, squared};
 
-// The multiples by the polynomials below degree 4, cut to 128 bits.
+// x times a.
+fn doubled(a: u128) -> u128
+    ensures { result ≡ moved 1 a }
+{
+    (a << 1) ^ ((a >> 127) * 0x87)
+}
+
+// The lower hexadecimal digit of each byte, the lowest byte first.
+#[inline(always)]
+fn digits(n: u64) -> [u8; 8]
+    ensures { (k : ℕ) → k < 8 → slice_index result k ≡ n / 2 ^ (8 * k) % 16 }
+{
+    (n & 0x0f0f_0f0f_0f0f_0f0f).to_le_bytes()
+}
+
+// The multiples by the polynomials below degree 4.
+#[inline(always)]
 fn multiples(a: u128) -> [u128; 16]
     ensures { IsMultiples a result }
 {
-    let a2 = a << 1;
+    let a2 = doubled(a);
     let a3 = a ^ a2;
-    let a4 = a2 << 1;
+    let a4 = doubled(a2);
     let a5 = a ^ a4;
-    let a6 = a3 << 1;
+    let a6 = a2 ^ a4;
     let a7 = a ^ a6;
-    let a8 = a4 << 1;
-    let a10 = a5 << 1;
-    let a12 = a6 << 1;
-    let a14 = a7 << 1;
+    let a8 = doubled(a4);
+    let a10 = a2 ^ a8;
+    let a12 = a4 ^ a8;
+    let a14 = a6 ^ a8;
     [
         0,
         a,
@@ -42,15 +69,37 @@ fn multiples(a: u128) -> [u128; 16]
     ]
 }
 
-// What the multiples at all digits of b lost by the cut, in its place.
-#[tactic(auto, unfolding(crate::specs::Lost::lost))]
-fn lost(a: u64, b: u64) -> u64
-    ensures { result ≡ lost a b }
-{
-    let lowest = 0x1111_1111_1111_1111;
-    ((a >> 63) * ((b >> 1) & lowest))
-        ^ ((a >> 62) * ((b >> 2) & lowest))
-        ^ ((a >> 61) * ((b >> 3) & lowest))
+// Sixteen numbers by their words: a load finds a word by the digit alone, with no shift before it.
+#[derive(Drop)]
+struct Table {
+    low: [u64; 16],
+    high: [u64; 16],
+}
+
+impl Table {
+    #[inline(always)]
+    fn of(all: &[u128; 16]) -> Table
+        ensures { (i : ℕ) → i < 16 → entry result.low result.high i ≡ slice_index all.now i }
+    {
+        let mut table = Table {
+            low: [0; 16],
+            high: [0; 16],
+        };
+        for i in 0..16usize {
+            table.low[i] = (all[i] % (1 << 64)) as u64;
+            table.high[i] = (all[i] >> 64) as u64;
+        }
+        table
+    }
+
+    // The number at a digit.
+    #[inline(always)]
+    fn at(&self, digit: u8) -> u128
+        requires { digit < 16 }
+        ensures { result ≡ entry self.now.low self.now.high digit }
+    {
+        joined(self.high[digit as usize], self.low[digit as usize])
+    }
 }
 
 fn joined(upper: u64, lower: u64) -> u128
@@ -118,22 +167,41 @@ impl Wide {
         }
     }
 
+    // One digit on, with the multiples at the digits of two words.
+    #[inline(always)]
+    fn multiples_on(self, table: &Table, x: &[u8; 8], y: &[u8; 8], k: usize) -> Wide
+        requires small { self.high < 2 ^ 124 }
+        requires place { k < 8 }
+        requires first { slice_index x.now k < 16 }
+        requires second { slice_index y.now k < 16 }
+        ensures value { in_wide result ≡ bit_xor (moved 4 (in_wide self)) (bit_xor (entry table.now.low table.now.high (slice_index x.now k)) (moved 64 (entry table.now.low table.now.high (slice_index y.now k)))) }
+        ensures room { (j : ℕ) → j ≤ 64 → self.high < 2 ^ (60 + j) → result.high < 2 ^ (64 + j) }
+    {
+        self.digit_on(table.at(x[k]), table.at(y[k]))
+    }
+
     /// A product of two numbers.
     #[inline(always)]
     pub fn product(a: u128, b: u128) -> Wide
         ensures { in_wide result ≡ product 128 a b }
     {
-        let table = multiples(a);
-        let b0 = (b % (1 << 64)) as u64;
-        let b1 = (b >> 64) as u64;
-        let upper = comb(&table, (b0 >> 32) as u32, (b1 >> 32) as u32);
-        let lower = comb(&table, (b0 % (1 << 32)) as u32, (b1 % (1 << 32)) as u32);
-        let top = (a >> 64) as u64;
-        let over = Wide {
-            low: 0,
-            high: joined(lost(top, b1), lost(top, b0)),
-        };
-        lower.plus(upper.half_on()).plus(over)
+        let x = (b % (1 << 64)) as u64;
+        let y = (b >> 64) as u64;
+        // The digits come first, since they do not wait for the other factor.
+        let (x_even, x_odd) = (digits(x), digits(x >> 4));
+        let (y_even, y_odd) = (digits(y), digits(y >> 4));
+        let table = Table::of(&multiples(a));
+        // The halves of the words are summed up apart, so that the processor works at both at once.
+        let mut above = Wide { low: 0, high: 0 };
+        let mut below = Wide { low: 0, high: 0 };
+        for i in 0..4usize {
+            let k = 3 - i;
+            above = above.multiples_on(&table, &x_odd, &y_odd, k + 4);
+            below = below.multiples_on(&table, &x_odd, &y_odd, k);
+            above = above.multiples_on(&table, &x_even, &y_even, k + 4);
+            below = below.multiples_on(&table, &x_even, &y_even, k);
+        }
+        below.plus(above.half_on())
     }
 
     /// The one number that the words stand for.
@@ -143,24 +211,6 @@ impl Wide {
     {
         self.low ^ over_128(self.high)
     }
-}
-
-// The sum of the multiples at the digits of two words, the highest digit first and the second word's 64 places up.
-// The two halves of a factor's words are handed in apart, so that the processor works at both at once.
-#[inline(always)]
-fn comb(table: &[u128; 16], x: u32, y: u32) -> Wide
-    ensures value { in_wide result ≡ bit_xor (combed 8 table.now x) (moved 64 (combed 8 table.now y)) }
-    ensures room { result.high < 2 ^ 96 }
-{
-    let mut sum = Wide { low: 0, high: 0 };
-    for i in 0..8u32 {
-        let place = 28 - 4 * i;
-        sum = sum.digit_on(
-            table[((x >> place) % 16) as usize],
-            table[((y >> place) % 16) as usize],
-        );
-    }
-    sum
 }
 
 /// A product for a long sum. It is a call of its own, so that the sum does not take the product's registers.

@@ -1,6 +1,5 @@
-use Rattle.std.proofs.Common.{rules}
-use Rattle.lzk_gf128.specs.Multiples.{table_is}
+use Rattle.lzk_gf128.specs.Multiples.{multiples_are}
 use Rattle.lzk_gf128.proofs.arith.multiples.Goals as goal
 
 pub returns : goal.returns
-returns c = table_is c.args.a (search rules)
+returns c = multiples_are c.args.a _ _ _ c.doubled-a2.ensures c.doubled-a4.ensures c.doubled-a8.ensures
