@@ -21,7 +21,7 @@ use Rattle.lzk_circbytes.proofs.Validity.{Above-constants}
 use Rattle.lzk_circbytes.proofs.Marking.{unmarked_is}
 use Rattle.lzk_circbytes.proofs.FileLaws.{map-reverse}
 
-length-constants : (shape : Shape) (before : ℕ) (cs : List ℕ) → length (spells as_last (λ b c. bytes_of shape.bytes c) before cs) ≡ length cs * shape.bytes
+pub length-constants : (shape : Shape) (before : ℕ) (cs : List ℕ) → length (spells as_last (λ b c. bytes_of shape.bytes c) before cs) ≡ length cs * shape.bytes
 unfolding spells
 length-constants shape before [] = (let z : 0 ≡ 0 * shape.bytes = grind arith in z)
 length-constants shape before (c ∷ cs) =

@@ -15,3 +15,4 @@ pub mod Bounds
 pub mod Whole
 pub mod Written
 pub mod OneFile
+pub mod Sizes

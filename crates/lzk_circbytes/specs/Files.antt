@@ -84,3 +84,7 @@ OneFault = (bytes : List ℕ) (m n : ℕ) (k l : ByteKind) → CircuitFaultAt by
 -- no circuit's file has a fault
 abbrev pub NoFault : Type 0
 NoFault = (c : AnyCircuit) (bytes : List ℕ) (offset : ℕ) (kind : ByteKind) → CircuitBytes c bytes → ¬ CircuitFaultAt bytes offset kind
+
+-- no circuit's file has more than 2^26 bytes
+abbrev pub FilesFit : Type 0
+FilesFit = (c : AnyCircuit) (bytes : List ℕ) → CircuitBytes c bytes → length bytes ≤ 67108864

@@ -4,7 +4,7 @@ ghost use Rattle.std.specs.Prelude.{◌≡◌, ◌≤◌, map, reverse, IfOk, If
 ghost use Rattle.lzk_circuit.specs.Valid.{IsValid, wiring};
 ghost use Rattle.lzk_circbytes.specs.Numbered.{shape, numbered, numbered_layer};
 ghost use Rattle.lzk_circbytes.specs.Reading.{body_at, wiring_at};
-ghost use Rattle.lzk_circbytes.specs.Files.{CircuitBytes, circuit_at, OneCircuit, OneFile, OneFault, NoFault};
+ghost use Rattle.lzk_circbytes.specs.Files.{CircuitBytes, circuit_at, OneCircuit, OneFile, OneFault, NoFault, FilesFit};
 ghost use Rattle.lzk_circbytes.specs.Answers.{Gives, IsFirstFault, IsNoCircuit, numbers_of, IsValidCircuit};
 
 use crate::any::AnyCircuit;
@@ -79,7 +79,7 @@ fn file_of(alloc: Global, bytes: &[u8]) -> Result<AnyCircuit, ReadError>
 }
 
 /// The circuit whose file the bytes are. Want of memory may come at any time.
-#[tactic(auto, using(crate::proofs::Whole::one_circuit, crate::proofs::Whole::one_file, crate::proofs::Whole::no_fault))]
+#[tactic(auto, using(crate::proofs::Whole::one_circuit, crate::proofs::Whole::one_file, crate::proofs::Whole::no_fault, crate::proofs::Sizes::files_fit))]
 pub fn decode(alloc: Global, bytes: &[u8]) -> Result<AnyCircuit, DecodeError>
     ensures circuit { IfOk result (λ c. CircuitBytes c bytes.now) }
     ensures fault { IfErr result (IsFirstFault bytes.now) }
@@ -90,6 +90,7 @@ pub fn decode(alloc: Global, bytes: &[u8]) -> Result<AnyCircuit, DecodeError>
     ensures one_file { OneFile }
     ensures one_fault { OneFault }
     ensures no_fault { NoFault }
+    ensures files_fit { FilesFit }
 {
     match file_of(alloc, bytes) {
         Ok(circuit) => Ok(circuit),
