@@ -10,7 +10,8 @@ use Rattle.lzk_level.specs.declared.node.Gate.{Gate}
 use Rattle.lzk_level.specs.declared.fault.LevelFault.{LevelFault}
 use Rattle.lzk_level.specs.declared.node.Gate.TheVariants.{Constant, Combine, Mul}
 use Rattle.lzk_level.specs.Nodes.{Nodes, combined, gate_value, ArePartsOf, IsGate, AreGates, after}
-use Rattle.lzk_level.specs.Bounds.{at, at_parts, total, greatest, gate_depth, gate_weight, node_depths, layer_count, wire_bound, limit_fault}
+use Rattle.lzk_reduce.specs.Renumbering.{at}
+use Rattle.lzk_level.specs.Bounds.{at_parts, total, greatest, gate_depth, gate_weight, node_depths, layer_count, wire_bound, limit_fault}
 use Rattle.lzk_level.specs.Levels.{AreDepths, AreWeights, AreValues}
 
 -- the first list stands at the beginning of the second

@@ -7,7 +7,8 @@ use Rattle.lzk_field.specs.Sums.{entry}
 use Rattle.lzk_field.proofs.RingBasics.{zero_plus}
 use Rattle.lzk_circuit.specs.declared.layer.Term.{Term}
 use Rattle.lzk_level.specs.Nodes.{combined, ArePartsOf}
-use Rattle.lzk_level.specs.Bounds.{at, at_parts, total}
+use Rattle.lzk_reduce.specs.Renumbering.{at}
+use Rattle.lzk_level.specs.Bounds.{at_parts, total}
 use Rattle.lzk_reduce.specs.Rows.{row_value}
 use Rattle.lzk_level.specs.Levels.{row_at}
 

@@ -8,7 +8,8 @@ use Rattle.lzk_expr.specs.Trees.{Statement, is_public, is_private, is_assertion}
 use Rattle.lzk_level.specs.declared.fault.LevelError.{LevelError}
 use Rattle.lzk_level.specs.declared.fault.LevelError.TheVariants.{Fault, OutOfMemory}
 use Rattle.lzk_level.specs.Nodes.{Nodes, node_count, IsNode, node_values}
-use Rattle.lzk_level.specs.Bounds.{at, level_fault, IsLevelError}
+use Rattle.lzk_reduce.specs.Renumbering.{at}
+use Rattle.lzk_level.specs.Bounds.{level_fault, IsLevelError}
 use Rattle.lzk_level.specs.Meanings.{HasOutputs}
 use Rattle.lzk_level.specs.Compilable.{statements_size, AreNodes}
 use Rattle.lzk_level.specs.Compiling.{scope, inputs_alone, nodes_of}

@@ -11,7 +11,8 @@ use Rattle.lzk_level.specs.declared.node.Gate.{Gate}
 use Rattle.lzk_level.specs.declared.fault.LevelFault.{LevelFault}
 use Rattle.lzk_level.specs.declared.fault.LevelFault.TheVariants.{Layers, LayerWires, Terms}
 use Rattle.lzk_level.specs.Nodes.{nodes_from, node_values, gate_value, AreGates}
-use Rattle.lzk_level.specs.Bounds.{at, greatest, gate_depth, node_depths, node_weights, limit_fault}
+use Rattle.lzk_reduce.specs.Renumbering.{at}
+use Rattle.lzk_level.specs.Bounds.{greatest, gate_depth, node_depths, node_weights, limit_fault}
 use Rattle.lzk_level.specs.Levels.{AreDepths, AreWeights, AreValues, Stands}
 use Rattle.lzk_level.proofs.AfterLaws.{after-length, after-front, depths-are, weights-are, values-are}
 use Rattle.lzk_level.proofs.TowerLaws.{inputs-stand}

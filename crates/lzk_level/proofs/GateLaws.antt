@@ -7,7 +7,8 @@ use Rattle.std.proofs.Math.Seq.{get_or-append_seam}
 use Rattle.lzk_level.specs.declared.node.Gate.{Gate}
 use Rattle.lzk_level.specs.declared.node.Gate.TheVariants.{Constant, Combine, Mul}
 use Rattle.lzk_level.specs.Nodes.{IsNode, ArePartsOf, IsGate, AreGates, after}
-use Rattle.lzk_level.specs.Bounds.{at, at_parts, total, greatest, gate_depth, gate_weight}
+use Rattle.lzk_reduce.specs.Renumbering.{at}
+use Rattle.lzk_level.specs.Bounds.{at_parts, total, greatest, gate_depth, gate_weight}
 use Rattle.lzk_level.proofs.NodeLaws.{gate-at}
 
 module _ {A : Type 0} where

@@ -7,7 +7,7 @@ use Rattle.lzk_field.specs.Ring.{Ops}
 use Rattle.lzk_circuit.specs.declared.layer.Term.{Term}
 use Rattle.lzk_circuit.specs.Valid.{AreTerms}
 use Rattle.lzk_circuit.specs.Wires.{coef, wire}
-use Rattle.lzk_level.specs.Bounds.{at}
+use Rattle.lzk_reduce.specs.Renumbering.{at}
 use Rattle.lzk_reduce.specs.Rows.{IsRow, row_value, placed}
 use Rattle.lzk_level.specs.Levels.{place_in, row_at, AreRows, lengths_in, lengths_of}
 use Rattle.lzk_level.proofs.LevelLaws.{place-below}

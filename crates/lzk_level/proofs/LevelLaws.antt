@@ -2,7 +2,7 @@
 use Rattle.std.specs.Prelude.{◌≡◌, ℕ, ◌+◌, ◌<◌, ◌≤◌, nat_le, cond, true, false, Bool, List, [], ◌∷◌, ◌++◌, length}
 use Rattle.std.proofs.Common.{zero, suc, ◌⊎◌, inl, inr, sym, ap, ◌∙◌, arith, subst}
 use Rattle.std.proofs.lemmas.Bool.{cases_lt, le-leb}
-use Rattle.lzk_level.specs.Bounds.{at}
+use Rattle.lzk_reduce.specs.Renumbering.{at}
 use Rattle.lzk_circuit.specs.declared.layer.Term.{Term}
 use Rattle.lzk_level.specs.Levels.{place_in, row_at}
 

@@ -9,7 +9,8 @@ use Rattle.lzk_circuit.specs.declared.layer.Term.{Term}
 use Rattle.lzk_level.specs.declared.node.Gate.{Gate}
 use Rattle.lzk_level.specs.declared.node.Gate.TheVariants.{Constant, Combine, Mul}
 use Rattle.lzk_level.specs.Nodes.{combined, gate_value, ArePartsOf, IsGate, AreGates}
-use Rattle.lzk_level.specs.Bounds.{at, at_parts, total, greatest, gate_depth, gate_weight}
+use Rattle.lzk_reduce.specs.Renumbering.{at}
+use Rattle.lzk_level.specs.Bounds.{at_parts, total, greatest, gate_depth, gate_weight}
 use Rattle.lzk_reduce.specs.Rows.{row_value}
 use Rattle.lzk_level.specs.Levels.{width_of, ArePlaces, AreDepths, AreWeights, AreValues, AreShort, AreFactorsBelow, HaveValues, Stands, placed_value}
 use Rattle.lzk_level.proofs.CombineLaws.{value-at, length-at}

@@ -3,9 +3,8 @@ use Rattle.std.specs.Prelude.{◌≡◌, ℕ, ◌<◌, ◌≤◌, List, [], ◌�
 use Rattle.std.proofs.Common.{zero, suc, refl, sym, ap, ◌∙◌, arith, subst}
 use Rattle.lzk_field.specs.Ring.{Ops}
 use Rattle.lzk_circuit.specs.declared.layer.Term.{Term}
-use Rattle.lzk_level.specs.Bounds.{at}
 use Rattle.lzk_reduce.specs.Rows.{placed, ordered}
-use Rattle.lzk_reduce.specs.Renumbering.{of_wire}
+use Rattle.lzk_reduce.specs.Renumbering.{at, of_wire}
 use Rattle.lzk_reduce.specs.Reduced.{terms_of}
 use Rattle.lzk_level.specs.Levels.{place_in, row_at, lengths_in, StartsWithOne}
 use Rattle.lzk_reduce.proofs.KeptLaws.{own-placed, own-before}

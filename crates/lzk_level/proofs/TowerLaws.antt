@@ -15,7 +15,8 @@ use Rattle.lzk_circuit.specs.Wires.{coef, wire, layer_values, wires_of}
 use Rattle.lzk_level.specs.declared.node.Gate.{Gate}
 use Rattle.lzk_level.specs.declared.node.Gate.TheVariants.{Constant, Combine, Mul}
 use Rattle.lzk_level.specs.Nodes.{AreGates}
-use Rattle.lzk_level.specs.Bounds.{at, at_parts, total, greatest, gate_depth}
+use Rattle.lzk_reduce.specs.Renumbering.{at}
+use Rattle.lzk_level.specs.Bounds.{at_parts, total, greatest, gate_depth}
 use Rattle.lzk_reduce.specs.Rows.{row_value}
 use Rattle.lzk_reduce.specs.Reduced.{HasOne, HaveOnes, HaveOnesUnder}
 use Rattle.lzk_level.specs.Levels.{place_in, width_of, row_at, AreDepths, AreWeights, AreValues, AreRows, AreShort, HaveValues, Stands, lengths_in, lengths_of}

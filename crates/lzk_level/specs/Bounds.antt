@@ -1,15 +1,13 @@
 -- How deep and how heavy nodes are, and when a circuit of them keeps the limits.
-use Rattle.std.specs.Prelude.{◌≡◌, ℕ, ◌+◌, ◌-◌, ◌*◌, ◌^◌, max, min, nat_le, if◌then◌else◌, List, [], ◌∷◌, map, replicate, slice_index_or, Option, Some, None}
+use Rattle.std.specs.Prelude.{◌≡◌, ℕ, ◌+◌, ◌-◌, ◌*◌, ◌^◌, max, min, nat_le, if◌then◌else◌, List, [], ◌∷◌, map, replicate, Option, Some, None}
 use Rattle.lzk_level.specs.declared.node.Gate.{Gate}
 use Rattle.lzk_level.specs.declared.node.Gate.TheVariants.{Constant, Combine, Mul}
 use Rattle.lzk_level.specs.declared.fault.LevelFault.{LevelFault}
 use Rattle.lzk_level.specs.declared.fault.LevelFault.TheVariants.{Layers, LayerWires, Terms}
 use Rattle.lzk_level.specs.declared.fault.LevelError.{LevelError}
 use Rattle.lzk_level.specs.declared.fault.LevelError.TheVariants.{Fault, OutOfMemory}
+use Rattle.lzk_reduce.specs.Renumbering.{at}
 use Rattle.lzk_level.specs.Nodes.{Nodes, input_count, node_count, after}
-
-abbrev pub at : List ℕ → ℕ → ℕ
-at ns k = slice_index_or ns k 0
 
 -- the greatest of the numbers and m
 abbrev pub greatest : ℕ → List ℕ → ℕ

@@ -7,7 +7,8 @@ use Rattle.lzk_circuit.specs.declared.layer.Term.{Term}
 use Rattle.lzk_level.specs.declared.node.Gate.{Gate}
 use Rattle.lzk_level.specs.declared.node.Gate.TheVariants.{Constant, Combine, Mul}
 use Rattle.lzk_level.specs.Nodes.{combined, gate_value}
-use Rattle.lzk_level.specs.Bounds.{at, gate_depth, gate_weight}
+use Rattle.lzk_reduce.specs.Renumbering.{at}
+use Rattle.lzk_level.specs.Bounds.{gate_depth, gate_weight}
 use Rattle.lzk_reduce.specs.Rows.{IsRow, row_value, ordered}
 
 -- how many of the first k depths are no greater than the level

@@ -6,7 +6,8 @@ ghost use Rattle.lzk_circuit.specs.Valid.{AreLayers, wiring};
 ghost use Rattle.lzk_circuit.specs.Wires.{wires_of};
 ghost use Rattle.lzk_reduce.specs.Reduced.{HaveOnes, IsReduced};
 ghost use Rattle.lzk_level.specs.Nodes.{AreGates, IsNode, node_count, nodes_from};
-ghost use Rattle.lzk_level.specs.Bounds.{at, total, layer_count, level_fault, node_depths, IsLevelError};
+ghost use Rattle.lzk_reduce.specs.Renumbering.{at};
+ghost use Rattle.lzk_level.specs.Bounds.{total, layer_count, level_fault, node_depths, IsLevelError};
 ghost use Rattle.lzk_level.specs.Meanings.{HasOutputs};
 ghost use Rattle.lzk_level.specs.Levels.{AreDepths, AreWeights, AreValues, Stands};
 

@@ -3,7 +3,8 @@
 ghost use Rattle.std.specs.Prelude.{◌≡◌, ℕ, ◌+◌, ◌-◌, ◌<◌, ◌≤◌, List, [], ◌∷◌, length, map, IfOk};
 ghost use Rattle.lzk_field.specs.Sums.{entry};
 ghost use Rattle.lzk_level.specs.Nodes.{combined, ArePartsOf, IsGate, AreGates};
-ghost use Rattle.lzk_level.specs.Bounds.{at, at_parts, total, gate_depth, gate_weight};
+ghost use Rattle.lzk_reduce.specs.Renumbering.{at};
+ghost use Rattle.lzk_level.specs.Bounds.{at_parts, total, gate_depth, gate_weight};
 ghost use Rattle.lzk_reduce.specs.Rows.{IsRow, row_value, ordered};
 ghost use Rattle.lzk_level.specs.Levels.{place_in, width_of, row_at, ArePlaces, AreDepths, AreWeights, AreValues, AreRows, AreShort, IsShort, AreFactorsBelow, HaveValues, Stands, placed_value, StartsWithOne};
 

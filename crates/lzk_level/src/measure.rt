@@ -2,7 +2,8 @@
 
 ghost use Rattle.std.specs.Prelude.{◌≡◌, ℕ, ◌+◌, ◌-◌, ◌*◌, ◌^◌, ◌<◌, ◌≤◌, max, min, List, [], ◌∷◌, length, map, replicate, IfOk, MatchResult, None, Some};
 ghost use Rattle.lzk_level.specs.Nodes.{ArePartsOf, IsGate, AreGates, after};
-ghost use Rattle.lzk_level.specs.Bounds.{at, at_parts, greatest, total, gate_depth, gate_weight, limit_fault};
+ghost use Rattle.lzk_reduce.specs.Renumbering.{at};
+ghost use Rattle.lzk_level.specs.Bounds.{at_parts, greatest, total, gate_depth, gate_weight, limit_fault};
 
 use crate::fault::LevelFault;
 use crate::node::{Gate, Node};

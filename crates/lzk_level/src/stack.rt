@@ -3,7 +3,7 @@
 ghost use Rattle.std.specs.Prelude.{◌≡◌, ℕ, ◌+◌, ◌-◌, ◌<◌, ◌≤◌, None, List, length, map, IfOk};
 ghost use Rattle.lzk_circuit.specs.Valid.{AreTerms};
 ghost use Rattle.lzk_circuit.specs.Wires.{coef, wire};
-ghost use Rattle.lzk_level.specs.Bounds.{at};
+ghost use Rattle.lzk_reduce.specs.Renumbering.{at};
 ghost use Rattle.lzk_reduce.specs.Rows.{IsRow, row_value};
 ghost use Rattle.lzk_reduce.specs.Reduced.{HasOne};
 ghost use Rattle.lzk_level.specs.Levels.{place_in, width_of, row_at, AreRows, lengths_in, lengths_of, StartsWithOne};

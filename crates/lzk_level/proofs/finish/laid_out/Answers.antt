@@ -3,7 +3,8 @@ use Rattle.std.proofs.lemmas.List.{length-reverse}
 use Rattle.lzk_circuit.specs.Valid.{AreLayers}
 use Rattle.lzk_circuit.specs.Wires.{inputs_of, wires_of}
 use Rattle.lzk_level.specs.Nodes.{nodes_from, node_values}
-use Rattle.lzk_level.specs.Bounds.{at, node_depths, node_weights, layer_count, wire_bound, term_bound, total}
+use Rattle.lzk_reduce.specs.Renumbering.{at}
+use Rattle.lzk_level.specs.Bounds.{node_depths, node_weights, layer_count, wire_bound, term_bound, total}
 use Rattle.lzk_level.proofs.FinishLaws.{ready, ready-weights, ready-values, ready-inputs, within-limits, greatest-some, greatest-each, depths-long, inputs-long}
 use Rattle.lzk_level.proofs.finish.laid_out.Goals as goal
 

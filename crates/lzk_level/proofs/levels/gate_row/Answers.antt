@@ -3,7 +3,7 @@ use Rattle.std.proofs.lemmas.Result.{IfOk-weaker}
 use Rattle.lzk_field.specs.Sums.{entry}
 use Rattle.lzk_field.proofs.RingBasics.{one_times}
 use Rattle.lzk_level.specs.Nodes.{combined}
-use Rattle.lzk_level.specs.Bounds.{at}
+use Rattle.lzk_reduce.specs.Renumbering.{at}
 use Rattle.lzk_reduce.specs.Rows.{row_value}
 use Rattle.lzk_level.specs.Levels.{placed_value}
 use Rattle.lzk_level.proofs.levels.gate_row.Goals as goal

@@ -1,7 +1,7 @@
 use Rattle.std.proofs.Common.{◌≡◌, ◌∙◌, ap, sym, subst, ◌+◌, ◌-◌, ◌≤◌, length, [], ◌∷◌, ◌++◌, arith}
 use Rattle.std.proofs.lemmas.List.{length-append}
 use Rattle.lzk_field.specs.Sums.{entry}
-use Rattle.lzk_level.specs.Bounds.{at}
+use Rattle.lzk_reduce.specs.Renumbering.{at}
 use Rattle.lzk_reduce.specs.Rows.{IsRow, row_value}
 use Rattle.lzk_level.specs.Levels.{width_of, IsShort, AreRows, HaveValues, AreShort}
 use Rattle.lzk_level.proofs.LevelLaws.{row-next}

@@ -1,7 +1,8 @@
 use Rattle.std.proofs.Common.{◌≡◌, ◌∙◌, ap, ap₂, sym, subst, ◌-◌, ◌<◌, ◌≤◌, length, map, arith, [], ◌∷◌}
 use Rattle.std.proofs.lemmas.Result.{IfOk-weaker}
 use Rattle.lzk_field.specs.Sums.{entry}
-use Rattle.lzk_level.specs.Bounds.{at, gate_weight}
+use Rattle.lzk_reduce.specs.Renumbering.{at}
+use Rattle.lzk_level.specs.Bounds.{gate_weight}
 use Rattle.lzk_reduce.specs.Rows.{row_value, ordered}
 use Rattle.lzk_level.specs.Levels.{place_in, width_of, placed_value, IsShort}
 use Rattle.lzk_level.proofs.LevelLaws.{place-below}

@@ -1,6 +1,7 @@
 use Rattle.std.proofs.Common.{◌≡◌, ◌∙◌, ap, ◌+◌, arith, take, map}
 use Rattle.std.proofs.lemmas.List.{get_or_default}
-use Rattle.lzk_level.specs.Bounds.{at, total}
+use Rattle.lzk_reduce.specs.Renumbering.{at}
+use Rattle.lzk_level.specs.Bounds.{total}
 use Rattle.lzk_level.proofs.GateLaws.{total-append, numbers-more, capped-more}
 use Rattle.lzk_level.proofs.measure.add_outputs.Goals as goal
 

@@ -1,7 +1,8 @@
 use Rattle.std.proofs.Common.{◌≡◌, ◌∙◌, ap, sym, subst, ℕ, ◌+◌, ◌-◌, ◌<◌, length, replicate, arith, [], ◌∷◌, ◌++◌}
 use Rattle.std.proofs.lemmas.List.{length-append}
 use Rattle.lzk_level.specs.Nodes.{IsGate}
-use Rattle.lzk_level.specs.Bounds.{at, gate_depth}
+use Rattle.lzk_reduce.specs.Renumbering.{at}
+use Rattle.lzk_level.specs.Bounds.{gate_depth}
 use Rattle.lzk_level.proofs.GateLaws.{after-next, gate-of, depth-most, below-more}
 use Rattle.lzk_level.proofs.measure.depths_of.Goals as goal
 

@@ -1,6 +1,7 @@
 use Rattle.std.proofs.Common.{◌≡◌, ◌∙◌, ap, sym, max, take, map}
 use Rattle.std.proofs.lemmas.List.{get_or_default}
-use Rattle.lzk_level.specs.Bounds.{at, greatest}
+use Rattle.lzk_reduce.specs.Renumbering.{at}
+use Rattle.lzk_level.specs.Bounds.{greatest}
 use Rattle.lzk_level.proofs.GateLaws.{greatest-append, numbers-more}
 use Rattle.lzk_level.proofs.measure.layers_of.Goals as goal
 

@@ -1,5 +1,6 @@
 use Rattle.std.proofs.Common.{◌≡◌, ◌∙◌, ap, sym, ◌-◌, length, max, arith, take}
-use Rattle.lzk_level.specs.Bounds.{at, at_parts, greatest}
+use Rattle.lzk_reduce.specs.Renumbering.{at}
+use Rattle.lzk_level.specs.Bounds.{at_parts, greatest}
 use Rattle.lzk_level.proofs.GateLaws.{greatest-append, parts-more, part-of}
 use Rattle.lzk_level.proofs.measure.parts_depth.Goals as goal
 

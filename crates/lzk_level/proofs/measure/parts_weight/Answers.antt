@@ -1,5 +1,6 @@
 use Rattle.std.proofs.Common.{◌≡◌, ◌∙◌, ap, sym, ◌+◌, ◌-◌, ◌^◌, length, min, arith, take}
-use Rattle.lzk_level.specs.Bounds.{at, at_parts, total}
+use Rattle.lzk_reduce.specs.Renumbering.{at}
+use Rattle.lzk_level.specs.Bounds.{at_parts, total}
 use Rattle.lzk_level.proofs.GateLaws.{total-append, parts-more, part-of, capped-more}
 use Rattle.lzk_level.proofs.measure.parts_weight.Goals as goal
 

@@ -1,6 +1,6 @@
 use Rattle.std.proofs.Common.{◌≡◌, ◌∙◌, ap, sym, subst, [], get_or}
 use Rattle.std.proofs.lemmas.List.{get_or_default}
-use Rattle.lzk_level.specs.Bounds.{at}
+use Rattle.lzk_reduce.specs.Renumbering.{at}
 use Rattle.lzk_level.proofs.InnerLaws.{Outer, outer-starts, outer-adds}
 use Rattle.lzk_level.proofs.stack.output_layer.Goals as goal
 
