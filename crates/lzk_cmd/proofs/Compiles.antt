@@ -2,6 +2,7 @@
 use Rattle.std.proofs.Common.{◌≡◌, ℕ, List, Option, Some, None, Result, Ok, Err, inl, inr, refl, ap, subst}
 use Rattle.std.specs.Prelude.{IfSome, MatchOption, String, Vec, string_bytes}
 use Rattle.std.specs.declared.alloc.Global.{Global}
+use Rattle.lzk_circbytes.proofs.Sizes.{files_fit}
 use Rattle.lzk_expr.specs.Trees.{SourceTree}
 use Rattle.lzk_expr.specs.View.{Held, tree_of}
 use Rattle.lzk_level.specs.Compiled.{source_limit}
@@ -45,7 +46,7 @@ module _ (source circuit : List ℕ) (rr pr : Type 0) where
 
   compiled_put : (s : SourceTree) (bytes text : List ℕ) (stop : Stop) → IsCompiled s circuit bytes text → WithSource stop (puts stop circuit bytes text) s
   compiled_put s bytes text stop c =
-      rw c.within (c.made, bytes, c.compiled, c.file, ap (puts stop circuit bytes) c.text_is)
+      rw c.within (c.made, bytes, c.compiled, c.file, files_fit c.made bytes c.file, ap (puts stop circuit bytes) c.text_is)
 
   puts_done : (files : Files) (held' : Option Files) (p1 : Type 0) (s : SourceTree) (bytes text : List ℕ) (e : Ending) → (p1 → pr) → IsCompiled s circuit bytes text → HasPut files circuit bytes text p1 held' e
       → Settled (λ stop end. WithSource stop end s) 1 files rr pr held' e

@@ -82,7 +82,7 @@ unfolding EvalRun CompileRun ShowRun
 ready_done files (Eval circuit public private) end has h = eval_any_done has.0 public private files end has.2 (circuit_ready files circuit 0 end has.0 _ has.1 h)
 ready_done files (Compile source circuit) end has h =
     let made = rw has.1.3 at (source_ready files source 0 end has.0 _ has.1 h) in
-    subst Done (sym made.4) (inl refl)
+    subst Done (sym made.5) (inl refl)
 ready_done files (Show circuit) end has h = subst Done (sym (circuit_ready files circuit 0 end has.0 _ has.1 h)) (inl refl)
 
 run_command : (words : List (List ℕ)) (files : Files) (command : Command) (end : End) → command_of words ≡ Some command → RunOf words files Nowhere end → CommandRun command files Nowhere end
@@ -90,19 +90,19 @@ run_command words files command end e h = rw e at h
 
 pub completes : (words : List (List ℕ)) (files : Files) (before : List ℕ) (status : ℕ) (held : Option Files) (written : Option (List ℕ)) (rr pr mr sr : Type 0) (command : Command)
     → Outcome words files before status held written rr pr mr sr → command_of words ≡ Some command → IsReady files command → (rr → ⊥) → (pr → ⊥) → (sr → ⊥)
-    → Completed words files before status written ⊎ (status ≡ 6)
+    → Completed words files before status held written ⊎ (status ≡ 6)
 completes words files before status held written rr pr mr sr command (inr want) is ready r q s = inr want.0
 completes words files before status held written rr pr mr sr command (inl (AtRead k, end, may, run, leaves, missing, answers)) is ready r q s = absurd (r may)
 completes words files before status held written rr pr mr sr command (inl (AtPut, end, may, run, leaves, missing, answers)) is ready r q s = absurd (q may)
 completes words files before status held written rr pr mr sr command (inl (Nowhere, end, may, run, leaves, missing, inl whole)) is ready r q s =
-    inl (record { end = end; run = run; done = ready_done files command end ready (run_command words files command end is run); answer = whole.0; printed = whole.1 })
+    inl (record { end = end; run = run; done = ready_done files command end ready (run_command words files command end is run); answer = whole.0; printed = whole.1; left = leaves })
 completes words files before status held written rr pr mr sr command (inl (Nowhere, end, may, run, leaves, missing, inr (inl cut))) is ready r q s = absurd (s cut.1)
 completes words files before status held written rr pr mr sr command (inl (Nowhere, end, may, run, leaves, missing, inr (inr want))) is ready r q s = inr want.0
 
 -- where shelf and sink tell
 pub completes_told : (words : List (List ℕ)) (held : Option Files) (old : Option (List ℕ)) (status : ℕ) (held' : Option Files) (new : Option (List ℕ)) (rr pr mr sr : Type 0)
     → IfSome held (λ files. IfSome old (λ before. Outcome words files before status held' new rr pr mr sr))
-    → IfSome held (λ files. IfSome old (λ before. (command : Command) → command_of words ≡ Some command → IsReady files command → (rr → ⊥) → (pr → ⊥) → (sr → ⊥) → Completed words files before status new ⊎ (status ≡ 6)))
+    → IfSome held (λ files. IfSome old (λ before. (command : Command) → command_of words ≡ Some command → IsReady files command → (rr → ⊥) → (pr → ⊥) → (sr → ⊥) → Completed words files before status held' new ⊎ (status ≡ 6)))
 completes_told words None old status held' new rr pr mr sr told = tt
 completes_told words (Some files) None status held' new rr pr mr sr told = tt
 completes_told words (Some files) (Some before) status held' new rr pr mr sr told = λ command. completes words files before status held' new rr pr mr sr command told

@@ -1,5 +1,5 @@
 -- The circuit of a source.
-use Rattle.std.specs.Prelude.{◌≡◌, ℕ, ◌+◌, List, [], ◌∷◌, length, count_by, MatchOption}
+use Rattle.std.specs.Prelude.{◌≡◌, ℕ, ◌+◌, ◌≤◌, List, [], ◌∷◌, length, count_by, MatchOption}
 use Rattle.lzk_circbytes.specs.declared.any.AnyCircuit.{AnyCircuit}
 use Rattle.lzk_circbytes.specs.declared.any.AnyCircuit.TheVariants.{Gold, Gf}
 use Rattle.lzk_circbytes.specs.Files.{CircuitBytes}
@@ -7,7 +7,7 @@ use Rattle.lzk_circuit.specs.declared.layer.Layer.{Layer}
 use Rattle.lzk_expr.specs.Trees.{SourceTree, is_public, is_private}
 use Rattle.lzk_level.specs.Compiled.{field_of, publics_of, privates_of, depth_of, HasSourceValues, HasReducedLayers, source_layers, source_limit}
 use Rattle.lzk_outside.specs.Outside.{Files}
-use Rattle.lzk_cmd.specs.Decoded.{AtSourceFile, level_refused}
+use Rattle.lzk_cmd.specs.Decoded.{circuit_limit, AtSourceFile, level_refused}
 use Rattle.lzk_cmd.specs.Ends.{End, Stop, puts}
 use Rattle.lzk_cmd.specs.Lines.{compiled_line}
 
@@ -25,18 +25,18 @@ abbrev pub term_count : {A : Type 0} → List (Layer A) → ℕ
 term_count [] = 0
 term_count (layer ∷ layers) = length layer.terms + term_count layers
 
-abbrev pub terms_of : AnyCircuit → ℕ
-terms_of (Gold c) = term_count c.layers
-terms_of (Gf c) = term_count c.layers
+abbrev pub term_total : AnyCircuit → ℕ
+term_total (Gold c) = term_count c.layers
+term_total (Gf c) = term_count c.layers
 
 -- what is printed of a circuit whose file has so many bytes
 abbrev pub compiled_text : List ℕ → AnyCircuit → ℕ → List ℕ
-compiled_text name c bytes = compiled_line name (depth_of c) (terms_of c) bytes
+compiled_text name c bytes = compiled_line name (depth_of c) (term_total c) bytes
 
--- the file of some circuit of the source is put
+-- the file of some circuit of the source is put, and it is within the limit of circuit files
 abbrev pub PutsCompiled : SourceTree → List ℕ → Stop → End → Type 0
 PutsCompiled source name stop end =
-    (c : AnyCircuit) × (bytes : List ℕ) × Compiled source c × CircuitBytes c bytes × (end ≡ puts stop name bytes (compiled_text name c (length bytes)))
+    (c : AnyCircuit) × (bytes : List ℕ) × Compiled source c × CircuitBytes c bytes × (length bytes ≤ circuit_limit) × (end ≡ puts stop name bytes (compiled_text name c (length bytes)))
 
 unfoldable pub CompileRun : List ℕ → List ℕ → Files → Stop → End → Type 0
 CompileRun source circuit files stop end =

@@ -12,7 +12,7 @@ use Rattle.lzk_level.specs.Compiled.{source_limit}
 use Rattle.lzk_outside.specs.Outside.{Files}
 use Rattle.lzk_cmd.specs.Answers.{HasFile}
 use Rattle.lzk_cmd.specs.Decoded.{circuit_limit, text_limit}
-use Rattle.lzk_cmd.specs.Ends.{End, Nowhere}
+use Rattle.lzk_cmd.specs.Ends.{End, Nowhere, Leaves}
 use Rattle.lzk_cmd.specs.Run.{RunOf}
 use Rattle.lzk_cmd.specs.Words.{Command, Eval, Compile, Show, command_of}
 
@@ -41,15 +41,16 @@ IsReady files (Eval circuit public private) = (c : AnyCircuit) × HasCircuit fil
 IsReady files (Compile source circuit) = (s : SourceTree) × HasSource files source s
 IsReady files (Show circuit) = (c : AnyCircuit) × HasCircuit files circuit c
 
--- the run is done, or its inputs don't satisfy the circuit, and its text is printed to the end
-pub record Completed (words : List (List ℕ)) (files : Files) (before : List ℕ) (status : ℕ) (written : Option (List ℕ)) : Type 0 where
+-- the run is done, or its inputs don't satisfy the circuit, its text is printed to the end, and its file is put
+pub record Completed (words : List (List ℕ)) (files : Files) (before : List ℕ) (status : ℕ) (held : Option Files) (written : Option (List ℕ)) : Type 0 where
   pub end : End
   pub run : RunOf words files Nowhere end
   pub done : (end.status ≡ 0) ⊎ (end.status ≡ 1)
   pub answer : status ≡ end.status
   pub printed : written ≡ Some (before ++ end.text)
+  pub left : Leaves files Nowhere end.put held
 
 -- where the words are a command, its files are ready and nothing rose, the run completes, or there is no memory
-abbrev pub Completes : List (List ℕ) → Files → List ℕ → ℕ → Option (List ℕ) → Type 0 → Type 0 → Type 0 → Type 0
-Completes words files before status written read_rose put_rose sink_rose =
-    (command : Command) → command_of words ≡ Some command → IsReady files command → ¬ read_rose → ¬ put_rose → ¬ sink_rose → Completed words files before status written ⊎ (status ≡ 6)
+abbrev pub Completes : List (List ℕ) → Files → List ℕ → ℕ → Option Files → Option (List ℕ) → Type 0 → Type 0 → Type 0 → Type 0
+Completes words files before status held written read_rose put_rose sink_rose =
+    (command : Command) → command_of words ≡ Some command → IsReady files command → ¬ read_rose → ¬ put_rose → ¬ sink_rose → Completed words files before status held written ⊎ (status ≡ 6)

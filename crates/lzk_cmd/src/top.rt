@@ -84,9 +84,9 @@ pub fn run<S: Shelf, K: Sink, G: Gate>(
         Outcome (map (λ w. string_bytes w) words.now) files before result (S.held shelf.new) (K.written out.new)
         (Rose (S.read_faults shelf.old) (S.read_faults shelf.new)) (Rose (S.put_faults shelf.old) (S.put_faults shelf.new)) (Rose (S.misses shelf.old) (S.misses shelf.new)) (Rose (K.faults out.old) (K.faults out.new)))) }
 
-    // Where the files are ready and nothing rose, the run is done.
+    // Where the files are ready and nothing rose, the run is done, and its file is put.
     ensures complete { IfSome (S.held shelf.old) (λ files. IfSome (K.written out.old) (λ before.
-        Completes (map (λ w. string_bytes w) words.now) files before result (K.written out.new)
+        Completes (map (λ w. string_bytes w) words.now) files before result (S.held shelf.new) (K.written out.new)
         (Rose (S.read_faults shelf.old) (S.read_faults shelf.new)) (Rose (S.put_faults shelf.old) (S.put_faults shelf.new)) (Rose (K.faults out.old) (K.faults out.new)))) }
 
     // Each status has its cause, whether or not they tell.
