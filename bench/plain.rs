@@ -8,6 +8,7 @@ mod hashes;
 mod prime;
 mod proofs;
 mod texts;
+mod unchecked;
 
 use binary::*;
 use circuits::*;
@@ -41,6 +42,9 @@ fn main() {
         "gold-inv" => gold_inv(times),
         "gold-dot" => gold_dot(times),
         "gf-mul" => gf_mul(times),
+        "gf-mul-unchecked" => unchecked::mul(times),
+        "gf-many-unchecked" => unchecked::many(times),
+        "gf-dot-unchecked" => unchecked::dot(times),
         "gold-square" => gold_square(times),
         "gf-square" => gf_square(times),
         "gf-inv" => gf_inv(times),
