@@ -79,8 +79,9 @@ fn septets_of<'a>(k: u32, field: &[u8], bytes: &'a [u8]) -> Result<(u64, &'a [u8
     }
 }
 
+// A number of any length.
 #[tactic(auto, unfolding(crate::specs::Reading::varint_at))]
-fn varint_of(bytes: &[u8]) -> Result<(u32, &[u8]), ReadError>
+fn long_varint_of(bytes: &[u8]) -> Result<(u32, &[u8]), ReadError>
     ensures { Gives (λ x. (x.0, x.1.now)) result (varint_at bytes.now) }
 {
     let (n, rest) = septets_of(5, bytes, bytes)?;
@@ -88,6 +89,24 @@ fn varint_of(bytes: &[u8]) -> Result<(u32, &[u8]), ReadError>
         return Err(stop(ByteKind::Varint, bytes));
     }
     Ok((n as u32, rest))
+}
+
+// A wire's number has at most three bytes, which are read with no call for each.
+#[tactic(auto, unfolding(crate::specs::Reading::varint_at, crate::specs::Reading::septets_at))]
+fn varint_of(bytes: &[u8]) -> Result<(u32, &[u8]), ReadError>
+    ensures { Gives (λ x. (x.0, x.1.now)) result (varint_at bytes.now) }
+{
+    match bytes {
+        [a, rest @ ..] if *a < 128 => Ok((*a as u32, rest)),
+        [a, b, rest @ ..] if *b < 128 && *b > 0 => {
+            Ok(((*a - 128) as u32 + 128 * *b as u32, rest))
+        }
+        [a, b, c, rest @ ..] if *b >= 128 && *c < 128 && *c > 0 => {
+            let high = (*b - 128) as u32 + 128 * *c as u32;
+            Ok(((*a - 128) as u32 + 128 * high, rest))
+        }
+        _ => long_varint_of(bytes),
+    }
 }
 
 #[tactic(auto, unfolding(crate::specs::Reading::step_at))]
