@@ -24,6 +24,3 @@ pub use circuit::Circuit;
 pub use fault::{CircuitFault, CircuitKind};
 pub use layer::{Layer, Term, Terms};
 pub use values::Values;
-
-#[cfg(test)]
-mod tests;

@@ -44,14 +44,3 @@ pub use parsing::parse;
 pub use printing::print;
 pub use source::Source;
 pub use source_fault::{SourceError, SourceFault, SourceKind};
-
-#[cfg(test)]
-mod source_tests;
-#[cfg(test)]
-mod source_vectors;
-#[cfg(test)]
-mod tests;
-#[cfg(test)]
-mod value_vectors;
-#[cfg(test)]
-mod vectors;

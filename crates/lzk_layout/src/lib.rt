@@ -30,10 +30,3 @@ pub use fault::{ProofFault, ProofKind};
 pub use lists::{Blocks, Elements, Path};
 pub use params::{Params, proof_len};
 pub use proof::Proof;
-
-#[cfg(test)]
-mod file_tests;
-#[cfg(test)]
-mod tests;
-#[cfg(test)]
-mod vectors;

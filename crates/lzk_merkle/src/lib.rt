@@ -23,6 +23,3 @@ mod walk;
 pub use columns::leaf;
 pub use nodes::Tree;
 pub use path::{needed, root_of};
-
-#[cfg(test)]
-mod tests;

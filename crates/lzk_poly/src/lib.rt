@@ -25,6 +25,3 @@ mod tables;
 
 pub use extender::Extender;
 pub use polynomial::eval;
-
-#[cfg(test)]
-mod tests;

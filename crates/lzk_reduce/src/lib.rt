@@ -21,8 +21,3 @@ mod share;
 
 pub use reduce::reduced;
 pub use rows::{append, merged, scaled, single};
-
-#[cfg(test)]
-mod kept_tests;
-#[cfg(test)]
-mod tests;

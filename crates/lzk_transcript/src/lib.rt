@@ -19,8 +19,3 @@ mod tape;
 mod written;
 
 pub use tape::Tape;
-
-#[cfg(test)]
-mod tests;
-#[cfg(test)]
-mod vectors;

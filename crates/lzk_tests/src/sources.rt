@@ -5,7 +5,7 @@ ghost use Rattle.lzk_expr.specs.Sources.{field_size};
 
 use crate::source_vectors::TEXTS;
 use crate::value_vectors::{PRINTS, VALUES};
-use crate::{FieldId, Source, SourceError, SourceFault, SourceKind, parse, print};
+use lzk_expr::{FieldId, Source, SourceError, SourceFault, SourceKind, parse, print};
 use lzk_field::Field;
 use lzk_gf128::Gf128;
 use lzk_goldilocks::Gold;

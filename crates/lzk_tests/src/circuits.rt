@@ -3,7 +3,7 @@
 ghost use Rattle.std.specs.Prelude.{◌≡◌, ◌<◌, ◌≤◌, length, IfOk};
 ghost use Rattle.lzk_circuit.specs.Valid.{HaveWidths};
 
-use super::*;
+use lzk_circuit::{Circuit, CircuitFault, CircuitKind, Layer, Term, Terms, Values};
 use lzk_field::Field;
 use lzk_gf128::Gf128;
 use lzk_goldilocks::Gold;

@@ -1,7 +1,7 @@
 //! Number files of both fields.
 
-use crate::vectors::{GF2_128_FAULTS, GF2_128_TEXTS, GOLDILOCKS_FAULTS, GOLDILOCKS_TEXTS};
-use crate::{NumberError, NumberKind, read_numbers};
+use crate::number_vectors::{GF2_128_FAULTS, GF2_128_TEXTS, GOLDILOCKS_FAULTS, GOLDILOCKS_TEXTS};
+use lzk_expr::{NumberError, NumberKind, read_numbers};
 use lzk_field::Field;
 use lzk_gf128::Gf128;
 use lzk_goldilocks::Gold;

@@ -1,6 +1,6 @@
 //! Texts and what an independent implementation makes of them.
 
-use crate::NumberKind;
+use lzk_expr::NumberKind;
 
 /// Texts of as many numbers, and a digest of these.
 pub const GOLDILOCKS_TEXTS: [(&[u8], u32, u128); 13] = [

@@ -1,10 +1,10 @@
 //! Rows over both fields.
 
-use super::*;
 use lzk_circuit::Term;
 use lzk_field::Field;
 use lzk_gf128::Gf128;
 use lzk_goldilocks::Gold;
+use lzk_reduce::{append, merged, scaled, single};
 use std::alloc::{AllocError, Global};
 use std::test::Fail;
 

@@ -1,6 +1,6 @@
 use Rattle.std.proofs.Common.{arith}
 use Rattle.std.proofs.lemmas.List.Kept.{AllPairs-from_increasing}
-use Rattle.lzk_merkle.proofs.tests.are_opened.Goals as goal
+use Rattle.lzk_tests.proofs.trees.are_opened.Goals as goal
 
 pub returns : goal.returns
 returns c = λ _. record {

@@ -1,6 +1,6 @@
 //! Texts and whether an independent implementation takes them as sources.
 
-use crate::SourceKind;
+use lzk_expr::SourceKind;
 
 /// Texts, and the line and kind of the fault of those that are no sources.
 pub const TEXTS: [(&[u8], u32, Option<SourceKind>); 138] = [

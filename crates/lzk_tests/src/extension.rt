@@ -3,10 +3,10 @@
 //! The expected values were computed in Python, by divided differences for up to 64 values and by
 //! Lagrange's formula.
 
-use super::*;
 use lzk_field::Field;
 use lzk_gf128::Gf128;
 use lzk_goldilocks::Gold;
+use lzk_poly::{Extender, eval};
 use std::alloc::{AllocError, Global};
 use std::test::Fail;
 

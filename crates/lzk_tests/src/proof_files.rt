@@ -4,12 +4,14 @@ ghost use Rattle.std.specs.Prelude.{◌≡◌, ◌≤◌, length};
 ghost use Rattle.lzk_layout.specs.Sizes.{AreParams};
 ghost use Rattle.lzk_layout.specs.Proofs.{HasLengths};
 
-use super::*;
-use crate::tests::circuit;
-use crate::vectors::{Damage, GF_DAMAGES, GOLD_DAMAGES};
+use crate::parameters::circuit;
+use crate::proof_vectors::{Damage, GF_DAMAGES, GOLD_DAMAGES};
 use lzk_field::Field;
 use lzk_gf128::Gf128;
 use lzk_goldilocks::Gold;
+use lzk_layout::{
+    Params, Path, Proof, ProofFault, ProofKind, decode_proof, encode_proof, proof_len,
+};
 use std::alloc::{AllocError, Global};
 use std::test::Fail;
 

@@ -1,10 +1,10 @@
 //! Worked draws, and tapes that an independent implementation ran.
 
-use super::*;
-use crate::vectors::{Step, TAPES};
+use crate::tape_vectors::{Step, TAPES};
 use lzk_field::Field;
 use lzk_gf128::Gf128;
 use lzk_goldilocks::Gold;
+use lzk_transcript::Tape;
 use std::alloc::{AllocError, Global};
 use std::process::Abort;
 use std::test::Fail;

@@ -2,12 +2,12 @@
 
 ghost use Rattle.std.specs.Prelude.{◌≡◌, length};
 
-use super::*;
-use crate::vectors::{Facts, GF_FACTS, GOLD_FACTS, Shape};
+use crate::proof_vectors::{Facts, GF_FACTS, GOLD_FACTS, Shape};
 use lzk_circuit::{Circuit, Layer, Terms};
 use lzk_field::Field;
 use lzk_gf128::Gf128;
 use lzk_goldilocks::Gold;
+use lzk_layout::{Params, proof_len};
 use std::alloc::{AllocError, Global};
 use std::test::Fail;
 

@@ -1,5 +1,5 @@
 use Rattle.std.proofs.Common.{ℕ, ◌+◌, ◌<◌, slice_index}
-use Rattle.lzk_merkle.proofs.tests.are_opened.Given as goal
+use Rattle.lzk_tests.proofs.trees.are_opened.Given as goal
 
 abbrev pub invariant-opened : goal.invariant-opened
 invariant-opened l = record {

@@ -1,22 +1,20 @@
 //! Each call against expected values from outside, and the tree's own root against the one that its path leads to.
 
-mod vectors;
-
 ghost use Rattle.std.specs.Prelude.{◌≡◌, ◌<◌, ◌≤◌, ◌*◌, ℕ, length, slice_index, IsTrue, IfOk, List};
 ghost use Rattle.lzk_merkle.specs.Nodes.{AreOpened};
 ghost use Rattle.lzk_merkle.specs.Tree.{IsBuilt};
 
-use super::{Tree, leaf, needed, root_of};
-use lzk_field::Field;
-use lzk_gf128::Gf128;
-use lzk_goldilocks::Gold;
-use sha2::{Digest, Sha256};
-use std::alloc::{AllocError, Global};
-use std::test::Fail;
-use vectors::{
+use crate::tree_vectors::{
     COLUMN, GF128_LEAF, GOLD_LEAF, LONG_GF128_LEAF, LONG_GOLD_LEAF, MOST, MOST_OPENED, NONCE,
     ROOTS, TREES, WIDE,
 };
+use lzk_field::Field;
+use lzk_gf128::Gf128;
+use lzk_goldilocks::Gold;
+use lzk_merkle::{Tree, leaf, needed, root_of};
+use sha2::{Digest, Sha256};
+use std::alloc::{AllocError, Global};
+use std::test::Fail;
 
 // Whether these leaves can be opened of n.
 fn are_opened(n: u32, opened: &[u32]) -> bool

@@ -1,0 +1,36 @@
+//! Tests of the generic crates, over both fields and through the bound.
+//!
+//! They stand above the crates that they test, so that these list no field and a field's change proves
+//! none of them again.
+#![tactic(auto)]
+
+#[cfg(test)]
+mod circuits;
+#[cfg(test)]
+mod extension;
+#[cfg(test)]
+mod number_files;
+#[cfg(test)]
+mod number_vectors;
+#[cfg(test)]
+mod parameters;
+#[cfg(test)]
+mod proof_files;
+#[cfg(test)]
+mod proof_vectors;
+#[cfg(test)]
+mod rows_of_terms;
+#[cfg(test)]
+mod source_vectors;
+#[cfg(test)]
+mod sources;
+#[cfg(test)]
+mod tape_vectors;
+#[cfg(test)]
+mod tapes;
+#[cfg(test)]
+mod tree_vectors;
+#[cfg(test)]
+mod trees;
+#[cfg(test)]
+mod value_vectors;
