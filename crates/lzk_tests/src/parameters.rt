@@ -7,7 +7,7 @@ use lzk_circuit::{Circuit, Layer, Terms};
 use lzk_field::Field;
 use lzk_gf128::Gf128;
 use lzk_goldilocks::Gold;
-use lzk_layout::{Params, proof_len};
+use lzk_layout::{Elements, Params, Proof, encode_proof, proof_len};
 use std::alloc::{AllocError, Global};
 use std::test::Fail;
 
@@ -81,8 +81,8 @@ fn entries_have_their_places(rt: HostRuntime) -> Result<(), Fail> {
 fn mark<F: Field>(elements: &mut Elements<F>)
     ensures { length elements.new ≡ length elements.old }
 {
-    if elements.list.len() > 0 {
-        elements.list[0] = F::one();
+    if let Some(first) = elements.as_mut_slice().first_mut() {
+        *first = F::one();
     }
 }
 

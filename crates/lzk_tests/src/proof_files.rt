@@ -10,7 +10,8 @@ use lzk_field::Field;
 use lzk_gf128::Gf128;
 use lzk_goldilocks::Gold;
 use lzk_layout::{
-    Params, Path, Proof, ProofFault, ProofKind, decode_proof, encode_proof, proof_len,
+    Blocks, Elements, Params, Path, Proof, ProofFault, ProofKind, decode_proof, encode_proof,
+    proof_len,
 };
 use std::alloc::{AllocError, Global};
 use std::test::Fail;
