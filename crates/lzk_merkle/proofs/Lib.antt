@@ -3,9 +3,11 @@ pub mod Elements
 pub mod Law
 pub mod Levels
 pub mod Marks
+pub mod PathLength
 pub mod Places
 pub mod Rest
 pub mod Room
 pub mod Steps
+pub mod TreeDigests
 pub mod Values
 pub mod Written

@@ -1,6 +1,6 @@
 //! The tree.
 
-ghost use Rattle.std.specs.Prelude.{◌≡◌, ℕ, ◌+◌, ◌*◌, ◌<◌, ◌≤◌, [], ◌++◌, length, map, slice_index_or, slice_set, IfOk};
+ghost use Rattle.std.specs.Prelude.{◌≡◌, ℕ, ◌+◌, ◌*◌, ◌<◌, ◌≤◌, [], ◌++◌, length, map, replicate, slice_index_or, slice_set, IfOk};
 ghost use Rattle.std.specs.Borrow.{sem};
 ghost use Rattle.sha2.specs.Sha256.{sha256};
 ghost use Rattle.lzk_merkle.specs.Lending.{LendsLeaves, with_leaves};
@@ -38,6 +38,15 @@ pub fn pair_digest(left: &[u8; 32], right: &[u8; 32]) -> [u8; 32]
     hasher.update(left);
     hasher.update(right);
     hasher.finalize()
+}
+
+// So many digests of zero bytes.
+fn zero_digests(alloc: Global, n: u32) -> Result<Vec<[u8; 32]>, AllocError>
+    ensures { IfOk result (λ list. list.items ≡ replicate n (replicate 32 0)) }
+{
+    let mut list = Vec::new(alloc);
+    list.resize(n as usize, [0; 32])?;
+    Ok(list)
 }
 
 // Node i of the whole tree.
@@ -91,15 +100,16 @@ fn write_path(leaves: &[[u8; 32]], inner: &[[u8; 32]], opened: &[u32], out: &mut
 }
 
 impl Tree {
-    /// A tree over n leaves, not yet built. All leaves are to be set first.
+    /// A tree over n leaves, not yet built. Each leaf is 32 zero bytes until it is set. Err where the memory
+    /// for 2n digests is not given.
     pub fn new(alloc: Global, n: u32) -> Result<Tree, AllocError>
         requires some { 1 ≤ n }
         requires most { n ≤ 65536 }
-        ensures { IfOk result (λ t. length t.leaves ≡ n) }
+        ensures count { IfOk result (λ t. length t.leaves ≡ n) }
+        ensures zeros { IfOk result (λ t. t.leaves ≡ replicate n (replicate 32 0)) }
     {
-        let count = n as usize;
-        let leaves = Vec::from_elem(alloc, [0u8; 32], count)?;
-        let inner = Vec::from_elem(alloc, [0u8; 32], count)?;
+        let leaves = zero_digests(alloc, n)?;
+        let inner = zero_digests(alloc, n)?;
         Ok(Tree { leaves, inner })
     }
 
@@ -139,7 +149,8 @@ impl Tree {
         }
     }
 
-    /// Writes the path that opens these leaves.
+    /// Writes the path that opens these leaves, as many digests as `needed` says, in descending order of their
+    /// nodes' numbers.
     pub fn path(&self, opened: &[u32], out: &mut [[u8; 32]])
         requires built { IsBuilt self.now }
         requires opened { AreOpened (length self.now.leaves) opened.now }
