@@ -1,5 +1,5 @@
 -- What the shelf and the sink in memory hold, which of their calls fail, and what they count.
-use Rattle.std.specs.Prelude.{◌≡◌, take, Option, Some, None, Result, Ok, Err, Contains, ℕ, List, [], unwrap_or}
+use Rattle.std.specs.Prelude.{◌≡◌, take, Option, Some, None, Result, Ok, Err, Contains, Bool, true, false, ℕ, List, [], ◌∷◌, unwrap_or}
 use Rattle.lzk_outside.specs.Texts.{text_files}
 use Rattle.lzk_outside.specs.Outside.{Files, with_file, counted}
 use Rattle.lzk_outside.specs.Tallies.{Tally}
@@ -9,6 +9,11 @@ use Rattle.lzk_outside.specs.declared.outside.PutFault.{PutFault}
 use Rattle.lzk_outside.specs.declared.outside.PutFault.TheVariants as put
 use Rattle.lzk_outside.specs.declared.outside.SinkFault.{SinkFault}
 use Rattle.lzk_outside.specs.declared.outside.SinkFault.TheVariants as sink
+
+-- there is no call in the list
+abbrev pub is_empty : List ℕ → Bool
+is_empty [] = true
+is_empty (call ∷ calls) = false
 
 -- the files of a shelf
 abbrev pub files_of : MemShelf → Files
@@ -30,6 +35,10 @@ tally_of s = record { read_faults = s.read_faults; put_faults = s.put_faults; mi
 -- the next call is one of those that fail
 abbrev pub IsFailing : Settings → Type 0
 IsFailing s = Contains s.failing s.calls
+
+-- no call is listed to fail
+abbrev pub none_fails : Settings → Bool
+none_fails s = is_empty s.failing
 
 -- one call later
 abbrev pub next_settings : Settings → Settings
@@ -70,6 +79,10 @@ faults_of s = s.faults
 -- the next write is one of those that fail
 abbrev pub IsFailingWrite : SinkSettings → Type 0
 IsFailingWrite s = Contains s.failing s.calls
+
+-- no write is listed to fail
+abbrev pub no_write_fails : SinkSettings → Bool
+no_write_fails s = is_empty s.failing
 
 -- one write later
 abbrev pub next_sink_settings : SinkSettings → SinkSettings

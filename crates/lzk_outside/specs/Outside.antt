@@ -17,17 +17,24 @@ no_files = λ q. None
 abbrev pub with_file : Files → List ℕ → List ℕ → Files
 with_file files name bytes = λ q. cond (bytes_eq name q) (Some bytes) (files q)
 
+-- the last value of u64, where counts stand still
+abbrev pub last_count : ℕ
+last_count = 2 ^ 64 - 1
+
 -- one more, up to the last value of u64
 abbrev pub counted : ℕ → ℕ
-counted n = min (n + 1) (2 ^ 64 - 1)
+counted n = min (n + 1) last_count
 
--- a count rose, or stands at the last value of u64
-abbrev pub Rose : ℕ → ℕ → Type 0
-Rose before now = counted before ≤ now
+-- a count rose, or stands at the last value of u64; no number beyond that is a count
+pub record Rose (before now : ℕ) : Type 0 where
+  pub later : before ≤ now
+  pub more : counted before ≤ now
+  pub count : now ≤ last_count
 
--- the count doesn't fall, and where this is so it rose
+-- it is a count still and doesn't fall, and where this is so it rose
 pub record Counts (this : Type 0) (before now : ℕ) : Type 0 where
   pub later : before ≤ now
+  pub count : now ≤ last_count
   pub rose : this → Rose before now
 
 -- the front of buf has the n bytes of a file from a place on, and n is 0 only at the file's end

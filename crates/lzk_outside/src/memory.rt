@@ -1,6 +1,6 @@
 //! A shelf and a sink in memory, which fail at the calls that are named when they are made.
 
-ghost use Rattle.std.specs.Prelude.{◌≢◌, ◌↔◌, ◌≡◌, ◌<◌, ◌≤◌, ◌-◌, [], ℕ, length, take, drop, min, IfOk, OnOk, OnErr, Some};
+ghost use Rattle.std.specs.Prelude.{◌≢◌, ◌↔◌, ◌≡◌, ◌<◌, ◌≤◌, ◌-◌, [], ℕ, length, take, drop, min, IfOk, OnOk, OnErr, IsTrue, Some, None};
 ghost use Rattle.std.specs.Option.{option_copied};
 ghost use Rattle.lzk_outside.specs.Outside.{no_files, with_file, ReadsFrom, Reads, Holds, Torn, Appends, Counts};
 ghost use Rattle.lzk_outside.specs.Tallies.{no_tally, tally_after_read, tally_after_put, faults_after_write};
@@ -126,7 +126,7 @@ impl MemShelf {
 }
 
 impl Shelf for MemShelf {
-    ghost use Rattle.lzk_outside.specs.Memory.{files_of, settings_of, tally_of, bytes_under, IsFailing, TornFiles, next_settings, settings_after_put};
+    ghost use Rattle.lzk_outside.specs.Memory.{files_of, settings_of, tally_of, bytes_under, none_fails, IsFailing, TornFiles, next_settings, settings_after_put};
 
     ghost held = { λ s. Some (files_of s) };
 
@@ -135,6 +135,8 @@ impl Shelf for MemShelf {
     ghost put_faults = { λ s. (tally_of s).put_faults };
 
     ghost misses = { λ s. (tally_of s).misses };
+
+    ghost never_fails = { λ s. none_fails (settings_of s) };
 
     /// Takes no memory, and gives all that there is room for.
     fn read(&mut self, name: &str, from: u64, buf: &mut [u8]) -> Result<usize, ShelfFault>
@@ -149,10 +151,13 @@ impl Shelf for MemShelf {
         ensures missing { Counts (result ≡ Err ShelfFault.Missing)
             (tally_of self.old).misses (tally_of self.new).misses }
         ensures puts { (tally_of self.new).put_faults ≡ (tally_of self.old).put_faults }
+        ensures never { IsTrue (none_fails (settings_of self.old)) → result ≢ Err ShelfFault.Failed }
+        ensures uncounted { IsTrue (none_fails (settings_of self.old)) →
+            (tally_of self.new).read_faults ≡ (tally_of self.old).read_faults }
+        ensures kept { none_fails (settings_of self.new) ≡ none_fails (settings_of self.old) }
 
         // The calls that fail are those that were named.
         ensures numbered { (result ≡ Err ShelfFault.Failed) ↔ IsFailing (settings_of self.old) }
-        ensures never { (settings_of self.old).failing ≡ [] → result ≢ Err ShelfFault.Failed }
         ensures memory { result ≢ Err ShelfFault.OutOfMemory }
 
         // What it gives and leaves, exactly.
@@ -163,6 +168,9 @@ impl Shelf for MemShelf {
         ensures settings { settings_of self.new ≡ next_settings (settings_of self.old) }
         ensures tally { tally_of self.new ≡ tally_after_read (tally_of self.old) result }
     {
+        // Each count is a u64, which the clauses learn where it is read.
+        let _reads = self.read_faults;
+        let _misses = self.misses;
         let call = self.calls;
         self.calls = call.saturating_add(1);
         if self.failing.contains(&call) {
@@ -191,11 +199,18 @@ impl Shelf for MemShelf {
             (tally_of self.old).put_faults (tally_of self.new).put_faults }
         ensures reads { (tally_of self.new).read_faults ≡ (tally_of self.old).read_faults }
         ensures misses { (tally_of self.new).misses ≡ (tally_of self.old).misses }
+        ensures unfailed { result ≡ Err PutFault.OutOfMemory →
+            (tally_of self.new).put_faults ≡ (tally_of self.old).put_faults }
+        ensures never { IsTrue (none_fails (settings_of self.old)) → result ≢ Err PutFault.Failed }
+        ensures uncounted { IsTrue (none_fails (settings_of self.old)) →
+            (tally_of self.new).put_faults ≡ (tally_of self.old).put_faults }
+        ensures kept { none_fails (settings_of self.new) ≡ none_fails (settings_of self.old) }
 
-        // The calls that fail are those that were named.
+        // The calls that fail are those that were named, and without a tear they want no memory.
         ensures numbered { result ≡ Err PutFault.Failed → IsFailing (settings_of self.old) }
         ensures passes { OnOk result (¬ IsFailing (settings_of self.old)) }
-        ensures never { (settings_of self.old).failing ≡ [] → result ≢ Err PutFault.Failed }
+        ensures fails { IsFailing (settings_of self.old) → (settings_of self.old).tear ≡ None →
+            result ≡ Err PutFault.Failed }
 
         // What it leaves, exactly.
         ensures torn { let tear = (settings_of self.old).tear in
@@ -204,6 +219,7 @@ impl Shelf for MemShelf {
         ensures settings { settings_of self.new ≡ settings_after_put (settings_of self.old) result }
         ensures tally { tally_of self.new ≡ tally_after_put (tally_of self.old) result }
     {
+        let _count = self.put_faults;
         let call = self.calls;
         if !self.failing.contains(&call) {
             if set_file(self.alloc, &mut self.files, name, bytes).is_err() {
@@ -253,11 +269,13 @@ impl MemSink {
 }
 
 impl Sink for MemSink {
-    ghost use Rattle.lzk_outside.specs.Memory.{bytes_of, sink_settings_of, faults_of, IsFailingWrite, settings_after_write};
+    ghost use Rattle.lzk_outside.specs.Memory.{bytes_of, sink_settings_of, faults_of, no_write_fails, IsFailingWrite, settings_after_write};
 
     ghost written = { λ s. Some (bytes_of s) };
 
     ghost faults = { λ s. faults_of s };
+
+    ghost never_fails = { λ s. no_write_fails (sink_settings_of s) };
 
     /// Takes as many bytes as there are, up to the most that the sink takes in one write.
     fn write(&mut self, bytes: &[u8]) -> Result<usize, SinkFault>
@@ -270,17 +288,19 @@ impl Sink for MemSink {
             (λ n. Appends (Some (bytes_of self.old)) (take n bytes.now) (Some (bytes_of self.new))) }
         ensures err { OnErr result (Some (bytes_of self.new) ≡ Some (bytes_of self.old)) }
         ensures cause { Counts (result ≡ Err SinkFault.Failed) (faults_of self.old) (faults_of self.new) }
+        ensures never { IsTrue (no_write_fails (sink_settings_of self.old)) → result ≢ Err SinkFault.Failed }
+        ensures uncounted { IsTrue (no_write_fails (sink_settings_of self.old)) → faults_of self.new ≡ faults_of self.old }
+        ensures kept { no_write_fails (sink_settings_of self.new) ≡ no_write_fails (sink_settings_of self.old) }
 
         // The writes that fail are those that were named.
-        ensures numbered { result ≡ Err SinkFault.Failed → IsFailingWrite (sink_settings_of self.old) }
-        ensures passes { OnOk result (¬ IsFailingWrite (sink_settings_of self.old)) }
-        ensures never { (sink_settings_of self.old).failing ≡ [] → result ≢ Err SinkFault.Failed }
+        ensures numbered { (result ≡ Err SinkFault.Failed) ↔ IsFailingWrite (sink_settings_of self.old) }
 
         // What it takes and leaves, exactly.
         ensures count { IfOk result (λ n. n ≡ min (length bytes.now) (sink_settings_of self.old).most) }
         ensures settings { sink_settings_of self.new ≡ settings_after_write (sink_settings_of self.old) result }
         ensures faults { faults_of self.new ≡ faults_after_write (faults_of self.old) result }
     {
+        let _count = self.faults;
         let call = self.calls;
         if self.failing.contains(&call) {
             self.calls = call.saturating_add(1);

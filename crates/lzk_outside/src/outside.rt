@@ -1,6 +1,6 @@
 //! What a shelf and a sink are, and why they refuse.
 
-ghost use Rattle.std.specs.Prelude.{◌≡◌, ◌<◌, ◌≤◌, List, ℕ, Option, length, take, IfOk, OnOk, OnErr};
+ghost use Rattle.std.specs.Prelude.{◌≡◌, ◌≢◌, ◌<◌, ◌≤◌, Bool, IsTrue, List, ℕ, Option, length, take, IfOk, OnOk, OnErr};
 ghost use Rattle.lzk_outside.specs.Outside.{Files, Reads, Holds, Torn, Appends, Counts};
 
 /// Why a shelf gave no bytes.
@@ -47,6 +47,9 @@ pub trait Shelf {
     /// How many reads were of a name that is not there.
     ghost misses: { Self → ℕ };
 
+    /// Nothing is listed to fail. While it is so no call fails, and no call changes it.
+    ghost never_fails: { Self → Bool };
+
     /// Fills the front of `buf` with the bytes of a name from byte `from` on, and answers how many.
     /// That may be fewer than there is room for. It is 0 at the end of the file and past it, and only
     /// there. Nothing is said of the bytes of `buf` after them.
@@ -59,7 +62,12 @@ pub trait Shelf {
         // A failure and a missing name are counted, and nothing else is answered so.
         ensures failed { Counts (result ≡ Err ShelfFault.Failed) (read_faults self.old) (read_faults self.new) }
         ensures missing { Counts (result ≡ Err ShelfFault.Missing) (misses self.old) (misses self.new) }
-        ensures puts { put_faults self.new ≡ put_faults self.old };
+        ensures puts { put_faults self.new ≡ put_faults self.old }
+
+        // Where nothing is listed to fail, nothing does, and it stays so.
+        ensures never { IsTrue (never_fails self.old) → result ≢ Err ShelfFault.Failed }
+        ensures uncounted { IsTrue (never_fails self.old) → read_faults self.new ≡ read_faults self.old }
+        ensures kept { never_fails self.new ≡ never_fails self.old };
 
     /// Makes a name hold exactly these bytes, whether or not it was there. A failure leaves under that
     /// name what was there, or a front of the new bytes.
@@ -72,7 +80,13 @@ pub trait Shelf {
         // A failure is counted, and nothing else is answered so.
         ensures cause { Counts (result ≡ Err PutFault.Failed) (put_faults self.old) (put_faults self.new) }
         ensures reads { read_faults self.new ≡ read_faults self.old }
-        ensures misses { misses self.new ≡ misses self.old };
+        ensures misses { misses self.new ≡ misses self.old }
+        ensures unfailed { result ≡ Err PutFault.OutOfMemory → put_faults self.new ≡ put_faults self.old }
+
+        // Where nothing is listed to fail, nothing does, and it stays so.
+        ensures never { IsTrue (never_fails self.old) → result ≢ Err PutFault.Failed }
+        ensures uncounted { IsTrue (never_fails self.old) → put_faults self.new ≡ put_faults self.old }
+        ensures kept { never_fails self.new ≡ never_fails self.old };
 }
 
 /// What is printed on.
@@ -82,6 +96,9 @@ pub trait Sink {
 
     /// How many writes failed. It never falls, and may stand still at the last value of u64.
     ghost faults: { Self → ℕ };
+
+    /// Nothing is listed to fail. While it is so no write fails, and no write changes it.
+    ghost never_fails: { Self → Bool };
 
     /// Takes some bytes, one or more, from the front of `bytes`, and answers how many. The caller goes
     /// on with the rest.
@@ -93,5 +110,10 @@ pub trait Sink {
         ensures err { OnErr result (written self.new ≡ written self.old) }
 
         // A failure is counted, and nothing else is answered so.
-        ensures cause { Counts (result ≡ Err SinkFault.Failed) (faults self.old) (faults self.new) };
+        ensures cause { Counts (result ≡ Err SinkFault.Failed) (faults self.old) (faults self.new) }
+
+        // Where nothing is listed to fail, nothing does, and it stays so.
+        ensures never { IsTrue (never_fails self.old) → result ≢ Err SinkFault.Failed }
+        ensures uncounted { IsTrue (never_fails self.old) → faults self.new ≡ faults self.old }
+        ensures kept { never_fails self.new ≡ never_fails self.old };
 }

@@ -1,22 +1,32 @@
 //! The shelf of files of the system, and standard output. They tell nothing of contents.
 
-ghost use Rattle.std.specs.Prelude.{◌≢◌, ◌≡◌, ◌<◌, ◌≤◌, None, IfOk, OnErr, length};
+ghost use Rattle.std.specs.Prelude.{◌≢◌, ◌≡◌, ◌<◌, ◌≤◌, false, None, IfOk, OnErr, length};
 ghost use Rattle.lzk_outside.specs.Outside.{Counts};
 ghost use Rattle.lzk_outside.specs.Tallies.{no_tally, tally_after_read, tally_after_put, faults_after_write};
 
 use crate::outside::{PutFault, Shelf, ShelfFault, Sink, SinkFault};
 use std::alloc::Global;
-use std::fs::File;
+use std::fs::{File, OpenFile};
 use std::io::{ErrorKind, Read, Seek, SeekFrom, Write};
 use std::rt::Files;
 use std::{fs, io};
 
-/// Files of the system, each opened anew at each call. A name is a path.
+// A file that is read on in order, and the place of its next byte. The name is None where there was no
+// memory to keep it: the file is then opened anew.
+#[derive(Drop)]
+struct Reading<T: Drop> {
+    name: Option<String>,
+    file: T,
+    at: u64,
+}
+
+/// Files of the system. A name is a path. A file stays open while it is read on in order, so that a pipe can be
+/// read too, and until another call comes.
 #[derive(Drop)]
 pub struct DiskShelf<R: Files + Drop> {
     rt: R,
-    // Each object of this crate keeps the allocator that it is made with. The system's files need none.
     alloc: Global,
+    reading: Option<Reading<R::File>>,
     read_faults: u64,
     put_faults: u64,
     misses: u64,
@@ -26,7 +36,7 @@ pub struct DiskShelf<R: Files + Drop> {
 #[derive(Drop)]
 pub struct StdoutSink<R: Print + Drop> {
     rt: R,
-    // Kept as in `DiskShelf`. Writing without a buffer needs none.
+    // Each object of this crate keeps the allocator that it is made with. Writing without a buffer needs none.
     alloc: Global,
     faults: u64,
 }
@@ -41,6 +51,7 @@ impl<R: Files + Drop> DiskShelf<R> {
         DiskShelf {
             rt,
             alloc,
+            reading: None,
             read_faults: 0,
             put_faults: 0,
             misses: 0,
@@ -48,13 +59,91 @@ impl<R: Files + Drop> DiskShelf<R> {
     }
 }
 
-// Reads once from a place of a file on.
-fn read_at<R: Files>(rt: &R, name: &str, from: u64, buf: &mut [u8]) -> io::Result<usize>
+// Whether this is the file of that name, and its next byte the one from there.
+fn goes_on<T: Drop>(reading: &Reading<T>, name: &str, from: u64) -> bool {
+    match &reading.name {
+        Some(known) => known.as_str() == name && reading.at == from,
+        None => false,
+    }
+}
+
+// Opens a file at a place. A pipe has no place to be sought, and is read from its front.
+fn open_at<R: Files>(rt: &R, alloc: Global, name: &str, from: u64) -> io::Result<Reading<R::File>> {
+    let mut file = File::open(rt, name)?;
+    if from > 0 {
+        file.seek(SeekFrom::Start(from))?;
+    }
+    Ok(Reading {
+        name: name.to_string(alloc).ok(),
+        file,
+        at: from,
+    })
+}
+
+// Reads once from a place of a file on, and keeps it open for what comes next.
+fn read_on<R: Files>(
+    rt: &R,
+    alloc: Global,
+    kept: &mut Option<Reading<R::File>>,
+    name: &str,
+    from: u64,
+    buf: &mut [u8],
+) -> io::Result<usize>
     ensures { IfOk result (λ n. n ≤ length buf.new) }
 {
-    let mut file = File::open(rt, name)?;
-    file.seek(SeekFrom::Start(from))?;
-    file.read(buf)
+    let mut reading = match kept.take() {
+        Some(reading) if goes_on(&reading, name, from) => reading,
+        _ => open_at(rt, alloc, name, from)?,
+    };
+    let count = reading.file.read(buf)?;
+    reading.at = from.saturating_add(count as u64);
+    *kept = Some(reading);
+    Ok(count)
+}
+
+// Whether a name may be replaced by another file: it is a plain file, or nothing is there. A device or a pipe is
+// written to as it is.
+fn is_replaceable<R: Files>(rt: &R, name: &str) -> bool {
+    match fs::symlink_metadata(rt, name) {
+        Ok(known) => known.is_file(),
+        Err(e) => e.kind() == ErrorKind::NotFound,
+    }
+}
+
+// A new file beside a name, if the name may be replaced and a file can be made there.
+fn file_beside<R: Files>(rt: &R, alloc: Global, name: &str) -> Option<(String, R::File)> {
+    if !is_replaceable(rt, name) {
+        return None;
+    }
+    let beside = format!(in alloc; "{name}.part").ok()?;
+    let file = File::create(rt, &beside).ok()?;
+    Some((beside, file))
+}
+
+// Writes a file whole and down to the disk, and then takes it for the name.
+fn fill<R: Files>(
+    rt: &R,
+    name: &str,
+    beside: &str,
+    mut file: R::File,
+    bytes: &[u8],
+) -> io::Result<()> {
+    file.write_all(bytes)?;
+    file.sync_all()?;
+    fs::rename(rt, beside, name)
+}
+
+// Makes a name hold these bytes. A stop in the middle leaves the old file whole, but where no file can be made
+// beside it: it is then written over in place.
+fn put_at<R: Files>(rt: &R, alloc: Global, name: &str, bytes: &[u8]) -> io::Result<()> {
+    let Some((beside, file)) = file_beside(rt, alloc, name) else {
+        return fs::write(rt, name, bytes);
+    };
+    let filled = fill(rt, name, &beside, file, bytes);
+    if filled.is_err() {
+        let _removed = fs::remove_file(rt, &beside);
+    }
+    filled
 }
 
 impl<R: Files + Drop> Shelf for DiskShelf<R> {
@@ -68,6 +157,8 @@ impl<R: Files + Drop> Shelf for DiskShelf<R> {
 
     ghost misses = { λ s. (tally_of s).misses };
 
+    ghost never_fails = { λ s. false };
+
     /// A file that is not found is missing, and every other error is a failure.
     fn read(&mut self, name: &str, from: u64, buf: &mut [u8]) -> Result<usize, ShelfFault>
         requires { 0 < length buf.old }
@@ -80,7 +171,10 @@ impl<R: Files + Drop> Shelf for DiskShelf<R> {
         ensures memory { result ≢ Err ShelfFault.OutOfMemory }
         ensures tally { tally_of self.new ≡ tally_after_read (tally_of self.old) result }
     {
-        match read_at(&self.rt, name, from, buf) {
+        // Each count is a u64, which the clauses learn where it is read.
+        let _reads = self.read_faults;
+        let _misses = self.misses;
+        match read_on(&self.rt, self.alloc, &mut self.reading, name, from, buf) {
             Ok(count) => Ok(count),
             Err(e) => {
                 if e.kind() == ErrorKind::NotFound {
@@ -94,7 +188,8 @@ impl<R: Files + Drop> Shelf for DiskShelf<R> {
         }
     }
 
-    /// Writes the whole file anew. Every error is a failure.
+    /// Writes the whole file anew: beside the old one under the name with `.part` behind it, which then takes its
+    /// place; or in place, where that cannot be done. Every error is a failure.
     fn put(&mut self, name: &str, bytes: &[u8]) -> Result<(), PutFault>
         ensures cause { Counts (result ≡ Err PutFault.Failed)
             (tally_of self.old).put_faults (tally_of self.new).put_faults }
@@ -103,7 +198,9 @@ impl<R: Files + Drop> Shelf for DiskShelf<R> {
         ensures memory { result ≢ Err PutFault.OutOfMemory }
         ensures tally { tally_of self.new ≡ tally_after_put (tally_of self.old) result }
     {
-        if fs::write(&self.rt, name, bytes).is_err() {
+        let _count = self.put_faults;
+        self.reading = None;
+        if put_at(&self.rt, self.alloc, name, bytes).is_err() {
             self.put_faults = self.put_faults.saturating_add(1);
             return Err(PutFault::Failed);
         }
@@ -143,6 +240,8 @@ impl<R: Print + Drop> Sink for StdoutSink<R> {
 
     ghost faults = { λ s. faults_of s };
 
+    ghost never_fails = { λ s. false };
+
     /// Writes and flushes. An error is a failure, and so is a write that takes nothing.
     fn write(&mut self, bytes: &[u8]) -> Result<usize, SinkFault>
         requires { 0 < length bytes.now }
@@ -152,6 +251,7 @@ impl<R: Print + Drop> Sink for StdoutSink<R> {
         ensures memory { result ≢ Err SinkFault.OutOfMemory }
         ensures faults { faults_of self.new ≡ faults_after_write (faults_of self.old) result }
     {
+        let _count = self.faults;
         match write_some(&self.rt, bytes) {
             Ok(count) if count != 0 => Ok(count),
             _ => {
