@@ -5,7 +5,7 @@ use Rattle.std.proofs.lemmas.Bool.{eqb-true, and_parts}
 use Rattle.lzk_field.specs.Ring.{Ops, RingLaws}
 use Rattle.lzk_field.specs.Sums.{sum_below}
 use Rattle.lzk_field.proofs.RingBasics.{zero_plus, zero_times, times_zero}
-use Rattle.lzk_field.proofs.SumLaws.{sum-ext, sum-zero, sum-plus, sum-single}
+use Rattle.lzk_field.proofs.SumLaws.{sum-ext, sum-zero, sum-plus, sum-single, sum-cond}
 use Rattle.lzk_circuit.specs.declared.layer.Term.{Term}
 use Rattle.lzk_circuit.specs.Wires.{is_at, coef, sum_pairs, wire, AreDistinct}
 
@@ -38,10 +38,6 @@ module _ {A : Type 0} (o : Ops A) (r : RingLaws o) where
   cond-and true q x = refl
   cond-and false q x = refl
 
-  sum-cond : (n : ℕ) (p : Bool) (f : ℕ → A) → sum_below o n (λ i. cond p (f i) o.zero) ≡ cond p (sum_below o n f) o.zero
-  sum-cond n true f = refl
-  sum-cond n false f = sum-zero o r n
-
   -- one place alone
   sum_triples-single : (k n : ℕ) (t : Term A) (f : ℕ → ℕ → ℕ → A) → t.g < k → t.a < n → t.b < n → sum_triples o k n (λ g a b. cond (is_at t g a b) (f g a b) o.zero) ≡ f t.g t.a t.b
   sum_triples-single k n t f lg la lb =
@@ -49,9 +45,9 @@ module _ {A : Type 0} (o : Ops A) (r : RingLaws o) where
       (λ g a b. cond-and (g == t.g) ((a == t.a) && (b == t.b)) (f g a b) ∙ ap (λ w. cond (g == t.g) w o.zero) (cond-and (a == t.a) (b == t.b) (f g a b)))
       ∙ sum-ext o r k (λ g. sum_pairs o n (λ a b. cond (g == t.g) (cond (a == t.a) (cond (b == t.b) (f g a b) o.zero) o.zero) o.zero)) (λ g. cond (g == t.g) (f g t.a t.b) o.zero)
       (λ g l. sum-ext o r n (λ a. sum_below o n (λ b. cond (g == t.g) (cond (a == t.a) (cond (b == t.b) (f g a b) o.zero) o.zero) o.zero)) (λ a. cond (g == t.g) (cond (a == t.a) (f g a t.b) o.zero) o.zero)
-      (λ a l. sum-cond n (g == t.g) (λ b. cond (a == t.a) (cond (b == t.b) (f g a b) o.zero) o.zero)
-      ∙ ap (λ w. cond (g == t.g) w o.zero) (sum-cond n (a == t.a) (λ b. cond (b == t.b) (f g a b) o.zero) ∙ ap (λ w. cond (a == t.a) w o.zero) (sum-single o r n t.b (f g a) lb)))
-      ∙ sum-cond n (g == t.g) (λ a. cond (a == t.a) (f g a t.b) o.zero)
+      (λ a l. sum-cond o r n (g == t.g) (λ b. cond (a == t.a) (cond (b == t.b) (f g a b) o.zero) o.zero)
+      ∙ ap (λ w. cond (g == t.g) w o.zero) (sum-cond o r n (a == t.a) (λ b. cond (b == t.b) (f g a b) o.zero) ∙ ap (λ w. cond (a == t.a) w o.zero) (sum-single o r n t.b (f g a) lb)))
+      ∙ sum-cond o r n (g == t.g) (λ a. cond (a == t.a) (f g a t.b) o.zero)
       ∙ ap (λ w. cond (g == t.g) w o.zero) (sum-single o r n t.a (λ a. f g a t.b) la))
       ∙ sum-single o r k t.g (λ g. f g t.a t.b) lg
 
@@ -98,6 +94,6 @@ module _ {A : Type 0} (o : Ops A) (r : RingLaws o) where
       ∙ sym (sum-single o r m k row l)
       ∙ sum-ext o r m (λ g. cond (g == k) (row g) o.zero) (λ g. sum_pairs o n (λ a b. times (coef o ts g a b) (cond (g == k) (pair a b) o.zero)))
       (λ g l. sym (sum_pairs-ext n (λ a b. times (coef o ts g a b) (cond (g == k) (pair a b) o.zero)) (λ a b. cond (g == k) (times (coef o ts g a b) (pair a b)) o.zero) (λ a b. times-cond (g == k) (coef o ts g a b) (pair a b))
-      ∙ sum-ext o r n (λ a. sum_below o n (λ b. cond (g == k) (times (coef o ts g a b) (pair a b)) o.zero)) (λ a. cond (g == k) (sum_below o n (λ b. times (coef o ts g a b) (pair a b))) o.zero) (λ a l. sum-cond n (g == k) (λ b. times (coef o ts g a b) (pair a b)))
-      ∙ sum-cond n (g == k) (λ a. sum_below o n (λ b. times (coef o ts g a b) (pair a b)))))
+      ∙ sum-ext o r n (λ a. sum_below o n (λ b. cond (g == k) (times (coef o ts g a b) (pair a b)) o.zero)) (λ a. cond (g == k) (sum_below o n (λ b. times (coef o ts g a b) (pair a b))) o.zero) (λ a l. sum-cond o r n (g == k) (λ b. times (coef o ts g a b) (pair a b)))
+      ∙ sum-cond o r n (g == k) (λ a. sum_below o n (λ b. times (coef o ts g a b) (pair a b)))))
       ∙ coefficient_sum m n ts (λ g a b. cond (g == k) (pair a b) o.zero) within

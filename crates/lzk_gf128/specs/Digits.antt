@@ -5,8 +5,8 @@ use Rattle.std.proofs.lemmas.Bool.{false≢true}
 use Rattle.std.specs.Int.{to_le_bytes, byte_at, bytes_low_first, w64}
 use Rattle.std.specs.Int.Bits.{xor_mod}
 use Rattle.std.proofs.Math.Nat.{zero-add, add-zero}
-use Rattle.std.proofs.lemmas.Nat.{pow-add}
 use native.Mathlib.Decide.{dec_lt}
+use Rattle.lzk_field.proofs.ByteForms.{pow_256}
 use Rattle.lzk_gf128.specs.Linear.{Additive}
 use Rattle.lzk_gf128.specs.Basis.{agree, and_spreads, same_by_test, compose, add_shr}
 use Rattle.lzk_gf128.specs.ByteLists.{byte_at_is}
@@ -19,13 +19,6 @@ byte_of : (i : ℕ) (k j n : ℕ) → j < k → slice_index (bytes_low_first i k
 byte_of i zero j n h = absurd (omega arith)
 byte_of i (suc k) zero n h = ap (λ w. byte_at w n) (sym (add-zero i))
 byte_of i (suc k) (suc j) n h = let e : suc i + j ≡ i + suc j = omega arith in byte_of (suc i) k j n (omega arith) ∙ ap (λ w. byte_at w n) e
-
-pow_256 : (k : ℕ) → 256 ^ k ≡ 2 ^ (8 * k)
-pow_256 zero = refl
-pow_256 (suc k) =
-    let e : 8 * suc k ≡ 8 + 8 * k = omega arith in
-    let twice : 256 ^ suc k ≡ 256 * 256 ^ k = omega arith in
-    twice ∙ ap (λ w. 256 * w) (pow_256 k) ∙ sym (pow-add 2 8 (8 * k)) ∙ ap (λ w. 2 ^ w) (sym e)
 
 abbrev byte : ℕ → ℕ → ℕ
 byte k n = lower_digits n / 2 ^ (8 * k) % 2 ^ 8

@@ -1,5 +1,4 @@
 pub mod Built
-pub mod Elements
 pub mod Law
 pub mod Levels
 pub mod Marks

@@ -4,11 +4,11 @@ use Rattle.std.proofs.Common.{zero, suc, sym, ap, ◌∙◌, arith, subst}
 use Rattle.lzk_field.specs.Ring.{Ops, RingLaws, FieldLaws, Laws}
 use Rattle.lzk_field.specs.Sums.{sum_below, minus, entry}
 use Rattle.lzk_field.proofs.RingBasics.{inverse_unique, same_from_difference}
-use Rattle.lzk_field.proofs.SumLaws.{sum-ext}
+use Rattle.lzk_field.proofs.SumLaws.{sum-ext, sum-first}
+use Rattle.lzk_field.proofs.Numbering.{points_apart}
 use Rattle.lzk_poly.specs.Extension.{IsExtension, extension, others}
 use Rattle.lzk_poly.specs.Weights.{IsEven, IsInverseTable, IsWeights, passed, part, parts, quotient_sum}
-use Rattle.lzk_poly.proofs.Polynomials.{sum-first}
-use Rattle.lzk_poly.proofs.Interpolate.{built-extension, weighted, extension_is, others_nonzero, points_apart}
+use Rattle.lzk_poly.proofs.Interpolate.{built-extension, weighted, extension_is, others_nonzero}
 use Rattle.lzk_poly.proofs.Inverses.{built-quotients}
 
 module _ {A : Type 0} (o : Ops A) (r : RingLaws o) where

@@ -2,12 +2,12 @@
 use Rattle.std.specs.Prelude.{◌≡◌, ◌≢◌, ℕ, ◌<◌, ◌≤◌, List, [], ◌∷◌, length, true, false, Bool, cond}
 use Rattle.std.proofs.Common.{zero, suc, refl, sym, ap, ◌∙◌, arith, eqb}
 use Rattle.std.proofs.lemmas.Bool.{eqb-true, eq-eqb, false≢true}
-use Rattle.std.proofs.Math.Nat.{mod-eq_of_lt}
 use native.Mathlib.Decide.{dec_lt}
-use Rattle.lzk_field.specs.Ring.{Ops, RingLaws, FieldLaws, NumberLaws, Laws}
+use Rattle.lzk_field.specs.Ring.{Ops, RingLaws, FieldLaws, Laws}
 use Rattle.lzk_field.specs.Sums.{minus, product_below, sum_below, entry}
 use Rattle.lzk_poly.specs.Polynomial.{eval}
 use Rattle.lzk_field.proofs.RingBasics.{zero_plus, times_zero, zero_times, same_from_difference, no_divisors, inverse_unique}
+use Rattle.lzk_field.proofs.Numbering.{points_apart}
 use Rattle.lzk_field.proofs.SumLaws.{sum-ext, sum-times}
 use Rattle.lzk_field.proofs.Solve.{var, null, unit, ◌⊞◌, ◌⊟◌, ◌⊠◌, solve}
 use Rattle.lzk_poly.specs.Extension.{IsThrough, IsInterpolated, IsExtension, others, lagrange, extension}
@@ -222,11 +222,6 @@ module _ {A : Type 0} (o : Ops A) (r : RingLaws o) where
         (λ i h. r.times_assoc _ _ _ ∙ ap (o.times (entry o values i)) (r.times_comm _ _ ∙ ap (o.times (others o point n i (point j))) (inverse_unique o r f (others o point n i (point i)) (w i) (r.times_comm _ _ ∙ weights i h))))
 
 module _ {A : Type 0} (o : Ops A) (r : RingLaws o) (f : FieldLaws o) where
-  pub elements_apart : (size : ℕ) (number : A → ℕ) (element : ℕ → A) → (bytes : ℕ) → NumberLaws o size number element bytes → (n : ℕ) → n ≤ 65536 → (i j : ℕ) → i < j → j < n → element i ≢ element j
-  elements_apart size number element bytes laws n h i j p q e =
-      let same : i ≡ j = sym (mod-eq_of_lt (omega (arith, laws.points))) ∙ sym (laws.number_element i) ∙ ap number e ∙ laws.number_element j ∙ mod-eq_of_lt (omega (arith, laws.points)) in
-      omega arith
-
   pub others_nonzero : (point : ℕ → A) (n : ℕ) → ((i j : ℕ) → i < j → j < n → point i ≢ point j) → (m i : ℕ) → m ≤ n → i < n → others o point m i (point i) ≢ o.zero
   others_nonzero point n apart zero i h p e = f.one_not_zero e
   others_nonzero point n apart (suc m) i h p e = split (eqb m i) refl (others_nonzero point n apart m i (omega arith) p) e
@@ -257,8 +252,5 @@ module _ {A : Type 0} (o : Ops A) (r : RingLaws o) (f : FieldLaws o) where
 
 -- the same of a field's own points
 module _ {A : Type 0} {o : Ops A} {size : ℕ} {number_of : A → ℕ} {element : ℕ → A} {bytes : ℕ} (laws : Laws o size number_of element bytes) where
-  pub points_apart : (n : ℕ) → n ≤ 65536 → (i j : ℕ) → i < j → j < n → element i ≢ element j
-  points_apart n h = elements_apart o laws.ring laws.field size number_of element bytes laws.numbers n h
-
   pub points_interpolated : (values : List A) → length values ≤ 65536 → IsInterpolated o element values
-  points_interpolated values h = one_through o laws.ring laws.field element values (points_apart (length values) h)
+  points_interpolated values h = one_through o laws.ring laws.field element values (points_apart laws (length values) h)

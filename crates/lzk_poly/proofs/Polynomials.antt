@@ -4,7 +4,7 @@ use Rattle.std.proofs.Common.{zero, suc, refl, sym, ap, ◌∙◌, arith}
 use Rattle.lzk_field.specs.Ring.{Ops, RingLaws, FieldLaws}
 use Rattle.lzk_field.specs.Sums.{sum_below, power, entry, minus}
 use Rattle.lzk_field.proofs.RingBasics.{zero_plus, times_zero, same_from_difference}
-use Rattle.lzk_field.proofs.SumLaws.{sum-ext, sum-times}
+use Rattle.lzk_field.proofs.SumLaws.{sum-ext, sum-times, sum-first}
 use Rattle.lzk_field.proofs.Solve.{var, null, unit, opp, ◌⊞◌, ◌⊟◌, ◌⊠◌, solve}
 use Rattle.lzk_poly.specs.Polynomial.{eval, power_sum, add, scale, multiply}
 use Rattle.lzk_poly.proofs.Roots.{roots, zeros_eval}
@@ -40,10 +40,6 @@ module _ {A : Type 0} (o : Ops A) where
       length-add_right (scale o x (y ∷ ys)) (o.zero ∷ multiply o (z ∷ xs) (y ∷ ys)) (omega (arith, length-scale x (y ∷ ys))) ∙ ap suc rest ∙ omega arith
 
 module _ {A : Type 0} (o : Ops A) (r : RingLaws o) where
-  pub sum-first : (n : ℕ) (f : ℕ → A) → sum_below o (suc n) f ≡ o.plus (f 0) (sum_below o n (λ k. f (suc k)))
-  sum-first zero f = r.plus_comm o.zero (f 0)
-  sum-first (suc n) f = ap (λ w. o.plus w (f (suc n))) (sum-first n f) ∙ r.plus_assoc (f 0) (sum_below o n (λ k. f (suc k))) (f (suc n))
-
   -- the value is the sum of each coefficient times a power
   pub eval-power_sum : (cs : List A) (t : A) → eval o cs t ≡ power_sum o cs t
   eval-power_sum [] t = refl
@@ -54,7 +50,7 @@ module _ {A : Type 0} (o : Ops A) (r : RingLaws o) where
       ap (λ w. o.plus c (o.times t w)) (eval-power_sum cs t)
       ∙ ap (o.plus c) (sym (sum-times o r n t f) ∙ sum-ext o r n (λ k. o.times t (f k)) g (λ k h. r.times_comm _ _ ∙ r.times_assoc _ _ _))
       ∙ ap (λ w. o.plus w (sum_below o n g)) (sym (r.times_one c))
-      ∙ sym (sum-first n (λ k. o.times (entry o (c ∷ cs) k) (power o t k)))
+      ∙ sym (sum-first o r n (λ k. o.times (entry o (c ∷ cs) k) (power o t k)))
 
   pub eval-scale : (u : A) (xs : List A) (t : A) → eval o (scale o u xs) t ≡ o.times u (eval o xs t)
   eval-scale u [] t = sym (times_zero o r u)

@@ -3,19 +3,14 @@ use Rattle.std.specs.Prelude.{◌≡◌, ◌≢◌, ℕ, ◌+◌, ◌<◌, ◌�
 use Rattle.std.proofs.Common.{◌⊎◌, inl, inr, refl, sym, ap, ◌∙◌, arith, subst, get_or}
 use Rattle.std.proofs.lemmas.Bool.{or_cases, or_left, or_right, and_parts, ltb-true, lt-ltb, eqb-true, eq-eqb}
 use Rattle.std.proofs.lemmas.List.{map-append, take_more, take_all}
-use Rattle.lzk_field.specs.Ring.{Ops, RingLaws, FieldLaws, NumberLaws}
-use Rattle.lzk_field.proofs.RingBasics.{zero_plus, zero_times, times_zero}
+use Rattle.lzk_field.specs.Ring.{Ops, RingLaws, FieldLaws}
+use Rattle.lzk_field.proofs.RingBasics.{zero_plus, zero_times, times_zero, product_nonzero}
 use Rattle.lzk_circuit.specs.declared.layer.Term.{Term}
 use Rattle.lzk_circuit.specs.Valid.{precedes, follows, AreTerms}
 use Rattle.lzk_reduce.specs.Rows.{IsRow, row_value, term_value, multiplied, Less, added}
 
 module _ {A : Type 0} (o : Ops A) (r : RingLaws o) where
   open o use {plus, times}
-
-  -- a product is zero only where a factor is
-  pub product_nonzero : FieldLaws o → (x y : A) → x ≢ o.zero → y ≢ o.zero → times x y ≢ o.zero
-  product_nonzero f x y hx hy e =
-      hy (sym (r.times_one y) ∙ ap (times y) (sym (f.times_inverse x hx)) ∙ sym (r.times_assoc y x (o.inverse x)) ∙ ap (λ w. times w (o.inverse x)) (r.times_comm y x ∙ e) ∙ zero_times o r (o.inverse x))
 
   pub multiple-value : (c : A) (below : List A) (row : List (Term A)) → row_value o below (map (multiplied o c) row) ≡ times c (row_value o below row)
   multiple-value c below [] = sym (times_zero o r c)
@@ -36,7 +31,7 @@ module _ {A : Type 0} (o : Ops A) (r : RingLaws o) where
   multiple-terms f c nz wires width before [] h = tt
   multiple-terms f c nz wires width before (t ∷ ts) h =
       let one = h.0 in
-      (record { g = one.g; a = one.a; b = one.b; coef = product_nonzero f c t.coef nz one.coef }, multiple-follows c before t h.1, multiple-terms f c nz wires width (Some t) ts h.2)
+      (record { g = one.g; a = one.a; b = one.b; coef = product_nonzero o r f c t.coef nz one.coef }, multiple-follows c before t h.1, multiple-terms f c nz wires width (Some t) ts h.2)
 
   pub multiple-row : FieldLaws o → (c : A) → c ≢ o.zero → (width : ℕ) (row : List (Term A)) → IsRow o width row → IsRow o width (map (multiplied o c) row)
   multiple-row f c nz width row h = multiple-terms f c nz 1 width None row h
@@ -44,10 +39,6 @@ module _ {A : Type 0} (o : Ops A) (r : RingLaws o) where
   pub value-append : (below : List A) (xs ys : List (Term A)) → row_value o below (xs ++ ys) ≡ plus (row_value o below xs) (row_value o below ys)
   value-append below [] ys = sym (zero_plus o r (row_value o below ys))
   value-append below (x ∷ xs) ys = ap (plus (term_value o below x)) (value-append below xs ys) ∙ sym (r.plus_assoc (term_value o below x) (row_value o below xs) (row_value o below ys))
-
--- an element is zero exactly where its number is
-pub zero_by_number : {A : Type 0} (o : Ops A) (size : ℕ) (number : A → ℕ) (element : ℕ → A) (bytes : ℕ) → NumberLaws o size number element bytes → (x : A) → number x ≡ 0 → x ≡ o.zero
-zero_by_number o size number element bytes laws x e = sym (laws.element_number x) ∙ ap element (e ∙ sym laws.zero_number) ∙ laws.element_number o.zero
 
 module _ {X Y : Type 0} where
   -- one more of a list's images

@@ -1,9 +1,8 @@
 -- The tape (the profile in docs/FORMATS.md, section 7): what each write appends, and what each draw gives.
-use Rattle.std.specs.Prelude.{ℕ, ◌+◌, ◌%◌, ◌^◌, List, [], ◌∷◌, ◌++◌, cond, nat_eq, length, map, replicate}
-use Rattle.std.specs.List.{concat}
+use Rattle.std.specs.Prelude.{ℕ, ◌+◌, ◌%◌, ◌^◌, List, [], ◌∷◌, ◌++◌, cond, nat_eq, length, replicate}
 use Rattle.sha2.specs.Sha256.{sha256}
 use Rattle.lzk_aes.specs.Aes.{aes}
-use Rattle.lzk_field.specs.Bytes.{bytes_of, number_from}
+use Rattle.lzk_field.specs.Bytes.{bytes_of, number_from, elements_bytes}
 
 -- a seed of 32 bytes, the bytes pending since that seed, and a counter
 pub record TapeState : Type 0 where
@@ -31,13 +30,9 @@ bytes_entry b = 0 ∷ bytes_of 8 (length b) ++ b
 unfoldable pub element_entry : ℕ → ℕ → List ℕ
 element_entry width n = 1 ∷ bytes_of width n
 
--- the bytes of elements, one after another, by their numbers
-abbrev pub element_bytes : ℕ → List ℕ → List ℕ
-element_bytes width ns = concat (map (bytes_of width) ns)
-
 -- what a list of elements appends, by their numbers: its mark, how many they are in eight bytes, their bytes
 unfoldable pub array_entry : ℕ → List ℕ → List ℕ
-array_entry width ns = 2 ∷ bytes_of 8 (length ns) ++ element_bytes width ns
+array_entry width ns = 2 ∷ bytes_of 8 (length ns) ++ elements_bytes width ns
 
 -- what a draw does first: where bytes are pending, the seed becomes the hash of the seed and these bytes
 unfoldable pub flushed : TapeState → TapeState

@@ -1,14 +1,14 @@
 //! Elements as bytes, one after another.
 
+ghost use Rattle.lzk_field.specs.Bytes.{elements_bytes};
 ghost use Rattle.std.specs.Prelude.{◌≡◌, ◌*◌, length, map};
-ghost use Rattle.lzk_transcript.specs.Tape.{element_bytes};
 
 use lzk_field::Field;
 
 /// Writes the elements' bytes.
 pub fn write_elements<F: Field>(elements: &[F], out: &mut [u8])
     requires { length out.old ≡ length elements.now * F.BYTES }
-    ensures { out.new ≡ element_bytes F.BYTES (map F.number_of elements.now) }
+    ensures { out.new ≡ elements_bytes F.BYTES (map F.number_of elements.now) }
 {
     for i in 0..elements.len() {
         elements[i].to_le(&mut out[i * F::BYTES..(i + 1) * F::BYTES]);

@@ -2,9 +2,9 @@
 #![tactic(auto, unfolding(crate::specs::Tape::of_seed, crate::specs::Tape::new_tape, crate::specs::Tape::appended, crate::specs::Tape::flushed, crate::specs::Tape::drawn, crate::specs::Tape::after_draw))]
 
 ghost use Rattle.std.specs.Prelude.{◌≡◌, ℕ, ◌<◌, ◌≤◌, ◌∷◌, length, map, slice_index};
-ghost use Rattle.lzk_field.specs.Bytes.{bytes_of};
+ghost use Rattle.lzk_field.specs.Bytes.{elements_bytes, bytes_of};
 ghost use Rattle.lzk_transcript.specs.Columns.{after_draws, opened};
-ghost use Rattle.lzk_transcript.specs.Tape.{of_seed, new_tape, appended, bytes_entry, element_entry, array_entry, element_bytes, flushed, drawn, after_draw};
+ghost use Rattle.lzk_transcript.specs.Tape.{of_seed, new_tape, appended, bytes_entry, element_entry, array_entry, flushed, drawn, after_draw};
 
 use crate::columns::insert;
 use crate::elements::write_elements;
@@ -92,7 +92,7 @@ impl Tape {
 
     fn append_elements<F: Field>(&mut self, elements: &[F])
         requires { length elements.now ≤ BLOCK }
-        ensures { self.new ≡ appended (element_bytes F.BYTES (map F.number_of elements.now)) self.old }
+        ensures { self.new ≡ appended (elements_bytes F.BYTES (map F.number_of elements.now)) self.old }
     {
         let mut block = [0; BLOCK * LONGEST];
         let used = elements.len() * F::BYTES;

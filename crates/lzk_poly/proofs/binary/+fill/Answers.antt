@@ -2,8 +2,8 @@ use Rattle.std.proofs.Common.{◌≡◌, ℕ, ◌+◌, ◌-◌, ◌/◌, suc, le
 use Rattle.lzk_field.specs.Sums.{entry}
 use Rattle.lzk_poly.specs.Products.{spread, IsAligned, IsBinary}
 use Rattle.lzk_poly.proofs.BinaryProducts.{below_high, below_low, fill_high, fill_low, fill_whole, halves}
-use Rattle.lzk_poly.proofs.Inverses.{zero_element}
-use Rattle.lzk_poly.proofs.ProductLaws.{entries_joined}
+use Rattle.lzk_field.proofs.Numbering.{zero_element}
+use Rattle.lzk_field.proofs.EntryLaws.{entries_joined}
 use Rattle.lzk_poly.proofs.binary.+fill.Goals as goal
 
 pub returns-then-count-size : goal.returns-then-count-size
@@ -11,7 +11,7 @@ returns-then-count-size g t c =
     let m = g.F.Field in
     λ h running inverted i l.
     c.set_all-then-count-size.ensures i l
-    ∙ fill_whole m.ops m.laws.ring m.element h c.args.bits c.args.base c.args.count (length c.args.out.now) i c.args.scale c.with_block.result (zero_element m.laws) c.requires.whole c.requires.binary c.requires.aligned c.if-count-size.true (omega arith)
+    ∙ fill_whole m.ops m.laws.ring m.element h c.args.bits c.args.base c.args.count (length c.args.out.now) i c.args.scale c.with_block.result (zero_element m.laws.numbers) c.requires.whole c.requires.binary c.requires.aligned c.if-count-size.true (omega arith)
     (c.with_block.ensures (λ k. h (m.element k)) running inverted)
 
 pub fill-requires-clause-whole : goal.fill-requires-clause-whole
@@ -77,9 +77,9 @@ returns-else-count-half g t c =
     let back : length high ≡ half = omega (arith, parts.2, c.split_at_mut-low.ensures.back_len) in
     λ h running inverted.
     entries_joined o (λ i y. y ≡ o.times c.args.scale (spread o h m.element c.args.count (m.element (base + i)))) low high
-    (λ i l. fill_low o m.laws.ring m.element h (bits - 1) base c.args.count half i c.args.scale c.with_block-near.result (entry o low i) (zero_element m.laws) parts.1 binary aligned (omega arith) (omega (arith, parts.2)) (omega (arith, front))
+    (λ i l. fill_low o m.laws.ring m.element h (bits - 1) base c.args.count half i c.args.scale c.with_block-near.result (entry o low i) (zero_element m.laws.numbers) parts.1 binary aligned (omega arith) (omega (arith, parts.2)) (omega (arith, front))
     (c.with_block-near.ensures (λ k. h (m.element k)) running inverted) (c.fill-else-count-half.ensures h running inverted i l))
     (λ i l. let place : base + half + i ≡ base + (length low + i) = omega (arith, front) in
-    fill_high o m.laws.ring m.element h (bits - 1) base c.args.count half i c.args.scale c.with_block-far.result (entry o high i) (zero_element m.laws) parts.1 binary aligned (omega arith) (omega (arith, parts.2)) (omega (arith, back))
+    fill_high o m.laws.ring m.element h (bits - 1) base c.args.count half i c.args.scale c.with_block-far.result (entry o high i) (zero_element m.laws.numbers) parts.1 binary aligned (omega arith) (omega (arith, parts.2)) (omega (arith, back))
     (c.with_block-far.ensures (λ k. h (m.element k)) running inverted) (c.fill-else-count-half-2.ensures h running inverted i l)
     ∙ ap (λ k. o.times c.args.scale (spread o h m.element c.args.count (m.element k))) place)

@@ -1,6 +1,6 @@
+use Rattle.lzk_field.specs.Bytes.{elements_bytes}
 use Rattle.std.proofs.Common.{◌≡◌, ◌*◌, take, map}
-use Rattle.lzk_transcript.specs.Tape.{element_bytes}
 use Rattle.lzk_transcript.proofs.elements.write_elements.Given as goal
 
 abbrev pub invariant-loop-i : goal.invariant-loop-i
-invariant-loop-i g l = take (l.i * g.F.Field.BYTES) l.out ≡ element_bytes g.F.Field.BYTES (map g.F.Field.number_of (take l.i l.elements))
+invariant-loop-i g l = take (l.i * g.F.Field.BYTES) l.out ≡ elements_bytes g.F.Field.BYTES (map g.F.Field.number_of (take l.i l.elements))

@@ -1,7 +1,7 @@
 use Rattle.std.proofs.Common.{rules, ◌≡◌, ◌+◌, ◌-◌, ◌<◌, length, ap, ◌∙◌, arith, sym}
 use Rattle.std.proofs.lemmas.List.{get_or_default}
 use Rattle.lzk_poly.specs.Weights.{parts, passed}
-use Rattle.lzk_poly.proofs.Interpolate.{points_apart}
+use Rattle.lzk_field.proofs.Numbering.{points_apart}
 use Rattle.lzk_poly.proofs.Extensions.{extension-given}
 use Rattle.lzk_poly.proofs.Blocks.{parts_extension, is_extension_of}
 use Rattle.lzk_poly.proofs.extender.Extender.extend_at.Goals as goal

@@ -1,10 +1,11 @@
+use Rattle.lzk_field.specs.Bytes.{elements_bytes}
 use Rattle.std.proofs.Common.{◌≡◌, map, length}
-use Rattle.lzk_transcript.specs.Tape.{appended, array_entry, element_bytes}
+use Rattle.lzk_transcript.specs.Tape.{appended, array_entry}
 use Rattle.lzk_transcript.proofs.tape.Tape.array.Given as goal
 
 abbrev pub invariant-loop-rest : goal.invariant-loop-rest
 invariant-loop-rest g l =
-    appended (element_bytes g.F.Field.BYTES (map g.F.Field.number_of l.rest)) l.self
+    appended (elements_bytes g.F.Field.BYTES (map g.F.Field.number_of l.rest)) l.self
     ≡ appended (array_entry g.F.Field.BYTES (map g.F.Field.number_of l.es)) l.fn.self
 
 abbrev pub decreases-loop-rest : goal.decreases-loop-rest
