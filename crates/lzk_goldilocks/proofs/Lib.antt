@@ -1,3 +1,4 @@
 pub mod Delayed
 pub mod Descent
 pub mod Found
+pub mod Orders

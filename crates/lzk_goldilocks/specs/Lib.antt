@@ -3,3 +3,4 @@ pub mod Pigeonhole
 pub mod Powers
 pub mod Primality
 pub mod Elements
+pub mod Roots

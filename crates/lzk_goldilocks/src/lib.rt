@@ -10,13 +10,16 @@
 //! let three = Gold::point(3);
 //! let nine = three.mul(three);
 //! let third = three.inv();
+//! let fourth_root = lzk_goldilocks::root_of_unity(2);
 //! ```
 #![tactic(auto)]
 
 mod arithmetic;
 mod element;
+mod roots;
 
 pub use element::Gold;
+pub use roots::root_of_unity;
 
 #[cfg(test)]
 mod tests;

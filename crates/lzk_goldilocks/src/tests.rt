@@ -4,12 +4,13 @@ mod vectors;
 
 ghost use Rattle.std.specs.Prelude.{◌≡◌, length};
 
-use super::Gold;
+use super::{Gold, root_of_unity};
 use lzk_field::Field;
 use std::alloc::{AllocError, Global};
 use std::test::Fail;
 use vectors::{
-    BYTES, DOTS, INVERSES, LEFT, NEGATIVES, NO_ELEMENTS, NUMBERS, PRODUCTS, RIGHT, SUMS, WORDS,
+    BYTES, DOTS, INVERSES, LEFT, NEGATIVES, NO_ELEMENTS, NUMBERS, PRODUCTS, RIGHT, ROOTS, SUMS,
+    WORDS,
 };
 
 fn of<F: Field>(n: u64) -> F {
@@ -170,4 +171,18 @@ fn dot_is_the_sum_of_the_products(rt: HostRuntime) -> Result<(), Fail> {
     let right = elements(&RIGHT, rt.alloc())?;
     assert_eq!(rt; wrong_dot(&left, &right, &DOTS), None);
     Ok(())
+}
+
+fn wrong_root(roots: &[u64; 33]) -> Option<u32> {
+    for k in 0..33 {
+        if root_of_unity(k).number() != roots[k as usize] as u128 {
+            return Some(k);
+        }
+    }
+    None
+}
+
+#[test]
+fn roots_of_unity_are_powers_of_seven(rt: HostRuntime) {
+    assert_eq!(rt; wrong_root(&ROOTS), None);
 }
