@@ -2,10 +2,5 @@ pub mod Product
 pub mod Linear
 pub mod Table
 pub mod Inverse
-pub mod Basis
-pub mod ByteLists
-pub mod Digits
-pub mod Squares
-pub mod Multiples
-pub mod Sums
 pub mod Elements
+pub mod Bodies

@@ -13,11 +13,9 @@ ghost use Rattle.std.specs.Prelude.{
   bit_xor,
   slice_index,
 };
+ghost use Rattle.lzk_gf128.specs.Bodies.{IsMultiples, numbered, in_wide, spread, beside, joined, squared};
 ghost use Rattle.lzk_gf128.specs.Product.{product, moved};
-ghost use Rattle.lzk_gf128.specs.Multiples.{IsMultiples, entry};
-ghost use Rattle.lzk_gf128.specs.Sums.{in_wide};
 ghost use Rattle.lzk_gf128.specs.Inverse.{inverse};
-ghost use Rattle.lzk_gf128.specs.Squares.{spread, beside, joined, squared};
 
 // x times a.
 fn doubled(a: u128) -> u128
@@ -79,7 +77,7 @@ struct Table {
 impl Table {
     #[inline(always)]
     fn of(all: &[u128; 16]) -> Table
-        ensures { (i : ℕ) → i < 16 → entry result.low result.high i ≡ slice_index all.now i }
+        ensures { (i : ℕ) → i < 16 → numbered result.low result.high i ≡ slice_index all.now i }
     {
         let mut table = Table {
             low: [0; 16],
@@ -96,7 +94,7 @@ impl Table {
     #[inline(always)]
     fn at(&self, digit: u8) -> u128
         requires { digit < 16 }
-        ensures { result ≡ entry self.now.low self.now.high digit }
+        ensures { result ≡ numbered self.now.low self.now.high digit }
     {
         joined(self.high[digit as usize], self.low[digit as usize])
     }
@@ -108,7 +106,7 @@ fn joined(upper: u64, lower: u64) -> u128
     ((upper as u128) << 64) ^ (lower as u128)
 }
 
-#[tactic(auto, using(crate::specs::Basis::over_128_is))]
+#[tactic(auto, using(crate::proofs::Basis::over_128_is))]
 fn over_128(n: u128) -> u128
     ensures { result ≡ moved 128 n }
 {
@@ -174,7 +172,7 @@ impl Wide {
         requires place { k < 8 }
         requires first { slice_index x.now k < 16 }
         requires second { slice_index y.now k < 16 }
-        ensures value { in_wide result ≡ bit_xor (moved 4 (in_wide self)) (bit_xor (entry table.now.low table.now.high (slice_index x.now k)) (moved 64 (entry table.now.low table.now.high (slice_index y.now k)))) }
+        ensures value { in_wide result ≡ bit_xor (moved 4 (in_wide self)) (bit_xor (numbered table.now.low table.now.high (slice_index x.now k)) (moved 64 (numbered table.now.low table.now.high (slice_index y.now k)))) }
         ensures room { (j : ℕ) → j ≤ 64 → self.high < 2 ^ (60 + j) → result.high < 2 ^ (64 + j) }
     {
         self.digit_on(table.at(x[k]), table.at(y[k]))
@@ -234,7 +232,7 @@ fn beside(n: u64, by: u32, mask: u64) -> u64
     (n ^ (n << by)) & mask
 }
 
-#[tactic(auto, using(crate::specs::Squares::spread_is))]
+#[tactic(auto, using(crate::proofs::Squares::spread_is))]
 fn spread(n: u32) -> u64
     ensures { result ≡ spread n }
 {

@@ -4,7 +4,7 @@ ghost use Rattle.std.specs.Prelude.{◌≡◌, ◌<◌, ◌^◌, length};
 ghost use Rattle.lzk_field.specs.Bytes.{bytes_of, number_from};
 
 /// Writes a number as 16 bytes, the lowest first.
-#[tactic(auto, using(crate::specs::ByteLists::to_le_bytes_16, crate::specs::ByteLists::bytes_back))]
+#[tactic(auto, using(crate::proofs::ByteLists::to_le_bytes_16, crate::proofs::ByteLists::bytes_back))]
 pub fn write(n: u128, out: &mut [u8])
     requires { length out.old ≡ 16 }
     ensures bytes { out.new ≡ bytes_of 16 n }

@@ -1,5 +1,5 @@
 use Rattle.std.proofs.Common.{rules, ap, ◌∙◌, slice_index}
-use Rattle.lzk_gf128.specs.Digits.{digits_are}
+use Rattle.lzk_gf128.proofs.Digits.{digits_are}
 use Rattle.lzk_gf128.proofs.arith.digits.Goals as goal
 
 pub returns : goal.returns

@@ -1,7 +1,7 @@
 use Rattle.std.proofs.Common.{rules, ◌≡◌, ◌<◌, ◌^◌, ap, ◌∙◌}
 use Rattle.lzk_gf128.specs.Product.{product}
 use Rattle.lzk_gf128.specs.Inverse.{power_most, inverse_is}
-use Rattle.lzk_gf128.specs.Squares.{power_sum, power_one}
+use Rattle.lzk_gf128.proofs.Squares.{power_sum, power_one}
 use Rattle.lzk_gf128.proofs.arith.invert.Goals as goal
 
 pub returns : goal.returns

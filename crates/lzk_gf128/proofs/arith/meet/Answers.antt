@@ -1,6 +1,7 @@
 use Rattle.std.proofs.Common.{◌≡◌, sym, ap, ◌∙◌, arith}
+use Rattle.lzk_gf128.specs.Bodies.{squared}
 use Rattle.lzk_gf128.specs.Product.{product}
-use Rattle.lzk_gf128.specs.Squares.{squared, squared-zero, squared-more}
+use Rattle.lzk_gf128.proofs.Squares.{squared-zero, squared-more}
 use Rattle.lzk_gf128.proofs.arith.meet.Goals as goal
 
 pub loop-init : goal.loop-init

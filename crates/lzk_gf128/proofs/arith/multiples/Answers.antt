@@ -1,4 +1,4 @@
-use Rattle.lzk_gf128.specs.Multiples.{multiples_are}
+use Rattle.lzk_gf128.proofs.Multiples.{multiples_are}
 use Rattle.lzk_gf128.proofs.arith.multiples.Goals as goal
 
 pub returns : goal.returns

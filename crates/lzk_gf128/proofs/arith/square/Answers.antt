@@ -1,5 +1,6 @@
 use Rattle.std.proofs.Common.{rules, ◌/◌, ◌%◌, ◌^◌, ap, ◌∙◌}
-use Rattle.lzk_gf128.specs.Squares.{spread, joined, folded, quick_square_is}
+use Rattle.lzk_gf128.specs.Bodies.{spread, joined}
+use Rattle.lzk_gf128.proofs.Squares.{folded, quick_square_is}
 use Rattle.lzk_gf128.proofs.arith.square.Goals as goal
 
 pub returns : goal.returns

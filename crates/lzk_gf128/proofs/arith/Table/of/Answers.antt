@@ -1,5 +1,5 @@
 use Rattle.std.proofs.Common.{rules, refl, arith}
-use Rattle.lzk_gf128.specs.Multiples.{words-more}
+use Rattle.lzk_gf128.proofs.Multiples.{words-more}
 use Rattle.lzk_gf128.proofs.arith.Table.of.Goals as goal
 
 pub loop-i-init : goal.loop-i-init

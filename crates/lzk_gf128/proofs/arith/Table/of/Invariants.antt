@@ -1,4 +1,4 @@
-use Rattle.lzk_gf128.specs.Multiples.{InWords}
+use Rattle.lzk_gf128.proofs.Multiples.{InWords}
 use Rattle.lzk_gf128.proofs.arith.Table.of.Given as goal
 
 abbrev pub invariant-loop-i : goal.invariant-loop-i

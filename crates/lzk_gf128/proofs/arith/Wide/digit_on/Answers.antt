@@ -1,6 +1,6 @@
 use Rattle.std.proofs.Common.{rules}
-use Rattle.lzk_gf128.specs.Basis.{high_more}
-use Rattle.lzk_gf128.specs.Sums.{wide_digit}
+use Rattle.lzk_gf128.proofs.Basis.{high_more}
+use Rattle.lzk_gf128.proofs.Sums.{wide_digit}
 use Rattle.lzk_gf128.proofs.arith.Wide.digit_on.Goals as goal
 
 pub returns-clause-value : goal.returns-clause-value

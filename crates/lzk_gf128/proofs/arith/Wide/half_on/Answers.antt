@@ -1,5 +1,5 @@
 use Rattle.std.proofs.Common.{rules}
-use Rattle.lzk_gf128.specs.Basis.{both_32}
+use Rattle.lzk_gf128.proofs.Basis.{both_32}
 use Rattle.lzk_gf128.proofs.arith.Wide.half_on.Goals as goal
 
 pub returns : goal.returns

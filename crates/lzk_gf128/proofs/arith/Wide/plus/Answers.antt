@@ -1,4 +1,4 @@
-use Rattle.lzk_gf128.specs.Sums.{wide_plus}
+use Rattle.lzk_gf128.proofs.Sums.{wide_plus}
 use Rattle.lzk_gf128.proofs.arith.Wide.plus.Goals as goal
 
 pub returns : goal.returns

@@ -1,6 +1,6 @@
 use Rattle.std.proofs.Common.{◌≡◌, ◌+◌, ◌*◌, ◌/◌, ◌%◌, ◌^◌, ◌<◌}
-use Rattle.lzk_gf128.specs.Multiples.{both, front}
-use Rattle.lzk_gf128.specs.Sums.{in_wide}
+use Rattle.lzk_gf128.specs.Bodies.{in_wide}
+use Rattle.lzk_gf128.proofs.Multiples.{both, front}
 use Rattle.lzk_gf128.proofs.arith.Wide.product.Given as goal
 
 abbrev pub invariant-loop-i : goal.invariant-loop-i

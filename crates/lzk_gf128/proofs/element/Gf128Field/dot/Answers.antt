@@ -1,6 +1,7 @@
 use Rattle.std.proofs.Common.{◌≡◌, ap, ◌∙◌, length, bit_xor, arith}
+use Rattle.lzk_gf128.specs.Bodies.{in_wide}
 use Rattle.lzk_gf128.specs.Elements.{Gf128-ext}
-use Rattle.lzk_gf128.specs.Sums.{in_wide, first_products, one_more}
+use Rattle.lzk_gf128.proofs.Sums.{first_products, one_more}
 use Rattle.lzk_gf128.proofs.element.Gf128Field.dot.Goals as goal
 
 pub loop-i-preserved : goal.loop-i-preserved

@@ -1,6 +1,6 @@
 use Rattle.std.proofs.Common.{ap, ◌∙◌}
 use Rattle.lzk_field.specs.Bytes.{bytes_of}
-use Rattle.lzk_gf128.specs.ByteLists.{list_back}
+use Rattle.lzk_gf128.proofs.ByteLists.{list_back}
 use Rattle.lzk_gf128.proofs.element.Gf128Field.of_le.Goals as goal
 
 pub returns-clause-only : goal.returns-clause-only

@@ -5,16 +5,11 @@ use Rattle.std.specs.Int.Bits.{xor_assoc}
 use Rattle.std.proofs.Math.Numerals.{add-one}
 use Rattle.std.proofs.lemmas.List.{get_or_default}
 use Rattle.lzk_field.specs.Sums.{sum_below}
-use Rattle.lzk_gf128.specs.declared.arith.Wide.{Wide}
 use Rattle.lzk_gf128.specs.declared.element.Gf128.{Gf128}
 use Rattle.lzk_gf128.specs.Linear.{◌⊕◌, xor_swap}
-use Rattle.lzk_gf128.specs.Basis.{moved-xor, both_4, up_64}
+use Rattle.lzk_gf128.proofs.Basis.{moved-xor, both_4, up_64}
 use Rattle.lzk_gf128.specs.Product.{product, moved}
 use Rattle.lzk_gf128.specs.Elements.{ops}
-
--- the low word, and the high word times x^128
-abbrev pub in_wide : Wide → ℕ
-in_wide w = w.low ⊕ moved 128 w.high
 
 pub wide_plus : (a b c d : ℕ) → (a ⊕ b) ⊕ moved 128 (c ⊕ d) ≡ (a ⊕ moved 128 c) ⊕ (b ⊕ moved 128 d)
 wide_plus a b c d = ap (λ w. (a ⊕ b) ⊕ w) (moved-xor 128 c d) ∙ xor_swap a b (moved 128 c) (moved 128 d)

@@ -156,9 +156,9 @@ pub high_small : (high k m : ℕ) → high < 2 ^ (60 + k) → 60 + k ≤ m → h
 high_small high k m h most = omega (arith, h, pow_mono {i = 60 + k} {j = m} most)
 
 -- the bound for the high word, as the next digit asks for it
-pub raised : (k high : ℕ) → high < 2 ^ (64 + k) → high < 2 ^ (60 + (k + 4))
-raised k high h = let e : 64 + k ≡ 60 + (k + 4) = omega arith in subst (λ w. high < 2 ^ w) e h
+pub high_bound-digit : (k high : ℕ) → high < 2 ^ (64 + k) → high < 2 ^ (60 + (k + 4))
+high_bound-digit k high h = let e : 64 + k ≡ 60 + (k + 4) = omega arith in subst (λ w. high < 2 ^ w) e h
 
 -- and as the next byte does
-pub twice : (i high : ℕ) → high < 2 ^ (64 + (8 * i + 4)) → high < 2 ^ (60 + 8 * (i + 1))
-twice i high h = let e : 64 + (8 * i + 4) ≡ 60 + 8 * (i + 1) = omega arith in subst (λ w. high < 2 ^ w) e h
+pub high_bound-byte : (i high : ℕ) → high < 2 ^ (64 + (8 * i + 4)) → high < 2 ^ (60 + 8 * (i + 1))
+high_bound-byte i high h = let e : 64 + (8 * i + 4) ≡ 60 + 8 * (i + 1) = omega arith in subst (λ w. high < 2 ^ w) e h

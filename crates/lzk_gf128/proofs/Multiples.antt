@@ -7,17 +7,10 @@ use Rattle.std.proofs.lemmas.List.{get_or-set_other, length-set}
 use Rattle.std.proofs.lemmas.Grind.{get_or-set_at}
 use Rattle.std.proofs.Math.Nat.{zero-mul, one-mul, div-one}
 use Rattle.std.proofs.lemmas.Nat.{shr-shr, shr_split, mod_below}
+use Rattle.lzk_gf128.specs.Bodies.{IsMultiples, numbered, joined}
 use Rattle.lzk_gf128.specs.Product.{times_x, times_bits, shift, product, moved}
 use Rattle.lzk_gf128.specs.Linear.{◌⊕◌, xor_swap, times_bits-times_x}
-use Rattle.lzk_gf128.specs.Basis.{moved-xor, moved-swap, moved_zero}
-use Rattle.lzk_gf128.specs.Squares.{joined}
-
-abbrev pub IsMultiples : ℕ → List ℕ → Type 0
-IsMultiples a xs = (i : ℕ) → i < 16 → slice_index xs i ≡ product 4 a i
-
--- number i of those whose words are listed
-abbrev pub entry : List ℕ → List ℕ → ℕ → ℕ
-entry low high i = joined (slice_index high i) (slice_index low i)
+use Rattle.lzk_gf128.proofs.Basis.{moved-xor, moved-swap, moved_zero}
 
 -- the multiples, of those by 1, x, x^2 and x^3
 abbrev pub sums_of : ℕ → ℕ → ℕ → ℕ → List ℕ
@@ -155,14 +148,14 @@ both-digit n a x y s d e u v before after h ed ee eu ev eb ea =
 
 -- one more byte of two words, by the lists of their upper and their lower digits
 pub both-byte : (i k a x y s : ℕ) (low high xs ys us vs : List ℕ) (start middle end : ℕ) → i < 4 → k < 8 → s + 24 ≡ 8 * (k + i)
-    → ((j : ℕ) → j < 16 → entry low high j ≡ product 4 a j)
+    → ((j : ℕ) → j < 16 → numbered low high j ≡ product 4 a j)
     → ((j : ℕ) → j < 8 → slice_index xs j ≡ x / 16 / 2 ^ (8 * j) % 16)
     → ((j : ℕ) → j < 8 → slice_index ys j ≡ y / 16 / 2 ^ (8 * j) % 16)
     → ((j : ℕ) → j < 8 → slice_index us j ≡ x / 2 ^ (8 * j) % 16)
     → ((j : ℕ) → j < 8 → slice_index vs j ≡ y / 2 ^ (8 * j) % 16)
     → start ≡ both (4 * (2 * i)) a (front s (2 * i) x) (front s (2 * i) y)
-    → middle ≡ moved 4 start ⊕ (entry low high (slice_index xs k) ⊕ moved 64 (entry low high (slice_index ys k)))
-    → end ≡ moved 4 middle ⊕ (entry low high (slice_index us k) ⊕ moved 64 (entry low high (slice_index vs k)))
+    → middle ≡ moved 4 start ⊕ (numbered low high (slice_index xs k) ⊕ moved 64 (numbered low high (slice_index ys k)))
+    → end ≡ moved 4 middle ⊕ (numbered low high (slice_index us k) ⊕ moved 64 (numbered low high (slice_index vs k)))
     → end ≡ both (4 * (2 * (i + 1))) a (front s (2 * (i + 1)) x) (front s (2 * (i + 1)) y)
 both-byte i k a x y s low high xs ys us vs start middle end hi hk es multiples ex ey eu ev e0 e1 e2 =
     let n = 2 * i in
@@ -171,7 +164,7 @@ both-byte i k a x y s low high xs ys us vs start middle end hi hk es multiples e
     let lower : 8 * k ≡ s + (28 - 4 * (n + 1)) = omega arith in
     let odd : (w : ℕ) → w / 16 / 2 ^ (8 * k) % 16 ≡ w / 2 ^ (s + (28 - 4 * n)) % 16 = λ w. ap (λ r. r % 16) (shr-shr w 4 (8 * k)) ∙ ap (λ m. w / 2 ^ m % 16) upper in
     let even : (w : ℕ) → w / 2 ^ (8 * k) % 16 ≡ w / 2 ^ (s + (28 - 4 * (n + 1))) % 16 = λ w. ap (λ m. w / 2 ^ m % 16) lower in
-    let multiple : (d r : ℕ) → d ≡ r % 16 → entry low high d ≡ product 4 a d = λ d r e. multiples d (omega (arith, e)) in
+    let multiple : (d r : ℕ) → d ≡ r % 16 → numbered low high d ≡ product 4 a d = λ d r e. multiples d (omega (arith, e)) in
     let half : middle ≡ both (4 * (n + 1)) a (front s (n + 1) x) (front s (n + 1) y) =
     both-digit n a x y s (slice_index xs k) (slice_index ys k) _ _ start middle (omega arith) (ex k hk ∙ odd x) (ey k hk ∙ odd y) (multiple _ _ (ex k hk)) (multiple _ _ (ey k hk)) e0 e1 in
     both-digit (n + 1) a x y s (slice_index us k) (slice_index vs k) _ _ middle end (omega arith) (eu k hk ∙ even x) (ev k hk ∙ even y) (multiple _ _ (eu k hk)) (multiple _ _ (ev k hk)) half e2
@@ -213,7 +206,7 @@ both-halves a b n below above hb e el eu =
 
 -- the first i of 16 numbers are in their words
 abbrev pub InWords : List ℕ → ℕ → List ℕ → List ℕ → Type 0
-InWords xs i low high = record { lows : length low ≡ 16; highs : length high ≡ 16; words : (j : ℕ) → j < i → entry low high j ≡ slice_index xs j }
+InWords xs i low high = record { lows : length low ≡ 16; highs : length high ≡ 16; words : (j : ℕ) → j < i → numbered low high j ≡ slice_index xs j }
 
 words-back : (x : ℕ) → x < 2 ^ 128 → joined (x / 2 ^ 64) (x % 2 ^ 64) ≡ x
 words-back x h =
@@ -227,7 +220,7 @@ words-more xs low high i x h e hx before = record {
   words = λ j hj. at j hj (dec_lt j i);
 }
   where
-    at : (j : ℕ) → j < i + 1 → Dec (j < i) → entry (slice_set low i (x % 2 ^ 64)) (slice_set high i (x / 2 ^ 64)) j ≡ slice_index xs j
+    at : (j : ℕ) → j < i + 1 → Dec (j < i) → numbered (slice_set low i (x % 2 ^ 64)) (slice_set high i (x / 2 ^ 64)) j ≡ slice_index xs j
     at j hj (yes below) =
         ap (λ w. joined w (slice_index (slice_set low i (x % 2 ^ 64)) j)) (get_or-set_other high i j (x / 2 ^ 64) 0 (omega (arith, below)))
         ∙ ap (joined (slice_index high j)) (get_or-set_other low i j (x % 2 ^ 64) 0 (omega (arith, below)))

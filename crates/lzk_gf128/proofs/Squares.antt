@@ -2,23 +2,11 @@
 use Rattle.std.specs.Prelude.{◌≡◌, ℕ, ◌+◌, ◌*◌, ◌/◌, ◌%◌, ◌^◌, ◌<◌, bit_and, true}
 use Rattle.std.proofs.Common.{zero, suc, refl, sym, ap, ◌∙◌, arith}
 use Rattle.std.specs.Int.Bits.{xor_shr, xor_mod}
+use Rattle.lzk_gf128.specs.Bodies.{at_even, spread, beside, joined, squared}
 use Rattle.lzk_gf128.specs.Product.{product, times_bits}
 use Rattle.lzk_gf128.specs.Linear.{◌⊕◌, Additive, xor_swap, low_bit_xor, times_bits_lt, times_comm, times_assoc, one_times}
-use Rattle.lzk_gf128.specs.Basis.{agree, agree_at, and_spreads, same_by_test, compose, add_xor, add_shl, add_shl_in, add_shr}
+use Rattle.lzk_gf128.proofs.Basis.{agree, agree_at, and_spreads, same_by_test, compose, add_xor, add_shl, add_shl_in, add_shr}
 use Rattle.lzk_gf128.specs.Inverse.{square, squares, same_below, square-additive, square-times, squares_lt, most, most_lt, power_most}
-
--- the low k bits of n, bit i at the place 2 * i
-abbrev pub at_even : ℕ → ℕ → ℕ
-at_even zero n = 0
-at_even (suc k) n = (n % 2) ⊕ (4 * at_even k (n / 2))
-
--- the same, shut, for clauses
-unfoldable pub spread : ℕ → ℕ
-spread n = at_even 32 n
-
--- n beside itself moved up, where mask is set
-abbrev pub beside : ℕ → ℕ → ℕ → ℕ
-beside n by mask = bit_and (n ⊕ (n * 2 ^ by % 2 ^ 64)) mask
 
 add_beside : (by mask : ℕ) → Additive (λ n. beside n by mask)
 add_beside by mask a b =
@@ -61,9 +49,6 @@ folded low high =
     let top = high ⊕ ((high / 2 ^ 121) ⊕ (high / 2 ^ 126)) in
     (((low ⊕ top) ⊕ (top * 2 ^ 1 % 2 ^ 128)) ⊕ (top * 2 ^ 2 % 2 ^ 128)) ⊕ (top * 2 ^ 7 % 2 ^ 128)
 
-abbrev pub joined : ℕ → ℕ → ℕ
-joined upper lower = (upper * 2 ^ 64 % 2 ^ 128) ⊕ lower
-
 abbrev pub quick_square : ℕ → ℕ
 quick_square n = folded (joined (spread (n / 2 ^ 32 % 2 ^ 32)) (spread (n % 2 ^ 32))) (joined (spread (n / 2 ^ 96)) (spread (n / 2 ^ 64 % 2 ^ 32)))
 
@@ -100,10 +85,6 @@ unfolding product
 quick_square_is n h = same_below quick_square square (λ a b ha hb. quick_square-additive a b) square-additive 128 (omega arith) (λ j p. agree_at quick_square square 128 j quick_agrees p) n h
 
 -- ---- a ^ (2 ^ (m + n) - 1)
-
--- n squarings, shut
-unfoldable pub squared : ℕ → ℕ → ℕ
-squared n a = squares n a
 
 pub squared-zero : (a : ℕ) → squared 0 a ≡ a
 unfolding squared

@@ -8,8 +8,8 @@ use Rattle.std.proofs.Math.Nat.{zero-add, add-zero}
 use native.Mathlib.Decide.{dec_lt}
 use Rattle.lzk_field.proofs.ByteForms.{pow_256}
 use Rattle.lzk_gf128.specs.Linear.{Additive}
-use Rattle.lzk_gf128.specs.Basis.{agree, and_spreads, same_by_test, compose, add_shr}
-use Rattle.lzk_gf128.specs.ByteLists.{byte_at_is}
+use Rattle.lzk_gf128.proofs.Basis.{agree, and_spreads, same_by_test, compose, add_shr}
+use Rattle.lzk_gf128.proofs.ByteLists.{byte_at_is}
 
 -- the lower digit of each byte
 abbrev pub lower_digits : ℕ → ℕ
