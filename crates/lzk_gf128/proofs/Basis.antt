@@ -12,18 +12,25 @@ use Rattle.std.proofs.Math.Pow.{pow_mono}
 use Rattle.lzk_gf128.specs.Product.{times_x, shift, moved}
 use Rattle.lzk_gf128.specs.Linear.{◌⊕◌, Additive, Additive-zero, xor_swap, bit_lt, same_from_powers, shift-additive}
 
-abbrev pub agree : (ℕ → ℕ) → (ℕ → ℕ) → ℕ → Bool
-agree f g zero = true
-agree f g (suc k) = cond (eqb (f (2 ^ k)) (g (2 ^ k))) (agree f g k) false
+-- a test holds of each number below k
+abbrev pub all_below : (ℕ → Bool) → ℕ → Bool
+all_below t zero = true
+all_below t (suc k) = cond (t k) (all_below t k) false
 
-pub agree_at : (f g : ℕ → ℕ) (k j : ℕ) → agree f g k ≡ true → j < k → f (2 ^ j) ≡ g (2 ^ j)
-agree_at f g zero j e h = absurd (omega arith)
-agree_at f g (suc k) j e h = here (eqb (f (2 ^ k)) (g (2 ^ k))) refl e (dec_lt j k) (agree_at f g k j)
+pub all_below-at : (t : ℕ → Bool) (k j : ℕ) → all_below t k ≡ true → j < k → t j ≡ true
+all_below-at t zero j e h = absurd (omega arith)
+all_below-at t (suc k) j e h = here (t k) refl e (dec_lt j k) (all_below-at t k j)
   where
-    here : (t : Bool) → eqb (f (2 ^ k)) (g (2 ^ k)) ≡ t → cond t (agree f g k) false ≡ true → Dec (j < k) → (agree f g k ≡ true → j < k → f (2 ^ j) ≡ g (2 ^ j)) → f (2 ^ j) ≡ g (2 ^ j)
+    here : (b : Bool) → t k ≡ b → cond b (all_below t k) false ≡ true → Dec (j < k) → (all_below t k ≡ true → j < k → t j ≡ true) → t j ≡ true
     here false d e q ih = absurd (false≢true e)
     here true d e (yes q) ih = ih e q
-    here true d e (no q) ih = let same : j ≡ k = omega arith in subst (λ w. f (2 ^ w) ≡ g (2 ^ w)) (sym same) (eqb-true _ _ d)
+    here true d e (no q) ih = let same : j ≡ k = omega arith in ap t same ∙ d
+
+abbrev pub agree : (ℕ → ℕ) → (ℕ → ℕ) → ℕ → Bool
+agree f g k = all_below (λ j. eqb (f (2 ^ j)) (g (2 ^ j))) k
+
+pub agree_at : (f g : ℕ → ℕ) (k j : ℕ) → agree f g k ≡ true → j < k → f (2 ^ j) ≡ g (2 ^ j)
+agree_at f g k j e h = eqb-true _ _ (all_below-at (λ j. eqb (f (2 ^ j)) (g (2 ^ j))) k j e h)
 
 pub same_by_test : (f g : ℕ → ℕ) → Additive f → Additive g → (k : ℕ) → agree f g k ≡ true → (n : ℕ) → n < 2 ^ k → f n ≡ g n
 same_by_test f g hf hg k e n h = same_from_powers f g hf hg k (λ j p. agree_at f g k j e p) n h

@@ -8,7 +8,7 @@ use Rattle.std.proofs.Math.Nat.{zero-add, add-zero}
 use native.Mathlib.Decide.{dec_lt}
 use Rattle.lzk_field.proofs.ByteForms.{pow_256}
 use Rattle.lzk_gf128.specs.Linear.{Additive}
-use Rattle.lzk_gf128.proofs.Basis.{agree, and_spreads, same_by_test, compose, add_shr}
+use Rattle.lzk_gf128.proofs.Basis.{all_below-at, agree, and_spreads, same_by_test, compose, add_shr}
 use Rattle.lzk_gf128.proofs.ByteLists.{byte_at_is}
 
 -- the lower digit of each byte
@@ -34,21 +34,8 @@ byte-additive k =
 digit-additive : (k : ℕ) → Additive (digit k)
 digit-additive k = compose (λ n. n % 2 ^ 4) (λ n. n / 2 ^ (8 * k)) (λ a b. xor_mod a b 4) (add_shr (8 * k))
 
-abbrev agree_all : ℕ → Bool
-agree_all zero = true
-agree_all (suc k) = cond (agree (byte k) (digit k) 64) (agree_all k) false
-
-agree_here : (k j : ℕ) → agree_all k ≡ true → j < k → agree (byte j) (digit j) 64 ≡ true
-agree_here zero j e h = absurd (omega arith)
-agree_here (suc k) j e h = here (agree (byte k) (digit k) 64) refl e (dec_lt j k) (agree_here k j)
-  where
-    here : (t : Bool) → agree (byte k) (digit k) 64 ≡ t → cond t (agree_all k) false ≡ true → Dec (j < k) → (agree_all k ≡ true → j < k → agree (byte j) (digit j) 64 ≡ true) → agree (byte j) (digit j) 64 ≡ true
-    here false d e q ih = absurd (false≢true e)
-    here true d e (yes q) ih = ih e q
-    here true d e (no q) ih = let same : j ≡ k = omega arith in ap (λ w. agree (byte w) (digit w) 64) same ∙ d
-
 byte_is : (k n : ℕ) → k < 8 → n < 2 ^ 64 → byte k n ≡ digit k n
-byte_is k n h hn = same_by_test (byte k) (digit k) (byte-additive k) (digit-additive k) 64 (agree_here 8 k refl h) n hn
+byte_is k n h hn = same_by_test (byte k) (digit k) (byte-additive k) (digit-additive k) 64 (all_below-at (λ j. agree (byte j) (digit j) 64) 8 k refl h) n hn
 
 pub digits_are : (n k : ℕ) → n < 2 ^ 64 → k < 8 → slice_index (to_le_bytes w64 (lower_digits n)) k ≡ n / 2 ^ (8 * k) % 16
 digits_are n k hn h =

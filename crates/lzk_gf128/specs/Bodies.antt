@@ -6,7 +6,7 @@ use Rattle.lzk_gf128.specs.Linear.{◌⊕◌}
 use Rattle.lzk_gf128.specs.Product.{product, moved}
 use Rattle.lzk_gf128.specs.Inverse.{squares}
 
--- the two halves of a number
+-- the number with these two words
 abbrev pub joined : ℕ → ℕ → ℕ
 joined upper lower = (upper * 2 ^ 64 % 2 ^ 128) ⊕ lower
 

@@ -1,4 +1,4 @@
--- Maps that keep exclusive or.
+-- Maps that keep exclusive or, and by them the laws of the product. Of use for the proof of the field's laws alone.
 use Rattle.std.specs.Prelude.{◌≡◌, ℕ, ◌+◌, ◌*◌, ◌/◌, ◌%◌, ◌^◌, ◌<◌, ◌≤◌, bit_xor}
 use Rattle.std.proofs.Common.{zero, suc, refl, sym, ap, ◌∙◌, arith}
 use Rattle.std.specs.Int.Bits.{xor_assoc, xor_comm, xor_self, xor_zero_r, xor_shr, xor_mod, xor_lt, xor_block, xor_shifted}
