@@ -1,9 +1,11 @@
 pub mod BinaryProducts
 pub mod Blocks
 pub mod EvenProducts
+pub mod ExtensionLaws
 pub mod Extensions
 pub mod Interpolate
 pub mod Inverses
 pub mod Polynomials
 pub mod ProductLaws
 pub mod Roots
+pub mod Through

@@ -3,11 +3,11 @@ use Rattle.std.specs.Prelude.{List, [], ◌∷◌, length}
 use Rattle.lzk_field.specs.Ring.{Ops}
 use Rattle.lzk_field.specs.Sums.{sum_below, power, entry}
 
--- the sum of each coefficient times the power of t at its place
+-- the value at t: the sum of each coefficient times the power of t at its place
 abbrev pub power_sum : {A : Type 0} → Ops A → List A → A → A
 power_sum o cs t = sum_below o (length cs) (λ k. o.times (entry o cs k) (power o t k))
 
--- the same, as c0 + t * (c1 + t * (c2 + ..))
+-- the same by recursion, as c0 + t * (c1 + t * (c2 + ..))
 abbrev pub eval : {A : Type 0} → Ops A → List A → A → A
 eval o [] t = o.zero
 eval o (c ∷ cs) t = o.plus c (o.times t (eval o cs t))

@@ -5,10 +5,8 @@ ghost use Rattle.lzk_field.specs.Sums.{entry};
 ghost use Rattle.lzk_poly.specs.Extension.{IsExtension, IsInterpolated, Reach, extension};
 ghost use Rattle.lzk_poly.specs.Weights.{parts, quotient_sum};
 
-use crate::factors::{inverse_table, inverted_products, running_products};
+use crate::barycentric::Weights;
 use crate::quotients::{by_numbers, by_steps, fill_block, inverse_of};
-use crate::spacing::Spacing;
-use crate::tables::{passed_products, weights};
 use lzk_field::Field;
 use std::alloc::{AllocError, Global};
 use std::marker::Model;
@@ -16,36 +14,20 @@ use std::marker::Model;
 // How many values are taken at a time.
 const BLOCK: usize = 64;
 
-/// The weights that extend lists of `count` values, to points with numbers below `upto`.
+/// What extends lists of `count` values, to points with numbers below `upto`.
 ///
-/// They are computed once. One extender serves every list of that length. Away from the points of the
-/// values, the polynomial's value is the product of the differences from these points, times the sum of
-/// each value times its weight over the difference from its point (the barycentric form of Lagrange's
-/// formula).
+/// Its weights are computed once. One extender serves every list of that length.
 #[derive(Drop)]
 pub struct Extender<F: Field> {
-    weights: Vec<F>,
-    // At each point from `count` on, the product of the differences from the first points.
-    products: Vec<F>,
-    // The inverses of the elements, by number. The differences of points are among them in a binary
-    // field, where numbers subtract without carries, and where the points are even.
-    inverses: Vec<F>,
-    // Whether each point is one more than the one before.
-    even: bool,
-    count: u32,
-    upto: u32,
+    weights: Weights<F>,
 }
 
 impl<F: Field> Model for Extender<F> {
-    ghost use Rattle.std.specs.Prelude.{◌≤◌, length, IsTrue};
     ghost use Rattle.lzk_poly.specs.Extension.{Reach};
-    ghost use Rattle.lzk_poly.specs.Weights.{IsWeights, IsPassed, IsInverseTable, IsEven};
 
     ghost Value = { Reach };
 
-    ghost view = { λ e. record { count = e.count; upto = e.upto } };
-
-    ghost invariant = { λ e. (e.count ≤ e.upto) × (e.upto ≤ 65536) × IsWeights F.ops F.element e.count e.weights.items × IsPassed F.ops F.element e.count e.upto e.products.items × (e.upto ≤ length e.inverses.items) × IsInverseTable F.ops F.element e.inverses.items × (IsTrue e.even → IsEven F.ops F.element e.upto) };
+    ghost view = { λ e. e.weights };
 }
 
 impl<F: Field> Extender<F> {
@@ -53,7 +35,7 @@ impl<F: Field> Extender<F> {
     /// one polynomial with as many coefficients.
     ///
     /// Over a prime or a binary field with the usual numbers this takes time and memory linear in `upto`,
-    /// and one inversion.
+    /// and one inversion. `AllocError`: there is no memory for the weights and what goes with them.
     pub fn new(alloc: Global, n: u32, upto: u32) -> Result<Extender<F>, AllocError>
         requires some { 1 ≤ n }
         requires order { n ≤ upto }
@@ -61,60 +43,73 @@ impl<F: Field> Extender<F> {
         ensures reach { IfOk result (λ e. e ≡ record { count = n; upto = upto }) }
         ensures one { (values : List F) → length values ≤ 65536 → IsInterpolated F.ops F.element values }
     {
-        let spacing = Spacing::of::<F>(upto);
-        let size = spacing.size(upto);
-        let running = running_products(alloc, size)?;
-        let inverted = inverted_products(alloc, size, &running)?;
-        let weights = weights(alloc, n, upto, spacing, &running, &inverted)?;
-        let products = passed_products(alloc, n, upto, spacing, &running, &inverted)?;
-        let inverses = inverse_table(alloc, size, &running, &inverted)?;
-        Ok(Extender {
-            weights,
-            products,
-            inverses,
-            even: spacing.is_even(),
-            count: n,
-            upto,
-        })
+        let weights = Weights::new(alloc, n, upto)?;
+        Ok(Extender { weights })
     }
 
-    /// The value at point `j` of the polynomial through `values`, `values[i]` at point `i`.
+    /// How many values it extends.
+    pub fn count(&self) -> u32
+        ensures value { result ≡ self.now.count }
+        ensures some { 1 ≤ self.now.count }
+        ensures order { self.now.count ≤ self.now.upto }
+        ensures limit { self.now.upto ≤ 65536 }
+    {
+        self.weights.count()
+    }
+
+    /// The end of the points that it reaches.
+    pub fn upto(&self) -> u32
+        ensures value { result ≡ self.now.upto }
+        ensures order { self.now.count ≤ self.now.upto }
+        ensures limit { self.now.upto ≤ 65536 }
+    {
+        self.weights.upto()
+    }
+
+    /// The value at point `j` of the polynomial through `values`, `values[i]` at point `i`: as many values
+    /// as it extends, and a point that it reaches.
     pub fn extend_at(&self, values: &[F], j: u32) -> F
         requires fits { length values.now ≡ self.now.count }
         requires reached { j < self.now.upto }
         ensures through { IsExtension F.ops F.element values.now j result }
         ensures value { result ≡ extension F.ops F.element values.now j }
     {
-        if j < self.count {
+        let count = self.weights.count();
+        if j < count {
             return values[j as usize];
         }
-        let product = self.products[(j - self.count) as usize];
+        let product = self.weights.passed()[(j - count) as usize];
         self.sum_at(values, F::point(j)).mul(product)
     }
 
     // The sum of what each value adds at `x`.
     fn sum_at(&self, values: &[F], x: F) -> F
         requires fits { length values.now ≡ self.now.count }
+        requires limit { length values.now ≤ 65536 }
         requires apart { (i : ℕ) → i < length values.now → x ≢ F.element i }
         ensures { result ≡ parts F.ops F.element values.now (length values.now) x }
     {
+        let weights = self.weights.weights();
+        let inverses = self.weights.inverses();
         let mut total = F::zero();
         for i in 0..values.len() {
-            let scaled = values[i].mul(self.weights[i]);
+            let scaled = values[i].mul(weights[i]);
             let difference = x.sub(F::point(i as u32));
-            total = total.add(scaled.mul(inverse_of(&self.inverses, difference)));
+            total = total.add(scaled.mul(inverse_of(inverses, difference)));
         }
         total
     }
 
-    /// Writes the values at points `n` and on of the polynomial through `values`.
+    /// Writes the values at points `count` and on of the polynomial through `values`.
+    ///
+    /// `values` has `count` entries, and `out` one for each further point below `upto`.
     pub fn extend(&self, values: &[F], out: &mut [F])
         requires fits { length values.now ≡ self.now.count }
         requires room { length out.old + self.now.count ≡ self.now.upto }
         ensures through { (k : ℕ) → k < length out.new → IsExtension F.ops F.element values.now (self.now.count + k) (entry F.ops out.new k) }
         ensures value { (k : ℕ) → k < length out.new → entry F.ops out.new k ≡ extension F.ops F.element values.now (self.now.count + k) }
     {
-        self.extend_from(values, self.count, out);
+        self.extend_from(values, self.count(), out);
     }
 
     // The values at points `from` and on. Until its own turn comes, the end of `out` is room for values
@@ -145,13 +140,15 @@ impl<F: Field> Extender<F> {
         requires fits { length values.now ≡ self.now.count }
         requires after { self.now.count ≤ from }
         requires reached { from + length out.old ≤ self.now.upto }
+        requires limit { self.now.upto ≤ 65536 }
         requires room { 1 ≤ length room.old }
         ensures { (k : ℕ) → k < length out.new → entry F.ops out.new k ≡ extension F.ops F.element values.now (from + k) }
     {
         self.sum_parts(values, from, out, room);
-        let first = (from - self.count) as usize;
+        let first = (from - self.weights.count()) as usize;
+        let passed = self.weights.passed();
         for t in 0..out.len() {
-            out[t] = out[t].mul(self.products[first + t]);
+            out[t] = out[t].mul(passed[first + t]);
         }
     }
 
@@ -160,6 +157,7 @@ impl<F: Field> Extender<F> {
         requires fits { length values.now ≡ self.now.count }
         requires after { self.now.count ≤ from }
         requires reached { from + length out.old ≤ self.now.upto }
+        requires limit { self.now.upto ≤ 65536 }
         requires room { 1 ≤ length room.old }
         ensures { (k : ℕ) → k < length out.new → entry F.ops out.new k ≡ parts F.ops F.element values.now (length values.now) (F.element (from + k)) }
     {
@@ -181,10 +179,11 @@ impl<F: Field> Extender<F> {
         requires within { start + length block.old ≤ length values.now }
         requires after { self.now.count ≤ from }
         requires reached { from + length out.old ≤ self.now.upto }
+        requires limit { self.now.upto ≤ 65536 }
         ensures { (k : ℕ) → k < length out.new → (let x = F.element (from + k) in entry F.ops out.old k ≡ parts F.ops F.element values.now start x → entry F.ops out.new k ≡ parts F.ops F.element values.now (start + length block.old) x) }
     {
         let end = start + block.len();
-        fill_block(&values[start..end], &self.weights[start..end], block);
+        fill_block(&values[start..end], &self.weights.weights()[start..end], block);
         for t in 0..out.len() {
             out[t] = out[t].add(self.quotients(block, end as u32, from + t as u32));
         }
@@ -196,11 +195,13 @@ impl<F: Field> Extender<F> {
         requires within { end ≤ self.now.count }
         requires after { self.now.count ≤ j }
         requires reached { j < self.now.upto }
+        requires limit { self.now.upto ≤ 65536 }
         ensures { result ≡ quotient_sum F.ops F.element block.now end (F.element j) }
     {
-        if self.even {
-            return by_steps(block, &self.inverses, (j + 1 - end) as usize);
+        let inverses = self.weights.inverses();
+        if self.weights.is_even() {
+            return by_steps(block, inverses, (j + 1 - end) as usize);
         }
-        by_numbers(block, &self.inverses, end, F::point(j))
+        by_numbers(block, inverses, end, F::point(j))
     }
 }

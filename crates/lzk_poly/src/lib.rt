@@ -11,17 +11,26 @@
 //! extender.extend(&values, &mut further);
 //! let fifth = extender.extend_at(&values, 5);
 //! ```
+//!
+//! What extends rows is written over the trait [`RowExtend`], and [`Weights`] is what an extender by
+//! another method begins with.
 #![tactic(auto)]
 
+mod barycentric;
 mod binary;
 mod even;
 mod extender;
 mod factors;
+mod laws;
 mod other;
 mod polynomial;
 mod quotients;
+mod rows;
 mod spacing;
 mod tables;
 
+pub use barycentric::Weights;
 pub use extender::Extender;
+pub use laws::{extension_laws, through_laws};
 pub use polynomial::eval;
+pub use rows::RowExtend;

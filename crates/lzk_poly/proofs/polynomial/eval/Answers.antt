@@ -18,8 +18,11 @@ loop-i-preserved g c =
     ∙ ap (λ k. o.plus (slice_index_or xs i c.index-coeffs-i.result) (o.times c.args.t (eval o (drop k xs) c.args.t))) (sym again)
     ∙ sym (at_drop_more (λ ys. eval o ys c.args.t) xs i c.index-coeffs-i.result (omega arith))
 
-pub returns-clause-value : goal.returns-clause-value
-returns-clause-value g c = let e : c.loop-i.i ≡ 0 = omega arith in rw e at c.loop-i.invariant
+pub returns-clause-steps : goal.returns-clause-steps
+returns-clause-steps g c = let e : c.loop-i.i ≡ 0 = omega arith in rw e at c.loop-i.invariant
 
-pub returns-clause-sum : goal.returns-clause-sum
-returns-clause-sum g c = let e : c.loop-i.i ≡ 0 = omega arith in (rw e at c.loop-i.invariant) ∙ eval-power_sum g.F.Field.ops g.F.Field.laws.ring c.args.coeffs.now c.args.t
+pub returns-clause-value : goal.returns-clause-value
+returns-clause-value g c = let e : c.loop-i.i ≡ 0 = omega arith in (rw e at c.loop-i.invariant) ∙ eval-power_sum g.F.Field.ops g.F.Field.laws.ring c.args.coeffs.now c.args.t
+
+pub returns-clause-same : goal.returns-clause-same
+returns-clause-same g c = λ cs x. sym (eval-power_sum g.F.Field.ops g.F.Field.laws.ring cs x)

@@ -10,12 +10,12 @@ returns g c =
     let m = g.F.Field in
     let o = m.ops in
     let values = c.args.values.now in
-    let ws = c.self.inside.weights.items in
+    let ws = c.weights.result.now in
     let block = c.fill_block.new.block in
     let start = c.args.start in
     let size : length block ≡ length c.args.block.now = omega arith in
-    let counted : length values ≡ c.self.inside.count = search rules in
-    let weights : IsWeights o m.element (length values) ws = subst (λ (n : ℕ). IsWeights o m.element n ws) (sym counted) c.self.invariant.2 in
+    let counted : length values ≡ c.self.inside.weights.count = search rules in
+    let weights : IsWeights o m.element (length values) ws = subst (λ (n : ℕ). IsWeights o m.element n ws) (sym counted) c.weights.ensures in
     let placed : (xs : List g.row.F.Denot) (a n k : ℕ) → k < n → entry o (take n (drop a xs)) k ≡ entry o xs (a + k) =
     λ xs a n k h. get_or-take n (drop a xs) k o.zero h ∙ get_or-drop a xs k o.zero in
     let n = start + length c.args.block.now - start in
@@ -29,5 +29,5 @@ returns g c =
     let at = length block - 1 - i in
     let same : start + at ≡ start + length block - 1 - i = omega arith in
     c.fill_block.ensures i l
-    ∙ ap (λ w. o.times w (entry o (take n (drop start c.deref.result.now)) at)) (placed values start n at (omega arith) ∙ ap (entry o values) same)
-    ∙ ap (o.times (entry o values (start + length block - 1 - i))) (ap (λ zs. entry o (take n (drop start zs)) at) c.deref.ensures.value ∙ placed ws start n at (omega arith) ∙ ap (entry o ws) same)))
+    ∙ ap (λ w. o.times w (entry o (take n (drop start ws)) at)) (placed values start n at (omega arith) ∙ ap (entry o values) same)
+    ∙ ap (o.times (entry o values (start + length block - 1 - i))) (placed ws start n at (omega arith) ∙ ap (entry o ws) same)))

@@ -7,7 +7,4 @@ pub returns-clause-through : goal.returns-clause-through
 returns-clause-through g c =
     let m = g.F.Field in
     let values = c.args.values.now in
-    let inv = c.self.invariant in
-    let counted : length values ≡ c.self.inside.count = search rules in
-    let from : c.self.inside.count ≡ c.args.self.now.count = search rules in
-    λ k h. is_extension_of m.laws values (c.args.self.now.count + k) (entry m.ops c.extend_from.new.out k) (omega arith) (rw (← from) (c.extend_from.ensures k h))
+    λ k h. is_extension_of m.laws values (c.args.self.now.count + k) (entry m.ops c.extend_from.new.out k) (omega arith) (rw (← c.count.ensures.value) (c.extend_from.ensures k h))

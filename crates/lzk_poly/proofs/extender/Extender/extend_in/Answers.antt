@@ -14,23 +14,23 @@ loop-t-preserved g c =
     let values = c.args.values.now in
     let out = c.loop-t.out in
     let t = c.loop-t.t in
-    let inv = c.self.invariant in
-    let inside = c.self.inside in
-    let products = inside.products.items in
-    let counted : length values ≡ inside.count = search rules in
-    let counted_too : c.args.self.now.count ≡ inside.count = search rules in
-    let ended : c.args.self.now.upto ≡ inside.upto = search rules in
-    let at = c.args.from - inside.count + t in
+    let count = c.self.inside.weights.count in
+    let counted : length values ≡ count = search rules in
+    let counted_too : c.args.self.now.count ≡ count = search rules in
+    let ended : c.args.self.now.upto ≡ c.self.inside.weights.upto = search rules in
+    let products = c.passed-passed.result.now in
+    let all = c.passed-passed.ensures in
+    let at = c.args.from - c.count.result + t in
     let j = c.args.from + t in
-    let there : inside.count + at ≡ j = omega arith in
-    let within : at < length products = omega (arith, inv.3.0) in
+    let there : count + at ≡ j = omega arith in
+    let within : at < length products = omega (arith, all.0) in
     let sum : c.index-out-t.result ≡ parts o m.element values (length values) (m.element j) =
     c.index-out-t.is ∙ get_or_default out t c.index-out-t.result o.zero (omega arith) ∙ c.loop-t.invariant.1 t (omega arith) (omega arith) in
-    let product : c.index.result.now ≡ passed o m.element (length values) (m.element j) =
-    c.index.ensures ∙ get_or_default products at c.index.result.now o.zero within ∙ inv.3.1 at within
-    ∙ ap (λ i. passed o m.element inside.count (m.element i)) there ∙ ap (λ n. passed o m.element n (m.element j)) (sym counted) in
+    let product : c.index-passed-first.result ≡ passed o m.element (length values) (m.element j) =
+    c.index-passed-first.is ∙ get_or_default products at c.index-passed-first.result o.zero within ∙ all.1 at within
+    ∙ ap (λ i. passed o m.element count (m.element i)) there ∙ ap (λ n. passed o m.element n (m.element j)) (sym counted) in
     let value : c.mul.result ≡ extension o m.element values j =
-    c.mul.ensures ∙ ap (λ w. o.times w c.index.result.now) sum ∙ ap (o.times (parts o m.element values (length values) (m.element j))) product
+    c.mul.ensures ∙ ap (λ w. o.times w c.index-passed-first.result) sum ∙ ap (o.times (parts o m.element values (length values) (m.element j))) product
     ∙ parts_extension m.laws values j (omega arith) (omega arith) in (
       below_more (λ k. entry o (slice_set out t c.mul.result) k ≡ extension o m.element values (c.args.from + k)) t
           (λ k h. get_or-set_other out t k c.mul.result o.zero (omega arith) ∙ c.loop-t.invariant.0 k h)

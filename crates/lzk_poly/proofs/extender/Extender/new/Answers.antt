@@ -4,17 +4,5 @@ use Rattle.lzk_poly.proofs.extender.Extender.new.Goals as goal
 pub returns-in_err-weights-clause-one : goal.returns-in_err-weights-clause-one
 returns-in_err-weights-clause-one g c = points_interpolated g.F.Field.laws
 
-pub returns-in_err-products-clause-one : goal.returns-in_err-products-clause-one
-returns-in_err-products-clause-one g c = points_interpolated g.F.Field.laws
-
-pub returns-in_err-inverses-clause-one : goal.returns-in_err-inverses-clause-one
-returns-in_err-inverses-clause-one g c = points_interpolated g.F.Field.laws
-
 pub returns-clause-one : goal.returns-clause-one
 returns-clause-one g c = points_interpolated g.F.Field.laws
-
-pub returns-in_err-running-clause-one : goal.returns-in_err-running-clause-one
-returns-in_err-running-clause-one g c = points_interpolated g.F.Field.laws
-
-pub returns-in_err-inverted-clause-one : goal.returns-in_err-inverted-clause-one
-returns-in_err-inverted-clause-one g c = points_interpolated g.F.Field.laws

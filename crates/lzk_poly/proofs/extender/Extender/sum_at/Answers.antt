@@ -19,12 +19,13 @@ loop-i-preserved g c =
     let o = m.ops in
     let values = c.args.values.now in
     let i = c.loop-i.i in
-    let ws = c.self.inside.weights.items in
-    let counted : length values ≡ c.self.inside.count = search rules in
+    let ws = c.weights-weights.result.now in
+    let count = c.self.inside.weights.count in
+    let counted : length values ≡ count = search rules in
     let value : c.index-values-i.result ≡ entry o values i = c.index-values-i.is ∙ get_or_default values i c.index-values-i.result o.zero (omega arith) in
-    let weight : c.index.result.now ≡ entry o ws i = c.index.ensures ∙ get_or_default ws i c.index.result.now o.zero (omega (arith, c.self.invariant.2.0)) in
+    let weight : c.index-weights-i.result ≡ entry o ws i = c.index-weights-i.is ∙ get_or_default ws i c.index-weights-i.result o.zero (omega (arith, c.weights-weights.ensures.0)) in
     let difference : c.sub-difference.result ≡ minus o c.args.x (m.element i) = c.sub-difference.ensures ∙ ap (λ w. o.plus c.args.x (o.neg w)) c.point.ensures in
     let adds : c.mul.result ≡ part o m.element values i c.args.x =
-    c.mul.ensures ∙ part_is o m.laws.ring m.laws.field m.element values ws c.self.inside.count i c.args.x _ _ c.mul-scaled.result c.sub-difference.result c.inverse_of.result
-    c.self.invariant.2 counted (omega arith) value weight c.mul-scaled.ensures difference c.inverse_of.ensures in
+    c.mul.ensures ∙ part_is o m.laws.ring m.laws.field m.element values ws count i c.args.x _ _ c.mul-scaled.result c.sub-difference.result c.inverse_of.result
+    c.weights-weights.ensures counted (omega arith) value weight c.mul-scaled.ensures difference c.inverse_of.ensures in
     rw add-one (c.add-total.ensures ∙ ap (λ w. o.plus w c.mul.result) c.loop-i.invariant ∙ ap (o.plus (parts o m.element values i c.args.x)) adds)
