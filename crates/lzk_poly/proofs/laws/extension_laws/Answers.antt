@@ -1,4 +1,4 @@
-use Rattle.lzk_poly.proofs.Interpolate.{points_apart}
+use Rattle.lzk_field.proofs.Numbering.{points_apart}
 use Rattle.lzk_poly.proofs.Extensions.{extension-given}
 use Rattle.lzk_poly.proofs.Through.{extension-values_of}
 use Rattle.lzk_poly.proofs.ExtensionLaws.{extension-sum, extension-longer, extension-multiply}

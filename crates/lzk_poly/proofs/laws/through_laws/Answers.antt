@@ -1,4 +1,4 @@
-use Rattle.lzk_poly.proofs.Interpolate.{points_apart}
+use Rattle.lzk_field.proofs.Numbering.{points_apart}
 use Rattle.lzk_poly.proofs.Through.{eval-through, is_through, through-only, through-values_of}
 use Rattle.std.proofs.Common.{length, refl}
 use Rattle.lzk_poly.proofs.laws.through_laws.Goals as goal
