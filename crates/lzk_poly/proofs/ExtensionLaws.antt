@@ -1,6 +1,6 @@
 -- Extensions of products, of longer lists and of sums of multiples.
 use Rattle.std.specs.Prelude.{◌≡◌, ◌≢◌, ℕ, ◌<◌, ◌≤◌, ◌+◌, ◌-◌, List, [], ◌∷◌, length}
-use Rattle.std.proofs.Common.{zero, suc, refl, sym, ap, ◌∙◌, arith}
+use Rattle.std.proofs.Common.{zero, suc, sym, ap, ◌∙◌, arith}
 use Rattle.lzk_field.specs.Ring.{Ops, RingLaws, FieldLaws}
 use Rattle.lzk_field.specs.Sums.{sum_below, entry}
 use Rattle.lzk_field.proofs.SumLaws.{sum-ext, sum-times, sum-swap}

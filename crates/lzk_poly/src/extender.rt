@@ -183,7 +183,11 @@ impl<F: Field> Extender<F> {
         ensures { (k : ℕ) → k < length out.new → (let x = F.element (from + k) in entry F.ops out.old k ≡ parts F.ops F.element values.now start x → entry F.ops out.new k ≡ parts F.ops F.element values.now (start + length block.old) x) }
     {
         let end = start + block.len();
-        fill_block(&values[start..end], &self.weights.weights()[start..end], block);
+        fill_block(
+            &values[start..end],
+            &self.weights.weights()[start..end],
+            block,
+        );
         for t in 0..out.len() {
             out[t] = out[t].add(self.quotients(block, end as u32, from + t as u32));
         }

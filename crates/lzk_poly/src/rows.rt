@@ -24,7 +24,7 @@ pub trait RowExtend<F: Field>: Sync + Drop {
     /// `AllocError`: there is no memory for what it computes beforehand.
     fn make(alloc: Global, n: u32, upto: u32) -> Result<Self, AllocError>
     where
-        Self: Sized
+        Self: Sized,
         requires some { 1 ≤ n }
         requires order { n ≤ upto }
         requires limit { upto ≤ 65536 }

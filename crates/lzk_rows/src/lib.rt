@@ -11,6 +11,8 @@
 //! ```
 #![tactic(auto)]
 
+mod gf128;
+mod gold;
 mod rows;
 
 pub use rows::Rows;

@@ -1,4 +1,4 @@
-use Rattle.std.proofs.Common.{rules, ◌≡◌, ◌+◌, length, arith}
+use Rattle.std.proofs.Common.{◌+◌, arith}
 use Rattle.lzk_field.specs.Sums.{entry}
 use Rattle.lzk_poly.proofs.Blocks.{is_extension_of}
 use Rattle.lzk_poly.proofs.extender.Extender.extend.Goals as goal

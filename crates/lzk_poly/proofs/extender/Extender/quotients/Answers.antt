@@ -1,5 +1,4 @@
-use Rattle.std.proofs.Common.{rules, ◌≡◌, ◌+◌, ◌-◌, length, ap, ◌∙◌, arith, sym}
-use Rattle.lzk_field.specs.Sums.{entry, sum_below}
+use Rattle.std.proofs.Common.{rules, ◌≡◌, ◌∙◌, arith, sym}
 use Rattle.lzk_field.proofs.Numbering.{points_apart}
 use Rattle.lzk_poly.proofs.Blocks.{steps_are_quotients}
 use Rattle.lzk_poly.proofs.extender.Extender.quotients.Goals as goal
