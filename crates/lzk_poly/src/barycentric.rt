@@ -47,8 +47,12 @@ impl<F: Field> Weights<F> {
     /// The weights of the first `n` points, and what goes with them for the points below `upto`.
     ///
     /// Over a prime or a binary field with the usual numbers this takes time and memory linear in `upto`,
-    /// and one inversion. `AllocError`: there is no memory for the weights, the products, the inverses or
-    /// what they are computed from.
+    /// and one inversion.
+    ///
+    /// # Errors
+    ///
+    /// `AllocError` where the memory for the weights, the products, the inverses or what they are computed
+    /// from is not given.
     pub fn new(alloc: Global, n: u32, upto: u32) -> Result<Weights<F>, AllocError>
         requires some { 1 ≤ n }
         requires order { n ≤ upto }

@@ -35,7 +35,11 @@ impl<F: Field> Extender<F> {
     /// one polynomial with as many coefficients.
     ///
     /// Over a prime or a binary field with the usual numbers this takes time and memory linear in `upto`,
-    /// and one inversion. `AllocError`: there is no memory for the weights and what goes with them.
+    /// and one inversion.
+    ///
+    /// # Errors
+    ///
+    /// `AllocError` where the memory for the weights and what goes with them is not given.
     pub fn new(alloc: Global, n: u32, upto: u32) -> Result<Extender<F>, AllocError>
         requires some { 1 ≤ n }
         requires order { n ≤ upto }

@@ -21,7 +21,9 @@ pub trait RowExtend<F: Field>: Sync + Drop {
 
     /// One for rows of `n` values, to the points below `upto`.
     ///
-    /// `AllocError`: there is no memory for what it computes beforehand.
+    /// # Errors
+    ///
+    /// `AllocError` where the memory for what it computes beforehand is not given.
     fn make(alloc: Global, n: u32, upto: u32) -> Result<Self, AllocError>
     where
         Self: Sized,
