@@ -8,8 +8,9 @@ use Rattle.std.proofs.lemmas.List.{length-map, length-replicate, length-append, 
 use Rattle.std.proofs.lemmas.List.FromFn.{length-map-range_with_len}
 use Rattle.lzk_field.specs.Ring.{Ops}
 use Rattle.lzk_circuit.specs.declared.layer.Layer.{Layer}
-use Rattle.lzk_circuit.specs.Wires.{coef, wire, layer_values, wires_of, all_values, inputs_of}
-use Rattle.lzk_circuit.specs.Valid.{Wiring, input_width, under_of, AreTerms, AreLayers, IsValid, widths, HaveWidths}
+use Rattle.lzk_circuit.specs.Wires.{coef, wire, layer_values, wires_of, all_values, inputs_of, list_at, AreLayerValues}
+use Rattle.lzk_circuit.specs.Limits.{most_wires}
+use Rattle.lzk_circuit.specs.Valid.{Wiring, input_width, under_of, ArePlaced, AreLayersPlaced, AreLayers, IsValid, widths, HaveWidths}
 
 -- what lists on the heap hold
 abbrev pub items_of : {A : Type 0} → List (Vec A Global) → List (List A)
@@ -39,24 +40,24 @@ module _ {A : Type 0} (o : Ops A) where
   first-list (layer ∷ layers) inputs (v ∷ vs) d e = head_is (items_of vs) (all_values o layers inputs) v.items (wires_of o (layer ∷ layers) inputs) e
 
   -- the first of the layers stands on the values of the others
-  pub stands-on : (layers rest : List (Layer A)) (layer : Layer A) (inputs : List A) (n : ℕ) (lists : List (Vec A Global)) (d : Vec A Global) → layers ≡ layer ∷ rest → length inputs ≡ n → AreLayers o n layers
-      → items_of lists ≡ all_values o rest inputs → AreTerms o layer.wires (length (get_or lists 0 d).items) None layer.terms
+  pub stands-on : (layers rest : List (Layer A)) (layer : Layer A) (inputs : List A) (n : ℕ) (lists : List (Vec A Global)) (d : Vec A Global) → layers ≡ layer ∷ rest → length inputs ≡ n → AreLayersPlaced n layers
+      → items_of lists ≡ all_values o rest inputs → ArePlaced layer.wires (length (get_or lists 0 d).items) None layer.terms
   stands-on layers rest layer inputs n lists d front e h values =
-      let h' : AreLayers o n (layer ∷ rest) = subst (λ ls. AreLayers o n ls) front h in
+      let h' : AreLayersPlaced n (layer ∷ rest) = subst (λ ls. AreLayersPlaced n ls) front h in
       let width : (under_of n rest).width ≡ length (get_or lists 0 d).items =
       ap (λ m. (under_of m rest).width) (sym e) ∙ sym (wires-width rest inputs) ∙ sym (ap length (first-list rest inputs lists d values)) in
-      subst (λ m. AreTerms o layer.wires m None layer.terms) width h'.0.each
+      subst (λ m. ArePlaced layer.wires m None layer.terms) width h'.0
 
   pub next-values : (layers rest : List (Layer A)) (layer : Layer A) (inputs out : List A) (lists : List (Vec A Global)) (d : Vec A Global) → layers ≡ layer ∷ rest → items_of lists ≡ all_values o rest inputs
       → out ≡ layer_values o layer (get_or lists 0 d).items → out ∷ items_of lists ≡ all_values o layers inputs
   next-values layers rest layer inputs out lists d front values is =
       ap (λ x. x ∷ items_of lists) (is ∙ ap (layer_values o layer) (first-list rest inputs lists d values)) ∙ ap (λ xs. wires_of o (layer ∷ rest) inputs ∷ xs) values ∙ sym (ap (λ ls. all_values o ls inputs) front)
 
-  layers-narrow : (n : ℕ) (layers : List (Layer A)) → n ≤ 131072 → AreLayers o n layers → AllByRecursion (λ m. m ≤ 131072) (map (λ layer. layer.wires) layers ++ n ∷ [])
+  layers-narrow : (n : ℕ) (layers : List (Layer A)) → n ≤ most_wires → AreLayers o n layers → AllByRecursion (λ m. m ≤ most_wires) (map (λ layer. layer.wires) layers ++ n ∷ [])
   layers-narrow n [] l h = (l, tt)
   layers-narrow n (layer ∷ layers) l h = let one = h.0 in (one.most, layers-narrow n layers l h.1)
 
-  lists-narrow : (ns : List ℕ) (lists : List (Vec A Global)) → map length (items_of lists) ≡ ns → AllByRecursion (λ m. m ≤ 131072) ns → AllByRecursion (λ list. length list.items ≤ 131072) lists
+  lists-narrow : (ns : List ℕ) (lists : List (Vec A Global)) → map length (items_of lists) ≡ ns → AllByRecursion (λ m. m ≤ most_wires) ns → AllByRecursion (λ list. length list.items ≤ most_wires) lists
   lists-narrow ns [] e h = tt
   lists-narrow [] (v ∷ vs) e h = cc
   lists-narrow (n ∷ ns) (v ∷ vs) e h =
@@ -66,7 +67,7 @@ module _ {A : Type 0} (o : Ops A) where
       (omega arith, lists-narrow ns vs b h.1)
 
   -- no list for a valid circuit is longer than a layer may be wide
-  pub narrow : (c : Wiring A) (lists : List (Vec A Global)) → IsValid o c → HaveWidths c (items_of lists) → AllByRecursion (λ list. length list.items ≤ 131072) lists
+  pub narrow : (c : Wiring A) (lists : List (Vec A Global)) → IsValid o c → HaveWidths c (items_of lists) → AllByRecursion (λ list. length list.items ≤ most_wires) lists
   narrow c lists h e = lists-narrow (widths c) lists e (layers-narrow (input_width c) c.layers (omega (arith, h.publics, h.privates)) h.layers)
 
   abbrev pub zero_lists : List ℕ → List (List A)
@@ -125,3 +126,24 @@ module _ {A : Type 0} where
       length-at [] l = refl
       length-at (v ∷ vs) zero = refl
       length-at (v ∷ vs) (suc l) = length-at vs l
+
+module _ {A : Type 0} (o : Ops A) where
+  -- the uppermost of all values
+  pub first-values : (layers : List (Layer A)) (inputs : List A) → list_at (all_values o layers inputs) 0 ≡ wires_of o layers inputs
+  first-values [] inputs = refl
+  first-values (layer ∷ layers) inputs = refl
+
+  -- below the last layer stand the inputs
+  pub last-values : (layers : List (Layer A)) (inputs : List A) → list_at (all_values o layers inputs) (length layers) ≡ inputs
+  last-values [] inputs = refl
+  last-values (layer ∷ layers) inputs = last-values layers inputs
+
+  -- each layer has its values over those of the layer below
+  pub are-layer-values : (layers : List (Layer A)) (inputs : List A) → AreLayerValues o layers (all_values o layers inputs)
+  are-layer-values [] inputs l layer h = absurd cc
+  are-layer-values (layer ∷ layers) inputs zero top h =
+      let same : layer ≡ top = cc in
+      ap (layer_values o layer) (sym (first-values layers inputs)) ∙ ap (λ x. layer_values o x (list_at (all_values o layers inputs) 0)) same
+  are-layer-values (layer ∷ layers) inputs (suc l) top h =
+      let e : suc (l + 1) ≡ suc l + 1 = omega arith in
+      are-layer-values layers inputs l top h ∙ ap (λ (k : ℕ). layer_values o top (list_at (all_values o (layer ∷ layers) inputs) k)) e

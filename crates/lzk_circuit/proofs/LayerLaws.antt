@@ -10,7 +10,8 @@ use Rattle.lzk_field.specs.Sums.{entry}
 use Rattle.lzk_field.proofs.RingBasics.{zero_plus, times_zero}
 use Rattle.lzk_circuit.specs.declared.layer.Term.{Term}
 use Rattle.lzk_circuit.specs.Wires.{coef, wire, AreDistinct}
-use Rattle.lzk_circuit.proofs.TermSums.{share, sum_list, wire-terms}
+use Rattle.lzk_circuit.specs.Sums.{sum_list}
+use Rattle.lzk_circuit.proofs.TermSums.{share, wire-terms}
 
 module _ {A : Type 0} (o : Ops A) (r : RingLaws o) where
   open o use {plus, times}

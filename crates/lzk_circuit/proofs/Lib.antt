@@ -1,3 +1,4 @@
+pub mod BitLaws
 pub mod DepthLaws
 pub mod FaultLaws
 pub mod LayerLaws

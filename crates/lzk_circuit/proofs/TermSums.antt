@@ -7,16 +7,8 @@ use Rattle.lzk_field.specs.Sums.{sum_below}
 use Rattle.lzk_field.proofs.RingBasics.{zero_plus, zero_times, times_zero}
 use Rattle.lzk_field.proofs.SumLaws.{sum-ext, sum-zero, sum-plus, sum-single, sum-cond}
 use Rattle.lzk_circuit.specs.declared.layer.Term.{Term}
-use Rattle.lzk_circuit.specs.Wires.{is_at, coef, sum_pairs, wire, AreDistinct}
-
-module _ {A : Type 0} (o : Ops A) where
-  abbrev pub sum_triples : ℕ → ℕ → (ℕ → ℕ → ℕ → A) → A
-  sum_triples k n f = sum_below o k (λ g. sum_pairs o n (f g))
-
--- a sum over a list
-abbrev pub sum_list : {A X : Type 0} → Ops A → List X → (X → A) → A
-sum_list o [] f = o.zero
-sum_list o (x ∷ xs) f = o.plus (f x) (sum_list o xs f)
+use Rattle.lzk_circuit.specs.Sums.{sum_pairs, sum_triples, sum_list}
+use Rattle.lzk_circuit.specs.Wires.{is_at, coef, wire, AreDistinct}
 
 module _ {A : Type 0} (o : Ops A) (r : RingLaws o) where
   open o use {plus, times}

@@ -8,6 +8,7 @@ use Rattle.lzk_circuit.specs.declared.layer.Layer.{Layer}
 use Rattle.lzk_circuit.specs.declared.fault.CircuitKind.{CircuitKind}
 use Rattle.lzk_circuit.specs.declared.fault.CircuitKind.TheVariants.{Range, Order, ZeroCoef}
 use Rattle.lzk_circuit.specs.declared.fault.CircuitFault.{CircuitFault}
+use Rattle.lzk_circuit.specs.Limits.{most_publics, most_privates, most_layers, most_wires, most_total}
 use Rattle.lzk_circuit.specs.Valid.{Under, under_of, follows, IsTerm, AreTerms, IsLayer, AreLayers, IsValid, wiring}
 use Rattle.lzk_circuit.specs.Faults.{first_of, unless, over_limit, at_term, term_fault, terms_fault, limits_fault, layer_fault, layers_fault, counts_fault, first_fault}
 
@@ -78,18 +79,18 @@ module _ {A : Type 0} (o : Ops A) (size : ℕ) (number : A → ℕ) (element : �
   layer-from l under layer e =
       let k = length layer.terms in
       let p1 = nat_le 1 layer.wires in
-      let p2 = nat_le layer.wires 131072 in
-      let p3 = nat_le (under.wires + layer.wires) 2097152 in
-      let p4 = nat_le (under.terms + k) 2097152 in
+      let p2 = nat_le layer.wires most_wires in
+      let p3 = nat_le (under.wires + layer.wires) most_total in
+      let p4 = nat_le (under.terms + k) most_total in
       let p = both-none (limits_fault l under.wires under.terms layer.wires k) (terms_fault number l layer.wires under.width None 0 layer.terms) e in
       let q = and_parts p1 (p2 && (p3 && p4)) (passes (p1 && (p2 && (p3 && p4))) (over_limit l) p.0) in
       let r = and_parts p2 (p3 && p4) q.1 in
       let s = and_parts p3 p4 r.1 in
       record {
         some = leb-true 1 layer.wires q.0;
-        most = leb-true layer.wires 131072 r.0;
-        wires = leb-true (under.wires + layer.wires) 2097152 s.0;
-        terms = leb-true (under.terms + k) 2097152 s.1;
+        most = leb-true layer.wires most_wires r.0;
+        wires = leb-true (under.wires + layer.wires) most_total s.0;
+        terms = leb-true (under.terms + k) most_total s.1;
         each = terms-from l layer.wires under.width 0 None layer.terms p.1;
       }
 
@@ -97,13 +98,13 @@ module _ {A : Type 0} (o : Ops A) (size : ℕ) (number : A → ℕ) (element : �
   layer-to l under layer h =
       let k = length layer.terms in
       let p1 = nat_le 1 layer.wires in
-      let p2 = nat_le layer.wires 131072 in
-      let p3 = nat_le (under.wires + layer.wires) 2097152 in
-      let p4 = nat_le (under.terms + k) 2097152 in
+      let p2 = nat_le layer.wires most_wires in
+      let p3 = nat_le (under.wires + layer.wires) most_total in
+      let p4 = nat_le (under.terms + k) most_total in
       both (limits_fault l under.wires under.terms layer.wires k) (terms_fault number l layer.wires under.width None 0 layer.terms)
       (pass (p1 && (p2 && (p3 && p4))) (over_limit l)
-      (and_from p1 (p2 && (p3 && p4)) (le-leb 1 layer.wires h.some) (and_from p2 (p3 && p4) (le-leb layer.wires 131072 h.most)
-      (and_from p3 p4 (le-leb (under.wires + layer.wires) 2097152 h.wires) (le-leb (under.terms + k) 2097152 h.terms)))))
+      (and_from p1 (p2 && (p3 && p4)) (le-leb 1 layer.wires h.some) (and_from p2 (p3 && p4) (le-leb layer.wires most_wires h.most)
+      (and_from p3 p4 (le-leb (under.wires + layer.wires) most_total h.wires) (le-leb (under.terms + k) most_total h.terms)))))
       (terms-to l layer.wires under.width 0 None layer.terms h.each)
 
   layers-from : (inputs l : ℕ) (layers : List (Layer A)) → layers_fault number inputs l layers ≡ None → AreLayers o inputs layers
@@ -120,33 +121,33 @@ module _ {A : Type 0} (o : Ops A) (size : ℕ) (number : A → ℕ) (element : �
   pub valid-from : (publics privates : ℕ) (layers : List (Layer A)) → first_fault number publics privates layers ≡ None → IsValid o (wiring publics privates layers)
   valid-from publics privates layers e =
       let k = length layers in
-      let p1 = nat_le publics 65535 in
-      let p2 = nat_le privates 65536 in
+      let p1 = nat_le publics most_publics in
+      let p2 = nat_le privates most_privates in
       let p3 = nat_le 1 k in
-      let p4 = nat_le k 512 in
+      let p4 = nat_le k most_layers in
       let p = both-none (counts_fault publics privates k) (layers_fault number (1 + publics + privates) 0 layers) e in
       let q = and_parts p1 (p2 && (p3 && p4)) (passes (p1 && (p2 && (p3 && p4))) (over_limit 0) p.0) in
       let r = and_parts p2 (p3 && p4) q.1 in
       let s = and_parts p3 p4 r.1 in
       record {
-        publics = leb-true publics 65535 q.0;
-        privates = leb-true privates 65536 r.0;
+        publics = leb-true publics most_publics q.0;
+        privates = leb-true privates most_privates r.0;
         some = leb-true 1 k s.0;
-        depth = leb-true k 512 s.1;
+        depth = leb-true k most_layers s.1;
         layers = layers-from (1 + publics + privates) 0 layers p.1;
       }
 
   pub valid-to : (publics privates : ℕ) (layers : List (Layer A)) → IsValid o (wiring publics privates layers) → first_fault number publics privates layers ≡ None
   valid-to publics privates layers h =
       let k = length layers in
-      let p1 = nat_le publics 65535 in
-      let p2 = nat_le privates 65536 in
+      let p1 = nat_le publics most_publics in
+      let p2 = nat_le privates most_privates in
       let p3 = nat_le 1 k in
-      let p4 = nat_le k 512 in
+      let p4 = nat_le k most_layers in
       both (counts_fault publics privates k) (layers_fault number (1 + publics + privates) 0 layers)
       (pass (p1 && (p2 && (p3 && p4))) (over_limit 0)
-      (and_from p1 (p2 && (p3 && p4)) (le-leb publics 65535 h.publics) (and_from p2 (p3 && p4) (le-leb privates 65536 h.privates)
-      (and_from p3 p4 (le-leb 1 k h.some) (le-leb k 512 h.depth)))))
+      (and_from p1 (p2 && (p3 && p4)) (le-leb publics most_publics h.publics) (and_from p2 (p3 && p4) (le-leb privates most_privates h.privates)
+      (and_from p3 p4 (le-leb 1 k h.some) (le-leb k most_layers h.depth)))))
       (layers-to (1 + publics + privates) 0 layers h.layers)
 
   pub not-valid : (publics privates : ℕ) (layers : List (Layer A)) (fault : CircuitFault) → first_fault number publics privates layers ≡ Some fault → IsValid o (wiring publics privates layers) → ⊥

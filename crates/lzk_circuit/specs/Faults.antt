@@ -5,6 +5,7 @@ use Rattle.lzk_circuit.specs.declared.layer.Layer.{Layer}
 use Rattle.lzk_circuit.specs.declared.fault.CircuitKind.{CircuitKind}
 use Rattle.lzk_circuit.specs.declared.fault.CircuitKind.TheVariants.{Range, Order, ZeroCoef, Limit}
 use Rattle.lzk_circuit.specs.declared.fault.CircuitFault.{CircuitFault}
+use Rattle.lzk_circuit.specs.Limits.{most_publics, most_privates, most_layers, most_wires, most_total}
 use Rattle.lzk_circuit.specs.Valid.{Under, under_of, follows}
 
 -- the first of two faults
@@ -36,7 +37,7 @@ terms_fault number layer wires width before place (t ∷ ts) =
 
 abbrev pub limits_fault : ℕ → ℕ → ℕ → ℕ → ℕ → Option CircuitFault
 limits_fault l under_wires under_terms wires terms =
-    unless (nat_le 1 wires && (nat_le wires 131072 && (nat_le (under_wires + wires) 2097152 && nat_le (under_terms + terms) 2097152))) (over_limit l)
+    unless (nat_le 1 wires && (nat_le wires most_wires && (nat_le (under_wires + wires) most_total && nat_le (under_terms + terms) most_total))) (over_limit l)
 
 abbrev pub layer_fault : {A : Type 0} → (A → ℕ) → ℕ → Under → Layer A → Option CircuitFault
 layer_fault number l under layer =
@@ -49,7 +50,7 @@ layers_fault number inputs l (layer ∷ layers) = first_of (layers_fault number 
 
 abbrev pub counts_fault : ℕ → ℕ → ℕ → Option CircuitFault
 counts_fault publics privates depth =
-    unless (nat_le publics 65535 && (nat_le privates 65536 && (nat_le 1 depth && nat_le depth 512))) (over_limit 0)
+    unless (nat_le publics most_publics && (nat_le privates most_privates && (nat_le 1 depth && nat_le depth most_layers))) (over_limit 0)
 
 abbrev pub first_fault : {A : Type 0} → (A → ℕ) → ℕ → ℕ → List (Layer A) → Option CircuitFault
 first_fault number publics privates layers = first_of (counts_fault publics privates (length layers)) (layers_fault number (1 + publics + privates) 0 layers)

@@ -2,6 +2,7 @@
 use Rattle.std.specs.Prelude.{◌≡◌, ◌≢◌, ℕ, ◌+◌, ◌<◌, ◌≤◌, ◌==◌, ◌&&◌, ◌||◌, nat_lt, Bool, true, IsTrue, Option, Some, None, List, [], ◌∷◌, ◌++◌, length, map}
 use Rattle.lzk_circuit.specs.declared.layer.Term.{Term}
 use Rattle.lzk_circuit.specs.declared.layer.Layer.{Layer}
+use Rattle.lzk_circuit.specs.Limits.{most_publics, most_privates, most_layers, most_wires, most_total}
 use Rattle.lzk_field.specs.Ring.{Ops}
 
 -- a circuit: its numbers of inputs, and its layers, the outputs' first
@@ -43,7 +44,24 @@ abbrev pub follows : {A : Type 0} → Option (Term A) → Term A → Bool
 follows None t = true
 follows (Some s) t = precedes s t
 
--- a term of a layer with so many wires, over a layer with so many
+-- A term is in its place, in a layer with so many wires over a layer with so many: its wire is there, and the two below it, of which b is no
+-- earlier than a. Of its coefficient nothing is said.
+pub record IsPlaced {A : Type 0} (wires width : ℕ) (t : Term A) : Type 0 where
+  pub g : t.g < wires
+  pub a : t.a ≤ t.b
+  pub b : t.b < width
+
+-- each is in its place, and comes after the one before it
+abbrev pub ArePlaced : {A : Type 0} → ℕ → ℕ → Option (Term A) → List (Term A) → Type 0
+ArePlaced wires width before [] = Unit {0}
+ArePlaced wires width before (t ∷ ts) = IsPlaced wires width t × IsTrue (follows before t) × ArePlaced wires width (Some t) ts
+
+-- the terms of each layer are in their places over the layer below, those of the last one over so many inputs
+abbrev pub AreLayersPlaced : {A : Type 0} → ℕ → List (Layer A) → Type 0
+AreLayersPlaced inputs [] = Unit {0}
+AreLayersPlaced inputs (layer ∷ layers) = ArePlaced layer.wires (under_of inputs layers).width None layer.terms × AreLayersPlaced inputs layers
+
+-- a term of a layer with so many wires, over a layer with so many: it is in its place, and its coefficient is not 0
 pub record IsTerm {A : Type 0} (o : Ops A) (wires width : ℕ) (t : Term A) : Type 0 where
   pub g : t.g < wires
   pub a : t.a ≤ t.b
@@ -57,9 +75,9 @@ AreTerms o wires width before (t ∷ ts) = IsTerm o wires width t × IsTrue (fol
 
 pub record IsLayer {A : Type 0} (o : Ops A) (under : Under) (layer : Layer A) : Type 0 where
   pub some : 1 ≤ layer.wires
-  pub most : layer.wires ≤ 131072
-  pub wires : under.wires + layer.wires ≤ 2097152
-  pub terms : under.terms + length layer.terms ≤ 2097152
+  pub most : layer.wires ≤ most_wires
+  pub wires : under.wires + layer.wires ≤ most_total
+  pub terms : under.terms + length layer.terms ≤ most_total
   pub each : AreTerms o layer.wires under.width None layer.terms
 
 -- each layer stands on the one below it, the last one on the inputs
@@ -68,10 +86,10 @@ AreLayers o inputs [] = Unit {0}
 AreLayers o inputs (layer ∷ layers) = IsLayer o (under_of inputs layers) layer × AreLayers o inputs layers
 
 pub record IsValid {A : Type 0} (o : Ops A) (c : Wiring A) : Type 0 where
-  pub publics : c.publics ≤ 65535
-  pub privates : c.privates ≤ 65536
+  pub publics : c.publics ≤ most_publics
+  pub privates : c.privates ≤ most_privates
   pub some : 1 ≤ length c.layers
-  pub depth : length c.layers ≤ 512
+  pub depth : length c.layers ≤ most_layers
   pub layers : AreLayers o (input_width c) c.layers
 
 -- how wide the layers are, and the input layer last

@@ -1,10 +1,10 @@
 -- The values of a layered circuit's wires, over the operations of a field.
-use Rattle.std.specs.Prelude.{◌≡◌, ◌≢◌, ℕ, ◌<◌, ◌==◌, ◌&&◌, ◌++◌, Bool, Option, Some, None, List, [], ◌∷◌, length, map, cond, slice_index_or}
+use Rattle.std.specs.Prelude.{◌≡◌, ◌≢◌, ℕ, ◌+◌, ◌<◌, ◌==◌, ◌&&◌, ◌++◌, Bool, Option, Some, None, List, [], ◌∷◌, length, map, cond, slice_get, slice_index_or}
 use Rattle.std.specs.List.{range_with_len}
 use Rattle.lzk_circuit.specs.declared.layer.Term.{Term}
 use Rattle.lzk_circuit.specs.declared.layer.Layer.{Layer}
 use Rattle.lzk_field.specs.Ring.{Ops}
-use Rattle.lzk_field.specs.Sums.{sum_below}
+use Rattle.lzk_circuit.specs.Sums.{sum_pairs}
 
 abbrev pub is_at : {A : Type 0} → Term A → ℕ → ℕ → ℕ → Bool
 is_at t g a b = (g == t.g) && ((a == t.a) && (b == t.b))
@@ -13,10 +13,6 @@ is_at t g a b = (g == t.g) && ((a == t.a) && (b == t.b))
 abbrev pub coef : {A : Type 0} → Ops A → List (Term A) → ℕ → ℕ → ℕ → A
 coef o [] g a b = o.zero
 coef o (t ∷ ts) g a b = cond (is_at t g a b) t.coef (coef o ts g a b)
-
--- the sum over all a and b below n
-abbrev pub sum_pairs : {A : Type 0} → Ops A → ℕ → (ℕ → ℕ → A) → A
-sum_pairs o n f = sum_below o n (λ a. sum_below o n (f a))
 
 -- wire g, over the values of the wires below, for any coefficients q
 unfoldable pub wire : {A : Type 0} → Ops A → (ℕ → ℕ → ℕ → A) → List A → ℕ → A
@@ -43,6 +39,10 @@ inputs_of o public private = o.one ∷ (public ++ private)
 -- the wires of a layer, the outputs being those of layer 0
 abbrev pub list_at : {A : Type 0} → List (List A) → ℕ → List A
 list_at values l = slice_index_or values l []
+
+-- each layer has the values of its wires over those of the layer below
+abbrev pub AreLayerValues : {A : Type 0} → Ops A → List (Layer A) → List (List A) → Type 0
+AreLayerValues {A} o layers values = (l : ℕ) (layer : Layer A) → slice_get layers l ≡ Some layer → list_at values l ≡ layer_values o layer (list_at values (l + 1))
 
 -- the least number whose value is not 0, with the value; none where all are 0
 abbrev pub IsFirstNonzero : {A : Type 0} → Ops A → List A → Option (ℕ × A) → Type 0

@@ -2,12 +2,14 @@
 
 ghost use Rattle.std.specs.Prelude.{◌≡◌, ◌≤◌, length, None, Some, MatchResult};
 ghost use Rattle.lzk_circuit.specs.Faults.{over_limit, term_fault, terms_fault, limits_fault, layer_fault, layers_fault, counts_fault};
+ghost use Rattle.lzk_circuit.specs.Limits.{most_layers, most_total};
 ghost use Rattle.lzk_circuit.specs.Valid.{Under, follows};
 
 use crate::fault::{CircuitFault, CircuitKind};
 use crate::layer::{Layer, Term};
 use lzk_field::Field;
 
+// The limits, as `most_publics` and the rest say them.
 const MOST_PUBLICS: u32 = 65_535;
 
 const MOST_PRIVATES: u32 = 65_536;
@@ -18,7 +20,7 @@ const MOST_LAYERS: usize = 512;
 const MOST_WIRES: u32 = 131_072;
 
 // Of all layers together, both wires and terms.
-const MOST_IN_ALL: u32 = 2_097_152;
+const MOST_TOTAL: u32 = 2_097_152;
 
 fn over(layer: u32) -> CircuitFault
     ensures { result ≡ over_limit layer }
@@ -75,7 +77,7 @@ fn check_terms<F: Field>(
     width: u32,
     terms: &[Term<F>],
 ) -> Result<(), CircuitFault>
-    requires { length terms.now ≤ 2097152 }
+    requires { length terms.now ≤ most_total }
     ensures { MatchResult result
         (λ _. terms_fault F.number_of layer wires width None 0 terms.now ≡ None)
         (λ fault. terms_fault F.number_of layer wires width None 0 terms.now ≡ Some fault) }
@@ -102,21 +104,21 @@ fn check_limits(
     wires: u32,
     terms: usize,
 ) -> Result<(), CircuitFault>
-    requires wires { under_wires ≤ 2097152 }
-    requires terms { under_terms ≤ 2097152 }
+    requires wires { under_wires ≤ most_total }
+    requires terms { under_terms ≤ most_total }
     ensures { MatchResult result (λ _. limits_fault l under_wires under_terms wires terms ≡ None) (λ fault. limits_fault l under_wires under_terms wires terms ≡ Some fault) }
 {
     if wires < 1 || wires > MOST_WIRES {
         return Err(over(l));
     }
-    if wires > MOST_IN_ALL - under_wires || terms > (MOST_IN_ALL - under_terms) as usize {
+    if wires > MOST_TOTAL - under_wires || terms > (MOST_TOTAL - under_terms) as usize {
         return Err(over(l));
     }
     Ok(())
 }
 
 pub(crate) fn check_layers<F: Field>(inputs: u32, layers: &[Layer<F>]) -> Result<(), CircuitFault>
-    requires { length layers.now ≤ 512 }
+    requires { length layers.now ≤ most_layers }
     ensures { MatchResult result
         (λ _. layers_fault F.number_of inputs 0 layers.now ≡ None)
         (λ fault. layers_fault F.number_of inputs 0 layers.now ≡ Some fault) }

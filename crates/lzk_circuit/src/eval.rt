@@ -2,7 +2,7 @@
 
 ghost use Rattle.std.specs.Prelude.{◌≡◌, ◌+◌, ◌++◌, ◌∷◌, [], None, length, map, slice_set, slice_index_or};
 ghost use Rattle.std.specs.List.{range_with_len};
-ghost use Rattle.lzk_circuit.specs.Valid.{IsTerm, AreTerms, AreLayers};
+ghost use Rattle.lzk_circuit.specs.Valid.{IsPlaced, ArePlaced, AreLayersPlaced};
 ghost use Rattle.lzk_circuit.specs.Wires.{coef, wire, layer_values, all_values, inputs_of};
 ghost use Rattle.lzk_field.specs.Sums.{entry};
 
@@ -21,7 +21,7 @@ fn clear<F: Field>(out: &mut [F])
 
 // Adds what a term counts.
 fn count_term<F: Field>(term: Term<F>, below: &[F], out: &mut [F])
-    requires { IsTerm F.ops (length out.old) (length below.now) term }
+    requires { IsPlaced (length out.old) (length below.now) term }
     ensures length { length out.new ≡ length out.old }
     ensures sum { let o = F.ops in
         out.new ≡ slice_set out.old term.g (o.plus (entry o out.old term.g) (o.times (o.times term.coef (entry o below.now term.a)) (entry o below.now term.b))) }
@@ -34,7 +34,7 @@ fn count_term<F: Field>(term: Term<F>, below: &[F], out: &mut [F])
 
 // Sets each wire of a layer to its value over the wires below.
 fn eval_layer<F: Field>(terms: &[Term<F>], below: &[F], out: &mut [F])
-    requires { AreTerms F.ops (length out.old) (length below.now) None terms.now }
+    requires { ArePlaced (length out.old) (length below.now) None terms.now }
     ensures { out.new ≡ map (wire F.ops (coef F.ops terms.now) below.now) (range_with_len 0 (length out.old)) }
 {
     clear(out);
@@ -45,7 +45,7 @@ fn eval_layer<F: Field>(terms: &[Term<F>], below: &[F], out: &mut [F])
 
 // The same for lists on the heap.
 fn eval_list<F: Field>(layer: &Layer<F>, below: &Vec<F>, out: &mut Vec<F>)
-    requires terms { AreTerms F.ops layer.now.wires (length below.now.items) None layer.now.terms }
+    requires terms { ArePlaced layer.now.wires (length below.now.items) None layer.now.terms }
     requires room { length out.old.items ≡ layer.now.wires }
     ensures { out.new.items ≡ layer_values F.ops layer.now below.now.items }
 {
@@ -68,7 +68,7 @@ fn set_inputs<F: Field>(public: &[F], private: &[F], inputs: &mut [F])
 
 // Sets the lists of all layers, the inputs' first and then from the last layer to the uppermost.
 fn eval_layers<F: Field>(layers: &[Layer<F>], public: &[F], private: &[F], lists: &mut [Vec<F>])
-    requires layers { AreLayers F.ops (1 + length public.now + length private.now) layers.now }
+    requires layers { AreLayersPlaced (1 + length public.now + length private.now) layers.now }
     requires room { map (λ list. length list.items) lists.old ≡ map (λ layer. layer.wires) layers.now ++ (1 + length public.now + length private.now) ∷ [] }
     ensures { map (λ list. list.items) lists.new ≡ all_values F.ops layers.now (inputs_of F.ops public.now private.now) }
 {
@@ -90,7 +90,7 @@ pub(crate) fn eval_lists<F: Field>(
     private: &[F],
     lists: &mut Vec<Vec<F>>,
 )
-    requires layers { AreLayers F.ops (1 + length public.now + length private.now) layers.now }
+    requires layers { AreLayersPlaced (1 + length public.now + length private.now) layers.now }
     requires room { map (λ list. length list.items) lists.old.items ≡ map (λ layer. layer.wires) layers.now ++ (1 + length public.now + length private.now) ∷ [] }
     ensures { map (λ list. list.items) lists.new.items ≡ all_values F.ops layers.now (inputs_of F.ops public.now private.now) }
 {

@@ -7,9 +7,13 @@ use std::marker::Model;
 /// `coef` times wire `a` times wire `b` of the layer below counts for wire `g`.
 #[derive(Clone, Copy)]
 pub struct Term<F> {
+    /// The wire of the term's own layer.
     pub g: u32,
+    /// The wire of the layer below that is no later than the other.
     pub a: u32,
+    /// The other wire of the layer below.
     pub b: u32,
+    /// The coefficient.
     pub coef: F,
 }
 
@@ -54,6 +58,8 @@ impl<F> Terms<F> {
 /// A layer's number of wires, and its terms, which ascend by (g, a, b).
 #[derive(Drop)]
 pub struct Layer<F> {
+    /// How many wires the layer has.
     pub wires: u32,
+    /// What the terms count for the layer's wires.
     pub terms: Terms<F>,
 }

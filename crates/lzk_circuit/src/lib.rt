@@ -13,6 +13,7 @@
 //! ```
 #![tactic(auto)]
 
+mod bits;
 mod check;
 mod circuit;
 mod eval;
@@ -20,6 +21,7 @@ mod fault;
 mod layer;
 mod values;
 
+pub use bits::bits_of;
 pub use circuit::Circuit;
 pub use fault::{CircuitFault, CircuitKind};
 pub use layer::{Layer, Term, Terms};

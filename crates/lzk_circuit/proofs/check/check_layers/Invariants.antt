@@ -1,6 +1,7 @@
 use Rattle.std.proofs.Common.{◌≡◌, ◌≤◌, drop}
 use Rattle.std.specs.Prelude.{None}
 use Rattle.lzk_circuit.specs.Faults.{layers_fault}
+use Rattle.lzk_circuit.specs.Limits.{most_total}
 use Rattle.lzk_circuit.specs.Valid.{under_of}
 use Rattle.lzk_circuit.proofs.check.check_layers.Given as goal
 
@@ -8,6 +9,6 @@ abbrev pub invariant-loop-l : goal.invariant-loop-l
 invariant-loop-l g l = record {
   none : layers_fault g.F.Field.number_of l.inputs l.l (drop l.l l.layers) ≡ None;
   under : under_of l.inputs (drop l.l l.layers) ≡ record { width = l.width; wires = l.wires; terms = l.count };
-  wires : l.wires ≤ 2097152;
-  terms : l.count ≤ 2097152;
+  wires : l.wires ≤ most_total;
+  terms : l.count ≤ most_total;
 }

@@ -1,7 +1,8 @@
 use Rattle.std.proofs.Common.{◌≡◌, ℕ, ◌<◌, drop, length}
 use Rattle.lzk_field.specs.Sums.{entry}
 use Rattle.lzk_circuit.specs.Wires.{coef, wire}
-use Rattle.lzk_circuit.proofs.TermSums.{share, sum_list}
+use Rattle.lzk_circuit.specs.Sums.{sum_list}
+use Rattle.lzk_circuit.proofs.TermSums.{share}
 use Rattle.lzk_circuit.proofs.eval.eval_layer.Given as goal
 
 abbrev pub invariant-loop-i : goal.invariant-loop-i

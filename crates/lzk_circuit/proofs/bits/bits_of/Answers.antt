@@ -1,6 +1,6 @@
 use Rattle.std.proofs.Common.{◌≡◌, ℕ, subst, arith}
-use Rattle.lzk_layout.proofs.Least.{AllFall, bits_is, fall_more, power_more}
-use Rattle.lzk_layout.proofs.params.bits_of.Goals as goal
+use Rattle.lzk_circuit.proofs.BitLaws.{AllFall, bits_is, fall_more, power_more, bits_enough, bits_least}
+use Rattle.lzk_circuit.proofs.bits.bits_of.Goals as goal
 
 pub returns-then-wires-power-clause-bits : goal.returns-then-wires-power-clause-bits
 returns-then-wires-power-clause-bits c = bits_is c.args.wires c.loop-k.k c.loop-k.invariant.below (omega (arith, c.if-wires-power.true, c.loop-k.invariant.power))
@@ -15,3 +15,15 @@ pub returns-clause-bits : goal.returns-clause-bits
 returns-clause-bits c =
     let e : c.loop-k.k ≡ 17 = omega arith in
     bits_is c.args.wires 17 (subst (λ (k : ℕ). AllFall c.args.wires k) e c.loop-k.invariant.below) c.requires
+
+pub returns-then-wires-power-clause-enough : goal.returns-then-wires-power-clause-enough
+returns-then-wires-power-clause-enough c = bits_enough c.args.wires
+
+pub returns-then-wires-power-clause-least : goal.returns-then-wires-power-clause-least
+returns-then-wires-power-clause-least c = bits_least c.args.wires
+
+pub returns-clause-enough : goal.returns-clause-enough
+returns-clause-enough c = bits_enough c.args.wires
+
+pub returns-clause-least : goal.returns-clause-least
+returns-clause-least c = bits_least c.args.wires

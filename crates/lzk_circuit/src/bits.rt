@@ -1,0 +1,23 @@
+//! How many bits number the wires of a layer.
+
+ghost use Rattle.std.specs.Prelude.{ℕ, ◌≡◌, ◌<◌, ◌≤◌, ◌^◌};
+ghost use Rattle.lzk_circuit.specs.Bits.{bits};
+ghost use Rattle.lzk_circuit.specs.Limits.{most_wires};
+
+/// How many bits number so many wires. One wire, and none, take no bit.
+pub fn bits_of(wires: u32) -> u32
+    requires { wires ≤ most_wires }
+    ensures bits { result ≡ bits wires }
+    ensures few { result ≤ 17 }
+    ensures enough { wires ≤ 2 ^ bits wires }
+    ensures least { (k : ℕ) → k < bits wires → 2 ^ k < wires }
+{
+    let mut power: u32 = 1;
+    for k in 0..17 {
+        if wires <= power {
+            return k;
+        }
+        power *= 2;
+    }
+    17
+}
