@@ -12,7 +12,8 @@ use Rattle.lzk_circuit.specs.declared.layer.Layer.{Layer}
 use Rattle.lzk_circuit.specs.Valid.{Wiring, input_width, AreLayers, IsValid, widths}
 use Rattle.lzk_layout.specs.declared.params.Params.{Params}
 use Rattle.lzk_layout.specs.Sizes.{row_width, under_widths, sent_count, pad_count, sent_counts, committed_count, sizes, params_of, AreParams, AreBounded}
-use Rattle.lzk_layout.proofs.Least.{bits_few, width_64, width_128, width_256, width_512}
+use Rattle.lzk_circuit.proofs.BitLaws.{bits_few}
+use Rattle.lzk_layout.proofs.Least.{width_64, width_128, width_256, width_512}
 
 -- ---- widths
 

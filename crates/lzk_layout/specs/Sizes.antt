@@ -1,20 +1,11 @@
 -- The parameters of a circuit: how long its committed list is, how it is laid out in rows, and how long a proof's file is.
-use Rattle.std.specs.Prelude.{◌≡◌, ℕ, ◌+◌, ◌-◌, ◌*◌, ◌/◌, ◌%◌, ◌^◌, ◌≤◌, nat_le, Bool, List, [], ◌∷◌, length, drop, if◌then◌else◌}
-use Rattle.std.proofs.Common.{zero, suc}
+use Rattle.std.specs.Prelude.{◌≡◌, ℕ, ◌+◌, ◌-◌, ◌*◌, ◌/◌, ◌%◌, ◌^◌, ◌≤◌, nat_le, List, [], ◌∷◌, length, drop}
 use Rattle.std.specs.Int.{div_ceil}
 use Rattle.std.specs.List.{sum, sum_by}
 use Rattle.lzk_field.specs.Ring.{Ops}
+use Rattle.lzk_circuit.specs.Bits.{least_from, bits}
 use Rattle.lzk_circuit.specs.Valid.{Wiring, IsValid, widths}
 use Rattle.lzk_layout.specs.declared.params.Params.{Params}
-
--- the least number from k on that passes the test, looking no further than n above k
-abbrev pub least_from : (ℕ → Bool) → ℕ → ℕ → ℕ
-least_from test zero k = k
-least_from test (suc n) k = if test k then k else least_from test n (k + 1)
-
--- the least k with 2 ^ k no less than n: the bits that number n wires
-unfoldable pub bits : ℕ → ℕ
-bits n = least_from (λ k. nat_le n (2 ^ k)) n 0
 
 -- the least power of two, at least 64, whose square is no less than nw
 unfoldable pub row_width : ℕ → ℕ

@@ -1,9 +1,9 @@
 //! The parameters of a circuit.
 
 ghost use Rattle.std.specs.Prelude.{◌≡◌, ◌<◌, ◌≤◌, ◌+◌};
-ghost use Rattle.lzk_layout.specs.Sizes.{bits, row_width, sent_counts, committed_count, params_of, AreParams, AreBounded, place_of, proof_length};
+ghost use Rattle.lzk_layout.specs.Sizes.{row_width, sent_counts, committed_count, params_of, AreParams, AreBounded, place_of, proof_length};
 
-use lzk_circuit::Circuit;
+use lzk_circuit::{Circuit, bits_of};
 use lzk_field::Field;
 
 /// The numbers and lengths that a circuit gives, those of 'Parameters and committed values' of the profile in docs/FORMATS.md.
@@ -31,22 +31,6 @@ pub struct Params {
     pub nsum: u32,
     /// How many layers the circuit has, the input layer not counted.
     pub layers: u32,
-}
-
-// The least k with 2 ^ k no less than `wires`.
-fn bits_of(wires: u32) -> u32
-    requires { wires ≤ 131072 }
-    ensures bits { result ≡ bits wires }
-    ensures few { result ≤ 17 }
-{
-    let mut power: u32 = 1;
-    for k in 0..17 {
-        if wires <= power {
-            return k;
-        }
-        power *= 2;
-    }
-    17
 }
 
 // The least power of two, at least 64, whose square is no less than `nw`.

@@ -8,7 +8,8 @@ use Rattle.lzk_circuit.specs.declared.layer.Term.{Term}
 use Rattle.lzk_circuit.specs.Valid.{follows, AreTerms}
 use Rattle.lzk_circuit.specs.Wires.{is_at, coef, wire}
 use Rattle.lzk_circuit.proofs.OrderLaws.{distinct}
-use Rattle.lzk_circuit.proofs.TermSums.{sum_list, share, wire-terms, sum_pairs-ext}
+use Rattle.lzk_circuit.specs.Sums.{sum_list}
+use Rattle.lzk_circuit.proofs.TermSums.{share, wire-terms, sum_pairs-ext}
 use Rattle.lzk_reduce.specs.Rows.{IsRow, row_value, term_value, placed}
 use Rattle.lzk_reduce.proofs.RowLaws.{last_from, append-terms, precedes-less, less-precedes}
 

@@ -9,7 +9,8 @@ use Rattle.lzk_circuit.specs.declared.layer.Term.{Term}
 use Rattle.lzk_circuit.specs.Valid.{AreTerms}
 use Rattle.lzk_circuit.specs.Wires.{coef, wire}
 use Rattle.lzk_circuit.proofs.OrderLaws.{distinct}
-use Rattle.lzk_circuit.proofs.TermSums.{sum_list, share, wire-terms}
+use Rattle.lzk_circuit.specs.Sums.{sum_list}
+use Rattle.lzk_circuit.proofs.TermSums.{share, wire-terms}
 use Rattle.lzk_reduce.specs.Renumbering.{at}
 use Rattle.lzk_reduce.specs.Rows.{row_value, term_value, ordered}
 use Rattle.lzk_reduce.specs.Renumbering.{of_wire, AreOver, AreCopies, IsOne}
