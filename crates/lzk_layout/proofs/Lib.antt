@@ -5,5 +5,6 @@ pub mod Least
 pub mod Lengths
 pub mod OneProof
 pub mod OpenedLaws
+pub mod PlaceLaws
 pub mod SizeLaws
 pub mod WholeFiles

@@ -1,10 +1,11 @@
 -- What the limits on circuits leave of their parameters.
-use Rattle.std.specs.Prelude.{◌≡◌, ℕ, ◌+◌, ◌*◌, ◌<◌, ◌≤◌, ◌++◌, List, [], ◌∷◌, length, map, drop, take}
+use Rattle.std.specs.Prelude.{◌≡◌, ℕ, ◌+◌, ◌*◌, ◌/◌, ◌%◌, ◌<◌, ◌≤◌, ◌++◌, List, [], ◌∷◌, length, map, drop, take}
 use Rattle.std.proofs.Common.{zero, suc, refl, sym, ap, ◌∙◌, arith, inl, inr, subst, get_or}
 use Rattle.std.specs.Int.{div_ceil}
 use Rattle.std.specs.List.{sum_by}
 use Rattle.std.proofs.lemmas.Bool.{cases_lt}
-use Rattle.std.proofs.lemmas.Nat.{mul-le}
+use Rattle.std.proofs.lemmas.Nat.{mul-le, div_below}
+use Rattle.std.proofs.lemmas.Grind.{div_ceil_times}
 use Rattle.std.proofs.lemmas.List.{length-map, length-append, length-drop}
 use Rattle.std.proofs.lemmas.List.Sums.{sum_by-cons, sum_by_more}
 use Rattle.lzk_field.specs.Ring.{Ops}
@@ -66,9 +67,9 @@ counts_more f c l w lt is =
 -- ---- bounds
 
 -- with rows of a known width
-with_width : (nw nsum layers wr : ℕ) → row_width nw ≡ wr → nw ≤ 101888 → nsum ≤ 35840 → 1 ≤ layers → layers ≤ 512 → 64 ≤ wr → wr ≤ 512
+with_width : (nw nsum layers wr : ℕ) → row_width nw ≡ wr → nw ≤ 101888 → nsum ≤ 35840 → 1 ≤ layers → layers ≤ 512 → 64 ≤ wr → wr ≤ 512 → nw ≤ wr * wr
     → 3 + div_ceil nw wr + 3 * div_ceil layers wr ≤ 265 → AreBounded (sizes nw nsum layers)
-with_width nw nsum layers wr e few sent some most wide narrow rows = record {
+with_width nw nsum layers wr e few sent some most wide narrow square rows = record {
   nw = few;
   wide = omega arith;
   wr = omega arith;
@@ -80,19 +81,24 @@ with_width nw nsum layers wr e few sent some most wide narrow rows = record {
   nsum = sent;
   some = some;
   layers = most;
+  square = rw e square;
+  columns = refl;
+  nwrow = refl;
+  ntriple = refl;
+  rows = refl;
 }
 
 pub bounded : (nw nsum layers : ℕ) → nw ≤ 101888 → nsum ≤ 35840 → 1 ≤ layers → layers ≤ 512 → AreBounded (sizes nw nsum layers)
 bounded nw nsum layers few sent some most =
     elim (cases_lt 4096 nw) [
-      | inr le ↦ with_width nw nsum layers 64 (width_64 nw le) few sent some most (omega arith) (omega arith) (omega arith)
+      | inr le ↦ with_width nw nsum layers 64 (width_64 nw le) few sent some most (omega arith) (omega arith) (omega arith) (omega arith)
       | inl lt ↦
           elim (cases_lt 16384 nw) [
-            | inr le ↦ with_width nw nsum layers 128 (width_128 nw lt le) few sent some most (omega arith) (omega arith) (omega arith)
+            | inr le ↦ with_width nw nsum layers 128 (width_128 nw lt le) few sent some most (omega arith) (omega arith) (omega arith) (omega arith)
             | inl lt' ↦
                 elim (cases_lt 65536 nw) [
-                  | inr le ↦ with_width nw nsum layers 256 (width_256 nw lt' le) few sent some most (omega arith) (omega arith) (omega arith)
-                  | inl lt'' ↦ with_width nw nsum layers 512 (width_512 nw lt'' (omega arith)) few sent some most (omega arith) (omega arith) (omega arith)
+                  | inr le ↦ with_width nw nsum layers 256 (width_256 nw lt' le) few sent some most (omega arith) (omega arith) (omega arith) (omega arith)
+                  | inl lt'' ↦ with_width nw nsum layers 512 (width_512 nw lt'' (omega arith)) few sent some most (omega arith) (omega arith) (omega arith) (omega arith)
                 ]
           ]
     ]
@@ -108,3 +114,13 @@ are_bounded o p h = subst (λ (q : Params). AreBounded q) (sym h.are) (params_bo
 pub file_fits : (width elements rows digests : ℕ) → width ≤ 16 → elements ≤ 38526 → rows ≤ 265 → digests ≤ 1536
     → 72 + width * elements + 128 * (32 + width * rows) + 32 * digests ≤ 2097152
 file_fits width elements rows digests w e r d = omega (arith, mul-le width elements 16 38526 w e, mul-le width rows 16 265 w r)
+
+-- ---- places
+
+-- what stands before a place within n has fewer full rows than n has rows
+pub row_below : (j n wr : ℕ) → 1 ≤ wr → j < n → j / wr < div_ceil n wr
+row_below j n wr some less = let all = div_ceil_times n wr some in div_below j wr (div_ceil n wr) some (omega (arith, all.0))
+
+-- a copy stands in a row of its triple
+pub copy_row : (m layers wr : ℕ) → 1 ≤ wr → m < 3 * layers → 3 * (m / 3 / wr) + m % 3 < 3 * div_ceil layers wr
+copy_row m layers wr some less = omega (arith, row_below (m / 3) layers wr some (omega arith))

@@ -1,6 +1,7 @@
 pub mod Lists
 pub mod Lending
 pub mod Sizes
+pub mod Places
 pub mod Proofs
 pub mod Fields
 pub mod Files

@@ -4,6 +4,7 @@ use Rattle.std.specs.Int.{div_ceil}
 use Rattle.std.specs.List.{sum, sum_by}
 use Rattle.lzk_field.specs.Ring.{Ops}
 use Rattle.lzk_circuit.specs.Bits.{least_from, bits}
+use Rattle.lzk_circuit.specs.Limits.{most_layers}
 use Rattle.lzk_circuit.specs.Valid.{Wiring, IsValid, widths}
 use Rattle.lzk_layout.specs.declared.params.Params.{Params}
 
@@ -63,7 +64,7 @@ pub record AreParams {A : Type 0} (o : Ops A) (p : Params) : Type 0 where
   pub valid : IsValid o circuit
   pub are : p ≡ params_of circuit
 
--- what the limits on circuits leave of parameters
+-- how parameters hang together, and what the limits on circuits leave of them
 pub record AreBounded (p : Params) : Type 0 where
   pub nw : p.nw ≤ 101888
   pub wide : 64 ≤ p.wr
@@ -75,7 +76,12 @@ pub record AreBounded (p : Params) : Type 0 where
   pub nrow : p.nrow ≤ 265
   pub nsum : p.nsum ≤ 35840
   pub some : 1 ≤ p.layers
-  pub layers : p.layers ≤ 512
+  pub layers : p.layers ≤ most_layers
+  pub square : p.nw ≤ p.wr * p.wr
+  pub columns : p.ncol ≡ p.dblock + p.mcol
+  pub nwrow : p.nwrow ≡ div_ceil p.nw p.wr
+  pub ntriple : p.ntriple ≡ div_ceil p.layers p.wr
+  pub rows : p.nrow ≡ 3 + p.nwrow + 3 * p.ntriple
 
 -- row and position of entry j of the committed list
 abbrev pub place_of : Params → ℕ → ℕ × ℕ

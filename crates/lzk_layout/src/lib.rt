@@ -21,6 +21,7 @@ mod encoding;
 mod fault;
 mod lists;
 mod params;
+mod places;
 mod proof;
 mod reading;
 
@@ -29,4 +30,5 @@ pub use encoding::encode_proof;
 pub use fault::{ProofFault, ProofKind};
 pub use lists::{Blocks, Elements, Path};
 pub use params::{Params, proof_len};
+pub use places::LayerPlaces;
 pub use proof::Proof;

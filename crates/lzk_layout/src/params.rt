@@ -2,6 +2,7 @@
 
 ghost use Rattle.std.specs.Prelude.{◌≡◌, ◌<◌, ◌≤◌, ◌+◌};
 ghost use Rattle.lzk_layout.specs.Sizes.{row_width, sent_counts, committed_count, params_of, AreParams, AreBounded, place_of, proof_length};
+ghost use Rattle.lzk_layout.specs.Places.{copy_place_of};
 
 use lzk_circuit::{Circuit, bits_of};
 use lzk_field::Field;
@@ -102,9 +103,25 @@ impl Params {
     pub fn place(&self, j: u32) -> (u32, u32)
         requires params { AreBounded self.now }
         requires entry { j < self.now.nw }
-        ensures { result ≡ place_of self.now j }
+        ensures place { result ≡ place_of self.now j }
+        ensures row { result.0 < 3 + self.now.nwrow }
+        ensures position { result.1 < self.now.wr }
     {
         (3 + j / self.wr, j % self.wr)
+    }
+
+    /// Row and position of the copy of value `m` of the quadratic constraints. Layer l has the values from 3l on: its first
+    /// factor's pad, the second's, and their product.
+    pub fn copy_place(&self, m: u32) -> (u32, u32)
+        requires params { AreBounded self.now }
+        requires value { m < 3 * self.now.layers }
+        ensures place { result ≡ copy_place_of self.now m }
+        ensures row { result.0 < self.now.nrow }
+        ensures position { result.1 < self.now.wr }
+    {
+        let layer = m / 3;
+        let row = 3 + self.nwrow + 3 * (layer / self.wr) + m % 3;
+        (row, layer % self.wr)
     }
 }
 
