@@ -6,5 +6,6 @@ pub mod Lengths
 pub mod OneProof
 pub mod OpenedLaws
 pub mod PlaceLaws
+pub mod ReadProof
 pub mod SizeLaws
 pub mod WholeFiles

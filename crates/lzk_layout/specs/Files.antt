@@ -1,5 +1,5 @@
 -- What holds of all files of proofs.
-use Rattle.std.specs.Prelude.{◌≡◌, ℕ, List, Bool, IsTrue}
+use Rattle.std.specs.Prelude.{◌≡◌, ℕ, ◌<◌, List, length, slice_index_or, Bool, IsTrue}
 use Rattle.lzk_layout.specs.declared.params.Params.{Params}
 use Rattle.lzk_layout.specs.declared.proof.Proof.{Proof}
 use Rattle.lzk_layout.specs.declared.fault.ProofKind.{ProofKind}
@@ -42,3 +42,17 @@ OneFault shape p = (file : List ℕ) (m n : ℕ) (k l : ProofKind) → ProofFaul
 -- no proof's file has a fault
 abbrev pub NoFault : {A : Type 0} → ℕ → ℕ → (A → ℕ) → Params → Type 0
 NoFault {A} bytes size number p = (q : Proof A) (file : List ℕ) (offset : ℕ) (kind : ProofKind) → ProofBytes bytes number p q file → ¬ ProofFaultAt (shape bytes size) p file offset kind
+
+-- each number is a byte's
+abbrev pub AreBytes : List ℕ → Type 0
+AreBytes file = (k : ℕ) → k < length file → slice_index_or file k 0 < 256
+
+-- some proof has these bytes as its file
+pub record IsProofFile {A : Type 0} (bytes : ℕ) (number : A → ℕ) (p : Params) (file : List ℕ) : Type 0 where
+  pub proof : Proof A
+  pub is : ProofBytes bytes number p proof file
+
+-- bytes that have no fault are some proof's file
+abbrev pub SomeProof : {A : Type 0} → ℕ → ℕ → (A → ℕ) → Params → Type 0
+SomeProof {A} bytes size number p =
+    (file : List ℕ) → AreBytes file → ((offset : ℕ) (kind : ProofKind) → ¬ ProofFaultAt (shape bytes size) p file offset kind) → IsProofFile {A} bytes number p file

@@ -6,7 +6,7 @@ ghost use Rattle.lzk_layout.specs.Proofs.{element_field, opened_fields, fields_o
 ghost use Rattle.lzk_layout.specs.Answers.{answer_fields, answer_sorts_of, Gives};
 ghost use Rattle.lzk_layout.specs.declared.params.Params.{Params};
 ghost use Rattle.lzk_layout.specs.Fields.{magic, plain, element, shape, opened_sorts, fields_at, proof_at, ProofFaultAt};
-ghost use Rattle.lzk_layout.specs.Files.{IsNoProof, IsRead, OneProof, OneFault, NoFault};
+ghost use Rattle.lzk_layout.specs.Files.{IsNoProof, IsRead, OneProof, OneFault, NoFault, SomeProof};
 
 use crate::fault::{ProofFault, ProofKind, Stop};
 use crate::lists::{Blocks, Elements};
@@ -132,6 +132,7 @@ pub fn decode_proof<F: Field>(
     ensures one_proof { OneProof F.BYTES F.number_of params.now }
     ensures one_fault { OneFault (shape F.BYTES F.size) params.now }
     ensures no_fault { NoFault F.BYTES F.size F.number_of params.now }
+    ensures some_proof { SomeProof F.BYTES F.size F.number_of params.now }
 {
     match file_into(params, bytes, proof) {
         Ok(()) => Ok(()),

@@ -2,7 +2,7 @@
 
 ghost use Rattle.std.specs.Prelude.{◌≡◌, ◌<◌, ◌≤◌, ◌++◌, [], ◌∷◌, length, replicate, take, IfOk};
 ghost use Rattle.std.specs.Borrow.{sem};
-ghost use Rattle.lzk_layout.specs.Lending.{lends_elements, lends_blocks};
+ghost use Rattle.lzk_layout.specs.Lending.{lends_elements, lends_blocks, lends_path};
 
 use std::alloc::{AllocError, Global};
 use std::marker::Model;
@@ -161,5 +161,14 @@ impl Path {
     {
         let (digests, _) = self.list.split_at(self.count);
         digests
+    }
+
+    /// The digests in order, and the room behind them, to be written. What is written behind the digests is not kept.
+    pub fn room_mut(&mut self) -> &mut [[u8; 32]]
+        ensures* writes_back { sem 𝓛 (lends_path self.entry result) }
+        ensures value { take (length self.old.digests) result.now ≡ self.old.digests }
+        ensures room { length result.now ≡ self.old.room }
+    {
+        self.list.as_mut_slice()
     }
 }

@@ -1,6 +1,6 @@
 //! The parameters of a circuit.
 
-ghost use Rattle.std.specs.Prelude.{◌≡◌, ◌<◌, ◌≤◌, ◌+◌};
+ghost use Rattle.std.specs.Prelude.{◌≡◌, ◌<◌, ◌≤◌, ◌+◌, ◌*◌};
 ghost use Rattle.lzk_layout.specs.Sizes.{row_width, sent_counts, committed_count, params_of, AreParams, AreBounded, place_of, proof_length};
 ghost use Rattle.lzk_layout.specs.Places.{copy_place_of};
 

@@ -3,6 +3,7 @@ use Rattle.lzk_layout.specs.Fields.{shape}
 use Rattle.lzk_layout.proofs.Faults.{proof_left, fault_found}
 use Rattle.lzk_layout.proofs.Lengths.{file_length}
 use Rattle.lzk_layout.proofs.OneProof.{proof_takes, one_proof, no_proof, no_fault}
+use Rattle.lzk_layout.proofs.ReadProof.{some_proof}
 use Rattle.lzk_layout.proofs.decoding.decode_proof.Goals as goal
 
 pub overflow_sub-result : goal.overflow_sub-result
@@ -51,3 +52,9 @@ returns-in-Err-clause-no_fault g c = no_fault g.F.Field.ops g.F.Field.size g.F.F
 
 pub returns-in-Ok-clause-length : goal.returns-in-Ok-clause-length
 returns-in-Ok-clause-length g c = file_length g.F.Field.BYTES g.F.Field.number_of c.args.params.now c.file_into.new.proof c.args.bytes.now (returns-in-Ok-clause-proof g c)
+
+pub returns-in-Ok-clause-some_proof : goal.returns-in-Ok-clause-some_proof
+returns-in-Ok-clause-some_proof g c = some_proof g.F.Field.ops g.F.Field.size g.F.Field.number_of g.F.Field.element g.F.Field.BYTES g.F.Field.laws c.args.params.now
+
+pub returns-in-Err-clause-some_proof : goal.returns-in-Err-clause-some_proof
+returns-in-Err-clause-some_proof g c = some_proof g.F.Field.ops g.F.Field.size g.F.Field.number_of g.F.Field.element g.F.Field.BYTES g.F.Field.laws c.args.params.now
