@@ -1,7 +1,7 @@
 //! The Goldilocks field: the numbers below the prime 2^64 - 2^32 + 1.
 //!
-//! It is one of the two fields of the profile in docs/FORMATS.md of draft-google-cfrg-libzk. A caller
-//! writes
+//! It is one of the two fields of the profile in docs/FORMATS.md, for the circuits of draft-google-cfrg-libzk.
+//! A caller writes
 //!
 //! ```text
 //! use lzk_field::Field;

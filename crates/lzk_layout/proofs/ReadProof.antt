@@ -13,7 +13,7 @@ use Rattle.lzk_field.proofs.ByteForms.{bytes_of-number_from}
 use Rattle.lzk_layout.specs.declared.params.Params.{Params}
 use Rattle.lzk_layout.specs.declared.proof.Proof.{Proof}
 use Rattle.lzk_layout.specs.declared.fault.ProofKind.{ProofKind}
-use Rattle.lzk_layout.specs.Proofs.{flat, element_field, opened_fields, AreDigests, ProofBytes}
+use Rattle.lzk_layout.specs.Proofs.{flat, element_field, opened_fields, AreDigests}
 use Rattle.lzk_layout.specs.declared.fault.Stop.{Stop}
 use Rattle.lzk_layout.specs.Files.{AreBytes, IsProofFile, SomeProof}
 use Rattle.lzk_layout.specs.Answers.{answer_fields}

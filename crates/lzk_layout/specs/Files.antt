@@ -54,5 +54,5 @@ pub record IsProofFile {A : Type 0} (bytes : ℕ) (number : A → ℕ) (p : Para
 
 -- bytes that have no fault are some proof's file
 abbrev pub SomeProof : {A : Type 0} → ℕ → ℕ → (A → ℕ) → Params → Type 0
-SomeProof {A} bytes size number p =
-    (file : List ℕ) → AreBytes file → ((offset : ℕ) (kind : ProofKind) → ¬ ProofFaultAt (shape bytes size) p file offset kind) → IsProofFile {A} bytes number p file
+SomeProof bytes size number p =
+    (file : List ℕ) → AreBytes file → ((offset : ℕ) (kind : ProofKind) → ¬ ProofFaultAt (shape bytes size) p file offset kind) → IsProofFile bytes number p file

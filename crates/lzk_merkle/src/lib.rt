@@ -1,6 +1,6 @@
 //! Merkle trees of SHA-256 over columns of field elements, and the paths that open some of their leaves.
 //!
-//! The tree is the one of the profile in docs/FORMATS.md of draft-google-cfrg-libzk, as Ligero (CCS 2017) commits to a
+//! The tree is the one of the profile in docs/FORMATS.md, as Ligero (CCS 2017) and draft-google-cfrg-libzk commit to a
 //! matrix by its columns. n leaves, from 1 to 65,536, have the node numbers n to 2n - 1; the root is node 1. A prover
 //! writes
 //!

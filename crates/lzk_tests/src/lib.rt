@@ -5,6 +5,8 @@
 #![tactic(auto)]
 
 #[cfg(test)]
+mod circuit_ground;
+#[cfg(test)]
 mod circuits;
 #[cfg(test)]
 mod extension;
@@ -14,6 +16,8 @@ mod number_files;
 mod number_vectors;
 #[cfg(test)]
 mod parameters;
+#[cfg(test)]
+mod places;
 #[cfg(test)]
 mod proof_files;
 #[cfg(test)]

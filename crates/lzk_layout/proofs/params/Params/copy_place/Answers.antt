@@ -1,4 +1,4 @@
-use Rattle.std.proofs.Common.{◌*◌, arith}
+use Rattle.std.proofs.Common.{arith}
 use Rattle.lzk_layout.proofs.SizeLaws.{copy_row}
 use Rattle.lzk_layout.proofs.params.Params.copy_place.Goals as goal
 

@@ -1,6 +1,6 @@
 use Rattle.std.proofs.Common.{◌∙◌, ap, arith, subst, sym, ℕ}
 use Rattle.lzk_layout.specs.declared.places.LayerPlaces.{LayerPlaces}
-use Rattle.lzk_layout.specs.Places.{begun, places_of, AreWithin}
+use Rattle.lzk_layout.specs.Places.{begun, AreWithin}
 use Rattle.lzk_layout.proofs.PlaceLaws.{first_is, within}
 use Rattle.lzk_layout.proofs.places.LayerPlaces.first.Goals as goal
 
