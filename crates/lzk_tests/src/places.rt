@@ -84,6 +84,6 @@ fn digests_are_written_into_a_path(rt: HostRuntime) -> Result<(), Fail> {
     }
     assert_eq!(rt; path.len(), 2);
     assert_eq!(rt; path.room(), 4);
-    assert!(rt; path.as_slice() == &[[1; 32], [7; 32]]);
+    assert!(rt; path.as_slice() == [[1; 32], [7; 32]].as_slice());
     Ok(())
 }
