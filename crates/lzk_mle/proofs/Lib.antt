@@ -1,0 +1,4 @@
+pub mod CornerLaws
+pub mod Halves
+pub mod LoopStates
+pub mod TableLaws

@@ -1,0 +1,7 @@
+use Rattle.std.proofs.Common.{◌≡◌}
+use Rattle.lzk_field.specs.Sums.{minus}
+use Rattle.lzk_mle.proofs.LoopStates.{IsBoundUpTo}
+use Rattle.lzk_mle.proofs.binding.bind_first.Given as goal
+
+abbrev pub invariant-loop-i : goal.invariant-loop-i
+invariant-loop-i g l = let o = g.F.Field.ops in IsBoundUpTo o l.fn.r l.fn.table l.i l.table

@@ -1,0 +1,21 @@
+//! Multilinear extensions of tables of field elements.
+//!
+//! A table's entry `i` stands at the point whose coordinates are the bits of `i`, the least
+//! significant first. Its extension is the one polynomial of degree one in each variable that takes
+//! these values there, as layers are extended in draft-google-cfrg-libzk. No call takes memory. A
+//! caller writes
+//!
+//! ```text
+//! let mut weights = [F::zero(); 4];
+//! eq_table(&[x, y], &mut weights);
+//! let mut room = [F::zero(); 4];
+//! let value = tilde(&[a, b, c], &[x, y], &mut room);
+//! bind(&mut weights, x);
+//! ```
+#![tactic(auto)]
+
+mod binding;
+mod tables;
+
+pub use binding::{bind, tilde};
+pub use tables::eq_table;
