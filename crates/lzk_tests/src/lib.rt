@@ -11,6 +11,8 @@ mod circuits;
 #[cfg(test)]
 mod extension;
 #[cfg(test)]
+mod multilinear;
+#[cfg(test)]
 mod number_files;
 #[cfg(test)]
 mod number_vectors;

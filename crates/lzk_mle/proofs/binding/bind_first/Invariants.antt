@@ -1,5 +1,3 @@
-use Rattle.std.proofs.Common.{◌≡◌}
-use Rattle.lzk_field.specs.Sums.{minus}
 use Rattle.lzk_mle.proofs.LoopStates.{IsBoundUpTo}
 use Rattle.lzk_mle.proofs.binding.bind_first.Given as goal
 

@@ -29,7 +29,7 @@ returns g c =
     let xs = c.args.r.now in
     let after = subst (λ ys. IsLeft o values xs ys c.loop-x.size c.loop-x.room) (drop_all c.loop-x.x-index xs c.loop-x-test.false) c.loop-x.invariant in
     let value : c.index-room-0.result ≡ tilde o values xs =
-        c.index-room-0.is ∙ get_or_default c.loop-x.room 0 c.index-room-0.result o.zero (omega arith) ∙ left_last o g.F.Field.laws.ring values xs c.loop-x.room c.loop-x.size after in
+    c.index-room-0.is ∙ get_or_default c.loop-x.room 0 c.index-room-0.result o.zero (omega arith) ∙ left_last o g.F.Field.laws.ring values xs c.loop-x.room c.loop-x.size after in
     record {
       value = value;
       entry = λ i l e. value ∙ ap (tilde o values) e ∙ tilde-corner o g.F.Field.laws.ring (length xs) i values c.requires.fits (omega (arith, c.requires.room));

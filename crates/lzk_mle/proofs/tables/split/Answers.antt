@@ -1,6 +1,6 @@
 use Rattle.std.proofs.Common.{◌∙◌, ap, refl, ◌∷◌, []}
 use Rattle.lzk_field.specs.Sums.{minus}
-use Rattle.lzk_field.proofs.Solve.{var, unit, ◌⊞◌, ◌⊟◌, ◌⊠◌, solve}
+use Rattle.lzk_field.proofs.Solve.{var, unit, ◌⊟◌, ◌⊠◌, solve}
 use Rattle.lzk_mle.proofs.tables.split.Goals as goal
 
 pub returns-clause-zero : goal.returns-clause-zero

@@ -1,5 +1,3 @@
-use Rattle.std.proofs.Common.{◌≡◌}
-use Rattle.lzk_field.specs.Sums.{minus}
 use Rattle.lzk_mle.proofs.LoopStates.{IsSpreadFrom}
 use Rattle.lzk_mle.proofs.tables.spread.Given as goal
 
