@@ -8,8 +8,8 @@ use Rattle.lzk_field.specs.Sums.{sum_below, minus, entry}
 use Rattle.lzk_field.proofs.RingBasics.{times_zero, zero_times}
 use Rattle.lzk_field.proofs.Solve.{var, null, unit, ◌⊞◌, ◌⊟◌, ◌⊠◌, solve}
 use Rattle.lzk_field.proofs.SumLaws.{sum-ext, sum-plus, sum-times}
+use Rattle.lzk_field.proofs.SumPlaces.{sum-halves}
 use Rattle.lzk_mle.specs.Multilinear.{low_bit, agree, eq, tilde, corner}
-use Rattle.lzk_mle.proofs.Halves.{sum-halves}
 use Rattle.lzk_mle.proofs.TableLaws.{extension, bound, extension-bound, extension-one, tilde-is, eq-even, eq-odd}
 
 module _ {A : Type 0} (o : Ops A) where

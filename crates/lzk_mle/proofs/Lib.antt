@@ -1,4 +1,3 @@
 pub mod CornerLaws
-pub mod Halves
 pub mod LoopStates
 pub mod TableLaws

@@ -1,14 +1,26 @@
 -- Extensions of tables, a variable at a time.
-use Rattle.std.specs.Prelude.{◌≡◌, ℕ, ◌<◌, ◌≤◌, ◌+◌, ◌*◌, ◌/◌, ◌==◌, List, [], ◌∷◌, length, cond}
+use Rattle.std.specs.Prelude.{◌≡◌, ℕ, ◌<◌, ◌≤◌, ◌+◌, ◌*◌, ◌/◌, ◌%◌, ◌==◌, List, [], ◌∷◌, length, cond}
 use Rattle.std.proofs.Common.{refl, sym, ap, ◌∙◌, arith}
 use Rattle.std.proofs.lemmas.List.{get_or_past}
 use Rattle.lzk_field.specs.Ring.{Ops, RingLaws}
 use Rattle.lzk_field.specs.Sums.{sum_below, minus, entry}
 use Rattle.lzk_field.proofs.RingBasics.{times_zero}
 use Rattle.lzk_field.proofs.Solve.{var, null, unit, ◌⊞◌, ◌⊟◌, ◌⊠◌, solve}
-use Rattle.lzk_field.proofs.SumLaws.{sum-ext}
+use Rattle.lzk_field.proofs.SumLaws.{sum-ext, sum-tail}
+use Rattle.lzk_field.proofs.SumPlaces.{sum-halves}
 use Rattle.lzk_mle.specs.Multilinear.{agree, eq, tilde}
-use Rattle.lzk_mle.proofs.Halves.{half-even, half-odd, rest-even, rest-odd, sum-halves, sum-pad}
+
+half-even : (i : ℕ) → (2 * i) / 2 ≡ i
+half-even i = omega arith
+
+half-odd : (i : ℕ) → (2 * i + 1) / 2 ≡ i
+half-odd i = omega arith
+
+rest-even : (i : ℕ) → (2 * i) % 2 ≡ 0
+rest-even i = omega arith
+
+rest-odd : (i : ℕ) → (2 * i + 1) % 2 ≡ 1
+rest-odd i = omega arith
 
 module _ {A : Type 0} (o : Ops A) where
   -- the extension of a function's first n values
@@ -52,8 +64,8 @@ module _ {A : Type 0} (o : Ops A) (r : RingLaws o) where
   -- a table's end may lie anywhere
   pub tilde-is : (m : ℕ) (values xs : List A) → length values ≤ m → tilde o values xs ≡ extension o m (entry o values) xs
   tilde-is m values xs l =
-      sum-pad o r m (length values) (λ i. times (eq o i xs) (entry o values i)) l
-      (λ i p q. ap (times (eq o i xs)) (get_or_past values i o.zero p) ∙ times_zero o r _)
+      sym (sum-tail o r (length values) m (λ i. times (eq o i xs) (entry o values i)) l
+      (λ i p q. ap (times (eq o i xs)) (get_or_past values i o.zero p) ∙ times_zero o r _))
 
   -- the lower half of a bound table
   pub tilde-half : (m : ℕ) (old new : List A) (x : A) (xs : List A) → length old ≡ 2 * m → length new ≡ m
