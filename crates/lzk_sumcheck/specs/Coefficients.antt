@@ -1,0 +1,25 @@
+-- The coefficients and the weights of a circuit's layers.
+use Rattle.std.specs.Prelude.{ℕ, List, [], map, slice_index_or}
+use Rattle.std.specs.List.{range_with_len}
+use Rattle.lzk_field.specs.Ring.{Ops}
+use Rattle.lzk_circuit.specs.declared.layer.Term.{Term}
+use Rattle.lzk_circuit.specs.Valid.{Wiring}
+use Rattle.lzk_circuit.specs.Wires.{coef}
+use Rattle.lzk_sumcheck.specs.declared.script.Script.{Script}
+use Rattle.lzk_mle.specs.Multilinear.{eq}
+use Rattle.lzk_sumcheck.specs.Script.{layer_at, point_a, point_b}
+use Rattle.lzk_layout.specs.Places.{width_at}
+
+-- the terms of layer l
+abbrev pub terms_at : {A : Type 0} → Wiring A → ℕ → List (Term A)
+terms_at c l = slice_index_or (map (λ layer. layer.terms) c.layers) l []
+
+-- The coefficient of layer l at (g, a, b). Only here is said which coefficients a circuit's layers have; a layer whose coefficients depend on its
+-- draws takes them from the script.
+unfoldable pub coefficients : {A : Type 0} → Ops A → Wiring A → Script A → ℕ → ℕ → ℕ → ℕ → A
+coefficients o c s l = coef o (terms_at c l)
+
+-- the weight of each wire of layer l: eq at the one point, plus alpha times eq at the other
+abbrev pub weights_at : {A : Type 0} → Ops A → Wiring A → Script A → ℕ → List A
+weights_at o c s l =
+    map (λ g. o.plus (eq o g (point_a o s l)) (o.times (layer_at o s l).alpha (eq o g (point_b o s l)))) (range_with_len 0 (width_at c l))

@@ -1,0 +1,66 @@
+//! Elements written to the tape, and drawn from it.
+
+ghost use Rattle.std.specs.Prelude.{◌≡◌, ℕ, ◌+◌, ◌*◌, ◌<◌, ◌≤◌, length};
+ghost use Rattle.lzk_field.specs.Coding.{coding};
+ghost use Rattle.lzk_field.specs.Sums.{entry};
+ghost use Rattle.lzk_transcript.specs.Tape.{drawn, after_draw};
+ghost use Rattle.lzk_transcript.specs.Columns.{after_draws};
+ghost use Rattle.lzk_sumcheck.specs.Draws.{draws};
+ghost use Rattle.lzk_sumcheck.specs.Script.{with_pair, after_rounds, round_challenge};
+
+use lzk_field::Field;
+use lzk_transcript::Tape;
+
+/// Draws an element for each place of `out`.
+pub fn draw_all<F: Field>(tape: &mut Tape, out: &mut [F])
+    ensures drawn { let e = coding F.element F.number_of F.BYTES F.size F.ID in out.new ≡ draws e 0 (length out.old) tape.old }
+    ensures after { tape.new ≡ after_draws (length out.old) tape.old }
+{
+    for i in 0..out.len() {
+        out[i] = tape.draw();
+    }
+}
+
+/// Writes the two elements from place `i` on.
+pub fn write_pair<F: Field>(tape: &mut Tape, messages: &[F], i: usize)
+    requires { i + 1 < length messages.now }
+    ensures { tape.new ≡ with_pair F.ops (coding F.element F.number_of F.BYTES F.size F.ID) messages.now i tape.old }
+{
+    tape.elem(messages[i]);
+    tape.elem(messages[i + 1]);
+}
+
+// A round: its two elements from place i on are written, and its challenge is drawn.
+fn replay_round<F: Field>(tape: &mut Tape, messages: &[F], i: usize) -> F
+    requires { i + 1 < length messages.now }
+    ensures challenge { let e = coding F.element F.number_of F.BYTES F.size F.ID in result ≡ F.element (drawn (with_pair F.ops e messages.now i tape.old)) }
+    ensures after { let e = coding F.element F.number_of F.BYTES F.size F.ID in tape.new ≡ after_draw (with_pair F.ops e messages.now i tape.old) }
+{
+    write_pair(tape, messages, i);
+    tape.draw()
+}
+
+/// The rounds whose elements begin at place `i`, for each bit that of a and then that of b.
+pub fn replay_rounds<F: Field>(
+    tape: &mut Tape,
+    messages: &[F],
+    i: usize,
+    ra: &mut [F],
+    rb: &mut [F],
+)
+    requires bits { length rb.old ≡ length ra.old }
+    requires messages { i + 4 * length ra.old ≤ length messages.now }
+    ensures ra_length { length ra.new ≡ length ra.old }
+    ensures rb_length { length rb.new ≡ length rb.old }
+    ensures ra { let e = coding F.element F.number_of F.BYTES F.size F.ID in
+        (j : ℕ) → j < length ra.old → entry F.ops ra.new j ≡ round_challenge F.ops e messages.now i tape.old (2 * j) }
+    ensures rb { let e = coding F.element F.number_of F.BYTES F.size F.ID in
+        (j : ℕ) → j < length ra.old → entry F.ops rb.new j ≡ round_challenge F.ops e messages.now i tape.old (2 * j + 1) }
+    ensures after { let e = coding F.element F.number_of F.BYTES F.size F.ID in
+        tape.new ≡ after_rounds F.ops e messages.now i (2 * length ra.old) tape.old }
+{
+    for j in 0..ra.len() {
+        ra[j] = replay_round(tape, messages, i + 4 * j);
+        rb[j] = replay_round(tape, messages, i + 4 * j + 2);
+    }
+}

@@ -1,0 +1,20 @@
+//! Sumchecks of a layered circuit: what is drawn from the tape for a list of sent elements.
+//!
+//! As in draft-google-cfrg-libzk, each layer has two rounds for each bit that numbers the wires below
+//! it, and a round sends two elements and draws a challenge. [`replay`] does the writes and draws of
+//! all layers. A caller writes
+//!
+//! ```text
+//! let mut script = Script::new(alloc, &circuit)?;
+//! let mut messages = vec![in alloc; F::zero(); message_count(&circuit) as usize]?;
+//! replay(&circuit, &mut tape, &messages, &mut script);
+//! ```
+#![tactic(auto)]
+
+mod draws;
+//mod layers;
+//mod replay;
+mod script;
+
+//pub use replay::{message_count, replay};
+pub use script::{LayerScript, LayerScripts, Script};
