@@ -7,6 +7,8 @@
 //! ```text
 //! let params = Params::of(&circuit);
 //! let (row, position) = params.place(j);
+//! let places = LayerPlaces::first(&circuit);
+//! let d0 = committed[places.factors as usize];
 //! let mut proof = Proof::new(alloc, &params)?;
 //! let mut bytes = vec![in alloc; 0; proof_len::<F>(&params, 0) as usize]?;
 //! encode_proof(&params, &proof, &mut bytes);
