@@ -1,6 +1,6 @@
 //! How many bits number wires, and the values of a layer as a slice, over both fields and through the bound.
 
-ghost use Rattle.std.specs.Prelude.{◌≡◌};
+ghost use Rattle.std.specs.Prelude.{◌≡◌, length, IfOk};
 ghost use Rattle.lzk_circuit.specs.Valid.{HaveWidths};
 
 use lzk_circuit::{Circuit, Layer, Term, Terms, Values, bits_of};
@@ -33,6 +33,14 @@ fn wires_have_their_bits(rt: HostRuntime) -> Result<(), Fail> {
 
 fn of<F: Field>(number: u64) -> F {
     F::of_word(number as u128)
+}
+
+fn single<F: Field>(alloc: Global, number: u64) -> Result<Vec<F>, AllocError>
+    ensures { IfOk result (λ list. length list.items ≡ 1) }
+{
+    let mut list = Vec::new(alloc);
+    list.push(of(number))?;
+    Ok(list)
 }
 
 fn term<F: Field>(g: u32, a: u32, b: u32, coef: u64) -> Term<F> {
@@ -98,7 +106,9 @@ fn evaluated<F: Field>(alloc: Global, wanted: &[&[u128]]) -> Result<Option<usize
         return Ok(Some(wanted.len()));
     };
     let mut values = Values::new(alloc, &circuit)?;
-    circuit.eval(&[of(3)], &[of(5)], &mut values);
+    let public = single(alloc, 3)?;
+    let private = single(alloc, 5)?;
+    circuit.eval(&public, &private, &mut values);
     Ok(wrong_layer(&circuit, &values, wanted))
 }
 
