@@ -1,10 +1,15 @@
 -- Lists that are filled place by place with a function's values.
-use Rattle.std.specs.Prelude.{◌≡◌, ℕ, ◌<◌, ◌+◌, List, length, map, slice_index_or, slice_set}
-use Rattle.std.specs.List.{range_with_len}
+use Rattle.std.specs.Prelude.{◌≡◌, ℕ, ◌<◌, ◌+◌, List, length, map, take, drop, ◌++◌, slice_index_or, slice_set}
+use Rattle.std.specs.List.{range_with_len, refill}
 use Rattle.std.proofs.Common.{sym, ap, ◌∙◌, arith}
 use Rattle.std.proofs.lemmas.List.{same_lists, get_or_default, get_or-set_same, get_or-set_other}
 use Rattle.std.proofs.lemmas.List.FromFn.{get_or-map-range_with_len, length-map-range_with_len}
+use Rattle.std.proofs.Math.Seq.{take-append_seam}
 use native.Mathlib.Decide.{dec_lt}
+
+-- a list that is written over whole
+pub refill_whole : {X : Type 0} (n : ℕ) (xs ws : List X) → length ws ≡ n → refill n xs ws ≡ ws
+refill_whole n xs ws e = ap (λ k. take k (ws ++ drop (length ws) xs)) (sym e) ∙ take-append_seam ws (drop (length ws) xs)
 
 module _ {X : Type 0} (d : X) where
   -- the places below j have the values

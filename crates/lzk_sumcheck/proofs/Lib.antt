@@ -1,2 +1,5 @@
 pub mod Filled
+pub mod LayerLaws
 pub mod RoundLaws
+pub mod ScriptLaws
+pub mod ShapeLaws

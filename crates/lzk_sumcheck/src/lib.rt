@@ -12,9 +12,8 @@
 #![tactic(auto)]
 
 mod draws;
-//mod layers;
-//mod replay;
+mod replaying;
 mod script;
 
-//pub use replay::{message_count, replay};
+pub use replaying::{message_count, replay};
 pub use script::{LayerScript, LayerScripts, Script};

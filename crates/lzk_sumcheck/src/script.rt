@@ -1,8 +1,13 @@
 //! What the sumchecks draw.
 
-ghost use Rattle.std.specs.Prelude.{◌≡◌};
+ghost use Rattle.std.specs.Prelude.{◌≡◌, ◌≤◌, replicate, IfOk};
+ghost use Rattle.lzk_layout.specs.Places.{output_bits, bits_under};
+ghost use Rattle.lzk_sumcheck.specs.Script.{zero_layer, zero_script, HasShape};
 
-use lzk_layout::Elements;
+use lzk_circuit::{Circuit, bits_of};
+use lzk_field::Field;
+use lzk_layout::{Elements, LayerPlaces};
+use std::alloc::{AllocError, Global};
 use std::marker::Model;
 
 /// What a layer draws.
@@ -63,4 +68,60 @@ pub struct Script<F> {
     pub layers: LayerScripts<F>,
     /// Joins the two claims on the inputs.
     pub gamma: F,
+}
+
+fn zeros<F: Field>(alloc: Global, count: u32) -> Result<Elements<F>, AllocError>
+    ensures { IfOk result (λ list. list ≡ replicate count F.ops.zero) }
+{
+    let mut list = Vec::new(alloc);
+    list.resize(count as usize, F::zero())?;
+    Ok(Elements::new(list))
+}
+
+fn layer_of_zeros<F: Field>(alloc: Global, bits: u32) -> Result<LayerScript<F>, AllocError>
+    ensures { IfOk result (λ layer. layer ≡ zero_layer F.ops bits) }
+{
+    Ok(LayerScript {
+        alpha: F::zero(),
+        ra: zeros(alloc, bits)?,
+        rb: zeros(alloc, bits)?,
+    })
+}
+
+// How many bits number the outputs.
+fn output_bits_of<F: Field>(circuit: &Circuit<F>) -> u32
+    ensures { result ≡ output_bits circuit.now }
+{
+    let _depth = circuit.depth();
+    bits_of(circuit.width(0))
+}
+
+fn layers_of_zeros<F: Field>(
+    alloc: Global,
+    circuit: &Circuit<F>,
+) -> Result<LayerScripts<F>, AllocError>
+    ensures { IfOk result (λ layers. layers ≡ (zero_script F.ops circuit.now).layers) }
+{
+    let depth = circuit.depth();
+    let mut list = Vec::with_capacity(alloc, depth as usize)?;
+    let mut places = LayerPlaces::first(circuit);
+    for l in 0..depth {
+        list.push(layer_of_zeros(alloc, places.bits)?)?;
+        places = places.next(circuit, l);
+    }
+    Ok(LayerScripts { list })
+}
+
+impl<F: Field> Script<F> {
+    /// A script of zeros for this circuit.
+    pub fn new(alloc: Global, circuit: &Circuit<F>) -> Result<Script<F>, AllocError>
+        ensures zeros { IfOk result (λ script. script ≡ zero_script F.ops circuit.now) }
+        ensures shape { IfOk result (λ script. HasShape circuit.now script) }
+    {
+        Ok(Script {
+            out_point: zeros(alloc, output_bits_of(circuit))?,
+            layers: layers_of_zeros(alloc, circuit)?,
+            gamma: F::zero(),
+        })
+    }
 }
