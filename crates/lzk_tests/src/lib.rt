@@ -27,6 +27,10 @@ mod proof_vectors;
 #[cfg(test)]
 mod rows_of_terms;
 #[cfg(test)]
+mod script_vectors;
+#[cfg(test)]
+mod scripts;
+#[cfg(test)]
 mod source_vectors;
 #[cfg(test)]
 mod sources;
