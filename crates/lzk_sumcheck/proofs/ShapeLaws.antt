@@ -50,7 +50,7 @@ module _ {A : Type 0} (o : Ops A) (c : Wiring A) where
         out_point = length-replicate (output_bits c) o.zero;
         depth = length-map-range_with_len f 0 (depth c);
         layers = each_mapped (λ l layer. HasBits (bits_under c l) layer) f (depth c)
-          (λ l. record { ra = length-replicate (bits_under c l) o.zero; rb = length-replicate (bits_under c l) o.zero });
+            (λ l. record { ra = length-replicate (bits_under c l) o.zero; rb = length-replicate (bits_under c l) o.zero });
       }
 
   -- by its parts

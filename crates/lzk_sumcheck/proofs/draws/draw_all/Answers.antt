@@ -16,7 +16,7 @@ loop-i-preserved g c =
     record {
       tape = c.draw.ensures.after ∙ draws_more c.loop-i.i c.args.tape.now c.loop-i.tape c.loop-i.invariant.tape;
       out = filled_more f.ops.zero (λ k. f.element (draw_at k c.args.tape.now)) c.loop-i.i c.loop-i.out c.draw.result within
-        (c.draw.ensures.value ∙ ap (λ t. f.element (drawn t)) c.loop-i.invariant.tape) c.loop-i.invariant.out;
+          (c.draw.ensures.value ∙ ap (λ t. f.element (drawn t)) c.loop-i.invariant.tape) c.loop-i.invariant.out;
     }
 
 pub returns-clause-drawn : goal.returns-clause-drawn

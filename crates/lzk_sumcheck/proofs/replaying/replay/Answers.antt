@@ -28,9 +28,9 @@ returns g c =
     let points : out ≡ draws e 0 (output_bits w) t = c.draw_all.ensures.drawn ∙ ap (λ n. draws e 0 n t) size in
     let same : length out ≡ length old = omega (arith, ap length c.as_mut_slice.ensures.value, c.draw_all.auto.out) in
     let filled : ◌≡◌ {A = Script g.row.F.Denot}
-        (record { out_point = refill (length old) old out; layers = c.replay_list.new.layers; gamma = c.draw-script.result }) (spec.script f.ops e ms w t) =
-        ap (λ xs. record { out_point = xs; layers = c.replay_list.new.layers; gamma = c.draw-script.result }) (refill_whole (length old) old out same)
-        ∙ script_whole f.ops e ms w t out c.replay_list.new.layers c.draw-script.result start last begins c.replay_list.ensures.after points c.replay_list.ensures.scripts c.draw-script.ensures.value in
+    (record { out_point = refill (length old) old out; layers = c.replay_list.new.layers; gamma = c.draw-script.result }) (spec.script f.ops e ms w t) =
+    ap (λ xs. record { out_point = xs; layers = c.replay_list.new.layers; gamma = c.draw-script.result }) (refill_whole (length old) old out same)
+    ∙ script_whole f.ops e ms w t out c.replay_list.new.layers c.draw-script.result start last begins c.replay_list.ensures.after points c.replay_list.ensures.scripts c.draw-script.ensures.value in
     record {
       script = filled;
       tape = tape_whole f.ops e ms w t start last c.draw-script.new.self begins c.replay_list.ensures.after c.draw-script.ensures.after;

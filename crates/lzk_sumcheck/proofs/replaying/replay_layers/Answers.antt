@@ -25,7 +25,7 @@ replay_layer-requires-clause-bits g c κs within =
     let h' : l < length given = omega (arith, c.requires.depth, c.depth-l-end.ensures.depth, c.loop-l-test.true) in
     let of_old : HasBits (bits_under c.args.circuit.now l) (slice_index_or given l d) = c.requires.bits l (slice_index_or given l d) (slice_get-get_or given l d h') in
     let same : slice_index_or given l d ≡ slice_index_or c.loop-l.layers l c.index-layers-l.result =
-        sym (c.loop-l.invariant.layers.rest l (omega arith)) ∙ get_or_default c.loop-l.layers l d c.index-layers-l.result h in
+    sym (c.loop-l.invariant.layers.rest l (omega arith)) ∙ get_or_default c.loop-l.layers l d c.index-layers-l.result h in
     let bits : bits_under c.args.circuit.now l ≡ c.loop-l.places.bits = sym (ap (λ p. p.bits) c.loop-l.invariant.places) in
     subst (λ k. HasBits k (slice_index_or c.loop-l.layers l c.index-layers-l.result)) bits (subst (HasBits (bits_under c.args.circuit.now l)) same of_old)
 
@@ -44,8 +44,8 @@ loop-l-preserved g c =
       places = c.next-places.ensures.places;
       within = c.next-places.ensures.within;
       layers = replayed_more f.ops e ms w c.args.tape.now c.args.layers.now l now c.replay_layer.new.tape c.loop-l.layers c.replay_layer.new.layer c.loop-l.invariant.layers h
-        (c.replay_layer.ensures.script ∙ ap (λ i. layer_script f.ops e ms i c.loop-l.places.bits now) begins ∙ ap (λ k. layer_script f.ops e ms (sent_at w l) k now) bits)
-        (c.replay_layer.ensures.after ∙ ap (λ i. after_layer f.ops e ms i c.loop-l.places.bits now) begins ∙ ap (λ k. after_layer f.ops e ms (sent_at w l) k now) bits);
+          (c.replay_layer.ensures.script ∙ ap (λ i. layer_script f.ops e ms i c.loop-l.places.bits now) begins ∙ ap (λ k. layer_script f.ops e ms (sent_at w l) k now) bits)
+          (c.replay_layer.ensures.after ∙ ap (λ i. after_layer f.ops e ms i c.loop-l.places.bits now) begins ∙ ap (λ k. after_layer f.ops e ms (sent_at w l) k now) bits);
     }
 
 pub returns-clause-scripts : goal.returns-clause-scripts

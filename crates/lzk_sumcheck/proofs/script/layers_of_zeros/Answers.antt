@@ -15,6 +15,6 @@ loop-l-preserved g c =
     record {
       places = c.next-places.ensures.places;
       layers = c.in_ok-push.ensures.items ∙ ap (λ xs. xs ++ c.in_ok-layer_of_zeros.field-0 ∷ []) c.loop-l.invariant.layers
-        ∙ ap (λ x. map (λ k. zero_layer o (bits_under w k)) (range_with_len 0 l) ++ x ∷ []) same
-        ∙ sym (map-range_with_len_more (λ k. zero_layer o (bits_under w k)) 0 l l (omega arith));
+          ∙ ap (λ x. map (λ k. zero_layer o (bits_under w k)) (range_with_len 0 l) ++ x ∷ []) same
+          ∙ sym (map-range_with_len_more (λ k. zero_layer o (bits_under w k)) 0 l l (omega arith));
     }
