@@ -1,7 +1,7 @@
 -- Tapes after draws and rounds.
 use Rattle.std.specs.Prelude.{◌≡◌, ℕ, ◌<◌, ◌+◌, ◌*◌, List, length, map, slice_set}
 use Rattle.std.specs.List.{range_with_len}
-use Rattle.std.proofs.Common.{suc, refl, sym, ap, ◌∙◌, arith}
+use Rattle.std.proofs.Common.{suc, ap, ◌∙◌, arith}
 use Rattle.lzk_field.specs.Coding.{Coding}
 use Rattle.lzk_field.specs.Ring.{Ops}
 use Rattle.lzk_transcript.specs.Tape.{TapeState, drawn, after_draw}

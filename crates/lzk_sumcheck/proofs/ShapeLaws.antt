@@ -1,7 +1,7 @@
 -- The lengths of scripts.
-use Rattle.std.specs.Prelude.{◌≡◌, ℕ, ◌<◌, ◌+◌, ◌*◌, List, length, map, replicate, slice_get, Some}
+use Rattle.std.specs.Prelude.{◌≡◌, ℕ, ◌<◌, ◌+◌, ◌*◌, List, map, replicate, slice_get, Some}
 use Rattle.std.specs.List.{range_with_len}
-use Rattle.std.proofs.Common.{refl, sym, ap, ◌∙◌, arith, subst}
+use Rattle.std.proofs.Common.{sym, ap, ◌∙◌, arith, subst}
 use Rattle.std.proofs.lemmas.List.{length-replicate}
 use Rattle.std.proofs.lemmas.List.FromFn.{get_or-map-range_with_len, length-map-range_with_len}
 use Rattle.std.proofs.lemmas.Option.{slice_get_within, get_or_from_slice_get}
@@ -13,7 +13,7 @@ use Rattle.lzk_circuit.specs.Valid.{Wiring}
 use Rattle.lzk_layout.specs.Places.{depth, bits_under, output_bits, sent_at}
 use Rattle.lzk_sumcheck.specs.declared.script.LayerScript.{LayerScript}
 use Rattle.lzk_sumcheck.specs.declared.script.Script.{Script}
-use Rattle.lzk_sumcheck.specs.Script.{round_challenge, layer_script, after_layers, layer_scripts, script, HasBits, HasShape, zero_layer, zero_script}
+use Rattle.lzk_sumcheck.specs.Script.{round_challenge, layer_script, after_layers, script, HasBits, HasShape, zero_layer, zero_script}
 
 -- what holds of each value holds of each entry
 pub each_mapped : {X : Type 0} (P : ℕ → X → Type 0) (f : ℕ → X) (n : ℕ) → ((l : ℕ) → P l (f l)) → (l : ℕ) (x : X) → slice_get (map f (range_with_len 0 n)) l ≡ Some x → P l x

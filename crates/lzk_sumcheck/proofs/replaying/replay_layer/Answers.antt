@@ -1,7 +1,7 @@
-use Rattle.std.proofs.Common.{◌≡◌, ◌+◌, ◌*◌, ◌<◌, length, sym, ap, ◌∙◌, arith}
+use Rattle.std.proofs.Common.{◌≡◌, ◌*◌, length, ap, ◌∙◌, arith}
 use Rattle.std.specs.List.{refill}
 use Rattle.lzk_field.specs.Coding.{coding}
-use Rattle.lzk_sumcheck.specs.Script.{with_pair, after_rounds}
+use Rattle.lzk_sumcheck.specs.Script.{after_rounds}
 use Rattle.lzk_sumcheck.proofs.Filled.{refill_whole}
 use Rattle.lzk_sumcheck.proofs.RoundLaws.{layer_whole}
 use Rattle.lzk_sumcheck.proofs.LayerLaws.{layer_after}

@@ -1,8 +1,8 @@
-use Rattle.std.proofs.Common.{◌≡◌, ◌<◌, ◌+◌, length, sym, ap, ◌∙◌, arith, subst, slice_index_or}
+use Rattle.std.proofs.Common.{◌≡◌, ◌<◌, length, sym, ap, ◌∙◌, arith, subst, slice_index_or}
 use Rattle.std.proofs.lemmas.List.{get_or_default}
 use Rattle.std.proofs.lemmas.Option.{slice_get-get_or}
 use Rattle.lzk_field.specs.Coding.{coding}
-use Rattle.lzk_layout.specs.Places.{depth, bits_under, sent_at, places_of}
+use Rattle.lzk_layout.specs.Places.{depth, bits_under, sent_at}
 use Rattle.lzk_sumcheck.specs.Script.{HasBits, zero_layer, layer_script, after_layer}
 use Rattle.lzk_sumcheck.proofs.LayerLaws.{AreReplayed, replayed_none, replayed_more, replayed_whole}
 use Rattle.lzk_sumcheck.proofs.replaying.replay_layers.Goals as goal
