@@ -9,29 +9,42 @@ use thiserror::Error;
 /// The check that failed. The kinds are numbered 1 to 9 in this order.
 #[derive(Clone, Copy, Debug, PartialEq, Eq)]
 pub enum ByteKind {
+    /// The bytes end inside the field.
     Truncated,
+    /// The file does not begin with `LZC1`.
     Magic,
+    /// The byte of the field is neither 1 nor 2.
     FieldId,
+    /// A count, or a running total, is over its limit.
     Limit,
+    /// A number is not in its shortest form, or is 2^32 or more.
     Varint,
+    /// A term does not come after the one before it.
     Order,
+    /// A wire or the number of a constant is out of range.
     Range,
+    /// A constant is zero, too large, not above the one before, or used by no term.
     Constant,
+    /// A byte is left behind the last term.
     Trailing,
 }
 
 /// The first check that failed, and the offset in bytes of the first byte of its field.
 #[derive(Clone, Copy, Debug, PartialEq, Eq)]
 pub struct ByteFault {
+    /// Bytes before the field.
     pub offset: u64,
+    /// The check that failed.
     pub kind: ByteKind,
 }
 
 /// Why `decode` gave no circuit.
 #[derive(Debug, Drop, Error)]
 pub enum DecodeError {
+    /// The bytes are no circuit's file.
     #[error("the bytes are no circuit's: {kind:?} at byte {offset}", kind = .0.kind, offset = .0.offset)]
     Fault(ByteFault),
+    /// There was no memory for the circuit.
     #[error("out of memory")]
     OutOfMemory,
 }

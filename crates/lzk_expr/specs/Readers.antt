@@ -1,6 +1,9 @@
 -- What was read of a source, in memory.
 use Rattle.std.specs.Prelude.{◌≡◌, ℕ, ◌+◌, ◌≤◌, List, [], ◌∷◌, ◌++◌, Bool, true, false, Option, Some, None, Result, Ok, Err, count_by, ◌&&◌}
 use Rattle.std.specs.List.{list_all}
+use Rattle.std.specs.Map.{update}
+use Rattle.std.specs.Str.{bytes_eq}
+use Rattle.lzk_expr.specs.declared.ast.Statement as memory
 use Rattle.lzk_expr.specs.declared.reader.Reader.{Reader}
 use Rattle.lzk_expr.specs.declared.reader.Input.{Input}
 use Rattle.lzk_expr.specs.declared.reader.Input.TheVariants as inputs
@@ -36,6 +39,16 @@ pub record IsReader (r : Reader) : Type 0 where
   pub privates_are : r.privates ≡ count_by is_private (statements_of r.statements.items)
   pub lets_are : r.lets ≡ count_by is_define (statements_of r.statements.items)
   pub asserts_are : r.asserts ≡ count_by is_assertion (statements_of r.statements.items)
+
+-- with one more statement in memory, whose name stands for this; the counts are not raised yet
+pub record Binds (old new : Reader) (st : memory.Statement) (v : List ℕ) (b : Binding) : Type 0 where
+  pub field_is : new.field ≡ old.field
+  pub statements_are : new.statements.items ≡ old.statements.items ++ st ∷ []
+  pub names_are : (w : List ℕ) → found new.names.table w ≡ update bytes_eq (found old.names.table) v (Some b) w
+  pub publics_are : new.publics ≡ old.publics
+  pub privates_are : new.privates ≡ old.privates
+  pub lets_are : new.lets ≡ old.lets
+  pub asserts_are : new.asserts ≡ old.asserts
 
 -- with one more statement
 pub record Declares (old new : Reader) (s : Statement) : Type 0 where

@@ -6,7 +6,9 @@ use std::marker::Model;
 /// The field of a source: the prime field of 2^64 - 2^32 + 1 elements, or the one of 2^128.
 #[derive(Clone, Copy, Debug, PartialEq, Eq)]
 pub enum FieldId {
+    /// Written `goldilocks`.
     Goldilocks,
+    /// Written `gf2_128`.
     Gf2_128,
 }
 
@@ -55,12 +57,19 @@ impl Name {
 #[cycle(ast)]
 #[derive(Drop)]
 pub enum Expr {
+    /// The element with this number.
     Number(u128),
+    /// A public input, by its number in order of declaration.
     Public(u32),
+    /// A private input, by its number in order of declaration.
     Private(u32),
+    /// A let name, by its number in order of declaration.
     Named(u32),
+    /// The negative.
     Neg(Box<Expr>),
+    /// The sum of its parts, two or more.
     Sum(Vec<Part>),
+    /// The product of its factors, two or more.
     Product(Vec<Expr>),
 }
 
@@ -68,15 +77,21 @@ pub enum Expr {
 #[cycle(ast)]
 #[derive(Drop)]
 pub struct Part {
+    /// Whether it is subtracted. The first part of a sum is added.
     pub minus: bool,
+    /// What is added or subtracted.
     pub expr: Expr,
 }
 
 /// A statement: a public or a private input, a let name with its expression, or an equation.
 #[derive(Drop)]
 pub enum Statement {
+    /// A public input is declared.
     Public(Name),
+    /// A private input is declared.
     Private(Name),
+    /// A name stands for an expression.
     Let(Name, Expr),
+    /// The left value is to equal the right one.
     Assert(Expr, Expr),
 }

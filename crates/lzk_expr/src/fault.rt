@@ -10,9 +10,13 @@ use thiserror::Error;
 /// numbers than wanted, or more.
 #[derive(Clone, Copy, Debug, PartialEq, Eq)]
 pub enum NumberKind {
+    /// A token is no number.
     Syntax,
+    /// A number is not below the field's size.
     TooLarge,
+    /// The text ends before as many numbers as wanted.
     TooFew,
+    /// A token comes after as many numbers as wanted.
     TooMany,
 }
 
@@ -20,15 +24,19 @@ pub enum NumberKind {
 /// with too few numbers is at fault on its last line.
 #[derive(Clone, Copy, Debug, PartialEq, Eq)]
 pub struct NumberFault {
+    /// The line, counted from 1.
     pub line: u32,
+    /// The rule.
     pub kind: NumberKind,
 }
 
 /// Why a text gives no numbers: a rule that it breaks, or want of memory.
 #[derive(Debug, Drop, Error)]
 pub enum NumberError {
+    /// The text is no such list of numbers.
     #[error("line {}: {:?}", .0.line, .0.kind)]
     Fault(NumberFault),
+    /// There was no memory for the numbers.
     #[error("out of memory")]
     OutOfMemory,
 }

@@ -4,7 +4,7 @@ ghost use Rattle.std.specs.Prelude.{◌≡◌, ◌≤◌, ◌<◌, ◌+◌, ◌-
 ghost use Rattle.std.specs.List.{list_all};
 ghost use Rattle.lzk_expr.specs.Tokens.{tokens, Key, Equals};
 ghost use Rattle.lzk_expr.specs.Sources.{first_keyword, keeps_limits, is_short, is_few, is_field, nothing_yet};
-ghost use Rattle.lzk_expr.specs.Readers.{before_of, IsReader, Declares, step_of, Takes, TakesLine, TakesAny, IsField, is_name, is_inner, first_name, begins_equals, IsNamed, IsDefinition, IsNoDefinition, IsSplit, key_of, input_statement, input_count};
+ghost use Rattle.lzk_expr.specs.Readers.{before_of, IsReader, Binds, Declares, step_of, Takes, TakesLine, TakesAny, IsField, is_name, is_inner, first_name, begins_equals, IsNamed, IsDefinition, IsNoDefinition, IsSplit, key_of, input_statement, input_count};
 ghost use Rattle.lzk_expr.specs.View.{statements_of, expr_of};
 ghost use Rattle.lzk_expr.specs.Trees.{DeclarePublic, DeclarePrivate, Define, Assertion, name_of};
 ghost use Rattle.lzk_expr.specs.declared.tokens.Keyword.TheVariants.{Field, Let, Assert};
@@ -197,37 +197,17 @@ impl<'a> Reader<'a> {
         None
     }
 
-    fn declare_public(&mut self, alloc: Global, name: &'a [u8]) -> Result<(), AllocError>
-        requires holds { IsReader self.old }
-        requires new { name_of (statements_of self.old.statements.items) name.now ≡ None }
-        requires some { 1 ≤ length name.now }
-        requires short { length name.now ≤ 32 }
-        requires room { self.old.publics < 65536 }
-        ensures declares { OnOk result (Declares self.old self.new (DeclarePublic name.now)) }
-        ensures count { OnOk result (self.new.publics ≡ self.old.publics + 1) }
-        ensures lets { OnOk result (self.new.lets ≡ self.old.lets) }
+    // Takes a statement, and what the name that it declares stands for.
+    fn bind(
+        &mut self,
+        statement: Statement,
+        name: &'a [u8],
+        binding: Binding,
+    ) -> Result<(), AllocError>
+        ensures { OnOk result (Binds self.old self.new statement name.now binding) }
     {
-        self.statements
-            .push(Statement::Public(Name::new(alloc, name)?))?;
-        self.names.declare(name, Binding::Public(self.publics))?;
-        self.publics += 1;
-        Ok(())
-    }
-
-    fn declare_private(&mut self, alloc: Global, name: &'a [u8]) -> Result<(), AllocError>
-        requires holds { IsReader self.old }
-        requires new { name_of (statements_of self.old.statements.items) name.now ≡ None }
-        requires some { 1 ≤ length name.now }
-        requires short { length name.now ≤ 32 }
-        requires room { self.old.privates < 65536 }
-        ensures declares { OnOk result (Declares self.old self.new (DeclarePrivate name.now)) }
-        ensures count { OnOk result (self.new.privates ≡ self.old.privates + 1) }
-        ensures lets { OnOk result (self.new.lets ≡ self.old.lets) }
-    {
-        self.statements
-            .push(Statement::Private(Name::new(alloc, name)?))?;
-        self.names.declare(name, Binding::Private(self.privates))?;
-        self.privates += 1;
+        self.statements.push(statement)?;
+        self.names.declare(name, binding)?;
         Ok(())
     }
 
@@ -246,10 +226,20 @@ impl<'a> Reader<'a> {
         ensures count { OnOk result (input_count input self.new ≡ input_count input self.old + 1) }
         ensures lets { OnOk result (self.new.lets ≡ self.old.lets) }
     {
+        let declared = Name::new(alloc, name)?;
         match input {
-            Input::Public => self.declare_public(alloc, name),
-            Input::Private => self.declare_private(alloc, name),
+            Input::Public => {
+                let binding = Binding::Public(self.publics);
+                self.bind(Statement::Public(declared), name, binding)?;
+                self.publics += 1;
+            }
+            Input::Private => {
+                let binding = Binding::Private(self.privates);
+                self.bind(Statement::Private(declared), name, binding)?;
+                self.privates += 1;
+            }
         }
+        Ok(())
     }
 
     fn define(&mut self, alloc: Global, name: &'a [u8], expr: Expr) -> Result<(), AllocError>
@@ -261,9 +251,9 @@ impl<'a> Reader<'a> {
         ensures declares { OnOk result (Declares self.old self.new (Define name.now (expr_of expr))) }
         ensures lets { OnOk result (self.new.lets ≡ self.old.lets + 1) }
     {
-        self.statements
-            .push(Statement::Let(Name::new(alloc, name)?, expr))?;
-        self.names.declare(name, Binding::Named(self.lets))?;
+        let declared = Name::new(alloc, name)?;
+        let binding = Binding::Named(self.lets);
+        self.bind(Statement::Let(declared, expr), name, binding)?;
         self.lets += 1;
         Ok(())
     }

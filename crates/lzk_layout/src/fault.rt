@@ -18,7 +18,9 @@ pub enum ProofKind {
 /// The first check that failed, and the offset in bytes of the first byte of its field.
 #[derive(Clone, Copy, Debug, PartialEq, Eq)]
 pub struct ProofFault {
+    /// Bytes before the field.
     pub offset: u64,
+    /// The check that failed.
     pub kind: ProofKind,
 }
 

@@ -10,16 +10,21 @@ use thiserror::Error;
 /// a layer over 131,072, terms over 2,097,152 (the last value of u64 where there are more).
 #[derive(Clone, Copy, Debug, PartialEq, Eq)]
 pub enum LevelFault {
+    /// So many layers, more than 512.
     Layers(u64),
+    /// A bound on the wires of a layer, above 131,072.
     LayerWires(u64),
+    /// A bound on the terms, above 2,097,152; the last value of u64 where it is more than that.
     Terms(u64),
 }
 
 /// Why nodes give no circuit: a limit that it would pass, or want of memory.
 #[derive(Debug, Drop, Error)]
 pub enum LevelError {
+    /// A limit would be passed.
     #[error("{0:?}")]
     Fault(LevelFault),
+    /// There was no memory for the circuit.
     #[error("out of memory")]
     OutOfMemory,
 }

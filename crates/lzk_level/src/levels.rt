@@ -1,8 +1,9 @@
 //! Levels of wires, from the inputs up.
 
-ghost use Rattle.std.specs.Prelude.{◌≡◌, ℕ, ◌+◌, ◌-◌, ◌<◌, ◌≤◌, List, [], ◌∷◌, length, map, IfOk};
+ghost use Rattle.std.specs.Prelude.{◌≡◌, ℕ, ◌+◌, ◌-◌, ◌<◌, ◌≤◌, nat_le, List, [], ◌∷◌, length, map, IfOk};
 ghost use Rattle.lzk_field.specs.Sums.{entry};
 ghost use Rattle.lzk_level.specs.Nodes.{combined, ArePartsOf, IsGate, AreGates};
+ghost use Rattle.lzk_reduce.specs.Marks.{is_marked};
 ghost use Rattle.lzk_reduce.specs.Renumbering.{at};
 ghost use Rattle.lzk_level.specs.Bounds.{at_parts, total, gate_depth, gate_weight};
 ghost use Rattle.lzk_reduce.specs.Rows.{IsRow, row_value, ordered};
@@ -11,7 +12,7 @@ ghost use Rattle.lzk_level.specs.Levels.{place_in, width_of, row_at, ArePlaces, 
 use crate::node::{Gate, Node};
 use lzk_circuit::{Term, Terms};
 use lzk_field::Field;
-use lzk_reduce::{merged, scaled, single};
+use lzk_reduce::{marked_places, merged, scaled, single};
 use std::alloc::{AllocError, Global};
 
 /// Each node's wire in a level: a node has a place there if it is no deeper.
@@ -19,15 +20,21 @@ pub fn places(alloc: Global, depths: &[u32], level: u32) -> Result<Vec<u32>, All
     requires { length depths.now ≤ 131072 }
     ensures { IfOk result (λ places. ArePlaces depths.now level places.items) }
 {
-    let mut places = Vec::new(alloc);
-    let mut next = 0;
-    for k in 0..depths.len() {
-        places.push(next)?;
-        if depths[k] <= level {
-            next += 1;
-        }
-    }
+    let marks = no_deeper(alloc, depths, level)?;
+    let (places, _) = marked_places(alloc, &marks)?;
     Ok(places)
+}
+
+// Whether each node is no deeper than a level.
+fn no_deeper(alloc: Global, depths: &[u32], level: u32) -> Result<Vec<bool>, AllocError>
+    ensures count { IfOk result (λ marks. length marks.items ≡ length depths.now) }
+    ensures marks { IfOk result (λ marks. (k : ℕ) → k < length depths.now → is_marked marks.items k ≡ nat_le (at depths.now k) level) }
+{
+    let mut marks = Vec::new(alloc);
+    for k in 0..depths.len() {
+        marks.push(depths[k] <= level)?;
+    }
+    Ok(marks)
 }
 
 // A part's row.

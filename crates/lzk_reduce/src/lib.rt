@@ -19,5 +19,6 @@ mod renumber;
 mod rows;
 mod share;
 
+pub use marks::marked_places;
 pub use reduce::reduced;
 pub use rows::{append, merged, scaled, single};
