@@ -39,7 +39,13 @@ impl Aes {
                 column[i] = word.rotate_left(8 * row as u32);
             }
         }
-        let mut words = [0u32; 60];
+        let mut cipher = Aes { sbox, columns, words: [0; 60] };
+        cipher.expand(key);
+        cipher
+    }
+
+    pub fn expand(&mut self, key: &[u8; 32]) {
+        let Aes { sbox, words, .. } = self;
         for i in 0..8 {
             words[i] = u32::from_le_bytes(key[4 * i..4 * i + 4].try_into().unwrap());
         }
@@ -53,7 +59,6 @@ impl Aes {
             };
             words[i] = words[i - 8] ^ mask;
         }
-        Aes { sbox, columns, words }
     }
 
     pub fn encrypt(&self, block: [u8; 16]) -> [u8; 16] {

@@ -7,6 +7,7 @@ mod extenders;
 mod hashes;
 mod prime;
 mod proofs;
+mod tables;
 mod texts;
 mod unchecked;
 
@@ -16,6 +17,7 @@ use extenders::*;
 use hashes::*;
 use prime::*;
 use proofs::*;
+use tables::*;
 use texts::*;
 
 fn main() {
@@ -36,6 +38,11 @@ fn main() {
         "gf-extender" => gf_extenders(times, 640),
         "gf-extend-192" => gf_extend(times, 192),
         "gf-extend-640" => gf_extend(times, 640),
+        "gold-eq" => gold_eq(times),
+        "gf-eq" => gf_eq(times),
+        "gold-tilde" => gold_tilde(times),
+        "gf-tilde" => gf_tilde(times),
+        "replay" => replay(times),
         "leaf-7" => leaves(times, 7),
         "leaf-80" => leaves(times, 80),
         "tree" => trees(times),

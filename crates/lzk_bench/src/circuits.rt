@@ -50,8 +50,8 @@ fn layer(alloc: Global, number: u64) -> Result<Layer<Gold>, AllocError> {
     })
 }
 
-// A circuit of so many layers.
-fn circuit(alloc: Global, depth: u64) -> Result<Option<Circuit<Gold>>, AllocError> {
+/// A circuit of so many layers.
+pub fn circuit(alloc: Global, depth: u64) -> Result<Option<Circuit<Gold>>, AllocError> {
     let mut layers = Vec::new(alloc);
     for number in 0..depth {
         layers.push(layer(alloc, number)?)?;

@@ -6,6 +6,7 @@ mod circuits;
 mod elements;
 mod proofs;
 mod rows;
+mod tables;
 mod texts;
 mod trees;
 
@@ -40,6 +41,11 @@ fn done<R: Files + AllocGlobal>(rt: &R, work: &str, times: u32) -> anyhow::Resul
         "gf-extender" => rows::extenders::<Gf128>(alloc, times, 640)?,
         "gf-extend-192" => rows::extended::<Gf128>(alloc, times, 192)?,
         "gf-extend-640" => rows::extended::<Gf128>(alloc, times, 640)?,
+        "gold-eq" => tables::eq_tables::<Gold>(alloc, times)?,
+        "gf-eq" => tables::eq_tables::<Gf128>(alloc, times)?,
+        "gold-tilde" => tables::extensions::<Gold>(alloc, times)?,
+        "gf-tilde" => tables::extensions::<Gf128>(alloc, times)?,
+        "replay" => tables::replayed(alloc, times)?,
         "leaf-7" => trees::leaves(alloc, times, 7)?,
         "leaf-80" => trees::leaves(alloc, times, 80)?,
         "tree" => trees::trees(alloc, times)?,

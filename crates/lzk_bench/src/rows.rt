@@ -4,8 +4,8 @@ use lzk_field::Field;
 use lzk_poly::Extender;
 use std::alloc::{AllocError, Global};
 
-// The values that a row begins with.
-fn first_values<F: Field>(alloc: Global, n: u32) -> Result<Vec<F>, AllocError> {
+/// The values that a row begins with.
+pub fn first_values<F: Field>(alloc: Global, n: u32) -> Result<Vec<F>, AllocError> {
     let mut values = Vec::new(alloc);
     for i in 0..n {
         values.push(F::of_word((i as u128 + 1) * 0x1_0000_0001))?;
