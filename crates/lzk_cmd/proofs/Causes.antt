@@ -1,7 +1,7 @@
 -- Each status has its cause.
 use Rattle.std.proofs.Common.{◌≡◌, ◌⊎◌, ℕ, List, Option, Some, None, Result, Ok, Err, inl, inr, arith, sym, subst, ap, ◌∙◌}
 use Rattle.std.proofs.lemmas.Bool.{false≢true}
-use Rattle.std.specs.Prelude.{IfSome, string_bytes, codes}
+use Rattle.std.specs.Prelude.{IfSome, string_bytes}
 use Rattle.lzk_outside.specs.Outside.{Appends}
 use Rattle.lzk_cmd.specs.declared.ending.Ending.{Ending}
 use Rattle.lzk_cmd.specs.declared.ending.Halt.{Halt}
@@ -9,27 +9,15 @@ use Rattle.lzk_cmd.specs.declared.ending.Halt.TheVariants as halts
 use Rattle.lzk_cmd.specs.Answers.{IsRefusal, HasCause, RunHasCause, HaltHasCause, HaltRefuses, RefusesContents, ending_of}
 use Rattle.lzk_cmd.specs.Outcome.{Refused}
 use Rattle.lzk_cmd.specs.Words.{Compile, PutsFile, command_of}
-use Rattle.lzk_cmd.specs.Lines.{larger_line, byte_line, text_line, limit_line, level_line}
+use Rattle.lzk_cmd.specs.Lines.{larger_line, level_line}
 use Rattle.lzk_cmd.specs.Putting.{PutHasCause}
 use Rattle.lzk_level.specs.declared.fault.LevelFault.{LevelFault}
-use Rattle.lzk_level.specs.declared.fault.LevelFault.TheVariants.{Layers, LayerWires, Terms}
 
 pub larger_refusal : (m : Type 0) (name : List ℕ) (limit : ℕ) (text : List ℕ) → text ≡ larger_line name limit → IsRefusal m text
 larger_refusal m name limit text e = inr (inl (name, limit, e))
 
-pub byte_refusal : (m : Type 0) (name : List ℕ) (offset : ℕ) (kind : List ℕ) (text : List ℕ) → text ≡ byte_line name offset kind → IsRefusal m text
-byte_refusal m name offset kind text e = inr (inr (inl (name, offset, kind, e)))
-
-pub text_refusal : (m : Type 0) (name : List ℕ) (number : ℕ) (kind : List ℕ) (text : List ℕ) → text ≡ text_line name number kind → IsRefusal m text
-text_refusal m name number kind text e = inr (inr (inr (inl (name, number, kind, e))))
-
-pub limit_refusal : (m : Type 0) (name kind : List ℕ) (count limit : ℕ) (text : List ℕ) → text ≡ limit_line name kind count limit → IsRefusal m text
-limit_refusal m name kind count limit text e = inr (inr (inr (inr (name, kind, count, limit, e))))
-
 pub level_refusal : (m : Type 0) (name : List ℕ) (fault : LevelFault) (text : List ℕ) → text ≡ level_line name fault → IsRefusal m text
-level_refusal m name (Layers count) text e = limit_refusal m name (codes "Layers") count 512 text e
-level_refusal m name (LayerWires count) text e = limit_refusal m name (codes "LayerWires") count 131072 text e
-level_refusal m name (Terms count) text e = limit_refusal m name (codes "Terms") count 2097152 text e
+level_refusal m name fault text e = inr (inr (inr (inr (inr (name, fault, e)))))
 
 wider : (m : Type 0) (text : List ℕ) → IsRefusal ⊥ text → IsRefusal m text
 wider m text (inl h) = absurd h.2

@@ -1,5 +1,8 @@
+pub mod Alone
 pub mod Causes
+pub mod Chained
 pub mod Compiles
+pub mod Digits
 pub mod Evals
 pub mod Outputs
 pub mod Printing

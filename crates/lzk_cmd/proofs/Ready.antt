@@ -35,7 +35,7 @@ circuit_ready files name k end c next has h = elim (file_ready files name has.0 
   | inr refused ↦ absurd (no_fault c has.0 refused.0 refused.1 has.2 refused.2)
 ]
 
-no_number_fault : (size count : ℕ) (text list : List ℕ) → NumberText size count text list → (fault : _) → IsNumberFault size count text fault → ⊥
+pub no_number_fault : (size count : ℕ) (text list : List ℕ) → NumberText size count text list → (fault : _) → IsNumberFault size count text fault → ⊥
 no_number_fault size count text list is fault h = let again = text_again size count text list is in cc
 
 numbers_ready : {A : Type 0} (size : ℕ) (number : A → ℕ) (files : Files) (name : List ℕ) (count k : ℕ) (end : End) (next : List A → Type 0) → HasNumbers files name size count
@@ -45,13 +45,13 @@ numbers_ready size number files name count k end next has h = elim (file_ready f
   | inr refused ↦ absurd (no_number_fault size count has.0 has.1 has.3 refused.0 refused.1)
 ]
 
-same_source : (text : List ℕ) (s t : SourceTree) → SourceText text s → SourceText text t → s ≡ t
+pub same_source : (text : List ℕ) (s t : SourceTree) → SourceText text s → SourceText text t → s ≡ t
 same_source text s t h k = let same = one_text text (Ok s) (Ok t) h k in cc
 
-no_source_fault : (text : List ℕ) (s : SourceTree) (fault : SourceFault) → SourceText text s → IsSourceFault text fault → ⊥
+pub no_source_fault : (text : List ℕ) (s : SourceTree) (fault : SourceFault) → SourceText text s → IsSourceFault text fault → ⊥
 no_source_fault text s fault h k = let no = one_text text (Ok s) (Err fault) h k in absurd cc
 
-source_ready : (files : Files) (name : List ℕ) (k : ℕ) (end : End) (s : SourceTree) (next : SourceTree → Type 0) → HasSource files name s → AtSourceFile files Nowhere k name end next → next s
+pub source_ready : (files : Files) (name : List ℕ) (k : ℕ) (end : End) (s : SourceTree) (next : SourceTree → Type 0) → HasSource files name s → AtSourceFile files Nowhere k name end next → next s
 source_ready files name k end s next has h = elim (file_ready files name has.0 k text_limit end _ has.1 h) [
   | inl found ↦ subst next (same_source has.0 found.0 s found.1 has.2) found.2
   | inr refused ↦ absurd (no_source_fault has.0 s refused.0 has.2 refused.1)
@@ -85,7 +85,7 @@ ready_done files (Compile source circuit) end has h =
     subst Done (sym made.5) (inl refl)
 ready_done files (Show circuit) end has h = subst Done (sym (circuit_ready files circuit 0 end has.0 _ has.1 h)) (inl refl)
 
-run_command : (words : List (List ℕ)) (files : Files) (command : Command) (end : End) → command_of words ≡ Some command → RunOf words files Nowhere end → CommandRun command files Nowhere end
+pub run_command : (words : List (List ℕ)) (files : Files) (command : Command) (end : End) → command_of words ≡ Some command → RunOf words files Nowhere end → CommandRun command files Nowhere end
 run_command words files command end e h = rw e at h
 
 pub completes : (words : List (List ℕ)) (files : Files) (before : List ℕ) (status : ℕ) (held : Option Files) (written : Option (List ℕ)) (rr pr mr sr : Type 0) (command : Command)

@@ -1,10 +1,11 @@
 -- What is told of a shelf that tells its files, moved from one step of a walk to the next.
-use Rattle.std.proofs.Common.{◌≡◌, ℕ, ◌≤◌, List, Option, Some, None, Result, Err, subst, sym, ap, ◌∙◌, inl, inr, arith}
+use Rattle.std.proofs.Common.{◌≡◌, ℕ, Bool, ◌≤◌, List, Option, Some, None, Result, Err, subst, sym, ap, ◌∙◌, inl, inr, arith}
 use Rattle.std.specs.Prelude.{IfSome, Vec}
 use Rattle.std.specs.declared.alloc.Global.{Global}
 use Rattle.std.specs.Result.{IsErrAnd}
 use Rattle.std.proofs.lemmas.Result.{err_from_is_err_and}
 use Rattle.lzk_outside.specs.Outside.{Files, Rose}
+use Rattle.lzk_cmd.specs.Faults.{Faulted}
 use Rattle.lzk_cmd.specs.declared.ending.Ending.{Ending}
 use Rattle.lzk_cmd.specs.declared.ending.Halt.{Halt}
 use Rattle.lzk_cmd.specs.declared.ending.Halt.TheVariants as halts
@@ -26,8 +27,12 @@ moved o o' P e a = subst (λ x. IfSome x P) e a
 pub rose_later : (a b c : ℕ) → a ≤ b → Rose b c → Rose a c
 rose_later a b c le h = omega arith
 
-pub rose_before : (a b c : ℕ) → b ≤ c → Rose a b → Rose a c
-rose_before a b c le h = omega arith
+-- a fault in a later part of the run is one in the whole
+pub faulted_later : (f g : Bool) (a b c : ℕ) → g ≡ f → a ≤ b → Faulted g b c → Faulted f a c
+faulted_later f g a b c same le h = record { may = sym same ∙ h.may; rose = rose_later a b c le h.rose }
+
+pub faulted_same : (f g : Bool) (a b c : ℕ) → g ≡ f → b ≡ a → Faulted g b c → Faulted f a c
+faulted_same f g a b c same is h = record { may = sym same ∙ h.may; rose = subst (λ n. Rose n c) is h.rose }
 
 -- an error that was handed on
 pub handed_on : {X Y : Type 0} (P : Result X Y → Type 0) (r : Result X Y) (h : Y) → IsErrAnd r (λ y. y ≡ h) → P (Err h) → P r

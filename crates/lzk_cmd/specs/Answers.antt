@@ -12,7 +12,10 @@ use Rattle.lzk_cmd.specs.declared.ending.Halt.{Halt}
 use Rattle.lzk_cmd.specs.declared.ending.Halt.TheVariants as halts
 use Rattle.lzk_cmd.specs.Decoded.{circuit_limit, text_limit, circuit_refused, numbers_refused}
 use Rattle.lzk_cmd.specs.Ends.{End as Ended, says, missing_file, Stop, MayStop, stops_at}
-use Rattle.lzk_cmd.specs.Lines.{missing_line, larger_line, reading_line, byte_line, text_line, limit_line}
+use Rattle.lzk_expr.specs.declared.fault.NumberKind.{NumberKind}
+use Rattle.lzk_expr.specs.declared.source_fault.SourceKind.{SourceKind}
+use Rattle.lzk_level.specs.declared.fault.LevelFault.{LevelFault}
+use Rattle.lzk_cmd.specs.Lines.{missing_line, larger_line, reading_line, byte_line, byte_kind_name, text_line, number_kind_name, source_kind_name, level_line}
 
 -- the run's end, as the code has it
 pub record IsEnding (end : Ended) (e : Ending) : Type 0 where
@@ -79,9 +82,10 @@ abbrev pub IsRefusal : Type 0 → List ℕ → Type 0
 IsRefusal miss_rose text =
     ((name : List ℕ) × (text ≡ missing_line name) × miss_rose)
     ⊎ (((name : List ℕ) × (limit : ℕ) × (text ≡ larger_line name limit))
-    ⊎ (((name : List ℕ) × (offset : ℕ) × (kind : List ℕ) × (text ≡ byte_line name offset kind))
-    ⊎ (((name : List ℕ) × (number : ℕ) × (kind : List ℕ) × (text ≡ text_line name number kind))
-    ⊎ ((name : List ℕ) × (kind : List ℕ) × (count : ℕ) × (limit : ℕ) × (text ≡ limit_line name kind count limit)))))
+    ⊎ (((name : List ℕ) × (offset : ℕ) × (kind : ByteKind) × (text ≡ byte_line name offset (byte_kind_name kind)))
+    ⊎ (((name : List ℕ) × (number : ℕ) × (kind : NumberKind) × (text ≡ text_line name number (number_kind_name kind)))
+    ⊎ (((name : List ℕ) × (number : ℕ) × (kind : SourceKind) × (text ≡ text_line name number (source_kind_name kind)))
+    ⊎ ((name : List ℕ) × (fault : LevelFault) × (text ≡ level_line name fault))))))
 
 -- each status has its cause, whether or not the shelf tells its files
 pub record HasCause (read_rose miss_rose : Type 0) (e : Ending) : Type 0 where

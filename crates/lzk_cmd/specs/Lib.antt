@@ -1,14 +1,21 @@
 pub mod Answers
+pub mod Chains
 pub mod Compiled
 pub mod Complete
 pub mod Decoded
 pub mod Ends
 pub mod Evaluations
+pub mod Faults
 pub mod Files
+pub mod Grammar
+pub mod KeyViews
+pub mod Keys
 pub mod Lines
+pub mod OneEnd
 pub mod Outcome
 pub mod Putting
 pub mod Run
+pub mod Table
 pub mod Views
 pub mod Words
 pub use Rattle.lzk_outside.specs as lzk_outside

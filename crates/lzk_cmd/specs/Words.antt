@@ -1,6 +1,9 @@
 -- Which lists of words are commands.
-use Rattle.std.specs.Prelude.{ℕ, Bool, true, false, ◌&&◌, List, [], ◌∷◌, Option, Some, None, cond, codes}
-use Rattle.std.specs.Str.{bytes_eq}
+use Rattle.std.specs.Prelude.{ℕ, List, [], ◌∷◌, Option, Some, None}
+use Rattle.lzk_cmd.specs.declared.table.Verb.{Verb}
+use Rattle.lzk_cmd.specs.declared.table.Verb.TheVariants as verbs
+use Rattle.lzk_cmd.specs.Grammar.{request_of}
+use Rattle.lzk_cmd.specs.Keys.{or_else}
 
 -- a command, with the names of its files
 pub data Command : Type 0 where
@@ -8,17 +11,16 @@ pub data Command : Type 0 where
   Compile : List ℕ → List ℕ → Command
   Show : List ℕ → Command
 
--- a name has some byte
-abbrev pub is_name : List ℕ → Bool
-is_name [] = false
-is_name (b ∷ bs) = true
+-- Of the table's commands eval, compile and show are built. The words of the others are refused.
+abbrev pub built : Verb → List (List ℕ) → Option Command
+built verbs.Eval (circuit ∷ public ∷ private ∷ []) = Some (Eval circuit public private)
+built verbs.Compile (source ∷ circuit ∷ []) = Some (Compile source circuit)
+built verbs.Show (circuit ∷ []) = Some (Show circuit)
+built verb names = None
 
-abbrev pub command_of : List (List ℕ) → Option Command
-command_of (word ∷ circuit ∷ public ∷ private ∷ []) =
-    cond (bytes_eq word (codes "eval") && (is_name circuit && (is_name public && is_name private))) (Some (Eval circuit public private)) None
-command_of (word ∷ source ∷ circuit ∷ []) = cond (bytes_eq word (codes "compile") && (is_name source && is_name circuit)) (Some (Compile source circuit)) None
-command_of (word ∷ circuit ∷ []) = cond (bytes_eq word (codes "show") && is_name circuit) (Some (Show circuit)) None
-command_of words = None
+-- the command of a list of words, if they are one
+unfoldable pub command_of : List (List ℕ) → Option Command
+command_of words = or_else (request_of words) (λ request. built request.verb request.names) None
 
 -- the words are a command that puts a file
 abbrev pub PutsFile : Option Command → Type 0

@@ -1,10 +1,11 @@
 //! The command `compile`.
 
-ghost use Rattle.std.specs.Prelude.{◌≡◌, ◌≤◌, length, IfOk, IfErr, IfSome, string_bytes};
+ghost use Rattle.std.specs.Prelude.{◌≡◌, ◌≤◌, length, IfOk, IfErr, IfSome, string_bytes, IsTrue};
 ghost use Rattle.lzk_circbytes.specs.Files.{CircuitBytes, IsFile};
 ghost use Rattle.lzk_circbytes.specs.Numbered.{shape};
 ghost use Rattle.lzk_expr.specs.View.{tree_of};
 ghost use Rattle.lzk_outside.specs.Outside.{Rose};
+ghost use Rattle.lzk_cmd.specs.Faults.{Faulted};
 ghost use Rattle.lzk_cmd.specs.Lines.{compiled_line};
 ghost use Rattle.lzk_cmd.specs.Answers.{HaltHasCause, HaltRefuses, ending_of};
 ghost use Rattle.lzk_cmd.specs.Compiled.{CompileRun, compiled_text, term_count};
@@ -43,12 +44,14 @@ fn source_of(alloc: Global, name: &str, text: &[u8]) -> Result<Source, Halt>
 
 // The source in a file.
 fn read_source<S: Shelf>(alloc: Global, shelf: &mut S, name: &str) -> Result<Source, Halt>
-    ensures told { IfSome (S.held shelf.old) (λ files. SourceAnswers (files name.now) name.now (Rose (S.read_faults shelf.old) (S.read_faults shelf.new)) result) }
+    ensures told { IfSome (S.held shelf.old) (λ files. SourceAnswers (files name.now) name.now (Faulted (S.never_fails shelf.old) (S.read_faults shelf.old) (S.read_faults shelf.new)) result) }
     ensures same { S.held shelf.new ≡ S.held shelf.old }
     ensures puts { S.put_faults shelf.new ≡ S.put_faults shelf.old }
     ensures reads { S.read_faults shelf.old ≤ S.read_faults shelf.new }
     ensures misses { S.misses shelf.old ≤ S.misses shelf.new }
-    ensures cause { IfErr result (HaltHasCause (Rose (S.read_faults shelf.old) (S.read_faults shelf.new)) (Rose (S.misses shelf.old) (S.misses shelf.new))) }
+    ensures kept { S.never_fails shelf.new ≡ S.never_fails shelf.old }
+    ensures uncounted { IsTrue (S.never_fails shelf.old) → S.read_faults shelf.new ≡ S.read_faults shelf.old }
+    ensures cause { IfErr result (HaltHasCause (Faulted (S.never_fails shelf.old) (S.read_faults shelf.old) (S.read_faults shelf.new)) (Rose (S.misses shelf.old) (S.misses shelf.new))) }
 {
     let text = read_file(alloc, shelf, name, TEXT_LIMIT)?;
     source_of(alloc, name, &text)
@@ -123,10 +126,12 @@ fn put_file<S: Shelf>(
     bytes: &[u8],
     text: String,
 ) -> Result<Ending, Halt>
-    ensures told { IfSome (S.held shelf.old) (λ files. PutAnswers files name.now bytes.now (string_bytes text) (Rose (S.put_faults shelf.old) (S.put_faults shelf.new)) (S.held shelf.new) result) }
+    ensures told { IfSome (S.held shelf.old) (λ files. PutAnswers files name.now bytes.now (string_bytes text) (Faulted (S.never_fails shelf.old) (S.put_faults shelf.old) (S.put_faults shelf.new)) (S.held shelf.new) result) }
     ensures reads { S.read_faults shelf.new ≡ S.read_faults shelf.old }
     ensures misses { S.misses shelf.new ≡ S.misses shelf.old }
-    ensures cause { IfSome (ending_of result) (PutHasCause (Rose (S.read_faults shelf.old) (S.read_faults shelf.new)) (Rose (S.put_faults shelf.old) (S.put_faults shelf.new)) (Rose (S.misses shelf.old) (S.misses shelf.new))) }
+    ensures kept { S.never_fails shelf.new ≡ S.never_fails shelf.old }
+    ensures uncounted { IsTrue (S.never_fails shelf.old) → S.put_faults shelf.new ≡ S.put_faults shelf.old }
+    ensures cause { IfSome (ending_of result) (PutHasCause (Faulted (S.never_fails shelf.old) (S.read_faults shelf.old) (S.read_faults shelf.new)) (Faulted (S.never_fails shelf.old) (S.put_faults shelf.old) (S.put_faults shelf.new)) (Rose (S.misses shelf.old) (S.misses shelf.new))) }
 {
     let fault = lines::tell_writing(alloc, name)?;
     match shelf.put(name, bytes) {
@@ -152,8 +157,11 @@ pub fn compile_source<S: Shelf>(
     shelf: &mut S,
 ) -> Result<Ending, Halt>
     ensures told { IfSome (S.held shelf.old) (λ files.
-        Settles (CompileRun source.now circuit.now files) 0 files (Rose (S.read_faults shelf.old) (S.read_faults shelf.new)) (Rose (S.put_faults shelf.old) (S.put_faults shelf.new)) (S.held shelf.new) (ending_of result)) }
-    ensures cause { IfSome (ending_of result) (PutHasCause (Rose (S.read_faults shelf.old) (S.read_faults shelf.new)) (Rose (S.put_faults shelf.old) (S.put_faults shelf.new)) (Rose (S.misses shelf.old) (S.misses shelf.new))) }
+        Settles (CompileRun source.now circuit.now files) 0 files (Faulted (S.never_fails shelf.old) (S.read_faults shelf.old) (S.read_faults shelf.new)) (Faulted (S.never_fails shelf.old) (S.put_faults shelf.old) (S.put_faults shelf.new)) (S.held shelf.new) (ending_of result)) }
+    ensures kept { S.never_fails shelf.new ≡ S.never_fails shelf.old }
+    ensures uncounted_reads { IsTrue (S.never_fails shelf.old) → S.read_faults shelf.new ≡ S.read_faults shelf.old }
+    ensures uncounted_puts { IsTrue (S.never_fails shelf.old) → S.put_faults shelf.new ≡ S.put_faults shelf.old }
+    ensures cause { IfSome (ending_of result) (PutHasCause (Faulted (S.never_fails shelf.old) (S.read_faults shelf.old) (S.read_faults shelf.new)) (Faulted (S.never_fails shelf.old) (S.put_faults shelf.old) (S.put_faults shelf.new)) (Rose (S.misses shelf.old) (S.misses shelf.new))) }
 {
     let tree = read_source(alloc, shelf, source)?;
     let (bytes, text) = compiled(alloc, source, &tree, circuit)?;

@@ -1,7 +1,8 @@
 //! The command `eval`.
 
-ghost use Rattle.std.specs.Prelude.{◌≡◌, ◌<◌, ◌≤◌, length, map, IfOk, IfSome, string_bytes};
+ghost use Rattle.std.specs.Prelude.{◌≡◌, ◌<◌, ◌≤◌, length, map, IfOk, IfSome, string_bytes, IsTrue};
 ghost use Rattle.lzk_outside.specs.Outside.{Rose};
+ghost use Rattle.lzk_cmd.specs.Faults.{Faulted};
 ghost use Rattle.lzk_circuit.specs.Wires.{list_at};
 ghost use Rattle.lzk_cmd.specs.Answers.{Halted, HasCause, ending_of};
 ghost use Rattle.lzk_cmd.specs.Run.{EvalOver, EvalRun, output_lines};
@@ -70,12 +71,14 @@ fn eval_over<S: Shelf, F: Field>(
     shelf: &mut S,
 ) -> Result<Ending, Halt>
     ensures told { IfSome (S.held shelf.old) (λ files. IfSome (ending_of result)
-        (Halted (EvalOver F.ops F.size F.number_of circuit.now public.now private.now files) 1 (Rose (S.read_faults shelf.old) (S.read_faults shelf.new)) (Rose (S.put_faults shelf.old) (S.put_faults shelf.new)))) }
+        (Halted (EvalOver F.ops F.size F.number_of circuit.now public.now private.now files) 1 (Faulted (S.never_fails shelf.old) (S.read_faults shelf.old) (S.read_faults shelf.new)) (Faulted (S.never_fails shelf.old) (S.put_faults shelf.old) (S.put_faults shelf.new)))) }
     ensures same { S.held shelf.new ≡ S.held shelf.old }
     ensures puts { S.put_faults shelf.new ≡ S.put_faults shelf.old }
     ensures reads { S.read_faults shelf.old ≤ S.read_faults shelf.new }
     ensures misses { S.misses shelf.old ≤ S.misses shelf.new }
-    ensures cause { IfSome (ending_of result) (HasCause (Rose (S.read_faults shelf.old) (S.read_faults shelf.new)) (Rose (S.misses shelf.old) (S.misses shelf.new))) }
+    ensures kept { S.never_fails shelf.new ≡ S.never_fails shelf.old }
+    ensures uncounted { IsTrue (S.never_fails shelf.old) → S.read_faults shelf.new ≡ S.read_faults shelf.old }
+    ensures cause { IfSome (ending_of result) (HasCause (Faulted (S.never_fails shelf.old) (S.read_faults shelf.old) (S.read_faults shelf.new)) (Rose (S.misses shelf.old) (S.misses shelf.new))) }
 {
     let publics = read_elements::<S, F>(alloc, shelf, public, circuit.publics())?;
     let privates = read_elements::<S, F>(alloc, shelf, private, circuit.privates())?;
@@ -93,9 +96,12 @@ pub fn eval<S: Shelf>(
     shelf: &mut S,
 ) -> Result<Ending, Halt>
     ensures told { IfSome (S.held shelf.old) (λ files. IfSome (ending_of result)
-        (Halted (EvalRun circuit.now public.now private.now files) 0 (Rose (S.read_faults shelf.old) (S.read_faults shelf.new)) (Rose (S.put_faults shelf.old) (S.put_faults shelf.new)))) }
+        (Halted (EvalRun circuit.now public.now private.now files) 0 (Faulted (S.never_fails shelf.old) (S.read_faults shelf.old) (S.read_faults shelf.new)) (Faulted (S.never_fails shelf.old) (S.put_faults shelf.old) (S.put_faults shelf.new)))) }
     ensures same { S.held shelf.new ≡ S.held shelf.old }
-    ensures cause { IfSome (ending_of result) (HasCause (Rose (S.read_faults shelf.old) (S.read_faults shelf.new)) (Rose (S.misses shelf.old) (S.misses shelf.new))) }
+    ensures puts { S.put_faults shelf.new ≡ S.put_faults shelf.old }
+    ensures kept { S.never_fails shelf.new ≡ S.never_fails shelf.old }
+    ensures uncounted { IsTrue (S.never_fails shelf.old) → S.read_faults shelf.new ≡ S.read_faults shelf.old }
+    ensures cause { IfSome (ending_of result) (HasCause (Faulted (S.never_fails shelf.old) (S.read_faults shelf.old) (S.read_faults shelf.new)) (Rose (S.misses shelf.old) (S.misses shelf.new))) }
 {
     match read_circuit(alloc, shelf, circuit)? {
         AnyCircuit::Gold(c) => eval_over(alloc, &c, public, private, shelf),

@@ -13,11 +13,14 @@ mod compiling;
 mod ending;
 mod eval;
 mod files;
+mod grammar;
+mod keys;
 mod lines;
 mod load;
 mod numbers;
 mod print;
 mod show;
+mod table;
 mod top;
 mod words;
 

@@ -1,7 +1,8 @@
 //! Reading a whole file.
 
-ghost use Rattle.std.specs.Prelude.{◌≡◌, ◌<◌, ◌≤◌, ◌^◌, length, IfOk};
-ghost use Rattle.lzk_outside.specs.Outside.{Counts};
+ghost use Rattle.std.specs.Prelude.{◌≡◌, ◌<◌, ◌≤◌, ◌^◌, length, IfOk, IsTrue};
+ghost use Rattle.lzk_outside.specs.Outside.{Rose};
+ghost use Rattle.lzk_cmd.specs.Faults.{Faulted};
 ghost use Rattle.lzk_cmd.specs.Files.{Loads};
 
 use lzk_outside::{Shelf, ShelfFault};
@@ -31,8 +32,12 @@ pub fn load<S: Shelf>(
     ensures fits { IfOk result (λ v. length v.items ≤ limit) }
     ensures same { S.held shelf.new ≡ S.held shelf.old }
     ensures puts { S.put_faults shelf.new ≡ S.put_faults shelf.old }
-    ensures failed { Counts (result ≡ Err LoadFault.Failed) (S.read_faults shelf.old) (S.read_faults shelf.new) }
-    ensures missing { Counts (result ≡ Err LoadFault.Missing) (S.misses shelf.old) (S.misses shelf.new) }
+    ensures reads { S.read_faults shelf.old ≤ S.read_faults shelf.new }
+    ensures misses { S.misses shelf.old ≤ S.misses shelf.new }
+    ensures missing { result ≡ Err LoadFault.Missing → Rose (S.misses shelf.old) (S.misses shelf.new) }
+    ensures fault { result ≡ Err LoadFault.Failed → Faulted (S.never_fails shelf.old) (S.read_faults shelf.old) (S.read_faults shelf.new) }
+    ensures kept { S.never_fails shelf.new ≡ S.never_fails shelf.old }
+    ensures uncounted { IsTrue (S.never_fails shelf.old) → S.read_faults shelf.new ≡ S.read_faults shelf.old }
 {
     let mut bytes = Vec::new(alloc);
     let mut chunk = [0u8; CHUNK];

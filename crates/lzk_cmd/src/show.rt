@@ -1,7 +1,8 @@
 //! The command `show`.
 
-ghost use Rattle.std.specs.Prelude.{◌≡◌, ◌≤◌, IfOk, IfSome, string_bytes};
+ghost use Rattle.std.specs.Prelude.{◌≡◌, ◌≤◌, IfOk, IfSome, string_bytes, IsTrue};
 ghost use Rattle.lzk_outside.specs.Outside.{Rose};
+ghost use Rattle.lzk_cmd.specs.Faults.{Faulted};
 ghost use Rattle.lzk_circbytes.specs.Numbered.{shape, numbered};
 ghost use Rattle.lzk_circbytes.specs.Files.{circuit_id};
 ghost use Rattle.lzk_cmd.specs.Answers.{Halted, HasCause, IsEnding, ending_of};
@@ -55,9 +56,12 @@ fn ending<F: Field>(alloc: Global, circuit: &Circuit<F>, field: &str) -> Result<
 /// Shows what a circuit file holds.
 pub fn show<S: Shelf>(alloc: Global, circuit: &str, shelf: &mut S) -> Result<Ending, Halt>
     ensures told { IfSome (S.held shelf.old) (λ files. IfSome (ending_of result)
-        (Halted (ShowRun circuit.now files) 0 (Rose (S.read_faults shelf.old) (S.read_faults shelf.new)) (Rose (S.put_faults shelf.old) (S.put_faults shelf.new)))) }
+        (Halted (ShowRun circuit.now files) 0 (Faulted (S.never_fails shelf.old) (S.read_faults shelf.old) (S.read_faults shelf.new)) (Faulted (S.never_fails shelf.old) (S.put_faults shelf.old) (S.put_faults shelf.new)))) }
     ensures same { S.held shelf.new ≡ S.held shelf.old }
-    ensures cause { IfSome (ending_of result) (HasCause (Rose (S.read_faults shelf.old) (S.read_faults shelf.new)) (Rose (S.misses shelf.old) (S.misses shelf.new))) }
+    ensures puts { S.put_faults shelf.new ≡ S.put_faults shelf.old }
+    ensures kept { S.never_fails shelf.new ≡ S.never_fails shelf.old }
+    ensures uncounted { IsTrue (S.never_fails shelf.old) → S.read_faults shelf.new ≡ S.read_faults shelf.old }
+    ensures cause { IfSome (ending_of result) (HasCause (Faulted (S.never_fails shelf.old) (S.read_faults shelf.old) (S.read_faults shelf.new)) (Rose (S.misses shelf.old) (S.misses shelf.new))) }
 {
     match read_circuit(alloc, shelf, circuit)? {
         AnyCircuit::Gold(c) => Ok(ending(alloc, &c, "goldilocks")?),

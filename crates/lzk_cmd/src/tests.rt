@@ -2,6 +2,7 @@
 
 mod circuits;
 mod compiling;
+mod words;
 
 use self::circuits::{GF_SQUARE, GF_THREE_LAYERS, ONE_WIRE, SQUARE, THREE_LAYERS};
 use crate::run;
@@ -262,6 +263,12 @@ fn words_and_missing_files_are_refused(rt: HostRuntime) -> Result<(), Fail> {
         ("eval c y", 2, "refused: words\n"),
         ("eval c y x workers=2", 2, "refused: words\n"),
         ("verify c y", 2, "refused: words\n"),
+        ("verify c y x", 2, "refused: words\n"),
+        (
+            "demo 1 seed=0000000000000000000000000000000000000000000000000000000000000000",
+            2,
+            "refused: words\n",
+        ),
         ("show", 2, "refused: words\n"),
         ("show c c", 2, "refused: words\n"),
         ("eval c y.txt x", 3, "refused: y.txt is missing\n"),

@@ -1,11 +1,13 @@
 //! The top call.
 
-ghost use Rattle.std.specs.Prelude.{◌≡◌, ◌⊎◌, ◌↔◌, map, string_bytes, IfSome};
+ghost use Rattle.std.specs.Prelude.{◌≡◌, ◌≤◌, ◌⊎◌, ◌↔◌, IsTrue, map, string_bytes, IfSome};
 ghost use Rattle.lzk_outside.specs.Outside.{Rose};
+ghost use Rattle.lzk_cmd.specs.Faults.{Faulted};
 ghost use Rattle.lzk_cmd.specs.Answers.{RunHasCause, ending_of};
 ghost use Rattle.lzk_cmd.specs.Words.{PutsFile, command_of};
 ghost use Rattle.lzk_cmd.specs.Outcome.{Outcome, Worked, Refused};
 ghost use Rattle.lzk_cmd.specs.Complete.{Completes};
+ghost use Rattle.lzk_cmd.specs.OneEnd.{OneEnd};
 
 use crate::compiling::compile_source;
 use crate::ending::{Ending, Halt};
@@ -21,9 +23,13 @@ use std::alloc::Global;
 // All but the printing.
 fn work<S: Shelf>(alloc: Global, words: &[String], shelf: &mut S) -> Result<Ending, Halt>
     ensures told { IfSome (S.held shelf.old) (λ files. Worked (map (λ w. string_bytes w) words.now) files (S.held shelf.new)
-        (Rose (S.read_faults shelf.old) (S.read_faults shelf.new)) (Rose (S.put_faults shelf.old) (S.put_faults shelf.new)) (ending_of result)) }
+        (Faulted (S.never_fails shelf.old) (S.read_faults shelf.old) (S.read_faults shelf.new)) (Faulted (S.never_fails shelf.old) (S.put_faults shelf.old) (S.put_faults shelf.new)) (ending_of result)) }
+    ensures untouched { command_of (map (λ w. string_bytes w) words.now) ≡ None → shelf.new ≡ shelf.old }
+    ensures kept { S.never_fails shelf.new ≡ S.never_fails shelf.old }
+    ensures uncounted_reads { IsTrue (S.never_fails shelf.old) → S.read_faults shelf.new ≡ S.read_faults shelf.old }
+    ensures uncounted_puts { IsTrue (S.never_fails shelf.old) → S.put_faults shelf.new ≡ S.put_faults shelf.old }
     ensures words { IfSome (ending_of result) (λ e. (e.status ≡ 2) ↔ (command_of (map (λ w. string_bytes w) words.now) ≡ None)) }
-    ensures cause { IfSome (ending_of result) (RunHasCause (Rose (S.read_faults shelf.old) (S.read_faults shelf.new)) (PutsFile (command_of (map (λ w. string_bytes w) words.now)) × Rose (S.put_faults shelf.old) (S.put_faults shelf.new)) (Rose (S.misses shelf.old) (S.misses shelf.new))) }
+    ensures cause { IfSome (ending_of result) (RunHasCause (Faulted (S.never_fails shelf.old) (S.read_faults shelf.old) (S.read_faults shelf.new)) (PutsFile (command_of (map (λ w. string_bytes w) words.now)) × Faulted (S.never_fails shelf.old) (S.put_faults shelf.old) (S.put_faults shelf.new)) (Rose (S.misses shelf.old) (S.misses shelf.new))) }
 {
     match parse_words(words) {
         None => {
@@ -50,12 +56,19 @@ fn work<S: Shelf>(alloc: Global, words: &[String], shelf: &mut S) -> Result<Endi
 fn conclude<S: Shelf, K: Sink>(alloc: Global, words: &[String], shelf: &mut S, out: &mut K) -> u8
     ensures told { IfSome (S.held shelf.old) (λ files. IfSome (K.written out.old) (λ before.
         Outcome (map (λ w. string_bytes w) words.now) files before result (S.held shelf.new) (K.written out.new)
-        (Rose (S.read_faults shelf.old) (S.read_faults shelf.new)) (Rose (S.put_faults shelf.old) (S.put_faults shelf.new)) (Rose (S.misses shelf.old) (S.misses shelf.new)) (Rose (K.faults out.old) (K.faults out.new)))) }
+        (Faulted (S.never_fails shelf.old) (S.read_faults shelf.old) (S.read_faults shelf.new)) (Faulted (S.never_fails shelf.old) (S.put_faults shelf.old) (S.put_faults shelf.new)) (Rose (S.misses shelf.old) (S.misses shelf.new)) (Faulted (K.never_fails out.old) (K.faults out.old) (K.faults out.new)))) }
+    ensures untouched { command_of (map (λ w. string_bytes w) words.now) ≡ None → shelf.new ≡ shelf.old }
+    ensures kept { S.never_fails shelf.new ≡ S.never_fails shelf.old }
+    ensures uncounted_reads { IsTrue (S.never_fails shelf.old) → S.read_faults shelf.new ≡ S.read_faults shelf.old }
+    ensures uncounted_puts { IsTrue (S.never_fails shelf.old) → S.put_faults shelf.new ≡ S.put_faults shelf.old }
+    ensures sink_kept { K.never_fails out.new ≡ K.never_fails out.old }
+    ensures uncounted_writes { IsTrue (K.never_fails out.old) → K.faults out.new ≡ K.faults out.old }
+    ensures status { result ≤ 6 }
     ensures words { result ≡ 2 → command_of (map (λ w. string_bytes w) words.now) ≡ None }
-    ensures refused { command_of (map (λ w. string_bytes w) words.now) ≡ None → (result ≡ 2) ⊎ (((result ≡ 5) × Rose (K.faults out.old) (K.faults out.new)) ⊎ (result ≡ 6)) }
+    ensures refused { command_of (map (λ w. string_bytes w) words.now) ≡ None → (result ≡ 2) ⊎ (((result ≡ 5) × Faulted (K.never_fails out.old) (K.faults out.old) (K.faults out.new)) ⊎ (result ≡ 6)) }
     ensures missing { result ≡ 3 → IfSome (K.written out.old) (λ before. Refused (Rose (S.misses shelf.old) (S.misses shelf.new)) before (K.written out.new)) }
-    ensures reading { result ≡ 4 → Rose (S.read_faults shelf.old) (S.read_faults shelf.new) }
-    ensures printing { result ≡ 5 → Rose (K.faults out.old) (K.faults out.new) ⊎ (PutsFile (command_of (map (λ w. string_bytes w) words.now)) × Rose (S.put_faults shelf.old) (S.put_faults shelf.new)) }
+    ensures reading { result ≡ 4 → Faulted (S.never_fails shelf.old) (S.read_faults shelf.old) (S.read_faults shelf.new) }
+    ensures printing { result ≡ 5 → Faulted (K.never_fails out.old) (K.faults out.old) (K.faults out.new) ⊎ (PutsFile (command_of (map (λ w. string_bytes w) words.now)) × Faulted (S.never_fails shelf.old) (S.put_faults shelf.old) (S.put_faults shelf.new)) }
 {
     let ending = match work(alloc, words, shelf) {
         Ok(ending) => ending,
@@ -72,6 +85,7 @@ fn conclude<S: Shelf, K: Sink>(alloc: Global, words: &[String], shelf: &mut S, o
 /// Does what the words say, and answers the status: 0 done, 1 unsatisfied, 2 the words are no command,
 /// 3 a file is refused, 4 a read failed, 5 a put or a write failed, 6 want of memory. Nothing is printed
 /// after a failed write or at want of memory.
+#[tactic(auto, using(crate::proofs::Alone::one_end))]
 pub fn run<S: Shelf, K: Sink, G: Gate>(
     alloc: Global,
     words: &[String],
@@ -82,19 +96,29 @@ pub fn run<S: Shelf, K: Sink, G: Gate>(
     // Where shelf and sink tell their contents, the run is the definition's.
     ensures told { IfSome (S.held shelf.old) (λ files. IfSome (K.written out.old) (λ before.
         Outcome (map (λ w. string_bytes w) words.now) files before result (S.held shelf.new) (K.written out.new)
-        (Rose (S.read_faults shelf.old) (S.read_faults shelf.new)) (Rose (S.put_faults shelf.old) (S.put_faults shelf.new)) (Rose (S.misses shelf.old) (S.misses shelf.new)) (Rose (K.faults out.old) (K.faults out.new)))) }
+        (Faulted (S.never_fails shelf.old) (S.read_faults shelf.old) (S.read_faults shelf.new)) (Faulted (S.never_fails shelf.old) (S.put_faults shelf.old) (S.put_faults shelf.new)) (Rose (S.misses shelf.old) (S.misses shelf.new)) (Faulted (K.never_fails out.old) (K.faults out.old) (K.faults out.new)))) }
 
     // Where the files are ready and nothing rose, the run is done, and its file is put.
     ensures complete { IfSome (S.held shelf.old) (λ files. IfSome (K.written out.old) (λ before.
         Completes (map (λ w. string_bytes w) words.now) files before result (S.held shelf.new) (K.written out.new)
-        (Rose (S.read_faults shelf.old) (S.read_faults shelf.new)) (Rose (S.put_faults shelf.old) (S.put_faults shelf.new)) (Rose (K.faults out.old) (K.faults out.new)))) }
+        (Faulted (S.never_fails shelf.old) (S.read_faults shelf.old) (S.read_faults shelf.new)) (Faulted (S.never_fails shelf.old) (S.put_faults shelf.old) (S.put_faults shelf.new)) (Faulted (K.never_fails out.old) (K.faults out.old) (K.faults out.new)))) }
+
+    // Words, files and stop have one end.
+    ensures one_end { OneEnd }
 
     // Each status has its cause, whether or not they tell.
+    ensures untouched { command_of (map (λ w. string_bytes w) words.now) ≡ None → shelf.new ≡ shelf.old }
+    ensures kept { S.never_fails shelf.new ≡ S.never_fails shelf.old }
+    ensures uncounted_reads { IsTrue (S.never_fails shelf.old) → S.read_faults shelf.new ≡ S.read_faults shelf.old }
+    ensures uncounted_puts { IsTrue (S.never_fails shelf.old) → S.put_faults shelf.new ≡ S.put_faults shelf.old }
+    ensures sink_kept { K.never_fails out.new ≡ K.never_fails out.old }
+    ensures uncounted_writes { IsTrue (K.never_fails out.old) → K.faults out.new ≡ K.faults out.old }
+    ensures status { result ≤ 6 }
     ensures words { result ≡ 2 → command_of (map (λ w. string_bytes w) words.now) ≡ None }
-    ensures refused { command_of (map (λ w. string_bytes w) words.now) ≡ None → (result ≡ 2) ⊎ (((result ≡ 5) × Rose (K.faults out.old) (K.faults out.new)) ⊎ (result ≡ 6)) }
+    ensures refused { command_of (map (λ w. string_bytes w) words.now) ≡ None → (result ≡ 2) ⊎ (((result ≡ 5) × Faulted (K.never_fails out.old) (K.faults out.old) (K.faults out.new)) ⊎ (result ≡ 6)) }
     ensures missing { result ≡ 3 → IfSome (K.written out.old) (λ before. Refused (Rose (S.misses shelf.old) (S.misses shelf.new)) before (K.written out.new)) }
-    ensures reading { result ≡ 4 → Rose (S.read_faults shelf.old) (S.read_faults shelf.new) }
-    ensures printing { result ≡ 5 → Rose (K.faults out.old) (K.faults out.new) ⊎ (PutsFile (command_of (map (λ w. string_bytes w) words.now)) × Rose (S.put_faults shelf.old) (S.put_faults shelf.new)) }
+    ensures reading { result ≡ 4 → Faulted (S.never_fails shelf.old) (S.read_faults shelf.old) (S.read_faults shelf.new) }
+    ensures printing { result ≡ 5 → Faulted (K.never_fails out.old) (K.faults out.old) (K.faults out.new) ⊎ (PutsFile (command_of (map (λ w. string_bytes w) words.now)) × Faulted (S.never_fails shelf.old) (S.put_faults shelf.old) (S.put_faults shelf.new)) }
 {
     conclude(alloc, words, shelf, out)
 }

@@ -1,8 +1,13 @@
 //! Which command a list of words is.
 
-ghost use Rattle.std.specs.Prelude.{◌≡◌, [], ◌∷◌, MatchOption, map, string_bytes};
-ghost use Rattle.lzk_cmd.specs.Words.{command_of};
+ghost use Rattle.std.specs.Prelude.{◌≡◌, MatchOption, map, string_bytes};
+ghost use Rattle.std.specs.Option.{option_map};
+ghost use Rattle.lzk_cmd.specs.declared.table.Verb.TheVariants as verbs;
+ghost use Rattle.lzk_cmd.specs.Words.{built, command_of};
 ghost use Rattle.lzk_cmd.specs.Views.{command_view};
+
+use crate::grammar::request_of;
+use crate::table::Verb;
 
 /// A command, with the names of its files.
 #[derive(Clone, Copy)]
@@ -21,62 +26,64 @@ pub enum Command<'a> {
     },
 }
 
-// The command with three names, if the word is its.
-fn three_names<'a>(
-    word: &str,
-    circuit: &'a str,
-    public: &'a str,
-    private: &'a str,
-) -> Option<Command<'a>>
-    ensures { MatchOption result (command_of (word.now ∷ circuit.now ∷ public.now ∷ private.now ∷ []) ≡ None)
-        (λ c. command_of (word.now ∷ circuit.now ∷ public.now ∷ private.now ∷ []) ≡ Some (command_view c)) }
+// The files of `eval`.
+fn eval_of(names: &[String]) -> Option<Command<'_>>
+    ensures { option_map command_view result ≡ built verbs.Eval (map (λ w. string_bytes w) names.now) }
 {
-    if word == "eval" && !circuit.is_empty() && !public.is_empty() && !private.is_empty() {
-        Some(Command::Eval {
-            circuit,
-            public,
-            private,
-        })
-    } else {
-        None
+    match names {
+        [circuit, public, private] => Some(Command::Eval {
+            circuit: circuit.as_str(),
+            public: public.as_str(),
+            private: private.as_str(),
+        }),
+        _ => None,
     }
 }
 
-// The command with two names.
-fn two_names<'a>(word: &str, source: &'a str, circuit: &'a str) -> Option<Command<'a>>
-    ensures { MatchOption result (command_of (word.now ∷ source.now ∷ circuit.now ∷ []) ≡ None) (λ c. command_of (word.now ∷ source.now ∷ circuit.now ∷ []) ≡ Some (command_view c)) }
+// The files of `compile`.
+fn compile_of(names: &[String]) -> Option<Command<'_>>
+    ensures { option_map command_view result ≡ built verbs.Compile (map (λ w. string_bytes w) names.now) }
 {
-    if word == "compile" && !source.is_empty() && !circuit.is_empty() {
-        Some(Command::Compile { source, circuit })
-    } else {
-        None
+    match names {
+        [source, circuit] => Some(Command::Compile {
+            source: source.as_str(),
+            circuit: circuit.as_str(),
+        }),
+        _ => None,
     }
 }
 
-// The command with one name.
-fn one_name<'a>(word: &str, circuit: &'a str) -> Option<Command<'a>>
-    ensures { MatchOption result (command_of (word.now ∷ circuit.now ∷ []) ≡ None) (λ c. command_of (word.now ∷ circuit.now ∷ []) ≡ Some (command_view c)) }
+// The file of `show`.
+fn show_of(names: &[String]) -> Option<Command<'_>>
+    ensures { option_map command_view result ≡ built verbs.Show (map (λ w. string_bytes w) names.now) }
 {
-    if word == "show" && !circuit.is_empty() {
-        Some(Command::Show { circuit })
-    } else {
-        None
+    match names {
+        [circuit] => Some(Command::Show {
+            circuit: circuit.as_str(),
+        }),
+        _ => None,
+    }
+}
+
+// The command, where it is built.
+fn built(verb: Verb, names: &[String]) -> Option<Command<'_>>
+    ensures { option_map command_view result ≡ built verb (map (λ w. string_bytes w) names.now) }
+{
+    match verb {
+        Verb::Eval => eval_of(names),
+        Verb::Compile => compile_of(names),
+        Verb::Show => show_of(names),
+        Verb::Prove => None,
+        Verb::Verify => None,
+        Verb::Demo => None,
     }
 }
 
 /// The command of the words, if they are one.
+#[tactic(auto, unfolding(crate::specs::Words::command_of))]
 pub fn parse_words(words: &[String]) -> Option<Command<'_>>
     ensures { MatchOption result (command_of (map (λ w. string_bytes w) words.now) ≡ None) (λ c. command_of (map (λ w. string_bytes w) words.now) ≡ Some (command_view c)) }
 {
-    match words {
-        [word, circuit, public, private] => three_names(
-            word.as_str(),
-            circuit.as_str(),
-            public.as_str(),
-            private.as_str(),
-        ),
-        [word, source, circuit] => two_names(word.as_str(), source.as_str(), circuit.as_str()),
-        [word, circuit] => one_name(word.as_str(), circuit.as_str()),
-        _ => None,
-    }
+    let request = request_of(words)?;
+    built(request.verb, request.names)
 }

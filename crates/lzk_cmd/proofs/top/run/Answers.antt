@@ -1,11 +1,13 @@
 use Rattle.std.proofs.Common.{map}
 use Rattle.std.specs.Prelude.{string_bytes}
 use Rattle.lzk_outside.specs.Outside.{Rose}
+use Rattle.lzk_cmd.specs.Faults.{Faulted}
 use Rattle.lzk_cmd.proofs.Ready.{completes_told}
 use Rattle.lzk_cmd.proofs.top.run.Goals as goal
 
 pub returns-clause-complete : goal.returns-clause-complete
 returns-clause-complete g c =
+    let never = g.S.Shelf.never_fails in
     let reads = g.S.Shelf.read_faults in
     let puts = g.S.Shelf.put_faults in
     let misses = g.S.Shelf.misses in
@@ -13,4 +15,4 @@ returns-clause-complete g c =
     let shelf = c.conclude.new.shelf in
     let out = c.conclude.new.out in
     completes_told (map (λ w. string_bytes w) c.args.words.now) (g.S.Shelf.held c.args.shelf.now) (g.K.Sink.written c.args.out.now) c.conclude.result (g.S.Shelf.held shelf) (g.K.Sink.written out)
-    (Rose (reads c.args.shelf.now) (reads shelf)) (Rose (puts c.args.shelf.now) (puts shelf)) (Rose (misses c.args.shelf.now) (misses shelf)) (Rose (faults c.args.out.now) (faults out)) c.conclude.ensures.told
+    (Faulted (never c.args.shelf.now) (reads c.args.shelf.now) (reads shelf)) (Faulted (never c.args.shelf.now) (puts c.args.shelf.now) (puts shelf)) (Rose (misses c.args.shelf.now) (misses shelf)) (Faulted (g.K.Sink.never_fails c.args.out.now) (faults c.args.out.now) (faults out)) c.conclude.ensures.told

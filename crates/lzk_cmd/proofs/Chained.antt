@@ -1,0 +1,64 @@
+-- Where a source was compiled, its circuit is ready to be evaluated.
+use Rattle.std.proofs.Common.{◌≡◌, ◌⊎◌, ℕ, Bool, true, false, inl, inr, List, Option, Some, refl, sym, subst, ap, ◌∙◌}
+use Rattle.std.specs.Prelude.{IsTrue, count_by}
+use Rattle.std.proofs.lemmas.Bool.{false≢true}
+use Rattle.lzk_circbytes.specs.declared.any.AnyCircuit.{AnyCircuit}
+use Rattle.lzk_circbytes.specs.declared.any.AnyCircuit.TheVariants.{Gold, Gf}
+use Rattle.lzk_expr.specs.Sources.{field_size}
+use Rattle.lzk_expr.specs.Trees.{SourceTree, is_public, is_private}
+use Rattle.lzk_expr.proofs.Tables.{bytes_same}
+use Rattle.lzk_level.specs.Compiled.{source_limit}
+use Rattle.lzk_outside.specs.Outside.{Files, with_file}
+use Rattle.lzk_cmd.specs.Chains.{AreChained}
+use Rattle.lzk_cmd.specs.Compiled.{Compiled, CompileRun, PutsCompiled}
+use Rattle.lzk_cmd.specs.Complete.{HasNumbers, HasInputsOf, IsReady, Completed}
+use Rattle.lzk_cmd.specs.Ends.{End, Nowhere, Leaves}
+use Rattle.lzk_cmd.specs.Faults.{Faulted}
+use Rattle.lzk_cmd.specs.Words.{Command, Eval, Compile, command_of}
+use Rattle.lzk_cmd.proofs.Ready.{run_command, source_ready}
+
+-- what never fails has no fault
+pub no_fault : (never : Bool) (before now : ℕ) → IsTrue never → Faulted never before now → ⊥
+no_fault never before now quiet h = false≢true (sym h.may ∙ quiet)
+
+-- a run that is done, or wants memory
+pub done_or_memory : (words : List (List ℕ)) (files : Files) (before : List ℕ) (status : ℕ) (held : Option Files) (written : Option (List ℕ)) → Completed words files before status held written ⊎ (status ≡ 6)
+    → (status ≡ 0) ⊎ ((status ≡ 1) ⊎ (status ≡ 6))
+done_or_memory words files before status held written (inr want) = inr (inr want)
+done_or_memory words files before status held written (inl h) = elim h.done [
+  | inl is ↦ inl (h.answer ∙ is)
+  | inr is ↦ inr (inl (h.answer ∙ is))
+]
+
+module _ (first second : List (List ℕ)) (files : Files) (chain : AreChained first second files) where
+  publics_left : (bytes : List ℕ) (size count : ℕ) → HasNumbers files chain.public size count → HasNumbers (with_file files chain.circuit bytes) chain.public size count
+  publics_left bytes size count h = rw chain.other_publics h
+
+  privates_left : (bytes : List ℕ) (size count : ℕ) → HasNumbers files chain.private size count → HasNumbers (with_file files chain.circuit bytes) chain.private size count
+  privates_left bytes size count h = rw chain.other_privates h
+
+  inputs_left : (c : AnyCircuit) (bytes : List ℕ) → Compiled chain.tree c → HasInputsOf c (with_file files chain.circuit bytes) chain.public chain.private
+  inputs_left (Gold c) bytes h =
+      let publics = rw (sym h.field_is, sym h.publics) at chain.has_publics in
+      let privates = rw (sym h.field_is, sym h.privates) at chain.has_privates in
+      (publics_left bytes _ _ publics, privates_left bytes _ _ privates)
+  inputs_left (Gf c) bytes h =
+      let publics = rw (sym h.field_is, sym h.publics) at chain.has_publics in
+      let privates = rw (sym h.field_is, sym h.privates) at chain.has_privates in
+      (publics_left bytes _ _ publics, privates_left bytes _ _ privates)
+
+  put_ready : (end : End) (after : Files) → PutsCompiled chain.tree chain.circuit Nowhere end → Leaves files Nowhere end.put (Some after) → IsReady after (Eval chain.circuit chain.public chain.private)
+  put_ready end after (c, bytes, is, file, fits, e) left =
+      let same : after ≡ with_file files chain.circuit bytes = some_is after _ (subst (λ (x : End). Leaves files Nowhere x.put (Some after)) e left) in
+      subst (λ (f : Files). IsReady f (Eval chain.circuit chain.public chain.private)) (sym same) (c, (bytes, record { there = here bytes; fits = fits }, file), inputs_left c bytes is)
+    where
+      some_is : (x y : Files) → Some x ≡ Some y → x ≡ y
+      some_is x y e = cc
+      here : (bytes : List ℕ) → with_file files chain.circuit bytes chain.circuit ≡ Some bytes
+      here bytes = rw (bytes_same chain.circuit chain.circuit refl) refl
+
+  pub chained : (before : List ℕ) (status : ℕ) (after : Files) (written : Option (List ℕ)) → Completed first files before status (Some after) written → IsReady after (Eval chain.circuit chain.public chain.private)
+  unfolding CompileRun
+  chained before status after written h =
+      let made = rw chain.has_source.3 at (source_ready files chain.source 0 h.end chain.tree _ chain.has_source (run_command first files (Compile chain.source chain.circuit) h.end chain.compiles h.run)) in
+      put_ready h.end after made h.left

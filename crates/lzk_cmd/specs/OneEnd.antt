@@ -1,0 +1,32 @@
+-- Each words, files and stop have one end.
+use Rattle.std.specs.Prelude.{◌≡◌, ◌⊎◌, ℕ, List, length, Option, Some}
+use Rattle.lzk_outside.specs.Outside.{Files}
+use Rattle.lzk_cmd.specs.Ends.{End, Stop, puts}
+use Rattle.lzk_cmd.specs.Lines.{compiled_line}
+use Rattle.lzk_cmd.specs.Run.{RunOf}
+use Rattle.lzk_cmd.specs.Words.{Command, Compile, command_of}
+
+-- the file of a circuit, and the numbers that are told of it
+pub record Told (layers : ℕ) : Type 0 where
+  pub bytes : List ℕ
+  pub terms : ℕ
+
+-- the end of a walk that puts this file under a name
+abbrev pub tells : {layers : ℕ} → Stop → List ℕ → Told layers → End
+tells {layers} stop name told = puts stop name told.bytes (compiled_line name layers told.terms (length told.bytes))
+
+-- two ends that put a circuit of equally many layers under one name, and differ in nothing but its file and its numbers
+pub record PutAlike (stop : Stop) (name : List ℕ) (a b : End) : Type 0 where
+  pub layers : ℕ
+  pub first : Told layers
+  pub second : Told layers
+  pub first_is : a ≡ tells stop name first
+  pub second_is : b ≡ tells stop name second
+
+-- two ends of a run are one, but for which circuit `compile` puts
+abbrev pub AreOne : Option Command → Stop → End → End → Type 0
+AreOne (Some (Compile source circuit)) stop a b = (a ≡ b) ⊎ PutAlike stop circuit a b
+AreOne command stop a b = a ≡ b
+
+abbrev pub OneEnd : Type 0
+OneEnd = (words : List (List ℕ)) (files : Files) (stop : Stop) (a b : End) → RunOf words files stop a → RunOf words files stop b → AreOne (command_of words) stop a b

@@ -1,0 +1,105 @@
+//! The table of commands: what stands behind each command's word.
+
+ghost use Rattle.std.specs.Prelude.{◌≡◌};
+ghost use Rattle.lzk_cmd.specs.Table as table;
+
+/// A command's word.
+#[derive(Clone, Copy, Debug, PartialEq, Eq)]
+pub enum Verb {
+    Eval,
+    Compile,
+    Show,
+    Prove,
+    Verify,
+    Demo,
+}
+
+/// Whether a key may stand behind the names.
+#[derive(Clone, Copy, Debug, PartialEq, Eq)]
+pub enum Stands {
+    Never,
+    Maybe,
+    Always,
+}
+
+/// A row: how many names a command has, or numbers in their place, and which keys stand behind them.
+#[derive(Clone, Copy, Debug, PartialEq, Eq)]
+pub struct Row {
+    pub names: usize,
+    pub numbers: bool,
+    pub seed: Stands,
+    pub session: Stands,
+    pub workers: Stands,
+}
+
+/// The command of this word.
+pub fn verb_of(word: &str) -> Option<Verb>
+    ensures { result ≡ table.verb_of word.now }
+{
+    if word == "eval" {
+        Some(Verb::Eval)
+    } else if word == "compile" {
+        Some(Verb::Compile)
+    } else if word == "show" {
+        Some(Verb::Show)
+    } else if word == "prove" {
+        Some(Verb::Prove)
+    } else if word == "verify" {
+        Some(Verb::Verify)
+    } else if word == "demo" {
+        Some(Verb::Demo)
+    } else {
+        None
+    }
+}
+
+// A row of file names with no keys.
+fn names(count: usize) -> Row
+    ensures { result ≡ table.plain count }
+{
+    Row {
+        names: count,
+        numbers: false,
+        seed: Stands::Never,
+        session: Stands::Never,
+        workers: Stands::Never,
+    }
+}
+
+/// The row of a command.
+pub fn row_of(verb: Verb) -> Row
+    ensures { result ≡ table.row_of verb }
+{
+    match verb {
+        Verb::Eval => names(3),
+        Verb::Compile => names(2),
+        Verb::Show => names(1),
+        Verb::Prove => Row {
+            seed: Stands::Always,
+            session: Stands::Maybe,
+            workers: Stands::Maybe,
+            ..names(4)
+        },
+        Verb::Verify => Row {
+            session: Stands::Maybe,
+            ..names(3)
+        },
+        Verb::Demo => Row {
+            numbers: true,
+            seed: Stands::Always,
+            workers: Stands::Maybe,
+            ..names(1)
+        },
+    }
+}
+
+/// Whether a key that stands, or does not, may do so.
+pub fn may_stand(stands: Stands, there: bool) -> bool
+    ensures { result ≡ table.may_stand stands there }
+{
+    match stands {
+        Stands::Never => !there,
+        Stands::Maybe => true,
+        Stands::Always => there,
+    }
+}
