@@ -82,6 +82,7 @@ module _ (files : Files) (stop : Stop) (a b : End) (P : Type 0) (same : a ≡ b 
     where
       one_fault : (text : List ℕ) (f g : SourceFault) → IsSourceFault text f → IsSourceFault text g → f ≡ g
       one_fault text f g h k = let both = one_text text (Err f) (Err g) h k in cc
+
       go : (text : List ℕ) → AtSource name text a m → AtSource name text b n → P
       go text (inl (s, is, h)) (inl (t, js, g)) = then t (subst m (same_source text s t is js) h) g
       go text (inl (s, is, h)) (inr (f, fault, g)) = absurd (no_source_fault text s f is fault)
@@ -165,6 +166,7 @@ one_compile source circuit files stop a b = one_source_step files stop a b _ inl
       first_is = rw is.layers at e;
       second_is = rw js.layers at f;
     }
+
     go : (s : SourceTree) (limit : Option LevelFault) → MatchOption limit (PutsCompiled s circuit stop a) (λ fault. a ≡ level_refused source fault) → MatchOption limit (PutsCompiled s circuit stop b) (λ fault. b ≡ level_refused source fault)
         → (a ≡ b) ⊎ PutAlike stop circuit a b
     go s None h k = inr (alike s h k)

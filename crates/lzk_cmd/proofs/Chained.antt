@@ -54,6 +54,7 @@ module _ (first second : List (List ℕ)) (files : Files) (chain : AreChained fi
     where
       some_is : (x y : Files) → Some x ≡ Some y → x ≡ y
       some_is x y e = cc
+
       here : (bytes : List ℕ) → with_file files chain.circuit bytes chain.circuit ≡ Some bytes
       here bytes = rw (bytes_same chain.circuit chain.circuit refl) refl
 

@@ -4,7 +4,7 @@
 //! is printed and how a run ends is said in docs/FORMATS.md. A caller writes
 //!
 //! ```text
-//! let status = run(alloc, &words, &mut shelf, &mut out, &Open);
+//! let status = run(&rt, alloc, &words, &mut shelf, &mut out, &Open);
 //! ```
 #![tactic(auto)]
 

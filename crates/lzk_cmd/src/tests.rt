@@ -1,5 +1,6 @@
 //! Runs over a shelf and a sink in memory.
 
+mod chained;
 mod circuits;
 mod compiling;
 mod words;
@@ -9,7 +10,9 @@ use crate::run;
 use lzk_field::Open;
 use lzk_outside::{MemShelf, MemSink};
 use std::alloc::{AllocError, Global};
+use std::marker::Sync;
 use std::test::Fail;
+use std::thread::Threads;
 
 fn words_of(alloc: Global, text: &str) -> Result<Vec<String>, AllocError> {
     let mut words = Vec::new(alloc);
@@ -35,9 +38,14 @@ fn shelf_of(
 }
 
 // The status of a run, and what it printed.
-fn ran(alloc: Global, words: &str, shelf: &mut MemShelf) -> Result<(u8, MemSink), AllocError> {
+fn ran<R: Threads + Sync>(
+    rt: &R,
+    alloc: Global,
+    words: &str,
+    shelf: &mut MemShelf,
+) -> Result<(u8, MemSink), AllocError> {
     let mut out = MemSink::new(alloc, Vec::new(alloc), 7);
-    let status = run(alloc, &words_of(alloc, words)?, shelf, &mut out, &Open);
+    let status = run(rt, alloc, &words_of(alloc, words)?, shelf, &mut out, &Open);
     Ok((status, out))
 }
 
@@ -111,7 +119,7 @@ fn circuits_have_the_values_of_the_definition(rt: HostRuntime) -> Result<(), Fai
         ),
     ] {
         let mut shelf = shelf_of(alloc, circuit, public, private, Vec::new(alloc))?;
-        let (got, out) = ran(alloc, "eval c y x", &mut shelf)?;
+        let (got, out) = ran(&rt, alloc, "eval c y x", &mut shelf)?;
         assert_eq!(rt; got, status, "at {public} {private}");
         assert!(rt; out.bytes() == printed.as_bytes(), "at {public} {private}");
     }
@@ -187,7 +195,7 @@ fn number_files_are_refused_by_line(rt: HostRuntime) -> Result<(), Fail> {
         ),
     ] {
         let mut shelf = shelf_of(alloc, circuit, public, private, Vec::new(alloc))?;
-        let (got, out) = ran(alloc, "eval c y x", &mut shelf)?;
+        let (got, out) = ran(&rt, alloc, "eval c y x", &mut shelf)?;
         assert_eq!(rt; got, status, "at {public} {private}");
         assert!(rt; out.bytes() == printed.as_bytes(), "at {public} {private}");
     }
@@ -225,7 +233,7 @@ fn damaged_circuits_are_refused_by_byte(rt: HostRuntime) -> Result<(), Fail> {
     ] {
         let file = damaged(alloc, offset, byte, len)?;
         let mut shelf = shelf_of(alloc, &file, "9", "3", Vec::new(alloc))?;
-        let (got, out) = ran(alloc, "eval c y x", &mut shelf)?;
+        let (got, out) = ran(&rt, alloc, "eval c y x", &mut shelf)?;
         assert_eq!(rt; got, 3, "at {offset}");
         assert!(rt; out.bytes() == printed.as_bytes(), "at {offset}");
     }
@@ -246,7 +254,7 @@ fn circuits_are_shown(rt: HostRuntime) -> Result<(), Fail> {
         ),
     ] {
         let mut shelf = shelf_of(alloc, circuit, "", "", Vec::new(alloc))?;
-        let (got, out) = ran(alloc, "show c", &mut shelf)?;
+        let (got, out) = ran(&rt, alloc, "show c", &mut shelf)?;
         assert_eq!(rt; got, 0);
         assert!(rt; out.bytes() == printed.as_bytes());
     }
@@ -277,7 +285,7 @@ fn words_and_missing_files_are_refused(rt: HostRuntime) -> Result<(), Fail> {
         ("show d", 3, "refused: d is missing\n"),
     ] {
         let mut shelf = shelf_of(alloc, &SQUARE, "9", "3", Vec::new(alloc))?;
-        let (got, out) = ran(alloc, words, &mut shelf)?;
+        let (got, out) = ran(&rt, alloc, words, &mut shelf)?;
         assert_eq!(rt; got, status, "at {words}");
         assert!(rt; out.bytes() == printed.as_bytes(), "at {words}");
     }
@@ -302,7 +310,7 @@ fn files_over_their_limit_are_refused(rt: HostRuntime) -> Result<(), Fail> {
         }
         let mut shelf = shelf_of(alloc, &SQUARE, "", "3", Vec::new(alloc))?;
         shelf.add("y", &text)?;
-        let (got, out) = ran(alloc, "eval c y x", &mut shelf)?;
+        let (got, out) = ran(&rt, alloc, "eval c y x", &mut shelf)?;
         assert_eq!(rt; got, status, "at {len}");
         assert!(rt; out.bytes() == printed.as_bytes(), "at {len}");
     }
@@ -322,7 +330,7 @@ fn each_read_may_fail(rt: HostRuntime) -> Result<(), Fail> {
         (6, 0, "output 0 = 0\nsatisfied\n"),
     ] {
         let mut shelf = shelf_of(alloc, &SQUARE, "9", "3", vec![in alloc; call]?)?;
-        let (got, out) = ran(alloc, "eval c y x", &mut shelf)?;
+        let (got, out) = ran(&rt, alloc, "eval c y x", &mut shelf)?;
         assert_eq!(rt; got, status, "at call {call}");
         assert!(rt; out.bytes() == printed.as_bytes(), "at call {call}");
     }
@@ -337,6 +345,7 @@ fn each_write_may_fail(rt: HostRuntime) -> Result<(), Fail> {
         let mut shelf = shelf_of(alloc, &SQUARE, "9", "3", Vec::new(alloc))?;
         let mut out = MemSink::new(alloc, vec![in alloc; call]?, 1);
         let got = run(
+            &rt,
             alloc,
             &words_of(alloc, "eval c y x")?,
             &mut shelf,

@@ -19,9 +19,17 @@ use crate::words::{Command, parse_words};
 use lzk_field::Gate;
 use lzk_outside::{Shelf, Sink, SinkFault};
 use std::alloc::Global;
+use std::marker::Sync;
+use std::thread::Threads;
 
-// All but the printing.
-fn work<S: Shelf>(alloc: Global, words: &[String], shelf: &mut S) -> Result<Ending, Halt>
+// All but the printing. The runtime and the gate are for commands that start workers.
+fn work<R: Threads + Sync, S: Shelf, G: Gate>(
+    _rt: &R,
+    alloc: Global,
+    words: &[String],
+    shelf: &mut S,
+    _gate: &G,
+) -> Result<Ending, Halt>
     ensures told { IfSome (S.held shelf.old) (λ files. Worked (map (λ w. string_bytes w) words.now) files (S.held shelf.new)
         (Faulted (S.never_fails shelf.old) (S.read_faults shelf.old) (S.read_faults shelf.new)) (Faulted (S.never_fails shelf.old) (S.put_faults shelf.old) (S.put_faults shelf.new)) (ending_of result)) }
     ensures untouched { command_of (map (λ w. string_bytes w) words.now) ≡ None → shelf.new ≡ shelf.old }
@@ -53,7 +61,14 @@ fn work<S: Shelf>(alloc: Global, words: &[String], shelf: &mut S) -> Result<Endi
 }
 
 // Does what the words say, and prints it.
-fn conclude<S: Shelf, K: Sink>(alloc: Global, words: &[String], shelf: &mut S, out: &mut K) -> u8
+fn conclude<R: Threads + Sync, S: Shelf, K: Sink, G: Gate>(
+    rt: &R,
+    alloc: Global,
+    words: &[String],
+    shelf: &mut S,
+    out: &mut K,
+    gate: &G,
+) -> u8
     ensures told { IfSome (S.held shelf.old) (λ files. IfSome (K.written out.old) (λ before.
         Outcome (map (λ w. string_bytes w) words.now) files before result (S.held shelf.new) (K.written out.new)
         (Faulted (S.never_fails shelf.old) (S.read_faults shelf.old) (S.read_faults shelf.new)) (Faulted (S.never_fails shelf.old) (S.put_faults shelf.old) (S.put_faults shelf.new)) (Rose (S.misses shelf.old) (S.misses shelf.new)) (Faulted (K.never_fails out.old) (K.faults out.old) (K.faults out.new)))) }
@@ -70,7 +85,7 @@ fn conclude<S: Shelf, K: Sink>(alloc: Global, words: &[String], shelf: &mut S, o
     ensures reading { result ≡ 4 → Faulted (S.never_fails shelf.old) (S.read_faults shelf.old) (S.read_faults shelf.new) }
     ensures printing { result ≡ 5 → Faulted (K.never_fails out.old) (K.faults out.old) (K.faults out.new) ⊎ (PutsFile (command_of (map (λ w. string_bytes w) words.now)) × Faulted (S.never_fails shelf.old) (S.put_faults shelf.old) (S.put_faults shelf.new)) }
 {
-    let ending = match work(alloc, words, shelf) {
+    let ending = match work(rt, alloc, words, shelf, gate) {
         Ok(ending) => ending,
         Err(Halt::End(ending)) => ending,
         Err(Halt::Memory) => return 6,
@@ -86,12 +101,13 @@ fn conclude<S: Shelf, K: Sink>(alloc: Global, words: &[String], shelf: &mut S, o
 /// 3 a file is refused, 4 a read failed, 5 a put or a write failed, 6 want of memory. Nothing is printed
 /// after a failed write or at want of memory.
 #[tactic(auto, using(crate::proofs::Alone::one_end))]
-pub fn run<S: Shelf, K: Sink, G: Gate>(
+pub fn run<R: Threads + Sync, S: Shelf, K: Sink, G: Gate>(
+    rt: &R,
     alloc: Global,
     words: &[String],
     shelf: &mut S,
     out: &mut K,
-    _gate: &G,
+    gate: &G,
 ) -> u8
     // Where shelf and sink tell their contents, the run is the definition's.
     ensures told { IfSome (S.held shelf.old) (λ files. IfSome (K.written out.old) (λ before.
@@ -120,5 +136,5 @@ pub fn run<S: Shelf, K: Sink, G: Gate>(
     ensures reading { result ≡ 4 → Faulted (S.never_fails shelf.old) (S.read_faults shelf.old) (S.read_faults shelf.new) }
     ensures printing { result ≡ 5 → Faulted (K.never_fails out.old) (K.faults out.old) (K.faults out.new) ⊎ (PutsFile (command_of (map (λ w. string_bytes w) words.now)) × Faulted (S.never_fails shelf.old) (S.put_faults shelf.old) (S.put_faults shelf.new)) }
 {
-    conclude(alloc, words, shelf, out)
+    conclude(rt, alloc, words, shelf, out, gate)
 }

@@ -4,7 +4,7 @@
 //!
 //! ```text
 //! fn main(rt: HostRuntime) -> ExitCode {
-//!     run_program(rt)
+//!     run_program(&rt, &rt)
 //! }
 //! ```
 #![tactic(auto)]
@@ -15,7 +15,9 @@ use lzk_cmd::run;
 use lzk_field::Open;
 use lzk_outside::{DiskShelf, StdoutSink};
 use std::alloc::AllocError;
+use std::marker::Sync;
 use std::process::ExitCode;
+use std::thread::Threads;
 use std::{env, io};
 
 // The words after the program's name.
@@ -33,10 +35,14 @@ fn words(rt: &HostRuntime) -> io::Result<Vec<String>> {
 }
 
 // The answer of `run` to these words.
-fn start(rt: &HostRuntime, words: &[String]) -> Result<u8, AllocError> {
+fn start<T: Threads + Sync>(
+    rt: &HostRuntime,
+    threads: &T,
+    words: &[String],
+) -> Result<u8, AllocError> {
     let mut shelf = DiskShelf::new(rt.clone()?, rt.alloc());
     let mut out = StdoutSink::new(rt.clone()?, rt.alloc());
-    Ok(run(rt.alloc(), words, &mut shelf, &mut out, &Open))
+    Ok(run(threads, rt.alloc(), words, &mut shelf, &mut out, &Open))
 }
 
 // The status that a program ends with: what `run` answered, or 6 where there was no memory to call it.
@@ -48,12 +54,12 @@ fn status_of(answer: Result<u8, AllocError>) -> u8
 }
 
 /// Runs the words after the program's name, and gives the status. A word that is no text is no word of a
-/// command.
-pub fn run_program(rt: HostRuntime) -> ExitCode {
-    let answer = match words(&rt) {
-        Ok(words) => start(&rt, &words),
+/// command. A program's `main` gives its runtime for both: only there may it start threads.
+pub fn run_program<T: Threads + Sync>(rt: &HostRuntime, threads: &T) -> ExitCode {
+    let answer = match words(rt) {
+        Ok(words) => start(rt, threads, &words),
         Err(e) if e.kind() == io::ErrorKind::OutOfMemory => Err(AllocError),
-        Err(_) => start(&rt, &[]),
+        Err(_) => start(rt, threads, &[]),
     };
     ExitCode::from(status_of(answer))
 }

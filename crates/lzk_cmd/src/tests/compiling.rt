@@ -31,7 +31,7 @@ const DOUBLED: [u8; 53] = [
 ];
 
 // Somebody was born at least 18 years before a year: the years beyond are a number of seven bits.
-const CREDENTIAL: &str = "field goldilocks
+pub const CREDENTIAL: &str = "field goldilocks
 public year
 private birth b0 b1 b2 b3 b4 b5 b6
 assert year - birth - 18 = b0 + 2*b1 + 4*b2 + 8*b3 + 16*b4 + 32*b5 + 64*b6
@@ -45,7 +45,7 @@ assert b6*b6 = b6
 ";
 
 // A shelf with a source `s`, some of whose calls fail, and a put that fails after three bytes.
-fn shelf_of(alloc: Global, source: &[u8], failing: Vec<u64>) -> Result<MemShelf, AllocError> {
+pub fn shelf_of(alloc: Global, source: &[u8], failing: Vec<u64>) -> Result<MemShelf, AllocError> {
     let mut shelf = MemShelf::new(alloc, failing, Some(3));
     shelf.add("s", source)?;
     Ok(shelf)
@@ -105,7 +105,7 @@ fn sources_are_compiled(rt: HostRuntime) -> Result<(), Fail> {
         ),
     ] {
         let mut shelf = shelf_of(alloc, source.as_bytes(), Vec::new(alloc))?;
-        let (got, out) = ran(alloc, "compile s c", &mut shelf)?;
+        let (got, out) = ran(&rt, alloc, "compile s c", &mut shelf)?;
         assert_eq!(rt; got, 0);
         assert!(rt; out.bytes() == printed.as_bytes());
         assert!(rt; shelf.get("c") == Some(file));
@@ -118,7 +118,7 @@ fn sums_of_many_terms_keep_the_limit(rt: HostRuntime) -> Result<(), Fail> {
     let alloc = rt.alloc();
     let source = doubled(alloc, 17)?;
     let mut shelf = shelf_of(alloc, &source, Vec::new(alloc))?;
-    let (status, out) = ran(alloc, "compile s c", &mut shelf)?;
+    let (status, out) = ran(&rt, alloc, "compile s c", &mut shelf)?;
     assert_eq!(rt; status, 0);
     assert!(rt; out.bytes() == "compiled c: layers 1, terms 2, 53 bytes\n".as_bytes());
     assert!(rt; shelf.get("c") == Some(DOUBLED.as_slice()));
@@ -132,16 +132,16 @@ fn compiled_circuits_are_evaluated(rt: HostRuntime) -> Result<(), Fail> {
     shelf.add("year", b"2024\n")?;
     shelf.add("birth", b"2000 0 1 1 0 0 0 0\n")?;
     shelf.add("later", b"2007 0 1 1 0 0 0 0\n")?;
-    let (status, out) = ran(alloc, "compile s c", &mut shelf)?;
+    let (status, out) = ran(&rt, alloc, "compile s c", &mut shelf)?;
     assert_eq!(rt; status, 0);
     assert!(rt; out.bytes() == "compiled c: layers 1, terms 24, 197 bytes\n".as_bytes());
-    let (status, out) = ran(alloc, "eval c year birth", &mut shelf)?;
+    let (status, out) = ran(&rt, alloc, "eval c year birth", &mut shelf)?;
     assert_eq!(rt; status, 0);
     assert!(rt;
         out.bytes()
             == "output 0 = 0\noutput 1 = 0\noutput 2 = 0\noutput 3 = 0\noutput 4 = 0\noutput 5 = 0\noutput 6 = 0\noutput 7 = 0\nsatisfied\n".as_bytes()
     );
-    let (status, _) = ran(alloc, "eval c year later", &mut shelf)?;
+    let (status, _) = ran(&rt, alloc, "eval c year later", &mut shelf)?;
     assert_eq!(rt; status, 1);
     Ok(())
 }
@@ -194,7 +194,7 @@ fn sources_are_refused(rt: HostRuntime) -> Result<(), Fail> {
         ("compile s c d", "".as_bytes(), 2, "refused: words\n"),
     ] {
         let mut shelf = shelf_of(alloc, source, Vec::new(alloc))?;
-        let (got, out) = ran(alloc, words, &mut shelf)?;
+        let (got, out) = ran(&rt, alloc, words, &mut shelf)?;
         assert_eq!(rt; got, status, "at {printed}");
         assert!(rt; out.bytes() == printed.as_bytes(), "at {printed}");
         assert!(rt; shelf.get("c") == None);
@@ -218,7 +218,7 @@ fn each_call_may_fail(rt: HostRuntime) -> Result<(), Fail> {
     ] {
         let failing = vec![in alloc; call]?;
         let mut shelf = shelf_of(alloc, SQUARE_SOURCE.as_bytes(), failing)?;
-        let (got, out) = ran(alloc, "compile s c", &mut shelf)?;
+        let (got, out) = ran(&rt, alloc, "compile s c", &mut shelf)?;
         assert_eq!(rt; got, status, "at call {call}");
         assert!(rt; out.bytes() == printed.as_bytes(), "at call {call}");
         assert!(rt; shelf.get("c") == left, "at call {call}");
