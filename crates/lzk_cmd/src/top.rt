@@ -99,7 +99,8 @@ fn conclude<R: Threads + Sync, S: Shelf, K: Sink, G: Gate>(
 
 /// Does what the words say, and answers the status: 0 done, 1 unsatisfied, 2 the words are no command,
 /// 3 a file is refused, 4 a read failed, 5 a put or a write failed, 6 want of memory. Nothing is printed
-/// after a failed write or at want of memory.
+/// after a failed write or at want of memory. The runtime and the gate reach the commands that start workers;
+/// no clause depends on them.
 #[tactic(auto, using(crate::proofs::Alone::one_end))]
 pub fn run<R: Threads + Sync, S: Shelf, K: Sink, G: Gate>(
     rt: &R,
@@ -122,13 +123,17 @@ pub fn run<R: Threads + Sync, S: Shelf, K: Sink, G: Gate>(
     // Words, files and stop have one end.
     ensures one_end { OneEnd }
 
-    // Each status has its cause, whether or not they tell.
-    ensures untouched { command_of (map (λ w. string_bytes w) words.now) ≡ None → shelf.new ≡ shelf.old }
+    // Where no call of shelf or sink is listed to fail, no fault is counted, and it stays so.
     ensures kept { S.never_fails shelf.new ≡ S.never_fails shelf.old }
     ensures uncounted_reads { IsTrue (S.never_fails shelf.old) → S.read_faults shelf.new ≡ S.read_faults shelf.old }
     ensures uncounted_puts { IsTrue (S.never_fails shelf.old) → S.put_faults shelf.new ≡ S.put_faults shelf.old }
     ensures sink_kept { K.never_fails out.new ≡ K.never_fails out.old }
     ensures uncounted_writes { IsTrue (K.never_fails out.old) → K.faults out.new ≡ K.faults out.old }
+
+    // Where the words are no command, the shelf is as before in every respect.
+    ensures untouched { command_of (map (λ w. string_bytes w) words.now) ≡ None → shelf.new ≡ shelf.old }
+
+    // Each status has its cause, whether or not they tell.
     ensures status { result ≤ 6 }
     ensures words { result ≡ 2 → command_of (map (λ w. string_bytes w) words.now) ≡ None }
     ensures refused { command_of (map (λ w. string_bytes w) words.now) ≡ None → (result ≡ 2) ⊎ (((result ≡ 5) × Faulted (K.never_fails out.old) (K.faults out.old) (K.faults out.new)) ⊎ (result ≡ 6)) }
