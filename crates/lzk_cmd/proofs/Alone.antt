@@ -5,7 +5,7 @@ use Rattle.lzk_circbytes.specs.declared.any.AnyCircuit.{AnyCircuit}
 use Rattle.lzk_circbytes.specs.declared.any.AnyCircuit.TheVariants.{Gold, Gf}
 use Rattle.lzk_circbytes.specs.declared.fault.ByteKind.{ByteKind}
 use Rattle.lzk_circbytes.specs.declared.fault.ByteKind.TheVariants.{Truncated}
-use Rattle.lzk_circbytes.specs.Files.{CircuitBytes, CircuitFaultAt}
+use Rattle.lzk_circbytes.specs.Files.{CircuitFaultAt}
 use Rattle.lzk_circbytes.specs.Reading.{Stop as Left}
 use Rattle.lzk_circbytes.proofs.Whole.{one_circuit, no_fault}
 use Rattle.lzk_circuit.specs.Valid.{Wiring}
@@ -14,10 +14,10 @@ use Rattle.lzk_expr.specs.declared.fault.NumberFault.{NumberFault}
 use Rattle.lzk_expr.specs.Numbers.{NumberText, IsNumberFault}
 use Rattle.lzk_expr.proofs.Laws.{text_again}
 use Rattle.lzk_expr.specs.declared.source_fault.SourceFault.{SourceFault}
-use Rattle.lzk_expr.specs.Sources.{SourceText, IsSourceFault}
+use Rattle.lzk_expr.specs.Sources.{IsSourceFault}
 use Rattle.lzk_expr.proofs.TextLaws.{one_text}
 use Rattle.lzk_expr.specs.Trees.{SourceTree}
-use Rattle.lzk_level.specs.Compiled.{depth_of, source_layers, source_limit}
+use Rattle.lzk_level.specs.Compiled.{source_layers, source_limit}
 use Rattle.lzk_level.specs.declared.fault.LevelFault.{LevelFault}
 use Rattle.lzk_field.specs.Ring.{Ops}
 use Rattle.lzk_goldilocks.specs.Prime.{p}
@@ -29,7 +29,7 @@ use Rattle.lzk_cmd.specs.Decoded.{circuit_limit, text_limit, circuit_refused, nu
 use Rattle.lzk_cmd.specs.Ends.{End, Stop, AtFile, stops_at, says, missing_file, refused_words}
 use Rattle.lzk_cmd.specs.Lines.{larger_line, reading_line}
 use Rattle.lzk_cmd.specs.OneEnd.{PutAlike, AreOne, OneEnd}
-use Rattle.lzk_cmd.specs.Run.{Evaluated, EvalOver, EvalAny, EvalRun, ShowRun, CommandRun, RunOf, verdict, output_lines}
+use Rattle.lzk_cmd.specs.Run.{Evaluated, EvalOver, EvalAny, EvalRun, ShowRun, CommandRun, verdict, output_lines}
 use Rattle.lzk_cmd.specs.Words.{Command, Eval, Compile, Show, command_of}
 use Rattle.lzk_cmd.proofs.Ready.{no_number_fault, no_source_fault, same_source}
 

@@ -1,20 +1,17 @@
 -- Where a source was compiled, its circuit is ready to be evaluated.
-use Rattle.std.proofs.Common.{◌≡◌, ◌⊎◌, ℕ, Bool, true, false, inl, inr, List, Option, Some, refl, sym, subst, ap, ◌∙◌}
-use Rattle.std.specs.Prelude.{IsTrue, count_by}
+use Rattle.std.proofs.Common.{◌≡◌, ◌⊎◌, ℕ, Bool, inl, inr, List, Option, Some, refl, sym, subst, ◌∙◌}
+use Rattle.std.specs.Prelude.{IsTrue}
 use Rattle.std.proofs.lemmas.Bool.{false≢true}
 use Rattle.lzk_circbytes.specs.declared.any.AnyCircuit.{AnyCircuit}
 use Rattle.lzk_circbytes.specs.declared.any.AnyCircuit.TheVariants.{Gold, Gf}
-use Rattle.lzk_expr.specs.Sources.{field_size}
-use Rattle.lzk_expr.specs.Trees.{SourceTree, is_public, is_private}
 use Rattle.lzk_expr.proofs.Tables.{bytes_same}
-use Rattle.lzk_level.specs.Compiled.{source_limit}
 use Rattle.lzk_outside.specs.Outside.{Files, with_file}
 use Rattle.lzk_cmd.specs.Chains.{AreChained}
 use Rattle.lzk_cmd.specs.Compiled.{Compiled, CompileRun, PutsCompiled}
 use Rattle.lzk_cmd.specs.Complete.{HasNumbers, HasInputsOf, IsReady, Completed}
 use Rattle.lzk_cmd.specs.Ends.{End, Nowhere, Leaves}
 use Rattle.lzk_cmd.specs.Faults.{Faulted}
-use Rattle.lzk_cmd.specs.Words.{Command, Eval, Compile, command_of}
+use Rattle.lzk_cmd.specs.Words.{Eval, Compile}
 use Rattle.lzk_cmd.proofs.Ready.{run_command, source_ready}
 
 -- what never fails has no fault

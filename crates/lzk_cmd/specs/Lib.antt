@@ -13,6 +13,7 @@ pub mod Keys
 pub mod Lines
 pub mod OneEnd
 pub mod Outcome
+pub mod Promise
 pub mod Putting
 pub mod Run
 pub mod Table

@@ -6,8 +6,8 @@ ghost use Rattle.lzk_cmd.specs.Faults.{Faulted};
 ghost use Rattle.lzk_cmd.specs.Answers.{RunHasCause, ending_of};
 ghost use Rattle.lzk_cmd.specs.Words.{PutsFile, command_of};
 ghost use Rattle.lzk_cmd.specs.Outcome.{Outcome, Worked, Refused};
-ghost use Rattle.lzk_cmd.specs.Complete.{Completes};
 ghost use Rattle.lzk_cmd.specs.OneEnd.{OneEnd};
+ghost use Rattle.lzk_cmd.specs.Promise.{Promise};
 
 use crate::compiling::compile_source;
 use crate::ending::{Ending, Halt};
@@ -110,36 +110,26 @@ pub fn run<R: Threads + Sync, S: Shelf, K: Sink, G: Gate>(
     out: &mut K,
     gate: &G,
 ) -> u8
-    // Where shelf and sink tell their contents, the run is the definition's.
-    ensures told { IfSome (S.held shelf.old) (λ files. IfSome (K.written out.old) (λ before.
-        Outcome (map (λ w. string_bytes w) words.now) files before result (S.held shelf.new) (K.written out.new)
-        (Faulted (S.never_fails shelf.old) (S.read_faults shelf.old) (S.read_faults shelf.new)) (Faulted (S.never_fails shelf.old) (S.put_faults shelf.old) (S.put_faults shelf.new)) (Rose (S.misses shelf.old) (S.misses shelf.new)) (Faulted (K.never_fails out.old) (K.faults out.old) (K.faults out.new)))) }
-
-    // Where the files are ready and nothing rose, the run is done, and its file is put.
-    ensures complete { IfSome (S.held shelf.old) (λ files. IfSome (K.written out.old) (λ before.
-        Completes (map (λ w. string_bytes w) words.now) files before result (S.held shelf.new) (K.written out.new)
-        (Faulted (S.never_fails shelf.old) (S.read_faults shelf.old) (S.read_faults shelf.new)) (Faulted (S.never_fails shelf.old) (S.put_faults shelf.old) (S.put_faults shelf.new)) (Faulted (K.never_fails out.old) (K.faults out.old) (K.faults out.new)))) }
-
-    // Words, files and stop have one end.
-    ensures one_end { OneEnd }
-
-    // Where no call of shelf or sink is listed to fail, no fault is counted, and it stays so.
-    ensures kept { S.never_fails shelf.new ≡ S.never_fails shelf.old }
-    ensures uncounted_reads { IsTrue (S.never_fails shelf.old) → S.read_faults shelf.new ≡ S.read_faults shelf.old }
-    ensures uncounted_puts { IsTrue (S.never_fails shelf.old) → S.put_faults shelf.new ≡ S.put_faults shelf.old }
-    ensures sink_kept { K.never_fails out.new ≡ K.never_fails out.old }
-    ensures uncounted_writes { IsTrue (K.never_fails out.old) → K.faults out.new ≡ K.faults out.old }
+    // What was seen before, and what stands after.
+    ensures run { Promise
+        (record {
+          words = map (λ w. string_bytes w) words.now;
+          files = S.held shelf.old;
+          written = K.written out.old;
+          counts = record { reads = S.read_faults shelf.old; puts = S.put_faults shelf.old; misses = S.misses shelf.old; writes = K.faults out.old; shelf_never = S.never_fails shelf.old; sink_never = K.never_fails out.old };
+        })
+        (record {
+          status = result;
+          files = S.held shelf.new;
+          written = K.written out.new;
+          counts = record { reads = S.read_faults shelf.new; puts = S.put_faults shelf.new; misses = S.misses shelf.new; writes = K.faults out.new; shelf_never = S.never_fails shelf.new; sink_never = K.never_fails out.new };
+        }) }
 
     // Where the words are no command, the shelf is as before in every respect.
     ensures untouched { command_of (map (λ w. string_bytes w) words.now) ≡ None → shelf.new ≡ shelf.old }
 
-    // Each status has its cause, whether or not they tell.
-    ensures status { result ≤ 6 }
-    ensures words { result ≡ 2 → command_of (map (λ w. string_bytes w) words.now) ≡ None }
-    ensures refused { command_of (map (λ w. string_bytes w) words.now) ≡ None → (result ≡ 2) ⊎ (((result ≡ 5) × Faulted (K.never_fails out.old) (K.faults out.old) (K.faults out.new)) ⊎ (result ≡ 6)) }
-    ensures missing { result ≡ 3 → IfSome (K.written out.old) (λ before. Refused (Rose (S.misses shelf.old) (S.misses shelf.new)) before (K.written out.new)) }
-    ensures reading { result ≡ 4 → Faulted (S.never_fails shelf.old) (S.read_faults shelf.old) (S.read_faults shelf.new) }
-    ensures printing { result ≡ 5 → Faulted (K.never_fails out.old) (K.faults out.old) (K.faults out.new) ⊎ (PutsFile (command_of (map (λ w. string_bytes w) words.now)) × Faulted (S.never_fails shelf.old) (S.put_faults shelf.old) (S.put_faults shelf.new)) }
+    // Words, files and stop have one end.
+    ensures one_end { OneEnd }
 {
     conclude(rt, alloc, words, shelf, out, gate)
 }

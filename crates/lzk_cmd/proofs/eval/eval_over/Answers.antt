@@ -8,7 +8,7 @@ use Rattle.lzk_cmd.proofs.Outputs.{outputs_are}
 use Rattle.lzk_cmd.specs.Answers.{HasCause, ending_of}
 use Rattle.lzk_cmd.proofs.Causes.{halt_caused}
 use Rattle.lzk_cmd.proofs.Evals.{Told, told_no_publics, told_no_privates, told_evaluates}
-use Rattle.lzk_cmd.proofs.Told.{handed_on, recounted, rose_later, faulted_later, faulted_same}
+use Rattle.lzk_cmd.proofs.Told.{handed_on, recounted, rose_later, faulted_later}
 use Rattle.lzk_cmd.proofs.eval.eval_over.Goals as goal
 
 pub returns-in_err-publics-clause-told : goal.returns-in_err-publics-clause-told

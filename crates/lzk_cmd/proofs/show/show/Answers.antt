@@ -2,11 +2,10 @@ use Rattle.std.proofs.Common.{Ok, subst}
 use Rattle.std.specs.Prelude.{IfSome}
 use Rattle.lzk_circbytes.specs.declared.any.AnyCircuit.{AnyCircuit}
 use Rattle.lzk_circbytes.specs.declared.any.AnyCircuit.TheVariants.{Gold, Gf}
-use Rattle.lzk_outside.specs.Outside.{Rose}
 use Rattle.lzk_cmd.specs.Faults.{Faulted}
 use Rattle.lzk_cmd.specs.Answers.{CircuitAnswers}
 use Rattle.lzk_cmd.proofs.Shows.{ToldShow, show_no_circuit, show_told}
-use Rattle.lzk_cmd.proofs.Told.{handed_on, faulted_later, faulted_same}
+use Rattle.lzk_cmd.proofs.Told.{handed_on}
 use Rattle.lzk_cmd.proofs.show.show.Goals as goal
 
 pub returns-in_err-c-clause-told : goal.returns-in_err-c-clause-told

@@ -8,15 +8,15 @@ use Rattle.lzk_cmd.proofs.tests.chained.compile_then_eval.Goals as goal
 pub returns-then-first-ne0 : goal.returns-then-first-ne0
 returns-then-first-ne0 g c = λ chain quiet silent.
     done_or_memory _ _ _ _ _ _
-    (c.run-first.ensures.complete (Compile chain.source chain.circuit) chain.compiles (chain.tree, chain.has_source) (no_fault _ _ _ quiet) (no_fault _ _ _ quiet) (no_fault _ _ _ silent))
+    (c.run-first.ensures.run.complete (Compile chain.source chain.circuit) chain.compiles (chain.tree, chain.has_source) (no_fault _ _ _ quiet) (no_fault _ _ _ quiet) (no_fault _ _ _ silent))
 
 pub returns : goal.returns
 returns g c = λ chain quiet silent.
-    let first = c.run-first.ensures.complete (Compile chain.source chain.circuit) chain.compiles (chain.tree, chain.has_source) (no_fault _ _ _ quiet) (no_fault _ _ _ quiet) (no_fault _ _ _ silent) in
+    let first = c.run-first.ensures.run.complete (Compile chain.source chain.circuit) chain.compiles (chain.tree, chain.has_source) (no_fault _ _ _ quiet) (no_fault _ _ _ quiet) (no_fault _ _ _ silent) in
     elim first [
       | inl done ↦ done_or_memory _ _ _ _ _ _
-          (c.run.ensures.complete (Eval chain.circuit chain.public chain.private) chain.evaluates
+          (c.run.ensures.run.complete (Eval chain.circuit chain.public chain.private) chain.evaluates
           (chained (map (λ w. string_bytes w) c.args.compile.now) (map (λ w. string_bytes w) c.args.eval.now) (files_of c.args.shelf.now) chain (bytes_of c.args.out.now) c.run-first.result (files_of c.run-first.new.shelf) _ done)
-          (no_fault _ _ _ (c.run-first.ensures.kept ∙ quiet)) (no_fault _ _ _ (c.run-first.ensures.kept ∙ quiet)) (no_fault _ _ _ (c.run-first.ensures.sink_kept ∙ silent)))
+          (no_fault _ _ _ (c.run-first.ensures.run.shelf_kept ∙ quiet)) (no_fault _ _ _ (c.run-first.ensures.run.shelf_kept ∙ quiet)) (no_fault _ _ _ (c.run-first.ensures.run.sink_kept ∙ silent)))
       | inr want ↦ absurd (omega (arith, want, c.if-first-ne0.false))
     ]
