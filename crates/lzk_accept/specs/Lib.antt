@@ -1,0 +1,5 @@
+pub mod Challenges
+pub mod Checks
+pub mod Combination
+pub mod Forms
+pub mod Residuals

@@ -1,0 +1,11 @@
+//! The constraints of a proof: residuals of the sumchecks' claims, and what is drawn to combine them.
+//!
+//! As in draft-google-cfrg-libzk and Ligero (CCS 2017), what the sumchecks send is padded, and the pads and the
+//! private inputs are committed to. For a list of pads and private inputs each layer, and the input layer behind them,
+//! leaves a residual, which is affine in the list and zero for the list of an honest prover. A proof shows that the
+//! residuals are zero, by one sum of all of them with drawn factors.
+#![tactic(auto)]
+
+mod challenges;
+
+pub use challenges::Challenges;
