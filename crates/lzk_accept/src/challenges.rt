@@ -1,6 +1,16 @@
 //! What is drawn behind the sumchecks' draws.
 
-use lzk_layout::Elements;
+ghost use Rattle.std.specs.Prelude.{◌≡◌, replicate, IfOk};
+ghost use Rattle.lzk_field.specs.Coding.{coding};
+ghost use Rattle.lzk_transcript.specs.Columns.{after_draws};
+ghost use Rattle.lzk_layout.specs.Sizes.{AreParams};
+ghost use Rattle.lzk_accept.specs.Challenges.{challenges, challenge_count, zero_challenges, HasShape};
+
+use lzk_field::Field;
+use lzk_layout::{Elements, Params};
+use lzk_sumcheck::draw_all;
+use lzk_transcript::Tape;
+use std::alloc::{AllocError, Global};
 
 /// What is drawn behind gamma, in this order.
 #[derive(Drop)]
@@ -13,4 +23,41 @@ pub struct Challenges<F> {
     pub mu: Elements<F>,
     /// A factor for each triple of rows, in the quadratic answer.
     pub v: Elements<F>,
+}
+
+fn zeros<F: Field>(alloc: Global, count: u32) -> Result<Elements<F>, AllocError>
+    ensures { IfOk result (λ list. list ≡ replicate count F.ops.zero) }
+{
+    let mut list = Vec::new(alloc);
+    list.resize(count as usize, F::zero())?;
+    Ok(Elements::new(list))
+}
+
+impl<F: Field> Challenges<F> {
+    /// Zeros, as many as these parameters say.
+    pub fn new(alloc: Global, params: &Params) -> Result<Challenges<F>, AllocError>
+        requires params { AreParams F.ops params.now }
+        ensures zeros { IfOk result (λ challenges. challenges ≡ zero_challenges F.ops params.now) }
+        ensures shape { IfOk result (λ challenges. HasShape params.now challenges) }
+    {
+        Ok(Challenges {
+            u: zeros(alloc, params.nrow - 3)?,
+            lambda: zeros(alloc, params.layers + 1)?,
+            mu: zeros(alloc, 3 * params.layers)?,
+            v: zeros(alloc, params.ntriple)?,
+        })
+    }
+}
+
+/// Sets the challenges to what the tape gives behind gamma. No memory is taken.
+pub fn draw_challenges<F: Field>(params: &Params, tape: &mut Tape, out: &mut Challenges<F>)
+    requires shape { HasShape params.now out.old }
+    ensures challenges { out.new ≡ challenges (coding F.element F.number_of F.BYTES F.size F.ID) params.now tape.old }
+    ensures tape { tape.new ≡ after_draws (challenge_count params.now) tape.old }
+    ensures shape { HasShape params.now out.new }
+{
+    draw_all(tape, out.u.as_mut_slice());
+    draw_all(tape, out.lambda.as_mut_slice());
+    draw_all(tape, out.mu.as_mut_slice());
+    draw_all(tape, out.v.as_mut_slice());
 }

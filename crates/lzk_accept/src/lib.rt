@@ -7,5 +7,7 @@
 #![tactic(auto)]
 
 mod challenges;
+mod points;
 
-pub use challenges::Challenges;
+pub use challenges::{Challenges, draw_challenges};
+pub use points::next_claim;

@@ -11,7 +11,7 @@ ghost use Rattle.lzk_sumcheck.specs.Script.{with_pair, after_rounds, round_chall
 use lzk_field::Field;
 use lzk_transcript::Tape;
 
-/// Draws an element for each place of `out`.
+/// Draws an element for each place of `out`, in order. No memory is taken.
 pub fn draw_all<F: Field>(tape: &mut Tape, out: &mut [F])
     ensures drawn { let e = coding F.element F.number_of F.BYTES F.size F.ID in out.new ≡ draws e 0 (length out.old) tape.old }
     ensures after { tape.new ≡ after_draws (length out.old) tape.old }

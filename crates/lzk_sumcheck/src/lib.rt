@@ -15,5 +15,6 @@ mod draws;
 mod replaying;
 mod script;
 
+pub use draws::draw_all;
 pub use replaying::{message_count, replay};
 pub use script::{LayerScript, LayerScripts, Script};

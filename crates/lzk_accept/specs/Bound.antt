@@ -1,0 +1,10 @@
+-- What a term counts in the sum of a layer's coefficients at its challenges.
+use Rattle.std.specs.Prelude.{ℕ, List}
+use Rattle.lzk_field.specs.Ring.{Ops}
+use Rattle.lzk_field.specs.Sums.{entry}
+use Rattle.lzk_mle.specs.Multilinear.{eq}
+use Rattle.lzk_circuit.specs.declared.layer.Term.{Term}
+
+-- its coefficient times the weight of its wire, the entry of its wire a, and how its wire b agrees with the point
+abbrev pub counts : {A : Type 0} → Ops A → List A → List A → List A → Term A → A
+counts o weights firsts rb t = o.times t.coef (o.times (o.times (entry o weights t.g) (entry o firsts t.a)) (eq o t.b rb))

@@ -1,0 +1,97 @@
+//! Polynomials with three coefficients, by their values at the first three points.
+
+ghost use Rattle.std.specs.Prelude.{◌≡◌, ◌≢◌, List, [], ◌∷◌};
+ghost use Rattle.lzk_field.specs.Sums.{minus};
+ghost use Rattle.lzk_poly.specs.Extension.{IsThrough};
+ghost use Rattle.lzk_poly.specs.Polynomial.{eval};
+ghost use Rattle.lzk_accept.specs.Residuals.{next_claim};
+ghost use Rattle.lzk_accept.specs.Points.{AreInverses, AreShares};
+
+use lzk_field::Field;
+
+fn inverse_of<F: Field>(x: F) -> F
+    requires { x ≢ F.ops.zero }
+    ensures { result ≡ F.ops.inverse x }
+{
+    match x.inv() {
+        Some(y) => y,
+        None => unreachable!(),
+    }
+}
+
+/// For each of the first three points, the inverse of the product of its differences to the other two. They depend on the
+/// field alone, so rounds that are gone through together pay no inversion each.
+#[derive(Clone, Copy)]
+pub(crate) struct ThreePoints<F> {
+    pub(crate) first: F,
+    pub(crate) second: F,
+    pub(crate) third: F,
+}
+
+/// What the values at the three points count for in the polynomial's value at another: Lagrange's polynomials there.
+#[derive(Clone, Copy)]
+pub(crate) struct Shares<F> {
+    pub(crate) first: F,
+    pub(crate) second: F,
+    pub(crate) third: F,
+}
+
+// Inverse of the product of the differences of x to u and v.
+fn apart<F: Field>(x: F, u: F, v: F) -> F
+    requires first { x ≢ u }
+    requires second { x ≢ v }
+    ensures { let o = F.ops in result ≡ o.inverse (o.times (minus o x u) (minus o x v)) }
+{
+    inverse_of(x.sub(u).mul(x.sub(v)))
+}
+
+impl<F: Field> ThreePoints<F> {
+    pub(crate) fn new() -> ThreePoints<F>
+        ensures { AreInverses F.ops F.element result }
+    {
+        let x0 = F::point(0);
+        let x1 = F::point(1);
+        let x2 = F::point(2);
+        ThreePoints {
+            first: apart(x0, x1, x2),
+            second: apart(x1, x0, x2),
+            third: apart(x2, x0, x1),
+        }
+    }
+
+    /// What the three values count for at `t`.
+    pub(crate) fn shares(self, t: F) -> Shares<F>
+        requires { AreInverses F.ops F.element self }
+        ensures { AreShares F.ops F.element t result }
+    {
+        let d0 = t.sub(F::point(0));
+        let d1 = t.sub(F::point(1));
+        let d2 = t.sub(F::point(2));
+        Shares {
+            first: d1.mul(d2).mul(self.first),
+            second: d0.mul(d2).mul(self.second),
+            third: d0.mul(d1).mul(self.third),
+        }
+    }
+
+    /// The claim after a round.
+    pub(crate) fn next_claim(self, claim: F, p0: F, p2: F, t: F) -> F
+        requires { AreInverses F.ops F.element self }
+        ensures { result ≡ next_claim F.ops F.element claim p0 p2 t }
+    {
+        let shares = self.shares(t);
+        let first = p0.mul(shares.first);
+        let second = claim.sub(p0).mul(shares.second);
+        let third = p2.mul(shares.third);
+        first.add(second).add(third)
+    }
+}
+
+/// The claim after a round whose values at points 0 and 2 are `p0` and `p2`, those at points 0 and 1 adding up to the claim
+/// before it, at the round's challenge `t`.
+pub fn next_claim<F: Field>(claim: F, p0: F, p2: F, t: F) -> F
+    ensures value { result ≡ next_claim F.ops F.element claim p0 p2 t }
+    ensures polynomial { (coefficients : List F) → IsThrough F.ops F.element (p0 ∷ minus F.ops claim p0 ∷ p2 ∷ []) coefficients → result ≡ eval F.ops coefficients t }
+{
+    ThreePoints::new().next_claim(claim, p0, p2, t)
+}
