@@ -1,15 +1,17 @@
 -- A layer's bound coefficient as a sum over its terms.
-use Rattle.std.specs.Prelude.{◌≡◌, ℕ, ◌<◌, ◌≤◌, ◌+◌, ◌/◌, ◌%◌, List, [], ◌∷◌, length, map, drop, slice_index_or, slice_get, Some}
+use Rattle.std.specs.Prelude.{◌≡◌, ℕ, ◌<◌, ◌≤◌, ◌+◌, ◌/◌, ◌%◌, ◌^◌, List, [], ◌∷◌, length, map, drop, slice_index_or, slice_get, Some}
 use Rattle.std.specs.List.{range_with_len}
 use Rattle.std.proofs.Common.{zero, suc, refl, sym, ap, ◌∙◌, arith, subst}
 use Rattle.std.proofs.lemmas.List.{drop_more}
-use Rattle.std.proofs.lemmas.Option.{get_or_from_slice_get, slice_get_within}
+use Rattle.std.proofs.lemmas.Option.{slice_get_within, same_Some}
 use Rattle.std.proofs.lemmas.List.FromFn.{get_or-map-range_with_len, length-map-range_with_len}
 use Rattle.lzk_field.specs.Ring.{Ops, RingLaws}
 use Rattle.lzk_field.specs.Sums.{sum_below, minus, entry}
 use Rattle.lzk_field.proofs.Solve.{var, unit as solo, null, ◌⊞◌, ◌⊟◌, ◌⊠◌, solve}
 use Rattle.lzk_mle.specs.Multilinear.{low_bit, agree, eq}
 use Rattle.lzk_mle.proofs.CornerLaws.{low_bit-even, low_bit-odd}
+use Rattle.lzk_circuit.specs.Bits.{bits}
+use Rattle.lzk_circuit.proofs.BitLaws.{bits_enough}
 use Rattle.lzk_circuit.specs.declared.layer.Term.{Term}
 use Rattle.lzk_circuit.specs.Sums.{sum_pairs, sum_triples, sum_list}
 use Rattle.lzk_circuit.specs.Valid.{Wiring}
@@ -21,7 +23,7 @@ use Rattle.lzk_sumcheck.specs.Rounds.{bound_coefficient}
 use Rattle.lzk_sumcheck.specs.Script.{layer_at, point_a, point_b}
 use Rattle.lzk_sumcheck.specs.Coefficients.{coefficients, terms_at, weights_at}
 use Rattle.lzk_accept.specs.Residuals.{bound_at}
-use Rattle.lzk_accept.specs.Bound.{counts}
+use Rattle.lzk_accept.specs.Bound.{counts, counts_at}
 
 module _ {A : Type 0} (o : Ops A) (r : RingLaws o) where
   open o use {plus, times}
@@ -52,23 +54,33 @@ module _ {A : Type 0} (o : Ops A) (r : RingLaws o) where
 
   -- ---- terms
 
-  -- what the terms count, by the two functions that the tables hold
-  counts_same : (k n : ℕ) (weights firsts rb : List A) (u v : ℕ → A) (ts : List (Term A)) → AreDistinct o k n ts
-      → ((g : ℕ) → g < k → entry o weights g ≡ u g) → ((a : ℕ) → a < n → entry o firsts a ≡ v a)
-      → sum_list o ts (counts o weights firsts rb) ≡ sum_list o ts (λ t. times t.coef (times (times (u t.g) (v t.a)) (eq o t.b rb)))
-  counts_same k n weights firsts rb u v [] h eu ev = refl
-  counts_same k n weights firsts rb u v (t ∷ ts) h eu ev =
-      ap (λ x. plus (times t.coef (times (times x (entry o firsts t.a)) (eq o t.b rb))) (sum_list o ts (counts o weights firsts rb))) (eu t.g h.0)
-      ∙ ap (λ x. plus (times t.coef (times (times (u t.g) x) (eq o t.b rb))) (sum_list o ts (counts o weights firsts rb))) (ev t.a h.1)
-      ∙ ap (plus (times t.coef (times (times (u t.g) (v t.a)) (eq o t.b rb)))) (counts_same k n weights firsts rb u v ts h.4 eu ev)
+  -- what the terms count, by what the two tables hold
+  pub counts_same : (weights firsts rb first second ra : List A) (alpha : A) (k n : ℕ) (ts : List (Term A))
+      → ((i : ℕ) (t : Term A) → slice_get ts i ≡ Some t → (t.g < k) × (t.a < n))
+      → ((g : ℕ) → g < k → entry o weights g ≡ plus (eq o g first) (times alpha (eq o g second))) → ((a : ℕ) → a < n → entry o firsts a ≡ eq o a ra)
+      → sum_list o ts (counts o weights firsts rb) ≡ sum_list o ts (counts_at o alpha first second ra rb)
+  counts_same weights firsts rb first second ra alpha k n [] h eu ev = refl
+  counts_same weights firsts rb first second ra alpha k n (t ∷ ts) h eu ev =
+      let one = h 0 t refl in
+      let rest = sum_list o ts (counts o weights firsts rb) in
+      ap (λ x. plus (times t.coef (times (times x (entry o firsts t.a)) (eq o t.b rb))) rest) (eu t.g one.0)
+      ∙ ap (λ x. plus (times t.coef (times (times (plus (eq o t.g first) (times alpha (eq o t.g second))) x) (eq o t.b rb))) rest) (ev t.a one.1)
+      ∙ ap (plus (counts_at o alpha first second ra rb t)) (counts_same weights firsts rb first second ra alpha k n ts (λ i u e. h (suc i) u e) eu ev)
 
-  pub bound_sum : (c : Wiring A) (s : Script A) (l : ℕ) (terms : List (Term A)) (weights firsts : List A) → terms ≡ terms_at c l
+  -- the weights as a list
+  listed : (k n : ℕ) (first second ra rb W : List A) (alpha : A) (ts : List (Term A)) → AreDistinct o k n ts
+      → ((g : ℕ) → g < k → plus (eq o g first) (times alpha (eq o g second)) ≡ entry o W g)
+      → sum_list o ts (counts_at o alpha first second ra rb) ≡ sum_list o ts (λ t. times t.coef (times (times (entry o W t.g) (eq o t.a ra)) (eq o t.b rb)))
+  listed k n first second ra rb W alpha [] h e = refl
+  listed k n first second ra rb W alpha (t ∷ ts) h e =
+      ap (λ x. plus (times t.coef (times (times x (eq o t.a ra)) (eq o t.b rb))) (sum_list o ts (counts_at o alpha first second ra rb))) (e t.g h.0)
+      ∙ ap (plus (times t.coef (times (times (entry o W t.g) (eq o t.a ra)) (eq o t.b rb)))) (listed k n first second ra rb W alpha ts h.4 e)
+
+  pub bound_sum : (c : Wiring A) (s : Script A) (l : ℕ) (terms : List (Term A)) → terms ≡ terms_at c l
       → AreDistinct o (width_at c l) (width_at c (l + 1)) terms
-      → ((g : ℕ) → g < width_at c l → entry o weights g ≡ plus (eq o g (point_a o s l)) (times (layer_at o s l).alpha (eq o g (point_b o s l))))
-      → ((a : ℕ) → a < width_at c (l + 1) → entry o firsts a ≡ eq o a (layer_at o s l).ra)
-      → sum_list o terms (counts o weights firsts (layer_at o s l).rb) ≡ bound_at o c (coefficients o c s) s l
+      → sum_list o terms (counts_at o (layer_at o s l).alpha (point_a o s l) (point_b o s l) (layer_at o s l).ra (layer_at o s l).rb) ≡ bound_at o c (coefficients o c s) s l
   unfolding bound_at coefficients
-  bound_sum c s l terms weights firsts et distinct ew ef =
+  bound_sum c s l terms et distinct =
       let k = width_at c l in
       let n = width_at c (l + 1) in
       let ra = (layer_at o s l).ra in
@@ -77,10 +89,20 @@ module _ {A : Type 0} (o : Ops A) (r : RingLaws o) where
       let f : ℕ → A = λ g. plus (eq o g (point_a o s l)) (times (layer_at o s l).alpha (eq o g (point_b o s l))) in
       let h : ℕ → ℕ → ℕ → A = λ g a b. times (times (entry o W g) (eq o a ra)) (eq o b rb) in
       let q = coef o terms in
-      counts_same k n weights firsts rb (entry o W) (λ a. eq o a ra) terms distinct
-      (λ g lt. ew g lt ∙ sym (get_or-map-range_with_len f 0 k g g o.zero lt (omega arith))) ef
+      listed k n (point_a o s l) (point_b o s l) ra rb W (layer_at o s l).alpha terms distinct (λ g lt. sym (get_or-map-range_with_len f 0 k g g o.zero lt (omega arith)))
       ∙ sym (coefficient_sum o r k n terms h distinct)
       ∙ sum_triples-ext o r k n (λ g a b. times (q g a b) (h g a b)) (λ g a b. times (times (times (entry o W g) (q g a b)) (eq o a ra)) (eq o b rb))
       (λ g a b. solve o r (q g a b ∷ entry o W g ∷ eq o a ra ∷ eq o b rb ∷ []) (var 0 ⊠ ((var 1 ⊠ var 2) ⊠ var 3)) (((var 1 ⊠ var 0) ⊠ var 2) ⊠ var 3) refl)
       ∙ ap (λ m. sum_below o m (λ g. sum_pairs o n (λ a b. times (times (times (entry o W g) (q g a b)) (eq o a ra)) (eq o b rb)))) (sym (length-map-range_with_len f 0 k))
       ∙ ap (λ ts. bound_coefficient o (coef o ts) W n ra rb) et
+
+-- the terms' numbers are below those that the points' bits number
+pub below_powers : {A : Type 0} (o : Ops A) (k n i j : ℕ) (ts : List (Term A)) → AreDistinct o k n ts → i ≡ bits k → j ≡ bits n
+    → (p : ℕ) (t : Term A) → slice_get ts p ≡ Some t → (t.g < 2 ^ i) × (t.a < 2 ^ j)
+below_powers o k n i j [] h ei ej p t e = absurd (omega (arith, slice_get_within [] p t e))
+below_powers o k n i j (u ∷ us) h ei ej zero t e =
+    let same : u ≡ t = same_Some u t e in (
+      subst (λ x. x.g < 2 ^ i) same (subst (λ m. u.g < 2 ^ m) (sym ei) (omega (arith, h.0, bits_enough k))),
+      subst (λ x. x.a < 2 ^ j) same (subst (λ m. u.a < 2 ^ m) (sym ej) (omega (arith, h.1, bits_enough n))),
+    )
+below_powers o k n i j (u ∷ us) h ei ej (suc p) t e = below_powers o k n i j us h.4 ei ej p t e

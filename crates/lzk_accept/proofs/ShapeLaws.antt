@@ -1,13 +1,14 @@
 -- The lengths of the points at which claims stand, and the layers of a circuit by number.
-use Rattle.std.specs.Prelude.{◌≡◌, ℕ, ◌<◌, ◌≤◌, ◌+◌, ◌-◌, ◌++◌, ◌∷◌, [], List, length, map, slice_get, slice_index_or, Some}
-use Rattle.std.proofs.Common.{zero, suc, refl, sym, ap, ◌∙◌, arith, subst}
+use Rattle.std.specs.Prelude.{◌≡◌, ℕ, ◌<◌, ◌≤◌, ◌+◌, ◌-◌, ◌^◌, ◌++◌, ◌∷◌, [], List, length, map, slice_get, slice_index_or, Some}
+use Rattle.std.proofs.Common.{zero, suc, lit<, refl, sym, ap, ◌∙◌, arith, subst}
+use Rattle.std.proofs.Math.Nat.{pow-le-pow_right}
 use Rattle.std.proofs.lemmas.Option.{slice_get-get_or, get_or_from_slice_get, slice_get_within}
 use Rattle.std.proofs.lemmas.List.{get_or_append_left, get_or-append_right, get_or-map, length-map}
 use Rattle.lzk_field.specs.Ring.{Ops}
 use Rattle.lzk_circuit.specs.Bits.{bits}
 use Rattle.lzk_circuit.specs.declared.layer.Layer.{Layer}
 use Rattle.lzk_circuit.specs.Valid.{Wiring, IsValid, widths, input_width}
-use Rattle.lzk_circuit.proofs.BitLaws.{bits_few}
+use Rattle.lzk_circuit.proofs.BitLaws.{bits_few, bits_enough}
 use Rattle.lzk_layout.specs.Places.{depth, width_at, bits_under, output_bits}
 use Rattle.lzk_layout.proofs.SizeLaws.{narrow}
 use Rattle.lzk_sumcheck.specs.declared.script.LayerScript.{LayerScript}
@@ -57,3 +58,25 @@ width_last c =
     let none : depth c - length front ≡ 0 = omega (arith, n) in
     get_or-append_right front (input_width c ∷ []) (length front) (depth c) 0 refl (omega (arith, n))
     ∙ ap (λ k. slice_index_or (input_width c ∷ []) k 0) none
+
+-- tables over so few bits are small
+pub power_small : (n : ℕ) → n ≤ 17 → 2 ^ n ≤ 131072
+power_small n l = pow-le-pow_right {n = 2} (lit< tt) l
+
+-- the points at which claims on the inputs stand have few bits, and enough
+pub record AreInputBits {A : Type 0} (c : Wiring A) (n : ℕ) : Type 0 where
+  pub few : n ≤ 17
+  pub enough : input_width c ≤ 2 ^ n
+  pub small : 2 ^ n ≤ 131072
+  pub narrow : input_width c ≤ 131072
+
+pub input_bits : {A : Type 0} (o : Ops A) (c : Wiring A) (d n : ℕ) → IsValid o c → d ≡ depth c → n ≡ bits (width_at c d) → AreInputBits c n
+input_bits o c d n valid ed en =
+    let w : width_at c d ≡ input_width c = ap (width_at c) ed ∙ width_last c in
+    let few : n ≤ 17 = omega (arith, en, few_bits o c d valid) in
+    record {
+      few = few;
+      enough = subst (λ k. input_width c ≤ 2 ^ k) (sym en) (omega (arith, w, bits_enough (width_at c d)));
+      small = power_small n few;
+      narrow = omega (arith, w, narrow o c d valid);
+    }

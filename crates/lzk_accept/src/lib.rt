@@ -6,8 +6,13 @@
 //! residuals are zero, by one sum of all of them with drawn factors.
 #![tactic(auto)]
 
+mod bound;
 mod challenges;
+mod claims;
+mod inputs;
 mod points;
+mod residuals;
 
 pub use challenges::{Challenges, draw_challenges};
 pub use points::next_claim;
+pub use residuals::residual;

@@ -1,0 +1,139 @@
+//! A layer's coefficients, summed at its challenges.
+
+ghost use Rattle.std.specs.Prelude.{◌≡◌, ℕ, ◌+◌, ◌^◌, ◌<◌, ◌≤◌, Some, length, slice_get};
+ghost use Rattle.lzk_field.specs.Sums.{entry};
+ghost use Rattle.lzk_mle.specs.Multilinear.{low_bit, agree, eq};
+ghost use Rattle.lzk_circuit.specs.Sums.{sum_list};
+ghost use Rattle.lzk_circuit.specs.declared.layer.Term as declared;
+ghost use Rattle.lzk_layout.specs.Places.{depth};
+ghost use Rattle.lzk_sumcheck.specs.Script.{HasShape};
+ghost use Rattle.lzk_sumcheck.specs.Coefficients.{coefficients};
+ghost use Rattle.lzk_accept.specs.Residuals.{bound_at};
+ghost use Rattle.lzk_accept.specs.Bound.{counts, counts_at};
+
+use crate::claims::{first_point, layer_of, second_point};
+use lzk_circuit::{Circuit, Term};
+use lzk_field::Field;
+use lzk_mle::eq_table;
+use lzk_sumcheck::Script;
+
+// How bit 0 of a number agrees with an entry of a point.
+fn agree_of<F: Field>(number: u32, x: F) -> F
+    ensures { let o = F.ops in result ≡ agree o (low_bit o number) x }
+{
+    if number % 2 == 0 { F::one().sub(x) } else { x }
+}
+
+// How the bits of a number agree with a point.
+fn eq_of<F: Field>(number: u32, r: &[F]) -> F
+    ensures { result ≡ eq F.ops number r.now }
+{
+    let mut product = F::one();
+    let mut rest = number;
+    for j in 0..r.len() {
+        product = product.mul(agree_of(rest, r[j]));
+        rest /= 2;
+    }
+    product
+}
+
+// Adds to each entry of a list that of another, multiplied.
+fn add_multiple<F: Field>(sums: &mut [F], by: F, list: &[F])
+    requires { length list.now ≡ length sums.old }
+    ensures length { length sums.new ≡ length sums.old }
+    ensures entries { let o = F.ops in (i : ℕ) → i < length sums.old → entry o sums.new i ≡ o.plus (entry o sums.old i) (o.times by (entry o list.now i)) }
+{
+    for i in 0..sums.len() {
+        sums[i] = sums[i].add(by.mul(list[i]));
+    }
+}
+
+// Sets the weight of each wire of a layer with claims at two points.
+fn set_weights<F: Field>(alpha: F, first: &[F], second: &[F], weights: &mut [F], room: &mut [F])
+    requires few { length first.now ≤ 17 }
+    requires points { length second.now ≡ length first.now }
+    requires weights { length weights.old ≡ 2 ^ length first.now }
+    requires room { length room.old ≡ 2 ^ length first.now }
+    ensures length { length weights.new ≡ length weights.old }
+    ensures weights { let o = F.ops in (g : ℕ) → g < length weights.new → entry o weights.new g ≡ o.plus (eq o g first.now) (o.times alpha (eq o g second.now)) }
+{
+    eq_table(first, weights);
+    eq_table(second, room);
+    add_multiple(weights, alpha, room);
+}
+
+// What a term counts: its coefficient times its wire's weight and how its two wires below agree with the challenges, the first by a table and the
+// second by its bits.
+fn count_of<F: Field>(term: Term<F>, weights: &[F], firsts: &[F], rb: &[F]) -> F
+    requires wire { term.g < length weights.now }
+    requires first { term.a < length firsts.now }
+    ensures { result ≡ counts F.ops weights.now firsts.now rb.now term }
+{
+    let weight = weights[term.g as usize];
+    let first = firsts[term.a as usize];
+    term.coef.mul(weight.mul(first).mul(eq_of(term.b, rb)))
+}
+
+// The sum of that over the terms.
+fn sum_terms<F: Field>(terms: &[Term<F>], weights: &[F], firsts: &[F], rb: &[F]) -> F
+    requires { (i : ℕ) (t : declared.Term F) → slice_get terms.now i ≡ Some t → (t.g < length weights.now) × (t.a < length firsts.now) }
+    ensures { result ≡ sum_list F.ops terms.now (counts F.ops weights.now firsts.now rb.now) }
+{
+    let mut sum = F::zero();
+    for i in 0..terms.len() {
+        sum = sum.add(count_of(terms[i], weights, firsts, rb));
+    }
+    sum
+}
+
+// The sum over the terms, of each coefficient times the weight of its wire, which has claims at two points, and times how its two wires below
+// agree with the challenges.
+#[tactic(auto, using(crate::proofs::ShapeLaws::power_small))]
+fn sum_at<F: Field>(
+    terms: &[Term<F>],
+    alpha: F,
+    first: &[F],
+    second: &[F],
+    ra: &[F],
+    rb: &[F],
+    room: &mut [F],
+) -> F
+    requires few { length first.now ≤ 17 }
+    requires few_below { length ra.now ≤ 17 }
+    requires points { length second.now ≡ length first.now }
+    requires terms { (i : ℕ) (t : declared.Term F) → slice_get terms.now i ≡ Some t → (t.g < 2 ^ length first.now) × (t.a < 2 ^ length ra.now) }
+    requires room { length room.old ≡ 262144 }
+    ensures value { result ≡ sum_list F.ops terms.now (counts_at F.ops alpha first.now second.now ra.now rb.now) }
+    ensures room { length room.new ≡ length room.old }
+{
+    let size = 1 << first.len();
+    let (weights, rest) = room.split_at_mut(size);
+    let (other, _) = rest.split_at_mut(size);
+    set_weights(alpha, first, second, weights, other);
+    let (firsts, _) = rest.split_at_mut(1 << ra.len());
+    eq_table(ra, firsts);
+    sum_terms(terms, weights, firsts, rb)
+}
+
+/// The weighted sum of layer `l`'s coefficients at its challenges. `room` has 262,144 places.
+pub(crate) fn bound_of<F: Field>(
+    circuit: &Circuit<F>,
+    script: &Script<F>,
+    l: u32,
+    room: &mut [F],
+) -> F
+    requires layer { l < depth circuit.now }
+    requires shape { HasShape circuit.now script.now }
+    requires room { length room.old ≡ 262144 }
+    ensures value { result ≡ bound_at F.ops circuit.now (coefficients F.ops circuit.now script.now) script.now l }
+    ensures room { length room.new ≡ length room.old }
+{
+    let _depth = circuit.depth();
+    let layer = layer_of(circuit, script, l);
+    let first = first_point(circuit, script, l);
+    let second = second_point(circuit, script, l);
+    let ra = layer.ra.as_slice();
+    let rb = layer.rb.as_slice();
+    let terms = circuit.layer(l).terms.as_slice();
+    sum_at(terms, layer.alpha, first, second, ra, rb, room)
+}

@@ -1,0 +1,186 @@
+//! The claims of a layer, for a list of pads.
+
+ghost use Rattle.std.specs.Prelude.{◌≡◌, ◌+◌, ◌<◌, ◌*◌, ◌≤◌, length};
+ghost use Rattle.lzk_circuit.specs.Bits.{bits};
+ghost use Rattle.lzk_layout.specs.Places.{depth, width_at, bits_under, round_count, places_of, AreWithin};
+ghost use Rattle.lzk_layout.specs.Sizes.{sent_counts, committed_count};
+ghost use Rattle.lzk_sumcheck.specs.Script.{layer_at, point_a, point_b, HasBits, HasShape};
+ghost use Rattle.lzk_accept.specs.Points.{AreInverses};
+ghost use Rattle.lzk_accept.specs.Residuals.{next_claim, padded, claim_a, claim_b, claim_after, product_at};
+
+use crate::points::ThreePoints;
+use lzk_circuit::Circuit;
+use lzk_field::Field;
+use lzk_layout::LayerPlaces;
+use lzk_sumcheck::{LayerScript, Script};
+
+// The layer's draws, with nothing said of their lengths.
+fn nth_layer<F: Field>(script: &Script<F>, l: u32) -> &LayerScript<F>
+    requires { l < length script.now.layers }
+    ensures { result.now ≡ layer_at F.ops script.now l }
+{
+    &script.layers.as_slice()[l as usize]
+}
+
+/// What layer `l` draws.
+pub(crate) fn layer_of<'a, F: Field>(
+    circuit: &Circuit<F>,
+    script: &'a Script<F>,
+    l: u32,
+) -> &'a LayerScript<F>
+    requires layer { l < depth circuit.now }
+    requires shape { HasShape circuit.now script.now }
+    ensures layer { result.now ≡ layer_at F.ops script.now l }
+    ensures bits { HasBits (bits_under circuit.now l) result.now }
+{
+    let _depth = circuit.depth();
+    nth_layer(script, l)
+}
+
+/// The first point at which a claim on layer `l` stands, the input layer being the one after the last.
+#[tactic(auto, using(crate::proofs::ShapeLaws::point_a_length))]
+pub(crate) fn first_point<'a, F: Field>(
+    circuit: &Circuit<F>,
+    script: &'a Script<F>,
+    l: u32,
+) -> &'a [F]
+    requires layer { l ≤ depth circuit.now }
+    requires shape { HasShape circuit.now script.now }
+    ensures point { result.now ≡ point_a F.ops script.now l }
+    ensures length { length result.now ≡ bits (width_at circuit.now l) }
+{
+    if l == 0 {
+        script.out_point.as_slice()
+    } else {
+        layer_of(circuit, script, l - 1).ra.as_slice()
+    }
+}
+
+/// The second one.
+#[tactic(auto, using(crate::proofs::ShapeLaws::point_b_length))]
+pub(crate) fn second_point<'a, F: Field>(
+    circuit: &Circuit<F>,
+    script: &'a Script<F>,
+    l: u32,
+) -> &'a [F]
+    requires layer { l ≤ depth circuit.now }
+    requires shape { HasShape circuit.now script.now }
+    ensures point { result.now ≡ point_b F.ops script.now l }
+    ensures length { length result.now ≡ bits (width_at circuit.now l) }
+{
+    if l == 0 {
+        script.out_point.as_slice()
+    } else {
+        layer_of(circuit, script, l - 1).rb.as_slice()
+    }
+}
+
+/// The places of layer `l`.
+pub(crate) fn places_at<F: Field>(circuit: &Circuit<F>, l: u32) -> LayerPlaces
+    requires { l < length circuit.now.layers }
+    ensures places { result ≡ places_of circuit.now l }
+    ensures within { AreWithin circuit.now result }
+    ensures sent { result.factors_sent ≡ result.messages + 4 * result.bits }
+    ensures pads { result.factors ≡ result.pads + 4 * result.bits }
+{
+    let mut places = LayerPlaces::first(circuit);
+    for k in 0..l {
+        places = places.next(circuit, k);
+    }
+    places
+}
+
+// A sent element with its pad.
+fn padded<F: Field>(messages: &[F], w: &[F], i: usize, j: usize) -> F
+    requires sent { i < length messages.now }
+    requires pad { j < length w.now }
+    ensures { result ≡ padded F.ops messages.now w.now i j }
+{
+    messages[i].add(w[j])
+}
+
+/// The two claims on layer `l`: zero on the outputs, and the padded factors of the layer above further down.
+pub(crate) fn claims_on<F: Field>(circuit: &Circuit<F>, messages: &[F], w: &[F], l: u32) -> (F, F)
+    requires layer { l ≤ depth circuit.now }
+    requires messages { length messages.now ≡ sent_counts circuit.now }
+    requires w { length w.now ≡ committed_count circuit.now }
+    ensures first { result.0 ≡ claim_a F.ops circuit.now messages.now w.now l }
+    ensures second { result.1 ≡ claim_b F.ops circuit.now messages.now w.now l }
+{
+    if l == 0 {
+        return (F::zero(), F::zero());
+    }
+    let above = places_at(circuit, l - 1);
+    let sent = above.factors_sent as usize;
+    let pads = above.factors as usize;
+    let first = padded(messages, w, sent, pads);
+    let second = padded(messages, w, sent + 1, pads + 1);
+    (first, second)
+}
+
+// The claim after a round whose elements begin at place i, and its pads at place j.
+fn after_round<F: Field>(
+    points: ThreePoints<F>,
+    messages: &[F],
+    w: &[F],
+    i: usize,
+    j: usize,
+    claim: F,
+    challenge: F,
+) -> F
+    requires points { AreInverses F.ops F.element points }
+    requires sent { i + 1 < length messages.now }
+    requires pads { j + 1 < length w.now }
+    ensures { let p = padded F.ops messages.now w.now in
+        result ≡ next_claim F.ops F.element claim (p i j) (p (i + 1) (j + 1)) challenge }
+{
+    let p0 = padded(messages, w, i, j);
+    let p2 = padded(messages, w, i + 1, j + 1);
+    points.next_claim(claim, p0, p2, challenge)
+}
+
+/// The claim of layer `l` after its rounds.
+pub(crate) fn after_rounds<F: Field>(
+    circuit: &Circuit<F>,
+    script: &Script<F>,
+    messages: &[F],
+    w: &[F],
+    l: u32,
+) -> F
+    requires layer { l < depth circuit.now }
+    requires shape { HasShape circuit.now script.now }
+    requires messages { length messages.now ≡ sent_counts circuit.now }
+    requires w { length w.now ≡ committed_count circuit.now }
+    ensures { result ≡ claim_after F.ops F.element circuit.now script.now messages.now w.now l (round_count circuit.now l) }
+{
+    let layer = layer_of(circuit, script, l);
+    let ra = layer.ra.as_slice();
+    let rb = layer.rb.as_slice();
+    let places = places_at(circuit, l);
+    let points = ThreePoints::new();
+    let (first, second) = claims_on(circuit, messages, w, l);
+    let mut claim = first.add(layer.alpha.mul(second));
+    for n in 0..places.bits as usize {
+        let i = places.messages as usize + 4 * n;
+        let j = places.pads as usize + 4 * n;
+        claim = after_round(points, messages, w, i, j, claim, ra[n]);
+        claim = after_round(points, messages, w, i + 2, j + 2, claim, rb[n]);
+    }
+    claim
+}
+
+/// What the two factors of layer `l` give with their pads, the third of the layer's last entries of `w` standing for the
+/// pads' product.
+pub(crate) fn product_of<F: Field>(circuit: &Circuit<F>, messages: &[F], w: &[F], l: u32) -> F
+    requires layer { l < depth circuit.now }
+    requires messages { length messages.now ≡ sent_counts circuit.now }
+    requires w { length w.now ≡ committed_count circuit.now }
+    ensures { result ≡ product_at F.ops circuit.now messages.now w.now l }
+{
+    let places = places_at(circuit, l);
+    let sent = places.factors_sent as usize;
+    let pads = places.factors as usize;
+    let (s0, s1) = (messages[sent], messages[sent + 1]);
+    let (d0, d1, e) = (w[pads], w[pads + 1], w[pads + 2]);
+    s0.mul(s1).add(s0.mul(d1)).add(s1.mul(d0)).add(e)
+}
