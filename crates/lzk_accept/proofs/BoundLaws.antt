@@ -1,6 +1,5 @@
 -- A layer's bound coefficient as a sum over its terms.
-use Rattle.std.specs.Prelude.{◌≡◌, ℕ, ◌<◌, ◌≤◌, ◌+◌, ◌/◌, ◌%◌, ◌^◌, List, [], ◌∷◌, length, map, drop, slice_index_or, slice_get, Some}
-use Rattle.std.specs.List.{range_with_len}
+use Rattle.std.specs.Prelude.{◌≡◌, ℕ, ◌<◌, ◌+◌, ◌/◌, ◌%◌, ◌^◌, List, [], ◌∷◌, length, drop, slice_index_or, slice_get, Some}
 use Rattle.std.proofs.Common.{zero, suc, refl, sym, ap, ◌∙◌, arith, subst}
 use Rattle.std.proofs.lemmas.List.{drop_more}
 use Rattle.std.proofs.lemmas.Option.{slice_get_within, same_Some}
@@ -13,7 +12,7 @@ use Rattle.lzk_mle.proofs.CornerLaws.{low_bit-even, low_bit-odd}
 use Rattle.lzk_circuit.specs.Bits.{bits}
 use Rattle.lzk_circuit.proofs.BitLaws.{bits_enough}
 use Rattle.lzk_circuit.specs.declared.layer.Term.{Term}
-use Rattle.lzk_circuit.specs.Sums.{sum_pairs, sum_triples, sum_list}
+use Rattle.lzk_circuit.specs.Sums.{sum_pairs, sum_list}
 use Rattle.lzk_circuit.specs.Valid.{Wiring}
 use Rattle.lzk_circuit.specs.Wires.{coef, AreDistinct}
 use Rattle.lzk_circuit.proofs.TermSums.{coefficient_sum, sum_triples-ext}

@@ -1,6 +1,6 @@
 -- A layer's claim, round by round.
-use Rattle.std.specs.Prelude.{◌≡◌, ℕ, ◌<◌, ◌+◌, ◌*◌, ◌/◌, ◌%◌, ◌==◌, cond, List}
-use Rattle.std.proofs.Common.{suc, refl, sym, ap, ◌∙◌, arith}
+use Rattle.std.specs.Prelude.{◌≡◌, ℕ, ◌+◌, ◌*◌, ◌/◌, ◌%◌, ◌==◌, cond, List}
+use Rattle.std.proofs.Common.{suc, ap, ◌∙◌, arith}
 use Rattle.lzk_field.specs.Ring.{Ops}
 use Rattle.lzk_field.specs.Sums.{entry}
 use Rattle.lzk_circuit.specs.Valid.{Wiring}

@@ -1,13 +1,13 @@
 -- Each residual is affine in the list of pads and private inputs, and what its form is.
-use Rattle.std.specs.Prelude.{◌≡◌, ℕ, ◌<◌, ◌≤◌, ◌+◌, ◌*◌, ◌-◌, Bool, true, false, cond, nat_lt, List, [], ◌∷◌, ◌++◌, length, map, take}
+use Rattle.std.specs.Prelude.{◌≡◌, ℕ, ◌<◌, ◌≤◌, ◌+◌, ◌*◌, ◌-◌, Bool, true, false, cond, nat_lt, List, [], ◌∷◌, ◌++◌, length, take}
 use Rattle.std.proofs.Common.{zero, suc, refl, sym, ap, ◌∙◌, arith}
 use Rattle.std.proofs.lemmas.Bool.{ltb-true, lt-ltb, le-ltb}
 use Rattle.std.proofs.lemmas.List.{get_or_append_left, get_or-append_right, get_or-take, length-append, length-take-le}
-use native.Mathlib.Decide.{dec_lt, dec_le}
+use native.Mathlib.Decide.{dec_lt}
 use Rattle.lzk_field.specs.Ring.{Ops, RingLaws}
 use Rattle.lzk_field.specs.Sums.{sum_below, minus, entry}
 use Rattle.lzk_field.proofs.SumLaws.{sum-ext}
-use Rattle.lzk_field.proofs.Solve.{var, opp, ◌⊞◌, ◌⊟◌, solve}
+use Rattle.lzk_field.proofs.Solve.{var, opp, ◌⊞◌, solve}
 use Rattle.lzk_poly.specs.Extension.{lagrange}
 use Rattle.lzk_circuit.specs.Valid.{Wiring}
 use Rattle.lzk_layout.specs.Sizes.{committed_count}

@@ -1,5 +1,5 @@
 -- The lengths of the points at which claims stand, and the layers of a circuit by number.
-use Rattle.std.specs.Prelude.{◌≡◌, ℕ, ◌<◌, ◌≤◌, ◌+◌, ◌-◌, ◌^◌, ◌++◌, ◌∷◌, [], List, length, map, slice_get, slice_index_or, Some}
+use Rattle.std.specs.Prelude.{◌≡◌, ℕ, ◌<◌, ◌≤◌, ◌-◌, ◌^◌, ◌∷◌, [], length, map, slice_get, slice_index_or, Some}
 use Rattle.std.proofs.Common.{zero, suc, lit<, refl, sym, ap, ◌∙◌, arith, subst}
 use Rattle.std.proofs.Math.Nat.{pow-le-pow_right}
 use Rattle.std.proofs.lemmas.Option.{slice_get-get_or, get_or_from_slice_get, slice_get_within}
@@ -7,9 +7,9 @@ use Rattle.std.proofs.lemmas.List.{get_or_append_left, get_or-append_right, get_
 use Rattle.lzk_field.specs.Ring.{Ops}
 use Rattle.lzk_circuit.specs.Bits.{bits}
 use Rattle.lzk_circuit.specs.declared.layer.Layer.{Layer}
-use Rattle.lzk_circuit.specs.Valid.{Wiring, IsValid, widths, input_width}
+use Rattle.lzk_circuit.specs.Valid.{Wiring, IsValid, input_width}
 use Rattle.lzk_circuit.proofs.BitLaws.{bits_few, bits_enough}
-use Rattle.lzk_layout.specs.Places.{depth, width_at, bits_under, output_bits}
+use Rattle.lzk_layout.specs.Places.{depth, width_at, bits_under}
 use Rattle.lzk_layout.proofs.SizeLaws.{narrow}
 use Rattle.lzk_sumcheck.specs.declared.script.LayerScript.{LayerScript}
 use Rattle.lzk_sumcheck.specs.declared.script.Script.{Script}

@@ -1,5 +1,5 @@
 -- What a term counts in the sum of a layer's coefficients at its challenges.
-use Rattle.std.specs.Prelude.{ℕ, List}
+use Rattle.std.specs.Prelude.{List}
 use Rattle.lzk_field.specs.Ring.{Ops}
 use Rattle.lzk_field.specs.Sums.{entry}
 use Rattle.lzk_mle.specs.Multilinear.{eq}

@@ -1,4 +1,4 @@
-use Rattle.std.proofs.Common.{◌≡◌, ◌+◌, length, ap, sym, ◌∙◌, arith, subst, slice_index_or}
+use Rattle.std.proofs.Common.{◌+◌, length, ap, sym, ◌∙◌, arith, subst}
 use Rattle.std.proofs.lemmas.Option.{get_or_from_slice_get, slice_get_within}
 use Rattle.lzk_circuit.specs.Bits.{bits}
 use Rattle.lzk_circuit.specs.Sums.{sum_list}

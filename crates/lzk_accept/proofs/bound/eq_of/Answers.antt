@@ -1,4 +1,4 @@
-use Rattle.std.proofs.Common.{◌≡◌, ◌<◌, ◌+◌, ◌/◌, length, ap, ◌∙◌, arith, drop}
+use Rattle.std.proofs.Common.{◌+◌, ◌/◌, ap, ◌∙◌, arith, drop}
 use Rattle.lzk_mle.specs.Multilinear.{eq}
 use Rattle.lzk_accept.proofs.BoundLaws.{eq_step}
 use Rattle.lzk_accept.proofs.bound.eq_of.Goals as goal

@@ -1,4 +1,4 @@
-use Rattle.std.proofs.Common.{◌≡◌, ◌<◌, ◌^◌, ◌∙◌, arith, length}
+use Rattle.std.proofs.Common.{◌^◌, ◌∙◌, arith, length}
 use Rattle.lzk_accept.proofs.BoundLaws.{counts_same}
 use Rattle.lzk_accept.proofs.ShapeLaws.{power_small}
 use Rattle.lzk_accept.proofs.bound.sum_at.Goals as goal

@@ -1,4 +1,4 @@
-use Rattle.std.proofs.Common.{◌≡◌, ◌<◌, ◌+◌, length, ap, ◌∙◌, arith, drop}
+use Rattle.std.proofs.Common.{◌+◌, ap, ◌∙◌, arith, drop}
 use Rattle.lzk_circuit.specs.Sums.{sum_list}
 use Rattle.lzk_accept.specs.Bound.{counts}
 use Rattle.lzk_accept.proofs.BoundLaws.{sum_step}

@@ -5,7 +5,6 @@ use Rattle.lzk_transcript.specs.Columns.{after_draws}
 use Rattle.lzk_sumcheck.specs.Draws.{draws}
 use Rattle.lzk_sumcheck.proofs.Filled.{refill_whole}
 use Rattle.lzk_accept.specs.declared.challenges.Challenges.{Challenges}
-use Rattle.lzk_accept.specs.Challenges.{challenges}
 use Rattle.lzk_accept.proofs.DrawLaws.{tape_whole, challenges_whole}
 use Rattle.lzk_accept.proofs.challenges.draw_challenges.Goals as goal
 

@@ -1,4 +1,4 @@
-use Rattle.std.proofs.Common.{◌≡◌, sym, subst}
+use Rattle.std.proofs.Common.{sym, subst}
 use Rattle.lzk_layout.specs.Places.{bits_under}
 use Rattle.lzk_sumcheck.specs.Script.{HasBits}
 use Rattle.lzk_accept.proofs.ShapeLaws.{layer_shape}

@@ -1,4 +1,4 @@
-use Rattle.std.proofs.Common.{◌≡◌, sym, ap, ◌∙◌, arith}
+use Rattle.std.proofs.Common.{◌≡◌, ap, ◌∙◌, arith}
 use Rattle.lzk_layout.specs.Places.{depth}
 use Rattle.lzk_sumcheck.specs.Coefficients.{coefficients}
 use Rattle.lzk_sumcheck.specs.Script.{point_a, point_b}

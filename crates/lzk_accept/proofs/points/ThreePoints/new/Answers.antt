@@ -1,4 +1,4 @@
-use Rattle.std.proofs.Common.{◌≡◌, sym, ◌∙◌, arith}
+use Rattle.std.proofs.Common.{sym, ◌∙◌, arith}
 use Rattle.lzk_field.proofs.Numbering.{points_apart}
 use Rattle.lzk_accept.proofs.PointLaws.{inverse_is, others_first, others_second, others_third}
 use Rattle.lzk_accept.proofs.points.ThreePoints.new.Goals as goal

@@ -1,4 +1,4 @@
-use Rattle.std.proofs.Common.{sym, ap, ◌∙◌}
+use Rattle.std.proofs.Common.{ap, ◌∙◌}
 use Rattle.lzk_field.specs.Sums.{minus}
 use Rattle.lzk_accept.proofs.PointLaws.{next_is}
 use Rattle.lzk_accept.proofs.points.ThreePoints.next_claim.Goals as goal
