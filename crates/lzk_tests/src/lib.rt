@@ -25,6 +25,8 @@ mod proof_files;
 #[cfg(test)]
 mod proof_vectors;
 #[cfg(test)]
+mod residuals;
+#[cfg(test)]
 mod rows_of_terms;
 #[cfg(test)]
 mod script_vectors;
