@@ -2,6 +2,10 @@ pub mod BoundLaws
 pub mod ClaimLaws
 pub mod DrawLaws
 pub mod FormLaws
+pub mod KeptLaws
+pub mod LinearLaws
 pub mod PointLaws
 pub mod ResidualLaws
+pub mod RoundForms
 pub mod ShapeLaws
+pub mod TermWalks

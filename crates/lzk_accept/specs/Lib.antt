@@ -3,5 +3,7 @@ pub mod Challenges
 pub mod Checks
 pub mod Combination
 pub mod Forms
+pub mod Kept
 pub mod Points
 pub mod Residuals
+pub mod Walks

@@ -9,10 +9,17 @@
 mod bound;
 mod challenges;
 mod claims;
+mod forms;
 mod inputs;
+mod linear;
 mod points;
 mod residuals;
+mod rounds;
+mod tables;
+mod terms;
 
 pub use challenges::{Challenges, draw_challenges};
+pub use forms::{Form, Forms};
+pub use linear::linear_forms;
 pub use points::next_claim;
 pub use residuals::residual;

@@ -1,0 +1,65 @@
+use Rattle.std.proofs.Common.{suc, ◌≡◌, ℕ, ◌+◌, ◌^◌, ◌<◌, ◌≤◌, List, length, refl, sym, ap, ◌∙◌, subst, arith}
+use Rattle.std.specs.Prelude.{slice_set}
+use Rattle.lzk_field.specs.Sums.{entry}
+use Rattle.lzk_circuit.proofs.BitLaws.{bits_enough}
+use Rattle.lzk_layout.specs.Places.{depth, width_at}
+use Rattle.lzk_sumcheck.specs.Coefficients.{coefficients}
+use Rattle.lzk_accept.specs.Kept.{form_at, IsPlacedAt, IsConstraint}
+use Rattle.lzk_accept.proofs.KeptLaws.{placed_set, start_after, last_start, last_end}
+use Rattle.lzk_accept.proofs.LinearLaws.{constraints_more, last_is}
+use Rattle.lzk_accept.proofs.ShapeLaws.{width_last}
+use Rattle.lzk_accept.proofs.linear.fill_forms.Goals as goal
+
+pub last_form-last-requires-clause-first : goal.last_form-last-requires-clause-first
+last_form-last-requires-clause-first g c κs within =
+    let w = c.args.circuit.now in
+    omega (arith, width_last w, bits_enough (width_at w (depth w)), c.requires.room (depth w) (omega arith), c.requires.first_room, c.fill_layers-above.ensures.first_length)
+
+pub last_form-last-requires-clause-second : goal.last_form-last-requires-clause-second
+last_form-last-requires-clause-second g c κs within =
+    let w = c.args.circuit.now in
+    omega (arith, width_last w, bits_enough (width_at w (depth w)), c.requires.room (depth w) (omega arith), c.requires.second_room, c.fill_layers-above.ensures.second_length)
+
+pub last_form-last-requires-clause-form : goal.last_form-last-requires-clause-form
+last_form-last-requires-clause-form g c κs within =
+    let o = g.F.Field.ops in
+    let w = c.args.circuit.now in
+    subst (IsPlacedAt w (depth w)) (sym (c.form_of-old.ensures ∙ ap (form_at o c.fill_layers-above.new.forms) c.depth-depth.ensures.depth)) (c.fill_layers-above.ensures.placed (depth w) (omega arith))
+
+pub last_form-last-requires-clause-own : goal.last_form-last-requires-clause-own
+last_form-last-requires-clause-own g c κs within = omega (arith, c.fill_layers-above.ensures.own_length, c.requires.own)
+
+pub returns-clause-placed : goal.returns-clause-placed
+returns-clause-placed g c i k =
+    let o = g.F.Field.ops in
+    let w = c.args.circuit.now in
+    let forms = c.fill_layers-above.new.forms in
+    let form = c.last_form-last.result in
+    let inside : depth w < length forms = omega (arith, c.fill_layers-above.ensures.forms_length, c.requires.count) in
+    let put = c.set_form.ensures ∙ ap (λ n. slice_set forms n form) c.depth-depth.ensures.depth in
+    subst (λ fs. IsPlacedAt w i (form_at o fs i)) (sym put) (placed_set w o (depth w) forms form inside c.last_form-last.ensures.placed i (c.fill_layers-above.ensures.placed i k))
+
+pub returns-clause-constraints : goal.returns-clause-constraints
+returns-clause-constraints g c i k =
+    let f = g.F.Field in
+    let o = f.ops in
+    let w = c.args.circuit.now in
+    let s = c.args.script.now in
+    let ms = c.args.messages.now in
+    let public = c.args.public.now in
+    let q = coefficients o w s in
+    let layers = c.fill_layers-above in
+    let forms = layers.new.forms in
+    let form = c.last_form-last.result in
+    let own = c.last_form-last.new.own in
+    let inside : depth w < length forms = omega (arith, layers.ensures.forms_length, c.requires.count) in
+    let put = c.set_form.ensures ∙ ap (λ n. slice_set forms n form) c.depth-depth.ensures.depth in
+    let at = c.last_form-last.ensures.placed in
+    let wide = width_last w in
+    subst (λ fs. IsConstraint o f.element w q public s ms i own (form_at o fs i)) (sym put)
+    (constraints_more o f.laws.ring f.element w q public s ms (depth w) layers.new.own own forms form inside (omega arith) (λ i m. layers.ensures.placed i (omega arith))
+    (λ i m j a b. c.last_form-last.ensures.after j (omega (arith, start_after w i m)))
+    (last_is o f.laws.ring f.element w q public s ms layers.result layers.new.first layers.new.second own form c.depth-depth.ensures.valid.some c.requires.public layers.ensures.above_a layers.ensures.above_b
+    (λ j b. layers.ensures.first j (omega arith)) (λ j b. layers.ensures.second j (omega arith))
+    (at.start ∙ last_start w (depth w) (omega arith)) (at.end ∙ last_end w (depth w) (omega arith)) at.above c.last_form-last.ensures.form)
+    (layers.ensures.constraints public) i k)

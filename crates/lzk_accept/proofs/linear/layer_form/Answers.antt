@@ -1,0 +1,83 @@
+use Rattle.std.proofs.Common.{◌≡◌, ℕ, ◌+◌, ◌*◌, ◌-◌, ◌<◌, ◌≤◌, List, length, sym, ap, ◌∙◌, subst, arith}
+use Rattle.lzk_field.specs.Sums.{entry, sum_below, minus}
+use Rattle.lzk_field.proofs.SumLaws.{sum-ext}
+use Rattle.lzk_layout.specs.declared.places.LayerPlaces.{LayerPlaces}
+use Rattle.lzk_layout.specs.Places.{depth, bits_under, round_count, sent_at, pads_at, factors_sent_at, factors_at, places_of}
+use Rattle.lzk_layout.proofs.PlaceLaws.{pads_next}
+use Rattle.lzk_sumcheck.specs.Coefficients.{coefficients}
+use Rattle.lzk_sumcheck.specs.Script.{layer_at, HasBits}
+use Rattle.lzk_accept.specs.Kept.{above_a, above_b, below_top}
+use Rattle.lzk_accept.specs.Walks.{through_rounds, challenge_of}
+use Rattle.lzk_accept.proofs.KeptLaws.{start_is, end_is}
+use Rattle.lzk_accept.proofs.LinearLaws.{IsLayerForm, layer_is}
+use Rattle.lzk_accept.proofs.ShapeLaws.{layer_shape}
+use Rattle.lzk_accept.proofs.linear.layer_form.Goals as goal
+
+pub claim_form-claim-requires-clause-bits : goal.claim_form-claim-requires-clause-bits
+claim_form-claim-requires-clause-bits g c κs within =
+    let o = g.F.Field.ops in
+    let w = c.args.circuit.now in
+    let bits : bits_under w c.args.l ≡ c.args.places.bits = sym (ap (λ (p : LayerPlaces). p.bits) c.requires.places) in
+    subst (λ k. HasBits k c.layer_of-layer.result.now) bits (subst (HasBits (bits_under w c.args.l)) (sym c.layer_of-layer.ensures.layer) (layer_shape o w c.args.script.now c.requires.shape c.args.l c.requires.layer))
+
+pub returns-clause-after : goal.returns-clause-after
+returns-clause-after g c j h =
+    let w = c.args.circuit.now in
+    let next = pads_next w c.args.l c.requires.layer in
+    let pads : c.args.places.pads ≡ pads_at w c.args.l = ap (λ (p : LayerPlaces). p.pads) c.requires.places in
+    let factors : c.args.places.factors ≡ factors_at w c.args.l = ap (λ (p : LayerPlaces). p.factors) c.requires.places in
+    let bits : c.args.places.bits ≡ bits_under w c.args.l = ap (λ (p : LayerPlaces). p.bits) c.requires.places in
+    c.set_factors.ensures.after j (omega (arith, next)) ∙ c.claim_form-claim.ensures.after j (omega (arith, next))
+
+pub returns-clause-constraint : goal.returns-clause-constraint
+returns-clause-constraint g c public =
+    let f = g.F.Field in
+    let o = f.ops in
+    let w = c.args.circuit.now in
+    let s = c.args.script.now in
+    let ms = c.args.messages.now in
+    let l = c.args.l in
+    let q = coefficients o w s in
+    let places = c.args.places in
+    let pads : places.pads ≡ pads_at w l = ap (λ (p : LayerPlaces). p.pads) c.requires.places in
+    let factors : places.factors ≡ factors_at w l = ap (λ (p : LayerPlaces). p.factors) c.requires.places in
+    let bits : places.bits ≡ bits_under w l = ap (λ (p : LayerPlaces). p.bits) c.requires.places in
+    let sent : places.messages ≡ sent_at w l = ap (λ (p : LayerPlaces). p.messages) c.requires.places in
+    let factors_sent : places.factors_sent ≡ factors_sent_at w l = ap (λ (p : LayerPlaces). p.factors_sent) c.requires.places in
+    let layer = c.layer_of-layer.result.now in
+    let il : layer ≡ layer_at o s l = c.layer_of-layer.ensures.layer in
+    let claim = c.claim_form-claim.result in
+    let mid = c.claim_form-claim.new.own in
+    let own = c.set_factors.new.own in
+    let s0 : c.factors_from-factors.result.first ≡ entry o ms (factors_sent_at w l) = c.factors_from-factors.ensures.first ∙ ap (entry o ms) factors_sent in
+    let s1 : c.factors_from-factors.result.second ≡ entry o ms (factors_sent_at w l + 1) = c.factors_from-factors.ensures.second ∙ ap (λ k. entry o ms (k + 1)) factors_sent in
+    let alpha : layer.alpha ≡ (layer_at o s l).alpha = ap (λ x. x.alpha) il in
+    let four : 4 * places.bits ≡ 2 * round_count w l = omega arith in
+    let two : 2 * places.bits ≡ round_count w l = omega arith in
+    layer_is o f.laws.ring f.element w q public s ms l claim c.args.bound own _ c.requires.layer c.requires.bound
+    (record {
+      start = c.requires.form.start ∙ start_is w l c.requires.layer;
+      end = c.requires.form.end ∙ end_is w l c.requires.layer;
+      above = c.requires.form.above;
+      rounds = λ pad x.
+          ap (λ y. through_rounds o f.element (challenge_of o y) (λ k. entry o ms (sent_at w l + k)) pad x (round_count w l)) (sym il)
+          ∙ ap (λ i. through_rounds o f.element (challenge_of o layer) (λ k. entry o ms (i + k)) pad x (round_count w l)) (sym sent)
+          ∙ ap (through_rounds o f.element (challenge_of o layer) (λ k. entry o ms (places.messages + k)) pad x) (sym two)
+          ∙ c.claim_form-claim.ensures.form pad x
+          ∙ ap (λ n. o.plus (o.plus claim.constant (o.times claim.weight x)) (sum_below o n (λ k. o.times (entry o mid (places.pads + k)) (pad k)))) four
+          ∙ ap (λ p. o.plus (o.plus claim.constant (o.times claim.weight x)) (sum_below o (2 * round_count w l) (λ k. o.times (entry o mid (p + k)) (pad k)))) pads
+          ∙ ap (o.plus (o.plus claim.constant (o.times claim.weight x)))
+          (sum-ext o f.laws.ring (2 * round_count w l) (λ k. o.times (entry o mid (pads_at w l + k)) (pad k)) (λ k. o.times (entry o own (pads_at w l + k)) (pad k))
+          (λ k h. ap (λ y. o.times y (pad k)) (sym (c.set_factors.ensures.before (pads_at w l + k) (omega arith)))));
+      d0 = ap (entry o own) (sym factors) ∙ c.set_factors.ensures.d0 ∙ ap (λ x. o.neg (o.times c.args.bound x)) s1;
+      d1 = ap (λ k. entry o own (k + 1)) (sym factors) ∙ c.set_factors.ensures.d1 ∙ ap (λ x. o.neg (o.times c.args.bound x)) s0;
+      e = ap (λ k. entry o own (k + 2)) (sym factors) ∙ c.set_factors.ensures.e;
+      first = c.below_top_of-first.ensures;
+      second = c.mul.ensures ∙ ap (o.times c.below_top_of-first.result) alpha;
+      right = c.neg.ensures ∙ ap o.neg (c.constant_of.ensures
+          ∙ ap (λ x. minus o (o.plus claim.constant (o.times claim.weight (o.plus x (o.times layer.alpha c.args.above.second)))) (o.times c.args.bound (o.times c.factors_from-factors.result.first c.factors_from-factors.result.second))) c.requires.first
+          ∙ ap (λ x. minus o (o.plus claim.constant (o.times claim.weight (o.plus (above_a o w ms l) (o.times layer.alpha x)))) (o.times c.args.bound (o.times c.factors_from-factors.result.first c.factors_from-factors.result.second))) c.requires.second
+          ∙ ap (λ x. minus o (o.plus claim.constant (o.times claim.weight (o.plus (above_a o w ms l) (o.times x (above_b o w ms l))))) (o.times c.args.bound (o.times c.factors_from-factors.result.first c.factors_from-factors.result.second))) alpha
+          ∙ ap (λ x. minus o (o.plus claim.constant (o.times claim.weight (o.plus (above_a o w ms l) (o.times (layer_at o s l).alpha (above_b o w ms l))))) (o.times c.args.bound (o.times x c.factors_from-factors.result.second))) s0
+          ∙ ap (λ x. minus o (o.plus claim.constant (o.times claim.weight (o.plus (above_a o w ms l) (o.times (layer_at o s l).alpha (above_b o w ms l))))) (o.times c.args.bound (o.times (entry o ms (factors_sent_at w l)) x))) s1);
+    })

@@ -1,0 +1,12 @@
+use Rattle.std.proofs.Common.{◌≡◌, ℕ, ◌+◌, ◌<◌, ◌≤◌, length}
+use Rattle.lzk_field.specs.Sums.{entry}
+use Rattle.lzk_accept.proofs.linear.set_privates.Given as goal
+
+abbrev pub invariant-loop-k : goal.invariant-loop-k
+invariant-loop-k g l =
+    let o = g.F.Field.ops in
+    record {
+      length : length l.own ≡ length l.fn.own;
+      entries : (i : ℕ) → i < l.k → entry o l.own i ≡ o.plus (entry o l.first (l.at + i)) (o.times l.gamma (entry o l.second (l.at + i)));
+      after : (i : ℕ) → l.k ≤ i → entry o l.own i ≡ entry o l.fn.own i;
+    }

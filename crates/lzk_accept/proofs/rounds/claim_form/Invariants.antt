@@ -1,0 +1,15 @@
+use Rattle.std.proofs.Common.{◌≡◌, ℕ, ◌+◌, ◌*◌, ◌<◌, ◌≤◌, ◌-◌, length}
+use Rattle.lzk_field.specs.Sums.{entry}
+use Rattle.lzk_accept.specs.Walks.{challenge_of}
+use Rattle.lzk_accept.proofs.RoundForms.{IsBack}
+use Rattle.lzk_accept.proofs.rounds.claim_form.Given as goal
+
+abbrev pub invariant-loop-j : goal.invariant-loop-j
+invariant-loop-j g l =
+    let o = g.F.Field.ops in
+    record {
+      length : length l.own ≡ length l.fn.own;
+      before : (k : ℕ) → k < l.at → entry o l.own k ≡ entry o l.fn.own k;
+      after : (k : ℕ) → l.at + 4 * l.bits ≤ k → entry o l.own k ≡ entry o l.fn.own k;
+      back : IsBack o g.F.Field.laws.ring g.F.Field.element (challenge_of o l.layer) (λ k. entry o l.messages (l.sent + k)) l.own l.at (2 * l.bits) (2 * l.j) (4 * l.bits - 4 * l.j) l.claim.constant l.claim.weight;
+    }

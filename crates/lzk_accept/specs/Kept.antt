@@ -1,0 +1,90 @@
+-- Linear constraints as they are kept: what is not zero of their coefficients, and their right sides.
+use Rattle.std.specs.Prelude.{◌≡◌, ℕ, ◌+◌, ◌-◌, ◌<◌, ◌≤◌, ◌^◌, ◌==◌, ◌&&◌, cond, nat_lt, nat_le, List, ◌∷◌, length, slice_index_or}
+use Rattle.std.proofs.Common.{zero, suc}
+use Rattle.lzk_field.specs.Ring.{Ops}
+use Rattle.lzk_field.specs.Sums.{entry, minus, sum_below}
+use Rattle.lzk_circuit.specs.Bits.{bits}
+use Rattle.lzk_circuit.specs.Valid.{Wiring}
+use Rattle.lzk_layout.specs.Sizes.{committed_count}
+use Rattle.lzk_layout.specs.Places.{depth, width_at, pads_at, factors_at, factors_sent_at}
+use Rattle.lzk_sumcheck.specs.declared.script.Script.{Script}
+use Rattle.lzk_accept.specs.declared.forms.Form.{Form}
+use Rattle.lzk_accept.specs.declared.linear.Factors.{Factors}
+use Rattle.lzk_accept.specs.Residuals.{linear_coefficient, right_side}
+
+-- A form for each constraint. Each entry of the committed list is in one constraint's own range, which has its coefficient there from own. The
+-- tables have so much room.
+pub record LinearForms (A : Type 0) : Type 0 where
+  pub forms : List (Form A)
+  pub own : List A
+  pub room : ℕ
+
+module _ {A : Type 0} (o : Ops A) where
+  -- a form's coefficient at entry j: that from own in its range, and one at each of the two factors of the layer above
+  abbrev pub coefficient_in : List A → Form A → ℕ → A
+  coefficient_in own form j =
+      o.plus (cond (nat_le form.start j && nat_lt j form.end) (entry o own j) o.zero)
+      (o.plus (cond (j == form.above) form.first o.zero) (cond (j == form.above + 1) form.second o.zero))
+
+  -- the form of constraint i
+  abbrev pub form_at : List (Form A) → ℕ → Form A
+  form_at forms i = slice_index_or forms i (record { start = 0; end = 0; above = 0; first = o.zero; second = o.zero; right = o.zero })
+
+  -- the coefficient of constraint i at entry j
+  abbrev pub coefficient : LinearForms A → ℕ → ℕ → A
+  coefficient f i j = coefficient_in f.own (form_at f.forms i) j
+
+  -- the right side of constraint i
+  abbrev pub right : LinearForms A → ℕ → A
+  right f i = (form_at f.forms i).right
+
+-- where the entries of constraint i's own range begin and end: a layer's pads, and behind the layers the private inputs
+abbrev pub own_start : {A : Type 0} → Wiring A → ℕ → ℕ
+own_start c i = cond (nat_lt i (depth c)) (pads_at c i) 0
+
+abbrev pub own_end : {A : Type 0} → Wiring A → ℕ → ℕ
+own_end c i = cond (nat_lt i (depth c)) (pads_at c (i + 1)) c.privates
+
+-- The form has the places of constraint i. The uppermost layer has none above, and its own factors stand in their place.
+pub record IsPlacedAt {A : Type 0} (c : Wiring A) (i : ℕ) (form : Form A) : Type 0 where
+  pub start : form.start ≡ own_start c i
+  pub end : form.end ≡ own_end c i
+  pub above : form.above ≡ factors_at c (i - 1)
+
+-- forms for each layer of the circuit and for its inputs, with tables for the widest layer
+pub record AreFormsOf {A : Type 0} (o : Ops A) (c : Wiring A) (f : LinearForms A) : Type 0 where
+  pub count : length f.forms ≡ depth c + 1
+  pub own : length f.own ≡ committed_count c
+  pub places : (i : ℕ) → i < depth c + 1 → IsPlacedAt c i (form_at o f.forms i)
+  pub room : (l : ℕ) → l < depth c + 1 → 2 ^ bits (width_at c l) ≤ f.room
+
+-- a form is that of linear constraint i
+pub record IsConstraint {A : Type 0} (o : Ops A) (point : ℕ → A) (c : Wiring A) (q : ℕ → ℕ → ℕ → ℕ → A) (public : List A) (s : Script A) (messages : List A) (i : ℕ) (own : List A) (form : Form A) : Type 0 where
+  pub coefficient : (j : ℕ) → j < committed_count c → coefficient_in o own form j ≡ linear_coefficient o point c q public s messages i j
+  pub right : form.right ≡ right_side o point c q public s messages i
+
+module _ {A : Type 0} (o : Ops A) (c : Wiring A) (messages : List A) where
+  -- the first factor that the layer above sends, and zero where there is none
+  abbrev pub above_a : ℕ → A
+  above_a zero = o.zero
+  above_a (suc l) = entry o messages (factors_sent_at c l)
+
+  -- the second one
+  abbrev pub above_b : ℕ → A
+  above_b zero = o.zero
+  above_b (suc l) = entry o messages (factors_sent_at c l + 1)
+
+-- x, and zero at the uppermost layer
+abbrev pub below_top : {A : Type 0} → Ops A → A → ℕ → A
+below_top o x zero = o.zero
+below_top o x (suc l) = x
+
+-- What is written of the inputs' constraint, by the tables of the two points: the private inputs' coefficients are these at their wires, and the
+-- right side has what the public inputs give, less the two claims.
+pub record IsLastForm {A : Type 0} (o : Ops A) (c : Wiring A) (public : List A) (gamma : A) (above : Factors A) (first second own : List A) (form : Form A) : Type 0 where
+  pub privates : (k : ℕ) → k < c.privates → entry o own k ≡ o.plus (entry o first (1 + c.publics + k)) (o.times gamma (entry o second (1 + c.publics + k)))
+  pub left : form.first ≡ o.neg o.one
+  pub other : form.second ≡ o.neg gamma
+  pub right : form.right
+      ≡ o.neg (minus o (minus o (sum_below o (1 + length public) (λ k. o.times (o.plus (entry o first k) (o.times gamma (entry o second k))) (entry o (o.one ∷ public) k))) above.first)
+      (o.times gamma above.second))

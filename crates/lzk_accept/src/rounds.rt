@@ -1,0 +1,87 @@
+//! The claim after a layer's rounds, as a form of the claim before and of the rounds' pads.
+
+ghost use Rattle.std.specs.Prelude.{◌≡◌, ℕ, ◌+◌, ◌*◌, ◌<◌, ◌≤◌, length};
+ghost use Rattle.lzk_field.specs.Sums.{entry, minus, sum_below};
+ghost use Rattle.lzk_sumcheck.specs.Script.{HasBits};
+ghost use Rattle.lzk_accept.specs.Points.{AreInverses};
+ghost use Rattle.lzk_accept.specs.Walks.{through_rounds, challenge_of};
+
+use crate::points::{Shares, ThreePoints};
+use lzk_field::Field;
+use lzk_sumcheck::LayerScript;
+
+/// The claim after rounds, but for what their pads add.
+#[derive(Clone, Copy)]
+pub(crate) struct Claim<F> {
+    /// What it is without the claim before.
+    pub(crate) constant: F,
+    /// What the claim before counts.
+    pub(crate) weight: F,
+}
+
+// One more round before those of a claim: its two sent elements, and its coefficients' place.
+fn round_back<F: Field>(
+    shares: Shares<F>,
+    p0: F,
+    p2: F,
+    own: &mut [F],
+    k: usize,
+    claim: Claim<F>,
+) -> Claim<F>
+    requires { k + 1 < length own.old }
+    ensures length { length own.new ≡ length own.old }
+    ensures first { let o = F.ops in entry o own.new k ≡ o.times claim.weight (minus o shares.first shares.second) }
+    ensures second { let o = F.ops in entry o own.new (k + 1) ≡ o.times claim.weight shares.third }
+    ensures before { (j : ℕ) → j < k → entry F.ops own.new j ≡ entry F.ops own.old j }
+    ensures after { (j : ℕ) → k + 1 < j → entry F.ops own.new j ≡ entry F.ops own.old j }
+    ensures constant { let o = F.ops in result.constant ≡ o.plus claim.constant (o.times claim.weight (o.plus (o.times (minus o shares.first shares.second) p0) (o.times shares.third p2))) }
+    ensures weight { result.weight ≡ F.ops.times claim.weight shares.second }
+{
+    let first = shares.first.sub(shares.second);
+    own[k] = claim.weight.mul(first);
+    own[k + 1] = claim.weight.mul(shares.third);
+    Claim {
+        constant: claim
+            .constant
+            .add(claim.weight.mul(first.mul(p0).add(shares.third.mul(p2)))),
+        weight: claim.weight.mul(shares.second),
+    }
+}
+
+/// The claim after a layer's rounds, as a form of the claim before and of the pads, whose coefficients are written from place `at` on.
+pub(crate) fn claim_form<F: Field>(
+    points: ThreePoints<F>,
+    layer: &LayerScript<F>,
+    bits: usize,
+    messages: &[F],
+    sent: usize,
+    own: &mut [F],
+    at: usize,
+) -> Claim<F>
+    requires points { AreInverses F.ops F.element points }
+    requires bits { HasBits bits layer.now }
+    requires messages { sent + 4 * bits ≤ length messages.now }
+    requires room { at + 4 * bits ≤ length own.old }
+    ensures length { length own.new ≡ length own.old }
+    ensures before { (j : ℕ) → j < at → entry F.ops own.new j ≡ entry F.ops own.old j }
+    ensures after { (j : ℕ) → at + 4 * bits ≤ j → entry F.ops own.new j ≡ entry F.ops own.old j }
+    ensures form { let o = F.ops in (pad : ℕ → F) (x : F) →
+        through_rounds o F.element (challenge_of o layer.now) (λ k. entry o messages.now (sent + k)) pad x (2 * bits)
+        ≡ o.plus (o.plus result.constant (o.times result.weight x)) (sum_below o (4 * bits) (λ k. o.times (entry o own.new (at + k)) (pad k))) }
+{
+    let ra = layer.ra.as_slice();
+    let rb = layer.rb.as_slice();
+    let mut claim = Claim {
+        constant: F::zero(),
+        weight: F::one(),
+    };
+    for j in (0..bits).rev() {
+        let i = sent + 4 * j;
+        let k = at + 4 * j;
+        let b = points.shares(rb[j]);
+        let mid = round_back(b, messages[i + 2], messages[i + 3], own, k + 2, claim);
+        let a = points.shares(ra[j]);
+        claim = round_back(a, messages[i], messages[i + 1], own, k, mid);
+    }
+    claim
+}

@@ -1,0 +1,81 @@
+//! Tables of how the wires of a layer agree with its two points.
+
+ghost use Rattle.std.specs.Prelude.{◌≡◌, ℕ, ◌+◌, ◌^◌, ◌<◌, ◌≤◌, length};
+ghost use Rattle.lzk_field.specs.Sums.{entry};
+ghost use Rattle.lzk_mle.specs.Multilinear.{eq};
+ghost use Rattle.lzk_circuit.specs.Bits.{bits};
+ghost use Rattle.lzk_layout.specs.Places.{depth, width_at};
+ghost use Rattle.lzk_sumcheck.specs.Script.{point_a, point_b, HasShape};
+ghost use Rattle.lzk_sumcheck.specs.Coefficients.{coefficients};
+ghost use Rattle.lzk_accept.specs.Residuals.{bound_at};
+
+use crate::claims::layer_of;
+use crate::forms::power_of;
+use crate::terms::sum_terms;
+use lzk_circuit::Circuit;
+use lzk_field::Field;
+use lzk_mle::eq_table;
+use lzk_sumcheck::Script;
+
+/// Sets the first entries of a table to how their numbers agree with a point.
+pub(crate) fn set_table<F: Field>(r: &[F], table: &mut [F])
+    requires few { length r.now ≤ 17 }
+    requires room { 2 ^ length r.now ≤ length table.old }
+    ensures length { length table.new ≡ length table.old }
+    ensures entries { let o = F.ops in (i : ℕ) → i < 2 ^ length r.now → entry o table.new i ≡ eq o i r.now }
+{
+    let size = power_of(r.len() as u32);
+    let (entries, _) = table.split_at_mut(size);
+    eq_table(r, entries);
+}
+
+// Sets the weight of each wire of a layer.
+fn set_weights<F: Field>(
+    width: usize,
+    alpha: F,
+    first: &[F],
+    second: &[F],
+    weights: &mut [F],
+)
+    requires first { width ≤ length first.now }
+    requires second { width ≤ length second.now }
+    requires room { width ≤ length weights.old }
+    ensures length { length weights.new ≡ length weights.old }
+    ensures entries { let o = F.ops in (g : ℕ) → g < width → entry o weights.new g ≡ o.plus (entry o first.now g) (o.times alpha (entry o second.now g)) }
+{
+    for g in 0..width {
+        weights[g] = first[g].add(alpha.mul(second[g]));
+    }
+}
+
+/// The weighted sum of layer `l`'s coefficients at its challenges. On the way the tables go from the layer's two points to those
+/// of the layer below.
+pub(crate) fn layer_bound<F: Field>(
+    circuit: &Circuit<F>,
+    script: &Script<F>,
+    l: u32,
+    first: &mut [F],
+    second: &mut [F],
+    weights: &mut [F],
+) -> F
+    requires layer { l < depth circuit.now }
+    requires shape { HasShape circuit.now script.now }
+    requires room { (k : ℕ) → k < depth circuit.now + 1 → 2 ^ bits (width_at circuit.now k) ≤ length weights.old }
+    requires first_room { length first.old ≡ length weights.old }
+    requires second_room { length second.old ≡ length weights.old }
+    requires first { let o = F.ops in (g : ℕ) → g < width_at circuit.now l → entry o first.old g ≡ eq o g (point_a o script.now l) }
+    requires second { let o = F.ops in (g : ℕ) → g < width_at circuit.now l → entry o second.old g ≡ eq o g (point_b o script.now l) }
+    ensures weights_length { length weights.new ≡ length weights.old }
+    ensures first_length { length first.new ≡ length first.old }
+    ensures second_length { length second.new ≡ length second.old }
+    ensures first { let o = F.ops in (g : ℕ) → g < width_at circuit.now (l + 1) → entry o first.new g ≡ eq o g (point_a o script.now (l + 1)) }
+    ensures second { let o = F.ops in (g : ℕ) → g < width_at circuit.now (l + 1) → entry o second.new g ≡ eq o g (point_b o script.now (l + 1)) }
+    ensures value { result ≡ bound_at F.ops circuit.now (coefficients F.ops circuit.now script.now) script.now l }
+{
+    let _depth = circuit.depth();
+    let layer = layer_of(circuit, script, l);
+    set_weights(circuit.width(l) as usize, layer.alpha, first, second, weights);
+    set_table(layer.ra.as_slice(), first);
+    set_table(layer.rb.as_slice(), second);
+    sum_terms(circuit.layer(l).terms.as_slice(), weights, first, second)
+}
