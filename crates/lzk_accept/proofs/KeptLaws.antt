@@ -1,14 +1,14 @@
 -- Forms in their places.
-use Rattle.std.specs.Prelude.{◌≡◌, ℕ, ◌+◌, ◌-◌, ◌<◌, ◌≤◌, ◌^◌, nat_lt, cond, true, false, List, [], ◌∷◌, ◌++◌, length, slice_set, slice_index_or, map}
+use Rattle.std.specs.Prelude.{◌≡◌, ℕ, ◌+◌, ◌-◌, ◌<◌, ◌≤◌, cond, List, [], ◌∷◌, ◌++◌, length, slice_set}
 use Rattle.std.proofs.Common.{zero, suc, inl, inr, sym, ap, ◌∙◌, arith, subst, le-ltb}
 use Rattle.std.proofs.lemmas.Bool.{cases_eq, lt-ltb}
-use Rattle.std.proofs.lemmas.List.{length-map, get_or_append_left, get_or-set_same, get_or-set_other}
+use Rattle.std.proofs.lemmas.List.{get_or_append_left, get_or-set_same, get_or-set_other}
 use Rattle.std.proofs.Math.Seq.{get_or-append_seam}
 use native.Mathlib.Decide.{dec_lt}
 use Rattle.lzk_field.specs.Ring.{Ops}
 use Rattle.lzk_circuit.specs.Valid.{Wiring}
 use Rattle.lzk_layout.specs.declared.places.LayerPlaces.{LayerPlaces}
-use Rattle.lzk_layout.specs.Places.{depth, width_at, pads_at, factors_at, places_of}
+use Rattle.lzk_layout.specs.Places.{depth, pads_at, factors_at, places_of}
 use Rattle.lzk_layout.proofs.PlaceLaws.{pads_next}
 use Rattle.lzk_accept.specs.declared.forms.Form.{Form}
 use Rattle.lzk_accept.specs.Kept.{form_at, own_start, own_end, IsPlacedAt}

@@ -49,8 +49,10 @@ module _ {A : Type 0} (o : Ops A) (r : RingLaws o) where
     where
       before : (j : ℕ) → j < start → cond (nat_le start j && nat_lt j end) (f j) o.zero ≡ o.zero
       before j a = let e : nat_le start j ≡ false = grind arith in ap (λ b. cond (b && nat_lt j end) (f j) o.zero) e
+
       outside : (j : ℕ) → end ≤ j → cond (nat_le start j && nat_lt j end) (f j) o.zero ≡ o.zero
       outside j a = let e : (nat_le start j && nat_lt j end) ≡ false = grind arith in ap (λ b. cond b (f j) o.zero) e
+
       inside : (j : ℕ) → start ≤ j → j < end → cond (nat_le start j && nat_lt j end) (f j) o.zero ≡ f j
       inside j a b = let e : (nat_le start j && nat_lt j end) ≡ true = grind arith in ap (λ b. cond b (f j) o.zero) e
 
@@ -169,30 +171,41 @@ module _ {A : Type 0} (o : Ops A) (r : RingLaws o) (point : ℕ → A) (c : Wiri
     where
       s0 : A
       s0 = entry o messages (factors_sent_at c l)
+
       s1 : A
       s1 = entry o messages (factors_sent_at c l + 1)
+
       alpha : A
       alpha = (layer_at o s l).alpha
+
       a0 : A
       a0 = above_a o c messages l
+
       b0 : A
       b0 = above_b o c messages l
+
       K : A
       K = claim.constant
+
       W : A
       W = claim.weight
+
       T : A
       T = below_top o o.one l
+
       constant : A
       constant = minus o (plus K (times W (plus a0 (times alpha b0)))) (times bound (times s0 s1))
+
       m : ℕ
       m = 2 * round_count c l
+
       above_place : form.above + 1 < committed_count c
       above_place =
           elim (dec_lt 0 l) [
             | yes some ↦ omega (arith, f.above, pads_within c (l - 1) (omega arith))
             | no none ↦ let z : l - 1 ≡ l = omega arith in omega (arith, f.above, ap (factors_at c) z, pads_within c l h)
           ]
+
       -- the three entries behind the pads
       tail : (w : List A) → sum_below o (form.end - form.start) (λ k. times (entry o own (form.start + k)) (entry o w (form.start + k)))
           ≡ plus (plus (plus (sum_below o m (λ k. times (entry o own (pads_at c l + k)) (entry o w (pads_at c l + k))))
@@ -213,6 +226,7 @@ module _ {A : Type 0} (o : Ops A) (r : RingLaws o) (point : ℕ → A) (c : Wiri
 
       first_is : form.first ≡ times W T
       first_is = f.first ∙ top_times W l
+
       second_is : form.second ≡ times (times W T) alpha
       second_is = f.second ∙ ap (λ x. times x alpha) first_is
 
@@ -299,22 +313,31 @@ module _ {A : Type 0} (o : Ops A) (r : RingLaws o) (point : ℕ → A) (c : Wiri
     where
       L : ℕ
       L = depth c
+
       a0 : A
       a0 = above_a o c messages L
+
       b0 : A
       b0 = above_b o c messages L
+
       G : A
       G = s.gamma
+
       known : A
       known = sum_below o (1 + length public) (λ k. times (plus (entry o first k) (times G (entry o second k))) (entry o (o.one ∷ public) k))
+
       constant : A
       constant = minus o (minus o known a0) (times G b0)
+
       right_is : form.right ≡ neg constant
       right_is = f.right ∙ ap (λ x. neg (minus o (minus o known x) (times G above.second))) ea ∙ ap (λ x. neg (minus o (minus o known a0) (times G x))) eb
+
       above_place : form.above + 1 < committed_count c
       above_place = omega (arith, stands, pads_within c (L - 1) (omega arith))
+
       T : A
       T = below_top o o.one L
+
       one_is : T ≡ o.one
       one_is = below_one L some
 

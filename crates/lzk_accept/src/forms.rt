@@ -131,10 +131,7 @@ fn empty<F: Field>(start: u32, end: u32, above: u32) -> Form<F>
 }
 
 // A form for each constraint, in its place.
-fn empty_forms<F: Field>(
-    alloc: Global,
-    circuit: &Circuit<F>,
-) -> Result<Vec<Form<F>>, AllocError>
+fn empty_forms<F: Field>(alloc: Global, circuit: &Circuit<F>) -> Result<Vec<Form<F>>, AllocError>
     ensures count { IfOk result (λ forms. length forms.items ≡ depth circuit.now + 1) }
     ensures places { IfOk result (λ forms. (i : ℕ) → i < depth circuit.now + 1 → IsPlacedAt circuit.now i (form_at F.ops forms.items i)) }
 {

@@ -207,10 +207,7 @@ fn last_form<F: Field>(
         above: old.above,
         first: F::one().neg(),
         second: gamma.neg(),
-        right: known
-            .sub(above.first)
-            .sub(gamma.mul(above.second))
-            .neg(),
+        right: known.sub(above.first).sub(gamma.mul(above.second)).neg(),
     }
 }
 
@@ -273,7 +270,9 @@ fn fill_layers<F: Field>(
     for l in 0..depth {
         let bound = layer_bound(circuit, script, l, first, second, weights);
         let old = form_of(forms, l as usize);
-        let form = layer_form(points, circuit, script, messages, l, places, above, bound, old, own);
+        let form = layer_form(
+            points, circuit, script, messages, l, places, above, bound, old, own,
+        );
         set_form(forms, l as usize, form);
         above = factors_from(messages, places.factors_sent as usize);
         places = places.next(circuit, l);
@@ -310,10 +309,21 @@ fn fill_forms<F: Field>(
     ensures placed { (i : ℕ) → i < depth circuit.now + 1 → IsPlacedAt circuit.now i (form_at F.ops forms.new i) }
     ensures constraints { (i : ℕ) → i < depth circuit.now + 1 → IsConstraint F.ops F.element circuit.now (coefficients F.ops circuit.now script.now) public.now script.now messages.now i own.new (form_at F.ops forms.new i) }
 {
-    let above = fill_layers(circuit, script, messages, forms, own, first, second, weights);
+    let above = fill_layers(
+        circuit, script, messages, forms, own, first, second, weights,
+    );
     let depth = circuit.depth() as usize;
     let old = form_of(forms, depth);
-    let last = last_form(circuit, public, script.gamma, above, first, second, old, own);
+    let last = last_form(
+        circuit,
+        public,
+        script.gamma,
+        above,
+        first,
+        second,
+        old,
+        own,
+    );
     set_form(forms, depth, last);
 }
 

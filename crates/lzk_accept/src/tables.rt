@@ -30,13 +30,7 @@ pub(crate) fn set_table<F: Field>(r: &[F], table: &mut [F])
 }
 
 // Sets the weight of each wire of a layer.
-fn set_weights<F: Field>(
-    width: usize,
-    alpha: F,
-    first: &[F],
-    second: &[F],
-    weights: &mut [F],
-)
+fn set_weights<F: Field>(width: usize, alpha: F, first: &[F], second: &[F], weights: &mut [F])
     requires first { width ≤ length first.now }
     requires second { width ≤ length second.now }
     requires room { width ≤ length weights.old }
@@ -74,7 +68,13 @@ pub(crate) fn layer_bound<F: Field>(
 {
     let _depth = circuit.depth();
     let layer = layer_of(circuit, script, l);
-    set_weights(circuit.width(l) as usize, layer.alpha, first, second, weights);
+    set_weights(
+        circuit.width(l) as usize,
+        layer.alpha,
+        first,
+        second,
+        weights,
+    );
     set_table(layer.ra.as_slice(), first);
     set_table(layer.rb.as_slice(), second);
     sum_terms(circuit.layer(l).terms.as_slice(), weights, first, second)

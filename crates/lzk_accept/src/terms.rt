@@ -58,12 +58,7 @@ fn with_term<F: Field>(
 
 /// The sum over the terms of each coefficient times its wires' entries of the three tables. As terms ascend by their wires, this
 /// takes two products a term, and one a wire.
-pub(crate) fn sum_terms<F: Field>(
-    terms: &[Term<F>],
-    weights: &[F],
-    first: &[F],
-    second: &[F],
-) -> F
+pub(crate) fn sum_terms<F: Field>(terms: &[Term<F>], weights: &[F], first: &[F], second: &[F]) -> F
     requires some { 0 < length weights.now }
     requires placed { (i : ℕ) (t : declared.Term F) → slice_get terms.now i ≡ Some t → (t.g < length weights.now) × (t.a < length first.now) × (t.b < length second.now) }
     ensures { result ≡ sum_list F.ops terms.now (counted F.ops weights.now first.now second.now) }
@@ -76,6 +71,5 @@ pub(crate) fn sum_terms<F: Field>(
     for i in 0..terms.len() {
         walk = with_term(walk, terms[i], weights, first, second);
     }
-    walk.total
-        .add(weights[walk.wire as usize].mul(walk.inner))
+    walk.total.add(weights[walk.wire as usize].mul(walk.inner))
 }

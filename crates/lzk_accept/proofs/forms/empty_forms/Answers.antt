@@ -1,8 +1,7 @@
-use Rattle.std.proofs.Common.{◌≡◌, ℕ, ◌+◌, ◌-◌, ◌<◌, ◌≤◌, length, List, [], ◌∷◌, ◌++◌, sym, ap, ◌∙◌, arith, subst}
+use Rattle.std.proofs.Common.{◌≡◌, ◌+◌, ◌-◌, ◌<◌, length, [], ◌∷◌, sym, ap, ◌∙◌, arith, subst}
 use Rattle.std.proofs.lemmas.List.{length-append}
 use Rattle.lzk_layout.specs.Places.{depth, factors_at}
 use Rattle.lzk_layout.proofs.PlaceLaws.{few_pads_before}
-use Rattle.lzk_accept.specs.declared.forms.Form.{Form}
 use Rattle.lzk_accept.specs.Kept.{form_at, IsPlacedAt}
 use Rattle.lzk_accept.proofs.KeptLaws.{layer_placed, last_placed, placed_more}
 use Rattle.lzk_accept.proofs.forms.empty_forms.Goals as goal
@@ -26,8 +25,8 @@ loop-l-preserved g c =
       above = ap (λ p. p.factors) old.places ∙ ap (factors_at w) now;
       count = ap length c.in_ok-push.ensures.items ∙ length-append c.loop-l.forms.items (form ∷ []) ∙ ap (λ n. n + 1) old.count;
       placed = λ i k. subst (λ xs. IsPlacedAt w i (form_at o xs i)) (sym c.in_ok-push.ensures.items)
-        (placed_more w o l c.loop-l.forms.items form old.count
-        (layer_placed w l c.loop-l.places form h old.places (ap (λ f. f.start) c.empty.ensures) (ap (λ f. f.end) c.empty.ensures) (ap (λ f. f.above) c.empty.ensures ∙ old.above)) old.placed i k);
+          (placed_more w o l c.loop-l.forms.items form old.count
+          (layer_placed w l c.loop-l.places form h old.places (ap (λ f. f.start) c.empty.ensures) (ap (λ f. f.end) c.empty.ensures) (ap (λ f. f.above) c.empty.ensures ∙ old.above)) old.placed i k);
     }
 
 pub returns-clause-places : goal.returns-clause-places

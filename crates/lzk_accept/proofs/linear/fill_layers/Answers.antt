@@ -85,9 +85,9 @@ loop-l-preserved g c =
       second = c.layer_bound-bound.ensures.second;
       placed = λ i k. subst (λ fs. IsPlacedAt w i (form_at o fs i)) (sym c.set_form.ensures) (placed_set w o l forms form inside c.layer_form-form.ensures.placed i (inv.placed i k));
       constraints = λ public i k. subst (λ fs. IsConstraint o f.element w q public s ms i own (form_at o fs i)) (sym c.set_form.ensures)
-        (constraints_more o f.laws.ring f.element w q public s ms l c.loop-l.own own forms form inside (omega arith) (λ i m. inv.placed i (omega arith))
-        (λ i m j a b. c.layer_form-form.ensures.before j (omega (arith, end_before w i l m (omega arith))))
-        (c.layer_form-form.ensures.constraint public) (inv.constraints public) i k);
+          (constraints_more o f.laws.ring f.element w q public s ms l c.loop-l.own own forms form inside (omega arith) (λ i m. inv.placed i (omega arith))
+          (λ i m j a b. c.layer_form-form.ensures.before j (omega (arith, end_before w i l m (omega arith))))
+          (c.layer_form-form.ensures.constraint public) (inv.constraints public) i k);
     }
 
 pub returns-clause-first : goal.returns-clause-first

@@ -17,7 +17,7 @@ returns-clause-made g c =
     let eo = with_items_is inside.own c.fill_forms.new.own no in
     let ew = with_items_is inside.weights c.fill_forms.new.weights nw in
     let room : length (with_items inside.weights c.fill_forms.new.weights).items ≡ c.args.forms.now.room =
-        ap length ew ∙ e.weights_length ∙ ap length c.deref_mut-5.ensures.value ∙ ap (λ (x : LinearForms g.row.F.Denot). x.room) c.forms.view_is in
+    ap length ew ∙ e.weights_length ∙ ap length c.deref_mut-5.ensures.value ∙ ap (λ (x : LinearForms g.row.F.Denot). x.room) c.forms.view_is in
     record {
       count = ap length ef ∙ e.forms_length ∙ ap length c.deref_mut.ensures.value ∙ ap (λ (x : LinearForms g.row.F.Denot). length x.forms) c.forms.view_is ∙ c.requires.made.count;
       own = ap length eo ∙ e.own_length ∙ ap length c.deref_mut-2.ensures.value ∙ ap (λ (x : LinearForms g.row.F.Denot). length x.own) c.forms.view_is ∙ c.requires.made.own;

@@ -40,23 +40,29 @@ loop-j-preserved g c =
     let eb = c.round_back-mid.ensures in
     let ea = c.round_back-claim.ensures in
     let first : IsStep o f.laws.ring f.element sb (entry o ms (start + 4 * i + 2)) (entry o ms (start + 4 * i + 2 + 1)) old (at + 4 * i + 2) before mid between =
-        record {
-          first = eb.first; second = eb.second; rest = eb.after; weight = eb.weight;
-          constant = eb.constant ∙ ap (λ x. o.plus before.constant (o.times before.weight (o.plus (o.times (minus o sb.first sb.second) x) (o.times sb.third c.index-messages-i-in-loop-j.result)))) m2
-            ∙ ap (λ x. o.plus before.constant (o.times before.weight (o.plus (o.times (minus o sb.first sb.second) (entry o ms (start + 4 * i + 2))) (o.times sb.third x)))) m3;
-        } in
+    record {
+      first = eb.first;
+      second = eb.second;
+      rest = eb.after;
+      weight = eb.weight;
+      constant = eb.constant ∙ ap (λ x. o.plus before.constant (o.times before.weight (o.plus (o.times (minus o sb.first sb.second) x) (o.times sb.third c.index-messages-i-in-loop-j.result)))) m2
+          ∙ ap (λ x. o.plus before.constant (o.times before.weight (o.plus (o.times (minus o sb.first sb.second) (entry o ms (start + 4 * i + 2))) (o.times sb.third x)))) m3;
+    } in
     let second : IsStep o f.laws.ring f.element sa (entry o ms (start + 4 * i)) (entry o ms (start + 4 * i + 1)) mid (at + 4 * i) between new after =
-        record {
-          first = ea.first; second = ea.second; rest = ea.after; weight = ea.weight;
-          constant = ea.constant ∙ ap (λ x. o.plus between.constant (o.times between.weight (o.plus (o.times (minus o sa.first sa.second) x) (o.times sa.third c.index-messages-i-in-loop-j-3.result)))) m0
-            ∙ ap (λ x. o.plus between.constant (o.times between.weight (o.plus (o.times (minus o sa.first sa.second) (entry o ms (start + 4 * i))) (o.times sa.third x)))) m1;
-        } in
+    record {
+      first = ea.first;
+      second = ea.second;
+      rest = ea.after;
+      weight = ea.weight;
+      constant = ea.constant ∙ ap (λ x. o.plus between.constant (o.times between.weight (o.plus (o.times (minus o sa.first sa.second) x) (o.times sa.third c.index-messages-i-in-loop-j-3.result)))) m0
+          ∙ ap (λ x. o.plus between.constant (o.times between.weight (o.plus (o.times (minus o sa.first sa.second) (entry o ms (start + 4 * i))) (o.times sa.third x)))) m1;
+    } in
     record {
       length = ea.length ∙ eb.length ∙ inv.length;
       before = λ k h. ea.before k (omega arith) ∙ eb.before k (omega arith) ∙ inv.before k h;
       after = λ k h. ea.after k (omega arith) ∙ eb.after k (omega arith) ∙ inv.after k h;
       back = back_bit o f.laws.ring f.element layer ms start at (2 * c.args.bits) old mid new i j (4 * c.args.bits - 4 * j) (4 * c.args.bits - 4 * i) sa sb before between after again (omega arith)
-        (subst (λ t. AreShares o f.element t sb) tb c.shares-b.ensures) (subst (λ t. AreShares o f.element t sa) ta c.shares-a.ensures) inv.back first second;
+          (subst (λ t. AreShares o f.element t sb) tb c.shares-b.ensures) (subst (λ t. AreShares o f.element t sa) ta c.shares-a.ensures) inv.back first second;
     }
 
 pub returns-clause-form : goal.returns-clause-form

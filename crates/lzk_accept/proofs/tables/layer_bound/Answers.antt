@@ -67,7 +67,7 @@ sum_terms-requires-clause-placed g c κs within = λ i t is.
     let l = c.args.l in
     let layer = c.layer.result.now in
     let below = distinct_within o (width_at w l) (width_at w (l + 1)) layer.terms (layer_distinct o g.F.Field.laws.ring w l layer c.depth-depth.ensures.valid c.layer.ensures) i t
-        (ap (λ ts. slice_get ts i) (sym c.as_slice-3.ensures) ∙ is) in
+    (ap (λ ts. slice_get ts i) (sym c.as_slice-3.ensures) ∙ is) in
     let here : width_at w l ≤ length c.set_weights.new.weights = omega (arith, c.set_weights.ensures.length, bits_enough (width_at w l), c.requires.room l (omega (arith, c.requires.layer))) in
     let one : width_at w (l + 1) ≤ length c.set_table.new.table = omega (arith, c.set_table.ensures.length, bits_enough (width_at w (l + 1)), c.requires.room (l + 1) (omega (arith, c.requires.layer)), c.requires.first_room) in
     let two : width_at w (l + 1) ≤ length c.set_table-2.new.table = omega (arith, c.set_table-2.ensures.length, bits_enough (width_at w (l + 1)), c.requires.room (l + 1) (omega (arith, c.requires.layer)), c.requires.second_room) in

@@ -34,5 +34,5 @@ loop-i-preserved g c =
     record {
       wire = subst (λ n. n < length c.args.weights.now) (sym e) placed.0;
       sum = walk_more o g.F.Field.laws.ring c.args.weights.now c.args.first.now c.args.second.now ts c.loop-i.walk c.with_term-walk.result c.loop-i.i t
-        (sum_list o ts (counted o c.args.weights.now c.args.first.now c.args.second.now)) c.loop-i-test.true c.index-terms-i.is c.with_term-walk.ensures.sum c.loop-i.invariant.sum;
+          (sum_list o ts (counted o c.args.weights.now c.args.first.now c.args.second.now)) c.loop-i-test.true c.index-terms-i.is c.with_term-walk.ensures.sum c.loop-i.invariant.sum;
     }

@@ -1,8 +1,7 @@
-use Rattle.std.proofs.Common.{◌≡◌, ℕ, ◌+◌, ◌<◌, ◌≤◌, ◌^◌, length, sym, ap, ◌∙◌, arith}
+use Rattle.std.proofs.Common.{◌≡◌, ◌^◌, length, sym, ap, ◌∙◌, arith}
 use Rattle.std.proofs.lemmas.List.{length-replicate}
 use Rattle.std.proofs.Math.Pow.{pow_mono}
 use Rattle.lzk_circuit.specs.Bits.{bits}
-use Rattle.lzk_layout.specs.Sizes.{committed_count}
 use Rattle.lzk_layout.specs.Places.{width_at}
 use Rattle.lzk_accept.proofs.forms.Forms.new.Goals as goal
 
