@@ -2,9 +2,11 @@
 //!
 //! The expected values were computed in Python from the definitions.
 
-ghost use Rattle.lzk_layout.specs.Sizes.{AreParams};
+ghost use Rattle.std.specs.Prelude.{◌≡◌, ◌<◌, ◌+◌, length};
+ghost use Rattle.lzk_layout.specs.Sizes.{AreParams, committed_count};
+ghost use Rattle.lzk_accept.specs.Kept.{AreFormsOf};
 
-use lzk_accept::{Challenges, draw_challenges, next_claim, residual};
+use lzk_accept::{Challenges, Forms, draw_challenges, linear_forms, next_claim, residual};
 use lzk_circuit::{Circuit, Layer, Term, Terms};
 use lzk_field::Field;
 use lzk_gf128::Gf128;
@@ -75,6 +77,7 @@ fn multiples<F: Field>(
 #[derive(Drop)]
 struct Behind<F> {
     residuals: Vec<F>,
+    forms_agree: bool,
     challenges: Vec<F>,
 }
 
@@ -105,10 +108,40 @@ fn found<F: Field>(shape: Shape<'_>, alloc: Global) -> Result<Option<Behind<F>>,
         }
         residuals.push(residual(&circuit, &public, &script, &messages, i, &w, &mut room))?;
     }
+    let mut forms = Forms::new(alloc, &circuit)?;
+    linear_forms(&circuit, &public, &script, &messages, &mut forms);
     Ok(Some(Behind {
+        forms_agree: do_agree(&circuit, &forms, &w, &residuals),
         residuals,
         challenges: challenges_behind(&params, &mut tape, alloc)?,
     }))
+}
+
+// A form at a list, less its right side.
+fn form_at<F: Field>(circuit: &Circuit<F>, forms: &Forms<F>, w: &[F], i: u32) -> F
+    requires made { AreFormsOf F.ops circuit.now forms.now }
+    requires w { length w.now ≡ committed_count circuit.now }
+    requires constraint { i < length circuit.now.layers + 1 }
+{
+    let mut sum = forms.right(i).neg();
+    for j in 0..Params::of(circuit).nw {
+        sum = sum.add(forms.coefficient(i, j).mul(w[j as usize]));
+    }
+    sum
+}
+
+// Whether each residual is its form at the list, less the right side.
+fn do_agree<F: Field>(circuit: &Circuit<F>, forms: &Forms<F>, w: &[F], residuals: &[F]) -> bool
+    requires made { AreFormsOf F.ops circuit.now forms.now }
+    requires w { length w.now ≡ committed_count circuit.now }
+{
+    for i in 0..circuit.depth() + 1 {
+        match residuals.get(i as usize) {
+            Some(left) if *left == form_at(circuit, forms, w, i) => {}
+            _ => return false,
+        }
+    }
+    true
 }
 
 // Adds a list's first and last element.
