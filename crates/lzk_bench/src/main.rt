@@ -6,6 +6,7 @@ mod circuits;
 mod elements;
 mod proofs;
 mod rows;
+mod scripts;
 mod tables;
 mod texts;
 mod trees;
@@ -51,7 +52,7 @@ fn done<R: Files + AllocGlobal>(rt: &R, work: &str, times: u32) -> anyhow::Resul
         "tree" => trees::trees(alloc, times)?,
         "proof-read" => proofs::read::<Gold>(alloc, times)?,
         "proof-write" => proofs::write::<Gold>(alloc, times)?,
-        "proof-files" => proofs::written_as_read(rt)?,
+        "proof-files" => proofs::written_as_read(rt)?.wrapping_add(scripts::drawn_as_given(rt)?),
         "numbers" => texts::read(alloc, times)?,
         "source" => texts::parsed(alloc, times)?,
         "compile" => texts::compiled(alloc, times)?,

@@ -79,7 +79,9 @@ fn names_are_not_empty(rt: HostRuntime) -> Result<(), Fail> {
     let alloc = rt.alloc();
     for place in 1..4 {
         let mut list = words_of(alloc, "eval c y x")?;
-        list[place] = "".to_string(alloc)?;
+        if place < list.len() {
+            list[place] = String::new(alloc);
+        }
         assert!(rt; request_of(&list).is_none(), "at {place}");
     }
     Ok(())
