@@ -1,6 +1,6 @@
 //! What is drawn behind the sumchecks' draws.
 
-ghost use Rattle.std.specs.Prelude.{◌≡◌, replicate, IfOk};
+ghost use Rattle.std.specs.Prelude.{◌≡◌, IfOk};
 ghost use Rattle.lzk_field.specs.Coding.{coding};
 ghost use Rattle.lzk_transcript.specs.Columns.{after_draws};
 ghost use Rattle.lzk_layout.specs.Sizes.{AreParams};
@@ -25,14 +25,6 @@ pub struct Challenges<F> {
     pub v: Elements<F>,
 }
 
-fn zeros<F: Field>(alloc: Global, count: u32) -> Result<Elements<F>, AllocError>
-    ensures { IfOk result (λ list. list ≡ replicate count F.ops.zero) }
-{
-    let mut list = Vec::new(alloc);
-    list.resize(count as usize, F::zero())?;
-    Ok(Elements::new(list))
-}
-
 impl<F: Field> Challenges<F> {
     /// Zeros, as many as these parameters say.
     pub fn new(alloc: Global, params: &Params) -> Result<Challenges<F>, AllocError>
@@ -41,10 +33,10 @@ impl<F: Field> Challenges<F> {
         ensures shape { IfOk result (λ challenges. HasShape params.now challenges) }
     {
         Ok(Challenges {
-            u: zeros(alloc, params.nrow - 3)?,
-            lambda: zeros(alloc, params.layers + 1)?,
-            mu: zeros(alloc, 3 * params.layers)?,
-            v: zeros(alloc, params.ntriple)?,
+            u: Elements::zeros(alloc, params.nrow as usize - 3)?,
+            lambda: Elements::zeros(alloc, params.layers as usize + 1)?,
+            mu: Elements::zeros(alloc, 3 * params.layers as usize)?,
+            v: Elements::zeros(alloc, params.ntriple as usize)?,
         })
     }
 }

@@ -1,11 +1,11 @@
 //! Linear constraints on the committed list, by what is not zero of their coefficients.
 
-ghost use Rattle.std.specs.Prelude.{◌≡◌, ℕ, ◌+◌, ◌<◌, ◌≤◌, ◌^◌, ◌==◌, cond, length, replicate, IfOk};
+ghost use Rattle.std.specs.Prelude.{◌≡◌, ℕ, ◌+◌, ◌<◌, ◌≤◌, ◌^◌, ◌==◌, cond, length, IfOk};
 ghost use Rattle.lzk_circuit.specs.Bits.{bits};
 ghost use Rattle.lzk_layout.specs.Places.{depth, width_at};
 ghost use Rattle.lzk_accept.specs.Kept.{form_at, coefficient, right, IsPlacedAt, AreFormsOf};
 
-use lzk_circuit::{Circuit, bits_of};
+use lzk_circuit::{Circuit, bits_of, zeros};
 use lzk_field::Field;
 use lzk_layout::{LayerPlaces, Params};
 use std::alloc::{AllocError, Global};
@@ -68,15 +68,6 @@ impl<F: Field> Form<F> {
         };
         first.add(second)
     }
-}
-
-// So many zeros.
-fn zeros<F: Field>(alloc: Global, count: usize) -> Result<Vec<F>, AllocError>
-    ensures { IfOk result (λ list. list.items ≡ replicate count F.ops.zero) }
-{
-    let mut list = Vec::new(alloc);
-    list.resize(count, F::zero())?;
-    Ok(list)
 }
 
 // How many bits number the wires of layer `l`.

@@ -10,24 +10,10 @@ ghost use Rattle.lzk_sumcheck.specs.Script.{point_a, point_b, HasShape};
 ghost use Rattle.lzk_accept.specs.Residuals.{inputs_at};
 
 use crate::claims::{first_point, second_point};
-use lzk_circuit::Circuit;
+use lzk_circuit::{Circuit, set_inputs};
 use lzk_field::Field;
 use lzk_mle::tilde;
 use lzk_sumcheck::Script;
-
-// Sets the input layer: the one, the public inputs and the private ones.
-fn set_inputs<F: Field>(public: &[F], private: &[F], inputs: &mut [F])
-    requires { length inputs.old ≡ 1 + length public.now + length private.now }
-    ensures { inputs.new ≡ wires.inputs_of F.ops public.now private.now }
-{
-    let Some((first, rest)) = inputs.split_first_mut() else {
-        return;
-    };
-    *first = F::one();
-    let (left, right) = rest.split_at_mut(public.len());
-    left.copy_from_slice(public);
-    right.copy_from_slice(private);
-}
 
 // The extension of values, in room that may be longer than it has to be.
 fn extension_of<F: Field>(values: &[F], r: &[F], room: &mut [F]) -> F

@@ -52,8 +52,8 @@ fn eval_list<F: Field>(layer: &Layer<F>, below: &Vec<F>, out: &mut Vec<F>)
     eval_layer(layer.terms.as_slice(), below, out);
 }
 
-// Sets the input layer.
-fn set_inputs<F: Field>(public: &[F], private: &[F], inputs: &mut [F])
+/// Sets the input layer: the one, the public inputs and the private ones.
+pub fn set_inputs<F: Field>(public: &[F], private: &[F], inputs: &mut [F])
     requires { length inputs.old ≡ 1 + length public.now + length private.now }
     ensures { inputs.new ≡ inputs_of F.ops public.now private.now }
 {

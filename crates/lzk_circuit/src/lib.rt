@@ -23,6 +23,7 @@ mod values;
 
 pub use bits::bits_of;
 pub use circuit::Circuit;
+pub use eval::set_inputs;
 pub use fault::{CircuitFault, CircuitKind};
 pub use layer::{Layer, Term, Terms};
-pub use values::Values;
+pub use values::{Values, zeros};

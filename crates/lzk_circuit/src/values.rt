@@ -39,7 +39,7 @@ impl<F: Field> Values<F> {
         let count = circuit.depth() + 1;
         let mut lists = Vec::with_capacity(alloc, count as usize)?;
         for l in 0..count {
-            lists.push(zeros(alloc, circuit.width(l))?)?;
+            lists.push(zeros(alloc, circuit.width(l) as usize)?)?;
         }
         Ok(Values { lists })
     }
@@ -69,12 +69,12 @@ impl<F: Field> Values<F> {
     }
 }
 
-// So many zeros.
-fn zeros<F: Field>(alloc: Global, count: u32) -> Result<Vec<F>, AllocError>
+/// So many zeros. `Err` where there is no memory for them.
+pub fn zeros<F: Field>(alloc: Global, count: usize) -> Result<Vec<F>, AllocError>
     ensures { IfOk result (λ list. list.items ≡ replicate count F.ops.zero) }
 {
     let mut list = Vec::new(alloc);
-    list.resize(count as usize, F::zero())?;
+    list.resize(count, F::zero())?;
     Ok(list)
 }
 

@@ -4,6 +4,8 @@ ghost use Rattle.std.specs.Prelude.{◌≡◌, ◌<◌, ◌≤◌, ◌++◌, [],
 ghost use Rattle.std.specs.Borrow.{sem};
 ghost use Rattle.lzk_layout.specs.Lending.{lends_elements, lends_blocks, lends_path};
 
+use lzk_circuit::zeros;
+use lzk_field::Field;
 use std::alloc::{AllocError, Global};
 use std::marker::Model;
 
@@ -19,6 +21,17 @@ impl<F> Model for Elements<F> {
     ghost Value = { List F };
 
     ghost view = { λ e. e.list.items };
+}
+
+impl<F: Field> Elements<F> {
+    /// So many zeros. `Err` where there is no memory for them.
+    pub fn zeros(alloc: Global, count: usize) -> Result<Elements<F>, AllocError>
+        ensures { IfOk result (λ list. list ≡ replicate count F.ops.zero) }
+    {
+        Ok(Elements {
+            list: zeros(alloc, count)?,
+        })
+    }
 }
 
 impl<F> Elements<F> {

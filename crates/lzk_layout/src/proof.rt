@@ -40,14 +40,6 @@ pub struct Proof<F> {
     pub path: Path,
 }
 
-fn zeros<F: Field>(alloc: Global, count: usize) -> Result<Elements<F>, AllocError>
-    ensures { IfOk result (λ list. list ≡ replicate count F.ops.zero) }
-{
-    let mut list = Vec::new(alloc);
-    list.resize(count, F::zero())?;
-    Ok(Elements { list })
-}
-
 fn zero_blocks(alloc: Global, count: usize) -> Result<Blocks, AllocError>
     ensures { IfOk result (λ list. list ≡ replicate count zero_digest) }
 {
@@ -66,13 +58,13 @@ impl<F: Field> Proof<F> {
         Ok(Proof {
             id: [0; 32],
             root: [0; 32],
-            messages: zeros(alloc, params.nsum as usize)?,
-            ldt: zeros(alloc, params.block as usize)?,
-            dot: zeros(alloc, params.dblock as usize)?,
-            quad_head: zeros(alloc, OPENED)?,
-            quad_tail: zeros(alloc, (params.dblock - params.block) as usize)?,
+            messages: Elements::zeros(alloc, params.nsum as usize)?,
+            ldt: Elements::zeros(alloc, params.block as usize)?,
+            dot: Elements::zeros(alloc, params.dblock as usize)?,
+            quad_head: Elements::zeros(alloc, OPENED)?,
+            quad_tail: Elements::zeros(alloc, (params.dblock - params.block) as usize)?,
             nonces: zero_blocks(alloc, OPENED)?,
-            columns: zeros(alloc, OPENED * params.nrow as usize)?,
+            columns: Elements::zeros(alloc, OPENED * params.nrow as usize)?,
             path: Path::with_room(alloc, MOST_DIGESTS)?,
         })
     }

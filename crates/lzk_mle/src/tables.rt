@@ -6,15 +6,6 @@ ghost use Rattle.lzk_mle.specs.Multilinear.{eq};
 
 use lzk_field::Field;
 
-// The entry's parts for a further bit of zero and of one, with one product.
-fn split<F: Field>(entry: F, x: F) -> (F, F)
-    ensures zero { let o = F.ops in result.0 ≡ o.times (minus o o.one x) entry }
-    ensures one { result.1 ≡ F.ops.times x entry }
-{
-    let one = x.mul(entry);
-    (entry.sub(one), one)
-}
-
 // Puts at 2i and 2i + 1 what stands at i, times 1 - x and times x, for each i below size.
 fn spread<F: Field>(table: &mut [F], size: usize, x: F)
     requires { 2 * size ≤ length table.old }
@@ -23,8 +14,9 @@ fn spread<F: Field>(table: &mut [F], size: usize, x: F)
     ensures odd { let o = F.ops in (i : ℕ) → i < size → entry o table.new (2 * i + 1) ≡ o.times x (entry o table.old i) }
 {
     for i in (0..size).rev() {
-        let (zero, one) = split(table[i], x);
-        table[2 * i] = zero;
+        let entry = table[i];
+        let one = x.mul(entry);
+        table[2 * i] = entry.sub(one);
         table[2 * i + 1] = one;
     }
 }

@@ -1,6 +1,6 @@
 //! What the sumchecks draw.
 
-ghost use Rattle.std.specs.Prelude.{◌≡◌, ◌≤◌, replicate, IfOk};
+ghost use Rattle.std.specs.Prelude.{◌≡◌, ◌≤◌, IfOk};
 ghost use Rattle.lzk_layout.specs.Places.{output_bits, bits_under};
 ghost use Rattle.lzk_sumcheck.specs.Script.{zero_layer, zero_script, HasShape};
 
@@ -70,21 +70,13 @@ pub struct Script<F> {
     pub gamma: F,
 }
 
-fn zeros<F: Field>(alloc: Global, count: u32) -> Result<Elements<F>, AllocError>
-    ensures { IfOk result (λ list. list ≡ replicate count F.ops.zero) }
-{
-    let mut list = Vec::new(alloc);
-    list.resize(count as usize, F::zero())?;
-    Ok(Elements::new(list))
-}
-
 fn layer_of_zeros<F: Field>(alloc: Global, bits: u32) -> Result<LayerScript<F>, AllocError>
     ensures { IfOk result (λ layer. layer ≡ zero_layer F.ops bits) }
 {
     Ok(LayerScript {
         alpha: F::zero(),
-        ra: zeros(alloc, bits)?,
-        rb: zeros(alloc, bits)?,
+        ra: Elements::zeros(alloc, bits as usize)?,
+        rb: Elements::zeros(alloc, bits as usize)?,
     })
 }
 
@@ -119,7 +111,7 @@ impl<F: Field> Script<F> {
         ensures shape { IfOk result (λ script. HasShape circuit.now script) }
     {
         Ok(Script {
-            out_point: zeros(alloc, output_bits_of(circuit))?,
+            out_point: Elements::zeros(alloc, output_bits_of(circuit) as usize)?,
             layers: layers_of_zeros(alloc, circuit)?,
             gamma: F::zero(),
         })

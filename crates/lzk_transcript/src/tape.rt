@@ -46,9 +46,9 @@ impl Model for Tape {
 
     ghost Value = { TapeState };
 
-    ghost view = { λ t. record { seed = t.cipher; pending = t.pending.items; counter = t.counter } };
+    ghost view = { λ t. record { seed = t.cipher; pending = t.pending; counter = t.counter } };
 
-    ghost invariant = { λ t. Holds256 t.hasher (t.cipher ++ t.pending.items) × (t.is_pending ≡ not (nat_eq (length t.pending.items) 0)) };
+    ghost invariant = { λ t. Holds256 t.hasher (t.cipher ++ t.pending) × (t.is_pending ≡ not (nat_eq (length t.pending) 0)) };
 }
 
 impl Tape {

@@ -1,33 +1,38 @@
 //! A list of bytes that only proofs read. It takes no memory, and its methods do nothing at run time.
 
-ghost use Rattle.std.specs.Prelude.{◌≡◌, ℕ, List, [], ◌∷◌, ◌++◌};
-ghost use Rattle.std.specs.Borrow.{ftrue};
+ghost use Rattle.std.specs.Prelude.{◌≡◌, [], ◌++◌};
 
-use std::marker::{Model, PhantomData};
+use http_server::Log;
+use std::marker::Model;
 
-/// The bytes that a hash has taken, which clauses read as `items`.
+/// The bytes that a hash has taken.
 #[derive(Drop)]
-pub struct Written {
-    marker: PhantomData<u8>,
-    pub ghost items: { List ℕ },
+pub(crate) struct Written {
+    log: Log<u8, ()>,
 }
 
 impl Model for Written {
-    ghost also_owns = { λ _. ftrue };
+    ghost use Rattle.std.specs.Prelude.{List, ℕ, map};
+
+    ghost Value = { List ℕ };
+
+    ghost view = { λ w. map (λ entry. entry.0) w.log.items };
 }
 
 impl Written {
     /// No bytes.
     pub(crate) fn new() -> Written
-        ensures { result.items ≡ [] }
+        ensures { result ≡ [] }
     {
-        Written {
-            marker: PhantomData,
-        }
+        Written { log: Log::new() }
     }
 
     /// Adds these bytes.
-    pub(crate) fn append(&mut self, _bytes: &[u8])
-        ensures { self.new.items ≡ self.old.items ++ _bytes.now }
-    {}
+    pub(crate) fn append(&mut self, bytes: &[u8])
+        ensures { self.new ≡ self.old ++ bytes.now }
+    {
+        for byte in bytes {
+            self.log = self.log.and(byte, &());
+        }
+    }
 }
