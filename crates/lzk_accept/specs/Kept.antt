@@ -1,11 +1,12 @@
 -- Linear constraints as they are kept: what is not zero of their coefficients, and their right sides.
-use Rattle.std.specs.Prelude.{◌≡◌, ℕ, ◌+◌, ◌-◌, ◌<◌, ◌≤◌, ◌^◌, ◌==◌, ◌&&◌, cond, nat_lt, nat_le, List, ◌∷◌, length, slice_index_or}
+use Rattle.std.specs.Prelude.{◌≡◌, ℕ, ◌+◌, ◌-◌, ◌/◌, ◌%◌, ◌<◌, ◌≤◌, ◌^◌, ◌==◌, ◌&&◌, cond, nat_lt, nat_le, List, ◌∷◌, length, slice_index_or}
 use Rattle.std.proofs.Common.{zero, suc}
 use Rattle.lzk_field.specs.Ring.{Ops}
 use Rattle.lzk_field.specs.Sums.{entry, minus, sum_below}
 use Rattle.lzk_circuit.specs.Bits.{bits}
 use Rattle.lzk_circuit.specs.Valid.{Wiring}
-use Rattle.lzk_layout.specs.Sizes.{committed_count}
+use Rattle.lzk_layout.specs.declared.params.Params.{Params}
+use Rattle.lzk_layout.specs.Sizes.{committed_count, params_of}
 use Rattle.lzk_layout.specs.Places.{depth, width_at, pads_at, factors_at, factors_sent_at}
 use Rattle.lzk_sumcheck.specs.declared.script.Script.{Script}
 use Rattle.lzk_accept.specs.declared.forms.Form.{Form}
@@ -57,6 +58,22 @@ pub record AreFormsOf {A : Type 0} (o : Ops A) (c : Wiring A) (f : LinearForms A
   pub own : length f.own ≡ committed_count c
   pub places : (i : ℕ) → i < depth c + 1 → IsPlacedAt c i (form_at o f.forms i)
   pub room : (l : ℕ) → l < depth c + 1 → 2 ^ bits (width_at c l) ≤ f.room
+
+-- forms of some circuit that has these parameters
+pub record AreFormsFor {A : Type 0} (o : Ops A) (p : Params) (f : LinearForms A) : Type 0 where
+  pub circuit : Wiring A
+  pub params : p ≡ params_of circuit
+  pub forms : AreFormsOf o circuit f
+
+-- the form's entries are among the first n
+pub record IsWithin {A : Type 0} (n : ℕ) (form : Form A) : Type 0 where
+  pub start : form.start ≤ form.end
+  pub end : form.end ≤ n
+  pub above : form.above + 1 < n
+
+-- where value m of the quadratic constraints stands: a layer's own range ends with its factors' pads and their product
+abbrev pub source_in : {A : Type 0} → Ops A → List (Form A) → ℕ → ℕ
+source_in o forms m = (form_at o forms (m / 3)).end - 3 + m % 3
 
 -- a form is that of linear constraint i
 pub record IsConstraint {A : Type 0} (o : Ops A) (point : ℕ → A) (c : Wiring A) (q : ℕ → ℕ → ℕ → ℕ → A) (public : List A) (s : Script A) (messages : List A) (i : ℕ) (own : List A) (form : Form A) : Type 0 where

@@ -9,6 +9,7 @@
 mod bound;
 mod challenges;
 mod claims;
+mod combination;
 mod forms;
 mod inputs;
 mod linear;
@@ -19,6 +20,7 @@ mod tables;
 mod terms;
 
 pub use challenges::{Challenges, draw_challenges};
+pub use combination::combine;
 pub use forms::{Form, Forms};
 pub use linear::linear_forms;
 pub use points::next_claim;
