@@ -46,3 +46,7 @@ mod tree_vectors;
 mod trees;
 #[cfg(test)]
 mod value_vectors;
+#[cfg(test)]
+mod verdict_vectors;
+#[cfg(test)]
+mod verdicts;

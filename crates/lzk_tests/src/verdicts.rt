@@ -1,0 +1,333 @@
+//! Verdicts on proofs that are forged in known ways, over both fields.
+//!
+//! The circuit has one public input and an output with no terms, so a proof of zeros is right, but for the two factors, which are
+//! the inputs' extensions. Each forgery changes it before the tree is built and the columns are drawn. The verdicts
+//! wanted are those of an independent implementation.
+
+ghost use Rattle.std.specs.Prelude.{◌≡◌, ◌≤◌, ◌<◌, length, IsTrue, IfOk};
+ghost use Rattle.lzk_merkle.specs.Nodes.{AreOpened};
+ghost use Rattle.lzk_merkle.specs.Tree.{IsBuilt};
+ghost use Rattle.lzk_layout.specs.Sizes.{AreBounded};
+
+use crate::verdict_vectors::{Change, Damage, GF_DAMAGES, GF_FORGERIES, GOLD_DAMAGES, GOLD_FORGERIES, List, Told};
+use lzk_accept::{Challenges, draw_challenges};
+use lzk_circbytes::id;
+use lzk_circuit::{Circuit, Layer, Terms};
+use lzk_field::Field;
+use lzk_gf128::Gf128;
+use lzk_goldilocks::Gold;
+use lzk_layout::Params;
+use lzk_merkle::{Tree, leaf, needed};
+use lzk_sumcheck::{Script, message_count, replay};
+use lzk_transcript::Tape;
+use lzk_verify::{Desk, Verdict};
+use std::alloc::{AllocError, Global};
+use std::test::Fail;
+
+const SESSION: [u8; 4] = *b"demo";
+
+const PUBLIC: u32 = 9;
+
+fn circuit<F: Field>(alloc: Global) -> Result<Option<Circuit<F>>, AllocError> {
+    let mut layers = Vec::new(alloc);
+    layers.push(Layer {
+        wires: 1,
+        terms: Terms::new(Vec::new(alloc)),
+    })?;
+    match Circuit::of_layers(1, 0, layers) {
+        Ok(circuit) => Ok(Some(circuit)),
+        Err(_) => Ok(None),
+    }
+}
+
+fn zeros<F: Field>(alloc: Global, count: u32) -> Result<Vec<F>, AllocError>
+    ensures { IfOk result (λ list. length list.items ≡ count) }
+{
+    let mut list = Vec::new(alloc);
+    list.resize(count as usize, F::zero())?;
+    Ok(list)
+}
+
+// Zeros, but for the changed value where this list is the changed one.
+fn answer<F: Field>(
+    alloc: Global,
+    count: u32,
+    which: List,
+    change: &Change,
+) -> Result<Vec<F>, AllocError>
+    ensures { IfOk result (λ list. length list.items ≡ count) }
+{
+    let mut list = zeros(alloc, count)?;
+    let Change(_, _, changed, place, value) = *change;
+    let place = place as usize;
+    if changed == which && place < list.len() {
+        list[place] = F::of_word(u128::from(value));
+    }
+    Ok(list)
+}
+
+// A column of zeros, with a one in this row.
+fn changed_column<F: Field>(alloc: Global, rows: u32, row: u32) -> Result<Vec<F>, AllocError> {
+    let mut column = zeros(alloc, rows)?;
+    let place = row as usize;
+    if place < column.len() {
+        column[place] = F::one();
+    }
+    Ok(column)
+}
+
+// The tree of columns, of which those from a place on are changed.
+fn tree_of<F: Field>(alloc: Global, params: &Params, change: &Change) -> Result<Tree, AllocError>
+    requires { AreBounded params.now }
+    ensures size { IfOk result (λ t. length t.leaves ≡ params.now.mcol) }
+    ensures built { IfOk result (λ t. IsBuilt t) }
+{
+    let plain = leaf(&[0; 32], &zeros::<F>(alloc, params.nrow)?);
+    let changed = leaf(&[0; 32], &changed_column::<F>(alloc, params.nrow, change.0)?);
+    let mut tree = Tree::new(alloc, params.mcol)?;
+    for j in 0..params.mcol {
+        let digest = if j < change.1 {
+            plain
+        } else {
+            changed
+        };
+        tree.set_leaf(j, digest);
+    }
+    tree.build();
+    Ok(tree)
+}
+
+fn open_tape<F: Field>(id: &[u8; 32], root: &[u8; 32]) -> Tape {
+    let mut tape = Tape::new();
+    tape.bytes(b"lzk1");
+    tape.bytes(&SESSION);
+    tape.bytes(id);
+    tape.array(&[F::point(PUBLIC)]);
+    tape.bytes(root);
+    tape
+}
+
+// The extension of the one and the public input, at the first of these.
+fn inputs_at<F: Field>(point: &[F]) -> F {
+    match point.first() {
+        Some(r) => F::one().add(r.mul(F::point(PUBLIC).sub(F::one()))),
+        None => F::one(),
+    }
+}
+
+// Adds the factors, which come last.
+fn add_factors<F: Field>(messages: &mut [F], script: &Script<F>)
+    ensures { length messages.new ≡ length messages.old }
+{
+    if messages.len() < 2 {
+        return;
+    }
+    let last = messages.len() - 1;
+    if let Some(layer) = script.layers.as_slice().first() {
+        messages[last - 1] = messages[last - 1].add(inputs_at(layer.ra.as_slice()));
+        messages[last] = messages[last].add(inputs_at(layer.rb.as_slice()));
+    }
+}
+
+fn push_elements<F: Field>(out: &mut Vec<u8>, list: &[F]) -> Result<(), AllocError> {
+    let mut buffer = [0u8; 16];
+    for x in list {
+        let part = &mut buffer[..F::BYTES];
+        x.to_le(part);
+        out.extend_from_slice(&buffer[..F::BYTES])?;
+    }
+    Ok(())
+}
+
+// The opened columns with nonces of zeros.
+fn push_columns<F: Field>(
+    out: &mut Vec<u8>,
+    columns: &[u32],
+    plain: &[F],
+    changed: &[F],
+    from: u32,
+) -> Result<(), AllocError> {
+    for j in columns {
+        out.extend_from_slice(&[0; 32])?;
+        if *j < from {
+            push_elements(out, plain)?;
+        } else {
+            push_elements(out, changed)?;
+        }
+    }
+    Ok(())
+}
+
+fn push_path(
+    alloc: Global,
+    out: &mut Vec<u8>,
+    tree: &Tree,
+    mcol: u32,
+    columns: &[u32],
+) -> Result<(), AllocError>
+    requires few { mcol ≤ 65536 }
+    requires built { IsBuilt tree.now }
+    requires size { length tree.now.leaves ≡ mcol }
+    requires opened { AreOpened mcol columns.now }
+{
+    let count = needed(mcol, columns);
+    let mut digests = Vec::new(alloc);
+    digests.resize(count as usize, [0u8; 32])?;
+    tree.path(columns, &mut digests);
+    out.extend_from_slice(&count.to_le_bytes())?;
+    for digest in &digests {
+        out.extend_from_slice(digest)?;
+    }
+    Ok(())
+}
+
+// The forged proof's file.
+fn forged<F: Field>(
+    alloc: Global,
+    circuit: &Circuit<F>,
+    change: &Change,
+) -> Result<Vec<u8>, AllocError> {
+    let params = Params::of(circuit);
+    let id = id(alloc, circuit)?;
+    let tree = tree_of::<F>(alloc, &params, change)?;
+    let root = tree.root();
+    let mut messages: Vec<F> = answer(alloc, message_count(circuit), List::Messages, change)?;
+    let mut script = Script::new(alloc, circuit)?;
+    replay(circuit, &mut open_tape::<F>(&id, &root), &messages, &mut script);
+    add_factors(&mut messages, &script);
+    let mut tape = open_tape::<F>(&id, &root);
+    let mut tape = open_tape::<F>(&id, &root);
+    replay(circuit, &mut tape, &messages, &mut script);
+    let mut challenges: Challenges<F> = Challenges::new(alloc, &params)?;
+    draw_challenges(&params, &mut tape, &mut challenges);
+    let mut out = Vec::new(alloc);
+    out.extend_from_slice(b"LZP1")?;
+    out.extend_from_slice(&id)?;
+    out.extend_from_slice(&root)?;
+    push_elements(&mut out, &messages)?;
+    let tail = params.dblock - params.block;
+    for (count, which) in [
+        (params.block, List::LowDegree),
+        (params.dblock, List::Linear),
+        (128, List::QuadraticHead),
+        (tail, List::QuadraticTail),
+    ] {
+        let list: Vec<F> = answer(alloc, count, which, change)?;
+        tape.array(&list);
+        push_elements(&mut out, &list)?;
+    }
+    let mut columns = [0; 128];
+    tape.draw_columns(params.mcol, &mut columns);
+    let plain = zeros::<F>(alloc, params.nrow)?;
+    let changed = changed_column(alloc, params.nrow, change.0)?;
+    push_columns(&mut out, &columns, &plain, &changed, change.1)?;
+    push_path(alloc, &mut out, &tree, params.mcol, &columns)?;
+    Ok(out)
+}
+
+// The sixteen bytes from a place on, as a number.
+fn half(digest: &[u8; 32], from: usize) -> u128
+    requires { from ≤ 16 }
+{
+    let mut n = 0;
+    for k in 0..16 {
+        n = n << 8 | u128::from(digest[from + k]);
+    }
+    n
+}
+
+fn told<F: Field>(verdict: Verdict<F>) -> Told {
+    match verdict {
+        Verdict::Accepted => Told::Accepted,
+        Verdict::Format(fault) => Told::Format(fault.offset, fault.kind),
+        Verdict::CircuitId { found } => Told::CircuitId(half(&found, 0), half(&found, 16)),
+        Verdict::PathCount { found, needed } => Told::PathCount(found, needed),
+        Verdict::Root { found } => Told::Root(half(&found, 0), half(&found, 16)),
+        Verdict::LowDegree { column } => Told::LowDegree(column),
+        Verdict::LinearSum { found, wanted } => Told::LinearSum(found.number(), wanted.number()),
+        Verdict::Linear { column } => Told::Linear(column),
+        Verdict::Quadratic { column } => Told::Quadratic(column),
+    }
+}
+
+// The number of the first forgery whose verdict is not the one wanted.
+fn wrong_forgery<F: Field>(
+    alloc: Global,
+    cases: &[(Change, Told)],
+) -> Result<Option<usize>, AllocError> {
+    let circuit = match circuit::<F>(alloc)? {
+        Some(circuit) => circuit,
+        None => return Ok(Some(0)),
+    };
+    if circuit.publics() != 1 {
+        return Ok(Some(0));
+    }
+    let mut desk = Desk::new(alloc, &circuit)?;
+    for i in 0..cases.len() {
+        let bytes = forged(alloc, &circuit, &cases[i].0)?;
+        let verdict = desk.verify(&SESSION, &[F::point(PUBLIC)], &bytes);
+        if told(verdict) != cases[i].1 {
+            return Ok(Some(i));
+        }
+    }
+    Ok(None)
+}
+
+#[test]
+fn forged_proofs_have_their_verdicts(rt: HostRuntime) -> Result<(), Fail> {
+    let alloc = rt.alloc();
+    assert_eq!(rt; wrong_forgery::<Gold>(alloc, &GOLD_FORGERIES)?, None);
+    assert_eq!(rt; wrong_forgery::<Gf128>(alloc, &GF_FORGERIES)?, None);
+    Ok(())
+}
+
+// The right proof's file, cut, lengthened and changed.
+fn damaged(alloc: Global, right: &[u8], damage: &Damage) -> Result<Vec<u8>, AllocError> {
+    let mut bytes = Vec::new(alloc);
+    bytes.extend_from_slice(right)?;
+    bytes.truncate(damage.0 as usize);
+    for _ in 0..damage.1 {
+        bytes.push(0)?;
+    }
+    let place = damage.2 as usize;
+    if place < bytes.len() {
+        bytes[place] ^= damage.3;
+    }
+    Ok(bytes)
+}
+
+// The number of the first damage whose verdict is not the one wanted.
+fn wrong_damage<F: Field>(
+    alloc: Global,
+    right: &Change,
+    cases: &[(Damage, Told)],
+) -> Result<Option<usize>, AllocError> {
+    let circuit = match circuit::<F>(alloc)? {
+        Some(circuit) => circuit,
+        None => return Ok(Some(0)),
+    };
+    if circuit.publics() != 1 {
+        return Ok(Some(0));
+    }
+    let right = forged(alloc, &circuit, right)?;
+    let mut desk = Desk::new(alloc, &circuit)?;
+    for i in 0..cases.len() {
+        let damage = &cases[i].0;
+        let mut session = SESSION;
+        session[0] ^= damage.4;
+        let bytes = damaged(alloc, &right, damage)?;
+        let verdict = desk.verify(&session, &[F::of_word(u128::from(damage.5))], &bytes);
+        if told(verdict) != cases[i].1 {
+            return Ok(Some(i));
+        }
+    }
+    Ok(None)
+}
+
+#[test]
+fn damaged_proofs_have_their_verdicts(rt: HostRuntime) -> Result<(), Fail> {
+    let alloc = rt.alloc();
+    assert_eq!(rt; wrong_damage::<Gold>(alloc, &GOLD_FORGERIES[0].0, &GOLD_DAMAGES)?, None);
+    assert_eq!(rt; wrong_damage::<Gf128>(alloc, &GF_FORGERIES[0].0, &GF_DAMAGES)?, None);
+    Ok(())
+}

@@ -1,0 +1,6 @@
+pub mod Acceptance
+pub mod ColumnLaws
+pub mod CombinedRows
+pub mod JudgeLaws
+pub mod OneVerdict
+pub mod Verdicts

@@ -1,0 +1,6 @@
+use Rattle.std.proofs.Common.{◌≡◌, ◌+◌}
+use Rattle.lzk_field.specs.Sums.{sum_below, entry}
+use Rattle.lzk_verify.proofs.low_degree.found_sum.Given as goal
+
+abbrev pub invariant-loop-s : goal.invariant-loop-s
+invariant-loop-s g l = l.sum ≡ sum_below g.F.Field.ops l.s (λ i. entry g.F.Field.ops l.proof.dot (128 + i))

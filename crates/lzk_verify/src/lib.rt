@@ -1,0 +1,21 @@
+//! The verdict on the bytes of a proof.
+//!
+//! As in draft-google-cfrg-libzk and Ligero (CCS 2017), a proof is read, the tape is run with what it sends, and eight
+//! checks follow, in the order of the profile in docs/FORMATS.md: the first that fails is the verdict.
+#![tactic(auto)]
+
+mod columns;
+mod combining;
+mod desk;
+mod drawing;
+mod judging;
+mod linear;
+mod lists;
+mod low_degree;
+mod opening;
+mod quadratic;
+mod room;
+mod verdict;
+
+pub use desk::Desk;
+pub use verdict::Verdict;

@@ -1,0 +1,77 @@
+//! The room in which a proof is checked.
+
+ghost use Rattle.std.specs.Prelude.{◌≡◌, IfOk, length, replicate};
+ghost use Rattle.lzk_layout.specs.Sizes.{AreBounded, params_of};
+ghost use Rattle.lzk_verify.specs.Desk.{AreRooms};
+
+use crate::drawing::OPENED;
+use lzk_accept::Forms;
+use lzk_circuit::{Circuit, zeros};
+use lzk_field::Field;
+use lzk_layout::Params;
+use lzk_poly::Extender;
+use std::alloc::{AllocError, Global};
+use std::marker::Model;
+
+/// Room for what is computed of a proof, and the weights that extend its answers.
+#[derive(Drop)]
+pub(crate) struct Room<F: Field> {
+    /// The linear constraints.
+    pub(crate) forms: Forms<F>,
+    /// The combined coefficients, row by row from row 3 on.
+    pub(crate) combined: Vec<F>,
+    /// The values of a row.
+    pub(crate) row: Vec<F>,
+    /// The values of the quadratic answer.
+    pub(crate) values: Vec<F>,
+    /// The digests of the opened columns.
+    pub(crate) leaves: Vec<[u8; 32]>,
+    /// The digests of a tree's nodes.
+    pub(crate) nodes: Vec<[u8; 32]>,
+    /// Extends the values of a row.
+    pub(crate) rows: Extender<F>,
+    /// Extends the values of a product of two rows.
+    pub(crate) products: Extender<F>,
+}
+
+impl<F: Field> Model for Room<F> {
+    ghost use Rattle.std.specs.Prelude.{length};
+    ghost use Rattle.lzk_verify.specs.Desk.{Rooms};
+
+    ghost Value = { Rooms F };
+
+    ghost view = { λ r. record { forms = r.forms; combined = length r.combined.items; row = length r.row.items; values = length r.values.items; leaves = length r.leaves.items; nodes = length r.nodes.items; rows = r.rows; products = r.products } };
+}
+
+fn zero_digests(alloc: Global, count: usize) -> Result<Vec<[u8; 32]>, AllocError>
+    ensures { IfOk result (λ list. length list.items ≡ count) }
+{
+    let mut list = Vec::new(alloc);
+    list.resize(count, [0; 32])?;
+    Ok(list)
+}
+
+impl<F: Field> Room<F> {
+    /// Room for proofs over this circuit, whose parameters these are.
+    pub(crate) fn new(
+        alloc: Global,
+        circuit: &Circuit<F>,
+        params: &Params,
+    ) -> Result<Room<F>, AllocError>
+        requires params { params.now ≡ params_of circuit.now }
+        requires bounded { AreBounded params.now }
+        ensures { IfOk result (λ room. AreRooms F.ops circuit.now params.now room) }
+    {
+        let coefficients = (params.nrow - 3) * params.wr;
+        Ok(Room {
+            forms: Forms::new(alloc, circuit)?,
+            combined: zeros(alloc, coefficients as usize)?,
+            row: zeros(alloc, params.block as usize)?,
+            values: zeros(alloc, params.dblock as usize)?,
+            leaves: zero_digests(alloc, OPENED)?,
+            nodes: zero_digests(alloc, 2 * params.mcol as usize)?,
+            rows: Extender::new(alloc, params.block, params.ncol)?,
+            products: Extender::new(alloc, params.dblock, params.ncol)?,
+        })
+    }
+}
