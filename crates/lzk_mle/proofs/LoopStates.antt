@@ -1,8 +1,9 @@
 -- Tables that are bound in place.
-use Rattle.std.specs.Prelude.{◌≡◌, ℕ, ◌<◌, ◌≤◌, ◌+◌, ◌*◌, ◌/◌, ◌%◌, ◌^◌, List, [], ◌∷◌, length, drop}
+use Rattle.std.specs.Prelude.{◌≡◌, ℕ, ◌<◌, ◌≤◌, ◌+◌, ◌*◌, ◌/◌, ◌%◌, ◌^◌, List, [], ◌∷◌, length, drop, slice_set}
 use Rattle.std.proofs.Common.{suc, refl, sym, ap, ◌∙◌, arith, inl, inr, lit<, subst}
 use Rattle.std.proofs.lemmas.Bool.{cases_eq}
-use Rattle.std.proofs.lemmas.List.{length-drop, drop_all}
+use Rattle.std.proofs.lemmas.List.{length-drop, drop_all, length-set, get_or-set_other}
+use Rattle.std.proofs.lemmas.Grind.{get_or-set_at}
 use Rattle.std.proofs.Math.Nat.{pow-succ', pow-le-pow_right}
 use Rattle.lzk_field.specs.Ring.{Ops, RingLaws}
 use Rattle.lzk_field.specs.Sums.{minus, entry}
@@ -38,6 +39,28 @@ module _ {A : Type 0} (o : Ops A) where
 
   pub not_large : (n : ℕ) → n ≤ 17 → 2 ^ n ≤ 131072
   not_large n l = pow-le-pow_right {n = 2} (lit< tt) l
+
+  -- place 2i and the next one, put behind those that are spread
+  pub spread_more : (x : A) (old : List A) (size i : ℕ) (table : List A) (left right : A) → i < size → 2 * size ≤ length table → IsSpreadFrom x old size (i + 1) table
+      → left ≡ o.times (minus o o.one x) (entry o old i) → right ≡ o.times x (entry o old i) → IsSpreadFrom x old size i (slice_set (slice_set table (2 * i) left) (2 * i + 1) right)
+  spread_more x old size i table left right lt room h is_left is_right =
+      let z = o.zero in
+      let once = slice_set table (2 * i) left in
+      let fits : 2 * i + 1 < length once = omega (arith, length-set table (2 * i) left) in
+      record {
+        low = λ k l. get_or-set_other once (2 * i + 1) k right z (omega arith) ∙ get_or-set_other table (2 * i) k left z (omega arith) ∙ h.low k (omega arith);
+        even = λ k l below.
+            let apart = get_or-set_other once (2 * i + 1) (2 * k) right z (omega arith) in
+            elim (cases_eq k i) [
+              | inl e ↦ apart ∙ get_or-set_at table (2 * i) (2 * k) left z (omega arith) (omega arith) ∙ is_left ∙ ap (λ j. o.times (minus o o.one x) (entry o old j)) (sym e)
+              | inr n ↦ apart ∙ get_or-set_other table (2 * i) (2 * k) left z (omega arith) ∙ h.even k (omega arith) below
+            ];
+        odd = λ k l below.
+            elim (cases_eq k i) [
+              | inl e ↦ get_or-set_at once (2 * i + 1) (2 * k + 1) right z (omega arith) fits ∙ is_right ∙ ap (λ j. o.times x (entry o old j)) (sym e)
+              | inr n ↦ get_or-set_other once (2 * i + 1) (2 * k + 1) right z (omega arith) ∙ get_or-set_other table (2 * i) (2 * k + 1) left z (omega arith) ∙ h.odd k (omega arith) below
+            ];
+      }
 
 module _ {A : Type 0} (o : Ops A) (r : RingLaws o) where
   pub left_first : (values xs : List A) (room : List A) (size : ℕ) → length values ≤ 2 ^ length xs → length room ≡ 2 ^ length xs → size ≡ length room → ((i : ℕ) → entry o room i ≡ entry o values i) → IsLeft o values xs xs size room
