@@ -1,5 +1,6 @@
 pub mod BoundLaws
 pub mod ClaimLaws
+pub mod CombinationLaws
 pub mod DrawLaws
 pub mod FormLaws
 pub mod KeptLaws
