@@ -1,6 +1,6 @@
 -- Sums over the elements of a column.
 use Rattle.std.specs.Prelude.{◌≡◌, ℕ, ◌+◌, ◌-◌, ◌*◌, ◌<◌, List, length, drop}
-use Rattle.std.proofs.Common.{refl, sym, ap, ◌∙◌, arith}
+use Rattle.std.proofs.Common.{sym, ap, ◌∙◌, arith}
 use Rattle.std.proofs.lemmas.List.{get_or-drop}
 use native.Mathlib.Decide.{dec_lt}
 use Rattle.lzk_field.specs.Ring.{Ops, RingLaws}
@@ -30,16 +30,16 @@ module _ {A : Type 0} (o : Ops A) where
   row_sums r p column combined row lists n w are block rows width size front back s h =
       elim (dec_lt s 128) [
         | yes l ↦
-          front s l
-          ∙ sym (sum-ext o r (p.nrow - 3) (λ i. o.times (entry o column (3 + i)) (entry o (lists (3 + i)) s)) (λ i. o.zero)
-          (λ i k. ap (o.times (entry o column (3 + i))) (are.front (3 + i) s l) ∙ times_zero o r (entry o column (3 + i)))
-          ∙ sum-zero o r (p.nrow - 3))
+            front s l
+            ∙ sym (sum-ext o r (p.nrow - 3) (λ i. o.times (entry o column (3 + i)) (entry o (lists (3 + i)) s)) (λ i. o.zero)
+            (λ i k. ap (o.times (entry o column (3 + i))) (are.front (3 + i) s l) ∙ times_zero o r (entry o column (3 + i)))
+            ∙ sum-zero o r (p.nrow - 3))
         | no l ↦
-          let t = s - 128 in
-          let e : 128 + t ≡ s = omega arith in
-          let inside : t < p.wr = omega arith in
-          ap (entry o row) (sym e) ∙ back t (omega arith)
-          ∙ ap (λ m. sum_below o m (λ i. o.times (entry o column (3 + i)) (entry o combined (i * w + t)))) rows
-          ∙ sum-ext o r (p.nrow - 3) (λ i. o.times (entry o column (3 + i)) (entry o combined (i * w + t))) (λ i. o.times (entry o column (3 + i)) (entry o (lists (3 + i)) s))
-          (λ i k. ap (o.times (entry o column (3 + i))) (ap (λ v. entry o combined (i * v + t)) width ∙ sym (are.back i t k inside) ∙ ap (entry o (lists (3 + i))) e))
+            let t = s - 128 in
+            let e : 128 + t ≡ s = omega arith in
+            let inside : t < p.wr = omega arith in
+            ap (entry o row) (sym e) ∙ back t (omega arith)
+            ∙ ap (λ m. sum_below o m (λ i. o.times (entry o column (3 + i)) (entry o combined (i * w + t)))) rows
+            ∙ sum-ext o r (p.nrow - 3) (λ i. o.times (entry o column (3 + i)) (entry o combined (i * w + t))) (λ i. o.times (entry o column (3 + i)) (entry o (lists (3 + i)) s))
+            (λ i k. ap (o.times (entry o column (3 + i))) (ap (λ v. entry o combined (i * v + t)) width ∙ sym (are.back i t k inside) ∙ ap (entry o (lists (3 + i))) e))
       ]

@@ -1,11 +1,11 @@
 -- Rows of combined coefficients, from a table of them and for coefficients that are equal.
-use Rattle.std.specs.Prelude.{◌≡◌, ℕ, ◌+◌, ◌-◌, ◌*◌, ◌<◌, cond, List, ◌++◌, length, map, replicate}
+use Rattle.std.specs.Prelude.{◌≡◌, ℕ, ◌+◌, ◌-◌, ◌*◌, ◌<◌, cond, List, length, map, replicate}
 use Rattle.std.specs.List.{range_with_len}
-use Rattle.std.proofs.Common.{refl, sym, ap, ◌∙◌, arith}
-use Rattle.std.proofs.lemmas.List.{length-append, length-replicate, get_or-replicate, get_or_append_left, get_or-append-add}
+use Rattle.std.proofs.Common.{sym, ap, ◌∙◌, arith}
+use Rattle.std.proofs.lemmas.List.{length-append, get_or-replicate, get_or_append_left, get_or-append-add}
 use Rattle.std.proofs.lemmas.List.FromFn.{get_or-map-range_with_len, length-map-range_with_len}
 use Rattle.lzk_field.specs.Ring.{Ops, RingLaws}
-use Rattle.lzk_field.specs.Sums.{sum_below, minus, entry}
+use Rattle.lzk_field.specs.Sums.{minus, entry}
 use Rattle.lzk_field.proofs.SumLaws.{sum-ext}
 use Rattle.lzk_circuit.specs.Valid.{Wiring}
 use Rattle.lzk_layout.specs.Sizes.{committed_count, params_of, place_of}

@@ -3,4 +3,5 @@ pub mod ColumnLaws
 pub mod CombinedRows
 pub mod JudgeLaws
 pub mod OneVerdict
+pub mod RoomLaws
 pub mod Verdicts

@@ -1,6 +1,6 @@
 -- Verdicts on bytes, from what reading and judging answer for equal parameters and an equal id.
 use Rattle.std.specs.Prelude.{◌≡◌, refl, ℕ, List}
-use Rattle.std.proofs.Common.{sym, ◌∙◌, ap, subst, inl, inr}
+use Rattle.std.proofs.Common.{◌∙◌, ap, subst, inl, inr}
 use Rattle.lzk_field.specs.Coding.{Coding}
 use Rattle.lzk_field.specs.Ring.{Ops}
 use Rattle.lzk_circuit.specs.Valid.{Wiring}

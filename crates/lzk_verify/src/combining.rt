@@ -35,6 +35,12 @@ pub(crate) fn combine_constraints<F: Field>(
     ensures forms { AreFormsOf F.ops circuit.now forms.new }
     ensures room { length combined.new ≡ (params.now.nrow - 3) * params.now.wr }
 {
-    linear_forms(circuit, public, &drawn.script, proof.messages.as_slice(), forms);
+    linear_forms(
+        circuit,
+        public,
+        &drawn.script,
+        proof.messages.as_slice(),
+        forms,
+    );
     combine(params, forms, &drawn.challenges, combined)
 }

@@ -102,7 +102,12 @@ impl<F: Field> Drawn<F> {
         ensures opened { AreOpened params.now.mcol self.new.columns }
     {
         let mut tape = open_tape(session, id, public, &proof.root);
-        replay(circuit, &mut tape, proof.messages.as_slice(), &mut self.script);
+        replay(
+            circuit,
+            &mut tape,
+            proof.messages.as_slice(),
+            &mut self.script,
+        );
         draw_challenges(params, &mut tape, &mut self.challenges);
         draw_opened(params, &mut tape, proof, &mut self.columns);
     }

@@ -1,7 +1,7 @@
 //! The verdict on the bytes of a proof.
 //!
 //! As in draft-google-cfrg-libzk and Ligero (CCS 2017), a proof is read, the tape is run with what it sends, and eight
-//! checks follow, in the order of the profile in docs/FORMATS.md: the first that fails is the verdict.
+//! checks follow, in the order of docs/PROTOCOL.md, section 9: the first that fails is the verdict.
 #![tactic(auto)]
 
 mod columns;

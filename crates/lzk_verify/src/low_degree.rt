@@ -80,19 +80,11 @@ fn found_sum<F: Field>(params: &Params, proof: &Proof<F>) -> F
 }
 
 /// The sum of these values, where it is not the one that is wanted.
-pub(crate) fn check_linear_sum<F: Field>(
-    params: &Params,
-    proof: &Proof<F>,
-    wanted: F,
-) -> Option<F>
+pub(crate) fn check_linear_sum<F: Field>(params: &Params, proof: &Proof<F>, wanted: F) -> Option<F>
     requires bounded { AreBounded params.now }
     requires lengths { HasLengths params.now proof.now }
     ensures { IsChecked (HasLinearSum F.ops params.now proof.now wanted) (spec.found_sum F.ops params.now proof.now) result }
 {
     let found = found_sum(params, proof);
-    if found == wanted {
-        None
-    } else {
-        Some(found)
-    }
+    if found == wanted { None } else { Some(found) }
 }

@@ -1,6 +1,6 @@
-use Rattle.std.proofs.Common.{◌≡◌, ◌<◌, [], refl, ap, sym, ◌∙◌, length, arith}
+use Rattle.std.proofs.Common.{[], arith}
 use Rattle.lzk_field.specs.Coding.{coding}
-use Rattle.lzk_sumcheck.proofs.Filled.{filled_more, filled_whole}
+use Rattle.lzk_sumcheck.proofs.Filled.{filled_whole}
 use Rattle.lzk_verify.specs.Checks.{leaf_at}
 use Rattle.lzk_verify.proofs.columns.fill_leaves.Goals as goal
 

@@ -1,5 +1,4 @@
-use Rattle.std.proofs.Common.{◌≡◌, ◌+◌, ◌*◌, ◌-◌, ◌<◌, ℕ, List, length, refl, ap, subst, sym, ◌∙◌}
-use Rattle.lzk_circuit.specs.Valid.{Wiring}
+use Rattle.std.proofs.Common.{◌≡◌, ◌+◌, ◌*◌, ◌-◌, ◌<◌, ℕ, length, refl, ap, subst, sym, ◌∙◌}
 use Rattle.lzk_field.specs.Sums.{entry}
 use Rattle.lzk_layout.specs.declared.params.Params.{Params}
 use Rattle.lzk_layout.specs.Sizes.{params_of}
@@ -29,9 +28,9 @@ returns-clause-rows g c =
     let each : (i s : ℕ) → i < c.args.params.now.nrow - 3 → s < c.args.params.now.wr → entry o table (i * c.args.params.now.wr + s) ≡ combined o w given d.challenges (3 + i) s = λ i s h k. c.combine.ensures.combined w c.requires.params c.linear_forms.ensures.made i s h k ∙ ap (λ (ch : Challenges g.row.F.Denot). combined o w kept ch (3 + i) s) challenges ∙ same (3 + i) s in
     let size : length table ≡ (c.args.params.now.nrow - 3) * c.args.params.now.wr = c.combine.ensures.room ∙ c.requires.room in
     let whole : (p : Params) → c.args.params.now ≡ p → p ≡ params_of w → AreRows o p table (combined_row o w given d.challenges) =
-        λ p e is. subst (λ q. AreRows o q table (combined_row o w given d.challenges)) (sym is)
-        (rows_are o w d.challenges given table (subst (λ q. length table ≡ (q.nrow - 3) * q.wr) (e ∙ is) size)
-        (subst (λ (q : Params). (i s : ℕ) → i < q.nrow - 3 → s < q.wr → entry o table (i * q.wr + s) ≡ combined o w given d.challenges (3 + i) s) (e ∙ is) each)) in
+    λ p e is. subst (λ q. AreRows o q table (combined_row o w given d.challenges)) (sym is)
+    (rows_are o w d.challenges given table (subst (λ q. length table ≡ (q.nrow - 3) * q.wr) (e ∙ is) size)
+    (subst (λ (q : Params). (i s : ℕ) → i < q.nrow - 3 → s < q.wr → entry o table (i * q.wr + s) ≡ combined o w given d.challenges (3 + i) s) (e ∙ is) each)) in
     whole c.args.params.now refl c.requires.params
 
 pub returns-clause-wanted : goal.returns-clause-wanted

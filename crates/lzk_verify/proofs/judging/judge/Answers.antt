@@ -1,4 +1,4 @@
-use Rattle.std.proofs.Common.{◌≡◌, refl, ap, subst, sym, ◌∙◌, inl, inr, length, List, ℕ}
+use Rattle.std.proofs.Common.{◌≡◌, ap, subst, sym, ◌∙◌, inl, inr}
 use Rattle.lzk_field.specs.Coding.{coding}
 use Rattle.lzk_accept.specs.Challenges.{Transcript}
 use Rattle.lzk_verify.specs.declared.verdict.Verdict.TheVariants.{CircuitId, PathCount, Root}

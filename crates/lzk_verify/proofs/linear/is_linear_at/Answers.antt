@@ -1,7 +1,7 @@
-use Rattle.std.proofs.Common.{rules, ◌≡◌, ◌↔◌, ◌<◌, ◌+◌, ◌-◌, IsTrue, ap, sym, ◌∙◌, length, arith}
+use Rattle.std.proofs.Common.{◌≡◌, ◌+◌, ◌-◌, ap, sym, ◌∙◌, arith}
 use Rattle.std.proofs.lemmas.List.{get_or_default}
 use Rattle.std.specs.Prelude.{slice_index}
-use Rattle.lzk_field.specs.Sums.{entry, sum_below}
+use Rattle.lzk_field.specs.Sums.{sum_below}
 use Rattle.lzk_field.proofs.SumLaws.{sum-ext}
 use Rattle.lzk_poly.specs.Extension.{extension}
 use Rattle.lzk_accept.specs.Checks.{at_row}

@@ -1,6 +1,6 @@
-use Rattle.std.proofs.Common.{◌≡◌, ◌<◌, refl, sym, ◌∙◌, length, arith}
+use Rattle.std.proofs.Common.{◌<◌, sym, ◌∙◌, length, arith}
 use Rattle.std.specs.Prelude.{replicate}
-use Rattle.std.proofs.lemmas.List.{same_lists, get_or_default, get_or-replicate, length-replicate, places}
+use Rattle.std.proofs.lemmas.List.{same_lists, get_or_default, get_or-replicate, length-replicate}
 use Rattle.lzk_sumcheck.proofs.Filled.{filled_more}
 use Rattle.lzk_verify.proofs.lists.clear.Goals as goal
 
