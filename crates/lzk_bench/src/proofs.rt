@@ -17,7 +17,7 @@ const INPUTS: u32 = 65_536;
 const DIGESTS: u32 = 1_000;
 
 /// The circuits and proofs that lie where the program runs.
-const NAMES: [&str; 18] = [
+pub const NAMES: [&str; 18] = [
     "credential",
     "cube",
     "demo-16",
