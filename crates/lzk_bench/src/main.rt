@@ -3,6 +3,7 @@
 
 mod blocks;
 mod circuits;
+mod constraints;
 mod elements;
 mod proofs;
 mod rows;
@@ -46,13 +47,15 @@ fn done<R: Files + AllocGlobal>(rt: &R, work: &str, times: u32) -> anyhow::Resul
         "gf-eq" => tables::eq_tables::<Gf128>(alloc, times)?,
         "gold-tilde" => tables::extensions::<Gold>(alloc, times)?,
         "gf-tilde" => tables::extensions::<Gf128>(alloc, times)?,
+        "forms" => constraints::formed(alloc, times)?,
+        "combine" => constraints::combined(alloc, times)?,
         "replay" => tables::replayed(alloc, times)?,
         "leaf-7" => trees::leaves(alloc, times, 7)?,
         "leaf-80" => trees::leaves(alloc, times, 80)?,
         "tree" => trees::trees(alloc, times)?,
         "proof-read" => proofs::read::<Gold>(alloc, times)?,
         "proof-write" => proofs::write::<Gold>(alloc, times)?,
-        "proof-files" => proofs::written_as_read(rt)?.wrapping_add(scripts::drawn_as_given(rt)?),
+        "proof-files" => proofs::written_as_read(rt)?.wrapping_add(scripts::joined_as_given(rt)?),
         "numbers" => texts::read(alloc, times)?,
         "source" => texts::parsed(alloc, times)?,
         "compile" => texts::compiled(alloc, times)?,
