@@ -3,14 +3,14 @@
 use crate::{add, mul, parse_source, Expr, Statement, Term, P};
 use std::{collections::BTreeMap, hint::black_box};
 
-const BITS: u32 = 16_384;
+pub const BITS: u32 = 16_384;
 const MOST_LAYERS: u32 = 512;
 const MOST_WIRES: usize = 131_072;
 const MOST_TERMS: u64 = 2_097_152;
 
-struct Layer {
-    wires: u32,
-    terms: Vec<Term>,
+pub struct Layer {
+    pub wires: u32,
+    pub terms: Vec<Term>,
 }
 
 enum Gate {
@@ -26,7 +26,7 @@ enum Operand {
     AtNode(u32),
 }
 
-fn neg(x: u64) -> u64 {
+pub fn neg(x: u64) -> u64 {
     if x == 0 { 0 } else { P - x }
 }
 
@@ -355,7 +355,7 @@ fn share(inputs: u32, layers: &mut [Layer]) {
 }
 
 // The circuit of a text, from the outputs down. None where the text or its circuit breaks a rule.
-fn compile(text: &[u8]) -> Option<Vec<Layer>> {
+pub fn compile(text: &[u8]) -> Option<Vec<Layer>> {
     let statements = parse_source(text)?;
     let mut builder = Builder::new(&statements);
     for statement in &statements {
@@ -373,7 +373,7 @@ fn compile(text: &[u8]) -> Option<Vec<Layer>> {
 
 // A source which says that y is 1 where an odd number of its bits are, and 0 where an even number are. It pairs
 // the names from the first on, and puts a name for each pair behind the others.
-fn parity_source() -> String {
+pub fn parity_source() -> String {
     let name = |i: u32| if i <= BITS { format!("x{i}") } else { format!("t{}", i - BITS) };
     let mut text = String::from("field goldilocks\npublic y\n");
     for i in 1..=BITS {

@@ -3,6 +3,7 @@
 mod binary;
 mod circuits;
 mod compile;
+mod constraints;
 mod extenders;
 mod hashes;
 mod prime;
@@ -42,6 +43,8 @@ fn main() {
         "gf-eq" => gf_eq(times),
         "gold-tilde" => gold_tilde(times),
         "gf-tilde" => gf_tilde(times),
+        "forms" => constraints::formed(times),
+        "combine" => constraints::combined(times),
         "replay" => replay(times),
         "leaf-7" => leaves(times, 7),
         "leaf-80" => leaves(times, 80),

@@ -2,7 +2,7 @@
 
 use crate::*;
 
-fn eq_table<T: Copy>(r: &[T], out: &mut [T], one: T, times: impl Fn(T, T) -> T, minus: impl Fn(T, T) -> T) {
+pub fn eq_table<T: Copy>(r: &[T], out: &mut [T], one: T, times: impl Fn(T, T) -> T, minus: impl Fn(T, T) -> T) {
     out[0] = one;
     let mut size = 1;
     for x in r.iter().rev() {
@@ -29,12 +29,12 @@ fn tilde<T: Copy>(values: &[T], r: &[T], room: &mut [T], times: impl Fn(T, T) ->
     room[0]
 }
 
-fn sub(a: u64, b: u64) -> u64 {
+pub fn sub(a: u64, b: u64) -> u64 {
     let (difference, borrow) = a.overflowing_sub(b);
     difference.wrapping_sub(if borrow { 0xffff_ffff } else { 0 })
 }
 
-fn gold_values(n: u64) -> Vec<u64> {
+pub fn gold_values(n: u64) -> Vec<u64> {
     (0..n).map(|i| (i + 1) * 0x1_0000_0001).collect()
 }
 
@@ -77,7 +77,7 @@ pub fn gf_tilde(times: u32) -> u128 {
 }
 
 // A tape over Goldilocks: one running hash, and the key of the last seed.
-struct Tape {
+pub struct Tape {
     seed: [u8; 32],
     hash: Option<Sha>,
     cipher: Aes,
@@ -85,11 +85,11 @@ struct Tape {
 }
 
 impl Tape {
-    fn new() -> Tape {
+    pub fn new() -> Tape {
         Tape { seed: [0; 32], hash: None, cipher: Aes::new(&[0; 32]), counter: 0 }
     }
 
-    fn elem(&mut self, x: u64) {
+    pub fn elem(&mut self, x: u64) {
         let seed = self.seed;
         let hash = self.hash.get_or_insert_with(|| {
             let mut hash = Sha::new();
@@ -111,7 +111,7 @@ impl Tape {
         u128::from_le_bytes(block)
     }
 
-    fn draw(&mut self) -> u64 {
+    pub fn draw(&mut self) -> u64 {
         (self.draw_block() % P as u128) as u64
     }
 }

@@ -3,6 +3,7 @@
 
 mod blocks;
 mod circuits;
+mod constraints;
 mod elements;
 mod proofs;
 mod rows;
@@ -47,6 +48,8 @@ fn done<R: Files + AllocGlobal>(rt: &R, work: &str, times: u32) -> anyhow::Resul
         "gf-eq" => tables::eq_tables::<Gf128>(alloc, times)?,
         "gold-tilde" => tables::extensions::<Gold>(alloc, times)?,
         "gf-tilde" => tables::extensions::<Gf128>(alloc, times)?,
+        "forms" => constraints::formed(alloc, times)?,
+        "combine" => constraints::combined(alloc, times)?,
         "replay" => tables::replayed(alloc, times)?,
         "leaf-7" => trees::leaves(alloc, times, 7)?,
         "leaf-80" => trees::leaves(alloc, times, 80)?,
@@ -54,7 +57,7 @@ fn done<R: Files + AllocGlobal>(rt: &R, work: &str, times: u32) -> anyhow::Resul
         "proof-read" => proofs::read::<Gold>(alloc, times)?,
         "proof-write" => proofs::write::<Gold>(alloc, times)?,
         "proof-files" => proofs::written_as_read(rt)?
-            .wrapping_add(scripts::drawn_as_given(rt)?)
+            .wrapping_add(scripts::joined_as_given(rt)?)
             .wrapping_add(verdicts::judged_as_given(rt)?),
         "numbers" => texts::read(alloc, times)?,
         "source" => texts::parsed(alloc, times)?,

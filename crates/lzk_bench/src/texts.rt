@@ -122,17 +122,34 @@ fn size(circuit: &Circuit<Gold>) -> u128 {
     total
 }
 
+// The circuit of a text, and none where it has none over Goldilocks.
+fn circuit_of(alloc: Global, text: &[u8]) -> Option<Circuit<Gold>>
+    requires { length text.now ≤ 4194304 }
+{
+    match compile(alloc, &parse(alloc, text).ok()?) {
+        Ok(AnyCircuit::Gold(circuit)) => Some(circuit),
+        Ok(AnyCircuit::Gf(_)) => None,
+        Err(_) => None,
+    }
+}
+
+/// The circuit of a source over 16,384 bits.
+pub fn parity_circuit(alloc: Global) -> Result<Option<Circuit<Gold>>, AllocError> {
+    let text = parity_source(alloc)?;
+    if text.len() <= 4_194_304 {
+        Ok(circuit_of(alloc, &text))
+    } else {
+        Ok(None)
+    }
+}
+
 // The size of a text's circuit, and 0 where it has none.
 fn compiled_size(alloc: Global, text: &[u8]) -> u128
     requires { length text.now ≤ 4194304 }
 {
-    let Ok(source) = parse(alloc, text) else {
-        return 0;
-    };
-    match compile(alloc, &source) {
-        Ok(AnyCircuit::Gold(circuit)) => size(&circuit),
-        Ok(AnyCircuit::Gf(_)) => 0,
-        Err(_) => 0,
+    match circuit_of(alloc, text) {
+        Some(circuit) => size(&circuit),
+        None => 0,
     }
 }
 

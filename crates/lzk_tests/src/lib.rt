@@ -9,6 +9,10 @@ mod circuit_ground;
 #[cfg(test)]
 mod circuits;
 #[cfg(test)]
+mod combined;
+#[cfg(test)]
+mod combined_vectors;
+#[cfg(test)]
 mod extension;
 #[cfg(test)]
 mod multilinear;

@@ -17,13 +17,14 @@ use lzk_transcript::Tape;
 use std::alloc::{AllocError, Global};
 use std::test::Fail;
 
-// A term's g, a and b, and its coefficient's number; the one that is minus one is written as 0.
-type Entry = (u32, u32, u32, u128);
+/// A term's g, a and b, and its coefficient's number; the one that is minus one is written as 0.
+pub type Entry = (u32, u32, u32, u128);
 
-// Public and private inputs, and each layer's wires and terms.
-type Shape<'a> = (u32, u32, &'a [(u32, &'a [Entry])]);
+/// Public and private inputs, and each layer's wires and terms.
+pub type Shape<'a> = (u32, u32, &'a [(u32, &'a [Entry])]);
 
-const SQUARE: Shape<'static> = (1, 1, &[(1, &[(0, 0, 1, 0), (0, 2, 2, 1)])]);
+/// One layer of one wire.
+pub const SQUARE: Shape<'static> = (1, 1, &[(1, &[(0, 0, 1, 0), (0, 2, 2, 1)])]);
 
 const TWO_LAYERS: Shape<'static> = (
     1,
@@ -47,7 +48,11 @@ fn terms_of<F: Field>(entries: &[Entry], alloc: Global) -> Result<Vec<Term<F>>, 
     Ok(terms)
 }
 
-fn circuit_of<F: Field>(shape: Shape<'_>, alloc: Global) -> Result<Option<Circuit<F>>, AllocError> {
+/// The circuit of a shape, if it is one.
+pub fn circuit_of<F: Field>(
+    shape: Shape<'_>,
+    alloc: Global,
+) -> Result<Option<Circuit<F>>, AllocError> {
     let (publics, privates, rows) = shape;
     let mut layers = Vec::new(alloc);
     for &(wires, entries) in rows {
@@ -59,8 +64,8 @@ fn circuit_of<F: Field>(shape: Shape<'_>, alloc: Global) -> Result<Option<Circui
     Ok(Circuit::of_layers(publics, privates, layers).ok())
 }
 
-// The elements of the multiples of a word from so many times it on.
-fn multiples<F: Field>(
+/// The elements of the multiples of a word from so many times it on.
+pub fn multiples<F: Field>(
     first: u32,
     count: u32,
     word: u128,
