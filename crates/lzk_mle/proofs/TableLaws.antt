@@ -1,14 +1,15 @@
 -- Extensions of tables, a variable at a time.
-use Rattle.std.specs.Prelude.{◌≡◌, ℕ, ◌<◌, ◌≤◌, ◌+◌, ◌*◌, ◌/◌, ◌%◌, ◌==◌, List, [], ◌∷◌, length, cond}
+use Rattle.std.specs.Prelude.{◌≡◌, ℕ, ◌<◌, ◌≤◌, ◌+◌, ◌*◌, ◌/◌, ◌%◌, ◌^◌, ◌==◌, List, [], ◌∷◌, ◌++◌, length, cond}
 use Rattle.std.proofs.Common.{refl, sym, ap, ◌∙◌, arith}
 use Rattle.std.proofs.lemmas.List.{get_or_past}
+use Rattle.std.proofs.Math.Nat.{pow-succ'}
 use Rattle.lzk_field.specs.Ring.{Ops, RingLaws}
 use Rattle.lzk_field.specs.Sums.{sum_below, minus, entry}
 use Rattle.lzk_field.proofs.RingBasics.{times_zero}
 use Rattle.lzk_field.proofs.Solve.{var, null, unit, ◌⊞◌, ◌⊟◌, ◌⊠◌, solve}
 use Rattle.lzk_field.proofs.SumLaws.{sum-ext, sum-tail}
 use Rattle.lzk_field.proofs.SumPlaces.{sum-halves}
-use Rattle.lzk_mle.specs.Multilinear.{agree, eq, tilde}
+use Rattle.lzk_mle.specs.Multilinear.{low_bit, agree, eq, tilde}
 
 half-even : (i : ℕ) → (2 * i) / 2 ≡ i
 half-even i = omega arith
@@ -45,6 +46,32 @@ module _ {A : Type 0} (o : Ops A) (r : RingLaws o) where
       ap (λ k. times (agree o (cond (k == 0) o.zero o.one) x) (eq o ((2 * i + 1) / 2) xs)) (rest-odd i)
       ∙ ap (λ k. times (agree o o.one x) (eq o k xs)) (half-odd i)
       ∙ ap (λ w. times w (eq o i xs)) (solve o r (x ∷ []) (unit ⊠ var 0 ⊞ (unit ⊟ unit) ⊠ (unit ⊟ var 0)) (var 0) refl)
+
+  -- the last variable binds the highest bit: below it a zero, from it on a one
+  pub eq-low : (xs : List A) (i : ℕ) (x : A) → i < 2 ^ length xs → eq o i (xs ++ x ∷ []) ≡ times (minus o o.one x) (eq o i xs)
+  eq-low [] i x l =
+      let first : i ≡ 0 = omega arith in
+      ap (λ k. eq o k (x ∷ [])) first
+      ∙ solve o r (x ∷ []) ((null ⊠ var 0 ⊞ (unit ⊟ null) ⊠ (unit ⊟ var 0)) ⊠ unit) ((unit ⊟ var 0) ⊠ unit) refl
+  eq-low (y ∷ ys) i x l =
+      let half : i / 2 < 2 ^ length ys = omega (arith, pow-succ' 2 (length ys)) in
+      ap (times (agree o (low_bit o i) y)) (eq-low ys (i / 2) x half)
+      ∙ solve o r (x ∷ agree o (low_bit o i) y ∷ eq o (i / 2) ys ∷ []) (var 1 ⊠ ((unit ⊟ var 0) ⊠ var 2)) ((unit ⊟ var 0) ⊠ (var 1 ⊠ var 2)) refl
+
+  pub eq-high : (xs : List A) (i : ℕ) (x : A) → i < 2 ^ length xs → eq o (2 ^ length xs + i) (xs ++ x ∷ []) ≡ times x (eq o i xs)
+  eq-high [] i x l =
+      let first : 1 + i ≡ 1 = omega arith in
+      ap (λ k. eq o k (x ∷ [])) first
+      ∙ solve o r (x ∷ []) ((unit ⊠ var 0 ⊞ (unit ⊟ unit) ⊠ (unit ⊟ var 0)) ⊠ unit) (var 0 ⊠ unit) refl
+  eq-high (y ∷ ys) i x l =
+      let double : 2 ^ length (y ∷ ys) ≡ 2 * 2 ^ length ys = pow-succ' 2 (length ys) in
+      let half : i / 2 < 2 ^ length ys = omega (arith, double) in
+      let bit : (2 ^ length (y ∷ ys) + i) % 2 ≡ i % 2 = omega (arith, double) in
+      let rest : (2 ^ length (y ∷ ys) + i) / 2 ≡ 2 ^ length ys + i / 2 = omega (arith, double) in
+      ap (λ k. times (agree o (cond (k == 0) o.zero o.one) y) (eq o ((2 ^ length (y ∷ ys) + i) / 2) (ys ++ x ∷ []))) bit
+      ∙ ap (λ k. times (agree o (low_bit o i) y) (eq o k (ys ++ x ∷ []))) rest
+      ∙ ap (times (agree o (low_bit o i) y)) (eq-high ys (i / 2) x half)
+      ∙ solve o r (x ∷ agree o (low_bit o i) y ∷ eq o (i / 2) ys ∷ []) (var 1 ⊠ (var 0 ⊠ var 2)) (var 0 ⊠ (var 1 ⊠ var 2)) refl
 
   pub extension-bound : (n : ℕ) (f : ℕ → A) (x : A) (xs : List A) → extension o (2 * n) f (x ∷ xs) ≡ extension o n (bound o x f) xs
   extension-bound n f x xs =

@@ -6,19 +6,40 @@ ghost use Rattle.lzk_mle.specs.Multilinear.{eq};
 
 use lzk_field::Field;
 
-// Puts at 2i and 2i + 1 what stands at i, times 1 - x and times x, for each i below size.
-fn spread<F: Field>(table: &mut [F], size: usize, x: F)
+// Puts x times each entry into the other half.
+fn fill_ones<F: Field>(low: &[F], high: &mut [F], x: F)
+    requires { length high.old ≡ length low.now }
+    ensures length { length high.new ≡ length high.old }
+    ensures products { let o = F.ops in (i : ℕ) → i < length low.now → entry o high.new i ≡ o.times x (entry o low.now i) }
+{
+    for i in 0..low.len() {
+        high[i] = x.mul(low[i]);
+    }
+}
+
+// Takes the other half's entry from each.
+fn take_ones<F: Field>(low: &mut [F], high: &[F])
+    requires { length low.old ≡ length high.now }
+    ensures length { length low.new ≡ length low.old }
+    ensures differences { let o = F.ops in (i : ℕ) → i < length high.now → entry o low.new i ≡ minus o (entry o low.old i) (entry o high.now i) }
+{
+    for i in 0..high.len() {
+        low[i] = low[i].sub(high[i]);
+    }
+}
+
+// Doubles the table of the first `size` entries: each times 1 - x, and behind them each times x. Products and differences
+// have a loop each, so that no difference waits for its product.
+fn double<F: Field>(table: &mut [F], size: usize, x: F)
     requires { 2 * size ≤ length table.old }
     ensures length { length table.new ≡ length table.old }
-    ensures even { let o = F.ops in (i : ℕ) → i < size → entry o table.new (2 * i) ≡ o.times (minus o o.one x) (entry o table.old i) }
-    ensures odd { let o = F.ops in (i : ℕ) → i < size → entry o table.new (2 * i + 1) ≡ o.times x (entry o table.old i) }
+    ensures zeros { let o = F.ops in (i : ℕ) → i < size → entry o table.new i ≡ o.times (minus o o.one x) (entry o table.old i) }
+    ensures ones { let o = F.ops in (i : ℕ) → i < size → entry o table.new (size + i) ≡ o.times x (entry o table.old i) }
 {
-    for i in (0..size).rev() {
-        let entry = table[i];
-        let one = x.mul(entry);
-        table[2 * i] = entry.sub(one);
-        table[2 * i + 1] = one;
-    }
+    let (low, rest) = table.split_at_mut(size);
+    let (high, _) = rest.split_at_mut(size);
+    fill_ones(low, high, x);
+    take_ones(low, high);
 }
 
 /// Sets each entry of the table to `eq` of its number and `r`: the product over the bits of the
@@ -31,8 +52,8 @@ pub fn eq_table<F: Field>(r: &[F], out: &mut [F])
 {
     out[0] = F::one();
     let mut size = 1;
-    for j in (0..r.len()).rev() {
-        spread(out, size, r[j]);
+    for j in 0..r.len() {
+        double(out, size, r[j]);
         size *= 2;
     }
 }

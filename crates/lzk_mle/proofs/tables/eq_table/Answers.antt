@@ -1,5 +1,5 @@
-use Rattle.std.proofs.Common.{◌≡◌, ◌+◌, ◌*◌, ◌<◌, ◌≤◌, ◌-◌, length, drop, ap, sym, ◌∙◌, subst, arith, rules, ◌∷◌}
-use Rattle.std.proofs.lemmas.List.{drop_more, get_or-set_same, length-set}
+use Rattle.std.proofs.Common.{◌*◌, ◌<◌, ◌≤◌, length, take, ap, sym, ◌∙◌, subst, arith, rules, ◌∷◌, [], ◌++◌}
+use Rattle.std.proofs.lemmas.List.{take_more, get_or-set_same, length-set}
 use Rattle.lzk_mle.proofs.LoopStates.{IsEqTable, eq_table_first, eq_table_more, room_for, not_large}
 use Rattle.lzk_mle.proofs.tables.eq_table.Goals as goal
 
@@ -9,19 +9,20 @@ loop-j-init g c =
     let fits : 0 < length c.args.out.now = search rules in
     eq_table_first o g.F.Field.laws.ring c.args.r.now _ (get_or-set_same c.args.out.now 0 c.one.result o.zero fits ∙ c.one.ensures)
 
-pub spread-requires-after_bounds : goal.spread-requires-after_bounds
-spread-requires-after_bounds g c κs within =
-    omega (arith, c.loop-j.invariant.size_is, room_for g.F.Field.ops c.args.r.now c.loop-j.j (omega arith) (omega arith), length-set c.args.out.now 0 c.one.result)
+pub double-requires-after_bounds : goal.double-requires-after_bounds
+double-requires-after_bounds g c κs within =
+    omega (arith, c.loop-j.invariant.size_is, room_for g.F.Field.ops c.args.r.now c.loop-j.j (omega arith), length-set c.args.out.now 0 c.one.result)
 
 pub overflow_mul-size : goal.overflow_mul-size
 overflow_mul-size g c =
-    let b : c.loop-j.size * 2 ≤ 131072 = omega (arith, c.loop-j.invariant.size_is, room_for g.F.Field.ops c.args.r.now c.loop-j.j (omega arith) (omega arith), not_large g.F.Field.ops (length c.args.r.now) c.requires.few) in
+    let b : c.loop-j.size * 2 ≤ 131072 = omega (arith, c.loop-j.invariant.size_is, room_for g.F.Field.ops c.args.r.now c.loop-j.j (omega arith), not_large g.F.Field.ops (length c.args.r.now) c.requires.few) in
     omega arith
 
 pub loop-j-preserved : goal.loop-j-preserved
 loop-j-preserved g c =
     let o = g.F.Field.ops in
-    let i = c.loop-j.j - 1 in
-    let again : i + 1 ≡ c.loop-j.j = omega arith in
-    let front = drop_more c.args.r.now i c.index-r-j.result (omega arith) ∙ ap (λ x. x ∷ drop (i + 1) c.args.r.now) (sym c.index-r-j.is) ∙ ap (λ k. c.index-r-j.result ∷ drop k c.args.r.now) again in
-    subst (λ xs. IsEqTable o xs (c.loop-j.size * 2) c.spread.new.table) (sym front) (eq_table_more o g.F.Field.laws.ring (drop c.loop-j.j c.args.r.now) c.index-r-j.result c.loop-j.size c.loop-j.out c.spread.new.table c.loop-j.invariant c.spread.ensures.even c.spread.ensures.odd)
+    let j = c.loop-j.j in
+    let xs = c.args.r.now in
+    let x = c.index-r-j.result in
+    let front = take_more xs j x c.loop-j-test.true ∙ ap (λ y. take j xs ++ y ∷ []) (sym c.index-r-j.is) in
+    subst (λ ys. IsEqTable o ys (c.loop-j.size * 2) c.double.new.table) (sym front) (eq_table_more o g.F.Field.laws.ring (take j xs) x c.loop-j.size c.loop-j.out c.double.new.table c.loop-j.invariant c.double.ensures.zeros c.double.ensures.ones)
