@@ -8,18 +8,7 @@ use Rattle.std.proofs.Math.Seq.{get_or-append_seam}
 use Rattle.lzk_layout.specs.declared.fault.ProofKind.{ProofKind}
 use Rattle.lzk_layout.specs.declared.fault.Stop.{Stop}
 use Rattle.lzk_layout.specs.Proofs.{flat, AreDigests}
-use Rattle.lzk_layout.specs.Fields.{Sort, plain, count, path_at, Shape, width, wrong, ◌>>=◌, passes, field_at, fields_at}
-
--- each field passes as one of its sort
-pub record IsField (shape : Shape) (s : Sort) (field : List ℕ) : Type 0 where
-  pub long : length field ≡ width shape s
-  pub right : wrong shape s field ≡ None
-
-abbrev pub AreFields : Shape → List Sort → List (List ℕ) → Type 0
-AreFields shape [] [] = Unit {0}
-AreFields shape (s ∷ ss) (f ∷ fs) = IsField shape s f × AreFields shape ss fs
-AreFields shape [] (f ∷ fs) = ⊥
-AreFields shape (s ∷ ss) [] = ⊥
+use Rattle.lzk_layout.specs.Fields.{Sort, plain, count, path_at, Shape, width, wrong, ◌>>=◌, passes, field_at, fields_at, IsField, AreFields}
 
 pub from : {A B G : Type 0} (r : Result A Stop) (f : A → Result B Stop) (y : B) → (r >>= f) ≡ Ok y → ((x : A) → r ≡ Ok x → f x ≡ Ok y → G) → G
 from (Ok x) f y e k = k x refl e

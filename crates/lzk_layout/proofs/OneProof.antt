@@ -12,10 +12,10 @@ use Rattle.lzk_layout.specs.declared.proof.Proof.{Proof}
 use Rattle.lzk_layout.specs.declared.fault.Stop.{Stop}
 use Rattle.lzk_layout.specs.Proofs.{flat, element_field, opened_fields, fields_of, AreDigests, HasLengths, ProofBytes}
 use Rattle.lzk_layout.specs.Answers.{answer_fields, answer_sorts_of}
-use Rattle.lzk_layout.specs.Fields.{Sort, magic, plain, element, count, Shape, shape, wrong, field_at, fields_at, path_at, opened_sorts, sorts_of, proof_at}
+use Rattle.lzk_layout.specs.Fields.{Sort, magic, plain, element, count, Shape, shape, wrong, field_at, fields_at, path_at, opened_sorts, sorts_of, proof_at, IsField, AreFields}
 use Rattle.lzk_layout.specs.Files.{IsSameProof, OneProof, OneFile, IsNoProof, NoFault}
 use Rattle.lzk_layout.proofs.FileLaws.{flat-append}
-use Rattle.lzk_layout.proofs.FieldLaws.{IsField, AreFields, from, passed, field_takes, fields_take, field_again, fields_again, done, done_is, path_read}
+use Rattle.lzk_layout.proofs.FieldLaws.{from, passed, field_takes, fields_take, field_again, fields_again, done, done_is, path_read}
 use Rattle.lzk_layout.proofs.WholeFiles.{opened_sorts_of, sorts_are, fields_are}
 
 -- ---- fields that pass
