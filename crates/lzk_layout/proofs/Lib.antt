@@ -5,6 +5,7 @@ pub mod Least
 pub mod Lengths
 pub mod OneProof
 pub mod OpenedLaws
+pub mod PartLaws
 pub mod PlaceLaws
 pub mod ReadProof
 pub mod SizeLaws

@@ -9,6 +9,8 @@ mod circuit_ground;
 #[cfg(test)]
 mod circuits;
 #[cfg(test)]
+mod cursors;
+#[cfg(test)]
 mod extension;
 #[cfg(test)]
 mod multilinear;
