@@ -90,7 +90,7 @@ abbrev headed : Shape → List Sort → Result (List ℕ × List ℕ) Stop → R
 headed shape ss (Ok f) = behind (f.0 ∷ []) (fields_at shape ss f.1)
 headed shape ss (Err d) = Err d
 
-do_is : (f : List ℕ) (r : Result (List (List ℕ) × List ℕ) Stop) → (r >>= λ fields. Ok (f ∷ fields.0, fields.1)) ≡ behind (f ∷ []) r
+pub do_is : (f : List ℕ) (r : Result (List (List ℕ) × List ℕ) Stop) → (r >>= λ fields. Ok (f ∷ fields.0, fields.1)) ≡ behind (f ∷ []) r
 do_is f (Ok x) = refl
 do_is f (Err d) = refl
 
@@ -105,7 +105,7 @@ field_then shape s ss bytes f after e = headed_is shape s ss bytes (Ok (f, after
 pub field_stops : (shape : Shape) (s : Sort) (ss : List Sort) (bytes : List ℕ) (d : Stop) → field_at shape s bytes ≡ Err d → fields_at shape (s ∷ ss) bytes ≡ Err d
 field_stops shape s ss bytes d e = headed_is shape s ss bytes (Err d) e
 
-none_at : (shape : Shape) (bytes : List ℕ) → fields_at shape [] bytes ≡ Ok ([], bytes)
+pub none_at : (shape : Shape) (bytes : List ℕ) → fields_at shape [] bytes ≡ Ok ([], bytes)
 unfolding fields_at
 none_at shape bytes = refl
 

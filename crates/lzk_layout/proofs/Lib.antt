@@ -1,11 +1,15 @@
 pub mod Faults
 pub mod FieldLaws
 pub mod FileLaws
+pub mod FrontFaults
+pub mod FrontLaws
+pub mod FrontOrder
 pub mod Least
 pub mod Lengths
 pub mod OneProof
 pub mod OpenedLaws
 pub mod PartLaws
+pub mod PartSorts
 pub mod PlaceLaws
 pub mod ReadProof
 pub mod SizeLaws
