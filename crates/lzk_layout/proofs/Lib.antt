@@ -2,6 +2,7 @@ pub mod Faults
 pub mod FieldLaws
 pub mod FileLaws
 pub mod FrontFaults
+pub mod FrontFiles
 pub mod FrontLaws
 pub mod FrontOrder
 pub mod Least
@@ -12,5 +13,6 @@ pub mod PartLaws
 pub mod PartSorts
 pub mod PlaceLaws
 pub mod ReadProof
+pub mod ReadingLaws
 pub mod SizeLaws
 pub mod WholeFiles

@@ -37,6 +37,20 @@ abbrev pub digests_after : Option ℕ → ProofPart → List ℕ → Option ℕ
 digests_after digests Count field = Some (from_le_bytes w32 field)
 digests_after digests _ field = digests
 
+-- what a reading becomes when the field of this part, the first n bytes of the block, passes
+abbrev pub passed : Reading → ProofPart → List ℕ → ℕ → Reading
+passed old part block n =
+    let digests = digests_after old.digests part (take n block) in
+    record {
+      params = old.params;
+      fields = old.fields + 1;
+      digests = digests;
+      part = slice_get (known_parts old.params digests) (old.fields + 1);
+      offset = old.offset + n;
+      held = 0;
+      block = replicate 32 0;
+    }
+
 -- the byte is one more of an unfinished field
 pub record TakesMore (s : Shape) (old : Reading) (byte : ℕ) (new : Reading) : Type 0 where
   pub part : ProofPart
@@ -51,15 +65,7 @@ pub record TakesField (s : Shape) (old : Reading) (byte : ℕ) (new : Reading) (
   pub number : n ≡ part_width s part
   pub block_is : block ≡ slice_set old.block old.held byte
   pub passes : wrong s (sort_of part) (take n block) ≡ None
-  pub new_is : let digests = digests_after old.digests part (take n block) in new ≡ record {
-    params = old.params;
-    fields = old.fields + 1;
-    digests = digests;
-    part = slice_get (known_parts old.params digests) (old.fields + 1);
-    offset = old.offset + n;
-    held = 0;
-    block = replicate 32 0;
-  }
+  pub new_is : new ≡ passed old part block n
 
 -- the check that a byte fails: the one of the field that it ends, or that no byte comes behind the last digest
 abbrev pub FailsPart : Shape → Reading → ℕ → ProofKind → Option ProofPart → Type 0

@@ -1,13 +1,13 @@
 //! A reader of proofs' files that is fed.
 
-ghost use Rattle.std.specs.Prelude.{◌≡◌, ℕ, ◌<◌, ◌≤◌, ◌↔◌, ◌++◌, List, [], ◌∷◌, length, take, slice_get, OnOk};
+ghost use Rattle.std.specs.Prelude.{◌≡◌, ℕ, ◌≤◌, ◌^◌, ◌↔◌, ◌++◌, List, [], ◌∷◌, length};
 ghost use Rattle.std.specs.Int.{w32, from_le_bytes};
 ghost use Rattle.lzk_layout.specs.Sizes.{AreParams, AreBounded};
 ghost use Rattle.lzk_layout.specs.Fields.{Shape, shape, wrong, magic, element, count, ProofFaultAt};
 ghost use Rattle.lzk_layout.specs.Parts.{sort_of, part_width, HasPart};
 ghost use Rattle.lzk_layout.specs.Fronts.{EndsField, EndsNone, IsFaulty, IsWholeField, IfField, OneFront, FrontIsSound, FaultStays, FrontGrows, FieldsStand, PartsStand, FileIsFront, FrontIsFile};
 ghost use Rattle.lzk_layout.specs.Cursors.{Pushed};
-ghost use Rattle.lzk_layout.specs.Readings.{IsSound, Takes, TakesField};
+ghost use Rattle.lzk_layout.specs.Readings.{IsSound, digests_after, passed, Takes};
 ghost use Rattle.lzk_layout.specs.declared.params.Params.{Params};
 ghost use Rattle.lzk_layout.specs.declared.part.ProofPart.{ProofPart};
 ghost use Rattle.lzk_layout.specs.declared.fault.ProofFault.{ProofFault};
@@ -139,6 +139,17 @@ fn wrong_field<F: Field>(part: ProofPart, field: &[u8]) -> Option<ProofKind>
     }
 }
 
+// The number of digests behind the field of a part.
+fn digests_behind<F: Field>(digests: Option<u32>, part: ProofPart, field: &[u8]) -> Option<u32>
+    requires { length field.now ≡ part_width (shape F.BYTES F.size) part }
+    ensures { result ≡ digests_after digests part field.now }
+{
+    match part {
+        ProofPart::Count => Some(number_of_digests(field)),
+        _ => digests,
+    }
+}
+
 impl Reading {
     // Of no bytes.
     fn new(params: &Params) -> Reading
@@ -169,11 +180,16 @@ impl Reading {
         }
     }
 
-    // The field of this part, which is the block's first bytes, passed.
-    fn pass(&mut self, part: ProofPart, block: &[u8; 32], width: usize) {
-        if let ProofPart::Count = part {
-            self.digests = Some(number_of_digests(&block[..width]));
-        }
+    // The field of this part, the block's first bytes, passed.
+    fn pass<F: Field>(&mut self, part: ProofPart, block: &[u8; 32], width: usize)
+        requires bounded { AreBounded self.old.params }
+        requires width { width ≡ part_width (shape F.BYTES F.size) part }
+        requires few { width ≤ 32 }
+        requires fields { self.old.fields ≤ 2 ^ 20 }
+        requires offset { self.old.offset ≤ 2 ^ 40 }
+        ensures { self.new ≡ passed self.old part block.now width }
+    {
+        self.digests = digests_behind::<F>(self.digests, part, &block[..width]);
         self.fields += 1;
         self.offset += width as u64;
         self.held = 0;
@@ -200,7 +216,7 @@ impl Reading {
             return CursorStep::Fault(self.fault(kind));
         }
         let block = self.block;
-        self.pass(part, &block, width);
+        self.pass::<F>(part, &block, width);
         CursorStep::Field(part, block, width)
     }
 }
