@@ -152,3 +152,11 @@ early_parts p n m k le =
       | inl lt ↦ early p n k lt ∙ sym (early p m k lt)
       | inr past ↦ count_stands p n k (omega arith) ∙ sym (count_stands p m k (omega arith))
     ]
+
+pub early_take : (p : Params) (n m k : ℕ) → k ≤ before_count p + 1 → take k (parts p n) ≡ take k (parts p m)
+early_take p n m k le = front n ∙ sym (front m)
+  where
+    front : (i : ℕ) → take k (parts p i) ≡ take k (first_parts p ++ Count ∷ [])
+    front i =
+        ap (take k) (parts_apart p i ∙ sym (append_assoc (first_parts p) (Count ∷ []) (each Digest i)))
+        ∙ take-append-le k (first_parts p ++ Count ∷ []) (each Digest i) (omega (arith, length-append (first_parts p) (Count ∷ []), length-first p))
