@@ -1,5 +1,6 @@
 pub mod Faults
 pub mod FieldLaws
+pub mod CursorLaws
 pub mod FileLaws
 pub mod FrontFaults
 pub mod FrontFiles
