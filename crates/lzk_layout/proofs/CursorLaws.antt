@@ -112,7 +112,7 @@ module _ (s : Shape) (few : s.bytes ≤ 32) (some : 1 ≤ s.bytes) (p : Params) 
   abbrev begin : IsBegun s p b fields rest
   begin = begun s p b fields rest read.front
 
-  next_is : next_part p fields ≡ r.part
+  pub next_is : next_part p fields ≡ r.part
   next_is =
       sym (sound.part
       ∙ ap (λ (q : Params). slice_get (known_parts q r.digests) r.fields) params_are
@@ -122,7 +122,7 @@ module _ (s : Shape) (few : s.bytes ≤ 32) (some : 1 ≤ s.bytes) (p : Params) 
   more_begun : IsBegun s p whole fields f
   more_begun = record { are = ap (λ (bs : List ℕ). bs ++ byte ∷ []) begin.are ∙ append_assoc (flat fields) rest (byte ∷ []); pass = begin.pass }
 
-  offset_is : r.offset ≡ length (flat fields)
+  pub offset_is : r.offset ≡ length (flat fields)
   offset_is =
       sound.offset
       ∙ ap (λ (q : Params). field_place s q (unwrap_or r.digests 0) r.fields) params_are

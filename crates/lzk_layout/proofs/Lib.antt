@@ -1,6 +1,7 @@
 pub mod Faults
 pub mod FieldLaws
 pub mod CursorLaws
+pub mod CursorStates
 pub mod FileLaws
 pub mod FrontFaults
 pub mod FrontFiles

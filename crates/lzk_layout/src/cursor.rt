@@ -200,7 +200,8 @@ impl Reading {
     // One byte more.
     fn take<F: Field>(&mut self, byte: u8) -> CursorStep
         requires { IsSound (shape F.BYTES F.size) self.old }
-        ensures { Takes (shape F.BYTES F.size) self.old byte self.new result }
+        ensures takes { Takes (shape F.BYTES F.size) self.old byte self.new result }
+        ensures params { self.new.params ≡ self.old.params }
     {
         let Some(part) = self.part else {
             return CursorStep::Fault(self.fault(ProofKind::Trailing));
