@@ -23,7 +23,7 @@ use Rattle.lzk_layout.specs.Readings.{state_of, IsSound, TakesField, Takes}
 use Rattle.lzk_layout.proofs.Faults.{one_fault}
 use Rattle.lzk_layout.proofs.PartLaws.{parts_stand}
 use Rattle.lzk_layout.proofs.FrontFaults.{front_truncated, front_whole, fault_stays}
-use Rattle.lzk_layout.proofs.ReadingLaws.{rest_long, held_more, held_few}
+use Rattle.lzk_layout.proofs.ReadingLaws.{rest_long, held_more, held_few, sound_more, sound_field}
 use Rattle.lzk_layout.proofs.CursorLaws.{Says, says, says_fault, stands_more, stands_field, next_is, offset_is}
 
 -- one byte more
@@ -59,16 +59,16 @@ module _ (s : Shape) (p : Params) (b : List ℕ) (byte : ℕ) (fault : ProofFaul
   pub faulty_pushed : byte < 256 → Pushed s (state_of (Some fault) r) p (b ++ byte ∷ [])
   faulty_pushed small = record { are_bytes = bytes_more b byte small h.are_bytes; lengths = h.lengths; stands = faulty_says }
 
+-- the fault that is kept behind a step
+abbrev pub fault_behind : CursorStep → Option ProofFault
+fault_behind (Fault fault) = Some fault
+fault_behind _ = None
+
 -- ---- behind bytes without one
 
 module _ (s : Shape) (few : s.bytes ≤ 32) (some : 1 ≤ s.bytes) (p : Params) (b : List ℕ) (byte : ℕ) (old new : Reading) (sound : IsSound s old) (h : Pushed s (state_of None old) p b) where
   pub reading_says : (step : CursorStep) → Takes s old byte new step → Says s p b byte step
   reading_says step t = says s few some p b byte old sound h.lengths h.stands new step t
-
-  -- the fault that is kept behind a step
-  abbrev pub fault_behind : CursorStep → Option ProofFault
-  fault_behind (Fault fault) = Some fault
-  fault_behind _ = None
 
   pub reading_pushed : (step : CursorStep) → byte < 256 → new.params ≡ old.params → Takes s old byte new step → Pushed s (state_of (fault_behind step) new) p (b ++ byte ∷ [])
   reading_pushed More small params t =
@@ -158,3 +158,43 @@ module _ (s : Shape) (p : Params) (b : List ℕ) where
 
     pub ends_whole : r.part ≡ None → proof_at s p b ≡ Ok read.fields
     ends_whole is = front_whole s p b read.fields (take r.held r.block) read.front (next_is s few some p b 0 r sound h.lengths read ∙ is)
+
+-- ---- the value of a cursor, and its fields
+
+pub opened : (s : Shape) (p : Params) (b : List ℕ) (fault kept : Option ProofFault) (r : Reading) (value : CursorState) → state_of kept r ≡ value → kept ≡ fault → Pushed s value p b → Pushed s (state_of fault r) p b
+opened s p b fault kept r value view is h = subst (λ (c : CursorState). Pushed s c p b) (sym (ap (λ (o : Option ProofFault). state_of o r) (sym is) ∙ view)) h
+
+pub closed : (s : Shape) (p : Params) (b : List ℕ) (fault kept : Option ProofFault) (r : Reading) (value : CursorState) → state_of kept r ≡ value → kept ≡ fault → Pushed s (state_of fault r) p b → Pushed s value p b
+closed s p b fault kept r value view is h = subst (λ (c : CursorState). Pushed s c p b) (ap (λ (o : Option ProofFault). state_of o r) (sym is) ∙ view) h
+
+pub no_some : {X : Type 0} (o : Option X) → ((x : X) → o ≡ Some x → ⊥) → o ≡ None
+no_some None h = refl
+no_some (Some x) h = absurd (h x refl)
+
+pub none_behind : (step : CursorStep) → ((x : ProofFault) → step ≡ Fault x → ⊥) → fault_behind step ≡ None
+none_behind More h = refl
+none_behind (Field part block n) h = refl
+none_behind (Fault fault) h = absurd (h fault refl)
+
+-- ---- a byte behind bytes without a fault, by the cursor's value
+
+module _ (s : Shape) (few : s.bytes ≤ 32) (some : 1 ≤ s.bytes) (byte : ℕ) (kept : Option ProofFault) (old new : Reading) (value : CursorState) (view : state_of kept old ≡ value) (none : kept ≡ None)
+    (sound : kept ≡ None → IsSound s old) (step : CursorStep) (takes : Takes s old byte new step) where
+  pub step_says : (p : Params) (b : List ℕ) → Pushed s value p b → Says s p b byte step
+  step_says p b h = reading_says s few some p b byte old new (sound none) (opened s p b None kept old value view none h) step takes
+
+  pub step_pushed : byte < 256 → new.params ≡ old.params → (p : Params) (b : List ℕ) → Pushed s value p b → Pushed s (state_of (fault_behind step) new) p (b ++ byte ∷ [])
+  step_pushed small params p b h = reading_pushed s few some p b byte old new (sound none) (opened s p b None kept old value view none h) step small params takes
+
+  -- without a fault it stays sound
+  pub step_sound : fault_behind step ≡ None → IsSound s new
+  step_sound no_fault = stays step takes no_fault
+    where
+      stays : (x : CursorStep) → Takes s old byte new x → fault_behind x ≡ None → IsSound s new
+      stays More t e = sound_more s old new byte (sound none) few some t
+      stays (Field part block n) t e = sound_field s old new byte (sound none) few some part block n t
+      stays (Fault fault) t e = absurd cc
+
+  pub step_whole : IfField step (λ part block n. IsWholeField s value.params part block n)
+  step_whole =
+      subst (λ (q : Params). IfField step (λ part block n. IsWholeField s q part block n)) (ap (λ (c : CursorState). c.params) view) (whole_field s old new byte few some (sound none) step takes)
