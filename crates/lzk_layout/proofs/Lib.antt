@@ -11,6 +11,7 @@ pub mod Least
 pub mod Lengths
 pub mod OneProof
 pub mod OpenedLaws
+pub mod PartFields
 pub mod PartLaws
 pub mod PartSorts
 pub mod PlaceLaws

@@ -1,8 +1,9 @@
 -- The front of a proof's file that was read: its whole fields, and the bytes of the next.
-use Rattle.std.specs.Prelude.{◌≡◌, ◌≢◌, ℕ, ◌+◌, ◌-◌, ◌<◌, List, [], ◌∷◌, ◌++◌, length, map, take, drop, replicate, Option, Some, None, option_map, unwrap_or, slice_get, slice_index_or}
-use Rattle.std.specs.Int.{w32, from_le_bytes}
+use Rattle.std.specs.Prelude.{◌≡◌, ◌≢◌, ℕ, ◌+◌, ◌-◌, ◌*◌, ◌<◌, List, [], ◌∷◌, ◌++◌, length, map, take, drop, replicate, Option, Some, None, option_map, unwrap_or, slice_get, slice_index_or}
+use Rattle.std.specs.Int.{w32, to_le_bytes, from_le_bytes}
 use Rattle.lzk_layout.specs.declared.params.Params.{Params}
 use Rattle.lzk_layout.specs.declared.part.ProofPart.{ProofPart}
+use Rattle.lzk_layout.specs.declared.part.ProofPart.TheVariants.{Magic, Id, Root, Message, Ldt, Dot, QuadHead, QuadTail, Nonce, Column, Count, Digest}
 use Rattle.lzk_layout.specs.declared.cursor.CursorStep.{CursorStep}
 use Rattle.lzk_layout.specs.declared.cursor.CursorStep.TheVariants.{Field}
 use Rattle.lzk_layout.specs.declared.proof.Proof.{Proof}
@@ -112,3 +113,24 @@ pub record IsFileOf {A : Type 0} (bytes : ℕ) (number : A → ℕ) (p : Params)
 abbrev pub FrontIsFile : {A : Type 0} → ℕ → ℕ → (A → ℕ) → Params → Type 0
 FrontIsFile bytes size number p =
     (file : List ℕ) (fields : List (List ℕ)) (rest : List ℕ) → AreBytes file → IsFront (shape bytes size) p file fields rest → next_part p fields ≡ None → IsFileOf bytes number p file fields
+
+-- this field is that part of the proof, whose columns have so many elements
+abbrev pub IsPartOf : {A : Type 0} → (A → List ℕ) → ℕ → Proof A → ProofPart → List ℕ → Type 0
+IsPartOf field rows q Magic f = f ≡ 76 ∷ 90 ∷ 80 ∷ 49 ∷ []
+IsPartOf field rows q Id f = f ≡ q.id
+IsPartOf field rows q Root f = f ≡ q.root
+IsPartOf field rows q (Message i) f = option_map field (slice_get q.messages i) ≡ Some f
+IsPartOf field rows q (Ldt i) f = option_map field (slice_get q.ldt i) ≡ Some f
+IsPartOf field rows q (Dot i) f = option_map field (slice_get q.dot i) ≡ Some f
+IsPartOf field rows q (QuadHead i) f = option_map field (slice_get q.quad_head i) ≡ Some f
+IsPartOf field rows q (QuadTail i) f = option_map field (slice_get q.quad_tail i) ≡ Some f
+IsPartOf field rows q (Nonce k) f = slice_get q.nonces k ≡ Some f
+IsPartOf field rows q (Column k i) f = option_map field (slice_get q.columns (k * rows + i)) ≡ Some f
+IsPartOf field rows q Count f = f ≡ to_le_bytes w32 (length q.path.digests)
+IsPartOf field rows q (Digest i) f = slice_get q.path.digests i ≡ Some f
+
+-- the fields of a proof's file are the proof's parts, in their order
+abbrev pub FieldsAreParts : {A : Type 0} → ℕ → (A → ℕ) → Params → Type 0
+FieldsAreParts {A} bytes number p =
+    (q : Proof A) (file : List ℕ) → ProofBytes bytes number p q file → (k : ℕ) (part : ProofPart) (f : List ℕ)
+    → slice_get (parts p (length q.path.digests)) k ≡ Some part → slice_get (fields_of (element_field bytes number) p.nrow q) k ≡ Some f → IsPartOf (element_field bytes number) p.nrow q part f

@@ -5,7 +5,7 @@ ghost use Rattle.std.specs.Int.{w32, from_le_bytes};
 ghost use Rattle.lzk_layout.specs.Sizes.{AreParams, AreBounded};
 ghost use Rattle.lzk_layout.specs.Fields.{Shape, shape, wrong, magic, element, count, ProofFaultAt};
 ghost use Rattle.lzk_layout.specs.Parts.{sort_of, part_width, HasPart};
-ghost use Rattle.lzk_layout.specs.Fronts.{EndsField, EndsNone, IsFaulty, IsWholeField, IfField, OneFront, FrontIsSound, FaultStays, FrontGrows, FieldsStand, PartsStand, FileIsFront, FrontIsFile};
+ghost use Rattle.lzk_layout.specs.Fronts.{EndsField, EndsNone, IsFaulty, IsWholeField, IfField, OneFront, FrontIsSound, FaultStays, FrontGrows, FieldsStand, PartsStand, FileIsFront, FrontIsFile, FieldsAreParts};
 ghost use Rattle.lzk_layout.specs.Cursors.{Pushed};
 ghost use Rattle.lzk_layout.specs.Readings.{IsSound, digests_after, passed, Takes};
 ghost use Rattle.lzk_layout.specs.declared.params.Params.{Params};
@@ -278,6 +278,7 @@ impl<F: Field> Cursor<F> {
         // A whole front is a proof's file, and the other way round.
         ensures file { (p : Params) → FileIsFront F.BYTES F.size F.number_of p }
         ensures front { (p : Params) → FrontIsFile F.BYTES F.size F.number_of p }
+        ensures parts { (p : Params) → FieldsAreParts F.BYTES F.number_of p }
     {
         if let Some(fault) = self.fault {
             return Err(fault);

@@ -2,6 +2,7 @@ use Rattle.std.proofs.Common.{◌≤◌, Some, None, arith, subst, sym}
 use Rattle.lzk_layout.specs.declared.fault.ProofFault.{ProofFault}
 use Rattle.lzk_layout.specs.Fields.{shape, ProofFaultAt}
 use Rattle.lzk_layout.proofs.FrontFiles.{file_is_front, front_is_file}
+use Rattle.lzk_layout.proofs.PartFields.{fields_are_parts}
 use Rattle.lzk_layout.proofs.CursorStates.{opened, no_some, result_is_fault, result_is_no_file, whole_is_no_fault, whole_is_file, ends_within, ends_whole}
 use Rattle.lzk_layout.proofs.cursor.Cursor.finish.Goals as goal
 
@@ -64,3 +65,12 @@ returns-in-None-clause-file g c = λ p. file_is_front g.F.Field.ops g.F.Field.si
 
 pub returns-in-None-clause-front : goal.returns-in-None-clause-front
 returns-in-None-clause-front g c = λ p. front_is_file g.F.Field.ops g.F.Field.size g.F.Field.number_of g.F.Field.element g.F.Field.BYTES g.F.Field.laws p
+
+pub returns-in-Some-clause-parts : goal.returns-in-Some-clause-parts
+returns-in-Some-clause-parts g c = λ p. fields_are_parts g.F.Field.BYTES g.F.Field.number_of p
+
+pub returns-in-Some-part-clause-parts : goal.returns-in-Some-part-clause-parts
+returns-in-Some-part-clause-parts g c = λ p. fields_are_parts g.F.Field.BYTES g.F.Field.number_of p
+
+pub returns-in-None-clause-parts : goal.returns-in-None-clause-parts
+returns-in-None-clause-parts g c = λ p. fields_are_parts g.F.Field.BYTES g.F.Field.number_of p
