@@ -1,12 +1,9 @@
 -- What a byte does to a cursor that was pushed others.
-use Rattle.std.proofs.Common.{◌≡◌, ◌≢◌, ◌⊎◌, ℕ, zero, suc, ◌+◌, ◌-◌, ◌<◌, ◌≤◌, Bool, true, false, cond, List, [], ◌∷◌, ◌++◌, length, map, take, drop, replicate, get_or, Option, Some, None, Result, Ok, Err, refl, sym, ap, subst, ◌∙◌, append_assoc, arith, inl, inr}
-use Rattle.std.specs.Prelude.{◌↔◌, slice_get, slice_set, option_map, unwrap_or, slice_index_or}
-use Rattle.std.specs.Int.{w32, from_le_bytes}
-use Rattle.std.proofs.lemmas.Bool.{cases_lt}
-use Rattle.std.proofs.lemmas.List.{append-nil, length-append, take_all, get_or_append_left, get_or_push, map_push, take_at}
+use Rattle.std.proofs.Common.{◌≡◌, ◌≢◌, ℕ, ◌+◌, ◌-◌, ◌<◌, ◌≤◌, Bool, true, false, cond, List, [], ◌∷◌, ◌++◌, length, map, take, replicate, Option, Some, None, Result, Err, refl, sym, ap, subst, ◌∙◌, append_assoc, arith}
+use Rattle.std.specs.Prelude.{◌↔◌, slice_get, slice_set, unwrap_or}
+use Rattle.std.proofs.lemmas.List.{append-nil, length-append, take_all, map_push}
 use Rattle.lzk_layout.specs.declared.params.Params.{Params}
 use Rattle.lzk_layout.specs.declared.part.ProofPart.{ProofPart}
-use Rattle.lzk_layout.specs.declared.part.ProofPart.TheVariants.{Magic, Id, Root, Message, Ldt, Dot, QuadHead, QuadTail, Nonce, Column, Count, Digest}
 use Rattle.lzk_layout.specs.declared.fault.Stop.{Stop}
 use Rattle.lzk_layout.specs.declared.fault.ProofFault.{ProofFault}
 use Rattle.lzk_layout.specs.declared.fault.ProofKind.{ProofKind}
@@ -15,21 +12,19 @@ use Rattle.lzk_layout.specs.declared.cursor.Reading.{Reading}
 use Rattle.lzk_layout.specs.declared.cursor.CursorStep.{CursorStep}
 use Rattle.lzk_layout.specs.declared.cursor.CursorStep.TheVariants.{More, Field, Fault}
 use Rattle.lzk_layout.specs.Proofs.{flat}
-use Rattle.lzk_layout.specs.Files.{AreBytes}
-use Rattle.lzk_layout.specs.Fields.{Sort, magic, plain, element, count, Shape, width, wrong, proof_at, IsField, AreFields, ProofFaultAt}
-use Rattle.lzk_layout.specs.Parts.{sort_of, part_width, parts, field_place, before_count, HasPart}
-use Rattle.lzk_layout.specs.Fronts.{digests_in, known_parts, next_part, IsUnfinished, IsFront, IsFaulty, EndsField, EndsNone, IsWholeField, IfField}
-use Rattle.lzk_layout.specs.Cursors.{CursorPlace, faulty, reading, IsRead, StandsBehind, Pushed}
-use Rattle.lzk_layout.specs.Readings.{place_of, state_of, IsSound, digests_after, passed, TakesMore, TakesField, FailsPart, TakesFault, Takes}
+use Rattle.lzk_layout.specs.Fields.{Sort, magic, plain, element, count, Shape, wrong, proof_at, IsField, AreFields, ProofFaultAt}
+use Rattle.lzk_layout.specs.Parts.{sort_of, part_width, field_place}
+use Rattle.lzk_layout.specs.Fronts.{digests_in, known_parts, next_part, IsUnfinished, IsFront, IsFaulty, EndsField, EndsNone}
+use Rattle.lzk_layout.specs.Cursors.{IsRead}
+use Rattle.lzk_layout.specs.Readings.{IsSound, digests_after, TakesMore, TakesField, FailsPart, TakesFault, Takes}
 use Rattle.lzk_layout.proofs.FileLaws.{flat-append}
 use Rattle.lzk_layout.proofs.Faults.{one_fault}
 use Rattle.lzk_layout.proofs.OneProof.{AreFields-append}
-use Rattle.lzk_layout.proofs.PartLaws.{parts_stand}
-use Rattle.lzk_layout.proofs.PartSorts.{all_sorts, take_sorts, sort_at}
+use Rattle.lzk_layout.proofs.PartSorts.{all_sorts, take_sorts}
 use Rattle.lzk_layout.proofs.FrontLaws.{IsBegun, begun, front_of, front_stops, front_ends}
-use Rattle.lzk_layout.proofs.FrontFaults.{fails_at, front_empty, front_truncated, front_whole, front_is_sound, fault_stays}
+use Rattle.lzk_layout.proofs.FrontFaults.{fails_at, front_empty, front_is_sound}
 use Rattle.lzk_layout.proofs.FrontOrder.{one_front, place_of_field}
-use Rattle.lzk_layout.proofs.ReadingLaws.{parts_kept, digests_more, take_next, rest_long, written, held_more, width_some, held_less, held_few}
+use Rattle.lzk_layout.proofs.ReadingLaws.{parts_kept, digests_more, take_next, rest_long, written, held_more, width_some, held_few}
 
 -- ---- what a byte ends
 
@@ -153,12 +148,12 @@ module _ (s : Shape) (few : s.bytes ≤ 32) (some : 1 ≤ s.bytes) (p : Params) 
     pub stands_more : IsRead s p whole new.fields new.digests (take new.held new.block)
     stands_more =
         subst (λ (n : Reading). IsRead s p whole n.fields n.digests (take n.held n.block)) (sym t.new_is)
-            (record {
-              fields = fields;
-              front = subst (λ (bs : List ℕ). IsFront s p whole fields bs) (sym (held_more r.block r.held byte less sound.zeros)) after;
-              whole_are = read.whole_are;
-              digests_are = read.digests_are;
-            })
+        (record {
+          fields = fields;
+          front = subst (λ (bs : List ℕ). IsFront s p whole fields bs) (sym (held_more r.block r.held byte less sound.zeros)) after;
+          whole_are = read.whole_are;
+          digests_are = read.digests_are;
+        })
 
   -- ---- a field that passes
 
@@ -229,12 +224,12 @@ module _ (s : Shape) (few : s.bytes ≤ 32) (some : 1 ≤ s.bytes) (p : Params) 
     pub stands_field : IsRead s p whole new.fields new.digests (take new.held new.block)
     stands_field =
         subst (λ (x : Reading). IsRead s p whole x.fields x.digests (take x.held x.block)) (sym t.new_is)
-            (record {
-              fields = more;
-              front = after_f;
-              whole_are = ap (λ (k : ℕ). k + 1) read.whole_are ∙ sym counted;
-              digests_are = ap (digests_after r.digests part) is_f ∙ ap (λ (d : Option ℕ). digests_after d part f) read.digests_are ∙ sym known_more;
-            })
+        (record {
+          fields = more;
+          front = after_f;
+          whole_are = ap (λ (k : ℕ). k + 1) read.whole_are ∙ sym counted;
+          digests_are = ap (digests_after r.digests part) is_f ∙ ap (λ (d : Option ℕ). digests_after d part f) read.digests_are ∙ sym known_more;
+        })
 
   -- ---- a fault
 
@@ -249,8 +244,7 @@ module _ (s : Shape) (few : s.bytes ≤ 32) (some : 1 ≤ s.bytes) (p : Params) 
         let none : next_part p fields ≡ None = next_is ∙ is in
         let empty : rest ≡ [] = front_empty s p b fields rest read.front none in
         let last : f ≡ byte ∷ [] = ap (λ (bs : List ℕ). bs ++ byte ∷ []) empty in
-        let ends : proof_at s p whole ≡ err 1 kinds.Trailing = front_ends s p whole fields (byte ∷ []) (subst (λ (bs : List ℕ). IsBegun s p whole fields bs) last more_begun) none in
-        (
+        let ends : proof_at s p whole ≡ err 1 kinds.Trailing = front_ends s p whole fields (byte ∷ []) (subst (λ (bs : List ℕ). IsBegun s p whole fields bs) last more_begun) none in (
           fault_at 1 (ends ∙ ap (λ (k : ProofKind). let x : Result (List (List ℕ)) Stop = err 1 k in x) (sym kind)) (sym (ap length last)),
           λ z. let apart : kinds.Trailing ≡ kinds.Truncated = sym kind ∙ z in absurd cc,
         )
@@ -260,8 +254,7 @@ module _ (s : Shape) (few : s.bytes ≤ 32) (some : 1 ≤ s.bytes) (p : Params) 
         let wrong_f : wrong s (sort_of part) f ≡ Some fault.kind = ap (wrong s (sort_of part)) (sym same) ∙ h.1 in
         let long : length f ≡ r.held + 1 = omega (arith, length-append rest (byte ∷ []), rest_long r.block r.held byte few' sound.zeros) in
         let all_of : take (part_width s part) f ≡ f = take_all (part_width s part) f (omega (arith, long, h.0)) in
-        let stops = fails_at s (sort_of part) f fault.kind (omega (arith, long, h.0)) (ap (wrong s (sort_of part)) all_of ∙ wrong_f) in
-        (
+        let stops = fails_at s (sort_of part) f fault.kind (omega (arith, long, h.0)) (ap (wrong s (sort_of part)) all_of ∙ wrong_f) in (
           fault_at (length f) (front_stops s p whole fields f more_begun part (record { left = length f; kind = fault.kind }) (next_is ∙ is) stops) refl,
           wrong_kind s (sort_of part) f fault.kind wrong_f,
         )

@@ -1,8 +1,8 @@
 -- Cursors that were pushed bytes, before and after one more.
-use Rattle.std.proofs.Common.{◌≡◌, ◌≢◌, ℕ, zero, suc, ◌+◌, ◌-◌, ◌<◌, ◌≤◌, List, [], ◌∷◌, ◌++◌, length, take, get_or, Option, Some, None, Result, Ok, Err, refl, sym, ap, subst, ◌∙◌, arith, inl, inr}
-use Rattle.std.specs.Prelude.{◌↔◌, slice_get, unwrap_or, slice_set}
+use Rattle.std.proofs.Common.{◌≡◌, ℕ, ◌+◌, ◌-◌, ◌<◌, ◌≤◌, List, [], ◌∷◌, ◌++◌, length, take, Option, Some, None, Result, Ok, Err, refl, sym, ap, subst, ◌∙◌, arith, inl, inr}
+use Rattle.std.specs.Prelude.{◌↔◌, unwrap_or, slice_set}
 use Rattle.std.proofs.lemmas.Bool.{cases_lt}
-use Rattle.std.proofs.lemmas.List.{length-append, get_or_append_left, get_or_push, length-take}
+use Rattle.std.proofs.lemmas.List.{length-append, get_or_append_left, get_or_push}
 use Rattle.lzk_layout.specs.declared.params.Params.{Params}
 use Rattle.lzk_layout.specs.declared.part.ProofPart.{ProofPart}
 use Rattle.lzk_layout.specs.declared.part.ProofPart.TheVariants.{Magic, Id, Root, Message, Ldt, Dot, QuadHead, QuadTail, Nonce, Column, Count, Digest}
@@ -16,10 +16,10 @@ use Rattle.lzk_layout.specs.declared.cursor.CursorStep.TheVariants.{More, Field,
 use Rattle.lzk_layout.specs.Proofs.{flat}
 use Rattle.lzk_layout.specs.Files.{AreBytes}
 use Rattle.lzk_layout.specs.Fields.{Shape, proof_at, ProofFaultAt}
-use Rattle.lzk_layout.specs.Parts.{sort_of, part_width, parts, HasPart}
-use Rattle.lzk_layout.specs.Fronts.{next_part, IsUnfinished, IsFront, IsFaulty, IsWholeField, IfField}
+use Rattle.lzk_layout.specs.Parts.{parts, HasPart}
+use Rattle.lzk_layout.specs.Fronts.{next_part, IsUnfinished, IsFront, IsWholeField, IfField}
 use Rattle.lzk_layout.specs.Cursors.{CursorState, IsRead, Pushed}
-use Rattle.lzk_layout.specs.Readings.{state_of, IsSound, TakesField, Takes}
+use Rattle.lzk_layout.specs.Readings.{state_of, IsSound, Takes}
 use Rattle.lzk_layout.proofs.Faults.{one_fault}
 use Rattle.lzk_layout.proofs.PartLaws.{parts_stand}
 use Rattle.lzk_layout.proofs.FrontFaults.{front_truncated, front_whole, fault_stays}
@@ -124,11 +124,10 @@ module _ (s : Shape) (p : Params) (b : List ℕ) where
 
   -- what a call that gives this fault, or none, says of the bytes
   pub result_is_fault : (f : ProofFault) → ProofFaultAt s p b f.offset f.kind → (g : ProofFault) → ◌≡◌ {A = Result (Unit {0}) ProofFault} (Err f) (Err g) ↔ ProofFaultAt s p b g.offset g.kind
-  result_is_fault f h g =
-      (
-        (λ e. let same : f ≡ g = cc in subst (λ (x : ProofFault). ProofFaultAt s p b x.offset x.kind) same h),
-        (λ k. ap (λ (x : ProofFault). let y : Result (Unit {0}) ProofFault = Err x in y) (one_result f h g k)),
-      )
+  result_is_fault f h g = (
+    (λ e. let same : f ≡ g = cc in subst (λ (x : ProofFault). ProofFaultAt s p b x.offset x.kind) same h),
+    (λ k. ap (λ (x : ProofFault). let y : Result (Unit {0}) ProofFault = Err x in y) (one_result f h g k)),
+  )
 
   pub result_is_no_file : (f : ProofFault) → ProofFaultAt s p b f.offset f.kind → ◌≡◌ {A = Result (Unit {0}) ProofFault} (Err f) (Ok tt) ↔ ((fault : ProofFault) → ¬ ProofFaultAt s p b fault.offset fault.kind)
   result_is_no_file f h = ((λ e. absurd cc), (λ none. absurd (none f h)))

@@ -1,5 +1,5 @@
 -- The faults of fronts, and of what comes behind a fault.
-use Rattle.std.proofs.Common.{◌≡◌, ◌≢◌, ℕ, zero, suc, ◌+◌, ◌-◌, ◌<◌, ◌≤◌, Bool, eqb, cond, true, false, List, [], ◌∷◌, ◌++◌, length, take, drop, replicate, Option, Some, None, Result, Ok, Err, refl, sym, ap, subst, ◌∙◌, append_assoc, arith, inl, inr}
+use Rattle.std.proofs.Common.{◌≡◌, ◌≢◌, ℕ, ◌+◌, ◌-◌, ◌<◌, ◌≤◌, Bool, eqb, cond, true, false, List, [], ◌∷◌, ◌++◌, length, take, drop, replicate, Option, Some, None, Result, Ok, Err, refl, sym, ap, subst, ◌∙◌, append_assoc, arith, inl, inr}
 use Rattle.std.specs.Int.{w32, from_le_bytes}
 use Rattle.std.proofs.lemmas.Bool.{cases_lt, lt-ltb, le-ltb, ne_eqb}
 use Rattle.std.proofs.lemmas.List.{length-append, take-append-le}
@@ -10,7 +10,7 @@ use Rattle.lzk_layout.specs.declared.fault.ProofFault.{ProofFault}
 use Rattle.lzk_layout.specs.declared.fault.ProofKind.{ProofKind}
 use Rattle.lzk_layout.specs.declared.fault.ProofKind.TheVariants as kinds
 use Rattle.lzk_layout.specs.Proofs.{flat}
-use Rattle.lzk_layout.specs.Fields.{Sort, plain, count, Shape, width, wrong, ◌>>=◌, stops, passes, field_at, fields_at, path_at, sorts_of, proof_at, ProofFaultAt}
+use Rattle.lzk_layout.specs.Fields.{Sort, plain, count, Shape, width, wrong, stops, field_at, fields_at, path_at, sorts_of, proof_at}
 use Rattle.lzk_layout.specs.Parts.{sort_of, part_width}
 use Rattle.lzk_layout.specs.Fronts.{next_part, IsUnfinished, IsFront, IsFaulty, FrontIsSound, FaultStays}
 use Rattle.lzk_layout.proofs.FieldLaws.{behind, done, do_is, none_at, field_takes, field_again, fields_take, fields_again, field_then, field_stops, count_stops}

@@ -1,5 +1,5 @@
 -- A front behind which no field comes is a proof's file, and the other way round.
-use Rattle.std.proofs.Common.{◌≡◌, ℕ, ◌+◌, ◌-◌, ◌<◌, ◌≤◌, List, [], ◌∷◌, ◌++◌, length, take, replicate, Option, Some, None, Result, Ok, Err, refl, sym, ap, subst, ◌∙◌, append_assoc, arith}
+use Rattle.std.proofs.Common.{◌≡◌, ℕ, ◌-◌, List, [], ◌∷◌, ◌++◌, length, take, replicate, Option, Some, None, Result, Ok, Err, refl, sym, ap, subst, ◌∙◌, append_assoc, arith}
 use Rattle.std.specs.Prelude.{slice_get, option_map, unwrap_or}
 use Rattle.std.specs.Int.{w32, to_le_bytes, from_le_bytes}
 use Rattle.std.proofs.lemmas.Nat.{from_le_bytes-to_le_bytes_4}
@@ -8,14 +8,12 @@ use Rattle.std.proofs.lemmas.Option.{slice_get_past}
 use Rattle.lzk_field.specs.Ring.{Ops, Laws}
 use Rattle.lzk_layout.specs.declared.params.Params.{Params}
 use Rattle.lzk_layout.specs.declared.part.ProofPart.{ProofPart}
-use Rattle.lzk_layout.specs.declared.proof.Proof.{Proof}
 use Rattle.lzk_layout.specs.declared.fault.Stop.{Stop}
 use Rattle.lzk_layout.specs.declared.fault.ProofKind.{ProofKind}
 use Rattle.lzk_layout.specs.Proofs.{flat, element_field, fields_of, ProofBytes}
 use Rattle.lzk_layout.specs.Fields.{Sort, plain, count, Shape, shape, sorts_of, proof_at, AreFields, ProofFaultAt}
-use Rattle.lzk_layout.specs.Files.{AreBytes}
 use Rattle.lzk_layout.specs.Parts.{parts, before_count}
-use Rattle.lzk_layout.specs.Fronts.{digests_in, next_part, IsUnfinished, IsFront, FileIsFront, IsFileOf, FrontIsFile}
+use Rattle.lzk_layout.specs.Fronts.{digests_in, next_part, IsUnfinished, FileIsFront, FrontIsFile}
 use Rattle.lzk_layout.proofs.WholeFiles.{fields_are}
 use Rattle.lzk_layout.proofs.OneProof.{AreFields-append, first_fields, first_pass, count_passes, digests_pass}
 use Rattle.lzk_layout.proofs.ReadProof.{some_proof}
@@ -55,8 +53,7 @@ module _ {A : Type 0} (o : Ops A) (size : ℕ) (number : A → ℕ) (element_of 
       let many : unwrap_or (digests_in p fields) 0 ≡ n = ap (λ (d : Option ℕ). unwrap_or d 0) known in
       let none : next_part p fields ≡ None =
       ap (λ (k : ℕ). slice_get (parts p k) (length fields)) many ∙ slice_get_past (parts p n) (length fields) (omega (arith, long, length-parts p n, length-all_sorts p n)) in
-      let pass : AreFields s (take (length fields) (all_sorts p n)) fields = subst (λ (ss : List Sort). AreFields s ss fields) (sym (take_all (length fields) (all_sorts p n) (omega (arith, long)))) are in
-      (
+      let pass : AreFields s (take (length fields) (all_sorts p n)) fields = subst (λ (ss : List Sort). AreFields s ss fields) (sym (take_all (length fields) (all_sorts p n) (omega (arith, long)))) are in (
         front_of s p file fields []
             (record { are = f.are ∙ sym (append-nil (flat fields)); pass = subst (λ (k : ℕ). AreFields s (take (length fields) (all_sorts p k)) fields) (sym many) pass })
             (subst (λ (d : Option ProofPart). IsUnfinished s d []) (sym none) refl),

@@ -1,19 +1,19 @@
 -- The front of a proof's file decides where reading stops.
-use Rattle.std.proofs.Common.{◌≡◌, ℕ, zero, suc, ◌+◌, ◌-◌, ◌<◌, ◌≤◌, eqb, cond, true, false, List, [], ◌∷◌, ◌++◌, length, map, take, drop, replicate, get_or, Option, Some, None, Result, Ok, Err, refl, sym, ap, subst, ◌∙◌, append_assoc, arith, inl, inr}
+use Rattle.std.proofs.Common.{◌≡◌, ℕ, zero, suc, ◌+◌, ◌-◌, ◌<◌, ◌≤◌, eqb, cond, List, [], ◌∷◌, ◌++◌, length, take, drop, replicate, get_or, Option, Some, None, Result, Ok, Err, refl, sym, ap, subst, ◌∙◌, append_assoc, arith, inl, inr}
 use Rattle.std.specs.Prelude.{slice_get, option_map, unwrap_or}
 use Rattle.std.specs.Int.{w32, from_le_bytes}
 use Rattle.std.proofs.lemmas.Bool.{cases_lt}
-use Rattle.std.proofs.lemmas.List.{append-nil, length-append, length-drop, take-append-drop, drop_more, take_all, length-replicate}
+use Rattle.std.proofs.lemmas.List.{length-append, length-drop, take-append-drop, drop_more, take_all, length-replicate}
 use Rattle.std.proofs.Math.Seq.{take-append-add}
-use Rattle.std.proofs.lemmas.Option.{slice_get-get_or, slice_get_within}
+use Rattle.std.proofs.lemmas.Option.{slice_get-get_or}
 use Rattle.lzk_layout.specs.declared.params.Params.{Params}
 use Rattle.lzk_layout.specs.declared.part.ProofPart.{ProofPart}
 use Rattle.lzk_layout.specs.declared.fault.Stop.{Stop}
 use Rattle.lzk_layout.specs.declared.fault.ProofKind.TheVariants as kinds
 use Rattle.lzk_layout.specs.Proofs.{flat}
-use Rattle.lzk_layout.specs.Fields.{Sort, plain, count, Shape, width, stops, field_at, fields_at, path_at, sorts_of, proof_at, IsField, AreFields}
+use Rattle.lzk_layout.specs.Fields.{Sort, plain, count, Shape, stops, field_at, fields_at, path_at, sorts_of, proof_at, IsField, AreFields}
 use Rattle.lzk_layout.specs.Parts.{sort_of, parts, before_count}
-use Rattle.lzk_layout.specs.Fronts.{digests_in, known_parts, next_part, IsUnfinished, IsFront}
+use Rattle.lzk_layout.specs.Fronts.{digests_in, next_part, IsUnfinished, IsFront}
 use Rattle.lzk_layout.proofs.FileLaws.{flat-append}
 use Rattle.lzk_layout.proofs.FieldLaws.{behind, done, field_again, fields_again, field_then, field_stops, fields_then, fields_stop, is_done, count_stops}
 use Rattle.lzk_layout.proofs.PartSorts.{count_sorts, all_sorts, length-sorts_of, length-parts, sort_at, take_sorts, first_sorts, sort_within, sort_behind}
@@ -208,9 +208,9 @@ module _ (s : Shape) (p : Params) (bytes : List ℕ) (fields : List (List ℕ)) 
             let here : slice_get (count_sorts p) k ≡ Some (sort_of part) = sym (sort_within p n k le) ∙ at in
             let pass : AreFields s (take k (count_sorts p)) fields = subst (λ (ss : List Sort). AreFields s ss fields) (first_sorts p n k (omega arith)) begin.pass in
             first_stops s p bytes d
-                (ap (fields_at s (count_sorts p)) begin.are
-                ∙ ap (λ (ss : List Sort). fields_at s ss (flat fields ++ rest)) (cut (count_sorts p) k (sort_of part) here)
-                ∙ stops_behind s (take k (count_sorts p)) (sort_of part) (drop (suc k) (count_sorts p)) fields rest d pass e)
+            (ap (fields_at s (count_sorts p)) begin.are
+            ∙ ap (λ (ss : List Sort). fields_at s ss (flat fields ++ rest)) (cut (count_sorts p) k (sort_of part) here)
+            ∙ stops_behind s (take k (count_sorts p)) (sort_of part) (drop (suc k) (count_sorts p)) fields rest d pass e)
       ]
 
   -- where no field comes, the file ends, or bytes are left

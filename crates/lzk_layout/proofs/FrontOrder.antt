@@ -1,23 +1,23 @@
 -- Bytes have one front, and more bytes have a front with more fields.
-use Rattle.std.proofs.Common.{◌≡◌, ℕ, zero, suc, ◌+◌, ◌-◌, ◌<◌, ◌≤◌, List, [], ◌∷◌, ◌++◌, length, map, take, drop, get_or, Option, Some, None, refl, sym, ap, subst, ◌∙◌, append_assoc, arith, inl, inr}
+use Rattle.std.proofs.Common.{◌≡◌, ℕ, zero, suc, ◌+◌, ◌<◌, ◌≤◌, List, [], ◌∷◌, ◌++◌, length, map, take, drop, get_or, Option, Some, refl, sym, ap, subst, ◌∙◌, append_assoc, arith, inl, inr}
 use Rattle.std.specs.Prelude.{slice_get, option_map, unwrap_or}
 use Rattle.std.specs.List.{sum_by}
 use Rattle.std.specs.Int.{w32, from_le_bytes}
 use Rattle.std.proofs.lemmas.Bool.{cases_lt}
-use Rattle.std.proofs.lemmas.List.{append_cancel_left, append-nil, length-append, length-take, take_all, take-take, take-append-drop, take_at, drop_at, drop_more, length-drop}
+use Rattle.std.proofs.lemmas.List.{append_cancel_left, length-append, length-take, take_all, take-take, take-append-drop, take_at, drop_at, drop_more}
 use Rattle.std.proofs.lemmas.List.Sums.{sum_by-cons}
-use Rattle.std.proofs.lemmas.Option.{slice_get-get_or, slice_get-map, slice_get_within}
+use Rattle.std.proofs.lemmas.Option.{slice_get-get_or}
 use Rattle.lzk_layout.specs.declared.params.Params.{Params}
 use Rattle.lzk_layout.specs.declared.part.ProofPart.{ProofPart}
 use Rattle.lzk_layout.specs.declared.part.ProofPart.TheVariants.{Magic}
 use Rattle.lzk_layout.specs.Proofs.{flat}
-use Rattle.lzk_layout.specs.Fields.{Sort, plain, Shape, width, IsField, AreFields}
+use Rattle.lzk_layout.specs.Fields.{Sort, Shape, width, IsField, AreFields}
 use Rattle.lzk_layout.specs.Parts.{sort_of, part_width, parts, field_place, before_count}
 use Rattle.lzk_layout.specs.Fronts.{digests_in, known_parts, next_part, IsFront, OneFront, FrontGrows, FieldsStand}
 use Rattle.lzk_layout.proofs.FileLaws.{flat-append}
 use Rattle.lzk_layout.proofs.OneProof.{front_same}
 use Rattle.lzk_layout.proofs.PartSorts.{count_sorts, all_sorts, length-all_sorts, length-parts, early_parts, sort_at, first_sorts, take_sorts}
-use Rattle.lzk_layout.proofs.FrontLaws.{IsBegun, begun, fields_long, none_past}
+use Rattle.lzk_layout.proofs.FrontLaws.{IsBegun, begun, fields_long}
 use Rattle.lzk_layout.proofs.FrontFaults.{front_short}
 
 -- ---- fields of the same sorts
@@ -64,9 +64,9 @@ next_kept p fields j lt =
     let long : length (take j fields) ≡ j = omega (arith, length-take j fields) in
     ap (slice_get (known_parts p (digests_in p (take j fields)))) long
     ∙ elim (cases_lt (before_count p) j) [
-        | inl less ↦ ap (λ (o : Option ℕ). slice_get (known_parts p o) j) (digests_kept p fields j less)
-        | inr le ↦ early_parts p (unwrap_or (digests_in p (take j fields)) 0) (unwrap_or (digests_in p fields) 0) j le
-      ]
+      | inl less ↦ ap (λ (o : Option ℕ). slice_get (known_parts p o) j) (digests_kept p fields j less)
+      | inr le ↦ early_parts p (unwrap_or (digests_in p (take j fields)) 0) (unwrap_or (digests_in p fields) 0) j le
+    ]
 
 module _ (s : Shape) (p : Params) where
   -- the sorts of fields, with those of another front that has the same number of digests, if it is read
@@ -83,11 +83,10 @@ module _ (s : Shape) (p : Params) where
       let n : ℕ = unwrap_or (digests_in p fields) 0 in
       let long : length (take j fields) ≡ j = omega (arith, length-take j fields) in
       let sorts : take j (take (length fields) (all_sorts p n)) ≡ take (length (take j fields)) (count_sorts p) =
-      take-take j (length fields) (all_sorts p n) le ∙ first_sorts p n j early ∙ ap (λ (k : ℕ). take k (count_sorts p)) (sym long) in
-      (
+      take-take j (length fields) (all_sorts p n) le ∙ first_sorts p n j early ∙ ap (λ (k : ℕ). take k (count_sorts p)) (sym long) in (
         subst (λ (ss : List Sort). AreFields s ss (take j fields)) sorts (fields_front s (take (length fields) (all_sorts p n)) fields j h.pass),
         h.are ∙ ap (λ (fs : List (List ℕ)). flat fs ++ rest) (sym (take-append-drop j fields)) ∙ ap (λ (bs : List ℕ). bs ++ rest) (flat-append (take j fields) (drop j fields))
-        ∙ append_assoc (flat (take j fields)) (flat (drop j fields)) rest,
+            ∙ append_assoc (flat (take j fields)) (flat (drop j fields)) rest,
       )
 
   -- of two fronts of the same bytes, the shorter is the front of the longer
@@ -198,10 +197,9 @@ fields_stand s p bytes fields rest front k part lt here =
     h.are ∙ ap (λ (fs : List (List ℕ)). flat fs ++ rest) (sym (take-append-drop k fields) ∙ ap (λ (fs : List (List ℕ)). take k fields ++ fs) (drop_more fields k [] lt))
     ∙ ap (λ (bs : List ℕ). bs ++ rest) (flat-append (take k fields) (f ∷ drop (k + 1) fields)) ∙ append_assoc (flat (take k fields)) (f ++ more) rest
     ∙ ap (λ (bs : List ℕ). flat (take k fields) ++ bs) (append_assoc f more rest) in
-    let place : length (flat (take k fields)) ≡ field_place s p n k = place_of_field s p bytes fields rest k h (omega arith) in
-    (
+    let place : length (flat (take k fields)) ≡ field_place s p n k = place_of_field s p bytes fields rest k h (omega arith) in (
       field,
       sym (ap (λ (bs : List ℕ). take (part_width s part) (drop (field_place s p n k) bs)) whole
-      ∙ ap (take (part_width s part)) (drop_at (flat (take k fields)) (f ++ (more ++ rest)) (field_place s p n k) place)
-      ∙ take_at f (more ++ rest) (part_width s part) field.long),
+          ∙ ap (take (part_width s part)) (drop_at (flat (take k fields)) (f ++ (more ++ rest)) (field_place s p n k) place)
+          ∙ take_at f (more ++ rest) (part_width s part) field.long),
     )

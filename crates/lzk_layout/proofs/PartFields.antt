@@ -1,16 +1,16 @@
 -- Which field of a proof's file is which part of the proof.
-use Rattle.std.proofs.Common.{◌≡◌, ℕ, zero, suc, ◌+◌, ◌-◌, ◌*◌, ◌<◌, ◌≤◌, List, [], ◌∷◌, ◌++◌, length, map, take, drop, Option, Some, None, refl, sym, ap, subst, ◌∙◌, append_assoc, arith, inl, inr}
+use Rattle.std.proofs.Common.{◌≡◌, ℕ, zero, suc, ◌+◌, ◌-◌, ◌*◌, ◌<◌, List, [], ◌∷◌, ◌++◌, length, map, take, drop, Option, Some, None, refl, sym, ap, subst, ◌∙◌, arith, inl, inr}
 use Rattle.std.specs.Prelude.{slice_get, option_map}
 use Rattle.std.specs.List.{range_with_len, flat_map}
 use Rattle.std.specs.Int.{w32, to_le_bytes}
 use Rattle.std.proofs.lemmas.Bool.{cases_lt}
-use Rattle.std.proofs.lemmas.List.{length-append, length-map, length-take, take-append-drop}
+use Rattle.std.proofs.lemmas.List.{length-append, length-map}
 use Rattle.std.proofs.lemmas.Option.{slice_get-map, slice_get_past}
 use Rattle.lzk_layout.specs.declared.params.Params.{Params}
 use Rattle.lzk_layout.specs.declared.proof.Proof.{Proof}
 use Rattle.lzk_layout.specs.declared.part.ProofPart.{ProofPart}
 use Rattle.lzk_layout.specs.declared.part.ProofPart.TheVariants.{Magic, Id, Root, Message, Ldt, Dot, QuadHead, QuadTail, Nonce, Column, Count, Digest}
-use Rattle.lzk_layout.specs.Proofs.{element_field, opened_fields, fields_of, HasLengths, ProofBytes}
+use Rattle.lzk_layout.specs.Proofs.{element_field, opened_fields, fields_of, HasLengths}
 use Rattle.lzk_layout.specs.Parts.{each, column_parts, opened_parts, path_parts, element_parts, parts}
 use Rattle.lzk_layout.specs.Fronts.{IsPartOf, FieldsAreParts}
 use Rattle.lzk_layout.proofs.OneProof.{front_count, back_count}
@@ -86,11 +86,11 @@ module _ {A : Type 0} (bytes : ℕ) (number : A → ℕ) (p : Params) (q : Proof
       each_alike P (Column a) rows (map field column) (λ k f lt e. ap (option_map field) (sym (columns k) ∙ sym (get_take cs rows k lt)) ∙ sym (slice_get-map field column k) ∙ e) in
       let more : Alike P (flat_map (column_parts rows) (range_with_len (a + 1) n)) (opened_fields field rows ns others) =
       columns_alike (a + 1) n ns others (omega (arith, long)) (back_count rows n cs wide)
-          (λ k. nonces (suc k) ∙ ap (slice_get q.nonces) (let e : a + suc k ≡ (a + 1) + k = omega arith in e))
-          (λ k. get_drop cs rows k ∙ columns (rows + k) ∙ ap (slice_get q.columns) (let e : a * rows + (rows + k) ≡ (a + 1) * rows + k = grind arith in e)) in
+      (λ k. nonces (suc k) ∙ ap (slice_get q.nonces) (let e : a + suc k ≡ (a + 1) + k = omega arith in e))
+      (λ k. get_drop cs rows k ∙ columns (rows + k) ∙ ap (slice_get q.columns) (let e : a * rows + (rows + k) ≡ (a + 1) * rows + k = grind arith in e)) in
       alike_one P (Nonce a) m _ _ here
       (alike_then P (each (Column a) rows) (flat_map (column_parts rows) (range_with_len (a + 1) n)) (map field column) (opened_fields field rows ns others)
-          (same_count (Column a) rows column (front_count rows n cs wide)) elements more)
+      (same_count (Column a) rows column (front_count rows n cs wide)) elements more)
 
   columns_counted : (a n : ℕ) (ns : List (List ℕ)) (cs : List A) → length ns ≡ n → length cs ≡ n * p.nrow → length (flat_map (column_parts p.nrow) (range_with_len a n)) ≡ length (opened_fields field p.nrow ns cs)
   columns_counted a zero [] cs long wide = refl
@@ -106,7 +106,7 @@ module _ {A : Type 0} (bytes : ℕ) (number : A → ℕ) (p : Params) (q : Proof
   unfolding opened_parts
   opened_alike h =
       columns_alike 0 128 q.nonces q.columns h.nonces h.columns
-          (λ k. ap (slice_get q.nonces) (let e : k ≡ 0 + k = omega arith in e)) (λ k. ap (slice_get q.columns) (let e : k ≡ 0 * p.nrow + k = omega arith in e))
+      (λ k. ap (slice_get q.nonces) (let e : k ≡ 0 + k = omega arith in e)) (λ k. ap (slice_get q.columns) (let e : k ≡ 0 * p.nrow + k = omega arith in e))
 
   opened_counted : HasLengths p q → length (opened_parts p.nrow 128) ≡ length (opened_fields field p.nrow q.nonces q.columns)
   unfolding opened_parts

@@ -1,16 +1,15 @@
 -- Which part stands where among the parts of a proof's file.
-use Rattle.std.proofs.Common.{◌≡◌, ℕ, zero, suc, ◌+◌, ◌-◌, ◌*◌, ◌/◌, ◌%◌, ◌<◌, ◌≤◌, List, [], ◌∷◌, ◌++◌, length, map, take, replicate, Option, Some, None, refl, sym, ap, subst, ◌∙◌, append_assoc, arith, inl, inr}
+use Rattle.std.proofs.Common.{◌≡◌, ℕ, zero, suc, ◌+◌, ◌-◌, ◌*◌, ◌<◌, ◌≤◌, List, [], ◌∷◌, ◌++◌, length, map, Option, Some, None, refl, sym, ap, subst, ◌∙◌, append_assoc, arith, inl, inr}
 use Rattle.std.specs.Prelude.{slice_get}
 use Rattle.std.specs.List.{range_with_len, flat_map}
 use Rattle.std.proofs.lemmas.Bool.{cases_lt}
-use Rattle.std.proofs.lemmas.List.{length-append, map-append, take-append-le}
+use Rattle.std.proofs.lemmas.List.{length-append}
 use Rattle.std.proofs.lemmas.List.FromFn.{length-map-range_with_len, get_or-map-range_with_len}
 use Rattle.std.proofs.lemmas.Option.{slice_get-get_or, slice_get_past}
 use Rattle.lzk_layout.specs.declared.params.Params.{Params}
 use Rattle.lzk_layout.specs.declared.part.ProofPart.{ProofPart}
 use Rattle.lzk_layout.specs.declared.part.ProofPart.TheVariants.{Magic, Id, Root, Message, Ldt, Dot, QuadHead, QuadTail, Nonce, Column, Count, Digest}
-use Rattle.lzk_layout.specs.Fields.{Sort, plain, element, count, opened_sorts, sorts_of}
-use Rattle.lzk_layout.specs.Parts.{sort_of, each, column_parts, opened_parts, path_parts, element_parts, parts, before_ldt, before_dot, before_head, before_tail, before_opened, before_count, number_of, HasPart}
+use Rattle.lzk_layout.specs.Parts.{each, column_parts, opened_parts, path_parts, element_parts, parts, before_ldt, before_dot, before_head, before_tail, before_opened, before_count, number_of, HasPart}
 use Rattle.lzk_layout.specs.Fronts.{PartsStand}
 
 -- ---- places in lists that follow each other
@@ -185,19 +184,19 @@ columns_stand rows a (suc n) others P nonces elements more k part e =
       | inl lt ↦
           let first : P 0 (Nonce a) = subst (λ (i : ℕ). P 0 (Nonce i)) here (subst (λ (j : ℕ). P j (Nonce (a + 0))) (let z : 0 * (1 + rows) ≡ 0 = omega arith in z) (nonces 0 (omega arith))) in
           column_stands rows a P first
-              (λ r less. subst (λ (i : ℕ). P (1 + r) (Column i r)) here (subst (λ (j : ℕ). P j (Column (a + 0) r)) (let z : 0 * (1 + rows) + 1 + r ≡ 1 + r = omega arith in z) (elements 0 r (omega arith) less)))
-              k part (sym (get_front (column_parts rows a) (columns ++ others) k (omega (arith, length-column rows a))) ∙ sym apart ∙ e)
+          (λ r less. subst (λ (i : ℕ). P (1 + r) (Column i r)) here (subst (λ (j : ℕ). P j (Column (a + 0) r)) (let z : 0 * (1 + rows) + 1 + r ≡ 1 + r = omega arith in z) (elements 0 r (omega arith) less)))
+          k part (sym (get_front (column_parts rows a) (columns ++ others) k (omega (arith, length-column rows a))) ∙ sym apart ∙ e)
       | inr le ↦
           let j : ℕ = k - (1 + rows) in
           let at : (1 + rows) + j ≡ k = omega arith in
           let next : (c : ℕ) → (a + 1) + c ≡ a + suc c = λ c. omega arith in
           subst (λ (i : ℕ). P i part) at
-              (columns_stand rows (a + 1) n others (λ i x. P ((1 + rows) + i) x)
-                  (λ c lt. subst (λ (i : ℕ). P ((1 + rows) + c * (1 + rows)) (Nonce i)) (sym (next c)) (subst (λ (i : ℕ). P i (Nonce (a + suc c))) (let z : suc c * (1 + rows) ≡ (1 + rows) + c * (1 + rows) = grind arith in z) (nonces (suc c) (omega arith))))
-                  (λ c r lt less. subst (λ (i : ℕ). P ((1 + rows) + (c * (1 + rows) + 1 + r)) (Column i r)) (sym (next c))
-                      (subst (λ (i : ℕ). P i (Column (a + suc c) r)) (let z : suc c * (1 + rows) + 1 + r ≡ (1 + rows) + (c * (1 + rows) + 1 + r) = grind arith in z) (elements (suc c) r (omega arith) less)))
-                  (λ i x f. subst (λ (l : ℕ). P l x) (let z : suc n * (1 + rows) + i ≡ (1 + rows) + (n * (1 + rows) + i) = grind arith in z) (more i x f))
-                  j part (sym (get_behind (column_parts rows a) (columns ++ others) (1 + rows) k j (length-column rows a) at) ∙ sym apart ∙ e))
+          (columns_stand rows (a + 1) n others (λ i x. P ((1 + rows) + i) x)
+          (λ c lt. subst (λ (i : ℕ). P ((1 + rows) + c * (1 + rows)) (Nonce i)) (sym (next c)) (subst (λ (i : ℕ). P i (Nonce (a + suc c))) (let z : suc c * (1 + rows) ≡ (1 + rows) + c * (1 + rows) = grind arith in z) (nonces (suc c) (omega arith))))
+          (λ c r lt less. subst (λ (i : ℕ). P ((1 + rows) + (c * (1 + rows) + 1 + r)) (Column i r)) (sym (next c))
+          (subst (λ (i : ℕ). P i (Column (a + suc c) r)) (let z : suc c * (1 + rows) + 1 + r ≡ (1 + rows) + (c * (1 + rows) + 1 + r) = grind arith in z) (elements (suc c) r (omega arith) less)))
+          (λ i x f. subst (λ (l : ℕ). P l x) (let z : suc n * (1 + rows) + i ≡ (1 + rows) + (n * (1 + rows) + i) = grind arith in z) (more i x f))
+          j part (sym (get_behind (column_parts rows a) (columns ++ others) (1 + rows) k j (length-column rows a) at) ∙ sym apart ∙ e))
     ]
 
 -- the number of a part, and that there is one
@@ -221,10 +220,10 @@ opened_stand : (p : Params) (digests k : ℕ) (part : ProofPart) → slice_get (
 unfolding opened_parts
 opened_stand p digests k part e =
     columns_stand p.nrow 0 128 (path_parts digests) (λ j x. Stands p digests (before_opened p + j) x)
-        (λ c lt. (ap (λ (i : ℕ). before_opened p + i * (1 + p.nrow)) (let z : c ≡ 0 + c = omega arith in z), omega arith))
-        (λ c r lt less. (at c r, (omega arith, less)))
-        (λ j x f. subst (λ (i : ℕ). Stands p digests i x) (let z : before_count p + j ≡ before_opened p + (128 * (1 + p.nrow) + j) = omega arith in z) (path_stands p digests j x f))
-        k part e
+    (λ c lt. (ap (λ (i : ℕ). before_opened p + i * (1 + p.nrow)) (let z : c ≡ 0 + c = omega arith in z), omega arith))
+    (λ c r lt less. (at c r, (omega arith, less)))
+    (λ j x f. subst (λ (i : ℕ). Stands p digests i x) (let z : before_count p + j ≡ before_opened p + (128 * (1 + p.nrow) + j) = omega arith in z) (path_stands p digests j x f))
+    k part e
   where
     at : (c r : ℕ) → before_opened p + (c * (1 + p.nrow) + 1 + r) ≡ before_opened p + (0 + c) * (1 + p.nrow) + 1 + r
     at c r = let same : 0 + c ≡ c = omega arith in rw same (omega arith)

@@ -1,5 +1,5 @@
 -- The parts of a proof's file have the sorts that its fields are read as.
-use Rattle.std.proofs.Common.{◌≡◌, ℕ, zero, suc, ◌+◌, ◌-◌, ◌*◌, ◌<◌, ◌≤◌, List, [], ◌∷◌, ◌++◌, length, map, take, drop, replicate, Option, Some, None, refl, sym, ap, subst, ◌∙◌, append_assoc, arith, inl, inr}
+use Rattle.std.proofs.Common.{◌≡◌, ℕ, zero, suc, ◌+◌, ◌-◌, ◌*◌, ◌<◌, ◌≤◌, List, [], ◌∷◌, ◌++◌, length, map, take, replicate, Some, refl, sym, ap, ◌∙◌, append_assoc, arith, inl, inr}
 use Rattle.std.specs.Prelude.{slice_get, option_map}
 use Rattle.std.specs.List.{range_with_len, flat_map}
 use Rattle.std.proofs.lemmas.Bool.{cases_lt}
@@ -8,7 +8,7 @@ use Rattle.std.proofs.lemmas.Option.{slice_get-map}
 use Rattle.lzk_layout.specs.declared.params.Params.{Params}
 use Rattle.lzk_layout.specs.declared.part.ProofPart.{ProofPart}
 use Rattle.lzk_layout.specs.declared.part.ProofPart.TheVariants.{Magic, Id, Root, Message, Ldt, Dot, QuadHead, QuadTail, Column, Count, Digest}
-use Rattle.lzk_layout.specs.Fields.{Sort, magic, plain, element, count, opened_sorts, answer_sorts, sorts_of}
+use Rattle.lzk_layout.specs.Fields.{Sort, magic, plain, element, count, opened_sorts, sorts_of}
 use Rattle.lzk_layout.specs.Parts.{sort_of, each, column_parts, opened_parts, path_parts, element_parts, parts, before_count}
 use Rattle.lzk_layout.proofs.PartLaws.{get_front, get_behind, length-each}
 
@@ -67,8 +67,8 @@ unfolding parts sorts_of
 sorts_are_parts p n =
     let path : map sort_of (path_parts n) ≡ count ∷ replicate n plain = ap (λ (xs : List Sort). count ∷ xs) (map-each Digest plain (λ i. refl) n) in
     ap (λ (xs : List Sort). magic ∷ plain ∷ plain ∷ xs)
-        (elements_then p (opened_parts p.nrow 128 ++ path_parts n) (opened_sorts p.nrow 128 ++ (count ∷ replicate n plain)) (opened_then p.nrow 128 (path_parts n) (count ∷ replicate n plain) path)
-        ∙ regroup (replicate p.nsum element) (replicate p.block element) (replicate p.dblock element) (replicate 128 element) (replicate (p.dblock - p.block) element) (opened_sorts p.nrow 128) (count ∷ replicate n plain))
+    (elements_then p (opened_parts p.nrow 128 ++ path_parts n) (opened_sorts p.nrow 128 ++ (count ∷ replicate n plain)) (opened_then p.nrow 128 (path_parts n) (count ∷ replicate n plain) path)
+    ∙ regroup (replicate p.nsum element) (replicate p.block element) (replicate p.dblock element) (replicate 128 element) (replicate (p.dblock - p.block) element) (opened_sorts p.nrow 128) (count ∷ replicate n plain))
     ∙ count_first p n
 
 -- ---- how many
@@ -90,8 +90,20 @@ length-sorts_of p =
     let d = replicate 128 element in
     let e = replicate (p.dblock - p.block) element in
     let o = opened_sorts p.nrow 128 in
-    omega (arith, length-append (a ++ (b ++ (c ++ (d ++ e)))) o, length-append a (b ++ (c ++ (d ++ e))), length-append b (c ++ (d ++ e)), length-append c (d ++ e), length-append d e,
-    length-replicate p.nsum element, length-replicate p.block element, length-replicate p.dblock element, length-replicate 128 element, length-replicate (p.dblock - p.block) element, length-opened_sorts p.nrow 128)
+    omega (
+      arith,
+      length-append (a ++ (b ++ (c ++ (d ++ e)))) o,
+      length-append a (b ++ (c ++ (d ++ e))),
+      length-append b (c ++ (d ++ e)),
+      length-append c (d ++ e),
+      length-append d e,
+      length-replicate p.nsum element,
+      length-replicate p.block element,
+      length-replicate p.dblock element,
+      length-replicate 128 element,
+      length-replicate (p.dblock - p.block) element,
+      length-opened_sorts p.nrow 128,
+    )
 
 pub length-count_sorts : (p : Params) → length (count_sorts p) ≡ before_count p + 1
 length-count_sorts p = omega (arith, length-append (sorts_of p) (count ∷ []), length-sorts_of p)

@@ -1,5 +1,5 @@
 -- What a sound reading becomes.
-use Rattle.std.proofs.Common.{◌≡◌, ◌≢◌, ◌⊎◌, ℕ, zero, suc, ◌+◌, ◌-◌, ◌*◌, ◌<◌, ◌≤◌, Bool, true, false, cond, nat_le, List, [], ◌∷◌, ◌++◌, length, take, replicate, Option, Some, None, MatchOption, refl, sym, ap, subst, ◌∙◌, append_assoc, arith, inl, inr}
+use Rattle.std.proofs.Common.{◌≡◌, ◌≢◌, ◌⊎◌, ℕ, suc, ◌+◌, ◌-◌, ◌*◌, ◌<◌, ◌≤◌, Bool, true, false, cond, nat_le, List, [], ◌∷◌, ◌++◌, length, take, replicate, Option, Some, None, MatchOption, refl, sym, ap, subst, ◌∙◌, append_assoc, arith, inl, inr}
 use Rattle.std.specs.Prelude.{slice_get, slice_set, option_map, unwrap_or}
 use Rattle.std.specs.List.{sum_by}
 use Rattle.std.specs.Int.{w32, from_le_bytes}
@@ -84,8 +84,7 @@ pub parts_kept : (p : Params) (digests : Option ℕ) (f : List ℕ) (k : ℕ) (p
 parts_kept p digests f k part e =
     elim (is_known digests f part) [
       | inl same ↦
-          let at : k ≡ before_count p = count_place p (unwrap_or digests 0) k part e same in
-          (
+          let at : k ≡ before_count p = count_place p (unwrap_or digests 0) k part e same in (
             early_take p (unwrap_or (digests_after digests part f) 0) (unwrap_or digests 0) k (omega arith),
             early_parts p (unwrap_or (digests_after digests part f) 0) (unwrap_or digests 0) k (omega arith) ∙ e,
           )

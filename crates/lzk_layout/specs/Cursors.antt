@@ -1,8 +1,6 @@
 -- What a cursor keeps of the bytes that it was pushed.
-use Rattle.std.specs.Prelude.{◌≡◌, ℕ, ◌+◌, ◌-◌, ◌<◌, ◌≤◌, List, [], ◌∷◌, ◌++◌, length, map, take, replicate, slice_set, Option, Some, None, MatchOption, unwrap_or, slice_get}
-use Rattle.std.specs.Int.{w32, from_le_bytes}
+use Rattle.std.specs.Prelude.{◌≡◌, ℕ, List, length, Option}
 use Rattle.lzk_layout.specs.declared.params.Params.{Params}
-use Rattle.lzk_layout.specs.declared.part.ProofPart.{ProofPart}
 use Rattle.lzk_layout.specs.declared.fault.ProofFault.{ProofFault}
 use Rattle.lzk_layout.specs.Fields.{Shape}
 use Rattle.lzk_layout.specs.Files.{AreBytes}

@@ -1,5 +1,4 @@
-use Rattle.std.proofs.Common.{◌≡◌, ℕ, ◌+◌, ◌-◌, ◌*◌, ◌/◌, ◌%◌, ◌<◌, ◌≤◌, arith, ap, sym, ◌∙◌}
-use Rattle.std.specs.Prelude.{slice_get}
+use Rattle.std.proofs.Common.{◌≡◌, ℕ, ◌+◌, ◌-◌, ◌*◌, ◌/◌, ◌%◌, ◌<◌, ◌≤◌, arith, sym, ◌∙◌}
 use Rattle.std.proofs.lemmas.Nat.{mul-le}
 use Rattle.lzk_layout.specs.Parts.{path_parts}
 use Rattle.lzk_layout.proofs.PartLaws.{opened_nonce, opened_element, opened_behind}

@@ -6,7 +6,7 @@ use Rattle.lzk_layout.specs.Readings.{state_of}
 use Rattle.lzk_layout.proofs.PartLaws.{parts_stand}
 use Rattle.lzk_layout.proofs.FrontFaults.{front_is_sound, fault_stays}
 use Rattle.lzk_layout.proofs.FrontOrder.{one_front, front_grows, fields_stand}
-use Rattle.lzk_layout.proofs.CursorLaws.{Says, step_is}
+use Rattle.lzk_layout.proofs.CursorLaws.{step_is}
 use Rattle.lzk_layout.proofs.CursorStates.{faulty_says, faulty_pushed, opened, closed, fault_behind, none_behind, no_some, step_says, step_pushed, step_sound, step_whole}
 use Rattle.lzk_layout.proofs.cursor.Cursor.push.Goals as goal
 
