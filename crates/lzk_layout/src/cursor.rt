@@ -26,7 +26,7 @@ pub enum CursorStep {
     More,
     /// A field that passes its check: what it is, its bytes followed by zeros, and their number.
     Field(ProofPart, [u8; 32], usize),
-    /// A file that may still be a proof's: the first check that failed, by this byte or one before it.
+    /// Bytes that no proof's file begins with: the first check that failed, by this byte or one before it.
     Fault(ProofFault),
 }
 

@@ -16,6 +16,8 @@
 //!     println!(rt; "{:?} at byte {}", fault.kind, fault.offset)?;
 //! }
 //! ```
+//!
+//! A [`Cursor`] reads the same files one byte at a time.
 #![tactic(auto)]
 
 mod cursor;
