@@ -12,11 +12,11 @@ use Rattle.lzk_layout.proofs.FieldLaws.{done, field_takes, fields_take}
 use Rattle.lzk_layout.proofs.OneProof.{path_takes}
 
 -- either the first step stops, or it does not and the second does
-from_err : {A B G : Type 0} (r : Result A Stop) (f : A → Result B Stop) (e : Stop) → (r >>= f) ≡ Err e → (r ≡ Err e → G) → ((x : A) → r ≡ Ok x → f x ≡ Err e → G) → G
+pub from_err : {A B G : Type 0} (r : Result A Stop) (f : A → Result B Stop) (e : Stop) → (r >>= f) ≡ Err e → (r ≡ Err e → G) → ((x : A) → r ≡ Ok x → f x ≡ Err e → G) → G
 from_err (Ok x) f e h stop more = more x refl h
 from_err {A} {B} (Err d) f e h stop more = stop (let same : d ≡ e = cc in ap (λ (k : Stop). let r : Result A Stop = Err k in r) same)
 
-stop_is : {A : Type 0} (d e : Stop) → (let r : Result A Stop = Err d in r) ≡ Err e → d ≡ e
+pub stop_is : {A : Type 0} (d e : Stop) → (let r : Result A Stop = Err d in r) ≡ Err e → d ≡ e
 stop_is d e h = cc
 
 passes_left : (o : Option ProofKind) (bytes field rest : List ℕ) (e : Stop) → passes o bytes field rest ≡ Err e → e.left ≡ length bytes

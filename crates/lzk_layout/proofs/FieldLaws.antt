@@ -8,18 +8,7 @@ use Rattle.std.proofs.Math.Seq.{get_or-append_seam}
 use Rattle.lzk_layout.specs.declared.fault.ProofKind.{ProofKind}
 use Rattle.lzk_layout.specs.declared.fault.Stop.{Stop}
 use Rattle.lzk_layout.specs.Proofs.{flat, AreDigests}
-use Rattle.lzk_layout.specs.Fields.{Sort, plain, count, path_at, Shape, width, wrong, ◌>>=◌, passes, field_at, fields_at}
-
--- each field passes as one of its sort
-pub record IsField (shape : Shape) (s : Sort) (field : List ℕ) : Type 0 where
-  pub long : length field ≡ width shape s
-  pub right : wrong shape s field ≡ None
-
-abbrev pub AreFields : Shape → List Sort → List (List ℕ) → Type 0
-AreFields shape [] [] = Unit {0}
-AreFields shape (s ∷ ss) (f ∷ fs) = IsField shape s f × AreFields shape ss fs
-AreFields shape [] (f ∷ fs) = ⊥
-AreFields shape (s ∷ ss) [] = ⊥
+use Rattle.lzk_layout.specs.Fields.{Sort, plain, count, path_at, Shape, width, wrong, ◌>>=◌, passes, field_at, fields_at, IsField, AreFields}
 
 pub from : {A B G : Type 0} (r : Result A Stop) (f : A → Result B Stop) (y : B) → (r >>= f) ≡ Ok y → ((x : A) → r ≡ Ok x → f x ≡ Ok y → G) → G
 from (Ok x) f y e k = k x refl e
@@ -101,7 +90,7 @@ abbrev headed : Shape → List Sort → Result (List ℕ × List ℕ) Stop → R
 headed shape ss (Ok f) = behind (f.0 ∷ []) (fields_at shape ss f.1)
 headed shape ss (Err d) = Err d
 
-do_is : (f : List ℕ) (r : Result (List (List ℕ) × List ℕ) Stop) → (r >>= λ fields. Ok (f ∷ fields.0, fields.1)) ≡ behind (f ∷ []) r
+pub do_is : (f : List ℕ) (r : Result (List (List ℕ) × List ℕ) Stop) → (r >>= λ fields. Ok (f ∷ fields.0, fields.1)) ≡ behind (f ∷ []) r
 do_is f (Ok x) = refl
 do_is f (Err d) = refl
 
@@ -116,7 +105,7 @@ field_then shape s ss bytes f after e = headed_is shape s ss bytes (Ok (f, after
 pub field_stops : (shape : Shape) (s : Sort) (ss : List Sort) (bytes : List ℕ) (d : Stop) → field_at shape s bytes ≡ Err d → fields_at shape (s ∷ ss) bytes ≡ Err d
 field_stops shape s ss bytes d e = headed_is shape s ss bytes (Err d) e
 
-none_at : (shape : Shape) (bytes : List ℕ) → fields_at shape [] bytes ≡ Ok ([], bytes)
+pub none_at : (shape : Shape) (bytes : List ℕ) → fields_at shape [] bytes ≡ Ok ([], bytes)
 unfolding fields_at
 none_at shape bytes = refl
 

@@ -12,10 +12,10 @@ use Rattle.lzk_layout.specs.declared.proof.Proof.{Proof}
 use Rattle.lzk_layout.specs.declared.fault.Stop.{Stop}
 use Rattle.lzk_layout.specs.Proofs.{flat, element_field, opened_fields, fields_of, AreDigests, HasLengths, ProofBytes}
 use Rattle.lzk_layout.specs.Answers.{answer_fields, answer_sorts_of}
-use Rattle.lzk_layout.specs.Fields.{Sort, magic, plain, element, count, Shape, shape, wrong, field_at, fields_at, path_at, opened_sorts, sorts_of, proof_at}
+use Rattle.lzk_layout.specs.Fields.{Sort, magic, plain, element, count, Shape, shape, wrong, field_at, fields_at, path_at, opened_sorts, sorts_of, proof_at, IsField, AreFields}
 use Rattle.lzk_layout.specs.Files.{IsSameProof, OneProof, OneFile, IsNoProof, NoFault}
 use Rattle.lzk_layout.proofs.FileLaws.{flat-append}
-use Rattle.lzk_layout.proofs.FieldLaws.{IsField, AreFields, from, passed, field_takes, fields_take, field_again, fields_again, done, done_is, path_read}
+use Rattle.lzk_layout.proofs.FieldLaws.{from, passed, field_takes, fields_take, field_again, fields_again, done, done_is, path_read}
 use Rattle.lzk_layout.proofs.WholeFiles.{opened_sorts_of, sorts_are, fields_are}
 
 -- ---- fields that pass
@@ -34,14 +34,14 @@ plain_passes : (s : Shape) (f : List ℕ) → length f ≡ 32 → IsField s plai
 unfolding wrong
 plain_passes s f e = record { long = e; right = refl }
 
-count_passes : (s : Shape) (n : ℕ) → n ≤ 1536 → IsField s count (to_le_bytes w32 n)
+pub count_passes : (s : Shape) (n : ℕ) → n ≤ 1536 → IsField s count (to_le_bytes w32 n)
 unfolding wrong
 count_passes s n few =
     let back : from_le_bytes w32 (to_le_bytes w32 n) ≡ n = from_le_bytes-to_le_bytes_4 n (omega arith) in
     let small : leb (from_le_bytes w32 (to_le_bytes w32 n)) 1536 ≡ true = le-leb _ _ (omega arith) in
     record { long = refl; right = rw small refl }
 
-digests_pass : (s : Shape) (ds : List (List ℕ)) → AreDigests ds → AreFields s (replicate (length ds) plain) ds
+pub digests_pass : (s : Shape) (ds : List (List ℕ)) → AreDigests ds → AreFields s (replicate (length ds) plain) ds
 digests_pass s [] h = tt
 digests_pass s (d ∷ ds) h = (plain_passes s d (h 0 (omega arith)), digests_pass s ds (λ k lt. h (suc k) (omega arith)))
 
@@ -101,10 +101,10 @@ whole_read s p bytes first rest path e f = rw (e, f) refl
 -- ---- the laws
 
 module _ {A : Type 0} (o : Ops A) (size : ℕ) (number : A → ℕ) (element_of : ℕ → A) (bytes : ℕ) (laws : Laws o size number element_of bytes) where
-  abbrev s : Shape
+  abbrev pub s : Shape
   s = shape bytes size
 
-  abbrev field : A → List ℕ
+  abbrev pub field : A → List ℕ
   field = element_field bytes number
 
   number_back : (x : A) → number_from (field x) ≡ number x
@@ -139,10 +139,10 @@ module _ {A : Type 0} (o : Ops A) (size : ℕ) (number : A → ℕ) (element_of 
       (AreFields-append s _ _ (map field q.quad_head) _ (elements_pass (length q.quad_head) q.quad_head refl)
       (elements_pass (length q.quad_tail) q.quad_tail refl))))
 
-  abbrev first_fields : ℕ → Proof A → List (List ℕ)
+  abbrev pub first_fields : ℕ → Proof A → List (List ℕ)
   first_fields rows q = ((76 ∷ 90 ∷ 80 ∷ 49 ∷ []) ∷ q.id ∷ q.root ∷ []) ++ (answer_fields field q ++ opened_fields field rows q.nonces q.columns)
 
-  first_pass : (p : Params) (q : Proof A) → ProofBytes bytes number p q (flat (fields_of field p.nrow q)) → AreFields s (sorts_of p) (first_fields p.nrow q)
+  pub first_pass : (p : Params) (q : Proof A) → ProofBytes bytes number p q (flat (fields_of field p.nrow q)) → AreFields s (sorts_of p) (first_fields p.nrow q)
   first_pass p q f =
       let wide : length q.columns ≡ length q.nonces * p.nrow = f.lengths.columns ∙ ap (λ (n : ℕ). n * p.nrow) (sym f.lengths.nonces) in
       subst (λ (ss : List Sort). AreFields s ss (first_fields p.nrow q)) (sym (sorts_are p q f.lengths)) (

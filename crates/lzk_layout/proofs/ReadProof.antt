@@ -17,8 +17,8 @@ use Rattle.lzk_layout.specs.Proofs.{flat, element_field, opened_fields, AreDiges
 use Rattle.lzk_layout.specs.declared.fault.Stop.{Stop}
 use Rattle.lzk_layout.specs.Files.{AreBytes, IsProofFile, SomeProof}
 use Rattle.lzk_layout.specs.Answers.{answer_fields}
-use Rattle.lzk_layout.specs.Fields.{Sort, magic, plain, element, count, Shape, shape, wrong, field_at, fields_at, path_at, opened_sorts, sorts_of, proof_at, ProofFaultAt}
-use Rattle.lzk_layout.proofs.FieldLaws.{IsField, AreFields, from, passed, field_takes, fields_take, done, done_is}
+use Rattle.lzk_layout.specs.Fields.{Sort, magic, plain, element, count, Shape, shape, wrong, field_at, fields_at, path_at, opened_sorts, sorts_of, proof_at, ProofFaultAt, IsField, AreFields}
+use Rattle.lzk_layout.proofs.FieldLaws.{from, passed, field_takes, fields_take, done, done_is}
 use Rattle.lzk_layout.proofs.OneProof.{proof_takes}
 use Rattle.lzk_layout.proofs.WholeFiles.{fields_are}
 use Rattle.lzk_layout.proofs.Faults.{fault_found}

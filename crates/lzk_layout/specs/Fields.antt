@@ -100,3 +100,15 @@ proof_at shape p bytes = do
 -- fails; or all pass, and a byte is left there.
 abbrev pub ProofFaultAt : Shape → Params → List ℕ → ℕ → ProofKind → Type 0
 ProofFaultAt shape p bytes offset kind = (proof_at shape p bytes ≡ Err (record { left = length bytes - offset; kind = kind })) × (offset ≤ length bytes)
+
+-- a field that passes as one of this sort
+pub record IsField (shape : Shape) (s : Sort) (field : List ℕ) : Type 0 where
+  pub long : length field ≡ width shape s
+  pub right : wrong shape s field ≡ None
+
+-- as many fields as sorts, and each passes as one of its sort
+abbrev pub AreFields : Shape → List Sort → List (List ℕ) → Type 0
+AreFields shape [] [] = Unit {0}
+AreFields shape (s ∷ ss) (f ∷ fs) = IsField shape s f × AreFields shape ss fs
+AreFields shape [] (f ∷ fs) = ⊥
+AreFields shape (s ∷ ss) [] = ⊥

@@ -4,6 +4,10 @@ pub mod Sizes
 pub mod Places
 pub mod Proofs
 pub mod Fields
+pub mod Parts
+pub mod Fronts
+pub mod Cursors
+pub mod Readings
 pub mod Files
 pub mod Answers
 pub use Rattle.lzk_circuit.specs

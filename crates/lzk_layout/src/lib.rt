@@ -16,21 +16,27 @@
 //!     println!(rt; "{:?} at byte {}", fault.kind, fault.offset)?;
 //! }
 //! ```
+//!
+//! A [`Cursor`] reads the same files one byte at a time.
 #![tactic(auto)]
 
+mod cursor;
 mod decoding;
 mod encoding;
 mod fault;
 mod lists;
 mod params;
+mod part;
 mod places;
 mod proof;
 mod reading;
 
+pub use cursor::{Cursor, CursorStep};
 pub use decoding::decode_proof;
 pub use encoding::encode_proof;
 pub use fault::{ProofFault, ProofKind};
 pub use lists::{Blocks, Elements, Path};
 pub use params::{Params, proof_len};
+pub use part::ProofPart;
 pub use places::LayerPlaces;
 pub use proof::Proof;

@@ -12,6 +12,7 @@ mod circuits;
 mod combined;
 #[cfg(test)]
 mod combined_vectors;
+mod cursors;
 #[cfg(test)]
 mod extension;
 #[cfg(test)]

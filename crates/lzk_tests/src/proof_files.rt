@@ -22,7 +22,7 @@ const SAME: (u32, u64) = (0, 0);
 /// What stands for a proof whose file is another.
 const OTHER: (u32, u64) = (6, 0);
 
-fn number(kind: ProofKind) -> u32 {
+pub fn number(kind: ProofKind) -> u32 {
     match kind {
         ProofKind::Truncated => 1,
         ProofKind::Magic => 2,
@@ -41,7 +41,7 @@ fn fill<F: Field>(elements: &mut Elements<F>, x: F)
     }
 }
 
-fn written<F: Field>(
+pub fn written<F: Field>(
     alloc: Global,
     params: &Params,
     proof: &Proof<F>,
@@ -78,7 +78,7 @@ fn fill_path(path: &mut Path, byte: u8)
 }
 
 // The file of a proof of this element and this byte, with six digests.
-fn file_of<F: Field>(alloc: Global, params: &Params, x: F, byte: u8) -> Result<Vec<u8>, AllocError>
+pub fn file_of<F: Field>(alloc: Global, params: &Params, x: F, byte: u8) -> Result<Vec<u8>, AllocError>
     requires { AreParams F.ops params.now }
 {
     let mut proof = Proof::<F>::new(alloc, params)?;
@@ -120,7 +120,7 @@ fn answer<F: Field>(
     }
 }
 
-fn put(bytes: &mut [u8], at: u32, byte: u32) {
+pub fn put(bytes: &mut [u8], at: u32, byte: u32) {
     if (at as usize) < bytes.len() && byte < 256 {
         bytes[at as usize] = byte as u8;
     }
