@@ -12,9 +12,11 @@
 #![tactic(auto)]
 
 mod draws;
+mod laws;
 mod replaying;
 mod script;
 
 pub use draws::draw_all;
+pub use laws::sumcheck_laws;
 pub use replaying::{message_count, replay};
 pub use script::{LayerScript, LayerScripts, Script};
