@@ -2,6 +2,8 @@ pub mod Binding
 pub mod Curves
 pub mod Filled
 pub mod LayerLaws
+pub mod LayerShapes
+pub mod PointLaws
 pub mod RoundLaws
 pub mod ScriptLaws
 pub mod ShapeLaws

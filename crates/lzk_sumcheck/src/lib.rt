@@ -13,10 +13,12 @@
 
 mod draws;
 mod laws;
+mod plain;
 mod replaying;
 mod script;
 
 pub use draws::draw_all;
 pub use laws::sumcheck_laws;
+pub use plain::plain_round;
 pub use replaying::{message_count, replay};
 pub use script::{LayerScript, LayerScripts, Script};
