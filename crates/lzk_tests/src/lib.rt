@@ -27,6 +27,10 @@ mod proof_vectors;
 #[cfg(test)]
 mod residuals;
 #[cfg(test)]
+mod round_vectors;
+#[cfg(test)]
+mod rounds;
+#[cfg(test)]
 mod rows_of_terms;
 #[cfg(test)]
 mod script_vectors;
