@@ -1,10 +1,13 @@
 pub mod Binding
 pub mod Curves
 pub mod Filled
+pub mod KeptLaws
 pub mod LayerLaws
 pub mod LayerShapes
+pub mod MergeLaws
 pub mod PointLaws
 pub mod RoundLaws
 pub mod ScriptLaws
 pub mod ShapeLaws
+pub mod SpreadLaws
 pub mod SumcheckLaws
