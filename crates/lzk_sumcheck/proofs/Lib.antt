@@ -8,6 +8,7 @@ pub mod MergeLaws
 pub mod PointLaws
 pub mod RoundLaws
 pub mod ScriptLaws
+pub mod SendLaws
 pub mod ShapeLaws
 pub mod SpreadLaws
 pub mod SumcheckLaws

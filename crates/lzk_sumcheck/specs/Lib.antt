@@ -6,4 +6,5 @@ pub mod Pairs
 pub mod Points
 pub mod Rounds
 pub mod Script
+pub mod Sending
 pub mod States

@@ -17,6 +17,7 @@ mod pairs;
 mod plain;
 mod replaying;
 mod script;
+mod sending;
 
 pub use draws::draw_all;
 pub use laws::sumcheck_laws;

@@ -1,6 +1,6 @@
 //! Coefficients of pairs of wires that are bound one variable after the other, with equal pairs merged.
 
-ghost use Rattle.std.specs.Prelude.{◌≡◌, ℕ, ◌+◌, ◌*◌, ◌/◌, ◌%◌, ◌<◌, ◌≤◌, [], ◌∷◌, length, map, take, drop};
+ghost use Rattle.std.specs.Prelude.{◌≡◌, ℕ, ◌+◌, ◌*◌, ◌/◌, ◌%◌, ◌<◌, ◌≤◌, List, [], ◌∷◌, length, map, take, drop};
 ghost use Rattle.lzk_field.specs.Sums.{minus, entry};
 ghost use Rattle.lzk_mle.specs.Multilinear.{tilde};
 ghost use Rattle.lzk_sumcheck.specs.Pairs.{bind_pair, pairs_total, ArePairs, bound_entry, spread, IsKept};
@@ -105,6 +105,8 @@ fn merge<F: Field>(pairs: &mut [Pair<F>]) -> usize
 // Binds the next variable at t in what is kept; gives how many pairs are left. The tables change places.
 pub(crate) fn bind_kept<F: Field>(pairs: &mut [Pair<F>], first: &mut [F], second: &[F], t: F) -> usize
     requires { length first.old % 2 ≡ 0 }
+    ensures first_length { length first.new ≡ length first.old }
+    ensures extension { (s : List F) → tilde F.ops (take (length first.old / 2) first.new) s ≡ tilde F.ops first.old (t ∷ s) }
     ensures count { result ≤ length pairs.old }
     ensures length { length pairs.new ≡ length pairs.old }
     ensures within { ArePairs (length first.old) (length second.now) pairs.old → ArePairs (length second.now) (length first.old / 2) (take result pairs.new) }
