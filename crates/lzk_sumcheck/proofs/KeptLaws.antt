@@ -15,16 +15,12 @@ use Rattle.lzk_sumcheck.specs.declared.pairs.Pair.{Pair}
 use Rattle.lzk_circuit.specs.Wires.{coef, is_at, AreDistinct}
 use Rattle.lzk_sumcheck.specs.Rounds.{Layered, round}
 use Rattle.lzk_sumcheck.specs.Layers.{layer_of_terms}
-use Rattle.lzk_sumcheck.specs.Pairs.{spread, bind_pair, pairs_total, ArePairs, bound_entry}
+use Rattle.lzk_sumcheck.specs.Pairs.{first_pair, spread, bind_pair, pairs_total, ArePairs, bound_entry}
 use Rattle.lzk_sumcheck.specs.States.{State, bind_state, after, total}
 use Rattle.lzk_sumcheck.specs.Pairs.{IsKept}
 use Rattle.lzk_sumcheck.proofs.SumcheckLaws.{cut, weighted, state_of, cut-below, cut-above, round-is}
 use Rattle.lzk_circuit.proofs.TermSums.{split}
 use Rattle.lzk_sumcheck.proofs.SpreadLaws.{spread-bind, total-spread, pairs-bound}
-
-module _ {A : Type 0} (o : Ops A) where
-  abbrev pub first_pair : List A → Term A → Pair A
-  first_pair weights t = record { a = t.a; b = t.b; coef = o.times (entry o weights t.g) t.coef }
 
 module _ {A : Type 0} (o : Ops A) (r : RingLaws o) where
   open o use {plus, times, neg}
@@ -122,14 +118,14 @@ module _ {A : Type 0} (o : Ops A) (r : RingLaws o) where
       none true = refl
       none false = refl
 
-  pub first-kept : (terms : List (Term A)) (weights values first : List A) (bits : ℕ) → AreDistinct o (length weights) (length values) terms → length values ≤ 2 ^ bits → length first ≡ 2 ^ bits
-      → ((i : ℕ) → entry o first i ≡ entry o values i) → IsKept o (state_of o (layer_of_terms o terms weights values bits)) (map (first_pair o weights) terms) first first
-  first-kept terms weights values first bits h l len e = record {
+  pub first-kept : (terms : List (Term A)) (weights values first second : List A) (bits : ℕ) → AreDistinct o (length weights) (length values) terms → length values ≤ 2 ^ bits → length first ≡ 2 ^ bits → length second ≡ 2 ^ bits
+      → ((i : ℕ) → entry o first i ≡ entry o values i) → ((i : ℕ) → entry o second i ≡ entry o values i) → IsKept o (state_of o (layer_of_terms o terms weights values bits)) (map (first_pair o weights) terms) first second
+  first-kept terms weights values first second bits h l len len2 e e2 = record {
     n_is = sym len;
-    m_is = sym len;
+    m_is = sym len2;
     q_is = λ a b. at a b (dec_lt a (length values)) (dec_lt b (length values));
     f_is = λ i. sym (e i);
-    h_is = λ i. sym (e i);
+    h_is = λ i. sym (e2 i);
     within = inside terms h;
   }
     where
@@ -149,7 +145,7 @@ module _ {A : Type 0} (o : Ops A) (r : RingLaws o) where
           let w = weighted o (layer_of_terms o terms weights values bits) in
           cut-above o r n (λ c. cut o n (w c) b) a past ∙ sym (outside-a terms weights (length weights) n a b h past)
 
-      inside : (ts : List (Term A)) → AreDistinct o (length weights) (length values) ts → ArePairs (length first) (length first) (map (first_pair o weights) ts)
+      inside : (ts : List (Term A)) → AreDistinct o (length weights) (length values) ts → ArePairs (length first) (length second) (map (first_pair o weights) ts)
       inside [] h = tt
       inside (t ∷ ts) h = (let p = h.1 in omega arith, let p = h.2 in omega arith, inside ts h.4)
 

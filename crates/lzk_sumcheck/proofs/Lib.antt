@@ -3,6 +3,7 @@ pub mod Curves
 pub mod Filled
 pub mod KeptLaws
 pub mod LayerLaws
+pub mod LayerSends
 pub mod LayerShapes
 pub mod MergeLaws
 pub mod PointLaws

@@ -1,6 +1,6 @@
 -- Rounds that are sent, one in front of the others.
 use Rattle.std.specs.Prelude.{◌≡◌, ℕ, ◌<◌, ◌≤◌, ◌+◌, ◌*◌, ◌-◌, List, [], ◌∷◌, ◌++◌, length, drop, take}
-use Rattle.std.proofs.Common.{zero, suc, refl, sym, ap, ◌∙◌, arith, subst}
+use Rattle.std.proofs.Common.{zero, suc, sym, ap, ◌∙◌, arith, subst}
 use Rattle.std.proofs.lemmas.List.{get_or_append_left, get_or-append_right, get_or-drop, length-drop, take_all}
 use Rattle.lzk_field.specs.Coding.{Coding}
 use Rattle.lzk_field.specs.Ring.{Ops, RingLaws}
@@ -8,7 +8,6 @@ use Rattle.lzk_field.specs.Sums.{entry, minus, sum_below}
 use Rattle.lzk_transcript.specs.Tape.{TapeState, drawn, after_draw}
 use Rattle.lzk_mle.specs.Multilinear.{tilde}
 use Rattle.lzk_mle.proofs.TableLaws.{extension-one}
-use Rattle.lzk_sumcheck.specs.Rounds.{every_other}
 use Rattle.lzk_sumcheck.specs.Script.{with_pair}
 use Rattle.lzk_sumcheck.specs.Sending.{after_sent, drawn_sent, AreSent}
 use Rattle.lzk_sumcheck.specs.States.{State, bind_state, after, total, Sizes}

@@ -2,10 +2,15 @@
 use Rattle.std.specs.Prelude.{ℕ, ◌<◌, ◌/◌, ◌+◌, ◌*◌, ◌==◌, cond, List, [], ◌∷◌, ◌≡◌, length}
 use Rattle.lzk_field.specs.Ring.{Ops}
 use Rattle.lzk_field.specs.Sums.{minus, entry}
+use Rattle.lzk_circuit.specs.declared.layer.Term.{Term}
 use Rattle.lzk_circuit.specs.Sums.{sum_list}
 use Rattle.lzk_mle.specs.Multilinear.{low_bit, agree}
 use Rattle.lzk_sumcheck.specs.declared.pairs.Pair.{Pair}
 use Rattle.lzk_sumcheck.specs.States.{State}
+
+-- the pair of a term's two wires below, with the weight of its wire
+abbrev pub first_pair : {A : Type 0} → Ops A → List A → Term A → Pair A
+first_pair o weights t = record { a = t.a; b = t.b; coef = o.times (entry o weights t.g) t.coef }
 
 -- a pair with the first bit of a bound at x, and the two numbers in each other's place
 abbrev pub bind_pair : {A : Type 0} → Ops A → A → Pair A → Pair A

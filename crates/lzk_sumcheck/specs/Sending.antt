@@ -5,6 +5,7 @@ use Rattle.lzk_field.specs.Coding.{Coding}
 use Rattle.lzk_field.specs.Ring.{Ops}
 use Rattle.lzk_field.specs.Sums.{entry, minus}
 use Rattle.lzk_transcript.specs.Tape.{TapeState, drawn, after_draw}
+use Rattle.lzk_sumcheck.specs.Rounds.{Layered, round}
 use Rattle.lzk_sumcheck.specs.Script.{with_pair}
 use Rattle.lzk_sumcheck.specs.States.{State, bind_state, after, total}
 
@@ -23,3 +24,8 @@ module _ {A : Type 0} (o : Ops A) (e : Coding A) where
 pub record AreSent {A : Type 0} (o : Ops A) (point : ℕ → A) (st : State A) (challenges pads sent : List A) (n : ℕ) : Type 0 where
   pub first : (i : ℕ) → i < n → entry o sent (2 * i) ≡ minus o (total o (bind_state o (point 0) (after o (take i challenges) st))) (entry o pads (2 * i))
   pub second : (i : ℕ) → i < n → entry o sent (2 * i + 1) ≡ minus o (total o (bind_state o (point 2) (after o (take i challenges) st))) (entry o pads (2 * i + 1))
+
+-- the elements of a layer's rounds are the rounds' values at points 0 and 2, less the pads
+pub record AreRoundsSent {A : Type 0} (o : Ops A) (point : ℕ → A) (s : Layered A) (challenges pads sent : List A) : Type 0 where
+  pub first : (i : ℕ) → i < 2 * s.bits → entry o sent (2 * i) ≡ minus o (round o s (take i challenges) (point 0)) (entry o pads (2 * i))
+  pub second : (i : ℕ) → i < 2 * s.bits → entry o sent (2 * i + 1) ≡ minus o (round o s (take i challenges) (point 2)) (entry o pads (2 * i + 1))

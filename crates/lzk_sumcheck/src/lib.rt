@@ -13,6 +13,7 @@
 
 mod draws;
 mod laws;
+mod layer;
 mod pairs;
 mod plain;
 mod replaying;

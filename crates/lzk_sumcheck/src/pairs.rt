@@ -51,7 +51,13 @@ fn pair_value<F: Field>(pair: Pair<F>, first: &[F], second: &[F], t: F) -> F
 }
 
 // The sum of a round at t.
-pub(crate) fn round_sum<F: Field>(pairs: &[Pair<F>], first: &[F], second: &[F], half: usize, t: F) -> F
+pub(crate) fn round_sum<F: Field>(
+    pairs: &[Pair<F>],
+    first: &[F],
+    second: &[F],
+    half: usize,
+    t: F,
+) -> F
     requires size { length first.now ≡ 2 * half }
     requires pairs { ArePairs (2 * half) (length second.now) pairs.now }
     ensures { let o = F.ops in result ≡ pairs_total o (map (bind_pair o t) pairs.now) (λ j. entry o second.now j) (bound_entry o t first.now) }
@@ -103,7 +109,12 @@ fn merge<F: Field>(pairs: &mut [Pair<F>]) -> usize
 }
 
 // Binds the next variable at t in what is kept; gives how many pairs are left. The tables change places.
-pub(crate) fn bind_kept<F: Field>(pairs: &mut [Pair<F>], first: &mut [F], second: &[F], t: F) -> usize
+pub(crate) fn bind_kept<F: Field>(
+    pairs: &mut [Pair<F>],
+    first: &mut [F],
+    second: &[F],
+    t: F,
+) -> usize
     requires { length first.old % 2 ≡ 0 }
     ensures first_length { length first.new ≡ length first.old }
     ensures extension { (s : List F) → tilde F.ops (take (length first.old / 2) first.new) s ≡ tilde F.ops first.old (t ∷ s) }

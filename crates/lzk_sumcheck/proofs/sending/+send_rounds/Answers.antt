@@ -1,4 +1,4 @@
-use Rattle.std.proofs.Common.{◌≡◌, ◌+◌, ◌*◌, ◌/◌, ◌≤◌, suc, length, take, drop, ap, sym, ◌∙◌, ◌∷◌, arith, subst}
+use Rattle.std.proofs.Common.{◌≡◌, ◌+◌, ◌/◌, suc, length, take, drop, ap, sym, ◌∙◌, ◌∷◌, arith, subst}
 use Rattle.std.specs.Prelude.{true, false}
 use Rattle.std.proofs.lemmas.List.{length-take-le, get_or_append_left}
 use Rattle.lzk_field.specs.Coding.{coding}

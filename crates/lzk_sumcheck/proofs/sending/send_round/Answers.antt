@@ -1,7 +1,7 @@
 use Rattle.std.proofs.Common.{◌≡◌, ap, sym, ◌∙◌, arith}
 use Rattle.std.specs.Prelude.{slice_set}
 use Rattle.std.proofs.lemmas.List.{get_or-set_same, get_or-set_other, get_or_default, length-set}
-use Rattle.lzk_field.specs.Sums.{entry, minus}
+use Rattle.lzk_field.specs.Sums.{minus}
 use Rattle.lzk_sumcheck.specs.States.{bind_state, total}
 use Rattle.lzk_sumcheck.proofs.KeptLaws.{round-kept}
 use Rattle.lzk_sumcheck.proofs.sending.send_round.Goals as goal
