@@ -53,13 +53,33 @@ claim o s bound = sum_fills o (2 * s.bits - length bound) (λ z. at o s (bound +
 abbrev pub round : {A : Type 0} → Ops A → Layered A → List A → A → A
 round o s bound t = claim o s (bound ++ t ∷ [])
 
--- What holds of the claims and the rounds of a layer.
-pub record IsSumcheck {A : Type 0} (o : Ops A) (point : ℕ → A) (s : Layered A) : Type 0 where
-  pub first : claim o s [] ≡ sum_below o (length s.weights) (λ g. o.times (entry o s.weights g) (wire o s.coefficient s.values g))
-  pub next : (bound : List A) → length bound < 2 * s.bits → o.plus (round o s bound (point 0)) (round o s bound (point 1)) ≡ claim o s bound
-  pub curve : (bound : List A) → length bound < 2 * s.bits → (c : List A) × ((length c ≡ 3) × ((t : A) → round o s bound t ≡ eval o c t))
-  pub last : (bound : List A) → length bound ≡ 2 * s.bits → claim o s bound ≡ at o s bound
-
 -- the values fit the bits
 abbrev pub IsFitting : {A : Type 0} → Layered A → Type 0
 IsFitting s = length s.values ≤ 2 ^ s.bits
+
+-- ---- what holds of the claims and the rounds of a layer
+
+-- the claim with nothing bound is the weighted sum of the layer's wires
+abbrev pub BeginsWithWires : {A : Type 0} → Ops A → Layered A → Type 0
+BeginsWithWires o s = claim o s [] ≡ sum_below o (length s.weights) (λ g. o.times (entry o s.weights g) (wire o s.coefficient s.values g))
+
+-- a round's values at points 0 and 1 add up to the claim before it
+abbrev pub RoundsAddUp : {A : Type 0} → Ops A → (ℕ → A) → Layered A → Type 0
+RoundsAddUp {A} o point s = (bound : List A) → length bound < 2 * s.bits → o.plus (round o s bound (point 0)) (round o s bound (point 1)) ≡ claim o s bound
+
+-- a round is one polynomial with three coefficients
+abbrev pub RoundsAreCurves : {A : Type 0} → Ops A → Layered A → Type 0
+RoundsAreCurves {A} o s = (bound : List A) → length bound < 2 * s.bits → (c : List A) × ((length c ≡ 3) × ((t : A) → round o s bound t ≡ eval o c t))
+
+-- with all variables bound, the claim is the bound coefficient times the two extensions
+abbrev pub EndsWithFactors : {A : Type 0} → Ops A → Layered A → Type 0
+EndsWithFactors {A} o s =
+    (bound : List A) → length bound ≡ 2 * s.bits
+    → claim o s bound ≡ o.times (o.times (bound_coefficient o s.coefficient s.weights (length s.values) (of_a bound) (of_b bound)) (tilde o s.values (of_a bound))) (tilde o s.values (of_b bound))
+
+-- all four
+pub record IsSumcheck {A : Type 0} (o : Ops A) (point : ℕ → A) (s : Layered A) : Type 0 where
+  pub first : BeginsWithWires o s
+  pub next : RoundsAddUp o point s
+  pub curve : RoundsAreCurves o s
+  pub last : EndsWithFactors o s

@@ -12,9 +12,16 @@
 #![tactic(auto)]
 
 mod draws;
+mod laws;
+mod layer;
+mod pairs;
+mod plain;
 mod replaying;
 mod script;
+mod sending;
 
 pub use draws::draw_all;
+pub use laws::sumcheck_laws;
+pub use plain::plain_round;
 pub use replaying::{message_count, replay};
 pub use script::{LayerScript, LayerScripts, Script};

@@ -12,6 +12,7 @@ mod circuits;
 mod combined;
 #[cfg(test)]
 mod combined_vectors;
+#[cfg(test)]
 mod cursors;
 #[cfg(test)]
 mod extension;
@@ -31,6 +32,10 @@ mod proof_files;
 mod proof_vectors;
 #[cfg(test)]
 mod residuals;
+#[cfg(test)]
+mod round_vectors;
+#[cfg(test)]
+mod rounds;
 #[cfg(test)]
 mod rows_of_terms;
 #[cfg(test)]

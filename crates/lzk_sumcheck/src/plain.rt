@@ -1,0 +1,170 @@
+//! A round's value by the plain sum, over all points of zeros and ones for the variables that are left.
+
+ghost use Rattle.std.specs.Prelude.{◌≡◌, ◌*◌, ◌^◌, ◌<◌, ◌≤◌, Bool, true, false, length};
+ghost use Rattle.lzk_field.specs.Sums.{entry};
+ghost use Rattle.lzk_mle.specs.Multilinear.{low_bit, agree, eq, tilde};
+ghost use Rattle.lzk_circuit.specs.Valid.{HaveWidths};
+ghost use Rattle.lzk_circuit.specs.Wires.{coef, AreDistinct};
+ghost use Rattle.lzk_layout.specs.Places.{depth, bits_under, width_at};
+ghost use Rattle.lzk_sumcheck.specs.Layers.{layer_of_terms, weighted_layer};
+ghost use Rattle.lzk_sumcheck.specs.Points.{point};
+ghost use Rattle.lzk_sumcheck.specs.Rounds as rounds;
+ghost use Rattle.lzk_sumcheck.specs.Rounds.{every_other, bound_coefficient};
+
+use lzk_circuit::{Circuit, Term, Values, bits_of};
+use lzk_field::Field;
+
+// Variable j of the point: one that is bound, or t, or a bit of z.
+fn variable<F: Field>(bits: usize, bound: &[F], t: F, z: u64, j: usize) -> F
+    requires few { bits ≤ 17 }
+    requires free { length bound.now < 2 * bits }
+    requires place { j < 2 * bits }
+    ensures { result ≡ entry F.ops (point F.ops bits bound.now t z) j }
+{
+    if j < bound.len() {
+        bound[j]
+    } else if j == bound.len() {
+        t
+    } else if (z >> (j - bound.len() - 1)) % 2 == 0 {
+        F::zero()
+    } else {
+        F::one()
+    }
+}
+
+// The variable for bit j of a, or for that of b.
+fn variable_of<F: Field>(bits: usize, bound: &[F], t: F, z: u64, a: bool, j: usize) -> F
+    requires few { bits ≤ 17 }
+    requires free { length bound.now < 2 * bits }
+    requires place { j < bits }
+    ensures { result ≡ entry F.ops (every_other a (point F.ops bits bound.now t z)) j }
+{
+    if a {
+        variable(bits, bound, t, z, 2 * j)
+    } else {
+        variable(bits, bound, t, z, 2 * j + 1)
+    }
+}
+
+// How bit 0 of a number agrees with a variable.
+pub(crate) fn agreement<F: Field>(number: u32, x: F) -> F
+    ensures { let o = F.ops in result ≡ agree o (low_bit o number) x }
+{
+    if number % 2 == 0 { F::one().sub(x) } else { x }
+}
+
+// How a number agrees with the variables for the bits of a, or of b.
+fn eq_part<F: Field>(bits: usize, bound: &[F], t: F, z: u64, a: bool, number: u32) -> F
+    requires few { bits ≤ 17 }
+    requires free { length bound.now < 2 * bits }
+    ensures { result ≡ eq F.ops number (every_other a (point F.ops bits bound.now t z)) }
+{
+    let mut rest = number;
+    let mut product = F::one();
+    for j in 0..bits {
+        let x = variable_of(bits, bound, t, z, a, j);
+        product = product.mul(agreement(rest, x));
+        rest /= 2;
+    }
+    product
+}
+
+// The values' extension at these variables.
+fn tilde_part<F: Field>(values: &[F], bits: usize, bound: &[F], t: F, z: u64, a: bool) -> F
+    requires few { bits ≤ 17 }
+    requires free { length bound.now < 2 * bits }
+    requires size { length values.now ≤ 131072 }
+    ensures { result ≡ tilde F.ops values.now (every_other a (point F.ops bits bound.now t z)) }
+{
+    let mut total = F::zero();
+    for i in 0..values.len() {
+        total = total.add(eq_part(bits, bound, t, z, a, i as u32).mul(values[i]));
+    }
+    total
+}
+
+// What a term counts for at the point: its coefficient times its wire's weight and how its two wires below agree.
+fn term_part<F: Field>(term: Term<F>, weights: &[F], bits: usize, bound: &[F], t: F, z: u64) -> F
+    requires few { bits ≤ 17 }
+    requires free { length bound.now < 2 * bits }
+    requires wire { term.g < length weights.now }
+    ensures { let o = F.ops in let x = point o bits bound.now t z in
+        result ≡ o.times (o.times (o.times (entry o weights.now term.g) term.coef) (eq o term.a (every_other true x))) (eq o term.b (every_other false x)) }
+{
+    let first = eq_part(bits, bound, t, z, true, term.a);
+    let second = eq_part(bits, bound, t, z, false, term.b);
+    weights[term.g as usize]
+        .mul(term.coef)
+        .mul(first)
+        .mul(second)
+}
+
+// The sum of that over the terms.
+fn coefficient_part<F: Field>(
+    terms: &[Term<F>],
+    weights: &[F],
+    width: usize,
+    bits: usize,
+    bound: &[F],
+    t: F,
+    z: u64,
+) -> F
+    requires few { bits ≤ 17 }
+    requires free { length bound.now < 2 * bits }
+    requires terms { AreDistinct F.ops (length weights.now) width terms.now }
+    ensures { let o = F.ops in let x = point o bits bound.now t z in
+        result ≡ bound_coefficient o (coef o terms.now) weights.now width (every_other true x) (every_other false x) }
+{
+    let mut total = F::zero();
+    for i in 0..terms.len() {
+        total = total.add(term_part(terms[i], weights, bits, bound, t, z));
+    }
+    total
+}
+
+// The round's value for a list of terms over a table of values.
+fn plain_sum<F: Field>(
+    terms: &[Term<F>],
+    values: &[F],
+    bits: usize,
+    weights: &[F],
+    bound: &[F],
+    t: F,
+) -> F
+    requires few { bits ≤ 17 }
+    requires free { length bound.now < 2 * bits }
+    requires size { length values.now ≤ 131072 }
+    requires terms { AreDistinct F.ops (length weights.now) (length values.now) terms.now }
+    ensures { let o = F.ops in result ≡ rounds.round o (layer_of_terms o terms.now weights.now values.now bits) bound.now t }
+{
+    let mut total = F::zero();
+    for z in 0..(1u64 << (2 * bits - bound.len() - 1)) {
+        let coefficient = coefficient_part(terms, weights, values.len(), bits, bound, t, z);
+        let first = tilde_part(values, bits, bound, t, z, true);
+        let second = tilde_part(values, bits, bound, t, z, false);
+        total = total.add(coefficient.mul(first).mul(second));
+    }
+    total
+}
+
+/// The value of a round of layer `l` at `t`, for any weights of the layer's wires: `bound` holds the challenges of the
+/// rounds before it. This is the plain sum over all zeros and ones for the variables that are left, for tests and small circuits.
+pub fn plain_round<F: Field>(
+    circuit: &Circuit<F>,
+    values: &Values<F>,
+    l: u32,
+    weights: &[F],
+    bound: &[F],
+    t: F,
+) -> F
+    requires layer { l < depth circuit.now }
+    requires values { HaveWidths circuit.now values.now }
+    requires weights { length weights.now ≡ width_at circuit.now l }
+    requires free { length bound.now < 2 * bits_under circuit.now l }
+    ensures round { let o = F.ops in result ≡ rounds.round o (weighted_layer o circuit.now values.now l weights.now) bound.now t }
+{
+    let _depth = circuit.depth();
+    let bits = bits_of(circuit.width(l + 1)) as usize;
+    let terms = circuit.layer(l).terms.as_slice();
+    plain_sum(terms, values.layer(l + 1), bits, weights, bound, t)
+}
