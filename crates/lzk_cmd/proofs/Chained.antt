@@ -1,5 +1,5 @@
 -- Where a source was compiled, its circuit is ready to be evaluated.
-use Rattle.std.proofs.Common.{◌≡◌, ◌⊎◌, ℕ, Bool, inl, inr, List, Option, Some, refl, sym, subst, ◌∙◌}
+use Rattle.std.proofs.Common.{◌≡◌, ◌⊎◌, ℕ, Bool, inl, inr, List, Some, refl, sym, subst, ◌∙◌}
 use Rattle.std.specs.Prelude.{IsTrue}
 use Rattle.std.proofs.lemmas.Bool.{false≢true}
 use Rattle.lzk_circbytes.specs.declared.any.AnyCircuit.{AnyCircuit}
@@ -9,20 +9,23 @@ use Rattle.lzk_outside.specs.Outside.{Files, with_file}
 use Rattle.lzk_cmd.specs.Chains.{AreChained}
 use Rattle.lzk_cmd.specs.Compiled.{Compiled, CompileRun, PutsCompiled}
 use Rattle.lzk_cmd.specs.Complete.{HasNumbers, HasInputsOf, IsReady, Completed}
+use Rattle.lzk_cmd.specs.Decoded.{source_files}
 use Rattle.lzk_cmd.specs.Ends.{End, Nowhere, Leaves}
 use Rattle.lzk_cmd.specs.Faults.{Faulted}
+use Rattle.lzk_cmd.specs.Run.{RunOf}
+use Rattle.lzk_cmd.specs.Sights.{Before, After}
 use Rattle.lzk_cmd.specs.Words.{Eval, Compile}
-use Rattle.lzk_cmd.proofs.Ready.{run_command, source_ready}
+use Rattle.lzk_cmd.proofs.Laws.{sources}
+use Rattle.lzk_cmd.proofs.Ready.{run_command, ready}
 
 -- what never fails has no fault
 pub no_fault : (never : Bool) (before now : ℕ) → IsTrue never → Faulted never before now → ⊥
 no_fault never before now quiet h = false≢true (sym h.may ∙ quiet)
 
 -- a run that is done, or wants memory
-pub done_or_memory : (words : List (List ℕ)) (files : Files) (before : List ℕ) (status : ℕ) (held : Option Files) (written : Option (List ℕ)) → Completed words files before status held written ⊎ (status ≡ 6)
-    → (status ≡ 0) ⊎ ((status ≡ 1) ⊎ (status ≡ 6))
-done_or_memory words files before status held written (inr want) = inr (inr want)
-done_or_memory words files before status held written (inl h) = elim h.done [
+pub done_or_memory : (before : Before) (after : After) (files : Files) (text : List ℕ) → Completed before after files text ⊎ (after.status ≡ 6) → (after.status ≡ 0) ⊎ ((after.status ≡ 1) ⊎ (after.status ≡ 6))
+done_or_memory before after files text (inr want) = inr (inr want)
+done_or_memory before after files text (inl h) = elim h.done [
   | inl is ↦ inl (h.answer ∙ is)
   | inr is ↦ inr (inl (h.answer ∙ is))
 ]
@@ -47,7 +50,7 @@ module _ (first second : List (List ℕ)) (files : Files) (chain : AreChained fi
   put_ready : (end : End) (after : Files) → PutsCompiled chain.tree chain.circuit Nowhere end → Leaves files Nowhere end.put (Some after) → IsReady after (Eval chain.circuit chain.public chain.private)
   put_ready end after (c, bytes, is, file, fits, e) left =
       let same : after ≡ with_file files chain.circuit bytes = some_is after _ (subst (λ (x : End). Leaves files Nowhere x.put (Some after)) e left) in
-      subst (λ (f : Files). IsReady f (Eval chain.circuit chain.public chain.private)) (sym same) (c, (bytes, record { there = here bytes; fits = fits }, file), inputs_left c bytes is)
+      subst (λ (f : Files). IsReady f (Eval chain.circuit chain.public chain.private)) (sym same) (c, record { bytes = bytes; file = record { there = here bytes; fits = fits }; means = file }, inputs_left c bytes is)
     where
       some_is : (x y : Files) → Some x ≡ Some y → x ≡ y
       some_is x y e = cc
@@ -55,8 +58,10 @@ module _ (first second : List (List ℕ)) (files : Files) (chain : AreChained fi
       here : (bytes : List ℕ) → with_file files chain.circuit bytes chain.circuit ≡ Some bytes
       here bytes = rw (bytes_same chain.circuit chain.circuit refl) refl
 
-  pub chained : (before : List ℕ) (status : ℕ) (after : Files) (written : Option (List ℕ)) → Completed first files before status (Some after) written → IsReady after (Eval chain.circuit chain.public chain.private)
+  pub chained : (before : Before) (after : After) (left : Files) (text : List ℕ) → before.words ≡ first → after.shelf.files ≡ Some left → Completed before after files text → IsReady left (Eval chain.circuit chain.public chain.private)
   unfolding CompileRun
-  chained before status after written h =
-      let made = rw chain.has_source.3 at (source_ready files chain.source 0 h.end chain.tree _ chain.has_source (run_command first files (Compile chain.source chain.circuit) h.end chain.compiles h.run)) in
-      put_ready h.end after made h.left
+  chained before after left text words told h =
+      let run = subst (λ w. RunOf w files Nowhere h.end) words h.run in
+      let source = chain.has_source in
+      let made = rw source.1 at (ready source_files sources files chain.source 0 h.end chain.tree _ source.0 (run_command first files (Compile chain.source chain.circuit) h.end chain.compiles run)) in
+      put_ready h.end left made (subst (λ held. Leaves files Nowhere h.end.put held) told h.left)

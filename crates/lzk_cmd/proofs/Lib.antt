@@ -4,11 +4,14 @@ pub mod Chained
 pub mod Compiles
 pub mod Digits
 pub mod Evals
+pub mod Exists
+pub mod Laws
 pub mod Outputs
 pub mod Printing
+pub mod Promises
 pub mod Ready
-pub mod Shows
+pub mod Sights
 pub mod Steps
 pub mod Terms
-pub mod Told
+pub mod Total
 pub mod Works

@@ -1,98 +1,120 @@
--- One step of a walk, forwards where it goes on and at its end.
-use Rattle.std.proofs.Common.{◌≡◌, ◌+◌, inl, inr, ℕ, ◌<◌, ◌⊎◌, List, length, map, Option, Some, None, refl, sym, subst, arith}
+-- One step of a walk: it ends at its file, or goes on.
+use Rattle.std.proofs.Common.{◌≡◌, ◌+◌, inl, inr, ℕ, false, List, length, Option, Some, None, Result, Ok, Err, refl, sym, ap, subst, ◌∙◌, arith}
 use Rattle.std.specs.Option.{IsSomeAnd}
+use Rattle.std.specs.Result.{IsErrAnd}
 use Rattle.std.proofs.lemmas.Bool.{le-ltb, lt-ltb, ne_eqb, eq-eqb}
-use Rattle.lzk_circbytes.specs.declared.any.AnyCircuit.{AnyCircuit}
-use Rattle.lzk_circbytes.specs.Files.{CircuitBytes}
-use Rattle.lzk_expr.specs.Numbers.{NumberText}
+use Rattle.std.proofs.lemmas.Result.{err_from_is_err_and}
 use Rattle.lzk_outside.specs.Outside.{Files}
 use Rattle.lzk_cmd.specs.declared.ending.Ending.{Ending}
+use Rattle.lzk_cmd.specs.declared.ending.Halt.{Halt}
+use Rattle.lzk_cmd.specs.declared.ending.Halt.TheVariants as halts
+use Rattle.lzk_cmd.specs.Ends.{End, Stop, Nowhere, AtRead, stops_at, says, missing_file, Leaves}
+use Rattle.lzk_cmd.specs.Formats.{Format, HasFile, AtBytes, At}
 use Rattle.lzk_cmd.specs.Lines.{reading_line, larger_line}
-use Rattle.lzk_cmd.specs.Ends.{End, Stop, Nowhere, AtRead, AtFile, says, missing_file, Leaves}
-use Rattle.lzk_cmd.specs.Decoded.{circuit_limit, text_limit, circuit_refused, numbers_refused, source_refused, AtCircuit, AtNumbers, AtSource, AtCircuitFile, AtNumberFile, AtSourceFile}
-use Rattle.lzk_cmd.specs.Answers.{HasFile, FileEnds, CircuitRefused, NumbersRefused, Halted}
-use Rattle.lzk_cmd.specs.Putting.{SourceRefused, Settled}
-use Rattle.lzk_expr.specs.Sources.{SourceText}
-use Rattle.lzk_expr.specs.Trees.{SourceTree}
+use Rattle.lzk_cmd.specs.Seen.{Seen}
+use Rattle.lzk_cmd.specs.Walks.{OnlyReads, IsEnding, HasBytes, FileEnds, GivesBytes, Decodes, Gives, Settled, Settles}
+use Rattle.lzk_cmd.proofs.Causes.{IsQuiet, quiet_cause, reading_cause, missing_cause, larger_quiet, cause_later}
+use Rattle.lzk_cmd.proofs.Sights.{where_told, at_told, may_later}
 
 some_and : (o : Option (List ℕ)) (P : List ℕ → Type 0) → IsSomeAnd o P → (x : List ℕ) × (o ≡ Some x) × P x
 some_and None P h = elim h [ ]
 some_and (Some x) P h = (x, refl, h)
 
-module _ (read_rose put_rose : Type 0) (e : Ending) where
-  file_ends : (files : Files) (name : List ℕ) (k limit : ℕ) (next : Stop → End → List ℕ → Type 0) → FileEnds (files name) name limit read_rose e
-      → Halted (λ stop end. AtFile files stop k name limit end (next stop end)) k read_rose put_rose e
-  file_ends files name k limit next (inl h) = (AtRead k, says 4 (reading_line name), h.0, (λ j l. ne_eqb k j (λ same. omega arith)), rw (eq-eqb k k refl) refl, h.1, refl)
-  file_ends files name k limit next (inr (inl h)) = (Nowhere, missing_file name, tt, (λ j l. refl), rw h.0 refl, h.1, refl)
-  file_ends files name k limit next (inr (inr h)) =
-      let b = some_and (files name) (λ bytes. limit < length bytes) h.0 in
-      (Nowhere, says 3 (larger_line name limit), tt, (λ j l. refl), rw (b.1, lt-ltb limit (length b.0) b.2) refl, h.1, refl)
+-- an error that was handed on
+pub handed_on : {X Y : Type 0} (P : Result X Y → Type 0) (r : Result X Y) (h : Y) → IsErrAnd r (λ y. y ≡ h) → P (Err h) → P r
+handed_on P r h is told = let p = err_from_is_err_and r is in subst P (sym (p.1 ∙ ap Err p.2)) told
 
-  file_then : (files : Files) (name bytes : List ℕ) (j k limit : ℕ) (next : Stop → End → List ℕ → Type 0) → j < k → HasFile (files name) limit bytes
-      → Halted (λ stop end. next stop end bytes) k read_rose put_rose e → Halted (λ stop end. AtFile files stop j name limit end (next stop end)) j read_rose put_rose e
-  file_then files name bytes j k limit next lt f h =
-      (h.0, h.1, h.2, (λ i l. h.3 i (omega arith)), rw (h.3 j lt, f.there, le-ltb limit (length bytes) f.fits) h.4, h.5, h.6)
+-- an end that needs nothing of the outside, behind reads alone
+pub here : (tail : Files → Stop → End → Type 0) (k : ℕ) (p : Type 0) (old new : Seen) (end : End) (e : Ending) → OnlyReads old new → IsQuiet end → IsEnding end e → ((f : Files) → old.files ≡ Some f → tail f Nowhere end)
+    → Settled tail k ⊥ p old new e
+here tail k p old new end e reads quiet is told = record {
+  stop = Nowhere;
+  end = end;
+  may = tt;
+  far = λ j l. refl;
+  is = is;
+  told = where_told old.files _ (λ f at. (told f at, subst (λ (put : Option (List ℕ × List ℕ)). Leaves f Nowhere put new.files) (sym quiet.put) (reads.files ∙ at)));
+  cause = quiet_cause p old new end quiet;
+}
 
-  circuit_ends : (name bytes : List ℕ) (k : ℕ) (next : Stop → End → AnyCircuit → Type 0) → CircuitRefused name bytes e → Halted (λ stop end. AtCircuit name bytes end (next stop end)) k read_rose put_rose e
-  circuit_ends name bytes k next r = (Nowhere, circuit_refused name r.offset r.kind, tt, (λ j l. refl), inr (r.offset, r.kind, r.fault, refl), r.ends, refl)
+module _ {X F R : Type 0} (format : Format X F) (view : R → X) (name : List ℕ) (k : ℕ) (next : Files → Stop → End → X → Type 0) (p : Type 0) where
+  abbrev Whole : Files → Stop → End → Type 0
+  Whole files stop end = At format files stop k name end (next files stop end)
 
-  numbers_end : {A : Type 0} (size : ℕ) (number : A → ℕ) (name text : List ℕ) (count k : ℕ) (next : Stop → End → List A → Type 0) → NumbersRefused size count name text e
-      → Halted (λ stop end. AtNumbers size number name text count end (next stop end)) k read_rose put_rose e
-  numbers_end size number name text count k next r = (Nowhere, numbers_refused name r.found, tt, (λ j l. refl), inr (r.found, r.fault, refl), r.ends, refl)
+  file_ends : (old new : Seen) (e : Ending) → OnlyReads old new → FileEnds old new name format.limit e → Settled Whole k ⊥ p old new e
+  file_ends old new e reads (inl h) = record {
+    stop = AtRead k;
+    end = says 4 (reading_line name);
+    may = h.0;
+    far = λ j l. ne_eqb k j (λ same. omega arith);
+    is = h.1;
+    told = where_told old.files _ (λ f at. (rw (eq-eqb k k refl) refl, reads.files ∙ at));
+    cause = reading_cause p old new name h.0;
+  }
+  file_ends old new e reads (inr (inl h)) = record {
+    stop = Nowhere;
+    end = missing_file name;
+    may = tt;
+    far = λ j l. refl;
+    is = h.2;
+    told = where_told old.files _ (λ f at. (rw (at_told old.files _ f at h.1) refl, reads.files ∙ at));
+    cause = missing_cause p old new name h.0;
+  }
+  file_ends old new e reads (inr (inr h)) =
+      here Whole k p old new (says 3 (larger_line name format.limit)) e reads (larger_quiet p old new name format.limit) h.1 (λ f at.
+      let b = some_and (f name) _ (at_told old.files _ f at h.0) in
+      rw (b.1, lt-ltb format.limit (length b.0) b.2) refl)
 
-  -- the walk ends at a circuit's file, or at its contents
-  pub circuit_file_ends : (files : Files) (name : List ℕ) (k : ℕ) (next : Stop → End → AnyCircuit → Type 0)
-      → FileEnds (files name) name circuit_limit read_rose e ⊎ ((bytes : List ℕ) × HasFile (files name) circuit_limit bytes × CircuitRefused name bytes e)
-      → Halted (λ stop end. AtCircuitFile files stop k name end (next stop end)) k read_rose put_rose e
-  circuit_file_ends files name k next (inl h) = file_ends files name k circuit_limit (λ stop end bytes. AtCircuit name bytes end (next stop end)) h
-  circuit_file_ends files name k next (inr h) =
-      file_then files name h.0 k (k + 1) circuit_limit (λ stop end bytes. AtCircuit name bytes end (next stop end)) (omega arith) h.1 (circuit_ends name h.0 (k + 1) next h.2)
+  file_then : (files : Files) (stop : Stop) (end : End) (bytes : List ℕ) → stops_at stop k ≡ false → HasFile (files name) format.limit bytes → AtBytes format name bytes end (next files stop end) → Whole files stop end
+  file_then files stop end bytes far f h = rw (far, f.there, le-ltb format.limit (length bytes) f.fits) h
 
-  -- the walk goes on with a file's circuit
-  pub circuit_file_then : (files : Files) (name : List ℕ) (k : ℕ) (c : AnyCircuit) (next : Stop → End → AnyCircuit → Type 0)
-      → (bytes : List ℕ) × HasFile (files name) circuit_limit bytes × CircuitBytes c bytes
-      → Halted (λ stop end. next stop end c) (k + 1) read_rose put_rose e → Halted (λ stop end. AtCircuitFile files stop k name end (next stop end)) k read_rose put_rose e
-  circuit_file_then files name k c next f h =
-      file_then files name f.0 k (k + 1) circuit_limit (λ stop end bytes. AtCircuit name bytes end (next stop end)) (omega arith) f.1
-      (h.0, h.1, h.2, h.3, inl (c, f.2, h.4), h.5, h.6)
+  -- the walk ends at the file, or at its bytes
+  pub ends : (old new : Seen) (h : Halt) (r : Result Ending Halt) → ((fault : F) → IsQuiet (format.refused name fault)) → OnlyReads old new → Gives format view old new name (Err h) → IsErrAnd r (λ y. y ≡ h)
+      → Settles Whole k ⊥ p old new r
+  ends old new h r quiet reads gives is = handed_on (Settles Whole k ⊥ p old new) r h is (go h gives)
+    where
+      go : (h : Halt) → Gives format view old new name (Err h) → Settles Whole k ⊥ p old new (Err h)
+      go halts.Memory a = where_told old.files _ (λ f at. reads.files ∙ at)
+      go (halts.End e) (inl a) = file_ends old new e reads a
+      go (halts.End e) (inr (bytes, has, fault, breaks, ends)) =
+          here Whole k p old new (format.refused name fault) e reads (quiet fault) ends (λ f at. file_then f Nowhere (format.refused name fault) bytes refl (at_told old.files _ f at has) (inr (fault, breaks, refl)))
 
-  pub number_file_ends : {A : Type 0} (size : ℕ) (number : A → ℕ) (files : Files) (name : List ℕ) (count k : ℕ) (next : Stop → End → List A → Type 0)
-      → FileEnds (files name) name text_limit read_rose e ⊎ ((text : List ℕ) × HasFile (files name) text_limit text × NumbersRefused size count name text e)
-      → Halted (λ stop end. AtNumberFile size number files stop k name count end (next stop end)) k read_rose put_rose e
-  number_file_ends size number files name count k next (inl h) = file_ends files name k text_limit (λ stop end text. AtNumbers size number name text count end (next stop end)) h
-  number_file_ends size number files name count k next (inr h) =
-      file_then files name h.0 k (k + 1) text_limit (λ stop end text. AtNumbers size number name text count end (next stop end)) (omega arith) h.1 (numbers_end size number name h.0 count (k + 1) next h.2)
+  -- the walk goes on with what the bytes mean
+  pub then : (old mid new : Seen) (x : R) (r : Result Ending Halt) → OnlyReads old mid → Gives format view old mid name (Ok x) → Settles (λ files stop end. next files stop end (view x)) (k + 1) ⊥ p mid new r
+      → Settles Whole k ⊥ p old new r
+  then old mid new x r reads gives rest = go r rest
+    where
+      settled : (e : Ending) → Settled (λ files stop end. next files stop end (view x)) (k + 1) ⊥ p mid new e → Settled Whole k ⊥ p old new e
+      settled e h = record {
+        stop = h.stop;
+        end = h.end;
+        may = may_later old mid new reads h.stop h.may;
+        far = λ j l. h.far j (omega arith);
+        is = h.is;
+        told = where_told old.files _ (λ f at.
+            let behind = at_told mid.files _ f (reads.files ∙ at) h.told in
+            (file_then f h.stop h.end gives.0 (h.far k (omega arith)) (at_told old.files _ f at gives.1) (inl (view x, gives.2, behind.0)), behind.1));
+        cause = cause_later old mid new ⊥ p h.end reads h.cause;
+      }
 
-  pub number_file_then : {A : Type 0} (size : ℕ) (number : A → ℕ) (files : Files) (name : List ℕ) (count k : ℕ) (values : List A) (next : Stop → End → List A → Type 0)
-      → (text : List ℕ) × HasFile (files name) text_limit text × NumberText size count text (map number values)
-      → Halted (λ stop end. next stop end values) (k + 1) read_rose put_rose e → Halted (λ stop end. AtNumberFile size number files stop k name count end (next stop end)) k read_rose put_rose e
-  number_file_then size number files name count k values next f h =
-      file_then files name f.0 k (k + 1) text_limit (λ stop end text. AtNumbers size number name text count end (next stop end)) (omega arith) f.1
-      (h.0, h.1, h.2, h.3, inl (values, f.2, h.4), h.5, h.6)
+      go : (r : Result Ending Halt) → Settles (λ files stop end. next files stop end (view x)) (k + 1) ⊥ p mid new r → Settles Whole k ⊥ p old new r
+      go (Ok e) h = settled e h
+      go (Err halts.Memory) h = where_told old.files _ (λ f at. at_told mid.files _ f (reads.files ∙ at) h)
+      go (Err (halts.End e)) h = settled e h
 
-  source_ends : (name text : List ℕ) (k : ℕ) (next : Stop → End → SourceTree → Type 0) → SourceRefused name text e → Halted (λ stop end. AtSource name text end (next stop end)) k read_rose put_rose e
-  source_ends name text k next r = (Nowhere, source_refused name r.found, tt, (λ j l. refl), inr (r.found, r.fault, refl), r.ends, refl)
+-- a step over a file, by its two parts
+module _ {X F R : Type 0} (format : Format X F) (view : R → X) (name : List ℕ) (old new : Seen) (r : Result R Halt) where
+  pub no_bytes : (h : Halt) → GivesBytes old new name format.limit (Err h) → IsErrAnd r (λ y. y ≡ h) → Gives format view old new name r
+  no_bytes h a is = handed_on (Gives format view old new name) r h is (go h a)
+    where
+      go : (h : Halt) → GivesBytes old new name format.limit (Err h) → Gives format view old new name (Err h)
+      go halts.Memory a = tt
+      go (halts.End e) a = inl a
 
-  pub source_file_ends : (files : Files) (name : List ℕ) (k : ℕ) (next : Stop → End → SourceTree → Type 0)
-      → FileEnds (files name) name text_limit read_rose e ⊎ ((text : List ℕ) × HasFile (files name) text_limit text × SourceRefused name text e)
-      → Halted (λ stop end. AtSourceFile files stop k name end (next stop end)) k read_rose put_rose e
-  source_file_ends files name k next (inl h) = file_ends files name k text_limit (λ stop end text. AtSource name text end (next stop end)) h
-  source_file_ends files name k next (inr h) =
-      file_then files name h.0 k (k + 1) text_limit (λ stop end text. AtSource name text end (next stop end)) (omega arith) h.1 (source_ends name h.0 (k + 1) next h.2)
-
-  -- a walk that puts nothing leaves what was there
-  pub settled : (tail : Stop → End → Type 0) (k : ℕ) (files : Files) (held : Option Files) → held ≡ Some files → Halted tail k read_rose put_rose e → Settled tail k files read_rose put_rose held e
-  settled tail k files held same h = (h.0, h.1, h.2, h.3, h.4, h.5, subst (λ (put : Option (List ℕ × List ℕ)). Leaves files h.0 put held) (sym h.6) same)
-
-  settled_then : (files : Files) (name bytes : List ℕ) (j k limit : ℕ) (next : Stop → End → List ℕ → Type 0) (held : Option Files) → j < k → HasFile (files name) limit bytes
-      → Settled (λ stop end. next stop end bytes) k files read_rose put_rose held e → Settled (λ stop end. AtFile files stop j name limit end (next stop end)) j files read_rose put_rose held e
-  settled_then files name bytes j k limit next held lt f h =
-      (h.0, h.1, h.2, (λ i l. h.3 i (omega arith)), rw (h.3 j lt, f.there, le-ltb limit (length bytes) f.fits) h.4, h.5, h.6)
-
-  -- the walk goes on with a file's source
-  pub source_file_then : (files : Files) (name : List ℕ) (k : ℕ) (source : SourceTree) (next : Stop → End → SourceTree → Type 0) (held : Option Files)
-      → (text : List ℕ) × HasFile (files name) text_limit text × SourceText text source
-      → Settled (λ stop end. next stop end source) (k + 1) files read_rose put_rose held e → Settled (λ stop end. AtSourceFile files stop k name end (next stop end)) k files read_rose put_rose held e
-  source_file_then files name k source next held f h =
-      settled_then files name f.0 k (k + 1) text_limit (λ stop end text. AtSource name text end (next stop end)) held (omega arith) f.1
-      (h.0, h.1, h.2, h.3, inl (source, f.2, h.4), h.5, h.6)
+  pub decoded : (bytes given : List ℕ) → given ≡ bytes → HasBytes old name format.limit bytes → Decodes format view name given r → Gives format view old new name r
+  decoded bytes given same has h = go r (subst (λ b. Decodes format view name b r) same h)
+    where
+      go : (r : Result R Halt) → Decodes format view name bytes r → Gives format view old new name r
+      go (Ok x) h = (bytes, has, h)
+      go (Err halts.Memory) h = tt
+      go (Err (halts.End e)) h = inr (bytes, has, h.0, h.1, h.2)

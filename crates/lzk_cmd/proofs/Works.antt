@@ -1,23 +1,62 @@
--- What a run leaves, whatever its command.
-use Rattle.std.proofs.Common.{◌≡◌, ℕ, List, Option, Some, None, false, refl, sym}
-use Rattle.std.specs.Prelude.{IfSome, String, string_bytes}
-use Rattle.std.specs.declared.alloc.Global.{Global}
-use Rattle.lzk_outside.specs.Outside.{Files}
-use Rattle.lzk_cmd.specs.Lines.{words_line}
-use Rattle.lzk_cmd.specs.Ends.{Nowhere, refused_words}
-use Rattle.lzk_cmd.specs.Words.{Compile, command_of}
-use Rattle.lzk_cmd.specs.Compiled.{CompileRun}
+-- What is done before anything is printed, whatever the command.
+use Rattle.std.proofs.Common.{◌≡◌, ℕ, List, Option, Some, None, Result, Ok, Err, refl, arith}
+use Rattle.std.proofs.lemmas.Bool.{false≢true}
 use Rattle.lzk_cmd.specs.declared.ending.Ending.{Ending}
-use Rattle.lzk_cmd.specs.Outcome.{Worked}
-use Rattle.lzk_cmd.specs.Putting.{Settles}
+use Rattle.lzk_cmd.specs.declared.ending.Halt.{Halt}
+use Rattle.lzk_cmd.specs.declared.ending.Halt.TheVariants as halts
+use Rattle.lzk_cmd.specs.Ends.{Nowhere, refused_words}
+use Rattle.lzk_cmd.specs.Run.{CommandRun, RunOf}
+use Rattle.lzk_cmd.specs.Seen.{Seen}
+use Rattle.lzk_cmd.specs.Walks.{IsEnding, Settled, Settles, Works}
+use Rattle.lzk_cmd.specs.Words.{Command, PutsFile, command_of}
+use Rattle.lzk_cmd.proofs.Sights.{where_told, at_told}
 
-pub refused : (held : Option Files) (words : List (List ℕ)) (rr pr : Type 0) (s : String Global) → command_of words ≡ None → string_bytes s ≡ words_line
-    → IfSome held (λ files. Worked words files held rr pr (Some (record { status = 2; text = s; missing = false })))
-refused None words rr pr s none text = tt
-refused (Some files) words rr pr s none text = (Nowhere, refused_words, tt, rw none refl, refl, record { status = refl; text = sym text; missing = refl })
+module _ (words : List (List ℕ)) where
+  -- words that are no command
+  pub refused : (old : Seen) (e : Ending) → command_of words ≡ None → IsEnding refused_words e → Works words old old (Ok e)
+  refused old e none is = record {
+    stop = Nowhere;
+    end = refused_words;
+    may = tt;
+    far = λ j l. refl;
+    is = is;
+    told = where_told old.files _ (λ f at. (rw none refl, at));
+    cause = record {
+      status = omega arith;
+      words = (λ two. none, λ none. refl);
+      refusal = λ e. absurd (omega (arith, e));
+      missing = λ e. absurd (false≢true e);
+      reading = λ e. absurd (omega (arith, e));
+      writing = λ e. absurd (omega (arith, e));
+    };
+  }
 
-pub compiles : (held held' : Option Files) (words : List (List ℕ)) (source circuit : List ℕ) (rr pr : Type 0) (end : Option Ending) → command_of words ≡ Some (Compile source circuit)
-    → IfSome held (λ files. Settles (CompileRun source circuit files) 0 files rr pr held' end) → IfSome held (λ files. Worked words files held' rr pr end)
-compiles None held' words source circuit rr pr end is h = tt
-compiles (Some files) held' words source circuit rr pr None is h = h
-compiles (Some files) held' words source circuit rr pr (Some e) is h = (h.0, h.1, h.2, rw is h.4, h.6, h.5)
+  none_apart : (command : Command) (o : Option Command) → o ≡ Some command → o ≡ None → ⊥
+  none_apart command o is none = absurd cc
+
+  -- words that are one
+  pub works : (command : Command) (p : Type 0) (old new : Seen) (r : Result Ending Halt) → command_of words ≡ Some command → (p → PutsFile (Some command)) → Settles (CommandRun command) 0 ⊥ p old new r → Works words old new r
+  works command p old new r is puts h = go r h
+    where
+      settled : (e : Ending) → Settled (CommandRun command) 0 ⊥ p old new e → Settled (RunOf words) 0 (command_of words ≡ None) (PutsFile (command_of words)) old new e
+      settled e h = record {
+        stop = h.stop;
+        end = h.end;
+        may = h.may;
+        far = h.far;
+        is = h.is;
+        told = where_told old.files _ (λ f at. let here = at_told old.files _ f at h.told in (rw is here.0, here.1));
+        cause = record {
+          status = h.cause.status;
+          words = (λ e. absurd (h.cause.words.0 e), λ none. absurd (none_apart command (command_of words) is none));
+          refusal = h.cause.refusal;
+          missing = h.cause.missing;
+          reading = h.cause.reading;
+          writing = λ e. let w = h.cause.writing e in (rw is (puts w.0), w.1);
+        };
+      }
+
+      go : (r : Result Ending Halt) → Settles (CommandRun command) 0 ⊥ p old new r → Works words old new r
+      go (Ok e) h = settled e h
+      go (Err halts.Memory) h = h
+      go (Err (halts.End e)) h = settled e h

@@ -7,8 +7,9 @@ use Rattle.lzk_circuit.specs.declared.layer.Layer.{Layer}
 use Rattle.lzk_expr.specs.Trees.{SourceTree, is_public, is_private}
 use Rattle.lzk_level.specs.Compiled.{field_of, publics_of, privates_of, depth_of, HasSourceValues, HasReducedLayers, source_layers, source_limit}
 use Rattle.lzk_outside.specs.Outside.{Files}
-use Rattle.lzk_cmd.specs.Decoded.{circuit_limit, AtSourceFile, level_refused}
+use Rattle.lzk_cmd.specs.Decoded.{circuit_limit, source_files, level_refused}
 use Rattle.lzk_cmd.specs.Ends.{End, Stop, puts}
+use Rattle.lzk_cmd.specs.Formats.{At}
 use Rattle.lzk_cmd.specs.Lines.{compiled_line}
 
 -- The circuit has the source's field and counts, the layers that its nodes need, and on every input the values of its asserts as outputs, one for one; and it is reduced.
@@ -38,6 +39,9 @@ abbrev pub PutsCompiled : SourceTree → List ℕ → Stop → End → Type 0
 PutsCompiled source name stop end =
     (c : AnyCircuit) × (bytes : List ℕ) × Compiled source c × CircuitBytes c bytes × (length bytes ≤ circuit_limit) × (end ≡ puts stop name bytes (compiled_text name c (length bytes)))
 
+-- The walk has a source: it puts the file of a circuit of it, or ends where the source passes a limit.
+abbrev pub CompileTree : List ℕ → List ℕ → SourceTree → Stop → End → Type 0
+CompileTree source circuit s stop end = MatchOption (source_limit s) (PutsCompiled s circuit stop end) (λ fault. end ≡ level_refused source fault)
+
 unfoldable pub CompileRun : List ℕ → List ℕ → Files → Stop → End → Type 0
-CompileRun source circuit files stop end =
-    AtSourceFile files stop 0 source end (λ s. MatchOption (source_limit s) (PutsCompiled s circuit stop end) (λ fault. end ≡ level_refused source fault))
+CompileRun source circuit files stop end = At source_files files stop 0 source end (λ s. CompileTree source circuit s stop end)

@@ -1,12 +1,11 @@
-pub mod Answers
 pub mod Chains
 pub mod Compiled
 pub mod Complete
 pub mod Decoded
 pub mod Ends
-pub mod Evaluations
 pub mod Faults
 pub mod Files
+pub mod Formats
 pub mod Grammar
 pub mod KeyViews
 pub mod Keys
@@ -14,10 +13,14 @@ pub mod Lines
 pub mod OneEnd
 pub mod Outcome
 pub mod Promise
-pub mod Putting
+pub mod Refusals
 pub mod Run
+pub mod Seen
+pub mod Sights
+pub mod SomeEnd
 pub mod Table
 pub mod Views
+pub mod Walks
 pub mod Words
 pub use Rattle.lzk_outside.specs as lzk_outside
 pub use Rattle.lzk_circbytes.specs as lzk_circbytes

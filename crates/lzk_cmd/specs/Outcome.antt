@@ -1,34 +1,43 @@
 -- What a run answers, prints and leaves.
-use Rattle.std.specs.Prelude.{◌≡◌, ◌⊎◌, ℕ, List, ◌++◌, take, true, Option, Some, None}
+use Rattle.std.specs.Prelude.{◌≡◌, ◌⊎◌, ℕ, List, ◌++◌, take, true, Option, Some, IfSome}
 use Rattle.lzk_outside.specs.Outside.{Files}
 use Rattle.lzk_cmd.specs.Ends.{End, Stop, MayStop, Leaves}
-use Rattle.lzk_cmd.specs.declared.ending.Ending.{Ending}
-use Rattle.lzk_cmd.specs.Answers.{IsEnding, IsRefusal}
+use Rattle.lzk_cmd.specs.Refusals.{IsRefusal}
 use Rattle.lzk_cmd.specs.Run.{RunOf}
+use Rattle.lzk_cmd.specs.Seen.{Missed, WriteFailed}
+use Rattle.lzk_cmd.specs.Sights.{Before, After}
+
+-- where shelf and sink tell their contents
+abbrev pub WhereTold : Before → (Files → List ℕ → Type 0) → Type 0
+WhereTold before P = IfSome before.shelf.files (λ files. IfSome before.sink.written (λ text. P files text))
 
 -- The sink has what it had, and then a front of this text.
 abbrev pub HasFront : List ℕ → List ℕ → Option (List ℕ) → Type 0
-HasFront before text written = (n : ℕ) × (written ≡ Some (before ++ take n text))
+HasFront text printed written = (n : ℕ) × (written ≡ Some (text ++ take n printed))
 
 -- The end as it is; or cut off by the sink; or by want of memory.
-abbrev pub Answers : End → List ℕ → ℕ → Option (List ℕ) → Type 0 → Type 0
-Answers end before status written sink_rose =
-    ((status ≡ end.status) × (written ≡ Some (before ++ end.text)))
-    ⊎ (((status ≡ 5) × sink_rose × HasFront before end.text written)
-    ⊎ ((status ≡ 6) × HasFront before end.text written))
+abbrev pub Answers : Before → After → List ℕ → End → Type 0
+Answers before after text end =
+    ((after.status ≡ end.status) × (after.sink.written ≡ Some (text ++ end.text)))
+    ⊎ (((after.status ≡ 5) × WriteFailed before.sink after.sink × HasFront text end.text after.sink.written)
+    ⊎ ((after.status ≡ 6) × HasFront text end.text after.sink.written))
 
--- The run of these words over these files, for a stop that may be, or for want of memory nothing.
-abbrev pub Outcome : List (List ℕ) → Files → List ℕ → ℕ → Option Files → Option (List ℕ) → Type 0 → Type 0 → Type 0 → Type 0 → Type 0
-Outcome words files before status held written read_rose put_rose miss_rose sink_rose =
-    ((stop : Stop) × (end : End) × MayStop stop read_rose put_rose × RunOf words files stop end × Leaves files stop end.put held × (end.missing ≡ true → miss_rose) × Answers end before status written sink_rose)
-    ⊎ ((status ≡ 6) × (held ≡ Some files) × (written ≡ Some before))
+-- The run ends so, for a stop that may be.
+pub record Ends (before : Before) (after : After) (files : Files) (text : List ℕ) : Type 0 where
+  pub stop : Stop
+  pub end : End
+  pub may : MayStop stop before.shelf after.shelf
+  pub run : RunOf before.words files stop end
+  pub left : Leaves files stop end.put after.shelf.files
+  pub missing : end.missing ≡ true → Missed before.shelf after.shelf
+  pub answers : Answers before after text end
 
--- what was done before anything is printed: an end, or nothing for want of memory
-abbrev pub Worked : List (List ℕ) → Files → Option Files → Type 0 → Type 0 → Option Ending → Type 0
-Worked words files held read_rose put_rose None = held ≡ Some files
-Worked words files held read_rose put_rose (Some e) =
-    (stop : Stop) × (end : End) × MayStop stop read_rose put_rose × RunOf words files stop end × Leaves files stop end.put held × IsEnding end e
+-- The end of such a run, or for want of memory nothing.
+abbrev pub Outcome : Before → After → Files → List ℕ → Type 0
+Outcome before after files text =
+    Ends before after files text ⊎ ((after.status ≡ 6) × (after.shelf.files ≡ Some files) × (after.sink.written ≡ Some text))
 
--- what was printed on top of before is a refusal's line
-abbrev pub Refused : Type 0 → List ℕ → Option (List ℕ) → Type 0
-Refused miss_rose before written = (text : List ℕ) × IsRefusal miss_rose text × (written ≡ Some (before ++ text))
+-- what was printed is a refusal's line
+abbrev pub Refused : Before → After → Type 0
+Refused before after =
+    IfSome before.sink.written (λ text. (line : List ℕ) × IsRefusal (Missed before.shelf after.shelf) line × (after.sink.written ≡ Some (text ++ line)))

@@ -13,7 +13,8 @@ use Rattle.lzk_goldilocks.specs.Elements as gold
 use Rattle.lzk_gf128.specs.Elements as gf
 use Rattle.lzk_outside.specs.Outside.{Files}
 use Rattle.lzk_cmd.specs.Compiled.{CompileRun}
-use Rattle.lzk_cmd.specs.Decoded.{AtCircuitFile, AtNumberFile}
+use Rattle.lzk_cmd.specs.Decoded.{circuit_files, number_files}
+use Rattle.lzk_cmd.specs.Formats.{At}
 use Rattle.lzk_cmd.specs.Lines.{output_line, satisfied_line, unsatisfied_line, counts_lines, layer_line}
 use Rattle.lzk_cmd.specs.Ends.{End, says, refused_words, Stop}
 use Rattle.lzk_cmd.specs.Words.{Command, Eval, Compile, Show, command_of}
@@ -36,8 +37,8 @@ Evaluated {A} o number outputs end =
 -- a circuit over a field, on the inputs of two number files
 unfoldable pub EvalOver : {A : Type 0} → Ops A → ℕ → (A → ℕ) → Wiring A → List ℕ → List ℕ → Files → Stop → End → Type 0
 EvalOver o size number c public private files stop end =
-    AtNumberFile size number files stop 1 public c.publics end (λ publics.
-    AtNumberFile size number files stop 2 private c.privates end (λ privates.
+    At (number_files size number c.publics) files stop 1 public end (λ publics.
+    At (number_files size number c.privates) files stop 2 private end (λ privates.
     Evaluated o number (wires_of o c.layers (inputs_of o publics privates)) end))
 
 abbrev pub EvalAny : AnyCircuit → List ℕ → List ℕ → Files → Stop → End → Type 0
@@ -46,7 +47,7 @@ EvalAny (Gf c) = EvalOver gf.ops (2 ^ 128) gf.number c
 
 unfoldable pub EvalRun : List ℕ → List ℕ → List ℕ → Files → Stop → End → Type 0
 EvalRun circuit public private files stop end =
-    AtCircuitFile files stop 0 circuit end (λ c. EvalAny c public private files stop end)
+    At circuit_files files stop 0 circuit end (λ c. EvalAny c public private files stop end)
 
 -- the layers' lines, from layer l on
 abbrev pub layer_lines : {A : Type 0} → ℕ → List (Layer A) → List ℕ
@@ -62,7 +63,7 @@ shown_any (Gold c) = shown (codes "goldilocks") (circuit_id goldilocks (numbered
 shown_any (Gf c) = shown (codes "gf2_128") (circuit_id gf128 (numbered gf.number c)) c
 
 unfoldable pub ShowRun : List ℕ → Files → Stop → End → Type 0
-ShowRun circuit files stop end = AtCircuitFile files stop 0 circuit end (λ c. end ≡ says 0 (shown_any c))
+ShowRun circuit files stop end = At circuit_files files stop 0 circuit end (λ c. end ≡ says 0 (shown_any c))
 
 abbrev pub CommandRun : Command → Files → Stop → End → Type 0
 CommandRun (Eval circuit public private) = EvalRun circuit public private

@@ -1,32 +1,33 @@
 //! The command `compile`.
 
-ghost use Rattle.std.specs.Prelude.{◌≡◌, ◌≤◌, length, IfOk, IfErr, IfSome, string_bytes, IsTrue};
+ghost use Rattle.std.specs.Prelude.{◌≡◌, ◌≤◌, length, IfOk, string_bytes};
 ghost use Rattle.lzk_circbytes.specs.Files.{CircuitBytes, IsFile};
 ghost use Rattle.lzk_circbytes.specs.Numbered.{shape};
 ghost use Rattle.lzk_expr.specs.View.{tree_of};
-ghost use Rattle.lzk_outside.specs.Outside.{Rose};
-ghost use Rattle.lzk_cmd.specs.Faults.{Faulted};
 ghost use Rattle.lzk_cmd.specs.Lines.{compiled_line};
-ghost use Rattle.lzk_cmd.specs.Answers.{HaltHasCause, HaltRefuses, ending_of};
-ghost use Rattle.lzk_cmd.specs.Compiled.{CompileRun, compiled_text, term_count};
-ghost use Rattle.lzk_cmd.specs.Putting.{ParseAnswers, SourceAnswers, CompileAnswers, PutAnswers, Settles, PutHasCause};
+ghost use Rattle.lzk_cmd.specs.Compiled.{CompileRun, CompileTree, compiled_text, term_count};
+ghost use Rattle.lzk_cmd.specs.Decoded.{source_files};
+ghost use Rattle.lzk_cmd.specs.Seen.{seen};
+ghost use Rattle.lzk_cmd.specs.Walks.{Moves, OnlyReads, Decodes, Gives, Compiles, Puts, WalksToPut};
 
 use crate::ending::{Ending, Halt};
 use crate::files::{TEXT_LIMIT, read_file};
 use crate::lines;
+use crate::means::Means;
 use lzk_circbytes::{AnyCircuit, encode};
 use lzk_circuit::Circuit;
 use lzk_expr::{Source, SourceError, parse};
-use lzk_field::Field;
+use lzk_field::{Field, Gate};
 use lzk_level::{LevelError, compile};
 use lzk_outside::{PutFault, Shelf};
 use std::alloc::{AllocError, Global};
+use std::marker::Sync;
+use std::thread::Threads;
 
 // The source of this text.
 fn source_of(alloc: Global, name: &str, text: &[u8]) -> Result<Source, Halt>
     requires { length text.now ≤ 4194304 }
-    ensures told { ParseAnswers name.now text.now result }
-    ensures refuses { IfErr result HaltRefuses }
+    ensures { Decodes source_files (λ s. tree_of s) name.now text.now result }
 {
     match parse(alloc, text) {
         Ok(source) => Ok(source),
@@ -44,14 +45,8 @@ fn source_of(alloc: Global, name: &str, text: &[u8]) -> Result<Source, Halt>
 
 // The source in a file.
 fn read_source<S: Shelf>(alloc: Global, shelf: &mut S, name: &str) -> Result<Source, Halt>
-    ensures told { IfSome (S.held shelf.old) (λ files. SourceAnswers (files name.now) name.now (Faulted (S.never_fails shelf.old) (S.read_faults shelf.old) (S.read_faults shelf.new)) result) }
-    ensures same { S.held shelf.new ≡ S.held shelf.old }
-    ensures puts { S.put_faults shelf.new ≡ S.put_faults shelf.old }
-    ensures reads { S.read_faults shelf.old ≤ S.read_faults shelf.new }
-    ensures misses { S.misses shelf.old ≤ S.misses shelf.new }
-    ensures kept { S.never_fails shelf.new ≡ S.never_fails shelf.old }
-    ensures uncounted { IsTrue (S.never_fails shelf.old) → S.read_faults shelf.new ≡ S.read_faults shelf.old }
-    ensures cause { IfErr result (HaltHasCause (Faulted (S.never_fails shelf.old) (S.read_faults shelf.old) (S.read_faults shelf.new)) (Rose (S.misses shelf.old) (S.misses shelf.new))) }
+    ensures gives { Gives source_files (λ s. tree_of s) (seen S.Shelf shelf.old) (seen S.Shelf shelf.new) name.now result }
+    ensures reads { OnlyReads (seen S.Shelf shelf.old) (seen S.Shelf shelf.new) }
 {
     let text = read_file(alloc, shelf, name, TEXT_LIMIT)?;
     source_of(alloc, name, &text)
@@ -101,8 +96,7 @@ fn compiled(
     source: &Source,
     circuit: &str,
 ) -> Result<(Vec<u8>, String), Halt>
-    ensures told { CompileAnswers name.now circuit.now (tree_of source.now) result }
-    ensures refuses { IfErr result HaltRefuses }
+    ensures { Compiles name.now circuit.now (tree_of source.now) result }
 {
     match compile(alloc, source) {
         Ok(made) => Ok(file_of(alloc, &made, circuit)?),
@@ -126,12 +120,8 @@ fn put_file<S: Shelf>(
     bytes: &[u8],
     text: String,
 ) -> Result<Ending, Halt>
-    ensures told { IfSome (S.held shelf.old) (λ files. PutAnswers files name.now bytes.now (string_bytes text) (Faulted (S.never_fails shelf.old) (S.put_faults shelf.old) (S.put_faults shelf.new)) (S.held shelf.new) result) }
-    ensures reads { S.read_faults shelf.new ≡ S.read_faults shelf.old }
-    ensures misses { S.misses shelf.new ≡ S.misses shelf.old }
-    ensures kept { S.never_fails shelf.new ≡ S.never_fails shelf.old }
-    ensures uncounted { IsTrue (S.never_fails shelf.old) → S.put_faults shelf.new ≡ S.put_faults shelf.old }
-    ensures cause { IfSome (ending_of result) (PutHasCause (Faulted (S.never_fails shelf.old) (S.read_faults shelf.old) (S.read_faults shelf.new)) (Faulted (S.never_fails shelf.old) (S.put_faults shelf.old) (S.put_faults shelf.new)) (Rose (S.misses shelf.old) (S.misses shelf.new))) }
+    ensures puts { Puts name.now bytes.now (string_bytes text) (seen S.Shelf shelf.old) (seen S.Shelf shelf.new) result }
+    ensures moves { Moves (seen S.Shelf shelf.old) (seen S.Shelf shelf.new) }
 {
     let fault = lines::tell_writing(alloc, name)?;
     match shelf.put(name, bytes) {
@@ -149,21 +139,31 @@ fn put_file<S: Shelf>(
     }
 }
 
-/// Compiles a source file to a circuit file.
-pub fn compile_source<S: Shelf>(
+// Puts the file of a source's circuit.
+fn compile_tree<S: Shelf>(
     alloc: Global,
+    name: &str,
+    source: &Source,
+    circuit: &str,
+    shelf: &mut S,
+) -> Result<Ending, Halt>
+    ensures walks { WalksToPut (λ files. CompileTree name.now circuit.now (tree_of source.now)) 1 (seen S.Shelf shelf.old) (seen S.Shelf shelf.new) result }
+    ensures moves { Moves (seen S.Shelf shelf.old) (seen S.Shelf shelf.new) }
+{
+    let (bytes, text) = compiled(alloc, name, source, circuit)?;
+    put_file(alloc, shelf, circuit, &bytes, text)
+}
+
+/// Compiles a source file to a circuit file.
+pub fn compile_source<R: Threads + Sync, S: Shelf, G: Gate>(
+    means: &Means<'_, R, G>,
     source: &str,
     circuit: &str,
     shelf: &mut S,
 ) -> Result<Ending, Halt>
-    ensures told { IfSome (S.held shelf.old) (λ files.
-        Settles (CompileRun source.now circuit.now files) 0 files (Faulted (S.never_fails shelf.old) (S.read_faults shelf.old) (S.read_faults shelf.new)) (Faulted (S.never_fails shelf.old) (S.put_faults shelf.old) (S.put_faults shelf.new)) (S.held shelf.new) (ending_of result)) }
-    ensures kept { S.never_fails shelf.new ≡ S.never_fails shelf.old }
-    ensures uncounted_reads { IsTrue (S.never_fails shelf.old) → S.read_faults shelf.new ≡ S.read_faults shelf.old }
-    ensures uncounted_puts { IsTrue (S.never_fails shelf.old) → S.put_faults shelf.new ≡ S.put_faults shelf.old }
-    ensures cause { IfSome (ending_of result) (PutHasCause (Faulted (S.never_fails shelf.old) (S.read_faults shelf.old) (S.read_faults shelf.new)) (Faulted (S.never_fails shelf.old) (S.put_faults shelf.old) (S.put_faults shelf.new)) (Rose (S.misses shelf.old) (S.misses shelf.new))) }
+    ensures walks { WalksToPut (CompileRun source.now circuit.now) 0 (seen S.Shelf shelf.old) (seen S.Shelf shelf.new) result }
+    ensures moves { Moves (seen S.Shelf shelf.old) (seen S.Shelf shelf.new) }
 {
-    let tree = read_source(alloc, shelf, source)?;
-    let (bytes, text) = compiled(alloc, source, &tree, circuit)?;
-    put_file(alloc, shelf, circuit, &bytes, text)
+    let tree = read_source(means.alloc, shelf, source)?;
+    compile_tree(means.alloc, source, &tree, circuit, shelf)
 }

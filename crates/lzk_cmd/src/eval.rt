@@ -1,22 +1,23 @@
 //! The command `eval`.
 
-ghost use Rattle.std.specs.Prelude.{◌≡◌, ◌<◌, ◌≤◌, length, map, IfOk, IfSome, string_bytes, IsTrue};
-ghost use Rattle.lzk_outside.specs.Outside.{Rose};
-ghost use Rattle.lzk_cmd.specs.Faults.{Faulted};
+ghost use Rattle.std.specs.Prelude.{◌≡◌, ◌<◌, length, map, IfOk, string_bytes};
 ghost use Rattle.lzk_circuit.specs.Wires.{list_at};
-ghost use Rattle.lzk_cmd.specs.Answers.{Halted, HasCause, ending_of};
-ghost use Rattle.lzk_cmd.specs.Run.{EvalOver, EvalRun, output_lines};
-ghost use Rattle.lzk_cmd.specs.Evaluations.{IsEvaluation};
+ghost use Rattle.lzk_cmd.specs.Run.{EvalOver, EvalAny, EvalRun, output_lines};
+ghost use Rattle.lzk_cmd.specs.Seen.{seen};
+ghost use Rattle.lzk_cmd.specs.Walks.{OnlyReads, Walks, IsEvaluation};
 
 use crate::circuits::read_circuit;
 use crate::ending::{Ending, Halt};
 use crate::lines;
+use crate::means::Means;
 use crate::numbers::read_elements;
 use lzk_circbytes::AnyCircuit;
 use lzk_circuit::{Circuit, Values};
-use lzk_field::Field;
+use lzk_field::{Field, Gate};
 use lzk_outside::Shelf;
 use std::alloc::{AllocError, Global};
+use std::marker::Sync;
+use std::thread::Threads;
 
 // The lines of the outputs.
 fn output_lines<F: Field>(
@@ -70,15 +71,8 @@ fn eval_over<S: Shelf, F: Field>(
     private: &str,
     shelf: &mut S,
 ) -> Result<Ending, Halt>
-    ensures told { IfSome (S.held shelf.old) (λ files. IfSome (ending_of result)
-        (Halted (EvalOver F.ops F.size F.number_of circuit.now public.now private.now files) 1 (Faulted (S.never_fails shelf.old) (S.read_faults shelf.old) (S.read_faults shelf.new)) (Faulted (S.never_fails shelf.old) (S.put_faults shelf.old) (S.put_faults shelf.new)))) }
-    ensures same { S.held shelf.new ≡ S.held shelf.old }
-    ensures puts { S.put_faults shelf.new ≡ S.put_faults shelf.old }
-    ensures reads { S.read_faults shelf.old ≤ S.read_faults shelf.new }
-    ensures misses { S.misses shelf.old ≤ S.misses shelf.new }
-    ensures kept { S.never_fails shelf.new ≡ S.never_fails shelf.old }
-    ensures uncounted { IsTrue (S.never_fails shelf.old) → S.read_faults shelf.new ≡ S.read_faults shelf.old }
-    ensures cause { IfSome (ending_of result) (HasCause (Faulted (S.never_fails shelf.old) (S.read_faults shelf.old) (S.read_faults shelf.new)) (Rose (S.misses shelf.old) (S.misses shelf.new))) }
+    ensures walks { Walks (EvalOver F.ops F.size F.number_of circuit.now public.now private.now) 1 (seen S.Shelf shelf.old) (seen S.Shelf shelf.new) result }
+    ensures reads { OnlyReads (seen S.Shelf shelf.old) (seen S.Shelf shelf.new) }
 {
     let publics = read_elements::<S, F>(alloc, shelf, public, circuit.publics())?;
     let privates = read_elements::<S, F>(alloc, shelf, private, circuit.privates())?;
@@ -87,24 +81,34 @@ fn eval_over<S: Shelf, F: Field>(
     Ok(evaluation(alloc, &values, circuit.width(0))?)
 }
 
-/// Evaluates a circuit file on its two number files.
-pub fn eval<S: Shelf>(
+// The same over either field.
+fn eval_any<S: Shelf>(
     alloc: Global,
+    circuit: &AnyCircuit,
+    public: &str,
+    private: &str,
+    shelf: &mut S,
+) -> Result<Ending, Halt>
+    ensures walks { Walks (EvalAny circuit.now public.now private.now) 1 (seen S.Shelf shelf.old) (seen S.Shelf shelf.new) result }
+    ensures reads { OnlyReads (seen S.Shelf shelf.old) (seen S.Shelf shelf.new) }
+{
+    match circuit {
+        AnyCircuit::Gold(c) => eval_over(alloc, c, public, private, shelf),
+        AnyCircuit::Gf(c) => eval_over(alloc, c, public, private, shelf),
+    }
+}
+
+/// Evaluates a circuit file on its two number files.
+pub fn eval<R: Threads + Sync, S: Shelf, G: Gate>(
+    means: &Means<'_, R, G>,
     circuit: &str,
     public: &str,
     private: &str,
     shelf: &mut S,
 ) -> Result<Ending, Halt>
-    ensures told { IfSome (S.held shelf.old) (λ files. IfSome (ending_of result)
-        (Halted (EvalRun circuit.now public.now private.now files) 0 (Faulted (S.never_fails shelf.old) (S.read_faults shelf.old) (S.read_faults shelf.new)) (Faulted (S.never_fails shelf.old) (S.put_faults shelf.old) (S.put_faults shelf.new)))) }
-    ensures same { S.held shelf.new ≡ S.held shelf.old }
-    ensures puts { S.put_faults shelf.new ≡ S.put_faults shelf.old }
-    ensures kept { S.never_fails shelf.new ≡ S.never_fails shelf.old }
-    ensures uncounted { IsTrue (S.never_fails shelf.old) → S.read_faults shelf.new ≡ S.read_faults shelf.old }
-    ensures cause { IfSome (ending_of result) (HasCause (Faulted (S.never_fails shelf.old) (S.read_faults shelf.old) (S.read_faults shelf.new)) (Rose (S.misses shelf.old) (S.misses shelf.new))) }
+    ensures walks { Walks (EvalRun circuit.now public.now private.now) 0 (seen S.Shelf shelf.old) (seen S.Shelf shelf.new) result }
+    ensures reads { OnlyReads (seen S.Shelf shelf.old) (seen S.Shelf shelf.new) }
 {
-    match read_circuit(alloc, shelf, circuit)? {
-        AnyCircuit::Gold(c) => eval_over(alloc, &c, public, private, shelf),
-        AnyCircuit::Gf(c) => eval_over(alloc, &c, public, private, shelf),
-    }
+    let held = read_circuit(means.alloc, shelf, circuit)?;
+    eval_any(means.alloc, &held, public, private, shelf)
 }

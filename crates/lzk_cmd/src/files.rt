@@ -1,9 +1,8 @@
 //! A whole file, or the end of the run.
 
-ghost use Rattle.std.specs.Prelude.{◌≡◌, ◌<◌, ◌≤◌, ◌^◌, length, IfOk, IfSome, IfErr, IsTrue};
-ghost use Rattle.lzk_outside.specs.Outside.{Rose};
-ghost use Rattle.lzk_cmd.specs.Faults.{Faulted};
-ghost use Rattle.lzk_cmd.specs.Answers.{FileAnswers, HaltHasCause};
+ghost use Rattle.std.specs.Prelude.{◌<◌, ◌≤◌, ◌^◌, length, IfOk};
+ghost use Rattle.lzk_cmd.specs.Seen.{seen};
+ghost use Rattle.lzk_cmd.specs.Walks.{GivesBytes, OnlyReads};
 
 use crate::ending::{Ending, Halt};
 use crate::lines;
@@ -25,15 +24,9 @@ pub fn read_file<S: Shelf>(
     limit: usize,
 ) -> Result<Vec<u8>, Halt>
     requires { limit < 2 ^ 32 }
-    ensures told { IfSome (S.held shelf.old) (λ files. FileAnswers (files name.now) name.now limit (Faulted (S.never_fails shelf.old) (S.read_faults shelf.old) (S.read_faults shelf.new)) result) }
+    ensures gives { GivesBytes (seen S.Shelf shelf.old) (seen S.Shelf shelf.new) name.now limit result }
     ensures fits { IfOk result (λ v. length v.items ≤ limit) }
-    ensures same { S.held shelf.new ≡ S.held shelf.old }
-    ensures puts { S.put_faults shelf.new ≡ S.put_faults shelf.old }
-    ensures reads { S.read_faults shelf.old ≤ S.read_faults shelf.new }
-    ensures misses { S.misses shelf.old ≤ S.misses shelf.new }
-    ensures kept { S.never_fails shelf.new ≡ S.never_fails shelf.old }
-    ensures uncounted { IsTrue (S.never_fails shelf.old) → S.read_faults shelf.new ≡ S.read_faults shelf.old }
-    ensures cause { IfErr result (λ halt. HaltHasCause (Faulted (S.never_fails shelf.old) (S.read_faults shelf.old) (S.read_faults shelf.new)) (Rose (S.misses shelf.old) (S.misses shelf.new)) halt) }
+    ensures reads { OnlyReads (seen S.Shelf shelf.old) (seen S.Shelf shelf.new) }
 {
     match load(alloc, shelf, name, limit) {
         Ok(bytes) => Ok(bytes),

@@ -17,6 +17,7 @@ mod grammar;
 mod keys;
 mod lines;
 mod load;
+mod means;
 mod numbers;
 mod print;
 mod show;

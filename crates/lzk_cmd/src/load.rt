@@ -1,9 +1,9 @@
 //! Reading a whole file.
 
-ghost use Rattle.std.specs.Prelude.{◌≡◌, ◌<◌, ◌≤◌, ◌^◌, length, IfOk, IsTrue};
-ghost use Rattle.lzk_outside.specs.Outside.{Rose};
-ghost use Rattle.lzk_cmd.specs.Faults.{Faulted};
+ghost use Rattle.std.specs.Prelude.{◌≡◌, ◌<◌, ◌≤◌, ◌^◌, length, IfOk};
 ghost use Rattle.lzk_cmd.specs.Files.{Loads};
+ghost use Rattle.lzk_cmd.specs.Seen.{seen, ReadFailed, Missed};
+ghost use Rattle.lzk_cmd.specs.Walks.{OnlyReads};
 
 use lzk_outside::{Shelf, ShelfFault};
 use std::alloc::Global;
@@ -30,14 +30,9 @@ pub fn load<S: Shelf>(
     requires { limit < 2 ^ 32 }
     ensures told { Loads (S.held shelf.old) name.now limit result }
     ensures fits { IfOk result (λ v. length v.items ≤ limit) }
-    ensures same { S.held shelf.new ≡ S.held shelf.old }
-    ensures puts { S.put_faults shelf.new ≡ S.put_faults shelf.old }
-    ensures reads { S.read_faults shelf.old ≤ S.read_faults shelf.new }
-    ensures misses { S.misses shelf.old ≤ S.misses shelf.new }
-    ensures missing { result ≡ Err LoadFault.Missing → Rose (S.misses shelf.old) (S.misses shelf.new) }
-    ensures fault { result ≡ Err LoadFault.Failed → Faulted (S.never_fails shelf.old) (S.read_faults shelf.old) (S.read_faults shelf.new) }
-    ensures kept { S.never_fails shelf.new ≡ S.never_fails shelf.old }
-    ensures uncounted { IsTrue (S.never_fails shelf.old) → S.read_faults shelf.new ≡ S.read_faults shelf.old }
+    ensures reads { OnlyReads (seen S.Shelf shelf.old) (seen S.Shelf shelf.new) }
+    ensures missing { result ≡ Err LoadFault.Missing → Missed (seen S.Shelf shelf.old) (seen S.Shelf shelf.new) }
+    ensures fault { result ≡ Err LoadFault.Failed → ReadFailed (seen S.Shelf shelf.old) (seen S.Shelf shelf.new) }
 {
     let mut bytes = Vec::new(alloc);
     let mut chunk = [0u8; CHUNK];

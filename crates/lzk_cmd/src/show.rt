@@ -1,22 +1,24 @@
 //! The command `show`.
 
-ghost use Rattle.std.specs.Prelude.{◌≡◌, ◌≤◌, IfOk, IfSome, string_bytes, IsTrue};
-ghost use Rattle.lzk_outside.specs.Outside.{Rose};
-ghost use Rattle.lzk_cmd.specs.Faults.{Faulted};
+ghost use Rattle.std.specs.Prelude.{◌≡◌, IfOk, string_bytes};
 ghost use Rattle.lzk_circbytes.specs.Numbered.{shape, numbered};
 ghost use Rattle.lzk_circbytes.specs.Files.{circuit_id};
-ghost use Rattle.lzk_cmd.specs.Answers.{Halted, HasCause, IsEnding, ending_of};
 ghost use Rattle.lzk_cmd.specs.Ends.{says};
-ghost use Rattle.lzk_cmd.specs.Run.{ShowRun, shown};
+ghost use Rattle.lzk_cmd.specs.Run.{ShowRun, shown, shown_any};
+ghost use Rattle.lzk_cmd.specs.Seen.{seen};
+ghost use Rattle.lzk_cmd.specs.Walks.{IsEnding, OnlyReads, Walks};
 
 use crate::circuits::read_circuit;
 use crate::ending::{Ending, Halt};
 use crate::lines;
+use crate::means::Means;
 use lzk_circbytes::{AnyCircuit, id};
 use lzk_circuit::Circuit;
-use lzk_field::Field;
+use lzk_field::{Field, Gate};
 use lzk_outside::Shelf;
 use std::alloc::{AllocError, Global};
+use std::marker::Sync;
+use std::thread::Threads;
 
 // The lines of a circuit over the field with this name.
 fn shown_text<F: Field>(
@@ -53,18 +55,25 @@ fn ending<F: Field>(alloc: Global, circuit: &Circuit<F>, field: &str) -> Result<
     })
 }
 
-/// Shows what a circuit file holds.
-pub fn show<S: Shelf>(alloc: Global, circuit: &str, shelf: &mut S) -> Result<Ending, Halt>
-    ensures told { IfSome (S.held shelf.old) (λ files. IfSome (ending_of result)
-        (Halted (ShowRun circuit.now files) 0 (Faulted (S.never_fails shelf.old) (S.read_faults shelf.old) (S.read_faults shelf.new)) (Faulted (S.never_fails shelf.old) (S.put_faults shelf.old) (S.put_faults shelf.new)))) }
-    ensures same { S.held shelf.new ≡ S.held shelf.old }
-    ensures puts { S.put_faults shelf.new ≡ S.put_faults shelf.old }
-    ensures kept { S.never_fails shelf.new ≡ S.never_fails shelf.old }
-    ensures uncounted { IsTrue (S.never_fails shelf.old) → S.read_faults shelf.new ≡ S.read_faults shelf.old }
-    ensures cause { IfSome (ending_of result) (HasCause (Faulted (S.never_fails shelf.old) (S.read_faults shelf.old) (S.read_faults shelf.new)) (Rose (S.misses shelf.old) (S.misses shelf.new))) }
+// How a run ends that shows a circuit over either field.
+fn ending_of(alloc: Global, circuit: &AnyCircuit) -> Result<Ending, AllocError>
+    ensures { IfOk result (IsEnding (says 0 (shown_any circuit.now))) }
 {
-    match read_circuit(alloc, shelf, circuit)? {
-        AnyCircuit::Gold(c) => Ok(ending(alloc, &c, "goldilocks")?),
-        AnyCircuit::Gf(c) => Ok(ending(alloc, &c, "gf2_128")?),
+    match circuit {
+        AnyCircuit::Gold(c) => ending(alloc, c, "goldilocks"),
+        AnyCircuit::Gf(c) => ending(alloc, c, "gf2_128"),
     }
+}
+
+/// Shows what a circuit file holds.
+pub fn show<R: Threads + Sync, S: Shelf, G: Gate>(
+    means: &Means<'_, R, G>,
+    circuit: &str,
+    shelf: &mut S,
+) -> Result<Ending, Halt>
+    ensures walks { Walks (ShowRun circuit.now) 0 (seen S.Shelf shelf.old) (seen S.Shelf shelf.new) result }
+    ensures reads { OnlyReads (seen S.Shelf shelf.old) (seen S.Shelf shelf.new) }
+{
+    let held = read_circuit(means.alloc, shelf, circuit)?;
+    Ok(ending_of(means.alloc, &held)?)
 }

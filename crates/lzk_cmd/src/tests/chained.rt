@@ -1,8 +1,9 @@
 //! Two runs in a row, by their contracts alone.
 
-ghost use Rattle.std.specs.Prelude.{◌≡◌, ◌⊎◌, map, string_bytes, IsTrue};
+ghost use Rattle.std.specs.Prelude.{◌≡◌, ◌⊎◌, IsTrue};
 ghost use Rattle.lzk_outside.specs.Memory.{files_of, settings_of, none_fails, sink_settings_of, no_write_fails};
 ghost use Rattle.lzk_cmd.specs.Chains.{AreChained};
+ghost use Rattle.lzk_cmd.specs.Sights.{texts};
 
 use super::compiling::{CREDENTIAL, shelf_of};
 use super::words_of;
@@ -24,7 +25,7 @@ fn compile_then_eval<R: Threads + Sync>(
     shelf: &mut MemShelf,
     out: &mut MemSink,
 ) -> u8
-    ensures { AreChained (map (λ w. string_bytes w) compile.now) (map (λ w. string_bytes w) eval.now) (files_of shelf.old) →
+    ensures { AreChained (texts compile.now) (texts eval.now) (files_of shelf.old) →
         IsTrue (none_fails (settings_of shelf.old)) → IsTrue (no_write_fails (sink_settings_of out.old)) → (result ≡ 0) ⊎ ((result ≡ 1) ⊎ (result ≡ 6)) }
 {
     let first = run(rt, alloc, compile, shelf, out, &Open);

@@ -1,48 +1,27 @@
-use Rattle.std.proofs.Common.{Ok, subst}
-use Rattle.std.specs.Prelude.{IfSome}
+use Rattle.std.proofs.Common.{◌≡◌, Ok, inl, refl, arith}
 use Rattle.lzk_circbytes.specs.declared.any.AnyCircuit.{AnyCircuit}
-use Rattle.lzk_circbytes.specs.declared.any.AnyCircuit.TheVariants.{Gold, Gf}
-use Rattle.lzk_cmd.specs.Faults.{Faulted}
-use Rattle.lzk_cmd.specs.Answers.{CircuitAnswers}
-use Rattle.lzk_cmd.proofs.Shows.{ToldShow, show_no_circuit, show_told}
-use Rattle.lzk_cmd.proofs.Told.{handed_on}
+use Rattle.lzk_outside.specs.Outside.{Files}
+use Rattle.lzk_cmd.specs.Decoded.{circuit_files}
+use Rattle.lzk_cmd.specs.Ends.{End, Stop, says}
+use Rattle.lzk_cmd.specs.Run.{ShowRun, shown_any}
+use Rattle.lzk_cmd.specs.Seen.{seen}
+use Rattle.lzk_cmd.proofs.Laws as laws
+use Rattle.lzk_cmd.proofs.Sights.{no_step}
+use Rattle.lzk_cmd.proofs.Steps.{ends, then, here}
 use Rattle.lzk_cmd.proofs.show.show.Goals as goal
 
-pub returns-in_err-c-clause-told : goal.returns-in_err-c-clause-told
-returns-in_err-c-clause-told g c =
-    let never = g.S.Shelf.never_fails in
-    let faults = g.S.Shelf.read_faults in
-    let puts = g.S.Shelf.put_faults in
-    let start = c.args.shelf.now in
-    let end = c.read_circuit.new.shelf in
-    let held = g.S.Shelf.held start in
-    let rr = Faulted (never start) (faults start) (faults end) in
-    let pr = Faulted (never start) (puts start) (puts end) in
-    let h = c.in_err-c.field-0.0 in
-    handed_on (ToldShow c.args.circuit.now held rr pr) _ h c.from_residual.ensures.1 (show_no_circuit c.args.circuit.now held rr pr h c.in_err-c.ensures.told)
+-- the walk that has the circuit
+abbrev next : Files → Stop → End → AnyCircuit → Type 0
+next files stop end c = end ≡ says 0 (shown_any c)
 
-pub returns-in_ok-ending-in-Gold-clause-told : goal.returns-in_ok-ending-in-Gold-clause-told
-returns-in_ok-ending-in-Gold-clause-told g c =
-    let never = g.S.Shelf.never_fails in
-    let faults = g.S.Shelf.read_faults in
-    let puts = g.S.Shelf.put_faults in
-    let start = c.args.shelf.now in
-    let end = c.read_circuit.new.shelf in
-    let held = g.S.Shelf.held start in
-    let rr = Faulted (never start) (faults start) (faults end) in
-    show_told c.args.circuit.now held rr rr (Faulted (never start) (puts start) (puts end)) (Gold c.in-Gold.c) _
-    (subst (λ (x : AnyCircuit). IfSome held (λ files. CircuitAnswers (files c.args.circuit.now) c.args.circuit.now rr (Ok x))) c.in-Gold.is c.in_ok-c.ensures.told)
-    c.in_ok-ending-in-Gold.ensures
+pub returns-in_err-held-clause-walks : goal.returns-in_err-held-clause-walks
+unfolding ShowRun
+returns-in_err-held-clause-walks g c =
+    ends circuit_files (λ x. x) c.args.circuit.now 0 next ⊥ (seen g.S.Shelf c.args.shelf.now) (seen g.S.Shelf c.read_circuit.new.shelf) c.in_err-held.field-0.0 _ (laws.circuits.quiet c.args.circuit.now) c.in_err-held.ensures.reads c.in_err-held.ensures.gives c.from_residual.ensures.1
 
-pub returns-in_ok-ending-in-Gf-clause-told : goal.returns-in_ok-ending-in-Gf-clause-told
-returns-in_ok-ending-in-Gf-clause-told g c =
-    let never = g.S.Shelf.never_fails in
-    let faults = g.S.Shelf.read_faults in
-    let puts = g.S.Shelf.put_faults in
-    let start = c.args.shelf.now in
-    let end = c.read_circuit.new.shelf in
-    let held = g.S.Shelf.held start in
-    let rr = Faulted (never start) (faults start) (faults end) in
-    show_told c.args.circuit.now held rr rr (Faulted (never start) (puts start) (puts end)) (Gf c.in-Gf.c) _
-    (subst (λ (x : AnyCircuit). IfSome held (λ files. CircuitAnswers (files c.args.circuit.now) c.args.circuit.now rr (Ok x))) c.in-Gf.is c.in_ok-c.ensures.told)
-    c.in_ok-ending-in-Gf.ensures
+pub returns-clause-walks : goal.returns-clause-walks
+unfolding ShowRun
+returns-clause-walks g c =
+    let end = seen g.S.Shelf c.read_circuit.new.shelf in
+    then circuit_files (λ x. x) c.args.circuit.now 0 next ⊥ (seen g.S.Shelf c.args.shelf.now) end end c.in_ok-held.held (Ok c.in_ok-ending_of.field-0) c.in_ok-held.ensures.reads c.in_ok-held.ensures.gives
+    (here (λ files stop end. next files stop end c.in_ok-held.held) 1 ⊥ end end (says 0 (shown_any c.in_ok-held.held)) c.in_ok-ending_of.field-0 (no_step end) (record { put = refl; present = refl; cause = inl (omega arith) }) c.in_ok-ending_of.ensures (λ f at. refl))

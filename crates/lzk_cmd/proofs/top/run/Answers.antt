@@ -1,36 +1,16 @@
-use Rattle.std.proofs.Common.{map}
-use Rattle.std.specs.Prelude.{string_bytes}
-use Rattle.lzk_outside.specs.Outside.{Rose}
-use Rattle.lzk_cmd.specs.Faults.{Faulted}
-use Rattle.lzk_cmd.proofs.Ready.{completes_told}
+use Rattle.std.proofs.Common.{refl}
+use Rattle.lzk_cmd.specs.Sights.{before, after}
+use Rattle.lzk_cmd.proofs.Promises.{promised, wanted}
 use Rattle.lzk_cmd.proofs.top.run.Goals as goal
 
-pub returns-clause-run : goal.returns-clause-run
-returns-clause-run g c =
-    let never = g.S.Shelf.never_fails in
-    let reads = g.S.Shelf.read_faults in
-    let puts = g.S.Shelf.put_faults in
-    let misses = g.S.Shelf.misses in
-    let faults = g.K.Sink.faults in
-    let shelf = c.conclude.new.shelf in
-    let out = c.conclude.new.out in
-    let made = c.conclude.ensures in
-    let complete =
-    completes_told (map (λ w. string_bytes w) c.args.words.now) (g.S.Shelf.held c.args.shelf.now) (g.K.Sink.written c.args.out.now) c.conclude.result (g.S.Shelf.held shelf) (g.K.Sink.written out)
-    (Faulted (never c.args.shelf.now) (reads c.args.shelf.now) (reads shelf)) (Faulted (never c.args.shelf.now) (puts c.args.shelf.now) (puts shelf)) (Rose (misses c.args.shelf.now) (misses shelf)) (Faulted (g.K.Sink.never_fails c.args.out.now) (faults c.args.out.now) (faults out)) c.conclude.ensures.told
-    in
-    record {
-      told = made.told;
-      complete = complete;
-      status = made.status;
-      words = made.words;
-      refused = made.refused;
-      missing = made.missing;
-      reading = made.reading;
-      printing = made.printing;
-      shelf_kept = made.kept;
-      sink_kept = made.sink_kept;
-      uncounted_reads = made.uncounted_reads;
-      uncounted_puts = made.uncounted_puts;
-      uncounted_writes = made.uncounted_writes;
-    }
+pub returns-in-Ok-clause-run : goal.returns-in-Ok-clause-run
+returns-in-Ok-clause-run g c =
+    promised (before g.S.Shelf g.K.Sink c.args.words.now c.args.shelf.now c.args.out.now) (after g.S.Shelf g.K.Sink c.print_ending.result c.work.new.shelf c.print_ending.new.out) c.in-Ok.ensures.moves c.print_ending.ensures.quiet c.in-Ok.ending c.in-Ok.ensures.works c.print_ending.ensures.prints
+
+pub returns-in-Err-End-clause-run : goal.returns-in-Err-End-clause-run
+returns-in-Err-End-clause-run g c =
+    promised (before g.S.Shelf g.K.Sink c.args.words.now c.args.shelf.now c.args.out.now) (after g.S.Shelf g.K.Sink c.print_ending-in-Err-End.result c.work.new.shelf c.print_ending-in-Err-End.new.out) c.in-Err-End.ensures.moves c.print_ending-in-Err-End.ensures.quiet c.in-Err-End.ending (rw c.in-Err-End.field-0-is at c.in-Err-End.ensures.works) c.print_ending-in-Err-End.ensures.prints
+
+pub returns-in-Err-Memory-clause-run : goal.returns-in-Err-Memory-clause-run
+returns-in-Err-Memory-clause-run g c =
+    wanted (before g.S.Shelf g.K.Sink c.args.words.now c.args.shelf.now c.args.out.now) (after g.S.Shelf g.K.Sink 6 c.work.new.shelf c.args.out.now) c.in-Err-Memory.ensures.moves refl refl (rw c.in-Err-Memory.field-0-is at c.in-Err-Memory.ensures.works)

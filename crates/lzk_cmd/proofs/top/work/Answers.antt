@@ -1,23 +1,27 @@
-use Rattle.std.proofs.Common.{map}
-use Rattle.std.specs.Prelude.{string_bytes}
-use Rattle.lzk_cmd.proofs.Causes.{run_caused, put_run_caused, puts_file}
-use Rattle.lzk_cmd.proofs.Works.{refused, compiles}
+use Rattle.lzk_cmd.specs.Seen.{seen}
+use Rattle.lzk_cmd.specs.Sights.{texts}
+use Rattle.lzk_cmd.specs.Words.{Eval, Compile, Show}
+use Rattle.lzk_cmd.proofs.Sights.{only_moves}
+use Rattle.lzk_cmd.proofs.Works.{refused, works}
 use Rattle.lzk_cmd.proofs.top.work.Goals as goal
 
-pub returns-in_ok-text-in-None-clause-told : goal.returns-in_ok-text-in-None-clause-told
-returns-in_ok-text-in-None-clause-told g c =
-    refused (g.S.Shelf.held c.args.shelf.now) (map (λ w. string_bytes w) c.args.words.now) _ _ c.in_ok-text-in-None.text c.in-None.ensures c.in_ok-text-in-None.ensures
+pub returns-in_ok-refuse-in-None-clause-works : goal.returns-in_ok-refuse-in-None-clause-works
+returns-in_ok-refuse-in-None-clause-works g c = refused (texts c.args.words.now) (seen g.S.Shelf c.args.shelf.now) c.in_ok-refuse-in-None.field-0 c.in-None.ensures c.in_ok-refuse-in-None.ensures
 
-pub returns-in-Some-Eval-clause-cause : goal.returns-in-Some-Eval-clause-cause
-returns-in-Some-Eval-clause-cause g c = run_caused _ _ _ c.eval.result c.eval.ensures.cause
+pub returns-in-Some-Eval-clause-works : goal.returns-in-Some-Eval-clause-works
+returns-in-Some-Eval-clause-works g c =
+    works (texts c.args.words.now) (Eval c.in-Some-Eval.circuit.now c.in-Some-Eval.public.now c.in-Some-Eval.private.now) ⊥ (seen g.S.Shelf c.args.shelf.now) (seen g.S.Shelf c.eval.new.shelf) c.eval.result (rw c.in-Some-Eval.field-0-is at c.in-Some-Eval.ensures) (λ b. b) c.eval.ensures.walks
 
-pub returns-in-Some-Show-clause-cause : goal.returns-in-Some-Show-clause-cause
-returns-in-Some-Show-clause-cause g c = run_caused _ _ _ c.show.result c.show.ensures.cause
+pub returns-in-Some-Eval-clause-moves : goal.returns-in-Some-Eval-clause-moves
+returns-in-Some-Eval-clause-moves g c = only_moves (seen g.S.Shelf c.args.shelf.now) (seen g.S.Shelf c.eval.new.shelf) c.eval.ensures.reads
 
-pub returns-in-Some-Compile-clause-told : goal.returns-in-Some-Compile-clause-told
-returns-in-Some-Compile-clause-told g c =
-    compiles (g.S.Shelf.held c.args.shelf.now) _ (map (λ w. string_bytes w) c.args.words.now) c.in-Some-Compile.source.now c.in-Some-Compile.circuit.now _ _ _ (rw c.in-Some-Compile.field-0-is at c.in-Some-Compile.ensures) c.compile_source.ensures.told
+pub returns-in-Some-Compile-clause-works : goal.returns-in-Some-Compile-clause-works
+returns-in-Some-Compile-clause-works g c =
+    works (texts c.args.words.now) (Compile c.in-Some-Compile.source.now c.in-Some-Compile.circuit.now) (Unit {0}) (seen g.S.Shelf c.args.shelf.now) (seen g.S.Shelf c.compile_source.new.shelf) c.compile_source.result (rw c.in-Some-Compile.field-0-is at c.in-Some-Compile.ensures) (λ u. u) c.compile_source.ensures.walks
 
-pub returns-in-Some-Compile-clause-cause : goal.returns-in-Some-Compile-clause-cause
-returns-in-Some-Compile-clause-cause g c =
-    put_run_caused _ _ _ _ c.compile_source.result (λ r. (puts_file (map (λ w. string_bytes w) c.args.words.now) c.in-Some-Compile.source.now c.in-Some-Compile.circuit.now (rw c.in-Some-Compile.field-0-is at c.in-Some-Compile.ensures), r)) c.compile_source.ensures.cause
+pub returns-in-Some-Show-clause-works : goal.returns-in-Some-Show-clause-works
+returns-in-Some-Show-clause-works g c =
+    works (texts c.args.words.now) (Show c.in-Some-Show.circuit.now) ⊥ (seen g.S.Shelf c.args.shelf.now) (seen g.S.Shelf c.show.new.shelf) c.show.result (rw c.in-Some-Show.field-0-is at c.in-Some-Show.ensures) (λ b. b) c.show.ensures.walks
+
+pub returns-in-Some-Show-clause-moves : goal.returns-in-Some-Show-clause-moves
+returns-in-Some-Show-clause-moves g c = only_moves (seen g.S.Shelf c.args.shelf.now) (seen g.S.Shelf c.show.new.shelf) c.show.ensures.reads

@@ -1,0 +1,123 @@
+-- Words, files and stop have an end.
+use Rattle.std.proofs.Common.{◌≡◌, ◌⊎◌, ◌<◌, ℕ, suc, zero, Bool, true, false, eqb, List, [], ◌∷◌, length, map, Option, Some, None, Result, Ok, Err, inl, inr, refl, sym, ap, ◌∙◌, arith, ltb-false}
+use Rattle.std.specs.Prelude.{◌^◌, MatchBool, MatchOption, nat_lt, slice_index_or}
+use Rattle.std.proofs.lemmas.Bool.{eqb-true, eqb-false}
+use Rattle.lzk_circbytes.specs.declared.any.AnyCircuit.{AnyCircuit}
+use Rattle.lzk_circbytes.specs.declared.any.AnyCircuit.TheVariants.{Gold, Gf}
+use Rattle.lzk_circbytes.proofs.Sizes.{files_fit}
+use Rattle.lzk_circuit.specs.Valid.{Wiring}
+use Rattle.lzk_circuit.specs.Wires.{wires_of, inputs_of, IsFirstNonzero}
+use Rattle.lzk_expr.specs.Trees.{SourceTree}
+use Rattle.lzk_expr.specs.Sources.{TextReads}
+use Rattle.lzk_expr.specs.declared.source_fault.SourceFault.{SourceFault}
+use Rattle.lzk_field.specs.Ring.{Ops, Laws}
+use Rattle.lzk_goldilocks.specs.Prime.{p}
+use Rattle.lzk_goldilocks.specs.Elements as gold
+use Rattle.lzk_gf128.specs.Elements as gf
+use Rattle.lzk_level.specs.Compiled.{source_limit}
+use Rattle.lzk_level.specs.declared.fault.LevelFault.{LevelFault}
+use Rattle.lzk_outside.specs.Outside.{Files}
+use Rattle.lzk_cmd.specs.Compiled.{CompileRun, CompileTree, PutsCompiled, compiled_text}
+use Rattle.lzk_cmd.specs.Decoded.{circuit_files, number_files, source_files, level_refused, text_limit}
+use Rattle.lzk_cmd.specs.Ends.{End, Stop, AtFile, stops_at, says, missing_file, refused_words, puts}
+use Rattle.lzk_cmd.specs.Formats.{Format, HasFile, AtBytes, At}
+use Rattle.lzk_cmd.specs.Lines.{larger_line, reading_line}
+use Rattle.lzk_cmd.specs.Run.{Evaluated, EvalOver, EvalAny, EvalRun, ShowRun, CommandRun, verdict, output_lines, shown_any}
+use Rattle.lzk_cmd.specs.SomeEnd.{AreBytes, HasCircuit, CanCompile, CanRun, SomeEnd}
+use Rattle.lzk_cmd.specs.Words.{Command, Eval, Compile, Show, command_of}
+use Rattle.lzk_cmd.proofs.Total.{circuits_total, numbers_total}
+
+-- a walk at a file has an end, where it has one on what the bytes mean
+module _ (files : Files) (stop : Stop) (k : ℕ) (name : List ℕ) where
+  some_file : (limit : ℕ) (next : End → List ℕ → Type 0) → ((bytes : List ℕ) → HasFile (files name) limit bytes → (end : End) × next end bytes) → (end : End) × AtFile files stop k name limit end (next end)
+  some_file limit next then = go (stops_at stop k) (files name) refl
+    where
+      fits : (bytes : List ℕ) → files name ≡ Some bytes → (larger : Bool) → nat_lt limit (length bytes) ≡ larger → (end : End) × MatchBool larger (end ≡ says 3 (larger_line name limit)) (next end bytes)
+      fits bytes is true e = (says 3 (larger_line name limit), refl)
+      fits bytes is false e = then bytes (record { there = is; fits = ltb-false limit (length bytes) e })
+
+      go : (stops : Bool) (file : Option (List ℕ)) → files name ≡ file
+          → (end : End) × MatchBool stops (end ≡ says 4 (reading_line name)) (MatchOption file (end ≡ missing_file name) (λ bytes. MatchBool (nat_lt limit (length bytes)) (end ≡ says 3 (larger_line name limit)) (next end bytes)))
+      go true file is = (says 4 (reading_line name), refl)
+      go false None is = (missing_file name, refl)
+      go false (Some bytes) is = fits bytes is (nat_lt limit (length bytes)) refl
+
+  some_at : {X F : Type 0} (format : Format X F) → ((bytes : List ℕ) → HasFile (files name) format.limit bytes → ((x : X) × format.means bytes x) ⊎ ((fault : F) × format.breaks bytes fault)) → (next : End → X → Type 0)
+      → ((x : X) → (end : End) × next end x) → (end : End) × At format files stop k name end (next end)
+  some_at {X} {F} format total next then = some_file format.limit (λ end bytes. AtBytes format name bytes end (next end)) (λ bytes has. go bytes (total bytes has))
+    where
+      go : (bytes : List ℕ) → ((x : X) × format.means bytes x) ⊎ ((fault : F) × format.breaks bytes fault) → (end : End) × AtBytes format name bytes end (next end)
+      go bytes (inl (x, means)) = let behind = then x in (behind.0, inl (x, means, behind.1))
+      go bytes (inr (fault, breaks)) = (format.refused name fault, inr (fault, breaks, refl))
+
+-- outputs have a first one that is not 0, or none
+module _ {A : Type 0} (o : Ops A) (number : A → ℕ) (element : ℕ → A) (size bytes : ℕ) (laws : Laws o size number element bytes) where
+  is_zero : (x : A) → number x ≡ 0 → x ≡ o.zero
+  is_zero x e = sym (laws.numbers.element_number x) ∙ ap element (e ∙ sym laws.numbers.zero_number) ∙ laws.numbers.element_number o.zero
+
+  some_first : (xs : List A) → (first : Option (ℕ × A)) × IsFirstNonzero o xs first
+  some_first [] = (None, λ g less. absurd (omega (arith, less)))
+  some_first (x ∷ xs) = go (eqb (number x) 0) refl (some_first xs)
+    where
+      behind : (first : Option (ℕ × A)) → x ≡ o.zero → IsFirstNonzero o xs first → (first : Option (ℕ × A)) × IsFirstNonzero o (x ∷ xs) first
+      behind None here h = (None, λ g. zeros g)
+        where
+          zeros : (g : ℕ) → g < length (x ∷ xs) → slice_index_or (x ∷ xs) g o.zero ≡ o.zero
+          zeros zero less = here
+          zeros (suc g) less = h g (omega (arith, less))
+      behind (Some (i, v)) here h = (Some (suc i, v), (omega (arith, h.0), h.1, h.2, λ g. zeros g))
+        where
+          zeros : (g : ℕ) → g < suc i → slice_index_or (x ∷ xs) g o.zero ≡ o.zero
+          zeros zero less = here
+          zeros (suc g) less = h.3 g (omega (arith, less))
+
+      go : (b : Bool) → eqb (number x) 0 ≡ b → (first : Option (ℕ × A)) × IsFirstNonzero o xs first → (first : Option (ℕ × A)) × IsFirstNonzero o (x ∷ xs) first
+      go true e (first, h) = behind first (is_zero x (eqb-true (number x) 0 e)) h
+      go false e rest = (Some (0, x), (omega arith, refl, λ same. eqb-false (number x) 0 e (ap number same ∙ laws.numbers.zero_number), λ g less. absurd (omega (arith, less))))
+
+  some_evaluation : (outputs : List A) → (end : End) × Evaluated o number outputs end
+  some_evaluation outputs = let first = some_first outputs in (verdict (output_lines 0 (map number outputs)) first.0, (first.0, first.1, refl))
+
+  some_over : (c : Wiring A) (public private : List ℕ) (files : Files) (stop : Stop) → (end : End) × EvalOver o size number c public private files stop end
+  unfolding EvalOver
+  some_over c public private files stop =
+      some_at files stop 1 public (number_files size number c.publics) (λ text has. numbers_total o size number element bytes laws 0 c.publics text) _ (λ publics.
+      some_at files stop 2 private (number_files size number c.privates) (λ text has. numbers_total o size number element bytes laws 0 c.privates text) _ (λ privates.
+      some_evaluation (wires_of o c.layers (inputs_of o publics privates))))
+
+some_eval : (c : AnyCircuit) (public private : List ℕ) (files : Files) (stop : Stop) → (end : End) × EvalAny c public private files stop end
+some_eval (Gold c) public private files stop = some_over gold.ops gold.number gold.of_number p 8 gold.laws c public private files stop
+some_eval (Gf c) public private files stop = some_over gf.ops gf.number gf.of_number (2 ^ 128) 16 gf.laws c public private files stop
+
+module _ (files : Files) (stop : Stop) where
+  circuits_there : AreBytes files → (name bytes : List ℕ) → HasFile (files name) circuit_files.limit bytes → ((c : AnyCircuit) × circuit_files.means bytes c) ⊎ ((fault : _) × circuit_files.breaks bytes fault)
+  circuits_there good name bytes has = circuits_total bytes (good name bytes has.there)
+
+  some_tree : (source circuit : List ℕ) (s : SourceTree) → (source_limit s ≡ None → HasCircuit s) → (end : End) × CompileTree source circuit s stop end
+  some_tree source circuit s made = go (source_limit s) made
+    where
+      go : (limit : Option LevelFault) → (limit ≡ None → HasCircuit s) → (end : End) × MatchOption limit (PutsCompiled s circuit stop end) (λ fault. end ≡ level_refused source fault)
+      go None made = let (c, bytes, is, file) = made refl in (puts stop circuit bytes (compiled_text circuit c (length bytes)), (c, bytes, is, file, files_fit c bytes file, refl))
+      go (Some fault) made = (level_refused source fault, refl)
+
+  some_compile : (source circuit : List ℕ) → ((text : List ℕ) → HasFile (files source) text_limit text → CanCompile text) → (end : End) × CompileRun source circuit files stop end
+  unfolding CompileRun
+  some_compile source circuit can = some_file files stop 0 source text_limit (λ end text. AtBytes source_files source text end (λ s. CompileTree source circuit s stop end)) (λ text has. let c = can text has in go text c.0 c.1 c.2)
+    where
+      go : (text : List ℕ) (read : Result SourceTree SourceFault) → TextReads text read → ((s : SourceTree) → read ≡ Ok s → source_limit s ≡ None → HasCircuit s)
+          → (end : End) × AtBytes source_files source text end (λ s. CompileTree source circuit s stop end)
+      go text (Ok s) is made = let behind = some_tree source circuit s (made s refl) in (behind.0, inl (s, is, behind.1))
+      go text (Err fault) is made = (source_files.refused source fault, inr (fault, is, refl))
+
+  some_command : (command : Command) → AreBytes files → CanRun (Some command) files → (end : End) × CommandRun command files stop end
+  unfolding EvalRun ShowRun
+  some_command (Eval circuit public private) good can = some_at files stop 0 circuit circuit_files (circuits_there good circuit) _ (λ c. some_eval c public private files stop)
+  some_command (Compile source circuit) good can = some_compile source circuit can
+  some_command (Show circuit) good can = some_at files stop 0 circuit circuit_files (circuits_there good circuit) _ (λ c. (says 0 (shown_any c), refl))
+
+pub some_end : SomeEnd
+some_end words files stop good can = go (command_of words) can
+  where
+    go : (command : Option Command) → CanRun command files → (end : End) × MatchOption command (end ≡ refused_words) (λ c. CommandRun c files stop end)
+    go None can = (refused_words, refl)
+    go (Some command) can = some_command files stop command good can
