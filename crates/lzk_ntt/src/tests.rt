@@ -1,0 +1,1 @@
+//! Rows extended by transforms.
