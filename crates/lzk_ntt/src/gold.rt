@@ -13,8 +13,8 @@ use std::alloc::{AllocError, Global};
 // How many values are convolved at a time, at most.
 const BLOCK: usize = 2048;
 
-// A root of one of order 2^bits.
-fn root_of(bits: u32) -> Gold
+/// A root of one of order 2^bits.
+pub fn root_of(bits: u32) -> Gold
     requires { bits ≤ 32 }
     ensures { IsRoot ops bits result }
 {
