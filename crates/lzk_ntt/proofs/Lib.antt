@@ -1,0 +1,10 @@
+pub mod Building
+pub mod Convolutions
+pub mod Goldilocks
+pub mod Levels
+pub mod Lowest
+pub mod Pieces
+pub mod Principal
+pub mod RootLaws
+pub mod Transforms
+pub mod Twiddles

@@ -1,0 +1,101 @@
+//! What extends rows by convolution.
+
+ghost use Rattle.std.specs.Prelude.{◌≡◌, ◌≢◌, ◌+◌, ◌*◌, ◌^◌, ℕ, ◌<◌, ◌≤◌, length, IfOk};
+ghost use Rattle.lzk_field.specs.Sums.{entry};
+ghost use Rattle.lzk_poly.specs.Extension.{Reach, extension};
+ghost use Rattle.lzk_poly.specs.Weights.{IsEven};
+
+use crate::blocks::extend_by;
+use crate::kernels::kernel_spectra;
+use crate::plan::Plan;
+use crate::transform::Transform;
+use lzk_field::Field;
+use lzk_poly::Weights;
+use std::alloc::{AllocError, Global};
+use std::marker::Model;
+
+/// What extends rows of `count` values to the points with numbers below `upto`, by number-theoretic
+/// transforms. Over Goldilocks it is made by `RowExtend::make`.
+///
+/// The weights, and the transforms of the kernels, are computed once. A row takes one forward transform for
+/// each block of at most 2,048 values, and for each piece of the further points one pointwise product and one
+/// backward transform. Nothing but the caller's room is written to.
+#[derive(Drop)]
+pub struct NttExtender<F: Field> {
+    transform: Transform<F>,
+    weights: Weights<F>,
+    // The transformed kernels, by block and piece.
+    kernels: Vec<F>,
+    plan: Plan,
+}
+
+impl<F: Field> Model for NttExtender<F> {
+    ghost use Rattle.std.specs.Prelude.{◌≡◌, ◌*◌, ◌^◌};
+    ghost use Rattle.lzk_poly.specs.Extension.{Reach};
+    ghost use Rattle.lzk_ntt.specs.Kernels.{Convolver, IsReady};
+
+    ghost Value = { Convolver };
+
+    ghost view = { λ e. record { reach = record { count = e.plan.count; upto = e.plan.upto }; room = 2 * 2 ^ e.transform.bits } };
+
+    ghost invariant = { λ e. (e.weights ≡ record { count = e.plan.count; upto = e.plan.upto }) × IsReady F.ops F.element e.transform e.plan e.kernels.items };
+}
+
+impl<F: Field> NttExtender<F> {
+    /// What extends rows of `n` values by these transforms, `block` values at a time.
+    pub(crate) fn with_transform(
+        alloc: Global,
+        n: u32,
+        upto: u32,
+        block: usize,
+        transform: Transform<F>,
+    ) -> Result<NttExtender<F>, AllocError>
+        requires some { 1 ≤ n }
+        requires order { n ≤ upto }
+        requires limit { upto ≤ 65536 }
+        requires block { 1 ≤ block }
+        requires fits { block ≤ 2 ^ transform.bits }
+        requires even { IsEven F.ops F.element upto }
+        requires two { F.ops.plus F.ops.one F.ops.one ≢ F.ops.zero }
+        ensures { IfOk result (λ e. e ≡ record { reach = record { count = n; upto = upto }; room = 2 * 2 ^ transform.bits }) }
+    {
+        let plan = Plan::new(n, upto, block, transform.bits());
+        let weights = Weights::new(alloc, n, upto)?;
+        let inverses = &weights.inverses()[..upto as usize];
+        let kernels = kernel_spectra(alloc, &transform, inverses, plan)?;
+        Ok(NttExtender {
+            transform,
+            weights,
+            kernels,
+            plan,
+        })
+    }
+
+    /// How many elements of room an extension takes: as many as two transforms.
+    pub(crate) fn room_size(&self) -> usize
+        ensures { result ≡ self.now.room }
+    {
+        2 * self.transform.size()
+    }
+
+    /// Writes the values at the points from `count` on of the polynomial through `values`.
+    pub(crate) fn extend(&self, values: &[F], out: &mut [F], room: &mut [F])
+        requires fits { length values.now ≡ self.now.reach.count }
+        requires reached { length out.old + self.now.reach.count ≡ self.now.reach.upto }
+        requires room { length room.old ≡ self.now.room }
+        ensures { (k : ℕ) → k < length out.new → entry F.ops out.new k ≡ extension F.ops F.element values.now (self.now.reach.count + k) }
+    {
+        let (spectrum, convolved) = room.split_at_mut(self.transform.size());
+        extend_by(
+            &self.transform,
+            &self.kernels,
+            self.weights.weights(),
+            self.weights.passed(),
+            self.plan,
+            values,
+            spectrum,
+            convolved,
+            out,
+        );
+    }
+}

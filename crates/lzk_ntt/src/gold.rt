@@ -1,0 +1,57 @@
+//! What extends rows over Goldilocks, which has roots of one of order 2^32.
+
+ghost use Rattle.std.specs.Prelude.{◌*◌, ◌^◌, ◌≤◌};
+ghost use Rattle.lzk_goldilocks.specs.Elements.{ops};
+ghost use Rattle.lzk_ntt.specs.Transform.{IsRoot};
+
+use crate::extender::NttExtender;
+use crate::transform::Transform;
+use lzk_goldilocks::{Gold, root_of_unity};
+use lzk_poly::RowExtend;
+use std::alloc::{AllocError, Global};
+
+// How many values are convolved at a time, at most.
+const BLOCK: usize = 2048;
+
+/// A root of one of order 2^bits.
+pub fn root_of(bits: u32) -> Gold
+    requires { bits ≤ 32 }
+    ensures { IsRoot ops bits result }
+{
+    root_of_unity(bits)
+}
+
+// The bits of a transform that holds as many points as values, and some more.
+fn bits_for(block: usize) -> u32
+    requires { block ≤ 2048 }
+    ensures enough { 2 * block ≤ 2 ^ result }
+    ensures few { result ≤ 12 }
+{
+    for bits in 0..12 {
+        if 2 * block <= 1 << bits {
+            return bits;
+        }
+    }
+    12
+}
+
+impl RowExtend<Gold> for NttExtender<Gold> {
+    ghost reach = { λ e. e.reach };
+
+    ghost rooms = { λ e. e.room };
+
+    fn make(alloc: Global, n: u32, upto: u32) -> Result<NttExtender<Gold>, AllocError> {
+        let block = (n as usize).min(BLOCK);
+        let bits = bits_for(block);
+        let transform = Transform::new(alloc, bits, root_of(bits))?;
+        NttExtender::with_transform(alloc, n, upto, block, transform)
+    }
+
+    fn room_len(&self) -> usize {
+        self.room_size()
+    }
+
+    fn extend_row(&self, values: &[Gold], out: &mut [Gold], room: &mut [Gold]) {
+        self.extend(values, out, room);
+    }
+}
