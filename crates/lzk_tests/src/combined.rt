@@ -164,10 +164,10 @@ fn wrong_coefficient<F: Field>(
     };
     let mut room = Vec::new(alloc);
     room.resize(262_144, F::zero())?;
-    if room.len() != 262_144 {
-        return Ok(Some((0, 0)));
-    }
     for i in 0..circuit.depth() + 1 {
+        if room.len() != 262_144 {
+            return Ok(Some((i, 0)));
+        }
         if let Some(j) = wrong_entry(&circuit, &params, &all, i, &mut room, alloc)? {
             return Ok(Some((i, j)));
         }
