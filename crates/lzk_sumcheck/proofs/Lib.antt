@@ -1,15 +1,10 @@
 pub mod Binding
 pub mod Curves
 pub mod Filled
-pub mod KeptLaws
 pub mod LayerLaws
-pub mod LayerSends
 pub mod LayerShapes
-pub mod MergeLaws
 pub mod PointLaws
 pub mod RoundLaws
 pub mod ScriptLaws
-pub mod SendLaws
 pub mod ShapeLaws
-pub mod SpreadLaws
 pub mod SumcheckLaws

@@ -2,9 +2,7 @@ pub mod Coefficients
 pub mod Draws
 pub mod Layers
 pub mod Opening
-pub mod Pairs
 pub mod Points
 pub mod Rounds
 pub mod Script
-pub mod Sending
 pub mod States

@@ -13,12 +13,9 @@
 
 mod draws;
 mod laws;
-mod layer;
-mod pairs;
 mod plain;
 mod replaying;
 mod script;
-mod sending;
 
 pub use draws::draw_all;
 pub use laws::sumcheck_laws;

@@ -47,7 +47,7 @@ fn variable_of<F: Field>(bits: usize, bound: &[F], t: F, z: u64, a: bool, j: usi
 }
 
 // How bit 0 of a number agrees with a variable.
-pub(crate) fn agreement<F: Field>(number: u32, x: F) -> F
+fn agreement<F: Field>(number: u32, x: F) -> F
     ensures { let o = F.ops in result ≡ agree o (low_bit o number) x }
 {
     if number % 2 == 0 { F::one().sub(x) } else { x }
@@ -93,10 +93,7 @@ fn term_part<F: Field>(term: Term<F>, weights: &[F], bits: usize, bound: &[F], t
 {
     let first = eq_part(bits, bound, t, z, true, term.a);
     let second = eq_part(bits, bound, t, z, false, term.b);
-    weights[term.g as usize]
-        .mul(term.coef)
-        .mul(first)
-        .mul(second)
+    weights[term.g as usize].mul(term.coef).mul(first).mul(second)
 }
 
 // The sum of that over the terms.

@@ -28,11 +28,7 @@ fn mixed<F: Field>(times: u64) -> F {
 }
 
 // Those of squares and a further number.
-fn mixed_squares<F: Field>(
-    count: u32,
-    further: u32,
-    alloc: Global,
-) -> Result<Vec<F>, AllocError> {
+fn mixed_squares<F: Field>(count: u32, further: u32, alloc: Global) -> Result<Vec<F>, AllocError> {
     let mut list = Vec::new(alloc);
     for i in 0..count {
         let square = u64::from(i).wrapping_mul(u64::from(i));
@@ -116,10 +112,7 @@ fn wrong_round<F: Field>(
 }
 
 // The first layer and round of a case with another value.
-fn wrong_place<F: Field>(
-    case: &Case,
-    alloc: Global,
-) -> Result<Option<(usize, usize)>, AllocError> {
+fn wrong_place<F: Field>(case: &Case, alloc: Global) -> Result<Option<(usize, usize)>, AllocError> {
     let Some(circuit) = circuit_of::<F>(case, alloc)? else {
         return Ok(Some((0, 0)));
     };
@@ -173,14 +166,24 @@ fn square_at<F: Field>(point: u32, alloc: Global) -> Result<Option<F>, AllocErro
         return Ok(None);
     }
     circuit.eval(&public, &private, &mut values);
-    Ok(round_of(&circuit, &values, 0, &weights, &[], F::of_word(u128::from(point))))
+    Ok(round_of(
+        &circuit,
+        &values,
+        0,
+        &weights,
+        &[],
+        F::of_word(u128::from(point)),
+    ))
 }
 
 #[test]
 fn square_has_its_rounds(rt: HostRuntime) -> Result<(), Fail> {
     sumcheck_laws::<Gold>();
     for (point, value) in [(0, 0), (1, 0), (2, 162)] {
-        assert_eq!(rt; square_at::<Gold>(point, rt.alloc())?, Some(Gold::of_word(value)));
+        assert_eq!(rt;
+            square_at::<Gold>(point, rt.alloc())?,
+            Some(Gold::of_word(value))
+        );
     }
     Ok(())
 }
