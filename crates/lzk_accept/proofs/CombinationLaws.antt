@@ -1,9 +1,8 @@
 -- The combined constraints, from what is summed of forms and copies.
-use Rattle.std.specs.Prelude.{◌≡◌, ◌≢◌, ◌⊎◌, ℕ, ◌+◌, ◌-◌, ◌*◌, ◌/◌, ◌%◌, ◌<◌, ◌≤◌, ◌==◌, ◌&&◌, Bool, true, false, cond, nat_lt, nat_le, List, [], ◌∷◌, length, slice_set}
-use Rattle.std.proofs.Common.{zero, suc, refl, sym, ap, ◌∙◌, arith, inl, inr, subst}
-use Rattle.std.proofs.lemmas.Bool.{cases_eq, eq-eqb, ne_eqb, and_right}
+use Rattle.std.specs.Prelude.{◌≡◌, ℕ, ◌+◌, ◌-◌, ◌*◌, ◌/◌, ◌%◌, ◌<◌, ◌≤◌, ◌==◌, ◌&&◌, Bool, true, false, cond, nat_lt, nat_le, List, [], ◌∷◌, length}
+use Rattle.std.proofs.Common.{refl, sym, ap, ◌∙◌, arith, inl, inr, subst}
+use Rattle.std.proofs.lemmas.Bool.{cases_eq, eq-eqb, ne_eqb}
 use Rattle.std.proofs.lemmas.Grind.{div_ceil_times}
-use Rattle.std.proofs.lemmas.List.{get_or-set_same, get_or-set_other}
 use Rattle.std.proofs.lemmas.Nat.{div-add-mod'}
 use Rattle.std.proofs.Math.Nat.{div-eq_of_lt-le, mod-lt}
 use native.Mathlib.Decide.{dec_lt}
@@ -15,12 +14,12 @@ use Rattle.lzk_field.proofs.SumLaws.{sum-ext, sum-zero, sum-single}
 use Rattle.lzk_circuit.specs.Valid.{Wiring}
 use Rattle.lzk_layout.specs.declared.params.Params.{Params}
 use Rattle.lzk_layout.specs.Sizes.{committed_count, params_of, place_of, AreBounded}
-use Rattle.lzk_layout.specs.Places.{depth, pads_at, factors_at, constrained_at, copy_place_of}
-use Rattle.lzk_layout.proofs.PlaceLaws.{pads_most, pads_next, pads_within}
+use Rattle.lzk_layout.specs.Places.{depth, factors_at, constrained_at, copy_place_of}
+use Rattle.lzk_layout.proofs.PlaceLaws.{pads_within}
 use Rattle.lzk_accept.specs.declared.challenges.Challenges.{Challenges}
 use Rattle.lzk_accept.specs.declared.forms.Form.{Form}
-use Rattle.lzk_accept.specs.Combination.{sum_where, is_place, from_constraints, from_copies, from_entries, combined, wanted}
-use Rattle.lzk_accept.specs.Kept.{LinearForms, coefficient_in, coefficient, right, form_at, source_in, IsPlacedAt, IsWithin, AreFormsOf}
+use Rattle.lzk_accept.specs.Combination.{sum_where, is_place, from_constraints, from_copies, combined, wanted}
+use Rattle.lzk_accept.specs.Kept.{LinearForms, coefficient_in, coefficient, right, form_at, source_in, IsWithin, AreFormsOf}
 use Rattle.lzk_accept.proofs.KeptLaws.{start_is, end_is, last_start, last_end}
 
 -- ---- places by their numbers
@@ -87,11 +86,11 @@ module _ {A : Type 0} (o : Ops A) (r : RingLaws o) where
       sum-ext o r n (λ j. cond (is_place (3 + i) s (place_of p j)) (f j) o.zero) (λ j. cond (j == k) (f j) o.zero)
       (λ j l. ap (λ b. cond b (f j) o.zero) (entry_number p j i s h ∙ eqb-sym k j))
       ∙ elim (dec_lt k n) [
-          | yes l ↦ sum-single o r n k f l
-          | no l ↦
-              sum-ext o r n (λ j. cond (j == k) (f j) o.zero) (λ j. o.zero) (λ j m. ap (λ b. cond b (f j) o.zero) (ne_eqb j k (λ e. omega (arith, e))))
-              ∙ sum-zero o r n ∙ sym (past k (omega arith))
-        ]
+        | yes l ↦ sum-single o r n k f l
+        | no l ↦
+            sum-ext o r n (λ j. cond (j == k) (f j) o.zero) (λ j. o.zero) (λ j m. ap (λ b. cond b (f j) o.zero) (ne_eqb j k (λ e. omega (arith, e))))
+            ∙ sum-zero o r n ∙ sym (past k (omega arith))
+      ]
 
   -- a form has no coefficients past its entries
   pub coefficient_past : (n : ℕ) (own : List A) (form : Form A) (k : ℕ) → IsWithin n form → n ≤ k → coefficient_in o own form k ≡ o.zero
@@ -151,15 +150,15 @@ module _ {A : Type 0} (o : Ops A) (c : Wiring A) (f : LinearForms A) (some : 1 �
       let placed = are.places i h in
       elim (dec_lt i (depth c)) [
         | yes l ↦ record {
-            start = omega (arith, placed.start, placed.end, start_is c i l, end_is c i l);
-            end = omega (arith, placed.end, end_is c i l, pads_within c i l);
-            above = omega (arith, placed.above, pads_within c (i - 1) (omega arith));
-          }
+          start = omega (arith, placed.start, placed.end, start_is c i l, end_is c i l);
+          end = omega (arith, placed.end, end_is c i l, pads_within c i l);
+          above = omega (arith, placed.above, pads_within c (i - 1) (omega arith));
+        }
         | no l ↦ record {
-            start = omega (arith, placed.start, last_start c i (omega arith));
-            end = omega (arith, placed.end, last_end c i (omega arith));
-            above = omega (arith, placed.above, pads_within c (i - 1) (omega arith));
-          }
+          start = omega (arith, placed.start, last_start c i (omega arith));
+          end = omega (arith, placed.end, last_end c i (omega arith));
+          above = omega (arith, placed.above, pads_within c (i - 1) (omega arith));
+        }
       ]
 
   -- a layer's ends behind its three constrained entries

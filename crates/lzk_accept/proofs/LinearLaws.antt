@@ -1,5 +1,5 @@
 -- Residuals as forms that are kept.
-use Rattle.std.specs.Prelude.{◌≡◌, ◌≢◌, ℕ, ◌+◌, ◌-◌, ◌*◌, ◌<◌, ◌≤◌, ◌==◌, ◌&&◌, Bool, true, false, cond, nat_lt, nat_le, List, [], ◌∷◌, ◌++◌, length, take, slice_set}
+use Rattle.std.specs.Prelude.{◌≡◌, ℕ, ◌+◌, ◌-◌, ◌*◌, ◌<◌, ◌≤◌, ◌==◌, ◌&&◌, Bool, true, false, cond, nat_lt, nat_le, List, [], ◌∷◌, ◌++◌, length, take, slice_set}
 use Rattle.std.proofs.Common.{zero, suc, refl, sym, ap, ◌∙◌, arith, subst}
 use Rattle.std.proofs.lemmas.Bool.{lt-ltb, le-ltb}
 use Rattle.std.proofs.lemmas.List.{get_or-set_same, get_or-set_other, get_or_append_left, get_or-append_right, get_or-take, length-append, length-take-le}
@@ -12,7 +12,7 @@ use Rattle.lzk_field.proofs.SumLaws.{sum-ext, sum-zero, sum-plus, sum-times, sum
 use Rattle.lzk_mle.specs.Multilinear.{eq}
 use Rattle.lzk_circuit.specs.Valid.{Wiring}
 use Rattle.lzk_layout.specs.Sizes.{committed_count}
-use Rattle.lzk_layout.specs.Places.{depth, bits_under, round_count, sent_at, pads_at, factors_sent_at, factors_at}
+use Rattle.lzk_layout.specs.Places.{depth, round_count, sent_at, pads_at, factors_sent_at, factors_at}
 use Rattle.lzk_layout.proofs.PlaceLaws.{pads_within}
 use Rattle.lzk_sumcheck.specs.declared.script.Script.{Script}
 use Rattle.lzk_sumcheck.specs.Script.{layer_at, point_a, point_b, challenge_at}

@@ -93,7 +93,10 @@ fn term_part<F: Field>(term: Term<F>, weights: &[F], bits: usize, bound: &[F], t
 {
     let first = eq_part(bits, bound, t, z, true, term.a);
     let second = eq_part(bits, bound, t, z, false, term.b);
-    weights[term.g as usize].mul(term.coef).mul(first).mul(second)
+    weights[term.g as usize]
+        .mul(term.coef)
+        .mul(first)
+        .mul(second)
 }
 
 // The sum of that over the terms.

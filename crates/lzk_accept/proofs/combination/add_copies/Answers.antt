@@ -1,10 +1,10 @@
-use Rattle.std.proofs.Common.{◌≡◌, ℕ, ◌+◌, ◌-◌, ◌*◌, ◌/◌, ◌%◌, ◌<◌, ◌==◌, cond, length, ap, sym, ◌∙◌, subst, arith, add-one}
+use Rattle.std.proofs.Common.{◌≡◌, ℕ, ◌+◌, ◌-◌, ◌*◌, ◌/◌, ◌%◌, ◌<◌, ◌==◌, cond, length, ap, sym, ◌∙◌, arith, add-one}
 use Rattle.std.proofs.lemmas.List.{get_or_default}
 use Rattle.lzk_field.specs.Sums.{entry, minus}
 use Rattle.lzk_layout.specs.Sizes.{place_of}
 use Rattle.lzk_layout.specs.Places.{copy_place_of}
 use Rattle.lzk_accept.specs.Combination.{sum_where, is_place}
-use Rattle.lzk_accept.specs.Kept.{form_at, source_in}
+use Rattle.lzk_accept.specs.Kept.{source_in}
 use Rattle.lzk_accept.proofs.CombinationLaws.{by_number, entry_number, list_fits, combined_step}
 use Rattle.lzk_accept.proofs.combination.add_copies.Goals as goal
 
@@ -38,8 +38,8 @@ loop-m-preserved g c i s h =
     let drawn : x ≡ entry o mu m = c.index-mu-m.is ∙ get_or_default mu m x o.zero (omega (arith, c.requires.mu)) in
     let place = c.copy_place-row.ensures.place in
     let copy : (k == (c.copy_place-row.result.0 - 3) * p.wr + c.copy_place-row.result.1) ≡ here =
-        sym (by_number p.wr c.copy_place-row.result.0 c.copy_place-row.result.1 i s (omega (arith, ap (λ (q : ℕ × ℕ). q.0) place)) c.copy_place-row.ensures.position h)
-        ∙ ap (is_place (3 + i) s) place in
+    sym (by_number p.wr c.copy_place-row.result.0 c.copy_place-row.result.1 i s (omega (arith, ap (λ (q : ℕ × ℕ). q.0) place)) c.copy_place-row.ensures.position h)
+    ∙ ap (is_place (3 + i) s) place in
     let inside : m / 3 < length forms = omega (arith, c.requires.count) in
     let is = get_or_default forms (m / 3) form (record { start = 0; end = 0; above = 0; first = o.zero; second = o.zero; right = o.zero }) inside in
     let source = ap (λ y. y.end - 3 + m % 3) is in

@@ -1,4 +1,4 @@
-use Rattle.std.proofs.Common.{◌≡◌, ap, ◌∙◌, cond, ◌+◌, ◌==◌}
+use Rattle.std.proofs.Common.{ap, ◌∙◌, cond, ◌+◌, ◌==◌}
 use Rattle.lzk_field.specs.Sums.{entry}
 use Rattle.lzk_accept.proofs.CombinationLaws.{form_added}
 use Rattle.lzk_accept.proofs.combination.add_form.Goals as goal

@@ -1,4 +1,4 @@
-use Rattle.std.proofs.Common.{◌≡◌, ℕ, ◌+◌, ◌<◌, length, ap, sym, ◌∙◌, subst, arith, add-one}
+use Rattle.std.proofs.Common.{◌≡◌, ℕ, length, ap, sym, ◌∙◌, subst, arith, add-one}
 use Rattle.std.proofs.lemmas.List.{get_or_default}
 use Rattle.lzk_field.specs.Sums.{entry, sum_below}
 use Rattle.lzk_accept.specs.Kept.{coefficient_in, form_at, IsWithin}

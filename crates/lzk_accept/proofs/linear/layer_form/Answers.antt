@@ -1,15 +1,15 @@
-use Rattle.std.proofs.Common.{◌≡◌, ℕ, ◌+◌, ◌*◌, ◌-◌, ◌<◌, ◌≤◌, List, length, sym, ap, ◌∙◌, subst, arith}
+use Rattle.std.proofs.Common.{◌≡◌, ◌+◌, ◌*◌, sym, ap, ◌∙◌, subst, arith}
 use Rattle.lzk_field.specs.Sums.{entry, sum_below, minus}
 use Rattle.lzk_field.proofs.SumLaws.{sum-ext}
 use Rattle.lzk_layout.specs.declared.places.LayerPlaces.{LayerPlaces}
-use Rattle.lzk_layout.specs.Places.{depth, bits_under, round_count, sent_at, pads_at, factors_sent_at, factors_at, places_of}
+use Rattle.lzk_layout.specs.Places.{bits_under, round_count, sent_at, pads_at, factors_sent_at, factors_at}
 use Rattle.lzk_layout.proofs.PlaceLaws.{pads_next}
 use Rattle.lzk_sumcheck.specs.Coefficients.{coefficients}
 use Rattle.lzk_sumcheck.specs.Script.{layer_at, HasBits}
-use Rattle.lzk_accept.specs.Kept.{above_a, above_b, below_top}
+use Rattle.lzk_accept.specs.Kept.{above_a, above_b}
 use Rattle.lzk_accept.specs.Walks.{through_rounds, challenge_of}
 use Rattle.lzk_accept.proofs.KeptLaws.{start_is, end_is}
-use Rattle.lzk_accept.proofs.LinearLaws.{IsLayerForm, layer_is}
+use Rattle.lzk_accept.proofs.LinearLaws.{layer_is}
 use Rattle.lzk_accept.proofs.ShapeLaws.{layer_shape}
 use Rattle.lzk_accept.proofs.linear.layer_form.Goals as goal
 

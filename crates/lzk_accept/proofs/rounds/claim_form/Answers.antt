@@ -1,10 +1,9 @@
 use Rattle.std.specs.Prelude.{slice_index_or}
-use Rattle.std.proofs.Common.{◌≡◌, ℕ, ◌+◌, ◌*◌, ◌-◌, ◌<◌, ◌≤◌, length, sym, ap, ◌∙◌, subst, arith}
+use Rattle.std.proofs.Common.{◌≡◌, ◌+◌, ◌*◌, ◌-◌, ◌<◌, ◌≤◌, length, ap, ◌∙◌, subst, arith}
 use Rattle.std.proofs.lemmas.List.{get_or_default}
 use Rattle.lzk_field.specs.Sums.{entry, sum_below, minus}
 use Rattle.lzk_accept.specs.Points.{AreShares}
-use Rattle.lzk_accept.specs.Walks.{through_rounds, challenge_of}
-use Rattle.lzk_accept.proofs.RoundForms.{IsStep, back_first, back_bit, back_whole}
+use Rattle.lzk_accept.proofs.RoundForms.{IsStep, back_bit, back_whole}
 use Rattle.lzk_accept.proofs.rounds.claim_form.Goals as goal
 
 pub loop-j-preserved : goal.loop-j-preserved

@@ -1,17 +1,13 @@
-use Rattle.std.proofs.Common.{suc, ◌≡◌, ℕ, ◌+◌, ◌^◌, ◌<◌, ◌≤◌, length, sym, ap, ◌∙◌, subst, arith}
-use Rattle.std.specs.Prelude.{slice_get, Some}
-use Rattle.std.proofs.lemmas.Option.{get_or_from_slice_get}
+use Rattle.std.proofs.Common.{suc, ◌≡◌, ◌+◌, ◌^◌, ◌≤◌, length, sym, ap, ◌∙◌, arith}
+use Rattle.std.specs.Prelude.{slice_get}
 use Rattle.lzk_field.specs.Sums.{entry}
 use Rattle.lzk_mle.specs.Multilinear.{eq}
-use Rattle.lzk_circuit.specs.Bits.{bits}
-use Rattle.lzk_circuit.specs.Wires.{AreDistinct}
 use Rattle.lzk_circuit.specs.Sums.{sum_list}
 use Rattle.lzk_circuit.proofs.BitLaws.{bits_enough}
-use Rattle.lzk_circuit.proofs.PlaceLaws.{layer-at}
-use Rattle.lzk_layout.specs.Places.{depth, width_at, bits_under}
-use Rattle.lzk_sumcheck.specs.Script.{layer_at, point_a, point_b}
+use Rattle.lzk_layout.specs.Places.{width_at, bits_under}
+use Rattle.lzk_sumcheck.specs.Script.{point_a, point_b}
 use Rattle.lzk_accept.specs.Walks.{counted}
-use Rattle.lzk_accept.proofs.ShapeLaws.{layer_shape, few_bits, wires_is}
+use Rattle.lzk_accept.proofs.ShapeLaws.{layer_shape, few_bits}
 use Rattle.lzk_accept.proofs.TermWalks.{bound_by_tables, layer_distinct, distinct_within, some_layer}
 use Rattle.lzk_accept.proofs.tables.layer_bound.Goals as goal
 

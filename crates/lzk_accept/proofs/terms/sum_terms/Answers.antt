@@ -1,9 +1,9 @@
-use Rattle.std.proofs.Common.{◌≡◌, ◌<◌, length, sym, ap, ◌∙◌, arith, subst}
-use Rattle.std.specs.Prelude.{slice_get, Some}
+use Rattle.std.proofs.Common.{◌<◌, length, sym, ap, ◌∙◌, subst}
+use Rattle.std.specs.Prelude.{Some}
 use Rattle.std.proofs.lemmas.Option.{slice_get-get_or}
 use Rattle.lzk_circuit.specs.Sums.{sum_list}
 use Rattle.lzk_accept.specs.Walks.{counted}
-use Rattle.lzk_accept.proofs.TermWalks.{walk_starts, walk_more, walk_ends}
+use Rattle.lzk_accept.proofs.TermWalks.{walk_starts, walk_more}
 use Rattle.lzk_accept.proofs.terms.sum_terms.Goals as goal
 
 pub loop-i-init : goal.loop-i-init

@@ -14,8 +14,12 @@ bits_of-bits-requires g c = omega (arith, c.width.ensures, narrow g.F.Field.ops 
 
 pub plain_sum-requires-clause-size : goal.plain_sum-requires-clause-size
 plain_sum-requires-clause-size g c κs within =
-    omega (arith, ap length c.layer-2.ensures, values_width c.args.circuit.now c.args.values.now (c.args.l + 1) c.requires.values (omega (arith, c.requires.layer)),
-    narrow g.F.Field.ops c.args.circuit.now (c.args.l + 1) c.depth-depth.ensures.valid)
+    omega (
+      arith,
+      ap length c.layer-2.ensures,
+      values_width c.args.circuit.now c.args.values.now (c.args.l + 1) c.requires.values (omega (arith, c.requires.layer)),
+      narrow g.F.Field.ops c.args.circuit.now (c.args.l + 1) c.depth-depth.ensures.valid,
+    )
 
 pub plain_sum-requires-clause-terms : goal.plain_sum-requires-clause-terms
 plain_sum-requires-clause-terms g c κs within =
