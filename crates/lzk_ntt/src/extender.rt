@@ -18,8 +18,8 @@ use std::marker::Model;
 /// transforms. Over Goldilocks it is made by `RowExtend::make`.
 ///
 /// The weights, and the transforms of the kernels, are computed once. A row takes one forward transform for
-/// each block of at most 2,048 values, and for each piece of the further points one pointwise product and one
-/// backward transform. Nothing but the caller's room is written to.
+/// each block of at most 2,048 values, and for each block and each piece of the further points one pointwise
+/// product and one backward transform. It takes no memory but the caller's room, as much as two transforms.
 #[derive(Drop)]
 pub struct NttExtender<F: Field> {
     weights: Weights<F>,
