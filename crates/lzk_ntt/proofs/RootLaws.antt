@@ -1,5 +1,5 @@
 -- Roots of one whose order is a power of two.
-use Rattle.std.specs.Prelude.{◌≡◌, ℕ, ◌+◌, ◌-◌, ◌*◌, ◌^◌, ◌≤◌}
+use Rattle.std.specs.Prelude.{◌≡◌, ℕ, ◌+◌, ◌-◌, ◌^◌, ◌≤◌}
 use Rattle.std.proofs.Common.{zero, suc, sym, ap, ◌∙◌, arith}
 use Rattle.std.proofs.Math.Nat.{pow-suc}
 use Rattle.lzk_field.specs.Ring.{Ops, RingLaws}

@@ -6,8 +6,7 @@ ghost use Rattle.lzk_poly.specs.Extension.{extension};
 ghost use Rattle.lzk_poly.specs.Weights.{parts, IsPassed, IsWeights};
 ghost use Rattle.lzk_ntt.specs.Kernels.{end_of, IsReady};
 
-use crate::plan::Plan;
-use crate::transform::Transform;
+use crate::kernels::Kernels;
 use lzk_field::Field;
 
 // The values times their weights, padded with zeros.
@@ -41,35 +40,35 @@ fn add_from<F: Field>(out: &mut [F], at: usize, to: usize, added: &[F], first: u
 
 // Adds a block's part of the barycentric sum at each further point.
 fn add_block<F: Field>(
-    transform: &Transform<F>,
-    kernels: &[F],
+    kernels: &Kernels<F>,
     weights: &[F],
-    plan: Plan,
     v: usize,
     values: &[F],
     spectrum: &mut [F],
     convolved: &mut [F],
     out: &mut [F],
 )
-    requires ready { IsReady F.ops F.element transform.now plan kernels.now }
-    requires weights { IsWeights F.ops F.element plan.count weights.now }
-    requires values { length values.now ≡ plan.count }
-    requires block { v < plan.blocks }
-    requires out { length out.old + plan.count ≡ plan.upto }
-    requires spectrum { length spectrum.old ≡ 2 ^ transform.now.bits }
-    requires convolved { length convolved.old ≡ 2 ^ transform.now.bits }
-    ensures { (k : ℕ) → k < length out.new → (let x = F.element (plan.count + k) in entry F.ops out.old k ≡ parts F.ops F.element values.now (v * plan.block) x → entry F.ops out.new k ≡ parts F.ops F.element values.now (end_of plan v) x) }
+    requires ready { IsReady F.ops F.element kernels.now.transform kernels.now.plan kernels.now.spectra.items }
+    requires weights { IsWeights F.ops F.element kernels.now.plan.count weights.now }
+    requires values { length values.now ≡ kernels.now.plan.count }
+    requires block { v < kernels.now.plan.blocks }
+    requires out { length out.old + kernels.now.plan.count ≡ kernels.now.plan.upto }
+    requires spectrum { length spectrum.old ≡ 2 ^ kernels.now.transform.bits }
+    requires convolved { length convolved.old ≡ 2 ^ kernels.now.transform.bits }
+    ensures { (k : ℕ) → k < length out.new → (let x = F.element (kernels.now.plan.count + k) in entry F.ops out.old k ≡ parts F.ops F.element values.now (v * kernels.now.plan.block) x → entry F.ops out.new k ≡ parts F.ops F.element values.now (end_of kernels.now.plan v) x) }
 {
-    let size = transform.size();
+    let plan = kernels.plan;
+    let size = kernels.transform.size();
     let start = v * plan.block;
     let end = (start + plan.block).min(plan.count);
     weigh(&values[start..end], &weights[start..end], spectrum);
-    transform.forward(spectrum);
+    kernels.transform.forward(spectrum);
     for p in 0..plan.pieces {
         let at = p * plan.piece;
         let to = (at + plan.piece).min(out.len());
         let place = (v * plan.pieces + p) * size;
-        transform.convolve(spectrum, &kernels[place..place + size], convolved);
+        let kernel = &kernels.spectra[place..place + size];
+        kernels.transform.convolve(spectrum, kernel, convolved);
         add_from(out, at, to, convolved, end - start - 1);
     }
 }
@@ -77,32 +76,28 @@ fn add_block<F: Field>(
 /// Writes the values at the points from that of the last given value on: the barycentric sums, times the
 /// products of differences.
 pub fn extend_by<F: Field>(
-    transform: &Transform<F>,
-    kernels: &[F],
+    kernels: &Kernels<F>,
     weights: &[F],
     passed: &[F],
-    plan: Plan,
     values: &[F],
     spectrum: &mut [F],
     convolved: &mut [F],
     out: &mut [F],
 )
-    requires ready { IsReady F.ops F.element transform.now plan kernels.now }
-    requires weights { IsWeights F.ops F.element plan.count weights.now }
-    requires passed { IsPassed F.ops F.element plan.count plan.upto passed.now }
-    requires values { length values.now ≡ plan.count }
-    requires out { length out.old + plan.count ≡ plan.upto }
-    requires spectrum { length spectrum.old ≡ 2 ^ transform.now.bits }
-    requires convolved { length convolved.old ≡ 2 ^ transform.now.bits }
-    ensures { (k : ℕ) → k < length out.new → entry F.ops out.new k ≡ extension F.ops F.element values.now (plan.count + k) }
+    requires ready { IsReady F.ops F.element kernels.now.transform kernels.now.plan kernels.now.spectra.items }
+    requires weights { IsWeights F.ops F.element kernels.now.plan.count weights.now }
+    requires passed { IsPassed F.ops F.element kernels.now.plan.count kernels.now.plan.upto passed.now }
+    requires values { length values.now ≡ kernels.now.plan.count }
+    requires out { length out.old + kernels.now.plan.count ≡ kernels.now.plan.upto }
+    requires spectrum { length spectrum.old ≡ 2 ^ kernels.now.transform.bits }
+    requires convolved { length convolved.old ≡ 2 ^ kernels.now.transform.bits }
+    ensures { (k : ℕ) → k < length out.new → entry F.ops out.new k ≡ extension F.ops F.element values.now (kernels.now.plan.count + k) }
 {
     for t in 0..out.len() {
         out[t] = F::zero();
     }
-    for v in 0..plan.blocks {
-        add_block(
-            transform, kernels, weights, plan, v, values, spectrum, convolved, out,
-        );
+    for v in 0..kernels.plan.blocks {
+        add_block(kernels, weights, v, values, spectrum, convolved, out);
     }
     for u in 0..out.len() {
         out[u] = out[u].mul(passed[u]);

@@ -6,7 +6,7 @@ ghost use Rattle.lzk_poly.specs.Extension.{Reach, extension};
 ghost use Rattle.lzk_poly.specs.Weights.{IsEven};
 
 use crate::blocks::extend_by;
-use crate::kernels::kernel_spectra;
+use crate::kernels::{Kernels, kernel_spectra};
 use crate::plan::Plan;
 use crate::transform::Transform;
 use lzk_field::Field;
@@ -18,15 +18,12 @@ use std::marker::Model;
 /// transforms. Over Goldilocks it is made by `RowExtend::make`.
 ///
 /// The weights, and the transforms of the kernels, are computed once. A row takes one forward transform for
-/// each block of at most 2,048 values, and for each piece of the further points one pointwise product and one
-/// backward transform. Nothing but the caller's room is written to.
+/// each block of at most 2,048 values, and for each block and each piece of the further points one pointwise
+/// product and one backward transform. It takes no memory but the caller's room, as much as two transforms.
 #[derive(Drop)]
 pub struct NttExtender<F: Field> {
-    transform: Transform<F>,
     weights: Weights<F>,
-    // The transformed kernels, by block and piece.
-    kernels: Vec<F>,
-    plan: Plan,
+    kernels: Kernels<F>,
 }
 
 impl<F: Field> Model for NttExtender<F> {
@@ -36,9 +33,9 @@ impl<F: Field> Model for NttExtender<F> {
 
     ghost Value = { Convolver };
 
-    ghost view = { λ e. record { reach = record { count = e.plan.count; upto = e.plan.upto }; room = 2 * 2 ^ e.transform.bits } };
+    ghost view = { λ e. record { reach = e.weights; room = 2 * 2 ^ e.kernels.transform.bits } };
 
-    ghost invariant = { λ e. (e.weights ≡ record { count = e.plan.count; upto = e.plan.upto }) × IsReady F.ops F.element e.transform e.plan e.kernels.items };
+    ghost invariant = { λ e. (e.kernels.plan.count ≡ e.weights.count) × (e.kernels.plan.upto ≡ e.weights.upto) × IsReady F.ops F.element e.kernels.transform e.kernels.plan e.kernels.spectra.items };
 }
 
 impl<F: Field> NttExtender<F> {
@@ -62,20 +59,20 @@ impl<F: Field> NttExtender<F> {
         let plan = Plan::new(n, upto, block, transform.bits());
         let weights = Weights::new(alloc, n, upto)?;
         let inverses = &weights.inverses()[..upto as usize];
-        let kernels = kernel_spectra(alloc, &transform, inverses, plan)?;
-        Ok(NttExtender {
+        let spectra = kernel_spectra(alloc, &transform, inverses, plan)?;
+        let kernels = Kernels {
             transform,
-            weights,
-            kernels,
             plan,
-        })
+            spectra,
+        };
+        Ok(NttExtender { weights, kernels })
     }
 
     /// How many elements of room an extension takes: as many as two transforms.
     pub(crate) fn room_size(&self) -> usize
         ensures { result ≡ self.now.room }
     {
-        2 * self.transform.size()
+        2 * self.kernels.transform.size()
     }
 
     /// Writes the values at the points from `count` on of the polynomial through `values`.
@@ -85,13 +82,11 @@ impl<F: Field> NttExtender<F> {
         requires room { length room.old ≡ self.now.room }
         ensures { (k : ℕ) → k < length out.new → entry F.ops out.new k ≡ extension F.ops F.element values.now (self.now.reach.count + k) }
     {
-        let (spectrum, convolved) = room.split_at_mut(self.transform.size());
+        let (spectrum, convolved) = room.split_at_mut(self.kernels.transform.size());
         extend_by(
-            &self.transform,
             &self.kernels,
             self.weights.weights(),
             self.weights.passed(),
-            self.plan,
             values,
             spectrum,
             convolved,

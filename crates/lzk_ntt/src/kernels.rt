@@ -11,6 +11,15 @@ use crate::transform::Transform;
 use lzk_field::Field;
 use std::alloc::{AllocError, Global};
 
+/// The kernels of an extender, transformed, and what they are convolved by.
+#[derive(Drop)]
+pub struct Kernels<F: Field> {
+    pub transform: Transform<F>,
+    pub plan: Plan,
+    /// The transformed kernels of each block and each piece, one after the other.
+    pub spectra: Vec<F>,
+}
+
 // The inverse of the backward transform's factor.
 fn inverse_size<F: Field>(bits: u32) -> F
     requires { F.ops.plus F.ops.one F.ops.one ≢ F.ops.zero }

@@ -10,8 +10,8 @@
 //! draft-google-cfrg-libzk. Lagrange's formula in its barycentric form asks, at each further point, for the
 //! sum of each value times its weight over the difference from its point. Goldilocks' points are evenly
 //! spaced, so that the inverse of a difference depends on the difference of the numbers alone: the sums are
-//! the convolution of weighted values and the list of inverses. With n values and m further points that
-//! takes O((n + m) log n) products, where the sums themselves take n m. A caller writes
+//! the convolution of weighted values and the list of inverses. With n values, up to 2,048, and m further
+//! points that takes O((n + m) log n) products, where the sums themselves take n m. A caller writes
 //!
 //! ```text
 //! let extender = NttExtender::make(alloc, 3, 6)?;

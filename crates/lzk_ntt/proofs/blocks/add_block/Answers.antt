@@ -1,9 +1,9 @@
-use Rattle.std.proofs.Common.{◌≡◌, ℕ, ◌+◌, ◌-◌, ◌*◌, ◌^◌, ◌<◌, ◌≤◌, take, drop, length, ap, ◌∙◌, arith, sym, subst}
+use Rattle.std.proofs.Common.{◌≡◌, ℕ, List, ◌+◌, ◌-◌, ◌*◌, ◌^◌, ◌<◌, ◌≤◌, take, drop, length, ap, ◌∙◌, arith, sym, subst}
 use Rattle.std.proofs.Math.Nat.{add-mul}
 use native.Mathlib.Decide.{dec_lt}
 use Rattle.lzk_field.specs.Sums.{entry, sum_below}
 use Rattle.lzk_poly.specs.Weights.{part, parts, IsWeights}
-use Rattle.lzk_ntt.specs.Kernels.{end_of, from_of, kernel_entry}
+use Rattle.lzk_ntt.specs.Kernels.{IsKernel, end_of, from_of, kernel_entry}
 use Rattle.lzk_ntt.specs.Transform.{cyclic_convolution, doubled}
 use Rattle.lzk_ntt.proofs.Levels.{entry-part}
 use Rattle.lzk_ntt.proofs.Pieces.{covered_few, length_part, parts_more, piece_adds, place_few}
@@ -12,31 +12,31 @@ use Rattle.lzk_ntt.proofs.blocks.add_block.Goals as goal
 pub overflow_mul-place : goal.overflow_mul-place
 overflow_mul-place g c =
     let planned = c.requires.ready.planned in
-    let blocks = covered_few c.args.plan.count c.args.plan.block c.args.plan.blocks planned.some planned.blocks in
-    let pieces = covered_few (c.args.plan.upto - c.args.plan.count) c.args.plan.piece c.args.plan.pieces planned.moves planned.pieces in
-    let few = place_few c.args.v c.args.plan.pieces (omega (arith, blocks, planned.order, planned.limit, c.requires.block)) (omega (arith, pieces, planned.limit)) in
+    let blocks = covered_few c.args.kernels.now.plan.count c.args.kernels.now.plan.block c.args.kernels.now.plan.blocks planned.some planned.blocks in
+    let pieces = covered_few (c.args.kernels.now.plan.upto - c.args.kernels.now.plan.count) c.args.kernels.now.plan.piece c.args.kernels.now.plan.pieces planned.moves planned.pieces in
+    let few = place_few c.args.v c.args.kernels.now.plan.pieces (omega (arith, blocks, planned.order, planned.limit, c.requires.block)) (omega (arith, pieces, planned.limit)) in
     omega (arith, few)
 
 pub overflow_add-place : goal.overflow_add-place
 overflow_add-place g c =
     let planned = c.requires.ready.planned in
-    let blocks = covered_few c.args.plan.count c.args.plan.block c.args.plan.blocks planned.some planned.blocks in
-    let pieces = covered_few (c.args.plan.upto - c.args.plan.count) c.args.plan.piece c.args.plan.pieces planned.moves planned.pieces in
-    let few = place_few c.args.v c.args.plan.pieces (omega (arith, blocks, planned.order, planned.limit, c.requires.block)) (omega (arith, pieces, planned.limit)) in
+    let blocks = covered_few c.args.kernels.now.plan.count c.args.kernels.now.plan.block c.args.kernels.now.plan.blocks planned.some planned.blocks in
+    let pieces = covered_few (c.args.kernels.now.plan.upto - c.args.kernels.now.plan.count) c.args.kernels.now.plan.piece c.args.kernels.now.plan.pieces planned.moves planned.pieces in
+    let few = place_few c.args.v c.args.kernels.now.plan.pieces (omega (arith, blocks, planned.order, planned.limit, c.requires.block)) (omega (arith, pieces, planned.limit)) in
     omega (arith, few, pieces, planned.limit, c.loop-p-test.true)
 
 pub loop-p-preserved : goal.loop-p-preserved
 loop-p-preserved g c =
     let m = g.F.Field in
     let o = m.ops in
-    let d = c.args.transform.now in
+    let d = c.args.kernels.now.transform in
     let n = 2 ^ d.bits in
-    let plan = c.args.plan in
+    let plan = c.args.kernels.now.plan in
     let v = c.args.v in
     let p = c.loop-p.p in
     let values = c.args.values.now in
     let ws = c.args.weights.now in
-    let ks = c.args.kernels.now in
+    let ks = c.deref.result.now in
     let ready = c.requires.ready in
     let planned = ready.planned in
     let inv = c.loop-p.invariant in
@@ -55,7 +55,8 @@ loop-p-preserved g c =
     let within : e ≤ length values = omega (arith, c.requires.values) in
     let next : (p + 1) * plan.piece ≡ at + plan.piece = add-mul p 1 plan.piece ∙ omega arith in
     let size : c.size-size.result ≡ n = c.size-size.ensures.value in
-    let kernel = ready.kernels v p c.requires.block c.loop-p-test.true in
+    let kernel : IsKernel o m.element d plan.upto (from + 1 - e) ks ((v * plan.pieces + p) * n) =
+    subst (λ (zs : List g.row.F.Denot). IsKernel o m.element d plan.upto (from + 1 - e) zs ((v * plan.pieces + p) * n)) (sym c.deref.ensures.value) (ready.kernels v p c.requires.block c.loop-p-test.true) in
     let place = (v * plan.pieces + p) * c.size-size.result in
     let weights : IsWeights o m.element (length values) ws = subst (λ (k : ℕ). IsWeights o m.element k ws) (sym c.requires.values) c.requires.weights in
     let long_values : length (take (c.min-end.result - s) (drop s values)) ≡ e - s = length_part values s (c.min-end.result - s) (omega (arith, ended, within, some)) ∙ ap (λ k. k - s) ended in

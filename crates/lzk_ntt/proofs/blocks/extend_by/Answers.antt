@@ -11,7 +11,7 @@ pub loop-u-preserved : goal.loop-u-preserved
 loop-u-preserved g c =
     let m = g.F.Field in
     let o = m.ops in
-    let plan = c.args.plan in
+    let plan = c.args.kernels.now.plan in
     let values = c.args.values.now in
     let products = c.args.passed.now in
     let out = c.loop-u.out in
