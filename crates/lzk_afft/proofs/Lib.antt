@@ -1,0 +1,9 @@
+pub mod Binary
+pub mod Degrees
+pub mod Levels
+pub mod Rooms
+pub mod RowLaws
+pub mod Splits
+pub mod Subspaces
+pub mod TwiddleLaws
+pub mod Uniqueness

@@ -1,0 +1,10 @@
+use Rattle.std.proofs.Common.{◌≡◌, ℕ, ◌<◌, ◌≤◌}
+use Rattle.lzk_field.specs.Sums.{entry, minus}
+use Rattle.lzk_afft.proofs.butterflies.subtract_multiples.Given as goal
+
+abbrev pub invariant-loop-i : goal.invariant-loop-i
+invariant-loop-i g l =
+    let o = g.F.Field.ops in record {
+      done : (i : ℕ) → i < l.i → entry o l.low i ≡ minus o (entry o l.fn.low i) (o.times l.twiddle (entry o l.high i));
+      rest : (i : ℕ) → l.i ≤ i → entry o l.low i ≡ entry o l.fn.low i;
+    }

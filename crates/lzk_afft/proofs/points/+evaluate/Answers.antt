@@ -1,0 +1,66 @@
+use Rattle.std.proofs.Common.{rules, ◌≡◌, ℕ, ◌+◌, ◌-◌, ◌*◌, ◌/◌, ◌%◌, ◌<◌, ◌≤◌, ◌^◌, length, sym, ap, ◌∙◌, arith, subst}
+use Rattle.std.proofs.Math.Nat.{div-mul-le_self}
+use Rattle.std.proofs.lemmas.Nat.{one_shl}
+use Rattle.lzk_field.specs.Sums.{entry}
+use Rattle.lzk_field.proofs.EntryLaws.{entries_joined}
+use Rattle.lzk_afft.specs.Basis.{basis_sum}
+use Rattle.lzk_afft.specs.Blocks.{IsBlock}
+use Rattle.lzk_afft.proofs.Rooms.{block_within, node_room, block_at}
+use Rattle.lzk_afft.proofs.Splits.{basis_sum-ext}
+use Rattle.lzk_afft.proofs.points.+evaluate.Goals as goal
+
+pub evaluate_block-requires-clause-twiddles : goal.evaluate_block-requires-clause-twiddles
+evaluate_block-requires-clause-twiddles g t c κs within =
+    let size = length c.args.room.now in
+    let bits = c.args.bits in
+    let depth = c.args.depth in
+    let some : 0 < length c.args.out.now = search rules in
+    let block : c.args.from / size < 2 ^ (depth - bits) = block_within bits depth c.args.from size c.requires.order c.requires.whole (omega (arith, c.requires.reached)) in
+    let room = node_room bits depth (c.args.from / size) size c.requires.order c.requires.whole block in
+    let power : 1 * 2 ^ (depth - bits) % 18446744073709551616 ≡ 2 ^ (depth - bits) = one_shl (depth - bits) 64 (omega (arith, c.requires.few)) in
+    subst (λ (n : ℕ). (n + c.args.from / size + 1) * size ≤ 2 * length c.args.twiddles.now) (sym power) (omega (arith, room, c.requires.twiddles))
+
+pub returns-clause-values : goal.returns-clause-values
+returns-clause-values g t c =
+    let o = g.F.Field.ops in
+    let laws = g.F.Field.laws in
+    let element = g.F.Field.element in
+    let room = c.args.room.now in
+    let size = length room in
+    let bits = c.args.bits in
+    let depth = c.args.depth in
+    let from = c.args.from in
+    let index = from / size in
+    let some : 0 < length c.args.out.now = search rules in
+    let block : index < 2 ^ (depth - bits) = block_within bits depth from size c.requires.order c.requires.whole (omega (arith, c.requires.reached)) in
+    let power : 1 * 2 ^ (depth - bits) % 18446744073709551616 ≡ 2 ^ (depth - bits) = one_shl (depth - bits) 64 (omega (arith, c.requires.few)) in
+    let here : IsBlock o element bits (index * 2 ^ bits) (1 * 2 ^ (depth - bits) % 18446744073709551616 + index) c.args.twiddles.now =
+    subst (λ (n : ℕ). IsBlock o element bits (index * 2 ^ bits) (n + index) c.args.twiddles.now) (sym power) (block_at laws bits depth index c.args.twiddles.now c.requires.order c.requires.block block) in
+    let start : index * size ≤ from = div-mul-le_self from size in
+    let same : index * size ≡ index * 2 ^ bits = ap (λ n. index * n) c.requires.whole in
+    entries_joined o (λ k y. y ≡ basis_sum o element (entry o room) (2 ^ bits) (element (from + k))) c.evaluate_block.new.out c.evaluate.new.out
+    (λ k h. let place : index * 2 ^ bits + (from - index * size + k) ≡ from + k = omega (arith, start, same) in
+    c.evaluate_block.ensures.values (index * 2 ^ bits) here k h ∙ ap (λ n. basis_sum o element (entry o room) (2 ^ bits) (element n)) place)
+    (λ k h.
+    let count = length c.split_at_mut-first.result.0.now in
+    let place : from + length c.evaluate_block.new.out + k ≡ from + (length c.evaluate_block.new.out + k) = omega arith in
+    c.evaluate.ensures.values k h
+    ∙ basis_sum-ext o laws.ring element (entry o c.evaluate_block.new.room) (entry o room) (2 ^ bits) _ (λ j l. c.evaluate_block.ensures.same j (omega (arith, l, c.requires.whole, c.evaluate_block.auto.room)))
+    ∙ ap (λ n. basis_sum o element (entry o room) (2 ^ bits) (element n)) (omega (arith, c.evaluate_block.auto.out, c.split_at_mut-first.ensures.front_len)))
+
+pub returns-clause-same : goal.returns-clause-same
+returns-clause-same g t c =
+    let o = g.F.Field.ops in
+    let laws = g.F.Field.laws in
+    let element = g.F.Field.element in
+    let size = length c.args.room.now in
+    let bits = c.args.bits in
+    let depth = c.args.depth in
+    let from = c.args.from in
+    let index = from / size in
+    let some : 0 < length c.args.out.now = search rules in
+    let block : index < 2 ^ (depth - bits) = block_within bits depth from size c.requires.order c.requires.whole (omega (arith, c.requires.reached)) in
+    let power : 1 * 2 ^ (depth - bits) % 18446744073709551616 ≡ 2 ^ (depth - bits) = one_shl (depth - bits) 64 (omega (arith, c.requires.few)) in
+    let here : IsBlock o element bits (index * 2 ^ bits) (1 * 2 ^ (depth - bits) % 18446744073709551616 + index) c.args.twiddles.now =
+    subst (λ (n : ℕ). IsBlock o element bits (index * 2 ^ bits) (n + index) c.args.twiddles.now) (sym power) (block_at laws bits depth index c.args.twiddles.now c.requires.order c.requires.block block) in
+    λ k h. c.evaluate.ensures.same k h ∙ c.evaluate_block.ensures.same k (omega (arith, h, c.evaluate.auto.room))

@@ -1,0 +1,6 @@
+use Rattle.std.proofs.Common.{◌≡◌, ℕ, ◌<◌}
+use Rattle.lzk_field.specs.Sums.{entry}
+use Rattle.lzk_afft.proofs.twiddles.shifted.Given as goal
+
+abbrev pub invariant-loop-i : goal.invariant-loop-i
+invariant-loop-i g l = let o = g.F.Field.ops in (i : ℕ) → i < l.i → entry o l.high i ≡ o.plus l.by (entry o l.low i)
