@@ -49,11 +49,7 @@ fn count_path(path: &mut Path, digests: u8) {
 }
 
 // A proof of elements and digests that are all different, with so many digests.
-fn proof_of<F: Field>(
-    alloc: Global,
-    params: &Params,
-    digests: u8,
-) -> Result<Proof<F>, AllocError>
+fn proof_of<F: Field>(alloc: Global, params: &Params, digests: u8) -> Result<Proof<F>, AllocError>
     requires { AreParams F.ops params.now }
     ensures { IfOk result (λ proof. HasLengths params.now proof) }
 {

@@ -78,7 +78,12 @@ fn fill_path(path: &mut Path, byte: u8)
 }
 
 // The file of a proof of this element and this byte, with six digests.
-pub fn file_of<F: Field>(alloc: Global, params: &Params, x: F, byte: u8) -> Result<Vec<u8>, AllocError>
+pub fn file_of<F: Field>(
+    alloc: Global,
+    params: &Params,
+    x: F,
+    byte: u8,
+) -> Result<Vec<u8>, AllocError>
     requires { AreParams F.ops params.now }
 {
     let mut proof = Proof::<F>::new(alloc, params)?;
