@@ -9,7 +9,9 @@ ghost use Rattle.lzk_merkle.specs.Nodes.{AreOpened};
 ghost use Rattle.lzk_merkle.specs.Tree.{IsBuilt};
 ghost use Rattle.lzk_layout.specs.Sizes.{AreBounded};
 
-use crate::verdict_vectors::{Change, Damage, GF_DAMAGES, GF_FORGERIES, GOLD_DAMAGES, GOLD_FORGERIES, List, Told};
+use crate::verdict_vectors::{
+    Change, Damage, GF_DAMAGES, GF_FORGERIES, GOLD_DAMAGES, GOLD_FORGERIES, List, Told,
+};
 use lzk_accept::{Challenges, draw_challenges};
 use lzk_circbytes::id;
 use lzk_circuit::{Circuit, Layer, Terms};
@@ -83,14 +85,13 @@ fn tree_of<F: Field>(alloc: Global, params: &Params, change: &Change) -> Result<
     ensures built { IfOk result (λ t. IsBuilt t) }
 {
     let plain = leaf(&[0; 32], &zeros::<F>(alloc, params.nrow)?);
-    let changed = leaf(&[0; 32], &changed_column::<F>(alloc, params.nrow, change.0)?);
+    let changed = leaf(
+        &[0; 32],
+        &changed_column::<F>(alloc, params.nrow, change.0)?,
+    );
     let mut tree = Tree::new(alloc, params.mcol)?;
     for j in 0..params.mcol {
-        let digest = if j < change.1 {
-            plain
-        } else {
-            changed
-        };
+        let digest = if j < change.1 { plain } else { changed };
         tree.set_leaf(j, digest);
     }
     tree.build();
@@ -193,7 +194,12 @@ fn forged<F: Field>(
     let root = tree.root();
     let mut messages: Vec<F> = answer(alloc, message_count(circuit), List::Messages, change)?;
     let mut script = Script::new(alloc, circuit)?;
-    replay(circuit, &mut open_tape::<F>(&id, &root), &messages, &mut script);
+    replay(
+        circuit,
+        &mut open_tape::<F>(&id, &root),
+        &messages,
+        &mut script,
+    );
     add_factors(&mut messages, &script);
     let mut tape = open_tape::<F>(&id, &root);
     let mut tape = open_tape::<F>(&id, &root);
@@ -327,7 +333,13 @@ fn wrong_damage<F: Field>(
 #[test]
 fn damaged_proofs_have_their_verdicts(rt: HostRuntime) -> Result<(), Fail> {
     let alloc = rt.alloc();
-    assert_eq!(rt; wrong_damage::<Gold>(alloc, &GOLD_FORGERIES[0].0, &GOLD_DAMAGES)?, None);
-    assert_eq!(rt; wrong_damage::<Gf128>(alloc, &GF_FORGERIES[0].0, &GF_DAMAGES)?, None);
+    assert_eq!(rt;
+        wrong_damage::<Gold>(alloc, &GOLD_FORGERIES[0].0, &GOLD_DAMAGES)?,
+        None
+    );
+    assert_eq!(rt;
+        wrong_damage::<Gf128>(alloc, &GF_FORGERIES[0].0, &GF_DAMAGES)?,
+        None
+    );
     Ok(())
 }
