@@ -33,13 +33,7 @@ pub fn forward<F: Field>(values: &mut [F], twiddles: &[F], bits: u32, node: usiz
 /// coefficients: a truncated backward transform.
 ///
 /// With as many values as points it undoes `forward`.
-pub fn backward<F: Field>(
-    values: &mut [F],
-    twiddles: &[F],
-    bits: u32,
-    node: usize,
-    known: usize,
-)
+pub fn backward<F: Field>(values: &mut [F], twiddles: &[F], bits: u32, node: usize, known: usize)
     requires whole { length values.old ≡ 2 ^ bits }
     requires known { known ≤ length values.old }
     requires twiddles { (node + 1) * length values.old ≤ 2 * length twiddles.now }

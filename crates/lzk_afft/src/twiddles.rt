@@ -35,7 +35,13 @@ fn set_points<F: Field>(images: &mut [F])
 }
 
 // The twiddle factors of all blocks of at least 2^(from + 1) points.
-fn fill_levels<F: Field>(twiddles: &mut [F], images: &mut [F], scaled: &mut [F], depth: u32, from: u32)
+fn fill_levels<F: Field>(
+    twiddles: &mut [F],
+    images: &mut [F],
+    scaled: &mut [F],
+    depth: u32,
+    from: u32,
+)
     requires few { depth ≤ 16 }
     requires order { from ≤ depth }
     requires whole { length twiddles.old ≡ 2 ^ (depth - from) }
@@ -69,7 +75,7 @@ fn normalize<F: Field>(images: &[F], scaled: &mut [F], from: u32)
     let first = from as usize;
     let inverse = match images[first].inv() {
         Some(inverse) => inverse,
-        None => F::zero(),
+        None => unreachable!(),
     };
     for i in 0..images.len() - first - 1 {
         scaled[i] = images[first + 1 + i].mul(inverse);

@@ -4,7 +4,16 @@ use Rattle.lzk_field.specs.Sums.{entry}
 use Rattle.lzk_afft.specs.Basis.{normalized, vanishing}
 use Rattle.lzk_afft.proofs.Subspaces.{vanishing_nonzero}
 use Rattle.lzk_afft.proofs.twiddles.normalize.Goals as goal
-use Rattle.lzk_afft.proofs.twiddles.normalize.Goals.{in-Some, in-None}
+
+pub unreachable-requires : goal.unreachable-requires
+unreachable-requires g c =
+    let o = g.F.Field.ops in
+    let point = g.F.Field.element in
+    let from = c.args.from in
+    let images = c.args.images.now in
+    let here = c.index-images-first.result in
+    let is : here ≡ vanishing o point from (point (2 ^ from)) = c.index-images-first.is ∙ get_or_default images from here o.zero c.requires.order ∙ c.requires.are_images from c.requires.order in
+    vanishing_nonzero g.F.Field.laws from (omega (arith, c.requires.few, c.requires.order)) (sym is ∙ c.in-None.ensures)
 
 pub returns : goal.returns
 unfolding normalized
@@ -15,13 +24,9 @@ returns g c =
     let images = c.args.images.now in
     let here = c.index-images-first.result in
     let is : here ≡ vanishing o point from (point (2 ^ from)) = c.index-images-first.is ∙ get_or_default images from here o.zero c.requires.order ∙ c.requires.are_images from c.requires.order in
-    let inverse : c.match-inv.inverse ≡ o.inverse (vanishing o point from (point (2 ^ from))) =
-    elim c.match-inv.branch [
-      | in-Some w ↦ w.inverse-is ∙ w.in-Some.ensures.1 ∙ ap o.inverse is
-      | in-None w ↦ absurd (vanishing_nonzero g.F.Field.laws from (omega (arith, c.requires.few, c.requires.order)) (sym is ∙ w.in-None.ensures))
-    ] in
+    let inverse : c.in-Some.inverse ≡ o.inverse (vanishing o point from (point (2 ^ from))) = c.in-Some.ensures.1 ∙ ap o.inverse is in
     λ i h.
     let place : from + 1 + i ≡ i + (from + 1) = omega arith in
     c.loop-i.invariant i (omega arith)
-    ∙ ap (λ v. o.times v c.match-inv.inverse) (ap (entry o images) place ∙ c.requires.are_images (i + (from + 1)) (omega arith))
+    ∙ ap (λ v. o.times v c.in-Some.inverse) (ap (entry o images) place ∙ c.requires.are_images (i + (from + 1)) (omega arith))
     ∙ ap (o.times (vanishing o point from (point (2 ^ (i + (from + 1)))))) inverse
