@@ -1,4 +1,4 @@
--- A sum of n coefficients times basis polynomials is a polynomial with n coefficients.
+-- A polynomial with n coefficients in the novel polynomial basis has n coefficients of powers.
 use Rattle.std.specs.Prelude.{◌≡◌, ◌≢◌, ℕ, ◌<◌, ◌≤◌, ◌+◌, ◌*◌, ◌/◌, ◌%◌, ◌^◌, List, [], ◌∷◌, length, cond, Bool, true, false}
 use Rattle.std.proofs.Common.{zero, suc, refl, sym, ap, ◌∙◌, arith, eqb, subst}
 use Rattle.std.proofs.lemmas.Bool.{eqb-true, eq-eqb, false≢true}

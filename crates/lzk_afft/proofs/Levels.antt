@@ -23,7 +23,7 @@ halves (suc b) size e h =
     let half : size / 2 ≡ 2 ^ b = omega (arith, e, double b) in
     (omega arith, half ∙ ap (λ n. 2 ^ n) (sym less), omega (arith, e, double b, half))
 
--- a block's node is in the twiddles
+-- a block's node is a place in the list of twiddle factors
 pub node_within : (node size whole : ℕ) → 2 ≤ size → (node + 1) * size ≤ 2 * whole → node < whole
 node_within node size whole h e = omega (arith, mul-le-mul_left (node + 1) h)
 

@@ -33,7 +33,7 @@ module _ {A : Type 0} (o : Ops A) (r : RingLaws o) (point : ℕ → A) where
   }
 
 module _ {A : Type 0} {o : Ops A} {size : ℕ} {number_of : A → ℕ} {element : ℕ → A} {bytes : ℕ} (laws : Laws o size number_of element bytes) where
-  -- the whole of the points that a twiddles is for
+  -- the block of all points that twiddle factors are for
   pub whole_block : (depth : ℕ) (twiddles : List A) → depth ≤ 16 → IsBinary o element depth → AreTwiddles o element depth 0 1 twiddles → IsBlock o element depth 0 1 twiddles
   whole_block depth twiddles few binary are_twiddles = record {
     few = few;
@@ -53,7 +53,7 @@ module _ {A : Type 0} {o : Ops A} {size : ℕ} {number_of : A → ℕ} {element 
       (subst (λ (n : ℕ). IsBlock o element bits (0 + c * 2 ^ bits) n twiddles) node
       (sub_block o laws.ring element d bits 0 1 c twiddles (subst (λ (n : ℕ). IsBlock o element n 0 1 twiddles) place whole) h))
 
--- which block of the twiddles a place is in
+-- which block a point is in
 pub block_within : (bits depth from size : ℕ) → bits ≤ depth → size ≡ 2 ^ bits → from < 2 ^ depth → from / size < 2 ^ (depth - bits)
 block_within bits depth from size order e h =
     let place : depth ≡ depth - bits + bits = omega arith in
@@ -72,7 +72,7 @@ node_room bits depth block size order e h =
 pub least_power : (n bits : ℕ) → n ≤ 2 ^ bits → ((b : ℕ) → n ≤ 2 ^ b → bits ≤ b) → IsLeastPower n (2 ^ bits)
 least_power n bits enough least = record { bits = bits; power = refl; enough = enough; least = λ b h. pow_mono {i = bits} {j = b} (least b h) }
 
--- the first block, and its node as the code has it
+-- the first block, and its node as the code computes it
 pub first_room : (bits depth size : ℕ) → bits ≤ depth → depth ≤ 16 → size ≡ 2 ^ bits → (1 * 2 ^ (depth - bits) % 18446744073709551616 + 1) * size ≤ 2 * 2 ^ depth
 first_room bits depth size order few e =
     let power : 1 * 2 ^ (depth - bits) % 18446744073709551616 ≡ 2 ^ (depth - bits) = one_shl (depth - bits) 64 (omega arith) in

@@ -1,4 +1,4 @@
--- A sum in the basis of products, by the halves of its coefficients.
+-- A sum in the novel polynomial basis, by the halves of its coefficients.
 use Rattle.std.specs.Prelude.{◌≡◌, ℕ, ◌<◌, ◌≤◌, ◌+◌, ◌-◌, ◌*◌, ◌/◌, ◌%◌, ◌^◌, List, [], ◌∷◌, cond}
 use Rattle.std.proofs.Common.{zero, suc, refl, sym, ap, ◌∙◌, arith, eqb}
 use Rattle.std.proofs.Math.Nat.{mul-add-div_right, mul-add-mod_self_right, div-eq_of_lt}
@@ -102,7 +102,7 @@ module _ {A : Type 0} (o : Ops A) (r : RingLaws o) where
         zeros zero g e = refl
         zeros (suc a) g e = ap (λ w. plus w (g a)) (zeros a g (λ k l. e k (omega arith))) ∙ ap (plus o.zero) (e a (omega arith)) ∙ r.plus_zero o.zero
 
-    -- twice as many coefficients: the upper half times the normalized is added to the lower
+    -- twice as many coefficients: the upper half times the normalized subspace polynomial is added to the lower
     pub basis_sum-halves : (b : ℕ) (c : ℕ → A) (t : A) → basis_sum o point c (2 ^ suc b) t ≡ basis_sum o point (λ k. plus (c k) (times (normalized o point b t) (c (2 ^ b + k)))) (2 ^ b) t
     unfolding basis_sum
     basis_sum-halves b c t =

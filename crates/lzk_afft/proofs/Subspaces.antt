@@ -1,4 +1,4 @@
--- The products of the differences from the first points are additive, and so are their ratios.
+-- Subspace polynomials are additive, and so are the normalized ones.
 use Rattle.std.specs.Prelude.{◌≡◌, ◌≢◌, ℕ, ◌<◌, ◌≤◌, ◌+◌, ◌^◌, [], ◌∷◌}
 use Rattle.std.proofs.Common.{zero, suc, refl, sym, ap, ◌∙◌, arith}
 use Rattle.std.proofs.Math.Nat.{pow-suc}
@@ -20,7 +20,7 @@ double b = omega (arith, pow-suc 2 b)
 module _ {A : Type 0} (o : Ops A) (r : RingLaws o) where
   open o use {plus, times, neg}
 
-  -- a product with a twiddle zero
+  -- a product with a factor zero
   pub product_zero : (n : ℕ) (f : ℕ → A) (i : ℕ) → i < n → f i ≡ o.zero → product_below o n f ≡ o.zero
   product_zero zero f i h e = absurd (omega arith)
   product_zero (suc n) f i h e =
@@ -91,7 +91,7 @@ module _ {A : Type 0} {o : Ops A} {size : ℕ} {number_of : A → ℕ} {element 
   unfolding normalized
   normalized_one b h = laws.field.times_inverse _ (vanishing_nonzero b h)
 
-  -- in a block the normalized for its half is the same over the lower half, and one more over the upper
+  -- in a block the normalized polynomial of half its size is the same over the lower half, and one more over the upper
   pub normalized_low : (b at i : ℕ) → IsBinary o element b → IsAligned o element (suc b) at → i < 2 ^ b → normalized o element b (element (at + i)) ≡ normalized o element b (element at)
   normalized_low b at i binary aligned h =
       ap (normalized o element b) (aligned i (omega (arith, double b)))

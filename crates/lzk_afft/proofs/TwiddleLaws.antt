@@ -1,4 +1,4 @@
--- The factors of all blocks.
+-- The twiddle factors of all blocks.
 use Rattle.std.specs.Prelude.{◌≡◌, ℕ, ◌<◌, ◌≤◌, ◌+◌, ◌-◌, ◌*◌, ◌^◌, List, [], ◌∷◌, ◌++◌, length}
 use Rattle.std.proofs.Common.{zero, suc, refl, sym, ap, ◌∙◌, arith, subst}
 use Rattle.std.proofs.lemmas.Nat.{pow-add}
@@ -61,7 +61,7 @@ module _ {A : Type 0} (o : Ops A) (r : RingLaws o) (point : ℕ → A) where
         subst (λ (n : ℕ). AreTwiddles o point b (c * 2 ^ suc b + 2 ^ b) n twiddles) place_high (subst (λ (a : ℕ). AreTwiddles o point b a (2 ^ (depth - b) + (2 * c + 1)) twiddles) spot_high (levels_twiddles depth twiddles levels b (2 * c + 1) (omega arith) (omega (arith, twice)))),
       )
 
-  -- the next product at a point, from this one there and at the next point
+  -- the next subspace polynomial at a point, from this one there and at the next point
   pub vanishing-next : (b : ℕ) → point 0 ≡ o.zero → IsBinary o point (suc b) → (t : A) → vanishing o point (suc b) t ≡ o.times (vanishing o point b t) (o.plus (vanishing o point b t) (vanishing o point b (point (2 ^ b))))
   vanishing-next b first binary t =
       let p = point (2 ^ b) in
@@ -70,7 +70,7 @@ module _ {A : Type 0} (o : Ops A) (r : RingLaws o) (point : ℕ → A) where
       ∙ ap (λ v. o.times (vanishing o point b t) (vanishing o point b (o.plus t v))) (sym (neg_unique o r p p twice))
       ∙ ap (o.times (vanishing o point b t)) (vanishing-plus o r point b first (binary_lower o r point b binary) t p)
 
-  -- the normalized at every 2 ^ (b + 1)-th point adds up by bits
+  -- the normalized subspace polynomial at every 2 ^ (b + 1)-th point adds up by bits
   pub normalized-bits : (depth b i k : ℕ) → point 0 ≡ o.zero → IsBinary o point depth → b + 1 + i < depth → k < 2 ^ i → normalized o point b (point ((2 ^ i + k) * 2 ^ (b + 1))) ≡ o.plus (normalized o point b (point (2 ^ i * 2 ^ (b + 1)))) (normalized o point b (point (k * 2 ^ (b + 1))))
   normalized-bits depth b i k first binary h l =
       let whole : 2 ^ i * 2 ^ (b + 1) ≡ 2 ^ (i + (b + 1)) = sym (pow-add 2 i (b + 1)) in
@@ -85,7 +85,7 @@ module _ {A : Type 0} (o : Ops A) (r : RingLaws o) (point : ℕ → A) where
       below s n j p q e = let m : suc j ≤ n = omega arith in omega (arith, mul-le-mul_right s m, e)
 
 module _ {A : Type 0} (o : Ops A) (point : ℕ → A) where
-  -- a level's factors after those of the levels above
+  -- a level's twiddle factors after those of the levels above
   pub levels_joined : (depth from half : ℕ) (low row : List A) → from < depth → half ≡ 2 ^ (depth - from - 1) → length low ≡ half → AreLevelTwiddles o point (from + 1) depth low
       → ((c : ℕ) → c < half → entry o row c ≡ normalized o point from (point (c * 2 ^ (from + 1)))) → AreLevelTwiddles o point from depth (low ++ row)
   levels_joined depth from half low row order is_half front lows rows b c h l m =

@@ -1,4 +1,4 @@
-use Rattle.std.proofs.Common.{rules, ◌≡◌, ℕ, ◌^◌, ◌≤◌, List, length, take, sym, ◌∙◌, arith, subst}
+use Rattle.std.proofs.Common.{rules, ◌≡◌, ◌^◌, ◌≤◌, List, length, take, sym, ◌∙◌, arith, subst}
 use Rattle.lzk_gf128.specs.declared.element.Gf128.{Gf128}
 use Rattle.lzk_gf128.specs.Elements.{of_number, ops, laws}
 use Rattle.lzk_afft.specs.Basis.{AreCoefficients}
