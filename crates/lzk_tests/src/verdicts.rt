@@ -98,12 +98,21 @@ fn tree_of<F: Field>(alloc: Global, params: &Params, change: &Change) -> Result<
     Ok(tree)
 }
 
-fn open_tape<F: Field>(id: &[u8; 32], root: &[u8; 32]) -> Tape {
+// The public input alone.
+fn public_inputs<F: Field>(alloc: Global, input: F) -> Result<Vec<F>, AllocError>
+    ensures { IfOk result (λ list. length list.items ≡ 1) }
+{
+    let mut list = Vec::new(alloc);
+    list.push(input)?;
+    Ok(list)
+}
+
+fn open_tape<F: Field>(id: &[u8; 32], public: &[F], root: &[u8; 32]) -> Tape {
     let mut tape = Tape::new();
     tape.bytes(b"lzk1");
     tape.bytes(&SESSION);
     tape.bytes(id);
-    tape.array(&[F::point(PUBLIC)]);
+    tape.array(public);
     tape.bytes(root);
     tape
 }
@@ -192,17 +201,17 @@ fn forged<F: Field>(
     let id = id(alloc, circuit)?;
     let tree = tree_of::<F>(alloc, &params, change)?;
     let root = tree.root();
+    let public = public_inputs(alloc, F::point(PUBLIC))?;
     let mut messages: Vec<F> = answer(alloc, message_count(circuit), List::Messages, change)?;
     let mut script = Script::new(alloc, circuit)?;
     replay(
         circuit,
-        &mut open_tape::<F>(&id, &root),
+        &mut open_tape(&id, &public, &root),
         &messages,
         &mut script,
     );
     add_factors(&mut messages, &script);
-    let mut tape = open_tape::<F>(&id, &root);
-    let mut tape = open_tape::<F>(&id, &root);
+    let mut tape = open_tape(&id, &public, &root);
     replay(circuit, &mut tape, &messages, &mut script);
     let mut challenges: Challenges<F> = Challenges::new(alloc, &params)?;
     draw_challenges(&params, &mut tape, &mut challenges);
@@ -268,10 +277,11 @@ fn wrong_forgery<F: Field>(
     if circuit.publics() != 1 {
         return Ok(Some(0));
     }
+    let public = public_inputs(alloc, F::point(PUBLIC))?;
     let mut desk = Desk::new(alloc, &circuit)?;
     for i in 0..cases.len() {
         let bytes = forged(alloc, &circuit, &cases[i].0)?;
-        let verdict = desk.verify(&SESSION, &[F::point(PUBLIC)], &bytes);
+        let verdict = desk.verify(&SESSION, &public, &bytes);
         if told(verdict) != cases[i].1 {
             return Ok(Some(i));
         }
@@ -321,8 +331,9 @@ fn wrong_damage<F: Field>(
         let damage = &cases[i].0;
         let mut session = SESSION;
         session[0] ^= damage.4;
+        let public = public_inputs(alloc, F::of_word(u128::from(damage.5)))?;
         let bytes = damaged(alloc, &right, damage)?;
-        let verdict = desk.verify(&session, &[F::of_word(u128::from(damage.5))], &bytes);
+        let verdict = desk.verify(&session, &public, &bytes);
         if told(verdict) != cases[i].1 {
             return Ok(Some(i));
         }
