@@ -5,6 +5,7 @@ use Rattle.std.proofs.lemmas.Bool.{leb-true, and_parts}
 use Rattle.hex.specs.declared.error.FromHexError.{FromHexError}
 use Rattle.hex.specs.Hex.{decode_of}
 use Rattle.hex.proofs.HexLemmas.{decode_of-ok}
+use Rattle.lzk_cmd.specs.declared.table.Row.{Row}
 use Rattle.lzk_cmd.specs.declared.table.Verb.{Verb}
 use Rattle.lzk_cmd.specs.declared.table.Verb.TheVariants as verbs
 use Rattle.lzk_cmd.specs.Grammar.{Request, request_of, behind_verb, are_names, are_keys}
@@ -45,6 +46,7 @@ all_keys (word ∷ words) keys next good e = go (with_key keys word) refl e
 behind_keys : (verb : Verb) (words : List (List ℕ)) (request : Request) → behind_verb verb words ≡ Some request → HasSession request.keys
 behind_keys verb words request e = long _ e
   where
+    row : Row
     row = row_of verb
 
     fits : (keys : Keys) (b : Bool) → HasSession keys → ◌≡◌ {A = Option Request} (cond b (Some (record { verb = verb; names = take row.names words; keys = keys })) None) (Some request) → HasSession request.keys

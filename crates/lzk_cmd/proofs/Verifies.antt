@@ -1,6 +1,7 @@
 -- The exits of a verification on a number file and a proof.
 use Rattle.std.proofs.Common.{◌≡◌, ◌≤◌, ℕ, List, Result, Ok, Err, inl, refl, sym, subst, lit≤}
-use Rattle.std.specs.Prelude.{Vec}
+use Rattle.std.specs.Prelude.{Vec, IfOk}
+use Rattle.std.specs.declared.alloc.AllocError.{AllocError}
 use Rattle.std.specs.declared.alloc.Global.{Global}
 use Rattle.std.specs.Result.{IsErrAnd}
 use Rattle.lzk_circuit.specs.Valid.{Wiring}
@@ -9,6 +10,7 @@ use Rattle.lzk_field.specs.Ring.{Ops}
 use Rattle.lzk_outside.specs.Outside.{Files}
 use Rattle.lzk_verify.specs.declared.verdict.Verdict.{Verdict}
 use Rattle.lzk_verify.specs.declared.verdict.Verdict.TheVariants.{Accepted, Format, CircuitId, PathCount, Root, LowDegree, LinearSum, Linear, Quadratic}
+use Rattle.lzk_verify.specs.Verdict.{IsVerdict}
 use Rattle.lzk_cmd.specs.declared.ending.Ending.{Ending}
 use Rattle.lzk_cmd.specs.declared.ending.Halt.{Halt}
 use Rattle.lzk_cmd.specs.declared.ending.Halt.TheVariants as halts
@@ -17,7 +19,7 @@ use Rattle.lzk_cmd.specs.Ends.{End, Stop}
 use Rattle.lzk_cmd.specs.Formats.{At}
 use Rattle.lzk_cmd.specs.Seen.{Seen}
 use Rattle.lzk_cmd.specs.Verified.{Judged, VerifyOver, verdict_status, verdict_end}
-use Rattle.lzk_cmd.specs.Walks.{OnlyReads, GivesBytes, Gives, IsJudgement, Walks}
+use Rattle.lzk_cmd.specs.Walks.{OnlyReads, GivesBytes, Gives, IsEnding, IsJudgement, Walks}
 use Rattle.lzk_cmd.proofs.Causes.{IsQuiet}
 use Rattle.lzk_cmd.proofs.Evals.{items_of}
 use Rattle.lzk_cmd.proofs.Laws.{numbers_quiet}
@@ -37,6 +39,15 @@ at_most_one (Quadratic column) = lit≤ tt
 
 verdict_quiet : {A : Type 0} (number : A → ℕ) (verdict : Verdict A) → IsQuiet (verdict_end number verdict)
 verdict_quiet number verdict = record { put = refl; present = refl; cause = inl (at_most_one verdict) }
+
+-- the end of a desk's verdict
+pub judgement : {A : Type 0} (o : Ops A) (e : Coding A) (c d : Wiring A) (session : List ℕ) (publics : List A) (bytes : List ℕ) (verdict : Verdict A) (r : Result Ending AllocError) → d ≡ c → IsVerdict o e d session publics bytes verdict
+    → IfOk r (IsEnding (verdict_end e.number verdict)) → IfOk r (IsJudgement o e c session publics bytes)
+judgement o e c d session publics bytes verdict r same is h = go r h
+  where
+    go : (r : Result Ending AllocError) → IfOk r (IsEnding (verdict_end e.number verdict)) → IfOk r (IsJudgement o e c session publics bytes)
+    go (Ok ending) h = (verdict_end e.number verdict, (verdict, subst (λ (w : Wiring A). IsVerdict o e w session publics bytes verdict) same is, refl), h)
+    go (Err fault) h = tt
 
 -- the bytes of a proof's file are what they mean
 pub taken : (old new : Seen) (name : List ℕ) (r : Result (Vec ℕ Global) Halt) → GivesBytes old new name proof_limit r → Gives proof_files items_of old new name r

@@ -109,7 +109,7 @@ pub fn verify<R: Threads + Sync, S: Shelf, G: Gate>(
     session: Option<&[u8]>,
     shelf: &mut S,
 ) -> Result<Ending, Halt>
-    requires session { length (session_of (option_copied session.entry)) ≤ 64 }
+    requires session { length (session_of (option_copied session)) ≤ 64 }
     ensures walks { Walks (VerifyRun circuit.now public.now proof.now (option_copied session.entry)) 0 (seen S.Shelf shelf.old) (seen S.Shelf shelf.new) result }
     ensures reads { OnlyReads (seen S.Shelf shelf.old) (seen S.Shelf shelf.new) }
 {

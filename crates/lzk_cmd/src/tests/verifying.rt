@@ -33,37 +33,70 @@ fn shelf_with(alloc: Global, proof: &[u8], failing: Vec<u64>) -> Result<MemShelf
     Ok(shelf)
 }
 
+// The same with an element that is too large, if so, and then cut, or longer by a zero.
+fn damaged(
+    alloc: Global,
+    id: &[u8; 32],
+    digests: u8,
+    large: bool,
+    len: usize,
+) -> Result<Vec<u8>, AllocError> {
+    let mut file = zeros(alloc, id, digests)?;
+    if large && file.len() >= 108 {
+        for i in 100..108 {
+            file[i] = 0xff;
+        }
+    }
+    if len <= file.len() {
+        file.truncate(len);
+    } else {
+        file.push(0)?;
+    }
+    Ok(file)
+}
+
 #[test]
 fn proofs_are_rejected_by_their_verdict(rt: HostRuntime) -> Result<(), Fail> {
     let alloc = rt.alloc();
-    let mut element = zeros(alloc, &ID, 0)?;
-    for i in 100..108 {
-        if i < element.len() {
-            element[i] = 0xff;
-        }
-    }
-    let mut longer = zeros(alloc, &ID, 0)?;
-    longer.push(0)?;
-    for (proof, printed) in [
+    for (id, digests, large, len, printed) in [
+        (ID, 0, false, 0, "rejected: format at byte 0: Truncated\n"),
         (
-            Vec::new(alloc),
-            "rejected: format at byte 0: Truncated\n",
+            ID,
+            0,
+            true,
+            18_568,
+            "rejected: format at byte 100: Element\n",
         ),
-        (element, "rejected: format at byte 100: Element\n"),
-        (longer, "rejected: format at byte 18568: Trailing\n"),
         (
-            zeros(alloc, &[0; 32], 0)?,
+            ID,
+            0,
+            false,
+            18_569,
+            "rejected: format at byte 18568: Trailing\n",
+        ),
+        (
+            [0; 32],
+            0,
+            false,
+            18_568,
             "rejected: circuit id 0000000000000000000000000000000000000000000000000000000000000000\n",
         ),
         (
-            zeros(alloc, &ID, 0)?,
+            ID,
+            0,
+            false,
+            18_568,
             "rejected: path count 0, needed 244\n",
         ),
         (
-            zeros(alloc, &ID, 244)?,
+            ID,
+            244,
+            false,
+            26_376,
             "rejected: root 854494a4b67a124691d8ac64de62af31dae7eb3f1eb5f1078bb92c6542d79acb\n",
         ),
     ] {
+        let proof = damaged(alloc, &id, digests, large, len)?;
         let mut shelf = shelf_with(alloc, &proof, Vec::new(alloc))?;
         let (got, out) = ran(&rt, alloc, "verify c y w", &mut shelf)?;
         assert_eq!(rt; got, 1, "at {printed}");
