@@ -15,7 +15,7 @@ use Rattle.lzk_cmd.specs.Compiled.{CompileRun}
 use Rattle.lzk_cmd.specs.Complete.{HasNumbers, HasInputs, HasInputsOf, HasPublicsOf, IsReady, Completes}
 use Rattle.lzk_cmd.specs.Decoded.{circuit_files, number_files, source_files, proof_files}
 use Rattle.lzk_verify.specs.declared.verdict.Verdict.{Verdict}
-use Rattle.lzk_verify.specs.declared.verdict.Verdict.TheVariants.{Accepted, Format, CircuitId, PathCount, Root, LowDegree, LinearSum, Linear, Quadratic}
+use Rattle.lzk_verify.specs.declared.verdict.Verdict.TheVariants as verdicts
 use Rattle.lzk_cmd.specs.Ends.{End, Stop, Nowhere, AtRead, AtPut, MayStop, Leaves}
 use Rattle.lzk_cmd.specs.Formats.{Format, HasFile, Has, AtBytes, At}
 use Rattle.lzk_cmd.specs.Outcome.{Answers, Outcome}
@@ -65,15 +65,15 @@ eval_any_done (Gold c) public private files end has h = eval_over_done gold.ops 
 eval_any_done (Gf c) public private files end has h = eval_over_done gf.ops (2 ^ 128) (λ x. x.n) c public private files end has h
 
 judged_done : {A : Type 0} (number : A → ℕ) (verdict : Verdict A) → Done (verdict_end number verdict)
-judged_done number Accepted = inl refl
-judged_done number (Format fault) = inr refl
-judged_done number (CircuitId found) = inr refl
-judged_done number (PathCount found needed) = inr refl
-judged_done number (Root found) = inr refl
-judged_done number (LowDegree column) = inr refl
-judged_done number (LinearSum found wanted) = inr refl
-judged_done number (Linear column) = inr refl
-judged_done number (Quadratic column) = inr refl
+judged_done number verdicts.Accepted = inl refl
+judged_done number (verdicts.Format fault) = inr refl
+judged_done number (verdicts.CircuitId found) = inr refl
+judged_done number (verdicts.PathCount found needed) = inr refl
+judged_done number (verdicts.Root found) = inr refl
+judged_done number (verdicts.LowDegree column) = inr refl
+judged_done number (verdicts.LinearSum found wanted) = inr refl
+judged_done number (verdicts.Linear column) = inr refl
+judged_done number (verdicts.Quadratic column) = inr refl
 
 verify_over_done : {A : Type 0} (o : Ops A) (e : Coding A) (c : Wiring A) (public proof session bytes : List ℕ) (files : Files) (end : End) → HasNumbers files public e.size c.publics → Has proof_files files proof bytes
     → VerifyOver o e c public proof session files Nowhere end → Done end

@@ -37,11 +37,11 @@ one_key keys word next good e = go (behind (codes "seed=") word) (behind (codes 
 
 all_keys : (words : List (List ℕ)) (keys next : Keys) → HasSession keys → keys_after keys words ≡ Some next → HasSession next
 all_keys [] keys next good e = subst HasSession (some_is keys next e) good
-all_keys (word ∷ words) keys next good e = go (with_key keys word) refl e
+all_keys (word ∷ words) keys next good e = go (with_key keys word) refl (λ more. all_keys words more next) e
   where
-    go : (step : Option Keys) → with_key keys word ≡ step → or_else step (λ more. keys_after more words) None ≡ Some next → HasSession next
-    go (Some more) is e = all_keys words more next (one_key keys word more good is) e
-    go None is e = absurd cc
+    go : (step : Option Keys) → with_key keys word ≡ step → ((more : Keys) → HasSession more → keys_after more words ≡ Some next → HasSession next) → or_else step (λ more. keys_after more words) None ≡ Some next → HasSession next
+    go (Some more) is rest e = rest more (one_key keys word more good is) e
+    go None is rest e = absurd cc
 
 behind_keys : (verb : Verb) (words : List (List ℕ)) (request : Request) → behind_verb verb words ≡ Some request → HasSession request.keys
 behind_keys verb words request e = long _ e
@@ -86,8 +86,25 @@ few None good = lit≤ tt
 few (Some text) good = few_bytes text (decode_of text) refl good
 
 built_session : (verb : Verb) (names : List (List ℕ)) (keys : Keys) (circuit public proof : List ℕ) (session : Option (List ℕ)) → built verb names keys ≡ Some (Verify circuit public proof session) → keys.session ≡ session
-built_session verbs.Verify (c ∷ y ∷ w ∷ []) keys circuit public proof session e = cc
-built_session verb names keys circuit public proof session e = absurd cc
+built_session verbs.Eval [] keys circuit public proof session e = absurd cc
+built_session verbs.Eval (n ∷ []) keys circuit public proof session e = absurd cc
+built_session verbs.Eval (n ∷ m ∷ []) keys circuit public proof session e = absurd cc
+built_session verbs.Eval (n ∷ m ∷ k ∷ []) keys circuit public proof session e = absurd cc
+built_session verbs.Eval (n ∷ m ∷ k ∷ l ∷ rest) keys circuit public proof session e = absurd cc
+built_session verbs.Compile [] keys circuit public proof session e = absurd cc
+built_session verbs.Compile (n ∷ []) keys circuit public proof session e = absurd cc
+built_session verbs.Compile (n ∷ m ∷ []) keys circuit public proof session e = absurd cc
+built_session verbs.Compile (n ∷ m ∷ k ∷ rest) keys circuit public proof session e = absurd cc
+built_session verbs.Show [] keys circuit public proof session e = absurd cc
+built_session verbs.Show (n ∷ []) keys circuit public proof session e = absurd cc
+built_session verbs.Show (n ∷ m ∷ rest) keys circuit public proof session e = absurd cc
+built_session verbs.Verify [] keys circuit public proof session e = absurd cc
+built_session verbs.Verify (n ∷ []) keys circuit public proof session e = absurd cc
+built_session verbs.Verify (n ∷ m ∷ []) keys circuit public proof session e = absurd cc
+built_session verbs.Verify (n ∷ m ∷ k ∷ []) keys circuit public proof session e = cc
+built_session verbs.Verify (n ∷ m ∷ k ∷ l ∷ rest) keys circuit public proof session e = absurd cc
+built_session verbs.Prove names keys circuit public proof session e = absurd cc
+built_session verbs.Demo names keys circuit public proof session e = absurd cc
 
 pub session_fits : (words : List (List ℕ)) (circuit public proof : List ℕ) (session : Option (List ℕ)) → command_of words ≡ Some (Verify circuit public proof session) → length (session_of session) ≤ 64
 unfolding command_of

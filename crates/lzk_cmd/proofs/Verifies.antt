@@ -43,7 +43,7 @@ verdict_quiet number verdict = record { put = refl; present = refl; cause = inl 
 -- the end of a desk's verdict
 pub judgement : {A : Type 0} (o : Ops A) (e : Coding A) (c d : Wiring A) (session : List ℕ) (publics : List A) (bytes : List ℕ) (verdict : Verdict A) (r : Result Ending AllocError) → d ≡ c → IsVerdict o e d session publics bytes verdict
     → IfOk r (IsEnding (verdict_end e.number verdict)) → IfOk r (IsJudgement o e c session publics bytes)
-judgement o e c d session publics bytes verdict r same is h = go r h
+judgement {A = A} o e c d session publics bytes verdict r same is h = go r h
   where
     go : (r : Result Ending AllocError) → IfOk r (IsEnding (verdict_end e.number verdict)) → IfOk r (IsJudgement o e c session publics bytes)
     go (Ok ending) h = (verdict_end e.number verdict, (verdict, subst (λ (w : Wiring A). IsVerdict o e w session publics bytes verdict) same is, refl), h)
