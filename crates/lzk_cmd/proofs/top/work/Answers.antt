@@ -36,6 +36,6 @@ returns-in-Some-Verify-clause-works g c =
 pub returns-in-Some-Verify-clause-moves : goal.returns-in-Some-Verify-clause-moves
 returns-in-Some-Verify-clause-moves g c = only_moves (seen g.S.Shelf c.args.shelf.now) (seen g.S.Shelf c.verify.new.shelf) c.verify.ensures.reads
 
-pub verify-requires-after_bounds : goal.verify-requires-after_bounds
-verify-requires-after_bounds g c κs within =
+pub verify-requires-clause-session : goal.verify-requires-clause-session
+verify-requires-clause-session g c κs within =
     session_fits (texts c.args.words.now) c.in-Some-Verify.circuit.now c.in-Some-Verify.public.now c.in-Some-Verify.proof.now (option_copied c.in-Some-Verify.session) (rw c.in-Some-Verify.field-0-is at c.in-Some-Verify.ensures)
