@@ -4,4 +4,5 @@ pub mod CombinedRows
 pub mod JudgeLaws
 pub mod OneVerdict
 pub mod RoomLaws
+pub mod SomeVerdict
 pub mod Verdicts
