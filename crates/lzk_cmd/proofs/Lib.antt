@@ -12,6 +12,7 @@ pub mod Promises
 pub mod Ready
 pub mod Sessions
 pub mod Sights
+pub mod SomeVerdict
 pub mod Steps
 pub mod Terms
 pub mod Total

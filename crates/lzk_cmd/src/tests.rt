@@ -288,12 +288,12 @@ fn words_and_missing_files_are_refused(rt: HostRuntime) -> Result<(), Fail> {
         ("verify d y w", 3, "refused: d is missing\n"),
         ("verify c d w", 3, "refused: d is missing\n"),
         ("verify c y w", 3, "refused: w is missing\n"),
-        ("verify c y session=00", 3, "refused: session=00 is missing\n"),
         (
-            "verify c y x",
-            1,
-            "rejected: format at byte 0: Truncated\n",
+            "verify c y session=00",
+            3,
+            "refused: session=00 is missing\n",
         ),
+        ("verify c y x", 1, "rejected: format at byte 0: Truncated\n"),
     ] {
         let mut shelf = shelf_of(alloc, &SQUARE, "9", "3", Vec::new(alloc))?;
         let (got, out) = ran(&rt, alloc, words, &mut shelf)?;

@@ -66,7 +66,11 @@ fn tell_verdict<F: Field>(alloc: Global, verdict: &Verdict<F>) -> Result<String,
         Verdict::PathCount { found, needed } => tell_path_count(alloc, *found, *needed),
         Verdict::Root { found } => tell_digest(alloc, "root", found),
         Verdict::LowDegree { column } => tell_column(alloc, "low degree", *column),
-        Verdict::LinearSum { found, wanted } => tell_linear_sum(alloc, found.number(), wanted.number()),
+        Verdict::LinearSum { found, wanted } => tell_linear_sum(
+            alloc,
+            found.number(),
+            wanted.number(),
+        ),
         Verdict::Linear { column } => tell_column(alloc, "linear", *column),
         Verdict::Quadratic { column } => tell_column(alloc, "quadratic", *column),
     }

@@ -4,5 +4,4 @@ pub mod CombinedRows
 pub mod JudgeLaws
 pub mod OneVerdict
 pub mod RoomLaws
-pub mod SomeVerdict
 pub mod Verdicts

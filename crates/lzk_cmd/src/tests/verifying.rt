@@ -81,13 +81,7 @@ fn proofs_are_rejected_by_their_verdict(rt: HostRuntime) -> Result<(), Fail> {
             18_568,
             "rejected: circuit id 0000000000000000000000000000000000000000000000000000000000000000\n",
         ),
-        (
-            ID,
-            0,
-            false,
-            18_568,
-            "rejected: path count 0, needed 244\n",
-        ),
+        (ID, 0, false, 18_568, "rejected: path count 0, needed 244\n"),
         (
             ID,
             244,
