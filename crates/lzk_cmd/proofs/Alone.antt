@@ -8,20 +8,27 @@ use Rattle.lzk_circuit.specs.Wires.{wires_of, inputs_of, IsFirstNonzero}
 use Rattle.lzk_expr.specs.Trees.{SourceTree}
 use Rattle.lzk_level.specs.Compiled.{source_layers, source_limit}
 use Rattle.lzk_level.specs.declared.fault.LevelFault.{LevelFault}
-use Rattle.lzk_field.specs.Ring.{Ops}
+use Rattle.lzk_field.specs.Coding.{Coding}
+use Rattle.lzk_field.specs.Ring.{Ops, Laws}
 use Rattle.lzk_goldilocks.specs.Prime.{p}
 use Rattle.lzk_goldilocks.specs.Elements as gold
 use Rattle.lzk_gf128.specs.Elements as gf
+use Rattle.lzk_layout.specs.Fields.{shape}
+use Rattle.lzk_layout.specs.Sizes.{params_of}
+use Rattle.lzk_layout.proofs.Faults.{one_fault}
+use Rattle.lzk_layout.proofs.OneProof.{one_proof, no_fault}
 use Rattle.lzk_outside.specs.Outside.{Files}
+use Rattle.lzk_verify.proofs.OneVerdict.{one_verdict}
 use Rattle.lzk_cmd.specs.Compiled.{CompileRun, PutsCompiled, term_total}
-use Rattle.lzk_cmd.specs.Decoded.{circuit_files, number_files, source_files, level_refused}
+use Rattle.lzk_cmd.specs.Decoded.{circuit_files, number_files, source_files, proof_files, level_refused}
 use Rattle.lzk_cmd.specs.Ends.{End, Stop, stops_at, says, missing_file, refused_words}
 use Rattle.lzk_cmd.specs.Formats.{Format, AtBytes, At}
 use Rattle.lzk_cmd.specs.Lines.{larger_line, reading_line}
 use Rattle.lzk_cmd.specs.OneEnd.{PutAlike, AreOne, OneEnd}
 use Rattle.lzk_cmd.specs.Run.{Evaluated, EvalOver, EvalAny, EvalRun, ShowRun, CommandRun, verdict, output_lines}
-use Rattle.lzk_cmd.specs.Words.{Command, Eval, Compile, Show, command_of}
-use Rattle.lzk_cmd.proofs.Laws as laws
+use Rattle.lzk_cmd.specs.Verified.{Judged, VerifyOver, VerifyAny, VerifyRun, session_of, verdict_end, gold_coding, gf_coding}
+use Rattle.lzk_cmd.specs.Words.{Command, Eval, Compile, Show, Verify, command_of}
+use Rattle.lzk_cmd.proofs.Laws as formats
 use Rattle.lzk_cmd.proofs.Laws.{IsLawful}
 
 -- two walks over the same files to two ends: what follows from equal ends, and where both go on, follows
@@ -68,18 +75,39 @@ one_eval_over : {A : Type 0} (o : Ops A) (size : ℕ) (number : A → ℕ) (inje
     → EvalOver o size number c public private files stop a → EvalOver o size number c public private files stop b → a ≡ b
 unfolding EvalOver
 one_eval_over o size number injective c public private files stop a b =
-    one_step files stop a b (a ≡ b) (λ e. e) (number_files size number c.publics) (laws.numbers size number injective c.publics) 1 public _ _ (λ publics.
-    one_step files stop a b (a ≡ b) (λ e. e) (number_files size number c.privates) (laws.numbers size number injective c.privates) 2 private _ _ (λ privates.
+    one_step files stop a b (a ≡ b) (λ e. e) (number_files size number c.publics) (formats.numbers size number injective c.publics) 1 public _ _ (λ publics.
+    one_step files stop a b (a ≡ b) (λ e. e) (number_files size number c.privates) (formats.numbers size number injective c.privates) 2 private _ _ (λ privates.
     one_evaluation o number (wires_of o c.layers (inputs_of o publics privates)) a b))
 
 one_eval_any : (c : AnyCircuit) (public private : List ℕ) (files : Files) (stop : Stop) (a b : End) → EvalAny c public private files stop a → EvalAny c public private files stop b → a ≡ b
 one_eval_any (Gold c) public private files stop a b h k = one_eval_over gold.ops p gold.number gold.Gold-ext c public private files stop a b h k
 one_eval_any (Gf c) public private files stop a b h k = one_eval_over gf.ops (2 ^ 128) gf.number gf.Gf128-ext c public private files stop a b h k
 
+module _ {A : Type 0} (o : Ops A) (e : Coding A) (laws : Laws o e.size e.number e.element e.bytes) (c : Wiring A) where
+  one_judged : (session : List ℕ) (publics : List A) (bytes : List ℕ) (a b : End) → Judged o e c session publics bytes a → Judged o e c session publics bytes b → a ≡ b
+  one_judged session publics bytes a b h k =
+      let p = params_of c in
+      let verdicts = one_verdict o e c session publics (one_proof o e.size e.number e.element e.bytes laws p) (one_fault (shape e.bytes e.size) p) (no_fault o e.size e.number e.element e.bytes laws p) bytes h.0 k.0 h.1 k.1 in
+      h.2 ∙ ap (verdict_end e.number) verdicts ∙ sym k.2
+
+  one_verify_over : (public proof session : List ℕ) (files : Files) (stop : Stop) (a b : End) → VerifyOver o e c public proof session files stop a → VerifyOver o e c public proof session files stop b → a ≡ b
+  unfolding VerifyOver
+  one_verify_over public proof session files stop a b =
+      one_step files stop a b (a ≡ b) (λ e. e) (number_files e.size e.number c.publics) (formats.numbers e.size e.number numbers_apart c.publics) 1 public _ _ (λ publics.
+      one_step files stop a b (a ≡ b) (λ e. e) proof_files formats.proofs 2 proof _ _ (λ bytes.
+      one_judged session publics bytes a b))
+    where
+      numbers_apart : (x y : A) → e.number x ≡ e.number y → x ≡ y
+      numbers_apart x y same = sym (laws.numbers.element_number x) ∙ ap e.element same ∙ laws.numbers.element_number y
+
+one_verify_any : (c : AnyCircuit) (public proof session : List ℕ) (files : Files) (stop : Stop) (a b : End) → VerifyAny c public proof session files stop a → VerifyAny c public proof session files stop b → a ≡ b
+one_verify_any (Gold c) public proof session files stop a b h k = one_verify_over gold.ops gold_coding gold.laws c public proof session files stop a b h k
+one_verify_any (Gf c) public proof session files stop a b h k = one_verify_over gf.ops gf_coding gf.laws c public proof session files stop a b h k
+
 one_compile : (source circuit : List ℕ) (files : Files) (stop : Stop) (a b : End) → CompileRun source circuit files stop a → CompileRun source circuit files stop b
     → (a ≡ b) ⊎ PutAlike stop circuit a b
 unfolding CompileRun
-one_compile source circuit files stop a b = one_step files stop a b _ inl source_files laws.sources 0 source _ _ (λ s. go s (source_limit s))
+one_compile source circuit files stop a b = one_step files stop a b _ inl source_files formats.sources 0 source _ _ (λ s. go s (source_limit s))
   where
     alike : (s : SourceTree) → PutsCompiled s circuit stop a → PutsCompiled s circuit stop b → PutAlike stop circuit a b
     alike s (c, xs, is, file, fits, e) (d, ys, js, other, also, f) = record {
@@ -96,11 +124,13 @@ one_compile source circuit files stop a b = one_step files stop a b _ inl source
     go s (Some fault) h k = inl (h ∙ sym k)
 
 one_command : (command : Command) (files : Files) (stop : Stop) (a b : End) → CommandRun command files stop a → CommandRun command files stop b → AreOne (Some command) stop a b
-unfolding EvalRun ShowRun
+unfolding EvalRun ShowRun VerifyRun
 one_command (Eval circuit public private) files stop a b h k =
-    one_step files stop a b (a ≡ b) (λ e. e) circuit_files laws.circuits 0 circuit _ _ (λ c. one_eval_any c public private files stop a b) h k
+    one_step files stop a b (a ≡ b) (λ e. e) circuit_files formats.circuits 0 circuit _ _ (λ c. one_eval_any c public private files stop a b) h k
 one_command (Compile source circuit) files stop a b h k = one_compile source circuit files stop a b h k
-one_command (Show circuit) files stop a b h k = one_step files stop a b (a ≡ b) (λ e. e) circuit_files laws.circuits 0 circuit _ _ (λ c x y. x ∙ sym y) h k
+one_command (Show circuit) files stop a b h k = one_step files stop a b (a ≡ b) (λ e. e) circuit_files formats.circuits 0 circuit _ _ (λ c x y. x ∙ sym y) h k
+one_command (Verify circuit public proof session) files stop a b h k =
+    one_step files stop a b (a ≡ b) (λ e. e) circuit_files formats.circuits 0 circuit _ _ (λ c. one_verify_any c public proof (session_of session) files stop a b) h k
 
 pub one_end : OneEnd
 one_end words files stop a b = go (command_of words)

@@ -10,6 +10,7 @@ use Rattle.lzk_circuit.specs.Wires.{wires_of, inputs_of, IsFirstNonzero}
 use Rattle.lzk_expr.specs.Trees.{SourceTree}
 use Rattle.lzk_expr.specs.Sources.{TextReads}
 use Rattle.lzk_expr.specs.declared.source_fault.SourceFault.{SourceFault}
+use Rattle.lzk_field.specs.Coding.{Coding}
 use Rattle.lzk_field.specs.Ring.{Ops, Laws}
 use Rattle.lzk_goldilocks.specs.Prime.{p}
 use Rattle.lzk_goldilocks.specs.Elements as gold
@@ -17,14 +18,16 @@ use Rattle.lzk_gf128.specs.Elements as gf
 use Rattle.lzk_level.specs.Compiled.{source_limit}
 use Rattle.lzk_level.specs.declared.fault.LevelFault.{LevelFault}
 use Rattle.lzk_outside.specs.Outside.{Files}
+use Rattle.lzk_cmd.proofs.SomeVerdict.{some_verdict}
 use Rattle.lzk_cmd.specs.Compiled.{CompileRun, CompileTree, PutsCompiled, compiled_text}
-use Rattle.lzk_cmd.specs.Decoded.{circuit_files, number_files, source_files, level_refused, text_limit}
+use Rattle.lzk_cmd.specs.Decoded.{circuit_files, number_files, source_files, proof_files, level_refused, text_limit, proof_limit}
 use Rattle.lzk_cmd.specs.Ends.{End, Stop, AtFile, stops_at, says, missing_file, refused_words, puts}
 use Rattle.lzk_cmd.specs.Formats.{Format, HasFile, AtBytes, At}
 use Rattle.lzk_cmd.specs.Lines.{larger_line, reading_line}
 use Rattle.lzk_cmd.specs.Run.{Evaluated, EvalOver, EvalAny, EvalRun, ShowRun, CommandRun, verdict, output_lines, shown_any}
 use Rattle.lzk_cmd.specs.SomeEnd.{AreBytes, HasCircuit, CanCompile, CanRun, SomeEnd}
-use Rattle.lzk_cmd.specs.Words.{Command, Eval, Compile, Show, command_of}
+use Rattle.lzk_cmd.specs.Verified.{Judged, VerifyOver, VerifyAny, VerifyRun, session_of, verdict_end, gold_coding, gf_coding}
+use Rattle.lzk_cmd.specs.Words.{Command, Eval, Compile, Show, Verify, command_of}
 use Rattle.lzk_cmd.proofs.Total.{circuits_total, numbers_total}
 
 -- a walk at a file has an end, where it has one on what the bytes mean
@@ -89,6 +92,24 @@ some_eval : (c : AnyCircuit) (public private : List ℕ) (files : Files) (stop :
 some_eval (Gold c) public private files stop = some_over gold.ops gold.number gold.of_number p 8 gold.laws c public private files stop
 some_eval (Gf c) public private files stop = some_over gf.ops gf.number gf.of_number (2 ^ 128) 16 gf.laws c public private files stop
 
+-- a proof has a verdict, where its file is bytes
+module _ {A : Type 0} (o : Ops A) (e : Coding A) (laws : Laws o e.size e.number e.element e.bytes) (c : Wiring A) (public proof session : List ℕ) (files : Files) (stop : Stop) (good : AreBytes files) where
+  some_judged : (publics : List A) (bytes : List ℕ) → HasFile (files proof) proof_limit bytes → (end : End) × Judged o e c session publics bytes end
+  some_judged publics bytes has =
+      let found = some_verdict o e c laws session publics bytes (λ k less. good proof bytes has.there k) in (verdict_end e.number found.0, (found.0, found.1, refl))
+
+  some_proof : (publics : List A) → (end : End) × At proof_files files stop 2 proof end (λ bytes. Judged o e c session publics bytes end)
+  some_proof publics = some_file files stop 2 proof proof_limit (λ end bytes. AtBytes proof_files proof bytes end (λ bytes. Judged o e c session publics bytes end)) (λ bytes has.
+      let behind = some_judged publics bytes has in (behind.0, inl (bytes, refl, behind.1)))
+
+  some_verify_over : (end : End) × VerifyOver o e c public proof session files stop end
+  unfolding VerifyOver
+  some_verify_over = some_at files stop 1 public (number_files e.size e.number c.publics) (λ text has. numbers_total o e.size e.number e.element e.bytes laws 0 c.publics text) _ some_proof
+
+some_verify : (c : AnyCircuit) (public proof session : List ℕ) (files : Files) (stop : Stop) → AreBytes files → (end : End) × VerifyAny c public proof session files stop end
+some_verify (Gold c) public proof session files stop good = some_verify_over gold.ops gold_coding gold.laws c public proof session files stop good
+some_verify (Gf c) public proof session files stop good = some_verify_over gf.ops gf_coding gf.laws c public proof session files stop good
+
 module _ (files : Files) (stop : Stop) where
   circuits_there : AreBytes files → (name bytes : List ℕ) → HasFile (files name) circuit_files.limit bytes → ((c : AnyCircuit) × circuit_files.means bytes c) ⊎ ((fault : _) × circuit_files.breaks bytes fault)
   circuits_there good name bytes has = circuits_total bytes (good name bytes has.there)
@@ -110,10 +131,12 @@ module _ (files : Files) (stop : Stop) where
       go text (Err fault) is made = (source_files.refused source fault, inr (fault, is, refl))
 
   some_command : (command : Command) → AreBytes files → CanRun (Some command) files → (end : End) × CommandRun command files stop end
-  unfolding EvalRun ShowRun
+  unfolding EvalRun ShowRun VerifyRun
   some_command (Eval circuit public private) good can = some_at files stop 0 circuit circuit_files (circuits_there good circuit) _ (λ c. some_eval c public private files stop)
   some_command (Compile source circuit) good can = some_compile source circuit can
   some_command (Show circuit) good can = some_at files stop 0 circuit circuit_files (circuits_there good circuit) _ (λ c. (says 0 (shown_any c), refl))
+  some_command (Verify circuit public proof session) good can =
+      some_at files stop 0 circuit circuit_files (circuits_there good circuit) _ (λ c. some_verify c public proof (session_of session) files stop good)
 
 pub some_end : SomeEnd
 some_end words files stop good can = go (command_of words) can

@@ -14,7 +14,7 @@ use Rattle.lzk_expr.specs.Sources.{SourceText, IsSourceFault}
 use Rattle.lzk_expr.specs.Trees.{SourceTree}
 use Rattle.lzk_expr.proofs.TextLaws.{one_text}
 use Rattle.lzk_level.specs.declared.fault.LevelFault.{LevelFault}
-use Rattle.lzk_cmd.specs.Decoded.{circuit_files, number_files, source_files, level_refused}
+use Rattle.lzk_cmd.specs.Decoded.{circuit_files, number_files, source_files, proof_files, level_refused}
 use Rattle.lzk_cmd.specs.Ends.{says}
 use Rattle.lzk_cmd.specs.Formats.{Format}
 use Rattle.lzk_cmd.specs.Refusals.{Refusal, Bytes, Numbers, Source, Level, refusal_line, MayRefuse}
@@ -116,4 +116,14 @@ sources = record {
   not_both = no_source_fault;
   one_refusal = λ name text f g h k. ap (λ fault. source_files.refused name fault) (one_source_fault text f g h k);
   quiet = λ name fault. refusal_quiet (Source name fault.line fault.kind) tt;
+}
+
+-- ---- proofs
+
+pub proofs : IsLawful proof_files
+proofs = record {
+  one = λ bytes x y h k. h ∙ sym k;
+  not_both = λ bytes x fault h broken. broken;
+  one_refusal = λ name bytes f g h k. absurd h;
+  quiet = λ name fault. absurd fault;
 }

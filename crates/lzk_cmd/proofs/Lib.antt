@@ -10,8 +10,11 @@ pub mod Outputs
 pub mod Printing
 pub mod Promises
 pub mod Ready
+pub mod Sessions
 pub mod Sights
+pub mod SomeVerdict
 pub mod Steps
 pub mod Terms
 pub mod Total
+pub mod Verifies
 pub mod Works

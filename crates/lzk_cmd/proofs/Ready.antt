@@ -5,20 +5,24 @@ use Rattle.std.proofs.lemmas.Bool.{le-ltb}
 use Rattle.lzk_circbytes.specs.declared.any.AnyCircuit.{AnyCircuit}
 use Rattle.lzk_circbytes.specs.declared.any.AnyCircuit.TheVariants.{Gold, Gf}
 use Rattle.lzk_circuit.specs.Valid.{Wiring}
+use Rattle.lzk_field.specs.Coding.{Coding}
 use Rattle.lzk_field.specs.Ring.{Ops}
 use Rattle.lzk_goldilocks.specs.Prime.{p}
 use Rattle.lzk_goldilocks.specs.Elements as gold
 use Rattle.lzk_gf128.specs.Elements as gf
 use Rattle.lzk_outside.specs.Outside.{Files}
 use Rattle.lzk_cmd.specs.Compiled.{CompileRun}
-use Rattle.lzk_cmd.specs.Complete.{HasNumbers, HasInputs, HasInputsOf, IsReady, Completes}
-use Rattle.lzk_cmd.specs.Decoded.{circuit_files, number_files, source_files}
+use Rattle.lzk_cmd.specs.Complete.{HasNumbers, HasInputs, HasInputsOf, HasPublicsOf, IsReady, Completes}
+use Rattle.lzk_cmd.specs.Decoded.{circuit_files, number_files, source_files, proof_files}
+use Rattle.lzk_verify.specs.declared.verdict.Verdict.{Verdict}
+use Rattle.lzk_verify.specs.declared.verdict.Verdict.TheVariants as verdicts
 use Rattle.lzk_cmd.specs.Ends.{End, Stop, Nowhere, AtRead, AtPut, MayStop, Leaves}
 use Rattle.lzk_cmd.specs.Formats.{Format, HasFile, Has, AtBytes, At}
 use Rattle.lzk_cmd.specs.Outcome.{Answers, Outcome}
 use Rattle.lzk_cmd.specs.Run.{EvalOver, EvalAny, EvalRun, ShowRun, CommandRun, RunOf, verdict}
 use Rattle.lzk_cmd.specs.Sights.{Before, After}
-use Rattle.lzk_cmd.specs.Words.{Command, Eval, Compile, Show, command_of}
+use Rattle.lzk_cmd.specs.Verified.{VerifyOver, VerifyAny, VerifyRun, verdict_end, gold_coding, gf_coding}
+use Rattle.lzk_cmd.specs.Words.{Command, Eval, Compile, Show, Verify, command_of}
 use Rattle.lzk_cmd.proofs.Laws as laws
 use Rattle.lzk_cmd.proofs.Laws.{IsLawful, no_number_fault}
 
@@ -60,13 +64,39 @@ eval_any_done : (c : AnyCircuit) (public private : List ℕ) (files : Files) (en
 eval_any_done (Gold c) public private files end has h = eval_over_done gold.ops p (λ x. x.n) c public private files end has h
 eval_any_done (Gf c) public private files end has h = eval_over_done gf.ops (2 ^ 128) (λ x. x.n) c public private files end has h
 
+judged_done : {A : Type 0} (number : A → ℕ) (verdict : Verdict A) → Done (verdict_end number verdict)
+judged_done number verdicts.Accepted = inl refl
+judged_done number (verdicts.Format fault) = inr refl
+judged_done number (verdicts.CircuitId found) = inr refl
+judged_done number (verdicts.PathCount found needed) = inr refl
+judged_done number (verdicts.Root found) = inr refl
+judged_done number (verdicts.LowDegree column) = inr refl
+judged_done number (verdicts.LinearSum found wanted) = inr refl
+judged_done number (verdicts.Linear column) = inr refl
+judged_done number (verdicts.Quadratic column) = inr refl
+
+verify_over_done : {A : Type 0} (o : Ops A) (e : Coding A) (c : Wiring A) (public proof session bytes : List ℕ) (files : Files) (end : End) → HasNumbers files public e.size c.publics → Has proof_files files proof bytes
+    → VerifyOver o e c public proof session files Nowhere end → Done end
+unfolding VerifyOver
+verify_over_done o e c public proof session bytes files end has there h =
+    let first = numbers_ready e.size e.number files public c.publics 1 end _ has h in
+    let judged = ready proof_files laws.proofs files proof 2 end bytes _ there first.1 in
+    subst Done (sym judged.2) (judged_done e.number judged.0)
+
+verify_any_done : (c : AnyCircuit) (public proof session bytes : List ℕ) (files : Files) (end : End) → HasPublicsOf c files public → Has proof_files files proof bytes
+    → VerifyAny c public proof session files Nowhere end → Done end
+verify_any_done (Gold c) public proof session bytes files end has there h = verify_over_done gold.ops gold_coding c public proof session bytes files end has there h
+verify_any_done (Gf c) public proof session bytes files end has there h = verify_over_done gf.ops gf_coding c public proof session bytes files end has there h
+
 ready_done : (files : Files) (command : Command) (end : End) → IsReady files command → CommandRun command files Nowhere end → Done end
-unfolding EvalRun CompileRun ShowRun
+unfolding EvalRun CompileRun ShowRun VerifyRun
 ready_done files (Eval circuit public private) end has h = eval_any_done has.0 public private files end has.2 (ready circuit_files laws.circuits files circuit 0 end has.0 _ has.1 h)
 ready_done files (Compile source circuit) end has h =
     let made = rw has.1.1 at (ready source_files laws.sources files source 0 end has.0 _ has.1.0 h) in
     subst Done (sym made.5) (inl refl)
 ready_done files (Show circuit) end has h = subst Done (sym (ready circuit_files laws.circuits files circuit 0 end has.0 _ has.1 h)) (inl refl)
+ready_done files (Verify circuit public proof session) end has h =
+    verify_any_done has.0 public proof _ has.1 files end has.3 has.4 (ready circuit_files laws.circuits files circuit 0 end has.0 _ has.2 h)
 
 pub run_command : (words : List (List ℕ)) (files : Files) (command : Command) (end : End) → command_of words ≡ Some command → RunOf words files Nowhere end → CommandRun command files Nowhere end
 run_command words files command end e h = rw e at h

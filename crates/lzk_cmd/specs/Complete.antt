@@ -8,13 +8,13 @@ use Rattle.lzk_expr.specs.Trees.{SourceTree}
 use Rattle.lzk_goldilocks.specs.Prime.{p}
 use Rattle.lzk_level.specs.Compiled.{source_limit}
 use Rattle.lzk_outside.specs.Outside.{Files}
-use Rattle.lzk_cmd.specs.Decoded.{circuit_files, source_files, text_limit}
+use Rattle.lzk_cmd.specs.Decoded.{circuit_files, source_files, proof_files, text_limit}
 use Rattle.lzk_cmd.specs.Ends.{End, Nowhere, Leaves}
 use Rattle.lzk_cmd.specs.Formats.{HasFile, Has}
 use Rattle.lzk_cmd.specs.Run.{RunOf}
 use Rattle.lzk_cmd.specs.Seen.{ReadFailed, PutFailed, WriteFailed}
 use Rattle.lzk_cmd.specs.Sights.{Before, After}
-use Rattle.lzk_cmd.specs.Words.{Command, Eval, Compile, Show, command_of}
+use Rattle.lzk_cmd.specs.Words.{Command, Eval, Compile, Show, Verify, command_of}
 
 -- a file of so many numbers, each below size, is there, within its limit
 abbrev pub HasNumbers : Files → List ℕ → ℕ → ℕ → Type 0
@@ -27,6 +27,11 @@ abbrev pub HasInputsOf : AnyCircuit → Files → List ℕ → List ℕ → Type
 HasInputsOf (Gold c) files public private = HasInputs p files c public private
 HasInputsOf (Gf c) files public private = HasInputs (2 ^ 128) files c public private
 
+-- the circuit's public inputs are there
+abbrev pub HasPublicsOf : AnyCircuit → Files → List ℕ → Type 0
+HasPublicsOf (Gold c) files public = HasNumbers files public p c.publics
+HasPublicsOf (Gf c) files public = HasNumbers files public (2 ^ 128) c.publics
+
 -- the source's file is there, within its limit, and its circuit keeps the limits
 abbrev pub HasSource : Files → List ℕ → SourceTree → Type 0
 HasSource files name source = Has source_files files name source × (source_limit source ≡ None)
@@ -36,8 +41,9 @@ abbrev pub IsReady : Files → Command → Type 0
 IsReady files (Eval circuit public private) = (c : AnyCircuit) × Has circuit_files files circuit c × HasInputsOf c files public private
 IsReady files (Compile source circuit) = (s : SourceTree) × HasSource files source s
 IsReady files (Show circuit) = (c : AnyCircuit) × Has circuit_files files circuit c
+IsReady files (Verify circuit public proof session) = (c : AnyCircuit) × (bytes : List ℕ) × Has circuit_files files circuit c × HasPublicsOf c files public × Has proof_files files proof bytes
 
--- the run is done, or its inputs don't satisfy the circuit, its text is printed to the end, and its file is put
+-- the run is done, or its inputs don't satisfy the circuit or its proof is rejected, its text is printed to the end, and its file is put
 pub record Completed (before : Before) (after : After) (files : Files) (text : List ℕ) : Type 0 where
   pub end : End
   pub run : RunOf before.words files Nowhere end

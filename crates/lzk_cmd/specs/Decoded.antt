@@ -1,5 +1,5 @@
 -- The formats of the files that a run reads.
-use Rattle.std.specs.Prelude.{ℕ, List, map}
+use Rattle.std.specs.Prelude.{◌≡◌, ℕ, List, map}
 use Rattle.lzk_circbytes.specs.declared.any.AnyCircuit.{AnyCircuit}
 use Rattle.lzk_circbytes.specs.declared.fault.ByteKind.{ByteKind}
 use Rattle.lzk_circbytes.specs.Files.{CircuitBytes, CircuitFaultAt}
@@ -18,6 +18,9 @@ circuit_limit = 67108864
 
 abbrev pub text_limit : ℕ
 text_limit = 4194304
+
+abbrev pub proof_limit : ℕ
+proof_limit = 2097152
 
 -- circuit files, with the offset and the kind of a fault
 abbrev pub circuit_files : Format AnyCircuit (ℕ × ByteKind)
@@ -45,6 +48,10 @@ source_files = record {
   breaks = IsSourceFault;
   refused = λ name fault. says 3 (text_line name fault.line (source_kind_name fault.kind));
 }
+
+-- files of proofs, which are taken as they are: no contents are refused
+abbrev pub proof_files : Format (List ℕ) ⊥
+proof_files = record { limit = proof_limit; means = λ bytes file. file ≡ bytes; breaks = λ bytes fault. ⊥; refused = λ name fault. absurd fault }
 
 -- a source whose circuit passes a limit
 abbrev pub level_refused : List ℕ → LevelFault → End

@@ -19,6 +19,7 @@ pub mod Seen
 pub mod Sights
 pub mod SomeEnd
 pub mod Table
+pub mod Verified
 pub mod Views
 pub mod Walks
 pub mod Words
@@ -27,6 +28,8 @@ pub use Rattle.lzk_circbytes.specs as lzk_circbytes
 pub use Rattle.lzk_circuit.specs as lzk_circuit
 pub use Rattle.lzk_expr.specs as lzk_expr
 pub use Rattle.lzk_level.specs as lzk_level
+pub use Rattle.lzk_layout.specs as lzk_layout
+pub use Rattle.lzk_verify.specs as lzk_verify
 pub use Rattle.lzk_goldilocks.specs as lzk_goldilocks
 pub use Rattle.lzk_gf128.specs as lzk_gf128
 pub use Rattle.lzk_field.specs as lzk_field

@@ -8,6 +8,8 @@ use Rattle.lzk_expr.specs.declared.fault.NumberKind.{NumberKind}
 use Rattle.lzk_expr.specs.declared.fault.NumberKind.TheVariants as numbers
 use Rattle.lzk_expr.specs.declared.source_fault.SourceKind.{SourceKind}
 use Rattle.lzk_expr.specs.declared.source_fault.SourceKind.TheVariants as sources
+use Rattle.lzk_layout.specs.declared.fault.ProofKind.{ProofKind}
+use Rattle.lzk_layout.specs.declared.fault.ProofKind.TheVariants as proofs
 use Rattle.lzk_level.specs.declared.fault.LevelFault.{LevelFault}
 use Rattle.lzk_level.specs.declared.fault.LevelFault.TheVariants.{Layers, LayerWires, Terms}
 
@@ -99,3 +101,30 @@ counts_lines field digest publics privates layers =
 
 abbrev pub layer_line : ℕ → ℕ → ℕ → List ℕ
 layer_line l wires terms = codes "layer " ++ (decimal l ++ (codes ": wires " ++ (decimal wires ++ (codes " terms " ++ line (decimal terms)))))
+
+abbrev pub proof_kind_name : ProofKind → List ℕ
+proof_kind_name proofs.Truncated = codes "Truncated"
+proof_kind_name proofs.Magic = codes "Magic"
+proof_kind_name proofs.Element = codes "Element"
+proof_kind_name proofs.PathLimit = codes "PathLimit"
+proof_kind_name proofs.Trailing = codes "Trailing"
+
+abbrev pub accepted_line : List ℕ
+accepted_line = line (codes "accepted")
+
+abbrev pub format_line : ℕ → List ℕ → List ℕ
+format_line offset kind = codes "rejected: format at byte " ++ (decimal offset ++ (codes ": " ++ line kind))
+
+-- a digest of this name is not the one that is wanted
+abbrev pub digest_line : List ℕ → List ℕ → List ℕ
+digest_line name digest = codes "rejected: " ++ (name ++ (codes " " ++ line (encode_lower digest)))
+
+abbrev pub path_count_line : ℕ → ℕ → List ℕ
+path_count_line found needed = codes "rejected: path count " ++ (decimal found ++ (codes ", needed " ++ line (decimal needed)))
+
+abbrev pub linear_sum_line : ℕ → ℕ → List ℕ
+linear_sum_line found wanted = codes "rejected: linear sum " ++ (decimal found ++ (codes ", wanted " ++ line (decimal wanted)))
+
+-- a check of this name fails at a column
+abbrev pub column_line : List ℕ → ℕ → List ℕ
+column_line name column = codes "rejected: " ++ (name ++ (codes " at column " ++ line (decimal column)))

@@ -1,4 +1,5 @@
 -- A command in memory as its words.
+use Rattle.std.specs.Option.{option_copied}
 use Rattle.lzk_cmd.specs.declared.words.Command.{Command}
 use Rattle.lzk_cmd.specs.declared.words.Command.TheVariants as codes
 use Rattle.lzk_cmd.specs.Words as words
@@ -7,3 +8,4 @@ abbrev pub command_view : Command → words.Command
 command_view (codes.Eval circuit public private) = words.Eval circuit.now public.now private.now
 command_view (codes.Compile source circuit) = words.Compile source.now circuit.now
 command_view (codes.Show circuit) = words.Show circuit.now
+command_view (codes.Verify circuit public proof session) = words.Verify circuit.now public.now proof.now (option_copied session)

@@ -4,7 +4,9 @@ use Rattle.std.specs.Option.{IsSomeAnd}
 use Rattle.std.specs.declared.alloc.Global.{Global}
 use Rattle.lzk_circbytes.specs.declared.any.AnyCircuit.{AnyCircuit}
 use Rattle.lzk_circbytes.specs.Files.{CircuitBytes}
+use Rattle.lzk_circuit.specs.Valid.{Wiring}
 use Rattle.lzk_expr.specs.Trees.{SourceTree}
+use Rattle.lzk_field.specs.Coding.{Coding}
 use Rattle.lzk_field.specs.Ring.{Ops}
 use Rattle.lzk_level.specs.declared.fault.LevelFault.{LevelFault}
 use Rattle.lzk_level.specs.Compiled.{source_limit}
@@ -20,6 +22,7 @@ use Rattle.lzk_cmd.specs.Lines.{reading_line, larger_line}
 use Rattle.lzk_cmd.specs.Refusals.{IsRefusal}
 use Rattle.lzk_cmd.specs.Run.{RunOf, Evaluated}
 use Rattle.lzk_cmd.specs.Seen.{Seen, SeenSink, ReadFailed, PutFailed, Missed, WriteFailed}
+use Rattle.lzk_cmd.specs.Verified.{Judged}
 use Rattle.lzk_cmd.specs.Words.{PutsFile, command_of}
 
 -- the run's end, as the code has it
@@ -136,11 +139,15 @@ pub record Quiet (old new : SeenSink) : Type 0 where
   pub never : new.never ≡ old.never
   pub uncounted : IsTrue old.never → new.faults ≡ old.faults
 
--- ---- what the parts of `eval` and `compile` answer
+-- ---- what the parts of `eval`, `verify` and `compile` answer
 
 -- the end of an evaluation, as the code has it
 abbrev pub IsEvaluation : {A : Type 0} → Ops A → (A → ℕ) → List A → Ending → Type 0
 IsEvaluation o number outputs e = (end : Ended) × Evaluated o number outputs end × IsEnding end e
+
+-- the end of a verdict, as the code has it
+abbrev pub IsJudgement : {A : Type 0} → Ops A → Coding A → Wiring A → List ℕ → List A → List ℕ → Ending → Type 0
+IsJudgement o e c session publics bytes ending = (end : Ended) × Judged o e c session publics bytes end × IsEnding end ending
 
 -- the bytes are the file of a circuit of the source, and the text tells of it
 pub record IsCompiled (source : SourceTree) (circuit bytes text : List ℕ) : Type 0 where

@@ -3,24 +3,27 @@ use Rattle.std.specs.Prelude.{ℕ, List, [], ◌∷◌, Option, Some, None}
 use Rattle.lzk_cmd.specs.declared.table.Verb.{Verb}
 use Rattle.lzk_cmd.specs.declared.table.Verb.TheVariants as verbs
 use Rattle.lzk_cmd.specs.Grammar.{request_of}
-use Rattle.lzk_cmd.specs.Keys.{or_else}
+use Rattle.lzk_cmd.specs.Keys.{Keys, or_else}
 
 -- a command, with the names of its files
 pub data Command : Type 0 where
   Eval : List ℕ → List ℕ → List ℕ → Command
   Compile : List ℕ → List ℕ → Command
   Show : List ℕ → Command
+  -- and the digits of the session, if there is one
+  Verify : List ℕ → List ℕ → List ℕ → Option (List ℕ) → Command
 
--- Of the table's commands eval, compile and show are built. The words of the others are refused.
-abbrev pub built : Verb → List (List ℕ) → Option Command
-built verbs.Eval (circuit ∷ public ∷ private ∷ []) = Some (Eval circuit public private)
-built verbs.Compile (source ∷ circuit ∷ []) = Some (Compile source circuit)
-built verbs.Show (circuit ∷ []) = Some (Show circuit)
-built verb names = None
+-- Of the table's commands eval, compile, show and verify are built. The words of the others are refused.
+abbrev pub built : Verb → List (List ℕ) → Keys → Option Command
+built verbs.Eval (circuit ∷ public ∷ private ∷ []) keys = Some (Eval circuit public private)
+built verbs.Compile (source ∷ circuit ∷ []) keys = Some (Compile source circuit)
+built verbs.Show (circuit ∷ []) keys = Some (Show circuit)
+built verbs.Verify (circuit ∷ public ∷ proof ∷ []) keys = Some (Verify circuit public proof keys.session)
+built verb names keys = None
 
 -- the command of a list of words, if they are one
 unfoldable pub command_of : List (List ℕ) → Option Command
-command_of words = or_else (request_of words) (λ request. built request.verb request.names) None
+command_of words = or_else (request_of words) (λ request. built request.verb request.names request.keys) None
 
 -- the words are a command that puts a file
 abbrev pub PutsFile : Option Command → Type 0
@@ -28,3 +31,4 @@ PutsFile None = ⊥
 PutsFile (Some (Eval circuit public private)) = ⊥
 PutsFile (Some (Compile source circuit)) = Unit {0}
 PutsFile (Some (Show circuit)) = ⊥
+PutsFile (Some (Verify circuit public proof session)) = ⊥

@@ -16,6 +16,9 @@ pub const CIRCUIT_LIMIT: usize = 67_108_864;
 /// The largest number or source file that is read, in bytes.
 pub const TEXT_LIMIT: usize = 4_194_304;
 
+/// The largest proof that is read, in bytes.
+pub const PROOF_LIMIT: usize = 2_097_152;
+
 /// A whole file, or the end of the run.
 pub fn read_file<S: Shelf>(
     alloc: Global,

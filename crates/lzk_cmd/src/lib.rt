@@ -23,6 +23,8 @@ mod print;
 mod show;
 mod table;
 mod top;
+mod verdicts;
+mod verifying;
 mod words;
 
 pub use top::run;

@@ -3,6 +3,7 @@
 mod chained;
 mod circuits;
 mod compiling;
+mod verifying;
 mod words;
 
 use self::circuits::{GF_SQUARE, GF_THREE_LAYERS, ONE_WIRE, SQUARE, THREE_LAYERS};
@@ -271,7 +272,8 @@ fn words_and_missing_files_are_refused(rt: HostRuntime) -> Result<(), Fail> {
         ("eval c y", 2, "refused: words\n"),
         ("eval c y x workers=2", 2, "refused: words\n"),
         ("verify c y", 2, "refused: words\n"),
-        ("verify c y x", 2, "refused: words\n"),
+        ("verify c y x session=0", 2, "refused: words\n"),
+        ("prove c y x w", 2, "refused: words\n"),
         (
             "demo 1 seed=0000000000000000000000000000000000000000000000000000000000000000",
             2,
@@ -283,6 +285,15 @@ fn words_and_missing_files_are_refused(rt: HostRuntime) -> Result<(), Fail> {
         ("eval d y x", 3, "refused: d is missing\n"),
         ("eval c y session=00", 3, "refused: session=00 is missing\n"),
         ("show d", 3, "refused: d is missing\n"),
+        ("verify d y w", 3, "refused: d is missing\n"),
+        ("verify c d w", 3, "refused: d is missing\n"),
+        ("verify c y w", 3, "refused: w is missing\n"),
+        (
+            "verify c y session=00",
+            3,
+            "refused: session=00 is missing\n",
+        ),
+        ("verify c y x", 1, "rejected: format at byte 0: Truncated\n"),
     ] {
         let mut shelf = shelf_of(alloc, &SQUARE, "9", "3", Vec::new(alloc))?;
         let (got, out) = ran(&rt, alloc, words, &mut shelf)?;

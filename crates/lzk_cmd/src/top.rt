@@ -17,6 +17,7 @@ use crate::lines;
 use crate::means::Means;
 use crate::print::print_ending;
 use crate::show::show;
+use crate::verifying::verify;
 use crate::words::{Command, parse_words};
 use lzk_field::Gate;
 use lzk_outside::{Shelf, Sink};
@@ -57,10 +58,18 @@ fn work<R: Threads + Sync, S: Shelf, G: Gate>(
         ) => eval(means, circuit, public, private, shelf),
         Some(Command::Compile { source, circuit }) => compile_source(means, source, circuit, shelf),
         Some(Command::Show { circuit }) => show(means, circuit, shelf),
+        Some(
+            Command::Verify {
+                circuit,
+                public,
+                proof,
+                session,
+            },
+        ) => verify(means, circuit, public, proof, session, shelf),
     }
 }
 
-/// Does what the words say, and answers the status: 0 done, 1 unsatisfied, 2 the words are no command,
+/// Does what the words say, and answers the status: 0 done, 1 unsatisfied or rejected, 2 the words are no command,
 /// 3 a file is refused, 4 a read failed, 5 a put or a write failed, 6 want of memory. Nothing is printed
 /// after a failed write or at want of memory. The runtime and the gate reach every command; no clause
 /// depends on them.

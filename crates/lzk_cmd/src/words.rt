@@ -4,12 +4,15 @@ ghost use Rattle.std.specs.Prelude.{◌≡◌, MatchOption, map, string_bytes};
 ghost use Rattle.std.specs.Option.{option_map};
 ghost use Rattle.lzk_cmd.specs.declared.table.Verb.TheVariants as verbs;
 ghost use Rattle.lzk_cmd.specs.Words.{built, command_of};
+ghost use Rattle.lzk_cmd.specs.KeyViews.{keys_view};
+ghost use Rattle.lzk_cmd.specs.Keys as texts;
 ghost use Rattle.lzk_cmd.specs.Views.{command_view};
 
 use crate::grammar::request_of;
+use crate::keys::Keys;
 use crate::table::Verb;
 
-/// A command, with the names of its files.
+/// A command, with the names of its files, and the digits of its session if there is one.
 #[derive(Clone, Copy)]
 pub enum Command<'a> {
     Eval {
@@ -24,11 +27,17 @@ pub enum Command<'a> {
     Show {
         circuit: &'a str,
     },
+    Verify {
+        circuit: &'a str,
+        public: &'a str,
+        proof: &'a str,
+        session: Option<&'a [u8]>,
+    },
 }
 
 // The files of `eval`.
 fn eval_of(names: &[String]) -> Option<Command<'_>>
-    ensures { option_map command_view result ≡ built verbs.Eval (map (λ w. string_bytes w) names.now) }
+    ensures { (keys : texts.Keys) → option_map command_view result ≡ built verbs.Eval (map (λ w. string_bytes w) names.now) keys }
 {
     match names {
         [circuit, public, private] => Some(Command::Eval {
@@ -42,7 +51,7 @@ fn eval_of(names: &[String]) -> Option<Command<'_>>
 
 // The files of `compile`.
 fn compile_of(names: &[String]) -> Option<Command<'_>>
-    ensures { option_map command_view result ≡ built verbs.Compile (map (λ w. string_bytes w) names.now) }
+    ensures { (keys : texts.Keys) → option_map command_view result ≡ built verbs.Compile (map (λ w. string_bytes w) names.now) keys }
 {
     match names {
         [source, circuit] => Some(Command::Compile {
@@ -55,7 +64,7 @@ fn compile_of(names: &[String]) -> Option<Command<'_>>
 
 // The file of `show`.
 fn show_of(names: &[String]) -> Option<Command<'_>>
-    ensures { option_map command_view result ≡ built verbs.Show (map (λ w. string_bytes w) names.now) }
+    ensures { (keys : texts.Keys) → option_map command_view result ≡ built verbs.Show (map (λ w. string_bytes w) names.now) keys }
 {
     match names {
         [circuit] => Some(Command::Show {
@@ -65,16 +74,31 @@ fn show_of(names: &[String]) -> Option<Command<'_>>
     }
 }
 
+// The files of `verify`, and its session.
+fn verify_of<'a>(names: &'a [String], keys: &Keys<'a>) -> Option<Command<'a>>
+    ensures { option_map command_view result ≡ built verbs.Verify (map (λ w. string_bytes w) names.now) (keys_view keys.now) }
+{
+    match names {
+        [circuit, public, proof] => Some(Command::Verify {
+            circuit: circuit.as_str(),
+            public: public.as_str(),
+            proof: proof.as_str(),
+            session: keys.session,
+        }),
+        _ => None,
+    }
+}
+
 // The command, where it is built.
-fn built(verb: Verb, names: &[String]) -> Option<Command<'_>>
-    ensures { option_map command_view result ≡ built verb (map (λ w. string_bytes w) names.now) }
+fn built<'a>(verb: Verb, names: &'a [String], keys: &Keys<'a>) -> Option<Command<'a>>
+    ensures { option_map command_view result ≡ built verb (map (λ w. string_bytes w) names.now) (keys_view keys.now) }
 {
     match verb {
         Verb::Eval => eval_of(names),
         Verb::Compile => compile_of(names),
         Verb::Show => show_of(names),
         Verb::Prove => None,
-        Verb::Verify => None,
+        Verb::Verify => verify_of(names, keys),
         Verb::Demo => None,
     }
 }
@@ -85,5 +109,5 @@ pub fn parse_words(words: &[String]) -> Option<Command<'_>>
     ensures { MatchOption result (command_of (map (λ w. string_bytes w) words.now) ≡ None) (λ c. command_of (map (λ w. string_bytes w) words.now) ≡ Some (command_view c)) }
 {
     let request = request_of(words)?;
-    built(request.verb, request.names)
+    built(request.verb, request.names, &request.keys)
 }

@@ -1,6 +1,8 @@
+use Rattle.std.specs.Option.{option_copied}
 use Rattle.lzk_cmd.specs.Seen.{seen}
 use Rattle.lzk_cmd.specs.Sights.{texts}
-use Rattle.lzk_cmd.specs.Words.{Eval, Compile, Show}
+use Rattle.lzk_cmd.specs.Words.{Eval, Compile, Show, Verify}
+use Rattle.lzk_cmd.proofs.Sessions.{session_fits}
 use Rattle.lzk_cmd.proofs.Sights.{only_moves}
 use Rattle.lzk_cmd.proofs.Works.{refused, works}
 use Rattle.lzk_cmd.proofs.top.work.Goals as goal
@@ -25,3 +27,15 @@ returns-in-Some-Show-clause-works g c =
 
 pub returns-in-Some-Show-clause-moves : goal.returns-in-Some-Show-clause-moves
 returns-in-Some-Show-clause-moves g c = only_moves (seen g.S.Shelf c.args.shelf.now) (seen g.S.Shelf c.show.new.shelf) c.show.ensures.reads
+
+pub returns-in-Some-Verify-clause-works : goal.returns-in-Some-Verify-clause-works
+returns-in-Some-Verify-clause-works g c =
+    works (texts c.args.words.now) (Verify c.in-Some-Verify.circuit.now c.in-Some-Verify.public.now c.in-Some-Verify.proof.now (option_copied c.in-Some-Verify.session)) ⊥ (seen g.S.Shelf c.args.shelf.now) (seen g.S.Shelf c.verify.new.shelf) c.verify.result
+    (rw c.in-Some-Verify.field-0-is at c.in-Some-Verify.ensures) (λ b. b) c.verify.ensures.walks
+
+pub returns-in-Some-Verify-clause-moves : goal.returns-in-Some-Verify-clause-moves
+returns-in-Some-Verify-clause-moves g c = only_moves (seen g.S.Shelf c.args.shelf.now) (seen g.S.Shelf c.verify.new.shelf) c.verify.ensures.reads
+
+pub verify-requires-clause-session : goal.verify-requires-clause-session
+verify-requires-clause-session g c κs within =
+    session_fits (texts c.args.words.now) c.in-Some-Verify.circuit.now c.in-Some-Verify.public.now c.in-Some-Verify.proof.now (option_copied c.in-Some-Verify.session) (rw c.in-Some-Verify.field-0-is at c.in-Some-Verify.ensures)

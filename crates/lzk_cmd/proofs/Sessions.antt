@@ -1,0 +1,116 @@
+-- The session of a command has at most 64 bytes.
+use Rattle.std.proofs.Common.{◌≡◌, ℕ, ◌*◌, ◌≤◌, Bool, true, false, ◌&&◌, List, [], ◌∷◌, length, drop, Option, Some, None, Result, Ok, Err, refl, subst, arith, lit≤}
+use Rattle.std.specs.Prelude.{◌%◌, ◌==◌, nat_le, IfSome, is_none, cond, codes, take}
+use Rattle.std.proofs.lemmas.Bool.{leb-true, and_parts}
+use Rattle.hex.specs.declared.error.FromHexError.{FromHexError}
+use Rattle.hex.specs.Hex.{decode_of}
+use Rattle.hex.proofs.HexLemmas.{decode_of-ok}
+use Rattle.lzk_cmd.specs.declared.table.Row.{Row}
+use Rattle.lzk_cmd.specs.declared.table.Verb.{Verb}
+use Rattle.lzk_cmd.specs.declared.table.Verb.TheVariants as verbs
+use Rattle.lzk_cmd.specs.Grammar.{Request, request_of, behind_verb, are_names, are_keys}
+use Rattle.lzk_cmd.specs.Keys.{Keys, no_keys, behind, are_hex, is_seed, is_session, is_number, with_seed, with_session, with_workers, with_key, keys_after, keys_of, or_else}
+use Rattle.lzk_cmd.specs.Table.{verb_of, row_of}
+use Rattle.lzk_cmd.specs.Verified.{decoded_or_none, session_of}
+use Rattle.lzk_cmd.specs.Words.{Command, Verify, built, command_of}
+
+-- the session that stands, if one does, is one
+abbrev HasSession : Keys → Type 0
+HasSession keys = IfSome keys.session (λ text. is_session text ≡ true)
+
+some_is : {A : Type 0} (x y : A) → Some x ≡ Some y → x ≡ y
+some_is x y e = cc
+
+-- a key with a session
+kept : (keys next : Keys) (b : Bool) (more : Keys) → (b ≡ true → HasSession more) → cond b (Some more) None ≡ Some next → HasSession next
+kept keys next true more good e = subst HasSession (some_is more next e) (good refl)
+kept keys next false more good e = absurd cc
+
+one_key : (keys : Keys) (word : List ℕ) (next : Keys) → HasSession keys → with_key keys word ≡ Some next → HasSession next
+one_key keys word next good e = go (behind (codes "seed=") word) (behind (codes "session=") word) (behind (codes "workers=") word) e
+  where
+    go : (a b c : Option (List ℕ)) → or_else a (with_seed keys) (or_else b (with_session keys) (or_else c (with_workers keys) None)) ≡ Some next → HasSession next
+    go (Some text) b c e = kept keys next (is_none keys.seed && is_seed text) (record keys { seed = Some text }) (λ h. good) e
+    go None (Some text) c e = kept keys next (is_none keys.session && is_session text) (record keys { session = Some text }) (λ h. (and_parts (is_none keys.session) (is_session text) h).1) e
+    go None None (Some text) e = kept keys next (is_none keys.workers && is_number 64 text) (record keys { workers = Some text }) (λ h. good) e
+    go None None None e = absurd cc
+
+all_keys : (words : List (List ℕ)) (keys next : Keys) → HasSession keys → keys_after keys words ≡ Some next → HasSession next
+all_keys [] keys next good e = subst HasSession (some_is keys next e) good
+all_keys (word ∷ words) keys next good e = go (with_key keys word) refl (λ more. all_keys words more next) e
+  where
+    go : (step : Option Keys) → with_key keys word ≡ step → ((more : Keys) → HasSession more → keys_after more words ≡ Some next → HasSession next) → or_else step (λ more. keys_after more words) None ≡ Some next → HasSession next
+    go (Some more) is rest e = rest more (one_key keys word more good is) e
+    go None is rest e = absurd cc
+
+behind_keys : (verb : Verb) (words : List (List ℕ)) (request : Request) → behind_verb verb words ≡ Some request → HasSession request.keys
+behind_keys verb words request e = long _ e
+  where
+    row : Row
+    row = row_of verb
+
+    fits : (keys : Keys) (b : Bool) → HasSession keys → ◌≡◌ {A = Option Request} (cond b (Some (record { verb = verb; names = take row.names words; keys = keys })) None) (Some request) → HasSession request.keys
+    fits keys true good e = subst (λ (r : Request). HasSession r.keys) (some_is _ request e) good
+    fits keys false good e = absurd cc
+
+    found : (keys : Option Keys) → keys_of (drop row.names words) ≡ keys
+        → or_else keys (λ keys. cond (are_names row (take row.names words) && are_keys row keys) (Some (record { verb = verb; names = take row.names words; keys = keys })) None) None ≡ Some request → HasSession request.keys
+    found (Some keys) is e = fits keys (are_names row (take row.names words) && are_keys row keys) (all_keys (drop row.names words) no_keys keys tt is) e
+    found None is e = absurd cc
+
+    long : (b : Bool)
+        → cond b (or_else (keys_of (drop row.names words)) (λ keys. cond (are_names row (take row.names words) && are_keys row keys) (Some (record { verb = verb; names = take row.names words; keys = keys })) None) None) None ≡ Some request
+        → HasSession request.keys
+    long true e = found (keys_of (drop row.names words)) refl e
+    long false e = absurd cc
+
+request_keys : (words : List (List ℕ)) (request : Request) → request_of words ≡ Some request → HasSession request.keys
+request_keys [] request e = absurd cc
+request_keys (word ∷ words) request e = go (verb_of word) e
+  where
+    go : (verb : Option Verb) → or_else verb (λ verb. behind_verb verb words) None ≡ Some request → HasSession request.keys
+    go (Some verb) e = behind_keys verb words request e
+    go None e = absurd cc
+
+-- the bytes of a session's digits are half as many
+few_bytes : (text : List ℕ) (read : Result (List ℕ) FromHexError) → decode_of text ≡ read → is_session text ≡ true → length (decoded_or_none read) ≤ 64
+few_bytes text (Ok bytes) is good =
+    let fits = (and_parts (nat_le (length text) 128) (are_hex text) (and_parts (length text % 2 == 0) (nat_le (length text) 128 && are_hex text) good).1).0 in
+    let long : length text ≡ 2 * length bytes = (decode_of-ok text bytes is).2 in
+    let few : length text ≤ 128 = leb-true (length text) 128 fits in
+    omega (arith, long, few)
+few_bytes text (Err fault) is good = lit≤ tt
+
+few : (session : Option (List ℕ)) → IfSome session (λ text. is_session text ≡ true) → length (session_of session) ≤ 64
+few None good = lit≤ tt
+few (Some text) good = few_bytes text (decode_of text) refl good
+
+built_session : (verb : Verb) (names : List (List ℕ)) (keys : Keys) (circuit public proof : List ℕ) (session : Option (List ℕ)) → built verb names keys ≡ Some (Verify circuit public proof session) → keys.session ≡ session
+built_session verbs.Eval [] keys circuit public proof session e = absurd cc
+built_session verbs.Eval (n ∷ []) keys circuit public proof session e = absurd cc
+built_session verbs.Eval (n ∷ m ∷ []) keys circuit public proof session e = absurd cc
+built_session verbs.Eval (n ∷ m ∷ k ∷ []) keys circuit public proof session e = absurd cc
+built_session verbs.Eval (n ∷ m ∷ k ∷ l ∷ rest) keys circuit public proof session e = absurd cc
+built_session verbs.Compile [] keys circuit public proof session e = absurd cc
+built_session verbs.Compile (n ∷ []) keys circuit public proof session e = absurd cc
+built_session verbs.Compile (n ∷ m ∷ []) keys circuit public proof session e = absurd cc
+built_session verbs.Compile (n ∷ m ∷ k ∷ rest) keys circuit public proof session e = absurd cc
+built_session verbs.Show [] keys circuit public proof session e = absurd cc
+built_session verbs.Show (n ∷ []) keys circuit public proof session e = absurd cc
+built_session verbs.Show (n ∷ m ∷ rest) keys circuit public proof session e = absurd cc
+built_session verbs.Verify [] keys circuit public proof session e = absurd cc
+built_session verbs.Verify (n ∷ []) keys circuit public proof session e = absurd cc
+built_session verbs.Verify (n ∷ m ∷ []) keys circuit public proof session e = absurd cc
+built_session verbs.Verify (n ∷ m ∷ k ∷ []) keys circuit public proof session e = cc
+built_session verbs.Verify (n ∷ m ∷ k ∷ l ∷ rest) keys circuit public proof session e = absurd cc
+built_session verbs.Prove names keys circuit public proof session e = absurd cc
+built_session verbs.Demo names keys circuit public proof session e = absurd cc
+
+pub session_fits : (words : List (List ℕ)) (circuit public proof : List ℕ) (session : Option (List ℕ)) → command_of words ≡ Some (Verify circuit public proof session) → length (session_of session) ≤ 64
+unfolding command_of
+session_fits words circuit public proof session e = go (request_of words) refl e
+  where
+    go : (found : Option Request) → request_of words ≡ found → or_else found (λ request. built request.verb request.names request.keys) None ≡ Some (Verify circuit public proof session) → length (session_of session) ≤ 64
+    go (Some request) is e =
+        few session (subst (λ (s : Option (List ℕ)). IfSome s (λ text. is_session text ≡ true)) (built_session request.verb request.names request.keys circuit public proof session e) (request_keys words request is))
+    go None is e = absurd cc
