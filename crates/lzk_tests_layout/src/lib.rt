@@ -1,0 +1,16 @@
+//! Tests of `lzk_layout`, over both fields and through the bound.
+//!
+//! They stand above what they test, so that a generic crate lists no field and a field's change proves
+//! none of them again.
+#![tactic(auto)]
+
+#[cfg(test)]
+mod cursors;
+#[cfg(test)]
+mod parameters;
+#[cfg(test)]
+mod places;
+#[cfg(test)]
+mod proof_files;
+#[cfg(test)]
+mod proof_vectors;
