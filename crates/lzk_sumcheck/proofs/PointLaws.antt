@@ -43,7 +43,7 @@ module _ {A : Type 0} (o : Ops A) where
   part-at true (x ∷ xs) (suc j) = let e : 2 * suc j ≡ suc (2 * j + 1) = omega arith in part-at false xs j ∙ sym (ap (entry o (x ∷ xs)) e)
   part-at false (x ∷ xs) j = let e : 2 * j + 1 ≡ suc (2 * j) = omega arith in part-at true xs j ∙ sym (ap (entry o (x ∷ xs)) e)
 
-  part-length : (b : Bool) (xs : List A) (k : ℕ) → length xs ≡ 2 * k → length (every_other b xs) ≡ k
+  pub part-length : (b : Bool) (xs : List A) (k : ℕ) → length xs ≡ 2 * k → length (every_other b xs) ≡ k
   part-length b [] k e = omega arith
   part-length b (x ∷ []) k e = absurd (omega arith)
   part-length b (x ∷ y ∷ xs) zero e = absurd (omega arith)

@@ -1,8 +1,13 @@
 pub mod Coefficients
 pub mod Draws
 pub mod Layers
+pub mod Messages
 pub mod Opening
+pub mod Pairs
 pub mod Points
+pub mod Room
 pub mod Rounds
 pub mod Script
+pub mod Sending
 pub mod States
+pub mod Weights

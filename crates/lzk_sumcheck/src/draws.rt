@@ -31,7 +31,7 @@ pub fn write_pair<F: Field>(tape: &mut Tape, messages: &[F], i: usize)
 }
 
 // A round: its two elements from place i on are written, and its challenge is drawn.
-fn replay_round<F: Field>(tape: &mut Tape, messages: &[F], i: usize) -> F
+pub(crate) fn replay_round<F: Field>(tape: &mut Tape, messages: &[F], i: usize) -> F
     requires { i + 1 < length messages.now }
     ensures challenge { let e = coding F.element F.number_of F.BYTES F.size F.ID in result ≡ F.element (drawn (with_pair F.ops e messages.now i tape.old)) }
     ensures after { let e = coding F.element F.number_of F.BYTES F.size F.ID in tape.new ≡ after_draw (with_pair F.ops e messages.now i tape.old) }

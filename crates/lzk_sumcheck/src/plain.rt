@@ -47,7 +47,7 @@ fn variable_of<F: Field>(bits: usize, bound: &[F], t: F, z: u64, a: bool, j: usi
 }
 
 // How bit 0 of a number agrees with a variable.
-fn agreement<F: Field>(number: u32, x: F) -> F
+pub(crate) fn agreement<F: Field>(number: u32, x: F) -> F
     ensures { let o = F.ops in result ≡ agree o (low_bit o number) x }
 {
     if number % 2 == 0 { F::one().sub(x) } else { x }

@@ -9,6 +9,8 @@ mod combined;
 #[cfg(test)]
 mod combined_vectors;
 #[cfg(test)]
+mod messages;
+#[cfg(test)]
 mod residuals;
 #[cfg(test)]
 mod round_vectors;

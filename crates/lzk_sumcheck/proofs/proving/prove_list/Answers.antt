@@ -1,0 +1,233 @@
+use Rattle.std.proofs.Common.{◌≡◌, ◌+◌, ◌*◌, ◌^◌, ◌<◌, ◌≤◌, ◌++◌, length, refl, sym, ap, ◌∙◌, arith, subst}
+use Rattle.std.specs.Prelude.{slice_index_or}
+use Rattle.std.proofs.lemmas.List.{length-append, length-set}
+use Rattle.lzk_field.specs.Coding.{coding}
+use Rattle.lzk_field.specs.Sums.{entry}
+use Rattle.lzk_mle.specs.Multilinear.{eq}
+use Rattle.lzk_transcript.specs.Columns.{after_draws}
+use Rattle.lzk_circuit.specs.Wires.{AreDistinct}
+use Rattle.lzk_circuit.proofs.BitLaws.{bits_few, bits_enough}
+use Rattle.lzk_layout.specs.Places.{depth, width_at, bits_under, output_bits, sent_at}
+use Rattle.lzk_layout.proofs.SizeLaws.{narrow}
+use Rattle.lzk_sumcheck.specs.Draws.{draws}
+use Rattle.lzk_sumcheck.proofs.LayerLaws.{AreReplayed, replayed_whole}
+use Rattle.lzk_sumcheck.proofs.LayerShapes.{values_depth, values_width, terms_is, terms_distinct}
+use Rattle.lzk_sumcheck.proofs.ProvingLaws.{proved-none, proved-more, front-kept, part-stands, layer-has, times-less}
+use Rattle.lzk_sumcheck.proofs.proving.prove_list.Goals as goal
+
+pub set_table-requires-clause-few : goal.set_table-requires-clause-few
+set_table-requires-clause-few g c κs within =
+    let w = c.args.circuit.now in
+    omega (arith, c.draw_all.auto.out, c.requires.point, bits_few (width_at w 0) (narrow g.F.Field.ops w 0 c.depth-depth.ensures.valid))
+
+pub set_table-requires-2-clause-few : goal.set_table-requires-2-clause-few
+set_table-requires-2-clause-few g c κs within =
+    let w = c.args.circuit.now in
+    omega (arith, c.draw_all.auto.out, c.requires.point, bits_few (width_at w 0) (narrow g.F.Field.ops w 0 c.depth-depth.ensures.valid))
+
+pub loop-l-init : goal.loop-l-init
+loop-l-init g c =
+    let f = g.F.Field in
+    let o = f.ops in
+    let e = coding f.element f.number_of f.BYTES f.size f.ID in
+    let w = c.args.circuit.now in
+    let t = c.args.tape.now in
+    let out = c.draw_all.new.out in
+    let size = c.requires.point in
+    let len : length out ≡ output_bits w = omega (arith, c.draw_all.auto.out, size) in
+    let points : out ≡ draws e 0 (output_bits w) t = c.draw_all.ensures.drawn ∙ ap (λ n. draws e 0 n t) size in
+    record {
+      places = c.first-places.ensures.places;
+      within = λ h. c.first-places.ensures.within;
+      pairs = refl;
+      first = c.set_table.ensures.length;
+      second = c.set_table-2.ensures.length;
+      weights = refl;
+      messages = refl;
+      layers = refl;
+      proved = proved-none o e w c.args.values.now c.args.pads.now t c.args.layers.now c.draw_all.new.tape c.args.messages.now c.set_table.new.table c.set_table-2.new.table
+          (c.draw_all.ensures.after ∙ ap (λ n. after_draws n t) size)
+          (λ k h. c.set_table.ensures.entries k (omega (arith, h, ap (λ n. 2 ^ n) len, bits_enough (width_at w 0))) ∙ ap (eq o k) points)
+          (λ k h. c.set_table-2.ensures.entries k (omega (arith, h, ap (λ n. 2 ^ n) len, bits_enough (width_at w 0))) ∙ ap (eq o k) points);
+    }
+
+pub split_at_mut-wires-requires : goal.split_at_mut-wires-requires
+split_at_mut-wires-requires g c =
+    let w = c.args.circuit.now in
+    let l = c.loop-l.l in
+    let h : l < depth w = omega (arith, c.depth-depth.ensures.depth, c.loop-l-test.true, c.loop-l.auto.l-end) in
+    omega (arith, c.width.ensures, bits_enough (width_at w l), c.requires.room l (omega (arith, h)), c.loop-l.invariant.weights)
+
+pub layer-requires-in-loop-l-after_bounds : goal.layer-requires-in-loop-l-after_bounds
+layer-requires-in-loop-l-after_bounds g c κs within =
+    let w = c.args.circuit.now in
+    let h : c.loop-l.l < depth w = omega (arith, c.depth-depth.ensures.depth, c.loop-l-test.true, c.loop-l.auto.l-end) in
+    omega (arith, h, values_depth w c.args.values.now c.requires.values)
+
+pub offset_bounds-layers-l : goal.offset_bounds-layers-l
+offset_bounds-layers-l g c =
+    let inside : c.loop-l.l < length c.args.layers.now = omega (arith, c.depth-depth.ensures.depth, c.loop-l-test.true, c.loop-l.auto.l-end, c.requires.depth) in
+    record { fits = times-less c.loop-l.l (length c.args.layers.now) _ _ inside (omega arith) }
+
+pub prove_layer-requires-clause-bits : goal.prove_layer-requires-clause-bits
+prove_layer-requires-clause-bits g c κs within =
+    let f = g.F.Field in
+    let e = coding f.element f.number_of f.BYTES f.size f.ID in
+    let w = c.args.circuit.now in
+    let l = c.loop-l.l in
+    let inv = c.loop-l.invariant in
+    let h : l < depth w = omega (arith, c.depth-depth.ensures.depth, c.loop-l-test.true, c.loop-l.auto.l-end) in
+    let has = layer-has f.ops e c.loop-l.messages w (after_draws (output_bits w) c.args.tape.now) c.args.layers.now l c.loop-l.tape c.loop-l.layers inv.proved.replayed
+    (omega (arith, h, inv.layers, c.requires.depth)) (omega (arith, h, c.requires.depth)) c.requires.bits c.index-layers-l.result in
+    has.rb ∙ sym has.ra
+
+pub prove_layer-requires-clause-few : goal.prove_layer-requires-clause-few
+prove_layer-requires-clause-few g c κs within =
+    let f = g.F.Field in
+    let e = coding f.element f.number_of f.BYTES f.size f.ID in
+    let w = c.args.circuit.now in
+    let l = c.loop-l.l in
+    let inv = c.loop-l.invariant in
+    let h : l < depth w = omega (arith, c.depth-depth.ensures.depth, c.loop-l-test.true, c.loop-l.auto.l-end) in
+    let has = layer-has f.ops e c.loop-l.messages w (after_draws (output_bits w) c.args.tape.now) c.args.layers.now l c.loop-l.tape c.loop-l.layers inv.proved.replayed
+    (omega (arith, h, inv.layers, c.requires.depth)) (omega (arith, h, c.requires.depth)) c.requires.bits c.index-layers-l.result in
+    omega (arith, has.ra, bits_few (width_at w (l + 1)) (narrow f.ops w (l + 1) c.depth-depth.ensures.valid))
+
+pub prove_layer-requires-clause-terms : goal.prove_layer-requires-clause-terms
+prove_layer-requires-clause-terms g c κs within =
+    let o = g.F.Field.ops in
+    let w = c.args.circuit.now in
+    let l = c.loop-l.l in
+    let h : l < depth w = omega (arith, c.depth-depth.ensures.depth, c.loop-l-test.true, c.loop-l.auto.l-end) in
+    let wires = c.split_at_mut-wires.result.0.now in
+    let vs = c.layer-in-loop-l.result.now in
+    let below : length vs ≡ width_at w (l + 1) = ap length c.layer-in-loop-l.ensures ∙ values_width w c.args.values.now (l + 1) c.requires.values (omega (arith, h)) in
+    let here : length wires ≡ width_at w l = omega (arith, c.split_at_mut-wires.ensures.front_len, c.width.ensures) in
+    subst (λ ts. AreDistinct o (length wires) (length vs) ts) (sym c.as_slice.ensures)
+    (subst (λ n. AreDistinct o (length wires) n c.layer.result.now.terms) (sym below)
+    (subst (λ k. AreDistinct o k (width_at w (l + 1)) c.layer.result.now.terms) (sym here)
+    (terms_distinct w l c.layer.result.now c.layer.ensures o c.depth-depth.ensures.valid)))
+
+pub prove_layer-requires-clause-fits : goal.prove_layer-requires-clause-fits
+prove_layer-requires-clause-fits g c κs within =
+    let f = g.F.Field in
+    let e = coding f.element f.number_of f.BYTES f.size f.ID in
+    let w = c.args.circuit.now in
+    let l = c.loop-l.l in
+    let inv = c.loop-l.invariant in
+    let h : l < depth w = omega (arith, c.depth-depth.ensures.depth, c.loop-l-test.true, c.loop-l.auto.l-end) in
+    let has = layer-has f.ops e c.loop-l.messages w (after_draws (output_bits w) c.args.tape.now) c.args.layers.now l c.loop-l.tape c.loop-l.layers inv.proved.replayed
+    (omega (arith, h, inv.layers, c.requires.depth)) (omega (arith, h, c.requires.depth)) c.requires.bits c.index-layers-l.result in
+    let below : length c.layer-in-loop-l.result.now ≡ width_at w (l + 1) = ap length c.layer-in-loop-l.ensures ∙ values_width w c.args.values.now (l + 1) c.requires.values (omega (arith, h)) in
+    omega (arith, below, ap (λ n. 2 ^ n) has.ra, bits_enough (width_at w (l + 1)))
+
+pub prove_layer-requires-clause-first : goal.prove_layer-requires-clause-first
+prove_layer-requires-clause-first g c κs within =
+    let f = g.F.Field in
+    let e = coding f.element f.number_of f.BYTES f.size f.ID in
+    let w = c.args.circuit.now in
+    let l = c.loop-l.l in
+    let inv = c.loop-l.invariant in
+    let h : l < depth w = omega (arith, c.depth-depth.ensures.depth, c.loop-l-test.true, c.loop-l.auto.l-end) in
+    let has = layer-has f.ops e c.loop-l.messages w (after_draws (output_bits w) c.args.tape.now) c.args.layers.now l c.loop-l.tape c.loop-l.layers inv.proved.replayed
+    (omega (arith, h, inv.layers, c.requires.depth)) (omega (arith, h, c.requires.depth)) c.requires.bits c.index-layers-l.result in
+    omega (arith, ap (λ n. 2 ^ n) has.ra, c.requires.room (l + 1) (omega (arith, h)), inv.first, c.requires.first_room)
+
+pub prove_layer-requires-clause-second : goal.prove_layer-requires-clause-second
+prove_layer-requires-clause-second g c κs within =
+    let f = g.F.Field in
+    let e = coding f.element f.number_of f.BYTES f.size f.ID in
+    let w = c.args.circuit.now in
+    let l = c.loop-l.l in
+    let inv = c.loop-l.invariant in
+    let h : l < depth w = omega (arith, c.depth-depth.ensures.depth, c.loop-l-test.true, c.loop-l.auto.l-end) in
+    let has = layer-has f.ops e c.loop-l.messages w (after_draws (output_bits w) c.args.tape.now) c.args.layers.now l c.loop-l.tape c.loop-l.layers inv.proved.replayed
+    (omega (arith, h, inv.layers, c.requires.depth)) (omega (arith, h, c.requires.depth)) c.requires.bits c.index-layers-l.result in
+    omega (arith, ap (λ n. 2 ^ n) has.ra, c.requires.room (l + 1) (omega (arith, h)), inv.second, c.requires.second_room)
+
+pub prove_layer-requires-clause-pairs : goal.prove_layer-requires-clause-pairs
+prove_layer-requires-clause-pairs g c κs within =
+    let w = c.args.circuit.now in
+    let l = c.loop-l.l in
+    let h : l < depth w = omega (arith, c.depth-depth.ensures.depth, c.loop-l-test.true, c.loop-l.auto.l-end) in
+    omega (arith, ap length (c.as_slice.ensures ∙ terms_is w l c.layer.result.now c.layer.ensures), c.requires.pairs l h, c.loop-l.invariant.pairs)
+
+pub prove_layer-requires-clause-pads : goal.prove_layer-requires-clause-pads
+prove_layer-requires-clause-pads g c κs within =
+    let f = g.F.Field in
+    let e = coding f.element f.number_of f.BYTES f.size f.ID in
+    let w = c.args.circuit.now in
+    let l = c.loop-l.l in
+    let inv = c.loop-l.invariant in
+    let h : l < depth w = omega (arith, c.depth-depth.ensures.depth, c.loop-l-test.true, c.loop-l.auto.l-end) in
+    let has = layer-has f.ops e c.loop-l.messages w (after_draws (output_bits w) c.args.tape.now) c.args.layers.now l c.loop-l.tape c.loop-l.layers inv.proved.replayed
+    (omega (arith, h, inv.layers, c.requires.depth)) (omega (arith, h, c.requires.depth)) c.requires.bits c.index-layers-l.result in
+    omega (arith, c.part.ensures.length, ap (λ p. p.bits) inv.places, has.ra)
+
+pub prove_layer-requires-clause-room : goal.prove_layer-requires-clause-room
+prove_layer-requires-clause-room g c κs within =
+    let f = g.F.Field in
+    let e = coding f.element f.number_of f.BYTES f.size f.ID in
+    let w = c.args.circuit.now in
+    let l = c.loop-l.l in
+    let inv = c.loop-l.invariant in
+    let h : l < depth w = omega (arith, c.depth-depth.ensures.depth, c.loop-l-test.true, c.loop-l.auto.l-end) in
+    let has = layer-has f.ops e c.loop-l.messages w (after_draws (output_bits w) c.args.tape.now) c.args.layers.now l c.loop-l.tape c.loop-l.layers inv.proved.replayed
+    (omega (arith, h, inv.layers, c.requires.depth)) (omega (arith, h, c.requires.depth)) c.requires.bits c.index-layers-l.result in
+    omega (arith, c.split_at_mut-sent.ensures.front_len, ap (λ p. p.bits) inv.places, has.ra)
+
+pub loop-l-preserved : goal.loop-l-preserved
+loop-l-preserved g c =
+    let f = g.F.Field in
+    let o = f.ops in
+    let e = coding f.element f.number_of f.BYTES f.size f.ID in
+    let w = c.args.circuit.now in
+    let l = c.loop-l.l in
+    let inv = c.loop-l.invariant in
+    let h : l < depth w = omega (arith, c.depth-depth.ensures.depth, c.loop-l-test.true, c.loop-l.auto.l-end) in
+    let inside : l < length c.loop-l.layers = omega (arith, h, inv.layers, c.requires.depth) in
+    let has = layer-has f.ops e c.loop-l.messages w (after_draws (output_bits w) c.args.tape.now) c.args.layers.now l c.loop-l.tape c.loop-l.layers inv.proved.replayed
+    inside (omega (arith, h, c.requires.depth)) c.requires.bits c.index-layers-l.result in
+    let k = length (slice_index_or c.loop-l.layers l c.index-layers-l.result).ra in
+    let all = c.prove_layer.ensures in
+    let front = c.split_at_mut-later.result.0.now in
+    let sent = c.prove_layer.new.sent in
+    let rest = c.split_at_mut-sent.result.1.now in
+    let wires = c.split_at_mut-wires.result.0.now in
+    let begins : c.loop-l.places.messages ≡ sent_at w l = ap (λ p. p.messages) inv.places in
+    let few : c.loop-l.places.bits ≡ bits_under w l = ap (λ p. p.bits) inv.places in
+    let size : length front ≡ sent_at w l = omega (arith, c.split_at_mut-later.ensures.front_len, begins) in
+    let count : length sent ≡ 4 * k + 2 = omega (arith, all.sent_length, c.split_at_mut-sent.ensures.front_len, few, has.ra) in
+    let wide : length wires ≡ width_at w l = omega (arith, c.split_at_mut-wires.ensures.front_len, c.width.ensures) in
+    let enough : width_at w (l + 1) ≤ 2 ^ k = omega (arith, ap (λ n. 2 ^ n) has.ra, bits_enough (width_at w (l + 1))) in
+    record {
+      places = c.next-places.ensures.places;
+      within = c.next-places.ensures.within;
+      pairs = all.pairs_length ∙ inv.pairs;
+      first = all.first_length ∙ inv.first;
+      second = all.second_length ∙ inv.second;
+      weights = omega (arith, length-append c.prove_layer.new.weights c.split_at_mut-wires.result.1.now, all.weights_length, c.split_at_mut-wires.ensures.front_len, c.split_at_mut-wires.ensures.back_len, inv.weights);
+      messages = omega (arith, length-append front (sent ++ rest), length-append sent rest, all.sent_length, c.split_at_mut-sent.ensures.front_len, c.split_at_mut-sent.ensures.back_len, c.split_at_mut-later.ensures.front_len, c.split_at_mut-later.ensures.back_len, inv.messages);
+      layers = length-set c.loop-l.layers l c.prove_layer.new.layer ∙ inv.layers;
+      proved = proved-more o e w c.args.values.now c.args.pads.now c.args.tape.now c.args.layers.now l c.loop-l.tape c.prove_layer.new.tape c.loop-l.layers c.loop-l.messages (front ++ (sent ++ rest))
+          c.loop-l.first c.loop-l.second c.prove_layer.new.first c.prove_layer.new.second sent c.part.result.now k (length wires) c.as_slice.result.now c.layer-in-loop-l.result.now c.prove_layer.new.layer
+          inv.proved h inside
+          (front-kept o (sent_at w l) c.loop-l.messages front c.split_at_mut-later.result.1.now (sent ++ rest) c.split_at_mut-later.ensures.value size)
+          has.ra wide (c.as_slice.ensures ∙ terms_is w l c.layer.result.now c.layer.ensures) c.layer-in-loop-l.ensures
+          all.script all.after
+          (part-stands o (sent_at w l) (4 * k + 2) front sent rest size count)
+          (λ j q. c.part.ensures.entries j (omega (arith, q, few, has.ra)) ∙ ap (λ b. entry o c.args.pads.now (b + j)) begins)
+          all.rounds all.factor_a all.factor_b
+          (λ j q. all.first j (omega (arith, q, enough)))
+          (λ j q. all.second j (omega (arith, q, enough)));
+    }
+
+pub returns-clause-scripts : goal.returns-clause-scripts
+returns-clause-scripts g c =
+    let f = g.F.Field in
+    let e = coding f.element f.number_of f.BYTES f.size f.ID in
+    let w = c.args.circuit.now in
+    let start = after_draws (output_bits w) c.args.tape.now in
+    let all : c.loop-l.l ≡ depth w = omega (arith, c.depth-depth.ensures.depth, c.loop-l-test.false, c.loop-l.auto.l-end) in
+    let done = subst (λ l. AreReplayed f.ops e c.loop-l.messages w start c.args.layers.now l c.loop-l.tape c.loop-l.layers) all c.loop-l.invariant.proved.replayed in
+    replayed_whole f.ops e c.loop-l.messages w start c.args.layers.now c.loop-l.tape c.loop-l.layers done (omega (arith, c.requires.depth, c.loop-l.invariant.layers))

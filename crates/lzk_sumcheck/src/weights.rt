@@ -1,0 +1,40 @@
+//! Tables of how wires agree with a layer's points, and their weights.
+
+ghost use Rattle.std.specs.Prelude.{◌≡◌, ℕ, ◌^◌, ◌<◌, ◌≤◌, length};
+ghost use Rattle.lzk_field.specs.Sums.{entry};
+ghost use Rattle.lzk_mle.specs.Multilinear.{eq};
+ghost use Rattle.lzk_sumcheck.specs.Weights.{weighted};
+
+use lzk_field::Field;
+use lzk_mle::eq_table;
+
+/// How many numbers have so many bits.
+pub(crate) fn power_of(bits: usize) -> usize
+    requires { bits ≤ 17 }
+    ensures { result ≡ 2 ^ bits }
+{
+    1usize << bits
+}
+
+/// Sets the first entries of a table to how their numbers agree with a point.
+pub(crate) fn set_table<F: Field>(r: &[F], table: &mut [F])
+    requires few { length r.now ≤ 17 }
+    requires room { 2 ^ length r.now ≤ length table.old }
+    ensures length { length table.new ≡ length table.old }
+    ensures entries { let o = F.ops in (i : ℕ) → i < 2 ^ length r.now → entry o table.new i ≡ eq o i r.now }
+{
+    let size = power_of(r.len());
+    let (entries, _) = table.split_at_mut(size);
+    eq_table(r, entries);
+}
+
+/// Sets the weight of each wire of a layer, by the tables of its two points.
+pub(crate) fn set_weights<F: Field>(alpha: F, first: &[F], second: &[F], weights: &mut [F])
+    requires first { length weights.old ≤ length first.now }
+    requires second { length weights.old ≤ length second.now }
+    ensures { weights.new ≡ weighted F.ops alpha first.now second.now (length weights.old) }
+{
+    for g in 0..weights.len() {
+        weights[g] = first[g].add(alpha.mul(second[g]));
+    }
+}
