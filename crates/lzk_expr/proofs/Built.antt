@@ -21,13 +21,12 @@ use Rattle.lzk_expr.specs.Grammar as g
 use Rattle.lzk_expr.specs.Grammar.{Line, FieldLine, PublicLine, PrivateLine, LetLine, AssertLine, line_tokens, IsForm}
 use Rattle.lzk_expr.specs.Trees.{Expr, Number, PublicInput, PrivateInput, Named, Statement, DeclarePublic, DeclarePrivate, Define, Assertion, SourceTree, declared_from, name_of, meaning, or_zero, sum_means, is_public, is_private, is_assertion}
 use Rattle.lzk_expr.specs.Sources.{Before, nothing_yet, first_keyword, is_field, is_short, is_shallow, is_few, keeps_limits, are_new, is_new, line_names, line_numbers, is_below, field_size, after, form_read, keyword_read, LineReads, LineThen, LineAt, LinesRead, ended, ended_read, IsWellFormed}
-use Rattle.lzk_expr.specs.Printing.{Names}
 use Rattle.lzk_expr.specs.Readers.{input_statement}
 use Rattle.lzk_expr.proofs.Pieces.{pieces_onto, pieces_blank, pieces_sign}
 use Rattle.lzk_expr.proofs.Tables.{count_more}
 use Rattle.lzk_expr.proofs.Taken.{new_after, input_adds, none_of}
-use Rattle.lzk_expr.proofs.Lexed.{IsNameWord}
-use Rattle.lzk_expr.proofs.Canonical.{Good, forms, sum_good}
+pub use Rattle.lzk_expr.specs.Built.{IsNameWord, NewName, Good, Leaf, GoodExpr, Fits, BuiltFrom, IsBuilt}
+use Rattle.lzk_expr.proofs.Canonical.{sum_good}
 use Rattle.lzk_expr.proofs.Depths.{sum_depth, sum_fits, printed_depth}
 
 and_both : (a b : Bool) → a ≡ true → b ≡ true → (a && b) ≡ true
@@ -107,34 +106,6 @@ tokens_words : (bs : List ℕ) → TokensHave IsNameWord (tokens bs)
 tokens_words bs = mapped_have (pieces bs) (pieces_have bs)
 
 -- ---- statements that fit
-
-pub record NewName (ss : List Statement) (w : List ℕ) : Type 0 where
-  pub word : IsNameWord w
-  pub short : nat_le (length w) 32 ≡ true
-  pub new : name_of ss w ≡ None
-
--- a number below the field's size, or what a declared name stands for
-abbrev pub Leaf : FieldId → List Statement → Expr → Type 0
-Leaf f ss (Number n) = nat_lt n (field_size f) ≡ true
-Leaf f ss (PublicInput i) = (w : List ℕ) × (name_of ss w ≡ Some (PublicInput i))
-Leaf f ss (PrivateInput i) = (w : List ℕ) × (name_of ss w ≡ Some (PrivateInput i))
-Leaf f ss (Named i) = (w : List ℕ) × (name_of ss w ≡ Some (Named i))
-Leaf f ss _ = Unit {0}
-
-pub record GoodExpr (f : FieldId) (ss : List Statement) (e : Expr) : Type 0 where
-  pub leaves : Good (Leaf f ss) e
-  pub shallow : (names : Names) → sum_depth (forms names e).sum ≤ 64
-
-abbrev pub Fits : FieldId → List Statement → Statement → Type 0
-Fits f ss (DeclarePublic w) = NewName ss w × (count_by is_public ss + 1 ≤ 65535)
-Fits f ss (DeclarePrivate w) = NewName ss w × (count_by is_private ss + 1 ≤ 65536)
-Fits f ss (Define w e) = NewName ss w × GoodExpr f ss e
-Fits f ss (Assertion e d) = GoodExpr f ss e × GoodExpr f ss d × (count_by is_assertion ss < 131072)
-
--- each fits behind those before it
-abbrev pub BuiltFrom : FieldId → List Statement → List Statement → Type 0
-BuiltFrom f ss [] = Unit {0}
-BuiltFrom f ss (t ∷ ts) = Fits f ss t × BuiltFrom f (ss ++ (t ∷ [])) ts
 
 built_join : (f : FieldId) (ss xs ys : List Statement) → BuiltFrom f ss xs → BuiltFrom f (ss ++ xs) ys → BuiltFrom f ss (xs ++ ys)
 built_join f ss [] ys h k = subst (λ (l : List Statement). BuiltFrom f l ys) (append-nil ss) k
@@ -229,7 +200,7 @@ good_expr : (f : FieldId) (ss : List Statement) (s : g.Sum) → list_all (λ w. 
     → GoodExpr f ss (sum_means Number (meaning ss) s)
 good_expr f ss s h k d = record {
   leaves = sum_good (Leaf f ss) (meaning ss) (λ w. is_some (name_of ss w)) (λ n. nat_lt n (field_size f)) (λ n e. e) (name_leaf f ss) s h k;
-  shallow = λ names. omega (arith, printed_depth names ss s, d);
+  shallow = omega (arith, printed_depth ss s, d);
 }
 
 -- ---- what a line that was read keeps
@@ -374,11 +345,6 @@ grow_lines : (n : ℕ) (b : Before) (ls : List (List ℕ)) (end : Before) → Li
 unfolding LinesRead
 grow_lines n b [] end r h = subst (λ (c : Before). Grown c.field_is c.statements) (sym (ok_is {E = SourceFault} end b r)) h
 grow_lines n b (l ∷ ls) end r h = grow_at n b (content l) end (λ c. LinesRead (n + 1) c ls (Ok end)) h (λ c k. grow_lines (n + 1) c ls end k) (is_empty_line (content l)) r
-
--- a source that a text is, is built so, and has an assert
-pub record IsBuilt (s : SourceTree) : Type 0 where
-  pub built : BuiltFrom s.field_is [] s.statements
-  pub some : list_any is_assertion s.statements ≡ true
 
 built_end : (n : ℕ) (b : Before) (o : Option FieldId) (s : SourceTree) → ended n b o ≡ Ok s → Grown o b.statements → IsBuilt s
 built_end n b None s e h = absurd cc

@@ -11,6 +11,7 @@ use Rattle.lzk_expr.specs.Grammar as g
 use Rattle.lzk_expr.specs.Trees.{Expr, Number, PublicInput, PrivateInput, Named, Neg, Added, Multiplied, Parts, NoPart, part, Exprs, NoExpr, factor, add_part, add_factor, sum_means, sum_parts, product_means, product_factors, factor_means, atom_means}
 use Rattle.lzk_expr.specs.Printing.{Names, expr_text, parts_text, factors_text, in_parentheses, closed_sum, closed_product, closed_negative}
 use Rattle.lzk_expr.specs.Printing as printing
+pub use Rattle.lzk_expr.specs.Built.{sum_shape, product_shape, Good, GoodParts, GoodFactors}
 use Rattle.lzk_expr.proofs.Lexed.{sum_text, product_text, factor_text, atom_text, SumHas, ProductHas, FactorHas, AtomHas}
 
 -- an expression as a sum, a product, a factor and an atom
@@ -63,34 +64,6 @@ abbrev mutual
   product_onto names p (factor e es) = product_onto names (g.Times p (forms names e).factor) es
 
 -- ---- expressions that a text may stand for
-
--- two parts or more, of which the first is added
-abbrev pub sum_shape : Parts → Bool
-sum_shape (part false e (part n f ps)) = true
-sum_shape _ = false
-
-abbrev pub product_shape : Exprs → Bool
-product_shape (factor e (factor f es)) = true
-product_shape _ = false
-
--- what holds of each leaf, where sums and products have their shape
-abbrev mutual
-  pub Good : (Expr → Type 0) → Expr → Type 0
-  Good R (Number n) = R (Number n)
-  Good R (PublicInput i) = R (PublicInput i)
-  Good R (PrivateInput i) = R (PrivateInput i)
-  Good R (Named i) = R (Named i)
-  Good R (Neg e) = Good R e
-  Good R (Added ps) = (sum_shape ps ≡ true) × GoodParts R ps
-  Good R (Multiplied es) = (product_shape es ≡ true) × GoodFactors R es
-
-  pub GoodParts : (Expr → Type 0) → Parts → Type 0
-  GoodParts R NoPart = Unit {0}
-  GoodParts R (part m e ps) = Good R e × GoodParts R ps
-
-  pub GoodFactors : (Expr → Type 0) → Exprs → Type 0
-  GoodFactors R NoExpr = Unit {0}
-  GoodFactors R (factor e es) = Good R e × GoodFactors R es
 
 module _ (R S : Expr → Type 0) (more : (x : Expr) → R x → S x) where
   mutual

@@ -8,6 +8,7 @@ use Rattle.std.proofs.lemmas.Fmt.{decimal_is_IsNumeral_wide}
 use Rattle.std.proofs.lemmas.Bool.{and_parts, lt-ltb, ltb-false}
 use Rattle.std.proofs.lemmas.Bool.Decides.{nat_tests}
 use Rattle.std.proofs.lemmas.List.Folds.{list_all-append}
+use Rattle.lzk_expr.specs.Built.{IsNameWord}
 use Rattle.lzk_expr.specs.declared.tokens.Keyword.TheVariants as keys
 use Rattle.lzk_expr.specs.Texts.{begins, is_blank, is_marked, number_of, value_in, digit_of}
 use Rattle.lzk_expr.specs.Tokens.{Token, tokens, token_of, word_token, plain_token, number_token, Piece, Word, Sign, in_word, is_digit, is_sign, pieces, onto, keeps_characters}
@@ -63,12 +64,6 @@ abbrev mutual
 
 -- ---- words
 
--- a word of a name
-pub record IsNameWord (w : List ℕ) : Type 0 where
-  pub some : begins in_word w ≡ true
-  pub all : list_all in_word w ≡ true
-  pub token_is : word_token w ≡ token.Name w
-
 pieces_more : (b : ℕ) (w rest : List ℕ) → in_word b ≡ true → list_all in_word w ≡ true → begins in_word rest ≡ false → pieces (b ∷ (w ++ rest)) ≡ Word (b ∷ w) ∷ pieces rest
 pieces_more b [] rest h all e = pieces_onto b rest false h e
 pieces_more b (c ∷ w) rest h all e =
@@ -111,7 +106,7 @@ digit_is c h =
     let t = digit_test c r.0 r.1 in
     (t.0, t.1 ∙ sym r.2)
 
-digits_all : (w : List ℕ) → AllDigits 10 w → list_all is_digit w ≡ true
+pub digits_all : (w : List ℕ) → AllDigits 10 w → list_all is_digit w ≡ true
 digits_all [] h = refl
 digits_all (c ∷ w) h = and_both (is_digit c) (list_all is_digit w) (digit_is c h.0).0 (digits_all w h.1)
 
@@ -151,7 +146,7 @@ number_is w some h = rw (not_marked w (digits_all w h), not_empty w some) (digit
 digit_word : (c : ℕ) → is_digit c ≡ true → in_word c ≡ true
 digit_word c h = grind (arith, nat_tests)
 
-digits_word : (w : List ℕ) → list_all is_digit w ≡ true → list_all in_word w ≡ true
+pub digits_word : (w : List ℕ) → list_all is_digit w ≡ true → list_all in_word w ≡ true
 digits_word [] h = refl
 digits_word (c ∷ w) h = let p = and_parts (is_digit c) (list_all is_digit w) h in and_both (in_word c) (list_all in_word w) (digit_word c p.0) (digits_word w p.1)
 

@@ -1,5 +1,5 @@
 -- What is printed of a source reads as it.
-use Rattle.std.proofs.Common.{◌≡◌, ℕ, suc, ◌+◌, ◌-◌, ◌≤◌, ◌<◌, ◌^◌, Bool, true, false, cond, not, ◌&&◌, List, [], ◌∷◌, ◌++◌, length, take, Option, Some, None, is_some, Ok, Result, refl, sym, ◌∙◌, ap, ap₂, append_assoc, arith, bytes_eq, subst, lit≤}
+use Rattle.std.proofs.Common.{◌≡◌, ℕ, suc, ◌+◌, ◌-◌, ◌≤◌, ◌<◌, ◌^◌, Bool, true, false, cond, not, ◌&&◌, List, [], ◌∷◌, ◌++◌, length, take, Option, Some, None, is_some, Ok, Result, refl, sym, ◌∙◌, ap, ap₂, append_assoc, arith, bytes_eq, subst, lit≤, MatchResult}
 use Rattle.std.specs.Prelude.{nat_le, nat_lt, count_by, codes, slice_index_or}
 use Rattle.std.specs.List.{list_all, list_any, flat_map, onto_first, position_or_len}
 use Rattle.std.proofs.lemmas.Bool.{and_parts, lt-ltb}
@@ -11,6 +11,8 @@ use Rattle.lzk_expr.specs.declared.tokens.Keyword.{Keyword}
 use Rattle.lzk_expr.specs.declared.tokens.Keyword.TheVariants as keys
 use Rattle.lzk_expr.specs.declared.source_fault.SourceKind.{SourceKind}
 use Rattle.lzk_expr.specs.declared.source_fault.SourceFault.{SourceFault}
+use Rattle.lzk_expr.specs.declared.source_fault.SourceError.{SourceError}
+use Rattle.lzk_expr.specs.declared.source_fault.SourceError.TheVariants as errors
 use Rattle.lzk_expr.specs.declared.ast.FieldId.{FieldId}
 use Rattle.lzk_expr.specs.declared.ast.FieldId.TheVariants as fields
 use Rattle.lzk_expr.specs.declared.printing.Place.TheVariants as place
@@ -20,14 +22,17 @@ use Rattle.lzk_expr.specs.Tokens as token
 use Rattle.lzk_expr.specs.Grammar as g
 use Rattle.lzk_expr.specs.Grammar.{Line, FieldLine, PublicLine, PrivateLine, LetLine, AssertLine, line_tokens, IsForm, field_name}
 use Rattle.lzk_expr.specs.Trees.{Expr, Number, PublicInput, PrivateInput, Named, Neg, Added, Multiplied, Statement, DeclarePublic, DeclarePrivate, Define, Assertion, SourceTree, declared_from, name_of, meaning, or_zero, sum_means, is_public, is_private, is_assertion}
-use Rattle.lzk_expr.specs.Sources.{Before, nothing_yet, first_keyword, is_short, is_shallow, is_few, keeps_limits, is_new, line_names, line_numbers, field_size, after, line_read, LineAt, LinesRead, ended, SourceText, IsWellFormed}
+use Rattle.lzk_expr.specs.Sources.{Before, nothing_yet, first_keyword, is_short, is_shallow, is_few, keeps_limits, is_new, line_names, line_numbers, field_size, after, line_read, LineAt, LinesRead, ended, SourceText, IsFirstSourceFault, IsWellFormed}
 use Rattle.lzk_expr.specs.Printing.{Names, names_of, public_names, private_names, let_names, expr_text, statement_text, statement_line, source_text}
+use Rattle.lzk_expr.specs.View.{Held, tree_of}
+use Rattle.lzk_expr.specs.Built.{IsNameWord, Good, Leaf, GoodExpr, Fits, BuiltFrom, IsBuilt}
 use Rattle.lzk_expr.proofs.Tables.{same_bytes}
 use Rattle.lzk_expr.proofs.Taken.{line_read_at, form_at, form_good}
-use Rattle.lzk_expr.proofs.Lexed.{sum_text, SumHas, ProductHas, FactorHas, AtomHas, IsNameWord, IsPrinted, is_printed, name_lexed, sum_lexed, sum_characters, is_character, word_characters, joined_characters, lex_equals, lex_public, lex_private, lex_let, lex_assert}
-use Rattle.lzk_expr.proofs.Canonical.{Good, good_map, forms, expr_printed, sum_has, atom_has, same_sum, atom_is}
-use Rattle.lzk_expr.proofs.Depths.{sum_depth, sum_shallow}
-use Rattle.lzk_expr.proofs.Built.{Leaf, GoodExpr, Fits, BuiltFrom, is_built}
+use Rattle.lzk_expr.proofs.TextLaws.{only_source}
+use Rattle.lzk_expr.proofs.Lexed.{sum_text, SumHas, ProductHas, FactorHas, AtomHas, IsPrinted, is_printed, name_lexed, sum_lexed, sum_characters, is_character, word_characters, joined_characters, lex_equals, lex_public, lex_private, lex_let, lex_assert}
+use Rattle.lzk_expr.proofs.Canonical.{good_map, forms, expr_printed, sum_has, atom_has, same_sum, atom_is}
+use Rattle.lzk_expr.proofs.Depths.{sum_depth, sum_shallow, form_shallow}
+use Rattle.lzk_expr.proofs.Built.{is_built}
 
 and_both : (a b : Bool) → a ≡ true → b ≡ true → (a && b) ≡ true
 and_both true b e f = f
@@ -300,7 +305,7 @@ printed f ss later e ok h =
       below = sum_numbers_pass (Usable ss) Q known fits is_short (λ w u. u.known) (λ n u. u) (λ w u. u.short) (λ n. refl) refl refl refl refl refl (forms names e).sum uses;
       short = sum_tokens_pass (Usable ss) Q known fits is_short (λ w u. u.known) (λ n u. u) (λ w u. u.short) (λ n. refl) refl refl refl refl refl (forms names e).sum uses;
       means = same_sum names (meaning ss) e ∙ atom_is names (meaning ss) R (λ i r. ap or_zero r.means) (λ i r. ap or_zero r.means) (λ i r. ap or_zero r.means) e good;
-      depth = h.shallow names;
+      depth = form_shallow names e h.shallow;
     }
 
 -- ---- a statement's line
@@ -490,11 +495,10 @@ field_line fields.Gf2_128 = record { line = FieldLine fields.Gf2_128; characters
 ended_some : (n : ℕ) (f : FieldId) (ss : List Statement) → list_any is_assertion ss ≡ true → ended n (at f ss) (Some f) ≡ Ok (record { field_is = f; statements = ss })
 ended_some n f ss h = rw h refl
 
--- the text of a source reads as it
-pub printed_reads : (s : SourceTree) → IsWellFormed s → SourceText (source_text s) s
+-- the text of a source that is built reads as it
+pub built_reads : (s : SourceTree) → IsBuilt s → SourceText (source_text s) s
 unfolding source_text
-printed_reads s h =
-    let b = is_built s h in
+built_reads s b =
     let names = names_of s.statements in
     let behind = flat_map (statement_line names) s.statements in
     let first = field_line s.field_is in
@@ -506,3 +510,11 @@ printed_reads s h =
           (line_then 1 nothing_yet (at s.field_is []) (codes "field " ++ field_name s.field_is) (lines behind) (Ok (at s.field_is s.statements)) first (reread s.field_is s.statements [] s.statements 2 refl tt b.built));
       read_is = ended_some (length (lines (codes "field " ++ (field_name s.field_is ++ (10 ∷ behind))))) s.field_is s.statements b.some;
     }
+
+-- the text of a source reads as it
+pub printed_reads : (s : SourceTree) → IsWellFormed s → SourceText (source_text s) s
+printed_reads s h = built_reads s (is_built s h)
+
+-- so a text that is a built source's is no other's
+pub only_built : (text : List ℕ) (r : Result Held SourceError) → MatchResult r (λ s. SourceText text (tree_of s)) (IsFirstSourceFault text) → (s : SourceTree) → IsBuilt s → text ≡ source_text s → MatchResult r (λ t. tree_of t ≡ s) (λ e. e ≡ errors.OutOfMemory)
+only_built text r h s b e = only_source text r h s (subst (λ (l : List ℕ). SourceText l s) (sym e) (built_reads s b))

@@ -12,6 +12,7 @@ pub mod Meanings
 pub mod Halves
 pub mod SourceValues
 pub mod Printing
+pub mod Built
 pub mod NameLists
 pub mod Readers
 pub use Rattle.lzk_field.specs

@@ -1,6 +1,8 @@
 //! Reading a source.
 
 ghost use Rattle.std.specs.Prelude.{◌≡◌, ◌≤◌, length, Ok, MatchResult, IfOk, IfErr};
+ghost use Rattle.lzk_expr.specs.Built.{IsBuilt};
+ghost use Rattle.lzk_expr.specs.Printing.{source_text};
 ghost use Rattle.lzk_expr.specs.Sources.{SourceText, IsFirstSourceFault};
 ghost use Rattle.lzk_expr.specs.Trees.{SourceTree};
 ghost use Rattle.lzk_expr.specs.View.{tree_of};
@@ -54,6 +56,7 @@ pub fn parse(alloc: Global, text: &[u8]) -> Result<Source, SourceError>
     requires { length text.now ≤ 4194304 }
     ensures source { IfOk result (λ s. SourceText text.now (tree_of s)) }
     ensures only { (source : SourceTree) → SourceText text.now source → MatchResult result (λ s. tree_of s ≡ source) (λ e. e ≡ OutOfMemory) }
+    ensures built { (source : SourceTree) → IsBuilt source → text.now ≡ source_text source → MatchResult result (λ s. tree_of s ≡ source) (λ e. e ≡ OutOfMemory) }
     ensures fault { IfErr result (IsFirstSourceFault text.now) }
 {
     source(alloc, text)
