@@ -2,7 +2,7 @@
 
 use crate::{demo_circuit, demo_inputs, demo_source};
 use lzk_circbytes::{encode, id};
-use lzk_circuit::Values;
+use lzk_circuit::{Circuit, Values};
 use lzk_expr::print;
 use lzk_field::Field;
 use lzk_goldilocks::Gold;
@@ -76,31 +76,36 @@ const PARITIES: [(u32, bool); 7] = [
     (1_022, true),
 ];
 
-fn is_taken(n: u32) -> bool {
-    1 <= n && n <= MOST
+// The circuit, where the demo takes so many private inputs.
+fn circuit_of(alloc: Global, n: u32) -> Result<Option<Circuit<Gold>>, AllocError> {
+    if n == 0 || n > MOST {
+        return Ok(None);
+    }
+    Ok(Some(demo_circuit(alloc, n)?))
 }
 
 // Whether the circuit has so many layers.
 fn has_depth(alloc: Global, n: u32, depth: u32) -> Result<bool, AllocError> {
-    Ok(is_taken(n) && demo_circuit(alloc, n)?.depth() == depth)
+    match circuit_of(alloc, n)? {
+        Some(circuit) => Ok(circuit.depth() == depth),
+        None => Ok(false),
+    }
 }
 
 // Whether the circuit has this file.
 fn has_file(alloc: Global, n: u32, file: &[u8]) -> Result<bool, AllocError> {
-    if !is_taken(n) {
-        return Ok(false);
+    match circuit_of(alloc, n)? {
+        Some(circuit) => Ok(encode(alloc, &circuit)?.as_slice() == file),
+        None => Ok(false),
     }
-    let circuit = demo_circuit(alloc, n)?;
-    Ok(encode(alloc, &circuit)?.as_slice() == file)
 }
 
 // Whether the circuit has this id.
 fn has_id(alloc: Global, n: u32, digest: [u8; 32]) -> Result<bool, AllocError> {
-    if !is_taken(n) {
-        return Ok(false);
+    match circuit_of(alloc, n)? {
+        Some(circuit) => Ok(id(alloc, &circuit)? == digest),
+        None => Ok(false),
     }
-    let circuit = demo_circuit(alloc, n)?;
-    Ok(id(alloc, &circuit)? == digest)
 }
 
 fn bit(one: bool) -> Gold {
@@ -116,19 +121,31 @@ fn has_public(alloc: Global, n: u32, public: Gold) -> Result<bool, AllocError> {
     Ok(inputs.public.as_slice() == [public].as_slice())
 }
 
+// Whether the circuit is satisfied by these inputs.
+fn satisfies(
+    alloc: Global,
+    circuit: &Circuit<Gold>,
+    public: &[Gold],
+    private: &[Gold],
+) -> Result<bool, AllocError> {
+    if public.len() != circuit.publics() as usize || private.len() != circuit.privates() as usize {
+        return Ok(false);
+    }
+    let mut values = Values::new(alloc, circuit)?;
+    circuit.eval(public, private, &mut values);
+    Ok(values.first_nonzero() == None)
+}
+
 // Whether the private inputs satisfy the circuit with this public input.
 fn is_satisfied(alloc: Global, n: u32, public: Gold) -> Result<bool, AllocError> {
-    if !is_taken(n) {
+    if n == 0 {
         return Ok(false);
     }
-    let circuit = demo_circuit(alloc, n)?;
-    let private = demo_inputs(alloc, n)?.private;
-    if circuit.publics() != 1 || private.len() != circuit.privates() as usize {
-        return Ok(false);
+    let inputs = demo_inputs(alloc, n)?;
+    match circuit_of(alloc, n)? {
+        Some(circuit) => satisfies(alloc, &circuit, &[public], &inputs.private),
+        None => Ok(false),
     }
-    let mut values = Values::new(alloc, &circuit)?;
-    circuit.eval(&[public], &private, &mut values);
-    Ok(values.first_nonzero() == None)
 }
 
 #[test]
