@@ -1,7 +1,7 @@
 -- The combined constraints, from what is summed of forms and copies.
 use Rattle.std.specs.Prelude.{◌≡◌, ℕ, ◌+◌, ◌-◌, ◌*◌, ◌/◌, ◌%◌, ◌<◌, ◌≤◌, ◌==◌, ◌&&◌, Bool, true, false, cond, nat_lt, nat_le, List, [], ◌∷◌, length}
 use Rattle.std.proofs.Common.{refl, sym, ap, ◌∙◌, arith, inl, inr, subst}
-use Rattle.std.proofs.lemmas.Bool.{cases_eq, eq-eqb, ne_eqb}
+use Rattle.std.proofs.lemmas.Bool.{cases_eq, eq-eqb, ne_eqb, le-leb, lt-leb}
 use Rattle.std.proofs.lemmas.Grind.{div_ceil_times}
 use Rattle.std.proofs.lemmas.Nat.{div-add-mod'}
 use Rattle.std.proofs.Math.Nat.{div-eq_of_lt-le, mod-lt}
@@ -66,6 +66,42 @@ entry_number p j i s h =
     by_number p.wr (3 + j / p.wr) (j % p.wr) i s (omega arith) (mod-lt j (omega arith)) h
     ∙ ap (λ k. i * p.wr + s == k) (ap (λ k. k * p.wr + j % p.wr) row ∙ div-add-mod' j p.wr)
 
+-- ---- the same where rows and entries are left out before the first that count
+
+-- numbers are equal where they are as much more than another
+pub eqb-shift : (skip a b : ℕ) → (skip + a == skip + b) ≡ (a == b)
+eqb-shift skip a b =
+    elim (cases_eq a b) [
+      | inl e ↦ eq-eqb (skip + a) (skip + b) (ap (λ n. skip + n) e) ∙ sym (eq-eqb a b e)
+      | inr d ↦ ne_eqb (skip + a) (skip + b) (λ e. d (omega (arith, e))) ∙ sym (ne_eqb a b d)
+    ]
+
+pub eqb-less : (skip j k : ℕ) → skip ≤ k → (j == k - skip) ≡ (skip + j == k)
+eqb-less skip j k h = let e : skip + (k - skip) ≡ k = omega arith in sym (eqb-shift skip j (k - skip)) ∙ ap (λ n. skip + j == n) e
+
+pub larger_reached : (start skip larger j : ℕ) → start ≤ larger → ((k : ℕ) → start ≤ k → skip ≤ k → larger ≤ k) → nat_le larger (skip + j) ≡ nat_le start (skip + j)
+larger_reached start skip larger j h least =
+    elim (dec_lt (skip + j) start) [
+      | yes l ↦ lt-leb larger (skip + j) (omega arith) ∙ sym (lt-leb start (skip + j) l)
+      | no l ↦ le-leb larger (skip + j) (least (skip + j) (omega arith) (omega arith)) ∙ sym (le-leb start (skip + j) (omega arith))
+    ]
+
+pub copy_number : (width rows row position i s : ℕ) → 3 + rows ≤ row → position < width → s < width
+    → is_place (3 + (rows + i)) s (row, position) ≡ (i * width + s == (row - 3 - rows) * width + position)
+copy_number width rows row position i s low p q =
+    let here : (rows + i) * width + s ≡ rows * width + (i * width + s) = omega arith in
+    let less : row - 3 ≡ rows + (row - 3 - rows) = omega arith in
+    let more : (x : ℕ) → (rows + x) * width + position ≡ rows * width + (x * width + position) = λ x. omega arith in
+    by_number width row position (rows + i) s (omega arith) p q
+    ∙ ap (λ n. n == (row - 3) * width + position) here
+    ∙ ap (λ n. rows * width + (i * width + s) == n) (ap (λ x. x * width + position) less ∙ more (row - 3 - rows))
+    ∙ eqb-shift (rows * width) (i * width + s) ((row - 3 - rows) * width + position)
+
+pub source_number : (p : Params) (rows j i s : ℕ) → rows * p.wr ≤ j → s < p.wr → is_place (3 + (rows + i)) s (place_of p j) ≡ (i * p.wr + s == j - rows * p.wr)
+source_number p rows j i s low h =
+    let here : (rows + i) * p.wr + s ≡ rows * p.wr + (i * p.wr + s) = omega arith in
+    entry_number p j (rows + i) s h ∙ ap (λ n. n == j) here ∙ sym (eqb-less (rows * p.wr) (i * p.wr + s) j low)
+
 -- the committed list fits in the rows
 pub list_fits : (p : Params) → AreBounded p → p.nw ≤ (p.nrow - 3) * p.wr
 list_fits p h =
@@ -73,6 +109,35 @@ list_fits p h =
     let more : p.nrow - 3 ≡ p.nwrow + 3 * p.ntriple = omega (arith, h.rows) in
     let parts : (p.nwrow + 3 * p.ntriple) * p.wr ≡ p.nwrow * p.wr + 3 * p.ntriple * p.wr = omega arith in
     rw (more, parts) (omega arith)
+
+-- rows that are left out are among those of the committed list
+pub rows_within : (p : Params) (rows : ℕ) → AreBounded p → rows * p.wr ≤ p.nw → rows ≤ p.nwrow
+rows_within p rows h few =
+    let whole : p.nw ≤ p.nwrow * p.wr = rw h.nwrow (div_ceil_times p.nw p.wr (omega (arith, h.wide))).0 in
+    elim (dec_lt p.nwrow rows) [
+      | yes more ↦
+          let up : (p.nwrow + 1 + (rows - p.nwrow - 1)) * p.wr ≡ p.nwrow * p.wr + p.wr + (rows - p.nwrow - 1) * p.wr = omega arith in
+          let all : rows ≡ p.nwrow + 1 + (rows - p.nwrow - 1) = omega arith in
+          absurd (let e = ap (λ k. k * p.wr) all in omega (arith, e, up, h.wide, whole, few))
+      | no le ↦ omega arith
+    ]
+
+-- and the rest of the list fits in the rest of the rows
+pub list_fits_behind : (p : Params) (rows : ℕ) → AreBounded p → p.nw ≤ rows * p.wr + (p.nrow - 3 - rows) * p.wr
+list_fits_behind p rows h =
+    let fits = list_fits p h in
+    let sum : (x : ℕ) → rows * p.wr + x * p.wr ≡ (rows + x) * p.wr = λ x. omega arith in
+    elim (dec_lt (p.nrow - 3) rows) [
+      | yes more ↦
+          let up : (x : ℕ) → (p.nrow - 3 + x) * p.wr ≡ (p.nrow - 3) * p.wr + x * p.wr = λ x. omega arith in
+          let all : rows ≡ p.nrow - 3 + (rows - (p.nrow - 3)) = omega arith in
+          let e = ap (λ k. k * p.wr) all in
+          omega (arith, e, up (rows - (p.nrow - 3)), fits)
+      | no le ↦
+          let all : rows + (p.nrow - 3 - rows) ≡ p.nrow - 3 = omega arith in
+          let e = ap (λ k. k * p.wr) all in
+          omega (arith, e, sum (p.nrow - 3 - rows), fits)
+    ]
 
 module _ {A : Type 0} (o : Ops A) (r : RingLaws o) where
   open o use {plus, times, neg}
@@ -91,6 +156,14 @@ module _ {A : Type 0} (o : Ops A) (r : RingLaws o) where
             sum-ext o r n (λ j. cond (j == k) (f j) o.zero) (λ j. o.zero) (λ j m. ap (λ b. cond b (f j) o.zero) (ne_eqb j k (λ e. omega (arith, e))))
             ∙ sum-zero o r n ∙ sym (past k (omega arith))
       ]
+
+  -- and so where the number is of one of them
+  pub placed_inside : (p : Params) (n i s : ℕ) (f : ℕ → A) → s < p.wr → i * p.wr + s < n → sum_where o n (λ j. is_place (3 + i) s (place_of p j)) f ≡ f (i * p.wr + s)
+  placed_inside p n i s f h l =
+      let k = i * p.wr + s in
+      sum-ext o r n (λ j. cond (is_place (3 + i) s (place_of p j)) (f j) o.zero) (λ j. cond (j == k) (f j) o.zero)
+      (λ j l. ap (λ b. cond b (f j) o.zero) (entry_number p j i s h ∙ eqb-sym k j))
+      ∙ sum-single o r n k f l
 
   -- a form has no coefficients past its entries
   pub coefficient_past : (n : ℕ) (own : List A) (form : Form A) (k : ℕ) → IsWithin n form → n ≤ k → coefficient_in o own form k ≡ o.zero
@@ -165,6 +238,15 @@ module _ {A : Type 0} (o : Ops A) (c : Wiring A) (f : LinearForms A) (some : 1 �
   pub source_end : (l : ℕ) → l < depth c → (form_at o f.forms l).end ≡ factors_at c l + 3
   source_end l h = (are.places l (omega arith)).end ∙ end_is c l h
 
+  -- what comes before some private input is before the ends and the factors above
+  pub form_behind : (skip : ℕ) → skip ≤ c.privates → (i : ℕ) → i < depth c + 1 → (skip ≤ (form_at o f.forms i).end) × (skip ≤ (form_at o f.forms i).above)
+  form_behind skip few i h =
+      let placed = are.places i h in
+      elim (dec_lt i (depth c)) [
+        | yes l ↦ (omega (arith, placed.end, end_is c i l), omega (arith, placed.above))
+        | no l ↦ (omega (arith, placed.end, last_end c i (omega arith)), omega (arith, placed.above))
+      ]
+
   pub source_is : (m : ℕ) → m < 3 * depth c → source_in o f.forms m ≡ constrained_at c m
   source_is m h = omega (arith, source_end (m / 3) (omega arith))
 
@@ -194,19 +276,19 @@ module _ {A : Type 0} (o : Ops A) (c : Wiring A) (f : LinearForms A) (some : 1 �
       ∙ ap (minus o (o.plus (from_constraints o c (coefficient o f) ch (3 + i) s) copies))
       (sum-ext o r (3 * depth c) _ _ (λ m l. ap (λ k. cond (is_place (3 + i) s (place_of (params_of c) k)) (entry o ch.mu m) o.zero) (source_is m l)))
 
-  -- the same by parameters that are the circuit's, of the tables before and after the copies
-  pub combined_is : (r : RingLaws o) (p : Params) (ch : Challenges A) (i s : ℕ) (before after : List A) → p ≡ params_of c → s < p.wr
-      → entry o before (i * p.wr + s) ≡ sum_below o (length f.forms) (λ l. o.times (entry o ch.lambda l) (coefficient o f l (i * p.wr + s)))
-      → entry o after (i * p.wr + s) ≡ minus o (o.plus (entry o before (i * p.wr + s)) (sum_where o (3 * p.layers) (λ m. is_place (3 + i) s (copy_place_of p m)) (entry o ch.mu)))
+  -- the same by parameters that are the circuit's
+  pub combined_is : (r : RingLaws o) (p : Params) (ch : Challenges A) (i s : ℕ) (summed value : A) → p ≡ params_of c → s < p.wr
+      → summed ≡ sum_below o (length f.forms) (λ l. o.times (entry o ch.lambda l) (coefficient o f l (i * p.wr + s)))
+      → value ≡ minus o (o.plus summed (sum_where o (3 * p.layers) (λ m. is_place (3 + i) s (copy_place_of p m)) (entry o ch.mu)))
       (sum_where o (3 * p.layers) (λ m. is_place (3 + i) s (place_of p (source_in o f.forms m))) (entry o ch.mu))
-      → entry o after (i * p.wr + s) ≡ combined o c (coefficient o f) ch (3 + i) s
-  combined_is r p ch i s before after are_params =
+      → value ≡ combined o c (coefficient o f) ch (3 + i) s
+  combined_is r p ch i s summed value are_params =
       subst (λ (q : Params). s < q.wr
-      → entry o before (i * q.wr + s) ≡ sum_below o (length f.forms) (λ l. o.times (entry o ch.lambda l) (coefficient o f l (i * q.wr + s)))
-      → entry o after (i * q.wr + s) ≡ minus o (o.plus (entry o before (i * q.wr + s)) (sum_where o (3 * q.layers) (λ m. is_place (3 + i) s (copy_place_of q m)) (entry o ch.mu)))
+      → summed ≡ sum_below o (length f.forms) (λ l. o.times (entry o ch.lambda l) (coefficient o f l (i * q.wr + s)))
+      → value ≡ minus o (o.plus summed (sum_where o (3 * q.layers) (λ m. is_place (3 + i) s (copy_place_of q m)) (entry o ch.mu)))
       (sum_where o (3 * q.layers) (λ m. is_place (3 + i) s (place_of q (source_in o f.forms m))) (entry o ch.mu))
-      → entry o after (i * q.wr + s) ≡ combined o c (coefficient o f) ch (3 + i) s) (sym are_params)
-      (combined_at r ch i s (entry o before (i * (params_of c).wr + s)) (entry o after (i * (params_of c).wr + s)))
+      → value ≡ combined o c (coefficient o f) ch (3 + i) s) (sym are_params)
+      (combined_at r ch i s summed value)
 
   pub wanted_is : (ch : Challenges A) → sum_below o (length f.forms) (λ l. o.times (entry o ch.lambda l) (form_at o f.forms l).right) ≡ wanted o c (right o f) ch
   unfolding wanted

@@ -2,11 +2,14 @@ pub mod BoundLaws
 pub mod ClaimLaws
 pub mod CombinationLaws
 pub mod DrawLaws
+pub mod FactorLaws
 pub mod FormLaws
 pub mod KeptLaws
 pub mod LinearLaws
 pub mod PointLaws
+pub mod PrivateLaws
 pub mod ResidualLaws
 pub mod RoundForms
 pub mod ShapeLaws
 pub mod TermWalks
+pub mod WholeLaws

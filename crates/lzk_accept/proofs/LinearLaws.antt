@@ -307,7 +307,7 @@ module _ {A : Type 0} (o : Ops A) (r : RingLaws o) (point : ℕ → A) (c : Wiri
       → above.first ≡ above_a o c messages (depth c) → above.second ≡ above_b o c messages (depth c)
       → ((k : ℕ) → k < 1 + c.publics + c.privates → entry o first k ≡ eq o k (point_a o s (depth c))) → ((k : ℕ) → k < 1 + c.publics + c.privates → entry o second k ≡ eq o k (point_b o s (depth c)))
       → form.start ≡ 0 → form.end ≡ c.privates → form.above ≡ factors_at c (depth c - 1)
-      → IsLastForm o c public s.gamma above first second own form → IsConstraint o point c q public s messages (depth c) own form
+      → IsLastForm o c public s.gamma above first second 0 own form → IsConstraint o point c q public s messages (depth c) own form
   last_is above first second own form some count ea eb fa fb starts ends_at stands f =
       constraint_from (depth c) own form constant (record { is = λ w size. sums w size }) right_is
     where
@@ -348,7 +348,7 @@ module _ {A : Type 0} (o : Ops A) (r : RingLaws o) (point : ℕ → A) (c : Wiri
           let g : ℕ → ℕ → A = λ p k. times (entry o own (p + k)) (entry o w (p + k)) in
           ap (λ n. sum_below o n (g form.start)) size ∙ ap (λ p. sum_below o c.privates (g p)) starts
           ∙ sum-ext o r c.privates (g 0) (λ k. times (plus (entry o first (1 + c.publics + k)) (times G (entry o second (1 + c.publics + k)))) (entry o w k))
-          (λ k h. let z : 0 + k ≡ k = omega arith in ap (λ i. times (entry o own i) (entry o w i)) z ∙ ap (λ x. times x (entry o w k)) (f.privates k h))
+          (λ k h. let z : 0 + k ≡ k = omega arith in ap (λ i. times (entry o own i) (entry o w i)) z ∙ ap (λ x. times x (entry o w k)) (f.privates k (omega arith) h))
           ∙ sym (combine_sums c.privates G (λ k. entry o first (1 + c.publics + k)) (λ k. entry o second (1 + c.publics + k)) (entry o w))
 
       sums : (w : List A) → length w ≡ committed_count c → residual o point c q public s messages w L ≡ plus constant (sum_below o (committed_count c) (λ j. times (coefficient_in o own form j) (entry o w j)))

@@ -3,12 +3,14 @@ use Rattle.std.specs.Prelude.{◌≡◌, ℕ, ◌+◌, ◌-◌, ◌/◌, ◌%◌
 use Rattle.std.proofs.Common.{zero, suc}
 use Rattle.lzk_field.specs.Ring.{Ops}
 use Rattle.lzk_field.specs.Sums.{entry, minus, sum_below}
+use Rattle.lzk_mle.specs.Multilinear.{eq}
 use Rattle.lzk_circuit.specs.Bits.{bits}
 use Rattle.lzk_circuit.specs.Valid.{Wiring}
 use Rattle.lzk_layout.specs.declared.params.Params.{Params}
 use Rattle.lzk_layout.specs.Sizes.{committed_count, params_of}
 use Rattle.lzk_layout.specs.Places.{depth, width_at, pads_at, factors_at, factors_sent_at}
 use Rattle.lzk_sumcheck.specs.declared.script.Script.{Script}
+use Rattle.lzk_sumcheck.specs.Script.{point_a, point_b}
 use Rattle.lzk_accept.specs.declared.forms.Form.{Form}
 use Rattle.lzk_accept.specs.declared.linear.Factors.{Factors}
 use Rattle.lzk_accept.specs.Residuals.{linear_coefficient, right_side}
@@ -96,12 +98,21 @@ abbrev pub below_top : {A : Type 0} → Ops A → A → ℕ → A
 below_top o x zero = o.zero
 below_top o x (suc l) = x
 
--- What is written of the inputs' constraint, by the tables of the two points: the private inputs' coefficients are these at their wires, and the
--- right side has what the public inputs give, less the two claims.
-pub record IsLastForm {A : Type 0} (o : Ops A) (c : Wiring A) (public : List A) (gamma : A) (above : Factors A) (first second own : List A) (form : Form A) : Type 0 where
-  pub privates : (k : ℕ) → k < c.privates → entry o own k ≡ o.plus (entry o first (1 + c.publics + k)) (o.times gamma (entry o second (1 + c.publics + k)))
+-- the coefficient of the inputs' constraint at private input number j: how its wire agrees with the inputs' two points
+abbrev pub private_coefficient : {A : Type 0} → Ops A → Wiring A → Script A → ℕ → A
+private_coefficient o c s j = o.plus (eq o (1 + c.publics + j) (point_a o s (depth c))) (o.times s.gamma (eq o (1 + c.publics + j) (point_b o s (depth c))))
+
+-- What is written of the inputs' constraint, by the tables of the two points: the private inputs' coefficients from number skip on are these at
+-- their wires, and the right side has what the public inputs give, less the two claims.
+pub record IsLastForm {A : Type 0} (o : Ops A) (c : Wiring A) (public : List A) (gamma : A) (above : Factors A) (first second : List A) (skip : ℕ) (own : List A) (form : Form A) : Type 0 where
+  pub privates : (k : ℕ) → skip ≤ k → k < c.privates → entry o own k ≡ o.plus (entry o first (1 + c.publics + k)) (o.times gamma (entry o second (1 + c.publics + k)))
   pub left : form.first ≡ o.neg o.one
   pub other : form.second ≡ o.neg gamma
   pub right : form.right
       ≡ o.neg (minus o (minus o (sum_below o (1 + length public) (λ k. o.times (o.plus (entry o first k) (o.times gamma (entry o second k))) (entry o (o.one ∷ public) k))) above.first)
       (o.times gamma above.second))
+
+-- what is kept from entry number skip on, with the private inputs' coefficients before it
+pub record IsWhole {A : Type 0} (o : Ops A) (c : Wiring A) (s : Script A) (skip : ℕ) (own whole : List A) : Type 0 where
+  pub before : (j : ℕ) → j < skip → entry o whole j ≡ private_coefficient o c s j
+  pub after : (j : ℕ) → skip ≤ j → j < committed_count c → entry o whole j ≡ entry o own j

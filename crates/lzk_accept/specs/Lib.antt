@@ -2,6 +2,7 @@ pub mod Bound
 pub mod Challenges
 pub mod Checks
 pub mod Combination
+pub mod Factored
 pub mod Forms
 pub mod Kept
 pub mod Points

@@ -34,40 +34,54 @@ fn add_at<F: Field>(sums: &mut [F], k: usize, x: F)
     sums[k] = sums[k].add(x);
 }
 
-// Adds to the entries of a range those of another list, multiplied.
-fn add_range<F: Field>(sums: &mut [F], by: F, list: &[F], start: usize, end: usize)
+// Adds the entries of a list's range, multiplied. The sums begin at entry `skip` of the list.
+fn add_range<F: Field>(sums: &mut [F], by: F, list: &[F], start: usize, end: usize, skip: usize)
+    requires skip { skip ≤ start }
     requires start { start ≤ end }
     requires list { end ≤ length list.now }
-    requires sums { end ≤ length sums.old }
+    requires sums { end ≤ skip + length sums.old }
     ensures length { length sums.new ≡ length sums.old }
-    ensures entries { let o = F.ops in (j : ℕ) → entry o sums.new j ≡ o.plus (entry o sums.old j) (cond (nat_le start j && nat_lt j end) (o.times by (entry o list.now j)) o.zero) }
+    ensures entries { let o = F.ops in (j : ℕ) → entry o sums.new j ≡ o.plus (entry o sums.old j) (cond (nat_le start (skip + j) && nat_lt (skip + j) end) (o.times by (entry o list.now (skip + j))) o.zero) }
 {
     for j in start..end {
-        sums[j] = sums[j].add(by.mul(list[j]));
+        sums[j - skip] = sums[j - skip].add(by.mul(list[j]));
     }
 }
 
-// Adds a form's coefficients, multiplied.
-fn add_form<F: Field>(sums: &mut [F], by: F, form: Form<F>, own: &[F])
-    requires within { IsWithin (length own.now) form }
-    requires room { length own.now ≤ length sums.old }
-    ensures length { length sums.new ≡ length sums.old }
-    ensures entries { let o = F.ops in (j : ℕ) → entry o sums.new j ≡ o.plus (entry o sums.old j) (o.times by (coefficient_in o own.now form j)) }
+// The larger of two numbers.
+fn larger(a: usize, b: usize) -> usize
+    ensures first { a ≤ result }
+    ensures second { b ≤ result }
+    ensures least { (k : ℕ) → a ≤ k → b ≤ k → result ≤ k }
 {
-    add_range(sums, by, own, form.start as usize, form.end as usize);
-    let above = form.above as usize;
+    if a < b { b } else { a }
+}
+
+// Adds a form's coefficients from entry `skip` on, multiplied.
+fn add_form<F: Field>(sums: &mut [F], by: F, form: Form<F>, own: &[F], skip: usize)
+    requires within { IsWithin (length own.now) form }
+    requires end { skip ≤ form.end }
+    requires above { skip ≤ form.above }
+    requires room { length own.now ≤ skip + length sums.old }
+    ensures length { length sums.new ≡ length sums.old }
+    ensures entries { let o = F.ops in (j : ℕ) → entry o sums.new j ≡ o.plus (entry o sums.old j) (o.times by (coefficient_in o own.now form (skip + j))) }
+{
+    let start = larger(form.start as usize, skip);
+    add_range(sums, by, own, start, form.end as usize, skip);
+    let above = form.above as usize - skip;
     add_at(sums, above, by.mul(form.first));
     add_at(sums, above + 1, by.mul(form.second));
 }
 
-// Sets the sums to those of the forms' coefficients, each form multiplied by its challenge. Gives the same sum of their right
-// sides.
-fn sum_forms<F: Field>(forms: &[Form<F>], own: &[F], lambda: &[F], sums: &mut [F]) -> F
+// Sets the sums to those of the forms' coefficients from entry `skip` on, each form multiplied by its challenge. Gives the same
+// sum of their right sides.
+fn sum_forms<F: Field>(forms: &[Form<F>], own: &[F], lambda: &[F], skip: usize, sums: &mut [F]) -> F
     requires count { length lambda.now ≡ length forms.now }
     requires within { (i : ℕ) → i < length forms.now → IsWithin (length own.now) (form_at F.ops forms.now i) }
-    requires room { length own.now ≤ length sums.old }
+    requires behind { (i : ℕ) → i < length forms.now → (skip ≤ (form_at F.ops forms.now i).end) × (skip ≤ (form_at F.ops forms.now i).above) }
+    requires room { length own.now ≤ skip + length sums.old }
     ensures length { length sums.new ≡ length sums.old }
-    ensures entries { let o = F.ops in (j : ℕ) → entry o sums.new j ≡ sum_below o (length forms.now) (λ i. o.times (entry o lambda.now i) (coefficient_in o own.now (form_at o forms.now i) j)) }
+    ensures entries { let o = F.ops in (j : ℕ) → entry o sums.new j ≡ sum_below o (length forms.now) (λ i. o.times (entry o lambda.now i) (coefficient_in o own.now (form_at o forms.now i) (skip + j))) }
     ensures rights { let o = F.ops in result ≡ sum_below o (length forms.now) (λ i. o.times (entry o lambda.now i) (form_at o forms.now i).right) }
 {
     clear(sums);
@@ -75,32 +89,69 @@ fn sum_forms<F: Field>(forms: &[Form<F>], own: &[F], lambda: &[F], sums: &mut [F
     for i in 0..forms.len() {
         let form = forms[i];
         let by = lambda[i];
-        add_form(sums, by, form, own);
+        add_form(sums, by, form, own, skip);
         wanted = wanted.add(by.mul(form.right));
     }
     wanted
 }
 
-// Adds the challenge of each value of the quadratic constraints at its copy's place, and takes it away at the value's own.
-fn add_copies<F: Field>(params: &Params, forms: &[Form<F>], mu: &[F], table: &mut [F])
+// Adds the challenge of each value of the quadratic constraints at its copy's place, and takes it away at the value's own. The
+// table has the rows from row 3 + rows on.
+fn add_copies<F: Field>(params: &Params, forms: &[Form<F>], mu: &[F], rows: u32, table: &mut [F])
     requires bounded { AreBounded params.now }
+    requires rows { rows ≤ params.now.nwrow }
     requires count { params.now.layers ≤ length forms.now }
-    requires sources { (l : ℕ) → l < params.now.layers → (3 ≤ (form_at F.ops forms.now l).end) × ((form_at F.ops forms.now l).end ≤ params.now.nw) }
+    requires sources { (l : ℕ) → l < params.now.layers → (rows * params.now.wr + 3 ≤ (form_at F.ops forms.now l).end) × ((form_at F.ops forms.now l).end ≤ params.now.nw) }
     requires mu { length mu.now ≡ 3 * params.now.layers }
-    requires room { length table.old ≡ (params.now.nrow - 3) * params.now.wr }
+    requires room { length table.old ≡ (params.now.nrow - 3 - rows) * params.now.wr }
     ensures length { length table.new ≡ length table.old }
     ensures entries { let o = F.ops in let p = params.now in (i s : ℕ) → s < p.wr → entry o table.new (i * p.wr + s)
-        ≡ minus o (o.plus (entry o table.old (i * p.wr + s)) (sum_where o (3 * p.layers) (λ m. is_place (3 + i) s (copy_place_of p m)) (entry o mu.now)))
-        (sum_where o (3 * p.layers) (λ m. is_place (3 + i) s (place_of p (source_in o forms.now m))) (entry o mu.now)) }
+        ≡ minus o (o.plus (entry o table.old (i * p.wr + s)) (sum_where o (3 * p.layers) (λ m. is_place (3 + (rows + i)) s (copy_place_of p m)) (entry o mu.now)))
+        (sum_where o (3 * p.layers) (λ m. is_place (3 + (rows + i)) s (place_of p (source_in o forms.now m))) (entry o mu.now)) }
 {
     let width = params.wr as usize;
+    let skip = rows as usize * width;
     for m in 0..3 * params.layers {
         let x = mu[m as usize];
         let (row, position) = params.copy_place(m);
-        add_at(table, (row - 3) as usize * width + position as usize, x);
+        let copy = (row - 3 - rows) as usize * width + position as usize;
+        add_at(table, copy, x);
         let source = forms[(m / 3) as usize].end - 3 + m % 3;
-        add_at(table, source as usize, x.neg());
+        add_at(table, source as usize - skip, x.neg());
     }
+}
+
+/// Combines what all constraints have from row 3 + rows on, where the rows before hold private inputs alone. The table is set to
+/// the coefficients of these rows, row by row. Gives the sum that is wanted of all rows.
+pub(crate) fn combine_from<F: Field>(
+    params: &Params,
+    forms: &Forms<F>,
+    challenges: &Challenges<F>,
+    rows: u32,
+    table: &mut [F],
+) -> F
+    requires bounded { AreBounded params.now }
+    requires forms { AreFormsFor F.ops params.now forms.now }
+    requires shape { HasShape params.now challenges.now }
+    requires rows { (c : Wiring F) → params.now ≡ params_of c → AreFormsOf F.ops c forms.now → rows * params.now.wr ≤ c.privates }
+    requires room { length table.old ≡ (params.now.nrow - 3 - rows) * params.now.wr }
+    ensures room { length table.new ≡ length table.old }
+    ensures combined { (c : Wiring F) → params.now ≡ params_of c → AreFormsOf F.ops c forms.now →
+        (i s : ℕ) → i < params.now.nrow - 3 - rows → s < params.now.wr →
+        entry F.ops table.new (i * params.now.wr + s) ≡ spec.combined F.ops c (coefficient F.ops forms.now) challenges.now (3 + (rows + i)) s }
+    ensures wanted { (c : Wiring F) → params.now ≡ params_of c → AreFormsOf F.ops c forms.now →
+        result ≡ spec.wanted F.ops c (right F.ops forms.now) challenges.now }
+{
+    let skip = rows as usize * params.wr as usize;
+    let wanted = sum_forms(
+        &forms.forms,
+        &forms.own,
+        challenges.lambda.as_slice(),
+        skip,
+        table,
+    );
+    add_copies(params, &forms.forms, challenges.mu.as_slice(), rows, table);
+    wanted
 }
 
 /// Combines all constraints into one, with the challenges as factors. `a` is set to the coefficients of what stands in the rows,
@@ -123,7 +174,5 @@ pub fn combine<F: Field>(
     ensures wanted { (c : Wiring F) → params.now ≡ params_of c → AreFormsOf F.ops c forms.now →
         result ≡ spec.wanted F.ops c (right F.ops forms.now) challenges.now }
 {
-    let wanted = sum_forms(&forms.forms, &forms.own, challenges.lambda.as_slice(), a);
-    add_copies(params, &forms.forms, challenges.mu.as_slice(), a);
-    wanted
+    combine_from(params, forms, challenges, 0, a)
 }

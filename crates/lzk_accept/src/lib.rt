@@ -10,6 +10,7 @@ mod bound;
 mod challenges;
 mod claims;
 mod combination;
+mod factored;
 mod forms;
 mod inputs;
 mod linear;
@@ -21,6 +22,7 @@ mod terms;
 
 pub use challenges::{Challenges, draw_challenges};
 pub use combination::combine;
+pub use factored::{Factored, combine_factored};
 pub use forms::{Form, Forms};
 pub use linear::linear_forms;
 pub use points::next_claim;

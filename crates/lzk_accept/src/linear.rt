@@ -9,7 +9,7 @@ ghost use Rattle.lzk_layout.specs.Places.{depth, width_at, pads_at, factors_at, 
 ghost use Rattle.lzk_layout.specs.Sizes.{sent_counts, committed_count};
 ghost use Rattle.lzk_sumcheck.specs.Coefficients.{coefficients};
 ghost use Rattle.lzk_sumcheck.specs.Script.{layer_at, point_a, point_b, HasShape};
-ghost use Rattle.lzk_accept.specs.Kept.{form_at, coefficient, right, above_a, above_b, below_top, IsPlacedAt, IsConstraint, AreFormsOf, IsLastForm};
+ghost use Rattle.lzk_accept.specs.Kept.{form_at, coefficient, right, above_a, above_b, below_top, private_coefficient, IsPlacedAt, IsConstraint, AreFormsOf, IsLastForm, IsWhole};
 ghost use Rattle.lzk_accept.specs.Points.{AreInverses};
 ghost use Rattle.lzk_accept.specs.Residuals.{bound_at, linear_coefficient, right_side};
 
@@ -155,28 +155,31 @@ fn public_part<F: Field>(public: &[F], gamma: F, first: &[F], second: &[F]) -> F
     total
 }
 
-// The coefficients of the inputs' constraint at the private inputs, whose wires begin at number `at`.
+// The coefficients of the inputs' constraint at the private inputs from number `skip` on. Their wires begin at number `at`.
 fn set_privates<F: Field>(
     own: &mut [F],
+    skip: usize,
     count: usize,
     at: usize,
     gamma: F,
     first: &[F],
     second: &[F],
 )
+    requires skip { skip ≤ count }
     requires room { count ≤ length own.old }
     requires first { at + count ≤ length first.now }
     requires second { at + count ≤ length second.now }
     ensures length { length own.new ≡ length own.old }
-    ensures entries { let o = F.ops in (k : ℕ) → k < count → entry o own.new k ≡ o.plus (entry o first.now (at + k)) (o.times gamma (entry o second.now (at + k))) }
+    ensures entries { let o = F.ops in (k : ℕ) → skip ≤ k → k < count → entry o own.new k ≡ o.plus (entry o first.now (at + k)) (o.times gamma (entry o second.now (at + k))) }
     ensures after { (k : ℕ) → count ≤ k → entry F.ops own.new k ≡ entry F.ops own.old k }
 {
-    for k in 0..count {
+    for k in skip..count {
         own[k] = joined(at + k, gamma, first, second);
     }
 }
 
-// The constraint of the inputs, behind the last layer. What stands elsewhere in `own` is left.
+// The constraint of the inputs, behind the last layer, without its coefficients at the first `skip` private inputs. What stands
+// elsewhere in `own` is left.
 fn last_form<F: Field>(
     circuit: &Circuit<F>,
     public: &[F],
@@ -185,8 +188,10 @@ fn last_form<F: Field>(
     first: &[F],
     second: &[F],
     old: Form<F>,
+    skip: usize,
     own: &mut [F],
 ) -> Form<F>
+    requires skip { skip ≤ circuit.now.privates }
     requires public { length public.now ≡ circuit.now.publics }
     requires first { 1 + circuit.now.publics + circuit.now.privates ≤ length first.now }
     requires second { 1 + circuit.now.publics + circuit.now.privates ≤ length second.now }
@@ -195,11 +200,11 @@ fn last_form<F: Field>(
     ensures length { length own.new ≡ length own.old }
     ensures after { (j : ℕ) → circuit.now.privates ≤ j → entry F.ops own.new j ≡ entry F.ops own.old j }
     ensures placed { IsPlacedAt circuit.now (depth circuit.now) result }
-    ensures form { IsLastForm F.ops circuit.now public.now gamma above first.now second.now own.new result }
+    ensures form { IsLastForm F.ops circuit.now public.now gamma above first.now second.now skip own.new result }
 {
     let at = public.len() + 1;
     let privates = circuit.privates() as usize;
-    set_privates(own, privates, at, gamma, first, second);
+    set_privates(own, skip, privates, at, gamma, first, second);
     let known = public_part(public, gamma, first, second);
     Form {
         start: old.start,
@@ -280,18 +285,20 @@ fn fill_layers<F: Field>(
     above
 }
 
-// Sets all constraints.
+// Sets all constraints, but for the inputs' coefficients at the first `skip` private inputs.
 fn fill_forms<F: Field>(
     circuit: &Circuit<F>,
     public: &[F],
     script: &Script<F>,
     messages: &[F],
+    skip: usize,
     forms: &mut [Form<F>],
     own: &mut [F],
     first: &mut [F],
     second: &mut [F],
     weights: &mut [F],
 )
+    requires skip { skip ≤ circuit.now.privates }
     requires public { length public.now ≡ circuit.now.publics }
     requires shape { HasShape circuit.now script.now }
     requires messages { length messages.now ≡ sent_counts circuit.now }
@@ -307,7 +314,8 @@ fn fill_forms<F: Field>(
     ensures second_length { length second.new ≡ length second.old }
     ensures weights_length { length weights.new ≡ length weights.old }
     ensures placed { (i : ℕ) → i < depth circuit.now + 1 → IsPlacedAt circuit.now i (form_at F.ops forms.new i) }
-    ensures constraints { (i : ℕ) → i < depth circuit.now + 1 → IsConstraint F.ops F.element circuit.now (coefficients F.ops circuit.now script.now) public.now script.now messages.now i own.new (form_at F.ops forms.new i) }
+    ensures constraints { (whole : List F) → IsWhole F.ops circuit.now script.now skip own.new whole →
+        (i : ℕ) → i < depth circuit.now + 1 → IsConstraint F.ops F.element circuit.now (coefficients F.ops circuit.now script.now) public.now script.now messages.now i whole (form_at F.ops forms.new i) }
 {
     let above = fill_layers(
         circuit, script, messages, forms, own, first, second, weights,
@@ -322,9 +330,50 @@ fn fill_forms<F: Field>(
         first,
         second,
         old,
+        skip,
         own,
     );
     set_form(forms, depth, last);
+}
+
+/// Sets the forms to the linear constraints, but for the coefficients of the inputs' constraint at the first `skip` private
+/// inputs. They are how these inputs' wires agree with the inputs' two points, and no layer's constraint has them.
+pub(crate) fn rest_forms<F: Field>(
+    circuit: &Circuit<F>,
+    public: &[F],
+    script: &Script<F>,
+    messages: &[F],
+    skip: usize,
+    forms: &mut Forms<F>,
+)
+    requires skip { skip ≤ circuit.now.privates }
+    requires public { length public.now ≡ circuit.now.publics }
+    requires shape { HasShape circuit.now script.now }
+    requires messages { length messages.now ≡ sent_counts circuit.now }
+    requires made { AreFormsOf F.ops circuit.now forms.old }
+    ensures made { AreFormsOf F.ops circuit.now forms.new }
+    ensures coefficients { let q = coefficients F.ops circuit.now script.now in
+        (i j : ℕ) → i < depth circuit.now + 1 → skip ≤ j → j < committed_count circuit.now →
+        coefficient F.ops forms.new i j ≡ linear_coefficient F.ops F.element circuit.now q public.now script.now messages.now i j }
+    ensures rights { let q = coefficients F.ops circuit.now script.now in
+        (i : ℕ) → i < depth circuit.now + 1 → right F.ops forms.new i ≡ right_side F.ops F.element circuit.now q public.now script.now messages.now i }
+    ensures layers { let q = coefficients F.ops circuit.now script.now in
+        (i j : ℕ) → i < depth circuit.now → j < skip → linear_coefficient F.ops F.element circuit.now q public.now script.now messages.now i j ≡ F.ops.zero }
+    ensures inputs { let q = coefficients F.ops circuit.now script.now in
+        (j : ℕ) → j < skip → linear_coefficient F.ops F.element circuit.now q public.now script.now messages.now (depth circuit.now) j ≡ private_coefficient F.ops circuit.now script.now j }
+{
+    fill_forms(
+        circuit,
+        public,
+        script,
+        messages,
+        skip,
+        &mut forms.forms,
+        &mut forms.own,
+        &mut forms.first,
+        &mut forms.second,
+        &mut forms.weights,
+    );
 }
 
 /// Sets the forms to the coefficients and right sides of all linear constraints: what the sumchecks' residuals are less at a list
@@ -347,15 +396,5 @@ pub fn linear_forms<F: Field>(
     ensures rights { let q = coefficients F.ops circuit.now script.now in
         (i : ℕ) → i < depth circuit.now + 1 → right F.ops forms.new i ≡ right_side F.ops F.element circuit.now q public.now script.now messages.now i }
 {
-    fill_forms(
-        circuit,
-        public,
-        script,
-        messages,
-        &mut forms.forms,
-        &mut forms.own,
-        &mut forms.first,
-        &mut forms.second,
-        &mut forms.weights,
-    );
+    rest_forms(circuit, public, script, messages, 0, forms);
 }

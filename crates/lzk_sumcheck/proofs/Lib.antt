@@ -7,9 +7,11 @@ pub mod LayerSends
 pub mod LayerShapes
 pub mod MergeLaws
 pub mod MessagesLaws
+pub mod OrderLaws
 pub mod PointLaws
 pub mod Prefixes
 pub mod ProvingLaws
+pub mod QuarterLaws
 pub mod RoundLaws
 pub mod ScriptLaws
 pub mod SendLaws

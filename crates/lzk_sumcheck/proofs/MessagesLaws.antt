@@ -95,7 +95,7 @@ module _ {A : Type 0} (o : Ops A) (e : Coding A) (c : Wiring A) (values : List (
         let drawn = own-layer k bits at layer is in
         let cs = map (round_challenge o e sent 0 (after_draw now)) (range_with_len 0 (2 * k)) in
         let value : (m : ℕ) (x : A) → m ≤ 2 * k → round o s (take m cs) x ≡ true_round o c (script o e ys c t) values l m x
-                = λ m x few. ap (λ y. round o y (take m cs) x) (own-layered k ts ws vs bits terms weights below) ∙ ap (λ bound. round o (layered_at o c (script o e ys c t) values l) bound x) (own-challenges k bits at m few) in
+        = λ m x few. ap (λ y. round o y (take m cs) x) (own-layered k ts ws vs bits terms weights below) ∙ ap (λ bound. round o (layered_at o c (script o e ys c t) values l) bound x) (own-challenges k bits at m few) in
         record {
           first = λ m q.
               let few : m < 2 * k = omega (arith, q, bits) in

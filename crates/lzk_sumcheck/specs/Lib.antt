@@ -3,6 +3,7 @@ pub mod Draws
 pub mod Layers
 pub mod Messages
 pub mod Opening
+pub mod Orders
 pub mod Pairs
 pub mod Points
 pub mod Room

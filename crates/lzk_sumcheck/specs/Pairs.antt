@@ -6,6 +6,7 @@ use Rattle.lzk_circuit.specs.declared.layer.Term.{Term}
 use Rattle.lzk_circuit.specs.Sums.{sum_list}
 use Rattle.lzk_mle.specs.Multilinear.{low_bit, agree}
 use Rattle.lzk_sumcheck.specs.declared.pairs.Pair.{Pair}
+use Rattle.lzk_sumcheck.specs.declared.pairs.RoundSums.{RoundSums}
 use Rattle.lzk_sumcheck.specs.States.{State}
 
 -- the pair of a term's two wires below, with the weight of its wire
@@ -28,6 +29,12 @@ ArePairs n m (p ∷ ps) = (p.a < n) × (p.b < m) × ArePairs n m ps
 -- the table with its first variable bound
 abbrev pub bound_entry : {A : Type 0} → Ops A → A → List A → ℕ → A
 bound_entry o x table i = o.plus (o.times (minus o o.one x) (entry o table (2 * i))) (o.times x (entry o table (2 * i + 1)))
+
+-- a round's value at t, by the sums of pairs whose a is even and of those whose a is odd, each with the even and with the odd entries of the first table
+abbrev pub round_at : {A : Type 0} → Ops A → RoundSums A → A → A
+round_at o s t =
+    o.plus (o.times (minus o o.one t) (o.plus (o.times (minus o o.one t) s.even_low) (o.times t s.even_high)))
+    (o.times t (o.plus (o.times (minus o o.one t) s.odd_low) (o.times t s.odd_high)))
 
 -- what the pairs count for at i and j
 abbrev pub spread : {A : Type 0} → Ops A → List (Pair A) → ℕ → ℕ → A

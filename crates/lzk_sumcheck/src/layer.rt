@@ -8,7 +8,8 @@ ghost use Rattle.lzk_mle.specs.Multilinear.{tilde};
 ghost use Rattle.lzk_circuit.specs.declared.layer.Term as declared;
 ghost use Rattle.lzk_circuit.specs.Wires.{AreDistinct};
 ghost use Rattle.lzk_sumcheck.specs.Layers.{layer_of_terms};
-ghost use Rattle.lzk_sumcheck.specs.Pairs.{first_pair};
+ghost use Rattle.lzk_sumcheck.specs.Orders.{places, IsOrderOf};
+ghost use Rattle.lzk_sumcheck.specs.Pairs.{first_pair, spread, ArePairs};
 ghost use Rattle.lzk_sumcheck.specs.Script.{with_pair, after_rounds, round_challenge};
 ghost use Rattle.lzk_sumcheck.specs.Sending.{AreRoundsSent};
 
@@ -31,14 +32,22 @@ fn pair_of<F: Field>(term: Term<F>, weights: &[F]) -> Pair<F>
     }
 }
 
-// Puts the pairs of all terms down.
-fn set_pairs<F: Field>(terms: &[Term<F>], weights: &[F], pairs: &mut [Pair<F>])
+// Puts the pairs of all terms down, in that order.
+fn set_pairs<F: Field>(
+    terms: &[Term<F>],
+    order: &[(u64, usize)],
+    weights: &[F],
+    pairs: &mut [Pair<F>],
+)
     requires room { length pairs.old ≡ length terms.now }
+    requires order { IsOrderOf terms.now (places order.now) }
     requires wires { (i : ℕ) (t : declared.Term F) → slice_get terms.now i ≡ Some t → t.g < length weights.now }
-    ensures { pairs.new ≡ map (first_pair F.ops weights.now) terms.now }
+    ensures sums { let o = F.ops in (i j : ℕ) → spread o pairs.new i j ≡ spread o (map (first_pair o weights.now) terms.now) i j }
+    ensures within { (n m : ℕ) → ArePairs n m (map (first_pair F.ops weights.now) terms.now) → ArePairs n m pairs.new }
 {
     for i in 0..pairs.len() {
-        pairs[i] = pair_of(terms[i], weights);
+        let k = order[i].1;
+        pairs[i] = pair_of(terms[k], weights);
     }
 }
 
@@ -62,6 +71,7 @@ fn pad_values<F: Field>(values: &[F], table: &mut [F])
 pub(crate) fn send_layer<F: Field>(
     tape: &mut Tape,
     terms: &[Term<F>],
+    order: &[(u64, usize)],
     weights: &[F],
     values: &[F],
     pairs: &mut [Pair<F>],
@@ -74,6 +84,7 @@ pub(crate) fn send_layer<F: Field>(
 )
     requires bits { length rb.old ≡ length ra.old }
     requires few { length ra.old ≤ 17 }
+    requires order { IsOrderOf terms.now (places order.now) }
     requires terms { AreDistinct F.ops (length weights.now) (length values.now) terms.now }
     requires fits { length values.now ≤ 2 ^ length ra.old }
     requires first { length first.old ≡ 2 ^ length ra.old }
@@ -96,7 +107,7 @@ pub(crate) fn send_layer<F: Field>(
     ensures factor_a { let o = F.ops in entry o sent.new (4 * length ra.old) ≡ minus o (tilde o values.now ra.new) (entry o pads.now (4 * length ra.old)) }
     ensures factor_b { let o = F.ops in entry o sent.new (4 * length ra.old + 1) ≡ minus o (tilde o values.now rb.new) (entry o pads.now (4 * length ra.old + 1)) }
 {
-    set_pairs(terms, weights, pairs);
+    set_pairs(terms, order, weights, pairs);
     pad_values(values, first);
     pad_values(values, second);
     let count = 4 * ra.len();

@@ -18,6 +18,7 @@
 mod draws;
 mod laws;
 mod layer;
+mod order;
 mod pairs;
 mod plain;
 mod proving;

@@ -3,7 +3,7 @@
 ghost use Rattle.std.specs.Prelude.{◌≡◌, ℕ, ◌+◌, ◌*◌, ◌/◌, ◌%◌, ◌<◌, ◌≤◌, List, [], ◌∷◌, length, map, take, drop};
 ghost use Rattle.lzk_field.specs.Sums.{minus, entry};
 ghost use Rattle.lzk_mle.specs.Multilinear.{tilde};
-ghost use Rattle.lzk_sumcheck.specs.Pairs.{bind_pair, pairs_total, ArePairs, bound_entry, spread, IsKept};
+ghost use Rattle.lzk_sumcheck.specs.Pairs.{bind_pair, pairs_total, ArePairs, bound_entry, round_at, spread, IsKept};
 ghost use Rattle.lzk_sumcheck.specs.States.{State, bind_state};
 
 use crate::plain::agreement;
@@ -37,36 +37,78 @@ fn bind_pairs<F: Field>(pairs: &mut [Pair<F>], x: F)
     }
 }
 
-// What a pair counts for in the round at t.
-fn pair_value<F: Field>(pair: Pair<F>, first: &[F], second: &[F], t: F) -> F
-    requires first { 2 * (pair.a / 2) + 1 < length first.now }
-    requires second { pair.b < length second.now }
-    ensures { let o = F.ops in let p = bind_pair o t pair in result ≡ o.times (o.times p.coef (entry o second.now p.a)) (bound_entry o t first.now p.b) }
-{
-    let bound = bound_pair(pair, t);
-    let i = bound.b as usize;
-    let low = F::one().sub(t).mul(first[2 * i]);
-    let value = low.add(t.mul(first[2 * i + 1]));
-    bound.coef.mul(second[bound.a as usize]).mul(value)
+/// What pairs count for in a round, apart by bit 0 of a and by that bit of the first table's numbers.
+#[derive(Clone, Copy)]
+pub(crate) struct RoundSums<F> {
+    pub(crate) even_low: F,
+    pub(crate) even_high: F,
+    pub(crate) odd_low: F,
+    pub(crate) odd_high: F,
 }
 
-// The sum of a round at t.
-pub(crate) fn round_sum<F: Field>(
+// One more pair.
+fn add_pair<F: Field>(sums: RoundSums<F>, pair: Pair<F>, first: &[F], second: &[F]) -> RoundSums<F>
+    requires first { 2 * (pair.a / 2) + 1 < length first.now }
+    requires second { pair.b < length second.now }
+    ensures { let o = F.ops in (t : F) → round_at o result t ≡ o.plus (round_at o sums t) (let p = bind_pair o t pair in o.times (o.times p.coef (entry o second.now p.a)) (bound_entry o t first.now p.b)) }
+{
+    let i = pair.a as usize / 2;
+    let product = pair.coef.mul(second[pair.b as usize]);
+    let low = product.mul(first[2 * i]);
+    let high = product.mul(first[2 * i + 1]);
+    if pair.a % 2 == 0 {
+        RoundSums {
+            even_low: sums.even_low.add(low),
+            even_high: sums.even_high.add(high),
+            odd_low: sums.odd_low,
+            odd_high: sums.odd_high,
+        }
+    } else {
+        RoundSums {
+            even_low: sums.even_low,
+            even_high: sums.even_high,
+            odd_low: sums.odd_low.add(low),
+            odd_high: sums.odd_high.add(high),
+        }
+    }
+}
+
+// The sums of a round, from which its value at each point follows.
+pub(crate) fn round_sums<F: Field>(
     pairs: &[Pair<F>],
     first: &[F],
     second: &[F],
     half: usize,
-    t: F,
-) -> F
+) -> RoundSums<F>
     requires size { length first.now ≡ 2 * half }
     requires pairs { ArePairs (2 * half) (length second.now) pairs.now }
-    ensures { let o = F.ops in result ≡ pairs_total o (map (bind_pair o t) pairs.now) (λ j. entry o second.now j) (bound_entry o t first.now) }
+    ensures { let o = F.ops in (t : F) → round_at o result t ≡ pairs_total o (map (bind_pair o t) pairs.now) (λ j. entry o second.now j) (bound_entry o t first.now) }
 {
-    let mut total = F::zero();
+    let mut sums = RoundSums {
+        even_low: F::zero(),
+        even_high: F::zero(),
+        odd_low: F::zero(),
+        odd_high: F::zero(),
+    };
     for pair in pairs {
-        total = total.add(pair_value(*pair, first, second, t));
+        sums = add_pair(sums, *pair, first, second);
     }
-    total
+    sums
+}
+
+impl<F: Field> RoundSums<F> {
+    ghost use Rattle.std.specs.Prelude.{◌≡◌};
+    ghost use Rattle.lzk_sumcheck.specs.Pairs.{round_at};
+
+    // The round's value at t.
+    pub(crate) fn at(self, t: F) -> F
+        ensures { result ≡ round_at F.ops self t }
+    {
+        let rest = F::one().sub(t);
+        let even = rest.mul(self.even_low).add(t.mul(self.even_high));
+        let odd = rest.mul(self.odd_low).add(t.mul(self.odd_high));
+        rest.mul(even).add(t.mul(odd))
+    }
 }
 
 // Puts p behind the first `kept` pairs, or into the last of them where that has the same numbers; gives how many there are then.

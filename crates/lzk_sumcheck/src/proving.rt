@@ -1,6 +1,6 @@
 //! What a prover sends in all sumchecks of a circuit.
 
-ghost use Rattle.std.specs.Prelude.{◌≡◌, ℕ, ◌+◌, ◌*◌, ◌^◌, ◌<◌, ◌≤◌, Some, length, map, slice_get};
+ghost use Rattle.std.specs.Prelude.{◌≡◌, ℕ, ◌+◌, ◌*◌, ◌^◌, ◌<◌, ◌≤◌, Some, [], length, map, slice_get, slice_index_or};
 ghost use Rattle.std.specs.List.{range_with_len};
 ghost use Rattle.lzk_field.specs.Coding.{coding};
 ghost use Rattle.lzk_field.specs.Sums.{minus, entry};
@@ -17,6 +17,7 @@ ghost use Rattle.lzk_sumcheck.specs.Coefficients.{terms_at};
 ghost use Rattle.lzk_sumcheck.specs.Draws.{draws};
 ghost use Rattle.lzk_sumcheck.specs.Layers.{layer_of_terms};
 ghost use Rattle.lzk_sumcheck.specs.Messages.{IsLayerSent, AreMessages};
+ghost use Rattle.lzk_sumcheck.specs.Orders.{places, IsOrderOf};
 ghost use Rattle.lzk_sumcheck.specs.Room.{IsRoomOf};
 ghost use Rattle.lzk_sumcheck.specs.Script as spec;
 ghost use Rattle.lzk_sumcheck.specs.Script.{with_pair, after_rounds, round_challenge, layer_script, after_layer, layer_scripts, after_layers, after_script, HasBits, HasShape};
@@ -25,6 +26,7 @@ ghost use Rattle.lzk_sumcheck.specs.Weights.{weighted};
 
 use crate::draws::draw_all;
 use crate::layer::send_layer;
+use crate::order::Order;
 use crate::pairs::Pair;
 use crate::rounds::Rounds;
 use crate::script::{LayerScript, LayerScripts, Script};
@@ -42,6 +44,7 @@ use std::thread::Threads;
 fn prove_rounds<F: Field>(
     tape: &mut Tape,
     terms: &[Term<F>],
+    order: &[(u64, usize)],
     weights: &[F],
     values: &[F],
     pairs: &mut [Pair<F>],
@@ -55,6 +58,7 @@ fn prove_rounds<F: Field>(
     requires bits { length rb.old ≡ length ra.old }
     requires few { length ra.old ≤ 17 }
     requires terms { AreDistinct F.ops (length weights.now) (length values.now) terms.now }
+    requires order { IsOrderOf terms.now (places order.now) }
     requires fits { length values.now ≤ 2 ^ length ra.old }
     requires first { 2 ^ length ra.old ≤ length first.old }
     requires second { 2 ^ length ra.old ≤ length second.old }
@@ -83,7 +87,7 @@ fn prove_rounds<F: Field>(
     let (low, _) = first.split_at_mut(size);
     let (high, _) = second.split_at_mut(size);
     send_layer(
-        tape, terms, weights, values, these, low, high, pads, sent, ra, rb,
+        tape, terms, order, weights, values, these, low, high, pads, sent, ra, rb,
     );
     eq_table(ra, low);
     eq_table(rb, high);
@@ -94,6 +98,7 @@ fn prove_rounds<F: Field>(
 fn prove_layer<F: Field>(
     tape: &mut Tape,
     terms: &[Term<F>],
+    order: &[(u64, usize)],
     values: &[F],
     layer: &mut LayerScript<F>,
     pairs: &mut [Pair<F>],
@@ -106,6 +111,7 @@ fn prove_layer<F: Field>(
     requires bits { length layer.old.rb ≡ length layer.old.ra }
     requires few { length layer.old.ra ≤ 17 }
     requires terms { AreDistinct F.ops (length weights.old) (length values.now) terms.now }
+    requires order { IsOrderOf terms.now (places order.now) }
     requires fits { length values.now ≤ 2 ^ length layer.old.ra }
     requires first_width { length weights.old ≤ length first.old }
     requires second_width { length weights.old ≤ length second.old }
@@ -133,6 +139,7 @@ fn prove_layer<F: Field>(
     prove_rounds(
         tape,
         terms,
+        order,
         weights,
         values,
         pairs,
@@ -160,6 +167,7 @@ fn prove_list<F: Field>(
     values: &Values<F>,
     pads: &[F],
     tape: &mut Tape,
+    orders: &[Order],
     pairs: &mut [Pair<F>],
     first: &mut [F],
     second: &mut [F],
@@ -174,6 +182,8 @@ fn prove_list<F: Field>(
     requires point { length point.old ≡ output_bits circuit.now }
     requires depth { length layers.old ≡ depth circuit.now }
     requires bits { (l : ℕ) (layer : declared.LayerScript F) → slice_get layers.old l ≡ Some layer → HasBits (bits_under circuit.now l) layer }
+    requires orders_count { length orders.now ≡ depth circuit.now }
+    requires orders { (l : ℕ) → l < depth circuit.now → IsOrderOf (terms_at circuit.now l) (slice_index_or orders.now l []) }
     requires pairs { (l : ℕ) → l < depth circuit.now → length (terms_at circuit.now l) ≤ length pairs.old }
     requires room { (l : ℕ) → l < depth circuit.now + 1 → 2 ^ bits (width_at circuit.now l) ≤ length weights.old }
     requires first_room { length first.old ≡ length weights.old }
@@ -203,9 +213,11 @@ fn prove_list<F: Field>(
         let (_, later) = messages.split_at_mut(begin);
         let (sent, _) = later.split_at_mut(count);
         let (wires, _) = weights.split_at_mut(circuit.width(l) as usize);
+        let order = orders[l as usize].as_slice();
         prove_layer(
             tape,
             circuit.layer(l).terms.as_slice(),
+            order,
             values.layer(l + 1),
             layer,
             pairs,
@@ -252,6 +264,7 @@ fn prove_scripts<F: Field>(
         values,
         pads,
         tape,
+        &room.orders,
         &mut room.pairs,
         &mut room.first,
         &mut room.second,

@@ -6,6 +6,7 @@ ghost use Rattle.lzk_layout.specs.Places.{depth, width_at};
 ghost use Rattle.lzk_sumcheck.specs.Coefficients.{terms_at};
 ghost use Rattle.lzk_sumcheck.specs.Room.{IsRoomOf};
 
+use crate::order::{Order, orders_of};
 use crate::pairs::Pair;
 use crate::weights::power_of;
 use lzk_circuit::{Circuit, bits_of, zeros};
@@ -13,9 +14,10 @@ use lzk_field::Field;
 use std::alloc::{AllocError, Global};
 use std::marker::Model;
 
-/// Room for the rounds of a circuit: pairs of wires, and tables of the widest layer's numbers.
+/// Room for the rounds of a circuit: orders of its layers' terms, pairs of wires, and tables of the widest layer's numbers.
 #[derive(Drop)]
 pub struct Rounds<F: Field> {
+    pub(crate) orders: Vec<Order>,
     pub(crate) pairs: Vec<Pair<F>>,
     pub(crate) first: Vec<F>,
     pub(crate) second: Vec<F>,
@@ -28,7 +30,7 @@ impl<F: Field> Model for Rounds<F> {
 
     ghost Value = { RoundsRoom };
 
-    ghost view = { λ r. record { pairs = length r.pairs.items; places = length r.weights.items } };
+    ghost view = { λ r. record { orders = r.orders.items; pairs = length r.pairs.items; places = length r.weights.items } };
 
     ghost invariant = { λ r. (length r.first.items ≡ length r.weights.items) × (length r.second.items ≡ length r.weights.items) };
 }
@@ -100,6 +102,7 @@ impl<F: Field> Rounds<F> {
     {
         let size = power_of(most_bits(circuit) as usize);
         Ok(Rounds {
+            orders: orders_of(alloc, circuit)?,
             pairs: pairs_of_zeros(alloc, most_terms(circuit))?,
             first: zeros(alloc, size)?,
             second: zeros(alloc, size)?,

@@ -12,7 +12,7 @@ ghost use Rattle.lzk_sumcheck.specs.Sending.{after_sent, drawn_sent, AreSent};
 ghost use Rattle.lzk_sumcheck.specs.States.{State, bind_state, total, Sizes};
 
 use crate::draws::replay_round;
-use crate::pairs::{Pair, bind_kept, round_sum};
+use crate::pairs::{Pair, bind_kept, round_sums};
 use lzk_field::Field;
 use lzk_transcript::Tape;
 
@@ -38,8 +38,9 @@ fn send_round<F: Field>(
     ensures challenge { let e = coding F.element F.number_of F.BYTES F.size F.ID in result ≡ F.element (drawn (with_pair F.ops e sent.new 0 tape.old)) }
     ensures after { let e = coding F.element F.number_of F.BYTES F.size F.ID in tape.new ≡ after_draw (with_pair F.ops e sent.new 0 tape.old) }
 {
-    let low = round_sum(pairs, first, second, half, F::point(0));
-    let high = round_sum(pairs, first, second, half, F::point(2));
+    let sums = round_sums(pairs, first, second, half);
+    let low = sums.at(F::point(0));
+    let high = sums.at(F::point(2));
     sent[0] = low.sub(pads[0]);
     sent[1] = high.sub(pads[1]);
     replay_round(tape, sent, 0)

@@ -5,11 +5,14 @@ ghost use Rattle.lzk_layout.specs.Places.{depth};
 ghost use Rattle.lzk_layout.specs.Sizes.{AreParams, AreBounded, sent_counts, committed_count, params_of};
 ghost use Rattle.lzk_sumcheck.specs.Script.{HasShape};
 ghost use Rattle.lzk_accept.specs.Challenges as accept;
+ghost use Rattle.lzk_accept.specs.Factored.{HasRoomFor};
 ghost use Rattle.lzk_accept.specs.Kept.{AreFormsOf, AreFormsFor};
 
-use crate::combined_vectors::COMBINED;
+use crate::combined_vectors::{COMBINED, INPUTS, LAYERS};
 use crate::residuals::{SQUARE, Shape, circuit_of, multiples};
-use lzk_accept::{Challenges, Forms, combine, draw_challenges, linear_forms, residual};
+use lzk_accept::{
+    Challenges, Factored, Forms, combine, combine_factored, draw_challenges, linear_forms, residual,
+};
 use lzk_circuit::{Circuit, bits_of};
 use lzk_field::Field;
 use lzk_gf128::Gf128;
@@ -215,6 +218,105 @@ fn coefficients_are_what_ones_change(rt: HostRuntime) -> Result<(), Fail> {
     for (shape, _, _) in COMBINED {
         assert_eq!(rt; wrong_coefficient::<Gold>(shape, rt.alloc())?, None);
         assert_eq!(rt; wrong_coefficient::<Gf128>(shape, rt.alloc())?, None);
+    }
+    Ok(())
+}
+
+// The entry at a place of a list, and 0 past its end.
+fn entry_of<F: Field>(list: &[F], i: usize) -> F {
+    match list.get(i) {
+        Some(&x) => x,
+        None => F::zero(),
+    }
+}
+
+// The sum of the products of a row's factors with those of a position.
+fn by_factors<F: Field>(factored: &Factored<F>, width: u32, row: u32, position: u32) -> F {
+    let (i, s) = (row as usize, position as usize);
+    let (count, width) = (factored.rows as usize, width as usize);
+    let rows = factored.row_factors.as_slice();
+    let places = factored.place_factors.as_slice();
+    let first = entry_of(rows, i).mul(entry_of(places, s));
+    let second = entry_of(rows, count + i).mul(entry_of(places, width + s));
+    let third = entry_of(rows, 2 * count + i).mul(entry_of(places, 2 * width + s));
+    let last = entry_of(rows, 3 * count + i).mul(entry_of(places, 3 * width + s));
+    first.add(second).add(third).add(last)
+}
+
+// The combined coefficients row by row, from the factors and the table.
+fn unfolded<F: Field>(
+    factored: &Factored<F>,
+    width: u32,
+    alloc: Global,
+) -> Result<Vec<F>, AllocError> {
+    let mut list = Vec::new(alloc);
+    for row in 0..factored.rows {
+        for position in 0..width {
+            list.push(by_factors(factored, width, row, position))?;
+        }
+    }
+    for &x in factored.table.as_slice() {
+        list.push(x)?;
+    }
+    Ok(list)
+}
+
+// Whether factors and table of constraints give what is combined row by row, and the same sum is wanted.
+fn give_the_same<F: Field>(
+    circuit: &Circuit<F>,
+    width: u32,
+    all: &Constrained<F>,
+    sums: &Sums<F>,
+    forms: &mut Forms<F>,
+    factored: &mut Factored<F>,
+    alloc: Global,
+) -> Result<bool, AllocError>
+    requires script { HasShape circuit.now all.now.script }
+    requires public { length all.now.public.items ≡ circuit.now.publics }
+    requires messages { length all.now.messages.items ≡ sent_counts circuit.now }
+    requires challenges { accept.HasShape (params_of circuit.now) all.now.challenges }
+    requires forms { AreFormsOf F.ops circuit.now forms.old }
+    requires room { HasRoomFor circuit.now factored.old }
+    ensures forms { AreFormsOf F.ops circuit.now forms.new }
+    ensures room { HasRoomFor circuit.now factored.new }
+{
+    let (public, script, messages) = (&all.public, &all.script, &all.messages);
+    let challenges = &all.challenges;
+    let wanted = combine_factored(
+        circuit, public, script, messages, challenges, forms, factored,
+    );
+    let list = unfolded(factored, width, alloc)?;
+    Ok(wanted == sums.wanted && list.as_slice() == sums.coefficients.as_slice())
+}
+
+// The same for a circuit's constraints, in a room that is used twice.
+fn are_factored<F: Field>(shape: Shape<'_>, alloc: Global) -> Result<bool, AllocError> {
+    let Some(circuit) = circuit_of::<F>(shape, alloc)? else {
+        return Ok(false);
+    };
+    let params = Params::of(&circuit);
+    let Some(all) = constraints_of(&circuit, &params, alloc)? else {
+        return Ok(false);
+    };
+    let sums = sums_of(&params, &all.forms, &all.challenges, alloc)?;
+    let mut forms = Forms::new(alloc, &circuit)?;
+    let mut room = Factored::new(alloc, &circuit)?;
+    let width = params.wr;
+    let once = give_the_same(&circuit, width, &all, &sums, &mut forms, &mut room, alloc)?;
+    let again = give_the_same(&circuit, width, &all, &sums, &mut forms, &mut room, alloc)?;
+    Ok(once && again)
+}
+
+#[test]
+fn factors_and_table_give_what_is_combined(rt: HostRuntime) -> Result<(), Fail> {
+    for (publics, privates) in INPUTS {
+        let shape = (publics, privates, LAYERS);
+        assert_eq!(rt; are_factored::<Gold>(shape, rt.alloc())?, true);
+        assert_eq!(rt; are_factored::<Gf128>(shape, rt.alloc())?, true);
+    }
+    for (shape, _, _) in COMBINED {
+        assert_eq!(rt; are_factored::<Gold>(shape, rt.alloc())?, true);
+        assert_eq!(rt; are_factored::<Gf128>(shape, rt.alloc())?, true);
     }
     Ok(())
 }

@@ -98,11 +98,12 @@ fn values_below<F: Field>(case: &Case, l: usize, alloc: Global) -> Result<Vec<F>
     for &n in case.private {
         list.push(F::of_word(n))?;
     }
-    let mut k = case.layers.len();
-    while k > l.saturating_add(1) {
-        k -= 1;
-        let (wires, entries) = case.layers[k];
-        list = wires_of(wires, entries, &list, alloc)?;
+    for i in 0..case.layers.len() {
+        let k = case.layers.len() - 1 - i;
+        if k > l {
+            let (wires, entries) = case.layers[k];
+            list = wires_of(wires, entries, &list, alloc)?;
+        }
     }
     Ok(list)
 }
@@ -125,6 +126,9 @@ fn sent_by<R: Threads + Sync, F: Field>(
     let mut room = Rounds::new(alloc, circuit)?;
     let mut script = Script::new(alloc, circuit)?;
     let mut messages = zeros(alloc, count)?;
+    if messages.len() != count {
+        return Ok(None);
+    }
     prove_layers(
         rt,
         circuit,
@@ -164,10 +168,10 @@ fn wrong_element<F: Field>(
     let mut bound = Vec::new(alloc);
     let mut i: usize = 0;
     for n in 0..ra.len().wrapping_add(rb.len()) {
-        for point in [0, 2] {
+        for k in 0..2u32 {
             let place = at.wrapping_add(i);
             let value = entry_of(messages, place).add(entry_of(pads, place));
-            if round_of(circuit, values, l, weights, &bound, F::point(point)) != Some(value) {
+            if round_of(circuit, values, l, weights, &bound, F::point(2 * k)) != Some(value) {
                 return Ok(Some(i));
             }
             i = i.wrapping_add(1);
@@ -303,7 +307,8 @@ fn wrong_case<R: Threads + Sync, F: Field>(
         let public = elements::<F>(case.public, alloc)?;
         let private = elements::<F>(case.private, alloc)?;
         let mut values = Values::new(alloc, &circuit)?;
-        if public.len() != circuit.publics() as usize || private.len() != circuit.privates() as usize
+        if public.len() != circuit.publics() as usize
+            || private.len() != circuit.privates() as usize
         {
             return Ok(Some((k, 0, 0, 0)));
         }
@@ -319,8 +324,14 @@ fn wrong_case<R: Threads + Sync, F: Field>(
 #[test]
 fn messages_are_plain_values_less_their_pads(rt: HostRuntime) -> Result<(), Fail> {
     for zero in [true, false] {
-        assert_eq!(rt; wrong_case::<_, Gold>(&rt, &GOLD_CASES, zero, rt.alloc())?, None);
-        assert_eq!(rt; wrong_case::<_, Gf128>(&rt, &GF_CASES, zero, rt.alloc())?, None);
+        assert_eq!(rt;
+            wrong_case::<_, Gold>(&rt, &GOLD_CASES, zero, rt.alloc())?,
+            None
+        );
+        assert_eq!(rt;
+            wrong_case::<_, Gf128>(&rt, &GF_CASES, zero, rt.alloc())?,
+            None
+        );
     }
     Ok(())
 }

@@ -14,7 +14,7 @@ use lzk_sumcheck::{plain_round, sumcheck_laws};
 use std::alloc::{AllocError, Global};
 use std::test::Fail;
 
-fn elements<F: Field>(numbers: &[u128], alloc: Global) -> Result<Vec<F>, AllocError> {
+pub(crate) fn elements<F: Field>(numbers: &[u128], alloc: Global) -> Result<Vec<F>, AllocError> {
     let mut list = Vec::new(alloc);
     for &n in numbers {
         list.push(F::of_word(n))?;
@@ -23,7 +23,7 @@ fn elements<F: Field>(numbers: &[u128], alloc: Global) -> Result<Vec<F>, AllocEr
 }
 
 // The element of so many times a word.
-fn mixed<F: Field>(times: u64) -> F {
+pub(crate) fn mixed<F: Field>(times: u64) -> F {
     F::of_word(u128::from(times).wrapping_mul(0x9e37_79b9_7f4a_7c15_f39c_c060_5ced_c835))
 }
 
@@ -50,7 +50,10 @@ fn terms_of<F: Field>(entries: &[Entry], alloc: Global) -> Result<Vec<Term<F>>, 
     Ok(terms)
 }
 
-fn circuit_of<F: Field>(case: &Case, alloc: Global) -> Result<Option<Circuit<F>>, AllocError> {
+pub(crate) fn circuit_of<F: Field>(
+    case: &Case,
+    alloc: Global,
+) -> Result<Option<Circuit<F>>, AllocError> {
     let mut layers = Vec::new(alloc);
     for &(wires, entries) in case.layers {
         layers.push(Layer {
@@ -62,7 +65,7 @@ fn circuit_of<F: Field>(case: &Case, alloc: Global) -> Result<Option<Circuit<F>>
 }
 
 // The value of the round of layer l behind the challenges, at t. None where there is no such round.
-fn round_of<F: Field>(
+pub(crate) fn round_of<F: Field>(
     circuit: &Circuit<F>,
     values: &Values<F>,
     l: u32,

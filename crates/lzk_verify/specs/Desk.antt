@@ -1,41 +1,41 @@
 -- What a desk keeps between verdicts, and what the checks of the answers are handed.
-use Rattle.std.specs.Prelude.{◌≡◌, ℕ, ◌<◌, ◌-◌, ◌+◌, ◌*◌, List, length, slice_index, Option, Some, None}
+use Rattle.std.specs.Prelude.{◌≡◌, ℕ, ◌<◌, ◌≤◌, ◌-◌, ◌+◌, ◌*◌, Bool, true, false, cond, nat_lt, List, [], length, take, Option, Some, None}
+use Rattle.lzk_field.specs.Coding.{Coding}
 use Rattle.lzk_field.specs.Ring.{Ops}
-use Rattle.lzk_field.specs.Sums.{entry}
+use Rattle.lzk_field.specs.Sums.{entry, sum_below}
 use Rattle.lzk_poly.specs.Extension.{Reach}
+use Rattle.lzk_merkle.specs.Nodes as tree
+use Rattle.lzk_merkle.specs.Nodes.{AreOpened}
 use Rattle.lzk_circuit.specs.Valid.{Wiring}
 use Rattle.lzk_layout.specs.declared.params.Params.{Params}
-use Rattle.lzk_layout.specs.declared.proof.Proof.{Proof}
-use Rattle.lzk_layout.specs.Sizes.{AreBounded}
-use Rattle.lzk_layout.specs.Proofs.{HasLengths}
+use Rattle.lzk_layout.specs.Sizes.{AreBounded, AreParams, params_of}
+use Rattle.lzk_layout.specs.declared.part.ProofPart.{ProofPart}
+use Rattle.lzk_layout.specs.Fields.{Shape, IsField}
+use Rattle.lzk_layout.specs.Parts.{sort_of, part_width}
+use Rattle.lzk_layout.specs.Cursors.{CursorPlace, faulty, reading, CursorState}
 use Rattle.lzk_sumcheck.specs.Script as sumcheck
 use Rattle.lzk_accept.specs.Challenges as accept
 use Rattle.lzk_accept.specs.Challenges.{Transcript}
-use Rattle.lzk_accept.specs.Checks.{AtEach, FailsFirst}
+use Rattle.lzk_accept.specs.Checks.{combined_row_of, wanted_of}
 use Rattle.lzk_accept.specs.Kept.{LinearForms, AreFormsOf}
+use Rattle.lzk_verify.specs.declared.intake.Intake.{Intake}
+use Rattle.lzk_verify.specs.declared.verdict.Verdict.{Verdict}
+use Rattle.lzk_verify.specs.declared.verdict.Verdict.TheVariants.{Accepted, CircuitId, PathCount, Root, LowDegree, LinearSum, Linear, Quadratic}
+use Rattle.lzk_verify.specs.Checks.{id_of, needed_digests}
+use Rattle.lzk_verify.specs.Columns.{values_of}
+use Rattle.lzk_verify.specs.Kept.{sent_count, messages_in, dot_in, head_in, tail_in, whole_columns, column_fields, tape_reached, given_before, Kept, Held, stopped, keeping}
+use Rattle.lzk_verify.specs.Verdict.{Unless}
 
 -- what a check answers: none where it holds, and otherwise what is kept
 abbrev pub IsChecked : {X : Type 0} → Type 0 → X → Option X → Type 0
 IsChecked Check kept None = Check
 IsChecked Check kept (Some x) = (¬ Check) × (x ≡ kept)
 
--- the least of the columns at which a check fails, or none
-abbrev pub IsFirstFailing : List ℕ → (ℕ → Type 0) → Option ℕ → Type 0
-IsFirstFailing columns CheckAt None = AtEach columns CheckAt
-IsFirstFailing columns CheckAt (Some column) = FailsFirst columns CheckAt column
-
 -- what is drawn has the lengths that the circuit and its parameters give
 pub record HasRoom {A : Type 0} (c : Wiring A) (p : Params) (t : Transcript A) : Type 0 where
   pub script : sumcheck.HasShape c t.script
   pub challenges : accept.HasShape p t.challenges
   pub columns : length t.columns ≡ 128
-
--- a proof of the parameters' lengths, and the columns that are opened of it
-pub record IsOpened {A : Type 0} (p : Params) (proof : Proof A) (columns : List ℕ) : Type 0 where
-  pub bounded : AreBounded p
-  pub lengths : HasLengths p proof
-  pub count : length columns ≡ 128
-  pub below : (k : ℕ) → k < length columns → slice_index columns k < p.mcol
 
 -- what extends a row's values, and what extends the values of a product of two rows, to all points
 abbrev pub rows : Params → Reach
@@ -51,24 +51,133 @@ pub record AreRows {A : Type 0} (o : Ops A) (p : Params) (combined : List A) (ro
   pub front : (i s : ℕ) → s < 128 → entry o (rows i) s ≡ o.zero
   pub back : (i s : ℕ) → i < p.nrow - 3 → s < p.wr → entry o (rows (3 + i)) (128 + s) ≡ entry o combined (i * p.wr + s)
 
--- how much room a desk has beside proof and draws, and what its extenders reach
+-- the room in which a proof is checked, and what its extenders reach
 pub record Rooms (A : Type 0) : Type 0 where
   pub forms : LinearForms A
-  pub combined : ℕ
+  pub combined : List A
   pub row : ℕ
-  pub values : ℕ
-  pub leaves : ℕ
+  pub values : List A
   pub nodes : ℕ
   pub rows : Reach
   pub products : Reach
 
--- that is as much as the circuit and its parameters want
-pub record AreRooms {A : Type 0} (o : Ops A) (c : Wiring A) (p : Params) (r : Rooms A) : Type 0 where
-  pub forms : AreFormsOf o c r.forms
-  pub combined : r.combined ≡ (p.nrow - 3) * p.wr
+-- that is as much as the parameters want
+pub record AreRooms {A : Type 0} (p : Params) (r : Rooms A) : Type 0 where
+  pub combined : length r.combined ≡ (p.nrow - 3) * p.wr
   pub row : r.row ≡ p.block
-  pub values : r.values ≡ p.dblock
-  pub leaves : r.leaves ≡ 128
+  pub values : length r.values ≡ p.dblock
   pub nodes : r.nodes ≡ 2 * p.mcol
   pub rows : r.rows ≡ rows p
   pub products : r.products ≡ products p
+
+-- an intake's lists are as long as the parameters say
+pub record AreLists {A : Type 0} (p : Params) (k : Intake A) : Type 0 where
+  pub sent : length k.sent.items ≡ sent_count p
+  pub challenges : accept.HasShape p k.drawn.challenges
+  pub columns : length k.drawn.columns ≡ 128
+  pub opened : AreOpened p.mcol k.drawn.columns
+  pub column : length k.column.items ≡ p.nrow
+  pub leaves : length k.leaves.items ≡ 128
+  pub digests : length k.digests.items ≡ 1536
+  pub few : k.count ≤ 1536
+
+-- what the opened columns are checked with is that of what was drawn
+pub record AreReady {A : Type 0} (o : Ops A) (element : ℕ → A) (c : Wiring A) (p : Params) (k : Intake A) (r : Rooms A) : Type 0 where
+  pub rows : AreRows o p r.combined (combined_row_of o element c k.public.items k.drawn.script (messages_in p k.sent.items) k.drawn.challenges)
+  pub wanted : k.wanted ≡ wanted_of o element c k.public.items k.drawn.script (messages_in p k.sent.items) k.drawn.challenges
+  pub values : r.values ≡ values_of o p (head_in p k.sent.items) (tail_in p k.sent.items)
+
+-- an intake and its room are those for a circuit of these parameters
+pub record IsSound {A : Type 0} (o : Ops A) (element : ℕ → A) (c : Wiring A) (p : Params) (k : Intake A) (r : Rooms A) : Type 0 where
+  pub public : length k.public.items ≡ c.publics
+  pub script : sumcheck.HasShape c k.drawn.script
+  pub lists : AreLists p k
+  pub forms : AreFormsOf o c r.forms
+  pub rooms : AreRooms p r
+  pub ready : k.is_drawn ≡ true → AreReady o element c p k r
+
+-- the least column at which a check fails, where it is now known whether it holds at one more
+abbrev pub least : Option ℕ → Bool → ℕ → Option ℕ
+least (Some least_so_far) is_right column = Some least_so_far
+least None true column = None
+least None false column = Some column
+
+-- the same, of the check itself
+abbrev pub IsNoted : Option ℕ → Option ℕ → Type 0 → ℕ → Type 0
+IsNoted (Some least_so_far) new Check column = new ≡ Some least_so_far
+IsNoted None None Check column = Check
+IsNoted None (Some x) Check column = (¬ Check) × (x ≡ column)
+
+-- the field of this part is the first bytes of the block, and passes
+pub record IsBlockOf (s : Shape) (part : ProofPart) (block field : List ℕ) : Type 0 where
+  pub long : length block ≡ 32
+  pub is : field ≡ take (part_width s part) block
+  pub passes : IsField s (sort_of part) field
+
+-- what an intake keeps, of so many fields, with this number of digests once it is read, and these bytes of the next field
+unfoldable pub kept_of : {A : Type 0} → Ops A → Coding A → Wiring A → Params → ℕ → Option ℕ → List ℕ → Intake A → Kept A
+kept_of o e c p n digests rest k =
+    let root = cond (nat_lt 2 n) k.root [] in
+    let sent = take (n - 3) k.sent.items in
+    record {
+      fields = n;
+      rest = rest;
+      public = k.public.items;
+      start = cond k.is_drawn None (Some k.tape);
+      tape = cond k.is_drawn None (Some (tape_reached o e c p k.tape root sent n));
+      id = cond (nat_lt 1 n) k.id [];
+      root = root;
+      sent = sent;
+      given = cond k.is_drawn k.drawn (given_before o e c p k.tape root sent n);
+      leaves = take (whole_columns p n) k.leaves.items;
+      low_degree = k.failing.low_degree;
+      linear = k.failing.linear;
+      quadratic = k.failing.quadratic;
+      nonce = cond (nat_lt 0 (column_fields p n)) k.nonce [];
+      column = take (column_fields p n - 1) k.column.items;
+      count = digests;
+      digests = take k.count k.digests.items;
+    }
+
+-- what a desk holds
+unfoldable pub held_of : {A : Type 0} → Ops A → Coding A → Wiring A → Params → Bool → CursorPlace → Intake A → Option (Held A)
+held_of o e c p false place k = None
+held_of o e c p true (faulty fault) k = Some (stopped fault)
+held_of o e c p true (reading n digests rest) k = Some (keeping (kept_of o e c p n digests rest k))
+
+-- how a desk's parts hang together
+pub record AreParts {A : Type 0} (o : Ops A) (e : Coding A) (c : Wiring A) (p : Params) (id : List ℕ) (cursor : CursorState) (k : Intake A) (r : Rooms A) : Type 0 where
+  pub are : p ≡ params_of c
+  pub valid : AreParams o p
+  pub bounded : AreBounded p
+  pub id_is : id ≡ id_of e c
+  pub cursor_is : cursor.params ≡ p
+  pub sound : IsSound o e.element c p k r
+
+-- where a check kept nothing, the other; where it kept something, the one of that
+abbrev pub OrElse : {X : Type 0} → Option X → (X → Type 0) → Type 0 → Type 0
+OrElse None failed next = next
+OrElse (Some x) failed next = failed x
+
+-- the sum of the linear answer's values at the points of a row's elements
+abbrev pub sum_of : {A : Type 0} → Ops A → Params → List A → A
+sum_of o p dot = sum_below o (p.block - 128) (λ i. entry o dot (128 + i))
+
+-- the first check of the answers that fails, of what an intake keeps of all fields
+abbrev pub AreFoundAnswers : {A : Type 0} → Ops A → Params → Intake A → Verdict A → Type 0
+AreFoundAnswers o p k v =
+    OrElse k.failing.low_degree (λ column. v ≡ LowDegree column)
+    (let found = sum_of o p (dot_in p k.sent.items) in
+    Unless (found ≡ k.wanted) (v ≡ LinearSum found k.wanted)
+    (OrElse k.failing.linear (λ column. v ≡ Linear column)
+    (OrElse k.failing.quadratic (λ column. v ≡ Quadratic column)
+    (v ≡ Accepted))))
+
+-- the first check that fails, of the same
+abbrev pub IsFound : {A : Type 0} → Ops A → Params → List ℕ → Intake A → Verdict A → Type 0
+IsFound o p id k v =
+    Unless (k.id ≡ id) (v ≡ CircuitId k.id)
+    (Unless (k.count ≡ needed_digests p k.drawn.columns) (v ≡ PathCount k.count (needed_digests p k.drawn.columns))
+    (let found = tree.root_of p.mcol k.drawn.columns k.leaves.items (take k.count k.digests.items) in
+    Unless (found ≡ k.root) (v ≡ Root found)
+    (AreFoundAnswers o p k v)))

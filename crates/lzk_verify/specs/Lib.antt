@@ -1,3 +1,5 @@
 pub mod Checks
+pub mod Columns
 pub mod Desk
+pub mod Kept
 pub mod Verdict

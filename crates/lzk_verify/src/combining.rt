@@ -2,7 +2,6 @@
 
 ghost use Rattle.std.specs.Prelude.{◌≡◌, ◌-◌, ◌*◌, length};
 ghost use Rattle.lzk_layout.specs.Sizes.{AreBounded, params_of};
-ghost use Rattle.lzk_layout.specs.Proofs.{HasLengths};
 ghost use Rattle.lzk_accept.specs.Checks.{combined_row_of, wanted_of};
 ghost use Rattle.lzk_accept.specs.Kept.{AreFormsOf};
 ghost use Rattle.lzk_verify.specs.Desk.{AreRows, HasRoom};
@@ -11,14 +10,14 @@ use crate::drawing::Drawn;
 use lzk_accept::{Forms, combine, linear_forms};
 use lzk_circuit::Circuit;
 use lzk_field::Field;
-use lzk_layout::{Params, Proof};
+use lzk_layout::Params;
 
 /// Sets the forms, and the combined coefficients row by row from row 3 on. Gives the sum that is wanted.
 pub(crate) fn combine_constraints<F: Field>(
     circuit: &Circuit<F>,
     params: &Params,
     public: &[F],
-    proof: &Proof<F>,
+    messages: &[F],
     drawn: &Drawn<F>,
     forms: &mut Forms<F>,
     combined: &mut [F],
@@ -26,21 +25,15 @@ pub(crate) fn combine_constraints<F: Field>(
     requires params { params.now ≡ params_of circuit.now }
     requires bounded { AreBounded params.now }
     requires public { length public.now ≡ circuit.now.publics }
-    requires lengths { HasLengths params.now proof.now }
+    requires messages { length messages.now ≡ params.now.nsum }
     requires drawn { HasRoom circuit.now params.now drawn.now }
     requires forms { AreFormsOf F.ops circuit.now forms.old }
     requires room { length combined.old ≡ (params.now.nrow - 3) * params.now.wr }
-    ensures rows { AreRows F.ops params.now combined.new (combined_row_of F.ops F.element circuit.now public.now drawn.now.script proof.now.messages drawn.now.challenges) }
-    ensures wanted { result ≡ wanted_of F.ops F.element circuit.now public.now drawn.now.script proof.now.messages drawn.now.challenges }
+    ensures rows { AreRows F.ops params.now combined.new (combined_row_of F.ops F.element circuit.now public.now drawn.now.script messages.now drawn.now.challenges) }
+    ensures wanted { result ≡ wanted_of F.ops F.element circuit.now public.now drawn.now.script messages.now drawn.now.challenges }
     ensures forms { AreFormsOf F.ops circuit.now forms.new }
     ensures room { length combined.new ≡ (params.now.nrow - 3) * params.now.wr }
 {
-    linear_forms(
-        circuit,
-        public,
-        &drawn.script,
-        proof.messages.as_slice(),
-        forms,
-    );
+    linear_forms(circuit, public, &drawn.script, messages, forms);
     combine(params, forms, &drawn.challenges, combined)
 }

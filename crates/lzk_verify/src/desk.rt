@@ -1,47 +1,59 @@
 //! The desk.
 
-ghost use Rattle.std.specs.Prelude.{◌≡◌, ◌≤◌, length, IfOk};
+ghost use Rattle.std.specs.Prelude.{◌≡◌, ℕ, ◌≤◌, true, false, None, List, [], ◌∷◌, ◌++◌, length, IfOk, IsTrue, ◌↔◌};
 ghost use Rattle.lzk_field.specs.Coding.{coding};
+ghost use Rattle.lzk_verify.specs.Kept as spec;
+ghost use Rattle.lzk_verify.specs.Kept.{Stands};
 ghost use Rattle.lzk_verify.specs.Verdict.{IsVerdict, IsOnlyVerdict, AcceptsExactly};
 
-use crate::drawing::Drawn;
+use crate::intake::Intake;
 use crate::judging::judge;
 use crate::room::Room;
 use crate::verdict::Verdict;
 use lzk_circbytes::id;
 use lzk_circuit::Circuit;
 use lzk_field::Field;
-use lzk_layout::{Params, Proof, decode_proof};
+use lzk_layout::{Cursor, CursorStep, Params};
 use std::alloc::{AllocError, Global};
 use std::marker::Model;
 
-/// A verifier of proofs over one circuit.
+/// A verifier of proofs over one circuit, which is fed a proof's file in pieces.
 ///
-/// All memory is taken by `new`, and a desk serves any number of proofs.
+/// All memory is taken by `new`, and a desk serves any number of proofs. It keeps the elements that a proof sends, the
+/// column that is being read, and digests, and no list of the file's bytes.
+///
+/// ```text
+/// desk.open(&session, &public);
+/// while let Some(piece) = next_piece(file)? {
+///     desk.feed(piece);
+/// }
+/// match desk.end() {
+///     Verdict::Accepted => println!(rt; "accepted")?,
+///     verdict => println!(rt; "{:?}", verdict)?,
+/// }
+/// ```
 #[derive(Drop)]
 pub struct Desk<'c, F: Field> {
     circuit: &'c Circuit<F>,
     params: Params,
     id: [u8; 32],
-    proof: Proof<F>,
-    drawn: Drawn<F>,
+    fed: bool,
+    cursor: Cursor<F>,
+    intake: Intake<F>,
     room: Room<F>,
 }
 
 impl<'c, F: Field> Model for Desk<'c, F> {
-    ghost use Rattle.std.specs.Prelude.{◌≡◌, ◌≤◌};
+    ghost use Rattle.std.specs.Prelude.{◌≡◌};
     ghost use Rattle.lzk_field.specs.Coding.{coding};
-    ghost use Rattle.lzk_circuit.specs.Valid.{Wiring};
-    ghost use Rattle.lzk_layout.specs.Sizes.{AreBounded, AreParams, params_of};
-    ghost use Rattle.lzk_layout.specs.Proofs.{HasLengths};
-    ghost use Rattle.lzk_verify.specs.Checks.{id_of};
-    ghost use Rattle.lzk_verify.specs.Desk.{AreRooms, HasRoom};
+    ghost use Rattle.lzk_verify.specs.Desk.{AreParts, held_of};
+    ghost use Rattle.lzk_verify.specs.Kept.{DeskState};
 
-    ghost Value = { Wiring F };
+    ghost Value = { DeskState F };
 
-    ghost view = { λ d. d.circuit.now };
+    ghost view = { λ d. record { circuit = d.circuit.now; held = held_of F.ops (coding F.element F.number_of F.BYTES F.size F.ID) d.circuit.now d.params d.fed d.cursor.place d.intake } };
 
-    ghost invariant = { λ d. (d.params ≡ params_of d.circuit.now) × AreParams F.ops d.params × AreBounded d.params × (d.id ≡ id_of (coding F.element F.number_of F.BYTES F.size F.ID) d.circuit.now) × HasLengths d.params d.proof × (1536 ≤ d.proof.path.room) × HasRoom d.circuit.now d.params d.drawn × AreRooms F.ops d.circuit.now d.params d.room };
+    ghost invariant = { λ d. AreParts F.ops (coding F.element F.number_of F.BYTES F.size F.ID) d.circuit.now d.params d.id d.cursor d.intake d.room };
 }
 
 impl<'c, F: Field> Desk<'c, F> {
@@ -51,48 +63,111 @@ impl<'c, F: Field> Desk<'c, F> {
     ///
     /// `AllocError` where the memory for a proof, what the tape gives, and the checks is not given.
     pub fn new(alloc: Global, circuit: &'c Circuit<F>) -> Result<Desk<'c, F>, AllocError>
-        ensures { IfOk result (λ desk. desk ≡ circuit.now) }
+        ensures circuit { IfOk result (λ desk. desk.circuit ≡ circuit.now) }
+        ensures idle { IfOk result (λ desk. spec.is_fed desk ≡ false) }
     {
         let params = Params::of(circuit);
         Ok(Desk {
             circuit,
             params,
             id: id(alloc, circuit)?,
-            proof: Proof::new(alloc, &params)?,
-            drawn: Drawn::new(alloc, circuit)?,
+            fed: false,
+            cursor: Cursor::new(&params),
+            intake: Intake::new(alloc, circuit, &params)?,
             room: Room::new(alloc, circuit, &params)?,
         })
     }
 
-    /// The verdict on these bytes: the first check that they fail, or that they fail none. No memory is taken, and the
-    /// desk may be used again after any answer.
-    pub fn verify(&mut self, session: &[u8], public: &[F], bytes: &[u8]) -> Verdict<F>
+    /// Begins to read a file. What was fed before is given up.
+    pub fn open(&mut self, session: &[u8], public: &[F])
         requires session { length session.now ≤ 64 }
-        requires public { length public.now ≡ self.old.publics }
-        ensures verdict { IsVerdict F.ops (coding F.element F.number_of F.BYTES F.size F.ID) self.old session.now public.now bytes.now result }
-        ensures one { IsOnlyVerdict F.ops (coding F.element F.number_of F.BYTES F.size F.ID) self.old session.now public.now bytes.now result }
-        ensures accepted { AcceptsExactly F.ops (coding F.element F.number_of F.BYTES F.size F.ID) self.old session.now public.now bytes.now }
-        ensures circuit { self.new ≡ self.old }
+        requires public { length public.now ≡ self.old.circuit.publics }
+        ensures stands { Stands F.ops (coding F.element F.number_of F.BYTES F.size F.ID) session.now public.now [] self.new }
+        ensures fed { spec.is_fed self.new ≡ true }
+        ensures circuit { self.new.circuit ≡ self.old.circuit }
     {
-        if let Err(fault) = decode_proof(&self.params, bytes, &mut self.proof) {
+        self.cursor = Cursor::new(&self.params);
+        self.intake.begin(session, &self.id, public);
+        self.fed = true;
+    }
+
+    // The file's next byte.
+    fn push(&mut self, byte: u8)
+        requires fed { spec.is_fed self.old ≡ true }
+        ensures stands { let e = coding F.element F.number_of F.BYTES F.size F.ID in
+            (session : List ℕ) (public : List F) (bytes : List ℕ) → Stands F.ops e session public bytes self.old → Stands F.ops e session public (bytes ++ byte ∷ []) self.new }
+        ensures fed { spec.is_fed self.new ≡ true }
+        ensures circuit { self.new.circuit ≡ self.old.circuit }
+    {
+        if let CursorStep::Field(part, block, _) = self.cursor.push(byte) {
+            self.intake
+                .take(self.circuit, &self.params, part, &block, &mut self.room);
+        }
+    }
+
+    /// The next bytes of the file.
+    pub fn feed(&mut self, piece: &[u8])
+        requires fed { spec.is_fed self.old ≡ true }
+        ensures stands { let e = coding F.element F.number_of F.BYTES F.size F.ID in
+            (session : List ℕ) (public : List F) (bytes : List ℕ) → Stands F.ops e session public bytes self.old → Stands F.ops e session public (bytes ++ piece.now) self.new }
+        ensures fed { spec.is_fed self.new ≡ true }
+        ensures circuit { self.new.circuit ≡ self.old.circuit }
+    {
+        for byte in piece {
+            self.push(*byte);
+        }
+    }
+
+    // The verdict on all bytes that were fed.
+    fn judged(&mut self) -> Verdict<F>
+        requires fed { spec.is_fed self.old ≡ true }
+        ensures verdict { let e = coding F.element F.number_of F.BYTES F.size F.ID in
+            (session : List ℕ) (public : List F) (bytes : List ℕ) → Stands F.ops e session public bytes self.old → IsVerdict F.ops e self.old.circuit session public bytes result }
+        ensures one { let e = coding F.element F.number_of F.BYTES F.size F.ID in
+            (session : List ℕ) (public : List F) (bytes : List ℕ) → Stands F.ops e session public bytes self.old → IsOnlyVerdict F.ops e self.old.circuit session public bytes result }
+        ensures circuit { self.new.circuit ≡ self.old.circuit }
+    {
+        if let Err(fault) = self.cursor.finish() {
             return Verdict::Format(fault);
         }
-        self.drawn.draw(
-            self.circuit,
-            &self.params,
-            session,
-            &self.id,
-            public,
-            &self.proof,
-        );
-        judge(
-            self.circuit,
-            &self.params,
-            &self.id,
-            public,
-            &self.proof,
-            &self.drawn,
-            &mut self.room,
-        )
+        judge(&self.params, &self.id, &self.intake, &mut self.room.nodes)
+    }
+
+    /// The verdict on all bytes that were fed.
+    pub fn end(&mut self) -> Verdict<F>
+        requires fed { spec.is_fed self.old ≡ true }
+        ensures verdict { let e = coding F.element F.number_of F.BYTES F.size F.ID in
+            (session : List ℕ) (public : List F) (bytes : List ℕ) → Stands F.ops e session public bytes self.old → IsVerdict F.ops e self.old.circuit session public bytes result }
+        ensures one { let e = coding F.element F.number_of F.BYTES F.size F.ID in
+            (session : List ℕ) (public : List F) (bytes : List ℕ) → Stands F.ops e session public bytes self.old → IsOnlyVerdict F.ops e self.old.circuit session public bytes result }
+        ensures idle { spec.is_fed self.new ≡ false }
+        ensures circuit { self.new.circuit ≡ self.old.circuit }
+    {
+        let verdict = self.judged();
+        self.fed = false;
+        verdict
+    }
+
+    /// Whether a file is being read.
+    pub fn is_fed(&self) -> bool
+        ensures { result ≡ spec.is_fed self.now }
+    {
+        self.fed
+    }
+
+    /// The verdict on these bytes: the first check that they fail, or that they fail none. What was fed before is given
+    /// up. No memory is taken, and the desk may be used again after any answer.
+    pub fn verify(&mut self, session: &[u8], public: &[F], bytes: &[u8]) -> Verdict<F>
+        requires session { length session.now ≤ 64 }
+        requires public { length public.now ≡ self.old.circuit.publics }
+        ensures verdict { IsVerdict F.ops (coding F.element F.number_of F.BYTES F.size F.ID) self.old.circuit session.now public.now bytes.now result }
+        ensures one { IsOnlyVerdict F.ops (coding F.element F.number_of F.BYTES F.size F.ID) self.old.circuit session.now public.now bytes.now result }
+        ensures accepted { AcceptsExactly F.ops (coding F.element F.number_of F.BYTES F.size F.ID) self.old.circuit session.now public.now bytes.now }
+        ensures idle { spec.is_fed self.new ≡ false }
+        ensures circuit { self.new.circuit ≡ self.old.circuit }
+    {
+        self.open(session, public);
+        self.feed(bytes);
+        self.end()
     }
 }

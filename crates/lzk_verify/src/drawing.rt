@@ -1,19 +1,20 @@
 //! What the tape gives to a proof.
 
-ghost use Rattle.std.specs.Prelude.{◌≡◌, ◌≤◌, length, IfOk};
+ghost use Rattle.std.specs.Prelude.{◌≡◌, ◌<◌, ◌≤◌, length, slice_index, IfOk};
 ghost use Rattle.lzk_field.specs.Coding.{coding};
 ghost use Rattle.lzk_merkle.specs.Nodes.{AreOpened};
+ghost use Rattle.lzk_transcript.specs.Columns.{opened};
 ghost use Rattle.lzk_layout.specs.Sizes.{AreBounded, params_of};
-ghost use Rattle.lzk_layout.specs.Proofs.{HasLengths};
-ghost use Rattle.lzk_sumcheck.specs.Opening.{opening};
-ghost use Rattle.lzk_accept.specs.Challenges as spec;
-ghost use Rattle.lzk_accept.specs.Challenges.{transcript};
+ghost use Rattle.lzk_sumcheck.specs.Draws.{with_array};
+ghost use Rattle.lzk_sumcheck.specs.Opening as spec;
 ghost use Rattle.lzk_verify.specs.Desk.{HasRoom};
+ghost use Rattle.lzk_verify.specs.Kept.{sent_count, ldt_in, dot_in, head_in, tail_in, whole_transcript};
 
+use crate::sent::{dot_of, head_of, ldt_of, messages_of, tail_of};
 use lzk_accept::{Challenges, draw_challenges};
 use lzk_circuit::Circuit;
 use lzk_field::Field;
-use lzk_layout::{Params, Proof};
+use lzk_layout::Params;
 use lzk_sumcheck::{Script, replay};
 use lzk_transcript::Tape;
 use std::alloc::{AllocError, Global};
@@ -38,77 +39,93 @@ impl<F> Model for Drawn<F> {
     ghost view = { λ d. record { script = d.script; challenges = d.challenges; columns = d.columns.items } };
 }
 
-// The new tape with `lzk1`, the session, the circuit's id, the public inputs and the root written.
+/// The new tape with `lzk1`, the session, the circuit's id and the public inputs written.
 #[tactic(auto, unfolding(lzk_sumcheck::specs::Opening::public_tape))]
-fn open_tape<F: Field>(session: &[u8], id: &[u8; 32], public: &[F], root: &[u8; 32]) -> Tape
-    ensures { result ≡ opening (coding F.element F.number_of F.BYTES F.size F.ID) session.now id.now public.now root.now }
+pub(crate) fn public_tape<F: Field>(session: &[u8], id: &[u8; 32], public: &[F]) -> Tape
+    ensures { result ≡ spec.public_tape (coding F.element F.number_of F.BYTES F.size F.ID) session.now id.now public.now }
 {
     let mut tape = Tape::new();
     tape.bytes(&[b'l', b'z', b'k', b'1']);
     tape.bytes(session);
     tape.bytes(id);
     tape.array(public);
-    tape.bytes(root);
     tape
 }
 
 // Writes the answers, and draws the columns that are opened.
-fn draw_opened<F: Field>(params: &Params, tape: &mut Tape, proof: &Proof<F>, columns: &mut [u32])
+fn draw_opened<F: Field>(params: &Params, tape: &mut Tape, sent: &[F], columns: &mut [u32])
     requires bounded { AreBounded params.now }
+    requires sent { length sent.now ≡ sent_count params.now }
     requires room { length columns.old ≡ 128 }
-    ensures columns { columns.new ≡ spec.columns (coding F.element F.number_of F.BYTES F.size F.ID) params.now proof.now tape.old }
+    ensures columns { let e = coding F.element F.number_of F.BYTES F.size F.ID in
+        columns.new ≡ opened params.now.mcol 128 (with_array e (tail_in params.now sent.now) (with_array e (head_in params.now sent.now) (with_array e (dot_in params.now sent.now) (with_array e (ldt_in params.now sent.now) tape.old)))) }
     ensures opened { AreOpened params.now.mcol columns.new }
     ensures room { length columns.new ≡ 128 }
 {
-    tape.array(proof.ldt.as_slice());
-    tape.array(proof.dot.as_slice());
-    tape.array(proof.quad_head.as_slice());
-    tape.array(proof.quad_tail.as_slice());
+    tape.array(ldt_of(params, sent));
+    tape.array(dot_of(params, sent));
+    tape.array(head_of(params, sent));
+    tape.array(tail_of(params, sent));
     tape.draw_columns(params.mcol, columns);
+}
+
+// As many columns, from the first on.
+fn first_columns(alloc: Global) -> Result<Vec<u32>, AllocError>
+    ensures count { IfOk result (λ list. length list.items ≡ 128) }
+    ensures opened { IfOk result (λ list. AreOpened 128 list.items) }
+{
+    let mut columns = Vec::new(alloc);
+    columns.resize(OPENED, 0)?;
+    for j in 0..OPENED {
+        columns[j] = j as u32;
+    }
+    Ok(columns)
 }
 
 impl<F: Field> Drawn<F> {
     /// Room for what this circuit's tape gives.
     pub(crate) fn new(alloc: Global, circuit: &Circuit<F>) -> Result<Drawn<F>, AllocError>
-        ensures { IfOk result (λ d. HasRoom circuit.now (params_of circuit.now) d) }
+        ensures room { IfOk result (λ d. HasRoom circuit.now (params_of circuit.now) d) }
+        ensures opened { IfOk result (λ d. AreOpened (params_of circuit.now).mcol d.columns) }
     {
         let params = Params::of(circuit);
-        let mut columns = Vec::new(alloc);
-        columns.resize(OPENED, 0)?;
         Ok(Drawn {
             script: Script::new(alloc, circuit)?,
             challenges: Challenges::new(alloc, &params)?,
-            columns,
+            columns: first_columns(alloc)?,
         })
     }
 
-    /// Runs the tape with what a proof sends. `id` is the circuit's. No memory is taken.
-    #[tactic(auto, unfolding(lzk_accept::specs::Challenges::transcript))]
+    /// The k-th opened column.
+    pub(crate) fn column(&self, k: usize) -> u32
+        requires { k < length self.now.columns }
+        ensures { result ≡ slice_index self.now.columns k }
+    {
+        self.columns[k]
+    }
+
+    /// Runs the tape, to which session, circuit's id and public inputs are written, with what a proof sends. No memory
+    /// is taken.
+    #[tactic(auto, unfolding(crate::specs::Kept::whole_transcript))]
     pub(crate) fn draw(
         &mut self,
         circuit: &Circuit<F>,
         params: &Params,
-        session: &[u8],
-        id: &[u8; 32],
-        public: &[F],
-        proof: &Proof<F>,
+        tape: &mut Tape,
+        root: &[u8; 32],
+        sent: &[F],
     )
         requires params { params.now ≡ params_of circuit.now }
         requires bounded { AreBounded params.now }
-        requires lengths { HasLengths params.now proof.now }
+        requires sent { length sent.now ≡ sent_count params.now }
         requires room { HasRoom circuit.now params.now self.old }
-        ensures drawn { self.new ≡ transcript F.ops (coding F.element F.number_of F.BYTES F.size F.ID) circuit.now session.now id.now public.now proof.now }
+        ensures drawn { self.new ≡ whole_transcript F.ops (coding F.element F.number_of F.BYTES F.size F.ID) circuit.now params.now tape.old root.now sent.now }
         ensures room { HasRoom circuit.now params.now self.new }
         ensures opened { AreOpened params.now.mcol self.new.columns }
     {
-        let mut tape = open_tape(session, id, public, &proof.root);
-        replay(
-            circuit,
-            &mut tape,
-            proof.messages.as_slice(),
-            &mut self.script,
-        );
-        draw_challenges(params, &mut tape, &mut self.challenges);
-        draw_opened(params, &mut tape, proof, &mut self.columns);
+        tape.bytes(root);
+        replay(circuit, tape, messages_of(params, sent), &mut self.script);
+        draw_challenges(params, tape, &mut self.challenges);
+        draw_opened(params, tape, sent, &mut self.columns);
     }
 }

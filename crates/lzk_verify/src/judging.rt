@@ -1,121 +1,65 @@
 //! The verdict on a proof that was read.
 
-ghost use Rattle.std.specs.Prelude.{◌≡◌, ◌≤◌, length};
-ghost use Rattle.lzk_field.specs.Coding.{coding};
-ghost use Rattle.lzk_merkle.specs.Nodes.{AreOpened};
-ghost use Rattle.lzk_layout.specs.Sizes.{AreBounded, params_of};
-ghost use Rattle.lzk_layout.specs.Proofs.{HasLengths};
-ghost use Rattle.lzk_verify.specs.Checks.{id_of};
-ghost use Rattle.lzk_verify.specs.Desk.{AreRooms, HasRoom};
-ghost use Rattle.lzk_verify.specs.Verdict.{AreAnswersJudged, IsJudged};
+ghost use Rattle.std.specs.Prelude.{◌≡◌, ◌≤◌, ◌*◌, ◌+◌, ◌-◌, length, take};
+ghost use Rattle.lzk_field.specs.Sums.{entry, sum_below};
+ghost use Rattle.lzk_layout.specs.Sizes.{AreBounded};
+ghost use Rattle.lzk_verify.specs.Desk.{AreLists, AreFoundAnswers, IsFound};
 
-use crate::combining::combine_constraints;
-use crate::drawing::Drawn;
-use crate::linear::linear;
-use crate::low_degree::{check_linear_sum, low_degree};
+use crate::intake::Intake;
+use crate::low_degree::check_linear_sum;
 use crate::opening::{check_circuit_id, check_path_count, check_root};
-use crate::quadratic::{fill_quadratic, quadratic};
-use crate::room::Room;
+use crate::sent::dot_of;
 use crate::verdict::Verdict;
-use lzk_circuit::Circuit;
 use lzk_field::Field;
-use lzk_layout::{Params, Proof};
+use lzk_layout::Params;
 
 // The first check of the answers that fails, or that none fails.
-fn judge_answers<F: Field>(
-    circuit: &Circuit<F>,
-    params: &Params,
-    public: &[F],
-    proof: &Proof<F>,
-    drawn: &Drawn<F>,
-    room: &mut Room<F>,
-) -> Verdict<F>
-    requires params { params.now ≡ params_of circuit.now }
+fn judge_answers<F: Field>(params: &Params, intake: &Intake<F>) -> Verdict<F>
     requires bounded { AreBounded params.now }
-    requires public { length public.now ≡ circuit.now.publics }
-    requires lengths { HasLengths params.now proof.now }
-    requires drawn { HasRoom circuit.now params.now drawn.now }
-    requires opened { AreOpened params.now.mcol drawn.now.columns }
-    requires room { AreRooms F.ops circuit.now params.now room.old }
-    ensures judged { AreAnswersJudged F.ops (coding F.element F.number_of F.BYTES F.size F.ID) circuit.now params.now public.now proof.now drawn.now result }
-    ensures room { AreRooms F.ops circuit.now params.now room.new }
+    requires lists { AreLists params.now intake.now }
+    ensures { AreFoundAnswers F.ops params.now intake.now result }
 {
-    let columns = drawn.columns.as_slice();
-    let combined = room.combined.as_mut_slice();
-    let values = room.values.as_mut_slice();
-    let u = drawn.challenges.u.as_slice();
-    if let Some(column) = low_degree(params, proof, columns, u, &room.rows) {
+    if let Some(column) = intake.failing.low_degree {
         return Verdict::LowDegree { column };
     }
-    let wanted = combine_constraints(
-        circuit,
-        params,
-        public,
-        proof,
-        drawn,
-        &mut room.forms,
-        combined,
-    );
-    if let Some(found) = check_linear_sum(params, proof, wanted) {
+    let wanted = intake.wanted;
+    if let Some(found) = check_linear_sum(params, dot_of(params, &intake.sent), wanted) {
         return Verdict::LinearSum { found, wanted };
     }
-    if let Some(column) = linear(
-        params,
-        proof,
-        columns,
-        combined,
-        &mut room.row,
-        &room.rows,
-        &room.products,
-    ) {
+    if let Some(column) = intake.failing.linear {
         return Verdict::Linear { column };
     }
-    fill_quadratic(params, proof, values);
-    let v = drawn.challenges.v.as_slice();
-    if let Some(column) = quadratic(params, proof, columns, v, values, &room.products) {
+    if let Some(column) = intake.failing.quadratic {
         return Verdict::Quadratic { column };
     }
     Verdict::Accepted
 }
 
-/// The first check that fails, or that none fails. `id` is the circuit's, and `drawn` is what the tape gives. No memory
-/// is taken.
+/// The first check that fails, or that none fails, of a proof whose fields are all read. `id` is the circuit's, and
+/// `nodes` is room. No memory is taken.
 pub(crate) fn judge<F: Field>(
-    circuit: &Circuit<F>,
     params: &Params,
     id: &[u8; 32],
-    public: &[F],
-    proof: &Proof<F>,
-    drawn: &Drawn<F>,
-    room: &mut Room<F>,
+    intake: &Intake<F>,
+    nodes: &mut [[u8; 32]],
 ) -> Verdict<F>
-    requires params { params.now ≡ params_of circuit.now }
     requires bounded { AreBounded params.now }
-    requires id { id.now ≡ id_of (coding F.element F.number_of F.BYTES F.size F.ID) circuit.now }
-    requires public { length public.now ≡ circuit.now.publics }
-    requires lengths { HasLengths params.now proof.now }
-    requires few { length proof.now.path.digests ≤ 1536 }
-    requires drawn { HasRoom circuit.now params.now drawn.now }
-    requires opened { AreOpened params.now.mcol drawn.now.columns }
-    requires room { AreRooms F.ops circuit.now params.now room.old }
-    ensures judged { IsJudged F.ops (coding F.element F.number_of F.BYTES F.size F.ID) circuit.now params.now public.now proof.now drawn.now result }
-    ensures room { AreRooms F.ops circuit.now params.now room.new }
+    requires lists { AreLists params.now intake.now }
+    requires nodes { length nodes.old ≡ 2 * params.now.mcol }
+    ensures found { IsFound F.ops params.now id.now intake.now result }
+    ensures nodes { length nodes.new ≡ 2 * params.now.mcol }
 {
-    if let Some(found) = check_circuit_id(id, proof) {
+    if let Some(found) = check_circuit_id(id, &intake.id) {
         return Verdict::CircuitId { found };
     }
-    if let Some(needed) = check_path_count(params, proof, &drawn.columns) {
-        let found = proof.path.len() as u32;
+    let columns = intake.drawn.columns.as_slice();
+    let found = intake.count;
+    if let Some(needed) = check_path_count(params, found, columns) {
         return Verdict::PathCount { found, needed };
     }
-    if let Some(found) = check_root(
-        params,
-        proof,
-        &drawn.columns,
-        &mut room.leaves,
-        &mut room.nodes,
-    ) {
+    let path = &intake.digests.as_slice()[..found as usize];
+    if let Some(found) = check_root(params, &intake.root, columns, &intake.leaves, path, nodes) {
         return Verdict::Root { found };
     }
-    judge_answers(circuit, params, public, proof, drawn, room)
+    judge_answers(params, intake)
 }

@@ -4,10 +4,10 @@
 //! checks follow, in the order of docs/PROTOCOL.md, section 9: the first that fails is the verdict.
 #![tactic(auto)]
 
-mod columns;
 mod combining;
 mod desk;
 mod drawing;
+mod intake;
 mod judging;
 mod linear;
 mod lists;
@@ -15,6 +15,7 @@ mod low_degree;
 mod opening;
 mod quadratic;
 mod room;
+mod sent;
 mod verdict;
 
 pub use desk::Desk;

@@ -1,17 +1,15 @@
-//! The check of the linear answer at the opened columns.
+//! The check of the linear answer at an opened column.
 
 ghost use Rattle.std.specs.Prelude.{◌≡◌, ℕ, ◌+◌, ◌-◌, ◌*◌, ◌<◌, ◌≤◌, ◌↔◌, IsTrue, List, length};
 ghost use Rattle.lzk_field.specs.Sums.{entry, sum_below};
 ghost use Rattle.lzk_poly.specs.Extension.{extension};
 ghost use Rattle.lzk_layout.specs.Sizes.{AreBounded};
-ghost use Rattle.lzk_layout.specs.Proofs.{HasLengths};
-ghost use Rattle.lzk_accept.specs.Checks.{IsLinear, at_row};
-ghost use Rattle.lzk_verify.specs.Desk.{IsFirstFailing, IsOpened, AreRows, rows, products};
+ghost use Rattle.lzk_verify.specs.Columns.{IsLinearIn};
+ghost use Rattle.lzk_verify.specs.Desk.{AreRows, rows, products};
 
-use crate::columns::column_of;
 use crate::lists::clear;
 use lzk_field::Field;
-use lzk_layout::{Params, Proof};
+use lzk_layout::Params;
 use lzk_poly::{Extender, extension_laws};
 
 // Adds a multiple of a row of combined coefficients.
@@ -88,55 +86,29 @@ fn are_equal<F: Field>(x: F, y: F) -> bool
     x == y
 }
 
-// Whether the linear answer is right at the opened column number `k`.
-fn is_linear_at<F: Field>(
+/// Whether the linear answer is right at the point of a column. `row` is room, and says nothing afterwards.
+pub(crate) fn is_linear_at<F: Field>(
     params: &Params,
-    proof: &Proof<F>,
-    columns: &[u32],
+    dot: &[F],
+    column: &[F],
     combined: &[F],
     row: &mut [F],
     extender: &Extender<F>,
     answers: &Extender<F>,
-    k: usize,
+    point: u32,
 ) -> bool
-    requires opened { IsOpened params.now proof.now columns.now }
+    requires bounded { AreBounded params.now }
+    requires dot { length dot.now ≡ params.now.dblock }
+    requires column { length column.now ≡ params.now.nrow }
     requires combined { length combined.now ≡ (params.now.nrow - 3) * params.now.wr }
     requires row { length row.old ≡ params.now.block }
     requires reach { extender.now ≡ rows params.now }
     requires answers { answers.now ≡ products params.now }
-    requires inside { k < 128 }
+    requires inside { point < params.now.ncol }
     ensures room { length row.new ≡ length row.old }
-    ensures right { (lists : ℕ → List F) → AreRows F.ops params.now combined.now lists → (IsTrue result ↔ IsLinear F.ops params.now proof.now F.element columns.now lists k) }
+    ensures right { (lists : ℕ → List F) → AreRows F.ops params.now combined.now lists → (IsTrue result ↔ IsLinearIn F.ops F.element params.now column.now point dot.now lists) }
 {
-    let point = params.dblock + columns[k];
-    let answer = answers.extend_at(proof.dot.as_slice(), point);
-    let column = column_of(params, proof, k);
+    let answer = answers.extend_at(dot, point);
     let sum = linear_sum_at(params, column, combined, row, extender, point);
     are_equal(answer, column[1].add(sum))
-}
-
-/// The least opened column at which the linear answer is wrong. `row` is room, and says nothing afterwards.
-pub(crate) fn linear<F: Field>(
-    params: &Params,
-    proof: &Proof<F>,
-    columns: &[u32],
-    combined: &[F],
-    row: &mut [F],
-    extender: &Extender<F>,
-    answers: &Extender<F>,
-) -> Option<u32>
-    requires opened { IsOpened params.now proof.now columns.now }
-    requires combined { length combined.now ≡ (params.now.nrow - 3) * params.now.wr }
-    requires row { length row.old ≡ params.now.block }
-    requires reach { extender.now ≡ rows params.now }
-    requires answers { answers.now ≡ products params.now }
-    ensures room { length row.new ≡ length row.old }
-    ensures least { (lists : ℕ → List F) → AreRows F.ops params.now combined.now lists → IsFirstFailing columns.now (IsLinear F.ops params.now proof.now F.element columns.now lists) result }
-{
-    for k in 0..columns.len() {
-        if !is_linear_at(params, proof, columns, combined, row, extender, answers, k) {
-            return Some(columns[k]);
-        }
-    }
-    None
 }

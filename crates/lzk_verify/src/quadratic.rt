@@ -1,16 +1,14 @@
-//! The check of the quadratic answer at the opened columns.
+//! The check of the quadratic answer at an opened column.
 
 ghost use Rattle.std.specs.Prelude.{◌≡◌, ℕ, ◌+◌, ◌-◌, ◌*◌, ◌<◌, ◌≤◌, ◌↔◌, ◌++◌, IsTrue, replicate, length};
 ghost use Rattle.lzk_field.specs.Sums.{entry, sum_below, minus};
 ghost use Rattle.lzk_layout.specs.Sizes.{AreBounded};
-ghost use Rattle.lzk_layout.specs.Proofs.{HasLengths};
-ghost use Rattle.lzk_accept.specs.Checks.{IsQuadratic, at_row, in_triple, quadratic_values};
-ghost use Rattle.lzk_verify.specs.Desk.{IsFirstFailing, IsOpened, products};
+ghost use Rattle.lzk_verify.specs.Columns.{IsQuadraticIn, in_triple, values_of};
+ghost use Rattle.lzk_verify.specs.Desk.{products};
 
-use crate::columns::column_of;
 use crate::lists::clear;
 use lzk_field::Field;
-use lzk_layout::{Params, Proof};
+use lzk_layout::Params;
 use lzk_poly::Extender;
 
 // Zeros between the first values and the last ones.
@@ -25,19 +23,16 @@ fn fill_between<F: Field>(first: &[F], last: &[F], values: &mut [F])
     back.copy_from_slice(last);
 }
 
-/// All values of the quadratic answer.
-pub(crate) fn fill_quadratic<F: Field>(params: &Params, proof: &Proof<F>, values: &mut [F])
+/// All values of the quadratic answer, of its first ones and its last.
+pub(crate) fn fill_quadratic<F: Field>(params: &Params, head: &[F], tail: &[F], values: &mut [F])
     requires bounded { AreBounded params.now }
-    requires lengths { HasLengths params.now proof.now }
+    requires head { length head.now ≡ 128 }
+    requires tail { length tail.now ≡ params.now.dblock - params.now.block }
     requires room { length values.old ≡ params.now.dblock }
-    ensures values { values.new ≡ quadratic_values F.ops params.now proof.now }
+    ensures values { values.new ≡ values_of F.ops params.now head.now tail.now }
     ensures room { length values.new ≡ params.now.dblock }
 {
-    fill_between(
-        proof.quad_head.as_slice(),
-        proof.quad_tail.as_slice(),
-        values,
-    );
+    fill_between(head, tail, values);
 }
 
 // The product of the first two elements less the third, of a column's triple that begins at this row.
@@ -48,15 +43,13 @@ fn triple_at<F: Field>(column: &[F], row: usize) -> F
     column[row].mul(column[row + 1]).sub(column[row + 2])
 }
 
-// The sum of each v times what a column's triple gives.
-fn quadratic_sum<F: Field>(params: &Params, proof: &Proof<F>, v: &[F], k: usize) -> F
+// The sum of each v times what a column's triple gives, and of its third element.
+fn quadratic_sum<F: Field>(params: &Params, column: &[F], v: &[F]) -> F
     requires bounded { AreBounded params.now }
-    requires lengths { HasLengths params.now proof.now }
-    requires inside { k < 128 }
+    requires column { length column.now ≡ params.now.nrow }
     requires v { length v.now ≡ params.now.ntriple }
-    ensures { result ≡ F.ops.plus (at_row F.ops params.now proof.now k 2) (sum_below F.ops params.now.ntriple (λ i. F.ops.times (entry F.ops v.now i) (minus F.ops (F.ops.times (in_triple F.ops params.now proof.now k i 0) (in_triple F.ops params.now proof.now k i 1)) (in_triple F.ops params.now proof.now k i 2)))) }
+    ensures { result ≡ F.ops.plus (entry F.ops column.now 2) (sum_below F.ops params.now.ntriple (λ i. F.ops.times (entry F.ops v.now i) (minus F.ops (F.ops.times (in_triple F.ops params.now column.now i 0) (in_triple F.ops params.now column.now i 1)) (in_triple F.ops params.now column.now i 2)))) }
 {
-    let column = column_of(params, proof, k);
     let first = 3 + params.nwrow as usize;
     let mut sum = F::zero();
     for i in 0..v.len() {
@@ -65,48 +58,23 @@ fn quadratic_sum<F: Field>(params: &Params, proof: &Proof<F>, v: &[F], k: usize)
     column[2].add(sum)
 }
 
-// Whether the quadratic answer is right at the opened column number `k`.
-fn is_quadratic_at<F: Field>(
+/// Whether the quadratic answer, whose values these are, is right at the point of a column.
+pub(crate) fn is_quadratic_at<F: Field>(
     params: &Params,
-    proof: &Proof<F>,
-    columns: &[u32],
-    v: &[F],
     values: &[F],
+    column: &[F],
+    v: &[F],
     extender: &Extender<F>,
-    k: usize,
+    point: u32,
 ) -> bool
-    requires opened { IsOpened params.now proof.now columns.now }
+    requires bounded { AreBounded params.now }
+    requires values { length values.now ≡ params.now.dblock }
+    requires column { length column.now ≡ params.now.nrow }
     requires v { length v.now ≡ params.now.ntriple }
-    requires values { values.now ≡ quadratic_values F.ops params.now proof.now }
-    requires count { length values.now ≡ params.now.dblock }
     requires reach { extender.now ≡ products params.now }
-    requires inside { k < 128 }
-    ensures { IsTrue result ↔ IsQuadratic F.ops params.now proof.now F.element columns.now v.now k }
+    requires inside { point < params.now.ncol }
+    ensures { IsTrue result ↔ IsQuadraticIn F.ops F.element params.now column.now point values.now v.now }
 {
-    let answer = extender.extend_at(values, params.dblock + columns[k]);
-    answer == quadratic_sum(params, proof, v, k)
-}
-
-/// The least opened column at which the quadratic answer, whose values these are, is wrong.
-pub(crate) fn quadratic<F: Field>(
-    params: &Params,
-    proof: &Proof<F>,
-    columns: &[u32],
-    v: &[F],
-    values: &[F],
-    extender: &Extender<F>,
-) -> Option<u32>
-    requires opened { IsOpened params.now proof.now columns.now }
-    requires v { length v.now ≡ params.now.ntriple }
-    requires values { values.now ≡ quadratic_values F.ops params.now proof.now }
-    requires count { length values.now ≡ params.now.dblock }
-    requires reach { extender.now ≡ products params.now }
-    ensures { IsFirstFailing columns.now (IsQuadratic F.ops params.now proof.now F.element columns.now v.now) result }
-{
-    for k in 0..columns.len() {
-        if !is_quadratic_at(params, proof, columns, v, values, extender, k) {
-            return Some(columns[k]);
-        }
-    }
-    None
+    let answer = extender.extend_at(values, point);
+    answer == quadratic_sum(params, column, v)
 }

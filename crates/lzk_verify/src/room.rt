@@ -2,9 +2,9 @@
 
 ghost use Rattle.std.specs.Prelude.{◌≡◌, IfOk, length, replicate};
 ghost use Rattle.lzk_layout.specs.Sizes.{AreBounded, params_of};
+ghost use Rattle.lzk_accept.specs.Kept.{AreFormsOf};
 ghost use Rattle.lzk_verify.specs.Desk.{AreRooms};
 
-use crate::drawing::OPENED;
 use lzk_accept::Forms;
 use lzk_circuit::{Circuit, zeros};
 use lzk_field::Field;
@@ -24,8 +24,6 @@ pub(crate) struct Room<F: Field> {
     pub(crate) row: Vec<F>,
     /// The values of the quadratic answer.
     pub(crate) values: Vec<F>,
-    /// The digests of the opened columns.
-    pub(crate) leaves: Vec<[u8; 32]>,
     /// The digests of a tree's nodes.
     pub(crate) nodes: Vec<[u8; 32]>,
     /// Extends the values of a row.
@@ -40,10 +38,11 @@ impl<F: Field> Model for Room<F> {
 
     ghost Value = { Rooms F };
 
-    ghost view = { λ r. record { forms = r.forms; combined = length r.combined.items; row = length r.row.items; values = length r.values.items; leaves = length r.leaves.items; nodes = length r.nodes.items; rows = r.rows; products = r.products } };
+    ghost view = { λ r. record { forms = r.forms; combined = r.combined.items; row = length r.row.items; values = r.values.items; nodes = length r.nodes.items; rows = r.rows; products = r.products } };
 }
 
-fn zero_digests(alloc: Global, count: usize) -> Result<Vec<[u8; 32]>, AllocError>
+/// So many digests of zeros.
+pub(crate) fn zero_digests(alloc: Global, count: usize) -> Result<Vec<[u8; 32]>, AllocError>
     ensures { IfOk result (λ list. length list.items ≡ count) }
 {
     let mut list = Vec::new(alloc);
@@ -60,7 +59,8 @@ impl<F: Field> Room<F> {
     ) -> Result<Room<F>, AllocError>
         requires params { params.now ≡ params_of circuit.now }
         requires bounded { AreBounded params.now }
-        ensures { IfOk result (λ room. AreRooms F.ops circuit.now params.now room) }
+        ensures rooms { IfOk result (λ room. AreRooms params.now room) }
+        ensures forms { IfOk result (λ room. AreFormsOf F.ops circuit.now room.forms) }
     {
         let coefficients = (params.nrow - 3) * params.wr;
         Ok(Room {
@@ -68,7 +68,6 @@ impl<F: Field> Room<F> {
             combined: zeros(alloc, coefficients as usize)?,
             row: zeros(alloc, params.block as usize)?,
             values: zeros(alloc, params.dblock as usize)?,
-            leaves: zero_digests(alloc, OPENED)?,
             nodes: zero_digests(alloc, 2 * params.mcol as usize)?,
             rows: Extender::new(alloc, params.block, params.ncol)?,
             products: Extender::new(alloc, params.dblock, params.ncol)?,

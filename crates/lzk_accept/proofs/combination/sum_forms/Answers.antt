@@ -1,4 +1,4 @@
-use Rattle.std.proofs.Common.{◌≡◌, ℕ, length, ap, sym, ◌∙◌, subst, arith, add-one}
+use Rattle.std.proofs.Common.{◌≡◌, ℕ, ◌+◌, ◌≤◌, length, ap, sym, ◌∙◌, subst, arith, add-one}
 use Rattle.std.proofs.lemmas.List.{get_or_default}
 use Rattle.lzk_field.specs.Sums.{entry, sum_below}
 use Rattle.lzk_accept.specs.Kept.{coefficient_in, form_at, IsWithin}
@@ -12,6 +12,22 @@ add_form-requires-clause-within g c κs within =
     let is = c.index-forms-i.is ∙ get_or_default c.args.forms.now i form (record { start = 0; end = 0; above = 0; first = o.zero; second = o.zero; right = o.zero }) (omega arith) in
     subst (IsWithin (length c.args.own.now)) (sym is) (c.requires.within i (omega arith))
 
+pub add_form-requires-clause-end : goal.add_form-requires-clause-end
+add_form-requires-clause-end g c κs within =
+    let o = g.F.Field.ops in
+    let i = c.loop-i.i in
+    let form = c.index-forms-i.result in
+    let is = c.index-forms-i.is ∙ get_or_default c.args.forms.now i form (record { start = 0; end = 0; above = 0; first = o.zero; second = o.zero; right = o.zero }) (omega arith) in
+    subst (λ x. c.args.skip ≤ x.end) (sym is) (c.requires.behind i (omega arith)).0
+
+pub add_form-requires-clause-above : goal.add_form-requires-clause-above
+add_form-requires-clause-above g c κs within =
+    let o = g.F.Field.ops in
+    let i = c.loop-i.i in
+    let form = c.index-forms-i.result in
+    let is = c.index-forms-i.is ∙ get_or_default c.args.forms.now i form (record { start = 0; end = 0; above = 0; first = o.zero; second = o.zero; right = o.zero }) (omega arith) in
+    subst (λ x. c.args.skip ≤ x.above) (sym is) (c.requires.behind i (omega arith)).1
+
 pub loop-i-preserved : goal.loop-i-preserved
 loop-i-preserved g c =
     let o = g.F.Field.ops in
@@ -23,13 +39,13 @@ loop-i-preserved g c =
     let lambda = c.args.lambda.now in
     let is = c.index-forms-i.is ∙ get_or_default forms i form (record { start = 0; end = 0; above = 0; first = o.zero; second = o.zero; right = o.zero }) (omega arith) in
     let by_is = c.index-lambda-i.is ∙ get_or_default lambda i by o.zero (omega (arith, c.requires.count)) in
-    let coefficients : ℕ → ℕ → _ = λ k l. o.times (entry o lambda l) (coefficient_in o own (form_at o forms l) k) in
+    let coefficients : ℕ → ℕ → _ = λ k l. o.times (entry o lambda l) (coefficient_in o own (form_at o forms l) (c.args.skip + k)) in
     let rights : ℕ → _ = λ l. o.times (entry o lambda l) (form_at o forms l).right in
     rw add-one (record {
       entries = λ k. c.add_form.ensures.entries k
-          ∙ ap (λ x. o.plus x (o.times by (coefficient_in o own form k))) (c.loop-i.invariant.entries k)
-          ∙ ap (λ x. o.plus (sum_below o i (coefficients k)) (o.times x (coefficient_in o own form k))) by_is
-          ∙ ap (λ x. o.plus (sum_below o i (coefficients k)) (o.times (entry o lambda i) (coefficient_in o own x k))) is;
+          ∙ ap (λ x. o.plus x (o.times by (coefficient_in o own form (c.args.skip + k)))) (c.loop-i.invariant.entries k)
+          ∙ ap (λ x. o.plus (sum_below o i (coefficients k)) (o.times x (coefficient_in o own form (c.args.skip + k)))) by_is
+          ∙ ap (λ x. o.plus (sum_below o i (coefficients k)) (o.times (entry o lambda i) (coefficient_in o own x (c.args.skip + k)))) is;
       rights = c.add-wanted.ensures
           ∙ ap (λ x. o.plus x c.mul.result) c.loop-i.invariant.rights
           ∙ ap (o.plus (sum_below o i rights)) (c.mul.ensures ∙ ap (λ x. o.times x form.right) by_is ∙ ap (λ x. o.times (entry o lambda i) x.right) is);
@@ -39,4 +55,4 @@ pub returns-clause-entries : goal.returns-clause-entries
 returns-clause-entries g c j =
     let o = g.F.Field.ops in
     let all : c.loop-i.i ≡ length c.args.forms.now = omega arith in
-    c.loop-i.invariant.entries j ∙ ap (λ n. sum_below o n (λ i. o.times (entry o c.args.lambda.now i) (coefficient_in o c.args.own.now (form_at o c.args.forms.now i) j))) all
+    c.loop-i.invariant.entries j ∙ ap (λ n. sum_below o n (λ i. o.times (entry o c.args.lambda.now i) (coefficient_in o c.args.own.now (form_at o c.args.forms.now i) (c.args.skip + j)))) all

@@ -1,4 +1,4 @@
-use Rattle.std.proofs.Common.{◌≡◌, ℕ}
+use Rattle.std.proofs.Common.{◌≡◌, ℕ, ◌+◌}
 use Rattle.lzk_field.specs.Sums.{entry, sum_below}
 use Rattle.lzk_accept.specs.Kept.{coefficient_in, form_at}
 use Rattle.lzk_accept.proofs.combination.sum_forms.Given as goal
@@ -7,6 +7,6 @@ abbrev pub invariant-loop-i : goal.invariant-loop-i
 invariant-loop-i g l =
     let o = g.F.Field.ops in
     record {
-      entries : (k : ℕ) → entry o l.sums k ≡ sum_below o l.i (λ i. o.times (entry o l.lambda i) (coefficient_in o l.own (form_at o l.forms i) k));
+      entries : (k : ℕ) → entry o l.sums k ≡ sum_below o l.i (λ i. o.times (entry o l.lambda i) (coefficient_in o l.own (form_at o l.forms i) (l.skip + k)));
       rights : l.wanted ≡ sum_below o l.i (λ i. o.times (entry o l.lambda i) (form_at o l.forms i).right);
     }

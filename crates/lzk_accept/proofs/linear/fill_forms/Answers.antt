@@ -2,11 +2,13 @@ use Rattle.std.proofs.Common.{◌<◌, length, sym, ap, ◌∙◌, subst, arith}
 use Rattle.std.specs.Prelude.{slice_set}
 use Rattle.lzk_circuit.proofs.BitLaws.{bits_enough}
 use Rattle.lzk_layout.specs.Places.{depth, width_at}
+use Rattle.lzk_layout.proofs.PlaceLaws.{pads_within}
 use Rattle.lzk_sumcheck.specs.Coefficients.{coefficients}
 use Rattle.lzk_accept.specs.Kept.{form_at, IsPlacedAt, IsConstraint}
-use Rattle.lzk_accept.proofs.KeptLaws.{placed_set, start_after, last_start, last_end}
+use Rattle.lzk_accept.proofs.KeptLaws.{placed_set, start_after, end_is, last_start, last_end}
 use Rattle.lzk_accept.proofs.LinearLaws.{constraints_more, last_is}
 use Rattle.lzk_accept.proofs.ShapeLaws.{width_last}
+use Rattle.lzk_accept.proofs.WholeLaws.{whole_last}
 use Rattle.lzk_accept.proofs.linear.fill_forms.Goals as goal
 
 pub last_form-last-requires-clause-first : goal.last_form-last-requires-clause-first
@@ -39,7 +41,7 @@ returns-clause-placed g c i k =
     subst (λ fs. IsPlacedAt w i (form_at o fs i)) (sym put) (placed_set w o (depth w) forms form inside c.last_form-last.ensures.placed i (c.fill_layers-above.ensures.placed i k))
 
 pub returns-clause-constraints : goal.returns-clause-constraints
-returns-clause-constraints g c i k =
+returns-clause-constraints g c whole is i k =
     let f = g.F.Field in
     let o = f.ops in
     let w = c.args.circuit.now in
@@ -50,15 +52,16 @@ returns-clause-constraints g c i k =
     let layers = c.fill_layers-above in
     let forms = layers.new.forms in
     let form = c.last_form-last.result in
-    let own = c.last_form-last.new.own in
     let inside : depth w < length forms = omega (arith, layers.ensures.forms_length, c.requires.count) in
     let put = c.set_form.ensures ∙ ap (λ n. slice_set forms n form) c.depth-depth.ensures.depth in
     let at = c.last_form-last.ensures.placed in
     let wide = width_last w in
-    subst (λ fs. IsConstraint o f.element w q public s ms i own (form_at o fs i)) (sym put)
-    (constraints_more o f.laws.ring f.element w q public s ms (depth w) layers.new.own own forms form inside (omega arith) (λ i m. layers.ensures.placed i (omega arith))
-    (λ i m j a b. c.last_form-last.ensures.after j (omega (arith, start_after w i m)))
-    (last_is o f.laws.ring f.element w q public s ms layers.result layers.new.first layers.new.second own form c.depth-depth.ensures.valid.some c.requires.public layers.ensures.above_a layers.ensures.above_b
-    (λ j b. layers.ensures.first j (omega arith)) (λ j b. layers.ensures.second j (omega arith))
-    (at.start ∙ last_start w (depth w) (omega arith)) (at.end ∙ last_end w (depth w) (omega arith)) at.above c.last_form-last.ensures.form)
+    subst (λ fs. IsConstraint o f.element w q public s ms i whole (form_at o fs i)) (sym put)
+    (constraints_more o f.laws.ring f.element w q public s ms (depth w) layers.new.own whole forms form inside (omega arith) (λ i m. layers.ensures.placed i (omega arith))
+    (λ i m j a b. is.after j (omega (arith, start_after w i m, c.requires.skip)) (omega (arith, end_is w i m, pads_within w i m)) ∙ c.last_form-last.ensures.after j (omega (arith, start_after w i m)))
+    (last_is o f.laws.ring f.element w q public s ms layers.result layers.new.first layers.new.second whole form c.depth-depth.ensures.valid.some c.requires.public layers.ensures.above_a layers.ensures.above_b
+    (λ j b. layers.ensures.first j (omega (arith, wide))) (λ j b. layers.ensures.second j (omega (arith, wide)))
+    (at.start ∙ last_start w (depth w) (omega arith)) (at.end ∙ last_end w (depth w) (omega arith)) at.above
+    (whole_last o w s public layers.result layers.new.first layers.new.second c.args.skip c.last_form-last.new.own whole form is
+    (λ j b. layers.ensures.first j (omega (arith, wide))) (λ j b. layers.ensures.second j (omega (arith, wide))) c.last_form-last.ensures.form))
     (layers.ensures.constraints public) i k)

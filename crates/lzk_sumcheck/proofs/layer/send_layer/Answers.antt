@@ -1,17 +1,17 @@
-use Rattle.std.proofs.Common.{◌≡◌, ◌+◌, ◌*◌, ◌^◌, ◌≤◌, ℕ, length, ap, sym, ◌∙◌, ◌++◌, arith, subst}
+use Rattle.std.proofs.Common.{◌≡◌, ◌+◌, ◌*◌, ◌^◌, ◌≤◌, ℕ, refl, length, map, ap, sym, ◌∙◌, ◌++◌, arith, subst}
 use Rattle.std.specs.Prelude.{slice_set}
 use Rattle.std.proofs.lemmas.List.{get_or_default}
 use Rattle.lzk_field.specs.Coding.{coding}
 use Rattle.lzk_field.specs.Sums.{minus}
 use Rattle.lzk_mle.specs.Multilinear.{tilde}
 use Rattle.lzk_sumcheck.specs.Layers.{layer_of_terms}
-use Rattle.lzk_sumcheck.specs.Pairs.{ArePairs, IsKept}
+use Rattle.lzk_sumcheck.specs.Pairs.{first_pair}
 use Rattle.lzk_sumcheck.specs.Rounds.{of_a, of_b}
 use Rattle.lzk_sumcheck.specs.Script.{with_pair, round_challenge}
 use Rattle.lzk_sumcheck.specs.Sending.{after_sent, drawn_sent, AreRoundsSent}
 use Rattle.lzk_sumcheck.specs.States.{Sizes}
 use Rattle.lzk_sumcheck.proofs.Binding.{sizes-twice}
-use Rattle.lzk_sumcheck.proofs.KeptLaws.{first-kept}
+use Rattle.lzk_sumcheck.proofs.KeptLaws.{first-kept, merge-kept}
 use Rattle.lzk_sumcheck.proofs.LayerSends.{wire_within, drawn-front, after-front, pair-behind, rounds-sent, tilde-padded, first-behind, second-behind}
 use Rattle.lzk_sumcheck.proofs.SendLaws.{sizes-some}
 use Rattle.lzk_sumcheck.proofs.SentLaws.{after-is, drawn-is, evens, odds}
@@ -37,7 +37,7 @@ send_rounds-requires-clause-pairs g c κs within =
     let second = c.pad_values-2.new.table in
     let kept = first-kept g.F.Field.ops g.F.Field.laws.ring a.terms.now a.weights.now a.values.now first second (length a.ra.now) c.requires.terms c.requires.fits
     (c.pad_values.ensures.length ∙ c.requires.first) (c.pad_values-2.ensures.length ∙ c.requires.second) c.pad_values.ensures.entries c.pad_values-2.ensures.entries in
-    subst (ArePairs (length first) (length second)) (sym c.set_pairs.ensures) kept.within
+    c.set_pairs.ensures.within (length first) (length second) kept.within
 
 pub returns-clause-ra : goal.returns-clause-ra
 returns-clause-ra g c =
@@ -98,7 +98,7 @@ returns-clause-rounds g c =
     let second = c.pad_values-2.new.table in
     let kept = first-kept o r a.terms.now a.weights.now a.values.now first second k c.requires.terms c.requires.fits
     (c.pad_values.ensures.length ∙ c.requires.first) (c.pad_values-2.ensures.length ∙ c.requires.second) c.pad_values.ensures.entries c.pad_values-2.ensures.entries in
-    let sent = c.send_rounds.ensures.sent (state_of o s) (subst (λ ps. IsKept o (state_of o s) ps first second) (sym c.set_pairs.ensures) kept) in
+    let sent = c.send_rounds.ensures.sent (state_of o s) (merge-kept o r (state_of o s) (map (first_pair o a.weights.now) a.terms.now) (map (first_pair o a.weights.now) a.terms.now) c.set_pairs.new.pairs first second refl kept c.set_pairs.ensures.sums c.set_pairs.ensures.within) in
     let drawn = ap (λ v. drawn_sent o e rounds v a.tape.now) both ∙ sym (drawn-front o e rounds factors (2 * k) a.tape.now size) ∙ drawn-is o e (rounds ++ factors) (2 * k) a.tape.now in
     subst (λ cs. AreRoundsSent o m.element s cs a.pads.now (rounds ++ factors)) drawn
     (rounds-sent o r m.element s (drawn_sent o e rounds n a.tape.now) a.pads.now rounds factors (4 * k) n c.requires.fits both twice front sent)

@@ -43,7 +43,7 @@ returns-clause-after g c =
     let begun = c.draw-layer.new.self in
     let size : length c.as_mut_slice.result.now ≡ n = ap length c.as_mut_slice.ensures.value in
     let last : with_pair o e sent (4 * n) (after_rounds o e sent 0 (2 * n) begun) ≡ with_pair o e sent (0 + 4 * n) (after_rounds o e sent 0 (2 * n) begun)
-            = (let z : 4 * n ≡ 0 + 4 * n = omega arith in ap (λ i. with_pair o e sent i (after_rounds o e sent 0 (2 * n) begun)) z) in
+    = (let z : 4 * n ≡ 0 + 4 * n = omega arith in ap (λ i. with_pair o e sent i (after_rounds o e sent 0 (2 * n) begun)) z) in
     layer_after o e sent 0 n c.args.tape.now (after_rounds o e sent 0 (2 * n) begun) c.prove_rounds.new.tape
     (ap (after_rounds o e sent 0 (2 * n)) c.draw-layer.ensures.after)
     (c.prove_rounds.ensures.after ∙ ap (λ k. with_pair o e sent (4 * k) (after_rounds o e sent 0 (2 * k) begun)) size ∙ last)

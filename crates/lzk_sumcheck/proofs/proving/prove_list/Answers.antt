@@ -1,6 +1,6 @@
-use Rattle.std.proofs.Common.{◌≡◌, ◌+◌, ◌*◌, ◌^◌, ◌<◌, ◌≤◌, ◌++◌, length, refl, sym, ap, ◌∙◌, arith, subst}
+use Rattle.std.proofs.Common.{◌≡◌, ◌+◌, ◌*◌, ◌^◌, ◌<◌, ◌≤◌, ◌++◌, [], length, refl, sym, ap, ◌∙◌, arith, subst}
 use Rattle.std.specs.Prelude.{slice_index_or}
-use Rattle.std.proofs.lemmas.List.{length-append, length-set}
+use Rattle.std.proofs.lemmas.List.{length-append, length-set, get_or_default}
 use Rattle.lzk_field.specs.Coding.{coding}
 use Rattle.lzk_field.specs.Sums.{entry}
 use Rattle.lzk_mle.specs.Multilinear.{eq}
@@ -9,7 +9,9 @@ use Rattle.lzk_circuit.specs.Wires.{AreDistinct}
 use Rattle.lzk_circuit.proofs.BitLaws.{bits_few, bits_enough}
 use Rattle.lzk_layout.specs.Places.{depth, width_at, bits_under, output_bits, sent_at}
 use Rattle.lzk_layout.proofs.SizeLaws.{narrow}
+use Rattle.lzk_sumcheck.specs.Coefficients.{terms_at}
 use Rattle.lzk_sumcheck.specs.Draws.{draws}
+use Rattle.lzk_sumcheck.specs.Orders.{places, IsOrderOf}
 use Rattle.lzk_sumcheck.proofs.LayerLaws.{AreReplayed, replayed_whole}
 use Rattle.lzk_sumcheck.proofs.LayerShapes.{values_depth, values_width, terms_is, terms_distinct}
 use Rattle.lzk_sumcheck.proofs.ProvingLaws.{proved-none, proved-more, front-kept, part-stands, layer-has, times-less}
@@ -107,6 +109,17 @@ prove_layer-requires-clause-terms g c κs within =
     (subst (λ n. AreDistinct o (length wires) n c.layer.result.now.terms) (sym below)
     (subst (λ k. AreDistinct o k (width_at w (l + 1)) c.layer.result.now.terms) (sym here)
     (terms_distinct w l c.layer.result.now c.layer.ensures o c.depth-depth.ensures.valid)))
+
+pub prove_layer-requires-clause-order : goal.prove_layer-requires-clause-order
+prove_layer-requires-clause-order g c κs within =
+    let w = c.args.circuit.now in
+    let l = c.loop-l.l in
+    let h : l < depth w = omega (arith, c.depth-depth.ensures.depth, c.loop-l-test.true, c.loop-l.auto.l-end) in
+    let inside : l < length c.args.orders.now = omega (arith, h, c.requires.orders_count) in
+    let here : places c.as_slice-order.result.now ≡ slice_index_or c.args.orders.now l [] =
+    c.as_slice-order.ensures ∙ c.index-orders-l.is ∙ get_or_default c.args.orders.now l c.index-orders-l.result [] inside in
+    subst (λ ts. IsOrderOf ts (places c.as_slice-order.result.now)) (sym (c.as_slice.ensures ∙ terms_is w l c.layer.result.now c.layer.ensures))
+    (subst (IsOrderOf (terms_at w l)) (sym here) (c.requires.orders l h))
 
 pub prove_layer-requires-clause-fits : goal.prove_layer-requires-clause-fits
 prove_layer-requires-clause-fits g c κs within =

@@ -1,12 +1,23 @@
-use Rattle.std.proofs.Common.{◌≡◌, length, sym, ap, ◌∙◌, arith}
-use Rattle.std.specs.Prelude.{slice_get}
+use Rattle.std.proofs.Common.{◌≡◌, length, sym, ap, ◌∙◌, arith, subst}
+use Rattle.std.specs.Prelude.{[], slice_get, slice_index_or}
 use Rattle.std.specs.Vec.{with_items}
 use Rattle.std.proofs.lemmas.List.{with_items_is}
+use Rattle.lzk_sumcheck.specs.Coefficients.{terms_at}
+use Rattle.lzk_sumcheck.specs.Orders.{IsOrderOf, AreOrders}
 use Rattle.lzk_sumcheck.specs.Room.{RoundsRoom}
 use Rattle.lzk_sumcheck.proofs.proving.prove_scripts.Goals as goal
 
 pub prove_list-requires-clause-bits : goal.prove_list-requires-clause-bits
 prove_list-requires-clause-bits g c κs within = λ l layer is. c.requires.bits l layer (ap (λ xs. slice_get xs l) (sym (c.deref_mut-5.ensures.value ∙ c.layers.view_is)) ∙ is)
+
+pub prove_list-requires-clause-orders_count : goal.prove_list-requires-clause-orders_count
+prove_list-requires-clause-orders_count g c κs within =
+    ap length (c.deref.ensures.value ∙ ap (λ (x : RoundsRoom). x.orders) c.room.view_is) ∙ c.requires.made.orders.count
+
+pub prove_list-requires-clause-orders : goal.prove_list-requires-clause-orders
+prove_list-requires-clause-orders g c κs within = λ l h.
+    let same : c.deref.result.now ≡ c.args.room.now.orders = c.deref.ensures.value ∙ ap (λ (x : RoundsRoom). x.orders) c.room.view_is in
+    subst (λ xs. IsOrderOf (terms_at c.args.circuit.now l) (slice_index_or xs l [])) (sym same) (c.requires.made.orders.each l h)
 
 pub prove_list-requires-clause-pairs : goal.prove_list-requires-clause-pairs
 prove_list-requires-clause-pairs g c κs within = λ l h. omega (arith, c.requires.made.pairs l h, ap length c.deref_mut.ensures.value, ap (λ (x : RoundsRoom). x.pairs) c.room.view_is)
@@ -25,6 +36,7 @@ returns-clause-made g c =
     let places : length (with_items inside.weights c.prove_list.new.weights).items ≡ c.args.room.now.places =
     ap length (with_items_is inside.weights c.prove_list.new.weights nw) ∙ e.weights_length ∙ ap length c.deref_mut-4.ensures.value ∙ ap (λ (x : RoundsRoom). x.places) c.room.view_is in
     record {
+      orders = subst (AreOrders c.args.circuit.now) (sym (ap (λ (x : RoundsRoom). x.orders) c.room.view_is)) c.requires.made.orders;
       pairs = λ l h. omega (arith, c.requires.made.pairs l h, pairs);
       places = λ l h. omega (arith, c.requires.made.places l h, places);
     }

@@ -2,4 +2,4 @@ use Rattle.std.proofs.Common.{◌≡◌}
 use Rattle.lzk_tests_verify.proofs.verdicts.wrong_forgery.Given as goal
 
 abbrev pub invariant-loop-i : goal.invariant-loop-i
-invariant-loop-i g l = l.desk.publics ≡ 1
+invariant-loop-i g l = l.desk.circuit.publics ≡ 1

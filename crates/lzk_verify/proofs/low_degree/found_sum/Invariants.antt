@@ -3,4 +3,4 @@ use Rattle.lzk_field.specs.Sums.{sum_below, entry}
 use Rattle.lzk_verify.proofs.low_degree.found_sum.Given as goal
 
 abbrev pub invariant-loop-s : goal.invariant-loop-s
-invariant-loop-s g l = l.sum ≡ sum_below g.F.Field.ops l.s (λ i. entry g.F.Field.ops l.proof.dot (128 + i))
+invariant-loop-s g l = l.sum ≡ sum_below g.F.Field.ops l.s (λ i. entry g.F.Field.ops l.values (128 + i))

@@ -1,9 +1,9 @@
 use Rattle.std.proofs.Common.{◌≡◌}
 use Rattle.lzk_field.specs.Sums.{sum_below, minus, entry}
-use Rattle.lzk_accept.specs.Checks.{in_triple}
+use Rattle.lzk_verify.specs.Columns.{in_triple}
 use Rattle.lzk_verify.proofs.quadratic.quadratic_sum.Given as goal
 
 abbrev pub invariant-loop-i : goal.invariant-loop-i
 invariant-loop-i g l =
     let o = g.F.Field.ops in
-    l.sum ≡ sum_below o l.i (λ i. o.times (entry o l.v i) (minus o (o.times (in_triple o l.params l.proof l.k i 0) (in_triple o l.params l.proof l.k i 1)) (in_triple o l.params l.proof l.k i 2)))
+    l.sum ≡ sum_below o l.i (λ i. o.times (entry o l.v i) (minus o (o.times (in_triple o l.params l.column i 0) (in_triple o l.params l.column i 1)) (in_triple o l.params l.column i 2)))

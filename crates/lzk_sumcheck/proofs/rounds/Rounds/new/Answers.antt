@@ -12,6 +12,7 @@ returns g c =
     let size : length c.in_ok-zeros-3.field-0.items ≡ 2 ^ most = ap length c.in_ok-zeros-3.ensures ∙ length-replicate c.power_of-size.result g.F.Field.ops.zero ∙ c.power_of-size.ensures in
     record {
       made = record {
+        orders = c.in_ok-orders_of.ensures;
         pairs = λ l h. omega (arith, c.most_terms.ensures l h, c.in_ok-pairs_of_zeros.ensures);
         places = λ l h.
             let few : bits (width_at w l) ≤ most = c.most_bits.ensures.most l h in

@@ -1,0 +1,324 @@
+//! The constraints, combined, with few factors for the rows that hold private inputs alone.
+
+ghost use Rattle.std.specs.Prelude.{◌≡◌, ℕ, ◌+◌, ◌-◌, ◌*◌, ◌/◌, ◌<◌, ◌≤◌, ◌^◌, cond, nat_lt, length, IfOk};
+ghost use Rattle.lzk_field.specs.Sums.{entry, sum_below};
+ghost use Rattle.lzk_mle.specs.Multilinear.{eq};
+ghost use Rattle.lzk_layout.specs.Sizes.{params_of, sent_counts};
+ghost use Rattle.lzk_sumcheck.specs.Script.{HasShape};
+ghost use Rattle.lzk_accept.specs.Challenges as drawn;
+ghost use Rattle.lzk_accept.specs.Checks.{combined_of, wanted_of};
+ghost use Rattle.lzk_accept.specs.Factored.{HasRoomFor, GivesCombined};
+ghost use Rattle.lzk_accept.specs.Kept.{private_coefficient, AreFormsOf};
+
+use crate::challenges::Challenges;
+use crate::claims::{first_point, second_point};
+use crate::combination::combine_from;
+use crate::forms::{Forms, power_of};
+use crate::linear::rest_forms;
+use lzk_circuit::{Circuit, bits_of};
+use lzk_field::Field;
+use lzk_layout::{Elements, Params};
+use lzk_mle::eq_table;
+use lzk_sumcheck::Script;
+use std::alloc::{AllocError, Global};
+
+/// Room for the combined coefficients of a circuit's constraints, and these coefficients. The rows that private inputs fill come
+/// first, from row 3 on. The coefficient of such a row at a position is the sum of four products, of a factor of the row and one
+/// of the position: private inputs are numbered through the rows, and how a number agrees with a point is a product of what its
+/// upper and its lower bits give.
+#[derive(Drop)]
+pub struct Factored<F> {
+    /// How many rows private inputs fill.
+    pub rows: u32,
+    /// Four lists one after the other, of a factor for each of these rows.
+    pub row_factors: Elements<F>,
+    /// Four lists one after the other, of a factor for each position in a row.
+    pub place_factors: Elements<F>,
+    /// The coefficients of the other rows, row by row.
+    pub table: Elements<F>,
+}
+
+impl<F: Field> Factored<F> {
+    /// Room for this circuit's constraints, all of whose factors and coefficients are 0. `Err` where there is no memory for it.
+    pub fn new(alloc: Global, circuit: &Circuit<F>) -> Result<Factored<F>, AllocError>
+        ensures room { IfOk result (λ factored. HasRoomFor circuit.now factored) }
+    {
+        let params = Params::of(circuit);
+        let width = params.wr as usize;
+        let rows = circuit.privates() / params.wr;
+        let others = (params.nrow - 3 - rows) as usize;
+        Ok(Factored {
+            rows,
+            row_factors: Elements::zeros(alloc, 4 * rows as usize)?,
+            place_factors: Elements::zeros(alloc, 4 * width)?,
+            table: Elements::zeros(alloc, others * width)?,
+        })
+    }
+}
+
+// The entry at a place of a list, and 0 past its end.
+fn entry_of<F: Field>(list: &[F], i: usize) -> F
+    ensures { result ≡ entry F.ops list.now i }
+{
+    if i < list.len() { list[i] } else { F::zero() }
+}
+
+// Sets two factors for each row: the multiples of a table's entries from number `high` on, and those of the next entries.
+fn set_row_factors<F: Field>(table: &[F], by: F, high: usize, rows: usize, factors: &mut [F])
+    requires few { high ≤ 131072 }
+    requires room { length factors.old ≡ 2 * rows }
+    ensures length { length factors.new ≡ length factors.old }
+    ensures here { let o = F.ops in (i : ℕ) → i < rows → entry o factors.new i ≡ o.times by (entry o table.now (high + i)) }
+    ensures next { let o = F.ops in (i : ℕ) → i < rows → entry o factors.new (rows + i) ≡ o.times by (entry o table.now (high + i + 1)) }
+{
+    for i in 0..rows {
+        factors[i] = by.mul(entry_of(table, high + i));
+        factors[rows + i] = by.mul(entry_of(table, high + i + 1));
+    }
+}
+
+// Sets two factors for each position: the table's entries from number `low` on, with zeros past its end, and zeros, with the
+// table's first entries behind them.
+fn set_place_factors<F: Field>(table: &[F], low: usize, factors: &mut [F])
+    requires low { low ≤ length table.now }
+    requires few { length table.now ≤ 131072 }
+    requires room { length factors.old ≡ 2 * length table.now }
+    ensures length { length factors.new ≡ length factors.old }
+    ensures here { let o = F.ops in (s : ℕ) → s < length table.now → entry o factors.new s ≡ entry o table.now (low + s) }
+    ensures next { let o = F.ops in (s : ℕ) → s < length table.now → entry o factors.new (length table.now + s) ≡ cond (nat_lt (low + s) (length table.now)) o.zero (entry o table.now (low + s - length table.now)) }
+{
+    let width = table.len();
+    for s in 0..width {
+        let k = low + s;
+        factors[s] = entry_of(table, k);
+        factors[width + s] = if k < width {
+            F::zero()
+        } else {
+            table[k - width]
+        };
+    }
+}
+
+// Sets two factors for each row and each position, whose products sum to a multiple of how the numbers from `first` on agree with
+// a point. A row takes as many numbers as there are of so many bits.
+fn set_point_factors<F: Field>(
+    r: &[F],
+    by: F,
+    bits: u32,
+    first: usize,
+    rows: usize,
+    row_factors: &mut [F],
+    place_factors: &mut [F],
+    low: &mut [F],
+    high: &mut [F],
+)
+    requires few { length r.now ≤ 17 }
+    requires bits { bits ≤ length r.now }
+    requires numbers { first + rows * 2 ^ bits ≤ 2 ^ length r.now }
+    requires low { 2 ^ length r.now ≤ length low.old }
+    requires high { 2 ^ length r.now ≤ length high.old }
+    requires row_factors { length row_factors.old ≡ 2 * rows }
+    requires place_factors { length place_factors.old ≡ 2 * 2 ^ bits }
+    ensures row_length { length row_factors.new ≡ length row_factors.old }
+    ensures place_length { length place_factors.new ≡ length place_factors.old }
+    ensures low { length low.new ≡ length low.old }
+    ensures high { length high.new ≡ length high.old }
+    ensures products { let o = F.ops in (i s : ℕ) → i < rows → s < 2 ^ bits →
+        o.plus (o.times (entry o row_factors.new i) (entry o place_factors.new s)) (o.times (entry o row_factors.new (rows + i)) (entry o place_factors.new (2 ^ bits + s)))
+        ≡ o.times by (eq o (first + (i * 2 ^ bits + s)) r.now) }
+{
+    let (lows, highs) = r.split_at(bits as usize);
+    let width = power_of(bits);
+    let (low_table, _) = low.split_at_mut(width);
+    eq_table(lows, low_table);
+    let (high_table, _) = high.split_at_mut(power_of(highs.len() as u32));
+    eq_table(highs, high_table);
+    set_row_factors(high_table, by, first / width, rows, row_factors);
+    set_place_factors(low_table, first % width, place_factors);
+}
+
+// Sets the factors of both points: those of the first, and those of the second behind them.
+fn set_both_factors<F: Field>(
+    ra: &[F],
+    rb: &[F],
+    by: F,
+    gamma: F,
+    bits: u32,
+    first: usize,
+    rows: usize,
+    row_factors: &mut [F],
+    place_factors: &mut [F],
+    low: &mut [F],
+    high: &mut [F],
+)
+    requires few { length ra.now ≤ 17 }
+    requires points { length rb.now ≡ length ra.now }
+    requires bits { bits ≤ length ra.now }
+    requires numbers { first + rows * 2 ^ bits ≤ 2 ^ length ra.now }
+    requires low { 2 ^ length ra.now ≤ length low.old }
+    requires high { 2 ^ length ra.now ≤ length high.old }
+    requires row_factors { length row_factors.old ≡ 4 * rows }
+    requires place_factors { length place_factors.old ≡ 4 * 2 ^ bits }
+    ensures row_length { length row_factors.new ≡ length row_factors.old }
+    ensures place_length { length place_factors.new ≡ length place_factors.old }
+    ensures low { length low.new ≡ length low.old }
+    ensures high { length high.new ≡ length high.old }
+    ensures products { let o = F.ops in (i s : ℕ) → i < rows → s < 2 ^ bits →
+        sum_below o 4 (λ k. o.times (entry o row_factors.new (k * rows + i)) (entry o place_factors.new (k * 2 ^ bits + s)))
+        ≡ o.times by (o.plus (eq o (first + (i * 2 ^ bits + s)) ra.now) (o.times gamma (eq o (first + (i * 2 ^ bits + s)) rb.now))) }
+{
+    let (rows_a, rows_b) = row_factors.split_at_mut(2 * rows);
+    let (places_a, places_b) = place_factors.split_at_mut(2 * power_of(bits));
+    set_point_factors(ra, by, bits, first, rows, rows_a, places_a, low, high);
+    set_point_factors(
+        rb,
+        by.mul(gamma),
+        bits,
+        first,
+        rows,
+        rows_b,
+        places_b,
+        low,
+        high,
+    );
+}
+
+// Sets the factors of the rows that private inputs fill, if there are any. The forms lend room.
+fn set_private_factors<F: Field>(
+    circuit: &Circuit<F>,
+    script: &Script<F>,
+    by: F,
+    bits: u32,
+    rows: u32,
+    row_factors: &mut [F],
+    place_factors: &mut [F],
+    forms: &mut Forms<F>,
+)
+    requires shape { HasShape circuit.now script.now }
+    requires made { AreFormsOf F.ops circuit.now forms.old }
+    requires few { bits ≤ 17 }
+    requires filled { rows * 2 ^ bits ≤ circuit.now.privates }
+    requires row_factors { length row_factors.old ≡ 4 * rows }
+    requires place_factors { length place_factors.old ≡ 4 * 2 ^ bits }
+    ensures forms { forms.new ≡ forms.old }
+    ensures row_length { length row_factors.new ≡ length row_factors.old }
+    ensures place_length { length place_factors.new ≡ length place_factors.old }
+    ensures products { let o = F.ops in (i s : ℕ) → i < rows → s < 2 ^ bits →
+        sum_below o 4 (λ k. o.times (entry o row_factors.new (k * rows + i)) (entry o place_factors.new (k * 2 ^ bits + s)))
+        ≡ o.times by (private_coefficient o circuit.now script.now (i * 2 ^ bits + s)) }
+{
+    if rows == 0 {
+        return;
+    }
+    let depth = circuit.depth();
+    set_both_factors(
+        first_point(circuit, script, depth),
+        second_point(circuit, script, depth),
+        by,
+        script.gamma,
+        bits,
+        1 + circuit.publics() as usize,
+        rows as usize,
+        row_factors,
+        place_factors,
+        &mut forms.first,
+        &mut forms.second,
+    );
+}
+
+// Sets the factors and the table, and gives the sum that is wanted.
+fn fill<F: Field>(
+    circuit: &Circuit<F>,
+    public: &[F],
+    script: &Script<F>,
+    messages: &[F],
+    challenges: &Challenges<F>,
+    forms: &mut Forms<F>,
+    rows: u32,
+    row_factors: &mut [F],
+    place_factors: &mut [F],
+    table: &mut [F],
+) -> F
+    requires public { length public.now ≡ circuit.now.publics }
+    requires script { HasShape circuit.now script.now }
+    requires messages { length messages.now ≡ sent_counts circuit.now }
+    requires challenges { drawn.HasShape (params_of circuit.now) challenges.now }
+    requires forms { AreFormsOf F.ops circuit.now forms.old }
+    requires rows { rows ≡ circuit.now.privates / (params_of circuit.now).wr }
+    requires row_factors { length row_factors.old ≡ 4 * rows }
+    requires place_factors { length place_factors.old ≡ 4 * (params_of circuit.now).wr }
+    requires table { length table.old ≡ ((params_of circuit.now).nrow - 3 - rows) * (params_of circuit.now).wr }
+    ensures forms { AreFormsOf F.ops circuit.now forms.new }
+    ensures row_length { length row_factors.new ≡ length row_factors.old }
+    ensures place_length { length place_factors.new ≡ length place_factors.old }
+    ensures table_length { length table.new ≡ length table.old }
+    ensures private_rows { let o = F.ops in let p = params_of circuit.now in (i s : ℕ) → i < rows → s < p.wr →
+        sum_below o 4 (λ k. o.times (entry o row_factors.new (k * rows + i)) (entry o place_factors.new (k * p.wr + s)))
+        ≡ combined_of o F.element circuit.now public.now script.now messages.now challenges.now (3 + i) s }
+    ensures other_rows { let o = F.ops in let p = params_of circuit.now in (i s : ℕ) → i < p.nrow - 3 - rows → s < p.wr →
+        entry o table.new (i * p.wr + s) ≡ combined_of o F.element circuit.now public.now script.now messages.now challenges.now (3 + (rows + i)) s }
+    ensures wanted { result ≡ wanted_of F.ops F.element circuit.now public.now script.now messages.now challenges.now }
+{
+    let params = Params::of(circuit);
+    let skip = rows as usize * params.wr as usize;
+    rest_forms(circuit, public, script, messages, skip, forms);
+    let wanted = combine_from(&params, forms, challenges, rows, table);
+    let depth = circuit.depth();
+    let lambda = challenges.lambda.as_slice();
+    let by = entry_of(lambda, depth as usize);
+    let bits = bits_of(params.wr);
+    set_private_factors(
+        circuit,
+        script,
+        by,
+        bits,
+        rows,
+        row_factors,
+        place_factors,
+        forms,
+    );
+    wanted
+}
+
+/// Combines all constraints into one, with the challenges as factors. Sets the factors of the rows that private inputs fill and the
+/// coefficients of the other rows, and gives the sum that is wanted of them. Each private input that stands in a filled row costs
+/// nothing. The forms are left with the constraints but for these inputs' coefficients. No memory is taken.
+///
+/// ```text
+/// let mut forms = Forms::new(alloc, &circuit)?;
+/// let mut factored = Factored::new(alloc, &circuit)?;
+/// let wanted = combine_factored(&circuit, public, &script, messages, &challenges, &mut forms, &mut factored);
+/// ```
+pub fn combine_factored<F: Field>(
+    circuit: &Circuit<F>,
+    public: &[F],
+    script: &Script<F>,
+    messages: &[F],
+    challenges: &Challenges<F>,
+    forms: &mut Forms<F>,
+    factored: &mut Factored<F>,
+) -> F
+    requires public { length public.now ≡ circuit.now.publics }
+    requires script { HasShape circuit.now script.now }
+    requires messages { length messages.now ≡ sent_counts circuit.now }
+    requires challenges { drawn.HasShape (params_of circuit.now) challenges.now }
+    requires forms { AreFormsOf F.ops circuit.now forms.old }
+    requires room { HasRoomFor circuit.now factored.old }
+    ensures forms { AreFormsOf F.ops circuit.now forms.new }
+    ensures room { HasRoomFor circuit.now factored.new }
+    ensures combined { GivesCombined F.ops (params_of circuit.now) factored.new (combined_of F.ops F.element circuit.now public.now script.now messages.now challenges.now) }
+    ensures wanted { result ≡ wanted_of F.ops F.element circuit.now public.now script.now messages.now challenges.now }
+{
+    fill(
+        circuit,
+        public,
+        script,
+        messages,
+        challenges,
+        forms,
+        factored.rows,
+        factored.row_factors.as_mut_slice(),
+        factored.place_factors.as_mut_slice(),
+        factored.table.as_mut_slice(),
+    )
+}

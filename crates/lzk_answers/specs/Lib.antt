@@ -1,0 +1,5 @@
+pub mod Answers
+pub mod Coefficients
+pub mod Laws
+pub mod Opened
+pub mod Rows

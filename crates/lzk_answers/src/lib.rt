@@ -1,0 +1,26 @@
+//! The answers of a prover: combinations of its rows.
+//!
+//! A row stands for the polynomial through its values. As in Ligero (CCS 2017), the answers are sums of such polynomials
+//! times drawn factors, times polynomials of coefficients, and of products of two rows less a third, each with a row of
+//! its own that hides it. They are sent by their values. A verifier compares each answer's extension with the same
+//! combination of an opened column's elements.
+//!
+//! The rows stand in a table: one after another, the values of each at the same first points. A caller writes
+//!
+//! ```text
+//! low_degree_into(&params, &table, width, &u, &mut room, &mut low_degree);
+//! linear_into(&params, &table, width, &combined, &extender, &mut room, &mut linear);
+//! quadratic_into(&params, &table, width, &v, &mut quadratic);
+//! ```
+#![tactic(auto)]
+
+mod laws;
+mod linear;
+mod low_degree;
+mod quadratic;
+mod rows;
+
+pub use laws::{answers_pass, changed_answers_fail, values_determine};
+pub use linear::{linear_by_factors_into, linear_into};
+pub use low_degree::low_degree_into;
+pub use quadratic::quadratic_into;

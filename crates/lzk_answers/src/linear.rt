@@ -1,0 +1,259 @@
+//! The linear answer.
+
+ghost use Rattle.std.specs.Prelude.{◌≡◌, ℕ, ◌+◌, ◌-◌, ◌*◌, ◌<◌, ◌≤◌, List, length};
+ghost use Rattle.lzk_field.specs.Sums.{entry, sum_below};
+ghost use Rattle.lzk_poly.specs.Extension.{extension};
+ghost use Rattle.lzk_poly.specs.Through.{values_of};
+ghost use Rattle.lzk_layout.specs.Sizes.{AreBounded};
+ghost use Rattle.lzk_answers.specs.Answers.{linear_answer};
+ghost use Rattle.lzk_answers.specs.Coefficients.{AreCoefficients, AreFactored, AreListed};
+ghost use Rattle.lzk_answers.specs.Rows.{IsTableOf};
+
+use crate::rows::{add_list, add_rows, clear, multiply_list, row_of, set_list};
+use lzk_field::Field;
+use lzk_layout::Params;
+use lzk_poly::RowExtend;
+
+// How many values of a row stand before its elements.
+const HEAD: usize = 128;
+
+// How many products a coefficient is the sum of, where rows are given by factors.
+const FACTORS: usize = 4;
+
+// Zeros, and then these coefficients.
+fn fill_row<F: Field>(coefficients: &[F], row: &mut [F])
+    requires { length row.old ≡ 128 + length coefficients.now }
+    ensures length { length row.new ≡ length row.old }
+    ensures front { (s : ℕ) → s < 128 → entry F.ops row.new s ≡ F.ops.zero }
+    ensures back { (s : ℕ) → s < length coefficients.now → entry F.ops row.new (128 + s) ≡ entry F.ops coefficients.now s }
+{
+    let (head, tail) = row.split_at_mut(HEAD);
+    clear(head);
+    tail.copy_from_slice(coefficients);
+}
+
+// The values at the first DBLOCK points of the polynomial of a row of coefficients.
+fn extend_coefficients<F: Field, X: RowExtend<F>>(
+    params: &Params,
+    coefficients: &[F],
+    extender: &X,
+    row: &mut [F],
+    room: &mut [F],
+)
+    requires bounded { AreBounded params.now }
+    requires coefficients { length coefficients.now ≡ params.now.wr }
+    requires reach { X.reach extender.now ≡ record { count = params.now.block; upto = params.now.dblock } }
+    requires row { length row.old ≡ params.now.dblock }
+    requires room { X.rooms extender.now ≤ length room.old }
+    ensures row { length row.new ≡ length row.old }
+    ensures room { length room.new ≡ length room.old }
+    ensures values { (list : List F) → AreCoefficients F.ops params.now (entry F.ops coefficients.now) list → (k : ℕ) → k < params.now.dblock → entry F.ops row.new k ≡ extension F.ops F.element list k }
+{
+    let (values, further) = row.split_at_mut(params.block as usize);
+    fill_row(coefficients, values);
+    let size = extender.room_len();
+    extender.extend_row(values, further, &mut room[..size]);
+}
+
+// Adds, at each point, the value of a row of coefficients times what is given there. The first DBLOCK entries of `room`, and
+// then the extender's, are room.
+fn add_extended<F: Field, X: RowExtend<F>>(
+    params: &Params,
+    coefficients: &[F],
+    values: &[F],
+    extender: &X,
+    room: &mut [F],
+    answer: &mut [F],
+)
+    requires bounded { AreBounded params.now }
+    requires coefficients { length coefficients.now ≡ params.now.wr }
+    requires given { length values.now ≡ params.now.dblock }
+    requires reach { X.reach extender.now ≡ record { count = params.now.block; upto = params.now.dblock } }
+    requires room { X.rooms extender.now + params.now.dblock ≤ length room.old }
+    requires answer { length answer.old ≡ params.now.dblock }
+    ensures room { length room.new ≡ length room.old }
+    ensures answer { length answer.new ≡ length answer.old }
+    ensures values { let o = F.ops in (list : List F) → AreCoefficients o params.now (entry o coefficients.now) list → (k : ℕ) → k < params.now.dblock →
+        entry o answer.new k ≡ o.plus (entry o answer.old k) (o.times (extension o F.element list k) (entry o values.now k)) }
+{
+    let (row, rest) = room.split_at_mut(params.dblock as usize);
+    extend_coefficients(params, coefficients, extender, row, rest);
+    multiply_list(row, values);
+    add_list(answer, row);
+}
+
+// Adds the products of rows that are given by factors: for each factor, the sum of the rows' multiples, times the values of
+// the row of place factors.
+fn add_factored<F: Field, X: RowExtend<F>>(
+    params: &Params,
+    table: &[F],
+    width: usize,
+    rows: usize,
+    row_factors: &[F],
+    place_factors: &[F],
+    extender: &X,
+    sums: &mut [F],
+    room: &mut [F],
+    answer: &mut [F],
+)
+    requires bounded { AreBounded params.now }
+    requires table { params.now.nrow * width ≤ length table.now }
+    requires width { params.now.dblock ≤ width }
+    requires rows { rows ≤ params.now.nrow - 3 }
+    requires row_factors { length row_factors.now ≡ 4 * rows }
+    requires place_factors { length place_factors.now ≡ 4 * params.now.wr }
+    requires reach { X.reach extender.now ≡ record { count = params.now.block; upto = params.now.dblock } }
+    requires sums { length sums.old ≡ params.now.dblock }
+    requires room { X.rooms extender.now + params.now.dblock ≤ length room.old }
+    requires answer { length answer.old ≡ params.now.dblock }
+    ensures sums { length sums.new ≡ length sums.old }
+    ensures room { length room.new ≡ length room.old }
+    ensures answer { length answer.new ≡ length answer.old }
+    ensures values { let o = F.ops in (lists : ℕ → List F) → AreFactored o params.now rows 4 row_factors.now place_factors.now lists → (k : ℕ) → k < params.now.dblock →
+        entry o answer.new k ≡ o.plus (entry o answer.old k) (sum_below o rows (λ i. o.times (extension o F.element (lists (3 + i)) k) (entry o table.now ((3 + i) * width + k)))) }
+{
+    let wr = params.wr as usize;
+    for f in 0..FACTORS {
+        clear(sums);
+        let multiples = row_of(row_factors, rows, f, rows);
+        add_rows(table, width, 3, multiples, room, sums);
+        let coefficients = row_of(place_factors, wr, f, wr);
+        add_extended(params, coefficients, sums, extender, room, answer);
+    }
+}
+
+// Adds the products of the rows behind the first `m` behind row 2, and their coefficients.
+fn add_listed<F: Field, X: RowExtend<F>>(
+    params: &Params,
+    table: &[F],
+    width: usize,
+    m: usize,
+    coefficients: &[F],
+    extender: &X,
+    room: &mut [F],
+    answer: &mut [F],
+)
+    requires bounded { AreBounded params.now }
+    requires table { params.now.nrow * width ≤ length table.now }
+    requires width { params.now.dblock ≤ width }
+    requires rows { m ≤ params.now.nrow - 3 }
+    requires coefficients { length coefficients.now ≡ (params.now.nrow - 3 - m) * params.now.wr }
+    requires reach { X.reach extender.now ≡ record { count = params.now.block; upto = params.now.dblock } }
+    requires room { X.rooms extender.now + params.now.dblock ≤ length room.old }
+    requires answer { length answer.old ≡ params.now.dblock }
+    ensures room { length room.new ≡ length room.old }
+    ensures answer { length answer.new ≡ length answer.old }
+    ensures values { let o = F.ops in (lists : ℕ → List F) → AreListed o params.now m coefficients.now lists → (k : ℕ) → k < params.now.dblock →
+        entry o answer.new k ≡ o.plus (entry o answer.old k) (sum_below o (params.now.nrow - 3 - m) (λ t. o.times (extension o F.element (lists (3 + (m + t))) k) (entry o table.now ((3 + (m + t)) * width + k)))) }
+{
+    let wr = params.wr as usize;
+    let size = params.dblock as usize;
+    for t in 0..params.nrow as usize - 3 - m {
+        let row = row_of(coefficients, wr, t, wr);
+        let values = row_of(table, width, 3 + (m + t), size);
+        add_extended(params, row, values, extender, room, answer);
+    }
+}
+
+/// Sets `answer`, of DBLOCK values, to the values of the linear answer: row 1, and each row from row 3 on times the
+/// polynomial of its combined coefficients.
+///
+/// `table` has the rows one after another, with `width` values each, at the first points, and `coefficients` the combined
+/// coefficients of each row from row 3 on, one an element of the row. The extender's and DBLOCK more elements of `room` are
+/// used. What they hold before and after has no meaning. No memory is taken.
+pub fn linear_into<F: Field, X: RowExtend<F>>(
+    params: &Params,
+    table: &[F],
+    width: usize,
+    coefficients: &[F],
+    extender: &X,
+    room: &mut [F],
+    answer: &mut [F],
+)
+    requires bounded { AreBounded params.now }
+    requires table { params.now.nrow * width ≤ length table.now }
+    requires width { params.now.dblock ≤ width }
+    requires coefficients { length coefficients.now ≡ (params.now.nrow - 3) * params.now.wr }
+    requires reach { X.reach extender.now ≡ record { count = params.now.block; upto = params.now.dblock } }
+    requires room { X.rooms extender.now + params.now.dblock ≤ length room.old }
+    requires answer { length answer.old ≡ params.now.dblock }
+    ensures room { length room.new ≡ length room.old }
+    ensures answer { length answer.new ≡ length answer.old }
+    ensures values { (all : List (List F)) (lists : ℕ → List F) → length all ≡ params.now.nrow → IsTableOf F.ops F.element width all table.now →
+        AreListed F.ops params.now 0 coefficients.now lists →
+        answer.new ≡ values_of F.ops F.element params.now.dblock (linear_answer F.ops F.element params.now all lists) }
+{
+    set_list(answer, row_of(table, width, 1, params.dblock as usize));
+    add_listed(
+        params,
+        table,
+        width,
+        0,
+        coefficients,
+        extender,
+        room,
+        answer,
+    );
+}
+
+/// The same where the coefficients of the first `rows` rows from row 3 on are sums of four products: these rows cost a sum of
+/// their multiples and a product of two rows for each of the four, and no product of every row.
+///
+/// Factor f of row 3 + i is entry `f * rows + i` of `row_factors`, and factor f of position s is entry `f * WR + s` of
+/// `place_factors`. `coefficients` has the combined coefficients of the rows behind these. The extender's and twice DBLOCK
+/// elements of `room` are used.
+pub fn linear_by_factors_into<F: Field, X: RowExtend<F>>(
+    params: &Params,
+    table: &[F],
+    width: usize,
+    rows: usize,
+    row_factors: &[F],
+    place_factors: &[F],
+    coefficients: &[F],
+    extender: &X,
+    room: &mut [F],
+    answer: &mut [F],
+)
+    requires bounded { AreBounded params.now }
+    requires table { params.now.nrow * width ≤ length table.now }
+    requires width { params.now.dblock ≤ width }
+    requires rows { rows ≤ params.now.nrow - 3 }
+    requires row_factors { length row_factors.now ≡ 4 * rows }
+    requires place_factors { length place_factors.now ≡ 4 * params.now.wr }
+    requires coefficients { length coefficients.now ≡ (params.now.nrow - 3 - rows) * params.now.wr }
+    requires reach { X.reach extender.now ≡ record { count = params.now.block; upto = params.now.dblock } }
+    requires room { X.rooms extender.now + 2 * params.now.dblock ≤ length room.old }
+    requires answer { length answer.old ≡ params.now.dblock }
+    ensures room { length room.new ≡ length room.old }
+    ensures answer { length answer.new ≡ length answer.old }
+    ensures values { (all : List (List F)) (lists : ℕ → List F) → length all ≡ params.now.nrow → IsTableOf F.ops F.element width all table.now →
+        AreFactored F.ops params.now rows 4 row_factors.now place_factors.now lists →
+        AreListed F.ops params.now rows coefficients.now lists →
+        answer.new ≡ values_of F.ops F.element params.now.dblock (linear_answer F.ops F.element params.now all lists) }
+{
+    let size = params.dblock as usize;
+    set_list(answer, row_of(table, width, 1, size));
+    let (sums, rest) = room.split_at_mut(size);
+    add_factored(
+        params,
+        table,
+        width,
+        rows,
+        row_factors,
+        place_factors,
+        extender,
+        sums,
+        rest,
+        answer,
+    );
+    add_listed(
+        params,
+        table,
+        width,
+        rows,
+        coefficients,
+        extender,
+        rest,
+        answer,
+    );
+}

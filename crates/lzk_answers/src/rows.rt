@@ -1,0 +1,130 @@
+//! Rows of a table, and lists added up.
+
+ghost use Rattle.std.specs.Prelude.{◌≡◌, ℕ, ◌+◌, ◌*◌, ◌<◌, ◌≤◌, length};
+ghost use Rattle.lzk_field.specs.Sums.{entry, sum_below};
+
+use lzk_field::Field;
+
+// How many rows are added up at a time.
+const GROUP: usize = 32;
+
+// The first values of row `i` of a table, as many as `size` says.
+pub(crate) fn row_of<F: Field>(table: &[F], width: usize, i: usize, size: usize) -> &[F]
+    requires inside { (i + 1) * width ≤ length table.now }
+    requires short { size ≤ width }
+    ensures size { length result.now ≡ size }
+    ensures values { (k : ℕ) → k < size → entry F.ops result.now k ≡ entry F.ops table.now (i * width + k) }
+{
+    let start = i * width;
+    &table[start..start + size]
+}
+
+// So many entries of a list, from a place on.
+fn part_of<F: Field>(list: &[F], start: usize, size: usize) -> &[F]
+    requires { start + size ≤ length list.now }
+    ensures size { length result.now ≡ size }
+    ensures values { (i : ℕ) → i < size → entry F.ops result.now i ≡ entry F.ops list.now (start + i) }
+{
+    &list[start..start + size]
+}
+
+// Sets a list to zeros.
+pub(crate) fn clear<F: Field>(list: &mut [F])
+    ensures length { length list.new ≡ length list.old }
+    ensures entries { (k : ℕ) → k < length list.old → entry F.ops list.new k ≡ F.ops.zero }
+{
+    for k in 0..list.len() {
+        list[k] = F::zero();
+    }
+}
+
+// Sets a list to another one.
+pub(crate) fn set_list<F: Field>(list: &mut [F], values: &[F])
+    requires { length values.now ≡ length list.old }
+    ensures { list.new ≡ values.now }
+{
+    list.copy_from_slice(values);
+}
+
+// Adds another list.
+pub(crate) fn add_list<F: Field>(list: &mut [F], values: &[F])
+    requires { length values.now ≡ length list.old }
+    ensures length { length list.new ≡ length list.old }
+    ensures entries { (k : ℕ) → k < length list.old → entry F.ops list.new k ≡ F.ops.plus (entry F.ops list.old k) (entry F.ops values.now k) }
+{
+    for k in 0..list.len() {
+        list[k] = list[k].add(values[k]);
+    }
+}
+
+// Multiplies by another list, entry by entry.
+pub(crate) fn multiply_list<F: Field>(list: &mut [F], values: &[F])
+    requires { length values.now ≡ length list.old }
+    ensures length { length list.new ≡ length list.old }
+    ensures entries { (k : ℕ) → k < length list.old → entry F.ops list.new k ≡ F.ops.times (entry F.ops list.old k) (entry F.ops values.now k) }
+{
+    for k in 0..list.len() {
+        list[k] = list[k].mul(values[k]);
+    }
+}
+
+// Column `k` of some rows of a table, from row `first` on.
+fn gather<F: Field>(table: &[F], width: usize, first: usize, k: usize, column: &mut [F])
+    requires inside { (first + length column.old) * width ≤ length table.now }
+    requires column { k < width }
+    ensures length { length column.new ≡ length column.old }
+    ensures entries { (i : ℕ) → i < length column.old → entry F.ops column.new i ≡ entry F.ops table.now ((first + i) * width + k) }
+{
+    for i in 0..column.len() {
+        column[i] = table[(first + i) * width + k];
+    }
+}
+
+// Adds to each entry a sum of multiples of some rows' values, from row `first` on. Each sum is reduced once.
+fn add_group<F: Field>(
+    table: &[F],
+    width: usize,
+    first: usize,
+    factors: &[F],
+    column: &mut [F],
+    out: &mut [F],
+)
+    requires inside { (first + length factors.now) * width ≤ length table.now }
+    requires short { length out.old ≤ width }
+    requires column { length column.old ≡ length factors.now }
+    ensures length { length out.new ≡ length out.old }
+    ensures sums { let o = F.ops in (k : ℕ) → k < length out.old → entry o out.new k ≡ o.plus (entry o out.old k) (sum_below o (length factors.now) (λ i. o.times (entry o factors.now i) (entry o table.now ((first + i) * width + k)))) }
+{
+    for k in 0..out.len() {
+        gather(table, width, first, k, column);
+        out[k] = out[k].add(F::dot(factors, column));
+    }
+}
+
+// Adds to each entry the sum of multiples of rows' values, from row `first` on. `column` is room, of GROUP elements or more.
+pub(crate) fn add_rows<F: Field>(
+    table: &[F],
+    width: usize,
+    first: usize,
+    factors: &[F],
+    column: &mut [F],
+    out: &mut [F],
+)
+    requires inside { (first + length factors.now) * width ≤ length table.now }
+    requires few { first + length factors.now ≤ 265 }
+    requires short { length out.old ≤ width }
+    requires column { 32 ≤ length column.old }
+    ensures column { length column.new ≡ length column.old }
+    ensures length { length out.new ≡ length out.old }
+    ensures sums { let o = F.ops in (k : ℕ) → k < length out.old → entry o out.new k ≡ o.plus (entry o out.old k) (sum_below o (length factors.now) (λ i. o.times (entry o factors.now i) (entry o table.now ((first + i) * width + k)))) }
+{
+    let mut start = 0;
+    while start < factors.len() {
+        let rest = factors.len() - start;
+        let size = rest.min(GROUP);
+        let group = part_of(factors, start, size);
+        let room = &mut column[..size];
+        add_group(table, width, first + start, group, room, out);
+        start += size;
+    }
+}

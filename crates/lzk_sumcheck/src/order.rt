@@ -1,0 +1,88 @@
+//! An order of a layer's terms in which equal pairs of wires stand beside each other, and stay so as variables are bound.
+
+ghost use Rattle.std.specs.Prelude.{◌≡◌, ◌<◌, IfOk};
+ghost use Rattle.lzk_layout.specs.Places.{depth};
+ghost use Rattle.lzk_sumcheck.specs.Coefficients.{terms_at};
+ghost use Rattle.lzk_sumcheck.specs.Orders.{IsOrderOf, AreOrders};
+
+use lzk_circuit::{Circuit, Term};
+use lzk_field::Field;
+use std::alloc::{AllocError, Global};
+use std::marker::Model;
+
+/// The places of a layer's terms, each behind the number that it is ordered by.
+#[derive(Drop)]
+pub(crate) struct Order {
+    list: Vec<(u64, usize)>,
+}
+
+impl Model for Order {
+    ghost use Rattle.std.specs.Prelude.{ℕ, List};
+    ghost use Rattle.lzk_sumcheck.specs.Orders.{places};
+
+    ghost Value = { List ℕ };
+
+    ghost view = { λ o. places o.list.items };
+}
+
+// The bits of a number, with a 0 before each.
+fn spaced(number: u32) -> u64 {
+    let x = u64::from(number);
+    let x = (x | (x << 16)) & 0x0000_ffff_0000_ffff;
+    let x = (x | (x << 8)) & 0x00ff_00ff_00ff_00ff;
+    let x = (x | (x << 4)) & 0x0f0f_0f0f_0f0f_0f0f;
+    let x = (x | (x << 2)) & 0x3333_3333_3333_3333;
+    (x | (x << 1)) & 0x5555_5555_5555_5555
+}
+
+// The bits of a and b in turn, so that those which are bound first count least.
+fn key_of<F: Field>(term: Term<F>) -> u64 {
+    spaced(term.a) | (spaced(term.b) << 1)
+}
+
+impl Order {
+    ghost use Rattle.std.specs.Prelude.{◌≡◌, IfOk};
+    ghost use Rattle.lzk_sumcheck.specs.Orders.{places, IsOrderOf};
+
+    /// The order of these terms.
+    fn of<F: Field>(alloc: Global, terms: &[Term<F>]) -> Result<Order, AllocError>
+        ensures { IfOk result (λ order. IsOrderOf terms.now order) }
+    {
+        let mut list = Vec::with_capacity(alloc, terms.len())?;
+        for i in 0..terms.len() {
+            list.push((key_of(terms[i]), i))?;
+        }
+        list.sort_unstable();
+        Ok(Order { list })
+    }
+
+    /// The places, each behind its number.
+    pub(crate) fn as_slice(&self) -> &[(u64, usize)]
+        ensures { places result.now ≡ self.now }
+    {
+        &self.list
+    }
+}
+
+// The order of the terms of layer `l`.
+fn order_at<F: Field>(alloc: Global, circuit: &Circuit<F>, l: u32) -> Result<Order, AllocError>
+    requires { l < depth circuit.now }
+    ensures { IfOk result (λ order. IsOrderOf (terms_at circuit.now l) order) }
+{
+    Order::of(alloc, circuit.layer(l).terms.as_slice())
+}
+
+/// The order of each layer's terms.
+pub(crate) fn orders_of<F: Field>(
+    alloc: Global,
+    circuit: &Circuit<F>,
+) -> Result<Vec<Order>, AllocError>
+    ensures { IfOk result (λ list. AreOrders circuit.now list.items) }
+{
+    let depth = circuit.depth();
+    let mut list = Vec::with_capacity(alloc, depth as usize)?;
+    for l in 0..depth {
+        list.push(order_at(alloc, circuit, l)?)?;
+    }
+    Ok(list)
+}

@@ -1,0 +1,9 @@
+pub mod ChunkLaws
+pub mod FilledLaws
+pub mod Words
+pub mod TableauLaws
+pub mod ValueLaws
+pub mod CommittedLaws
+pub mod CopyLaws
+pub mod ChunkRows
+pub mod GapLaws
