@@ -39,7 +39,7 @@ pub struct Factored<F> {
 }
 
 impl<F: Field> Factored<F> {
-    /// Room for this circuit's constraints, all of whose factors and coefficients are 0. `Err` where there is no memory for it.
+    /// Room for this circuit's constraints. What it holds means nothing before it is set. `Err` where there is no memory for it.
     pub fn new(alloc: Global, circuit: &Circuit<F>) -> Result<Factored<F>, AllocError>
         ensures room { IfOk result (λ factored. HasRoomFor circuit.now factored) }
     {

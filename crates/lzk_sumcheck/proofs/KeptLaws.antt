@@ -149,7 +149,7 @@ module _ {A : Type 0} (o : Ops A) (r : RingLaws o) where
       inside [] h = tt
       inside (t ∷ ts) h = (let p = h.1 in omega arith, let p = h.2 in omega arith, inside ts h.4)
 
-  -- D11's round, from what is kept when the challenges bs are bound
+  -- a round, from what is kept when the challenges bs are bound
   pub round_from_kept : (s : Layered A) (bs : List A) (ps : List (Pair A)) (first second : List A) (half : ℕ) (t : A) → length s.values ≤ 2 ^ s.bits → length bs < 2 * s.bits
       → IsKept o (after o bs (state_of o s)) ps first second → length first ≡ 2 * half → pairs_total o (map (bind_pair o t) ps) (entry o second) (bound_entry o t first) ≡ round o s bs t
   round_from_kept s bs ps first second half t l b k e = sym (round-is o r s bs t l b ∙ round-kept (after o bs (state_of o s)) ps first second half t k e)
