@@ -13,6 +13,8 @@ use Rattle.lzk_field.specs.Ring.{Ops, Laws}
 use Rattle.lzk_goldilocks.specs.Prime.{p}
 use Rattle.lzk_goldilocks.specs.Elements as gold
 use Rattle.lzk_gf128.specs.Elements as gf
+use Rattle.lzk_honest.specs.Proving.{OneFile, words_of}
+use Rattle.lzk_field.specs.Words.{seeded_word}
 use Rattle.lzk_layout.specs.Fields.{shape}
 use Rattle.lzk_layout.specs.Sizes.{params_of}
 use Rattle.lzk_layout.proofs.Faults.{one_fault}
@@ -21,13 +23,14 @@ use Rattle.lzk_outside.specs.Outside.{Files}
 use Rattle.lzk_verify.proofs.OneVerdict.{one_verdict}
 use Rattle.lzk_cmd.specs.Compiled.{CompileRun, PutsCompiled, term_total}
 use Rattle.lzk_cmd.specs.Decoded.{circuit_files, number_files, source_files, proof_files, level_refused}
-use Rattle.lzk_cmd.specs.Ends.{End, Stop, stops_at, says, missing_file, refused_words}
+use Rattle.lzk_cmd.specs.Ends.{End, Stop, stops_at, says, missing_file, refused_words, puts}
 use Rattle.lzk_cmd.specs.Formats.{Format, AtBytes, At}
-use Rattle.lzk_cmd.specs.Lines.{larger_line, reading_line}
+use Rattle.lzk_cmd.specs.Lines.{larger_line, reading_line, proved_line}
 use Rattle.lzk_cmd.specs.OneEnd.{PutAlike, AreOne, OneEnd}
+use Rattle.lzk_cmd.specs.Proved.{PutsProof, Proves, ProveOver, ProveAny, ProveRun, nonzero_end, seed_of}
 use Rattle.lzk_cmd.specs.Run.{Evaluated, EvalOver, EvalAny, EvalRun, ShowRun, CommandRun, verdict, output_lines}
 use Rattle.lzk_cmd.specs.Verified.{Judged, VerifyOver, VerifyAny, VerifyRun, session_of, verdict_end, gold_coding, gf_coding}
-use Rattle.lzk_cmd.specs.Words.{Command, Eval, Compile, Show, Verify, command_of}
+use Rattle.lzk_cmd.specs.Words.{Command, Eval, Compile, Show, Prove, Verify, command_of}
 use Rattle.lzk_cmd.proofs.Laws as formats
 use Rattle.lzk_cmd.proofs.Laws.{IsLawful}
 
@@ -84,6 +87,9 @@ one_eval_any (Gold c) public private files stop a b h k = one_eval_over gold.ops
 one_eval_any (Gf c) public private files stop a b h k = one_eval_over gf.ops (2 ^ 128) gf.number gf.Gf128-ext c public private files stop a b h k
 
 module _ {A : Type 0} (o : Ops A) (e : Coding A) (laws : Laws o e.size e.number e.element e.bytes) (c : Wiring A) where
+  numbers_apart : (x y : A) → e.number x ≡ e.number y → x ≡ y
+  numbers_apart x y same = sym (laws.numbers.element_number x) ∙ ap e.element same ∙ laws.numbers.element_number y
+
   one_judged : (session : List ℕ) (publics : List A) (bytes : List ℕ) (a b : End) → Judged o e c session publics bytes a → Judged o e c session publics bytes b → a ≡ b
   one_judged session publics bytes a b h k =
       let p = params_of c in
@@ -96,13 +102,34 @@ module _ {A : Type 0} (o : Ops A) (e : Coding A) (laws : Laws o e.size e.number 
       one_step files stop a b (a ≡ b) (λ e. e) (number_files e.size e.number c.publics) (formats.numbers e.size e.number numbers_apart c.publics) 1 public _ _ (λ publics.
       one_step files stop a b (a ≡ b) (λ e. e) proof_files formats.proofs 2 proof _ _ (λ bytes.
       one_judged session publics bytes a b))
-    where
-      numbers_apart : (x y : A) → e.number x ≡ e.number y → x ≡ y
-      numbers_apart x y same = sym (laws.numbers.element_number x) ∙ ap e.element same ∙ laws.numbers.element_number y
+
+  -- where there is one file of a proof
+  module _ (files : Files) (stop : Stop) (a b : End) (one : OneFile o e) (proof session seed : List ℕ) where
+    one_proves : (publics privates : List A) → Proves o e c proof session seed publics privates stop a → Proves o e c proof session seed publics privates stop b → a ≡ b
+    one_proves publics privates (f, is, h) (g, js, k) = go f h (subst (λ (first : Option (ℕ × A)). MatchOption first (PutsProof o e c proof session seed publics privates stop b) (λ found. b ≡ nonzero_end e.number found)) (one_first o _ g f js is) k)
+      where
+        go : (first : Option (ℕ × A)) → MatchOption first (PutsProof o e c proof session seed publics privates stop a) (λ found. a ≡ nonzero_end e.number found)
+            → MatchOption first (PutsProof o e c proof session seed publics privates stop b) (λ found. b ≡ nonzero_end e.number found) → a ≡ b
+        go None (xs, file, fits, h) (ys, other, also, k) =
+            h ∙ ap (λ bytes. puts stop proof bytes (proved_line proof (length bytes))) (one c session publics privates (words_of (seeded_word seed)) xs ys file other) ∙ sym k
+        go (Some found) h k = h ∙ sym k
+
+    one_prove_over : (public private : List ℕ) → ProveOver o e c public private proof session seed files stop a → ProveOver o e c public private proof session seed files stop b → a ≡ b
+    unfolding ProveOver
+    one_prove_over public private =
+        one_step files stop a b (a ≡ b) (λ e. e) (number_files e.size e.number c.publics) (formats.numbers e.size e.number numbers_apart c.publics) 1 public _ _ (λ publics.
+        one_step files stop a b (a ≡ b) (λ e. e) (number_files e.size e.number c.privates) (formats.numbers e.size e.number numbers_apart c.privates) 2 private _ _ (λ privates.
+        one_proves publics privates))
 
 one_verify_any : (c : AnyCircuit) (public proof session : List ℕ) (files : Files) (stop : Stop) (a b : End) → VerifyAny c public proof session files stop a → VerifyAny c public proof session files stop b → a ≡ b
 one_verify_any (Gold c) public proof session files stop a b h k = one_verify_over gold.ops gold_coding gold.laws c public proof session files stop a b h k
 one_verify_any (Gf c) public proof session files stop a b h k = one_verify_over gf.ops gf_coding gf.laws c public proof session files stop a b h k
+
+-- what is known of the two fields' proofs
+module _ (gold_file : OneFile gold.ops gold_coding) (gf_file : OneFile gf.ops gf_coding) where
+  one_prove_any : (c : AnyCircuit) (public private proof session seed : List ℕ) (files : Files) (stop : Stop) (a b : End) → ProveAny c public private proof session seed files stop a → ProveAny c public private proof session seed files stop b → a ≡ b
+  one_prove_any (Gold c) public private proof session seed files stop a b h k = one_prove_over gold.ops gold_coding gold.laws c files stop a b gold_file proof session seed public private h k
+  one_prove_any (Gf c) public private proof session seed files stop a b h k = one_prove_over gf.ops gf_coding gf.laws c files stop a b gf_file proof session seed public private h k
 
 one_compile : (source circuit : List ℕ) (files : Files) (stop : Stop) (a b : End) → CompileRun source circuit files stop a → CompileRun source circuit files stop b
     → (a ≡ b) ⊎ PutAlike stop circuit a b
@@ -123,18 +150,21 @@ one_compile source circuit files stop a b = one_step files stop a b _ inl source
     go s None h k = inr (alike s h k)
     go s (Some fault) h k = inl (h ∙ sym k)
 
-one_command : (command : Command) (files : Files) (stop : Stop) (a b : End) → CommandRun command files stop a → CommandRun command files stop b → AreOne (Some command) stop a b
-unfolding EvalRun ShowRun VerifyRun
-one_command (Eval circuit public private) files stop a b h k =
-    one_step files stop a b (a ≡ b) (λ e. e) circuit_files formats.circuits 0 circuit _ _ (λ c. one_eval_any c public private files stop a b) h k
-one_command (Compile source circuit) files stop a b h k = one_compile source circuit files stop a b h k
-one_command (Show circuit) files stop a b h k = one_step files stop a b (a ≡ b) (λ e. e) circuit_files formats.circuits 0 circuit _ _ (λ c x y. x ∙ sym y) h k
-one_command (Verify circuit public proof session) files stop a b h k =
-    one_step files stop a b (a ≡ b) (λ e. e) circuit_files formats.circuits 0 circuit _ _ (λ c. one_verify_any c public proof (session_of session) files stop a b) h k
+module _ (gold_file : OneFile gold.ops gold_coding) (gf_file : OneFile gf.ops gf_coding) where
+  one_command : (command : Command) (files : Files) (stop : Stop) (a b : End) → CommandRun command files stop a → CommandRun command files stop b → AreOne (Some command) stop a b
+  unfolding EvalRun ShowRun ProveRun VerifyRun
+  one_command (Eval circuit public private) files stop a b h k =
+      one_step files stop a b (a ≡ b) (λ e. e) circuit_files formats.circuits 0 circuit _ _ (λ c. one_eval_any c public private files stop a b) h k
+  one_command (Compile source circuit) files stop a b h k = one_compile source circuit files stop a b h k
+  one_command (Show circuit) files stop a b h k = one_step files stop a b (a ≡ b) (λ e. e) circuit_files formats.circuits 0 circuit _ _ (λ c x y. x ∙ sym y) h k
+  one_command (Prove circuit public private proof seed session) files stop a b h k =
+      one_step files stop a b (a ≡ b) (λ e. e) circuit_files formats.circuits 0 circuit _ _ (λ c. one_prove_any gold_file gf_file c public private proof (session_of session) (seed_of seed) files stop a b) h k
+  one_command (Verify circuit public proof session) files stop a b h k =
+      one_step files stop a b (a ≡ b) (λ e. e) circuit_files formats.circuits 0 circuit _ _ (λ c. one_verify_any c public proof (session_of session) files stop a b) h k
 
-pub one_end : OneEnd
-one_end words files stop a b = go (command_of words)
-  where
-    go : (command : Option Command) → MatchOption command (a ≡ refused_words) (λ c. CommandRun c files stop a) → MatchOption command (b ≡ refused_words) (λ c. CommandRun c files stop b) → AreOne command stop a b
-    go None h k = h ∙ sym k
-    go (Some command) h k = one_command command files stop a b h k
+  pub one_end : OneEnd
+  one_end words files stop a b = go (command_of words)
+    where
+      go : (command : Option Command) → MatchOption command (a ≡ refused_words) (λ c. CommandRun c files stop a) → MatchOption command (b ≡ refused_words) (λ c. CommandRun c files stop b) → AreOne command stop a b
+      go None h k = h ∙ sym k
+      go (Some command) h k = one_command command files stop a b h k

@@ -1,5 +1,5 @@
 -- The exits of `compile` behind its source.
-use Rattle.std.proofs.Common.{◌≡◌, ℕ, List, Result, Ok, Err, inl, inr, refl, ap, subst, ◌∙◌}
+use Rattle.std.proofs.Common.{◌≡◌, ℕ, List, Result, Ok, Err, refl, ap, subst}
 use Rattle.std.specs.Prelude.{String, Vec, string_bytes}
 use Rattle.std.specs.declared.alloc.Global.{Global}
 use Rattle.std.specs.Result.{IsErrAnd}
@@ -10,13 +10,12 @@ use Rattle.lzk_cmd.specs.declared.ending.Halt.{Halt}
 use Rattle.lzk_cmd.specs.declared.ending.Halt.TheVariants as halts
 use Rattle.lzk_cmd.specs.Compiled.{CompileTree}
 use Rattle.lzk_cmd.specs.Decoded.{level_refused}
-use Rattle.lzk_cmd.specs.Ends.{Stop, Nowhere, AtPut, puts}
+use Rattle.lzk_cmd.specs.Ends.{Stop, puts}
 use Rattle.lzk_cmd.specs.Seen.{Seen}
 use Rattle.lzk_cmd.specs.Walks.{IsCompiled, Compiles, Puts, WalksToPut}
-use Rattle.lzk_cmd.proofs.Causes.{put_cause}
 use Rattle.lzk_cmd.proofs.Laws.{level_quiet}
 use Rattle.lzk_cmd.proofs.Sights.{where_told, no_step}
-use Rattle.lzk_cmd.proofs.Steps.{handed_on, here}
+use Rattle.lzk_cmd.proofs.Steps.{handed_on, here, at_put}
 
 module _ (source circuit : List ℕ) (s : SourceTree) where
   pub no_circuit : (old : Seen) (h : Halt) (r : Result Ending Halt) → Compiles source circuit s (Err h) → IsErrAnd r (λ y. y ≡ h) → WalksToPut (λ files. CompileTree source circuit s) 1 old old r
@@ -32,26 +31,6 @@ module _ (source circuit : List ℕ) (s : SourceTree) where
 
   pub puts_circuit : (old new : Seen) (made : Vec ℕ Global × String Global) (given : List ℕ) (r : Result Ending Halt) → Compiles source circuit s (Ok made) → given ≡ made.0.items
       → Puts circuit given (string_bytes made.1) old new r → WalksToPut (λ files. CompileTree source circuit s) 1 old new r
-  puts_circuit old new made given r c same h = go r (subst (λ bytes. Puts circuit bytes (string_bytes made.1) old new r) same h)
-    where
-      go : (r : Result Ending Halt) → Puts circuit made.0.items (string_bytes made.1) old new r → WalksToPut (λ files. CompileTree source circuit s) 1 old new r
-      go (Ok e) (inl h) = record {
-        stop = Nowhere;
-        end = puts Nowhere circuit made.0.items (string_bytes made.1);
-        may = tt;
-        far = λ j l. refl;
-        is = h.1;
-        told = where_told old.files _ (λ f at. (compiled_put made.0.items (string_bytes made.1) Nowhere c, rw at at h.0));
-        cause = put_cause old new Nowhere circuit made.0.items (string_bytes made.1) tt;
-      }
-      go (Ok e) (inr h) = record {
-        stop = AtPut;
-        end = puts AtPut circuit made.0.items (string_bytes made.1);
-        may = h.0;
-        far = λ j l. refl;
-        is = h.2;
-        told = where_told old.files _ (λ f at. (compiled_put made.0.items (string_bytes made.1) AtPut c, rw at at h.1));
-        cause = put_cause old new AtPut circuit made.0.items (string_bytes made.1) h.0;
-      }
-      go (Err halts.Memory) h = where_told old.files _ (λ f at. h ∙ at)
-      go (Err (halts.End e)) h = absurd h
+  puts_circuit old new made given r c same h =
+      at_put (λ files. CompileTree source circuit s) 1 circuit made.0.items (string_bytes made.1) old new r (λ files stop. compiled_put made.0.items (string_bytes made.1) stop c)
+      (subst (λ bytes. Puts circuit bytes (string_bytes made.1) old new r) same h)

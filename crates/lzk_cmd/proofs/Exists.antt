@@ -1,33 +1,38 @@
 -- Words, files and stop have an end.
-use Rattle.std.proofs.Common.{◌≡◌, ◌⊎◌, ◌<◌, ℕ, suc, zero, Bool, true, false, eqb, List, [], ◌∷◌, length, map, Option, Some, None, Result, Ok, Err, inl, inr, refl, sym, ap, ◌∙◌, arith, ltb-false}
+use Rattle.std.proofs.Common.{◌≡◌, ◌⊎◌, ◌<◌, ℕ, suc, zero, Bool, true, false, eqb, List, [], ◌∷◌, length, map, Option, Some, None, Result, Ok, Err, inl, inr, refl, sym, ap, ◌∙◌, arith, mod-lt, pow_pos, ltb-false}
 use Rattle.std.specs.Prelude.{◌^◌, MatchBool, MatchOption, nat_lt, slice_index_or}
+use Rattle.std.proofs.lemmas.List.{length-map}
 use Rattle.std.proofs.lemmas.Bool.{eqb-true, eqb-false}
 use Rattle.lzk_circbytes.specs.declared.any.AnyCircuit.{AnyCircuit}
 use Rattle.lzk_circbytes.specs.declared.any.AnyCircuit.TheVariants.{Gold, Gf}
+use Rattle.lzk_circbytes.specs.Files.{CircuitBytes}
 use Rattle.lzk_circbytes.proofs.Sizes.{files_fit}
-use Rattle.lzk_circuit.specs.Valid.{Wiring}
+use Rattle.lzk_circuit.specs.Valid.{Wiring, IsValid}
 use Rattle.lzk_circuit.specs.Wires.{wires_of, inputs_of, IsFirstNonzero}
 use Rattle.lzk_expr.specs.Trees.{SourceTree}
 use Rattle.lzk_expr.specs.Sources.{TextReads}
 use Rattle.lzk_expr.specs.declared.source_fault.SourceFault.{SourceFault}
 use Rattle.lzk_field.specs.Coding.{Coding}
 use Rattle.lzk_field.specs.Ring.{Ops, Laws}
+use Rattle.lzk_field.specs.Words.{seeded_word}
 use Rattle.lzk_goldilocks.specs.Prime.{p}
 use Rattle.lzk_goldilocks.specs.Elements as gold
 use Rattle.lzk_gf128.specs.Elements as gf
 use Rattle.lzk_level.specs.Compiled.{source_limit}
 use Rattle.lzk_level.specs.declared.fault.LevelFault.{LevelFault}
+use Rattle.lzk_honest.specs.Proving.{HaveCounts, SomeFile, FilesFit, words_of}
 use Rattle.lzk_outside.specs.Outside.{Files}
 use Rattle.lzk_cmd.proofs.SomeVerdict.{some_verdict}
 use Rattle.lzk_cmd.specs.Compiled.{CompileRun, CompileTree, PutsCompiled, compiled_text}
 use Rattle.lzk_cmd.specs.Decoded.{circuit_files, number_files, source_files, proof_files, level_refused, text_limit, proof_limit}
 use Rattle.lzk_cmd.specs.Ends.{End, Stop, AtFile, stops_at, says, missing_file, refused_words, puts}
 use Rattle.lzk_cmd.specs.Formats.{Format, HasFile, AtBytes, At}
-use Rattle.lzk_cmd.specs.Lines.{larger_line, reading_line}
+use Rattle.lzk_cmd.specs.Lines.{larger_line, reading_line, proved_line}
+use Rattle.lzk_cmd.specs.Proved.{PutsProof, Proves, ProveOver, ProveAny, ProveRun, nonzero_end, seed_of}
 use Rattle.lzk_cmd.specs.Run.{Evaluated, EvalOver, EvalAny, EvalRun, ShowRun, CommandRun, verdict, output_lines, shown_any}
 use Rattle.lzk_cmd.specs.SomeEnd.{AreBytes, HasCircuit, CanCompile, CanRun, SomeEnd}
 use Rattle.lzk_cmd.specs.Verified.{Judged, VerifyOver, VerifyAny, VerifyRun, session_of, verdict_end, gold_coding, gf_coding}
-use Rattle.lzk_cmd.specs.Words.{Command, Eval, Compile, Show, Verify, command_of}
+use Rattle.lzk_cmd.specs.Words.{Command, Eval, Compile, Show, Prove, Verify, command_of}
 use Rattle.lzk_cmd.proofs.Total.{circuits_total, numbers_total}
 
 -- a walk at a file has an end, where it has one on what the bytes mean
@@ -45,13 +50,18 @@ module _ (files : Files) (stop : Stop) (k : ℕ) (name : List ℕ) where
       go false None is = (missing_file name, refl)
       go false (Some bytes) is = fits bytes is (nat_lt limit (length bytes)) refl
 
-  some_at : {X F : Type 0} (format : Format X F) → ((bytes : List ℕ) → HasFile (files name) format.limit bytes → ((x : X) × format.means bytes x) ⊎ ((fault : F) × format.breaks bytes fault)) → (next : End → X → Type 0)
-      → ((x : X) → (end : End) × next end x) → (end : End) × At format files stop k name end (next end)
-  some_at {X} {F} format total next then = some_file format.limit (λ end bytes. AtBytes format name bytes end (next end)) (λ bytes has. go bytes (total bytes has))
+  -- where it has one on what the bytes mean
+  some_with : {X F : Type 0} (format : Format X F) → ((bytes : List ℕ) → HasFile (files name) format.limit bytes → ((x : X) × format.means bytes x) ⊎ ((fault : F) × format.breaks bytes fault)) → (next : End → X → Type 0)
+      → ((bytes : List ℕ) (x : X) → format.means bytes x → (end : End) × next end x) → (end : End) × At format files stop k name end (next end)
+  some_with {X} {F} format total next then = some_file format.limit (λ end bytes. AtBytes format name bytes end (next end)) (λ bytes has. go bytes (total bytes has))
     where
       go : (bytes : List ℕ) → ((x : X) × format.means bytes x) ⊎ ((fault : F) × format.breaks bytes fault) → (end : End) × AtBytes format name bytes end (next end)
-      go bytes (inl (x, means)) = let behind = then x in (behind.0, inl (x, means, behind.1))
+      go bytes (inl (x, means)) = let behind = then bytes x means in (behind.0, inl (x, means, behind.1))
       go bytes (inr (fault, breaks)) = (format.refused name fault, inr (fault, breaks, refl))
+
+  some_at : {X F : Type 0} (format : Format X F) → ((bytes : List ℕ) → HasFile (files name) format.limit bytes → ((x : X) × format.means bytes x) ⊎ ((fault : F) × format.breaks bytes fault)) → (next : End → X → Type 0)
+      → ((x : X) → (end : End) × next end x) → (end : End) × At format files stop k name end (next end)
+  some_at format total next then = some_with format total next (λ bytes x means. then x)
 
 -- outputs have a first one that is not 0, or none
 module _ {A : Type 0} (o : Ops A) (number : A → ℕ) (element : ℕ → A) (size bytes : ℕ) (laws : Laws o size number element bytes) where
@@ -110,7 +120,42 @@ some_verify : (c : AnyCircuit) (public proof session : List ℕ) (files : Files)
 some_verify (Gold c) public proof session files stop good = some_verify_over gold.ops gold_coding gold.laws c public proof session files stop good
 some_verify (Gf c) public proof session files stop good = some_verify_over gf.ops gf_coding gf.laws c public proof session files stop good
 
-module _ (files : Files) (stop : Stop) where
+-- inputs have a proof or a first output that is not 0, where valid circuits have a proof's file
+module _ {A : Type 0} (o : Ops A) (e : Coding A) (laws : Laws o e.size e.number e.element e.bytes) (some : SomeFile o e) (fit : FilesFit o e) (c : Wiring A) (valid : IsValid o c) (proof session seed : List ℕ) (files : Files) (stop : Stop) where
+  some_proves : (publics privates : List A) → HaveCounts c publics privates → (end : End) × Proves o e c proof session seed publics privates stop end
+  some_proves publics privates counts = go (some_first o e.number e.element e.size e.bytes laws (wires_of o c.layers (inputs_of o publics privates)))
+    where
+      word : ℕ → ℕ
+      word = words_of (seeded_word seed)
+
+      found : (first : Option (ℕ × A)) → (end : End) × MatchOption first (PutsProof o e c proof session seed publics privates stop end) (λ found. end ≡ nonzero_end e.number found)
+      found None =
+          let file = some c session publics privates word valid counts (λ i. mod-lt (seeded_word seed i) (pow_pos 128)) in
+          (puts stop proof file.0 (proved_line proof (length file.0)), (file.0, file.1, fit c session publics privates word file.0 valid file.1, refl))
+      found (Some first) = (nonzero_end e.number first, refl)
+
+      go : (first : Option (ℕ × A)) × IsFirstNonzero o (wires_of o c.layers (inputs_of o publics privates)) first → (end : End) × Proves o e c proof session seed publics privates stop end
+      go (first, is) = let behind = found first in (behind.0, (first, is, behind.1))
+
+  some_prove_over : (public private : List ℕ) → (end : End) × ProveOver o e c public private proof session seed files stop end
+  unfolding ProveOver
+  some_prove_over public private =
+      some_with files stop 1 public (number_files e.size e.number c.publics) (λ text has. numbers_total o e.size e.number e.element e.bytes laws 0 c.publics text) _ (λ text publics means.
+      some_with files stop 2 private (number_files e.size e.number c.privates) (λ text has. numbers_total o e.size e.number e.element e.bytes laws 0 c.privates text) _ (λ other privates also.
+      some_proves publics privates (sym (length-map publics e.number) ∙ means.number, sym (length-map privates e.number) ∙ also.number)))
+
+-- what is known of the two fields' proofs
+pub record HaveFiles : Type 0 where
+  pub gold_file : SomeFile gold.ops gold_coding
+  pub gold_fits : FilesFit gold.ops gold_coding
+  pub gf_file : SomeFile gf.ops gf_coding
+  pub gf_fits : FilesFit gf.ops gf_coding
+
+some_prove : HaveFiles → (bytes : List ℕ) (c : AnyCircuit) → CircuitBytes c bytes → (public private proof session seed : List ℕ) (files : Files) (stop : Stop) → (end : End) × ProveAny c public private proof session seed files stop end
+some_prove have bytes (Gold c) is public private proof session seed files stop = some_prove_over gold.ops gold_coding gold.laws have.gold_file have.gold_fits c is.valid proof session seed files stop public private
+some_prove have bytes (Gf c) is public private proof session seed files stop = some_prove_over gf.ops gf_coding gf.laws have.gf_file have.gf_fits c is.valid proof session seed files stop public private
+
+module _ (have : HaveFiles) (files : Files) (stop : Stop) where
   circuits_there : AreBytes files → (name bytes : List ℕ) → HasFile (files name) circuit_files.limit bytes → ((c : AnyCircuit) × circuit_files.means bytes c) ⊎ ((fault : _) × circuit_files.breaks bytes fault)
   circuits_there good name bytes has = circuits_total bytes (good name bytes has.there)
 
@@ -131,16 +176,18 @@ module _ (files : Files) (stop : Stop) where
       go text (Err fault) is made = (source_files.refused source fault, inr (fault, is, refl))
 
   some_command : (command : Command) → AreBytes files → CanRun (Some command) files → (end : End) × CommandRun command files stop end
-  unfolding EvalRun ShowRun VerifyRun
+  unfolding EvalRun ShowRun ProveRun VerifyRun
   some_command (Eval circuit public private) good can = some_at files stop 0 circuit circuit_files (circuits_there good circuit) _ (λ c. some_eval c public private files stop)
   some_command (Compile source circuit) good can = some_compile source circuit can
   some_command (Show circuit) good can = some_at files stop 0 circuit circuit_files (circuits_there good circuit) _ (λ c. (says 0 (shown_any c), refl))
+  some_command (Prove circuit public private proof seed session) good can =
+      some_with files stop 0 circuit circuit_files (circuits_there good circuit) _ (λ bytes c means. some_prove have bytes c means public private proof (session_of session) (seed_of seed) files stop)
   some_command (Verify circuit public proof session) good can =
       some_at files stop 0 circuit circuit_files (circuits_there good circuit) _ (λ c. some_verify c public proof (session_of session) files stop good)
 
-pub some_end : SomeEnd
-some_end words files stop good can = go (command_of words) can
+pub some_end : HaveFiles → SomeEnd
+some_end have words files stop good can = go (command_of words) can
   where
     go : (command : Option Command) → CanRun command files → (end : End) × MatchOption command (end ≡ refused_words) (λ c. CommandRun c files stop end)
     go None can = (refused_words, refl)
-    go (Some command) can = some_command files stop command good can
+    go (Some command) can = some_command have files stop command good can

@@ -1,6 +1,6 @@
 -- A run whose files are ready is done.
 use Rattle.std.proofs.Common.{◌≡◌, ℕ, inl, inr, ◌⊎◌, List, length, Option, Some, None, refl, sym, subst}
-use Rattle.std.specs.Prelude.{◌^◌}
+use Rattle.std.specs.Prelude.{◌^◌, MatchOption}
 use Rattle.std.proofs.lemmas.Bool.{le-ltb}
 use Rattle.lzk_circbytes.specs.declared.any.AnyCircuit.{AnyCircuit}
 use Rattle.lzk_circbytes.specs.declared.any.AnyCircuit.TheVariants.{Gold, Gf}
@@ -19,10 +19,11 @@ use Rattle.lzk_verify.specs.declared.verdict.Verdict.TheVariants as verdicts
 use Rattle.lzk_cmd.specs.Ends.{End, Stop, Nowhere, AtRead, AtPut, MayStop, Leaves}
 use Rattle.lzk_cmd.specs.Formats.{Format, HasFile, Has, AtBytes, At}
 use Rattle.lzk_cmd.specs.Outcome.{Answers, Outcome}
+use Rattle.lzk_cmd.specs.Proved.{PutsProof, Proves, ProveOver, ProveAny, ProveRun, nonzero_end}
 use Rattle.lzk_cmd.specs.Run.{EvalOver, EvalAny, EvalRun, ShowRun, CommandRun, RunOf, verdict}
 use Rattle.lzk_cmd.specs.Sights.{Before, After}
 use Rattle.lzk_cmd.specs.Verified.{VerifyOver, VerifyAny, VerifyRun, verdict_end, gold_coding, gf_coding}
-use Rattle.lzk_cmd.specs.Words.{Command, Eval, Compile, Show, Verify, command_of}
+use Rattle.lzk_cmd.specs.Words.{Command, Eval, Compile, Show, Prove, Verify, command_of}
 use Rattle.lzk_cmd.proofs.Laws as laws
 use Rattle.lzk_cmd.proofs.Laws.{IsLawful, no_number_fault}
 
@@ -88,13 +89,34 @@ verify_any_done : (c : AnyCircuit) (public proof session bytes : List ℕ) (file
 verify_any_done (Gold c) public proof session bytes files end has there h = verify_over_done gold.ops gold_coding c public proof session bytes files end has there h
 verify_any_done (Gf c) public proof session bytes files end has there h = verify_over_done gf.ops gf_coding c public proof session bytes files end has there h
 
+proves_done : {A : Type 0} (o : Ops A) (e : Coding A) (c : Wiring A) (proof session seed : List ℕ) (publics privates : List A) (end : End) → Proves o e c proof session seed publics privates Nowhere end → Done end
+proves_done {A} o e c proof session seed publics privates end (first, is, h) = go first h
+  where
+    go : (first : Option (ℕ × A)) → MatchOption first (PutsProof o e c proof session seed publics privates Nowhere end) (λ found. end ≡ nonzero_end e.number found) → Done end
+    go None (bytes, file, fits, same) = subst Done (sym same) (inl refl)
+    go (Some found) same = subst Done (sym same) (inr refl)
+
+prove_over_done : {A : Type 0} (o : Ops A) (e : Coding A) (c : Wiring A) (public private proof session seed : List ℕ) (files : Files) (end : End) → HasInputs e.size files c public private
+    → ProveOver o e c public private proof session seed files Nowhere end → Done end
+unfolding ProveOver
+prove_over_done o e c public private proof session seed files end has h =
+    let first = numbers_ready e.size e.number files public c.publics 1 end _ has.0 h in
+    let second = numbers_ready e.size e.number files private c.privates 2 end _ has.1 first.1 in
+    proves_done o e c proof session seed first.0 second.0 end second.1
+
+prove_any_done : (c : AnyCircuit) (public private proof session seed : List ℕ) (files : Files) (end : End) → HasInputsOf c files public private → ProveAny c public private proof session seed files Nowhere end → Done end
+prove_any_done (Gold c) public private proof session seed files end has h = prove_over_done gold.ops gold_coding c public private proof session seed files end has h
+prove_any_done (Gf c) public private proof session seed files end has h = prove_over_done gf.ops gf_coding c public private proof session seed files end has h
+
 ready_done : (files : Files) (command : Command) (end : End) → IsReady files command → CommandRun command files Nowhere end → Done end
-unfolding EvalRun CompileRun ShowRun VerifyRun
+unfolding EvalRun CompileRun ShowRun ProveRun VerifyRun
 ready_done files (Eval circuit public private) end has h = eval_any_done has.0 public private files end has.2 (ready circuit_files laws.circuits files circuit 0 end has.0 _ has.1 h)
 ready_done files (Compile source circuit) end has h =
     let made = rw has.1.1 at (ready source_files laws.sources files source 0 end has.0 _ has.1.0 h) in
     subst Done (sym made.5) (inl refl)
 ready_done files (Show circuit) end has h = subst Done (sym (ready circuit_files laws.circuits files circuit 0 end has.0 _ has.1 h)) (inl refl)
+ready_done files (Prove circuit public private proof seed session) end has h =
+    prove_any_done has.0 public private proof _ _ files end has.2 (ready circuit_files laws.circuits files circuit 0 end has.0 _ has.1 h)
 ready_done files (Verify circuit public proof session) end has h =
     verify_any_done has.0 public proof _ has.1 files end has.3 has.4 (ready circuit_files laws.circuits files circuit 0 end has.0 _ has.2 h)
 

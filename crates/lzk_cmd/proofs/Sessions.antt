@@ -12,7 +12,7 @@ use Rattle.lzk_cmd.specs.Grammar.{Request, request_of, behind_verb, are_names, a
 use Rattle.lzk_cmd.specs.Keys.{Keys, no_keys, behind, are_hex, is_seed, is_session, is_number, with_seed, with_session, with_workers, with_key, keys_after, keys_of, or_else}
 use Rattle.lzk_cmd.specs.Table.{verb_of, row_of}
 use Rattle.lzk_cmd.specs.Verified.{decoded_or_none, session_of}
-use Rattle.lzk_cmd.specs.Words.{Command, Verify, built, command_of}
+use Rattle.lzk_cmd.specs.Words.{Command, Eval, Compile, Show, Prove, Verify, built, command_of}
 
 -- the session that stands, if one does, is one
 abbrev HasSession : Keys → Type 0
@@ -85,32 +85,54 @@ few : (session : Option (List ℕ)) → IfSome session (λ text. is_session text
 few None good = lit≤ tt
 few (Some text) good = few_bytes text (decode_of text) refl good
 
-built_session : (verb : Verb) (names : List (List ℕ)) (keys : Keys) (circuit public proof : List ℕ) (session : Option (List ℕ)) → built verb names keys ≡ Some (Verify circuit public proof session) → keys.session ≡ session
-built_session verbs.Eval [] keys circuit public proof session e = absurd cc
-built_session verbs.Eval (n ∷ []) keys circuit public proof session e = absurd cc
-built_session verbs.Eval (n ∷ m ∷ []) keys circuit public proof session e = absurd cc
-built_session verbs.Eval (n ∷ m ∷ k ∷ []) keys circuit public proof session e = absurd cc
-built_session verbs.Eval (n ∷ m ∷ k ∷ l ∷ rest) keys circuit public proof session e = absurd cc
-built_session verbs.Compile [] keys circuit public proof session e = absurd cc
-built_session verbs.Compile (n ∷ []) keys circuit public proof session e = absurd cc
-built_session verbs.Compile (n ∷ m ∷ []) keys circuit public proof session e = absurd cc
-built_session verbs.Compile (n ∷ m ∷ k ∷ rest) keys circuit public proof session e = absurd cc
-built_session verbs.Show [] keys circuit public proof session e = absurd cc
-built_session verbs.Show (n ∷ []) keys circuit public proof session e = absurd cc
-built_session verbs.Show (n ∷ m ∷ rest) keys circuit public proof session e = absurd cc
-built_session verbs.Verify [] keys circuit public proof session e = absurd cc
-built_session verbs.Verify (n ∷ []) keys circuit public proof session e = absurd cc
-built_session verbs.Verify (n ∷ m ∷ []) keys circuit public proof session e = absurd cc
-built_session verbs.Verify (n ∷ m ∷ k ∷ []) keys circuit public proof session e = cc
-built_session verbs.Verify (n ∷ m ∷ k ∷ l ∷ rest) keys circuit public proof session e = absurd cc
-built_session verbs.Prove names keys circuit public proof session e = absurd cc
-built_session verbs.Demo names keys circuit public proof session e = absurd cc
+-- the session that a command asks for
+abbrev pub asked : Command → Option (List ℕ)
+asked (Eval circuit public private) = None
+asked (Compile source circuit) = None
+asked (Show circuit) = None
+asked (Prove circuit public private proof seed session) = session
+asked (Verify circuit public proof session) = session
 
-pub session_fits : (words : List (List ℕ)) (circuit public proof : List ℕ) (session : Option (List ℕ)) → command_of words ≡ Some (Verify circuit public proof session) → length (session_of session) ≤ 64
-unfolding command_of
-session_fits words circuit public proof session e = go (request_of words) refl e
+abbrev AsksOne : Command → Type 0
+AsksOne command = IfSome (asked command) (λ text. is_session text ≡ true)
+
+found : (made command : Command) → AsksOne made → Some made ≡ Some command → AsksOne command
+found made command good e = subst AsksOne (some_is made command e) good
+
+built_session : (verb : Verb) (names : List (List ℕ)) (keys : Keys) (command : Command) → HasSession keys → built verb names keys ≡ Some command → AsksOne command
+built_session verbs.Eval [] keys command good e = absurd cc
+built_session verbs.Eval (n ∷ []) keys command good e = absurd cc
+built_session verbs.Eval (n ∷ m ∷ []) keys command good e = absurd cc
+built_session verbs.Eval (n ∷ m ∷ k ∷ []) keys command good e = found _ command tt e
+built_session verbs.Eval (n ∷ m ∷ k ∷ l ∷ rest) keys command good e = absurd cc
+built_session verbs.Compile [] keys command good e = absurd cc
+built_session verbs.Compile (n ∷ []) keys command good e = absurd cc
+built_session verbs.Compile (n ∷ m ∷ []) keys command good e = found _ command tt e
+built_session verbs.Compile (n ∷ m ∷ k ∷ rest) keys command good e = absurd cc
+built_session verbs.Show [] keys command good e = absurd cc
+built_session verbs.Show (n ∷ []) keys command good e = found _ command tt e
+built_session verbs.Show (n ∷ m ∷ rest) keys command good e = absurd cc
+built_session verbs.Prove [] keys command good e = absurd cc
+built_session verbs.Prove (n ∷ []) keys command good e = absurd cc
+built_session verbs.Prove (n ∷ m ∷ []) keys command good e = absurd cc
+built_session verbs.Prove (n ∷ m ∷ k ∷ []) keys command good e = absurd cc
+built_session verbs.Prove (n ∷ m ∷ k ∷ l ∷ []) keys command good e = go keys.seed e
   where
-    go : (found : Option Request) → request_of words ≡ found → or_else found (λ request. built request.verb request.names request.keys) None ≡ Some (Verify circuit public proof session) → length (session_of session) ≤ 64
-    go (Some request) is e =
-        few session (subst (λ (s : Option (List ℕ)). IfSome s (λ text. is_session text ≡ true)) (built_session request.verb request.names request.keys circuit public proof session e) (request_keys words request is))
+    go : (seed : Option (List ℕ)) → or_else seed (λ seed. Some (Prove n m k l seed keys.session)) None ≡ Some command → AsksOne command
+    go (Some seed) e = found _ command good e
+    go None e = absurd cc
+built_session verbs.Prove (n ∷ m ∷ k ∷ l ∷ j ∷ rest) keys command good e = absurd cc
+built_session verbs.Verify [] keys command good e = absurd cc
+built_session verbs.Verify (n ∷ []) keys command good e = absurd cc
+built_session verbs.Verify (n ∷ m ∷ []) keys command good e = absurd cc
+built_session verbs.Verify (n ∷ m ∷ k ∷ []) keys command good e = found _ command good e
+built_session verbs.Verify (n ∷ m ∷ k ∷ l ∷ rest) keys command good e = absurd cc
+built_session verbs.Demo names keys command good e = absurd cc
+
+pub session_fits : (words : List (List ℕ)) (command : Command) → command_of words ≡ Some command → length (session_of (asked command)) ≤ 64
+unfolding command_of
+session_fits words command e = go (request_of words) refl e
+  where
+    go : (found : Option Request) → request_of words ≡ found → or_else found (λ request. built request.verb request.names request.keys) None ≡ Some command → length (session_of (asked command)) ≤ 64
+    go (Some request) is e = few (asked command) (built_session request.verb request.names request.keys command (request_keys words request is) e)
     go None is e = absurd cc

@@ -8,12 +8,12 @@ use Rattle.lzk_outside.specs.Outside.{Files}
 use Rattle.lzk_cmd.specs.declared.ending.Ending.{Ending}
 use Rattle.lzk_cmd.specs.declared.ending.Halt.{Halt}
 use Rattle.lzk_cmd.specs.declared.ending.Halt.TheVariants as halts
-use Rattle.lzk_cmd.specs.Ends.{End, Stop, Nowhere, AtRead, stops_at, says, missing_file, Leaves}
+use Rattle.lzk_cmd.specs.Ends.{End, Stop, Nowhere, AtRead, AtPut, stops_at, says, missing_file, puts, Leaves}
 use Rattle.lzk_cmd.specs.Formats.{Format, HasFile, AtBytes, At}
 use Rattle.lzk_cmd.specs.Lines.{reading_line, larger_line}
 use Rattle.lzk_cmd.specs.Seen.{Seen}
-use Rattle.lzk_cmd.specs.Walks.{OnlyReads, IsEnding, HasBytes, FileEnds, GivesBytes, Decodes, Gives, Settled, Settles}
-use Rattle.lzk_cmd.proofs.Causes.{IsQuiet, quiet_cause, reading_cause, missing_cause, larger_quiet, cause_later}
+use Rattle.lzk_cmd.specs.Walks.{OnlyReads, IsEnding, HasBytes, FileEnds, GivesBytes, Decodes, Gives, Settled, Settles, Puts, WalksToPut}
+use Rattle.lzk_cmd.proofs.Causes.{IsQuiet, quiet_cause, reading_cause, missing_cause, larger_quiet, put_cause, cause_later}
 use Rattle.lzk_cmd.proofs.Sights.{where_told, at_told, may_later}
 
 some_and : (o : Option (List ℕ)) (P : List ℕ → Type 0) → IsSomeAnd o P → (x : List ℕ) × (o ≡ Some x) × P x
@@ -36,6 +36,30 @@ here tail k p old new end e reads quiet is told = record {
   told = where_told old.files _ (λ f at. (told f at, subst (λ (put : Option (List ℕ × List ℕ)). Leaves f Nowhere put new.files) (sym quiet.put) (reads.files ∙ at)));
   cause = quiet_cause p old new end quiet;
 }
+
+-- an end at a put
+pub at_put : (tail : Files → Stop → End → Type 0) (k : ℕ) (name bytes text : List ℕ) (old new : Seen) (r : Result Ending Halt) → ((files : Files) (stop : Stop) → tail files stop (puts stop name bytes text)) → Puts name bytes text old new r
+    → WalksToPut tail k old new r
+at_put tail k name bytes text old new (Ok e) ends (inl h) = record {
+  stop = Nowhere;
+  end = puts Nowhere name bytes text;
+  may = tt;
+  far = λ j l. refl;
+  is = h.1;
+  told = where_told old.files _ (λ f at. (ends f Nowhere, rw at at h.0));
+  cause = put_cause old new Nowhere name bytes text tt;
+}
+at_put tail k name bytes text old new (Ok e) ends (inr h) = record {
+  stop = AtPut;
+  end = puts AtPut name bytes text;
+  may = h.0;
+  far = λ j l. refl;
+  is = h.2;
+  told = where_told old.files _ (λ f at. (ends f AtPut, rw at at h.1));
+  cause = put_cause old new AtPut name bytes text h.0;
+}
+at_put tail k name bytes text old new (Err halts.Memory) ends h = where_told old.files _ (λ f at. h ∙ at)
+at_put tail k name bytes text old new (Err (halts.End e)) ends h = absurd h
 
 module _ {X F R : Type 0} (format : Format X F) (view : R → X) (name : List ℕ) (k : ℕ) (next : Files → Stop → End → X → Type 0) (p : Type 0) where
   abbrev Whole : Files → Stop → End → Type 0

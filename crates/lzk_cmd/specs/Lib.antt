@@ -1,9 +1,11 @@
+pub mod Accepted
 pub mod Chains
 pub mod Compiled
 pub mod Complete
 pub mod Decoded
 pub mod Ends
 pub mod Faults
+pub mod Feeding
 pub mod Files
 pub mod Formats
 pub mod Grammar
@@ -13,6 +15,7 @@ pub mod Lines
 pub mod OneEnd
 pub mod Outcome
 pub mod Promise
+pub mod Proved
 pub mod Refusals
 pub mod Run
 pub mod Seen
@@ -30,6 +33,9 @@ pub use Rattle.lzk_expr.specs as lzk_expr
 pub use Rattle.lzk_level.specs as lzk_level
 pub use Rattle.lzk_layout.specs as lzk_layout
 pub use Rattle.lzk_verify.specs as lzk_verify
+pub use Rattle.lzk_complete.specs as lzk_complete
+pub use Rattle.lzk_honest.specs as lzk_honest
+pub use Rattle.lzk_ligero.specs as lzk_ligero
 pub use Rattle.lzk_goldilocks.specs as lzk_goldilocks
 pub use Rattle.lzk_gf128.specs as lzk_gf128
 pub use Rattle.lzk_field.specs as lzk_field

@@ -128,3 +128,11 @@ linear_sum_line found wanted = codes "rejected: linear sum " ++ (decimal found +
 -- a check of this name fails at a column
 abbrev pub column_line : List ℕ → ℕ → List ℕ
 column_line name column = codes "rejected: " ++ (name ++ (codes " at column " ++ line (decimal column)))
+
+-- a proof was put
+abbrev pub proved_line : List ℕ → ℕ → List ℕ
+proved_line name bytes = codes "proved " ++ (name ++ (codes ": " ++ (decimal bytes ++ line (codes " bytes"))))
+
+-- the first output that is not 0, with its value
+abbrev pub nonzero_line : ℕ → ℕ → List ℕ
+nonzero_line k value = codes "unsatisfied at output " ++ (decimal k ++ (codes " = " ++ line (decimal value)))

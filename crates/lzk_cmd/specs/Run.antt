@@ -17,8 +17,9 @@ use Rattle.lzk_cmd.specs.Decoded.{circuit_files, number_files}
 use Rattle.lzk_cmd.specs.Formats.{At}
 use Rattle.lzk_cmd.specs.Lines.{output_line, satisfied_line, unsatisfied_line, counts_lines, layer_line}
 use Rattle.lzk_cmd.specs.Ends.{End, says, refused_words, Stop}
+use Rattle.lzk_cmd.specs.Proved.{ProveRun}
 use Rattle.lzk_cmd.specs.Verified.{VerifyRun}
-use Rattle.lzk_cmd.specs.Words.{Command, Eval, Compile, Show, Verify, command_of}
+use Rattle.lzk_cmd.specs.Words.{Command, Eval, Compile, Show, Prove, Verify, command_of}
 
 -- the outputs' lines, from output k on
 abbrev pub output_lines : ℕ → List ℕ → List ℕ
@@ -70,6 +71,7 @@ abbrev pub CommandRun : Command → Files → Stop → End → Type 0
 CommandRun (Eval circuit public private) = EvalRun circuit public private
 CommandRun (Compile source circuit) = CompileRun source circuit
 CommandRun (Show circuit) = ShowRun circuit
+CommandRun (Prove circuit public private proof seed session) = ProveRun circuit public private proof seed session
 CommandRun (Verify circuit public proof session) = VerifyRun circuit public proof session
 
 -- a run of these words over these files may end so

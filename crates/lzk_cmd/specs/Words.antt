@@ -10,14 +10,16 @@ pub data Command : Type 0 where
   Eval : List ℕ → List ℕ → List ℕ → Command
   Compile : List ℕ → List ℕ → Command
   Show : List ℕ → Command
-  -- and the digits of the session, if there is one
+  -- and the digits of the seed, and of the session, if there is one; not the number of workers
+  Prove : List ℕ → List ℕ → List ℕ → List ℕ → List ℕ → Option (List ℕ) → Command
   Verify : List ℕ → List ℕ → List ℕ → Option (List ℕ) → Command
 
--- Of the table's commands eval, compile, show and verify are built. The words of the others are refused.
+-- Of the table's commands all but demo are built. Its words are refused.
 abbrev pub built : Verb → List (List ℕ) → Keys → Option Command
 built verbs.Eval (circuit ∷ public ∷ private ∷ []) keys = Some (Eval circuit public private)
 built verbs.Compile (source ∷ circuit ∷ []) keys = Some (Compile source circuit)
 built verbs.Show (circuit ∷ []) keys = Some (Show circuit)
+built verbs.Prove (circuit ∷ public ∷ private ∷ proof ∷ []) keys = or_else keys.seed (λ seed. Some (Prove circuit public private proof seed keys.session)) None
 built verbs.Verify (circuit ∷ public ∷ proof ∷ []) keys = Some (Verify circuit public proof keys.session)
 built verb names keys = None
 
@@ -31,4 +33,5 @@ PutsFile None = ⊥
 PutsFile (Some (Eval circuit public private)) = ⊥
 PutsFile (Some (Compile source circuit)) = Unit {0}
 PutsFile (Some (Show circuit)) = ⊥
+PutsFile (Some (Prove circuit public private proof seed session)) = Unit {0}
 PutsFile (Some (Verify circuit public proof session)) = ⊥

@@ -8,10 +8,10 @@ ghost use Rattle.lzk_cmd.specs.Lines.{compiled_line};
 ghost use Rattle.lzk_cmd.specs.Compiled.{CompileRun, CompileTree, compiled_text, term_count};
 ghost use Rattle.lzk_cmd.specs.Decoded.{source_files};
 ghost use Rattle.lzk_cmd.specs.Seen.{seen};
-ghost use Rattle.lzk_cmd.specs.Walks.{Moves, OnlyReads, Decodes, Gives, Compiles, Puts, WalksToPut};
+ghost use Rattle.lzk_cmd.specs.Walks.{Moves, OnlyReads, Decodes, Gives, Compiles, WalksToPut};
 
 use crate::ending::{Ending, Halt};
-use crate::files::{TEXT_LIMIT, read_file};
+use crate::files::{TEXT_LIMIT, put_file, read_file};
 use crate::lines;
 use crate::means::Means;
 use lzk_circbytes::{AnyCircuit, encode};
@@ -19,7 +19,7 @@ use lzk_circuit::Circuit;
 use lzk_expr::{Source, SourceError, parse};
 use lzk_field::{Field, Gate};
 use lzk_level::{LevelError, compile};
-use lzk_outside::{PutFault, Shelf};
+use lzk_outside::Shelf;
 use std::alloc::{AllocError, Global};
 use std::marker::Sync;
 use std::thread::Threads;
@@ -109,33 +109,6 @@ fn compiled(
                 missing: false,
             }))
         }
-    }
-}
-
-// Puts a file, and says this text. There is no want of memory after a put that was done or failed.
-fn put_file<S: Shelf>(
-    alloc: Global,
-    shelf: &mut S,
-    name: &str,
-    bytes: &[u8],
-    text: String,
-) -> Result<Ending, Halt>
-    ensures puts { Puts name.now bytes.now (string_bytes text) (seen S.Shelf shelf.old) (seen S.Shelf shelf.new) result }
-    ensures moves { Moves (seen S.Shelf shelf.old) (seen S.Shelf shelf.new) }
-{
-    let fault = lines::tell_writing(alloc, name)?;
-    match shelf.put(name, bytes) {
-        Ok(()) => Ok(Ending {
-            status: 0,
-            text,
-            missing: false,
-        }),
-        Err(PutFault::Failed) => Ok(Ending {
-            status: 5,
-            text: fault,
-            missing: false,
-        }),
-        Err(PutFault::OutOfMemory) => Err(Halt::Memory),
     }
 }
 

@@ -1,13 +1,13 @@
-//! A whole file, or the end of the run.
+//! A whole file, or the end of the run; and the put of one.
 
-ghost use Rattle.std.specs.Prelude.{◌<◌, ◌≤◌, ◌^◌, length, IfOk};
+ghost use Rattle.std.specs.Prelude.{◌<◌, ◌≤◌, ◌^◌, length, IfOk, string_bytes};
 ghost use Rattle.lzk_cmd.specs.Seen.{seen};
-ghost use Rattle.lzk_cmd.specs.Walks.{GivesBytes, OnlyReads};
+ghost use Rattle.lzk_cmd.specs.Walks.{GivesBytes, Moves, OnlyReads, Puts};
 
 use crate::ending::{Ending, Halt};
 use crate::lines;
 use crate::load::{LoadFault, load};
-use lzk_outside::Shelf;
+use lzk_outside::{PutFault, Shelf};
 use std::alloc::{AllocError, Global};
 
 /// The largest circuit file that is read, in bytes.
@@ -58,5 +58,32 @@ pub fn read_file<S: Shelf>(
                 missing: false,
             }))
         }
+    }
+}
+
+/// Puts a file, and says this text. There is no want of memory after a put that was done or failed.
+pub fn put_file<S: Shelf>(
+    alloc: Global,
+    shelf: &mut S,
+    name: &str,
+    bytes: &[u8],
+    text: String,
+) -> Result<Ending, Halt>
+    ensures puts { Puts name.now bytes.now (string_bytes text) (seen S.Shelf shelf.old) (seen S.Shelf shelf.new) result }
+    ensures moves { Moves (seen S.Shelf shelf.old) (seen S.Shelf shelf.new) }
+{
+    let fault = lines::tell_writing(alloc, name)?;
+    match shelf.put(name, bytes) {
+        Ok(()) => Ok(Ending {
+            status: 0,
+            text,
+            missing: false,
+        }),
+        Err(PutFault::Failed) => Ok(Ending {
+            status: 5,
+            text: fault,
+            missing: false,
+        }),
+        Err(PutFault::OutOfMemory) => Err(Halt::Memory),
     }
 }

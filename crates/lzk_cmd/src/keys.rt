@@ -48,8 +48,8 @@ fn is_session(text: &[u8]) -> bool
     text.len() % 2 == 0 && text.len() <= 128 && are_hex(text)
 }
 
-// The number of these digits, if it is no more than `most`.
-fn number_up_to(text: &[u8], most: u32) -> Option<u32>
+/// The number of these digits, if it is no more than `most`.
+pub fn number_up_to(text: &[u8], most: u32) -> Option<u32>
     requires { most ≤ 16384 }
     ensures { result ≡ texts.number_up_to most text.now }
 {

@@ -12,6 +12,7 @@ mod circuits;
 mod compiling;
 mod ending;
 mod eval;
+mod feeding;
 mod files;
 mod grammar;
 mod keys;
@@ -20,14 +21,14 @@ mod load;
 mod means;
 mod numbers;
 mod print;
+mod proving;
 mod show;
 mod table;
+mod theorems;
 mod top;
+mod values;
 mod verdicts;
 mod verifying;
 mod words;
 
 pub use top::run;
-
-#[cfg(test)]
-mod tests;

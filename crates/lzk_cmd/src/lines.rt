@@ -146,6 +146,20 @@ pub fn tell_compiled(
     format!(in alloc; "compiled {name}: layers {layers}, terms {terms}, {bytes} bytes\n")
 }
 
+/// The line of a proof whose file was put.
+pub fn tell_proved(alloc: Global, name: &str, bytes: usize) -> Result<String, AllocError>
+    ensures { IfOk result (λ s. string_bytes s ≡ lines.proved_line name.now bytes) }
+{
+    format!(in alloc; "proved {name}: {bytes} bytes\n")
+}
+
+/// The line of the first output that is not 0.
+pub fn tell_nonzero(alloc: Global, output: u32, value: u128) -> Result<String, AllocError>
+    ensures { IfOk result (λ s. string_bytes s ≡ lines.nonzero_line output value) }
+{
+    format!(in alloc; "unsatisfied at output {output} = {value}\n")
+}
+
 pub fn push_output(text: &mut String, k: u32, value: u128) -> Result<(), AllocError>
     ensures { OnOk result (string_bytes text.new ≡ string_bytes text.old ++ lines.output_line k value) }
 {

@@ -1,6 +1,7 @@
 //! The top call.
 
 ghost use Rattle.std.specs.Prelude.{◌≡◌, IfOk};
+ghost use Rattle.lzk_cmd.specs.Accepted.{ProvedIsAccepted};
 ghost use Rattle.lzk_cmd.specs.Ends.{refused_words};
 ghost use Rattle.lzk_cmd.specs.OneEnd.{OneEnd};
 ghost use Rattle.lzk_cmd.specs.Promise.{Promise};
@@ -16,7 +17,9 @@ use crate::eval::eval;
 use crate::lines;
 use crate::means::Means;
 use crate::print::print_ending;
+use crate::proving::prove;
 use crate::show::show;
+use crate::theorems::run_laws;
 use crate::verifying::verify;
 use crate::words::{Command, parse_words};
 use lzk_field::Gate;
@@ -58,6 +61,7 @@ fn work<R: Threads + Sync, S: Shelf, G: Gate>(
         ) => eval(means, circuit, public, private, shelf),
         Some(Command::Compile { source, circuit }) => compile_source(means, source, circuit, shelf),
         Some(Command::Show { circuit }) => show(means, circuit, shelf),
+        Some(Command::Prove(order)) => prove(means, &order, shelf),
         Some(
             Command::Verify {
                 circuit,
@@ -73,7 +77,6 @@ fn work<R: Threads + Sync, S: Shelf, G: Gate>(
 /// 3 a file is refused, 4 a read failed, 5 a put or a write failed, 6 want of memory. Nothing is printed
 /// after a failed write or at want of memory. The runtime and the gate reach every command; no clause
 /// depends on them.
-#[tactic(auto, using(crate::proofs::Alone::one_end, crate::proofs::Exists::some_end))]
 pub fn run<R: Threads + Sync, S: Shelf, K: Sink, G: Gate>(
     rt: &R,
     alloc: Global,
@@ -91,7 +94,11 @@ pub fn run<R: Threads + Sync, S: Shelf, K: Sink, G: Gate>(
     // Words, files and stop have one end, and have an end.
     ensures one_end { OneEnd }
     ensures some_end { SomeEnd }
+
+    // What `prove` puts is accepted.
+    ensures honest { ProvedIsAccepted }
 {
+    run_laws();
     let means = Means { rt, alloc, gate };
     match work(&means, words, shelf) {
         Ok(ending) => print_ending(out, &ending),

@@ -3,18 +3,18 @@
 ghost use Rattle.std.specs.Prelude.{◌≡◌, ◌≤◌, length, IfOk};
 ghost use Rattle.std.specs.Option.{option_copied};
 ghost use Rattle.lzk_field.specs.Coding.{coding};
-ghost use Rattle.lzk_cmd.specs.Decoded.{proof_files};
+ghost use Rattle.lzk_cmd.specs.Feeding.{JudgesFile};
 ghost use Rattle.lzk_cmd.specs.Seen.{seen};
 ghost use Rattle.lzk_cmd.specs.Verified.{VerifyOver, VerifyAny, VerifyRun, session_of};
-ghost use Rattle.lzk_cmd.specs.Walks.{Gives, IsJudgement, OnlyReads, Walks};
+ghost use Rattle.lzk_cmd.specs.Walks.{OnlyReads, Walks};
 
 use crate::circuits::read_circuit;
 use crate::ending::{Ending, Halt};
-use crate::files::{PROOF_LIMIT, read_file};
+use crate::feeding::feed_proof;
 use crate::means::Means;
 use crate::numbers::read_elements;
+use crate::values::session_bytes;
 use crate::verdicts::ending_of;
-use hex::FromHexError;
 use lzk_circbytes::AnyCircuit;
 use lzk_circuit::Circuit;
 use lzk_field::{Field, Gate};
@@ -24,43 +24,25 @@ use std::alloc::{AllocError, Global};
 use std::marker::Sync;
 use std::thread::Threads;
 
-// The bytes of a session.
-fn session_bytes(alloc: Global, session: Option<&[u8]>) -> Result<Vec<u8>, AllocError>
-    ensures { IfOk result (λ v. v.items ≡ session_of (option_copied session.entry)) }
-{
-    match session {
-        None => Ok(Vec::new(alloc)),
-        Some(digits) => match hex::decode(alloc, digits) {
-            Ok(bytes) => Ok(bytes),
-            Err(FromHexError::OutOfMemory) => Err(AllocError),
-            Err(_) => Ok(Vec::new(alloc)),
-        },
-    }
-}
-
-// The bytes of a proof's file.
-fn read_proof<S: Shelf>(alloc: Global, shelf: &mut S, name: &str) -> Result<Vec<u8>, Halt>
-    ensures gives { Gives proof_files (λ v. v.items) (seen S.Shelf shelf.old) (seen S.Shelf shelf.new) name.now result }
-    ensures reads { OnlyReads (seen S.Shelf shelf.old) (seen S.Shelf shelf.new) }
-{
-    read_file(alloc, shelf, name, PROOF_LIMIT)
-}
-
-// How a run ends that tells the verdict on these bytes.
-fn judged<F: Field>(
+// Reads a proof's file, and tells the verdict on it.
+fn judge_file<S: Shelf, F: Field>(
     alloc: Global,
     circuit: &Circuit<F>,
     session: &[u8],
     publics: &[F],
-    bytes: &[u8],
-) -> Result<Ending, AllocError>
+    proof: &str,
+    shelf: &mut S,
+) -> Result<Ending, Halt>
     requires session { length session.now ≤ 64 }
     requires publics { length publics.now ≡ circuit.now.publics }
-    ensures { IfOk result (IsJudgement F.ops (coding F.element F.number_of F.BYTES F.size F.ID) circuit.now session.now publics.now bytes.now) }
+    ensures walks { Walks (JudgesFile F.ops (coding F.element F.number_of F.BYTES F.size F.ID) circuit.now session.now publics.now proof.now) 2 (seen S.Shelf shelf.old) (seen S.Shelf shelf.new) result }
+    ensures reads { OnlyReads (seen S.Shelf shelf.old) (seen S.Shelf shelf.new) }
 {
     let mut desk = Desk::new(alloc, circuit)?;
-    let verdict = desk.verify(session, publics, bytes);
-    ending_of(alloc, &verdict)
+    desk.open(session, publics);
+    feed_proof(alloc, shelf, proof, &mut desk)?;
+    let verdict = desk.end();
+    Ok(ending_of(alloc, &verdict)?)
 }
 
 // Verifies a proof for a circuit, on a number file.
@@ -77,8 +59,7 @@ fn verify_over<S: Shelf, F: Field>(
     ensures reads { OnlyReads (seen S.Shelf shelf.old) (seen S.Shelf shelf.new) }
 {
     let publics = read_elements::<S, F>(alloc, shelf, public, circuit.publics())?;
-    let bytes = read_proof(alloc, shelf, proof)?;
-    Ok(judged(alloc, circuit, session, &publics, &bytes)?)
+    judge_file(alloc, circuit, session, &publics, proof, shelf)
 }
 
 // The same over either field.

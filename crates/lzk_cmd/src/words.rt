@@ -12,6 +12,18 @@ use crate::grammar::request_of;
 use crate::keys::Keys;
 use crate::table::Verb;
 
+/// The names of the files of `prove`, and the digits of its seed, and of its session and workers if they stand.
+#[derive(Clone, Copy)]
+pub struct Order<'a> {
+    pub circuit: &'a str,
+    pub public: &'a str,
+    pub private: &'a str,
+    pub proof: &'a str,
+    pub seed: &'a [u8],
+    pub session: Option<&'a [u8]>,
+    pub workers: Option<&'a [u8]>,
+}
+
 /// A command, with the names of its files, and the digits of its session if there is one.
 #[derive(Clone, Copy)]
 pub enum Command<'a> {
@@ -27,6 +39,7 @@ pub enum Command<'a> {
     Show {
         circuit: &'a str,
     },
+    Prove(Order<'a>),
     Verify {
         circuit: &'a str,
         public: &'a str,
@@ -74,6 +87,27 @@ fn show_of(names: &[String]) -> Option<Command<'_>>
     }
 }
 
+// The files of `prove`, its seed, and its session and workers.
+fn prove_of<'a>(names: &'a [String], keys: &Keys<'a>) -> Option<Command<'a>>
+    ensures { option_map command_view result ≡ built verbs.Prove (map (λ w. string_bytes w) names.now) (keys_view keys.now) }
+{
+    match names {
+        [circuit, public, private, proof] => {
+            let seed = keys.seed?;
+            Some(Command::Prove(Order {
+                circuit: circuit.as_str(),
+                public: public.as_str(),
+                private: private.as_str(),
+                proof: proof.as_str(),
+                seed,
+                session: keys.session,
+                workers: keys.workers,
+            }))
+        }
+        _ => None,
+    }
+}
+
 // The files of `verify`, and its session.
 fn verify_of<'a>(names: &'a [String], keys: &Keys<'a>) -> Option<Command<'a>>
     ensures { option_map command_view result ≡ built verbs.Verify (map (λ w. string_bytes w) names.now) (keys_view keys.now) }
@@ -97,7 +131,7 @@ fn built<'a>(verb: Verb, names: &'a [String], keys: &Keys<'a>) -> Option<Command
         Verb::Eval => eval_of(names),
         Verb::Compile => compile_of(names),
         Verb::Show => show_of(names),
-        Verb::Prove => None,
+        Verb::Prove => prove_of(names, keys),
         Verb::Verify => verify_of(names, keys),
         Verb::Demo => None,
     }

@@ -1,5 +1,5 @@
 -- What is kept of no fields, and whether a desk is fed.
-use Rattle.std.specs.Prelude.{◌≡◌, refl, ℕ, ◌+◌, ◌-◌, ◌<◌, ◌≤◌, Bool, true, false, cond, nat_le, nat_lt, is_some, Option, Some, None, List, [], length, map, take}
+use Rattle.std.specs.Prelude.{◌≡◌, refl, ℕ, ◌+◌, ◌-◌, ◌<◌, Bool, true, false, cond, nat_le, nat_lt, is_some, Option, None, List, [], length, map, take}
 use Rattle.std.specs.List.{range_with_len}
 use Rattle.std.proofs.Common.{sym, ap, subst, ◌∙◌, arith}
 use Rattle.std.proofs.lemmas.List.{take_all, drop_all}
@@ -12,9 +12,9 @@ use Rattle.lzk_layout.specs.Parts.{before_opened, before_count}
 use Rattle.lzk_layout.specs.Sizes.{AreParams, AreBounded, params_of}
 use Rattle.lzk_layout.specs.Cursors.{CursorPlace, faulty, reading, CursorState}
 use Rattle.lzk_sumcheck.specs.Script.{HasShape}
+use Rattle.lzk_accept.specs.Factored.{HasRoomFor}
 use Rattle.lzk_accept.specs.Kept.{AreFormsOf}
 use Rattle.lzk_verify.specs.declared.intake.Intake.{Intake}
-use Rattle.lzk_verify.specs.declared.intake.Failing.{Failing}
 use Rattle.lzk_verify.specs.Kept.{sent_count, whole_columns, column_fields, start_of, given_of, columns_of, column_read, leaf_read, IsLeastFailing}
 use Rattle.lzk_verify.specs.Checks.{id_of}
 use Rattle.lzk_verify.specs.Desk.{held_of, Rooms, AreRooms, AreLists, AreParts}
@@ -63,12 +63,12 @@ module _ {A : Type 0} (o : Ops A) (e : Coding A) (c : Wiring A) (p : Params) (se
 
 -- the parts of a new desk hang together
 pub new_parts : {A : Type 0} (o : Ops A) (e : Coding A) (c : Wiring A) (p : Params) (id : List ℕ) (cursor : CursorState) (k : Intake A) (r : Rooms A) → p ≡ params_of c → AreParams o p → AreBounded p → id ≡ id_of e c → cursor.params ≡ p
-    → length k.public.items ≡ c.publics → HasShape c k.drawn.script → AreLists p k → k.is_drawn ≡ false → AreFormsOf o c r.forms → AreRooms p r → AreParts o e c p id cursor k r
-new_parts o e c p id cursor k r are valid bounded own lengths publics script lists not forms rooms = record {
+    → length k.public.items ≡ c.publics → HasShape c k.drawn.script → AreLists p k → k.is_drawn ≡ false → AreFormsOf o c r.forms → HasRoomFor c r.combined → AreRooms p r → AreParts o e c p id cursor k r
+new_parts o e c p id cursor k r are valid bounded own lengths publics script lists not forms factors rooms = record {
   are = are;
   valid = valid;
   bounded = bounded;
   id_is = own;
   cursor_is = lengths;
-  sound = record { public = publics; script = script; lists = lists; forms = forms; rooms = rooms; ready = λ h. absurd (let t : true ≡ false = sym h ∙ not in cc) };
+  sound = record { public = publics; script = script; lists = lists; forms = forms; factors = factors; rooms = rooms; ready = λ h. absurd (let t : true ≡ false = sym h ∙ not in cc) };
 }

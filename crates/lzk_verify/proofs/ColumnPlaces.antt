@@ -1,6 +1,6 @@
 -- How many opened columns are whole, and how many fields of the next, by how many fields are whole.
 use Rattle.std.specs.Prelude.{◌≡◌, refl, ℕ, ◌+◌, ◌-◌, ◌*◌, ◌/◌, ◌%◌, ◌<◌, ◌≤◌, min, cond, nat_lt, Bool, true, false}
-use Rattle.std.proofs.Common.{sym, ap, ◌∙◌, arith}
+use Rattle.std.proofs.Common.{ap, ◌∙◌, arith}
 use Rattle.std.proofs.lemmas.Nat.{div-mul-add, mod-mul-add, mul-add-lt, le-div}
 use Rattle.lzk_layout.specs.declared.params.Params.{Params}
 use Rattle.lzk_layout.specs.Parts.{before_opened, before_count}

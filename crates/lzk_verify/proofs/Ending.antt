@@ -1,6 +1,6 @@
 -- The verdict that a desk ends with, on all bytes that it was fed.
 use Rattle.std.specs.Prelude.{◌≡◌, ◌≢◌, refl, Result, Ok, Err, ℕ, ◌-◌, Bool, true, Option, Some, None, List, length}
-use Rattle.std.proofs.Common.{sym, ap, subst, ◌∙◌, arith}
+use Rattle.std.proofs.Common.{sym, subst, ◌∙◌}
 use Rattle.lzk_field.specs.Coding.{Coding}
 use Rattle.lzk_field.specs.Ring.{Ops, Laws}
 use Rattle.lzk_circuit.specs.Valid.{Wiring}
@@ -11,7 +11,7 @@ use Rattle.lzk_layout.specs.declared.fault.ProofFault.{ProofFault}
 use Rattle.lzk_layout.specs.declared.fault.ProofKind.TheVariants as kinds
 use Rattle.lzk_layout.specs.Sizes.{AreBounded, params_of}
 use Rattle.lzk_layout.specs.Proofs.{ProofBytes, element_field, fields_of}
-use Rattle.lzk_layout.specs.Fields.{Shape, shape, ProofFaultAt}
+use Rattle.lzk_layout.specs.Fields.{shape, ProofFaultAt}
 use Rattle.lzk_layout.specs.Files.{AreBytes}
 use Rattle.lzk_layout.specs.Fronts.{IsFront, next_part, FrontIsFile}
 use Rattle.lzk_layout.specs.Cursors.{CursorPlace, faulty, reading, CursorState, Pushed}
@@ -22,7 +22,7 @@ use Rattle.lzk_verify.specs.declared.intake.Intake.{Intake}
 use Rattle.lzk_verify.specs.declared.verdict.Verdict.{Verdict}
 use Rattle.lzk_verify.specs.declared.verdict.Verdict.TheVariants.{Format}
 use Rattle.lzk_verify.specs.Checks.{id_of}
-use Rattle.lzk_verify.specs.Desk.{held_of, kept_of, Rooms, IsSound, IsFound}
+use Rattle.lzk_verify.specs.Desk.{held_of, Rooms, IsSound, IsFound}
 use Rattle.lzk_verify.specs.Kept.{IsHeldOf, Stands}
 use Rattle.lzk_verify.specs.Verdict.{given, IsVerdict, IsOnlyVerdict}
 use Rattle.lzk_verify.proofs.Judged.{found_judged}

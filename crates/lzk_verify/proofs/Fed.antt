@@ -1,5 +1,5 @@
 -- What a desk stands behind that begins, and that is pushed one byte more.
-use Rattle.std.specs.Prelude.{◌≡◌, ◌≢◌, ◌↔◌, refl, ℕ, ◌+◌, ◌-◌, ◌≤◌, Bool, true, false, unwrap_or, Option, Some, None, List, [], ◌∷◌, ◌++◌, length, take, replicate, slice_get}
+use Rattle.std.specs.Prelude.{◌≡◌, ◌≢◌, ◌↔◌, refl, ℕ, ◌+◌, ◌-◌, ◌≤◌, Bool, true, None, List, [], ◌∷◌, ◌++◌, length, take, replicate}
 use Rattle.std.proofs.Common.{sym, ap, subst, ◌∙◌, arith}
 use Rattle.std.proofs.lemmas.List.{length-append, length-replicate, length_push, take_at}
 use Rattle.lzk_field.specs.Coding.{Coding}
@@ -13,10 +13,9 @@ use Rattle.lzk_layout.specs.declared.part.ProofPart.{ProofPart}
 use Rattle.lzk_layout.specs.Sizes.{params_of}
 use Rattle.lzk_layout.specs.Proofs.{flat}
 use Rattle.lzk_layout.specs.Fields.{Sort, magic, plain, element, count, shape, width, IsField}
-use Rattle.lzk_layout.specs.Files.{AreBytes}
 use Rattle.lzk_layout.specs.Parts.{sort_of, part_width, parts, number_of}
 use Rattle.lzk_layout.specs.Fronts.{IsFront, EndsField, EndsNone, IsFaulty, OneFront, FrontIsSound, PartsStand, IsWholeField, digests_in}
-use Rattle.lzk_layout.specs.Cursors.{CursorPlace, faulty, reading, CursorState, Pushed}
+use Rattle.lzk_layout.specs.Cursors.{CursorState, Pushed}
 use Rattle.lzk_verify.specs.declared.intake.Intake.{Intake}
 use Rattle.lzk_verify.specs.Desk.{kept_of, held_of, IsBlockOf}
 use Rattle.lzk_verify.specs.Kept.{IsKept, IsHeldOf, DeskState, Stands}

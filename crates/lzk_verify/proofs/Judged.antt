@@ -1,6 +1,6 @@
 -- The verdict of what an intake keeps of all fields of a proof is that on the proof.
-use Rattle.std.specs.Prelude.{◌≡◌, refl, ℕ, ◌+◌, ◌-◌, ◌<◌, ◌≤◌, Option, Some, None, List, [], ◌++◌, length, take, drop}
-use Rattle.std.proofs.Common.{sym, ap, subst, ◌∙◌, inl, inr, arith}
+use Rattle.std.specs.Prelude.{◌≡◌, ℕ, ◌+◌, ◌-◌, Option, Some, None, List, ◌++◌, length, take, drop}
+use Rattle.std.proofs.Common.{sym, ap, ◌∙◌, inl, inr, arith}
 use Rattle.std.proofs.lemmas.List.{length-append, append_assoc, take_at, drop_at, take_all}
 use Rattle.lzk_field.specs.Coding.{Coding}
 use Rattle.lzk_field.specs.Ring.{Ops}
@@ -15,14 +15,14 @@ use Rattle.lzk_sumcheck.specs.Draws.{with_array}
 use Rattle.lzk_sumcheck.specs.Opening.{public_tape, opening}
 use Rattle.lzk_sumcheck.specs.Script.{script, after_script}
 use Rattle.lzk_accept.specs.Challenges.{Transcript, transcript, challenges, challenge_count}
-use Rattle.lzk_accept.specs.Checks.{AtEach, FailsFirst, found_sum}
+use Rattle.lzk_accept.specs.Checks.{found_sum}
 use Rattle.lzk_verify.specs.declared.intake.Intake.{Intake}
 use Rattle.lzk_verify.specs.declared.verdict.Verdict.{Verdict}
 use Rattle.lzk_verify.specs.declared.verdict.Verdict.TheVariants.{CircuitId, PathCount, Root, LinearSum}
 use Rattle.lzk_verify.specs.Checks.{id_of, leaves_of, needed_digests, found_root}
 use Rattle.lzk_verify.specs.Kept.{messages_in, ldt_in, dot_in, head_in, tail_in, whole_transcript, IsLeastFailing}
 use Rattle.lzk_verify.specs.Verdict.{Unless, UnlessAt, IsJudged, LowDegreeAt, LinearAt, QuadraticAt, wanted_sum}
-use Rattle.lzk_verify.specs.Desk.{OrElse, sum_of, IsFound, AreFoundAnswers}
+use Rattle.lzk_verify.specs.Desk.{OrElse, sum_of, IsFound}
 
 -- the elements that a proof sends, in the order of its file
 abbrev pub sent_of : {A : Type 0} → Proof A → List A

@@ -1,9 +1,8 @@
 -- The least column at which a check fails, when one more column is checked.
-use Rattle.std.specs.Prelude.{◌≡◌, refl, ℕ, ◌+◌, ◌<◌, ◌≤◌, ◌↔◌, Bool, true, false, IsTrue, Option, Some, None, List, [], ◌∷◌, ◌++◌, length, take, slice_index}
-use Rattle.std.proofs.Common.{sym, ap, subst, ◌∙◌, arith}
+use Rattle.std.specs.Prelude.{◌≡◌, refl, ℕ, ◌<◌, ◌↔◌, Bool, true, false, IsTrue, Option, Some, None, List, [], ◌∷◌, ◌++◌, length}
+use Rattle.std.proofs.Common.{sym, subst, ◌∙◌, arith}
 use Rattle.std.proofs.lemmas.List.{length_push, get_or_append_left, get_or_push}
 use native.Mathlib.Decide.{dec_lt}
-use Rattle.lzk_accept.specs.Checks.{AtEach, FailsFirst}
 use Rattle.lzk_verify.specs.Kept.{IsLeastFailing}
 use Rattle.lzk_verify.specs.Desk.{least, IsNoted}
 

@@ -1,6 +1,7 @@
 pub mod Acceptance
 pub mod ColumnPlaces
 pub mod Ending
+pub mod Extended
 pub mod Fed
 pub mod FieldSteps
 pub mod Judged
@@ -10,6 +11,7 @@ pub mod ColumnLaws
 pub mod CombinedRows
 pub mod OneVerdict
 pub mod Pushing
+pub mod SomeVerdict
 pub mod Standing
 pub mod Stored
 pub mod Taking

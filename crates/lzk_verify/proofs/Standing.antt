@@ -1,26 +1,18 @@
 -- What a desk holds and what its cursor was pushed, and what is kept of a whole file.
-use Rattle.std.specs.Prelude.{◌≡◌, refl, ℕ, ◌+◌, ◌≤◌, true, Option, Some, None, List, [], ◌∷◌, ◌++◌, length}
-use Rattle.std.proofs.Common.{sym, ap, subst, ◌∙◌, arith}
+use Rattle.std.specs.Prelude.{◌≡◌, refl, ℕ, true, Option, List, length}
+use Rattle.std.proofs.Common.{sym, subst}
 use Rattle.lzk_field.specs.Coding.{Coding}
-use Rattle.lzk_field.specs.Ring.{Ops, Laws}
+use Rattle.lzk_field.specs.Ring.{Ops}
 use Rattle.lzk_circuit.specs.Valid.{Wiring}
 use Rattle.lzk_layout.specs.declared.params.Params.{Params}
-use Rattle.lzk_layout.specs.declared.fault.ProofFault.{ProofFault}
-use Rattle.lzk_layout.specs.declared.proof.Proof.{Proof}
-use Rattle.lzk_layout.specs.Sizes.{AreBounded, params_of}
-use Rattle.lzk_layout.specs.Proofs.{ProofBytes, element_field, fields_of}
-use Rattle.lzk_layout.specs.Fields.{Shape, shape}
+use Rattle.lzk_layout.specs.Sizes.{params_of}
+use Rattle.lzk_layout.specs.Fields.{shape}
 use Rattle.lzk_layout.specs.Files.{AreBytes}
-use Rattle.lzk_layout.specs.Fronts.{IsFront, IsFaulty, digests_in, FieldsAreParts}
-use Rattle.lzk_layout.specs.Cursors.{CursorPlace, faulty, reading, CursorState, IsRead, StandsBehind, Pushed}
-use Rattle.lzk_accept.specs.Challenges.{transcript}
+use Rattle.lzk_layout.specs.Fronts.{IsFront, digests_in}
+use Rattle.lzk_layout.specs.Cursors.{CursorPlace, faulty, reading, StandsBehind, Pushed}
 use Rattle.lzk_verify.specs.declared.intake.Intake.{Intake}
-use Rattle.lzk_verify.specs.Checks.{id_of}
-use Rattle.lzk_verify.specs.Kept.{IsKept, IsKeptOf, IsHeldOf}
-use Rattle.lzk_verify.specs.Desk.{kept_of, held_of, IsSound}
-use Rattle.lzk_verify.specs.Verdict.{given}
-use Rattle.lzk_verify.proofs.Stored.{IsStored}
-use Rattle.lzk_verify.proofs.Judged.{KeepsProof}
+use Rattle.lzk_verify.specs.Kept.{IsKept, IsHeldOf}
+use Rattle.lzk_verify.specs.Desk.{kept_of, held_of}
 
 module _ {A : Type 0} (o : Ops A) (e : Coding A) (c : Wiring A) (p : Params) (session : List ℕ) (public : List A) (bytes : List ℕ) where
   -- a desk that stands behind bytes has a cursor that was pushed them

@@ -1,16 +1,13 @@
 -- What an intake keeps of fields, list by list: the form in which one field more is taken.
-use Rattle.std.specs.Prelude.{◌≡◌, refl, ℕ, ◌+◌, ◌-◌, ◌*◌, ◌<◌, ◌≤◌, Bool, true, false, cond, nat_lt, nat_le, Option, Some, None, List, [], ◌∷◌, length, map, take}
+use Rattle.std.specs.Prelude.{◌≡◌, refl, ℕ, ◌-◌, ◌<◌, ◌≤◌, Bool, true, false, cond, nat_lt, Option, Some, None, List, [], length, map, take}
 use Rattle.std.specs.List.{range_with_len}
-use Rattle.std.proofs.Common.{sym, ap, subst, ◌∙◌, arith}
+use Rattle.std.proofs.Common.{sym, ap, ◌∙◌, arith}
 use Rattle.std.proofs.lemmas.List.{get_or_past}
-use native.Mathlib.Decide.{dec_lt}
 use Rattle.lzk_field.specs.Coding.{Coding}
 use Rattle.lzk_field.specs.Ring.{Ops}
-use Rattle.lzk_transcript.specs.Tape.{TapeState}
 use Rattle.lzk_circuit.specs.Valid.{Wiring}
 use Rattle.lzk_layout.specs.declared.params.Params.{Params}
 use Rattle.lzk_layout.specs.Fronts.{digests_in}
-use Rattle.lzk_accept.specs.Challenges.{Transcript}
 use Rattle.lzk_verify.specs.declared.intake.Intake.{Intake}
 use Rattle.lzk_verify.specs.Kept.{whole_columns, column_fields, has_answers, id_read, root_read, digests_read, nonce_read, sent_read, column_read, leaf_read, whole_transcript, given_before, tape_reached, start_of, given_of, tape_of, columns_of, IsLeastFailing, LowDegreeRead, LinearRead, QuadraticRead, IsKept}
 use Rattle.lzk_verify.specs.Desk.{kept_of}

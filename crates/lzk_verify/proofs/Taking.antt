@@ -1,5 +1,5 @@
 -- One field more is taken before the opened columns.
-use Rattle.std.specs.Prelude.{◌≡◌, refl, ℕ, ◌+◌, ◌-◌, ◌*◌, ◌<◌, ◌≤◌, Bool, true, false, cond, nat_lt, nat_le, Option, Some, None, List, [], ◌∷◌, ◌++◌, length, map, take}
+use Rattle.std.specs.Prelude.{◌≡◌, ℕ, ◌+◌, ◌-◌, ◌<◌, ◌≤◌, true, false, cond, nat_lt, nat_le, Option, Some, None, List, [], ◌∷◌, ◌++◌, length, map, take}
 use Rattle.std.specs.List.{range_with_len}
 use Rattle.std.proofs.Common.{sym, ap, subst, ◌∙◌, arith}
 use Rattle.std.proofs.lemmas.List.{length_push, drop_all}
@@ -8,9 +8,8 @@ use Rattle.lzk_field.specs.Ring.{Ops}
 use Rattle.lzk_circuit.specs.Valid.{Wiring}
 use Rattle.lzk_layout.specs.declared.params.Params.{Params}
 use Rattle.lzk_layout.specs.Parts.{before_opened, before_count}
-use Rattle.lzk_accept.specs.Checks.{FailsFirst}
 use Rattle.lzk_verify.specs.declared.intake.Intake.{Intake}
-use Rattle.lzk_verify.specs.Kept.{whole_columns, column_fields, has_answers, id_read, root_read, sent_read, column_read, leaf_read, nonce_read, digests_read, start_of, given_of, columns_of, IsLeastFailing}
+use Rattle.lzk_verify.specs.Kept.{whole_columns, column_fields, has_answers, id_read, root_read, sent_read, column_read, leaf_read, given_of, columns_of, IsLeastFailing}
 use Rattle.lzk_verify.proofs.ColumnPlaces.{none_whole, none_begun}
 use Rattle.lzk_verify.proofs.Stored.{IsStored}
 

@@ -1,5 +1,5 @@
 -- The fields of an opened column are taken, and those of the path.
-use Rattle.std.specs.Prelude.{◌≡◌, refl, ℕ, ◌+◌, ◌-◌, ◌*◌, ◌<◌, ◌≤◌, Bool, true, false, cond, nat_le, nat_lt, Option, Some, None, List, [], ◌∷◌, ◌++◌, length, map, take, drop, slice_index_or, slice_set}
+use Rattle.std.specs.Prelude.{◌≡◌, refl, ℕ, ◌+◌, ◌-◌, ◌*◌, ◌<◌, ◌≤◌, true, cond, nat_le, nat_lt, Option, List, [], ◌∷◌, ◌++◌, length, map, take, drop, slice_index_or, slice_set}
 use Rattle.std.proofs.Common.{sym, ap, subst, ◌∙◌, arith}
 use native.Mathlib.Decide.{dec_lt}
 use Rattle.std.proofs.lemmas.Bool.{lt-ltb}
@@ -17,7 +17,7 @@ use Rattle.lzk_accept.specs.Checks.{combined_row_of}
 use Rattle.lzk_verify.specs.declared.intake.Intake.{Intake}
 use Rattle.lzk_verify.specs.Columns.{IsLowDegreeIn, IsLinearIn, IsQuadraticIn}
 use Rattle.lzk_verify.specs.Desk.{Rooms, AreLists, AreRows, AreReady, IsNoted}
-use Rattle.lzk_verify.specs.Kept.{sent_count, messages_in, ldt_in, dot_in, column_place, whole_columns, column_fields, sent_read, nonce_read, column_read, leaf_read, digests_read, given_of, columns_of, IsLeastFailing}
+use Rattle.lzk_verify.specs.Kept.{messages_in, ldt_in, dot_in, column_place, whole_columns, column_fields, sent_read, nonce_read, column_read, leaf_read, digests_read, given_of, columns_of, IsLeastFailing}
 use Rattle.lzk_verify.proofs.ColumnPlaces.{whole_within, fields_within, all_whole, none_open}
 use Rattle.lzk_verify.proofs.FieldSteps.{earlier, newest, elements_more, slot_more}
 use Rattle.lzk_verify.proofs.LeastLaws.{least_more}

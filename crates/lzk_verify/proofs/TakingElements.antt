@@ -12,9 +12,8 @@ use Rattle.lzk_verify.specs.declared.intake.Intake.{Intake}
 use Rattle.lzk_verify.specs.Kept.{sent_count, whole_transcript, IsKept}
 use Rattle.lzk_verify.specs.Desk.{kept_of}
 use Rattle.lzk_verify.proofs.Stored.{IsStored}
-use Rattle.lzk_verify.proofs.Taking.{IsEarly}
 use Rattle.lzk_verify.proofs.TakingFirst.{next_kept}
-use Rattle.lzk_verify.proofs.TakingSent.{SetsSent, stored_sent, stored_last, small}
+use Rattle.lzk_verify.proofs.TakingSent.{stored_sent, stored_last, small}
 
 -- the element that is read of a block is that of the field
 pub element_is : {A : Type 0} (size bytes : ℕ) (at : ℕ → A) (block f : List ℕ) → f ≡ take bytes block → IsField (shape bytes size) element f → (x : A) → (number_from (take bytes block) < size → x ≡ at (number_from (take bytes block))) → x ≡ at (number_from f)

@@ -1,5 +1,5 @@
 -- The magic, the circuit's id or the root is taken.
-use Rattle.std.specs.Prelude.{◌≡◌, refl, ℕ, ◌+◌, ◌-◌, ◌<◌, ◌≤◌, Bool, true, false, nat_le, List, [], ◌∷◌, ◌++◌, length, map, take}
+use Rattle.std.specs.Prelude.{◌≡◌, ℕ, ◌+◌, ◌-◌, ◌<◌, ◌≤◌, true, false, nat_le, List, [], ◌∷◌, ◌++◌, length, map, take}
 use Rattle.std.proofs.Common.{sym, ap, subst, ◌∙◌, arith}
 use Rattle.std.proofs.lemmas.List.{length_push, drop_all, take_all}
 use Rattle.lzk_field.specs.Bytes.{number_from}
@@ -10,7 +10,7 @@ use Rattle.lzk_layout.specs.declared.params.Params.{Params}
 use Rattle.lzk_layout.specs.Parts.{before_opened}
 use Rattle.lzk_layout.specs.Fronts.{digests_in}
 use Rattle.lzk_verify.specs.declared.intake.Intake.{Intake}
-use Rattle.lzk_verify.specs.Kept.{sent_count, id_read, root_read, sent_read, IsKept}
+use Rattle.lzk_verify.specs.Kept.{sent_count, id_read, root_read, IsKept}
 use Rattle.lzk_verify.specs.Desk.{kept_of}
 use Rattle.lzk_verify.proofs.Stored.{IsStored, stored_kept}
 use Rattle.lzk_verify.proofs.Taking.{IsEarly, not_drawn, stored_early}

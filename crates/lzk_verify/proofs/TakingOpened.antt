@@ -1,5 +1,5 @@
 -- A field is taken of the opened columns, or of the path behind them.
-use Rattle.std.specs.Prelude.{◌≡◌, refl, ℕ, ◌+◌, ◌-◌, ◌*◌, ◌/◌, ◌<◌, ◌≤◌, min, Bool, true, false, cond, nat_le, nat_lt, Option, Some, None, List, [], ◌∷◌, ◌++◌, length, map, take, slice_index_or}
+use Rattle.std.specs.Prelude.{◌≡◌, ℕ, ◌+◌, ◌-◌, ◌*◌, ◌/◌, ◌<◌, ◌≤◌, true, false, cond, nat_le, nat_lt, Option, List, [], ◌∷◌, ◌++◌, length, map, take, slice_index_or}
 use Rattle.std.specs.List.{range_with_len}
 use Rattle.std.proofs.Common.{sym, ap, subst, ◌∙◌, arith}
 use Rattle.std.proofs.lemmas.List.{length_push, length-take, take_all}
@@ -9,13 +9,13 @@ use Rattle.lzk_field.specs.Coding.{Coding}
 use Rattle.lzk_field.specs.Ring.{Ops}
 use Rattle.lzk_circuit.specs.Valid.{Wiring}
 use Rattle.lzk_layout.specs.declared.params.Params.{Params}
-use Rattle.lzk_layout.specs.Parts.{before_opened, before_count}
+use Rattle.lzk_layout.specs.Parts.{before_opened}
 use Rattle.lzk_merkle.specs.Leaf.{leaf_of}
 use Rattle.lzk_accept.specs.Challenges.{Transcript}
 use Rattle.lzk_accept.specs.Checks.{combined_row_of}
 use Rattle.lzk_verify.specs.declared.intake.Intake.{Intake}
 use Rattle.lzk_verify.specs.Columns.{values_of, IsLowDegreeIn, IsLinearIn, IsQuadraticIn}
-use Rattle.lzk_verify.specs.Kept.{messages_in, ldt_in, dot_in, head_in, tail_in, sent_count, column_place, whole_columns, column_fields, has_answers, id_read, root_read, sent_read, nonce_read, column_read, leaf_read, digests_read, start_of, given_of, given_before, whole_transcript, columns_of, IsLeastFailing, LowDegreeRead, LinearRead, QuadraticRead}
+use Rattle.lzk_verify.specs.Kept.{messages_in, ldt_in, dot_in, head_in, tail_in, sent_count, column_place, whole_columns, column_fields, id_read, root_read, sent_read, nonce_read, column_read, leaf_read, digests_read, start_of, given_of, given_before, whole_transcript, columns_of, IsLeastFailing, LowDegreeRead, LinearRead, QuadraticRead}
 use Rattle.lzk_verify.proofs.FieldSteps.{earlier, elements_before}
 use Rattle.lzk_verify.proofs.LeastLaws.{least_same}
 use Rattle.lzk_verify.proofs.Stored.{IsStored}

@@ -1,5 +1,5 @@
 -- An element is taken that is sent before the opened columns.
-use Rattle.std.specs.Prelude.{◌≡◌, refl, ℕ, ◌+◌, ◌-◌, ◌*◌, ◌<◌, ◌≤◌, Bool, true, false, cond, nat_le, nat_lt, Some, None, List, [], ◌∷◌, ◌++◌, length, take, slice_set}
+use Rattle.std.specs.Prelude.{◌≡◌, refl, ℕ, ◌+◌, ◌-◌, ◌<◌, ◌≤◌, Bool, true, false, cond, nat_le, nat_lt, Some, None, List, [], ◌∷◌, ◌++◌, length, take, slice_set}
 use Rattle.std.proofs.Common.{sym, ap, ◌∙◌, arith}
 use Rattle.std.proofs.lemmas.List.{length_push, take_all}
 use Rattle.lzk_field.specs.Bytes.{number_from}
@@ -11,10 +11,10 @@ use Rattle.lzk_layout.specs.Fields.{element, shape, wrong, IsField}
 use Rattle.lzk_layout.specs.declared.fault.ProofKind.TheVariants as kinds
 use Rattle.lzk_layout.specs.Parts.{before_opened}
 use Rattle.lzk_verify.specs.declared.intake.Intake.{Intake}
-use Rattle.lzk_verify.specs.Kept.{sent_count, has_answers, id_read, root_read, sent_read, start_of, given_of, given_before, whole_transcript}
+use Rattle.lzk_verify.specs.Kept.{sent_count, id_read, root_read, sent_read, start_of, given_before, whole_transcript}
 use Rattle.lzk_verify.proofs.FieldSteps.{earlier, elements_more, slot_more}
 use Rattle.lzk_verify.proofs.Stored.{IsStored}
-use Rattle.lzk_verify.proofs.Taking.{IsEarly, more, not_drawn, stored_early}
+use Rattle.lzk_verify.proofs.Taking.{IsEarly, not_drawn, stored_early}
 
 -- element number i of those that are sent is taken, and id and root stay
 pub record SetsSent {A : Type 0} (e : Coding A) (p : Params) (n i : ℕ) (f : List ℕ) (k l : Intake A) : Type 0 where

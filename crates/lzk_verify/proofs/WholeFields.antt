@@ -1,11 +1,11 @@
 -- What the fields of a proof's file say is the proof.
 use Rattle.std.specs.Prelude.{◌≡◌, refl, ℕ, ◌+◌, ◌-◌, ◌*◌, ◌<◌, ◌≤◌, List, [], ◌∷◌, ◌++◌, length, map, take, drop, slice_index_or}
 use Rattle.std.specs.Int.{w32, to_le_bytes}
-use Rattle.std.proofs.Common.{zero, suc, sym, ap, subst, ◌∙◌, arith}
-use Rattle.std.proofs.lemmas.List.{length-append, length-map, length-take, length-drop, append_assoc, map-append, drop-drop, get_or-drop, take_at, drop_at, take_all}
+use Rattle.std.proofs.Common.{zero, suc, sym, ap, ◌∙◌, arith}
+use Rattle.std.proofs.lemmas.List.{length-append, length-map, length-take, length-drop, append_assoc, map-append, drop-drop, get_or-drop, take_at, drop_at}
 use Rattle.std.proofs.lemmas.Nat.{mul-le}
 use Rattle.std.proofs.Math.Seq.{drop-append-add}
-use Rattle.lzk_field.specs.Bytes.{number_from, bytes_of}
+use Rattle.lzk_field.specs.Bytes.{number_from}
 use Rattle.lzk_field.specs.Coding.{Coding}
 use Rattle.lzk_field.specs.Ring.{Ops, Laws}
 use Rattle.lzk_field.proofs.ByteForms.{number_from-bytes_of}

@@ -1,5 +1,5 @@
 -- What is kept of all fields of a proof is that by which it is judged.
-use Rattle.std.specs.Prelude.{◌≡◌, refl, ℕ, ◌+◌, ◌-◌, ◌*◌, ◌<◌, ◌≤◌, cond, nat_le, nat_lt, true, false, Option, Some, None, List, [], length, map, take, drop, slice_index_or}
+use Rattle.std.specs.Prelude.{◌≡◌, ℕ, ◌+◌, ◌-◌, ◌*◌, ◌<◌, ◌≤◌, cond, true, Option, List, [], length, map, take, drop, slice_index_or}
 use Rattle.std.specs.List.{range_with_len}
 use Rattle.std.proofs.Common.{sym, ap, subst, ◌∙◌, arith}
 use Rattle.std.proofs.lemmas.List.{length-take, take_all, get_or-take, get_or-drop}
@@ -13,15 +13,15 @@ use Rattle.lzk_layout.specs.declared.params.Params.{Params}
 use Rattle.lzk_layout.specs.declared.proof.Proof.{Proof}
 use Rattle.lzk_layout.specs.Sizes.{AreBounded, params_of}
 use Rattle.lzk_layout.specs.Proofs.{ProofBytes, element_field, fields_of, HasLengths}
-use Rattle.lzk_layout.specs.Parts.{before_opened, before_count}
-use Rattle.lzk_accept.specs.Challenges.{Transcript, transcript}
+use Rattle.lzk_layout.specs.Parts.{before_opened}
+use Rattle.lzk_accept.specs.Challenges.{Transcript}
 use Rattle.lzk_accept.specs.Checks.{column, at_row, in_triple, quadratic_values, combined_row_of, wanted_of}
 use Rattle.lzk_verify.specs.declared.intake.Intake.{Intake}
-use Rattle.lzk_verify.specs.Checks.{id_of, leaf_at, leaves_of}
+use Rattle.lzk_verify.specs.Checks.{leaf_at, leaves_of}
 use Rattle.lzk_verify.specs.Columns as spec
 use Rattle.lzk_verify.specs.Columns.{values_of}
 use Rattle.lzk_verify.specs.Desk.{AreLists, AreReady, Rooms}
-use Rattle.lzk_verify.specs.Kept.{sent_count, messages_in, ldt_in, dot_in, head_in, tail_in, whole_columns, has_answers, sent_read, column_read, leaf_read, start_of, given_of, given_before, whole_transcript, columns_of, LowDegreeRead, LinearRead, QuadraticRead, IsLeastFailing}
+use Rattle.lzk_verify.specs.Kept.{sent_count, messages_in, head_in, tail_in, whole_columns, has_answers, sent_read, leaf_read, start_of, given_of, given_before, whole_transcript, columns_of, IsLeastFailing}
 use Rattle.lzk_verify.specs.Verdict.{given, LowDegreeAt, LinearAt, QuadraticAt, wanted_sum}
 use Rattle.lzk_verify.proofs.ColumnPlaces as places
 use Rattle.lzk_verify.proofs.ColumnLaws.{same_triple}

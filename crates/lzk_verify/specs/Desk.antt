@@ -18,6 +18,8 @@ use Rattle.lzk_accept.specs.Challenges as accept
 use Rattle.lzk_accept.specs.Challenges.{Transcript}
 use Rattle.lzk_accept.specs.Checks.{combined_row_of, wanted_of}
 use Rattle.lzk_accept.specs.Kept.{LinearForms, AreFormsOf}
+use Rattle.lzk_accept.specs.declared.factored.Factored.{Factored}
+use Rattle.lzk_accept.specs.Factored.{HasRoomFor, GivesCombined}
 use Rattle.lzk_verify.specs.declared.intake.Intake.{Intake}
 use Rattle.lzk_verify.specs.declared.verdict.Verdict.{Verdict}
 use Rattle.lzk_verify.specs.declared.verdict.Verdict.TheVariants.{Accepted, CircuitId, PathCount, Root, LowDegree, LinearSum, Linear, Quadratic}
@@ -37,25 +39,32 @@ pub record HasRoom {A : Type 0} (c : Wiring A) (p : Params) (t : Transcript A) :
   pub challenges : accept.HasShape p t.challenges
   pub columns : length t.columns ≡ 128
 
--- what extends a row's values, and what extends the values of a product of two rows, to all points
+-- the weights that extend a row's values, and those that extend the values of a product of two rows, to all points
 abbrev pub rows : Params → Reach
 rows p = record { count = p.block; upto = p.ncol }
 
 abbrev pub products : Params → Reach
 products p = record { count = p.dblock; upto = p.ncol }
 
--- the combined coefficients, row by row from row 3 on, are those of these rows
-pub record AreRows {A : Type 0} (o : Ops A) (p : Params) (combined : List A) (rows : ℕ → List A) : Type 0 where
-  pub count : length combined ≡ (p.nrow - 3) * p.wr
+-- factors and a table for as many rows and positions as the parameters say
+pub record HasFactors {A : Type 0} (p : Params) (f : Factored A) : Type 0 where
+  pub rows : f.rows ≤ p.nrow - 3
+  pub row_factors : length f.row_factors ≡ 4 * f.rows
+  pub place_factors : length f.place_factors ≡ 4 * p.wr
+  pub table : length f.table ≡ (p.nrow - 3 - f.rows) * p.wr
+
+-- the combined coefficients that factors and a table give are those of these rows
+pub record AreRows {A : Type 0} (o : Ops A) (p : Params) (f : Factored A) (rows : ℕ → List A) : Type 0 where
   pub lengths : (i : ℕ) → length (rows i) ≡ p.block
   pub front : (i s : ℕ) → s < 128 → entry o (rows i) s ≡ o.zero
-  pub back : (i s : ℕ) → i < p.nrow - 3 → s < p.wr → entry o (rows (3 + i)) (128 + s) ≡ entry o combined (i * p.wr + s)
+  pub back : GivesCombined o p f (λ i s. entry o (rows i) (128 + s))
 
--- the room in which a proof is checked, and what its extenders reach
+-- the room in which a proof is checked, and what its weights reach
 pub record Rooms (A : Type 0) : Type 0 where
   pub forms : LinearForms A
-  pub combined : List A
+  pub combined : Factored A
   pub row : ℕ
+  pub product : ℕ
   pub values : List A
   pub nodes : ℕ
   pub rows : Reach
@@ -63,8 +72,9 @@ pub record Rooms (A : Type 0) : Type 0 where
 
 -- that is as much as the parameters want
 pub record AreRooms {A : Type 0} (p : Params) (r : Rooms A) : Type 0 where
-  pub combined : length r.combined ≡ (p.nrow - 3) * p.wr
+  pub combined : HasFactors p r.combined
   pub row : r.row ≡ p.block
+  pub product : r.product ≡ p.dblock
   pub values : length r.values ≡ p.dblock
   pub nodes : r.nodes ≡ 2 * p.mcol
   pub rows : r.rows ≡ rows p
@@ -93,6 +103,7 @@ pub record IsSound {A : Type 0} (o : Ops A) (element : ℕ → A) (c : Wiring A)
   pub script : sumcheck.HasShape c k.drawn.script
   pub lists : AreLists p k
   pub forms : AreFormsOf o c r.forms
+  pub factors : HasRoomFor c r.combined
   pub rooms : AreRooms p r
   pub ready : k.is_drawn ≡ true → AreReady o element c p k r
 

@@ -1,5 +1,5 @@
 -- What a verifier that is fed bytes keeps of those that it was fed.
-use Rattle.std.specs.Prelude.{◌≡◌, ◌⊎◌, ℕ, ◌+◌, ◌-◌, ◌*◌, ◌/◌, ◌%◌, ◌<◌, ◌==◌, Bool, true, false, nat_le, nat_lt, min, cond, Option, Some, None, is_some, List, [], ◌∷◌, length, map, take, drop, slice_index_or}
+use Rattle.std.specs.Prelude.{◌≡◌, ℕ, ◌+◌, ◌-◌, ◌*◌, ◌/◌, ◌%◌, ◌==◌, Bool, nat_le, nat_lt, min, cond, Option, Some, None, is_some, List, [], length, map, take, drop, slice_index_or}
 use Rattle.std.specs.List.{filter, range_with_len}
 use Rattle.lzk_field.specs.Bytes.{number_from}
 use Rattle.lzk_field.specs.Coding.{Coding}
@@ -12,7 +12,7 @@ use Rattle.lzk_circuit.specs.Valid.{Wiring}
 use Rattle.lzk_layout.specs.declared.params.Params.{Params}
 use Rattle.lzk_layout.specs.declared.fault.ProofFault.{ProofFault}
 use Rattle.lzk_layout.specs.Sizes.{params_of}
-use Rattle.lzk_layout.specs.Places.{depth, bits_under, output_bits, round_count, sent_at}
+use Rattle.lzk_layout.specs.Places.{depth, output_bits, round_count, sent_at}
 use Rattle.lzk_layout.specs.Fields.{shape}
 use Rattle.lzk_layout.specs.Files.{AreBytes}
 use Rattle.lzk_layout.specs.Parts.{before_opened, before_count}

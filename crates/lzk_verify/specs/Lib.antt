@@ -1,5 +1,6 @@
 pub mod Checks
 pub mod Columns
 pub mod Desk
+pub mod Extending
 pub mod Kept
 pub mod Verdict

@@ -9,6 +9,7 @@ use Rattle.lzk_layout.specs.declared.proof.Proof.{Proof}
 use Rattle.lzk_layout.specs.Sizes.{params_of}
 use Rattle.lzk_layout.specs.Proofs.{ProofBytes}
 use Rattle.lzk_layout.specs.Fields.{shape, ProofFaultAt}
+use Rattle.lzk_layout.specs.Files.{AreBytes}
 use Rattle.lzk_accept.specs.Challenges.{Transcript, transcript}
 use Rattle.lzk_accept.specs.Checks.{wanted_of, combined_row_of, found_sum, HasLinearSum, IsLowDegree, IsLinear, IsQuadratic, AtEach, FailsFirst}
 use Rattle.lzk_verify.specs.declared.verdict.Verdict.{Verdict}
@@ -101,3 +102,12 @@ IsOnlyVerdict {A} o e c session public bytes v = (w : Verdict A) → IsVerdict o
 -- the bytes are accepted exactly where all checks hold
 abbrev pub AcceptsExactly : {A : Type 0} → Ops A → Coding A → Wiring A → List ℕ → List A → List ℕ → Type 0
 AcceptsExactly o e c session public bytes = IsVerdict o e c session public bytes Accepted ↔ AllHold o e c session public bytes
+
+-- bytes have one verdict at most
+abbrev pub OneVerdict : {A : Type 0} → Ops A → Coding A → Type 0
+OneVerdict {A} o e =
+    (c : Wiring A) (session : List ℕ) (public : List A) (bytes : List ℕ) (v w : Verdict A) → IsVerdict o e c session public bytes v → IsVerdict o e c session public bytes w → v ≡ w
+
+-- bytes have a verdict
+abbrev pub SomeVerdict : {A : Type 0} → Ops A → Coding A → Type 0
+SomeVerdict {A} o e = (c : Wiring A) (session : List ℕ) (public : List A) (bytes : List ℕ) → AreBytes bytes → (v : Verdict A) × IsVerdict o e c session public bytes v

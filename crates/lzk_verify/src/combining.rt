@@ -1,18 +1,19 @@
 //! The linear constraints, combined.
 
-ghost use Rattle.std.specs.Prelude.{◌≡◌, ◌-◌, ◌*◌, length};
+ghost use Rattle.std.specs.Prelude.{◌≡◌, length};
 ghost use Rattle.lzk_layout.specs.Sizes.{AreBounded, params_of};
 ghost use Rattle.lzk_accept.specs.Checks.{combined_row_of, wanted_of};
+ghost use Rattle.lzk_accept.specs.Factored.{HasRoomFor};
 ghost use Rattle.lzk_accept.specs.Kept.{AreFormsOf};
-ghost use Rattle.lzk_verify.specs.Desk.{AreRows, HasRoom};
+ghost use Rattle.lzk_verify.specs.Desk.{AreRows, HasFactors, HasRoom};
 
 use crate::drawing::Drawn;
-use lzk_accept::{Forms, combine, linear_forms};
+use lzk_accept::{Factored, Forms, combine_factored};
 use lzk_circuit::Circuit;
 use lzk_field::Field;
 use lzk_layout::Params;
 
-/// Sets the forms, and the combined coefficients row by row from row 3 on. Gives the sum that is wanted.
+/// Sets the forms, and the factors and the table of the combined coefficients. Gives the sum that is wanted.
 pub(crate) fn combine_constraints<F: Field>(
     circuit: &Circuit<F>,
     params: &Params,
@@ -20,7 +21,7 @@ pub(crate) fn combine_constraints<F: Field>(
     messages: &[F],
     drawn: &Drawn<F>,
     forms: &mut Forms<F>,
-    combined: &mut [F],
+    combined: &mut Factored<F>,
 ) -> F
     requires params { params.now ≡ params_of circuit.now }
     requires bounded { AreBounded params.now }
@@ -28,12 +29,20 @@ pub(crate) fn combine_constraints<F: Field>(
     requires messages { length messages.now ≡ params.now.nsum }
     requires drawn { HasRoom circuit.now params.now drawn.now }
     requires forms { AreFormsOf F.ops circuit.now forms.old }
-    requires room { length combined.old ≡ (params.now.nrow - 3) * params.now.wr }
+    requires room { HasRoomFor circuit.now combined.old }
     ensures rows { AreRows F.ops params.now combined.new (combined_row_of F.ops F.element circuit.now public.now drawn.now.script messages.now drawn.now.challenges) }
     ensures wanted { result ≡ wanted_of F.ops F.element circuit.now public.now drawn.now.script messages.now drawn.now.challenges }
     ensures forms { AreFormsOf F.ops circuit.now forms.new }
-    ensures room { length combined.new ≡ (params.now.nrow - 3) * params.now.wr }
+    ensures room { HasRoomFor circuit.now combined.new }
+    ensures factors { HasFactors params.now combined.new }
 {
-    linear_forms(circuit, public, &drawn.script, messages, forms);
-    combine(params, forms, &drawn.challenges, combined)
+    combine_factored(
+        circuit,
+        public,
+        &drawn.script,
+        messages,
+        &drawn.challenges,
+        forms,
+        combined,
+    )
 }

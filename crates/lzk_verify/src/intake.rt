@@ -20,6 +20,7 @@ ghost use Rattle.lzk_verify.specs.Kept.{ldt_in, dot_in, whole_transcript, IsKept
 
 use crate::combining::combine_constraints;
 use crate::drawing::{Drawn, OPENED, public_tape};
+use crate::extending::set_factors;
 use crate::linear::is_linear_at;
 use crate::low_degree::is_low_degree_at;
 use crate::quadratic::{fill_quadratic, is_quadratic_at};
@@ -196,21 +197,30 @@ impl<F: Field> Intake<F> {
         let index = self.drawn.column(k);
         let point = params.dblock + index;
         self.leaves[k] = leaf(&self.nonce, column);
+        let last = set_factors(&room.rows, point, &mut room.row);
+        let product_last = set_factors(&room.products, point, &mut room.product);
         let u = self.drawn.challenges.u.as_slice();
         let ldt = ldt_of(params, &self.sent);
-        let low_degree = is_low_degree_at(params, ldt, column, u, &room.rows, point);
+        let low_degree = is_low_degree_at(params, ldt, column, u, &room.row, last);
         let linear = is_linear_at(
             params,
             dot_of(params, &self.sent),
             column,
             &room.combined,
-            &mut room.row,
-            &room.rows,
-            &room.products,
-            point,
+            &room.row,
+            last,
+            &room.product,
+            product_last,
         );
         let v = self.drawn.challenges.v.as_slice();
-        let quadratic = is_quadratic_at(params, &room.values, column, v, &room.products, point);
+        let quadratic = is_quadratic_at(
+            params,
+            &room.values,
+            column,
+            v,
+            &room.product,
+            product_last,
+        );
         self.failing = Failing {
             low_degree: least(self.failing.low_degree, low_degree, index),
             linear: least(self.failing.linear, linear, index),

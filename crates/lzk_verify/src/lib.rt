@@ -7,8 +7,10 @@
 mod combining;
 mod desk;
 mod drawing;
+mod extending;
 mod intake;
 mod judging;
+mod laws;
 mod linear;
 mod lists;
 mod low_degree;
@@ -19,4 +21,5 @@ mod sent;
 mod verdict;
 
 pub use desk::Desk;
+pub use laws::verdict_laws;
 pub use verdict::Verdict;

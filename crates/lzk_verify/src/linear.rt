@@ -5,110 +5,115 @@ ghost use Rattle.lzk_field.specs.Sums.{entry, sum_below};
 ghost use Rattle.lzk_poly.specs.Extension.{extension};
 ghost use Rattle.lzk_layout.specs.Sizes.{AreBounded};
 ghost use Rattle.lzk_verify.specs.Columns.{IsLinearIn};
-ghost use Rattle.lzk_verify.specs.Desk.{AreRows, rows, products};
+ghost use Rattle.lzk_verify.specs.Desk.{HasFactors, AreRows};
+ghost use Rattle.lzk_verify.specs.Extending.{Extends, row_sum};
 
-use crate::lists::clear;
+use crate::extending::extend_to;
+use lzk_accept::Factored;
 use lzk_field::Field;
 use lzk_layout::Params;
-use lzk_poly::{Extender, extension_laws};
 
-// Adds a multiple of a row of combined coefficients.
-fn add_multiple<F: Field>(row: &mut [F], factor: F, values: &[F])
-    requires { length values.now ≡ length row.old }
-    ensures length { length row.new ≡ length row.old }
-    ensures sums { (s : ℕ) → s < length row.old → entry F.ops row.new s ≡ F.ops.plus (entry F.ops row.old s) (F.ops.times factor (entry F.ops values.now s)) }
+// How many values of a row stand before its elements.
+const HEAD: usize = 128;
+
+// How many products a coefficient is the sum of, where rows are given by factors.
+const FACTORS: usize = 4;
+
+// The sum of a row's products with these factors.
+fn row_dot<F: Field>(table: &[F], i: usize, factors: &[F]) -> F
+    requires few { i < 265 }
+    requires width { length factors.now ≤ 512 }
+    requires inside { (i + 1) * length factors.now ≤ length table.now }
+    ensures { result ≡ row_sum F.ops table.now factors.now i }
 {
-    for s in 0..row.len() {
-        row[s] = row[s].add(factor.mul(values[s]));
-    }
+    let width = factors.len();
+    F::dot(&table[i * width..(i + 1) * width], factors)
 }
 
-// Adds, for each row from row 3 on, a column's element times the row's combined coefficients.
-fn add_rows<F: Field>(column: &[F], combined: &[F], row: &mut [F])
-    requires rows { 3 ≤ length column.now }
-    requires most { length column.now ≤ 265 }
-    requires width { length row.old ≤ 512 }
-    requires combined { length combined.now ≡ (length column.now - 3) * length row.old }
-    requires zeros { (s : ℕ) → s < length row.old → entry F.ops row.old s ≡ F.ops.zero }
-    ensures length { length row.new ≡ length row.old }
-    ensures sums { (s : ℕ) → s < length row.old → entry F.ops row.new s ≡ sum_below F.ops (length column.now - 3) (λ i. F.ops.times (entry F.ops column.now (3 + i)) (entry F.ops combined.now (i * length row.old + s))) }
+// The sum, over these elements of a column, of the element times its row's products with the factors.
+fn sum_rows<F: Field>(elements: &[F], table: &[F], factors: &[F]) -> F
+    requires most { length elements.now ≤ 265 }
+    requires width { length factors.now ≤ 512 }
+    requires table { length table.now ≡ length elements.now * length factors.now }
+    ensures { let o = F.ops in result ≡ sum_below o (length elements.now) (λ i. o.times (entry o elements.now i) (row_sum o table.now factors.now i)) }
 {
-    let width = row.len();
-    for i in 0..column.len() - 3 {
-        add_multiple(row, column[3 + i], &combined[i * width..(i + 1) * width]);
+    let mut sum = F::zero();
+    for i in 0..elements.len() {
+        sum = sum.add(elements[i].mul(row_dot(table, i, factors)));
     }
+    sum
 }
 
-// The values of the sum, over the rows from row 3 on, of a column's element times the row of combined coefficients.
-fn fill_sums<F: Field>(column: &[F], combined: &[F], row: &mut [F])
-    requires rows { 3 ≤ length column.now }
-    requires most { length column.now ≤ 265 }
-    requires some { 128 ≤ length row.old }
-    requires width { length row.old ≤ 640 }
-    requires combined { length combined.now ≡ (length column.now - 3) * (length row.old - 128) }
-    ensures length { length row.new ≡ length row.old }
-    ensures front { (s : ℕ) → s < 128 → entry F.ops row.new s ≡ F.ops.zero }
-    ensures back { (s : ℕ) → s < length row.old - 128 → entry F.ops row.new (128 + s) ≡ sum_below F.ops (length column.now - 3) (λ i. F.ops.times (entry F.ops column.now (3 + i)) (entry F.ops combined.now (i * (length row.old - 128) + s))) }
+// The same of rows whose coefficients are sums of four products: for each of the four, the elements' products with the row factors
+// times the place factors' with the factors.
+fn sum_factored<F: Field>(
+    elements: &[F],
+    row_factors: &[F],
+    place_factors: &[F],
+    factors: &[F],
+) -> F
+    requires most { length elements.now ≤ 265 }
+    requires width { length factors.now ≤ 512 }
+    requires row_factors { length row_factors.now ≡ 4 * length elements.now }
+    requires place_factors { length place_factors.now ≡ 4 * length factors.now }
+    ensures { let o = F.ops in result ≡ sum_below o 4 (λ k. o.times (row_sum o row_factors.now elements.now k) (row_sum o place_factors.now factors.now k)) }
 {
-    clear(row);
-    let (_, tail) = row.split_at_mut(128);
-    add_rows(column, combined, tail);
+    let mut sum = F::zero();
+    for k in 0..FACTORS {
+        let multiple = row_dot(row_factors, k, elements);
+        sum = sum.add(multiple.mul(row_dot(place_factors, k, factors)));
+    }
+    sum
 }
 
 // The sum, over the rows from row 3 on, of the extension of the combined coefficients' row times a column's element.
-// `row` is room, and says nothing afterwards.
-fn linear_sum_at<F: Field>(
+fn linear_sum<F: Field>(
     params: &Params,
     column: &[F],
-    combined: &[F],
-    row: &mut [F],
-    extender: &Extender<F>,
-    point: u32,
+    combined: &Factored<F>,
+    factors: &[F],
+    last: F,
 ) -> F
     requires bounded { AreBounded params.now }
     requires column { length column.now ≡ params.now.nrow }
-    requires combined { length combined.now ≡ (params.now.nrow - 3) * params.now.wr }
-    requires row { length row.old ≡ params.now.block }
-    requires reach { extender.now ≡ rows params.now }
-    requires inside { point < params.now.ncol }
-    ensures room { length row.new ≡ length row.old }
-    ensures sum { (lists : ℕ → List F) → AreRows F.ops params.now combined.now lists → result ≡ sum_below F.ops (params.now.nrow - 3) (λ i. F.ops.times (extension F.ops F.element (lists (3 + i)) point) (entry F.ops column.now (3 + i))) }
+    requires combined { HasFactors params.now combined.now }
+    requires factors { length factors.now ≡ params.now.block }
+    ensures { (point : ℕ) (lists : ℕ → List F) → Extends F.ops F.element point factors.now last → AreRows F.ops params.now combined.now lists
+        → result ≡ sum_below F.ops (params.now.nrow - 3) (λ i. F.ops.times (extension F.ops F.element (lists (3 + i)) point) (entry F.ops column.now (3 + i))) }
 {
-    fill_sums(column, combined, row);
-    extension_laws::<F>();
-    extender.extend_at(row, point)
+    let behind = 3 + combined.rows as usize;
+    let back = &factors[HEAD..];
+    let private = sum_factored(
+        &column[3..behind],
+        combined.row_factors.as_slice(),
+        combined.place_factors.as_slice(),
+        back,
+    );
+    let others = sum_rows(&column[behind..], combined.table.as_slice(), back);
+    private.add(others).mul(last)
 }
 
-// Whether they are the same element.
-fn are_equal<F: Field>(x: F, y: F) -> bool
-    ensures { IsTrue result ↔ x ≡ y }
-{
-    x == y
-}
-
-/// Whether the linear answer is right at the point of a column. `row` is room, and says nothing afterwards.
+/// Whether the linear answer is right at the factors' point, of a column. Those of a row's values come first, and those of the values
+/// of a product of two rows behind them.
 pub(crate) fn is_linear_at<F: Field>(
     params: &Params,
     dot: &[F],
     column: &[F],
-    combined: &[F],
-    row: &mut [F],
-    extender: &Extender<F>,
-    answers: &Extender<F>,
-    point: u32,
+    combined: &Factored<F>,
+    row: &[F],
+    last: F,
+    product: &[F],
+    product_last: F,
 ) -> bool
     requires bounded { AreBounded params.now }
     requires dot { length dot.now ≡ params.now.dblock }
     requires column { length column.now ≡ params.now.nrow }
-    requires combined { length combined.now ≡ (params.now.nrow - 3) * params.now.wr }
-    requires row { length row.old ≡ params.now.block }
-    requires reach { extender.now ≡ rows params.now }
-    requires answers { answers.now ≡ products params.now }
-    requires inside { point < params.now.ncol }
-    ensures room { length row.new ≡ length row.old }
-    ensures right { (lists : ℕ → List F) → AreRows F.ops params.now combined.now lists → (IsTrue result ↔ IsLinearIn F.ops F.element params.now column.now point dot.now lists) }
+    requires combined { HasFactors params.now combined.now }
+    requires row { length row.now ≡ params.now.block }
+    requires product { length product.now ≡ params.now.dblock }
+    ensures { (point : ℕ) (lists : ℕ → List F) → Extends F.ops F.element point row.now last → Extends F.ops F.element point product.now product_last → AreRows F.ops params.now combined.now lists
+        → (IsTrue result ↔ IsLinearIn F.ops F.element params.now column.now point dot.now lists) }
 {
-    let answer = answers.extend_at(dot, point);
-    let sum = linear_sum_at(params, column, combined, row, extender, point);
-    are_equal(answer, column[1].add(sum))
+    let sum = linear_sum(params, column, combined, row, last);
+    extend_to(dot, product, product_last, column[1].add(sum))
 }

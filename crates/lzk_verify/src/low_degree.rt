@@ -4,11 +4,12 @@ ghost use Rattle.std.specs.Prelude.{◌≡◌, ℕ, ◌+◌, ◌-◌, ◌<◌, �
 ghost use Rattle.lzk_field.specs.Sums.{entry, sum_below};
 ghost use Rattle.lzk_layout.specs.Sizes.{AreBounded};
 ghost use Rattle.lzk_verify.specs.Columns.{IsLowDegreeIn};
-ghost use Rattle.lzk_verify.specs.Desk.{IsChecked, rows};
+ghost use Rattle.lzk_verify.specs.Desk.{IsChecked};
+ghost use Rattle.lzk_verify.specs.Extending.{Extends};
 
+use crate::extending::extend_to;
 use lzk_field::Field;
 use lzk_layout::Params;
-use lzk_poly::Extender;
 
 // The sum of each u times an element of a column from row 3 on, and of its first element.
 fn low_degree_sum<F: Field>(params: &Params, column: &[F], u: &[F]) -> F
@@ -20,25 +21,23 @@ fn low_degree_sum<F: Field>(params: &Params, column: &[F], u: &[F]) -> F
     column[0].add(F::dot(u, &column[3..]))
 }
 
-/// Whether the low degree answer is right at the point of a column.
+/// Whether the low degree answer is right at the factors' point, of a column.
 pub(crate) fn is_low_degree_at<F: Field>(
     params: &Params,
     ldt: &[F],
     column: &[F],
     u: &[F],
-    extender: &Extender<F>,
-    point: u32,
+    factors: &[F],
+    last: F,
 ) -> bool
     requires bounded { AreBounded params.now }
     requires ldt { length ldt.now ≡ params.now.block }
     requires column { length column.now ≡ params.now.nrow }
     requires u { length u.now ≡ params.now.nrow - 3 }
-    requires reach { extender.now ≡ rows params.now }
-    requires inside { point < params.now.ncol }
-    ensures { IsTrue result ↔ IsLowDegreeIn F.ops F.element params.now column.now point ldt.now u.now }
+    requires factors { length factors.now ≡ params.now.block }
+    ensures { (point : ℕ) → Extends F.ops F.element point factors.now last → (IsTrue result ↔ IsLowDegreeIn F.ops F.element params.now column.now point ldt.now u.now) }
 {
-    let answer = extender.extend_at(ldt, point);
-    answer == low_degree_sum(params, column, u)
+    extend_to(ldt, factors, last, low_degree_sum(params, column, u))
 }
 
 // The sum of the linear answer's values at the points of a row's elements.

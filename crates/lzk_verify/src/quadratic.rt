@@ -4,12 +4,12 @@ ghost use Rattle.std.specs.Prelude.{◌≡◌, ℕ, ◌+◌, ◌-◌, ◌*◌, �
 ghost use Rattle.lzk_field.specs.Sums.{entry, sum_below, minus};
 ghost use Rattle.lzk_layout.specs.Sizes.{AreBounded};
 ghost use Rattle.lzk_verify.specs.Columns.{IsQuadraticIn, in_triple, values_of};
-ghost use Rattle.lzk_verify.specs.Desk.{products};
+ghost use Rattle.lzk_verify.specs.Extending.{Extends};
 
+use crate::extending::extend_to;
 use crate::lists::clear;
 use lzk_field::Field;
 use lzk_layout::Params;
-use lzk_poly::Extender;
 
 // Zeros between the first values and the last ones.
 fn fill_between<F: Field>(first: &[F], last: &[F], values: &mut [F])
@@ -58,23 +58,21 @@ fn quadratic_sum<F: Field>(params: &Params, column: &[F], v: &[F]) -> F
     column[2].add(sum)
 }
 
-/// Whether the quadratic answer, whose values these are, is right at the point of a column.
+/// Whether the quadratic answer, whose values these are, is right at the factors' point, of a column.
 pub(crate) fn is_quadratic_at<F: Field>(
     params: &Params,
     values: &[F],
     column: &[F],
     v: &[F],
-    extender: &Extender<F>,
-    point: u32,
+    factors: &[F],
+    last: F,
 ) -> bool
     requires bounded { AreBounded params.now }
     requires values { length values.now ≡ params.now.dblock }
     requires column { length column.now ≡ params.now.nrow }
     requires v { length v.now ≡ params.now.ntriple }
-    requires reach { extender.now ≡ products params.now }
-    requires inside { point < params.now.ncol }
-    ensures { IsTrue result ↔ IsQuadraticIn F.ops F.element params.now column.now point values.now v.now }
+    requires factors { length factors.now ≡ params.now.dblock }
+    ensures { (point : ℕ) → Extends F.ops F.element point factors.now last → (IsTrue result ↔ IsQuadraticIn F.ops F.element params.now column.now point values.now v.now) }
 {
-    let answer = extender.extend_at(values, point);
-    answer == quadratic_sum(params, column, v)
+    extend_to(values, factors, last, quadratic_sum(params, column, v))
 }

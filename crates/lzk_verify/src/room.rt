@@ -2,14 +2,15 @@
 
 ghost use Rattle.std.specs.Prelude.{◌≡◌, IfOk, length, replicate};
 ghost use Rattle.lzk_layout.specs.Sizes.{AreBounded, params_of};
+ghost use Rattle.lzk_accept.specs.Factored.{HasRoomFor};
 ghost use Rattle.lzk_accept.specs.Kept.{AreFormsOf};
 ghost use Rattle.lzk_verify.specs.Desk.{AreRooms};
 
-use lzk_accept::Forms;
+use lzk_accept::{Factored, Forms};
 use lzk_circuit::{Circuit, zeros};
 use lzk_field::Field;
 use lzk_layout::Params;
-use lzk_poly::Extender;
+use lzk_poly::Weights;
 use std::alloc::{AllocError, Global};
 use std::marker::Model;
 
@@ -18,18 +19,20 @@ use std::marker::Model;
 pub(crate) struct Room<F: Field> {
     /// The linear constraints.
     pub(crate) forms: Forms<F>,
-    /// The combined coefficients, row by row from row 3 on.
-    pub(crate) combined: Vec<F>,
-    /// The values of a row.
+    /// The combined coefficients of the rows from row 3 on.
+    pub(crate) combined: Factored<F>,
+    /// What extends the values of a row to the point of a column.
     pub(crate) row: Vec<F>,
+    /// What extends the values of a product of two rows to the point of a column.
+    pub(crate) product: Vec<F>,
     /// The values of the quadratic answer.
     pub(crate) values: Vec<F>,
     /// The digests of a tree's nodes.
     pub(crate) nodes: Vec<[u8; 32]>,
-    /// Extends the values of a row.
-    pub(crate) rows: Extender<F>,
-    /// Extends the values of a product of two rows.
-    pub(crate) products: Extender<F>,
+    /// The weights of the values of a row.
+    pub(crate) rows: Weights<F>,
+    /// The weights of the values of a product of two rows.
+    pub(crate) products: Weights<F>,
 }
 
 impl<F: Field> Model for Room<F> {
@@ -38,7 +41,7 @@ impl<F: Field> Model for Room<F> {
 
     ghost Value = { Rooms F };
 
-    ghost view = { λ r. record { forms = r.forms; combined = r.combined.items; row = length r.row.items; values = r.values.items; nodes = length r.nodes.items; rows = r.rows; products = r.products } };
+    ghost view = { λ r. record { forms = r.forms; combined = r.combined; row = length r.row.items; product = length r.product.items; values = r.values.items; nodes = length r.nodes.items; rows = r.rows; products = r.products } };
 }
 
 /// So many digests of zeros.
@@ -61,16 +64,17 @@ impl<F: Field> Room<F> {
         requires bounded { AreBounded params.now }
         ensures rooms { IfOk result (λ room. AreRooms params.now room) }
         ensures forms { IfOk result (λ room. AreFormsOf F.ops circuit.now room.forms) }
+        ensures factors { IfOk result (λ room. HasRoomFor circuit.now room.combined) }
     {
-        let coefficients = (params.nrow - 3) * params.wr;
         Ok(Room {
             forms: Forms::new(alloc, circuit)?,
-            combined: zeros(alloc, coefficients as usize)?,
+            combined: Factored::new(alloc, circuit)?,
             row: zeros(alloc, params.block as usize)?,
+            product: zeros(alloc, params.dblock as usize)?,
             values: zeros(alloc, params.dblock as usize)?,
             nodes: zero_digests(alloc, 2 * params.mcol as usize)?,
-            rows: Extender::new(alloc, params.block, params.ncol)?,
-            products: Extender::new(alloc, params.dblock, params.ncol)?,
+            rows: Weights::new(alloc, params.block, params.ncol)?,
+            products: Weights::new(alloc, params.dblock, params.ncol)?,
         })
     }
 }

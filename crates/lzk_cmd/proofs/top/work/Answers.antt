@@ -1,7 +1,7 @@
 use Rattle.std.specs.Option.{option_copied}
 use Rattle.lzk_cmd.specs.Seen.{seen}
 use Rattle.lzk_cmd.specs.Sights.{texts}
-use Rattle.lzk_cmd.specs.Words.{Eval, Compile, Show, Verify}
+use Rattle.lzk_cmd.specs.Words.{Eval, Compile, Show, Prove, Verify}
 use Rattle.lzk_cmd.proofs.Sessions.{session_fits}
 use Rattle.lzk_cmd.proofs.Sights.{only_moves}
 use Rattle.lzk_cmd.proofs.Works.{refused, works}
@@ -38,4 +38,15 @@ returns-in-Some-Verify-clause-moves g c = only_moves (seen g.S.Shelf c.args.shel
 
 pub verify-requires-clause-session : goal.verify-requires-clause-session
 verify-requires-clause-session g c κs within =
-    session_fits (texts c.args.words.now) c.in-Some-Verify.circuit.now c.in-Some-Verify.public.now c.in-Some-Verify.proof.now (option_copied c.in-Some-Verify.session) (rw c.in-Some-Verify.field-0-is at c.in-Some-Verify.ensures)
+    session_fits (texts c.args.words.now) (Verify c.in-Some-Verify.circuit.now c.in-Some-Verify.public.now c.in-Some-Verify.proof.now (option_copied c.in-Some-Verify.session)) (rw c.in-Some-Verify.field-0-is at c.in-Some-Verify.ensures)
+
+pub prove-requires-clause-session : goal.prove-requires-clause-session
+prove-requires-clause-session g c κs within =
+    let order = c.in-Some-Prove.order in
+    session_fits (texts c.args.words.now) (Prove order.circuit.now order.public.now order.private.now order.proof.now order.seed.now (option_copied order.session)) (rw c.in-Some-Prove.field-0-is at c.in-Some-Prove.ensures)
+
+pub returns-in-Some-Prove-clause-works : goal.returns-in-Some-Prove-clause-works
+returns-in-Some-Prove-clause-works g c =
+    let order = c.in-Some-Prove.order in
+    works (texts c.args.words.now) (Prove order.circuit.now order.public.now order.private.now order.proof.now order.seed.now (option_copied order.session)) (Unit {0}) (seen g.S.Shelf c.args.shelf.now) (seen g.S.Shelf c.prove.new.shelf) c.prove.result
+    (rw c.in-Some-Prove.field-0-is at c.in-Some-Prove.ensures) (λ u. u) c.prove.ensures.walks

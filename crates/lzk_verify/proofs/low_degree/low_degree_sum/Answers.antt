@@ -1,4 +1,4 @@
-use Rattle.std.proofs.Common.{◌≡◌, ◌<◌, ◌-◌, drop, ap, ◌∙◌, length, arith, refl}
+use Rattle.std.proofs.Common.{◌≡◌, ◌-◌, drop, ap, ◌∙◌, length, arith, refl}
 use Rattle.std.proofs.lemmas.List.{get_or_default, take_all, length-drop}
 use Rattle.lzk_field.specs.Sums.{dot_product, entry}
 use Rattle.lzk_verify.proofs.ColumnLaws.{dot_behind}

@@ -8,7 +8,7 @@ invariant_of-result g c =
     let params = c.of-params.ensures in
     new_parts f.ops (coding f.element f.number_of f.BYTES f.size f.ID) c.args.circuit.now c.of-params.result c.in_ok-id.field-0 c.new.result c.in_ok-new.field-0 c.in_ok-new-2.field-0
     params.params params.valid params.bounds c.in_ok-id.ensures c.new.ensures.params c.in_ok-new.ensures.public c.in_ok-new.ensures.script c.in_ok-new.ensures.lists c.in_ok-new.ensures.drawn
-    c.in_ok-new-2.ensures.forms c.in_ok-new-2.ensures.rooms
+    c.in_ok-new-2.ensures.forms c.in_ok-new-2.ensures.factors c.in_ok-new-2.ensures.rooms
 
 pub returns-clause-idle : goal.returns-clause-idle
 returns-clause-idle g c =

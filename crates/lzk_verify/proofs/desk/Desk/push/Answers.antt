@@ -1,9 +1,8 @@
-use Rattle.std.proofs.Common.{◌≡◌, ◌≤◌, true, sym, ap, subst, ◌∙◌, arith}
+use Rattle.std.proofs.Common.{◌≡◌, true, sym, ap, subst, ◌∙◌, arith}
 use Rattle.std.specs.Prelude.{is_some}
 use Rattle.lzk_field.specs.Coding.{coding}
 use Rattle.lzk_layout.specs.Sizes.{params_of}
-use Rattle.lzk_layout.specs.Fields.{shape}
-use Rattle.lzk_layout.specs.Parts.{sort_of, part_width}
+use Rattle.lzk_layout.specs.Parts.{sort_of}
 use Rattle.lzk_verify.specs.Kept.{DeskState, Stands}
 use Rattle.lzk_verify.proofs.Beginning.{fed_is}
 use Rattle.lzk_verify.proofs.Fed.{fits_block, field_stands, none_stands}

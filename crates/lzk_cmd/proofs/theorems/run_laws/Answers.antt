@@ -1,0 +1,14 @@
+use Rattle.lzk_cmd.proofs.Accepted.{proved_is_accepted}
+use Rattle.lzk_cmd.proofs.Alone.{one_end}
+use Rattle.lzk_cmd.proofs.Exists.{some_end}
+use Rattle.lzk_cmd.proofs.theorems.run_laws.Goals as goal
+
+pub returns-clause-one_end : goal.returns-clause-one_end
+returns-clause-one_end c = one_end c.proof_laws.ensures.one c.proof_laws-2.ensures.one
+
+pub returns-clause-some_end : goal.returns-clause-some_end
+returns-clause-some_end c =
+    some_end (record { gold_file = c.proof_laws.ensures.some; gold_fits = c.proof_laws.ensures.fit; gf_file = c.proof_laws-2.ensures.some; gf_fits = c.proof_laws-2.ensures.fit })
+
+pub returns-clause-honest : goal.returns-clause-honest
+returns-clause-honest c = proved_is_accepted c.proofs_accepted.ensures.accepted c.proofs_accepted-2.ensures.accepted

@@ -1,0 +1,34 @@
+-- What `prove` puts is accepted.
+use Rattle.std.specs.Prelude.{◌≡◌, ℕ, List, Option, Some}
+use Rattle.lzk_circbytes.specs.declared.any.AnyCircuit.{AnyCircuit}
+use Rattle.lzk_circbytes.specs.declared.any.AnyCircuit.TheVariants.{Gold, Gf}
+use Rattle.lzk_circuit.specs.Valid.{Wiring}
+use Rattle.lzk_field.specs.Coding.{Coding}
+use Rattle.lzk_field.specs.Ring.{Ops}
+use Rattle.lzk_goldilocks.specs.Elements as gold
+use Rattle.lzk_gf128.specs.Elements as gf
+use Rattle.lzk_outside.specs.Outside.{Files}
+use Rattle.lzk_verify.specs.Verdict.{IsVerdict}
+use Rattle.lzk_verify.specs.declared.verdict.Verdict.TheVariants.{Accepted}
+use Rattle.lzk_cmd.specs.Decoded.{circuit_files, number_files}
+use Rattle.lzk_cmd.specs.Ends.{End, Stop}
+use Rattle.lzk_cmd.specs.Formats.{Has}
+use Rattle.lzk_cmd.specs.Run.{RunOf}
+use Rattle.lzk_cmd.specs.Verified.{session_of, gold_coding, gf_coding}
+use Rattle.lzk_cmd.specs.Words.{Prove, command_of}
+
+-- the end puts bytes under a name that are accepted over a circuit, for a session and the public inputs of a number file
+abbrev pub PutsAccepted : {A : Type 0} → Ops A → Coding A → Wiring A → List ℕ → List ℕ → List ℕ → Files → End → Type 0
+PutsAccepted {A} o e c public proof session files end =
+    (publics : List A) × (bytes : List ℕ) × Has (number_files e.size e.number c.publics) files public publics × (end.put ≡ Some (proof, bytes)) × IsVerdict o e c session publics bytes Accepted
+
+abbrev pub PutsAcceptedAny : AnyCircuit → List ℕ → List ℕ → List ℕ → Files → End → Type 0
+PutsAcceptedAny (Gold c) = PutsAccepted gold.ops gold_coding c
+PutsAcceptedAny (Gf c) = PutsAccepted gf.ops gf_coding c
+
+-- Where `prove` is done, the proof that it put is accepted for the same circuit, public inputs and session.
+abbrev pub ProvedIsAccepted : Type 0
+ProvedIsAccepted =
+    (words : List (List ℕ)) (files : Files) (stop : Stop) (end : End) (circuit public private proof seed : List ℕ) (session : Option (List ℕ))
+    → command_of words ≡ Some (Prove circuit public private proof seed session) → RunOf words files stop end → end.status ≡ 0
+    → (c : AnyCircuit) × Has circuit_files files circuit c × PutsAcceptedAny c public proof (session_of session) files end

@@ -1,0 +1,14 @@
+use Rattle.lzk_field.specs.Coding.{coding}
+use Rattle.lzk_honest.proofs.FileSizes.{files-fit}
+use Rattle.lzk_honest.proofs.OneProof.{one-file}
+use Rattle.lzk_honest.proofs.SomeProof.{some-file}
+use Rattle.lzk_honest.proofs.laws.proof_laws.Goals as goal
+
+pub returns-clause-one : goal.returns-clause-one
+returns-clause-one g c = let f = g.F.Field in one-file f.ops (coding f.element f.number_of f.BYTES f.size f.ID)
+
+pub returns-clause-fit : goal.returns-clause-fit
+returns-clause-fit g c = let f = g.F.Field in files-fit f.ops (coding f.element f.number_of f.BYTES f.size f.ID) f.laws.numbers.few_bytes
+
+pub returns-clause-some : goal.returns-clause-some
+returns-clause-some g c = let f = g.F.Field in some-file f.ops (coding f.element f.number_of f.BYTES f.size f.ID)

@@ -1,0 +1,4 @@
+pub mod Answered
+pub mod Proving
+pub use Rattle.lzk_tableau.specs as lzk_tableau
+pub use Rattle.lzk_answers.specs as lzk_answers

@@ -1,0 +1,181 @@
+//! The answers.
+
+ghost use Rattle.std.specs.Prelude.{◌≡◌, ℕ, ◌+◌, ◌-◌, ◌*◌, ◌≤◌, List, length, take, drop};
+ghost use Rattle.lzk_poly.specs.Through.{values_of};
+ghost use Rattle.lzk_layout.specs.Sizes.{AreBounded, params_of, sent_counts};
+ghost use Rattle.lzk_sumcheck.specs.Script as sumcheck;
+ghost use Rattle.lzk_accept.specs.Challenges as accept;
+ghost use Rattle.lzk_accept.specs.Checks.{combined_row_of};
+ghost use Rattle.lzk_accept.specs.Factored.{HasRoomFor};
+ghost use Rattle.lzk_accept.specs.Kept.{AreFormsOf};
+ghost use Rattle.lzk_answers.specs.Answers.{low_degree_answer, linear_answer, quadratic_answer};
+ghost use Rattle.lzk_answers.specs.Coefficients.{AreFactored, AreListed};
+ghost use Rattle.lzk_answers.specs.Rows.{IsTableOf};
+ghost use Rattle.lzk_ligero.specs.Rooms.{coefficient_reach};
+
+use lzk_accept::{Challenges, Factored, Forms, combine_factored};
+use lzk_answers::{linear_by_factors_into, low_degree_into, quadratic_into};
+use lzk_circuit::Circuit;
+use lzk_field::Field;
+use lzk_layout::{Elements, Params};
+use lzk_poly::RowExtend;
+use lzk_sumcheck::Script;
+
+/// Sets the low degree answer. `table` has the values of the rows at all points. What `room` holds has no meaning.
+pub(crate) fn answer_low_degree<F: Field>(
+    params: &Params,
+    table: &[F],
+    u: &[F],
+    room: &mut Elements<F>,
+    answer: &mut Elements<F>,
+)
+    requires bounded { AreBounded params.now }
+    requires table { length table.now ≡ params.now.nrow * params.now.ncol }
+    requires u { length u.now ≡ params.now.nrow - 3 }
+    requires room { params.now.dblock ≤ length room.old }
+    requires answer { length answer.old ≡ params.now.block }
+    ensures room { length room.new ≡ length room.old }
+    ensures answer { length answer.new ≡ params.now.block }
+    ensures values { (rows : List (List F)) → length rows ≡ params.now.nrow → IsTableOf F.ops F.element params.now.ncol rows table.now →
+        answer.new ≡ values_of F.ops F.element params.now.block (low_degree_answer F.ops F.element params.now rows u.now) }
+{
+    low_degree_into(
+        params,
+        table,
+        params.ncol as usize,
+        u,
+        room.as_mut_slice(),
+        answer.as_mut_slice(),
+    );
+}
+
+// Copies the first 128 of these values, and those behind a row's elements.
+fn set_ends<F: Field>(params: &Params, all: &[F], head: &mut Elements<F>, tail: &mut Elements<F>)
+    requires bounded { AreBounded params.now }
+    requires all { length all.now ≡ params.now.dblock }
+    requires head { length head.old ≡ 128 }
+    requires tail { length tail.old ≡ params.now.dblock - params.now.block }
+    ensures head_length { length head.new ≡ 128 }
+    ensures tail_length { length tail.new ≡ params.now.dblock - params.now.block }
+    ensures head { head.new ≡ take 128 all.now }
+    ensures tail { tail.new ≡ drop params.now.block all.now }
+{
+    let (front, _) = all.split_at(128);
+    head.as_mut_slice().copy_from_slice(front);
+    let (_, back) = all.split_at(params.block as usize);
+    tail.as_mut_slice().copy_from_slice(back);
+}
+
+/// Sets the quadratic answer's first 128 values, and those behind the rows' elements. `values` is room for all of them.
+pub(crate) fn answer_quadratic<F: Field>(
+    params: &Params,
+    table: &[F],
+    v: &[F],
+    values: &mut Elements<F>,
+    head: &mut Elements<F>,
+    tail: &mut Elements<F>,
+)
+    requires bounded { AreBounded params.now }
+    requires table { length table.now ≡ params.now.nrow * params.now.ncol }
+    requires v { length v.now ≡ params.now.ntriple }
+    requires room { length values.old ≡ params.now.dblock }
+    requires head { length head.old ≡ 128 }
+    requires tail { length tail.old ≡ params.now.dblock - params.now.block }
+    ensures room { length values.new ≡ params.now.dblock }
+    ensures head_length { length head.new ≡ 128 }
+    ensures tail_length { length tail.new ≡ params.now.dblock - params.now.block }
+    ensures head { (rows : List (List F)) → length rows ≡ params.now.nrow → IsTableOf F.ops F.element params.now.ncol rows table.now →
+        head.new ≡ take 128 (values_of F.ops F.element params.now.dblock (quadratic_answer F.ops F.element params.now rows v.now)) }
+    ensures tail { (rows : List (List F)) → length rows ≡ params.now.nrow → IsTableOf F.ops F.element params.now.ncol rows table.now →
+        tail.new ≡ drop params.now.block (values_of F.ops F.element params.now.dblock (quadratic_answer F.ops F.element params.now rows v.now)) }
+{
+    quadratic_into(
+        params,
+        table,
+        params.ncol as usize,
+        v,
+        values.as_mut_slice(),
+    );
+    set_ends(params, values.as_slice(), head, tail);
+}
+
+// The linear answer by factors and coefficients that are set.
+fn answer_by_factors<F: Field, X: RowExtend<F>>(
+    params: &Params,
+    table: &[F],
+    factored: &Factored<F>,
+    extender: &X,
+    room: &mut Elements<F>,
+    answer: &mut Elements<F>,
+)
+    requires bounded { AreBounded params.now }
+    requires table { length table.now ≡ params.now.nrow * params.now.ncol }
+    requires rows { factored.now.rows ≤ params.now.nrow - 3 }
+    requires row_factors { length factored.now.row_factors ≡ 4 * factored.now.rows }
+    requires place_factors { length factored.now.place_factors ≡ 4 * params.now.wr }
+    requires coefficients { length factored.now.table ≡ (params.now.nrow - 3 - factored.now.rows) * params.now.wr }
+    requires reach { X.reach extender.now ≡ coefficient_reach params.now }
+    requires room { X.rooms extender.now + 2 * params.now.dblock ≤ length room.old }
+    requires answer { length answer.old ≡ params.now.dblock }
+    ensures room { length room.new ≡ length room.old }
+    ensures answer { length answer.new ≡ params.now.dblock }
+    ensures values { (rows : List (List F)) (lists : ℕ → List F) → length rows ≡ params.now.nrow → IsTableOf F.ops F.element params.now.ncol rows table.now →
+        AreFactored F.ops params.now factored.now.rows 4 factored.now.row_factors factored.now.place_factors lists →
+        AreListed F.ops params.now factored.now.rows factored.now.table lists →
+        answer.new ≡ values_of F.ops F.element params.now.dblock (linear_answer F.ops F.element params.now rows lists) }
+{
+    linear_by_factors_into(
+        params,
+        table,
+        params.ncol as usize,
+        factored.rows as usize,
+        factored.row_factors.as_slice(),
+        factored.place_factors.as_slice(),
+        factored.table.as_slice(),
+        extender,
+        room.as_mut_slice(),
+        answer.as_mut_slice(),
+    );
+}
+
+/// Sets the linear answer: the constraints are combined, and the rows by them. `room` is for the extender and for twice as
+/// many values as a product of rows has.
+pub(crate) fn answer_linear<F: Field, X: RowExtend<F>>(
+    circuit: &Circuit<F>,
+    params: &Params,
+    public: &[F],
+    script: &Script<F>,
+    messages: &[F],
+    challenges: &Challenges<F>,
+    table: &[F],
+    extender: &X,
+    forms: &mut Forms<F>,
+    factored: &mut Factored<F>,
+    room: &mut Elements<F>,
+    answer: &mut Elements<F>,
+)
+    requires params { params.now ≡ params_of circuit.now }
+    requires bounded { AreBounded params.now }
+    requires public { length public.now ≡ circuit.now.publics }
+    requires script { sumcheck.HasShape circuit.now script.now }
+    requires messages { length messages.now ≡ sent_counts circuit.now }
+    requires challenges { accept.HasShape params.now challenges.now }
+    requires table { length table.now ≡ params.now.nrow * params.now.ncol }
+    requires reach { X.reach extender.now ≡ coefficient_reach params.now }
+    requires forms { AreFormsOf F.ops circuit.now forms.old }
+    requires factored { HasRoomFor circuit.now factored.old }
+    requires room { X.rooms extender.now + 2 * params.now.dblock ≤ length room.old }
+    requires answer { length answer.old ≡ params.now.dblock }
+    ensures forms { AreFormsOf F.ops circuit.now forms.new }
+    ensures factored { HasRoomFor circuit.now factored.new }
+    ensures room { length room.new ≡ length room.old }
+    ensures answer { length answer.new ≡ params.now.dblock }
+    ensures values { (rows : List (List F)) → length rows ≡ params.now.nrow → IsTableOf F.ops F.element params.now.ncol rows table.now →
+        answer.new ≡ values_of F.ops F.element params.now.dblock
+        (linear_answer F.ops F.element params.now rows (combined_row_of F.ops F.element circuit.now public.now script.now messages.now challenges.now)) }
+{
+    combine_factored(
+        circuit, public, script, messages, challenges, forms, factored,
+    );
+    answer_by_factors(params, table, factored, extender, room, answer);
+}

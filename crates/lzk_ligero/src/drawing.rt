@@ -1,0 +1,109 @@
+//! What is written to the tape, and what the tape gives.
+
+ghost use Rattle.std.specs.Prelude.{◌≡◌, ◌≤◌, length};
+ghost use Rattle.lzk_field.specs.Coding.{coding};
+ghost use Rattle.lzk_merkle.specs.Nodes.{AreOpened};
+ghost use Rattle.lzk_circuit.specs.Valid.{HaveWidths};
+ghost use Rattle.lzk_layout.specs.Sizes.{AreBounded, params_of, sent_counts};
+ghost use Rattle.lzk_transcript.specs.Columns.{after_draws};
+ghost use Rattle.lzk_sumcheck.specs.Messages.{AreMessages};
+ghost use Rattle.lzk_sumcheck.specs.Opening.{opening};
+ghost use Rattle.lzk_sumcheck.specs.Room.{IsRoomOf};
+ghost use Rattle.lzk_sumcheck.specs.Script as sumcheck;
+ghost use Rattle.lzk_accept.specs.Challenges as spec;
+ghost use Rattle.lzk_accept.specs.Challenges.{challenge_count};
+
+use lzk_accept::{Challenges, draw_challenges};
+use lzk_circuit::{Circuit, Values};
+use lzk_field::Field;
+use lzk_layout::{Elements, Params, Proof};
+use lzk_sumcheck::{Rounds, Script, prove_layers};
+use lzk_transcript::Tape;
+use std::marker::Sync;
+use std::thread::Threads;
+
+/// The new tape with `lzk1`, the session, the circuit's id, the public inputs and the root written.
+#[tactic(auto, unfolding(lzk_sumcheck::specs::Opening::public_tape))]
+pub(crate) fn open_tape<F: Field>(
+    session: &[u8],
+    id: &[u8; 32],
+    public: &[F],
+    root: &[u8; 32],
+) -> Tape
+    ensures { result ≡ opening (coding F.element F.number_of F.BYTES F.size F.ID) session.now id.now public.now root.now }
+{
+    let mut tape = Tape::new();
+    tape.bytes(b"lzk1");
+    tape.bytes(session);
+    tape.bytes(id);
+    tape.array(public);
+    tape.bytes(root);
+    tape
+}
+
+/// Sends the sumchecks of all layers, and draws what comes behind them.
+pub(crate) fn send<R: Threads + Sync, F: Field>(
+    rt: &R,
+    circuit: &Circuit<F>,
+    params: &Params,
+    values: &Values<F>,
+    pads: &[F],
+    workers: usize,
+    tape: &mut Tape,
+    rounds: &mut Rounds<F>,
+    messages: &mut Elements<F>,
+    script: &mut Script<F>,
+    challenges: &mut Challenges<F>,
+)
+    requires params { params.now ≡ params_of circuit.now }
+    requires values { HaveWidths circuit.now values.now }
+    requires pads { length pads.now ≡ sent_counts circuit.now }
+    requires some_workers { 1 ≤ workers }
+    requires few_workers { workers ≤ 64 }
+    requires room { IsRoomOf circuit.now rounds.old }
+    requires messages { length messages.old ≡ sent_counts circuit.now }
+    requires script { sumcheck.HasShape circuit.now script.old }
+    requires challenges { spec.HasShape params.now challenges.old }
+    ensures messages { let e = coding F.element F.number_of F.BYTES F.size F.ID in AreMessages F.ops e circuit.now values.now pads.now tape.old messages.new }
+    ensures script { let e = coding F.element F.number_of F.BYTES F.size F.ID in script.new ≡ sumcheck.script F.ops e messages.new circuit.now tape.old }
+    ensures challenges { let e = coding F.element F.number_of F.BYTES F.size F.ID in
+        challenges.new ≡ spec.challenges e params.now (sumcheck.after_script F.ops e messages.new circuit.now tape.old) }
+    ensures tape { let e = coding F.element F.number_of F.BYTES F.size F.ID in
+        tape.new ≡ after_draws (challenge_count params.now) (sumcheck.after_script F.ops e messages.new circuit.now tape.old) }
+    ensures script_shape { sumcheck.HasShape circuit.now script.new }
+    ensures challenges_shape { spec.HasShape params.now challenges.new }
+    ensures room { IsRoomOf circuit.now rounds.new }
+{
+    prove_layers(
+        rt,
+        circuit,
+        values,
+        pads,
+        tape,
+        workers,
+        rounds,
+        messages.as_mut_slice(),
+        script,
+    );
+    draw_challenges(params, tape, challenges);
+}
+
+/// Writes the answers, and draws the columns that are opened.
+pub(crate) fn draw_opened<F: Field>(
+    params: &Params,
+    tape: &mut Tape,
+    proof: &Proof<F>,
+    columns: &mut [u32],
+)
+    requires bounded { AreBounded params.now }
+    requires room { length columns.old ≡ 128 }
+    ensures columns { columns.new ≡ spec.columns (coding F.element F.number_of F.BYTES F.size F.ID) params.now proof.now tape.old }
+    ensures opened { AreOpened params.now.mcol columns.new }
+    ensures room { length columns.new ≡ 128 }
+{
+    tape.array(proof.ldt.as_slice());
+    tape.array(proof.dot.as_slice());
+    tape.array(proof.quad_head.as_slice());
+    tape.array(proof.quad_tail.as_slice());
+    tape.draw_columns(params.mcol, columns);
+}

@@ -1,0 +1,330 @@
+//! The prover.
+
+ghost use Rattle.std.specs.Prelude.{◌≡◌, ◌≤◌, ◌<◌, length, take, IfOk, MatchOption, MatchResult, Some, None};
+ghost use Rattle.std.specs.Borrow.{sem};
+ghost use Rattle.lzk_field.specs.Coding.{coding};
+ghost use Rattle.lzk_field.specs.Sums.{entry};
+ghost use Rattle.lzk_circuit.specs.Wires.{all_values, wires_of, inputs_of, list_at, IsFirstNonzero};
+ghost use Rattle.lzk_honest.specs.Proving.{IsProofFile, words_of};
+ghost use Rattle.lzk_layout.specs.Sizes.{AreBounded, AreParams, params_of};
+ghost use Rattle.lzk_ligero.specs.Parts.{AreExtendersFor, IsCommittedFor, IsAnsweringFor, ArePartsFor};
+
+use crate::proving::write_proof;
+use crate::room::{Room, Sent, file_room};
+use lzk_circuit::{Circuit, Values};
+use lzk_field::{Field, Gate, Words};
+use lzk_layout::Params;
+use lzk_merkle::Tree;
+use lzk_poly::RowExtend;
+use lzk_tableau::Tableau;
+use std::alloc::{AllocError, Global};
+use std::marker::{Model, Sync};
+use std::thread::Threads;
+
+/// The first output that is not 0, and its value.
+#[derive(Clone, Copy, Debug, PartialEq, Eq)]
+pub struct Unsatisfied<F> {
+    /// The output's number.
+    pub output: u32,
+    /// Its value.
+    pub value: F,
+}
+
+// What extends rows, rows of products, and rows of coefficients.
+#[derive(Drop)]
+struct Extenders<X: Drop> {
+    short: X,
+    long: X,
+    coefficients: X,
+}
+
+// Extenders for these parameters.
+fn make_extenders<F: Field, X: RowExtend<F>>(
+    alloc: Global,
+    params: &Params,
+) -> Result<Extenders<X>, AllocError>
+    requires { AreBounded params.now }
+    ensures { IfOk result (AreExtendersFor X.reach params.now) }
+{
+    Ok(Extenders {
+        short: X::make(alloc, params.block, params.ncol)?,
+        long: X::make(alloc, params.dblock, params.ncol)?,
+        coefficients: X::make(alloc, params.block, params.dblock)?,
+    })
+}
+
+// What is committed to.
+#[derive(Drop)]
+struct Committed<F: Field> {
+    tableau: Tableau<F>,
+    tree: Tree,
+}
+
+impl<F: Field> Committed<F> {
+    // With room for extensions that take so many elements.
+    fn new(
+        alloc: Global,
+        circuit: &Circuit<F>,
+        params: &Params,
+        room: usize,
+    ) -> Result<Committed<F>, AllocError>
+        requires { AreBounded params.now }
+        ensures { IfOk result (IsCommittedFor circuit.now params.now room) }
+    {
+        Ok(Committed {
+            tableau: Tableau::new(alloc, circuit, room)?,
+            tree: Tree::new(alloc, params.mcol)?,
+        })
+    }
+}
+
+// What the tape and the answers need, and the proof with its file.
+#[derive(Drop)]
+struct Answering<F: Field> {
+    room: Room<F>,
+    sent: Sent<F>,
+    bytes: Vec<u8>,
+}
+
+impl<F: Field> Answering<F> {
+    // Where an extension of a row of coefficients takes so many elements.
+    fn new(
+        alloc: Global,
+        circuit: &Circuit<F>,
+        params: &Params,
+        room: usize,
+    ) -> Result<Answering<F>, AllocError>
+        requires params { params.now ≡ params_of circuit.now }
+        requires valid { AreParams F.ops params.now }
+        requires bounded { AreBounded params.now }
+        ensures { IfOk result (IsAnsweringFor F.ops (coding F.element F.number_of F.BYTES F.size F.ID) circuit.now params.now room) }
+    {
+        Ok(Answering {
+            room: Room::new(alloc, circuit, params, room)?,
+            sent: Sent::new(alloc, circuit, params)?,
+            bytes: file_room::<F>(alloc, params)?,
+        })
+    }
+}
+
+// What a prover holds beside its circuit.
+#[derive(Drop)]
+struct Parts<F: Field, X: RowExtend<F>> {
+    params: Params,
+    values: Values<F>,
+    extenders: Extenders<X>,
+    committed: Committed<F>,
+    answering: Answering<F>,
+}
+
+// The larger of two sizes.
+fn larger(a: usize, b: usize) -> usize
+    ensures first { a ≤ result }
+    ensures second { b ≤ result }
+{
+    a.max(b)
+}
+
+impl<F: Field, X: RowExtend<F>> Parts<F, X> {
+    fn new(alloc: Global, circuit: &Circuit<F>) -> Result<Parts<F, X>, AllocError>
+        ensures { IfOk result (λ parts. ArePartsFor F.ops (coding F.element F.number_of F.BYTES F.size F.ID) X.reach X.rooms circuit.now parts) }
+    {
+        let params = Params::of(circuit);
+        let extenders = make_extenders::<F, X>(alloc, &params)?;
+        let room = larger(extenders.short.room_len(), extenders.long.room_len());
+        let coefficient_room = extenders.coefficients.room_len();
+        Ok(Parts {
+            params,
+            values: Values::new(alloc, circuit)?,
+            extenders,
+            committed: Committed::new(alloc, circuit, &params, room)?,
+            answering: Answering::new(alloc, circuit, &params, coefficient_room)?,
+        })
+    }
+
+    // Sets the wires to their values on these inputs. Gives the number of the first output that is not 0.
+    fn evaluate(&mut self, circuit: &Circuit<F>, public: &[F], private: &[F]) -> Option<u32>
+        requires public { length public.now ≡ circuit.now.publics }
+        requires private { length private.now ≡ circuit.now.privates }
+        requires parts { ArePartsFor F.ops (coding F.element F.number_of F.BYTES F.size F.ID) X.reach X.rooms circuit.now self.old }
+        ensures parts { ArePartsFor F.ops (coding F.element F.number_of F.BYTES F.size F.ID) X.reach X.rooms circuit.now self.new }
+        ensures values { self.new.values ≡ all_values F.ops circuit.now.layers (inputs_of F.ops public.now private.now) }
+        ensures outputs { let outputs = wires_of F.ops circuit.now.layers (inputs_of F.ops public.now private.now) in
+            MatchOption result (IsFirstNonzero F.ops outputs None) (λ k. IsFirstNonzero F.ops outputs (Some (k, entry F.ops outputs k))) }
+    {
+        circuit.eval(public, private, &mut self.values);
+        match self.values.first_nonzero() {
+            None => None,
+            Some((output, _)) => Some(output),
+        }
+    }
+
+    // Makes the proof for wires of these values, and writes its file in front. How many bytes it has.
+    fn write<R: Threads + Sync, W: Words, G: Gate>(
+        &mut self,
+        rt: &R,
+        circuit: &Circuit<F>,
+        session: &[u8],
+        public: &[F],
+        private: &[F],
+        words: &W,
+        workers: usize,
+        gate: &G,
+    ) -> usize
+        requires public { length public.now ≡ circuit.now.publics }
+        requires private { length private.now ≡ circuit.now.privates }
+        requires some { 1 ≤ workers }
+        requires most { workers ≤ 64 }
+        requires parts { ArePartsFor F.ops (coding F.element F.number_of F.BYTES F.size F.ID) X.reach X.rooms circuit.now self.old }
+        requires values { self.old.values ≡ all_values F.ops circuit.now.layers (inputs_of F.ops public.now private.now) }
+        ensures parts { ArePartsFor F.ops (coding F.element F.number_of F.BYTES F.size F.ID) X.reach X.rooms circuit.now self.new }
+        ensures inside { result ≤ length self.new.answering.bytes.items }
+        ensures file { IsProofFile F.ops (coding F.element F.number_of F.BYTES F.size F.ID) circuit.now session.now public.now private.now (words_of (W.at words.now)) (take result self.new.answering.bytes.items) }
+    {
+        write_proof(
+            rt,
+            circuit,
+            &self.params,
+            &self.values,
+            session,
+            public,
+            private,
+            words,
+            workers,
+            gate,
+            &self.extenders.short,
+            &self.extenders.long,
+            &self.extenders.coefficients,
+            &mut self.committed.tableau,
+            &mut self.committed.tree,
+            &mut self.answering.room,
+            &mut self.answering.sent,
+            &mut self.answering.bytes,
+        )
+    }
+
+    // An output with its value.
+    fn fault(&self, output: u32) -> Unsatisfied<&F>
+        requires { output < length (list_at self.now.values 0) }
+        ensures output { result.output ≡ output }
+        ensures value { result.value.now ≡ entry F.ops (list_at self.now.values 0) output }
+    {
+        Unsatisfied {
+            output,
+            value: &self.values.layer(0)[output as usize],
+        }
+    }
+}
+
+/// A prover over one circuit, which extends rows by X.
+///
+/// All memory is taken by `new`, and a prover serves any number of inputs.
+#[derive(Drop)]
+pub struct WorksOver<'c, F: Field, X: RowExtend<F>> {
+    circuit: &'c Circuit<F>,
+    parts: Parts<F, X>,
+}
+
+impl<'c, F: Field, X: RowExtend<F>> Model for WorksOver<'c, F, X> {
+    ghost use Rattle.lzk_field.specs.Coding.{coding};
+    ghost use Rattle.lzk_circuit.specs.Valid.{Wiring};
+    ghost use Rattle.lzk_ligero.specs.Parts.{ArePartsFor};
+
+    ghost Value = { Wiring F };
+
+    ghost view = { λ w. w.circuit.now };
+
+    ghost invariant = { λ w. ArePartsFor F.ops (coding F.element F.number_of F.BYTES F.size F.ID) X.reach X.rooms w.circuit.now w.parts };
+}
+
+impl<'c, F: Field, X: RowExtend<F>> WorksOver<'c, F, X> {
+    ghost use Rattle.lzk_ligero.specs.Lending.{StaysForCircuit};
+
+    /// A prover over this circuit.
+    ///
+    /// # Errors
+    ///
+    /// `AllocError` where the memory for wires, rows, tree, sumchecks, answers and proof is not given.
+    pub fn new(alloc: Global, circuit: &'c Circuit<F>) -> Result<WorksOver<'c, F, X>, AllocError>
+        ensures { IfOk result (λ works. works ≡ circuit.now) }
+    {
+        let parts = Parts::new(alloc, circuit)?;
+        Ok(WorksOver { circuit, parts })
+    }
+
+    /// The bytes of the proof's file, whether the inputs satisfy the circuit or not. It is there for tests, and does what
+    /// `prove` does for inputs that satisfy it. No memory is taken.
+    pub fn attempt<R: Threads + Sync, W: Words, G: Gate>(
+        &mut self,
+        rt: &R,
+        session: &[u8],
+        public: &[F],
+        private: &[F],
+        words: &W,
+        workers: usize,
+        gate: &G,
+    ) -> &[u8]
+        requires session { length session.now ≤ 64 }
+        requires public { length public.now ≡ self.old.publics }
+        requires private { length private.now ≡ self.old.privates }
+        requires some { 1 ≤ workers }
+        requires most { workers ≤ 64 }
+        ensures* same { sem 𝓛 (StaysForCircuit F.row X.row F.Field X.RowExtend self.entry) }
+        ensures file { IsProofFile F.ops (coding F.element F.number_of F.BYTES F.size F.ID) self.old session.now public.now private.now (words_of (W.at words.now)) result.now }
+    {
+        self.parts.evaluate(self.circuit, public, private);
+        let len = self.parts.write(
+            rt,
+            self.circuit,
+            session,
+            public,
+            private,
+            words,
+            workers,
+            gate,
+        );
+        &self.parts.answering.bytes[..len]
+    }
+
+    /// The bytes of the proof's file, or the first output that is not 0. No memory is taken.
+    ///
+    /// # Errors
+    ///
+    /// `Unsatisfied` where an output is not 0. The prover may be used again.
+    pub fn prove<R: Threads + Sync, W: Words, G: Gate>(
+        &mut self,
+        rt: &R,
+        session: &[u8],
+        public: &[F],
+        private: &[F],
+        words: &W,
+        workers: usize,
+        gate: &G,
+    ) -> Result<&[u8], Unsatisfied<&F>>
+        requires session { length session.now ≤ 64 }
+        requires public { length public.now ≡ self.old.publics }
+        requires private { length private.now ≡ self.old.privates }
+        requires some { 1 ≤ workers }
+        requires most { workers ≤ 64 }
+        ensures* same { sem 𝓛 (StaysForCircuit F.row X.row F.Field X.RowExtend self.entry) }
+        ensures proved { MatchResult result
+            (λ bytes. IsFirstNonzero F.ops (wires_of F.ops self.old.layers (inputs_of F.ops public.now private.now)) None
+            × IsProofFile F.ops (coding F.element F.number_of F.BYTES F.size F.ID) self.old session.now public.now private.now (words_of (W.at words.now)) bytes.now)
+            (λ fault. IsFirstNonzero F.ops (wires_of F.ops self.old.layers (inputs_of F.ops public.now private.now)) (Some (fault.output, fault.value.now))) }
+    {
+        if let Some(output) = self.parts.evaluate(self.circuit, public, private) {
+            return Err(self.parts.fault(output));
+        }
+        let len = self.parts.write(
+            rt,
+            self.circuit,
+            session,
+            public,
+            private,
+            words,
+            workers,
+            gate,
+        );
+        Ok(&self.parts.answering.bytes[..len])
+    }
+}

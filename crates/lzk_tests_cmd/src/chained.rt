@@ -1,0 +1,52 @@
+//! Two runs in a row, by their contracts alone.
+
+ghost use Rattle.std.specs.Prelude.{◌≡◌, ◌⊎◌, IsTrue};
+ghost use Rattle.lzk_outside.specs.Memory.{files_of, settings_of, none_fails, sink_settings_of, no_write_fails};
+ghost use Rattle.lzk_cmd.specs.Chains.{AreChained};
+ghost use Rattle.lzk_cmd.specs.Sights.{texts};
+
+use crate::compiling::{CREDENTIAL, shelf_of};
+use crate::runs::words_of;
+use lzk_cmd::run;
+use lzk_field::Open;
+use lzk_outside::{MemShelf, MemSink};
+use std::alloc::Global;
+use std::marker::Sync;
+use std::test::Fail;
+use std::thread::Threads;
+
+// Compiles a source, and evaluates its circuit. Where the source and the inputs are ready and no call of
+// shelf and sink is listed to fail, both runs are done, or there is no memory.
+fn compile_then_eval<R: Threads + Sync>(
+    rt: &R,
+    alloc: Global,
+    compile: &[String],
+    eval: &[String],
+    shelf: &mut MemShelf,
+    out: &mut MemSink,
+) -> u8
+    ensures { AreChained (texts compile.now) (texts eval.now) (files_of shelf.old) →
+        IsTrue (none_fails (settings_of shelf.old)) → IsTrue (no_write_fails (sink_settings_of out.old)) → (result ≡ 0) ⊎ ((result ≡ 1) ⊎ (result ≡ 6)) }
+{
+    let first = run(rt, alloc, compile, shelf, out, &Open);
+    if first != 0 {
+        return first;
+    }
+    run(rt, alloc, eval, shelf, out, &Open)
+}
+
+#[test]
+fn a_source_is_compiled_and_evaluated(rt: HostRuntime) -> Result<(), Fail> {
+    let alloc = rt.alloc();
+    let mut shelf = shelf_of(alloc, CREDENTIAL.as_bytes(), Vec::new(alloc))?;
+    shelf.add("year", b"2024\n")?;
+    shelf.add("birth", b"2000 0 1 1 0 0 0 0\n")?;
+    let mut out = MemSink::new(alloc, Vec::new(alloc), 7);
+    let compile = words_of(alloc, "compile s c")?;
+    let eval = words_of(alloc, "eval c year birth")?;
+    assert_eq!(rt;
+        compile_then_eval(&rt, alloc, &compile, &eval, &mut shelf, &mut out),
+        0
+    );
+    Ok(())
+}

@@ -1,0 +1,17 @@
+use Rattle.std.proofs.Common.{◌≡◌, ◌+◌, ◌-◌, ◌<◌, ap, ◌∙◌, arith, length}
+use Rattle.std.proofs.lemmas.List.{get_or_default}
+use Rattle.lzk_poly.specs.Weights.{passed}
+use Rattle.lzk_verify.proofs.extending.set_factors.Goals as goal
+
+pub returns-clause-extends : goal.returns-clause-extends
+returns-clause-extends g c =
+    let f = g.F.Field in
+    let o = f.ops in
+    let count = c.args.weights.now.count in
+    let products = c.passed.result.now in
+    let all = c.passed.ensures in
+    let at = c.args.point - c.count.result in
+    let there : count + at ≡ c.args.point = omega (arith, c.count.ensures.value) in
+    let within : at < length products = omega (arith, all.0) in
+    c.fill_factors.ensures.extends c.index-passed-at.result
+    (c.index-passed-at.is ∙ get_or_default products at c.index-passed-at.result o.zero within ∙ all.1 at within ∙ ap (λ i. passed o f.element count (f.element i)) there)
