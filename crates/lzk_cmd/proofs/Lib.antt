@@ -15,7 +15,6 @@ pub mod Proves
 pub mod Ready
 pub mod Sessions
 pub mod Sights
-pub mod SomeVerdict
 pub mod Steps
 pub mod Terms
 pub mod Total
