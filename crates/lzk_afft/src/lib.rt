@@ -30,6 +30,3 @@ mod transform;
 mod twiddles;
 
 pub use transform::Transform;
-
-#[cfg(test)]
-mod tests;

@@ -24,8 +24,3 @@ pub use any::AnyCircuit;
 pub use decoding::decode;
 pub use encoding::{encode, id};
 pub use fault::{ByteFault, ByteKind, DecodeError};
-
-#[cfg(test)]
-mod tests;
-#[cfg(test)]
-mod vectors;

@@ -24,6 +24,3 @@ pub use circuit::demo_circuit;
 pub use inputs::{DemoInputs, demo_inputs};
 pub use laws::demo_laws;
 pub use source::demo_source;
-
-#[cfg(test)]
-mod tests;

@@ -32,12 +32,3 @@ pub use builder::Builder;
 pub use compiler::compile;
 pub use fault::{LevelError, LevelFault};
 pub use node::{Gate, Node, Parts};
-
-#[cfg(test)]
-mod compiler_tests;
-#[cfg(test)]
-mod compiler_vectors;
-#[cfg(test)]
-mod tests;
-#[cfg(test)]
-mod value_tests;

@@ -32,8 +32,6 @@ mod plan;
 mod transform;
 
 pub use extender::NttExtender;
+pub use gold::root_of;
 pub use laws::convolution_theorem;
 pub use transform::Transform;
-
-#[cfg(test)]
-mod tests;

@@ -2,11 +2,11 @@
 
 ghost use Rattle.std.specs.Prelude.{◌≤◌};
 
-use super::*;
 use lzk_circuit::Circuit;
 use lzk_field::Field;
 use lzk_gf128::Gf128;
 use lzk_goldilocks::Gold;
+use lzk_level::{Builder, LevelError, LevelFault, Node};
 use std::alloc::Global;
 use std::test::Fail;
 

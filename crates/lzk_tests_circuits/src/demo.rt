@@ -1,8 +1,8 @@
 //! The demo's sources, inputs and circuits, from the smallest to the largest.
 
-use crate::{demo_circuit, demo_inputs, demo_source};
 use lzk_circbytes::{encode, id};
 use lzk_circuit::{Circuit, Values};
+use lzk_demo::{demo_circuit, demo_inputs, demo_source};
 use lzk_expr::print;
 use lzk_field::Field;
 use lzk_goldilocks::Gold;

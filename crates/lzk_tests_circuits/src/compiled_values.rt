@@ -4,13 +4,13 @@ ghost use Rattle.std.specs.Prelude.{◌≡◌};
 ghost use Rattle.lzk_circuit.specs.Valid.{HaveWidths};
 ghost use Rattle.lzk_expr.specs.Sources.{field_size};
 
-use crate::compile;
 use lzk_circbytes::AnyCircuit;
 use lzk_circuit::{Circuit, Values};
 use lzk_expr::{FieldId, Source, parse};
 use lzk_field::Field;
 use lzk_gf128::Gf128;
 use lzk_goldilocks::Gold;
+use lzk_level::compile;
 use std::alloc::{AllocError, Global};
 use std::test::Fail;
 

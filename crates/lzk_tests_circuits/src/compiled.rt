@@ -1,9 +1,9 @@
 //! Circuits of sources against those of an independent implementation, and the limits.
 
-use crate::compiler_vectors::{CIRCUITS, DOUBLED};
-use crate::{LevelError, LevelFault, compile};
+use crate::compiled_vectors::{CIRCUITS, DOUBLED};
 use lzk_circbytes::{AnyCircuit, encode};
 use lzk_expr::parse;
+use lzk_level::{LevelError, LevelFault, compile};
 use std::alloc::{AllocError, Global};
 use std::test::Fail;
 

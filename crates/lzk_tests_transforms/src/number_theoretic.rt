@@ -2,10 +2,9 @@
 
 ghost use Rattle.std.specs.Prelude.{◌≡◌, ◌≤◌, ◌^◌, length};
 
-use super::*;
-use crate::gold::root_of;
 use lzk_field::{Field, Seeded, Words};
 use lzk_goldilocks::Gold;
+use lzk_ntt::{NttExtender, Transform, root_of};
 use lzk_poly::{Extender, RowExtend};
 use std::alloc::{AllocError, Global};
 use std::test::Fail;

@@ -1,7 +1,9 @@
 //! Worked files, damaged files, and files with one byte changed.
 
-use super::*;
-use crate::vectors::{DEEP, DEEP_CHANGES, SQUARE, SQUARE_CHANGES, SQUARE_GF, WIDE, WIDE_CHANGES};
+use crate::file_vectors::{
+    DEEP, DEEP_CHANGES, SQUARE, SQUARE_CHANGES, SQUARE_GF, WIDE, WIDE_CHANGES,
+};
+use lzk_circbytes::{AnyCircuit, ByteFault, ByteKind, DecodeError, decode, encode, id};
 use lzk_circuit::Circuit;
 use lzk_field::Field;
 use std::alloc::{AllocError, Global};

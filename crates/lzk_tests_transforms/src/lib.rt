@@ -1,0 +1,9 @@
+//! Tests of `lzk_ntt` and `lzk_afft`, beside lzk_poly's extender and rows computed elsewhere.
+//!
+//! They stand above what they test, so that those crates are proved once and not again with their tests.
+#![tactic(auto)]
+
+#[cfg(test)]
+mod additive;
+#[cfg(test)]
+mod number_theoretic;
