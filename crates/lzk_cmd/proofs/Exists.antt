@@ -10,8 +10,9 @@ use Rattle.lzk_circbytes.proofs.Sizes.{files_fit}
 use Rattle.lzk_circuit.specs.Valid.{Wiring, IsValid}
 use Rattle.lzk_circuit.specs.Wires.{wires_of, inputs_of, IsFirstNonzero}
 use Rattle.lzk_expr.specs.Trees.{SourceTree}
-use Rattle.lzk_expr.specs.Sources.{TextReads}
+use Rattle.lzk_expr.specs.Sources.{TextReads, IsWellFormed}
 use Rattle.lzk_expr.specs.declared.source_fault.SourceFault.{SourceFault}
+use Rattle.lzk_expr.proofs.EveryText.{some_reading}
 use Rattle.lzk_field.specs.Coding.{Coding}
 use Rattle.lzk_field.specs.Ring.{Ops, Laws}
 use Rattle.lzk_field.specs.Words.{seeded_word}
@@ -20,17 +21,18 @@ use Rattle.lzk_goldilocks.specs.Elements as gold
 use Rattle.lzk_gf128.specs.Elements as gf
 use Rattle.lzk_level.specs.Compiled.{source_limit}
 use Rattle.lzk_level.specs.declared.fault.LevelFault.{LevelFault}
+use Rattle.lzk_level.proofs.SomeCircuits.{some_circuit}
 use Rattle.lzk_honest.specs.Proving.{HaveCounts, SomeFile, FilesFit, words_of}
 use Rattle.lzk_outside.specs.Outside.{Files}
 use Rattle.lzk_verify.proofs.SomeVerdict.{some_verdict}
-use Rattle.lzk_cmd.specs.Compiled.{CompileRun, CompileTree, PutsCompiled, compiled_text}
+use Rattle.lzk_cmd.specs.Compiled.{Compiled, CompileRun, CompileTree, PutsCompiled, compiled_text}
 use Rattle.lzk_cmd.specs.Decoded.{circuit_files, number_files, source_files, proof_files, level_refused, text_limit, proof_limit}
 use Rattle.lzk_cmd.specs.Ends.{End, Stop, AtFile, stops_at, says, missing_file, refused_words, puts}
 use Rattle.lzk_cmd.specs.Formats.{Format, HasFile, AtBytes, At}
 use Rattle.lzk_cmd.specs.Lines.{larger_line, reading_line, proved_line}
 use Rattle.lzk_cmd.specs.Proved.{PutsProof, Proves, ProveOver, ProveAny, ProveRun, nonzero_end, seed_of}
 use Rattle.lzk_cmd.specs.Run.{Evaluated, EvalOver, EvalAny, EvalRun, ShowRun, CommandRun, verdict, output_lines, shown_any}
-use Rattle.lzk_cmd.specs.SomeEnd.{AreBytes, HasCircuit, CanCompile, CanRun, SomeEnd}
+use Rattle.lzk_cmd.specs.SomeEnd.{AreBytes, SomeEnd}
 use Rattle.lzk_cmd.specs.Verified.{Judged, VerifyOver, VerifyAny, VerifyRun, session_of, verdict_end, gold_coding, gf_coding}
 use Rattle.lzk_cmd.specs.Words.{Command, Eval, Compile, Show, Prove, Verify, command_of}
 use Rattle.lzk_cmd.proofs.Total.{circuits_total, numbers_total}
@@ -159,35 +161,38 @@ module _ (have : HaveFiles) (files : Files) (stop : Stop) where
   circuits_there : AreBytes files → (name bytes : List ℕ) → HasFile (files name) circuit_files.limit bytes → ((c : AnyCircuit) × circuit_files.means bytes c) ⊎ ((fault : _) × circuit_files.breaks bytes fault)
   circuits_there good name bytes has = circuits_total bytes (good name bytes has.there)
 
-  some_tree : (source circuit : List ℕ) (s : SourceTree) → (source_limit s ≡ None → HasCircuit s) → (end : End) × CompileTree source circuit s stop end
-  some_tree source circuit s made = go (source_limit s) made
+  some_tree : (source circuit : List ℕ) (s : SourceTree) → IsWellFormed s → (end : End) × CompileTree source circuit s stop end
+  some_tree source circuit s formed = go (source_limit s) refl
     where
-      go : (limit : Option LevelFault) → (limit ≡ None → HasCircuit s) → (end : End) × MatchOption limit (PutsCompiled s circuit stop end) (λ fault. end ≡ level_refused source fault)
-      go None made = let (c, bytes, is, file) = made refl in (puts stop circuit bytes (compiled_text circuit c (length bytes)), (c, bytes, is, file, files_fit c bytes file, refl))
-      go (Some fault) made = (level_refused source fault, refl)
+      go : (limit : Option LevelFault) → source_limit s ≡ limit → (end : End) × MatchOption limit (PutsCompiled s circuit stop end) (λ fault. end ≡ level_refused source fault)
+      go None kept =
+          let (c, bytes, is, file) = some_circuit s formed kept in
+          let compiled : Compiled s c = record { field_is = is.field_is; publics = is.publics; privates = is.privates; layers = is.layers; outputs = is.outputs; reduced = is.reduced } in
+          (puts stop circuit bytes (compiled_text circuit c (length bytes)), (c, bytes, compiled, file, files_fit c bytes file, refl))
+      go (Some fault) passed = (level_refused source fault, refl)
 
-  some_compile : (source circuit : List ℕ) → ((text : List ℕ) → HasFile (files source) text_limit text → CanCompile text) → (end : End) × CompileRun source circuit files stop end
+  some_compile : (source circuit : List ℕ) → (end : End) × CompileRun source circuit files stop end
   unfolding CompileRun
-  some_compile source circuit can = some_file files stop 0 source text_limit (λ end text. AtBytes source_files source text end (λ s. CompileTree source circuit s stop end)) (λ text has. let c = can text has in go text c.0 c.1 c.2)
+  some_compile source circuit =
+      some_file files stop 0 source text_limit (λ end text. AtBytes source_files source text end (λ s. CompileTree source circuit s stop end)) (λ text has. let (read, reads) = some_reading text in go text has read reads)
     where
-      go : (text : List ℕ) (read : Result SourceTree SourceFault) → TextReads text read → ((s : SourceTree) → read ≡ Ok s → source_limit s ≡ None → HasCircuit s)
-          → (end : End) × AtBytes source_files source text end (λ s. CompileTree source circuit s stop end)
-      go text (Ok s) is made = let behind = some_tree source circuit s (made s refl) in (behind.0, inl (s, is, behind.1))
-      go text (Err fault) is made = (source_files.refused source fault, inr (fault, is, refl))
+      go : (text : List ℕ) → HasFile (files source) text_limit text → (read : Result SourceTree SourceFault) → TextReads text read → (end : End) × AtBytes source_files source text end (λ s. CompileTree source circuit s stop end)
+      go text has (Ok s) reads = let behind = some_tree source circuit s (record { text = text; short = has.fits; reads = reads }) in (behind.0, inl (s, reads, behind.1))
+      go text has (Err fault) reads = (source_files.refused source fault, inr (fault, reads, refl))
 
-  some_command : (command : Command) → AreBytes files → CanRun (Some command) files → (end : End) × CommandRun command files stop end
+  some_command : (command : Command) → AreBytes files → (end : End) × CommandRun command files stop end
   unfolding EvalRun ShowRun ProveRun VerifyRun
-  some_command (Eval circuit public private) good can = some_at files stop 0 circuit circuit_files (circuits_there good circuit) _ (λ c. some_eval c public private files stop)
-  some_command (Compile source circuit) good can = some_compile source circuit can
-  some_command (Show circuit) good can = some_at files stop 0 circuit circuit_files (circuits_there good circuit) _ (λ c. (says 0 (shown_any c), refl))
-  some_command (Prove circuit public private proof seed session) good can =
+  some_command (Eval circuit public private) good = some_at files stop 0 circuit circuit_files (circuits_there good circuit) _ (λ c. some_eval c public private files stop)
+  some_command (Compile source circuit) good = some_compile source circuit
+  some_command (Show circuit) good = some_at files stop 0 circuit circuit_files (circuits_there good circuit) _ (λ c. (says 0 (shown_any c), refl))
+  some_command (Prove circuit public private proof seed session) good =
       some_with files stop 0 circuit circuit_files (circuits_there good circuit) _ (λ bytes c means. some_prove have bytes c means public private proof (session_of session) (seed_of seed) files stop)
-  some_command (Verify circuit public proof session) good can =
+  some_command (Verify circuit public proof session) good =
       some_at files stop 0 circuit circuit_files (circuits_there good circuit) _ (λ c. some_verify c public proof (session_of session) files stop good)
 
 pub some_end : HaveFiles → SomeEnd
-some_end have words files stop good can = go (command_of words) can
+some_end have words files stop good = go (command_of words)
   where
-    go : (command : Option Command) → CanRun command files → (end : End) × MatchOption command (end ≡ refused_words) (λ c. CommandRun c files stop end)
-    go None can = (refused_words, refl)
-    go (Some command) can = some_command have files stop command good can
+    go : (command : Option Command) → (end : End) × MatchOption command (end ≡ refused_words) (λ c. CommandRun c files stop end)
+    go None = (refused_words, refl)
+    go (Some command) = some_command have files stop command good

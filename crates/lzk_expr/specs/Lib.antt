@@ -15,4 +15,5 @@ pub mod Printing
 pub mod Built
 pub mod NameLists
 pub mod Readers
+pub mod SomeReading
 pub use Rattle.lzk_field.specs

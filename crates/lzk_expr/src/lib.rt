@@ -34,6 +34,7 @@ mod rules;
 mod source;
 mod source_fault;
 mod sums;
+mod theorems;
 mod tokens;
 mod words;
 
@@ -44,3 +45,4 @@ pub use parsing::parse;
 pub use printing::print;
 pub use source::Source;
 pub use source_fault::{SourceError, SourceFault, SourceKind};
+pub use theorems::source_laws;

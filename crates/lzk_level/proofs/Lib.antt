@@ -15,3 +15,8 @@ pub mod CompiledLaws
 pub mod FormedSizes
 pub mod FormedLaws
 pub mod FinishLaws
+pub mod SomeGateRow
+pub mod SomeLevelRows
+pub mod MadeGates
+pub mod SomeTower
+pub mod SomeCircuits

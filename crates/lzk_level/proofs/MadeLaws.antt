@@ -31,7 +31,7 @@ and-cases false c P e h k = h refl
 abbrev pub IsSomeNode : Option ℕ → Type 0
 IsSomeNode before = (k : ℕ) × (before ≡ Some k)
 
-some-there : (n : ℕ) (before : Option ℕ) → IsSomeNode before → IsNodeOrNone n before → IsNode n (unwrap_or before 0)
+pub some-there : (n : ℕ) (before : Option ℕ) → IsSomeNode before → IsNodeOrNone n before → IsNode n (unwrap_or before 0)
 some-there n (Some k) s h = h
 some-there n None s h = absurd cc
 

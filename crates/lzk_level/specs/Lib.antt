@@ -5,4 +5,5 @@ pub mod Levels
 pub mod Compilable
 pub mod Compiling
 pub mod Compiled
+pub mod SomeCircuit
 pub use Rattle.lzk_field.specs

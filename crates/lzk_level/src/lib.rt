@@ -27,8 +27,10 @@ mod making;
 mod measure;
 mod node;
 mod stack;
+mod theorems;
 
 pub use builder::Builder;
 pub use compiler::compile;
 pub use fault::{LevelError, LevelFault};
 pub use node::{Gate, Node, Parts};
+pub use theorems::compile_laws;

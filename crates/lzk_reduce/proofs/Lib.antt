@@ -16,3 +16,7 @@ pub mod UsedLayerLaws
 pub mod UsedLayersLaws
 pub mod PushedLaws
 pub mod PrunedLaws
+pub mod NormalLaws
+pub mod StackedRows
+pub mod SomeRows
+pub mod EachReduced

@@ -4,7 +4,7 @@ use Rattle.std.proofs.Common.{◌⊎◌, inl, inr, refl, sym, ap, ◌∙◌, ari
 use Rattle.std.proofs.lemmas.Bool.{or_cases, or_left, or_right, and_parts, ltb-true, lt-ltb, eqb-true, eq-eqb}
 use Rattle.std.proofs.lemmas.List.{map-append, take_more, take_all}
 use Rattle.lzk_field.specs.Ring.{Ops, RingLaws, FieldLaws}
-use Rattle.lzk_field.proofs.RingBasics.{zero_plus, zero_times, times_zero, product_nonzero}
+use Rattle.lzk_field.proofs.RingBasics.{zero_plus, times_zero, product_nonzero}
 use Rattle.lzk_circuit.specs.declared.layer.Term.{Term}
 use Rattle.lzk_circuit.specs.Valid.{precedes, follows, AreTerms}
 use Rattle.lzk_reduce.specs.Rows.{IsRow, row_value, term_value, multiplied, Less, added}

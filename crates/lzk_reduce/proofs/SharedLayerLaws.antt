@@ -66,7 +66,7 @@ module _ {A : Type 0} (o : Ops A) where
   wires-width inputs (layer ∷ layers) values e = length-map-range_with_len (wire o (coef o layer.terms) (wires_of o layers values)) 0 layer.wires
 
   -- below all layers each input has its own number
-  shared-none : (inputs : ℕ) (numbers : List ℕ) → length numbers ≡ inputs → ((k : ℕ) → k < inputs → at numbers k ≡ k) → AreShared inputs [] [] numbers
+  pub shared-none : (inputs : ℕ) (numbers : List ℕ) → length numbers ≡ inputs → ((k : ℕ) → k < inputs → at numbers k ≡ k) → AreShared inputs [] [] numbers
   shared-none inputs numbers e each = record {
     count = refl;
     width = e;
@@ -83,7 +83,7 @@ module _ {A : Type 0} (o : Ops A) where
     different = tt;
   }
 
-  shared-above : (inputs : ℕ) (layer : Layer A) (layers kept : List (Layer A)) (numbers : List ℕ) (shared : Layer A) (wires : List ℕ) → IsLayer o (under_of inputs layers) layer → HasOne o layer
+  pub shared-above : (inputs : ℕ) (layer : Layer A) (layers kept : List (Layer A)) (numbers : List ℕ) (shared : Layer A) (wires : List ℕ) → IsLayer o (under_of inputs layers) layer → HasOne o layer
       → IsSharedLayer layer numbers shared wires → AreShared inputs layers kept numbers → AreShared inputs (layer ∷ layers) (shared ∷ kept) wires
   shared-above inputs layer layers kept numbers shared wires is one t s = record {
     count = ap suc s.count;
@@ -116,7 +116,7 @@ module _ {A : Type 0} (o : Ops A) where
       let less : k < m = omega (arith, l, length-map-range_with_len f 0 m) in
       get_or-map-range_with_len f 0 m k k o.zero less (omega arith) ∙ same k (omega (arith, less, e)) ∙ sym (get_or-map-range_with_len h 0 n k k o.zero (omega (arith, less, e)) (omega arith)))
 
-  shared-last : (inputs : ℕ) (layer : Layer A) (layers kept : List (Layer A)) (numbers : List ℕ) (moved : Layer A) → IsLayer o (under_of inputs layers) layer
+  pub shared-last : (inputs : ℕ) (layer : Layer A) (layers kept : List (Layer A)) (numbers : List ℕ) (moved : Layer A) → IsLayer o (under_of inputs layers) layer
       → IsMovedLayer layer numbers moved → AreShared inputs layers kept numbers → AllShared inputs (layer ∷ layers) (moved ∷ kept)
   shared-last inputs layer layers kept numbers moved is t s = record {
     count = ap suc s.count;

@@ -37,15 +37,15 @@ number-last [] n i e = ap (at (n ∷ [])) e
 number-last (m ∷ ns) n i e = ap (at (m ∷ (ns ++ n ∷ []))) e ∙ number-last ns n (length ns) refl
 
 module _ {A : Type 0} (o : Ops A) where
-  placed-value : (g : ℕ) (below : List A) (row : List (Term A)) → row_value o below (map (placed g) row) ≡ row_value o below row
+  pub placed-value : (g : ℕ) (below : List A) (row : List (Term A)) → row_value o below (map (placed g) row) ≡ row_value o below row
   placed-value g below [] = refl
   placed-value g below (t ∷ ts) = ap (o.plus (term_value o below t)) (placed-value g below ts)
 
-  placed-triples : (g : ℕ) (row : List (Term A)) → triples (map (placed g) row) ≡ triples row
+  pub placed-triples : (g : ℕ) (row : List (Term A)) → triples (map (placed g) row) ≡ triples row
   placed-triples g [] = refl
   placed-triples g (t ∷ ts) = let triple : ℕ × ℕ × A = (t.a, t.b, t.coef) in ap (λ xs. triple ∷ xs) (placed-triples g ts)
 
-  placed-one : (g : ℕ) (row : List (Term A)) → IsOne o row → IsOne o (map (placed g) row)
+  pub placed-one : (g : ℕ) (row : List (Term A)) → IsOne o row → IsOne o (map (placed g) row)
   placed-one g row h = placed-triples g row ∙ h
 
 module _ {A : Type 0} (o : Ops A) (number_of : A → ℕ) where

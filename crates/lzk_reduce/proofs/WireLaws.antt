@@ -14,16 +14,16 @@ module _ {A : Type 0} where
     | inr q ↦ omega (arith, eqb-true s.g t.g (and_parts (s.g == t.g) (nat_lt s.a t.a || ((s.a == t.a) && nat_lt s.b t.b)) q).0)
   ]
 
-  before_one : (g : ℕ) (t : Term A) (ts : List (Term A)) → t.g < g → terms_before g (t ∷ ts) ≡ suc (terms_before g ts)
+  pub before_one : (g : ℕ) (t : Term A) (ts : List (Term A)) → t.g < g → terms_before g (t ∷ ts) ≡ suc (terms_before g ts)
   before_one g t ts l = ap (λ b. cond b 1 0 + terms_before g ts) (lt-ltb t.g g l) ∙ omega arith
 
-  before_same : (g : ℕ) (t : Term A) (ts : List (Term A)) → g ≤ t.g → terms_before g (t ∷ ts) ≡ terms_before g ts
+  pub before_same : (g : ℕ) (t : Term A) (ts : List (Term A)) → g ≤ t.g → terms_before g (t ∷ ts) ≡ terms_before g ts
   before_same g t ts l = ap (λ b. cond b 1 0 + terms_before g ts) (le-ltb t.g g l) ∙ omega arith
 
-  own_one : (g : ℕ) (t : Term A) (ts : List (Term A)) → t.g ≡ g → of_wire g (t ∷ ts) ≡ t ∷ of_wire g ts
+  pub own_one : (g : ℕ) (t : Term A) (ts : List (Term A)) → t.g ≡ g → of_wire g (t ∷ ts) ≡ t ∷ of_wire g ts
   own_one g t ts e = ap (λ b. cond b (t ∷ of_wire g ts) (of_wire g ts)) (eq-eqb t.g g e)
 
-  own_same : (g : ℕ) (t : Term A) (ts : List (Term A)) → (t.g < g) ⊎ (g < t.g) → of_wire g (t ∷ ts) ≡ of_wire g ts
+  pub own_same : (g : ℕ) (t : Term A) (ts : List (Term A)) → (t.g < g) ⊎ (g < t.g) → of_wire g (t ∷ ts) ≡ of_wire g ts
   own_same g t ts l = ap (λ b. cond b (t ∷ of_wire g ts) (of_wire g ts)) (ne_eqb t.g g (λ e. elim l [ inl m ↦ omega (arith, e, m) | inr m ↦ omega (arith, e, m) ]))
 
   pub before-most : (g : ℕ) (ts : List (Term A)) → terms_before g ts ≤ length ts

@@ -4,4 +4,5 @@ pub mod Marks
 pub mod Reduced
 pub mod Kept
 pub mod Used
+pub mod SomeReduced
 pub use Rattle.lzk_circuit.specs

@@ -18,7 +18,9 @@ mod reduce;
 mod renumber;
 mod rows;
 mod share;
+mod theorems;
 
 pub use marks::marked_places;
 pub use reduce::reduced;
 pub use rows::{append, merged, scaled, single};
+pub use theorems::reduce_laws;

@@ -1,3 +1,4 @@
+use Rattle.lzk_demo.proofs.Circuits.{demo_has_circuit}
 use Rattle.lzk_demo.proofs.Limits.{limits_kept, depth_is}
 use Rattle.lzk_demo.proofs.Values.{gold_value}
 use Rattle.lzk_demo.proofs.Satisfied.{demo_satisfied}
@@ -14,3 +15,6 @@ returns-clause-value c = gold_value
 
 pub returns-clause-satisfied : goal.returns-clause-satisfied
 returns-clause-satisfied c = demo_satisfied
+
+pub returns-clause-circuit : goal.returns-clause-circuit
+returns-clause-circuit c = demo_has_circuit c.compile_laws.ensures.some

@@ -1,0 +1,5 @@
+use Rattle.lzk_level.proofs.SomeCircuits.{some_circuit}
+use Rattle.lzk_level.proofs.theorems.compile_laws.Goals as goal
+
+pub returns : goal.returns
+returns c = record { some = some_circuit }

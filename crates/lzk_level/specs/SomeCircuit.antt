@@ -1,0 +1,24 @@
+-- A source within the limits has a circuit with a file.
+use Rattle.std.specs.Prelude.{◌≡◌, ℕ, List, count_by, None}
+use Rattle.lzk_circbytes.specs.declared.any.AnyCircuit.{AnyCircuit}
+use Rattle.lzk_circbytes.specs.Files.{CircuitBytes}
+use Rattle.lzk_expr.specs.Sources.{IsWellFormed}
+use Rattle.lzk_expr.specs.Trees.{SourceTree, is_public, is_private}
+use Rattle.lzk_level.specs.Compiled.{field_of, publics_of, privates_of, depth_of, HasSourceValues, HasReducedLayers, source_layers, source_limit}
+
+-- The circuit has the source's field and counts, the layers that its nodes need, and on every input the values of its asserts as outputs, one for one; and it is reduced.
+pub record IsCircuitOf (source : SourceTree) (c : AnyCircuit) : Type 0 where
+  pub field_is : field_of c ≡ source.field_is
+  pub publics : publics_of c ≡ count_by is_public source.statements
+  pub privates : privates_of c ≡ count_by is_private source.statements
+  pub layers : depth_of c ≡ source_layers source
+  pub outputs : HasSourceValues source.statements c
+  pub reduced : HasReducedLayers c
+
+-- some circuit of the source has a file
+abbrev pub HasSomeCircuit : SourceTree → Type 0
+HasSomeCircuit source = (c : AnyCircuit) × (bytes : List ℕ) × IsCircuitOf source c × CircuitBytes c bytes
+
+-- every source that some text is, and that passes no limit, has a circuit with a file
+abbrev pub SomeCircuit : Type 0
+SomeCircuit = (source : SourceTree) → IsWellFormed source → source_limit source ≡ None → HasSomeCircuit source
