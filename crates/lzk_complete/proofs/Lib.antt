@@ -1,8 +1,10 @@
 pub mod Accepted
+pub mod Checked
 pub mod ClaimLaws
 pub mod CommittedEntries
 pub mod CommittedLaws
 pub mod OpenedColumns
+pub mod Refused
 pub mod Standing
 pub mod Vanish
 pub mod WireLaws

@@ -29,8 +29,8 @@ use Rattle.lzk_accept.specs.Challenges.{Transcript, transcript}
 use Rattle.lzk_accept.specs.Checks.{combined_row_of}
 use Rattle.lzk_answers.specs.Answers.{low_degree_answer, linear_answer, quadratic_answer}
 use Rattle.lzk_tableau.specs.Tableau.{nonce_words, column, nonce, leaves, tableau, row_at}
-use Rattle.lzk_honest.specs.Answered.{HasAnswers}
-use Rattle.lzk_honest.specs.Proving.{id_of, given, rows, digests, pads, AreOpened, IsProofOf, IsProofFile, SomeFile}
+use Rattle.lzk_honest.specs.Answered.{AreSent}
+use Rattle.lzk_honest.specs.Proving.{id_of, given, rows, digests, pads, own_answers, AreOpened, IsProofOf, IsProofFile, SomeFile}
 use Rattle.lzk_honest.proofs.SomeMessages.{messages, are_messages}
 
 -- lists of one length, one after the other
@@ -107,7 +107,7 @@ module _ {A : Type 0} (o : Ops A) (e : Coding A) (c : Wiring A) (session : List 
   unfolding whole
   sent_are = are_messages o e c (all_values o c.layers (inputs_of o public private)) (pads o e c session public private word) (opening e session (id_of e c) public root)
 
-  answers_are : HasAnswers o e.element c p public (tape_of whole).script (tape_of whole).challenges (rows o e c session public private word) whole
+  answers_are : AreSent p (own_answers o e c session public private word whole) whole
   unfolding transcript begun ldt dot quad whole
   answers_are = record { low_degree = refl; linear = refl; quad_head = refl; quad_tail = refl }
 

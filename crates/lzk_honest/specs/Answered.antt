@@ -10,10 +10,23 @@ use Rattle.lzk_accept.specs.declared.challenges.Challenges.{Challenges}
 use Rattle.lzk_accept.specs.Checks.{combined_row_of}
 use Rattle.lzk_answers.specs.Answers.{low_degree_answer, linear_answer, quadratic_answer}
 
--- They are the values of the rows' combinations by this script and these challenges. Of the quadratic answer the first 128 values are sent, and those
--- behind the points of the rows' elements.
-pub record HasAnswers {A : Type 0} (o : Ops A) (point : ℕ → A) (c : Wiring A) (p : Params) (public : List A) (s : Script A) (ch : Challenges A) (rows : List (List A)) (proof : Proof A) : Type 0 where
-  pub low_degree : proof.ldt ≡ values_of o point p.block (low_degree_answer o point p rows ch.u)
-  pub linear : proof.dot ≡ values_of o point p.dblock (linear_answer o point p rows (combined_row_of o point c public s proof.messages ch))
-  pub quad_head : proof.quad_head ≡ take 128 (values_of o point p.dblock (quadratic_answer o point p rows ch.v))
-  pub quad_tail : proof.quad_tail ≡ drop p.block (values_of o point p.dblock (quadratic_answer o point p rows ch.v))
+-- the values of the three answers
+pub record Answers (A : Type 0) : Type 0 where
+  pub low_degree : List A
+  pub linear : List A
+  pub quadratic : List A
+
+-- those of the rows' combinations by this script, these sent elements and these challenges
+abbrev pub answers_of : {A : Type 0} → Ops A → (ℕ → A) → Wiring A → Params → List A → Script A → List A → Challenges A → List (List A) → Answers A
+answers_of o point c p public s messages ch rows = record {
+  low_degree = values_of o point p.block (low_degree_answer o point p rows ch.u);
+  linear = values_of o point p.dblock (linear_answer o point p rows (combined_row_of o point c public s messages ch));
+  quadratic = values_of o point p.dblock (quadratic_answer o point p rows ch.v);
+}
+
+-- A proof has them. Of the quadratic answer the first 128 values are sent, and those behind the points of the rows' elements.
+pub record AreSent {A : Type 0} (p : Params) (answers : Answers A) (proof : Proof A) : Type 0 where
+  pub low_degree : proof.ldt ≡ answers.low_degree
+  pub linear : proof.dot ≡ answers.linear
+  pub quad_head : proof.quad_head ≡ take 128 answers.quadratic
+  pub quad_tail : proof.quad_tail ≡ drop p.block answers.quadratic

@@ -16,7 +16,9 @@ use Rattle.lzk_sumcheck.specs.Messages.{AreMessages}
 use Rattle.lzk_sumcheck.specs.Opening.{opening}
 use Rattle.lzk_accept.specs.Challenges.{Transcript, transcript}
 use Rattle.lzk_tableau.specs.Tableau as prover
-use Rattle.lzk_honest.specs.Answered.{HasAnswers}
+use Rattle.lzk_honest.specs.declared.answer.Answer.{Answer}
+use Rattle.lzk_honest.specs.Answered.{Answers, answers_of, AreSent}
+use Rattle.lzk_honest.specs.Changed.{unchanged, with_added}
 
 -- the words of a source of random words, of 128 bits each
 abbrev pub words_of : (ℕ → ℕ) → ℕ → ℕ
@@ -53,19 +55,36 @@ module _ {A : Type 0} (o : Ops A) (e : Coding A) (c : Wiring A) (session : List 
     pub columns : proof.columns ≡ flat_map (prover.column o e c private word) (given proof).columns
     pub path : proof.path.digests ≡ map (tree_node p.mcol digests) (path_nodes p.mcol (given proof).columns)
 
-  -- Each part stands on what is written to the tape before it: the messages on the root, the answers on the messages, the columns on the answers.
-  pub record IsProofOf (proof : Proof A) : Type 0 where
+  -- the values of its answers, for what the tape gives behind its messages
+  abbrev pub own_answers : Proof A → Answers A
+  own_answers proof = answers_of o e.element c p public (given proof).script proof.messages (given proof).challenges rows
+
+  -- Each part stands on what is written to the tape before it: the messages on the root, the answers on the messages, the columns on the answers, which
+  -- are sent as this change leaves them.
+  pub record IsProofBy (change : Answers A → Answers A) (proof : Proof A) : Type 0 where
     pub id : proof.id ≡ id_of e c
     pub root : proof.root ≡ tree_node p.mcol digests 1
     pub messages : AreMessages o e c (all_values o c.layers (inputs_of o public private)) pads (opening e session (id_of e c) public proof.root) proof.messages
-    pub answers : HasAnswers o e.element c p public (given proof).script (given proof).challenges rows proof
+    pub answers : AreSent p (change (own_answers proof)) proof
     pub opened : AreOpened proof
 
   -- its file
-  pub record IsProofFile (bytes : List ℕ) : Type 0 where
+  pub record IsFileBy (change : Answers A → Answers A) (bytes : List ℕ) : Type 0 where
     pub proof : Proof A
-    pub is : IsProofOf proof
+    pub is : IsProofBy change proof
     pub written : ProofBytes e.bytes e.number p proof bytes
+
+  -- the proof with its answers as they are
+  abbrev pub IsProofOf : Proof A → Type 0
+  IsProofOf = IsProofBy unchanged
+
+  -- its file
+  abbrev pub IsProofFile : List ℕ → Type 0
+  IsProofFile = IsFileBy unchanged
+
+  -- the file of the proof where something was added to value n of an answer before the columns were drawn
+  abbrev pub IsChangedFile : Answer → ℕ → A → List ℕ → Type 0
+  IsChangedFile answer n by = IsFileBy (with_added o answer n by)
 
 -- inputs as many as a circuit has
 abbrev pub HaveCounts : {A : Type 0} → Wiring A → List A → List A → Type 0

@@ -5,6 +5,8 @@
 //! words', 'Protocol' and 'Proof file' of the profile in docs/FORMATS.md.
 #![tactic(auto)]
 
+mod answer;
 mod laws;
 
+pub use answer::Answer;
 pub use laws::proof_laws;

@@ -1,4 +1,5 @@
 pub mod Assembled
+pub mod ChangeLaws
 pub mod CoefficientLaws
 pub mod Drawn
 pub mod Outputs

@@ -16,6 +16,7 @@
 #![tactic(auto)]
 
 mod answering;
+mod changing;
 mod committing;
 mod drawing;
 mod opening;
@@ -24,4 +25,5 @@ mod room;
 mod works;
 mod writing;
 
+pub use lzk_honest::Answer;
 pub use works::{Unsatisfied, WorksOver};

@@ -15,11 +15,13 @@ ghost use Rattle.lzk_accept.specs.Challenges.{transcript};
 ghost use Rattle.lzk_answers.specs.Rows.{IsTableOf};
 ghost use Rattle.lzk_tableau.specs.Filled.{AreReaching};
 ghost use Rattle.lzk_tableau.specs.Table as kept;
-ghost use Rattle.lzk_honest.specs.Answered.{HasAnswers};
-ghost use Rattle.lzk_honest.specs.Proving.{IsProofFile, words_of};
+ghost use Rattle.lzk_honest.specs.Answered.{AreSent, answers_of};
+ghost use Rattle.lzk_honest.specs.Proving.{IsFileBy, words_of};
+ghost use Rattle.lzk_ligero.specs.Changes.{change_of, IsChangeOf};
 ghost use Rattle.lzk_ligero.specs.Rooms.{IsRoomFor, IsSentFor, coefficient_reach};
 
 use crate::answering::{answer_linear, answer_low_degree, answer_quadratic};
+use crate::changing::{Change, make_change};
 use crate::committing::commit;
 use crate::drawing::{draw_opened, open_tape, send};
 use crate::opening::{open_columns, open_path};
@@ -64,7 +66,7 @@ fn answer<F: Field, X: RowExtend<F>>(
     ensures messages { proof.new.messages ≡ proof.old.messages }
     ensures path { proof.new.path ≡ proof.old.path }
     ensures answers { (rows : List (List F)) → length rows ≡ params.now.nrow → IsTableOf F.ops F.element params.now.ncol rows table.now →
-        HasAnswers F.ops F.element circuit.now params.now public.now script.now challenges.now rows proof.new }
+        AreSent params.now (answers_of F.ops F.element circuit.now params.now public.now script.now proof.new.messages challenges.now rows) proof.new }
 {
     answer_low_degree(
         params,
@@ -97,7 +99,7 @@ fn answer<F: Field, X: RowExtend<F>>(
     );
 }
 
-// Runs the tape: sends the sumchecks and the answers, and draws the columns.
+// Runs the tape: sends the sumchecks and the answers, with a change where there is one, and draws the columns.
 fn respond<R: Threads + Sync, F: Field, X: RowExtend<F>>(
     rt: &R,
     circuit: &Circuit<F>,
@@ -108,6 +110,7 @@ fn respond<R: Threads + Sync, F: Field, X: RowExtend<F>>(
     workers: usize,
     extender: &X,
     tableau: &Tableau<F>,
+    change: Option<Change<F>>,
     room: &mut Room<F>,
     sent: &mut Sent<F>,
 )
@@ -119,6 +122,7 @@ fn respond<R: Threads + Sync, F: Field, X: RowExtend<F>>(
     requires few_workers { workers ≤ 64 }
     requires reach { X.reach extender.now ≡ coefficient_reach params.now }
     requires table { kept.IsTableOf circuit.now tableau.now }
+    requires change { IsChangeOf params.now change }
     requires room { IsRoomFor F.ops circuit.now params.now (X.rooms extender.now) room.old }
     requires sent { IsSentFor (coding F.element F.number_of F.BYTES F.size F.ID) circuit.now params.now sent.old }
     ensures room { IsRoomFor F.ops circuit.now params.now (X.rooms extender.now) room.new }
@@ -130,7 +134,8 @@ fn respond<R: Threads + Sync, F: Field, X: RowExtend<F>>(
         record { script = sent.new.script; challenges = sent.new.challenges; columns = sent.new.columns }
         ≡ transcript F.ops e circuit.now session.now sent.new.proof.id public.now sent.new.proof }
     ensures answers { (rows : List (List F)) → length rows ≡ params.now.nrow → IsTableOf F.ops F.element params.now.ncol rows tableau.now.rows →
-        HasAnswers F.ops F.element circuit.now params.now public.now sent.new.script sent.new.challenges rows sent.new.proof }
+        AreSent params.now (change_of F.ops change
+        (answers_of F.ops F.element circuit.now params.now public.now sent.new.script sent.new.proof.messages sent.new.challenges rows)) sent.new.proof }
     ensures opened { AreOpened params.now.mcol sent.new.columns }
 {
     let mut tape = open_tape(session, &sent.proof.id, public, &sent.proof.root);
@@ -158,10 +163,12 @@ fn respond<R: Threads + Sync, F: Field, X: RowExtend<F>>(
         room,
         &mut sent.proof,
     );
+    make_change(params, change, &mut sent.proof);
     draw_opened(params, &mut tape, &sent.proof, &mut sent.columns);
 }
 
-/// Makes the proof for wires of these values, and writes its file in front. How many bytes it has. No memory is taken.
+/// Makes the proof for wires of these values, with a change of an answer where there is one, and writes its file in front.
+/// How many bytes it has. No memory is taken.
 pub(crate) fn write_proof<R: Threads + Sync, F: Field, W: Words, X: RowExtend<F>, G: Gate>(
     rt: &R,
     circuit: &Circuit<F>,
@@ -176,6 +183,7 @@ pub(crate) fn write_proof<R: Threads + Sync, F: Field, W: Words, X: RowExtend<F>
     short: &X,
     long: &X,
     coefficients: &X,
+    change: Option<Change<F>>,
     tableau: &mut Tableau<F>,
     tree: &mut Tree,
     room: &mut Room<F>,
@@ -193,12 +201,14 @@ pub(crate) fn write_proof<R: Threads + Sync, F: Field, W: Words, X: RowExtend<F>
     requires few_workers { workers ≤ 64 }
     requires extenders { AreReaching params.now (X.reach short.now) (X.reach long.now) (X.rooms short.now) (X.rooms long.now) tableau.old.room }
     requires reach { X.reach coefficients.now ≡ coefficient_reach params.now }
+    requires change { IsChangeOf params.now change }
     requires table { kept.IsTableOf circuit.now tableau.old }
     requires leaves { length tree.old.leaves ≡ params.now.mcol }
     requires room { IsRoomFor F.ops circuit.now params.now (X.rooms coefficients.now) room.old }
     requires sent { IsSentFor (coding F.element F.number_of F.BYTES F.size F.ID) circuit.now params.now sent.old }
     requires bytes { length bytes.old ≡ proof_length F.BYTES params.now 1536 }
-    ensures file { IsProofFile F.ops (coding F.element F.number_of F.BYTES F.size F.ID) circuit.now session.now public.now private.now (words_of (W.at words.now)) (take result bytes.new) }
+    ensures file { let e = coding F.element F.number_of F.BYTES F.size F.ID in
+        IsFileBy F.ops e circuit.now session.now public.now private.now (words_of (W.at words.now)) (change_of F.ops change) (take result bytes.new) }
     ensures inside { result ≤ length bytes.new }
     ensures table { kept.IsTableOf circuit.now tableau.new }
     ensures table_room { tableau.new.room ≡ tableau.old.room }
@@ -220,6 +230,7 @@ pub(crate) fn write_proof<R: Threads + Sync, F: Field, W: Words, X: RowExtend<F>
         workers,
         coefficients,
         tableau,
+        change,
         room,
         sent,
     );

@@ -1,18 +1,26 @@
 //! The prover.
 
-ghost use Rattle.std.specs.Prelude.{◌≡◌, ◌≤◌, ◌<◌, length, take, IfOk, MatchOption, MatchResult, Some, None};
+ghost use Rattle.std.specs.Prelude.{◌≡◌, ◌≢◌, ◌≤◌, ◌<◌, length, take, IfOk, MatchOption, MatchResult, Some, None};
 ghost use Rattle.std.specs.Borrow.{sem};
 ghost use Rattle.lzk_field.specs.Coding.{coding};
 ghost use Rattle.lzk_field.specs.Sums.{entry};
-ghost use Rattle.lzk_circuit.specs.Wires.{all_values, wires_of, inputs_of, list_at, IsFirstNonzero};
-ghost use Rattle.lzk_honest.specs.Proving.{IsProofFile, words_of};
+ghost use Rattle.lzk_circuit.specs.Wires.{all_values, wires_of, inputs_of, list_at, IsFirstNonzero, IsSatisfied};
+ghost use Rattle.lzk_honest.specs.Changed.{IsSentPlace};
+ghost use Rattle.lzk_honest.specs.Proving.{IsChangedFile, IsFileBy, IsProofFile, words_of};
+ghost use Rattle.lzk_complete.specs.Refused.{IsRefused};
+ghost use Rattle.lzk_verify.specs.Verdict.{IsVerdict};
+ghost use Rattle.lzk_verify.specs.declared.verdict.Verdict.TheVariants.{Accepted};
 ghost use Rattle.lzk_layout.specs.Sizes.{AreBounded, AreParams, params_of};
+ghost use Rattle.lzk_ligero.specs.Changes.{change_of, IsChangeOf};
 ghost use Rattle.lzk_ligero.specs.Parts.{AreExtendersFor, IsCommittedFor, IsAnsweringFor, ArePartsFor};
 
+use crate::changing::Change;
 use crate::proving::write_proof;
 use crate::room::{Room, Sent, file_room};
 use lzk_circuit::{Circuit, Values};
+use lzk_complete::{changed_proofs_refused, proofs_accepted};
 use lzk_field::{Field, Gate, Words};
+use lzk_honest::Answer;
 use lzk_layout::Params;
 use lzk_merkle::Tree;
 use lzk_poly::RowExtend;
@@ -159,7 +167,8 @@ impl<F: Field, X: RowExtend<F>> Parts<F, X> {
         }
     }
 
-    // Makes the proof for wires of these values, and writes its file in front. How many bytes it has.
+    // Makes the proof for wires of these values, with a change of an answer where there is one, and writes its file in front.
+    // How many bytes it has.
     fn write<R: Threads + Sync, W: Words, G: Gate>(
         &mut self,
         rt: &R,
@@ -170,16 +179,19 @@ impl<F: Field, X: RowExtend<F>> Parts<F, X> {
         words: &W,
         workers: usize,
         gate: &G,
+        change: Option<Change<F>>,
     ) -> usize
         requires public { length public.now ≡ circuit.now.publics }
         requires private { length private.now ≡ circuit.now.privates }
         requires some { 1 ≤ workers }
         requires most { workers ≤ 64 }
         requires parts { ArePartsFor F.ops (coding F.element F.number_of F.BYTES F.size F.ID) X.reach X.rooms circuit.now self.old }
+        requires change { IsChangeOf (params_of circuit.now) change }
         requires values { self.old.values ≡ all_values F.ops circuit.now.layers (inputs_of F.ops public.now private.now) }
         ensures parts { ArePartsFor F.ops (coding F.element F.number_of F.BYTES F.size F.ID) X.reach X.rooms circuit.now self.new }
         ensures inside { result ≤ length self.new.answering.bytes.items }
-        ensures file { IsProofFile F.ops (coding F.element F.number_of F.BYTES F.size F.ID) circuit.now session.now public.now private.now (words_of (W.at words.now)) (take result self.new.answering.bytes.items) }
+        ensures file { let e = coding F.element F.number_of F.BYTES F.size F.ID in
+            IsFileBy F.ops e circuit.now session.now public.now private.now (words_of (W.at words.now)) (change_of F.ops change) (take result self.new.answering.bytes.items) }
     {
         write_proof(
             rt,
@@ -195,6 +207,7 @@ impl<F: Field, X: RowExtend<F>> Parts<F, X> {
             &self.extenders.short,
             &self.extenders.long,
             &self.extenders.coefficients,
+            change,
             &mut self.committed.tableau,
             &mut self.committed.tree,
             &mut self.answering.room,
@@ -282,6 +295,51 @@ impl<'c, F: Field, X: RowExtend<F>> WorksOver<'c, F, X> {
             words,
             workers,
             gate,
+            None,
+        );
+        &self.parts.answering.bytes[..len]
+    }
+
+    /// The bytes of the proof's file where `by` was added to one value of an answer before the columns were drawn. It is there for
+    /// tests of verifiers: what is opened is that of the changed answers, so that one check alone refuses it. No memory is taken.
+    pub fn attempt_changed<R: Threads + Sync, W: Words, G: Gate>(
+        &mut self,
+        rt: &R,
+        session: &[u8],
+        public: &[F],
+        private: &[F],
+        words: &W,
+        workers: usize,
+        gate: &G,
+        answer: Answer,
+        place: u32,
+        by: F,
+    ) -> &[u8]
+        requires session { length session.now ≤ 64 }
+        requires public { length public.now ≡ self.old.publics }
+        requires private { length private.now ≡ self.old.privates }
+        requires some { 1 ≤ workers }
+        requires most { workers ≤ 64 }
+        requires place { IsSentPlace (params_of self.old) answer place }
+        ensures* same { sem 𝓛 (StaysForCircuit F.row X.row F.Field X.RowExtend self.entry) }
+        ensures file { let e = coding F.element F.number_of F.BYTES F.size F.ID in
+            IsChangedFile F.ops e self.old session.now public.now private.now (words_of (W.at words.now)) answer place by result.now }
+        ensures refused { IsSatisfied F.ops self.old.layers (inputs_of F.ops public.now private.now) → by ≢ F.ops.zero →
+            IsRefused F.ops (coding F.element F.number_of F.BYTES F.size F.ID) self.old session.now public.now answer place by result.now }
+    {
+        changed_proofs_refused::<F>();
+        self.circuit.depth();
+        self.parts.evaluate(self.circuit, public, private);
+        let len = self.parts.write(
+            rt,
+            self.circuit,
+            session,
+            public,
+            private,
+            words,
+            workers,
+            gate,
+            Some(Change { answer, place, by }),
         );
         &self.parts.answering.bytes[..len]
     }
@@ -311,10 +369,13 @@ impl<'c, F: Field, X: RowExtend<F>> WorksOver<'c, F, X> {
             (λ bytes. IsFirstNonzero F.ops (wires_of F.ops self.old.layers (inputs_of F.ops public.now private.now)) None
             × IsProofFile F.ops (coding F.element F.number_of F.BYTES F.size F.ID) self.old session.now public.now private.now (words_of (W.at words.now)) bytes.now)
             (λ fault. IsFirstNonzero F.ops (wires_of F.ops self.old.layers (inputs_of F.ops public.now private.now)) (Some (fault.output, fault.value.now))) }
+        ensures accepted { IfOk result (λ bytes. IsVerdict F.ops (coding F.element F.number_of F.BYTES F.size F.ID) self.old session.now public.now bytes.now Accepted) }
     {
         if let Some(output) = self.parts.evaluate(self.circuit, public, private) {
             return Err(self.parts.fault(output));
         }
+        proofs_accepted::<F>();
+        self.circuit.depth();
         let len = self.parts.write(
             rt,
             self.circuit,
@@ -324,6 +385,7 @@ impl<'c, F: Field, X: RowExtend<F>> WorksOver<'c, F, X> {
             words,
             workers,
             gate,
+            None,
         );
         Ok(&self.parts.answering.bytes[..len])
     }

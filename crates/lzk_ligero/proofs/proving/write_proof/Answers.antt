@@ -9,8 +9,9 @@ use Rattle.lzk_sumcheck.specs.Messages.{AreMessages}
 use Rattle.lzk_sumcheck.specs.Opening.{opening}
 use Rattle.lzk_answers.specs.Rows.{IsTableOf}
 use Rattle.lzk_tableau.specs.Tableau.{tableau}
-use Rattle.lzk_honest.specs.Answered.{HasAnswers}
+use Rattle.lzk_honest.specs.Answered.{AreSent, answers_of}
 use Rattle.lzk_honest.specs.Proving.{words_of}
+use Rattle.lzk_ligero.specs.Changes.{change_of}
 use Rattle.lzk_ligero.proofs.Assembled.{assembled, transcript_of}
 use Rattle.lzk_ligero.proofs.TableLaws.{count_rows, table_of}
 use Rattle.lzk_ligero.proofs.proving.write_proof.Goals as goal
@@ -37,10 +38,11 @@ returns-clause-file g c =
     let rows_are = table_of o e.element (params_of w).ncol rows table.rows c.commit-sent.ensures.rows in
     let count = count_rows o e w private word in
     let answers = c.respond.ensures.answers rows (count ∙ sym (λ i. (is i).nrow)) (subst (λ p. IsTableOf o e.element p.ncol rows table.rows) (sym is) rows_are) in
-    let a = subst (λ p. HasAnswers o e.element w p public sent.script sent.challenges rows sent.proof) is answers in
+    let change = change_of o c.args.change in
+    let a = subst (λ p. AreSent p (change (answers_of o e.element w p public sent.script sent.proof.messages sent.challenges rows)) sent.proof) is answers in
     record {
       proof = proof;
-      is = assembled o e w session public private word proof (record { script = sent.script; challenges = sent.challenges; columns = sent.columns })
+      is = assembled o e w session public private word change proof (record { script = sent.script; challenges = sent.challenges; columns = sent.columns })
           c.respond.ensures.sent.id
           (c.respond.ensures.root ∙ c.commit-sent.ensures.root)
           with_pads

@@ -1,7 +1,9 @@
-use Rattle.std.specs.Prelude.{◌<◌, length, Some, None}
-use Rattle.std.proofs.Common.{rules, refl, sym, subst}
-use Rattle.lzk_circuit.specs.Valid.{Wiring}
-use Rattle.lzk_circuit.specs.Wires.{wires_of, inputs_of, IsFirstNonzero}
+use Rattle.std.specs.Prelude.{◌<◌, length, take, Some}
+use Rattle.std.proofs.Common.{refl, sym, subst}
+use Rattle.lzk_field.specs.Coding.{coding}
+use Rattle.lzk_circuit.specs.Valid.{Wiring, IsValid}
+use Rattle.lzk_circuit.specs.Wires.{wires_of, inputs_of, IsFirstNonzero, IsSatisfied}
+use Rattle.lzk_honest.specs.Proving.{IsProofFile, words_of}
 use Rattle.lzk_ligero.proofs.Outputs.{outputs-of, named-output}
 use Rattle.lzk_ligero.proofs.works.WorksOver.prove.Goals as goal
 
@@ -18,16 +20,27 @@ returns-in-Some g c =
         same = tt;
         proved = subst (λ (w : Wiring g.row.F.Denot). IsFirstNonzero o (wires_of o w.layers inputs) (Some (c.fault.result.output, c.fault.result.value.now))) c.self.view_is
             (named-output o _ inputs _ c.evaluate.ensures.values _ _ _ c.in-Some.ensures.outputs c.fault.ensures.output c.fault.ensures.value);
+        accepted = tt;
       },
     )
 
 pub returns : goal.returns
 returns g c =
-    let o = g.F.Field.ops in
-    let inputs = inputs_of o c.args.public.now c.args.private.now in (
+    let f = g.F.Field in
+    let o = f.ops in
+    let e = coding f.element f.number_of f.BYTES f.size f.ID in
+    let session = c.args.session.now in
+    let public = c.args.public.now in
+    let private = c.args.private.now in
+    let word = words_of (g.W.Words.at c.args.words.now) in
+    let valid = subst (IsValid o) c.self.view_is c.depth.ensures.valid in
+    let satisfied = subst (λ (w : Wiring g.row.F.Denot). IsSatisfied o w.layers (inputs_of o public private)) c.self.view_is c.in_default.ensures.outputs in
+    let written = subst (λ w. IsProofFile o e w session public private word (take c.write-len.result c.write-len.new.self.answering.bytes.items)) c.self.view_is c.write-len.ensures.file in
+    let file = subst (λ bytes. IsProofFile o e c.args.self.now session public private word (take c.write-len.result bytes)) (sym c.deref.ensures.value) written in (
       (refl, λ _. tt, c.self.view_is),
       record {
         same = tt;
-        proved = (subst (λ (w : Wiring g.row.F.Denot). IsFirstNonzero o (wires_of o w.layers inputs) None) c.self.view_is c.in_default.ensures.outputs, search rules);
+        proved = (satisfied, file);
+        accepted = c.proofs_accepted.ensures.accepted c.args.self.now session public private word (take c.write-len.result c.deref.result.now) valid (c.requires.public, c.requires.private) satisfied file;
       },
     )

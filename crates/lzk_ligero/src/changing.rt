@@ -1,0 +1,93 @@
+//! Changes of answers.
+
+ghost use Rattle.std.specs.Prelude.{◌≡◌, ◌-◌, ◌<◌, List, length, take, drop};
+ghost use Rattle.lzk_layout.specs.Proofs.{HasLengths};
+ghost use Rattle.lzk_layout.specs.Sizes.{AreBounded};
+ghost use Rattle.lzk_answers.specs.Answers.{changed};
+ghost use Rattle.lzk_honest.specs.Answered.{Answers, AreSent};
+ghost use Rattle.lzk_honest.specs.Changed.{IsSentPlace};
+ghost use Rattle.lzk_honest.specs.declared.answer.Answer.TheVariants.{Quad};
+ghost use Rattle.lzk_ligero.specs.Changes.{change_of, IsChangeOf};
+
+use lzk_field::Field;
+use lzk_honest::Answer;
+use lzk_layout::{Elements, Params, Proof};
+
+/// What is added to which value of which answer.
+#[derive(Clone, Copy)]
+pub(crate) struct Change<F> {
+    /// The answer.
+    pub(crate) answer: Answer,
+    /// The value's number.
+    pub(crate) place: u32,
+    /// What is added.
+    pub(crate) by: F,
+}
+
+// Adds to one of these values.
+fn add_at<F: Field>(values: &mut Elements<F>, place: usize, by: F)
+    requires { place < length values.old }
+    ensures values { values.new ≡ changed F.ops values.old place by }
+    ensures length { length values.new ≡ length values.old }
+{
+    let all = values.as_mut_slice();
+    all[place] = all[place].add(by);
+}
+
+// Adds to one of the quadratic answer's values that are sent.
+fn add_to_quadratic<F: Field>(
+    params: &Params,
+    place: usize,
+    by: F,
+    head: &mut Elements<F>,
+    tail: &mut Elements<F>,
+)
+    requires bounded { AreBounded params.now }
+    requires place { IsSentPlace params.now Quad place }
+    requires head { length head.old ≡ 128 }
+    requires tail { length tail.old ≡ params.now.dblock - params.now.block }
+    ensures head_length { length head.new ≡ 128 }
+    ensures tail_length { length tail.new ≡ params.now.dblock - params.now.block }
+    ensures head { (values : List F) → head.old ≡ take 128 values → head.new ≡ take 128 (changed F.ops values place by) }
+    ensures tail { (values : List F) → tail.old ≡ drop params.now.block values → tail.new ≡ drop params.now.block (changed F.ops values place by) }
+{
+    let block = params.block as usize;
+    if place < block {
+        add_at(head, place, by);
+    } else {
+        add_at(tail, place - block, by);
+    }
+}
+
+/// Makes a change to a proof's answers, where there is one.
+pub(crate) fn make_change<F: Field>(
+    params: &Params,
+    change: Option<Change<F>>,
+    proof: &mut Proof<F>,
+)
+    requires bounded { AreBounded params.now }
+    requires change { IsChangeOf params.now change }
+    requires lengths { HasLengths params.now proof.old }
+    ensures lengths { HasLengths params.now proof.new }
+    ensures id { proof.new.id ≡ proof.old.id }
+    ensures root { proof.new.root ≡ proof.old.root }
+    ensures messages { proof.new.messages ≡ proof.old.messages }
+    ensures path { proof.new.path ≡ proof.old.path }
+    ensures answers { (answers : Answers F) → AreSent params.now answers proof.old → AreSent params.now (change_of F.ops change answers) proof.new }
+{
+    let Some(Change { answer, place, by }) = change else {
+        return;
+    };
+    let place = place as usize;
+    match answer {
+        Answer::LowDegree => add_at(&mut proof.ldt, place, by),
+        Answer::Dot => add_at(&mut proof.dot, place, by),
+        Answer::Quad => add_to_quadratic(
+            params,
+            place,
+            by,
+            &mut proof.quad_head,
+            &mut proof.quad_tail,
+        ),
+    }
+}
