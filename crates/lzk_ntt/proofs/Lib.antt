@@ -6,5 +6,6 @@ pub mod Lowest
 pub mod Pieces
 pub mod Principal
 pub mod RootLaws
+pub mod Spectra
 pub mod Transforms
 pub mod Twiddles

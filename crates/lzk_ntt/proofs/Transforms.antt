@@ -4,7 +4,7 @@ use Rattle.std.proofs.Common.{suc, refl, sym, ap, ◌∙◌, arith}
 use Rattle.std.proofs.lemmas.Bool.{lt-ltb, le-ltb}
 use Rattle.lzk_field.specs.Ring.{Ops, RingLaws}
 use Rattle.lzk_field.specs.Sums.{sum_below, power, minus}
-use Rattle.lzk_field.proofs.RingBasics.{times_swap}
+use Rattle.lzk_field.proofs.RingBasics.{plus_times, times_swap}
 use Rattle.lzk_field.proofs.SumLaws.{sum-ext, sum-plus, sum-split}
 use Rattle.lzk_field.proofs.Solve.{var, unit, opp, ◌⊞◌, ◌⊟◌, ◌⊠◌, solve, solve_by}
 use Rattle.lzk_ntt.specs.Transform.{bit_reversed, spectrum, IsRoot}
@@ -79,6 +79,14 @@ module _ {A : Type 0} (o : Ops A) (r : RingLaws o) where
   spectrum-ext k w x y j h =
       let t = power o w (bit_reversed k j) in
       sum-ext o r (2 ^ k) (λ i. times (x i) (power o t i)) (λ i. times (y i) (power o t i)) (λ i l. ap (λ v. times v (power o t i)) (h i l))
+
+  -- the transform of sums
+  pub spectrum-plus : (k : ℕ) (w : A) (x y : ℕ → A) (j : ℕ) → spectrum o k w (λ i. plus (x i) (y i)) j ≡ plus (spectrum o k w x j) (spectrum o k w y j)
+  unfolding spectrum
+  spectrum-plus k w x y j =
+      let t = power o w (bit_reversed k j) in
+      sum-ext o r (2 ^ k) (λ i. times (plus (x i) (y i)) (power o t i)) (λ i. plus (times (x i) (power o t i)) (times (y i) (power o t i))) (λ i l. plus_times o r (x i) (y i) (power o t i))
+      ∙ sum-plus o r (2 ^ k) (λ i. times (x i) (power o t i)) (λ i. times (y i) (power o t i))
 
   -- of one entry it is the entry
   pub spectrum-single : (w : A) (x : ℕ → A) (j : ℕ) → spectrum o 0 w x j ≡ x 0

@@ -1,75 +1,126 @@
-//! A row's extension, block by block of its values and piece by piece of the points.
+//! A row's extension: the transforms of its blocks of values, and a backward transform for each piece of the
+//! points.
 
-ghost use Rattle.std.specs.Prelude.{◌≡◌, ℕ, ◌+◌, ◌-◌, ◌*◌, ◌^◌, ◌<◌, ◌≤◌, length};
+ghost use Rattle.std.specs.Prelude.{◌≡◌, ℕ, ◌+◌, ◌-◌, ◌*◌, ◌^◌, ◌<◌, ◌≤◌, List, length};
 ghost use Rattle.lzk_field.specs.Sums.{entry};
 ghost use Rattle.lzk_poly.specs.Extension.{extension};
-ghost use Rattle.lzk_poly.specs.Weights.{parts, IsPassed, IsWeights};
-ghost use Rattle.lzk_ntt.specs.Kernels.{end_of, IsReady};
+ghost use Rattle.lzk_poly.specs.Weights.{IsPassed, IsWeights};
+ghost use Rattle.lzk_ntt.specs.Kernels.{convolutions, weighted, AreSpectra, IsReady};
+ghost use Rattle.lzk_ntt.specs.Transform.{spectrum, IsRoot};
 
 use crate::kernels::Kernels;
+use crate::transform::{add_products, multiply};
 use lzk_field::Field;
 
-// The values times their weights, padded with zeros.
-fn weigh<F: Field>(values: &[F], weights: &[F], out: &mut [F])
+// The values times their weights, behind so many zeros and before zeros to the end.
+fn weigh<F: Field>(values: &[F], weights: &[F], skip: usize, out: &mut [F])
     requires same { length weights.now ≡ length values.now }
-    requires room { length values.now ≤ length out.old }
-    ensures near { (i : ℕ) → i < length values.now → entry F.ops out.new i ≡ F.ops.times (entry F.ops values.now i) (entry F.ops weights.now i) }
-    ensures far { (i : ℕ) → length values.now ≤ i → i < length out.new → entry F.ops out.new i ≡ F.ops.zero }
+    requires room { skip + length values.now ≤ length out.old }
+    ensures before { (i : ℕ) → i < skip → entry F.ops out.new i ≡ F.ops.zero }
+    ensures near { (i : ℕ) → i < length values.now → entry F.ops out.new (skip + i) ≡ F.ops.times (entry F.ops values.now i) (entry F.ops weights.now i) }
+    ensures far { (i : ℕ) → skip + length values.now ≤ i → i < length out.new → entry F.ops out.new i ≡ F.ops.zero }
 {
-    for i in 0..values.len() {
-        out[i] = values[i].mul(weights[i]);
+    for h in 0..skip {
+        out[h] = F::zero();
     }
-    for k in values.len()..out.len() {
+    for i in 0..values.len() {
+        out[skip + i] = values[i].mul(weights[i]);
+    }
+    for k in skip + values.len()..out.len() {
         out[k] = F::zero();
     }
 }
 
-// Adds the entries from `first` on to those of `out` from `at` to before `to`.
-fn add_from<F: Field>(out: &mut [F], at: usize, to: usize, added: &[F], first: usize)
-    requires order { at ≤ to }
-    requires within { to ≤ length out.old }
-    requires enough { first + (to - at) ≤ length added.now }
-    ensures inside { (k : ℕ) → at ≤ k → k < to → entry F.ops out.new k ≡ F.ops.plus (entry F.ops out.old k) (entry F.ops added.now (first + (k - at))) }
-    ensures before { (k : ℕ) → k < at → entry F.ops out.new k ≡ entry F.ops out.old k }
-    ensures after { (k : ℕ) → to ≤ k → entry F.ops out.new k ≡ entry F.ops out.old k }
-{
-    for k in at..to {
-        out[k] = out[k].add(added[first + (k - at)]);
-    }
-}
-
-// Adds a block's part of the barycentric sum at each further point.
-fn add_block<F: Field>(
+// The transform of a block's values times their weights. A block that is short stands at the end of its places.
+fn transform_block<F: Field>(
     kernels: &Kernels<F>,
     weights: &[F],
-    v: usize,
     values: &[F],
-    spectrum: &mut [F],
-    convolved: &mut [F],
+    v: usize,
     out: &mut [F],
 )
     requires ready { IsReady F.ops F.element kernels.now.transform kernels.now.plan kernels.now.spectra.items }
     requires weights { IsWeights F.ops F.element kernels.now.plan.count weights.now }
     requires values { length values.now ≡ kernels.now.plan.count }
     requires block { v < kernels.now.plan.blocks }
-    requires out { length out.old + kernels.now.plan.count ≡ kernels.now.plan.upto }
-    requires spectrum { length spectrum.old ≡ 2 ^ kernels.now.transform.bits }
-    requires convolved { length convolved.old ≡ 2 ^ kernels.now.transform.bits }
-    ensures { (k : ℕ) → k < length out.new → (let x = F.element (kernels.now.plan.count + k) in entry F.ops out.old k ≡ parts F.ops F.element values.now (v * kernels.now.plan.block) x → entry F.ops out.new k ≡ parts F.ops F.element values.now (end_of kernels.now.plan v) x) }
+    requires out { length out.old ≡ 2 ^ kernels.now.transform.bits }
+    ensures { let d = kernels.now.transform in (j : ℕ) → j < length out.new → entry F.ops out.new j ≡ spectrum F.ops d.bits d.root (weighted F.ops kernels.now.plan values.now weights.now v) j }
+{
+    let plan = kernels.plan;
+    let start = v * plan.block;
+    let end = (start + plan.block).min(plan.count);
+    let skip = plan.block - (end - start);
+    weigh(&values[start..end], &weights[start..end], skip, out);
+    kernels.transform.forward(out);
+}
+
+// The transforms of the blocks from one on, one after the other.
+fn transform_blocks<F: Field>(
+    kernels: &Kernels<F>,
+    weights: &[F],
+    values: &[F],
+    from: usize,
+    spectra: &mut [F],
+)
+    requires ready { IsReady F.ops F.element kernels.now.transform kernels.now.plan kernels.now.spectra.items }
+    requires weights { IsWeights F.ops F.element kernels.now.plan.count weights.now }
+    requires values { length values.now ≡ kernels.now.plan.count }
+    requires order { from ≤ kernels.now.plan.blocks }
+    requires spectra { length spectra.old ≡ (kernels.now.plan.blocks - from) * 2 ^ kernels.now.transform.bits }
+    ensures { AreSpectra F.ops kernels.now.transform kernels.now.plan values.now weights.now from spectra.new }
+{
+    let plan = kernels.plan;
+    if from == plan.blocks {
+        return;
+    }
+    let (first, rest) = spectra.split_at_mut(kernels.transform.size());
+    transform_block(kernels, weights, values, from, first);
+    transform_blocks(kernels, weights, values, from + 1, rest);
+}
+
+// The sums over the blocks of the products of their transforms and their kernels for a piece: the transform of
+// the sum of the convolutions.
+fn sum_products<F: Field>(kernels: &Kernels<F>, p: usize, spectra: &[F], out: &mut [F])
+    requires ready { IsReady F.ops F.element kernels.now.transform kernels.now.plan kernels.now.spectra.items }
+    requires piece { p < kernels.now.plan.pieces }
+    requires spectra { length spectra.now ≡ kernels.now.plan.blocks * 2 ^ kernels.now.transform.bits }
+    requires out { length out.old ≡ 2 ^ kernels.now.transform.bits }
+    ensures { let d = kernels.now.transform in (values weights : List F) → IsRoot F.ops d.bits d.root → AreSpectra F.ops d kernels.now.plan values weights 0 spectra.now → (j : ℕ) → j < length out.new → entry F.ops out.new j ≡ spectrum F.ops d.bits d.root (convolutions F.ops F.element d kernels.now.plan values weights p kernels.now.plan.blocks) j }
 {
     let plan = kernels.plan;
     let size = kernels.transform.size();
-    let start = v * plan.block;
-    let end = (start + plan.block).min(plan.count);
-    weigh(&values[start..end], &weights[start..end], spectrum);
-    kernels.transform.forward(spectrum);
-    for p in 0..plan.pieces {
-        let at = p * plan.piece;
-        let to = (at + plan.piece).min(out.len());
+    let first = p * size;
+    multiply(&spectra[..size], &kernels.spectra[first..first + size], out);
+    for v in 1..plan.blocks {
         let place = (v * plan.pieces + p) * size;
-        let kernel = &kernels.spectra[place..place + size];
-        kernels.transform.convolve(spectrum, kernel, convolved);
-        add_from(out, at, to, convolved, end - start - 1);
+        let at = v * size;
+        add_products(
+            &spectra[at..at + size],
+            &kernels.spectra[place..place + size],
+            out,
+        );
+    }
+}
+
+// Sets the entries from `at` to before `to` to products of entries at their places and those of `list` from
+// `first` on.
+fn set_products<F: Field>(
+    out: &mut [F],
+    at: usize,
+    to: usize,
+    factors: &[F],
+    list: &[F],
+    first: usize,
+)
+    requires order { at ≤ to }
+    requires within { to ≤ length out.old }
+    requires factors { to ≤ length factors.now }
+    requires enough { first + (to - at) ≤ length list.now }
+    ensures inside { (k : ℕ) → at ≤ k → k < to → entry F.ops out.new k ≡ F.ops.times (entry F.ops list.now (first + (k - at))) (entry F.ops factors.now k) }
+    ensures before { (k : ℕ) → k < at → entry F.ops out.new k ≡ entry F.ops out.old k }
+{
+    for k in at..to {
+        out[k] = list[first + (k - at)].mul(factors[k]);
     }
 }
 
@@ -80,7 +131,7 @@ pub fn extend_by<F: Field>(
     weights: &[F],
     passed: &[F],
     values: &[F],
-    spectrum: &mut [F],
+    spectra: &mut [F],
     convolved: &mut [F],
     out: &mut [F],
 )
@@ -89,17 +140,17 @@ pub fn extend_by<F: Field>(
     requires passed { IsPassed F.ops F.element kernels.now.plan.count kernels.now.plan.upto passed.now }
     requires values { length values.now ≡ kernels.now.plan.count }
     requires out { length out.old + kernels.now.plan.count ≡ kernels.now.plan.upto }
-    requires spectrum { length spectrum.old ≡ 2 ^ kernels.now.transform.bits }
+    requires spectra { length spectra.old ≡ kernels.now.plan.blocks * 2 ^ kernels.now.transform.bits }
     requires convolved { length convolved.old ≡ 2 ^ kernels.now.transform.bits }
     ensures { (k : ℕ) → k < length out.new → entry F.ops out.new k ≡ extension F.ops F.element values.now (kernels.now.plan.count + k) }
 {
-    for t in 0..out.len() {
-        out[t] = F::zero();
-    }
-    for v in 0..kernels.plan.blocks {
-        add_block(kernels, weights, v, values, spectrum, convolved, out);
-    }
-    for u in 0..out.len() {
-        out[u] = out[u].mul(passed[u]);
+    let plan = kernels.plan;
+    transform_blocks(kernels, weights, values, 0, spectra);
+    for p in 0..plan.pieces {
+        sum_products(kernels, p, spectra, convolved);
+        kernels.transform.backward(convolved);
+        let at = p * plan.piece;
+        let to = (at + plan.piece).min(out.len());
+        set_products(out, at, to, passed, convolved, plan.block - 1);
     }
 }

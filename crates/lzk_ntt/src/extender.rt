@@ -1,6 +1,6 @@
 //! What extends rows by convolution.
 
-ghost use Rattle.std.specs.Prelude.{◌≡◌, ◌≢◌, ◌+◌, ◌*◌, ◌^◌, ℕ, ◌<◌, ◌≤◌, length, IfOk};
+ghost use Rattle.std.specs.Prelude.{◌≡◌, ◌≢◌, ◌+◌, ◌^◌, ℕ, ◌<◌, ◌≤◌, length, IfOk};
 ghost use Rattle.lzk_field.specs.Sums.{entry};
 ghost use Rattle.lzk_poly.specs.Extension.{Reach, extension};
 ghost use Rattle.lzk_poly.specs.Weights.{IsEven};
@@ -18,8 +18,9 @@ use std::marker::Model;
 /// transforms. Over Goldilocks it is made by `RowExtend::make`.
 ///
 /// The weights, and the transforms of the kernels, are computed once. A row takes one forward transform for
-/// each block of at most 2,048 values, and for each block and each piece of the further points one pointwise
-/// product and one backward transform. It takes no memory but the caller's room, as much as two transforms.
+/// each block of its values, and for each piece of the further points a pointwise product for each block, whose
+/// sum is transformed backward once. It takes no memory but the caller's room: a transform for each block, and
+/// one more.
 #[derive(Drop)]
 pub struct NttExtender<F: Field> {
     weights: Weights<F>,
@@ -27,13 +28,13 @@ pub struct NttExtender<F: Field> {
 }
 
 impl<F: Field> Model for NttExtender<F> {
-    ghost use Rattle.std.specs.Prelude.{◌≡◌, ◌*◌, ◌^◌};
+    ghost use Rattle.std.specs.Prelude.{◌≡◌, ◌+◌, ◌*◌, ◌^◌};
     ghost use Rattle.lzk_poly.specs.Extension.{Reach};
     ghost use Rattle.lzk_ntt.specs.Kernels.{Convolver, IsReady};
 
     ghost Value = { Convolver };
 
-    ghost view = { λ e. record { reach = e.weights; room = 2 * 2 ^ e.kernels.transform.bits } };
+    ghost view = { λ e. record { reach = e.weights; room = (e.kernels.plan.blocks + 1) * 2 ^ e.kernels.transform.bits } };
 
     ghost invariant = { λ e. (e.kernels.plan.count ≡ e.weights.count) × (e.kernels.plan.upto ≡ e.weights.upto) × IsReady F.ops F.element e.kernels.transform e.kernels.plan e.kernels.spectra.items };
 }
@@ -54,7 +55,7 @@ impl<F: Field> NttExtender<F> {
         requires fits { block ≤ 2 ^ transform.bits }
         requires even { IsEven F.ops F.element upto }
         requires two { F.ops.plus F.ops.one F.ops.one ≢ F.ops.zero }
-        ensures { IfOk result (λ e. e ≡ record { reach = record { count = n; upto = upto }; room = 2 * 2 ^ transform.bits }) }
+        ensures { IfOk result (λ e. e.reach ≡ record { count = n; upto = upto }) }
     {
         let plan = Plan::new(n, upto, block, transform.bits());
         let weights = Weights::new(alloc, n, upto)?;
@@ -68,11 +69,11 @@ impl<F: Field> NttExtender<F> {
         Ok(NttExtender { weights, kernels })
     }
 
-    /// How many elements of room an extension takes: as many as two transforms.
+    /// How many elements of room an extension takes: as many as a transform for each block, and one more.
     pub(crate) fn room_size(&self) -> usize
         ensures { result ≡ self.now.room }
     {
-        2 * self.kernels.transform.size()
+        (self.kernels.plan.blocks + 1) * self.kernels.transform.size()
     }
 
     /// Writes the values at the points from `count` on of the polynomial through `values`.
@@ -82,13 +83,14 @@ impl<F: Field> NttExtender<F> {
         requires room { length room.old ≡ self.now.room }
         ensures { (k : ℕ) → k < length out.new → entry F.ops out.new k ≡ extension F.ops F.element values.now (self.now.reach.count + k) }
     {
-        let (spectrum, convolved) = room.split_at_mut(self.kernels.transform.size());
+        let spectra = self.kernels.plan.blocks * self.kernels.transform.size();
+        let (spectra, convolved) = room.split_at_mut(spectra);
         extend_by(
             &self.kernels,
             self.weights.weights(),
             self.weights.passed(),
             values,
-            spectrum,
+            spectra,
             convolved,
             out,
         );

@@ -10,7 +10,10 @@ use lzk_goldilocks::{Gold, root_of_unity};
 use lzk_poly::RowExtend;
 use std::alloc::{AllocError, Global};
 
-// How many values are convolved at a time, at most.
+// How many values a row has that is not cut into blocks.
+const WHOLE: usize = 512;
+
+// How many values a block has, at most.
 const BLOCK: usize = 2048;
 
 /// A root of one of order 2^bits.
@@ -19,6 +22,21 @@ pub fn root_of(bits: u32) -> Gold
     ensures { IsRoot ops bits result }
 {
     root_of_unity(bits)
+}
+
+// How many values are convolved at a time: all of a short row, and half of a longer one. Two blocks are added up
+// before they are transformed backward, by transforms of half the size.
+fn block_for(n: u32) -> usize
+    requires { 1 ≤ n }
+    ensures some { 1 ≤ result }
+    ensures few { result ≤ 2048 }
+{
+    let n = n as usize;
+    if n <= WHOLE {
+        n
+    } else {
+        n.div_ceil(2).min(BLOCK)
+    }
 }
 
 // The bits of a transform that holds as many points as values, and some more.
@@ -41,7 +59,7 @@ impl RowExtend<Gold> for NttExtender<Gold> {
     ghost rooms = { λ e. e.room };
 
     fn make(alloc: Global, n: u32, upto: u32) -> Result<NttExtender<Gold>, AllocError> {
-        let block = (n as usize).min(BLOCK);
+        let block = block_for(n);
         let bits = bits_for(block);
         let transform = Transform::new(alloc, bits, root_of(bits))?;
         NttExtender::with_transform(alloc, n, upto, block, transform)

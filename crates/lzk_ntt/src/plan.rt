@@ -36,6 +36,7 @@ fn parts(whole: usize, size: usize) -> usize
 impl Plan {
     /// The plan with blocks of so many values for transforms of 2^bits entries.
     pub fn new(count: u32, upto: u32, block: usize, bits: u32) -> Plan
+        requires given { 1 ≤ count }
         requires order { count ≤ upto }
         requires limit { upto ≤ 65536 }
         requires few { bits ≤ 20 }

@@ -31,14 +31,25 @@ fn twiddle_factors<F: Field>(alloc: Global, bits: u32, root: F) -> Result<Vec<F>
     Ok(list)
 }
 
-// The products of the entries at one place.
-fn multiply<F: Field>(left: &[F], right: &[F], out: &mut [F])
+/// The products of the entries at one place.
+pub fn multiply<F: Field>(left: &[F], right: &[F], out: &mut [F])
     requires left { length left.now ≡ length out.old }
     requires right { length right.now ≡ length out.old }
     ensures { (j : ℕ) → j < length out.new → entry F.ops out.new j ≡ F.ops.times (entry F.ops left.now j) (entry F.ops right.now j) }
 {
     for j in 0..out.len() {
         out[j] = left[j].mul(right[j]);
+    }
+}
+
+/// Adds the products of the entries at one place.
+pub fn add_products<F: Field>(left: &[F], right: &[F], out: &mut [F])
+    requires left { length left.now ≡ length out.old }
+    requires right { length right.now ≡ length out.old }
+    ensures { (j : ℕ) → j < length out.new → entry F.ops out.new j ≡ F.ops.plus (entry F.ops out.old j) (F.ops.times (entry F.ops left.now j) (entry F.ops right.now j)) }
+{
+    for j in 0..out.len() {
+        out[j] = out[j].add(left[j].mul(right[j]));
     }
 }
 

@@ -1,37 +1,62 @@
-use Rattle.std.proofs.Common.{◌≡◌, ◌+◌, ◌<◌, length, ap, ◌∙◌, arith, sym, slice_set, get_or-set_other, get_or-set_same, below_more}
-use Rattle.std.proofs.lemmas.List.{get_or_default}
-use Rattle.std.proofs.Math.ListN.{length-set}
-use Rattle.lzk_field.specs.Sums.{entry}
-use Rattle.lzk_poly.specs.Extension.{extension}
-use Rattle.lzk_poly.specs.Weights.{passed, parts}
+use Rattle.std.proofs.Common.{◌≡◌, ℕ, ◌+◌, ◌-◌, ◌*◌, ◌^◌, ◌<◌, length, min, ap, ◌∙◌, arith, sym}
+use Rattle.std.proofs.Math.Nat.{add-mul}
+use native.Mathlib.Decide.{dec_lt}
+use Rattle.lzk_field.specs.Sums.{entry, sum_below}
+use Rattle.lzk_poly.specs.Weights.{part, passed, parts}
 use Rattle.lzk_poly.proofs.Blocks.{parts_extension}
+use Rattle.lzk_ntt.specs.Kernels.{convolution, convolutions, end_of, from_of}
+use Rattle.lzk_ntt.specs.Transform.{doubled}
+use Rattle.lzk_ntt.proofs.Pieces.{block_adds, blocks_add}
 use Rattle.lzk_ntt.proofs.blocks.extend_by.Goals as goal
 
-pub loop-u-preserved : goal.loop-u-preserved
-loop-u-preserved g c =
+pub loop-p-preserved : goal.loop-p-preserved
+loop-p-preserved g c =
     let m = g.F.Field in
     let o = m.ops in
+    let r = m.laws.ring in
+    let d = c.args.kernels.now.transform in
+    let n = 2 ^ d.bits in
     let plan = c.args.kernels.now.plan in
-    let values = c.args.values.now in
-    let products = c.args.passed.now in
-    let out = c.loop-u.out in
-    let u = c.loop-u.u in
-    let j = plan.count + u in
-    let inv = c.loop-u.invariant in
     let planned = c.requires.ready.planned in
-    let whole : length out + plan.count ≡ plan.upto = omega (arith, c.loop-u.auto.out, c.loop-v.auto.out, c.loop-t.auto.out, c.requires.out) in
-    let within : u < length products = omega (arith, c.requires.passed.0, whole) in
-    let sum : c.index-out-u.result ≡ parts o m.element values (length values) (m.element j) =
-    c.index-out-u.is ∙ get_or_default out u c.index-out-u.result o.zero (omega arith) ∙ inv.rest u (omega arith) (omega arith) in
-    let product : c.index-passed-u.result ≡ passed o m.element (length values) (m.element j) =
-    c.index-passed-u.is ∙ get_or_default products u c.index-passed-u.result o.zero within ∙ c.requires.passed.1 u within
-    ∙ ap (λ n. passed o m.element n (m.element j)) (sym c.requires.values) in
-    let value : c.mul.result ≡ extension o m.element values j =
-    c.mul.ensures ∙ ap (λ w. o.times w c.index-passed-u.result) sum ∙ ap (o.times (parts o m.element values (length values) (m.element j))) product
-    ∙ parts_extension m.laws values j (omega (arith, c.requires.values)) (omega (arith, whole, planned.limit)) in
-    record {
-      done = below_more (λ k. entry o (slice_set out u c.mul.result) k ≡ extension o m.element values (plan.count + k)) u
-          (λ k h. get_or-set_other out u k c.mul.result o.zero (omega arith) ∙ inv.done k h)
-          (get_or-set_same out u c.mul.result o.zero (omega arith) ∙ value);
-      rest = λ k p q. get_or-set_other out u k c.mul.result o.zero (omega arith) ∙ inv.rest k (omega arith) (omega (arith, length-set out u c.mul.result));
-    }
+    let values = c.args.values.now in
+    let ws = c.args.weights.now in
+    let products = c.args.passed.now in
+    let p = c.loop-p.p in
+    let at = p * plan.piece in
+    let list = c.backward.new.values in
+    let first = plan.block - 1 in
+    let begins : at < plan.upto - plan.count = planned.pieces.begins p c.loop-p-test.true in
+    let next : (p + 1) * plan.piece ≡ at + plan.piece = add-mul p 1 plan.piece ∙ omega arith in
+    let long : length list ≡ n = omega (arith, c.backward.auto.values, c.sum_products.auto.out, c.loop-p.auto.convolved, c.requires.convolved) in
+    let whole : length c.loop-p.out + plan.count ≡ plan.upto = omega (arith, c.loop-p.auto.out, c.requires.out) in
+    let conv : (t : ℕ) → t < n → entry o list t ≡ o.times (doubled o d.bits) (convolutions o m.element d plan values ws p plan.blocks t) =
+    λ t h.
+    c.backward.ensures.entries (convolutions o m.element d plan values ws p plan.blocks)
+    (λ j l. c.sum_products.ensures values ws c.backward.ensures.root c.transform_blocks.ensures j l)
+    t (omega (arith, long, h)) in
+    λ k below inside. elim (dec_lt k at) [
+      | yes l ↦ c.set_products.ensures.before k l ∙ c.loop-p.invariant k l (omega (arith, inside, c.set_products.auto.out))
+      | no l ↦
+          let y = k - at in
+          let j = plan.count + k in
+          let x = m.element j in
+          let there : from_of plan p + y ≡ j = omega arith in
+          let small : y < plan.piece = omega (arith, below, next) in
+          let reached : k < length c.loop-p.out = omega (arith, inside, c.set_products.auto.out) in
+          let limit : from_of plan p + y < plan.upto = omega (arith, there, reached, whole) in
+          let full : min (plan.blocks * plan.block) plan.count ≡ length values = omega (arith, planned.blocks.all, c.requires.values) in
+          let within : k < length products = omega (arith, c.requires.passed.0, reached, whole) in
+          let sum : entry o list (first + y) ≡ parts o m.element values (length values) x =
+          conv (first + y) (omega (arith, small, planned.room, planned.some))
+          ∙ blocks_add o r m.laws.field m.element plan values x (doubled o d.bits) (λ v. convolution o m.element d plan values ws p v (first + y)) planned.blocks
+          (λ v h. block_adds o r m.laws.field m.element d plan values ws p v y planned h begins small limit c.requires.values c.requires.ready.even c.requires.weights c.requires.ready.inverse_size
+          ∙ ap (λ z. sum_below o (end_of plan v - v * plan.block) (λ i. part o m.element values (v * plan.block + i) (m.element z))) there)
+          plan.blocks (omega arith)
+          ∙ ap (λ z. parts o m.element values z x) full in
+          let product : entry o products k ≡ passed o m.element (length values) x =
+          c.requires.passed.1 k within ∙ ap (λ z. passed o m.element z x) (sym c.requires.values) in
+          c.set_products.ensures.inside k (omega arith) (omega (arith, c.min-to.ensures, below, next, reached))
+          ∙ ap (λ u. o.times u (entry o products k)) sum
+          ∙ ap (o.times (parts o m.element values (length values) x)) product
+          ∙ parts_extension m.laws values j (omega (arith, c.requires.values)) (omega (arith, reached, whole, planned.limit))
+    ]

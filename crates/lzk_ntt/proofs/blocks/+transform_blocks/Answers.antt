@@ -1,0 +1,10 @@
+use Rattle.std.proofs.Common.{arith}
+use Rattle.lzk_ntt.proofs.Spectra.{spectra_joined}
+use Rattle.lzk_ntt.proofs.blocks.+transform_blocks.Goals as goal
+
+pub returns : goal.returns
+returns g t c =
+    let d = c.args.kernels.now.transform in
+    spectra_joined g.F.Field.ops d c.args.kernels.now.plan c.args.values.now c.args.weights.now c.args.from c.transform_block.new.out c.transform_blocks.new.spectra
+    (omega (arith, c.transform_block.auto.out, c.split_at_mut-first.ensures.front_len, c.size.ensures.value))
+    c.transform_block.ensures c.transform_blocks.ensures
