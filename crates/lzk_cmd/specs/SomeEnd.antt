@@ -5,14 +5,16 @@ use Rattle.lzk_circbytes.specs.Files.{CircuitBytes}
 use Rattle.lzk_expr.specs.declared.source_fault.SourceFault.{SourceFault}
 use Rattle.lzk_expr.specs.Sources.{TextReads}
 use Rattle.lzk_expr.specs.Trees.{SourceTree}
+use Rattle.lzk_demo.specs.Demo.{demo_tree}
 use Rattle.lzk_level.specs.Compiled.{source_limit}
 use Rattle.lzk_outside.specs.Outside.{Files}
 use Rattle.lzk_cmd.specs.Compiled.{Compiled}
 use Rattle.lzk_cmd.specs.Decoded.{text_limit}
 use Rattle.lzk_cmd.specs.Ends.{End, Stop}
 use Rattle.lzk_cmd.specs.Formats.{HasFile}
+use Rattle.lzk_cmd.specs.Keys.{number_of}
 use Rattle.lzk_cmd.specs.Run.{RunOf}
-use Rattle.lzk_cmd.specs.Words.{Command, Compile, command_of}
+use Rattle.lzk_cmd.specs.Words.{Command, Compile, Demo, command_of}
 
 -- each file is a list of bytes
 abbrev pub AreBytes : Files → Type 0
@@ -26,9 +28,10 @@ HasCircuit source = (c : AnyCircuit) × (bytes : List ℕ) × Compiled source c 
 abbrev pub CanCompile : List ℕ → Type 0
 CanCompile text = (read : Result SourceTree SourceFault) × TextReads text read × ((source : SourceTree) → read ≡ Ok source → source_limit source ≡ None → HasCircuit source)
 
--- what is asked of the files, beside that they are bytes: of `compile` alone, that its source is compilable
+-- what is asked beside that the files are bytes: of `compile`, that its source is compilable, and of `demo`, that its source has a circuit
 abbrev pub CanRun : Option Command → Files → Type 0
 CanRun (Some (Compile source circuit)) files = (text : List ℕ) → HasFile (files source) text_limit text → CanCompile text
+CanRun (Some (Demo count seed)) files = HasCircuit (demo_tree (number_of count))
 CanRun command files = Unit {0}
 
 abbrev pub SomeEnd : Type 0
