@@ -23,12 +23,12 @@ use Rattle.lzk_layout.proofs.OneProof.{one_proof, no_fault}
 use Rattle.lzk_outside.specs.Outside.{Files}
 use Rattle.lzk_verify.proofs.OneVerdict.{one_verdict}
 use Rattle.lzk_cmd.specs.Compiled.{CompileRun, PutsCompiled, term_total}
-use Rattle.lzk_cmd.specs.Demo.{IsDemo, DemoRun, demo_end}
+use Rattle.lzk_cmd.specs.Demo.{DemoRun}
 use Rattle.lzk_cmd.specs.Decoded.{circuit_files, number_files, source_files, proof_files, level_refused}
 use Rattle.lzk_cmd.specs.Ends.{End, Stop, stops_at, says, missing_file, refused_words, puts}
 use Rattle.lzk_cmd.specs.Formats.{Format, AtBytes, At}
 use Rattle.lzk_cmd.specs.Keys.{number_of}
-use Rattle.lzk_cmd.specs.Lines.{larger_line, reading_line, proved_line, demo_line}
+use Rattle.lzk_cmd.specs.Lines.{larger_line, reading_line, proved_line}
 use Rattle.lzk_cmd.specs.OneEnd.{PutAlike, DemoAlike, AreOne, OneEnd}
 use Rattle.lzk_cmd.specs.Proved.{PutsProof, Proves, ProveOver, ProveAny, ProveRun, nonzero_end, seed_of}
 use Rattle.lzk_cmd.specs.Run.{Evaluated, EvalOver, EvalAny, EvalRun, ShowRun, CommandRun, verdict, output_lines}

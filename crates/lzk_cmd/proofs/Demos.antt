@@ -1,6 +1,6 @@
 -- The demo's circuit, and the end that tells of it.
-use Rattle.std.proofs.Common.{◌≡◌, ◌⊎◌, ℕ, zero, suc, Bool, ◌≤◌, inl, inr, List, [], length, Option, Some, None, Result, Ok, Err, refl, sym, subst, ap, ◌∙◌, lit≤, leb-true, arith}
-use Rattle.std.specs.Prelude.{nat_le, ◌&&◌, true, not, count_by, string_bytes}
+use Rattle.std.proofs.Common.{◌≡◌, ◌⊎◌, ℕ, zero, suc, Bool, ◌≤◌, inl, inr, List, [], length, Some, None, Result, Ok, Err, refl, sym, subst, ap, ◌∙◌, lit≤, leb-true}
+use Rattle.std.specs.Prelude.{nat_le, ◌&&◌, true, not, string_bytes}
 use Rattle.std.proofs.lemmas.List.{length-map}
 use Rattle.std.proofs.lemmas.Bool.{and_parts}
 use Rattle.lzk_circbytes.specs.declared.any.AnyCircuit.TheVariants.{Gold}
@@ -15,7 +15,7 @@ use Rattle.lzk_goldilocks.specs.Elements as gold
 use Rattle.lzk_goldilocks.specs.declared.element.Gold.{Gold as GoldElement}
 use Rattle.lzk_honest.specs.Proving.{HaveCounts, IsProofFile, words_of}
 use Rattle.lzk_level.specs.Compiled.{HasValues, HasReducedLayers, source_layers}
-use Rattle.lzk_outside.specs.Outside.{Files, Appends}
+use Rattle.lzk_outside.specs.Outside.{Appends}
 use Rattle.lzk_verify.specs.declared.verdict.Verdict.{Verdict}
 use Rattle.lzk_verify.specs.declared.verdict.Verdict.TheVariants.{Accepted}
 use Rattle.lzk_verify.specs.Verdict.{IsVerdict}
@@ -25,7 +25,7 @@ use Rattle.lzk_cmd.specs.declared.ending.Halt.TheVariants as halts
 use Rattle.lzk_cmd.specs.Accepted.{HasDemo, DemoIsAccepted}
 use Rattle.lzk_cmd.specs.Compiled.{Compiled}
 use Rattle.lzk_cmd.specs.Demo.{IsDemo, DemoRun, HasVerdict, demo_end}
-use Rattle.lzk_cmd.specs.Ends.{Nowhere, says}
+use Rattle.lzk_cmd.specs.Ends.{says}
 use Rattle.lzk_cmd.specs.Keys.{are_digits, is_number, number_of}
 use Rattle.lzk_cmd.specs.Lines.{demo_line}
 use Rattle.lzk_cmd.specs.Proved.{seed_of}
@@ -34,7 +34,6 @@ use Rattle.lzk_cmd.specs.Sights.{Before, After}
 use Rattle.lzk_cmd.specs.Verified.{gold_coding}
 use Rattle.lzk_cmd.specs.Walks.{IsEnding, OnDemo, Prints, TellsDemo, TellsDemos, Walks}
 use Rattle.lzk_cmd.specs.Words.{Command, LeavesShelf, command_of}
-use Rattle.lzk_cmd.proofs.Causes.{IsQuiet}
 use Rattle.lzk_cmd.proofs.Sights.{where_told, no_step}
 use Rattle.lzk_cmd.proofs.Steps.{here}
 

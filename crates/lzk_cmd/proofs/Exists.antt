@@ -25,7 +25,7 @@ use Rattle.lzk_honest.specs.Proving.{HaveCounts, SomeFile, FilesFit, words_of}
 use Rattle.lzk_outside.specs.Outside.{Files}
 use Rattle.lzk_verify.proofs.SomeVerdict.{some_verdict}
 use Rattle.lzk_cmd.specs.Compiled.{CompileRun, CompileTree, PutsCompiled, compiled_text}
-use Rattle.lzk_cmd.specs.Demo.{IsDemo, DemoRun, demo_end}
+use Rattle.lzk_cmd.specs.Demo.{DemoRun, demo_end}
 use Rattle.lzk_cmd.specs.Decoded.{circuit_files, number_files, source_files, proof_files, level_refused, text_limit, proof_limit}
 use Rattle.lzk_cmd.specs.Ends.{End, Stop, AtFile, stops_at, says, missing_file, refused_words, puts}
 use Rattle.lzk_cmd.specs.Formats.{Format, HasFile, AtBytes, At}

@@ -1,4 +1,4 @@
-use Rattle.std.proofs.Common.{◌≡◌, ℕ, length, refl, sym, ap, ◌∙◌}
+use Rattle.std.proofs.Common.{ℕ, length, refl, sym, ap, ◌∙◌}
 use Rattle.lzk_goldilocks.specs.Elements.{ops}
 use Rattle.lzk_cmd.specs.Keys.{number_of}
 use Rattle.lzk_cmd.specs.Lines.{demo_line}

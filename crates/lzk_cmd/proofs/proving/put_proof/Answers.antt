@@ -1,10 +1,9 @@
-use Rattle.std.proofs.Common.{◌≡◌, ℕ, List, Some, None, refl, subst, ap, ◌∙◌}
+use Rattle.std.proofs.Common.{ℕ, List, Some, None, refl, subst}
 use Rattle.lzk_circuit.specs.Valid.{Wiring}
 use Rattle.lzk_circuit.specs.Wires.{wires_of, inputs_of, IsFirstNonzero}
 use Rattle.lzk_field.specs.Coding.{coding}
 use Rattle.lzk_field.specs.Words.{seeded_word}
 use Rattle.lzk_honest.specs.Proving.{IsProofFile, words_of}
-use Rattle.lzk_cmd.specs.Lines.{proved_line}
 use Rattle.lzk_cmd.specs.Seen.{seen}
 use Rattle.lzk_cmd.specs.declared.ending.Halt.TheVariants as halts
 use Rattle.lzk_cmd.proofs.Proves.{no_memory, puts_proof, tells_first}
