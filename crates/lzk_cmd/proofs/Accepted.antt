@@ -1,5 +1,5 @@
 -- What `prove` puts is accepted.
-use Rattle.std.proofs.Common.{◌≡◌, ◌<◌, inl, inr, ℕ, suc, Bool, true, false, List, length, map, Option, Some, None, refl, sym, ap, ◌∙◌, arith}
+use Rattle.std.proofs.Common.{◌≡◌, inl, inr, ℕ, suc, Bool, true, false, List, length, Option, Some, None, refl, sym, ap, ◌∙◌, arith}
 use Rattle.std.specs.Prelude.{MatchBool, MatchOption, nat_lt}
 use Rattle.std.proofs.lemmas.List.{length-map}
 use Rattle.std.proofs.lemmas.Bool.{ltb-false}
@@ -7,14 +7,13 @@ use Rattle.lzk_circbytes.specs.declared.any.AnyCircuit.{AnyCircuit}
 use Rattle.lzk_circbytes.specs.declared.any.AnyCircuit.TheVariants.{Gold, Gf}
 use Rattle.lzk_circbytes.specs.Files.{CircuitBytes}
 use Rattle.lzk_circuit.specs.Valid.{Wiring, IsValid}
-use Rattle.lzk_circuit.specs.Wires.{inputs_of, IsSatisfied}
 use Rattle.lzk_field.specs.Coding.{Coding}
 use Rattle.lzk_field.specs.Ring.{Ops}
 use Rattle.lzk_field.specs.Words.{seeded_word}
 use Rattle.lzk_goldilocks.specs.Elements as gold
 use Rattle.lzk_gf128.specs.Elements as gf
 use Rattle.lzk_complete.specs.Complete.{Complete}
-use Rattle.lzk_honest.specs.Proving.{HaveCounts, IsProofFile, words_of}
+use Rattle.lzk_honest.specs.Proving.{HaveCounts, words_of}
 use Rattle.lzk_outside.specs.Outside.{Files}
 use Rattle.lzk_verify.specs.Verdict.{IsVerdict}
 use Rattle.lzk_verify.specs.declared.verdict.Verdict.TheVariants.{Accepted}
@@ -26,7 +25,7 @@ use Rattle.lzk_cmd.specs.Lines.{larger_line, reading_line}
 use Rattle.lzk_cmd.specs.Proved.{Proves, ProveOver, ProveAny, ProveRun, seed_of}
 use Rattle.lzk_cmd.specs.Run.{CommandRun}
 use Rattle.lzk_cmd.specs.Verified.{session_of, gold_coding, gf_coding}
-use Rattle.lzk_cmd.specs.Words.{Prove, command_of}
+use Rattle.lzk_cmd.specs.Words.{Prove}
 
 put_is : (stop : Stop) (name bytes text : List ℕ) → (puts stop name bytes text).put ≡ Some (name, bytes)
 put_is Nowhere name bytes text = refl

@@ -5,6 +5,7 @@ use Rattle.lzk_circbytes.specs.declared.any.AnyCircuit.{AnyCircuit}
 use Rattle.lzk_circbytes.specs.declared.any.AnyCircuit.TheVariants.{Gold, Gf}
 use Rattle.lzk_circuit.specs.Valid.{Wiring}
 use Rattle.lzk_circuit.specs.Wires.{wires_of, inputs_of, IsFirstNonzero}
+use Rattle.lzk_demo.specs.Demo.{demo_tree}
 use Rattle.lzk_expr.specs.Trees.{SourceTree}
 use Rattle.lzk_level.specs.Compiled.{source_layers, source_limit}
 use Rattle.lzk_level.specs.declared.fault.LevelFault.{LevelFault}
@@ -22,15 +23,17 @@ use Rattle.lzk_layout.proofs.OneProof.{one_proof, no_fault}
 use Rattle.lzk_outside.specs.Outside.{Files}
 use Rattle.lzk_verify.proofs.OneVerdict.{one_verdict}
 use Rattle.lzk_cmd.specs.Compiled.{CompileRun, PutsCompiled, term_total}
+use Rattle.lzk_cmd.specs.Demo.{DemoRun}
 use Rattle.lzk_cmd.specs.Decoded.{circuit_files, number_files, source_files, proof_files, level_refused}
 use Rattle.lzk_cmd.specs.Ends.{End, Stop, stops_at, says, missing_file, refused_words, puts}
 use Rattle.lzk_cmd.specs.Formats.{Format, AtBytes, At}
+use Rattle.lzk_cmd.specs.Keys.{number_of}
 use Rattle.lzk_cmd.specs.Lines.{larger_line, reading_line, proved_line}
-use Rattle.lzk_cmd.specs.OneEnd.{PutAlike, AreOne, OneEnd}
+use Rattle.lzk_cmd.specs.OneEnd.{PutAlike, DemoAlike, AreOne, OneEnd}
 use Rattle.lzk_cmd.specs.Proved.{PutsProof, Proves, ProveOver, ProveAny, ProveRun, nonzero_end, seed_of}
 use Rattle.lzk_cmd.specs.Run.{Evaluated, EvalOver, EvalAny, EvalRun, ShowRun, CommandRun, verdict, output_lines}
 use Rattle.lzk_cmd.specs.Verified.{Judged, VerifyOver, VerifyAny, VerifyRun, session_of, verdict_end, gold_coding, gf_coding}
-use Rattle.lzk_cmd.specs.Words.{Command, Eval, Compile, Show, Prove, Verify, command_of}
+use Rattle.lzk_cmd.specs.Words.{Command, Eval, Compile, Show, Prove, Verify, Demo, command_of}
 use Rattle.lzk_cmd.proofs.Laws as formats
 use Rattle.lzk_cmd.proofs.Laws.{IsLawful}
 
@@ -150,6 +153,16 @@ one_compile source circuit files stop a b = one_step files stop a b _ inl source
     go s None h k = inr (alike s h k)
     go s (Some fault) h k = inl (h ∙ sym k)
 
+one_demo : (n : ℕ) (seed : List ℕ) (files : Files) (stop : Stop) (a b : End) → DemoRun n seed files stop a → DemoRun n seed files stop b → DemoAlike n a b
+unfolding DemoRun
+one_demo n seed files stop a b (c, xs, is, h) (d, ys, js, k) = record {
+  layers = source_layers (demo_tree n);
+  first = length xs;
+  second = length ys;
+  first_is = rw is.compiled.layers at h;
+  second_is = rw js.compiled.layers at k;
+}
+
 module _ (gold_file : OneFile gold.ops gold_coding) (gf_file : OneFile gf.ops gf_coding) where
   one_command : (command : Command) (files : Files) (stop : Stop) (a b : End) → CommandRun command files stop a → CommandRun command files stop b → AreOne (Some command) stop a b
   unfolding EvalRun ShowRun ProveRun VerifyRun
@@ -161,6 +174,7 @@ module _ (gold_file : OneFile gold.ops gold_coding) (gf_file : OneFile gf.ops gf
       one_step files stop a b (a ≡ b) (λ e. e) circuit_files formats.circuits 0 circuit _ _ (λ c. one_prove_any gold_file gf_file c public private proof (session_of session) (seed_of seed) files stop a b) h k
   one_command (Verify circuit public proof session) files stop a b h k =
       one_step files stop a b (a ≡ b) (λ e. e) circuit_files formats.circuits 0 circuit _ _ (λ c. one_verify_any c public proof (session_of session) files stop a b) h k
+  one_command (Demo count seed) files stop a b h k = one_demo (number_of count) (seed_of seed) files stop a b h k
 
   pub one_end : OneEnd
   one_end words files stop a b = go (command_of words)

@@ -1,5 +1,5 @@
 -- The end of an evaluation.
-use Rattle.std.proofs.Common.{◌≡◌, ℕ, List, Option, Some, None, Ok, inl, refl, sym, subst, arith}
+use Rattle.std.proofs.Common.{ℕ, List, Option, Some, None, Ok, inl, refl, sym, subst, arith}
 use Rattle.lzk_circuit.specs.Valid.{Wiring}
 use Rattle.lzk_circuit.specs.Wires.{wires_of, inputs_of}
 use Rattle.lzk_field.specs.Ring.{Ops}

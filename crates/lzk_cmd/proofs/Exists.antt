@@ -1,6 +1,6 @@
 -- Words, files and stop have an end.
 use Rattle.std.proofs.Common.{◌≡◌, ◌⊎◌, ◌<◌, ℕ, suc, zero, Bool, true, false, eqb, List, [], ◌∷◌, length, map, Option, Some, None, Result, Ok, Err, inl, inr, refl, sym, ap, ◌∙◌, arith, mod-lt, pow_pos, ltb-false}
-use Rattle.std.specs.Prelude.{◌^◌, MatchBool, MatchOption, nat_lt, slice_index_or}
+use Rattle.std.specs.Prelude.{◌^◌, ◌≤◌, MatchBool, MatchOption, nat_lt, slice_index_or}
 use Rattle.std.proofs.lemmas.List.{length-map}
 use Rattle.std.proofs.lemmas.Bool.{eqb-true, eqb-false}
 use Rattle.lzk_circbytes.specs.declared.any.AnyCircuit.{AnyCircuit}
@@ -9,6 +9,7 @@ use Rattle.lzk_circbytes.specs.Files.{CircuitBytes}
 use Rattle.lzk_circbytes.proofs.Sizes.{files_fit}
 use Rattle.lzk_circuit.specs.Valid.{Wiring, IsValid}
 use Rattle.lzk_circuit.specs.Wires.{wires_of, inputs_of, IsFirstNonzero}
+use Rattle.lzk_expr.specs.declared.ast.FieldId.TheVariants.{Goldilocks, Gf2_128}
 use Rattle.lzk_expr.specs.Trees.{SourceTree}
 use Rattle.lzk_expr.specs.Sources.{TextReads, IsWellFormed}
 use Rattle.lzk_expr.specs.declared.source_fault.SourceFault.{SourceFault}
@@ -21,11 +22,13 @@ use Rattle.lzk_goldilocks.specs.Elements as gold
 use Rattle.lzk_gf128.specs.Elements as gf
 use Rattle.lzk_level.specs.Compiled.{source_limit}
 use Rattle.lzk_level.specs.declared.fault.LevelFault.{LevelFault}
+use Rattle.lzk_level.specs.SomeCircuit.{IsCircuitOf, HasSomeCircuit}
 use Rattle.lzk_level.proofs.SomeCircuits.{some_circuit}
 use Rattle.lzk_honest.specs.Proving.{HaveCounts, SomeFile, FilesFit, words_of}
 use Rattle.lzk_outside.specs.Outside.{Files}
 use Rattle.lzk_verify.proofs.SomeVerdict.{some_verdict}
 use Rattle.lzk_cmd.specs.Compiled.{Compiled, CompileRun, CompileTree, PutsCompiled, compiled_text}
+use Rattle.lzk_cmd.specs.Demo.{DemoRun, demo_end}
 use Rattle.lzk_cmd.specs.Decoded.{circuit_files, number_files, source_files, proof_files, level_refused, text_limit, proof_limit}
 use Rattle.lzk_cmd.specs.Ends.{End, Stop, AtFile, stops_at, says, missing_file, refused_words, puts}
 use Rattle.lzk_cmd.specs.Formats.{Format, HasFile, AtBytes, At}
@@ -34,8 +37,22 @@ use Rattle.lzk_cmd.specs.Proved.{PutsProof, Proves, ProveOver, ProveAny, ProveRu
 use Rattle.lzk_cmd.specs.Run.{Evaluated, EvalOver, EvalAny, EvalRun, ShowRun, CommandRun, verdict, output_lines, shown_any}
 use Rattle.lzk_cmd.specs.SomeEnd.{AreBytes, SomeEnd}
 use Rattle.lzk_cmd.specs.Verified.{Judged, VerifyOver, VerifyAny, VerifyRun, session_of, verdict_end, gold_coding, gf_coding}
-use Rattle.lzk_cmd.specs.Words.{Command, Eval, Compile, Show, Prove, Verify, command_of}
+use Rattle.lzk_cmd.specs.Words.{Command, Eval, Compile, Show, Prove, Verify, Demo, command_of}
+use Rattle.lzk_cmd.specs.Keys.{number_of}
+use Rattle.lzk_cmd.proofs.Counts.{HasNumber, has_number}
+use Rattle.lzk_cmd.proofs.Demos.{length_private, number_fits}
 use Rattle.lzk_cmd.proofs.Total.{circuits_total, numbers_total}
+use Rattle.lzk_complete.specs.Complete.{Complete}
+use Rattle.lzk_demo.specs.Demo.{demo_tree, demo_public, demo_private, InputsSatisfy}
+use Rattle.lzk_demo.proofs.Limits.{demo_publics, demo_privates}
+use Rattle.lzk_goldilocks.specs.declared.element.Gold.{Gold as GoldElement}
+
+-- what is said of a source's circuit, in the words of a run
+compiled_of : (source : SourceTree) (c : AnyCircuit) → IsCircuitOf source c → Compiled source c
+compiled_of source c is = record { field_is = is.field_is; publics = is.publics; privates = is.privates; layers = is.layers; outputs = is.outputs; reduced = is.reduced }
+
+fields_apart : Gf2_128 ≡ Goldilocks → ⊥
+fields_apart e = cc
 
 -- a walk at a file has an end, where it has one on what the bytes mean
 module _ (files : Files) (stop : Stop) (k : ℕ) (name : List ℕ) where
@@ -152,6 +169,9 @@ pub record HaveFiles : Type 0 where
   pub gold_fits : FilesFit gold.ops gold_coding
   pub gf_file : SomeFile gf.ops gf_coding
   pub gf_fits : FilesFit gf.ops gf_coding
+  pub gold_accepted : Complete gold.ops gold_coding
+  pub demo_inputs : (n : ℕ) → 1 ≤ n → (c : Wiring GoldElement) → InputsSatisfy gold.ops gold.of_number n c
+  pub demo_circuit : (n : ℕ) → 1 ≤ n → n ≤ 16384 → HasSomeCircuit (demo_tree n)
 
 some_prove : HaveFiles → (bytes : List ℕ) (c : AnyCircuit) → CircuitBytes c bytes → (public private proof session seed : List ℕ) (files : Files) (stop : Stop) → (end : End) × ProveAny c public private proof session seed files stop end
 some_prove have bytes (Gold c) is public private proof session seed files stop = some_prove_over gold.ops gold_coding gold.laws have.gold_file have.gold_fits c is.valid proof session seed files stop public private
@@ -167,8 +187,7 @@ module _ (have : HaveFiles) (files : Files) (stop : Stop) where
       go : (limit : Option LevelFault) → source_limit s ≡ limit → (end : End) × MatchOption limit (PutsCompiled s circuit stop end) (λ fault. end ≡ level_refused source fault)
       go None kept =
           let (c, bytes, is, file) = some_circuit s formed kept in
-          let compiled : Compiled s c = record { field_is = is.field_is; publics = is.publics; privates = is.privates; layers = is.layers; outputs = is.outputs; reduced = is.reduced } in
-          (puts stop circuit bytes (compiled_text circuit c (length bytes)), (c, bytes, compiled, file, files_fit c bytes file, refl))
+          (puts stop circuit bytes (compiled_text circuit c (length bytes)), (c, bytes, compiled_of s c is, file, files_fit c bytes file, refl))
       go (Some fault) passed = (level_refused source fault, refl)
 
   some_compile : (source circuit : List ℕ) → (end : End) × CompileRun source circuit files stop end
@@ -180,19 +199,31 @@ module _ (have : HaveFiles) (files : Files) (stop : Stop) where
       go text has (Ok s) reads = let behind = some_tree source circuit s (record { text = text; short = has.fits; reads = reads }) in (behind.0, inl (s, reads, behind.1))
       go text has (Err fault) reads = (source_files.refused source fault, inr (fault, reads, refl))
 
-  some_command : (command : Command) → AreBytes files → (end : End) × CommandRun command files stop end
+  some_demo : (n : ℕ) (seed : List ℕ) → 1 ≤ n → HasSomeCircuit (demo_tree n) → (end : End) × DemoRun n seed files stop end
+  unfolding DemoRun
+  some_demo n seed some (Gold c, bytes, is, file) =
+      let counts : HaveCounts c (demo_public gold.ops n) (demo_private gold.ops n) = (sym (is.publics ∙ demo_publics n), length_private gold.ops n ∙ sym (is.privates ∙ demo_privates n)) in
+      let satisfied = have.demo_inputs n some c (is.publics ∙ demo_publics n) (is.privates ∙ demo_privates n) is.outputs in
+      let made = have.gold_file c [] (demo_public gold.ops n) (demo_private gold.ops n) (words_of (seeded_word seed)) file.valid counts (λ i. mod-lt (seeded_word seed i) (pow_pos 128)) in
+      let accepted = have.gold_accepted c [] (demo_public gold.ops n) (demo_private gold.ops n) (words_of (seeded_word seed)) made.0 file.valid counts satisfied made.1 in
+      (demo_end n c made.0, (c, made.0, record { compiled = compiled_of (demo_tree n) (Gold c) is; file = made.1; accepted = accepted }, refl))
+  some_demo n seed some (Gf c, bytes, is, file) = absurd (fields_apart is.field_is)
+
+  some_command : (command : Command) → HasNumber command → AreBytes files → (end : End) × CommandRun command files stop end
   unfolding EvalRun ShowRun ProveRun VerifyRun
-  some_command (Eval circuit public private) good = some_at files stop 0 circuit circuit_files (circuits_there good circuit) _ (λ c. some_eval c public private files stop)
-  some_command (Compile source circuit) good = some_compile source circuit
-  some_command (Show circuit) good = some_at files stop 0 circuit circuit_files (circuits_there good circuit) _ (λ c. (says 0 (shown_any c), refl))
-  some_command (Prove circuit public private proof seed session) good =
+  some_command (Eval circuit public private) number good = some_at files stop 0 circuit circuit_files (circuits_there good circuit) _ (λ c. some_eval c public private files stop)
+  some_command (Compile source circuit) number good = some_compile source circuit
+  some_command (Show circuit) number good = some_at files stop 0 circuit circuit_files (circuits_there good circuit) _ (λ c. (says 0 (shown_any c), refl))
+  some_command (Prove circuit public private proof seed session) number good =
       some_with files stop 0 circuit circuit_files (circuits_there good circuit) _ (λ bytes c means. some_prove have bytes c means public private proof (session_of session) (seed_of seed) files stop)
-  some_command (Verify circuit public proof session) good =
+  some_command (Verify circuit public proof session) number good =
       some_at files stop 0 circuit circuit_files (circuits_there good circuit) _ (λ c. some_verify c public proof (session_of session) files stop good)
+  some_command (Demo count seed) number good =
+      let fits = number_fits count number in some_demo (number_of count) (seed_of seed) fits.0 (have.demo_circuit (number_of count) fits.0 fits.1)
 
 pub some_end : HaveFiles → SomeEnd
-some_end have words files stop good = go (command_of words)
+some_end have words files stop good = go (command_of words) (has_number words)
   where
-    go : (command : Option Command) → (end : End) × MatchOption command (end ≡ refused_words) (λ c. CommandRun c files stop end)
-    go None = (refused_words, refl)
-    go (Some command) = some_command have files stop command good
+    go : (command : Option Command) → ((c : Command) → command ≡ Some c → HasNumber c) → (end : End) × MatchOption command (end ≡ refused_words) (λ c. CommandRun c files stop end)
+    go None number = (refused_words, refl)
+    go (Some command) number = some_command have files stop command (number command refl) good

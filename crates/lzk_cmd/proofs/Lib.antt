@@ -2,6 +2,8 @@ pub mod Accepted
 pub mod Alone
 pub mod Causes
 pub mod Compiles
+pub mod Counts
+pub mod Demos
 pub mod Digits
 pub mod Evals
 pub mod Exists

@@ -14,6 +14,7 @@ use Rattle.lzk_outside.specs.Outside.{Files}
 use Rattle.lzk_cmd.specs.Compiled.{CompileRun}
 use Rattle.lzk_cmd.specs.Complete.{HasNumbers, HasInputs, HasInputsOf, HasPublicsOf, IsReady, Completes}
 use Rattle.lzk_cmd.specs.Decoded.{circuit_files, number_files, source_files, proof_files}
+use Rattle.lzk_cmd.specs.Demo.{DemoRun}
 use Rattle.lzk_verify.specs.declared.verdict.Verdict.{Verdict}
 use Rattle.lzk_verify.specs.declared.verdict.Verdict.TheVariants as verdicts
 use Rattle.lzk_cmd.specs.Ends.{End, Stop, Nowhere, AtRead, AtPut, MayStop, Leaves}
@@ -23,7 +24,7 @@ use Rattle.lzk_cmd.specs.Proved.{PutsProof, Proves, ProveOver, ProveAny, ProveRu
 use Rattle.lzk_cmd.specs.Run.{EvalOver, EvalAny, EvalRun, ShowRun, CommandRun, RunOf, verdict}
 use Rattle.lzk_cmd.specs.Sights.{Before, After}
 use Rattle.lzk_cmd.specs.Verified.{VerifyOver, VerifyAny, VerifyRun, verdict_end, gold_coding, gf_coding}
-use Rattle.lzk_cmd.specs.Words.{Command, Eval, Compile, Show, Prove, Verify, command_of}
+use Rattle.lzk_cmd.specs.Words.{Command, Eval, Compile, Show, Prove, Verify, Demo, command_of}
 use Rattle.lzk_cmd.proofs.Laws as laws
 use Rattle.lzk_cmd.proofs.Laws.{IsLawful, no_number_fault}
 
@@ -109,7 +110,7 @@ prove_any_done (Gold c) public private proof session seed files end has h = prov
 prove_any_done (Gf c) public private proof session seed files end has h = prove_over_done gf.ops gf_coding c public private proof session seed files end has h
 
 ready_done : (files : Files) (command : Command) (end : End) → IsReady files command → CommandRun command files Nowhere end → Done end
-unfolding EvalRun CompileRun ShowRun ProveRun VerifyRun
+unfolding EvalRun CompileRun ShowRun ProveRun VerifyRun DemoRun
 ready_done files (Eval circuit public private) end has h = eval_any_done has.0 public private files end has.2 (ready circuit_files laws.circuits files circuit 0 end has.0 _ has.1 h)
 ready_done files (Compile source circuit) end has h =
     let made = rw has.1.1 at (ready source_files laws.sources files source 0 end has.0 _ has.1.0 h) in
@@ -119,6 +120,7 @@ ready_done files (Prove circuit public private proof seed session) end has h =
     prove_any_done has.0 public private proof _ _ files end has.2 (ready circuit_files laws.circuits files circuit 0 end has.0 _ has.1 h)
 ready_done files (Verify circuit public proof session) end has h =
     verify_any_done has.0 public proof _ has.1 files end has.3 has.4 (ready circuit_files laws.circuits files circuit 0 end has.0 _ has.2 h)
+ready_done files (Demo count seed) end has (c, bytes, is, same) = subst Done (sym same) (inl refl)
 
 pub run_command : (words : List (List ℕ)) (files : Files) (command : Command) (end : End) → command_of words ≡ Some command → RunOf words files Nowhere end → CommandRun command files Nowhere end
 run_command words files command end e h = rw e at h

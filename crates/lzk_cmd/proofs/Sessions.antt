@@ -12,7 +12,7 @@ use Rattle.lzk_cmd.specs.Grammar.{Request, request_of, behind_verb, are_names, a
 use Rattle.lzk_cmd.specs.Keys.{Keys, no_keys, behind, are_hex, is_seed, is_session, is_number, with_seed, with_session, with_workers, with_key, keys_after, keys_of, or_else}
 use Rattle.lzk_cmd.specs.Table.{verb_of, row_of}
 use Rattle.lzk_cmd.specs.Verified.{decoded_or_none, session_of}
-use Rattle.lzk_cmd.specs.Words.{Command, Eval, Compile, Show, Prove, Verify, built, command_of}
+use Rattle.lzk_cmd.specs.Words.{Command, Eval, Compile, Show, Prove, Verify, Demo, built, command_of}
 
 -- the session that stands, if one does, is one
 abbrev HasSession : Keys → Type 0
@@ -92,6 +92,7 @@ asked (Compile source circuit) = None
 asked (Show circuit) = None
 asked (Prove circuit public private proof seed session) = session
 asked (Verify circuit public proof session) = session
+asked (Demo count seed) = None
 
 abbrev AsksOne : Command → Type 0
 AsksOne command = IfSome (asked command) (λ text. is_session text ≡ true)
@@ -127,7 +128,13 @@ built_session verbs.Verify (n ∷ []) keys command good e = absurd cc
 built_session verbs.Verify (n ∷ m ∷ []) keys command good e = absurd cc
 built_session verbs.Verify (n ∷ m ∷ k ∷ []) keys command good e = found _ command good e
 built_session verbs.Verify (n ∷ m ∷ k ∷ l ∷ rest) keys command good e = absurd cc
-built_session verbs.Demo names keys command good e = absurd cc
+built_session verbs.Demo [] keys command good e = absurd cc
+built_session verbs.Demo (n ∷ []) keys command good e = go keys.seed e
+  where
+    go : (seed : Option (List ℕ)) → or_else seed (λ seed. Some (Demo n seed)) None ≡ Some command → AsksOne command
+    go (Some seed) e = found _ command tt e
+    go None e = absurd cc
+built_session verbs.Demo (n ∷ m ∷ rest) keys command good e = absurd cc
 
 pub session_fits : (words : List (List ℕ)) (command : Command) → command_of words ≡ Some command → length (session_of (asked command)) ≤ 64
 unfolding command_of

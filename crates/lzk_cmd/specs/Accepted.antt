@@ -1,21 +1,28 @@
--- What `prove` puts is accepted.
-use Rattle.std.specs.Prelude.{◌≡◌, ℕ, List, Option, Some}
+-- What `prove` puts is accepted, and what `demo` proves.
+use Rattle.std.specs.Prelude.{◌≡◌, ◌⊎◌, ℕ, List, length, Option, Some}
 use Rattle.lzk_circbytes.specs.declared.any.AnyCircuit.{AnyCircuit}
 use Rattle.lzk_circbytes.specs.declared.any.AnyCircuit.TheVariants.{Gold, Gf}
 use Rattle.lzk_circuit.specs.Valid.{Wiring}
 use Rattle.lzk_field.specs.Coding.{Coding}
 use Rattle.lzk_field.specs.Ring.{Ops}
+use Rattle.lzk_goldilocks.specs.declared.element.Gold.{Gold as GoldElement}
 use Rattle.lzk_goldilocks.specs.Elements as gold
 use Rattle.lzk_gf128.specs.Elements as gf
-use Rattle.lzk_outside.specs.Outside.{Files}
+use Rattle.lzk_outside.specs.Outside.{Files, Appends}
 use Rattle.lzk_verify.specs.Verdict.{IsVerdict}
 use Rattle.lzk_verify.specs.declared.verdict.Verdict.TheVariants.{Accepted}
 use Rattle.lzk_cmd.specs.Decoded.{circuit_files, number_files}
+use Rattle.lzk_cmd.specs.Demo.{IsDemo}
 use Rattle.lzk_cmd.specs.Ends.{End, Stop}
 use Rattle.lzk_cmd.specs.Formats.{Has}
+use Rattle.lzk_cmd.specs.Keys.{number_of}
+use Rattle.lzk_cmd.specs.Lines.{demo_line}
+use Rattle.lzk_cmd.specs.Proved.{seed_of}
 use Rattle.lzk_cmd.specs.Run.{RunOf}
+use Rattle.lzk_cmd.specs.Seen.{WriteFailed}
+use Rattle.lzk_cmd.specs.Sights.{Before, After}
 use Rattle.lzk_cmd.specs.Verified.{session_of, gold_coding, gf_coding}
-use Rattle.lzk_cmd.specs.Words.{Prove, command_of}
+use Rattle.lzk_cmd.specs.Words.{Prove, Demo, command_of}
 
 -- the end puts bytes under a name that are accepted over a circuit, for a session and the public inputs of a number file
 abbrev pub PutsAccepted : {A : Type 0} → Ops A → Coding A → Wiring A → List ℕ → List ℕ → List ℕ → Files → End → Type 0
@@ -32,3 +39,17 @@ ProvedIsAccepted =
     (words : List (List ℕ)) (files : Files) (stop : Stop) (end : End) (circuit public private proof seed : List ℕ) (session : Option (List ℕ))
     → command_of words ≡ Some (Prove circuit public private proof seed session) → RunOf words files stop end → end.status ≡ 0
     → (c : AnyCircuit) × Has circuit_files files circuit c × PutsAcceptedAny c public proof (session_of session) files end
+
+-- The run is done, and tells of the demo with n private inputs: of a circuit of its source, and of the proof of these inputs, which is accepted.
+pub record HasDemo (before : Before) (after : After) (n : ℕ) (seed : List ℕ) : Type 0 where
+  pub circuit : Wiring GoldElement
+  pub bytes : List ℕ
+  pub is : IsDemo n seed circuit bytes
+  pub done : after.status ≡ 0
+  pub printed : Appends before.sink.written (demo_line n (length circuit.layers) (length bytes)) after.sink.written
+
+-- The words of `demo` end so for every number of inputs that they take and every seed, or a write failed, or there was no memory. Neither shelf nor sink need tell its contents.
+abbrev pub DemoIsAccepted : Before → After → Type 0
+DemoIsAccepted before after =
+    (count seed : List ℕ) → command_of before.words ≡ Some (Demo count seed)
+    → HasDemo before after (number_of count) (seed_of seed) ⊎ (((after.status ≡ 5) × WriteFailed before.sink after.sink) ⊎ (after.status ≡ 6))

@@ -14,7 +14,7 @@ use Rattle.lzk_cmd.specs.Formats.{HasFile, Has}
 use Rattle.lzk_cmd.specs.Run.{RunOf}
 use Rattle.lzk_cmd.specs.Seen.{ReadFailed, PutFailed, WriteFailed}
 use Rattle.lzk_cmd.specs.Sights.{Before, After}
-use Rattle.lzk_cmd.specs.Words.{Command, Eval, Compile, Show, Prove, Verify, command_of}
+use Rattle.lzk_cmd.specs.Words.{Command, Eval, Compile, Show, Prove, Verify, Demo, command_of}
 
 -- a file of so many numbers, each below size, is there, within its limit
 abbrev pub HasNumbers : Files → List ℕ → ℕ → ℕ → Type 0
@@ -43,6 +43,7 @@ IsReady files (Compile source circuit) = (s : SourceTree) × HasSource files sou
 IsReady files (Show circuit) = (c : AnyCircuit) × Has circuit_files files circuit c
 IsReady files (Prove circuit public private proof seed session) = (c : AnyCircuit) × Has circuit_files files circuit c × HasInputsOf c files public private
 IsReady files (Verify circuit public proof session) = (c : AnyCircuit) × (bytes : List ℕ) × Has circuit_files files circuit c × HasPublicsOf c files public × Has proof_files files proof bytes
+IsReady files (Demo count seed) = Unit {0}
 
 -- the run is done, or its inputs don't satisfy the circuit or its proof is rejected, its text is printed to the end, and its file is put
 pub record Completed (before : Before) (after : After) (files : Files) (text : List ℕ) : Type 0 where

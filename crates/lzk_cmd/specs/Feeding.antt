@@ -1,5 +1,5 @@
 -- What reading a file in pieces answers, which a desk is fed. No clause of `run` cites these words.
-use Rattle.std.specs.Prelude.{◌≡◌, ℕ, ◌<◌, List, [], length, Option, Some, None, Result, Ok, Err, IfSome}
+use Rattle.std.specs.Prelude.{◌≡◌, ℕ, ◌<◌, List, [], length, Option, None, Result, Ok, Err, IfSome}
 use Rattle.std.specs.Option.{IsSomeAnd}
 use Rattle.lzk_circuit.specs.Valid.{Wiring}
 use Rattle.lzk_field.specs.Coding.{Coding}

@@ -3,6 +3,7 @@ pub mod Chains
 pub mod Compiled
 pub mod Complete
 pub mod Decoded
+pub mod Demo
 pub mod Ends
 pub mod Faults
 pub mod Feeding
@@ -33,6 +34,7 @@ pub use Rattle.lzk_expr.specs as lzk_expr
 pub use Rattle.lzk_level.specs as lzk_level
 pub use Rattle.lzk_layout.specs as lzk_layout
 pub use Rattle.lzk_verify.specs as lzk_verify
+pub use Rattle.lzk_demo.specs as lzk_demo
 pub use Rattle.lzk_complete.specs as lzk_complete
 pub use Rattle.lzk_honest.specs as lzk_honest
 pub use Rattle.lzk_ligero.specs as lzk_ligero

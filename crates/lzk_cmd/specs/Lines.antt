@@ -136,3 +136,7 @@ proved_line name bytes = codes "proved " ++ (name ++ (codes ": " ++ (decimal byt
 -- the first output that is not 0, with its value
 abbrev pub nonzero_line : ℕ → ℕ → List ℕ
 nonzero_line k value = codes "unsatisfied at output " ++ (decimal k ++ (codes " = " ++ line (decimal value)))
+
+-- a demo's circuit and proof
+abbrev pub demo_line : ℕ → ℕ → ℕ → List ℕ
+demo_line n layers bytes = codes "demo " ++ (decimal n ++ (codes ": layers " ++ (decimal layers ++ (codes ", proof " ++ (decimal bytes ++ line (codes " bytes, accepted"))))))

@@ -1,10 +1,11 @@
 -- Each words, files and stop have one end.
 use Rattle.std.specs.Prelude.{◌≡◌, ◌⊎◌, ℕ, List, length, Option, Some}
 use Rattle.lzk_outside.specs.Outside.{Files}
-use Rattle.lzk_cmd.specs.Ends.{End, Stop, puts}
-use Rattle.lzk_cmd.specs.Lines.{compiled_line}
+use Rattle.lzk_cmd.specs.Ends.{End, Stop, says, puts}
+use Rattle.lzk_cmd.specs.Keys.{number_of}
+use Rattle.lzk_cmd.specs.Lines.{compiled_line, demo_line}
 use Rattle.lzk_cmd.specs.Run.{RunOf}
-use Rattle.lzk_cmd.specs.Words.{Command, Compile, command_of}
+use Rattle.lzk_cmd.specs.Words.{Command, Compile, Demo, command_of}
 
 -- the file of a circuit, and the numbers that are told of it
 pub record Told (layers : ℕ) : Type 0 where
@@ -23,9 +24,18 @@ pub record PutAlike (stop : Stop) (name : List ℕ) (a b : End) : Type 0 where
   pub first_is : a ≡ tells stop name first
   pub second_is : b ≡ tells stop name second
 
--- two ends of a run are one, but for which circuit `compile` puts
+-- two ends that tell of the demo with n private inputs, and differ in nothing but the length of the proof
+pub record DemoAlike (n : ℕ) (a b : End) : Type 0 where
+  pub layers : ℕ
+  pub first : ℕ
+  pub second : ℕ
+  pub first_is : a ≡ says 0 (demo_line n layers first)
+  pub second_is : b ≡ says 0 (demo_line n layers second)
+
+-- two ends of a run are one, but for which circuit `compile` puts, and `demo` proves
 abbrev pub AreOne : Option Command → Stop → End → End → Type 0
 AreOne (Some (Compile source circuit)) stop a b = (a ≡ b) ⊎ PutAlike stop circuit a b
+AreOne (Some (Demo count seed)) stop a b = DemoAlike (number_of count) a b
 AreOne command stop a b = a ≡ b
 
 abbrev pub OneEnd : Type 0

@@ -13,13 +13,15 @@ use Rattle.lzk_goldilocks.specs.Elements as gold
 use Rattle.lzk_gf128.specs.Elements as gf
 use Rattle.lzk_outside.specs.Outside.{Files}
 use Rattle.lzk_cmd.specs.Compiled.{CompileRun}
+use Rattle.lzk_cmd.specs.Demo.{DemoRun}
 use Rattle.lzk_cmd.specs.Decoded.{circuit_files, number_files}
 use Rattle.lzk_cmd.specs.Formats.{At}
 use Rattle.lzk_cmd.specs.Lines.{output_line, satisfied_line, unsatisfied_line, counts_lines, layer_line}
 use Rattle.lzk_cmd.specs.Ends.{End, says, refused_words, Stop}
-use Rattle.lzk_cmd.specs.Proved.{ProveRun}
+use Rattle.lzk_cmd.specs.Keys.{number_of}
+use Rattle.lzk_cmd.specs.Proved.{ProveRun, seed_of}
 use Rattle.lzk_cmd.specs.Verified.{VerifyRun}
-use Rattle.lzk_cmd.specs.Words.{Command, Eval, Compile, Show, Prove, Verify, command_of}
+use Rattle.lzk_cmd.specs.Words.{Command, Eval, Compile, Show, Prove, Verify, Demo, command_of}
 
 -- the outputs' lines, from output k on
 abbrev pub output_lines : ℕ → List ℕ → List ℕ
@@ -73,6 +75,7 @@ CommandRun (Compile source circuit) = CompileRun source circuit
 CommandRun (Show circuit) = ShowRun circuit
 CommandRun (Prove circuit public private proof seed session) = ProveRun circuit public private proof seed session
 CommandRun (Verify circuit public proof session) = VerifyRun circuit public proof session
+CommandRun (Demo count seed) = DemoRun (number_of count) (seed_of seed)
 
 -- a run of these words over these files may end so
 abbrev pub RunOf : List (List ℕ) → Files → Stop → End → Type 0

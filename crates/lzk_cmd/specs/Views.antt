@@ -10,3 +10,4 @@ command_view (codes.Compile source circuit) = words.Compile source.now circuit.n
 command_view (codes.Show circuit) = words.Show circuit.now
 command_view (codes.Prove order) = words.Prove order.circuit.now order.public.now order.private.now order.proof.now order.seed.now (option_copied order.session)
 command_view (codes.Verify circuit public proof session) = words.Verify circuit.now public.now proof.now (option_copied session)
+command_view (codes.Demo count seed workers) = words.Demo count.now seed.now

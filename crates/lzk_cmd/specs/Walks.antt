@@ -8,6 +8,7 @@ use Rattle.lzk_circuit.specs.Valid.{Wiring}
 use Rattle.lzk_expr.specs.Trees.{SourceTree}
 use Rattle.lzk_field.specs.Coding.{Coding}
 use Rattle.lzk_field.specs.Ring.{Ops}
+use Rattle.lzk_goldilocks.specs.declared.element.Gold.{Gold as GoldElement}
 use Rattle.lzk_level.specs.declared.fault.LevelFault.{LevelFault}
 use Rattle.lzk_level.specs.Compiled.{source_limit}
 use Rattle.lzk_outside.specs.Outside.{Files, Holds, Torn, Appends}
@@ -16,14 +17,17 @@ use Rattle.lzk_cmd.specs.declared.ending.Halt.{Halt}
 use Rattle.lzk_cmd.specs.declared.ending.Halt.TheVariants as halts
 use Rattle.lzk_cmd.specs.Compiled.{Compiled, compiled_text}
 use Rattle.lzk_cmd.specs.Decoded.{level_refused}
+use Rattle.lzk_cmd.specs.Demo.{IsDemo, demo_end}
 use Rattle.lzk_cmd.specs.Ends.{End as Ended, says, missing_file, Stop, Nowhere, AtPut, MayStop, stops_at, puts, Leaves}
 use Rattle.lzk_cmd.specs.Formats.{Format, HasFile}
+use Rattle.lzk_cmd.specs.Keys.{number_of}
 use Rattle.lzk_cmd.specs.Lines.{reading_line, larger_line}
+use Rattle.lzk_cmd.specs.Proved.{seed_of}
 use Rattle.lzk_cmd.specs.Refusals.{IsRefusal}
 use Rattle.lzk_cmd.specs.Run.{RunOf, Evaluated}
 use Rattle.lzk_cmd.specs.Seen.{Seen, SeenSink, ReadFailed, PutFailed, Missed, WriteFailed}
 use Rattle.lzk_cmd.specs.Verified.{Judged}
-use Rattle.lzk_cmd.specs.Words.{PutsFile, command_of}
+use Rattle.lzk_cmd.specs.Words.{Command, Demo, PutsFile, command_of}
 
 -- the run's end, as the code has it
 pub record IsEnding (end : Ended) (e : Ending) : Type 0 where
@@ -162,6 +166,20 @@ abbrev pub Compiles : List ℕ → List ℕ → SourceTree → Result (Vec ℕ G
 Compiles name circuit source (Ok made) = IsCompiled source circuit made.0.items (string_bytes made.1)
 Compiles name circuit source (Err halts.Memory) = Unit {0}
 Compiles name circuit source (Err (halts.End e)) = (found : LevelFault) × (source_limit source ≡ Some found) × IsEnding (level_refused name found) e
+
+-- the end of a demo, or there is no memory
+abbrev pub TellsDemo : ℕ → List ℕ → Result Ending Halt → Type 0
+TellsDemo n seed (Ok e) = (c : Wiring GoldElement) × (bytes : List ℕ) × IsDemo n seed c bytes × IsEnding (demo_end n c bytes) e
+TellsDemo n seed (Err halts.Memory) = Unit {0}
+TellsDemo n seed (Err (halts.End e)) = ⊥
+
+-- of the words of `demo`, such an end, whether or not the shelf tells its files
+abbrev pub OnDemo : Command → Result Ending Halt → Type 0
+OnDemo (Demo count seed) r = TellsDemo (number_of count) (seed_of seed) r
+OnDemo command r = Unit {0}
+
+abbrev pub TellsDemos : List (List ℕ) → Result Ending Halt → Type 0
+TellsDemos words r = IfSome (command_of words) (λ command. OnDemo command r)
 
 -- a put that was done, or that failed
 abbrev pub Puts : List ℕ → List ℕ → List ℕ → Seen → Seen → Result Ending Halt → Type 0

@@ -13,14 +13,17 @@ pub data Command : Type 0 where
   -- and the digits of the seed, and of the session, if there is one; not the number of workers
   Prove : List ℕ → List ℕ → List ℕ → List ℕ → List ℕ → Option (List ℕ) → Command
   Verify : List ℕ → List ℕ → List ℕ → Option (List ℕ) → Command
+  -- the digits of the number of private inputs, and of the seed; not the number of workers
+  Demo : List ℕ → List ℕ → Command
 
--- Of the table's commands all but demo are built. Its words are refused.
+-- the command of a word, names and keys that keep its row
 abbrev pub built : Verb → List (List ℕ) → Keys → Option Command
 built verbs.Eval (circuit ∷ public ∷ private ∷ []) keys = Some (Eval circuit public private)
 built verbs.Compile (source ∷ circuit ∷ []) keys = Some (Compile source circuit)
 built verbs.Show (circuit ∷ []) keys = Some (Show circuit)
 built verbs.Prove (circuit ∷ public ∷ private ∷ proof ∷ []) keys = or_else keys.seed (λ seed. Some (Prove circuit public private proof seed keys.session)) None
 built verbs.Verify (circuit ∷ public ∷ proof ∷ []) keys = Some (Verify circuit public proof keys.session)
+built verbs.Demo (count ∷ []) keys = or_else keys.seed (λ seed. Some (Demo count seed)) None
 built verb names keys = None
 
 -- the command of a list of words, if they are one
@@ -35,3 +38,14 @@ PutsFile (Some (Compile source circuit)) = Unit {0}
 PutsFile (Some (Show circuit)) = ⊥
 PutsFile (Some (Prove circuit public private proof seed session)) = Unit {0}
 PutsFile (Some (Verify circuit public proof session)) = ⊥
+PutsFile (Some (Demo count seed)) = ⊥
+
+-- the words are no command, or a command that reads and puts no file
+abbrev pub LeavesShelf : Option Command → Type 0
+LeavesShelf None = Unit {0}
+LeavesShelf (Some (Eval circuit public private)) = ⊥
+LeavesShelf (Some (Compile source circuit)) = ⊥
+LeavesShelf (Some (Show circuit)) = ⊥
+LeavesShelf (Some (Prove circuit public private proof seed session)) = ⊥
+LeavesShelf (Some (Verify circuit public proof session)) = ⊥
+LeavesShelf (Some (Demo count seed)) = Unit {0}

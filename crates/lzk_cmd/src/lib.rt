@@ -10,6 +10,7 @@
 
 mod circuits;
 mod compiling;
+mod demo;
 mod ending;
 mod eval;
 mod feeding;

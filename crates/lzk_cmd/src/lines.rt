@@ -153,6 +153,13 @@ pub fn tell_proved(alloc: Global, name: &str, bytes: usize) -> Result<String, Al
     format!(in alloc; "proved {name}: {bytes} bytes\n")
 }
 
+/// The line of a demo whose proof is accepted.
+pub fn tell_demo(alloc: Global, n: u32, layers: u32, bytes: usize) -> Result<String, AllocError>
+    ensures { IfOk result (λ s. string_bytes s ≡ lines.demo_line n layers bytes) }
+{
+    format!(in alloc; "demo {n}: layers {layers}, proof {bytes} bytes, accepted\n")
+}
+
 /// The line of the first output that is not 0.
 pub fn tell_nonzero(alloc: Global, output: u32, value: u128) -> Result<String, AllocError>
     ensures { IfOk result (λ s. string_bytes s ≡ lines.nonzero_line output value) }

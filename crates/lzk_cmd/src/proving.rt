@@ -65,15 +65,17 @@ fn proofs_fit<F: Field>(circuit: &Circuit<F>)
     let _depth = circuit.depth();
 }
 
-// Proves, and puts the proof once it is whole.
+// Proves with a prover for the circuit, and puts the proof once it is whole.
 fn put_proof<F: Field, X: RowExtend<F>, R: Threads + Sync, S: Shelf, G: Gate>(
     means: &Means<'_, R, G>,
     circuit: &Circuit<F>,
+    works: &mut WorksOver<'_, F, X>,
     publics: &[F],
     privates: &[F],
     job: &Job<'_>,
     shelf: &mut S,
 ) -> Result<Ending, Halt>
+    requires works { works.old ≡ circuit.now }
     requires publics { length publics.now ≡ circuit.now.publics }
     requires privates { length privates.now ≡ circuit.now.privates }
     requires session { length job.now.session.now ≤ 64 }
@@ -83,7 +85,6 @@ fn put_proof<F: Field, X: RowExtend<F>, R: Threads + Sync, S: Shelf, G: Gate>(
     ensures moves { Moves (seen S.Shelf shelf.old) (seen S.Shelf shelf.new) }
 {
     proofs_fit(circuit);
-    let mut works = WorksOver::<F, X>::new(means.alloc, circuit)?;
     let words = Seeded::new(job.seed);
     match works.prove(
         means.rt,
@@ -102,6 +103,27 @@ fn put_proof<F: Field, X: RowExtend<F>, R: Threads + Sync, S: Shelf, G: Gate>(
     }
 }
 
+// Proves for a circuit and its inputs.
+fn prove_inputs<F: Field, X: RowExtend<F>, R: Threads + Sync, S: Shelf, G: Gate>(
+    means: &Means<'_, R, G>,
+    circuit: &Circuit<F>,
+    publics: &[F],
+    privates: &[F],
+    job: &Job<'_>,
+    shelf: &mut S,
+) -> Result<Ending, Halt>
+    requires publics { length publics.now ≡ circuit.now.publics }
+    requires privates { length privates.now ≡ circuit.now.privates }
+    requires session { length job.now.session.now ≤ 64 }
+    requires some { 1 ≤ job.now.workers }
+    requires most { job.now.workers ≤ 64 }
+    ensures walks { WalksToPut (λ files. Proves F.ops (coding F.element F.number_of F.BYTES F.size F.ID) circuit.now job.now.proof.now job.now.session.now job.now.seed publics.now privates.now) 3 (seen S.Shelf shelf.old) (seen S.Shelf shelf.new) result }
+    ensures moves { Moves (seen S.Shelf shelf.old) (seen S.Shelf shelf.new) }
+{
+    let mut works = WorksOver::<F, X>::new(means.alloc, circuit)?;
+    put_proof::<F, X, R, S, G>(means, circuit, &mut works, publics, privates, job, shelf)
+}
+
 // Proves for a circuit, on two number files.
 fn prove_over<F: Field, X: RowExtend<F>, R: Threads + Sync, S: Shelf, G: Gate>(
     means: &Means<'_, R, G>,
@@ -117,7 +139,7 @@ fn prove_over<F: Field, X: RowExtend<F>, R: Threads + Sync, S: Shelf, G: Gate>(
 {
     let publics = read_elements::<S, F>(means.alloc, shelf, job.public, circuit.publics())?;
     let privates = read_elements::<S, F>(means.alloc, shelf, job.private, circuit.privates())?;
-    put_proof::<F, X, R, S, G>(means, circuit, &publics, &privates, job, shelf)
+    prove_inputs::<F, X, R, S, G>(means, circuit, &publics, &privates, job, shelf)
 }
 
 // The same over either field.

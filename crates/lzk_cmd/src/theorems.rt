@@ -5,6 +5,7 @@ ghost use Rattle.lzk_cmd.specs.OneEnd.{OneEnd};
 ghost use Rattle.lzk_cmd.specs.SomeEnd.{SomeEnd};
 
 use lzk_complete::proofs_accepted;
+use lzk_demo::demo_laws;
 use lzk_gf128::Gf128;
 use lzk_goldilocks::Gold;
 use lzk_honest::proof_laws;
@@ -19,4 +20,5 @@ pub fn run_laws()
     proof_laws::<Gf128>();
     proofs_accepted::<Gold>();
     proofs_accepted::<Gf128>();
+    demo_laws();
 }

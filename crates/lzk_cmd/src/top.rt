@@ -1,17 +1,18 @@
 //! The top call.
 
 ghost use Rattle.std.specs.Prelude.{◌≡◌, IfOk};
-ghost use Rattle.lzk_cmd.specs.Accepted.{ProvedIsAccepted};
+ghost use Rattle.lzk_cmd.specs.Accepted.{ProvedIsAccepted, DemoIsAccepted};
 ghost use Rattle.lzk_cmd.specs.Ends.{refused_words};
 ghost use Rattle.lzk_cmd.specs.OneEnd.{OneEnd};
 ghost use Rattle.lzk_cmd.specs.Promise.{Promise};
 ghost use Rattle.lzk_cmd.specs.Seen.{seen};
 ghost use Rattle.lzk_cmd.specs.SomeEnd.{SomeEnd};
 ghost use Rattle.lzk_cmd.specs.Sights.{before, after, texts};
-ghost use Rattle.lzk_cmd.specs.Walks.{IsEnding, Moves, Works};
-ghost use Rattle.lzk_cmd.specs.Words.{command_of};
+ghost use Rattle.lzk_cmd.specs.Walks.{IsEnding, Moves, TellsDemos, Works};
+ghost use Rattle.lzk_cmd.specs.Words.{LeavesShelf, command_of};
 
 use crate::compiling::compile_source;
+use crate::demo::demo;
 use crate::ending::{Ending, Halt};
 use crate::eval::eval;
 use crate::lines;
@@ -48,7 +49,8 @@ fn work<R: Threads + Sync, S: Shelf, G: Gate>(
 ) -> Result<Ending, Halt>
     ensures works { Works (texts words.now) (seen S.Shelf shelf.old) (seen S.Shelf shelf.new) result }
     ensures moves { Moves (seen S.Shelf shelf.old) (seen S.Shelf shelf.new) }
-    ensures untouched { command_of (texts words.now) ≡ None → shelf.new ≡ shelf.old }
+    ensures demo { TellsDemos (texts words.now) result }
+    ensures untouched { LeavesShelf (command_of (texts words.now)) → shelf.new ≡ shelf.old }
 {
     match parse_words(words) {
         None => Ok(refuse(means.alloc)?),
@@ -70,6 +72,13 @@ fn work<R: Threads + Sync, S: Shelf, G: Gate>(
                 session,
             },
         ) => verify(means, circuit, public, proof, session, shelf),
+        Some(
+            Command::Demo {
+                count,
+                seed,
+                workers,
+            },
+        ) => demo(means, count, seed, workers),
     }
 }
 
@@ -88,15 +97,16 @@ pub fn run<R: Threads + Sync, S: Shelf, K: Sink, G: Gate>(
     // What was seen before, and what stands after.
     ensures run { Promise (before S.Shelf K.Sink words.now shelf.old out.old) (after S.Shelf K.Sink result shelf.new out.new) }
 
-    // Where the words are no command, the shelf is as before in every respect.
-    ensures untouched { command_of (texts words.now) ≡ None → shelf.new ≡ shelf.old }
+    // Where the words are no command, or one that reads and puts no file, the shelf is as before in every respect.
+    ensures untouched { LeavesShelf (command_of (texts words.now)) → shelf.new ≡ shelf.old }
 
     // Words, files and stop have one end, and have an end.
     ensures one_end { OneEnd }
     ensures some_end { SomeEnd }
 
-    // What `prove` puts is accepted.
+    // What `prove` puts is accepted, and what `demo` proves.
     ensures honest { ProvedIsAccepted }
+    ensures demo { DemoIsAccepted (before S.Shelf K.Sink words.now shelf.old out.old) (after S.Shelf K.Sink result shelf.new out.new) }
 {
     run_laws();
     let means = Means { rt, alloc, gate };

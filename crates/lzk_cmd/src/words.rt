@@ -24,7 +24,7 @@ pub struct Order<'a> {
     pub workers: Option<&'a [u8]>,
 }
 
-/// A command, with the names of its files, and the digits of its session if there is one.
+/// A command, with the names of its files, and the digits of its numbers and keys.
 #[derive(Clone, Copy)]
 pub enum Command<'a> {
     Eval {
@@ -45,6 +45,11 @@ pub enum Command<'a> {
         public: &'a str,
         proof: &'a str,
         session: Option<&'a [u8]>,
+    },
+    Demo {
+        count: &'a str,
+        seed: &'a [u8],
+        workers: Option<&'a [u8]>,
     },
 }
 
@@ -123,7 +128,24 @@ fn verify_of<'a>(names: &'a [String], keys: &Keys<'a>) -> Option<Command<'a>>
     }
 }
 
-// The command, where it is built.
+// The number of `demo`, its seed, and its workers.
+fn demo_of<'a>(names: &'a [String], keys: &Keys<'a>) -> Option<Command<'a>>
+    ensures { option_map command_view result ≡ built verbs.Demo (map (λ w. string_bytes w) names.now) (keys_view keys.now) }
+{
+    match names {
+        [count] => {
+            let seed = keys.seed?;
+            Some(Command::Demo {
+                count: count.as_str(),
+                seed,
+                workers: keys.workers,
+            })
+        }
+        _ => None,
+    }
+}
+
+// The command, if the names and keys are its own.
 fn built<'a>(verb: Verb, names: &'a [String], keys: &Keys<'a>) -> Option<Command<'a>>
     ensures { option_map command_view result ≡ built verb (map (λ w. string_bytes w) names.now) (keys_view keys.now) }
 {
@@ -133,7 +155,7 @@ fn built<'a>(verb: Verb, names: &'a [String], keys: &Keys<'a>) -> Option<Command
         Verb::Show => show_of(names),
         Verb::Prove => prove_of(names, keys),
         Verb::Verify => verify_of(names, keys),
-        Verb::Demo => None,
+        Verb::Demo => demo_of(names, keys),
     }
 }
 

@@ -10,6 +10,8 @@ mod circuits;
 #[cfg(test)]
 mod compiling;
 #[cfg(test)]
+mod demos;
+#[cfg(test)]
 mod meeting;
 #[cfg(test)]
 mod proofs;

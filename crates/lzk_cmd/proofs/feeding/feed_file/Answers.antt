@@ -2,7 +2,7 @@ use Rattle.std.proofs.Common.{refl, ◌∙◌, arith}
 use Rattle.lzk_field.specs.Coding.{coding}
 use Rattle.lzk_cmd.specs.Seen.{seen}
 use Rattle.lzk_cmd.proofs.Sights.{no_step}
-use Rattle.lzk_cmd.proofs.Fronts.{nothing_read, more_read, all_read, too_large}
+use Rattle.lzk_cmd.proofs.Fronts.{nothing_read, more_read}
 use Rattle.lzk_cmd.proofs.feeding.feed_file.Goals as goal
 
 pub loop-at-init : goal.loop-at-init

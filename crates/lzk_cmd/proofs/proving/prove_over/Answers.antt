@@ -37,8 +37,8 @@ returns-clause-walks g c =
     let publics = c.in_ok-publics.publics in
     let privates = c.in_ok-privates.privates in
     let late = seen g.S.Shelf c.read_elements-2.new.shelf in
-    let end = seen g.S.Shelf c.put_proof.new.shelf in
-    let first = subst (λ (xs : List _). WalksToPut (WithInputs o e circuit job.proof.now job.session.now job.seed xs c.deref-2.result.now) 3 late end c.put_proof.result) c.deref.ensures.value c.put_proof.ensures.walks in
-    let both = subst (λ (ys : List _). WalksToPut (WithInputs o e circuit job.proof.now job.session.now job.seed publics.items ys) 3 late end c.put_proof.result) c.deref-2.ensures.value first in
+    let end = seen g.S.Shelf c.prove_inputs.new.shelf in
+    let first = subst (λ (xs : List _). WalksToPut (WithInputs o e circuit job.proof.now job.session.now job.seed xs c.deref-2.result.now) 3 late end c.prove_inputs.result) c.deref.ensures.value c.prove_inputs.ensures.walks in
+    let both = subst (λ (ys : List _). WalksToPut (WithInputs o e circuit job.proof.now job.session.now job.seed publics.items ys) 3 late end c.prove_inputs.result) c.deref-2.ensures.value first in
     with_inputs e.size e.number circuit.publics circuit.privates job.public.now job.private.now (WithInputs o e circuit job.proof.now job.session.now job.seed) (Unit {0}) (seen g.S.Shelf c.args.shelf.now) (seen g.S.Shelf c.read_elements.new.shelf) late end c.publics.result c.privates.result c.publics.ensures c.privates.ensures
-    publics privates c.put_proof.result c.in_ok-publics.ensures.reads c.in_ok-publics.ensures.gives c.in_ok-privates.ensures.reads c.in_ok-privates.ensures.gives both
+    publics privates c.prove_inputs.result c.in_ok-publics.ensures.reads c.in_ok-publics.ensures.gives c.in_ok-privates.ensures.reads c.in_ok-privates.ensures.gives both

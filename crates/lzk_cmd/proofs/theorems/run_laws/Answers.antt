@@ -8,7 +8,7 @@ returns-clause-one_end c = one_end c.proof_laws.ensures.one c.proof_laws-2.ensur
 
 pub returns-clause-some_end : goal.returns-clause-some_end
 returns-clause-some_end c =
-    some_end (record { gold_file = c.proof_laws.ensures.some; gold_fits = c.proof_laws.ensures.fit; gf_file = c.proof_laws-2.ensures.some; gf_fits = c.proof_laws-2.ensures.fit })
+    some_end (record { gold_file = c.proof_laws.ensures.some; gold_fits = c.proof_laws.ensures.fit; gf_file = c.proof_laws-2.ensures.some; gf_fits = c.proof_laws-2.ensures.fit; gold_accepted = c.proofs_accepted.ensures.accepted; demo_inputs = c.demo_laws.ensures.satisfied; demo_circuit = c.demo_laws.ensures.circuit })
 
 pub returns-clause-honest : goal.returns-clause-honest
 returns-clause-honest c = proved_is_accepted c.proofs_accepted.ensures.accepted c.proofs_accepted-2.ensures.accepted

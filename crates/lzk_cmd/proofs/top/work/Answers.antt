@@ -1,7 +1,11 @@
 use Rattle.std.specs.Option.{option_copied}
 use Rattle.lzk_cmd.specs.Seen.{seen}
 use Rattle.lzk_cmd.specs.Sights.{texts}
-use Rattle.lzk_cmd.specs.Words.{Eval, Compile, Show, Prove, Verify}
+use Rattle.lzk_cmd.specs.Words.{Eval, Compile, Show, Prove, Verify, Demo}
+use Rattle.lzk_cmd.specs.Keys.{number_of}
+use Rattle.lzk_cmd.specs.Proved.{seed_of}
+use Rattle.lzk_cmd.proofs.Counts.{has_number}
+use Rattle.lzk_cmd.proofs.Demos.{demo_walks, leaves, no_demo, on_demo}
 use Rattle.lzk_cmd.proofs.Sessions.{session_fits}
 use Rattle.lzk_cmd.proofs.Sights.{only_moves}
 use Rattle.lzk_cmd.proofs.Works.{refused, works}
@@ -50,3 +54,50 @@ returns-in-Some-Prove-clause-works g c =
     let order = c.in-Some-Prove.order in
     works (texts c.args.words.now) (Prove order.circuit.now order.public.now order.private.now order.proof.now order.seed.now (option_copied order.session)) (Unit {0}) (seen g.S.Shelf c.args.shelf.now) (seen g.S.Shelf c.prove.new.shelf) c.prove.result
     (rw c.in-Some-Prove.field-0-is at c.in-Some-Prove.ensures) (λ u. u) c.prove.ensures.walks
+
+pub demo-requires-clause-number : goal.demo-requires-clause-number
+demo-requires-clause-number g c κs within = has_number (texts c.args.words.now) (Demo c.in-Some-Demo.count.now c.in-Some-Demo.seed.now) (rw c.in-Some-Demo.field-0-is at c.in-Some-Demo.ensures)
+
+pub returns-in-Some-Demo-clause-works : goal.returns-in-Some-Demo-clause-works
+returns-in-Some-Demo-clause-works g c =
+    let count = c.in-Some-Demo.count.now in
+    let seed = c.in-Some-Demo.seed.now in
+    let s = seen g.S.Shelf c.args.shelf.now in
+    works (texts c.args.words.now) (Demo count seed) ⊥ s s c.demo.result (rw c.in-Some-Demo.field-0-is at c.in-Some-Demo.ensures) (λ b. b) (demo_walks (number_of count) (seed_of seed) s c.demo.result c.demo.ensures)
+
+pub returns-in-Some-Eval-clause-demo : goal.returns-in-Some-Eval-clause-demo
+returns-in-Some-Eval-clause-demo g c = on_demo (texts c.args.words.now) (Eval c.in-Some-Eval.circuit.now c.in-Some-Eval.public.now c.in-Some-Eval.private.now) c.eval.result (rw c.in-Some-Eval.field-0-is at c.in-Some-Eval.ensures) tt
+
+pub returns-in-Some-Eval-clause-untouched : goal.returns-in-Some-Eval-clause-untouched
+returns-in-Some-Eval-clause-untouched g c = λ h. leaves (texts c.args.words.now) (Eval c.in-Some-Eval.circuit.now c.in-Some-Eval.public.now c.in-Some-Eval.private.now) (rw c.in-Some-Eval.field-0-is at c.in-Some-Eval.ensures) (λ b. b) h
+
+pub returns-in-Some-Compile-clause-demo : goal.returns-in-Some-Compile-clause-demo
+returns-in-Some-Compile-clause-demo g c = on_demo (texts c.args.words.now) (Compile c.in-Some-Compile.source.now c.in-Some-Compile.circuit.now) c.compile_source.result (rw c.in-Some-Compile.field-0-is at c.in-Some-Compile.ensures) tt
+
+pub returns-in-Some-Compile-clause-untouched : goal.returns-in-Some-Compile-clause-untouched
+returns-in-Some-Compile-clause-untouched g c = λ h. leaves (texts c.args.words.now) (Compile c.in-Some-Compile.source.now c.in-Some-Compile.circuit.now) (rw c.in-Some-Compile.field-0-is at c.in-Some-Compile.ensures) (λ b. b) h
+
+pub returns-in-Some-Show-clause-demo : goal.returns-in-Some-Show-clause-demo
+returns-in-Some-Show-clause-demo g c = on_demo (texts c.args.words.now) (Show c.in-Some-Show.circuit.now) c.show.result (rw c.in-Some-Show.field-0-is at c.in-Some-Show.ensures) tt
+
+pub returns-in-Some-Show-clause-untouched : goal.returns-in-Some-Show-clause-untouched
+returns-in-Some-Show-clause-untouched g c = λ h. leaves (texts c.args.words.now) (Show c.in-Some-Show.circuit.now) (rw c.in-Some-Show.field-0-is at c.in-Some-Show.ensures) (λ b. b) h
+
+pub returns-in-Some-Verify-clause-demo : goal.returns-in-Some-Verify-clause-demo
+returns-in-Some-Verify-clause-demo g c = on_demo (texts c.args.words.now) (Verify c.in-Some-Verify.circuit.now c.in-Some-Verify.public.now c.in-Some-Verify.proof.now (option_copied c.in-Some-Verify.session)) c.verify.result (rw c.in-Some-Verify.field-0-is at c.in-Some-Verify.ensures) tt
+
+pub returns-in-Some-Verify-clause-untouched : goal.returns-in-Some-Verify-clause-untouched
+returns-in-Some-Verify-clause-untouched g c = λ h. leaves (texts c.args.words.now) (Verify c.in-Some-Verify.circuit.now c.in-Some-Verify.public.now c.in-Some-Verify.proof.now (option_copied c.in-Some-Verify.session)) (rw c.in-Some-Verify.field-0-is at c.in-Some-Verify.ensures) (λ b. b) h
+
+pub returns-in-Some-Prove-clause-demo : goal.returns-in-Some-Prove-clause-demo
+returns-in-Some-Prove-clause-demo g c = on_demo (texts c.args.words.now) (Prove c.in-Some-Prove.order.circuit.now c.in-Some-Prove.order.public.now c.in-Some-Prove.order.private.now c.in-Some-Prove.order.proof.now c.in-Some-Prove.order.seed.now (option_copied c.in-Some-Prove.order.session)) c.prove.result (rw c.in-Some-Prove.field-0-is at c.in-Some-Prove.ensures) tt
+
+pub returns-in-Some-Prove-clause-untouched : goal.returns-in-Some-Prove-clause-untouched
+returns-in-Some-Prove-clause-untouched g c = λ h. leaves (texts c.args.words.now) (Prove c.in-Some-Prove.order.circuit.now c.in-Some-Prove.order.public.now c.in-Some-Prove.order.private.now c.in-Some-Prove.order.proof.now c.in-Some-Prove.order.seed.now (option_copied c.in-Some-Prove.order.session)) (rw c.in-Some-Prove.field-0-is at c.in-Some-Prove.ensures) (λ b. b) h
+
+pub returns-in-Some-Demo-clause-demo : goal.returns-in-Some-Demo-clause-demo
+returns-in-Some-Demo-clause-demo g c =
+    on_demo (texts c.args.words.now) (Demo c.in-Some-Demo.count.now c.in-Some-Demo.seed.now) c.demo.result (rw c.in-Some-Demo.field-0-is at c.in-Some-Demo.ensures) c.demo.ensures
+
+pub returns-in_ok-refuse-in-None-clause-demo : goal.returns-in_ok-refuse-in-None-clause-demo
+returns-in_ok-refuse-in-None-clause-demo g c = no_demo (texts c.args.words.now) _ c.in-None.ensures
