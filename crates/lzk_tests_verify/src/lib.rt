@@ -5,6 +5,8 @@
 #![tactic(auto)]
 
 #[cfg(test)]
+mod feeding;
+#[cfg(test)]
 mod verdict_vectors;
 #[cfg(test)]
 mod verdicts;

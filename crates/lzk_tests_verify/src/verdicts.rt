@@ -7,10 +7,11 @@
 ghost use Rattle.std.specs.Prelude.{◌≡◌, ◌≤◌, ◌<◌, length, IsTrue, IfOk};
 ghost use Rattle.lzk_merkle.specs.Nodes.{AreOpened};
 ghost use Rattle.lzk_merkle.specs.Tree.{IsBuilt};
-ghost use Rattle.lzk_layout.specs.Sizes.{AreBounded};
+ghost use Rattle.lzk_layout.specs.Sizes.{AreBounded, AreParams, sent_counts};
 
+use crate::feeding::first_wrong;
 use crate::verdict_vectors::{
-    Change, Damage, GF_DAMAGES, GF_FORGERIES, GOLD_DAMAGES, GOLD_FORGERIES, List, Told,
+    Change, Damage, List, RIGHT, Told, gf_damages, gf_forgeries, gold_damages, gold_forgeries,
 };
 use lzk_accept::{Challenges, draw_challenges};
 use lzk_circbytes::id;
@@ -22,7 +23,7 @@ use lzk_layout::Params;
 use lzk_merkle::{Tree, leaf, needed};
 use lzk_sumcheck::{Script, message_count, replay};
 use lzk_transcript::Tape;
-use lzk_verify::{Desk, Verdict};
+use lzk_verify::Verdict;
 use std::alloc::{AllocError, Global};
 use std::test::Fail;
 
@@ -191,35 +192,85 @@ fn push_path(
     Ok(())
 }
 
-// The forged proof's file.
-fn forged<F: Field>(
+// The id of a circuit, and the root of its columns.
+#[derive(Clone, Copy)]
+struct Opening {
+    id: [u8; 32],
+    root: [u8; 32],
+}
+
+// What is sent in the sumchecks: zeros but for the change, and the factors that are right.
+fn sent<F: Field>(
     alloc: Global,
     circuit: &Circuit<F>,
     change: &Change,
-) -> Result<Vec<u8>, AllocError> {
-    let params = Params::of(circuit);
-    let id = id(alloc, circuit)?;
-    let tree = tree_of::<F>(alloc, &params, change)?;
-    let root = tree.root();
-    let public = public_inputs(alloc, F::point(PUBLIC))?;
+    opening: &Opening,
+    public: &[F],
+) -> Result<Vec<F>, AllocError>
+    ensures { IfOk result (λ list. length list.items ≡ sent_counts circuit.now) }
+{
     let mut messages: Vec<F> = answer(alloc, message_count(circuit), List::Messages, change)?;
     let mut script = Script::new(alloc, circuit)?;
-    replay(
-        circuit,
-        &mut open_tape(&id, &public, &root),
-        &messages,
-        &mut script,
-    );
-    add_factors(&mut messages, &script);
-    let mut tape = open_tape(&id, &public, &root);
+    let mut tape = open_tape(&opening.id, public, &opening.root);
     replay(circuit, &mut tape, &messages, &mut script);
-    let mut challenges: Challenges<F> = Challenges::new(alloc, &params)?;
-    draw_challenges(&params, &mut tape, &mut challenges);
-    let mut out = Vec::new(alloc);
+    add_factors(&mut messages, &script);
+    Ok(messages)
+}
+
+// The tape behind the challenges that these messages lead to.
+fn tape_behind<F: Field>(
+    alloc: Global,
+    circuit: &Circuit<F>,
+    params: &Params,
+    opening: &Opening,
+    public: &[F],
+    messages: &[F],
+) -> Result<Tape, AllocError>
+    requires messages { length messages.now ≡ sent_counts circuit.now }
+    requires params { AreParams F.ops params.now }
+{
+    let mut script = Script::new(alloc, circuit)?;
+    let mut challenges: Challenges<F> = Challenges::new(alloc, params)?;
+    let mut tape = open_tape(&opening.id, public, &opening.root);
+    replay(circuit, &mut tape, messages, &mut script);
+    draw_challenges(params, &mut tape, &mut challenges);
+    Ok(tape)
+}
+
+// Writes the file up to the answers; the tape behind the challenges.
+fn push_front<F: Field>(
+    alloc: Global,
+    out: &mut Vec<u8>,
+    circuit: &Circuit<F>,
+    change: &Change,
+    opening: &Opening,
+) -> Result<Tape, AllocError> {
     out.extend_from_slice(b"LZP1")?;
-    out.extend_from_slice(&id)?;
-    out.extend_from_slice(&root)?;
-    push_elements(&mut out, &messages)?;
+    out.extend_from_slice(&opening.id)?;
+    out.extend_from_slice(&opening.root)?;
+    let public = public_inputs(alloc, F::point(PUBLIC))?;
+    let messages = sent(alloc, circuit, change, opening, &public)?;
+    push_elements(out, &messages)?;
+    tape_behind(
+        alloc,
+        circuit,
+        &Params::of(circuit),
+        opening,
+        &public,
+        &messages,
+    )
+}
+
+// Writes the answers to the file and to the tape.
+fn push_answers<F: Field>(
+    alloc: Global,
+    out: &mut Vec<u8>,
+    tape: &mut Tape,
+    params: &Params,
+    change: &Change,
+) -> Result<(), AllocError>
+    requires { AreParams F.ops params.now }
+{
     let tail = params.dblock - params.block;
     for (count, which) in [
         (params.block, List::LowDegree),
@@ -229,13 +280,43 @@ fn forged<F: Field>(
     ] {
         let list: Vec<F> = answer(alloc, count, which, change)?;
         tape.array(&list);
-        push_elements(&mut out, &list)?;
+        push_elements(out, &list)?;
     }
-    let mut columns = [0; 128];
-    tape.draw_columns(params.mcol, &mut columns);
+    Ok(())
+}
+
+// The opened columns with nonces of zeros, those from a column on being changed.
+fn push_opened<F: Field>(
+    alloc: Global,
+    out: &mut Vec<u8>,
+    columns: &[u32],
+    params: &Params,
+    change: &Change,
+) -> Result<(), AllocError> {
     let plain = zeros::<F>(alloc, params.nrow)?;
     let changed = changed_column(alloc, params.nrow, change.0)?;
-    push_columns(&mut out, &columns, &plain, &changed, change.1)?;
+    push_columns(out, columns, &plain, &changed, change.1)
+}
+
+// The forged proof's file.
+fn forged<F: Field>(
+    alloc: Global,
+    circuit: &Circuit<F>,
+    change: &Change,
+) -> Result<Vec<u8>, AllocError> {
+    let params = Params::of(circuit);
+    let id = id(alloc, circuit)?;
+    let tree = tree_of::<F>(alloc, &params, change)?;
+    let opening = Opening {
+        id,
+        root: tree.root(),
+    };
+    let mut out = Vec::new(alloc);
+    let mut tape = push_front(alloc, &mut out, circuit, change, &opening)?;
+    push_answers::<F>(alloc, &mut out, &mut tape, &params, change)?;
+    let mut columns = [0; 128];
+    tape.draw_columns(params.mcol, &mut columns);
+    push_opened::<F>(alloc, &mut out, &columns, &params, change)?;
     push_path(alloc, &mut out, &tree, params.mcol, &columns)?;
     Ok(out)
 }
@@ -251,7 +332,7 @@ fn half(digest: &[u8; 32], from: usize) -> u128
     n
 }
 
-fn told<F: Field>(verdict: Verdict<F>) -> Told {
+pub(crate) fn told<F: Field>(verdict: Verdict<F>) -> Told {
     match verdict {
         Verdict::Accepted => Told::Accepted,
         Verdict::Format(fault) => Told::Format(fault.offset, fault.kind),
@@ -265,36 +346,31 @@ fn told<F: Field>(verdict: Verdict<F>) -> Told {
     }
 }
 
-// The number of the first forgery whose verdict is not the one wanted.
-fn wrong_forgery<F: Field>(
-    alloc: Global,
-    cases: &[(Change, Told)],
-) -> Result<Option<usize>, AllocError> {
-    let circuit = match circuit::<F>(alloc)? {
-        Some(circuit) => circuit,
-        None => return Ok(Some(0)),
-    };
-    if circuit.publics() != 1 {
-        return Ok(Some(0));
-    }
-    let public = public_inputs(alloc, F::point(PUBLIC))?;
-    let mut desk = Desk::new(alloc, &circuit)?;
-    for i in 0..cases.len() {
-        let bytes = forged(alloc, &circuit, &cases[i].0)?;
-        let verdict = desk.verify(&SESSION, &public, &bytes);
-        if told(verdict) != cases[i].1 {
-            return Ok(Some(i));
-        }
-    }
-    Ok(None)
+/// A file, the session and the public inputs that it is checked with, and the verdict wanted.
+#[derive(Drop)]
+pub(crate) struct Case<F> {
+    pub session: [u8; 4],
+    pub public: Vec<F>,
+    pub bytes: Vec<u8>,
+    pub wanted: Told,
 }
 
-#[test]
-fn forged_proofs_have_their_verdicts(rt: HostRuntime) -> Result<(), Fail> {
-    let alloc = rt.alloc();
-    assert_eq!(rt; wrong_forgery::<Gold>(alloc, &GOLD_FORGERIES)?, None);
-    assert_eq!(rt; wrong_forgery::<Gf128>(alloc, &GF_FORGERIES)?, None);
-    Ok(())
+// The files of these forgeries.
+fn forgeries<F: Field>(
+    alloc: Global,
+    circuit: &Circuit<F>,
+    changes: &[(Change, Told)],
+) -> Result<Vec<Case<F>>, AllocError> {
+    let mut cases = Vec::new(alloc);
+    for (change, wanted) in changes {
+        cases.push(Case {
+            session: SESSION,
+            public: public_inputs(alloc, F::point(PUBLIC))?,
+            bytes: forged(alloc, circuit, change)?,
+            wanted: *wanted,
+        })?;
+    }
+    Ok(cases)
 }
 
 // The right proof's file, cut, lengthened and changed.
@@ -312,44 +388,54 @@ fn damaged(alloc: Global, right: &[u8], damage: &Damage) -> Result<Vec<u8>, Allo
     Ok(bytes)
 }
 
-// The number of the first damage whose verdict is not the one wanted.
-fn wrong_damage<F: Field>(
+// The files of these damages.
+fn damages<F: Field>(
     alloc: Global,
-    right: &Change,
-    cases: &[(Damage, Told)],
+    circuit: &Circuit<F>,
+    changes: &[(Damage, Told)],
+) -> Result<Vec<Case<F>>, AllocError> {
+    let right = forged(alloc, circuit, &RIGHT)?;
+    let mut cases = Vec::new(alloc);
+    for (damage, wanted) in changes {
+        let mut session = SESSION;
+        session[0] ^= damage.4;
+        cases.push(Case {
+            session,
+            public: public_inputs(alloc, F::of_word(u128::from(damage.5)))?,
+            bytes: damaged(alloc, &right, damage)?,
+            wanted: *wanted,
+        })?;
+    }
+    Ok(cases)
+}
+
+// The number of the first forgery, or else of the first damage, whose verdict is not the one wanted.
+fn wrong_case<F: Field>(
+    alloc: Global,
+    forged: &[(Change, Told)],
+    damaged: &[(Damage, Told)],
 ) -> Result<Option<usize>, AllocError> {
     let circuit = match circuit::<F>(alloc)? {
         Some(circuit) => circuit,
         None => return Ok(Some(0)),
     };
-    if circuit.publics() != 1 {
-        return Ok(Some(0));
+    let forged = forgeries(alloc, &circuit, forged)?;
+    let damaged = damages(alloc, &circuit, damaged)?;
+    match first_wrong(alloc, &circuit, &forged)? {
+        Some(i) => Ok(Some(i)),
+        None => first_wrong(alloc, &circuit, &damaged),
     }
-    let right = forged(alloc, &circuit, right)?;
-    let mut desk = Desk::new(alloc, &circuit)?;
-    for i in 0..cases.len() {
-        let damage = &cases[i].0;
-        let mut session = SESSION;
-        session[0] ^= damage.4;
-        let public = public_inputs(alloc, F::of_word(u128::from(damage.5)))?;
-        let bytes = damaged(alloc, &right, damage)?;
-        let verdict = desk.verify(&session, &public, &bytes);
-        if told(verdict) != cases[i].1 {
-            return Ok(Some(i));
-        }
-    }
-    Ok(None)
 }
 
 #[test]
-fn damaged_proofs_have_their_verdicts(rt: HostRuntime) -> Result<(), Fail> {
+fn forged_and_damaged_proofs_have_their_verdicts(rt: HostRuntime) -> Result<(), Fail> {
     let alloc = rt.alloc();
     assert_eq!(rt;
-        wrong_damage::<Gold>(alloc, &GOLD_FORGERIES[0].0, &GOLD_DAMAGES)?,
+        wrong_case::<Gold>(alloc, &gold_forgeries(), &gold_damages())?,
         None
     );
     assert_eq!(rt;
-        wrong_damage::<Gf128>(alloc, &GF_FORGERIES[0].0, &GF_DAMAGES)?,
+        wrong_case::<Gf128>(alloc, &gf_forgeries(), &gf_damages())?,
         None
     );
     Ok(())

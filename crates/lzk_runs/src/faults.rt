@@ -1,0 +1,161 @@
+//! The same runs where calls of the shelf and of the sink fail, each in turn.
+
+ghost use Rattle.std.specs.Prelude.{◌<◌};
+
+use crate::case::{Case, is_expected, shelf_of};
+use lzk_cmd::run;
+use lzk_field::Open;
+use lzk_outside::{MemShelf, MemSink};
+use std::alloc::{AllocError, Global};
+use std::marker::Sync;
+use std::thread::Threads;
+
+// More calls than a run of three files makes.
+const CALLS: u64 = 1_000;
+
+// A list of one number.
+fn one(alloc: Global, number: u64) -> Result<Vec<u64>, AllocError> {
+    let mut list = Vec::new(alloc);
+    list.push(number)?;
+    Ok(list)
+}
+
+// Whether the text is `fault: reading` and one of the words.
+fn tells(text: &[u8], doing: &str, words: &[String]) -> bool {
+    let Some(name) = text.strip_prefix(doing.as_bytes()) else {
+        return false;
+    };
+    let Some(name) = name.strip_suffix(b"\n") else {
+        return false;
+    };
+    words.iter().any(|word| word.as_bytes() == name)
+}
+
+// Whether the files that stood there before the run still stand there, but for one of this name.
+fn are_kept(case: &Case, shelf: &MemShelf, but: &[u8]) -> bool {
+    for file in &case.files {
+        if file.name.as_bytes() != but && shelf.get(&file.name) != Some(file.bytes.as_slice()) {
+            return false;
+        }
+    }
+    true
+}
+
+/// How a run ended where a call failed.
+#[derive(Clone, Copy, PartialEq, Eq)]
+enum Ended {
+    AsExpected,
+    ByTheFault,
+    Otherwise,
+}
+
+// The run where this call of the shelf fails.
+fn with_shelf_fault<T: Threads + Sync>(
+    threads: &T,
+    alloc: Global,
+    case: &Case,
+    call: u64,
+    tear: Option<u64>,
+) -> Result<Ended, AllocError> {
+    let mut shelf = shelf_of(alloc, &case.files, one(alloc, call)?, tear)?;
+    let mut sink = MemSink::new(alloc, Vec::new(alloc), 7);
+    let status = run(threads, alloc, &case.words, &mut shelf, &mut sink, &Open);
+    let text = sink.bytes();
+    let put = match &case.put {
+        Some(put) => put.name.as_bytes(),
+        None => b"",
+    };
+    if status == 4 && tells(text, "fault: reading ", &case.words) && are_kept(case, &shelf, b"") {
+        return Ok(Ended::ByTheFault);
+    }
+    if status == 5 && tells(text, "fault: writing ", &case.words) && are_kept(case, &shelf, put) {
+        return Ok(Ended::ByTheFault);
+    }
+    if is_expected(case, status, text, &shelf) {
+        return Ok(Ended::AsExpected);
+    }
+    Ok(Ended::Otherwise)
+}
+
+// Whether each call of the shelf may fail, up to the first that the run does not make.
+fn bears_shelf_faults<T: Threads + Sync>(
+    threads: &T,
+    alloc: Global,
+    case: &Case,
+    tear: Option<u64>,
+) -> Result<bool, AllocError> {
+    for call in 0..CALLS {
+        match with_shelf_fault(threads, alloc, case, call, tear)? {
+            Ended::AsExpected => return Ok(call > 0),
+            Ended::ByTheFault => {}
+            Ended::Otherwise => return Ok(false),
+        }
+    }
+    Ok(false)
+}
+
+// The run over a sink that takes so many bytes in one write, of which this write fails: the status is 5, and what was taken is a front of the text.
+fn with_sink_fault<T: Threads + Sync>(
+    threads: &T,
+    alloc: Global,
+    case: &Case,
+    most: usize,
+    call: u64,
+) -> Result<Ended, AllocError>
+    requires { 0 < most }
+{
+    let mut shelf = shelf_of(alloc, &case.files, Vec::new(alloc), None)?;
+    let mut sink = MemSink::new(alloc, one(alloc, call)?, most);
+    let status = run(threads, alloc, &case.words, &mut shelf, &mut sink, &Open);
+    let text = sink.bytes();
+    if is_expected(case, status, text, &shelf) {
+        return Ok(Ended::AsExpected);
+    }
+    let taken = (call as usize).saturating_mul(most);
+    let is_front = match &case.text {
+        Some(expected) => expected.as_bytes().get(..taken) == Some(text),
+        None => true,
+    };
+    if status == 5 && is_front {
+        return Ok(Ended::ByTheFault);
+    }
+    Ok(Ended::Otherwise)
+}
+
+// Whether each write of the sink may fail, up to the first that the run does not make.
+fn bears_sink_faults<T: Threads + Sync>(
+    threads: &T,
+    alloc: Global,
+    case: &Case,
+    most: usize,
+) -> Result<bool, AllocError>
+    requires { 0 < most }
+{
+    for call in 0..CALLS {
+        match with_sink_fault(threads, alloc, case, most, call)? {
+            Ended::AsExpected => return Ok(call > 0),
+            Ended::ByTheFault => {}
+            Ended::Otherwise => return Ok(false),
+        }
+    }
+    Ok(false)
+}
+
+/// Whether each call of the shelf, and each write of the sink, may fail in turn, and the run ends as the fault says.
+pub fn bears<T: Threads + Sync>(
+    threads: &T,
+    alloc: Global,
+    case: &Case,
+) -> Result<bool, AllocError> {
+    for tear in [None, Some(0), Some(10), Some(1_000_000)] {
+        if !bears_shelf_faults(threads, alloc, case, tear)? {
+            return Ok(false);
+        }
+    }
+    for most in [1, 7, 65_536] {
+        if !bears_sink_faults(threads, alloc, case, most)? {
+            return Ok(false);
+        }
+    }
+    Ok(true)
+}
