@@ -11,7 +11,6 @@ mod scripts;
 mod tables;
 mod texts;
 mod trees;
-mod verdicts;
 
 use lzk_gf128::Gf128;
 use lzk_goldilocks::Gold;
@@ -56,9 +55,7 @@ fn done<R: Files + AllocGlobal>(rt: &R, work: &str, times: u32) -> anyhow::Resul
         "tree" => trees::trees(alloc, times)?,
         "proof-read" => proofs::read::<Gold>(alloc, times)?,
         "proof-write" => proofs::write::<Gold>(alloc, times)?,
-        "proof-files" => proofs::written_as_read(rt)?
-            .wrapping_add(scripts::joined_as_given(rt)?)
-            .wrapping_add(verdicts::judged_as_given(rt)?),
+        "proof-files" => proofs::written_as_read(rt)?.wrapping_add(scripts::joined_as_given(rt)?),
         "numbers" => texts::read(alloc, times)?,
         "source" => texts::parsed(alloc, times)?,
         "compile" => texts::compiled(alloc, times)?,
