@@ -1,0 +1,13 @@
+pub mod Numbered
+pub mod Gates
+pub mod Bits
+pub mod Held
+pub mod Valued
+pub mod Sums
+pub mod Standard
+pub mod Digests
+pub mod Block
+pub mod Zeros
+pub mod Traces
+pub mod Parts
+pub mod Soundness

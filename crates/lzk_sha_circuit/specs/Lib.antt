@@ -1,0 +1,4 @@
+pub mod Digest
+pub mod Outputs
+pub mod Places
+pub mod Words
