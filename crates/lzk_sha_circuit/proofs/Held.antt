@@ -11,7 +11,7 @@ use Rattle.sha2.specs.Sha256 as standard
 use Rattle.lzk_sha_circuit.specs.Words.{worth, rotated, shifted, three_or, ch, maj, big_sigma0, big_sigma1, small_sigma0, small_sigma1, constant}
 use Rattle.lzk_sha_circuit.proofs.Numbered.{Numbered, IsBit}
 use Rattle.lzk_sha_circuit.proofs.Gates.{three_or_is, chosen_is, most_is, xor_bit, ch_bit, maj_bit}
-use Rattle.lzk_sha_circuit.proofs.Bits.{bit_at_shr, turned, turned-lt, bit_at_turned_low, bit_at_turned_high, number_of, number_of-lt, bit_at-number_of, mod_more}
+use Rattle.lzk_sha_circuit.proofs.BitLaws.{bit_at_shr, turned, turned-lt, bit_at_turned_low, bit_at_turned_high, number_of, number_of-lt, bit_at-number_of, mod_more}
 
 -- the first k entries of the word are the bits of n, which has no more
 pub record Held {A : Type 0} (element : ℕ → A) (k : ℕ) (w : ℕ → A) (n : ℕ) : Type 0 where

@@ -1,6 +1,6 @@
 pub mod Numbered
 pub mod Gates
-pub mod Bits
+pub mod BitLaws
 pub mod Held
 pub mod Valued
 pub mod Sums
@@ -11,3 +11,7 @@ pub mod Zeros
 pub mod Traces
 pub mod Parts
 pub mod Soundness
+pub mod Written
+pub mod Filled
+pub mod Chunks
+pub mod Lookups

@@ -15,7 +15,7 @@ use Rattle.lzk_sha_circuit.specs.Places.{private_count, bits_from, schedule_word
 use Rattle.lzk_sha_circuit.specs.Outputs.{w_output, a_output, e_output, f_output, digest_output, bit_output, sha_outputs, AreSatisfying}
 use Rattle.lzk_sha_circuit.specs.Digest.{AreBytes, HaveDigest, message_bits, digest_words}
 use Rattle.lzk_sha_circuit.proofs.Numbered.{Numbered, IsBit}
-use Rattle.lzk_sha_circuit.proofs.Bits.{number_of, number_of-lt, bit_at-number_of}
+use Rattle.lzk_sha_circuit.proofs.BitLaws.{number_of, number_of-lt, bit_at-number_of}
 use Rattle.lzk_sha_circuit.proofs.Held.{Held, held_from_bits, held_constant, held_same, held_one, worth_is}
 use Rattle.lzk_sha_circuit.proofs.Sums.{next_number, first_number, second_number, initial_below}
 use Rattle.lzk_sha_circuit.proofs.Standard.{last_number, variables, schedule_is, rounds_are, compress_is}

@@ -6,6 +6,7 @@ use Rattle.std.proofs.lemmas.Bool.{cases_lt}
 use Rattle.sha2.specs.Sha256.{word_at, schedule, next_word, rounds, round, round_constants, add_state, compress, temp1, temp2, add32}
 use Rattle.sha2.specs.Sha256 as standard
 use Rattle.sha2.proofs.Schedule256.{slice_index-schedule_first, slice_index-schedule_next}
+use Rattle.lzk_sha_circuit.specs.Inputs.{first_total, second_total, next_total}
 use Rattle.lzk_sha_circuit.proofs.Sums.{next_number, first_number, second_number}
 
 -- ---- sums whose carries are dropped on the way
@@ -22,7 +23,7 @@ second_of_two : (m a b y : ℕ) → b ≡ y % m → (a + b) % m ≡ (a + y) % m
 second_of_two m a b y eb = ap (λ v. (a + v) % m) eb ∙ add-mod-mod a y m
 
 -- ---- the schedule
-next_word_is : (w : List ℕ) (t : ℕ) → next_word w t ≡ next_number (slice_index w) t % 2 ^ 32
+pub next_word_is : (w : List ℕ) (t : ℕ) → next_word w t ≡ next_number (slice_index w) t % 2 ^ 32
 next_word_is w t = four (2 ^ 32) (standard.small_sigma1 (slice_index w (t - 2))) (slice_index w (t - 7)) (standard.small_sigma0 (slice_index w (t - 15))) (slice_index w (t - 16))
 
 module _ (block : List ℕ) (w : ℕ → ℕ) (first : (t : ℕ) → t < 16 → w t ≡ word_at block (4 * t)) (next : (t : ℕ) → 16 ≤ t → t < 64 → w t ≡ next_number w t % 2 ^ 32) where
@@ -50,17 +51,23 @@ module _ (block : List ℕ) (w : ℕ → ℕ) (first : (t : ℕ) → t < 16 → 
 abbrev pub variables : (ℕ → ℕ) → (ℕ → ℕ) → ℕ → List ℕ
 variables a e t = a (t + 3) ∷ a (t + 2) ∷ a (t + 1) ∷ a t ∷ e (t + 3) ∷ e (t + 2) ∷ e (t + 1) ∷ e t ∷ []
 
-temp1_is : (a e : ℕ → ℕ) (t k w : ℕ) → temp1 (variables a e t) k w ≡ first_number k w e t % 2 ^ 32
-temp1_is a e t k w = five (2 ^ 32) (e t) (standard.big_sigma1 (e (t + 3))) (standard.ch (e (t + 3)) (e (t + 2)) (e (t + 1))) k w
+pub temp1_is : (v : List ℕ) (k w : ℕ) → temp1 v k w ≡ first_total v k w % 2 ^ 32
+temp1_is v k w = five (2 ^ 32) (slice_index v 7) (standard.big_sigma1 (slice_index v 4)) (standard.ch (slice_index v 4) (slice_index v 5) (slice_index v 6)) k w
+
+-- the words A and E of a round are sums without their carries
+pub a_of_round : (v : List ℕ) (k w : ℕ) → add32 (temp1 v k w) (temp2 v) ≡ (first_total v k w + second_total v) % 2 ^ 32
+a_of_round v k w = sum_of_two (2 ^ 32) (temp1 v k w) (temp2 v) (first_total v k w) (second_total v) (temp1_is v k w) refl
+
+pub e_of_round : (v : List ℕ) (k w : ℕ) → add32 (slice_index v 3) (temp1 v k w) ≡ (slice_index v 3 + first_total v k w) % 2 ^ 32
+e_of_round v k w = second_of_two (2 ^ 32) (slice_index v 3) (temp1 v k w) (first_total v k w) (temp1_is v k w)
 
 -- a round on them gives the next ones
-round_is : (a e : ℕ → ℕ) (t k w : ℕ) → a (t + 4) ≡ (first_number k w e t + second_number a t) % 2 ^ 32 → e (t + 4) ≡ (a t + first_number k w e t) % 2 ^ 32
+pub round_is : (a e : ℕ → ℕ) (t k w : ℕ) → a (t + 4) ≡ (first_number k w e t + second_number a t) % 2 ^ 32 → e (t + 4) ≡ (a t + first_number k w e t) % 2 ^ 32
     → round (variables a e t) k w ≡ variables a e (suc t)
 round_is a e t k w ea ee =
-    let t1 = temp1 (variables a e t) k w in
-    let t2 = temp2 (variables a e t) in
-    let next_a : add32 t1 t2 ≡ a (t + 4) = sum_of_two (2 ^ 32) t1 t2 (first_number k w e t) (second_number a t) (temp1_is a e t k w) refl ∙ sym ea in
-    let next_e : add32 (a t) t1 ≡ e (t + 4) = second_of_two (2 ^ 32) (a t) t1 (first_number k w e t) (temp1_is a e t k w) ∙ sym ee in
+    let v = variables a e t in
+    let next_a : add32 (temp1 v k w) (temp2 v) ≡ a (t + 4) = a_of_round v k w ∙ sym ea in
+    let next_e : add32 (a t) (temp1 v k w) ≡ e (t + 4) = e_of_round v k w ∙ sym ee in
     let p4 : t + 4 ≡ suc t + 3 = omega arith in
     let p3 : t + 3 ≡ suc t + 2 = omega arith in
     let p2 : t + 2 ≡ suc t + 1 = omega arith in
