@@ -1,14 +1,16 @@
 -- Entries of lists that are made of chunks of one length.
-use Rattle.std.specs.Prelude.{◌≡◌, ℕ, ◌+◌, ◌-◌, ◌*◌, ◌/◌, ◌%◌, ◌^◌, ◌<◌, ◌≤◌, List, [], ◌∷◌, ◌++◌, map, length, slice_index_or}
+use Rattle.std.specs.Prelude.{◌≡◌, ℕ, ◌+◌, ◌-◌, ◌*◌, ◌/◌, ◌%◌, ◌^◌, ◌<◌, ◌≤◌, List, [], ◌∷◌, ◌++◌, map, length, slice_index, slice_index_or}
 use Rattle.std.specs.List.{range_with_len, flat_map}
 use Rattle.std.specs.Int.{bit_at}
-use Rattle.std.proofs.Common.{refl, sym, ap, ◌∙◌, arith, zero, suc, subst, mul-suc, mul-zero, length-append, get_or-append-add, mod-lt}
+use Rattle.std.proofs.Common.{refl, sym, ap, ◌∙◌, arith, zero, suc, mul-suc, mul-zero, length-append, get_or-append-add, mod-lt}
 use Rattle.std.proofs.lemmas.List.{get_or_append_left}
 use Rattle.std.proofs.lemmas.List.FromFn.{length-map-range_with_len, get_or-map-range_with_len, length-range_with_len, get_or-range_with_len}
 use Rattle.std.proofs.lemmas.Nat.Bits.{bit_at-lt}
 use Rattle.std.proofs.lemmas.Nat.{div_below}
 use Rattle.lzk_sha_circuit.specs.Places.{bits_from}
-use Rattle.lzk_sha_circuit.specs.Inputs.{bit_list, sum_list, round_list}
+use Rattle.sha2.specs.Sha256.{rounds, round_constants, initial_hash_256}
+use Rattle.lzk_sha_circuit.specs.Inputs.{bit_list, sum_list, round_list, schedule_list, rounds_list, final_list, sha_private, words_of, next_total, first_total, second_total}
+use Rattle.lzk_sha_circuit.proofs.Numbered.{IsBit}
 use Rattle.lzk_sha_circuit.proofs.Held.{Held}
 
 module _ {X A : Type 0} (f : X → List A) (size : ℕ) (each : (x : X) → length (f x) ≡ size) where
@@ -85,3 +87,59 @@ module _ {A : Type 0} (element : ℕ → A) where
           let there : place + 32 + (bits - 1 - i) ≡ place + (32 + (bits - 1 - i)) = omega arith in
           ap input there ∙ stands (32 + (bits - 1 - i)) (omega arith) ∙ carry_entry bits s (bits - 1 - i) d (omega arith) ∙ ap (λ n. element (bit_at (s / 2 ^ 32) n)) back;
     }
+
+-- ---- every entry is a bit
+module _ {A : Type 0} (element : ℕ → A) (d : A) (zero_is : d ≡ element 0) where
+  abbrev pub AreBits : List A → Type 0
+  AreBits xs = (j : ℕ) → IsBit element (slice_index_or xs j d)
+
+  no_bits : AreBits []
+  no_bits j = (0, omega arith, zero_is)
+
+  pub both_bits : (xs ys : List A) → AreBits xs → AreBits ys → AreBits (xs ++ ys)
+  both_bits [] ys hx hy j = hy j
+  both_bits (x ∷ xs) ys hx hy zero = hx 0
+  both_bits (x ∷ xs) ys hx hy (suc j) = both_bits xs ys (λ k. hx (suc k)) hy j
+
+  pub chunk_bits : {X : Type 0} (f : X → List A) → ((x : X) → AreBits (f x)) → (xs : List X) → AreBits (flat_map f xs)
+  chunk_bits f h [] = no_bits
+  chunk_bits f h (x ∷ xs) = both_bits (f x) (flat_map f xs) (h x) (chunk_bits f h xs)
+
+  mapped_bits : (n : ℕ → ℕ) (i : ℕ → ℕ) (xs : List ℕ) → AreBits (map (λ j. element (bit_at (n j) (i j))) xs)
+  mapped_bits n i [] j = no_bits j
+  mapped_bits n i (x ∷ xs) zero = (bit_at (n x) (i x), bit_at-lt (n x) (i x), refl)
+  mapped_bits n i (x ∷ xs) (suc j) = mapped_bits n i xs j
+
+  pub bit_list_bits : (count n : ℕ) → AreBits (bit_list element count n)
+  unfolding bit_list
+  bit_list_bits count n = mapped_bits (λ j. n) (λ j. count - 1 - j) (range_with_len 0 count)
+
+  pub sum_list_bits : (bits s : ℕ) → AreBits (sum_list element bits s)
+  unfolding sum_list
+  sum_list_bits bits s = both_bits (bit_list element 32 (s % 2 ^ 32)) (bit_list element bits (s / 2 ^ 32)) (bit_list_bits 32 (s % 2 ^ 32)) (bit_list_bits bits (s / 2 ^ 32))
+
+  round_list_bits : (v : List ℕ) (k w : ℕ) → AreBits (round_list element v k w)
+  unfolding round_list
+  round_list_bits v k w =
+      let a = first_total v k w + second_total v in
+      let e = slice_index v 3 + first_total v k w in
+      both_bits (sum_list element 3 a) (sum_list element 3 e) (sum_list_bits 3 a) (sum_list_bits 3 e)
+
+  -- every private input of a message is a bit
+  pub private_bits : (m : List ℕ) → AreBits (sha_private element m)
+  unfolding sha_private schedule_list rounds_list final_list
+  private_bits m =
+      let ws = words_of m in
+      let h = initial_hash_256 in
+      let v = rounds h ws 64 in
+      let fw = λ (t : ℕ). sum_list element 2 (next_total ws t) in
+      let fr = λ (t : ℕ). round_list element (rounds h ws t) (slice_index round_constants t) (slice_index ws t) in
+      let ff = λ (i : ℕ). sum_list element 1 (slice_index h i + slice_index v i) in
+      let p1 = flat_map (bit_list element 8) m in
+      let p2 = flat_map fw (range_with_len 16 48) in
+      let p3 = flat_map fr (range_with_len 0 64) in
+      let p4 = flat_map ff (range_with_len 0 8) in
+      both_bits p1 (p2 ++ (p3 ++ p4)) (chunk_bits (bit_list element 8) (bit_list_bits 8) m)
+      (both_bits p2 (p3 ++ p4) (chunk_bits fw (λ t. sum_list_bits 2 (next_total ws t)) (range_with_len 16 48))
+      (both_bits p3 p4 (chunk_bits fr (λ t. round_list_bits (rounds h ws t) (slice_index round_constants t) (slice_index ws t)) (range_with_len 0 64))
+      (chunk_bits ff (λ i. sum_list_bits 1 (slice_index h i + slice_index v i)) (range_with_len 0 8))))

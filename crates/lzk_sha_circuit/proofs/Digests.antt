@@ -1,10 +1,10 @@
 -- The digest of a message of one block.
-use Rattle.std.specs.Prelude.{◌≡◌, ℕ, ◌+◌, ◌-◌, ◌*◌, ◌/◌, ◌%◌, ◌^◌, ◌<◌, ◌≤◌, List, [], ◌∷◌, ◌++◌, length, take, drop, replicate, slice_index}
-use Rattle.std.specs.Int.{w32, w64, to_be_bytes}
-use Rattle.std.proofs.Common.{refl, sym, ap, ◌∙◌, arith, zero, suc, take_all, mod-lt, length-append}
+use Rattle.std.specs.Prelude.{◌≡◌, ℕ, ◌+◌, ◌-◌, ◌*◌, ◌/◌, ◌%◌, ◌^◌, ◌<◌, ◌≤◌, List, length, replicate, slice_index}
+use Rattle.std.specs.Int.{w64, to_be_bytes}
+use Rattle.std.proofs.Common.{sym, ap, ◌∙◌, arith, take_all, length-append}
 use Rattle.std.proofs.lemmas.List.{length-replicate}
 use Rattle.std.proofs.lemmas.Nat.{from_be_bytes-to_be_bytes_4}
-use Rattle.sha2.specs.Sha256.{sha256, digest_bytes, word_at, compress, add_state, hash_after, initial_hash_256, padded_message, padding}
+use Rattle.sha2.specs.Sha256.{sha256, digest_bytes, word_at, compress, hash_after, initial_hash_256, padded_message, padding}
 use Rattle.lzk_sha_circuit.proofs.Standard.{eight_cases}
 
 pub length-padding : (n : ℕ) → n ≤ 55 → n + length (padding n) ≡ 64

@@ -1,9 +1,8 @@
 -- The formulas of bits are the functions of bits.
 use Rattle.std.specs.Prelude.{◌≡◌, ℕ, ◌+◌, ◌-◌, ◌*◌, ◌<◌, ◌%◌, min}
-use Rattle.std.proofs.Common.{refl, sym, ap, ap₂, ◌∙◌, arith, zero, suc}
-use Rattle.lzk_field.specs.Ring.{Ops, RingLaws}
+use Rattle.std.proofs.Common.{refl, sym, ap, ◌∙◌, arith, zero, suc}
+use Rattle.lzk_field.specs.Ring.{Ops}
 use Rattle.lzk_field.specs.Sums.{minus}
-use Rattle.lzk_field.proofs.RingBasics.{plus_swap}
 use Rattle.lzk_sha_circuit.specs.Words.{exclusive_or, three_or, chosen, most}
 use Rattle.lzk_sha_circuit.proofs.Numbered.{Numbered}
 

@@ -1,16 +1,15 @@
 -- A word of elements that are the bits of a number holds that number, and the functions on words are the standard's on the numbers that they hold.
-use Rattle.std.specs.Prelude.{◌≡◌, ℕ, ◌+◌, ◌-◌, ◌*◌, ◌/◌, ◌%◌, ◌^◌, ◌<◌, ◌≤◌, min, nat_lt, if◌then◌else◌, bit_and, bit_xor}
+use Rattle.std.specs.Prelude.{◌≡◌, ℕ, ◌+◌, ◌-◌, ◌*◌, ◌/◌, ◌%◌, ◌^◌, ◌<◌, ◌≤◌, min, if◌then◌else◌, bit_and, bit_xor}
 use Rattle.std.specs.Int.{bit_at, bit_not, w32}
-use Rattle.std.proofs.Common.{refl, sym, ap, ◌∙◌, arith, zero, suc, inl, inr, mod-eq_of_lt, lt-ltb, le-ltb, pow_pos, subst}
+use Rattle.std.proofs.Common.{refl, sym, ap, ◌∙◌, arith, zero, suc, inl, inr, mod-eq_of_lt, lt-ltb, le-ltb}
 use Rattle.std.proofs.lemmas.Nat.{xor_lt, and_le_l, and_le_r, shr_le}
 use Rattle.std.proofs.lemmas.Nat.Bits.{bit_at-lt, bit_at_and, bit_at_not, bit_at_xor, bit_at_above, same_from_bits_below}
 use Rattle.std.proofs.lemmas.Bool.{cases_lt}
-use Rattle.lzk_field.specs.Ring.{Ops, RingLaws}
-use Rattle.lzk_field.specs.Sums.{minus, sum_below}
+use Rattle.lzk_field.specs.Ring.{Ops}
 use Rattle.sha2.specs.Sha256 as standard
 use Rattle.lzk_sha_circuit.specs.Words.{worth, rotated, shifted, three_or, ch, maj, big_sigma0, big_sigma1, small_sigma0, small_sigma1, constant}
 use Rattle.lzk_sha_circuit.proofs.Numbered.{Numbered, IsBit}
-use Rattle.lzk_sha_circuit.proofs.Gates.{three_or_is, chosen_is, most_is, xor_bit, ch_bit, maj_bit}
+use Rattle.lzk_sha_circuit.proofs.Gates.{three_or_is, chosen_is, most_is}
 use Rattle.lzk_sha_circuit.proofs.BitLaws.{bit_at_shr, turned, turned-lt, bit_at_turned_low, bit_at_turned_high, number_of, number_of-lt, bit_at-number_of, mod_more}
 
 -- the first k entries of the word are the bits of n, which has no more

@@ -15,3 +15,4 @@ pub mod Written
 pub mod Filled
 pub mod Chunks
 pub mod Lookups
+pub mod Completeness

@@ -1,11 +1,11 @@
 -- Where the parts of a message's private inputs stand.
-use Rattle.std.specs.Prelude.{◌≡◌, ℕ, ◌+◌, ◌-◌, ◌*◌, ◌/◌, ◌%◌, ◌^◌, ◌<◌, ◌≤◌, List, [], ◌∷◌, ◌++◌, length, slice_index, slice_index_or}
-use Rattle.std.specs.List.{range_with_len, flat_map}
+use Rattle.std.specs.Prelude.{◌≡◌, ℕ, ◌+◌, ◌-◌, ◌*◌, ◌/◌, ◌%◌, ◌<◌, ◌≤◌, List, ◌++◌, length, slice_index, slice_index_or}
+use Rattle.std.specs.List.{flat_map}
 use Rattle.std.specs.Int.{bit_at}
-use Rattle.std.proofs.Common.{refl, sym, ap, ◌∙◌, arith, subst, length-append, get_or-append-add}
+use Rattle.std.proofs.Common.{ap, ◌∙◌, arith, length-append, get_or-append-add}
 use Rattle.std.proofs.lemmas.List.{get_or_append_left}
 use Rattle.sha2.specs.Sha256.{rounds, round_constants, initial_hash_256}
-use Rattle.lzk_sha_circuit.specs.Places.{private_count, w_place, a_place, e_place, f_place}
+use Rattle.lzk_sha_circuit.specs.Places.{private_count, w_place, a_place, f_place}
 use Rattle.lzk_sha_circuit.specs.Inputs.{bit_list, sum_list, round_list, schedule_list, rounds_list, final_list, sha_private, words_of, next_total, first_total, second_total}
 use Rattle.lzk_sha_circuit.proofs.Chunks.{length-chunks, chunk_entry, range_entry, length-range_chunks, length-bit_list, bit_list_entry, length-sum_list}
 

@@ -1,17 +1,17 @@
 -- Numbers as elements: sums, products and small numbers are kept.
-use Rattle.std.specs.Prelude.{◌≡◌, ℕ, ◌+◌, ◌*◌, ◌<◌, ◌%◌, true, false}
-use Rattle.std.proofs.Common.{refl, sym, ap, ◌∙◌, subst, arith, eqb, eqb-true, mod-eq_of_lt, inl, inr, zero, suc}
+use Rattle.std.specs.Prelude.{◌≡◌, ℕ, ◌+◌, ◌*◌, ◌<◌}
+use Rattle.std.proofs.Common.{refl, sym, ap, ◌∙◌, arith, mod-eq_of_lt, inl, inr}
 use Rattle.std.proofs.Math.Nat.{mod-add-mod, add-mod-mod}
 use Rattle.std.proofs.lemmas.Nat.{mul-mod_first, mul-mod_second}
 use native.Mathlib.Decide.{dec_lt}
 use Rattle.lzk_field.specs.Ring.{Ops, RingLaws}
 use Rattle.lzk_field.specs.Sums.{minus}
 use Rattle.lzk_field.proofs.RingBasics.{same_from_difference, no_divisors}
-use Rattle.lzk_field.proofs.Solve.{var, unit, ◌⊞◌, ◌⊟◌, ◌⊠◌, solve}
+use Rattle.lzk_field.proofs.Solve.{var, unit, ◌⊟◌, ◌⊠◌, solve}
 use Rattle.lzk_goldilocks.specs.declared.element.Gold.{Gold}
 use Rattle.lzk_goldilocks.specs.Prime.{p}
 use Rattle.lzk_goldilocks.specs.Elements.{ops, of_number, Gold-ext, ring, field}
-use Rattle.std.specs.Prelude.{List, [], ◌∷◌, ◌⊎◌}
+use Rattle.std.specs.Prelude.{[], ◌∷◌, ◌⊎◌}
 
 -- x is the element of 0 or of 1
 abbrev pub IsBit : {A : Type 0} → (ℕ → A) → A → Type 0

@@ -1,11 +1,11 @@
 -- The outputs are all 0 where those of each kind are.
-use Rattle.std.specs.Prelude.{◌≡◌, ℕ, ◌+◌, ◌-◌, ◌<◌, ◌≤◌, List, [], ◌∷◌, ◌++◌, length, map}
+use Rattle.std.specs.Prelude.{◌≡◌, ℕ, ◌<◌, ◌≤◌, List, [], ◌∷◌, ◌++◌, length, map}
 use Rattle.std.specs.List.{range_with_len, flat_map}
-use Rattle.std.proofs.Common.{ap, ◌∙◌, arith}
+use Rattle.std.proofs.Common.{arith}
 use Rattle.lzk_field.specs.Ring.{Ops}
 use Rattle.lzk_field.specs.Sums.{entry}
 use Rattle.lzk_sha_circuit.specs.Outputs.{w_output, a_output, e_output, f_output, digest_output, bit_output, sha_outputs, AreSatisfying}
-use Rattle.lzk_sha_circuit.proofs.Zeros.{AreZero, zeros_from, zeros_to, zeros_split, zeros_append, zeros_each, zeros_map, zeros_range_each, zeros_range, zeros_pairs_each, zeros_pairs}
+use Rattle.lzk_sha_circuit.proofs.Zeros.{zeros_from, zeros_to, zeros_split, zeros_append, zeros_each, zeros_map, zeros_range_each, zeros_range, zeros_pairs_each, zeros_pairs}
 
 -- ---- what each output being 0 says
 pub record Parts {A : Type 0} (o : Ops A) (element : ℕ → A) (len : ℕ) (public private : List A) : Type 0 where

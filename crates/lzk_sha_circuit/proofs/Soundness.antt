@@ -1,27 +1,26 @@
 -- Where all outputs are 0, the private inputs begin with a message, and the public inputs are its digest.
-use Rattle.std.specs.Prelude.{◌≡◌, ℕ, ◌+◌, ◌-◌, ◌*◌, ◌/◌, ◌%◌, ◌^◌, ◌<◌, ◌≤◌, List, [], ◌∷◌, ◌++◌, length, map, take, slice_index, slice_index_or, get_or, None}
-use Rattle.std.specs.List.{range_with_len, flat_map}
+use Rattle.std.specs.Prelude.{◌≡◌, ℕ, ◌+◌, ◌-◌, ◌*◌, ◌/◌, ◌%◌, ◌^◌, ◌<◌, ◌≤◌, List, [], ◌∷◌, length, map, take, slice_index}
+use Rattle.std.specs.List.{range_with_len}
 use Rattle.std.specs.Int.{bit_at}
-use Rattle.std.proofs.Common.{refl, sym, ap, ◌∙◌, arith, zero, suc, inl, inr, mod-lt, subst, length-take-le, get_or-take, ext_get_or}
-use Rattle.std.proofs.lemmas.List.{get_or_past, length-map, get_or-map, same_lists, get_or_default}
-use Rattle.std.proofs.lemmas.List.FromFn.{length-map-range_with_len, get_or-map-range_with_len, length-range_with_len}
+use Rattle.std.proofs.Common.{refl, sym, ap, ◌∙◌, arith, inl, inr, subst, length-take-le, get_or-take, ext_get_or}
+use Rattle.std.proofs.lemmas.List.{get_or_past, length-map, get_or-map}
+use Rattle.std.proofs.lemmas.List.FromFn.{length-map-range_with_len, get_or-map-range_with_len}
 use Rattle.std.proofs.lemmas.Bool.{cases_lt}
 use Rattle.lzk_field.specs.Ring.{Ops}
-use Rattle.lzk_field.specs.Sums.{minus, entry}
-use Rattle.lzk_circuit.specs.Wires.{IsFirstNonzero}
-use Rattle.sha2.specs.Sha256.{round_constants, initial_hash_256, padded_message, word_at, schedule, rounds, compress, sha256}
+use Rattle.lzk_field.specs.Sums.{entry}
+use Rattle.sha2.specs.Sha256.{round_constants, initial_hash_256, padded_message, word_at, schedule, compress, sha256}
 use Rattle.lzk_sha_circuit.specs.Words.{worth, constant}
 use Rattle.lzk_sha_circuit.specs.Places.{private_count, bits_from, schedule_word, a_word, e_word, final_word, w_place, a_place, e_place, f_place}
-use Rattle.lzk_sha_circuit.specs.Outputs.{w_output, a_output, e_output, f_output, digest_output, bit_output, sha_outputs, AreSatisfying}
+use Rattle.lzk_sha_circuit.specs.Outputs.{digest_output}
 use Rattle.lzk_sha_circuit.specs.Digest.{AreBytes, HaveDigest, message_bits, digest_words}
 use Rattle.lzk_sha_circuit.proofs.Numbered.{Numbered, IsBit}
 use Rattle.lzk_sha_circuit.proofs.BitLaws.{number_of, number_of-lt, bit_at-number_of}
 use Rattle.lzk_sha_circuit.proofs.Held.{Held, held_from_bits, held_constant, held_same, held_one, worth_is}
 use Rattle.lzk_sha_circuit.proofs.Sums.{next_number, first_number, second_number, initial_below}
-use Rattle.lzk_sha_circuit.proofs.Standard.{last_number, variables, schedule_is, rounds_are, compress_is}
+use Rattle.lzk_sha_circuit.proofs.Standard.{variables, schedule_is, rounds_are, compress_is}
 use Rattle.lzk_sha_circuit.proofs.Digests.{digest_word}
 use Rattle.lzk_sha_circuit.proofs.Block.{held_block}
-use Rattle.lzk_sha_circuit.proofs.Parts.{Parts, parts_of}
+use Rattle.lzk_sha_circuit.proofs.Parts.{Parts}
 use Rattle.lzk_sha_circuit.proofs.Traces.{a_word_first, e_word_first, schedule_word_bit, a_word_bit, e_word_bit, w_forward, a_forward, e_forward, f_forward}
 use Rattle.lzk_field.proofs.RingBasics.{same_from_difference}
 

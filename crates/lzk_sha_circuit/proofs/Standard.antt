@@ -6,7 +6,7 @@ use Rattle.std.proofs.lemmas.Bool.{cases_lt}
 use Rattle.sha2.specs.Sha256.{word_at, schedule, next_word, rounds, round, round_constants, add_state, compress, temp1, temp2, add32}
 use Rattle.sha2.specs.Sha256 as standard
 use Rattle.sha2.proofs.Schedule256.{slice_index-schedule_first, slice_index-schedule_next}
-use Rattle.lzk_sha_circuit.specs.Inputs.{first_total, second_total, next_total}
+use Rattle.lzk_sha_circuit.specs.Inputs.{first_total, second_total}
 use Rattle.lzk_sha_circuit.proofs.Sums.{next_number, first_number, second_number}
 
 -- ---- sums whose carries are dropped on the way

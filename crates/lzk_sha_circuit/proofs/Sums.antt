@@ -1,6 +1,6 @@
 -- The sums of the outputs stand for the sums of the words' numbers.
-use Rattle.std.specs.Prelude.{◌≡◌, ℕ, ◌+◌, ◌-◌, ◌*◌, ◌%◌, ◌^◌, ◌<◌, ◌≤◌, List, [], ◌∷◌, Bool, true, false, ◌&&◌, slice_index, nat_lt}
-use Rattle.std.proofs.Common.{refl, sym, ap, ◌∙◌, arith, zero, suc, one-mul, ltb-true}
+use Rattle.std.specs.Prelude.{◌≡◌, ℕ, ◌+◌, ◌-◌, ◌*◌, ◌^◌, ◌<◌, ◌≤◌, List, [], ◌∷◌, Bool, true, false, ◌&&◌, slice_index, nat_lt}
+use Rattle.std.proofs.Common.{refl, arith, zero, suc, one-mul, ltb-true}
 use Rattle.lzk_field.specs.Ring.{Ops}
 use Rattle.sha2.specs.Sha256 as standard
 use Rattle.sha2.specs.Sha256.{round_constants, initial_hash_256}

@@ -1,17 +1,16 @@
 -- Where the outputs of the words are 0, and what they say of the numbers that the words hold.
-use Rattle.std.specs.Prelude.{◌≡◌, ℕ, ◌+◌, ◌-◌, ◌*◌, ◌/◌, ◌%◌, ◌^◌, ◌<◌, ◌≤◌, List, [], ◌∷◌, slice_index, nat_lt, if◌then◌else◌}
+use Rattle.std.specs.Prelude.{◌≡◌, ℕ, ◌+◌, ◌-◌, ◌*◌, ◌/◌, ◌%◌, ◌^◌, ◌<◌, ◌≤◌, slice_index, nat_lt, if◌then◌else◌}
 use Rattle.std.specs.Int.{bit_at}
-use Rattle.std.proofs.Common.{refl, sym, ap, ◌∙◌, arith, zero, suc, inl, inr, lt-ltb, le-ltb, Bool, true, false, subst, mul-le-mul_right}
+use Rattle.std.proofs.Common.{refl, sym, ap, ◌∙◌, arith, inl, inr, lt-ltb, le-ltb, Bool, true, false, subst, mul-le-mul_right}
 use Rattle.std.proofs.lemmas.Nat.Bits.{bit_at-lt}
 use Rattle.std.proofs.lemmas.Bool.{cases_lt}
 use Rattle.lzk_field.specs.Ring.{Ops}
-use Rattle.lzk_field.specs.Sums.{minus}
 use Rattle.sha2.specs.Sha256.{round_constants, initial_hash_256, padding}
 use Rattle.lzk_sha_circuit.specs.Words.{worth, constant}
 use Rattle.lzk_sha_circuit.specs.Places.{bits_from, block_bit, schedule_word, a_word, e_word, last_word, final_word, w_place, a_place, e_place, f_place}
 use Rattle.lzk_sha_circuit.specs.Outputs.{w_output, a_output, e_output, f_output, next_sum, first_sum, second_sum}
 use Rattle.lzk_sha_circuit.proofs.Numbered.{Numbered, IsBit}
-use Rattle.lzk_sha_circuit.proofs.Held.{Held, held_same, worth_is}
+use Rattle.lzk_sha_circuit.proofs.Held.{Held, held_same}
 use Rattle.lzk_sha_circuit.proofs.Valued.{Valued, valued_plus, word_follows, word_meets}
 use Rattle.lzk_sha_circuit.proofs.Sums.{next_number, first_number, second_number, next_sum_is, first_sum_is, second_sum_is, worth_valued, constant_valued, initial_below}
 use Rattle.lzk_sha_circuit.proofs.Standard.{last_number}
@@ -97,7 +96,7 @@ module _ {A : Type 0} (o : Ops A) (element : ℕ → A) (size : ℕ) (h : Number
       (valued_plus o element size h (2 ^ 32) 1 5 (worth o element 32 (a_word element len input t)) (first_sum o element len input t) (a t) (first_at t)
       (worth_valued o element size h (a_word element len input t) (a t) (held_a t (omega arith))) (first_valued t lt))
 
-  held_last : (i : ℕ) → i < 8 → Held element 32 (last_word element len input i) (last_number a e i)
+  pub held_last : (i : ℕ) → i < 8 → Held element 32 (last_word element len input i) (last_number a e i)
   held_last i lt =
       let choice = λ (b : Bool). Held element 32 (if b then a_word element len input (67 - i) else e_word element len input (71 - i)) (if b then a (67 - i) else e (71 - i)) in
       elim (cases_lt i 4) [
@@ -105,7 +104,7 @@ module _ {A : Type 0} (o : Ops A) (element : ℕ → A) (size : ℕ) (h : Number
         | inr high ↦ subst choice (sym (le-ltb i 4 high)) (held_e (71 - i) (omega arith))
       ]
 
-  f_sum : (i : ℕ) → i < 8 → Valued element (2 ^ 32) 8 (o.plus (element (slice_index initial_hash_256 i)) (worth o element 32 (last_word element len input i))) (slice_index initial_hash_256 i + last_number a e i)
+  pub f_sum : (i : ℕ) → i < 8 → Valued element (2 ^ 32) 8 (o.plus (element (slice_index initial_hash_256 i)) (worth o element 32 (last_word element len input i))) (slice_index initial_hash_256 i + last_number a e i)
   f_sum i lt =
       let x = element (slice_index initial_hash_256 i) in
       let y = worth o element 32 (last_word element len input i) in

@@ -1,9 +1,9 @@
 -- Elements that stand for small numbers: sums of words, and what a zero output says of them.
-use Rattle.std.specs.Prelude.{◌≡◌, ℕ, ◌+◌, ◌-◌, ◌*◌, ◌/◌, ◌%◌, ◌^◌, ◌<◌, ◌≤◌}
-use Rattle.std.proofs.Common.{refl, sym, ap, ◌∙◌, arith, add-mul, mul-add, mul_comm, add_comm, mod-eq_of_lt, div-add-mod'}
+use Rattle.std.specs.Prelude.{◌≡◌, ℕ, ◌+◌, ◌*◌, ◌/◌, ◌%◌, ◌^◌, ◌<◌, ◌≤◌}
+use Rattle.std.proofs.Common.{sym, ap, ◌∙◌, arith, add-mul, mul_comm, div-add-mod'}
 use Rattle.std.proofs.lemmas.Nat.{mul-add-lt, mod-mul-add}
 use Rattle.std.proofs.Math.Nat.{mul-le-mul_left}
-use Rattle.lzk_field.specs.Ring.{Ops, RingLaws}
+use Rattle.lzk_field.specs.Ring.{Ops}
 use Rattle.lzk_field.specs.Sums.{minus}
 use Rattle.lzk_field.proofs.RingBasics.{same_from_difference}
 use Rattle.lzk_sha_circuit.specs.Words.{worth}

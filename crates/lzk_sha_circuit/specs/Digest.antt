@@ -1,5 +1,5 @@
 -- A message among the private inputs, and its digest as public inputs.
-use Rattle.std.specs.Prelude.{◌≡◌, ℕ, ◌+◌, ◌-◌, ◌*◌, ◌/◌, ◌%◌, ◌<◌, List, map, take, length, slice_index, EachIndex}
+use Rattle.std.specs.Prelude.{◌≡◌, ℕ, ◌-◌, ◌*◌, ◌/◌, ◌%◌, ◌<◌, List, map, take, length, slice_index, EachIndex}
 use Rattle.std.specs.List.{range_with_len}
 use Rattle.std.specs.Int.{bit_at}
 use Rattle.sha2.specs.Sha256.{sha256, word_at}

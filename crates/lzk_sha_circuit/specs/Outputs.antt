@@ -1,6 +1,6 @@
 -- The outputs of the circuit, for all inputs, bits or not. Where all are 0, the private inputs are bits, each word follows from those before it, and
 -- the public inputs are the digest.
-use Rattle.std.specs.Prelude.{ℕ, ◌+◌, ◌-◌, ◌*◌, ◌^◌, List, [], ◌∷◌, ◌++◌, map, None, slice_index}
+use Rattle.std.specs.Prelude.{ℕ, ◌+◌, ◌-◌, ◌^◌, List, [], ◌∷◌, ◌++◌, map, None, slice_index}
 use Rattle.std.specs.List.{range_with_len, flat_map}
 use Rattle.sha2.specs.Sha256.{round_constants, initial_hash_256}
 use Rattle.lzk_field.specs.Ring.{Ops}

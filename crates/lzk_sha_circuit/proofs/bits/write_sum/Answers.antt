@@ -1,5 +1,5 @@
 use Rattle.lzk_goldilocks.specs.Elements.{of_number}
-use Rattle.std.proofs.Common.{◌%◌, ◌/◌, ◌^◌, ap, sym, ◌∙◌, refl}
+use Rattle.std.proofs.Common.{◌%◌, ◌/◌, ◌^◌, ap, refl}
 use Rattle.lzk_sha_circuit.specs.Inputs.{bit_list, sum_list}
 use Rattle.lzk_sha_circuit.proofs.Written.{two_more}
 use Rattle.lzk_sha_circuit.proofs.bits.write_sum.Goals as goal

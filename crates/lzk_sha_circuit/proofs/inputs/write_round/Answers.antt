@@ -1,4 +1,4 @@
-use Rattle.std.proofs.Common.{◌≡◌, ◌+◌, ◌∙◌, ap, slice_index}
+use Rattle.std.proofs.Common.{◌≡◌, ◌+◌, ◌∙◌, slice_index}
 use Rattle.lzk_goldilocks.specs.Elements.{of_number}
 use Rattle.lzk_sha_circuit.specs.Inputs.{round_list, sum_list, first_total, second_total}
 use Rattle.lzk_sha_circuit.proofs.Written.{two_more}

@@ -1,4 +1,4 @@
-use Rattle.std.proofs.Common.{◌≡◌, ◌≤◌, ◌%◌, ◌^◌, ◌∙◌, ap, sym, arith, append-nil, take_all, length, take, subst}
+use Rattle.std.proofs.Common.{◌≡◌, ◌≤◌, ◌%◌, ◌^◌, ◌∙◌, ap, sym, arith, append-nil, take_all, length, take}
 use Rattle.sha2.specs.Sha256.{schedule}
 use Rattle.sha2.proofs.Schedule256.{length-schedule}
 use Rattle.std.proofs.lemmas.List.{length-take-le}

@@ -1,4 +1,4 @@
-use Rattle.std.proofs.Common.{◌≡◌, ◌-◌, ◌++◌, ◌∷◌, [], length, replicate}
+use Rattle.std.proofs.Common.{◌≡◌, ◌-◌, ◌++◌, ◌∷◌, length, replicate}
 use Rattle.lzk_sha_circuit.proofs.words.padded.Given as goal
 
 abbrev pub invariant-loop : goal.invariant-loop
