@@ -31,8 +31,8 @@ bit_at_turned_low w n k i fits lt =
     let right = bit_at_shr n k i in
     let left : bit_at (n * 2 ^ (w - k) % 2 ^ w) i ≡ 0 = bit_at_mod (n * 2 ^ (w - k)) w i (omega arith) ∙ bit_at_shl_low n (w - k) i (omega arith) in
     bit_at_or (n / 2 ^ k) (n * 2 ^ (w - k) % 2 ^ w) i ∙ (λ j. max (right j) (left j)) ∙ max_zero (bit_at n (i + k)) where
-  max_zero : (x : ℕ) → max x 0 ≡ x
-  max_zero x = omega arith
+      max_zero : (x : ℕ) → max x 0 ≡ x
+      max_zero x = omega arith
 
 pub bit_at_turned_high : (w n k i : ℕ) → n < 2 ^ w → i < w → k ≤ w → w ≤ i + k → bit_at (turned w n k) i ≡ bit_at n (i + k - w)
 bit_at_turned_high w n k i fits lt few le =
@@ -40,8 +40,8 @@ bit_at_turned_high w n k i fits lt few le =
     let same : i - (w - k) ≡ i + k - w = omega arith in
     let left : bit_at (n * 2 ^ (w - k) % 2 ^ w) i ≡ bit_at n (i + k - w) = bit_at_mod (n * 2 ^ (w - k)) w i lt ∙ bit_at_shl_high n (w - k) i (omega arith) ∙ ap (λ (j : ℕ). bit_at n j) same in
     bit_at_or (n / 2 ^ k) (n * 2 ^ (w - k) % 2 ^ w) i ∙ (λ j. max (right j) (left j)) ∙ zero_max (bit_at n (i + k - w)) where
-  zero_max : (x : ℕ) → max 0 x ≡ x
-  zero_max x = omega arith
+      zero_max : (x : ℕ) → max 0 x ≡ x
+      zero_max x = omega arith
 
 -- ---- the number of k bits
 abbrev pub number_of : ℕ → (ℕ → ℕ) → ℕ

@@ -57,12 +57,12 @@ word_bit b0 b1 b2 b3 l1 l2 l3 i byte place lt p3 p2 p1 p0 =
     elim (cases_lt i 8) [
       | inl a ↦ bit_at_cat_low high 8 b3 i a ∙ (λ j. bit_at (sym (p3 a).0 j) (sym (p3 a).1 j))
       | inr a ↦ bit_at_cat_high high 8 b3 i l3 a ∙ elim (cases_lt i 16) [
-          | inl b ↦ bit_at_cat_low (b0 * 2 ^ 8 + b1) 8 b2 (i - 8) (omega arith) ∙ (λ j. bit_at (sym (p2 a b).0 j) (sym (p2 a b).1 j))
-          | inr b ↦ bit_at_cat_high (b0 * 2 ^ 8 + b1) 8 b2 (i - 8) l2 (omega arith) ∙ elim (cases_lt i 24) [
-              | inl d ↦ bit_at_cat_low b0 8 b1 (i - 8 - 8) (omega arith) ∙ (λ j. bit_at (sym (p1 b d).0 j) (sym (p1 b d).1 j))
-              | inr d ↦ bit_at_cat_high b0 8 b1 (i - 8 - 8) l1 (omega arith) ∙ (λ j. bit_at (sym (p0 d).0 j) (sym (p0 d).1 j))
-            ]
+        | inl b ↦ bit_at_cat_low (b0 * 2 ^ 8 + b1) 8 b2 (i - 8) (omega arith) ∙ (λ j. bit_at (sym (p2 a b).0 j) (sym (p2 a b).1 j))
+        | inr b ↦ bit_at_cat_high (b0 * 2 ^ 8 + b1) 8 b2 (i - 8) l2 (omega arith) ∙ elim (cases_lt i 24) [
+          | inl d ↦ bit_at_cat_low b0 8 b1 (i - 8 - 8) (omega arith) ∙ (λ j. bit_at (sym (p1 b d).0 j) (sym (p1 b d).1 j))
+          | inr d ↦ bit_at_cat_high b0 8 b1 (i - 8 - 8) l1 (omega arith) ∙ (λ j. bit_at (sym (p0 d).0 j) (sym (p0 d).1 j))
         ]
+      ]
     ]
 
 word_of_bytes : (b0 b1 b2 b3 : ℕ) → b0 * 16777216 + b1 * 65536 + b2 * 256 + b3 ≡ ((b0 * 2 ^ 8 + b1) * 2 ^ 8 + b2) * 2 ^ 8 + b3

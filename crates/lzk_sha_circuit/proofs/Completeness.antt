@@ -265,8 +265,8 @@ module _ {A : Type 0} (o : Ops A) (element : ℕ → A) (size : ℕ) (h : Number
     bits = λ j lt. bit_zero (entry o (sha_private element m) j) (private_bits element o.zero h.zero_is m j);
     schedule = λ t le lt. w_backward o element size h len input (slice_index ws) a_at e_at held_w held_a held_e t le lt (w_value t le lt) (w_carry t le lt);
     rounds = λ t lt. (
-        a_backward o element size h len input (slice_index ws) a_at e_at held_w held_a held_e t lt (a_value t) (a_carry t lt),
-        e_backward o element size h len input (slice_index ws) a_at e_at held_w held_a held_e t lt (e_value t) (e_carry t lt),
+      a_backward o element size h len input (slice_index ws) a_at e_at held_w held_a held_e t lt (a_value t) (a_carry t lt),
+      e_backward o element size h len input (slice_index ws) a_at e_at held_w held_a held_e t lt (e_value t) (e_carry t lt),
     );
     finals = λ i lt. f_backward o element size h len input (slice_index ws) a_at e_at held_w held_a held_e i (f_total i % 2 ^ 32) lt (ap (λ n. n % 2 ^ 32) (f_total_is i lt)) (held_f i lt) (f_carry i lt);
     digest = λ i lt.

@@ -21,11 +21,13 @@ module _ {A : Type 0} (element : ℕ → A) where
   pub held_from_bits : (k : ℕ) (w : ℕ → A) → ((i : ℕ) → IsBit element (w i)) → (n : ℕ) × Held element k w n
   held_from_bits k w h =
       let b = λ (i : ℕ). (h i).0 in
-      let small = λ (i : ℕ). (h i).1 in
-      (number_of k b, record {
-        below = number_of-lt k b small;
-        bits = λ i lt. (h i).2 ∙ ap element (sym (bit_at-number_of k b small i lt));
-      })
+      let small = λ (i : ℕ). (h i).1 in (
+        number_of k b,
+        record {
+          below = number_of-lt k b small;
+          bits = λ i lt. (h i).2 ∙ ap element (sym (bit_at-number_of k b small i lt));
+        },
+      )
 
   pub held_constant : (k n : ℕ) → n < 2 ^ k → Held element k (constant element n) n
   held_constant k n lt = record { below = lt; bits = λ i l. refl }

@@ -214,10 +214,14 @@ module _ {A : Type 0} (o : Ops A) (element : ℕ → A) (size : ℕ) (h : Number
       let m = message in
       let count = length-spelled element len input bit in
       let f = λ (i : ℕ). word_at (sha256 m) (4 * i) in
-      let eight = length-map (map f (range_with_len 0 8)) element ∙ length-map-range_with_len f 0 8 in
-      (m, count, spelled_bytes element len input bit, record {
-        bits = begins_with o element private m (omega (arith, long, count)) (λ j lt. spelled_bit element len input bit j (omega (arith, count)));
-        words = ext_get_or o.zero public (map element (map f (range_with_len 0 8))) (short ∙ sym eight) (λ i lt.
-            let inside : i < 8 = subst (λ (k : ℕ). i < k) short lt in
-            public_is i inside ∙ ap element (sym (get_or-map-range_with_len f 0 8 i i 0 inside (omega arith))) ∙ sym (get_or-map element (map f (range_with_len 0 8)) i 0 o.zero inside));
-      })
+      let eight = length-map (map f (range_with_len 0 8)) element ∙ length-map-range_with_len f 0 8 in (
+        m,
+        count,
+        spelled_bytes element len input bit,
+        record {
+          bits = begins_with o element private m (omega (arith, long, count)) (λ j lt. spelled_bit element len input bit j (omega (arith, count)));
+          words = ext_get_or o.zero public (map element (map f (range_with_len 0 8))) (short ∙ sym eight) (λ i lt.
+              let inside : i < 8 = subst (λ (k : ℕ). i < k) short lt in
+              public_is i inside ∙ ap element (sym (get_or-map-range_with_len f 0 8 i i 0 inside (omega arith))) ∙ sym (get_or-map element (map f (range_with_len 0 8)) i 0 o.zero inside));
+        },
+      )

@@ -11,9 +11,7 @@ ghost use Rattle.lzk_sha_circuit.specs.Inputs.{next_total, bit_list, schedule_li
 
 use crate::bits::{write_bits, write_sum};
 use crate::constants::{INITIAL_HASH, ROUND_CONSTANTS};
-use crate::words::{
-    big_sigma0, big_sigma1, ch, maj, padded, small_sigma0, small_sigma1, word_at,
-};
+use crate::words::{big_sigma0, big_sigma1, ch, maj, padded, small_sigma0, small_sigma1, word_at};
 use lzk_field::Field;
 use lzk_goldilocks::Gold;
 use std::alloc::{AllocError, Global};
@@ -50,11 +48,7 @@ fn next_sum(words: &[u32], t: usize) -> u64
 }
 
 // Gives W 0 to W 63, and writes those from W 16 on.
-fn write_schedule(
-    alloc: Global,
-    block: &[u8],
-    bits: &mut Vec<Gold>,
-) -> Result<Vec<u32>, AllocError>
+fn write_schedule(alloc: Global, block: &[u8], bits: &mut Vec<Gold>) -> Result<Vec<u32>, AllocError>
     requires { length block.now ≡ 64 }
     ensures words { IfOk result (λ words. words.items ≡ schedule block.now 48) }
     ensures bits { OnOk result (bits.new.items ≡ bits.old.items ++ schedule_list of_number (schedule block.now 48) 48) }

@@ -9,3 +9,6 @@ mod words;
 
 pub use inputs::{ShaInputs, sha_inputs};
 pub use laws::digest_laws;
+
+#[cfg(test)]
+mod tests;
