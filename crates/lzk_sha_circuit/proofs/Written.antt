@@ -1,0 +1,46 @@
+-- Lists that grow by one entry or one chunk.
+use Rattle.std.specs.Prelude.{◌≡◌, ℕ, ◌+◌, ◌-◌, ◌*◌, ◌%◌, ◌^◌, ◌≤◌, List, [], ◌∷◌, ◌++◌, map, length, replicate}
+use Rattle.std.specs.Int.{w64, to_be_bytes}
+use Rattle.sha2.specs.Sha256.{padded_message}
+use Rattle.std.specs.List.{range_with_len, flat_map}
+use Rattle.std.proofs.Common.{sym, ap, ◌∙◌, arith, append_assoc, append-nil}
+use Rattle.std.proofs.lemmas.List.{map-id, replicate_more}
+use Rattle.std.proofs.lemmas.List.FromFn.{map-range_with_len_more}
+use Rattle.std.proofs.lemmas.List.Concat.{flat_map-append}
+
+-- one entry more behind what was written
+pub entry_more : {X : Type 0} (f : ℕ → X) (before old new : List X) (x : X) (i : ℕ) → old ≡ before ++ map f (range_with_len 0 i) → new ≡ old ++ x ∷ [] → x ≡ f i
+    → new ≡ before ++ map f (range_with_len 0 (i + 1))
+entry_more f before old new x i eo en ex =
+    en ∙ (λ j. eo j ++ ex j ∷ []) ∙ append_assoc before (map f (range_with_len 0 i)) (f i ∷ [])
+    ∙ ap (λ l. before ++ l) (sym (map-range_with_len_more f 0 i i (omega arith)))
+
+range_more : (a n j : ℕ) → a + n ≡ j → range_with_len a (n + 1) ≡ range_with_len a n ++ j ∷ []
+range_more a n j e =
+    sym (map-id (range_with_len a (n + 1))) ∙ map-range_with_len_more (λ (x : ℕ). x) a n j e ∙ ap (λ l. l ++ j ∷ []) (map-id (range_with_len a n))
+
+-- one chunk more behind what was written
+pub chunk_more : {X : Type 0} (f : ℕ → List X) (before old new chunk : List X) (a n j : ℕ) → old ≡ before ++ flat_map f (range_with_len a n) → new ≡ old ++ chunk → chunk ≡ f j → a + n ≡ j
+    → new ≡ before ++ flat_map f (range_with_len a (n + 1))
+chunk_more f before old new chunk a n j eo en ec e =
+    en ∙ (λ i. eo i ++ ec i) ∙ append_assoc before (flat_map f (range_with_len a n)) (f j)
+    ∙ ap (λ l. before ++ (flat_map f (range_with_len a n) ++ l)) (sym (append-nil (f j)))
+    ∙ ap (λ l. before ++ l) (sym (flat_map-append f (range_with_len a n) (j ∷ [])) ∙ ap (flat_map f) (sym (range_more a n j e)))
+
+-- two pieces behind what was written
+pub two_more : {X : Type 0} (before old new a b x y : List X) → old ≡ before ++ a → new ≡ old ++ b → a ≡ x → b ≡ y → new ≡ before ++ (x ++ y)
+two_more before old new a b x y eo en ea eb = en ∙ (λ i. eo i ++ eb i) ∙ ap (λ l. before ++ l ++ y) ea ∙ append_assoc before x y
+
+pub zero_more : (m old new : List ℕ) (i : ℕ) → length m ≤ i → old ≡ m ++ 0x80 ∷ replicate (i - length m) 0 → new ≡ old ++ 0 ∷ [] → new ≡ m ++ 0x80 ∷ replicate (i + 1 - length m) 0
+zero_more m old new i le eo en =
+    let e : i - length m + 1 ≡ i + 1 - length m = omega arith in
+    en ∙ ap (λ l. l ++ 0 ∷ []) eo ∙ append_assoc m (0x80 ∷ replicate (i - length m) 0) (0 ∷ [])
+    ∙ ap (λ l. m ++ 0x80 ∷ l) (replicate_more (i - length m) 0 ∙ ap (λ n. replicate n 0) e)
+
+pub padded_is : (m block new bytes : List ℕ) (i count : ℕ) → length m ≤ 55 → i ≡ 55 → block ≡ m ++ 0x80 ∷ replicate (i - length m) 0 → new ≡ block ++ bytes
+    → bytes ≡ to_be_bytes w64 count → count ≡ 8 * length m → new ≡ padded_message m
+padded_is m block new bytes i count le ei eb en ey ec =
+    let zeros : i - length m ≡ (119 - length m % 64) % 64 = omega arith in
+    let size : count ≡ length m * 8 % 2 ^ 64 = omega arith in
+    en ∙ (λ j. eb j ++ ey j) ∙ append_assoc m (0x80 ∷ replicate (i - length m) 0) (to_be_bytes w64 count)
+    ∙ (λ j. m ++ (0x80 ∷ replicate (zeros j) 0 ++ to_be_bytes w64 (size j)))

@@ -1,0 +1,12 @@
+use Rattle.std.proofs.Common.{◌≡◌, ◌+◌, ◌%◌, ◌^◌, ◌++◌, map, slice_index}
+use Rattle.std.specs.List.{range_with_len}
+use Rattle.sha2.specs.Sha256.{initial_hash_256}
+use Rattle.lzk_goldilocks.specs.Elements.{of_number}
+use Rattle.lzk_sha_circuit.specs.Inputs.{final_list}
+use Rattle.lzk_sha_circuit.proofs.inputs.write_digest.Given as goal
+
+abbrev pub invariant-loop-i : goal.invariant-loop-i
+invariant-loop-i l = record {
+  words : l.public.items ≡ map (λ i. of_number ((slice_index initial_hash_256 i + slice_index l.variables i) % 2 ^ 32)) (range_with_len 0 l.i);
+  bits : l.bits.items ≡ l.initial.bits.items ++ final_list of_number initial_hash_256 l.variables l.i;
+}
