@@ -47,6 +47,15 @@ wire_within o k n (u ∷ ts) h zero t e = subst (λ (x : Term _). x.g < k) (some
     some_is x y e = cc
 wire_within o k n (u ∷ ts) h (suc i) t e = wire_within o k n ts h.4 i t e
 
+-- each term's second wire has a value
+pub place_below : {A : Type 0} (o : Ops A) (k n : ℕ) (ts : List (Term A)) → AreDistinct o k n ts → (i : ℕ) (t : Term A) → slice_get ts i ≡ Some t → t.b < n
+place_below o k n [] h i t e = absurd (let l = slice_get_within [] i t e in omega (arith, l))
+place_below o k n (u ∷ ts) h zero t e = subst (λ (x : Term _). x.b < n) (some_is u t e) h.2
+  where
+    some_is : {X : Type 0} (x y : X) → Some x ≡ Some y → x ≡ y
+    some_is x y e = cc
+place_below o k n (u ∷ ts) h (suc i) t e = place_below o k n ts h.4 i t e
+
 length_front : {X : Type 0} (i : ℕ) (xs : List X) → length (take i xs) ≤ i
 length_front zero xs = omega arith
 length_front (suc i) [] = omega arith

@@ -1,4 +1,5 @@
 pub mod Binding
+pub mod CurveLaws
 pub mod Curves
 pub mod Filled
 pub mod KeptLaws
@@ -11,8 +12,8 @@ pub mod OrderLaws
 pub mod PointLaws
 pub mod Prefixes
 pub mod ProvingLaws
-pub mod QuarterLaws
 pub mod RoundLaws
+pub mod RowLaws
 pub mod ScriptLaws
 pub mod SendLaws
 pub mod SentLaws

@@ -1,5 +1,5 @@
 -- Pairs that are put together in place.
-use Rattle.std.specs.Prelude.{◌≡◌, ℕ, ◌<◌, ◌≤◌, ◌+◌, ◌-◌, ◌==◌, List, [], ◌∷◌, ◌++◌, length, take, drop, true, false, Bool, cond, slice_index_or, slice_set}
+use Rattle.std.specs.Prelude.{◌≡◌, ℕ, ◌<◌, ◌≤◌, ◌+◌, ◌-◌, ◌==◌, List, [], ◌∷◌, ◌++◌, length, map, take, drop, true, false, Bool, cond, slice_index_or, slice_set}
 use Rattle.std.proofs.Common.{zero, suc, refl, sym, ap, ◌∙◌, arith, subst}
 use Rattle.std.proofs.lemmas.List.{take_more, take_more_set, drop_more, drop-drop}
 use Rattle.lzk_field.specs.Ring.{Ops, RingLaws}
@@ -8,12 +8,13 @@ use Rattle.lzk_sumcheck.specs.declared.pairs.Pair.{Pair}
 use Rattle.lzk_sumcheck.specs.Pairs.{spread, ArePairs}
 
 module _ {A : Type 0} (o : Ops A) where
-  pub record IsMerged (old : List (Pair A)) (i kept : ℕ) (now : List (Pair A)) : Type 0 where
+  -- the first i of a list's pairs are put together, in the first places of what was another list
+  pub record IsMerged (pairs old : List (Pair A)) (i kept : ℕ) (now : List (Pair A)) : Type 0 where
     pub count : kept ≤ i
     pub same_length : length now ≡ length old
     pub rest : drop i now ≡ drop i old
-    pub sums : (a b : ℕ) → o.plus (spread o (take kept now) a b) (spread o (drop i old) a b) ≡ spread o old a b
-    pub within : (n m : ℕ) → ArePairs n m old → ArePairs n m (take kept now) × ArePairs n m (drop i old)
+    pub sums : (a b : ℕ) → o.plus (spread o (take kept now) a b) (spread o (drop i pairs) a b) ≡ spread o pairs a b
+    pub within : (n m : ℕ) → ArePairs n m pairs → ArePairs n m (take kept now) × ArePairs n m (drop i pairs)
 
 module _ {A : Type 0} (o : Ops A) (r : RingLaws o) where
   open o use {plus, times, neg}
@@ -89,25 +90,37 @@ module _ {A : Type 0} (o : Ops A) (r : RingLaws o) where
       let at : (zs : List _) → drop b zs ≡ drop (b - a) (drop a zs) = λ zs. ap (λ k. drop k zs) (sym s) ∙ sym (drop-drop (b - a) a zs) in
       at xs ∙ ap (drop (b - a)) e ∙ sym (at ys)
 
-  pub merged_more : (old now new : List (Pair A)) (i kept result : ℕ) (p : Pair A) → IsMerged o old i kept now → i < length now → p ≡ slice_index_or now i p
+  -- one pair more is counted
+  pub counted-step : (ps rest : List (Pair A)) (p : Pair A) (a b : ℕ) (now next all : A) → ps ≡ p ∷ rest → next ≡ plus now (spread o (p ∷ []) a b)
+      → plus now (spread o ps a b) ≡ all → plus next (spread o rest a b) ≡ all
+  counted-step ps rest p a b now next all front e k =
+      let x = cond (a == p.a) (cond (b == p.b) p.coef o.zero) o.zero in
+      ap (λ w. plus w (spread o rest a b)) (e ∙ ap (plus now) (r.plus_zero x)) ∙ r.plus_assoc now x (spread o rest a b) ∙ sym (ap (λ xs. plus now (spread o xs a b)) front) ∙ k
+
+  pub within-step : (n m : ℕ) (ps rest : List (Pair A)) (p : Pair A) → ps ≡ p ∷ rest → ArePairs n m ps → ArePairs n m (p ∷ []) × ArePairs n m rest
+  within-step n m ps rest p front h = let both = subst (ArePairs n m) front h in ((both.0, both.1, tt), both.2)
+
+  pub merged_more : (f : Pair A → Pair A) (old now new : List (Pair A)) (i kept result : ℕ) (p : Pair A) → IsMerged o (map f old) old i kept now → i < length now → p ≡ slice_index_or now i p
       → result ≤ kept + 1 → length new ≡ length now → drop (kept + 1) new ≡ drop (kept + 1) now
-      → ((a b : ℕ) → spread o (take result new) a b ≡ plus (spread o (take kept now) a b) (spread o (p ∷ []) a b))
-      → ((n m : ℕ) → ArePairs n m (take kept now) → ArePairs n m (p ∷ []) → ArePairs n m (take result new))
-      → IsMerged o old (i + 1) result new
-  merged_more old now new i kept result p h l is c len rest sums within =
-      let front : drop i old ≡ p ∷ drop (i + 1) now = sym h.rest ∙ drop_more now i p l ∙ ap (λ x. x ∷ drop (i + 1) now) (sym is) in
+      → ((a b : ℕ) → spread o (take result new) a b ≡ plus (spread o (take kept now) a b) (spread o (f p ∷ []) a b))
+      → ((n m : ℕ) → ArePairs n m (take kept now) → ArePairs n m (f p ∷ []) → ArePairs n m (take result new))
+      → IsMerged o (map f old) old (i + 1) result new
+  merged_more f old now new i kept result p h l is c len rest sums within =
       let next : drop (i + 1) now ≡ drop (i + 1) old = drop_same i (i + 1) now old h.rest (omega arith) in
-      let front' : drop i old ≡ p ∷ drop (i + 1) old = front ∙ ap (λ xs. p ∷ xs) next in
+      let front : drop i old ≡ p ∷ drop (i + 1) old = sym h.rest ∙ drop_more now i p l ∙ ap (λ x. x ∷ drop (i + 1) now) (sym is) ∙ ap (λ xs. p ∷ xs) next in
+      let front' : drop i (map f old) ≡ f p ∷ drop (i + 1) (map f old) = drop-map f i old ∙ ap (map f) front ∙ ap (λ xs. f p ∷ xs) (sym (drop-map f (i + 1) old)) in
       record {
         count = let k = h.count in omega arith;
         same_length = len ∙ h.same_length;
         rest = drop_same (kept + 1) (i + 1) new now rest (let k = h.count in omega arith) ∙ next;
-        sums = λ a b.
-            let x = cond (a == p.a) (cond (b == p.b) p.coef o.zero) o.zero in
-            ap (λ w. plus w (spread o (drop (i + 1) old) a b)) (sums a b ∙ ap (plus (spread o (take kept now) a b)) (r.plus_zero x)) ∙ r.plus_assoc (spread o (take kept now) a b) x (spread o (drop (i + 1) old) a b)
-            ∙ sym (ap (λ xs. plus (spread o (take kept now) a b) (spread o xs a b)) front') ∙ h.sums a b;
+        sums = λ a b. counted-step (drop i (map f old)) (drop (i + 1) (map f old)) (f p) a b (spread o (take kept now) a b) (spread o (take result new) a b) (spread o (map f old) a b) front' (sums a b) (h.sums a b);
         within = λ n m k.
             let w = h.within n m k in
-            let both = subst (ArePairs n m) front' w.1 in
-            (within n m w.0 (both.0, both.1, tt), both.2);
+            let both = within-step n m (drop i (map f old)) (drop (i + 1) (map f old)) (f p) front' w.1 in
+            (within n m w.0 both.0, both.1);
       }
+    where
+      drop-map : {X Y : Type 0} (g : X → Y) (k : ℕ) (xs : List X) → drop k (map g xs) ≡ map g (drop k xs)
+      drop-map g zero xs = refl
+      drop-map g (suc k) [] = refl
+      drop-map g (suc k) (x ∷ xs) = drop-map g k xs

@@ -1,5 +1,5 @@
 -- Rounds that are sent, one in front of the others.
-use Rattle.std.specs.Prelude.{◌≡◌, ℕ, ◌<◌, ◌≤◌, ◌+◌, ◌*◌, ◌-◌, List, [], ◌∷◌, ◌++◌, length, drop, take}
+use Rattle.std.specs.Prelude.{◌≡◌, ℕ, ◌<◌, ◌≤◌, ◌+◌, ◌*◌, ◌-◌, ◌^◌, List, [], ◌∷◌, ◌++◌, length, drop, take}
 use Rattle.std.proofs.Common.{zero, suc, sym, ap, ◌∙◌, arith, subst}
 use Rattle.std.proofs.lemmas.List.{get_or_append_left, get_or-append_right, get_or-drop, length-drop, take_all}
 use Rattle.lzk_field.specs.Coding.{Coding}
@@ -10,7 +10,7 @@ use Rattle.lzk_mle.specs.Multilinear.{tilde}
 use Rattle.lzk_mle.proofs.TableLaws.{extension-one}
 use Rattle.lzk_sumcheck.specs.Script.{with_pair}
 use Rattle.lzk_sumcheck.specs.Sending.{after_sent, drawn_sent, AreSent}
-use Rattle.lzk_sumcheck.specs.States.{State, bind_state, after, total, Sizes}
+use Rattle.lzk_sumcheck.specs.States.{State, bind_state, after, total}
 
 module _ {A : Type 0} (o : Ops A) (e : Coding A) where
   -- the challenges behind a first pair
@@ -67,12 +67,10 @@ module _ {A : Type 0} (o : Ops A) (r : RingLaws o) where
   pub tilde-one : (table : List A) → length table ≡ 1 → entry o table 0 ≡ tilde o table []
   tilde-one table one = sym (ap (λ n. sum_below o n (λ i. o.times o.one (entry o table i))) one ∙ extension-one o r (entry o table))
 
--- tables of some variables have entries
-pub sizes-some : (v n m : ℕ) → Sizes v n m → (1 ≤ n) × (1 ≤ m)
-sizes-some zero n m (a, b) = (omega arith, omega arith)
-sizes-some (suc v) n m (half, (double, rest)) =
-    let some = sizes-some v m half rest in
-    (let q = some.1 in omega arith, some.0)
+  -- so is one that is left of a table with no variables
+  pub tilde-last : (table xs : List A) → length xs ≡ 0 → 1 ≤ length table → length table ≤ 2 ^ length xs → entry o table 0 ≡ tilde o table xs
+  tilde-last table [] none some fits = tilde-one table (omega (arith, fits))
+  tilde-last table (x ∷ xs) none some fits = absurd (omega arith)
 
 -- what stands behind the first two, as a slice to the end
 pub rest-whole : {X : Type 0} (xs : List X) → take (length xs - 2) (drop 2 xs) ≡ drop 2 xs

@@ -8,6 +8,7 @@ pub mod Pairs
 pub mod Points
 pub mod Room
 pub mod Rounds
+pub mod Rows
 pub mod Script
 pub mod Sending
 pub mod States

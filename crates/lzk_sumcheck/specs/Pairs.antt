@@ -1,13 +1,11 @@
 -- Coefficients that are kept as a list of pairs of numbers.
-use Rattle.std.specs.Prelude.{ℕ, ◌<◌, ◌/◌, ◌+◌, ◌*◌, ◌==◌, cond, List, [], ◌∷◌, ◌≡◌, length}
+use Rattle.std.specs.Prelude.{ℕ, ◌<◌, ◌/◌, ◌+◌, ◌*◌, ◌==◌, cond, List, [], ◌∷◌}
 use Rattle.lzk_field.specs.Ring.{Ops}
 use Rattle.lzk_field.specs.Sums.{minus, entry}
 use Rattle.lzk_circuit.specs.declared.layer.Term.{Term}
 use Rattle.lzk_circuit.specs.Sums.{sum_list}
 use Rattle.lzk_mle.specs.Multilinear.{low_bit, agree}
 use Rattle.lzk_sumcheck.specs.declared.pairs.Pair.{Pair}
-use Rattle.lzk_sumcheck.specs.declared.pairs.RoundSums.{RoundSums}
-use Rattle.lzk_sumcheck.specs.States.{State}
 
 -- the pair of a term's two wires below, with the weight of its wire
 abbrev pub first_pair : {A : Type 0} → Ops A → List A → Term A → Pair A
@@ -16,10 +14,6 @@ first_pair o weights t = record { a = t.a; b = t.b; coef = o.times (entry o weig
 -- a pair with the first bit of a bound at x, and the two numbers in each other's place
 abbrev pub bind_pair : {A : Type 0} → Ops A → A → Pair A → Pair A
 bind_pair o x p = record { a = p.b; b = p.a / 2; coef = o.times p.coef (agree o (low_bit o p.a) x) }
-
--- what two tables' entries at the pairs' numbers make
-abbrev pub pairs_total : {A : Type 0} → Ops A → List (Pair A) → (ℕ → A) → (ℕ → A) → A
-pairs_total o ps f h = sum_list o ps (λ p. o.times (o.times p.coef (f p.a)) (h p.b))
 
 -- all numbers are below n and m
 abbrev pub ArePairs : {A : Type 0} → ℕ → ℕ → List (Pair A) → Type 0
@@ -30,21 +24,6 @@ ArePairs n m (p ∷ ps) = (p.a < n) × (p.b < m) × ArePairs n m ps
 abbrev pub bound_entry : {A : Type 0} → Ops A → A → List A → ℕ → A
 bound_entry o x table i = o.plus (o.times (minus o o.one x) (entry o table (2 * i))) (o.times x (entry o table (2 * i + 1)))
 
--- a round's value at t, by the sums of pairs whose a is even and of those whose a is odd, each with the even and with the odd entries of the first table
-abbrev pub round_at : {A : Type 0} → Ops A → RoundSums A → A → A
-round_at o s t =
-    o.plus (o.times (minus o o.one t) (o.plus (o.times (minus o o.one t) s.even_low) (o.times t s.even_high)))
-    (o.times t (o.plus (o.times (minus o o.one t) s.odd_low) (o.times t s.odd_high)))
-
 -- what the pairs count for at i and j
 abbrev pub spread : {A : Type 0} → Ops A → List (Pair A) → ℕ → ℕ → A
 spread o ps i j = sum_list o ps (λ p. cond (i == p.a) (cond (j == p.b) p.coef o.zero) o.zero)
-
--- what is kept of a state: pairs that count for its coefficients, and its two tables
-pub record IsKept {A : Type 0} (o : Ops A) (st : State A) (ps : List (Pair A)) (first second : List A) : Type 0 where
-  pub n_is : st.n ≡ length first
-  pub m_is : st.m ≡ length second
-  pub q_is : (i j : ℕ) → st.q i j ≡ spread o ps i j
-  pub f_is : (i : ℕ) → st.f i ≡ entry o first i
-  pub h_is : (j : ℕ) → st.h j ≡ entry o second j
-  pub within : ArePairs (length first) (length second) ps

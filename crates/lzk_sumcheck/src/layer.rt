@@ -1,6 +1,6 @@
 //! A layer's rounds and factors that are sent.
 
-ghost use Rattle.std.specs.Prelude.{◌≡◌, ℕ, ◌+◌, ◌*◌, ◌^◌, ◌<◌, ◌≤◌, Some, length, map, slice_get};
+ghost use Rattle.std.specs.Prelude.{◌≡◌, ℕ, ◌+◌, ◌*◌, ◌^◌, ◌<◌, ◌≤◌, Some, [], ◌∷◌, length, map, take, slice_get};
 ghost use Rattle.std.specs.List.{range_with_len};
 ghost use Rattle.lzk_field.specs.Coding.{coding};
 ghost use Rattle.lzk_field.specs.Sums.{minus, entry};
@@ -10,11 +10,14 @@ ghost use Rattle.lzk_circuit.specs.Wires.{AreDistinct};
 ghost use Rattle.lzk_sumcheck.specs.Layers.{layer_of_terms};
 ghost use Rattle.lzk_sumcheck.specs.Orders.{places, IsOrderOf};
 ghost use Rattle.lzk_sumcheck.specs.Pairs.{first_pair, spread, ArePairs};
+ghost use Rattle.lzk_sumcheck.specs.Rows.{counted};
 ghost use Rattle.lzk_sumcheck.specs.Script.{with_pair, after_rounds, round_challenge};
 ghost use Rattle.lzk_sumcheck.specs.Sending.{AreRoundsSent};
 
+use crate::arithmetic::{product_of, sum_of};
 use crate::draws::write_pair;
-use crate::pairs::Pair;
+use crate::pairs::{Pair, absorb};
+use crate::rows::set_zeros;
 use crate::sending::send_rounds;
 use lzk_circuit::Term;
 use lzk_field::Field;
@@ -28,27 +31,72 @@ fn pair_of<F: Field>(term: Term<F>, weights: &[F]) -> Pair<F>
     Pair {
         a: term.a,
         b: term.b,
-        coef: weights[term.g as usize].mul(term.coef),
+        coef: product_of(weights[term.g as usize], term.coef),
     }
 }
 
-// Puts the pairs of all terms down, in that order.
-fn set_pairs<F: Field>(
+// Counts a term in, with the coefficients of wire 0 or among the pairs; gives how many pairs there are then.
+fn put_term<F: Field>(
+    term: Term<F>,
+    weights: &[F],
+    pairs: &mut [Pair<F>],
+    kept: usize,
+    linear: &mut [F],
+) -> usize
+    requires wire { term.g < length weights.now }
+    requires place { kept < length pairs.old }
+    requires linear { term.b < length linear.old }
+    ensures count { result ≤ kept + 1 }
+    ensures length { length pairs.new ≡ length pairs.old }
+    ensures linear_length { length linear.new ≡ length linear.old }
+    ensures sums { let o = F.ops in (i j : ℕ) →
+        counted o (take result pairs.new) linear.new i j ≡ o.plus (counted o (take kept pairs.old) linear.old i j) (spread o (first_pair o weights.now term ∷ []) i j) }
+    ensures within { (n m : ℕ) → ArePairs n m (take kept pairs.old) → ArePairs n m (first_pair F.ops weights.now term ∷ []) → ArePairs n m (take result pairs.new) }
+{
+    let pair = pair_of(term, weights);
+    if pair.a == 0 {
+        let b = pair.b as usize;
+        linear[b] = sum_of(linear[b], pair.coef);
+        kept
+    } else {
+        absorb(pairs, kept, pair)
+    }
+}
+
+// Counts all terms in, in that order; gives how many pairs there are.
+fn set_terms<F: Field>(
     terms: &[Term<F>],
     order: &[(u64, usize)],
     weights: &[F],
     pairs: &mut [Pair<F>],
-)
+    linear: &mut [F],
+) -> usize
     requires room { length pairs.old ≡ length terms.now }
     requires order { IsOrderOf terms.now (places order.now) }
     requires wires { (i : ℕ) (t : declared.Term F) → slice_get terms.now i ≡ Some t → t.g < length weights.now }
-    ensures sums { let o = F.ops in (i j : ℕ) → spread o pairs.new i j ≡ spread o (map (first_pair o weights.now) terms.now) i j }
-    ensures within { (n m : ℕ) → ArePairs n m (map (first_pair F.ops weights.now) terms.now) → ArePairs n m pairs.new }
+    requires linear { (i : ℕ) (t : declared.Term F) → slice_get terms.now i ≡ Some t → t.b < length linear.old }
+    ensures count { result ≤ length pairs.old }
+    ensures length { length pairs.new ≡ length pairs.old }
+    ensures linear_length { length linear.new ≡ length linear.old }
+    ensures sums { let o = F.ops in (i j : ℕ) → counted o (take result pairs.new) linear.new i j ≡ spread o (map (first_pair o weights.now) terms.now) i j }
+    ensures within { (n m : ℕ) → ArePairs n m (map (first_pair F.ops weights.now) terms.now) → ArePairs n m (take result pairs.new) }
 {
-    for i in 0..pairs.len() {
+    set_zeros(linear);
+    let mut kept = 0;
+    for i in 0..order.len() {
         let k = order[i].1;
-        pairs[i] = pair_of(terms[k], weights);
+        kept = put_term(terms[k], weights, pairs, kept, linear);
     }
+    kept
+}
+
+// How many entries a table of so many values has: one at least.
+fn table_size(count: usize) -> usize
+    ensures some { 1 ≤ result }
+    ensures fits { count ≤ result }
+    ensures least { (n : ℕ) → 1 ≤ n → count ≤ n → result ≤ n }
+{
+    if count == 0 { 1 } else { count }
 }
 
 // Copies the values, and writes zeros behind them.
@@ -66,8 +114,8 @@ fn pad_values<F: Field>(values: &[F], table: &mut [F])
     }
 }
 
-/// Sends the rounds of a layer with these terms and weights over these values, and the two factors. `pairs`, `first` and
-/// `second` are written over.
+/// Sends the rounds of a layer with these terms and weights over these values, and the two factors. `pairs`, `first`,
+/// `second`, `linear` and `rows` are written over.
 pub(crate) fn send_layer<F: Field>(
     tape: &mut Tape,
     terms: &[Term<F>],
@@ -77,6 +125,8 @@ pub(crate) fn send_layer<F: Field>(
     pairs: &mut [Pair<F>],
     first: &mut [F],
     second: &mut [F],
+    linear: &mut [F],
+    rows: &mut [F],
     pads: &[F],
     sent: &mut [F],
     ra: &mut [F],
@@ -89,12 +139,16 @@ pub(crate) fn send_layer<F: Field>(
     requires fits { length values.now ≤ 2 ^ length ra.old }
     requires first { length first.old ≡ 2 ^ length ra.old }
     requires second { length second.old ≡ 2 ^ length ra.old }
+    requires linear { 2 ^ length ra.old ≤ length linear.old }
+    requires rows { 2 ^ length ra.old ≤ length rows.old }
     requires pairs { length pairs.old ≡ length terms.now }
     requires pads { length pads.now ≡ 4 * length ra.old + 2 }
     requires room { length sent.old ≡ 4 * length ra.old + 2 }
     ensures sent_length { length sent.new ≡ length sent.old }
     ensures first_length { length first.new ≡ length first.old }
     ensures second_length { length second.new ≡ length second.old }
+    ensures linear_length { length linear.new ≡ length linear.old }
+    ensures rows_length { length rows.new ≡ length rows.old }
     ensures pairs_length { length pairs.new ≡ length pairs.old }
     ensures ra { let e = coding F.element F.number_of F.BYTES F.size F.ID in
         ra.new ≡ map (λ j. round_challenge F.ops e sent.new 0 tape.old (2 * j)) (range_with_len 0 (length ra.old)) }
@@ -107,13 +161,30 @@ pub(crate) fn send_layer<F: Field>(
     ensures factor_a { let o = F.ops in entry o sent.new (4 * length ra.old) ≡ minus o (tilde o values.now ra.new) (entry o pads.now (4 * length ra.old)) }
     ensures factor_b { let o = F.ops in entry o sent.new (4 * length ra.old + 1) ≡ minus o (tilde o values.now rb.new) (entry o pads.now (4 * length ra.old + 1)) }
 {
-    set_pairs(terms, order, weights, pairs);
-    pad_values(values, first);
-    pad_values(values, second);
+    let size = table_size(values.len());
+    let (low, _) = first.split_at_mut(size);
+    let (high, _) = second.split_at_mut(size);
+    let (linear, _) = linear.split_at_mut(size);
+    pad_values(values, low);
+    pad_values(values, high);
+    let kept = set_terms(terms, order, weights, pairs, linear);
     let count = 4 * ra.len();
     let (rounds, factors) = sent.split_at_mut(count);
-    send_rounds(tape, pairs, first, second, &pads[..count], rounds, ra, rb);
-    factors[0] = first[0].sub(pads[count]);
-    factors[1] = second[0].sub(pads[count + 1]);
+    send_rounds(
+        tape,
+        true,
+        &mut pairs[..kept],
+        F::one(),
+        linear,
+        low,
+        high,
+        rows,
+        &pads[..count],
+        rounds,
+        ra,
+        rb,
+    );
+    factors[0] = low[0].sub(pads[count]);
+    factors[1] = high[0].sub(pads[count + 1]);
     write_pair(tape, factors, 0);
 }

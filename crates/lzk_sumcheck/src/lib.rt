@@ -15,7 +15,10 @@
 //! ```
 #![tactic(auto)]
 
+mod arithmetic;
+mod curve;
 mod draws;
+mod kept;
 mod laws;
 mod layer;
 mod order;
@@ -24,6 +27,7 @@ mod plain;
 mod proving;
 mod replaying;
 mod rounds;
+mod rows;
 mod script;
 mod sending;
 mod weights;

@@ -35,9 +35,13 @@ fn spaced(number: u32) -> u64 {
     (x | (x << 1)) & 0x5555_5555_5555_5555
 }
 
-// The bits of a and b in turn, so that those which are bound first count least.
+// The bits of a and b in turn, so that those which are bound first count least. Terms with wire 0 stand in front, as they were.
 fn key_of<F: Field>(term: Term<F>) -> u64 {
-    spaced(term.a) | (spaced(term.b) << 1)
+    if term.a == 0 {
+        0
+    } else {
+        spaced(term.a) | (spaced(term.b) << 1)
+    }
 }
 
 impl Order {

@@ -50,6 +50,8 @@ fn prove_rounds<F: Field>(
     pairs: &mut [Pair<F>],
     first: &mut [F],
     second: &mut [F],
+    linear: &mut [F],
+    rows: &mut [F],
     pads: &[F],
     sent: &mut [F],
     ra: &mut [F],
@@ -62,12 +64,16 @@ fn prove_rounds<F: Field>(
     requires fits { length values.now ≤ 2 ^ length ra.old }
     requires first { 2 ^ length ra.old ≤ length first.old }
     requires second { 2 ^ length ra.old ≤ length second.old }
+    requires linear { 2 ^ length ra.old ≤ length linear.old }
+    requires rows { 2 ^ length ra.old ≤ length rows.old }
     requires pairs { length terms.now ≤ length pairs.old }
     requires pads { length pads.now ≡ 4 * length ra.old + 2 }
     requires room { length sent.old ≡ 4 * length ra.old + 2 }
     ensures sent_length { length sent.new ≡ length sent.old }
     ensures first_length { length first.new ≡ length first.old }
     ensures second_length { length second.new ≡ length second.old }
+    ensures linear_length { length linear.new ≡ length linear.old }
+    ensures rows_length { length rows.new ≡ length rows.old }
     ensures pairs_length { length pairs.new ≡ length pairs.old }
     ensures ra { let e = coding F.element F.number_of F.BYTES F.size F.ID in
         ra.new ≡ map (λ j. round_challenge F.ops e sent.new 0 tape.old (2 * j)) (range_with_len 0 (length ra.old)) }
@@ -87,7 +93,7 @@ fn prove_rounds<F: Field>(
     let (low, _) = first.split_at_mut(size);
     let (high, _) = second.split_at_mut(size);
     send_layer(
-        tape, terms, order, weights, values, these, low, high, pads, sent, ra, rb,
+        tape, terms, order, weights, values, these, low, high, linear, rows, pads, sent, ra, rb,
     );
     eq_table(ra, low);
     eq_table(rb, high);
@@ -104,6 +110,8 @@ fn prove_layer<F: Field>(
     pairs: &mut [Pair<F>],
     first: &mut [F],
     second: &mut [F],
+    linear: &mut [F],
+    rows: &mut [F],
     weights: &mut [F],
     pads: &[F],
     sent: &mut [F],
@@ -117,12 +125,16 @@ fn prove_layer<F: Field>(
     requires second_width { length weights.old ≤ length second.old }
     requires first { 2 ^ length layer.old.ra ≤ length first.old }
     requires second { 2 ^ length layer.old.ra ≤ length second.old }
+    requires linear { 2 ^ length layer.old.ra ≤ length linear.old }
+    requires rows { 2 ^ length layer.old.ra ≤ length rows.old }
     requires pairs { length terms.now ≤ length pairs.old }
     requires pads { length pads.now ≡ 4 * length layer.old.ra + 2 }
     requires room { length sent.old ≡ 4 * length layer.old.ra + 2 }
     ensures sent_length { length sent.new ≡ length sent.old }
     ensures first_length { length first.new ≡ length first.old }
     ensures second_length { length second.new ≡ length second.old }
+    ensures linear_length { length linear.new ≡ length linear.old }
+    ensures rows_length { length rows.new ≡ length rows.old }
     ensures pairs_length { length pairs.new ≡ length pairs.old }
     ensures weights_length { length weights.new ≡ length weights.old }
     ensures script { let e = coding F.element F.number_of F.BYTES F.size F.ID in layer.new ≡ layer_script F.ops e sent.new 0 (length layer.old.ra) tape.old }
@@ -145,6 +157,8 @@ fn prove_layer<F: Field>(
         pairs,
         first,
         second,
+        linear,
+        rows,
         pads,
         sent,
         layer.ra.as_mut_slice(),
@@ -171,6 +185,8 @@ fn prove_list<F: Field>(
     pairs: &mut [Pair<F>],
     first: &mut [F],
     second: &mut [F],
+    linear: &mut [F],
+    rows: &mut [F],
     weights: &mut [F],
     messages: &mut [F],
     point: &mut [F],
@@ -188,9 +204,13 @@ fn prove_list<F: Field>(
     requires room { (l : ℕ) → l < depth circuit.now + 1 → 2 ^ bits (width_at circuit.now l) ≤ length weights.old }
     requires first_room { length first.old ≡ length weights.old }
     requires second_room { length second.old ≡ length weights.old }
+    requires linear_room { length linear.old ≡ length weights.old }
+    requires rows_room { length rows.old ≡ length weights.old }
     ensures pairs_length { length pairs.new ≡ length pairs.old }
     ensures first_length { length first.new ≡ length first.old }
     ensures second_length { length second.new ≡ length second.old }
+    ensures linear_length { length linear.new ≡ length linear.old }
+    ensures rows_length { length rows.new ≡ length rows.old }
     ensures weights_length { length weights.new ≡ length weights.old }
     ensures messages_length { length messages.new ≡ length messages.old }
     ensures point { let e = coding F.element F.number_of F.BYTES F.size F.ID in point.new ≡ draws e 0 (output_bits circuit.now) tape.old }
@@ -223,6 +243,8 @@ fn prove_list<F: Field>(
             pairs,
             first,
             second,
+            linear,
+            rows,
             wires,
             part(pads, begin, count),
             sent,
@@ -268,6 +290,8 @@ fn prove_scripts<F: Field>(
         &mut room.pairs,
         &mut room.first,
         &mut room.second,
+        &mut room.linear,
+        &mut room.rows,
         &mut room.weights,
         messages,
         point,

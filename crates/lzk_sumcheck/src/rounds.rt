@@ -14,13 +14,16 @@ use lzk_field::Field;
 use std::alloc::{AllocError, Global};
 use std::marker::Model;
 
-/// Room for the rounds of a circuit: orders of its layers' terms, pairs of wires, and tables of the widest layer's numbers.
+/// Room for the rounds of a circuit: orders of its layers' terms, pairs of wires, coefficients of wire 0, sums of rows, and tables of the
+/// widest layer's numbers.
 #[derive(Drop)]
 pub struct Rounds<F: Field> {
     pub(crate) orders: Vec<Order>,
     pub(crate) pairs: Vec<Pair<F>>,
     pub(crate) first: Vec<F>,
     pub(crate) second: Vec<F>,
+    pub(crate) linear: Vec<F>,
+    pub(crate) rows: Vec<F>,
     pub(crate) weights: Vec<F>,
 }
 
@@ -32,7 +35,7 @@ impl<F: Field> Model for Rounds<F> {
 
     ghost view = { λ r. record { orders = r.orders.items; pairs = length r.pairs.items; places = length r.weights.items } };
 
-    ghost invariant = { λ r. (length r.first.items ≡ length r.weights.items) × (length r.second.items ≡ length r.weights.items) };
+    ghost invariant = { λ r. (length r.first.items ≡ length r.weights.items) × (length r.second.items ≡ length r.weights.items) × (length r.linear.items ≡ length r.weights.items) × (length r.rows.items ≡ length r.weights.items) };
 }
 
 // How many bits number the wires of layer `l`.
@@ -106,6 +109,8 @@ impl<F: Field> Rounds<F> {
             pairs: pairs_of_zeros(alloc, most_terms(circuit))?,
             first: zeros(alloc, size)?,
             second: zeros(alloc, size)?,
+            linear: zeros(alloc, size)?,
+            rows: zeros(alloc, size)?,
             weights: zeros(alloc, size)?,
         })
     }

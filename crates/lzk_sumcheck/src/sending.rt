@@ -1,44 +1,60 @@
 //! Rounds that are sent: each value less its pad, and a challenge behind each pair.
 
-ghost use Rattle.std.specs.Prelude.{◌≡◌, ℕ, ◌+◌, ◌*◌, ◌<◌, ◌≤◌, true, false, length};
+ghost use Rattle.std.specs.Prelude.{◌≡◌, ℕ, ◌+◌, ◌*◌, ◌^◌, ◌<◌, ◌≤◌, Bool, true, false, length};
 ghost use Rattle.lzk_field.specs.Coding.{coding};
 ghost use Rattle.lzk_field.specs.Sums.{minus, entry};
 ghost use Rattle.lzk_mle.specs.Multilinear.{tilde};
 ghost use Rattle.lzk_transcript.specs.Tape.{drawn, after_draw};
-ghost use Rattle.lzk_sumcheck.specs.Pairs.{ArePairs, IsKept};
+ghost use Rattle.lzk_sumcheck.specs.Pairs.{ArePairs};
 ghost use Rattle.lzk_sumcheck.specs.Rounds.{every_other};
+ghost use Rattle.lzk_sumcheck.specs.Rows.{round_at, IsKept};
 ghost use Rattle.lzk_sumcheck.specs.Script.{with_pair};
 ghost use Rattle.lzk_sumcheck.specs.Sending.{after_sent, drawn_sent, AreSent};
-ghost use Rattle.lzk_sumcheck.specs.States.{State, bind_state, total, Sizes};
+ghost use Rattle.lzk_sumcheck.specs.States.{State, bind_state, total};
 
+use crate::curve::{RoundSums, round_sums};
 use crate::draws::replay_round;
-use crate::pairs::{Pair, bind_kept, round_sums};
+use crate::kept::bind_kept;
+use crate::pairs::Pair;
+use crate::rows::set_rows;
 use lzk_field::Field;
 use lzk_transcript::Tape;
 
-// Sends a round, and draws its challenge.
-fn send_round<F: Field>(
-    tape: &mut Tape,
+// The sums of a round. `rows` is written over.
+fn kept_sums<F: Field>(
+    of_a: bool,
     pairs: &[Pair<F>],
+    scale: F,
+    linear: &[F],
     first: &[F],
     second: &[F],
-    half: usize,
-    pads: &[F],
-    sent: &mut [F],
-) -> F
-    requires size { length first.now ≡ 2 * half }
-    requires pairs { ArePairs (2 * half) (length second.now) pairs.now }
+    rows: &mut [F],
+) -> RoundSums<F>
+    requires first { 1 ≤ length first.now }
+    requires second { 1 ≤ length second.now }
+    requires for_a { of_a ≡ true → length linear.now ≡ length second.now }
+    requires for_b { of_a ≡ false → length linear.now ≡ length first.now }
+    requires pairs { ArePairs (length first.now) (length second.now) pairs.now }
+    requires rows { length first.now ≤ length rows.old }
+    ensures length { length rows.new ≡ length rows.old }
+    ensures value { let o = F.ops in (j k : ℕ) (st : State F) → IsKept o (j + 1) k st of_a pairs.now scale linear.now first.now second.now →
+        length first.now ≤ 2 ^ (j + 1) → length second.now ≤ 2 ^ k → (t : F) → round_at o result t ≡ total o (bind_state o t st) }
+{
+    let (rows, _) = rows.split_at_mut(first.len());
+    set_rows(of_a, pairs, scale, linear, second, rows);
+    round_sums(rows, first)
+}
+
+// Sends a round's values at points 0 and 2, and draws its challenge.
+fn send_round<F: Field>(tape: &mut Tape, sums: RoundSums<F>, pads: &[F], sent: &mut [F]) -> F
     requires pads { 2 ≤ length pads.now }
     requires room { length sent.old ≡ 2 }
     ensures length { length sent.new ≡ 2 }
-    ensures first { let o = F.ops in (st : State F) → IsKept o st pairs.now first.now second.now →
-        entry o sent.new 0 ≡ minus o (total o (bind_state o (F.element 0) st)) (entry o pads.now 0) }
-    ensures second { let o = F.ops in (st : State F) → IsKept o st pairs.now first.now second.now →
-        entry o sent.new 1 ≡ minus o (total o (bind_state o (F.element 2) st)) (entry o pads.now 1) }
+    ensures first { let o = F.ops in entry o sent.new 0 ≡ minus o (round_at o sums (F.element 0)) (entry o pads.now 0) }
+    ensures second { let o = F.ops in entry o sent.new 1 ≡ minus o (round_at o sums (F.element 2)) (entry o pads.now 1) }
     ensures challenge { let e = coding F.element F.number_of F.BYTES F.size F.ID in result ≡ F.element (drawn (with_pair F.ops e sent.new 0 tape.old)) }
     ensures after { let e = coding F.element F.number_of F.BYTES F.size F.ID in tape.new ≡ after_draw (with_pair F.ops e sent.new 0 tape.old) }
 {
-    let sums = round_sums(pairs, first, second, half);
     let low = sums.at(F::point(0));
     let high = sums.at(F::point(2));
     sent[0] = low.sub(pads[0]);
@@ -46,13 +62,18 @@ fn send_round<F: Field>(
     replay_round(tape, sent, 0)
 }
 
-/// Sends the rounds of the variables that are left, the next of which is bit 0 of the first table's numbers. The tables change
-/// places from round to round, and so do the lists of challenges. What is left of each table is its extension at its challenges.
+/// Sends the rounds of the variables that are left, the next of which is bit 0 of the first table's numbers: a bit of a, or one of b. The
+/// tables change places from round to round, and so do the lists of challenges. What is left of each table is its extension at its
+/// challenges. `rows` is written over.
 pub(crate) fn send_rounds<F: Field>(
     tape: &mut Tape,
+    of_a: bool,
     pairs: &mut [Pair<F>],
+    scale: F,
+    linear: &mut [F],
     first: &mut [F],
     second: &mut [F],
+    rows: &mut [F],
     pads: &[F],
     sent: &mut [F],
     ra: &mut [F],
@@ -60,13 +81,22 @@ pub(crate) fn send_rounds<F: Field>(
 )
     requires turn { length rb.old ≤ length ra.old }
     requires next { length ra.old ≤ length rb.old + 1 }
-    requires sizes { Sizes (length ra.old + length rb.old) (length first.old) (length second.old) }
+    requires first { 1 ≤ length first.old }
+    requires second { 1 ≤ length second.old }
+    requires first_fits { length first.old ≤ 2 ^ length ra.old }
+    requires second_fits { length second.old ≤ 2 ^ length rb.old }
+    requires for_a { of_a ≡ true → length linear.old ≡ length second.old }
+    requires for_b { of_a ≡ false → length linear.old ≡ length first.old }
+    requires first_rows { length first.old ≤ length rows.old }
+    requires second_rows { length second.old ≤ length rows.old }
     requires pairs { ArePairs (length first.old) (length second.old) pairs.old }
     requires pads { length pads.now ≡ 2 * (length ra.old + length rb.old) }
     requires room { length sent.old ≡ 2 * (length ra.old + length rb.old) }
     ensures sent_length { length sent.new ≡ length sent.old }
     ensures first_length { length first.new ≡ length first.old }
     ensures second_length { length second.new ≡ length second.old }
+    ensures linear_length { length linear.new ≡ length linear.old }
+    ensures rows_length { length rows.new ≡ length rows.old }
     ensures pairs_length { length pairs.new ≡ length pairs.old }
     ensures ra { let e = coding F.element F.number_of F.BYTES F.size F.ID in
         ra.new ≡ every_other true (drawn_sent F.ops e sent.new (length ra.old + length rb.old) tape.old) }
@@ -74,23 +104,27 @@ pub(crate) fn send_rounds<F: Field>(
         rb.new ≡ every_other false (drawn_sent F.ops e sent.new (length ra.old + length rb.old) tape.old) }
     ensures after { let e = coding F.element F.number_of F.BYTES F.size F.ID in tape.new ≡ after_sent F.ops e sent.new (length ra.old + length rb.old) tape.old }
     ensures sent { let o = F.ops in let e = coding F.element F.number_of F.BYTES F.size F.ID in let n = length ra.old + length rb.old in
-        (st : State F) → IsKept o st pairs.old first.old second.old → AreSent o F.element st (drawn_sent o e sent.new n tape.old) pads.now sent.new n }
+        (st : State F) → IsKept o (length ra.old) (length rb.old) st of_a pairs.old scale linear.old first.old second.old → AreSent o F.element st (drawn_sent o e sent.new n tape.old) pads.now sent.new n }
     ensures factor_a { let o = F.ops in entry o first.new 0 ≡ tilde o first.old ra.new }
     ensures factor_b { let o = F.ops in entry o second.new 0 ≡ tilde o second.old rb.new }
 {
     let Some((challenge, ra)) = ra.split_first_mut() else {
         return;
     };
-    let half = first.len() / 2;
     let (now, later) = sent.split_at_mut(2);
-    let x = send_round(tape, pairs, first, second, half, pads, now);
+    let sums = kept_sums(of_a, pairs, scale, linear, first, second, rows);
+    let x = send_round(tape, sums, pads, now);
     *challenge = x;
-    let kept = bind_kept(pairs, first, second, x);
+    let left = bind_kept(of_a, pairs, scale, linear, first, second, x);
     send_rounds(
         tape,
-        &mut pairs[..kept],
+        !of_a,
+        &mut pairs[..left.pairs],
+        left.scale,
+        &mut linear[..left.linear],
         second,
-        &mut first[..half],
+        &mut first[..left.table],
+        rows,
         &pads[2..],
         later,
         rb,

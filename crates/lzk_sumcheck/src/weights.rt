@@ -5,6 +5,7 @@ ghost use Rattle.lzk_field.specs.Sums.{entry};
 ghost use Rattle.lzk_mle.specs.Multilinear.{eq};
 ghost use Rattle.lzk_sumcheck.specs.Weights.{weighted};
 
+use crate::arithmetic::plus_product;
 use lzk_field::Field;
 use lzk_mle::eq_table;
 
@@ -35,6 +36,6 @@ pub(crate) fn set_weights<F: Field>(alpha: F, first: &[F], second: &[F], weights
     ensures { weights.new ≡ weighted F.ops alpha first.now second.now (length weights.old) }
 {
     for g in 0..weights.len() {
-        weights[g] = first[g].add(alpha.mul(second[g]));
+        weights[g] = plus_product(first[g], alpha, second[g]);
     }
 }

@@ -1,43 +1,47 @@
-use Rattle.std.proofs.Common.{◌≡◌, ◌+◌, ◌*◌, ◌^◌, ◌≤◌, ℕ, refl, length, map, ap, sym, ◌∙◌, ◌++◌, arith, subst}
-use Rattle.std.specs.Prelude.{slice_set}
+use Rattle.std.proofs.Common.{◌≡◌, ◌+◌, ◌*◌, ◌^◌, ◌<◌, ◌≤◌, length, ap, sym, ◌∙◌, ◌++◌, take, arith, subst}
+use Rattle.std.specs.Prelude.{slice_set, true}
 use Rattle.std.proofs.lemmas.List.{get_or_default}
+use Rattle.std.proofs.lemmas.Nat.{pow_pos}
 use Rattle.lzk_field.specs.Coding.{coding}
 use Rattle.lzk_field.specs.Sums.{minus}
 use Rattle.lzk_mle.specs.Multilinear.{tilde}
 use Rattle.lzk_sumcheck.specs.Layers.{layer_of_terms}
-use Rattle.lzk_sumcheck.specs.Pairs.{first_pair}
 use Rattle.lzk_sumcheck.specs.Rounds.{of_a, of_b}
+use Rattle.lzk_sumcheck.specs.Rows.{IsKept}
 use Rattle.lzk_sumcheck.specs.Script.{with_pair, round_challenge}
 use Rattle.lzk_sumcheck.specs.Sending.{after_sent, drawn_sent, AreRoundsSent}
-use Rattle.lzk_sumcheck.specs.States.{Sizes}
-use Rattle.lzk_sumcheck.proofs.Binding.{sizes-twice}
-use Rattle.lzk_sumcheck.proofs.KeptLaws.{first-kept, merge-kept}
-use Rattle.lzk_sumcheck.proofs.LayerSends.{wire_within, drawn-front, after-front, pair-behind, rounds-sent, tilde-padded, first-behind, second-behind}
-use Rattle.lzk_sumcheck.proofs.SendLaws.{sizes-some}
+use Rattle.lzk_sumcheck.proofs.KeptLaws.{first-kept, terms-within}
+use Rattle.lzk_sumcheck.proofs.LayerSends.{wire_within, place_below, drawn-front, after-front, pair-behind, rounds-sent, tilde-padded, first-behind, second-behind}
+use Rattle.lzk_sumcheck.proofs.ProvingLaws.{times-less}
 use Rattle.lzk_sumcheck.proofs.SentLaws.{after-is, drawn-is, evens, odds}
 use Rattle.lzk_sumcheck.proofs.SumcheckLaws.{state_of}
 use Rattle.lzk_sumcheck.proofs.layer.send_layer.Goals as goal
 
-pub set_pairs-requires-clause-wires : goal.set_pairs-requires-clause-wires
-set_pairs-requires-clause-wires g c κs within = wire_within g.F.Field.ops (length c.args.weights.now) (length c.args.values.now) c.args.terms.now c.requires.terms
+pub split_at_mut-low-requires : goal.split_at_mut-low-requires
+split_at_mut-low-requires g c =
+    let k = length c.args.ra.now in
+    omega (arith, c.table_size-size.ensures.least (2 ^ k) (omega (arith, pow_pos k)) c.requires.fits, c.requires.first)
 
--- tables of as many entries as numbers have the bits
-sized : (k n a b : ℕ) → n ≡ 2 * k → a ≡ 2 ^ k → b ≡ 2 ^ k → Sizes n a b
-sized k n a b en ea eb = subst (λ v. Sizes v a b) (sym en) (subst (λ m. Sizes (2 * k) m b) (sym ea) (subst (λ m. Sizes (2 * k) (2 ^ k) m) (sym eb) (sizes-twice k)))
+pub offset_bounds-1 : goal.offset_bounds-1
+offset_bounds-1 g c =
+    let inside : 1 < length c.args.sent.now = omega (arith, c.requires.room) in
+    record { fits = times-less 1 (length c.args.sent.now) _ _ inside (omega arith) }
 
-pub send_rounds-requires-clause-sizes : goal.send_rounds-requires-clause-sizes
-send_rounds-requires-clause-sizes g c κs within =
-    sized (length c.args.ra.now) (length c.args.ra.now + length c.args.rb.now) (length c.pad_values.new.table) (length c.pad_values-2.new.table)
-    (omega (arith, c.requires.bits)) (c.pad_values.ensures.length ∙ c.requires.first) (c.pad_values-2.ensures.length ∙ c.requires.second)
+pub set_terms-kept-requires-clause-wires : goal.set_terms-kept-requires-clause-wires
+set_terms-kept-requires-clause-wires g c κs within = wire_within g.F.Field.ops (length c.args.weights.now) (length c.args.values.now) c.args.terms.now c.requires.terms
+
+pub set_terms-kept-requires-clause-linear : goal.set_terms-kept-requires-clause-linear
+set_terms-kept-requires-clause-linear g c κs within = λ i t is.
+    omega (arith, place_below g.F.Field.ops (length c.args.weights.now) (length c.args.values.now) c.args.terms.now c.requires.terms i t is, c.split_at_mut-linear.ensures.front_len, c.table_size-size.ensures.fits)
 
 pub send_rounds-requires-clause-pairs : goal.send_rounds-requires-clause-pairs
 send_rounds-requires-clause-pairs g c κs within =
     let a = c.args in
-    let first = c.pad_values.new.table in
-    let second = c.pad_values-2.new.table in
-    let kept = first-kept g.F.Field.ops g.F.Field.laws.ring a.terms.now a.weights.now a.values.now first second (length a.ra.now) c.requires.terms c.requires.fits
-    (c.pad_values.ensures.length ∙ c.requires.first) (c.pad_values-2.ensures.length ∙ c.requires.second) c.pad_values.ensures.entries c.pad_values-2.ensures.entries in
-    c.set_pairs.ensures.within (length first) (length second) kept.within
+    let low = length c.pad_values.new.table in
+    let high = length c.pad_values-2.new.table in
+    c.set_terms-kept.ensures.within low high
+    (terms-within g.F.Field.ops g.F.Field.laws.ring (length a.weights.now) (length a.values.now) low high a.weights.now a.terms.now c.requires.terms
+    (omega (arith, c.pad_values.ensures.length, c.split_at_mut-low.ensures.front_len, c.table_size-size.ensures.fits)) (omega (arith, c.pad_values-2.ensures.length, c.split_at_mut-high.ensures.front_len, c.table_size-size.ensures.fits)))
 
 pub returns-clause-ra : goal.returns-clause-ra
 returns-clause-ra g c =
@@ -94,11 +98,12 @@ returns-clause-rounds g c =
     let size : length rounds ≡ 2 * (2 * k) = omega (arith, c.send_rounds.ensures.sent_length, c.split_at_mut-rounds.ensures.front_len) in
     let front : length rounds ≡ 4 * k = omega (arith, size) in
     let s = layer_of_terms o a.terms.now a.weights.now a.values.now k in
-    let first = c.pad_values.new.table in
-    let second = c.pad_values-2.new.table in
-    let kept = first-kept o r a.terms.now a.weights.now a.values.now first second k c.requires.terms c.requires.fits
-    (c.pad_values.ensures.length ∙ c.requires.first) (c.pad_values-2.ensures.length ∙ c.requires.second) c.pad_values.ensures.entries c.pad_values-2.ensures.entries in
-    let sent = c.send_rounds.ensures.sent (state_of o s) (merge-kept o r (state_of o s) (map (first_pair o a.weights.now) a.terms.now) (map (first_pair o a.weights.now) a.terms.now) c.set_pairs.new.pairs first second refl kept c.set_pairs.ensures.sums c.set_pairs.ensures.within) in
+    let kept = first-kept o r a.terms.now a.weights.now a.values.now c.pad_values.new.table c.pad_values-2.new.table c.set_terms-kept.new.linear (take c.set_terms-kept.result c.set_terms-kept.new.pairs) k
+    c.requires.terms c.pad_values.ensures.entries c.pad_values-2.ensures.entries c.set_terms-kept.ensures.sums in
+    let begun = subst (λ x. IsKept o k k (state_of o s) true (take c.set_terms-kept.result c.set_terms-kept.new.pairs) x c.set_terms-kept.new.linear c.pad_values.new.table c.pad_values-2.new.table) (sym c.one.ensures) kept in
+    let equal : k ≡ length a.rb.now = omega (arith, c.requires.bits) in
+    let sent = c.send_rounds.ensures.sent (state_of o s)
+    (subst (λ n. IsKept o k n (state_of o s) true (take c.set_terms-kept.result c.set_terms-kept.new.pairs) c.one.result c.set_terms-kept.new.linear c.pad_values.new.table c.pad_values-2.new.table) equal begun) in
     let drawn = ap (λ v. drawn_sent o e rounds v a.tape.now) both ∙ sym (drawn-front o e rounds factors (2 * k) a.tape.now size) ∙ drawn-is o e (rounds ++ factors) (2 * k) a.tape.now in
     subst (λ cs. AreRoundsSent o m.element s cs a.pads.now (rounds ++ factors)) drawn
     (rounds-sent o r m.element s (drawn_sent o e rounds n a.tape.now) a.pads.now rounds factors (4 * k) n c.requires.fits both twice front sent)
@@ -113,10 +118,9 @@ returns-clause-factor_a g c =
     let front : length rounds ≡ 4 * k = omega (arith, c.send_rounds.ensures.sent_length, c.split_at_mut-rounds.ensures.front_len) in
     let two : length c.split_at_mut-rounds.result.1.now ≡ 2 = omega (arith, c.split_at_mut-rounds.ensures.back_len, c.requires.room) in
     let table = c.pad_values.new.table in
-    let sizes = sized k (k + length a.rb.now) (length table) (length c.pad_values-2.new.table) (omega (arith, c.requires.bits)) (c.pad_values.ensures.length ∙ c.requires.first) (c.pad_values-2.ensures.length ∙ c.requires.second) in
-    let some = sizes-some (k + length a.rb.now) (length table) (length c.pad_values-2.new.table) sizes in
-    let fits : length a.values.now ≤ length table = omega (arith, c.requires.fits, c.pad_values.ensures.length, c.requires.first) in
-    let value = c.index-first-0.is ∙ get_or_default c.send_rounds.new.first 0 c.index-first-0.result o.zero (omega (arith, some.0, c.send_rounds.ensures.first_length))
+    let some : 1 ≤ length table = omega (arith, c.pad_values.ensures.length, c.split_at_mut-low.ensures.front_len, c.table_size-size.ensures.some) in
+    let fits : length a.values.now ≤ length table = omega (arith, c.pad_values.ensures.length, c.split_at_mut-low.ensures.front_len, c.table_size-size.ensures.fits) in
+    let value = c.index-low-0.is ∙ get_or_default c.send_rounds.new.first 0 c.index-low-0.result o.zero (omega (arith, some, c.send_rounds.ensures.first_length))
     ∙ c.send_rounds.ensures.factor_a ∙ tilde-padded o m.laws.ring table a.values.now c.send_rounds.new.ra fits c.pad_values.ensures.entries in
     let pad = c.index-pads-count.is ∙ get_or_default a.pads.now (4 * k) c.index-pads-count.result o.zero (omega (arith, c.requires.pads)) in
     first-behind o rounds c.split_at_mut-rounds.result.1.now (4 * k) c.sub.result c.sub-2.result front two
@@ -132,10 +136,9 @@ returns-clause-factor_b g c =
     let front : length rounds ≡ 4 * k = omega (arith, c.send_rounds.ensures.sent_length, c.split_at_mut-rounds.ensures.front_len) in
     let two : length c.split_at_mut-rounds.result.1.now ≡ 2 = omega (arith, c.split_at_mut-rounds.ensures.back_len, c.requires.room) in
     let table = c.pad_values-2.new.table in
-    let sizes = sized k (k + length a.rb.now) (length c.pad_values.new.table) (length table) (omega (arith, c.requires.bits)) (c.pad_values.ensures.length ∙ c.requires.first) (c.pad_values-2.ensures.length ∙ c.requires.second) in
-    let some = sizes-some (k + length a.rb.now) (length c.pad_values.new.table) (length table) sizes in
-    let fits : length a.values.now ≤ length table = omega (arith, c.requires.fits, c.pad_values-2.ensures.length, c.requires.second) in
-    let value = c.index-second-0.is ∙ get_or_default c.send_rounds.new.second 0 c.index-second-0.result o.zero (omega (arith, some.1, c.send_rounds.ensures.second_length))
+    let some : 1 ≤ length table = omega (arith, c.pad_values-2.ensures.length, c.split_at_mut-high.ensures.front_len, c.table_size-size.ensures.some) in
+    let fits : length a.values.now ≤ length table = omega (arith, c.pad_values-2.ensures.length, c.split_at_mut-high.ensures.front_len, c.table_size-size.ensures.fits) in
+    let value = c.index-high-0.is ∙ get_or_default c.send_rounds.new.second 0 c.index-high-0.result o.zero (omega (arith, some, c.send_rounds.ensures.second_length))
     ∙ c.send_rounds.ensures.factor_b ∙ tilde-padded o m.laws.ring table a.values.now c.send_rounds.new.rb fits c.pad_values-2.ensures.entries in
     let pad = c.index-pads-count-2.is ∙ get_or_default a.pads.now (4 * k + 1) c.index-pads-count-2.result o.zero (omega (arith, c.requires.pads)) in
     second-behind o rounds c.split_at_mut-rounds.result.1.now (4 * k) c.sub.result c.sub-2.result front two

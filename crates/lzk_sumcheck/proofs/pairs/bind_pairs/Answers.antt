@@ -1,13 +1,18 @@
-use Rattle.std.proofs.Common.{ap, ◌∙◌, sym}
-use Rattle.std.specs.Prelude.{slice_set}
-use Rattle.std.proofs.lemmas.List.Edits.{map_over_more}
-use Rattle.lzk_sumcheck.specs.Pairs.{bind_pair}
+use Rattle.std.proofs.Common.{[], ◌∷◌, take, ap, ◌∙◌, sym, arith, subst}
+use Rattle.lzk_sumcheck.specs.Pairs.{bind_pair, spread, ArePairs}
+use Rattle.lzk_sumcheck.proofs.MergeLaws.{merged_more}
 use Rattle.lzk_sumcheck.proofs.pairs.bind_pairs.Goals as goal
 
-pub loop-pair-preserved : goal.loop-pair-preserved
-loop-pair-preserved g c =
-    let f = bind_pair g.F.Field.ops c.args.x in
-    let i = c.loop-pair.pair-index in
-    let ys = c.loop-pair.pairs in
-    ap (slice_set ys i) (c.bound_pair.ensures ∙ ap f (sym c.pair-item.is))
-    ∙ map_over_more f c.args.pairs.now ys i c.pair-item.result c.loop-pair-test.true c.loop-pair.invariant c.pair-item.is
+pub loop-i-preserved : goal.loop-i-preserved
+loop-i-preserved g c =
+    let m = g.F.Field in
+    let o = m.ops in
+    let e = c.absorb-kept.ensures in
+    let now = c.loop-i.pairs in
+    let p = c.index-pairs-i.result in
+    merged_more o m.laws.ring (bind_pair o c.args.x) c.args.pairs.now now c.absorb-kept.new.pairs c.loop-i.i c.loop-i.kept c.absorb-kept.result p c.loop-i.invariant (omega arith) c.index-pairs-i.is e.count e.length e.rest
+    (λ a b. e.sums a b ∙ ap (λ q. o.plus (spread o (take c.loop-i.kept now) a b) (spread o (q ∷ []) a b)) c.bound_pair-p.ensures)
+    (λ n k h hp. e.within n k h (subst (λ q. ArePairs n k (q ∷ [])) (sym c.bound_pair-p.ensures) hp))
+
+pub returns-clause-within : goal.returns-clause-within
+returns-clause-within g c = λ n m h. let w = c.loop-i.invariant.within n m h in w.0

@@ -44,6 +44,8 @@ loop-l-init g c =
       pairs = refl;
       first = c.set_table.ensures.length;
       second = c.set_table-2.ensures.length;
+      linear = refl;
+      rows = refl;
       weights = refl;
       messages = refl;
       layers = refl;
@@ -158,6 +160,30 @@ prove_layer-requires-clause-second g c κs within =
     (omega (arith, h, inv.layers, c.requires.depth)) (omega (arith, h, c.requires.depth)) c.requires.bits c.index-layers-l.result in
     omega (arith, ap (λ n. 2 ^ n) has.ra, c.requires.room (l + 1) (omega (arith, h)), inv.second, c.requires.second_room)
 
+pub prove_layer-requires-clause-linear : goal.prove_layer-requires-clause-linear
+prove_layer-requires-clause-linear g c κs within =
+    let f = g.F.Field in
+    let e = coding f.element f.number_of f.BYTES f.size f.ID in
+    let w = c.args.circuit.now in
+    let l = c.loop-l.l in
+    let inv = c.loop-l.invariant in
+    let h : l < depth w = omega (arith, c.depth-depth.ensures.depth, c.loop-l-test.true, c.loop-l.auto.l-end) in
+    let has = layer-has f.ops e c.loop-l.messages w (after_draws (output_bits w) c.args.tape.now) c.args.layers.now l c.loop-l.tape c.loop-l.layers inv.proved.replayed
+    (omega (arith, h, inv.layers, c.requires.depth)) (omega (arith, h, c.requires.depth)) c.requires.bits c.index-layers-l.result in
+    omega (arith, ap (λ n. 2 ^ n) has.ra, c.requires.room (l + 1) (omega (arith, h)), inv.linear, c.requires.linear_room)
+
+pub prove_layer-requires-clause-rows : goal.prove_layer-requires-clause-rows
+prove_layer-requires-clause-rows g c κs within =
+    let f = g.F.Field in
+    let e = coding f.element f.number_of f.BYTES f.size f.ID in
+    let w = c.args.circuit.now in
+    let l = c.loop-l.l in
+    let inv = c.loop-l.invariant in
+    let h : l < depth w = omega (arith, c.depth-depth.ensures.depth, c.loop-l-test.true, c.loop-l.auto.l-end) in
+    let has = layer-has f.ops e c.loop-l.messages w (after_draws (output_bits w) c.args.tape.now) c.args.layers.now l c.loop-l.tape c.loop-l.layers inv.proved.replayed
+    (omega (arith, h, inv.layers, c.requires.depth)) (omega (arith, h, c.requires.depth)) c.requires.bits c.index-layers-l.result in
+    omega (arith, ap (λ n. 2 ^ n) has.ra, c.requires.room (l + 1) (omega (arith, h)), inv.rows, c.requires.rows_room)
+
 pub prove_layer-requires-clause-pairs : goal.prove_layer-requires-clause-pairs
 prove_layer-requires-clause-pairs g c κs within =
     let w = c.args.circuit.now in
@@ -219,6 +245,8 @@ loop-l-preserved g c =
       pairs = all.pairs_length ∙ inv.pairs;
       first = all.first_length ∙ inv.first;
       second = all.second_length ∙ inv.second;
+      linear = all.linear_length ∙ inv.linear;
+      rows = all.rows_length ∙ inv.rows;
       weights = omega (arith, length-append c.prove_layer.new.weights c.split_at_mut-wires.result.1.now, all.weights_length, c.split_at_mut-wires.ensures.front_len, c.split_at_mut-wires.ensures.back_len, inv.weights);
       messages = omega (arith, length-append front (sent ++ rest), length-append sent rest, all.sent_length, c.split_at_mut-sent.ensures.front_len, c.split_at_mut-sent.ensures.back_len, c.split_at_mut-later.ensures.front_len, c.split_at_mut-later.ensures.back_len, inv.messages);
       layers = length-set c.loop-l.layers l c.prove_layer.new.layer ∙ inv.layers;

@@ -13,6 +13,8 @@ invariant-loop-l g l =
       pairs : length l.pairs ≡ length l.fn.pairs;
       first : length l.first ≡ length l.fn.first;
       second : length l.second ≡ length l.fn.second;
+      linear : length l.linear ≡ length l.fn.linear;
+      rows : length l.rows ≡ length l.fn.rows;
       weights : length l.weights ≡ length l.fn.weights;
       messages : length l.messages ≡ length l.fn.messages;
       layers : length l.layers ≡ length l.fn.layers;

@@ -8,7 +8,7 @@ use Rattle.lzk_sumcheck.specs.Room.{RoundsRoom}
 use Rattle.lzk_sumcheck.proofs.proving.prove_scripts.Goals as goal
 
 pub prove_list-requires-clause-bits : goal.prove_list-requires-clause-bits
-prove_list-requires-clause-bits g c κs within = λ l layer is. c.requires.bits l layer (ap (λ xs. slice_get xs l) (sym (c.deref_mut-5.ensures.value ∙ c.layers.view_is)) ∙ is)
+prove_list-requires-clause-bits g c κs within = λ l layer is. c.requires.bits l layer (ap (λ xs. slice_get xs l) (sym (c.deref_mut-7.ensures.value ∙ c.layers.view_is)) ∙ is)
 
 pub prove_list-requires-clause-orders_count : goal.prove_list-requires-clause-orders_count
 prove_list-requires-clause-orders_count g c κs within =
@@ -23,18 +23,18 @@ pub prove_list-requires-clause-pairs : goal.prove_list-requires-clause-pairs
 prove_list-requires-clause-pairs g c κs within = λ l h. omega (arith, c.requires.made.pairs l h, ap length c.deref_mut.ensures.value, ap (λ (x : RoundsRoom). x.pairs) c.room.view_is)
 
 pub prove_list-requires-clause-room : goal.prove_list-requires-clause-room
-prove_list-requires-clause-room g c κs within = λ l h. omega (arith, c.requires.made.places l h, ap length c.deref_mut-4.ensures.value, ap (λ (x : RoundsRoom). x.places) c.room.view_is)
+prove_list-requires-clause-room g c κs within = λ l h. omega (arith, c.requires.made.places l h, ap length c.deref_mut-6.ensures.value, ap (λ (x : RoundsRoom). x.places) c.room.view_is)
 
 pub returns-clause-made : goal.returns-clause-made
 returns-clause-made g c =
     let inside = c.room.inside in
     let e = c.prove_list.ensures in
     let np : length c.prove_list.new.pairs ≡ inside.pairs.len = omega (arith, e.pairs_length, ap length c.deref_mut.ensures.value, inside.pairs.ok.0) in
-    let nw : length c.prove_list.new.weights ≡ inside.weights.len = omega (arith, e.weights_length, ap length c.deref_mut-4.ensures.value, inside.weights.ok.0) in
+    let nw : length c.prove_list.new.weights ≡ inside.weights.len = omega (arith, e.weights_length, ap length c.deref_mut-6.ensures.value, inside.weights.ok.0) in
     let pairs : length (with_items inside.pairs c.prove_list.new.pairs).items ≡ c.args.room.now.pairs =
     ap length (with_items_is inside.pairs c.prove_list.new.pairs np) ∙ e.pairs_length ∙ ap length c.deref_mut.ensures.value ∙ ap (λ (x : RoundsRoom). x.pairs) c.room.view_is in
     let places : length (with_items inside.weights c.prove_list.new.weights).items ≡ c.args.room.now.places =
-    ap length (with_items_is inside.weights c.prove_list.new.weights nw) ∙ e.weights_length ∙ ap length c.deref_mut-4.ensures.value ∙ ap (λ (x : RoundsRoom). x.places) c.room.view_is in
+    ap length (with_items_is inside.weights c.prove_list.new.weights nw) ∙ e.weights_length ∙ ap length c.deref_mut-6.ensures.value ∙ ap (λ (x : RoundsRoom). x.places) c.room.view_is in
     record {
       orders = subst (AreOrders c.args.circuit.now) (sym (ap (λ (x : RoundsRoom). x.orders) c.room.view_is)) c.requires.made.orders;
       pairs = λ l h. omega (arith, c.requires.made.pairs l h, pairs);

@@ -9,7 +9,7 @@ pub returns : goal.returns
 returns g c =
     let w = c.args.circuit.now in
     let most = c.most_bits.result in
-    let size : length c.in_ok-zeros-3.field-0.items ≡ 2 ^ most = ap length c.in_ok-zeros-3.ensures ∙ length-replicate c.power_of-size.result g.F.Field.ops.zero ∙ c.power_of-size.ensures in
+    let size : length c.in_ok-zeros-5.field-0.items ≡ 2 ^ most = ap length c.in_ok-zeros-5.ensures ∙ length-replicate c.power_of-size.result g.F.Field.ops.zero ∙ c.power_of-size.ensures in
     record {
       made = record {
         orders = c.in_ok-orders_of.ensures;

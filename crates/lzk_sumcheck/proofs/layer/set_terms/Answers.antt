@@ -1,0 +1,103 @@
+use Rattle.std.proofs.Common.{◌≡◌, ◌+◌, ◌<◌, ◌≤◌, ◌∷◌, ℕ, length, map, take, drop, ap, ◌∙◌, sym, arith}
+use Rattle.std.specs.Prelude.{List, Some, ◌==◌, cond, slice_index_or}
+use Rattle.std.proofs.lemmas.Option.{slice_get-get_or}
+use Rattle.std.proofs.lemmas.List.{drop_more, drop_all, get_or_default, get_or-map, length-map}
+use Rattle.lzk_field.specs.Ring.{Ops}
+use Rattle.lzk_circuit.specs.declared.layer.Term.{Term}
+use Rattle.lzk_sumcheck.specs.declared.pairs.Pair.{Pair}
+use Rattle.lzk_sumcheck.specs.Orders.{places}
+use Rattle.lzk_sumcheck.specs.Pairs.{first_pair, spread}
+use Rattle.lzk_sumcheck.specs.Rows.{counted}
+use Rattle.lzk_sumcheck.proofs.KeptLaws.{counted_none, counted_more}
+use Rattle.lzk_sumcheck.proofs.LayerSends.{no_term}
+use Rattle.lzk_sumcheck.proofs.OrderLaws.{order_size, entry_place, place_within, picked, sum-permuted, pairs-permuted}
+use Rattle.lzk_sumcheck.proofs.layer.set_terms.Goals as goal
+
+-- the pairs in the order
+abbrev pairs_in : {A : Type 0} → Ops A → List A → List (Term A) → List ℕ → List (Pair A)
+pairs_in o weights ts ks = map (λ k. first_pair o weights (slice_index_or ts k (no_term o))) ks
+
+pub loop-i-init : goal.loop-i-init
+loop-i-init g c =
+    let m = g.F.Field in
+    let o = m.ops in
+    record {
+      pairs = omega arith;
+      linear = c.set_zeros.ensures.length;
+      counted = counted_none o m.laws.ring (pairs_in o c.args.weights.now c.args.terms.now (places c.args.order.now)) c.args.pairs.now c.set_zeros.new.rows c.set_zeros.ensures.entries;
+    }
+
+pub offset_bounds-terms-k : goal.offset_bounds-terms-k
+offset_bounds-terms-k g c = omega (arith, place_within c.args.terms.now c.args.order.now c.requires.order c.loop-i.i (omega arith))
+
+pub bounds-terms-k : goal.bounds-terms-k
+bounds-terms-k g c = place_within c.args.terms.now c.args.order.now c.requires.order c.loop-i.i (omega arith)
+
+pub put_term-kept-requires-clause-wire : goal.put_term-kept-requires-clause-wire
+put_term-kept-requires-clause-wire g c κs within =
+    let ts = c.args.terms.now in
+    let k = (slice_index_or c.args.order.now c.loop-i.i (0, 0)).1 in
+    c.requires.wires k c.index-terms-k.result (slice_get-get_or ts k c.index-terms-k.result (place_within ts c.args.order.now c.requires.order c.loop-i.i (omega arith)) ∙ ap Some (sym c.index-terms-k.is))
+
+pub put_term-kept-requires-clause-place : goal.put_term-kept-requires-clause-place
+put_term-kept-requires-clause-place g c κs within =
+    omega (arith, c.loop-i.invariant.counted.count, c.loop-i.invariant.pairs, c.requires.room, order_size c.args.terms.now c.args.order.now c.requires.order)
+
+pub put_term-kept-requires-clause-linear : goal.put_term-kept-requires-clause-linear
+put_term-kept-requires-clause-linear g c κs within =
+    let ts = c.args.terms.now in
+    let k = (slice_index_or c.args.order.now c.loop-i.i (0, 0)).1 in
+    let inside = c.requires.linear k c.index-terms-k.result (slice_get-get_or ts k c.index-terms-k.result (place_within ts c.args.order.now c.requires.order c.loop-i.i (omega arith)) ∙ ap Some (sym c.index-terms-k.is)) in
+    omega (arith, inside, c.loop-i.invariant.linear)
+
+pub loop-i-preserved : goal.loop-i-preserved
+loop-i-preserved g c =
+    let m = g.F.Field in
+    let o = m.ops in
+    let w = c.args.weights.now in
+    let ts = c.args.terms.now in
+    let ps = c.args.order.now in
+    let i = c.loop-i.i in
+    let inside : i < length ps = omega arith in
+    let k = (slice_index_or ps i (0, 0)).1 in
+    let t = c.index-terms-k.result in
+    let q = first_pair o w t in
+    let qs = pairs_in o w ts (places ps) in
+    let term : t ≡ slice_index_or ts (slice_index_or (places ps) i 0) (no_term o) =
+    c.index-terms-k.is ∙ get_or_default ts k t (no_term o) (place_within ts ps c.requires.order i inside) ∙ ap (λ n. slice_index_or ts n (no_term o)) (sym (entry_place ps i inside)) in
+    let here : i < length (places ps) = omega (arith, inside, length-map ps (λ p. p.1)) in
+    let there : i < length qs = omega (arith, here, length-map (places ps) (λ n. first_pair o w (slice_index_or ts n (no_term o)))) in
+    let front : drop i qs ≡ q ∷ drop (i + 1) qs =
+    drop_more qs i q there ∙ ap (λ x. x ∷ drop (i + 1) qs) (get_or-map (λ n. first_pair o w (slice_index_or ts n (no_term o))) (places ps) i 0 q here ∙ ap (first_pair o w) (sym term)) in
+    let e = c.put_term-kept.ensures in
+    record {
+      pairs = e.length ∙ c.loop-i.invariant.pairs;
+      linear = e.linear_length ∙ c.loop-i.invariant.linear;
+      counted = counted_more o m.laws.ring qs c.loop-i.pairs c.put_term-kept.new.pairs c.loop-i.linear c.put_term-kept.new.linear i c.loop-i.kept c.put_term-kept.result q c.loop-i.invariant.counted front e.count e.sums e.within;
+    }
+
+pub returns-clause-count : goal.returns-clause-count
+returns-clause-count g c =
+    omega (arith, c.loop-i.invariant.counted.count, c.loop-i-test.false, c.loop-i.auto.i-end, c.requires.room, order_size c.args.terms.now c.args.order.now c.requires.order)
+
+pub returns-clause-sums : goal.returns-clause-sums
+returns-clause-sums g c = λ i j.
+    let m = g.F.Field in
+    let o = m.ops in
+    let w = c.args.weights.now in
+    let ts = c.args.terms.now in
+    let ks = places c.args.order.now in
+    let qs = pairs_in o w ts ks in
+    let n = counted o (take c.loop-i.kept c.loop-i.pairs) c.loop-i.linear i j in
+    let past : length qs ≤ c.loop-i.i = omega (arith, c.loop-i-test.false, length-map c.args.order.now (λ p. p.1), length-map ks (λ k. first_pair o w (slice_index_or ts k (no_term o)))) in
+    sym (m.laws.ring.plus_zero n) ∙ sym (ap (λ xs. o.plus n (spread o xs i j)) (drop_all c.loop-i.i qs past)) ∙ c.loop-i.invariant.counted.sums i j
+    ∙ sum-permuted o m.laws.ring (λ (p : Pair g.row.F.Denot). cond (i == p.a) (cond (j == p.b) p.coef o.zero) o.zero) (map (first_pair o w) ts) qs (picked (first_pair o w) (no_term o) ts ks c.requires.order)
+
+pub returns-clause-within : goal.returns-clause-within
+returns-clause-within g c = λ n m h.
+    let o = g.F.Field.ops in
+    let ts = c.args.terms.now in
+    let w = c.args.weights.now in
+    let ks = places c.args.order.now in
+    let both = c.loop-i.invariant.counted.within n m (pairs-permuted n m (map (first_pair o w) ts) (pairs_in o w ts ks) (picked (first_pair o w) (no_term o) ts ks c.requires.order) h) in
+    both.0

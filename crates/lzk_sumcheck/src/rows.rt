@@ -1,0 +1,99 @@
+//! What a state's coefficients come to with the second table: a sum for each number of the first.
+
+ghost use Rattle.std.specs.Prelude.{◌≡◌, ℕ, ◌+◌, ◌<◌, ◌≤◌, ◌==◌, cond, Bool, true, false, length};
+ghost use Rattle.lzk_field.specs.Sums.{entry};
+ghost use Rattle.lzk_sumcheck.specs.Pairs.{ArePairs};
+ghost use Rattle.lzk_sumcheck.specs.Rows.{pairs_row, linear_row, row_at};
+
+use crate::arithmetic::{plus_product, product_of};
+use crate::pairs::Pair;
+use lzk_field::Field;
+
+/// The entry at a place of a table, and 0 past its end.
+pub(crate) fn entry_at<F: Field>(table: &[F], i: usize) -> F
+    ensures { result ≡ entry F.ops table.now i }
+{
+    if i < table.len() { table[i] } else { F::zero() }
+}
+
+/// Sets all to 0.
+pub(crate) fn set_zeros<F: Field>(rows: &mut [F])
+    ensures length { length rows.new ≡ length rows.old }
+    ensures entries { let o = F.ops in (i : ℕ) → entry o rows.new i ≡ o.zero }
+{
+    for i in 0..rows.len() {
+        rows[i] = F::zero();
+    }
+}
+
+// Sets each row to the factor times an entry.
+fn set_multiples<F: Field>(factor: F, list: &[F], rows: &mut [F])
+    requires { length list.now ≤ length rows.old }
+    ensures length { length rows.new ≡ length rows.old }
+    ensures entries { let o = F.ops in (i : ℕ) → entry o rows.new i ≡ o.times factor (entry o list.now i) }
+{
+    for i in 0..rows.len() {
+        rows[i] = product_of(factor, entry_at(list, i));
+    }
+}
+
+// Sets each row to what the coefficients of wire 0 come to: all stand in its row, or one in each.
+fn set_linear<F: Field>(of_a: bool, scale: F, linear: &[F], second: &[F], rows: &mut [F])
+    requires some { 1 ≤ length rows.old }
+    requires second { 1 ≤ length second.now }
+    requires for_a { of_a ≡ true → length linear.now ≡ length second.now }
+    requires for_b { of_a ≡ false → length linear.now ≡ length rows.old }
+    ensures length { length rows.new ≡ length rows.old }
+    ensures entries { let o = F.ops in (i : ℕ) → entry o rows.new i ≡ linear_row o of_a scale linear.now second.now i }
+{
+    if of_a {
+        set_zeros(rows);
+        rows[0] = scale.mul(F::dot(linear, second));
+    } else {
+        set_multiples(scale.mul(second[0]), linear, rows);
+    }
+}
+
+// Adds to its row what a pair comes to.
+fn add_pair<F: Field>(pair: Pair<F>, second: &[F], rows: &mut [F])
+    requires first { pair.a < length rows.old }
+    requires second { pair.b < length second.now }
+    ensures length { length rows.new ≡ length rows.old }
+    ensures sums { let o = F.ops in (i : ℕ) →
+        entry o rows.new i ≡ o.plus (entry o rows.old i) (cond (i == pair.a) (o.times pair.coef (entry o second.now pair.b)) o.zero) }
+{
+    let a = pair.a as usize;
+    rows[a] = plus_product(rows[a], pair.coef, second[pair.b as usize]);
+}
+
+// Adds to each row what the pairs with its number come to.
+fn add_pairs<F: Field>(pairs: &[Pair<F>], second: &[F], rows: &mut [F])
+    requires { ArePairs (length rows.old) (length second.now) pairs.now }
+    ensures length { length rows.new ≡ length rows.old }
+    ensures sums { let o = F.ops in (i : ℕ) → entry o rows.new i ≡ o.plus (entry o rows.old i) (pairs_row o pairs.now second.now i) }
+{
+    for pair in pairs {
+        add_pair(*pair, second, rows);
+    }
+}
+
+/// Sets the rows.
+pub(crate) fn set_rows<F: Field>(
+    of_a: bool,
+    pairs: &[Pair<F>],
+    scale: F,
+    linear: &[F],
+    second: &[F],
+    rows: &mut [F],
+)
+    requires some { 1 ≤ length rows.old }
+    requires second { 1 ≤ length second.now }
+    requires for_a { of_a ≡ true → length linear.now ≡ length second.now }
+    requires for_b { of_a ≡ false → length linear.now ≡ length rows.old }
+    requires pairs { ArePairs (length rows.old) (length second.now) pairs.now }
+    ensures length { length rows.new ≡ length rows.old }
+    ensures entries { let o = F.ops in (i : ℕ) → entry o rows.new i ≡ row_at o of_a pairs.now scale linear.now second.now i }
+{
+    set_linear(of_a, scale, linear, second, rows);
+    add_pairs(pairs, second, rows);
+}
