@@ -6,6 +6,7 @@ mod compile;
 mod constraints;
 mod extenders;
 mod hashes;
+mod messages;
 mod prime;
 mod proofs;
 mod tables;
@@ -46,6 +47,7 @@ fn main() {
         "forms" => constraints::formed(times),
         "combine" => constraints::combined(times),
         "replay" => replay(times),
+        "messages" => messages::sent(times),
         "leaf-7" => leaves(times, 7),
         "leaf-80" => leaves(times, 80),
         "tree" => trees(times),

@@ -5,6 +5,7 @@ mod blocks;
 mod circuits;
 mod constraints;
 mod elements;
+mod messages;
 mod proofs;
 mod rows;
 mod scripts;
@@ -15,10 +16,16 @@ mod trees;
 use lzk_gf128::Gf128;
 use lzk_goldilocks::Gold;
 use std::env;
+use std::marker::Sync;
 use std::rt::Files;
+use std::thread::Threads;
 
 // The checksum of a work, done so often. None where there is no such work.
-fn done<R: Files + AllocGlobal>(rt: &R, work: &str, times: u32) -> anyhow::Result<Option<u128>> {
+fn done<R: Files + Threads + Sync + AllocGlobal>(
+    rt: &R,
+    work: &str,
+    times: u32,
+) -> anyhow::Result<Option<u128>> {
     let alloc = rt.alloc();
     let sum = match work {
         "gold-mul" => elements::products::<Gold>(alloc, times)?,
@@ -49,6 +56,7 @@ fn done<R: Files + AllocGlobal>(rt: &R, work: &str, times: u32) -> anyhow::Resul
         "gf-tilde" => tables::extensions::<Gf128>(alloc, times)?,
         "forms" => constraints::formed(alloc, times)?,
         "combine" => constraints::combined(alloc, times)?,
+        "messages" => messages::sent(rt, alloc, times)?,
         "replay" => tables::replayed(alloc, times)?,
         "leaf-7" => trees::leaves(alloc, times, 7)?,
         "leaf-80" => trees::leaves(alloc, times, 80)?,
