@@ -1,4 +1,4 @@
-//! The work of the program `lzk_bench`, written plainly. Built by `rustc -O`.
+//! The work of the program `lzk_bench`, and rows by transforms, written plainly. Built by `rustc -O`.
 
 mod binary;
 mod circuits;
@@ -11,6 +11,7 @@ mod prime;
 mod proofs;
 mod tables;
 mod texts;
+mod transforms;
 mod unchecked;
 
 use binary::*;
@@ -36,6 +37,12 @@ fn main() {
         "absorb" => absorb(times),
         "gold-extend-192" => gold_extend(times, 192),
         "gold-extend-640" => gold_extend(times, 640),
+        "ntt-192" => transforms::ntt(times, 192),
+        "ntt-384" => transforms::ntt(times, 384),
+        "ntt-640" => transforms::ntt(times, 640),
+        "afft-192" => transforms::afft(times, 192),
+        "afft-384" => transforms::afft(times, 384),
+        "afft-640" => transforms::afft(times, 640),
         "gold-extender" => gold_extenders(times, 640),
         "gf-extender" => gf_extenders(times, 640),
         "gf-extend-192" => gf_extend(times, 192),
