@@ -20,6 +20,4 @@ mod proving;
 #[cfg(test)]
 mod runs;
 #[cfg(test)]
-mod verifying;
-#[cfg(test)]
 mod words;

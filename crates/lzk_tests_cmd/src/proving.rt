@@ -48,28 +48,3 @@ fn files_of_prove_are_refused(rt: HostRuntime) -> Result<(), Fail> {
     }
     Ok(())
 }
-
-#[test]
-fn each_read_of_prove_may_fail(rt: HostRuntime) -> Result<(), Fail> {
-    let alloc = rt.alloc();
-    for (call, printed) in [
-        (0, "fault: reading c\n"),
-        (1, "fault: reading c\n"),
-        (2, "fault: reading y\n"),
-        (3, "fault: reading y\n"),
-        (4, "fault: reading x\n"),
-        (5, "fault: reading x\n"),
-    ] {
-        let mut shelf = shelf_of(alloc, &SQUARE, "9", "3", vec![in alloc; call]?)?;
-        let (got, out) = ran(
-            &rt,
-            alloc,
-            "prove c y x w seed=0000000000000000000000000000000000000000000000000000000000000000",
-            &mut shelf,
-        )?;
-        assert_eq!(rt; got, 4, "at call {call}");
-        assert!(rt; out.bytes() == printed.as_bytes(), "at call {call}");
-        assert!(rt; shelf.get("w").is_none(), "at call {call}");
-    }
-    Ok(())
-}
