@@ -1,4 +1,15 @@
-//! A circuit for one block of SHA-256.
+//! One block of SHA-256 (FIPS 180-4) as equations over the Goldilocks field, for messages of 0 to 55 bytes.
+//!
+//! Every word of schedule, rounds and digest is there in bits, as private inputs, and the public inputs are the
+//! words of the digest. The equations are the outputs of `specs/Outputs.antt`, each of which is to be 0. A caller
+//! writes
+//!
+//! ```text
+//! let inputs = sha_inputs(alloc, b"abc")?;
+//! ```
+//!
+//! and has inputs at which all of them are 0. [`digest_laws`] says that there are no others but those of a message
+//! and its digest.
 #![tactic(auto)]
 
 mod bits;
