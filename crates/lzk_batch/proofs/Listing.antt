@@ -1,15 +1,15 @@
 -- Jobs, line after line.
-use Rattle.std.proofs.Common.{◌≡◌, ℕ, ◌+◌, ◌<◌, ◌≤◌, Bool, true, false, not, List, [], ◌∷◌, ◌++◌, length, length-append, map, filter, Option, Some, None, Result, Ok, Err, Bor, MatchOption, MatchResult, refl, sym, ap, subst, ◌∙◌, inl, inr, append_assoc, arith}
+use Rattle.std.proofs.Common.{◌≡◌, ℕ, ◌+◌, ◌≤◌, true, false, List, [], ◌∷◌, length, Option, Some, None, Ok, Err, Bor, MatchOption, refl, sym, ap, ◌∙◌, arith}
 use Rattle.std.specs.Option.{option_map}
 use Rattle.std.specs.Str.{IsUtf8, is_utf8}
-use Rattle.std.proofs.lemmas.Bool.{cases_Bool, cases_lt, lt-ltb, le-ltb, false_from_ne_true}
+use Rattle.std.proofs.lemmas.Bool.{false_from_ne_true}
 use Rattle.std.proofs.lemmas.Str.{IsUtf8-from_is_utf8, is_utf8-from_IsUtf8}
-use Rattle.lzk_expr.specs.Texts.{lines, runs, is_plain, IsLine}
+use Rattle.lzk_expr.specs.Texts.{lines, runs, is_plain}
 use Rattle.lzk_expr.proofs.Taking.{lines_left, left_size, IsNext}
 use Rattle.lzk_batch.specs.declared.list_fault.ListFault.{ListFault}
 use Rattle.lzk_batch.specs.declared.list_fault.ListError.{ListError}
 use Rattle.lzk_batch.specs.declared.list_fault.ListError.TheVariants as errors
-use Rattle.lzk_batch.specs.Lists.{Listed, line_entry, entry_of, is_skipped, with_line, entries_to, entries_of, ListText, most_entries, Fails}
+use Rattle.lzk_batch.specs.Lists.{Listed, line_entry, entry_of, with_line, entries_to, entries_of, Fails}
 
 -- ---- a line
 

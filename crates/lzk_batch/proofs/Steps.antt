@@ -1,5 +1,5 @@
 -- Each step keeps the rule.
-use Rattle.std.proofs.Common.{All, ◌≡◌, ℕ, zero, suc, ◌+◌, ◌-◌, ◌%◌, ◌^◌, ◌<◌, ◌≤◌, Bool, true, false, cond, List, [], ◌∷◌, ◌++◌, set, length, refl, sym, ap, ◌∙◌, inl, inr, arith}
+use Rattle.std.proofs.Common.{All, ◌≡◌, ℕ, zero, suc, ◌+◌, ◌-◌, ◌%◌, ◌^◌, ◌<◌, ◌≤◌, true, false, List, [], ◌∷◌, ◌++◌, set, refl, sym, ap, ◌∙◌, inl, inr, arith}
 use Rattle.std.specs.Prelude.{slice_index, slice_index_or, sum_by, flat_map}
 use mathlib.Core.Option.{some, some-injective, some-ne-none}
 use lib.ListN.{get_elem?}
@@ -9,7 +9,7 @@ use Rattle.std.proofs.lemmas.List.Sums.{sum_by-cons, sum_by-append, sum_by_push}
 use Rattle.atomic_table.proofs.Lists.{at_set, at_snoc, set_else}
 use Rattle.atomic_table.specs.Table.{State, Allows, Splits, Joins, keeps}
 use Rattle.lzk_batch.specs.declared.rule.View.{View}
-use Rattle.lzk_batch.specs.Tickets.{view_of, times, once_below, HasEachBelowOnce, late, most_jobs, drawn_unless_spent, shares_unless_spent, IsEachDrawnOnce, AreFewLate, Rule}
+use Rattle.lzk_batch.specs.Tickets.{view_of, times, once_below, HasEachBelowOnce, late, drawn_unless_spent, shares_unless_spent, IsEachDrawnOnce, Rule}
 use Rattle.lzk_batch.proofs.Weights.{mark, late_mark, sum_below, weighs_below, once_from_weights, late_once, late_below, stands, sum_flat}
 
 -- the total after a change of one view
@@ -65,7 +65,7 @@ draws_keep words views id v k at live early =
     get_or-set_same words 0 ((n + 1) % 2 ^ 64) 0 (omega (arith, k.one_word)) ∙ h in
     let late_more : late (v.drawn ++ n ∷ []) ≤ 1 + v.spare = omega (arith, sum_by_push late_mark v.drawn n, late_once n, early) in
     let more : IsEachDrawnOnce (suc n) (set views id w) = once (suc n) (set views id w) (λ h.
-        omega (arith, sum_set (weight h) views id v w at, weight_live h v live, weight_live h w live, sum_by_push h v.drawn n, weighs words views h k)) in
+    omega (arith, sum_set (weight h) views id v w at, weight_live h v live, weight_live h w live, sum_by_push h v.drawn n, weighs words views h k)) in
     record {
       one_word = length-set words 0 ((n + 1) % 2 ^ 64) ∙ k.one_word;
       drawn_once = rw word more;
@@ -144,8 +144,15 @@ joins_keep words views id v other w k at apart at_other live live_other =
     record {
       one_word = k.one_word;
       drawn_once = once (slice_index words 0) (set middle other spent) (λ h.
-          omega (arith, sum_set (weight h) views id v both at, sum_set (weight h) middle other w spent at_other, weight_live h v live, weight_live h w live_other,
-            sum_by-append h v.drawn w.drawn, weighs words views h k));
+          omega (
+            arith,
+            sum_set (weight h) views id v both at,
+            sum_set (weight h) middle other w spent at_other,
+            weight_live h v live,
+            weight_live h w live_other,
+            sum_by-append h v.drawn w.drawn,
+            weighs words views h k,
+          ));
       few_late = λ j u e s. elim (at_set middle other j spent u e) [
         | inl p ↦
             let is : spent ≡ u = p.1 in
@@ -208,5 +215,5 @@ pub closes : (s : State ℕ View) (id : ℕ) (v : View) (ws : List ℕ) (n : ℕ
 closes s id v ws n k at words last live whole =
     let word : slice_index s.words 0 ≡ n = ap (λ l. slice_index l 0) words ∙ first_word ws n last in
     once_from_weights n v.drawn (λ h.
-      let all = only_view h s.views id v at live (omega (arith, k.shared_out, whole)) in
-      sym (weight_live h v live) ∙ (sym all ∙ (weighs s.words s.views h k ∙ ap (sum_below h) word)))
+    let all = only_view h s.views id v at live (omega (arith, k.shared_out, whole)) in
+    sym (weight_live h v live) ∙ (sym all ∙ (weighs s.words s.views h k ∙ ap (sum_below h) word)))

@@ -1,10 +1,10 @@
 -- A list that has each number below n once weighs what these numbers weigh, whatever a number weighs.
-use Rattle.std.proofs.Common.{All, length, ◌≡◌, ℕ, zero, suc, ◌+◌, ◌-◌, ◌<◌, ◌≤◌, ◌==◌, true, cond, List, [], ◌∷◌, ◌++◌, refl, sym, ap, ◌∙◌, inl, inr, arith}
-use Rattle.std.specs.Prelude.{sum_by, count_by, flat_map, nat_le, slice_index_or}
-use Rattle.std.proofs.lemmas.Bool.{cases_lt, cases_eq, eq-eqb, ne_eqb, lt-ltb, le-ltb, le-leb, lt-leb}
+use Rattle.std.proofs.Common.{All, length, ◌≡◌, ℕ, zero, suc, ◌+◌, ◌-◌, ◌<◌, ◌≤◌, ◌==◌, cond, List, [], ◌∷◌, ◌++◌, refl, sym, ap, ◌∙◌, inl, inr, arith}
+use Rattle.std.specs.Prelude.{sum_by, flat_map, nat_le, slice_index_or}
+use Rattle.std.proofs.lemmas.Bool.{cases_lt, cases_eq, eq-eqb, ne_eqb, le-ltb, le-leb, lt-leb}
 use Rattle.std.proofs.lemmas.Bool.Decides.{nat_tests}
 use Rattle.std.proofs.lemmas.List.Elements.{All-head, All-tail}
-use Rattle.std.proofs.lemmas.List.Sums.{sum_by-cons, sum_by-append, sum_by_push}
+use Rattle.std.proofs.lemmas.List.Sums.{sum_by-cons, sum_by-append}
 use Rattle.lzk_batch.specs.Tickets.{times, once_below, HasEachBelowOnce, late, most_jobs}
 
 -- 1 for this number
@@ -55,8 +55,8 @@ weighs_below h (suc n) xs once =
     let zs = parts.1 in
     let is : xs ≡ ys ++ n ∷ zs = parts.2 in
     let fewer : HasEachBelowOnce n (ys ++ zs) = λ x.
-        let all : times x xs ≡ times x ys + times x (n ∷ zs) = ap (times x) is ∙ times-append x ys (n ∷ zs) in
-        omega (arith, all, times-cons x n zs, times-append x ys zs, once x, once_more n x) in
+    let all : times x xs ≡ times x ys + times x (n ∷ zs) = ap (times x) is ∙ times-append x ys (n ∷ zs) in
+    omega (arith, all, times-cons x n zs, times-append x ys zs, once x, once_more n x) in
     let whole : sum_by h xs ≡ sum_by h ys + sum_by h (n ∷ zs) = ap (sum_by h) is ∙ sum_by-append h ys (n ∷ zs) in
     omega (arith, whole, sum_by-cons h n zs, sum_by-append h ys zs, weighs_below h n (ys ++ zs) fewer)
 

@@ -1,12 +1,12 @@
 -- Where a text may be cut at its words.
-use Rattle.std.proofs.Common.{◌≡◌, ℕ, zero, suc, ◌+◌, ◌-◌, ◌<◌, ◌≤◌, ◌==◌, ◌||◌, Bool, true, false, not, List, length, get_or, position, Some, sym, subst, inl, inr, arith}
+use Rattle.std.proofs.Common.{◌≡◌, ℕ, zero, suc, ◌+◌, ◌<◌, ◌≤◌, false, List, length, get_or, position, Some, sym, subst, inl, inr, arith}
 use Rattle.std.specs.Str.{IsUtf8, IsCharBoundary}
 use Rattle.std.specs.List.{prefix_len}
 use Rattle.std.proofs.lemmas.Bool.{cases_lt}
 use Rattle.std.proofs.lemmas.Bool.Decides.{nat_tests}
 use Rattle.std.proofs.lemmas.Str.{IsCharBoundary-start, IsCharBoundary-end, IsCharBoundary-before_ascii, IsCharBoundary-after_ascii}
 use Rattle.std.proofs.lemmas.List.Sums.{fails_before_first, prefix_len_stops}
-use Rattle.lzk_expr.specs.Texts.{is_plain, is_blank}
+use Rattle.lzk_expr.specs.Texts.{is_plain}
 use Rattle.lzk_expr.proofs.Runs.{found_at}
 
 -- a blank is ASCII

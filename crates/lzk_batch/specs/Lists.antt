@@ -2,7 +2,6 @@
 use Rattle.std.specs.Prelude.{◌≡◌, ℕ, ◌+◌, ◌≤◌, ◌&&◌, nat_lt, nat_le, Bool, not, string_bytes, List, [], ◌∷◌, ◌++◌, length, take, drop, map, filter, Option, Some, None, Result, Ok, Err, cond, codes, if◌then◌else◌}
 use Rattle.std.specs.List.{list_all}
 use Rattle.std.specs.Str.{is_utf8, bytes_eq}
-use Rattle.hex.specs.declared.error.FromHexError.{FromHexError}
 use Rattle.hex.specs.Hex.{decode_of}
 use Rattle.lzk_expr.specs.Texts.{lines, runs, is_plain, is_blank}
 use Rattle.lzk_batch.specs.declared.entry.Entry.{Entry}

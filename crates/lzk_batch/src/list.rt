@@ -90,11 +90,17 @@ fn take_line(
         return Ok(());
     }
     if entries.len() >= MOST_ENTRIES {
-        return Err(ListError::Fault(ListFault { line, kind: ListKind::Limit }));
+        return Err(ListError::Fault(ListFault {
+            line,
+            kind: ListKind::Limit,
+        }));
     }
     match read_line(alloc, bytes)? {
         Some(entry) => entries.push(entry)?,
-        None => return Err(ListError::Fault(ListFault { line, kind: ListKind::Syntax })),
+        None => return Err(ListError::Fault(ListFault {
+            line,
+            kind: ListKind::Syntax,
+        })),
     }
     Ok(())
 }

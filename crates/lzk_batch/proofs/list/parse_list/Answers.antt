@@ -1,6 +1,6 @@
-use Rattle.std.proofs.Common.{◌≡◌, map, Ok, subst, sym, ◌∙◌, Option, Bor, List, ℕ}
+use Rattle.std.proofs.Common.{map, subst, Option, Bor, List, ℕ}
 use Rattle.std.proofs.lemmas.Result.{err_from_is_err_and}
-use Rattle.lzk_batch.specs.Lists.{Fails, entry_view, entries_of}
+use Rattle.lzk_batch.specs.Lists.{entry_view}
 use Rattle.lzk_batch.proofs.Listing.{Left, left_first, left_next, left_stop, left_done}
 use Rattle.lzk_batch.proofs.ListTexts.{list_text, list_read, only_memory, first_fault, ok_same}
 use Rattle.lzk_batch.proofs.list.parse_list.Goals as goal

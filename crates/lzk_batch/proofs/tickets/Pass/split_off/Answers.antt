@@ -1,4 +1,4 @@
-use Rattle.std.proofs.Common.{◌≡◌, arith, rules, ap, ◌∙◌, subst, sym, [], ◌≤◌}
+use Rattle.std.proofs.Common.{◌≡◌, arith, rules, ap, ◌∙◌, []}
 use Rattle.lzk_batch.specs.Passes.{PassState}
 use Rattle.lzk_batch.specs.Tickets.{late}
 use Rattle.lzk_batch.proofs.Steps.{splits_allowed}

@@ -1,4 +1,4 @@
-use Rattle.std.proofs.Common.{◌≡◌, arith, ap, ◌∙◌, subst, sym}
+use Rattle.std.proofs.Common.{◌≡◌, ap, ◌∙◌, subst}
 use Rattle.lzk_batch.specs.Passes.{PassState}
 use Rattle.lzk_batch.specs.Tickets.{HasEachBelowOnce}
 use Rattle.lzk_batch.proofs.Steps.{closes}

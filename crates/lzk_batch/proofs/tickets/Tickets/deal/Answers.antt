@@ -25,7 +25,7 @@ loop-passes-preserved c =
     let left = c.split_off.ensures.left ∙ ap (λ t. fresh t (c.loop-passes.first.spare - 1)) same in
     let new = c.split_off.ensures.new ∙ ap (λ t. fresh t 0) same in
     dealt_more c.args.workers table c.loop-passes.first c.split_off.new.self c.split_off.result c.loop-passes.passes.items c.push.new.self.items c.requires.few
-      (omega (arith, c.len.ensures, c.loop-passes-test.true)) left new c.in_ok-push.ensures.items c.loop-passes.invariant
+    (omega (arith, c.len.ensures, c.loop-passes-test.true)) left new c.in_ok-push.ensures.items c.loop-passes.invariant
 
 pub returns-clause-passes : goal.returns-clause-passes
 returns-clause-passes c = omega (arith, ap length c.in_ok-push-2.ensures.items ∙ length_push c.loop-passes.passes.items c.loop-passes.first, c.loop-passes.invariant.few, c.len.ensures, c.loop-passes-test.false)

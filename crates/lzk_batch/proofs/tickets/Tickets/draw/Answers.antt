@@ -1,4 +1,4 @@
-use Rattle.std.proofs.Common.{◌≡◌, All, ◌<◌, arith, rules, ap, sym, subst, ◌∙◌}
+use Rattle.std.proofs.Common.{◌≡◌, arith, rules, ap, ◌∙◌}
 use Rattle.lzk_batch.specs.Passes.{PassState, TicketsState}
 use Rattle.lzk_batch.specs.Tickets.{late}
 use Rattle.lzk_batch.proofs.Weights.{none_late}

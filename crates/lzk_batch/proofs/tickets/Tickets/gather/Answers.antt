@@ -1,4 +1,4 @@
-use Rattle.std.proofs.Common.{rules, arith}
+use Rattle.std.proofs.Common.{rules}
 use Rattle.lzk_batch.proofs.Dealing.{gathered_one, gathered_more, gathered_of, gathered_whole, gathered_all}
 use Rattle.lzk_batch.proofs.tickets.Tickets.gather.Goals as goal
 
