@@ -1,0 +1,6 @@
+pub mod Weights
+pub mod Steps
+pub mod Dealing
+pub mod WordPlaces
+pub mod Listing
+pub mod ListTexts

@@ -1,0 +1,3 @@
+pub mod Tickets
+pub mod Passes
+pub mod Lists

@@ -1,0 +1,9 @@
+//! Tests of `lzk_batch`.
+//!
+//! They stand above what they test, so that it is proved once.
+#![tactic(auto)]
+
+#[cfg(test)]
+mod lists;
+#[cfg(test)]
+mod tickets;
