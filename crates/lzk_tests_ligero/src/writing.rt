@@ -174,7 +174,5 @@ pub fn written_over<R: Threads + Sync, F: Field, X: RowExtend<F>, G: Gate>(
 {
     let params = Params::of(circuit);
     let mut works = WorksOver::<F, X>::new(alloc, circuit)?;
-    Ok(write_all(
-        rt, &mut works, &params, case, public, private, four, gate,
-    ))
+    Ok(write_all(rt, &mut works, &params, case, public, private, four, gate))
 }
