@@ -15,7 +15,7 @@ entry_more f before old new x i eo en ex =
     en ∙ (λ j. eo j ++ ex j ∷ []) ∙ append_assoc before (map f (range_with_len 0 i)) (f i ∷ [])
     ∙ ap (λ l. before ++ l) (sym (map-range_with_len_more f 0 i i (omega arith)))
 
-range_more : (a n j : ℕ) → a + n ≡ j → range_with_len a (n + 1) ≡ range_with_len a n ++ j ∷ []
+pub range_more : (a n j : ℕ) → a + n ≡ j → range_with_len a (n + 1) ≡ range_with_len a n ++ j ∷ []
 range_more a n j e =
     sym (map-id (range_with_len a (n + 1))) ∙ map-range_with_len_more (λ (x : ℕ). x) a n j e ∙ ap (λ l. l ++ j ∷ []) (map-id (range_with_len a n))
 
