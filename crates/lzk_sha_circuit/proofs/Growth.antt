@@ -96,3 +96,8 @@ module _ {A : Type 0} (o : Ops A) where
       count = omega arith;
       one = λ some first. absurd (omega (arith, some));
     }
+
+  -- a row that is another one's
+  pub pushed : (width wires : ℕ) (old new : List (Term A)) (row f : List (Product A)) → row ≡ f → AreWithin width f
+      → ((n : ℕ) → AreWithin n row → Grows o n wires old (row ∷ []) new) → Grows o width wires old (f ∷ []) new
+  pushed width wires old new row f same within h = subst (λ l. Grows o width wires old (l ∷ []) new) same (h width (subst (AreWithin width) (sym same) within))

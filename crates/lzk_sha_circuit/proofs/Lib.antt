@@ -19,3 +19,5 @@ pub mod Completeness
 pub mod RowLaws
 pub mod Growth
 pub mod Within
+pub mod RowValues
+pub mod EntryValues

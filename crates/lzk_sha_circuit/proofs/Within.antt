@@ -25,10 +25,10 @@ module _ {X : Type 0} (o : Ops X) (element : ℕ → X) where
   if_within width true x y hx hy = hx refl
   if_within width false x y hx hy = hy refl
 
-  is_less : (m n : ℕ) → nat_lt m n ≡ true → m < n
+  pub is_less : (m n : ℕ) → nat_lt m n ≡ true → m < n
   is_less m n e = elim (cases_lt m n) [ inl l ↦ l | inr l ↦ absurd (let f = le-ltb m n l in cc) ]
 
-  is_more : (m n : ℕ) → nat_lt m n ≡ false → n ≤ m
+  pub is_more : (m n : ℕ) → nat_lt m n ≡ false → n ≤ m
   is_more m n e = elim (cases_lt m n) [ inl l ↦ absurd (let f = lt-ltb m n l in cc) | inr l ↦ l ]
 
   pub word_within : (len : ℕ) (w : Word) (i : ℕ) → IsWordOf len w → IsPlaceOf w i → (word_entry o element len w i).wire < input_count len

@@ -44,3 +44,10 @@ padded_is m block new bytes i count le ei eb en ey ec =
     let size : count ≡ length m * 8 % 2 ^ 64 = omega arith in
     en ∙ (λ j. eb j ++ ey j) ∙ append_assoc m (0x80 ∷ replicate (i - length m) 0) (to_be_bytes w64 count)
     ∙ (λ j. m ++ (0x80 ∷ replicate (zeros j) 0 ++ to_be_bytes w64 (size j)))
+
+-- one piece behind another
+pub more_of : {X : Type 0} (p q r a b : List X) → q ≡ p ++ a → r ≡ q ++ b → r ≡ p ++ (a ++ b)
+more_of p q r a b eq er = er ∙ ap (λ l. l ++ b) eq ∙ append_assoc p a b
+
+pub from_none : {X : Type 0} (p q a : List X) → p ≡ [] → q ≡ p ++ a → q ≡ a
+from_none p q a ep eq = eq ∙ ap (λ l. l ++ a) ep

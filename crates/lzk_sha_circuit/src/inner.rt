@@ -75,7 +75,8 @@ fn push_schedule_pairs(
     let first = 8 * len + 6385 + 64 * (t - 16);
     let (two, fifteen) = (Word::Schedule(t - 2), Word::Schedule(t - 15));
     push_pairs(alloc, len, first, (two, 17), (two, 19), terms)?;
-    push_pairs(alloc, len, first + 32, (fifteen, 7), (fifteen, 18), terms)
+    push_pairs(alloc, len, first + 32, (fifteen, 7), (fifteen, 18), terms)?;
+    Ok(())
 }
 
 // Those of Σ1, Σ0 and Maj for a round.
@@ -93,7 +94,8 @@ fn push_round_pairs(
     let (a, b, e) = (Word::A(t + 3), Word::A(t + 2), Word::E(t + 3));
     push_pairs(alloc, len, first, (e, 6), (e, 11), terms)?;
     push_pairs(alloc, len, first + 32, (a, 2), (a, 13), terms)?;
-    push_pairs(alloc, len, first + 64, (a, 0), (b, 0), terms)
+    push_pairs(alloc, len, first + 64, (a, 0), (b, 0), terms)?;
+    Ok(())
 }
 
 // The terms of the inner layer.

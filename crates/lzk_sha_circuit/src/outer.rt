@@ -39,7 +39,6 @@ fn bit_products(alloc: Global, j: u32) -> Result<Vec<Product<Gold>>, AllocError>
 }
 
 // Whether W t follows from the words before it.
-#[tactic(auto, unfolding(crate::specs::Layers::w_row))]
 fn w_products(alloc: Global, len: u32, t: u32) -> Result<Vec<Product<Gold>>, AllocError>
     requires few { len ≤ 55 }
     requires low { 16 ≤ t }
@@ -58,7 +57,6 @@ fn w_products(alloc: Global, len: u32, t: u32) -> Result<Vec<Product<Gold>>, All
 }
 
 // The part of a round's sums that A and E have in common.
-#[tactic(auto, unfolding(crate::specs::Layers::first_list))]
 fn push_first(len: u32, t: u32, products: &mut Vec<Product<Gold>>) -> Result<(), AllocError>
     requires few { len ≤ 55 }
     requires high { t < 64 }
@@ -71,11 +69,11 @@ fn push_first(len: u32, t: u32, products: &mut Vec<Product<Gold>>) -> Result<(),
     push_turned(len, first, e, 25, products)?;
     push_ch(len, e, f, g, products)?;
     products.push(number(ROUND_CONSTANTS[t as usize]))?;
-    push_worth(len, one, Word::Schedule(t), 32, products)
+    push_worth(len, one, Word::Schedule(t), 32, products)?;
+    Ok(())
 }
 
 // Whether A t follows.
-#[tactic(auto, unfolding(crate::specs::Layers::a_row))]
 fn a_products(alloc: Global, len: u32, t: u32) -> Result<Vec<Product<Gold>>, AllocError>
     requires few { len ≤ 55 }
     requires high { t < 64 }
@@ -92,7 +90,6 @@ fn a_products(alloc: Global, len: u32, t: u32) -> Result<Vec<Product<Gold>>, All
 }
 
 // Whether E t follows.
-#[tactic(auto, unfolding(crate::specs::Layers::e_row))]
 fn e_products(alloc: Global, len: u32, t: u32) -> Result<Vec<Product<Gold>>, AllocError>
     requires few { len ≤ 55 }
     requires high { t < 64 }
@@ -106,7 +103,6 @@ fn e_products(alloc: Global, len: u32, t: u32) -> Result<Vec<Product<Gold>>, All
 }
 
 // Whether word `i` of the digest follows.
-#[tactic(auto, unfolding(crate::specs::Layers::f_row))]
 fn f_products(alloc: Global, len: u32, i: u32) -> Result<Vec<Product<Gold>>, AllocError>
     requires few { len ≤ 55 }
     requires high { i < 8 }
@@ -125,7 +121,6 @@ fn f_products(alloc: Global, len: u32, i: u32) -> Result<Vec<Product<Gold>>, All
 }
 
 // Whether it is public input `i`.
-#[tactic(auto, unfolding(crate::specs::Layers::digest_row))]
 fn digest_products(alloc: Global, len: u32, i: u32) -> Result<Vec<Product<Gold>>, AllocError>
     requires few { len ≤ 55 }
     requires high { i < 8 }
@@ -146,11 +141,12 @@ pub fn output_terms(alloc: Global, len: u32) -> Result<Vec<Term<Gold>>, AllocErr
     let privates = 8 * len + 6376;
     let mut terms = Vec::new(alloc);
     for j in 0..privates {
-        push_row(alloc, j, &bit_products(alloc, j)?, &mut terms)?;
+        let bits = bit_products(alloc, j)?;
+        push_row(alloc, j, &bits, &mut terms)?;
     }
     for t in 16..64 {
-        let row = w_products(alloc, len, t)?;
-        push_row(alloc, privates + (t - 16), &row, &mut terms)?;
+        let w = w_products(alloc, len, t)?;
+        push_row(alloc, privates + (t - 16), &w, &mut terms)?;
     }
     for round in 0..64 {
         let a = a_products(alloc, len, round)?;
@@ -159,16 +155,12 @@ pub fn output_terms(alloc: Global, len: u32) -> Result<Vec<Term<Gold>>, AllocErr
         push_row(alloc, privates + 49 + 2 * round, &e, &mut terms)?;
     }
     for i in 0..8 {
-        push_row(
-            alloc,
-            privates + 176 + i,
-            &f_products(alloc, len, i)?,
-            &mut terms,
-        )?;
+        let f = f_products(alloc, len, i)?;
+        push_row(alloc, privates + 176 + i, &f, &mut terms)?;
     }
-    for i in 0..8 {
-        let row = digest_products(alloc, len, i)?;
-        push_row(alloc, privates + 184 + i, &row, &mut terms)?;
+    for k in 0..8 {
+        let d = digest_products(alloc, len, k)?;
+        push_row(alloc, privates + 184 + k, &d, &mut terms)?;
     }
     Ok(terms)
 }
