@@ -21,3 +21,4 @@ pub mod Growth
 pub mod Within
 pub mod RowValues
 pub mod EntryValues
+pub mod InnerValues
