@@ -22,3 +22,4 @@ pub mod Within
 pub mod RowValues
 pub mod EntryValues
 pub mod InnerValues
+pub mod CircuitValues

@@ -43,7 +43,7 @@ loop-t-preserved c =
     let more : i - 16 + 1 ≡ i + 1 - 16 = omega arith in
     subst (λ (n : ℕ). Grows ops w (8 * len + 6376) c.loop-j.terms.items (map f (range_with_len 16 n)) new) more
     (row_more ops f w (8 * len + 6376) (8 * len + 6376 + (i - 16)) 16 (i - 16) i c.loop-j.terms.items mid new there next (length-map-range_with_len f 16 (i - 16)) c.loop-t.invariant
-    (pushed ops w (8 * len + 6376 + (i - 16)) mid new c.deref-in-loop-t.result.now (f i) same (w_row_within ops of_number len i (omega arith) c.loop-t-test.true) c.in_ok-push_row-in-loop-t.ensures))
+    (pushed ops w (8 * len + 6376 + (i - 16)) mid new c.deref-in-loop-t.result.now (f i) same (w_row_within ops of_number len i (omega arith) c.loop-t-test.true) c.in_ok-push_row-2.ensures))
 
 pub loop-round-init : goal.loop-round-init
 loop-round-init c = grows_none ops (inner_count c.args.len) (8 * c.args.len + 6424) c.loop-t.terms.items
@@ -65,7 +65,7 @@ loop-i-preserved c =
     let new = c.push_row-in-loop-i.new.terms.items in
     let next : 8 * len + 6376 + 176 + i ≡ 8 * len + 6552 + i = omega arith in
     row_more ops f w (8 * len + 6552) (8 * len + 6376 + 176 + i) 0 i i c.loop-round.terms.items mid new (omega arith) next (length-map-range_with_len f 0 i) c.loop-i.invariant
-    (pushed ops w (8 * len + 6376 + 176 + i) mid new c.deref-in-loop-i.result.now (f i) same (f_row_within ops of_number len i c.loop-i-test.true) c.in_ok-push_row-in-loop-i.ensures)
+    (pushed ops w (8 * len + 6376 + 176 + i) mid new c.deref-in-loop-i.result.now (f i) same (f_row_within ops of_number len i c.loop-i-test.true) c.in_ok-push_row-5.ensures)
 
 pub loop-k-init : goal.loop-k-init
 loop-k-init c = grows_none ops (inner_count c.args.len) (8 * c.args.len + 6560) c.loop-i.terms.items
@@ -81,7 +81,7 @@ loop-k-preserved c =
     let new = c.push_row-in-loop-k.new.terms.items in
     let next : 8 * len + 6376 + 184 + i ≡ 8 * len + 6560 + i = omega arith in
     row_more ops f w (8 * len + 6560) (8 * len + 6376 + 184 + i) 0 i i c.loop-i.terms.items mid new (omega arith) next (length-map-range_with_len f 0 i) c.loop-k.invariant
-    (pushed ops w (8 * len + 6376 + 184 + i) mid new c.deref-in-loop-k.result.now (f i) same (digest_row_within ops of_number len i c.loop-k-test.true) c.in_ok-push_row-in-loop-k.ensures)
+    (pushed ops w (8 * len + 6376 + 184 + i) mid new c.deref-in-loop-k.result.now (f i) same (digest_row_within ops of_number len i c.loop-k-test.true) c.in_ok-push_row-6.ensures)
 
 pub returns : goal.returns
 unfolding output_rows
