@@ -24,13 +24,14 @@ use Rattle.lzk_sha_circuit.proofs.Within.{is_less, is_more}
 
 module _ {X : Type 0} (o : Ops X) (r : RingLaws o) (element : ℕ → X) (len : ℕ) (public private : List X) (short : length public ≡ 8)
     (below : List X) (pass : (k : ℕ) → k < input_count len → entry o below k ≡ entry o (inputs_of o public private) k) where
-  abbrev pub input : ℕ → X
+  input : ℕ → X
   input = entry o private
 
   one : entry o below 0 ≡ o.one
   one = pass 0 (omega arith)
 
   private_wire : (j : ℕ) → entry o (inputs_of o public private) (9 + j) ≡ input j
+  unfolding input
   private_wire j =
       let place : 9 + j ≡ suc (length public + j) = omega (arith, short) in
       ap (λ k. entry o (o.one ∷ (public ++ private)) k) place ∙ get_or-append-add public private j o.zero

@@ -23,3 +23,5 @@ pub mod RowValues
 pub mod EntryValues
 pub mod InnerValues
 pub mod CircuitValues
+pub mod Sizes
+pub mod CircuitLaws
