@@ -38,8 +38,8 @@ module _ {X : Type 0} (o : Ops X) (element : ℕ → X) (len : ℕ) (few : len �
             terms = omega (arith, few, c1, s1);
             each = subst (λ n. AreTerms o n (input_count len) None t1) (length-inner_rows o element len) inner_built.ordered;
           },
-          tt,
-        ),
+          tt
+        )
       )
 
   pub layers_ones : HaveOnes o (two_layers len t0 t1)

@@ -24,14 +24,13 @@ use Rattle.lzk_sha_circuit.proofs.Within.{is_less, is_more}
 
 module _ {X : Type 0} (o : Ops X) (r : RingLaws o) (element : ℕ → X) (len : ℕ) (public private : List X) (short : length public ≡ 8)
     (below : List X) (pass : (k : ℕ) → k < input_count len → entry o below k ≡ entry o (inputs_of o public private) k) where
-  input : ℕ → X
+  abbrev pub input : ℕ → X
   input = entry o private
 
   one : entry o below 0 ≡ o.one
   one = pass 0 (omega arith)
 
   private_wire : (j : ℕ) → entry o (inputs_of o public private) (9 + j) ≡ input j
-  unfolding input
   private_wire j =
       let place : 9 + j ≡ suc (length public + j) = omega (arith, short) in
       ap (λ k. entry o (o.one ∷ (public ++ private)) k) place ∙ get_or-append-add public private j o.zero
@@ -115,9 +114,13 @@ module _ {X : Type 0} (o : Ops X) (r : RingLaws o) (element : ℕ → X) (len : 
         let l16 = worth_list o element o.one 32 (word_entry o element len (Schedule (t - 16))) in
         let lc = carry_list o element len (w_place len t) 2 in
         let v1 : products_value o below l1 ≡ s1 =
-        or_word_value o r element below one _ _ _ _ (λ i l. or_wire (or_place_w o element t) i _ (ors_w1 t i le lt l)) (λ i l. shifted_value (Schedule (t - 2)) 10 i (omega arith) (λ j m. m)) in
+        or_word_value o r element below one (or_entry o element len (or_place_w o element t)) (shifted_entry o element len (Schedule (t - 2)) 10)
+        (λ i. exclusive_or o element (rotated 17 (w (t - 2)) i) (rotated 19 (w (t - 2)) i)) (shifted o element 10 (w (t - 2)))
+        (λ i l. or_wire (or_place_w o element t) i (exclusive_or o element (rotated 17 (w (t - 2)) i) (rotated 19 (w (t - 2)) i)) (ors_w1 t i le lt l)) (λ i l. shifted_value (Schedule (t - 2)) 10 i (omega arith) (λ j m. m)) in
         let v0 : products_value o below l0 ≡ s0 =
-        or_word_value o r element below one _ _ _ _ (λ i l. or_wire (or_place_w o element t + 32) i _ (ors_w0 t i le lt l)) (λ i l. shifted_value (Schedule (t - 15)) 3 i (omega arith) (λ j m. m)) in
+        or_word_value o r element below one (or_entry o element len (or_place_w o element t + 32)) (shifted_entry o element len (Schedule (t - 15)) 3)
+        (λ i. exclusive_or o element (rotated 7 (w (t - 15)) i) (rotated 18 (w (t - 15)) i)) (shifted o element 3 (w (t - 15)))
+        (λ i l. or_wire (or_place_w o element t + 32) i (exclusive_or o element (rotated 7 (w (t - 15)) i) (rotated 18 (w (t - 15)) i)) (ors_w0 t i le lt l)) (λ i l. shifted_value (Schedule (t - 15)) 3 i (omega arith) (λ j m. m)) in
         let v7 = word_worth (Schedule (t - 7)) (omega arith) (λ j m. m) in
         let v16 = word_worth (Schedule (t - 16)) (omega arith) (λ j m. m) in
         let vc = carry_value (w_place len t) 2 (omega arith) in
@@ -149,9 +152,12 @@ module _ {X : Type 0} (o : Ops X) (r : RingLaws o) (element : ℕ → X) (len : 
           let l4 = worth_list o element o.one 32 (word_entry o element len (Schedule t)) in
           let v0 = word_worth (E t) (omega arith) (λ j m. m) in
           let v1 : products_value o below l1 ≡ s1 =
-          or_word_value o r element below one _ _ _ _ (λ i l. or_wire (or_place_round o element t) i _ (ors_e t i lt l)) (λ i l. turned_value (E (t + 3)) 25 i (omega arith) (λ j m. m)) in
+          or_word_value o r element below one (or_entry o element len (or_place_round o element t)) (turned_entry o element len (E (t + 3)) 25)
+          (λ i. exclusive_or o element (rotated 6 (e (t + 3)) i) (rotated 11 (e (t + 3)) i)) (rotated 25 (e (t + 3)))
+          (λ i l. or_wire (or_place_round o element t) i (exclusive_or o element (rotated 6 (e (t + 3)) i) (rotated 11 (e (t + 3)) i)) (ors_e t i lt l)) (λ i l. turned_value (E (t + 3)) 25 i (omega arith) (λ j m. m)) in
           let v2 : products_value o below l2 ≡ s2 =
-          ch_word_value o r element below one _ _ _ _ _ _ (λ i l. word_value (E (t + 3)) i (omega arith) l) (λ i l. word_value (E (t + 2)) i (omega arith) l) (λ i l. word_value (E (t + 1)) i (omega arith) l) in
+          ch_word_value o r element below one (word_entry o element len (E (t + 3))) (word_entry o element len (E (t + 2))) (word_entry o element len (E (t + 1))) (e (t + 3)) (e (t + 2)) (e (t + 1))
+          (λ i l. word_value (E (t + 3)) i (omega arith) l) (λ i l. word_value (E (t + 2)) i (omega arith) l) (λ i l. word_value (E (t + 1)) i (omega arith) l) in
           let v4 = word_worth (Schedule t) lt (λ j m. m) in
           value-append o r below l0 (l1 ++ (l2 ++ (p3 ∷ l4)))
           ∙ ap (o.plus (products_value o below l0)) (value-append o r below l1 (l2 ++ (p3 ∷ l4)) ∙ ap (o.plus (products_value o below l1)) (value-append o r below l2 (p3 ∷ l4)))
@@ -171,9 +177,12 @@ module _ {X : Type 0} (o : Ops X) (r : RingLaws o) (element : ℕ → X) (len : 
           let l2 = maj_word_list o element (word_entry o element len (A (t + 3))) (word_entry o element len (A (t + 2))) (word_entry o element len (A (t + 1))) (or_entry o element len (or_place_round o element t + 64)) in
           let lc = carry_list o element len (a_place len t) 3 in
           let v1 : products_value o below l1 ≡ s1 =
-          or_word_value o r element below one _ _ _ _ (λ i l. or_wire (or_place_round o element t + 32) i _ (ors_a t i lt l)) (λ i l. turned_value (A (t + 3)) 22 i (omega arith) (λ j m. m)) in
+          or_word_value o r element below one (or_entry o element len (or_place_round o element t + 32)) (turned_entry o element len (A (t + 3)) 22)
+          (λ i. exclusive_or o element (rotated 2 (a (t + 3)) i) (rotated 13 (a (t + 3)) i)) (rotated 22 (a (t + 3)))
+          (λ i l. or_wire (or_place_round o element t + 32) i (exclusive_or o element (rotated 2 (a (t + 3)) i) (rotated 13 (a (t + 3)) i)) (ors_a t i lt l)) (λ i l. turned_value (A (t + 3)) 22 i (omega arith) (λ j m. m)) in
           let v2 : products_value o below l2 ≡ s2 =
-          maj_word_value o r element below one _ _ _ _ _ _ _ (λ i l. word_value (A (t + 3)) i (omega arith) l) (λ i l. word_value (A (t + 2)) i (omega arith) l) (λ i l. word_value (A (t + 1)) i (omega arith) l) (λ i l. or_wire (or_place_round o element t + 64) i _ (ors_m t i lt l)) in
+          maj_word_value o r element below one (word_entry o element len (A (t + 3))) (word_entry o element len (A (t + 2))) (word_entry o element len (A (t + 1))) (or_entry o element len (or_place_round o element t + 64)) (a (t + 3)) (a (t + 2)) (a (t + 1))
+          (λ i l. word_value (A (t + 3)) i (omega arith) l) (λ i l. word_value (A (t + 2)) i (omega arith) l) (λ i l. word_value (A (t + 1)) i (omega arith) l) (λ i l. or_wire (or_place_round o element t + 64) i (exclusive_or o element (a (t + 3) i) (a (t + 2) i)) (ors_m t i lt l)) in
           let vc = carry_value (a_place len t) 3 (omega arith) in
           value-append o r below l0 (l1 ++ (l2 ++ lc))
           ∙ ap (o.plus (products_value o below l0)) (value-append o r below l1 (l2 ++ lc) ∙ ap (o.plus (products_value o below l1)) (value-append o r below l2 lc))

@@ -2,7 +2,7 @@
 
 ghost use Rattle.std.specs.Prelude.{◌≡◌, ℕ, ◌+◌, ◌-◌, ◌*◌, ◌<◌, ◌≤◌, ◌++◌, ◌∷◌, [], IfOk, OnOk, slice_index};
 ghost use Rattle.lzk_goldilocks.specs.Elements.{ops, of_number};
-ghost use Rattle.lzk_sha_circuit.specs.Layers.{IsBuilt, inner_count, bit_row, w_row, first_list, a_row, e_row, f_row, digest_row, output_rows};
+ghost use Rattle.lzk_sha_circuit.specs.Layers.{IsWordOf, IsWhole, IsBuilt, inner_count, last_word_of, bit_row, w_row, first_list, a_row, e_row, f_row, digest_row, output_rows};
 
 use crate::constants::{INITIAL_HASH, ROUND_CONSTANTS};
 use crate::entries::{Word, wire_entry};
@@ -26,7 +26,6 @@ fn number(n: u32) -> Product<Gold>
 }
 
 // Whether private input `j` is a bit.
-#[tactic(auto, unfolding(crate::specs::Layers::bit_row))]
 fn bit_products(alloc: Global, j: u32) -> Result<Vec<Product<Gold>>, AllocError>
     requires { j < 8192 }
     ensures { IfOk result (λ products. products.items ≡ bit_row ops j) }
@@ -102,20 +101,29 @@ fn e_products(alloc: Global, len: u32, t: u32) -> Result<Vec<Product<Gold>>, All
     Ok(products)
 }
 
+// Word `i` of A 63, A 62, A 61, A 60, E 63, E 62, E 61, E 60.
+fn last_word(i: u32) -> Word
+    requires { i < 8 }
+    ensures value { result ≡ last_word_of ops of_number i }
+    ensures word { (len : ℕ) → IsWordOf len result }
+    ensures whole { IsWhole result }
+{
+    if i < 4 {
+        Word::A(67 - i)
+    } else {
+        Word::E(71 - i)
+    }
+}
+
 // Whether word `i` of the digest follows.
 fn f_products(alloc: Global, len: u32, i: u32) -> Result<Vec<Product<Gold>>, AllocError>
     requires few { len ≤ 55 }
     requires high { i < 8 }
     ensures { IfOk result (λ products. products.items ≡ f_row ops of_number len i) }
 {
-    let last = if i < 4 {
-        Word::A(67 - i)
-    } else {
-        Word::E(71 - i)
-    };
     let mut products = Vec::new(alloc);
     products.push(number(INITIAL_HASH[i as usize]))?;
-    push_worth(len, Gold::one(), last, 32, &mut products)?;
+    push_worth(len, Gold::one(), last_word(i), 32, &mut products)?;
     push_carry(len, 8 * len + 6112 + 33 * i, 1, &mut products)?;
     Ok(products)
 }

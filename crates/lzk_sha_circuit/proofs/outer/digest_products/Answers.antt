@@ -13,4 +13,6 @@ unfolding digest_row
 returns c =
     let len = c.args.len in
     let i = c.args.i in
-    from_none c.new-products.result.items c.push.new.self.items ((worth_list ops of_number ops.one 32 (word_entry ops of_number len (Bits (f_place len i) 32)) ++ linear ops (ops.neg ops.one) (wire_entry ops (1 + i)) ∷ [])) c.new-products.ensures.items (more_of c.new-products.result.items c.push_worth.new.products.items c.push.new.self.items (worth_list ops of_number ops.one 32 (word_entry ops of_number len (Bits (f_place len i) 32))) (linear ops (ops.neg ops.one) (wire_entry ops (1 + i)) ∷ []) c.in_ok-push_worth.ensures (c.in_ok-push.ensures.items ∙ (λ j. c.push_worth.new.products.items ++ (c.linear.ensures ∙ (λ k. linear ops ((c.neg.ensures ∙ ap ops.neg c.one-2.ensures) k) (c.wire_entry.ensures k))) j ∷ [])))
+    let minus : c.neg.result ≡ ops.neg ops.one = c.neg.ensures ∙ ap ops.neg c.one-2.ensures in
+    let less : c.linear.result ≡ linear ops (ops.neg ops.one) (wire_entry ops (1 + i)) = c.linear.ensures ∙ (λ j. linear ops (minus j) (c.wire_entry.ensures j)) in
+    from_none c.new-products.result.items c.push.new.self.items ((worth_list ops of_number ops.one 32 (word_entry ops of_number len (Bits (f_place len i) 32)) ++ linear ops (ops.neg ops.one) (wire_entry ops (1 + i)) ∷ [])) c.new-products.ensures.items (more_of c.new-products.result.items c.push_worth.new.products.items c.push.new.self.items (worth_list ops of_number ops.one 32 (word_entry ops of_number len (Bits (f_place len i) 32))) (linear ops (ops.neg ops.one) (wire_entry ops (1 + i)) ∷ []) (c.in_ok-push_worth.ensures ∙ ap (λ x. c.new-products.result.items ++ worth_list ops of_number x 32 (word_entry ops of_number len (Bits (f_place len i) 32))) c.one.ensures) (c.in_ok-push.ensures.items ∙ (λ j. c.push_worth.new.products.items ++ less j ∷ [])))
