@@ -21,8 +21,7 @@ module _ {X : Type 0} (o : Ops X) (element : ℕ → X) (len : ℕ) (few : len �
       let c0 = outer_built.count in
       let c1 = inner_built.count in
       let s0 = size-output_rows o element len in
-      let s1 = size-inner_rows o element len in
-      (
+      let s1 = size-inner_rows o element len in (
         record {
           some = omega arith;
           most = omega (arith, few);
@@ -38,8 +37,8 @@ module _ {X : Type 0} (o : Ops X) (element : ℕ → X) (len : ℕ) (few : len �
             terms = omega (arith, few, c1, s1);
             each = subst (λ n. AreTerms o n (input_count len) None t1) (length-inner_rows o element len) inner_built.ordered;
           },
-          tt
-        )
+          tt,
+        ),
       )
 
   pub layers_ones : HaveOnes o (two_layers len t0 t1)

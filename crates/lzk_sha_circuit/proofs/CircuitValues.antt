@@ -53,7 +53,6 @@ length-output_rows o element len =
     let l4 = length-map-range_with_len (digest_row o element len) 0 8 in
     omega (arith, e0, e1, e2, e3, l0, l1, l2, l3, l4)
 
-
 module _ {X : Type 0} (o : Ops X) (r : RingLaws o) (element : ℕ → X) (len : ℕ) (public private : List X) (short : length public ≡ 8) (long : length private ≡ private_count len)
     (t0 t1 : List (Term X)) (outer_built : IsBuilt o (inner_count len) (output_rows o element len) t0) (inner_built : IsBuilt o (input_count len) (inner_rows o element len) t1) where
   inputs : List X

@@ -148,7 +148,7 @@ module _ {X : Type 0} (o : Ops X) (r : RingLaws o) (element : ℕ → X) (len : 
           let l0 = worth_list o element o.one 32 (word_entry o element len (E t)) in
           let l1 = or_word_list o element (or_entry o element len (or_place_round o element t)) (turned_entry o element len (E (t + 3)) 25) in
           let l2 = ch_word_list o element (word_entry o element len (E (t + 3))) (word_entry o element len (E (t + 2))) (word_entry o element len (E (t + 1))) in
-          let p3 = record { coef = s3; a = 0; b = 0 } in
+          let p3 : Product X = record { coef = s3; a = 0; b = 0 } in
           let l4 = worth_list o element o.one 32 (word_entry o element len (Schedule t)) in
           let v0 = word_worth (E t) (omega arith) (λ j m. m) in
           let v1 : products_value o below l1 ≡ s1 =

@@ -87,7 +87,7 @@ module _ {X : Type 0} (o : Ops X) (element : ℕ → X) (len : ℕ) where
       let l1 = or_word_list o element (or_entry o element len (or_place_round o element t)) (turned_entry o element len (E (t + 3)) 25) in
       let l2 = ch_word_list o element (word_entry o element len (E (t + 3))) (word_entry o element len (E (t + 2))) (word_entry o element len (E (t + 1))) in
       let l4 = worth_list o element o.one 32 (word_entry o element len (Schedule t)) in
-      let p3 = record { coef = element (slice_index round_constants t); a = 0; b = 0 } in
+      let p3 : Product X = record { coef = element (slice_index round_constants t); a = 0; b = 0 } in
       let e1 = length-append l0 (l1 ++ (l2 ++ (p3 ∷ l4))) in
       let e2 = length-append l1 (l2 ++ (p3 ∷ l4)) in
       let e3 = length-append l2 (p3 ∷ l4) in

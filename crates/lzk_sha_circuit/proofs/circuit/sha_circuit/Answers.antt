@@ -45,10 +45,10 @@ returns c =
       privates = ap (λ (w : Wiring Gold). w.privates) made;
       layers = ap (λ (w : Wiring Gold). length w.layers) made ∙ kept ∙ long ∙ two;
       outputs = λ public private hp hq.
-      let inputs = inputs_of ops public private in
-      let both = length-append public private in
-      let width : length inputs ≡ 8 * len + 6385 = omega (arith, both, hp, hq) in
-      ap (λ (w : Wiring Gold). wires_of ops w.layers inputs) made ∙ c.in_ok-kept.ensures.values inputs width
-      ∙ ap (λ (ls : List (Layer Gold)). wires_of ops ls inputs) c.deref.ensures.value ∙ c.in_ok-layers.ensures.outputs public private hp hq;
+          let inputs = inputs_of ops public private in
+          let both = length-append public private in
+          let width : length inputs ≡ 8 * len + 6385 = omega (arith, both, hp, hq) in
+          ap (λ (w : Wiring Gold). wires_of ops w.layers inputs) made ∙ c.in_ok-kept.ensures.values inputs width
+          ∙ ap (λ (ls : List (Layer Gold)). wires_of ops ls inputs) c.deref.ensures.value ∙ c.in_ok-layers.ensures.outputs public private hp hq;
       reduced = subst (λ (w : Wiring Gold). IsReduced ops w.layers) (sym made) c.in_ok-kept.ensures.reduced;
     }
