@@ -21,7 +21,7 @@ loop-i-preserved c =
     let f = λ (j : ℕ). or_list ops of_number ops.one (turned_entry ops of_number a.len a.x.0 a.x.1 j) (turned_entry ops of_number a.len a.y.0 a.y.1 j) in
     let same : c.deref.result.now ≡ f i =
     c.deref.ensures.value ∙ c.in_ok-push_or.ensures
-    ∙ (λ j. c.new-products.ensures.items j ++ or_list ops of_number (c.one.ensures j) (c.turned_entry.ensures j) (c.turned_entry-2.ensures j)) in
+    ∙ (λ j. c.new-products.ensures.items j ++ or_list ops of_number (c.one.ensures j) (c.turned_entry.ensures j) (c.turned_entry-in-loop-i.ensures j)) in
     let within : AreWithin w (f i) =
     or_within ops of_number w ops.one (turned_entry ops of_number a.len a.x.0 a.x.1 i) (turned_entry ops of_number a.len a.y.0 a.y.1 i)
     (turned_within ops of_number a.len a.x.0 a.x.1 i c.requires.left c.requires.left_whole) (turned_within ops of_number a.len a.y.0 a.y.1 i c.requires.right c.requires.right_whole) in
