@@ -1,4 +1,4 @@
-use Rattle.std.proofs.Common.{◌≡◌, ◌*◌, ◌+◌, ◌≤◌, ◌∷◌, ◌++◌, ◌∙◌, List, ap, sym, subst, length, arith, length-append}
+use Rattle.std.proofs.Common.{◌≡◌, ◌*◌, ◌+◌, ◌≤◌, ◌∷◌, ◌++◌, ◌∙◌, List, ap, sym, subst, length, arith, rules, length-append}
 use Rattle.lzk_circuit.specs.declared.layer.Layer.{Layer}
 use Rattle.lzk_circuit.specs.Valid.{AreLayers, Wiring}
 use Rattle.lzk_circuit.specs.Wires.{inputs_of, wires_of}
@@ -13,11 +13,8 @@ reduced-requires c =
     let same = c.deref.ensures.value in
     let long = ap length same in
     let two = c.in_ok-layers.ensures.count in
-    record {
-      some = omega (arith, long, two);
-      layers = subst (AreLayers ops (input_count c.args.len)) (sym same) c.in_ok-layers.ensures.valid;
-      ones = subst (HaveOnes ops) (sym same) c.in_ok-layers.ensures.ones;
-    }
+    let sizes : 1 ≤ length c.deref.result.now = omega (arith, long, two) in
+    (search rules, (search rules, (sizes, (subst (AreLayers ops (input_count c.args.len)) (sym same) c.in_ok-layers.ensures.valid, subst (HaveOnes ops) (sym same) c.in_ok-layers.ensures.ones))))
 
 pub circuit_of-requires : goal.circuit_of-requires
 circuit_of-requires c =
