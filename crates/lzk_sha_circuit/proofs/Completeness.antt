@@ -20,7 +20,7 @@ use Rattle.lzk_sha_circuit.proofs.Numbered.{Numbered, IsBit}
 use Rattle.lzk_sha_circuit.proofs.Gates.{two_cases}
 use Rattle.lzk_sha_circuit.proofs.Held.{Held, held_constant, held_same, worth_is}
 use Rattle.lzk_sha_circuit.proofs.Valued.{zero_from_same}
-use Rattle.lzk_sha_circuit.proofs.Sums.{first_number, second_number, initial_below, next_sum_is}
+use Rattle.lzk_sha_circuit.proofs.WordSums.{first_number, second_number, initial_below, next_sum_is}
 use Rattle.lzk_sha_circuit.proofs.Standard.{last_number, variables, next_word_is, a_of_round, e_of_round, round_is, eight_cases}
 use Rattle.lzk_sha_circuit.proofs.Digests.{digest_word}
 use Rattle.lzk_sha_circuit.proofs.Block.{held_block}

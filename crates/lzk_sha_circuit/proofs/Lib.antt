@@ -3,7 +3,7 @@ pub mod Gates
 pub mod BitLaws
 pub mod Held
 pub mod Valued
-pub mod Sums
+pub mod WordSums
 pub mod Standard
 pub mod Digests
 pub mod Block
@@ -16,3 +16,12 @@ pub mod Filled
 pub mod Chunks
 pub mod Lookups
 pub mod Completeness
+pub mod RowLaws
+pub mod Growth
+pub mod Within
+pub mod RowValues
+pub mod EntryValues
+pub mod InnerValues
+pub mod CircuitValues
+pub mod Sizes
+pub mod CircuitLaws

@@ -16,7 +16,7 @@ use Rattle.lzk_sha_circuit.specs.Digest.{AreBytes, HaveDigest, message_bits, dig
 use Rattle.lzk_sha_circuit.proofs.Numbered.{Numbered, IsBit}
 use Rattle.lzk_sha_circuit.proofs.BitLaws.{number_of, number_of-lt, bit_at-number_of}
 use Rattle.lzk_sha_circuit.proofs.Held.{Held, held_from_bits, held_constant, held_same, held_one, worth_is}
-use Rattle.lzk_sha_circuit.proofs.Sums.{next_number, first_number, second_number, initial_below}
+use Rattle.lzk_sha_circuit.proofs.WordSums.{next_number, first_number, second_number, initial_below}
 use Rattle.lzk_sha_circuit.proofs.Standard.{variables, schedule_is, rounds_are, compress_is}
 use Rattle.lzk_sha_circuit.proofs.Digests.{digest_word}
 use Rattle.lzk_sha_circuit.proofs.Block.{held_block}

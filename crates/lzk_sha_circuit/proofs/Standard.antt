@@ -7,7 +7,7 @@ use Rattle.sha2.specs.Sha256.{word_at, schedule, next_word, rounds, round, round
 use Rattle.sha2.specs.Sha256 as standard
 use Rattle.sha2.proofs.Schedule256.{slice_index-schedule_first, slice_index-schedule_next}
 use Rattle.lzk_sha_circuit.specs.Inputs.{first_total, second_total}
-use Rattle.lzk_sha_circuit.proofs.Sums.{next_number, first_number, second_number}
+use Rattle.lzk_sha_circuit.proofs.WordSums.{next_number, first_number, second_number}
 
 -- ---- sums whose carries are dropped on the way
 four : (m a b c d : ℕ) → (((a + b) % m + c) % m + d) % m ≡ (a + b + c + d) % m

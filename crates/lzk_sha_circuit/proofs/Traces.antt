@@ -12,7 +12,7 @@ use Rattle.lzk_sha_circuit.specs.Outputs.{w_output, a_output, e_output, f_output
 use Rattle.lzk_sha_circuit.proofs.Numbered.{Numbered, IsBit}
 use Rattle.lzk_sha_circuit.proofs.Held.{Held, held_same}
 use Rattle.lzk_sha_circuit.proofs.Valued.{Valued, valued_plus, word_follows, word_meets}
-use Rattle.lzk_sha_circuit.proofs.Sums.{next_number, first_number, second_number, next_sum_is, first_sum_is, second_sum_is, worth_valued, constant_valued, initial_below}
+use Rattle.lzk_sha_circuit.proofs.WordSums.{next_number, first_number, second_number, next_sum_is, first_sum_is, second_sum_is, worth_valued, constant_valued, initial_below}
 use Rattle.lzk_sha_circuit.proofs.Standard.{last_number}
 
 -- ---- words behind the constant ones are those of the inputs

@@ -15,7 +15,7 @@ entry_more f before old new x i eo en ex =
     en ∙ (λ j. eo j ++ ex j ∷ []) ∙ append_assoc before (map f (range_with_len 0 i)) (f i ∷ [])
     ∙ ap (λ l. before ++ l) (sym (map-range_with_len_more f 0 i i (omega arith)))
 
-range_more : (a n j : ℕ) → a + n ≡ j → range_with_len a (n + 1) ≡ range_with_len a n ++ j ∷ []
+pub range_more : (a n j : ℕ) → a + n ≡ j → range_with_len a (n + 1) ≡ range_with_len a n ++ j ∷ []
 range_more a n j e =
     sym (map-id (range_with_len a (n + 1))) ∙ map-range_with_len_more (λ (x : ℕ). x) a n j e ∙ ap (λ l. l ++ j ∷ []) (map-id (range_with_len a n))
 
@@ -44,3 +44,10 @@ padded_is m block new bytes i count le ei eb en ey ec =
     let size : count ≡ length m * 8 % 2 ^ 64 = omega arith in
     en ∙ (λ j. eb j ++ ey j) ∙ append_assoc m (0x80 ∷ replicate (i - length m) 0) (to_be_bytes w64 count)
     ∙ (λ j. m ++ (0x80 ∷ replicate (zeros j) 0 ++ to_be_bytes w64 (size j)))
+
+-- one piece behind another
+pub more_of : {X : Type 0} (p q r a b : List X) → q ≡ p ++ a → r ≡ q ++ b → r ≡ p ++ (a ++ b)
+more_of p q r a b eq er = er ∙ ap (λ l. l ++ b) eq ∙ append_assoc p a b
+
+pub from_none : {X : Type 0} (p q a : List X) → p ≡ [] → q ≡ p ++ a → q ≡ a
+from_none p q a ep eq = eq ∙ ap (λ l. l ++ a) ep

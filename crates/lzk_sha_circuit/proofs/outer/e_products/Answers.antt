@@ -1,0 +1,16 @@
+use Rattle.std.proofs.Common.{◌≡◌, ℕ, ◌+◌, ◌-◌, ◌*◌, ◌^◌, ◌++◌, ◌∷◌, [], ◌∙◌, ap, arith, slice_index, nat_lt, if◌then◌else◌}
+use Rattle.sha2.specs.Sha256.{round_constants, initial_hash_256}
+use Rattle.lzk_goldilocks.specs.Elements.{ops, of_number}
+use Rattle.lzk_sha_circuit.specs.declared.entries.Word.TheVariants.{Schedule, A, E, Bits}
+use Rattle.lzk_sha_circuit.specs.Places.{w_place, a_place, e_place, f_place}
+use Rattle.lzk_sha_circuit.specs.Products.{linear, bilinear, worth_list, or_word_list, ch_word_list, maj_word_list}
+use Rattle.lzk_sha_circuit.specs.Layers.{input_count, wire_entry, word_entry, turned_entry, shifted_entry, carry_list, first_list, e_row}
+use Rattle.lzk_sha_circuit.proofs.Written.{more_of, from_none}
+use Rattle.lzk_sha_circuit.proofs.outer.e_products.Goals as goal
+
+pub returns : goal.returns
+unfolding e_row
+returns c =
+    let len = c.args.len in
+    let t = c.args.t in
+    from_none c.new-products.result.items c.push_carry.new.products.items ((worth_list ops of_number ops.one 32 (word_entry ops of_number len (A t)) ++ (first_list ops of_number len t ++ carry_list ops of_number len (e_place len t) 3))) c.new-products.ensures.items (more_of c.new-products.result.items c.push_worth.new.products.items c.push_carry.new.products.items (worth_list ops of_number ops.one 32 (word_entry ops of_number len (A t))) ((first_list ops of_number len t ++ carry_list ops of_number len (e_place len t) 3)) (c.in_ok-push_worth.ensures ∙ ap (λ x. c.new-products.result.items ++ worth_list ops of_number x 32 (word_entry ops of_number len (A t))) c.one.ensures) (more_of c.push_worth.new.products.items c.push_first.new.products.items c.push_carry.new.products.items (first_list ops of_number len t) (carry_list ops of_number len (e_place len t) 3) c.in_ok-push_first.ensures c.in_ok-push_carry.ensures))

@@ -1,0 +1,38 @@
+use Rattle.std.proofs.Common.{◌≡◌, ◌∙◌, sym, ap, subst, length, ◌/◌, ◌∷◌, [], ◌≢◌, get_or, IfOk}
+use Rattle.lzk_goldilocks.specs.declared.element.Gold.{Gold}
+use Rattle.lzk_sha_circuit.specs.declared.products.Product.{Product}
+use Rattle.std.proofs.lemmas.Result.{IfOk-weaker}
+use Rattle.lzk_goldilocks.specs.Elements.{ops, ring, field}
+use Rattle.lzk_reduce.specs.Rows.{IsRow, row_value, ordered}
+use Rattle.lzk_sha_circuit.specs.Products.{AreWithin, products_value, product_value}
+use Rattle.lzk_sha_circuit.specs.Layers.{one_row}
+use Rattle.lzk_sha_circuit.proofs.RowLaws.{within-split, halves, value-of-one, value-of-halves}
+use Rattle.lzk_sha_circuit.proofs.rows.+row_of.Goals as goal
+
+pub returns-then-products-eq1-clause-value : goal.returns-then-products-eq1-clause-value
+returns-then-products-eq1-clause-value t c below =
+    let p = c.index-products-0.result in
+    IfOk-weaker c.single.result (λ row. row_value ops below row.items ≡ product_value ops below p) (λ row. row_value ops below row.items ≡ products_value ops below c.args.products.now)
+    (λ row e. e ∙ value-of-one ops ring below c.args.products.now p c.if-products-eq1.true c.index-products-0.is) (c.single.ensures.value below)
+
+pub returns-then-products-eq1-clause-one : goal.returns-then-products-eq1-clause-one
+returns-then-products-eq1-clause-one t c e =
+    let p = c.index-products-0.result in
+    let q = c.index-products-0.is ∙ ap (λ l. get_or l 0 p) e in
+    subst (λ (x : Product Gold). x.coef ≢ ops.zero → IfOk c.single.result (λ row. row.items ≡ ordered x.coef x.a x.b ∷ [])) q c.single.ensures.exact field.one_not_zero
+
+pub returns-clause-row : goal.returns-clause-row
+returns-clause-row t c width within =
+    let front = c.split_at.result.0.now in
+    let back = c.split_at.result.1.now in
+    let e = halves (length c.args.products.now / 2) c.args.products.now front back c.split_at.ensures.front c.split_at.ensures.back in
+    let parts = within-split width front back (subst (AreWithin width) e within) in
+    c.merged.ensures.row width (subst (IsRow ops width) (sym c.deref.ensures.value) (c.in_ok-left.ensures.row width parts.0)) (subst (IsRow ops width) (sym c.deref-2.ensures.value) (c.in_ok-right.ensures.row width parts.1))
+
+pub returns-clause-value : goal.returns-clause-value
+returns-clause-value t c below =
+    let front = c.split_at.result.0.now in
+    let back = c.split_at.result.1.now in
+    IfOk-weaker c.merged.result (λ row. row_value ops below row.items ≡ ops.plus (row_value ops below c.deref.result.now) (row_value ops below c.deref-2.result.now)) (λ row. row_value ops below row.items ≡ products_value ops below c.args.products.now)
+    (λ row e. e ∙ value-of-halves ops ring below (length c.args.products.now / 2) c.args.products.now front back (row_value ops below c.deref.result.now) (row_value ops below c.deref-2.result.now) c.split_at.ensures.front c.split_at.ensures.back
+    (ap (row_value ops below) c.deref.ensures.value ∙ c.in_ok-left.ensures.value below) (ap (row_value ops below) c.deref-2.ensures.value ∙ c.in_ok-right.ensures.value below)) (c.merged.ensures.value below)

@@ -1,0 +1,157 @@
+//! Sums over the places of words, as products.
+
+ghost use Rattle.std.specs.Prelude.{◌≡◌, ℕ, ◌+◌, ◌*◌, ◌<◌, ◌≤◌, ◌++◌, OnOk};
+ghost use Rattle.lzk_goldilocks.specs.Elements.{ops, of_number};
+ghost use Rattle.lzk_sha_circuit.specs.Products.{worth_list, or_word_list, ch_word_list, maj_word_list};
+ghost use Rattle.lzk_sha_circuit.specs.Layers.{IsWordOf, IsPlaceOf, IsWhole, word_entry, wire_entry, turned_entry, shifted_entry, carry_list};
+
+use crate::entries::{Word, entry, shifted_entry, turned_entry, wire_entry};
+use crate::products::{Product, linear, power, push_chosen, push_most, push_or};
+use lzk_field::Field;
+use lzk_goldilocks::Gold;
+use std::alloc::AllocError;
+
+// What `count` entries of a word are worth, times a scale.
+pub fn push_worth(
+    len: u32,
+    scale: Gold,
+    word: Word,
+    count: u32,
+    products: &mut Vec<Product<Gold>>,
+) -> Result<(), AllocError>
+    requires few { len ≤ 55 }
+    requires count { count ≤ 32 }
+    requires word { IsWordOf len word }
+    requires places { (i : ℕ) → i < count → IsPlaceOf word i }
+    ensures { OnOk result (products.new.items ≡ products.old.items ++ worth_list ops of_number scale count (word_entry ops of_number len word)) }
+{
+    for i in 0..count {
+        products.push(linear(scale.mul(power(i)), entry(len, word, i)))?;
+    }
+    Ok(())
+}
+
+// What a word is worth that is the exclusive or of 32 wires and a word that is rotated right.
+pub fn push_turned(
+    len: u32,
+    first: u32,
+    word: Word,
+    k: u32,
+    products: &mut Vec<Product<Gold>>,
+) -> Result<(), AllocError>
+    requires few { len ≤ 55 }
+    requires first { first ≤ 65536 }
+    requires word { IsWordOf len word }
+    requires whole { IsWhole word }
+    requires turn { k < 32 }
+    ensures { OnOk result (products.new.items ≡ products.old.items ++ or_word_list ops of_number (λ i. wire_entry ops (first + i)) (turned_entry ops of_number len word k)) }
+{
+    for i in 0..32 {
+        push_or(
+            power(i),
+            wire_entry(first + i),
+            turned_entry(len, word, k, i),
+            products,
+        )?;
+    }
+    Ok(())
+}
+
+// The same of a word that is shifted right.
+pub fn push_shifted(
+    len: u32,
+    first: u32,
+    word: Word,
+    k: u32,
+    products: &mut Vec<Product<Gold>>,
+) -> Result<(), AllocError>
+    requires few { len ≤ 55 }
+    requires first { first ≤ 65536 }
+    requires word { IsWordOf len word }
+    requires whole { IsWhole word }
+    requires turn { k < 32 }
+    ensures { OnOk result (products.new.items ≡ products.old.items ++ or_word_list ops of_number (λ i. wire_entry ops (first + i)) (shifted_entry ops of_number len word k)) }
+{
+    for i in 0..32 {
+        push_or(
+            power(i),
+            wire_entry(first + i),
+            shifted_entry(len, word, k, i),
+            products,
+        )?;
+    }
+    Ok(())
+}
+
+// What Ch of three words is worth.
+pub fn push_ch(
+    len: u32,
+    e: Word,
+    f: Word,
+    g: Word,
+    products: &mut Vec<Product<Gold>>,
+) -> Result<(), AllocError>
+    requires few { len ≤ 55 }
+    requires first { IsWordOf len e }
+    requires first_whole { IsWhole e }
+    requires second { IsWordOf len f }
+    requires second_whole { IsWhole f }
+    requires third { IsWordOf len g }
+    requires third_whole { IsWhole g }
+    ensures { OnOk result (products.new.items ≡ products.old.items ++ ch_word_list ops of_number (word_entry ops of_number len e) (word_entry ops of_number len f) (word_entry ops of_number len g)) }
+{
+    for i in 0..32 {
+        let (e, f, g) = (entry(len, e, i), entry(len, f, i), entry(len, g, i));
+        push_chosen(power(i), e, f, g, products)?;
+    }
+    Ok(())
+}
+
+// What Maj of three words is worth, where 32 wires are the exclusive or of the first two.
+pub fn push_maj(
+    len: u32,
+    x: Word,
+    y: Word,
+    z: Word,
+    first: u32,
+    products: &mut Vec<Product<Gold>>,
+) -> Result<(), AllocError>
+    requires few { len ≤ 55 }
+    requires left { IsWordOf len x }
+    requires left_whole { IsWhole x }
+    requires middle { IsWordOf len y }
+    requires middle_whole { IsWhole y }
+    requires right { IsWordOf len z }
+    requires right_whole { IsWhole z }
+    requires first { first ≤ 65536 }
+    ensures { OnOk result (products.new.items ≡ products.old.items ++ maj_word_list ops of_number (word_entry ops of_number len x) (word_entry ops of_number len y) (word_entry ops of_number len z) (λ i. wire_entry ops (first + i))) }
+{
+    for i in 0..32 {
+        let (x, y, z) = (entry(len, x, i), entry(len, y, i), entry(len, z, i));
+        push_most(power(i), x, y, z, wire_entry(first + i), products)?;
+    }
+    Ok(())
+}
+
+// Less the word that begins at a place, and 2^32 times its carry of so many bits.
+pub fn push_carry(
+    len: u32,
+    place: u32,
+    bits: u32,
+    products: &mut Vec<Product<Gold>>,
+) -> Result<(), AllocError>
+    requires few { len ≤ 55 }
+    requires bits { bits ≤ 3 }
+    requires within { place + 32 + bits ≤ 8 * len + 6376 }
+    ensures { OnOk result (products.new.items ≡ products.old.items ++ carry_list ops of_number len place bits) }
+{
+    let minus = Gold::one().neg();
+    push_worth(len, minus, Word::Bits(place, 32), 32, products)?;
+    push_worth(
+        len,
+        power(32).neg(),
+        Word::Bits(place + 32, bits),
+        bits,
+        products,
+    )
+}
