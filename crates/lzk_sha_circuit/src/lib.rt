@@ -28,6 +28,3 @@ mod words;
 pub use circuit::sha_circuit;
 pub use inputs::{ShaInputs, sha_inputs};
 pub use laws::digest_laws;
-
-#[cfg(test)]
-mod tests;

@@ -35,11 +35,11 @@ pub(crate) fn read_column<F: Field>(params: &Params, rows: &[F], j: u32, out: &m
 }
 
 // Writes the bytes of a word, the lowest first.
-fn set_word<W: Words>(words: &W, i: u64, out: &mut [u8])
+fn set_word(word: u128, out: &mut [u8])
     requires { length out.old ≡ 16 }
-    ensures { out.new ≡ bytes_of 16 (low_words (W.at words.now) i) }
+    ensures { out.new ≡ bytes_of 16 word }
 {
-    out.copy_from_slice(&words.word(i).to_le_bytes());
+    out.copy_from_slice(&word.to_le_bytes());
 }
 
 /// The nonce of column `j`.
@@ -49,10 +49,12 @@ pub(crate) fn column_nonce<W: Words>(params: &Params, words: &W, j: u32) -> [u8;
     ensures { result ≡ nonce_at (low_words (W.at words.now)) params.now j }
 {
     let first = nonces_first(params) + 2 * u64::from(j);
+    let mut pair = [0u128; 2];
+    words.fill(first, &mut pair);
     let mut nonce = [0u8; 32];
     let (low, high) = nonce.split_at_mut(16);
-    set_word(words, first, low);
-    set_word(words, first + 1, high);
+    set_word(pair[0], low);
+    set_word(pair[1], high);
     nonce
 }
 

@@ -1,4 +1,4 @@
-use Rattle.std.proofs.Common.{ℕ, List, [], ◌∙◌, sym, arith}
+use Rattle.std.proofs.Common.{[], ◌∙◌, sym, arith}
 use Rattle.std.proofs.lemmas.List.FromFn.{fill_by_all}
 use Rattle.lzk_merkle.specs.Leaf.{leaf_of}
 use Rattle.lzk_tableau.specs.Filled.{nonce_at, column_in}

@@ -1,9 +1,8 @@
 //! Digests by an independent implementation.
 
-use crate::{ShaInputs, sha_circuit, sha_inputs};
-use lzk_circuit::{Circuit, Values};
 use lzk_field::Field;
 use lzk_goldilocks::Gold;
+use lzk_sha_circuit::sha_inputs;
 use std::alloc::{AllocError, Global};
 use std::test::Fail;
 
@@ -130,61 +129,5 @@ fn message_comes_first(rt: HostRuntime) -> Result<(), Fail> {
     let expected = elements(rt.alloc(), &ABC)?;
     assert!(rt; inputs.private.len() == 6_400);
     assert!(rt; &inputs.private.as_slice()[..24] == expected.as_slice());
-    Ok(())
-}
-
-// Whether the inputs satisfy the circuit.
-fn satisfies(
-    alloc: Global,
-    circuit: &Circuit<Gold>,
-    inputs: &ShaInputs,
-) -> Result<bool, AllocError> {
-    let (public, private) = (&inputs.public, &inputs.private);
-    if public.len() != circuit.publics() as usize || private.len() != circuit.privates() as usize {
-        return Ok(false);
-    }
-    let mut values = Values::new(alloc, circuit)?;
-    circuit.eval(public, private, &mut values);
-    Ok(values.first_nonzero() == None)
-}
-
-// Whether a message's inputs satisfy its circuit, and no longer where one of them is raised by 1.
-fn is_satisfied(alloc: Global, message: &[u8], changed: &[usize]) -> Result<bool, AllocError> {
-    if message.len() > 55 {
-        return Ok(false);
-    }
-    let circuit = sha_circuit(alloc, message.len() as u32)?;
-    let mut inputs = sha_inputs(alloc, message)?;
-    if !satisfies(alloc, &circuit, &inputs)? {
-        return Ok(false);
-    }
-    for j in changed {
-        if *j >= inputs.private.len() {
-            return Ok(false);
-        }
-        let right = inputs.private[*j];
-        inputs.private[*j] = right.add(Gold::one());
-        if satisfies(alloc, &circuit, &inputs)? {
-            return Ok(false);
-        }
-        inputs.private[*j] = Gold::one().sub(right);
-        if satisfies(alloc, &circuit, &inputs)? {
-            return Ok(false);
-        }
-        inputs.private[*j] = right;
-    }
-    Ok(true)
-}
-
-#[test]
-fn right_inputs_alone_satisfy(rt: HostRuntime) -> Result<(), Fail> {
-    assert!(rt;
-        is_satisfied(
-            rt.alloc(),
-            b"abc",
-            &[0, 23, 24, 57, 1_655, 1_656, 6_135, 6_136, 6_399]
-        )?
-    );
-    assert!(rt; is_satisfied(rt.alloc(), b"", &[0, 6_375])?);
     Ok(())
 }
