@@ -1,23 +1,21 @@
 -- The outputs of the two layers are those of the definition.
-use Rattle.std.specs.Prelude.{◌≡◌, ℕ, ◌+◌, ◌-◌, ◌*◌, ◌%◌, ◌<◌, ◌≤◌, List, [], ◌∷◌, ◌++◌, length, map, slice_index_or}
+use Rattle.std.specs.Prelude.{◌≡◌, ℕ, ◌+◌, ◌-◌, ◌*◌, ◌%◌, ◌<◌, ◌≤◌, List, [], ◌∷◌, ◌++◌, length, map}
 use Rattle.std.specs.List.{range_with_len, flat_map}
-use Rattle.std.proofs.Common.{zero, suc, refl, sym, ap, ◌∙◌, arith, subst, ext_get_or, length-append}
+use Rattle.std.proofs.Common.{zero, suc, refl, sym, ap, ◌∙◌, arith, ext_get_or, length-append}
 use Rattle.std.proofs.lemmas.List.{map-append, length-map, get_or-map}
 use Rattle.std.proofs.lemmas.List.FromFn.{length-map-range_with_len, get_or-map-range_with_len}
 use Rattle.lzk_field.specs.Ring.{Ops, RingLaws}
 use Rattle.lzk_field.specs.Sums.{entry}
 use Rattle.lzk_field.proofs.RingBasics.{one_times}
 use Rattle.lzk_circuit.specs.declared.layer.Term.{Term}
-use Rattle.lzk_circuit.specs.declared.layer.Layer.{Layer}
-use Rattle.lzk_circuit.specs.Wires.{coef, wire, inputs_of, layer_values, wires_of}
-use Rattle.lzk_sha_circuit.specs.declared.products.Product.{Product}
+use Rattle.lzk_circuit.specs.Wires.{coef, wire, inputs_of, wires_of}
 use Rattle.lzk_sha_circuit.specs.declared.entries.Word.{Word}
-use Rattle.lzk_sha_circuit.specs.declared.entries.Word.TheVariants.{Schedule, A, E, Bits}
+use Rattle.lzk_sha_circuit.specs.declared.entries.Word.TheVariants.{Schedule, A, E}
 use Rattle.lzk_sha_circuit.specs.Words.{exclusive_or, rotated}
 use Rattle.lzk_sha_circuit.specs.Places.{private_count, schedule_word, a_word, e_word}
 use Rattle.lzk_sha_circuit.specs.Outputs.{w_output, a_output, e_output, f_output, digest_output, bit_output, sha_outputs}
 use Rattle.lzk_sha_circuit.specs.Products.{products_value, or_list, entry_value}
-use Rattle.lzk_sha_circuit.specs.Layers.{row_at, IsBuilt, input_count, inner_count, IsWordOf, IsWhole, turned_entry, pass_row, inner_rows, output_rows, bit_row, w_row, a_row, e_row, f_row, digest_row, or_place_w, or_place_round}
+use Rattle.lzk_sha_circuit.specs.Layers.{row_at, IsBuilt, input_count, inner_count, IsWordOf, IsWhole, turned_entry, inner_rows, output_rows, bit_row, w_row, a_row, e_row, f_row, digest_row, or_place_w, or_place_round}
 use Rattle.lzk_sha_circuit.proofs.Chunks.{length-range_chunks}
 use Rattle.lzk_sha_circuit.proofs.RowValues.{or_value}
 use Rattle.lzk_sha_circuit.proofs.EntryValues.{word_of, turned_value, w_row_value, a_row_value, e_row_value, f_row_value, digest_row_value, bit_row_value}

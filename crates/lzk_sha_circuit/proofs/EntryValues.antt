@@ -1,10 +1,10 @@
 -- What the entries of words and the rows of the outputs count, over the values of the inner layer.
 use Rattle.std.specs.Prelude.{◌≡◌, ℕ, ◌+◌, ◌-◌, ◌*◌, ◌/◌, ◌%◌, ◌^◌, ◌<◌, ◌≤◌, nat_lt, if◌then◌else◌, Bool, true, false, List, [], ◌∷◌, ◌++◌, length, slice_index}
 use Rattle.std.specs.Int.{bit_at}
-use Rattle.std.proofs.Common.{zero, suc, inl, inr, refl, sym, ap, ◌∙◌, arith, subst, get_or-append-add}
+use Rattle.std.proofs.Common.{suc, refl, ap, ◌∙◌, arith, get_or-append-add}
 use Rattle.std.proofs.lemmas.List.{get_or_append_left}
 use Rattle.lzk_field.specs.Ring.{Ops, RingLaws}
-use Rattle.lzk_field.specs.Sums.{entry, minus}
+use Rattle.lzk_field.specs.Sums.{entry}
 use Rattle.lzk_field.proofs.RingBasics.{one_times}
 use Rattle.lzk_field.proofs.Solve.{var, unit, ◌⊞◌, ◌⊟◌, ◌⊠◌, opp, null, solve}
 use Rattle.lzk_circuit.specs.Wires.{inputs_of}
@@ -13,10 +13,10 @@ use Rattle.lzk_sha_circuit.specs.declared.products.Product.{Product}
 use Rattle.lzk_sha_circuit.specs.declared.products.Entry.{Entry}
 use Rattle.lzk_sha_circuit.specs.declared.entries.Word.{Word}
 use Rattle.lzk_sha_circuit.specs.declared.entries.Word.TheVariants.{Schedule, A, E, Bits}
-use Rattle.lzk_sha_circuit.specs.Words.{worth, constant, rotated, shifted, exclusive_or, three_or, chosen, most, ch, maj, big_sigma0, big_sigma1, small_sigma0, small_sigma1}
+use Rattle.lzk_sha_circuit.specs.Words.{worth, constant, rotated, shifted, exclusive_or, ch, maj, big_sigma0, big_sigma1, small_sigma0, small_sigma1}
 use Rattle.lzk_sha_circuit.specs.Places.{bits_from, block_bit, schedule_word, a_word, e_word, last_word, final_word, w_place, a_place, e_place, f_place}
-use Rattle.lzk_sha_circuit.specs.Outputs.{with_carry, next_sum, first_sum, second_sum, w_output, a_output, e_output, f_output, digest_output, bit_output}
-use Rattle.lzk_sha_circuit.specs.Products.{product_value, products_value, entry_value, linear, bilinear, worth_list, or_word_list, ch_word_list, maj_word_list}
+use Rattle.lzk_sha_circuit.specs.Outputs.{with_carry, first_sum, w_output, a_output, e_output, f_output, digest_output, bit_output}
+use Rattle.lzk_sha_circuit.specs.Products.{product_value, products_value, entry_value, linear, worth_list, or_word_list, ch_word_list, maj_word_list}
 use Rattle.lzk_sha_circuit.specs.Layers.{input_count, IsWordOf, IsPlaceOf, IsWhole, wire_entry, constant_entry, block_entry, bits_entry, word_entry, turned_entry, shifted_entry, or_entry, or_place_w, or_place_round, carry_list, bit_row, w_row, first_list, a_row, e_row, last_word_of, f_row, digest_row}
 use Rattle.lzk_sha_circuit.proofs.RowLaws.{value-append}
 use Rattle.lzk_sha_circuit.proofs.RowValues.{worth_value, or_word_value, ch_word_value, maj_word_value}

@@ -1,7 +1,7 @@
 -- Layers that grow by rows.
 use Rattle.std.specs.Prelude.{◌≡◌, ℕ, ◌+◌, ◌<◌, ◌≤◌, None, List, [], ◌∷◌, ◌++◌, length, map, Result, Ok, Err, IfOk, OnOk}
 use Rattle.std.specs.List.{range_with_len, flat_map}
-use Rattle.std.proofs.Common.{zero, suc, inl, inr, refl, sym, ap, ◌∙◌, arith, subst, append_assoc, append-nil, length-append}
+use Rattle.std.proofs.Common.{inl, inr, refl, sym, ap, ◌∙◌, arith, subst, append_assoc, append-nil, length-append}
 use Rattle.std.proofs.lemmas.List.{get_or_append_left, get_or_push}
 use Rattle.std.proofs.lemmas.Bool.{cases_lt}
 use Rattle.std.proofs.lemmas.List.FromFn.{map-range_with_len_more}
@@ -10,7 +10,6 @@ use Rattle.lzk_circuit.specs.declared.layer.Term.{Term}
 use Rattle.lzk_circuit.specs.Valid.{AreTerms}
 use Rattle.lzk_circuit.specs.Wires.{coef, wire}
 use Rattle.lzk_reduce.specs.Rows.{IsRow, row_value, placed, ordered}
-use Rattle.lzk_reduce.specs.Renumbering.{of_wire}
 use Rattle.lzk_reduce.specs.Reduced.{terms_of}
 use Rattle.lzk_reduce.proofs.KeptLaws.{own-before}
 use Rattle.lzk_sha_circuit.specs.declared.products.Product.{Product}

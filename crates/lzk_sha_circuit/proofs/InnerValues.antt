@@ -1,25 +1,17 @@
 -- What the wires of the inner layer count: the inputs, and the exclusive ors behind them.
-use Rattle.std.specs.Prelude.{◌≡◌, ℕ, ◌+◌, ◌-◌, ◌*◌, ◌%◌, ◌<◌, ◌≤◌, List, [], ◌∷◌, ◌++◌, length, map}
+use Rattle.std.specs.Prelude.{◌≡◌, ℕ, ◌+◌, ◌-◌, ◌*◌, ◌<◌, ◌≤◌, List, [], ◌++◌, length, map}
 use Rattle.std.specs.List.{range_with_len, flat_map}
-use Rattle.std.proofs.Common.{zero, suc, refl, sym, ap, ◌∙◌, arith, subst, get_or-append-add, length-append}
+use Rattle.std.proofs.Common.{sym, ap, ◌∙◌, arith, get_or-append-add, length-append}
 use Rattle.std.proofs.lemmas.List.{get_or_append_left}
 use Rattle.std.proofs.lemmas.List.FromFn.{length-map-range_with_len, get_or-map-range_with_len}
-use Rattle.lzk_field.specs.Ring.{Ops, RingLaws}
-use Rattle.lzk_field.specs.Sums.{entry}
-use Rattle.lzk_field.proofs.RingBasics.{one_times}
-use Rattle.lzk_circuit.specs.declared.layer.Term.{Term}
-use Rattle.lzk_circuit.specs.Wires.{coef, wire, inputs_of}
+use Rattle.lzk_field.specs.Ring.{Ops}
 use Rattle.lzk_sha_circuit.specs.declared.products.Product.{Product}
 use Rattle.lzk_sha_circuit.specs.declared.entries.Word.{Word}
-use Rattle.lzk_sha_circuit.specs.declared.entries.Word.TheVariants.{Schedule, A, E, Bits}
-use Rattle.lzk_sha_circuit.specs.Words.{exclusive_or, rotated}
-use Rattle.lzk_sha_circuit.specs.Places.{private_count}
-use Rattle.lzk_sha_circuit.specs.Products.{products_value, entry_value, or_list}
-use Rattle.lzk_sha_circuit.specs.Layers.{row_at, IsBuilt, input_count, inner_count, IsWordOf, IsWhole, turned_entry, pass_row, pair_rows, schedule_pairs, round_pairs, inner_rows, or_place_w, or_place_round}
+use Rattle.lzk_sha_circuit.specs.declared.entries.Word.TheVariants.{Schedule, A, E}
+use Rattle.lzk_sha_circuit.specs.Products.{or_list}
+use Rattle.lzk_sha_circuit.specs.Layers.{row_at, input_count, inner_count, turned_entry, pass_row, pair_rows, schedule_pairs, round_pairs, inner_rows, or_place_w, or_place_round}
 use Rattle.lzk_sha_circuit.proofs.Chunks.{range_entry, length-range_chunks}
 use Rattle.lzk_sha_circuit.proofs.Within.{length-pair_rows, length-schedule_pairs, length-round_pairs}
-use Rattle.lzk_sha_circuit.proofs.RowValues.{or_value}
-use Rattle.lzk_sha_circuit.proofs.EntryValues.{word_of, turned_value}
 
 module _ {X : Type 0} (o : Ops X) (element : ℕ → X) (len : ℕ) where
   pairs_part : List (List (Product X))

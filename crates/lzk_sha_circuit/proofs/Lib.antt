@@ -25,3 +25,4 @@ pub mod InnerValues
 pub mod CircuitValues
 pub mod Sizes
 pub mod CircuitLaws
+pub mod SomeCircuits

@@ -1,9 +1,9 @@
 -- How many products the rows of the two layers have.
-use Rattle.std.specs.Prelude.{◌≡◌, ℕ, ◌+◌, ◌-◌, ◌*◌, ◌^◌, ◌≤◌, nat_lt, if◌then◌else◌, List, [], ◌∷◌, ◌++◌, length, map, slice_index}
+use Rattle.std.specs.Prelude.{◌≡◌, ℕ, ◌+◌, ◌-◌, ◌*◌, ◌^◌, List, [], ◌∷◌, ◌++◌, length, map, slice_index}
 use Rattle.std.specs.List.{range_with_len, flat_map}
-use Rattle.std.proofs.Common.{zero, suc, refl, sym, ap, ◌∙◌, arith, mul-suc, mul-zero, length-append}
+use Rattle.std.proofs.Common.{zero, suc, refl, sym, arith, mul-suc, mul-zero, length-append}
 use Rattle.lzk_field.specs.Ring.{Ops}
-use Rattle.sha2.specs.Sha256.{round_constants, initial_hash_256}
+use Rattle.sha2.specs.Sha256.{round_constants}
 use Rattle.lzk_sha_circuit.specs.declared.products.Product.{Product}
 use Rattle.lzk_sha_circuit.specs.declared.products.Entry.{Entry}
 use Rattle.lzk_sha_circuit.specs.declared.entries.Word.{Word}

@@ -1,7 +1,7 @@
 -- The rows name wires of the layer below.
-use Rattle.std.specs.Prelude.{◌≡◌, ℕ, ◌+◌, ◌-◌, ◌*◌, ◌/◌, ◌%◌, ◌^◌, ◌<◌, ◌≤◌, nat_lt, if◌then◌else◌, Bool, true, false, List, [], ◌∷◌, ◌++◌, length, map, slice_index}
+use Rattle.std.specs.Prelude.{◌≡◌, ℕ, ◌+◌, ◌-◌, ◌*◌, ◌/◌, ◌%◌, ◌^◌, ◌<◌, ◌≤◌, nat_lt, if◌then◌else◌, Bool, true, false, List, [], ◌∷◌, ◌++◌, length, slice_index}
 use Rattle.std.specs.List.{range_with_len, flat_map}
-use Rattle.std.proofs.Common.{zero, suc, inl, inr, refl, sym, ap, ◌∙◌, arith, subst, lt-ltb, le-ltb, length-append}
+use Rattle.std.proofs.Common.{zero, suc, inl, inr, refl, ap, ◌∙◌, arith, lt-ltb, le-ltb, length-append}
 use Rattle.std.proofs.lemmas.Bool.{cases_lt}
 use Rattle.std.proofs.lemmas.List.FromFn.{length-map-range_with_len}
 use Rattle.lzk_field.specs.Ring.{Ops}
@@ -11,7 +11,7 @@ use Rattle.lzk_sha_circuit.specs.declared.products.Entry.{Entry}
 use Rattle.lzk_sha_circuit.specs.declared.entries.Word.{Word}
 use Rattle.lzk_sha_circuit.specs.declared.entries.Word.TheVariants.{Schedule, A, E, Bits}
 use Rattle.lzk_sha_circuit.specs.Places.{w_place, a_place, e_place, f_place}
-use Rattle.lzk_sha_circuit.specs.Products.{AreWithin, linear, bilinear, or_list, chosen_list, most_list, worth_list, or_word_list, ch_word_list, maj_word_list}
+use Rattle.lzk_sha_circuit.specs.Products.{AreWithin, linear, or_list, chosen_list, most_list, worth_list, or_word_list, ch_word_list, maj_word_list}
 use Rattle.lzk_sha_circuit.specs.Layers.{input_count, inner_count, IsWordOf, IsPlaceOf, IsWhole, wire_entry, constant_entry, block_entry, bits_entry, word_entry, turned_entry, shifted_entry, or_entry, or_place_w, or_place_round, pair_rows, schedule_pairs, round_pairs, carry_list, bit_row, w_row, first_list, a_row, e_row, last_word_of, f_row, digest_row}
 use Rattle.lzk_sha_circuit.proofs.RowLaws.{within-append}
 

@@ -1,3 +1,4 @@
+pub mod Circuits
 pub mod Digest
 pub mod Inputs
 pub mod Layers

@@ -7,7 +7,7 @@ ghost use Rattle.sha2.specs.Sha256.{schedule, round, rounds, initial_hash_256};
 ghost use Rattle.lzk_sha_circuit.specs.Places.{private_count};
 ghost use Rattle.lzk_sha_circuit.specs.Outputs.{AreSatisfying};
 ghost use Rattle.lzk_sha_circuit.specs.Digest.{HaveDigest};
-ghost use Rattle.lzk_sha_circuit.specs.Inputs.{next_total, bit_list, schedule_list, round_list, rounds_list, final_list};
+ghost use Rattle.lzk_sha_circuit.specs.Inputs.{next_total, bit_list, schedule_list, round_list, rounds_list, final_list, sha_private};
 
 use crate::bits::{write_bits, write_sum};
 use crate::constants::{INITIAL_HASH, ROUND_CONSTANTS};
@@ -127,6 +127,7 @@ pub fn sha_inputs(alloc: Global, message: &[u8]) -> Result<ShaInputs, AllocError
     ensures privates { IfOk result (λ inputs. length inputs.private.items ≡ private_count (length message.now)) }
     ensures satisfying { IfOk result (λ inputs. AreSatisfying ops of_number (length message.now) inputs.public.items inputs.private.items) }
     ensures digest { IfOk result (λ inputs. HaveDigest of_number inputs.public.items inputs.private.items message.now) }
+    ensures exact { IfOk result (λ inputs. inputs.private.items ≡ sha_private of_number message.now) }
 {
     let block = padded(alloc, message)?;
     let mut private = Vec::new(alloc);

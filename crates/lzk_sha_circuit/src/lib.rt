@@ -27,4 +27,4 @@ mod words;
 
 pub use circuit::sha_circuit;
 pub use inputs::{ShaInputs, sha_inputs};
-pub use laws::digest_laws;
+pub use laws::{circuit_laws, digest_laws};

@@ -1,4 +1,4 @@
-use Rattle.std.proofs.Common.{◌≡◌, ◌*◌, ◌+◌, ◌≤◌, ◌∷◌, ◌++◌, ◌∙◌, List, ap, sym, subst, length, arith, rules, length-append}
+use Rattle.std.proofs.Common.{◌≡◌, ◌*◌, ◌+◌, ◌≤◌, ◌∙◌, List, ap, sym, subst, length, arith, rules, length-append}
 use Rattle.lzk_circuit.specs.declared.layer.Layer.{Layer}
 use Rattle.lzk_circuit.specs.Valid.{AreLayers, Wiring}
 use Rattle.lzk_circuit.specs.Wires.{inputs_of, wires_of}

@@ -1,4 +1,4 @@
-use Rattle.std.proofs.Common.{◌≡◌, ◌+◌, ◌-◌, ◌*◌, ℕ, ap, sym, arith, length}
+use Rattle.std.proofs.Common.{◌+◌, ◌-◌, ◌*◌, ap, sym}
 use Rattle.lzk_goldilocks.specs.Elements.{ops, of_number}
 use Rattle.lzk_sha_circuit.specs.declared.entries.Word.TheVariants.{Schedule}
 use Rattle.lzk_sha_circuit.specs.Layers.{input_count, pair_rows, schedule_pairs}

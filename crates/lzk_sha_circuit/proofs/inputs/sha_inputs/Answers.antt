@@ -42,3 +42,6 @@ returns-clause-digest c =
     subst (λ (l : List Gold). HaveDigest of_number c.in_ok-public.public.items l m) (sym (private_items c))
     (subst (λ (l : List Gold). HaveDigest of_number l (sha_private of_number m) m) (sym (public_items c))
     (has_digest ops of_number p gold_numbered m c.requires (λ k lt. omega (arith, c.type_inv.message k))))
+
+pub returns-clause-exact : goal.returns-clause-exact
+returns-clause-exact c = private_items c

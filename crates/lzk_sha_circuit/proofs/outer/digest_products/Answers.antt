@@ -1,10 +1,9 @@
-use Rattle.std.proofs.Common.{◌≡◌, ℕ, ◌+◌, ◌-◌, ◌*◌, ◌^◌, ◌++◌, ◌∷◌, [], ◌∙◌, ap, arith, slice_index, nat_lt, if◌then◌else◌}
-use Rattle.sha2.specs.Sha256.{round_constants, initial_hash_256}
+use Rattle.std.proofs.Common.{◌≡◌, ◌+◌, ◌++◌, ◌∷◌, [], ◌∙◌, ap}
 use Rattle.lzk_goldilocks.specs.Elements.{ops, of_number}
-use Rattle.lzk_sha_circuit.specs.declared.entries.Word.TheVariants.{Schedule, A, E, Bits}
-use Rattle.lzk_sha_circuit.specs.Places.{w_place, a_place, e_place, f_place}
-use Rattle.lzk_sha_circuit.specs.Products.{linear, bilinear, worth_list, or_word_list, ch_word_list, maj_word_list}
-use Rattle.lzk_sha_circuit.specs.Layers.{input_count, wire_entry, word_entry, turned_entry, shifted_entry, carry_list, digest_row}
+use Rattle.lzk_sha_circuit.specs.declared.entries.Word.TheVariants.{Bits}
+use Rattle.lzk_sha_circuit.specs.Places.{f_place}
+use Rattle.lzk_sha_circuit.specs.Products.{linear, worth_list}
+use Rattle.lzk_sha_circuit.specs.Layers.{wire_entry, word_entry, digest_row}
 use Rattle.lzk_sha_circuit.proofs.Written.{more_of, from_none}
 use Rattle.lzk_sha_circuit.proofs.outer.digest_products.Goals as goal
 

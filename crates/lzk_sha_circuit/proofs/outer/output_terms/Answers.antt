@@ -1,10 +1,7 @@
-use Rattle.std.proofs.Common.{◌≡◌, ◌+◌, ◌-◌, ◌*◌, ◌++◌, ◌∷◌, [], ◌∙◌, ℕ, List, ap, sym, map, arith, length, subst, refl}
+use Rattle.std.proofs.Common.{◌≡◌, ◌+◌, ◌-◌, ◌*◌, ◌++◌, ◌∷◌, [], ◌∙◌, ℕ, map, arith, length, subst, refl}
 use Rattle.std.specs.List.{range_with_len, flat_map}
 use Rattle.std.proofs.lemmas.List.FromFn.{length-map-range_with_len}
 use Rattle.lzk_goldilocks.specs.Elements.{ops, of_number}
-use Rattle.lzk_goldilocks.specs.declared.element.Gold.{Gold}
-use Rattle.lzk_sha_circuit.specs.declared.products.Product.{Product}
-use Rattle.lzk_sha_circuit.specs.Products.{AreWithin}
 use Rattle.lzk_sha_circuit.specs.Layers.{Grows, inner_count, bit_row, w_row, a_row, e_row, f_row, digest_row, output_rows}
 use Rattle.lzk_sha_circuit.proofs.Chunks.{length-range_chunks}
 use Rattle.lzk_sha_circuit.proofs.Growth.{grows_none, grows_two, row_more, rows_more, built_from, pushed}

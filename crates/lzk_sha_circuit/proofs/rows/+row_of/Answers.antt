@@ -5,7 +5,6 @@ use Rattle.std.proofs.lemmas.Result.{IfOk-weaker}
 use Rattle.lzk_goldilocks.specs.Elements.{ops, ring, field}
 use Rattle.lzk_reduce.specs.Rows.{IsRow, row_value, ordered}
 use Rattle.lzk_sha_circuit.specs.Products.{AreWithin, products_value, product_value}
-use Rattle.lzk_sha_circuit.specs.Layers.{one_row}
 use Rattle.lzk_sha_circuit.proofs.RowLaws.{within-split, halves, value-of-one, value-of-halves}
 use Rattle.lzk_sha_circuit.proofs.rows.+row_of.Goals as goal
 

@@ -1,4 +1,4 @@
-use Rattle.std.proofs.Common.{◌≡◌, ◌≤◌, ◌∙◌, ◌∷◌, [], List, ap, subst, sym, length, arith}
+use Rattle.std.proofs.Common.{◌∙◌, List, ap, subst, sym, length, arith}
 use Rattle.lzk_circuit.specs.declared.layer.Term.{Term}
 use Rattle.lzk_goldilocks.specs.Elements.{ops}
 use Rattle.lzk_goldilocks.specs.declared.element.Gold.{Gold}

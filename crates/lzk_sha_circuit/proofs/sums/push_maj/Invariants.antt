@@ -1,8 +1,8 @@
-use Rattle.std.proofs.Common.{◌≡◌, ◌+◌, ◌^◌, ◌++◌, ◌∷◌, []}
+use Rattle.std.proofs.Common.{◌≡◌, ◌+◌, ◌^◌, ◌++◌}
 use Rattle.std.specs.List.{range_with_len, flat_map}
 use Rattle.lzk_goldilocks.specs.Elements.{ops, of_number}
-use Rattle.lzk_sha_circuit.specs.Products.{linear, or_list, chosen_list, most_list}
-use Rattle.lzk_sha_circuit.specs.Layers.{word_entry, wire_entry, turned_entry, shifted_entry}
+use Rattle.lzk_sha_circuit.specs.Products.{most_list}
+use Rattle.lzk_sha_circuit.specs.Layers.{word_entry, wire_entry}
 use Rattle.lzk_sha_circuit.proofs.sums.push_maj.Given as goal
 
 abbrev pub invariant-loop-i : goal.invariant-loop-i

@@ -1,8 +1,8 @@
-use Rattle.std.proofs.Common.{◌≡◌, ◌+◌, ◌^◌, ◌++◌, ◌∷◌, [], ◌∙◌, ℕ, ap, arith}
+use Rattle.std.proofs.Common.{◌≡◌, ◌+◌, ◌^◌, ◌++◌, ◌∙◌, ℕ, ap, arith}
 use Rattle.std.specs.List.{range_with_len, flat_map}
 use Rattle.lzk_goldilocks.specs.Elements.{ops, of_number}
-use Rattle.lzk_sha_circuit.specs.Products.{linear, or_list, chosen_list, most_list, or_word_list}
-use Rattle.lzk_sha_circuit.specs.Layers.{word_entry, wire_entry, turned_entry, shifted_entry}
+use Rattle.lzk_sha_circuit.specs.Products.{or_list, or_word_list}
+use Rattle.lzk_sha_circuit.specs.Layers.{wire_entry, shifted_entry}
 use Rattle.lzk_sha_circuit.proofs.Written.{chunk_more}
 use Rattle.lzk_sha_circuit.proofs.sums.push_shifted.Goals as goal
 

@@ -1,0 +1,169 @@
+-- There is a circuit for messages of each number of bytes.
+use Rattle.std.specs.Prelude.{◌≡◌, ℕ, ◌+◌, ◌-◌, ◌*◌, ◌<◌, ◌≤◌, List, [], ◌∷◌, ◌++◌, length, map, Result, Ok}
+use Rattle.std.specs.List.{range_with_len, flat_map}
+use Rattle.std.proofs.Common.{zero, suc, refl, ap, ap₂, ◌∙◌, arith, subst, length-append}
+use Rattle.std.proofs.lemmas.List.{length-map}
+use Rattle.lzk_field.specs.Ring.{Ops, RingLaws, FieldLaws}
+use Rattle.lzk_goldilocks.specs.Prime.{p}
+use Rattle.lzk_goldilocks.specs.Elements as gold
+use Rattle.lzk_goldilocks.specs.declared.element.Gold.{Gold}
+use Rattle.lzk_circuit.specs.declared.layer.Layer.{Layer}
+use Rattle.lzk_circuit.specs.declared.layer.Term.{Term}
+use Rattle.lzk_circuit.specs.Valid.{IsValid, AreLayers, wiring}
+use Rattle.lzk_circuit.specs.Wires.{inputs_of}
+use Rattle.lzk_reduce.specs.Rows.{row_value, ordered, placed}
+use Rattle.lzk_reduce.proofs.AppendLaws.{stacked-terms, stacked-before, stacked-added}
+use Rattle.lzk_reduce.proofs.EachReduced.{some_reduced}
+use Rattle.lzk_reduce.proofs.NormalLaws.{ZeroOrNot, zero_or_not, AreOfRow, ordered-of-row, ordered-value, normal}
+use Rattle.lzk_sha_circuit.specs.declared.products.Product.{Product}
+use Rattle.lzk_sha_circuit.specs.declared.entries.Word.{Word}
+use Rattle.lzk_sha_circuit.specs.declared.entries.Word.TheVariants.{Schedule, A, E}
+use Rattle.lzk_sha_circuit.specs.Circuits.{SomeShaCircuit}
+use Rattle.lzk_sha_circuit.specs.Products.{AreWithin, products_value, or_list}
+use Rattle.lzk_sha_circuit.specs.Layers.{IsBuilt, Grows, IsWordOf, IsWhole, input_count, inner_count, turned_entry, pass_row, pair_rows, schedule_pairs, round_pairs, inner_rows, bit_row, w_row, a_row, e_row, f_row, digest_row, output_rows}
+use Rattle.lzk_sha_circuit.proofs.CircuitLaws.{two_layers, layers_valid, layers_ones}
+use Rattle.lzk_sha_circuit.proofs.CircuitValues.{outputs_are}
+use Rattle.lzk_sha_circuit.proofs.Growth.{grown, grows_none, grows_two, built_from}
+use Rattle.lzk_sha_circuit.proofs.Within.{or_within, turned_within, bit_row_within, w_row_within, a_row_within, e_row_within, f_row_within, digest_row_within}
+
+-- ---- rows whose products name wires of so many
+module _ {X : Type 0} (width : ℕ) where
+  abbrev AreAllWithin : List (List (Product X)) → Type 0
+  AreAllWithin [] = Unit {0}
+  AreAllWithin (ps ∷ rows) = AreWithin width ps × AreAllWithin rows
+
+  all-append : (rows more : List (List (Product X))) → AreAllWithin rows → AreAllWithin more → AreAllWithin (rows ++ more)
+  all-append [] more h k = k
+  all-append (ps ∷ rows) more h k = (h.0, all-append rows more h.1 k)
+
+  all-each : (f : ℕ → List (Product X)) (n a : ℕ) → ((i : ℕ) → a ≤ i → i < a + n → AreWithin width (f i)) → AreAllWithin (map f (range_with_len a n))
+  all-each f zero a h = tt
+  all-each f (suc n) a h = (h a (omega arith) (omega arith), all-each f n (a + 1) (λ i le lt. h i (omega (arith, le)) (omega (arith, lt))))
+
+  all-chunks : (f : ℕ → List (List (Product X))) (n a : ℕ) → ((i : ℕ) → a ≤ i → i < a + n → AreAllWithin (f i)) → AreAllWithin (flat_map f (range_with_len a n))
+  all-chunks f zero a h = tt
+  all-chunks f (suc n) a h = all-append (f a) (flat_map f (range_with_len (a + 1) n)) (h a (omega arith) (omega arith)) (all-chunks f n (a + 1) (λ i le lt. h i (omega (arith, le)) (omega (arith, lt))))
+
+-- ---- a layer of such rows
+module _ {X : Type 0} (o : Ops X) (r : RingLaws o) (f : FieldLaws o) (decide : ZeroOrNot o) where
+  abbrev product_terms : List (Product X) → List (Term X)
+  product_terms [] = []
+  product_terms (p ∷ ps) = ordered p.coef p.a p.b ∷ product_terms ps
+
+  terms-of-row : (width : ℕ) (ps : List (Product X)) → AreWithin width ps → AreOfRow width (product_terms ps)
+  terms-of-row width [] h = tt
+  terms-of-row width (p ∷ ps) h = (ordered-of-row width p.coef p.a p.b h.0 h.1, terms-of-row width ps h.2)
+
+  terms-value : (below : List X) (ps : List (Product X)) → row_value o below (product_terms ps) ≡ products_value o below ps
+  terms-value below [] = refl
+  terms-value below (p ∷ ps) = ap₂ o.plus (ordered-value o r decide below p.coef p.a p.b) (terms-value below ps)
+
+  terms-length : (ps : List (Product X)) → length (product_terms ps) ≡ length ps
+  terms-length [] = refl
+  terms-length (p ∷ ps) = ap suc (terms-length ps)
+
+  one_grown : (wires : ℕ) (ps : List (Product X)) (old : List (Term X)) → (new : List (Term X)) × ((width : ℕ) → AreWithin width ps → Grows o width wires old (ps ∷ []) new)
+  one_grown wires ps old =
+      let (row, n) = normal o r decide (product_terms ps) in
+      let new = old ++ map (placed wires) row in
+      let long = terms-length ps in
+      let done : Result (Unit {0}) (Unit {0}) = Ok tt in (
+        new,
+        grown o wires ps old new row done (λ width h k. stacked-terms o wires width old row h k) (λ below i l. stacked-before o r wires i below old row l) (λ below h k. stacked-added o r wires below old row h k)
+            (length-append old (map (placed wires) row) ∙ ap (λ k. length old + k) (length-map row (placed wires))) refl (λ width within. n.terms width (terms-of-row width ps within)) (λ below. n.value below ∙ terms-value below ps)
+            (let few = n.short in omega (arith, few, long)) (λ e. n.alone (ordered o.one 0 0) (ap product_terms e) f.one_not_zero),
+      )
+
+  some_grown : (rows : List (List (Product X))) (wires : ℕ) (old : List (Term X)) → (new : List (Term X)) × ((width : ℕ) → AreAllWithin width rows → Grows o width wires old rows new)
+  some_grown [] wires old = (old, λ width all. grows_none o width wires old)
+  some_grown (ps ∷ rows) wires old =
+      let (mid, g) = one_grown wires ps old in
+      let (new, h) = some_grown rows (wires + 1) mid in
+      (new, λ width all. grows_two o width wires (wires + 1) old mid new (ps ∷ []) rows (omega arith) (g width all.0) (h width all.1))
+
+  some_built : (width : ℕ) (rows : List (List (Product X))) → AreAllWithin width rows → (terms : List (Term X)) × IsBuilt o width rows terms
+  some_built width rows all =
+      let (terms, g) = some_grown rows 0 [] in
+      (terms, built_from o width rows terms [] refl (g width all))
+
+-- ---- the rows of the two layers
+module _ {X : Type 0} (o : Ops X) (element : ℕ → X) (len : ℕ) where
+  pairs_within : (x : Word) (j : ℕ) (y : Word) (k : ℕ) → IsWordOf len x → IsWhole x → IsWordOf len y → IsWhole y → AreAllWithin (input_count len) (pair_rows o element len x j y k)
+  unfolding pair_rows
+  pairs_within x j y k hx wx hy wy =
+      all-each (input_count len) (λ i. or_list o element o.one (turned_entry o element len x j i) (turned_entry o element len y k i)) 32 0
+      (λ i le lt. or_within o element (input_count len) o.one (turned_entry o element len x j i) (turned_entry o element len y k i) (turned_within o element len x j i hx wx) (turned_within o element len y k i hy wy))
+
+  schedule_within : (t : ℕ) → 16 ≤ t → t < 64 → AreAllWithin (input_count len) (schedule_pairs o element len t)
+  unfolding schedule_pairs
+  schedule_within t le lt =
+      all-append (input_count len) (pair_rows o element len (Schedule (t - 2)) 17 (Schedule (t - 2)) 19) (pair_rows o element len (Schedule (t - 15)) 7 (Schedule (t - 15)) 18)
+      (pairs_within (Schedule (t - 2)) 17 (Schedule (t - 2)) 19 (omega (arith, lt)) (λ i l. l) (omega (arith, lt)) (λ i l. l))
+      (pairs_within (Schedule (t - 15)) 7 (Schedule (t - 15)) 18 (omega (arith, lt)) (λ i l. l) (omega (arith, lt)) (λ i l. l))
+
+  round_within : (t : ℕ) → t < 64 → AreAllWithin (input_count len) (round_pairs o element len t)
+  unfolding round_pairs
+  round_within t lt =
+      all-append (input_count len) (pair_rows o element len (E (t + 3)) 6 (E (t + 3)) 11) _ (pairs_within (E (t + 3)) 6 (E (t + 3)) 11 (omega (arith, lt)) (λ i l. l) (omega (arith, lt)) (λ i l. l))
+      (all-append (input_count len) (pair_rows o element len (A (t + 3)) 2 (A (t + 3)) 13) (pair_rows o element len (A (t + 3)) 0 (A (t + 2)) 0)
+      (pairs_within (A (t + 3)) 2 (A (t + 3)) 13 (omega (arith, lt)) (λ i l. l) (omega (arith, lt)) (λ i l. l))
+      (pairs_within (A (t + 3)) 0 (A (t + 2)) 0 (omega (arith, lt)) (λ i l. l) (omega (arith, lt)) (λ i l. l)))
+
+  inner_within : AreAllWithin (input_count len) (inner_rows o element len)
+  unfolding inner_rows
+  inner_within =
+      all-append (input_count len) (map (pass_row o) (range_with_len 0 (input_count len))) _ (all-each (input_count len) (pass_row o) (input_count len) 0 (λ i le lt. (omega arith, omega (arith, lt), tt)))
+      (all-append (input_count len) (flat_map (schedule_pairs o element len) (range_with_len 16 48)) (flat_map (round_pairs o element len) (range_with_len 0 64))
+      (all-chunks (input_count len) (schedule_pairs o element len) 48 16 (λ t le lt. schedule_within t le (omega (arith, lt))))
+      (all-chunks (input_count len) (round_pairs o element len) 64 0 (λ t le lt. round_within t (omega (arith, lt)))))
+
+  output_within : AreAllWithin (inner_count len) (output_rows o element len)
+  unfolding output_rows
+  output_within =
+      let w = inner_count len in
+      let pair = λ (t : ℕ). a_row o element len t ∷ e_row o element len t ∷ [] in
+      let r0 = map (bit_row o) (range_with_len 0 (8 * len + 6376)) in
+      let r1 = map (w_row o element len) (range_with_len 16 48) in
+      let r2 = flat_map pair (range_with_len 0 64) in
+      let r3 = map (f_row o element len) (range_with_len 0 8) in
+      let r4 = map (digest_row o element len) (range_with_len 0 8) in
+      all-append w r0 (r1 ++ (r2 ++ (r3 ++ r4))) (all-each w (bit_row o) (8 * len + 6376) 0 (λ j le lt. bit_row_within o element len j (omega (arith, lt))))
+      (all-append w r1 (r2 ++ (r3 ++ r4)) (all-each w (w_row o element len) 48 16 (λ t le lt. w_row_within o element len t le (omega (arith, lt))))
+      (all-append w r2 (r3 ++ r4) (all-chunks w pair 64 0 (λ t le lt. (a_row_within o element len t (omega (arith, lt)), (e_row_within o element len t (omega (arith, lt)), tt))))
+      (all-append w r3 r4 (all-each w (f_row o element len) 8 0 (λ i le lt. f_row_within o element len i (omega (arith, lt)))) (all-each w (digest_row o element len) 8 0 (λ i le lt. digest_row_within o element len i (omega (arith, lt)))))))
+
+-- ---- the circuit
+
+valid : (len : ℕ) (kept : List (Layer Gold)) → len ≤ 55 → length kept ≡ 2 → AreLayers gold.ops (input_count len) kept → IsValid gold.ops (wiring 8 (8 * len + 6376) kept)
+valid len kept few two layers =
+    let width : input_count len ≡ 1 + 8 + (8 * len + 6376) = omega arith in
+    record {
+      publics = omega arith;
+      privates = omega (arith, few);
+      some = omega (arith, two);
+      depth = omega (arith, two);
+      layers = subst (λ n. AreLayers gold.ops n kept) width layers;
+    }
+
+pub some_sha_circuit : SomeShaCircuit
+some_sha_circuit len few =
+    let o = gold.ops in
+    let element = gold.of_number in
+    let decide = zero_or_not o p (λ (x : Gold). x.n) element 8 gold.numbers in
+    let (t0, outer) = some_built o gold.ring gold.field decide (inner_count len) (output_rows o element len) (output_within o element len) in
+    let (t1, inner) = some_built o gold.ring gold.field decide (input_count len) (inner_rows o element len) (inner_within o element len) in
+    let layers = two_layers len t0 t1 in
+    let (kept, is) = some_reduced o p (λ (x : Gold). x.n) element 8 gold.laws (input_count len) layers (omega arith) (layers_valid o element len few t0 t1 outer inner) (layers_ones o element len few t0 t1 outer inner) in
+    let two = is.count in (
+      wiring 8 (8 * len + 6376) kept,
+      record {
+        publics = refl;
+        privates = refl;
+        layers = two;
+        outputs = λ public private short long.
+            let both = length-append public private in
+            is.values (inputs_of o public private) (omega (arith, both, short, long)) ∙ outputs_are o gold.ring element len public private short long t0 t1 outer inner;
+        reduced = is.reduced;
+      },
+      valid len kept few two is.valid,
+    )
