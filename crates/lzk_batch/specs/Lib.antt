@@ -1,3 +1,5 @@
 pub mod Tickets
 pub mod Passes
 pub mod Lists
+pub mod Circuits
+pub mod Batch

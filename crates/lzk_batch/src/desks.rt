@@ -1,0 +1,142 @@
+//! The desks of a worker.
+
+ghost use Rattle.std.specs.Prelude.{◌≡◌, IfOk};
+ghost use Rattle.std.specs.Option.{ForSome};
+ghost use Rattle.lzk_field.specs.Coding.{coding};
+ghost use Rattle.lzk_verify.specs.Verdict.{IsVerdict, IsOnlyVerdict};
+ghost use Rattle.lzk_batch.specs.Batch.{IsFit};
+
+use crate::job::{AnyVerdict, Job, JobOf};
+use lzk_circbytes::AnyCircuit;
+use lzk_circuit::Circuit;
+use lzk_field::Field;
+use lzk_gf128::Gf128;
+use lzk_goldilocks::Gold;
+use lzk_verify::{Desk, Verdict};
+use std::alloc::{AllocError, Global};
+use std::marker::Model;
+
+// A desk, and the place of the circuit that it is for.
+#[derive(Drop)]
+struct Kept<'c, F: Field> {
+    place: u32,
+    desk: Desk<'c, F>,
+}
+
+// The desk that was kept, if it is for the circuit at this place, and else a new one.
+fn desk_for<'c, F: Field>(
+    alloc: Global,
+    kept: Option<Kept<'c, F>>,
+    place: u32,
+    circuit: &'c Circuit<F>,
+) -> Result<Desk<'c, F>, AllocError>
+    requires { ForSome kept (λ k. k.place ≡ place → k.desk.circuit ≡ circuit.now) }
+    ensures { IfOk result (λ desk. desk.circuit ≡ circuit.now) }
+{
+    if let Some(Kept { place: other, desk }) = kept {
+        if other == place {
+            return Ok(desk);
+        }
+    }
+    Desk::new(alloc, circuit)
+}
+
+// The verdict on a job's proof, for a circuit. Its desk is kept.
+fn judge_over<'c, F: Field>(
+    alloc: Global,
+    kept: &mut Option<Kept<'c, F>>,
+    circuit: &'c Circuit<F>,
+    job: &JobOf<F>,
+) -> Result<Verdict<F>, AllocError>
+    requires fit { IsFit circuit.now job.now }
+    requires kept { ForSome kept.old (λ k. k.place ≡ job.now.circuit → k.desk.circuit ≡ circuit.now) }
+    ensures verdict { IfOk result (IsVerdict F.ops (coding F.element F.number_of F.BYTES F.size F.ID) circuit.now job.now.session.items job.now.public.items job.now.proof.items) }
+    ensures one { IfOk result (IsOnlyVerdict F.ops (coding F.element F.number_of F.BYTES F.size F.ID) circuit.now job.now.session.items job.now.public.items job.now.proof.items) }
+    ensures kept { ForSome kept.new (λ k. (k.place ≡ job.now.circuit) × (k.desk.circuit ≡ circuit.now)) }
+{
+    let place = job.circuit;
+    let mut desk = desk_for(alloc, kept.take(), place, circuit)?;
+    let verdict = desk.verify(&job.session, &job.public, &job.proof);
+    *kept = Some(Kept { place, desk });
+    Ok(verdict)
+}
+
+/// The circuits of a batch, with the last desk over each field.
+#[derive(Drop)]
+pub struct Desks<'c> {
+    circuits: &'c [AnyCircuit],
+    gold: Option<Kept<'c, Gold>>,
+    gf: Option<Kept<'c, Gf128>>,
+}
+
+impl<'c> Model for Desks<'c> {
+    ghost use Rattle.std.specs.Prelude.{List};
+    ghost use Rattle.std.specs.Option.{ForSome};
+    ghost use Rattle.lzk_circbytes.specs.declared.any.AnyCircuit.{AnyCircuit};
+    ghost use Rattle.lzk_batch.specs.Circuits.{IsGoldAt, IsGfAt};
+
+    ghost Value = { List AnyCircuit };
+
+    ghost view = { λ d. d.circuits.now };
+
+    ghost invariant = { λ d. ForSome d.gold (λ k. IsGoldAt d.circuits.now k.place k.desk.circuit) × ForSome d.gf (λ k. IsGfAt d.circuits.now k.place k.desk.circuit) };
+}
+
+impl<'c> Desks<'c> {
+    ghost use Rattle.lzk_batch.specs.Batch.{IsJobFit, HasVerdict};
+
+    /// No desk, for these circuits.
+    pub fn new(circuits: &'c [AnyCircuit]) -> Desks<'c>
+        ensures { result ≡ circuits.now }
+    {
+        Desks {
+            circuits,
+            gold: None,
+            gf: None,
+        }
+    }
+
+    // The verdict on the proof of a job over Goldilocks.
+    fn judge_gold(&mut self, alloc: Global, job: &JobOf<Gold>) -> Result<AnyVerdict, AllocError>
+        requires fit { IsJobFit self.old (Job.Gold job.now) }
+        ensures verdict { IfOk result (HasVerdict self.old (Job.Gold job.now)) }
+        ensures circuits { self.new ≡ self.old }
+    {
+        let circuits = self.circuits;
+        let AnyCircuit::Gold(circuit) = &circuits[job.circuit as usize] else {
+            unreachable!()
+        };
+        match judge_over(alloc, &mut self.gold, circuit, job) {
+            Ok(verdict) => Ok(AnyVerdict::Gold(verdict)),
+            Err(error) => Err(error),
+        }
+    }
+
+    // The verdict on the proof of a job over GF(2^128).
+    fn judge_gf(&mut self, alloc: Global, job: &JobOf<Gf128>) -> Result<AnyVerdict, AllocError>
+        requires fit { IsJobFit self.old (Job.Gf job.now) }
+        ensures verdict { IfOk result (HasVerdict self.old (Job.Gf job.now)) }
+        ensures circuits { self.new ≡ self.old }
+    {
+        let circuits = self.circuits;
+        let AnyCircuit::Gf(circuit) = &circuits[job.circuit as usize] else {
+            unreachable!()
+        };
+        match judge_over(alloc, &mut self.gf, circuit, job) {
+            Ok(verdict) => Ok(AnyVerdict::Gf(verdict)),
+            Err(error) => Err(error),
+        }
+    }
+
+    /// The verdict on a job's proof.
+    pub fn judge(&mut self, alloc: Global, job: &Job) -> Result<AnyVerdict, AllocError>
+        requires fit { IsJobFit self.old job.now }
+        ensures verdict { IfOk result (HasVerdict self.old job.now) }
+        ensures circuits { self.new ≡ self.old }
+    {
+        match job {
+            Job::Gold(job) => self.judge_gold(alloc, job),
+            Job::Gf(job) => self.judge_gf(alloc, job),
+        }
+    }
+}
