@@ -4,3 +4,5 @@ pub mod Dealing
 pub mod WordPlaces
 pub mod Listing
 pub mod ListTexts
+pub mod Working
+pub mod Sharing

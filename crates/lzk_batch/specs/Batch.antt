@@ -1,5 +1,6 @@
 -- What a batch answers.
 use Rattle.std.specs.Prelude.{◌≡◌, ◌≤◌, ◌<◌, ◌^◌, ◌++◌, ℕ, nat_lt, nat_le, List, [], ◌∷◌, length, map, filter, drop, count_by, All, slice_get, Some}
+use Rattle.std.specs.List.{AllZip}
 use Rattle.lzk_circuit.specs.Valid.{Wiring}
 use Rattle.lzk_circbytes.specs.declared.any.AnyCircuit.{AnyCircuit}
 use Rattle.lzk_circbytes.specs.declared.any.AnyCircuit.TheVariants as circuits
@@ -80,9 +81,7 @@ pub record IsJudged (batch : List AnyCircuit) (list : List Job) (judged : Judged
 
 -- each job has its verdict, in the order of the jobs
 abbrev pub HaveVerdicts : List AnyCircuit → List Job → List AnyVerdict → Type 0
-HaveVerdicts batch [] [] = Unit {0}
-HaveVerdicts batch (job ∷ list) (v ∷ vs) = HasVerdict batch job v × HaveVerdicts batch list vs
-HaveVerdicts batch list vs = ⊥
+HaveVerdicts batch list verdicts = AllZip (HasVerdict batch) list verdicts
 
 -- ---- passes that are lent
 
@@ -112,14 +111,8 @@ AreJobsDrawn jobs old new list = numbers_of list ≡ filter (λ n. nat_lt n jobs
 abbrev pub HasDrawnOneLate : ℕ → PassState → Type 0
 HasDrawnOneLate jobs pass = count_by (λ n. nat_le jobs n) pass.drawn ≡ 1
 
--- the two lists are as long, and this holds of the two that stand at each place
-abbrev pub ForEach₂ : {A B : Type 0} → (A → B → Type 0) → List A → List B → Type 0
-ForEach₂ P [] [] = Unit {0}
-ForEach₂ P (x ∷ xs) (y ∷ ys) = P x y × ForEach₂ P xs ys
-ForEach₂ P xs ys = ⊥
-
 -- the three lists are as long, and this holds of the three that stand at each place
-abbrev pub ForEach₃ : {A B C : Type 0} → (A → B → C → Type 0) → List A → List B → List C → Type 0
-ForEach₃ P [] [] [] = Unit {0}
-ForEach₃ P (x ∷ xs) (y ∷ ys) (z ∷ zs) = P x y z × ForEach₃ P xs ys zs
-ForEach₃ P xs ys zs = ⊥
+abbrev pub AllZip₃ : {A B C : Type 0} → (A → B → C → Type 0) → List A → List B → List C → Type 0
+AllZip₃ P [] [] [] = Unit {0}
+AllZip₃ P (x ∷ xs) (y ∷ ys) (z ∷ zs) = P x y z × AllZip₃ P xs ys zs
+AllZip₃ P xs ys zs = ⊥

@@ -3,3 +3,4 @@ pub mod Passes
 pub mod Lists
 pub mod Circuits
 pub mod Batch
+pub mod Working

@@ -1,16 +1,127 @@
 //! Workers that verify a batch.
 
-ghost use Rattle.std.specs.Prelude.{◌≡◌, ◌≤◌, ◌<◌, ℕ, length, map, All, IfOk};
+ghost use Rattle.std.specs.Prelude.{◌≡◌, ◌≤◌, ◌<◌, ◌+◌, ◌++◌, [], ◌∷◌, ℕ, length, map, All, IfOk, IsOkAnd};
+ghost use Rattle.std.specs.List.{AllZip};
+ghost use Rattle.std.specs.Thread.{IsSync};
 ghost use Rattle.lzk_batch.specs.Tickets.{most_jobs, most_workers};
 ghost use Rattle.lzk_batch.specs.Passes.{IsOf, IsOpen};
-ghost use Rattle.lzk_batch.specs.Batch.{IsJobFit, IsJudged, HaveVerdicts, DrawsOn, AreJobsDrawn, HasDrawnOneLate, ForEach₂, ForEach₃};
+ghost use Rattle.lzk_batch.specs.Batch.{IsJobFit, IsJudged, HaveVerdicts, DrawsOn, AreJobsDrawn, HasDrawnOneLate, AllZip₃};
+ghost use Rattle.lzk_batch.specs.Working.{AreReady, HasWorked, HaveWorked};
 
+use crate::desks::Desks;
 use crate::job::{AnyVerdict, Job, Judged};
 use crate::tickets::{Pass, Tickets};
 use lzk_circbytes::AnyCircuit;
 use lzk_field::Gate;
 use std::alloc::{AllocError, Global};
-use std::thread::Threads;
+use std::thread::{Threads, join_mut};
+
+// Verifies the jobs whose numbers are drawn, until none is.
+fn work(
+    alloc: Global,
+    desks: &mut Desks<'_>,
+    jobs: &[Job],
+    tickets: &Tickets,
+    pass: &mut Pass,
+) -> Result<Vec<Judged>, AllocError>
+    requires fit { All (IsJobFit desks.old) jobs.now }
+    requires dealt { tickets.now.jobs ≡ length jobs.now }
+    requires of { IsOf tickets.now pass.old }
+    requires open { IsOpen tickets.now pass.old }
+    ensures worked { IfOk result (λ judged. HasWorked desks.old jobs.now pass.old pass.new judged.items) }
+    ensures draws { DrawsOn pass.old pass.new }
+{
+    let mut judged = Vec::new(alloc);
+    while let Some(number) = tickets.draw(pass) {
+        let verdict = desks.judge(alloc, &jobs[number as usize])?;
+        judged.push(Judged {
+            job: number,
+            verdict,
+        })?;
+    }
+    Ok(judged)
+}
+
+// What all workers see.
+#[derive(Drop)]
+struct Batch<'a> {
+    circuits: &'a [AnyCircuit],
+    jobs: &'a [Job],
+    tickets: &'a Tickets,
+}
+
+// The list of one worker.
+fn one_list(
+    alloc: Global,
+    batch: &Batch<'_>,
+    pass: &mut Pass,
+) -> Result<Vec<Vec<Judged>>, AllocError>
+    requires fit { All (IsJobFit batch.now.circuits.now) batch.now.jobs.now }
+    requires dealt { batch.now.tickets.now.jobs ≡ length batch.now.jobs.now }
+    requires of { IsOf batch.now.tickets.now pass.old }
+    requires open { IsOpen batch.now.tickets.now pass.old }
+    ensures worked { IfOk result (λ lists. HaveWorked batch.now.circuits.now batch.now.jobs.now (pass.old ∷ []) (pass.new ∷ []) (map (λ list. list.items) lists.items)) }
+    ensures draws { DrawsOn pass.old pass.new }
+{
+    let mut desks = Desks::new(batch.circuits);
+    let judged = work(alloc, &mut desks, batch.jobs, batch.tickets, pass)?;
+    let mut lists = Vec::with_capacity(alloc, 1)?;
+    lists.push(judged)?;
+    Ok(lists)
+}
+
+// Verifies with each of these passes, in a thread of its own. `first` is the place of the first one among all.
+#[cycle(share_out)]
+fn share_out<R: Threads + Sync, G: Gate>(
+    rt: &R,
+    alloc: Global,
+    batch: &Batch<'_>,
+    gate: &G,
+    first: usize,
+    of: usize,
+    passes: &mut [Pass],
+) -> Result<Vec<Vec<Judged>>, AllocError>
+    requires ready { AreReady batch.now.circuits.now batch.now.jobs.now batch.now.tickets.now passes.old }
+    requires some { 1 ≤ length passes.old }
+    requires few { first + length passes.old ≤ most_workers }
+    ensures worked { IfOk result (λ lists. HaveWorked batch.now.circuits.now batch.now.jobs.now passes.old passes.new (map (λ list. list.items) lists.items)) }
+    ensures draws { AllZip DrawsOn passes.old passes.new }
+{
+    if passes.len() == 1 {
+        let Some(pass) = passes.first_mut() else {
+            unreachable!()
+        };
+        gate.enter(first, of);
+        return one_list(alloc, batch, pass);
+    }
+    let half = passes.len() / 2;
+    let next = first + half;
+    let (front, back) = passes.split_at_mut(half);
+    let mut front_lists = ||
+        requires { IsSync R.row × IsSync G.row × (1 ≤ length front.now) × (first + length front.now ≤ most_workers) × AreReady batch.now.circuits.now batch.now.jobs.now batch.now.tickets.now front.now }
+        ensures worked { IfOk result (λ lists. HaveWorked batch.entry.now.circuits.now batch.entry.now.jobs.now front.entry.now front.exit.now (map (λ list. list.items) lists.items)) }
+        ensures draws { AllZip DrawsOn front.entry.now front.exit.now }
+    { share_out(rt, alloc, batch, gate, first, of, front) };
+    let mut back_lists = ||
+        requires { IsSync R.row × IsSync G.row × (1 ≤ length back.now) × (next + length back.now ≤ most_workers) × AreReady batch.now.circuits.now batch.now.jobs.now batch.now.tickets.now back.now }
+        ensures worked { IfOk result (λ lists. HaveWorked batch.entry.now.circuits.now batch.entry.now.jobs.now back.entry.now back.exit.now (map (λ list. list.items) lists.items)) }
+        ensures draws { AllZip DrawsOn back.entry.now back.exit.now }
+    { share_out(rt, alloc, batch, gate, next, of, back) };
+    let (lists, others) = join_mut(rt, &mut front_lists, &mut back_lists);
+    joined(lists, others)
+}
+
+// The lists of both, if memory was given to both.
+fn joined(
+    lists: Result<Vec<Vec<Judged>>, AllocError>,
+    others: Result<Vec<Vec<Judged>>, AllocError>,
+) -> Result<Vec<Vec<Judged>>, AllocError>
+    ensures { IfOk result (λ all. IsOkAnd lists (λ l. IsOkAnd others (λ o. all.items ≡ l.items ++ o.items))) }
+{
+    let mut lists = lists?;
+    lists.append(&mut others?)?;
+    Ok(lists)
+}
 
 /// Verifies jobs with a worker for each pass.
 ///
@@ -35,12 +146,18 @@ pub fn verify_batch<R: Threads + Sync, G: Gate>(
     requires open { All (IsOpen tickets.now) passes.old }
     requires some { 1 ≤ length passes.old }
     requires few { length passes.old ≤ most_workers }
-    ensures jobs { IfOk result (λ lists. ForEach₃ (AreJobsDrawn (length jobs.now)) passes.old passes.new (map (λ list. list.items) lists.items)) }
+    ensures jobs { IfOk result (λ lists. AllZip₃ (AreJobsDrawn (length jobs.now)) passes.old passes.new (map (λ list. list.items) lists.items)) }
     ensures verdicts { IfOk result (λ lists. All (λ list. All (IsJudged circuits.now jobs.now) list.items) lists.items) }
     ensures late { IfOk result (λ _. All (HasDrawnOneLate (length jobs.now)) passes.new) }
-    ensures draws { ForEach₂ DrawsOn passes.old passes.new }
+    ensures draws { AllZip DrawsOn passes.old passes.new }
 {
-    Err(AllocError)
+    let batch = Batch {
+        circuits,
+        jobs,
+        tickets,
+    };
+    let of = passes.len();
+    share_out(rt, alloc, &batch, gate, 0, of, passes)
 }
 
 /// Verifies jobs with so many workers, and gives their verdicts in the order of the jobs.
