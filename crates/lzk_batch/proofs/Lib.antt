@@ -6,3 +6,5 @@ pub mod Listing
 pub mod ListTexts
 pub mod Working
 pub mod Sharing
+pub mod Ordering
+pub mod Placing

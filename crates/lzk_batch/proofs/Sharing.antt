@@ -65,7 +65,7 @@ filter_late : (n x : ℕ) → n ≤ x → filter (λ y. nat_lt y n) (x ∷ []) �
 filter_late n x h = rw (le-ltb x n h) refl
 
 -- 1 for a number that is no job's
-abbrev mark_from : ℕ → ℕ → ℕ
+abbrev pub mark_from : ℕ → ℕ → ℕ
 mark_from n x = cond (nat_le n x) 1 0
 
 count_none : (n : ℕ) (xs : List ℕ) → All (λ x. x < n) xs → count_by (λ x. nat_le n x) xs ≡ 0

@@ -1,5 +1,6 @@
 -- What a batch answers.
-use Rattle.std.specs.Prelude.{◌≡◌, ◌≤◌, ◌<◌, ◌^◌, ◌++◌, ℕ, nat_lt, nat_le, List, [], ◌∷◌, length, map, filter, drop, count_by, All, slice_get, Some}
+use Rattle.std.specs.Prelude.{◌≡◌, ◌≤◌, ◌<◌, ◌^◌, ◌++◌, ℕ, nat_lt, nat_le, List, [], ◌∷◌, length, map, filter, drop, count_by, All, Any, Contains, flat_map, Vec, slice_get, Some}
+use Rattle.std.specs.Global.{Global}
 use Rattle.std.specs.List.{AllZip}
 use Rattle.lzk_circuit.specs.Valid.{Wiring}
 use Rattle.lzk_circbytes.specs.declared.any.AnyCircuit.{AnyCircuit}
@@ -107,6 +108,10 @@ drawn_since old new = drop (length old.drawn) new.drawn
 abbrev pub AreJobsDrawn : ℕ → PassState → PassState → List Judged → Type 0
 AreJobsDrawn jobs old new list = numbers_of list ≡ filter (λ n. nat_lt n jobs) (drawn_since old new)
 
+-- the same of a pass that was lent with nothing drawn
+abbrev pub AreAllJobsDrawn : ℕ → PassState → List Judged → Type 0
+AreAllJobsDrawn jobs pass list = numbers_of list ≡ filter (λ n. nat_lt n jobs) pass.drawn
+
 -- one of the numbers that a pass has drawn is no job's
 abbrev pub HasDrawnOneLate : ℕ → PassState → Type 0
 HasDrawnOneLate jobs pass = count_by (λ n. nat_le jobs n) pass.drawn ≡ 1
@@ -116,3 +121,16 @@ abbrev pub AllZip₃ : {A B C : Type 0} → (A → B → C → Type 0) → List 
 AllZip₃ P [] [] [] = Unit {0}
 AllZip₃ P (x ∷ xs) (y ∷ ys) (z ∷ zs) = P x y z × AllZip₃ P xs ys zs
 AllZip₃ P xs ys zs = ⊥
+
+-- ---- the lists of several passes
+
+-- the numbers in all of them
+abbrev pub numbers_in : List (Vec Judged Global) → List ℕ
+numbers_in lists = flat_map (λ list. numbers_of list.items) lists
+
+abbrev pub judged_as : ℕ → AnyVerdict → Judged
+judged_as job verdict = record { job = job; verdict = verdict }
+
+-- one of them has this verdict on the job with the number
+abbrev pub HasVerdictIn : List (Vec Judged Global) → ℕ → AnyVerdict → Type 0
+HasVerdictIn lists job v = Any (λ list. Contains list.items (judged_as job v)) lists

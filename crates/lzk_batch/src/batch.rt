@@ -4,12 +4,13 @@ ghost use Rattle.std.specs.Prelude.{◌≡◌, ◌≤◌, ◌<◌, ◌+◌, ◌+
 ghost use Rattle.std.specs.List.{AllZip};
 ghost use Rattle.std.specs.Thread.{IsSync};
 ghost use Rattle.lzk_batch.specs.Tickets.{most_jobs, most_workers};
-ghost use Rattle.lzk_batch.specs.Passes.{IsOf, IsOpen};
+ghost use Rattle.lzk_batch.specs.Passes.{IsOf, IsOpen, AreAll};
 ghost use Rattle.lzk_batch.specs.Batch.{IsJobFit, IsJudged, HaveVerdicts, DrawsOn, AreJobsDrawn, HasDrawnOneLate, AllZip₃};
 ghost use Rattle.lzk_batch.specs.Working.{AreReady, HasWorked, HaveWorked};
 
 use crate::desks::Desks;
 use crate::job::{AnyVerdict, Job, Judged};
+use crate::order::gather_verdicts;
 use crate::tickets::{Pass, Tickets};
 use lzk_circbytes::AnyCircuit;
 use lzk_field::Gate;
@@ -150,6 +151,7 @@ pub fn verify_batch<R: Threads + Sync, G: Gate>(
     ensures verdicts { IfOk result (λ lists. All (λ list. All (IsJudged circuits.now jobs.now) list.items) lists.items) }
     ensures late { IfOk result (λ _. All (HasDrawnOneLate (length jobs.now)) passes.new) }
     ensures draws { AllZip DrawsOn passes.old passes.new }
+    ensures all { AreAll tickets.now passes.old → AreAll tickets.now passes.new }
 {
     let batch = Batch {
         circuits,
@@ -179,5 +181,7 @@ pub fn verify_all<R: Threads + Sync, G: Gate>(
     requires few { workers ≤ most_workers }
     ensures { IfOk result (λ verdicts. HaveVerdicts circuits.now jobs.now verdicts.items) }
 {
-    Err(AllocError)
+    let (tickets, mut passes) = Tickets::deal(alloc, jobs.len() as u32, workers)?;
+    let lists = verify_batch(rt, alloc, circuits, jobs, &tickets, &mut passes, gate)?;
+    gather_verdicts(alloc, tickets, passes, &lists)
 }

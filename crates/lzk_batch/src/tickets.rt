@@ -112,6 +112,13 @@ impl Tickets {
         Ok((tickets, passes))
     }
 
+    /// How many jobs they were dealt for.
+    pub fn jobs(&self) -> u32
+        ensures { result ≡ self.now.jobs }
+    {
+        self.jobs
+    }
+
     /// Draws the next number, which the pass keeps: Some where it is a job's. A pass that has drawn None draws no more.
     pub fn draw(&self, pass: &mut Pass) -> Option<u32>
         requires of { IsOf self.now pass.old }
