@@ -1,4 +1,5 @@
 pub mod Binding
+pub mod Chunks
 pub mod CurveLaws
 pub mod Curves
 pub mod Filled
@@ -9,6 +10,7 @@ pub mod LayerShapes
 pub mod MergeLaws
 pub mod MessagesLaws
 pub mod OrderLaws
+pub mod PartLaws
 pub mod PointLaws
 pub mod Prefixes
 pub mod ProvingLaws

@@ -10,6 +10,7 @@ use Rattle.lzk_field.proofs.Solve.{var, ◌⊞◌, ◌⊠◌, solve}
 use Rattle.lzk_field.proofs.SumLaws.{sum-ext, sum-zero, sum-plus, sum-times, sum-tail, sum-single}
 use Rattle.lzk_sumcheck.specs.declared.pairs.Pair.{Pair}
 use Rattle.lzk_sumcheck.specs.Pairs.{spread, ArePairs, bound_entry}
+use Rattle.lzk_sumcheck.specs.Parts.{product_at}
 use Rattle.lzk_sumcheck.specs.Rows.{linear_at, pairs_row, linear_row, row_at, IsKept}
 use Rattle.lzk_sumcheck.specs.States.{State, bind_state, bound, total}
 use Rattle.lzk_sumcheck.proofs.Binding.{total-bind}
@@ -102,17 +103,17 @@ module _ {A : Type 0} (o : Ops A) (r : RingLaws o) where
       ∙ ap (λ w. plus w (sum_below o m (λ b. times (spread o ps i b) (e b)))) (linear-sum of_a m scale linear second i (omega arith) (λ is. omega (arith, same is)))
       ∙ ap (plus (linear_row o of_a scale linear second i)) (pairs-sum n m ps second i (pairs-wider o r n (length second) m ps fits within))
 
-  -- a round's value, from the rows as a list
-  pub round-rows : (j k : ℕ) (st : State A) (of_a : Bool) (ps : List (Pair A)) (scale : A) (linear first second rows : List A) (n : ℕ) (t : A) → IsKept o (j + 1) k st of_a ps scale linear first second
+  -- a round's value, from the rows
+  pub round-rows : (j k : ℕ) (st : State A) (of_a : Bool) (ps : List (Pair A)) (scale : A) (linear first second : List A) (n : ℕ) (t : A) → IsKept o (j + 1) k st of_a ps scale linear first second
       → ArePairs n (length second) ps → 1 ≤ length second → length second ≤ 2 ^ k → (of_a ≡ true → length linear ≡ length second)
-      → ((i : ℕ) → entry o rows i ≡ row_at o of_a ps scale linear second i)
-      → sum_below o (2 ^ j) (λ i. times (bound_entry o t rows i) (bound_entry o t first i)) ≡ total o (bind_state o t st)
-  round-rows j k st of_a ps scale linear first second rows n t h within some fits same is =
-      let g : (i : ℕ) → entry o rows i ≡ rows_of st i = λ i. is i ∙ sym (kept-rows (j + 1) k st of_a ps scale linear first second n i h within some fits same) in
+      → sum_below o (2 ^ j) (product_at o (row_at o of_a ps scale linear second) first t) ≡ total o (bind_state o t st)
+  round-rows j k st of_a ps scale linear first second n t h within some fits same =
+      let row = row_at o of_a ps scale linear second in
+      let g : (i : ℕ) → row i ≡ rows_of st i = λ i. sym (kept-rows (j + 1) k st of_a ps scale linear first second n i h within some fits same) in
       let bind : (f u : ℕ → A) (i : ℕ) → ((a : ℕ) → f a ≡ u a) → bound o t f i ≡ bound o t u i =
       λ f u i e. ap (λ w. plus (times (minus o o.one t) w) (times t (f (2 * i + 1)))) (e (2 * i)) ∙ ap (λ w. plus (times (minus o o.one t) (u (2 * i))) (times t w)) (e (2 * i + 1)) in
-      sum-ext o r (2 ^ j) (λ i. times (bound_entry o t rows i) (bound_entry o t first i)) (λ i. times (bound o t (rows_of st) i) (bound o t st.f i))
-      (λ i l. ap (λ w. times w (bound_entry o t first i)) (bind (entry o rows) (rows_of st) i g)
+      sum-ext o r (2 ^ j) (product_at o row first t) (λ i. times (bound o t (rows_of st) i) (bound o t st.f i))
+      (λ i l. ap (λ w. times w (bound_entry o t first i)) (bind row (rows_of st) i g)
       ∙ ap (times (bound o t (rows_of st) i)) (bind (entry o first) st.f i (λ a. sym (h.f_is a))))
       ∙ sym (total-rows (2 ^ j) st t (h.n_is ∙ two-more j))
 

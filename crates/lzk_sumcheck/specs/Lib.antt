@@ -5,6 +5,7 @@ pub mod Messages
 pub mod Opening
 pub mod Orders
 pub mod Pairs
+pub mod Parts
 pub mod Points
 pub mod Room
 pub mod Rounds

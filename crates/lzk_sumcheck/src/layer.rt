@@ -22,6 +22,8 @@ use crate::sending::send_rounds;
 use lzk_circuit::Term;
 use lzk_field::Field;
 use lzk_transcript::Tape;
+use std::marker::Sync;
+use std::thread::Threads;
 
 // The pair of a term's wires below, with the weight of its wire.
 fn pair_of<F: Field>(term: Term<F>, weights: &[F]) -> Pair<F>
@@ -116,7 +118,9 @@ fn pad_values<F: Field>(values: &[F], table: &mut [F])
 
 /// Sends the rounds of a layer with these terms and weights over these values, and the two factors. `pairs`, `first`,
 /// `second`, `linear` and `rows` are written over.
-pub(crate) fn send_layer<F: Field>(
+pub(crate) fn send_layer<R: Threads + Sync, F: Field>(
+    rt: &R,
+    workers: usize,
     tape: &mut Tape,
     terms: &[Term<F>],
     order: &[(u64, usize)],
@@ -132,6 +136,8 @@ pub(crate) fn send_layer<F: Field>(
     ra: &mut [F],
     rb: &mut [F],
 )
+    requires some_workers { 1 ≤ workers }
+    requires few_workers { workers ≤ 64 }
     requires bits { length rb.old ≡ length ra.old }
     requires few { length ra.old ≤ 17 }
     requires order { IsOrderOf terms.now (places order.now) }
@@ -140,7 +146,7 @@ pub(crate) fn send_layer<F: Field>(
     requires first { length first.old ≡ 2 ^ length ra.old }
     requires second { length second.old ≡ 2 ^ length ra.old }
     requires linear { 2 ^ length ra.old ≤ length linear.old }
-    requires rows { 2 ^ length ra.old ≤ length rows.old }
+    requires rows { 2 ^ length ra.old + 3 * 64 ≤ length rows.old }
     requires pairs { length pairs.old ≡ length terms.now }
     requires pads { length pads.now ≡ 4 * length ra.old + 2 }
     requires room { length sent.old ≡ 4 * length ra.old + 2 }
@@ -171,6 +177,8 @@ pub(crate) fn send_layer<F: Field>(
     let count = 4 * ra.len();
     let (rounds, factors) = sent.split_at_mut(count);
     send_rounds(
+        rt,
+        workers,
         tape,
         true,
         &mut pairs[..kept],

@@ -23,6 +23,7 @@ mod laws;
 mod layer;
 mod order;
 mod pairs;
+mod parts;
 mod plain;
 mod proving;
 mod replaying;

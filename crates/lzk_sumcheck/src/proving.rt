@@ -41,7 +41,9 @@ use std::thread::Threads;
 
 // Sends the rounds of a layer with these terms and weights, and its factors. `first` and `second` are then the tables of the
 // challenges of a's bits and of b's.
-fn prove_rounds<F: Field>(
+fn prove_rounds<R: Threads + Sync, F: Field>(
+    rt: &R,
+    workers: usize,
     tape: &mut Tape,
     terms: &[Term<F>],
     order: &[(u64, usize)],
@@ -57,6 +59,8 @@ fn prove_rounds<F: Field>(
     ra: &mut [F],
     rb: &mut [F],
 )
+    requires some_workers { 1 ≤ workers }
+    requires few_workers { workers ≤ 64 }
     requires bits { length rb.old ≡ length ra.old }
     requires few { length ra.old ≤ 17 }
     requires terms { AreDistinct F.ops (length weights.now) (length values.now) terms.now }
@@ -65,7 +69,7 @@ fn prove_rounds<F: Field>(
     requires first { 2 ^ length ra.old ≤ length first.old }
     requires second { 2 ^ length ra.old ≤ length second.old }
     requires linear { 2 ^ length ra.old ≤ length linear.old }
-    requires rows { 2 ^ length ra.old ≤ length rows.old }
+    requires rows { 2 ^ length ra.old + 3 * 64 ≤ length rows.old }
     requires pairs { length terms.now ≤ length pairs.old }
     requires pads { length pads.now ≡ 4 * length ra.old + 2 }
     requires room { length sent.old ≡ 4 * length ra.old + 2 }
@@ -93,7 +97,8 @@ fn prove_rounds<F: Field>(
     let (low, _) = first.split_at_mut(size);
     let (high, _) = second.split_at_mut(size);
     send_layer(
-        tape, terms, order, weights, values, these, low, high, linear, rows, pads, sent, ra, rb,
+        rt, workers, tape, terms, order, weights, values, these, low, high, linear, rows, pads,
+        sent, ra, rb,
     );
     eq_table(ra, low);
     eq_table(rb, high);
@@ -101,7 +106,9 @@ fn prove_rounds<F: Field>(
 
 // A layer: alpha is drawn, and the rounds and the factors are sent. `first` and `second` are the tables of the layer's two points, and
 // then those of the layer below; `weights` has a place for each wire.
-fn prove_layer<F: Field>(
+fn prove_layer<R: Threads + Sync, F: Field>(
+    rt: &R,
+    workers: usize,
     tape: &mut Tape,
     terms: &[Term<F>],
     order: &[(u64, usize)],
@@ -116,6 +123,8 @@ fn prove_layer<F: Field>(
     pads: &[F],
     sent: &mut [F],
 )
+    requires some_workers { 1 ≤ workers }
+    requires few_workers { workers ≤ 64 }
     requires bits { length layer.old.rb ≡ length layer.old.ra }
     requires few { length layer.old.ra ≤ 17 }
     requires terms { AreDistinct F.ops (length weights.old) (length values.now) terms.now }
@@ -126,7 +135,7 @@ fn prove_layer<F: Field>(
     requires first { 2 ^ length layer.old.ra ≤ length first.old }
     requires second { 2 ^ length layer.old.ra ≤ length second.old }
     requires linear { 2 ^ length layer.old.ra ≤ length linear.old }
-    requires rows { 2 ^ length layer.old.ra ≤ length rows.old }
+    requires rows { 2 ^ length layer.old.ra + 3 * 64 ≤ length rows.old }
     requires pairs { length terms.now ≤ length pairs.old }
     requires pads { length pads.now ≡ 4 * length layer.old.ra + 2 }
     requires room { length sent.old ≡ 4 * length layer.old.ra + 2 }
@@ -149,6 +158,8 @@ fn prove_layer<F: Field>(
     layer.alpha = tape.draw();
     set_weights(layer.alpha, first, second, weights);
     prove_rounds(
+        rt,
+        workers,
         tape,
         terms,
         order,
@@ -176,7 +187,9 @@ fn part<F: Field>(list: &[F], begin: usize, count: usize) -> &[F]
 }
 
 // Draws the outputs' point, and goes through all layers, the outputs' first.
-fn prove_list<F: Field>(
+fn prove_list<R: Threads + Sync, F: Field>(
+    rt: &R,
+    workers: usize,
     circuit: &Circuit<F>,
     values: &Values<F>,
     pads: &[F],
@@ -192,6 +205,8 @@ fn prove_list<F: Field>(
     point: &mut [F],
     layers: &mut [LayerScript<F>],
 )
+    requires some_workers { 1 ≤ workers }
+    requires few_workers { workers ≤ 64 }
     requires values { HaveWidths circuit.now values.now }
     requires pads { length pads.now ≡ sent_counts circuit.now }
     requires messages { length messages.old ≡ sent_counts circuit.now }
@@ -205,7 +220,7 @@ fn prove_list<F: Field>(
     requires first_room { length first.old ≡ length weights.old }
     requires second_room { length second.old ≡ length weights.old }
     requires linear_room { length linear.old ≡ length weights.old }
-    requires rows_room { length rows.old ≡ length weights.old }
+    requires rows_room { length rows.old ≡ length weights.old + 3 * 64 }
     ensures pairs_length { length pairs.new ≡ length pairs.old }
     ensures first_length { length first.new ≡ length first.old }
     ensures second_length { length second.new ≡ length second.old }
@@ -235,6 +250,8 @@ fn prove_list<F: Field>(
         let (wires, _) = weights.split_at_mut(circuit.width(l) as usize);
         let order = orders[l as usize].as_slice();
         prove_layer(
+            rt,
+            workers,
             tape,
             circuit.layer(l).terms.as_slice(),
             order,
@@ -254,7 +271,9 @@ fn prove_list<F: Field>(
 }
 
 // The same, with the room and the list of scripts.
-fn prove_scripts<F: Field>(
+fn prove_scripts<R: Threads + Sync, F: Field>(
+    rt: &R,
+    workers: usize,
     circuit: &Circuit<F>,
     values: &Values<F>,
     pads: &[F],
@@ -264,6 +283,8 @@ fn prove_scripts<F: Field>(
     point: &mut [F],
     layers: &mut LayerScripts<F>,
 )
+    requires some_workers { 1 ≤ workers }
+    requires few_workers { workers ≤ 64 }
     requires values { HaveWidths circuit.now values.now }
     requires pads { length pads.now ≡ sent_counts circuit.now }
     requires made { IsRoomOf circuit.now room.old }
@@ -282,6 +303,8 @@ fn prove_scripts<F: Field>(
         (l : ℕ) → l < depth circuit.now → IsLayerSent F.ops F.element circuit.now (spec.script F.ops e messages.new circuit.now tape.old) values.now pads.now messages.new l }
 {
     prove_list(
+        rt,
+        workers,
         circuit,
         values,
         pads,
@@ -300,22 +323,23 @@ fn prove_scripts<F: Field>(
 }
 
 /// Does the writes and draws of [`crate::replay`] on the messages that it sets: each is the true value less its pad, so that
-/// there is one answer for every number of workers. All layers are done by the caller's thread. No memory is taken.
+/// there is one answer for every number of workers. A round's sum is shared out among them where a share is worth a thread; all else is
+/// done by the caller's thread. No memory is taken.
 pub fn prove_layers<R: Threads + Sync, F: Field>(
-    _rt: &R,
+    rt: &R,
     circuit: &Circuit<F>,
     values: &Values<F>,
     pads: &[F],
     tape: &mut Tape,
-    _workers: usize,
+    workers: usize,
     room: &mut Rounds<F>,
     messages: &mut [F],
     script: &mut Script<F>,
 )
     requires values { HaveWidths circuit.now values.now }
     requires pads { length pads.now ≡ sent_counts circuit.now }
-    requires some_workers { 1 ≤ _workers }
-    requires few_workers { _workers ≤ 64 }
+    requires some_workers { 1 ≤ workers }
+    requires few_workers { workers ≤ 64 }
     requires room { IsRoomOf circuit.now room.old }
     requires messages { length messages.old ≡ sent_counts circuit.now }
     requires shape { HasShape circuit.now script.old }
@@ -326,6 +350,8 @@ pub fn prove_layers<R: Threads + Sync, F: Field>(
     ensures room { IsRoomOf circuit.now room.new }
 {
     prove_scripts(
+        rt,
+        workers,
         circuit,
         values,
         pads,

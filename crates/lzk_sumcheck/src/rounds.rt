@@ -8,14 +8,18 @@ ghost use Rattle.lzk_sumcheck.specs.Room.{IsRoomOf};
 
 use crate::order::{Order, orders_of};
 use crate::pairs::Pair;
+use crate::parts::SUMS;
 use crate::weights::power_of;
 use lzk_circuit::{Circuit, bits_of, zeros};
 use lzk_field::Field;
 use std::alloc::{AllocError, Global};
 use std::marker::Model;
 
-/// Room for the rounds of a circuit: orders of its layers' terms, pairs of wires, coefficients of wire 0, sums of rows, and tables of the
-/// widest layer's numbers.
+/// How many workers there are at most.
+const MOST_WORKERS: usize = 64;
+
+/// Room for the rounds of a circuit: orders of its layers' terms, pairs of wires, coefficients of wire 0, sums of rows, with those of
+/// each worker's, and tables of the widest layer's numbers.
 #[derive(Drop)]
 pub struct Rounds<F: Field> {
     pub(crate) orders: Vec<Order>,
@@ -28,14 +32,14 @@ pub struct Rounds<F: Field> {
 }
 
 impl<F: Field> Model for Rounds<F> {
-    ghost use Rattle.std.specs.Prelude.{◌≡◌, length};
+    ghost use Rattle.std.specs.Prelude.{◌≡◌, ◌+◌, ◌*◌, length};
     ghost use Rattle.lzk_sumcheck.specs.Room.{RoundsRoom};
 
     ghost Value = { RoundsRoom };
 
     ghost view = { λ r. record { orders = r.orders.items; pairs = length r.pairs.items; places = length r.weights.items } };
 
-    ghost invariant = { λ r. (length r.first.items ≡ length r.weights.items) × (length r.second.items ≡ length r.weights.items) × (length r.linear.items ≡ length r.weights.items) × (length r.rows.items ≡ length r.weights.items) };
+    ghost invariant = { λ r. (length r.first.items ≡ length r.weights.items) × (length r.second.items ≡ length r.weights.items) × (length r.linear.items ≡ length r.weights.items) × (length r.rows.items ≡ length r.weights.items + 3 * 64) };
 }
 
 // How many bits number the wires of layer `l`.
@@ -110,7 +114,7 @@ impl<F: Field> Rounds<F> {
             first: zeros(alloc, size)?,
             second: zeros(alloc, size)?,
             linear: zeros(alloc, size)?,
-            rows: zeros(alloc, size)?,
+            rows: zeros(alloc, size + SUMS * MOST_WORKERS)?,
             weights: zeros(alloc, size)?,
         })
     }

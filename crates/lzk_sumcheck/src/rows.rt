@@ -97,3 +97,76 @@ pub(crate) fn set_rows<F: Field>(
     set_linear(of_a, scale, linear, second, rows);
     add_pairs(pairs, second, rows);
 }
+
+// Sets the rows from number `from` on to what the coefficients of wire 0 come to.
+fn set_linear_from<F: Field>(
+    of_a: bool,
+    scale: F,
+    linear: &[F],
+    second: &[F],
+    from: usize,
+    rows: &mut [F],
+)
+    requires some { 1 ≤ length rows.old }
+    requires second { 1 ≤ length second.now }
+    requires for_a { of_a ≡ true → length linear.now ≡ length second.now }
+    requires for_b { of_a ≡ false → from + length rows.old ≤ length linear.now }
+    ensures length { length rows.new ≡ length rows.old }
+    ensures entries { let o = F.ops in (i : ℕ) → i < length rows.old → entry o rows.new i ≡ linear_row o of_a scale linear.now second.now (from + i) }
+{
+    if of_a {
+        set_zeros(rows);
+        if from == 0 {
+            rows[0] = scale.mul(F::dot(linear, second));
+        }
+    } else {
+        set_multiples(scale.mul(second[0]), &linear[from..from + rows.len()], rows);
+    }
+}
+
+// Adds to its row what a pair comes to, where that is one of the rows from number `from` on.
+fn add_pair_from<F: Field>(pair: Pair<F>, second: &[F], from: usize, rows: &mut [F])
+    requires second { pair.b < length second.now }
+    ensures length { length rows.new ≡ length rows.old }
+    ensures sums { let o = F.ops in (i : ℕ) → i < length rows.old →
+        entry o rows.new i ≡ o.plus (entry o rows.old i) (cond (from + i == pair.a) (o.times pair.coef (entry o second.now pair.b)) o.zero) }
+{
+    let a = pair.a as usize;
+    if a >= from && a - from < rows.len() {
+        let row = a - from;
+        rows[row] = plus_product(rows[row], pair.coef, second[pair.b as usize]);
+    }
+}
+
+// Adds to each of the rows from number `from` on what the pairs with its number come to.
+fn add_pairs_from<F: Field>(pairs: &[Pair<F>], second: &[F], from: usize, rows: &mut [F])
+    requires { (n : ℕ) × ArePairs n (length second.now) pairs.now }
+    ensures length { length rows.new ≡ length rows.old }
+    ensures sums { let o = F.ops in (i : ℕ) → i < length rows.old → entry o rows.new i ≡ o.plus (entry o rows.old i) (pairs_row o pairs.now second.now (from + i)) }
+{
+    for pair in pairs {
+        add_pair_from(*pair, second, from, rows);
+    }
+}
+
+/// Sets the rows from number `from` on.
+pub(crate) fn set_rows_from<F: Field>(
+    of_a: bool,
+    pairs: &[Pair<F>],
+    scale: F,
+    linear: &[F],
+    second: &[F],
+    from: usize,
+    rows: &mut [F],
+)
+    requires some { 1 ≤ length rows.old }
+    requires second { 1 ≤ length second.now }
+    requires for_a { of_a ≡ true → length linear.now ≡ length second.now }
+    requires for_b { of_a ≡ false → from + length rows.old ≤ length linear.now }
+    requires pairs { (n : ℕ) × ArePairs n (length second.now) pairs.now }
+    ensures length { length rows.new ≡ length rows.old }
+    ensures entries { let o = F.ops in (i : ℕ) → i < length rows.old → entry o rows.new i ≡ row_at o of_a pairs.now scale linear.now second.now (from + i) }
+{
+    set_linear_from(of_a, scale, linear, second, from, rows);
+    add_pairs_from(pairs, second, from, rows);
+}

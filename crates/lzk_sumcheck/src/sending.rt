@@ -12,16 +12,20 @@ ghost use Rattle.lzk_sumcheck.specs.Script.{with_pair};
 ghost use Rattle.lzk_sumcheck.specs.Sending.{after_sent, drawn_sent, AreSent};
 ghost use Rattle.lzk_sumcheck.specs.States.{State, bind_state, total};
 
-use crate::curve::{RoundSums, round_sums};
+use crate::curve::RoundSums;
 use crate::draws::replay_round;
 use crate::kept::bind_kept;
 use crate::pairs::Pair;
-use crate::rows::set_rows;
+use crate::parts::sum_round;
 use lzk_field::Field;
 use lzk_transcript::Tape;
+use std::marker::Sync;
+use std::thread::Threads;
 
 // The sums of a round. `rows` is written over.
-fn kept_sums<F: Field>(
+fn kept_sums<R: Threads + Sync, F: Field>(
+    rt: &R,
+    workers: usize,
     of_a: bool,
     pairs: &[Pair<F>],
     scale: F,
@@ -30,19 +34,19 @@ fn kept_sums<F: Field>(
     second: &[F],
     rows: &mut [F],
 ) -> RoundSums<F>
+    requires some_workers { 1 ≤ workers }
+    requires few_workers { workers ≤ 64 }
     requires first { 1 ≤ length first.now }
     requires second { 1 ≤ length second.now }
     requires for_a { of_a ≡ true → length linear.now ≡ length second.now }
     requires for_b { of_a ≡ false → length linear.now ≡ length first.now }
     requires pairs { ArePairs (length first.now) (length second.now) pairs.now }
-    requires rows { length first.now ≤ length rows.old }
+    requires rows { length first.now + 3 * 64 ≤ length rows.old }
     ensures length { length rows.new ≡ length rows.old }
     ensures value { let o = F.ops in (j k : ℕ) (st : State F) → IsKept o (j + 1) k st of_a pairs.now scale linear.now first.now second.now →
         length first.now ≤ 2 ^ (j + 1) → length second.now ≤ 2 ^ k → (t : F) → round_at o result t ≡ total o (bind_state o t st) }
 {
-    let (rows, _) = rows.split_at_mut(first.len());
-    set_rows(of_a, pairs, scale, linear, second, rows);
-    round_sums(rows, first)
+    sum_round(rt, workers, of_a, pairs, scale, linear, first, second, rows)
 }
 
 // Sends a round's values at points 0 and 2, and draws its challenge.
@@ -65,7 +69,9 @@ fn send_round<F: Field>(tape: &mut Tape, sums: RoundSums<F>, pads: &[F], sent: &
 /// Sends the rounds of the variables that are left, the next of which is bit 0 of the first table's numbers: a bit of a, or one of b. The
 /// tables change places from round to round, and so do the lists of challenges. What is left of each table is its extension at its
 /// challenges. `rows` is written over.
-pub(crate) fn send_rounds<F: Field>(
+pub(crate) fn send_rounds<R: Threads + Sync, F: Field>(
+    rt: &R,
+    workers: usize,
     tape: &mut Tape,
     of_a: bool,
     pairs: &mut [Pair<F>],
@@ -79,6 +85,8 @@ pub(crate) fn send_rounds<F: Field>(
     ra: &mut [F],
     rb: &mut [F],
 )
+    requires some_workers { 1 ≤ workers }
+    requires few_workers { workers ≤ 64 }
     requires turn { length rb.old ≤ length ra.old }
     requires next { length ra.old ≤ length rb.old + 1 }
     requires first { 1 ≤ length first.old }
@@ -87,8 +95,8 @@ pub(crate) fn send_rounds<F: Field>(
     requires second_fits { length second.old ≤ 2 ^ length rb.old }
     requires for_a { of_a ≡ true → length linear.old ≡ length second.old }
     requires for_b { of_a ≡ false → length linear.old ≡ length first.old }
-    requires first_rows { length first.old ≤ length rows.old }
-    requires second_rows { length second.old ≤ length rows.old }
+    requires first_rows { length first.old + 3 * 64 ≤ length rows.old }
+    requires second_rows { length second.old + 3 * 64 ≤ length rows.old }
     requires pairs { ArePairs (length first.old) (length second.old) pairs.old }
     requires pads { length pads.now ≡ 2 * (length ra.old + length rb.old) }
     requires room { length sent.old ≡ 2 * (length ra.old + length rb.old) }
@@ -112,11 +120,13 @@ pub(crate) fn send_rounds<F: Field>(
         return;
     };
     let (now, later) = sent.split_at_mut(2);
-    let sums = kept_sums(of_a, pairs, scale, linear, first, second, rows);
+    let sums = kept_sums(rt, workers, of_a, pairs, scale, linear, first, second, rows);
     let x = send_round(tape, sums, pads, now);
     *challenge = x;
     let left = bind_kept(of_a, pairs, scale, linear, first, second, x);
     send_rounds(
+        rt,
+        workers,
         tape,
         !of_a,
         &mut pairs[..left.pairs],

@@ -7,5 +7,5 @@ returns-clause-value g c = λ j k st h fits room t.
     let m = g.F.Field in
     let a = c.args in
     let twice : 2 ^ (j + 1) ≡ 2 * 2 ^ j = two-more j in
-    c.round_sums.ensures (2 ^ j) (omega arith) t
-    ∙ round-rows m.ops m.laws.ring j k st a.of_a a.pairs.now a.scale a.linear.now a.first.now a.second.now c.set_rows.new.rows (length a.first.now) t h c.requires.pairs c.requires.second room c.requires.for_a c.set_rows.ensures.entries
+    c.sum_round.ensures.sums.value (2 ^ j) (omega arith) t
+    ∙ round-rows m.ops m.laws.ring j k st a.of_a a.pairs.now a.scale a.linear.now a.first.now a.second.now (length a.first.now) t h c.requires.pairs c.requires.second room c.requires.for_a
