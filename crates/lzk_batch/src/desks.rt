@@ -1,6 +1,6 @@
 //! The desks of a worker.
 
-ghost use Rattle.std.specs.Prelude.{◌≡◌, IfOk};
+ghost use Rattle.std.specs.Prelude.{◌≡◌, None, IfOk, OnErr, IsSomeAnd};
 ghost use Rattle.std.specs.Option.{ForSome};
 ghost use Rattle.lzk_field.specs.Coding.{coding};
 ghost use Rattle.lzk_verify.specs.Verdict.{IsVerdict, IsOnlyVerdict};
@@ -23,22 +23,41 @@ struct Kept<'c, F: Field> {
     desk: Desk<'c, F>,
 }
 
-// The desk that was kept, if it is for the circuit at this place, and else a new one.
-fn desk_for<'c, F: Field>(
+// Keeps a desk for the circuit at this place: the one that is kept, if it is for that, and else a new one.
+fn ready<'c, F: Field>(
     alloc: Global,
-    kept: Option<Kept<'c, F>>,
+    kept: &mut Option<Kept<'c, F>>,
     place: u32,
     circuit: &'c Circuit<F>,
-) -> Result<Desk<'c, F>, AllocError>
-    requires { ForSome kept (λ k. k.place ≡ place → k.desk.circuit ≡ circuit.now) }
-    ensures { IfOk result (λ desk. desk.circuit ≡ circuit.now) }
+) -> Result<(), AllocError>
+    requires { ForSome kept.old (λ k. k.place ≡ place → k.desk.circuit ≡ circuit.now) }
+    ensures kept { IfOk result (λ _. IsSomeAnd kept.new (λ k. (k.place ≡ place) × (k.desk.circuit ≡ circuit.now))) }
+    ensures none { OnErr result (kept.new ≡ None) }
 {
-    if let Some(Kept { place: other, desk }) = kept {
-        if other == place {
-            return Ok(desk);
+    if let Some(k) = kept {
+        if k.place == place {
+            return Ok(());
         }
     }
-    Desk::new(alloc, circuit)
+    *kept = None;
+    match Desk::new(alloc, circuit) {
+        Ok(desk) => {
+            *kept = Some(Kept { place, desk });
+            Ok(())
+        }
+        Err(error) => Err(error),
+    }
+}
+
+// The verdict on a job's proof, by the desk that is kept.
+fn judge_at<'c, F: Field>(kept: &mut Kept<'c, F>, job: &JobOf<F>) -> Verdict<F>
+    requires { IsFit kept.old.desk.circuit job.now }
+    ensures verdict { IsVerdict F.ops (coding F.element F.number_of F.BYTES F.size F.ID) kept.old.desk.circuit job.now.session.items job.now.public.items job.now.proof.items result }
+    ensures one { IsOnlyVerdict F.ops (coding F.element F.number_of F.BYTES F.size F.ID) kept.old.desk.circuit job.now.session.items job.now.public.items job.now.proof.items result }
+    ensures place { kept.new.place ≡ kept.old.place }
+    ensures circuit { kept.new.desk.circuit ≡ kept.old.desk.circuit }
+{
+    kept.desk.verify(&job.session, &job.public, &job.proof)
 }
 
 // The verdict on a job's proof, for a circuit. Its desk is kept.
@@ -54,11 +73,11 @@ fn judge_over<'c, F: Field>(
     ensures one { IfOk result (IsOnlyVerdict F.ops (coding F.element F.number_of F.BYTES F.size F.ID) circuit.now job.now.session.items job.now.public.items job.now.proof.items) }
     ensures kept { ForSome kept.new (λ k. (k.place ≡ job.now.circuit) × (k.desk.circuit ≡ circuit.now)) }
 {
-    let place = job.circuit;
-    let mut desk = desk_for(alloc, kept.take(), place, circuit)?;
-    let verdict = desk.verify(&job.session, &job.public, &job.proof);
-    *kept = Some(Kept { place, desk });
-    Ok(verdict)
+    ready(alloc, kept, job.circuit, circuit)?;
+    match kept {
+        Some(kept) => Ok(judge_at(kept, job)),
+        None => unreachable!(),
+    }
 }
 
 /// The circuits of a batch, with the last desk over each field.
