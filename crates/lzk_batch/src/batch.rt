@@ -51,7 +51,20 @@ struct Batch<'a> {
     tickets: &'a Tickets,
 }
 
-// The list of one worker.
+// Verifies with one pass, and with desks of its own.
+fn work_alone(alloc: Global, batch: &Batch<'_>, pass: &mut Pass) -> Result<Vec<Judged>, AllocError>
+    requires fit { All (IsJobFit batch.now.circuits.now) batch.now.jobs.now }
+    requires dealt { batch.now.tickets.now.jobs ≡ length batch.now.jobs.now }
+    requires of { IsOf batch.now.tickets.now pass.old }
+    requires open { IsOpen batch.now.tickets.now pass.old }
+    ensures worked { IfOk result (λ judged. HasWorked batch.now.circuits.now batch.now.jobs.now pass.old pass.new judged.items) }
+    ensures draws { DrawsOn pass.old pass.new }
+{
+    let mut desks = Desks::new(batch.circuits);
+    work(alloc, &mut desks, batch.jobs, batch.tickets, pass)
+}
+
+// The same, as a list of one list.
 fn one_list(
     alloc: Global,
     batch: &Batch<'_>,
@@ -64,8 +77,7 @@ fn one_list(
     ensures worked { IfOk result (λ lists. HaveWorked batch.now.circuits.now batch.now.jobs.now (pass.old ∷ []) (pass.new ∷ []) (map (λ list. list.items) lists.items)) }
     ensures draws { DrawsOn pass.old pass.new }
 {
-    let mut desks = Desks::new(batch.circuits);
-    let judged = work(alloc, &mut desks, batch.jobs, batch.tickets, pass)?;
+    let judged = work_alone(alloc, batch, pass)?;
     let mut lists = Vec::with_capacity(alloc, 1)?;
     lists.push(judged)?;
     Ok(lists)
