@@ -1,15 +1,14 @@
 -- Each job stands once in the lists of a batch.
-use Rattle.std.proofs.Common.{All, ◌≡◌, ◌≢◌, ◌==◌, ℕ, zero, suc, ◌+◌, ◌<◌, ◌≤◌, cond, List, [], ◌∷◌, ◌++◌, length, map, Result, Ok, Err, IfOk, Some, Vec, Global, refl, sym, ap, subst, ◌∙◌, inl, inr, arith}
-use Rattle.std.specs.Prelude.{Bool, nat_lt, nat_le, filter, flat_map, count_by, sum_by, slice_get}
+use Rattle.std.proofs.Common.{All, ◌≡◌, ◌≢◌, ℕ, ◌<◌, ◌≤◌, List, [], ◌∷◌, ◌++◌, map, Result, Ok, Err, IfOk, Vec, Global, refl, sym, ap, ◌∙◌, inl, inr, arith}
+use Rattle.std.specs.Prelude.{Bool, nat_lt, nat_le, filter, count_by}
 use Rattle.std.specs.List.{AllZip}
-use Rattle.std.proofs.lemmas.Bool.{cases_lt, lt-ltb, le-ltb, lt-leb, le-leb, ne_eqb}
+use Rattle.std.proofs.lemmas.Bool.{cases_lt, lt-ltb, le-ltb, lt-leb, ne_eqb}
 use Rattle.std.proofs.lemmas.List.Elements.{All-head, All-tail, filter-append}
-use Rattle.std.proofs.lemmas.List.Sums.{sum_by-cons, sum_by-append}
+use Rattle.std.proofs.lemmas.List.Sums.{sum_by-cons}
 use Rattle.lzk_batch.specs.declared.job.Judged.{Judged}
-use Rattle.lzk_batch.specs.declared.job.AnyVerdict.{AnyVerdict}
 use Rattle.lzk_batch.specs.Tickets.{times, once_below, HasEachBelowOnce}
-use Rattle.lzk_batch.specs.Passes.{TicketsState, PassState, AreAll, drawn_of, shares_of}
-use Rattle.lzk_batch.specs.Batch.{numbers_of, numbers_in, HasDrawnOneLate, AreAllJobsDrawn, HasVerdictIn}
+use Rattle.lzk_batch.specs.Passes.{TicketsState, PassState, AreAll, drawn_of}
+use Rattle.lzk_batch.specs.Batch.{numbers_of, numbers_in, HasDrawnOneLate, AreAllJobsDrawn}
 use Rattle.lzk_batch.proofs.Weights.{mark, times-append}
 use Rattle.lzk_batch.proofs.Sharing.{mark_from}
 

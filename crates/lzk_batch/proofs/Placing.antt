@@ -1,6 +1,6 @@
 -- Verdicts that stand in the order of their jobs.
-use Rattle.std.proofs.Common.{All, ◌≡◌, ℕ, zero, suc, ◌+◌, ◌<◌, take, drop, List, [], ◌∷◌, ◌++◌, length, length-append, map, Result, Ok, Err, IfOk, Some, Vec, Global, get_or, refl, sym, ap, subst, ◌∙◌, inl, inr, arith}
-use Rattle.std.specs.Prelude.{slice_get, slice_index_or, vec_len}
+use Rattle.std.proofs.Common.{All, ◌≡◌, ℕ, suc, ◌+◌, ◌<◌, take, drop, List, [], ◌∷◌, ◌++◌, length, length-append, map, Result, Ok, Err, IfOk, Some, Vec, Global, get_or, refl, sym, ap, subst, ◌∙◌, inl, inr, arith}
+use Rattle.std.specs.Prelude.{slice_get, vec_len}
 use Rattle.std.specs.declared.alloc.AllocError.{AllocError}
 use Rattle.std.specs.List.{AllZip}
 use Rattle.std.proofs.Math.Seq.{take-append_seam}
@@ -14,7 +14,7 @@ use Rattle.lzk_batch.specs.declared.job.Job.{Job}
 use Rattle.lzk_batch.specs.declared.job.Judged.{Judged}
 use Rattle.lzk_batch.specs.declared.job.AnyVerdict.{AnyVerdict}
 use Rattle.lzk_batch.specs.Passes.{TicketsState, PassState, IsOf, HasDrawnNothing, AreAll, shares_of}
-use Rattle.lzk_batch.specs.Batch.{IsJudged, HasVerdict, HaveVerdicts, HasVerdictIn, judged_as, numbers_of, AreJobsDrawn, AreAllJobsDrawn, DrawsOn, AllZip₃}
+use Rattle.lzk_batch.specs.Batch.{IsJudged, HasVerdict, HaveVerdicts, HasVerdictIn, judged_as, AreJobsDrawn, AreAllJobsDrawn, DrawsOn, AllZip₃}
 
 -- ---- one more place
 

@@ -1,5 +1,5 @@
 -- What workers do side by side, and what their lists have.
-use Rattle.std.proofs.Common.{All, ◌≡◌, ℕ, ◌+◌, ◌<◌, ◌≤◌, true, false, cond, List, [], ◌∷◌, ◌++◌, length, drop, map, Result, Ok, Err, IfOk, Vec, Global, refl, sym, ap, subst, ◌∙◌, append-nil, arith}
+use Rattle.std.proofs.Common.{All, ◌≡◌, ℕ, ◌<◌, ◌≤◌, cond, List, [], ◌∷◌, ◌++◌, length, drop, map, Result, Ok, Err, IfOk, Vec, Global, refl, sym, ap, subst, ◌∙◌, append-nil, arith}
 use Rattle.std.specs.declared.alloc.AllocError.{AllocError}
 use Rattle.std.specs.Prelude.{IsOkAnd, nat_lt, nat_le, filter, count_by, sum_by}
 use Rattle.std.specs.List.{AllZip}
@@ -12,7 +12,7 @@ use Rattle.lzk_circbytes.specs.declared.any.AnyCircuit.{AnyCircuit}
 use Rattle.lzk_batch.specs.declared.job.Job.{Job}
 use Rattle.lzk_batch.specs.declared.job.Judged.{Judged}
 use Rattle.lzk_batch.specs.Passes.{TicketsState, PassState, IsOpen}
-use Rattle.lzk_batch.specs.Batch.{IsJudged, HasDrawnMore, DrawsOn, AreJobsDrawn, HasDrawnOneLate, AllZip₃, numbers_of, drawn_since}
+use Rattle.lzk_batch.specs.Batch.{IsJudged, AreJobsDrawn, HasDrawnOneLate, AllZip₃, numbers_of, drawn_since}
 use Rattle.lzk_batch.specs.Working.{HasWorked, HaveWorked}
 
 -- ---- lists that are joined

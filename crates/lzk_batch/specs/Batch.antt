@@ -1,5 +1,5 @@
 -- What a batch answers.
-use Rattle.std.specs.Prelude.{◌≡◌, ◌≤◌, ◌<◌, ◌^◌, ◌++◌, ℕ, nat_lt, nat_le, List, [], ◌∷◌, length, map, filter, drop, count_by, All, Any, Contains, flat_map, Vec, slice_get, Some}
+use Rattle.std.specs.Prelude.{◌≡◌, ◌≤◌, ◌^◌, ◌++◌, ℕ, nat_lt, nat_le, List, [], ◌∷◌, length, map, filter, drop, count_by, Any, Contains, flat_map, Vec, slice_get, Some}
 use Rattle.std.specs.Global.{Global}
 use Rattle.std.specs.List.{AllZip}
 use Rattle.lzk_circuit.specs.Valid.{Wiring}
@@ -11,7 +11,7 @@ use Rattle.lzk_gf128.specs.declared.element.Gf128.{Gf128}
 use Rattle.lzk_goldilocks.specs.Prime.{p}
 use Rattle.lzk_goldilocks.specs.Elements as gold
 use Rattle.lzk_gf128.specs.Elements as gf
-use Rattle.lzk_verify.specs.Verdict.{IsVerdict, IsOnlyVerdict}
+use Rattle.lzk_verify.specs.Verdict.{IsVerdict}
 use Rattle.lzk_batch.specs.declared.job.JobOf.{JobOf}
 use Rattle.lzk_batch.specs.declared.job.Job.{Job}
 use Rattle.lzk_batch.specs.declared.job.Job.TheVariants as jobs

@@ -1,4 +1,4 @@
-use Rattle.std.proofs.Common.{◌≡◌, ◌++◌, IfOk, map, rules, subst, sym}
+use Rattle.std.proofs.Common.{◌++◌, IfOk, map, rules, subst, sym}
 use Rattle.std.specs.List.{AllZip}
 use Rattle.lzk_batch.specs.Batch.{DrawsOn}
 use Rattle.lzk_batch.specs.Working.{HaveWorked}

@@ -1,4 +1,4 @@
-use Rattle.std.proofs.Common.{All, ◌≡◌, length, map, subst, sym, arith}
+use Rattle.std.proofs.Common.{All, length, map, subst, sym, arith}
 use Rattle.std.specs.List.{AllZip}
 use Rattle.lzk_batch.specs.Batch.{IsJudged, HasDrawnOneLate, AreAllJobsDrawn}
 use Rattle.lzk_batch.proofs.Placing.{gathered_jobs, have_verdicts, passes_back}

@@ -1,4 +1,4 @@
-use Rattle.std.proofs.Common.{◌≡◌, Some, length, subst, sym, ◌∙◌}
+use Rattle.std.proofs.Common.{◌≡◌, Some, subst, ◌∙◌}
 use Rattle.std.specs.Prelude.{slice_get}
 use Rattle.std.proofs.lemmas.Option.{slice_get_read}
 use Rattle.lzk_batch.specs.declared.job.Judged.{Judged}
