@@ -2,6 +2,7 @@ pub mod RowLaws
 pub mod MergeLaws
 pub mod AppendLaws
 pub mod RenumberLaws
+pub mod InOrderLaws
 pub mod WireLaws
 pub mod MovedLaws
 pub mod MarkLaws

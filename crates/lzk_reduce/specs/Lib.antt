@@ -1,5 +1,6 @@
 pub mod Rows
 pub mod Renumbering
+pub mod InOrder
 pub mod Marks
 pub mod Reduced
 pub mod Kept

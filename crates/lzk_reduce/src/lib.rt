@@ -11,6 +11,7 @@
 //! ```
 #![tactic(auto)]
 
+mod in_order;
 mod kept;
 mod marks;
 mod prune;

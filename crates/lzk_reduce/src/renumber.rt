@@ -7,6 +7,7 @@ ghost use Rattle.lzk_reduce.specs.Renumbering.{at};
 ghost use Rattle.lzk_reduce.specs.Rows.{IsRow, row_value};
 ghost use Rattle.lzk_reduce.specs.Renumbering.{of_wire, terms_before, AreOver, AreNumbersBelow, AreCopies, IsOne};
 
+use crate::in_order::in_order;
 use crate::rows::{append, merged, single};
 use lzk_circuit::{Layer, Term, Terms};
 use lzk_field::Field;
@@ -31,6 +32,9 @@ pub fn renumbered<F: Field>(
         let term = terms[0];
         let (a, b) = (numbers[term.a as usize], numbers[term.b as usize]);
         return single(alloc, term.coef, a, b);
+    }
+    if let Some(row) = in_order(alloc, terms, numbers)? {
+        return Ok(row);
     }
     let (left, right) = terms.split_at(terms.len() / 2);
     let left = renumbered(alloc, left, numbers)?;

@@ -10,15 +10,16 @@ use lzk_circuit::Term;
 use lzk_field::Field;
 use std::alloc::{AllocError, Global};
 
-fn is_zero<F: Field>(x: F) -> bool
+/// Whether an element is 0.
+pub fn is_zero<F: Field>(x: F) -> bool
     ensures yes { result ≡ true → x ≡ F.ops.zero }
     ensures no { result ≡ false → x ≢ F.ops.zero }
 {
     x.number() == 0
 }
 
-// The term that counts `coef` times wires `a` and `b`.
-fn term_of<F: Field>(coef: F, a: u32, b: u32) -> Term<F>
+/// The term that counts `coef` times wires `a` and `b`.
+pub fn term_of<F: Field>(coef: F, a: u32, b: u32) -> Term<F>
     ensures wire { result.g ≡ 0 }
     ensures coef { result.coef ≡ coef }
     ensures order { result.a ≤ result.b }
