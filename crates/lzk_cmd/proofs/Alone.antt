@@ -3,6 +3,7 @@ use Rattle.std.proofs.Common.{◌≡◌, ◌<◌, inl, inr, ◌⊎◌, ℕ, Bool
 use Rattle.std.specs.Prelude.{◌^◌, MatchBool, MatchOption, nat_lt, slice_index_or}
 use Rattle.lzk_circbytes.specs.declared.any.AnyCircuit.{AnyCircuit}
 use Rattle.lzk_circbytes.specs.declared.any.AnyCircuit.TheVariants.{Gold, Gf}
+use Rattle.sha2.specs.Sha256.{sha256}
 use Rattle.lzk_circuit.specs.Valid.{Wiring}
 use Rattle.lzk_circuit.specs.Wires.{wires_of, inputs_of, IsFirstNonzero}
 use Rattle.lzk_demo.specs.Demo.{demo_tree}
@@ -21,19 +22,21 @@ use Rattle.lzk_layout.specs.Sizes.{params_of}
 use Rattle.lzk_layout.proofs.Faults.{one_fault}
 use Rattle.lzk_layout.proofs.OneProof.{one_proof, no_fault}
 use Rattle.lzk_outside.specs.Outside.{Files}
+use Rattle.lzk_sha_circuit.specs.Inputs.{sha_private}
 use Rattle.lzk_verify.proofs.OneVerdict.{one_verdict}
 use Rattle.lzk_cmd.specs.Compiled.{CompileRun, PutsCompiled, term_total}
 use Rattle.lzk_cmd.specs.Demo.{DemoRun}
 use Rattle.lzk_cmd.specs.Decoded.{circuit_files, number_files, source_files, proof_files, level_refused}
 use Rattle.lzk_cmd.specs.Ends.{End, Stop, stops_at, says, missing_file, refused_words, puts}
 use Rattle.lzk_cmd.specs.Formats.{Format, AtBytes, At}
+use Rattle.lzk_cmd.specs.Hashed.{ShaCircuitRun, ProvesHash, HashAny, HashRun, digest_inputs, is_for, message_of}
 use Rattle.lzk_cmd.specs.Keys.{number_of}
-use Rattle.lzk_cmd.specs.Lines.{larger_line, reading_line, proved_line}
+use Rattle.lzk_cmd.specs.Lines.{larger_line, reading_line, told_line, unfit_line}
 use Rattle.lzk_cmd.specs.OneEnd.{PutAlike, DemoAlike, AreOne, OneEnd}
 use Rattle.lzk_cmd.specs.Proved.{PutsProof, Proves, ProveOver, ProveAny, ProveRun, nonzero_end, seed_of}
 use Rattle.lzk_cmd.specs.Run.{Evaluated, EvalOver, EvalAny, EvalRun, ShowRun, CommandRun, verdict, output_lines}
 use Rattle.lzk_cmd.specs.Verified.{Judged, VerifyOver, VerifyAny, VerifyRun, session_of, verdict_end, gold_coding, gf_coding}
-use Rattle.lzk_cmd.specs.Words.{Command, Eval, Compile, Show, Prove, Verify, Demo, command_of}
+use Rattle.lzk_cmd.specs.Words.{Command, Eval, Compile, Show, Prove, Verify, Demo, ShaCircuit, Sha256, command_of}
 use Rattle.lzk_cmd.proofs.Laws as formats
 use Rattle.lzk_cmd.proofs.Laws.{IsLawful}
 
@@ -107,22 +110,22 @@ module _ {A : Type 0} (o : Ops A) (e : Coding A) (laws : Laws o e.size e.number 
       one_judged session publics bytes a b))
 
   -- where there is one file of a proof
-  module _ (files : Files) (stop : Stop) (a b : End) (one : OneFile o e) (proof session seed : List ℕ) where
-    one_proves : (publics privates : List A) → Proves o e c proof session seed publics privates stop a → Proves o e c proof session seed publics privates stop b → a ≡ b
-    one_proves publics privates (f, is, h) (g, js, k) = go f h (subst (λ (first : Option (ℕ × A)). MatchOption first (PutsProof o e c proof session seed publics privates stop b) (λ found. b ≡ nonzero_end e.number found)) (one_first o _ g f js is) k)
+  module _ (files : Files) (stop : Stop) (a b : End) (one : OneFile o e) (proof : List ℕ) (digest : Option (List ℕ)) (session seed : List ℕ) where
+    one_proves : (publics privates : List A) → Proves o e c proof digest session seed publics privates stop a → Proves o e c proof digest session seed publics privates stop b → a ≡ b
+    one_proves publics privates (f, is, h) (g, js, k) = go f h (subst (λ (first : Option (ℕ × A)). MatchOption first (PutsProof o e c proof digest session seed publics privates stop b) (λ found. b ≡ nonzero_end e.number found)) (one_first o _ g f js is) k)
       where
-        go : (first : Option (ℕ × A)) → MatchOption first (PutsProof o e c proof session seed publics privates stop a) (λ found. a ≡ nonzero_end e.number found)
-            → MatchOption first (PutsProof o e c proof session seed publics privates stop b) (λ found. b ≡ nonzero_end e.number found) → a ≡ b
+        go : (first : Option (ℕ × A)) → MatchOption first (PutsProof o e c proof digest session seed publics privates stop a) (λ found. a ≡ nonzero_end e.number found)
+            → MatchOption first (PutsProof o e c proof digest session seed publics privates stop b) (λ found. b ≡ nonzero_end e.number found) → a ≡ b
         go None (xs, file, fits, h) (ys, other, also, k) =
-            h ∙ ap (λ bytes. puts stop proof bytes (proved_line proof (length bytes))) (one c session publics privates (words_of (seeded_word seed)) xs ys file other) ∙ sym k
+            h ∙ ap (λ bytes. puts stop proof bytes (told_line proof digest (length bytes))) (one c session publics privates (words_of (seeded_word seed)) xs ys file other) ∙ sym k
         go (Some found) h k = h ∙ sym k
 
-    one_prove_over : (public private : List ℕ) → ProveOver o e c public private proof session seed files stop a → ProveOver o e c public private proof session seed files stop b → a ≡ b
-    unfolding ProveOver
-    one_prove_over public private =
-        one_step files stop a b (a ≡ b) (λ e. e) (number_files e.size e.number c.publics) (formats.numbers e.size e.number numbers_apart c.publics) 1 public _ _ (λ publics.
-        one_step files stop a b (a ≡ b) (λ e. e) (number_files e.size e.number c.privates) (formats.numbers e.size e.number numbers_apart c.privates) 2 private _ _ (λ privates.
-        one_proves publics privates))
+  one_prove_over : (files : Files) (stop : Stop) (a b : End) → OneFile o e → (proof session seed public private : List ℕ) → ProveOver o e c public private proof session seed files stop a → ProveOver o e c public private proof session seed files stop b → a ≡ b
+  unfolding ProveOver
+  one_prove_over files stop a b one proof session seed public private =
+      one_step files stop a b (a ≡ b) (λ e. e) (number_files e.size e.number c.publics) (formats.numbers e.size e.number numbers_apart c.publics) 1 public _ _ (λ publics.
+      one_step files stop a b (a ≡ b) (λ e. e) (number_files e.size e.number c.privates) (formats.numbers e.size e.number numbers_apart c.privates) 2 private _ _ (λ privates.
+      one_proves files stop a b one proof None session seed publics privates))
 
 one_verify_any : (c : AnyCircuit) (public proof session : List ℕ) (files : Files) (stop : Stop) (a b : End) → VerifyAny c public proof session files stop a → VerifyAny c public proof session files stop b → a ≡ b
 one_verify_any (Gold c) public proof session files stop a b h k = one_verify_over gold.ops gold_coding gold.laws c public proof session files stop a b h k
@@ -133,6 +136,25 @@ module _ (gold_file : OneFile gold.ops gold_coding) (gf_file : OneFile gf.ops gf
   one_prove_any : (c : AnyCircuit) (public private proof session seed : List ℕ) (files : Files) (stop : Stop) (a b : End) → ProveAny c public private proof session seed files stop a → ProveAny c public private proof session seed files stop b → a ≡ b
   one_prove_any (Gold c) public private proof session seed files stop a b h k = one_prove_over gold.ops gold_coding gold.laws c files stop a b gold_file proof session seed public private h k
   one_prove_any (Gf c) public private proof session seed files stop a b h k = one_prove_over gf.ops gf_coding gf.laws c files stop a b gf_file proof session seed public private h k
+
+-- a hash over a circuit
+one_hash : OneFile gold.ops gold_coding → (any : AnyCircuit) (circuit message proof session seed : List ℕ) (files : Files) (stop : Stop) (a b : End) → HashAny circuit any message proof session seed stop a → HashAny circuit any message proof session seed stop b → a ≡ b
+one_hash one (Gold c) circuit message proof session seed files stop a b h k = go (is_for (length message) c) h k
+  where
+    go : (fits : Bool) → MatchBool fits (ProvesHash c message proof session seed stop a) (a ≡ says 3 (unfit_line circuit (length message))) → MatchBool fits (ProvesHash c message proof session seed stop b) (b ≡ says 3 (unfit_line circuit (length message))) → a ≡ b
+    go true h k = one_proves gold.ops gold_coding gold.laws c files stop a b one proof (Some (sha256 message)) session seed (digest_inputs message) (sha_private gold.of_number message) h k
+    go false h k = h ∙ sym k
+one_hash one (Gf c) circuit message proof session seed files stop a b h k = h ∙ sym k
+
+one_shacircuit : (len : ℕ) (circuit : List ℕ) (files : Files) (stop : Stop) (a b : End) → ShaCircuitRun len circuit files stop a → ShaCircuitRun len circuit files stop b → PutAlike stop circuit a b
+unfolding ShaCircuitRun
+one_shacircuit len circuit files stop a b (c, xs, is, file, fits, e) (d, ys, js, other, also, f) = record {
+  layers = 2;
+  first = record { bytes = xs; terms = term_total (Gold c) };
+  second = record { bytes = ys; terms = term_total (Gold d) };
+  first_is = rw is.layers at e;
+  second_is = rw js.layers at f;
+}
 
 one_compile : (source circuit : List ℕ) (files : Files) (stop : Stop) (a b : End) → CompileRun source circuit files stop a → CompileRun source circuit files stop b
     → (a ≡ b) ⊎ PutAlike stop circuit a b
@@ -165,7 +187,7 @@ one_demo n seed files stop a b (c, xs, is, h) (d, ys, js, k) = record {
 
 module _ (gold_file : OneFile gold.ops gold_coding) (gf_file : OneFile gf.ops gf_coding) where
   one_command : (command : Command) (files : Files) (stop : Stop) (a b : End) → CommandRun command files stop a → CommandRun command files stop b → AreOne (Some command) stop a b
-  unfolding EvalRun ShowRun ProveRun VerifyRun
+  unfolding EvalRun ShowRun ProveRun VerifyRun HashRun
   one_command (Eval circuit public private) files stop a b h k =
       one_step files stop a b (a ≡ b) (λ e. e) circuit_files formats.circuits 0 circuit _ _ (λ c. one_eval_any c public private files stop a b) h k
   one_command (Compile source circuit) files stop a b h k = one_compile source circuit files stop a b h k
@@ -175,6 +197,9 @@ module _ (gold_file : OneFile gold.ops gold_coding) (gf_file : OneFile gf.ops gf
   one_command (Verify circuit public proof session) files stop a b h k =
       one_step files stop a b (a ≡ b) (λ e. e) circuit_files formats.circuits 0 circuit _ _ (λ c. one_verify_any c public proof (session_of session) files stop a b) h k
   one_command (Demo count seed) files stop a b h k = one_demo (number_of count) (seed_of seed) files stop a b h k
+  one_command (ShaCircuit count circuit) files stop a b h k = one_shacircuit (number_of count) circuit files stop a b h k
+  one_command (Sha256 circuit proof message seed session) files stop a b h k =
+      one_step files stop a b (a ≡ b) (λ e. e) circuit_files formats.circuits 0 circuit _ _ (λ c. one_hash gold_file c circuit (message_of message) proof (session_of session) (seed_of seed) files stop a b) h k
 
   pub one_end : OneEnd
   one_end words files stop a b = go (command_of words)

@@ -1,4 +1,4 @@
--- The number of a demo keeps its bounds.
+-- The number of a demo, and that of a message's bytes, keep their bounds.
 use Rattle.std.proofs.Common.{◌≡◌, ℕ, Bool, true, false, ◌&&◌, List, [], ◌∷◌, drop, Option, Some, None, refl, subst}
 use Rattle.std.specs.Prelude.{cond, take}
 use Rattle.std.specs.List.{list_all}
@@ -6,10 +6,10 @@ use Rattle.std.proofs.lemmas.Bool.{and_parts}
 use Rattle.lzk_cmd.specs.declared.table.Row.{Row}
 use Rattle.lzk_cmd.specs.declared.table.Verb.{Verb}
 use Rattle.lzk_cmd.specs.declared.table.Verb.TheVariants as verbs
-use Rattle.lzk_cmd.specs.Grammar.{Request, request_of, behind_verb, are_names, are_keys}
-use Rattle.lzk_cmd.specs.Keys.{Keys, is_number, keys_of, or_else}
+use Rattle.lzk_cmd.specs.Grammar.{Request, request_of, behind_verb, is_name, are_names, are_keys}
+use Rattle.lzk_cmd.specs.Keys.{Keys, is_count, is_number, keys_of, or_else}
 use Rattle.lzk_cmd.specs.Table.{verb_of, row_of}
-use Rattle.lzk_cmd.specs.Words.{Command, Eval, Compile, Show, Prove, Verify, Demo, built, command_of}
+use Rattle.lzk_cmd.specs.Words.{Command, Eval, Compile, Show, Prove, Verify, Demo, ShaCircuit, Sha256, built, command_of}
 
 -- the names are those of the row
 abbrev KeepsRow : Request → Type 0
@@ -56,6 +56,8 @@ HasNumber (Show circuit) = Unit {0}
 HasNumber (Prove circuit public private proof seed session) = Unit {0}
 HasNumber (Verify circuit public proof session) = Unit {0}
 HasNumber (Demo count seed) = is_number 16384 count ≡ true
+HasNumber (ShaCircuit count circuit) = is_count 55 count ≡ true
+HasNumber (Sha256 circuit proof message seed session) = Unit {0}
 
 found : (made command : Command) → HasNumber made → Some made ≡ Some command → HasNumber command
 found made command good e = subst HasNumber (some_is made command e) good
@@ -92,12 +94,25 @@ built_number verbs.Demo [] keys command good e = absurd cc
 built_number verbs.Demo (n ∷ []) keys command good e = go keys.seed e
   where
     number : is_number 16384 n ≡ true
-    number = (and_parts (is_number 16384 n) (list_all (is_number 16384) []) good).0
+    number = (and_parts (is_number 16384 n) (list_all is_name []) good).0
 
     go : (seed : Option (List ℕ)) → or_else seed (λ seed. Some (Demo n seed)) None ≡ Some command → HasNumber command
     go (Some seed) e = found _ command number e
     go None e = absurd cc
 built_number verbs.Demo (n ∷ m ∷ rest) keys command good e = absurd cc
+built_number verbs.ShaCircuit [] keys command good e = absurd cc
+built_number verbs.ShaCircuit (n ∷ []) keys command good e = absurd cc
+built_number verbs.ShaCircuit (n ∷ m ∷ []) keys command good e = found _ command (and_parts (is_count 55 n) (list_all is_name (m ∷ [])) good).0 e
+built_number verbs.ShaCircuit (n ∷ m ∷ k ∷ rest) keys command good e = absurd cc
+built_number verbs.Sha256 [] keys command good e = absurd cc
+built_number verbs.Sha256 (n ∷ []) keys command good e = absurd cc
+built_number verbs.Sha256 (n ∷ m ∷ []) keys command good e = go keys.message keys.seed e
+  where
+    go : (message seed : Option (List ℕ)) → or_else message (λ message. or_else seed (λ seed. Some (Sha256 n m message seed keys.session)) None) None ≡ Some command → HasNumber command
+    go (Some message) (Some seed) e = found _ command tt e
+    go (Some message) None e = absurd cc
+    go None seed e = absurd cc
+built_number verbs.Sha256 (n ∷ m ∷ k ∷ rest) keys command good e = absurd cc
 
 pub has_number : (words : List (List ℕ)) (command : Command) → command_of words ≡ Some command → HasNumber command
 unfolding command_of

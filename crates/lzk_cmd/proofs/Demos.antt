@@ -32,7 +32,7 @@ use Rattle.lzk_cmd.specs.Proved.{seed_of}
 use Rattle.lzk_cmd.specs.Seen.{Seen, WriteFailed}
 use Rattle.lzk_cmd.specs.Sights.{Before, After}
 use Rattle.lzk_cmd.specs.Verified.{gold_coding}
-use Rattle.lzk_cmd.specs.Walks.{IsEnding, OnDemo, Prints, TellsDemo, TellsDemos, Walks}
+use Rattle.lzk_cmd.specs.Walks.{Concludes, IsEnding, OnDemo, Prints, TellsDemo, TellsDemos, Walks}
 use Rattle.lzk_cmd.specs.Words.{Command, LeavesShelf, command_of}
 use Rattle.lzk_cmd.proofs.Sights.{where_told, no_step}
 use Rattle.lzk_cmd.proofs.Steps.{here}
@@ -132,6 +132,11 @@ module _ (before : Before) (after : After) where
 
   pub demo_wanted : after.status ≡ 6 → DemoIsAccepted before after
   demo_wanted six count seed is = inr (inr six)
+
+  pub demo_concluded : (done : Result Ending Halt) → TellsDemos before.words done → Concludes before.sink after.sink done after.status → DemoIsAccepted before after
+  demo_concluded (Ok e) told printed = demo_accepted e told printed
+  demo_concluded (Err halts.Memory) told printed = demo_wanted printed.0
+  demo_concluded (Err (halts.End e)) told printed = demo_stops e told
 
 -- digits of a number of inputs keep its bounds
 pub number_fits : (count : List ℕ) → is_number 16384 count ≡ true → (1 ≤ number_of count) × (number_of count ≤ 16384)

@@ -6,7 +6,11 @@ use Rattle.std.proofs.lemmas.Bool.{eqb-true, eqb-false}
 use Rattle.lzk_circbytes.specs.declared.any.AnyCircuit.{AnyCircuit}
 use Rattle.lzk_circbytes.specs.declared.any.AnyCircuit.TheVariants.{Gold, Gf}
 use Rattle.lzk_circbytes.specs.Files.{CircuitBytes}
+use Rattle.lzk_circbytes.specs.Numbered.{shape, numbered}
+use Rattle.lzk_circbytes.specs.Spelling.{file_of}
+use Rattle.lzk_circbytes.proofs.OneFile.{file_of-IsFile}
 use Rattle.lzk_circbytes.proofs.Sizes.{files_fit}
+use Rattle.sha2.specs.Sha256.{sha256}
 use Rattle.lzk_circuit.specs.Valid.{Wiring, IsValid}
 use Rattle.lzk_circuit.specs.Wires.{wires_of, inputs_of, IsFirstNonzero}
 use Rattle.lzk_expr.specs.declared.ast.FieldId.TheVariants.{Goldilocks, Gf2_128}
@@ -26,21 +30,25 @@ use Rattle.lzk_level.specs.SomeCircuit.{IsCircuitOf, HasSomeCircuit}
 use Rattle.lzk_level.proofs.SomeCircuits.{some_circuit}
 use Rattle.lzk_honest.specs.Proving.{HaveCounts, SomeFile, FilesFit, words_of}
 use Rattle.lzk_outside.specs.Outside.{Files}
+use Rattle.lzk_sha_circuit.specs.Circuits.{SomeShaCircuit}
+use Rattle.lzk_sha_circuit.specs.Inputs.{sha_private}
 use Rattle.lzk_verify.proofs.SomeVerdict.{some_verdict}
 use Rattle.lzk_cmd.specs.Compiled.{Compiled, CompileRun, CompileTree, PutsCompiled, compiled_text}
 use Rattle.lzk_cmd.specs.Demo.{DemoRun, demo_end}
 use Rattle.lzk_cmd.specs.Decoded.{circuit_files, number_files, source_files, proof_files, level_refused, text_limit, proof_limit}
 use Rattle.lzk_cmd.specs.Ends.{End, Stop, AtFile, stops_at, says, missing_file, refused_words, puts}
 use Rattle.lzk_cmd.specs.Formats.{Format, HasFile, AtBytes, At}
-use Rattle.lzk_cmd.specs.Lines.{larger_line, reading_line, proved_line}
+use Rattle.lzk_cmd.specs.Hashed.{ShaCircuitRun, ProvesHash, HashAny, HashRun, digest_inputs, is_for, message_of}
+use Rattle.lzk_cmd.specs.Lines.{larger_line, reading_line, told_line, unfit_line}
 use Rattle.lzk_cmd.specs.Proved.{PutsProof, Proves, ProveOver, ProveAny, ProveRun, nonzero_end, seed_of}
 use Rattle.lzk_cmd.specs.Run.{Evaluated, EvalOver, EvalAny, EvalRun, ShowRun, CommandRun, verdict, output_lines, shown_any}
 use Rattle.lzk_cmd.specs.SomeEnd.{AreBytes, SomeEnd}
 use Rattle.lzk_cmd.specs.Verified.{Judged, VerifyOver, VerifyAny, VerifyRun, session_of, verdict_end, gold_coding, gf_coding}
-use Rattle.lzk_cmd.specs.Words.{Command, Eval, Compile, Show, Prove, Verify, Demo, command_of}
+use Rattle.lzk_cmd.specs.Words.{Command, Eval, Compile, Show, Prove, Verify, Demo, ShaCircuit, Sha256, command_of}
 use Rattle.lzk_cmd.specs.Keys.{number_of}
 use Rattle.lzk_cmd.proofs.Counts.{HasNumber, has_number}
 use Rattle.lzk_cmd.proofs.Demos.{length_private, number_fits}
+use Rattle.lzk_cmd.proofs.Hashes.{count_fits, hash_counts}
 use Rattle.lzk_cmd.proofs.Total.{circuits_total, numbers_total}
 use Rattle.lzk_complete.specs.Complete.{Complete}
 use Rattle.lzk_demo.specs.Demo.{demo_tree, demo_public, demo_private, InputsSatisfy}
@@ -141,19 +149,19 @@ some_verify (Gf c) public proof session files stop good = some_verify_over gf.op
 
 -- inputs have a proof or a first output that is not 0, where valid circuits have a proof's file
 module _ {A : Type 0} (o : Ops A) (e : Coding A) (laws : Laws o e.size e.number e.element e.bytes) (some : SomeFile o e) (fit : FilesFit o e) (c : Wiring A) (valid : IsValid o c) (proof session seed : List ℕ) (files : Files) (stop : Stop) where
-  some_proves : (publics privates : List A) → HaveCounts c publics privates → (end : End) × Proves o e c proof session seed publics privates stop end
-  some_proves publics privates counts = go (some_first o e.number e.element e.size e.bytes laws (wires_of o c.layers (inputs_of o publics privates)))
+  some_proves : (digest : Option (List ℕ)) (publics privates : List A) → HaveCounts c publics privates → (end : End) × Proves o e c proof digest session seed publics privates stop end
+  some_proves digest publics privates counts = go (some_first o e.number e.element e.size e.bytes laws (wires_of o c.layers (inputs_of o publics privates)))
     where
       word : ℕ → ℕ
       word = words_of (seeded_word seed)
 
-      found : (first : Option (ℕ × A)) → (end : End) × MatchOption first (PutsProof o e c proof session seed publics privates stop end) (λ found. end ≡ nonzero_end e.number found)
+      found : (first : Option (ℕ × A)) → (end : End) × MatchOption first (PutsProof o e c proof digest session seed publics privates stop end) (λ found. end ≡ nonzero_end e.number found)
       found None =
           let file = some c session publics privates word valid counts (λ i. mod-lt (seeded_word seed i) (pow_pos 128)) in
-          (puts stop proof file.0 (proved_line proof (length file.0)), (file.0, file.1, fit c session publics privates word file.0 valid file.1, refl))
+          (puts stop proof file.0 (told_line proof digest (length file.0)), (file.0, file.1, fit c session publics privates word file.0 valid file.1, refl))
       found (Some first) = (nonzero_end e.number first, refl)
 
-      go : (first : Option (ℕ × A)) × IsFirstNonzero o (wires_of o c.layers (inputs_of o publics privates)) first → (end : End) × Proves o e c proof session seed publics privates stop end
+      go : (first : Option (ℕ × A)) × IsFirstNonzero o (wires_of o c.layers (inputs_of o publics privates)) first → (end : End) × Proves o e c proof digest session seed publics privates stop end
       go (first, is) = let behind = found first in (behind.0, (first, is, behind.1))
 
   some_prove_over : (public private : List ℕ) → (end : End) × ProveOver o e c public private proof session seed files stop end
@@ -161,7 +169,7 @@ module _ {A : Type 0} (o : Ops A) (e : Coding A) (laws : Laws o e.size e.number 
   some_prove_over public private =
       some_with files stop 1 public (number_files e.size e.number c.publics) (λ text has. numbers_total o e.size e.number e.element e.bytes laws 0 c.publics text) _ (λ text publics means.
       some_with files stop 2 private (number_files e.size e.number c.privates) (λ text has. numbers_total o e.size e.number e.element e.bytes laws 0 c.privates text) _ (λ other privates also.
-      some_proves publics privates (sym (length-map publics e.number) ∙ means.number, sym (length-map privates e.number) ∙ also.number)))
+      some_proves None publics privates (sym (length-map publics e.number) ∙ means.number, sym (length-map privates e.number) ∙ also.number)))
 
 -- what is known of the two fields' proofs
 pub record HaveFiles : Type 0 where
@@ -171,6 +179,7 @@ pub record HaveFiles : Type 0 where
   pub gf_fits : FilesFit gf.ops gf_coding
   pub gold_accepted : Complete gold.ops gold_coding
   pub demo_inputs : (n : ℕ) → 1 ≤ n → (c : Wiring GoldElement) → InputsSatisfy gold.ops gold.of_number n c
+  pub sha_circuit : SomeShaCircuit
   pub demo_circuit : (n : ℕ) → 1 ≤ n → n ≤ 16384 → HasSomeCircuit (demo_tree n)
 
 some_prove : HaveFiles → (bytes : List ℕ) (c : AnyCircuit) → CircuitBytes c bytes → (public private proof session seed : List ℕ) (files : Files) (stop : Stop) → (end : End) × ProveAny c public private proof session seed files stop end
@@ -209,8 +218,24 @@ module _ (have : HaveFiles) (files : Files) (stop : Stop) where
       (demo_end n c made.0, (c, made.0, record { compiled = compiled_of (demo_tree n) (Gold c) is; file = made.1; accepted = accepted }, refl))
   some_demo n seed some (Gf c, bytes, is, file) = absurd (fields_apart is.field_is)
 
+  some_shacircuit : (len : ℕ) (circuit : List ℕ) → len ≤ 55 → (end : End) × ShaCircuitRun len circuit files stop end
+  unfolding ShaCircuitRun
+  some_shacircuit len circuit few =
+      let (c, is, valid) = have.sha_circuit len few in
+      let bytes = file_of (shape 1 8 p) (numbered gold.number c) in
+      let file : CircuitBytes (Gold c) bytes = file_of-IsFile gold.ops p gold.number gold.of_number 8 gold.laws 1 c valid in
+      (puts stop circuit bytes (compiled_text circuit (Gold c) (length bytes)), (c, bytes, is, file, files_fit (Gold c) bytes file, refl))
+
+  some_hash : (bytes : List ℕ) (any : AnyCircuit) → CircuitBytes any bytes → (circuit message proof session seed : List ℕ) → (end : End) × HashAny circuit any message proof session seed stop end
+  some_hash bytes (Gold c) is circuit message proof session seed = go (is_for (length message) c) refl
+    where
+      go : (fits : Bool) → is_for (length message) c ≡ fits → (end : End) × MatchBool fits (ProvesHash c message proof session seed stop end) (end ≡ says 3 (unfit_line circuit (length message)))
+      go true fits = some_proves gold.ops gold_coding gold.laws have.gold_file have.gold_fits c is.valid proof session seed files stop (Some (sha256 message)) (digest_inputs message) (sha_private gold.of_number message) (hash_counts message c fits)
+      go false fits = (says 3 (unfit_line circuit (length message)), refl)
+  some_hash bytes (Gf c) is circuit message proof session seed = (says 3 (unfit_line circuit (length message)), refl)
+
   some_command : (command : Command) → HasNumber command → AreBytes files → (end : End) × CommandRun command files stop end
-  unfolding EvalRun ShowRun ProveRun VerifyRun
+  unfolding EvalRun ShowRun ProveRun VerifyRun HashRun
   some_command (Eval circuit public private) number good = some_at files stop 0 circuit circuit_files (circuits_there good circuit) _ (λ c. some_eval c public private files stop)
   some_command (Compile source circuit) number good = some_compile source circuit
   some_command (Show circuit) number good = some_at files stop 0 circuit circuit_files (circuits_there good circuit) _ (λ c. (says 0 (shown_any c), refl))
@@ -220,6 +245,9 @@ module _ (have : HaveFiles) (files : Files) (stop : Stop) where
       some_at files stop 0 circuit circuit_files (circuits_there good circuit) _ (λ c. some_verify c public proof (session_of session) files stop good)
   some_command (Demo count seed) number good =
       let fits = number_fits count number in some_demo (number_of count) (seed_of seed) fits.0 (have.demo_circuit (number_of count) fits.0 fits.1)
+  some_command (ShaCircuit count circuit) number good = some_shacircuit (number_of count) circuit (count_fits count number)
+  some_command (Sha256 circuit proof message seed session) number good =
+      some_with files stop 0 circuit circuit_files (circuits_there good circuit) _ (λ bytes c means. some_hash bytes c means circuit (message_of message) proof (session_of session) (seed_of seed))
 
 pub some_end : HaveFiles → SomeEnd
 some_end have words files stop good = go (command_of words) (has_number words)

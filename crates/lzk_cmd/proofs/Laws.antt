@@ -17,7 +17,8 @@ use Rattle.lzk_level.specs.declared.fault.LevelFault.{LevelFault}
 use Rattle.lzk_cmd.specs.Decoded.{circuit_files, number_files, source_files, proof_files, level_refused}
 use Rattle.lzk_cmd.specs.Ends.{says}
 use Rattle.lzk_cmd.specs.Formats.{Format}
-use Rattle.lzk_cmd.specs.Refusals.{Refusal, Bytes, Numbers, Source, Level, refusal_line, MayRefuse}
+use Rattle.lzk_cmd.specs.Lines.{unfit_line}
+use Rattle.lzk_cmd.specs.Refusals.{Refusal, Bytes, Numbers, Source, Level, Unfit, refusal_line, MayRefuse}
 use Rattle.lzk_cmd.proofs.Causes.{IsQuiet}
 
 -- bytes mean one thing or have one fault, and are refused by a line that needs nothing of the outside
@@ -32,6 +33,9 @@ refusal_quiet refusal may = record { put = refl; present = refl; cause = inr (re
 
 pub level_quiet : (name : List ℕ) (fault : LevelFault) → IsQuiet (level_refused name fault)
 level_quiet name fault = refusal_quiet (Level name fault) tt
+
+pub unfit_quiet : (name : List ℕ) (len : ℕ) → IsQuiet (says 3 (unfit_line name len))
+unfit_quiet name len = refusal_quiet (Unfit name len) tt
 
 -- ---- circuit files
 

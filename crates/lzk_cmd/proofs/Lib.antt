@@ -8,6 +8,7 @@ pub mod Digits
 pub mod Evals
 pub mod Exists
 pub mod Fronts
+pub mod Hashes
 pub mod Inputs
 pub mod Laws
 pub mod Outputs

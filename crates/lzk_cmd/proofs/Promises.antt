@@ -1,16 +1,18 @@
 -- What was done, and printed, is what is promised.
-use Rattle.std.proofs.Common.{◌≡◌, ◌⊎◌, ◌≤◌, ℕ, List, ◌++◌, take, Option, Some, None, inl, inr, sym, ap, ◌∙◌, arith}
+use Rattle.std.proofs.Common.{◌≡◌, ◌⊎◌, ◌≤◌, ℕ, List, ◌++◌, take, Option, Some, None, Result, Ok, Err, inl, inr, sym, ap, ◌∙◌, arith}
 use Rattle.std.specs.Prelude.{IfSome, string_bytes}
 use Rattle.std.specs.Option.{option_map}
 use Rattle.lzk_outside.specs.Outside.{Files, Appends}
 use Rattle.lzk_cmd.specs.declared.ending.Ending.{Ending}
+use Rattle.lzk_cmd.specs.declared.ending.Halt.{Halt}
+use Rattle.lzk_cmd.specs.declared.ending.Halt.TheVariants as halts
 use Rattle.lzk_cmd.specs.Complete.{Completes}
 use Rattle.lzk_cmd.specs.Outcome.{WhereTold, Answers, Outcome, Refused}
 use Rattle.lzk_cmd.specs.Promise.{Promise}
 use Rattle.lzk_cmd.specs.Run.{RunOf}
 use Rattle.lzk_cmd.specs.Seen.{SeenSink, PutFailed, WriteFailed}
 use Rattle.lzk_cmd.specs.Sights.{Before, After}
-use Rattle.lzk_cmd.specs.Walks.{Moves, Quiet, Settled, Prints}
+use Rattle.lzk_cmd.specs.Walks.{Concludes, Moves, Quiet, Settled, Prints, Works}
 use Rattle.lzk_cmd.specs.Words.{PutsFile, command_of}
 use Rattle.lzk_cmd.proofs.Ready.{completes}
 use Rattle.lzk_cmd.proofs.Sights.{where_told, at_told}
@@ -109,3 +111,9 @@ module _ (before : Before) (after : After) where
       uncounted_puts = moves.uncounted_puts;
       uncounted_writes = λ never. ap (λ (k : SeenSink). k.faults) same;
     }
+
+  -- what was done, and was printed or not
+  pub concluded : Moves before.shelf after.shelf → Quiet before.sink after.sink → (done : Result Ending Halt) → Works before.words before.shelf after.shelf done → Concludes before.sink after.sink done after.status → Promise before after
+  concluded moves quiet (Ok e) h printed = promised moves quiet e h printed
+  concluded moves quiet (Err halts.Memory) h printed = wanted moves printed.1 printed.0 h
+  concluded moves quiet (Err (halts.End e)) h printed = promised moves quiet e h printed

@@ -13,7 +13,7 @@ use Rattle.lzk_cmd.specs.declared.ending.Halt.{Halt}
 use Rattle.lzk_cmd.specs.declared.ending.Halt.TheVariants as halts
 use Rattle.lzk_cmd.specs.Decoded.{proof_limit}
 use Rattle.lzk_cmd.specs.Ends.{End, Stop, puts}
-use Rattle.lzk_cmd.specs.Lines.{proved_line}
+use Rattle.lzk_cmd.specs.Lines.{told_line}
 use Rattle.lzk_cmd.specs.Proved.{Proves, nonzero_end}
 use Rattle.lzk_cmd.specs.Seen.{Seen}
 use Rattle.lzk_cmd.specs.Walks.{IsEnding, Puts, WalksToPut}
@@ -24,14 +24,14 @@ use Rattle.lzk_cmd.proofs.Steps.{handed_on, here, at_put}
 nonzero_quiet : {A : Type 0} (number : A → ℕ) (first : ℕ × A) → IsQuiet (nonzero_end number first)
 nonzero_quiet number first = record { put = refl; present = refl; cause = inl (lit≤ tt) }
 
-module _ {A : Type 0} (o : Ops A) (e : Coding A) (c : Wiring A) (proof session seed : List ℕ) where
+module _ {A : Type 0} (o : Ops A) (e : Coding A) (c : Wiring A) (proof : List ℕ) (digest : Option (List ℕ)) (session seed : List ℕ) where
   -- the walk that has the inputs
   abbrev pub WithInputs : List A → List A → Files → Stop → End → Type 0
-  WithInputs publics privates files stop end = Proves o e c proof session seed publics privates stop end
+  WithInputs publics privates files stop end = Proves o e c proof digest session seed publics privates stop end
 
   module _ (publics privates : List A) where
     abbrev Whole : Files → Stop → End → Type 0
-    Whole files = Proves o e c proof session seed publics privates
+    Whole files = Proves o e c proof digest session seed publics privates
 
     abbrev IsFirst : Option (ℕ × A) → Type 0
     IsFirst first = IsFirstNonzero o (wires_of o c.layers (inputs_of o publics privates)) first
@@ -41,7 +41,7 @@ module _ {A : Type 0} (o : Ops A) (e : Coding A) (c : Wiring A) (proof session s
     no_memory old h r memory is = handed_on (WalksToPut Whole 3 old old) r halts.Memory (rw memory at is) (where_told old.files _ (λ f at. at))
 
     pub puts_proof : (old new : Seen) (bytes text : List ℕ) (r : Result Ending Halt) → IsFirst None → IsProofFile o e c session publics privates (words_of (seeded_word seed)) bytes → length bytes ≤ proof_limit
-        → text ≡ proved_line proof (length bytes) → Puts proof bytes text old new r → WalksToPut Whole 3 old new r
+        → text ≡ told_line proof digest (length bytes) → Puts proof bytes text old new r → WalksToPut Whole 3 old new r
     puts_proof old new bytes text r first file fits is h = at_put Whole 3 proof bytes text old new r (λ files stop. (None, first, (bytes, file, fits, ap (puts stop proof bytes) is))) h
 
     pub tells_first : (old : Seen) (first : ℕ × A) (ending : Ending) → IsFirst (Some first) → IsEnding (nonzero_end e.number first) ending → WalksToPut Whole 3 old old (Ok ending)

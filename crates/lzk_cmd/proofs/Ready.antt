@@ -4,6 +4,7 @@ use Rattle.std.specs.Prelude.{◌^◌, MatchOption}
 use Rattle.std.proofs.lemmas.Bool.{le-ltb}
 use Rattle.lzk_circbytes.specs.declared.any.AnyCircuit.{AnyCircuit}
 use Rattle.lzk_circbytes.specs.declared.any.AnyCircuit.TheVariants.{Gold, Gf}
+use Rattle.sha2.specs.Sha256.{sha256}
 use Rattle.lzk_circuit.specs.Valid.{Wiring}
 use Rattle.lzk_field.specs.Coding.{Coding}
 use Rattle.lzk_field.specs.Ring.{Ops}
@@ -11,6 +12,7 @@ use Rattle.lzk_goldilocks.specs.Prime.{p}
 use Rattle.lzk_goldilocks.specs.Elements as gold
 use Rattle.lzk_gf128.specs.Elements as gf
 use Rattle.lzk_outside.specs.Outside.{Files}
+use Rattle.lzk_sha_circuit.specs.Inputs.{sha_private}
 use Rattle.lzk_cmd.specs.Compiled.{CompileRun}
 use Rattle.lzk_cmd.specs.Complete.{HasNumbers, HasInputs, HasInputsOf, HasPublicsOf, IsReady, Completes}
 use Rattle.lzk_cmd.specs.Decoded.{circuit_files, number_files, source_files, proof_files}
@@ -19,12 +21,13 @@ use Rattle.lzk_verify.specs.declared.verdict.Verdict.{Verdict}
 use Rattle.lzk_verify.specs.declared.verdict.Verdict.TheVariants as verdicts
 use Rattle.lzk_cmd.specs.Ends.{End, Stop, Nowhere, AtRead, AtPut, MayStop, Leaves}
 use Rattle.lzk_cmd.specs.Formats.{Format, HasFile, Has, AtBytes, At}
+use Rattle.lzk_cmd.specs.Hashed.{ShaCircuitRun, ProvesHash, HashAny, HashRun, digest_inputs, is_for, message_of}
 use Rattle.lzk_cmd.specs.Outcome.{Answers, Outcome}
-use Rattle.lzk_cmd.specs.Proved.{PutsProof, Proves, ProveOver, ProveAny, ProveRun, nonzero_end}
+use Rattle.lzk_cmd.specs.Proved.{PutsProof, Proves, ProveOver, ProveAny, ProveRun, nonzero_end, seed_of}
 use Rattle.lzk_cmd.specs.Run.{EvalOver, EvalAny, EvalRun, ShowRun, CommandRun, RunOf, verdict}
 use Rattle.lzk_cmd.specs.Sights.{Before, After}
-use Rattle.lzk_cmd.specs.Verified.{VerifyOver, VerifyAny, VerifyRun, verdict_end, gold_coding, gf_coding}
-use Rattle.lzk_cmd.specs.Words.{Command, Eval, Compile, Show, Prove, Verify, Demo, command_of}
+use Rattle.lzk_cmd.specs.Verified.{VerifyOver, VerifyAny, VerifyRun, session_of, verdict_end, gold_coding, gf_coding}
+use Rattle.lzk_cmd.specs.Words.{Command, Eval, Compile, Show, Prove, Verify, Demo, ShaCircuit, Sha256, command_of}
 use Rattle.lzk_cmd.proofs.Laws as laws
 use Rattle.lzk_cmd.proofs.Laws.{IsLawful, no_number_fault}
 
@@ -90,10 +93,10 @@ verify_any_done : (c : AnyCircuit) (public proof session bytes : List ℕ) (file
 verify_any_done (Gold c) public proof session bytes files end has there h = verify_over_done gold.ops gold_coding c public proof session bytes files end has there h
 verify_any_done (Gf c) public proof session bytes files end has there h = verify_over_done gf.ops gf_coding c public proof session bytes files end has there h
 
-proves_done : {A : Type 0} (o : Ops A) (e : Coding A) (c : Wiring A) (proof session seed : List ℕ) (publics privates : List A) (end : End) → Proves o e c proof session seed publics privates Nowhere end → Done end
-proves_done {A} o e c proof session seed publics privates end (first, is, h) = go first h
+proves_done : {A : Type 0} (o : Ops A) (e : Coding A) (c : Wiring A) (proof : List ℕ) (digest : Option (List ℕ)) (session seed : List ℕ) (publics privates : List A) (end : End) → Proves o e c proof digest session seed publics privates Nowhere end → Done end
+proves_done {A} o e c proof digest session seed publics privates end (first, is, h) = go first h
   where
-    go : (first : Option (ℕ × A)) → MatchOption first (PutsProof o e c proof session seed publics privates Nowhere end) (λ found. end ≡ nonzero_end e.number found) → Done end
+    go : (first : Option (ℕ × A)) → MatchOption first (PutsProof o e c proof digest session seed publics privates Nowhere end) (λ found. end ≡ nonzero_end e.number found) → Done end
     go None (bytes, file, fits, same) = subst Done (sym same) (inl refl)
     go (Some found) same = subst Done (sym same) (inr refl)
 
@@ -103,14 +106,14 @@ unfolding ProveOver
 prove_over_done o e c public private proof session seed files end has h =
     let first = numbers_ready e.size e.number files public c.publics 1 end _ has.0 h in
     let second = numbers_ready e.size e.number files private c.privates 2 end _ has.1 first.1 in
-    proves_done o e c proof session seed first.0 second.0 end second.1
+    proves_done o e c proof None session seed first.0 second.0 end second.1
 
 prove_any_done : (c : AnyCircuit) (public private proof session seed : List ℕ) (files : Files) (end : End) → HasInputsOf c files public private → ProveAny c public private proof session seed files Nowhere end → Done end
 prove_any_done (Gold c) public private proof session seed files end has h = prove_over_done gold.ops gold_coding c public private proof session seed files end has h
 prove_any_done (Gf c) public private proof session seed files end has h = prove_over_done gf.ops gf_coding c public private proof session seed files end has h
 
 ready_done : (files : Files) (command : Command) (end : End) → IsReady files command → CommandRun command files Nowhere end → Done end
-unfolding EvalRun CompileRun ShowRun ProveRun VerifyRun DemoRun
+unfolding EvalRun CompileRun ShowRun ProveRun VerifyRun DemoRun ShaCircuitRun HashRun
 ready_done files (Eval circuit public private) end has h = eval_any_done has.0 public private files end has.2 (ready circuit_files laws.circuits files circuit 0 end has.0 _ has.1 h)
 ready_done files (Compile source circuit) end has h =
     let made = rw has.1.1 at (ready source_files laws.sources files source 0 end has.0 _ has.1.0 h) in
@@ -121,6 +124,12 @@ ready_done files (Prove circuit public private proof seed session) end has h =
 ready_done files (Verify circuit public proof session) end has h =
     verify_any_done has.0 public proof _ has.1 files end has.3 has.4 (ready circuit_files laws.circuits files circuit 0 end has.0 _ has.2 h)
 ready_done files (Demo count seed) end has (c, bytes, is, same) = subst Done (sym same) (inl refl)
+ready_done files (ShaCircuit count circuit) end has (c, bytes, is, file, fits, same) = subst Done (sym same) (inl refl)
+ready_done files (Sha256 circuit proof message seed session) end has h =
+    let found : HashAny circuit (Gold has.0) (message_of message) proof (session_of session) (seed_of seed) Nowhere end = ready circuit_files laws.circuits files circuit 0 end (Gold has.0) _ has.1 h in
+    let proved : ProvesHash has.0 (message_of message) proof (session_of session) (seed_of seed) Nowhere end = rw has.2 at found in
+    let m = message_of message in
+    proves_done gold.ops gold_coding has.0 proof (Some (sha256 m)) (session_of session) (seed_of seed) (digest_inputs m) (sha_private gold.of_number m) end proved
 
 pub run_command : (words : List (List ℕ)) (files : Files) (command : Command) (end : End) → command_of words ≡ Some command → RunOf words files Nowhere end → CommandRun command files Nowhere end
 run_command words files command end e h = rw e at h

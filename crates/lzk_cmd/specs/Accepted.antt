@@ -1,4 +1,4 @@
--- What `prove` puts is accepted, and what `demo` proves.
+-- What `prove` and `sha256` put is accepted, and what `demo` proves.
 use Rattle.std.specs.Prelude.{◌≡◌, ◌⊎◌, ℕ, List, length, Option, Some}
 use Rattle.lzk_circbytes.specs.declared.any.AnyCircuit.{AnyCircuit}
 use Rattle.lzk_circbytes.specs.declared.any.AnyCircuit.TheVariants.{Gold, Gf}
@@ -9,12 +9,14 @@ use Rattle.lzk_goldilocks.specs.declared.element.Gold.{Gold as GoldElement}
 use Rattle.lzk_goldilocks.specs.Elements as gold
 use Rattle.lzk_gf128.specs.Elements as gf
 use Rattle.lzk_outside.specs.Outside.{Files, Appends}
+use Rattle.lzk_sha_circuit.specs.Circuits.{IsShaCircuit}
 use Rattle.lzk_verify.specs.Verdict.{IsVerdict}
 use Rattle.lzk_verify.specs.declared.verdict.Verdict.TheVariants.{Accepted}
 use Rattle.lzk_cmd.specs.Decoded.{circuit_files, number_files}
 use Rattle.lzk_cmd.specs.Demo.{IsDemo}
 use Rattle.lzk_cmd.specs.Ends.{End, Stop}
 use Rattle.lzk_cmd.specs.Formats.{Has}
+use Rattle.lzk_cmd.specs.Hashed.{digest_inputs, message_of}
 use Rattle.lzk_cmd.specs.Keys.{number_of}
 use Rattle.lzk_cmd.specs.Lines.{demo_line}
 use Rattle.lzk_cmd.specs.Proved.{seed_of}
@@ -22,7 +24,7 @@ use Rattle.lzk_cmd.specs.Run.{RunOf}
 use Rattle.lzk_cmd.specs.Seen.{WriteFailed}
 use Rattle.lzk_cmd.specs.Sights.{Before, After}
 use Rattle.lzk_cmd.specs.Verified.{session_of, gold_coding, gf_coding}
-use Rattle.lzk_cmd.specs.Words.{Prove, Demo, command_of}
+use Rattle.lzk_cmd.specs.Words.{Prove, Demo, Sha256, command_of}
 
 -- the end puts bytes under a name that are accepted over a circuit, for a session and the public inputs of a number file
 abbrev pub PutsAccepted : {A : Type 0} → Ops A → Coding A → Wiring A → List ℕ → List ℕ → List ℕ → Files → End → Type 0
@@ -39,6 +41,19 @@ ProvedIsAccepted =
     (words : List (List ℕ)) (files : Files) (stop : Stop) (end : End) (circuit public private proof seed : List ℕ) (session : Option (List ℕ))
     → command_of words ≡ Some (Prove circuit public private proof seed session) → RunOf words files stop end → end.status ≡ 0
     → (c : AnyCircuit) × Has circuit_files files circuit c × PutsAcceptedAny c public proof (session_of session) files end
+
+-- Where `sha256` is done, the proof that it put is accepted for the same circuit and session, and the digest's words as public inputs.
+abbrev pub HashedIsAccepted : Type 0
+HashedIsAccepted =
+    (words : List (List ℕ)) (files : Files) (stop : Stop) (end : End) (circuit proof message seed : List ℕ) (session : Option (List ℕ))
+    → command_of words ≡ Some (Sha256 circuit proof message seed session) → RunOf words files stop end → end.status ≡ 0
+    → (c : Wiring GoldElement) × (bytes : List ℕ) × Has circuit_files files circuit (Gold c) × (end.put ≡ Some (proof, bytes)) × IsVerdict gold.ops gold_coding c (session_of session) (digest_inputs (message_of message)) bytes Accepted
+
+-- Over a circuit for messages of so many bytes, no end of `sha256` tells of an output that is not 0.
+abbrev pub HashesAreSatisfied : Type 0
+HashesAreSatisfied =
+    (words : List (List ℕ)) (files : Files) (stop : Stop) (end : End) (circuit proof message seed : List ℕ) (session : Option (List ℕ)) (c : Wiring GoldElement)
+    → command_of words ≡ Some (Sha256 circuit proof message seed session) → Has circuit_files files circuit (Gold c) → IsShaCircuit (length (message_of message)) c → RunOf words files stop end → end.status ≡ 1 → ⊥
 
 -- The run is done, and tells of the demo with n private inputs: of a circuit of its source, and of the proof of these inputs, which is accepted.
 pub record HasDemo (before : Before) (after : After) (n : ℕ) (seed : List ℕ) : Type 0 where

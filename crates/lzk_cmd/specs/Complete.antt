@@ -1,20 +1,22 @@
 -- Runs in which nothing is refused.
-use Rattle.std.specs.Prelude.{◌≡◌, ◌⊎◌, ◌^◌, ℕ, List, ◌++◌, Some, None}
+use Rattle.std.specs.Prelude.{◌≡◌, ◌⊎◌, ◌^◌, ℕ, List, length, ◌++◌, Some, None, true}
 use Rattle.lzk_circbytes.specs.declared.any.AnyCircuit.{AnyCircuit}
 use Rattle.lzk_circbytes.specs.declared.any.AnyCircuit.TheVariants.{Gold, Gf}
 use Rattle.lzk_circuit.specs.Valid.{Wiring}
 use Rattle.lzk_expr.specs.Numbers.{NumberText}
 use Rattle.lzk_expr.specs.Trees.{SourceTree}
+use Rattle.lzk_goldilocks.specs.declared.element.Gold.{Gold as GoldElement}
 use Rattle.lzk_goldilocks.specs.Prime.{p}
 use Rattle.lzk_level.specs.Compiled.{source_limit}
 use Rattle.lzk_outside.specs.Outside.{Files}
 use Rattle.lzk_cmd.specs.Decoded.{circuit_files, source_files, proof_files, text_limit}
 use Rattle.lzk_cmd.specs.Ends.{End, Nowhere, Leaves}
 use Rattle.lzk_cmd.specs.Formats.{HasFile, Has}
+use Rattle.lzk_cmd.specs.Hashed.{is_for, message_of}
 use Rattle.lzk_cmd.specs.Run.{RunOf}
 use Rattle.lzk_cmd.specs.Seen.{ReadFailed, PutFailed, WriteFailed}
 use Rattle.lzk_cmd.specs.Sights.{Before, After}
-use Rattle.lzk_cmd.specs.Words.{Command, Eval, Compile, Show, Prove, Verify, Demo, command_of}
+use Rattle.lzk_cmd.specs.Words.{Command, Eval, Compile, Show, Prove, Verify, Demo, ShaCircuit, Sha256, command_of}
 
 -- a file of so many numbers, each below size, is there, within its limit
 abbrev pub HasNumbers : Files → List ℕ → ℕ → ℕ → Type 0
@@ -36,7 +38,7 @@ HasPublicsOf (Gf c) files public = HasNumbers files public (2 ^ 128) c.publics
 abbrev pub HasSource : Files → List ℕ → SourceTree → Type 0
 HasSource files name source = Has source_files files name source × (source_limit source ≡ None)
 
--- the files that a command reads are there, within their limits and of their formats
+-- the files that a command reads are there, within their limits and of their formats, and a circuit that is to be proved for a message has its counts
 abbrev pub IsReady : Files → Command → Type 0
 IsReady files (Eval circuit public private) = (c : AnyCircuit) × Has circuit_files files circuit c × HasInputsOf c files public private
 IsReady files (Compile source circuit) = (s : SourceTree) × HasSource files source s
@@ -44,6 +46,8 @@ IsReady files (Show circuit) = (c : AnyCircuit) × Has circuit_files files circu
 IsReady files (Prove circuit public private proof seed session) = (c : AnyCircuit) × Has circuit_files files circuit c × HasInputsOf c files public private
 IsReady files (Verify circuit public proof session) = (c : AnyCircuit) × (bytes : List ℕ) × Has circuit_files files circuit c × HasPublicsOf c files public × Has proof_files files proof bytes
 IsReady files (Demo count seed) = Unit {0}
+IsReady files (ShaCircuit count circuit) = Unit {0}
+IsReady files (Sha256 circuit proof message seed session) = (c : Wiring GoldElement) × Has circuit_files files circuit (Gold c) × (is_for (length (message_of message)) c ≡ true)
 
 -- the run is done, or its inputs don't satisfy the circuit or its proof is rejected, its text is printed to the end, and its file is put
 pub record Completed (before : Before) (after : After) (files : Files) (text : List ℕ) : Type 0 where

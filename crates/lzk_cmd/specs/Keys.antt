@@ -21,6 +21,10 @@ is_seed text = (length text == 64) && are_hex text
 abbrev pub is_session : List ℕ → Bool
 is_session text = (length text % 2 == 0) && (nat_le (length text) 128 && are_hex text)
 
+-- at most 55 bytes
+abbrev pub is_message : List ℕ → Bool
+is_message text = (length text % 2 == 0) && (nat_le (length text) 110 && are_hex text)
+
 -- the number of these digits
 abbrev pub number_of : List ℕ → ℕ
 number_of text = number_from_digits 10 (map (λ b. b - 48) text)
@@ -32,14 +36,19 @@ number_up_to most text = cond (nat_le (number_of text) most) (Some (number_of te
 abbrev pub is_number : ℕ → List ℕ → Bool
 is_number most text = (nat_le 1 (length text) && nat_le (length text) 9) && (are_digits text && (nat_le 1 (number_of text) && nat_le (number_of text) most))
 
+-- 1 to 9 digits of a number up to most
+abbrev pub is_count : ℕ → List ℕ → Bool
+is_count most text = (nat_le 1 (length text) && nat_le (length text) 9) && (are_digits text && nat_le (number_of text) most)
+
 -- the keys that stand, each with what is behind its `=`
 pub record Keys : Type 0 where
   pub seed : Option (List ℕ)
   pub session : Option (List ℕ)
   pub workers : Option (List ℕ)
+  pub message : Option (List ℕ)
 
 abbrev pub no_keys : Keys
-no_keys = record { seed = None; session = None; workers = None }
+no_keys = record { seed = None; session = None; workers = None; message = None }
 
 -- a key may stand once
 abbrev pub with_seed : Keys → List ℕ → Option Keys
@@ -51,6 +60,9 @@ with_session keys text = cond (is_none keys.session && is_session text) (Some (r
 abbrev pub with_workers : Keys → List ℕ → Option Keys
 with_workers keys text = cond (is_none keys.workers && is_number 64 text) (Some (record keys { workers = Some text })) None
 
+abbrev pub with_message : Keys → List ℕ → Option Keys
+with_message keys text = cond (is_none keys.message && is_message text) (Some (record keys { message = Some text })) None
+
 -- what follows from a value, or else
 abbrev pub or_else : {A B : Type 0} → Option A → (A → B) → B → B
 or_else None f other = other
@@ -61,7 +73,8 @@ abbrev pub with_key : Keys → List ℕ → Option Keys
 with_key keys word =
     or_else (behind (codes "seed=") word) (with_seed keys)
     (or_else (behind (codes "session=") word) (with_session keys)
-    (or_else (behind (codes "workers=") word) (with_workers keys) None))
+    (or_else (behind (codes "workers=") word) (with_workers keys)
+    (or_else (behind (codes "message=") word) (with_message keys) None)))
 
 abbrev pub keys_after : Keys → List (List ℕ) → Option Keys
 keys_after keys [] = Some keys

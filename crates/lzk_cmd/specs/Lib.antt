@@ -10,6 +10,7 @@ pub mod Feeding
 pub mod Files
 pub mod Formats
 pub mod Grammar
+pub mod Hashed
 pub mod KeyViews
 pub mod Keys
 pub mod Lines
@@ -35,6 +36,7 @@ pub use Rattle.lzk_level.specs as lzk_level
 pub use Rattle.lzk_layout.specs as lzk_layout
 pub use Rattle.lzk_verify.specs as lzk_verify
 pub use Rattle.lzk_demo.specs as lzk_demo
+pub use Rattle.lzk_sha_circuit.specs as lzk_sha_circuit
 pub use Rattle.lzk_complete.specs as lzk_complete
 pub use Rattle.lzk_honest.specs as lzk_honest
 pub use Rattle.lzk_ligero.specs as lzk_ligero

@@ -1,5 +1,5 @@
 -- The lines that a run prints.
-use Rattle.std.specs.Prelude.{ℕ, List, [], ◌∷◌, ◌++◌, codes}
+use Rattle.std.specs.Prelude.{ℕ, List, [], ◌∷◌, ◌++◌, Option, Some, None, codes}
 use Rattle.std.specs.Fmt.{decimal}
 use Rattle.hex.specs.Hex.{encode_lower}
 use Rattle.lzk_circbytes.specs.declared.fault.ByteKind.{ByteKind}
@@ -132,6 +132,22 @@ column_line name column = codes "rejected: " ++ (name ++ (codes " at column " ++
 -- a proof was put
 abbrev pub proved_line : List ℕ → ℕ → List ℕ
 proved_line name bytes = codes "proved " ++ (name ++ (codes ": " ++ (decimal bytes ++ line (codes " bytes"))))
+
+-- and it is of a message with a digest of these digits
+abbrev pub digits_line : List ℕ → List ℕ → ℕ → List ℕ
+digits_line name digits bytes = codes "proved " ++ (name ++ (codes ": " ++ (decimal bytes ++ (codes " bytes, digest " ++ line digits))))
+
+abbrev pub hashed_line : List ℕ → List ℕ → ℕ → List ℕ
+hashed_line name digest bytes = digits_line name (encode_lower digest) bytes
+
+-- what is told of a proof, with the digest that it is of, if it is of one
+abbrev pub told_line : List ℕ → Option (List ℕ) → ℕ → List ℕ
+told_line name None bytes = proved_line name bytes
+told_line name (Some digest) bytes = hashed_line name digest bytes
+
+-- a circuit of which no message of so many bytes is proved
+abbrev pub unfit_line : List ℕ → ℕ → List ℕ
+unfit_line name len = codes "refused: " ++ (name ++ (codes " is not for " ++ (decimal len ++ line (codes " bytes"))))
 
 -- the first output that is not 0, with its value
 abbrev pub nonzero_line : ℕ → ℕ → List ℕ

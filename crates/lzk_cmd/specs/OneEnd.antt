@@ -5,7 +5,7 @@ use Rattle.lzk_cmd.specs.Ends.{End, Stop, says, puts}
 use Rattle.lzk_cmd.specs.Keys.{number_of}
 use Rattle.lzk_cmd.specs.Lines.{compiled_line, demo_line}
 use Rattle.lzk_cmd.specs.Run.{RunOf}
-use Rattle.lzk_cmd.specs.Words.{Command, Compile, Demo, command_of}
+use Rattle.lzk_cmd.specs.Words.{Command, Compile, Demo, ShaCircuit, command_of}
 
 -- the file of a circuit, and the numbers that are told of it
 pub record Told (layers : ℕ) : Type 0 where
@@ -32,10 +32,11 @@ pub record DemoAlike (n : ℕ) (a b : End) : Type 0 where
   pub first_is : a ≡ says 0 (demo_line n layers first)
   pub second_is : b ≡ says 0 (demo_line n layers second)
 
--- two ends of a run are one, but for which circuit `compile` puts, and `demo` proves
+-- two ends of a run are one, but for which circuit `compile` and `shacircuit` put, and `demo` proves
 abbrev pub AreOne : Option Command → Stop → End → End → Type 0
 AreOne (Some (Compile source circuit)) stop a b = (a ≡ b) ⊎ PutAlike stop circuit a b
 AreOne (Some (Demo count seed)) stop a b = DemoAlike (number_of count) a b
+AreOne (Some (ShaCircuit count circuit)) stop a b = PutAlike stop circuit a b
 AreOne command stop a b = a ≡ b
 
 abbrev pub OneEnd : Type 0

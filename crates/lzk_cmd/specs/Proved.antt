@@ -1,5 +1,5 @@
 -- How a run ends that proves.
-use Rattle.std.specs.Prelude.{◌≡◌, ◌≤◌, ℕ, List, length, Option, MatchOption, replicate, Result, Ok, Err}
+use Rattle.std.specs.Prelude.{◌≡◌, ◌≤◌, ℕ, List, length, Option, None, MatchOption, replicate, Result, Ok, Err}
 use Rattle.hex.specs.declared.error.FromHexError.{FromHexError}
 use Rattle.hex.specs.Hex.{decode_sized}
 use Rattle.lzk_circbytes.specs.declared.any.AnyCircuit.{AnyCircuit}
@@ -16,7 +16,7 @@ use Rattle.lzk_outside.specs.Outside.{Files}
 use Rattle.lzk_cmd.specs.Decoded.{circuit_files, number_files, proof_limit}
 use Rattle.lzk_cmd.specs.Ends.{End, says, Stop, puts}
 use Rattle.lzk_cmd.specs.Formats.{At}
-use Rattle.lzk_cmd.specs.Lines.{proved_line, nonzero_line}
+use Rattle.lzk_cmd.specs.Lines.{told_line, nonzero_line}
 use Rattle.lzk_cmd.specs.Verified.{session_of, gold_coding, gf_coding}
 
 abbrev pub decoded_or_zeros : Result (List ℕ) FromHexError → List ℕ
@@ -31,23 +31,23 @@ seed_of digits = decoded_or_zeros (decode_sized digits 32)
 abbrev pub nonzero_end : {A : Type 0} → (A → ℕ) → ℕ × A → End
 nonzero_end number first = says 1 (nonzero_line first.0 (number first.1))
 
--- the file of the proof of the seed's words is put, and it is within the limit of proofs
-abbrev pub PutsProof : {A : Type 0} → Ops A → Coding A → Wiring A → List ℕ → List ℕ → List ℕ → List A → List A → Stop → End → Type 0
-PutsProof o e c proof session seed publics privates stop end =
-    (bytes : List ℕ) × IsProofFile o e c session publics privates (words_of (seeded_word seed)) bytes × (length bytes ≤ proof_limit) × (end ≡ puts stop proof bytes (proved_line proof (length bytes)))
+-- the file of the proof of the seed's words is put, and it is within the limit of proofs; the line tells of it, and of the digest that it is of, if it is of one
+abbrev pub PutsProof : {A : Type 0} → Ops A → Coding A → Wiring A → List ℕ → Option (List ℕ) → List ℕ → List ℕ → List A → List A → Stop → End → Type 0
+PutsProof o e c proof digest session seed publics privates stop end =
+    (bytes : List ℕ) × IsProofFile o e c session publics privates (words_of (seeded_word seed)) bytes × (length bytes ≤ proof_limit) × (end ≡ puts stop proof bytes (told_line proof digest (length bytes)))
 
 -- The walk has its inputs: where all outputs are 0 it puts the proof, and otherwise tells the first that is not.
-abbrev pub Proves : {A : Type 0} → Ops A → Coding A → Wiring A → List ℕ → List ℕ → List ℕ → List A → List A → Stop → End → Type 0
-Proves {A} o e c proof session seed publics privates stop end =
+abbrev pub Proves : {A : Type 0} → Ops A → Coding A → Wiring A → List ℕ → Option (List ℕ) → List ℕ → List ℕ → List A → List A → Stop → End → Type 0
+Proves {A} o e c proof digest session seed publics privates stop end =
     (first : Option (ℕ × A)) × IsFirstNonzero o (wires_of o c.layers (inputs_of o publics privates)) first
-    × MatchOption first (PutsProof o e c proof session seed publics privates stop end) (λ found. end ≡ nonzero_end e.number found)
+    × MatchOption first (PutsProof o e c proof digest session seed publics privates stop end) (λ found. end ≡ nonzero_end e.number found)
 
 -- a proof over a circuit over a field, for a session and a seed, of the inputs of two number files
 unfoldable pub ProveOver : {A : Type 0} → Ops A → Coding A → Wiring A → List ℕ → List ℕ → List ℕ → List ℕ → List ℕ → Files → Stop → End → Type 0
 ProveOver o e c public private proof session seed files stop end =
     At (number_files e.size e.number c.publics) files stop 1 public end (λ publics.
     At (number_files e.size e.number c.privates) files stop 2 private end (λ privates.
-    Proves o e c proof session seed publics privates stop end))
+    Proves o e c proof None session seed publics privates stop end))
 
 abbrev pub ProveAny : AnyCircuit → List ℕ → List ℕ → List ℕ → List ℕ → List ℕ → Files → Stop → End → Type 0
 ProveAny (Gold c) = ProveOver gold.ops gold_coding c

@@ -18,10 +18,11 @@ use Rattle.lzk_cmd.specs.Decoded.{circuit_files, number_files}
 use Rattle.lzk_cmd.specs.Formats.{At}
 use Rattle.lzk_cmd.specs.Lines.{output_line, satisfied_line, unsatisfied_line, counts_lines, layer_line}
 use Rattle.lzk_cmd.specs.Ends.{End, says, refused_words, Stop}
+use Rattle.lzk_cmd.specs.Hashed.{ShaCircuitRun, HashRun}
 use Rattle.lzk_cmd.specs.Keys.{number_of}
 use Rattle.lzk_cmd.specs.Proved.{ProveRun, seed_of}
 use Rattle.lzk_cmd.specs.Verified.{VerifyRun}
-use Rattle.lzk_cmd.specs.Words.{Command, Eval, Compile, Show, Prove, Verify, Demo, command_of}
+use Rattle.lzk_cmd.specs.Words.{Command, Eval, Compile, Show, Prove, Verify, Demo, ShaCircuit, Sha256, command_of}
 
 -- the outputs' lines, from output k on
 abbrev pub output_lines : ℕ → List ℕ → List ℕ
@@ -76,6 +77,8 @@ CommandRun (Show circuit) = ShowRun circuit
 CommandRun (Prove circuit public private proof seed session) = ProveRun circuit public private proof seed session
 CommandRun (Verify circuit public proof session) = VerifyRun circuit public proof session
 CommandRun (Demo count seed) = DemoRun (number_of count) (seed_of seed)
+CommandRun (ShaCircuit count circuit) = ShaCircuitRun (number_of count) circuit
+CommandRun (Sha256 circuit proof message seed session) = HashRun circuit proof message seed session
 
 -- a run of these words over these files may end so
 abbrev pub RunOf : List (List ℕ) → Files → Stop → End → Type 0

@@ -3,6 +3,7 @@ use Rattle.std.specs.Prelude.{◌≡◌, ◌⊎◌, ◌↔◌, ℕ, ◌<◌, ◌
 use Rattle.std.specs.Option.{IsSomeAnd}
 use Rattle.std.specs.declared.alloc.Global.{Global}
 use Rattle.lzk_circbytes.specs.declared.any.AnyCircuit.{AnyCircuit}
+use Rattle.lzk_circbytes.specs.declared.any.AnyCircuit.TheVariants.{Gold}
 use Rattle.lzk_circbytes.specs.Files.{CircuitBytes}
 use Rattle.lzk_circuit.specs.Valid.{Wiring}
 use Rattle.lzk_expr.specs.Trees.{SourceTree}
@@ -12,6 +13,7 @@ use Rattle.lzk_goldilocks.specs.declared.element.Gold.{Gold as GoldElement}
 use Rattle.lzk_level.specs.declared.fault.LevelFault.{LevelFault}
 use Rattle.lzk_level.specs.Compiled.{source_limit}
 use Rattle.lzk_outside.specs.Outside.{Files, Holds, Torn, Appends}
+use Rattle.lzk_sha_circuit.specs.Circuits.{IsShaCircuit}
 use Rattle.lzk_cmd.specs.declared.ending.Ending.{Ending}
 use Rattle.lzk_cmd.specs.declared.ending.Halt.{Halt}
 use Rattle.lzk_cmd.specs.declared.ending.Halt.TheVariants as halts
@@ -138,6 +140,12 @@ Prints old new status text result =
     ⊎ (((result ≡ 5) × WriteFailed old new × AppendsFront old new text)
     ⊎ ((result ≡ 6) × AppendsFront old new text))
 
+-- a run's end is printed, and its status answered; for want of memory nothing is printed
+abbrev pub Concludes : SeenSink → SeenSink → Result Ending Halt → ℕ → Type 0
+Concludes old new (Ok e) result = Prints old new e.status (string_bytes e.text) result
+Concludes old new (Err halts.Memory) result = (result ≡ 6) × (new ≡ old)
+Concludes old new (Err (halts.End e)) result = Prints old new e.status (string_bytes e.text) result
+
 -- no write fails of what never fails, and it stays so
 pub record Quiet (old new : SeenSink) : Type 0 where
   pub never : new.never ≡ old.never
@@ -160,6 +168,13 @@ pub record IsCompiled (source : SourceTree) (circuit bytes text : List ℕ) : Ty
   pub file : CircuitBytes made bytes
   pub within : source_limit source ≡ None
   pub text_is : text ≡ compiled_text circuit made (length bytes)
+
+-- the bytes are the file of a circuit for messages of so many bytes, and the text tells of it
+pub record IsShaFile (len : ℕ) (name bytes text : List ℕ) : Type 0 where
+  pub made : Wiring GoldElement
+  pub is : IsShaCircuit len made
+  pub file : CircuitBytes (Gold made) bytes
+  pub text_is : text ≡ compiled_text name (Gold made) (length bytes)
 
 -- such bytes and text, or the end at the limit that the source passes
 abbrev pub Compiles : List ℕ → List ℕ → SourceTree → Result (Vec ℕ Global × String Global) Halt → Type 0

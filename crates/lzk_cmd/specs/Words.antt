@@ -15,6 +15,10 @@ pub data Command : Type 0 where
   Verify : List ℕ → List ℕ → List ℕ → Option (List ℕ) → Command
   -- the digits of the number of private inputs, and of the seed; not the number of workers
   Demo : List ℕ → List ℕ → Command
+  -- the digits of the number of bytes, and the circuit
+  ShaCircuit : List ℕ → List ℕ → Command
+  -- circuit and proof, and the digits of the message and the seed, and of the session, if there is one; not the number of workers
+  Sha256 : List ℕ → List ℕ → List ℕ → List ℕ → Option (List ℕ) → Command
 
 -- the command of a word, names and keys that keep its row
 abbrev pub built : Verb → List (List ℕ) → Keys → Option Command
@@ -24,6 +28,8 @@ built verbs.Show (circuit ∷ []) keys = Some (Show circuit)
 built verbs.Prove (circuit ∷ public ∷ private ∷ proof ∷ []) keys = or_else keys.seed (λ seed. Some (Prove circuit public private proof seed keys.session)) None
 built verbs.Verify (circuit ∷ public ∷ proof ∷ []) keys = Some (Verify circuit public proof keys.session)
 built verbs.Demo (count ∷ []) keys = or_else keys.seed (λ seed. Some (Demo count seed)) None
+built verbs.ShaCircuit (count ∷ circuit ∷ []) keys = Some (ShaCircuit count circuit)
+built verbs.Sha256 (circuit ∷ proof ∷ []) keys = or_else keys.message (λ message. or_else keys.seed (λ seed. Some (Sha256 circuit proof message seed keys.session)) None) None
 built verb names keys = None
 
 -- the command of a list of words, if they are one
@@ -39,6 +45,8 @@ PutsFile (Some (Show circuit)) = ⊥
 PutsFile (Some (Prove circuit public private proof seed session)) = Unit {0}
 PutsFile (Some (Verify circuit public proof session)) = ⊥
 PutsFile (Some (Demo count seed)) = ⊥
+PutsFile (Some (ShaCircuit count circuit)) = Unit {0}
+PutsFile (Some (Sha256 circuit proof message seed session)) = Unit {0}
 
 -- the words are no command, or a command that reads and puts no file
 abbrev pub LeavesShelf : Option Command → Type 0
@@ -49,3 +57,5 @@ LeavesShelf (Some (Show circuit)) = ⊥
 LeavesShelf (Some (Prove circuit public private proof seed session)) = ⊥
 LeavesShelf (Some (Verify circuit public proof session)) = ⊥
 LeavesShelf (Some (Demo count seed)) = Unit {0}
+LeavesShelf (Some (ShaCircuit count circuit)) = ⊥
+LeavesShelf (Some (Sha256 circuit proof message seed session)) = ⊥

@@ -63,8 +63,8 @@ fn count_terms<F: Field>(circuit: &Circuit<F>) -> usize
     count
 }
 
-// The file of a circuit over a field, and the line that tells of it under this name.
-fn file_over<F: Field>(
+/// The file of a circuit over a field, and the line that tells of it under this name.
+pub fn file_over<F: Field>(
     alloc: Global,
     circuit: &Circuit<F>,
     name: &str,

@@ -3,12 +3,11 @@
 ghost use Rattle.std.specs.Prelude.{◌≡◌, ◌&&◌, map, string_bytes};
 ghost use Rattle.std.specs.Option.{option_map};
 ghost use Rattle.std.specs.List.{list_all};
-ghost use Rattle.lzk_cmd.specs.Keys.{is_number};
 ghost use Rattle.lzk_cmd.specs.Grammar as texts;
 ghost use Rattle.lzk_cmd.specs.KeyViews.{keys_view, request_view};
 
-use crate::keys::{Keys, is_number, keys_of};
-use crate::table::{Row, Verb, may_stand, row_of, verb_of};
+use crate::keys::{Keys, is_count, is_number, keys_of};
+use crate::table::{First, Row, Verb, may_stand, row_of, verb_of};
 
 /// A command's word, the names behind it, and the keys behind them.
 #[derive(Clone, Copy)]
@@ -30,26 +29,31 @@ fn are_files(names: &[String]) -> bool
     true
 }
 
-// Each name is a number of inputs of a demo.
-fn are_numbers(names: &[String]) -> bool
-    ensures { result ≡ list_all (is_number 16384) (map (λ w. string_bytes w) names.now) }
+// The first name is one of its kind.
+fn is_first(first: First, name: &str) -> bool
+    ensures { result ≡ texts.is_first first name.now }
 {
-    for i in 0..names.len() {
-        if !is_number(names[i].as_bytes(), 16_384) {
-            return false;
-        }
+    match first {
+        First::File => !name.is_empty(),
+        First::Inputs => is_number(name.as_bytes(), 16_384),
+        First::Bytes => is_count(name.as_bytes(), 55),
     }
-    true
 }
 
 fn are_names(row: Row, names: &[String]) -> bool
     ensures { result ≡ texts.are_names row (map (λ w. string_bytes w) names.now) }
 {
-    if row.numbers {
-        are_numbers(names)
-    } else {
-        are_files(names)
+    match names {
+        [] => true,
+        [name, rest @ ..] => is_first(row.first, name.as_str()) && are_files(rest),
     }
+}
+
+// The number of workers and the message stand, or do not, as the row says.
+fn are_values(row: Row, keys: &Keys<'_>) -> bool
+    ensures { result ≡ texts.are_values row (keys_view keys.now) }
+{
+    may_stand(row.workers, keys.workers.is_some()) && may_stand(row.message, keys.message.is_some())
 }
 
 fn are_keys(row: Row, keys: &Keys<'_>) -> bool
@@ -57,7 +61,7 @@ fn are_keys(row: Row, keys: &Keys<'_>) -> bool
 {
     may_stand(row.seed, keys.seed.is_some())
         && may_stand(row.session, keys.session.is_some())
-        && may_stand(row.workers, keys.workers.is_some())
+        && are_values(row, keys)
 }
 
 // The names and the keys are those of the row.

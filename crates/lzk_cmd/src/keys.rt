@@ -11,6 +11,7 @@ pub struct Keys<'a> {
     pub seed: Option<&'a [u8]>,
     pub session: Option<&'a [u8]>,
     pub workers: Option<&'a [u8]>,
+    pub message: Option<&'a [u8]>,
 }
 
 // What stands behind a front, if the word has it.
@@ -48,6 +49,12 @@ fn is_session(text: &[u8]) -> bool
     text.len() % 2 == 0 && text.len() <= 128 && are_hex(text)
 }
 
+fn is_message(text: &[u8]) -> bool
+    ensures { result ≡ texts.is_message text.now }
+{
+    text.len() % 2 == 0 && text.len() <= 110 && are_hex(text)
+}
+
 /// The number of these digits, if it is no more than `most`.
 pub fn number_up_to(text: &[u8], most: u32) -> Option<u32>
     requires { most ≤ 16384 }
@@ -75,6 +82,17 @@ pub fn is_number(text: &[u8], most: u32) -> bool
         Some(number) => number != 0,
         None => false,
     }
+}
+
+/// Whether a text is 1 to 9 digits of a number up to `most`.
+pub fn is_count(text: &[u8], most: u32) -> bool
+    requires { most ≤ 16384 }
+    ensures { result ≡ texts.is_count most text.now }
+{
+    if text.is_empty() || text.len() > 9 || !are_digits(text) {
+        return false;
+    }
+    number_up_to(text, most).is_some()
 }
 
 // The keys with a seed that stood nowhere before.
@@ -117,6 +135,19 @@ fn with_workers<'a>(keys: Keys<'a>, text: &'a [u8]) -> Option<Keys<'a>>
     }
 }
 
+fn with_message<'a>(keys: Keys<'a>, text: &'a [u8]) -> Option<Keys<'a>>
+    ensures { option_map keys_view result ≡ texts.with_message (keys_view keys.entry) text.now }
+{
+    if keys.message.is_none() && is_message(text) {
+        Some(Keys {
+            message: Some(text),
+            ..keys
+        })
+    } else {
+        None
+    }
+}
+
 // The keys with that of one more word.
 fn with_key<'a>(keys: Keys<'a>, word: &'a [u8]) -> Option<Keys<'a>>
     ensures { option_map keys_view result ≡ texts.with_key (keys_view keys.entry) word.now }
@@ -130,6 +161,9 @@ fn with_key<'a>(keys: Keys<'a>, word: &'a [u8]) -> Option<Keys<'a>>
     if let Some(text) = behind("workers=".as_bytes(), word) {
         return with_workers(keys, text);
     }
+    if let Some(text) = behind("message=".as_bytes(), word) {
+        return with_message(keys, text);
+    }
     None
 }
 
@@ -141,6 +175,7 @@ pub fn keys_of(words: &[String]) -> Option<Keys<'_>>
         seed: None,
         session: None,
         workers: None,
+        message: None,
     };
     for i in 0..words.len() {
         keys = with_key(keys, words[i].as_bytes())?;

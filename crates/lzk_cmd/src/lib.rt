@@ -16,6 +16,7 @@ mod eval;
 mod feeding;
 mod files;
 mod grammar;
+mod hashing;
 mod keys;
 mod lines;
 mod load;

@@ -1,6 +1,7 @@
 //! The lines that a run prints.
 
 ghost use Rattle.std.specs.Prelude.{◌≡◌, ◌++◌, IfOk, OnOk, string_bytes};
+ghost use Rattle.std.specs.Option.{option_copied};
 ghost use Rattle.lzk_cmd.specs.Lines as lines;
 
 use lzk_circbytes::{ByteFault, ByteKind};
@@ -146,11 +147,41 @@ pub fn tell_compiled(
     format!(in alloc; "compiled {name}: layers {layers}, terms {terms}, {bytes} bytes\n")
 }
 
-/// The line of a proof whose file was put.
-pub fn tell_proved(alloc: Global, name: &str, bytes: usize) -> Result<String, AllocError>
-    ensures { IfOk result (λ s. string_bytes s ≡ lines.proved_line name.now bytes) }
+// The line of a message's proof, by the digits of the digest.
+fn tell_digits(alloc: Global, name: &str, digits: &str, bytes: usize) -> Result<String, AllocError>
+    ensures { IfOk result (λ s. string_bytes s ≡ lines.digits_line name.now digits.now bytes) }
 {
-    format!(in alloc; "proved {name}: {bytes} bytes\n")
+    format!(in alloc; "proved {name}: {bytes} bytes, digest {digits}\n")
+}
+
+// The line of a message's proof.
+fn tell_hashed(alloc: Global, name: &str, digest: &[u8], bytes: usize) -> Result<String, AllocError>
+    ensures { IfOk result (λ s. string_bytes s ≡ lines.hashed_line name.now digest.now bytes) }
+{
+    let digits = hex::encode(alloc, digest)?;
+    tell_digits(alloc, name, &digits, bytes)
+}
+
+/// The line of a proof whose file was put, with the digest that it is of, if it is of one.
+pub fn tell_proved(
+    alloc: Global,
+    name: &str,
+    digest: Option<&[u8]>,
+    bytes: usize,
+) -> Result<String, AllocError>
+    ensures { IfOk result (λ s. string_bytes s ≡ lines.told_line name.now (option_copied digest.entry) bytes) }
+{
+    match digest {
+        None => format!(in alloc; "proved {name}: {bytes} bytes\n"),
+        Some(digest) => tell_hashed(alloc, name, digest, bytes),
+    }
+}
+
+/// The line that refuses a circuit for messages of other lengths.
+pub fn refuse_unfit(alloc: Global, name: &str, len: usize) -> Result<String, AllocError>
+    ensures { IfOk result (λ s. string_bytes s ≡ lines.unfit_line name.now len) }
+{
+    format!(in alloc; "refused: {name} is not for {len} bytes\n")
 }
 
 /// The line of a demo whose proof is accepted.

@@ -1,6 +1,6 @@
 //! The command `prove`.
 
-ghost use Rattle.std.specs.Prelude.{◌≡◌, ◌≤◌, ℕ, List, length, IfOk};
+ghost use Rattle.std.specs.Prelude.{◌≡◌, ◌≤◌, ℕ, List, None, length, IfOk};
 ghost use Rattle.std.specs.Option.{option_copied};
 ghost use Rattle.lzk_field.specs.Coding.{coding};
 ghost use Rattle.lzk_honest.specs.Proving.{IsProofFile};
@@ -33,12 +33,12 @@ use std::alloc::{AllocError, Global};
 use std::marker::Sync;
 use std::thread::Threads;
 
-/// What a proof is made with beside its circuit: the names of its files, its session, seed and workers.
+/// What a proof is made with beside its circuit and inputs: the name of its file, the digest that is told with it, its session, seed
+/// and workers.
 #[derive(Clone, Copy)]
 pub struct Job<'a> {
-    pub public: &'a str,
-    pub private: &'a str,
     pub proof: &'a str,
+    pub digest: Option<&'a [u8]>,
     pub session: &'a [u8],
     pub seed: [u8; 32],
     pub workers: usize,
@@ -81,7 +81,7 @@ fn put_proof<F: Field, X: RowExtend<F>, R: Threads + Sync, S: Shelf, G: Gate>(
     requires session { length job.now.session.now ≤ 64 }
     requires some { 1 ≤ job.now.workers }
     requires most { job.now.workers ≤ 64 }
-    ensures walks { WalksToPut (λ files. Proves F.ops (coding F.element F.number_of F.BYTES F.size F.ID) circuit.now job.now.proof.now job.now.session.now job.now.seed publics.now privates.now) 3 (seen S.Shelf shelf.old) (seen S.Shelf shelf.new) result }
+    ensures walks { WalksToPut (λ files. Proves F.ops (coding F.element F.number_of F.BYTES F.size F.ID) circuit.now job.now.proof.now (option_copied job.now.digest) job.now.session.now job.now.seed publics.now privates.now) 3 (seen S.Shelf shelf.old) (seen S.Shelf shelf.new) result }
     ensures moves { Moves (seen S.Shelf shelf.old) (seen S.Shelf shelf.new) }
 {
     proofs_fit(circuit);
@@ -96,15 +96,15 @@ fn put_proof<F: Field, X: RowExtend<F>, R: Threads + Sync, S: Shelf, G: Gate>(
         means.gate,
     ) {
         Ok(bytes) => {
-            let text = lines::tell_proved(means.alloc, job.proof, bytes.len())?;
+            let text = lines::tell_proved(means.alloc, job.proof, job.digest, bytes.len())?;
             put_file(means.alloc, shelf, job.proof, bytes, text)
         }
         Err(first) => Ok(unsatisfied(means.alloc, first)?),
     }
 }
 
-// Proves for a circuit and its inputs.
-fn prove_inputs<F: Field, X: RowExtend<F>, R: Threads + Sync, S: Shelf, G: Gate>(
+/// Proves for a circuit and its inputs.
+pub fn prove_inputs<F: Field, X: RowExtend<F>, R: Threads + Sync, S: Shelf, G: Gate>(
     means: &Means<'_, R, G>,
     circuit: &Circuit<F>,
     publics: &[F],
@@ -117,7 +117,7 @@ fn prove_inputs<F: Field, X: RowExtend<F>, R: Threads + Sync, S: Shelf, G: Gate>
     requires session { length job.now.session.now ≤ 64 }
     requires some { 1 ≤ job.now.workers }
     requires most { job.now.workers ≤ 64 }
-    ensures walks { WalksToPut (λ files. Proves F.ops (coding F.element F.number_of F.BYTES F.size F.ID) circuit.now job.now.proof.now job.now.session.now job.now.seed publics.now privates.now) 3 (seen S.Shelf shelf.old) (seen S.Shelf shelf.new) result }
+    ensures walks { WalksToPut (λ files. Proves F.ops (coding F.element F.number_of F.BYTES F.size F.ID) circuit.now job.now.proof.now (option_copied job.now.digest) job.now.session.now job.now.seed publics.now privates.now) 3 (seen S.Shelf shelf.old) (seen S.Shelf shelf.new) result }
     ensures moves { Moves (seen S.Shelf shelf.old) (seen S.Shelf shelf.new) }
 {
     let mut works = WorksOver::<F, X>::new(means.alloc, circuit)?;
@@ -128,17 +128,20 @@ fn prove_inputs<F: Field, X: RowExtend<F>, R: Threads + Sync, S: Shelf, G: Gate>
 fn prove_over<F: Field, X: RowExtend<F>, R: Threads + Sync, S: Shelf, G: Gate>(
     means: &Means<'_, R, G>,
     circuit: &Circuit<F>,
+    public: &str,
+    private: &str,
     job: &Job<'_>,
     shelf: &mut S,
 ) -> Result<Ending, Halt>
+    requires digest { option_copied job.now.digest ≡ None }
     requires session { length job.now.session.now ≤ 64 }
     requires some { 1 ≤ job.now.workers }
     requires most { job.now.workers ≤ 64 }
-    ensures walks { WalksToPut (ProveOver F.ops (coding F.element F.number_of F.BYTES F.size F.ID) circuit.now job.now.public.now job.now.private.now job.now.proof.now job.now.session.now job.now.seed) 1 (seen S.Shelf shelf.old) (seen S.Shelf shelf.new) result }
+    ensures walks { WalksToPut (ProveOver F.ops (coding F.element F.number_of F.BYTES F.size F.ID) circuit.now public.now private.now job.now.proof.now job.now.session.now job.now.seed) 1 (seen S.Shelf shelf.old) (seen S.Shelf shelf.new) result }
     ensures moves { Moves (seen S.Shelf shelf.old) (seen S.Shelf shelf.new) }
 {
-    let publics = read_elements::<S, F>(means.alloc, shelf, job.public, circuit.publics())?;
-    let privates = read_elements::<S, F>(means.alloc, shelf, job.private, circuit.privates())?;
+    let publics = read_elements::<S, F>(means.alloc, shelf, public, circuit.publics())?;
+    let privates = read_elements::<S, F>(means.alloc, shelf, private, circuit.privates())?;
     prove_inputs::<F, X, R, S, G>(means, circuit, &publics, &privates, job, shelf)
 }
 
@@ -146,18 +149,25 @@ fn prove_over<F: Field, X: RowExtend<F>, R: Threads + Sync, S: Shelf, G: Gate>(
 fn prove_any<R: Threads + Sync, S: Shelf, G: Gate>(
     means: &Means<'_, R, G>,
     circuit: &AnyCircuit,
+    public: &str,
+    private: &str,
     job: &Job<'_>,
     shelf: &mut S,
 ) -> Result<Ending, Halt>
+    requires digest { option_copied job.now.digest ≡ None }
     requires session { length job.now.session.now ≤ 64 }
     requires some { 1 ≤ job.now.workers }
     requires most { job.now.workers ≤ 64 }
-    ensures walks { WalksToPut (ProveAny circuit.now job.now.public.now job.now.private.now job.now.proof.now job.now.session.now job.now.seed) 1 (seen S.Shelf shelf.old) (seen S.Shelf shelf.new) result }
+    ensures walks { WalksToPut (ProveAny circuit.now public.now private.now job.now.proof.now job.now.session.now job.now.seed) 1 (seen S.Shelf shelf.old) (seen S.Shelf shelf.new) result }
     ensures moves { Moves (seen S.Shelf shelf.old) (seen S.Shelf shelf.new) }
 {
     match circuit {
-        AnyCircuit::Gold(c) => prove_over::<Gold, NttExtender<Gold>, R, S, G>(means, c, job, shelf),
-        AnyCircuit::Gf(c) => prove_over::<Gf128, Transform, R, S, G>(means, c, job, shelf),
+        AnyCircuit::Gold(c) => {
+            prove_over::<Gold, NttExtender<Gold>, R, S, G>(means, c, public, private, job, shelf)
+        }
+        AnyCircuit::Gf(c) => {
+            prove_over::<Gf128, Transform, R, S, G>(means, c, public, private, job, shelf)
+        }
     }
 }
 
@@ -174,12 +184,11 @@ pub fn prove<R: Threads + Sync, S: Shelf, G: Gate>(
     let session = session_bytes(means.alloc, order.session)?;
     let held = read_circuit(means.alloc, shelf, order.circuit)?;
     let job = Job {
-        public: order.public,
-        private: order.private,
         proof: order.proof,
+        digest: None,
         session: &session,
         seed: seed_bytes(order.seed),
         workers: workers_of(order.workers),
     };
-    prove_any(means, &held, &job, shelf)
+    prove_any(means, &held, order.public, order.private, &job, shelf)
 }

@@ -12,6 +12,16 @@ pub enum Verb {
     Prove,
     Verify,
     Demo,
+    ShaCircuit,
+    Sha256,
+}
+
+/// What the first name is: a file, the number of inputs of a demo, or the number of bytes of a message.
+#[derive(Clone, Copy, Debug, PartialEq, Eq)]
+pub enum First {
+    File,
+    Inputs,
+    Bytes,
 }
 
 /// Whether a key may stand behind the names.
@@ -22,14 +32,15 @@ pub enum Stands {
     Always,
 }
 
-/// A row: how many names a command has, or numbers in their place, and which keys stand behind them.
+/// A row: how many names a command has, what the first is, and which keys stand behind them.
 #[derive(Clone, Copy, Debug, PartialEq, Eq)]
 pub struct Row {
     pub names: usize,
-    pub numbers: bool,
+    pub first: First,
     pub seed: Stands,
     pub session: Stands,
     pub workers: Stands,
+    pub message: Stands,
 }
 
 /// The command of this word.
@@ -48,6 +59,10 @@ pub fn verb_of(word: &str) -> Option<Verb>
         Some(Verb::Verify)
     } else if word == "demo" {
         Some(Verb::Demo)
+    } else if word == "shacircuit" {
+        Some(Verb::ShaCircuit)
+    } else if word == "sha256" {
+        Some(Verb::Sha256)
     } else {
         None
     }
@@ -59,10 +74,11 @@ fn names(count: usize) -> Row
 {
     Row {
         names: count,
-        numbers: false,
+        first: First::File,
         seed: Stands::Never,
         session: Stands::Never,
         workers: Stands::Never,
+        message: Stands::Never,
     }
 }
 
@@ -85,10 +101,21 @@ pub fn row_of(verb: Verb) -> Row
             ..names(3)
         },
         Verb::Demo => Row {
-            numbers: true,
+            first: First::Inputs,
             seed: Stands::Always,
             workers: Stands::Maybe,
             ..names(1)
+        },
+        Verb::ShaCircuit => Row {
+            first: First::Bytes,
+            ..names(2)
+        },
+        Verb::Sha256 => Row {
+            seed: Stands::Always,
+            session: Stands::Maybe,
+            workers: Stands::Maybe,
+            message: Stands::Always,
+            ..names(2)
         },
     }
 }

@@ -1,20 +1,21 @@
 //! The top call.
 
 ghost use Rattle.std.specs.Prelude.{◌≡◌, IfOk};
-ghost use Rattle.lzk_cmd.specs.Accepted.{ProvedIsAccepted, DemoIsAccepted};
+ghost use Rattle.lzk_cmd.specs.Accepted.{DemoIsAccepted, HashedIsAccepted, HashesAreSatisfied, ProvedIsAccepted};
 ghost use Rattle.lzk_cmd.specs.Ends.{refused_words};
 ghost use Rattle.lzk_cmd.specs.OneEnd.{OneEnd};
 ghost use Rattle.lzk_cmd.specs.Promise.{Promise};
-ghost use Rattle.lzk_cmd.specs.Seen.{seen};
+ghost use Rattle.lzk_cmd.specs.Seen.{seen, seen_sink};
 ghost use Rattle.lzk_cmd.specs.SomeEnd.{SomeEnd};
 ghost use Rattle.lzk_cmd.specs.Sights.{before, after, texts};
-ghost use Rattle.lzk_cmd.specs.Walks.{IsEnding, Moves, TellsDemos, Works};
+ghost use Rattle.lzk_cmd.specs.Walks.{Concludes, IsEnding, Moves, Quiet, TellsDemos, Works};
 ghost use Rattle.lzk_cmd.specs.Words.{LeavesShelf, command_of};
 
 use crate::compiling::compile_source;
 use crate::demo::demo;
 use crate::ending::{Ending, Halt};
 use crate::eval::eval;
+use crate::hashing::{sha256, shacircuit};
 use crate::lines;
 use crate::means::Means;
 use crate::print::print_ending;
@@ -79,6 +80,20 @@ fn work<R: Threads + Sync, S: Shelf, G: Gate>(
                 workers,
             },
         ) => demo(means, count, seed, workers),
+        Some(Command::ShaCircuit { count, circuit }) => shacircuit(means, count, circuit, shelf),
+        Some(Command::Sha256(order)) => sha256(means, &order, shelf),
+    }
+}
+
+// Prints how a run ends, and answers its status: 5 after a failed write, 6 for want of memory.
+fn conclude<K: Sink>(out: &mut K, done: &Result<Ending, Halt>) -> u8
+    ensures concludes { Concludes (seen_sink K.Sink out.old) (seen_sink K.Sink out.new) done.now result }
+    ensures quiet { Quiet (seen_sink K.Sink out.old) (seen_sink K.Sink out.new) }
+{
+    match done {
+        Ok(ending) => print_ending(out, ending),
+        Err(Halt::End(ending)) => print_ending(out, ending),
+        Err(Halt::Memory) => 6,
     }
 }
 
@@ -104,15 +119,14 @@ pub fn run<R: Threads + Sync, S: Shelf, K: Sink, G: Gate>(
     ensures one_end { OneEnd }
     ensures some_end { SomeEnd }
 
-    // What `prove` puts is accepted, and what `demo` proves.
+    // What `prove` and `sha256` put is accepted, and what `demo` proves; over a circuit of SHA-256 every message satisfies.
     ensures honest { ProvedIsAccepted }
+    ensures hashed { HashedIsAccepted }
+    ensures satisfied { HashesAreSatisfied }
     ensures demo { DemoIsAccepted (before S.Shelf K.Sink words.now shelf.old out.old) (after S.Shelf K.Sink result shelf.new out.new) }
 {
     run_laws();
     let means = Means { rt, alloc, gate };
-    match work(&means, words, shelf) {
-        Ok(ending) => print_ending(out, &ending),
-        Err(Halt::End(ending)) => print_ending(out, &ending),
-        Err(Halt::Memory) => 6,
-    }
+    let done = work(&means, words, shelf);
+    conclude(out, &done)
 }

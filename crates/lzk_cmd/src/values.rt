@@ -2,6 +2,7 @@
 
 ghost use Rattle.std.specs.Prelude.{◌≡◌, ◌≤◌, IsTrue, IfOk, IfSome};
 ghost use Rattle.std.specs.Option.{option_copied};
+ghost use Rattle.lzk_cmd.specs.Hashed.{message_of};
 ghost use Rattle.lzk_cmd.specs.Keys.{is_number, number_of};
 ghost use Rattle.lzk_cmd.specs.Proved.{seed_of};
 ghost use Rattle.lzk_cmd.specs.Verified.{session_of};
@@ -21,6 +22,17 @@ pub fn session_bytes(alloc: Global, session: Option<&[u8]>) -> Result<Vec<u8>, A
             Err(FromHexError::OutOfMemory) => Err(AllocError),
             Err(_) => Ok(Vec::new(alloc)),
         },
+    }
+}
+
+/// The bytes of a message.
+pub fn message_bytes(alloc: Global, digits: &[u8]) -> Result<Vec<u8>, AllocError>
+    ensures { IfOk result (λ v. v.items ≡ message_of digits.now) }
+{
+    match hex::decode(alloc, digits) {
+        Ok(bytes) => Ok(bytes),
+        Err(FromHexError::OutOfMemory) => Err(AllocError),
+        Err(_) => Ok(Vec::new(alloc)),
     }
 }
 

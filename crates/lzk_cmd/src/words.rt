@@ -24,6 +24,17 @@ pub struct Order<'a> {
     pub workers: Option<&'a [u8]>,
 }
 
+/// The names of the files of `sha256`, and the digits of its message and seed, and of its session and workers if they stand.
+#[derive(Clone, Copy)]
+pub struct HashOrder<'a> {
+    pub circuit: &'a str,
+    pub proof: &'a str,
+    pub message: &'a [u8],
+    pub seed: &'a [u8],
+    pub session: Option<&'a [u8]>,
+    pub workers: Option<&'a [u8]>,
+}
+
 /// A command, with the names of its files, and the digits of its numbers and keys.
 #[derive(Clone, Copy)]
 pub enum Command<'a> {
@@ -51,6 +62,11 @@ pub enum Command<'a> {
         seed: &'a [u8],
         workers: Option<&'a [u8]>,
     },
+    ShaCircuit {
+        count: &'a str,
+        circuit: &'a str,
+    },
+    Sha256(HashOrder<'a>),
 }
 
 // The files of `eval`.
@@ -145,6 +161,40 @@ fn demo_of<'a>(names: &'a [String], keys: &Keys<'a>) -> Option<Command<'a>>
     }
 }
 
+// The number of bytes and the circuit of `shacircuit`.
+fn shacircuit_of(names: &[String]) -> Option<Command<'_>>
+    ensures { (keys : texts.Keys) → option_map command_view result ≡ built verbs.ShaCircuit (map (λ w. string_bytes w) names.now) keys }
+{
+    match names {
+        [count, circuit] => Some(Command::ShaCircuit {
+            count: count.as_str(),
+            circuit: circuit.as_str(),
+        }),
+        _ => None,
+    }
+}
+
+// The files of `sha256`, its message and seed, and its session and workers.
+fn sha256_of<'a>(names: &'a [String], keys: &Keys<'a>) -> Option<Command<'a>>
+    ensures { option_map command_view result ≡ built verbs.Sha256 (map (λ w. string_bytes w) names.now) (keys_view keys.now) }
+{
+    match names {
+        [circuit, proof] => {
+            let message = keys.message?;
+            let seed = keys.seed?;
+            Some(Command::Sha256(HashOrder {
+                circuit: circuit.as_str(),
+                proof: proof.as_str(),
+                message,
+                seed,
+                session: keys.session,
+                workers: keys.workers,
+            }))
+        }
+        _ => None,
+    }
+}
+
 // The command, if the names and keys are its own.
 fn built<'a>(verb: Verb, names: &'a [String], keys: &Keys<'a>) -> Option<Command<'a>>
     ensures { option_map command_view result ≡ built verb (map (λ w. string_bytes w) names.now) (keys_view keys.now) }
@@ -156,6 +206,8 @@ fn built<'a>(verb: Verb, names: &'a [String], keys: &Keys<'a>) -> Option<Command
         Verb::Prove => prove_of(names, keys),
         Verb::Verify => verify_of(names, keys),
         Verb::Demo => demo_of(names, keys),
+        Verb::ShaCircuit => shacircuit_of(names),
+        Verb::Sha256 => sha256_of(names, keys),
     }
 }
 

@@ -1,12 +1,12 @@
 use Rattle.std.specs.Option.{option_copied}
 use Rattle.lzk_cmd.specs.Seen.{seen}
 use Rattle.lzk_cmd.specs.Sights.{texts}
-use Rattle.lzk_cmd.specs.Words.{Eval, Compile, Show, Prove, Verify, Demo}
+use Rattle.lzk_cmd.specs.Words.{Eval, Compile, Show, Prove, Verify, Demo, ShaCircuit, Sha256}
 use Rattle.lzk_cmd.specs.Keys.{number_of}
 use Rattle.lzk_cmd.specs.Proved.{seed_of}
 use Rattle.lzk_cmd.proofs.Counts.{has_number}
 use Rattle.lzk_cmd.proofs.Demos.{demo_walks, leaves, no_demo, on_demo}
-use Rattle.lzk_cmd.proofs.Sessions.{session_fits}
+use Rattle.lzk_cmd.proofs.Sessions.{message_fits, session_fits}
 use Rattle.lzk_cmd.proofs.Sights.{only_moves}
 use Rattle.lzk_cmd.proofs.Works.{refused, works}
 use Rattle.lzk_cmd.proofs.top.work.Goals as goal
@@ -101,3 +101,34 @@ returns-in-Some-Demo-clause-demo g c =
 
 pub returns-in_ok-refuse-in-None-clause-demo : goal.returns-in_ok-refuse-in-None-clause-demo
 returns-in_ok-refuse-in-None-clause-demo g c = no_demo (texts c.args.words.now) _ c.in-None.ensures
+
+pub shacircuit-requires-clause-number : goal.shacircuit-requires-clause-number
+shacircuit-requires-clause-number g c κs within = has_number (texts c.args.words.now) (ShaCircuit c.in-Some-ShaCircuit.count.now c.in-Some-ShaCircuit.circuit.now) (rw c.in-Some-ShaCircuit.field-0-is at c.in-Some-ShaCircuit.ensures)
+
+pub returns-in-Some-ShaCircuit-clause-works : goal.returns-in-Some-ShaCircuit-clause-works
+returns-in-Some-ShaCircuit-clause-works g c =
+    works (texts c.args.words.now) (ShaCircuit c.in-Some-ShaCircuit.count.now c.in-Some-ShaCircuit.circuit.now) (Unit {0}) (seen g.S.Shelf c.args.shelf.now) (seen g.S.Shelf c.shacircuit.new.shelf) c.shacircuit.result (rw c.in-Some-ShaCircuit.field-0-is at c.in-Some-ShaCircuit.ensures) (λ u. u) c.shacircuit.ensures.walks
+
+pub returns-in-Some-ShaCircuit-clause-demo : goal.returns-in-Some-ShaCircuit-clause-demo
+returns-in-Some-ShaCircuit-clause-demo g c = on_demo (texts c.args.words.now) (ShaCircuit c.in-Some-ShaCircuit.count.now c.in-Some-ShaCircuit.circuit.now) c.shacircuit.result (rw c.in-Some-ShaCircuit.field-0-is at c.in-Some-ShaCircuit.ensures) tt
+
+pub returns-in-Some-ShaCircuit-clause-untouched : goal.returns-in-Some-ShaCircuit-clause-untouched
+returns-in-Some-ShaCircuit-clause-untouched g c = λ h. leaves (texts c.args.words.now) (ShaCircuit c.in-Some-ShaCircuit.count.now c.in-Some-ShaCircuit.circuit.now) (rw c.in-Some-ShaCircuit.field-0-is at c.in-Some-ShaCircuit.ensures) (λ b. b) h
+
+pub sha256-requires-clause-message : goal.sha256-requires-clause-message
+sha256-requires-clause-message g c κs within =
+    let order = c.in-Some-Sha256.order in
+    message_fits (texts c.args.words.now) order.circuit.now order.proof.now order.message.now order.seed.now (option_copied order.session) (rw c.in-Some-Sha256.field-0-is at c.in-Some-Sha256.ensures)
+
+pub sha256-requires-clause-session : goal.sha256-requires-clause-session
+sha256-requires-clause-session g c κs within = session_fits (texts c.args.words.now) (Sha256 c.in-Some-Sha256.order.circuit.now c.in-Some-Sha256.order.proof.now c.in-Some-Sha256.order.message.now c.in-Some-Sha256.order.seed.now (option_copied c.in-Some-Sha256.order.session)) (rw c.in-Some-Sha256.field-0-is at c.in-Some-Sha256.ensures)
+
+pub returns-in-Some-Sha256-clause-works : goal.returns-in-Some-Sha256-clause-works
+returns-in-Some-Sha256-clause-works g c =
+    works (texts c.args.words.now) (Sha256 c.in-Some-Sha256.order.circuit.now c.in-Some-Sha256.order.proof.now c.in-Some-Sha256.order.message.now c.in-Some-Sha256.order.seed.now (option_copied c.in-Some-Sha256.order.session)) (Unit {0}) (seen g.S.Shelf c.args.shelf.now) (seen g.S.Shelf c.sha256.new.shelf) c.sha256.result (rw c.in-Some-Sha256.field-0-is at c.in-Some-Sha256.ensures) (λ u. u) c.sha256.ensures.walks
+
+pub returns-in-Some-Sha256-clause-demo : goal.returns-in-Some-Sha256-clause-demo
+returns-in-Some-Sha256-clause-demo g c = on_demo (texts c.args.words.now) (Sha256 c.in-Some-Sha256.order.circuit.now c.in-Some-Sha256.order.proof.now c.in-Some-Sha256.order.message.now c.in-Some-Sha256.order.seed.now (option_copied c.in-Some-Sha256.order.session)) c.sha256.result (rw c.in-Some-Sha256.field-0-is at c.in-Some-Sha256.ensures) tt
+
+pub returns-in-Some-Sha256-clause-untouched : goal.returns-in-Some-Sha256-clause-untouched
+returns-in-Some-Sha256-clause-untouched g c = λ h. leaves (texts c.args.words.now) (Sha256 c.in-Some-Sha256.order.circuit.now c.in-Some-Sha256.order.proof.now c.in-Some-Sha256.order.message.now c.in-Some-Sha256.order.seed.now (option_copied c.in-Some-Sha256.order.session)) (rw c.in-Some-Sha256.field-0-is at c.in-Some-Sha256.ensures) (λ b. b) h
