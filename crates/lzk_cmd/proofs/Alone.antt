@@ -1,6 +1,7 @@
 -- Each words, files and stop have one end.
-use Rattle.std.proofs.Common.{◌≡◌, ◌<◌, inl, inr, ◌⊎◌, ℕ, Bool, true, false, List, length, map, Option, Some, None, refl, sym, ap, ◌∙◌, subst, arith}
+use Rattle.std.proofs.Common.{◌≡◌, ◌<◌, inl, inr, ◌⊎◌, ℕ, Bool, true, false, List, [], ◌∷◌, ◌++◌, length, map, Option, Some, None, refl, sym, ap, ◌∙◌, subst, arith}
 use Rattle.std.specs.Prelude.{◌^◌, MatchBool, MatchOption, nat_lt, slice_index_or}
+use Rattle.lzk_batch.specs.Lists.{Listed}
 use Rattle.lzk_circbytes.specs.declared.any.AnyCircuit.{AnyCircuit}
 use Rattle.lzk_circbytes.specs.declared.any.AnyCircuit.TheVariants.{Gold, Gf}
 use Rattle.sha2.specs.Sha256.{sha256}
@@ -24,6 +25,7 @@ use Rattle.lzk_layout.proofs.OneProof.{one_proof, no_fault}
 use Rattle.lzk_outside.specs.Outside.{Files}
 use Rattle.lzk_sha_circuit.specs.Inputs.{sha_private}
 use Rattle.lzk_verify.proofs.OneVerdict.{one_verdict}
+use Rattle.lzk_cmd.specs.Batched.{JobRead, AnyRead, GoldRead, GfRead, IsTold, AreTold, JobOver, JobAny, JobsRun, BatchRun, list_files, among, batch_end}
 use Rattle.lzk_cmd.specs.Compiled.{CompileRun, PutsCompiled, term_total}
 use Rattle.lzk_cmd.specs.Demo.{DemoRun}
 use Rattle.lzk_cmd.specs.Decoded.{circuit_files, number_files, source_files, proof_files, level_refused}
@@ -36,7 +38,9 @@ use Rattle.lzk_cmd.specs.OneEnd.{PutAlike, DemoAlike, AreOne, OneEnd}
 use Rattle.lzk_cmd.specs.Proved.{PutsProof, Proves, ProveOver, ProveAny, ProveRun, nonzero_end, seed_of}
 use Rattle.lzk_cmd.specs.Run.{Evaluated, EvalOver, EvalAny, EvalRun, ShowRun, CommandRun, verdict, output_lines}
 use Rattle.lzk_cmd.specs.Verified.{Judged, VerifyOver, VerifyAny, VerifyRun, session_of, verdict_end, gold_coding, gf_coding}
-use Rattle.lzk_cmd.specs.Words.{Command, Eval, Compile, Show, Prove, Verify, Demo, ShaCircuit, Sha256, command_of}
+use Rattle.lzk_cmd.specs.Words.{Command, Eval, Compile, Show, Prove, Verify, Batch, Demo, ShaCircuit, Sha256, command_of}
+use Rattle.lzk_cmd.proofs.Lists as lists
+use Rattle.lzk_cmd.proofs.Lists.{among_lawful}
 use Rattle.lzk_cmd.proofs.Laws as formats
 use Rattle.lzk_cmd.proofs.Laws.{IsLawful}
 
@@ -175,6 +179,43 @@ one_compile source circuit files stop a b = one_step files stop a b _ inl source
     go s None h k = inr (alike s h k)
     go s (Some fault) h k = inl (h ∙ sym k)
 
+-- ---- the jobs of a batch
+
+one_told : (job : AnyRead) (a b : End) → IsTold job a → IsTold job b → a ≡ b
+one_told (GoldRead job) a b h k = one_judged gold.ops gold_coding gold.laws job.circuit job.session job.publics job.proof a b h k
+one_told (GfRead job) a b h k = one_judged gf.ops gf_coding gf.laws job.circuit job.session job.publics job.proof a b h k
+
+all_told : (jobs : List AnyRead) (xs ys : List End) → AreTold jobs xs → AreTold jobs ys → xs ≡ ys
+all_told [] [] [] h k = refl
+all_told [] [] (y ∷ ys) h k = absurd k
+all_told [] (x ∷ xs) ys h k = absurd h
+all_told (job ∷ jobs) [] ys h k = absurd h
+all_told (job ∷ jobs) (x ∷ xs) [] h k = absurd k
+all_told (job ∷ jobs) (x ∷ xs) (y ∷ ys) h k = ap (λ e. e ∷ xs) (one_told job x y h.0 k.0) ∙ ap (λ es. y ∷ es) (all_told jobs xs ys h.1 k.1)
+
+module _ (files : Files) (stop : Stop) (a b : End) where
+  one_job_over : {A : Type 0} (o : Ops A) (e : Coding A) (laws : Laws o e.size e.number e.element e.bytes) (c : Wiring A) (job : Listed) (k taken : ℕ) (m n : JobRead A → ℕ → Type 0)
+      → ((read : JobRead A) (all : ℕ) → m read all → n read all → a ≡ b) → JobOver e c job k taken files stop a m → JobOver e c job k taken files stop b n → a ≡ b
+  one_job_over o e laws c job k taken m n then =
+      one_step files stop a b (a ≡ b) (λ same. same) (among taken (number_files e.size e.number c.publics)) (among_lawful (number_files e.size e.number c.publics) (formats.numbers e.size e.number (numbers_apart o e laws c) c.publics) taken) (k + 1) job.public _ _ (λ publics.
+      one_step files stop a b (a ≡ b) (λ same. same) (among publics.1 proof_files) (among_lawful proof_files formats.proofs publics.1) (k + 2) job.proof _ _ (λ proof.
+      then (record { circuit = c; session = job.session; publics = publics.0; proof = proof.0 }) proof.1))
+
+  one_job : (c : AnyCircuit) (job : Listed) (k taken : ℕ) (m n : AnyRead → ℕ → Type 0)
+      → ((read : AnyRead) (all : ℕ) → m read all → n read all → a ≡ b) → JobAny c job k taken files stop a m → JobAny c job k taken files stop b n → a ≡ b
+  one_job (Gold c) job k taken m n then h g = one_job_over gold.ops gold_coding gold.laws c job k taken (λ read. m (GoldRead read)) (λ read. n (GoldRead read)) (λ read all. then (GoldRead read) all) h g
+  one_job (Gf c) job k taken m n then h g = one_job_over gf.ops gf_coding gf.laws c job k taken (λ read. m (GfRead read)) (λ read. n (GfRead read)) (λ read all. then (GfRead read) all) h g
+
+  one_jobs : (list : List Listed) (k taken : ℕ) (jobs : List AnyRead) → JobsRun list k taken jobs files stop a → JobsRun list k taken jobs files stop b → a ≡ b
+  one_jobs [] k taken jobs (xs, told, h) (ys, also, g) = h ∙ ap batch_end (all_told jobs xs ys told also) ∙ sym g
+  one_jobs (job ∷ list) k taken jobs h g =
+      one_step files stop a b (a ≡ b) (λ same. same) (among taken circuit_files) (among_lawful circuit_files formats.circuits taken) k job.circuit _ _ (λ c.
+      one_job c.0 job k c.1 _ _ (λ read all. one_jobs list (k + 3) all (jobs ++ read ∷ []))) h g
+
+  one_batch : (list : List ℕ) → BatchRun list files stop a → BatchRun list files stop b → a ≡ b
+  unfolding BatchRun
+  one_batch list = one_step files stop a b (a ≡ b) (λ same. same) list_files lists.lawful 0 list _ _ (λ entries. one_jobs entries 1 0 [])
+
 one_demo : (n : ℕ) (seed : List ℕ) (files : Files) (stop : Stop) (a b : End) → DemoRun n seed files stop a → DemoRun n seed files stop b → DemoAlike n a b
 unfolding DemoRun
 one_demo n seed files stop a b (c, xs, is, h) (d, ys, js, k) = record {
@@ -196,6 +237,7 @@ module _ (gold_file : OneFile gold.ops gold_coding) (gf_file : OneFile gf.ops gf
       one_step files stop a b (a ≡ b) (λ e. e) circuit_files formats.circuits 0 circuit _ _ (λ c. one_prove_any gold_file gf_file c public private proof (session_of session) (seed_of seed) files stop a b) h k
   one_command (Verify circuit public proof session) files stop a b h k =
       one_step files stop a b (a ≡ b) (λ e. e) circuit_files formats.circuits 0 circuit _ _ (λ c. one_verify_any c public proof (session_of session) files stop a b) h k
+  one_command (Batch list) files stop a b h k = one_batch files stop a b list h k
   one_command (Demo count seed) files stop a b h k = one_demo (number_of count) (seed_of seed) files stop a b h k
   one_command (ShaCircuit count circuit) files stop a b h k = one_shacircuit (number_of count) circuit files stop a b h k
   one_command (Sha256 circuit proof message seed session) files stop a b h k =

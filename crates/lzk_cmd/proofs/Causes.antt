@@ -3,7 +3,7 @@ use Rattle.std.proofs.Common.{◌≡◌, ◌⊎◌, ◌≤◌, ℕ, false, List,
 use Rattle.std.proofs.lemmas.Bool.{false≢true}
 use Rattle.lzk_cmd.specs.Ends.{End, Stop, Nowhere, AtRead, AtPut, MayStop, puts, says, missing_file}
 use Rattle.lzk_cmd.specs.Lines.{larger_line, reading_line}
-use Rattle.lzk_cmd.specs.Refusals.{Refusal, Missing, Larger, Bytes, Numbers, Source, Level, Unfit, MayRefuse, IsRefusal}
+use Rattle.lzk_cmd.specs.Refusals.{Refusal, Missing, Larger, Bytes, Numbers, Source, Jobs, Level, Unfit, MayRefuse, IsRefusal}
 use Rattle.lzk_cmd.specs.Seen.{Seen, ReadFailed, PutFailed, Missed}
 use Rattle.lzk_cmd.specs.Walks.{OnlyReads, HasCause}
 use Rattle.lzk_cmd.proofs.Sights.{read_later, put_later, missed_later}
@@ -17,6 +17,7 @@ wider m n text v h = record { refusal = h.refusal; line = h.line; may = go h.ref
     go (Bytes name offset kind) a = tt
     go (Numbers name number kind) a = tt
     go (Source name number kind) a = tt
+    go (Jobs name number kind) a = tt
     go (Level name fault) a = tt
     go (Unfit name len) a = tt
 

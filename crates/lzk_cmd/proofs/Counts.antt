@@ -9,7 +9,7 @@ use Rattle.lzk_cmd.specs.declared.table.Verb.TheVariants as verbs
 use Rattle.lzk_cmd.specs.Grammar.{Request, request_of, behind_verb, is_name, are_names, are_keys}
 use Rattle.lzk_cmd.specs.Keys.{Keys, is_count, is_number, keys_of, or_else}
 use Rattle.lzk_cmd.specs.Table.{verb_of, row_of}
-use Rattle.lzk_cmd.specs.Words.{Command, Eval, Compile, Show, Prove, Verify, Demo, ShaCircuit, Sha256, built, command_of}
+use Rattle.lzk_cmd.specs.Words.{Command, Eval, Compile, Show, Prove, Verify, Batch, Demo, ShaCircuit, Sha256, built, command_of}
 
 -- the names are those of the row
 abbrev KeepsRow : Request → Type 0
@@ -55,6 +55,7 @@ HasNumber (Compile source circuit) = Unit {0}
 HasNumber (Show circuit) = Unit {0}
 HasNumber (Prove circuit public private proof seed session) = Unit {0}
 HasNumber (Verify circuit public proof session) = Unit {0}
+HasNumber (Batch list) = Unit {0}
 HasNumber (Demo count seed) = is_number 16384 count ≡ true
 HasNumber (ShaCircuit count circuit) = is_count 55 count ≡ true
 HasNumber (Sha256 circuit proof message seed session) = Unit {0}
@@ -90,6 +91,9 @@ built_number verbs.Verify (n ∷ []) keys command good e = absurd cc
 built_number verbs.Verify (n ∷ m ∷ []) keys command good e = absurd cc
 built_number verbs.Verify (n ∷ m ∷ k ∷ []) keys command good e = found _ command tt e
 built_number verbs.Verify (n ∷ m ∷ k ∷ l ∷ rest) keys command good e = absurd cc
+built_number verbs.Batch [] keys command good e = absurd cc
+built_number verbs.Batch (n ∷ []) keys command good e = found _ command tt e
+built_number verbs.Batch (n ∷ m ∷ rest) keys command good e = absurd cc
 built_number verbs.Demo [] keys command good e = absurd cc
 built_number verbs.Demo (n ∷ []) keys command good e = go keys.seed e
   where

@@ -1,8 +1,9 @@
 -- Words, files and stop have an end.
-use Rattle.std.proofs.Common.{◌≡◌, ◌⊎◌, ◌<◌, ℕ, suc, zero, Bool, true, false, eqb, List, [], ◌∷◌, length, map, Option, Some, None, Result, Ok, Err, inl, inr, refl, sym, ap, ◌∙◌, arith, mod-lt, pow_pos, ltb-false}
+use Rattle.std.proofs.Common.{◌≡◌, ◌⊎◌, ◌<◌, ℕ, ◌+◌, ◌++◌, suc, zero, Bool, true, false, eqb, List, [], ◌∷◌, length, map, Option, Some, None, Result, Ok, Err, inl, inr, refl, sym, ap, ◌∙◌, arith, mod-lt, pow_pos, ltb-false}
 use Rattle.std.specs.Prelude.{◌^◌, ◌≤◌, MatchBool, MatchOption, nat_lt, slice_index_or}
 use Rattle.std.proofs.lemmas.List.{length-map}
-use Rattle.std.proofs.lemmas.Bool.{eqb-true, eqb-false}
+use Rattle.std.proofs.lemmas.Bool.{eqb-true, eqb-false, ltb-true}
+use Rattle.lzk_batch.specs.Lists.{Listed}
 use Rattle.lzk_circbytes.specs.declared.any.AnyCircuit.{AnyCircuit}
 use Rattle.lzk_circbytes.specs.declared.any.AnyCircuit.TheVariants.{Gold, Gf}
 use Rattle.lzk_circbytes.specs.Files.{CircuitBytes}
@@ -33,6 +34,7 @@ use Rattle.lzk_outside.specs.Outside.{Files}
 use Rattle.lzk_sha_circuit.specs.Circuits.{SomeShaCircuit}
 use Rattle.lzk_sha_circuit.specs.Inputs.{sha_private}
 use Rattle.lzk_verify.proofs.SomeVerdict.{some_verdict}
+use Rattle.lzk_cmd.specs.Batched.{JobRead, AnyRead, GoldRead, GfRead, TooMany, IsTold, AreTold, JobOver, JobAny, JobsRun, BatchRun, list_files, among, refused_among, total_limit, batch_end}
 use Rattle.lzk_cmd.specs.Compiled.{Compiled, CompileRun, CompileTree, PutsCompiled, compiled_text}
 use Rattle.lzk_cmd.specs.Demo.{DemoRun, demo_end}
 use Rattle.lzk_cmd.specs.Decoded.{circuit_files, number_files, source_files, proof_files, level_refused, text_limit, proof_limit}
@@ -44,11 +46,13 @@ use Rattle.lzk_cmd.specs.Proved.{PutsProof, Proves, ProveOver, ProveAny, ProveRu
 use Rattle.lzk_cmd.specs.Run.{Evaluated, EvalOver, EvalAny, EvalRun, ShowRun, CommandRun, verdict, output_lines, shown_any}
 use Rattle.lzk_cmd.specs.SomeEnd.{AreBytes, SomeEnd}
 use Rattle.lzk_cmd.specs.Verified.{Judged, VerifyOver, VerifyAny, VerifyRun, session_of, verdict_end, gold_coding, gf_coding}
-use Rattle.lzk_cmd.specs.Words.{Command, Eval, Compile, Show, Prove, Verify, Demo, ShaCircuit, Sha256, command_of}
+use Rattle.lzk_cmd.specs.Words.{Command, Eval, Compile, Show, Prove, Verify, Batch, Demo, ShaCircuit, Sha256, command_of}
 use Rattle.lzk_cmd.specs.Keys.{number_of}
 use Rattle.lzk_cmd.proofs.Counts.{HasNumber, has_number}
 use Rattle.lzk_cmd.proofs.Demos.{length_private, number_fits}
 use Rattle.lzk_cmd.proofs.Hashes.{count_fits, hash_counts}
+use Rattle.lzk_cmd.proofs.Lists as lists
+use Rattle.lzk_cmd.proofs.Lists.{among_total}
 use Rattle.lzk_cmd.proofs.Total.{circuits_total, numbers_total}
 use Rattle.lzk_complete.specs.Complete.{Complete}
 use Rattle.lzk_demo.specs.Demo.{demo_tree, demo_public, demo_private, InputsSatisfy}
@@ -147,6 +151,39 @@ some_verify : (c : AnyCircuit) (public proof session : List ℕ) (files : Files)
 some_verify (Gold c) public proof session files stop good = some_verify_over gold.ops gold_coding gold.laws c public proof session files stop good
 some_verify (Gf c) public proof session files stop good = some_verify_over gf.ops gf_coding gf.laws c public proof session files stop good
 
+-- ---- the jobs of a batch
+
+told_more : (jobs : List AnyRead) (ends : List End) (job : AnyRead) (end : End) → AreTold jobs ends → IsTold job end → AreTold (jobs ++ job ∷ []) (ends ++ end ∷ [])
+told_more [] [] job end h told = (told, tt)
+told_more [] (e ∷ ends) job end h told = absurd h
+told_more (j ∷ jobs) [] job end h told = absurd h
+told_more (j ∷ jobs) (e ∷ ends) job end h told = (h.0, told_more jobs ends job end h.1 told)
+
+-- the walk over a job's files has an end, where what comes behind has one for each job that has an end of its own
+module _ (files : Files) (stop : Stop) (good : AreBytes files) (next : End → AnyRead → ℕ → Type 0) (then : (read : AnyRead) (all : ℕ) → (one : End) × IsTold read one → (end : End) × next end read all) where
+  some_job_over : {A : Type 0} (o : Ops A) (e : Coding A) (laws : Laws o e.size e.number e.element e.bytes) (wrap : JobRead A → AnyRead)
+      → ((read : JobRead A) (one : End) → Judged o e read.circuit read.session read.publics read.proof one → IsTold (wrap read) one)
+      → (c : Wiring A) (job : Listed) (k taken : ℕ) → (end : End) × JobOver e c job k taken files stop end (λ read. next end (wrap read))
+  some_job_over {A} o e laws wrap tells c job k taken =
+      some_at files stop (k + 1) job.public (among taken (number_files e.size e.number c.publics)) (λ text has. among_total (number_files e.size e.number c.publics) taken text (numbers_total o e.size e.number e.element e.bytes laws 0 c.publics text)) _ (λ publics.
+      some_file files stop (k + 2) job.proof proof_limit (λ end bytes. AtBytes (among publics.1 proof_files) job.proof bytes end (λ proof. next end (wrap (read publics.0 proof.0)) proof.1)) (λ bytes has.
+      go publics.0 publics.1 bytes has (nat_lt total_limit (publics.1 + length bytes)) refl))
+    where
+      read : List A → List ℕ → JobRead A
+      read publics proof = record { circuit = c; session = job.session; publics = publics; proof = proof }
+
+      go : (publics : List A) (taken : ℕ) (bytes : List ℕ) → HasFile (files job.proof) proof_limit bytes → (more : Bool) → nat_lt total_limit (taken + length bytes) ≡ more
+          → (end : End) × AtBytes (among taken proof_files) job.proof bytes end (λ proof. next end (wrap (read publics proof.0)) proof.1)
+      go publics taken bytes has true e = (refused_among proof_files job.proof TooMany, inr (TooMany, ltb-true total_limit (taken + length bytes) e, refl))
+      go publics taken bytes has false e =
+          let judged = some_judged o e laws c job.public job.proof job.session files stop good publics bytes has in
+          let behind = then (wrap (read publics bytes)) (taken + length bytes) (judged.0, tells (read publics bytes) judged.0 judged.1) in
+          (behind.0, inl ((bytes, taken + length bytes), (refl, refl, ltb-false total_limit (taken + length bytes) e), behind.1))
+
+  some_job : (c : AnyCircuit) (job : Listed) (k taken : ℕ) → (end : End) × JobAny c job k taken files stop end (next end)
+  some_job (Gold c) job k taken = some_job_over gold.ops gold_coding gold.laws GoldRead (λ read one h. h) c job k taken
+  some_job (Gf c) job k taken = some_job_over gf.ops gf_coding gf.laws GfRead (λ read one h. h) c job k taken
+
 -- inputs have a proof or a first output that is not 0, where valid circuits have a proof's file
 module _ {A : Type 0} (o : Ops A) (e : Coding A) (laws : Laws o e.size e.number e.element e.bytes) (some : SomeFile o e) (fit : FilesFit o e) (c : Wiring A) (valid : IsValid o c) (proof session seed : List ℕ) (files : Files) (stop : Stop) where
   some_proves : (digest : Option (List ℕ)) (publics privates : List A) → HaveCounts c publics privates → (end : End) × Proves o e c proof digest session seed publics privates stop end
@@ -199,6 +236,16 @@ module _ (have : HaveFiles) (files : Files) (stop : Stop) where
           (puts stop circuit bytes (compiled_text circuit c (length bytes)), (c, bytes, compiled_of s c is, file, files_fit c bytes file, refl))
       go (Some fault) passed = (level_refused source fault, refl)
 
+  some_jobs : AreBytes files → (list : List Listed) (k taken : ℕ) (jobs : List AnyRead) → (ends : List End) × AreTold jobs ends → (end : End) × JobsRun list k taken jobs files stop end
+  some_jobs good [] k taken jobs (ends, told) = (batch_end ends, (ends, told, refl))
+  some_jobs good (job ∷ list) k taken jobs (ends, told) =
+      some_at files stop k job.circuit (among taken circuit_files) (λ bytes has. among_total circuit_files taken bytes (circuits_there good job.circuit bytes has)) _ (λ c.
+      some_job files stop good (λ end read all. JobsRun list (k + 3) all (jobs ++ read ∷ []) files stop end) (λ read all one. some_jobs good list (k + 3) all (jobs ++ read ∷ []) (ends ++ one.0 ∷ [], told_more jobs ends read one.0 told one.1)) c.0 job k c.1)
+
+  some_batch : AreBytes files → (list : List ℕ) → (end : End) × BatchRun list files stop end
+  unfolding BatchRun
+  some_batch good list = some_at files stop 0 list list_files (λ text has. lists.total text) _ (λ entries. some_jobs good entries 1 0 [] ([], tt))
+
   some_compile : (source circuit : List ℕ) → (end : End) × CompileRun source circuit files stop end
   unfolding CompileRun
   some_compile source circuit =
@@ -243,6 +290,7 @@ module _ (have : HaveFiles) (files : Files) (stop : Stop) where
       some_with files stop 0 circuit circuit_files (circuits_there good circuit) _ (λ bytes c means. some_prove have bytes c means public private proof (session_of session) (seed_of seed) files stop)
   some_command (Verify circuit public proof session) number good =
       some_at files stop 0 circuit circuit_files (circuits_there good circuit) _ (λ c. some_verify c public proof (session_of session) files stop good)
+  some_command (Batch list) number good = some_batch good list
   some_command (Demo count seed) number good =
       let fits = number_fits count number in some_demo (number_of count) (seed_of seed) fits.0 (have.demo_circuit (number_of count) fits.0 fits.1)
   some_command (ShaCircuit count circuit) number good = some_shacircuit (number_of count) circuit (count_fits count number)

@@ -28,7 +28,7 @@ pub record IsLawful {X F : Type 0} (format : Format X F) : Type 0 where
   pub one_refusal : (name bytes : List ℕ) (f g : F) → format.breaks bytes f → format.breaks bytes g → format.refused name f ≡ format.refused name g
   pub quiet : (name : List ℕ) (fault : F) → IsQuiet (format.refused name fault)
 
-refusal_quiet : (refusal : Refusal) → MayRefuse ⊥ refusal → IsQuiet (says 3 (refusal_line refusal))
+pub refusal_quiet : (refusal : Refusal) → MayRefuse ⊥ refusal → IsQuiet (says 3 (refusal_line refusal))
 refusal_quiet refusal may = record { put = refl; present = refl; cause = inr (refl, record { refusal = refusal; line = refl; may = may }) }
 
 pub level_quiet : (name : List ℕ) (fault : LevelFault) → IsQuiet (level_refused name fault)

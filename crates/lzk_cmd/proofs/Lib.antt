@@ -1,5 +1,6 @@
 pub mod Accepted
 pub mod Alone
+pub mod Batches
 pub mod Causes
 pub mod Compiles
 pub mod Counts
@@ -9,8 +10,11 @@ pub mod Evals
 pub mod Exists
 pub mod Fronts
 pub mod Hashes
+pub mod Gathers
 pub mod Inputs
+pub mod Keeping
 pub mod Laws
+pub mod Lists
 pub mod Outputs
 pub mod Printing
 pub mod Promises
@@ -19,6 +23,7 @@ pub mod Ready
 pub mod Sessions
 pub mod Sights
 pub mod Steps
+pub mod Tells
 pub mod Terms
 pub mod Total
 pub mod Verifies

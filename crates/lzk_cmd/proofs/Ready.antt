@@ -1,7 +1,10 @@
 -- A run whose files are ready is done.
-use Rattle.std.proofs.Common.{◌≡◌, ℕ, inl, inr, ◌⊎◌, List, length, Option, Some, None, refl, sym, subst}
-use Rattle.std.specs.Prelude.{◌^◌, MatchOption}
+use Rattle.std.proofs.Common.{◌≡◌, ℕ, ◌+◌, ◌≤◌, inl, inr, ◌⊎◌, Bool, true, false, List, [], ◌∷◌, ◌++◌, length, Option, Some, None, refl, sym, ap, subst, ◌∙◌, arith}
+use Rattle.std.specs.Prelude.{◌^◌, ◌==◌, MatchOption, All, cond, sum_by}
 use Rattle.std.proofs.lemmas.Bool.{le-ltb}
+use Rattle.std.proofs.lemmas.List.Elements.{All-head, All-tail}
+use Rattle.std.proofs.lemmas.List.Sums.{sum_by-cons}
+use Rattle.lzk_batch.specs.Lists.{Listed}
 use Rattle.lzk_circbytes.specs.declared.any.AnyCircuit.{AnyCircuit}
 use Rattle.lzk_circbytes.specs.declared.any.AnyCircuit.TheVariants.{Gold, Gf}
 use Rattle.sha2.specs.Sha256.{sha256}
@@ -13,8 +16,9 @@ use Rattle.lzk_goldilocks.specs.Elements as gold
 use Rattle.lzk_gf128.specs.Elements as gf
 use Rattle.lzk_outside.specs.Outside.{Files}
 use Rattle.lzk_sha_circuit.specs.Inputs.{sha_private}
+use Rattle.lzk_cmd.specs.Batched.{JobRead, AnyRead, GoldRead, GfRead, Among, TooMany, Own, JobOver, JobAny, JobsRun, BatchRun, list_files, among, total_limit, rejected_of, batch_end}
 use Rattle.lzk_cmd.specs.Compiled.{CompileRun}
-use Rattle.lzk_cmd.specs.Complete.{HasNumbers, HasInputs, HasInputsOf, HasPublicsOf, IsReady, Completes}
+use Rattle.lzk_cmd.specs.Complete.{HasNumbers, HasInputs, HasInputsOf, HasPublicsOf, IsJobReady, IsBatchReady, file_size, job_size, IsReady, Completes}
 use Rattle.lzk_cmd.specs.Decoded.{circuit_files, number_files, source_files, proof_files}
 use Rattle.lzk_cmd.specs.Demo.{DemoRun}
 use Rattle.lzk_verify.specs.declared.verdict.Verdict.{Verdict}
@@ -27,7 +31,9 @@ use Rattle.lzk_cmd.specs.Proved.{PutsProof, Proves, ProveOver, ProveAny, ProveRu
 use Rattle.lzk_cmd.specs.Run.{EvalOver, EvalAny, EvalRun, ShowRun, CommandRun, RunOf, verdict}
 use Rattle.lzk_cmd.specs.Sights.{Before, After}
 use Rattle.lzk_cmd.specs.Verified.{VerifyOver, VerifyAny, VerifyRun, session_of, verdict_end, gold_coding, gf_coding}
-use Rattle.lzk_cmd.specs.Words.{Command, Eval, Compile, Show, Prove, Verify, Demo, ShaCircuit, Sha256, command_of}
+use Rattle.lzk_cmd.specs.Words.{Command, Eval, Compile, Show, Prove, Verify, Batch, Demo, ShaCircuit, Sha256, command_of}
+use Rattle.lzk_cmd.proofs.Lists as lists
+use Rattle.lzk_cmd.proofs.Lists.{among_lawful}
 use Rattle.lzk_cmd.proofs.Laws as laws
 use Rattle.lzk_cmd.proofs.Laws.{IsLawful, no_number_fault}
 
@@ -93,6 +99,72 @@ verify_any_done : (c : AnyCircuit) (public proof session bytes : List ℕ) (file
 verify_any_done (Gold c) public proof session bytes files end has there h = verify_over_done gold.ops gold_coding c public proof session bytes files end has there h
 verify_any_done (Gf c) public proof session bytes files end has there h = verify_over_done gf.ops gf_coding c public proof session bytes files end has there h
 
+-- ---- the jobs of a batch
+
+-- behind files that leave room for one more, the walk goes on with what it means, and its bytes with theirs
+module _ (files : Files) (name : List ℕ) (k taken : ℕ) (end : End) where
+  size_is : (bytes : List ℕ) → files name ≡ Some bytes → file_size (files name) ≡ length bytes
+  size_is bytes there = ap file_size there
+
+  among_ready : {X F : Type 0} (format : Format X F) → IsLawful format → (x : X) (next : X × ℕ → Type 0) → Has format files name x → taken + file_size (files name) ≤ total_limit
+      → At (among taken format) files Nowhere k name end next → next (x, taken + file_size (files name))
+  among_ready format law x next has few h =
+      let same = size_is has.bytes has.file.there in
+      let all : taken + file_size (files name) ≡ taken + length has.bytes = ap (λ n. taken + n) same in
+      ready (among taken format) (among_lawful format law taken) files name k end (x, taken + file_size (files name)) next (record { bytes = has.bytes; file = has.file; means = (has.means, all, few) }) h
+
+  among_numbers : {A : Type 0} (size : ℕ) (number : A → ℕ) (count : ℕ) (next : List A × ℕ → Type 0) → HasNumbers files name size count → taken + file_size (files name) ≤ total_limit
+      → At (among taken (number_files size number count)) files Nowhere k name end next → (values : List A) × next (values, taken + file_size (files name))
+  among_numbers {A} size number count next has few h = go (file_ready (among taken (number_files size number count)) files name has.0 k end next has.2 h)
+    where
+      all : taken + file_size (files name) ≡ taken + length has.0
+      all = ap (λ n. taken + n) (size_is has.0 has.2.there)
+
+      go : AtBytes (among taken (number_files size number count)) name has.0 end next → (values : List A) × next (values, taken + file_size (files name))
+      go (inl ((values, n), means, rest)) = (values, subst (λ m. next (values, m)) (means.1 ∙ sym all) rest)
+      go (inr (TooMany, more, same)) = absurd (lists.too_many total_limit taken (length has.0) (taken + file_size (files name)) all few more)
+      go (inr (Own fault, breaks, same)) = absurd (no_number_fault size count has.0 has.1 has.3 fault breaks.1)
+
+room : (taken a b c more limit : ℕ) → taken + (a + b + c + more) ≤ limit → (taken + a ≤ limit) × (taken + a + b ≤ limit) × (taken + a + b + c ≤ limit) × (taken + a + b + c + more ≤ limit)
+room taken a b c more limit few = (omega arith, omega arith, omega arith, omega arith)
+
+-- the walk over the number and the proof file of a job goes on behind them
+job_over : {A : Type 0} (e : Coding A) (c : Wiring A) (files : Files) (job : Listed) (k taken : ℕ) (proof : List ℕ) (end : End) (next : JobRead A → ℕ → Type 0) → HasNumbers files job.public e.size c.publics → Has proof_files files job.proof proof
+    → taken + file_size (files job.public) ≤ total_limit → taken + file_size (files job.public) + file_size (files job.proof) ≤ total_limit
+    → JobOver e c job k taken files Nowhere end next → (read : JobRead A) × next read (taken + file_size (files job.public) + file_size (files job.proof))
+job_over e c files job k taken proof end next publics there few also h =
+    let first = among_numbers files job.public (k + 1) taken end e.size e.number c.publics _ publics few h in
+    (record { circuit = c; session = job.session; publics = first.0; proof = proof }, among_ready files job.proof (k + 2) (taken + file_size (files job.public)) end proof_files laws.proofs proof _ there also first.1)
+
+job_any : (c : AnyCircuit) (files : Files) (job : Listed) (k taken : ℕ) (proof : List ℕ) (end : End) (next : AnyRead → ℕ → Type 0) → HasPublicsOf c files job.public → Has proof_files files job.proof proof
+    → taken + file_size (files job.public) ≤ total_limit → taken + file_size (files job.public) + file_size (files job.proof) ≤ total_limit
+    → JobAny c job k taken files Nowhere end next → (read : AnyRead) × next read (taken + file_size (files job.public) + file_size (files job.proof))
+job_any (Gold c) files job k taken proof end next publics there few also h =
+    let behind = job_over gold_coding c files job k taken proof end (λ read. next (GoldRead read)) publics there few also h in (GoldRead behind.0, behind.1)
+job_any (Gf c) files job k taken proof end next publics there few also h =
+    let behind = job_over gf_coding c files job k taken proof end (λ read. next (GfRead read)) publics there few also h in (GfRead behind.0, behind.1)
+
+batch_done : (ends : List End) → Done (batch_end ends)
+batch_done ends = go (rejected_of ends == 0)
+  where
+    go : (none : Bool) → (cond none 0 1 ≡ 0) ⊎ (cond none 0 1 ≡ 1)
+    go true = inl refl
+    go false = inr refl
+
+jobs_done : (files : Files) (list : List Listed) (k taken : ℕ) (jobs : List AnyRead) (end : End) → All (IsJobReady files) list → taken + sum_by (job_size files) list ≤ total_limit → JobsRun list k taken jobs files Nowhere end → Done end
+jobs_done files [] k taken jobs end each few (ends, told, same) = subst Done (sym same) (batch_done ends)
+jobs_done files (job ∷ list) k taken jobs end each few h =
+    let has = All-head (IsJobReady files) job list each in
+    let few_with = subst (λ n. taken + n ≤ total_limit) (sum_by-cons (job_size files) job list) few in
+    let fits = room taken (file_size (files job.circuit)) (file_size (files job.public)) (file_size (files job.proof)) (sum_by (job_size files) list) total_limit few_with in
+    let first = among_ready files job.circuit k taken end circuit_files laws.circuits has.circuit _ has.has_circuit fits.0 h in
+    let behind = job_any has.circuit files job k (taken + file_size (files job.circuit)) has.proof end _ has.has_publics has.has_proof fits.1 fits.2 first in
+    jobs_done files list (k + 3) (taken + file_size (files job.circuit) + file_size (files job.public) + file_size (files job.proof)) (jobs ++ behind.0 ∷ []) end (All-tail (IsJobReady files) job list each) fits.3 behind.1
+
+batch_run_done : (files : Files) (list : List ℕ) (end : End) → IsBatchReady files list → BatchRun list files Nowhere end → Done end
+unfolding BatchRun
+batch_run_done files list end has h = jobs_done files has.jobs 1 0 [] end has.each has.few (ready list_files lists.lawful files list 0 end has.jobs _ has.has h)
+
 proves_done : {A : Type 0} (o : Ops A) (e : Coding A) (c : Wiring A) (proof : List ℕ) (digest : Option (List ℕ)) (session seed : List ℕ) (publics privates : List A) (end : End) → Proves o e c proof digest session seed publics privates Nowhere end → Done end
 proves_done {A} o e c proof digest session seed publics privates end (first, is, h) = go first h
   where
@@ -123,6 +195,7 @@ ready_done files (Prove circuit public private proof seed session) end has h =
     prove_any_done has.0 public private proof _ _ files end has.2 (ready circuit_files laws.circuits files circuit 0 end has.0 _ has.1 h)
 ready_done files (Verify circuit public proof session) end has h =
     verify_any_done has.0 public proof _ has.1 files end has.3 has.4 (ready circuit_files laws.circuits files circuit 0 end has.0 _ has.2 h)
+ready_done files (Batch list) end has h = batch_run_done files list end has h
 ready_done files (Demo count seed) end has (c, bytes, is, same) = subst Done (sym same) (inl refl)
 ready_done files (ShaCircuit count circuit) end has (c, bytes, is, file, fits, same) = subst Done (sym same) (inl refl)
 ready_done files (Sha256 circuit proof message seed session) end has h =

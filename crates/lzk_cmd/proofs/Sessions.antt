@@ -13,7 +13,7 @@ use Rattle.lzk_cmd.specs.Hashed.{message_of}
 use Rattle.lzk_cmd.specs.Keys.{Keys, no_keys, behind, are_hex, is_seed, is_session, is_message, is_number, with_seed, with_session, with_workers, with_message, with_key, keys_after, keys_of, or_else}
 use Rattle.lzk_cmd.specs.Table.{verb_of, row_of}
 use Rattle.lzk_cmd.specs.Verified.{decoded_or_none, session_of}
-use Rattle.lzk_cmd.specs.Words.{Command, Eval, Compile, Show, Prove, Verify, Demo, ShaCircuit, Sha256, built, command_of}
+use Rattle.lzk_cmd.specs.Words.{Command, Eval, Compile, Show, Prove, Verify, Batch, Demo, ShaCircuit, Sha256, built, command_of}
 
 -- the session that stands, if one does, is one, and so is the message
 abbrev AreFit : Keys → Type 0
@@ -97,6 +97,7 @@ asked (Compile source circuit) = None
 asked (Show circuit) = None
 asked (Prove circuit public private proof seed session) = session
 asked (Verify circuit public proof session) = session
+asked (Batch list) = None
 asked (Demo count seed) = None
 asked (ShaCircuit count circuit) = None
 asked (Sha256 circuit proof message seed session) = session
@@ -140,6 +141,9 @@ built_session verbs.Verify (n ∷ []) keys command good e = absurd cc
 built_session verbs.Verify (n ∷ m ∷ []) keys command good e = absurd cc
 built_session verbs.Verify (n ∷ m ∷ k ∷ []) keys command good e = found _ command (good.0, tt) e
 built_session verbs.Verify (n ∷ m ∷ k ∷ l ∷ rest) keys command good e = absurd cc
+built_session verbs.Batch [] keys command good e = absurd cc
+built_session verbs.Batch (n ∷ []) keys command good e = found _ command tt e
+built_session verbs.Batch (n ∷ m ∷ rest) keys command good e = absurd cc
 built_session verbs.Demo [] keys command good e = absurd cc
 built_session verbs.Demo (n ∷ []) keys command good e = go keys.seed e
   where

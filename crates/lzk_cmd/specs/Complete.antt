@@ -1,5 +1,6 @@
 -- Runs in which nothing is refused.
-use Rattle.std.specs.Prelude.{◌≡◌, ◌⊎◌, ◌^◌, ℕ, List, length, ◌++◌, Some, None, true}
+use Rattle.std.specs.Prelude.{◌≡◌, ◌⊎◌, ◌^◌, ℕ, ◌+◌, ◌≤◌, List, ◌++◌, length, All, sum_by, Option, Some, None, true}
+use Rattle.lzk_batch.specs.Lists.{Listed}
 use Rattle.lzk_circbytes.specs.declared.any.AnyCircuit.{AnyCircuit}
 use Rattle.lzk_circbytes.specs.declared.any.AnyCircuit.TheVariants.{Gold, Gf}
 use Rattle.lzk_circuit.specs.Valid.{Wiring}
@@ -9,6 +10,7 @@ use Rattle.lzk_goldilocks.specs.declared.element.Gold.{Gold as GoldElement}
 use Rattle.lzk_goldilocks.specs.Prime.{p}
 use Rattle.lzk_level.specs.Compiled.{source_limit}
 use Rattle.lzk_outside.specs.Outside.{Files}
+use Rattle.lzk_cmd.specs.Batched.{list_files, total_limit}
 use Rattle.lzk_cmd.specs.Decoded.{circuit_files, source_files, proof_files, text_limit}
 use Rattle.lzk_cmd.specs.Ends.{End, Nowhere, Leaves}
 use Rattle.lzk_cmd.specs.Formats.{HasFile, Has}
@@ -16,7 +18,7 @@ use Rattle.lzk_cmd.specs.Hashed.{is_for, message_of}
 use Rattle.lzk_cmd.specs.Run.{RunOf}
 use Rattle.lzk_cmd.specs.Seen.{ReadFailed, PutFailed, WriteFailed}
 use Rattle.lzk_cmd.specs.Sights.{Before, After}
-use Rattle.lzk_cmd.specs.Words.{Command, Eval, Compile, Show, Prove, Verify, Demo, ShaCircuit, Sha256, command_of}
+use Rattle.lzk_cmd.specs.Words.{Command, Eval, Compile, Show, Prove, Verify, Batch, Demo, ShaCircuit, Sha256, command_of}
 
 -- a file of so many numbers, each below size, is there, within its limit
 abbrev pub HasNumbers : Files → List ℕ → ℕ → ℕ → Type 0
@@ -38,6 +40,29 @@ HasPublicsOf (Gf c) files public = HasNumbers files public (2 ^ 128) c.publics
 abbrev pub HasSource : Files → List ℕ → SourceTree → Type 0
 HasSource files name source = Has source_files files name source × (source_limit source ≡ None)
 
+-- the files of `verify` are there
+pub record IsJobReady (files : Files) (job : Listed) : Type 0 where
+  pub circuit : AnyCircuit
+  pub proof : List ℕ
+  pub has_circuit : Has circuit_files files job.circuit circuit
+  pub has_publics : HasPublicsOf circuit files job.public
+  pub has_proof : Has proof_files files job.proof proof
+
+-- how many bytes a file has that is there
+abbrev pub file_size : Option (List ℕ) → ℕ
+file_size None = 0
+file_size (Some bytes) = length bytes
+
+abbrev pub job_size : Files → Listed → ℕ
+job_size files job = file_size (files job.circuit) + file_size (files job.public) + file_size (files job.proof)
+
+-- a list of jobs is there, and the files of each job, which have no more bytes together than they may
+pub record IsBatchReady (files : Files) (list : List ℕ) : Type 0 where
+  pub jobs : List Listed
+  pub has : Has list_files files list jobs
+  pub each : All (IsJobReady files) jobs
+  pub few : sum_by (job_size files) jobs ≤ total_limit
+
 -- the files that a command reads are there, within their limits and of their formats, and a circuit that is to be proved for a message has its counts
 abbrev pub IsReady : Files → Command → Type 0
 IsReady files (Eval circuit public private) = (c : AnyCircuit) × Has circuit_files files circuit c × HasInputsOf c files public private
@@ -45,6 +70,7 @@ IsReady files (Compile source circuit) = (s : SourceTree) × HasSource files sou
 IsReady files (Show circuit) = (c : AnyCircuit) × Has circuit_files files circuit c
 IsReady files (Prove circuit public private proof seed session) = (c : AnyCircuit) × Has circuit_files files circuit c × HasInputsOf c files public private
 IsReady files (Verify circuit public proof session) = (c : AnyCircuit) × (bytes : List ℕ) × Has circuit_files files circuit c × HasPublicsOf c files public × Has proof_files files proof bytes
+IsReady files (Batch list) = IsBatchReady files list
 IsReady files (Demo count seed) = Unit {0}
 IsReady files (ShaCircuit count circuit) = Unit {0}
 IsReady files (Sha256 circuit proof message seed session) = (c : Wiring GoldElement) × Has circuit_files files circuit (Gold c) × (is_for (length (message_of message)) c ≡ true)

@@ -1,4 +1,5 @@
 pub mod Accepted
+pub mod Batched
 pub mod Chains
 pub mod Compiled
 pub mod Complete
@@ -9,6 +10,7 @@ pub mod Faults
 pub mod Feeding
 pub mod Files
 pub mod Formats
+pub mod Gathered
 pub mod Grammar
 pub mod Hashed
 pub mod KeyViews
@@ -29,6 +31,7 @@ pub mod Views
 pub mod Walks
 pub mod Words
 pub use Rattle.lzk_outside.specs as lzk_outside
+pub use Rattle.lzk_batch.specs as lzk_batch
 pub use Rattle.lzk_circbytes.specs as lzk_circbytes
 pub use Rattle.lzk_circuit.specs as lzk_circuit
 pub use Rattle.lzk_expr.specs as lzk_expr

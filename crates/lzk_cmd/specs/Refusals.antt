@@ -1,18 +1,21 @@
 -- The lines by which a run refuses what is under a name.
 use Rattle.std.specs.Prelude.{◌≡◌, ℕ, List}
+use Rattle.lzk_batch.specs.declared.list_fault.ListKind.{ListKind}
 use Rattle.lzk_circbytes.specs.declared.fault.ByteKind.{ByteKind}
 use Rattle.lzk_expr.specs.declared.fault.NumberKind.{NumberKind}
 use Rattle.lzk_expr.specs.declared.source_fault.SourceKind.{SourceKind}
 use Rattle.lzk_level.specs.declared.fault.LevelFault.{LevelFault}
+use Rattle.lzk_cmd.specs.Batched.{list_kind_name}
 use Rattle.lzk_cmd.specs.Lines.{missing_line, larger_line, byte_line, byte_kind_name, text_line, number_kind_name, source_kind_name, level_line, unfit_line}
 
--- what is refused: a missing file, one that is larger than a limit, the contents of a circuit's, number or source file, a source that passes a limit, or a circuit that is not for messages of so many bytes
+-- what is refused: a missing file, one that is larger than a limit, the contents of a circuit's, number or source file or of a list, a source that passes a limit, or a circuit that is not for messages of so many bytes
 pub data Refusal : Type 0 where
   Missing : List ℕ → Refusal
   Larger : List ℕ → ℕ → Refusal
   Bytes : List ℕ → ℕ → ByteKind → Refusal
   Numbers : List ℕ → ℕ → NumberKind → Refusal
   Source : List ℕ → ℕ → SourceKind → Refusal
+  Jobs : List ℕ → ℕ → ListKind → Refusal
   Level : List ℕ → LevelFault → Refusal
   Unfit : List ℕ → ℕ → Refusal
 
@@ -22,6 +25,7 @@ refusal_line (Larger name limit) = larger_line name limit
 refusal_line (Bytes name offset kind) = byte_line name offset (byte_kind_name kind)
 refusal_line (Numbers name number kind) = text_line name number (number_kind_name kind)
 refusal_line (Source name number kind) = text_line name number (source_kind_name kind)
+refusal_line (Jobs name number kind) = text_line name number (list_kind_name kind)
 refusal_line (Level name fault) = level_line name fault
 refusal_line (Unfit name len) = unfit_line name len
 

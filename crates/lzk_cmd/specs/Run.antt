@@ -12,6 +12,7 @@ use Rattle.lzk_goldilocks.specs.Prime.{p}
 use Rattle.lzk_goldilocks.specs.Elements as gold
 use Rattle.lzk_gf128.specs.Elements as gf
 use Rattle.lzk_outside.specs.Outside.{Files}
+use Rattle.lzk_cmd.specs.Batched.{BatchRun}
 use Rattle.lzk_cmd.specs.Compiled.{CompileRun}
 use Rattle.lzk_cmd.specs.Demo.{DemoRun}
 use Rattle.lzk_cmd.specs.Decoded.{circuit_files, number_files}
@@ -22,7 +23,7 @@ use Rattle.lzk_cmd.specs.Hashed.{ShaCircuitRun, HashRun}
 use Rattle.lzk_cmd.specs.Keys.{number_of}
 use Rattle.lzk_cmd.specs.Proved.{ProveRun, seed_of}
 use Rattle.lzk_cmd.specs.Verified.{VerifyRun}
-use Rattle.lzk_cmd.specs.Words.{Command, Eval, Compile, Show, Prove, Verify, Demo, ShaCircuit, Sha256, command_of}
+use Rattle.lzk_cmd.specs.Words.{Command, Eval, Compile, Show, Prove, Verify, Batch, Demo, ShaCircuit, Sha256, command_of}
 
 -- the outputs' lines, from output k on
 abbrev pub output_lines : ℕ → List ℕ → List ℕ
@@ -76,6 +77,7 @@ CommandRun (Compile source circuit) = CompileRun source circuit
 CommandRun (Show circuit) = ShowRun circuit
 CommandRun (Prove circuit public private proof seed session) = ProveRun circuit public private proof seed session
 CommandRun (Verify circuit public proof session) = VerifyRun circuit public proof session
+CommandRun (Batch list) = BatchRun list
 CommandRun (Demo count seed) = DemoRun (number_of count) (seed_of seed)
 CommandRun (ShaCircuit count circuit) = ShaCircuitRun (number_of count) circuit
 CommandRun (Sha256 circuit proof message seed session) = HashRun circuit proof message seed session

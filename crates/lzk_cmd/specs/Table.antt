@@ -2,7 +2,7 @@
 use Rattle.std.specs.Prelude.{ℕ, Bool, true, false, not, List, Option, Some, None, cond, codes}
 use Rattle.std.specs.Str.{bytes_eq}
 use Rattle.lzk_cmd.specs.declared.table.Verb.{Verb}
-use Rattle.lzk_cmd.specs.declared.table.Verb.TheVariants.{Eval, Compile, Show, Prove, Verify, Demo, ShaCircuit, Sha256}
+use Rattle.lzk_cmd.specs.declared.table.Verb.TheVariants.{Eval, Compile, Show, Prove, Verify, Batch, Demo, ShaCircuit, Sha256}
 use Rattle.lzk_cmd.specs.declared.table.First.{First}
 use Rattle.lzk_cmd.specs.declared.table.First.TheVariants.{File, Inputs, Bytes}
 use Rattle.lzk_cmd.specs.declared.table.Stands.{Stands}
@@ -16,9 +16,10 @@ verb_of word =
     (cond (bytes_eq word (codes "show")) (Some Show)
     (cond (bytes_eq word (codes "prove")) (Some Prove)
     (cond (bytes_eq word (codes "verify")) (Some Verify)
+    (cond (bytes_eq word (codes "batch")) (Some Batch)
     (cond (bytes_eq word (codes "demo")) (Some Demo)
     (cond (bytes_eq word (codes "shacircuit")) (Some ShaCircuit)
-    (cond (bytes_eq word (codes "sha256")) (Some Sha256) None)))))))
+    (cond (bytes_eq word (codes "sha256")) (Some Sha256) None))))))))
 
 -- so many names of files, and no keys
 abbrev pub plain : ℕ → Row
@@ -30,6 +31,7 @@ row_of Compile = plain 2
 row_of Show = plain 1
 row_of Prove = record (plain 4) { seed = Always; session = Maybe; workers = Maybe }
 row_of Verify = record (plain 3) { session = Maybe }
+row_of Batch = record (plain 1) { workers = Maybe }
 row_of Demo = record (plain 1) { first = Inputs; seed = Always; workers = Maybe }
 row_of ShaCircuit = record (plain 2) { first = Bytes }
 row_of Sha256 = record (plain 2) { seed = Always; session = Maybe; workers = Maybe; message = Always }

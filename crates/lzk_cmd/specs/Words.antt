@@ -13,6 +13,8 @@ pub data Command : Type 0 where
   -- and the digits of the seed, and of the session, if there is one; not the number of workers
   Prove : List ℕ → List ℕ → List ℕ → List ℕ → List ℕ → Option (List ℕ) → Command
   Verify : List ℕ → List ℕ → List ℕ → Option (List ℕ) → Command
+  -- not the number of workers
+  Batch : List ℕ → Command
   -- the digits of the number of private inputs, and of the seed; not the number of workers
   Demo : List ℕ → List ℕ → Command
   -- the digits of the number of bytes, and the circuit
@@ -27,6 +29,7 @@ built verbs.Compile (source ∷ circuit ∷ []) keys = Some (Compile source circ
 built verbs.Show (circuit ∷ []) keys = Some (Show circuit)
 built verbs.Prove (circuit ∷ public ∷ private ∷ proof ∷ []) keys = or_else keys.seed (λ seed. Some (Prove circuit public private proof seed keys.session)) None
 built verbs.Verify (circuit ∷ public ∷ proof ∷ []) keys = Some (Verify circuit public proof keys.session)
+built verbs.Batch (list ∷ []) keys = Some (Batch list)
 built verbs.Demo (count ∷ []) keys = or_else keys.seed (λ seed. Some (Demo count seed)) None
 built verbs.ShaCircuit (count ∷ circuit ∷ []) keys = Some (ShaCircuit count circuit)
 built verbs.Sha256 (circuit ∷ proof ∷ []) keys = or_else keys.message (λ message. or_else keys.seed (λ seed. Some (Sha256 circuit proof message seed keys.session)) None) None
@@ -44,6 +47,7 @@ PutsFile (Some (Compile source circuit)) = Unit {0}
 PutsFile (Some (Show circuit)) = ⊥
 PutsFile (Some (Prove circuit public private proof seed session)) = Unit {0}
 PutsFile (Some (Verify circuit public proof session)) = ⊥
+PutsFile (Some (Batch list)) = ⊥
 PutsFile (Some (Demo count seed)) = ⊥
 PutsFile (Some (ShaCircuit count circuit)) = Unit {0}
 PutsFile (Some (Sha256 circuit proof message seed session)) = Unit {0}
@@ -56,6 +60,7 @@ LeavesShelf (Some (Compile source circuit)) = ⊥
 LeavesShelf (Some (Show circuit)) = ⊥
 LeavesShelf (Some (Prove circuit public private proof seed session)) = ⊥
 LeavesShelf (Some (Verify circuit public proof session)) = ⊥
+LeavesShelf (Some (Batch list)) = ⊥
 LeavesShelf (Some (Demo count seed)) = Unit {0}
 LeavesShelf (Some (ShaCircuit count circuit)) = ⊥
 LeavesShelf (Some (Sha256 circuit proof message seed session)) = ⊥

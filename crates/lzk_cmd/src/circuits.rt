@@ -11,8 +11,8 @@ use lzk_circbytes::{AnyCircuit, DecodeError, decode};
 use lzk_outside::Shelf;
 use std::alloc::Global;
 
-// The circuit of these bytes.
-fn circuit_of(alloc: Global, name: &str, bytes: &[u8]) -> Result<AnyCircuit, Halt>
+/// The circuit of these bytes.
+pub fn circuit_of(alloc: Global, name: &str, bytes: &[u8]) -> Result<AnyCircuit, Halt>
     ensures { Decodes circuit_files (λ c. c) name.now bytes.now result }
 {
     match decode(alloc, bytes) {

@@ -8,6 +8,7 @@
 //! ```
 #![tactic(auto)]
 
+mod batching;
 mod circuits;
 mod compiling;
 mod demo;
@@ -15,8 +16,10 @@ mod ending;
 mod eval;
 mod feeding;
 mod files;
+mod gathering;
 mod grammar;
 mod hashing;
+mod kept;
 mod keys;
 mod lines;
 mod load;
@@ -26,8 +29,10 @@ mod print;
 mod proving;
 mod show;
 mod table;
+mod telling;
 mod theorems;
 mod top;
+mod totals;
 mod values;
 mod verdicts;
 mod verifying;

@@ -13,8 +13,13 @@ use lzk_field::Field;
 use lzk_outside::Shelf;
 use std::alloc::Global;
 
-// The elements of this text.
-fn elements_of<F: Field>(alloc: Global, name: &str, text: &[u8], count: u32) -> Result<Vec<F>, Halt>
+/// The elements of this text.
+pub fn elements_of<F: Field>(
+    alloc: Global,
+    name: &str,
+    text: &[u8],
+    count: u32,
+) -> Result<Vec<F>, Halt>
     requires { length text.now ≤ 4194304 }
     ensures decodes { Decodes (number_files F.size F.number_of count) (λ v. v.items) name.now text.now result }
     ensures count { IfOk result (λ v. length v.items ≡ count) }

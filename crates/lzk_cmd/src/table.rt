@@ -11,6 +11,7 @@ pub enum Verb {
     Show,
     Prove,
     Verify,
+    Batch,
     Demo,
     ShaCircuit,
     Sha256,
@@ -57,6 +58,8 @@ pub fn verb_of(word: &str) -> Option<Verb>
         Some(Verb::Prove)
     } else if word == "verify" {
         Some(Verb::Verify)
+    } else if word == "batch" {
+        Some(Verb::Batch)
     } else if word == "demo" {
         Some(Verb::Demo)
     } else if word == "shacircuit" {
@@ -99,6 +102,10 @@ pub fn row_of(verb: Verb) -> Row
         Verb::Verify => Row {
             session: Stands::Maybe,
             ..names(3)
+        },
+        Verb::Batch => Row {
+            workers: Stands::Maybe,
+            ..names(1)
         },
         Verb::Demo => Row {
             first: First::Inputs,

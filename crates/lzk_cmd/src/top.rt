@@ -11,6 +11,7 @@ ghost use Rattle.lzk_cmd.specs.Sights.{before, after, texts};
 ghost use Rattle.lzk_cmd.specs.Walks.{Concludes, IsEnding, Moves, Quiet, TellsDemos, Works};
 ghost use Rattle.lzk_cmd.specs.Words.{LeavesShelf, command_of};
 
+use crate::batching::batch;
 use crate::compiling::compile_source;
 use crate::demo::demo;
 use crate::ending::{Ending, Halt};
@@ -73,6 +74,7 @@ fn work<R: Threads + Sync, S: Shelf, G: Gate>(
                 session,
             },
         ) => verify(means, circuit, public, proof, session, shelf),
+        Some(Command::Batch { list, workers }) => batch(means, list, workers, shelf),
         Some(
             Command::Demo {
                 count,

@@ -57,6 +57,10 @@ pub enum Command<'a> {
         proof: &'a str,
         session: Option<&'a [u8]>,
     },
+    Batch {
+        list: &'a str,
+        workers: Option<&'a [u8]>,
+    },
     Demo {
         count: &'a str,
         seed: &'a [u8],
@@ -144,6 +148,19 @@ fn verify_of<'a>(names: &'a [String], keys: &Keys<'a>) -> Option<Command<'a>>
     }
 }
 
+// The list of `batch`, and its workers.
+fn batch_of<'a>(names: &'a [String], keys: &Keys<'a>) -> Option<Command<'a>>
+    ensures { option_map command_view result ≡ built verbs.Batch (map (λ w. string_bytes w) names.now) (keys_view keys.now) }
+{
+    match names {
+        [list] => Some(Command::Batch {
+            list: list.as_str(),
+            workers: keys.workers,
+        }),
+        _ => None,
+    }
+}
+
 // The number of `demo`, its seed, and its workers.
 fn demo_of<'a>(names: &'a [String], keys: &Keys<'a>) -> Option<Command<'a>>
     ensures { option_map command_view result ≡ built verbs.Demo (map (λ w. string_bytes w) names.now) (keys_view keys.now) }
@@ -205,6 +222,7 @@ fn built<'a>(verb: Verb, names: &'a [String], keys: &Keys<'a>) -> Option<Command
         Verb::Show => show_of(names),
         Verb::Prove => prove_of(names, keys),
         Verb::Verify => verify_of(names, keys),
+        Verb::Batch => batch_of(names, keys),
         Verb::Demo => demo_of(names, keys),
         Verb::ShaCircuit => shacircuit_of(names),
         Verb::Sha256 => sha256_of(names, keys),

@@ -1,5 +1,6 @@
-//! Two workers of `prove` that wait for each other.
+//! Two workers that wait for each other.
 
+use crate::batches::shelf_of_list;
 use crate::circuits::SQUARE;
 use crate::runs::{shelf_of, words_of};
 use lzk_cmd::run;
@@ -39,15 +40,21 @@ impl Gate for Meeting {
     }
 }
 
+impl Meeting {
+    fn new() -> Meeting {
+        Meeting {
+            first: AtomicU64::new(0),
+            second: AtomicU64::new(0),
+            first_saw: AtomicU64::new(0),
+            second_saw: AtomicU64::new(0),
+        }
+    }
+}
+
 #[test]
 fn two_workers_meet(rt: HostRuntime) -> Result<(), Fail> {
     let alloc = rt.alloc();
-    let gate = Meeting {
-        first: AtomicU64::new(0),
-        second: AtomicU64::new(0),
-        first_saw: AtomicU64::new(0),
-        second_saw: AtomicU64::new(0),
-    };
+    let gate = Meeting::new();
     let words = words_of(
         alloc,
         "prove c y x w workers=2 seed=0000000000000000000000000000000000000000000000000000000000000000",
@@ -55,6 +62,20 @@ fn two_workers_meet(rt: HostRuntime) -> Result<(), Fail> {
     let mut shelf = shelf_of(alloc, &SQUARE, "9", "3", Vec::new(alloc))?;
     let mut out = MemSink::new(alloc, Vec::new(alloc), 7);
     assert_eq!(rt; run(&rt, alloc, &words, &mut shelf, &mut out, &gate), 0);
+    assert_eq!(rt; gate.first_saw.load(Ordering::SeqCst), 1);
+    assert_eq!(rt; gate.second_saw.load(Ordering::SeqCst), 1);
+    Ok(())
+}
+
+#[test]
+fn two_verifiers_meet(rt: HostRuntime) -> Result<(), Fail> {
+    let alloc = rt.alloc();
+    let gate = Meeting::new();
+    let words = words_of(alloc, "batch l workers=2")?;
+    let mut shelf = shelf_of_list(&rt, alloc, "c y w\nc y w")?;
+    let mut out = MemSink::new(alloc, Vec::new(alloc), 7);
+    assert_eq!(rt; run(&rt, alloc, &words, &mut shelf, &mut out, &gate), 0);
+    assert!(rt; out.bytes() == "1: accepted\n2: accepted\nbatch: 2 accepted, 0 rejected\n".as_bytes());
     assert_eq!(rt; gate.first_saw.load(Ordering::SeqCst), 1);
     assert_eq!(rt; gate.second_saw.load(Ordering::SeqCst), 1);
     Ok(())

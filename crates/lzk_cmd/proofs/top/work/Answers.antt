@@ -1,7 +1,7 @@
 use Rattle.std.specs.Option.{option_copied}
 use Rattle.lzk_cmd.specs.Seen.{seen}
 use Rattle.lzk_cmd.specs.Sights.{texts}
-use Rattle.lzk_cmd.specs.Words.{Eval, Compile, Show, Prove, Verify, Demo, ShaCircuit, Sha256}
+use Rattle.lzk_cmd.specs.Words.{Eval, Compile, Show, Prove, Verify, Batch, Demo, ShaCircuit, Sha256}
 use Rattle.lzk_cmd.specs.Keys.{number_of}
 use Rattle.lzk_cmd.specs.Proved.{seed_of}
 use Rattle.lzk_cmd.proofs.Counts.{has_number}
@@ -132,3 +132,16 @@ returns-in-Some-Sha256-clause-demo g c = on_demo (texts c.args.words.now) (Sha25
 
 pub returns-in-Some-Sha256-clause-untouched : goal.returns-in-Some-Sha256-clause-untouched
 returns-in-Some-Sha256-clause-untouched g c = λ h. leaves (texts c.args.words.now) (Sha256 c.in-Some-Sha256.order.circuit.now c.in-Some-Sha256.order.proof.now c.in-Some-Sha256.order.message.now c.in-Some-Sha256.order.seed.now (option_copied c.in-Some-Sha256.order.session)) (rw c.in-Some-Sha256.field-0-is at c.in-Some-Sha256.ensures) (λ b. b) h
+
+pub returns-in-Some-Batch-clause-works : goal.returns-in-Some-Batch-clause-works
+returns-in-Some-Batch-clause-works g c =
+    works (texts c.args.words.now) (Batch c.in-Some-Batch.list.now) ⊥ (seen g.S.Shelf c.args.shelf.now) (seen g.S.Shelf c.batch.new.shelf) c.batch.result (rw c.in-Some-Batch.field-0-is at c.in-Some-Batch.ensures) (λ b. b) c.batch.ensures.walks
+
+pub returns-in-Some-Batch-clause-moves : goal.returns-in-Some-Batch-clause-moves
+returns-in-Some-Batch-clause-moves g c = only_moves (seen g.S.Shelf c.args.shelf.now) (seen g.S.Shelf c.batch.new.shelf) c.batch.ensures.reads
+
+pub returns-in-Some-Batch-clause-demo : goal.returns-in-Some-Batch-clause-demo
+returns-in-Some-Batch-clause-demo g c = on_demo (texts c.args.words.now) (Batch c.in-Some-Batch.list.now) c.batch.result (rw c.in-Some-Batch.field-0-is at c.in-Some-Batch.ensures) tt
+
+pub returns-in-Some-Batch-clause-untouched : goal.returns-in-Some-Batch-clause-untouched
+returns-in-Some-Batch-clause-untouched g c = λ h. leaves (texts c.args.words.now) (Batch c.in-Some-Batch.list.now) (rw c.in-Some-Batch.field-0-is at c.in-Some-Batch.ensures) (λ b. b) h
