@@ -1,5 +1,5 @@
 -- Each words, files and stop have one end.
-use Rattle.std.proofs.Common.{◌≡◌, ◌<◌, inl, inr, ◌⊎◌, ℕ, Bool, true, false, List, [], ◌∷◌, ◌++◌, length, map, Option, Some, None, refl, sym, ap, ◌∙◌, subst, arith}
+use Rattle.std.proofs.Common.{◌≡◌, ◌<◌, inl, inr, ◌⊎◌, ℕ, ◌+◌, Bool, true, false, List, [], ◌∷◌, ◌++◌, length, map, Option, Some, None, refl, sym, ap, ◌∙◌, subst, arith}
 use Rattle.std.specs.Prelude.{◌^◌, MatchBool, MatchOption, nat_lt, slice_index_or}
 use Rattle.lzk_batch.specs.Lists.{Listed}
 use Rattle.lzk_circbytes.specs.declared.any.AnyCircuit.{AnyCircuit}

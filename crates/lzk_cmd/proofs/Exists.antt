@@ -174,11 +174,11 @@ module _ (files : Files) (stop : Stop) (good : AreBytes files) (next : End → A
 
       go : (publics : List A) (taken : ℕ) (bytes : List ℕ) → HasFile (files job.proof) proof_limit bytes → (more : Bool) → nat_lt total_limit (taken + length bytes) ≡ more
           → (end : End) × AtBytes (among taken proof_files) job.proof bytes end (λ proof. next end (wrap (read publics proof.0)) proof.1)
-      go publics taken bytes has true e = (refused_among proof_files job.proof TooMany, inr (TooMany, ltb-true total_limit (taken + length bytes) e, refl))
-      go publics taken bytes has false e =
+      go publics taken bytes has true more = (refused_among proof_files job.proof TooMany, inr (TooMany, ltb-true total_limit (taken + length bytes) more, refl))
+      go publics taken bytes has false few =
           let judged = some_judged o e laws c job.public job.proof job.session files stop good publics bytes has in
           let behind = then (wrap (read publics bytes)) (taken + length bytes) (judged.0, tells (read publics bytes) judged.0 judged.1) in
-          (behind.0, inl ((bytes, taken + length bytes), (refl, refl, ltb-false total_limit (taken + length bytes) e), behind.1))
+          (behind.0, inl ((bytes, taken + length bytes), (refl, refl, ltb-false total_limit (taken + length bytes) few), behind.1))
 
   some_job : (c : AnyCircuit) (job : Listed) (k taken : ℕ) → (end : End) × JobAny c job k taken files stop end (next end)
   some_job (Gold c) job k taken = some_job_over gold.ops gold_coding gold.laws GoldRead (λ read one h. h) c job k taken
