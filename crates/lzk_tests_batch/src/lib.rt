@@ -4,6 +4,12 @@
 #![tactic(auto)]
 
 #[cfg(test)]
+mod batches;
+#[cfg(test)]
+mod jobs;
+#[cfg(test)]
 mod lists;
+#[cfg(test)]
+mod statements;
 #[cfg(test)]
 mod tickets;

@@ -1,0 +1,159 @@
+//! Batches of three jobs, of which the second is rejected. The verdicts wanted are those of an independent implementation.
+
+use crate::jobs::{Batch, are_fit, batch_of_three};
+use lzk_batch::{AnyVerdict, Judged, Tickets, verify_all, verify_batch};
+use lzk_field::{Gate, Open};
+use lzk_verify::Verdict;
+use std::alloc::Global;
+use std::marker::Sync;
+use std::sync::atomic::{AtomicU64, Ordering};
+use std::test::Fail;
+use std::thread::Threads;
+
+const WANTED: [AnyVerdict; 3] = [
+    AnyVerdict::Gold(Verdict::Accepted),
+    AnyVerdict::Gold(Verdict::PathCount {
+        found: 239,
+        needed: 264,
+    }),
+    AnyVerdict::Gold(Verdict::Accepted),
+];
+
+// Whether so many workers give the verdicts wanted.
+fn are_wanted<R: Threads + Sync>(rt: &R, alloc: Global, batch: &Batch, workers: usize) -> bool {
+    if batch.jobs.len() > 256
+        || workers == 0
+        || workers > 64
+        || !are_fit(&batch.circuits, &batch.jobs)
+    {
+        return false;
+    }
+    match verify_all(rt, alloc, &batch.circuits, &batch.jobs, workers, &Open) {
+        Ok(verdicts) => verdicts.as_slice() == WANTED.as_slice(),
+        Err(_) => false,
+    }
+}
+
+// How often each job stands in the lists with the verdict wanted.
+fn times_wanted(lists: &[Vec<Judged>]) -> [u8; 3] {
+    let mut times = [0u8; 3];
+    for list in lists {
+        for judged in list {
+            let job = judged.job as usize;
+            if job < 3 && judged.verdict == WANTED[job] && times[job] < 9 {
+                times[job] += 1;
+            }
+        }
+    }
+    times
+}
+
+// What the first jobs of the batch give with fresh passes: how often each job stands in the lists with the verdict wanted, how many lists
+// there are, and the first number that was not drawn.
+fn seen<R: Threads + Sync, G: Gate>(
+    rt: &R,
+    alloc: Global,
+    batch: &Batch,
+    jobs: usize,
+    workers: usize,
+    gate: &G,
+) -> Option<([u8; 3], usize, u64)> {
+    if jobs > 256
+        || jobs > batch.jobs.len()
+        || workers == 0
+        || workers > 64
+        || !are_fit(&batch.circuits, &batch.jobs[..jobs])
+    {
+        return None;
+    }
+    let Ok((tickets, mut passes)) = Tickets::deal(alloc, jobs as u32, workers) else {
+        return None;
+    };
+    let Ok(lists) = verify_batch(
+        rt,
+        alloc,
+        &batch.circuits,
+        &batch.jobs[..jobs],
+        &tickets,
+        &mut passes,
+        gate,
+    ) else {
+        return None;
+    };
+    match tickets.gather(passes) {
+        Ok(word) => Some((times_wanted(&lists), lists.len(), word)),
+        Err(_) => None,
+    }
+}
+
+// A gate in which two workers look for each other.
+#[derive(Drop)]
+struct Meeting {
+    first: AtomicU64,
+    second: AtomicU64,
+    first_saw: AtomicU64,
+    second_saw: AtomicU64,
+}
+
+// Sets the worker's own flag, and looks for the other's.
+fn meet(own: &AtomicU64, other: &AtomicU64, saw: &AtomicU64) {
+    own.store(1, Ordering::SeqCst);
+    for _ in 0..100_000_000u64 {
+        if other.load(Ordering::SeqCst) == 1 {
+            saw.store(1, Ordering::SeqCst);
+            return;
+        }
+        std::hint::spin_loop();
+    }
+}
+
+// One worker alone would look in vain.
+impl Gate for Meeting {
+    fn enter(&self, worker: usize, of: usize) {
+        if of != 2 {
+            return;
+        }
+        if worker == 0 {
+            meet(&self.first, &self.second, &self.first_saw);
+        } else {
+            meet(&self.second, &self.first, &self.second_saw);
+        }
+    }
+}
+
+#[test]
+fn verdicts_stand_in_the_order_of_the_jobs(rt: HostRuntime) -> Result<(), Fail> {
+    let batch = batch_of_three(&rt, rt.alloc())?;
+    assert_eq!(rt; are_wanted(&rt, rt.alloc(), &batch, 1), true);
+    assert_eq!(rt; are_wanted(&rt, rt.alloc(), &batch, 2), true);
+    assert_eq!(rt; are_wanted(&rt, rt.alloc(), &batch, 7), true);
+    Ok(())
+}
+
+#[test]
+fn two_passes_share_three_jobs(rt: HostRuntime) -> Result<(), Fail> {
+    let batch = batch_of_three(&rt, rt.alloc())?;
+    assert_eq!(rt;
+        seen(&rt, rt.alloc(), &batch, 3, 2, &Open),
+        Some(([1, 1, 1], 2, 5))
+    );
+    Ok(())
+}
+
+#[test]
+fn two_verifiers_meet(rt: HostRuntime) -> Result<(), Fail> {
+    let gate = Meeting {
+        first: AtomicU64::new(0),
+        second: AtomicU64::new(0),
+        first_saw: AtomicU64::new(0),
+        second_saw: AtomicU64::new(0),
+    };
+    let batch = batch_of_three(&rt, rt.alloc())?;
+    assert_eq!(rt;
+        seen(&rt, rt.alloc(), &batch, 2, 2, &gate),
+        Some(([1, 1, 0], 2, 4))
+    );
+    assert_eq!(rt; gate.first_saw.load(Ordering::SeqCst), 1);
+    assert_eq!(rt; gate.second_saw.load(Ordering::SeqCst), 1);
+    Ok(())
+}
