@@ -147,7 +147,7 @@ job_any (Gf c) files job k taken proof end next publics there few also h =
 batch_done : (ends : List End) → Done (batch_end ends)
 batch_done ends = go (rejected_of ends == 0)
   where
-    go : (none : Bool) → (cond none 0 1 ≡ 0) ⊎ (cond none 0 1 ≡ 1)
+    go : (none : Bool) → (◌≡◌ {A = ℕ} (cond none 0 1) 0) ⊎ (◌≡◌ {A = ℕ} (cond none 0 1) 1)
     go true = inl refl
     go false = inr refl
 
@@ -163,7 +163,9 @@ jobs_done files (job ∷ list) k taken jobs end each few h =
 
 batch_run_done : (files : Files) (list : List ℕ) (end : End) → IsBatchReady files list → BatchRun list files Nowhere end → Done end
 unfolding BatchRun
-batch_run_done files list end has h = jobs_done files has.jobs 1 0 [] end has.each has.few (ready list_files lists.lawful files list 0 end has.jobs _ has.has h)
+batch_run_done files list end has h =
+    let few : 0 + sum_by (job_size files) has.jobs ≤ total_limit = omega (arith, has.few) in
+    jobs_done files has.jobs 1 0 [] end has.each few (ready list_files lists.lawful files list 0 end has.jobs _ has.has h)
 
 proves_done : {A : Type 0} (o : Ops A) (e : Coding A) (c : Wiring A) (proof : List ℕ) (digest : Option (List ℕ)) (session seed : List ℕ) (publics privates : List A) (end : End) → Proves o e c proof digest session seed publics privates Nowhere end → Done end
 proves_done {A} o e c proof digest session seed publics privates end (first, is, h) = go first h

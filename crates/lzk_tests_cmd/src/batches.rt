@@ -54,8 +54,10 @@ fn shelf_of_three<R: Threads + Sync>(
 #[test]
 fn verdicts_are_told_in_the_order_of_the_list(rt: HostRuntime) -> Result<(), Fail> {
     let alloc = rt.alloc();
-    let list = "c y w\nc y w session=00\n \t\r\ncredential\tyear  old session=\r\ngc gy gw session=f7D5";
-    let printed = "1: accepted\n2: rejected: path count 239, needed 264\n3: accepted\n4: accepted\nbatch: 3 accepted, 1 rejected\n";
+    let list =
+        "c y w\nc y w session=00\n \t\r\ncredential\tyear  old session=\r\ngc gy gw session=f7D5";
+    let printed =
+        "1: accepted\n2: rejected: path count 239, needed 264\n3: accepted\n4: accepted\nbatch: 3 accepted, 1 rejected\n";
     let mut shelf = shelf_of_three(&rt, alloc, list)?;
     for words in [
         "batch l",

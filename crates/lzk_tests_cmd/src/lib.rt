@@ -14,6 +14,8 @@ mod compiling;
 #[cfg(test)]
 mod demos;
 #[cfg(test)]
+mod hashing;
+#[cfg(test)]
 mod meeting;
 #[cfg(test)]
 mod proofs;

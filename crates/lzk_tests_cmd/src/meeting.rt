@@ -75,7 +75,9 @@ fn two_verifiers_meet(rt: HostRuntime) -> Result<(), Fail> {
     let mut shelf = shelf_of_list(&rt, alloc, "c y w\nc y w")?;
     let mut out = MemSink::new(alloc, Vec::new(alloc), 7);
     assert_eq!(rt; run(&rt, alloc, &words, &mut shelf, &mut out, &gate), 0);
-    assert!(rt; out.bytes() == "1: accepted\n2: accepted\nbatch: 2 accepted, 0 rejected\n".as_bytes());
+    assert!(rt;
+        out.bytes() == "1: accepted\n2: accepted\nbatch: 2 accepted, 0 rejected\n".as_bytes()
+    );
     assert_eq!(rt; gate.first_saw.load(Ordering::SeqCst), 1);
     assert_eq!(rt; gate.second_saw.load(Ordering::SeqCst), 1);
     Ok(())
