@@ -20,15 +20,16 @@ fn one(alloc: Global, number: u64) -> Result<Vec<u64>, AllocError> {
     Ok(list)
 }
 
-// Whether the text is `fault: reading` and one of the words.
-fn tells(text: &[u8], doing: &str, words: &[String]) -> bool {
+// Whether the text is `fault: reading` and the name of a file, which is one of the words or stood there before the run.
+fn tells(text: &[u8], doing: &str, case: &Case) -> bool {
     let Some(name) = text.strip_prefix(doing.as_bytes()) else {
         return false;
     };
     let Some(name) = name.strip_suffix(b"\n") else {
         return false;
     };
-    words.iter().any(|word| word.as_bytes() == name)
+    case.words.iter().any(|word| word.as_bytes() == name)
+        || case.files.iter().any(|file| file.name.as_bytes() == name)
 }
 
 // Whether the files that stood there before the run still stand there, but for one of this name.
@@ -65,10 +66,10 @@ fn with_shelf_fault<T: Threads + Sync>(
         Some(put) => put.name.as_bytes(),
         None => b"",
     };
-    if status == 4 && tells(text, "fault: reading ", &case.words) && are_kept(case, &shelf, b"") {
+    if status == 4 && tells(text, "fault: reading ", case) && are_kept(case, &shelf, b"") {
         return Ok(Ended::ByTheFault);
     }
-    if status == 5 && tells(text, "fault: writing ", &case.words) && are_kept(case, &shelf, put) {
+    if status == 5 && tells(text, "fault: writing ", case) && are_kept(case, &shelf, put) {
         return Ok(Ended::ByTheFault);
     }
     if is_expected(case, status, text, &shelf) {
