@@ -2,6 +2,7 @@
 use Rattle.std.specs.Prelude.{◌≡◌, ◌↔◌, ℕ, ◌-◌, ◌^◌, ◌≤◌, List, [], ◌∷◌, length, drop, Result, Ok, Err, Contains, nat_lt, ◌==◌, ◌&&◌, Bool, true, false, if◌then◌else◌}
 use Rattle.std.specs.List.Sorted.{IsStrictlyIncreasing}
 use Rattle.sha2.specs.Sha256.{sha256}
+use Rattle.lzk_field.specs.Coding.{Coding}
 use Rattle.lzk_field.specs.Ring.{Ops}
 use Rattle.lzk_circuit.specs.Valid.{Wiring, IsValid}
 use Rattle.lzk_goldilocks.specs.Prime.{p}
@@ -37,6 +38,15 @@ CircuitBytes (Gf c) bytes = IsFile gf.ops gf.number gf128 c bytes
 -- SHA-256 of a circuit's file
 abbrev pub circuit_id : Shape → Wiring ℕ → List ℕ
 circuit_id shape c = sha256 (file_of shape c)
+
+-- the same, of a circuit over a field that is written like this
+abbrev pub id_of : {A : Type 0} → Coding A → Wiring A → List ℕ
+id_of e c = circuit_id (shape e.id e.bytes e.size) (numbered e.number c)
+
+-- the same, over either field
+abbrev pub id_of_any : AnyCircuit → List ℕ
+id_of_any (Gold c) = circuit_id goldilocks (numbered gold.number c)
+id_of_any (Gf c) = circuit_id gf128 (numbered gf.number c)
 
 -- ---- the first check that fails
 

@@ -126,6 +126,11 @@ module _ {X F R : Type 0} (format : Format X F) (view : R → X) (name : List �
       go (Err halts.Memory) h = where_told old.files _ (λ f at. at_told mid.files _ f (reads.files ∙ at) h)
       go (Err (halts.End e)) h = settled e h
 
+-- what is refused is so whatever would have been given
+pub still_refused : {X F R S : Type 0} (format : Format X F) (view : R → X) (other : S → X) (name bytes : List ℕ) (h : Halt) → Decodes format view name bytes (Err h) → Decodes format other name bytes (Err h)
+still_refused format view other name bytes halts.Memory broken = tt
+still_refused format view other name bytes (halts.End e) broken = broken
+
 -- a step over a file, by its two parts
 module _ {X F R : Type 0} (format : Format X F) (view : R → X) (name : List ℕ) (old new : Seen) (r : Result R Halt) where
   pub no_bytes : (h : Halt) → GivesBytes old new name format.limit (Err h) → IsErrAnd r (λ y. y ≡ h) → Gives format view old new name r

@@ -1,6 +1,7 @@
 //! The command `demo`.
 
 ghost use Rattle.std.specs.Prelude.{◌≡◌, ◌≤◌, IfOk, IsTrue, length};
+ghost use Rattle.lzk_circbytes.specs.Files.{id_of};
 ghost use Rattle.lzk_circuit.specs.Wires.{inputs_of, IsSatisfied};
 ghost use Rattle.lzk_field.specs.Coding.{coding};
 ghost use Rattle.lzk_goldilocks.specs.Elements.{ops};
@@ -15,6 +16,7 @@ use crate::keys::number_up_to;
 use crate::lines;
 use crate::means::Means;
 use crate::values::{seed_bytes, workers_of};
+use lzk_circbytes::id;
 use lzk_circuit::Circuit;
 use lzk_complete::proofs_accepted;
 use lzk_demo::{DemoInputs, demo_circuit, demo_inputs};
@@ -41,7 +43,66 @@ fn count_of(digits: &str) -> u32
     }
 }
 
-// Proves for inputs that satisfy a circuit, and verifies the proof. How many bytes it has, and the verdict.
+// Proves for inputs that satisfy a circuit with a prover for it, and verifies the proof at a desk for it. How many bytes it has, and
+// the verdict.
+fn judge_own_proof<F: Field, X: RowExtend<F>, R: Threads + Sync, G: Gate>(
+    means: &Means<'_, R, G>,
+    circuit: &Circuit<F>,
+    works: &mut WorksOver<'_, F, X>,
+    desk: &mut Desk<'_, F>,
+    publics: &[F],
+    privates: &[F],
+    seed: [u8; 32],
+    workers: usize,
+) -> (usize, Verdict<F>)
+    requires works { works.old ≡ circuit.now }
+    requires desk { desk.old.circuit ≡ circuit.now }
+    requires publics { length publics.now ≡ circuit.now.publics }
+    requires privates { length privates.now ≡ circuit.now.privates }
+    requires satisfied { IsSatisfied F.ops circuit.now.layers (inputs_of F.ops publics.now privates.now) }
+    requires some { 1 ≤ workers }
+    requires most { workers ≤ 64 }
+    ensures { HasVerdict F.ops (coding F.element F.number_of F.BYTES F.size F.ID) circuit.now publics.now privates.now seed result.0 result.1 }
+{
+    let words = Seeded::new(seed);
+    match works.prove(
+        means.rt, b"", publics, privates, &words, workers, means.gate,
+    ) {
+        Ok(bytes) => {
+            let verdict = desk.verify(b"", publics, bytes);
+            (bytes.len(), verdict)
+        }
+        Err(_) => unreachable!(),
+    }
+}
+
+// The same with a prover of its own.
+fn judge_at<F: Field, X: RowExtend<F>, R: Threads + Sync, G: Gate>(
+    means: &Means<'_, R, G>,
+    circuit: &Circuit<F>,
+    id: [u8; 32],
+    desk: &mut Desk<'_, F>,
+    publics: &[F],
+    privates: &[F],
+    seed: [u8; 32],
+    workers: usize,
+) -> Result<(usize, Verdict<F>), AllocError>
+    requires id { id ≡ id_of (coding F.element F.number_of F.BYTES F.size F.ID) circuit.now }
+    requires desk { desk.old.circuit ≡ circuit.now }
+    requires publics { length publics.now ≡ circuit.now.publics }
+    requires privates { length privates.now ≡ circuit.now.privates }
+    requires satisfied { IsSatisfied F.ops circuit.now.layers (inputs_of F.ops publics.now privates.now) }
+    requires some { 1 ≤ workers }
+    requires most { workers ≤ 64 }
+    ensures { IfOk result (λ made. HasVerdict F.ops (coding F.element F.number_of F.BYTES F.size F.ID) circuit.now publics.now privates.now seed made.0 made.1) }
+{
+    let mut works = WorksOver::<F, X>::with_id(means.alloc, circuit, id)?;
+    Ok(judge_own_proof(
+        means, circuit, &mut works, desk, publics, privates, seed, workers,
+    ))
+}
+
+// The same with a desk of its own. Nothing may fail behind what it owns, so that each exit drops little.
 fn prove_and_verify<F: Field, X: RowExtend<F>, R: Threads + Sync, G: Gate>(
     means: &Means<'_, R, G>,
     circuit: &Circuit<F>,
@@ -57,21 +118,14 @@ fn prove_and_verify<F: Field, X: RowExtend<F>, R: Threads + Sync, G: Gate>(
     requires most { workers ≤ 64 }
     ensures { IfOk result (λ made. HasVerdict F.ops (coding F.element F.number_of F.BYTES F.size F.ID) circuit.now publics.now privates.now seed made.0 made.1) }
 {
-    let mut desk = Desk::new(means.alloc, circuit)?;
-    let mut works = WorksOver::<F, X>::new(means.alloc, circuit)?;
-    let words = Seeded::new(seed);
-    match works.prove(
-        means.rt, b"", publics, privates, &words, workers, means.gate,
-    ) {
-        Ok(bytes) => {
-            let verdict = desk.verify(b"", publics, bytes);
-            Ok((bytes.len(), verdict))
-        }
-        Err(_) => unreachable!(),
-    }
+    let id = id(means.alloc, circuit)?;
+    let mut desk = Desk::with_id(means.alloc, circuit, id)?;
+    judge_at::<F, X, R, G>(
+        means, circuit, id, &mut desk, publics, privates, seed, workers,
+    )
 }
 
-// The same of the demo's inputs, whose proof is accepted. How many bytes it has.
+// The same for the demo's inputs, whose proof is accepted. How many bytes it has.
 fn prove_demo<R: Threads + Sync, G: Gate>(
     means: &Means<'_, R, G>,
     circuit: &Circuit<Gold>,

@@ -3,6 +3,8 @@
 ghost use Rattle.std.specs.Prelude.{◌≡◌, ◌≤◌, Some, IsTrue, length, IfOk, string_bytes};
 ghost use Rattle.std.specs.Option.{option_copied};
 ghost use Rattle.sha2.specs.Sha256.{sha256};
+ghost use Rattle.lzk_circbytes.specs.Files.{id_of_any};
+ghost use Rattle.lzk_circbytes.specs.declared.any.AnyCircuit.TheVariants.{Gold};
 ghost use Rattle.lzk_sha_circuit.specs.Places.{private_count};
 ghost use Rattle.lzk_cmd.specs.Ends.{says};
 ghost use Rattle.lzk_cmd.specs.Hashed.{HashAny, HashRun, ProvesHash, ShaCircuitRun, is_for, message_of};
@@ -12,7 +14,7 @@ ghost use Rattle.lzk_cmd.specs.Seen.{seen};
 ghost use Rattle.lzk_cmd.specs.Verified.{session_of};
 ghost use Rattle.lzk_cmd.specs.Walks.{IsEnding, IsShaFile, Moves, WalksToPut};
 
-use crate::circuits::read_circuit;
+use crate::circuits::read_held;
 use crate::compiling::file_over;
 use crate::ending::{Ending, Halt};
 use crate::files::put_file;
@@ -98,6 +100,7 @@ fn prove_hash<R: Threads + Sync, S: Shelf, G: Gate>(
     job: &Job<'_>,
     shelf: &mut S,
 ) -> Result<Ending, Halt>
+    requires id { job.now.id ≡ id_of_any (Gold circuit.now) }
     requires message { length message.now ≤ 55 }
     requires publics { circuit.now.publics ≡ 8 }
     requires privates { circuit.now.privates ≡ private_count (length message.now) }
@@ -128,6 +131,7 @@ fn hash_any<R: Threads + Sync, S: Shelf, G: Gate>(
     job: &Job<'_>,
     shelf: &mut S,
 ) -> Result<Ending, Halt>
+    requires id { job.now.id ≡ id_of_any circuit.now }
     requires message { length message.now ≤ 55 }
     requires digest { option_copied job.now.digest ≡ Some (sha256 message.now) }
     requires session { length job.now.session.now ≤ 64 }
@@ -161,14 +165,15 @@ pub fn sha256<R: Threads + Sync, S: Shelf, G: Gate>(
 {
     let session = session_bytes(means.alloc, order.session)?;
     let message = message_bytes(means.alloc, order.message)?;
-    let held = read_circuit(means.alloc, shelf, order.circuit)?;
+    let held = read_held(means.alloc, shelf, order.circuit)?;
     let digest = Sha256::digest(message.as_slice());
     let job = Job {
+        id: held.id,
         proof: order.proof,
         digest: Some(&digest),
         session: &session,
         seed: seed_bytes(order.seed),
         workers: workers_of(order.workers),
     };
-    hash_any(means, order.circuit, &held, &message, &job, shelf)
+    hash_any(means, order.circuit, &held.circuit, &message, &job, shelf)
 }

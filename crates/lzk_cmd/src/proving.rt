@@ -2,6 +2,7 @@
 
 ghost use Rattle.std.specs.Prelude.{◌≡◌, ◌≤◌, ℕ, List, None, length, IfOk};
 ghost use Rattle.std.specs.Option.{option_copied};
+ghost use Rattle.lzk_circbytes.specs.Files.{id_of, id_of_any};
 ghost use Rattle.lzk_field.specs.Coding.{coding};
 ghost use Rattle.lzk_honest.specs.Proving.{IsProofFile};
 ghost use Rattle.lzk_cmd.specs.Decoded.{proof_limit};
@@ -10,7 +11,7 @@ ghost use Rattle.lzk_cmd.specs.Seen.{seen};
 ghost use Rattle.lzk_cmd.specs.Verified.{session_of};
 ghost use Rattle.lzk_cmd.specs.Walks.{IsEnding, Moves, WalksToPut};
 
-use crate::circuits::read_circuit;
+use crate::circuits::read_held;
 use crate::ending::{Ending, Halt};
 use crate::files::put_file;
 use crate::lines;
@@ -33,10 +34,11 @@ use std::alloc::{AllocError, Global};
 use std::marker::Sync;
 use std::thread::Threads;
 
-/// What a proof is made with beside its circuit and inputs: the name of its file, the digest that is told with it, its session, seed
-/// and workers.
+/// What a proof is made with beside its circuit and inputs: the circuit's id, the name of the proof's file, the digest that is told
+/// with it, its session, seed and workers.
 #[derive(Clone, Copy)]
 pub struct Job<'a> {
+    pub id: [u8; 32],
     pub proof: &'a str,
     pub digest: Option<&'a [u8]>,
     pub session: &'a [u8],
@@ -114,13 +116,14 @@ pub fn prove_inputs<F: Field, X: RowExtend<F>, R: Threads + Sync, S: Shelf, G: G
 ) -> Result<Ending, Halt>
     requires publics { length publics.now ≡ circuit.now.publics }
     requires privates { length privates.now ≡ circuit.now.privates }
+    requires id { job.now.id ≡ id_of (coding F.element F.number_of F.BYTES F.size F.ID) circuit.now }
     requires session { length job.now.session.now ≤ 64 }
     requires some { 1 ≤ job.now.workers }
     requires most { job.now.workers ≤ 64 }
     ensures walks { WalksToPut (λ files. Proves F.ops (coding F.element F.number_of F.BYTES F.size F.ID) circuit.now job.now.proof.now (option_copied job.now.digest) job.now.session.now job.now.seed publics.now privates.now) 3 (seen S.Shelf shelf.old) (seen S.Shelf shelf.new) result }
     ensures moves { Moves (seen S.Shelf shelf.old) (seen S.Shelf shelf.new) }
 {
-    let mut works = WorksOver::<F, X>::new(means.alloc, circuit)?;
+    let mut works = WorksOver::<F, X>::with_id(means.alloc, circuit, job.id)?;
     put_proof::<F, X, R, S, G>(means, circuit, &mut works, publics, privates, job, shelf)
 }
 
@@ -133,6 +136,7 @@ fn prove_over<F: Field, X: RowExtend<F>, R: Threads + Sync, S: Shelf, G: Gate>(
     job: &Job<'_>,
     shelf: &mut S,
 ) -> Result<Ending, Halt>
+    requires id { job.now.id ≡ id_of (coding F.element F.number_of F.BYTES F.size F.ID) circuit.now }
     requires digest { option_copied job.now.digest ≡ None }
     requires session { length job.now.session.now ≤ 64 }
     requires some { 1 ≤ job.now.workers }
@@ -154,6 +158,7 @@ fn prove_any<R: Threads + Sync, S: Shelf, G: Gate>(
     job: &Job<'_>,
     shelf: &mut S,
 ) -> Result<Ending, Halt>
+    requires id { job.now.id ≡ id_of_any circuit.now }
     requires digest { option_copied job.now.digest ≡ None }
     requires session { length job.now.session.now ≤ 64 }
     requires some { 1 ≤ job.now.workers }
@@ -182,13 +187,16 @@ pub fn prove<R: Threads + Sync, S: Shelf, G: Gate>(
     ensures moves { Moves (seen S.Shelf shelf.old) (seen S.Shelf shelf.new) }
 {
     let session = session_bytes(means.alloc, order.session)?;
-    let held = read_circuit(means.alloc, shelf, order.circuit)?;
+    let held = read_held(means.alloc, shelf, order.circuit)?;
     let job = Job {
+        id: held.id,
         proof: order.proof,
         digest: None,
         session: &session,
         seed: seed_bytes(order.seed),
         workers: workers_of(order.workers),
     };
-    prove_any(means, &held, order.public, order.private, &job, shelf)
+    prove_any(
+        means,
+        &held.circuit, order.public, order.private, &job, shelf)
 }

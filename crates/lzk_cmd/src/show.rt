@@ -2,17 +2,17 @@
 
 ghost use Rattle.std.specs.Prelude.{◌≡◌, IfOk, string_bytes};
 ghost use Rattle.lzk_circbytes.specs.Numbered.{shape, numbered};
-ghost use Rattle.lzk_circbytes.specs.Files.{circuit_id};
+ghost use Rattle.lzk_circbytes.specs.Files.{circuit_id, id_of_any};
 ghost use Rattle.lzk_cmd.specs.Ends.{says};
 ghost use Rattle.lzk_cmd.specs.Run.{ShowRun, shown, shown_any};
 ghost use Rattle.lzk_cmd.specs.Seen.{seen};
 ghost use Rattle.lzk_cmd.specs.Walks.{IsEnding, OnlyReads, Walks};
 
-use crate::circuits::read_circuit;
+use crate::circuits::read_held;
 use crate::ending::{Ending, Halt};
 use crate::lines;
 use crate::means::Means;
-use lzk_circbytes::{AnyCircuit, id};
+use lzk_circbytes::AnyCircuit;
 use lzk_circuit::Circuit;
 use lzk_field::{Field, Gate};
 use lzk_outside::Shelf;
@@ -24,15 +24,16 @@ use std::thread::Threads;
 fn shown_text<F: Field>(
     alloc: Global,
     circuit: &Circuit<F>,
+    id: &[u8; 32],
     field: &str,
 ) -> Result<String, AllocError>
+    requires id { id.now ≡ circuit_id (shape F.ID F.BYTES F.size) (numbered F.number_of circuit.now) }
     ensures { IfOk result (λ s. string_bytes s ≡ shown field.now (circuit_id (shape F.ID F.BYTES F.size) (numbered F.number_of circuit.now)) circuit.now) }
 {
-    let digest = id(alloc, circuit)?;
     let mut text = lines::tell_counts(
         alloc,
         field,
-        &digest,
+        id,
         circuit.publics(),
         circuit.privates(),
         circuit.depth(),
@@ -45,23 +46,30 @@ fn shown_text<F: Field>(
 }
 
 // How a run ends that shows a circuit.
-fn ending<F: Field>(alloc: Global, circuit: &Circuit<F>, field: &str) -> Result<Ending, AllocError>
+fn ending<F: Field>(
+    alloc: Global,
+    circuit: &Circuit<F>,
+    id: &[u8; 32],
+    field: &str,
+) -> Result<Ending, AllocError>
+    requires id { id.now ≡ circuit_id (shape F.ID F.BYTES F.size) (numbered F.number_of circuit.now) }
     ensures { IfOk result (IsEnding (says 0 (shown field.now (circuit_id (shape F.ID F.BYTES F.size) (numbered F.number_of circuit.now)) circuit.now))) }
 {
     Ok(Ending {
         status: 0,
-        text: shown_text(alloc, circuit, field)?,
+        text: shown_text(alloc, circuit, id, field)?,
         missing: false,
     })
 }
 
 // How a run ends that shows a circuit over either field.
-fn ending_of(alloc: Global, circuit: &AnyCircuit) -> Result<Ending, AllocError>
+fn ending_of(alloc: Global, circuit: &AnyCircuit, id: &[u8; 32]) -> Result<Ending, AllocError>
+    requires id { id.now ≡ id_of_any circuit.now }
     ensures { IfOk result (IsEnding (says 0 (shown_any circuit.now))) }
 {
     match circuit {
-        AnyCircuit::Gold(c) => ending(alloc, c, "goldilocks"),
-        AnyCircuit::Gf(c) => ending(alloc, c, "gf2_128"),
+        AnyCircuit::Gold(c) => ending(alloc, c, id, "goldilocks"),
+        AnyCircuit::Gf(c) => ending(alloc, c, id, "gf2_128"),
     }
 }
 
@@ -74,6 +82,6 @@ pub fn show<R: Threads + Sync, S: Shelf, G: Gate>(
     ensures walks { Walks (ShowRun circuit.now) 0 (seen S.Shelf shelf.old) (seen S.Shelf shelf.new) result }
     ensures reads { OnlyReads (seen S.Shelf shelf.old) (seen S.Shelf shelf.new) }
 {
-    let held = read_circuit(means.alloc, shelf, circuit)?;
-    Ok(ending_of(means.alloc, &held)?)
+    let held = read_held(means.alloc, shelf, circuit)?;
+    Ok(ending_of(means.alloc, &held.circuit, &held.id)?)
 }

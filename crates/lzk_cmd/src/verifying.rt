@@ -2,13 +2,14 @@
 
 ghost use Rattle.std.specs.Prelude.{◌≡◌, ◌≤◌, length, IfOk};
 ghost use Rattle.std.specs.Option.{option_copied};
+ghost use Rattle.lzk_circbytes.specs.Files.{id_of, id_of_any};
 ghost use Rattle.lzk_field.specs.Coding.{coding};
 ghost use Rattle.lzk_cmd.specs.Feeding.{JudgesFile};
 ghost use Rattle.lzk_cmd.specs.Seen.{seen};
 ghost use Rattle.lzk_cmd.specs.Verified.{VerifyOver, VerifyAny, VerifyRun, session_of};
 ghost use Rattle.lzk_cmd.specs.Walks.{OnlyReads, Walks};
 
-use crate::circuits::read_circuit;
+use crate::circuits::read_held;
 use crate::ending::{Ending, Halt};
 use crate::feeding::feed_proof;
 use crate::means::Means;
@@ -28,17 +29,19 @@ use std::thread::Threads;
 fn judge_file<S: Shelf, F: Field>(
     alloc: Global,
     circuit: &Circuit<F>,
+    id: [u8; 32],
     session: &[u8],
     publics: &[F],
     proof: &str,
     shelf: &mut S,
 ) -> Result<Ending, Halt>
+    requires id { id ≡ id_of (coding F.element F.number_of F.BYTES F.size F.ID) circuit.now }
     requires session { length session.now ≤ 64 }
     requires publics { length publics.now ≡ circuit.now.publics }
     ensures walks { Walks (JudgesFile F.ops (coding F.element F.number_of F.BYTES F.size F.ID) circuit.now session.now publics.now proof.now) 2 (seen S.Shelf shelf.old) (seen S.Shelf shelf.new) result }
     ensures reads { OnlyReads (seen S.Shelf shelf.old) (seen S.Shelf shelf.new) }
 {
-    let mut desk = Desk::new(alloc, circuit)?;
+    let mut desk = Desk::with_id(alloc, circuit, id)?;
     desk.open(session, publics);
     feed_proof(alloc, shelf, proof, &mut desk)?;
     let verdict = desk.end();
@@ -49,35 +52,39 @@ fn judge_file<S: Shelf, F: Field>(
 fn verify_over<S: Shelf, F: Field>(
     alloc: Global,
     circuit: &Circuit<F>,
+    id: [u8; 32],
     public: &str,
     proof: &str,
     session: &[u8],
     shelf: &mut S,
 ) -> Result<Ending, Halt>
+    requires id { id ≡ id_of (coding F.element F.number_of F.BYTES F.size F.ID) circuit.now }
     requires session { length session.now ≤ 64 }
     ensures walks { Walks (VerifyOver F.ops (coding F.element F.number_of F.BYTES F.size F.ID) circuit.now public.now proof.now session.now) 1 (seen S.Shelf shelf.old) (seen S.Shelf shelf.new) result }
     ensures reads { OnlyReads (seen S.Shelf shelf.old) (seen S.Shelf shelf.new) }
 {
     let publics = read_elements::<S, F>(alloc, shelf, public, circuit.publics())?;
-    judge_file(alloc, circuit, session, &publics, proof, shelf)
+    judge_file(alloc, circuit, id, session, &publics, proof, shelf)
 }
 
 // The same over either field.
 fn verify_any<S: Shelf>(
     alloc: Global,
     circuit: &AnyCircuit,
+    id: [u8; 32],
     public: &str,
     proof: &str,
     session: &[u8],
     shelf: &mut S,
 ) -> Result<Ending, Halt>
+    requires id { id ≡ id_of_any circuit.now }
     requires session { length session.now ≤ 64 }
     ensures walks { Walks (VerifyAny circuit.now public.now proof.now session.now) 1 (seen S.Shelf shelf.old) (seen S.Shelf shelf.new) result }
     ensures reads { OnlyReads (seen S.Shelf shelf.old) (seen S.Shelf shelf.new) }
 {
     match circuit {
-        AnyCircuit::Gold(c) => verify_over(alloc, c, public, proof, session, shelf),
-        AnyCircuit::Gf(c) => verify_over(alloc, c, public, proof, session, shelf),
+        AnyCircuit::Gold(c) => verify_over(alloc, c, id, public, proof, session, shelf),
+        AnyCircuit::Gf(c) => verify_over(alloc, c, id, public, proof, session, shelf),
     }
 }
 
@@ -95,6 +102,14 @@ pub fn verify<R: Threads + Sync, S: Shelf, G: Gate>(
     ensures reads { OnlyReads (seen S.Shelf shelf.old) (seen S.Shelf shelf.new) }
 {
     let session = session_bytes(means.alloc, session)?;
-    let held = read_circuit(means.alloc, shelf, circuit)?;
-    verify_any(means.alloc, &held, public, proof, &session, shelf)
+    let held = read_held(means.alloc, shelf, circuit)?;
+    verify_any(
+        means.alloc,
+        &held.circuit,
+        held.id,
+        public,
+        proof,
+        &session,
+        shelf,
+    )
 }

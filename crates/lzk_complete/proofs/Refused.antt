@@ -23,7 +23,8 @@ use Rattle.lzk_honest.specs.declared.answer.Answer.{Answer}
 use Rattle.lzk_honest.specs.declared.answer.Answer.TheVariants as answer
 use Rattle.lzk_honest.specs.Answered.{Answers, AreSent}
 use Rattle.lzk_honest.specs.Changed.{with_added, IsSentPlace}
-use Rattle.lzk_honest.specs.Proving.{id_of, own_answers}
+use Rattle.lzk_circbytes.specs.Files.{id_of}
+use Rattle.lzk_honest.specs.Proving.{own_answers}
 use Rattle.lzk_verify.specs.declared.verdict.Verdict.{Verdict}
 use Rattle.lzk_verify.specs.declared.verdict.Verdict.TheVariants.{LinearSum, Linear}
 use Rattle.lzk_verify.specs.Checks.{HasCircuitId, HasPathCount, HasRoot}

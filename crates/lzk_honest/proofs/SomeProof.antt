@@ -30,7 +30,8 @@ use Rattle.lzk_accept.specs.Checks.{combined_row_of}
 use Rattle.lzk_answers.specs.Answers.{low_degree_answer, linear_answer, quadratic_answer}
 use Rattle.lzk_tableau.specs.Tableau.{nonce_words, column, nonce, leaves, tableau, row_at}
 use Rattle.lzk_honest.specs.Answered.{AreSent}
-use Rattle.lzk_honest.specs.Proving.{id_of, given, rows, digests, pads, own_answers, AreOpened, IsProofOf, IsProofFile, SomeFile}
+use Rattle.lzk_circbytes.specs.Files.{id_of}
+use Rattle.lzk_honest.specs.Proving.{given, rows, digests, pads, own_answers, AreOpened, IsProofOf, IsProofFile, SomeFile}
 use Rattle.lzk_honest.proofs.SomeMessages.{messages, are_messages}
 
 -- lists of one length, one after the other

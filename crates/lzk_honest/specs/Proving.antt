@@ -6,8 +6,7 @@ use Rattle.lzk_field.specs.Ring.{Ops}
 use Rattle.lzk_merkle.specs.Nodes.{tree_node, path_nodes}
 use Rattle.lzk_circuit.specs.Valid.{Wiring, IsValid}
 use Rattle.lzk_circuit.specs.Wires.{all_values, inputs_of}
-use Rattle.lzk_circbytes.specs.Numbered.{shape, numbered}
-use Rattle.lzk_circbytes.specs.Files.{circuit_id}
+use Rattle.lzk_circbytes.specs.Files.{id_of}
 use Rattle.lzk_layout.specs.declared.params.Params.{Params}
 use Rattle.lzk_layout.specs.declared.proof.Proof.{Proof}
 use Rattle.lzk_layout.specs.Sizes.{params_of, sent_counts}
@@ -23,10 +22,6 @@ use Rattle.lzk_honest.specs.Changed.{unchanged, with_added}
 -- the words of a source of random words, of 128 bits each
 abbrev pub words_of : (ℕ → ℕ) → ℕ → ℕ
 words_of = prover.low_words
-
--- the id of a circuit
-abbrev pub id_of : {A : Type 0} → Coding A → Wiring A → List ℕ
-id_of e c = circuit_id (shape e.id e.bytes e.size) (numbered e.number c)
 
 -- The proof of a prover with these random words, below 2 ^ 128 each.
 module _ {A : Type 0} (o : Ops A) (e : Coding A) (c : Wiring A) (session : List ℕ) (public private : List A) (word : ℕ → ℕ) where

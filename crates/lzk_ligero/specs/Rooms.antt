@@ -13,7 +13,7 @@ use Rattle.lzk_accept.specs.Factored.{HasRoomFor}
 use Rattle.lzk_accept.specs.Kept.{AreFormsOf}
 use Rattle.lzk_ligero.specs.declared.room.Room.{Room}
 use Rattle.lzk_ligero.specs.declared.room.Sent.{Sent}
-use Rattle.lzk_honest.specs.Proving.{id_of}
+use Rattle.lzk_circbytes.specs.Files.{id_of}
 
 -- what extends rows of coefficients
 abbrev pub coefficient_reach : Params → Reach

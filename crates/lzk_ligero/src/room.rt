@@ -1,13 +1,13 @@
 //! What a prover keeps.
 
 ghost use Rattle.std.specs.Prelude.{◌≡◌, ◌+◌, ◌*◌, length, IfOk, IfSome};
+ghost use Rattle.lzk_circbytes.specs.Files.{id_of};
 ghost use Rattle.lzk_field.specs.Coding.{coding};
 ghost use Rattle.lzk_layout.specs.Sizes.{AreBounded, AreParams, params_of, proof_length};
 ghost use Rattle.lzk_ligero.specs.Rooms.{IsRoomFor, IsSentFor};
 
 use crate::writing::MOST_DIGESTS;
 use lzk_accept::{Challenges, Factored, Forms};
-use lzk_circbytes::id;
 use lzk_circuit::Circuit;
 use lzk_field::Field;
 use lzk_layout::{Elements, Params, Proof, proof_len};
@@ -84,13 +84,15 @@ impl<F: Field> Sent<F> {
         alloc: Global,
         circuit: &Circuit<F>,
         params: &Params,
+        id: [u8; 32],
     ) -> Result<Sent<F>, AllocError>
         requires params { params.now ≡ params_of circuit.now }
         requires valid { AreParams F.ops params.now }
+        requires id { id ≡ id_of (coding F.element F.number_of F.BYTES F.size F.ID) circuit.now }
         ensures { IfOk result (λ sent. IsSentFor (coding F.element F.number_of F.BYTES F.size F.ID) circuit.now params.now sent) }
     {
         let mut proof = Proof::new(alloc, params)?;
-        proof.id = id(alloc, circuit)?;
+        proof.id = id;
         Ok(Sent {
             proof,
             script: Script::new(alloc, circuit)?,

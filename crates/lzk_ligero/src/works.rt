@@ -2,6 +2,7 @@
 
 ghost use Rattle.std.specs.Prelude.{◌≡◌, ◌≢◌, ◌≤◌, ◌<◌, length, take, IfOk, MatchOption, MatchResult, Some, None};
 ghost use Rattle.std.specs.Borrow.{sem};
+ghost use Rattle.lzk_circbytes.specs.Files.{id_of};
 ghost use Rattle.lzk_field.specs.Coding.{coding};
 ghost use Rattle.lzk_field.specs.Sums.{entry};
 ghost use Rattle.lzk_circuit.specs.Wires.{all_values, wires_of, inputs_of, list_at, IsFirstNonzero, IsSatisfied};
@@ -17,6 +18,7 @@ ghost use Rattle.lzk_ligero.specs.Parts.{AreExtendersFor, IsCommittedFor, IsAnsw
 use crate::changing::Change;
 use crate::proving::write_proof;
 use crate::room::{Room, Sent, file_room};
+use lzk_circbytes::id;
 use lzk_circuit::{Circuit, Values};
 use lzk_complete::{changed_proofs_refused, proofs_accepted};
 use lzk_field::{Field, Gate, Words};
@@ -101,15 +103,17 @@ impl<F: Field> Answering<F> {
         circuit: &Circuit<F>,
         params: &Params,
         room: usize,
+        id: [u8; 32],
     ) -> Result<Answering<F>, AllocError>
         requires params { params.now ≡ params_of circuit.now }
         requires valid { AreParams F.ops params.now }
         requires bounded { AreBounded params.now }
+        requires id { id ≡ id_of (coding F.element F.number_of F.BYTES F.size F.ID) circuit.now }
         ensures { IfOk result (IsAnsweringFor F.ops (coding F.element F.number_of F.BYTES F.size F.ID) circuit.now params.now room) }
     {
         Ok(Answering {
             room: Room::new(alloc, circuit, params, room)?,
-            sent: Sent::new(alloc, circuit, params)?,
+            sent: Sent::new(alloc, circuit, params, id)?,
             bytes: file_room::<F>(alloc, params)?,
         })
     }
@@ -134,7 +138,12 @@ fn larger(a: usize, b: usize) -> usize
 }
 
 impl<F: Field, X: RowExtend<F>> Parts<F, X> {
-    fn new(alloc: Global, circuit: &Circuit<F>) -> Result<Parts<F, X>, AllocError>
+    fn new(
+        alloc: Global,
+        circuit: &Circuit<F>,
+        id: [u8; 32],
+    ) -> Result<Parts<F, X>, AllocError>
+        requires id { id ≡ id_of (coding F.element F.number_of F.BYTES F.size F.ID) circuit.now }
         ensures { IfOk result (λ parts. ArePartsFor F.ops (coding F.element F.number_of F.BYTES F.size F.ID) X.reach X.rooms circuit.now parts) }
     {
         let params = Params::of(circuit);
@@ -146,7 +155,7 @@ impl<F: Field, X: RowExtend<F>> Parts<F, X> {
             values: Values::new(alloc, circuit)?,
             extenders,
             committed: Committed::new(alloc, circuit, &params, room)?,
-            answering: Answering::new(alloc, circuit, &params, coefficient_room)?,
+            answering: Answering::new(alloc, circuit, &params, coefficient_room, id)?,
         })
     }
 
@@ -261,7 +270,24 @@ impl<'c, F: Field, X: RowExtend<F>> WorksOver<'c, F, X> {
     pub fn new(alloc: Global, circuit: &'c Circuit<F>) -> Result<WorksOver<'c, F, X>, AllocError>
         ensures { IfOk result (λ works. works ≡ circuit.now) }
     {
-        let parts = Parts::new(alloc, circuit)?;
+        let id = id(alloc, circuit)?;
+        WorksOver::with_id(alloc, circuit, id)
+    }
+
+    /// The same for a circuit whose id is known, as SHA-256 of the file that it was read from.
+    ///
+    /// # Errors
+    ///
+    /// As `new`.
+    pub fn with_id(
+        alloc: Global,
+        circuit: &'c Circuit<F>,
+        id: [u8; 32],
+    ) -> Result<WorksOver<'c, F, X>, AllocError>
+        requires id { id ≡ id_of (coding F.element F.number_of F.BYTES F.size F.ID) circuit.now }
+        ensures { IfOk result (λ works. works ≡ circuit.now) }
+    {
+        let parts = Parts::new(alloc, circuit, id)?;
         Ok(WorksOver { circuit, parts })
     }
 

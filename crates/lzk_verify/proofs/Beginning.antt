@@ -16,7 +16,7 @@ use Rattle.lzk_accept.specs.Factored.{HasRoomFor}
 use Rattle.lzk_accept.specs.Kept.{AreFormsOf}
 use Rattle.lzk_verify.specs.declared.intake.Intake.{Intake}
 use Rattle.lzk_verify.specs.Kept.{sent_count, whole_columns, column_fields, start_of, given_of, columns_of, column_read, leaf_read, IsLeastFailing}
-use Rattle.lzk_verify.specs.Checks.{id_of}
+use Rattle.lzk_circbytes.specs.Files.{id_of}
 use Rattle.lzk_verify.specs.Desk.{held_of, Rooms, AreRooms, AreLists, AreParts}
 use Rattle.lzk_verify.proofs.ColumnPlaces.{none_whole, none_begun}
 use Rattle.lzk_verify.proofs.Stored.{IsStored}

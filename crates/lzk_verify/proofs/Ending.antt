@@ -21,7 +21,7 @@ use Rattle.lzk_layout.proofs.OneProof.{one_proof, no_fault}
 use Rattle.lzk_verify.specs.declared.intake.Intake.{Intake}
 use Rattle.lzk_verify.specs.declared.verdict.Verdict.{Verdict}
 use Rattle.lzk_verify.specs.declared.verdict.Verdict.TheVariants.{Format}
-use Rattle.lzk_verify.specs.Checks.{id_of}
+use Rattle.lzk_circbytes.specs.Files.{id_of}
 use Rattle.lzk_verify.specs.Desk.{held_of, Rooms, IsSound, IsFound}
 use Rattle.lzk_verify.specs.Kept.{IsHeldOf, Stands}
 use Rattle.lzk_verify.specs.Verdict.{given, IsVerdict, IsOnlyVerdict}

@@ -19,7 +19,8 @@ use Rattle.lzk_accept.specs.Checks.{found_sum}
 use Rattle.lzk_verify.specs.declared.intake.Intake.{Intake}
 use Rattle.lzk_verify.specs.declared.verdict.Verdict.{Verdict}
 use Rattle.lzk_verify.specs.declared.verdict.Verdict.TheVariants.{CircuitId, PathCount, Root, LinearSum}
-use Rattle.lzk_verify.specs.Checks.{id_of, leaves_of, needed_digests, found_root}
+use Rattle.lzk_circbytes.specs.Files.{id_of}
+use Rattle.lzk_verify.specs.Checks.{leaves_of, needed_digests, found_root}
 use Rattle.lzk_verify.specs.Kept.{messages_in, ldt_in, dot_in, head_in, tail_in, whole_transcript, IsLeastFailing}
 use Rattle.lzk_verify.specs.Verdict.{Unless, UnlessAt, IsJudged, LowDegreeAt, LinearAt, QuadraticAt, wanted_sum}
 use Rattle.lzk_verify.specs.Desk.{OrElse, sum_of, IsFound}

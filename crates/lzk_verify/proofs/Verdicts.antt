@@ -14,7 +14,7 @@ use Rattle.lzk_layout.specs.Files.{OneProof, OneFault, NoFault}
 use Rattle.lzk_accept.specs.Challenges.{Transcript, transcript}
 use Rattle.lzk_verify.specs.declared.verdict.Verdict.{Verdict}
 use Rattle.lzk_verify.specs.declared.verdict.Verdict.TheVariants.{Format}
-use Rattle.lzk_verify.specs.Checks.{id_of}
+use Rattle.lzk_circbytes.specs.Files.{id_of}
 use Rattle.lzk_verify.specs.Verdict.{IsJudged, IsVerdict, IsOnlyVerdict}
 use Rattle.lzk_verify.proofs.OneVerdict.{one_verdict}
 

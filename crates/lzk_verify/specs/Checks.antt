@@ -6,15 +6,10 @@ use Rattle.lzk_field.specs.Ring.{Ops}
 use Rattle.lzk_merkle.specs.Leaf.{leaf_of}
 use Rattle.lzk_merkle.specs.Nodes as tree
 use Rattle.lzk_circuit.specs.Valid.{Wiring}
-use Rattle.lzk_circbytes.specs.Numbered.{shape, numbered}
-use Rattle.lzk_circbytes.specs.Files.{circuit_id}
+use Rattle.lzk_circbytes.specs.Files.{id_of}
 use Rattle.lzk_layout.specs.declared.params.Params.{Params}
 use Rattle.lzk_layout.specs.declared.proof.Proof.{Proof}
 use Rattle.lzk_accept.specs.Checks.{column}
-
--- the id of a circuit
-abbrev pub id_of : {A : Type 0} → Coding A → Wiring A → List ℕ
-id_of e c = circuit_id (shape e.id e.bytes e.size) (numbered e.number c)
 
 -- the id is the circuit's
 abbrev pub HasCircuitId : {A : Type 0} → Coding A → Wiring A → Proof A → Type 0

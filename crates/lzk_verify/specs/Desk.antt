@@ -23,7 +23,8 @@ use Rattle.lzk_accept.specs.Factored.{HasRoomFor, GivesCombined}
 use Rattle.lzk_verify.specs.declared.intake.Intake.{Intake}
 use Rattle.lzk_verify.specs.declared.verdict.Verdict.{Verdict}
 use Rattle.lzk_verify.specs.declared.verdict.Verdict.TheVariants.{Accepted, CircuitId, PathCount, Root, LowDegree, LinearSum, Linear, Quadratic}
-use Rattle.lzk_verify.specs.Checks.{id_of, needed_digests}
+use Rattle.lzk_circbytes.specs.Files.{id_of}
+use Rattle.lzk_verify.specs.Checks.{needed_digests}
 use Rattle.lzk_verify.specs.Columns.{values_of}
 use Rattle.lzk_verify.specs.Kept.{sent_count, messages_in, dot_in, head_in, tail_in, whole_columns, column_fields, tape_reached, given_before, Kept, Held, stopped, keeping}
 use Rattle.lzk_verify.specs.Verdict.{Unless}

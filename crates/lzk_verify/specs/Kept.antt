@@ -25,7 +25,7 @@ use Rattle.lzk_sumcheck.specs.Script.{after_rounds, after_layers, after_script, 
 use Rattle.lzk_accept.specs.declared.challenges.Challenges.{Challenges}
 use Rattle.lzk_accept.specs.Challenges.{Transcript, challenge_count, challenges}
 use Rattle.lzk_accept.specs.Checks.{combined_row_of, AtEach, FailsFirst}
-use Rattle.lzk_verify.specs.Checks.{id_of}
+use Rattle.lzk_circbytes.specs.Files.{id_of}
 use Rattle.lzk_verify.specs.Columns.{values_of, IsLowDegreeIn, IsLinearIn, IsQuadraticIn}
 
 -- ---- the elements sent before the columns, in the order of the file

@@ -14,7 +14,8 @@ use Rattle.lzk_accept.specs.Challenges.{Transcript, transcript}
 use Rattle.lzk_accept.specs.Checks.{wanted_of, combined_row_of, found_sum, HasLinearSum, IsLowDegree, IsLinear, IsQuadratic, AtEach, FailsFirst}
 use Rattle.lzk_verify.specs.declared.verdict.Verdict.{Verdict}
 use Rattle.lzk_verify.specs.declared.verdict.Verdict.TheVariants.{Accepted, Format, CircuitId, PathCount, Root, LowDegree, LinearSum, Linear, Quadratic}
-use Rattle.lzk_verify.specs.Checks.{id_of, HasCircuitId, needed_digests, HasPathCount, found_root, HasRoot}
+use Rattle.lzk_circbytes.specs.Files.{id_of}
+use Rattle.lzk_verify.specs.Checks.{HasCircuitId, needed_digests, HasPathCount, found_root, HasRoot}
 
 -- all that the tape gives to a proof, for a circuit, a session and public inputs
 abbrev pub given : {A : Type 0} → Ops A → Coding A → Wiring A → List ℕ → List A → Proof A → Transcript A

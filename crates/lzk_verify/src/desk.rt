@@ -1,6 +1,7 @@
 //! The desk.
 
 ghost use Rattle.std.specs.Prelude.{◌≡◌, ℕ, ◌≤◌, true, false, None, List, [], ◌∷◌, ◌++◌, length, IfOk, IsTrue, ◌↔◌};
+ghost use Rattle.lzk_circbytes.specs.Files.{id_of};
 ghost use Rattle.lzk_field.specs.Coding.{coding};
 ghost use Rattle.lzk_verify.specs.Kept as spec;
 ghost use Rattle.lzk_verify.specs.Kept.{Stands};
@@ -66,11 +67,29 @@ impl<'c, F: Field> Desk<'c, F> {
         ensures circuit { IfOk result (λ desk. desk.circuit ≡ circuit.now) }
         ensures idle { IfOk result (λ desk. spec.is_fed desk ≡ false) }
     {
+        let id = id(alloc, circuit)?;
+        Desk::with_id(alloc, circuit, id)
+    }
+
+    /// The same for a circuit whose id is known, as SHA-256 of the file that it was read from.
+    ///
+    /// # Errors
+    ///
+    /// As `new`.
+    pub fn with_id(
+        alloc: Global,
+        circuit: &'c Circuit<F>,
+        id: [u8; 32],
+    ) -> Result<Desk<'c, F>, AllocError>
+        requires id { id ≡ id_of (coding F.element F.number_of F.BYTES F.size F.ID) circuit.now }
+        ensures circuit { IfOk result (λ desk. desk.circuit ≡ circuit.now) }
+        ensures idle { IfOk result (λ desk. spec.is_fed desk ≡ false) }
+    {
         let params = Params::of(circuit);
         Ok(Desk {
             circuit,
             params,
-            id: id(alloc, circuit)?,
+            id,
             fed: false,
             cursor: Cursor::new(&params),
             intake: Intake::new(alloc, circuit, &params)?,

@@ -12,7 +12,7 @@ ghost use Rattle.lzk_layout.specs.Parts.{HasPart, number_of};
 ghost use Rattle.lzk_layout.specs.declared.params.Params.{Params};
 ghost use Rattle.lzk_sumcheck.specs.Script as sumcheck;
 ghost use Rattle.lzk_accept.specs.Kept.{AreFormsOf};
-ghost use Rattle.lzk_verify.specs.Checks.{id_of};
+ghost use Rattle.lzk_circbytes.specs.Files.{id_of};
 ghost use Rattle.lzk_verify.specs.Columns.{IsLowDegreeIn, IsLinearIn, IsQuadraticIn};
 ghost use Rattle.lzk_verify.specs.Desk as spec;
 ghost use Rattle.lzk_verify.specs.Desk.{AreRooms, AreLists, AreRows, AreReady, IsSound, IsNoted, IsBlockOf, kept_of};

@@ -9,6 +9,7 @@ use Rattle.lzk_cmd.specs.Proved.{seed_of}
 use Rattle.lzk_cmd.specs.Seen.{seen}
 use Rattle.lzk_cmd.specs.Verified.{session_of}
 use Rattle.lzk_cmd.specs.Walks.{WalksToPut}
+use Rattle.lzk_cmd.specs.declared.circuits.Held.{Held}
 use Rattle.lzk_cmd.proofs.Laws as laws
 use Rattle.lzk_cmd.proofs.Steps.{ends, then}
 use Rattle.lzk_cmd.proofs.hashing.sha256.Goals as goal
@@ -21,7 +22,7 @@ pub returns-in_err-held-clause-walks : goal.returns-in_err-held-clause-walks
 unfolding HashRun
 returns-in_err-held-clause-walks g c =
     let order = c.args.order.now in
-    ends circuit_files (λ x. x) order.circuit.now 0 (next order.circuit.now (message_of order.message.now) order.proof.now (session_of (option_copied order.session)) (seed_of order.seed.now)) (Unit {0}) (seen g.S.Shelf c.args.shelf.now) (seen g.S.Shelf c.read_circuit.new.shelf) c.in_err-held.field-0.0 _
+    ends circuit_files (λ (held : Held). held.circuit) order.circuit.now 0 (next order.circuit.now (message_of order.message.now) order.proof.now (session_of (option_copied order.session)) (seed_of order.seed.now)) (Unit {0}) (seen g.S.Shelf c.args.shelf.now) (seen g.S.Shelf c.read_held.new.shelf) c.in_err-held.field-0.0 _
     (laws.circuits.quiet order.circuit.now) c.in_err-held.ensures.reads c.in_err-held.ensures.gives c.from_residual-in_err-held.ensures.1
 
 pub returns-clause-walks : goal.returns-clause-walks
@@ -29,14 +30,14 @@ unfolding HashRun
 returns-clause-walks g c =
     let order = c.args.order.now in
     let name = order.circuit.now in
-    let mid = seen g.S.Shelf c.read_circuit.new.shelf in
+    let mid = seen g.S.Shelf c.read_held.new.shelf in
     let end = seen g.S.Shelf c.hash_any.new.shelf in
     let held = c.in_ok-held.held in
     let session = session_of (option_copied order.session) in
     let message = message_of order.message.now in
     let same_message : c.deref-2.result.now ≡ message = c.deref-2.ensures.value ∙ c.in_ok-message.ensures in
     let same_session : c.deref.result.now ≡ session = c.deref.ensures.value ∙ c.in_ok-session.ensures in
-    let first = subst (λ (m : List ℕ). WalksToPut (λ files. HashAny name held m order.proof.now c.deref.result.now c.seed_bytes.result) 1 mid end c.hash_any.result) same_message c.hash_any.ensures.walks in
-    let both = subst (λ (s : List ℕ). WalksToPut (λ files. HashAny name held message order.proof.now s c.seed_bytes.result) 1 mid end c.hash_any.result) same_session first in
-    let all = subst (λ (s : List ℕ). WalksToPut (λ files. HashAny name held message order.proof.now session s) 1 mid end c.hash_any.result) c.seed_bytes.ensures both in
-    then circuit_files (λ x. x) name 0 (next name message order.proof.now session (seed_of order.seed.now)) (Unit {0}) (seen g.S.Shelf c.args.shelf.now) mid end held c.hash_any.result c.in_ok-held.ensures.reads c.in_ok-held.ensures.gives all
+    let first = subst (λ (m : List ℕ). WalksToPut (λ files. HashAny name held.circuit m order.proof.now c.deref.result.now c.seed_bytes.result) 1 mid end c.hash_any.result) same_message c.hash_any.ensures.walks in
+    let both = subst (λ (s : List ℕ). WalksToPut (λ files. HashAny name held.circuit message order.proof.now s c.seed_bytes.result) 1 mid end c.hash_any.result) same_session first in
+    let all = subst (λ (s : List ℕ). WalksToPut (λ files. HashAny name held.circuit message order.proof.now session s) 1 mid end c.hash_any.result) c.seed_bytes.ensures both in
+    then circuit_files (λ (held : Held). held.circuit) name 0 (next name message order.proof.now session (seed_of order.seed.now)) (Unit {0}) (seen g.S.Shelf c.args.shelf.now) mid end held c.hash_any.result c.in_ok-held.ensures.reads c.in_ok-held.ensures.gives all
