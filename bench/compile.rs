@@ -1,7 +1,7 @@
-//! Circuits of sources: their nodes, layers in which each node has a wire and copies of it, and the reduced form.
+//! Circuits of sources: their nodes, layers in which a node has a wire as long as something uses it, and the reduced form.
 
 use crate::{add, mul, parse_source, Expr, Statement, Term, P};
-use std::{collections::BTreeMap, hint::black_box};
+use std::{collections::HashMap, hint::black_box};
 
 pub const BITS: u32 = 16_384;
 const MOST_LAYERS: u32 = 512;
@@ -231,44 +231,84 @@ fn numbered(marks: impl Iterator<Item = bool>) -> (Vec<u32>, u32) {
     (numbers, next)
 }
 
-fn level_rows(gates: &[Gate], depths: &[u32], level: u32, places: &[u32], below: &[u32]) -> Rows {
-    let first_gate = depths.len() - gates.len();
-    let mut rows = Rows { terms: Vec::with_capacity(depths.len()), ends: Vec::with_capacity(depths.len()) };
+// Which nodes the outputs use, and up to where: in the levels before `until` a node that is no deeper has a wire.
+struct Uses {
+    used: Vec<bool>,
+    until: Vec<u32>,
+}
+
+impl Uses {
+    fn of(builder: &Builder, depths: &[u32], count: u32) -> Uses {
+        let first_gate = depths.len() - builder.gates.len();
+        let mut uses = Uses { used: vec![false; depths.len()], until: vec![0; depths.len()] };
+        uses.until[0] = count;
+        for node in &builder.outputs {
+            uses.need(*node, depths, count);
+        }
+        for (i, gate) in builder.gates.iter().enumerate().rev() {
+            let k = first_gate + i;
+            if uses.used[k] {
+                match gate {
+                    Gate::Constant(_) => {}
+                    Gate::Mul(x, y) => [x, y].iter().for_each(|node| uses.need(**node, depths, depths[k])),
+                    Gate::Combine(parts) => parts.iter().for_each(|(_, node)| uses.need(*node, depths, depths[k])),
+                }
+            }
+        }
+        uses
+    }
+
+    // A row of this level names the node, or takes in the node's own row.
+    fn need(&mut self, node: u32, depths: &[u32], level: u32) {
+        let node = node as usize;
+        self.used[node] = true;
+        if depths[node] < level {
+            self.until[node] = self.until[node].max(level);
+        }
+    }
+}
+
+// The rows of the nodes of a level and of those that a row there takes in, and where each node's is.
+fn level_rows(builder: &Builder, depths: &[u32], uses: &Uses, level: u32, below: &[u32]) -> Rows {
+    let first_gate = depths.len() - builder.gates.len();
+    let mut rows = Rows { terms: vec![], ends: Vec::with_capacity(depths.len()) };
     let mut sum = vec![];
     for (k, depth) in depths.iter().enumerate() {
-        if *depth < level {
-            rows.terms.push(term(places[k], 1, 0, below[k]));
-        } else if *depth == level {
-            rows.push_gate(places[k], &gates[k - first_gate], below, &mut sum);
+        if *depth < level && level <= uses.until[k] {
+            rows.terms.push(term(0, 1, 0, below[k]));
+        } else if *depth == level && uses.used[k] {
+            rows.push_gate(0, &builder.gates[k - first_gate], below, &mut sum);
         }
         rows.ends.push(rows.terms.len());
     }
     rows
 }
 
-fn output_layer(rows: &Rows, outputs: &[u32]) -> Layer {
-    let mut terms = vec![];
-    for (g, node) in outputs.iter().enumerate() {
-        terms.extend(rows.row(*node).iter().map(|t| Term { g: g as u32, ..*t }));
+// The layer of these nodes.
+fn layer_of(rows: &Rows, nodes: impl Iterator<Item = u32>) -> Layer {
+    let (mut terms, mut wires) = (vec![], 0);
+    for node in nodes {
+        terms.extend(rows.row(node).iter().map(|t| Term { g: wires, ..*t }));
+        wires += 1;
     }
-    Layer { wires: outputs.len() as u32, terms }
+    Layer { wires, terms }
 }
 
 // The layers of the outputs, from the outputs down.
 fn plain_form(builder: &Builder, depths: &[u32], count: u32) -> Vec<Layer> {
-    // In a level each node has a wire that is no deeper.
-    let places_in = |level| numbered(depths.iter().map(|depth| *depth <= level));
+    let uses = Uses::of(builder, depths, count);
+    let stands = |k: usize, level: u32| depths[k] <= level && (level < uses.until[k] || k == 0 || level == 0);
+    let places_in = |level| numbered((0..depths.len()).map(|k| stands(k, level)));
     let mut layers = vec![];
     let (mut below, _) = places_in(0);
     for level in 1..=count {
-        let (places, wires) = places_in(level);
-        let rows = level_rows(&builder.gates, depths, level, &places, &below);
+        let rows = level_rows(builder, depths, &uses, level, &below);
         layers.push(if level < count {
-            Layer { wires, terms: rows.terms }
+            layer_of(&rows, (0..depths.len() as u32).filter(|k| stands(*k as usize, level)))
         } else {
-            output_layer(&rows, &builder.outputs)
+            layer_of(&rows, builder.outputs.iter().copied())
         });
-        below = places;
+        (below, _) = places_in(level);
     }
     layers.reverse();
     layers
@@ -324,21 +364,25 @@ fn each_row(layer: &Layer, numbers: &[u32], mut take: impl FnMut(&[Term])) {
     }
 }
 
-// Makes one wire of those with equal terms, and gives each old wire's number.
+// Makes one wire of those with equal terms, and gives each old wire's number. The rows stand in one list, and are keys from there.
 fn share_layer(layer: &mut Layer, numbers: &[u32]) -> Vec<u32> {
-    let mut kept: BTreeMap<Vec<(u32, u32, u64)>, u32> = BTreeMap::new();
-    let (mut terms, mut wires, mut key) = (vec![], vec![], vec![]);
+    let (mut rows, mut ends) = (Vec::with_capacity(layer.terms.len()), Vec::with_capacity(layer.wires as usize));
     each_row(layer, numbers, |row| {
-        key.clear();
-        key.extend(row.iter().map(|t| (t.a, t.b, t.coef)));
-        let wire = kept.get(&key).copied().unwrap_or_else(|| {
-            let wire = kept.len() as u32;
-            kept.insert(key.clone(), wire);
-            terms.extend(row.iter().map(|t| Term { g: wire, ..*t }));
-            wire
-        });
-        wires.push(wire);
+        rows.extend(row.iter().map(|t| (t.a, t.b, t.coef)));
+        ends.push(rows.len());
     });
+    let mut kept: HashMap<&[(u32, u32, u64)], u32> = HashMap::with_capacity(ends.len());
+    let (mut terms, mut wires, mut start) = (Vec::with_capacity(rows.len()), Vec::with_capacity(ends.len()), 0);
+    for end in ends {
+        let row = &rows[start..end];
+        let next = kept.len() as u32;
+        let wire = *kept.entry(row).or_insert(next);
+        if wire == next {
+            terms.extend(row.iter().map(|(a, b, coef)| Term { g: wire, a: *a, b: *b, coef: *coef }));
+        }
+        wires.push(wire);
+        start = end;
+    }
     *layer = Layer { wires: kept.len() as u32, terms };
     wires
 }
