@@ -13,6 +13,8 @@ pub mod Marking
 pub mod Bodies
 pub mod Bounds
 pub mod Whole
+pub mod Recent
 pub mod Written
+pub mod Absorbing
 pub mod OneFile
 pub mod Sizes

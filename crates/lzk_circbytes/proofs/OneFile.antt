@@ -18,23 +18,24 @@ use Rattle.lzk_circuit.specs.Valid.{under_of, Wiring, input_width, AreLayers, Is
 use Rattle.lzk_circbytes.specs.Numbered.{Shape, shape, numbered_term, numbered_layer, numbered, coefficients, ascending, constants_of}
 use Rattle.lzk_circbytes.specs.Reading.{as_before}
 use Rattle.lzk_circbytes.specs.Spelling.{file_bytes, file_of, constants_bytes, layers_bytes}
-use Rattle.lzk_circbytes.specs.Fits.{FitAlong, FitsTerm, CanWrite, CanWriteLayers}
+use Rattle.lzk_circbytes.specs.Fits.{FitAlong, FitsTerm, CanWrite, CanWriteLayers, head_bytes}
 use Rattle.lzk_circbytes.specs.Files.{IsFile}
+use Rattle.lzk_circbytes.specs.Recent.{HaveSame}
 use Rattle.lzk_circbytes.proofs.Ascending.{Has, Has-from_Contains, Contains-from_Has, has-ascending, Above-ascending, same_list, Above-from_increasing, increasing-from_Above}
 use Rattle.lzk_circbytes.proofs.Validity.{AreAllIn, terms_fit}
 use Rattle.lzk_circbytes.proofs.Coefficients.{has-coefficients, layers_are_in}
 use Rattle.lzk_circbytes.proofs.FileLaws.{coefficients_small, all_numbers, few_constants}
 use Rattle.lzk_circbytes.proofs.Written.{layers_bytes_state}
 
--- what a sort and a `dedup` leave
-pub constants_made : (ks sorted out : List ℕ) → ((n : ℕ) → Has ks n → 0 < n) → IsPermutation ks sorted → IsSorted nat_cmp sorted → IsFiltered (DiffersFromLast nat_eq) [] sorted out → out ≡ ascending ks
-constants_made ks sorted out some moved in_order kept =
+-- what a sort and a `dedup` leave of the same numbers
+pub constants_made : (ks met sorted out : List ℕ) → ((n : ℕ) → Has ks n → 0 < n) → HaveSame met ks → IsPermutation met sorted → IsSorted nat_cmp sorted → IsFiltered (DiffersFromLast nat_eq) [] sorted out → out ≡ ascending ks
+constants_made ks met sorted out some same moved in_order kept =
     let is : out ≡ dedup eqb sorted = dedup_is eqb sorted out kept in
     let rising : IsStrictlyIncreasing out = subst IsStrictlyIncreasing (sym is) (IsStrictlyIncreasing-dedup sorted in_order) in
     let to : (n : ℕ) → Has out n → Has ks n =
-    λ n h. Has-from_Contains ks n (Contains-permutation sorted ks n (IsPermutation-sym ks sorted moved) (Contains-from_dedup eqb sorted n (subst (λ (xs : List ℕ). Contains xs n) is (Contains-from_Has out n h)))) in
+    λ n h. sym (same n) ∙ Has-from_Contains met n (Contains-permutation sorted met n (IsPermutation-sym met sorted moved) (Contains-from_dedup eqb sorted n (subst (λ (xs : List ℕ). Contains xs n) is (Contains-from_Has out n h)))) in
     let from : (n : ℕ) → Has ks n → Has out n =
-    λ n h. Has-from_Contains out n (subst (λ (xs : List ℕ). Contains xs n) (sym is) (Contains-dedup_nat sorted n (Contains-permutation ks sorted n moved (Contains-from_Has ks n h)))) in
+    λ n h. Has-from_Contains out n (subst (λ (xs : List ℕ). Contains xs n) (sym is) (Contains-dedup_nat sorted n (Contains-permutation met sorted n moved (Contains-from_Has met n (same n ∙ h))))) in
     same_list 0 out (ascending ks) (Above-from_increasing 0 out (all_numbers out (λ n h. some n (to n h))) rising) (Above-ascending ks (all_numbers ks some))
     (λ n h. has-ascending ks n ∙ to n h) (λ n h. from n (sym (has-ascending ks n) ∙ h))
 
@@ -42,22 +43,34 @@ can_write : (cs : List ℕ) (wires below : ℕ) (before : Option (Term ℕ)) (ts
 can_write cs wires below before [] h = tt
 can_write cs wires below before (t ∷ ts) h = (record { rising = h.0.rising; a = h.0.a; number = h.0.number }, can_write cs wires below (Some t) ts h.1)
 
--- the parts of a file, one after the other
-pub assembled : (s : Shape) (w : Wiring ℕ) (cs o1 o2 o3 o4 o5 o6 o7 o8 : List ℕ) → o1 ≡ 76 ∷ 90 ∷ 67 ∷ 49 ∷ [] → o2 ≡ o1 ++ s.id ∷ [] → o3 ≡ o2 ++ to_le_bytes w32 w.publics → o4 ≡ o3 ++ to_le_bytes w32 w.privates
-    → o5 ≡ o4 ++ to_le_bytes w32 (length w.layers) → o6 ≡ o5 ++ to_le_bytes w32 (length cs) → o7 ≡ o6 ++ constants_bytes s cs → o8 ≡ o7 ++ layers_bytes cs 0 (reverse w.layers) → o8 ≡ file_bytes s w cs
-assembled s w cs o1 o2 o3 o4 o5 o6 o7 o8 e1 e2 e3 e4 e5 e6 e7 e8 =
+-- the parts before the layers, one after the other
+pub head_assembled : (s : Shape) (w : Wiring ℕ) (cs o o1 o2 o3 o4 o5 o6 o7 : List ℕ) → o1 ≡ o ++ 76 ∷ 90 ∷ 67 ∷ 49 ∷ [] → o2 ≡ o1 ++ s.id ∷ [] → o3 ≡ o2 ++ to_le_bytes w32 w.publics → o4 ≡ o3 ++ to_le_bytes w32 w.privates
+    → o5 ≡ o4 ++ to_le_bytes w32 (length w.layers) → o6 ≡ o5 ++ to_le_bytes w32 (length cs) → o7 ≡ o6 ++ constants_bytes s cs → o7 ≡ o ++ head_bytes s w cs
+head_assembled s w cs o o1 o2 o3 o4 o5 o6 o7 e1 e2 e3 e4 e5 e6 e7 =
     let a = to_le_bytes w32 w.publics in
     let b = to_le_bytes w32 w.privates in
     let c = to_le_bytes w32 (length w.layers) in
     let d = to_le_bytes w32 (length cs) in
     let k = constants_bytes s cs in
-    let l = layers_bytes cs 0 (reverse w.layers) in
-    let m : List ℕ = 76 ∷ 90 ∷ 67 ∷ 49 ∷ s.id ∷ [] in
-    let whole : o8 ≡ (((((m ++ a) ++ b) ++ c) ++ d) ++ k) ++ l =
-    e8 ∙ ap (λ (x : List ℕ). x ++ l) (e7 ∙ ap (λ (x : List ℕ). x ++ k) (e6 ∙ ap (λ (x : List ℕ). x ++ d) (e5 ∙ ap (λ (x : List ℕ). x ++ c) (e4 ∙ ap (λ (x : List ℕ). x ++ b) (e3 ∙ ap (λ (x : List ℕ). x ++ a) (e2 ∙ ap (λ (x : List ℕ). x ++ s.id ∷ []) e1)))))) in
-    whole ∙ regroup m a b c d k l ∙ ap (λ (x : List ℕ). m ++ (a ++ (b ++ (c ++ (d ++ (k ++ x)))))) (layers_bytes_state cs 0 (1 + w.publics + w.privates) (reverse w.layers))
+    let whole : o7 ≡ ((((((o ++ 76 ∷ 90 ∷ 67 ∷ 49 ∷ []) ++ s.id ∷ []) ++ a) ++ b) ++ c) ++ d) ++ k =
+    e7 ∙ ap (λ (x : List ℕ). x ++ k) (e6 ∙ ap (λ (x : List ℕ). x ++ d) (e5 ∙ ap (λ (x : List ℕ). x ++ c) (e4 ∙ ap (λ (x : List ℕ). x ++ b) (e3 ∙ ap (λ (x : List ℕ). x ++ a) (e2 ∙ ap (λ (x : List ℕ). x ++ s.id ∷ []) e1))))) in
+    whole ∙ regroup o (76 ∷ 90 ∷ 67 ∷ 49 ∷ []) (s.id ∷ []) a b c d k
   where
-    regroup : (m' a' b' c' d' k' l' : List ℕ) → (((((m' ++ a') ++ b') ++ c') ++ d') ++ k') ++ l' ≡ m' ++ (a' ++ (b' ++ (c' ++ (d' ++ (k' ++ l')))))
+    regroup : (o' m' i' a' b' c' d' k' : List ℕ) → ((((((o' ++ m') ++ i') ++ a') ++ b') ++ c') ++ d') ++ k' ≡ o' ++ (m' ++ (i' ++ (a' ++ (b' ++ (c' ++ (d' ++ k'))))))
+    regroup o' m' i' a' b' c' d' k' = simp append_assoc
+
+-- a file is what stands before the layers, and the layers
+pub file_parts : (s : Shape) (w : Wiring ℕ) (cs : List ℕ) → head_bytes s w cs ++ layers_bytes cs 0 (reverse w.layers) ≡ file_bytes s w cs
+file_parts s w cs =
+    let m : List ℕ = 76 ∷ 90 ∷ 67 ∷ 49 ∷ s.id ∷ [] in
+    let a = to_le_bytes w32 w.publics in
+    let b = to_le_bytes w32 w.privates in
+    let c = to_le_bytes w32 (length w.layers) in
+    let d = to_le_bytes w32 (length cs) in
+    let k = constants_bytes s cs in
+    regroup m a b c d k (layers_bytes cs 0 (reverse w.layers)) ∙ ap (λ (x : List ℕ). m ++ (a ++ (b ++ (c ++ (d ++ (k ++ x)))))) (layers_bytes_state cs 0 (1 + w.publics + w.privates) (reverse w.layers))
+  where
+    regroup : (m' a' b' c' d' k' l' : List ℕ) → (m' ++ (a' ++ (b' ++ (c' ++ (d' ++ k'))))) ++ l' ≡ m' ++ (a' ++ (b' ++ (c' ++ (d' ++ (k' ++ l')))))
     regroup m' a' b' c' d' k' l' = simp append_assoc
 
 module _ {A : Type 0} (o : Ops A) (size : ℕ) (number : A → ℕ) (element : ℕ → A) (bytes : ℕ) (laws : Laws o size number element bytes) (id : ℕ) where

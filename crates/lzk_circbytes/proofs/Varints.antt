@@ -1,5 +1,5 @@
 -- Numbers in their shortest form.
-use Rattle.std.proofs.Common.{◌≡◌, ℕ, zero, suc, ◌+◌, ◌-◌, ◌*◌, ◌/◌, ◌%◌, ◌^◌, ◌<◌, ◌≤◌, Bool, true, false, cond, ltb, eqb, List, [], ◌∷◌, ◌++◌, Ok, refl, ap, subst, arith, inl, inr, ◌⊎◌, lit≤, sub-one}
+use Rattle.std.proofs.Common.{◌≡◌, ℕ, zero, suc, ◌+◌, ◌-◌, ◌*◌, ◌/◌, ◌%◌, ◌^◌, ◌<◌, ◌≤◌, Bool, true, false, cond, ltb, eqb, List, [], ◌∷◌, ◌++◌, Ok, refl, ap, subst, ◌∙◌, arith, inl, inr, ◌⊎◌, lit≤, sub-one}
 use Rattle.std.proofs.lemmas.Bool.{ltb-true, ltb-false, le-ltb, lt-ltb, cases_lt, eqb-false, ne_eqb}
 use Rattle.std.proofs.Math.Nat.{pow-succ', pow-zero}
 use Rattle.lzk_circbytes.specs.declared.fault.ByteKind.TheVariants.{Varint, Range}
@@ -108,3 +108,17 @@ septets_small (suc k) n some h = septets_short k n h
 pub septets_big : (k n : ℕ) → 1 ≤ k → 128 ≤ n → septets k n ≡ (128 + n % 128) ∷ septets (k - 1) (n / 128)
 septets_big zero n some h = absurd (omega arith)
 septets_big (suc k) n some h = rw sub-one (septets_long k n h)
+
+pub varint_of_one : (n : ℕ) → n < 128 → varint n ≡ n ∷ []
+varint_of_one n h = septets_small 5 n (lit≤ tt) h
+
+pub varint_of_two : (n : ℕ) → 128 ≤ n → n < 16384 → varint n ≡ (128 + n % 128) ∷ (n / 128) ∷ []
+varint_of_two n big small =
+    septets_big 5 n (lit≤ tt) big ∙ ap (λ (xs : List ℕ). (128 + n % 128) ∷ xs) (septets_small 4 (n / 128) (lit≤ tt) (omega arith))
+
+pub varint_of_three : (n : ℕ) → 16384 ≤ n → n < 2097152 → varint n ≡ (128 + n % 128) ∷ (128 + n / 128 % 128) ∷ (n / 16384) ∷ []
+varint_of_three n big small =
+    let last : n / 128 / 128 ≡ n / 16384 = omega arith in
+    septets_big 5 n (lit≤ tt) (omega arith)
+    ∙ ap (λ (xs : List ℕ). (128 + n % 128) ∷ xs) (septets_big 4 (n / 128) (lit≤ tt) (omega arith)
+    ∙ ap (λ (xs : List ℕ). (128 + n / 128 % 128) ∷ xs) (septets_small 3 (n / 128 / 128) (lit≤ tt) (omega arith) ∙ ap (λ (k : ℕ). k ∷ []) last))

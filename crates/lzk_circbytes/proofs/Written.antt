@@ -1,6 +1,6 @@
 -- What is written, as a loop does it.
 use Rattle.std.proofs.Common.{◌≡◌, ◌⊎◌, inl, inr, map, reverse, drop-cons, get_or, Result, Ok, Err, ℕ, zero, suc, ◌+◌, ◌-◌, ◌<◌, ◌≤◌, List, [], ◌∷◌, ◌++◌, length, drop, Option, None, Some, ◌/◌, ◌%◌, ◌^◌, refl, sym, ap, subst, ◌∙◌, append_assoc, arith, slice_index}
-use Rattle.std.specs.Prelude.{OnOk, slice_get}
+use Rattle.std.specs.Prelude.{slice_get}
 use Rattle.std.specs.Ordering.{nat_cmp}
 use Rattle.std.specs.List.Sorted.{IsStrictlyIncreasing, IsBinarySearchResult}
 use Rattle.std.proofs.lemmas.List.{append-nil, length-map, drop_all}
@@ -16,7 +16,9 @@ use Rattle.lzk_circuit.specs.declared.layer.Term.{Term}
 use Rattle.lzk_circbytes.specs.Reading.{as_last, as_before, wire_before}
 use Rattle.lzk_circbytes.specs.Spelling.{spells, septets, constants_bytes, layer_bytes, layers_bytes, term_bytes, varint, index_of}
 use Rattle.lzk_circbytes.specs.Fits.{FitAlong, CanWrite, CanWriteAll, CanWriteLayers}
+use Rattle.lzk_circbytes.specs.Recent.{HaveSame}
 use Rattle.lzk_circbytes.proofs.Varints.{septets_big}
+use Rattle.lzk_circbytes.proofs.Recent.{same_go_on}
 use Rattle.lzk_circbytes.proofs.Marking.{same_or_not, before_is_less, differ}
 use Rattle.lzk_circbytes.proofs.Layers.{found_index}
 
@@ -54,10 +56,18 @@ terms_end cs g now start terms h = sym (append-nil now) ∙ h.written
 
 -- ---- varints and constants
 
-pub septets_on : {E : Type 0} (r : Result (Unit {0}) E) (now mid old : List ℕ) (k n : ℕ) → 1 ≤ k → 128 ≤ n → mid ≡ old ++ (128 + n % 128) ∷ [] → OnOk r (now ≡ mid ++ septets (k - 1) (n / 128)) → OnOk r (now ≡ old ++ septets k n)
-septets_on (Ok u) now mid old k n some big e h =
+pub septets_on : (now mid old : List ℕ) (k n : ℕ) → 1 ≤ k → 128 ≤ n → mid ≡ old ++ (128 + n % 128) ∷ [] → now ≡ mid ++ septets (k - 1) (n / 128) → now ≡ old ++ septets k n
+septets_on now mid old k n some big e h =
     h ∙ ap (λ (xs : List ℕ). xs ++ septets (k - 1) (n / 128)) e ∙ append_assoc old ((128 + n % 128) ∷ []) (septets (k - 1) (n / 128)) ∙ ap (λ (xs : List ℕ). old ++ xs) (sym (septets_big k n some big))
-septets_on (Err x) now mid old k n some big e h = tt
+
+-- bytes that were pushed in turn
+pub two_on : (old one two : List ℕ) (x y : ℕ) (whole : List ℕ) → one ≡ old ++ x ∷ [] → two ≡ one ++ y ∷ [] → whole ≡ x ∷ y ∷ [] → two ≡ old ++ whole
+two_on old one two x y whole e f is =
+    f ∙ ap (λ (xs : List ℕ). xs ++ y ∷ []) e ∙ append_assoc old (x ∷ []) (y ∷ []) ∙ ap (λ (xs : List ℕ). old ++ xs) (sym is)
+
+pub three_on : (old one two three : List ℕ) (x y z : ℕ) (whole : List ℕ) → one ≡ old ++ x ∷ [] → two ≡ one ++ y ∷ [] → three ≡ two ++ z ∷ [] → whole ≡ x ∷ y ∷ z ∷ [] → three ≡ old ++ whole
+three_on old one two three x y z whole e f g is =
+    g ∙ ap (λ (xs : List ℕ). xs ++ z ∷ []) (two_on old one two x y (x ∷ y ∷ []) e f refl) ∙ append_assoc old (x ∷ y ∷ []) (z ∷ []) ∙ ap (λ (xs : List ℕ). old ++ xs) (sym is)
 
 pub bytes_go_on : (now next start : List ℕ) (count i rest : ℕ) (all : List ℕ) → i < count → next ≡ now ++ (rest % 256) ∷ [] → now ++ bytes_of (count - i) rest ≡ start ++ all → next ++ bytes_of (count - (i + 1)) (rest / 256) ≡ start ++ all
 bytes_go_on now next start count i rest all lt e h =
@@ -175,12 +185,22 @@ at_reverse number layers i layer lt e =
 
 -- the coefficients of layers that are still to come
 pub coefficients_go_on : {A : Type 0} (number : A → ℕ) (now next : List ℕ) (i : ℕ) (layers : List (Layer A)) (layer : Layer A) (all : List ℕ) → i < length layers → slice_get layers i ≡ Some layer
-    → next ≡ now ++ map (λ t. t.coef) (map (numbered_term number) layer.terms) → now ++ coefficients (map (numbered_layer number) (drop i layers)) ≡ all → next ++ coefficients (map (numbered_layer number) (drop (i + 1) layers)) ≡ all
-coefficients_go_on number now next i layers layer all lt e1 e2 h =
+    → HaveSame next (now ++ map (λ t. t.coef) (map (numbered_term number) layer.terms)) → HaveSame (now ++ coefficients (map (numbered_layer number) (drop i layers))) all
+    → HaveSame (next ++ coefficients (map (numbered_layer number) (drop (i + 1) layers))) all
+coefficients_go_on number now next i layers layer all lt e1 step h =
     let view = numbered_layer number in
     let k : suc i ≡ i + 1 = omega arith in
     let parts : drop i layers ≡ layer ∷ drop (i + 1) layers =
     drop-cons layers i layer lt ∙ ap (λ (x : Layer _). x ∷ drop (suc i) layers) (get_or_from_slice_get layers i layer layer e1) ∙ ap (λ (j : ℕ). layer ∷ drop j layers) k in
-    ap (λ (xs : List ℕ). xs ++ coefficients (map view (drop (i + 1) layers))) e2
-    ∙ append_assoc now (map (λ t. t.coef) (map (numbered_term number) layer.terms)) (coefficients (map view (drop (i + 1) layers)))
-    ∙ ap (λ (ls : List (Layer _)). now ++ coefficients (map view ls)) (sym parts) ∙ h
+    same_go_on now next (map (λ t. t.coef) (map (numbered_term number) layer.terms)) (coefficients (map view (drop (i + 1) layers))) all step
+    (subst (λ (ls : List (Layer _)). HaveSame (now ++ coefficients (map view ls)) all) parts h)
+
+-- the coefficients of terms that are still to come
+pub term_goes_on : {A : Type 0} (number : A → ℕ) (now next : List ℕ) (i : ℕ) (terms : List (Term A)) (t : Term A) (all : List ℕ) → i < length terms → get_or terms i t ≡ t
+    → HaveSame next (now ++ number t.coef ∷ []) → HaveSame (now ++ map (λ u. u.coef) (map (numbered_term number) (drop i terms))) all
+    → HaveSame (next ++ map (λ u. u.coef) (map (numbered_term number) (drop (i + 1) terms))) all
+term_goes_on number now next i terms t all lt is step h =
+    let coefs : List (Term _) → List ℕ = λ ts. map (λ u. u.coef) (map (numbered_term number) ts) in
+    let k : suc i ≡ i + 1 = omega arith in
+    let parts : drop i terms ≡ t ∷ drop (i + 1) terms = drop-cons terms i t lt ∙ ap (λ (x : Term _). x ∷ drop (suc i) terms) is ∙ ap (λ (j : ℕ). t ∷ drop j terms) k in
+    same_go_on now next (number t.coef ∷ []) (coefs (drop (i + 1) terms)) all step (subst (λ (ts : List (Term _)). HaveSame (now ++ coefs ts) all) parts h)

@@ -1,12 +1,13 @@
 -- What the parts of a circuit's file are like, over what the parts before them left.
-use Rattle.std.specs.Prelude.{◌≡◌, ℕ, ◌+◌, ◌^◌, ◌<◌, ◌≤◌, List, [], ◌∷◌, length, Option, None, true, IsTrue, nat_eq}
+use Rattle.std.specs.Prelude.{◌≡◌, ℕ, ◌+◌, ◌^◌, ◌<◌, ◌≤◌, List, [], ◌∷◌, ◌++◌, length, Option, None, true, IsTrue, nat_eq}
+use Rattle.std.specs.Int.{w32, to_le_bytes}
 use Rattle.std.specs.List.{list_any}
 use Rattle.lzk_circuit.specs.declared.layer.Term.{Term}
 use Rattle.lzk_circuit.specs.declared.layer.Layer.{Layer}
-use Rattle.lzk_circuit.specs.Valid.{Under, above_inputs, above_layer}
+use Rattle.lzk_circuit.specs.Valid.{Under, above_inputs, above_layer, Wiring}
 use Rattle.lzk_circbytes.specs.Numbered.{Shape, is_coefficient}
 use Rattle.lzk_circbytes.specs.Reading.{stands_behind, wire_before, as_before, as_last}
-use Rattle.lzk_circbytes.specs.Spelling.{index_of}
+use Rattle.lzk_circbytes.specs.Spelling.{index_of, constants_bytes}
 
 -- each item fits what the items before it left
 abbrev pub FitAlong : {S A : Type 0} → (S → A → S) → (S → A → Type 0) → S → List A → Type 0
@@ -61,3 +62,8 @@ CanWriteAll coefs terms = FitAlong as_before (CanWrite coefs) None terms
 abbrev pub CanWriteLayers : List ℕ → List (Layer ℕ) → Type 0
 CanWriteLayers coefs [] = Unit {0}
 CanWriteLayers coefs (layer ∷ layers) = CanWriteAll coefs layer.terms × (length layer.terms < 2 ^ 32) × CanWriteLayers coefs layers
+
+-- all that stands before the layers
+abbrev pub head_bytes : Shape → Wiring ℕ → List ℕ → List ℕ
+head_bytes shape c cs =
+    76 ∷ 90 ∷ 67 ∷ 49 ∷ shape.id ∷ (to_le_bytes w32 c.publics ++ (to_le_bytes w32 c.privates ++ (to_le_bytes w32 (length c.layers) ++ (to_le_bytes w32 (length cs) ++ constants_bytes shape cs))))

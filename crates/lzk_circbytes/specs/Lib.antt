@@ -2,6 +2,7 @@ pub mod Numbered
 pub mod Reading
 pub mod Spelling
 pub mod Fits
+pub mod Recent
 pub mod Files
 pub mod Answers
 pub use Rattle.lzk_circuit.specs as lzk_circuit

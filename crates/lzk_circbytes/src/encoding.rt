@@ -1,38 +1,85 @@
 //! The file of a circuit, and its id.
 
-ghost use Rattle.std.specs.Prelude.{◌≡◌, ◌≤◌, ◌++◌, length, map, reverse, IfOk, OnOk};
+ghost use Rattle.std.specs.Prelude.{◌≡◌, ◌≤◌, ◌++◌, ◌∷◌, [], length, map, reverse, All, List, ℕ, IfOk, OnOk};
 ghost use Rattle.std.specs.List.Sorted.{IsStrictlyIncreasing};
+ghost use Rattle.sha2.specs.Sha256.{sha256};
+ghost use Rattle.sha2.specs.Hashers.{Holds256};
+ghost use Rattle.lzk_circuit.specs.Valid.{Wiring, IsValid};
 ghost use Rattle.lzk_circbytes.specs.Numbered.{shape, numbered, numbered_term, numbered_layer, constants_of};
 ghost use Rattle.lzk_circbytes.specs.Spelling.{layers_bytes, file_of};
-ghost use Rattle.lzk_circbytes.specs.Fits.{CanWriteLayers};
+ghost use Rattle.lzk_circbytes.specs.Fits.{CanWriteLayers, head_bytes};
+ghost use Rattle.lzk_circbytes.specs.Recent.{WasMet, HaveSame};
 ghost use Rattle.lzk_circbytes.specs.Files.{IsFile, circuit_id};
 
+use crate::slots::{SLOTS, free_slots, places, slot_of};
 use crate::writing::{push_constants, push_layer, push_word};
 use lzk_circuit::{Circuit, Term};
 use lzk_field::Field;
 use sha2::{Digest, Sha256};
 use std::alloc::{AllocError, Global};
 
-fn push_coefficients<F: Field>(numbers: &mut Vec<u128>, terms: &[Term<F>]) -> Result<(), AllocError>
-    ensures { OnOk result (numbers.new.items ≡ numbers.old.items ++ map (λ t. t.coef) (map (numbered_term F.number_of) terms.now)) }
+/// Puts a number to the others, unless the table says that it is there.
+fn push_number(numbers: &mut Vec<u128>, met: &mut [u128; SLOTS], n: u128) -> Result<(), AllocError>
+    requires { All (WasMet numbers.old.items) met.old }
+    ensures same { OnOk result (HaveSame numbers.new.items (numbers.old.items ++ n ∷ [])) }
+    ensures met { OnOk result (All (WasMet numbers.new.items) met.new) }
+{
+    let slot = slot_of(n);
+    if n != 0 && met[slot] == n {
+        return Ok(());
+    }
+    met[slot] = n;
+    numbers.push(n)?;
+    Ok(())
+}
+
+fn push_coefficients<F: Field>(
+    numbers: &mut Vec<u128>,
+    met: &mut [u128; SLOTS],
+    terms: &[Term<F>],
+) -> Result<(), AllocError>
+    requires { All (WasMet numbers.old.items) met.old }
+    ensures same { OnOk result (HaveSame numbers.new.items (numbers.old.items ++ map (λ t. t.coef) (map (numbered_term F.number_of) terms.now))) }
+    ensures met { OnOk result (All (WasMet numbers.new.items) met.new) }
 {
     for t in terms {
-        numbers.push(t.coef.number())?;
+        push_number(numbers, met, t.coef.number())?;
     }
     Ok(())
 }
 
 /// The numbers of the circuit's coefficients, each once, ascending.
 fn constants_of<F: Field>(alloc: Global, circuit: &Circuit<F>) -> Result<Vec<u128>, AllocError>
-    ensures { IfOk result (λ numbers. numbers.items ≡ constants_of (numbered F.number_of circuit.now)) }
+    ensures numbers { IfOk result (λ numbers. numbers.items ≡ constants_of (numbered F.number_of circuit.now)) }
+    ensures valid { IsValid F.ops circuit.now }
 {
     let mut numbers = Vec::new(alloc);
+    let mut met = free_slots();
     for l in 0..circuit.depth() {
-        push_coefficients(&mut numbers, circuit.layer(l).terms.as_slice())?;
+        push_coefficients(&mut numbers, &mut met, circuit.layer(l).terms.as_slice())?;
     }
     numbers.sort_unstable();
     numbers.dedup();
     Ok(numbers)
+}
+
+/// All that stands before the layers.
+fn push_head<F: Field>(
+    out: &mut Vec<u8>,
+    constants: &[u128],
+    circuit: &Circuit<F>,
+) -> Result<(), AllocError>
+    requires { length constants.now ≤ 2097152 }
+    ensures { OnOk result (out.new.items ≡ out.old.items ++ head_bytes (shape F.ID F.BYTES F.size) (numbered F.number_of circuit.now) constants.now) }
+{
+    out.extend_from_slice(b"LZC1")?;
+    out.push(F::ID)?;
+    push_word(out, circuit.publics())?;
+    push_word(out, circuit.privates())?;
+    push_word(out, circuit.depth())?;
+    push_word(out, constants.len() as u32)?;
+    push_constants::<F>(out, constants)?;
+    Ok(())
 }
 
 /// The layers, from the inputs up.
@@ -46,9 +93,10 @@ fn push_layers<F: Field>(
     requires fit { CanWriteLayers constants.now (map (numbered_layer F.number_of) circuit.now.layers) }
     ensures { OnOk result (out.new.items ≡ out.old.items ++ layers_bytes constants.now 0 (reverse (map (numbered_layer F.number_of) circuit.now.layers))) }
 {
+    let mut recent = places(constants);
     let depth = circuit.depth();
     for i in 0..depth {
-        push_layer(out, constants, circuit.layer(depth - 1 - i))?;
+        push_layer(out, constants, &mut recent, circuit.layer(depth - 1 - i))?;
     }
     Ok(())
 }
@@ -60,21 +108,56 @@ pub fn encode<F: Field>(alloc: Global, circuit: &Circuit<F>) -> Result<Vec<u8>, 
 {
     let constants = constants_of(alloc, circuit)?;
     let mut out = Vec::new(alloc);
-    out.extend_from_slice(b"LZC1")?;
-    out.push(F::ID)?;
-    push_word(&mut out, circuit.publics())?;
-    push_word(&mut out, circuit.privates())?;
-    push_word(&mut out, circuit.depth())?;
-    push_word(&mut out, constants.len() as u32)?;
-    push_constants::<F>(&mut out, &constants)?;
+    push_head(&mut out, &constants, circuit)?;
     push_layers(&mut out, &constants, circuit)?;
     Ok(out)
+}
+
+/// Adds the layers, from the inputs up, to the message. Each is written over the one before it.
+fn absorb_layers<F: Field>(
+    hasher: &mut Sha256,
+    room: Vec<u8>,
+    constants: &[u128],
+    circuit: &Circuit<F>,
+) -> Result<(), AllocError>
+    requires rising { IsStrictlyIncreasing constants.now }
+    requires few { length constants.now ≤ 2097152 }
+    requires fit { CanWriteLayers constants.now (map (numbered_layer F.number_of) circuit.now.layers) }
+    ensures { (m : List ℕ) → Holds256 hasher.old m → OnOk result (Holds256 hasher.new (m ++ layers_bytes constants.now 0 (reverse (map (numbered_layer F.number_of) circuit.now.layers)))) }
+{
+    let mut piece = room;
+    let mut recent = places(constants);
+    let depth = circuit.depth();
+    for i in 0..depth {
+        piece.clear();
+        push_layer(
+            &mut piece,
+            constants,
+            &mut recent,
+            circuit.layer(depth - 1 - i),
+        )?;
+        hasher.update(piece.as_slice());
+    }
+    Ok(())
 }
 
 /// SHA-256 of the circuit's file.
 pub fn id<F: Field>(alloc: Global, circuit: &Circuit<F>) -> Result<[u8; 32], AllocError>
     ensures { IfOk result (λ digest. digest ≡ circuit_id (shape F.ID F.BYTES F.size) (numbered F.number_of circuit.now)) }
 {
-    let bytes = encode(alloc, circuit)?;
-    Ok(Sha256::digest(bytes.as_slice()))
+    let constants = constants_of(alloc, circuit)?;
+    let mut piece = Vec::new(alloc);
+    push_head(&mut piece, &constants, circuit)?;
+    let mut hasher = Sha256::new();
+    hasher.update(piece.as_slice());
+    absorb_layers(&mut hasher, piece, &constants, circuit)?;
+    Ok(hasher.finalize())
+}
+
+/// SHA-256 of a file: the id of the circuit whose file it is, with no writing of the file.
+pub fn id_of_file<F: Field>(bytes: &[u8]) -> [u8; 32]
+    ensures hash { result ≡ sha256 bytes.now }
+    ensures id { (circuit : Wiring F) → IsFile F.ops F.number_of (shape F.ID F.BYTES F.size) circuit bytes.now → result ≡ circuit_id (shape F.ID F.BYTES F.size) (numbered F.number_of circuit) }
+{
+    Sha256::digest(bytes)
 }

@@ -18,9 +18,10 @@ mod decoding;
 mod encoding;
 mod fault;
 mod reading;
+mod slots;
 mod writing;
 
 pub use any::AnyCircuit;
 pub use decoding::decode;
-pub use encoding::{encode, id};
+pub use encoding::{encode, id, id_of_file};
 pub use fault::{ByteFault, ByteKind, DecodeError};

@@ -1,6 +1,6 @@
 //! Writing a circuit's parts from left to right.
 
-ghost use Rattle.std.specs.Prelude.{◌≡◌, ◌≤◌, ◌<◌, ◌^◌, ◌++◌, length, map, OnOk, IfOk};
+ghost use Rattle.std.specs.Prelude.{◌≡◌, ◌≤◌, ◌<◌, ◌^◌, ◌+◌, ◌-◌, ◌++◌, length, map, vec_len, vec_capacity, All, OnOk, IfOk};
 ghost use Rattle.std.specs.Int.{w32, to_le_bytes};
 ghost use Rattle.std.specs.List.Sorted.{IsStrictlyIncreasing};
 ghost use Rattle.lzk_field.specs.Bytes.{bytes_of};
@@ -9,7 +9,9 @@ ghost use Rattle.lzk_circbytes.specs.Reading.{as_before};
 ghost use Rattle.lzk_circbytes.specs.Spelling.{spells, septets, varint, index_of, term_bytes, layer_bytes, constants_bytes};
 ghost use Rattle.lzk_circbytes.specs.Fits.{CanWriteAll};
 ghost use Rattle.lzk_circbytes.specs.Answers.{under};
+ghost use Rattle.lzk_circbytes.specs.Recent.{StandsThere};
 
+use crate::slots::{Place, SLOTS, place_of};
 use lzk_circuit::{Layer, Term};
 use lzk_field::Field;
 use std::alloc::AllocError;
@@ -21,25 +23,47 @@ pub fn push_word(out: &mut Vec<u8>, n: u32) -> Result<(), AllocError>
     out.extend_from_slice(&n.to_le_bytes())
 }
 
+/// The bytes of a term, at most: four numbers of five bytes each.
+const MOST_OF_TERM: usize = 20;
+
 #[tactic(auto, using(crate::proofs::Varints::septets_small, crate::proofs::Varints::septets_big))]
-fn push_septets(out: &mut Vec<u8>, k: u32, n: u32) -> Result<(), AllocError>
+fn put_septets(out: &mut Vec<u8>, k: u32, n: u32)
     requires some { 1 ≤ k }
     requires most { k ≤ 5 }
-    requires room { n < 128 ^ k }
-    ensures { OnOk result (out.new.items ≡ out.old.items ++ septets k n) }
+    requires small { n < 128 ^ k }
+    requires room { vec_len out.old + k ≤ vec_capacity out.old }
+    ensures items { out.new.items ≡ out.old.items ++ septets k n }
+    ensures len { vec_len out.new ≤ vec_len out.old + k }
+    ensures capacity { vec_capacity out.new ≡ vec_capacity out.old }
 {
     if n < 128 {
-        out.push(n as u8)?;
-        return Ok(());
+        out.push_reserved(n as u8);
+        return;
     }
-    out.push((128 + n % 128) as u8)?;
-    push_septets(out, k - 1, n / 128)
+    out.push_reserved((128 + n % 128) as u8);
+    put_septets(out, k - 1, n / 128);
 }
 
-fn push_varint(out: &mut Vec<u8>, n: u32) -> Result<(), AllocError>
-    ensures { OnOk result (out.new.items ≡ out.old.items ++ varint n) }
+// A wire's number has at most three bytes, which are written with no call for each.
+#[tactic(auto, using(crate::proofs::Varints::varint_of_one, crate::proofs::Varints::varint_of_two, crate::proofs::Varints::varint_of_three))]
+fn put_varint(out: &mut Vec<u8>, n: u32)
+    requires room { vec_len out.old + 5 ≤ vec_capacity out.old }
+    ensures items { out.new.items ≡ out.old.items ++ varint n }
+    ensures len { vec_len out.new ≤ vec_len out.old + 5 }
+    ensures capacity { vec_capacity out.new ≡ vec_capacity out.old }
 {
-    push_septets(out, 5, n)
+    if n < 128 {
+        out.push_reserved(n as u8);
+    } else if n < 16_384 {
+        out.push_reserved((128 + n % 128) as u8);
+        out.push_reserved((n / 128) as u8);
+    } else if n < 2_097_152 {
+        out.push_reserved((128 + n % 128) as u8);
+        out.push_reserved((128 + n / 128 % 128) as u8);
+        out.push_reserved((n / 16_384) as u8);
+    } else {
+        put_septets(out, 5, n);
+    }
 }
 
 /// A number's lowest bytes, the lowest first.
@@ -64,35 +88,48 @@ pub fn push_constants<F: Field>(out: &mut Vec<u8>, constants: &[u128]) -> Result
     Ok(())
 }
 
-/// Where a number stands among the constants.
-fn place_of(constants: &[u128], n: u128) -> u32
+/// Writes a term behind one of wire `before`.
+fn push_term<F: Field>(
+    out: &mut Vec<u8>,
+    constants: &[u128],
+    recent: &mut [Place; SLOTS],
+    before: u32,
+    term: Term<F>,
+) -> Result<(), AllocError>
     requires rising { IsStrictlyIncreasing constants.now }
     requires few { length constants.now ≤ 2097152 }
-    requires found { index_of constants.now n < length constants.now }
-    ensures { result ≡ index_of constants.now n }
+    requires found { index_of constants.now (F.number_of term.coef) < length constants.now }
+    requires g { before ≤ term.g }
+    requires a { term.a ≤ term.b }
+    requires recent { All (StandsThere constants.now) recent.old }
+    ensures items { OnOk result (out.new.items ≡ (((out.old.items ++ varint (term.g - before)) ++ varint term.a) ++ varint (term.b - term.a)) ++ varint (index_of constants.now (F.number_of term.coef))) }
+    ensures recent { OnOk result (All (StandsThere constants.now) recent.new) }
 {
-    match constants.binary_search(&n) {
-        Ok(k) => k as u32,
-        Err(_) => unreachable!(),
-    }
+    let at = place_of(constants, recent, term.coef.number());
+    out.reserve(MOST_OF_TERM)?;
+    put_varint(out, term.g - before);
+    put_varint(out, term.a);
+    put_varint(out, term.b - term.a);
+    put_varint(out, at);
+    Ok(())
 }
 
 fn push_terms<F: Field>(
     out: &mut Vec<u8>,
     constants: &[u128],
+    recent: &mut [Place; SLOTS],
     terms: &[Term<F>],
 ) -> Result<(), AllocError>
     requires rising { IsStrictlyIncreasing constants.now }
     requires few { length constants.now ≤ 2097152 }
     requires fit { CanWriteAll constants.now (map (numbered_term F.number_of) terms.now) }
-    ensures { OnOk result (out.new.items ≡ out.old.items ++ spells as_before (term_bytes constants.now) None (map (numbered_term F.number_of) terms.now)) }
+    requires recent { All (StandsThere constants.now) recent.old }
+    ensures items { OnOk result (out.new.items ≡ out.old.items ++ spells as_before (term_bytes constants.now) None (map (numbered_term F.number_of) terms.now)) }
+    ensures recent { OnOk result (All (StandsThere constants.now) recent.new) }
 {
     let mut before = 0;
     for t in terms {
-        push_varint(out, t.g - before)?;
-        push_varint(out, t.a)?;
-        push_varint(out, t.b - t.a)?;
-        push_varint(out, place_of(constants, t.coef.number()))?;
+        push_term(out, constants, recent, before, *t)?;
         before = t.g;
     }
     Ok(())
@@ -103,16 +140,19 @@ fn push_terms<F: Field>(
 pub fn push_layer<F: Field>(
     out: &mut Vec<u8>,
     constants: &[u128],
+    recent: &mut [Place; SLOTS],
     layer: &Layer<F>,
 ) -> Result<(), AllocError>
     requires rising { IsStrictlyIncreasing constants.now }
     requires few { length constants.now ≤ 2097152 }
     requires fit { CanWriteAll constants.now (map (numbered_term F.number_of) layer.now.terms) }
     requires terms { length layer.now.terms < 2 ^ 32 }
-    ensures { OnOk result (out.new.items ≡ out.old.items ++ layer_bytes constants.now (under 0 0 0) (numbered_layer F.number_of layer.now)) }
+    requires recent { All (StandsThere constants.now) recent.old }
+    ensures items { OnOk result (out.new.items ≡ out.old.items ++ layer_bytes constants.now (under 0 0 0) (numbered_layer F.number_of layer.now)) }
+    ensures recent { OnOk result (All (StandsThere constants.now) recent.new) }
 {
     let terms = layer.terms.as_slice();
     push_word(out, layer.wires)?;
     push_word(out, terms.len() as u32)?;
-    push_terms(out, constants, terms)
+    push_terms(out, constants, recent, terms)
 }
