@@ -2,6 +2,7 @@
 use Rattle.std.proofs.Common.{◌≡◌, ℕ, ◌-◌, ◌^◌, ◌≤◌, Bool, true, false, cond, ltb, eqb, ◌&&◌, List, [], ◌∷◌, length, Result, Ok, Err, refl, sym, ap, subst, ◌∙◌, arith}
 use Rattle.std.proofs.lemmas.Bool.{le-ltb, eqb-true, and_parts}
 use Rattle.lzk_circuit.specs.Valid.{Wiring}
+use Rattle.sha2.specs.Sha256.{sha256}
 use Rattle.lzk_goldilocks.specs.Prime.{p}
 use Rattle.lzk_goldilocks.specs.Elements as gold
 use Rattle.lzk_gf128.specs.Elements as gf
@@ -12,7 +13,7 @@ use Rattle.lzk_circbytes.specs.declared.fault.ByteKind.TheVariants.{Magic, Field
 use Rattle.lzk_circbytes.specs.Numbered.{Shape, shape, numbered}
 use Rattle.lzk_circbytes.specs.Reading.{Stop, ◌>>=◌, stops, wiring_at}
 use Rattle.lzk_circbytes.specs.Spelling.{tail_bytes}
-use Rattle.lzk_circbytes.specs.Files.{IsFile, goldilocks, gf128, CircuitBytes, begins_with, field_at, circuit_at, CircuitFaultAt, OneCircuit, OneFile, NoFault}
+use Rattle.lzk_circbytes.specs.Files.{IsFile, goldilocks, gf128, CircuitBytes, id_of_any, begins_with, field_at, circuit_at, CircuitFaultAt, OneCircuit, OneFile, NoFault}
 use Rattle.lzk_circbytes.specs.Answers.{numbers_of, IsValidCircuit}
 use Rattle.lzk_circbytes.proofs.Steps.{IsBytes, IsBytes-rest, from, not_refused, passed}
 use Rattle.lzk_circbytes.proofs.Bounds.{fault_within}
@@ -47,6 +48,12 @@ same_circuit (Gf c) (Gf d) e = ap Gf (same_numbers gf.ops (2 ^ 128) (λ x. x.n) 
 
 pub one_circuit : OneCircuit
 one_circuit bytes c d f g = same_circuit c d (same_done (numbers_of c) (numbers_of d) (sym (circuit_read c bytes f) ∙ circuit_read d bytes g))
+
+-- SHA-256 of a circuit's file is its id
+pub file_gives_id : (c : AnyCircuit) (bytes : List ℕ) → CircuitBytes c bytes → sha256 bytes ≡ id_of_any c
+file_gives_id (Gold c) bytes f = ap sha256 (file_is gold.ops p (λ x. x.n) gold.of_number 8 gold.laws 1 c bytes f)
+file_gives_id (Gf c) bytes f = ap sha256 (file_is gf.ops (2 ^ 128) (λ x. x.n) gf.of_number 16 gf.laws 2 c bytes f)
+
 
 pub one_file : OneFile
 one_file (Gold c) xs ys f g =

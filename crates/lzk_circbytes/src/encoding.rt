@@ -4,12 +4,13 @@ ghost use Rattle.std.specs.Prelude.{◌≡◌, ◌≤◌, ◌++◌, ◌∷◌, [
 ghost use Rattle.std.specs.List.Sorted.{IsStrictlyIncreasing};
 ghost use Rattle.sha2.specs.Sha256.{sha256};
 ghost use Rattle.sha2.specs.Hashers.{Holds256};
-ghost use Rattle.lzk_circuit.specs.Valid.{Wiring, IsValid};
+ghost use Rattle.lzk_circuit.specs.Valid.{IsValid};
 ghost use Rattle.lzk_circbytes.specs.Numbered.{shape, numbered, numbered_term, numbered_layer, constants_of};
 ghost use Rattle.lzk_circbytes.specs.Spelling.{layers_bytes, file_of};
 ghost use Rattle.lzk_circbytes.specs.Fits.{CanWriteLayers, head_bytes};
 ghost use Rattle.lzk_circbytes.specs.Recent.{WasMet, HaveSame};
-ghost use Rattle.lzk_circbytes.specs.Files.{IsFile, circuit_id};
+ghost use Rattle.lzk_circbytes.specs.Files.{IsFile, CircuitBytes, circuit_id, id_of_any};
+ghost use Rattle.lzk_circbytes.specs.declared.any.AnyCircuit.{AnyCircuit};
 
 use crate::slots::{SLOTS, free_slots, places, slot_of};
 use crate::writing::{push_constants, push_layer, push_word};
@@ -155,9 +156,9 @@ pub fn id<F: Field>(alloc: Global, circuit: &Circuit<F>) -> Result<[u8; 32], All
 }
 
 /// SHA-256 of a file: the id of the circuit whose file it is, with no writing of the file.
-pub fn id_of_file<F: Field>(bytes: &[u8]) -> [u8; 32]
+pub fn id_of_file(bytes: &[u8]) -> [u8; 32]
     ensures hash { result ≡ sha256 bytes.now }
-    ensures id { (circuit : Wiring F) → IsFile F.ops F.number_of (shape F.ID F.BYTES F.size) circuit bytes.now → result ≡ circuit_id (shape F.ID F.BYTES F.size) (numbered F.number_of circuit) }
+    ensures id { (circuit : AnyCircuit) → CircuitBytes circuit bytes.now → result ≡ id_of_any circuit }
 {
     Sha256::digest(bytes)
 }
