@@ -11,5 +11,6 @@ pub mod PrivateLaws
 pub mod ResidualLaws
 pub mod RoundForms
 pub mod ShapeLaws
+pub mod TableLaws
 pub mod TermWalks
 pub mod WholeLaws

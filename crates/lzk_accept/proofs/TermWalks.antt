@@ -28,34 +28,43 @@ module _ {A : Type 0} (o : Ops A) (r : RingLaws o) where
   open o use {plus, times}
 
   -- the wire before gets its weight
-  pub weighted : (total weight inner other : A) → plus (plus total (times weight inner)) (times other o.zero) ≡ plus total (times weight inner)
-  weighted total weight inner other = solve o r (total ∷ weight ∷ inner ∷ other ∷ []) ((var 0 ⊞ var 1 ⊠ var 2) ⊞ var 3 ⊠ null) (var 0 ⊞ var 1 ⊠ var 2) refl
+  pub weighted : (sum other z : A) → plus sum (times other (plus o.zero (times z o.zero))) ≡ sum
+  weighted sum other z = solve o r (sum ∷ other ∷ z ∷ []) (var 0 ⊞ var 1 ⊠ (null ⊞ var 2 ⊠ null)) (var 0) refl
 
   -- a term of the same wire
-  pub term_added : (total weight inner coef pair : A) → plus total (times weight (plus inner (times coef pair))) ≡ plus (plus total (times weight inner)) (times coef (times weight pair))
-  term_added total weight inner coef pair =
-      solve o r (total ∷ weight ∷ inner ∷ coef ∷ pair ∷ []) (var 0 ⊞ var 1 ⊠ (var 2 ⊞ var 3 ⊠ var 4)) ((var 0 ⊞ var 1 ⊠ var 2) ⊞ var 3 ⊠ (var 1 ⊠ var 4)) refl
+  pub term_added : (total weight inner z linear x coef y : A)
+      → plus total (times weight (plus (plus inner (times x (times coef y))) (times z linear))) ≡ plus (plus total (times weight (plus inner (times z linear)))) (times coef (times weight (times x y)))
+  term_added total weight inner z linear x coef y =
+      let T = var 0 in let W = var 1 in let I = var 2 in let Z = var 3 in let L = var 4 in let X = var 5 in let C = var 6 in let Y = var 7 in
+      solve o r (total ∷ weight ∷ inner ∷ z ∷ linear ∷ x ∷ coef ∷ y ∷ []) (T ⊞ W ⊠ ((I ⊞ X ⊠ (C ⊠ Y)) ⊞ Z ⊠ L)) ((T ⊞ W ⊠ (I ⊞ Z ⊠ L)) ⊞ C ⊠ (W ⊠ (X ⊠ Y))) refl
+
+  -- one whose first wire is wire 0
+  pub linear_added : (total weight inner z linear coef y : A)
+      → plus total (times weight (plus inner (times z (plus linear (times coef y))))) ≡ plus (plus total (times weight (plus inner (times z linear)))) (times coef (times weight (times z y)))
+  linear_added total weight inner z linear coef y =
+      let T = var 0 in let W = var 1 in let I = var 2 in let Z = var 3 in let L = var 4 in let C = var 5 in let Y = var 6 in
+      solve o r (total ∷ weight ∷ inner ∷ z ∷ linear ∷ coef ∷ y ∷ []) (T ⊞ W ⊠ (I ⊞ Z ⊠ (L ⊞ C ⊠ Y))) ((T ⊞ W ⊠ (I ⊞ Z ⊠ L)) ⊞ C ⊠ (W ⊠ (Z ⊠ Y))) refl
 
   module _ (weights first second : List A) where
     abbrev pub count : Term A → A
     count = counted o weights first second
 
-    pub walk_starts : (ts : List (Term A)) (walk : Walk A) → walk.total ≡ o.zero → walk.inner ≡ o.zero → plus (counted_so_far o weights walk) (sum_list o ts count) ≡ sum_list o ts count
-    walk_starts ts walk et ei =
+    pub walk_starts : (ts : List (Term A)) (z : A) (walk : Walk A) → walk.total ≡ o.zero → walk.linear ≡ o.zero → walk.inner ≡ o.zero → plus (counted_so_far o weights z walk) (sum_list o ts count) ≡ sum_list o ts count
+    walk_starts ts z walk et el ei =
         let w = entry o weights walk.wire in
         let s = sum_list o ts count in
-        ap (λ x. plus (plus x (times w walk.inner)) s) et ∙ ap (λ x. plus (plus o.zero (times w x)) s) ei ∙ solve o r (w ∷ s ∷ []) ((null ⊞ var 0 ⊠ null) ⊞ var 1) (var 1) refl
+        ap (λ x. plus (plus x (times w (plus walk.inner (times z walk.linear)))) s) et ∙ ap (λ x. plus (plus o.zero (times w (plus x (times z walk.linear)))) s) ei ∙ ap (λ x. plus (plus o.zero (times w (plus o.zero (times z x)))) s) el
+        ∙ solve o r (w ∷ s ∷ z ∷ []) ((null ⊞ var 0 ⊠ (null ⊞ var 2 ⊠ null)) ⊞ var 1) (var 1) refl
 
-    pub walk_more : (ts : List (Term A)) (old new : Walk A) (i : ℕ) (t : Term A) (all : A) → i < length ts → t ≡ get_or ts i t
-        → counted_so_far o weights new ≡ plus (counted_so_far o weights old) (count t)
-        → plus (counted_so_far o weights old) (sum_list o (drop i ts) count) ≡ all → plus (counted_so_far o weights new) (sum_list o (drop (i + 1) ts) count) ≡ all
-    walk_more ts old new i t all li is e h =
+    pub walk_more : (ts : List (Term A)) (old new all : A) (i : ℕ) (t : Term A) → i < length ts → t ≡ get_or ts i t
+        → new ≡ plus old (count t) → plus old (sum_list o (drop i ts) count) ≡ all → plus new (sum_list o (drop (i + 1) ts) count) ≡ all
+    walk_more ts old new all i t li is e h =
         let front : drop i ts ≡ t ∷ drop (i + 1) ts = drop_more ts i t li ∙ ap (λ x. x ∷ drop (i + 1) ts) (sym is) in
-        ap (λ x. plus x (sum_list o (drop (i + 1) ts) count)) e ∙ r.plus_assoc (counted_so_far o weights old) (count t) (sum_list o (drop (i + 1) ts) count)
-        ∙ sym (ap (λ xs. plus (counted_so_far o weights old) (sum_list o xs count)) front) ∙ h
+        ap (λ x. plus x (sum_list o (drop (i + 1) ts) count)) e ∙ r.plus_assoc old (count t) (sum_list o (drop (i + 1) ts) count)
+        ∙ sym (ap (λ xs. plus old (sum_list o xs count)) front) ∙ h
 
-    pub walk_ends : (ts : List (Term A)) (walk : Walk A) (i : ℕ) (all : A) → length ts ≤ i → plus (counted_so_far o weights walk) (sum_list o (drop i ts) count) ≡ all → counted_so_far o weights walk ≡ all
-    walk_ends ts walk i all li h = sym (r.plus_zero (counted_so_far o weights walk)) ∙ sym (ap (λ xs. plus (counted_so_far o weights walk) (sum_list o xs count)) (drop_all i ts li)) ∙ h
+    pub walk_ends : (ts : List (Term A)) (sum all : A) (i : ℕ) → length ts ≤ i → plus sum (sum_list o (drop i ts) count) ≡ all → sum ≡ all
+    walk_ends ts sum all i li h = sym (r.plus_zero sum) ∙ sym (ap (λ xs. plus sum (sum_list o xs count)) (drop_all i ts li)) ∙ h
 
 module _ {A : Type 0} (o : Ops A) (r : RingLaws o) where
   open o use {plus, times}

@@ -22,6 +22,6 @@ challenge_of o layer n = cond (n % 2 == 0) (entry o layer.ra (n / 2)) (entry o l
 abbrev pub counted : {A : Type 0} → Ops A → List A → List A → List A → Term A → A
 counted o weights first second t = o.times t.coef (o.times (entry o weights t.g) (o.times (entry o first t.a) (entry o second t.b)))
 
--- what a walk over terms has summed: the total, and what waits for its wire's weight
-abbrev pub counted_so_far : {A : Type 0} → Ops A → List A → Walk A → A
-counted_so_far o weights walk = o.plus walk.total (o.times (entry o weights walk.wire) walk.inner)
+-- what a walk over terms has summed: the total, and what waits for its wire's weight. The entry of wire 0 is z
+abbrev pub counted_so_far : {A : Type 0} → Ops A → List A → A → Walk A → A
+counted_so_far o weights z walk = o.plus walk.total (o.times (entry o weights walk.wire) (o.plus walk.inner (o.times z walk.linear)))

@@ -265,8 +265,9 @@ fn fill_layers<F: Field>(
 {
     let depth = circuit.depth();
     let points = ThreePoints::new();
-    set_table(script.out_point.as_slice(), first);
-    set_table(script.out_point.as_slice(), second);
+    let outputs = circuit.width(0) as usize;
+    set_table(script.out_point.as_slice(), outputs, first);
+    set_table(script.out_point.as_slice(), outputs, second);
     let mut places = LayerPlaces::first(circuit);
     let mut above = Factors {
         first: F::zero(),

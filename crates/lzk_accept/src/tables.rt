@@ -1,7 +1,7 @@
 //! Tables of how the wires of a layer agree with its two points.
 
-ghost use Rattle.std.specs.Prelude.{◌≡◌, ℕ, ◌+◌, ◌^◌, ◌<◌, ◌≤◌, length};
-ghost use Rattle.lzk_field.specs.Sums.{entry};
+ghost use Rattle.std.specs.Prelude.{◌≡◌, ℕ, ◌+◌, ◌*◌, ◌^◌, ◌<◌, ◌≤◌, length};
+ghost use Rattle.lzk_field.specs.Sums.{entry, minus};
 ghost use Rattle.lzk_mle.specs.Multilinear.{eq};
 ghost use Rattle.lzk_circuit.specs.Bits.{bits};
 ghost use Rattle.lzk_layout.specs.Places.{depth, width_at};
@@ -10,23 +10,42 @@ ghost use Rattle.lzk_sumcheck.specs.Coefficients.{coefficients};
 ghost use Rattle.lzk_accept.specs.Residuals.{bound_at};
 
 use crate::claims::layer_of;
-use crate::forms::power_of;
 use crate::terms::sum_terms;
 use lzk_circuit::Circuit;
 use lzk_field::Field;
-use lzk_mle::eq_table;
 use lzk_sumcheck::Script;
 
-/// Sets the first entries of a table to how their numbers agree with a point.
-pub(crate) fn set_table<F: Field>(r: &[F], table: &mut [F])
-    requires few { length r.now ≤ 17 }
+// Splits each of the first `size` entries in two: times 1 - x at twice its place, and times x behind that. It goes from the last one
+// down, so that each is read before it is written over.
+fn split_entries<F: Field>(table: &mut [F], size: usize, x: F)
+    requires { 2 * size ≤ length table.old }
+    ensures length { length table.new ≡ length table.old }
+    ensures zeros { let o = F.ops in (i : ℕ) → i < size → entry o table.new (2 * i) ≡ o.times (minus o o.one x) (entry o table.old i) }
+    ensures ones { let o = F.ops in (i : ℕ) → i < size → entry o table.new (2 * i + 1) ≡ o.times x (entry o table.old i) }
+{
+    for i in (0..size).rev() {
+        let whole = table[i];
+        let one = x.mul(whole);
+        table[2 * i + 1] = one;
+        table[2 * i] = whole.sub(one);
+    }
+}
+
+/// Sets the first `width` entries of a table to how their numbers agree with a point. Each takes about one product, however far
+/// the width is from a power of two.
+pub(crate) fn set_table<F: Field>(r: &[F], width: usize, table: &mut [F])
+    requires width { width ≤ 2 ^ length r.now }
     requires room { 2 ^ length r.now ≤ length table.old }
     ensures length { length table.new ≡ length table.old }
-    ensures entries { let o = F.ops in (i : ℕ) → i < 2 ^ length r.now → entry o table.new i ≡ eq o i r.now }
+    ensures entries { let o = F.ops in (i : ℕ) → i < width → entry o table.new i ≡ eq o i r.now }
 {
-    let size = power_of(r.len() as u32);
-    let (entries, _) = table.split_at_mut(size);
-    eq_table(r, entries);
+    let Some((&x, rest)) = r.split_first() else {
+        table[0] = F::one();
+        return;
+    };
+    let half = width.div_ceil(2);
+    set_table(rest, half, table);
+    split_entries(table, half, x);
 }
 
 // Sets the weight of each wire of a layer.
@@ -75,7 +94,8 @@ pub(crate) fn layer_bound<F: Field>(
         second,
         weights,
     );
-    set_table(layer.ra.as_slice(), first);
-    set_table(layer.rb.as_slice(), second);
+    let below = circuit.width(l + 1) as usize;
+    set_table(layer.ra.as_slice(), below, first);
+    set_table(layer.rb.as_slice(), below, second);
     sum_terms(circuit.layer(l).terms.as_slice(), weights, first, second)
 }

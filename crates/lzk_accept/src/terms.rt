@@ -1,6 +1,7 @@
 //! A layer's coefficients, summed over its terms by tables.
 
-ghost use Rattle.std.specs.Prelude.{◌≡◌, ℕ, ◌<◌, Some, length, slice_get};
+ghost use Rattle.std.specs.Prelude.{◌≡◌, ℕ, ◌<◌, List, Some, length, slice_get};
+ghost use Rattle.lzk_field.specs.Sums.{entry};
 ghost use Rattle.lzk_circuit.specs.Sums.{sum_list};
 ghost use Rattle.lzk_circuit.specs.declared.layer.Term as declared;
 ghost use Rattle.lzk_accept.specs.Walks.{counted, counted_so_far};
@@ -8,68 +9,94 @@ ghost use Rattle.lzk_accept.specs.Walks.{counted, counted_so_far};
 use lzk_circuit::Term;
 use lzk_field::Field;
 
-// A sum over terms, of which those of the last wire are not weighted yet.
+// A sum over terms, of which those of the last wire are not weighted yet. The terms whose first wire is wire 0 are summed without
+// its entry.
 #[derive(Clone, Copy)]
 struct Walk<F> {
     total: F,
     wire: u32,
+    linear: F,
     inner: F,
 }
 
-// Goes on to a term's wire: what was summed for the wire before gets its weight.
-fn at_wire<F: Field>(walk: Walk<F>, wire: u32, weights: &[F]) -> Walk<F>
+// A product with a coefficient, which is often one.
+fn scaled<F: Field>(coef: F, x: F) -> F
+    ensures { result ≡ F.ops.times coef x }
+{
+    if coef == F::one() { x } else { coef.mul(x) }
+}
+
+// What the walk has summed, with the last wire's terms.
+fn summed<F: Field>(walk: Walk<F>, weights: &[F], base: F) -> F
+    requires wire { walk.wire < length weights.now }
+    ensures { result ≡ counted_so_far F.ops weights.now base walk }
+{
+    let weight = weights[walk.wire as usize];
+    let inner = walk.inner.add(base.mul(walk.linear));
+    walk.total.add(weight.mul(inner))
+}
+
+// Goes on to a term's wire: what was summed for the wire before gets its weight. `base` is the entry of wire 0 below.
+fn at_wire<F: Field>(walk: Walk<F>, wire: u32, weights: &[F], base: F) -> Walk<F>
     requires old { walk.wire < length weights.now }
     ensures wire { result.wire ≡ wire }
-    ensures sum { counted_so_far F.ops weights.now result ≡ counted_so_far F.ops weights.now walk }
+    ensures sum { counted_so_far F.ops weights.now base result ≡ counted_so_far F.ops weights.now base walk }
 {
     if walk.wire == wire {
         return walk;
     }
-    let weight = weights[walk.wire as usize];
     Walk {
-        total: walk.total.add(weight.mul(walk.inner)),
+        total: summed(walk, weights, base),
         wire,
+        linear: F::zero(),
         inner: F::zero(),
     }
 }
 
-// With one more term.
-fn with_term<F: Field>(
-    walk: Walk<F>,
-    term: Term<F>,
-    weights: &[F],
-    first: &[F],
-    second: &[F],
-) -> Walk<F>
-    requires old { walk.wire < length weights.now }
+// With one more term of the walk's wire.
+fn with_term<F: Field>(walk: Walk<F>, term: Term<F>, first: &[F], second: &[F]) -> Walk<F>
     requires a { term.a < length first.now }
     requires b { term.b < length second.now }
+    requires wire { walk.wire ≡ term.g }
     ensures wire { result.wire ≡ term.g }
-    ensures sum { let o = F.ops in counted_so_far o weights.now result ≡ o.plus (counted_so_far o weights.now walk) (counted o weights.now first.now second.now term) }
+    ensures sum { let o = F.ops in (weights : List F) → counted_so_far o weights (entry o first.now 0) result ≡ o.plus (counted_so_far o weights (entry o first.now 0) walk) (counted o weights first.now second.now term) }
 {
-    let pair = first[term.a as usize].mul(second[term.b as usize]);
-    let there = at_wire(walk, term.g, weights);
+    let part = scaled(term.coef, second[term.b as usize]);
+    if term.a == 0 {
+        return Walk {
+            total: walk.total,
+            wire: walk.wire,
+            linear: walk.linear.add(part),
+            inner: walk.inner,
+        };
+    }
     Walk {
-        total: there.total,
-        wire: there.wire,
-        inner: there.inner.add(term.coef.mul(pair)),
+        total: walk.total,
+        wire: walk.wire,
+        linear: walk.linear,
+        inner: walk.inner.add(first[term.a as usize].mul(part)),
     }
 }
 
 /// The sum over the terms of each coefficient times its wires' entries of the three tables. As terms ascend by their wires, this
-/// takes two products a term, and one a wire.
+/// takes at most two products a term, and two a wire.
 pub(crate) fn sum_terms<F: Field>(terms: &[Term<F>], weights: &[F], first: &[F], second: &[F]) -> F
     requires some { 0 < length weights.now }
+    requires below { 0 < length first.now }
     requires placed { (i : ℕ) (t : declared.Term F) → slice_get terms.now i ≡ Some t → (t.g < length weights.now) × (t.a < length first.now) × (t.b < length second.now) }
     ensures { result ≡ sum_list F.ops terms.now (counted F.ops weights.now first.now second.now) }
 {
+    let base = first[0];
     let mut walk = Walk {
         total: F::zero(),
         wire: 0,
+        linear: F::zero(),
         inner: F::zero(),
     };
     for i in 0..terms.len() {
-        walk = with_term(walk, terms[i], weights, first, second);
+        let term = terms[i];
+        let there = at_wire(walk, term.g, weights, base);
+        walk = with_term(there, term, first, second);
     }
-    walk.total.add(weights[walk.wire as usize].mul(walk.inner))
+    summed(walk, weights, base)
 }

@@ -1,7 +1,7 @@
 -- Answers that are made from a table of the rows' values.
 use Rattle.std.specs.Prelude.{◌≡◌, ℕ, ◌+◌, ◌-◌, ◌*◌, ◌<◌, ◌≤◌, List, [], ◌∷◌, ◌++◌, length, map, replicate}
 use Rattle.std.specs.List.{range_with_len}
-use Rattle.std.proofs.Common.{refl, sym, ap, ◌∙◌, arith}
+use Rattle.std.proofs.Common.{suc, refl, sym, ap, ◌∙◌, arith}
 use Rattle.std.proofs.lemmas.List.{ext_get_or, length-append, length-replicate, get_or-replicate, get_or_append_left, get_or-append-add}
 use Rattle.std.proofs.lemmas.List.FromFn.{length-map-range_with_len, get_or-map-range_with_len}
 use native.Mathlib.Decide.{dec_lt}
@@ -202,3 +202,16 @@ group_added {A} o r factors part table first start size width k old before after
     ap (λ w. o.times w (cell o width table (first + start + i) k)) (each i h) ∙ ap (λ (j : ℕ). o.times (entry o factors (start + i)) (cell o width table j k)) e))
     ∙ r.plus_assoc old (sum_below o start f) (sum_below o size (λ i. f (start + i)))
     ∙ ap (o.plus old) (sym (sum-split o r start size f))
+
+-- a sum over two more numbers
+pub pair_added : {A : Type 0} (o : Ops A) (r : RingLaws o) (f : ℕ → A) (old before after x y : A) (pair next : ℕ) → next ≡ pair + 1
+    → before ≡ o.plus old (sum_below o (2 * pair) f) → after ≡ o.plus (o.plus before x) y → x ≡ f (2 * pair) → y ≡ f (2 * pair + 1)
+    → after ≡ o.plus old (sum_below o (2 * next) f)
+pair_added o r f old before after x y pair next en eb ea ex ey =
+    let sum = sum_below o (2 * pair) f in
+    let first = f (2 * pair) in
+    let last : 2 * pair + 1 ≡ suc (2 * pair) = omega arith in
+    let count : suc (suc (2 * pair)) ≡ 2 * next = omega arith in
+    ea ∙ ap (λ w. o.plus (o.plus w x) y) eb ∙ ap (λ w. o.plus (o.plus (o.plus old sum) w) y) ex ∙ ap (o.plus (o.plus (o.plus old sum) first)) (ey ∙ ap f last)
+    ∙ ap (λ w. o.plus w (f (suc (2 * pair)))) (r.plus_assoc old sum first) ∙ r.plus_assoc old (o.plus sum first) (f (suc (2 * pair)))
+    ∙ ap (λ (n : ℕ). o.plus old (sum_below o n f)) count

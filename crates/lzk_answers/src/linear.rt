@@ -9,7 +9,7 @@ ghost use Rattle.lzk_answers.specs.Answers.{linear_answer};
 ghost use Rattle.lzk_answers.specs.Coefficients.{AreCoefficients, AreFactored, AreListed};
 ghost use Rattle.lzk_answers.specs.Rows.{IsTableOf};
 
-use crate::rows::{add_list, add_rows, clear, multiply_list, row_of, set_list};
+use crate::rows::{add_list, add_products, clear, multiply_list, row_of, set_list};
 use lzk_field::Field;
 use lzk_layout::Params;
 use lzk_poly::RowExtend;
@@ -17,8 +17,8 @@ use lzk_poly::RowExtend;
 // How many values of a row stand before its elements.
 const HEAD: usize = 128;
 
-// How many products a coefficient is the sum of, where rows are given by factors.
-const FACTORS: usize = 4;
+// How many products a coefficient is the sum of, where rows are given by factors: so many pairs.
+const PAIRS: usize = 2;
 
 // Zeros, and then these coefficients.
 fn fill_row<F: Field>(coefficients: &[F], row: &mut [F])
@@ -83,7 +83,7 @@ fn add_extended<F: Field, X: RowExtend<F>>(
 }
 
 // Adds the products of rows that are given by factors: for each factor, the sum of the rows' multiples, times the values of
-// the row of place factors.
+// the row of place factors. Two factors at a time have these values in the room, before the extender's.
 fn add_factored<F: Field, X: RowExtend<F>>(
     params: &Params,
     table: &[F],
@@ -92,7 +92,6 @@ fn add_factored<F: Field, X: RowExtend<F>>(
     row_factors: &[F],
     place_factors: &[F],
     extender: &X,
-    sums: &mut [F],
     room: &mut [F],
     answer: &mut [F],
 )
@@ -103,22 +102,34 @@ fn add_factored<F: Field, X: RowExtend<F>>(
     requires row_factors { length row_factors.now ≡ 4 * rows }
     requires place_factors { length place_factors.now ≡ 4 * params.now.wr }
     requires reach { X.reach extender.now ≡ record { count = params.now.block; upto = params.now.dblock } }
-    requires sums { length sums.old ≡ params.now.dblock }
-    requires room { X.rooms extender.now + params.now.dblock ≤ length room.old }
+    requires room { X.rooms extender.now + 2 * params.now.dblock ≤ length room.old }
     requires answer { length answer.old ≡ params.now.dblock }
-    ensures sums { length sums.new ≡ length sums.old }
     ensures room { length room.new ≡ length room.old }
     ensures answer { length answer.new ≡ length answer.old }
     ensures values { let o = F.ops in (lists : ℕ → List F) → AreFactored o params.now rows 4 row_factors.now place_factors.now lists → (k : ℕ) → k < params.now.dblock →
         entry o answer.new k ≡ o.plus (entry o answer.old k) (sum_below o rows (λ i. o.times (extension o F.element (lists (3 + i)) k) (entry o table.now ((3 + i) * width + k)))) }
 {
     let wr = params.wr as usize;
-    for f in 0..FACTORS {
-        clear(sums);
-        let multiples = row_of(row_factors, rows, f, rows);
-        add_rows(table, width, 3, multiples, room, sums);
-        let coefficients = row_of(place_factors, wr, f, wr);
-        add_extended(params, coefficients, sums, extender, room, answer);
+    let (left, rest) = room.split_at_mut(params.dblock as usize);
+    let (right, rest) = rest.split_at_mut(params.dblock as usize);
+    for pair in 0..PAIRS {
+        let f = 2 * pair;
+        let left_places = row_of(place_factors, wr, f, wr);
+        let right_places = row_of(place_factors, wr, f + 1, wr);
+        extend_coefficients(params, left_places, extender, left, rest);
+        extend_coefficients(params, right_places, extender, right, rest);
+        let left_factors = row_of(row_factors, rows, f, rows);
+        let right_factors = row_of(row_factors, rows, f + 1, rows);
+        add_products(
+            table,
+            width,
+            3,
+            left_factors,
+            right_factors,
+            left,
+            right,
+            answer,
+        );
     }
 }
 
@@ -231,9 +242,7 @@ pub fn linear_by_factors_into<F: Field, X: RowExtend<F>>(
         AreListed F.ops params.now rows coefficients.now lists →
         answer.new ≡ values_of F.ops F.element params.now.dblock (linear_answer F.ops F.element params.now all lists) }
 {
-    let size = params.dblock as usize;
-    set_list(answer, row_of(table, width, 1, size));
-    let (sums, rest) = room.split_at_mut(size);
+    set_list(answer, row_of(table, width, 1, params.dblock as usize));
     add_factored(
         params,
         table,
@@ -242,8 +251,7 @@ pub fn linear_by_factors_into<F: Field, X: RowExtend<F>>(
         row_factors,
         place_factors,
         extender,
-        sums,
-        rest,
+        room,
         answer,
     );
     add_listed(
@@ -253,7 +261,7 @@ pub fn linear_by_factors_into<F: Field, X: RowExtend<F>>(
         rows,
         coefficients,
         extender,
-        rest,
+        room,
         answer,
     );
 }

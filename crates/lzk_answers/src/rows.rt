@@ -8,6 +8,9 @@ use lzk_field::Field;
 // How many rows are added up at a time.
 const GROUP: usize = 32;
 
+// How many rows a table has, at most.
+const MOST_ROWS: usize = 265;
+
 // The first values of row `i` of a table, as many as `size` says.
 pub(crate) fn row_of<F: Field>(table: &[F], width: usize, i: usize, size: usize) -> &[F]
     requires inside { (i + 1) * width ≤ length table.now }
@@ -126,5 +129,41 @@ pub(crate) fn add_rows<F: Field>(
         let room = &mut column[..size];
         add_group(table, width, first + start, group, room, out);
         start += size;
+    }
+}
+
+// Adds, at each point, two sums of multiples of rows' values, from row `first` on, each times what is given there. A column is
+// gathered once for both.
+pub(crate) fn add_products<F: Field>(
+    table: &[F],
+    width: usize,
+    first: usize,
+    left_factors: &[F],
+    right_factors: &[F],
+    left: &[F],
+    right: &[F],
+    out: &mut [F],
+)
+    requires inside { (first + length left_factors.now) * width ≤ length table.now }
+    requires few { first + length left_factors.now ≤ 265 }
+    requires factors { length right_factors.now ≡ length left_factors.now }
+    requires long { 265 ≤ length out.old }
+    requires short { length out.old ≤ width }
+    requires left { length left.now ≡ length out.old }
+    requires right { length right.now ≡ length out.old }
+    ensures length { length out.new ≡ length out.old }
+    ensures sums { let o = F.ops in (k : ℕ) → k < length out.old → entry o out.new k ≡ o.plus (o.plus (entry o out.old k)
+        (o.times (entry o left.now k) (sum_below o (length left_factors.now) (λ i. o.times (entry o left_factors.now i) (entry o table.now ((first + i) * width + k))))))
+        (o.times (entry o right.now k) (sum_below o (length left_factors.now) (λ i. o.times (entry o right_factors.now i) (entry o table.now ((first + i) * width + k))))) }
+{
+    let mut room = [F::zero(); MOST_ROWS];
+    let (column, _) = room.split_at_mut(left_factors.len());
+    for k in 0..out.len() {
+        gather(table, width, first, k, column);
+        let left_sum = F::dot(left_factors, column);
+        let right_sum = F::dot(right_factors, column);
+        out[k] = out[k]
+            .add(left[k].mul(left_sum))
+            .add(right[k].mul(right_sum));
     }
 }

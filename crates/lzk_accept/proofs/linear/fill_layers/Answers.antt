@@ -10,27 +10,24 @@ use Rattle.lzk_sumcheck.specs.Script.{point_a, point_b}
 use Rattle.lzk_accept.specs.Kept.{form_at, above_a, above_b, IsPlacedAt, IsConstraint}
 use Rattle.lzk_accept.proofs.KeptLaws.{placed_set, end_before}
 use Rattle.lzk_accept.proofs.LinearLaws.{constraints_more}
-use Rattle.lzk_accept.proofs.ShapeLaws.{few_bits}
 use Rattle.lzk_accept.proofs.linear.fill_layers.Goals as goal
 
-pub set_table-requires-clause-few : goal.set_table-requires-clause-few
-set_table-requires-clause-few g c κs within =
+pub set_table-requires-clause-width : goal.set_table-requires-clause-width
+set_table-requires-clause-width g c κs within =
     let w = c.args.circuit.now in
     let e : length c.as_slice.result.now ≡ output_bits w = ap length c.as_slice.ensures ∙ c.requires.shape.out_point in
-    omega (arith, e, few_bits g.F.Field.ops w 0 c.depth-depth.ensures.valid)
+    omega (arith, ap (λ n. 2 ^ n) e, c.width-outputs.ensures, bits_enough (width_at w 0))
 
-pub set_table-requires-2-clause-few : goal.set_table-requires-2-clause-few
-set_table-requires-2-clause-few g c κs within =
+pub set_table-requires-2-clause-width : goal.set_table-requires-2-clause-width
+set_table-requires-2-clause-width g c κs within =
     let w = c.args.circuit.now in
     let e : length c.as_slice-2.result.now ≡ output_bits w = ap length c.as_slice-2.ensures ∙ c.requires.shape.out_point in
-    omega (arith, e, few_bits g.F.Field.ops w 0 c.depth-depth.ensures.valid)
+    omega (arith, ap (λ n. 2 ^ n) e, c.width-outputs.ensures, bits_enough (width_at w 0))
 
 pub loop-l-init : goal.loop-l-init
 loop-l-init g c =
     let o = g.F.Field.ops in
     let w = c.args.circuit.now in
-    let ea : length c.as_slice.result.now ≡ output_bits w = ap length c.as_slice.ensures ∙ c.requires.shape.out_point in
-    let eb : length c.as_slice-2.result.now ≡ output_bits w = ap length c.as_slice-2.ensures ∙ c.requires.shape.out_point in
     record {
       forms_length = refl;
       own_length = refl;
@@ -41,8 +38,8 @@ loop-l-init g c =
       within = λ h. c.first-places.ensures.within;
       above_a = c.zero.ensures;
       above_b = c.zero-2.ensures;
-      first = λ k h. c.set_table.ensures.entries k (omega (arith, h, ap (λ n. 2 ^ n) ea, bits_enough (width_at w 0))) ∙ ap (eq o k) c.as_slice.ensures;
-      second = λ k h. c.set_table-2.ensures.entries k (omega (arith, h, ap (λ n. 2 ^ n) eb, bits_enough (width_at w 0))) ∙ ap (eq o k) c.as_slice-2.ensures;
+      first = λ k h. c.set_table.ensures.entries k (omega (arith, h, c.width-outputs.ensures)) ∙ ap (eq o k) c.as_slice.ensures;
+      second = λ k h. c.set_table-2.ensures.entries k (omega (arith, h, c.width-outputs.ensures)) ∙ ap (eq o k) c.as_slice-2.ensures;
       placed = c.requires.placed;
       constraints = λ public i h. absurd (omega (arith, h));
     }

@@ -7,7 +7,7 @@ use Rattle.lzk_circuit.proofs.BitLaws.{bits_enough}
 use Rattle.lzk_layout.specs.Places.{width_at, bits_under}
 use Rattle.lzk_sumcheck.specs.Script.{point_a, point_b}
 use Rattle.lzk_accept.specs.Walks.{counted}
-use Rattle.lzk_accept.proofs.ShapeLaws.{layer_shape, few_bits}
+use Rattle.lzk_accept.proofs.ShapeLaws.{layer_shape}
 use Rattle.lzk_accept.proofs.TermWalks.{bound_by_tables, layer_distinct, distinct_within, some_layer}
 use Rattle.lzk_accept.proofs.tables.layer_bound.Goals as goal
 
@@ -23,12 +23,12 @@ pub set_weights-requires-clause-room : goal.set_weights-requires-clause-room
 set_weights-requires-clause-room g c κs within =
     omega (arith, c.width.ensures, bits_enough (width_at c.args.circuit.now c.args.l), c.requires.room c.args.l (omega (arith, c.requires.layer)))
 
-pub set_table-requires-clause-few : goal.set_table-requires-clause-few
-set_table-requires-clause-few g c κs within =
+pub set_table-requires-clause-width : goal.set_table-requires-clause-width
+set_table-requires-clause-width g c κs within =
     let o = g.F.Field.ops in
     let w = c.args.circuit.now in
     let e : length c.as_slice.result.now ≡ bits_under w c.args.l = ap length (c.as_slice.ensures ∙ ap (λ x. x.ra) c.layer_of-layer.ensures.layer) ∙ (layer_shape o w c.args.script.now c.requires.shape c.args.l c.requires.layer).ra in
-    omega (arith, e, few_bits o w (c.args.l + 1) c.depth-depth.ensures.valid)
+    omega (arith, ap (λ n. 2 ^ n) e, c.width-below.ensures, bits_enough (width_at w (c.args.l + 1)))
 
 pub set_table-requires-clause-room : goal.set_table-requires-clause-room
 set_table-requires-clause-room g c κs within =
@@ -37,12 +37,12 @@ set_table-requires-clause-room g c κs within =
     let e : length c.as_slice.result.now ≡ bits_under w c.args.l = ap length (c.as_slice.ensures ∙ ap (λ x. x.ra) c.layer_of-layer.ensures.layer) ∙ (layer_shape o w c.args.script.now c.requires.shape c.args.l c.requires.layer).ra in
     omega (arith, ap (λ n. 2 ^ n) e, c.requires.room (c.args.l + 1) (omega (arith, c.requires.layer)), c.requires.first_room)
 
-pub set_table-requires-2-clause-few : goal.set_table-requires-2-clause-few
-set_table-requires-2-clause-few g c κs within =
+pub set_table-requires-2-clause-width : goal.set_table-requires-2-clause-width
+set_table-requires-2-clause-width g c κs within =
     let o = g.F.Field.ops in
     let w = c.args.circuit.now in
     let e : length c.as_slice-2.result.now ≡ bits_under w c.args.l = ap length (c.as_slice-2.ensures ∙ ap (λ x. x.rb) c.layer_of-layer.ensures.layer) ∙ (layer_shape o w c.args.script.now c.requires.shape c.args.l c.requires.layer).rb in
-    omega (arith, e, few_bits o w (c.args.l + 1) c.depth-depth.ensures.valid)
+    omega (arith, ap (λ n. 2 ^ n) e, c.width-below.ensures, bits_enough (width_at w (c.args.l + 1)))
 
 pub set_table-requires-2-clause-room : goal.set_table-requires-2-clause-room
 set_table-requires-2-clause-room g c κs within =
@@ -55,6 +55,11 @@ pub sum_terms-requires-clause-some : goal.sum_terms-requires-clause-some
 sum_terms-requires-clause-some g c κs within =
     let w = c.args.circuit.now in
     omega (arith, c.set_weights.ensures.length, some_layer g.F.Field.ops w c.args.l c.layer.result.now c.depth-depth.ensures.valid c.layer.ensures, bits_enough (width_at w c.args.l), c.requires.room c.args.l (omega (arith, c.requires.layer)))
+
+pub sum_terms-requires-clause-below : goal.sum_terms-requires-clause-below
+sum_terms-requires-clause-below g c κs within =
+    let w = c.args.circuit.now in
+    omega (arith, c.set_table.ensures.length, c.requires.first_room, some_layer g.F.Field.ops w c.args.l c.layer.result.now c.depth-depth.ensures.valid c.layer.ensures, bits_enough (width_at w c.args.l), c.requires.room c.args.l (omega (arith, c.requires.layer)))
 
 pub sum_terms-requires-clause-placed : goal.sum_terms-requires-clause-placed
 sum_terms-requires-clause-placed g c κs within = λ i t is.
@@ -76,8 +81,7 @@ returns-clause-first g c k h =
     let s = c.args.script.now in
     let l = c.args.l in
     let is = c.as_slice.ensures ∙ ap (λ x. x.ra) c.layer_of-layer.ensures.layer in
-    let e : length c.as_slice.result.now ≡ bits_under w l = ap length is ∙ (layer_shape o w s c.requires.shape l c.requires.layer).ra in
-    c.set_table.ensures.entries k (omega (arith, ap (λ n. 2 ^ n) e, bits_enough (width_at w (l + 1)))) ∙ ap (eq o k) is ∙ (let next : suc l ≡ l + 1 = omega arith in ap (λ n. eq o k (point_a o s n)) next)
+    c.set_table.ensures.entries k (omega (arith, h, c.width-below.ensures)) ∙ ap (eq o k) is ∙ (let next : suc l ≡ l + 1 = omega arith in ap (λ n. eq o k (point_a o s n)) next)
 
 pub returns-clause-second : goal.returns-clause-second
 returns-clause-second g c k h =
@@ -86,8 +90,7 @@ returns-clause-second g c k h =
     let s = c.args.script.now in
     let l = c.args.l in
     let is = c.as_slice-2.ensures ∙ ap (λ x. x.rb) c.layer_of-layer.ensures.layer in
-    let e : length c.as_slice-2.result.now ≡ bits_under w l = ap length is ∙ (layer_shape o w s c.requires.shape l c.requires.layer).rb in
-    c.set_table-2.ensures.entries k (omega (arith, ap (λ n. 2 ^ n) e, bits_enough (width_at w (l + 1)))) ∙ ap (eq o k) is ∙ (let next : suc l ≡ l + 1 = omega arith in ap (λ n. eq o k (point_b o s n)) next)
+    c.set_table-2.ensures.entries k (omega (arith, h, c.width-below.ensures)) ∙ ap (eq o k) is ∙ (let next : suc l ≡ l + 1 = omega arith in ap (λ n. eq o k (point_b o s n)) next)
 
 pub returns-clause-value : goal.returns-clause-value
 returns-clause-value g c =
@@ -101,13 +104,11 @@ returns-clause-value g c =
     let second = c.set_table-2.new.table in
     let ia = c.as_slice.ensures ∙ ap (λ x. x.ra) c.layer_of-layer.ensures.layer in
     let ib = c.as_slice-2.ensures ∙ ap (λ x. x.rb) c.layer_of-layer.ensures.layer in
-    let na : length c.as_slice.result.now ≡ bits_under w l = ap length ia ∙ (layer_shape o w s c.requires.shape l c.requires.layer).ra in
-    let nb : length c.as_slice-2.result.now ≡ bits_under w l = ap length ib ∙ (layer_shape o w s c.requires.shape l c.requires.layer).rb in
     c.sum_terms.ensures ∙ ap (λ ts. sum_list o ts (counted o weights first second)) c.as_slice-3.ensures
     ∙ bound_by_tables o g.F.Field.laws.ring w s l layer weights first second c.depth-depth.ensures.valid c.layer.ensures
     (λ k h. c.set_weights.ensures.entries k (omega (arith, h, c.width.ensures))
     ∙ ap (λ x. o.plus x (o.times c.layer_of-layer.result.now.alpha (entry o c.args.second.now k))) (c.requires.first k h)
     ∙ ap (λ x. o.plus (eq o k (point_a o s l)) (o.times c.layer_of-layer.result.now.alpha x)) (c.requires.second k h)
     ∙ ap (λ x. o.plus (eq o k (point_a o s l)) (o.times x.alpha (eq o k (point_b o s l)))) c.layer_of-layer.ensures.layer)
-    (λ k h. c.set_table.ensures.entries k (omega (arith, h, ap (λ n. 2 ^ n) na, bits_enough (width_at w (l + 1)))) ∙ ap (eq o k) ia)
-    (λ k h. c.set_table-2.ensures.entries k (omega (arith, h, ap (λ n. 2 ^ n) nb, bits_enough (width_at w (l + 1)))) ∙ ap (eq o k) ib)
+    (λ k h. c.set_table.ensures.entries k (omega (arith, h, c.width-below.ensures)) ∙ ap (eq o k) ia)
+    (λ k h. c.set_table-2.ensures.entries k (omega (arith, h, c.width-below.ensures)) ∙ ap (eq o k) ib)

@@ -1,17 +1,21 @@
-use Rattle.std.proofs.Common.{◌<◌, length, sym, ap, ◌∙◌, subst}
+use Rattle.std.proofs.Common.{◌≡◌, ◌<◌, length, sym, ap, ◌∙◌, subst, arith}
 use Rattle.std.specs.Prelude.{Some}
 use Rattle.std.proofs.lemmas.Option.{slice_get-get_or}
+use Rattle.std.proofs.lemmas.List.{get_or_default}
+use Rattle.lzk_field.specs.Sums.{entry}
 use Rattle.lzk_circuit.specs.Sums.{sum_list}
-use Rattle.lzk_accept.specs.Walks.{counted}
-use Rattle.lzk_accept.proofs.TermWalks.{walk_starts, walk_more}
+use Rattle.lzk_accept.specs.Walks.{counted, counted_so_far}
+use Rattle.lzk_accept.proofs.TermWalks.{walk_starts, walk_more, walk_ends}
 use Rattle.lzk_accept.proofs.terms.sum_terms.Goals as goal
 
 pub loop-i-init : goal.loop-i-init
 loop-i-init g c =
     let o = g.F.Field.ops in
+    let first = c.args.first.now in
     record {
       wire = c.requires.some;
-      sum = walk_starts o g.F.Field.laws.ring c.args.weights.now c.args.first.now c.args.second.now c.args.terms.now (record { total = c.zero.result; wire = 0; inner = c.zero-2.result }) c.zero.ensures c.zero-2.ensures;
+      sum = walk_starts o g.F.Field.laws.ring c.args.weights.now first c.args.second.now c.args.terms.now (entry o first 0)
+          (record { total = c.zero.result; wire = 0; linear = c.zero-2.result; inner = c.zero-3.result }) c.zero.ensures c.zero-2.ensures c.zero-3.ensures;
     }
 
 pub with_term-walk-requires-clause-a : goal.with_term-walk-requires-clause-a
@@ -29,10 +33,27 @@ loop-i-preserved g c =
     let o = g.F.Field.ops in
     let t = c.index-terms-i.result in
     let ts = c.args.terms.now in
+    let weights = c.args.weights.now in
+    let first = c.args.first.now in
+    let second = c.args.second.now in
+    let z = entry o first 0 in
+    let base : c.index-first-0.result ≡ z = c.index-first-0.is ∙ get_or_default first 0 c.index-first-0.result o.zero c.requires.below in
+    let walk = c.loop-i.walk in
     let placed = c.requires.placed c.loop-i.i t (slice_get-get_or ts c.loop-i.i t c.loop-i-test.true ∙ ap Some (sym c.index-terms-i.is)) in
-    let e = c.with_term-walk.ensures.wire in
+    let there = subst (λ b. counted_so_far o weights b c.at_wire-there.result ≡ counted_so_far o weights b walk) base c.at_wire-there.ensures.sum in
     record {
-      wire = subst (λ n. n < length c.args.weights.now) (sym e) placed.0;
-      sum = walk_more o g.F.Field.laws.ring c.args.weights.now c.args.first.now c.args.second.now ts c.loop-i.walk c.with_term-walk.result c.loop-i.i t
-          (sum_list o ts (counted o c.args.weights.now c.args.first.now c.args.second.now)) c.loop-i-test.true c.index-terms-i.is c.with_term-walk.ensures.sum c.loop-i.invariant.sum;
+      wire = subst (λ n. n < length weights) (sym c.with_term-walk.ensures.wire) placed.0;
+      sum = walk_more o g.F.Field.laws.ring weights first second ts (counted_so_far o weights z walk) (counted_so_far o weights z c.with_term-walk.result)
+          (sum_list o ts (counted o weights first second)) c.loop-i.i t c.loop-i-test.true c.index-terms-i.is
+          (c.with_term-walk.ensures.sum weights ∙ ap (λ x. o.plus x (counted o weights first second t)) there) c.loop-i.invariant.sum;
     }
+
+pub returns : goal.returns
+returns g c =
+    let o = g.F.Field.ops in
+    let ts = c.args.terms.now in
+    let weights = c.args.weights.now in
+    let first = c.args.first.now in
+    let base : c.index-first-0.result ≡ entry o first 0 = c.index-first-0.is ∙ get_or_default first 0 c.index-first-0.result o.zero c.requires.below in
+    c.summed.ensures ∙ ap (λ b. counted_so_far o weights b c.loop-i.walk) base
+    ∙ walk_ends o g.F.Field.laws.ring weights first c.args.second.now ts (counted_so_far o weights (entry o first 0) c.loop-i.walk) (sum_list o ts (counted o weights first c.args.second.now)) c.loop-i.i (omega arith) c.loop-i.invariant.sum

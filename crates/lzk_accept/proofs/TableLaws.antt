@@ -1,0 +1,62 @@
+-- Tables whose entries are split by one more bit, from the last one down.
+use Rattle.std.specs.Prelude.{◌≡◌, ◌≢◌, ℕ, ◌+◌, ◌-◌, ◌*◌, ◌/◌, ◌%◌, ◌<◌, ◌≤◌, List, [], ◌∷◌, length, slice_set}
+use Rattle.std.proofs.Common.{refl, sym, ap, ◌∙◌, arith, inl, inr}
+use Rattle.std.proofs.lemmas.Bool.{cases_eq}
+use Rattle.std.proofs.lemmas.List.{get_or-set_same, get_or-set_other, length-set}
+use Rattle.lzk_field.specs.Ring.{Ops, RingLaws}
+use Rattle.lzk_field.specs.Sums.{entry, minus}
+use Rattle.lzk_field.proofs.Solve.{var, unit, ◌⊟◌, ◌⊠◌, solve}
+use Rattle.lzk_mle.specs.Multilinear.{eq}
+use Rattle.lzk_mle.proofs.TableLaws.{eq-even, eq-odd}
+
+module _ {A : Type 0} (o : Ops A) where
+  -- of the first size entries those from i on are split, and what stands before these is as it was
+  pub record IsSplitFrom (x : A) (old : List A) (size i : ℕ) (table : List A) : Type 0 where
+    pub length_is : length table ≡ length old
+    pub zeros : (k : ℕ) → i ≤ k → k < size → entry o table (2 * k) ≡ o.times (minus o o.one x) (entry o old k)
+    pub ones : (k : ℕ) → i ≤ k → k < size → entry o table (2 * k + 1) ≡ o.times x (entry o old k)
+    pub rest : (k : ℕ) → k < 2 * i → entry o table k ≡ entry o old k
+
+module _ {A : Type 0} (o : Ops A) (r : RingLaws o) where
+  pub split_more : (x : A) (old table : List A) (size j : ℕ) (one zero : A) → IsSplitFrom o x old size j table → 0 < j → j ≤ size → 2 * size ≤ length old
+      → one ≡ o.times x (entry o old (j - 1)) → zero ≡ minus o (entry o old (j - 1)) one → IsSplitFrom o x old size (j - 1) (slice_set (slice_set table (2 * (j - 1) + 1) one) (2 * (j - 1)) zero)
+  split_more x old table size j one zero h some few room eo ez =
+      let i = j - 1 in
+      let again : i + 1 ≡ j = omega arith in
+      let mid = slice_set table (2 * i + 1) one in
+      let sized : length mid ≡ length old = length-set table (2 * i + 1) one ∙ h.length_is in
+      let other : (k : ℕ) → k ≢ 2 * i → k ≢ 2 * i + 1 → entry o (slice_set mid (2 * i) zero) k ≡ entry o table k =
+      λ k n m. get_or-set_other mid (2 * i) k zero o.zero (omega arith) ∙ get_or-set_other table (2 * i + 1) k one o.zero (omega arith) in
+      record {
+        length_is = length-set mid (2 * i) zero ∙ sized;
+        zeros = λ k l q. elim (cases_eq k i) [
+          | inl e ↦ ap (λ (n : ℕ). entry o (slice_set mid (2 * i) zero) (2 * n)) e ∙ get_or-set_same mid (2 * i) zero o.zero (omega (arith, sized, again))
+              ∙ ez ∙ ap (minus o (entry o old i)) eo ∙ solve o r (entry o old i ∷ x ∷ []) (var 0 ⊟ var 1 ⊠ var 0) ((unit ⊟ var 1) ⊠ var 0) refl
+              ∙ ap (λ (n : ℕ). o.times (minus o o.one x) (entry o old n)) (sym e)
+          | inr n ↦ other (2 * k) (omega arith) (omega arith) ∙ h.zeros k (omega arith) q
+        ];
+        ones = λ k l q. elim (cases_eq k i) [
+          | inl e ↦ ap (λ (n : ℕ). entry o (slice_set mid (2 * i) zero) (2 * n + 1)) e ∙ get_or-set_other mid (2 * i) (2 * i + 1) zero o.zero (omega arith)
+              ∙ get_or-set_same table (2 * i + 1) one o.zero (omega (arith, h.length_is, again)) ∙ eo ∙ ap (λ (n : ℕ). o.times x (entry o old n)) (sym e)
+          | inr n ↦ other (2 * k + 1) (omega arith) (omega arith) ∙ h.ones k (omega arith) q
+        ];
+        rest = λ k q. other k (omega arith) (omega arith) ∙ h.rest k (omega arith);
+      }
+
+  -- a table for a point without its first entry, split by that entry
+  pub table_split : (x : A) (rest old table : List A) (width half : ℕ) → width ≤ 2 * half
+      → ((k : ℕ) → k < half → entry o old k ≡ eq o k rest)
+      → ((k : ℕ) → k < half → entry o table (2 * k) ≡ o.times (minus o o.one x) (entry o old k))
+      → ((k : ℕ) → k < half → entry o table (2 * k + 1) ≡ o.times x (entry o old k))
+      → (k : ℕ) → k < width → entry o table k ≡ eq o k (x ∷ rest)
+  table_split x rest old table width half fits is zeros ones k h =
+      let i = k / 2 in
+      let inside : i < half = omega arith in
+      elim (cases_eq (k % 2) 0) [
+        | inl e ↦
+            let place : 2 * i ≡ k = omega arith in
+            ap (entry o table) (sym place) ∙ zeros i inside ∙ ap (o.times (minus o o.one x)) (is i inside) ∙ sym (eq-even o r i x rest) ∙ ap (λ (n : ℕ). eq o n (x ∷ rest)) place
+        | inr n ↦
+            let place : 2 * i + 1 ≡ k = omega arith in
+            ap (entry o table) (sym place) ∙ ones i inside ∙ ap (o.times x) (is i inside) ∙ sym (eq-odd o r i x rest) ∙ ap (λ (n : ℕ). eq o n (x ∷ rest)) place
+      ]
