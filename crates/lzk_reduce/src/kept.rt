@@ -39,7 +39,7 @@ pub fn none_kept<F: Field>(alloc: Global) -> KeptWires<F>
 fn places_of<F: Field>(alloc: Global, row: &[Term<F>]) -> Result<Vec<Place>, AllocError>
     ensures { IfOk result (λ places. places.items ≡ map (place_of F.number_of) row.now) }
 {
-    let mut places = Vec::new(alloc);
+    let mut places = Vec::with_capacity(alloc, row.len())?;
     for term in row {
         places.push((term.a, term.b, term.coef.number()))?;
     }

@@ -12,7 +12,7 @@ pub loop-g-init : goal.loop-g-init
 loop-g-init g c =
     let o = g.F.Field.ops in
     let none = c.none_kept-kept.ensures in
-    subst (Sharing o g.F.Field.number_of c.args.layer.now c.args.numbers.now 0 0 c.none_kept-kept.result) (sym c.new-wires.ensures.items) (sharing-starts o g.F.Field.number_of c.args.layer.now c.args.numbers.now c.none_kept-kept.result none.kept none.count none.terms)
+    subst (Sharing o g.F.Field.number_of c.args.layer.now c.args.numbers.now 0 0 c.none_kept-kept.result) (sym c.in_ok-wires.ensures.items) (sharing-starts o g.F.Field.number_of c.args.layer.now c.args.numbers.now c.none_kept-kept.result none.kept none.count none.terms)
 
 pub loop-g-preserved : goal.loop-g-preserved
 loop-g-preserved g c =
