@@ -1,4 +1,5 @@
 pub mod RowLaws
+pub mod AddLaws
 pub mod MergeLaws
 pub mod AppendLaws
 pub mod RenumberLaws
