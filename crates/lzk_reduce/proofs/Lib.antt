@@ -8,7 +8,7 @@ pub mod WireLaws
 pub mod MovedLaws
 pub mod MarkLaws
 pub mod ReducedLaws
-pub mod PlaceLaws
+pub mod HashLaws
 pub mod KeptLaws
 pub mod SharedWireLaws
 pub mod SharedLayerLaws

@@ -33,12 +33,12 @@ fn shared_layer<F: Field>(
     ensures different { IfOk result (λ shared. AreDifferent shared.0) }
     ensures short { IfOk result (λ shared. length shared.0.terms ≤ length layer.now.terms) }
 {
-    let mut kept = none_kept(alloc);
+    let mut kept = none_kept(alloc, layer.wires)?;
     let mut wires = Vec::with_capacity(alloc, layer.wires as usize)?;
     let mut start = 0;
     for g in 0..layer.wires {
         let (row, end) = wire_row(alloc, layer, numbers, start, g)?;
-        let wire = wire_of(alloc, &mut kept, &row)?;
+        let wire = wire_of(&mut kept, &row)?;
         wires.push(wire)?;
         start = end;
     }
