@@ -1,4 +1,5 @@
 pub mod RowLaws
+pub mod AddLaws
 pub mod MergeLaws
 pub mod AppendLaws
 pub mod RenumberLaws
@@ -7,7 +8,7 @@ pub mod WireLaws
 pub mod MovedLaws
 pub mod MarkLaws
 pub mod ReducedLaws
-pub mod PlaceLaws
+pub mod HashLaws
 pub mod KeptLaws
 pub mod SharedWireLaws
 pub mod SharedLayerLaws

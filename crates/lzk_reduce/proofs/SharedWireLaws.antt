@@ -14,7 +14,7 @@ use Rattle.lzk_reduce.specs.declared.kept.KeptWires.{KeptWires}
 use Rattle.lzk_reduce.specs.Rows.{IsRow, row_value, term_value, placed}
 use Rattle.lzk_reduce.specs.Renumbering.{at, of_wire, terms_before, AreNumbersBelow, AreCopies, triples, IsOne}
 use Rattle.lzk_reduce.specs.Reduced.{HasOne}
-use Rattle.lzk_reduce.specs.Kept.{IsKept}
+use Rattle.lzk_reduce.specs.Kept.{IsKept, IsTable}
 use Rattle.lzk_reduce.proofs.RenumberLaws.{wire-value}
 use Rattle.lzk_reduce.proofs.WireLaws.{before-none}
 
@@ -53,6 +53,7 @@ module _ {A : Type 0} (o : Ops A) (number_of : A → ℕ) where
   pub record Taking (kept more : KeptWires A) (row : List (Term A)) (w : ℕ) : Type 0 where
     pub still : (width : ℕ) → IsKept o number_of width kept → IsRow o width row → IsKept o number_of width more
     pub wire : (width : ℕ) → IsKept o number_of width kept → IsRow o width row → w < more.count
+    pub table : IsTable more
     pub terms : (width : ℕ) → IsKept o number_of width kept → IsRow o width row → of_wire w more.terms.items ≡ map (placed w) row
     pub before : (width : ℕ) → IsKept o number_of width kept → IsRow o width row → (i : ℕ) → i < kept.count → of_wire i more.terms.items ≡ of_wire i kept.terms.items
     pub first : (width : ℕ) → IsKept o number_of width kept → kept.count ≡ 0 → w ≡ 0
@@ -79,12 +80,14 @@ module _ {A : Type 0} (o : Ops A) (number_of : A → ℕ) where
   pub record Sharing (layer : Layer A) (numbers : List ℕ) (g start : ℕ) (kept : KeptWires A) (wires : List ℕ) : Type 0 where
     pub start_is : start ≡ terms_before g layer.terms
     pub each : length wires ≡ g
+    pub table : IsTable kept
     pub few : kept.count ≤ g
     pub short : length kept.terms.items ≤ start
     pub over : (width : ℕ) → AreNumbersBelow width numbers → SharedOver layer numbers width g kept wires
 
-  pub sharing-starts : (layer : Layer A) (numbers : List ℕ) (kept : KeptWires A) → ((width : ℕ) → IsKept o number_of width kept) → kept.count ≡ 0 → kept.terms.items ≡ [] → Sharing layer numbers 0 0 kept []
-  sharing-starts layer numbers kept is none empty = record {
+  pub sharing-starts : (layer : Layer A) (numbers : List ℕ) (kept : KeptWires A) → IsTable kept → ((width : ℕ) → IsKept o number_of width kept) → kept.count ≡ 0 → kept.terms.items ≡ [] → Sharing layer numbers 0 0 kept []
+  sharing-starts layer numbers kept table is none empty = record {
+    table = table;
     start_is = sym (before-none layer.terms);
     each = refl;
     few = omega (arith, none);
@@ -134,6 +137,7 @@ module _ {A : Type 0} (o : Ops A) (number_of : A → ℕ) where
   pub sharing-adds : (layer : Layer A) (numbers : List ℕ) (g start end w : ℕ) (kept more : KeptWires A) (wires : List ℕ) (row : List (Term A))
       → RowOf layer numbers g start end row → Taking kept more row w → Sharing layer numbers g start kept wires → Sharing layer numbers (g + 1) end more (wires ++ w ∷ [])
   sharing-adds layer numbers g start end w kept more wires row r t s = record {
+    table = t.table;
     start_is = r.end_is;
     each = omega (arith, length-append wires (w ∷ []), s.each);
     few = omega (arith, t.count, s.few);

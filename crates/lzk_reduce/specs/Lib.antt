@@ -3,6 +3,7 @@ pub mod Renumbering
 pub mod InOrder
 pub mod Marks
 pub mod Reduced
+pub mod Hash
 pub mod Kept
 pub mod Used
 pub mod SomeReduced

@@ -11,6 +11,7 @@
 //! ```
 #![tactic(auto)]
 
+mod add;
 mod in_order;
 mod kept;
 mod marks;
@@ -21,6 +22,7 @@ mod rows;
 mod share;
 mod theorems;
 
+pub use add::add_term;
 pub use marks::marked_places;
 pub use reduce::reduced;
 pub use rows::{append, merged, scaled, single};

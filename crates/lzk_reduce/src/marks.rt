@@ -14,7 +14,7 @@ pub fn marked_places(alloc: Global, marks: &[bool]) -> Result<(Vec<u32>, u32), A
     ensures places { IfOk result (λ numbered. AreMarkedPlaces marks.now numbered.0.items) }
     ensures count { IfOk result (λ numbered. numbered.1 ≡ marked_before marks.now (length marks.now)) }
 {
-    let mut places = Vec::new(alloc);
+    let mut places = Vec::with_capacity(alloc, marks.len())?;
     let mut next = 0;
     for k in 0..marks.len() {
         places.push(next)?;
@@ -30,7 +30,7 @@ fn first_marked(alloc: Global, width: u32) -> Result<Vec<bool>, AllocError>
     ensures count { IfOk result (λ marks. length marks.items ≡ width) }
     ensures marks { IfOk result (λ marks. (k : ℕ) → k < width → is_marked marks.items k ≡ (k == 0)) }
 {
-    let mut marks = Vec::new(alloc);
+    let mut marks = Vec::with_capacity(alloc, width as usize)?;
     for k in 0..width {
         marks.push(k == 0)?;
     }

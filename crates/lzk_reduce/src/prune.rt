@@ -16,7 +16,7 @@ fn all_marked(alloc: Global, count: u32) -> Result<Vec<bool>, AllocError>
     ensures count { IfOk result (λ marks. length marks.items ≡ count) }
     ensures marks { IfOk result (λ marks. (k : ℕ) → k < count → is_marked marks.items k ≡ true) }
 {
-    let mut marks = Vec::new(alloc);
+    let mut marks = Vec::with_capacity(alloc, count as usize)?;
     for _k in 0..count {
         marks.push(true)?;
     }
@@ -70,7 +70,7 @@ fn pruned_layer<F: Field>(
 {
     let (above_places, wires) = marked_places(alloc, marks)?;
     let (below_places, _) = marked_places(alloc, below)?;
-    let mut kept = Vec::new(alloc);
+    let mut kept = Vec::with_capacity(alloc, terms.len())?;
     for i in 0..terms.len() {
         if marks[terms[i].g as usize] {
             kept.push(numbered(terms[i], &above_places, &below_places))?;

@@ -92,7 +92,7 @@ pub fn moved_layer<F: Field>(
         → IfOk result (λ moved. (g : ℕ) → g < layer.now.wires → wire F.ops (coef F.ops moved.terms) new g ≡ wire F.ops (coef F.ops layer.now.terms) old g) }
     ensures count { IfOk result (λ moved. length moved.terms ≤ length layer.now.terms) }
 {
-    let mut terms = Vec::new(alloc);
+    let mut terms = Vec::with_capacity(alloc, layer.terms.as_slice().len())?;
     let mut start = 0;
     for g in 0..layer.wires {
         let (row, end) = wire_row(alloc, layer, numbers, start, g)?;

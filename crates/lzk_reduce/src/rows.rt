@@ -45,10 +45,10 @@ pub fn single<F: Field>(alloc: Global, coef: F, a: u32, b: u32) -> Result<Vec<Te
     ensures short { IfOk result (λ row. length row.items ≤ 1) }
     ensures exact { coef ≢ F.ops.zero → IfOk result (λ row. row.items ≡ ordered coef a b ∷ []) }
 {
-    let mut row = Vec::new(alloc);
     if is_zero(coef) {
-        return Ok(row);
+        return Ok(Vec::new(alloc));
     }
+    let mut row = Vec::with_capacity(alloc, 1)?;
     row.push(term_of(coef, a, b))?;
     Ok(row)
 }
@@ -63,10 +63,10 @@ pub fn scaled<F: Field>(
     ensures value { (below : List F) → IfOk result (λ multiple. row_value F.ops below multiple.items ≡ F.ops.times factor (row_value F.ops below row.now)) }
     ensures short { IfOk result (λ multiple. length multiple.items ≤ length row.now) }
 {
-    let mut multiple = Vec::new(alloc);
     if is_zero(factor) {
-        return Ok(multiple);
+        return Ok(Vec::new(alloc));
     }
+    let mut multiple = Vec::with_capacity(alloc, row.len())?;
     for term in row {
         multiple.push(Term {
             coef: factor.mul(term.coef),
@@ -110,7 +110,7 @@ pub fn merged<F: Field>(
     ensures value { (below : List F) → IfOk result (λ sum. row_value F.ops below sum.items ≡ F.ops.plus (row_value F.ops below left.now) (row_value F.ops below right.now)) }
     ensures short { IfOk result (λ sum. length sum.items ≤ length left.now + length right.now) }
 {
-    let mut sum = Vec::new(alloc);
+    let mut sum = Vec::with_capacity(alloc, left.len().saturating_add(right.len()))?;
     let (mut i, mut j) = (0, 0);
     while i < left.len() && j < right.len() {
         let (from_left, from_right) = push_next(&mut sum, left[i], right[j])?;

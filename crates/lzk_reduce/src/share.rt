@@ -33,12 +33,12 @@ fn shared_layer<F: Field>(
     ensures different { IfOk result (λ shared. AreDifferent shared.0) }
     ensures short { IfOk result (λ shared. length shared.0.terms ≤ length layer.now.terms) }
 {
-    let mut kept = none_kept(alloc);
-    let mut wires = Vec::new(alloc);
+    let mut kept = none_kept(alloc, layer.wires)?;
+    let mut wires = Vec::with_capacity(alloc, layer.wires as usize)?;
     let mut start = 0;
     for g in 0..layer.wires {
         let (row, end) = wire_row(alloc, layer, numbers, start, g)?;
-        let wire = wire_of(alloc, &mut kept, &row)?;
+        let wire = wire_of(&mut kept, &row)?;
         wires.push(wire)?;
         start = end;
     }
@@ -54,7 +54,7 @@ fn numbers_below(alloc: Global, count: u32) -> Result<Vec<u32>, AllocError>
     ensures count { IfOk result (λ numbers. length numbers.items ≡ count) }
     ensures each { (k : ℕ) → k < count → IfOk result (λ numbers. at numbers.items k ≡ k) }
 {
-    let mut numbers = Vec::new(alloc);
+    let mut numbers = Vec::with_capacity(alloc, count as usize)?;
     for i in 0..count {
         numbers.push(i)?;
     }

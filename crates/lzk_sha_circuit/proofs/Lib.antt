@@ -17,6 +17,7 @@ pub mod Chunks
 pub mod Lookups
 pub mod Completeness
 pub mod RowLaws
+pub mod FewLaws
 pub mod Growth
 pub mod Within
 pub mod RowValues

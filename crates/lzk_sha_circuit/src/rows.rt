@@ -10,8 +10,26 @@ ghost use Rattle.lzk_sha_circuit.specs.Layers.{one_row, Grows};
 use crate::products::Product;
 use lzk_circuit::Term;
 use lzk_goldilocks::Gold;
-use lzk_reduce::{append, merged, single};
+use lzk_reduce::{add_term, append, merged};
 use std::alloc::{AllocError, Global};
+
+// So many products are added to a row one by one.
+const FEW: usize = 16;
+
+// What a few products add up to. The last one goes first, since the wires of a word's entries descend.
+fn row_of_few(alloc: Global, products: &[Product<Gold>]) -> Result<Vec<Term<Gold>>, AllocError>
+    ensures row { (width : ℕ) → AreWithin width products.now → IfOk result (λ row. IsRow ops width row.items) }
+    ensures value { (below : List Gold) → IfOk result (λ row. row_value ops below row.items ≡ products_value ops below products.now) }
+    ensures short { IfOk result (λ row. length row.items ≤ length products.now) }
+    ensures one { products.now ≡ one_row ops → IfOk result (λ row. row.items ≡ ordered ops.one 0 0 ∷ []) }
+{
+    let mut row = Vec::with_capacity(alloc, products.len())?;
+    for i in (0..products.len()).rev() {
+        let product = products[i];
+        add_term(&mut row, product.coef, product.a, product.b)?;
+    }
+    Ok(row)
+}
 
 // What the products add up to.
 fn row_of(alloc: Global, products: &[Product<Gold>]) -> Result<Vec<Term<Gold>>, AllocError>
@@ -20,12 +38,8 @@ fn row_of(alloc: Global, products: &[Product<Gold>]) -> Result<Vec<Term<Gold>>, 
     ensures short { IfOk result (λ row. length row.items ≤ length products.now) }
     ensures one { products.now ≡ one_row ops → IfOk result (λ row. row.items ≡ ordered ops.one 0 0 ∷ []) }
 {
-    if products.is_empty() {
-        return Ok(Vec::new(alloc));
-    }
-    if products.len() == 1 {
-        let product = products[0];
-        return single(alloc, product.coef, product.a, product.b);
+    if products.len() <= FEW {
+        return row_of_few(alloc, products);
     }
     let (left, right) = products.split_at(products.len() / 2);
     let left = row_of(alloc, left)?;

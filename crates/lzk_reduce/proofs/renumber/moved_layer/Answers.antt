@@ -9,7 +9,7 @@ use Rattle.lzk_reduce.proofs.renumber.moved_layer.Goals as goal
 pub loop-g-init : goal.loop-g-init
 loop-g-init g c =
     let o = g.F.Field.ops in
-    subst (Moving o c.args.layer.now c.args.numbers.now 0 0) (sym c.new-terms.ensures.items) (moving-starts o c.args.layer.now c.args.numbers.now)
+    subst (Moving o c.args.layer.now c.args.numbers.now 0 0) (sym c.in_ok-terms.ensures.items) (moving-starts o c.args.layer.now c.args.numbers.now)
 
 pub loop-g-preserved : goal.loop-g-preserved
 loop-g-preserved g c =

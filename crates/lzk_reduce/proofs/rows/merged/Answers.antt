@@ -5,7 +5,7 @@ use Rattle.lzk_reduce.proofs.rows.merged.Goals.{then-loop-i-test+else-j-right, e
 use Rattle.lzk_reduce.proofs.rows.merged.Goals as goal
 
 pub loop-i-init : goal.loop-i-init
-loop-i-init g c = subst (λ us. SoFar g.F.Field.ops c.args.left.now c.args.right.now us 0 0) (sym c.new-sum.ensures.items) (merge-starts g.F.Field.ops g.F.Field.laws.ring c.args.left.now c.args.right.now)
+loop-i-init g c = subst (λ us. SoFar g.F.Field.ops c.args.left.now c.args.right.now us 0 0) (sym c.in_ok-sum.ensures.items) (merge-starts g.F.Field.ops g.F.Field.laws.ring c.args.left.now c.args.right.now)
 
 pub loop-i-preserved : goal.loop-i-preserved
 loop-i-preserved g c =

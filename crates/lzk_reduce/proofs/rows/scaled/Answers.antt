@@ -8,7 +8,7 @@ pub returns-then-is_zero-clause-value : goal.returns-then-is_zero-clause-value
 returns-then-is_zero-clause-value g c below =
     let o = g.F.Field.ops in
     let z = c.is_zero.ensures.yes c.if-is_zero.true in
-    ap (row_value o below) c.new-multiple.ensures.items ∙ sym (ap (λ f. o.times f (row_value o below c.args.row.now)) z ∙ zero_times o g.F.Field.laws.ring (row_value o below c.args.row.now))
+    ap (row_value o below) c.new.ensures.items ∙ sym (ap (λ f. o.times f (row_value o below c.args.row.now)) z ∙ zero_times o g.F.Field.laws.ring (row_value o below c.args.row.now))
 
 pub returns-clause-row : goal.returns-clause-row
 returns-clause-row g c width h =

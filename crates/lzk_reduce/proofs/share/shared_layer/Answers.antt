@@ -11,8 +11,9 @@ use Rattle.lzk_reduce.proofs.share.shared_layer.Goals as goal
 pub loop-g-init : goal.loop-g-init
 loop-g-init g c =
     let o = g.F.Field.ops in
-    let none = c.none_kept-kept.ensures in
-    subst (Sharing o g.F.Field.number_of c.args.layer.now c.args.numbers.now 0 0 c.none_kept-kept.result) (sym c.new-wires.ensures.items) (sharing-starts o g.F.Field.number_of c.args.layer.now c.args.numbers.now c.none_kept-kept.result none.kept none.count none.terms)
+    let kept = c.in_ok-kept.kept in
+    let none = c.in_ok-kept.ensures in
+    subst (Sharing o g.F.Field.number_of c.args.layer.now c.args.numbers.now 0 0 kept) (sym c.in_ok-wires.ensures.items) (sharing-starts o g.F.Field.number_of c.args.layer.now c.args.numbers.now kept none.table none.kept none.count none.terms)
 
 pub loop-g-preserved : goal.loop-g-preserved
 loop-g-preserved g c =
@@ -33,6 +34,7 @@ loop-g-preserved g c =
       one = λ h z. subst (IsOne o) (sym is) (found.one h z);
     })
     (record {
+      table = taken.table;
       still = taken.kept;
       wire = taken.wire;
       terms = taken.terms;

@@ -8,18 +8,6 @@ use Rattle.lzk_sha_circuit.specs.Products.{AreWithin, products_value, product_va
 use Rattle.lzk_sha_circuit.proofs.RowLaws.{within-split, halves, value-of-one, value-of-halves}
 use Rattle.lzk_sha_circuit.proofs.rows.+row_of.Goals as goal
 
-pub returns-then-products-eq1-clause-value : goal.returns-then-products-eq1-clause-value
-returns-then-products-eq1-clause-value t c below =
-    let p = c.index-products-0.result in
-    IfOk-weaker c.single.result (λ row. row_value ops below row.items ≡ product_value ops below p) (λ row. row_value ops below row.items ≡ products_value ops below c.args.products.now)
-    (λ row e. e ∙ value-of-one ops ring below c.args.products.now p c.if-products-eq1.true c.index-products-0.is) (c.single.ensures.value below)
-
-pub returns-then-products-eq1-clause-one : goal.returns-then-products-eq1-clause-one
-returns-then-products-eq1-clause-one t c e =
-    let p = c.index-products-0.result in
-    let q = c.index-products-0.is ∙ ap (λ l. get_or l 0 p) e in
-    subst (λ (x : Product Gold). x.coef ≢ ops.zero → IfOk c.single.result (λ row. row.items ≡ ordered x.coef x.a x.b ∷ [])) q c.single.ensures.exact field.one_not_zero
-
 pub returns-clause-row : goal.returns-clause-row
 returns-clause-row t c width within =
     let front = c.split_at.result.0.now in
