@@ -3,7 +3,7 @@
 use crate::file_vectors::{
     DEEP, DEEP_CHANGES, SQUARE, SQUARE_CHANGES, SQUARE_GF, WIDE, WIDE_CHANGES,
 };
-use lzk_circbytes::{AnyCircuit, ByteFault, ByteKind, DecodeError, decode, encode, id};
+use lzk_circbytes::{AnyCircuit, ByteFault, ByteKind, DecodeError, decode, encode, id, id_of_file};
 use lzk_circuit::Circuit;
 use lzk_field::Field;
 use std::alloc::{AllocError, Global};
@@ -168,5 +168,7 @@ fn ids_are_digests_of_the_files(rt: HostRuntime) -> Result<(), Fail> {
     ];
     assert_eq!(rt; id_of(rt.alloc(), &SQUARE)?, square);
     assert_eq!(rt; id_of(rt.alloc(), &SQUARE_GF)?, square_gf);
+    assert_eq!(rt; id_of_file(&SQUARE), square);
+    assert_eq!(rt; id_of_file(&SQUARE_GF), square_gf);
     Ok(())
 }
