@@ -1,12 +1,13 @@
 -- Lists in another order.
-use Rattle.std.specs.Prelude.{◌≡◌, ℕ, ◌+◌, ◌<◌, List, [], ◌∷◌, ◌++◌, ◌-◌, length, map, slice_index_or, slice_set}
+use Rattle.std.specs.Prelude.{◌≡◌, ℕ, ◌+◌, ◌<◌, Bool, true, false, not, cond, Option, Some, None, List, [], ◌∷◌, ◌++◌, ◌-◌, length, map, slice_get, slice_index_or, slice_set}
 use Rattle.std.specs.List.{range_with_len, AllByRecursion, swap}
 use Rattle.std.specs.List.Sorted.{IsPermutation}
-use Rattle.std.proofs.Common.{zero, suc, refl, sym, ap, ◌∙◌, arith, subst, inl, inr}
-use Rattle.std.proofs.lemmas.List.{length-set, get_or-set_same, get_or-set_other, get_or_append_left, get_or-append_right, get_or-map, length-map, length-append}
+use Rattle.std.proofs.Common.{zero, suc, refl, sym, ap, ◌∙◌, get_or, arith, subst, inl, inr}
+use Rattle.std.proofs.lemmas.List.{length-set, get_or-set_same, get_or-set_other, get_or_append_left, get_or-append_right, get_or-map, length-map, length-append, append_assoc}
 use Rattle.std.proofs.lemmas.List.Elements.{recursion_from_All, All-from_recursion}
 use Rattle.std.proofs.lemmas.List.FromFn.{length-range_with_len, get_or-range_with_len, map-range_with_len_more}
-use Rattle.std.proofs.lemmas.List.Sorted.{IsPermutation-keeps, IsPermutation-map, All-permutation, length_permutation}
+use Rattle.std.proofs.lemmas.Option.{slice_get-get_or}
+use Rattle.std.proofs.lemmas.List.Sorted.{IsPermutation-refl, IsPermutation-trans, IsPermutation-append_left, IsPermutation-append_right, IsPermutation-append_comm, IsPermutation-keeps, IsPermutation-map, All-permutation, length_permutation}
 use Rattle.std.proofs.lemmas.Bool.{cases_eq}
 use native.Mathlib.Decide.{dec_lt}
 use Rattle.lzk_field.specs.Ring.{Ops, RingLaws}
@@ -14,6 +15,7 @@ use Rattle.lzk_field.proofs.RingBasics.{plus_cancel}
 use Rattle.lzk_field.proofs.Solve.{var, ◌⊞◌, solve}
 use Rattle.lzk_circuit.specs.Sums.{sum_list}
 use Rattle.lzk_circuit.specs.Valid.{Wiring}
+use Rattle.lzk_circuit.specs.declared.layer.Term.{Term}
 use Rattle.lzk_sumcheck.specs.declared.pairs.Pair.{Pair}
 use Rattle.lzk_layout.specs.Places.{depth}
 use Rattle.lzk_sumcheck.specs.Coefficients.{terms_at}
@@ -29,6 +31,68 @@ same_numbers (x ∷ xs) = ap (λ ys. x ∷ ys) (same_numbers xs)
 pub range_more : (n : ℕ) → range_with_len 0 (n + 1) ≡ range_with_len 0 n ++ n ∷ []
 range_more n =
     sym (same_numbers (range_with_len 0 (n + 1))) ∙ map-range_with_len_more (λ k. k) 0 n n (omega arith) ∙ ap (λ xs. xs ++ n ∷ []) (same_numbers (range_with_len 0 n))
+
+-- ---- the places that pass a test, and behind them the others
+
+-- whether a term's first wire is wire 0
+abbrev pub is_zero : ℕ → Bool
+is_zero zero = true
+is_zero (suc n) = false
+
+abbrev pub zero_first : {A : Type 0} → Option (Term A) → Bool
+zero_first None = false
+zero_first (Some t) = is_zero t.a
+
+abbrev pub is_linear : {A : Type 0} → List (Term A) → ℕ → Bool
+is_linear ts i = zero_first (slice_get ts i)
+
+module _ {A : Type 0} (ts : List (Term A)) (i : ℕ) (t : Term A) (h : i < length ts) (is : t ≡ get_or ts i t) where
+  here : is_linear ts i ≡ is_zero t.a
+  here = ap zero_first (slice_get-get_or ts i t h ∙ ap Some (sym is))
+
+  pub linear_at : t.a ≡ 0 → is_linear ts i ≡ true
+  linear_at e = here ∙ ap is_zero e
+
+  pub other_at : 0 < t.a → is_linear ts i ≡ false
+  other_at n = let e : t.a ≡ suc (t.a - 1) = omega arith in here ∙ ap is_zero e
+
+-- the places below n that pass
+abbrev pub places_where : (ℕ → Bool) → ℕ → List ℕ
+places_where f zero = []
+places_where f (suc n) = cond (f n) (places_where f n ++ n ∷ []) (places_where f n)
+
+pub place_passed : (f : ℕ → Bool) (n : ℕ) → f n ≡ true → places_where f (n + 1) ≡ places_where f n ++ n ∷ []
+place_passed f n e =
+    let next : n + 1 ≡ suc n = omega arith in
+    ap (places_where f) next ∙ ap (λ b. cond b (places_where f n ++ n ∷ []) (places_where f n)) e
+
+pub place_failed : (f : ℕ → Bool) (n : ℕ) → f n ≡ false → places_where f (n + 1) ≡ places_where f n
+place_failed f n e =
+    let next : n + 1 ≡ suc n = omega arith in
+    ap (places_where f) next ∙ ap (λ b. cond b (places_where f n ++ n ∷ []) (places_where f n)) e
+
+one_placed : (b : Bool) (ps qs rs : List ℕ) (n : ℕ) → IsPermutation rs (ps ++ qs) → IsPermutation (rs ++ n ∷ []) (cond b (ps ++ n ∷ []) ps ++ cond (not b) (qs ++ n ∷ []) qs)
+one_placed true ps qs rs n h =
+    IsPermutation-trans (rs ++ n ∷ []) (ps ++ (qs ++ n ∷ [])) ((ps ++ n ∷ []) ++ qs)
+    (subst (IsPermutation (rs ++ n ∷ [])) (append_assoc ps qs (n ∷ [])) (IsPermutation-append_left (n ∷ []) rs (ps ++ qs) h))
+    (subst (IsPermutation (ps ++ (qs ++ n ∷ []))) (sym (append_assoc ps (n ∷ []) qs)) (IsPermutation-append_right ps (qs ++ n ∷ []) ((n ∷ []) ++ qs) (IsPermutation-append_comm qs (n ∷ []))))
+one_placed false ps qs rs n h = subst (IsPermutation (rs ++ n ∷ [])) (append_assoc ps qs (n ∷ [])) (IsPermutation-append_left (n ∷ []) rs (ps ++ qs) h)
+
+all_placed : (f : ℕ → Bool) (n : ℕ) → IsPermutation (range_with_len 0 n) (places_where f n ++ places_where (λ i. not (f i)) n)
+all_placed f zero = IsPermutation-refl []
+all_placed f (suc n) =
+    let next : n + 1 ≡ suc n = omega arith in
+    subst (λ xs. IsPermutation xs (places_where f (suc n) ++ places_where (λ i. not (f i)) (suc n))) (sym (range_more n) ∙ ap (range_with_len 0) next)
+    (one_placed (f n) (places_where f n) (places_where (λ i. not (f i)) n) (range_with_len 0 n) n (all_placed f n))
+
+-- so an order, however these are sorted
+pub order_sorted : {A : Type 0} (ts : List (Term A)) (ps qs : List (ℕ × ℕ))
+    → places ps ≡ places_where (is_linear ts) (length ts) ++ places_where (λ i. not (is_linear ts i)) (length ts)
+    → IsPermutation ps qs → IsOrderOf ts (places qs)
+order_sorted ts ps qs is h =
+    IsPermutation-trans (range_with_len 0 (length ts)) (places ps) (places qs)
+    (subst (IsPermutation (range_with_len 0 (length ts))) (sym is) (all_placed (is_linear ts) (length ts)))
+    (IsPermutation-map (λ p. p.1) ps qs h)
 
 -- as many places as entries, and each of an entry
 pub order_length : {X : Type 0} (xs : List X) (ks : List ℕ) → IsOrderOf xs ks → length ks ≡ length xs

@@ -1,6 +1,7 @@
 //! An order of a layer's terms in which equal pairs of wires stand beside each other, and stay so as variables are bound.
 
-ghost use Rattle.std.specs.Prelude.{◌≡◌, ◌<◌, IfOk};
+ghost use Rattle.std.specs.Prelude.{◌≡◌, ◌<◌, ◌≤◌, IfOk, length};
+ghost use Rattle.std.specs.List.Sorted.{IsPermutation};
 ghost use Rattle.lzk_layout.specs.Places.{depth};
 ghost use Rattle.lzk_sumcheck.specs.Coefficients.{terms_at};
 ghost use Rattle.lzk_sumcheck.specs.Orders.{IsOrderOf, AreOrders};
@@ -35,28 +36,43 @@ fn spaced(number: u32) -> u64 {
     (x | (x << 1)) & 0x5555_5555_5555_5555
 }
 
-// The bits of a and b in turn, so that those which are bound first count least. Terms with wire 0 stand in front, as they were.
+// The bits of a and b in turn, so that those which are bound first count least.
 fn key_of<F: Field>(term: Term<F>) -> u64 {
-    if term.a == 0 {
-        0
-    } else {
-        spaced(term.a) | (spaced(term.b) << 1)
-    }
+    spaced(term.a) | (spaced(term.b) << 1)
+}
+
+// Sorts a list from a place on.
+fn sort_from(list: &mut [(u64, usize)], start: usize)
+    requires start { start ≤ length list.old }
+    ensures { IsPermutation list.old list.new }
+{
+    let (_, rest) = list.split_at_mut(start);
+    rest.sort_unstable();
 }
 
 impl Order {
     ghost use Rattle.std.specs.Prelude.{◌≡◌, IfOk};
     ghost use Rattle.lzk_sumcheck.specs.Orders.{places, IsOrderOf};
 
-    /// The order of these terms.
+    /// The order of these terms. Those with wire 0 stand in front, as they were, and only the others are sorted.
     fn of<F: Field>(alloc: Global, terms: &[Term<F>]) -> Result<Order, AllocError>
         ensures { IfOk result (λ order. IsOrderOf terms.now order) }
     {
         let mut list = Vec::with_capacity(alloc, terms.len())?;
         for i in 0..terms.len() {
-            list.push((key_of(terms[i]), i))?;
+            let term = terms[i];
+            if term.a == 0 {
+                list.push((0, i))?;
+            }
         }
-        list.sort_unstable();
+        let front = list.len();
+        for j in 0..terms.len() {
+            let term = terms[j];
+            if term.a != 0 {
+                list.push((key_of(term), j))?;
+            }
+        }
+        sort_from(&mut list, front);
         Ok(Order { list })
     }
 
