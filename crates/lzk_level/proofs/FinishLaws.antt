@@ -13,9 +13,8 @@ use Rattle.lzk_level.specs.declared.fault.LevelFault.TheVariants.{Layers, LayerW
 use Rattle.lzk_level.specs.Nodes.{nodes_from, node_values, gate_value, AreGates}
 use Rattle.lzk_reduce.specs.Renumbering.{at}
 use Rattle.lzk_level.specs.Bounds.{greatest, gate_depth, node_depths, node_weights, limit_fault}
-use Rattle.lzk_level.specs.Levels.{AreDepths, AreWeights, AreValues, Stands}
+use Rattle.lzk_level.specs.Levels.{AreDepths, AreWeights, AreValues, Begins}
 use Rattle.lzk_level.proofs.AfterLaws.{after-length, after-front, depths-are, weights-are, values-are}
-use Rattle.lzk_level.proofs.TowerLaws.{inputs-stand}
 
 -- no limit is passed
 pub record Within (layers wires terms : ℕ) : Type 0 where
@@ -112,9 +111,9 @@ module _ {A : Type 0} (o : Ops A) where
   pub inputs-long : (publics privates : ℕ) (public private : List A) → length public ≡ publics → length private ≡ privates → length (inputs_of o public private) ≡ 1 + publics + privates
   inputs-long publics privates public private p q = omega (arith, p, q, length-append public private)
 
-  pub ready-inputs : (publics privates inputs : ℕ) (made : List (Gate A)) (depths : List ℕ) (public private : List A) → inputs ≡ 1 + (publics + privates) → AreDepths inputs made depths → length public ≡ publics → length private ≡ privates
-      → Stands o depths 0 (node_values o (nodes_from publics privates made) public private) (inputs_of o public private)
-  ready-inputs publics privates inputs made depths public private e d p q =
+  pub ready-inputs : (publics privates inputs : ℕ) (made : List (Gate A)) (public private : List A) → inputs ≡ 1 + (publics + privates) → length public ≡ publics → length private ≡ privates
+      → Begins o inputs (node_values o (nodes_from publics privates made) public private) (inputs_of o public private)
+  ready-inputs publics privates inputs made public private e p q =
       let ins = inputs_of o public private in
       let long : length ins ≡ inputs = omega (arith, e, p, q, length-append public private) in
-      inputs-stand o inputs made depths (node_values o (nodes_from publics privates made) public private) ins d long (λ k l. after-front o.zero (gate_value o) ins made k (omega (arith, l, long)))
+      record { width = long; each = λ k l. after-front o.zero (gate_value o) ins made k (omega (arith, l, long)) }

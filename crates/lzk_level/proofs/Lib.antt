@@ -14,6 +14,7 @@ pub mod SourceLaws
 pub mod CompiledLaws
 pub mod FormedSizes
 pub mod FormedLaws
+pub mod LastLaws
 pub mod FinishLaws
 pub mod SomeGateRow
 pub mod SomeLevelRows

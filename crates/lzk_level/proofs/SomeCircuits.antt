@@ -67,7 +67,7 @@ module _ {A : Type 0} (o : Ops A) (size : ℕ) (number : A → ℕ) (element : �
           layers = deep;
           values = λ public private hp hq.
               is.values (inputs_of o public private) (omega (arith, inputs-long o n.publics n.privates public private hp hq))
-              ∙ t.values (node_values o n public private) (inputs_of o public private) (ready-values o n.publics n.privates inputs n.made public private refl gates hp hq) (ready-inputs o n.publics n.privates inputs n.made depths public private refl d hp hq);
+              ∙ t.values (node_values o n public private) (inputs_of o public private) (ready-values o n.publics n.privates inputs n.made public private refl gates hp hq) (ready-inputs o n.publics n.privates inputs n.made public private refl hp hq);
           reduced = is.reduced;
           valid = valid-layers o n.publics n.privates inputs kept fewer few refl (omega (arith, deep, one)) (omega (arith, deep, w.layers_most)) is.valid;
         },

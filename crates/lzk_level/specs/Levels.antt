@@ -1,5 +1,5 @@
 -- The levels of a circuit of nodes: where each node stands, and what the rows of a level are.
-use Rattle.std.specs.Prelude.{◌≡◌, ℕ, ◌+◌, ◌<◌, ◌≤◌, nat_le, cond, List, [], ◌∷◌, length, slice_index_or}
+use Rattle.std.specs.Prelude.{◌≡◌, ℕ, ◌+◌, ◌<◌, ◌≤◌, nat_le, nat_lt, ◌&&◌, Bool, true, cond, List, [], ◌∷◌, length, slice_index_or}
 use Rattle.std.proofs.Common.{zero, suc}
 use Rattle.lzk_field.specs.Ring.{Ops}
 use Rattle.lzk_field.specs.Sums.{entry}
@@ -11,18 +11,22 @@ use Rattle.lzk_reduce.specs.Renumbering.{at}
 use Rattle.lzk_level.specs.Bounds.{gate_depth, gate_weight}
 use Rattle.lzk_reduce.specs.Rows.{IsRow, row_value, ordered}
 
--- how many of the first k depths are no greater than the level
-abbrev pub place_in : List ℕ → ℕ → ℕ → ℕ
-place_in depths level zero = 0
-place_in depths level (suc k) = cond (nat_le (at depths k) level) 1 0 + place_in depths level k
+-- node k has a wire in a level: it is no deeper, and some level above it, up to its last one, needs the node
+abbrev pub has_wire : List ℕ → List ℕ → ℕ → ℕ → Bool
+has_wire depths last level k = nat_le (at depths k) level && nat_lt level (at last k)
+
+-- how many of the first k nodes have a wire in a level
+abbrev pub place_in : List ℕ → List ℕ → ℕ → ℕ → ℕ
+place_in depths last level zero = 0
+place_in depths last level (suc k) = cond (has_wire depths last level k) 1 0 + place_in depths last level k
 
 -- how many wires a level has
-abbrev pub width_of : List ℕ → ℕ → ℕ
-width_of depths level = place_in depths level (length depths)
+abbrev pub width_of : List ℕ → List ℕ → ℕ → ℕ
+width_of depths last level = place_in depths last level (length depths)
 
 -- each node's place by its number
-abbrev pub ArePlaces : List ℕ → ℕ → List ℕ → Type 0
-ArePlaces depths level places = (length places ≡ length depths) × ((k : ℕ) → k < length depths → at places k ≡ place_in depths level k)
+abbrev pub ArePlaces : List ℕ → List ℕ → ℕ → List ℕ → Type 0
+ArePlaces depths last level places = (length places ≡ length depths) × ((k : ℕ) → k < length depths → at places k ≡ place_in depths last level k)
 
 abbrev pub row_at : {A : Type 0} → List (List (Term A)) → ℕ → List (Term A)
 row_at rows k = slice_index_or rows k []
@@ -50,18 +54,40 @@ pub record AreValues {A : Type 0} (o : Ops A) (inputs : ℕ) (made : List (Gate 
   pub one : entry o values 0 ≡ o.one
   pub gates : (i : ℕ) (d : Gate A) → i < length made → entry o values (inputs + i) ≡ gate_value o values (slice_index_or made i d)
 
--- the wires of a level have the values of the nodes that have a place there
-pub record Stands {A : Type 0} (o : Ops A) (depths : List ℕ) (level : ℕ) (values wires : List A) : Type 0 where
-  pub width : length wires ≡ width_of depths level
-  pub each : (k : ℕ) → k < length depths → at depths k ≤ level → entry o wires (place_in depths level k) ≡ entry o values k
+-- every part is needed up to this level
+abbrev pub ArePartsNeeded : {A : Type 0} → List ℕ → ℕ → List (A × ℕ) → Type 0
+ArePartsNeeded last level [] = Unit {0}
+ArePartsNeeded last level (p ∷ ps) = (level ≤ at last p.1) × ArePartsNeeded last level ps
+
+-- a gate's factors and parts are needed up to this level
+abbrev pub AreNeeded : {A : Type 0} → List ℕ → ℕ → Gate A → Type 0
+AreNeeded last level (Constant c) = Unit {0}
+AreNeeded last level (Combine parts) = ArePartsNeeded last level parts
+AreNeeded last level (Mul x y) = (level ≤ at last x) × (level ≤ at last y)
+
+-- the last level that needs each node: the inputs are there, and a node that is needed at its depth needs its factors and parts there
+pub record AreLast {A : Type 0} (inputs : ℕ) (made : List (Gate A)) (depths last : List ℕ) : Type 0 where
+  pub count : length last ≡ length depths
+  pub at_inputs : (k : ℕ) → k < inputs → 1 ≤ at last k
+  pub gates : (i : ℕ) (d : Gate A) → i < length made → at depths (inputs + i) ≤ at last (inputs + i) → AreNeeded last (at depths (inputs + i)) (slice_index_or made i d)
+
+-- the values begin with the inputs
+pub record Begins {A : Type 0} (o : Ops A) (inputs : ℕ) (values ins : List A) : Type 0 where
+  pub width : length ins ≡ inputs
+  pub each : (k : ℕ) → k < inputs → entry o values k ≡ entry o ins k
+
+-- the wires of a level have the values of the nodes that have a wire there
+pub record Stands {A : Type 0} (o : Ops A) (depths last : List ℕ) (level : ℕ) (values wires : List A) : Type 0 where
+  pub width : length wires ≡ width_of depths last level
+  pub each : (k : ℕ) → k < length depths → has_wire depths last level k ≡ true → entry o wires (place_in depths last level k) ≡ entry o values k
 
 -- every row is over so many wires
 abbrev pub AreRows : {A : Type 0} → Ops A → ℕ → List (List (Term A)) → Type 0
 AreRows o width rows = (k : ℕ) → k < length rows → IsRow o width (row_at rows k)
 
--- the rows of the nodes with a place in a level count their values
-abbrev pub HaveValues : {A : Type 0} → Ops A → List ℕ → ℕ → List A → List A → List (List (Term A)) → Type 0
-HaveValues o depths level values below rows = (k : ℕ) → k < length rows → at depths k ≤ level → row_value o below (row_at rows k) ≡ entry o values k
+-- the rows of the nodes that a level needs count their values
+abbrev pub HaveValues : {A : Type 0} → Ops A → List ℕ → List ℕ → ℕ → List A → List A → List (List (Term A)) → Type 0
+HaveValues o depths last level values below rows = (k : ℕ) → k < length rows → at depths k ≤ level → level ≤ at last k → row_value o below (row_at rows k) ≡ entry o values k
 
 -- a row may have one term for a node that goes on from below, and else as many as the node is heavy
 abbrev pub IsShort : List ℕ → ℕ → List ℕ → ℕ → ℕ → Type 0
@@ -82,10 +108,10 @@ placed_value o counted places below (Constant c) = c
 placed_value o counted places below (Combine parts) = combined o counted parts
 placed_value o counted places below (Mul x y) = o.times (entry o below (at places x)) (entry o below (at places y))
 
--- how many terms the rows with a place in a level have, of the first k
-abbrev pub lengths_in : {A : Type 0} → List ℕ → ℕ → List (List (Term A)) → ℕ → ℕ
-lengths_in depths level rows zero = 0
-lengths_in depths level rows (suc k) = cond (nat_le (at depths k) level) (length (row_at rows k)) 0 + lengths_in depths level rows k
+-- how many terms the rows of the nodes with a wire in a level have, of the first k
+abbrev pub lengths_in : {A : Type 0} → List ℕ → List ℕ → ℕ → List (List (Term A)) → ℕ → ℕ
+lengths_in depths last level rows zero = 0
+lengths_in depths last level rows (suc k) = cond (has_wire depths last level k) (length (row_at rows k)) 0 + lengths_in depths last level rows k
 
 -- how many terms the rows with these numbers have
 abbrev pub lengths_of : {A : Type 0} → List (List (Term A)) → List ℕ → ℕ

@@ -9,10 +9,11 @@ ghost use Rattle.lzk_level.specs.Nodes.{AreGates, IsNode, node_count, nodes_from
 ghost use Rattle.lzk_reduce.specs.Renumbering.{at};
 ghost use Rattle.lzk_level.specs.Bounds.{total, layer_count, level_fault, node_depths, IsLevelError};
 ghost use Rattle.lzk_level.specs.Meanings.{HasOutputs};
-ghost use Rattle.lzk_level.specs.Levels.{AreDepths, AreWeights, AreValues, Stands};
+ghost use Rattle.lzk_level.specs.Levels.{AreDepths, AreLast, AreWeights, AreValues, Begins};
 
 use crate::builder::Builder;
 use crate::fault::LevelError;
+use crate::last::last_levels;
 use crate::levels::{level_rows, places};
 use crate::measure::{check_limits, depths_of, weights_of};
 use crate::node::{Gate, Node};
@@ -23,7 +24,46 @@ use lzk_reduce::reduced;
 use std::alloc::{AllocError, Global};
 
 // The layers for these outputs, the last first. In an inner layer each node has a wire from the level of its
-// depth on.
+// depth on, as far as a level above needs it.
+fn stacked_levels<F: Field>(
+    alloc: Global,
+    made: &[Gate<F>],
+    depths: &[u32],
+    last: &[u32],
+    outputs: &[Node],
+    count: u32,
+) -> Result<Vec<Layer<F>>, AllocError>
+    requires some { 1 ≤ count }
+    requires few { length depths.now ≤ 131072 }
+    requires inputs { 1 + length made.now ≤ length depths.now }
+    requires gates { AreGates (length depths.now - length made.now - 1) made.now }
+    requires depths { AreDepths (length depths.now - length made.now) made.now depths.now }
+    requires outputs { length outputs.now ≤ 131072 }
+    requires nodes { (i : ℕ) → i < length outputs.now → at outputs.now i < length depths.now }
+    requires deep { (i : ℕ) → i < length outputs.now → at depths.now (at outputs.now i) ≤ count }
+    requires last { AreLast (length depths.now - length made.now) made.now depths.now last.now }
+    requires high { count ≤ at last.now 0 }
+    requires needed { (i : ℕ) → i < length outputs.now → count ≤ at last.now (at outputs.now i) }
+    ensures count { IfOk result (λ layers. length layers.items ≡ count) }
+    ensures valid { (weights : List ℕ) → AreWeights (length depths.now - length made.now) made.now weights → 1 ≤ length outputs.now → ((i : ℕ) → i < length outputs.now → 1 ≤ at outputs.now i)
+        → count * length depths.now + total weights + total (map (at weights) outputs.now) ≤ 2097152 → IfOk result (λ layers. AreLayers F.ops (length depths.now - length made.now) (reverse layers.items)) }
+    ensures values { (values inputs : List F) → AreValues F.ops (length depths.now - length made.now) made.now values → Begins F.ops (length depths.now - length made.now) values inputs
+        → IfOk result (λ layers. wires_of F.ops (reverse layers.items) inputs ≡ map (entry F.ops values) outputs.now) }
+    ensures ones { IfOk result (λ layers. HaveOnes F.ops (reverse layers.items)) }
+{
+    let mut layers = Vec::new(alloc);
+    let mut below = places(alloc, depths, last, 0)?;
+    for level in 1..count {
+        let rows = level_rows(alloc, made, depths, last, level, &below)?;
+        layers.push(inner_layer(alloc, depths, last, level, &rows)?)?;
+        below = places(alloc, depths, last, level)?;
+    }
+    let rows = level_rows(alloc, made, depths, last, count, &below)?;
+    layers.push(output_layer(alloc, &rows, outputs)?)?;
+    Ok(layers)
+}
+
+// The layers for these outputs, the last first.
 fn stacked<F: Field>(
     alloc: Global,
     made: &[Gate<F>],
@@ -42,20 +82,12 @@ fn stacked<F: Field>(
     ensures count { IfOk result (λ layers. length layers.items ≡ count) }
     ensures valid { (weights : List ℕ) → AreWeights (length depths.now - length made.now) made.now weights → 1 ≤ length outputs.now → ((i : ℕ) → i < length outputs.now → 1 ≤ at outputs.now i)
         → count * length depths.now + total weights + total (map (at weights) outputs.now) ≤ 2097152 → IfOk result (λ layers. AreLayers F.ops (length depths.now - length made.now) (reverse layers.items)) }
-    ensures values { (values inputs : List F) → AreValues F.ops (length depths.now - length made.now) made.now values → Stands F.ops depths.now 0 values inputs
+    ensures values { (values inputs : List F) → AreValues F.ops (length depths.now - length made.now) made.now values → Begins F.ops (length depths.now - length made.now) values inputs
         → IfOk result (λ layers. wires_of F.ops (reverse layers.items) inputs ≡ map (entry F.ops values) outputs.now) }
     ensures ones { IfOk result (λ layers. HaveOnes F.ops (reverse layers.items)) }
 {
-    let mut layers = Vec::new(alloc);
-    let mut below = places(alloc, depths, 0)?;
-    for level in 1..count {
-        let rows = level_rows(alloc, made, depths, level, &below)?;
-        layers.push(inner_layer(alloc, depths, level, &rows)?)?;
-        below = places(alloc, depths, level)?;
-    }
-    let rows = level_rows(alloc, made, depths, count, &below)?;
-    layers.push(output_layer(alloc, &rows, outputs)?)?;
-    Ok(layers)
+    let last = last_levels(alloc, made, depths, outputs, count)?;
+    stacked_levels(alloc, made, depths, &last, outputs, count)
 }
 
 // The depths of the one and all nodes, and how many layers the outputs need, where they keep the limits.

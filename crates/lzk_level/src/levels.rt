@@ -1,40 +1,48 @@
 //! Levels of wires, from the inputs up.
 
-ghost use Rattle.std.specs.Prelude.{◌≡◌, ℕ, ◌+◌, ◌-◌, ◌<◌, ◌≤◌, nat_le, List, [], ◌∷◌, length, map, IfOk};
+ghost use Rattle.std.specs.Prelude.{◌≡◌, ℕ, ◌+◌, ◌-◌, ◌<◌, ◌≤◌, List, [], ◌∷◌, length, map, IfOk};
 ghost use Rattle.lzk_field.specs.Sums.{entry};
 ghost use Rattle.lzk_level.specs.Nodes.{combined, ArePartsOf, IsGate, AreGates};
-ghost use Rattle.lzk_reduce.specs.Marks.{is_marked};
 ghost use Rattle.lzk_reduce.specs.Renumbering.{at};
 ghost use Rattle.lzk_level.specs.Bounds.{at_parts, total, gate_depth, gate_weight};
 ghost use Rattle.lzk_reduce.specs.Rows.{IsRow, row_value, ordered};
-ghost use Rattle.lzk_level.specs.Levels.{place_in, width_of, row_at, ArePlaces, AreDepths, AreWeights, AreValues, AreRows, AreShort, IsShort, AreFactorsBelow, HaveValues, Stands, placed_value, StartsWithOne};
+ghost use Rattle.lzk_level.specs.Levels.{has_wire, place_in, width_of, row_at, ArePlaces, AreDepths, AreLast, AreWeights, AreValues, AreRows, AreShort, IsShort, AreFactorsBelow, HaveValues, Stands, placed_value, StartsWithOne};
 
 use crate::node::{Gate, Node};
 use lzk_circuit::{Term, Terms};
 use lzk_field::Field;
-use lzk_reduce::{marked_places, merged, scaled, single};
+use lzk_reduce::{merged, scaled, single};
 use std::alloc::{AllocError, Global};
 
-/// Each node's wire in a level: a node has a place there if it is no deeper.
-pub fn places(alloc: Global, depths: &[u32], level: u32) -> Result<Vec<u32>, AllocError>
-    requires { length depths.now ≤ 131072 }
-    ensures { IfOk result (λ places. ArePlaces depths.now level places.items) }
+/// Whether node `k` has a wire in a level: it is no deeper, and a level above needs it.
+pub fn has_wire(depths: &[u32], last: &[u32], level: u32, k: usize) -> bool
+    requires node { k < length depths.now }
+    requires same { length last.now ≡ length depths.now }
+    ensures { result ≡ has_wire depths.now last.now level k }
 {
-    let marks = no_deeper(alloc, depths, level)?;
-    let (places, _) = marked_places(alloc, &marks)?;
-    Ok(places)
+    depths[k] <= level && level < last[k]
 }
 
-// Whether each node is no deeper than a level.
-fn no_deeper(alloc: Global, depths: &[u32], level: u32) -> Result<Vec<bool>, AllocError>
-    ensures count { IfOk result (λ marks. length marks.items ≡ length depths.now) }
-    ensures marks { IfOk result (λ marks. (k : ℕ) → k < length depths.now → is_marked marks.items k ≡ nat_le (at depths.now k) level) }
+/// Each node's number among those with a wire in a level.
+pub fn places(
+    alloc: Global,
+    depths: &[u32],
+    last: &[u32],
+    level: u32,
+) -> Result<Vec<u32>, AllocError>
+    requires few { length depths.now ≤ 131072 }
+    requires same { length last.now ≡ length depths.now }
+    ensures { IfOk result (λ places. ArePlaces depths.now last.now level places.items) }
 {
-    let mut marks = Vec::new(alloc);
+    let mut places = Vec::with_capacity(alloc, depths.len())?;
+    let mut next = 0;
     for k in 0..depths.len() {
-        marks.push(depths[k] <= level)?;
+        places.push(next)?;
+        if has_wire(depths, last, level, k) {
+            next += 1;
+        }
     }
-    Ok(marks)
+    Ok(places)
 }
 
 // A part's row.
@@ -100,12 +108,13 @@ fn gate_row<F: Field>(
     }
 }
 
-// The row of node `k` in a level, behind those of the nodes before it: a deeper node has none, and one that
-// is less deep goes on from below.
+// The row of node `k` in a level, behind those of the nodes before it: a deeper node has none, nor one that no
+// level from here on needs, and one that is less deep goes on from below.
 fn node_row<F: Field>(
     alloc: Global,
     made: &[Gate<F>],
     depths: &[u32],
+    last: &[u32],
     level: u32,
     below: &[u32],
     rows: &[Terms<F>],
@@ -115,16 +124,21 @@ fn node_row<F: Field>(
     requires inputs { 1 + length made.now ≤ length depths.now }
     requires gates { AreGates (length depths.now - length made.now - 1) made.now }
     requires depths { AreDepths (length depths.now - length made.now) made.now depths.now }
-    requires places { ArePlaces depths.now (level - 1) below.now }
-    ensures row { AreRows F.ops (width_of depths.now (level - 1)) rows.now → IfOk result (λ row. IsRow F.ops (width_of depths.now (level - 1)) row.items) }
-    ensures value { (values wires : List F) → AreValues F.ops (length depths.now - length made.now) made.now values → Stands F.ops depths.now (level - 1) values wires → HaveValues F.ops depths.now level values wires rows.now
-        → IfOk result (λ row. at depths.now (length rows.now) ≤ level → row_value F.ops wires row.items ≡ entry F.ops values (length rows.now)) }
+    requires last { AreLast (length depths.now - length made.now) made.now depths.now last.now }
+    requires high { level ≤ at last.now 0 }
+    requires places { ArePlaces depths.now last.now (level - 1) below.now }
+    ensures row { AreRows F.ops (width_of depths.now last.now (level - 1)) rows.now → IfOk result (λ row. IsRow F.ops (width_of depths.now last.now (level - 1)) row.items) }
+    ensures value { (values wires : List F) → AreValues F.ops (length depths.now - length made.now) made.now values → Stands F.ops depths.now last.now (level - 1) values wires → HaveValues F.ops depths.now last.now level values wires rows.now
+        → IfOk result (λ row. at depths.now (length rows.now) ≤ level → level ≤ at last.now (length rows.now) → row_value F.ops wires row.items ≡ entry F.ops values (length rows.now)) }
     ensures short { (weights : List ℕ) → AreWeights (length depths.now - length made.now) made.now weights → AreShort depths.now level weights rows.now
         → IfOk result (λ row. IsShort depths.now level weights (length rows.now) (length row.items)) }
     ensures one { length rows.now ≡ 0 → IfOk result (λ row. row.items ≡ ordered F.ops.one 0 0 ∷ []) }
 {
     let k = rows.len();
     if depths[k] > level {
+        return Ok(Vec::new(alloc));
+    }
+    if last[k] < level {
         return Ok(Vec::new(alloc));
     }
     if depths[k] < level {
@@ -139,6 +153,7 @@ pub fn level_rows<F: Field>(
     alloc: Global,
     made: &[Gate<F>],
     depths: &[u32],
+    last: &[u32],
     level: u32,
     below: &[u32],
 ) -> Result<Vec<Terms<F>>, AllocError>
@@ -146,16 +161,18 @@ pub fn level_rows<F: Field>(
     requires inputs { 1 + length made.now ≤ length depths.now }
     requires gates { AreGates (length depths.now - length made.now - 1) made.now }
     requires depths { AreDepths (length depths.now - length made.now) made.now depths.now }
-    requires places { ArePlaces depths.now (level - 1) below.now }
+    requires last { AreLast (length depths.now - length made.now) made.now depths.now last.now }
+    requires high { level ≤ at last.now 0 }
+    requires places { ArePlaces depths.now last.now (level - 1) below.now }
     ensures count { IfOk result (λ rows. length rows.items ≡ length depths.now) }
-    ensures row { IfOk result (λ rows. AreRows F.ops (width_of depths.now (level - 1)) rows.items) }
-    ensures value { (values wires : List F) → AreValues F.ops (length depths.now - length made.now) made.now values → Stands F.ops depths.now (level - 1) values wires → IfOk result (λ rows. HaveValues F.ops depths.now level values wires rows.items) }
+    ensures row { IfOk result (λ rows. AreRows F.ops (width_of depths.now last.now (level - 1)) rows.items) }
+    ensures value { (values wires : List F) → AreValues F.ops (length depths.now - length made.now) made.now values → Stands F.ops depths.now last.now (level - 1) values wires → IfOk result (λ rows. HaveValues F.ops depths.now last.now level values wires rows.items) }
     ensures short { (weights : List ℕ) → AreWeights (length depths.now - length made.now) made.now weights → IfOk result (λ rows. AreShort depths.now level weights rows.items) }
     ensures one { IfOk result (λ rows. StartsWithOne F.ops rows.items) }
 {
     let mut rows = Vec::new(alloc);
     for k in 0..depths.len() {
-        let row = node_row(alloc, made, depths, level, below, &rows)?;
+        let row = node_row(alloc, made, depths, last, level, below, &rows)?;
         rows.push(Terms::new(row))?;
     }
     Ok(rows)

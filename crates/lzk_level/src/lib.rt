@@ -21,6 +21,7 @@ mod compiler;
 mod constants;
 mod fault;
 mod finish;
+mod last;
 mod lets;
 mod levels;
 mod making;

@@ -1,38 +1,41 @@
 //! Layers from rows.
 
-ghost use Rattle.std.specs.Prelude.{◌≡◌, ℕ, ◌+◌, ◌-◌, ◌<◌, ◌≤◌, None, List, length, map, IfOk};
+ghost use Rattle.std.specs.Prelude.{◌≡◌, ℕ, ◌+◌, ◌-◌, ◌<◌, ◌≤◌, None, true, List, length, map, IfOk};
 ghost use Rattle.lzk_circuit.specs.Valid.{AreTerms};
 ghost use Rattle.lzk_circuit.specs.Wires.{coef, wire};
 ghost use Rattle.lzk_reduce.specs.Renumbering.{at};
 ghost use Rattle.lzk_reduce.specs.Rows.{IsRow, row_value};
 ghost use Rattle.lzk_reduce.specs.Reduced.{HasOne};
-ghost use Rattle.lzk_level.specs.Levels.{place_in, width_of, row_at, AreRows, lengths_in, lengths_of, StartsWithOne};
+ghost use Rattle.lzk_level.specs.Levels.{has_wire, place_in, width_of, row_at, AreRows, lengths_in, lengths_of, StartsWithOne};
 
+use crate::levels::has_wire;
 use crate::node::Node;
 use lzk_circuit::{Layer, Terms};
 use lzk_field::Field;
 use lzk_reduce::append;
 use std::alloc::{AllocError, Global};
 
-//// The layer of all nodes with a place in a level.
+/// The layer of all nodes with a wire in a level.
 pub fn inner_layer<F: Field>(
     alloc: Global,
     depths: &[u32],
+    last: &[u32],
     level: u32,
     rows: &[Terms<F>],
 ) -> Result<Layer<F>, AllocError>
     requires rows { length rows.now ≡ length depths.now }
+    requires same { length last.now ≡ length depths.now }
     requires few { length depths.now ≤ 131072 }
-    ensures wires { IfOk result (λ layer. layer.wires ≡ width_of depths.now level) }
-    ensures terms { (width : ℕ) → AreRows F.ops width rows.now → IfOk result (λ layer. AreTerms F.ops (width_of depths.now level) width None layer.terms) }
-    ensures values { (below : List F) → AreRows F.ops (length below) rows.now → IfOk result (λ layer. (k : ℕ) → k < length depths.now → at depths.now k ≤ level → wire F.ops (coef F.ops layer.terms) below (place_in depths.now level k) ≡ row_value F.ops below (row_at rows.now k)) }
-    ensures count { IfOk result (λ layer. length layer.terms ≡ lengths_in depths.now level rows.now (length depths.now)) }
-    ensures one { at depths.now 0 ≡ 0 → StartsWithOne F.ops rows.now → IfOk result (HasOne F.ops) }
+    ensures wires { IfOk result (λ layer. layer.wires ≡ width_of depths.now last.now level) }
+    ensures terms { (width : ℕ) → AreRows F.ops width rows.now → IfOk result (λ layer. AreTerms F.ops (width_of depths.now last.now level) width None layer.terms) }
+    ensures values { (below : List F) → AreRows F.ops (length below) rows.now → IfOk result (λ layer. (k : ℕ) → k < length depths.now → has_wire depths.now last.now level k ≡ true → wire F.ops (coef F.ops layer.terms) below (place_in depths.now last.now level k) ≡ row_value F.ops below (row_at rows.now k)) }
+    ensures count { IfOk result (λ layer. length layer.terms ≡ lengths_in depths.now last.now level rows.now (length depths.now)) }
+    ensures one { at depths.now 0 ≡ 0 → level < at last.now 0 → StartsWithOne F.ops rows.now → IfOk result (HasOne F.ops) }
 {
     let mut terms = Vec::new(alloc);
     let mut wires = 0;
     for k in 0..depths.len() {
-        if depths[k] <= level {
+        if has_wire(depths, last, level, k) {
             append(&mut terms, wires, rows[k].as_slice())?;
             wires += 1;
         }

@@ -128,7 +128,7 @@ returns-clause-outputs g c public private hp hq =
     let o = g.F.Field.ops in
     let inputs = length depths - length made in
     let values = ready-values o p q inputs made public private r.inputs_are c.requires.gates hp hq in
-    let stand = ready-inputs o p q inputs made depths public private r.inputs_are r.depths_are hp hq in
+    let stand = ready-inputs o p q inputs made public private r.inputs_are hp hq in
     let ins = inputs_of o public private in
     let layers : c.deref-2.result.now ≡ reverse c.in_ok-layers.layers.items = c.deref-2.ensures.value ∙ c.reverse.ensures.items in
     ap (λ w. wires_of o w.layers ins) c.circuit_of.ensures ∙ c.in_ok-layers-2.ensures.values ins (inputs-long o p q public private hp hq) ∙ ap (λ ls. wires_of o ls ins) layers ∙ c.in_ok-layers.ensures.values (node_values o n public private) ins values stand

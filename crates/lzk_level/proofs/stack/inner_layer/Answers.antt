@@ -3,37 +3,38 @@ use Rattle.std.proofs.lemmas.List.{get_or_default}
 use Rattle.lzk_reduce.specs.Reduced.{terms_of}
 use Rattle.lzk_level.proofs.InnerLaws.{Inner, inner-starts, inner-skips, inner-adds}
 use Rattle.lzk_level.proofs.OneLaws.{has-one}
-use Rattle.lzk_level.proofs.stack.inner_layer.Goals.{then-depths-k+in_ok-append, else-depths-k}
+use Rattle.lzk_level.proofs.stack.inner_layer.Goals.{then-has_wire+in_ok-append, else-has_wire}
 use Rattle.lzk_level.proofs.stack.inner_layer.Goals as goal
 
 pub loop-k-init : goal.loop-k-init
-loop-k-init g c = subst (Inner g.F.Field.ops c.args.depths.now c.args.level c.args.rows.now 0 0) (sym c.new-terms.ensures.items) (inner-starts g.F.Field.ops c.args.depths.now c.args.level c.args.rows.now)
+loop-k-init g c = subst (Inner g.F.Field.ops c.args.depths.now c.args.last.now c.args.level c.args.rows.now 0 0) (sym c.new-terms.ensures.items) (inner-starts g.F.Field.ops c.args.depths.now c.args.last.now c.args.level c.args.rows.now)
 
 pub loop-k-preserved : goal.loop-k-preserved
 loop-k-preserved g c =
     let o = g.F.Field.ops in
     let depths = c.args.depths.now in
+    let last = c.args.last.now in
     let rows = c.args.rows.now in
     let k = c.loop-k.k in
     let next : suc k ≡ k + 1 = omega arith in
     let old = c.loop-k.terms.items in
-    elim c.if-depths-k.branch [
-      | then-depths-k+in_ok-append w ↦
+    elim c.if-has_wire.branch [
+      | then-has_wire+in_ok-append w ↦
           let row = w.as_slice.result.now in
           let new = w.append.new.terms.items in
           let e = w.in_ok-append.ensures in
-          subst (λ n. Inner o depths c.args.level rows n c.if-depths-k.wires c.if-depths-k.terms.items) next
-          (subst (λ n. Inner o depths c.args.level rows (suc k) n c.if-depths-k.terms.items) (sym w.wires-is)
-          (subst (λ v. Inner o depths c.args.level rows (suc k) (c.loop-k.wires + 1) v.items) (sym w.terms-is)
-          (inner-adds o depths c.args.level rows k c.loop-k.wires old new row w.if-depths-k.true (omega (arith, c.requires.rows, c.loop-k-test.true)) (w.as_slice.ensures ∙ w.index-rows-k.is ∙ get_or_default rows k w.index-rows-k.result [] (omega (arith, c.requires.rows, c.loop-k-test.true))) e.terms e.before e.added e.count e.exact c.loop-k.invariant)))
-      | else-depths-k w ↦
-          subst (λ n. Inner o depths c.args.level rows n c.if-depths-k.wires c.if-depths-k.terms.items) next
-          (subst (λ n. Inner o depths c.args.level rows (suc k) n c.if-depths-k.terms.items) (sym w.wires-is)
-          (subst (λ v. Inner o depths c.args.level rows (suc k) c.loop-k.wires v.items) (sym w.terms-is)
-          (inner-skips o depths c.args.level rows k c.loop-k.wires old w.if-depths-k.false c.loop-k.invariant)))
+          subst (λ n. Inner o depths last c.args.level rows n c.if-has_wire.wires c.if-has_wire.terms.items) next
+          (subst (λ n. Inner o depths last c.args.level rows (suc k) n c.if-has_wire.terms.items) (sym w.wires-is)
+          (subst (λ v. Inner o depths last c.args.level rows (suc k) (c.loop-k.wires + 1) v.items) (sym w.terms-is)
+          (inner-adds o depths last c.args.level rows k c.loop-k.wires old new row (sym c.has_wire.ensures ∙ w.if-has_wire.true) (omega (arith, c.requires.rows, c.loop-k-test.true)) (w.as_slice.ensures ∙ w.index-rows-k.is ∙ get_or_default rows k w.index-rows-k.result [] (omega (arith, c.requires.rows, c.loop-k-test.true))) e.terms e.before e.added e.count e.exact c.loop-k.invariant)))
+      | else-has_wire w ↦
+          subst (λ n. Inner o depths last c.args.level rows n c.if-has_wire.wires c.if-has_wire.terms.items) next
+          (subst (λ n. Inner o depths last c.args.level rows (suc k) n c.if-has_wire.terms.items) (sym w.wires-is)
+          (subst (λ v. Inner o depths last c.args.level rows (suc k) c.loop-k.wires v.items) (sym w.terms-is)
+          (inner-skips o depths last c.args.level rows k c.loop-k.wires old (sym c.has_wire.ensures ∙ w.if-has_wire.false) c.loop-k.invariant)))
     ]
 
 pub returns-clause-one : goal.returns-clause-one
-returns-clause-one g c zero_depth first =
+returns-clause-one g c zero_depth high first =
     subst (λ ts. terms_of 0 ts ≡ (0, 0, g.F.Field.ops.one) ∷ []) (sym c.new.ensures)
-    (has-one g.F.Field.ops c.args.depths.now c.args.level c.args.rows.now c.loop-k.k c.loop-k.terms.items zero_depth (omega (arith, c.requires.rows, c.loop-k-test.false)) c.loop-k.invariant.one first)
+    (has-one g.F.Field.ops c.args.depths.now c.args.last.now c.args.level c.args.rows.now c.loop-k.k c.loop-k.terms.items zero_depth high (omega (arith, c.requires.rows, c.loop-k-test.false)) c.loop-k.invariant.one first)
