@@ -18,6 +18,7 @@ pub mod UsedLayerLaws
 pub mod UsedLayersLaws
 pub mod PushedLaws
 pub mod PrunedLaws
+pub mod AllUsedLaws
 pub mod NormalLaws
 pub mod StackedRows
 pub mod SomeRows

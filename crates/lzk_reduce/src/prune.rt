@@ -4,7 +4,7 @@ ghost use Rattle.std.specs.Prelude.{◌≡◌, ℕ, ◌<◌, ◌≤◌, ◌^◌,
 ghost use Rattle.lzk_circuit.specs.Valid.{AreTerms, AreLayers, under_of};
 ghost use Rattle.lzk_reduce.specs.Marks.{is_marked, marked_before};
 ghost use Rattle.lzk_reduce.specs.Used.{numbered_term, used_terms, marks_of_under};
-ghost use Rattle.lzk_reduce.specs.Reduced.{HaveOnes, AreInnerDifferent, AreSameOutputs, output_count, AreAllUsed};
+ghost use Rattle.lzk_reduce.specs.Reduced.{HaveOnes, AreInnerDifferent, AreSameOutputs, output_count, AreUsed, AreAllUsed};
 
 use crate::marks::{marked_places, marks_below};
 use lzk_circuit::{Layer, Term, Terms};
@@ -80,6 +80,46 @@ fn pruned_layer<F: Field>(
         wires,
         terms: Terms::new(kept),
     })
+}
+
+// Whether all of these wires are marked.
+fn are_marked(marks: &[bool]) -> bool
+    ensures { result ≡ true → (k : ℕ) → k < length marks.now → is_marked marks.now k ≡ true }
+{
+    for mark in marks {
+        if !*mark {
+            return false;
+        }
+    }
+    true
+}
+
+// Whether the layer above names each wire of a layer, other than wire 0.
+fn is_used<F: Field>(alloc: Global, above: &Layer<F>, layer: &Layer<F>) -> Result<bool, AllocError>
+    requires terms { AreTerms F.ops above.now.wires layer.now.wires None above.now.terms }
+    ensures { IfOk result (λ used. used ≡ true → AreUsed above.now layer.now) }
+{
+    let marks = all_marked(alloc, above.wires)?;
+    let below = marks_below(alloc, above.terms.as_slice(), &marks, layer.wires)?;
+    Ok(are_marked(&below))
+}
+
+/// Whether each wire of an inner layer, other than wire 0, is named by a term above.
+pub fn are_used<F: Field>(
+    alloc: Global,
+    inputs: u32,
+    layers: &[Layer<F>],
+) -> Result<bool, AllocError>
+    requires some { 1 ≤ length layers.now }
+    requires layers { AreLayers F.ops inputs layers.now }
+    ensures { IfOk result (λ used. used ≡ true → AreAllUsed layers.now) }
+{
+    for l in 1..layers.len() {
+        if !is_used(alloc, &layers[l - 1], &layers[l])? {
+            return Ok(false);
+        }
+    }
+    Ok(true)
 }
 
 /// The same layers without the wires, other than wire 0, of inner layers that no term above names.

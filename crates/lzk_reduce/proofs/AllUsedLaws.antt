@@ -1,0 +1,48 @@
+-- Layers of which each wire is used.
+use Rattle.std.specs.Prelude.{◌≡◌, ℕ, ◌+◌, ◌<◌, ◌≤◌, ◌==◌, ◌&&◌, ◌||◌, Bool, true, None, List, [], ◌∷◌, length}
+use Rattle.std.proofs.Common.{zero, suc, inl, inr, sym, ◌∙◌, arith, get_or}
+use Rattle.std.proofs.lemmas.Bool.{or_cases, and_parts, eqb-true}
+use Rattle.lzk_field.specs.Ring.{Ops}
+use Rattle.lzk_circuit.specs.declared.layer.Term.{Term}
+use Rattle.lzk_circuit.specs.declared.layer.Layer.{Layer}
+use Rattle.lzk_circuit.specs.Valid.{AreTerms, AreLayers}
+use Rattle.lzk_reduce.specs.Marks.{is_marked, names}
+use Rattle.lzk_reduce.specs.Reduced.{IsNamed, AreUsed, AreUsedUnder, AreAllUsed}
+
+module _ {A : Type 0} where
+  named : (marks : List Bool) (ts : List (Term A)) (g : ℕ) → names marks ts g ≡ true → IsNamed ts g
+  named marks [] g h = absurd cc
+  named marks (t ∷ ts) g h = elim (or_cases (is_marked marks t.g && ((t.a == g) || (t.b == g))) (names marks ts g) h) [
+    | inl k ↦ elim (or_cases (t.a == g) (t.b == g) (and_parts (is_marked marks t.g) ((t.a == g) || (t.b == g)) k).1) [
+      | inl e ↦ inl (inl (eqb-true t.a g e))
+      | inr e ↦ inl (inr (eqb-true t.b g e))
+    ]
+    | inr k ↦ inr (named marks ts g k)
+  ]
+
+  -- a layer whose wires are all marked as named, or are wire 0
+  pub used-of-marks : (above layer : Layer A) (marks below : List Bool) → length below ≡ layer.wires → ((k : ℕ) → k < layer.wires → is_marked below k ≡ ((k == 0) || names marks above.terms k))
+      → ((k : ℕ) → k < length below → is_marked below k ≡ true) → AreUsed above layer
+  used-of-marks above layer marks below count is all g some l = elim (or_cases (g == 0) (names marks above.terms g) (sym (is g l) ∙ all g (omega (arith, l, count)))) [
+    | inl e ↦ absurd (omega (arith, eqb-true g 0 e, some))
+    | inr k ↦ named marks above.terms g k
+  ]
+
+  -- each of the first l layers but one uses the next one
+  abbrev pub AreUsedTo : ℕ → List (Layer A) → Type 0
+  AreUsedTo l layers = (i : ℕ) (d : Layer A) → i + 1 < l → AreUsed (get_or layers i d) (get_or layers (suc i) d)
+
+  used_under : (above : Layer A) (layers : List (Layer A)) → AreUsedTo (length (above ∷ layers)) (above ∷ layers) → AreUsedUnder above layers
+  used_under above [] h = tt
+  used_under above (layer ∷ layers) h = (h 0 layer (omega arith), used_under layer layers (λ i d l. h (suc i) d (omega (arith, l))))
+
+  pub all-used : (layers : List (Layer A)) (l : ℕ) → length layers ≤ l → AreUsedTo l layers → AreAllUsed layers
+  all-used [] l e h = tt
+  all-used (layer ∷ layers) l e h = used_under layer layers (λ i d k. h i d (omega (arith, k, e)))
+
+  -- the terms of a layer stand over the wires of the next one
+  pub inner-terms : (o : Ops A) (inputs : ℕ) (layers : List (Layer A)) (i : ℕ) (d : Layer A) → i + 1 < length layers → AreLayers o inputs layers → AreTerms o (get_or layers i d).wires (get_or layers (suc i) d).wires None (get_or layers i d).terms
+  inner-terms o inputs [] i d l h = absurd (omega (arith, l))
+  inner-terms o inputs (x ∷ []) i d l h = absurd (omega (arith, l))
+  inner-terms o inputs (x ∷ y ∷ ys) zero d l h = let one = h.0 in one.each
+  inner-terms o inputs (x ∷ y ∷ ys) (suc i) d l h = inner-terms o inputs (y ∷ ys) i d (omega (arith, l)) h.1

@@ -1,0 +1,23 @@
+use Rattle.std.proofs.Common.{rules, arith, ◌≡◌, ◌<◌, ◌-◌, ◌+◌, ◌∙◌, suc, inl, inr, ap, sym, subst, get_or, None}
+use Rattle.std.proofs.lemmas.Bool.{cases_lt}
+use Rattle.lzk_circuit.specs.Valid.{AreTerms}
+use Rattle.lzk_reduce.specs.Reduced.{AreUsed}
+use Rattle.lzk_reduce.proofs.AddLaws.{any-default}
+use Rattle.lzk_reduce.proofs.AllUsedLaws.{all-used, inner-terms}
+use Rattle.lzk_reduce.proofs.prune.are_used.Goals as goal
+
+pub is_used-requires-clause-terms : goal.is_used-requires-clause-terms
+is_used-requires-clause-terms g c κs within =
+    let o = g.F.Field.ops in
+    let layers = c.args.layers.now in
+    let l = c.loop-l.l in
+    let x = c.index-layers-l.result in
+    let y = c.index-layers-l-in-loop-l.result in
+    let next : l ≡ suc (l - 1) = omega (arith, c.loop-l.auto.l) in
+    let second : y ≡ get_or layers (suc (l - 1)) x = any-default layers l y x c.loop-l-test.true c.index-layers-l-in-loop-l.is ∙ ap (λ k. get_or layers k x) next in
+    subst (λ u. AreTerms o u.wires y.wires None u.terms) (sym c.index-layers-l.is)
+    (subst (λ v. AreTerms o (get_or layers (l - 1) x).wires v.wires None (get_or layers (l - 1) x).terms) (sym second)
+    (inner-terms o c.args.inputs layers (l - 1) x (omega (arith, c.loop-l-test.true, next)) c.requires.layers))
+
+pub returns : goal.returns
+returns g c e = all-used c.args.layers.now c.loop-l.l c.loop-l-test.false c.loop-l.invariant
