@@ -3,9 +3,11 @@
 use crate::file_vectors::{
     DEEP, DEEP_CHANGES, SQUARE, SQUARE_CHANGES, SQUARE_GF, WIDE, WIDE_CHANGES,
 };
-use lzk_circbytes::{AnyCircuit, ByteFault, ByteKind, DecodeError, decode, encode, id};
+use lzk_circbytes::{AnyCircuit, ByteFault, ByteKind, DecodeError, decode, encode, id, id_of_file};
 use lzk_circuit::Circuit;
 use lzk_field::Field;
+use lzk_gf128::Gf128;
+use lzk_goldilocks::Gold;
 use std::alloc::{AllocError, Global};
 use std::test::Fail;
 
@@ -168,5 +170,7 @@ fn ids_are_digests_of_the_files(rt: HostRuntime) -> Result<(), Fail> {
     ];
     assert_eq!(rt; id_of(rt.alloc(), &SQUARE)?, square);
     assert_eq!(rt; id_of(rt.alloc(), &SQUARE_GF)?, square_gf);
+    assert_eq!(rt; id_of_file::<Gold>(&SQUARE), square);
+    assert_eq!(rt; id_of_file::<Gf128>(&SQUARE_GF), square_gf);
     Ok(())
 }
