@@ -1,14 +1,13 @@
 -- Tables of the numbers that were met last.
-use Rattle.std.proofs.Common.{◌≡◌, ◌≢◌, ℕ, ◌<◌, Bool, true, false, eqb, ◌||◌, List, [], ◌∷◌, ◌++◌, length, map, drop, drop-cons, refl, sym, ap, subst, ◌∙◌, append_assoc, append-nil, arith, inl, inr, get_or, set}
-use Rattle.std.specs.Prelude.{All, slice_get}
+use Rattle.std.proofs.Common.{◌≡◌, ◌≢◌, ℕ, ◌<◌, Bool, true, false, eqb, ◌||◌, List, [], ◌∷◌, ◌++◌, length, refl, sym, ap, subst, ◌∙◌, append_assoc, append-nil, arith, inl, inr, get_or, set}
+use Rattle.std.specs.Prelude.{All}
 use Rattle.std.specs.List.{list_any}
-use Rattle.std.proofs.lemmas.Bool.{eqb-true, eqb-false, eq-eqb, or_left, or_right, or_cases}
+use Rattle.std.proofs.lemmas.Bool.{eqb-true, eq-eqb, or_left, or_right}
 use Rattle.std.proofs.lemmas.List.{length-set, get_or-set_other}
 use Rattle.std.proofs.lemmas.List.Folds.{list_any-append}
 use Rattle.std.proofs.lemmas.Grind.{get_or-set_at}
-use Rattle.lzk_circbytes.specs.declared.slots.Place.{Place}
 use Rattle.lzk_circbytes.specs.Spelling.{index_of}
-use Rattle.lzk_circbytes.specs.Recent.{StandsThere, WasMet, HaveSame}
+use Rattle.lzk_circbytes.specs.Recent.{WasMet, HaveSame}
 use Rattle.lzk_circbytes.proofs.Marking.{same_or_not}
 
 pub All-set : {X : Type 0} (P : X → Type 0) (xs : List X) (i : ℕ) (x : X) → i < length xs → All P xs → P x → All P (set xs i x)

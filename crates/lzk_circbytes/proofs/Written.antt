@@ -1,5 +1,5 @@
 -- What is written, as a loop does it.
-use Rattle.std.proofs.Common.{◌≡◌, ◌⊎◌, inl, inr, map, reverse, drop-cons, get_or, Result, Ok, Err, ℕ, zero, suc, ◌+◌, ◌-◌, ◌<◌, ◌≤◌, List, [], ◌∷◌, ◌++◌, length, drop, Option, None, Some, ◌/◌, ◌%◌, ◌^◌, refl, sym, ap, subst, ◌∙◌, append_assoc, arith, slice_index}
+use Rattle.std.proofs.Common.{◌≡◌, ◌⊎◌, inl, inr, map, reverse, drop-cons, get_or, Ok, Err, ℕ, zero, suc, ◌+◌, ◌-◌, ◌<◌, ◌≤◌, List, [], ◌∷◌, ◌++◌, length, drop, Option, None, Some, ◌/◌, ◌%◌, ◌^◌, refl, sym, ap, subst, ◌∙◌, append_assoc, arith, slice_index}
 use Rattle.std.specs.Prelude.{slice_get}
 use Rattle.std.specs.Ordering.{nat_cmp}
 use Rattle.std.specs.List.Sorted.{IsStrictlyIncreasing, IsBinarySearchResult}

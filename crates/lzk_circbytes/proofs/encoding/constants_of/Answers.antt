@@ -1,4 +1,4 @@
-use Rattle.std.proofs.Common.{◌≡◌, ◌++◌, ◌∙◌, ap, sym, subst, arith, map, List, ℕ}
+use Rattle.std.proofs.Common.{◌++◌, subst, arith, map, List}
 use Rattle.std.proofs.lemmas.List.{drop_all}
 use Rattle.lzk_circuit.specs.declared.layer.Layer.{Layer}
 use Rattle.lzk_circbytes.specs.Numbered.{numbered_term, numbered_layer, coefficients}

@@ -1,4 +1,4 @@
-use Rattle.std.proofs.Common.{◌≡◌, ◌++◌, ◌∙◌, ap, sym, subst, arith, map, List, ℕ, length, reverse}
+use Rattle.std.proofs.Common.{◌++◌, ◌∙◌, ap, sym, subst, arith, map, List, ℕ, length, reverse}
 use Rattle.std.specs.List.Sorted.{IsStrictlyIncreasing}
 use Rattle.lzk_circbytes.specs.Numbered.{Shape, shape, numbered, numbered_layer, constants_of}
 use Rattle.lzk_circbytes.specs.Spelling.{layers_bytes}

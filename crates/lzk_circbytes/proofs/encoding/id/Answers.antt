@@ -1,4 +1,4 @@
-use Rattle.std.proofs.Common.{◌≡◌, ◌++◌, ◌∙◌, ap, sym, subst, arith, map, List, ℕ, [], length, reverse}
+use Rattle.std.proofs.Common.{◌++◌, ◌∙◌, ap, sym, subst, arith, map, List, ℕ, [], length, reverse}
 use Rattle.sha2.specs.Sha256.{sha256}
 use Rattle.sha2.specs.Hashers.{Holds256}
 use Rattle.std.specs.List.Sorted.{IsStrictlyIncreasing}

@@ -1,4 +1,4 @@
-use Rattle.std.proofs.Common.{◌≡◌, ◌++◌, subst, sym, map, List}
+use Rattle.std.proofs.Common.{◌++◌, subst, sym, map, List}
 use Rattle.std.proofs.lemmas.List.{drop_all}
 use Rattle.lzk_circbytes.specs.Numbered.{numbered_term}
 use Rattle.lzk_circbytes.specs.Recent.{HaveSame}

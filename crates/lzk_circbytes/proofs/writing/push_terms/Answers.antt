@@ -1,7 +1,6 @@
-use Rattle.std.proofs.Common.{◌≡◌, ◌++◌, ◌∷◌, ◌+◌, ◌-◌, ℕ, suc, ap, sym, subst, ◌∙◌, arith, drop, map, List, drop-cons}
+use Rattle.std.proofs.Common.{◌≡◌, ◌∷◌, ◌+◌, ℕ, suc, ap, sym, subst, ◌∙◌, arith, drop, map, List, drop-cons}
 use Rattle.std.proofs.lemmas.List.{drop_all}
 use Rattle.lzk_circbytes.specs.Numbered.{numbered_term}
-use Rattle.lzk_circbytes.specs.Spelling.{varint, index_of}
 use Rattle.lzk_circbytes.proofs.Written.{TermsLeft, terms_go_on, terms_end}
 use Rattle.lzk_circbytes.proofs.writing.push_terms.Goals as goal
 
