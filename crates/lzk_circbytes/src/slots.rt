@@ -7,7 +7,7 @@ ghost use Rattle.lzk_circbytes.specs.Recent.{WasMet};
 
 use std::alloc::{AllocError, Global};
 
-/// How many slots a table has.
+/// How many slots the table of the numbers that were met has.
 pub const SLOTS: usize = 512;
 
 /// A product whose highest bits keep apart numbers in a row, and powers of two.
@@ -16,7 +16,7 @@ fn product_of(n: u128) -> u64 {
     word.wrapping_mul(0x9E37_79B9_7F4A_7C15)
 }
 
-/// The slot of a number.
+/// The slot of a number among those.
 pub fn slot_of(n: u128) -> usize
     ensures { result < 512 }
 {
