@@ -6,7 +6,6 @@ use Rattle.std.proofs.lemmas.Bool.{eqb-true, eq-eqb, or_left, or_right}
 use Rattle.std.proofs.lemmas.List.{length-set, get_or-set_other}
 use Rattle.std.proofs.lemmas.List.Folds.{list_any-append}
 use Rattle.std.proofs.lemmas.Grind.{get_or-set_at}
-use Rattle.lzk_circbytes.specs.Spelling.{index_of}
 use Rattle.lzk_circbytes.specs.Recent.{WasMet, HaveSame}
 use Rattle.lzk_circbytes.proofs.Marking.{same_or_not}
 
@@ -68,13 +67,3 @@ same_end now all h k = ap (λ (xs : List ℕ). list_any (eqb k) xs) (sym (append
 
 pub same_number : (next now : List ℕ) (n m : ℕ) → n ≡ m → HaveSame next (now ++ n ∷ []) → HaveSame next (now ++ m ∷ [])
 same_number next now n m e h = subst (λ (k : ℕ). HaveSame next (now ++ k ∷ [])) e h
-
--- ---- where the constants stand
-
-pub first_stands : (cs : List ℕ) (d : ℕ) → 0 < length cs → index_of cs (get_or cs 0 d) ≡ 0
-first_stands [] d lt = absurd (omega arith)
-first_stands (c ∷ cs) d lt = rw (eq-eqb c c refl) refl
-
-pub none_stands : (cs : List ℕ) (n : ℕ) → length cs ≡ 0 → index_of cs n ≡ 0
-none_stands [] n e = refl
-none_stands (c ∷ cs) n e = absurd (omega (arith, e))

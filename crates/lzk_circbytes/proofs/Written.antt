@@ -109,14 +109,17 @@ monotone xs up i j le lt =
       | inr other ↦ omega (arith, before_is_less xs up i j (omega (arith, le, other)) lt)
     ]
 
+pub place_at : (xs : List ℕ) (n k : ℕ) → IsStrictlyIncreasing xs → index_of xs n < length xs → k < length xs → slice_index xs k ≡ n → k ≡ index_of xs n
+place_at xs n k up found lt is =
+    elim (same_or_not k (index_of xs n)) [
+      | inl same ↦ same
+      | inr other ↦ absurd (differ xs up k (index_of xs n) other lt found (is ∙ sym (found_index xs n found)))
+    ]
+
 pub place_is : (xs : List ℕ) (n k : ℕ) → IsStrictlyIncreasing xs → index_of xs n < length xs → IsBinarySearchResult (λ y. nat_cmp y n) xs (Ok k) → k ≡ index_of xs n
 place_is xs n k up found h =
     let s = searched xs n (Ok k) h (monotone xs up) in
-    let there : slice_index xs (index_of xs n) ≡ n = found_index xs n found in
-    elim (same_or_not k (index_of xs n)) [
-      | inl same ↦ same
-      | inr other ↦ absurd (differ xs up k (index_of xs n) other s.0 found (s.1 ∙ sym there))
-    ]
+    place_at xs n k up found s.0 s.1
 
 pub place_there : (xs : List ℕ) (n k : ℕ) → IsStrictlyIncreasing xs → index_of xs n < length xs → IsBinarySearchResult (λ y. nat_cmp y n) xs (Err k) → ⊥
 place_there xs n k up found h =

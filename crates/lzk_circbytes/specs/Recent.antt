@@ -1,12 +1,6 @@
 -- What the tables of the numbers that were met last hold.
 use Rattle.std.specs.Prelude.{◌≡◌, ℕ, ◌<◌, true, List, nat_eq}
 use Rattle.std.specs.List.{list_any}
-use Rattle.lzk_circbytes.specs.declared.slots.Place.{Place}
-use Rattle.lzk_circbytes.specs.Spelling.{index_of}
-
--- the number stands where the place says
-abbrev pub StandsThere : List ℕ → Place → Type 0
-StandsThere constants place = index_of constants place.number ≡ place.at
 
 -- the number is in the list, or 0, which marks a slot that is free
 abbrev pub WasMet : List ℕ → ℕ → Type 0

@@ -87,6 +87,7 @@ fn push_head<F: Field>(
 fn push_layers<F: Field>(
     out: &mut Vec<u8>,
     constants: &[u128],
+    places: &[u32],
     circuit: &Circuit<F>,
 ) -> Result<(), AllocError>
     requires rising { IsStrictlyIncreasing constants.now }
@@ -94,10 +95,9 @@ fn push_layers<F: Field>(
     requires fit { CanWriteLayers constants.now (map (numbered_layer F.number_of) circuit.now.layers) }
     ensures { OnOk result (out.new.items ≡ out.old.items ++ layers_bytes constants.now 0 (reverse (map (numbered_layer F.number_of) circuit.now.layers))) }
 {
-    let mut recent = places(constants);
     let depth = circuit.depth();
     for i in 0..depth {
-        push_layer(out, constants, &mut recent, circuit.layer(depth - 1 - i))?;
+        push_layer(out, constants, places, circuit.layer(depth - 1 - i))?;
     }
     Ok(())
 }
@@ -110,7 +110,8 @@ pub fn encode<F: Field>(alloc: Global, circuit: &Circuit<F>) -> Result<Vec<u8>, 
     let constants = constants_of(alloc, circuit)?;
     let mut out = Vec::new(alloc);
     push_head(&mut out, &constants, circuit)?;
-    push_layers(&mut out, &constants, circuit)?;
+    let places = places(alloc, &constants)?;
+    push_layers(&mut out, &constants, &places, circuit)?;
     Ok(out)
 }
 
@@ -119,6 +120,7 @@ fn absorb_layers<F: Field>(
     hasher: &mut Sha256,
     room: Vec<u8>,
     constants: &[u128],
+    places: &[u32],
     circuit: &Circuit<F>,
 ) -> Result<(), AllocError>
     requires rising { IsStrictlyIncreasing constants.now }
@@ -127,16 +129,10 @@ fn absorb_layers<F: Field>(
     ensures { (m : List ℕ) → Holds256 hasher.old m → OnOk result (Holds256 hasher.new (m ++ layers_bytes constants.now 0 (reverse (map (numbered_layer F.number_of) circuit.now.layers)))) }
 {
     let mut piece = room;
-    let mut recent = places(constants);
     let depth = circuit.depth();
     for i in 0..depth {
         piece.clear();
-        push_layer(
-            &mut piece,
-            constants,
-            &mut recent,
-            circuit.layer(depth - 1 - i),
-        )?;
+        push_layer(&mut piece, constants, places, circuit.layer(depth - 1 - i))?;
         hasher.update(piece.as_slice());
     }
     Ok(())
@@ -151,7 +147,8 @@ pub fn id<F: Field>(alloc: Global, circuit: &Circuit<F>) -> Result<[u8; 32], All
     push_head(&mut piece, &constants, circuit)?;
     let mut hasher = Sha256::new();
     hasher.update(piece.as_slice());
-    absorb_layers(&mut hasher, piece, &constants, circuit)?;
+    let places = places(alloc, &constants)?;
+    absorb_layers(&mut hasher, piece, &constants, &places, circuit)?;
     Ok(hasher.finalize())
 }
 

@@ -1,46 +1,31 @@
-//! Tables of the numbers that were met last, so that a number that is met again needs no search.
+//! Tables by which a number that is met again needs no search.
 
 ghost use Rattle.std.specs.Prelude.{◌≡◌, ◌≤◌, ◌<◌, length, All, List, ℕ};
 ghost use Rattle.std.specs.List.Sorted.{IsStrictlyIncreasing};
 ghost use Rattle.lzk_circbytes.specs.Spelling.{index_of};
-ghost use Rattle.lzk_circbytes.specs.Recent.{StandsThere, WasMet};
+ghost use Rattle.lzk_circbytes.specs.Recent.{WasMet};
 
-/// How many slots a table has.
+use std::alloc::{AllocError, Global};
+
+/// How many slots the table of the numbers that were met has.
 pub const SLOTS: usize = 512;
 
-/// The slot of a number. The highest bits of a product keep apart numbers in a row, and powers of two.
+/// A product whose highest bits keep apart numbers in a row, and powers of two.
+fn product_of(n: u128) -> u64 {
+    let word = (n % (1 << 64)) as u64 ^ (n >> 64) as u64;
+    word.wrapping_mul(0x9E37_79B9_7F4A_7C15)
+}
+
+/// The slot of a number among those.
 pub fn slot_of(n: u128) -> usize
     ensures { result < 512 }
 {
-    let word = (n % (1 << 64)) as u64 ^ (n >> 64) as u64;
-    (word.wrapping_mul(0x9E37_79B9_7F4A_7C15) >> 55) as usize
+    (product_of(n) >> 55) as usize
 }
 
-/// A number, and where it stands among the constants.
-#[derive(Clone, Copy)]
-pub struct Place {
-    pub number: u128,
-    pub at: u32,
-}
-
-// The first constant stands at 0, and so does what is not among none.
-#[tactic(auto, using(crate::proofs::Recent::first_stands, crate::proofs::Recent::none_stands))]
-fn first_place(constants: &[u128]) -> Place
-    ensures { StandsThere constants.now result }
-{
-    let number = if constants.is_empty() {
-        0
-    } else {
-        constants[0]
-    };
-    Place { number, at: 0 }
-}
-
-/// A table in which each slot has the first constant.
-pub fn places(constants: &[u128]) -> [Place; SLOTS]
-    ensures { All (StandsThere constants.now) result }
-{
-    [first_place(constants); SLOTS]
+/// The slot of a number in a table of so many, which are at most 2^22.
+fn slot_among(count: usize, n: u128) -> usize {
+    ((product_of(n) >> 42) as usize).wrapping_mul(count) >> 22
 }
 
 /// A table of which no slot is taken.
@@ -62,21 +47,33 @@ fn searched(constants: &[u128], n: u128) -> u32
     }
 }
 
-/// Where a number stands among the constants.
-pub fn place_of(constants: &[u128], recent: &mut [Place; SLOTS], n: u128) -> u32
+/// Where the constants stand, each at the slot of its number. Of those that share a slot the last has it.
+pub fn places(alloc: Global, constants: &[u128]) -> Result<Vec<u32>, AllocError>
+    requires { length constants.now ≤ 2097152 }
+{
+    let mut places = vec![in alloc; 0; 2 * constants.len()]?;
+    for k in 0..constants.len() {
+        let slot = slot_among(places.len(), constants[k]);
+        if slot < places.len() {
+            places[slot] = k as u32;
+        }
+    }
+    Ok(places)
+}
+
+/// Where a number stands among the constants. What `places` says is tried first.
+pub fn place_of(constants: &[u128], places: &[u32], n: u128) -> u32
     requires rising { IsStrictlyIncreasing constants.now }
     requires few { length constants.now ≤ 2097152 }
     requires found { index_of constants.now n < length constants.now }
-    requires recent { All (StandsThere constants.now) recent.old }
-    ensures at { result ≡ index_of constants.now n }
-    ensures recent { All (StandsThere constants.now) recent.new }
+    ensures { result ≡ index_of constants.now n }
 {
-    let slot = slot_of(n);
-    let place = recent[slot];
-    if place.number == n {
-        return place.at;
+    let slot = slot_among(places.len(), n);
+    if slot < places.len() {
+        let k = places[slot];
+        if (k as usize) < constants.len() && constants[k as usize] == n {
+            return k;
+        }
     }
-    let at = searched(constants, n);
-    recent[slot] = Place { number: n, at };
-    at
+    searched(constants, n)
 }

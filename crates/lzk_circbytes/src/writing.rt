@@ -1,6 +1,6 @@
 //! Writing a circuit's parts from left to right.
 
-ghost use Rattle.std.specs.Prelude.{◌≡◌, ◌≤◌, ◌<◌, ◌^◌, ◌+◌, ◌-◌, ◌++◌, length, map, vec_len, vec_capacity, All, OnOk, IfOk};
+ghost use Rattle.std.specs.Prelude.{◌≡◌, ◌≤◌, ◌<◌, ◌^◌, ◌+◌, ◌-◌, ◌++◌, length, map, vec_len, vec_capacity, OnOk, IfOk};
 ghost use Rattle.std.specs.Int.{w32, to_le_bytes};
 ghost use Rattle.std.specs.List.Sorted.{IsStrictlyIncreasing};
 ghost use Rattle.lzk_field.specs.Bytes.{bytes_of};
@@ -9,9 +9,8 @@ ghost use Rattle.lzk_circbytes.specs.Reading.{as_before};
 ghost use Rattle.lzk_circbytes.specs.Spelling.{spells, septets, varint, index_of, term_bytes, layer_bytes, constants_bytes};
 ghost use Rattle.lzk_circbytes.specs.Fits.{CanWriteAll};
 ghost use Rattle.lzk_circbytes.specs.Answers.{under};
-ghost use Rattle.lzk_circbytes.specs.Recent.{StandsThere};
 
-use crate::slots::{Place, SLOTS, place_of};
+use crate::slots::place_of;
 use lzk_circuit::{Layer, Term};
 use lzk_field::Field;
 use std::alloc::AllocError;
@@ -92,7 +91,7 @@ pub fn push_constants<F: Field>(out: &mut Vec<u8>, constants: &[u128]) -> Result
 fn push_term<F: Field>(
     out: &mut Vec<u8>,
     constants: &[u128],
-    recent: &mut [Place; SLOTS],
+    places: &[u32],
     before: u32,
     term: Term<F>,
 ) -> Result<(), AllocError>
@@ -101,11 +100,9 @@ fn push_term<F: Field>(
     requires found { index_of constants.now (F.number_of term.coef) < length constants.now }
     requires g { before ≤ term.g }
     requires a { term.a ≤ term.b }
-    requires recent { All (StandsThere constants.now) recent.old }
-    ensures items { OnOk result (out.new.items ≡ (((out.old.items ++ varint (term.g - before)) ++ varint term.a) ++ varint (term.b - term.a)) ++ varint (index_of constants.now (F.number_of term.coef))) }
-    ensures recent { OnOk result (All (StandsThere constants.now) recent.new) }
+    ensures { OnOk result (out.new.items ≡ (((out.old.items ++ varint (term.g - before)) ++ varint term.a) ++ varint (term.b - term.a)) ++ varint (index_of constants.now (F.number_of term.coef))) }
 {
-    let at = place_of(constants, recent, term.coef.number());
+    let at = place_of(constants, places, term.coef.number());
     out.reserve(MOST_OF_TERM)?;
     put_varint(out, term.g - before);
     put_varint(out, term.a);
@@ -117,19 +114,17 @@ fn push_term<F: Field>(
 fn push_terms<F: Field>(
     out: &mut Vec<u8>,
     constants: &[u128],
-    recent: &mut [Place; SLOTS],
+    places: &[u32],
     terms: &[Term<F>],
 ) -> Result<(), AllocError>
     requires rising { IsStrictlyIncreasing constants.now }
     requires few { length constants.now ≤ 2097152 }
     requires fit { CanWriteAll constants.now (map (numbered_term F.number_of) terms.now) }
-    requires recent { All (StandsThere constants.now) recent.old }
-    ensures items { OnOk result (out.new.items ≡ out.old.items ++ spells as_before (term_bytes constants.now) None (map (numbered_term F.number_of) terms.now)) }
-    ensures recent { OnOk result (All (StandsThere constants.now) recent.new) }
+    ensures { OnOk result (out.new.items ≡ out.old.items ++ spells as_before (term_bytes constants.now) None (map (numbered_term F.number_of) terms.now)) }
 {
     let mut before = 0;
     for t in terms {
-        push_term(out, constants, recent, before, *t)?;
+        push_term(out, constants, places, before, *t)?;
         before = t.g;
     }
     Ok(())
@@ -140,19 +135,17 @@ fn push_terms<F: Field>(
 pub fn push_layer<F: Field>(
     out: &mut Vec<u8>,
     constants: &[u128],
-    recent: &mut [Place; SLOTS],
+    places: &[u32],
     layer: &Layer<F>,
 ) -> Result<(), AllocError>
     requires rising { IsStrictlyIncreasing constants.now }
     requires few { length constants.now ≤ 2097152 }
     requires fit { CanWriteAll constants.now (map (numbered_term F.number_of) layer.now.terms) }
     requires terms { length layer.now.terms < 2 ^ 32 }
-    requires recent { All (StandsThere constants.now) recent.old }
-    ensures items { OnOk result (out.new.items ≡ out.old.items ++ layer_bytes constants.now (under 0 0 0) (numbered_layer F.number_of layer.now)) }
-    ensures recent { OnOk result (All (StandsThere constants.now) recent.new) }
+    ensures { OnOk result (out.new.items ≡ out.old.items ++ layer_bytes constants.now (under 0 0 0) (numbered_layer F.number_of layer.now)) }
 {
     let terms = layer.terms.as_slice();
     push_word(out, layer.wires)?;
     push_word(out, terms.len() as u32)?;
-    push_terms(out, constants, recent, terms)
+    push_terms(out, constants, places, terms)
 }

@@ -28,11 +28,8 @@ loop-i-preserved g c =
     let in_range : i < length layers = omega (arith, c.loop-i-test.true, c.depth-depth.ensures.depth) in
     let in_reverse : i < length ls = omega (arith, c.loop-i-test.true, c.depth-depth.ensures.depth, length-map layers (numbered_layer number), length-reverse (map (numbered_layer number) layers)) in
     let there : slice_get layers (length layers - 1 - i) ≡ Some layer = ap (λ (n : ℕ). slice_get layers (n - 1 - i)) (sym c.depth-depth.ensures.depth) ∙ c.layer.ensures in
-    let written = c.in_ok-push_layer.ensures.items ∙ ap (λ (xs : List ℕ). xs ++ layer_bytes cs (under 0 0 0) (numbered_layer number layer)) c.clear.ensures.items in
-    record {
-      absorbed = absorb_goes_on Holds256 cs (under 0 0 0) c.args.hasher.now c.loop-i.hasher c.update.new.self i (numbered_layer number layer) ls c.as_slice.result.now in_reverse (at_reverse number layers i layer in_range there) (c.as_slice.ensures.value ∙ written) c.update.ensures c.loop-i.invariant.absorbed;
-      recent = c.in_ok-push_layer.ensures.recent;
-    }
+    let written = c.in_ok-push_layer.ensures ∙ ap (λ (xs : List ℕ). xs ++ layer_bytes cs (under 0 0 0) (numbered_layer number layer)) c.clear.ensures.items in
+    absorb_goes_on Holds256 cs (under 0 0 0) c.args.hasher.now c.loop-i.hasher c.update.new.self i (numbered_layer number layer) ls c.as_slice.result.now in_reverse (at_reverse number layers i layer in_range there) (c.as_slice.ensures.value ∙ written) c.update.ensures c.loop-i.invariant
 
 pub returns : goal.returns
 returns g c =
@@ -40,4 +37,4 @@ returns g c =
     let layers = c.args.circuit.now.layers in
     let ls = reverse (map (numbered_layer number) layers) in
     let past : length ls ≤ c.loop-i.i = omega (arith, c.loop-i-test.false, c.depth-depth.ensures.depth, length-map layers (numbered_layer number), length-reverse (map (numbered_layer number) layers)) in
-    absorb_ends Holds256 c.args.constants.now c.args.hasher.now c.loop-i.hasher c.loop-i.i ls past c.loop-i.invariant.absorbed
+    absorb_ends Holds256 c.args.constants.now c.args.hasher.now c.loop-i.hasher c.loop-i.i ls past c.loop-i.invariant

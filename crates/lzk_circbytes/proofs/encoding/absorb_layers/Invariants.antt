@@ -1,15 +1,10 @@
 use Rattle.std.proofs.Common.{drop, map, reverse}
-use Rattle.std.specs.Prelude.{All}
 use Rattle.sha2.specs.Hashers.{Holds256}
 use Rattle.lzk_circbytes.specs.Numbered.{numbered_layer}
-use Rattle.lzk_circbytes.specs.Recent.{StandsThere}
 use Rattle.lzk_circbytes.proofs.Absorbing.{Absorbed}
 use Rattle.lzk_circbytes.proofs.encoding.absorb_layers.Given as goal
 
 abbrev pub invariant-loop-i : goal.invariant-loop-i
 invariant-loop-i g l =
     let ls = reverse (map (numbered_layer g.F.Field.number_of) l.circuit.layers) in
-    record {
-      absorbed : Absorbed Holds256 l.constants l.fn.hasher l.hasher (drop l.i ls) ls;
-      recent : All (StandsThere l.constants) l.recent;
-    }
+    Absorbed Holds256 l.constants l.fn.hasher l.hasher (drop l.i ls) ls

@@ -12,20 +12,25 @@ push_head-requires-after_bounds g c =
     let F = g.F.Field in
     omega (arith, few F.ops F.size F.number_of F.element F.BYTES F.laws F.ID c.args.circuit.now c.constants_of.ensures.valid, ap length c.deref.ensures.value, ap length c.in_ok-constants.ensures.numbers)
 
+pub places-requires : goal.places-requires
+places-requires g c =
+    let F = g.F.Field in
+    omega (arith, few F.ops F.size F.number_of F.element F.BYTES F.laws F.ID c.args.circuit.now c.constants_of.ensures.valid, ap length c.deref-2.ensures.value, ap length c.in_ok-constants.ensures.numbers)
+
 pub push_layers-requires-clause-rising : goal.push_layers-requires-clause-rising
 push_layers-requires-clause-rising g c =
     let F = g.F.Field in
-    λ κs outlives. subst IsStrictlyIncreasing (sym (c.deref-2.ensures.value ∙ c.in_ok-constants.ensures.numbers)) (constants_rise F.ops F.size F.number_of F.element F.BYTES F.laws F.ID c.args.circuit.now c.constants_of.ensures.valid)
+    λ κs outlives. subst IsStrictlyIncreasing (sym (c.deref-3.ensures.value ∙ c.in_ok-constants.ensures.numbers)) (constants_rise F.ops F.size F.number_of F.element F.BYTES F.laws F.ID c.args.circuit.now c.constants_of.ensures.valid)
 
 pub push_layers-requires-clause-few : goal.push_layers-requires-clause-few
 push_layers-requires-clause-few g c =
     let F = g.F.Field in
-    omega (arith, few F.ops F.size F.number_of F.element F.BYTES F.laws F.ID c.args.circuit.now c.constants_of.ensures.valid, ap length c.deref-2.ensures.value, ap length c.in_ok-constants.ensures.numbers)
+    omega (arith, few F.ops F.size F.number_of F.element F.BYTES F.laws F.ID c.args.circuit.now c.constants_of.ensures.valid, ap length c.deref-3.ensures.value, ap length c.in_ok-constants.ensures.numbers)
 
 pub push_layers-requires-clause-fit : goal.push_layers-requires-clause-fit
 push_layers-requires-clause-fit g c =
     let F = g.F.Field in
-    λ κs outlives. subst (λ (cs : List ℕ). CanWriteLayers cs (map (numbered_layer F.number_of) c.args.circuit.now.layers)) (sym (c.deref-2.ensures.value ∙ c.in_ok-constants.ensures.numbers)) (can_write_layers F.ops F.size F.number_of F.element F.BYTES F.laws F.ID c.args.circuit.now c.constants_of.ensures.valid)
+    λ κs outlives. subst (λ (cs : List ℕ). CanWriteLayers cs (map (numbered_layer F.number_of) c.args.circuit.now.layers)) (sym (c.deref-3.ensures.value ∙ c.in_ok-constants.ensures.numbers)) (can_write_layers F.ops F.size F.number_of F.element F.BYTES F.laws F.ID c.args.circuit.now c.constants_of.ensures.valid)
 
 pub returns-clause-same : goal.returns-clause-same
 returns-clause-same g c =
@@ -34,7 +39,7 @@ returns-clause-same g c =
     let w = numbered F.number_of c.args.circuit.now in
     let cs = constants_of w in
     let given = c.deref.ensures.value ∙ c.in_ok-constants.ensures.numbers in
-    let given-2 = c.deref-2.ensures.value ∙ c.in_ok-constants.ensures.numbers in
+    let given-2 = c.deref-3.ensures.value ∙ c.in_ok-constants.ensures.numbers in
     let head = c.in_ok-push_head.ensures ∙ ap (λ (xs : List ℕ). xs ++ head_bytes s w c.deref.result.now) c.new-out.ensures.items ∙ ap (λ (xs : List ℕ). head_bytes s w xs) given in
     c.in_ok-push_layers.ensures ∙ ap (λ (xs : List ℕ). c.push_head.new.out.items ++ layers_bytes xs 0 (reverse w.layers)) given-2 ∙ ap (λ (xs : List ℕ). xs ++ layers_bytes cs 0 (reverse w.layers)) head ∙ file_parts s w cs
 

@@ -26,10 +26,7 @@ loop-i-preserved g c =
     let in_range : i < length layers = omega (arith, c.loop-i-test.true, c.depth-depth.ensures.depth) in
     let in_reverse : i < length ls = omega (arith, c.loop-i-test.true, c.depth-depth.ensures.depth, length-map layers (numbered_layer number), length-reverse (map (numbered_layer number) layers)) in
     let there : slice_get layers (length layers - 1 - i) ≡ Some layer = ap (λ (n : ℕ). slice_get layers (n - 1 - i)) (sym c.depth-depth.ensures.depth) ∙ c.layer.ensures in
-    record {
-      written = layers_go_on cs (under 0 0 0) c.loop-i.out.items c.push_layer.new.out.items c.args.out.now.items i (numbered_layer number layer) ls (layers_bytes cs 0 ls) in_reverse (at_reverse number layers i layer in_range there) c.in_ok-push_layer.ensures.items c.loop-i.invariant.written;
-      recent = c.in_ok-push_layer.ensures.recent;
-    }
+    layers_go_on cs (under 0 0 0) c.loop-i.out.items c.push_layer.new.out.items c.args.out.now.items i (numbered_layer number layer) ls (layers_bytes cs 0 ls) in_reverse (at_reverse number layers i layer in_range there) c.in_ok-push_layer.ensures c.loop-i.invariant
 
 pub returns : goal.returns
 returns g c =
@@ -38,4 +35,4 @@ returns g c =
     let ls = reverse (map (numbered_layer number) layers) in
     let cs = c.args.constants.now in
     let past : length ls ≤ c.loop-i.i = omega (arith, c.loop-i-test.false, c.depth-depth.ensures.depth, length-map layers (numbered_layer number), length-reverse (map (numbered_layer number) layers)) in
-    layers_end cs c.loop-i.out.items (c.args.out.now.items ++ layers_bytes cs 0 ls) c.loop-i.i ls past c.loop-i.invariant.written
+    layers_end cs c.loop-i.out.items (c.args.out.now.items ++ layers_bytes cs 0 ls) c.loop-i.i ls past c.loop-i.invariant

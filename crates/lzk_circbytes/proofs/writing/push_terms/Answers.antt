@@ -13,15 +13,12 @@ loop-t-preserved g c =
     let t = c.t-item.result in
     let k : suc i ≡ i + 1 = omega arith in
     let parts : drop i ts ≡ t ∷ drop (i + 1) ts = drop-cons ts i t c.loop-t-test.true ∙ ap (λ x. x ∷ drop (suc i) ts) (sym c.t-item.is) ∙ ap (λ (j : ℕ). t ∷ drop j ts) k in
-    let left = subst (λ (us : List _). TermsLeft cs c.loop-t.before (map view us) c.loop-t.out.items c.args.out.now.items (map view ts)) parts c.loop-t.invariant.left in
-    record {
-      left = terms_go_on cs c.loop-t.before (view t) (map view (drop (i + 1) ts)) c.loop-t.out.items c.args.out.now.items c.push_term.new.out.items (map view ts) left c.in_ok-push_term.ensures.items;
-      recent = c.in_ok-push_term.ensures.recent;
-    }
+    let left = subst (λ (us : List _). TermsLeft cs c.loop-t.before (map view us) c.loop-t.out.items c.args.out.now.items (map view ts)) parts c.loop-t.invariant in
+    terms_go_on cs c.loop-t.before (view t) (map view (drop (i + 1) ts)) c.loop-t.out.items c.args.out.now.items c.push_term.new.out.items (map view ts) left c.in_ok-push_term.ensures
 
-pub returns-clause-items : goal.returns-clause-items
-returns-clause-items g c =
+pub returns : goal.returns
+returns g c =
     let view = numbered_term g.F.Field.number_of in
     let none = drop_all c.loop-t.t-index c.args.terms.now c.loop-t-test.false in
     terms_end c.args.constants.now c.loop-t.before c.loop-t.out.items c.args.out.now.items (map view c.args.terms.now)
-    (subst (λ (us : List _). TermsLeft c.args.constants.now c.loop-t.before (map view us) c.loop-t.out.items c.args.out.now.items (map view c.args.terms.now)) none c.loop-t.invariant.left)
+    (subst (λ (us : List _). TermsLeft c.args.constants.now c.loop-t.before (map view us) c.loop-t.out.items c.args.out.now.items (map view c.args.terms.now)) none c.loop-t.invariant)

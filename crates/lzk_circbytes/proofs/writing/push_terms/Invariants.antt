@@ -1,13 +1,7 @@
 use Rattle.std.proofs.Common.{drop, map}
-use Rattle.std.specs.Prelude.{All}
 use Rattle.lzk_circbytes.specs.Numbered.{numbered_term}
-use Rattle.lzk_circbytes.specs.Recent.{StandsThere}
 use Rattle.lzk_circbytes.proofs.Written.{TermsLeft}
 use Rattle.lzk_circbytes.proofs.writing.push_terms.Given as goal
 
 abbrev pub invariant-loop-t : goal.invariant-loop-t
-invariant-loop-t g l =
-    record {
-      left : TermsLeft l.constants l.before (map (numbered_term g.F.Field.number_of) (drop l.t-index l.terms)) l.out.items (l.fn.out.items) (map (numbered_term g.F.Field.number_of) l.terms);
-      recent : All (StandsThere l.constants) l.recent;
-    }
+invariant-loop-t g l = TermsLeft l.constants l.before (map (numbered_term g.F.Field.number_of) (drop l.t-index l.terms)) l.out.items (l.fn.out.items) (map (numbered_term g.F.Field.number_of) l.terms)
