@@ -1,6 +1,6 @@
 -- One term more in a row.
-use Rattle.std.specs.Prelude.{◌≡◌, ◌≢◌, ℕ, ◌+◌, ◌<◌, ◌≤◌, true, IsTrue, Option, Some, None, List, [], ◌∷◌, ◌++◌, length, take, drop}
-use Rattle.std.proofs.Common.{◌⊎◌, zero, suc, inl, inr, refl, sym, ap, ◌∙◌, arith, subst, get_or}
+use Rattle.std.specs.Prelude.{◌≡◌, ◌≢◌, ℕ, ◌+◌, ◌<◌, IsTrue, Option, Some, None, List, [], ◌∷◌, ◌++◌, length, take, drop}
+use Rattle.std.proofs.Common.{zero, suc, inl, inr, refl, sym, ap, ◌∙◌, arith, subst, get_or}
 use Rattle.std.proofs.lemmas.Bool.{cases_lt}
 use Rattle.std.proofs.lemmas.List.{take-append-drop, drop_more}
 use Rattle.lzk_field.specs.Ring.{Ops, RingLaws}
@@ -8,7 +8,7 @@ use Rattle.lzk_field.specs.Sums.{entry}
 use Rattle.lzk_field.proofs.RingBasics.{zero_plus, zero_times, plus_times}
 use Rattle.lzk_circuit.specs.declared.layer.Term.{Term}
 use Rattle.lzk_circuit.specs.Valid.{follows, AreTerms, IsTerm}
-use Rattle.lzk_reduce.specs.Rows.{IsRow, row_value, term_value, Less, added}
+use Rattle.lzk_reduce.specs.Rows.{IsRow, row_value, term_value, Less}
 use Rattle.lzk_reduce.proofs.RowLaws.{FromZero, follows-alike, less-precedes, skip, alike-terms, value-append}
 
 one-more : (i : ℕ) → i + 1 ≡ suc i

@@ -1,17 +1,16 @@
 -- Terms that stay in order under other numbers of the wires below.
-use Rattle.std.specs.Prelude.{◌≡◌, ◌≢◌, ℕ, ◌-◌, ◌<◌, ◌≤◌, min, max, Option, Some, None, List, [], ◌∷◌, ◌++◌, length, map, slice_get, Vec, IfSome}
+use Rattle.std.specs.Prelude.{◌≡◌, ◌≢◌, ℕ, ◌-◌, ◌<◌, ◌≤◌, min, max, Option, Some, None, List, [], ◌∷◌, ◌++◌, length, map, slice_get}
 use Rattle.std.proofs.Common.{refl, sym, ap, ◌∙◌, arith, subst, inl, inr, zero, suc, get_or}
-use Rattle.std.specs.declared.alloc.Global.{Global}
 use Rattle.std.proofs.lemmas.Bool.{cases_lt}
-use Rattle.lzk_field.specs.Ring.{Ops, RingLaws}
+use Rattle.lzk_field.specs.Ring.{Ops, RingLaws, FieldLaws}
 use Rattle.lzk_field.specs.Sums.{entry}
 use Rattle.lzk_circuit.specs.declared.layer.Term.{Term}
 use Rattle.lzk_circuit.specs.Valid.{AreTerms, IsTerm}
-use Rattle.lzk_reduce.specs.Renumbering.{at, AreOver, AreCopies}
+use Rattle.lzk_reduce.specs.Renumbering.{at, AreOver, AreCopies, IsOne}
 use Rattle.lzk_reduce.specs.InOrder.{over_numbers}
 use Rattle.lzk_reduce.specs.Rows.{IsRow, row_value, term_value, ordered, Less}
 use Rattle.lzk_reduce.proofs.RowLaws.{less-precedes}
-use Rattle.lzk_reduce.proofs.RenumberLaws.{copied-value}
+use Rattle.lzk_reduce.proofs.RenumberLaws.{copied-value, one-count, one-renumbered}
 
 module _ {A : Type 0} where
   over-at : (width i : ℕ) (ts : List (Term A)) (d : Term A) → i < length ts → AreOver width ts → ((get_or ts i d).a < width) × ((get_or ts i d).b < width)
@@ -21,9 +20,6 @@ module _ {A : Type 0} where
 
   pub over-of-index : (width i : ℕ) (ts : List (Term A)) (t : Term A) → i < length ts → t ≡ get_or ts i t → AreOver width ts → (t.a < width) × (t.b < width)
   over-of-index width i ts t l e h = subst (λ (u : Term A). (u.a < width) × (u.b < width)) (sym e) (over-at width i ts t l h)
-
-  pub of-found : (P : List (Term A) → Type 0) (found : Option (Vec (Term A) Global)) (row : Vec (Term A) Global) → found ≡ Some row → IfSome found (λ v. P v.items) → P row.items
-  of-found P found row e h = subst (λ f. IfSome f (λ v. P v.items)) e h
 
 module _ {A : Type 0} (o : Ops A) where
   -- a term behind the last one, which it comes after
@@ -65,3 +61,9 @@ module _ {A : Type 0} (o : Ops A) (r : RingLaws o) where
   numbers-value numbers old new (t ∷ ts) h k =
       ap (λ x. o.plus x (row_value o new (map (over_numbers numbers) ts))) (ordered-value new t.coef (at numbers t.a) (at numbers t.b) ∙ copied-value o r numbers old new t h k.0 k.1)
       ∙ ap (o.plus (term_value o old t)) (numbers-value numbers old new ts h k.2)
+
+-- wire 0 times itself is that again where wire 0 has number 0
+pub one-over : {A : Type 0} (o : Ops A) → FieldLaws o → (numbers : List ℕ) (ts : List (Term A)) → IsOne o ts → at numbers 0 ≡ 0 → IsOne o (map (over_numbers numbers) ts)
+one-over o f numbers [] h z = absurd (omega (arith, one-count o [] h))
+one-over o f numbers (t ∷ []) h z = (one-renumbered o f numbers (t ∷ []) t refl h z).1
+one-over o f numbers (t ∷ u ∷ us) h z = absurd (omega (arith, one-count o (t ∷ u ∷ us) h))

@@ -1,6 +1,6 @@
 -- Kept wires.
 use Rattle.std.specs.Prelude.{◌≡◌, ◌≢◌, ℕ, ◌+◌, ◌<◌, ◌≤◌, ◌==◌, nat_lt, Bool, true, false, cond, Option, Some, None, List, [], ◌∷◌, ◌++◌, ◌-◌, length, map, take, drop, slice_set}
-use Rattle.std.proofs.Common.{get_or, ◌⊎◌, zero, suc, inl, inr, refl, sym, ap, ap₂, ◌∙◌, subst, arith}
+use Rattle.std.proofs.Common.{get_or, zero, suc, inl, inr, refl, sym, ap, ap₂, ◌∙◌, subst, arith}
 use Rattle.std.proofs.lemmas.Bool.{cases_lt, cases_eq, ne_eqb, eq-eqb, eqb-true}
 use Rattle.std.proofs.lemmas.List.{length-append, length-map, length-set, get_or_append_left, get_or_push, get_or_past, get_or-set_same, get_or-set_other}
 use Rattle.lzk_field.specs.Ring.{Ops, NumberLaws}

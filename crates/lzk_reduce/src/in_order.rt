@@ -1,6 +1,6 @@
 //! Terms that stay in order over other numbers of the wires below: they are a row as they stand.
 
-ghost use Rattle.std.specs.Prelude.{◌≡◌, ℕ, ◌<◌, ◌≤◌, [], ◌∷◌, ◌++◌, length, map, true, IfOk, IfSome};
+ghost use Rattle.std.specs.Prelude.{◌≡◌, ℕ, ◌<◌, ◌≤◌, [], ◌∷◌, ◌++◌, length, map, true, IfOk};
 ghost use Rattle.lzk_reduce.specs.Renumbering.{AreOver, AreNumbersBelow};
 ghost use Rattle.lzk_reduce.specs.InOrder.{over_numbers};
 ghost use Rattle.lzk_reduce.specs.Rows.{IsRow};
@@ -8,7 +8,7 @@ ghost use Rattle.lzk_reduce.specs.Rows.{IsRow};
 use crate::rows::{is_zero, term_of};
 use lzk_circuit::Term;
 use lzk_field::Field;
-use std::alloc::{AllocError, Global};
+use std::alloc::AllocError;
 
 // Whether a term may stand behind the last one of a row.
 fn is_behind<F: Field>(row: &[Term<F>], term: Term<F>) -> bool
@@ -23,26 +23,26 @@ fn is_behind<F: Field>(row: &[Term<F>], term: Term<F>) -> bool
     last.a < term.a || (last.a == term.a && last.b < term.b)
 }
 
-/// The terms over the wires with the numbers of those that they name, where these are a row in the same order;
-/// else none.
+/// Makes a row of the terms over the wires with the numbers of those that they name, where these are a row in
+/// the same order. Tells whether they are.
 pub fn in_order<F: Field>(
-    alloc: Global,
     terms: &[Term<F>],
     numbers: &[u32],
-) -> Result<Option<Vec<Term<F>>>, AllocError>
+    row: &mut Vec<Term<F>>,
+) -> Result<bool, AllocError>
     requires terms { AreOver (length numbers.now) terms.now }
-    ensures row { (width : ℕ) → AreNumbersBelow width numbers.now → IfOk result (λ found. IfSome found (λ row. IsRow F.ops width row.items)) }
-    ensures exact { IfOk result (λ found. IfSome found (λ row. row.items ≡ map (over_numbers numbers.now) terms.now)) }
+    ensures row { (width : ℕ) → AreNumbersBelow width numbers.now → IfOk result (λ found. found ≡ true → IsRow F.ops width row.new.items) }
+    ensures exact { IfOk result (λ found. found ≡ true → row.new.items ≡ map (over_numbers numbers.now) terms.now) }
 {
-    let mut row = Vec::with_capacity(alloc, terms.len())?;
+    row.clear();
     for i in 0..terms.len() {
         let term = terms[i];
         let (a, b) = (numbers[term.a as usize], numbers[term.b as usize]);
         let moved = term_of(term.coef, a, b);
-        if !is_behind(&row, moved) {
-            return Ok(None);
+        if !is_behind(row, moved) {
+            return Ok(false);
         }
         row.push(moved)?;
     }
-    Ok(Some(row))
+    Ok(true)
 }

@@ -13,8 +13,8 @@ use lzk_circuit::{Layer, Term, Terms};
 use lzk_field::Field;
 use std::alloc::{AllocError, Global};
 
-/// A wire's terms over the wires with the numbers of those that they name, as a row.
-pub fn renumbered<F: Field>(
+// A wire's terms over the wires with the numbers of those that they name, as a row.
+fn renumbered<F: Field>(
     alloc: Global,
     terms: &[Term<F>],
     numbers: &[u32],
@@ -33,13 +33,34 @@ pub fn renumbered<F: Field>(
         let (a, b) = (numbers[term.a as usize], numbers[term.b as usize]);
         return single(alloc, term.coef, a, b);
     }
-    if let Some(row) = in_order(alloc, terms, numbers)? {
+    let mut row = Vec::with_capacity(alloc, terms.len())?;
+    if in_order(terms, numbers, &mut row)? {
         return Ok(row);
     }
     let (left, right) = terms.split_at(terms.len() / 2);
     let left = renumbered(alloc, left, numbers)?;
     let right = renumbered(alloc, right, numbers)?;
     merged(alloc, &left, &right)
+}
+
+/// Makes a row of a wire's terms over the wires with the numbers of those that they name.
+pub fn renumber<F: Field>(
+    alloc: Global,
+    terms: &[Term<F>],
+    numbers: &[u32],
+    row: &mut Vec<Term<F>>,
+) -> Result<(), AllocError>
+    requires terms { AreOver (length numbers.now) terms.now }
+    ensures row { (width : ℕ) → AreNumbersBelow width numbers.now → IfOk result (λ _. IsRow F.ops width row.new.items) }
+    ensures value { (old new : List F) → AreCopies F.ops numbers.now old new → IfOk result (λ _. row_value F.ops new row.new.items ≡ row_value F.ops old terms.now) }
+    ensures short { IfOk result (λ _. length row.new.items ≤ length terms.now) }
+    ensures one { IsOne F.ops terms.now → at numbers.now 0 ≡ 0 → IfOk result (λ _. IsOne F.ops row.new.items) }
+{
+    if in_order(terms, numbers, row)? {
+        return Ok(());
+    }
+    *row = renumbered(alloc, terms, numbers)?;
+    Ok(())
 }
 
 /// Where the terms of wire `g` end, which begin at `start`.
@@ -56,27 +77,28 @@ pub fn end_of<F: Field>(terms: &[Term<F>], start: usize, g: u32) -> usize
     end
 }
 
-/// The row of a layer's wire `g` over the wires with these numbers, and where its terms end, which begin at
-/// `start`.
+/// Makes the row of a layer's wire `g` over the wires with these numbers. Gives where its terms end, which begin
+/// at `start`.
 pub fn wire_row<F: Field>(
     alloc: Global,
     layer: &Layer<F>,
     numbers: &[u32],
     start: usize,
     g: u32,
-) -> Result<(Vec<Term<F>>, usize), AllocError>
+    row: &mut Vec<Term<F>>,
+) -> Result<usize, AllocError>
     requires start { start ≡ terms_before g layer.now.terms }
     requires terms { AreTerms F.ops layer.now.wires (length numbers.now) None layer.now.terms }
-    ensures end { IfOk result (λ wire. wire.1 ≡ terms_before (g + 1) layer.now.terms) }
-    ensures row { (width : ℕ) → AreNumbersBelow width numbers.now → IfOk result (λ wire. IsRow F.ops width wire.0.items) }
-    ensures value { (old new : List F) → AreCopies F.ops numbers.now old new → IfOk result (λ wire. row_value F.ops new wire.0.items ≡ row_value F.ops old (of_wire g layer.now.terms)) }
-    ensures short { IfOk result (λ wire. start + length wire.0.items ≤ wire.1) }
-    ensures one { IsOne F.ops (of_wire g layer.now.terms) → at numbers.now 0 ≡ 0 → IfOk result (λ wire. IsOne F.ops wire.0.items) }
+    ensures end { IfOk result (λ end. end ≡ terms_before (g + 1) layer.now.terms) }
+    ensures row { (width : ℕ) → AreNumbersBelow width numbers.now → IfOk result (λ _. IsRow F.ops width row.new.items) }
+    ensures value { (old new : List F) → AreCopies F.ops numbers.now old new → IfOk result (λ _. row_value F.ops new row.new.items ≡ row_value F.ops old (of_wire g layer.now.terms)) }
+    ensures short { IfOk result (λ end. start + length row.new.items ≤ end) }
+    ensures one { IsOne F.ops (of_wire g layer.now.terms) → at numbers.now 0 ≡ 0 → IfOk result (λ _. IsOne F.ops row.new.items) }
 {
     let terms = layer.terms.as_slice();
     let end = end_of(terms, start, g);
-    let row = renumbered(alloc, &terms[start..end], numbers)?;
-    Ok((row, end))
+    renumber(alloc, &terms[start..end], numbers, row)?;
+    Ok(end)
 }
 
 /// A layer over the wires below that have these numbers.
@@ -93,9 +115,10 @@ pub fn moved_layer<F: Field>(
     ensures count { IfOk result (λ moved. length moved.terms ≤ length layer.now.terms) }
 {
     let mut terms = Vec::with_capacity(alloc, layer.terms.as_slice().len())?;
+    let mut row = Vec::new(alloc);
     let mut start = 0;
     for g in 0..layer.wires {
-        let (row, end) = wire_row(alloc, layer, numbers, start, g)?;
+        let end = wire_row(alloc, layer, numbers, start, g, &mut row)?;
         append(&mut terms, g, &row)?;
         start = end;
     }

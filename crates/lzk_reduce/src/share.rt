@@ -35,9 +35,10 @@ fn shared_layer<F: Field>(
 {
     let mut kept = none_kept(alloc, layer.wires)?;
     let mut wires = Vec::with_capacity(alloc, layer.wires as usize)?;
+    let mut row = Vec::new(alloc);
     let mut start = 0;
     for g in 0..layer.wires {
-        let (row, end) = wire_row(alloc, layer, numbers, start, g)?;
+        let end = wire_row(alloc, layer, numbers, start, g, &mut row)?;
         let wire = wire_of(&mut kept, &row)?;
         wires.push(wire)?;
         start = end;

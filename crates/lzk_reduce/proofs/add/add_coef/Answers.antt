@@ -1,4 +1,4 @@
-use Rattle.std.proofs.Common.{rules, ◌≡◌, ◌∙◌, ap, sym, subst, slice_set, get_or}
+use Rattle.std.proofs.Common.{rules, ◌≡◌, ◌∙◌, ap, sym, subst, slice_set}
 use Rattle.std.proofs.lemmas.List.{set_split}
 use Rattle.lzk_reduce.specs.Rows.{IsRow, row_value}
 use Rattle.lzk_reduce.proofs.AddLaws.{removed-row, changed-row, removed-value, changed-value, same-at}

@@ -1,4 +1,4 @@
-use Rattle.std.proofs.Common.{ℕ, ◌≤◌, ◌<◌, length, slice_index_or}
+use Rattle.std.proofs.Common.{◌≤◌, ◌<◌, length, slice_index_or}
 use Rattle.lzk_circuit.specs.declared.layer.Term.{Term}
 use Rattle.lzk_reduce.specs.Rows.{Less}
 use Rattle.lzk_reduce.proofs.add.place_of.Given as goal

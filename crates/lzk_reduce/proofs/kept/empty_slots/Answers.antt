@@ -1,4 +1,4 @@
-use Rattle.std.proofs.Common.{rules, arith, ◌∙◌, ap, length, ◌∷◌, [], None}
+use Rattle.std.proofs.Common.{arith, ◌∙◌, ap, length, ◌∷◌, [], None}
 use Rattle.std.proofs.lemmas.List.{length-append}
 use Rattle.lzk_reduce.specs.Kept.{link_at}
 use Rattle.lzk_reduce.proofs.KeptLaws.{none-more}

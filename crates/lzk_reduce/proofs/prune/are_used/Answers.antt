@@ -1,7 +1,5 @@
-use Rattle.std.proofs.Common.{rules, arith, ◌≡◌, ◌<◌, ◌-◌, ◌+◌, ◌∙◌, suc, inl, inr, ap, sym, subst, get_or, None}
-use Rattle.std.proofs.lemmas.Bool.{cases_lt}
+use Rattle.std.proofs.Common.{arith, ◌≡◌, ◌-◌, ◌∙◌, suc, ap, sym, subst, get_or, None}
 use Rattle.lzk_circuit.specs.Valid.{AreTerms}
-use Rattle.lzk_reduce.specs.Reduced.{AreUsed}
 use Rattle.lzk_reduce.proofs.AddLaws.{any-default}
 use Rattle.lzk_reduce.proofs.AllUsedLaws.{all-used, inner-terms}
 use Rattle.lzk_reduce.proofs.prune.are_used.Goals as goal

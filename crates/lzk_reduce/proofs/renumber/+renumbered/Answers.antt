@@ -1,11 +1,11 @@
-use Rattle.std.proofs.Common.{◌≡◌, ◌∙◌, ap, sym, subst, arith, length, map, [], ◌∷◌, ◌/◌}
+use Rattle.std.proofs.Common.{◌≡◌, ◌∙◌, ap, sym, subst, arith, length, [], ◌∷◌, ◌/◌}
 use Rattle.std.proofs.lemmas.List.{length-map}
 use Rattle.std.proofs.lemmas.Result.{IfOk-weaker}
 use Rattle.lzk_field.specs.Sums.{entry}
 use Rattle.lzk_reduce.specs.Renumbering.{at, IsOne}
 use Rattle.lzk_reduce.specs.InOrder.{over_numbers}
 use Rattle.lzk_reduce.specs.Rows.{IsRow, row_value, ordered}
-use Rattle.lzk_reduce.proofs.InOrderLaws.{numbers-value, of-found}
+use Rattle.lzk_reduce.proofs.InOrderLaws.{numbers-value}
 use Rattle.lzk_reduce.proofs.RenumberLaws.{over-of-one, over-halves, copied-value, value-of-one-term, value-of-term-halves, one-count, one-renumbered}
 use Rattle.lzk_reduce.proofs.renumber.+renumbered.Goals as goal
 
@@ -18,26 +18,26 @@ returns-then-terms-eq1-clause-value g t c old new h =
     IfOk-weaker c.single.result (λ row. row_value o new row.items ≡ o.times term.coef (o.times (entry o new (at numbers term.a)) (entry o new (at numbers term.b)))) (λ row. row_value o new row.items ≡ row_value o old c.args.terms.now)
     (λ row e. e ∙ copied-value o g.F.Field.laws.ring numbers old new term h over.0 over.1 ∙ value-of-one-term o g.F.Field.laws.ring old c.args.terms.now term c.if-terms-eq1.true c.index-terms-0.is) (c.single.ensures.value new)
 
-pub returns-in-Some-clause-row : goal.returns-in-Some-clause-row
-returns-in-Some-clause-row g t c width n = of-found (IsRow g.F.Field.ops width) c.in_ok-row.field-0 c.in-Some.row c.in-Some.is (c.in_ok-row.ensures.row width n)
+pub returns-then-branch-clause-row : goal.returns-then-branch-clause-row
+returns-then-branch-clause-row g t c width n = c.in_ok-in_order.ensures.row width n c.if-branch.true
 
-pub returns-in-Some-clause-value : goal.returns-in-Some-clause-value
-returns-in-Some-clause-value g t c old new h =
+pub returns-then-branch-clause-value : goal.returns-then-branch-clause-value
+returns-then-branch-clause-value g t c old new h =
     let o = g.F.Field.ops in
     let terms = c.args.terms.now in
     let numbers = c.args.numbers.now in
-    let exact = of-found (λ us. us ≡ map (over_numbers numbers) terms) c.in_ok-row.field-0 c.in-Some.row c.in-Some.is c.in_ok-row.ensures.exact in
+    let exact = c.in_ok-in_order.ensures.exact c.if-branch.true in
     ap (row_value o new) exact ∙ numbers-value o g.F.Field.laws.ring numbers old new terms h c.requires.terms
 
-pub returns-in-Some-clause-short : goal.returns-in-Some-clause-short
-returns-in-Some-clause-short g t c =
+pub returns-then-branch-clause-short : goal.returns-then-branch-clause-short
+returns-then-branch-clause-short g t c =
     let terms = c.args.terms.now in
     let numbers = c.args.numbers.now in
-    let exact = of-found (λ us. us ≡ map (over_numbers numbers) terms) c.in_ok-row.field-0 c.in-Some.row c.in-Some.is c.in_ok-row.ensures.exact in
+    let exact = c.in_ok-in_order.ensures.exact c.if-branch.true in
     omega (arith, ap length exact, length-map terms (over_numbers numbers))
 
-pub returns-in-Some-clause-one : goal.returns-in-Some-clause-one
-returns-in-Some-clause-one g t c one first = absurd (c.if-terms-eq1.false (one-count g.F.Field.ops c.args.terms.now one))
+pub returns-then-branch-clause-one : goal.returns-then-branch-clause-one
+returns-then-branch-clause-one g t c one first = absurd (c.if-terms-eq1.false (one-count g.F.Field.ops c.args.terms.now one))
 
 pub renumbered-requires-clause-terms : goal.renumbered-requires-clause-terms
 renumbered-requires-clause-terms g t c κs within =

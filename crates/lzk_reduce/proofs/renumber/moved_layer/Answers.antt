@@ -16,9 +16,9 @@ loop-g-preserved g c =
     let o = g.F.Field.ops in
     let row = c.deref.result.now in
     let is = c.deref.ensures.value in
-    let found = c.in_ok-row.ensures in
+    let found = c.in_ok-end.ensures in
     let e = c.in_ok-append.ensures in
-    moving-adds o g.F.Field.laws.ring c.args.layer.now c.args.numbers.now c.loop-g.g c.loop-g.start c.in_ok-row.end c.loop-g.terms.items row c.append.new.terms.items c.loop-g-test.true c.requires.terms
+    moving-adds o g.F.Field.laws.ring c.args.layer.now c.args.numbers.now c.loop-g.g c.loop-g.start c.in_ok-end.end c.loop-g.terms.items row c.append.new.terms.items c.loop-g-test.true c.requires.terms
     found.end
     (λ width n. subst (IsRow o width) (sym is) (found.row width n))
     (λ old new h. ap (row_value o new) is ∙ found.value old new h)

@@ -6,8 +6,8 @@ use Rattle.lzk_reduce.proofs.RenumberLaws.{over-own, terms-over}
 use Rattle.lzk_reduce.proofs.WireLaws.{own-slice}
 use Rattle.lzk_reduce.proofs.renumber.wire_row.Goals as goal
 
-pub renumbered-requires-clause-terms : goal.renumbered-requires-clause-terms
-renumbered-requires-clause-terms g c κs within =
+pub renumber-requires-clause-terms : goal.renumber-requires-clause-terms
+renumber-requires-clause-terms g c κs within =
     let o = g.F.Field.ops in
     let ts = c.args.layer.now.terms in
     let wires = c.args.layer.now.wires in
@@ -25,7 +25,7 @@ returns-clause-value g c old new copies =
     let width = length c.args.numbers.now in
     let us = c.as_slice-terms.result.now in
     let h = c.requires.terms in
-    c.in_ok-row.ensures.value old new copies
+    c.in_ok-renumber.ensures.value old new copies
     ∙ ap (row_value o old) (own-slice o wires width c.args.g c.args.start c.end_of-end.result ts us c.as_slice-terms.ensures c.requires.start (c.end_of-end.ensures.end wires width (subst (AreTerms o wires width None) (sym c.as_slice-terms.ensures) h)) h)
 
 pub returns-clause-one : goal.returns-clause-one
@@ -36,5 +36,5 @@ returns-clause-one g c one first =
     let width = length c.args.numbers.now in
     let us = c.as_slice-terms.result.now in
     let h = c.requires.terms in
-    c.in_ok-row.ensures.one
+    c.in_ok-renumber.ensures.one
     (subst (IsOne o) (sym (own-slice o wires width c.args.g c.args.start c.end_of-end.result ts us c.as_slice-terms.ensures c.requires.start (c.end_of-end.ensures.end wires width (subst (AreTerms o wires width None) (sym c.as_slice-terms.ensures) h)) h)) one) first

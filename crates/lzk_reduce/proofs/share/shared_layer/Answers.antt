@@ -20,12 +20,11 @@ loop-g-preserved g c =
     let o = g.F.Field.ops in
     let layer = c.args.layer.now in
     let numbers = c.args.numbers.now in
-    let row = c.in_ok-row.row.items in
     let is = c.deref.ensures.value in
-    let found = c.in_ok-row.ensures in
+    let found = c.in_ok-end.ensures in
     let taken = c.in_ok-wire.ensures in
-    subst (Sharing o g.F.Field.number_of layer numbers (c.loop-g.g + 1) c.in_ok-row.end c.wire_of.new.kept) (sym c.in_ok-push.ensures.items)
-    (sharing-adds o g.F.Field.number_of layer numbers c.loop-g.g c.loop-g.start c.in_ok-row.end c.in_ok-wire.wire c.loop-g.kept c.wire_of.new.kept c.loop-g.wires.items c.deref.result.now
+    subst (Sharing o g.F.Field.number_of layer numbers (c.loop-g.g + 1) c.in_ok-end.end c.wire_of.new.kept) (sym c.in_ok-push.ensures.items)
+    (sharing-adds o g.F.Field.number_of layer numbers c.loop-g.g c.loop-g.start c.in_ok-end.end c.in_ok-wire.wire c.loop-g.kept c.wire_of.new.kept c.loop-g.wires.items c.deref.result.now
     (record {
       end_is = found.end;
       is = λ width n. subst (IsRow o width) (sym is) (found.row width n);

@@ -1,11 +1,9 @@
-use Rattle.std.proofs.Common.{◌≡◌, ◌∙◌, sym, ap, subst, length, ◌/◌, ◌∷◌, [], ◌≢◌, get_or, IfOk}
-use Rattle.lzk_goldilocks.specs.declared.element.Gold.{Gold}
-use Rattle.lzk_sha_circuit.specs.declared.products.Product.{Product}
+use Rattle.std.proofs.Common.{◌≡◌, ◌∙◌, sym, ap, subst, length, ◌/◌}
 use Rattle.std.proofs.lemmas.Result.{IfOk-weaker}
-use Rattle.lzk_goldilocks.specs.Elements.{ops, ring, field}
-use Rattle.lzk_reduce.specs.Rows.{IsRow, row_value, ordered}
-use Rattle.lzk_sha_circuit.specs.Products.{AreWithin, products_value, product_value}
-use Rattle.lzk_sha_circuit.proofs.RowLaws.{within-split, halves, value-of-one, value-of-halves}
+use Rattle.lzk_goldilocks.specs.Elements.{ops, ring}
+use Rattle.lzk_reduce.specs.Rows.{IsRow, row_value}
+use Rattle.lzk_sha_circuit.specs.Products.{AreWithin, products_value}
+use Rattle.lzk_sha_circuit.proofs.RowLaws.{within-split, halves, value-of-halves}
 use Rattle.lzk_sha_circuit.proofs.rows.+row_of.Goals as goal
 
 pub returns-clause-row : goal.returns-clause-row
