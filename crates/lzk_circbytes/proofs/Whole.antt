@@ -54,7 +54,6 @@ pub file_gives_id : (c : AnyCircuit) (bytes : List ℕ) → CircuitBytes c bytes
 file_gives_id (Gold c) bytes f = ap sha256 (file_is gold.ops p (λ x. x.n) gold.of_number 8 gold.laws 1 c bytes f)
 file_gives_id (Gf c) bytes f = ap sha256 (file_is gf.ops (2 ^ 128) (λ x. x.n) gf.of_number 16 gf.laws 2 c bytes f)
 
-
 pub one_file : OneFile
 one_file (Gold c) xs ys f g =
     file_is gold.ops p (λ x. x.n) gold.of_number 8 gold.laws 1 c xs f ∙ sym (file_is gold.ops p (λ x. x.n) gold.of_number 8 gold.laws 1 c ys g)
