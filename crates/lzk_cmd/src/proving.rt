@@ -198,5 +198,10 @@ pub fn prove<R: Threads + Sync, S: Shelf, G: Gate>(
     };
     prove_any(
         means,
-        &held.circuit, order.public, order.private, &job, shelf)
+        &held.circuit,
+        order.public,
+        order.private,
+        &job,
+        shelf,
+    )
 }

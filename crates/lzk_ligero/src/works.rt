@@ -138,11 +138,7 @@ fn larger(a: usize, b: usize) -> usize
 }
 
 impl<F: Field, X: RowExtend<F>> Parts<F, X> {
-    fn new(
-        alloc: Global,
-        circuit: &Circuit<F>,
-        id: [u8; 32],
-    ) -> Result<Parts<F, X>, AllocError>
+    fn new(alloc: Global, circuit: &Circuit<F>, id: [u8; 32]) -> Result<Parts<F, X>, AllocError>
         requires id { id ≡ id_of (coding F.element F.number_of F.BYTES F.size F.ID) circuit.now }
         ensures { IfOk result (λ parts. ArePartsFor F.ops (coding F.element F.number_of F.BYTES F.size F.ID) X.reach X.rooms circuit.now parts) }
     {
