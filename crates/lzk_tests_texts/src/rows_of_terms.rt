@@ -4,7 +4,7 @@ use lzk_circuit::Term;
 use lzk_field::Field;
 use lzk_gf128::Gf128;
 use lzk_goldilocks::Gold;
-use lzk_reduce::{append, merged, scaled, single};
+use lzk_reduce::{add_term, append, merged, scaled, single};
 use std::alloc::{AllocError, Global};
 use std::test::Fail;
 
@@ -38,6 +38,28 @@ fn nothing<F: Field>(alloc: Global) -> Result<(usize, usize, usize), AllocError>
     let negative = scaled(alloc, F::one().neg(), &row)?;
     let difference = merged(alloc, &row, &negative)?;
     Ok((none.len(), multiple.len(), difference.len()))
+}
+
+// 3 + 2 x y + (1 + 8) x, and y y, which is taken away again: a term at the end, one between others, more of a term, and a term that goes.
+fn row_by_terms<F: Field>(alloc: Global) -> Result<Vec<Entry>, AllocError> {
+    let mut row = Vec::new(alloc);
+    add_term(&mut row, F::of_word(3), 0, 0)?;
+    add_term(&mut row, F::of_word(2), 2, 1)?;
+    add_term(&mut row, F::of_word(1), 1, 0)?;
+    add_term(&mut row, F::one(), 2, 2)?;
+    add_term(&mut row, F::of_word(8), 0, 1)?;
+    add_term(&mut row, F::zero(), 4, 4)?;
+    add_term(&mut row, F::one().neg(), 2, 2)?;
+    entries(alloc, &row)
+}
+
+#[test]
+fn terms_are_added_in_their_places(rt: HostRuntime) -> Result<(), Fail> {
+    let alloc = rt.alloc();
+    let expected: [Entry; 3] = [(0, 0, 0, 3), (0, 0, 1, 9), (0, 1, 2, 2)];
+    assert!(rt; row_by_terms::<Gold>(alloc)?.as_slice() == expected.as_slice());
+    assert!(rt; row_by_terms::<Gf128>(alloc)?.as_slice() == expected.as_slice());
+    Ok(())
 }
 
 #[test]
