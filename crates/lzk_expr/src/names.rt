@@ -5,7 +5,7 @@ ghost use Rattle.std.specs.Map.{update};
 ghost use Rattle.lzk_expr.specs.Table.{found};
 
 use std::alloc::{AllocError, Global};
-use std::collections::BTreeMap;
+use std::collections::HashMap;
 
 // What a name stands for, by its number.
 #[derive(Clone, Copy)]
@@ -17,7 +17,7 @@ pub enum Binding {
 
 #[derive(Drop)]
 pub struct Names<'a> {
-    pub table: BTreeMap<&'a [u8], Binding>,
+    pub table: HashMap<&'a [u8], Binding>,
 }
 
 impl<'a> Names<'a> {
@@ -25,7 +25,7 @@ impl<'a> Names<'a> {
         ensures { (w : _) → found result.table w ≡ None }
     {
         Names {
-            table: BTreeMap::new(alloc),
+            table: HashMap::new(alloc),
         }
     }
 

@@ -170,7 +170,7 @@ pub fn level_rows<F: Field>(
     ensures short { (weights : List ℕ) → AreWeights (length depths.now - length made.now) made.now weights → IfOk result (λ rows. AreShort depths.now level weights rows.items) }
     ensures one { IfOk result (λ rows. StartsWithOne F.ops rows.items) }
 {
-    let mut rows = Vec::new(alloc);
+    let mut rows = Vec::with_capacity(alloc, depths.len())?;
     for k in 0..depths.len() {
         let row = node_row(alloc, made, depths, last, level, below, &rows)?;
         rows.push(Terms::new(row))?;
