@@ -8,6 +8,7 @@ const MOST_LAYERS: u32 = 512;
 const MOST_WIRES: usize = 131_072;
 const MOST_TERMS: u64 = 2_097_152;
 
+#[derive(Clone)]
 pub struct Layer {
     pub wires: u32,
     pub terms: Vec<Term>,
@@ -408,11 +409,14 @@ pub fn compile(text: &[u8]) -> Option<Vec<Layer>> {
     let depths = builder.depths();
     let count = builder.layers_needed(&depths)?;
     let mut layers = plain_form(&builder, &depths, count);
-    let inputs = 1 + builder.inputs;
-    prune(inputs, &mut layers);
-    share(inputs, &mut layers);
-    prune(inputs, &mut layers);
+    reduce(1 + builder.inputs, &mut layers);
     Some(layers)
+}
+
+fn reduce(inputs: u32, layers: &mut [Layer]) {
+    prune(inputs, layers);
+    share(inputs, layers);
+    prune(inputs, layers);
 }
 
 // A source which says that y is 1 where an odd number of its bits are, and 0 where an even number are. It pairs
@@ -428,6 +432,26 @@ pub fn parity_source() -> String {
         text += &format!("let t{i} = {a} + {b} - 2 * {a} * {b}\n");
     }
     text + &format!("assert {} = y\n", name(2 * BITS - 1))
+}
+
+/// How many statements a source over 16,384 bits has, read so often.
+pub fn parity_parsed(times: u32) -> u128 {
+    let text = parity_source();
+    (0..times).map(|_| black_box(parse_source(black_box(text.as_bytes()))).map_or(0, |s| s.len() as u128)).sum()
+}
+
+/// How many terms and wires the layers of its circuit have, reduced once more so often.
+pub fn reduced_again(times: u32) -> u128 {
+    let layers = compile(parity_source().as_bytes()).unwrap_or_default();
+    let mut total = 0;
+    for _ in 0..times {
+        let mut again = black_box(&layers).clone();
+        reduce(2 + BITS, &mut again);
+        for layer in black_box(again) {
+            total += layer.terms.len() as u128 + layer.wires as u128;
+        }
+    }
+    total
 }
 
 /// How many terms and wires the circuits of a source over 16,384 bits have, compiled so often.

@@ -74,7 +74,9 @@ fn main() {
         "proof-read" => proofs_read(times),
         "proof-write" => proofs_written(times),
         "source" => source(times),
+        "source-parity" => compile::parity_parsed(times),
         "compile" => compile::compiled(times),
+        "reduce" => compile::reduced_again(times),
         _ => return println!("no such work"),
     };
     println!("{work} {times}: {sum}");

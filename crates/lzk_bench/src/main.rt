@@ -7,6 +7,7 @@ mod constraints;
 mod elements;
 mod messages;
 mod proofs;
+mod reducing;
 mod rows;
 mod scripts;
 mod tables;
@@ -66,7 +67,9 @@ fn done<R: Files + Threads + Sync + AllocGlobal>(
         "proof-files" => proofs::written_as_read(rt)?.wrapping_add(scripts::joined_as_given(rt)?),
         "numbers" => texts::read(alloc, times)?,
         "source" => texts::parsed(alloc, times)?,
+        "source-parity" => texts::parity_parsed(alloc, times)?,
         "compile" => texts::compiled(alloc, times)?,
+        "reduce" => reducing::reduced_again(alloc, times)?,
         _ => return Ok(None),
     };
     Ok(Some(sum))

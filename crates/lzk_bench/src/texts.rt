@@ -1,6 +1,8 @@
 //! A number file and a source of 4 MiB, and a source of 49,150 nodes compiled.
 
-ghost use Rattle.std.specs.Prelude.{◌≤◌, length};
+ghost use Rattle.std.specs.Prelude.{◌≤◌, length, IfOk, IfSome};
+ghost use Rattle.lzk_goldilocks.specs.Elements.{ops};
+ghost use Rattle.lzk_reduce.specs.Reduced.{IsReduced};
 
 use lzk_circbytes::AnyCircuit;
 use lzk_circuit::Circuit;
@@ -125,6 +127,7 @@ fn size(circuit: &Circuit<Gold>) -> u128 {
 // The circuit of a text, and none where it has none over Goldilocks.
 fn circuit_of(alloc: Global, text: &[u8]) -> Option<Circuit<Gold>>
     requires { length text.now ≤ 4194304 }
+    ensures { IfSome result (λ circuit. IsReduced ops circuit.layers) }
 {
     match compile(alloc, &parse(alloc, text).ok()?) {
         Ok(AnyCircuit::Gold(circuit)) => Some(circuit),
@@ -134,7 +137,9 @@ fn circuit_of(alloc: Global, text: &[u8]) -> Option<Circuit<Gold>>
 }
 
 /// The circuit of a source over 16,384 bits.
-pub fn parity_circuit(alloc: Global) -> Result<Option<Circuit<Gold>>, AllocError> {
+pub fn parity_circuit(alloc: Global) -> Result<Option<Circuit<Gold>>, AllocError>
+    ensures { IfOk result (λ found. IfSome found (λ circuit. IsReduced ops circuit.layers)) }
+{
     let text = parity_source(alloc)?;
     if text.len() <= 4_194_304 {
         Ok(circuit_of(alloc, &text))
@@ -151,6 +156,28 @@ fn compiled_size(alloc: Global, text: &[u8]) -> u128
         Some(circuit) => size(&circuit),
         None => 0,
     }
+}
+
+// How many statements a text has, and 0 where it is no source.
+fn statement_count(alloc: Global, text: &[u8]) -> u128
+    requires { length text.now ≤ 4194304 }
+{
+    match parse(alloc, text) {
+        Ok(source) => source.statements().len() as u128,
+        Err(_) => 0,
+    }
+}
+
+/// Readings of a source over 16,384 bits: how many statements it has.
+pub fn parity_parsed(alloc: Global, times: u32) -> Result<u128, AllocError> {
+    let text = parity_source(alloc)?;
+    let mut total = 0u128;
+    if text.len() <= 4_194_304 {
+        for _ in 0..times {
+            total = total.wrapping_add(statement_count(alloc, &text));
+        }
+    }
+    Ok(total)
 }
 
 /// Circuits of a source over 16,384 bits: how many terms and wires they have.
