@@ -58,6 +58,15 @@ pub fn eval(times: u32) -> u128 {
 }
 
 pub fn varint(out: &mut Vec<u8>, mut n: u32) {
+    if n < 128 {
+        return out.push(n as u8);
+    }
+    if n < 1 << 14 {
+        return out.extend_from_slice(&[128 | n as u8, (n >> 7) as u8]);
+    }
+    if n < 1 << 21 {
+        return out.extend_from_slice(&[128 | n as u8, 128 | (n >> 7) as u8, (n >> 14) as u8]);
+    }
     while n >= 128 {
         out.push(128 + (n % 128) as u8);
         n /= 128;
@@ -65,10 +74,53 @@ pub fn varint(out: &mut Vec<u8>, mut n: u32) {
     out.push(n as u8);
 }
 
-pub fn file(layers: &[Vec<Term>]) -> Vec<u8> {
-    let mut constants: Vec<u64> = layers.iter().flatten().map(|t| t.coef).collect();
-    constants.sort();
+fn spread_out(n: u64) -> u64 {
+    n.wrapping_mul(0x9E37_79B9_7F4A_7C15)
+}
+
+// The coefficients, each once, ascending. Those that were met a while ago are not put down again.
+fn constants_of(layers: &[Vec<Term>]) -> Vec<u64> {
+    let (mut met, mut constants) = ([None; 512], vec![]);
+    for t in layers.iter().flatten() {
+        let slot = &mut met[(spread_out(t.coef) >> 55) as usize];
+        if *slot != Some(t.coef) {
+            *slot = Some(t.coef);
+            constants.push(t.coef);
+        }
+    }
+    constants.sort_unstable();
     constants.dedup();
+    constants
+}
+
+// The places of constants, each at a slot of its number.
+struct Places<'a> {
+    constants: &'a [u64],
+    slots: Vec<u32>,
+}
+
+impl Places<'_> {
+    fn of(constants: &[u64]) -> Places<'_> {
+        let mut places = Places { constants, slots: vec![0; 2 * constants.len()] };
+        for (k, n) in constants.iter().enumerate() {
+            let slot = places.slot(*n);
+            places.slots[slot] = k as u32;
+        }
+        places
+    }
+
+    fn slot(&self, n: u64) -> usize {
+        (spread_out(n) as u128 * self.slots.len() as u128 >> 64) as usize
+    }
+
+    fn place(&self, n: u64) -> u32 {
+        let place = self.slots[self.slot(n)];
+        if self.constants[place as usize] == n { place } else { self.constants.binary_search(&n).unwrap() as u32 }
+    }
+}
+
+pub fn file(layers: &[Vec<Term>]) -> Vec<u8> {
+    let constants = constants_of(layers);
     let mut out = b"LZC1\x01".to_vec();
     for n in [INPUTS as u32, INPUTS as u32, layers.len() as u32, constants.len() as u32] {
         out.extend(n.to_le_bytes());
@@ -76,15 +128,17 @@ pub fn file(layers: &[Vec<Term>]) -> Vec<u8> {
     for c in &constants {
         out.extend(c.to_le_bytes());
     }
+    let places = Places::of(&constants);
     for terms in layers.iter().rev() {
         out.extend((WIDTH as u32).to_le_bytes());
         out.extend((terms.len() as u32).to_le_bytes());
         let mut last = 0;
         for t in terms {
+            out.reserve(20);
             varint(&mut out, t.g - last);
             varint(&mut out, t.a);
             varint(&mut out, t.b - t.a);
-            varint(&mut out, constants.binary_search(&t.coef).unwrap() as u32);
+            varint(&mut out, places.place(t.coef));
             last = t.g;
         }
     }
