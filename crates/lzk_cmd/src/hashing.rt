@@ -3,15 +3,14 @@
 ghost use Rattle.std.specs.Prelude.{◌≡◌, ◌≤◌, Some, IsTrue, length, IfOk, string_bytes};
 ghost use Rattle.std.specs.Option.{option_copied};
 ghost use Rattle.sha2.specs.Sha256.{sha256};
-ghost use Rattle.lzk_circbytes.specs.Files.{id_of_any};
-ghost use Rattle.lzk_circbytes.specs.declared.any.AnyCircuit.TheVariants.{Gold};
+ghost use Rattle.lzk_circbytes.specs.Files.{id_of, id_of_any};
 ghost use Rattle.lzk_sha_circuit.specs.Places.{private_count};
 ghost use Rattle.lzk_cmd.specs.Ends.{says};
 ghost use Rattle.lzk_cmd.specs.Hashed.{HashAny, HashRun, ProvesHash, ShaCircuitRun, is_for, message_of};
 ghost use Rattle.lzk_cmd.specs.Keys.{is_count, number_of};
 ghost use Rattle.lzk_cmd.specs.Lines.{unfit_line};
 ghost use Rattle.lzk_cmd.specs.Seen.{seen};
-ghost use Rattle.lzk_cmd.specs.Verified.{session_of};
+ghost use Rattle.lzk_cmd.specs.Verified.{gold_coding, session_of};
 ghost use Rattle.lzk_cmd.specs.Walks.{IsEnding, IsShaFile, Moves, WalksToPut};
 
 use crate::circuits::read_held;
@@ -100,7 +99,7 @@ fn prove_hash<R: Threads + Sync, S: Shelf, G: Gate>(
     job: &Job<'_>,
     shelf: &mut S,
 ) -> Result<Ending, Halt>
-    requires id { job.now.id ≡ id_of_any (Gold circuit.now) }
+    requires id { job.now.id ≡ id_of gold_coding circuit.now }
     requires message { length message.now ≤ 55 }
     requires publics { circuit.now.publics ≡ 8 }
     requires privates { circuit.now.privates ≡ private_count (length message.now) }
