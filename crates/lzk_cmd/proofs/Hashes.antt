@@ -1,6 +1,6 @@
 -- The walks of `shacircuit` and `sha256`.
-use Rattle.std.proofs.Common.{◌≡◌, ◌≤◌, ℕ, Bool, true, false, eqb, List, length, map, Option, Some, Result, Ok, Err, inr, refl, sym, ap, ◌∙◌, subst, arith, lit≤}
-use Rattle.std.specs.Prelude.{◌+◌, ◌*◌, ◌<◌, ◌==◌, nat_le, ◌&&◌, IfOk, MatchBool, String, Vec, string_bytes}
+use Rattle.std.proofs.Common.{◌≡◌, ◌≤◌, ℕ, Bool, true, false, List, length, Option, Some, Result, Ok, Err, refl, sym, ap, ◌∙◌, subst, arith, lit≤}
+use Rattle.std.specs.Prelude.{◌*◌, ◌==◌, nat_le, ◌&&◌, IfOk, MatchBool, String, Vec, string_bytes}
 use Rattle.std.specs.declared.alloc.Global.{Global}
 use Rattle.std.specs.Result.{IsErrAnd}
 use Rattle.std.proofs.lemmas.Bool.{and_parts, eqb-true, leb-true}
@@ -27,7 +27,7 @@ use Rattle.lzk_cmd.specs.declared.ending.Ending.{Ending}
 use Rattle.lzk_cmd.specs.declared.ending.Halt.{Halt}
 use Rattle.lzk_cmd.specs.declared.ending.Halt.TheVariants as halts
 use Rattle.lzk_cmd.specs.Compiled.{term_count}
-use Rattle.lzk_cmd.specs.Ends.{End, Stop, stops_at, says, puts}
+use Rattle.lzk_cmd.specs.Ends.{End, Stop, says, puts}
 use Rattle.lzk_cmd.specs.Hashed.{ShaCircuitRun, ProvesHash, HashAny, digest_inputs, is_for}
 use Rattle.lzk_cmd.specs.Keys.{are_digits, is_count, number_of}
 use Rattle.lzk_cmd.specs.Lines.{compiled_line, unfit_line}

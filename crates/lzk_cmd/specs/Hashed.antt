@@ -1,5 +1,5 @@
 -- How a run ends that makes a circuit of SHA-256, and that proves for a message.
-use Rattle.std.specs.Prelude.{◌≡◌, ◌≤◌, ◌+◌, ◌*◌, ◌==◌, ◌&&◌, ℕ, Bool, List, length, map, Option, Some, MatchBool}
+use Rattle.std.specs.Prelude.{◌≡◌, ◌≤◌, ◌==◌, ◌&&◌, ℕ, Bool, List, length, map, Option, Some, MatchBool}
 use Rattle.hex.specs.Hex.{decode_of}
 use Rattle.sha2.specs.Sha256.{sha256}
 use Rattle.lzk_circbytes.specs.declared.any.AnyCircuit.{AnyCircuit}

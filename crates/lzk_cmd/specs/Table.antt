@@ -1,9 +1,8 @@
 -- The table of commands: what stands behind each command's word.
-use Rattle.std.specs.Prelude.{ℕ, Bool, true, false, not, List, Option, Some, None, cond, codes}
+use Rattle.std.specs.Prelude.{ℕ, Bool, true, not, List, Option, Some, None, cond, codes}
 use Rattle.std.specs.Str.{bytes_eq}
 use Rattle.lzk_cmd.specs.declared.table.Verb.{Verb}
 use Rattle.lzk_cmd.specs.declared.table.Verb.TheVariants.{Eval, Compile, Show, Prove, Verify, Batch, Demo, ShaCircuit, Sha256}
-use Rattle.lzk_cmd.specs.declared.table.First.{First}
 use Rattle.lzk_cmd.specs.declared.table.First.TheVariants.{File, Inputs, Bytes}
 use Rattle.lzk_cmd.specs.declared.table.Stands.{Stands}
 use Rattle.lzk_cmd.specs.declared.table.Stands.TheVariants.{Never, Maybe, Always}
