@@ -10,38 +10,48 @@ use Rattle.lzk_mle.specs.Multilinear.{eq}
 use Rattle.lzk_mle.proofs.TableLaws.{eq-even, eq-odd}
 
 module _ {A : Type 0} (o : Ops A) where
-  -- of the first size entries those from i on are split, and what stands before these is as it was
-  pub record IsSplitFrom (x : A) (old : List A) (size i : ℕ) (table : List A) : Type 0 where
+  -- of the first size entries those from i on stand at twice their places, with x times each behind it, and what stands before these is as it was
+  pub record IsSpreadFrom (x : A) (old : List A) (size i : ℕ) (table : List A) : Type 0 where
     pub length_is : length table ≡ length old
-    pub zeros : (k : ℕ) → i ≤ k → k < size → entry o table (2 * k) ≡ o.times (minus o o.one x) (entry o old k)
+    pub wholes : (k : ℕ) → i ≤ k → k < size → entry o table (2 * k) ≡ entry o old k
     pub ones : (k : ℕ) → i ≤ k → k < size → entry o table (2 * k + 1) ≡ o.times x (entry o old k)
     pub rest : (k : ℕ) → k < 2 * i → entry o table k ≡ entry o old k
 
-module _ {A : Type 0} (o : Ops A) (r : RingLaws o) where
-  pub split_more : (x : A) (old table : List A) (size j : ℕ) (one zero : A) → IsSplitFrom o x old size j table → 0 < j → j ≤ size → 2 * size ≤ length old
-      → one ≡ o.times x (entry o old (j - 1)) → zero ≡ minus o (entry o old (j - 1)) one → IsSplitFrom o x old size (j - 1) (slice_set (slice_set table (2 * (j - 1) + 1) one) (2 * (j - 1)) zero)
-  split_more x old table size j one zero h some few room eo ez =
+  pub spread_more : (x : A) (old table : List A) (size j : ℕ) (one whole : A) → IsSpreadFrom x old size j table → 0 < j → j ≤ size → 2 * size ≤ length old
+      → one ≡ o.times x (entry o old (j - 1)) → whole ≡ entry o old (j - 1) → IsSpreadFrom x old size (j - 1) (slice_set (slice_set table (2 * (j - 1) + 1) one) (2 * (j - 1)) whole)
+  spread_more x old table size j one whole h some few room eo ez =
       let i = j - 1 in
       let again : i + 1 ≡ j = omega arith in
       let mid = slice_set table (2 * i + 1) one in
       let sized : length mid ≡ length old = length-set table (2 * i + 1) one ∙ h.length_is in
-      let other : (k : ℕ) → k ≢ 2 * i → k ≢ 2 * i + 1 → entry o (slice_set mid (2 * i) zero) k ≡ entry o table k =
-      λ k n m. get_or-set_other mid (2 * i) k zero o.zero (omega arith) ∙ get_or-set_other table (2 * i + 1) k one o.zero (omega arith) in
+      let other : (k : ℕ) → k ≢ 2 * i → k ≢ 2 * i + 1 → entry o (slice_set mid (2 * i) whole) k ≡ entry o table k =
+      λ k n m. get_or-set_other mid (2 * i) k whole o.zero (omega arith) ∙ get_or-set_other table (2 * i + 1) k one o.zero (omega arith) in
       record {
-        length_is = length-set mid (2 * i) zero ∙ sized;
-        zeros = λ k l q. elim (cases_eq k i) [
-          | inl e ↦ ap (λ (n : ℕ). entry o (slice_set mid (2 * i) zero) (2 * n)) e ∙ get_or-set_same mid (2 * i) zero o.zero (omega (arith, sized, again))
-              ∙ ez ∙ ap (minus o (entry o old i)) eo ∙ solve o r (entry o old i ∷ x ∷ []) (var 0 ⊟ var 1 ⊠ var 0) ((unit ⊟ var 1) ⊠ var 0) refl
-              ∙ ap (λ (n : ℕ). o.times (minus o o.one x) (entry o old n)) (sym e)
-          | inr n ↦ other (2 * k) (omega arith) (omega arith) ∙ h.zeros k (omega arith) q
+        length_is = length-set mid (2 * i) whole ∙ sized;
+        wholes = λ k l q. elim (cases_eq k i) [
+          | inl e ↦ ap (λ (n : ℕ). entry o (slice_set mid (2 * i) whole) (2 * n)) e ∙ get_or-set_same mid (2 * i) whole o.zero (omega (arith, sized, again))
+              ∙ ez ∙ ap (entry o old) (sym e)
+          | inr n ↦ other (2 * k) (omega arith) (omega arith) ∙ h.wholes k (omega arith) q
         ];
         ones = λ k l q. elim (cases_eq k i) [
-          | inl e ↦ ap (λ (n : ℕ). entry o (slice_set mid (2 * i) zero) (2 * n + 1)) e ∙ get_or-set_other mid (2 * i) (2 * i + 1) zero o.zero (omega arith)
+          | inl e ↦ ap (λ (n : ℕ). entry o (slice_set mid (2 * i) whole) (2 * n + 1)) e ∙ get_or-set_other mid (2 * i) (2 * i + 1) whole o.zero (omega arith)
               ∙ get_or-set_same table (2 * i + 1) one o.zero (omega (arith, h.length_is, again)) ∙ eo ∙ ap (λ (n : ℕ). o.times x (entry o old n)) (sym e)
           | inr n ↦ other (2 * k + 1) (omega arith) (omega arith) ∙ h.ones k (omega arith) q
         ];
         rest = λ k q. other k (omega arith) (omega arith) ∙ h.rest k (omega arith);
       }
+
+  -- the second entry is taken from the first in the first i of size pairs
+  pub record IsLessenedTo (old : List A) (size i : ℕ) (table : List A) : Type 0 where
+    pub length_is : length table ≡ length old
+    pub zeros : (k : ℕ) → k < i → entry o table (2 * k) ≡ minus o (entry o old (2 * k)) (entry o old (2 * k + 1))
+    pub rest : (k : ℕ) → i ≤ k → k < size → entry o table (2 * k) ≡ entry o old (2 * k)
+    pub ones : (k : ℕ) → k < size → entry o table (2 * k + 1) ≡ entry o old (2 * k + 1)
+
+module _ {A : Type 0} (o : Ops A) (r : RingLaws o) where
+  -- what is left of a whole without x times it
+  pub lessened : (x whole : A) → minus o whole (o.times x whole) ≡ o.times (minus o o.one x) whole
+  lessened x whole = solve o r (whole ∷ x ∷ []) (var 0 ⊟ var 1 ⊠ var 0) ((unit ⊟ var 1) ⊠ var 0) refl
 
   -- a table for a point without its first entry, split by that entry
   pub table_split : (x : A) (rest old table : List A) (width half : ℕ) → width ≤ 2 * half

@@ -15,20 +15,45 @@ use lzk_circuit::Circuit;
 use lzk_field::Field;
 use lzk_sumcheck::Script;
 
-// Splits each of the first `size` entries in two: times 1 - x at twice its place, and times x behind that. It goes from the last one
-// down, so that each is read before it is written over.
+// Moves each of the first `size` entries to twice its place, and puts x times it behind that. It goes from the last one down, so that
+// each is read before it is written over.
+fn spread_entries<F: Field>(table: &mut [F], size: usize, x: F)
+    requires { 2 * size ≤ length table.old }
+    ensures length { length table.new ≡ length table.old }
+    ensures wholes { let o = F.ops in (i : ℕ) → i < size → entry o table.new (2 * i) ≡ entry o table.old i }
+    ensures ones { let o = F.ops in (i : ℕ) → i < size → entry o table.new (2 * i + 1) ≡ o.times x (entry o table.old i) }
+{
+    for i in (0..size).rev() {
+        let whole = table[i];
+        table[2 * i + 1] = x.mul(whole);
+        table[2 * i] = whole;
+    }
+}
+
+// Takes the second entry of each of the first `size` pairs from the first one.
+fn lessen_pairs<F: Field>(table: &mut [F], size: usize)
+    requires { 2 * size ≤ length table.old }
+    ensures length { length table.new ≡ length table.old }
+    ensures zeros { let o = F.ops in (i : ℕ) → i < size → entry o table.new (2 * i) ≡ minus o (entry o table.old (2 * i)) (entry o table.old (2 * i + 1)) }
+    ensures ones { let o = F.ops in (i : ℕ) → i < size → entry o table.new (2 * i + 1) ≡ entry o table.old (2 * i + 1) }
+{
+    for i in 0..size {
+        let first = table[2 * i];
+        let second = table[2 * i + 1];
+        table[2 * i] = first.sub(second);
+    }
+}
+
+// Splits each of the first `size` entries in two: times 1 - x at twice its place, and times x behind that. All products come before all
+// differences, since in one loop the compiler makes a branch of a difference's borrow.
 fn split_entries<F: Field>(table: &mut [F], size: usize, x: F)
     requires { 2 * size ≤ length table.old }
     ensures length { length table.new ≡ length table.old }
     ensures zeros { let o = F.ops in (i : ℕ) → i < size → entry o table.new (2 * i) ≡ o.times (minus o o.one x) (entry o table.old i) }
     ensures ones { let o = F.ops in (i : ℕ) → i < size → entry o table.new (2 * i + 1) ≡ o.times x (entry o table.old i) }
 {
-    for i in (0..size).rev() {
-        let whole = table[i];
-        let one = x.mul(whole);
-        table[2 * i + 1] = one;
-        table[2 * i] = whole.sub(one);
-    }
+    spread_entries(table, size, x);
+    lessen_pairs(table, size);
 }
 
 /// Sets the first `width` entries of a table to how their numbers agree with a point. Each takes about one product, however far

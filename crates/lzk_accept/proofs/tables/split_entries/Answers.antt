@@ -1,15 +1,14 @@
-use Rattle.std.proofs.Common.{◌≡◌, ◌-◌, ap, ◌∙◌, arith}
-use Rattle.std.proofs.lemmas.List.{get_or_default}
-use Rattle.lzk_field.specs.Sums.{entry}
-use Rattle.lzk_accept.proofs.TableLaws.{split_more}
+use Rattle.std.proofs.Common.{◌+◌, ◌*◌, ap, ◌∙◌}
+use Rattle.lzk_field.specs.Sums.{entry, minus}
+use Rattle.lzk_accept.proofs.TableLaws.{lessened}
 use Rattle.lzk_accept.proofs.tables.split_entries.Goals as goal
 
-pub loop-i-preserved : goal.loop-i-preserved
-loop-i-preserved g c =
+pub returns-clause-zeros : goal.returns-clause-zeros
+returns-clause-zeros g c i h =
     let o = g.F.Field.ops in
-    let l = c.loop-i in
-    let i = l.i - 1 in
-    let whole : c.index-table-i.result ≡ entry o c.args.table.now i = c.index-table-i.is ∙ get_or_default l.table i c.index-table-i.result o.zero (omega (arith, l.invariant.length_is)) ∙ l.invariant.rest i (omega arith) in
-    split_more o g.F.Field.laws.ring c.args.x c.args.table.now l.table c.args.size l.i c.mul-one.result c.sub.result l.invariant (omega arith) (omega arith) (omega arith)
-    (c.mul-one.ensures ∙ ap (o.times c.args.x) whole)
-    (c.sub.ensures ∙ ap (λ w. o.plus w (o.neg c.mul-one.result)) whole)
+    let whole = entry o c.args.table.now i in
+    c.lessen_pairs.ensures.zeros i h ∙ ap (λ w. minus o w (entry o c.spread_entries.new.table (2 * i + 1))) (c.spread_entries.ensures.wholes i h)
+    ∙ ap (minus o whole) (c.spread_entries.ensures.ones i h) ∙ lessened o g.F.Field.laws.ring c.args.x whole
+
+pub returns-clause-ones : goal.returns-clause-ones
+returns-clause-ones g c i h = c.lessen_pairs.ensures.ones i h ∙ c.spread_entries.ensures.ones i h
