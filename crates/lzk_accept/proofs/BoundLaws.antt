@@ -20,8 +20,7 @@ use Rattle.lzk_layout.specs.Places.{width_at}
 use Rattle.lzk_sumcheck.specs.declared.script.Script.{Script}
 use Rattle.lzk_sumcheck.specs.Rounds.{bound_coefficient}
 use Rattle.lzk_sumcheck.specs.Script.{layer_at, point_a, point_b}
-use Rattle.lzk_sumcheck.specs.Coefficients.{coefficients, terms_at, weights_at}
-use Rattle.lzk_accept.specs.Residuals.{bound_at}
+use Rattle.lzk_sumcheck.specs.Coefficients.{coefficients, terms_at, weights_at, bound_at}
 use Rattle.lzk_accept.specs.Bound.{counts, counts_at}
 
 module _ {A : Type 0} (o : Ops A) (r : RingLaws o) where

@@ -17,11 +17,12 @@ use Rattle.lzk_layout.proofs.PlaceLaws.{pads_within}
 use Rattle.lzk_sumcheck.specs.declared.script.Script.{Script}
 use Rattle.lzk_sumcheck.specs.Script.{layer_at, point_a, point_b, challenge_at}
 use Rattle.lzk_accept.specs.declared.forms.Form.{Form}
+use Rattle.lzk_sumcheck.specs.Coefficients.{bound_at}
 use Rattle.lzk_accept.specs.declared.linear.Factors.{Factors}
 use Rattle.lzk_accept.specs.declared.rounds.Claim.{Claim}
 use Rattle.lzk_accept.specs.Forms.{IsForm}
 use Rattle.lzk_accept.specs.Kept.{coefficient_in, IsConstraint, form_at, own_start, own_end, above_a, above_b, below_top, IsPlacedAt, IsLastForm}
-use Rattle.lzk_accept.specs.Residuals.{next_claim, padded, claim_a, claim_b, claim_after, bound_at, product_at, inputs_at, residual}
+use Rattle.lzk_accept.specs.Residuals.{next_claim, padded, claim_a, claim_b, claim_after, product_at, inputs_at, residual}
 use Rattle.lzk_accept.specs.Walks.{through_rounds, challenge_of}
 use Rattle.lzk_accept.proofs.FormLaws.{constant-is, coefficient-is}
 

@@ -16,8 +16,9 @@ use Rattle.lzk_sumcheck.specs.declared.script.Script.{Script}
 use Rattle.lzk_mle.specs.Multilinear.{eq, tilde}
 use Rattle.lzk_sumcheck.specs.Script.{layer_at, point_a, point_b, challenge_at}
 use Rattle.lzk_layout.specs.Places.{depth, round_count, sent_at, pads_at, factors_sent_at, factors_at}
+use Rattle.lzk_sumcheck.specs.Coefficients.{bound_at}
 use Rattle.lzk_accept.specs.Forms.{IsForm, IsAffine}
-use Rattle.lzk_accept.specs.Residuals.{next_claim, padded, claim_a, claim_b, claim_after, bound_at, product_at, inputs_at, residual, zeros, linear_coefficient, right_side}
+use Rattle.lzk_accept.specs.Residuals.{next_claim, padded, claim_a, claim_b, claim_after, product_at, inputs_at, residual, zeros, linear_coefficient, right_side}
 use Rattle.lzk_accept.proofs.FormLaws.{affine-constant, affine-entry, affine-plus, affine-times, affine-same, affine-minus, constant-is, coefficient-is}
 
 module _ {A : Type 0} (o : Ops A) (r : RingLaws o) (point : ℕ → A) (c : Wiring A) (q : ℕ → ℕ → ℕ → ℕ → A) (public : List A) (s : Script A) (messages : List A) where

@@ -70,3 +70,12 @@ module _ {A : Type 0} (o : Ops A) (r : RingLaws o) where
             let place : 2 * i + 1 ≡ k = omega arith in
             ap (entry o table) (sym place) ∙ ones i inside ∙ ap (o.times x) (is i inside) ∙ sym (eq-odd o r i x rest) ∙ ap (λ (n : ℕ). eq o n (x ∷ rest)) place
       ]
+
+-- one more entry of a list is set
+pub bounds_more : {A : Type 0} (o : Ops A) (f : ℕ → A) (list : List A) (n : ℕ) (x : A) → n < length list → ((i : ℕ) → i < n → entry o list i ≡ f i) → x ≡ f n
+    → (i : ℕ) → i < n + 1 → entry o (slice_set list n x) i ≡ f i
+bounds_more o f list n x within each here i h =
+    elim (cases_eq i n) [
+      | inl e ↦ ap (entry o (slice_set list n x)) e ∙ get_or-set_same list n x o.zero within ∙ here ∙ ap f (sym e)
+      | inr other ↦ get_or-set_other list n i x o.zero other ∙ each i (omega (arith, other))
+    ]

@@ -16,10 +16,9 @@ use Rattle.lzk_layout.specs.Places.{width_at}
 use Rattle.lzk_mle.specs.Multilinear.{eq}
 use Rattle.lzk_sumcheck.specs.declared.script.Script.{Script}
 use Rattle.lzk_sumcheck.specs.Script.{layer_at, point_a, point_b}
-use Rattle.lzk_sumcheck.specs.Coefficients.{coefficients}
+use Rattle.lzk_sumcheck.specs.Coefficients.{coefficients, bound_at}
 use Rattle.lzk_accept.specs.declared.terms.Walk.{Walk}
 use Rattle.lzk_accept.specs.Bound.{counts_at}
-use Rattle.lzk_accept.specs.Residuals.{bound_at}
 use Rattle.lzk_accept.specs.Walks.{counted, counted_so_far}
 use Rattle.lzk_accept.proofs.BoundLaws.{bound_sum}
 use Rattle.lzk_accept.proofs.ShapeLaws.{wires_is, terms_is}

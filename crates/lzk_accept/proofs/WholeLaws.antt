@@ -13,10 +13,12 @@ use Rattle.lzk_circuit.specs.Valid.{Wiring}
 use Rattle.lzk_layout.specs.Sizes.{committed_count}
 use Rattle.lzk_layout.specs.Places.{depth}
 use Rattle.lzk_sumcheck.specs.declared.script.Script.{Script}
+use Rattle.lzk_sumcheck.specs.Coefficients.{coefficients}
 use Rattle.lzk_sumcheck.specs.Script.{point_a, point_b}
 use Rattle.lzk_accept.specs.declared.forms.Form.{Form}
 use Rattle.lzk_accept.specs.declared.linear.Factors.{Factors}
-use Rattle.lzk_accept.specs.Kept.{coefficient_in, private_coefficient, IsLastForm, IsWhole}
+use Rattle.lzk_accept.specs.Kept.{coefficient_in, form_at, private_coefficient, IsConstraint, IsLastForm, IsPlacedAt, AreRest, IsWhole}
+use Rattle.lzk_accept.proofs.KeptLaws.{start_after, last_start, last_end}
 
 module _ {A : Type 0} (o : Ops A) (c : Wiring A) (s : Script A) where
   -- the whole list of what is kept from an entry on
@@ -74,3 +76,25 @@ module _ {A : Type 0} (o : Ops A) where
     -- and in its range, before the factors above, that of the list
     pub coefficient_inside : form.start ≤ j → j < form.end → j < form.above → coefficient_in o own form j ≡ entry o own j
     coefficient_inside low high above = let e : (nat_le form.start j && nat_lt j form.end) ≡ true = grind arith in by_range true e above
+
+-- constraints of the whole list, of which this is kept
+pub rest_is : {A : Type 0} (o : Ops A) (r : RingLaws o) (point : ℕ → A) (c : Wiring A) (public : List A) (s : Script A) (messages : List A) (skip : ℕ) (forms : List (Form A)) (own : List A)
+    → skip ≤ c.privates → ((i : ℕ) → i < depth c + 1 → IsPlacedAt c i (form_at o forms i))
+    → ((i : ℕ) → i < depth c + 1 → IsConstraint o point c (coefficients o c s) public s messages i (whole_of o c s skip own) (form_at o forms i))
+    → AreRest o point c public s messages skip forms own
+rest_is o r point c public s messages skip forms own few placed each =
+    let whole = whole_of o c s skip own in
+    let is = whole_is o c s skip own (omega (arith, few)) in
+    record {
+      entries = λ i j h b k. same_coefficient o own whole (form_at o forms i) j (sym (is.after j b k)) ∙ (each i h).coefficient j k;
+      rights = λ i h. (each i h).right;
+      layers = λ i j h b.
+          let at = placed i (omega arith) in
+          sym ((each i (omega arith)).coefficient j (omega (arith, few)))
+          ∙ coefficient_before o r whole (form_at o forms i) j (omega (arith, at.start, start_after c i h, few)) (omega (arith, at.above, few));
+      inputs = λ j b.
+          let at = placed (depth c) (omega arith) in
+          sym ((each (depth c) (omega arith)).coefficient j (omega (arith, few)))
+          ∙ coefficient_inside o r whole (form_at o forms (depth c)) j (omega (arith, at.start, last_start c (depth c) (omega arith))) (omega (arith, at.end, last_end c (depth c) (omega arith), few)) (omega (arith, at.above, few))
+          ∙ is.before j b;
+    }

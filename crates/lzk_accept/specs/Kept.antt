@@ -10,6 +10,7 @@ use Rattle.lzk_layout.specs.declared.params.Params.{Params}
 use Rattle.lzk_layout.specs.Sizes.{committed_count, params_of}
 use Rattle.lzk_layout.specs.Places.{depth, width_at, pads_at, factors_at, factors_sent_at}
 use Rattle.lzk_sumcheck.specs.declared.script.Script.{Script}
+use Rattle.lzk_sumcheck.specs.Coefficients.{coefficients}
 use Rattle.lzk_sumcheck.specs.Script.{point_a, point_b}
 use Rattle.lzk_accept.specs.declared.forms.Form.{Form}
 use Rattle.lzk_accept.specs.declared.linear.Factors.{Factors}
@@ -116,3 +117,11 @@ pub record IsLastForm {A : Type 0} (o : Ops A) (c : Wiring A) (public : List A) 
 pub record IsWhole {A : Type 0} (o : Ops A) (c : Wiring A) (s : Script A) (skip : ℕ) (own whole : List A) : Type 0 where
   pub before : (j : ℕ) → j < skip → entry o whole j ≡ private_coefficient o c s j
   pub after : (j : ℕ) → skip ≤ j → j < committed_count c → entry o whole j ≡ entry o own j
+
+-- Kept are the linear constraints, but for the inputs' coefficients at the first skip private inputs. Those are how the private inputs agree with
+-- the inputs' two points, and no layer's constraint has any there.
+pub record AreRest {A : Type 0} (o : Ops A) (point : ℕ → A) (c : Wiring A) (public : List A) (s : Script A) (messages : List A) (skip : ℕ) (forms : List (Form A)) (own : List A) : Type 0 where
+  pub entries : (i j : ℕ) → i < depth c + 1 → skip ≤ j → j < committed_count c → coefficient_in o own (form_at o forms i) j ≡ linear_coefficient o point c (coefficients o c s) public s messages i j
+  pub rights : (i : ℕ) → i < depth c + 1 → (form_at o forms i).right ≡ right_side o point c (coefficients o c s) public s messages i
+  pub layers : (i j : ℕ) → i < depth c → j < skip → linear_coefficient o point c (coefficients o c s) public s messages i j ≡ o.zero
+  pub inputs : (j : ℕ) → j < skip → linear_coefficient o point c (coefficients o c s) public s messages (depth c) j ≡ private_coefficient o c s j

@@ -8,11 +8,10 @@ use Rattle.lzk_mle.specs.Multilinear.{tilde}
 use Rattle.lzk_circuit.specs.Valid.{Wiring}
 use Rattle.lzk_circuit.specs.Wires.{inputs_of}
 use Rattle.lzk_layout.specs.Sizes.{committed_count}
-use Rattle.lzk_layout.specs.Places.{depth, width_at, round_count, sent_at, pads_at, factors_sent_at, factors_at}
+use Rattle.lzk_layout.specs.Places.{depth, round_count, sent_at, pads_at, factors_sent_at, factors_at}
 use Rattle.lzk_sumcheck.specs.declared.script.Script.{Script}
-use Rattle.lzk_sumcheck.specs.Rounds.{bound_coefficient}
 use Rattle.lzk_sumcheck.specs.Script.{layer_at, point_a, point_b, challenge_at}
-use Rattle.lzk_sumcheck.specs.Coefficients.{weights_at}
+use Rattle.lzk_sumcheck.specs.Coefficients.{bound_at}
 
 -- the value at t of the polynomial through p0 at point 0, the claim less p0 at point 1, and p2 at point 2
 unfoldable pub next_claim : {A : Type 0} → Ops A → (ℕ → A) → A → A → A → A → A
@@ -32,10 +31,6 @@ module _ {A : Type 0} (o : Ops A) where
   padded messages w i j = o.plus (entry o messages i) (entry o w j)
 
   module _ (c : Wiring A) where
-    -- the weighted sum of layer l's coefficients at its challenges
-    unfoldable pub bound_at : (ℕ → ℕ → ℕ → ℕ → A) → Script A → ℕ → A
-    bound_at q s l = bound_coefficient o (q l) (weights_at o c s l) (width_at c (l + 1)) (layer_at o s l).ra (layer_at o s l).rb
-
     -- the extension of the input layer that has the private inputs of w
     abbrev pub inputs_at : List A → List A → List A → A
     inputs_at public w r = tilde o (inputs_of o public (take c.privates w)) r

@@ -7,8 +7,7 @@ ghost use Rattle.lzk_circuit.specs.Sums.{sum_list};
 ghost use Rattle.lzk_circuit.specs.declared.layer.Term as declared;
 ghost use Rattle.lzk_layout.specs.Places.{depth};
 ghost use Rattle.lzk_sumcheck.specs.Script.{HasShape};
-ghost use Rattle.lzk_sumcheck.specs.Coefficients.{coefficients};
-ghost use Rattle.lzk_accept.specs.Residuals.{bound_at};
+ghost use Rattle.lzk_sumcheck.specs.Coefficients.{coefficients, bound_at};
 ghost use Rattle.lzk_accept.specs.Bound.{counts, counts_at};
 
 use crate::claims::{first_point, layer_of, second_point};

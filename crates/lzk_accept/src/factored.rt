@@ -1,20 +1,21 @@
 //! The constraints, combined, with few factors for the rows that hold private inputs alone.
 
-ghost use Rattle.std.specs.Prelude.{◌≡◌, ℕ, ◌+◌, ◌-◌, ◌*◌, ◌/◌, ◌<◌, ◌≤◌, ◌^◌, cond, nat_lt, length, IfOk};
+ghost use Rattle.std.specs.Prelude.{◌≡◌, ℕ, ◌+◌, ◌-◌, ◌*◌, ◌/◌, ◌<◌, ◌≤◌, ◌^◌, cond, nat_lt, List, length, IfOk};
 ghost use Rattle.lzk_field.specs.Sums.{entry, sum_below};
 ghost use Rattle.lzk_mle.specs.Multilinear.{eq};
 ghost use Rattle.lzk_layout.specs.Sizes.{params_of, sent_counts};
+ghost use Rattle.lzk_sumcheck.specs.Coefficients.{AreBounds};
 ghost use Rattle.lzk_sumcheck.specs.Script.{HasShape};
 ghost use Rattle.lzk_accept.specs.Challenges as drawn;
 ghost use Rattle.lzk_accept.specs.Checks.{combined_of, wanted_of};
 ghost use Rattle.lzk_accept.specs.Factored.{HasRoomFor, GivesCombined};
-ghost use Rattle.lzk_accept.specs.Kept.{private_coefficient, AreFormsOf};
+ghost use Rattle.lzk_accept.specs.Kept.{private_coefficient, AreFormsOf, AreRest};
 
 use crate::challenges::Challenges;
 use crate::claims::{first_point, second_point};
 use crate::combination::combine_from;
 use crate::forms::{Forms, power_of};
-use crate::linear::rest_forms;
+use crate::linear::{entry_of, rest_forms, rest_with_bounds};
 use lzk_circuit::{Circuit, bits_of};
 use lzk_field::Field;
 use lzk_layout::{Elements, Params};
@@ -54,13 +55,6 @@ impl<F: Field> Factored<F> {
             table: Elements::zeros(alloc, others * width)?,
         })
     }
-}
-
-// The entry at a place of a list, and 0 past its end.
-fn entry_of<F: Field>(list: &[F], i: usize) -> F
-    ensures { result ≡ entry F.ops list.now i }
-{
-    if i < list.len() { list[i] } else { F::zero() }
 }
 
 // Sets two factors for each row: the multiples of a table's entries from number `high` on, and those of the next entries.
@@ -226,43 +220,45 @@ fn set_private_factors<F: Field>(
     );
 }
 
-// Sets the factors and the table, and gives the sum that is wanted.
+// How many private inputs stand in so many filled rows.
+fn filled_inputs<F: Field>(circuit: &Circuit<F>, rows: u32) -> usize
+    requires rows { rows ≡ circuit.now.privates / (params_of circuit.now).wr }
+    ensures number { result ≡ rows * (params_of circuit.now).wr }
+    ensures few { result ≤ circuit.now.privates }
+{
+    rows as usize * Params::of(circuit).wr as usize
+}
+
+// Sets the factors and the table, where the forms are set but for what filled rows hold. Gives the sum that is wanted.
 fn fill<F: Field>(
     circuit: &Circuit<F>,
-    public: &[F],
     script: &Script<F>,
-    messages: &[F],
     challenges: &Challenges<F>,
     forms: &mut Forms<F>,
-    rows: u32,
-    row_factors: &mut [F],
-    place_factors: &mut [F],
-    table: &mut [F],
+    factored: &mut Factored<F>,
 ) -> F
-    requires public { length public.now ≡ circuit.now.publics }
     requires script { HasShape circuit.now script.now }
-    requires messages { length messages.now ≡ sent_counts circuit.now }
     requires challenges { drawn.HasShape (params_of circuit.now) challenges.now }
     requires forms { AreFormsOf F.ops circuit.now forms.old }
-    requires rows { rows ≡ circuit.now.privates / (params_of circuit.now).wr }
-    requires row_factors { length row_factors.old ≡ 4 * rows }
-    requires place_factors { length place_factors.old ≡ 4 * (params_of circuit.now).wr }
-    requires table { length table.old ≡ ((params_of circuit.now).nrow - 3 - rows) * (params_of circuit.now).wr }
+    requires room { HasRoomFor circuit.now factored.old }
     ensures forms { AreFormsOf F.ops circuit.now forms.new }
-    ensures row_length { length row_factors.new ≡ length row_factors.old }
-    ensures place_length { length place_factors.new ≡ length place_factors.old }
-    ensures table_length { length table.new ≡ length table.old }
-    ensures private_rows { let o = F.ops in let p = params_of circuit.now in (i s : ℕ) → i < rows → s < p.wr →
-        sum_below o 4 (λ k. o.times (entry o row_factors.new (k * rows + i)) (entry o place_factors.new (k * p.wr + s)))
-        ≡ combined_of o F.element circuit.now public.now script.now messages.now challenges.now (3 + i) s }
-    ensures other_rows { let o = F.ops in let p = params_of circuit.now in (i s : ℕ) → i < p.nrow - 3 - rows → s < p.wr →
-        entry o table.new (i * p.wr + s) ≡ combined_of o F.element circuit.now public.now script.now messages.now challenges.now (3 + (rows + i)) s }
-    ensures wanted { result ≡ wanted_of F.ops F.element circuit.now public.now script.now messages.now challenges.now }
+    ensures room { HasRoomFor circuit.now factored.new }
+    ensures combined { let o = F.ops in let p = params_of circuit.now in (public messages : List F) →
+        AreRest o F.element circuit.now public script.now messages (factored.old.rows * p.wr) forms.old.forms forms.old.own →
+        GivesCombined o p factored.new (combined_of o F.element circuit.now public script.now messages challenges.now) }
+    ensures wanted { let o = F.ops in let p = params_of circuit.now in (public messages : List F) →
+        AreRest o F.element circuit.now public script.now messages (factored.old.rows * p.wr) forms.old.forms forms.old.own →
+        result ≡ wanted_of o F.element circuit.now public script.now messages challenges.now }
 {
     let params = Params::of(circuit);
-    let skip = rows as usize * params.wr as usize;
-    rest_forms(circuit, public, script, messages, skip, forms);
-    let wanted = combine_from(&params, forms, challenges, rows, table);
+    let rows = factored.rows;
+    let wanted = combine_from(
+        &params,
+        forms,
+        challenges,
+        rows,
+        factored.table.as_mut_slice(),
+    );
     let depth = circuit.depth();
     let lambda = challenges.lambda.as_slice();
     let by = entry_of(lambda, depth as usize);
@@ -273,8 +269,8 @@ fn fill<F: Field>(
         by,
         bits,
         rows,
-        row_factors,
-        place_factors,
+        factored.row_factors.as_mut_slice(),
+        factored.place_factors.as_mut_slice(),
         forms,
     );
     wanted
@@ -309,16 +305,35 @@ pub fn combine_factored<F: Field>(
     ensures combined { GivesCombined F.ops (params_of circuit.now) factored.new (combined_of F.ops F.element circuit.now public.now script.now messages.now challenges.now) }
     ensures wanted { result ≡ wanted_of F.ops F.element circuit.now public.now script.now messages.now challenges.now }
 {
-    fill(
-        circuit,
-        public,
-        script,
-        messages,
-        challenges,
-        forms,
-        factored.rows,
-        factored.row_factors.as_mut_slice(),
-        factored.place_factors.as_mut_slice(),
-        factored.table.as_mut_slice(),
-    )
+    let skip = filled_inputs(circuit, factored.rows);
+    rest_forms(circuit, public, script, messages, skip, forms);
+    fill(circuit, script, challenges, forms, factored)
+}
+
+/// The same where the layers' bound coefficients are given, as a prover's sumchecks leave them. No term is visited.
+pub fn combine_with_bounds<F: Field>(
+    circuit: &Circuit<F>,
+    public: &[F],
+    script: &Script<F>,
+    messages: &[F],
+    challenges: &Challenges<F>,
+    bounds: &[F],
+    forms: &mut Forms<F>,
+    factored: &mut Factored<F>,
+) -> F
+    requires public { length public.now ≡ circuit.now.publics }
+    requires script { HasShape circuit.now script.now }
+    requires messages { length messages.now ≡ sent_counts circuit.now }
+    requires challenges { drawn.HasShape (params_of circuit.now) challenges.now }
+    requires bounds { AreBounds F.ops circuit.now script.now bounds.now }
+    requires forms { AreFormsOf F.ops circuit.now forms.old }
+    requires room { HasRoomFor circuit.now factored.old }
+    ensures forms { AreFormsOf F.ops circuit.now forms.new }
+    ensures room { HasRoomFor circuit.now factored.new }
+    ensures combined { GivesCombined F.ops (params_of circuit.now) factored.new (combined_of F.ops F.element circuit.now public.now script.now messages.now challenges.now) }
+    ensures wanted { result ≡ wanted_of F.ops F.element circuit.now public.now script.now messages.now challenges.now }
+{
+    let skip = filled_inputs(circuit, factored.rows);
+    rest_with_bounds(circuit, public, script, messages, bounds, skip, forms);
+    fill(circuit, script, challenges, forms, factored)
 }

@@ -38,17 +38,18 @@ pub struct Forms<F> {
     pub(crate) first: Vec<F>,
     pub(crate) second: Vec<F>,
     pub(crate) weights: Vec<F>,
+    pub(crate) bounds: Vec<F>,
 }
 
 impl<F> Model for Forms<F> {
-    ghost use Rattle.std.specs.Prelude.{◌≡◌, length};
+    ghost use Rattle.std.specs.Prelude.{◌≡◌, ◌+◌, length};
     ghost use Rattle.lzk_accept.specs.Kept.{LinearForms};
 
     ghost Value = { LinearForms F };
 
     ghost view = { λ f. record { forms = f.forms.items; own = f.own.items; room = length f.weights.items } };
 
-    ghost invariant = { λ f. (length f.first.items ≡ length f.weights.items) × (length f.second.items ≡ length f.weights.items) };
+    ghost invariant = { λ f. (length f.first.items ≡ length f.weights.items) × (length f.second.items ≡ length f.weights.items) × (length f.bounds.items + 1 ≡ length f.forms.items) };
 }
 
 impl<F: Field> Form<F> {
@@ -151,6 +152,7 @@ impl<F: Field> Forms<F> {
             first: zeros(alloc, size)?,
             second: zeros(alloc, size)?,
             weights: zeros(alloc, size)?,
+            bounds: zeros(alloc, circuit.depth() as usize)?,
         })
     }
 

@@ -22,7 +22,7 @@ mod terms;
 
 pub use challenges::{Challenges, draw_challenges};
 pub use combination::combine;
-pub use factored::{Factored, combine_factored};
+pub use factored::{Factored, combine_factored, combine_with_bounds};
 pub use forms::{Form, Forms};
 pub use linear::linear_forms;
 pub use points::next_claim;

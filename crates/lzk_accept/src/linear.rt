@@ -7,17 +7,17 @@ ghost use Rattle.lzk_circuit.specs.Bits.{bits};
 ghost use Rattle.lzk_circuit.specs.Valid.{IsValid};
 ghost use Rattle.lzk_layout.specs.Places.{depth, width_at, pads_at, factors_at, places_of, AreWithin};
 ghost use Rattle.lzk_layout.specs.Sizes.{sent_counts, committed_count};
-ghost use Rattle.lzk_sumcheck.specs.Coefficients.{coefficients};
+ghost use Rattle.lzk_sumcheck.specs.Coefficients.{coefficients, bound_at, AreBounds};
 ghost use Rattle.lzk_sumcheck.specs.Script.{layer_at, point_a, point_b, HasShape};
-ghost use Rattle.lzk_accept.specs.Kept.{form_at, coefficient, right, above_a, above_b, below_top, private_coefficient, IsPlacedAt, IsConstraint, AreFormsOf, IsLastForm, IsWhole};
+ghost use Rattle.lzk_accept.specs.Kept.{form_at, coefficient, right, above_a, above_b, below_top, IsPlacedAt, IsConstraint, AreFormsOf, AreRest, IsLastForm};
 ghost use Rattle.lzk_accept.specs.Points.{AreInverses};
-ghost use Rattle.lzk_accept.specs.Residuals.{bound_at, linear_coefficient, right_side};
+ghost use Rattle.lzk_accept.specs.Residuals.{linear_coefficient, right_side};
 
 use crate::claims::layer_of;
 use crate::forms::{Form, Forms};
 use crate::points::ThreePoints;
 use crate::rounds::{Claim, claim_form};
-use crate::tables::{layer_bound, set_table};
+use crate::tables::{set_bounds, set_input_tables};
 use lzk_circuit::Circuit;
 use lzk_field::Field;
 use lzk_layout::LayerPlaces;
@@ -28,6 +28,13 @@ use lzk_sumcheck::Script;
 struct Factors<F> {
     first: F,
     second: F,
+}
+
+/// The entry at a place of a list, and 0 past its end.
+pub(crate) fn entry_of<F: Field>(list: &[F], i: usize) -> F
+    ensures { result ≡ entry F.ops list.now i }
+{
+    if i < list.len() { list[i] } else { F::zero() }
 }
 
 // The two factors that are sent from place i on.
@@ -232,49 +239,37 @@ fn set_form<F: Field>(forms: &mut [Form<F>], i: usize, form: Form<F>)
     forms[i] = form;
 }
 
-// Sets the constraints of all layers, and the tables to the points of the inputs. Gives the last layer's sent factors.
+// Sets the constraints of all layers. Gives the last layer's sent factors.
 fn fill_layers<F: Field>(
     circuit: &Circuit<F>,
     script: &Script<F>,
     messages: &[F],
+    bounds: &[F],
     forms: &mut [Form<F>],
     own: &mut [F],
-    first: &mut [F],
-    second: &mut [F],
-    weights: &mut [F],
 ) -> Factors<F>
     requires shape { HasShape circuit.now script.now }
     requires messages { length messages.now ≡ sent_counts circuit.now }
+    requires bounds { AreBounds F.ops circuit.now script.now bounds.now }
     requires count { length forms.old ≡ depth circuit.now + 1 }
     requires placed { (i : ℕ) → i < depth circuit.now + 1 → IsPlacedAt circuit.now i (form_at F.ops forms.old i) }
     requires own { length own.old ≡ committed_count circuit.now }
-    requires room { (k : ℕ) → k < depth circuit.now + 1 → 2 ^ bits (width_at circuit.now k) ≤ length weights.old }
-    requires first_room { length first.old ≡ length weights.old }
-    requires second_room { length second.old ≡ length weights.old }
     ensures forms_length { length forms.new ≡ length forms.old }
     ensures own_length { length own.new ≡ length own.old }
-    ensures first_length { length first.new ≡ length first.old }
-    ensures second_length { length second.new ≡ length second.old }
-    ensures weights_length { length weights.new ≡ length weights.old }
     ensures above_a { result.first ≡ above_a F.ops circuit.now messages.now (depth circuit.now) }
     ensures above_b { result.second ≡ above_b F.ops circuit.now messages.now (depth circuit.now) }
-    ensures first { let o = F.ops in (g : ℕ) → g < width_at circuit.now (depth circuit.now) → entry o first.new g ≡ eq o g (point_a o script.now (depth circuit.now)) }
-    ensures second { let o = F.ops in (g : ℕ) → g < width_at circuit.now (depth circuit.now) → entry o second.new g ≡ eq o g (point_b o script.now (depth circuit.now)) }
     ensures placed { (i : ℕ) → i < depth circuit.now + 1 → IsPlacedAt circuit.now i (form_at F.ops forms.new i) }
     ensures constraints { (public : List F) (i : ℕ) → i < depth circuit.now → IsConstraint F.ops F.element circuit.now (coefficients F.ops circuit.now script.now) public script.now messages.now i own.new (form_at F.ops forms.new i) }
 {
     let depth = circuit.depth();
     let points = ThreePoints::new();
-    let outputs = circuit.width(0) as usize;
-    set_table(script.out_point.as_slice(), outputs, first);
-    set_table(script.out_point.as_slice(), outputs, second);
     let mut places = LayerPlaces::first(circuit);
     let mut above = Factors {
         first: F::zero(),
         second: F::zero(),
     };
     for l in 0..depth {
-        let bound = layer_bound(circuit, script, l, first, second, weights);
+        let bound = entry_of(bounds, l as usize);
         let old = form_of(forms, l as usize);
         let form = layer_form(
             points, circuit, script, messages, l, places, above, bound, old, own,
@@ -286,41 +281,38 @@ fn fill_layers<F: Field>(
     above
 }
 
-// Sets all constraints, but for the inputs' coefficients at the first `skip` private inputs.
+// Sets all constraints, but for the inputs' coefficients at the first `skip` private inputs, from the layers' bound coefficients and
+// the tables of the inputs' two points.
 fn fill_forms<F: Field>(
     circuit: &Circuit<F>,
     public: &[F],
     script: &Script<F>,
     messages: &[F],
+    bounds: &[F],
+    first: &[F],
+    second: &[F],
     skip: usize,
     forms: &mut [Form<F>],
     own: &mut [F],
-    first: &mut [F],
-    second: &mut [F],
-    weights: &mut [F],
 )
     requires skip { skip ≤ circuit.now.privates }
     requires public { length public.now ≡ circuit.now.publics }
     requires shape { HasShape circuit.now script.now }
     requires messages { length messages.now ≡ sent_counts circuit.now }
+    requires bounds { AreBounds F.ops circuit.now script.now bounds.now }
+    requires first_room { width_at circuit.now (depth circuit.now) ≤ length first.now }
+    requires second_room { width_at circuit.now (depth circuit.now) ≤ length second.now }
+    requires first { let o = F.ops in (g : ℕ) → g < width_at circuit.now (depth circuit.now) → entry o first.now g ≡ eq o g (point_a o script.now (depth circuit.now)) }
+    requires second { let o = F.ops in (g : ℕ) → g < width_at circuit.now (depth circuit.now) → entry o second.now g ≡ eq o g (point_b o script.now (depth circuit.now)) }
     requires count { length forms.old ≡ depth circuit.now + 1 }
     requires placed { (i : ℕ) → i < depth circuit.now + 1 → IsPlacedAt circuit.now i (form_at F.ops forms.old i) }
     requires own { length own.old ≡ committed_count circuit.now }
-    requires room { (k : ℕ) → k < depth circuit.now + 1 → 2 ^ bits (width_at circuit.now k) ≤ length weights.old }
-    requires first_room { length first.old ≡ length weights.old }
-    requires second_room { length second.old ≡ length weights.old }
     ensures forms_length { length forms.new ≡ length forms.old }
     ensures own_length { length own.new ≡ length own.old }
-    ensures first_length { length first.new ≡ length first.old }
-    ensures second_length { length second.new ≡ length second.old }
-    ensures weights_length { length weights.new ≡ length weights.old }
     ensures placed { (i : ℕ) → i < depth circuit.now + 1 → IsPlacedAt circuit.now i (form_at F.ops forms.new i) }
-    ensures constraints { (whole : List F) → IsWhole F.ops circuit.now script.now skip own.new whole →
-        (i : ℕ) → i < depth circuit.now + 1 → IsConstraint F.ops F.element circuit.now (coefficients F.ops circuit.now script.now) public.now script.now messages.now i whole (form_at F.ops forms.new i) }
+    ensures rest { AreRest F.ops F.element circuit.now public.now script.now messages.now skip forms.new own.new }
 {
-    let above = fill_layers(
-        circuit, script, messages, forms, own, first, second, weights,
-    );
+    let above = fill_layers(circuit, script, messages, bounds, forms, own);
     let depth = circuit.depth() as usize;
     let old = form_of(forms, depth);
     let last = last_form(
@@ -353,27 +345,61 @@ pub(crate) fn rest_forms<F: Field>(
     requires messages { length messages.now ≡ sent_counts circuit.now }
     requires made { AreFormsOf F.ops circuit.now forms.old }
     ensures made { AreFormsOf F.ops circuit.now forms.new }
-    ensures coefficients { let q = coefficients F.ops circuit.now script.now in
-        (i j : ℕ) → i < depth circuit.now + 1 → skip ≤ j → j < committed_count circuit.now →
-        coefficient F.ops forms.new i j ≡ linear_coefficient F.ops F.element circuit.now q public.now script.now messages.now i j }
-    ensures rights { let q = coefficients F.ops circuit.now script.now in
-        (i : ℕ) → i < depth circuit.now + 1 → right F.ops forms.new i ≡ right_side F.ops F.element circuit.now q public.now script.now messages.now i }
-    ensures layers { let q = coefficients F.ops circuit.now script.now in
-        (i j : ℕ) → i < depth circuit.now → j < skip → linear_coefficient F.ops F.element circuit.now q public.now script.now messages.now i j ≡ F.ops.zero }
-    ensures inputs { let q = coefficients F.ops circuit.now script.now in
-        (j : ℕ) → j < skip → linear_coefficient F.ops F.element circuit.now q public.now script.now messages.now (depth circuit.now) j ≡ private_coefficient F.ops circuit.now script.now j }
+    ensures rest { AreRest F.ops F.element circuit.now public.now script.now messages.now skip forms.new.forms forms.new.own }
 {
+    set_bounds(
+        circuit,
+        script,
+        &mut forms.bounds,
+        &mut forms.first,
+        &mut forms.second,
+        &mut forms.weights,
+    );
     fill_forms(
         circuit,
         public,
         script,
         messages,
+        &forms.bounds,
+        &forms.first,
+        &forms.second,
         skip,
         &mut forms.forms,
         &mut forms.own,
-        &mut forms.first,
-        &mut forms.second,
-        &mut forms.weights,
+    );
+}
+
+/// The same where the layers' bound coefficients are given. No term is visited.
+pub(crate) fn rest_with_bounds<F: Field>(
+    circuit: &Circuit<F>,
+    public: &[F],
+    script: &Script<F>,
+    messages: &[F],
+    bounds: &[F],
+    skip: usize,
+    forms: &mut Forms<F>,
+)
+    requires skip { skip ≤ circuit.now.privates }
+    requires public { length public.now ≡ circuit.now.publics }
+    requires shape { HasShape circuit.now script.now }
+    requires messages { length messages.now ≡ sent_counts circuit.now }
+    requires bounds { AreBounds F.ops circuit.now script.now bounds.now }
+    requires made { AreFormsOf F.ops circuit.now forms.old }
+    ensures made { AreFormsOf F.ops circuit.now forms.new }
+    ensures rest { AreRest F.ops F.element circuit.now public.now script.now messages.now skip forms.new.forms forms.new.own }
+{
+    set_input_tables(circuit, script, &mut forms.first, &mut forms.second);
+    fill_forms(
+        circuit,
+        public,
+        script,
+        messages,
+        bounds,
+        &forms.first,
+        &forms.second,
+        skip,
+        &mut forms.forms,
+        &mut forms.own,
     );
 }
 

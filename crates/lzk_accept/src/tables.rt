@@ -6,10 +6,9 @@ ghost use Rattle.lzk_mle.specs.Multilinear.{eq};
 ghost use Rattle.lzk_circuit.specs.Bits.{bits};
 ghost use Rattle.lzk_layout.specs.Places.{depth, width_at};
 ghost use Rattle.lzk_sumcheck.specs.Script.{point_a, point_b, HasShape};
-ghost use Rattle.lzk_sumcheck.specs.Coefficients.{coefficients};
-ghost use Rattle.lzk_accept.specs.Residuals.{bound_at};
+ghost use Rattle.lzk_sumcheck.specs.Coefficients.{coefficients, bound_at, AreBounds};
 
-use crate::claims::layer_of;
+use crate::claims::{first_point, layer_of, second_point};
 use crate::terms::sum_terms;
 use lzk_circuit::Circuit;
 use lzk_field::Field;
@@ -123,4 +122,55 @@ pub(crate) fn layer_bound<F: Field>(
     set_table(layer.ra.as_slice(), below, first);
     set_table(layer.rb.as_slice(), below, second);
     sum_terms(circuit.layer(l).terms.as_slice(), weights, first, second)
+}
+
+/// Sets the bound coefficients of all layers, for which their terms are gone over, and the tables to the inputs' two points.
+pub(crate) fn set_bounds<F: Field>(
+    circuit: &Circuit<F>,
+    script: &Script<F>,
+    bounds: &mut [F],
+    first: &mut [F],
+    second: &mut [F],
+    weights: &mut [F],
+)
+    requires shape { HasShape circuit.now script.now }
+    requires count { length bounds.old ≡ depth circuit.now }
+    requires room { (k : ℕ) → k < depth circuit.now + 1 → 2 ^ bits (width_at circuit.now k) ≤ length weights.old }
+    requires first_room { length first.old ≡ length weights.old }
+    requires second_room { length second.old ≡ length weights.old }
+    ensures weights_length { length weights.new ≡ length weights.old }
+    ensures first_length { length first.new ≡ length first.old }
+    ensures second_length { length second.new ≡ length second.old }
+    ensures bounds_length { length bounds.new ≡ length bounds.old }
+    ensures bounds { AreBounds F.ops circuit.now script.now bounds.new }
+    ensures first { let o = F.ops in (g : ℕ) → g < width_at circuit.now (depth circuit.now) → entry o first.new g ≡ eq o g (point_a o script.now (depth circuit.now)) }
+    ensures second { let o = F.ops in (g : ℕ) → g < width_at circuit.now (depth circuit.now) → entry o second.new g ≡ eq o g (point_b o script.now (depth circuit.now)) }
+{
+    let outputs = circuit.width(0) as usize;
+    set_table(script.out_point.as_slice(), outputs, first);
+    set_table(script.out_point.as_slice(), outputs, second);
+    for l in 0..circuit.depth() {
+        bounds[l as usize] = layer_bound(circuit, script, l, first, second, weights);
+    }
+}
+
+/// Sets the tables to the inputs' two points.
+pub(crate) fn set_input_tables<F: Field>(
+    circuit: &Circuit<F>,
+    script: &Script<F>,
+    first: &mut [F],
+    second: &mut [F],
+)
+    requires shape { HasShape circuit.now script.now }
+    requires first_room { 2 ^ bits (width_at circuit.now (depth circuit.now)) ≤ length first.old }
+    requires second_room { 2 ^ bits (width_at circuit.now (depth circuit.now)) ≤ length second.old }
+    ensures first_length { length first.new ≡ length first.old }
+    ensures second_length { length second.new ≡ length second.old }
+    ensures first { let o = F.ops in (g : ℕ) → g < width_at circuit.now (depth circuit.now) → entry o first.new g ≡ eq o g (point_a o script.now (depth circuit.now)) }
+    ensures second { let o = F.ops in (g : ℕ) → g < width_at circuit.now (depth circuit.now) → entry o second.new g ≡ eq o g (point_b o script.now (depth circuit.now)) }
+{
+    let depth = circuit.depth();
+    let inputs = circuit.width(depth) as usize;
+    set_table(first_point(circuit, script, depth), inputs, first);
+    set_table(second_point(circuit, script, depth), inputs, second);
 }

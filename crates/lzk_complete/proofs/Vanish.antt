@@ -20,7 +20,7 @@ use Rattle.lzk_layout.specs.Places.{depth, width_at, bits_under, round_count, se
 use Rattle.lzk_layout.specs.Sizes.{sent_counts}
 use Rattle.lzk_sumcheck.specs.declared.script.LayerScript.{LayerScript}
 use Rattle.lzk_sumcheck.specs.declared.script.Script.{Script}
-use Rattle.lzk_sumcheck.specs.Coefficients.{coefficients, terms_at, weights_at}
+use Rattle.lzk_sumcheck.specs.Coefficients.{coefficients, terms_at, weights_at, bound_at}
 use Rattle.lzk_sumcheck.specs.Messages.{layered_at, true_round, true_a, true_b, AreMessages}
 use Rattle.lzk_sumcheck.specs.Rounds.{Layered, of_a, of_b, bound_coefficient, claim, round, IsFitting, IsSumcheck}
 use Rattle.lzk_sumcheck.specs.Script.{script, after_layers, layer_at, point_a, point_b, challenge_at, first_challenges, HasBits}
@@ -28,7 +28,7 @@ use Rattle.lzk_sumcheck.proofs.Prefixes.{start, script-layer}
 use Rattle.lzk_sumcheck.proofs.SentLaws.{evens, odds}
 use Rattle.lzk_sumcheck.proofs.ShapeLaws.{layer_bits}
 use Rattle.lzk_sumcheck.proofs.SumcheckLaws.{sumcheck_of}
-use Rattle.lzk_accept.specs.Residuals.{next_claim, padded, claim_a, claim_b, claim_after, bound_at, product_at, inputs_at, residual}
+use Rattle.lzk_accept.specs.Residuals.{next_claim, padded, claim_a, claim_b, claim_after, product_at, inputs_at, residual}
 use Rattle.lzk_tableau.specs.Tableau.{randoms, committed}
 use Rattle.lzk_complete.specs.Residuals.{ResidualsVanish}
 use Rattle.lzk_complete.proofs.ClaimLaws.{next_true}

@@ -151,3 +151,18 @@ module _ {A : Type 0} (o : Ops A) (r : RingLaws o) where
   sizes-after [] v k s e z = let e' : k ≡ v = omega arith in subst (λ w. Sizes w s.n s.m) e' z
   sizes-after (x ∷ bs) v zero s e z = absurd (omega arith)
   sizes-after (x ∷ bs) v (suc k) s e z = sizes-after bs v k (bind_state o x s) (omega arith) (sizes-bind k z.0 s z.1.0 z.1.1)
+
+  -- what is left of the coefficients when all variables are bound
+  pub bound-last : (bs : List A) (k : ℕ) (s : State A) → k ≡ length bs → Sizes k s.n s.m → (after o bs s).q 0 0 ≡ extension2 o s.n s.m s.q (every_other true bs) (every_other false bs)
+  bound-last [] zero s e z =
+      sym (ap (λ n. extension2 o n s.m s.q [] []) z.0 ∙ ap (λ m. extension2 o 1 m s.q [] []) z.1
+      ∙ solve o r (s.q 0 0 ∷ []) (null ⊞ unit ⊠ (null ⊞ unit ⊠ var 0)) (var 0) refl)
+  bound-last [] (suc k) s e z = absurd (omega arith)
+  bound-last (x ∷ bs) zero s e z = absurd (omega arith)
+  bound-last (x ∷ bs) (suc k) s e z =
+      let xa = every_other true bs in
+      let xb = every_other false bs in
+      let half : z.0 ≡ s.n / 2 = let twice = z.1.0 in omega (arith, twice) in
+      bound-last bs k (bind_state o x s) (omega arith) (sizes-bind k z.0 s z.1.0 z.1.1)
+      ∙ sym (ap (λ n. extension2 o n s.m s.q (x ∷ xb) xa) z.1.0 ∙ extension2-bound z.0 s.m s.q x xb xa
+      ∙ ap (λ n. extension2 o s.m n (λ j i. bound o x (λ a. s.q a j) i) xa xb) half)

@@ -4,6 +4,7 @@ pub mod CurveLaws
 pub mod Curves
 pub mod Filled
 pub mod KeptLaws
+pub mod LastLaws
 pub mod LayerLaws
 pub mod LayerSends
 pub mod LayerShapes

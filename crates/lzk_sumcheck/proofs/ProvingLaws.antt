@@ -2,7 +2,7 @@
 use Rattle.std.specs.Prelude.{◌≡◌, ℕ, ◌+◌, ◌-◌, ◌*◌, ◌<◌, ◌≤◌, ◌++◌, List, map, length, slice_get, slice_set, slice_index_or, Some}
 use Rattle.std.specs.List.{range_with_len}
 use Rattle.std.proofs.Common.{zero, suc, sym, ap, ◌∙◌, arith, subst}
-use Rattle.std.proofs.lemmas.List.{get_or_default, get_or_append_left, get_or-append_right}
+use Rattle.std.proofs.lemmas.List.{get_or_default, get_or_append_left, get_or-append_right, get_or-set_same, get_or-set_other}
 use Rattle.std.proofs.lemmas.Option.{slice_get-get_or}
 use Rattle.std.proofs.Math.Nat.{mul-le-mul_right}
 use native.Mathlib.Decide.{dec_lt, dec_le}
@@ -14,18 +14,20 @@ use Rattle.lzk_transcript.specs.Columns.{after_draws}
 use Rattle.lzk_mle.specs.Multilinear.{eq, tilde}
 use Rattle.lzk_circuit.specs.declared.layer.Term.{Term}
 use Rattle.lzk_circuit.specs.Valid.{Wiring}
-use Rattle.lzk_circuit.specs.Wires.{list_at}
+use Rattle.lzk_circuit.specs.Wires.{coef, list_at}
 use Rattle.lzk_layout.specs.Places.{depth, width_at, bits_under, output_bits, sent_at}
 use Rattle.lzk_sumcheck.specs.declared.script.LayerScript.{LayerScript}
-use Rattle.lzk_sumcheck.specs.Coefficients.{terms_at, weights_at}
+use Rattle.lzk_sumcheck.specs.declared.script.Script.{Script}
+use Rattle.lzk_sumcheck.specs.Coefficients.{coefficients, terms_at, weights_at, bound_at}
 use Rattle.lzk_sumcheck.specs.Draws.{draws}
 use Rattle.lzk_sumcheck.specs.Layers.{layer_of_terms}
+use Rattle.lzk_sumcheck.specs.Rounds.{bound_coefficient}
 use Rattle.lzk_sumcheck.specs.Script.{round_challenge, layer_script, after_layer, after_layers, script, layer_at, point_a, point_b, zero_layer, HasBits}
 use Rattle.lzk_sumcheck.specs.Sending.{AreRoundsSent}
 use Rattle.lzk_sumcheck.specs.Weights.{weighted}
 use Rattle.lzk_sumcheck.proofs.LayerLaws.{AreReplayed, replayed_none, replayed_more}
 use Rattle.lzk_sumcheck.proofs.MessagesLaws.{SentAt, sent-stays, sent-own, own-layer}
-use Rattle.lzk_sumcheck.proofs.Prefixes.{StandAt, AgreeBelow, start, map-same, stand, sent-suc, layer-same, after-same, layers-same, point-a-same, point-b-same}
+use Rattle.lzk_sumcheck.proofs.Prefixes.{StandAt, AgreeBelow, start, map-same, stand, sent-suc, layer-same, after-same, layers-same, layer-agrees, weights-same, point-a-same, point-b-same}
 
 -- the places of a layer's elements rise from layer to layer
 pub sent-rises : {A : Type 0} (c : Wiring A) (l n : ℕ) → l ≤ n → n ≤ depth c → sent_at c l ≤ sent_at c n
@@ -108,6 +110,30 @@ module _ {A : Type 0} (o : Ops A) (e : Coding A) (c : Wiring A) (values : List (
         rest = old.rest;
       }
 
+  -- the script of a layer that is sent from its own list
+  own-script : (l : ℕ) (now : TapeState) (layers : List (LayerScript A)) (xs ys first second sent own : List A) (k : ℕ) (layer : LayerScript A)
+      → AreProved l now layers xs first second → l < depth c → AgreeBelow o e c t (sent_at c l) xs ys
+      → k ≡ bits_under c l → layer ≡ layer_script o e sent 0 k now → StandAt o (sent_at c l) (4 * k + 2) sent ys
+      → layer ≡ layer_at o (script o e ys c t) l
+  own-script l now layers xs ys first second sent own k layer old h same bits is at =
+      own-layer o e c values pads t l h ys sent own now (replayed-same xs ys l now layers (omega arith) same old.replayed).tape k bits at layer is
+
+  -- its weights are those of the script
+  own-weights : (l : ℕ) (now : TapeState) (layers : List (LayerScript A)) (xs ys first second : List A) (width : ℕ) (layer : LayerScript A)
+      → AreProved l now layers xs first second → l < depth c → AgreeBelow o e c t (sent_at c l) xs ys
+      → width ≡ width_at c l → layer ≡ layer_at o (script o e ys c t) l
+      → weighted o layer.alpha first second width ≡ weights_at o c (script o e ys c t) l
+  own-weights l now layers xs ys first second width layer old h same wide here =
+      let n = sent_at c l in
+      let s = script o e ys c t in
+      ap (weighted o layer.alpha first second) wide
+      ∙ map-same (λ g. o.plus (entry o first g) (o.times layer.alpha (entry o second g))) (λ g. o.plus (eq o g (point_a o s l)) (o.times (layer_at o s l).alpha (eq o g (point_b o s l)))) 0 (width_at c l)
+      (λ g q.
+      let inside : g < width_at c l = omega (arith, q) in
+      ap (λ v. o.plus v (o.times layer.alpha (entry o second g))) (old.table_a g inside ∙ ap (eq o g) (point-a-same o e c t n xs ys same l (omega arith) (omega arith)))
+      ∙ ap (λ v. o.plus (eq o g (point_a o s l)) (o.times layer.alpha v)) (old.table_b g inside ∙ ap (eq o g) (point-b-same o e c t n xs ys same l (omega arith) (omega arith)))
+      ∙ ap (λ (x : LayerScript A). o.plus (eq o g (point_a o s l)) (o.times x.alpha (eq o g (point_b o s l)))) here)
+
   -- one more layer, which is sent from its own lists
   pub proved-more : (l : ℕ) (now after : TapeState) (layers : List (LayerScript A)) (xs ys first second first' second' sent own : List A) (k width : ℕ) (ts : List (Term A)) (vs : List A) (layer : LayerScript A)
       → AreProved l now layers xs first second → l < depth c → l < length layers
@@ -125,16 +151,9 @@ module _ {A : Type 0} (o : Ops A) (e : Coding A) (c : Wiring A) (values : List (
       let n = sent_at c l in
       let s = script o e ys c t in
       let replayed = replayed-same xs ys l now layers (omega arith) same old.replayed in
-      let here : layer ≡ layer_at o s l = own-layer o e c values pads t l h ys sent own now replayed.tape k bits at layer is in
+      let here = own-script l now layers xs ys first second sent own k layer old h same bits is at in
       let after_l : suc l ≡ l + 1 = omega arith in
-      let weights : weighted o layer.alpha first second width ≡ weights_at o c s l =
-      ap (weighted o layer.alpha first second) wide
-      ∙ map-same (λ g. o.plus (entry o first g) (o.times layer.alpha (entry o second g))) (λ g. o.plus (eq o g (point_a o s l)) (o.times (layer_at o s l).alpha (eq o g (point_b o s l)))) 0 (width_at c l)
-      (λ g q.
-      let inside : g < width_at c l = omega (arith, q) in
-      ap (λ v. o.plus v (o.times layer.alpha (entry o second g))) (old.table_a g inside ∙ ap (eq o g) (point-a-same o e c t n xs ys same l (omega arith) (omega arith)))
-      ∙ ap (λ v. o.plus (eq o g (point_a o s l)) (o.times layer.alpha v)) (old.table_b g inside ∙ ap (eq o g) (point-b-same o e c t n xs ys same l (omega arith) (omega arith)))
-      ∙ ap (λ (x : LayerScript A). o.plus (eq o g (point_a o s l)) (o.times x.alpha (eq o g (point_b o s l)))) here) in
+      let weights = own-weights l now layers xs ys first second width layer old h same wide here in
       record {
         replayed = replayed_more o e ys c (start o e c t) given l now after layers layer replayed within
             (is ∙ layer-same o e n (4 * k + 2) sent ys at 0 n k now (omega arith) (omega arith) ∙ ap (λ b. layer_script o e ys n b now) bits)
@@ -150,3 +169,51 @@ module _ {A : Type 0} (o : Ops A) (e : Coding A) (c : Wiring A) (values : List (
                   (sent-own o e c values pads t l h ys sent own now replayed.tape k ts (weighted o layer.alpha first second width) vs layer bits terms weights below is at pat rounds fa fb)
             ];
       }
+
+  -- the first l layers' coefficients came to what stands in the list
+  abbrev pub AreBound : ℕ → List A → List A → Type 0
+  AreBound l sent bounds = let s = script o e sent c t in (k : ℕ) → k < l → entry o bounds k ≡ bound_at o c (coefficients o c s) s k
+
+  -- what they came to depends on what was sent before alone
+  bound-stays : (n : ℕ) (xs ys : List A) → AgreeBelow o e c t n xs ys → (k : ℕ) → k < depth c → sent_at c (suc k) ≤ n
+      → bound_at o c (coefficients o c (script o e xs c t)) (script o e xs c t) k ≡ bound_at o c (coefficients o c (script o e ys c t)) (script o e ys c t) k
+  unfolding bound_at coefficients
+  bound-stays n xs ys same k h b =
+      let next = sent-suc c k h in
+      let s = script o e xs c t in
+      let q = coef o (terms_at c k) in
+      let below = width_at c (k + 1) in
+      ap (λ w. bound_coefficient o q w below (layer_at o s k).ra (layer_at o s k).rb) (weights-same o e c t n xs ys same k h (omega (arith, b, next)))
+      ∙ ap (λ (x : LayerScript A). bound_coefficient o q (weights_at o c (script o e ys c t) k) below x.ra x.rb) (layer-agrees o e c t n xs ys same k h (omega (arith, b, next)))
+
+  -- what a layer's came to, by its own lists
+  bound-own : (s : Script A) (l width below : ℕ) (ts : List (Term A)) (first second : List A) (layer : LayerScript A)
+      → ts ≡ terms_at c l → below ≡ width_at c (l + 1) → layer ≡ layer_at o s l → weighted o layer.alpha first second width ≡ weights_at o c s l
+      → bound_coefficient o (coef o ts) (weighted o layer.alpha first second width) below layer.ra layer.rb ≡ bound_at o c (coefficients o c s) s l
+  unfolding bound_at coefficients
+  bound-own s l width below ts first second layer terms under here weights =
+      ap (λ xs. bound_coefficient o (coef o xs) (weighted o layer.alpha first second width) below layer.ra layer.rb) terms
+      ∙ ap (λ w. bound_coefficient o (coef o (terms_at c l)) w below layer.ra layer.rb) weights
+      ∙ ap (λ n. bound_coefficient o (coef o (terms_at c l)) (weights_at o c s l) n layer.ra layer.rb) under
+      ∙ ap (λ (x : LayerScript A). bound_coefficient o (coef o (terms_at c l)) (weights_at o c s l) (width_at c (l + 1)) x.ra x.rb) here
+
+  -- one more layer
+  pub bound-more : (l : ℕ) (now : TapeState) (layers : List (LayerScript A)) (xs ys first second sent own bounds : List A) (k width below : ℕ) (ts : List (Term A)) (layer : LayerScript A) (x : A)
+      → AreProved l now layers xs first second → l < depth c → l < length bounds
+      → AgreeBelow o e c t (sent_at c l) xs ys
+      → k ≡ bits_under c l → width ≡ width_at c l → ts ≡ terms_at c l → below ≡ width_at c (l + 1)
+      → layer ≡ layer_script o e sent 0 k now → StandAt o (sent_at c l) (4 * k + 2) sent ys
+      → x ≡ bound_coefficient o (coef o ts) (weighted o layer.alpha first second width) below layer.ra layer.rb
+      → AreBound l xs bounds → AreBound (l + 1) ys (slice_set bounds l x)
+  bound-more l now layers xs ys first second sent own bounds k width below ts layer x old h within same bits wide terms under is at value before i q =
+      let s = script o e ys c t in
+      let here = own-script l now layers xs ys first second sent own k layer old h same bits is at in
+      elim (dec_lt i l) [
+        | yes p ↦
+            get_or-set_other bounds l i x o.zero (omega (arith, p)) ∙ before i p
+            ∙ bound-stays (sent_at c l) xs ys same i (omega (arith, p, h)) (sent-rises c (suc i) l (omega (arith, p)) (omega arith))
+        | no p ↦
+            let z : l ≡ i = omega (arith, q) in
+            subst (λ j. entry o (slice_set bounds l x) j ≡ bound_at o c (coefficients o c s) s j) z
+            (get_or-set_same bounds l x o.zero within ∙ value ∙ bound-own s l width below ts first second layer terms under here (own-weights l now layers xs ys first second width layer old h same wide here))
+      ]

@@ -1,5 +1,5 @@
 -- Rounds by the elements that they send are those of the script.
-use Rattle.std.specs.Prelude.{◌≡◌, ℕ, ◌<◌, ◌+◌, ◌*◌, List, ◌∷◌, map, drop, true, false}
+use Rattle.std.specs.Prelude.{◌≡◌, ℕ, ◌<◌, ◌+◌, ◌*◌, List, ◌∷◌, length, map, drop, true, false}
 use Rattle.std.specs.List.{range_with_len}
 use Rattle.std.proofs.Common.{zero, suc, refl, sym, ap, ◌∙◌, arith}
 use Rattle.std.proofs.lemmas.List.{get_or-drop}
@@ -87,6 +87,11 @@ module _ {A : Type 0} (o : Ops A) (e : Coding A) (sent : List A) where
 
   pub drawn-is : (n : ℕ) (t : TapeState) → drawn_sent o e sent n t ≡ map (round_challenge o e sent 0 t) (range_with_len 0 n)
   drawn-is n t = drawn-stands n 0 sent t (λ k h. let z : k ≡ 0 + k = omega arith in ap (entry o sent) z)
+
+-- as many challenges as rounds
+pub length-drawn : {A : Type 0} (o : Ops A) (e : Coding A) (sent : List A) (n : ℕ) (t : TapeState) → length (drawn_sent o e sent n t) ≡ n
+length-drawn o e sent zero t = refl
+length-drawn o e sent (suc n) t = ap suc (length-drawn o e (drop 2 sent) n (after_draw (with_pair o e sent 0 t)))
 
 module _ {A : Type 0} (o : Ops A) where
   -- every second value of a function

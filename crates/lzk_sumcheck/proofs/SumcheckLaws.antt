@@ -15,7 +15,7 @@ use Rattle.lzk_circuit.specs.Sums.{sum_pairs}
 use Rattle.lzk_circuit.specs.Wires.{wire}
 use Rattle.lzk_sumcheck.specs.Rounds.{Layered, every_other, bound_coefficient, at, sum_fills, claim, round, IsSumcheck, IsFitting}
 use Rattle.lzk_sumcheck.specs.States.{State, bind_state, after, total}
-use Rattle.lzk_sumcheck.proofs.Binding.{extension2, state_at, sizes-twice, sum_fills-ext, bound-total, after-append, sizes-after, total-bind}
+use Rattle.lzk_sumcheck.proofs.Binding.{extension2, state_at, sizes-twice, sum_fills-ext, bound-total, bound-last, after-append, sizes-after, total-bind}
 use Rattle.lzk_sumcheck.proofs.Curves.{IsCurve, curve-sum, curve-bound}
 
 module _ {A : Type 0} (o : Ops A) where
@@ -140,6 +140,15 @@ module _ {A : Type 0} (o : Ops A) (r : RingLaws o) where
 
   pub round-is : (s : Layered A) (bs : List A) (t : A) → length s.values ≤ 2 ^ s.bits → length bs < 2 * s.bits → round o s bs t ≡ total o (bind_state o t (after o bs (state_of o s)))
   round-is s bs t l b = claim-is s (bs ++ t ∷ []) l (omega (arith, length-append bs (t ∷ []))) ∙ ap (total o) (after-append o r bs t (state_of o s))
+
+  -- what is left of a layer's coefficients when all variables are bound
+  pub bound-is : (s : Layered A) (bs : List A) → length s.values ≤ 2 ^ s.bits → length bs ≡ 2 * s.bits
+      → (after o bs (state_of o s)).q 0 0 ≡ bound_coefficient o s.coefficient s.weights (length s.values) (every_other true bs) (every_other false bs)
+  bound-is s bs l e =
+      let xa = every_other true bs in
+      let xb = every_other false bs in
+      bound-last o r bs (2 * s.bits) (state_of o s) (sym e) (sizes-twice s.bits)
+      ∙ sym (bound_coefficient-is s xa xb ∙ extension2-cut (2 ^ s.bits) (length s.values) (weighted o s) xa xb l)
 
   curve-total : (half : ℕ) (s : State A) → s.n ≡ 2 * half → IsCurve o (λ t. total o (bind_state o t s))
   curve-total half s e =

@@ -3,7 +3,7 @@
 ghost use Rattle.std.specs.Prelude.{◌≡◌, ℕ, ◌+◌, ◌*◌, ◌/◌, ◌%◌, ◌<◌, ◌≤◌, Bool, true, false, not, List, ◌∷◌, length, take};
 ghost use Rattle.lzk_field.specs.Sums.{entry};
 ghost use Rattle.lzk_mle.specs.Multilinear.{tilde};
-ghost use Rattle.lzk_sumcheck.specs.Pairs.{ArePairs, bound_entry};
+ghost use Rattle.lzk_sumcheck.specs.Pairs.{ArePairs, bound_entry, spread};
 ghost use Rattle.lzk_sumcheck.specs.Rows.{linear_at, IsKept};
 ghost use Rattle.lzk_sumcheck.specs.States.{State, bind_state, bound};
 
@@ -38,6 +38,19 @@ fn bind_linear<F: Field>(of_a: bool, scale: F, linear: &mut [F], x: F) -> (F, us
     } else {
         (scale, bind_table(linear, x))
     }
+}
+
+/// What a layer's coefficients come to when all variables are bound.
+pub(crate) fn last_coefficient<F: Field>(pairs: &[Pair<F>], scale: F, linear: &[F]) -> F
+    requires linear { 1 ≤ length linear.now }
+    requires pairs { ArePairs 1 1 pairs.now }
+    ensures { let o = F.ops in (of_a : Bool) → result ≡ o.plus (spread o pairs.now 0 0) (linear_at o of_a scale linear.now 0 0) }
+{
+    let mut total = scale.mul(linear[0]);
+    for pair in pairs {
+        total = total.add(pair.coef);
+    }
+    total
 }
 
 /// How much is left of a layer's coefficients, and of the table whose variable was bound.

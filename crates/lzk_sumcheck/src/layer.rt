@@ -6,10 +6,11 @@ ghost use Rattle.lzk_field.specs.Coding.{coding};
 ghost use Rattle.lzk_field.specs.Sums.{minus, entry};
 ghost use Rattle.lzk_mle.specs.Multilinear.{tilde};
 ghost use Rattle.lzk_circuit.specs.declared.layer.Term as declared;
-ghost use Rattle.lzk_circuit.specs.Wires.{AreDistinct};
+ghost use Rattle.lzk_circuit.specs.Wires.{coef, AreDistinct};
 ghost use Rattle.lzk_sumcheck.specs.Layers.{layer_of_terms};
 ghost use Rattle.lzk_sumcheck.specs.Orders.{places, IsOrderOf};
 ghost use Rattle.lzk_sumcheck.specs.Pairs.{first_pair, spread, ArePairs};
+ghost use Rattle.lzk_sumcheck.specs.Rounds.{bound_coefficient};
 ghost use Rattle.lzk_sumcheck.specs.Rows.{counted};
 ghost use Rattle.lzk_sumcheck.specs.Script.{with_pair, after_rounds, round_challenge};
 ghost use Rattle.lzk_sumcheck.specs.Sending.{AreRoundsSent};
@@ -116,8 +117,8 @@ fn pad_values<F: Field>(values: &[F], table: &mut [F])
     }
 }
 
-/// Sends the rounds of a layer with these terms and weights over these values, and the two factors. `pairs`, `first`,
-/// `second`, `linear` and `rows` are written over.
+/// Sends the rounds of a layer with these terms and weights over these values, and the two factors; gives what the coefficients come
+/// to at the challenges. `pairs`, `first`, `second`, `linear` and `rows` are written over.
 pub(crate) fn send_layer<R: Threads + Sync, F: Field>(
     rt: &R,
     workers: usize,
@@ -135,7 +136,7 @@ pub(crate) fn send_layer<R: Threads + Sync, F: Field>(
     sent: &mut [F],
     ra: &mut [F],
     rb: &mut [F],
-)
+) -> F
     requires some_workers { 1 ≤ workers }
     requires few_workers { workers ≤ 64 }
     requires bits { length rb.old ≡ length ra.old }
@@ -166,6 +167,7 @@ pub(crate) fn send_layer<R: Threads + Sync, F: Field>(
         AreRoundsSent o F.element (layer_of_terms o terms.now weights.now values.now (length ra.old)) (map (round_challenge o e sent.new 0 tape.old) (range_with_len 0 (2 * length ra.old))) pads.now sent.new }
     ensures factor_a { let o = F.ops in entry o sent.new (4 * length ra.old) ≡ minus o (tilde o values.now ra.new) (entry o pads.now (4 * length ra.old)) }
     ensures factor_b { let o = F.ops in entry o sent.new (4 * length ra.old + 1) ≡ minus o (tilde o values.now rb.new) (entry o pads.now (4 * length ra.old + 1)) }
+    ensures bound { let o = F.ops in result ≡ bound_coefficient o (coef o terms.now) weights.now (length values.now) ra.new rb.new }
 {
     let size = table_size(values.len());
     let (low, _) = first.split_at_mut(size);
@@ -176,7 +178,7 @@ pub(crate) fn send_layer<R: Threads + Sync, F: Field>(
     let kept = set_terms(terms, order, weights, pairs, linear);
     let count = 4 * ra.len();
     let (rounds, factors) = sent.split_at_mut(count);
-    send_rounds(
+    let bound = send_rounds(
         rt,
         workers,
         tape,
@@ -195,4 +197,5 @@ pub(crate) fn send_layer<R: Threads + Sync, F: Field>(
     factors[0] = low[0].sub(pads[count]);
     factors[1] = high[0].sub(pads[count + 1]);
     write_pair(tape, factors, 0);
+    bound
 }

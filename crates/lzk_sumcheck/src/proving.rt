@@ -9,16 +9,17 @@ ghost use Rattle.lzk_transcript.specs.Tape.{after_draw};
 ghost use Rattle.lzk_transcript.specs.Columns.{after_draws};
 ghost use Rattle.lzk_circuit.specs.Bits.{bits};
 ghost use Rattle.lzk_circuit.specs.Valid.{HaveWidths};
-ghost use Rattle.lzk_circuit.specs.Wires.{AreDistinct};
+ghost use Rattle.lzk_circuit.specs.Wires.{coef, AreDistinct};
 ghost use Rattle.lzk_layout.specs.Places.{depth, width_at, bits_under, output_bits};
 ghost use Rattle.lzk_layout.specs.Sizes.{sent_counts};
 ghost use Rattle.lzk_sumcheck.specs.declared.script.LayerScript as declared;
-ghost use Rattle.lzk_sumcheck.specs.Coefficients.{terms_at};
+ghost use Rattle.lzk_sumcheck.specs.Coefficients.{terms_at, AreBounds};
 ghost use Rattle.lzk_sumcheck.specs.Draws.{draws};
 ghost use Rattle.lzk_sumcheck.specs.Layers.{layer_of_terms};
 ghost use Rattle.lzk_sumcheck.specs.Messages.{IsLayerSent, AreMessages};
 ghost use Rattle.lzk_sumcheck.specs.Orders.{places, IsOrderOf};
 ghost use Rattle.lzk_sumcheck.specs.Room.{IsRoomOf};
+ghost use Rattle.lzk_sumcheck.specs.Rounds.{bound_coefficient};
 ghost use Rattle.lzk_sumcheck.specs.Script as spec;
 ghost use Rattle.lzk_sumcheck.specs.Script.{with_pair, after_rounds, round_challenge, layer_script, after_layer, layer_scripts, after_layers, after_script, HasBits, HasShape};
 ghost use Rattle.lzk_sumcheck.specs.Sending.{AreRoundsSent};
@@ -39,7 +40,7 @@ use lzk_transcript::Tape;
 use std::marker::Sync;
 use std::thread::Threads;
 
-// Sends the rounds of a layer with these terms and weights, and its factors. `first` and `second` are then the tables of the
+// Sends the rounds of a layer with these terms and weights, and its factors; gives what its coefficients come to. `first` and `second` are then the tables of the
 // challenges of a's bits and of b's.
 fn prove_rounds<R: Threads + Sync, F: Field>(
     rt: &R,
@@ -58,7 +59,7 @@ fn prove_rounds<R: Threads + Sync, F: Field>(
     sent: &mut [F],
     ra: &mut [F],
     rb: &mut [F],
-)
+) -> F
     requires some_workers { 1 ≤ workers }
     requires few_workers { workers ≤ 64 }
     requires bits { length rb.old ≡ length ra.old }
@@ -89,6 +90,7 @@ fn prove_rounds<R: Threads + Sync, F: Field>(
         AreRoundsSent o F.element (layer_of_terms o terms.now weights.now values.now (length ra.old)) (map (round_challenge o e sent.new 0 tape.old) (range_with_len 0 (2 * length ra.old))) pads.now sent.new }
     ensures factor_a { let o = F.ops in entry o sent.new (4 * length ra.old) ≡ minus o (tilde o values.now ra.new) (entry o pads.now (4 * length ra.old)) }
     ensures factor_b { let o = F.ops in entry o sent.new (4 * length ra.old + 1) ≡ minus o (tilde o values.now rb.new) (entry o pads.now (4 * length ra.old + 1)) }
+    ensures bound { let o = F.ops in result ≡ bound_coefficient o (coef o terms.now) weights.now (length values.now) ra.new rb.new }
     ensures first { let o = F.ops in (i : ℕ) → i < 2 ^ length ra.old → entry o first.new i ≡ eq o i ra.new }
     ensures second { let o = F.ops in (i : ℕ) → i < 2 ^ length ra.old → entry o second.new i ≡ eq o i rb.new }
 {
@@ -96,15 +98,16 @@ fn prove_rounds<R: Threads + Sync, F: Field>(
     let (these, _) = pairs.split_at_mut(terms.len());
     let (low, _) = first.split_at_mut(size);
     let (high, _) = second.split_at_mut(size);
-    send_layer(
+    let bound = send_layer(
         rt, workers, tape, terms, order, weights, values, these, low, high, linear, rows, pads,
         sent, ra, rb,
     );
     eq_table(ra, low);
     eq_table(rb, high);
+    bound
 }
 
-// A layer: alpha is drawn, and the rounds and the factors are sent. `first` and `second` are the tables of the layer's two points, and
+// A layer: alpha is drawn, and the rounds and the factors are sent; gives what the coefficients come to. `first` and `second` are the tables of the layer's two points, and
 // then those of the layer below; `weights` has a place for each wire.
 fn prove_layer<R: Threads + Sync, F: Field>(
     rt: &R,
@@ -122,7 +125,7 @@ fn prove_layer<R: Threads + Sync, F: Field>(
     weights: &mut [F],
     pads: &[F],
     sent: &mut [F],
-)
+) -> F
     requires some_workers { 1 ≤ workers }
     requires few_workers { workers ≤ 64 }
     requires bits { length layer.old.rb ≡ length layer.old.ra }
@@ -152,6 +155,7 @@ fn prove_layer<R: Threads + Sync, F: Field>(
         AreRoundsSent o F.element (layer_of_terms o terms.now (weighted o layer.new.alpha first.old second.old (length weights.old)) values.now (length layer.old.ra)) (map (round_challenge o e sent.new 0 (after_draw tape.old)) (range_with_len 0 (2 * length layer.old.ra))) pads.now sent.new }
     ensures factor_a { let o = F.ops in entry o sent.new (4 * length layer.old.ra) ≡ minus o (tilde o values.now layer.new.ra) (entry o pads.now (4 * length layer.old.ra)) }
     ensures factor_b { let o = F.ops in entry o sent.new (4 * length layer.old.ra + 1) ≡ minus o (tilde o values.now layer.new.rb) (entry o pads.now (4 * length layer.old.ra + 1)) }
+    ensures bound { let o = F.ops in result ≡ bound_coefficient o (coef o terms.now) (weighted o layer.new.alpha first.old second.old (length weights.old)) (length values.now) layer.new.ra layer.new.rb }
     ensures first { let o = F.ops in (i : ℕ) → i < 2 ^ length layer.old.ra → entry o first.new i ≡ eq o i layer.new.ra }
     ensures second { let o = F.ops in (i : ℕ) → i < 2 ^ length layer.old.ra → entry o second.new i ≡ eq o i layer.new.rb }
 {
@@ -174,7 +178,7 @@ fn prove_layer<R: Threads + Sync, F: Field>(
         sent,
         layer.ra.as_mut_slice(),
         layer.rb.as_mut_slice(),
-    );
+    )
 }
 
 // So many entries of a list, from a place on.
@@ -201,6 +205,7 @@ fn prove_list<R: Threads + Sync, F: Field>(
     linear: &mut [F],
     rows: &mut [F],
     weights: &mut [F],
+    bounds: &mut [F],
     messages: &mut [F],
     point: &mut [F],
     layers: &mut [LayerScript<F>],
@@ -221,6 +226,7 @@ fn prove_list<R: Threads + Sync, F: Field>(
     requires second_room { length second.old ≡ length weights.old }
     requires linear_room { length linear.old ≡ length weights.old }
     requires rows_room { length rows.old ≡ length weights.old + 3 * 64 }
+    requires bounds { length bounds.old ≡ depth circuit.now }
     ensures pairs_length { length pairs.new ≡ length pairs.old }
     ensures first_length { length first.new ≡ length first.old }
     ensures second_length { length second.new ≡ length second.old }
@@ -235,6 +241,8 @@ fn prove_list<R: Threads + Sync, F: Field>(
         tape.new ≡ after_layers F.ops e messages.new circuit.now (depth circuit.now) (after_draws (output_bits circuit.now) tape.old) }
     ensures sent { let e = coding F.element F.number_of F.BYTES F.size F.ID in
         (l : ℕ) → l < depth circuit.now → IsLayerSent F.ops F.element circuit.now (spec.script F.ops e messages.new circuit.now tape.old) values.now pads.now messages.new l }
+    ensures bounds { let e = coding F.element F.number_of F.BYTES F.size F.ID in
+        AreBounds F.ops circuit.now (spec.script F.ops e messages.new circuit.now tape.old) bounds.new }
 {
     let depth = circuit.depth();
     draw_all(tape, point);
@@ -249,7 +257,7 @@ fn prove_list<R: Threads + Sync, F: Field>(
         let (sent, _) = later.split_at_mut(count);
         let (wires, _) = weights.split_at_mut(circuit.width(l) as usize);
         let order = orders[l as usize].as_slice();
-        prove_layer(
+        bounds[l as usize] = prove_layer(
             rt,
             workers,
             tape,
@@ -301,6 +309,8 @@ fn prove_scripts<R: Threads + Sync, F: Field>(
         tape.new ≡ after_layers F.ops e messages.new circuit.now (depth circuit.now) (after_draws (output_bits circuit.now) tape.old) }
     ensures sent { let e = coding F.element F.number_of F.BYTES F.size F.ID in
         (l : ℕ) → l < depth circuit.now → IsLayerSent F.ops F.element circuit.now (spec.script F.ops e messages.new circuit.now tape.old) values.now pads.now messages.new l }
+    ensures bounds { let e = coding F.element F.number_of F.BYTES F.size F.ID in
+        AreBounds F.ops circuit.now (spec.script F.ops e messages.new circuit.now tape.old) room.new.bounds }
 {
     prove_list(
         rt,
@@ -316,6 +326,7 @@ fn prove_scripts<R: Threads + Sync, F: Field>(
         &mut room.linear,
         &mut room.rows,
         &mut room.weights,
+        &mut room.bounds,
         messages,
         point,
         &mut layers.list,
@@ -324,7 +335,7 @@ fn prove_scripts<R: Threads + Sync, F: Field>(
 
 /// Does the writes and draws of [`crate::replay`] on the messages that it sets: each is the true value less its pad, so that
 /// there is one answer for every number of workers. A round's sum is shared out among them where a share is worth a thread; all else is
-/// done by the caller's thread. No memory is taken.
+/// done by the caller's thread. What each layer's coefficients come to stays in the room. No memory is taken.
 pub fn prove_layers<R: Threads + Sync, F: Field>(
     rt: &R,
     circuit: &Circuit<F>,
@@ -348,6 +359,7 @@ pub fn prove_layers<R: Threads + Sync, F: Field>(
     ensures tape { let e = coding F.element F.number_of F.BYTES F.size F.ID in tape.new ≡ after_script F.ops e messages.new circuit.now tape.old }
     ensures shape { HasShape circuit.now script.new }
     ensures room { IsRoomOf circuit.now room.new }
+    ensures bounds { AreBounds F.ops circuit.now script.new room.new.bounds }
 {
     prove_scripts(
         rt,

@@ -19,7 +19,7 @@ use std::marker::Model;
 const MOST_WORKERS: usize = 64;
 
 /// Room for the rounds of a circuit: orders of its layers' terms, pairs of wires, coefficients of wire 0, sums of rows, with those of
-/// each worker's, and tables of the widest layer's numbers.
+/// each worker's, and tables of the widest layer's numbers. The rounds leave in it what each layer's coefficients came to.
 #[derive(Drop)]
 pub struct Rounds<F: Field> {
     pub(crate) orders: Vec<Order>,
@@ -29,15 +29,16 @@ pub struct Rounds<F: Field> {
     pub(crate) linear: Vec<F>,
     pub(crate) rows: Vec<F>,
     pub(crate) weights: Vec<F>,
+    pub(crate) bounds: Vec<F>,
 }
 
 impl<F: Field> Model for Rounds<F> {
     ghost use Rattle.std.specs.Prelude.{◌≡◌, ◌+◌, ◌*◌, length};
     ghost use Rattle.lzk_sumcheck.specs.Room.{RoundsRoom};
 
-    ghost Value = { RoundsRoom };
+    ghost Value = { RoundsRoom F };
 
-    ghost view = { λ r. record { orders = r.orders.items; pairs = length r.pairs.items; places = length r.weights.items } };
+    ghost view = { λ r. record { orders = r.orders.items; pairs = length r.pairs.items; places = length r.weights.items; bounds = r.bounds.items } };
 
     ghost invariant = { λ r. (length r.first.items ≡ length r.weights.items) × (length r.second.items ≡ length r.weights.items) × (length r.linear.items ≡ length r.weights.items) × (length r.rows.items ≡ length r.weights.items + 3 * 64) };
 }
@@ -116,6 +117,15 @@ impl<F: Field> Rounds<F> {
             linear: zeros(alloc, size)?,
             rows: zeros(alloc, size + SUMS * MOST_WORKERS)?,
             weights: zeros(alloc, size)?,
+            bounds: zeros(alloc, circuit.depth() as usize)?,
         })
+    }
+
+    /// The weighted sum of each layer's coefficients at its challenges, in the sumchecks that were proved last: what is left of the
+    /// coefficients when all variables are bound.
+    pub fn bounds(&self) -> &[F]
+        ensures bounds { result.now ≡ self.now.bounds }
+    {
+        &self.bounds
     }
 }

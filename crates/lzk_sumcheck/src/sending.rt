@@ -10,11 +10,11 @@ ghost use Rattle.lzk_sumcheck.specs.Rounds.{every_other};
 ghost use Rattle.lzk_sumcheck.specs.Rows.{round_at, IsKept};
 ghost use Rattle.lzk_sumcheck.specs.Script.{with_pair};
 ghost use Rattle.lzk_sumcheck.specs.Sending.{after_sent, drawn_sent, AreSent};
-ghost use Rattle.lzk_sumcheck.specs.States.{State, bind_state, total};
+ghost use Rattle.lzk_sumcheck.specs.States.{State, bind_state, after, total};
 
 use crate::curve::RoundSums;
 use crate::draws::replay_round;
-use crate::kept::bind_kept;
+use crate::kept::{bind_kept, last_coefficient};
 use crate::pairs::Pair;
 use crate::parts::sum_round;
 use lzk_field::Field;
@@ -68,7 +68,7 @@ fn send_round<F: Field>(tape: &mut Tape, sums: RoundSums<F>, pads: &[F], sent: &
 
 /// Sends the rounds of the variables that are left, the next of which is bit 0 of the first table's numbers: a bit of a, or one of b. The
 /// tables change places from round to round, and so do the lists of challenges. What is left of each table is its extension at its
-/// challenges. `rows` is written over.
+/// challenges. Gives what is left of the coefficients. `rows` is written over.
 pub(crate) fn send_rounds<R: Threads + Sync, F: Field>(
     rt: &R,
     workers: usize,
@@ -84,7 +84,7 @@ pub(crate) fn send_rounds<R: Threads + Sync, F: Field>(
     sent: &mut [F],
     ra: &mut [F],
     rb: &mut [F],
-)
+) -> F
     requires some_workers { 1 ≤ workers }
     requires few_workers { workers ≤ 64 }
     requires turn { length rb.old ≤ length ra.old }
@@ -115,9 +115,11 @@ pub(crate) fn send_rounds<R: Threads + Sync, F: Field>(
         (st : State F) → IsKept o (length ra.old) (length rb.old) st of_a pairs.old scale linear.old first.old second.old → AreSent o F.element st (drawn_sent o e sent.new n tape.old) pads.now sent.new n }
     ensures factor_a { let o = F.ops in entry o first.new 0 ≡ tilde o first.old ra.new }
     ensures factor_b { let o = F.ops in entry o second.new 0 ≡ tilde o second.old rb.new }
+    ensures bound { let o = F.ops in let e = coding F.element F.number_of F.BYTES F.size F.ID in let n = length ra.old + length rb.old in
+        (st : State F) → IsKept o (length ra.old) (length rb.old) st of_a pairs.old scale linear.old first.old second.old → result ≡ (after o (drawn_sent o e sent.new n tape.old) st).q 0 0 }
 {
     let Some((challenge, ra)) = ra.split_first_mut() else {
-        return;
+        return last_coefficient(pairs, scale, linear);
     };
     let (now, later) = sent.split_at_mut(2);
     let sums = kept_sums(rt, workers, of_a, pairs, scale, linear, first, second, rows);
@@ -139,5 +141,5 @@ pub(crate) fn send_rounds<R: Threads + Sync, F: Field>(
         later,
         rb,
         ra,
-    );
+    )
 }

@@ -1,25 +1,20 @@
 use Rattle.std.proofs.Common.{◌<◌, length, sym, ap, ◌∙◌, subst, arith}
 use Rattle.std.specs.Prelude.{slice_set}
-use Rattle.lzk_circuit.proofs.BitLaws.{bits_enough}
-use Rattle.lzk_layout.specs.Places.{depth, width_at}
+use Rattle.lzk_layout.specs.Places.{depth}
 use Rattle.lzk_layout.proofs.PlaceLaws.{pads_within}
 use Rattle.lzk_sumcheck.specs.Coefficients.{coefficients}
 use Rattle.lzk_accept.specs.Kept.{form_at, IsPlacedAt, IsConstraint}
 use Rattle.lzk_accept.proofs.KeptLaws.{placed_set, start_after, end_is, last_start, last_end}
 use Rattle.lzk_accept.proofs.LinearLaws.{constraints_more, last_is}
 use Rattle.lzk_accept.proofs.ShapeLaws.{width_last}
-use Rattle.lzk_accept.proofs.WholeLaws.{whole_last}
+use Rattle.lzk_accept.proofs.WholeLaws.{whole_of, whole_is, whole_last, rest_is}
 use Rattle.lzk_accept.proofs.linear.fill_forms.Goals as goal
 
 pub last_form-last-requires-clause-first : goal.last_form-last-requires-clause-first
-last_form-last-requires-clause-first g c κs within =
-    let w = c.args.circuit.now in
-    omega (arith, width_last w, bits_enough (width_at w (depth w)), c.requires.room (depth w) (omega arith), c.requires.first_room, c.fill_layers-above.ensures.first_length)
+last_form-last-requires-clause-first g c κs within = omega (arith, width_last c.args.circuit.now, c.requires.first_room)
 
 pub last_form-last-requires-clause-second : goal.last_form-last-requires-clause-second
-last_form-last-requires-clause-second g c κs within =
-    let w = c.args.circuit.now in
-    omega (arith, width_last w, bits_enough (width_at w (depth w)), c.requires.room (depth w) (omega arith), c.requires.second_room, c.fill_layers-above.ensures.second_length)
+last_form-last-requires-clause-second g c κs within = omega (arith, width_last c.args.circuit.now, c.requires.second_room)
 
 pub last_form-last-requires-clause-form : goal.last_form-last-requires-clause-form
 last_form-last-requires-clause-form g c κs within =
@@ -40,8 +35,8 @@ returns-clause-placed g c i k =
     let put = c.set_form.ensures ∙ ap (λ n. slice_set forms n form) c.depth-depth.ensures.depth in
     subst (λ fs. IsPlacedAt w i (form_at o fs i)) (sym put) (placed_set w o (depth w) forms form inside c.last_form-last.ensures.placed i (c.fill_layers-above.ensures.placed i k))
 
-pub returns-clause-constraints : goal.returns-clause-constraints
-returns-clause-constraints g c whole is i k =
+pub returns-clause-rest : goal.returns-clause-rest
+returns-clause-rest g c =
     let f = g.F.Field in
     let o = f.ops in
     let w = c.args.circuit.now in
@@ -52,16 +47,23 @@ returns-clause-constraints g c whole is i k =
     let layers = c.fill_layers-above in
     let forms = layers.new.forms in
     let form = c.last_form-last.result in
+    let own = c.last_form-last.new.own in
+    let skip = c.args.skip in
+    let first = c.args.first.now in
+    let second = c.args.second.now in
+    let whole = whole_of o w s skip own in
+    let is = whole_is o w s skip own (omega (arith, c.requires.skip)) in
     let inside : depth w < length forms = omega (arith, layers.ensures.forms_length, c.requires.count) in
     let put = c.set_form.ensures ∙ ap (λ n. slice_set forms n form) c.depth-depth.ensures.depth in
     let at = c.last_form-last.ensures.placed in
     let wide = width_last w in
-    subst (λ fs. IsConstraint o f.element w q public s ms i whole (form_at o fs i)) (sym put)
+    rest_is o f.laws.ring f.element w public s ms skip c.set_form.new.forms own c.requires.skip (returns-clause-placed g c)
+    (λ i k. subst (λ fs. IsConstraint o f.element w q public s ms i whole (form_at o fs i)) (sym put)
     (constraints_more o f.laws.ring f.element w q public s ms (depth w) layers.new.own whole forms form inside (omega arith) (λ i m. layers.ensures.placed i (omega arith))
     (λ i m j a b. is.after j (omega (arith, start_after w i m, c.requires.skip)) (omega (arith, end_is w i m, pads_within w i m)) ∙ c.last_form-last.ensures.after j (omega (arith, start_after w i m)))
-    (last_is o f.laws.ring f.element w q public s ms layers.result layers.new.first layers.new.second whole form c.depth-depth.ensures.valid.some c.requires.public layers.ensures.above_a layers.ensures.above_b
-    (λ j b. layers.ensures.first j (omega (arith, wide))) (λ j b. layers.ensures.second j (omega (arith, wide)))
+    (last_is o f.laws.ring f.element w q public s ms layers.result first second whole form c.depth-depth.ensures.valid.some c.requires.public layers.ensures.above_a layers.ensures.above_b
+    (λ j b. c.requires.first j (omega (arith, wide))) (λ j b. c.requires.second j (omega (arith, wide)))
     (at.start ∙ last_start w (depth w) (omega arith)) (at.end ∙ last_end w (depth w) (omega arith)) at.above
-    (whole_last o w s public layers.result layers.new.first layers.new.second c.args.skip c.last_form-last.new.own whole form is
-    (λ j b. layers.ensures.first j (omega (arith, wide))) (λ j b. layers.ensures.second j (omega (arith, wide))) c.last_form-last.ensures.form))
-    (layers.ensures.constraints public) i k)
+    (whole_last o w s public layers.result first second skip own whole form is
+    (λ j b. c.requires.first j (omega (arith, wide))) (λ j b. c.requires.second j (omega (arith, wide))) c.last_form-last.ensures.form))
+    (layers.ensures.constraints public) i k))

@@ -1,28 +1,13 @@
-use Rattle.std.proofs.Common.{suc, ◌≡◌, ℕ, ◌+◌, ◌^◌, ◌<◌, length, refl, sym, ap, ◌∙◌, subst, arith}
+use Rattle.std.proofs.Common.{suc, ◌≡◌, ◌+◌, ◌<◌, length, refl, sym, ap, ◌∙◌, subst, arith}
 use Rattle.std.proofs.lemmas.List.{length-set}
 use Rattle.lzk_field.specs.Sums.{entry}
-use Rattle.lzk_mle.specs.Multilinear.{eq}
-use Rattle.lzk_circuit.proofs.BitLaws.{bits_enough}
 use Rattle.lzk_layout.specs.declared.places.LayerPlaces.{LayerPlaces}
-use Rattle.lzk_layout.specs.Places.{depth, width_at, output_bits, factors_sent_at}
+use Rattle.lzk_layout.specs.Places.{depth, factors_sent_at}
 use Rattle.lzk_sumcheck.specs.Coefficients.{coefficients}
-use Rattle.lzk_sumcheck.specs.Script.{point_a, point_b}
 use Rattle.lzk_accept.specs.Kept.{form_at, above_a, above_b, IsPlacedAt, IsConstraint}
 use Rattle.lzk_accept.proofs.KeptLaws.{placed_set, end_before}
 use Rattle.lzk_accept.proofs.LinearLaws.{constraints_more}
 use Rattle.lzk_accept.proofs.linear.fill_layers.Goals as goal
-
-pub set_table-requires-clause-width : goal.set_table-requires-clause-width
-set_table-requires-clause-width g c κs within =
-    let w = c.args.circuit.now in
-    let e : length c.as_slice.result.now ≡ output_bits w = ap length c.as_slice.ensures ∙ c.requires.shape.out_point in
-    omega (arith, ap (λ n. 2 ^ n) e, c.width-outputs.ensures, bits_enough (width_at w 0))
-
-pub set_table-requires-2-clause-width : goal.set_table-requires-2-clause-width
-set_table-requires-2-clause-width g c κs within =
-    let w = c.args.circuit.now in
-    let e : length c.as_slice-2.result.now ≡ output_bits w = ap length c.as_slice-2.ensures ∙ c.requires.shape.out_point in
-    omega (arith, ap (λ n. 2 ^ n) e, c.width-outputs.ensures, bits_enough (width_at w 0))
 
 pub loop-l-init : goal.loop-l-init
 loop-l-init g c =
@@ -31,18 +16,19 @@ loop-l-init g c =
     record {
       forms_length = refl;
       own_length = refl;
-      first_length = c.set_table.ensures.length;
-      second_length = c.set_table-2.ensures.length;
-      weights_length = refl;
       places = c.first-places.ensures.places;
       within = λ h. c.first-places.ensures.within;
       above_a = c.zero.ensures;
       above_b = c.zero-2.ensures;
-      first = λ k h. c.set_table.ensures.entries k (omega (arith, h, c.width-outputs.ensures)) ∙ ap (eq o k) c.as_slice.ensures;
-      second = λ k h. c.set_table-2.ensures.entries k (omega (arith, h, c.width-outputs.ensures)) ∙ ap (eq o k) c.as_slice-2.ensures;
       placed = c.requires.placed;
       constraints = λ public i h. absurd (omega (arith, h));
     }
+
+pub layer_form-form-requires-clause-bound : goal.layer_form-form-requires-clause-bound
+layer_form-form-requires-clause-bound g c κs within =
+    let l = c.loop-l.l in
+    let h : l < depth c.args.circuit.now = omega (arith, c.depth-depth.ensures.depth, c.loop-l-test.true, c.loop-l.auto.l-end) in
+    c.entry_of-bound.ensures ∙ c.requires.bounds.each l h
 
 pub layer_form-form-requires-clause-form : goal.layer_form-form-requires-clause-form
 layer_form-form-requires-clause-form g c κs within =
@@ -71,32 +57,13 @@ loop-l-preserved g c =
     record {
       forms_length = ap length c.set_form.ensures ∙ length-set forms l form ∙ inv.forms_length;
       own_length = c.layer_form-form.ensures.length ∙ inv.own_length;
-      first_length = c.layer_bound-bound.ensures.first_length ∙ inv.first_length;
-      second_length = c.layer_bound-bound.ensures.second_length ∙ inv.second_length;
-      weights_length = c.layer_bound-bound.ensures.weights_length ∙ inv.weights_length;
       places = c.next-places.ensures.places;
       within = c.next-places.ensures.within;
       above_a = c.factors_from-above.ensures.first ∙ ap (entry o ms) sent ∙ ap (above_a o w ms) next;
       above_b = c.factors_from-above.ensures.second ∙ ap (λ k. entry o ms (k + 1)) sent ∙ ap (above_b o w ms) next;
-      first = c.layer_bound-bound.ensures.first;
-      second = c.layer_bound-bound.ensures.second;
       placed = λ i k. subst (λ fs. IsPlacedAt w i (form_at o fs i)) (sym c.set_form.ensures) (placed_set w o l forms form inside c.layer_form-form.ensures.placed i (inv.placed i k));
       constraints = λ public i k. subst (λ fs. IsConstraint o f.element w q public s ms i own (form_at o fs i)) (sym c.set_form.ensures)
           (constraints_more o f.laws.ring f.element w q public s ms l c.loop-l.own own forms form inside (omega arith) (λ i m. inv.placed i (omega arith))
           (λ i m j a b. c.layer_form-form.ensures.before j (omega (arith, end_before w i l m (omega arith))))
           (c.layer_form-form.ensures.constraint public) (inv.constraints public) i k);
     }
-
-pub returns-clause-first : goal.returns-clause-first
-returns-clause-first g c =
-    let o = g.F.Field.ops in
-    let w = c.args.circuit.now in
-    let all : c.loop-l.l ≡ depth w = omega (arith, c.depth-depth.ensures.depth, c.loop-l-test.false, c.loop-l.auto.l-end) in
-    subst (λ n. (k : ℕ) → k < width_at w n → entry o c.loop-l.first k ≡ eq o k (point_a o c.args.script.now n)) all c.loop-l.invariant.first
-
-pub returns-clause-second : goal.returns-clause-second
-returns-clause-second g c =
-    let o = g.F.Field.ops in
-    let w = c.args.circuit.now in
-    let all : c.loop-l.l ≡ depth w = omega (arith, c.depth-depth.ensures.depth, c.loop-l-test.false, c.loop-l.auto.l-end) in
-    subst (λ n. (k : ℕ) → k < width_at w n → entry o c.loop-l.second k ≡ eq o k (point_b o c.args.script.now n)) all c.loop-l.invariant.second

@@ -1,11 +1,61 @@
-use Rattle.std.proofs.Common.{◌≡◌, length, sym, ap, ◌∙◌, subst, arith}
+use Rattle.std.proofs.Common.{◌≡◌, ◌<◌, ℕ, length, sym, ap, ◌∙◌, subst, arith}
 use Rattle.std.specs.Vec.{with_items}
 use Rattle.std.proofs.lemmas.List.{with_items_is}
-use Rattle.lzk_layout.specs.Places.{depth}
-use Rattle.lzk_accept.specs.Kept.{LinearForms, coefficient_in, form_at, IsPlacedAt}
-use Rattle.lzk_accept.proofs.KeptLaws.{start_after, last_start, last_end}
-use Rattle.lzk_accept.proofs.WholeLaws.{whole_of, whole_is, same_coefficient, coefficient_before, coefficient_inside}
+use Rattle.lzk_field.specs.Sums.{entry}
+use Rattle.lzk_mle.specs.Multilinear.{eq}
+use Rattle.lzk_circuit.proofs.BitLaws.{bits_enough}
+use Rattle.lzk_layout.specs.Places.{depth, width_at}
+use Rattle.lzk_sumcheck.specs.Coefficients.{AreBounds}
+use Rattle.lzk_sumcheck.specs.Script.{point_a, point_b}
+use Rattle.lzk_accept.specs.Kept.{LinearForms, form_at, AreRest, IsPlacedAt}
 use Rattle.lzk_accept.proofs.linear.rest_forms.Goals as goal
+
+pub set_bounds-requires-clause-count : goal.set_bounds-requires-clause-count
+set_bounds-requires-clause-count g c κs within =
+    let forms : length c.forms.inside.forms.items ≡ length c.args.forms.now.forms = ap (λ (x : LinearForms g.row.F.Denot). length x.forms) c.forms.view_is in
+    omega (arith, ap length c.deref_mut.ensures.value, c.forms.invariant.2, forms, c.requires.made.count)
+
+pub fill_forms-requires-clause-bounds : goal.fill_forms-requires-clause-bounds
+fill_forms-requires-clause-bounds g c κs within =
+    let inside = c.forms.inside in
+    let nb : length c.set_bounds.new.bounds ≡ inside.bounds.len = omega (arith, c.set_bounds.ensures.bounds_length, ap length c.deref_mut.ensures.value, inside.bounds.ok.0) in
+    subst (AreBounds g.F.Field.ops c.args.circuit.now c.args.script.now) (sym (c.deref.ensures.value ∙ with_items_is inside.bounds c.set_bounds.new.bounds nb)) c.set_bounds.ensures.bounds
+
+pub fill_forms-requires-clause-first_room : goal.fill_forms-requires-clause-first_room
+fill_forms-requires-clause-first_room g c κs within =
+    let w = c.args.circuit.now in
+    let inside = c.forms.inside in
+    let nf : length c.set_bounds.new.first ≡ inside.first.len = omega (arith, c.set_bounds.ensures.first_length, ap length c.deref_mut-2.ensures.value, inside.first.ok.0) in
+    let room : length inside.weights.items ≡ c.args.forms.now.room = ap (λ (x : LinearForms g.row.F.Denot). x.room) c.forms.view_is in
+    let table = ap length (c.deref-2.ensures.value ∙ with_items_is inside.first c.set_bounds.new.first nf) in
+    omega (arith, table, c.set_bounds.ensures.first_length, ap length c.deref_mut-2.ensures.value, c.forms.invariant.0, room, c.requires.made.room (depth w) (omega arith), bits_enough (width_at w (depth w)))
+
+pub fill_forms-requires-clause-second_room : goal.fill_forms-requires-clause-second_room
+fill_forms-requires-clause-second_room g c κs within =
+    let w = c.args.circuit.now in
+    let inside = c.forms.inside in
+    let ns : length c.set_bounds.new.second ≡ inside.second.len = omega (arith, c.set_bounds.ensures.second_length, ap length c.deref_mut-3.ensures.value, inside.second.ok.0) in
+    let room : length inside.weights.items ≡ c.args.forms.now.room = ap (λ (x : LinearForms g.row.F.Denot). x.room) c.forms.view_is in
+    let table = ap length (c.deref-3.ensures.value ∙ with_items_is inside.second c.set_bounds.new.second ns) in
+    omega (arith, table, c.set_bounds.ensures.second_length, ap length c.deref_mut-3.ensures.value, c.forms.invariant.1, room, c.requires.made.room (depth w) (omega arith), bits_enough (width_at w (depth w)))
+
+pub fill_forms-requires-clause-first : goal.fill_forms-requires-clause-first
+fill_forms-requires-clause-first g c κs within =
+    let o = g.F.Field.ops in
+    let w = c.args.circuit.now in
+    let inside = c.forms.inside in
+    let nf : length c.set_bounds.new.first ≡ inside.first.len = omega (arith, c.set_bounds.ensures.first_length, ap length c.deref_mut-2.ensures.value, inside.first.ok.0) in
+    subst (λ xs. (k : ℕ) → k < width_at w (depth w) → entry o xs k ≡ eq o k (point_a o c.args.script.now (depth w)))
+    (sym (c.deref-2.ensures.value ∙ with_items_is inside.first c.set_bounds.new.first nf)) c.set_bounds.ensures.first
+
+pub fill_forms-requires-clause-second : goal.fill_forms-requires-clause-second
+fill_forms-requires-clause-second g c κs within =
+    let o = g.F.Field.ops in
+    let w = c.args.circuit.now in
+    let inside = c.forms.inside in
+    let ns : length c.set_bounds.new.second ≡ inside.second.len = omega (arith, c.set_bounds.ensures.second_length, ap length c.deref_mut-3.ensures.value, inside.second.ok.0) in
+    subst (λ xs. (k : ℕ) → k < width_at w (depth w) → entry o xs k ≡ eq o k (point_b o c.args.script.now (depth w)))
+    (sym (c.deref-3.ensures.value ∙ with_items_is inside.second c.set_bounds.new.second ns)) c.set_bounds.ensures.second
 
 pub returns-clause-made : goal.returns-clause-made
 returns-clause-made g c =
@@ -13,72 +63,28 @@ returns-clause-made g c =
     let w = c.args.circuit.now in
     let inside = c.forms.inside in
     let e = c.fill_forms.ensures in
-    let nf : length c.fill_forms.new.forms ≡ inside.forms.len = omega (arith, e.forms_length, ap length c.deref_mut.ensures.value, inside.forms.ok.0) in
-    let no : length c.fill_forms.new.own ≡ inside.own.len = omega (arith, e.own_length, ap length c.deref_mut-2.ensures.value, inside.own.ok.0) in
-    let nw : length c.fill_forms.new.weights ≡ inside.weights.len = omega (arith, e.weights_length, ap length c.deref_mut-5.ensures.value, inside.weights.ok.0) in
+    let nf : length c.fill_forms.new.forms ≡ inside.forms.len = omega (arith, c.fill_forms.ensures.forms_length, ap length c.deref_mut-5.ensures.value, inside.forms.ok.0) in
+    let no : length c.fill_forms.new.own ≡ inside.own.len = omega (arith, c.fill_forms.ensures.own_length, ap length c.deref_mut-6.ensures.value, inside.own.ok.0) in
     let ef = with_items_is inside.forms c.fill_forms.new.forms nf in
     let eo = with_items_is inside.own c.fill_forms.new.own no in
-    let ew = with_items_is inside.weights c.fill_forms.new.weights nw in
-    let room : length (with_items inside.weights c.fill_forms.new.weights).items ≡ c.args.forms.now.room =
-    ap length ew ∙ e.weights_length ∙ ap length c.deref_mut-5.ensures.value ∙ ap (λ (x : LinearForms g.row.F.Denot). x.room) c.forms.view_is in
+    let nw : length c.set_bounds.new.weights ≡ inside.weights.len = omega (arith, c.set_bounds.ensures.weights_length, ap length c.deref_mut-4.ensures.value, inside.weights.ok.0) in
+    let room : length (with_items inside.weights c.set_bounds.new.weights).items ≡ c.args.forms.now.room =
+    ap length (with_items_is inside.weights c.set_bounds.new.weights nw) ∙ c.set_bounds.ensures.weights_length ∙ ap length c.deref_mut-4.ensures.value ∙ ap (λ (x : LinearForms g.row.F.Denot). x.room) c.forms.view_is in
     record {
-      count = ap length ef ∙ e.forms_length ∙ ap length c.deref_mut.ensures.value ∙ ap (λ (x : LinearForms g.row.F.Denot). length x.forms) c.forms.view_is ∙ c.requires.made.count;
-      own = ap length eo ∙ e.own_length ∙ ap length c.deref_mut-2.ensures.value ∙ ap (λ (x : LinearForms g.row.F.Denot). length x.own) c.forms.view_is ∙ c.requires.made.own;
+      count = ap length ef ∙ e.forms_length ∙ ap length c.deref_mut-5.ensures.value ∙ ap (λ (x : LinearForms g.row.F.Denot). length x.forms) c.forms.view_is ∙ c.requires.made.count;
+      own = ap length eo ∙ e.own_length ∙ ap length c.deref_mut-6.ensures.value ∙ ap (λ (x : LinearForms g.row.F.Denot). length x.own) c.forms.view_is ∙ c.requires.made.own;
       places = λ i h. subst (λ fs. IsPlacedAt w i (form_at o fs i)) (sym ef) (e.placed i h);
       room = λ l h. omega (arith, c.requires.made.room l h, room);
     }
 
-pub returns-clause-coefficients : goal.returns-clause-coefficients
-returns-clause-coefficients g c i j h b k =
-    let o = g.F.Field.ops in
-    let w = c.args.circuit.now in
+pub returns-clause-rest : goal.returns-clause-rest
+returns-clause-rest g c =
+    let f = g.F.Field in
     let inside = c.forms.inside in
-    let e = c.fill_forms.ensures in
+    let forms = c.fill_forms.new.forms in
     let own = c.fill_forms.new.own in
-    let whole = whole_of o w c.args.script.now c.args.skip own in
-    let is = whole_is o w c.args.script.now c.args.skip own (omega (arith, c.requires.skip)) in
-    let nf : length c.fill_forms.new.forms ≡ inside.forms.len = omega (arith, e.forms_length, ap length c.deref_mut.ensures.value, inside.forms.ok.0) in
-    let no : length own ≡ inside.own.len = omega (arith, e.own_length, ap length c.deref_mut-2.ensures.value, inside.own.ok.0) in
-    ap (λ xs. coefficient_in o xs (form_at o (with_items inside.forms c.fill_forms.new.forms).items i) j) (with_items_is inside.own own no)
-    ∙ ap (λ fs. coefficient_in o own (form_at o fs i) j) (with_items_is inside.forms c.fill_forms.new.forms nf)
-    ∙ same_coefficient o own whole (form_at o c.fill_forms.new.forms i) j (sym (is.after j b k))
-    ∙ (e.constraints whole is i h).coefficient j k
-
-pub returns-clause-rights : goal.returns-clause-rights
-returns-clause-rights g c i h =
-    let o = g.F.Field.ops in
-    let w = c.args.circuit.now in
-    let inside = c.forms.inside in
-    let e = c.fill_forms.ensures in
-    let own = c.fill_forms.new.own in
-    let whole = whole_of o w c.args.script.now c.args.skip own in
-    let is = whole_is o w c.args.script.now c.args.skip own (omega (arith, c.requires.skip)) in
-    let nf : length c.fill_forms.new.forms ≡ inside.forms.len = omega (arith, e.forms_length, ap length c.deref_mut.ensures.value, inside.forms.ok.0) in
-    ap (λ fs. (form_at o fs i).right) (with_items_is inside.forms c.fill_forms.new.forms nf) ∙ (e.constraints whole is i h).right
-
-pub returns-clause-layers : goal.returns-clause-layers
-returns-clause-layers g c i j h b =
-    let o = g.F.Field.ops in
-    let w = c.args.circuit.now in
-    let e = c.fill_forms.ensures in
-    let own = c.fill_forms.new.own in
-    let whole = whole_of o w c.args.script.now c.args.skip own in
-    let is = whole_is o w c.args.script.now c.args.skip own (omega (arith, c.requires.skip)) in
-    let form = form_at o c.fill_forms.new.forms i in
-    let placed = e.placed i (omega arith) in
-    sym ((e.constraints whole is i (omega arith)).coefficient j (omega (arith, c.requires.skip)))
-    ∙ coefficient_before o g.F.Field.laws.ring whole form j (omega (arith, placed.start, start_after w i h, c.requires.skip)) (omega (arith, placed.above, c.requires.skip))
-
-pub returns-clause-inputs : goal.returns-clause-inputs
-returns-clause-inputs g c j b =
-    let o = g.F.Field.ops in
-    let w = c.args.circuit.now in
-    let e = c.fill_forms.ensures in
-    let own = c.fill_forms.new.own in
-    let whole = whole_of o w c.args.script.now c.args.skip own in
-    let is = whole_is o w c.args.script.now c.args.skip own (omega (arith, c.requires.skip)) in
-    let form = form_at o c.fill_forms.new.forms (depth w) in
-    let placed = e.placed (depth w) (omega arith) in
-    sym ((e.constraints whole is (depth w) (omega arith)).coefficient j (omega (arith, c.requires.skip)))
-    ∙ coefficient_inside o g.F.Field.laws.ring whole form j (omega (arith, placed.start, last_start w (depth w) (omega arith))) (omega (arith, placed.end, last_end w (depth w) (omega arith), c.requires.skip)) (omega (arith, placed.above, c.requires.skip))
-    ∙ is.before j b
+    let nf : length c.fill_forms.new.forms ≡ inside.forms.len = omega (arith, c.fill_forms.ensures.forms_length, ap length c.deref_mut-5.ensures.value, inside.forms.ok.0) in
+    let no : length c.fill_forms.new.own ≡ inside.own.len = omega (arith, c.fill_forms.ensures.own_length, ap length c.deref_mut-6.ensures.value, inside.own.ok.0) in
+    let rest = AreRest f.ops f.element c.args.circuit.now c.args.public.now c.args.script.now c.args.messages.now c.args.skip in
+    subst (λ fs. rest fs (with_items inside.own own).items) (sym (with_items_is inside.forms forms nf))
+    (subst (rest forms) (sym (with_items_is inside.own own no)) c.fill_forms.ensures.rest)

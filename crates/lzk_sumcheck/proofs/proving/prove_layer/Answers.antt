@@ -3,8 +3,10 @@ use Rattle.std.specs.Prelude.{List, map}
 use Rattle.std.specs.List.{range_with_len, refill}
 use Rattle.lzk_field.specs.Coding.{coding}
 use Rattle.lzk_mle.specs.Multilinear.{eq}
+use Rattle.lzk_circuit.specs.Wires.{coef}
 use Rattle.lzk_sumcheck.specs.declared.script.LayerScript.{LayerScript}
 use Rattle.lzk_sumcheck.specs.Layers.{layer_of_terms}
+use Rattle.lzk_sumcheck.specs.Rounds.{bound_coefficient}
 use Rattle.lzk_sumcheck.specs.Script.{after_rounds, round_challenge, with_pair}
 use Rattle.lzk_sumcheck.specs.Sending.{AreRoundsSent}
 use Rattle.lzk_sumcheck.specs.Weights.{weighted}
@@ -79,3 +81,20 @@ returns-clause-second g c = λ i h.
     let size : length c.as_mut_slice.result.now ≡ length old.ra = ap length c.as_mut_slice.ensures.value in
     let nb : length rb ≡ length old.rb = omega (arith, c.prove_rounds.auto.rb, ap length c.as_mut_slice-2.ensures.value) in
     c.prove_rounds.ensures.second i (subst (λ n. i < 2 ^ n) (sym size) h) ∙ ap (eq g.F.Field.ops i) (sym (refill_whole (length old.rb) old.rb rb nb))
+
+pub returns-clause-bound : goal.returns-clause-bound
+returns-clause-bound g c =
+    let o = g.F.Field.ops in
+    let a = c.args in
+    let old = a.layer.now in
+    let ra = c.prove_rounds.new.ra in
+    let rb = c.prove_rounds.new.rb in
+    let na : length ra ≡ length old.ra = omega (arith, c.prove_rounds.auto.ra, ap length c.as_mut_slice.ensures.value) in
+    let nb : length rb ≡ length old.rb = omega (arith, c.prove_rounds.auto.rb, ap length c.as_mut_slice-2.ensures.value) in
+    let came = bound_coefficient o (coef o a.terms.now) in
+    let below = length a.values.now in
+    let weights = weighted o c.draw-layer.result a.first.now a.second.now (length a.weights.now) in
+    c.prove_rounds.ensures.bound
+    ∙ ap (λ w. came w below ra rb) c.set_weights.ensures
+    ∙ ap (λ xs. came weights below xs rb) (sym (refill_whole (length old.ra) old.ra ra na))
+    ∙ ap (came weights below (refill (length old.ra) old.ra ra)) (sym (refill_whole (length old.rb) old.rb rb nb))

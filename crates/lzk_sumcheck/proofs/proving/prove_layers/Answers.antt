@@ -5,6 +5,7 @@ use Rattle.lzk_field.specs.Coding.{coding}
 use Rattle.lzk_transcript.specs.Columns.{after_draws}
 use Rattle.lzk_layout.specs.Places.{output_bits}
 use Rattle.lzk_sumcheck.specs.declared.script.Script.{Script}
+use Rattle.lzk_sumcheck.specs.Coefficients.{AreBounds}
 use Rattle.lzk_sumcheck.specs.Script as spec
 use Rattle.lzk_sumcheck.specs.Script.{HasShape}
 use Rattle.lzk_sumcheck.proofs.Filled.{refill_whole}
@@ -34,4 +35,5 @@ returns g c =
       tape = tape_whole f.ops e ms w t start last c.draw-script.new.self refl all.after c.draw-script.ensures.after;
       shape = subst (λ s. HasShape w s) (sym filled) (script_shape f.ops e ms w t);
       room = all.made;
+      bounds = subst (λ s. AreBounds f.ops w s c.prove_scripts.new.room.bounds) (sym filled) all.bounds;
     }

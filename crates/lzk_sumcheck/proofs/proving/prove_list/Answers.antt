@@ -14,7 +14,7 @@ use Rattle.lzk_sumcheck.specs.Draws.{draws}
 use Rattle.lzk_sumcheck.specs.Orders.{places, IsOrderOf}
 use Rattle.lzk_sumcheck.proofs.LayerLaws.{AreReplayed, replayed_whole}
 use Rattle.lzk_sumcheck.proofs.LayerShapes.{values_depth, values_width, terms_is, terms_distinct}
-use Rattle.lzk_sumcheck.proofs.ProvingLaws.{proved-none, proved-more, front-kept, part-stands, layer-has, times-less}
+use Rattle.lzk_sumcheck.proofs.ProvingLaws.{AreBound, proved-none, proved-more, bound-more, front-kept, part-stands, layer-has, times-less}
 use Rattle.lzk_sumcheck.proofs.proving.prove_list.Goals as goal
 
 pub set_table-requires-clause-few : goal.set_table-requires-clause-few
@@ -53,6 +53,8 @@ loop-l-init g c =
           (c.draw_all.ensures.after ∙ ap (λ n. after_draws n t) size)
           (λ k h. c.set_table.ensures.entries k (omega (arith, h, ap (λ n. 2 ^ n) len, bits_enough (width_at w 0))) ∙ ap (eq o k) points)
           (λ k h. c.set_table-2.ensures.entries k (omega (arith, h, ap (λ n. 2 ^ n) len, bits_enough (width_at w 0))) ∙ ap (eq o k) points);
+      bounds = refl;
+      bound = λ k h. absurd (omega arith);
     }
 
 pub split_at_mut-wires-requires : goal.split_at_mut-wires-requires
@@ -72,6 +74,11 @@ pub offset_bounds-layers-l : goal.offset_bounds-layers-l
 offset_bounds-layers-l g c =
     let inside : c.loop-l.l < length c.args.layers.now = omega (arith, c.depth-depth.ensures.depth, c.loop-l-test.true, c.loop-l.auto.l-end, c.requires.depth) in
     record { fits = times-less c.loop-l.l (length c.args.layers.now) _ _ inside (omega arith) }
+
+pub offset_bounds-bounds-l : goal.offset_bounds-bounds-l
+offset_bounds-bounds-l g c =
+    let inside : c.loop-l.l < length c.args.bounds.now = omega (arith, c.depth-depth.ensures.depth, c.loop-l-test.true, c.loop-l.auto.l-end, c.requires.bounds) in
+    record { fits = times-less c.loop-l.l (length c.args.bounds.now) _ _ inside (omega arith) }
 
 pub prove_layer-requires-clause-bits : goal.prove_layer-requires-clause-bits
 prove_layer-requires-clause-bits g c κs within =
@@ -233,6 +240,7 @@ loop-l-preserved g c =
     let sent = c.prove_layer.new.sent in
     let rest = c.split_at_mut-sent.result.1.now in
     let wires = c.split_at_mut-wires.result.0.now in
+    let vs = c.layer-in-loop-l.result.now in
     let begins : c.loop-l.places.messages ≡ sent_at w l = ap (λ p. p.messages) inv.places in
     let few : c.loop-l.places.bits ≡ bits_under w l = ap (λ p. p.bits) inv.places in
     let size : length front ≡ sent_at w l = omega (arith, c.split_at_mut-later.ensures.front_len, begins) in
@@ -261,6 +269,14 @@ loop-l-preserved g c =
           all.rounds all.factor_a all.factor_b
           (λ j q. all.first j (omega (arith, q, enough)))
           (λ j q. all.second j (omega (arith, q, enough)));
+      bounds = length-set c.loop-l.bounds l c.prove_layer.result ∙ inv.bounds;
+      bound = bound-more o e w c.args.values.now c.args.pads.now c.args.tape.now c.args.layers.now l c.loop-l.tape c.loop-l.layers c.loop-l.messages (front ++ (sent ++ rest))
+          c.loop-l.first c.loop-l.second sent c.part.result.now c.loop-l.bounds k (length wires) (length vs) c.as_slice.result.now c.prove_layer.new.layer c.prove_layer.result
+          inv.proved h (omega (arith, h, inv.bounds, c.requires.bounds))
+          (front-kept o (sent_at w l) c.loop-l.messages front c.split_at_mut-later.result.1.now (sent ++ rest) c.split_at_mut-later.ensures.value size)
+          has.ra wide (c.as_slice.ensures ∙ terms_is w l c.layer.result.now c.layer.ensures)
+          (ap length c.layer-in-loop-l.ensures ∙ values_width w c.args.values.now (l + 1) c.requires.values (omega (arith, h)))
+          all.script (part-stands o (sent_at w l) (4 * k + 2) front sent rest size count) all.bound inv.bound;
     }
 
 pub returns-clause-scripts : goal.returns-clause-scripts
@@ -272,3 +288,15 @@ returns-clause-scripts g c =
     let all : c.loop-l.l ≡ depth w = omega (arith, c.depth-depth.ensures.depth, c.loop-l-test.false, c.loop-l.auto.l-end) in
     let done = subst (λ l. AreReplayed f.ops e c.loop-l.messages w start c.args.layers.now l c.loop-l.tape c.loop-l.layers) all c.loop-l.invariant.proved.replayed in
     replayed_whole f.ops e c.loop-l.messages w start c.args.layers.now c.loop-l.tape c.loop-l.layers done (omega (arith, c.requires.depth, c.loop-l.invariant.layers))
+
+pub returns-clause-bounds : goal.returns-clause-bounds
+returns-clause-bounds g c =
+    let f = g.F.Field in
+    let e = coding f.element f.number_of f.BYTES f.size f.ID in
+    let w = c.args.circuit.now in
+    let a = c.args in
+    let all : c.loop-l.l ≡ depth w = omega (arith, c.depth-depth.ensures.depth, c.loop-l-test.false, c.loop-l.auto.l-end) in
+    record {
+      count = c.loop-l.invariant.bounds ∙ c.requires.bounds;
+      each = subst (λ l. AreBound f.ops e w a.values.now a.pads.now a.tape.now a.layers.now l c.loop-l.messages c.loop-l.bounds) all c.loop-l.invariant.bound;
+    }

@@ -1,7 +1,7 @@
 use Rattle.std.proofs.Common.{◌≡◌, ◌<◌, length}
 use Rattle.lzk_field.specs.Coding.{coding}
 use Rattle.lzk_layout.specs.Places.{depth, places_of, AreWithin}
-use Rattle.lzk_sumcheck.proofs.ProvingLaws.{AreProved}
+use Rattle.lzk_sumcheck.proofs.ProvingLaws.{AreProved, AreBound}
 use Rattle.lzk_sumcheck.proofs.proving.prove_list.Given as goal
 
 abbrev pub invariant-loop-l : goal.invariant-loop-l
@@ -19,4 +19,6 @@ invariant-loop-l g l =
       messages : length l.messages ≡ length l.fn.messages;
       layers : length l.layers ≡ length l.fn.layers;
       proved : AreProved f.ops (coding f.element f.number_of f.BYTES f.size f.ID) l.circuit l.values l.pads l.fn.tape l.fn.layers l.l l.tape l.layers l.messages l.first l.second;
+      bounds : length l.bounds ≡ length l.fn.bounds;
+      bound : AreBound f.ops (coding f.element f.number_of f.BYTES f.size f.ID) l.circuit l.values l.pads l.fn.tape l.fn.layers l.l l.messages l.bounds;
     }

@@ -6,7 +6,7 @@ use Rattle.lzk_field.specs.Sums.{minus, entry}
 use Rattle.lzk_sumcheck.specs.Rounds.{every_other}
 use Rattle.lzk_sumcheck.specs.Sending.{drawn_sent, AreSent}
 use Rattle.lzk_sumcheck.specs.Rows.{round_at, IsKept}
-use Rattle.lzk_sumcheck.specs.States.{bind_state, total}
+use Rattle.lzk_sumcheck.specs.States.{bind_state, after, total}
 use Rattle.lzk_sumcheck.proofs.SendLaws.{drawn-step, after-step, sent-step, rest-whole, tilde-last}
 use Rattle.lzk_sumcheck.proofs.sending.+send_rounds.Goals as goal
 
@@ -86,3 +86,29 @@ returns-clause-factor_a g t c =
     let taken : length (take half new) ≡ half = length-take-le half new (omega (arith, e.first_length, e.table)) in
     get_or_append_left c.send_rounds.new.second (drop half new) o.zero 0 (omega (arith, e.table, c.requires.first, taken, c.send_rounds.ensures.second_length))
     ∙ c.send_rounds.ensures.factor_b ∙ e.extension c.send_rounds.new.rb
+
+pub returns-in_default-clause-bound : goal.returns-in_default-clause-bound
+returns-in_default-clause-bound g t c = λ st k.
+    let m = g.F.Field in
+    let o = m.ops in
+    let e = coding m.element m.number_of m.BYTES m.size m.ID in
+    let a = c.args in
+    let none : length a.ra.now + length a.rb.now ≡ 0 = omega (arith, c.in_default.ensures.cases, c.requires.turn) in
+    c.last_coefficient.ensures a.of_a ∙ sym (k.q_is 0 0) ∙ sym (ap (λ n. (after o (drawn_sent o e a.sent.now n a.tape.now) st).q 0 0) none)
+
+pub returns-clause-bound : goal.returns-clause-bound
+returns-clause-bound g t c = λ st k.
+    let m = g.F.Field in
+    let o = m.ops in
+    let e = coding m.element m.number_of m.BYTES m.size m.ID in
+    let a = c.args in
+    let x = c.send_round-x.result in
+    let all = length a.ra.now + length a.rb.now in
+    let rest = length c.in-Some.ra.now in
+    let left = length a.rb.now + rest in
+    let one : length a.ra.now ≡ rest + 1 = omega (arith, ap length c.in-Some.ensures.cases.0) in
+    let more : all ≡ suc left = omega (arith, one) in
+    let drawn = drawn-step o e c.send_round-x.new.sent c.send_rounds.new.sent all left a.tape.now c.send_round-x.new.tape x c.send_round-x.ensures.length more c.send_round-x.ensures.challenge c.send_round-x.ensures.after in
+    let kept = subst (λ n. IsKept o n (length a.rb.now) st a.of_a a.pairs.now a.scale a.linear.now a.first.now a.second.now) one k in
+    c.send_rounds.ensures.bound (bind_state o x st) (c.bind_kept-left.ensures.kept rest (length a.rb.now) st kept)
+    ∙ sym (ap (λ ds. (after o ds st).q 0 0) drawn)

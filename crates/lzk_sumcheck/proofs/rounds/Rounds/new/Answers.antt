@@ -17,5 +17,6 @@ returns g c =
         places = λ l h.
             let few : bits (width_at w l) ≤ most = c.most_bits.ensures.most l h in
             omega (arith, size, pow_mono {i = bits (width_at w l)} {j = most} few);
+        bounds = omega (arith, ap length c.in_ok-zeros-6.ensures ∙ length-replicate c.depth.result g.F.Field.ops.zero, c.depth.ensures.depth);
       };
     }

@@ -1,0 +1,88 @@
+use Rattle.std.proofs.Common.{◌≡◌, ◌<◌, ℕ, length, sym, ap, ◌∙◌, subst, arith}
+use Rattle.std.specs.Vec.{with_items}
+use Rattle.std.proofs.lemmas.List.{with_items_is}
+use Rattle.lzk_field.specs.Sums.{entry}
+use Rattle.lzk_mle.specs.Multilinear.{eq}
+use Rattle.lzk_circuit.proofs.BitLaws.{bits_enough}
+use Rattle.lzk_layout.specs.Places.{depth, width_at}
+use Rattle.lzk_sumcheck.specs.Script.{point_a, point_b}
+use Rattle.lzk_accept.specs.Kept.{LinearForms, form_at, AreRest, IsPlacedAt}
+use Rattle.lzk_accept.proofs.linear.rest_with_bounds.Goals as goal
+
+pub set_input_tables-requires-clause-first_room : goal.set_input_tables-requires-clause-first_room
+set_input_tables-requires-clause-first_room g c κs within =
+    let w = c.args.circuit.now in
+    let room : length c.forms.inside.weights.items ≡ c.args.forms.now.room = ap (λ (x : LinearForms g.row.F.Denot). x.room) c.forms.view_is in
+    omega (arith, c.requires.made.room (depth w) (omega arith), room, c.forms.invariant.0, ap length c.deref_mut.ensures.value)
+
+pub set_input_tables-requires-clause-second_room : goal.set_input_tables-requires-clause-second_room
+set_input_tables-requires-clause-second_room g c κs within =
+    let w = c.args.circuit.now in
+    let room : length c.forms.inside.weights.items ≡ c.args.forms.now.room = ap (λ (x : LinearForms g.row.F.Denot). x.room) c.forms.view_is in
+    omega (arith, c.requires.made.room (depth w) (omega arith), room, c.forms.invariant.1, ap length c.deref_mut-2.ensures.value)
+
+pub fill_forms-requires-clause-first_room : goal.fill_forms-requires-clause-first_room
+fill_forms-requires-clause-first_room g c κs within =
+    let w = c.args.circuit.now in
+    let inside = c.forms.inside in
+    let nf : length c.set_input_tables.new.first ≡ inside.first.len = omega (arith, c.set_input_tables.ensures.first_length, ap length c.deref_mut.ensures.value, inside.first.ok.0) in
+    let room : length inside.weights.items ≡ c.args.forms.now.room = ap (λ (x : LinearForms g.row.F.Denot). x.room) c.forms.view_is in
+    let table = ap length (c.deref.ensures.value ∙ with_items_is inside.first c.set_input_tables.new.first nf) in
+    omega (arith, table, c.set_input_tables.ensures.first_length, ap length c.deref_mut.ensures.value, c.forms.invariant.0, room, c.requires.made.room (depth w) (omega arith), bits_enough (width_at w (depth w)))
+
+pub fill_forms-requires-clause-second_room : goal.fill_forms-requires-clause-second_room
+fill_forms-requires-clause-second_room g c κs within =
+    let w = c.args.circuit.now in
+    let inside = c.forms.inside in
+    let ns : length c.set_input_tables.new.second ≡ inside.second.len = omega (arith, c.set_input_tables.ensures.second_length, ap length c.deref_mut-2.ensures.value, inside.second.ok.0) in
+    let room : length inside.weights.items ≡ c.args.forms.now.room = ap (λ (x : LinearForms g.row.F.Denot). x.room) c.forms.view_is in
+    let table = ap length (c.deref-2.ensures.value ∙ with_items_is inside.second c.set_input_tables.new.second ns) in
+    omega (arith, table, c.set_input_tables.ensures.second_length, ap length c.deref_mut-2.ensures.value, c.forms.invariant.1, room, c.requires.made.room (depth w) (omega arith), bits_enough (width_at w (depth w)))
+
+pub fill_forms-requires-clause-first : goal.fill_forms-requires-clause-first
+fill_forms-requires-clause-first g c κs within =
+    let o = g.F.Field.ops in
+    let w = c.args.circuit.now in
+    let inside = c.forms.inside in
+    let nf : length c.set_input_tables.new.first ≡ inside.first.len = omega (arith, c.set_input_tables.ensures.first_length, ap length c.deref_mut.ensures.value, inside.first.ok.0) in
+    subst (λ xs. (k : ℕ) → k < width_at w (depth w) → entry o xs k ≡ eq o k (point_a o c.args.script.now (depth w)))
+    (sym (c.deref.ensures.value ∙ with_items_is inside.first c.set_input_tables.new.first nf)) c.set_input_tables.ensures.first
+
+pub fill_forms-requires-clause-second : goal.fill_forms-requires-clause-second
+fill_forms-requires-clause-second g c κs within =
+    let o = g.F.Field.ops in
+    let w = c.args.circuit.now in
+    let inside = c.forms.inside in
+    let ns : length c.set_input_tables.new.second ≡ inside.second.len = omega (arith, c.set_input_tables.ensures.second_length, ap length c.deref_mut-2.ensures.value, inside.second.ok.0) in
+    subst (λ xs. (k : ℕ) → k < width_at w (depth w) → entry o xs k ≡ eq o k (point_b o c.args.script.now (depth w)))
+    (sym (c.deref-2.ensures.value ∙ with_items_is inside.second c.set_input_tables.new.second ns)) c.set_input_tables.ensures.second
+
+pub returns-clause-made : goal.returns-clause-made
+returns-clause-made g c =
+    let o = g.F.Field.ops in
+    let w = c.args.circuit.now in
+    let inside = c.forms.inside in
+    let e = c.fill_forms.ensures in
+    let nf : length c.fill_forms.new.forms ≡ inside.forms.len = omega (arith, c.fill_forms.ensures.forms_length, ap length c.deref_mut-3.ensures.value, inside.forms.ok.0) in
+    let no : length c.fill_forms.new.own ≡ inside.own.len = omega (arith, c.fill_forms.ensures.own_length, ap length c.deref_mut-4.ensures.value, inside.own.ok.0) in
+    let ef = with_items_is inside.forms c.fill_forms.new.forms nf in
+    let eo = with_items_is inside.own c.fill_forms.new.own no in
+    let room : length inside.weights.items ≡ c.args.forms.now.room = ap (λ (x : LinearForms g.row.F.Denot). x.room) c.forms.view_is in
+    record {
+      count = ap length ef ∙ e.forms_length ∙ ap length c.deref_mut-3.ensures.value ∙ ap (λ (x : LinearForms g.row.F.Denot). length x.forms) c.forms.view_is ∙ c.requires.made.count;
+      own = ap length eo ∙ e.own_length ∙ ap length c.deref_mut-4.ensures.value ∙ ap (λ (x : LinearForms g.row.F.Denot). length x.own) c.forms.view_is ∙ c.requires.made.own;
+      places = λ i h. subst (λ fs. IsPlacedAt w i (form_at o fs i)) (sym ef) (e.placed i h);
+      room = λ l h. omega (arith, c.requires.made.room l h, room);
+    }
+
+pub returns-clause-rest : goal.returns-clause-rest
+returns-clause-rest g c =
+    let f = g.F.Field in
+    let inside = c.forms.inside in
+    let forms = c.fill_forms.new.forms in
+    let own = c.fill_forms.new.own in
+    let nf : length c.fill_forms.new.forms ≡ inside.forms.len = omega (arith, c.fill_forms.ensures.forms_length, ap length c.deref_mut-3.ensures.value, inside.forms.ok.0) in
+    let no : length c.fill_forms.new.own ≡ inside.own.len = omega (arith, c.fill_forms.ensures.own_length, ap length c.deref_mut-4.ensures.value, inside.own.ok.0) in
+    let rest = AreRest f.ops f.element c.args.circuit.now c.args.public.now c.args.script.now c.args.messages.now c.args.skip in
+    subst (λ fs. rest fs (with_items inside.own own).items) (sym (with_items_is inside.forms forms nf))
+    (subst (rest forms) (sym (with_items_is inside.own own no)) c.fill_forms.ensures.rest)
