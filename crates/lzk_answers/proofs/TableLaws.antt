@@ -1,18 +1,19 @@
 -- Answers that are made from a table of the rows' values.
-use Rattle.std.specs.Prelude.{◌≡◌, ℕ, ◌+◌, ◌-◌, ◌*◌, ◌<◌, ◌≤◌, List, [], ◌∷◌, ◌++◌, length, map, replicate}
+use Rattle.std.specs.Prelude.{◌≡◌, ◌≢◌, ℕ, ◌+◌, ◌-◌, ◌*◌, ◌<◌, ◌≤◌, List, [], ◌∷◌, ◌++◌, length, map, replicate, take, drop}
 use Rattle.std.specs.List.{range_with_len}
-use Rattle.std.proofs.Common.{suc, refl, sym, ap, ◌∙◌, arith}
-use Rattle.std.proofs.lemmas.List.{ext_get_or, length-append, length-replicate, get_or-replicate, get_or_append_left, get_or-append-add}
+use Rattle.std.proofs.Common.{suc, refl, sym, ap, ◌∙◌, arith, mul-le-mul_right}
+use Rattle.std.proofs.lemmas.List.{ext_get_or, length-append, length-replicate, get_or-replicate, get_or_append_left, get_or-append-add, get_or-take, get_or-drop}
 use Rattle.std.proofs.lemmas.List.FromFn.{length-map-range_with_len, get_or-map-range_with_len}
 use native.Mathlib.Decide.{dec_lt}
-use Rattle.lzk_field.specs.Ring.{Ops, RingLaws}
+use Rattle.lzk_field.specs.Ring.{Ops, RingLaws, FieldLaws}
 use Rattle.lzk_field.specs.Sums.{sum_below, minus, entry}
-use Rattle.lzk_field.proofs.RingBasics.{times_zero}
+use Rattle.lzk_field.proofs.RingBasics.{times_zero, zero_times}
 use Rattle.lzk_field.proofs.Solve.{var, opp, ◌⊞◌, ◌⊟◌, ◌⊠◌, solve}
-use Rattle.lzk_field.proofs.SumLaws.{sum-ext, sum-times, sum-times_right, sum-swap, sum-split}
+use Rattle.lzk_field.proofs.SumLaws.{sum-ext, sum-zero, sum-times, sum-times_right, sum-swap, sum-split}
 use Rattle.lzk_poly.specs.Extension.{extension}
 use Rattle.lzk_poly.specs.Through.{values_of}
 use Rattle.lzk_poly.proofs.ExtensionLaws.{extension-sum}
+use Rattle.lzk_poly.proofs.Extensions.{extension-given}
 use Rattle.lzk_layout.specs.declared.params.Params.{Params}
 use Rattle.lzk_answers.specs.Rows.{row, IsTableOf}
 use Rattle.lzk_answers.specs.Answers.{low_degree_answer, linear_answer, quadratic_answer}
@@ -169,6 +170,69 @@ module _ {A : Type 0} (o : Ops A) (r : RingLaws o) (point : ℕ → A) (p : Para
       ∙ sum-ext o r m (λ i. sum_below o count (λ f. o.times (o.times (row_factor f i) (E f)) (here i))) (λ i. o.times (extension o point (lists (3 + i)) k) (here i))
       (λ i h. sum-times_right o r count (here i) (λ f. o.times (row_factor f i) (E f)) ∙ ap (λ w. o.times w (here i)) (sym (extension-factored lists are i h k)))
 
+  -- the same with the values of the factors' rows at this point, and what that adds
+  pub products_added : (lists : ℕ → List A) → AreFactored o p m count row_factors place_factors lists → (width from d k : ℕ) (table : List A) (given : ℕ → A) (old new : A) → from + d ≡ k
+      → ((f : ℕ) → f < count → given f ≡ extension o point (places f) k)
+      → new ≡ o.plus old (sum_below o count (λ f. o.times (given f) (sum_below o m (λ i. o.times (row_factor f i) (cell o width table (3 + i) (from + d))))))
+      → new ≡ o.plus old (sum_below o m (λ i. o.times (extension o point (lists (3 + i)) k) (cell o width table (3 + i) k)))
+  products_added lists are width from d k table given old new e same is =
+      let here : ℕ → A = λ i. cell o width table (3 + i) k in
+      let sum : ℕ → A = λ f. sum_below o m (λ i. o.times (row_factor f i) (here i)) in
+      is
+      ∙ ap (λ (n : ℕ). o.plus old (sum_below o count (λ f. o.times (given f) (sum_below o m (λ i. o.times (row_factor f i) (cell o width table (3 + i) n)))))) e
+      ∙ ap (o.plus old)
+      (sum-ext o r count (λ f. o.times (given f) (sum f)) (λ f. o.times (extension o point (places f) k) (sum f)) (λ f h. ap (λ w. o.times w (sum f)) (same f h)) ∙ factored_sum lists are k here)
+
+  -- where the factors' rows are zero, nothing is added
+  pub nothing_added : (lists : ℕ → List A) → AreFactored o p m count row_factors place_factors lists → (width k : ℕ) (table : List A) (old : A) → ((f : ℕ) → f < count → extension o point (places f) k ≡ o.zero)
+      → old ≡ o.plus old (sum_below o m (λ i. o.times (extension o point (lists (3 + i)) k) (cell o width table (3 + i) k)))
+  nothing_added lists are width k table old zeros =
+      let here : ℕ → A = λ i. cell o width table (3 + i) k in
+      let sum : ℕ → A = λ f. sum_below o m (λ i. o.times (row_factor f i) (here i)) in
+      sym (r.plus_zero old)
+      ∙ ap (o.plus old)
+      (sym (sum-zero o r count)
+      ∙ sum-ext o r count (λ f. o.zero) (λ f. o.times (extension o point (places f) k) (sum f)) (λ f h. sym (ap (λ w. o.times w (sum f)) (zeros f h) ∙ zero_times o r (sum f)))
+      ∙ factored_sum lists are k here)
+
+-- the first values of a row of coefficients' polynomial are zeros, and then the coefficients
+module _ {A : Type 0} (o : Ops A) (r : RingLaws o) (f : FieldLaws o) (point : ℕ → A) (head m : ℕ) (apart : (i j : ℕ) → i < j → j < head + m → point i ≢ point j) (a : ℕ → A) where
+  given-coefficient_list : (k : ℕ) → k < head + m → extension o point (coefficient_list o head m a) k ≡ entry o (coefficient_list o head m a) k
+  given-coefficient_list k h =
+      let size = length-coefficient_list o head m a in
+      extension-given o r f point (coefficient_list o head m a) (λ i j q s. apart i j q (omega (arith, size, s))) k (omega (arith, size, h))
+
+  pub front-extension : (k : ℕ) → k < head → extension o point (coefficient_list o head m a) k ≡ o.zero
+  front-extension k h = given-coefficient_list k (omega (arith, h)) ∙ front-coefficient_list o head m a k h
+
+  pub back-extension : (s : ℕ) → s < m → extension o point (coefficient_list o head m a) (head + s) ≡ a s
+  back-extension s h = given-coefficient_list (head + s) (omega (arith, h)) ∙ back-coefficient_list o head m a s h
+
+-- ---- parts of a list
+
+-- a place of a row before row f comes before that row
+pub before_row : (j k f size : ℕ) → j < f → k < size → j * size + k < f * size
+before_row j k f size l h = let most : suc j * size ≤ f * size = mul-le-mul_right size l in omega (arith, most)
+
+module _ {A : Type 0} (o : Ops A) where
+  pub entry-front : (xs front : List A) (n k : ℕ) → front ≡ take n xs → k < n → entry o front k ≡ entry o xs k
+  entry-front xs front n k e h = ap (λ zs. entry o zs k) e ∙ get_or-take n xs k o.zero h
+
+  pub entry-back : (xs back : List A) (n k : ℕ) → back ≡ drop n xs → entry o back k ≡ entry o xs (n + k)
+  entry-back xs back n k e = ap (λ zs. entry o zs k) e ∙ get_or-drop n xs k o.zero
+
+  -- the rows up to row f of a list whose front has those before it
+  pub rows_more : (front values tail : List A) (f size : ℕ) → length front ≡ f * size → length values ≡ size
+      → (j k : ℕ) (x : A) → j < f + 1 → k < size → (j < f → entry o front (j * size + k) ≡ x) → (j ≡ f → entry o values k ≡ x) → entry o (front ++ (values ++ tail)) (j * size + k) ≡ x
+  rows_more front values tail f size many wide j k x h q before last =
+      elim (dec_lt j f) [
+        | yes l ↦ get_or_append_left front (values ++ tail) o.zero (j * size + k) (omega (arith, many, before_row j k f size l q)) ∙ before l
+        | no l ↦
+            let e : j ≡ f = omega arith in
+            let z : j * size + k ≡ length front + k = ap (λ (n : ℕ). n * size + k) e ∙ ap (λ (n : ℕ). n + k) (sym many) in
+            ap (entry o (front ++ (values ++ tail))) z ∙ get_or-append-add front (values ++ tail) k o.zero ∙ get_or_append_left values tail o.zero k (omega (arith, wide, q)) ∙ last e
+      ]
+
 -- ---- the sum over all rows, those given by factors first
 
 pub rows_joined : {A : Type 0} (o : Ops A) (r : RingLaws o) (m n : ℕ) (f : ℕ → A) (first x y z : A) → m ≤ n
@@ -202,16 +266,3 @@ group_added {A} o r factors part table first start size width k old before after
     ap (λ w. o.times w (cell o width table (first + start + i) k)) (each i h) ∙ ap (λ (j : ℕ). o.times (entry o factors (start + i)) (cell o width table j k)) e))
     ∙ r.plus_assoc old (sum_below o start f) (sum_below o size (λ i. f (start + i)))
     ∙ ap (o.plus old) (sym (sum-split o r start size f))
-
--- a sum over two more numbers
-pub pair_added : {A : Type 0} (o : Ops A) (r : RingLaws o) (f : ℕ → A) (old before after x y : A) (pair next : ℕ) → next ≡ pair + 1
-    → before ≡ o.plus old (sum_below o (2 * pair) f) → after ≡ o.plus (o.plus before x) y → x ≡ f (2 * pair) → y ≡ f (2 * pair + 1)
-    → after ≡ o.plus old (sum_below o (2 * next) f)
-pair_added o r f old before after x y pair next en eb ea ex ey =
-    let sum = sum_below o (2 * pair) f in
-    let first = f (2 * pair) in
-    let last : 2 * pair + 1 ≡ suc (2 * pair) = omega arith in
-    let count : suc (suc (2 * pair)) ≡ 2 * next = omega arith in
-    ea ∙ ap (λ w. o.plus (o.plus w x) y) eb ∙ ap (λ w. o.plus (o.plus (o.plus old sum) w) y) ex ∙ ap (o.plus (o.plus (o.plus old sum) first)) (ey ∙ ap f last)
-    ∙ ap (λ w. o.plus w (f (suc (2 * pair)))) (r.plus_assoc old sum first) ∙ r.plus_assoc old (o.plus sum first) (f (suc (2 * pair)))
-    ∙ ap (λ (n : ℕ). o.plus old (sum_below o n f)) count

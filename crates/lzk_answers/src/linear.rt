@@ -6,19 +6,16 @@ ghost use Rattle.lzk_poly.specs.Extension.{extension};
 ghost use Rattle.lzk_poly.specs.Through.{values_of};
 ghost use Rattle.lzk_layout.specs.Sizes.{AreBounded};
 ghost use Rattle.lzk_answers.specs.Answers.{linear_answer};
-ghost use Rattle.lzk_answers.specs.Coefficients.{AreCoefficients, AreFactored, AreListed};
+ghost use Rattle.lzk_answers.specs.Coefficients.{AreCoefficients, AreExtended, AreFactored, AreListed};
 ghost use Rattle.lzk_answers.specs.Rows.{IsTableOf};
 
-use crate::rows::{add_list, add_products, clear, multiply_list, row_of, set_list};
+use crate::rows::{FACTORS, add_list, add_products, clear, multiply_list, row_of, set_list};
 use lzk_field::Field;
 use lzk_layout::Params;
 use lzk_poly::RowExtend;
 
 // How many values of a row stand before its elements.
 const HEAD: usize = 128;
-
-// How many products a coefficient is the sum of, where rows are given by factors: so many pairs.
-const PAIRS: usize = 2;
 
 // Zeros, and then these coefficients.
 fn fill_row<F: Field>(coefficients: &[F], row: &mut [F])
@@ -30,6 +27,32 @@ fn fill_row<F: Field>(coefficients: &[F], row: &mut [F])
     let (head, tail) = row.split_at_mut(HEAD);
     clear(head);
     tail.copy_from_slice(coefficients);
+}
+
+// The values from point BLOCK on of the polynomial of a row of coefficients. `values` is set to those before.
+fn extend_behind<F: Field, X: RowExtend<F>>(
+    params: &Params,
+    coefficients: &[F],
+    extender: &X,
+    values: &mut [F],
+    behind: &mut [F],
+    room: &mut [F],
+)
+    requires bounded { AreBounded params.now }
+    requires coefficients { length coefficients.now ≡ params.now.wr }
+    requires reach { X.reach extender.now ≡ record { count = params.now.block; upto = params.now.dblock } }
+    requires values { length values.old ≡ params.now.block }
+    requires behind { length behind.old + params.now.block ≡ params.now.dblock }
+    requires room { X.rooms extender.now ≤ length room.old }
+    ensures behind { length behind.new ≡ length behind.old }
+    ensures room { length room.new ≡ length room.old }
+    ensures given { (list : List F) → AreCoefficients F.ops params.now (entry F.ops coefficients.now) list → values.new ≡ list }
+    ensures further { (list : List F) → AreCoefficients F.ops params.now (entry F.ops coefficients.now) list → (k : ℕ) → k < length behind.old → entry F.ops behind.new k ≡ extension F.ops F.element list (params.now.block + k) }
+    ensures values { length values.new ≡ length values.old }
+{
+    fill_row(coefficients, values);
+    let size = extender.room_len();
+    extender.extend_row(values, behind, &mut room[..size]);
 }
 
 // The values at the first DBLOCK points of the polynomial of a row of coefficients.
@@ -49,10 +72,8 @@ fn extend_coefficients<F: Field, X: RowExtend<F>>(
     ensures room { length room.new ≡ length room.old }
     ensures values { (list : List F) → AreCoefficients F.ops params.now (entry F.ops coefficients.now) list → (k : ℕ) → k < params.now.dblock → entry F.ops row.new k ≡ extension F.ops F.element list k }
 {
-    let (values, further) = row.split_at_mut(params.block as usize);
-    fill_row(coefficients, values);
-    let size = extender.room_len();
-    extender.extend_row(values, further, &mut room[..size]);
+    let (values, behind) = row.split_at_mut(params.block as usize);
+    extend_behind(params, coefficients, extender, values, behind, room);
 }
 
 // Adds, at each point, the value of a row of coefficients times what is given there. The first DBLOCK entries of `room`, and
@@ -82,17 +103,47 @@ fn add_extended<F: Field, X: RowExtend<F>>(
     add_list(answer, row);
 }
 
+// The values from point BLOCK on of the polynomials of the factors' rows of place factors, one row after another. `values`
+// is room, of BLOCK elements.
+fn extend_factors<F: Field, X: RowExtend<F>>(
+    params: &Params,
+    place_factors: &[F],
+    extender: &X,
+    values: &mut [F],
+    behind: &mut [F],
+    room: &mut [F],
+)
+    requires bounded { AreBounded params.now }
+    requires place_factors { length place_factors.now ≡ 4 * params.now.wr }
+    requires reach { X.reach extender.now ≡ record { count = params.now.block; upto = params.now.dblock } }
+    requires values { length values.old ≡ params.now.block }
+    requires behind { length behind.old ≡ 4 * (params.now.dblock - params.now.block) }
+    requires room { X.rooms extender.now ≤ length room.old }
+    ensures values { length values.new ≡ length values.old }
+    ensures behind { length behind.new ≡ length behind.old }
+    ensures room { length room.new ≡ length room.old }
+    ensures further { AreExtended F.ops F.element params.now place_factors.now behind.new }
+{
+    let wr = params.wr as usize;
+    let size = (params.dblock - params.block) as usize;
+    for f in 0..FACTORS {
+        let places = row_of(place_factors, wr, f, wr);
+        let (_, rest) = behind.split_at_mut(f * size);
+        let (row, _) = rest.split_at_mut(size);
+        extend_behind(params, places, extender, values, row, room);
+    }
+}
+
 // Adds the products of rows that are given by factors: for each factor, the sum of the rows' multiples, times the values of
-// the row of place factors. Two factors at a time have these values in the room, before the extender's.
-fn add_factored<F: Field, X: RowExtend<F>>(
+// the row of place factors. These are zeros at the first points, then the place factors, and then those of `behind`.
+fn add_factored<F: Field>(
     params: &Params,
     table: &[F],
     width: usize,
     rows: usize,
     row_factors: &[F],
     place_factors: &[F],
-    extender: &X,
-    room: &mut [F],
+    behind: &[F],
     answer: &mut [F],
 )
     requires bounded { AreBounded params.now }
@@ -101,36 +152,27 @@ fn add_factored<F: Field, X: RowExtend<F>>(
     requires rows { rows ≤ params.now.nrow - 3 }
     requires row_factors { length row_factors.now ≡ 4 * rows }
     requires place_factors { length place_factors.now ≡ 4 * params.now.wr }
-    requires reach { X.reach extender.now ≡ record { count = params.now.block; upto = params.now.dblock } }
-    requires room { X.rooms extender.now + 2 * params.now.dblock ≤ length room.old }
+    requires behind { length behind.now ≡ 4 * (params.now.dblock - params.now.block) }
+    requires further { AreExtended F.ops F.element params.now place_factors.now behind.now }
     requires answer { length answer.old ≡ params.now.dblock }
-    ensures room { length room.new ≡ length room.old }
     ensures answer { length answer.new ≡ length answer.old }
     ensures values { let o = F.ops in (lists : ℕ → List F) → AreFactored o params.now rows 4 row_factors.now place_factors.now lists → (k : ℕ) → k < params.now.dblock →
         entry o answer.new k ≡ o.plus (entry o answer.old k) (sum_below o rows (λ i. o.times (extension o F.element (lists (3 + i)) k) (entry o table.now ((3 + i) * width + k)))) }
 {
-    let wr = params.wr as usize;
-    let (left, rest) = room.split_at_mut(params.dblock as usize);
-    let (right, rest) = rest.split_at_mut(params.dblock as usize);
-    for pair in 0..PAIRS {
-        let f = 2 * pair;
-        let left_places = row_of(place_factors, wr, f, wr);
-        let right_places = row_of(place_factors, wr, f + 1, wr);
-        extend_coefficients(params, left_places, extender, left, rest);
-        extend_coefficients(params, right_places, extender, right, rest);
-        let left_factors = row_of(row_factors, rows, f, rows);
-        let right_factors = row_of(row_factors, rows, f + 1, rows);
-        add_products(
-            table,
-            width,
-            3,
-            left_factors,
-            right_factors,
-            left,
-            right,
-            answer,
-        );
-    }
+    let block = params.block as usize;
+    let (front, further) = answer.split_at_mut(block);
+    let (_, elements) = front.split_at_mut(HEAD);
+    add_products(
+        table,
+        width,
+        3,
+        HEAD,
+        rows,
+        row_factors,
+        place_factors,
+        elements,
+    );
+    add_products(table, width, 3, block, rows, row_factors, behind, further);
 }
 
 // Adds the products of the rows behind the first `m` behind row 2, and their coefficients.
@@ -242,6 +284,10 @@ pub fn linear_by_factors_into<F: Field, X: RowExtend<F>>(
         AreListed F.ops params.now rows coefficients.now lists →
         answer.new ≡ values_of F.ops F.element params.now.dblock (linear_answer F.ops F.element params.now all lists) }
 {
+    let size = FACTORS * (params.dblock - params.block) as usize;
+    let (behind, rest) = room.split_at_mut(size);
+    let (values, _) = answer.split_at_mut(params.block as usize);
+    extend_factors(params, place_factors, extender, values, behind, rest);
     set_list(answer, row_of(table, width, 1, params.dblock as usize));
     add_factored(
         params,
@@ -250,8 +296,7 @@ pub fn linear_by_factors_into<F: Field, X: RowExtend<F>>(
         rows,
         row_factors,
         place_factors,
-        extender,
-        room,
+        behind,
         answer,
     );
     add_listed(

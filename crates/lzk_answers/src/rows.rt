@@ -11,6 +11,9 @@ const GROUP: usize = 32;
 // How many rows a table has, at most.
 const MOST_ROWS: usize = 265;
 
+// How many products a coefficient is the sum of, where rows are given by factors.
+pub(crate) const FACTORS: usize = 4;
+
 // The first values of row `i` of a table, as many as `size` says.
 pub(crate) fn row_of<F: Field>(table: &[F], width: usize, i: usize, size: usize) -> &[F]
     requires inside { (i + 1) * width ≤ length table.now }
@@ -132,38 +135,50 @@ pub(crate) fn add_rows<F: Field>(
     }
 }
 
-// Adds, at each point, two sums of multiples of rows' values, from row `first` on, each times what is given there. A column is
-// gathered once for both.
+// The sum, over the factors, of what is given for each at place `k` times the sum of its multiples of a column's entries.
+fn factored_at<F: Field>(factors: &[F], column: &[F], values: &[F], size: usize, k: usize) -> F
+    requires factors { length factors.now ≡ 4 * length column.now }
+    requires values { length values.now ≡ 4 * size }
+    requires place { k < size }
+    ensures { let o = F.ops in let rows = length column.now in result ≡ sum_below o 4 (λ f. o.times (entry o values.now (f * size + k)) (sum_below o rows (λ i. o.times (entry o factors.now (f * rows + i)) (entry o column.now i)))) }
+{
+    let rows = column.len();
+    let mut sum = F::zero();
+    for f in 0..FACTORS {
+        let multiples = F::dot(row_of(factors, rows, f, rows), column);
+        let value = values[f * size + k];
+        sum = sum.add(value.mul(multiples));
+    }
+    sum
+}
+
+// Adds, at each point from point `from` on, what is given there for each of four factors times the sum of the factor's
+// multiples of rows' values, from row `first` on. A column is gathered once for all factors.
 pub(crate) fn add_products<F: Field>(
     table: &[F],
     width: usize,
     first: usize,
-    left_factors: &[F],
-    right_factors: &[F],
-    left: &[F],
-    right: &[F],
+    from: usize,
+    rows: usize,
+    factors: &[F],
+    values: &[F],
     out: &mut [F],
 )
-    requires inside { (first + length left_factors.now) * width ≤ length table.now }
-    requires few { first + length left_factors.now ≤ 265 }
-    requires factors { length right_factors.now ≡ length left_factors.now }
-    requires long { 265 ≤ length out.old }
-    requires short { length out.old ≤ width }
-    requires left { length left.now ≡ length out.old }
-    requires right { length right.now ≡ length out.old }
+    requires inside { (first + rows) * width ≤ length table.now }
+    requires few { first + rows ≤ 265 }
+    requires factors { length factors.now ≡ 4 * rows }
+    requires values { length values.now ≡ 4 * length out.old }
+    requires long { 265 ≤ length table.now }
+    requires short { from + length out.old ≤ width }
     ensures length { length out.new ≡ length out.old }
-    ensures sums { let o = F.ops in (k : ℕ) → k < length out.old → entry o out.new k ≡ o.plus (o.plus (entry o out.old k)
-        (o.times (entry o left.now k) (sum_below o (length left_factors.now) (λ i. o.times (entry o left_factors.now i) (entry o table.now ((first + i) * width + k))))))
-        (o.times (entry o right.now k) (sum_below o (length left_factors.now) (λ i. o.times (entry o right_factors.now i) (entry o table.now ((first + i) * width + k))))) }
+    ensures sums { let o = F.ops in (k : ℕ) → k < length out.old → entry o out.new k ≡ o.plus (entry o out.old k)
+        (sum_below o 4 (λ f. o.times (entry o values.now (f * length out.old + k)) (sum_below o rows (λ i. o.times (entry o factors.now (f * rows + i)) (entry o table.now ((first + i) * width + (from + k))))))) }
 {
     let mut room = [F::zero(); MOST_ROWS];
-    let (column, _) = room.split_at_mut(left_factors.len());
-    for k in 0..out.len() {
-        gather(table, width, first, k, column);
-        let left_sum = F::dot(left_factors, column);
-        let right_sum = F::dot(right_factors, column);
-        out[k] = out[k]
-            .add(left[k].mul(left_sum))
-            .add(right[k].mul(right_sum));
+    let (column, _) = room.split_at_mut(rows);
+    let size = out.len();
+    for k in 0..size {
+        gather(table, width, first, from + k, column);
+        out[k] = out[k].add(factored_at(factors, column, values, size, k));
     }
 }

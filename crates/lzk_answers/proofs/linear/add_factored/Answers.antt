@@ -1,48 +1,12 @@
-use Rattle.std.proofs.Common.{◌≡◌, ◌+◌, ◌*◌, ◌<◌, ℕ, List, length, arith, ap, sym, ◌∙◌}
+use Rattle.std.proofs.Common.{◌≡◌, ◌+◌, ◌-◌, ◌*◌, ◌<◌, ℕ, ◌++◌, length, arith, ap, sym, ◌∙◌}
+use Rattle.std.specs.Prelude.{◌≢◌}
+use Rattle.std.proofs.lemmas.List.{length-append}
 use Rattle.lzk_field.specs.Sums.{sum_below, entry}
-use Rattle.lzk_field.proofs.SumLaws.{sum-ext}
+use Rattle.lzk_field.proofs.EntryLaws.{entries_joined}
+use Rattle.lzk_field.proofs.Numbering.{points_apart}
 use Rattle.lzk_poly.specs.Extension.{extension}
-use Rattle.lzk_answers.proofs.TableLaws.{cell, are_coefficients, place_row, factored_sum, pair_added}
+use Rattle.lzk_answers.proofs.TableLaws.{cell, are_coefficients, place_row, products_added, nothing_added, front-extension, back-extension, entry-front, entry-back}
 use Rattle.lzk_answers.proofs.linear.add_factored.Goals as goal
-
-pub loop-pair-preserved : goal.loop-pair-preserved
-loop-pair-preserved g c =
-    let m = g.F.Field in
-    let o = m.ops in
-    let r = m.laws.ring in
-    let p = c.args.params.now in
-    let n = c.args.rows in
-    let pair = c.loop-pair.pair in
-    let places = c.args.place_factors.now in
-    let factors = c.args.row_factors.now in
-    let lefts = c.row_of-left_factors.result.now in
-    let rights = c.row_of-right_factors.result.now in
-    let left = c.extend_coefficients.new.row in
-    let right = c.extend_coefficients-in-loop-pair.new.row in
-    let is = λ (f : ℕ). are_coefficients o p (λ s. entry o places (f * p.wr + s)) c.requires.bounded.block in (
-      omega arith,
-      omega arith,
-      omega arith,
-      omega arith,
-      λ k h.
-          let E : ℕ → g.row.F.Denot = λ f. extension o m.element (place_row o p places f) k in
-          let here : ℕ → g.row.F.Denot = λ i. cell o c.args.width c.args.table.now (3 + i) k in
-          let S : ℕ → g.row.F.Denot = λ f. sum_below o n (λ i. o.times (entry o factors (f * n + i)) (here i)) in
-          let sum : List g.row.F.Denot → ℕ → g.row.F.Denot = λ xs count. sum_below o count (λ i. o.times (entry o xs i) (here i)) in
-          let summed : (f : ℕ) (xs : List g.row.F.Denot) → length lefts ≡ n → ((i : ℕ) → i < n → entry o xs i ≡ entry o factors (f * n + i)) → sum xs (length lefts) ≡ S f =
-          λ f xs size each. ap (sum xs) size ∙ sum-ext o r n (λ i. o.times (entry o xs i) (here i)) (λ i. o.times (entry o factors (f * n + i)) (here i)) (λ i q. ap (λ w. o.times w (here i)) (each i q)) in
-          let first = is (2 * pair) in
-          let second = is (2 * pair + 1) in
-          pair_added o r (λ f. o.times (E f) (S f)) (entry o c.args.answer.now k) (entry o c.loop-pair.answer k) (entry o c.add_products.new.out k)
-          (o.times (entry o left k) (sum lefts (length lefts))) (o.times (entry o right k) (sum rights (length lefts))) pair _ (omega arith)
-          (c.loop-pair.invariant.4 k h) (c.add_products.ensures.sums k (omega arith))
-          (ap (λ w. o.times w (sum lefts (length lefts)))
-          (c.extend_coefficients.ensures.values (place_row o p places (2 * pair)) (record { count = first.count; front = first.front; back = λ s q. first.back s q ∙ sym (c.row_of-left_places.ensures.values s (omega arith)) }) k h)
-          ∙ ap (o.times (E (2 * pair))) (summed (2 * pair) lefts c.row_of-left_factors.ensures.size c.row_of-left_factors.ensures.values))
-          (ap (λ w. o.times w (sum rights (length lefts)))
-          (c.extend_coefficients-in-loop-pair.ensures.values (place_row o p places (2 * pair + 1)) (record { count = second.count; front = second.front; back = λ s q. second.back s q ∙ sym (c.row_of-right_places.ensures.values s (omega arith)) }) k h)
-          ∙ ap (o.times (E (2 * pair + 1))) (summed (2 * pair + 1) rights c.row_of-left_factors.ensures.size c.row_of-right_factors.ensures.values)),
-    )
 
 pub returns-clause-values : goal.returns-clause-values
 returns-clause-values g c lists are k h =
@@ -50,12 +14,53 @@ returns-clause-values g c lists are k h =
     let o = m.ops in
     let r = m.laws.ring in
     let p = c.args.params.now in
+    let b = c.requires.bounded in
     let n = c.args.rows in
-    let places = c.args.place_factors.now in
+    let table = c.args.table.now in
+    let width = c.args.width in
     let factors = c.args.row_factors.now in
-    let E : ℕ → g.row.F.Denot = λ f. extension o m.element (place_row o p places f) k in
-    let here : ℕ → g.row.F.Denot = λ i. cell o c.args.width c.args.table.now (3 + i) k in
-    let done : 2 * c.loop-pair.pair ≡ 4 = omega arith in
-    c.loop-pair.invariant.4 k h
-    ∙ ap (λ (l : ℕ). o.plus (entry o c.args.answer.now k) (sum_below o l (λ f. o.times (E f) (sum_below o n (λ i. o.times (entry o factors (f * n + i)) (here i)))))) done
-    ∙ ap (o.plus (entry o c.args.answer.now k)) (factored_sum o r m.element p n 4 factors places c.requires.bounded.block lists are k here)
+    let places = c.args.place_factors.now in
+    let answer = c.args.answer.now in
+    let x = c.split_at_mut-front in
+    let y = c.split_at_mut-elements in
+    let front = y.result.0.now in
+    let own = y.result.1.now in
+    let rest = x.result.1.now in
+    let given = c.add_products.new.out in
+    let further = c.add_products-2.new.out in
+    let size : length front ≡ 128 = y.ensures.front_len in
+    let own_size : length own ≡ p.wr = omega (arith, y.ensures.back_len, x.ensures.front_len, b.block) in
+    let rest_size : length rest ≡ p.dblock - p.block = omega (arith, x.ensures.back_len, c.requires.answer) in
+    let given_size : length given ≡ p.wr = c.add_products.ensures.length ∙ own_size in
+    let further_size : length further ≡ p.dblock - p.block = c.add_products-2.ensures.length ∙ rest_size in
+    let first_size : length (front ++ given) ≡ p.block = omega (arith, length-append front given, size, given_size, b.block) in
+    let sum : ℕ → ℕ → g.row.F.Denot = λ f k. sum_below o n (λ i. o.times (entry o factors (f * n + i)) (cell o width table (3 + i) k)) in
+    let After : ℕ → g.row.F.Denot → Type 0 = λ k v. v ≡ o.plus (entry o answer k) (sum_below o n (λ i. o.times (extension o m.element (lists (3 + i)) k) (cell o width table (3 + i) k))) in
+    let apart : (i j : ℕ) → i < j → j < 128 + p.wr → m.element i ≢ m.element j = points_apart m.laws (128 + p.wr) (omega (arith, b.wr)) in
+    let place : ℕ → ℕ → g.row.F.Denot = λ f s. entry o places (f * p.wr + s) in
+    let is = λ (f : ℕ). are_coefficients o p (place f) b.block in
+    entries_joined o After (front ++ given) further
+    (λ k h.
+    entries_joined o After front given
+    (λ k h.
+    entry-front o x.result.0.now front 128 k y.ensures.front (omega arith) ∙ entry-front o answer x.result.0.now p.block k x.ensures.front (omega (arith, b.block))
+    ∙ nothing_added o r m.element p n 4 factors places b.block lists are width k table (entry o answer k) (λ f z. front-extension o r m.laws.field m.element 128 p.wr apart (place f) k (omega arith)))
+    (λ s h.
+    let at : 128 + s ≡ length front + s = omega arith in
+    products_added o r m.element p n 4 factors places b.block lists are width 128 s (length front + s) table (λ f. place f s) (entry o answer (length front + s)) (entry o given s) at
+    (λ f z. sym (back-extension o r m.laws.field m.element 128 p.wr apart (place f) s (omega arith)) ∙ ap (extension o m.element (place_row o p places f)) at)
+    (c.add_products.ensures.sums s (omega arith)
+    ∙ ap (λ (size : ℕ). o.plus (entry o own s) (sum_below o 4 (λ f. o.times (entry o places (f * size + s)) (sum f (128 + s))))) own_size
+    ∙ ap (λ w. o.plus w (sum_below o 4 (λ f. o.times (place f s) (sum f (128 + s)))))
+    (entry-back o x.result.0.now own 128 s y.ensures.back ∙ entry-front o answer x.result.0.now p.block (128 + s) x.ensures.front (omega (arith, b.block)) ∙ ap (entry o answer) at)))
+    k h)
+    (λ d h.
+    let at : p.block + d ≡ length (front ++ given) + d = omega arith in
+    let step = p.dblock - p.block in
+    let value : ℕ → g.row.F.Denot = λ f. entry o c.args.behind.now (f * step + d) in
+    products_added o r m.element p n 4 factors places b.block lists are width p.block d (length (front ++ given) + d) table value (entry o answer (length (front ++ given) + d)) (entry o further d) at
+    (λ f z. c.requires.further f (place_row o p places f) z (is f) d (omega arith) ∙ ap (extension o m.element (place_row o p places f)) at)
+    (c.add_products-2.ensures.sums d (omega arith)
+    ∙ ap (λ (size : ℕ). o.plus (entry o rest d) (sum_below o 4 (λ f. o.times (entry o c.args.behind.now (f * size + d)) (sum f (p.block + d))))) rest_size
+    ∙ ap (λ w. o.plus w (sum_below o 4 (λ f. o.times (value f) (sum f (p.block + d))))) (entry-back o answer rest p.block d x.ensures.back ∙ ap (entry o answer) at)))
+    k (omega (arith, length-append (front ++ given) further, first_size, further_size))

@@ -5,9 +5,8 @@ use Rattle.lzk_answers.proofs.rows.add_products.Given as goal
 abbrev pub invariant-loop-k : goal.invariant-loop-k
 invariant-loop-k g l =
     let o = g.F.Field.ops in
-    let n = length l.fn.left_factors in
-    (length l.out ≡ length l.fn.out) × (length l.column ≡ n)
-    × ((k : ℕ) → k < l.k → entry o l.out k ≡ o.plus (o.plus (entry o l.fn.out k)
-    (o.times (entry o l.fn.left k) (sum_below o n (λ i. o.times (entry o l.fn.left_factors i) (entry o l.fn.table ((l.fn.first + i) * l.fn.width + k))))))
-    (o.times (entry o l.fn.right k) (sum_below o n (λ i. o.times (entry o l.fn.right_factors i) (entry o l.fn.table ((l.fn.first + i) * l.fn.width + k))))))
+    let size = length l.fn.out in
+    (length l.out ≡ size) × (length l.column ≡ l.fn.rows)
+    × ((k : ℕ) → k < l.k → entry o l.out k ≡ o.plus (entry o l.fn.out k)
+    (sum_below o 4 (λ f. o.times (entry o l.fn.values (f * size + k)) (sum_below o l.fn.rows (λ i. o.times (entry o l.fn.factors (f * l.fn.rows + i)) (entry o l.fn.table ((l.fn.first + i) * l.fn.width + (l.fn.from + k))))))))
     × ((k : ℕ) → l.k ≤ k → entry o l.out k ≡ entry o l.fn.out k)
