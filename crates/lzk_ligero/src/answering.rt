@@ -3,6 +3,7 @@
 ghost use Rattle.std.specs.Prelude.{◌≡◌, ℕ, ◌+◌, ◌-◌, ◌*◌, ◌≤◌, List, length, take, drop};
 ghost use Rattle.lzk_poly.specs.Through.{values_of};
 ghost use Rattle.lzk_layout.specs.Sizes.{AreBounded, params_of, sent_counts};
+ghost use Rattle.lzk_sumcheck.specs.Coefficients.{AreBounds};
 ghost use Rattle.lzk_sumcheck.specs.Script as sumcheck;
 ghost use Rattle.lzk_accept.specs.Challenges as accept;
 ghost use Rattle.lzk_accept.specs.Checks.{combined_row_of};
@@ -13,7 +14,7 @@ ghost use Rattle.lzk_answers.specs.Coefficients.{AreFactored, AreListed};
 ghost use Rattle.lzk_answers.specs.Rows.{IsTableOf};
 ghost use Rattle.lzk_ligero.specs.Rooms.{coefficient_reach};
 
-use lzk_accept::{Challenges, Factored, Forms, combine_factored};
+use lzk_accept::{Challenges, Factored, Forms, combine_with_bounds};
 use lzk_answers::{linear_by_factors_into, low_degree_into, quadratic_into};
 use lzk_circuit::Circuit;
 use lzk_field::Field;
@@ -138,8 +139,8 @@ fn answer_by_factors<F: Field, X: RowExtend<F>>(
     );
 }
 
-/// Sets the linear answer: the constraints are combined, and the rows by them. `room` is for the extender and for twice as
-/// many values as a product of rows has.
+/// Sets the linear answer: the constraints are combined by the layers' bound coefficients, and the rows by them. `room` is for the
+/// extender and for twice as many values as a product of rows has.
 pub(crate) fn answer_linear<F: Field, X: RowExtend<F>>(
     circuit: &Circuit<F>,
     params: &Params,
@@ -147,6 +148,7 @@ pub(crate) fn answer_linear<F: Field, X: RowExtend<F>>(
     script: &Script<F>,
     messages: &[F],
     challenges: &Challenges<F>,
+    bounds: &[F],
     table: &[F],
     extender: &X,
     forms: &mut Forms<F>,
@@ -160,6 +162,7 @@ pub(crate) fn answer_linear<F: Field, X: RowExtend<F>>(
     requires script { sumcheck.HasShape circuit.now script.now }
     requires messages { length messages.now ≡ sent_counts circuit.now }
     requires challenges { accept.HasShape params.now challenges.now }
+    requires bounds { AreBounds F.ops circuit.now script.now bounds.now }
     requires table { length table.now ≡ params.now.nrow * params.now.ncol }
     requires reach { X.reach extender.now ≡ coefficient_reach params.now }
     requires forms { AreFormsOf F.ops circuit.now forms.old }
@@ -174,8 +177,8 @@ pub(crate) fn answer_linear<F: Field, X: RowExtend<F>>(
         answer.new ≡ values_of F.ops F.element params.now.dblock
         (linear_answer F.ops F.element params.now rows (combined_row_of F.ops F.element circuit.now public.now script.now messages.now challenges.now)) }
 {
-    combine_factored(
-        circuit, public, script, messages, challenges, forms, factored,
+    combine_with_bounds(
+        circuit, public, script, messages, challenges, bounds, forms, factored,
     );
     answer_by_factors(params, table, factored, extender, room, answer);
 }

@@ -6,6 +6,7 @@ ghost use Rattle.lzk_merkle.specs.Nodes.{AreOpened};
 ghost use Rattle.lzk_circuit.specs.Valid.{HaveWidths};
 ghost use Rattle.lzk_layout.specs.Sizes.{AreBounded, params_of, sent_counts};
 ghost use Rattle.lzk_transcript.specs.Columns.{after_draws};
+ghost use Rattle.lzk_sumcheck.specs.Coefficients.{AreBounds};
 ghost use Rattle.lzk_sumcheck.specs.Messages.{AreMessages};
 ghost use Rattle.lzk_sumcheck.specs.Opening.{opening};
 ghost use Rattle.lzk_sumcheck.specs.Room.{IsRoomOf};
@@ -41,7 +42,7 @@ pub(crate) fn open_tape<F: Field>(
     tape
 }
 
-/// Sends the sumchecks of all layers, and draws what comes behind them.
+/// Sends the sumchecks of all layers, and draws what comes behind them. The layers' bound coefficients stay in the room.
 pub(crate) fn send<R: Threads + Sync, F: Field>(
     rt: &R,
     circuit: &Circuit<F>,
@@ -73,6 +74,7 @@ pub(crate) fn send<R: Threads + Sync, F: Field>(
     ensures script_shape { sumcheck.HasShape circuit.now script.new }
     ensures challenges_shape { spec.HasShape params.now challenges.new }
     ensures room { IsRoomOf circuit.now rounds.new }
+    ensures bounds { AreBounds F.ops circuit.now script.new rounds.new.bounds }
 {
     prove_layers(
         rt,

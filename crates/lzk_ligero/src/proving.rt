@@ -7,6 +7,7 @@ ghost use Rattle.lzk_circuit.specs.Wires.{all_values, inputs_of};
 ghost use Rattle.lzk_layout.specs.Sizes.{AreBounded, AreParams, params_of, proof_length};
 ghost use Rattle.lzk_layout.specs.Proofs.{HasLengths};
 ghost use Rattle.lzk_merkle.specs.Nodes.{AreOpened};
+ghost use Rattle.lzk_sumcheck.specs.Coefficients.{AreBounds};
 ghost use Rattle.lzk_sumcheck.specs.Messages.{AreMessages};
 ghost use Rattle.lzk_sumcheck.specs.Opening.{opening};
 ghost use Rattle.lzk_sumcheck.specs.Script as sumcheck;
@@ -38,7 +39,7 @@ use lzk_tableau::Tableau;
 use std::marker::Sync;
 use std::thread::Threads;
 
-// Sets the answers, by what the tape gave behind the messages.
+// Sets the answers, by what the tape gave behind the messages, and the bound coefficients that the sumchecks left.
 fn answer<F: Field, X: RowExtend<F>>(
     circuit: &Circuit<F>,
     params: &Params,
@@ -58,6 +59,7 @@ fn answer<F: Field, X: RowExtend<F>>(
     requires table { length table.now ≡ params.now.nrow * params.now.ncol }
     requires reach { X.reach extender.now ≡ coefficient_reach params.now }
     requires room { IsRoomFor F.ops circuit.now params.now (X.rooms extender.now) room.old }
+    requires bounds { AreBounds F.ops circuit.now script.now room.old.rounds.bounds }
     requires lengths { HasLengths params.now proof.old }
     ensures room { IsRoomFor F.ops circuit.now params.now (X.rooms extender.now) room.new }
     ensures lengths { HasLengths params.now proof.new }
@@ -82,6 +84,7 @@ fn answer<F: Field, X: RowExtend<F>>(
         script,
         proof.messages.as_slice(),
         challenges,
+        room.rounds.bounds(),
         table,
         extender,
         &mut room.forms,
