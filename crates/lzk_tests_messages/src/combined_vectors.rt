@@ -1,6 +1,6 @@
 //! Small circuits, and what an independent implementation combines of their constraints.
 
-use crate::residuals::{Entry, Shape};
+use crate::shared::{Entry, Shape};
 
 /// A circuit; the wanted sum, and the sum of the combined coefficients in order, each times the next power of the element with
 /// number 3, over the field of the numbers below 2^64 - 2^32 + 1; and the same two over the field of 2^128 elements.

@@ -5,6 +5,8 @@
 #![tactic(auto)]
 
 #[cfg(test)]
+mod bounds;
+#[cfg(test)]
 mod combined;
 #[cfg(test)]
 mod combined_vectors;
@@ -20,3 +22,9 @@ mod rounds;
 mod script_vectors;
 #[cfg(test)]
 mod scripts;
+#[cfg(test)]
+mod shared;
+#[cfg(test)]
+mod wide;
+#[cfg(test)]
+mod worked;

@@ -1,14 +1,20 @@
 //! What a prover sends, over both fields and through the bound: each message is the plain round's value, or the plain
-//! extension's, less its pad, and every number of workers sends the same.
+//! extension's, less its pad, each layer's coefficients come to their plain sum, and every number of workers does the same.
 
+ghost use Rattle.std.specs.Prelude.{◌≡◌, ◌≤◌, length, IfOk};
 ghost use Rattle.lzk_circuit.specs.Valid.{HaveWidths};
+ghost use Rattle.lzk_layout.specs.Sizes.{sent_counts};
+ghost use Rattle.lzk_sumcheck.specs.Room.{IsRoomOf};
+ghost use Rattle.lzk_sumcheck.specs.Script.{HasShape};
 
-use crate::round_vectors::{Case, Entry, GF_CASES, GOLD_CASES};
-use crate::rounds::{circuit_of, elements, mixed, round_of};
+use crate::round_vectors::{Case, GF_CASES, GOLD_CASES};
+use crate::rounds::{circuit_for, evaluate, inputs_of, round_of};
+use crate::shared::{Entry, MIXING, elements, entry_of, multiples};
 use lzk_circuit::{Circuit, Values, zeros};
 use lzk_field::Field;
 use lzk_gf128::Gf128;
 use lzk_goldilocks::Gold;
+use lzk_layout::Elements;
 use lzk_sumcheck::{LayerScript, Rounds, Script, message_count, prove_layers, replay};
 use lzk_transcript::Tape;
 use std::alloc::{AllocError, Global};
@@ -16,25 +22,59 @@ use std::marker::Sync;
 use std::test::Fail;
 use std::thread::Threads;
 
-// What a prover sends and draws, and what its tape gives next.
+// What a prover sends and draws, and what its rounds leave.
 #[derive(Drop)]
-struct Sent<F> {
-    messages: Vec<F>,
+struct Sent<F: Field> {
+    rounds: Rounds<F>,
+    messages: Elements<F>,
     script: Script<F>,
-    next: F,
+}
+
+fn unsent<F: Field>(circuit: &Circuit<F>, alloc: Global) -> Result<Sent<F>, AllocError>
+    ensures rounds { IfOk result (λ sent. IsRoomOf circuit.now sent.rounds) }
+    ensures messages { IfOk result (λ sent. length sent.messages ≡ sent_counts circuit.now) }
+    ensures script { IfOk result (λ sent. HasShape circuit.now sent.script) }
+{
+    Ok(Sent {
+        rounds: Rounds::new(alloc, circuit)?,
+        messages: Elements::zeros(alloc, message_count(circuit) as usize)?,
+        script: Script::new(alloc, circuit)?,
+    })
+}
+
+// Pads, and room for what one worker sends and for what others send.
+#[derive(Drop)]
+pub(crate) struct Room<F: Field> {
+    pads: Elements<F>,
+    alone: Sent<F>,
+    other: Sent<F>,
+}
+
+// The pads are these multiples of a word.
+pub(crate) fn room_for<F: Field>(
+    circuit: &Circuit<F>,
+    word: u128,
+    alloc: Global,
+) -> Result<Room<F>, AllocError>
+    ensures pads { IfOk result (λ room. length room.pads ≡ sent_counts circuit.now) }
+    ensures rounds { IfOk result (λ room. IsRoomOf circuit.now room.alone.rounds) }
+    ensures messages { IfOk result (λ room. length room.alone.messages ≡ sent_counts circuit.now) }
+    ensures script { IfOk result (λ room. HasShape circuit.now room.alone.script) }
+    ensures other_rounds { IfOk result (λ room. IsRoomOf circuit.now room.other.rounds) }
+    ensures other_messages { IfOk result (λ room. length room.other.messages ≡ sent_counts circuit.now) }
+    ensures other_script { IfOk result (λ room. HasShape circuit.now room.other.script) }
+{
+    Ok(Room {
+        pads: multiples(5, message_count(circuit), word, alloc)?,
+        alone: unsent(circuit, alloc)?,
+        other: unsent(circuit, alloc)?,
+    })
 }
 
 fn new_tape() -> Tape {
     let mut tape = Tape::new();
     tape.bytes(b"messages");
     tape
-}
-
-fn entry_of<F: Field>(list: &[F], i: usize) -> F {
-    match list.get(i) {
-        Some(x) => *x,
-        None => F::zero(),
-    }
 }
 
 // How the bits of a number agree with a point.
@@ -108,27 +148,27 @@ fn values_below<F: Field>(case: &Case, l: usize, alloc: Global) -> Result<Vec<F>
     Ok(list)
 }
 
-fn sent_by<R: Threads + Sync, F: Field>(
+// Sends to a new tape, and gives what it draws next.
+fn send<R: Threads + Sync, F: Field>(
     rt: &R,
     circuit: &Circuit<F>,
     values: &Values<F>,
     pads: &[F],
     workers: usize,
-    alloc: Global,
-) -> Result<Option<Sent<F>>, AllocError>
-    requires { HaveWidths circuit.now values.now }
+    sent: &mut Sent<F>,
+) -> F
+    requires values { HaveWidths circuit.now values.now }
+    requires pads { length pads.now ≡ sent_counts circuit.now }
+    requires some_workers { 1 ≤ workers }
+    requires few_workers { workers ≤ 64 }
+    requires rounds { IsRoomOf circuit.now sent.old.rounds }
+    requires messages { length sent.old.messages ≡ sent_counts circuit.now }
+    requires script { HasShape circuit.now sent.old.script }
+    ensures rounds { IsRoomOf circuit.now sent.new.rounds }
+    ensures messages { length sent.new.messages ≡ sent_counts circuit.now }
+    ensures script { HasShape circuit.now sent.new.script }
 {
-    let count = message_count(circuit) as usize;
-    if pads.len() != count || workers == 0 || workers > 64 {
-        return Ok(None);
-    }
     let mut tape = new_tape();
-    let mut room = Rounds::new(alloc, circuit)?;
-    let mut script = Script::new(alloc, circuit)?;
-    let mut messages = zeros(alloc, count)?;
-    if messages.len() != count {
-        return Ok(None);
-    }
     prove_layers(
         rt,
         circuit,
@@ -136,16 +176,11 @@ fn sent_by<R: Threads + Sync, F: Field>(
         pads,
         &mut tape,
         workers,
-        &mut room,
-        &mut messages,
-        &mut script,
+        &mut sent.rounds,
+        sent.messages.as_mut_slice(),
+        &mut sent.script,
     );
-    let next = tape.draw();
-    Ok(Some(Sent {
-        messages,
-        script,
-        next,
-    }))
+    tape.draw()
 }
 
 // The first element of layer `l`, counted from its first, that is not the true value less its pad. `at` is the place of its first.
@@ -190,7 +225,19 @@ fn wrong_element<F: Field>(
     Ok(None)
 }
 
-// The first layer with a wrong element, and which it is.
+// The weighted sum of a layer's coefficients at its challenges, term by term.
+fn bound_of<F: Field>(entries: &[Entry], weights: &[F], layer: &LayerScript<F>) -> F {
+    let mut sum = F::zero();
+    for &(g, a, b, number) in entries {
+        let first = agreement(a as usize, layer.ra.as_slice());
+        let second = agreement(b as usize, layer.rb.as_slice());
+        let weight = entry_of(weights, g as usize);
+        sum = sum.add(F::of_word(number).mul(weight).mul(first).mul(second));
+    }
+    sum
+}
+
+// The first layer with a wrong element, and which it is: the greatest number of all where it is the sum of the coefficients.
 fn wrong_layer<F: Field>(
     case: &Case,
     circuit: &Circuit<F>,
@@ -204,6 +251,7 @@ fn wrong_layer<F: Field>(
     let mut first = sent.script.out_point.as_slice();
     let mut second = first;
     let mut at: usize = 0;
+    let messages = sent.messages.as_slice();
     for l in 0..circuit.depth() {
         let Some(layer) = sent.script.layers.as_slice().get(l as usize) else {
             return Ok(Some((l, 0)));
@@ -211,18 +259,14 @@ fn wrong_layer<F: Field>(
         let weights = weights_of(circuit.width(l), layer.alpha, first, second, alloc)?;
         let below = values_below::<F>(case, l as usize, alloc)?;
         if let Some(i) = wrong_element(
-            circuit,
-            values,
-            &below,
-            l,
-            &weights,
-            layer,
-            pads,
-            &sent.messages,
-            at,
-            alloc,
+            circuit, values, &below, l, &weights, layer, pads, messages, at, alloc,
         )? {
             return Ok(Some((l, i)));
+        }
+        let bound = entry_of(sent.rounds.bounds(), l as usize);
+        match case.layers.get(l as usize) {
+            Some(&(_, entries)) if bound_of(entries, &weights, layer) == bound => {}
+            _ => return Ok(Some((l, usize::MAX))),
         }
         first = layer.ra.as_slice();
         second = layer.rb.as_slice();
@@ -232,104 +276,126 @@ fn wrong_layer<F: Field>(
 }
 
 // Whether a replay of the messages draws the same at the end.
-fn replays<F: Field>(
-    circuit: &Circuit<F>,
-    sent: &Sent<F>,
-    alloc: Global,
-) -> Result<bool, AllocError> {
-    if sent.messages.len() != message_count(circuit) as usize {
-        return Ok(false);
-    }
+fn replays<F: Field>(circuit: &Circuit<F>, sent: &Sent<F>, next: F, script: &mut Script<F>) -> bool
+    requires messages { length sent.now.messages ≡ sent_counts circuit.now }
+    requires script { HasShape circuit.now script.old }
+    ensures script { HasShape circuit.now script.new }
+{
     let mut tape = new_tape();
-    let mut script = Script::new(alloc, circuit)?;
-    replay(circuit, &mut tape, &sent.messages, &mut script);
-    let next: F = tape.draw();
-    Ok(next == sent.next && script.gamma == sent.script.gamma)
+    replay(circuit, &mut tape, sent.messages.as_slice(), script);
+    next == tape.draw() && script.gamma == sent.script.gamma
 }
 
-// The first number of workers whose messages are wrong, with their place, or that sends others than one worker.
-fn wrong_workers<R: Threads + Sync, F: Field>(
+// Whether so many workers send and leave what one does.
+fn do_the_same<R: Threads + Sync, F: Field>(
     rt: &R,
-    case: &Case,
     circuit: &Circuit<F>,
     values: &Values<F>,
     pads: &[F],
-    alloc: Global,
-) -> Result<Option<(usize, u32, usize)>, AllocError>
-    requires { HaveWidths circuit.now values.now }
+    workers: usize,
+    alone: &Sent<F>,
+    next: F,
+    other: &mut Sent<F>,
+) -> bool
+    requires values { HaveWidths circuit.now values.now }
+    requires pads { length pads.now ≡ sent_counts circuit.now }
+    requires some_workers { 1 ≤ workers }
+    requires few_workers { workers ≤ 64 }
+    requires rounds { IsRoomOf circuit.now other.old.rounds }
+    requires messages { length other.old.messages ≡ sent_counts circuit.now }
+    requires script { HasShape circuit.now other.old.script }
+    ensures rounds { IsRoomOf circuit.now other.new.rounds }
+    ensures messages { length other.new.messages ≡ sent_counts circuit.now }
+    ensures script { HasShape circuit.now other.new.script }
 {
-    let Some(alone) = sent_by(rt, circuit, values, pads, 1, alloc)? else {
-        return Ok(Some((1, 0, 0)));
-    };
-    if let Some((l, i)) = wrong_layer(case, circuit, values, pads, &alone, alloc)? {
-        return Ok(Some((1, l, i)));
-    }
-    if !replays(circuit, &alone, alloc)? {
-        return Ok(Some((1, 0, 0)));
-    }
-    for workers in [2, 3, 64] {
-        match sent_by(rt, circuit, values, pads, workers, alloc)? {
-            Some(sent) => {
-                if sent.messages != alone.messages || sent.next != alone.next {
-                    return Ok(Some((workers, 0, 0)));
-                }
-            }
-            None => return Ok(Some((workers, 0, 0))),
-        }
-    }
-    Ok(None)
+    send(rt, circuit, values, pads, workers, other) == next
+        && other.messages.as_slice() == alone.messages.as_slice()
+        && other.rounds.bounds() == alone.rounds.bounds()
 }
 
-// So many pads: zeros, or others.
-fn pads_of<F: Field>(count: u32, zero: bool, alloc: Global) -> Result<Vec<F>, AllocError> {
-    let mut list = Vec::new(alloc);
-    for i in 0..count {
-        list.push(if zero {
-            F::zero()
-        } else {
-            mixed(u64::from(i).wrapping_add(5))
-        })?;
+// Sends with one worker. The first number of workers that does not do the same; one where a replay does not.
+pub(crate) fn wrong_workers<R: Threads + Sync, F: Field>(
+    rt: &R,
+    circuit: &Circuit<F>,
+    values: &Values<F>,
+    room: &mut Room<F>,
+) -> Option<usize>
+    requires values { HaveWidths circuit.now values.now }
+    requires pads { length room.old.pads ≡ sent_counts circuit.now }
+    requires rounds { IsRoomOf circuit.now room.old.alone.rounds }
+    requires messages { length room.old.alone.messages ≡ sent_counts circuit.now }
+    requires script { HasShape circuit.now room.old.alone.script }
+    requires other_rounds { IsRoomOf circuit.now room.old.other.rounds }
+    requires other_messages { length room.old.other.messages ≡ sent_counts circuit.now }
+    requires other_script { HasShape circuit.now room.old.other.script }
+{
+    let pads = room.pads.as_slice();
+    let (alone, other) = (&mut room.alone, &mut room.other);
+    let next = send(rt, circuit, values, pads, 1, alone);
+    if !replays(circuit, alone, next, &mut other.script) {
+        return Some(1);
     }
-    Ok(list)
+    if !do_the_same(rt, circuit, values, pads, 2, alone, next, other) {
+        return Some(2);
+    }
+    if !do_the_same(rt, circuit, values, pads, 3, alone, next, other) {
+        return Some(3);
+    }
+    if !do_the_same(rt, circuit, values, pads, 64, alone, next, other) {
+        return Some(64);
+    }
+    None
+}
+
+// The first number of workers, or with one worker the first layer and element, that is wrong in a case.
+fn wrong_place<R: Threads + Sync, F: Field>(
+    rt: &R,
+    case: &Case,
+    word: u128,
+    alloc: Global,
+) -> Result<Option<(usize, u32, usize)>, AllocError> {
+    let Some(circuit) = circuit_for::<F>(case, alloc)? else {
+        return Ok(Some((0, 0, 0)));
+    };
+    let mut inputs = inputs_of(case, &circuit, alloc)?;
+    let mut room = room_for(&circuit, word, alloc)?;
+    if !evaluate(&circuit, &mut inputs) {
+        return Ok(Some((0, 0, 0)));
+    }
+    if let Some(workers) = wrong_workers(rt, &circuit, &inputs.values, &mut room) {
+        return Ok(Some((workers, 0, 0)));
+    }
+    let pads = room.pads.as_slice();
+    match wrong_layer(case, &circuit, &inputs.values, pads, &room.alone, alloc)? {
+        Some((l, i)) => Ok(Some((1, l, i))),
+        None => Ok(None),
+    }
 }
 
 fn wrong_case<R: Threads + Sync, F: Field>(
     rt: &R,
     cases: &[Case],
-    zero: bool,
+    word: u128,
     alloc: Global,
 ) -> Result<Option<(usize, usize, u32, usize)>, AllocError> {
     for k in 0..cases.len() {
-        let case = &cases[k];
-        let Some(circuit) = circuit_of::<F>(case, alloc)? else {
-            return Ok(Some((k, 0, 0, 0)));
-        };
-        let public = elements::<F>(case.public, alloc)?;
-        let private = elements::<F>(case.private, alloc)?;
-        let mut values = Values::new(alloc, &circuit)?;
-        if public.len() != circuit.publics() as usize
-            || private.len() != circuit.privates() as usize
-        {
-            return Ok(Some((k, 0, 0, 0)));
-        }
-        circuit.eval(&public, &private, &mut values);
-        let pads = pads_of::<F>(message_count(&circuit), zero, alloc)?;
-        if let Some((workers, l, i)) = wrong_workers(rt, case, &circuit, &values, &pads, alloc)? {
+        if let Some((workers, l, i)) = wrong_place::<_, F>(rt, &cases[k], word, alloc)? {
             return Ok(Some((k, workers, l, i)));
         }
     }
     Ok(None)
 }
 
+// With pads that are zeros, and with others.
 #[test]
 fn messages_are_plain_values_less_their_pads(rt: HostRuntime) -> Result<(), Fail> {
-    for zero in [true, false] {
+    for word in [0, MIXING] {
         assert_eq!(rt;
-            wrong_case::<_, Gold>(&rt, &GOLD_CASES, zero, rt.alloc())?,
+            wrong_case::<_, Gold>(&rt, &GOLD_CASES, word, rt.alloc())?,
             None
         );
         assert_eq!(rt;
-            wrong_case::<_, Gf128>(&rt, &GF_CASES, zero, rt.alloc())?,
+            wrong_case::<_, Gf128>(&rt, &GF_CASES, word, rt.alloc())?,
             None
         );
     }

@@ -1,30 +1,26 @@
-//! Residuals, claims and challenges, over both fields and through the bound.
+//! Residuals, claims and challenges, over both fields and through the bound. Each residual is also its linear form, less the
+//! right side.
 //!
 //! The expected values were computed in Python from the definitions.
 
-ghost use Rattle.std.specs.Prelude.{◌≡◌, ◌<◌, ◌+◌, length};
-ghost use Rattle.lzk_layout.specs.Sizes.{AreParams, committed_count};
+ghost use Rattle.std.specs.Prelude.{◌≡◌, ◌<◌, ◌+◌, length, IfOk};
+ghost use Rattle.lzk_layout.specs.Sizes.{sent_counts, committed_count, params_of};
+ghost use Rattle.lzk_sumcheck.specs.Script.{HasShape};
+ghost use Rattle.lzk_accept.specs.Challenges as accept;
 ghost use Rattle.lzk_accept.specs.Kept.{AreFormsOf};
 
-use lzk_accept::{Challenges, Forms, draw_challenges, linear_forms, next_claim, residual};
-use lzk_circuit::{Circuit, Layer, Term, Terms};
+use crate::shared::{Drawn, Shape, circuit_of, draw, multiples, undrawn};
+use lzk_accept::{Challenges, Forms, linear_forms, next_claim, residual};
+use lzk_circuit::Circuit;
 use lzk_field::Field;
 use lzk_gf128::Gf128;
 use lzk_goldilocks::Gold;
-use lzk_layout::Params;
-use lzk_sumcheck::{Script, message_count, replay};
-use lzk_transcript::Tape;
+use lzk_layout::{Elements, Params};
 use std::alloc::{AllocError, Global};
 use std::test::Fail;
 
-/// A term's g, a and b, and its coefficient's number; the one that is minus one is written as 0.
-pub type Entry = (u32, u32, u32, u128);
-
-/// Public and private inputs, and each layer's wires and terms.
-pub type Shape<'a> = (u32, u32, &'a [(u32, &'a [Entry])]);
-
 /// One layer of one wire.
-pub const SQUARE: Shape<'static> = (1, 1, &[(1, &[(0, 0, 1, 0), (0, 2, 2, 1)])]);
+pub(crate) const SQUARE: Shape<'static> = (1, 1, &[(1, &[(0, 0, 1, 0), (0, 2, 2, 1)])]);
 
 const TWO_LAYERS: Shape<'static> = (
     1,
@@ -35,91 +31,31 @@ const TWO_LAYERS: Shape<'static> = (
     ],
 );
 
-fn terms_of<F: Field>(entries: &[Entry], alloc: Global) -> Result<Vec<Term<F>>, AllocError> {
-    let mut terms = Vec::new(alloc);
-    for &(g, a, b, number) in entries {
-        let coef = if number == 0 {
-            F::one().neg()
-        } else {
-            F::of_word(number)
-        };
-        terms.push(Term { g, a, b, coef })?;
-    }
-    Ok(terms)
-}
-
-/// The circuit of a shape, if it is one.
-pub fn circuit_of<F: Field>(
-    shape: Shape<'_>,
-    alloc: Global,
-) -> Result<Option<Circuit<F>>, AllocError> {
-    let (publics, privates, rows) = shape;
-    let mut layers = Vec::new(alloc);
-    for &(wires, entries) in rows {
-        layers.push(Layer {
-            wires,
-            terms: Terms::new(terms_of(entries, alloc)?),
-        })?;
-    }
-    Ok(Circuit::of_layers(publics, privates, layers).ok())
-}
-
-/// The elements of the multiples of a word from so many times it on.
-pub fn multiples<F: Field>(
-    first: u32,
-    count: u32,
-    word: u128,
-    alloc: Global,
-) -> Result<Vec<F>, AllocError> {
-    let mut list = Vec::new(alloc);
-    for k in 0..count {
-        list.push(F::of_word((u128::from(first) + u128::from(k)).wrapping_mul(word)))?;
-    }
-    Ok(list)
-}
-
-// What one case gives: the residuals, and the challenges behind gamma.
+// A list of pads and private inputs, and room for residuals and forms.
 #[derive(Drop)]
-struct Behind<F> {
-    residuals: Vec<F>,
-    forms_agree: bool,
-    challenges: Vec<F>,
+pub(crate) struct Committed<F> {
+    pub(crate) w: Elements<F>,
+    pub(crate) room: Elements<F>,
+    pub(crate) forms: Forms<F>,
 }
 
-// The residuals at a list, and the challenges, for elements that are sent to a new tape.
-fn found<F: Field>(shape: Shape<'_>, alloc: Global) -> Result<Option<Behind<F>>, AllocError> {
-    let Some(circuit) = circuit_of::<F>(shape, alloc)? else {
-        return Ok(None);
-    };
-    let params = Params::of(&circuit);
-    let messages = multiples::<F>(1, message_count(&circuit), 0x1_0000_0001, alloc)?;
-    let w = multiples::<F>(3, params.nw, 0x1_0000_0002_0000_0001, alloc)?;
-    let public = multiples::<F>(9, 1, 1, alloc)?;
-    let mut room = Vec::new(alloc);
-    room.resize(262_144, F::zero())?;
-    let mut script = Script::new(alloc, &circuit)?;
-    let mut tape = Tape::new();
-    if messages.len() != message_count(&circuit) as usize
-        || public.len() != circuit.publics() as usize
-        || w.len() != params.nw as usize
-    {
-        return Ok(None);
-    }
-    replay(&circuit, &mut tape, &messages, &mut script);
-    let mut residuals = Vec::new(alloc);
-    for i in 0..circuit.depth() + 1 {
-        if room.len() != 262_144 {
-            return Ok(None);
-        }
-        residuals.push(residual(&circuit, &public, &script, &messages, i, &w, &mut room))?;
-    }
-    let mut forms = Forms::new(alloc, &circuit)?;
-    linear_forms(&circuit, &public, &script, &messages, &mut forms);
-    Ok(Some(Behind {
-        forms_agree: do_agree(&circuit, &forms, &w, &residuals),
-        residuals,
-        challenges: challenges_behind(&params, &mut tape, alloc)?,
-    }))
+// So many zeros. That they are so many is tested where they are lent: a proof would write them all out.
+fn zeros_of<F: Field>(count: usize, alloc: Global) -> Result<Elements<F>, AllocError> {
+    Elements::zeros(alloc, count)
+}
+
+pub(crate) fn committed_for<F: Field>(
+    circuit: &Circuit<F>,
+    alloc: Global,
+) -> Result<Committed<F>, AllocError>
+    ensures w { IfOk result (λ committed. length committed.w ≡ committed_count circuit.now) }
+    ensures forms { IfOk result (λ committed. AreFormsOf F.ops circuit.now committed.forms) }
+{
+    Ok(Committed {
+        w: multiples(3, Params::of(circuit).nw, 0x1_0000_0002_0000_0001, alloc)?,
+        room: zeros_of(262_144, alloc)?,
+        forms: Forms::new(alloc, circuit)?,
+    })
 }
 
 // A form at a list, less its right side.
@@ -135,74 +71,100 @@ fn form_at<F: Field>(circuit: &Circuit<F>, forms: &Forms<F>, w: &[F], i: u32) ->
     sum
 }
 
-// Whether each residual is its form at the list, less the right side.
-fn do_agree<F: Field>(circuit: &Circuit<F>, forms: &Forms<F>, w: &[F], residuals: &[F]) -> bool
-    requires made { AreFormsOf F.ops circuit.now forms.now }
+// Whether the residuals, and the forms less their right sides, have these numbers.
+pub(crate) fn are_residuals<F: Field>(
+    circuit: &Circuit<F>,
+    drawn: &Drawn<F>,
+    forms: &Forms<F>,
+    w: &[F],
+    room: &mut [F],
+    numbers: &[u128],
+) -> bool
+    requires public { length drawn.now.public ≡ circuit.now.publics }
+    requires messages { length drawn.now.messages ≡ sent_counts circuit.now }
+    requires script { HasShape circuit.now drawn.now.script }
+    requires forms { AreFormsOf F.ops circuit.now forms.now }
     requires w { length w.now ≡ committed_count circuit.now }
 {
+    let public = drawn.public.as_slice();
+    let messages = drawn.messages.as_slice();
     for i in 0..circuit.depth() + 1 {
-        match residuals.get(i as usize) {
-            Some(left) if *left == form_at(circuit, forms, w, i) => {}
-            _ => return false,
+        if room.len() != 262_144 {
+            return false;
         }
-    }
-    true
-}
-
-// Adds a list's first and last element.
-fn push_ends<F: Field>(list: &[F], out: &mut Vec<F>) -> Result<(), AllocError> {
-    if let Some(first) = list.first() {
-        out.push(*first)?;
-    }
-    if let Some(last) = list.last() {
-        out.push(*last)?;
-    }
-    Ok(())
-}
-
-// The first and the last of u, of lambda, of mu and of v, and what is drawn next.
-fn challenges_behind<F: Field>(
-    params: &Params,
-    tape: &mut Tape,
-    alloc: Global,
-) -> Result<Vec<F>, AllocError>
-    requires { AreParams F.ops params.now }
-{
-    let mut drawn = Challenges::<F>::new(alloc, params)?;
-    draw_challenges(params, tape, &mut drawn);
-    let mut list = Vec::new(alloc);
-    push_ends(drawn.u.as_slice(), &mut list)?;
-    push_ends(drawn.lambda.as_slice(), &mut list)?;
-    push_ends(drawn.mu.as_slice(), &mut list)?;
-    push_ends(drawn.v.as_slice(), &mut list)?;
-    list.push(tape.draw())?;
-    Ok(list)
-}
-
-fn are_numbers<F: Field>(list: &[F], numbers: &[u128]) -> bool {
-    if list.len() != numbers.len() {
-        return false;
-    }
-    for k in 0..list.len() {
-        if list[k].number() != numbers[k] {
+        let left = residual(circuit, public, &drawn.script, messages, i, w, room);
+        if left != form_at(circuit, forms, w, i)
+            || numbers.get(i as usize) != Some(&left.number())
+        {
             return false;
         }
     }
-    true
+    numbers.len() == circuit.depth() as usize + 1
+}
+
+// Whether a list's first and last element have these numbers.
+fn has_ends<F: Field>(list: &[F], first: u128, last: u128) -> bool {
+    match (list.first(), list.last()) {
+        (Some(x), Some(y)) => x.number() == first && y.number() == last,
+        _ => false,
+    }
+}
+
+// Whether the first and the last of u, of lambda, of mu and of v, and what is drawn next, have these numbers.
+fn are_drawn<F: Field>(challenges: &Challenges<F>, next: F, numbers: [u128; 9]) -> bool {
+    has_ends(challenges.u.as_slice(), numbers[0], numbers[1])
+        && has_ends(challenges.lambda.as_slice(), numbers[2], numbers[3])
+        && has_ends(challenges.mu.as_slice(), numbers[4], numbers[5])
+        && has_ends(challenges.v.as_slice(), numbers[6], numbers[7])
+        && next.number() == numbers[8]
+}
+
+// Whether these are the numbers of what is left and drawn in room for a circuit.
+fn is_right<F: Field>(
+    circuit: &Circuit<F>,
+    drawn: &mut Drawn<F>,
+    committed: &mut Committed<F>,
+    residuals: &[u128],
+    challenges: [u128; 9],
+) -> bool
+    requires public { length drawn.old.public ≡ circuit.now.publics }
+    requires messages { length drawn.old.messages ≡ sent_counts circuit.now }
+    requires script { HasShape circuit.now drawn.old.script }
+    requires challenges { accept.HasShape (params_of circuit.now) drawn.old.challenges }
+    requires w { length committed.old.w ≡ committed_count circuit.now }
+    requires forms { AreFormsOf F.ops circuit.now committed.old.forms }
+{
+    let next = draw(circuit, drawn);
+    linear_forms(
+        circuit,
+        drawn.public.as_slice(),
+        &drawn.script,
+        drawn.messages.as_slice(),
+        &mut committed.forms,
+    );
+    are_drawn(&drawn.challenges, next, challenges)
+        && are_residuals(
+            circuit,
+            drawn,
+            &committed.forms,
+            committed.w.as_slice(),
+            committed.room.as_mut_slice(),
+            residuals,
+        )
 }
 
 fn finds<F: Field>(
     shape: Shape<'_>,
     residuals: &[u128],
-    challenges: &[u128],
+    challenges: [u128; 9],
     alloc: Global,
 ) -> Result<bool, AllocError> {
-    match found::<F>(shape, alloc)? {
-        Some(found) => Ok(
-            are_numbers(&found.residuals, residuals) && are_numbers(&found.challenges, challenges),
-        ),
-        None => Ok(false),
-    }
+    let Some(circuit) = circuit_of::<F>(shape, alloc)? else {
+        return Ok(false);
+    };
+    let mut drawn = undrawn(&circuit, alloc)?;
+    let mut committed = committed_for(&circuit, alloc)?;
+    Ok(is_right(&circuit, &mut drawn, &mut committed, residuals, challenges))
 }
 
 #[test]
@@ -213,7 +175,7 @@ fn residuals_and_challenges_are_those_of_the_definition_over_goldilocks(
         finds::<Gold>(
             SQUARE,
             &[0xa7a2a69b230d4746, 0xb7eb764a49f34dbc],
-            &[
+            [
                 0xece25649b18c718e,
                 0xf13aae3dcc06f897,
                 0xa1728180845d5093,
@@ -231,7 +193,7 @@ fn residuals_and_challenges_are_those_of_the_definition_over_goldilocks(
         finds::<Gold>(
             TWO_LAYERS,
             &[0x4ee08d58d0d161f, 0xc7d018bd7a4ba945, 0x26b03b7a21879fdc],
-            &[
+            [
                 0xb18ca638baad198a,
                 0x562095b90d81c77e,
                 0x8b8a98aedbcb4c68,
@@ -259,7 +221,7 @@ fn residuals_and_challenges_are_those_of_the_definition_over_the_binary_field(
                 0xdc1c892bbbc6c3b33b09a10360eedae5,
                 0xd0ab66c303edf6cfdcafbb4b03af47f0
             ],
-            &[
+            [
                 0x6a85b2e13cd6176294f680283796d7b5,
                 0xd64b134318d9b6cb947e11196d33f42,
                 0xcf9718bd52d4ac9c0d7d4cd426e88c26,
@@ -281,7 +243,7 @@ fn residuals_and_challenges_are_those_of_the_definition_over_the_binary_field(
                 0x159cd7e3f9c1f648afe8b54dffad999c,
                 0xf2e894f04f7ffb5cda72ab5803371395,
             ],
-            &[
+            [
                 0xbaa7c4bf3cfb38af4c7cbc985aebcf34,
                 0xcc37b8aec1f828381a1f4c4468d6a8dd,
                 0x9ea98615394839780761a63dd201c15a,

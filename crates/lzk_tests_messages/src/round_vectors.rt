@@ -1,7 +1,6 @@
 //! Small circuits with their inputs, and the values of rounds, by an independent implementation.
 
-/// A term's g, a and b, and its coefficient's number.
-pub type Entry = (u32, u32, u32, u128);
+use crate::shared::Entry;
 
 /// A circuit of an independent implementation, with inputs.
 pub struct Case {

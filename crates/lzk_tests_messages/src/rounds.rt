@@ -5,29 +5,57 @@
 ghost use Rattle.std.specs.Prelude.{◌≡◌, length, IfOk};
 ghost use Rattle.lzk_circuit.specs.Valid.{HaveWidths};
 
-use crate::round_vectors::{Case, Entry, GF_CASES, GOLD_CASES};
-use lzk_circuit::{Circuit, Layer, Term, Terms, Values, bits_of};
+use crate::round_vectors::{Case, GF_CASES, GOLD_CASES};
+use crate::shared::{MIXING, circuit_with, elements, multiple};
+use lzk_circuit::{Circuit, Values, bits_of};
 use lzk_field::Field;
 use lzk_gf128::Gf128;
 use lzk_goldilocks::Gold;
+use lzk_layout::Elements;
 use lzk_sumcheck::{plain_round, sumcheck_laws};
 use std::alloc::{AllocError, Global};
 use std::test::Fail;
 
-pub(crate) fn elements<F: Field>(numbers: &[u128], alloc: Global) -> Result<Vec<F>, AllocError> {
-    let mut list = Vec::new(alloc);
-    for &n in numbers {
-        list.push(F::of_word(n))?;
+// The inputs of a case's circuit, and room for its values.
+#[derive(Drop)]
+pub(crate) struct Inputs<F: Field> {
+    pub(crate) public: Elements<F>,
+    pub(crate) private: Elements<F>,
+    pub(crate) values: Values<F>,
+}
+
+pub(crate) fn inputs_of<F: Field>(
+    case: &Case,
+    circuit: &Circuit<F>,
+    alloc: Global,
+) -> Result<Inputs<F>, AllocError>
+    ensures { IfOk result (λ inputs. HaveWidths circuit.now inputs.values) }
+{
+    Ok(Inputs {
+        public: Elements::new(elements(case.public, alloc)?),
+        private: Elements::new(elements(case.private, alloc)?),
+        values: Values::new(alloc, circuit)?,
+    })
+}
+
+// Sets the values, if the inputs are as many as the circuit's.
+pub(crate) fn evaluate<F: Field>(circuit: &Circuit<F>, inputs: &mut Inputs<F>) -> bool
+    requires { HaveWidths circuit.now inputs.old.values }
+    ensures { HaveWidths circuit.now inputs.new.values }
+{
+    let (public, private) = (inputs.public.as_slice(), inputs.private.as_slice());
+    if public.len() != circuit.publics() as usize || private.len() != circuit.privates() as usize {
+        return false;
     }
-    Ok(list)
+    circuit.eval(public, private, &mut inputs.values);
+    true
 }
 
-// The element of so many times a word.
-pub(crate) fn mixed<F: Field>(times: u64) -> F {
-    F::of_word(u128::from(times).wrapping_mul(0x9e37_79b9_7f4a_7c15_f39c_c060_5ced_c835))
+fn mixed<F: Field>(times: u64) -> F {
+    multiple(times, MIXING)
 }
 
-// Those of squares and a further number.
+// The mixed elements of squares and a further number.
 fn mixed_squares<F: Field>(count: u32, further: u32, alloc: Global) -> Result<Vec<F>, AllocError> {
     let mut list = Vec::new(alloc);
     for i in 0..count {
@@ -37,31 +65,11 @@ fn mixed_squares<F: Field>(count: u32, further: u32, alloc: Global) -> Result<Ve
     Ok(list)
 }
 
-fn terms_of<F: Field>(entries: &[Entry], alloc: Global) -> Result<Vec<Term<F>>, AllocError> {
-    let mut terms = Vec::new(alloc);
-    for &(g, a, b, number) in entries {
-        terms.push(Term {
-            g,
-            a,
-            b,
-            coef: F::of_word(number),
-        })?;
-    }
-    Ok(terms)
-}
-
-pub(crate) fn circuit_of<F: Field>(
+pub(crate) fn circuit_for<F: Field>(
     case: &Case,
     alloc: Global,
 ) -> Result<Option<Circuit<F>>, AllocError> {
-    let mut layers = Vec::new(alloc);
-    for &(wires, entries) in case.layers {
-        layers.push(Layer {
-            wires,
-            terms: Terms::new(terms_of(entries, alloc)?),
-        })?;
-    }
-    Ok(Circuit::of_layers(case.publics, case.privates, layers).ok())
+    circuit_with(case.publics, case.privates, case.layers, alloc)
 }
 
 // The value of the round of layer l behind the challenges, at t. None where there is no such round.
@@ -116,19 +124,27 @@ fn wrong_round<F: Field>(
 
 // The first layer and round of a case with another value.
 fn wrong_place<F: Field>(case: &Case, alloc: Global) -> Result<Option<(usize, usize)>, AllocError> {
-    let Some(circuit) = circuit_of::<F>(case, alloc)? else {
+    let Some(circuit) = circuit_for::<F>(case, alloc)? else {
         return Ok(Some((0, 0)));
     };
-    let public = elements::<F>(case.public, alloc)?;
-    let private = elements::<F>(case.private, alloc)?;
-    let mut values = Values::new(alloc, &circuit)?;
-    if public.len() != circuit.publics() as usize || private.len() != circuit.privates() as usize {
+    let mut inputs = inputs_of(case, &circuit, alloc)?;
+    if !evaluate(&circuit, &mut inputs) {
         return Ok(Some((0, 0)));
     }
-    circuit.eval(&public, &private, &mut values);
+    wrong_layer(case, &circuit, &inputs.values, alloc)
+}
+
+fn wrong_layer<F: Field>(
+    case: &Case,
+    circuit: &Circuit<F>,
+    values: &Values<F>,
+    alloc: Global,
+) -> Result<Option<(usize, usize)>, AllocError>
+    requires { HaveWidths circuit.now values.now }
+{
     let mut l: u32 = 0;
     for wanted in case.rounds {
-        if let Some(m) = wrong_round(&circuit, &values, l, wanted, alloc)? {
+        if let Some(m) = wrong_round(circuit, values, l, wanted, alloc)? {
             return Ok(Some((l as usize, m)));
         }
         l = l.wrapping_add(1);
@@ -148,45 +164,40 @@ fn wrong_case<F: Field>(
     Ok(None)
 }
 
+// The first round of the square's only layer at 0, 1 and 2, with weight 1.
+fn rounds_at(circuit: &Circuit<Gold>, inputs: &mut Inputs<Gold>) -> Option<[u128; 3]>
+    requires { HaveWidths circuit.now inputs.old.values }
+{
+    if !evaluate(circuit, inputs) {
+        return None;
+    }
+    let (values, weights) = (&inputs.values, &[Gold::one()]);
+    let first = round_of(circuit, values, 0, weights, &[], Gold::zero())?;
+    let second = round_of(circuit, values, 0, weights, &[], Gold::one())?;
+    let third = round_of(circuit, values, 0, weights, &[], Gold::of_word(2))?;
+    Some([first.number(), second.number(), third.number()])
+}
+
+fn square_rounds(alloc: Global) -> Result<Option<[u128; 3]>, AllocError> {
+    let case = &GOLD_CASES[0];
+    let Some(circuit) = circuit_for::<Gold>(case, alloc)? else {
+        return Ok(None);
+    };
+    let mut inputs = inputs_of(case, &circuit, alloc)?;
+    Ok(rounds_at(&circuit, &mut inputs))
+}
+
 #[test]
-fn rounds_are_those_of_the_definition(rt: HostRuntime) -> Result<(), Fail> {
-    assert_eq!(rt; wrong_case::<Gold>(&GOLD_CASES, rt.alloc())?, None);
-    assert_eq!(rt; wrong_case::<Gf128>(&GF_CASES, rt.alloc())?, None);
+fn square_has_its_worked_rounds(rt: HostRuntime) -> Result<(), Fail> {
+    assert_eq!(rt; square_rounds(rt.alloc())?, Some([0, 0, 162]));
     Ok(())
 }
 
-// The first round of the square's only layer at a point, with weight 1.
-fn square_at<F: Field>(point: u32, alloc: Global) -> Result<Option<F>, AllocError> {
-    let case = &GOLD_CASES[0];
-    let Some(circuit) = circuit_of::<F>(case, alloc)? else {
-        return Ok(None);
-    };
-    let public = elements::<F>(case.public, alloc)?;
-    let private = elements::<F>(case.private, alloc)?;
-    let weights = elements::<F>(&[1], alloc)?;
-    let mut values = Values::new(alloc, &circuit)?;
-    if public.len() != circuit.publics() as usize || private.len() != circuit.privates() as usize {
-        return Ok(None);
-    }
-    circuit.eval(&public, &private, &mut values);
-    Ok(round_of(
-        &circuit,
-        &values,
-        0,
-        &weights,
-        &[],
-        F::of_word(u128::from(point)),
-    ))
-}
-
 #[test]
-fn square_has_its_rounds(rt: HostRuntime) -> Result<(), Fail> {
+fn rounds_are_those_of_the_definition(rt: HostRuntime) -> Result<(), Fail> {
     sumcheck_laws::<Gold>();
-    for (point, value) in [(0, 0), (1, 0), (2, 162)] {
-        assert_eq!(rt;
-            square_at::<Gold>(point, rt.alloc())?,
-            Some(Gold::of_word(value))
-        );
-    }
+    sumcheck_laws::<Gf128>();
+    assert_eq!(rt; wrong_case::<Gold>(&GOLD_CASES, rt.alloc())?, None);
+    assert_eq!(rt; wrong_case::<Gf128>(&GF_CASES, rt.alloc())?, None);
     Ok(())
 }

@@ -1,11 +1,13 @@
 //! Worked scripts: a circuit's widths, what is written before anything is drawn, what is sent, and what is drawn.
 
+use crate::shared::Entry;
+
 /// A proof's part that the sumchecks read, and what they draw for it.
 pub struct Case {
     pub publics: u32,
     pub privates: u32,
-    /// The layers' widths, the outputs' first and the inputs' left out.
-    pub widths: &'static [u32],
+    /// The layers' wires, the outputs' first, with no terms: what is drawn does not depend on them.
+    pub layers: &'static [(u32, &'static [Entry])],
     pub session: &'static [u8],
     pub id: [u8; 32],
     pub public: &'static [u128],
@@ -26,7 +28,7 @@ pub const GOLD_CASES: [Case; 3] = [
     Case {
         publics: 0,
         privates: 0,
-        widths: &[1],
+        layers: &[(1, &[])],
         session: &[],
         id: [
             224, 16, 219, 221, 254, 81, 146, 101, 230, 229, 116, 189, 200, 223, 122, 150, 174, 156,
@@ -47,7 +49,7 @@ pub const GOLD_CASES: [Case; 3] = [
     Case {
         publics: 1,
         privates: 1,
-        widths: &[1],
+        layers: &[(1, &[])],
         session: &[],
         id: [
             203, 162, 151, 247, 53, 39, 136, 125, 110, 240, 142, 90, 194, 24, 154, 52, 157, 25, 34,
@@ -79,7 +81,7 @@ pub const GOLD_CASES: [Case; 3] = [
     Case {
         publics: 2,
         privates: 2,
-        widths: &[2, 6, 7, 6],
+        layers: &[(2, &[]), (6, &[]), (7, &[]), (6, &[])],
         session: &[
             184, 51, 242, 247, 37, 83, 249, 167, 21, 115, 25, 231, 195, 56, 76, 9, 186, 226, 49,
             44, 97, 8, 89, 91, 128, 66, 232, 210, 2, 94, 251, 211, 112, 232, 151, 96, 174, 244, 61,
@@ -165,7 +167,7 @@ pub const GF_CASES: [Case; 2] = [
     Case {
         publics: 1,
         privates: 1,
-        widths: &[1],
+        layers: &[(1, &[])],
         session: &[
             247, 213, 85, 67, 18, 78, 182, 233, 79, 232, 20, 86, 92, 132, 81, 124, 76, 38, 251,
             107, 26, 113, 198, 136, 88, 50, 29, 30, 188, 99, 36, 99, 74, 176, 173, 21, 39, 150,
@@ -202,7 +204,7 @@ pub const GF_CASES: [Case; 2] = [
     Case {
         publics: 1,
         privates: 2,
-        widths: &[2, 5, 7],
+        layers: &[(2, &[]), (5, &[]), (7, &[])],
         session: &[
             140, 225, 5, 80, 136, 96, 95, 173, 102, 197, 93, 47, 137, 236, 152, 176, 172, 183, 1,
             186,

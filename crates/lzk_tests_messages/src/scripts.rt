@@ -3,38 +3,15 @@
 //! The expected values were computed in Python from the definitions.
 
 use crate::script_vectors::{Case, GF_CASES, GOLD_CASES};
-use lzk_circuit::{Circuit, Layer, Terms};
+use crate::shared::{circuit_with, elements};
 use lzk_field::Field;
 use lzk_gf128::Gf128;
 use lzk_goldilocks::Gold;
 use lzk_poly::eval;
-use lzk_sumcheck::{Script, message_count, replay};
+use lzk_sumcheck::{LayerScripts, Script, message_count, replay};
 use lzk_transcript::Tape;
 use std::alloc::{AllocError, Global};
 use std::test::Fail;
-
-fn elements<F: Field>(numbers: &[u128], alloc: Global) -> Result<Vec<F>, AllocError> {
-    let mut list = Vec::new(alloc);
-    for &n in numbers {
-        list.push(F::of_word(n))?;
-    }
-    Ok(list)
-}
-
-// The circuit of these widths, with no terms: what is drawn does not depend on them. None where there is none.
-fn circuit_of<F: Field>(case: &Case, alloc: Global) -> Result<Option<Circuit<F>>, AllocError> {
-    let mut layers = Vec::new(alloc);
-    for &wires in case.widths {
-        layers.push(Layer {
-            wires,
-            terms: Terms::new(Vec::new(alloc)),
-        })?;
-    }
-    match Circuit::of_layers(case.publics, case.privates, layers) {
-        Ok(circuit) => Ok(Some(circuit)),
-        Err(_) => Ok(None),
-    }
-}
 
 fn tape_of<F: Field>(case: &Case, alloc: Global) -> Result<Tape, AllocError> {
     let mut tape = Tape::new();
@@ -72,27 +49,43 @@ fn first_alpha<F: Field>(script: &Script<F>) -> Option<F> {
     }
 }
 
+// The same script, its layers taken out and put in again.
+fn with_same_layers<F: Field>(script: Script<F>) -> Script<F> {
+    let Script {
+        out_point,
+        layers,
+        gamma,
+    } = script;
+    Script {
+        out_point,
+        layers: LayerScripts::new(layers.into_vec()),
+        gamma,
+    }
+}
+
+// Whether this is what a case draws.
+fn is_drawn<F: Field>(case: &Case, script: &Script<F>, next: F, list: &[F]) -> bool {
+    list.len() == case.count
+        && first_alpha(script) == Some(F::of_word(case.alpha))
+        && script.gamma == F::of_word(case.gamma)
+        && eval(list, F::point(3)) == F::of_word(case.sum)
+        && next == F::of_word(case.next)
+}
+
 fn is_right<F: Field>(case: &Case, alloc: Global) -> Result<bool, AllocError> {
-    let circuit = match circuit_of::<F>(case, alloc)? {
-        Some(circuit) => circuit,
-        None => return Ok(false),
-    };
+    let mut tape = tape_of::<F>(case, alloc)?;
     let messages = elements::<F>(case.messages, alloc)?;
+    let Some(circuit) = circuit_with::<F>(case.publics, case.privates, case.layers, alloc)? else {
+        return Ok(false);
+    };
+    let mut script = Script::new(alloc, &circuit)?;
     if messages.len() != message_count(&circuit) as usize {
         return Ok(false);
     }
-    let mut tape = tape_of::<F>(case, alloc)?;
-    let mut script = Script::new(alloc, &circuit)?;
     replay(&circuit, &mut tape, &messages, &mut script);
+    let script = with_same_layers(script);
     let list = drawn(&script, alloc)?;
-    let next: F = tape.draw();
-    Ok(
-        list.len() == case.count
-            && first_alpha(&script) == Some(F::of_word(case.alpha))
-            && script.gamma == F::of_word(case.gamma)
-            && eval(&list, F::point(3)) == F::of_word(case.sum)
-            && next == F::of_word(case.next),
-    )
+    Ok(is_drawn(case, &script, tape.draw(), &list))
 }
 
 fn wrong_case<F: Field>(cases: &[Case], alloc: Global) -> Result<Option<usize>, AllocError> {

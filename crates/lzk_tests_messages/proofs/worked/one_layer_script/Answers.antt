@@ -6,7 +6,7 @@ use Rattle.lzk_layout.specs.Places.{depth, bits_under}
 use Rattle.lzk_sumcheck.specs.declared.script.LayerScript.{LayerScript}
 use Rattle.lzk_sumcheck.specs.declared.script.Script.{Script}
 use Rattle.lzk_sumcheck.specs.Script.{HasBits, HasShape}
-use Rattle.lzk_tests_messages.proofs.combined.one_layer_script.Goals as goal
+use Rattle.lzk_tests_messages.proofs.worked.one_layer_script.Goals as goal
 
 -- a script whose one layer has the circuit's bits
 one_layer : {A : Type 0} (c : Wiring A) (s : Script A) (layer : LayerScript A) (layers : List (LayerScript A)) (gamma : A) → HasShape c s → depth c ≡ 1 → layers ≡ layer ∷ [] → HasBits (bits_under c 0) layer → HasShape c (record { out_point = s.out_point; layers = layers; gamma = gamma })
