@@ -1,4 +1,5 @@
 pub mod Accepted
+pub mod AnyChecked
 pub mod Checked
 pub mod ClaimLaws
 pub mod CommittedEntries

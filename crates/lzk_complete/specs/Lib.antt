@@ -1,3 +1,4 @@
+pub mod AnyInputs
 pub mod Complete
 pub mod Refused
 pub mod Residuals

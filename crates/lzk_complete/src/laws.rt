@@ -1,6 +1,7 @@
 //! Laws of the proofs that a prover writes, as contracts of functions that do nothing.
 
 ghost use Rattle.lzk_field.specs.Coding.{coding};
+ghost use Rattle.lzk_complete.specs.AnyInputs.{AnyInputs};
 ghost use Rattle.lzk_complete.specs.Complete.{Complete};
 ghost use Rattle.lzk_complete.specs.Refused.{ChangedRefused};
 
@@ -24,4 +25,12 @@ pub fn changed_proofs_refused<F: Field>()
     residuals_vanish::<F>();
     answers_pass::<F>();
     changed_answers_fail::<F>();
+}
+
+/// The file of the proof of any inputs, satisfying or not, meets all conditions but that on the linear answer's sum. The body only
+/// calls what the proof stands on.
+pub fn proofs_checked<F: Field>()
+    ensures checked { AnyInputs F.ops (coding F.element F.number_of F.BYTES F.size F.ID) }
+{
+    answers_pass::<F>();
 }

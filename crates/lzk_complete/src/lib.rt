@@ -9,5 +9,5 @@
 mod laws;
 mod residuals;
 
-pub use laws::{changed_proofs_refused, proofs_accepted};
+pub use laws::{changed_proofs_refused, proofs_accepted, proofs_checked};
 pub use residuals::residuals_vanish;

@@ -8,6 +8,7 @@ ghost use Rattle.lzk_field.specs.Sums.{entry};
 ghost use Rattle.lzk_circuit.specs.Wires.{all_values, wires_of, inputs_of, list_at, IsFirstNonzero, IsSatisfied};
 ghost use Rattle.lzk_honest.specs.Changed.{IsSentPlace};
 ghost use Rattle.lzk_honest.specs.Proving.{IsChangedFile, IsFileBy, IsProofFile, words_of};
+ghost use Rattle.lzk_complete.specs.AnyInputs.{AllButSum};
 ghost use Rattle.lzk_complete.specs.Refused.{IsRefused};
 ghost use Rattle.lzk_verify.specs.Verdict.{IsVerdict};
 ghost use Rattle.lzk_verify.specs.declared.verdict.Verdict.TheVariants.{Accepted};
@@ -20,7 +21,7 @@ use crate::proving::write_proof;
 use crate::room::{Room, Sent, file_room};
 use lzk_circbytes::id;
 use lzk_circuit::{Circuit, Values};
-use lzk_complete::{changed_proofs_refused, proofs_accepted};
+use lzk_complete::{changed_proofs_refused, proofs_accepted, proofs_checked};
 use lzk_field::{Field, Gate, Words};
 use lzk_honest::Answer;
 use lzk_layout::Params;
@@ -306,7 +307,10 @@ impl<'c, F: Field, X: RowExtend<F>> WorksOver<'c, F, X> {
         requires most { workers ≤ 64 }
         ensures* same { sem 𝓛 (StaysForCircuit F.row X.row F.Field X.RowExtend self.entry) }
         ensures file { IsProofFile F.ops (coding F.element F.number_of F.BYTES F.size F.ID) self.old session.now public.now private.now (words_of (W.at words.now)) result.now }
+        ensures checked { AllButSum F.ops (coding F.element F.number_of F.BYTES F.size F.ID) self.old session.now public.now result.now }
     {
+        proofs_checked::<F>();
+        self.circuit.depth();
         self.parts.evaluate(self.circuit, public, private);
         let len = self.parts.write(
             rt,

@@ -1,0 +1,19 @@
+use Rattle.lzk_field.specs.Coding.{coding}
+use Rattle.lzk_complete.proofs.AnyChecked.{any_inputs}
+use Rattle.lzk_complete.proofs.laws.proofs_checked.Goals as goal
+
+pub returns : goal.returns
+returns g c =
+    let f = g.F.Field in
+    let pass = c.answers_pass.ensures in
+    record {
+      checked = any_inputs f.ops (coding f.element f.number_of f.BYTES f.size f.ID) f.laws.ring (record {
+        columns = pass.columns;
+        low_degree = pass.low_degree;
+        linear = pass.linear;
+        quadratic = pass.quadratic;
+        zeros = pass.zeros;
+        linear_sum = pass.linear_sum;
+        combined = pass.combined;
+      });
+    }
