@@ -53,6 +53,3 @@ impl Aes256 {
         columns::encrypt(&self.words, block)
     }
 }
-
-#[cfg(test)]
-mod tests;

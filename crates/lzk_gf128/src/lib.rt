@@ -17,8 +17,3 @@ mod bytes;
 mod element;
 
 pub use element::Gf128;
-
-#[cfg(test)]
-mod tests;
-#[cfg(test)]
-mod vectors;

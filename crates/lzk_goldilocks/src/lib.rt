@@ -20,6 +20,3 @@ mod roots;
 
 pub use element::Gold;
 pub use roots::root_of_unity;
-
-#[cfg(test)]
-mod tests;

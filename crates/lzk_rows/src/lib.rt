@@ -16,6 +16,3 @@ mod gold;
 mod rows;
 
 pub use rows::Rows;
-
-#[cfg(test)]
-mod tests;

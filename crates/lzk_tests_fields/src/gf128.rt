@@ -1,9 +1,11 @@
 //! Worked values, through the trait.
 
-use crate::Gf128;
-use crate::vectors::{HALVES, INVERSES, PRODUCTS, SQUARES};
+mod vectors;
+
 use lzk_field::Field;
+use lzk_gf128::Gf128;
 use std::process::Abort;
+use vectors::{HALVES, INVERSES, PRODUCTS, SQUARES};
 
 // The product of the elements with these numbers, by number.
 fn product<F: Field>(a: u128, b: u128) -> u128 {

@@ -4,8 +4,8 @@ mod vectors;
 
 ghost use Rattle.std.specs.Prelude.{◌≡◌, length};
 
-use super::{Gold, root_of_unity};
 use lzk_field::Field;
+use lzk_goldilocks::{Gold, root_of_unity};
 use std::alloc::{AllocError, Global};
 use std::test::Fail;
 use vectors::{

@@ -1,10 +1,10 @@
 //! Rows extended by a caller that knows only the trait.
 
-use super::*;
 use lzk_field::Field;
 use lzk_gf128::Gf128;
 use lzk_goldilocks::Gold;
 use lzk_poly::RowExtend;
+use lzk_rows::Rows;
 use std::alloc::{AllocError, Global};
 use std::test::Fail;
 

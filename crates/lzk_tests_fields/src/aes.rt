@@ -1,4 +1,6 @@
-use super::*;
+//! Published values of AES-256.
+
+use lzk_aes::Aes256;
 
 /// A key, its first and its last 16 bytes, a block, and the block enciphered, as big-endian numbers.
 const VECTORS: [(u128, u128, u128, u128); 8] = [
