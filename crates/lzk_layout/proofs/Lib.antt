@@ -3,6 +3,7 @@ pub mod FieldLaws
 pub mod CursorLaws
 pub mod CursorStates
 pub mod FileLaws
+pub mod FirstFaultLaws
 pub mod FrontFaults
 pub mod FrontFiles
 pub mod FrontLaws

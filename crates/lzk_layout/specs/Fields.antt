@@ -97,7 +97,7 @@ proof_at shape p bytes = do
   if length path.1 == 0 then Ok (first.0 ++ path.0) else stops kinds.Trailing path.1
 
 -- The bytes are no proof's file. The fields before offset are whole and pass their checks, and kind is the first check that the field there
--- fails; or all pass, and a byte is left there.
+-- fails; or all pass, and a byte is left there. The law FaultIsFirst, in FirstFaults.antt, says this of the fields themselves.
 abbrev pub ProofFaultAt : Shape → Params → List ℕ → ℕ → ProofKind → Type 0
 ProofFaultAt shape p bytes offset kind = (proof_at shape p bytes ≡ Err (record { left = length bytes - offset; kind = kind })) × (offset ≤ length bytes)
 
