@@ -156,7 +156,8 @@ pub(crate) fn combine_from<F: Field>(
 
 /// Combines all constraints into one, with the challenges as factors. `a` is set to the coefficients of what stands in the rows,
 /// row by row from row 3 on: of the linear constraints at the committed entries, and of each copy, at its place, less at the
-/// entry that it copies. Gives the sum that is wanted of them. No memory is taken.
+/// entry that it copies. Gives the sum that is wanted of them. No memory is taken. It is the plain form beside `combine_factored`,
+/// for tests.
 pub fn combine<F: Field>(
     params: &Params,
     forms: &Forms<F>,

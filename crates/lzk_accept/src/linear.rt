@@ -404,7 +404,7 @@ pub(crate) fn rest_with_bounds<F: Field>(
 }
 
 /// Sets the forms to the coefficients and right sides of all linear constraints: what the sumchecks' residuals are less at a list
-/// of pads and private inputs. No memory is taken.
+/// of pads and private inputs. No memory is taken. It is the plain form beside `combine_factored`, for tests.
 pub fn linear_forms<F: Field>(
     circuit: &Circuit<F>,
     public: &[F],

@@ -17,7 +17,7 @@ use lzk_field::Field;
 use lzk_sumcheck::Script;
 
 /// What is left of the claims when the pads and the private inputs are `w`: of layer `i`, or of the inputs where `i` is the
-/// number of layers. `room` has 262,144 places, and no memory is taken.
+/// number of layers. `room` has 262,144 places, and no memory is taken. It is the plain form beside `combine_factored`, for tests.
 pub fn residual<F: Field>(
     circuit: &Circuit<F>,
     public: &[F],

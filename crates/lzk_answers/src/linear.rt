@@ -213,7 +213,8 @@ fn add_listed<F: Field, X: RowExtend<F>>(
 ///
 /// `table` has the rows one after another, with `width` values each, at the first points, and `coefficients` the combined
 /// coefficients of each row from row 3 on, one an element of the row. The extender's and DBLOCK more elements of `room` are
-/// used. What they hold before and after has no meaning. No memory is taken.
+/// used. What they hold before and after has no meaning. No memory is taken. It is the plain form beside
+/// `linear_by_factors_into`, for tests.
 pub fn linear_into<F: Field, X: RowExtend<F>>(
     params: &Params,
     table: &[F],

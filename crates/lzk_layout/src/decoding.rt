@@ -107,7 +107,8 @@ fn file_into<F: Field>(params: &Params, bytes: &[u8], proof: &mut Proof<F>) -> R
 }
 
 /// Makes `proof` the proof whose file the bytes are, with no memory taken. After a fault the proof's contents are free,
-/// but for what `lengths` and `room` say: it may be decoded into again.
+/// but for what `lengths` and `room` say: it may be decoded into again. It is the plain form beside `Cursor`, which a verifier
+/// reads by.
 pub fn decode_proof<F: Field>(
     params: &Params,
     bytes: &[u8],

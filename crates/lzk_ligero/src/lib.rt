@@ -2,12 +2,11 @@
 //!
 //! As in draft-google-cfrg-libzk and Ligero (CCS 2017), a prover commits to its private inputs and to pads by a tree over
 //! columns, sends the sumchecks of all layers less the pads, answers for what the pads and inputs have to meet by
-//! combinations of the rows, and opens the columns that the tape draws. The bytes are those of 'Tableau and random words',
-//! 'Protocol' and 'Proof file' of the profile in docs/FORMATS.md, for any random words and any number of workers. A caller
-//! writes
+//! combinations of the rows, and opens the columns that the tape draws. The bytes are those of docs/PROTOCOL.md, sections 1 to
+//! 8, and docs/FORMATS.md, section 9, for any random words and any number of workers. A caller writes
 //!
 //! ```text
-//! let mut works: WorksOver<Gold, Rows<Gold>> = WorksOver::new(alloc, &circuit)?;
+//! let mut works: WorksOver<Gold, NttExtender<Gold>> = WorksOver::new(alloc, &circuit)?;
 //! match works.prove(&rt, session, &public, &private, &Seeded::new(seed), 4, &Open) {
 //!     Ok(bytes) => ..,
 //!     Err(fault) => println!(rt; "output {} is {}", fault.output, fault.value)?,

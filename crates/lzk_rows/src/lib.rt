@@ -7,7 +7,7 @@
 //! ```text
 //! fn prove<F: Field, X: RowExtend<F>>(..) { .. let rows = X::make(alloc, n, upto)?; .. }
 //!
-//! prove::<Gold, Rows<Gold>>(..)
+//! prove::<Gold, Rows<Gold>>(..) // `NttExtender<Gold>` of lzk_ntt is the fast one
 //! ```
 #![tactic(auto)]
 

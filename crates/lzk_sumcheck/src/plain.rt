@@ -148,7 +148,8 @@ fn plain_sum<F: Field>(
 }
 
 /// The value of a round of layer `l` at `t`, for any weights of the layer's wires: `bound` holds the challenges of the
-/// rounds before it. This is the plain sum over all zeros and ones for the variables that are left, for tests and small circuits.
+/// rounds before it. This is the plain sum over all zeros and ones for the variables that are left: the plain form beside
+/// `prove_layers`, for tests and small circuits.
 pub fn plain_round<F: Field>(
     circuit: &Circuit<F>,
     values: &Values<F>,
