@@ -1,6 +1,10 @@
 # shellcheck shell=sh disable=SC2154,SC2034
 # Read by each run.sh: `zk` is the program, `here` the example's folder, and the current folder a new one that goes at the end.
 zk=${ZK:-$(cd "$here/../.." && pwd)/zk}
+case $zk in
+    /*) ;;
+    */*) zk=$PWD/$zk ;;
+esac
 folder=$(mktemp -d) && cd "$folder" || exit 70
 trap 'rm -rf "$folder"' EXIT
 
