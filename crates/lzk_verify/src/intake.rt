@@ -16,6 +16,7 @@ ghost use Rattle.lzk_circbytes.specs.Files.{id_of};
 ghost use Rattle.lzk_verify.specs.Columns.{IsLowDegreeIn, IsLinearIn, IsQuadraticIn};
 ghost use Rattle.lzk_verify.specs.Desk as spec;
 ghost use Rattle.lzk_verify.specs.Desk.{AreRooms, AreLists, AreRows, AreReady, IsSound, IsNoted, IsBlockOf, kept_of};
+ghost use Rattle.lzk_verify.specs.Kept as fields;
 ghost use Rattle.lzk_verify.specs.Kept.{ldt_in, dot_in, whole_transcript, IsKept};
 
 use crate::combining::combine_constraints;
@@ -101,6 +102,54 @@ impl Failing {
     }
 }
 
+// The lists of elements that an intake keeps.
+#[derive(Drop)]
+struct ElementLists<F> {
+    public: Vec<F>,
+    sent: Vec<F>,
+    column: Vec<F>,
+}
+
+impl<F: Field> ElementLists<F> {
+    fn new(
+        alloc: Global,
+        circuit: &Circuit<F>,
+        params: &Params,
+    ) -> Result<ElementLists<F>, AllocError>
+        requires bounded { AreBounded params.now }
+        ensures public { IfOk result (λ lists. length lists.public.items ≡ circuit.now.publics) }
+        ensures sent { IfOk result (λ lists. length lists.sent.items ≡ fields.sent_count params.now) }
+        ensures column { IfOk result (λ lists. length lists.column.items ≡ params.now.nrow) }
+    {
+        let public = zeros(alloc, circuit.publics() as usize)?;
+        let sent = zeros(alloc, sent_count(params))?;
+        let column = zeros(alloc, params.nrow as usize)?;
+        Ok(ElementLists {
+            public,
+            sent,
+            column,
+        })
+    }
+}
+
+// The lists of digests that an intake keeps.
+#[derive(Drop)]
+struct DigestLists {
+    leaves: Vec<[u8; 32]>,
+    path: Vec<[u8; 32]>,
+}
+
+impl DigestLists {
+    fn new(alloc: Global) -> Result<DigestLists, AllocError>
+        ensures leaves { IfOk result (λ lists. length lists.leaves.items ≡ 128) }
+        ensures path { IfOk result (λ lists. length lists.path.items ≡ 1536) }
+    {
+        let leaves = zero_digests(alloc, OPENED)?;
+        let path = zero_digests(alloc, MOST_DIGESTS)?;
+        Ok(DigestLists { leaves, path })
+    }
+}
+
 impl<F: Field> Intake<F> {
     /// Room for what is kept of a proof over this circuit.
     pub(crate) fn new(
@@ -115,21 +164,24 @@ impl<F: Field> Intake<F> {
         ensures script { IfOk result (λ k. sumcheck.HasShape circuit.now k.drawn.script) }
         ensures drawn { IfOk result (λ k. k.is_drawn ≡ false) }
     {
+        let elements = ElementLists::new(alloc, circuit, params)?;
+        let opened = DigestLists::new(alloc)?;
+        let drawn = Drawn::new(alloc, circuit)?;
         Ok(Intake {
-            public: zeros(alloc, circuit.publics() as usize)?,
+            public: elements.public,
             tape: Tape::new(),
             is_drawn: false,
             id: [0; 32],
             root: [0; 32],
-            sent: zeros(alloc, sent_count(params))?,
-            drawn: Drawn::new(alloc, circuit)?,
+            sent: elements.sent,
+            drawn,
             wanted: F::zero(),
             nonce: [0; 32],
-            column: zeros(alloc, params.nrow as usize)?,
-            leaves: zero_digests(alloc, OPENED)?,
+            column: elements.column,
+            leaves: opened.leaves,
             failing: Failing::none(),
             count: 0,
-            digests: zero_digests(alloc, MOST_DIGESTS)?,
+            digests: opened.path,
         })
     }
 

@@ -66,6 +66,20 @@ fn sum_factored<F: Field>(
     sum
 }
 
+// The same, with no product where there are no such rows.
+fn sum_private<F: Field>(elements: &[F], row_factors: &[F], place_factors: &[F], factors: &[F]) -> F
+    requires most { length elements.now ≤ 265 }
+    requires width { length factors.now ≤ 512 }
+    requires row_factors { length row_factors.now ≡ 4 * length elements.now }
+    requires place_factors { length place_factors.now ≡ 4 * length factors.now }
+    ensures { let o = F.ops in result ≡ sum_below o 4 (λ k. o.times (row_sum o row_factors.now elements.now k) (row_sum o place_factors.now factors.now k)) }
+{
+    if elements.is_empty() {
+        return F::zero();
+    }
+    sum_factored(elements, row_factors, place_factors, factors)
+}
+
 // The sum, over the rows from row 3 on, of the extension of the combined coefficients' row times a column's element.
 fn linear_sum<F: Field>(
     params: &Params,
@@ -83,7 +97,7 @@ fn linear_sum<F: Field>(
 {
     let behind = 3 + combined.rows as usize;
     let back = &factors[HEAD..];
-    let private = sum_factored(
+    let private = sum_private(
         &column[3..behind],
         combined.row_factors.as_slice(),
         combined.place_factors.as_slice(),

@@ -4,6 +4,7 @@ ghost use Rattle.std.specs.Prelude.{◌≡◌, IfOk, length, replicate};
 ghost use Rattle.lzk_layout.specs.Sizes.{AreBounded, params_of};
 ghost use Rattle.lzk_accept.specs.Factored.{HasRoomFor};
 ghost use Rattle.lzk_accept.specs.Kept.{AreFormsOf};
+ghost use Rattle.lzk_verify.specs.Desk as spec;
 ghost use Rattle.lzk_verify.specs.Desk.{AreRooms};
 
 use lzk_accept::{Factored, Forms};
@@ -53,6 +54,68 @@ pub(crate) fn zero_digests(alloc: Global, count: usize) -> Result<Vec<[u8; 32]>,
     Ok(list)
 }
 
+// Room for the linear constraints and their combination.
+#[derive(Drop)]
+struct LinearRoom<F: Field> {
+    forms: Forms<F>,
+    combined: Factored<F>,
+}
+
+impl<F: Field> LinearRoom<F> {
+    fn new(alloc: Global, circuit: &Circuit<F>) -> Result<LinearRoom<F>, AllocError>
+        ensures forms { IfOk result (λ room. AreFormsOf F.ops circuit.now room.forms) }
+        ensures factors { IfOk result (λ room. HasRoomFor circuit.now room.combined) }
+    {
+        let forms = Forms::new(alloc, circuit)?;
+        let combined = Factored::new(alloc, circuit)?;
+        Ok(LinearRoom { forms, combined })
+    }
+}
+
+// Room for factors of a row's values and of a product's, and for a product's values.
+#[derive(Drop)]
+struct RowRoom<F> {
+    row: Vec<F>,
+    product: Vec<F>,
+    values: Vec<F>,
+}
+
+impl<F: Field> RowRoom<F> {
+    fn new(alloc: Global, params: &Params) -> Result<RowRoom<F>, AllocError>
+        ensures row { IfOk result (λ room. length room.row.items ≡ params.now.block) }
+        ensures product { IfOk result (λ room. length room.product.items ≡ params.now.dblock) }
+        ensures values { IfOk result (λ room. length room.values.items ≡ params.now.dblock) }
+    {
+        let row = zeros(alloc, params.block as usize)?;
+        let product = zeros(alloc, params.dblock as usize)?;
+        let values = zeros(alloc, params.dblock as usize)?;
+        Ok(RowRoom {
+            row,
+            product,
+            values,
+        })
+    }
+}
+
+// The weights of the values of a row, and of a product of two rows.
+#[derive(Drop)]
+struct BothWeights<F: Field> {
+    rows: Weights<F>,
+    products: Weights<F>,
+}
+
+impl<F: Field> BothWeights<F> {
+    fn new(alloc: Global, params: &Params) -> Result<BothWeights<F>, AllocError>
+        requires bounded { AreBounded params.now }
+        ensures rows { IfOk result (λ weights. weights.rows ≡ spec.rows params.now) }
+        ensures products { IfOk result (λ weights. weights.products ≡ spec.products params.now) }
+    {
+        let rows = Weights::new(alloc, params.block, params.ncol)?;
+        let products = Weights::new(alloc, params.dblock, params.ncol)?;
+        Ok(BothWeights { rows, products })
+    }
+}
+
 impl<F: Field> Room<F> {
     /// Room for proofs over this circuit, whose parameters these are.
     pub(crate) fn new(
@@ -66,15 +129,19 @@ impl<F: Field> Room<F> {
         ensures forms { IfOk result (λ room. AreFormsOf F.ops circuit.now room.forms) }
         ensures factors { IfOk result (λ room. HasRoomFor circuit.now room.combined) }
     {
+        let linear = LinearRoom::new(alloc, circuit)?;
+        let rows = RowRoom::new(alloc, params)?;
+        let nodes = zero_digests(alloc, 2 * params.mcol as usize)?;
+        let weights = BothWeights::new(alloc, params)?;
         Ok(Room {
-            forms: Forms::new(alloc, circuit)?,
-            combined: Factored::new(alloc, circuit)?,
-            row: zeros(alloc, params.block as usize)?,
-            product: zeros(alloc, params.dblock as usize)?,
-            values: zeros(alloc, params.dblock as usize)?,
-            nodes: zero_digests(alloc, 2 * params.mcol as usize)?,
-            rows: Weights::new(alloc, params.block, params.ncol)?,
-            products: Weights::new(alloc, params.dblock, params.ncol)?,
+            forms: linear.forms,
+            combined: linear.combined,
+            row: rows.row,
+            product: rows.product,
+            values: rows.values,
+            nodes,
+            rows: weights.rows,
+            products: weights.products,
         })
     }
 }

@@ -33,7 +33,7 @@ returns g c = λ point lists extends are.
     let row_factors : c.as_slice.result.now ≡ f.row_factors = c.as_slice.ensures in
     let place_factors : c.as_slice-2.result.now ≡ f.place_factors = c.as_slice-2.ensures in
     let entries : c.as_slice-3.result.now ≡ f.table = c.as_slice-3.ensures in
-    let first = c.sum_factored-private.ensures
+    let first = c.sum_private-private.ensures
     ∙ (λ j. sum_below o 4 (λ k. o.times (row_sum o (row_factors j) private k) (row_sum o (place_factors j) back k)))
     ∙ sum-ext o r 4 (λ k. o.times (row_sum o f.row_factors private k) (row_sum o f.place_factors back k)) (λ k. o.times (row k) (place k))
     (λ k h j. o.times (row_sum_as o r f.row_factors private k n (λ i. entry o column (3 + i)) few at_private j) (row_sum_as o r f.place_factors back k w (λ s. entry o factors (128 + s)) wide at_back j)) in

@@ -1,0 +1,19 @@
+use Rattle.std.proofs.Common.{◌≡◌, ◌+◌, ◌*◌, ℕ, length, sym, ap, ◌∙◌, rules}
+use Rattle.lzk_field.specs.Sums.{entry, sum_below}
+use Rattle.lzk_field.proofs.RingBasics.{zero_times}
+use Rattle.lzk_field.proofs.SumLaws.{sum-ext, sum-zero}
+use Rattle.lzk_verify.specs.Extending.{row_sum}
+use Rattle.lzk_verify.proofs.linear.sum_private.Goals as goal
+
+pub returns-then-is_empty : goal.returns-then-is_empty
+returns-then-is_empty g c =
+    let o = g.F.Field.ops in
+    let r = g.F.Field.laws.ring in
+    let elements = c.args.elements.now in
+    let table = c.args.row_factors.now in
+    let none : length elements ≡ 0 = search rules in
+    let back : ℕ → g.row.F.Denot = λ k. row_sum o c.args.place_factors.now c.args.factors.now k in
+    let zero : c.zero.result ≡ o.zero = search rules in
+    let product : ℕ → g.row.F.Denot = λ k. o.times (row_sum o table elements k) (back k) in
+    let each : (k : ℕ) → product k ≡ o.zero = λ k. ap (λ n. o.times (sum_below o n (λ s. o.times (entry o table (k * length elements + s)) (entry o elements s))) (back k)) none ∙ zero_times o r (back k) in
+    zero ∙ sym (sum-ext o r 4 product (λ k. o.zero) (λ k h. each k) ∙ sum-zero o r 4)
