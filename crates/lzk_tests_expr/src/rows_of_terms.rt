@@ -30,16 +30,6 @@ fn row_of<F: Field>(alloc: Global) -> Result<Vec<Entry>, AllocError> {
     entries(alloc, &terms)
 }
 
-// What goes out: a zero coefficient, a multiple by zero, and a sum of a row and its negative.
-fn nothing<F: Field>(alloc: Global) -> Result<(usize, usize, usize), AllocError> {
-    let row = single(alloc, F::of_word(9), 1, 2)?;
-    let none = single(alloc, F::zero(), 1, 2)?;
-    let multiple = scaled(alloc, F::zero(), &row)?;
-    let negative = scaled(alloc, F::one().neg(), &row)?;
-    let difference = merged(alloc, &row, &negative)?;
-    Ok((none.len(), multiple.len(), difference.len()))
-}
-
 // 3 + 2 x y + (1 + 8) x, and y y, which is taken away again: a term at the end, one between others, more of a term, and a term that goes.
 fn row_by_terms<F: Field>(alloc: Global) -> Result<Vec<Entry>, AllocError> {
     let mut row = Vec::new(alloc);
@@ -68,13 +58,5 @@ fn rows_are_sums_of_products(rt: HostRuntime) -> Result<(), Fail> {
     let expected: [Entry; 3] = [(7, 0, 0, 15), (7, 0, 1, 20), (7, 1, 2, 2)];
     assert!(rt; row_of::<Gold>(alloc)?.as_slice() == expected.as_slice());
     assert!(rt; row_of::<Gf128>(alloc)?.as_slice() == expected.as_slice());
-    Ok(())
-}
-
-#[test]
-fn zero_terms_go_out(rt: HostRuntime) -> Result<(), Fail> {
-    let alloc = rt.alloc();
-    assert_eq!(rt; nothing::<Gold>(alloc), Ok((0, 0, 0)));
-    assert_eq!(rt; nothing::<Gf128>(alloc), Ok((0, 0, 0)));
     Ok(())
 }

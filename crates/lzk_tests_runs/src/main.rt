@@ -1,11 +1,12 @@
 //! Runs of `zk` over files in memory, each beside what an independent implementation prints, answers and puts.
 //!
 //! The file `runs.txt` lists them, as docs/TESTING.md says. A line is printed for each run that went otherwise, and at the end how many
-//! runs there were, how many went as expected, and how many of these by faults too.
+//! runs there were, how many went as expected, and how many of these by faults and in pieces too.
 #![tactic(auto)]
 
 mod case;
 mod faults;
+mod feeding;
 mod files;
 mod script;
 
@@ -26,8 +27,8 @@ fn main(rt: HostRuntime) -> anyhow::Result<()> {
         println!(rt; "{line}")?;
     }
     println!(rt;
-        "{} runs, {} as expected, {} of them by each fault too",
-        tally.runs, tally.right, tally.faulty
+        "{} runs, {} as expected, {} of them by each fault too, {} fed in pieces too",
+        tally.runs, tally.right, tally.faulty, tally.fed
     )?;
     Ok(())
 }

@@ -2,6 +2,7 @@
 
 use crate::case::{Case, Failing, Given, Put, play};
 use crate::faults::bears;
+use crate::feeding::is_fed_alike;
 use crate::files::{Stored, bytes_of, change, number_of};
 use std::alloc::{AllocError, Global};
 use std::fs;
@@ -9,12 +10,17 @@ use std::marker::Sync;
 use std::rt::Files;
 use std::thread::Threads;
 
-/// How many runs there were, how many went as expected, how many of these by each fault too, and the labels of those that did not.
+// The lines that end a run.
+const ENDS: [&str; 4] = ["end", "then", "faults", "feeds"];
+
+/// How many runs there were, how many went as expected, how many of these by each fault too and fed in pieces too, and the labels of those
+/// that did not.
 #[derive(Drop)]
 pub struct Tally {
     pub runs: u32,
     pub right: u32,
     pub faulty: u32,
+    pub fed: u32,
     pub wrong: Vec<String>,
 }
 
@@ -155,19 +161,36 @@ fn count(tally: &mut Tally, is_right: bool, label: &str, alloc: Global) -> Resul
     Ok(())
 }
 
-// Plays a run, by each fault too where that is asked, and counts it. What its put's name then holds.
+// Whether a run that went as expected goes on so as its last line asks: by each fault, or fed in pieces.
+fn goes_on<T: Threads + Sync>(
+    threads: &T,
+    alloc: Global,
+    case: &Case,
+    put: &[u8],
+    how: &str,
+) -> Result<bool, AllocError> {
+    match how {
+        "faults" => bears(threads, alloc, case, put),
+        "feeds" => is_fed_alike(alloc, case),
+        _ => Ok(true),
+    }
+}
+
+// Plays a run as its last line says, and counts it. What its put's name then holds.
 fn judge<T: Threads + Sync>(
     threads: &T,
     alloc: Global,
     case: &Case,
-    by_faults: bool,
+    how: &str,
     tally: &mut Tally,
 ) -> Result<Vec<u8>, AllocError> {
     let played = play(threads, alloc, case)?;
-    let mut is_right = played.is_right;
-    if is_right && by_faults {
-        is_right = bears(threads, alloc, case, &played.put)?;
-        tally.faulty = tally.faulty.saturating_add(u32::from(is_right));
+    let is_right = played.is_right && goes_on(threads, alloc, case, &played.put, how)?;
+    if is_right && how == "faults" {
+        tally.faulty = tally.faulty.saturating_add(1);
+    }
+    if is_right && how == "feeds" {
+        tally.fed = tally.fed.saturating_add(1);
     }
     count(tally, is_right, &case.label, alloc)?;
     Ok(played.put)
@@ -200,14 +223,15 @@ pub fn played<R: Files + AllocGlobal, T: Threads + Sync>(
         runs: 0,
         right: 0,
         faulty: 0,
+        fed: 0,
         wrong: Vec::new(alloc),
     };
     let mut case = begun(alloc, "", Vec::new(alloc))?;
     for line in text.lines() {
         match line.split_once(' ') {
             Some(("run", label)) => case = begun(alloc, label, Vec::new(alloc))?,
-            _ if line == "end" || line == "faults" || line == "then" => {
-                let put = judge(threads, alloc, &case, line == "faults", &mut tally)?;
+            _ if ENDS.contains(&line) => {
+                let put = judge(threads, alloc, &case, line, &mut tally)?;
                 if line == "then" {
                     let ended = std::mem::replace(&mut case, begun(alloc, "", Vec::new(alloc))?);
                     case = next_of(alloc, ended, put)?;

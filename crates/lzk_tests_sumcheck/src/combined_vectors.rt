@@ -1,32 +1,10 @@
 //! Small circuits, and what an independent implementation combines of their constraints.
 
-use crate::shared::{Entry, Shape};
+use crate::shared::Shape;
 
 /// A circuit; the wanted sum, and the sum of the combined coefficients in order, each times the next power of the element with
 /// number 3, over the field of the numbers below 2^64 - 2^32 + 1; and the same two over the field of 2^128 elements.
 pub type Combined = (Shape<'static>, [u128; 2], [u128; 2]);
-
-/// Numbers of public and of private inputs. A row has 64 positions, and 128 with the last ones: private inputs fill no row, one to
-/// 61, or all but a few places, and their wires begin at several places of a row.
-pub const INPUTS: [(u32, u32); 11] = [
-    (5, 0),
-    (3, 1),
-    (0, 63),
-    (1, 64),
-    (63, 64),
-    (62, 65),
-    (63, 200),
-    (100, 200),
-    (127, 192),
-    (127, 3950),
-    (200, 4096),
-];
-
-/// Two layers that stand on such inputs.
-pub const LAYERS: &[(u32, &[Entry])] = &[
-    (1, &[(0, 0, 1, 3), (0, 1, 1, 0)]),
-    (2, &[(0, 0, 0, 1), (1, 0, 1, 7)]),
-];
 
 pub const COMBINED: [Combined; 10] = [
     // One layer of one wire.

@@ -19,9 +19,6 @@ pub type Entry = (u32, u32, u32, u128);
 /// Public and private inputs, and each layer's wires and terms, the outputs' first.
 pub type Shape<'a> = (u32, u32, &'a [(u32, &'a [Entry])]);
 
-/// A word whose multiples are not alike.
-pub const MIXING: u128 = 0x9e37_79b9_7f4a_7c15_f39c_c060_5ced_c835;
-
 fn terms_of<F: Field>(entries: &[Entry], alloc: Global) -> Result<Vec<Term<F>>, AllocError> {
     let mut terms = Vec::new(alloc);
     for &(g, a, b, number) in entries {
@@ -35,13 +32,15 @@ fn terms_of<F: Field>(entries: &[Entry], alloc: Global) -> Result<Vec<Term<F>>, 
     Ok(terms)
 }
 
-/// The circuit of so many public and private inputs and these layers, if it is one.
-pub fn circuit_with<F: Field>(
-    publics: u32,
-    privates: u32,
-    rows: &[(u32, &[Entry])],
+/// One layer of one wire: a private input's square, less the public input.
+pub const SQUARE: Shape<'static> = (1, 1, &[(1, &[(0, 0, 1, 0), (0, 2, 2, 1)])]);
+
+/// The circuit of a shape, if it is one.
+pub fn circuit_of<F: Field>(
+    shape: Shape<'_>,
     alloc: Global,
 ) -> Result<Option<Circuit<F>>, AllocError> {
+    let (publics, privates, rows) = shape;
     let mut layers = Vec::new(alloc);
     for &(wires, entries) in rows {
         layers.push(Layer {
@@ -52,25 +51,8 @@ pub fn circuit_with<F: Field>(
     Ok(Circuit::of_layers(publics, privates, layers).ok())
 }
 
-/// The circuit of a shape, if it is one.
-pub fn circuit_of<F: Field>(
-    shape: Shape<'_>,
-    alloc: Global,
-) -> Result<Option<Circuit<F>>, AllocError> {
-    let (publics, privates, rows) = shape;
-    circuit_with(publics, privates, rows, alloc)
-}
-
-/// The entry at a place of a list, and 0 past its end.
-pub fn entry_of<F: Field>(list: &[F], i: usize) -> F {
-    match list.get(i) {
-        Some(&x) => x,
-        None => F::zero(),
-    }
-}
-
-/// The element of so many times a word.
-pub fn multiple<F: Field>(times: u64, word: u128) -> F {
+// The element of so many times a word.
+fn multiple<F: Field>(times: u64, word: u128) -> F {
     F::of_word(u128::from(times).wrapping_mul(word))
 }
 
@@ -83,8 +65,8 @@ fn set_multiples<F: Field>(first: u64, word: u128, list: &mut [F])
     }
 }
 
-/// So many multiples of a word, from so many times it on.
-pub fn multiples<F: Field>(
+// So many multiples of a word, from so many times it on.
+fn multiples<F: Field>(
     first: u64,
     count: u32,
     word: u128,
@@ -130,8 +112,8 @@ pub fn undrawn<F: Field>(circuit: &Circuit<F>, alloc: Global) -> Result<Drawn<F>
     })
 }
 
-/// Sends the messages to a new tape, draws the script and the challenges, and gives what is drawn next.
-pub fn draw<F: Field>(circuit: &Circuit<F>, drawn: &mut Drawn<F>) -> F
+/// Sends the messages to a new tape, and draws the script and the challenges.
+pub fn draw<F: Field>(circuit: &Circuit<F>, drawn: &mut Drawn<F>)
     requires messages { length drawn.old.messages ≡ sent_counts circuit.now }
     requires script { HasShape circuit.now drawn.old.script }
     requires challenges { accept.HasShape (params_of circuit.now) drawn.old.challenges }
@@ -141,12 +123,7 @@ pub fn draw<F: Field>(circuit: &Circuit<F>, drawn: &mut Drawn<F>) -> F
     ensures challenges { accept.HasShape (params_of circuit.now) drawn.new.challenges }
 {
     let mut tape = Tape::new();
-    replay(
-        circuit,
-        &mut tape,
-        drawn.messages.as_slice(),
-        &mut drawn.script,
-    );
+    let messages = drawn.messages.as_slice();
+    replay(circuit, &mut tape, messages, &mut drawn.script);
     draw_challenges(&Params::of(circuit), &mut tape, &mut drawn.challenges);
-    tape.draw()
 }

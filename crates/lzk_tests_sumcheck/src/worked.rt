@@ -1,20 +1,19 @@
 //! The circuit of `x * x = y` with what is sent and drawn set by hand. Its residuals and what is combined of its constraints were worked
 //! out by hand.
 
-ghost use Rattle.std.specs.Prelude.{◌≡◌, ◌-◌, ◌*◌, length, IfOk, IfSome};
+ghost use Rattle.std.specs.Prelude.{◌≡◌, ◌<◌, ◌+◌, ◌-◌, ◌*◌, length, IfOk, IfSome};
 ghost use Rattle.lzk_layout.specs.Sizes.{sent_counts, committed_count, params_of};
 ghost use Rattle.lzk_sumcheck.specs.Script.{HasShape};
 ghost use Rattle.lzk_accept.specs.Challenges as accept;
 ghost use Rattle.lzk_accept.specs.Kept.{AreFormsOf};
 
 use crate::combined::{Combined, combine_rows, uncombined};
-use crate::residuals::{Committed, SQUARE, are_residuals, committed_for};
-use crate::shared::{Drawn, circuit_of, elements, undrawn};
-use lzk_accept::linear_forms;
+use crate::shared::{Drawn, SQUARE, circuit_of, elements, undrawn};
+use lzk_accept::{Forms, residual};
 use lzk_circuit::{Circuit, bits_of};
 use lzk_field::Field;
 use lzk_goldilocks::Gold;
-use lzk_layout::Elements;
+use lzk_layout::{Elements, Params};
 use lzk_sumcheck::{LayerScript, LayerScripts, Script};
 use std::alloc::{AllocError, Global};
 use std::test::Fail;
@@ -109,40 +108,76 @@ fn are_standing<F: Field>(coefficients: &[F]) -> bool {
     coefficients.len() > 64
 }
 
+// A form at zeros, less its right side, and the residual there.
+fn are_alike<F: Field>(
+    circuit: &Circuit<F>,
+    drawn: &Drawn<F>,
+    forms: &Forms<F>,
+    room: &mut Zeros<F>,
+    i: u32,
+    number: u128,
+) -> bool
+    requires constraint { i < length circuit.now.layers + 1 }
+    requires public { length drawn.now.public ≡ circuit.now.publics }
+    requires messages { length drawn.now.messages ≡ sent_counts circuit.now }
+    requires script { HasShape circuit.now drawn.now.script }
+    requires forms { AreFormsOf F.ops circuit.now forms.now }
+    requires w { length room.old.w ≡ committed_count circuit.now }
+    ensures w { length room.new.w ≡ committed_count circuit.now }
+{
+    let (public, messages) = (drawn.public.as_slice(), drawn.messages.as_slice());
+    let (w, room) = (room.w.as_slice(), room.room.as_mut_slice());
+    if room.len() != 262_144 {
+        return false;
+    }
+    let left = residual(circuit, public, &drawn.script, messages, i, w, room);
+    left == forms.right(i).neg() && left.number() == number
+}
+
+// A list of pads and private inputs that are zeros, and room for residuals.
+#[derive(Drop)]
+struct Zeros<F> {
+    w: Elements<F>,
+    room: Elements<F>,
+}
+
+// So many zeros. That they are so many is tested where they are lent: a proof would write them all out.
+fn zeros_of<F: Field>(count: usize, alloc: Global) -> Result<Elements<F>, AllocError> {
+    Elements::zeros(alloc, count)
+}
+
+fn zeros_for<F: Field>(circuit: &Circuit<F>, alloc: Global) -> Result<Zeros<F>, AllocError>
+    ensures w { IfOk result (λ zeros. length zeros.w ≡ committed_count circuit.now) }
+{
+    Ok(Zeros {
+        w: Elements::zeros(alloc, Params::of(circuit).nw as usize)?,
+        room: zeros_of(262_144, alloc)?,
+    })
+}
+
 // Whether the residuals at zeros, the wanted sum and the combined coefficients are the worked ones.
 fn is_worked<F: Field>(
     circuit: &Circuit<F>,
     drawn: &Drawn<F>,
-    committed: &mut Committed<F>,
+    zeros: &mut Zeros<F>,
     combined: &mut Combined<F>,
 ) -> bool
     requires public { length drawn.now.public ≡ circuit.now.publics }
     requires messages { length drawn.now.messages ≡ sent_counts circuit.now }
     requires script { HasShape circuit.now drawn.now.script }
     requires challenges { accept.HasShape (params_of circuit.now) drawn.now.challenges }
-    requires w { length committed.old.w ≡ committed_count circuit.now }
-    requires forms { AreFormsOf F.ops circuit.now committed.old.forms }
-    requires combined_forms { AreFormsOf F.ops circuit.now combined.old.forms }
+    requires w { length zeros.old.w ≡ committed_count circuit.now }
+    requires forms { AreFormsOf F.ops circuit.now combined.old.forms }
     requires coefficients { let p = params_of circuit.now in length combined.old.coefficients ≡ (p.nrow - 3) * p.wr }
 {
-    linear_forms(
-        circuit,
-        drawn.public.as_slice(),
-        &drawn.script,
-        drawn.messages.as_slice(),
-        &mut committed.forms,
-    );
-    set_numbers(committed.w.as_mut_slice(), &[]);
-    let residuals = are_residuals(
-        circuit,
-        drawn,
-        &committed.forms,
-        committed.w.as_slice(),
-        committed.room.as_mut_slice(),
-        &RESIDUALS,
-    );
     let wanted = combine_rows(circuit, drawn, combined);
-    residuals && wanted.number() == 114 && are_standing(combined.coefficients.as_slice())
+    if circuit.depth() != 1 {
+        return false;
+    }
+    let forms = &combined.forms;
+    let first = are_alike(circuit, drawn, forms, zeros, 0, RESIDUALS[0]);
+    let second = are_alike(circuit, drawn, forms, zeros, 1, RESIDUALS[1]);
+    first && second && wanted.number() == 114 && are_standing(combined.coefficients.as_slice())
 }
 
 // The same for the square's circuit, with this script.
@@ -154,11 +189,11 @@ fn finds<F: Field>(
     requires { HasShape circuit.now script }
 {
     let mut drawn = undrawn(circuit, alloc)?;
-    let mut committed = committed_for(circuit, alloc)?;
+    let mut zeros = zeros_for(circuit, alloc)?;
     let mut combined = uncombined(circuit, alloc)?;
     set_by_hand(circuit, &mut drawn);
     drawn.script = script;
-    Ok(is_worked(circuit, &drawn, &mut committed, &mut combined))
+    Ok(is_worked(circuit, &drawn, &mut zeros, &mut combined))
 }
 
 // With the script that is set by hand.
