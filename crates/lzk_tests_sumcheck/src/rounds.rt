@@ -14,7 +14,7 @@ use std::alloc::{AllocError, Global};
 use std::test::Fail;
 
 // The first round of the square's only layer at 0, 1 and 2, with weight 1.
-fn rounds_at<F: Field>(circuit: &Circuit<F>, values: &mut Values<F>) -> Option<[u128; 3]>
+fn rounds_at(circuit: &Circuit<Gold>, values: &mut Values<Gold>) -> Option<[u128; 3]>
     requires { HaveWidths circuit.now values.old }
 {
     if circuit.publics() != 1 || circuit.privates() != 1 || circuit.depth() != 1 {
@@ -24,11 +24,12 @@ fn rounds_at<F: Field>(circuit: &Circuit<F>, values: &mut Values<F>) -> Option<[
     if circuit.width(0) != 1 || below > 131_072 || bits_of(below) == 0 {
         return None;
     }
-    let (public, private, weights) = ([F::of_word(9)], [F::of_word(3)], [F::one()]);
+    let (public, private) = ([Gold::of_word(9)], [Gold::of_word(3)]);
+    let weights = [Gold::one()];
     circuit.eval(&public, &private, values);
-    let first = plain_round(circuit, values, 0, &weights, &[], F::zero());
-    let second = plain_round(circuit, values, 0, &weights, &[], F::one());
-    let third = plain_round(circuit, values, 0, &weights, &[], F::of_word(2));
+    let first = plain_round(circuit, values, 0, &weights, &[], Gold::zero());
+    let second = plain_round(circuit, values, 0, &weights, &[], Gold::one());
+    let third = plain_round(circuit, values, 0, &weights, &[], Gold::of_word(2));
     Some([first.number(), second.number(), third.number()])
 }
 
