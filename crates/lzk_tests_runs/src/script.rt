@@ -1,6 +1,6 @@
 //! The list of runs, line by line.
 
-use crate::case::{Case, Failing, Given, Put, play};
+use crate::case::{Case, Failing, Given, Put, name_of, play};
 use crate::faults::bears;
 use crate::feeding::is_fed_alike;
 use crate::files::{Stored, bytes_of, change, number_of};
@@ -24,18 +24,23 @@ pub struct Tally {
     pub wrong: Vec<String>,
 }
 
-// A run of which nothing is known but its label and its files.
-fn begun(alloc: Global, label: &str, files: Vec<Stored>) -> Result<Case, AllocError> {
+// Nothing fails.
+fn unfailing(alloc: Global) -> Failing {
+    Failing {
+        calls: Vec::new(alloc),
+        tear: None,
+        writes: Vec::new(alloc),
+        most: 65_536,
+    }
+}
+
+// A run of which nothing is known but its label.
+fn begun(alloc: Global, label: &str) -> Result<Case, AllocError> {
     Ok(Case {
         label: String::from_str(alloc, label)?,
-        files,
+        files: Vec::new(alloc),
         words: Vec::new(alloc),
-        failing: Failing {
-            calls: Vec::new(alloc),
-            tear: None,
-            writes: Vec::new(alloc),
-            most: 65_536,
-        },
+        failing: unfailing(alloc),
         status: 0,
         text: Some(String::new(alloc)),
         parts: Vec::new(alloc),
@@ -196,16 +201,19 @@ fn judge<T: Threads + Sync>(
     Ok(played.put)
 }
 
-// The run that is played behind another one, over the files that this one left.
-fn next_of(alloc: Global, case: Case, put: Vec<u8>) -> Result<Case, AllocError> {
-    let mut files = case.files;
-    if let Some(wanted) = case.put {
-        files.push(Stored {
-            name: wanted.name,
-            bytes: put,
-        })?;
+// Makes a run the next one, over the files that it left.
+fn renew(alloc: Global, case: &mut Case, put: Vec<u8>) -> Result<(), AllocError> {
+    if case.put.is_some() {
+        let name = String::from_str(alloc, name_of(&case.put))?;
+        case.files.push(Stored { name, bytes: put })?;
     }
-    begun(alloc, &case.label, files)
+    case.words = Vec::new(alloc);
+    case.failing = unfailing(alloc);
+    case.status = 0;
+    case.text = Some(String::new(alloc));
+    case.parts = Vec::new(alloc);
+    case.put = None;
+    Ok(())
 }
 
 /// Plays all runs of a list.
@@ -226,15 +234,14 @@ pub fn played<R: Files + AllocGlobal, T: Threads + Sync>(
         fed: 0,
         wrong: Vec::new(alloc),
     };
-    let mut case = begun(alloc, "", Vec::new(alloc))?;
+    let mut case = begun(alloc, "")?;
     for line in text.lines() {
         match line.split_once(' ') {
-            Some(("run", label)) => case = begun(alloc, label, Vec::new(alloc))?,
+            Some(("run", label)) => case = begun(alloc, label)?,
             _ if ENDS.contains(&line) => {
                 let put = judge(threads, alloc, &case, line, &mut tally)?;
                 if line == "then" {
-                    let ended = std::mem::replace(&mut case, begun(alloc, "", Vec::new(alloc))?);
-                    case = next_of(alloc, ended, put)?;
+                    renew(alloc, &mut case, put)?;
                 }
             }
             _ => take(rt, &mut case, line)?,
