@@ -1,4 +1,5 @@
-//! The work that `bench/run` times: `WORK TIMES` does it so often, and prints a checksum.
+//! The work that `bench/run` and `bench/proofs` time: `WORK TIMES` does it so often, and prints a checksum; the works `prove`, `verify` and
+//! `feed` have the name of a statement before TIMES. Further works may follow.
 #![tactic(auto)]
 
 mod blocks;
@@ -7,15 +8,19 @@ mod constraints;
 mod elements;
 mod messages;
 mod proofs;
+mod provers;
 mod reducing;
 mod rows;
 mod scripts;
 mod tables;
 mod texts;
+mod transforms;
 mod trees;
 
+use lzk_afft::Transform;
 use lzk_gf128::Gf128;
 use lzk_goldilocks::Gold;
+use lzk_ntt::NttExtender;
 use std::env;
 use std::marker::Sync;
 use std::rt::Files;
@@ -51,6 +56,12 @@ fn done<R: Files + Threads + Sync + AllocGlobal>(
         "gf-extender" => rows::extenders::<Gf128>(alloc, times, 640)?,
         "gf-extend-192" => rows::extended::<Gf128>(alloc, times, 192)?,
         "gf-extend-640" => rows::extended::<Gf128>(alloc, times, 640)?,
+        "ntt-192" => transforms::extended::<Gold, NttExtender<Gold>>(alloc, times, 192)?,
+        "ntt-384" => transforms::extended::<Gold, NttExtender<Gold>>(alloc, times, 384)?,
+        "ntt-640" => transforms::extended::<Gold, NttExtender<Gold>>(alloc, times, 640)?,
+        "afft-192" => transforms::extended::<Gf128, Transform>(alloc, times, 192)?,
+        "afft-384" => transforms::extended::<Gf128, Transform>(alloc, times, 384)?,
+        "afft-640" => transforms::extended::<Gf128, Transform>(alloc, times, 640)?,
         "gold-eq" => tables::eq_tables::<Gold>(alloc, times)?,
         "gf-eq" => tables::eq_tables::<Gf128>(alloc, times)?,
         "gold-tilde" => tables::extensions::<Gold>(alloc, times)?,
@@ -75,17 +86,41 @@ fn done<R: Files + Threads + Sync + AllocGlobal>(
     Ok(Some(sum))
 }
 
+// How many works one run does at most.
+const MOST_WORKS: u32 = 100;
+
+// Whether a work is one on the files of a statement, whose name stands behind it.
+fn is_named(work: &str) -> bool {
+    work == "prove" || work == "verify" || work == "feed"
+}
+
+// How often a work is done.
+fn times_of(word: Option<String>) -> u32 {
+    match word {
+        Some(word) => word.parse::<u32>().unwrap_or(0),
+        None => 0,
+    }
+}
+
 fn main(rt: HostRuntime) -> anyhow::Result<()> {
     let mut words = env::args(&rt)?;
     let _program = words.next();
-    let work = words.next().unwrap_or(String::new(rt.alloc()));
-    let times = match words.next() {
-        Some(word) => word.parse::<u32>().unwrap_or(0),
-        None => 0,
-    };
-    match done(&rt, &work, times)? {
-        Some(sum) => println!(rt; "{work} {times}: {sum}")?,
-        None => println!(rt; "no such work")?,
+    for _ in 0..MOST_WORKS {
+        let Some(work) = words.next() else {
+            break;
+        };
+        if is_named(&work) {
+            let name = words.next().unwrap_or(String::new(rt.alloc()));
+            let times = times_of(words.next());
+            let sum = provers::done(&rt, &work, &name, times)?;
+            println!(rt; "{work} {name} {times}: {sum}")?;
+        } else {
+            let times = times_of(words.next());
+            match done(&rt, &work, times)? {
+                Some(sum) => println!(rt; "{work} {times}: {sum}")?,
+                None => println!(rt; "no such work")?,
+            }
+        }
     }
     Ok(())
 }

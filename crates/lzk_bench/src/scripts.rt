@@ -1,16 +1,18 @@
 //! What the tape draws for proofs of an independent implementation, and their constraints combined.
 
-ghost use Rattle.std.specs.Prelude.{◌≡◌};
-ghost use Rattle.lzk_layout.specs.Sizes.{AreBounded};
-ghost use Rattle.lzk_accept.specs.Challenges.{HasShape};
-ghost use Rattle.lzk_accept.specs.Kept.{AreFormsFor};
+ghost use Rattle.std.specs.Prelude.{◌≡◌, ◌≤◌, ◌-◌, ◌*◌, length, IfOk};
+ghost use Rattle.lzk_layout.specs.Sizes.{AreBounded, params_of};
+ghost use Rattle.lzk_layout.specs.Proofs.{HasLengths};
+ghost use Rattle.lzk_sumcheck.specs.Script.{HasShape};
+ghost use Rattle.lzk_accept.specs.Challenges as accept;
+ghost use Rattle.lzk_accept.specs.Kept.{AreFormsOf};
 
 use lzk_accept::{Challenges, Forms, combine, draw_challenges, linear_forms};
 use lzk_circbytes::{AnyCircuit, decode};
 use lzk_circuit::Circuit;
 use lzk_expr::read_numbers;
 use lzk_field::Field;
-use lzk_layout::{Params, Proof, decode_proof};
+use lzk_layout::{Elements, Params, Proof, decode_proof};
 use lzk_sumcheck::{LayerScript, Script, message_count, replay};
 use lzk_transcript::Tape;
 use std::alloc::{AllocError, Global};
@@ -90,21 +92,36 @@ fn challenges_joined<F: Field>(before: F, drawn: &Challenges<F>) -> F {
     joined(total, drawn.v.as_slice())
 }
 
-// The combined coefficients, and the wanted sum behind them.
-fn constraints_joined<F: Field>(
-    alloc: Global,
-    params: &Params,
-    forms: &Forms<F>,
-    challenges: &Challenges<F>,
-) -> Result<F, AllocError>
-    requires bounded { AreBounded params.now }
-    requires forms { AreFormsFor F.ops params.now forms.now }
-    requires shape { HasShape params.now challenges.now }
+// What is drawn for a proof, and room for its constraints and what is combined of them.
+#[derive(Drop)]
+struct Drawn<F> {
+    script: Script<F>,
+    challenges: Challenges<F>,
+    forms: Forms<F>,
+    coefficients: Elements<F>,
+}
+
+// Zeros for all rows from row 3 on.
+fn rows_for<F: Field>(params: &Params, alloc: Global) -> Result<Elements<F>, AllocError>
+    requires { AreBounded params.now }
+    ensures { IfOk result (λ list. length list ≡ (params.now.nrow - 3) * params.now.wr) }
 {
-    let mut a = Vec::new(alloc);
-    a.resize((params.nrow - 3) as usize * params.wr as usize, F::zero())?;
-    let wanted = combine(params, forms, challenges, &mut a);
-    Ok(next(joined(F::zero(), &a), wanted))
+    let size = (params.nrow - 3) as usize * params.wr as usize;
+    Elements::zeros(alloc, size)
+}
+
+fn undrawn<F: Field>(alloc: Global, circuit: &Circuit<F>) -> Result<Drawn<F>, AllocError>
+    ensures script { IfOk result (λ drawn. HasShape circuit.now drawn.script) }
+    ensures challenges { IfOk result (λ drawn. accept.HasShape (params_of circuit.now) drawn.challenges) }
+    ensures forms { IfOk result (λ drawn. AreFormsOf F.ops circuit.now drawn.forms) }
+    ensures coefficients { let p = params_of circuit.now in IfOk result (λ drawn. length drawn.coefficients ≡ (p.nrow - 3) * p.wr) }
+{
+    Ok(Drawn {
+        script: Script::new(alloc, circuit)?,
+        challenges: Challenges::new(alloc, &Params::of(circuit))?,
+        forms: Forms::new(alloc, circuit)?,
+        coefficients: rows_for(&Params::of(circuit), alloc)?,
+    })
 }
 
 // What is drawn for a proof before its columns, and its constraints combined.
@@ -115,26 +132,30 @@ struct Sums<F> {
 }
 
 // Both of them, each as one element. None where the proof is not of the circuit.
-fn sums_of<F: Field>(
-    alloc: Global,
+fn sums_in<F: Field>(
     circuit: &Circuit<F>,
     session: &[u8],
     public: &[F],
     proof: &[u8],
-) -> Result<Option<Sums<F>>, AllocError> {
+    read: &mut Proof<F>,
+    drawn: &mut Drawn<F>,
+) -> Option<Sums<F>>
+    requires lengths { HasLengths (params_of circuit.now) read.old }
+    requires room { 1536 ≤ read.old.path.room }
+    requires script { HasShape circuit.now drawn.old.script }
+    requires challenges { accept.HasShape (params_of circuit.now) drawn.old.challenges }
+    requires forms { AreFormsOf F.ops circuit.now drawn.old.forms }
+    requires coefficients { let p = params_of circuit.now in length drawn.old.coefficients ≡ (p.nrow - 3) * p.wr }
+{
     let params = Params::of(circuit);
-    let mut read = Proof::<F>::new(alloc, &params)?;
-    let mut script = Script::new(alloc, circuit)?;
-    let mut challenges = Challenges::new(alloc, &params)?;
-    let mut forms = Forms::new(alloc, circuit)?;
-    if decode_proof(&params, proof, &mut read).is_err() {
-        return Ok(None);
+    if decode_proof(&params, proof, read).is_err() {
+        return None;
     }
     let messages = read.messages.as_slice();
     if messages.len() != message_count(circuit) as usize
         || public.len() != circuit.publics() as usize
     {
-        return Ok(None);
+        return None;
     }
     let mut tape = Tape::new();
     tape.bytes(b"lzk1");
@@ -142,55 +163,93 @@ fn sums_of<F: Field>(
     tape.bytes(&read.id);
     tape.array(public);
     tape.bytes(&read.root);
-    replay(circuit, &mut tape, messages, &mut script);
-    draw_challenges(&params, &mut tape, &mut challenges);
-    linear_forms(circuit, public, &script, messages, &mut forms);
-    let drawn = challenges_joined(script_joined(&script), &challenges);
-    Ok(Some(Sums {
-        draws: next(drawn, tape.draw()),
-        combined: constraints_joined(alloc, &params, &forms, &challenges)?,
-    }))
+    replay(circuit, &mut tape, messages, &mut drawn.script);
+    draw_challenges(&params, &mut tape, &mut drawn.challenges);
+    linear_forms(circuit, public, &drawn.script, messages, &mut drawn.forms);
+    let wanted = combine(
+        &params,
+        &drawn.forms,
+        &drawn.challenges,
+        drawn.coefficients.as_mut_slice(),
+    );
+    let draws = challenges_joined(script_joined(&drawn.script), &drawn.challenges);
+    let combined = joined(F::zero(), drawn.coefficients.as_slice());
+    Some(Sums {
+        draws: next(draws, tape.draw()),
+        combined: next(combined, wanted),
+    })
+}
+
+// The same in room of its own.
+fn sums_of<F: Field>(
+    alloc: Global,
+    circuit: &Circuit<F>,
+    session: &[u8],
+    public: &[F],
+    proof: &[u8],
+) -> Result<Option<Sums<F>>, AllocError> {
+    let mut read = Proof::<F>::new(alloc, &Params::of(circuit))?;
+    let mut drawn = undrawn(alloc, circuit)?;
+    Ok(sums_in(circuit, session, public, proof, &mut read, &mut drawn))
 }
 
 // Whether the two of a proof are those of the table.
 fn are_joined<F: Field>(
     alloc: Global,
     circuit: &Circuit<F>,
-    session: &[u8],
-    public: &[u8],
-    proof: &[u8],
+    texts: &Texts,
     wanted: (u128, u128),
 ) -> Result<bool, AllocError> {
-    if public.len() > 4_194_304 {
+    if texts.public.len() > 4_194_304 {
         return Ok(false);
     }
-    match read_numbers::<F>(alloc, public, circuit.publics()) {
-        Ok(public) => Ok(match sums_of(alloc, circuit, session, &public, proof)? {
-            Some(found) => (found.draws.number(), found.combined.number()) == wanted,
-            None => false,
-        }),
-        Err(_) => Ok(false),
-    }
+    let Ok(public) = read_numbers::<F>(alloc, &texts.public, circuit.publics()) else {
+        return Ok(false);
+    };
+    let found = sums_of(alloc, circuit, &texts.session, &public, &texts.proof)?;
+    Ok(found.is_some_and(|sums| (sums.draws.number(), sums.combined.number()) == wanted))
+}
+
+// The files of a proof.
+#[derive(Drop)]
+struct Texts {
+    circuit: Vec<u8>,
+    session: Vec<u8>,
+    public: Vec<u8>,
+    proof: Vec<u8>,
+}
+
+// A file that lies where the program runs.
+fn read<R: Files + AllocGlobal>(rt: &R, name: &str, ending: &str) -> anyhow::Result<Vec<u8>> {
+    let alloc = rt.alloc();
+    let path = format!(in alloc; "{name}.{ending}")?;
+    Ok(fs::read(rt, path.as_str())?)
+}
+
+fn texts_of<R: Files + AllocGlobal>(rt: &R, name: &str) -> anyhow::Result<Texts> {
+    Ok(Texts {
+        circuit: read(rt, name, "lzc")?,
+        session: read(rt, name, "session")?,
+        public: read(rt, name, "txt")?,
+        proof: read(rt, name, "lzp")?,
+    })
+}
+
+// Whether a proof has the draws and combined constraints of the table.
+fn is_given(alloc: Global, texts: &Texts, wanted: (u128, u128)) -> anyhow::Result<bool> {
+    let same = match decode(alloc, &texts.circuit)? {
+        AnyCircuit::Gold(circuit) => are_joined(alloc, &circuit, texts, wanted),
+        AnyCircuit::Gf(circuit) => are_joined(alloc, &circuit, texts, wanted),
+    };
+    Ok(same?)
 }
 
 /// How many of the proofs that lie where the program runs have the draws and combined constraints of the table.
 pub fn joined_as_given<R: Files + AllocGlobal>(rt: &R) -> anyhow::Result<u128> {
-    let alloc = rt.alloc();
     let mut count = 0u128;
     for (name, draws, combined) in JOINED {
-        let wanted = (draws, combined);
-        let circuit = fs::read(rt, format!(in alloc; "{name}.lzc")?.as_str())?;
-        let session = fs::read(rt, format!(in alloc; "{name}.session")?.as_str())?;
-        let public = fs::read(rt, format!(in alloc; "{name}.txt")?.as_str())?;
-        let proof = fs::read(rt, format!(in alloc; "{name}.lzp")?.as_str())?;
-        let same = match decode(alloc, &circuit)? {
-            AnyCircuit::Gold(circuit) => {
-                are_joined(alloc, &circuit, &session, &public, &proof, wanted)?
-            }
-            AnyCircuit::Gf(circuit) => {
-                are_joined(alloc, &circuit, &session, &public, &proof, wanted)?
-            }
-        };
+        let texts = texts_of(rt, name)?;
+        let same = is_given(rt.alloc(), &texts, (draws, combined))?;
         count = count.wrapping_add(same as u128);
     }
     Ok(count)

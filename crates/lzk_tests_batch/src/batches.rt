@@ -1,7 +1,7 @@
 //! Batches of three jobs, of which the second is rejected. The verdicts wanted are those of an independent implementation.
 
 use crate::jobs::{Batch, are_fit, batch_of_three};
-use lzk_batch::{AnyVerdict, Judged, Tickets, verify_all, verify_batch};
+use lzk_batch::{AnyVerdict, Judged, Tickets, verify_batch};
 use lzk_field::{Gate, Open};
 use lzk_verify::Verdict;
 use std::alloc::Global;
@@ -18,21 +18,6 @@ const WANTED: [AnyVerdict; 3] = [
     }),
     AnyVerdict::Gold(Verdict::Accepted),
 ];
-
-// Whether so many workers give the verdicts wanted.
-fn are_wanted<R: Threads + Sync>(rt: &R, alloc: Global, batch: &Batch, workers: usize) -> bool {
-    if batch.jobs.len() > 256
-        || workers == 0
-        || workers > 64
-        || !are_fit(&batch.circuits, &batch.jobs)
-    {
-        return false;
-    }
-    match verify_all(rt, alloc, &batch.circuits, &batch.jobs, workers, &Open) {
-        Ok(verdicts) => verdicts.as_slice() == WANTED.as_slice(),
-        Err(_) => false,
-    }
-}
 
 // How often each job stands in the lists with the verdict wanted.
 fn times_wanted(lists: &[Vec<Judged>]) -> [u8; 3] {
@@ -119,15 +104,6 @@ impl Gate for Meeting {
             meet(&self.second, &self.first, &self.second_saw);
         }
     }
-}
-
-#[test]
-fn verdicts_stand_in_the_order_of_the_jobs(rt: HostRuntime) -> Result<(), Fail> {
-    let batch = batch_of_three(&rt, rt.alloc())?;
-    assert_eq!(rt; are_wanted(&rt, rt.alloc(), &batch, 1), true);
-    assert_eq!(rt; are_wanted(&rt, rt.alloc(), &batch, 2), true);
-    assert_eq!(rt; are_wanted(&rt, rt.alloc(), &batch, 7), true);
-    Ok(())
 }
 
 #[test]

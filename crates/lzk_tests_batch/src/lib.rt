@@ -1,4 +1,4 @@
-//! Tests of `lzk_batch`.
+//! Tests of `lzk_batch`: passes, tickets and gates. Lists and verdicts stand in `lzk_tests_runs`.
 //!
 //! They stand above what they test, so that it is proved once.
 #![tactic(auto)]
@@ -7,8 +7,6 @@
 mod batches;
 #[cfg(test)]
 mod jobs;
-#[cfg(test)]
-mod lists;
 #[cfg(test)]
 mod statements;
 #[cfg(test)]

@@ -85,40 +85,6 @@ fn wrong_term<F: Field>(circuit: &Circuit<F>, rows: &[Row]) -> Option<usize> {
     (next != rows.len()).then_some(next)
 }
 
-// How many terms the uppermost layer has for a number that is doubled so often.
-fn doubled(alloc: Global, times: u32) -> Result<usize, LevelError>
-    requires { times ≤ 100 }
-{
-    let mut builder = Builder::<Gold>::new(alloc, 1, 1)?;
-    let mut x = builder.private(0);
-    for _ in 0..times {
-        x = builder.combine(&[(Gold::one(), x), (Gold::one(), x)])?;
-    }
-    let y = builder.public(0);
-    let difference = builder.combine(&[(Gold::one(), x), (Gold::one().neg(), y)])?;
-    Ok(
-        builder
-            .finish(&[difference])?
-            .layer(0)
-            .terms
-            .as_slice()
-            .len(),
-    )
-}
-
-// How many layers the power with this exponent has, by products one after the other.
-fn power(alloc: Global, exponent: u32) -> Result<u32, LevelError>
-    requires { exponent ≤ 1000 }
-{
-    let mut builder = Builder::<Gf128>::new(alloc, 0, 1)?;
-    let x = builder.private(0);
-    let mut product = x;
-    for _ in 1..exponent {
-        product = builder.mul(product, x)?;
-    }
-    Ok(builder.finish(&[product])?.depth())
-}
-
 // How wide the inputs of so many nodes stand, where one is an output.
 fn wide(alloc: Global, publics: u32, privates: u32) -> Result<u32, LevelError>
     requires publics { 1 ≤ publics }
@@ -160,23 +126,8 @@ fn circuits_are_those_of_an_independent_implementation(rt: HostRuntime) -> Resul
 }
 
 #[test]
-fn limits_are_passed_by_one(rt: HostRuntime) -> Result<(), Fail> {
+fn the_limit_of_wires_is_passed_by_one(rt: HostRuntime) -> Result<(), Fail> {
     let alloc = rt.alloc();
-    assert!(rt; matches!(doubled(alloc, 18), Ok(2)));
-    assert_eq!(rt;
-        fault_of(doubled(alloc, 19)),
-        Some(LevelFault::Terms(2_097_177))
-    );
-    assert_eq!(rt;
-        fault_of(doubled(alloc, 20)),
-        Some(LevelFault::Terms(4_194_330))
-    );
-    assert_eq!(rt;
-        fault_of(doubled(alloc, 70)),
-        Some(LevelFault::Terms(u64::MAX))
-    );
-    assert!(rt; matches!(power(alloc, 513), Ok(512)));
-    assert_eq!(rt; fault_of(power(alloc, 514)), Some(LevelFault::Layers(513)));
     assert!(rt; matches!(wide(alloc, 65_535, 65_535), Ok(131_071)));
     assert_eq!(rt;
         fault_of(wide(alloc, 65_535, 65_536)),

@@ -5,12 +5,11 @@ ghost use Rattle.lzk_outside.specs.Memory.{files_of, settings_of, none_fails, si
 ghost use Rattle.lzk_cmd.specs.Chains.{AreChained};
 ghost use Rattle.lzk_cmd.specs.Sights.{texts};
 
-use crate::compiling::{CREDENTIAL, shelf_of};
 use crate::runs::words_of;
 use lzk_cmd::run;
 use lzk_field::Open;
 use lzk_outside::{MemShelf, MemSink};
-use std::alloc::Global;
+use std::alloc::{AllocError, Global};
 use std::marker::Sync;
 use std::test::Fail;
 use std::thread::Threads;
@@ -35,18 +34,26 @@ fn compile_then_eval<R: Threads + Sync>(
     run(rt, alloc, eval, shelf, out, &Open)
 }
 
+// A product of a private input is a public one.
+const SQUARE: &str = "field goldilocks\npublic y\nprivate x\nassert x*x = y\n";
+
+// A shelf with a source and its inputs.
+fn shelf_of(alloc: Global) -> Result<MemShelf, AllocError> {
+    let mut shelf = MemShelf::new(alloc, Vec::new(alloc), None);
+    shelf.add("s", SQUARE.as_bytes())?;
+    shelf.add("y", b"9\n")?;
+    shelf.add("x", b"3\n")?;
+    Ok(shelf)
+}
+
 #[test]
 fn a_source_is_compiled_and_evaluated(rt: HostRuntime) -> Result<(), Fail> {
     let alloc = rt.alloc();
-    let mut shelf = shelf_of(alloc, CREDENTIAL.as_bytes(), Vec::new(alloc))?;
-    shelf.add("year", b"2024\n")?;
-    shelf.add("birth", b"2000 0 1 1 0 0 0 0\n")?;
-    let mut out = MemSink::new(alloc, Vec::new(alloc), 7);
     let compile = words_of(alloc, "compile s c")?;
-    let eval = words_of(alloc, "eval c year birth")?;
-    assert_eq!(rt;
-        compile_then_eval(&rt, alloc, &compile, &eval, &mut shelf, &mut out),
-        0
-    );
+    let eval = words_of(alloc, "eval c y x")?;
+    let mut shelf = shelf_of(alloc)?;
+    let mut out = MemSink::new(alloc, Vec::new(alloc), 7);
+    let status = compile_then_eval(&rt, alloc, &compile, &eval, &mut shelf, &mut out);
+    assert_eq!(rt; status, 0);
     Ok(())
 }

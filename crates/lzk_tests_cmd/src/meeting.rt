@@ -1,13 +1,13 @@
 //! Two workers that wait for each other.
 
-use crate::batches::shelf_of_list;
-use crate::circuits::SQUARE;
-use crate::runs::{shelf_of, words_of};
-use lzk_cmd::run;
+use crate::runs::status_of;
 use lzk_field::Gate;
-use lzk_outside::MemSink;
+use lzk_outside::MemShelf;
+use std::alloc::{AllocError, Global};
+use std::marker::Sync;
 use std::sync::atomic::{AtomicU64, Ordering};
 use std::test::Fail;
+use std::thread::Threads;
 
 // A gate in which two workers look for each other.
 #[derive(Drop)]
@@ -31,7 +31,10 @@ fn meet(own: &AtomicU64, other: &AtomicU64, saw: &AtomicU64) {
 }
 
 impl Gate for Meeting {
-    fn enter(&self, worker: usize, _of: usize) {
+    fn enter(&self, worker: usize, of: usize) {
+        if of != 2 {
+            return;
+        }
         if worker == 0 {
             meet(&self.first, &self.second, &self.first_saw);
         } else {
@@ -51,34 +54,69 @@ impl Meeting {
     }
 }
 
+// The file of the circuit x * x = y over Goldilocks.
+const SQUARE: [u8; 53] = [
+    0x4c, 0x5a, 0x43, 0x31, 0x01, 0x01, 0x00, 0x00, 0x00, 0x01, 0x00, 0x00, 0x00, 0x01, 0x00, 0x00,
+    0x00, 0x02, 0x00, 0x00, 0x00, 0x01, 0x00, 0x00, 0x00, 0x00, 0x00, 0x00, 0x00, 0x00, 0x00, 0x00,
+    0x00, 0xff, 0xff, 0xff, 0xff, 0x01, 0x00, 0x00, 0x00, 0x02, 0x00, 0x00, 0x00, 0x00, 0x00, 0x01,
+    0x01, 0x00, 0x02, 0x00, 0x00,
+];
+
+// A shelf with a circuit, its inputs and a list of two jobs.
+fn shelf_of(alloc: Global) -> Result<MemShelf, AllocError> {
+    let mut shelf = MemShelf::new(alloc, Vec::new(alloc), None);
+    shelf.add("c", &SQUARE)?;
+    shelf.add("y", b"9")?;
+    shelf.add("x", b"3")?;
+    shelf.add("l", b"c y w\nc y w")?;
+    Ok(shelf)
+}
+
+// Plays each of these runs, with a gate of its own. The status and whether two workers met, for the first that ended otherwise or was
+// asked for a meeting and had none.
+fn first_wrong<R: Threads + Sync>(
+    rt: &R,
+    alloc: Global,
+    rows: &[(&str, bool)],
+    shelf: &mut MemShelf,
+) -> Result<Option<usize>, AllocError> {
+    for i in 0..rows.len() {
+        let (words, is_asked) = rows[i];
+        let gate = Meeting::new();
+        let status = status_of(rt, alloc, words, shelf, &gate)?;
+        let both = gate
+            .first_saw
+            .load(Ordering::SeqCst)
+            .saturating_add(gate.second_saw.load(Ordering::SeqCst));
+        if status != 0 || is_asked && both != 2 {
+            return Ok(Some(i));
+        }
+    }
+    Ok(None)
+}
+
+// The runs, and whether two workers meet in them.
+const ROWS: [(&str, bool); 5] = [
+    (
+        "prove c y x w workers=2 seed=0000000000000000000000000000000000000000000000000000000000000000",
+        true,
+    ),
+    ("batch l workers=2", true),
+    (
+        "demo 16 workers=2 seed=0000000000000000000000000000000000000000000000000000000000000000",
+        true,
+    ),
+    ("shacircuit 3 s", false),
+    (
+        "sha256 s p message=616263 workers=2 seed=0000000000000000000000000000000000000000000000000000000000000000",
+        true,
+    ),
+];
+
 #[test]
 fn two_workers_meet(rt: HostRuntime) -> Result<(), Fail> {
     let alloc = rt.alloc();
-    let gate = Meeting::new();
-    let words = words_of(
-        alloc,
-        "prove c y x w workers=2 seed=0000000000000000000000000000000000000000000000000000000000000000",
-    )?;
-    let mut shelf = shelf_of(alloc, &SQUARE, "9", "3", Vec::new(alloc))?;
-    let mut out = MemSink::new(alloc, Vec::new(alloc), 7);
-    assert_eq!(rt; run(&rt, alloc, &words, &mut shelf, &mut out, &gate), 0);
-    assert_eq!(rt; gate.first_saw.load(Ordering::SeqCst), 1);
-    assert_eq!(rt; gate.second_saw.load(Ordering::SeqCst), 1);
-    Ok(())
-}
-
-#[test]
-fn two_verifiers_meet(rt: HostRuntime) -> Result<(), Fail> {
-    let alloc = rt.alloc();
-    let gate = Meeting::new();
-    let words = words_of(alloc, "batch l workers=2")?;
-    let mut shelf = shelf_of_list(&rt, alloc, "c y w\nc y w")?;
-    let mut out = MemSink::new(alloc, Vec::new(alloc), 7);
-    assert_eq!(rt; run(&rt, alloc, &words, &mut shelf, &mut out, &gate), 0);
-    assert!(rt;
-        out.bytes() == "1: accepted\n2: accepted\nbatch: 2 accepted, 0 rejected\n".as_bytes()
-    );
-    assert_eq!(rt; gate.first_saw.load(Ordering::SeqCst), 1);
-    assert_eq!(rt; gate.second_saw.load(Ordering::SeqCst), 1);
+    let mut shelf = shelf_of(alloc)?;
+    assert_eq!(rt; first_wrong(&rt, alloc, &ROWS, &mut shelf)?, None);
     Ok(())
 }

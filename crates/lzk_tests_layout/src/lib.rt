@@ -5,12 +5,8 @@
 #![tactic(auto)]
 
 #[cfg(test)]
-mod cursors;
-#[cfg(test)]
 mod parameters;
 #[cfg(test)]
 mod places;
-#[cfg(test)]
-mod proof_files;
 #[cfg(test)]
 mod proof_vectors;

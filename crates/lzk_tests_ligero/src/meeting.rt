@@ -52,9 +52,46 @@ fn two_workers_meet(rt: HostRuntime) -> Result<(), Fail> {
     let by = seen(&rt, rt.alloc(), &SQUARE, &gate)?.by_workers;
     assert_eq!(rt; by.one, SQUARE.digest);
     assert_eq!(rt; by.two, SQUARE.digest);
+    assert_eq!(rt; by.five, SQUARE.digest);
     assert_eq!(rt; by.seven, SQUARE.digest);
     assert_eq!(rt; by.sixty_four, SQUARE.digest);
     assert_eq!(rt; gate.first_saw.load(Ordering::SeqCst), 1);
     assert_eq!(rt; gate.second_saw.load(Ordering::SeqCst), 1);
+    Ok(())
+}
+
+// A gate that counts how often each of four chunks is entered.
+#[derive(Drop)]
+struct Counting {
+    entered: [AtomicU64; 4],
+}
+
+impl Gate for Counting {
+    fn enter(&self, worker: usize, of: usize) {
+        if of != 4 {
+            return;
+        }
+        if let Some(count) = self.entered.get(worker) {
+            count.fetch_add(1, Ordering::SeqCst);
+        }
+    }
+}
+
+// Five workers share seven rows in four chunks of at most two; no other number of workers has four chunks.
+#[test]
+fn each_chunk_is_entered_once(rt: HostRuntime) -> Result<(), Fail> {
+    let gate = Counting {
+        entered: [
+            AtomicU64::new(0),
+            AtomicU64::new(0),
+            AtomicU64::new(0),
+            AtomicU64::new(0),
+        ],
+    };
+    let by = seen(&rt, rt.alloc(), &SQUARE, &gate)?.by_workers;
+    assert_eq!(rt; by.five, SQUARE.digest);
+    for count in &gate.entered {
+        assert_eq!(rt; count.load(Ordering::SeqCst), 1);
+    }
     Ok(())
 }

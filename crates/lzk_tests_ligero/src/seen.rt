@@ -12,6 +12,7 @@ use lzk_gf128::Gf128;
 use lzk_goldilocks::Gold;
 use lzk_ntt::NttExtender;
 use lzk_poly::RowExtend;
+use lzk_rows::Rows;
 use std::alloc::Global;
 use std::marker::Sync;
 use std::thread::Threads;
@@ -69,6 +70,29 @@ pub fn seen<R: Threads + Sync, G: Gate>(
             let private = [Gf128::of_word(case.private)];
             let four = [Gf128::of_word(4)];
             seen_over::<R, Gf128, Transform, G>(
+                rt, alloc, circuit, case, &public, &private, &four, gate,
+            )
+        }
+    }
+}
+
+/// What a prover for this statement over the binary field writes, whose rows are extended by sums.
+pub fn seen_by_sums<R: Threads + Sync, G: Gate>(
+    rt: &R,
+    alloc: Global,
+    case: &Case,
+    gate: &G,
+) -> Result<Written, Unseen> {
+    let Ok(held) = decode(alloc, case.circuit) else {
+        return Err(Unseen);
+    };
+    match &held {
+        AnyCircuit::Gold(_) => Err(Unseen),
+        AnyCircuit::Gf(circuit) => {
+            let public = [Gf128::of_word(case.public)];
+            let private = [Gf128::of_word(case.private)];
+            let four = [Gf128::of_word(4)];
+            seen_over::<R, Gf128, Rows<Gf128>, G>(
                 rt, alloc, circuit, case, &public, &private, &four, gate,
             )
         }

@@ -6,7 +6,7 @@ ghost use Rattle.lzk_layout.specs.Sizes.{params_of};
 use crate::changes::count_changed;
 use crate::vectors::Case;
 use lzk_circuit::Circuit;
-use lzk_field::{Field, Gate, Open, Seeded, Words};
+use lzk_field::{Field, Gate, Listed, Open, Seeded, Words};
 use lzk_layout::Params;
 use lzk_ligero::WorksOver;
 use lzk_poly::RowExtend;
@@ -18,14 +18,14 @@ use std::thread::Threads;
 /// What one prover writes in turn.
 #[derive(Clone, Copy)]
 pub struct Written {
-    /// By 1, 2, 7 and 64 workers.
+    /// By 1, 2, 5, 7 and 64 workers.
     pub by_workers: ByWorkers,
     /// For a private input of 4.
     pub of_four: [u8; 32],
-    /// Where every random word is 0.
-    pub of_zeros: [u8; 32],
-    /// Where all bits of the random words are 1.
-    pub of_ones: [u8; 32],
+    /// What `prove` writes where no random word is listed.
+    pub of_zeros: Result<[u8; 32], (u32, u128)>,
+    /// What `prove` writes of so many words, all of whose bits are 1.
+    pub of_ones: Result<[u8; 32], (u32, u128)>,
     /// How many of the changed proofs are those of the table.
     pub changed: u32,
     /// The output that `prove` names for a private input of 4, with its value's number.
@@ -39,20 +39,29 @@ pub struct Written {
 pub struct ByWorkers {
     pub one: [u8; 32],
     pub two: [u8; 32],
+    pub five: [u8; 32],
     pub seven: [u8; 32],
     pub sixty_four: [u8; 32],
 }
 
-// One word everywhere.
+// No random words, so that each is 0, and as many of the greatest as a proof of the square uses.
 #[derive(Drop)]
-struct Same(u128);
+struct Extremes {
+    none: Listed,
+    greatest: Listed,
+}
 
-impl Words for Same {
-    ghost at = { λ s i. s.0 };
+const USED: usize = 3_016;
 
-    fn word(&self, _i: u64) -> u128 {
-        self.0
-    }
+fn extremes(alloc: Global) -> Result<Extremes, AllocError> {
+    Ok(Extremes {
+        none: Listed {
+            words: Vec::new(alloc),
+        },
+        greatest: Listed {
+            words: vec![in alloc; u128::MAX; USED]?,
+        },
+    })
 }
 
 // What is written, whether the inputs satisfy the circuit or not.
@@ -78,24 +87,23 @@ fn attempted<R: Threads + Sync, F: Field, X: RowExtend<F>, W: Words, G: Gate>(
 }
 
 // What `prove` writes, or the output that it names with its value's number.
-fn answered<R: Threads + Sync, F: Field, X: RowExtend<F>>(
+fn answered<R: Threads + Sync, F: Field, X: RowExtend<F>, W: Words>(
     rt: &R,
     works: &mut WorksOver<'_, F, X>,
-    case: &Case,
+    session: &[u8],
     public: &[F],
     private: &[F],
+    words: &W,
     workers: usize,
 ) -> Result<[u8; 32], (u32, u128)>
-    requires session { length case.now.session.now ≤ 64 }
+    requires session { length session.now ≤ 64 }
     requires public { length public.now ≡ works.old.publics }
     requires private { length private.now ≡ works.old.privates }
     requires some { 1 ≤ workers }
     requires few { workers ≤ 64 }
     ensures circuit { works.new ≡ works.old }
 {
-    let words = Seeded::new(case.seed);
-    let session = case.session;
-    match works.prove(rt, session, public, private, &words, workers, &Open) {
+    match works.prove(rt, session, public, private, words, workers, &Open) {
         Ok(bytes) => Ok(Sha256::digest(bytes)),
         Err(fault) => Err((fault.output, fault.value.number())),
     }
@@ -120,6 +128,7 @@ fn by_workers<R: Threads + Sync, F: Field, X: RowExtend<F>, G: Gate>(
     ByWorkers {
         one: attempted(rt, works, session, public, private, &words, 1, gate),
         two: attempted(rt, works, session, public, private, &words, 2, gate),
+        five: attempted(rt, works, session, public, private, &words, 5, gate),
         seven: attempted(rt, works, session, public, private, &words, 7, gate),
         sixty_four: attempted(rt, works, session, public, private, &words, 64, gate),
     }
@@ -134,6 +143,7 @@ fn write_all<R: Threads + Sync, F: Field, X: RowExtend<F>, G: Gate>(
     public: &[F],
     private: &[F],
     four: &[F],
+    extremes: &Extremes,
     gate: &G,
 ) -> Written
     requires params { params.now ≡ params_of works.old }
@@ -144,15 +154,15 @@ fn write_all<R: Threads + Sync, F: Field, X: RowExtend<F>, G: Gate>(
 {
     let words = Seeded::new(case.seed);
     let session = case.session;
-    let (zeros, ones) = (Same(0), Same(u128::MAX));
+    let (none, greatest) = (&extremes.none, &extremes.greatest);
     Written {
         by_workers: by_workers(rt, works, case, public, private, gate),
         of_four: attempted(rt, works, session, public, four, &words, 2, &Open),
-        of_zeros: attempted(rt, works, session, public, private, &zeros, 2, &Open),
-        of_ones: attempted(rt, works, session, public, private, &ones, 2, &Open),
+        of_zeros: answered(rt, works, session, public, private, none, 2),
+        of_ones: answered(rt, works, session, public, private, greatest, 2),
         changed: count_changed(rt, works, params, case, public, private),
-        refused: answered(rt, works, case, public, four, 2),
-        proved: answered(rt, works, case, public, private, 64),
+        refused: answered(rt, works, session, public, four, &words, 2),
+        proved: answered(rt, works, session, public, private, &words, 64),
     }
 }
 
@@ -173,6 +183,11 @@ pub fn written_over<R: Threads + Sync, F: Field, X: RowExtend<F>, G: Gate>(
     requires four { length four.now ≡ circuit.now.privates }
 {
     let params = Params::of(circuit);
+    let extremes = extremes(alloc)?;
     let mut works = WorksOver::<F, X>::new(alloc, circuit)?;
-    Ok(write_all(rt, &mut works, &params, case, public, private, four, gate))
+    let written = write_all(
+        rt, &mut works, &params, case, public, private, four, &extremes, gate,
+    );
+    drop(works);
+    Ok(written)
 }

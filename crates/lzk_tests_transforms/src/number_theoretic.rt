@@ -12,8 +12,9 @@ use std::test::Fail;
 // How many values a row begins with, and the end of its points.
 type Row = (u32, u32);
 
-// The rows of proofs: blocks of 192, 256, 384 and 640 values, and rows of twice as many less one.
-const PROOF_ROWS: [Row; 8] = [
+// The rows of proofs: blocks of 192, 256, 384 and 640 values, and rows of twice as many less one. Then short ones, and long ones, one of
+// them to the most points.
+const ROWS: [Row; 19] = [
     (192, 1151),
     (383, 1151),
     (256, 1535),
@@ -22,10 +23,12 @@ const PROOF_ROWS: [Row; 8] = [
     (767, 2303),
     (640, 3839),
     (1279, 3839),
-];
-
-// Rows whose values are cut into several blocks, one of them of the most points.
-const LONG_ROWS: [Row; 5] = [
+    (1, 300),
+    (2, 2),
+    (3, 17),
+    (7, 8),
+    (32, 300),
+    (33, 66),
     (2048, 4400),
     (2049, 4400),
     (2100, 4400),
@@ -90,40 +93,9 @@ fn wrong_row(rows: &[Row], alloc: Global) -> Result<Option<Row>, AllocError> {
     Ok(None)
 }
 
-// The same over short rows with several ends.
-fn wrong_short_row(alloc: Global) -> Result<Option<Row>, AllocError> {
-    for n in 1..41 {
-        let rows = [
-            (n, n),
-            (n, n + 1),
-            (n, n + 2),
-            (n, 2 * n),
-            (n, 2 * n + 1),
-            (n, 6 * n - 1),
-            (n, 300),
-        ];
-        if let Some(row) = wrong_row(&rows, alloc)? {
-            return Ok(Some(row));
-        }
-    }
-    Ok(None)
-}
-
 #[test]
-fn short_rows_are_those_by_sums(rt: HostRuntime) -> Result<(), Fail> {
-    assert_eq!(rt; wrong_short_row(rt.alloc())?, None);
-    Ok(())
-}
-
-#[test]
-fn rows_of_proofs_are_those_by_sums(rt: HostRuntime) -> Result<(), Fail> {
-    assert_eq!(rt; wrong_row(&PROOF_ROWS, rt.alloc())?, None);
-    Ok(())
-}
-
-#[test]
-fn long_rows_are_those_by_sums(rt: HostRuntime) -> Result<(), Fail> {
-    assert_eq!(rt; wrong_row(&LONG_ROWS, rt.alloc())?, None);
+fn rows_are_those_by_sums(rt: HostRuntime) -> Result<(), Fail> {
+    assert_eq!(rt; wrong_row(&ROWS, rt.alloc())?, None);
     Ok(())
 }
 

@@ -1,0 +1,165 @@
+//! Provers and verifiers: `prove NAME TIMES` proves the statement of the files NAME.lzc, NAME.public and NAME.private so often,
+//! `verify NAME TIMES` verifies NAME.lzp, and `feed NAME TIMES` does so in pieces of 7 bytes.
+
+ghost use Rattle.std.specs.Prelude.{◌≡◌, ◌≤◌, true, length};
+ghost use Rattle.lzk_verify.specs.Kept.{is_fed};
+
+use lzk_afft::Transform;
+use lzk_circbytes::{AnyCircuit, decode};
+use lzk_circuit::Circuit;
+use lzk_expr::read_numbers;
+use lzk_field::{Field, Open, Seeded};
+use lzk_gf128::Gf128;
+use lzk_goldilocks::Gold;
+use lzk_ligero::WorksOver;
+use lzk_ntt::NttExtender;
+use lzk_poly::RowExtend;
+use lzk_verify::{Desk, Verdict};
+use std::alloc::{AllocError, Global};
+use std::fs;
+use std::marker::Sync;
+use std::rt::Files;
+use std::thread::Threads;
+
+const SEED: [u8; 32] = [0; 32];
+
+// A prover's last bytes, added, for as many times.
+fn prove_often<R: Threads + Sync, F: Field, X: RowExtend<F>>(
+    rt: &R,
+    works: &mut WorksOver<'_, F, X>,
+    public: &[F],
+    private: &[F],
+    times: u32,
+) -> u128
+    requires public { length public.now ≡ works.old.publics }
+    requires private { length private.now ≡ works.old.privates }
+{
+    let words = Seeded::new(SEED);
+    let mut sum = 0u128;
+    for _ in 0..times {
+        let bytes = works.attempt(rt, &[], public, private, &words, 1, &Open);
+        if let Some(last) = bytes.last() {
+            sum = sum.wrapping_add(u128::from(*last));
+        }
+    }
+    sum
+}
+
+// The same of a circuit.
+fn proved<R: Threads + Sync, F: Field, X: RowExtend<F>>(
+    rt: &R,
+    alloc: Global,
+    circuit: &Circuit<F>,
+    inputs: &Texts,
+    times: u32,
+) -> Result<u128, AllocError> {
+    if inputs.public.len() > 4_194_304 || inputs.private.len() > 4_194_304 {
+        return Ok(0);
+    }
+    let (Ok(public), Ok(private)) = (
+        read_numbers::<F>(alloc, &inputs.public, circuit.publics()),
+        read_numbers::<F>(alloc, &inputs.private, circuit.privates()),
+    ) else {
+        return Ok(0);
+    };
+    let mut works = WorksOver::<F, X>::new(alloc, circuit)?;
+    Ok(prove_often(rt, &mut works, &public, &private, times))
+}
+
+// How often a proof is accepted, as a whole.
+fn verify_often<F: Field>(desk: &mut Desk<'_, F>, public: &[F], proof: &[u8], times: u32) -> u128
+    requires public { length public.now ≡ desk.old.circuit.publics }
+    ensures circuit { desk.new.circuit ≡ desk.old.circuit }
+{
+    let mut count = 0u128;
+    for _ in 0..times {
+        if desk.verify(&[], public, proof) == Verdict::Accepted {
+            count = count.wrapping_add(1);
+        }
+    }
+    count
+}
+
+// The same in pieces of 7 bytes.
+fn feed_often<F: Field>(desk: &mut Desk<'_, F>, public: &[F], proof: &[u8], times: u32) -> u128
+    requires public { length public.now ≡ desk.old.circuit.publics }
+    ensures circuit { desk.new.circuit ≡ desk.old.circuit }
+{
+    let mut count = 0u128;
+    for _ in 0..times {
+        desk.open(&[], public);
+        for piece in proof.chunks(7) {
+            desk.feed(piece);
+        }
+        if desk.end() == Verdict::Accepted {
+            count = count.wrapping_add(1);
+        }
+    }
+    count
+}
+
+// The same of a circuit.
+fn verified<F: Field>(
+    alloc: Global,
+    circuit: &Circuit<F>,
+    inputs: &Texts,
+    is_fed: bool,
+    times: u32,
+) -> Result<u128, AllocError> {
+    if inputs.public.len() > 4_194_304 {
+        return Ok(0);
+    }
+    let Ok(public) = read_numbers::<F>(alloc, &inputs.public, circuit.publics()) else {
+        return Ok(0);
+    };
+    let mut desk = Desk::new(alloc, circuit)?;
+    Ok(if is_fed {
+        feed_often(&mut desk, &public, &inputs.proof, times)
+    } else {
+        verify_often(&mut desk, &public, &inputs.proof, times)
+    })
+}
+
+// The files of a statement and its proof, beside the circuit.
+#[derive(Drop)]
+struct Texts {
+    public: Vec<u8>,
+    private: Vec<u8>,
+    proof: Vec<u8>,
+}
+
+// A file that lies where the program runs; without one, no bytes.
+fn read<R: Files + AllocGlobal>(rt: &R, name: &str, ending: &str) -> Result<Vec<u8>, AllocError> {
+    let alloc = rt.alloc();
+    let path = format!(in alloc; "{name}.{ending}")?;
+    Ok(fs::read(rt, path.as_str()).unwrap_or(Vec::new(alloc)))
+}
+
+/// The checksum of a work on a statement's files, done so often.
+pub fn done<R: Files + AllocGlobal + Threads + Sync>(
+    rt: &R,
+    work: &str,
+    name: &str,
+    times: u32,
+) -> anyhow::Result<u128> {
+    let alloc = rt.alloc();
+    let file = read(rt, name, "lzc")?;
+    let texts = Texts {
+        public: read(rt, name, "public")?,
+        private: read(rt, name, "private")?,
+        proof: read(rt, name, "lzp")?,
+    };
+    let sum = match (decode(alloc, &file)?, work) {
+        (AnyCircuit::Gold(circuit), "prove") => {
+            proved::<R, Gold, NttExtender<Gold>>(rt, alloc, &circuit, &texts, times)?
+        }
+        (AnyCircuit::Gf(circuit), "prove") => {
+            proved::<R, Gf128, Transform>(rt, alloc, &circuit, &texts, times)?
+        }
+        (AnyCircuit::Gold(circuit), _) => {
+            verified(alloc, &circuit, &texts, work == "feed", times)?
+        }
+        (AnyCircuit::Gf(circuit), _) => verified(alloc, &circuit, &texts, work == "feed", times)?,
+    };
+    Ok(sum)
+}

@@ -1,9 +1,0 @@
-//! The program `zk`, run where a proof is accepted.
-#![tactic(auto)]
-
-use lzk_main::run_program;
-use std::process::ExitCode;
-
-fn main(rt: HostRuntime) -> ExitCode {
-    run_program(&rt, &rt)
-}

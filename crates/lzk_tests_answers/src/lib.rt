@@ -1,8 +1,0 @@
-//! Tests of `lzk_answers`, over both fields and through the bound.
-//!
-//! They stand above what they test, so that a generic crate lists no field and a field's change proves
-//! none of them again.
-#![tactic(auto)]
-
-#[cfg(test)]
-mod answers;

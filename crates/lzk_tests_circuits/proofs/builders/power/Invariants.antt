@@ -1,6 +1,0 @@
-use Rattle.std.proofs.Common.{◌≡◌}
-use Rattle.lzk_level.specs.Nodes.{node_count, IsNode}
-use Rattle.lzk_tests_circuits.proofs.builders.power.Given as goal
-
-abbrev pub invariant-loop : goal.invariant-loop
-invariant-loop l = (node_count l.builder ≡ l.counter) × IsNode (node_count l.builder) l.x × IsNode (node_count l.builder) l.product

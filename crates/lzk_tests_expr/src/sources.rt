@@ -1,0 +1,83 @@
+//! Printed sources, and the limit of names.
+
+use crate::prints::PRINTS;
+use lzk_expr::{SourceError, SourceFault, SourceKind, parse, print};
+use std::alloc::{AllocError, Global};
+
+// The largest text that may be read.
+const LIMIT: usize = 4_194_304;
+
+// The fault of a text, if it has one; and Limit at line 0 where it was not read.
+fn fault_of(alloc: Global, text: &[u8]) -> Option<SourceFault> {
+    let unread = Some(SourceFault {
+        line: 0,
+        kind: SourceKind::Limit,
+    });
+    if text.len() > LIMIT {
+        return unread;
+    }
+    match parse(alloc, text) {
+        Ok(_) => None,
+        Err(SourceError::Fault(fault)) => Some(fault),
+        Err(SourceError::OutOfMemory) => unread,
+    }
+}
+
+// The printed text of a text's source.
+fn printed(alloc: Global, text: &[u8]) -> Option<Vec<u8>> {
+    if text.len() > LIMIT {
+        return None;
+    }
+    let source = parse(alloc, text).ok()?;
+    print(alloc, &source).ok()
+}
+
+// Whether a text's source is printed so.
+fn prints_as(alloc: Global, text: &[u8], wanted: &[u8]) -> bool {
+    match printed(alloc, text) {
+        Some(found) => found.as_slice() == wanted,
+        None => false,
+    }
+}
+
+// The first row whose source is not printed so, or whose printed text is another source.
+fn first_misprinted(alloc: Global, rows: &[(&[u8], &[u8])]) -> Option<usize> {
+    for (i, row) in rows.iter().enumerate() {
+        if !prints_as(alloc, row.0, row.1) || !prints_as(alloc, row.1, row.1) {
+            return Some(i);
+        }
+    }
+    None
+}
+
+// A text of so many private names, each on its own line, and an assert.
+fn private_names(alloc: Global, count: u32) -> Result<Vec<u8>, AllocError> {
+    let mut text = Vec::new(alloc);
+    text.extend_from_slice(b"field goldilocks\n")?;
+    for i in 0..count {
+        text.extend_from_slice(b"private x")?;
+        let number = i.to_string(alloc)?;
+        text.extend_from_slice(number.as_bytes())?;
+        text.push(b'\n')?;
+    }
+    text.extend_from_slice(b"assert x0 = 1\n")?;
+    Ok(text)
+}
+
+fn at(line: u32, kind: SourceKind) -> Option<SourceFault> {
+    Some(SourceFault { line, kind })
+}
+
+#[test]
+fn sources_are_printed(rt: HostRuntime) {
+    assert_eq!(rt; first_misprinted(rt.alloc(), &PRINTS), None);
+}
+
+#[test]
+fn names_have_their_limit(rt: HostRuntime) -> Result<(), AllocError> {
+    let most = private_names(rt.alloc(), 65_536)?;
+    assert_eq!(rt; fault_of(rt.alloc(), &most), None);
+    let more = private_names(rt.alloc(), 65_537)?;
+    assert_eq!(rt; fault_of(rt.alloc(), &more), at(65_538, SourceKind::Limit));
+    Ok(())
+}
