@@ -22,6 +22,9 @@
 
 mod memory;
 mod outside;
+#[cfg(test)]
+mod puts_tests;
+mod putting;
 mod real;
 #[cfg(test)]
 mod tests;

@@ -5,11 +5,12 @@ ghost use Rattle.lzk_outside.specs.Outside.{Counts};
 ghost use Rattle.lzk_outside.specs.Tallies.{no_tally, tally_after_read, tally_after_put, faults_after_write};
 
 use crate::outside::{PutFault, Shelf, ShelfFault, Sink, SinkFault};
+use crate::putting::put_at;
 use std::alloc::Global;
-use std::fs::{File, OpenFile};
+use std::fs::File;
+use std::io;
 use std::io::{ErrorKind, Read, Seek, SeekFrom, Write};
 use std::rt::Files;
-use std::{fs, io};
 
 // A file that is read on in order, and the place of its next byte. The name is None where there was no
 // memory to keep it: the file is then opened anew.
@@ -101,51 +102,6 @@ fn read_on<R: Files>(
     Ok(count)
 }
 
-// Whether a name may be replaced by another file: it is a plain file, or nothing is there. A device or a pipe is
-// written to as it is.
-fn is_replaceable<R: Files>(rt: &R, name: &str) -> bool {
-    match fs::symlink_metadata(rt, name) {
-        Ok(known) => known.is_file(),
-        Err(e) => e.kind() == ErrorKind::NotFound,
-    }
-}
-
-// A new file beside a name, if the name may be replaced and a file can be made there.
-fn file_beside<R: Files>(rt: &R, alloc: Global, name: &str) -> Option<(String, R::File)> {
-    if !is_replaceable(rt, name) {
-        return None;
-    }
-    let beside = format!(in alloc; "{name}.part").ok()?;
-    let file = File::create(rt, &beside).ok()?;
-    Some((beside, file))
-}
-
-// Writes a file whole and down to the disk, and then takes it for the name.
-fn fill<R: Files>(
-    rt: &R,
-    name: &str,
-    beside: &str,
-    mut file: R::File,
-    bytes: &[u8],
-) -> io::Result<()> {
-    file.write_all(bytes)?;
-    file.sync_all()?;
-    fs::rename(rt, beside, name)
-}
-
-// Makes a name hold these bytes. A stop in the middle leaves the old file whole, but where no file can be made
-// beside it: it is then written over in place.
-fn put_at<R: Files>(rt: &R, alloc: Global, name: &str, bytes: &[u8]) -> io::Result<()> {
-    let Some((beside, file)) = file_beside(rt, alloc, name) else {
-        return fs::write(rt, name, bytes);
-    };
-    let filled = fill(rt, name, &beside, file, bytes);
-    if filled.is_err() {
-        let _removed = fs::remove_file(rt, &beside);
-    }
-    filled
-}
-
 impl<R: Files + Drop> Shelf for DiskShelf<R> {
     ghost use Rattle.lzk_outside.specs.Real.{tally_of};
 
@@ -188,8 +144,9 @@ impl<R: Files + Drop> Shelf for DiskShelf<R> {
         }
     }
 
-    /// Writes the whole file anew: beside the old one under the name with `.part` behind it, which then takes its
-    /// place; or in place, where that cannot be done. Every error is a failure.
+    /// Writes the whole file anew, with the old one's permissions: beside it under a name that is free, as `NAME.0.part`,
+    /// which then takes its place. A device, a pipe or what a link leads to is written in place, and so is a file where
+    /// none may be made beside it. Every error is a failure.
     fn put(&mut self, name: &str, bytes: &[u8]) -> Result<(), PutFault>
         ensures cause { Counts (result ≡ Err PutFault.Failed)
             (tally_of self.old).put_faults (tally_of self.new).put_faults }

@@ -106,7 +106,7 @@ fn disk_puts_and_reads(rt: HostRuntime) -> Result<(), Fail> {
     assert_eq!(rt; read_four(&mut shelf, name, 3), (Ok(2), *b"lo\0\0"));
     assert_eq!(rt; read_four(&mut shelf, name, 5), END);
     assert_eq!(rt; read_four(&mut shelf, name, 6), END);
-    assert!(rt; fs::metadata(&rt, "lzk_outside_disk_test.part").is_err());
+    assert!(rt; fs::metadata(&rt, "lzk_outside_disk_test.0.part").is_err());
 
     // Read on in order, then from the front again.
     assert_eq!(rt; read_four(&mut shelf, name, 0), (Ok(4), *b"hell"));

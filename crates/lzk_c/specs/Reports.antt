@@ -1,0 +1,83 @@
+-- What a report has, for each verdict and refusal.
+use Rattle.std.specs.Prelude.{ℕ, Result, Ok, Err, replicate}
+use Rattle.std.specs.Int.{w128, to_le_bytes}
+use Rattle.lzk_c.specs.declared.report.Report.{Report}
+use Rattle.lzk_c.specs.declared.refusal.Refusal.{Refusal}
+use Rattle.lzk_c.specs.declared.refusal.Refusal.TheVariants.{NoCircuit, TooLong, NoNumbers, OutOfMemory}
+use Rattle.lzk_circbytes.specs.declared.fault.ByteKind.{ByteKind}
+use Rattle.lzk_circbytes.specs.declared.fault.ByteKind.TheVariants as circuits
+use Rattle.lzk_expr.specs.declared.fault.NumberKind.{NumberKind}
+use Rattle.lzk_expr.specs.declared.fault.NumberKind.TheVariants as numbers
+use Rattle.lzk_layout.specs.declared.fault.ProofKind.{ProofKind}
+use Rattle.lzk_layout.specs.declared.fault.ProofKind.TheVariants as proofs
+use Rattle.lzk_verify.specs.declared.verdict.Verdict.{Verdict}
+use Rattle.lzk_verify.specs.declared.verdict.Verdict.TheVariants.{Accepted, Format, CircuitId, PathCount, Root, LowDegree, LinearSum, Linear, Quadratic}
+
+-- an answer alone
+abbrev pub told : ℕ → Report
+told answer = record {
+  answer = answer;
+  check = 0;
+  kind = 0;
+  line = 0;
+  offset = 0;
+  column = 0;
+  found_count = 0;
+  needed_count = 0;
+  found_digest = replicate 32 0;
+  found_sum = replicate 16 0;
+  wanted_sum = replicate 16 0;
+}
+
+-- rejected, and this check is the first that fails
+abbrev pub failed : ℕ → Report
+failed check = record (told 1) { check = check }
+
+-- ---- the numbers of rules, in the order in which they are declared
+
+abbrev pub proof_kind : ProofKind → ℕ
+proof_kind proofs.Truncated = 1
+proof_kind proofs.Magic = 2
+proof_kind proofs.Element = 3
+proof_kind proofs.PathLimit = 4
+proof_kind proofs.Trailing = 5
+
+abbrev pub circuit_kind : ByteKind → ℕ
+circuit_kind circuits.Truncated = 1
+circuit_kind circuits.Magic = 2
+circuit_kind circuits.FieldId = 3
+circuit_kind circuits.Limit = 4
+circuit_kind circuits.Varint = 5
+circuit_kind circuits.Order = 6
+circuit_kind circuits.Range = 7
+circuit_kind circuits.Constant = 8
+circuit_kind circuits.Trailing = 9
+
+abbrev pub number_kind : NumberKind → ℕ
+number_kind numbers.Syntax = 1
+number_kind numbers.TooLarge = 2
+number_kind numbers.TooFew = 3
+number_kind numbers.TooMany = 4
+
+-- ---- the reports
+
+abbrev pub verdict_report : Verdict ℕ → Report
+verdict_report Accepted = told 0
+verdict_report (Format fault) = record (failed 1) { kind = proof_kind fault.kind; offset = fault.offset }
+verdict_report (CircuitId found) = record (failed 2) { found_digest = found }
+verdict_report (PathCount found needed) = record (failed 3) { found_count = found; needed_count = needed }
+verdict_report (Root found) = record (failed 4) { found_digest = found }
+verdict_report (LowDegree column) = record (failed 5) { column = column }
+verdict_report (LinearSum found wanted) = record (failed 6) { found_sum = to_le_bytes w128 found; wanted_sum = to_le_bytes w128 wanted }
+verdict_report (Linear column) = record (failed 7) { column = column }
+verdict_report (Quadratic column) = record (failed 8) { column = column }
+
+abbrev pub refusal_report : Refusal → Report
+refusal_report TooLong = told 2
+refusal_report (NoCircuit fault) = record (told 3) { kind = circuit_kind fault.kind; offset = fault.offset }
+refusal_report (NoNumbers fault) = record (told 4) { kind = number_kind fault.kind; line = fault.line }
+refusal_report OutOfMemory = told 6
+
+abbrev pub report_of : Result (Verdict ℕ) Refusal → Report
+report_of (Ok verdict) = verdict_report verdict
+report_of (Err refusal) = refusal_report refusal

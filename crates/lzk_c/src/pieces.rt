@@ -1,0 +1,112 @@
+//! A proof that lies in pieces.
+
+ghost use Rattle.std.specs.Prelude.{◌≡◌, ◌≤◌, true, ℕ, List, ◌++◌, length};
+ghost use Rattle.lzk_circbytes.specs.Files.{id_of};
+ghost use Rattle.lzk_field.specs.Coding.{coding};
+ghost use Rattle.lzk_verify.specs.Kept as kept;
+ghost use Rattle.lzk_verify.specs.Kept.{Stands};
+ghost use Rattle.lzk_verify.specs.Verdict.{IsVerdict};
+ghost use Rattle.lzk_c.specs.Answers as spec;
+ghost use Rattle.lzk_c.specs.Answers.{SaysOver, SaysOf, Says, joined};
+
+use crate::refusal::Refusal;
+use crate::verifying::{circuit_of, numbered, publics_of};
+use lzk_circbytes::{AnyCircuit, id_of_file};
+use lzk_circuit::Circuit;
+use lzk_field::Field;
+use lzk_verify::{Desk, Verdict};
+use std::alloc::Global;
+
+/// Some bytes of a proof.
+#[repr(C)]
+#[derive(Clone, Copy)]
+pub struct Piece<'a> {
+    /// A pointer to them and their number.
+    pub bytes: &'a [u8],
+}
+
+// Feeds a desk all pieces.
+fn feed_pieces<F: Field>(desk: &mut Desk<'_, F>, pieces: &[Piece<'_>])
+    requires fed { kept.is_fed desk.old ≡ true }
+    ensures stands { let e = coding F.element F.number_of F.BYTES F.size F.ID in
+        (session : List ℕ) (public : List F) (bytes : List ℕ) → Stands F.ops e session public bytes desk.old → Stands F.ops e session public (bytes ++ joined pieces.now) desk.new }
+    ensures fed { kept.is_fed desk.new ≡ true }
+    ensures circuit { desk.new.circuit ≡ desk.old.circuit }
+{
+    for piece in pieces {
+        desk.feed(piece.bytes);
+    }
+}
+
+// The verdict on all pieces.
+fn verdict_on<F: Field>(
+    desk: &mut Desk<'_, F>,
+    session: &[u8],
+    public: &[F],
+    pieces: &[Piece<'_>],
+) -> Verdict<F>
+    requires session { length session.now ≤ 64 }
+    requires public { length public.now ≡ desk.old.circuit.publics }
+    ensures { IsVerdict F.ops (coding F.element F.number_of F.BYTES F.size F.ID) desk.old.circuit session.now public.now (joined pieces.now) result }
+{
+    desk.open(session, public);
+    feed_pieces(desk, pieces);
+    desk.end()
+}
+
+// The verdict, by a desk of its own.
+fn verify_over<F: Field>(
+    alloc: Global,
+    circuit: &Circuit<F>,
+    id: [u8; 32],
+    public: &[u8],
+    session: &[u8],
+    pieces: &[Piece<'_>],
+) -> Result<Verdict<u128>, Refusal>
+    requires id { id ≡ id_of (coding F.element F.number_of F.BYTES F.size F.ID) circuit.now }
+    ensures { SaysOver F.ops (coding F.element F.number_of F.BYTES F.size F.ID) circuit.now public.now session.now (joined pieces.now) result }
+{
+    let publics = match publics_of(alloc, circuit, public, session) {
+        Ok(publics) => publics,
+        Err(refusal) => return Err(refusal),
+    };
+    match Desk::with_id(alloc, circuit, id) {
+        Ok(mut desk) => { Ok(numbered(verdict_on(&mut desk, session, &publics, pieces))) }
+        Err(_) => Err(Refusal::OutOfMemory),
+    }
+}
+
+// The verdict over a circuit over either field.
+fn verify_any(
+    alloc: Global,
+    circuit: &AnyCircuit,
+    bytes: &[u8],
+    public: &[u8],
+    session: &[u8],
+    pieces: &[Piece<'_>],
+) -> Result<Verdict<u128>, Refusal>
+    requires { spec.IsRead circuit.now bytes.now }
+    ensures { SaysOf circuit.now public.now session.now (joined pieces.now) result }
+{
+    let id = id_of_file(bytes);
+    match circuit {
+        AnyCircuit::Gold(c) => verify_over(alloc, c, id, public, session, pieces),
+        AnyCircuit::Gf(c) => verify_over(alloc, c, id, public, session, pieces),
+    }
+}
+
+/// The verdict on a proof in pieces, over a circuit's file. The pieces are read where they lie.
+pub fn verify_pieces(
+    alloc: Global,
+    circuit: &[u8],
+    public: &[u8],
+    session: &[u8],
+    pieces: &[Piece<'_>],
+) -> Result<Verdict<u128>, Refusal>
+    ensures { Says circuit.now public.now session.now (joined pieces.now) result }
+{
+    match circuit_of(alloc, circuit) {
+        Ok(any) => verify_any(alloc, &any, circuit, public, session, pieces),
+        Err(refusal) => Err(refusal),
+    }
+}
