@@ -1,0 +1,3 @@
+pub mod Demos
+pub mod Hashes
+pub mod Proves
