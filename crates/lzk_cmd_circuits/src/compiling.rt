@@ -13,7 +13,7 @@ ghost use Rattle.lzk_cmd_circuits.specs.CircuitSteps.{Compiles};
 
 use lzk_circbytes::{AnyCircuit, encode};
 use lzk_circuit::Circuit;
-use lzk_cmd_files::{TEXT_LIMIT, Ending, Halt, Means, lines, put_file, read_file};
+use lzk_cmd_files::{Ending, Halt, Means, TEXT_LIMIT, lines, put_file, read_file};
 use lzk_expr::{Source, SourceError, parse};
 use lzk_field::{Field, Gate};
 use lzk_level::{LevelError, compile};
@@ -32,10 +32,7 @@ fn source_of(alloc: Global, name: &str, text: &[u8]) -> Result<Source, Halt>
         Err(SourceError::OutOfMemory) => Err(Halt::Memory),
         Err(SourceError::Fault(fault)) => {
             let text = lines::refuse_source(alloc, name, fault)?;
-            Err(Halt::End(Ending {
-                status: 3,
-                text,
-            }))
+            Err(Halt::End(Ending { status: 3, text }))
         }
     }
 }
@@ -100,10 +97,7 @@ fn compiled(
         Err(LevelError::OutOfMemory) => Err(Halt::Memory),
         Err(LevelError::Fault(fault)) => {
             let text = lines::refuse_level(alloc, name, fault)?;
-            Err(Halt::End(Ending {
-                status: 3,
-                text,
-            }))
+            Err(Halt::End(Ending { status: 3, text }))
         }
     }
 }

@@ -8,11 +8,11 @@
 #![tactic(auto)]
 
 mod compiling;
-mod eval;
+mod evaluating;
 mod sha_circuits;
-mod show;
+mod showing;
 
 pub use compiling::compile_source;
-pub use eval::eval;
+pub use evaluating::eval;
 pub use sha_circuits::shacircuit;
-pub use show::show;
+pub use showing::show;

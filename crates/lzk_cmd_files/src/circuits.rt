@@ -6,9 +6,9 @@ ghost use Rattle.lzk_cmd_files.specs.Decoded.{circuit_files};
 ghost use Rattle.lzk_cmd_files.specs.Seen.{seen};
 ghost use Rattle.lzk_cmd_files.specs.Walks.{Decodes, Gives, OnlyReads};
 
-use crate::lines;
 use crate::ending::{Ending, Halt};
 use crate::files::{CIRCUIT_LIMIT, read_file};
+use crate::lines;
 use lzk_circbytes::{AnyCircuit, DecodeError, decode, id_of_file};
 use lzk_outside::Shelf;
 use std::alloc::Global;
@@ -22,10 +22,7 @@ pub fn circuit_of(alloc: Global, name: &str, bytes: &[u8]) -> Result<AnyCircuit,
         Err(DecodeError::OutOfMemory) => Err(Halt::Memory),
         Err(DecodeError::Fault(fault)) => {
             let text = lines::refuse_circuit(alloc, name, fault)?;
-            Err(Halt::End(Ending {
-                status: 3,
-                text,
-            }))
+            Err(Halt::End(Ending { status: 3, text }))
         }
     }
 }

@@ -4,8 +4,8 @@ ghost use Rattle.std.specs.Prelude.{◌<◌, ◌≤◌, ◌^◌, length, IfOk, s
 ghost use Rattle.lzk_cmd_files.specs.Seen.{seen};
 ghost use Rattle.lzk_cmd_files.specs.Walks.{GivesBytes, Moves, OnlyReads, Puts};
 
-use crate::lines;
 use crate::ending::{Ending, Halt};
+use crate::lines;
 use crate::load::{LoadFault, load};
 use lzk_outside::{PutFault, Shelf};
 use std::alloc::Global;
@@ -36,24 +36,15 @@ pub fn read_file<S: Shelf>(
         Err(LoadFault::OutOfMemory) => Err(Halt::Memory),
         Err(LoadFault::Failed) => {
             let text = lines::tell_reading(alloc, name)?;
-            Err(Halt::End(Ending {
-                status: 4,
-                text,
-            }))
+            Err(Halt::End(Ending { status: 4, text }))
         }
         Err(LoadFault::Missing) => {
             let text = lines::tell_missing(alloc, name)?;
-            Err(Halt::End(Ending {
-                status: 3,
-                text,
-            }))
+            Err(Halt::End(Ending { status: 3, text }))
         }
         Err(LoadFault::TooLarge) => {
             let text = lines::tell_larger(alloc, name, limit)?;
-            Err(Halt::End(Ending {
-                status: 3,
-                text,
-            }))
+            Err(Halt::End(Ending { status: 3, text }))
         }
     }
 }
@@ -71,10 +62,7 @@ pub fn put_file<S: Shelf>(
 {
     let fault = lines::tell_writing(alloc, name)?;
     match shelf.put(name, bytes) {
-        Ok(()) => Ok(Ending {
-            status: 0,
-            text,
-        }),
+        Ok(()) => Ok(Ending { status: 0, text }),
         Err(PutFault::Failed) => Ok(Ending {
             status: 5,
             text: fault,

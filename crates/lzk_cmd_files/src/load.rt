@@ -9,7 +9,7 @@ use lzk_outside::{Shelf, ShelfFault};
 use std::alloc::Global;
 
 /// Why a file was not read.
-#[derive(Clone, Copy, Debug, PartialEq, Eq)]
+#[derive(Clone, Copy)]
 pub enum LoadFault {
     Missing,
     TooLarge,

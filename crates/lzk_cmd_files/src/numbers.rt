@@ -5,9 +5,9 @@ ghost use Rattle.lzk_cmd_files.specs.Decoded.{number_files};
 ghost use Rattle.lzk_cmd_files.specs.Seen.{seen};
 ghost use Rattle.lzk_cmd_files.specs.Walks.{Decodes, Gives, OnlyReads};
 
-use crate::lines;
 use crate::ending::{Ending, Halt};
 use crate::files::{TEXT_LIMIT, read_file};
+use crate::lines;
 use lzk_expr::{NumberError, read_numbers};
 use lzk_field::Field;
 use lzk_outside::Shelf;
@@ -29,10 +29,7 @@ pub fn elements_of<F: Field>(
         Err(NumberError::OutOfMemory) => Err(Halt::Memory),
         Err(NumberError::Fault(fault)) => {
             let text = lines::refuse_numbers(alloc, name, fault)?;
-            Err(Halt::End(Ending {
-                status: 3,
-                text,
-            }))
+            Err(Halt::End(Ending { status: 3, text }))
         }
     }
 }

@@ -7,10 +7,10 @@
 //! ```
 #![tactic(auto)]
 
-mod demo;
+mod demos;
 mod hashing;
 mod proving;
 
-pub use demo::demo;
+pub use demos::demo;
 pub use hashing::sha256;
 pub use proving::prove;

@@ -4,7 +4,7 @@ ghost use Rattle.std.specs.Prelude.{◌≡◌};
 ghost use Rattle.lzk_cmd_words.specs.Table as table;
 
 /// A command's word.
-#[derive(Clone, Copy, Debug, PartialEq, Eq)]
+#[derive(Clone, Copy)]
 pub enum Verb {
     Eval,
     Compile,
@@ -18,7 +18,7 @@ pub enum Verb {
 }
 
 /// What the first name is: a file, the number of inputs of a demo, or the number of bytes of a message.
-#[derive(Clone, Copy, Debug, PartialEq, Eq)]
+#[derive(Clone, Copy)]
 pub enum First {
     File,
     Inputs,
@@ -26,7 +26,7 @@ pub enum First {
 }
 
 /// Whether a key may stand behind the names.
-#[derive(Clone, Copy, Debug, PartialEq, Eq)]
+#[derive(Clone, Copy)]
 pub enum Stands {
     Never,
     Maybe,
@@ -34,7 +34,7 @@ pub enum Stands {
 }
 
 /// A row: how many names a command has, what the first is, and which keys stand behind them.
-#[derive(Clone, Copy, Debug, PartialEq, Eq)]
+#[derive(Clone, Copy)]
 pub struct Row {
     pub names: usize,
     pub first: First,

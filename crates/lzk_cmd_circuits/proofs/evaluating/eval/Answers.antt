@@ -7,7 +7,7 @@ use Rattle.lzk_cmd_circuits.specs.Evaluated.{EvalAny, EvalRun}
 use Rattle.lzk_cmd_files.specs.Seen.{seen}
 use Rattle.lzk_cmd_files.proofs.Laws as laws
 use Rattle.lzk_cmd_files.proofs.Steps.{ends, then}
-use Rattle.lzk_cmd_circuits.proofs.eval.eval.Goals as goal
+use Rattle.lzk_cmd_circuits.proofs.evaluating.eval.Goals as goal
 
 -- the walk that has the circuit
 abbrev next : List ℕ → List ℕ → Files → Stop → End → AnyCircuit → Type 0

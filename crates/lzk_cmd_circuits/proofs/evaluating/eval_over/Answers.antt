@@ -6,7 +6,7 @@ use Rattle.lzk_cmd_circuits.specs.CircuitSteps.{IsEvaluation}
 use Rattle.lzk_cmd_circuits.proofs.Evals.{WithInputs, evaluates}
 use Rattle.lzk_cmd_files.proofs.Inputs.{no_publics, no_privates, with_inputs}
 use Rattle.lzk_cmd_circuits.proofs.Outputs.{outputs_are}
-use Rattle.lzk_cmd_circuits.proofs.eval.eval_over.Goals as goal
+use Rattle.lzk_cmd_circuits.proofs.evaluating.eval_over.Goals as goal
 
 pub returns-in_err-publics-clause-walks : goal.returns-in_err-publics-clause-walks
 unfolding EvalOver

@@ -3,7 +3,7 @@ use Rattle.lzk_circuit.specs.Wires.{list_at}
 use Rattle.lzk_cmd_files.specs.Ends.{says}
 use Rattle.lzk_cmd_files.specs.Lines.{satisfied_line, unsatisfied_line}
 use Rattle.lzk_cmd_circuits.specs.Evaluated.{output_lines}
-use Rattle.lzk_cmd_circuits.proofs.eval.evaluation.Goals as goal
+use Rattle.lzk_cmd_circuits.proofs.evaluating.evaluation.Goals as goal
 
 pub returns-in_ok-push_satisfied-in-None : goal.returns-in_ok-push_satisfied-in-None
 returns-in_ok-push_satisfied-in-None g c =

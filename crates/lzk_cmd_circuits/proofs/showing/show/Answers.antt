@@ -9,7 +9,7 @@ use Rattle.lzk_cmd_files.specs.declared.circuits.Held.{Held}
 use Rattle.lzk_cmd_files.proofs.Laws as laws
 use Rattle.lzk_cmd_files.proofs.Sights.{no_step}
 use Rattle.lzk_cmd_files.proofs.Steps.{ends, then, here}
-use Rattle.lzk_cmd_circuits.proofs.show.show.Goals as goal
+use Rattle.lzk_cmd_circuits.proofs.showing.show.Goals as goal
 
 -- the walk that has the circuit
 abbrev next : Files → Stop → End → AnyCircuit → Type 0

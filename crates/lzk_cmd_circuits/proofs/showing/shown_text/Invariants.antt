@@ -3,7 +3,7 @@ use Rattle.std.specs.Prelude.{string_bytes}
 use Rattle.lzk_circbytes.specs.Files.{circuit_id}
 use Rattle.lzk_circbytes.specs.Numbered.{shape, numbered}
 use Rattle.lzk_cmd_circuits.specs.Evaluated.{layer_lines, shown}
-use Rattle.lzk_cmd_circuits.proofs.show.shown_text.Given as goal
+use Rattle.lzk_cmd_circuits.proofs.showing.shown_text.Given as goal
 
 abbrev pub invariant-loop-l : goal.invariant-loop-l
 invariant-loop-l g l =

@@ -43,17 +43,11 @@ fn evaluation<F: Field>(alloc: Global, values: &Values<F>, count: u32) -> Result
     match values.first_nonzero() {
         None => {
             lines::push_satisfied(&mut text)?;
-            Ok(Ending {
-                status: 0,
-                text,
-            })
+            Ok(Ending { status: 0, text })
         }
         Some((k, _)) => {
             lines::push_unsatisfied(&mut text, k)?;
-            Ok(Ending {
-                status: 1,
-                text,
-            })
+            Ok(Ending { status: 1, text })
         }
     }
 }

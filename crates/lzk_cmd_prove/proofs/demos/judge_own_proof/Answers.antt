@@ -6,7 +6,7 @@ use Rattle.lzk_field.specs.Words.{seeded_word}
 use Rattle.lzk_honest.specs.Proving.{IsProofFile, words_of}
 use Rattle.lzk_verify.specs.Verdict.{IsVerdict, IsOnlyVerdict}
 use Rattle.lzk_cmd_runs.proofs.DemoCounts.{none_nonzero}
-use Rattle.lzk_cmd_prove.proofs.demo.judge_own_proof.Goals as goal
+use Rattle.lzk_cmd_prove.proofs.demos.judge_own_proof.Goals as goal
 
 pub unreachable-requires : goal.unreachable-requires
 unreachable-requires g c =

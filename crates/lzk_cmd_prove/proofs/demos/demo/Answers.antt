@@ -3,7 +3,7 @@ use Rattle.lzk_cmd_words.specs.Keys.{number_of}
 use Rattle.lzk_cmd_words.specs.Digits.{seed_of}
 use Rattle.lzk_cmd_runs.proofs.DemoCounts.{demo_compiled}
 use Rattle.lzk_cmd_prove.proofs.Demos.{same_end}
-use Rattle.lzk_cmd_prove.proofs.demo.demo.Goals as goal
+use Rattle.lzk_cmd_prove.proofs.demos.demo.Goals as goal
 
 pub demo_over-requires-clause-compiled : goal.demo_over-requires-clause-compiled
 demo_over-requires-clause-compiled g c κs within =

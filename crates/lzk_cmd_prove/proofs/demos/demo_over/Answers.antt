@@ -3,7 +3,7 @@ use Rattle.lzk_demo.specs.Demo.{demo_private, demo_public}
 use Rattle.lzk_goldilocks.specs.Elements.{ops}
 use Rattle.lzk_cmd_files.specs.Lines.{demo_line}
 use Rattle.lzk_cmd_prove.proofs.Demos.{demo_told}
-use Rattle.lzk_cmd_prove.proofs.demo.demo_over.Goals as goal
+use Rattle.lzk_cmd_prove.proofs.demos.demo_over.Goals as goal
 
 pub returns : goal.returns
 returns g c =

@@ -3,7 +3,7 @@ use Rattle.std.specs.Prelude.{string_bytes}
 use Rattle.lzk_circuit.specs.Wires.{list_at}
 use Rattle.lzk_cmd_files.specs.Lines.{output_line}
 use Rattle.lzk_cmd_circuits.proofs.Outputs.{one_more}
-use Rattle.lzk_cmd_circuits.proofs.eval.output_lines.Goals as goal
+use Rattle.lzk_cmd_circuits.proofs.evaluating.output_lines.Goals as goal
 
 pub loop-k-preserved : goal.loop-k-preserved
 loop-k-preserved g c =

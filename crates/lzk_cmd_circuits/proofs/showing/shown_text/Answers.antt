@@ -2,7 +2,7 @@ use Rattle.std.proofs.Common.{◌++◌, length, ap, ◌∙◌}
 use Rattle.std.specs.Prelude.{string_bytes}
 use Rattle.lzk_cmd_files.specs.Lines.{layer_line}
 use Rattle.lzk_cmd_circuits.proofs.Outputs.{one_more_layer}
-use Rattle.lzk_cmd_circuits.proofs.show.shown_text.Goals as goal
+use Rattle.lzk_cmd_circuits.proofs.showing.shown_text.Goals as goal
 
 pub loop-l-preserved : goal.loop-l-preserved
 loop-l-preserved g c =
