@@ -20,6 +20,12 @@ use Rattle.lzk_cmd_files.specs.Walks.{IsEnding}
 abbrev pub IsEvaluation : {A : Type 0} → Ops A → (A → ℕ) → List A → Ending → Type 0
 IsEvaluation o number outputs e = (end : Ended) × Evaluated o number outputs end × IsEnding end e
 
+-- such an end, or there is no memory
+abbrev pub Evaluates : {A : Type 0} → Ops A → (A → ℕ) → List A → Result Ending Halt → Type 0
+Evaluates o number outputs (Ok e) = IsEvaluation o number outputs e
+Evaluates o number outputs (Err halts.Memory) = Unit {0}
+Evaluates o number outputs (Err (halts.End e)) = ⊥
+
 -- the bytes are the file of a circuit of the source, and the text tells of it
 pub record IsCompiled (source : SourceTree) (circuit bytes text : List ℕ) : Type 0 where
   pub made : AnyCircuit

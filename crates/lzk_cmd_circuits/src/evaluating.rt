@@ -1,11 +1,11 @@
 //! The command `eval`.
 
 ghost use Rattle.std.specs.Prelude.{◌≡◌, ◌<◌, length, map, IfOk, string_bytes};
-ghost use Rattle.lzk_circuit.specs.Wires.{list_at};
+ghost use Rattle.lzk_circuit.specs.Wires.{inputs_of, list_at, wires_of};
 ghost use Rattle.lzk_cmd_circuits.specs.Evaluated.{EvalOver, EvalAny, EvalRun, output_lines};
 ghost use Rattle.lzk_cmd_files.specs.Seen.{seen};
 ghost use Rattle.lzk_cmd_files.specs.Walks.{OnlyReads, Walks};
-ghost use Rattle.lzk_cmd_circuits.specs.CircuitSteps.{IsEvaluation};
+ghost use Rattle.lzk_cmd_circuits.specs.CircuitSteps.{Evaluates, IsEvaluation};
 
 use lzk_circbytes::AnyCircuit;
 use lzk_circuit::{Circuit, Values};
@@ -52,6 +52,24 @@ fn evaluation<F: Field>(alloc: Global, values: &Values<F>, count: u32) -> Result
     }
 }
 
+// How a run ends that evaluates a circuit on these inputs. One call has the values, so that no exit drops them.
+fn evaluate<F: Field>(
+    alloc: Global,
+    circuit: &Circuit<F>,
+    publics: &[F],
+    privates: &[F],
+) -> Result<Ending, Halt>
+    requires publics { length publics.now ≡ circuit.now.publics }
+    requires privates { length privates.now ≡ circuit.now.privates }
+    ensures { Evaluates F.ops F.number_of (wires_of F.ops circuit.now.layers (inputs_of F.ops publics.now privates.now)) result }
+{
+    let mut values = Values::new(alloc, circuit)?;
+    circuit.eval(publics, privates, &mut values);
+    let ending = evaluation(alloc, &values, circuit.width(0));
+    drop(values);
+    Ok(ending?)
+}
+
 // Evaluates a circuit on two number files.
 fn eval_over<S: Shelf, F: Field>(
     alloc: Global,
@@ -65,9 +83,7 @@ fn eval_over<S: Shelf, F: Field>(
 {
     let publics = read_elements::<S, F>(alloc, shelf, public, circuit.publics())?;
     let privates = read_elements::<S, F>(alloc, shelf, private, circuit.privates())?;
-    let mut values = Values::new(alloc, circuit)?;
-    circuit.eval(&publics, &privates, &mut values);
-    Ok(evaluation(alloc, &values, circuit.width(0))?)
+    evaluate(alloc, circuit, &publics, &privates)
 }
 
 // The same over either field.

@@ -15,7 +15,7 @@ use Rattle.lzk_cmd_files.specs.Ends.{End, says, Stop}
 use Rattle.lzk_cmd_files.specs.Formats.{At}
 use Rattle.lzk_cmd_files.specs.Lines.{unfit_line}
 use Rattle.lzk_cmd_runs.specs.Proved.{Proves}
-use Rattle.lzk_cmd_words.specs.Digits.{seed_of, session_of}
+use Rattle.lzk_cmd_words.specs.Digits.{message_of, seed_of, session_of}
 use Rattle.lzk_cmd_verify.specs.Verified.{gold_coding}
 
 -- the public inputs of a message are the words of its digest

@@ -15,7 +15,7 @@ use Rattle.lzk_cmd_files.specs.Decoded.{circuit_files, number_files, proof_limit
 use Rattle.lzk_cmd_files.specs.Ends.{End, says, Stop, puts}
 use Rattle.lzk_cmd_files.specs.Formats.{At}
 use Rattle.lzk_cmd_files.specs.Lines.{told_line, nonzero_line}
-use Rattle.lzk_cmd_words.specs.Digits.{session_of}
+use Rattle.lzk_cmd_words.specs.Digits.{seed_of, session_of}
 use Rattle.lzk_cmd_verify.specs.Verified.{gold_coding, gf_coding}
 
 -- the end where an output is not 0

@@ -18,6 +18,7 @@ use Rattle.lzk_cmd_files.specs.Decoded.{circuit_files, number_files, proof_files
 use Rattle.lzk_cmd_files.specs.Ends.{End, says, Stop}
 use Rattle.lzk_cmd_files.specs.Formats.{At}
 use Rattle.lzk_cmd_files.specs.Lines.{proof_kind_name, accepted_line, format_line, digest_line, path_count_line, linear_sum_line, column_line}
+use Rattle.lzk_cmd_words.specs.Digits.{session_of}
 
 -- 0 where the proof is accepted, and 1 where it is rejected
 abbrev pub verdict_status : {A : Type 0} → Verdict A → ℕ

@@ -1,11 +1,10 @@
-use Rattle.std.proofs.Common.{◌≡◌, List, refl, subst, rules, ap, ◌∙◌, Ok}
-use Rattle.lzk_circuit.specs.Wires.{list_at, all_values, inputs_of}
+use Rattle.std.proofs.Common.{List, refl, subst}
+use Rattle.lzk_circuit.specs.Wires.{inputs_of, wires_of}
 use Rattle.lzk_cmd_circuits.specs.Evaluated.{EvalOver}
 use Rattle.lzk_cmd_files.specs.Seen.{seen}
-use Rattle.lzk_cmd_circuits.specs.CircuitSteps.{IsEvaluation}
+use Rattle.lzk_cmd_circuits.specs.CircuitSteps.{Evaluates}
 use Rattle.lzk_cmd_circuits.proofs.Evals.{WithInputs, evaluates}
 use Rattle.lzk_cmd_files.proofs.Inputs.{no_publics, no_privates, with_inputs}
-use Rattle.lzk_cmd_circuits.proofs.Outputs.{outputs_are}
 use Rattle.lzk_cmd_circuits.proofs.evaluating.eval_over.Goals as goal
 
 pub returns-in_err-publics-clause-walks : goal.returns-in_err-publics-clause-walks
@@ -31,10 +30,9 @@ returns-clause-walks g c =
     let circuit = c.args.circuit.now in
     let publics = c.in_ok-publics.publics in
     let privates = c.in_ok-privates.privates in
-    let inputs = inputs_of o publics.items privates.items in
     let end = seen g.S.Shelf c.read_elements-2.new.shelf in
-    let values : c.eval.new.values ≡ all_values o circuit.layers inputs = search rules in
-    let evaluated = subst (λ (xs : List _). IsEvaluation o g.F.Field.number_of xs c.in_ok-evaluation.field-0) (ap (λ v. list_at v 0) values ∙ outputs_are o circuit.layers inputs) c.in_ok-evaluation.ensures in
+    let first = subst (λ (xs : List _). Evaluates o g.F.Field.number_of (wires_of o circuit.layers (inputs_of o xs c.deref-2.result.now)) c.evaluate.result) c.deref.ensures.value c.evaluate.ensures in
+    let both = subst (λ (ys : List _). Evaluates o g.F.Field.number_of (wires_of o circuit.layers (inputs_of o publics.items ys)) c.evaluate.result) c.deref-2.ensures.value first in
     with_inputs g.F.Field.size g.F.Field.number_of circuit.publics circuit.privates c.args.public.now c.args.private.now (WithInputs o g.F.Field.number_of circuit) ⊥ (seen g.S.Shelf c.args.shelf.now) (seen g.S.Shelf c.read_elements.new.shelf) end end c.publics.result c.privates.result c.publics.ensures c.privates.ensures
-    publics privates (Ok c.in_ok-evaluation.field-0) c.in_ok-publics.ensures.reads c.in_ok-publics.ensures.gives c.in_ok-privates.ensures.reads c.in_ok-privates.ensures.gives
-    (evaluates o g.F.Field.number_of circuit publics.items privates.items end c.in_ok-evaluation.field-0 evaluated)
+    publics privates c.evaluate.result c.in_ok-publics.ensures.reads c.in_ok-publics.ensures.gives c.in_ok-privates.ensures.reads c.in_ok-privates.ensures.gives
+    (evaluates o g.F.Field.number_of circuit publics.items privates.items end c.evaluate.result both)

@@ -14,7 +14,7 @@ returns-in_err-feed_proof-clause-walks g c =
     let f = g.F.Field in
     let e = coding f.element f.number_of f.BYTES f.size f.ID in
     no_proof f.ops e c.args.desk.now.circuit c.args.session.now c.args.publics.now c.args.proof.now (seen g.S.Shelf c.args.shelf.now) (seen g.S.Shelf c.feed_proof.new.shelf)
-    c.in_err-feed_proof.field-0.0 _ c.in_err-feed_proof.ensures.reads c.in_err-feed_proof.ensures.gives c.from_residual-in_err-feed_proof.ensures.1
+    c.in_err-feed_proof.field-0.0 _ c.in_err-feed_proof.ensures.reads c.in_err-feed_proof.ensures.gives c.from_residual.ensures.1
 
 pub returns-clause-walks : goal.returns-clause-walks
 returns-clause-walks g c =
