@@ -1,3 +1,3 @@
-pub mod Demos
 pub mod Hashes
 pub mod Proves
+pub mod Told

@@ -2,7 +2,7 @@ use Rattle.std.proofs.Common.{ℕ, refl, sym, ap, ◌∙◌}
 use Rattle.lzk_demo.specs.Demo.{demo_private, demo_public}
 use Rattle.lzk_goldilocks.specs.Elements.{ops}
 use Rattle.lzk_cmd_files.specs.Lines.{demo_line}
-use Rattle.lzk_cmd_prove.proofs.Demos.{demo_told}
+use Rattle.lzk_cmd_prove.proofs.Told.{demo_told}
 use Rattle.lzk_cmd_prove.proofs.demos.demo_over.Goals as goal
 
 pub returns : goal.returns

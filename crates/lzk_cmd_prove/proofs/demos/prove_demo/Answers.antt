@@ -3,7 +3,7 @@ use Rattle.lzk_goldilocks.specs.declared.element.Gold.{Gold}
 use Rattle.lzk_goldilocks.specs.Elements.{ops}
 use Rattle.lzk_cmd_runs.specs.Demo.{HasVerdict}
 use Rattle.lzk_cmd_verify.specs.Verified.{gold_coding}
-use Rattle.lzk_cmd_prove.proofs.Demos.{demo_verdict}
+use Rattle.lzk_cmd_prove.proofs.Told.{demo_verdict}
 use Rattle.lzk_cmd_prove.proofs.demos.prove_demo.Goals as goal
 
 pub unreachable-requires : goal.unreachable-requires

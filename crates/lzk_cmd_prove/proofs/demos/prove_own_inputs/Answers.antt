@@ -9,8 +9,8 @@ use Rattle.lzk_cmd_verify.specs.Verified.{gold_coding}
 use Rattle.lzk_cmd_runs.proofs.DemoCounts.{length_private}
 use Rattle.lzk_cmd_prove.proofs.demos.prove_own_inputs.Goals as goal
 
-pub prove_demo-requires-clause-privates : goal.prove_demo-requires-clause-privates
-prove_demo-requires-clause-privates g c κs within = ap length c.in_ok-inputs.ensures.private ∙ length_private ops c.args.n ∙ sym c.requires.privates
+pub prove_demo-len-requires-clause-privates : goal.prove_demo-len-requires-clause-privates
+prove_demo-len-requires-clause-privates g c κs within = ap length c.in_ok-inputs.ensures.private ∙ length_private ops c.args.n ∙ sym c.requires.privates
 
 pub returns : goal.returns
 returns g c =
