@@ -16,6 +16,7 @@ ghost use Rattle.lzk_cmd_runs.specs.RunSteps.{TellsDemo};
 use lzk_circbytes::{AnyCircuit, id};
 use lzk_circuit::Circuit;
 use lzk_cmd_files::{Ending, Halt, Means, lines};
+use lzk_cmd_verify::verdict_on;
 use lzk_cmd_words::{number_up_to, seed_bytes, workers_of};
 use lzk_complete::proofs_accepted;
 use lzk_demo::{DemoInputs, demo_circuit, demo_inputs};
@@ -24,7 +25,7 @@ use lzk_goldilocks::Gold;
 use lzk_ligero::WorksOver;
 use lzk_ntt::NttExtender;
 use lzk_poly::RowExtend;
-use lzk_verify::{Desk, Verdict};
+use lzk_verify::Verdict;
 use std::alloc::AllocError;
 use std::marker::Sync;
 use std::thread::Threads;
@@ -42,52 +43,19 @@ fn count_of(digits: &str) -> u32
     }
 }
 
-// Proves for inputs that satisfy a circuit with a prover for it, and verifies the proof at a desk for it. How many bytes it has, and
-// the verdict.
+// Proves for inputs that satisfy a circuit with a prover for it, and verifies the proof. How many bytes it has, and the verdict.
 fn judge_own_proof<F: Field, X: RowExtend<F>, R: Threads + Sync, G: Gate>(
     means: &Means<'_, R, G>,
     circuit: &Circuit<F>,
-    works: &mut WorksOver<'_, F, X>,
-    desk: &mut Desk<'_, F>,
-    publics: &[F],
-    privates: &[F],
-    seed: [u8; 32],
-    workers: usize,
-) -> (usize, Verdict<F>)
-    requires works { works.old ≡ circuit.now }
-    requires desk { desk.old.circuit ≡ circuit.now }
-    requires publics { length publics.now ≡ circuit.now.publics }
-    requires privates { length privates.now ≡ circuit.now.privates }
-    requires satisfied { IsSatisfied F.ops circuit.now.layers (inputs_of F.ops publics.now privates.now) }
-    requires some { 1 ≤ workers }
-    requires most { workers ≤ 64 }
-    ensures { HasVerdict F.ops (coding F.element F.number_of F.BYTES F.size F.ID) circuit.now publics.now privates.now seed result.0 result.1 }
-{
-    let words = Seeded::new(seed);
-    match works.prove(
-        means.rt, b"", publics, privates, &words, workers, means.gate,
-    ) {
-        Ok(bytes) => {
-            let verdict = desk.verify(b"", publics, bytes);
-            (bytes.len(), verdict)
-        }
-        Err(_) => unreachable!(),
-    }
-}
-
-// The same with a prover of its own.
-fn judge_at<F: Field, X: RowExtend<F>, R: Threads + Sync, G: Gate>(
-    means: &Means<'_, R, G>,
-    circuit: &Circuit<F>,
     id: [u8; 32],
-    desk: &mut Desk<'_, F>,
+    works: &mut WorksOver<'_, F, X>,
     publics: &[F],
     privates: &[F],
     seed: [u8; 32],
     workers: usize,
 ) -> Result<(usize, Verdict<F>), AllocError>
     requires id { id ≡ id_of (coding F.element F.number_of F.BYTES F.size F.ID) circuit.now }
-    requires desk { desk.old.circuit ≡ circuit.now }
+    requires works { works.old ≡ circuit.now }
     requires publics { length publics.now ≡ circuit.now.publics }
     requires privates { length privates.now ≡ circuit.now.privates }
     requires satisfied { IsSatisfied F.ops circuit.now.layers (inputs_of F.ops publics.now privates.now) }
@@ -95,15 +63,19 @@ fn judge_at<F: Field, X: RowExtend<F>, R: Threads + Sync, G: Gate>(
     requires most { workers ≤ 64 }
     ensures { IfOk result (λ made. HasVerdict F.ops (coding F.element F.number_of F.BYTES F.size F.ID) circuit.now publics.now privates.now seed made.0 made.1) }
 {
-    let mut works = WorksOver::<F, X>::with_id(means.alloc, circuit, id)?;
-    let judged = judge_own_proof(
-        means, circuit, &mut works, desk, publics, privates, seed, workers,
-    );
-    drop(works);
-    Ok(judged)
+    let words = Seeded::new(seed);
+    match works.prove(
+        means.rt, b"", publics, privates, &words, workers, means.gate,
+    ) {
+        Ok(bytes) => {
+            let verdict = verdict_on(means.alloc, circuit, id, publics, bytes)?;
+            Ok((bytes.len(), verdict))
+        }
+        Err(_) => unreachable!(),
+    }
 }
 
-// The same with a desk of its own, which one exit drops.
+// The same with a prover of its own, which one exit drops.
 fn prove_and_verify<F: Field, X: RowExtend<F>, R: Threads + Sync, G: Gate>(
     means: &Means<'_, R, G>,
     circuit: &Circuit<F>,
@@ -120,11 +92,11 @@ fn prove_and_verify<F: Field, X: RowExtend<F>, R: Threads + Sync, G: Gate>(
     ensures { IfOk result (λ made. HasVerdict F.ops (coding F.element F.number_of F.BYTES F.size F.ID) circuit.now publics.now privates.now seed made.0 made.1) }
 {
     let id = id(means.alloc, circuit)?;
-    let mut desk = Desk::with_id(means.alloc, circuit, id)?;
-    let judged = judge_at::<F, X, R, G>(
-        means, circuit, id, &mut desk, publics, privates, seed, workers,
+    let mut works = WorksOver::<F, X>::with_id(means.alloc, circuit, id)?;
+    let judged = judge_own_proof(
+        means, circuit, id, &mut works, publics, privates, seed, workers,
     );
-    drop(desk);
+    drop(works);
     judged
 }
 

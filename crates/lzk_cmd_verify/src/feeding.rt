@@ -67,7 +67,9 @@ pub fn feed_proof<S: Shelf, F: Field>(
     ensures reads { OnlyReads (seen S.Shelf shelf.old) (seen S.Shelf shelf.new) }
 {
     let mut buffer = vec![in alloc; 0u8; PIECE]?;
-    match feed_file(shelf, name, PROOF_LIMIT, desk, &mut buffer) {
+    let fed = feed_file(shelf, name, PROOF_LIMIT, desk, &mut buffer);
+    drop(buffer);
+    match fed {
         Ok(()) => Ok(()),
         Err(LoadFault::OutOfMemory) => Err(Halt::Memory),
         Err(LoadFault::Failed) => {

@@ -12,4 +12,4 @@ mod verdicts;
 mod verifying;
 
 pub use verdicts::ending_of;
-pub use verifying::verify;
+pub use verifying::{verdict_on, verify};

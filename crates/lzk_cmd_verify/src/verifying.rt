@@ -1,9 +1,10 @@
 //! The command `verify`.
 
-ghost use Rattle.std.specs.Prelude.{◌≡◌, ◌≤◌, length};
+ghost use Rattle.std.specs.Prelude.{◌≡◌, ◌≤◌, [], length, IfOk};
 ghost use Rattle.std.specs.Option.{option_copied};
 ghost use Rattle.lzk_circbytes.specs.Files.{id_of, id_of_any};
 ghost use Rattle.lzk_field.specs.Coding.{coding};
+ghost use Rattle.lzk_verify.specs.Verdict.{IsOnlyVerdict, IsVerdict};
 ghost use Rattle.lzk_cmd_verify.specs.Feeding.{JudgesFile};
 ghost use Rattle.lzk_cmd_files.specs.Seen.{seen};
 ghost use Rattle.lzk_cmd_verify.specs.Verified.{VerifyOver, VerifyAny, VerifyRun};
@@ -18,8 +19,8 @@ use lzk_cmd_files::{Ending, Halt, Means, read_elements, read_held};
 use lzk_cmd_words::session_bytes;
 use lzk_field::{Field, Gate};
 use lzk_outside::Shelf;
-use lzk_verify::Desk;
-use std::alloc::Global;
+use lzk_verify::{Desk, Verdict};
+use std::alloc::{AllocError, Global};
 use std::marker::Sync;
 use std::thread::Threads;
 
@@ -63,6 +64,25 @@ fn judge_file<S: Shelf, F: Field>(
     let ending = judge_by(alloc, &mut desk, session, publics, proof, shelf);
     drop(desk);
     ending
+}
+
+/// The verdict on the bytes of a proof for a circuit, by a desk of its own. The session is empty.
+pub fn verdict_on<F: Field>(
+    alloc: Global,
+    circuit: &Circuit<F>,
+    id: [u8; 32],
+    publics: &[F],
+    bytes: &[u8],
+) -> Result<Verdict<F>, AllocError>
+    requires id { id ≡ id_of (coding F.element F.number_of F.BYTES F.size F.ID) circuit.now }
+    requires publics { length publics.now ≡ circuit.now.publics }
+    ensures verdict { IfOk result (IsVerdict F.ops (coding F.element F.number_of F.BYTES F.size F.ID) circuit.now [] publics.now bytes.now) }
+    ensures one { IfOk result (IsOnlyVerdict F.ops (coding F.element F.number_of F.BYTES F.size F.ID) circuit.now [] publics.now bytes.now) }
+{
+    let mut desk = Desk::with_id(alloc, circuit, id)?;
+    let verdict = desk.verify(b"", publics, bytes);
+    drop(desk);
+    Ok(verdict)
 }
 
 // Verifies a proof for a circuit, on a number file.

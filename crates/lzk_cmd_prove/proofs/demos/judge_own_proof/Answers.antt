@@ -4,7 +4,6 @@ use Rattle.lzk_circuit.specs.Wires.{wires_of, inputs_of, IsFirstNonzero}
 use Rattle.lzk_field.specs.Coding.{coding}
 use Rattle.lzk_field.specs.Words.{seeded_word}
 use Rattle.lzk_honest.specs.Proving.{IsProofFile, words_of}
-use Rattle.lzk_verify.specs.Verdict.{IsVerdict, IsOnlyVerdict}
 use Rattle.lzk_cmd_runs.proofs.DemoCounts.{none_nonzero}
 use Rattle.lzk_cmd_prove.proofs.demos.judge_own_proof.Goals as goal
 
@@ -27,6 +26,6 @@ returns g c =
       bytes = bytes;
       long = refl;
       file = subst (λ (w : Wiring _). IsProofFile o e w [] publics privates (words_of (seeded_word c.args.seed)) bytes) c.requires.works seeded;
-      is = subst (λ (w : Wiring _). IsVerdict o e w [] publics bytes c.verify-verdict.result) c.requires.desk c.verify-verdict.ensures.verdict;
-      only = subst (λ (w : Wiring _). IsOnlyVerdict o e w [] publics bytes c.verify-verdict.result) c.requires.desk c.verify-verdict.ensures.one;
+      is = c.in_ok-verdict-in-Ok.ensures.verdict;
+      only = c.in_ok-verdict-in-Ok.ensures.one;
     }
