@@ -31,10 +31,7 @@ fn refuse(alloc: Global) -> Result<Ending, AllocError>
     ensures { IfOk result (IsEnding refused_words) }
 {
     let text = lines::refuse_words(alloc)?;
-    Ok(Ending {
-        status: 2,
-        text,
-    })
+    Ok(Ending { status: 2, text })
 }
 
 // Does what the words say: all of a run but the printing.

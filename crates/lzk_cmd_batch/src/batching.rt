@@ -31,10 +31,7 @@ fn list_of(alloc: Global, name: &str, text: &[u8]) -> Result<Vec<Entry>, Halt>
         Err(ListError::OutOfMemory) => Err(Halt::Memory),
         Err(ListError::Fault(fault)) => {
             let text = refuse_list(alloc, name, fault)?;
-            Err(Halt::End(Ending {
-                status: 3,
-                text,
-            }))
+            Err(Halt::End(Ending { status: 3, text }))
         }
     }
 }

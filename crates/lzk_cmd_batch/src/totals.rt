@@ -7,7 +7,7 @@ ghost use Rattle.lzk_cmd_batch.specs.Gathered.{Counts};
 ghost use Rattle.lzk_cmd_files.specs.Seen.{seen};
 ghost use Rattle.lzk_cmd_files.specs.Walks.{Gives, OnlyReads};
 
-use lzk_cmd_files::{PROOF_LIMIT, TEXT_LIMIT, Ending, Halt, elements_of, lines, read_file};
+use lzk_cmd_files::{Ending, Halt, PROOF_LIMIT, TEXT_LIMIT, elements_of, lines, read_file};
 use lzk_field::Field;
 use lzk_outside::Shelf;
 use std::alloc::Global;
@@ -26,10 +26,7 @@ pub fn count_in(alloc: Global, name: &str, taken: usize, bytes: usize) -> Result
         return Ok(all);
     }
     let text = lines::tell_larger(alloc, name, TOTAL_LIMIT)?;
-    Err(Halt::End(Ending {
-        status: 3,
-        text,
-    }))
+    Err(Halt::End(Ending { status: 3, text }))
 }
 
 /// The elements in a file of exactly `count` numbers, and how many bytes all files have with it.

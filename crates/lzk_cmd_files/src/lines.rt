@@ -9,30 +9,35 @@ use lzk_expr::{NumberFault, NumberKind, SourceFault, SourceKind};
 use lzk_level::LevelFault;
 use std::alloc::{AllocError, Global};
 
+/// The line that refuses words that are no command.
 pub fn refuse_words(alloc: Global) -> Result<String, AllocError>
     ensures { IfOk result (λ s. string_bytes s ≡ lines.words_line) }
 {
     "refused: words\n".to_string(alloc)
 }
 
+/// The line of a file that is missing.
 pub fn tell_missing(alloc: Global, name: &str) -> Result<String, AllocError>
     ensures { IfOk result (λ s. string_bytes s ≡ lines.missing_line name.now) }
 {
     format!(in alloc; "refused: {name} is missing\n")
 }
 
+/// The line of a file that is larger than a limit.
 pub fn tell_larger(alloc: Global, name: &str, limit: usize) -> Result<String, AllocError>
     ensures { IfOk result (λ s. string_bytes s ≡ lines.larger_line name.now limit) }
 {
     format!(in alloc; "refused: {name} is larger than {limit} bytes\n")
 }
 
+/// The line of a file whose read failed.
 pub fn tell_reading(alloc: Global, name: &str) -> Result<String, AllocError>
     ensures { IfOk result (λ s. string_bytes s ≡ lines.reading_line name.now) }
 {
     format!(in alloc; "fault: reading {name}\n")
 }
 
+/// The line of a file whose put failed.
 pub fn tell_writing(alloc: Global, name: &str) -> Result<String, AllocError>
     ensures { IfOk result (λ s. string_bytes s ≡ lines.writing_line name.now) }
 {
@@ -94,18 +99,21 @@ fn tell_line(alloc: Global, name: &str, line: u32, kind: &str) -> Result<String,
     format!(in alloc; "refused: {name} at line {line}: {kind}\n")
 }
 
+/// The line that refuses the bytes of a circuit file.
 pub fn refuse_circuit(alloc: Global, name: &str, fault: ByteFault) -> Result<String, AllocError>
     ensures { IfOk result (λ s. string_bytes s ≡ lines.byte_line name.now fault.offset (lines.byte_kind_name fault.kind)) }
 {
     tell_byte(alloc, name, fault.offset, byte_kind_name(fault.kind))
 }
 
+/// The line that refuses the text of a number file.
 pub fn refuse_numbers(alloc: Global, name: &str, fault: NumberFault) -> Result<String, AllocError>
     ensures { IfOk result (λ s. string_bytes s ≡ lines.text_line name.now fault.line (lines.number_kind_name fault.kind)) }
 {
     tell_line(alloc, name, fault.line, number_kind_name(fault.kind))
 }
 
+/// The line that refuses the text of a source.
 pub fn refuse_source(alloc: Global, name: &str, fault: SourceFault) -> Result<String, AllocError>
     ensures { IfOk result (λ s. string_bytes s ≡ lines.text_line name.now fault.line (lines.source_kind_name fault.kind)) }
 {
@@ -124,6 +132,7 @@ fn tell_limit(
     format!(in alloc; "refused: {name}: {kind} {count} over {limit}\n")
 }
 
+/// The line that refuses a source whose circuit passes a limit.
 pub fn refuse_level(alloc: Global, name: &str, fault: LevelFault) -> Result<String, AllocError>
     ensures { IfOk result (λ s. string_bytes s ≡ lines.level_line name.now fault) }
 {
@@ -198,18 +207,21 @@ pub fn tell_nonzero(alloc: Global, output: u32, value: u128) -> Result<String, A
     format!(in alloc; "unsatisfied at output {output} = {value}\n")
 }
 
+/// Puts the line of output k behind a text.
 pub fn push_output(text: &mut String, k: u32, value: u128) -> Result<(), AllocError>
     ensures { OnOk result (string_bytes text.new ≡ string_bytes text.old ++ lines.output_line k value) }
 {
     write!(text, "output {k} = {value}\n")
 }
 
+/// Puts the line of outputs that are all 0 behind a text.
 pub fn push_satisfied(text: &mut String) -> Result<(), AllocError>
     ensures { OnOk result (string_bytes text.new ≡ string_bytes text.old ++ lines.satisfied_line) }
 {
     text.push_str("satisfied\n")
 }
 
+/// Puts the line of the first output that is not 0 behind a text.
 pub fn push_unsatisfied(text: &mut String, k: u32) -> Result<(), AllocError>
     ensures { OnOk result (string_bytes text.new ≡ string_bytes text.old ++ lines.unsatisfied_line k) }
 {
@@ -249,6 +261,7 @@ pub fn tell_counts(
     Ok(text)
 }
 
+/// Puts the line of layer l behind a text.
 pub fn push_layer(text: &mut String, l: u32, wires: u32, terms: usize) -> Result<(), AllocError>
     ensures { OnOk result (string_bytes text.new ≡ string_bytes text.old ++ lines.layer_line l wires terms) }
 {

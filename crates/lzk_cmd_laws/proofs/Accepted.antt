@@ -24,7 +24,6 @@ use Rattle.lzk_outside.specs.Outside.{Files}
 use Rattle.lzk_sha_circuit.specs.Circuits.{MessagesSatisfy}
 use Rattle.lzk_sha_circuit.specs.Digest.{AreBytes}
 use Rattle.lzk_sha_circuit.specs.Inputs.{sha_private}
-use Rattle.lzk_sha_circuit.specs.Places.{private_count}
 use Rattle.lzk_sha_circuit.proofs.Lookups.{length-sha_private}
 use Rattle.lzk_verify.specs.Verdict.{IsVerdict}
 use Rattle.lzk_verify.specs.declared.verdict.Verdict.TheVariants.{Accepted}

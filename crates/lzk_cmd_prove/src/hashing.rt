@@ -41,10 +41,7 @@ fn unfit(alloc: Global, name: &str, len: usize) -> Result<Ending, AllocError>
     ensures { IfOk result (IsEnding (says 3 (unfit_line name.now len))) }
 {
     let text = lines::refuse_unfit(alloc, name, len)?;
-    Ok(Ending {
-        status: 3,
-        text,
-    })
+    Ok(Ending { status: 3, text })
 }
 
 // Proves for a message over a circuit with its counts.

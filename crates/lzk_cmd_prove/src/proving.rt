@@ -45,10 +45,7 @@ fn unsatisfied<F: Field>(alloc: Global, first: Unsatisfied<&F>) -> Result<Ending
     ensures { IfOk result (IsEnding (nonzero_end F.number_of (first.entry.output, first.entry.value.now))) }
 {
     let text = lines::tell_nonzero(alloc, first.output, first.value.number())?;
-    Ok(Ending {
-        status: 1,
-        text,
-    })
+    Ok(Ending { status: 1, text })
 }
 
 // A circuit's proofs are within their limit. The body does nothing.
@@ -117,8 +114,9 @@ pub fn prove_inputs<F: Field, X: RowExtend<F>, R: Threads + Sync, S: Shelf, G: G
     ensures moves { Moves (seen S.Shelf shelf.old) (seen S.Shelf shelf.new) }
 {
     let mut works = WorksOver::<F, X>::with_id(means.alloc, circuit, job.id)?;
-    let ending =
-        put_proof::<F, X, R, S, G>(means, circuit, &mut works, publics, privates, job, shelf);
+    let ending = put_proof::<F, X, R, S, G>(
+        means, circuit, &mut works, publics, privates, job, shelf,
+    );
     drop(works);
     ending
 }

@@ -1,4 +1,4 @@
-use Rattle.std.proofs.Common.{ℕ, List, length, sym, subst, ap, ◌∙◌}
+use Rattle.std.proofs.Common.{List, length, sym, subst, ap, ◌∙◌}
 use Rattle.std.specs.Prelude.{IfOk}
 use Rattle.lzk_goldilocks.specs.Elements.{ops}
 use Rattle.lzk_goldilocks.specs.declared.element.Gold.{Gold as GoldElement}
