@@ -1,15 +1,16 @@
 -- What is done before anything is printed, whatever the command.
 use Rattle.std.proofs.Common.{◌≡◌, ℕ, List, Option, Some, None, Result, Ok, Err, refl, arith}
 use Rattle.std.proofs.lemmas.Bool.{false≢true}
-use Rattle.lzk_cmd.specs.declared.ending.Ending.{Ending}
-use Rattle.lzk_cmd.specs.declared.ending.Halt.{Halt}
-use Rattle.lzk_cmd.specs.declared.ending.Halt.TheVariants as halts
-use Rattle.lzk_cmd.specs.Ends.{Nowhere, refused_words}
-use Rattle.lzk_cmd.specs.Run.{CommandRun, RunOf}
-use Rattle.lzk_cmd.specs.Seen.{Seen}
-use Rattle.lzk_cmd.specs.Walks.{IsEnding, Settled, Settles, Works}
-use Rattle.lzk_cmd.specs.Words.{Command, PutsFile, command_of}
-use Rattle.lzk_cmd.proofs.Sights.{where_told, at_told}
+use Rattle.lzk_cmd_files.specs.declared.ending.Ending.{Ending}
+use Rattle.lzk_cmd_files.specs.declared.ending.Halt.{Halt}
+use Rattle.lzk_cmd_files.specs.declared.ending.Halt.TheVariants as halts
+use Rattle.lzk_cmd_files.specs.Ends.{Nowhere, refused_words}
+use Rattle.lzk_cmd_runs.specs.Run.{CommandRun, RunOf}
+use Rattle.lzk_cmd_files.specs.Seen.{Seen}
+use Rattle.lzk_cmd_files.specs.Walks.{IsEnding, Settled, Settles}
+use Rattle.lzk_cmd_runs.specs.RunSteps.{Works}
+use Rattle.lzk_cmd_words.specs.Words.{Command, PutsFile, command_of}
+use Rattle.lzk_cmd_files.proofs.Sights.{where_told, at_told}
 
 module _ (words : List (List ℕ)) where
   -- words that are no command

@@ -1,35 +1,8 @@
-pub mod Accepted
-pub mod Batched
-pub mod Chains
-pub mod Compiled
-pub mod Complete
-pub mod Decoded
-pub mod Demo
-pub mod Ends
-pub mod Faults
-pub mod Feeding
-pub mod Files
-pub mod Formats
-pub mod Gathered
-pub mod Grammar
-pub mod Hashed
-pub mod KeyViews
-pub mod Keys
-pub mod Lines
-pub mod OneEnd
-pub mod Outcome
-pub mod Promise
-pub mod Proved
-pub mod Refusals
-pub mod Run
-pub mod Seen
-pub mod Sights
-pub mod SomeEnd
-pub mod Table
-pub mod Verified
-pub mod Views
-pub mod Walks
-pub mod Words
+pub use Rattle.lzk_cmd_words.specs as lzk_cmd_words
+pub use Rattle.lzk_cmd_files.specs as lzk_cmd_files
+pub use Rattle.lzk_cmd_circuits.specs as lzk_cmd_circuits
+pub use Rattle.lzk_cmd_verify.specs as lzk_cmd_verify
+pub use Rattle.lzk_cmd_runs.specs as lzk_cmd_runs
 pub use Rattle.lzk_outside.specs as lzk_outside
 pub use Rattle.lzk_batch.specs as lzk_batch
 pub use Rattle.lzk_circbytes.specs as lzk_circbytes

@@ -8,34 +8,6 @@
 //! ```
 #![tactic(auto)]
 
-mod batching;
-mod circuits;
-mod compiling;
-mod demo;
-mod ending;
-mod eval;
-mod feeding;
-mod files;
-mod gathering;
-mod grammar;
-mod hashing;
-mod kept;
-mod keys;
-mod lines;
-mod load;
-mod means;
-mod numbers;
-mod print;
-mod proving;
-mod show;
-mod table;
-mod telling;
-mod theorems;
 mod top;
-mod totals;
-mod values;
-mod verdicts;
-mod verifying;
-mod words;
 
 pub use top::run;

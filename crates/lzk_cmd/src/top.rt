@@ -1,30 +1,25 @@
 //! The top call.
 
 ghost use Rattle.std.specs.Prelude.{◌≡◌, IfOk};
-ghost use Rattle.lzk_cmd.specs.Accepted.{DemoIsAccepted, HashedIsAccepted, HashesAreSatisfied, ProvedIsAccepted};
-ghost use Rattle.lzk_cmd.specs.Ends.{refused_words};
-ghost use Rattle.lzk_cmd.specs.OneEnd.{OneEnd};
-ghost use Rattle.lzk_cmd.specs.Promise.{Promise};
-ghost use Rattle.lzk_cmd.specs.Seen.{seen, seen_sink};
-ghost use Rattle.lzk_cmd.specs.SomeEnd.{SomeEnd};
-ghost use Rattle.lzk_cmd.specs.Sights.{before, after, texts};
-ghost use Rattle.lzk_cmd.specs.Walks.{Concludes, IsEnding, Moves, Quiet, TellsDemos, Works};
-ghost use Rattle.lzk_cmd.specs.Words.{LeavesShelf, command_of};
+ghost use Rattle.lzk_cmd_runs.specs.Accepted.{DemoIsAccepted, HashedIsAccepted, HashesAreSatisfied, ProvedIsAccepted};
+ghost use Rattle.lzk_cmd_files.specs.Ends.{refused_words};
+ghost use Rattle.lzk_cmd_runs.specs.Made.{ShaCircuitIsMade};
+ghost use Rattle.lzk_cmd_runs.specs.OneEnd.{OneEnd};
+ghost use Rattle.lzk_cmd_runs.specs.Promise.{Promise};
+ghost use Rattle.lzk_cmd_files.specs.Seen.{seen, seen_sink};
+ghost use Rattle.lzk_cmd_runs.specs.SomeEnd.{SomeEnd};
+ghost use Rattle.lzk_cmd_runs.specs.Sights.{before, after, texts};
+ghost use Rattle.lzk_cmd_files.specs.Walks.{Concludes, IsEnding, Moves, Quiet};
+ghost use Rattle.lzk_cmd_runs.specs.RunSteps.{TellsUnread, Works};
+ghost use Rattle.lzk_cmd_words.specs.Words.{LeavesShelf, command_of};
 
-use crate::batching::batch;
-use crate::compiling::compile_source;
-use crate::demo::demo;
-use crate::ending::{Ending, Halt};
-use crate::eval::eval;
-use crate::hashing::{sha256, shacircuit};
-use crate::lines;
-use crate::means::Means;
-use crate::print::print_ending;
-use crate::proving::prove;
-use crate::show::show;
-use crate::theorems::run_laws;
-use crate::verifying::verify;
-use crate::words::{Command, parse_words};
+use lzk_cmd_batch::batch;
+use lzk_cmd_circuits::{compile_source, eval, shacircuit, show};
+use lzk_cmd_files::{Ending, Halt, Means, lines, print_ending};
+use lzk_cmd_laws::run_laws;
+use lzk_cmd_prove::{demo, prove, sha256};
+use lzk_cmd_verify::verify;
+use lzk_cmd_words::{Command, parse_words};
 use lzk_field::Gate;
 use lzk_outside::{Shelf, Sink};
 use std::alloc::{AllocError, Global};
@@ -36,11 +31,7 @@ fn refuse(alloc: Global) -> Result<Ending, AllocError>
     ensures { IfOk result (IsEnding refused_words) }
 {
     let text = lines::refuse_words(alloc)?;
-    Ok(Ending {
-        status: 2,
-        text,
-        missing: false,
-    })
+    Ok(Ending { status: 2, text })
 }
 
 // Does what the words say: all of a run but the printing.
@@ -51,7 +42,7 @@ fn work<R: Threads + Sync, S: Shelf, G: Gate>(
 ) -> Result<Ending, Halt>
     ensures works { Works (texts words.now) (seen S.Shelf shelf.old) (seen S.Shelf shelf.new) result }
     ensures moves { Moves (seen S.Shelf shelf.old) (seen S.Shelf shelf.new) }
-    ensures demo { TellsDemos (texts words.now) result }
+    ensures unread { TellsUnread (texts words.now) result }
     ensures untouched { LeavesShelf (command_of (texts words.now)) → shelf.new ≡ shelf.old }
 {
     match parse_words(words) {
@@ -121,10 +112,15 @@ pub fn run<R: Threads + Sync, S: Shelf, K: Sink, G: Gate>(
     ensures one_end { OneEnd }
     ensures some_end { SomeEnd }
 
-    // What `prove` and `sha256` put is accepted, and what `demo` proves; over a circuit of SHA-256 every message satisfies.
+    // What `prove` and `sha256` put is accepted; over a circuit with SHA-256's outputs every message satisfies.
     ensures honest { ProvedIsAccepted }
     ensures hashed { HashedIsAccepted }
     ensures satisfied { HashesAreSatisfied }
+
+    // `shacircuit` refuses nothing.
+    ensures made { ShaCircuitIsMade (before S.Shelf K.Sink words.now shelf.old out.old) (after S.Shelf K.Sink result shelf.new out.new) }
+
+    // What `demo` proves is accepted.
     ensures demo { DemoIsAccepted (before S.Shelf K.Sink words.now shelf.old out.old) (after S.Shelf K.Sink result shelf.new out.new) }
 {
     run_laws();

@@ -1,13 +1,13 @@
 use Rattle.std.specs.Option.{option_copied}
-use Rattle.lzk_cmd.specs.Seen.{seen}
-use Rattle.lzk_cmd.specs.Sights.{texts}
-use Rattle.lzk_cmd.specs.Words.{Eval, Compile, Show, Prove, Verify, Batch, Demo, ShaCircuit, Sha256}
-use Rattle.lzk_cmd.specs.Keys.{number_of}
-use Rattle.lzk_cmd.specs.Proved.{seed_of}
-use Rattle.lzk_cmd.proofs.Counts.{has_number}
-use Rattle.lzk_cmd.proofs.Demos.{demo_walks, leaves, no_demo, on_demo}
-use Rattle.lzk_cmd.proofs.Sessions.{message_fits, session_fits}
-use Rattle.lzk_cmd.proofs.Sights.{only_moves}
+use Rattle.lzk_cmd_files.specs.Seen.{seen}
+use Rattle.lzk_cmd_runs.specs.Sights.{texts}
+use Rattle.lzk_cmd_words.specs.Words.{Eval, Compile, Show, Prove, Verify, Batch, Demo, ShaCircuit, Sha256}
+use Rattle.lzk_cmd_words.specs.Keys.{number_of}
+use Rattle.lzk_cmd_words.specs.Digits.{seed_of}
+use Rattle.lzk_cmd_words.proofs.Counts.{has_number}
+use Rattle.lzk_cmd.proofs.DemoRuns.{demo_walks, leaves, no_unread, on_unread}
+use Rattle.lzk_cmd_words.proofs.Sessions.{message_fits, session_fits}
+use Rattle.lzk_cmd_files.proofs.Sights.{only_moves}
 use Rattle.lzk_cmd.proofs.Works.{refused, works}
 use Rattle.lzk_cmd.proofs.top.work.Goals as goal
 
@@ -65,42 +65,42 @@ returns-in-Some-Demo-clause-works g c =
     let s = seen g.S.Shelf c.args.shelf.now in
     works (texts c.args.words.now) (Demo count seed) ⊥ s s c.demo.result (rw c.in-Some-Demo.field-0-is at c.in-Some-Demo.ensures) (λ b. b) (demo_walks (number_of count) (seed_of seed) s c.demo.result c.demo.ensures)
 
-pub returns-in-Some-Eval-clause-demo : goal.returns-in-Some-Eval-clause-demo
-returns-in-Some-Eval-clause-demo g c = on_demo (texts c.args.words.now) (Eval c.in-Some-Eval.circuit.now c.in-Some-Eval.public.now c.in-Some-Eval.private.now) c.eval.result (rw c.in-Some-Eval.field-0-is at c.in-Some-Eval.ensures) tt
+pub returns-in-Some-Eval-clause-unread : goal.returns-in-Some-Eval-clause-unread
+returns-in-Some-Eval-clause-unread g c = on_unread (texts c.args.words.now) (Eval c.in-Some-Eval.circuit.now c.in-Some-Eval.public.now c.in-Some-Eval.private.now) c.eval.result (rw c.in-Some-Eval.field-0-is at c.in-Some-Eval.ensures) tt
 
 pub returns-in-Some-Eval-clause-untouched : goal.returns-in-Some-Eval-clause-untouched
 returns-in-Some-Eval-clause-untouched g c = λ h. leaves (texts c.args.words.now) (Eval c.in-Some-Eval.circuit.now c.in-Some-Eval.public.now c.in-Some-Eval.private.now) (rw c.in-Some-Eval.field-0-is at c.in-Some-Eval.ensures) (λ b. b) h
 
-pub returns-in-Some-Compile-clause-demo : goal.returns-in-Some-Compile-clause-demo
-returns-in-Some-Compile-clause-demo g c = on_demo (texts c.args.words.now) (Compile c.in-Some-Compile.source.now c.in-Some-Compile.circuit.now) c.compile_source.result (rw c.in-Some-Compile.field-0-is at c.in-Some-Compile.ensures) tt
+pub returns-in-Some-Compile-clause-unread : goal.returns-in-Some-Compile-clause-unread
+returns-in-Some-Compile-clause-unread g c = on_unread (texts c.args.words.now) (Compile c.in-Some-Compile.source.now c.in-Some-Compile.circuit.now) c.compile_source.result (rw c.in-Some-Compile.field-0-is at c.in-Some-Compile.ensures) tt
 
 pub returns-in-Some-Compile-clause-untouched : goal.returns-in-Some-Compile-clause-untouched
 returns-in-Some-Compile-clause-untouched g c = λ h. leaves (texts c.args.words.now) (Compile c.in-Some-Compile.source.now c.in-Some-Compile.circuit.now) (rw c.in-Some-Compile.field-0-is at c.in-Some-Compile.ensures) (λ b. b) h
 
-pub returns-in-Some-Show-clause-demo : goal.returns-in-Some-Show-clause-demo
-returns-in-Some-Show-clause-demo g c = on_demo (texts c.args.words.now) (Show c.in-Some-Show.circuit.now) c.show.result (rw c.in-Some-Show.field-0-is at c.in-Some-Show.ensures) tt
+pub returns-in-Some-Show-clause-unread : goal.returns-in-Some-Show-clause-unread
+returns-in-Some-Show-clause-unread g c = on_unread (texts c.args.words.now) (Show c.in-Some-Show.circuit.now) c.show.result (rw c.in-Some-Show.field-0-is at c.in-Some-Show.ensures) tt
 
 pub returns-in-Some-Show-clause-untouched : goal.returns-in-Some-Show-clause-untouched
 returns-in-Some-Show-clause-untouched g c = λ h. leaves (texts c.args.words.now) (Show c.in-Some-Show.circuit.now) (rw c.in-Some-Show.field-0-is at c.in-Some-Show.ensures) (λ b. b) h
 
-pub returns-in-Some-Verify-clause-demo : goal.returns-in-Some-Verify-clause-demo
-returns-in-Some-Verify-clause-demo g c = on_demo (texts c.args.words.now) (Verify c.in-Some-Verify.circuit.now c.in-Some-Verify.public.now c.in-Some-Verify.proof.now (option_copied c.in-Some-Verify.session)) c.verify.result (rw c.in-Some-Verify.field-0-is at c.in-Some-Verify.ensures) tt
+pub returns-in-Some-Verify-clause-unread : goal.returns-in-Some-Verify-clause-unread
+returns-in-Some-Verify-clause-unread g c = on_unread (texts c.args.words.now) (Verify c.in-Some-Verify.circuit.now c.in-Some-Verify.public.now c.in-Some-Verify.proof.now (option_copied c.in-Some-Verify.session)) c.verify.result (rw c.in-Some-Verify.field-0-is at c.in-Some-Verify.ensures) tt
 
 pub returns-in-Some-Verify-clause-untouched : goal.returns-in-Some-Verify-clause-untouched
 returns-in-Some-Verify-clause-untouched g c = λ h. leaves (texts c.args.words.now) (Verify c.in-Some-Verify.circuit.now c.in-Some-Verify.public.now c.in-Some-Verify.proof.now (option_copied c.in-Some-Verify.session)) (rw c.in-Some-Verify.field-0-is at c.in-Some-Verify.ensures) (λ b. b) h
 
-pub returns-in-Some-Prove-clause-demo : goal.returns-in-Some-Prove-clause-demo
-returns-in-Some-Prove-clause-demo g c = on_demo (texts c.args.words.now) (Prove c.in-Some-Prove.order.circuit.now c.in-Some-Prove.order.public.now c.in-Some-Prove.order.private.now c.in-Some-Prove.order.proof.now c.in-Some-Prove.order.seed.now (option_copied c.in-Some-Prove.order.session)) c.prove.result (rw c.in-Some-Prove.field-0-is at c.in-Some-Prove.ensures) tt
+pub returns-in-Some-Prove-clause-unread : goal.returns-in-Some-Prove-clause-unread
+returns-in-Some-Prove-clause-unread g c = on_unread (texts c.args.words.now) (Prove c.in-Some-Prove.order.circuit.now c.in-Some-Prove.order.public.now c.in-Some-Prove.order.private.now c.in-Some-Prove.order.proof.now c.in-Some-Prove.order.seed.now (option_copied c.in-Some-Prove.order.session)) c.prove.result (rw c.in-Some-Prove.field-0-is at c.in-Some-Prove.ensures) tt
 
 pub returns-in-Some-Prove-clause-untouched : goal.returns-in-Some-Prove-clause-untouched
 returns-in-Some-Prove-clause-untouched g c = λ h. leaves (texts c.args.words.now) (Prove c.in-Some-Prove.order.circuit.now c.in-Some-Prove.order.public.now c.in-Some-Prove.order.private.now c.in-Some-Prove.order.proof.now c.in-Some-Prove.order.seed.now (option_copied c.in-Some-Prove.order.session)) (rw c.in-Some-Prove.field-0-is at c.in-Some-Prove.ensures) (λ b. b) h
 
-pub returns-in-Some-Demo-clause-demo : goal.returns-in-Some-Demo-clause-demo
-returns-in-Some-Demo-clause-demo g c =
-    on_demo (texts c.args.words.now) (Demo c.in-Some-Demo.count.now c.in-Some-Demo.seed.now) c.demo.result (rw c.in-Some-Demo.field-0-is at c.in-Some-Demo.ensures) c.demo.ensures
+pub returns-in-Some-Demo-clause-unread : goal.returns-in-Some-Demo-clause-unread
+returns-in-Some-Demo-clause-unread g c =
+    on_unread (texts c.args.words.now) (Demo c.in-Some-Demo.count.now c.in-Some-Demo.seed.now) c.demo.result (rw c.in-Some-Demo.field-0-is at c.in-Some-Demo.ensures) c.demo.ensures
 
-pub returns-in_ok-refuse-in-None-clause-demo : goal.returns-in_ok-refuse-in-None-clause-demo
-returns-in_ok-refuse-in-None-clause-demo g c = no_demo (texts c.args.words.now) _ c.in-None.ensures
+pub returns-in_ok-refuse-in-None-clause-unread : goal.returns-in_ok-refuse-in-None-clause-unread
+returns-in_ok-refuse-in-None-clause-unread g c = no_unread (texts c.args.words.now) _ c.in-None.ensures
 
 pub shacircuit-requires-clause-number : goal.shacircuit-requires-clause-number
 shacircuit-requires-clause-number g c κs within = has_number (texts c.args.words.now) (ShaCircuit c.in-Some-ShaCircuit.count.now c.in-Some-ShaCircuit.circuit.now) (rw c.in-Some-ShaCircuit.field-0-is at c.in-Some-ShaCircuit.ensures)
@@ -109,8 +109,8 @@ pub returns-in-Some-ShaCircuit-clause-works : goal.returns-in-Some-ShaCircuit-cl
 returns-in-Some-ShaCircuit-clause-works g c =
     works (texts c.args.words.now) (ShaCircuit c.in-Some-ShaCircuit.count.now c.in-Some-ShaCircuit.circuit.now) (Unit {0}) (seen g.S.Shelf c.args.shelf.now) (seen g.S.Shelf c.shacircuit.new.shelf) c.shacircuit.result (rw c.in-Some-ShaCircuit.field-0-is at c.in-Some-ShaCircuit.ensures) (λ u. u) c.shacircuit.ensures.walks
 
-pub returns-in-Some-ShaCircuit-clause-demo : goal.returns-in-Some-ShaCircuit-clause-demo
-returns-in-Some-ShaCircuit-clause-demo g c = on_demo (texts c.args.words.now) (ShaCircuit c.in-Some-ShaCircuit.count.now c.in-Some-ShaCircuit.circuit.now) c.shacircuit.result (rw c.in-Some-ShaCircuit.field-0-is at c.in-Some-ShaCircuit.ensures) tt
+pub returns-in-Some-ShaCircuit-clause-unread : goal.returns-in-Some-ShaCircuit-clause-unread
+returns-in-Some-ShaCircuit-clause-unread g c = on_unread (texts c.args.words.now) (ShaCircuit c.in-Some-ShaCircuit.count.now c.in-Some-ShaCircuit.circuit.now) c.shacircuit.result (rw c.in-Some-ShaCircuit.field-0-is at c.in-Some-ShaCircuit.ensures) c.shacircuit.ensures.put
 
 pub returns-in-Some-ShaCircuit-clause-untouched : goal.returns-in-Some-ShaCircuit-clause-untouched
 returns-in-Some-ShaCircuit-clause-untouched g c = λ h. leaves (texts c.args.words.now) (ShaCircuit c.in-Some-ShaCircuit.count.now c.in-Some-ShaCircuit.circuit.now) (rw c.in-Some-ShaCircuit.field-0-is at c.in-Some-ShaCircuit.ensures) (λ b. b) h
@@ -127,8 +127,8 @@ pub returns-in-Some-Sha256-clause-works : goal.returns-in-Some-Sha256-clause-wor
 returns-in-Some-Sha256-clause-works g c =
     works (texts c.args.words.now) (Sha256 c.in-Some-Sha256.order.circuit.now c.in-Some-Sha256.order.proof.now c.in-Some-Sha256.order.message.now c.in-Some-Sha256.order.seed.now (option_copied c.in-Some-Sha256.order.session)) (Unit {0}) (seen g.S.Shelf c.args.shelf.now) (seen g.S.Shelf c.sha256.new.shelf) c.sha256.result (rw c.in-Some-Sha256.field-0-is at c.in-Some-Sha256.ensures) (λ u. u) c.sha256.ensures.walks
 
-pub returns-in-Some-Sha256-clause-demo : goal.returns-in-Some-Sha256-clause-demo
-returns-in-Some-Sha256-clause-demo g c = on_demo (texts c.args.words.now) (Sha256 c.in-Some-Sha256.order.circuit.now c.in-Some-Sha256.order.proof.now c.in-Some-Sha256.order.message.now c.in-Some-Sha256.order.seed.now (option_copied c.in-Some-Sha256.order.session)) c.sha256.result (rw c.in-Some-Sha256.field-0-is at c.in-Some-Sha256.ensures) tt
+pub returns-in-Some-Sha256-clause-unread : goal.returns-in-Some-Sha256-clause-unread
+returns-in-Some-Sha256-clause-unread g c = on_unread (texts c.args.words.now) (Sha256 c.in-Some-Sha256.order.circuit.now c.in-Some-Sha256.order.proof.now c.in-Some-Sha256.order.message.now c.in-Some-Sha256.order.seed.now (option_copied c.in-Some-Sha256.order.session)) c.sha256.result (rw c.in-Some-Sha256.field-0-is at c.in-Some-Sha256.ensures) tt
 
 pub returns-in-Some-Sha256-clause-untouched : goal.returns-in-Some-Sha256-clause-untouched
 returns-in-Some-Sha256-clause-untouched g c = λ h. leaves (texts c.args.words.now) (Sha256 c.in-Some-Sha256.order.circuit.now c.in-Some-Sha256.order.proof.now c.in-Some-Sha256.order.message.now c.in-Some-Sha256.order.seed.now (option_copied c.in-Some-Sha256.order.session)) (rw c.in-Some-Sha256.field-0-is at c.in-Some-Sha256.ensures) (λ b. b) h
@@ -140,8 +140,8 @@ returns-in-Some-Batch-clause-works g c =
 pub returns-in-Some-Batch-clause-moves : goal.returns-in-Some-Batch-clause-moves
 returns-in-Some-Batch-clause-moves g c = only_moves (seen g.S.Shelf c.args.shelf.now) (seen g.S.Shelf c.batch.new.shelf) c.batch.ensures.reads
 
-pub returns-in-Some-Batch-clause-demo : goal.returns-in-Some-Batch-clause-demo
-returns-in-Some-Batch-clause-demo g c = on_demo (texts c.args.words.now) (Batch c.in-Some-Batch.list.now) c.batch.result (rw c.in-Some-Batch.field-0-is at c.in-Some-Batch.ensures) tt
+pub returns-in-Some-Batch-clause-unread : goal.returns-in-Some-Batch-clause-unread
+returns-in-Some-Batch-clause-unread g c = on_unread (texts c.args.words.now) (Batch c.in-Some-Batch.list.now) c.batch.result (rw c.in-Some-Batch.field-0-is at c.in-Some-Batch.ensures) tt
 
 pub returns-in-Some-Batch-clause-untouched : goal.returns-in-Some-Batch-clause-untouched
 returns-in-Some-Batch-clause-untouched g c = λ h. leaves (texts c.args.words.now) (Batch c.in-Some-Batch.list.now) (rw c.in-Some-Batch.field-0-is at c.in-Some-Batch.ensures) (λ b. b) h

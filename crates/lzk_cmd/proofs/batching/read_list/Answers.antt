@@ -1,5 +1,0 @@
-use Rattle.lzk_cmd.proofs.Batches.{all_short}
-use Rattle.lzk_cmd.proofs.batching.read_list.Goals as goal
-
-pub returns-clause-short : goal.returns-clause-short
-returns-clause-short g c = all_short c.args.name.now c.deref.result.now c.list_of.result c.list_of.ensures

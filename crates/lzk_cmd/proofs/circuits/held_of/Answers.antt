@@ -1,9 +1,0 @@
-use Rattle.lzk_circbytes.specs.declared.any.AnyCircuit.{AnyCircuit}
-use Rattle.lzk_cmd.specs.Decoded.{circuit_files}
-use Rattle.lzk_cmd.specs.declared.circuits.Held.{Held}
-use Rattle.lzk_cmd.proofs.Steps.{still_refused}
-use Rattle.lzk_cmd.proofs.circuits.held_of.Goals as goal
-
-pub returns-in-Err-clause-decodes : goal.returns-in-Err-clause-decodes
-returns-in-Err-clause-decodes c =
-    still_refused circuit_files (λ (x : AnyCircuit). x) (λ (held : Held). held.circuit) c.args.name.now c.args.bytes.now c.in-Err.halt c.in-Err.ensures

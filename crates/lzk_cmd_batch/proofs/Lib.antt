@@ -1,0 +1,4 @@
+pub mod Batches
+pub mod Gathers
+pub mod Keeping
+pub mod Tells

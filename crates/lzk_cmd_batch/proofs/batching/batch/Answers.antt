@@ -1,0 +1,19 @@
+use Rattle.std.proofs.Common.{ap, map}
+use Rattle.lzk_batch.specs.Lists.{entry_view}
+use Rattle.lzk_cmd_files.specs.Seen.{seen}
+use Rattle.lzk_cmd_batch.proofs.Batches.{no_list, no_jobs, tells}
+use Rattle.lzk_cmd_batch.proofs.batching.batch.Goals as goal
+
+pub returns-in_err-entries-clause-walks : goal.returns-in_err-entries-clause-walks
+returns-in_err-entries-clause-walks g c =
+    no_list c.args.list.now (seen g.S.Shelf c.args.shelf.now) (seen g.S.Shelf c.read_list.new.shelf) c.in_err-entries.field-0.0 _ c.in_err-entries.ensures.reads c.in_err-entries.ensures.gives c.from_residual.ensures.1
+
+pub returns-in_err-gathered-clause-walks : goal.returns-in_err-gathered-clause-walks
+returns-in_err-gathered-clause-walks g c =
+    no_jobs c.args.list.now (seen g.S.Shelf c.args.shelf.now) (seen g.S.Shelf c.read_list.new.shelf) (seen g.S.Shelf c.read_jobs.new.shelf) c.in_ok-entries.entries c.in_ok-entries.ensures.reads c.in_ok-entries.ensures.gives c.in_err-gathered.ensures.reads
+    (map entry_view c.deref.result.now) c.in_err-gathered.field-0.0 _ (ap (map entry_view) c.deref.ensures.value) c.in_err-gathered.ensures.gives c.from_residual-in_err-gathered.ensures.1
+
+pub returns-clause-walks : goal.returns-clause-walks
+returns-clause-walks g c =
+    tells c.args.list.now (seen g.S.Shelf c.args.shelf.now) (seen g.S.Shelf c.read_list.new.shelf) (seen g.S.Shelf c.read_jobs.new.shelf) c.in_ok-entries.entries c.in_ok-entries.ensures.reads c.in_ok-entries.ensures.gives c.in_ok-gathered.ensures.reads
+    (map entry_view c.deref.result.now) c.in_ok-gathered.gathered c.in_ok-judge.field-0 (ap (map entry_view) c.deref.ensures.value) c.in_ok-gathered.ensures.gives c.in_ok-judge.ensures

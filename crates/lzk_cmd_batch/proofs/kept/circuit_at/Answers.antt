@@ -1,0 +1,22 @@
+use Rattle.std.proofs.Common.{◌∙◌, arith}
+use Rattle.lzk_cmd_files.specs.Seen.{seen}
+use Rattle.lzk_cmd_batch.proofs.Keeping.{few_at, again_at, again_over_at, last_place}
+use Rattle.lzk_cmd_batch.proofs.kept.circuit_at.Goals as goal
+
+pub count_in-requires-clause-bytes : goal.count_in-requires-clause-bytes
+count_in-requires-clause-bytes g c =
+    let few = few_at (g.S.Shelf.held c.args.shelf.now) c.args.kept.now c.args.name.now c.in-Some.place c.deref.result.now c.index.result.now c.requires.kept c.deref.ensures.value c.in-Some.ensures c.index.ensures in omega (arith, few)
+
+pub returns-in_err-taken-in-Some-clause-gives : goal.returns-in_err-taken-in-Some-clause-gives
+returns-in_err-taken-in-Some-clause-gives g c =
+    let s = seen g.S.Shelf c.args.shelf.now in
+    again_over_at s s c.args.kept.now c.args.name.now c.args.taken c.in-Some.place c.deref.result.now c.index.result.now c.requires.kept c.deref.ensures.value c.in-Some.ensures c.index.ensures c.in_err-taken-in-Some.field-0.0 _ c.in_err-taken-in-Some.ensures c.from_residual.ensures.1
+
+pub returns-in_ok-taken-in-Some-clause-gives : goal.returns-in_ok-taken-in-Some-clause-gives
+returns-in_ok-taken-in-Some-clause-gives g c =
+    let s = seen g.S.Shelf c.args.shelf.now in
+    again_at s s c.args.kept.now c.args.name.now c.args.taken c.in-Some.place c.deref.result.now c.index.result.now c.requires.kept c.deref.ensures.value c.in-Some.ensures c.index.ensures c.in_ok-taken-in-Some.taken c.in_ok-taken-in-Some.ensures
+
+pub returns-in_ok-taken-in-None-clause-gives : goal.returns-in_ok-taken-in-None-clause-gives
+returns-in_ok-taken-in-None-clause-gives g c =
+    last_place (seen g.S.Shelf c.args.shelf.now) (seen g.S.Shelf c.keep_circuit.new.shelf) c.args.kept.now c.keep_circuit.new.kept.all.items c.args.name.now c.args.taken c.len-place.result c.in_ok-taken-in-None.taken (c.len-place.ensures ∙ c.args.kept.now.all.ok.0) c.in_ok-taken-in-None.ensures.gives

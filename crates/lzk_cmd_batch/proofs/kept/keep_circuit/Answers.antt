@@ -1,0 +1,25 @@
+use Rattle.std.proofs.Common.{ℕ, Err, refl, ◌∙◌}
+use Rattle.lzk_circbytes.specs.declared.any.AnyCircuit.{AnyCircuit}
+use Rattle.lzk_cmd_files.specs.Decoded.{circuit_files}
+use Rattle.lzk_cmd_files.specs.Seen.{seen}
+use Rattle.lzk_cmd_batch.proofs.Keeping.{refused, no_last, last_circuit, put_behind}
+use Rattle.lzk_cmd_batch.proofs.kept.keep_circuit.Goals as goal
+
+pub returns-in_err-circuit-clause-gives : goal.returns-in_err-circuit-clause-gives
+returns-in_err-circuit-clause-gives g c =
+    let old = seen g.S.Shelf c.args.shelf.now in
+    let new = seen g.S.Shelf c.read_file.new.shelf in
+    let h = c.in_err-circuit.field-0.0 in
+    no_last old new c.args.kept.now c.args.kept.now c.args.name.now c.args.taken h _
+    (refused circuit_files (λ (found : AnyCircuit × ℕ). found) c.args.name.now old new c.args.taken (Err h) (λ (x : AnyCircuit). x) c.in_ok-bytes.bytes.items c.deref.result.now c.len.result c.in_ok-taken.taken h
+    c.deref.ensures.value (c.len.ensures ∙ c.in_ok-bytes.bytes.ok.0) c.in_ok-bytes.ensures.gives c.in_ok-taken.ensures c.in_err-circuit.ensures refl) c.from_residual-in_err-circuit.ensures.1
+
+pub returns-clause-gives : goal.returns-clause-gives
+returns-clause-gives g c =
+    last_circuit (seen g.S.Shelf c.args.shelf.now) (seen g.S.Shelf c.read_file.new.shelf) c.args.kept.now c.push-2.new.self.items c.args.name.now c.args.taken c.in_ok-circuit.circuit c.in_ok-bytes.bytes.items c.deref.result.now c.len.result c.in_ok-taken.taken
+    c.in_ok-push-2.ensures.items c.deref.ensures.value (c.len.ensures ∙ c.in_ok-bytes.bytes.ok.0) c.in_ok-bytes.ensures.gives c.in_ok-taken.ensures c.in_ok-circuit.ensures
+
+pub returns-clause-kept : goal.returns-clause-kept
+returns-clause-kept g c =
+    put_behind (g.S.Shelf.held c.args.shelf.now) c.args.kept.now (record { files = c.push.new.self; all = c.push-2.new.self }) c.args.name c.in_ok-circuit.circuit c.in_ok-bytes.bytes.items c.deref.result.now c.len-2.result
+    c.requires.kept c.in_ok-push.ensures.items c.in_ok-push-2.ensures.items c.deref.ensures.value (c.len-2.ensures ∙ c.in_ok-bytes.bytes.ok.0) c.in_ok-bytes.ensures.fits c.in_ok-bytes.ensures.gives c.in_ok-circuit.ensures

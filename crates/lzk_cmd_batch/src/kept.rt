@@ -1,0 +1,104 @@
+//! The circuits of a batch, by the names of their files.
+
+ghost use Rattle.std.specs.Prelude.{◌≡◌, ◌≤◌, ◌<◌, [], IfOk, IfSome};
+ghost use Rattle.lzk_cmd_runs.specs.Batched.{total_limit};
+ghost use Rattle.lzk_cmd_batch.specs.Gathered.{AreKept, GivesLast, GivesPlace, IsPlaceOf, KeepsOn};
+ghost use Rattle.lzk_cmd_files.specs.Seen.{seen};
+ghost use Rattle.lzk_cmd_files.specs.Walks.{OnlyReads};
+
+use crate::totals::count_in;
+use lzk_circbytes::AnyCircuit;
+use lzk_cmd_files::{CIRCUIT_LIMIT, Halt, circuit_of, read_file};
+use lzk_outside::Shelf;
+use std::alloc::Global;
+
+/// A circuit's file that was read: its name, and how many bytes it has.
+#[derive(Clone, Copy)]
+pub struct CircuitFile<'a> {
+    pub name: &'a str,
+    pub bytes: usize,
+}
+
+/// The circuits that were read, and the file of each, in the same order.
+#[derive(Drop)]
+pub struct Circuits<'a> {
+    pub files: Vec<CircuitFile<'a>>,
+    pub all: Vec<AnyCircuit>,
+}
+
+impl<'a> Circuits<'a> {
+    /// No circuits.
+    pub fn new(alloc: Global) -> Circuits<'a>
+        ensures files { result.files.items ≡ [] }
+        ensures all { result.all.items ≡ [] }
+    {
+        Circuits {
+            files: Vec::new(alloc),
+            all: Vec::new(alloc),
+        }
+    }
+}
+
+// The place of a file of this name, if there is one.
+fn place_of(files: &[CircuitFile<'_>], name: &str) -> Option<usize>
+    ensures { IfSome result (λ i. IsPlaceOf files.now name.now i) }
+{
+    for i in 0..files.len() {
+        if files[i].name == name {
+            return Some(i);
+        }
+    }
+    None
+}
+
+// Reads a circuit's file, and keeps its circuit behind the others. How many bytes were read with it.
+fn keep_circuit<'a, S: Shelf>(
+    alloc: Global,
+    shelf: &mut S,
+    name: &'a str,
+    taken: usize,
+    kept: &mut Circuits<'a>,
+) -> Result<usize, Halt>
+    requires taken { taken ≤ total_limit }
+    requires kept { AreKept (S.held shelf.old) kept.old }
+    ensures gives { GivesLast (seen S.Shelf shelf.old) (seen S.Shelf shelf.new) kept.old kept.new name.now taken result }
+    ensures kept { IfOk result (λ _. KeepsOn (S.held shelf.old) kept.old kept.new) }
+    ensures reads { OnlyReads (seen S.Shelf shelf.old) (seen S.Shelf shelf.new) }
+{
+    let bytes = read_file(alloc, shelf, name, CIRCUIT_LIMIT)?;
+    let taken = count_in(alloc, name, taken, bytes.len())?;
+    let circuit = circuit_of(alloc, name, &bytes)?;
+    kept.files.push(CircuitFile {
+        name,
+        bytes: bytes.len(),
+    })?;
+    kept.all.push(circuit)?;
+    Ok(taken)
+}
+
+/// The place of the circuit of this file, which is read where it was not before, and how many bytes all files have with it.
+pub fn circuit_at<'a, S: Shelf>(
+    alloc: Global,
+    shelf: &mut S,
+    name: &'a str,
+    taken: usize,
+    kept: &mut Circuits<'a>,
+) -> Result<(usize, usize), Halt>
+    requires taken { taken ≤ total_limit }
+    requires kept { AreKept (S.held shelf.old) kept.old }
+    ensures gives { GivesPlace (seen S.Shelf shelf.old) (seen S.Shelf shelf.new) kept.new.all.items name.now taken result }
+    ensures kept { IfOk result (λ _. KeepsOn (S.held shelf.old) kept.old kept.new) }
+    ensures reads { OnlyReads (seen S.Shelf shelf.old) (seen S.Shelf shelf.new) }
+{
+    match place_of(&kept.files, name) {
+        Some(place) => {
+            let taken = count_in(alloc, name, taken, kept.files[place].bytes)?;
+            Ok((place, taken))
+        }
+        None => {
+            let place = kept.all.len();
+            let taken = keep_circuit(alloc, shelf, name, taken, kept)?;
+            Ok((place, taken))
+        }
+    }
+}

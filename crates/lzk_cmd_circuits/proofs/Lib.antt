@@ -1,0 +1,5 @@
+pub mod Compiles
+pub mod Evals
+pub mod Outputs
+pub mod ShaFiles
+pub mod Terms

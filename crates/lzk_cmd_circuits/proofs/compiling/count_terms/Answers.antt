@@ -1,0 +1,13 @@
+use Rattle.std.proofs.Common.{◌+◌, ◌≤◌, length, ap, refl, arith}
+use Rattle.lzk_cmd_circuits.proofs.Terms.{one_more_count, count_fits}
+use Rattle.lzk_cmd_circuits.proofs.compiling.count_terms.Goals as goal
+
+pub overflow_add-count : goal.overflow_add-count
+overflow_add-count g c =
+    let fits : c.loop-l.count + length c.as_slice.result.now ≤ 2097152 =
+    count_fits g.F.Field.ops c.args.circuit.now c.layer.result.now c.loop-l.l c.loop-l.count (length c.as_slice.result.now) c.depth-l-end.ensures.valid c.layer.ensures (ap length c.as_slice.ensures) c.loop-l.invariant in
+    omega (arith, fits)
+
+pub loop-l-preserved : goal.loop-l-preserved
+loop-l-preserved g c =
+    one_more_count c.layer.result.now c.args.circuit.now.layers c.loop-l.l c.loop-l.count (c.loop-l.count + length c.as_slice.result.now) (length c.as_slice.result.now) _ c.layer.ensures (ap length c.as_slice.ensures) refl c.loop-l.invariant

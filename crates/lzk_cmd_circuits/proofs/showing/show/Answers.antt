@@ -1,0 +1,28 @@
+use Rattle.std.proofs.Common.{◌≡◌, Ok, inl, refl, arith}
+use Rattle.lzk_circbytes.specs.declared.any.AnyCircuit.{AnyCircuit}
+use Rattle.lzk_outside.specs.Outside.{Files}
+use Rattle.lzk_cmd_files.specs.Decoded.{circuit_files}
+use Rattle.lzk_cmd_files.specs.Ends.{End, Stop, says}
+use Rattle.lzk_cmd_circuits.specs.Evaluated.{ShowRun, shown_any}
+use Rattle.lzk_cmd_files.specs.Seen.{seen}
+use Rattle.lzk_cmd_files.specs.declared.circuits.Held.{Held}
+use Rattle.lzk_cmd_files.proofs.Laws as laws
+use Rattle.lzk_cmd_files.proofs.Sights.{no_step}
+use Rattle.lzk_cmd_files.proofs.Steps.{ends, then, here}
+use Rattle.lzk_cmd_circuits.proofs.showing.show.Goals as goal
+
+-- the walk that has the circuit
+abbrev next : Files → Stop → End → AnyCircuit → Type 0
+next files stop end c = end ≡ says 0 (shown_any c)
+
+pub returns-in_err-held-clause-walks : goal.returns-in_err-held-clause-walks
+unfolding ShowRun
+returns-in_err-held-clause-walks g c =
+    ends circuit_files (λ (held : Held). held.circuit) c.args.circuit.now 0 next ⊥ (seen g.S.Shelf c.args.shelf.now) (seen g.S.Shelf c.read_held.new.shelf) c.in_err-held.field-0.0 _ (laws.circuits.quiet c.args.circuit.now) c.in_err-held.ensures.reads c.in_err-held.ensures.gives c.from_residual.ensures.1
+
+pub returns-clause-walks : goal.returns-clause-walks
+unfolding ShowRun
+returns-clause-walks g c =
+    let end = seen g.S.Shelf c.read_held.new.shelf in
+    then circuit_files (λ (held : Held). held.circuit) c.args.circuit.now 0 next ⊥ (seen g.S.Shelf c.args.shelf.now) end end c.in_ok-held.held (Ok c.in_ok-ending_of.field-0) c.in_ok-held.ensures.reads c.in_ok-held.ensures.gives
+    (here (λ files stop end. next files stop end c.in_ok-held.held.circuit) 1 ⊥ end end (says 0 (shown_any c.in_ok-held.held.circuit)) c.in_ok-ending_of.field-0 (no_step end) (record { put = refl; present = refl; cause = inl (omega arith) }) c.in_ok-ending_of.ensures (λ f at. refl))

@@ -1,0 +1,4 @@
+pub mod CircuitSteps
+pub mod Compiled
+pub mod Evaluated
+pub mod ShaCircuits

@@ -1,0 +1,18 @@
+//! The commands of `zk` that make, show and evaluate circuits: `compile`, `shacircuit`, `show` and `eval`.
+//!
+//! A caller writes
+//!
+//! ```text
+//! let ending = show(&means, "circuit.lzc", &mut shelf);
+//! ```
+#![tactic(auto)]
+
+mod compiling;
+mod evaluating;
+mod sha_circuits;
+mod showing;
+
+pub use compiling::compile_source;
+pub use evaluating::eval;
+pub use sha_circuits::shacircuit;
+pub use showing::show;

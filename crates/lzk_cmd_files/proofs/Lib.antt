@@ -1,0 +1,6 @@
+pub mod Causes
+pub mod Inputs
+pub mod Laws
+pub mod Printing
+pub mod Sights
+pub mod Steps

@@ -1,0 +1,9 @@
+pub mod Decoded
+pub mod Ends
+pub mod Faults
+pub mod Files
+pub mod Formats
+pub mod Lines
+pub mod Refusals
+pub mod Seen
+pub mod Walks

@@ -1,0 +1,72 @@
+//! A whole file, or the end of the run; and the put of one.
+
+ghost use Rattle.std.specs.Prelude.{◌<◌, ◌≤◌, ◌^◌, length, IfOk, string_bytes};
+ghost use Rattle.lzk_cmd_files.specs.Seen.{seen};
+ghost use Rattle.lzk_cmd_files.specs.Walks.{GivesBytes, Moves, OnlyReads, Puts};
+
+use crate::ending::{Ending, Halt};
+use crate::lines;
+use crate::load::{LoadFault, load};
+use lzk_outside::{PutFault, Shelf};
+use std::alloc::Global;
+
+/// The largest circuit file that is read, in bytes.
+pub const CIRCUIT_LIMIT: usize = 67_108_864;
+
+/// The largest number or source file that is read, in bytes.
+pub const TEXT_LIMIT: usize = 4_194_304;
+
+/// The largest proof that is read, in bytes.
+pub const PROOF_LIMIT: usize = 2_097_152;
+
+/// A whole file, or the end of the run.
+pub fn read_file<S: Shelf>(
+    alloc: Global,
+    shelf: &mut S,
+    name: &str,
+    limit: usize,
+) -> Result<Vec<u8>, Halt>
+    requires { limit < 2 ^ 32 }
+    ensures gives { GivesBytes (seen S.Shelf shelf.old) (seen S.Shelf shelf.new) name.now limit result }
+    ensures fits { IfOk result (λ v. length v.items ≤ limit) }
+    ensures reads { OnlyReads (seen S.Shelf shelf.old) (seen S.Shelf shelf.new) }
+{
+    match load(alloc, shelf, name, limit) {
+        Ok(bytes) => Ok(bytes),
+        Err(LoadFault::OutOfMemory) => Err(Halt::Memory),
+        Err(LoadFault::Failed) => {
+            let text = lines::tell_reading(alloc, name)?;
+            Err(Halt::End(Ending { status: 4, text }))
+        }
+        Err(LoadFault::Missing) => {
+            let text = lines::tell_missing(alloc, name)?;
+            Err(Halt::End(Ending { status: 3, text }))
+        }
+        Err(LoadFault::TooLarge) => {
+            let text = lines::tell_larger(alloc, name, limit)?;
+            Err(Halt::End(Ending { status: 3, text }))
+        }
+    }
+}
+
+/// Puts a file, and says this text. There is no want of memory after a put that was done or failed.
+pub fn put_file<S: Shelf>(
+    alloc: Global,
+    shelf: &mut S,
+    name: &str,
+    bytes: &[u8],
+    text: String,
+) -> Result<Ending, Halt>
+    ensures puts { Puts name.now bytes.now (string_bytes text) (seen S.Shelf shelf.old) (seen S.Shelf shelf.new) result }
+    ensures moves { Moves (seen S.Shelf shelf.old) (seen S.Shelf shelf.new) }
+{
+    let fault = lines::tell_writing(alloc, name)?;
+    match shelf.put(name, bytes) {
+        Ok(()) => Ok(Ending { status: 0, text }),
+        Err(PutFault::Failed) => Ok(Ending {
+            status: 5,
+            text: fault,
+        }),
+        Err(PutFault::OutOfMemory) => Err(Halt::Memory),
+    }
+}

@@ -1,0 +1,28 @@
+//! Laws of runs.
+
+ghost use Rattle.lzk_cmd_runs.specs.Accepted.{HashedIsAccepted, HashesAreSatisfied, ProvedIsAccepted};
+ghost use Rattle.lzk_cmd_runs.specs.OneEnd.{OneEnd};
+ghost use Rattle.lzk_cmd_runs.specs.SomeEnd.{SomeEnd};
+
+use lzk_complete::proofs_accepted;
+use lzk_demo::demo_laws;
+use lzk_gf128::Gf128;
+use lzk_goldilocks::Gold;
+use lzk_honest::proof_laws;
+use lzk_sha_circuit::circuit_laws;
+
+/// Words, files and stop have one end, and have an end. The body does nothing.
+pub fn run_laws()
+    ensures one_end { OneEnd }
+    ensures some_end { SomeEnd }
+    ensures honest { ProvedIsAccepted }
+    ensures hashed { HashedIsAccepted }
+    ensures satisfied { HashesAreSatisfied }
+{
+    proof_laws::<Gold>();
+    proof_laws::<Gf128>();
+    proofs_accepted::<Gold>();
+    proofs_accepted::<Gf128>();
+    demo_laws();
+    circuit_laws();
+}

@@ -1,0 +1,31 @@
+use Rattle.std.proofs.Common.{ℕ, List, [], Some, refl, subst}
+use Rattle.lzk_circuit.specs.Valid.{Wiring}
+use Rattle.lzk_circuit.specs.Wires.{wires_of, inputs_of, IsFirstNonzero}
+use Rattle.lzk_field.specs.Coding.{coding}
+use Rattle.lzk_field.specs.Words.{seeded_word}
+use Rattle.lzk_honest.specs.Proving.{IsProofFile, words_of}
+use Rattle.lzk_cmd_runs.proofs.DemoCounts.{none_nonzero}
+use Rattle.lzk_cmd_prove.proofs.demos.judge_own_proof.Goals as goal
+
+pub unreachable-requires : goal.unreachable-requires
+unreachable-requires g c =
+    let o = g.F.Field.ops in
+    let first = c.in-Err.field-0 in
+    let is = subst (λ (w : Wiring _). IsFirstNonzero o (wires_of o w.layers (inputs_of o c.args.publics.now c.args.privates.now)) (Some (first.output, first.value.now))) c.requires.works c.in-Err.ensures.proved in
+    none_nonzero o (wires_of o c.args.circuit.now.layers (inputs_of o c.args.publics.now c.args.privates.now)) (first.output, first.value.now) c.requires.satisfied is
+
+pub returns : goal.returns
+returns g c =
+    let o = g.F.Field.ops in
+    let e = coding g.F.Field.element g.F.Field.number_of g.F.Field.BYTES g.F.Field.size g.F.Field.ID in
+    let publics = c.args.publics.now in
+    let privates = c.args.privates.now in
+    let bytes = c.in-Ok.bytes.now in
+    let seeded = subst (λ (s : List ℕ). IsProofFile o e c.args.works.now [] publics privates (words_of (seeded_word s)) bytes) c.new-words.ensures c.in-Ok.ensures.proved.1 in
+    record {
+      bytes = bytes;
+      long = refl;
+      file = subst (λ (w : Wiring _). IsProofFile o e w [] publics privates (words_of (seeded_word c.args.seed)) bytes) c.requires.works seeded;
+      is = c.in_ok-verdict-in-Ok.ensures.verdict;
+      only = c.in_ok-verdict-in-Ok.ensures.one;
+    }

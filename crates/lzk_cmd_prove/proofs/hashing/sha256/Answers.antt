@@ -1,0 +1,42 @@
+use Rattle.std.proofs.Common.{◌≡◌, ℕ, List, subst, ◌∙◌}
+use Rattle.std.specs.Option.{option_copied}
+use Rattle.lzk_circbytes.specs.declared.any.AnyCircuit.{AnyCircuit}
+use Rattle.lzk_outside.specs.Outside.{Files}
+use Rattle.lzk_cmd_files.specs.Decoded.{circuit_files}
+use Rattle.lzk_cmd_files.specs.Ends.{End, Stop}
+use Rattle.lzk_cmd_runs.specs.Hashed.{HashAny, HashRun}
+use Rattle.lzk_cmd_words.specs.Digits.{message_of, seed_of, session_of}
+use Rattle.lzk_cmd_files.specs.Seen.{seen}
+use Rattle.lzk_cmd_files.specs.Walks.{WalksToPut}
+use Rattle.lzk_cmd_files.specs.declared.circuits.Held.{Held}
+use Rattle.lzk_cmd_files.proofs.Laws as laws
+use Rattle.lzk_cmd_files.proofs.Steps.{ends, then}
+use Rattle.lzk_cmd_prove.proofs.hashing.sha256.Goals as goal
+
+-- the walk that has the circuit
+abbrev next : List ℕ → List ℕ → List ℕ → List ℕ → List ℕ → Files → Stop → End → AnyCircuit → Type 0
+next circuit message proof session seed files stop end c = HashAny circuit c message proof session seed stop end
+
+pub returns-in_err-held-clause-walks : goal.returns-in_err-held-clause-walks
+unfolding HashRun
+returns-in_err-held-clause-walks g c =
+    let order = c.args.order.now in
+    ends circuit_files (λ (held : Held). held.circuit) order.circuit.now 0 (next order.circuit.now (message_of order.message.now) order.proof.now (session_of (option_copied order.session)) (seed_of order.seed.now)) (Unit {0}) (seen g.S.Shelf c.args.shelf.now) (seen g.S.Shelf c.read_held.new.shelf) c.in_err-held.field-0.0 _
+    (laws.circuits.quiet order.circuit.now) c.in_err-held.ensures.reads c.in_err-held.ensures.gives c.from_residual-in_err-held.ensures.1
+
+pub returns-clause-walks : goal.returns-clause-walks
+unfolding HashRun
+returns-clause-walks g c =
+    let order = c.args.order.now in
+    let name = order.circuit.now in
+    let mid = seen g.S.Shelf c.read_held.new.shelf in
+    let end = seen g.S.Shelf c.hash_any.new.shelf in
+    let held = c.in_ok-held.held in
+    let session = session_of (option_copied order.session) in
+    let message = message_of order.message.now in
+    let same_message : c.deref-2.result.now ≡ message = c.deref-2.ensures.value ∙ c.in_ok-message.ensures in
+    let same_session : c.deref.result.now ≡ session = c.deref.ensures.value ∙ c.in_ok-session.ensures in
+    let first = subst (λ (m : List ℕ). WalksToPut (λ files. HashAny name held.circuit m order.proof.now c.deref.result.now c.seed_bytes.result) 1 mid end c.hash_any.result) same_message c.hash_any.ensures.walks in
+    let both = subst (λ (s : List ℕ). WalksToPut (λ files. HashAny name held.circuit message order.proof.now s c.seed_bytes.result) 1 mid end c.hash_any.result) same_session first in
+    let all = subst (λ (s : List ℕ). WalksToPut (λ files. HashAny name held.circuit message order.proof.now session s) 1 mid end c.hash_any.result) c.seed_bytes.ensures both in
+    then circuit_files (λ (held : Held). held.circuit) name 0 (next name message order.proof.now session (seed_of order.seed.now)) (Unit {0}) (seen g.S.Shelf c.args.shelf.now) mid end held c.hash_any.result c.in_ok-held.ensures.reads c.in_ok-held.ensures.gives all

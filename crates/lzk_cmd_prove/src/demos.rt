@@ -1,0 +1,193 @@
+//! The command `demo`.
+
+ghost use Rattle.std.specs.Prelude.{◌≡◌, ◌≤◌, IfOk, IsTrue, length};
+ghost use Rattle.lzk_circbytes.specs.Files.{id_of};
+ghost use Rattle.lzk_circuit.specs.Wires.{inputs_of, IsSatisfied};
+ghost use Rattle.lzk_field.specs.Coding.{coding};
+ghost use Rattle.lzk_demo.specs.Demo.{demo_private, demo_public, demo_tree};
+ghost use Rattle.lzk_goldilocks.specs.Elements.{ops};
+ghost use Rattle.lzk_cmd_circuits.specs.Compiled.{Compiled};
+ghost use Rattle.lzk_cmd_runs.specs.Demo.{HasVerdict};
+ghost use Rattle.lzk_cmd_words.specs.Keys.{is_number, number_of};
+ghost use Rattle.lzk_cmd_words.specs.Digits.{seed_of};
+ghost use Rattle.lzk_cmd_verify.specs.Verified.{gold_coding};
+ghost use Rattle.lzk_cmd_runs.specs.RunSteps.{TellsDemo};
+
+use lzk_circbytes::{AnyCircuit, id};
+use lzk_circuit::Circuit;
+use lzk_cmd_files::{Ending, Halt, Means, lines};
+use lzk_cmd_verify::verdict_on;
+use lzk_cmd_words::{number_up_to, seed_bytes, workers_of};
+use lzk_complete::proofs_accepted;
+use lzk_demo::{DemoInputs, demo_circuit, demo_inputs};
+use lzk_field::{Field, Gate, Seeded};
+use lzk_goldilocks::Gold;
+use lzk_ligero::WorksOver;
+use lzk_ntt::NttExtender;
+use lzk_poly::RowExtend;
+use lzk_verify::Verdict;
+use std::alloc::AllocError;
+use std::marker::Sync;
+use std::thread::Threads;
+
+// The number of these digits.
+fn count_of(digits: &str) -> u32
+    requires { IsTrue (is_number 16384 digits.now) }
+    ensures some { 1 ≤ result }
+    ensures most { result ≤ 16384 }
+    ensures number { result ≡ number_of digits.now }
+{
+    match number_up_to(digits.as_bytes(), 16_384) {
+        Some(number) => number,
+        None => unreachable!(),
+    }
+}
+
+// Proves for inputs that satisfy a circuit with a prover for it, and verifies the proof. How many bytes it has, and the verdict.
+fn judge_own_proof<F: Field, X: RowExtend<F>, R: Threads + Sync, G: Gate>(
+    means: &Means<'_, R, G>,
+    circuit: &Circuit<F>,
+    id: [u8; 32],
+    works: &mut WorksOver<'_, F, X>,
+    publics: &[F],
+    privates: &[F],
+    seed: [u8; 32],
+    workers: usize,
+) -> Result<(usize, Verdict<F>), AllocError>
+    requires id { id ≡ id_of (coding F.element F.number_of F.BYTES F.size F.ID) circuit.now }
+    requires works { works.old ≡ circuit.now }
+    requires publics { length publics.now ≡ circuit.now.publics }
+    requires privates { length privates.now ≡ circuit.now.privates }
+    requires satisfied { IsSatisfied F.ops circuit.now.layers (inputs_of F.ops publics.now privates.now) }
+    requires some { 1 ≤ workers }
+    requires most { workers ≤ 64 }
+    ensures { IfOk result (λ made. HasVerdict F.ops (coding F.element F.number_of F.BYTES F.size F.ID) circuit.now publics.now privates.now seed made.0 made.1) }
+{
+    let words = Seeded::new(seed);
+    match works.prove(
+        means.rt, b"", publics, privates, &words, workers, means.gate,
+    ) {
+        Ok(bytes) => {
+            let verdict = verdict_on(means.alloc, circuit, id, publics, bytes)?;
+            Ok((bytes.len(), verdict))
+        }
+        Err(_) => unreachable!(),
+    }
+}
+
+// The same with a prover of its own, which one exit drops.
+fn prove_and_verify<F: Field, X: RowExtend<F>, R: Threads + Sync, G: Gate>(
+    means: &Means<'_, R, G>,
+    circuit: &Circuit<F>,
+    publics: &[F],
+    privates: &[F],
+    seed: [u8; 32],
+    workers: usize,
+) -> Result<(usize, Verdict<F>), AllocError>
+    requires publics { length publics.now ≡ circuit.now.publics }
+    requires privates { length privates.now ≡ circuit.now.privates }
+    requires satisfied { IsSatisfied F.ops circuit.now.layers (inputs_of F.ops publics.now privates.now) }
+    requires some { 1 ≤ workers }
+    requires most { workers ≤ 64 }
+    ensures { IfOk result (λ made. HasVerdict F.ops (coding F.element F.number_of F.BYTES F.size F.ID) circuit.now publics.now privates.now seed made.0 made.1) }
+{
+    let id = id(means.alloc, circuit)?;
+    let mut works = WorksOver::<F, X>::with_id(means.alloc, circuit, id)?;
+    let judged = judge_own_proof(
+        means, circuit, id, &mut works, publics, privates, seed, workers,
+    );
+    drop(works);
+    judged
+}
+
+// The same for the demo's inputs, whose proof is accepted. How many bytes it has.
+fn prove_demo<R: Threads + Sync, G: Gate>(
+    means: &Means<'_, R, G>,
+    circuit: &Circuit<Gold>,
+    inputs: &DemoInputs,
+    seed: [u8; 32],
+    workers: usize,
+) -> Result<usize, AllocError>
+    requires publics { length inputs.now.public.items ≡ circuit.now.publics }
+    requires privates { length inputs.now.private.items ≡ circuit.now.privates }
+    requires satisfied { IsSatisfied ops circuit.now.layers (inputs_of ops inputs.now.public.items inputs.now.private.items) }
+    requires some { 1 ≤ workers }
+    requires most { workers ≤ 64 }
+    ensures { IfOk result (λ len. HasVerdict ops gold_coding circuit.now inputs.now.public.items inputs.now.private.items seed len Verdict.Accepted) }
+{
+    proofs_accepted::<Gold>();
+    let _depth = circuit.depth();
+    let (len, verdict) = prove_and_verify::<Gold, NttExtender<Gold>, R, G>(
+        means,
+        circuit,
+        &inputs.public,
+        &inputs.private,
+        seed,
+        workers,
+    )?;
+    match verdict {
+        Verdict::Accepted => Ok(len),
+        _ => unreachable!(),
+    }
+}
+
+// How many bytes the proof of the demo's inputs over its circuit has, which is accepted. One exit drops the inputs.
+fn prove_own_inputs<R: Threads + Sync, G: Gate>(
+    means: &Means<'_, R, G>,
+    n: u32,
+    circuit: &Circuit<Gold>,
+    seed: [u8; 32],
+    workers: usize,
+) -> Result<usize, AllocError>
+    requires number { 1 ≤ n }
+    requires publics { circuit.now.publics ≡ 1 }
+    requires privates { circuit.now.privates ≡ n }
+    requires satisfied { IsSatisfied ops circuit.now.layers (inputs_of ops (demo_public ops n) (demo_private ops n)) }
+    requires some { 1 ≤ workers }
+    requires most { workers ≤ 64 }
+    ensures { IfOk result (λ len. HasVerdict ops gold_coding circuit.now (demo_public ops n) (demo_private ops n) seed len Verdict.Accepted) }
+{
+    let inputs = demo_inputs(means.alloc, n)?;
+    let len = prove_demo(means, circuit, &inputs, seed, workers);
+    drop(inputs);
+    len
+}
+
+// Proves for the demo's inputs over its circuit, verifies the proof, and tells of both.
+fn demo_over<R: Threads + Sync, G: Gate>(
+    means: &Means<'_, R, G>,
+    n: u32,
+    circuit: &Circuit<Gold>,
+    seed: [u8; 32],
+    workers: usize,
+) -> Result<Ending, Halt>
+    requires number { 1 ≤ n }
+    requires publics { circuit.now.publics ≡ 1 }
+    requires privates { circuit.now.privates ≡ n }
+    requires satisfied { IsSatisfied ops circuit.now.layers (inputs_of ops (demo_public ops n) (demo_private ops n)) }
+    requires compiled { Compiled (demo_tree n) (AnyCircuit.Gold circuit.now) }
+    requires some { 1 ≤ workers }
+    requires most { workers ≤ 64 }
+    ensures { TellsDemo n seed result }
+{
+    let bytes = prove_own_inputs(means, n, circuit, seed, workers)?;
+    let text = lines::tell_demo(means.alloc, n, circuit.depth(), bytes)?;
+    Ok(Ending { status: 0, text })
+}
+
+/// Makes the demo's circuit, proves for its inputs, and verifies the proof.
+pub fn demo<R: Threads + Sync, G: Gate>(
+    means: &Means<'_, R, G>,
+    count: &str,
+    seed: &[u8],
+    workers: Option<&[u8]>,
+) -> Result<Ending, Halt>
+    requires number { IsTrue (is_number 16384 count.now) }
+    ensures { TellsDemo (number_of count.now) (seed_of seed.now) result }
+{
+    let n = count_of(count);
+    let circuit = demo_circuit(means.alloc, n)?;
+    let ending = demo_over(means, n, &circuit, seed_bytes(seed), workers_of(workers));
+    drop(circuit);
+    ending
+}

@@ -1,0 +1,131 @@
+//! The command `sha256`.
+
+ghost use Rattle.std.specs.Prelude.{◌≡◌, ◌≤◌, Some, length, IfOk};
+ghost use Rattle.std.specs.Option.{option_copied};
+ghost use Rattle.sha2.specs.Sha256.{sha256};
+ghost use Rattle.lzk_circbytes.specs.Files.{id_of, id_of_any};
+ghost use Rattle.lzk_sha_circuit.specs.Places.{private_count};
+ghost use Rattle.lzk_cmd_files.specs.Ends.{says};
+ghost use Rattle.lzk_cmd_runs.specs.Hashed.{HashAny, HashRun, ProvesHash, is_for};
+ghost use Rattle.lzk_cmd_words.specs.Digits.{message_of, session_of};
+ghost use Rattle.lzk_cmd_files.specs.Lines.{unfit_line};
+ghost use Rattle.lzk_cmd_files.specs.Seen.{seen};
+ghost use Rattle.lzk_cmd_verify.specs.Verified.{gold_coding};
+ghost use Rattle.lzk_cmd_files.specs.Walks.{IsEnding, Moves, WalksToPut};
+
+use crate::proving::{Job, prove_inputs};
+use lzk_circbytes::AnyCircuit;
+use lzk_circuit::Circuit;
+use lzk_cmd_files::{Ending, Halt, Means, lines, read_held};
+use lzk_cmd_words::{HashOrder, message_bytes, seed_bytes, session_bytes, workers_of};
+use lzk_field::Gate;
+use lzk_goldilocks::Gold;
+use lzk_ntt::NttExtender;
+use lzk_outside::Shelf;
+use lzk_sha_circuit::sha_inputs;
+use sha2::{Digest, Sha256};
+use std::alloc::{AllocError, Global};
+use std::marker::Sync;
+use std::thread::Threads;
+
+// Whether a circuit has the counts of messages of `len` bytes.
+fn is_for(circuit: &Circuit<Gold>, len: usize) -> bool
+    requires { len ≤ 55 }
+    ensures { result ≡ is_for len circuit.now }
+{
+    circuit.publics() == 8 && circuit.privates() as usize == 8 * len + 6376
+}
+
+// How a run ends whose circuit is not for messages of `len` bytes.
+fn unfit(alloc: Global, name: &str, len: usize) -> Result<Ending, AllocError>
+    ensures { IfOk result (IsEnding (says 3 (unfit_line name.now len))) }
+{
+    let text = lines::refuse_unfit(alloc, name, len)?;
+    Ok(Ending { status: 3, text })
+}
+
+// Proves for a message over a circuit with its counts.
+fn prove_hash<R: Threads + Sync, S: Shelf, G: Gate>(
+    means: &Means<'_, R, G>,
+    circuit: &Circuit<Gold>,
+    message: &[u8],
+    job: &Job<'_>,
+    shelf: &mut S,
+) -> Result<Ending, Halt>
+    requires id { job.now.id ≡ id_of gold_coding circuit.now }
+    requires message { length message.now ≤ 55 }
+    requires publics { circuit.now.publics ≡ 8 }
+    requires privates { circuit.now.privates ≡ private_count (length message.now) }
+    requires digest { option_copied job.now.digest ≡ Some (sha256 message.now) }
+    requires session { length job.now.session.now ≤ 64 }
+    requires some { 1 ≤ job.now.workers }
+    requires most { job.now.workers ≤ 64 }
+    ensures walks { WalksToPut (λ files. ProvesHash circuit.now message.now job.now.proof.now job.now.session.now job.now.seed) 1 (seen S.Shelf shelf.old) (seen S.Shelf shelf.new) result }
+    ensures moves { Moves (seen S.Shelf shelf.old) (seen S.Shelf shelf.new) }
+{
+    let inputs = sha_inputs(means.alloc, message)?;
+    prove_inputs::<Gold, NttExtender<Gold>, R, S, G>(
+        means,
+        circuit,
+        &inputs.public,
+        &inputs.private,
+        job,
+        shelf,
+    )
+}
+
+// Proves for a message over a circuit under a name, if it has its counts.
+fn hash_any<R: Threads + Sync, S: Shelf, G: Gate>(
+    means: &Means<'_, R, G>,
+    name: &str,
+    circuit: &AnyCircuit,
+    message: &[u8],
+    job: &Job<'_>,
+    shelf: &mut S,
+) -> Result<Ending, Halt>
+    requires id { job.now.id ≡ id_of_any circuit.now }
+    requires message { length message.now ≤ 55 }
+    requires digest { option_copied job.now.digest ≡ Some (sha256 message.now) }
+    requires session { length job.now.session.now ≤ 64 }
+    requires some { 1 ≤ job.now.workers }
+    requires most { job.now.workers ≤ 64 }
+    ensures walks { WalksToPut (λ files. HashAny name.now circuit.now message.now job.now.proof.now job.now.session.now job.now.seed) 1 (seen S.Shelf shelf.old) (seen S.Shelf shelf.new) result }
+    ensures moves { Moves (seen S.Shelf shelf.old) (seen S.Shelf shelf.new) }
+{
+    match circuit {
+        AnyCircuit::Gold(c) => {
+            if is_for(c, message.len()) {
+                prove_hash(means, c, message, job, shelf)
+            } else {
+                Ok(unfit(means.alloc, name, message.len())?)
+            }
+        }
+        AnyCircuit::Gf(_) => Ok(unfit(means.alloc, name, message.len())?),
+    }
+}
+
+/// Proves for a circuit file and a message, and puts the proof.
+pub fn sha256<R: Threads + Sync, S: Shelf, G: Gate>(
+    means: &Means<'_, R, G>,
+    order: &HashOrder<'_>,
+    shelf: &mut S,
+) -> Result<Ending, Halt>
+    requires message { length (message_of order.now.message.now) ≤ 55 }
+    requires session { length (session_of (option_copied order.now.session)) ≤ 64 }
+    ensures walks { WalksToPut (HashRun order.now.circuit.now order.now.proof.now order.now.message.now order.now.seed.now (option_copied order.now.session)) 0 (seen S.Shelf shelf.old) (seen S.Shelf shelf.new) result }
+    ensures moves { Moves (seen S.Shelf shelf.old) (seen S.Shelf shelf.new) }
+{
+    let session = session_bytes(means.alloc, order.session)?;
+    let message = message_bytes(means.alloc, order.message)?;
+    let held = read_held(means.alloc, shelf, order.circuit)?;
+    let digest = Sha256::digest(message.as_slice());
+    let job = Job {
+        id: held.id,
+        proof: order.proof,
+        digest: Some(&digest),
+        session: &session,
+        seed: seed_bytes(order.seed),
+        workers: workers_of(order.workers),
+    };
+    hash_any(means, order.circuit, &held.circuit, &message, &job, shelf)
+}

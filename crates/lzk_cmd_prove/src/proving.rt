@@ -1,0 +1,201 @@
+//! The command `prove`.
+
+ghost use Rattle.std.specs.Prelude.{◌≡◌, ◌≤◌, ℕ, List, None, length, IfOk};
+ghost use Rattle.std.specs.Option.{option_copied};
+ghost use Rattle.lzk_circbytes.specs.Files.{id_of, id_of_any};
+ghost use Rattle.lzk_field.specs.Coding.{coding};
+ghost use Rattle.lzk_honest.specs.Proving.{IsProofFile};
+ghost use Rattle.lzk_cmd_files.specs.Decoded.{proof_limit};
+ghost use Rattle.lzk_cmd_runs.specs.Proved.{Proves, ProveOver, ProveAny, ProveRun, nonzero_end};
+ghost use Rattle.lzk_cmd_files.specs.Seen.{seen};
+ghost use Rattle.lzk_cmd_words.specs.Digits.{session_of};
+ghost use Rattle.lzk_cmd_files.specs.Walks.{IsEnding, Moves, WalksToPut};
+
+use lzk_afft::Transform;
+use lzk_circbytes::AnyCircuit;
+use lzk_circuit::Circuit;
+use lzk_cmd_files::{Ending, Halt, Means, lines, put_file, read_elements, read_held};
+use lzk_cmd_words::{Order, seed_bytes, session_bytes, workers_of};
+use lzk_field::{Field, Gate, Seeded};
+use lzk_gf128::Gf128;
+use lzk_goldilocks::Gold;
+use lzk_honest::proof_laws;
+use lzk_ligero::{Unsatisfied, WorksOver};
+use lzk_ntt::NttExtender;
+use lzk_outside::Shelf;
+use lzk_poly::RowExtend;
+use std::alloc::{AllocError, Global};
+use std::marker::Sync;
+use std::thread::Threads;
+
+/// What a proof is made with beside its circuit and inputs: the circuit's id, the name of the proof's file, the digest that is told
+/// with it, its session, seed and workers.
+#[derive(Clone, Copy)]
+pub struct Job<'a> {
+    pub id: [u8; 32],
+    pub proof: &'a str,
+    pub digest: Option<&'a [u8]>,
+    pub session: &'a [u8],
+    pub seed: [u8; 32],
+    pub workers: usize,
+}
+
+// How a run ends that has this output.
+fn unsatisfied<F: Field>(alloc: Global, first: Unsatisfied<&F>) -> Result<Ending, AllocError>
+    ensures { IfOk result (IsEnding (nonzero_end F.number_of (first.entry.output, first.entry.value.now))) }
+{
+    let text = lines::tell_nonzero(alloc, first.output, first.value.number())?;
+    Ok(Ending { status: 1, text })
+}
+
+// A circuit's proofs are within their limit. The body does nothing.
+fn proofs_fit<F: Field>(circuit: &Circuit<F>)
+    ensures { (session : List ℕ) (public private : List F) (word : ℕ → ℕ) (bytes : List ℕ)
+        → IsProofFile F.ops (coding F.element F.number_of F.BYTES F.size F.ID) circuit.now session public private word bytes → length bytes ≤ proof_limit }
+{
+    proof_laws::<F>();
+    let _depth = circuit.depth();
+}
+
+// Proves with a prover for the circuit, and puts the proof once it is whole.
+fn put_proof<F: Field, X: RowExtend<F>, R: Threads + Sync, S: Shelf, G: Gate>(
+    means: &Means<'_, R, G>,
+    circuit: &Circuit<F>,
+    works: &mut WorksOver<'_, F, X>,
+    publics: &[F],
+    privates: &[F],
+    job: &Job<'_>,
+    shelf: &mut S,
+) -> Result<Ending, Halt>
+    requires works { works.old ≡ circuit.now }
+    requires publics { length publics.now ≡ circuit.now.publics }
+    requires privates { length privates.now ≡ circuit.now.privates }
+    requires session { length job.now.session.now ≤ 64 }
+    requires some { 1 ≤ job.now.workers }
+    requires most { job.now.workers ≤ 64 }
+    ensures walks { WalksToPut (λ files. Proves F.ops (coding F.element F.number_of F.BYTES F.size F.ID) circuit.now job.now.proof.now (option_copied job.now.digest) job.now.session.now job.now.seed publics.now privates.now) 3 (seen S.Shelf shelf.old) (seen S.Shelf shelf.new) result }
+    ensures moves { Moves (seen S.Shelf shelf.old) (seen S.Shelf shelf.new) }
+{
+    proofs_fit(circuit);
+    let words = Seeded::new(job.seed);
+    match works.prove(
+        means.rt,
+        job.session,
+        publics,
+        privates,
+        &words,
+        job.workers,
+        means.gate,
+    ) {
+        Ok(bytes) => {
+            let text = lines::tell_proved(means.alloc, job.proof, job.digest, bytes.len())?;
+            put_file(means.alloc, shelf, job.proof, bytes, text)
+        }
+        Err(first) => Ok(unsatisfied(means.alloc, first)?),
+    }
+}
+
+/// Proves for a circuit and its inputs.
+pub fn prove_inputs<F: Field, X: RowExtend<F>, R: Threads + Sync, S: Shelf, G: Gate>(
+    means: &Means<'_, R, G>,
+    circuit: &Circuit<F>,
+    publics: &[F],
+    privates: &[F],
+    job: &Job<'_>,
+    shelf: &mut S,
+) -> Result<Ending, Halt>
+    requires publics { length publics.now ≡ circuit.now.publics }
+    requires privates { length privates.now ≡ circuit.now.privates }
+    requires id { job.now.id ≡ id_of (coding F.element F.number_of F.BYTES F.size F.ID) circuit.now }
+    requires session { length job.now.session.now ≤ 64 }
+    requires some { 1 ≤ job.now.workers }
+    requires most { job.now.workers ≤ 64 }
+    ensures walks { WalksToPut (λ files. Proves F.ops (coding F.element F.number_of F.BYTES F.size F.ID) circuit.now job.now.proof.now (option_copied job.now.digest) job.now.session.now job.now.seed publics.now privates.now) 3 (seen S.Shelf shelf.old) (seen S.Shelf shelf.new) result }
+    ensures moves { Moves (seen S.Shelf shelf.old) (seen S.Shelf shelf.new) }
+{
+    let mut works = WorksOver::<F, X>::with_id(means.alloc, circuit, job.id)?;
+    let ending = put_proof::<F, X, R, S, G>(
+        means, circuit, &mut works, publics, privates, job, shelf,
+    );
+    drop(works);
+    ending
+}
+
+// Proves for a circuit, on two number files.
+fn prove_over<F: Field, X: RowExtend<F>, R: Threads + Sync, S: Shelf, G: Gate>(
+    means: &Means<'_, R, G>,
+    circuit: &Circuit<F>,
+    public: &str,
+    private: &str,
+    job: &Job<'_>,
+    shelf: &mut S,
+) -> Result<Ending, Halt>
+    requires id { job.now.id ≡ id_of (coding F.element F.number_of F.BYTES F.size F.ID) circuit.now }
+    requires digest { option_copied job.now.digest ≡ None }
+    requires session { length job.now.session.now ≤ 64 }
+    requires some { 1 ≤ job.now.workers }
+    requires most { job.now.workers ≤ 64 }
+    ensures walks { WalksToPut (ProveOver F.ops (coding F.element F.number_of F.BYTES F.size F.ID) circuit.now public.now private.now job.now.proof.now job.now.session.now job.now.seed) 1 (seen S.Shelf shelf.old) (seen S.Shelf shelf.new) result }
+    ensures moves { Moves (seen S.Shelf shelf.old) (seen S.Shelf shelf.new) }
+{
+    let publics = read_elements::<S, F>(means.alloc, shelf, public, circuit.publics())?;
+    let privates = read_elements::<S, F>(means.alloc, shelf, private, circuit.privates())?;
+    prove_inputs::<F, X, R, S, G>(means, circuit, &publics, &privates, job, shelf)
+}
+
+// The same over either field.
+fn prove_any<R: Threads + Sync, S: Shelf, G: Gate>(
+    means: &Means<'_, R, G>,
+    circuit: &AnyCircuit,
+    public: &str,
+    private: &str,
+    job: &Job<'_>,
+    shelf: &mut S,
+) -> Result<Ending, Halt>
+    requires id { job.now.id ≡ id_of_any circuit.now }
+    requires digest { option_copied job.now.digest ≡ None }
+    requires session { length job.now.session.now ≤ 64 }
+    requires some { 1 ≤ job.now.workers }
+    requires most { job.now.workers ≤ 64 }
+    ensures walks { WalksToPut (ProveAny circuit.now public.now private.now job.now.proof.now job.now.session.now job.now.seed) 1 (seen S.Shelf shelf.old) (seen S.Shelf shelf.new) result }
+    ensures moves { Moves (seen S.Shelf shelf.old) (seen S.Shelf shelf.new) }
+{
+    match circuit {
+        AnyCircuit::Gold(c) => {
+            prove_over::<Gold, NttExtender<Gold>, R, S, G>(means, c, public, private, job, shelf)
+        }
+        AnyCircuit::Gf(c) => {
+            prove_over::<Gf128, Transform, R, S, G>(means, c, public, private, job, shelf)
+        }
+    }
+}
+
+/// Proves for a circuit file and two number files, and puts the proof.
+pub fn prove<R: Threads + Sync, S: Shelf, G: Gate>(
+    means: &Means<'_, R, G>,
+    order: &Order<'_>,
+    shelf: &mut S,
+) -> Result<Ending, Halt>
+    requires session { length (session_of (option_copied order.now.session)) ≤ 64 }
+    ensures walks { WalksToPut (ProveRun order.now.circuit.now order.now.public.now order.now.private.now order.now.proof.now order.now.seed.now (option_copied order.now.session)) 0 (seen S.Shelf shelf.old) (seen S.Shelf shelf.new) result }
+    ensures moves { Moves (seen S.Shelf shelf.old) (seen S.Shelf shelf.new) }
+{
+    let session = session_bytes(means.alloc, order.session)?;
+    let held = read_held(means.alloc, shelf, order.circuit)?;
+    let job = Job {
+        id: held.id,
+        proof: order.proof,
+        digest: None,
+        session: &session,
+        seed: seed_bytes(order.seed),
+        workers: workers_of(order.workers),
+    };
+    prove_any(
+        means,
+        &held.circuit,
+        order.public,
+        order.private,
+        &job,
+        shelf,
+    )
+}

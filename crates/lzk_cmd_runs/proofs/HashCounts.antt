@@ -1,0 +1,35 @@
+-- The numbers of inputs of a message.
+use Rattle.std.proofs.Common.{◌≡◌, ◌≤◌, ℕ, true, List, length, sym, ◌∙◌}
+use Rattle.std.specs.Prelude.{◌*◌, ◌==◌, nat_le, ◌&&◌}
+use Rattle.std.proofs.lemmas.Bool.{and_parts, eqb-true, leb-true}
+use Rattle.std.proofs.lemmas.List.{length-map}
+use Rattle.std.proofs.lemmas.List.FromFn.{length-map-range_with_len}
+use Rattle.sha2.specs.Sha256.{sha256, word_at}
+use Rattle.lzk_circuit.specs.Valid.{Wiring}
+use Rattle.lzk_goldilocks.specs.declared.element.Gold.{Gold as GoldElement}
+use Rattle.lzk_goldilocks.specs.Elements as gold
+use Rattle.lzk_honest.specs.Proving.{HaveCounts}
+use Rattle.lzk_sha_circuit.specs.Digest.{digest_words}
+use Rattle.lzk_sha_circuit.specs.Inputs.{sha_private}
+use Rattle.lzk_sha_circuit.specs.Places.{private_count}
+use Rattle.lzk_sha_circuit.proofs.Lookups.{length-sha_private}
+use Rattle.lzk_cmd_runs.specs.Hashed.{digest_inputs, is_for}
+use Rattle.lzk_cmd_words.specs.Keys.{are_digits, is_count, number_of}
+
+-- digits of a number of bytes keep its bound
+pub count_fits : (count : List ℕ) → is_count 55 count ≡ true → number_of count ≤ 55
+count_fits count h =
+    let behind = and_parts (nat_le 1 (length count) && nat_le (length count) 9) (are_digits count && nat_le (number_of count) 55) h in
+    leb-true (number_of count) 55 (and_parts (are_digits count) (nat_le (number_of count) 55) behind.1).1
+
+-- the inputs of a message are as many as a circuit of its counts has
+pub length-digest : (message : List ℕ) → length (digest_inputs message) ≡ 8
+unfolding digest_words
+length-digest message = length-map (digest_words message) gold.of_number ∙ length-map-range_with_len (λ i. word_at (sha256 message) (4 * i)) 0 8
+
+pub hash_counts : (message : List ℕ) (c : Wiring GoldElement) → is_for (length message) c ≡ true → HaveCounts c (digest_inputs message) (sha_private gold.of_number message)
+hash_counts message c fits =
+    let both = and_parts (c.publics == 8) (c.privates == private_count (length message)) fits in (
+      length-digest message ∙ sym (eqb-true c.publics 8 both.0),
+      length-sha_private gold.of_number message gold.ops.zero ∙ sym (eqb-true c.privates (private_count (length message)) both.1),
+    )

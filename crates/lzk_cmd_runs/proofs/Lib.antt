@@ -1,0 +1,3 @@
+pub mod DemoCounts
+pub mod HashCounts
+pub mod Lists

@@ -1,0 +1,15 @@
+pub mod Accepted
+pub mod Batched
+pub mod Chains
+pub mod Complete
+pub mod Demo
+pub mod Hashed
+pub mod Made
+pub mod OneEnd
+pub mod Outcome
+pub mod Promise
+pub mod Proved
+pub mod Run
+pub mod RunSteps
+pub mod Sights
+pub mod SomeEnd
