@@ -1,10 +1,21 @@
 //! Several numbers of workers, of which two wait for each other.
 
-use crate::seen::seen;
-use crate::vectors::SQUARE;
-use lzk_field::Gate;
+ghost use Rattle.std.specs.Prelude.{ℕ};
+
+use crate::seen::{Unseen, seen};
+use crate::vectors::{OF_ZEROS, SQUARE};
+use lzk_circbytes::{AnyCircuit, decode};
+use lzk_circuit::Circuit;
+use lzk_field::{Field, Gate, Open, Words};
+use lzk_goldilocks::Gold;
+use lzk_ligero::WorksOver;
+use lzk_ntt::NttExtender;
+use sha2::{Digest, Sha256};
+use std::alloc::Global;
+use std::marker::Sync;
 use std::sync::atomic::{AtomicU64, Ordering};
 use std::test::Fail;
+use std::thread::Threads;
 
 // A gate in which two workers look for each other.
 #[derive(Drop)]
@@ -15,9 +26,27 @@ struct Meeting {
     second_saw: AtomicU64,
 }
 
-// Sets the worker's own flag, and looks for the other's.
+impl Meeting {
+    fn new() -> Meeting {
+        Meeting {
+            first: AtomicU64::new(0),
+            second: AtomicU64::new(0),
+            first_saw: AtomicU64::new(0),
+            second_saw: AtomicU64::new(0),
+        }
+    }
+
+    // Whether each of the two saw the other.
+    fn have_met(&self) -> bool {
+        self.first_saw.load(Ordering::SeqCst) == 1 && self.second_saw.load(Ordering::SeqCst) == 1
+    }
+}
+
+// Sets the worker's own flag, and looks for the other's. Only the first time counts.
 fn meet(own: &AtomicU64, other: &AtomicU64, saw: &AtomicU64) {
-    own.store(1, Ordering::SeqCst);
+    if own.swap(1, Ordering::SeqCst) == 1 {
+        return;
+    }
     for _ in 0..100_000_000u64 {
         if other.load(Ordering::SeqCst) == 1 {
             saw.store(1, Ordering::SeqCst);
@@ -43,20 +72,14 @@ impl Gate for Meeting {
 
 #[test]
 fn two_workers_meet(rt: HostRuntime) -> Result<(), Fail> {
-    let gate = Meeting {
-        first: AtomicU64::new(0),
-        second: AtomicU64::new(0),
-        first_saw: AtomicU64::new(0),
-        second_saw: AtomicU64::new(0),
-    };
+    let gate = Meeting::new();
     let by = seen(&rt, rt.alloc(), &SQUARE, &gate)?.by_workers;
     assert_eq!(rt; by.one, SQUARE.digest);
     assert_eq!(rt; by.two, SQUARE.digest);
     assert_eq!(rt; by.five, SQUARE.digest);
     assert_eq!(rt; by.seven, SQUARE.digest);
     assert_eq!(rt; by.sixty_four, SQUARE.digest);
-    assert_eq!(rt; gate.first_saw.load(Ordering::SeqCst), 1);
-    assert_eq!(rt; gate.second_saw.load(Ordering::SeqCst), 1);
+    assert!(rt; gate.have_met());
     Ok(())
 }
 
@@ -93,5 +116,66 @@ fn each_chunk_is_entered_once(rt: HostRuntime) -> Result<(), Fail> {
     for count in &gate.entered {
         assert_eq!(rt; count.load(Ordering::SeqCst), 1);
     }
+    Ok(())
+}
+
+// Zeros. Who draws the first word of the first column's nonce looks for whoever draws the last word of the last one's, and the other way.
+#[derive(Drop)]
+struct MeetingWords {
+    meeting: Meeting,
+}
+
+// The square's words that nonces are made of: two for each of its 768 columns, behind all others.
+const FIRST_NONCE: u64 = 1_480;
+
+const LAST_NONCE: u64 = 3_015;
+
+impl Words for MeetingWords {
+    ghost at = { λ s i. 0 };
+
+    fn word(&self, i: u64) -> u128 {
+        if i == FIRST_NONCE {
+            self.meeting.enter(0, 2);
+        } else if i == LAST_NONCE {
+            self.meeting.enter(1, 2);
+        }
+        0
+    }
+}
+
+// What two workers prove of the square by these words.
+fn proved_by_two<R: Threads + Sync, W: Words>(
+    rt: &R,
+    alloc: Global,
+    circuit: &Circuit<Gold>,
+    words: &W,
+) -> Result<[u8; 32], Unseen> {
+    let public = [Gold::of_word(SQUARE.public)];
+    let private = [Gold::of_word(SQUARE.private)];
+    if circuit.publics() != 1 || circuit.privates() != 1 || SQUARE.session.len() > 64 {
+        return Err(Unseen);
+    }
+    let Ok(mut works) = WorksOver::<Gold, NttExtender<Gold>>::new(alloc, circuit) else {
+        return Err(Unseen);
+    };
+    match works.prove(rt, SQUARE.session, &public, &private, words, 2, &Open) {
+        Ok(bytes) => Ok(Sha256::digest(bytes)),
+        Err(_) => Err(Unseen),
+    }
+}
+
+// Each worker hashes a part of the leaves, and so draws the nonces of its columns.
+#[test]
+fn two_workers_hash_leaves(rt: HostRuntime) -> Result<(), Fail> {
+    let words = MeetingWords {
+        meeting: Meeting::new(),
+    };
+    if let Ok(AnyCircuit::Gold(circuit)) = decode(rt.alloc(), SQUARE.circuit) {
+        assert_eq!(rt;
+            proved_by_two(&rt, rt.alloc(), &circuit, &words),
+            Ok(OF_ZEROS)
+        );
+    }
+    assert!(rt; words.meeting.have_met());
     Ok(())
 }

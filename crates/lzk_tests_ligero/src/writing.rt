@@ -53,7 +53,7 @@ struct Extremes {
 
 const USED: usize = 3_016;
 
-fn extremes(alloc: Global) -> Result<Extremes, AllocError> {
+fn extreme_words(alloc: Global) -> Result<Extremes, AllocError> {
     Ok(Extremes {
         none: Listed {
             words: Vec::new(alloc),
@@ -183,7 +183,7 @@ pub fn written_over<R: Threads + Sync, F: Field, X: RowExtend<F>, G: Gate>(
     requires four { length four.now ≡ circuit.now.privates }
 {
     let params = Params::of(circuit);
-    let extremes = extremes(alloc)?;
+    let extremes = extreme_words(alloc)?;
     let mut works = WorksOver::<F, X>::new(alloc, circuit)?;
     let written = write_all(
         rt, &mut works, &params, case, public, private, four, &extremes, gate,
