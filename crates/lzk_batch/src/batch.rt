@@ -61,7 +61,9 @@ fn work_alone(alloc: Global, batch: &Batch<'_>, pass: &mut Pass) -> Result<Vec<J
     ensures draws { DrawsOn pass.old pass.new }
 {
     let mut desks = Desks::new(batch.circuits);
-    work(alloc, &mut desks, batch.jobs, batch.tickets, pass)
+    let judged = work(alloc, &mut desks, batch.jobs, batch.tickets, pass);
+    drop(desks);
+    judged
 }
 
 // The same, as a list of one list.

@@ -39,10 +39,10 @@ fn ready<'c, F: Field>(
             return Ok(());
         }
     }
-    *kept = None;
+    drop(kept.take());
     match Desk::new(alloc, circuit) {
         Ok(desk) => {
-            *kept = Some(Kept { place, desk });
+            drop(kept.replace(Kept { place, desk }));
             Ok(())
         }
         Err(error) => Err(error),
