@@ -36,7 +36,8 @@ fn read_over<S: Shelf, F: Field>(
 ) -> Result<(JobOf<F>, usize), Halt>
     requires short { length entry.now.session.items ≤ 64 }
     requires taken { taken ≤ total_limit }
-    ensures gives { GivesOver (coding F.element F.number_of F.BYTES F.size F.ID) circuit.now (seen S.Shelf shelf.old) (seen S.Shelf shelf.new) (entry_view entry.now) place taken result }
+    ensures gives { GivesOver (coding F.element F.number_of F.BYTES F.size F.ID) circuit.now
+        (seen S.Shelf shelf.old) (seen S.Shelf shelf.new) (entry_view entry.now) place taken result }
     ensures reads { OnlyReads (seen S.Shelf shelf.old) (seen S.Shelf shelf.new) }
 {
     let session = entry.session.to_vec(alloc)?;

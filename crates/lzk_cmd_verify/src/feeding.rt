@@ -61,7 +61,8 @@ pub fn feed_proof<S: Shelf, F: Field>(
     desk: &mut Desk<'_, F>,
 ) -> Result<(), Halt>
     requires fed { kept.is_fed desk.old ≡ true }
-    ensures gives { FeedsOrEnds F.ops (coding F.element F.number_of F.BYTES F.size F.ID) (seen S.Shelf shelf.old) (seen S.Shelf shelf.new) name.now desk.old desk.new result }
+    ensures gives { FeedsOrEnds F.ops (coding F.element F.number_of F.BYTES F.size F.ID)
+        (seen S.Shelf shelf.old) (seen S.Shelf shelf.new) name.now desk.old desk.new result }
     ensures fed { kept.is_fed desk.new ≡ true }
     ensures circuit { desk.new.circuit ≡ desk.old.circuit }
     ensures reads { OnlyReads (seen S.Shelf shelf.old) (seen S.Shelf shelf.new) }

@@ -35,7 +35,8 @@ fn judge_by<S: Shelf, F: Field>(
 ) -> Result<Ending, Halt>
     requires session { length session.now ≤ 64 }
     requires publics { length publics.now ≡ desk.old.circuit.publics }
-    ensures walks { Walks (JudgesFile F.ops (coding F.element F.number_of F.BYTES F.size F.ID) desk.old.circuit session.now publics.now proof.now) 2 (seen S.Shelf shelf.old) (seen S.Shelf shelf.new) result }
+    ensures walks { Walks (JudgesFile F.ops (coding F.element F.number_of F.BYTES F.size F.ID) desk.old.circuit session.now publics.now proof.now) 2
+        (seen S.Shelf shelf.old) (seen S.Shelf shelf.new) result }
     ensures reads { OnlyReads (seen S.Shelf shelf.old) (seen S.Shelf shelf.new) }
 {
     desk.open(session, publics);
@@ -57,7 +58,8 @@ fn judge_file<S: Shelf, F: Field>(
     requires id { id ≡ id_of (coding F.element F.number_of F.BYTES F.size F.ID) circuit.now }
     requires session { length session.now ≤ 64 }
     requires publics { length publics.now ≡ circuit.now.publics }
-    ensures walks { Walks (JudgesFile F.ops (coding F.element F.number_of F.BYTES F.size F.ID) circuit.now session.now publics.now proof.now) 2 (seen S.Shelf shelf.old) (seen S.Shelf shelf.new) result }
+    ensures walks { Walks (JudgesFile F.ops (coding F.element F.number_of F.BYTES F.size F.ID) circuit.now session.now publics.now proof.now) 2
+        (seen S.Shelf shelf.old) (seen S.Shelf shelf.new) result }
     ensures reads { OnlyReads (seen S.Shelf shelf.old) (seen S.Shelf shelf.new) }
 {
     let mut desk = Desk::with_id(alloc, circuit, id)?;
@@ -97,7 +99,8 @@ fn verify_over<S: Shelf, F: Field>(
 ) -> Result<Ending, Halt>
     requires id { id ≡ id_of (coding F.element F.number_of F.BYTES F.size F.ID) circuit.now }
     requires session { length session.now ≤ 64 }
-    ensures walks { Walks (VerifyOver F.ops (coding F.element F.number_of F.BYTES F.size F.ID) circuit.now public.now proof.now session.now) 1 (seen S.Shelf shelf.old) (seen S.Shelf shelf.new) result }
+    ensures walks { Walks (VerifyOver F.ops (coding F.element F.number_of F.BYTES F.size F.ID) circuit.now public.now proof.now session.now) 1
+        (seen S.Shelf shelf.old) (seen S.Shelf shelf.new) result }
     ensures reads { OnlyReads (seen S.Shelf shelf.old) (seen S.Shelf shelf.new) }
 {
     let publics = read_elements::<S, F>(alloc, shelf, public, circuit.publics())?;
@@ -135,7 +138,8 @@ pub fn verify<R: Threads + Sync, S: Shelf, G: Gate>(
     shelf: &mut S,
 ) -> Result<Ending, Halt>
     requires session { length (session_of (option_copied session)) ≤ 64 }
-    ensures walks { Walks (VerifyRun circuit.now public.now proof.now (option_copied session.entry)) 0 (seen S.Shelf shelf.old) (seen S.Shelf shelf.new) result }
+    ensures walks { Walks (VerifyRun circuit.now public.now proof.now (option_copied session.entry)) 0
+        (seen S.Shelf shelf.old) (seen S.Shelf shelf.new) result }
     ensures reads { OnlyReads (seen S.Shelf shelf.old) (seen S.Shelf shelf.new) }
 {
     let session = session_bytes(means.alloc, session)?;
