@@ -23,3 +23,5 @@ pub mod TakingSent
 pub mod Verdicts
 pub mod WholeFields
 pub mod WholeProof
+pub mod WeightedAnswers
+pub mod WeightedRows

@@ -15,9 +15,9 @@ use Rattle.lzk_layout.specs.Parts.{before_opened, before_count}
 use Rattle.lzk_accept.specs.Challenges.{Transcript}
 use Rattle.lzk_accept.specs.Checks.{combined_row_of}
 use Rattle.lzk_verify.specs.declared.intake.Intake.{Intake}
-use Rattle.lzk_verify.specs.Columns.{IsLowDegreeIn, IsLinearIn, IsQuadraticIn}
-use Rattle.lzk_verify.specs.Desk.{Rooms, AreLists, AreRows, AreReady, IsNoted}
-use Rattle.lzk_verify.specs.Kept.{messages_in, ldt_in, dot_in, column_place, whole_columns, column_fields, sent_read, nonce_read, column_read, leaf_read, digests_read, given_of, columns_of, IsLeastFailing}
+use Rattle.lzk_verify.specs.Columns.{IsLowDegreeIn, IsLinearIn, IsQuadraticIn, values_of}
+use Rattle.lzk_verify.specs.Desk.{Rooms, AreLists, AreReady, AreWeightedRows, IsNoted, weighted_answers}
+use Rattle.lzk_verify.specs.Kept.{messages_in, ldt_in, dot_in, head_in, tail_in, column_place, whole_columns, column_fields, sent_read, nonce_read, column_read, leaf_read, digests_read, given_of, columns_of, IsLeastFailing}
 use Rattle.lzk_verify.proofs.ColumnPlaces.{whole_within, fields_within, all_whole, none_open}
 use Rattle.lzk_verify.proofs.FieldSteps.{earlier, newest, elements_more, slot_more}
 use Rattle.lzk_verify.proofs.LeastLaws.{least_more}
@@ -215,16 +215,18 @@ module _ {A : Type 0} (o : Ops A) (e : Coding A) (c : Wiring A) (p : Params) (se
 
       -- It is taken, and the column is checked with what was drawn.
       pub stored_checked : (r : Rooms A) → (k.is_drawn ≡ true → AreReady o e.element c p k r) → l.leaves.items ≡ slice_set k.leaves.items j (leaf_of e.bytes e.number k.nonce column)
-          → IsNoted k.failing.low_degree l.failing.low_degree (IsLowDegreeIn o e.element p column (p.dblock + index) (ldt_in p k.sent.items) k.drawn.challenges.u) index
-          → ((lists : ℕ → List A) → AreRows o p r.combined lists → IsNoted k.failing.linear l.failing.linear (IsLinearIn o e.element p column (p.dblock + index) (dot_in p k.sent.items) lists) index)
-          → IsNoted k.failing.quadratic l.failing.quadratic (IsQuadraticIn o e.element p column (p.dblock + index) r.values k.drawn.challenges.v) index
+          → (r.answers ≡ weighted_answers o e.element p k.sent.items → IsNoted k.failing.low_degree l.failing.low_degree (IsLowDegreeIn o e.element p column (p.dblock + index) (ldt_in p k.sent.items) k.drawn.challenges.u) index)
+          → (r.answers ≡ weighted_answers o e.element p k.sent.items → (lists : ℕ → List A) → AreWeightedRows o e.element p r.combined lists
+          → IsNoted k.failing.linear l.failing.linear (IsLinearIn o e.element p column (p.dblock + index) (dot_in p k.sent.items) lists) index)
+          → (r.answers ≡ weighted_answers o e.element p k.sent.items
+          → IsNoted k.failing.quadratic l.failing.quadratic (IsQuadraticIn o e.element p column (p.dblock + index) (values_of o p (head_in p k.sent.items) (tail_in p k.sent.items)) k.drawn.challenges.v) index)
           → l.count ≡ k.count → l.digests.items ≡ k.digests.items → IsStored o e c p session public longer l
       stored_checked r ready leaves low_degree linear_at quadratic_at count digests =
           let h : nat_le (before_opened p) (length fields) ≡ true = grind (arith, is_late) in
           let are = ready (s.drawn_is ∙ h) in
-          stored_end leaves low_degree
-          (subst (λ xs. IsNoted k.failing.linear l.failing.linear (IsLinearIn o e.element p column (p.dblock + index) (dot_in p k.sent.items) (combined_row_of o e.element c xs k.drawn.script (messages_in p k.sent.items) k.drawn.challenges)) index) s.public_are (linear_at _ are.rows))
-          (subst (λ xs. IsNoted k.failing.quadratic l.failing.quadratic (IsQuadraticIn o e.element p column (p.dblock + index) xs k.drawn.challenges.v) index) are.values quadratic_at)
+          stored_end leaves (low_degree are.answers)
+          (subst (λ xs. IsNoted k.failing.linear l.failing.linear (IsLinearIn o e.element p column (p.dblock + index) (dot_in p k.sent.items) (combined_row_of o e.element c xs k.drawn.script (messages_in p k.sent.items) k.drawn.challenges)) index) s.public_are (linear_at are.answers _ are.rows))
+          (quadratic_at are.answers)
           count digests
 
   -- behind the opened columns

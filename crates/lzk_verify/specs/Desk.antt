@@ -26,7 +26,8 @@ use Rattle.lzk_verify.specs.declared.verdict.Verdict.TheVariants.{Accepted, Circ
 use Rattle.lzk_circbytes.specs.Files.{id_of}
 use Rattle.lzk_verify.specs.Checks.{needed_digests}
 use Rattle.lzk_verify.specs.Columns.{values_of}
-use Rattle.lzk_verify.specs.Kept.{sent_count, messages_in, dot_in, head_in, tail_in, whole_columns, column_fields, tape_reached, given_before, Kept, Held, stopped, keeping}
+use Rattle.lzk_verify.specs.Extending.{weighted}
+use Rattle.lzk_verify.specs.Kept.{sent_count, messages_in, ldt_in, dot_in, head_in, tail_in, whole_columns, column_fields, tape_reached, given_before, Kept, Held, stopped, keeping}
 use Rattle.lzk_verify.specs.Verdict.{Unless}
 
 -- what a check answers: none where it holds, and otherwise what is kept
@@ -60,13 +61,33 @@ pub record AreRows {A : Type 0} (o : Ops A) (p : Params) (f : Factored A) (rows 
   pub front : (i s : ℕ) → s < 128 → entry o (rows i) s ≡ o.zero
   pub back : GivesCombined o p f (λ i s. entry o (rows i) (128 + s))
 
+-- they give each coefficient of these rows times the weight of its place
+abbrev pub AreWeightedRows : {A : Type 0} → Ops A → (ℕ → A) → Params → Factored A → (ℕ → List A) → Type 0
+AreWeightedRows o element p f rows = AreRows o p f (λ i. weighted o element (rows i))
+
+-- the answers of a proof, each value times its weight
+pub record WeightedAnswers (A : Type 0) : Type 0 where
+  pub ldt : List A
+  pub dot : List A
+  pub quadratic : List A
+
+-- those of the elements that a proof sends
+abbrev pub weighted_answers : {A : Type 0} → Ops A → (ℕ → A) → Params → List A → WeightedAnswers A
+weighted_answers o element p sent =
+    record { ldt = weighted o element (ldt_in p sent); dot = weighted o element (dot_in p sent); quadratic = weighted o element (values_of o p (head_in p sent) (tail_in p sent)) }
+
+-- as long as the parameters say
+pub record AreAnswers {A : Type 0} (p : Params) (a : WeightedAnswers A) : Type 0 where
+  pub ldt : length a.ldt ≡ p.block
+  pub dot : length a.dot ≡ p.dblock
+  pub quadratic : length a.quadratic ≡ p.dblock
+
 -- the room in which a proof is checked, and what its weights reach
 pub record Rooms (A : Type 0) : Type 0 where
   pub forms : LinearForms A
   pub combined : Factored A
-  pub row : ℕ
-  pub product : ℕ
-  pub values : List A
+  pub answers : WeightedAnswers A
+  pub inverses : ℕ
   pub nodes : ℕ
   pub rows : Reach
   pub products : Reach
@@ -74,9 +95,8 @@ pub record Rooms (A : Type 0) : Type 0 where
 -- that is as much as the parameters want
 pub record AreRooms {A : Type 0} (p : Params) (r : Rooms A) : Type 0 where
   pub combined : HasFactors p r.combined
-  pub row : r.row ≡ p.block
-  pub product : r.product ≡ p.dblock
-  pub values : length r.values ≡ p.dblock
+  pub answers : AreAnswers p r.answers
+  pub inverses : r.inverses ≡ p.dblock
   pub nodes : r.nodes ≡ 2 * p.mcol
   pub rows : r.rows ≡ rows p
   pub products : r.products ≡ products p
@@ -94,9 +114,9 @@ pub record AreLists {A : Type 0} (p : Params) (k : Intake A) : Type 0 where
 
 -- what the opened columns are checked with is that of what was drawn
 pub record AreReady {A : Type 0} (o : Ops A) (element : ℕ → A) (c : Wiring A) (p : Params) (k : Intake A) (r : Rooms A) : Type 0 where
-  pub rows : AreRows o p r.combined (combined_row_of o element c k.public.items k.drawn.script (messages_in p k.sent.items) k.drawn.challenges)
+  pub rows : AreWeightedRows o element p r.combined (combined_row_of o element c k.public.items k.drawn.script (messages_in p k.sent.items) k.drawn.challenges)
   pub wanted : k.wanted ≡ wanted_of o element c k.public.items k.drawn.script (messages_in p k.sent.items) k.drawn.challenges
-  pub values : r.values ≡ values_of o p (head_in p k.sent.items) (tail_in p k.sent.items)
+  pub answers : r.answers ≡ weighted_answers o element p k.sent.items
 
 -- an intake and its room are those for a circuit of these parameters
 pub record IsSound {A : Type 0} (o : Ops A) (element : ℕ → A) (c : Wiring A) (p : Params) (k : Intake A) (r : Rooms A) : Type 0 where

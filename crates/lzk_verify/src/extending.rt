@@ -1,10 +1,11 @@
 //! What extends lists of values to the point of an opened column.
 
-ghost use Rattle.std.specs.Prelude.{◌≡◌, ◌≢◌, ℕ, ◌+◌, ◌<◌, ◌≤◌, ◌↔◌, length, IsTrue};
+ghost use Rattle.std.specs.Prelude.{◌≡◌, ◌≢◌, ℕ, ◌+◌, ◌<◌, ◌≤◌, ◌↔◌, List, length, IsTrue};
 ghost use Rattle.lzk_field.specs.Sums.{minus};
 ghost use Rattle.lzk_poly.specs.Extension.{extension};
-ghost use Rattle.lzk_poly.specs.Weights.{IsEven, IsInverseTable, passed};
-ghost use Rattle.lzk_verify.specs.Extending.{Extends};
+ghost use Rattle.lzk_poly.specs.Weights.{IsEven, IsInverseTable};
+ghost use Rattle.lzk_verify.specs.Extending as spec;
+ghost use Rattle.lzk_verify.specs.Extending.{AreInverseDifferences, Extends};
 
 use lzk_field::Field;
 use lzk_poly::Weights;
@@ -40,34 +41,29 @@ fn inverse_between<F: Field>(inverses: &[F], even: bool, point: u32, i: u32) -> 
     inverse_of(inverses, F::point(point).sub(F::point(i)))
 }
 
-// Each weight over the difference of a point and the weight's own.
-fn fill_factors<F: Field>(weights: &Weights<F>, point: u32, factors: &mut [F])
-    requires room { length factors.old ≡ weights.now.count }
-    requires behind { weights.now.count ≤ point }
+/// Sets the inverses of the differences of a point and the first ones.
+pub(crate) fn set_inverses<F: Field>(weights: &Weights<F>, point: u32, list: &mut [F])
+    requires behind { length list.old ≤ point }
     requires reached { point < weights.now.upto }
     requires limit { weights.now.upto ≤ 65536 }
-    ensures length { length factors.new ≡ length factors.old }
-    ensures extends { (last : F) → last ≡ passed F.ops F.element weights.now.count (F.element point) → Extends F.ops F.element point factors.new last }
+    ensures length { length list.new ≡ length list.old }
+    ensures inverses { AreInverseDifferences F.ops F.element point list.new }
 {
-    let own = weights.weights();
     let inverses = weights.inverses();
     let even = weights.is_even();
-    for i in 0..factors.len() {
-        factors[i] = own[i].mul(inverse_between(inverses, even, point, i as u32));
+    for i in 0..list.len() {
+        list[i] = inverse_between(inverses, even, point, i as u32);
     }
 }
 
-/// Sets the factors of values at a point behind theirs, and gives a last one: the sum of the values' products with the factors, times
-/// the last one, is the value there of the polynomial through the values.
-pub(crate) fn set_factors<F: Field>(weights: &Weights<F>, point: u32, factors: &mut [F]) -> F
-    requires room { length factors.old ≡ weights.now.count }
+/// What the sum of weighted values' products with the inverses at a point behind theirs is multiplied by, to be the value there of
+/// the polynomial through the values.
+pub(crate) fn last_factor<F: Field>(weights: &Weights<F>, point: u32) -> F
     requires behind { weights.now.count ≤ point }
     requires reached { point < weights.now.upto }
-    ensures length { length factors.new ≡ length factors.old }
-    ensures extends { Extends F.ops F.element point factors.new result }
+    ensures { (inverses : List F) → length inverses ≡ weights.now.count → AreInverseDifferences F.ops F.element point inverses → Extends F.ops F.element point inverses result }
 {
     let at = (point - weights.count()) as usize;
-    fill_factors(weights, point, factors);
     weights.passed()[at]
 }
 
@@ -78,10 +74,11 @@ fn are_equal<F: Field>(x: F, y: F) -> bool
     x == y
 }
 
-/// Whether the polynomial through these values has the wanted one at the factors' point.
-pub(crate) fn extend_to<F: Field>(values: &[F], factors: &[F], last: F, wanted: F) -> bool
-    requires lengths { length values.now ≡ length factors.now }
-    ensures { (point : ℕ) → Extends F.ops F.element point factors.now last → (IsTrue result ↔ extension F.ops F.element values.now point ≡ wanted) }
+/// Whether the polynomial through the values, of which these are weighted, has the wanted one at the inverses' point.
+pub(crate) fn extend_to<F: Field>(weighted: &[F], inverses: &[F], last: F, wanted: F) -> bool
+    requires lengths { length weighted.now ≡ length inverses.now }
+    ensures { (point : ℕ) (values : List F) → weighted.now ≡ spec.weighted F.ops F.element values → Extends F.ops F.element point inverses.now last
+        → (IsTrue result ↔ extension F.ops F.element values point ≡ wanted) }
 {
-    are_equal(F::dot(values, factors).mul(last), wanted)
+    are_equal(F::dot(weighted, inverses).mul(last), wanted)
 }

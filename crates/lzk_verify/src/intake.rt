@@ -13,20 +13,15 @@ ghost use Rattle.lzk_layout.specs.declared.params.Params.{Params};
 ghost use Rattle.lzk_sumcheck.specs.Script as sumcheck;
 ghost use Rattle.lzk_accept.specs.Kept.{AreFormsOf};
 ghost use Rattle.lzk_circbytes.specs.Files.{id_of};
-ghost use Rattle.lzk_verify.specs.Columns.{IsLowDegreeIn, IsLinearIn, IsQuadraticIn};
+ghost use Rattle.lzk_verify.specs.Columns.{IsLowDegreeIn, IsLinearIn, IsQuadraticIn, values_of};
 ghost use Rattle.lzk_verify.specs.Desk as spec;
-ghost use Rattle.lzk_verify.specs.Desk.{AreRooms, AreLists, AreRows, AreReady, IsSound, IsNoted, IsBlockOf, kept_of};
+ghost use Rattle.lzk_verify.specs.Desk.{AreRooms, AreLists, AreReady, AreWeightedRows, IsSound, IsNoted, IsBlockOf, kept_of, weighted_answers};
 ghost use Rattle.lzk_verify.specs.Kept as fields;
-ghost use Rattle.lzk_verify.specs.Kept.{ldt_in, dot_in, whole_transcript, IsKept};
+ghost use Rattle.lzk_verify.specs.Kept.{ldt_in, dot_in, head_in, tail_in, whole_transcript, IsKept};
 
-use crate::combining::combine_constraints;
 use crate::drawing::{Drawn, OPENED, public_tape};
-use crate::extending::set_factors;
-use crate::linear::is_linear_at;
-use crate::low_degree::is_low_degree_at;
-use crate::quadratic::{fill_quadratic, is_quadratic_at};
 use crate::room::{Room, zero_digests};
-use crate::sent::{dot_of, head_of, ldt_of, messages_of, sent_count, tail_of};
+use crate::sent::sent_count;
 use lzk_circuit::{Circuit, zeros};
 use lzk_field::Field;
 use lzk_layout::{Params, ProofPart};
@@ -211,18 +206,7 @@ impl<F: Field> Intake<F> {
     {
         self.drawn
             .draw(circuit, params, &mut self.tape, &self.root, &self.sent);
-        self.wanted = combine_constraints(
-            circuit,
-            params,
-            &self.public,
-            messages_of(params, &self.sent),
-            &self.drawn,
-            &mut room.forms,
-            &mut room.combined,
-        );
-        let head = head_of(params, &self.sent);
-        let tail = tail_of(params, &self.sent);
-        fill_quadratic(params, head, tail, &mut room.values);
+        self.wanted = room.prepare(circuit, params, &self.public, &self.sent, &self.drawn);
         self.is_drawn = true;
     }
 
@@ -235,48 +219,25 @@ impl<F: Field> Intake<F> {
         ensures others { self.new ≡ record self.old { leaves = self.new.leaves; failing = self.new.failing } }
         ensures leaf { self.new.leaves.items ≡ slice_set self.old.leaves.items k (leaf_of F.BYTES F.number_of self.old.nonce self.old.column.items) }
         ensures low_degree { let index = slice_index self.old.drawn.columns k in
-            IsNoted self.old.failing.low_degree self.new.failing.low_degree
+            room.old.answers ≡ weighted_answers F.ops F.element params.now self.old.sent.items → IsNoted self.old.failing.low_degree self.new.failing.low_degree
             (IsLowDegreeIn F.ops F.element params.now self.old.column.items (params.now.dblock + index) (ldt_in params.now self.old.sent.items) self.old.drawn.challenges.u) index }
         ensures linear { let index = slice_index self.old.drawn.columns k in
-            (lists : ℕ → List F) → AreRows F.ops params.now room.old.combined lists → IsNoted self.old.failing.linear self.new.failing.linear
+            room.old.answers ≡ weighted_answers F.ops F.element params.now self.old.sent.items → (lists : ℕ → List F) → AreWeightedRows F.ops F.element params.now room.old.combined lists
+            → IsNoted self.old.failing.linear self.new.failing.linear
             (IsLinearIn F.ops F.element params.now self.old.column.items (params.now.dblock + index) (dot_in params.now self.old.sent.items) lists) index }
         ensures quadratic { let index = slice_index self.old.drawn.columns k in
-            IsNoted self.old.failing.quadratic self.new.failing.quadratic
-            (IsQuadraticIn F.ops F.element params.now self.old.column.items (params.now.dblock + index) room.old.values self.old.drawn.challenges.v) index }
+            room.old.answers ≡ weighted_answers F.ops F.element params.now self.old.sent.items → IsNoted self.old.failing.quadratic self.new.failing.quadratic
+            (IsQuadraticIn F.ops F.element params.now self.old.column.items (params.now.dblock + index) (values_of F.ops params.now (head_in params.now self.old.sent.items) (tail_in params.now self.old.sent.items)) self.old.drawn.challenges.v) index }
         ensures room { room.new ≡ room.old }
     {
         let column = self.column.as_slice();
         let index = self.drawn.column(k);
-        let point = params.dblock + index;
         self.leaves[k] = leaf(&self.nonce, column);
-        let last = set_factors(&room.rows, point, &mut room.row);
-        let product_last = set_factors(&room.products, point, &mut room.product);
-        let u = self.drawn.challenges.u.as_slice();
-        let ldt = ldt_of(params, &self.sent);
-        let low_degree = is_low_degree_at(params, ldt, column, u, &room.row, last);
-        let linear = is_linear_at(
-            params,
-            dot_of(params, &self.sent),
-            column,
-            &room.combined,
-            &room.row,
-            last,
-            &room.product,
-            product_last,
-        );
-        let v = self.drawn.challenges.v.as_slice();
-        let quadratic = is_quadratic_at(
-            params,
-            &room.values,
-            column,
-            v,
-            &room.product,
-            product_last,
-        );
+        let right = room.check_column(params, index, column, &self.drawn.challenges);
         self.failing = Failing {
-            low_degree: least(self.failing.low_degree, low_degree, index),
-            linear: least(self.failing.linear, linear, index),
-            quadratic: least(self.failing.quadratic, quadratic, index),
+            low_degree: least(self.failing.low_degree, right.low_degree, index),
+            linear: least(self.failing.linear, right.linear, index),
+            quadratic: least(self.failing.quadratic, right.quadratic, index),
         };
     }
 

@@ -4,6 +4,7 @@
 //! checks follow, in the order of docs/PROTOCOL.md, section 9: the first that fails is the verdict.
 #![tactic(auto)]
 
+mod checking;
 mod combining;
 mod desk;
 mod drawing;
@@ -19,6 +20,7 @@ mod quadratic;
 mod room;
 mod sent;
 mod verdict;
+mod weighted;
 
 pub use desk::Desk;
 pub use laws::verdict_laws;

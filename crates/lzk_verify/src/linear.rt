@@ -1,12 +1,12 @@
 //! The check of the linear answer at an opened column.
 
-ghost use Rattle.std.specs.Prelude.{◌≡◌, ℕ, ◌+◌, ◌-◌, ◌*◌, ◌<◌, ◌≤◌, ◌↔◌, IsTrue, List, length};
+ghost use Rattle.std.specs.Prelude.{◌≡◌, ℕ, ◌+◌, ◌-◌, ◌*◌, ◌<◌, ◌≤◌, ◌↔◌, IsTrue, List, length, take};
 ghost use Rattle.lzk_field.specs.Sums.{entry, sum_below};
 ghost use Rattle.lzk_poly.specs.Extension.{extension};
 ghost use Rattle.lzk_layout.specs.Sizes.{AreBounded};
 ghost use Rattle.lzk_verify.specs.Columns.{IsLinearIn};
-ghost use Rattle.lzk_verify.specs.Desk.{HasFactors, AreRows};
-ghost use Rattle.lzk_verify.specs.Extending.{Extends, row_sum};
+ghost use Rattle.lzk_verify.specs.Desk.{HasFactors, AreWeightedRows};
+ghost use Rattle.lzk_verify.specs.Extending.{Extends, row_sum, weighted};
 
 use crate::extending::extend_to;
 use lzk_accept::Factored;
@@ -80,23 +80,24 @@ fn sum_private<F: Field>(elements: &[F], row_factors: &[F], place_factors: &[F],
     sum_factored(elements, row_factors, place_factors, factors)
 }
 
-// The sum, over the rows from row 3 on, of the extension of the combined coefficients' row times a column's element.
+// The sum, over the rows from row 3 on, of the extension of the combined coefficients' row times a column's element. What gives the
+// coefficients gives each times its weight.
 fn linear_sum<F: Field>(
     params: &Params,
     column: &[F],
     combined: &Factored<F>,
-    factors: &[F],
+    inverses: &[F],
     last: F,
 ) -> F
     requires bounded { AreBounded params.now }
     requires column { length column.now ≡ params.now.nrow }
     requires combined { HasFactors params.now combined.now }
-    requires factors { length factors.now ≡ params.now.block }
-    ensures { (point : ℕ) (lists : ℕ → List F) → Extends F.ops F.element point factors.now last → AreRows F.ops params.now combined.now lists
+    requires inverses { length inverses.now ≡ params.now.block }
+    ensures { (point : ℕ) (lists : ℕ → List F) → Extends F.ops F.element point inverses.now last → AreWeightedRows F.ops F.element params.now combined.now lists
         → result ≡ sum_below F.ops (params.now.nrow - 3) (λ i. F.ops.times (extension F.ops F.element (lists (3 + i)) point) (entry F.ops column.now (3 + i))) }
 {
     let behind = 3 + combined.rows as usize;
-    let back = &factors[HEAD..];
+    let back = &inverses[HEAD..];
     let private = sum_private(
         &column[3..behind],
         combined.row_factors.as_slice(),
@@ -107,27 +108,27 @@ fn linear_sum<F: Field>(
     private.add(others).mul(last)
 }
 
-/// Whether the linear answer is right at the factors' point, of a column. Those of a row's values come first, and those of the values
-/// of a product of two rows behind them.
+/// Whether the linear answer, whose weighted values these are, is right at the inverses' point, of a column. The last factor of the
+/// values of a row comes first, and that of the values of a product of two rows behind it.
 pub(crate) fn is_linear_at<F: Field>(
     params: &Params,
     dot: &[F],
     column: &[F],
     combined: &Factored<F>,
-    row: &[F],
+    inverses: &[F],
+    row_last: F,
     last: F,
-    product: &[F],
-    product_last: F,
 ) -> bool
     requires bounded { AreBounded params.now }
     requires dot { length dot.now ≡ params.now.dblock }
     requires column { length column.now ≡ params.now.nrow }
     requires combined { HasFactors params.now combined.now }
-    requires row { length row.now ≡ params.now.block }
-    requires product { length product.now ≡ params.now.dblock }
-    ensures { (point : ℕ) (lists : ℕ → List F) → Extends F.ops F.element point row.now last → Extends F.ops F.element point product.now product_last → AreRows F.ops params.now combined.now lists
-        → (IsTrue result ↔ IsLinearIn F.ops F.element params.now column.now point dot.now lists) }
+    requires inverses { length inverses.now ≡ params.now.dblock }
+    ensures { (point : ℕ) (values : List F) (lists : ℕ → List F) → dot.now ≡ weighted F.ops F.element values
+        → Extends F.ops F.element point (take params.now.block inverses.now) row_last → Extends F.ops F.element point inverses.now last
+        → AreWeightedRows F.ops F.element params.now combined.now lists → (IsTrue result ↔ IsLinearIn F.ops F.element params.now column.now point values lists) }
 {
-    let sum = linear_sum(params, column, combined, row, last);
-    extend_to(dot, product, product_last, column[1].add(sum))
+    let row = &inverses[..params.block as usize];
+    let sum = linear_sum(params, column, combined, row, row_last);
+    extend_to(dot, inverses, last, column[1].add(sum))
 }

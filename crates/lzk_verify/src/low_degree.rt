@@ -1,11 +1,11 @@
 //! The check of the low degree answer at an opened column, and the sum of the linear answer's values.
 
-ghost use Rattle.std.specs.Prelude.{◌≡◌, ℕ, ◌+◌, ◌-◌, ◌<◌, ◌≤◌, ◌↔◌, IsTrue, length};
+ghost use Rattle.std.specs.Prelude.{◌≡◌, ℕ, ◌+◌, ◌-◌, ◌<◌, ◌≤◌, ◌↔◌, IsTrue, List, length};
 ghost use Rattle.lzk_field.specs.Sums.{entry, sum_below};
 ghost use Rattle.lzk_layout.specs.Sizes.{AreBounded};
 ghost use Rattle.lzk_verify.specs.Columns.{IsLowDegreeIn};
 ghost use Rattle.lzk_verify.specs.Desk.{IsChecked};
-ghost use Rattle.lzk_verify.specs.Extending.{Extends};
+ghost use Rattle.lzk_verify.specs.Extending.{Extends, weighted};
 
 use crate::extending::extend_to;
 use lzk_field::Field;
@@ -21,23 +21,24 @@ fn low_degree_sum<F: Field>(params: &Params, column: &[F], u: &[F]) -> F
     column[0].add(F::dot(u, &column[3..]))
 }
 
-/// Whether the low degree answer is right at the factors' point, of a column.
+/// Whether the low degree answer, whose weighted values these are, is right at the inverses' point, of a column.
 pub(crate) fn is_low_degree_at<F: Field>(
     params: &Params,
     ldt: &[F],
     column: &[F],
     u: &[F],
-    factors: &[F],
+    inverses: &[F],
     last: F,
 ) -> bool
     requires bounded { AreBounded params.now }
     requires ldt { length ldt.now ≡ params.now.block }
     requires column { length column.now ≡ params.now.nrow }
     requires u { length u.now ≡ params.now.nrow - 3 }
-    requires factors { length factors.now ≡ params.now.block }
-    ensures { (point : ℕ) → Extends F.ops F.element point factors.now last → (IsTrue result ↔ IsLowDegreeIn F.ops F.element params.now column.now point ldt.now u.now) }
+    requires inverses { length inverses.now ≡ params.now.block }
+    ensures { (point : ℕ) (values : List F) → ldt.now ≡ weighted F.ops F.element values → Extends F.ops F.element point inverses.now last
+        → (IsTrue result ↔ IsLowDegreeIn F.ops F.element params.now column.now point values u.now) }
 {
-    extend_to(ldt, factors, last, low_degree_sum(params, column, u))
+    extend_to(ldt, inverses, last, low_degree_sum(params, column, u))
 }
 
 // The sum of the linear answer's values at the points of a row's elements.

@@ -1,10 +1,10 @@
 //! The check of the quadratic answer at an opened column.
 
-ghost use Rattle.std.specs.Prelude.{◌≡◌, ℕ, ◌+◌, ◌-◌, ◌*◌, ◌<◌, ◌≤◌, ◌↔◌, ◌++◌, IsTrue, replicate, length};
+ghost use Rattle.std.specs.Prelude.{◌≡◌, ℕ, ◌+◌, ◌-◌, ◌*◌, ◌<◌, ◌≤◌, ◌↔◌, ◌++◌, IsTrue, List, replicate, length};
 ghost use Rattle.lzk_field.specs.Sums.{entry, sum_below, minus};
 ghost use Rattle.lzk_layout.specs.Sizes.{AreBounded};
 ghost use Rattle.lzk_verify.specs.Columns.{IsQuadraticIn, in_triple, values_of};
-ghost use Rattle.lzk_verify.specs.Extending.{Extends};
+ghost use Rattle.lzk_verify.specs.Extending.{Extends, weighted};
 
 use crate::extending::extend_to;
 use crate::lists::clear;
@@ -58,21 +58,22 @@ fn quadratic_sum<F: Field>(params: &Params, column: &[F], v: &[F]) -> F
     column[2].add(sum)
 }
 
-/// Whether the quadratic answer, whose values these are, is right at the factors' point, of a column.
+/// Whether the quadratic answer, whose weighted values these are, is right at the inverses' point, of a column.
 pub(crate) fn is_quadratic_at<F: Field>(
     params: &Params,
-    values: &[F],
+    quadratic: &[F],
     column: &[F],
     v: &[F],
-    factors: &[F],
+    inverses: &[F],
     last: F,
 ) -> bool
     requires bounded { AreBounded params.now }
-    requires values { length values.now ≡ params.now.dblock }
+    requires quadratic { length quadratic.now ≡ params.now.dblock }
     requires column { length column.now ≡ params.now.nrow }
     requires v { length v.now ≡ params.now.ntriple }
-    requires factors { length factors.now ≡ params.now.dblock }
-    ensures { (point : ℕ) → Extends F.ops F.element point factors.now last → (IsTrue result ↔ IsQuadraticIn F.ops F.element params.now column.now point values.now v.now) }
+    requires inverses { length inverses.now ≡ params.now.dblock }
+    ensures { (point : ℕ) (values : List F) → quadratic.now ≡ weighted F.ops F.element values → Extends F.ops F.element point inverses.now last
+        → (IsTrue result ↔ IsQuadraticIn F.ops F.element params.now column.now point values v.now) }
 {
-    extend_to(values, factors, last, quadratic_sum(params, column, v))
+    extend_to(quadratic, inverses, last, quadratic_sum(params, column, v))
 }

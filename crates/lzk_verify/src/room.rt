@@ -5,8 +5,9 @@ ghost use Rattle.lzk_layout.specs.Sizes.{AreBounded, params_of};
 ghost use Rattle.lzk_accept.specs.Factored.{HasRoomFor};
 ghost use Rattle.lzk_accept.specs.Kept.{AreFormsOf};
 ghost use Rattle.lzk_verify.specs.Desk as spec;
-ghost use Rattle.lzk_verify.specs.Desk.{AreRooms};
+ghost use Rattle.lzk_verify.specs.Desk.{AreAnswers, AreRooms};
 
+use crate::weighted::Weighted;
 use lzk_accept::{Factored, Forms};
 use lzk_circuit::{Circuit, zeros};
 use lzk_field::Field;
@@ -22,12 +23,10 @@ pub(crate) struct Room<F: Field> {
     pub(crate) forms: Forms<F>,
     /// The combined coefficients of the rows from row 3 on.
     pub(crate) combined: Factored<F>,
-    /// What extends the values of a row to the point of a column.
-    pub(crate) row: Vec<F>,
-    /// What extends the values of a product of two rows to the point of a column.
-    pub(crate) product: Vec<F>,
-    /// The values of the quadratic answer.
-    pub(crate) values: Vec<F>,
+    /// The answers, weighted.
+    pub(crate) answers: Weighted<F>,
+    /// The inverses of the differences of a column's point and those of the values of a product of two rows.
+    pub(crate) inverses: Vec<F>,
     /// The digests of a tree's nodes.
     pub(crate) nodes: Vec<[u8; 32]>,
     /// The weights of the values of a row.
@@ -42,7 +41,7 @@ impl<F: Field> Model for Room<F> {
 
     ghost Value = { Rooms F };
 
-    ghost view = { λ r. record { forms = r.forms; combined = r.combined; row = length r.row.items; product = length r.product.items; values = r.values.items; nodes = length r.nodes.items; rows = r.rows; products = r.products } };
+    ghost view = { λ r. record { forms = r.forms; combined = r.combined; answers = r.answers; inverses = length r.inverses.items; nodes = length r.nodes.items; rows = r.rows; products = r.products } };
 }
 
 /// So many digests of zeros.
@@ -72,28 +71,21 @@ impl<F: Field> LinearRoom<F> {
     }
 }
 
-// Room for factors of a row's values and of a product's, and for a product's values.
+// Room for the weighted answers, and for the inverses at a column's point.
 #[derive(Drop)]
-struct RowRoom<F> {
-    row: Vec<F>,
-    product: Vec<F>,
-    values: Vec<F>,
+struct AnswerRoom<F: Field> {
+    answers: Weighted<F>,
+    inverses: Vec<F>,
 }
 
-impl<F: Field> RowRoom<F> {
-    fn new(alloc: Global, params: &Params) -> Result<RowRoom<F>, AllocError>
-        ensures row { IfOk result (λ room. length room.row.items ≡ params.now.block) }
-        ensures product { IfOk result (λ room. length room.product.items ≡ params.now.dblock) }
-        ensures values { IfOk result (λ room. length room.values.items ≡ params.now.dblock) }
+impl<F: Field> AnswerRoom<F> {
+    fn new(alloc: Global, params: &Params) -> Result<AnswerRoom<F>, AllocError>
+        ensures answers { IfOk result (λ room. AreAnswers params.now room.answers) }
+        ensures inverses { IfOk result (λ room. length room.inverses.items ≡ params.now.dblock) }
     {
-        let row = zeros(alloc, params.block as usize)?;
-        let product = zeros(alloc, params.dblock as usize)?;
-        let values = zeros(alloc, params.dblock as usize)?;
-        Ok(RowRoom {
-            row,
-            product,
-            values,
-        })
+        let answers = Weighted::new(alloc, params)?;
+        let inverses = zeros(alloc, params.dblock as usize)?;
+        Ok(AnswerRoom { answers, inverses })
     }
 }
 
@@ -130,15 +122,14 @@ impl<F: Field> Room<F> {
         ensures factors { IfOk result (λ room. HasRoomFor circuit.now room.combined) }
     {
         let linear = LinearRoom::new(alloc, circuit)?;
-        let rows = RowRoom::new(alloc, params)?;
+        let answers = AnswerRoom::new(alloc, params)?;
         let nodes = zero_digests(alloc, 2 * params.mcol as usize)?;
         let weights = BothWeights::new(alloc, params)?;
         Ok(Room {
             forms: linear.forms,
             combined: linear.combined,
-            row: rows.row,
-            product: rows.product,
-            values: rows.values,
+            answers: answers.answers,
+            inverses: answers.inverses,
             nodes,
             rows: weights.rows,
             products: weights.products,

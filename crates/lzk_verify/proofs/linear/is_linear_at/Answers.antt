@@ -6,7 +6,7 @@ use Rattle.lzk_poly.specs.Extension.{extension}
 use Rattle.lzk_verify.proofs.linear.is_linear_at.Goals as goal
 
 pub returns : goal.returns
-returns g c = λ point lists row_extends product_extends are.
+returns g c = λ point values lists is row_extends extends are.
     let f = g.F.Field in
     let o = f.ops in
     let p = c.args.params.now in
@@ -15,4 +15,4 @@ returns g c = λ point lists row_extends product_extends are.
     c.index-column-1.is ∙ get_or_default column 1 c.index-column-1.result o.zero (omega (arith, c.requires.column, c.requires.bounded.rows)) in
     let side : c.add.result ≡ o.plus (entry o column 1) (sum_below o (p.nrow - 3) (λ i. o.times (extension o f.element (lists (3 + i)) point) (entry o column (3 + i)))) =
     c.add.ensures ∙ ap (λ w. o.plus w c.linear_sum-sum.result) first ∙ ap (o.plus (entry o column 1)) (c.linear_sum-sum.ensures point lists row_extends are) in
-    subst (λ (z : g.row.F.Denot). IsTrue c.extend_to.result ↔ extension o f.element c.args.dot.now point ≡ z) side (c.extend_to.ensures point product_extends)
+    subst (λ (z : g.row.F.Denot). IsTrue c.extend_to.result ↔ extension o f.element values point ≡ z) side (c.extend_to.ensures point values is extends)

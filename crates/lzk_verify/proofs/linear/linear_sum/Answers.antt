@@ -3,7 +3,7 @@ use Rattle.std.proofs.lemmas.List.{length-take-le, length-drop}
 use Rattle.lzk_field.specs.Sums.{sum_below, entry}
 use Rattle.lzk_field.proofs.SumLaws.{sum-ext}
 use Rattle.lzk_verify.specs.Extending.{row_sum}
-use Rattle.lzk_verify.proofs.ColumnLaws.{part_entry, row_sum_as, linear_sums}
+use Rattle.lzk_verify.proofs.ColumnLaws.{part_entry, row_sum_as, rows_long, linear_sums}
 use Rattle.lzk_verify.proofs.linear.linear_sum.Goals as goal
 
 pub returns : goal.returns
@@ -13,7 +13,7 @@ returns g c = λ point lists extends are.
     let p = c.args.params.now in
     let f = c.args.combined.now in
     let column = c.args.column.now in
-    let factors = c.args.factors.now in
+    let factors = c.args.inverses.now in
     let n = f.rows in
     let w = p.wr in
     let rest = p.nrow - 3 - n in
@@ -21,10 +21,10 @@ returns g c = λ point lists extends are.
     let private : List g.row.F.Denot = take (3 + n - 3) (drop 3 column) in
     let others : List g.row.F.Denot = take (length column - (3 + n)) (drop (3 + n) column) in
     let block = c.requires.bounded.block in
-    let wide : length back ≡ w = length-take-le (length factors - 128) (drop 128 factors) (omega (arith, length-drop 128 factors)) ∙ omega (arith, c.requires.factors, block) in
+    let wide : length back ≡ w = length-take-le (length factors - 128) (drop 128 factors) (omega (arith, length-drop 128 factors)) ∙ omega (arith, c.requires.inverses, block) in
     let few : length private ≡ n = length-take-le (3 + n - 3) (drop 3 column) (omega (arith, length-drop 3 column, c.requires.column, c.requires.combined.rows)) ∙ omega arith in
     let many : length others ≡ rest = length-take-le (length column - (3 + n)) (drop (3 + n) column) (omega (arith, length-drop (3 + n) column)) ∙ omega (arith, c.requires.column) in
-    let at_back : (s : ℕ) → s < w → entry o back s ≡ entry o factors (128 + s) = λ s h. part_entry o factors (length factors - 128) 128 s (omega (arith, h, c.requires.factors, block)) in
+    let at_back : (s : ℕ) → s < w → entry o back s ≡ entry o factors (128 + s) = λ s h. part_entry o factors (length factors - 128) 128 s (omega (arith, h, c.requires.inverses, block)) in
     let at_private : (i : ℕ) → i < n → entry o private i ≡ entry o column (3 + i) = λ i h. part_entry o column (3 + n - 3) 3 i (omega (arith, h)) in
     let at_others : (i : ℕ) → i < rest → entry o others i ≡ entry o column (3 + (n + i)) = λ i h. part_entry o column (length column - (3 + n)) (3 + n) i (omega (arith, h, c.requires.column)) ∙ ap (entry o column) (omega arith) in
     let place : ℕ → g.row.F.Denot = λ k. sum_below o w (λ s. o.times (entry o f.place_factors (k * w + s)) (entry o factors (128 + s))) in
@@ -42,4 +42,4 @@ returns g c = λ point lists extends are.
     ∙ sum-ext o r rest (λ i. o.times (entry o others i) (row_sum o f.table back i)) (λ i. o.times (entry o column (3 + (n + i))) (table i))
     (λ i h j. o.times (at_others i h j) (row_sum_as o r f.table back i w (λ s. entry o factors (128 + s)) wide at_back j)) in
     c.mul.ensures ∙ ap (λ z. o.times z c.args.last) (c.add.ensures ∙ (λ j. o.plus (first j) (second j)))
-    ∙ linear_sums o r g.F.Field.element p point column factors c.args.last f lists are block c.requires.combined.rows c.requires.factors extends
+    ∙ linear_sums o r g.F.Field.element p point column factors c.args.last f lists are block c.requires.combined.rows c.requires.inverses (rows_long o g.F.Field.element p f lists are) extends

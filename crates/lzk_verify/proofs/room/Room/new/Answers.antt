@@ -5,9 +5,8 @@ use Rattle.lzk_verify.proofs.room.Room.new.Goals as goal
 pub returns-clause-rooms : goal.returns-clause-rooms
 returns-clause-rooms g c = record {
   combined = factors_are c.args.circuit.now c.args.params.now c.in_ok-linear.linear.combined c.requires.params c.requires.bounded c.in_ok-linear.ensures.factors;
-  row = search rules;
-  product = search rules;
-  values = search rules;
+  answers = search rules;
+  inverses = search rules;
   nodes = search rules;
   rows = search rules;
   products = search rules;

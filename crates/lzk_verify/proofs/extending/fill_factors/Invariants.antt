@@ -1,9 +1,0 @@
-use Rattle.lzk_field.specs.Sums.{entry, minus}
-use Rattle.lzk_sumcheck.proofs.Filled.{IsFilled}
-use Rattle.lzk_verify.proofs.extending.fill_factors.Given as goal
-
-abbrev pub invariant-loop-i : goal.invariant-loop-i
-invariant-loop-i g l =
-    let f = g.F.Field in
-    let o = f.ops in
-    IsFilled o.zero (λ k. o.times (entry o l.own k) (o.inverse (minus o (f.element l.point) (f.element k)))) l.i l.factors

@@ -1,0 +1,17 @@
+use Rattle.std.proofs.Common.{rules, sym, subst}
+use Rattle.lzk_verify.specs.Desk.{AreAnswers}
+use Rattle.lzk_verify.proofs.WeightedAnswers.{answers_long}
+use Rattle.lzk_verify.proofs.room.Room.prepare.Goals as goal
+
+pub returns-clause-rooms : goal.returns-clause-rooms
+returns-clause-rooms g c =
+    let f = g.F.Field in
+    let p = c.args.params.now in
+    record {
+      combined = c.weigh_rows.ensures.factors;
+      answers = subst (AreAnswers p) (sym c.set.ensures) (answers_long f.ops f.element p c.requires.bounded c.args.sent.now c.requires.sent);
+      inverses = search rules;
+      nodes = search rules;
+      rows = search rules;
+      products = search rules;
+    }

@@ -1,0 +1,40 @@
+use Rattle.std.specs.Prelude.{◌≡◌, ℕ, ◌+◌, ◌-◌, ◌*◌, ◌<◌, List, length, take, drop}
+use Rattle.std.proofs.Common.{refl, ap, subst, ◌∙◌, arith}
+use Rattle.std.proofs.lemmas.List.{length-take-le, length-drop}
+use Rattle.lzk_field.specs.Sums.{entry}
+use Rattle.lzk_poly.specs.Extension.{Reach}
+use Rattle.lzk_poly.specs.Weights.{IsWeights}
+use Rattle.lzk_sumcheck.proofs.Filled.{refill_whole}
+use Rattle.lzk_verify.proofs.ColumnLaws.{part_entry}
+use Rattle.lzk_verify.proofs.WeightedRows.{rows_weighted}
+use Rattle.lzk_verify.proofs.weighted.weigh_rows.Goals as goal
+
+pub returns-clause-rows : goal.returns-clause-rows
+returns-clause-rows g c = λ lists are.
+    let f = g.F.Field in
+    let o = f.ops in
+    let p = c.args.params.now in
+    let old = c.args.combined.now in
+    let block = c.requires.bounded.block in
+    let ws = c.weights.result.now in
+    let count : c.args.rows.now.count ≡ p.block = ap (λ (r : Reach). r.count) c.requires.rows in
+    let long : length ws ≡ 128 + p.wr = c.weights.ensures.0 ∙ count ∙ block in
+    let own : List g.row.F.Denot = take (length ws - 128) (drop 128 ws) in
+    let wide : length own ≡ p.wr = length-take-le (length ws - 128) (drop 128 ws) (omega (arith, length-drop 128 ws)) ∙ omega (arith, long) in
+    let at : (s : ℕ) → s < p.wr → entry o own s ≡ entry o ws (128 + s) = λ s h. part_entry o ws (length ws - 128) 128 s (omega (arith, h, long)) in
+    let places = c.weigh_table.new.table in
+    let table = c.weigh_table-2.new.table in
+    let set_places = refill_whole (length old.place_factors) old.place_factors places (c.weigh_table.ensures.length ∙ ap length c.as_mut_slice.ensures.value) in
+    let set_table = refill_whole (length old.table) old.table table (c.weigh_table-2.ensures.length ∙ ap length c.as_mut_slice-2.ensures.value) in
+    rows_weighted o f.laws.ring f.laws.field f.element p ws (subst (λ n. IsWeights o f.element n ws) count c.weights.ensures) block old _ refl refl
+    (λ k s h q.
+    ap (λ xs. entry o xs (k * p.wr + s)) set_places
+    ∙ subst (λ n. s < n → entry o places (k * n + s) ≡ o.times (entry o old.place_factors (k * n + s)) (entry o own s)) wide
+    (λ l. c.weigh_table.ensures.each k s h l ∙ ap (λ xs. o.times (entry o xs (k * length own + s)) (entry o own s)) c.as_mut_slice.ensures.value) q
+    ∙ ap (o.times (entry o old.place_factors (k * p.wr + s))) (at s q))
+    (λ i s h q.
+    ap (λ xs. entry o xs (i * p.wr + s)) set_table
+    ∙ subst (λ n. s < n → entry o table (i * n + s) ≡ o.times (entry o old.table (i * n + s)) (entry o own s)) wide
+    (λ l. c.weigh_table-2.ensures.each i s h l ∙ ap (λ xs. o.times (entry o xs (i * length own + s)) (entry o own s)) c.as_mut_slice-2.ensures.value) q
+    ∙ ap (o.times (entry o old.table (i * p.wr + s))) (at s q))
+    lists are
