@@ -61,7 +61,8 @@ fn judge_own_proof<F: Field, X: RowExtend<F>, R: Threads + Sync, G: Gate>(
     requires satisfied { IsSatisfied F.ops circuit.now.layers (inputs_of F.ops publics.now privates.now) }
     requires some { 1 ≤ workers }
     requires most { workers ≤ 64 }
-    ensures { IfOk result (λ made. HasVerdict F.ops (coding F.element F.number_of F.BYTES F.size F.ID) circuit.now publics.now privates.now seed made.0 made.1) }
+    ensures { IfOk result (λ made. HasVerdict F.ops (coding F.element F.number_of F.BYTES F.size F.ID) circuit.now
+        publics.now privates.now seed made.0 made.1) }
 {
     let words = Seeded::new(seed);
     match works.prove(
@@ -89,7 +90,8 @@ fn prove_and_verify<F: Field, X: RowExtend<F>, R: Threads + Sync, G: Gate>(
     requires satisfied { IsSatisfied F.ops circuit.now.layers (inputs_of F.ops publics.now privates.now) }
     requires some { 1 ≤ workers }
     requires most { workers ≤ 64 }
-    ensures { IfOk result (λ made. HasVerdict F.ops (coding F.element F.number_of F.BYTES F.size F.ID) circuit.now publics.now privates.now seed made.0 made.1) }
+    ensures { IfOk result (λ made. HasVerdict F.ops (coding F.element F.number_of F.BYTES F.size F.ID) circuit.now
+        publics.now privates.now seed made.0 made.1) }
 {
     let id = id(means.alloc, circuit)?;
     let mut works = WorksOver::<F, X>::with_id(means.alloc, circuit, id)?;

@@ -73,7 +73,9 @@ fn put_proof<F: Field, X: RowExtend<F>, R: Threads + Sync, S: Shelf, G: Gate>(
     requires session { length job.now.session.now ≤ 64 }
     requires some { 1 ≤ job.now.workers }
     requires most { job.now.workers ≤ 64 }
-    ensures walks { WalksToPut (λ files. Proves F.ops (coding F.element F.number_of F.BYTES F.size F.ID) circuit.now job.now.proof.now (option_copied job.now.digest) job.now.session.now job.now.seed publics.now privates.now) 3 (seen S.Shelf shelf.old) (seen S.Shelf shelf.new) result }
+    ensures walks { WalksToPut (λ files. Proves F.ops (coding F.element F.number_of F.BYTES F.size F.ID) circuit.now
+        job.now.proof.now (option_copied job.now.digest) job.now.session.now job.now.seed publics.now privates.now) 3
+        (seen S.Shelf shelf.old) (seen S.Shelf shelf.new) result }
     ensures moves { Moves (seen S.Shelf shelf.old) (seen S.Shelf shelf.new) }
 {
     proofs_fit(circuit);
@@ -110,7 +112,9 @@ pub fn prove_inputs<F: Field, X: RowExtend<F>, R: Threads + Sync, S: Shelf, G: G
     requires session { length job.now.session.now ≤ 64 }
     requires some { 1 ≤ job.now.workers }
     requires most { job.now.workers ≤ 64 }
-    ensures walks { WalksToPut (λ files. Proves F.ops (coding F.element F.number_of F.BYTES F.size F.ID) circuit.now job.now.proof.now (option_copied job.now.digest) job.now.session.now job.now.seed publics.now privates.now) 3 (seen S.Shelf shelf.old) (seen S.Shelf shelf.new) result }
+    ensures walks { WalksToPut (λ files. Proves F.ops (coding F.element F.number_of F.BYTES F.size F.ID) circuit.now
+        job.now.proof.now (option_copied job.now.digest) job.now.session.now job.now.seed publics.now privates.now) 3
+        (seen S.Shelf shelf.old) (seen S.Shelf shelf.new) result }
     ensures moves { Moves (seen S.Shelf shelf.old) (seen S.Shelf shelf.new) }
 {
     let mut works = WorksOver::<F, X>::with_id(means.alloc, circuit, job.id)?;
@@ -135,7 +139,9 @@ fn prove_over<F: Field, X: RowExtend<F>, R: Threads + Sync, S: Shelf, G: Gate>(
     requires session { length job.now.session.now ≤ 64 }
     requires some { 1 ≤ job.now.workers }
     requires most { job.now.workers ≤ 64 }
-    ensures walks { WalksToPut (ProveOver F.ops (coding F.element F.number_of F.BYTES F.size F.ID) circuit.now public.now private.now job.now.proof.now job.now.session.now job.now.seed) 1 (seen S.Shelf shelf.old) (seen S.Shelf shelf.new) result }
+    ensures walks { WalksToPut (ProveOver F.ops (coding F.element F.number_of F.BYTES F.size F.ID) circuit.now
+        public.now private.now job.now.proof.now job.now.session.now job.now.seed) 1
+        (seen S.Shelf shelf.old) (seen S.Shelf shelf.new) result }
     ensures moves { Moves (seen S.Shelf shelf.old) (seen S.Shelf shelf.new) }
 {
     let publics = read_elements::<S, F>(means.alloc, shelf, public, circuit.publics())?;
@@ -157,7 +163,8 @@ fn prove_any<R: Threads + Sync, S: Shelf, G: Gate>(
     requires session { length job.now.session.now ≤ 64 }
     requires some { 1 ≤ job.now.workers }
     requires most { job.now.workers ≤ 64 }
-    ensures walks { WalksToPut (ProveAny circuit.now public.now private.now job.now.proof.now job.now.session.now job.now.seed) 1 (seen S.Shelf shelf.old) (seen S.Shelf shelf.new) result }
+    ensures walks { WalksToPut (ProveAny circuit.now public.now private.now job.now.proof.now job.now.session.now job.now.seed) 1
+        (seen S.Shelf shelf.old) (seen S.Shelf shelf.new) result }
     ensures moves { Moves (seen S.Shelf shelf.old) (seen S.Shelf shelf.new) }
 {
     match circuit {
@@ -177,7 +184,9 @@ pub fn prove<R: Threads + Sync, S: Shelf, G: Gate>(
     shelf: &mut S,
 ) -> Result<Ending, Halt>
     requires session { length (session_of (option_copied order.now.session)) ≤ 64 }
-    ensures walks { WalksToPut (ProveRun order.now.circuit.now order.now.public.now order.now.private.now order.now.proof.now order.now.seed.now (option_copied order.now.session)) 0 (seen S.Shelf shelf.old) (seen S.Shelf shelf.new) result }
+    ensures walks { WalksToPut (ProveRun order.now.circuit.now order.now.public.now order.now.private.now order.now.proof.now
+        order.now.seed.now (option_copied order.now.session)) 0
+        (seen S.Shelf shelf.old) (seen S.Shelf shelf.new) result }
     ensures moves { Moves (seen S.Shelf shelf.old) (seen S.Shelf shelf.new) }
 {
     let session = session_bytes(means.alloc, order.session)?;
