@@ -2,8 +2,9 @@
 
    A call is handed bytes and is told a verdict. It keeps nothing, starts no thread, reads no file and prints nothing, and may be made
    from any number of threads at once. No bytes that it is handed are wrong: each answer below is what some bytes give. The caller owes
-   two things: each pointer leads to as many bytes as are said beside it, and is not NULL, even where that number is 0; and nothing
-   writes to these bytes during the call. Memory is taken by malloc and realloc, and given back by free before the call returns.
+   three things: each pointer leads to as many bytes as are said beside it, and is not NULL, even where that number is 0; nothing writes
+   to these bytes during the call; and a report or a list of jobs lies apart from them, and is the call's alone until it returns. Memory
+   is taken by malloc and realloc, and given back by free before the call returns.
 
    Link with liblzk.a or liblzk.so, which `./build library` makes. docs/EMBEDDING.md has examples, costs, and what is not offered. */
 

@@ -105,22 +105,36 @@ static void *call_often(void *wrong_calls) {
   return NULL;
 }
 
-/* A proof's answer with the n-th request refused: none as ever, or want of memory. */
-static int refuse_each(int kind) {
-  for (refused_at = 1;; refused_at++) {
-    lzk_job job = {numbers, {(const uint8_t *)"", 0}, proof, {0}};
-    lzk_bytes piece = proof;
-    requests = 0;
-    if (kind == 0) job.report = explain(circuit, numbers, job.session, proof);
-    if (kind == 1) lzk_explain_pieces(circuit.start, circuit.len, numbers.start, numbers.len, job.session.start, 0, &piece, 1, &job.report);
-    if (kind == 2) lzk_explain_each(circuit.start, circuit.len, &job, 1);
-    if (requests < refused_at) {
-      long made = refused_at - 1;
-      refused_at = 0;
-      printf("%ld requests refused in turn\n", made);
-      return made > 0 && job.report.answer == LZK_ACCEPTED;
+/* The reports on the proof by one of the calls that take memory. */
+static void report_by(int call, lzk_report found[2]) {
+  lzk_job jobs[2] = {{numbers, text(""), proof, {0}}, {numbers, text(""), proof, {0}}};
+  lzk_bytes pieces[2] = {{proof.start, 1000}, {proof.start + 1000, proof.len - 1000}};
+  found[0] = found[1] = (lzk_report){0};
+  if (call == 0) found[0] = found[1] = explain(circuit, numbers, text(""), proof);
+  if (call == 1) lzk_explain_pieces(circuit.start, circuit.len, numbers.start, numbers.len, text("").start, 0, pieces, 2, found), found[1] = found[0];
+  if (call == 2) lzk_explain_each(circuit.start, circuit.len, jobs, 2), found[0] = jobs[0].report, found[1] = jobs[1].report;
+}
+
+/* Refuses each request of a call in turn. A report then says want of memory and nothing else, or is as ever; and the next call is as ever. */
+static int refuse_each(int call, const char *name) {
+  const lzk_report as_ever = {0}, no_memory = {.answer = LZK_NO_MEMORY};
+  long without = 0;
+  for (long number = 1;; number++) {
+    lzk_report found[2], again[2];
+    requests = 0, refused_at = number;
+    report_by(call, found);
+    refused_at = 0;
+    report_by(call, again);
+    int is_told = is_same(&found[0], &no_memory) || is_same(&found[1], &no_memory);
+    for (int i = 0; i < 2; i++) {
+      if (!is_same(&found[i], &no_memory) && !is_same(&found[i], &as_ever)) return 0;
+      if (!is_same(&again[i], &as_ever)) return 0;
     }
-    if (job.report.answer != LZK_NO_MEMORY && job.report.answer != LZK_ACCEPTED) return 0;
+    without += is_told;
+    if (requests < number) {
+      printf("%s: %ld requests refused in turn, of which want of memory was told at %ld\n", name, number - 1, without);
+      return without > 0 && !is_told;
+    }
   }
 }
 
@@ -137,6 +151,10 @@ int main(int count, char **words) {
   told("too many numbers", agree(circuit, text("1\n2 3"), none, proof, LZK_NO_NUMBERS, 0) && explain(circuit, text("1\n2 3"), none, proof).line == 2);
   told("a session of 64 bytes", agree(circuit, numbers, (lzk_bytes){proof.start, 64}, proof, LZK_REJECTED, LZK_PATH_COUNT));
   told("a session of 65 bytes", agree(circuit, numbers, (lzk_bytes){proof.start, 65}, proof, LZK_TOO_LONG, 0));
+  static uint8_t blanks[4194305];
+  memset(blanks, ' ', sizeof blanks);
+  told("a text of 4 MiB", explain(circuit, (lzk_bytes){blanks, 4194304}, none, proof).answer == LZK_NO_NUMBERS);
+  told("a longer text", explain(circuit, (lzk_bytes){blanks, 4194305}, none, proof).answer == LZK_TOO_LONG);
   told("a proof as a circuit", agree(proof, numbers, (lzk_bytes){proof.start, 65}, proof, LZK_NO_CIRCUIT, 0) && explain(proof, numbers, none, proof).kind == LZK_CIRCUIT_MAGIC);
   told("a circuit as a proof", agree(circuit, numbers, none, circuit, LZK_REJECTED, LZK_FORMAT) && explain(circuit, numbers, none, circuit).kind == LZK_PROOF_MAGIC);
   told("a proof that is cut", agree(circuit, numbers, none, (lzk_bytes){proof.start, proof.len - 1}, LZK_REJECTED, LZK_FORMAT));
@@ -148,9 +166,13 @@ int main(int count, char **words) {
   }
   pthread_t threads[4];
   long wrong_calls[4] = {0};
-  for (int i = 0; i < 4; i++) pthread_create(&threads[i], NULL, call_often, &wrong_calls[i]);
-  for (int i = 0; i < 4; i++) pthread_join(threads[i], NULL);
-  told("4 threads agree", wrong_calls[0] + wrong_calls[1] + wrong_calls[2] + wrong_calls[3] == 0);
-  for (int kind = 0; kind < 3; kind++) told("want of memory is told", refuse_each(kind));
+  pthread_attr_t small;
+  pthread_attr_init(&small);
+  int is_small = !pthread_attr_setstacksize(&small, 65536);
+  for (int i = 0; i < 4; i++) is_small &= !pthread_create(&threads[i], &small, call_often, &wrong_calls[i]);
+  for (int i = 0; is_small && i < 4; i++) pthread_join(threads[i], NULL);
+  told("4 threads with stacks of 64 KiB agree", is_small && wrong_calls[0] + wrong_calls[1] + wrong_calls[2] + wrong_calls[3] == 0);
+  static const char *calls[] = {"lzk_explain", "lzk_explain_pieces", "lzk_explain_each"};
+  for (int call = 0; call < 3; call++) told("want of memory is told", refuse_each(call, calls[call]));
   return wrong > 0;
 }
