@@ -1,6 +1,6 @@
 -- The walk of `demo`, and what is printed of it and of `shacircuit`.
-use Rattle.std.proofs.Common.{◌≡◌, ◌⊎◌, ℕ, ◌≤◌, inl, inr, List, Some, None, Result, Ok, Err, refl, sym, subst, ◌∙◌, lit≤}
-use Rattle.std.specs.Prelude.{not, string_bytes}
+use Rattle.std.proofs.Common.{◌≡◌, ◌⊎◌, ℕ, inl, inr, List, Some, None, Result, Ok, Err, refl, sym, subst, ◌∙◌, lit≤}
+use Rattle.std.specs.Prelude.{string_bytes}
 use Rattle.lzk_outside.specs.Outside.{Appends}
 use Rattle.lzk_cmd_files.specs.declared.ending.Ending.{Ending}
 use Rattle.lzk_cmd_files.specs.declared.ending.Halt.{Halt}
