@@ -6,17 +6,17 @@ use Rattle.lzk_circbytes.specs.declared.any.AnyCircuit.{AnyCircuit}
 use Rattle.lzk_circbytes.specs.declared.any.AnyCircuit.TheVariants.{Gold, Gf}
 use Rattle.lzk_expr.proofs.Tables.{bytes_same}
 use Rattle.lzk_outside.specs.Outside.{Files, with_file}
-use Rattle.lzk_cmd.specs.Chains.{AreChained}
-use Rattle.lzk_cmd.specs.Compiled.{Compiled, CompileRun, PutsCompiled}
-use Rattle.lzk_cmd.specs.Complete.{HasNumbers, HasInputsOf, IsReady, Completed}
-use Rattle.lzk_cmd.specs.Decoded.{source_files}
-use Rattle.lzk_cmd.specs.Ends.{End, Nowhere, Leaves}
-use Rattle.lzk_cmd.specs.Faults.{Faulted}
-use Rattle.lzk_cmd.specs.Run.{RunOf}
-use Rattle.lzk_cmd.specs.Sights.{Before, After}
-use Rattle.lzk_cmd.specs.Words.{Eval, Compile}
-use Rattle.lzk_cmd.proofs.Laws.{sources}
-use Rattle.lzk_cmd.proofs.Ready.{run_command, ready}
+use Rattle.lzk_cmd_runs.specs.Chains.{AreChained}
+use Rattle.lzk_cmd_circuits.specs.Compiled.{Compiled, CompileRun, PutsCompiled}
+use Rattle.lzk_cmd_runs.specs.Complete.{HasNumbers, HasInputsOf, IsReady, Completed}
+use Rattle.lzk_cmd_files.specs.Decoded.{source_files}
+use Rattle.lzk_cmd_files.specs.Ends.{End, Nowhere, Leaves}
+use Rattle.lzk_cmd_files.specs.Faults.{Faulted}
+use Rattle.lzk_cmd_runs.specs.Run.{RunOf}
+use Rattle.lzk_cmd_runs.specs.Sights.{Before, After}
+use Rattle.lzk_cmd_words.specs.Words.{Eval, Compile}
+use Rattle.lzk_cmd_files.proofs.Laws.{sources}
+use Rattle.lzk_cmd_laws.proofs.Ready.{run_command, ready}
 
 -- what never fails has no fault
 pub no_fault : (never : Bool) (before now : ℕ) → IsTrue never → Faulted never before now → ⊥
