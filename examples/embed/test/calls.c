@@ -155,8 +155,10 @@ int main(int count, char **words) {
   memset(blanks, ' ', sizeof blanks);
   told("a text of 4 MiB", explain(circuit, (lzk_bytes){blanks, 4194304}, none, proof).answer == LZK_NO_NUMBERS);
   told("a longer text", explain(circuit, (lzk_bytes){blanks, 4194305}, none, proof).answer == LZK_TOO_LONG);
-  told("a proof as a circuit", agree(proof, numbers, (lzk_bytes){proof.start, 65}, proof, LZK_NO_CIRCUIT, 0) && explain(proof, numbers, none, proof).kind == LZK_CIRCUIT_MAGIC);
-  told("a circuit as a proof", agree(circuit, numbers, none, circuit, LZK_REJECTED, LZK_FORMAT) && explain(circuit, numbers, none, circuit).kind == LZK_PROOF_MAGIC);
+  told("a proof as a circuit", agree(proof, numbers, (lzk_bytes){proof.start, 65}, proof, LZK_NO_CIRCUIT, 0) &&
+                                   explain(proof, numbers, none, proof).kind == LZK_CIRCUIT_MAGIC);
+  told("a circuit as a proof", agree(circuit, numbers, none, circuit, LZK_REJECTED, LZK_FORMAT) &&
+                                   explain(circuit, numbers, none, circuit).kind == LZK_PROOF_MAGIC);
   told("a proof that is cut", agree(circuit, numbers, none, (lzk_bytes){proof.start, proof.len - 1}, LZK_REJECTED, LZK_FORMAT));
   static const struct { size_t at; uint32_t check; } places[] = {{0, LZK_FORMAT}, {4, LZK_CIRCUIT_ID}, {36, LZK_PATH_COUNT}, {8000, LZK_ROOT}};
   for (int i = 0; i < 4; i++) {
