@@ -1,15 +1,21 @@
 //! Longfellow ZK for programs in Rattle: the names that a wallet or a service needs, under `use lzk::{..}`.
 //!
-//! The scheme is that of draft-google-cfrg-libzk over the commitment of Ligero (CCS 2017), as the profile in docs/FORMATS.md has it. The four
-//! jobs below stand whole in the program `lzk_example`, which the gate proves and runs. What each call promises is said where it is declared.
+//! The scheme is that of draft-google-cfrg-libzk over the commitment of Ligero (CCS 2017), as the profile in docs/FORMATS.md has it. The
+//! functions below stand as they are in the program `lzk_example`, which the gate proves and runs. What each call promises is said where it is
+//! declared.
 //!
-//! Compile a statement: a source names a field and its inputs and asserts equations. A text has 4 MiB at most.
+//! Compile a statement: a source names a field and its inputs and asserts equations.
 //!
 //! ```text
-//! let source = parse(alloc, b"field goldilocks\npublic y\nprivate x\nassert x * x = y\n")?;
-//! match compile(alloc, &source)? {
-//!     AnyCircuit::Gold(circuit) => .., // encode(alloc, &circuit)? is its file, and decode(alloc, &file)? reads it
-//!     AnyCircuit::Gf(circuit) => ..,
+//! /// The file of a statement's circuit.
+//! pub fn compile_file(alloc: Global, statement: &[u8]) -> anyhow::Result<Vec<u8>>
+//!     requires { length statement.now ≤ 4194304 }
+//! {
+//!     let source = parse(alloc, statement)?;
+//!     match compile(alloc, &source)? {
+//!         AnyCircuit::Gold(circuit) => Ok(encode(alloc, &circuit)?),
+//!         AnyCircuit::Gf(circuit) => Ok(encode(alloc, &circuit)?),
+//!     }
 //! }
 //! ```
 //!
@@ -17,34 +23,114 @@
 //! for each proof.
 //!
 //! ```text
-//! let public: Vec<Gold> = read_numbers(alloc, b"9", circuit.publics())?;
-//! let private: Vec<Gold> = read_numbers(alloc, b"3", circuit.privates())?;
-//! let mut prover = GoldProver::new(alloc, &circuit)?;
-//! match prover.prove(&rt, session, &public, &private, &Seeded::new(seed), 4, &Open) {
-//!     Ok(proof) => .., // the bytes, which the prover lends
-//!     Err(fault) => .., // fault.output is the number of an assert that does not hold
+//! // A proof by a prover, which serves any number of inputs.
+//! fn prove_by<R: Threads + Sync + AllocGlobal>(
+//!     rt: &R,
+//!     prover: &mut GoldProver<'_>,
+//!     session: &[u8],
+//!     public: &[Gold],
+//!     private: &[Gold],
+//!     seed: [u8; 32],
+//! ) -> anyhow::Result<Vec<u8>>
+//!     requires session { length session.now ≤ 64 }
+//!     requires public { length public.now ≡ prover.old.publics }
+//!     requires private { length private.now ≡ prover.old.privates }
+//! {
+//!     match prover.prove(rt, session, public, private, &Seeded::new(seed), 4, &Open) {
+//!         Ok(proof) => Ok(proof.to_vec(rt.alloc())?),
+//!         Err(fault) => bail!("assert {} does not hold", fault.output),
+//!     }
+//! }
+//!
+//! /// The bytes of a proof. Four workers share the work.
+//! pub fn prove_numbers<R: Threads + Sync + AllocGlobal>(
+//!     rt: &R,
+//!     circuit: &Circuit<Gold>,
+//!     session: &[u8],
+//!     public: &[Gold],
+//!     private: &[Gold],
+//!     seed: [u8; 32],
+//! ) -> anyhow::Result<Vec<u8>>
+//!     requires session { length session.now ≤ 64 }
+//!     requires public { length public.now ≡ circuit.now.publics }
+//!     requires private { length private.now ≡ circuit.now.privates }
+//! {
+//!     let mut prover = GoldProver::new(rt.alloc(), circuit)?;
+//!     prove_by(rt, &mut prover, session, public, private, seed)
 //! }
 //! ```
 //!
-//! Verify it, whole or as its bytes come: a verifier keeps no list of them.
+//! Verify it, whole or as its bytes come: a verifier keeps no list of them, and serves any number of proofs.
 //!
 //! ```text
-//! let mut verifier = Verifier::new(alloc, &circuit)?;
-//! let verdict = verifier.verify(session, &public, proof); // Verdict::Accepted, or the first check that fails
-//! verifier.open(session, &public);
-//! while let Some(piece) = next_piece(file)? {
-//!     verifier.feed(piece);
+//! /// The verdict on a proof that lies in memory. A verifier serves any number of proofs.
+//! pub fn verify_whole<F: Field>(
+//!     verifier: &mut Verifier<'_, F>,
+//!     session: &[u8],
+//!     public: &[F],
+//!     proof: &[u8],
+//! ) -> Verdict<F>
+//!     requires session { length session.now ≤ 64 }
+//!     requires public { length public.now ≡ verifier.old.circuit.publics }
+//!     ensures verdict { IsVerdict F.ops (coding F.element F.number_of F.BYTES F.size F.ID) verifier.old.circuit session.now public.now proof.now result }
+//!     ensures circuit { verifier.new.circuit ≡ verifier.old.circuit }
+//! {
+//!     verifier.verify(session, public, proof)
 //! }
-//! let verdict = verifier.end();
+//!
+//! /// The same of a proof that comes in pieces, as over a network.
+//! pub fn verify_fed<F: Field>(
+//!     verifier: &mut Verifier<'_, F>,
+//!     session: &[u8],
+//!     public: &[F],
+//!     proof: &[u8],
+//! ) -> Verdict<F>
+//!     requires session { length session.now ≤ 64 }
+//!     requires public { length public.now ≡ verifier.old.circuit.publics }
+//!     ensures circuit { verifier.new.circuit ≡ verifier.old.circuit }
+//! {
+//!     verifier.open(session, public);
+//!     for piece in proof.chunks(1000) {
+//!         verifier.feed(piece);
+//!     }
+//!     verifier.end()
+//! }
 //! ```
 //!
 //! Verify many, by workers that share 256 jobs at most, over circuits of either field:
 //!
 //! ```text
-//! let job = Job::Gold(JobOf { circuit: 0, session, public, proof }); // circuit: its place in circuits
-//! jobs.push(job)?;
-//! if are_fit(&circuits, &jobs) && jobs.len() <= 256 {
-//!     let verdicts = verify_all(&rt, alloc, &circuits, &jobs, 4, &Open)?; // in the order of the jobs
+//! /// A job over the circuit at this place of the list of circuits.
+//! pub fn job_of(
+//!     alloc: Global,
+//!     circuit: u32,
+//!     session: &[u8],
+//!     public: &[Gold],
+//!     proof: &[u8],
+//! ) -> Result<Job, AllocError> {
+//!     let session = session.to_vec(alloc)?;
+//!     let public = public.to_vec(alloc)?;
+//!     let proof = proof.to_vec(alloc)?;
+//!     Ok(Job::Gold(JobOf {
+//!         circuit,
+//!         session,
+//!         public,
+//!         proof,
+//!     }))
+//! }
+//!
+//! /// The verdicts on all jobs, in their order, by four workers.
+//! pub fn verify_many<R: Threads + Sync + AllocGlobal>(
+//!     rt: &R,
+//!     circuits: &[AnyCircuit],
+//!     jobs: &[Job],
+//! ) -> anyhow::Result<Vec<AnyVerdict>>
+//!     ensures { IfOk result (λ verdicts. HaveVerdicts circuits.now jobs.now verdicts.items) }
+//! {
+//!     if jobs.len() > 256 || !are_fit(circuits, jobs) {
+//!         bail!("a job does not fit its circuit");
+//!     }
+//!     Ok(verify_all(rt, rt.alloc(), circuits, jobs, 4, &Open)?)
 //! }
 //! ```
 #![tactic(auto)]
