@@ -1,17 +1,17 @@
 //! Several numbers of workers, of which two wait for each other.
 
-ghost use Rattle.std.specs.Prelude.{ℕ};
+ghost use Rattle.std.specs.Prelude.{◌≡◌};
 
 use crate::seen::{Unseen, seen};
 use crate::vectors::{OF_ZEROS, SQUARE};
+use crate::writing::answered;
 use lzk_circbytes::{AnyCircuit, decode};
 use lzk_circuit::Circuit;
-use lzk_field::{Field, Gate, Open, Words};
+use lzk_field::{Field, Gate, Words};
 use lzk_goldilocks::Gold;
 use lzk_ligero::WorksOver;
 use lzk_ntt::NttExtender;
-use sha2::{Digest, Sha256};
-use std::alloc::Global;
+use std::alloc::{AllocError, Global};
 use std::marker::Sync;
 use std::sync::atomic::{AtomicU64, Ordering};
 use std::test::Fail;
@@ -143,23 +143,38 @@ impl Words for MeetingWords {
     }
 }
 
-// What two workers prove of the square by these words.
+// What two workers prove of the square by these words. One exit drops the prover.
 fn proved_by_two<R: Threads + Sync, W: Words>(
     rt: &R,
     alloc: Global,
     circuit: &Circuit<Gold>,
     words: &W,
-) -> Result<[u8; 32], Unseen> {
+) -> Result<Result<[u8; 32], (u32, u128)>, AllocError>
+    requires publics { circuit.now.publics ≡ 1 }
+    requires privates { circuit.now.privates ≡ 1 }
+{
     let public = [Gold::of_word(SQUARE.public)];
     let private = [Gold::of_word(SQUARE.private)];
-    if circuit.publics() != 1 || circuit.privates() != 1 || SQUARE.session.len() > 64 {
-        return Err(Unseen);
-    }
-    let Ok(mut works) = WorksOver::<Gold, NttExtender<Gold>>::new(alloc, circuit) else {
+    let mut works = WorksOver::<Gold, NttExtender<Gold>>::new(alloc, circuit)?;
+    let proved = answered(rt, &mut works, b"", &public, &private, words, 2);
+    drop(works);
+    Ok(proved)
+}
+
+// The same of the square's circuit as its file has it.
+fn seen_by_two<R: Threads + Sync, W: Words>(
+    rt: &R,
+    alloc: Global,
+    words: &W,
+) -> Result<Result<[u8; 32], (u32, u128)>, Unseen> {
+    let Ok(AnyCircuit::Gold(circuit)) = decode(alloc, SQUARE.circuit) else {
         return Err(Unseen);
     };
-    match works.prove(rt, SQUARE.session, &public, &private, words, 2, &Open) {
-        Ok(bytes) => Ok(Sha256::digest(bytes)),
+    if circuit.publics() != 1 || circuit.privates() != 1 {
+        return Err(Unseen);
+    }
+    match proved_by_two(rt, alloc, &circuit, words) {
+        Ok(proved) => Ok(proved),
         Err(_) => Err(Unseen),
     }
 }
@@ -170,12 +185,8 @@ fn two_workers_hash_leaves(rt: HostRuntime) -> Result<(), Fail> {
     let words = MeetingWords {
         meeting: Meeting::new(),
     };
-    if let Ok(AnyCircuit::Gold(circuit)) = decode(rt.alloc(), SQUARE.circuit) {
-        assert_eq!(rt;
-            proved_by_two(&rt, rt.alloc(), &circuit, &words),
-            Ok(OF_ZEROS)
-        );
-    }
+    let proved = seen_by_two(&rt, rt.alloc(), &words)?;
+    assert_eq!(rt; proved, Ok(OF_ZEROS));
     assert!(rt; words.meeting.have_met());
     Ok(())
 }

@@ -86,8 +86,8 @@ fn attempted<R: Threads + Sync, F: Field, X: RowExtend<F>, W: Words, G: Gate>(
     Sha256::digest(bytes)
 }
 
-// What `prove` writes, or the output that it names with its value's number.
-fn answered<R: Threads + Sync, F: Field, X: RowExtend<F>, W: Words>(
+/// What `prove` writes, or the output that it names with its value's number.
+pub fn answered<R: Threads + Sync, F: Field, X: RowExtend<F>, W: Words>(
     rt: &R,
     works: &mut WorksOver<'_, F, X>,
     session: &[u8],
