@@ -1,12 +1,13 @@
 //! The linear constraints of a circuit over 16,384 bits, and all constraints combined.
 
-ghost use Rattle.std.specs.Prelude.{◌≡◌, ◌-◌, ◌*◌, length};
-ghost use Rattle.lzk_layout.specs.Sizes.{AreBounded, sent_counts};
+ghost use Rattle.std.specs.Prelude.{◌≡◌, ◌-◌, ◌*◌, length, IsTrue};
+ghost use Rattle.lzk_layout.specs.Sizes.{AreBounded, params_of, sent_counts};
 ghost use Rattle.lzk_sumcheck.specs.Script.{HasShape};
 ghost use Rattle.lzk_accept.specs.Challenges as accept;
 ghost use Rattle.lzk_accept.specs.Kept.{AreFormsOf, AreFormsFor};
 
 use crate::rows::first_values;
+use crate::scripts::{Drawn, undrawn};
 use crate::texts::parity_circuit;
 use lzk_accept::{Challenges, Forms, combine, draw_challenges, linear_forms};
 use lzk_circuit::Circuit;
@@ -41,23 +42,61 @@ fn form_often<F: Field>(
     right
 }
 
+// The public inputs of a circuit and what is sent over it: the first values.
+#[derive(Drop)]
+struct Lists<F> {
+    public: Vec<F>,
+    messages: Vec<F>,
+}
+
+fn lists_of<F: Field>(alloc: Global, circuit: &Circuit<F>) -> Result<Lists<F>, AllocError> {
+    let public = first_values::<F>(alloc, circuit.publics())?;
+    let messages = first_values::<F>(alloc, message_count(circuit))?;
+    Ok(Lists { public, messages })
+}
+
+// Whether there are as many of each as the circuit has.
+fn are_of<F: Field>(lists: &Lists<F>, circuit: &Circuit<F>) -> bool
+    ensures public { IsTrue result → length lists.now.public.items ≡ circuit.now.publics }
+    ensures messages { IsTrue result → length lists.now.messages.items ≡ sent_counts circuit.now }
+{
+    lists.public.len() == circuit.publics() as usize
+        && lists.messages.len() == message_count(circuit) as usize
+}
+
 // The constraints of elements that are sent to a new tape.
+fn form<F: Field>(circuit: &Circuit<F>, lists: &mut Lists<F>, drawn: &mut Drawn<F>, times: u32) -> F
+    requires script { HasShape circuit.now drawn.old.script }
+    requires forms { AreFormsOf F.ops circuit.now drawn.old.forms }
+{
+    if !are_of(lists, circuit) {
+        return F::zero();
+    }
+    replay(
+        circuit,
+        &mut Tape::new(),
+        &lists.messages,
+        &mut drawn.script,
+    );
+    form_often(
+        circuit,
+        &lists.public,
+        &drawn.script,
+        &mut lists.messages,
+        &mut drawn.forms,
+        times,
+    )
+}
+
 fn formed_of<F: Field>(
     alloc: Global,
     circuit: &Circuit<F>,
     times: u32,
 ) -> Result<u128, AllocError> {
-    let public = first_values::<F>(alloc, circuit.publics())?;
-    let mut messages = first_values::<F>(alloc, message_count(circuit))?;
-    let mut script = Script::new(alloc, circuit)?;
-    let mut forms = Forms::new(alloc, circuit)?;
-    if public.len() != circuit.publics() as usize
-        || messages.len() != message_count(circuit) as usize
-    {
-        return Ok(0);
-    }
-    replay(circuit, &mut Tape::new(), &messages, &mut script);
-    let right = form_often(circuit, &public, &script, &mut messages, &mut forms, times);
+    let mut lists = lists_of(alloc, circuit)?;
+    let mut drawn = undrawn(alloc, circuit)?;
+    let right = form(circuit, &mut lists, &mut drawn, times);
+    drop(drawn);
     Ok(right.number())
 }
 
@@ -90,29 +129,44 @@ fn combine_often<F: Field>(
 }
 
 // The constraints of elements that are sent to a new tape, combined.
+fn combine_all<F: Field>(
+    circuit: &Circuit<F>,
+    lists: &Lists<F>,
+    drawn: &mut Drawn<F>,
+    times: u32,
+) -> F
+    requires script { HasShape circuit.now drawn.old.script }
+    requires challenges { accept.HasShape (params_of circuit.now) drawn.old.challenges }
+    requires forms { AreFormsOf F.ops circuit.now drawn.old.forms }
+    requires coefficients { let p = params_of circuit.now in length drawn.old.coefficients ≡ (p.nrow - 3) * p.wr }
+{
+    if !are_of(lists, circuit) {
+        return F::zero();
+    }
+    let params = Params::of(circuit);
+    let mut tape = Tape::new();
+    replay(circuit, &mut tape, &lists.messages, &mut drawn.script);
+    draw_challenges(&params, &mut tape, &mut drawn.challenges);
+    linear_forms(
+        circuit,
+        &lists.public,
+        &drawn.script,
+        &lists.messages,
+        &mut drawn.forms,
+    );
+    let a = drawn.coefficients.as_mut_slice();
+    combine_often(&params, &drawn.forms, &drawn.challenges, a, times)
+}
+
 fn combined_of<F: Field>(
     alloc: Global,
     circuit: &Circuit<F>,
     times: u32,
 ) -> Result<u128, AllocError> {
-    let params = Params::of(circuit);
-    let public = first_values::<F>(alloc, circuit.publics())?;
-    let messages = first_values::<F>(alloc, message_count(circuit))?;
-    let mut script = Script::new(alloc, circuit)?;
-    let mut challenges = Challenges::new(alloc, &params)?;
-    let mut forms = Forms::new(alloc, circuit)?;
-    let mut a = Vec::new(alloc);
-    a.resize((params.nrow - 3) as usize * params.wr as usize, F::zero())?;
-    if public.len() != circuit.publics() as usize
-        || messages.len() != message_count(circuit) as usize
-    {
-        return Ok(0);
-    }
-    let mut tape = Tape::new();
-    replay(circuit, &mut tape, &messages, &mut script);
-    draw_challenges(&params, &mut tape, &mut challenges);
-    linear_forms(circuit, &public, &script, &messages, &mut forms);
-    let total = combine_often(&params, &forms, &challenges, &mut a, times);
+    let lists = lists_of(alloc, circuit)?;
+    let mut drawn = undrawn(alloc, circuit)?;
+    let total = combine_all(circuit, &lists, &mut drawn, times);
+    drop(drawn);
     Ok(total.number())
 }
 

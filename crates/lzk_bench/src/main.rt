@@ -21,18 +21,14 @@ use lzk_afft::Transform;
 use lzk_gf128::Gf128;
 use lzk_goldilocks::Gold;
 use lzk_ntt::NttExtender;
+use std::alloc::{AllocError, Global};
 use std::env;
 use std::marker::Sync;
 use std::rt::Files;
 use std::thread::Threads;
 
-// The checksum of a work, done so often. None where there is no such work.
-fn done<R: Files + Threads + Sync + AllocGlobal>(
-    rt: &R,
-    work: &str,
-    times: u32,
-) -> anyhow::Result<Option<u128>> {
-    let alloc = rt.alloc();
+// The checksum of a work on elements. None where there is no such work.
+fn elements_work(alloc: Global, work: &str, times: u32) -> Result<Option<u128>, AllocError> {
     let sum = match work {
         "gold-mul" => elements::products::<Gold>(alloc, times)?,
         "gold-many" => elements::many_products::<Gold>(alloc, times)?,
@@ -44,12 +40,28 @@ fn done<R: Files + Threads + Sync + AllocGlobal>(
         "gf-many" => elements::many_products::<Gf128>(alloc, times)?,
         "gf-dot" => elements::dots::<Gf128>(alloc, times)?,
         "gf-inv" => elements::inverses::<Gf128>(times),
+        _ => return Ok(None),
+    };
+    Ok(Some(sum))
+}
+
+// The same of the tape, leaves and trees.
+fn hashing_work(alloc: Global, work: &str, times: u32) -> Result<Option<u128>, AllocError> {
+    let sum = match work {
         "aes" => blocks::encrypted(times),
         "draw" => blocks::drawn(times),
         "absorb" => blocks::absorbed(times),
-        "eval" => circuits::evaluated(alloc, times)?,
-        "decode" => circuits::decoded(alloc, times)?,
-        "encode" => circuits::encoded(alloc, times)?,
+        "leaf-7" => trees::leaves(alloc, times, 7)?,
+        "leaf-80" => trees::leaves(alloc, times, 80)?,
+        "tree" => trees::trees(alloc, times)?,
+        _ => return Ok(None),
+    };
+    Ok(Some(sum))
+}
+
+// The same of rows.
+fn rows_work(alloc: Global, work: &str, times: u32) -> Result<Option<u128>, AllocError> {
+    let sum = match work {
         "gold-extend-192" => rows::extended::<Gold>(alloc, times, 192)?,
         "gold-extend-640" => rows::extended::<Gold>(alloc, times, 640)?,
         "gold-extender" => rows::extenders::<Gold>(alloc, times, 640)?,
@@ -62,6 +74,19 @@ fn done<R: Files + Threads + Sync + AllocGlobal>(
         "afft-192" => transforms::extended::<Gf128, Transform>(alloc, times, 192)?,
         "afft-384" => transforms::extended::<Gf128, Transform>(alloc, times, 384)?,
         "afft-640" => transforms::extended::<Gf128, Transform>(alloc, times, 640)?,
+        _ => return Ok(None),
+    };
+    Ok(Some(sum))
+}
+
+// The same of tables, messages and constraints.
+fn constraints_work<R: Threads + Sync>(
+    rt: &R,
+    alloc: Global,
+    work: &str,
+    times: u32,
+) -> Result<Option<u128>, AllocError> {
+    let sum = match work {
         "gold-eq" => tables::eq_tables::<Gold>(alloc, times)?,
         "gf-eq" => tables::eq_tables::<Gf128>(alloc, times)?,
         "gold-tilde" => tables::extensions::<Gold>(alloc, times)?,
@@ -70,12 +95,17 @@ fn done<R: Files + Threads + Sync + AllocGlobal>(
         "combine" => constraints::combined(alloc, times)?,
         "messages" => messages::sent(rt, alloc, times)?,
         "replay" => tables::replayed(alloc, times)?,
-        "leaf-7" => trees::leaves(alloc, times, 7)?,
-        "leaf-80" => trees::leaves(alloc, times, 80)?,
-        "tree" => trees::trees(alloc, times)?,
-        "proof-read" => proofs::read::<Gold>(alloc, times)?,
-        "proof-write" => proofs::write::<Gold>(alloc, times)?,
-        "proof-files" => proofs::written_as_read(rt)?.wrapping_add(scripts::joined_as_given(rt)?),
+        _ => return Ok(None),
+    };
+    Ok(Some(sum))
+}
+
+// The same of sources and circuits.
+fn circuits_work(alloc: Global, work: &str, times: u32) -> Result<Option<u128>, AllocError> {
+    let sum = match work {
+        "eval" => circuits::evaluated(alloc, times)?,
+        "decode" => circuits::decoded(alloc, times)?,
+        "encode" => circuits::encoded(alloc, times)?,
         "numbers" => texts::read(alloc, times)?,
         "source" => texts::parsed(alloc, times)?,
         "source-parity" => texts::parity_parsed(alloc, times)?,
@@ -84,6 +114,40 @@ fn done<R: Files + Threads + Sync + AllocGlobal>(
         _ => return Ok(None),
     };
     Ok(Some(sum))
+}
+
+// The same of proofs' files.
+fn proofs_work<R: Files + AllocGlobal>(
+    rt: &R,
+    alloc: Global,
+    work: &str,
+    times: u32,
+) -> anyhow::Result<Option<u128>> {
+    let sum = match work {
+        "proof-read" => proofs::read::<Gold>(alloc, times)?,
+        "proof-write" => proofs::write::<Gold>(alloc, times)?,
+        "proof-files" => proofs::written_as_read(rt)?.wrapping_add(scripts::joined_as_given(rt)?),
+        _ => return Ok(None),
+    };
+    Ok(Some(sum))
+}
+
+// The checksum of a work, done so often. None where there is no such work.
+fn done<R: Files + Threads + Sync + AllocGlobal>(
+    rt: &R,
+    work: &str,
+    times: u32,
+) -> anyhow::Result<Option<u128>> {
+    let alloc = rt.alloc();
+    let found = [
+        elements_work(alloc, work, times)?,
+        hashing_work(alloc, work, times)?,
+        rows_work(alloc, work, times)?,
+        constraints_work(rt, alloc, work, times)?,
+        circuits_work(alloc, work, times)?,
+        proofs_work(rt, alloc, work, times)?,
+    ];
+    Ok(found.into_iter().flatten().next())
 }
 
 // How many works one run does at most.

@@ -63,7 +63,9 @@ fn proved<R: Threads + Sync, F: Field, X: RowExtend<F>>(
         return Ok(0);
     };
     let mut works = WorksOver::<F, X>::new(alloc, circuit)?;
-    Ok(prove_often(rt, &mut works, &public, &private, times))
+    let sum = prove_often(rt, &mut works, &public, &private, times);
+    drop(works);
+    Ok(sum)
 }
 
 // How often a proof is accepted, as a whole.
@@ -98,6 +100,23 @@ fn feed_often<F: Field>(desk: &mut Desk<'_, F>, public: &[F], proof: &[u8], time
     count
 }
 
+// How often a proof is accepted, as a whole or in pieces.
+fn accepted<F: Field>(
+    desk: &mut Desk<'_, F>,
+    public: &[F],
+    proof: &[u8],
+    is_fed: bool,
+    times: u32,
+) -> u128
+    requires public { length public.now ≡ desk.old.circuit.publics }
+{
+    if is_fed {
+        feed_often(desk, public, proof, times)
+    } else {
+        verify_often(desk, public, proof, times)
+    }
+}
+
 // The same of a circuit.
 fn verified<F: Field>(
     alloc: Global,
@@ -113,11 +132,9 @@ fn verified<F: Field>(
         return Ok(0);
     };
     let mut desk = Desk::new(alloc, circuit)?;
-    Ok(if is_fed {
-        feed_often(&mut desk, &public, &inputs.proof, times)
-    } else {
-        verify_often(&mut desk, &public, &inputs.proof, times)
-    })
+    let count = accepted(&mut desk, &public, &inputs.proof, is_fed, times);
+    drop(desk);
+    Ok(count)
 }
 
 // The files of a statement and its proof, beside the circuit.

@@ -92,13 +92,13 @@ fn challenges_joined<F: Field>(before: F, drawn: &Challenges<F>) -> F {
     joined(total, drawn.v.as_slice())
 }
 
-// What is drawn for a proof, and room for its constraints and what is combined of them.
+/// What is drawn for a proof, and room for its constraints and what is combined of them.
 #[derive(Drop)]
-struct Drawn<F> {
-    script: Script<F>,
-    challenges: Challenges<F>,
-    forms: Forms<F>,
-    coefficients: Elements<F>,
+pub struct Drawn<F> {
+    pub script: Script<F>,
+    pub challenges: Challenges<F>,
+    pub forms: Forms<F>,
+    pub coefficients: Elements<F>,
 }
 
 // Zeros for all rows from row 3 on.
@@ -110,17 +110,22 @@ fn rows_for<F: Field>(params: &Params, alloc: Global) -> Result<Elements<F>, All
     Elements::zeros(alloc, size)
 }
 
-fn undrawn<F: Field>(alloc: Global, circuit: &Circuit<F>) -> Result<Drawn<F>, AllocError>
+/// Nothing drawn yet.
+pub fn undrawn<F: Field>(alloc: Global, circuit: &Circuit<F>) -> Result<Drawn<F>, AllocError>
     ensures script { IfOk result (λ drawn. HasShape circuit.now drawn.script) }
     ensures challenges { IfOk result (λ drawn. accept.HasShape (params_of circuit.now) drawn.challenges) }
     ensures forms { IfOk result (λ drawn. AreFormsOf F.ops circuit.now drawn.forms) }
     ensures coefficients { let p = params_of circuit.now in IfOk result (λ drawn. length drawn.coefficients ≡ (p.nrow - 3) * p.wr) }
 {
+    let script = Script::new(alloc, circuit)?;
+    let challenges = Challenges::new(alloc, &Params::of(circuit))?;
+    let forms = Forms::new(alloc, circuit)?;
+    let coefficients = rows_for(&Params::of(circuit), alloc)?;
     Ok(Drawn {
-        script: Script::new(alloc, circuit)?,
-        challenges: Challenges::new(alloc, &Params::of(circuit))?,
-        forms: Forms::new(alloc, circuit)?,
-        coefficients: rows_for(&Params::of(circuit), alloc)?,
+        script,
+        challenges,
+        forms,
+        coefficients,
     })
 }
 
@@ -190,7 +195,9 @@ fn sums_of<F: Field>(
 ) -> Result<Option<Sums<F>>, AllocError> {
     let mut read = Proof::<F>::new(alloc, &Params::of(circuit))?;
     let mut drawn = undrawn(alloc, circuit)?;
-    Ok(sums_in(circuit, session, public, proof, &mut read, &mut drawn))
+    let sums = sums_in(circuit, session, public, proof, &mut read, &mut drawn);
+    drop(drawn);
+    Ok(sums)
 }
 
 // Whether the two of a proof are those of the table.
