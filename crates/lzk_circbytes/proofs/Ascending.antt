@@ -131,7 +131,7 @@ rest_rises x xs up k lt =
 first_rises : (x y : ℕ) (xs : List ℕ) → IsStrictlyIncreasing (x ∷ y ∷ xs) → x < y
 first_rises x y xs up = up 0 (omega arith)
 
-rises : (x : ℕ) (xs : List ℕ) → IsStrictlyIncreasing (x ∷ xs) → Above x xs
+pub rises : (x : ℕ) (xs : List ℕ) → IsStrictlyIncreasing (x ∷ xs) → Above x xs
 rises x [] up = tt
 rises x (y ∷ xs) up = (first_rises x y xs up, rises y xs (rest_rises x (y ∷ xs) up))
 

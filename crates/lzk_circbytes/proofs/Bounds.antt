@@ -1,5 +1,5 @@
 -- A fault leaves no more bytes than there were.
-use Rattle.std.proofs.Common.{◌≡◌, ℕ, zero, suc, ◌+◌, ◌-◌, ◌*◌, ◌≤◌, Bool, true, false, cond, ltb, leb, eqb, ◌&&◌, List, [], ◌∷◌, length, take, drop, Option, Some, None, Result, Ok, Err, subst, arith, length-drop}
+use Rattle.std.proofs.Common.{◌≡◌, ℕ, zero, suc, ◌+◌, ◌-◌, ◌*◌, ◌≤◌, Bool, true, false, cond, ltb, leb, eqb, ◌&&◌, List, [], ◌∷◌, length, take, drop, Option, Some, None, Result, Ok, Err, subst, arith, length-drop, slice_index}
 use Rattle.std.specs.Int.{w32, from_le_bytes}
 use Rattle.lzk_field.specs.Bytes.{number_from}
 use Rattle.lzk_circuit.specs.declared.layer.Term.{Term}
@@ -7,7 +7,8 @@ use Rattle.lzk_circuit.specs.declared.layer.Layer.{Layer}
 use Rattle.lzk_circuit.specs.Valid.{Under, above_layer}
 use Rattle.lzk_circbytes.specs.declared.fault.ByteKind.{ByteKind}
 use Rattle.lzk_circbytes.specs.declared.fault.ByteKind.TheVariants as kinds
-use Rattle.lzk_circbytes.specs.Numbered.{Shape, is_coefficient}
+use Rattle.lzk_circuit.specs.Faults.{are_apart}
+use Rattle.lzk_circbytes.specs.Numbered.{Shape, is_coefficient, coefs_of}
 use Rattle.lzk_circbytes.specs.Reading.{Stop, ◌>>=◌, stops, must, many, word_at, limited_at, septets_at, varint_at, step_at, constant_at, constants_at, as_last, stands_behind, wire_before, term_at, terms_at, as_before, layer_at, layers_at, unused_from, all_used, body_at, wiring_at}
 use Rattle.lzk_circbytes.specs.Files.{goldilocks, gf128, begins_with, field_at, circuit_at}
 
@@ -98,7 +99,8 @@ term_stays coefs wires below before bytes n h =
     stays_then n (step_at 0 below g.1) _ (step_stays 0 below g.1 n hg) (λ a ha.
     stays_then n (step_at a.0 below a.1) _ (step_stays a.0 below a.1 n ha) (λ b hb.
     must_stays n (stands_behind before g.0 a.0 b.0) kinds.Order a.1 _ ha
-    (stays_then n (step_at 0 (length coefs) b.1) _ (step_stays 0 (length coefs) b.1 n hb) (λ k hk. hk)))))
+    (stays_then n (step_at 0 (length coefs) b.1) _ (step_stays 0 (length coefs) b.1 n hb)
+    (λ k hk. must_stays n (are_apart (λ n. n) before (record { g = g.0; a = a.0; b = b.0; coef = slice_index coefs k.0 })) kinds.Assertion b.1 _ hb hk)))))
 
 layer_stays : (coefs : List ℕ) (under : Under) (bytes : List ℕ) (n : ℕ) → length bytes ≤ n → Stays n (layer_at coefs under bytes)
 unfolding layer_at
@@ -117,36 +119,37 @@ unused_ends width layers (c ∷ cs) bytes n h = by_use (is_coefficient layers c)
     by_use true k = k
     by_use false k = h
 
-body_ends : (shape : Shape) (inputs depth count : ℕ) (bytes : List ℕ) (n : ℕ) → length bytes ≤ n → Ends n (body_at shape inputs depth count bytes)
+body_ends : (shape : Shape) (version inputs depth count : ℕ) (bytes : List ℕ) (n : ℕ) → length bytes ≤ n → Ends n (body_at shape version inputs depth count bytes)
 unfolding body_at
-body_ends shape inputs depth count bytes n h =
+body_ends shape version inputs depth count bytes n h =
     ends_then n (constants_at shape count bytes) _ (many_stays as_last (constant_at shape) (constant_stays shape) count 0 bytes n h) (λ cs hc.
-    ends_then n (layers_at cs.0 inputs depth cs.1) _ (many_stays above_layer (layer_at cs.0) (layer_stays cs.0) depth (record { width = inputs; wires = 0; terms = 0 }) cs.1 n hc) (λ layers hl.
+    ends_then n (layers_at (coefs_of version cs.0) inputs depth cs.1) _ (many_stays above_layer (layer_at (coefs_of version cs.0)) (layer_stays (coefs_of version cs.0)) depth (record { width = inputs; wires = 0; terms = 0 }) cs.1 n hc) (λ layers hl.
     ends_with n (all_used (unused_from shape.bytes layers.0 cs.0 bytes)) _ (unused_ends shape.bytes layers.0 cs.0 bytes n h) (λ u.
     must_ends n (eqb (length layers.1) 0) kinds.Trailing layers.1 _ hl tt)))
 
-wiring_ends : (shape : Shape) (bytes : List ℕ) (n : ℕ) → length bytes ≤ n → Ends n (wiring_at shape bytes)
+wiring_ends : (shape : Shape) (version : ℕ) (bytes : List ℕ) (n : ℕ) → length bytes ≤ n → Ends n (wiring_at shape version bytes)
 unfolding wiring_at
-wiring_ends shape bytes n h =
+wiring_ends shape version bytes n h =
     ends_then n (limited_at 0 65535 bytes) _ (limited_stays 0 65535 bytes n h) (λ publics h1.
     ends_then n (limited_at 0 65536 publics.1) _ (limited_stays 0 65536 publics.1 n h1) (λ privates h2.
     ends_then n (limited_at 1 512 privates.1) _ (limited_stays 1 512 privates.1 n h2) (λ depth h3.
     ends_then n (limited_at 0 2097152 depth.1) _ (limited_stays 0 2097152 depth.1 n h3) (λ count h4.
-    ends_with n (body_at shape (1 + publics.0 + privates.0) depth.0 count.0 count.1) _ (body_ends shape (1 + publics.0 + privates.0) depth.0 count.0 count.1 n h4) (λ layers. tt)))))
+    ends_with n (body_at shape version (1 + publics.0 + privates.0) depth.0 count.0 count.1) _ (body_ends shape version (1 + publics.0 + privates.0) depth.0 count.0 count.1 n h4) (λ layers. tt)))))
 
-field_ends : (bytes : List ℕ) (n : ℕ) → length bytes ≤ n → Ends n (field_at bytes)
-field_ends [] n h = h
-field_ends (id ∷ bytes) n h =
+field_ends : (version : ℕ) (bytes : List ℕ) (n : ℕ) → length bytes ≤ n → Ends n (field_at version bytes)
+field_ends version [] n h = h
+field_ends version (id ∷ bytes) n h =
     let le : length bytes ≤ n = omega (arith, h) in
-    ends_if n (eqb id 1) _ _ (ends_with n (wiring_at goldilocks bytes) _ (wiring_ends goldilocks bytes n le) (λ c. tt))
-    (ends_if n (eqb id 2) _ (stops kinds.FieldId (id ∷ bytes)) (ends_with n (wiring_at gf128 bytes) _ (wiring_ends gf128 bytes n le) (λ c. tt)) h)
+    ends_if n (eqb id 1) _ _ (ends_with n (wiring_at goldilocks version bytes) _ (wiring_ends goldilocks version bytes n le) (λ c. tt))
+    (ends_if n (eqb id 2) _ (stops kinds.FieldId (id ∷ bytes)) (ends_with n (wiring_at gf128 version bytes) _ (wiring_ends gf128 version bytes n le) (λ c. tt)) h)
 
 pub circuit_ends : (bytes : List ℕ) → Ends (length bytes) (circuit_at bytes)
 unfolding circuit_at
 circuit_ends bytes =
     let all : length bytes ≤ length bytes = omega arith in
     ends_if (length bytes) (ltb (length bytes) 4) (stops kinds.Truncated bytes) _ all
-    (ends_if (length bytes) (begins_with (76 ∷ 90 ∷ 67 ∷ 49 ∷ []) bytes) (field_at (drop 4 bytes)) (stops kinds.Magic bytes) (field_ends (drop 4 bytes) (length bytes) (dropped 4 (length bytes) bytes all)) all)
+    (ends_if (length bytes) (begins_with (76 ∷ 90 ∷ 67 ∷ 49 ∷ []) bytes) (field_at 1 (drop 4 bytes)) _ (field_ends 1 (drop 4 bytes) (length bytes) (dropped 4 (length bytes) bytes all))
+    (ends_if (length bytes) (begins_with (76 ∷ 90 ∷ 67 ∷ 50 ∷ []) bytes) (field_at 2 (drop 4 bytes)) (stops kinds.Magic bytes) (field_ends 2 (drop 4 bytes) (length bytes) (dropped 4 (length bytes) bytes all)) all))
 
 pub fault_within : (bytes : List ℕ) (e : Stop) → circuit_at bytes ≡ Err e → e.left ≤ length bytes
 fault_within bytes e h = subst (λ (r : Result _ Stop). Ends (length bytes) r) h (circuit_ends bytes)

@@ -2,11 +2,12 @@
 use Rattle.std.proofs.Common.{◌≡◌, ℕ, zero, suc, ◌+◌, ◌-◌, ◌^◌, ◌<◌, ◌≤◌, Bool, true, false, cond, leb, eqb, ◌&&◌, List, [], ◌∷◌, ◌++◌, length, Option, None, Ok, refl, sym, ap, subst, ◌∙◌, arith, slice_index, append_assoc}
 use Rattle.std.specs.Int.{w32, to_le_bytes}
 use Rattle.std.proofs.lemmas.Bool.{ne_eqb, eqb-true, eq-eqb, le-leb, leb-true, and_parts}
-use Rattle.lzk_circbytes.specs.declared.fault.ByteKind.TheVariants.{Order, Limit}
+use Rattle.lzk_circbytes.specs.declared.fault.ByteKind.TheVariants.{Order, Limit, Assertion}
 use Rattle.lzk_circuit.specs.declared.layer.Term.{Term}
 use Rattle.lzk_circuit.specs.declared.layer.Layer.{Layer}
 use Rattle.lzk_circuit.specs.Valid.{Under}
-use Rattle.lzk_circbytes.specs.Numbered.{Shape}
+use Rattle.lzk_circuit.specs.Faults.{are_apart}
+use Rattle.lzk_circbytes.specs.Numbered.{Shape, coefs_of}
 use Rattle.lzk_circbytes.specs.Reading.{must, stands_behind, wire_before, step_at, term_at, terms_at, as_before, word_at, layer_at}
 use Rattle.lzk_circbytes.specs.Spelling.{term_bytes, layer_bytes, varint, index_of, spells}
 use Rattle.lzk_circbytes.specs.Fits.{FitsTerm, FitsLayer, AreConstants}
@@ -44,6 +45,21 @@ AreIndexed coefs = (k : ℕ) → k < length coefs → index_of coefs (slice_inde
 pub indexed : (shape : Shape) (cs : List ℕ) → AreConstants shape 0 cs → AreIndexed cs
 indexed shape cs h k lt = index_found shape 0 cs k h lt
 
+-- the same with zero before the constants
+pub coefs_indexed : (shape : Shape) (version : ℕ) (cs : List ℕ) → AreConstants shape 0 cs → AreIndexed (coefs_of version cs)
+coefs_indexed shape version cs h = go (eqb version 2)
+  where
+    zero_first : AreIndexed (0 ∷ cs)
+    zero_first zero lt = refl
+    zero_first (suc k) lt =
+        let less : k < length cs = omega (arith, lt) in
+        let other : eqb 0 (slice_index cs k) ≡ false = ne_eqb 0 (slice_index cs k) (λ e. omega (arith, e, above shape 0 cs k h less)) in
+        rw other (ap suc (index_found shape 0 cs k h less))
+
+    go : (b : Bool) → AreIndexed (cond b (0 ∷ cs) cs)
+    go true = zero_first
+    go false = indexed shape cs h
+
 -- ---- a term
 
 pub term_take : (coefs : List ℕ) (wires below : ℕ) → AreIndexed coefs → (last : Option (Term ℕ)) (bytes : List ℕ) (x : Term ℕ × List ℕ) → IsBytes bytes → term_at coefs wires below last bytes ≡ Ok x
@@ -54,7 +70,8 @@ term_take coefs wires below rising last bytes x fits e =
     from (step_at 0 below g.1) _ x then_a (λ a at_a then_b.
     from (step_at a.0 below a.1) _ x then_b (λ b at_b then_order.
     from (must (stands_behind last g.0 a.0 b.0) Order a.1) _ x then_order (λ o at_o then_k.
-    from (step_at 0 (length coefs) b.1) _ x then_k (λ k at_k end.
+    from (step_at 0 (length coefs) b.1) _ x then_k (λ k at_k then_apart.
+    from (must (are_apart (λ n. n) last (record { g = g.0; a = a.0; b = b.0; coef = slice_index coefs k.0 })) Assertion b.1) _ x then_apart (λ q at_q end.
     let tg = step_take (wire_before last) wires bytes g fits at_g in
     let ta = step_take 0 below g.1 a tg.0.rest_fits at_a in
     let tb = step_take a.0 below a.1 b ta.0.rest_fits at_b in
@@ -76,8 +93,9 @@ term_take coefs wires below rising last bytes x fits e =
       rising = tg.1.up;
       behind = must_ok (stands_behind last g.0 a.0 b.0) Order a.1 o at_o;
       number = omega (arith, place, tk.1.below);
+      apart = must_ok (are_apart (λ n. n) last made.0) Assertion b.1 q at_q;
     } in
-    subst (λ (y : Term ℕ × List ℕ). Takes bytes (term_bytes coefs last y.0) y.1 × FitsTerm coefs wires below last y.0) (ok_is made x end) (whole, good))))))
+    subst (λ (y : Term ℕ × List ℕ). Takes bytes (term_bytes coefs last y.0) y.1 × FitsTerm coefs wires below last y.0) (ok_is made x end) (whole, good)))))))
 
 -- what lets each number of a term be written
 pub record Room (coefs : List ℕ) (wires below : ℕ) : Type 0 where
@@ -103,7 +121,7 @@ term_again coefs wires below room last t rest fits =
     let rk : step_at 0 (length coefs) (vk ++ rest) ≡ Ok (k, rest) =
     subst (λ (n : ℕ). step_at 0 (length coefs) (varint n ++ rest) ≡ Ok (k, rest)) (let z : k - 0 ≡ k = omega arith in z)
     (step_again 0 (length coefs) k rest (omega (arith, fits.number, room.for_coef)) (record { up = omega arith; below = fits.number })) in
-    ap (term_at coefs wires below last) regrouped ∙ rw (rg, ra, rb, fits.behind, rk, found_index coefs t.coef fits.number) refl
+    ap (term_at coefs wires below last) regrouped ∙ rw (rg, ra, rb, fits.behind, rk, found_index coefs t.coef fits.number, fits.apart) refl
 
 -- ---- a level
 

@@ -12,16 +12,16 @@ use Rattle.lzk_circbytes.specs.declared.any.AnyCircuit.{AnyCircuit}
 use Rattle.lzk_circbytes.specs.declared.any.AnyCircuit.TheVariants.{Gold, Gf}
 use Rattle.lzk_circbytes.specs.declared.fault.ByteKind.{ByteKind}
 use Rattle.lzk_circbytes.specs.declared.fault.ByteKind.TheVariants.{Truncated, Magic, FieldId}
-use Rattle.lzk_circbytes.specs.Numbered.{Shape, shape, numbered, coefficients}
+use Rattle.lzk_circbytes.specs.Numbered.{Shape, shape, numbered, coefficients, nonzero}
 use Rattle.lzk_circbytes.specs.Reading.{Stop, ◌>>=◌, stops, wiring_at}
 use Rattle.lzk_circbytes.specs.Spelling.{file_bytes, file_of}
 
--- The bytes are the file of a valid circuit over a field: its fields in order, with exactly its coefficients as constants, ascending.
+-- The bytes are the file of a valid circuit over a field: its fields in order, with exactly its coefficients other than 0 as constants, ascending.
 pub record IsFile {A : Type 0} (o : Ops A) (number : A → ℕ) (shape : Shape) (c : Wiring A) (bytes : List ℕ) : Type 0 where
   pub valid : IsValid o c
   pub constants : List ℕ
   pub ascending : IsStrictlyIncreasing constants
-  pub exact : (n : ℕ) → Contains constants n ↔ Contains (coefficients (numbered number c).layers) n
+  pub exact : (n : ℕ) → Contains constants n ↔ Contains (nonzero (coefficients (numbered number c).layers)) n
   pub bytes_are : bytes ≡ file_bytes shape (numbered number c) constants
 
 abbrev pub goldilocks : Shape
@@ -55,22 +55,23 @@ begins_with [] bytes = true
 begins_with (a ∷ rest) [] = false
 begins_with (a ∷ rest) (b ∷ bytes) = (a == b) && begins_with rest bytes
 
--- the field's byte, and the circuit over that field
-abbrev pub field_at : List ℕ → Result (ℕ × Wiring ℕ) Stop
-field_at [] = stops Truncated []
-field_at (id ∷ bytes) =
+-- the field's byte, and the circuit of this version over that field
+abbrev pub field_at : ℕ → List ℕ → Result (ℕ × Wiring ℕ) Stop
+field_at version [] = stops Truncated []
+field_at version (id ∷ bytes) =
     if id == 1 then (do
-      c ← wiring_at goldilocks bytes
+      c ← wiring_at goldilocks version bytes
       Ok (1, c)) else
     (if id == 2 then (do
-      c ← wiring_at gf128 bytes
+      c ← wiring_at gf128 version bytes
       Ok (2, c)) else stops FieldId (id ∷ bytes))
 
--- a whole file: `LZC1` and the rest
+-- a whole file: `LZC1` or `LZC2` and the rest
 unfoldable pub circuit_at : List ℕ → Result (ℕ × Wiring ℕ) Stop
 circuit_at bytes =
     if nat_lt (length bytes) 4 then stops Truncated bytes else
-    (if begins_with (76 ∷ 90 ∷ 67 ∷ 49 ∷ []) bytes then field_at (drop 4 bytes) else stops Magic bytes)
+    (if begins_with (76 ∷ 90 ∷ 67 ∷ 49 ∷ []) bytes then field_at 1 (drop 4 bytes) else
+    (if begins_with (76 ∷ 90 ∷ 67 ∷ 50 ∷ []) bytes then field_at 2 (drop 4 bytes) else stops Magic bytes))
 
 -- The bytes are no circuit's file. The fields before offset are whole and pass their checks, and kind is the first check that the field
 -- there fails; or all pass, and the constant there is the first that no term uses, or a byte is left there.

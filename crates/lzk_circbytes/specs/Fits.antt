@@ -5,7 +5,8 @@ use Rattle.std.specs.List.{list_any}
 use Rattle.lzk_circuit.specs.declared.layer.Term.{Term}
 use Rattle.lzk_circuit.specs.declared.layer.Layer.{Layer}
 use Rattle.lzk_circuit.specs.Valid.{Under, above_inputs, above_layer, Wiring}
-use Rattle.lzk_circbytes.specs.Numbered.{Shape, is_coefficient}
+use Rattle.lzk_circuit.specs.Faults.{are_apart}
+use Rattle.lzk_circbytes.specs.Numbered.{Shape, is_coefficient, coefs_of}
 use Rattle.lzk_circbytes.specs.Reading.{stands_behind, wire_before, as_before, as_last}
 use Rattle.lzk_circbytes.specs.Spelling.{index_of, constants_bytes}
 
@@ -21,6 +22,7 @@ pub record FitsTerm (coefs : List ℕ) (wires below : ℕ) (before : Option (Ter
   pub rising : wire_before before ≤ t.g
   pub behind : stands_behind before t.g t.a t.b ≡ true
   pub number : index_of coefs t.coef < length coefs
+  pub apart : are_apart (λ n. n) before t ≡ true
 
 pub record FitsLayer (coefs : List ℕ) (under : Under) (l : Layer ℕ) : Type 0 where
   pub some : 1 ≤ l.wires
@@ -38,14 +40,14 @@ abbrev pub AreConstants : Shape → ℕ → List ℕ → Type 0
 AreConstants shape before cs = FitAlong as_last (FitsConstant shape) before cs
 
 -- what stands behind the field's byte, with these constants and with the layers from the inputs up
-pub record FitsWiring (shape : Shape) (publics privates : ℕ) (layers : List (Layer ℕ)) (cs : List ℕ) : Type 0 where
+pub record FitsWiring (shape : Shape) (version publics privates : ℕ) (layers : List (Layer ℕ)) (cs : List ℕ) : Type 0 where
   pub few_publics : publics ≤ 65535
   pub few_privates : privates ≤ 65536
   pub some : 1 ≤ length layers
   pub depth : length layers ≤ 512
   pub few_constants : length cs ≤ 2097152
   pub rising : AreConstants shape 0 cs
-  pub each : FitAlong above_layer (FitsLayer cs) (above_inputs (1 + publics + privates)) layers
+  pub each : FitAlong above_layer (FitsLayer (coefs_of version cs)) (above_inputs (1 + publics + privates)) layers
   -- each constant is a coefficient
   pub used : (c : ℕ) → IsTrue (list_any (nat_eq c) cs) → IsTrue (is_coefficient layers c)
 
@@ -66,4 +68,4 @@ CanWriteLayers coefs (layer ∷ layers) = CanWriteAll coefs layer.terms × (leng
 -- all that stands before the layers
 abbrev pub head_bytes : Shape → Wiring ℕ → List ℕ → List ℕ
 head_bytes shape c cs =
-    76 ∷ 90 ∷ 67 ∷ 49 ∷ shape.id ∷ (to_le_bytes w32 c.publics ++ (to_le_bytes w32 c.privates ++ (to_le_bytes w32 (length c.layers) ++ (to_le_bytes w32 (length cs) ++ constants_bytes shape cs))))
+    76 ∷ 90 ∷ 67 ∷ (48 + c.version) ∷ shape.id ∷ (to_le_bytes w32 c.publics ++ (to_le_bytes w32 c.privates ++ (to_le_bytes w32 (length c.layers) ++ (to_le_bytes w32 (length cs) ++ constants_bytes shape cs))))

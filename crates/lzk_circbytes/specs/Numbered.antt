@@ -1,9 +1,9 @@
 -- Circuits by the numbers of their coefficients, as a file has them.
 use Rattle.std.specs.Prelude.{ℕ, ◌==◌, nat_lt, Bool, cond, List, [], ◌∷◌, map, flat_map}
-use Rattle.std.specs.List.{list_any}
+use Rattle.std.specs.List.{list_any, filter}
 use Rattle.lzk_circuit.specs.declared.layer.Term.{Term}
 use Rattle.lzk_circuit.specs.declared.layer.Layer.{Layer}
-use Rattle.lzk_circuit.specs.Valid.{Wiring, wiring}
+use Rattle.lzk_circuit.specs.Valid.{Wiring, wiring_of}
 
 -- how a field's elements are written: by which byte the field is named, in how many bytes an element, and how many elements there are
 pub record Shape : Type 0 where
@@ -22,7 +22,7 @@ numbered_layer number layer = record { wires = layer.wires; terms = map (numbere
 
 -- the same circuit, with each coefficient's number in its place
 abbrev pub numbered : {A : Type 0} → (A → ℕ) → Wiring A → Wiring ℕ
-numbered number c = wiring c.publics c.privates (map (numbered_layer number) c.layers)
+numbered number c = wiring_of c.version c.publics c.privates (map (numbered_layer number) c.layers)
 
 -- whether n is a coefficient of these terms, or layers
 abbrev pub is_in_terms : List (Term ℕ) → ℕ → Bool
@@ -34,6 +34,19 @@ is_coefficient layers n = list_any (λ layer. is_in_terms layer.terms n) layers
 abbrev pub coefficients : List (Layer ℕ) → List ℕ
 coefficients layers = flat_map (λ layer. map (λ t. t.coef) layer.terms) layers
 
+-- the numbers other than 0
+abbrev pub nonzero : List ℕ → List ℕ
+nonzero ns = filter (λ n. nat_lt 0 n) ns
+
+-- What a term's last number counts among: the constants, and in version 2 zero before them. So it is 0 there for an assertion term, and 1 + the
+-- number of the constant for another.
+abbrev pub coefs_of : ℕ → List ℕ → List ℕ
+coefs_of version cs = cond (version == 2) (0 ∷ cs) cs
+
+-- how many of these stand before the constants
+abbrev pub zeros_of : ℕ → ℕ
+zeros_of version = cond (version == 2) 1 0
+
 -- an ascending list with n put into it, unless n is there
 abbrev pub with_number : ℕ → List ℕ → List ℕ
 with_number n [] = n ∷ []
@@ -44,6 +57,6 @@ abbrev pub ascending : List ℕ → List ℕ
 ascending [] = []
 ascending (n ∷ ns) = with_number n (ascending ns)
 
--- the numbers of a circuit's coefficients, each once, ascending
+-- the numbers of a circuit's coefficients other than 0, each once, ascending
 abbrev pub constants_of : Wiring ℕ → List ℕ
-constants_of c = ascending (coefficients c.layers)
+constants_of c = ascending (nonzero (coefficients c.layers))

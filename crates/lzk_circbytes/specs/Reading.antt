@@ -4,10 +4,11 @@ use Rattle.std.specs.Int.{w32, from_le_bytes}
 use Rattle.lzk_field.specs.Bytes.{number_from}
 use Rattle.lzk_circuit.specs.declared.layer.Term.{Term}
 use Rattle.lzk_circuit.specs.declared.layer.Layer.{Layer}
-use Rattle.lzk_circuit.specs.Valid.{Under, above_inputs, above_layer, Wiring, wiring}
+use Rattle.lzk_circuit.specs.Valid.{Under, above_inputs, above_layer, Wiring, wiring_of}
+use Rattle.lzk_circuit.specs.Faults.{are_apart}
 use Rattle.lzk_circbytes.specs.declared.fault.ByteKind.{ByteKind}
-use Rattle.lzk_circbytes.specs.declared.fault.ByteKind.TheVariants.{Truncated, Limit, Varint, Order, Range, Constant, Trailing}
-use Rattle.lzk_circbytes.specs.Numbered.{Shape, is_coefficient}
+use Rattle.lzk_circbytes.specs.declared.fault.ByteKind.TheVariants.{Truncated, Limit, Varint, Order, Range, Constant, Trailing, Assertion}
+use Rattle.lzk_circbytes.specs.Numbered.{Shape, is_coefficient, coefs_of}
 
 -- the first check that fails, and how many bytes are left from the field that it is of
 pub record Stop : Type 0 where
@@ -97,6 +98,7 @@ term_at coefs wires below before bytes = do
   b ← step_at a.0 below a.1
   _ ← must (stands_behind before g.0 a.0 b.0) Order a.1
   k ← step_at 0 (length coefs) b.1
+  _ ← must (are_apart (λ n. n) before (record { g = g.0; a = a.0; b = b.0; coef = slice_index coefs k.0 })) Assertion b.1
   Ok (record { g = g.0; a = a.0; b = b.0; coef = slice_index coefs k.0 }, k.1)
 
 abbrev pub as_before : Option (Term ℕ) → Term ℕ → Option (Term ℕ)
@@ -129,20 +131,20 @@ all_used None = Ok tt
 all_used (Some bytes) = stops Constant bytes
 
 -- the constants and the layers, from the inputs up: each constant is used, and no byte is left
-unfoldable pub body_at : Shape → ℕ → ℕ → ℕ → List ℕ → Result (List (Layer ℕ)) Stop
-body_at shape inputs depth count bytes = do
+unfoldable pub body_at : Shape → ℕ → ℕ → ℕ → ℕ → List ℕ → Result (List (Layer ℕ)) Stop
+body_at shape version inputs depth count bytes = do
   cs ← constants_at shape count bytes
-  layers ← layers_at cs.0 inputs depth cs.1
+  layers ← layers_at (coefs_of version cs.0) inputs depth cs.1
   _ ← all_used (unused_from shape.bytes layers.0 cs.0 bytes)
   _ ← must (length layers.1 == 0) Trailing layers.1
   Ok layers.0
 
--- what stands behind the field's byte
-unfoldable pub wiring_at : Shape → List ℕ → Result (Wiring ℕ) Stop
-wiring_at shape bytes = do
+-- what stands behind the field's byte, in a file of this version
+unfoldable pub wiring_at : Shape → ℕ → List ℕ → Result (Wiring ℕ) Stop
+wiring_at shape version bytes = do
   publics ← limited_at 0 65535 bytes
   privates ← limited_at 0 65536 publics.1
   depth ← limited_at 1 512 privates.1
   count ← limited_at 0 2097152 depth.1
-  layers ← body_at shape (1 + publics.0 + privates.0) depth.0 count.0 count.1
-  Ok (wiring publics.0 privates.0 (reverse layers))
+  layers ← body_at shape version (1 + publics.0 + privates.0) depth.0 count.0 count.1
+  Ok (wiring_of version publics.0 privates.0 (reverse layers))

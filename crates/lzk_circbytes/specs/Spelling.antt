@@ -5,7 +5,7 @@ use Rattle.lzk_field.specs.Bytes.{bytes_of}
 use Rattle.lzk_circuit.specs.declared.layer.Term.{Term}
 use Rattle.lzk_circuit.specs.declared.layer.Layer.{Layer}
 use Rattle.lzk_circuit.specs.Valid.{Under, above_inputs, above_layer, Wiring}
-use Rattle.lzk_circbytes.specs.Numbered.{Shape, constants_of}
+use Rattle.lzk_circbytes.specs.Numbered.{Shape, coefs_of, constants_of}
 use Rattle.lzk_circbytes.specs.Reading.{wire_before, as_before, as_last}
 
 -- each item, spelled with what the items before it left
@@ -44,11 +44,11 @@ constants_bytes shape cs = spells as_last (λ before c. bytes_of shape.bytes c) 
 abbrev pub tail_bytes : Shape → Wiring ℕ → List ℕ → List ℕ
 tail_bytes shape c cs =
     to_le_bytes w32 c.publics ++ (to_le_bytes w32 c.privates ++ (to_le_bytes w32 (length c.layers) ++ (to_le_bytes w32 (length cs)
-    ++ (constants_bytes shape cs ++ layers_bytes cs (1 + c.publics + c.privates) (reverse c.layers)))))
+    ++ (constants_bytes shape cs ++ layers_bytes (coefs_of c.version cs) (1 + c.publics + c.privates) (reverse c.layers)))))
 
--- `LZC1`, the field's byte and the rest, with these constants
+-- `LZC1` or `LZC2`, the field's byte and the rest, with these constants
 abbrev pub file_bytes : Shape → Wiring ℕ → List ℕ → List ℕ
-file_bytes shape c cs = 76 ∷ 90 ∷ 67 ∷ 49 ∷ shape.id ∷ tail_bytes shape c cs
+file_bytes shape c cs = 76 ∷ 90 ∷ 67 ∷ (48 + c.version) ∷ shape.id ∷ tail_bytes shape c cs
 
 -- the one file of a circuit
 abbrev pub file_of : Shape → Wiring ℕ → List ℕ

@@ -1,15 +1,17 @@
 //! The circuit whose file the bytes are.
 
-ghost use Rattle.std.specs.Prelude.{◌≡◌, ◌≤◌, map, reverse, IfOk, IfErr};
+ghost use Rattle.std.specs.Prelude.{◌≡◌, ◌⊎◌, ◌≤◌, map, reverse, IfOk, IfErr};
 ghost use Rattle.lzk_circuit.specs.Valid.{IsValid, wiring};
 ghost use Rattle.lzk_circbytes.specs.Numbered.{shape, numbered, numbered_layer};
 ghost use Rattle.lzk_circbytes.specs.Reading.{body_at, wiring_at};
-ghost use Rattle.lzk_circbytes.specs.Files.{CircuitBytes, circuit_at, OneCircuit, OneFile, OneFault, NoFault, FilesFit};
+ghost use Rattle.lzk_circbytes.specs.Files.{CircuitBytes, field_at, circuit_at, OneCircuit, OneFile, OneFault, NoFault, FilesFit};
 ghost use Rattle.lzk_circbytes.specs.Answers.{Gives, IsFirstFault, IsNoCircuit, numbers_of, IsValidCircuit};
 
 use crate::any::AnyCircuit;
 use crate::fault::{ByteFault, ByteKind, DecodeError, ReadError};
-use crate::reading::{check_used, constants_of, layers_of, limited_of, stop};
+use crate::reading::{
+    check_used, coefs_of, constants_of, constants_part, layers_of, limited_of, stop,
+};
 use lzk_circuit::{Circuit, Layer};
 use lzk_field::Field;
 use lzk_gf128::Gf128;
@@ -20,18 +22,21 @@ use std::alloc::Global;
 #[tactic(auto, unfolding(crate::specs::Reading::body_at))]
 fn body_of<F: Field>(
     alloc: Global,
+    version: u8,
     inputs: u32,
     depth: u32,
     count: u32,
     bytes: &[u8],
 ) -> Result<Vec<Layer<F>>, ReadError>
     requires { count ≤ 2097152 }
-    ensures { Gives (λ layers. map (numbered_layer F.number_of) layers.items) result (body_at (shape F.ID F.BYTES F.size) inputs depth count bytes.now) }
+    ensures { Gives (λ layers. map (numbered_layer F.number_of) layers.items) result
+        (body_at (shape F.ID F.BYTES F.size) version inputs depth count bytes.now) }
 {
     let (constants, rest) = constants_of::<F>(alloc, count, bytes)?;
-    let mut used = vec![in alloc; false; constants.len()]?;
-    let (layers, rest) = layers_of(alloc, &constants, inputs, depth, &mut used, rest)?;
-    check_used(&used, F::BYTES, bytes)?;
+    let coefs = coefs_of(alloc, version, constants)?;
+    let mut used = vec![in alloc; false; coefs.len()]?;
+    let (layers, rest) = layers_of(alloc, &coefs, inputs, depth, &mut used, rest)?;
+    check_used(constants_part(version, &used), F::BYTES, bytes)?;
     if !rest.is_empty() {
         return Err(stop(ByteKind::Trailing, rest));
     }
@@ -40,19 +45,34 @@ fn body_of<F: Field>(
 
 /// The circuit behind the field's byte.
 #[tactic(auto, unfolding(crate::specs::Reading::wiring_at))]
-fn circuit_of<F: Field>(alloc: Global, bytes: &[u8]) -> Result<Circuit<F>, ReadError>
-    ensures value { Gives (λ c. numbered F.number_of c) result (wiring_at (shape F.ID F.BYTES F.size) bytes.now) }
+fn circuit_of<F: Field>(alloc: Global, version: u8, bytes: &[u8]) -> Result<Circuit<F>, ReadError>
+    requires { (version ≡ 1) ⊎ (version ≡ 2) }
+    ensures value { Gives (λ c. numbered F.number_of c) result (wiring_at (shape F.ID F.BYTES F.size) version bytes.now) }
     ensures valid { IfOk result (λ c. IsValid F.ops c) }
 {
     let (publics, rest) = limited_of(0, 65_535, bytes)?;
     let (privates, rest) = limited_of(0, 65_536, rest)?;
     let (depth, rest) = limited_of(1, 512, rest)?;
     let (count, rest) = limited_of(0, 2_097_152, rest)?;
-    let mut layers = body_of(alloc, 1 + publics + privates, depth, count, rest)?;
+    let mut layers = body_of(alloc, version, 1 + publics + privates, depth, count, rest)?;
     layers.reverse();
-    match Circuit::of_layers(publics, privates, layers) {
+    match Circuit::of_version(version, publics, privates, layers) {
         Ok(circuit) => Ok(circuit),
         Err(_) => unreachable!(),
+    }
+}
+
+/// The circuit from the field's byte on.
+fn any_of(alloc: Global, version: u8, bytes: &[u8]) -> Result<AnyCircuit, ReadError>
+    requires { (version ≡ 1) ⊎ (version ≡ 2) }
+    ensures value { Gives numbers_of result (field_at version bytes.now) }
+    ensures valid { IfOk result IsValidCircuit }
+{
+    match bytes {
+        [] => Err(stop(ByteKind::Truncated, bytes)),
+        [1, rest @ ..] => Ok(AnyCircuit::Gold(circuit_of::<Gold>(alloc, version, rest)?)),
+        [2, rest @ ..] => Ok(AnyCircuit::Gf(circuit_of::<Gf128>(alloc, version, rest)?)),
+        _ => Err(stop(ByteKind::FieldId, bytes)),
     }
 }
 
@@ -66,14 +86,8 @@ fn file_of(alloc: Global, bytes: &[u8]) -> Result<AnyCircuit, ReadError>
         return Err(stop(ByteKind::Truncated, bytes));
     }
     match bytes {
-        [b'L', b'Z', b'C', b'1'] => Err(stop(ByteKind::Truncated, &bytes[4..])),
-        [b'L', b'Z', b'C', b'1', 1, rest @ ..] => Ok(AnyCircuit::Gold(circuit_of::<Gold>(
-            alloc, rest,
-        )?)),
-        [b'L', b'Z', b'C', b'1', 2, rest @ ..] => Ok(AnyCircuit::Gf(circuit_of::<Gf128>(
-            alloc, rest,
-        )?)),
-        [b'L', b'Z', b'C', b'1', ..] => Err(stop(ByteKind::FieldId, &bytes[4..])),
+        [b'L', b'Z', b'C', b'1', rest @ ..] => any_of(alloc, 1, rest),
+        [b'L', b'Z', b'C', b'2', rest @ ..] => any_of(alloc, 2, rest),
         _ => Err(stop(ByteKind::Magic, bytes)),
     }
 }

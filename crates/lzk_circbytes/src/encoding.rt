@@ -5,13 +5,14 @@ ghost use Rattle.std.specs.List.Sorted.{IsStrictlyIncreasing};
 ghost use Rattle.sha2.specs.Sha256.{sha256};
 ghost use Rattle.sha2.specs.Hashers.{Holds256};
 ghost use Rattle.lzk_circuit.specs.Valid.{IsValid};
-ghost use Rattle.lzk_circbytes.specs.Numbered.{shape, numbered, numbered_term, numbered_layer, constants_of};
+ghost use Rattle.lzk_circbytes.specs.Numbered.{shape, numbered, numbered_term, numbered_layer, coefs_of, constants_of};
 ghost use Rattle.lzk_circbytes.specs.Spelling.{layers_bytes, file_of};
 ghost use Rattle.lzk_circbytes.specs.Fits.{CanWriteLayers, head_bytes};
 ghost use Rattle.lzk_circbytes.specs.Recent.{WasMet, HaveSame};
 ghost use Rattle.lzk_circbytes.specs.Files.{IsFile, CircuitBytes, circuit_id, id_of_any};
 ghost use Rattle.lzk_circbytes.specs.declared.any.AnyCircuit.{AnyCircuit};
 
+use crate::reading::constants_part;
 use crate::slots::{SLOTS, free_slots, places, slot_of};
 use crate::writing::{push_constants, push_layer, push_word};
 use lzk_circuit::{Circuit, Term};
@@ -49,12 +50,15 @@ fn push_coefficients<F: Field>(
     Ok(())
 }
 
-/// The numbers of the circuit's coefficients, each once, ascending.
-fn constants_of<F: Field>(alloc: Global, circuit: &Circuit<F>) -> Result<Vec<u128>, AllocError>
-    ensures numbers { IfOk result (λ numbers. numbers.items ≡ constants_of (numbered F.number_of circuit.now)) }
+/// The numbers of the circuit's coefficients, each once, ascending, and in version 2 zero before them.
+fn coefs_of<F: Field>(alloc: Global, circuit: &Circuit<F>) -> Result<Vec<u128>, AllocError>
+    ensures numbers { IfOk result (λ numbers. numbers.items ≡ coefs_of circuit.now.version (constants_of (numbered F.number_of circuit.now))) }
     ensures valid { IsValid F.ops circuit.now }
 {
     let mut numbers = Vec::new(alloc);
+    if circuit.version() == 2 {
+        numbers.push(0)?;
+    }
     let mut met = free_slots();
     for l in 0..circuit.depth() {
         push_coefficients(&mut numbers, &mut met, circuit.layer(l).terms.as_slice())?;
@@ -73,7 +77,8 @@ fn push_head<F: Field>(
     requires { length constants.now ≤ 2097152 }
     ensures { OnOk result (out.new.items ≡ out.old.items ++ head_bytes (shape F.ID F.BYTES F.size) (numbered F.number_of circuit.now) constants.now) }
 {
-    out.extend_from_slice(b"LZC1")?;
+    out.extend_from_slice(b"LZC")?;
+    out.push(48 + circuit.version())?;
     out.push(F::ID)?;
     push_word(out, circuit.publics())?;
     push_word(out, circuit.privates())?;
@@ -91,7 +96,7 @@ fn push_layers<F: Field>(
     circuit: &Circuit<F>,
 ) -> Result<(), AllocError>
     requires rising { IsStrictlyIncreasing constants.now }
-    requires few { length constants.now ≤ 2097152 }
+    requires few { length constants.now ≤ 2097153 }
     requires fit { CanWriteLayers constants.now (map (numbered_layer F.number_of) circuit.now.layers) }
     ensures { OnOk result (out.new.items ≡ out.old.items ++ layers_bytes constants.now 0 (reverse (map (numbered_layer F.number_of) circuit.now.layers))) }
 {
@@ -107,11 +112,11 @@ pub fn encode<F: Field>(alloc: Global, circuit: &Circuit<F>) -> Result<Vec<u8>, 
     ensures file { IfOk result (λ bytes. IsFile F.ops F.number_of (shape F.ID F.BYTES F.size) circuit.now bytes.items) }
     ensures same { IfOk result (λ bytes. bytes.items ≡ file_of (shape F.ID F.BYTES F.size) (numbered F.number_of circuit.now)) }
 {
-    let constants = constants_of(alloc, circuit)?;
+    let coefs = coefs_of(alloc, circuit)?;
     let mut out = Vec::new(alloc);
-    push_head(&mut out, &constants, circuit)?;
-    let places = places(alloc, &constants)?;
-    push_layers(&mut out, &constants, &places, circuit)?;
+    push_head(&mut out, constants_part(circuit.version(), &coefs), circuit)?;
+    let places = places(alloc, &coefs)?;
+    push_layers(&mut out, &coefs, &places, circuit)?;
     Ok(out)
 }
 
@@ -124,9 +129,10 @@ fn absorb_layers<F: Field>(
     circuit: &Circuit<F>,
 ) -> Result<(), AllocError>
     requires rising { IsStrictlyIncreasing constants.now }
-    requires few { length constants.now ≤ 2097152 }
+    requires few { length constants.now ≤ 2097153 }
     requires fit { CanWriteLayers constants.now (map (numbered_layer F.number_of) circuit.now.layers) }
-    ensures { (m : List ℕ) → Holds256 hasher.old m → OnOk result (Holds256 hasher.new (m ++ layers_bytes constants.now 0 (reverse (map (numbered_layer F.number_of) circuit.now.layers)))) }
+    ensures { (m : List ℕ) → Holds256 hasher.old m → OnOk result
+        (Holds256 hasher.new (m ++ layers_bytes constants.now 0 (reverse (map (numbered_layer F.number_of) circuit.now.layers)))) }
 {
     let mut piece = room;
     let depth = circuit.depth();
@@ -142,13 +148,17 @@ fn absorb_layers<F: Field>(
 pub fn id<F: Field>(alloc: Global, circuit: &Circuit<F>) -> Result<[u8; 32], AllocError>
     ensures { IfOk result (λ digest. digest ≡ circuit_id (shape F.ID F.BYTES F.size) (numbered F.number_of circuit.now)) }
 {
-    let constants = constants_of(alloc, circuit)?;
+    let coefs = coefs_of(alloc, circuit)?;
     let mut piece = Vec::new(alloc);
-    push_head(&mut piece, &constants, circuit)?;
+    push_head(
+        &mut piece,
+        constants_part(circuit.version(), &coefs),
+        circuit,
+    )?;
     let mut hasher = Sha256::new();
     hasher.update(piece.as_slice());
-    let places = places(alloc, &constants)?;
-    absorb_layers(&mut hasher, piece, &constants, &places, circuit)?;
+    let places = places(alloc, &coefs)?;
+    absorb_layers(&mut hasher, piece, &coefs, &places, circuit)?;
     Ok(hasher.finalize())
 }
 

@@ -6,12 +6,12 @@ ghost use Rattle.lzk_circbytes.specs.declared.fault.ReadError.TheVariants.{OutOf
 use std::alloc::{AllocError, AllocFailed};
 use thiserror::Error;
 
-/// The check that failed. The kinds are numbered 1 to 9 in this order.
+/// The check that failed. The kinds are numbered 1 to 10 in this order.
 #[derive(Clone, Copy, Debug, PartialEq, Eq)]
 pub enum ByteKind {
     /// The bytes end inside the field.
     Truncated,
-    /// The file does not begin with `LZC1`.
+    /// The file does not begin with `LZC1` or `LZC2`.
     Magic,
     /// The byte of the field is neither 1 nor 2.
     FieldId,
@@ -27,6 +27,8 @@ pub enum ByteKind {
     Constant,
     /// A byte is left behind the last term.
     Trailing,
+    /// A term has the wire of the term before it, and one of the two is an assertion term.
+    Assertion,
 }
 
 /// The first check that failed, and the offset in bytes of the first byte of its field.

@@ -1,16 +1,19 @@
 //! Reading a circuit's parts from left to right.
 
-ghost use Rattle.std.specs.Prelude.{◌≡◌, ◌≤◌, ◌<◌, ◌^◌, ◌*◌, ◌+◌, length, map, IfOk, slice_index_or};
+ghost use Rattle.std.specs.Prelude.{◌≡◌, ◌≤◌, ◌<◌, ◌^◌, ◌*◌, ◌+◌, length, map, drop, IfOk, slice_index_or};
 ghost use Rattle.std.specs.List.Sorted.{IsStrictlyIncreasing};
 ghost use Rattle.std.specs.Option.{option_map};
-ghost use Rattle.lzk_circbytes.specs.Numbered.{shape, numbered_term, numbered_layer, is_in_terms, is_coefficient};
-ghost use Rattle.lzk_circbytes.specs.Reading.{word_at, septets_at, varint_at, step_at, limited_at, constant_at, constants_at, stands_behind, wire_before, term_at, terms_at, layer_at, layers_at, all_used};
+ghost use Rattle.lzk_circuit.specs.Faults.{are_apart};
+ghost use Rattle.lzk_circbytes.specs.Numbered.{shape, coefs_of, zeros_of, numbered_term, numbered_layer, is_in_terms, is_coefficient};
+ghost use Rattle.lzk_circbytes.specs.Reading.{word_at, septets_at, varint_at, step_at, limited_at, constant_at};
+ghost use Rattle.lzk_circbytes.specs.Reading.{constants_at, stands_behind, wire_before, term_at, terms_at, layer_at};
+ghost use Rattle.lzk_circbytes.specs.Reading.{layers_at, all_used};
 ghost use Rattle.lzk_circbytes.specs.Answers.{Gives, Marks, unmarked_from, under};
 
 use crate::fault::{ByteKind, ReadError};
 use lzk_circuit::{Layer, Term, Terms};
 use lzk_field::Field;
-use std::alloc::Global;
+use std::alloc::{AllocError, Global};
 
 /// The wires of one layer, at most.
 const MOST_WIRES: u32 = 131_072;
@@ -162,6 +165,32 @@ pub fn constants_of<F: Field>(
     Ok((constants, rest))
 }
 
+/// What the last numbers of terms count among: the constants, and in version 2 zero before them.
+pub fn coefs_of<F: Field>(
+    alloc: Global,
+    version: u8,
+    constants: Vec<F>,
+) -> Result<Vec<F>, AllocError>
+    requires { length constants.items < 2 ^ 32 }
+    ensures { IfOk result (λ coefs. map F.number_of coefs.items ≡ coefs_of version (map F.number_of constants.items)) }
+{
+    if version != 2 {
+        return Ok(constants);
+    }
+    let mut coefs = Vec::with_capacity(alloc, constants.len() + 1)?;
+    coefs.push(F::zero())?;
+    coefs.extend_from_slice(&constants)?;
+    Ok(coefs)
+}
+
+/// The flags of the constants, behind that of zero in version 2.
+pub fn constants_part<X>(version: u8, list: &[X]) -> &[X]
+    requires { zeros_of version ≤ length list.now }
+    ensures { result.now ≡ drop (zeros_of version) list.now }
+{
+    if version == 2 { &list[1..] } else { list }
+}
+
 fn is_behind<F: Field>(before: &Option<Term<F>>, g: u32, a: u32, b: u32) -> bool
     ensures { result ≡ stands_behind (option_map (numbered_term F.number_of) before.now) g a b }
 {
@@ -180,6 +209,15 @@ fn wire_before<F: Field>(before: &Option<Term<F>>) -> u32
     }
 }
 
+fn is_apart<F: Field>(before: &Option<Term<F>>, term: &Term<F>) -> bool
+    ensures { result ≡ are_apart (λ n. n) (option_map (numbered_term F.number_of) before.now) (numbered_term F.number_of term.now) }
+{
+    match before {
+        None => true,
+        Some(s) => s.g != term.g || (s.coef.number() != 0 && term.coef.number() != 0),
+    }
+}
+
 /// A term, and the number of its constant.
 #[tactic(auto, unfolding(crate::specs::Reading::term_at))]
 fn term_of<'a, F: Field>(
@@ -190,7 +228,8 @@ fn term_of<'a, F: Field>(
     bytes: &'a [u8],
 ) -> Result<((Term<F>, u32), &'a [u8]), ReadError>
     requires { length constants.now < 2 ^ 32 }
-    ensures value { Gives (λ x. (numbered_term F.number_of x.0.0, x.1.now)) result (term_at (map F.number_of constants.now) wires below (option_map (numbered_term F.number_of) before.now) bytes.now) }
+    ensures value { Gives (λ x. (numbered_term F.number_of x.0.0, x.1.now)) result
+        (term_at (map F.number_of constants.now) wires below (option_map (numbered_term F.number_of) before.now) bytes.now) }
     ensures bound { IfOk result (λ x. x.0.1 < length constants.now) }
     ensures constant { IfOk result (λ x. F.number_of x.0.0.coef ≡ slice_index_or (map F.number_of constants.now) x.0.1 0) }
 {
@@ -202,7 +241,11 @@ fn term_of<'a, F: Field>(
     }
     let (k, rest) = step_of(0, constants.len() as u32, at_coef)?;
     let coef = constants[k as usize];
-    Ok(((Term { g, a, b, coef }, k), rest))
+    let term = Term { g, a, b, coef };
+    if !is_apart(before, &term) {
+        return Err(stop(ByteKind::Assertion, at_coef));
+    }
+    Ok(((term, k), rest))
 }
 
 /// So many terms of a layer. Marks the constants that they have.
@@ -218,7 +261,8 @@ pub fn terms_of<'a, F: Field>(
     requires few { length constants.now < 2 ^ 32 }
     requires rising { IsStrictlyIncreasing (map F.number_of constants.now) }
     requires flags { length used.old ≡ length constants.now }
-    ensures value { Gives (λ x. (map (numbered_term F.number_of) x.0.items, x.1.now)) result (terms_at (map F.number_of constants.now) wires below count bytes.now) }
+    ensures value { Gives (λ x. (map (numbered_term F.number_of) x.0.items, x.1.now)) result
+        (terms_at (map F.number_of constants.now) wires below count bytes.now) }
     ensures count { IfOk result (λ x. length x.0.items ≡ count) }
     ensures used { IfOk result (λ x. Marks (map F.number_of constants.now) (is_in_terms (map (numbered_term F.number_of) x.0.items)) used.old used.new) }
 {
@@ -257,7 +301,8 @@ fn layer_of<'a, F: Field>(
     requires flags { length used.old ≡ length constants.now }
     requires wires { below.wires ≤ 2097152 }
     requires terms { below.terms ≤ 2097152 }
-    ensures value { Gives (λ x. (numbered_layer F.number_of x.0, x.1.now)) result (layer_at (map F.number_of constants.now) (under below.width below.wires below.terms) bytes.now) }
+    ensures value { Gives (λ x. (numbered_layer F.number_of x.0, x.1.now)) result
+        (layer_at (map F.number_of constants.now) (under below.width below.wires below.terms) bytes.now) }
     ensures wires { IfOk result (λ x. below.wires + x.0.wires ≤ 2097152) }
     ensures terms { IfOk result (λ x. below.terms + length x.0.terms ≤ 2097152) }
     ensures used { IfOk result (λ x. Marks (map F.number_of constants.now) (is_in_terms (map (numbered_term F.number_of) x.0.terms)) used.old used.new) }
@@ -287,7 +332,8 @@ pub fn layers_of<'a, F: Field>(
     requires few { length constants.now < 2 ^ 32 }
     requires rising { IsStrictlyIncreasing (map F.number_of constants.now) }
     requires flags { length used.old ≡ length constants.now }
-    ensures value { Gives (λ x. (map (numbered_layer F.number_of) x.0.items, x.1.now)) result (layers_at (map F.number_of constants.now) inputs count bytes.now) }
+    ensures value { Gives (λ x. (map (numbered_layer F.number_of) x.0.items, x.1.now)) result
+        (layers_at (map F.number_of constants.now) inputs count bytes.now) }
     ensures used { IfOk result (λ x. Marks (map F.number_of constants.now) (is_coefficient (map (numbered_layer F.number_of) x.0.items)) used.old used.new) }
 {
     let mut layers = Vec::with_capacity(alloc, (count as usize).min(bytes.len() / LEAST_LAYER))?;

@@ -37,7 +37,7 @@ pub fn free_slots() -> [u128; SLOTS]
 
 fn searched(constants: &[u128], n: u128) -> u32
     requires rising { IsStrictlyIncreasing constants.now }
-    requires few { length constants.now ≤ 2097152 }
+    requires few { length constants.now ≤ 2097153 }
     requires found { index_of constants.now n < length constants.now }
     ensures { result ≡ index_of constants.now n }
 {
@@ -49,7 +49,7 @@ fn searched(constants: &[u128], n: u128) -> u32
 
 /// Where the constants stand, each at the slot of its number. Of those that share a slot the last has it.
 pub fn places(alloc: Global, constants: &[u128]) -> Result<Vec<u32>, AllocError>
-    requires { length constants.now ≤ 2097152 }
+    requires { length constants.now ≤ 2097153 }
 {
     let mut places = vec![in alloc; 0; 2 * constants.len()]?;
     for k in 0..constants.len() {
@@ -64,7 +64,7 @@ pub fn places(alloc: Global, constants: &[u128]) -> Result<Vec<u32>, AllocError>
 /// Where a number stands among the constants. What `places` says is tried first.
 pub fn place_of(constants: &[u128], places: &[u32], n: u128) -> u32
     requires rising { IsStrictlyIncreasing constants.now }
-    requires few { length constants.now ≤ 2097152 }
+    requires few { length constants.now ≤ 2097153 }
     requires found { index_of constants.now n < length constants.now }
     ensures { result ≡ index_of constants.now n }
 {

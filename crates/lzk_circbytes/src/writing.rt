@@ -96,11 +96,12 @@ fn push_term<F: Field>(
     term: Term<F>,
 ) -> Result<(), AllocError>
     requires rising { IsStrictlyIncreasing constants.now }
-    requires few { length constants.now ≤ 2097152 }
+    requires few { length constants.now ≤ 2097153 }
     requires found { index_of constants.now (F.number_of term.coef) < length constants.now }
     requires g { before ≤ term.g }
     requires a { term.a ≤ term.b }
-    ensures { OnOk result (out.new.items ≡ (((out.old.items ++ varint (term.g - before)) ++ varint term.a) ++ varint (term.b - term.a)) ++ varint (index_of constants.now (F.number_of term.coef))) }
+    ensures { OnOk result (out.new.items ≡ (((out.old.items ++ varint (term.g - before)) ++ varint term.a) ++ varint (term.b - term.a)) ++ varint
+        (index_of constants.now (F.number_of term.coef))) }
 {
     let at = place_of(constants, places, term.coef.number());
     out.reserve(MOST_OF_TERM)?;
@@ -118,7 +119,7 @@ fn push_terms<F: Field>(
     terms: &[Term<F>],
 ) -> Result<(), AllocError>
     requires rising { IsStrictlyIncreasing constants.now }
-    requires few { length constants.now ≤ 2097152 }
+    requires few { length constants.now ≤ 2097153 }
     requires fit { CanWriteAll constants.now (map (numbered_term F.number_of) terms.now) }
     ensures { OnOk result (out.new.items ≡ out.old.items ++ spells as_before (term_bytes constants.now) None (map (numbered_term F.number_of) terms.now)) }
 {
@@ -139,7 +140,7 @@ pub fn push_layer<F: Field>(
     layer: &Layer<F>,
 ) -> Result<(), AllocError>
     requires rising { IsStrictlyIncreasing constants.now }
-    requires few { length constants.now ≤ 2097152 }
+    requires few { length constants.now ≤ 2097153 }
     requires fit { CanWriteAll constants.now (map (numbered_term F.number_of) layer.now.terms) }
     requires terms { length layer.now.terms < 2 ^ 32 }
     ensures { OnOk result (out.new.items ≡ out.old.items ++ layer_bytes constants.now (under 0 0 0) (numbered_layer F.number_of layer.now)) }

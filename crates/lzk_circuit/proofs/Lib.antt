@@ -1,4 +1,6 @@
+pub mod AssertLaws
 pub mod BitLaws
+pub mod CheckLaws
 pub mod DepthLaws
 pub mod FaultLaws
 pub mod LayerLaws
@@ -6,3 +8,4 @@ pub mod OrderLaws
 pub mod PlaceLaws
 pub mod TermSums
 pub mod ValidLaws
+pub mod VersionLaws

@@ -7,13 +7,13 @@ use Rattle.lzk_field.specs.Ring.{Ops}
 use Rattle.lzk_circuit.specs.declared.layer.Term.{Term}
 use Rattle.lzk_circuit.specs.declared.layer.Layer.{Layer}
 use Rattle.lzk_circuit.specs.Wires.{is_at, coef, AreDistinct}
-use Rattle.lzk_circuit.specs.Valid.{precedes, IsPlaced, ArePlaced, AreLayersPlaced, IsTerm, AreTerms, AreLayers}
+use Rattle.lzk_circuit.specs.Valid.{precedes, IsPlaced, ArePlaced, AreLayersPlaced, IsTerm, AreTerms, AreLayersOf}
 
 module _ {A : Type 0} where
   pub record Before (t u : Term A) : Type 0 where
     pub cases : (t.g < u.g) ⊎ ((t.g ≡ u.g) × ((t.a < u.a) ⊎ ((t.a ≡ u.a) × (t.b < u.b))))
 
-  before_from : (t u : Term A) → precedes t u ≡ true → Before t u
+  pub before_from : (t u : Term A) → precedes t u ≡ true → Before t u
   before_from t u e = record {
     cases = elim (or_cases (nat_lt t.g u.g) ((t.g == u.g) && (nat_lt t.a u.a || ((t.a == u.a) && nat_lt t.b u.b))) e) [
       | inl l ↦ inl (ltb-true t.g u.g l)
@@ -62,7 +62,7 @@ module _ {A : Type 0} where
       let eb = eqb-true t.b u.b q.1 in
       elim h.cases [ inl l ↦ omega arith | inr r ↦ elim r.1 [ inl l ↦ omega arith | inr s ↦ omega arith ] ]
 
-  all_after : (wires width : ℕ) (t : Term A) (ts : List (Term A)) → ArePlaced wires width (Some t) ts → AllAfter t ts
+  pub all_after : (wires width : ℕ) (t : Term A) (ts : List (Term A)) → ArePlaced wires width (Some t) ts → AllAfter t ts
   all_after wires width t [] h = tt
   all_after wires width t (u ∷ ts) h =
       let first = before_from t u h.1 in
@@ -95,9 +95,9 @@ module _ {A : Type 0} (o : Ops A) where
   terms-placed wires width before [] h = tt
   terms-placed wires width before (t ∷ ts) h = (placed wires width t h.0, h.1, terms-placed wires width (Some t) ts h.2)
 
-  pub layers-placed : (inputs : ℕ) (layers : List (Layer A)) → AreLayers o inputs layers → AreLayersPlaced inputs layers
-  layers-placed inputs [] h = tt
-  layers-placed inputs (layer ∷ layers) h = let one = h.0 in (terms-placed layer.wires _ None layer.terms one.each, layers-placed inputs layers h.1)
+  pub layers-placed : (version inputs : ℕ) (layers : List (Layer A)) → AreLayersOf o version inputs layers → AreLayersPlaced inputs layers
+  layers-placed version inputs [] h = tt
+  layers-placed version inputs (layer ∷ layers) h = let one = h.0 in (one.each, layers-placed version inputs layers h.1)
 
   pub distinct : (wires width : ℕ) (before : Option (Term A)) (ts : List (Term A)) → AreTerms o wires width before ts → AreDistinct o wires width ts
   distinct wires width before ts h = placed-distinct wires width before ts (terms-placed wires width before ts h)

@@ -4,18 +4,18 @@ use Rattle.std.proofs.Common.{zero, suc, refl, sym, arith, subst, get_or}
 use Rattle.lzk_field.specs.Ring.{Ops}
 use Rattle.lzk_circuit.specs.declared.layer.Layer.{Layer}
 use Rattle.lzk_circuit.specs.Wires.{AreDistinct}
-use Rattle.lzk_circuit.specs.Valid.{Wiring, input_width, under_of, AreLayers, IsLayer, IsValid, widths}
-use Rattle.lzk_circuit.proofs.OrderLaws.{distinct}
+use Rattle.lzk_circuit.specs.Valid.{Wiring, input_width, under_of, AreLayersOf, IsLayerOf, IsValid, widths}
+use Rattle.lzk_circuit.proofs.OrderLaws.{placed-distinct}
 
 module _ {A : Type 0} (o : Ops A) where
-  layers-at : (n l m : ℕ) (layers : List (Layer A)) (d : Layer A) → m ≡ l + 1 → l < length layers → AreLayers o n layers → IsLayer o (under_of n (drop m layers)) (get_or layers l d)
-  layers-at n l m [] d e h all = absurd (omega arith)
-  layers-at n zero m (layer ∷ layers) d e h all = let e' : 1 ≡ m = omega arith in subst (λ k. IsLayer o (under_of n (drop k (layer ∷ layers))) layer) e' all.0
-  layers-at n (suc l) zero (layer ∷ layers) d e h all = absurd (omega arith)
-  layers-at n (suc l) (suc m) (layer ∷ layers) d e h all = layers-at n l m layers d (omega arith) (omega arith) all.1
+  layers-at : (version n l m : ℕ) (layers : List (Layer A)) (d : Layer A) → m ≡ l + 1 → l < length layers → AreLayersOf o version n layers → IsLayerOf o version (under_of n (drop m layers)) (get_or layers l d)
+  layers-at version n l m [] d e h all = absurd (omega arith)
+  layers-at version n zero m (layer ∷ layers) d e h all = let e' : 1 ≡ m = omega arith in subst (λ k. IsLayerOf o version (under_of n (drop k (layer ∷ layers))) layer) e' all.0
+  layers-at version n (suc l) zero (layer ∷ layers) d e h all = absurd (omega arith)
+  layers-at version n (suc l) (suc m) (layer ∷ layers) d e h all = layers-at version n l m layers d (omega arith) (omega arith) all.1
 
-  pub layer-at : (c : Wiring A) (l : ℕ) (d : Layer A) → l < length c.layers → IsValid o c → IsLayer o (under_of (input_width c) (drop (l + 1) c.layers)) (get_or c.layers l d)
-  layer-at c l d h valid = layers-at (input_width c) l (l + 1) c.layers d refl h valid.layers
+  pub layer-at : (c : Wiring A) (l : ℕ) (d : Layer A) → l < length c.layers → IsValid o c → IsLayerOf o c.version (under_of (input_width c) (drop (l + 1) c.layers)) (get_or c.layers l d)
+  layer-at c l d h valid = layers-at c.version (input_width c) l (l + 1) c.layers d refl h valid.layers
 
   widths-at : (n l : ℕ) (layers : List (Layer A)) → l ≤ length layers → get_or (map (λ layer. layer.wires) layers ++ n ∷ []) l 0 ≡ (under_of n (drop l layers)).width
   widths-at n zero [] h = refl
@@ -30,4 +30,4 @@ module _ {A : Type 0} (o : Ops A) where
   pub terms-distinct : (c : Wiring A) (l : ℕ) (d : Layer A) → l < length c.layers → IsValid o c → AreDistinct o (get_or c.layers l d).wires (get_or (widths c) (l + 1) 0) (get_or c.layers l d).terms
   terms-distinct c l d h valid =
       let layer = get_or c.layers l d in
-      subst (λ n. AreDistinct o layer.wires n layer.terms) (sym (width-at c (l + 1) (omega arith))) (distinct o layer.wires (under_of (input_width c) (drop (l + 1) c.layers)).width None layer.terms (layer-at c l d h valid).each)
+      subst (λ n. AreDistinct o layer.wires n layer.terms) (sym (width-at c (l + 1) (omega arith))) (placed-distinct o layer.wires (under_of (input_width c) (drop (l + 1) c.layers)).width None layer.terms (layer-at c l d h valid).each)

@@ -1,4 +1,5 @@
 pub mod Bits
+pub mod Checks
 pub mod Faults
 pub mod Limits
 pub mod Sums

@@ -4,6 +4,7 @@ use Rattle.std.specs.List.{range_with_len}
 use Rattle.lzk_circuit.specs.declared.layer.Term.{Term}
 use Rattle.lzk_circuit.specs.declared.layer.Layer.{Layer}
 use Rattle.lzk_field.specs.Ring.{Ops}
+use Rattle.lzk_field.specs.Sums.{minus}
 use Rattle.lzk_circuit.specs.Sums.{sum_pairs}
 
 abbrev pub is_at : {A : Type 0} → Term A → ℕ → ℕ → ℕ → Bool
@@ -13,6 +14,26 @@ is_at t g a b = (g == t.g) && ((a == t.a) && (b == t.b))
 abbrev pub coef : {A : Type 0} → Ops A → List (Term A) → ℕ → ℕ → ℕ → A
 coef o [] g a b = o.zero
 coef o (t ∷ ts) g a b = cond (is_at t g a b) t.coef (coef o ts g a b)
+
+-- 1 for 0, and 0 for any other: in a field an element other than 0 times its inverse is 1
+abbrev pub zero_of : {A : Type 0} → Ops A → A → A
+zero_of o x = minus o o.one (o.times x (o.inverse x))
+
+-- 1 where an assertion term has these three numbers, and 0 elsewhere: an assertion term is one with the coefficient 0
+abbrev pub zero_at : {A : Type 0} → Ops A → List (Term A) → ℕ → ℕ → ℕ → A
+zero_at o [] g a b = o.zero
+zero_at o (t ∷ ts) g a b = cond (is_at t g a b) (zero_of o t.coef) (zero_at o ts g a b)
+
+-- the coefficient, and beta for an assertion term
+abbrev pub layer_coefficient : {A : Type 0} → Ops A → List (Term A) → A → ℕ → ℕ → ℕ → A
+layer_coefficient o terms beta g a b = o.plus (coef o terms g a b) (o.times beta (zero_at o terms g a b))
+
+-- the same terms, each with its coefficient, and beta for an assertion term: the coefficients of these are `layer_coefficient`
+abbrev pub weighed_term : {A : Type 0} → Ops A → A → Term A → Term A
+weighed_term o beta t = record { g = t.g; a = t.a; b = t.b; coef = o.plus t.coef (o.times beta (zero_of o t.coef)) }
+
+abbrev pub weighed : {A : Type 0} → Ops A → A → List (Term A) → List (Term A)
+weighed o beta ts = map (weighed_term o beta) ts
 
 -- wire g, over the values of the wires below, for any coefficients q
 unfoldable pub wire : {A : Type 0} → Ops A → (ℕ → ℕ → ℕ → A) → List A → ℕ → A
@@ -49,10 +70,6 @@ abbrev pub IsFirstNonzero : {A : Type 0} → Ops A → List A → Option (ℕ ×
 IsFirstNonzero o outputs None = (g : ℕ) → g < length outputs → slice_index_or outputs g o.zero ≡ o.zero
 IsFirstNonzero o outputs (Some (g, v)) =
     (g < length outputs) × (slice_index_or outputs g o.zero ≡ v) × (v ≢ o.zero) × ((k : ℕ) → k < g → slice_index_or outputs k o.zero ≡ o.zero)
-
--- every output is 0
-abbrev pub IsSatisfied : {A : Type 0} → Ops A → List (Layer A) → List A → Type 0
-IsSatisfied o layers inputs = IsFirstNonzero o (wires_of o layers inputs) None
 
 -- every wire is 0
 abbrev pub AreZeros : {A : Type 0} → Ops A → List (List A) → Type 0

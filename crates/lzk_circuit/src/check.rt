@@ -1,7 +1,7 @@
 //! Which layers make a valid circuit.
 
 ghost use Rattle.std.specs.Prelude.{◌≡◌, ◌≤◌, length, None, Some, MatchResult};
-ghost use Rattle.lzk_circuit.specs.Faults.{over_limit, term_fault, terms_fault, limits_fault, layer_fault, layers_fault, counts_fault};
+ghost use Rattle.lzk_circuit.specs.Faults.{over_limit, are_apart, coef_fault, term_fault, terms_fault, limits_fault, layer_fault, layers_fault, counts_fault};
 ghost use Rattle.lzk_circuit.specs.Limits.{most_layers, most_total};
 ghost use Rattle.lzk_circuit.specs.Valid.{Under, follows};
 
@@ -51,13 +51,42 @@ fn is_after<F: Field>(before: Option<Term<F>>, term: &Term<F>) -> bool
         || (before.g == term.g && (before.a < term.a || (before.a == term.a && before.b < term.b)))
 }
 
+fn is_apart<F: Field>(before: Option<Term<F>>, term: &Term<F>) -> bool
+    ensures { result ≡ are_apart F.number_of before term.now }
+{
+    let Some(before) = before else {
+        return true;
+    };
+    before.g != term.g || (before.coef.number() != 0 && term.coef.number() != 0)
+}
+
+fn find_coef_fault<F: Field>(
+    version: u8,
+    before: Option<Term<F>>,
+    term: &Term<F>,
+) -> Option<CircuitKind>
+    ensures { result ≡ coef_fault F.number_of version before term.now }
+{
+    if version == 1 {
+        if term.coef.number() == 0 {
+            return Some(CircuitKind::ZeroCoef);
+        }
+        return None;
+    }
+    if !is_apart(before, term) {
+        return Some(CircuitKind::Assertion);
+    }
+    None
+}
+
 fn find_fault<F: Field>(
+    version: u8,
     wires: u32,
     width: u32,
     before: Option<Term<F>>,
     term: &Term<F>,
 ) -> Option<CircuitKind>
-    ensures { result ≡ term_fault F.number_of wires width before term.now }
+    ensures { result ≡ term_fault F.number_of version wires width before term.now }
 {
     if term.g >= wires || term.a > term.b || term.b >= width {
         return Some(CircuitKind::Range);
@@ -65,13 +94,11 @@ fn find_fault<F: Field>(
     if !is_after(before, term) {
         return Some(CircuitKind::Order);
     }
-    if term.coef.number() == 0 {
-        return Some(CircuitKind::ZeroCoef);
-    }
-    None
+    find_coef_fault(version, before, term)
 }
 
 fn check_terms<F: Field>(
+    version: u8,
     layer: u32,
     wires: u32,
     width: u32,
@@ -79,13 +106,13 @@ fn check_terms<F: Field>(
 ) -> Result<(), CircuitFault>
     requires { length terms.now ≤ most_total }
     ensures { MatchResult result
-        (λ _. terms_fault F.number_of layer wires width None 0 terms.now ≡ None)
-        (λ fault. terms_fault F.number_of layer wires width None 0 terms.now ≡ Some fault) }
+        (λ _. terms_fault F.number_of version layer wires width None 0 terms.now ≡ None)
+        (λ fault. terms_fault F.number_of version layer wires width None 0 terms.now ≡ Some fault) }
 {
     let mut before = None;
     for place in 0..terms.len() {
         let term = terms[place];
-        if let Some(kind) = find_fault(wires, width, before, &term) {
+        if let Some(kind) = find_fault(version, wires, width, before, &term) {
             return Err(CircuitFault {
                 kind,
                 layer,
@@ -106,7 +133,8 @@ fn check_limits(
 ) -> Result<(), CircuitFault>
     requires wires { under_wires ≤ most_total }
     requires terms { under_terms ≤ most_total }
-    ensures { MatchResult result (λ _. limits_fault l under_wires under_terms wires terms ≡ None) (λ fault. limits_fault l under_wires under_terms wires terms ≡ Some fault) }
+    ensures { MatchResult result (λ _. limits_fault l under_wires under_terms wires terms ≡ None)
+        (λ fault. limits_fault l under_wires under_terms wires terms ≡ Some fault) }
 {
     if wires < 1 || wires > MOST_WIRES {
         return Err(over(l));
@@ -117,11 +145,15 @@ fn check_limits(
     Ok(())
 }
 
-pub(crate) fn check_layers<F: Field>(inputs: u32, layers: &[Layer<F>]) -> Result<(), CircuitFault>
+pub(crate) fn check_layers<F: Field>(
+    version: u8,
+    inputs: u32,
+    layers: &[Layer<F>],
+) -> Result<(), CircuitFault>
     requires { length layers.now ≤ most_layers }
     ensures { MatchResult result
-        (λ _. layers_fault F.number_of inputs 0 layers.now ≡ None)
-        (λ fault. layers_fault F.number_of inputs 0 layers.now ≡ Some fault) }
+        (λ _. layers_fault F.number_of version inputs 0 layers.now ≡ None)
+        (λ fault. layers_fault F.number_of version inputs 0 layers.now ≡ Some fault) }
 {
     let mut width = inputs;
     let mut wires = 0;
@@ -130,7 +162,7 @@ pub(crate) fn check_layers<F: Field>(inputs: u32, layers: &[Layer<F>]) -> Result
         let layer = &layers[l];
         let terms = layer.terms.as_slice();
         check_limits(l as u32, wires, count, layer.wires, terms.len())?;
-        check_terms(l as u32, layer.wires, width, terms)?;
+        check_terms(version, l as u32, layer.wires, width, terms)?;
         width = layer.wires;
         wires += layer.wires;
         count += terms.len() as u32;

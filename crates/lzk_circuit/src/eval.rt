@@ -24,7 +24,8 @@ fn count_term<F: Field>(term: Term<F>, below: &[F], out: &mut [F])
     requires { IsPlaced (length out.old) (length below.now) term }
     ensures length { length out.new ≡ length out.old }
     ensures sum { let o = F.ops in
-        out.new ≡ slice_set out.old term.g (o.plus (entry o out.old term.g) (o.times (o.times term.coef (entry o below.now term.a)) (entry o below.now term.b))) }
+        out.new ≡ slice_set out.old term.g (o.plus (entry o out.old term.g)
+        (o.times (o.times term.coef (entry o below.now term.a)) (entry o below.now term.b))) }
 {
     let left = below[term.a as usize];
     let right = below[term.b as usize];
@@ -91,7 +92,8 @@ pub(crate) fn eval_lists<F: Field>(
     lists: &mut Vec<Vec<F>>,
 )
     requires layers { AreLayersPlaced (1 + length public.now + length private.now) layers.now }
-    requires room { map (λ list. length list.items) lists.old.items ≡ map (λ layer. layer.wires) layers.now ++ (1 + length public.now + length private.now) ∷ [] }
+    requires room { map (λ list. length list.items) lists.old.items ≡
+        map (λ layer. layer.wires) layers.now ++ (1 + length public.now + length private.now) ∷ [] }
     ensures { map (λ list. list.items) lists.new.items ≡ all_values F.ops layers.now (inputs_of F.ops public.now private.now) }
 {
     eval_layers(layers, public, private, lists);

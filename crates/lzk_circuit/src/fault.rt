@@ -1,6 +1,7 @@
 //! Why layers make no valid circuit.
 
-/// The check that failed: a number out of range, an order of terms, a coefficient that is zero, or a count over its limit.
+/// The check that failed: a number out of range, an order of terms, a coefficient that is zero, a count over its limit, or an assertion
+/// term that is not the only one of its wire.
 #[derive(Clone, Copy, Debug, PartialEq, Eq)]
 pub enum CircuitKind {
     /// A term has a wire that is not there, or `a` is above `b`.
@@ -11,6 +12,8 @@ pub enum CircuitKind {
     ZeroCoef,
     /// A count is over its limit, or there is no layer, or a layer has no wire.
     Limit,
+    /// A term has the wire of the term before it, and one of the two is an assertion term.
+    Assertion,
 }
 
 /// The first check that failed, the layer, and the term's number in it. Place 0 for a limit, and layer 0 for a circuit's own counts.

@@ -1,7 +1,9 @@
 //! Terms and layers.
 
 ghost use Rattle.std.specs.Prelude.{◌≡◌};
+ghost use Rattle.lzk_circuit.specs.Wires.{zero_of};
 
+use lzk_field::Field;
 use std::marker::Model;
 
 /// `coef` times wire `a` times wire `b` of the layer below counts for wire `g`.
@@ -15,6 +17,16 @@ pub struct Term<F> {
     pub b: u32,
     /// The coefficient.
     pub coef: F,
+}
+
+/// What a term counts for where assertion terms count for `beta`: its coefficient, and `beta` where that is zero.
+pub fn weight_of<F: Field>(coef: F, beta: F) -> F
+    ensures { result ≡ F.ops.plus coef (F.ops.times beta (zero_of F.ops coef)) }
+{
+    if coef.number() == 0 {
+        return beta;
+    }
+    coef
 }
 
 /// A list of terms. It is made from a `Vec` and gives it back, with no memory taken.

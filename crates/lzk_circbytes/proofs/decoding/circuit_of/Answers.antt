@@ -1,5 +1,5 @@
 use Rattle.std.proofs.Common.{map, reverse, ap, sym, ◌∙◌, subst, refl, Ok, List}
-use Rattle.lzk_circuit.specs.Valid.{Wiring, wiring, IsValid}
+use Rattle.lzk_circuit.specs.Valid.{Wiring, wiring_of, IsValid}
 use Rattle.lzk_circbytes.specs.Numbered.{Shape, shape, numbered_layer, numbered}
 use Rattle.lzk_circbytes.proofs.Bodies.{wiring_done, turned, bytes_fit}
 use Rattle.lzk_circbytes.proofs.FileLaws.{valid_from_read}
@@ -13,11 +13,11 @@ unreachable-requires g c =
     let privates = c.in_ok-privates.privates in
     let layers = c.in_ok-layers.layers.items in
     let back = c.reverse.new.self.items in
-    let read = wiring_done s publics privates c.in_ok-depth.depth c.in_ok-count.count c.args.bytes.now c.in_ok-publics.rest.now c.in_ok-privates.rest.now c.in_ok-depth.rest.now c.in_ok-count.rest.now (map (numbered_layer number) layers)
+    let read = wiring_done s c.args.version publics privates c.in_ok-depth.depth c.in_ok-count.count c.args.bytes.now c.in_ok-publics.rest.now c.in_ok-privates.rest.now c.in_ok-depth.rest.now c.in_ok-count.rest.now (map (numbered_layer number) layers)
     c.in_ok-publics.ensures.value c.in_ok-privates.ensures.value c.in_ok-depth.ensures.value c.in_ok-count.ensures.value c.in_ok-layers.ensures in
-    let read' = turned number s publics privates c.args.bytes.now layers (reverse layers) refl read in
-    let valid = valid_from_read g.F.Field.ops g.F.Field.size number g.F.Field.element g.F.Field.BYTES g.F.Field.laws g.F.Field.ID publics privates layers c.args.bytes.now (bytes_fit c.args.bytes.now c.type_inv.bytes) read' in
-    absurd (c.in-Err.ensures.valid (subst (λ (ls : List _). IsValid g.F.Field.ops (wiring publics privates ls)) (sym c.reverse.ensures.items) valid))
+    let read' = turned number s c.args.version publics privates c.args.bytes.now layers (reverse layers) refl read in
+    let valid = valid_from_read g.F.Field.ops g.F.Field.size number g.F.Field.element g.F.Field.BYTES g.F.Field.laws g.F.Field.ID c.args.version publics privates layers c.args.bytes.now c.requires (bytes_fit c.args.bytes.now c.type_inv.bytes) read' in
+    absurd (c.in-Err.ensures.valid (subst (λ (ls : List _). IsValid g.F.Field.ops (wiring_of c.args.version publics privates ls)) (sym c.reverse.ensures.items) valid))
 
 pub returns-clause-value : goal.returns-clause-value
 returns-clause-value g c =
@@ -27,6 +27,6 @@ returns-clause-value g c =
     let privates = c.in_ok-privates.privates in
     let layers = c.in_ok-layers.layers.items in
     let back = c.reverse.new.self.items in
-    let read = wiring_done s publics privates c.in_ok-depth.depth c.in_ok-count.count c.args.bytes.now c.in_ok-publics.rest.now c.in_ok-privates.rest.now c.in_ok-depth.rest.now c.in_ok-count.rest.now (map (numbered_layer number) layers)
+    let read = wiring_done s c.args.version publics privates c.in_ok-depth.depth c.in_ok-count.count c.args.bytes.now c.in_ok-publics.rest.now c.in_ok-privates.rest.now c.in_ok-depth.rest.now c.in_ok-count.rest.now (map (numbered_layer number) layers)
     c.in_ok-publics.ensures.value c.in_ok-privates.ensures.value c.in_ok-depth.ensures.value c.in_ok-count.ensures.value c.in_ok-layers.ensures in
-    turned number s publics privates c.args.bytes.now layers back c.reverse.ensures.items read ∙ ap (λ (w : Wiring _). Ok (numbered number w)) (sym c.in-Ok.ensures.circuit)
+    turned number s c.args.version publics privates c.args.bytes.now layers back c.reverse.ensures.items read ∙ ap (λ (w : Wiring _). Ok (numbered number w)) (sym c.in-Ok.ensures.circuit)

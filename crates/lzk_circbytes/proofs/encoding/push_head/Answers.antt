@@ -1,4 +1,4 @@
-use Rattle.std.proofs.Common.{◌≡◌, ◌++◌, ◌∷◌, [], ◌∙◌, ap, sym, ℕ, length}
+use Rattle.std.proofs.Common.{◌≡◌, ◌+◌, ◌++◌, ◌∷◌, [], ◌∙◌, ap, sym, ℕ, length}
 use Rattle.std.specs.Int.{w32, to_le_bytes}
 use Rattle.std.proofs.lemmas.List.{length-map}
 use Rattle.lzk_circbytes.specs.Numbered.{Shape, shape, numbered, numbered_layer}
@@ -13,10 +13,11 @@ returns g c =
     let w = numbered F.number_of circuit in
     let cs = c.args.constants.now in
     let depth : c.depth.result ≡ length w.layers = c.depth.ensures.depth ∙ sym (length-map circuit.layers (numbered_layer F.number_of)) in
-    head_assembled s w cs c.args.out.now.items c.extend_from_slice.new.self.items c.push.new.self.items c.push_word.new.out.items c.push_word-2.new.out.items c.push_word-3.new.out.items c.push_word-4.new.out.items c.push_constants.new.out.items
+    head_assembled s w cs c.args.out.now.items c.extend_from_slice.new.self.items c.push.new.self.items c.push-2.new.self.items c.push_word.new.out.items c.push_word-2.new.out.items c.push_word-3.new.out.items c.push_word-4.new.out.items c.push_constants.new.out.items
     c.in_ok-extend_from_slice.ensures.items
-    (c.in_ok-push.ensures.items ∙ ap (λ (n : ℕ). c.extend_from_slice.new.self.items ++ n ∷ []) c.ID.ensures)
-    (c.in_ok-push_word.ensures ∙ ap (λ (n : ℕ). c.push.new.self.items ++ to_le_bytes w32 n) c.publics.ensures)
+    (c.in_ok-push.ensures.items ∙ ap (λ (n : ℕ). c.extend_from_slice.new.self.items ++ (48 + n) ∷ []) c.version.ensures.version)
+    (c.in_ok-push-2.ensures.items ∙ ap (λ (n : ℕ). c.push.new.self.items ++ n ∷ []) c.ID.ensures)
+    (c.in_ok-push_word.ensures ∙ ap (λ (n : ℕ). c.push-2.new.self.items ++ to_le_bytes w32 n) c.publics.ensures)
     (c.in_ok-push_word-2.ensures ∙ ap (λ (n : ℕ). c.push_word.new.out.items ++ to_le_bytes w32 n) c.privates.ensures)
     (c.in_ok-push_word-3.ensures ∙ ap (λ (n : ℕ). c.push_word-2.new.out.items ++ to_le_bytes w32 n) depth)
     c.in_ok-push_word-4.ensures

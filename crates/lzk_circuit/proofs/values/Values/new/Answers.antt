@@ -1,6 +1,7 @@
 use Rattle.std.proofs.Common.{◌∙◌, [], ap, map, length, arith, ◌≡◌, ◌≤◌, ◌<◌, get_or}
 use Rattle.lzk_circuit.specs.Valid.{widths}
-use Rattle.std.proofs.lemmas.List.{take_all}
+use Rattle.std.proofs.lemmas.List.{take_all, length-replicate}
+use Rattle.lzk_circuit.proofs.CheckLaws.{few-checks}
 use Rattle.lzk_circuit.proofs.DepthLaws.{items_of, zero_lists, zeros-widths, are-zeros, widths-count, narrow, zeros-more}
 use Rattle.lzk_circuit.proofs.values.Values.new.Goals as goal
 
@@ -14,15 +15,17 @@ pub invariant_of-result : goal.invariant_of-result
 invariant_of-result g c =
     let o = g.F.Field.ops in
     let done : length (widths c.args.circuit.now) ≤ c.loop-l.l = omega (arith, widths-count o c.args.circuit.now) in
-    let e : items_of c.loop-l.lists.items ≡ zero_lists o (widths c.args.circuit.now) = c.loop-l.invariant ∙ ap (zero_lists o) (take_all c.loop-l.l (widths c.args.circuit.now) done) in
-    narrow o c.args.circuit.now c.loop-l.lists.items c.depth-count.ensures.valid (ap (map length) e ∙ zeros-widths o (widths c.args.circuit.now))
+    let e : items_of c.loop-l.lists.items ≡ zero_lists o (widths c.args.circuit.now) = c.loop-l.invariant ∙ ap (zero_lists o) (take_all c.loop-l.l (widths c.args.circuit.now) done) in (
+      narrow o c.args.circuit.now c.loop-l.lists.items c.depth-count.ensures.valid (ap (map length) e ∙ zeros-widths o (widths c.args.circuit.now)),
+      omega (arith, ap length c.in_ok-checks.ensures, length-replicate c.checks.result o.zero, c.checks.ensures, few-checks o g.F.Field.number_of c.args.circuit.now c.depth-count.ensures.valid),
+    )
 
-pub returns-clause-widths : goal.returns-clause-widths
-returns-clause-widths g c =
+pub returns-clause-room : goal.returns-clause-room
+returns-clause-room g c =
     let o = g.F.Field.ops in
     let done : length (widths c.args.circuit.now) ≤ c.loop-l.l = omega (arith, widths-count o c.args.circuit.now) in
     let e : items_of c.loop-l.lists.items ≡ zero_lists o (widths c.args.circuit.now) = c.loop-l.invariant ∙ ap (zero_lists o) (take_all c.loop-l.l (widths c.args.circuit.now) done) in
-    ap (map length) e ∙ zeros-widths o (widths c.args.circuit.now)
+    (ap (map length) e ∙ zeros-widths o (widths c.args.circuit.now), ap length c.in_ok-checks.ensures ∙ length-replicate c.checks.result o.zero ∙ c.checks.ensures)
 
 pub returns-clause-zeros : goal.returns-clause-zeros
 returns-clause-zeros g c = λ l k.

@@ -1,0 +1,30 @@
+use Rattle.std.proofs.Common.{◌++◌, subst, arith, map, List}
+use Rattle.std.proofs.lemmas.List.{drop_all}
+use Rattle.lzk_circuit.specs.declared.layer.Layer.{Layer}
+use Rattle.lzk_circbytes.specs.Numbered.{numbered_term, numbered_layer, coefficients, coefs_of}
+use Rattle.lzk_circbytes.specs.Recent.{HaveSame}
+use Rattle.lzk_circbytes.proofs.Recent.{same_end}
+use Rattle.lzk_circbytes.proofs.Written.{coefficients_go_on}
+use Rattle.lzk_circbytes.proofs.OneFile.{coefs_made, coefficients_some}
+use Rattle.lzk_circbytes.proofs.encoding.coefs_of.Goals as goal
+
+pub loop-l-preserved : goal.loop-l-preserved
+loop-l-preserved g c =
+    let number = g.F.Field.number_of in
+    let layers = c.args.circuit.now.layers in
+    let layer = c.layer.result.now in
+    let step = subst (λ (ts : List _). HaveSame c.push_coefficients.new.numbers.items (c.loop-l.numbers.items ++ map (λ t. t.coef) (map (numbered_term number) ts))) c.as_slice.ensures c.in_ok-push_coefficients.ensures.same in
+    record {
+      same = coefficients_go_on number c.loop-l.numbers.items c.push_coefficients.new.numbers.items c.loop-l.l layers layer (coefs_of c.args.circuit.now.version (coefficients (map (numbered_layer number) layers))) (omega (arith, c.loop-l-test.true, c.depth-l-end.ensures.depth)) c.layer.ensures step c.loop-l.invariant.same;
+      met = c.in_ok-push_coefficients.ensures.met;
+    }
+
+pub returns-clause-numbers : goal.returns-clause-numbers
+returns-clause-numbers g c =
+    let F = g.F.Field in
+    let layers = c.args.circuit.now.layers in
+    let ks = coefficients (map (numbered_layer F.number_of) layers) in
+    let none = drop_all c.loop-l.l layers (omega (arith, c.loop-l-test.false, c.depth-l-end.ensures.depth)) in
+    let all = coefs_of c.args.circuit.now.version ks in
+    let same : HaveSame c.loop-l.numbers.items all = same_end c.loop-l.numbers.items all (subst (λ (ls : List (Layer _)). HaveSame (c.loop-l.numbers.items ++ coefficients (map (numbered_layer F.number_of) ls)) all) none c.loop-l.invariant.same) in
+    coefs_made c.args.circuit.now.version ks c.loop-l.numbers.items c.sort_unstable.new.self.items c.dedup.new.self.items (coefficients_some F.ops F.size F.number_of F.element F.BYTES F.laws F.ID c.args.circuit.now c.depth-l-end.ensures.valid) same c.sort_unstable.ensures.permutation c.sort_unstable.ensures.sorted c.dedup.ensures.filtered
