@@ -8,10 +8,12 @@ use Rattle.lzk_field.specs.Sums.{entry}
 use Rattle.lzk_circuit.specs.Wires.{inputs_of}
 use Rattle.lzk_level.specs.declared.node.Gate.{Gate}
 use Rattle.lzk_level.specs.declared.fault.LevelFault.{LevelFault}
+use Rattle.lzk_level.specs.declared.fault.LevelError.{LevelError}
+use Rattle.lzk_level.specs.declared.fault.LevelError.TheVariants.{Fault, OutOfMemory}
 use Rattle.lzk_level.specs.declared.node.Gate.TheVariants.{Constant, Combine, Mul}
 use Rattle.lzk_level.specs.Nodes.{Nodes, combined, gate_value, ArePartsOf, IsGate, AreGates, after}
 use Rattle.lzk_reduce.specs.Renumbering.{at}
-use Rattle.lzk_level.specs.Bounds.{at_parts, total, greatest, gate_depth, gate_weight, node_depths, layer_count, wire_bound, limit_fault}
+use Rattle.lzk_level.specs.Bounds.{at_parts, total, greatest, gate_depth, gate_weight, node_depths, layer_count, wire_bound, limit_fault, level_fault_with, level_fault, IsFaultOf, IsLevelError, node_weights}
 use Rattle.lzk_level.specs.Levels.{AreDepths, AreWeights, AreValues}
 
 -- the first list stands at the beginning of the second
@@ -129,11 +131,21 @@ module _ {A : Type 0} where
       }
 
   -- the limits by the depths of the code are those of the nodes
-  pub limits-of : (n : Nodes A) (outputs depths weights : List ℕ) (answer : Option LevelFault) → depths ≡ node_depths n → length (node_depths n) ≡ wire_bound n
-      → limit_fault (greatest 1 (map (at depths) outputs)) (length depths) (greatest 1 (map (at depths) outputs) * length depths + total weights + total (map (at weights) outputs)) ≡ answer
-      → limit_fault (layer_count n outputs) (wire_bound n) (layer_count n outputs * wire_bound n + total weights + total (map (at weights) outputs)) ≡ answer
-  limits-of n outputs depths weights answer e long h =
+  pub limits-of : (further : ℕ) (n : Nodes A) (outputs depths weights : List ℕ) (answer : Option LevelFault) → depths ≡ node_depths n → length (node_depths n) ≡ wire_bound n
+      → limit_fault (greatest 1 (map (at depths) outputs)) (length depths + further) (greatest 1 (map (at depths) outputs) * (length depths + further) + total weights + total (map (at weights) outputs)) ≡ answer
+      → limit_fault (layer_count n outputs) (wire_bound n + further) (layer_count n outputs * (wire_bound n + further) + total weights + total (map (at weights) outputs)) ≡ answer
+  limits-of further n outputs depths weights answer e long h =
       let rest = total weights in
       let top = total (map (at weights) outputs) in
-      subst (λ w. limit_fault (layer_count n outputs) w (layer_count n outputs * w + rest + top) ≡ answer) long
-      (subst (λ ds. limit_fault (greatest 1 (map (at ds) outputs)) (length ds) (greatest 1 (map (at ds) outputs) * length ds + rest + top) ≡ answer) e h)
+      subst (λ w. limit_fault (layer_count n outputs) (w + further) (layer_count n outputs * (w + further) + rest + top) ≡ answer) long
+      (subst (λ ds. limit_fault (greatest 1 (map (at ds) outputs)) (length ds + further) (greatest 1 (map (at ds) outputs) * (length ds + further) + rest + top) ≡ answer) e h)
+
+  -- no further wires
+  pub no-further : (n : Nodes A) (outputs : List ℕ) → level_fault_with 0 n outputs ≡ level_fault n outputs
+  no-further n outputs =
+      let e : wire_bound n + 0 ≡ wire_bound n = omega arith in
+      ap (λ w. limit_fault (layer_count n outputs) w (layer_count n outputs * w + total (node_weights n) + total (map (at (node_weights n)) outputs))) e
+
+  pub no-further-error : (n : Nodes A) (outputs : List ℕ) (e : LevelError) → IsFaultOf (level_fault_with 0 n outputs) e → IsLevelError n outputs e
+  no-further-error n outputs (Fault f) h = sym (no-further n outputs) ∙ h
+  no-further-error n outputs OutOfMemory h = tt

@@ -5,6 +5,7 @@ use Rattle.std.proofs.lemmas.Bool.{cases_lt, lt-leb, le-leb}
 use Rattle.std.proofs.lemmas.List.{length-append, length-replicate}
 use Rattle.lzk_field.specs.Ring.{Ops}
 use Rattle.lzk_circuit.specs.declared.layer.Layer.{Layer}
+use Rattle.lzk_circuit.proofs.VersionLaws.{one-valid}
 use Rattle.lzk_circuit.specs.Valid.{wiring, AreLayers, IsValid}
 use Rattle.lzk_circuit.specs.Wires.{inputs_of}
 use Rattle.lzk_level.specs.declared.node.Gate.{Gate}
@@ -94,13 +95,7 @@ module _ {A : Type 0} (o : Ops A) where
   pub valid-layers : (publics privates inputs : ℕ) (layers : List (Layer A)) → publics ≤ 65535 → privates ≤ 65536 → inputs ≡ 1 + (publics + privates) → 1 ≤ length layers → length layers ≤ 512 → AreLayers o inputs layers → IsValid o (wiring publics privates layers)
   valid-layers publics privates inputs layers p q e some most h =
       let width : inputs ≡ 1 + publics + privates = omega (arith, e) in
-      record {
-        publics = p;
-        privates = q;
-        some = some;
-        depth = most;
-        layers = subst (λ n. AreLayers o n layers) width h;
-      }
+      one-valid o publics privates layers p q some most (subst (λ n. AreLayers o n layers) width h)
 
   pub ready-values : (publics privates inputs : ℕ) (made : List (Gate A)) (public private : List A) → inputs ≡ 1 + (publics + privates) → AreGates (publics + privates) made → length public ≡ publics → length private ≡ privates
       → AreValues o inputs made (node_values o (nodes_from publics privates made) public private)

@@ -11,6 +11,9 @@ pub mod AfterLaws
 pub mod TowerLaws
 pub mod ValueLaws
 pub mod SourceLaws
+pub mod CheckingLaws
+pub mod AssertingLaws
+pub mod AssertedLaws
 pub mod CompiledLaws
 pub mod FormedSizes
 pub mod FormedLaws
@@ -21,3 +24,4 @@ pub mod SomeLevelRows
 pub mod MadeGates
 pub mod SomeTower
 pub mod SomeCircuits
+pub mod SomeCircuitsV2

@@ -35,6 +35,7 @@ use Rattle.lzk_level.proofs.SomeTower.{topped}
 module _ {A : Type 0} (o : Ops A) (size : ℕ) (number : A → ℕ) (element : ℕ → A) (bytes : ℕ) (laws : Laws o size number element bytes) where
   -- a reduced circuit whose outputs are these nodes
   record IsFinished (n : Nodes A) (outputs : List ℕ) (c : Wiring A) : Type 0 where
+    pub version : c.version ≡ 1
     pub publics : c.publics ≡ n.publics
     pub privates : c.privates ≡ n.privates
     pub layers : length c.layers ≡ layer_count n outputs
@@ -62,6 +63,7 @@ module _ {A : Type 0} (o : Ops A) (size : ℕ) (number : A → ℕ) (element : �
       let deep : length kept ≡ count = is.count ∙ length-reverse top ∙ t.count_is in (
         wiring n.publics n.privates kept,
         record {
+          version = refl;
           publics = refl;
           privates = refl;
           layers = deep;
@@ -75,6 +77,7 @@ module _ {A : Type 0} (o : Ops A) (size : ℕ) (number : A → ℕ) (element : �
 
   -- a circuit of a source's statements over a field
   record IsMade (ss : List Statement) (c : Wiring A) : Type 0 where
+    pub version : c.version ≡ 1
     pub publics : c.publics ≡ count_by is_public ss
     pub privates : c.privates ≡ count_by is_private ss
     pub layers : length c.layers ≡ layers_needed (nodes_of o element ss)
@@ -93,6 +96,7 @@ module _ {A : Type 0} (o : Ops A) (size : ℕ) (number : A → ℕ) (element : �
       let (c, is) = finished n m.outputs (omega (arith, p, good.publics)) (omega (arith, q, good.privates)) gates (omega (arith, many, good.some)) (omega (arith, many, good.asserts)) (built-nodes o element ss n m.outputs refl refl) fits in (
         c,
         record {
+          version = is.version;
           publics = is.publics ∙ p;
           privates = is.privates ∙ q;
           layers = is.layers;
@@ -112,6 +116,7 @@ has_circuit source good fits = over source.field_is refl fits
           Gold c,
           file_of (shape 1 8 p) (numbered gold.number c),
           record {
+            version_is = is.version;
             field_is = sym e;
             publics = is.publics;
             privates = is.privates;
@@ -127,6 +132,7 @@ has_circuit source good fits = over source.field_is refl fits
           Gf c,
           file_of (shape 2 16 (2 ^ 128)) (numbered gf.number c),
           record {
+            version_is = is.version;
             field_is = sym e;
             publics = is.publics;
             privates = is.privates;

@@ -63,7 +63,7 @@ module _ {A : Type 0} (o : Ops A) (r : RingLaws o) (rows : List (List (Term A)))
             (λ below j m. stacked-before o r g j below i.terms row m) (λ below h w. stacked-added o r g below i.terms row h w) (length-append i.terms (map (placed g) row) ∙ ap (λ n. length i.terms + n) (length-map row (placed g))) i.are);
       }
 
-at-flat : (n m k : ℕ) → k < n → at (replicate n m) k ≡ m
+pub at-flat : (n m k : ℕ) → k < n → at (replicate n m) k ≡ m
 at-flat n m k l = get_or-replicate n k m 0 l
 
 -- every node is needed up to the uppermost level
@@ -115,7 +115,7 @@ module _ {A : Type 0} (o : Ops A) (r : RingLaws o) (f : FieldLaws o) (decide : Z
 
   -- the layers for outputs
   pub topped : (count : ℕ) (outputs : List ℕ) → 1 ≤ count → length outputs ≤ 131072 → ((i : ℕ) → i < length outputs → at outputs i < length depths) → ((i : ℕ) → i < length outputs → at depths (at outputs i) ≤ count)
-      → (layers : List (Layer A)) × Topped o inputs made depths count outputs layers
+      → (layers : List (Layer A)) × Topped o inputs made depths (replicate (length depths) count) count outputs layers
   topped count outputs some most nodes deep =
       let last = replicate (length depths) count in
       let w = flat-last inputs count made depths first some gates d in

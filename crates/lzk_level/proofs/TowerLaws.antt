@@ -3,7 +3,7 @@ use Rattle.std.specs.Prelude.{◌≡◌, ℕ, ◌+◌, ◌-◌, ◌*◌, ◌<◌
 use Rattle.std.proofs.Common.{zero, suc, inl, inr, refl, sym, ap, ◌∙◌, arith, subst, get_or}
 use Rattle.std.specs.List.{range_with_len}
 use Rattle.std.proofs.lemmas.Bool.{cases_lt, le-leb, lt-leb, cases_Bool}
-use Rattle.std.proofs.lemmas.List.{length-map, length-append, ext_get_or, take_more, take_all, reverse-append}
+use Rattle.std.proofs.lemmas.List.{length-map, length-append, ext_get_or, take_more, take_all, reverse-append, length-reverse}
 use Rattle.std.proofs.lemmas.List.FromFn.{length-map-range_with_len, get_or-map-range_with_len}
 use Rattle.std.proofs.Math.Nat.{suc-mul}
 use Rattle.lzk_field.specs.Ring.{Ops}
@@ -19,7 +19,9 @@ use Rattle.lzk_reduce.specs.Renumbering.{at}
 use Rattle.lzk_level.specs.Bounds.{at_parts, total, greatest, gate_depth}
 use Rattle.lzk_reduce.specs.Rows.{row_value}
 use Rattle.lzk_reduce.specs.Reduced.{HasOne, HaveOnes, HaveOnesUnder}
-use Rattle.lzk_level.specs.Levels.{place_in, width_of, row_at, AreDepths, AreWeights, AreValues, AreRows, AreShort, HaveValues, Stands, Begins, AreLast, has_wire, lengths_in, lengths_of}
+use Rattle.lzk_level.specs.Levels.{HaveWidths, HaveWidthsBelow, StandFrom, StandBelow, place_in, width_of, row_at, AreDepths, AreWeights, AreValues, AreRows, AreShort, HaveValues, Stands, Begins, AreLast, has_wire, lengths_in, lengths_of}
+use Rattle.lzk_reduce.specs.Targets.{AreAllTerms}
+use Rattle.lzk_reduce.proofs.AttachedLayers.{all-terms}
 use Rattle.lzk_level.proofs.LevelLaws.{place-most, place-below, wire-there, wire-no-deeper, wire-needed}
 use Rattle.lzk_level.proofs.NodeLaws.{heavy}
 
@@ -149,7 +151,7 @@ one-more zero n l = absurd (omega (arith, l))
 one-more (suc m) n l = let e : m ≡ suc m - 1 = omega arith in suc-mul m n ∙ ap (λ k. k * n + n) e
 
 module _ {A : Type 0} (o : Ops A) where
-  mapped-at : (f : ℕ → A) (ks : List ℕ) (i : ℕ) → i < length ks → entry o (map f ks) i ≡ f (at ks i)
+  pub mapped-at : (f : ℕ → A) (ks : List ℕ) (i : ℕ) → i < length ks → entry o (map f ks) i ≡ f (at ks i)
   mapped-at f [] i l = absurd (omega (arith, l))
   mapped-at f (k ∷ ks) zero l = refl
   mapped-at f (k ∷ ks) (suc i) l = mapped-at f ks i (omega (arith, l))
@@ -167,6 +169,8 @@ module _ {A : Type 0} (o : Ops A) where
     pub sound : (weights : List ℕ) → AreWeights inputs made weights → level * length depths + total weights ≤ 2097152 → Sound inputs depths last level weights (reverse layers)
     pub stands : (values ins : List A) → AreValues o inputs made values → Begins o inputs values ins → Stands o depths last level values (wires_of o (reverse layers) ins)
     pub ones : HaveOnesUnder o (reverse layers)
+    pub widths : HaveWidths depths last inputs (reverse layers)
+    pub stand : (values ins : List A) → AreValues o inputs made values → Begins o inputs values ins → StandFrom o depths last values ins (reverse layers)
 
   pub tower-starts : (inputs : ℕ) (made : List (Gate A)) (depths last : List ℕ) → AreDepths inputs made depths → AreLast inputs made depths last → Tower inputs made depths last 0 []
   tower-starts inputs made depths last d w = record {
@@ -179,6 +183,8 @@ module _ {A : Type 0} (o : Ops A) where
     };
     stands = λ values ins v s. inputs-stand o inputs made depths last values ins d w s;
     ones = tt;
+    widths = sym (place-inputs inputs made depths last (length depths) d w (omega arith) ∙ omega (arith, d.count));
+    stand = λ values ins v s. inputs-stand o inputs made depths last values ins d w s;
   }
 
   layer-stands : (depths last : List ℕ) (level : ℕ) (values below : List A) (rows : List (List (Term A))) (layer : Layer A) → layer.wires ≡ width_of depths last level → length rows ≡ length depths
@@ -203,6 +209,7 @@ module _ {A : Type 0} (o : Ops A) where
       let turned : reverse all ≡ layer ∷ reverse layers = reverse-push layers all layer grown in
       let zero_depth : at depths 0 ≡ 0 = d.at_inputs 0 (omega (arith, first)) in
       let more : level * length depths ≡ (level - 1) * length depths + length depths = one-more level (length depths) some in
+      let high_as : level ≡ length (layer ∷ reverse layers) = omega (arith, length-reverse layers, t.count, some) in
       record {
         count = ap length grown ∙ length-append layers (layer ∷ []) ∙ omega (arith, t.count, some);
         sound = λ weights w l.
@@ -230,14 +237,25 @@ module _ {A : Type 0} (o : Ops A) where
             subst (λ ls. Stands o depths last level values (wires_of o ls ins)) (sym turned)
             (layer-stands depths last level values below rows layer wires long (each below (subst (λ n. AreRows o n rows) (sym under.width) ordered)) (have values below v under));
         ones = subst (HaveOnesUnder o) (sym turned) (one, t.ones);
+        widths = subst (HaveWidths depths last inputs) (sym turned) (wires ∙ ap (width_of depths last) high_as, t.widths);
+        stand = λ values ins v s.
+            let below = wires_of o (reverse layers) ins in
+            let under = t.stands values ins v s in
+            let here = layer-stands depths last level values below rows layer wires long (each below (subst (λ n. AreRows o n rows) (sym under.width) ordered)) (have values below v under) in
+            subst (StandFrom o depths last values ins) (sym turned) (subst (λ n. Stands o depths last n values (layer_values o layer below)) high_as here, t.stand values ins v s);
       }
 
   -- the layers for outputs
-  pub record Topped (inputs : ℕ) (made : List (Gate A)) (depths : List ℕ) (count : ℕ) (outputs : List ℕ) (layers : List (Layer A)) : Type 0 where
+  pub record Topped (inputs : ℕ) (made : List (Gate A)) (depths last : List ℕ) (count : ℕ) (outputs : List ℕ) (layers : List (Layer A)) : Type 0 where
     pub count_is : length layers ≡ count
     pub valid : (weights : List ℕ) → AreWeights inputs made weights → 1 ≤ length outputs → ((i : ℕ) → i < length outputs → 1 ≤ at outputs i) → count * length depths + total weights + total (map (at weights) outputs) ≤ 2097152 → AreLayers o inputs (reverse layers)
     pub values : (values ins : List A) → AreValues o inputs made values → Begins o inputs values ins → wires_of o (reverse layers) ins ≡ map (entry o values) outputs
     pub ones : HaveOnes o (reverse layers)
+    pub widths : HaveWidthsBelow depths last inputs (length outputs) (reverse layers)
+    pub stand : (values ins : List A) → AreValues o inputs made values → Begins o inputs values ins → StandBelow o depths last values ins (reverse layers)
+    pub terms : (weights : List ℕ) → AreWeights inputs made weights → ((i : ℕ) → i < length outputs → 1 ≤ at outputs i) → count * length depths + total weights + total (map (at weights) outputs) ≤ 2097152 → AreAllTerms o inputs (reverse layers)
+    pub few_terms : (weights : List ℕ) → AreWeights inputs made weights → ((i : ℕ) → i < length outputs → 1 ≤ at outputs i) → count * length depths + total weights + total (map (at weights) outputs) ≤ 2097152
+        → (under_of inputs (reverse layers)).terms ≤ count * length depths + total weights + total (map (at weights) outputs)
 
   -- with the outputs' layer on top
   pub tower-ends : (inputs : ℕ) (made : List (Gate A)) (depths last : List ℕ) (count : ℕ) (layers all : List (Layer A)) (layer : Layer A) (rows : List (List (Term A))) (outputs : List ℕ) → 1 ≤ count → 1 ≤ inputs → AreGates (inputs - 1) made → AreDepths inputs made depths
@@ -247,7 +265,7 @@ module _ {A : Type 0} (o : Ops A) where
       → ((width : ℕ) → AreRows o width rows → AreTerms o (length outputs) width None layer.terms)
       → ((below : List A) → AreRows o (length below) rows → (i : ℕ) → i < length outputs → wire o (coef o layer.terms) below i ≡ row_value o below (row_at rows (at outputs i)))
       → length layer.terms ≡ lengths_of rows outputs → ((i : ℕ) → i < length outputs → at outputs i < length depths) → ((i : ℕ) → i < length outputs → at depths (at outputs i) ≤ count) → ((i : ℕ) → i < length outputs → count ≤ at last (at outputs i))
-      → Tower inputs made depths last (count - 1) layers → Topped inputs made depths count outputs all
+      → Tower inputs made depths last (count - 1) layers → Topped inputs made depths last count outputs all
   tower-ends inputs made depths last count layers all layer rows outputs some first gates d grown long ordered wires few have short terms each terms_count nodes deep needed t =
       let turned : reverse all ≡ layer ∷ reverse layers = reverse-push layers all layer grown in
       let more : count * length depths ≡ (count - 1) * length depths + length depths = one-more count (length depths) some in
@@ -279,4 +297,17 @@ module _ {A : Type 0} (o : Ops A) where
             let li : i < length outputs = omega (arith, l, length-map-range_with_len f 0 layer.wires, wires) in
             get_or-map-range_with_len f 0 layer.wires i i o.zero (omega (arith, li, wires)) (omega arith) ∙ each below rows_are i li ∙ have values below v under (at outputs i) (omega (arith, nodes i li, long)) (deep i li) (needed i li) ∙ sym (value-of outputs i li));
         ones = subst (HaveOnes o) (sym turned) t.ones;
+        widths = subst (HaveWidthsBelow depths last inputs (length outputs)) (sym turned) (wires, t.widths);
+        stand = λ values ins v s. subst (StandBelow o depths last values ins) (sym turned) (t.stand values ins v s);
+        terms = λ weights w ones l.
+            let under = t.sound weights w (omega (arith, l, more)) in
+            subst (AreAllTerms o inputs) (sym turned) (
+              subst (λ n. AreTerms o layer.wires n None layer.terms) (sym under.width) (subst (λ n. AreTerms o n (width_of depths last (count - 1)) None layer.terms) (sym wires) (terms (width_of depths last (count - 1)) ordered)),
+              all-terms o inputs (reverse layers) under.layers_are,
+            );
+        few_terms = λ weights w ones l.
+            let under = t.sound weights w (omega (arith, l, more)) in
+            let new = outputs-short depths count weights rows outputs (short weights w) (λ i m. (ones i m, omega (arith, nodes i m, long))) in
+            let old = weight-all depths (count - 1) weights (length depths) (w.count ∙ sym d.count) in
+            subst (λ ls. (under_of inputs ls).terms ≤ count * length depths + total weights + total (map (at weights) outputs)) (sym turned) (omega (arith, under.terms, terms_count, new, old, more));
       }

@@ -1,5 +1,5 @@
 -- How deep and how heavy nodes are, and when a circuit of them keeps the limits.
-use Rattle.std.specs.Prelude.{◌≡◌, ℕ, ◌+◌, ◌-◌, ◌*◌, ◌^◌, max, min, nat_le, if◌then◌else◌, List, [], ◌∷◌, map, replicate, Option, Some, None}
+use Rattle.std.specs.Prelude.{◌≡◌, ℕ, ◌+◌, ◌-◌, ◌*◌, ◌^◌, max, min, nat_le, length, if◌then◌else◌, List, [], ◌∷◌, map, replicate, Option, Some, None}
 use Rattle.lzk_level.specs.declared.node.Gate.{Gate}
 use Rattle.lzk_level.specs.declared.node.Gate.TheVariants.{Constant, Combine, Mul}
 use Rattle.lzk_level.specs.declared.fault.LevelFault.{LevelFault}
@@ -66,6 +66,20 @@ limit_fault layers wires terms =
 -- the first limit that these outputs pass
 abbrev pub level_fault : {A : Type 0} → Nodes A → List ℕ → Option LevelFault
 level_fault n outputs = limit_fault (layer_count n outputs) (wire_bound n) (term_bound n outputs)
+
+-- the same with so many further wires in a layer
+abbrev pub level_fault_with : {A : Type 0} → ℕ → Nodes A → List ℕ → Option LevelFault
+level_fault_with further n outputs =
+    limit_fault (layer_count n outputs) (wire_bound n + further) (layer_count n outputs * (wire_bound n + further) + total (node_weights n) + total (map (at (node_weights n)) outputs))
+
+-- the first limit that these asserted nodes pass in a circuit of version 2, where a layer may have a further wire for each of them
+abbrev pub level_fault_v2 : {A : Type 0} → Nodes A → List ℕ → Option LevelFault
+level_fault_v2 n asserts = level_fault_with (length asserts) n asserts
+
+-- the fault is this one; want of memory may come at any time
+abbrev pub IsFaultOf : Option LevelFault → LevelError → Type 0
+IsFaultOf fault (Fault f) = fault ≡ Some f
+IsFaultOf fault OutOfMemory = Unit {0}
 
 -- the fault is the one of these outputs; want of memory may come at any time
 abbrev pub IsLevelError : {A : Type 0} → Nodes A → List ℕ → LevelError → Type 0

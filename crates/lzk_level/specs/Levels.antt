@@ -3,7 +3,9 @@ use Rattle.std.specs.Prelude.{◌≡◌, ℕ, ◌+◌, ◌<◌, ◌≤◌, nat_l
 use Rattle.std.proofs.Common.{zero, suc}
 use Rattle.lzk_field.specs.Ring.{Ops}
 use Rattle.lzk_field.specs.Sums.{entry}
+use Rattle.lzk_circuit.specs.declared.layer.Layer.{Layer}
 use Rattle.lzk_circuit.specs.declared.layer.Term.{Term}
+use Rattle.lzk_circuit.specs.Wires.{wires_of}
 use Rattle.lzk_level.specs.declared.node.Gate.{Gate}
 use Rattle.lzk_level.specs.declared.node.Gate.TheVariants.{Constant, Combine, Mul}
 use Rattle.lzk_level.specs.Nodes.{combined, gate_value}
@@ -80,6 +82,27 @@ pub record Begins {A : Type 0} (o : Ops A) (inputs : ℕ) (values ins : List A) 
 pub record Stands {A : Type 0} (o : Ops A) (depths last : List ℕ) (level : ℕ) (values wires : List A) : Type 0 where
   pub width : length wires ≡ width_of depths last level
   pub each : (k : ℕ) → k < length depths → has_wire depths last level k ≡ true → entry o wires (place_in depths last level k) ≡ entry o values k
+
+-- the wires of these layers, of which the last one is level 1, and those of the inputs, have the values of the nodes that have a wire there
+abbrev pub StandFrom : {A : Type 0} → Ops A → List ℕ → List ℕ → List A → List A → List (Layer A) → Type 0
+StandFrom o depths last values inputs [] = Stands o depths last 0 values inputs
+StandFrom o depths last values inputs (layer ∷ layers) =
+    Stands o depths last (length (layer ∷ layers)) values (wires_of o (layer ∷ layers) inputs) × StandFrom o depths last values inputs layers
+
+-- so do those behind the first
+abbrev pub StandBelow : {A : Type 0} → Ops A → List ℕ → List ℕ → List A → List A → List (Layer A) → Type 0
+StandBelow o depths last values inputs [] = Unit {0}
+StandBelow o depths last values inputs (layer ∷ layers) = StandFrom o depths last values inputs layers
+
+-- so many inputs, and these layers, of which the last one is level 1, have as many wires as their levels
+abbrev pub HaveWidths : {A : Type 0} → List ℕ → List ℕ → ℕ → List (Layer A) → Type 0
+HaveWidths depths last inputs [] = inputs ≡ width_of depths last 0
+HaveWidths depths last inputs (layer ∷ layers) = (layer.wires ≡ width_of depths last (length (layer ∷ layers))) × HaveWidths depths last inputs layers
+
+-- the first layer has a wire for each output, and those behind it have as many as their levels
+abbrev pub HaveWidthsBelow : {A : Type 0} → List ℕ → List ℕ → ℕ → ℕ → List (Layer A) → Type 0
+HaveWidthsBelow depths last inputs outputs [] = Unit {0}
+HaveWidthsBelow depths last inputs outputs (layer ∷ layers) = (layer.wires ≡ outputs) × HaveWidths depths last inputs layers
 
 -- every row is over so many wires
 abbrev pub AreRows : {A : Type 0} → Ops A → ℕ → List (List (Term A)) → Type 0

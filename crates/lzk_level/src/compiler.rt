@@ -5,9 +5,12 @@ ghost use Rattle.lzk_expr.specs.Trees.{is_public, is_private};
 ghost use Rattle.lzk_expr.specs.View.{expr_of, statement_of, statements_of, tree_of};
 ghost use Rattle.lzk_reduce.specs.Reduced.{IsReduced};
 ghost use Rattle.lzk_level.specs.Nodes.{node_count};
+ghost use Rattle.lzk_level.specs.Bounds.{IsFaultOf};
 ghost use Rattle.lzk_level.specs.Compilable.{IsWithin, size_of, AreOperands, IsStatementWithin, statement_size};
 ghost use Rattle.lzk_level.specs.Compiling.{scope, let_nodes, let_operand, made_assert, statement_lets, statement_nodes, statement_outputs, nodes_of};
-ghost use Rattle.lzk_level.specs.Compiled.{IsCompilable, HasValues, layers_needed, limit_passed, IsFaultOf, field_of, publics_of, privates_of, depth_of, HasSourceValues, HasReducedLayers, source_layers, source_limit};
+ghost use Rattle.lzk_level.specs.Compiled.{IsCompilable, HasValues, layers_needed, limit_passed, version_of, field_of};
+ghost use Rattle.lzk_level.specs.Compiled.{publics_of, privates_of, depth_of, HasSourceValues, HasReducedLayers};
+ghost use Rattle.lzk_level.specs.Compiled.{source_layers, source_limit};
 
 use crate::builder::Builder;
 use crate::constants::constant;
@@ -74,8 +77,10 @@ fn take_statement<F: Field>(
     requires lets { AreOperands (node_count builder.old) lets.old.items }
     requires room { node_count builder.old + statement_size (statement_of statement.now) ≤ 2147483648 }
     ensures nodes { OnOk result (builder.new ≡ statement_nodes (scope F.ops F.element lets.old.items) builder.old (statement_of statement.now)) }
-    ensures lets { OnOk result (lets.new.items ≡ lets.old.items ++ statement_lets (scope F.ops F.element lets.old.items) builder.old (statement_of statement.now)) }
-    ensures outputs { OnOk result (outputs.new.items ≡ outputs.old.items ++ statement_outputs (scope F.ops F.element lets.old.items) builder.old (statement_of statement.now)) }
+    ensures lets { OnOk result (lets.new.items ≡ lets.old.items ++ statement_lets (scope F.ops F.element lets.old.items) builder.old
+        (statement_of statement.now)) }
+    ensures outputs { OnOk result (outputs.new.items ≡ outputs.old.items ++ statement_outputs (scope F.ops F.element lets.old.items) builder.old
+        (statement_of statement.now)) }
 {
     match statement {
         Statement::Public(_) => {}
@@ -92,8 +97,8 @@ fn take_statement<F: Field>(
     Ok(())
 }
 
-// The nodes of a source's statements, and its outputs.
-fn build<F: Field>(
+/// The nodes of a source's statements, and its outputs.
+pub fn build<F: Field>(
     alloc: Global,
     publics: u32,
     privates: u32,
@@ -124,6 +129,7 @@ fn compile_over<F: Field>(
     requires publics { publics ≡ count_by is_public (statements_of statements.now) }
     requires privates { privates ≡ count_by is_private (statements_of statements.now) }
     requires compilable { IsCompilable (statements_of statements.now) }
+    ensures version { IfOk result (λ c. c.version ≡ 1) }
     ensures publics { IfOk result (λ c. c.publics ≡ publics) }
     ensures privates { IfOk result (λ c. c.privates ≡ privates) }
     ensures layers { IfOk result (λ c. length c.layers ≡ layers_needed (nodes_of F.ops F.element (statements_of statements.now))) }
@@ -139,6 +145,7 @@ fn compile_over<F: Field>(
 /// The reduced circuit of a source: the nodes that the profile in docs/FORMATS.md makes of it, finished with
 /// a node for each assert. Want of memory may come at any time.
 pub fn compile(alloc: Global, source: &Source) -> Result<AnyCircuit, LevelError>
+    ensures version { IfOk result (λ c. version_of c ≡ 1) }
     ensures field { IfOk result (λ c. field_of c ≡ source.now.field_is) }
     ensures publics { IfOk result (λ c. publics_of c ≡ count_by is_public (statements_of source.now.statements)) }
     ensures privates { IfOk result (λ c. privates_of c ≡ count_by is_private (statements_of source.now.statements)) }

@@ -1,6 +1,6 @@
 //! The last level that needs each node.
 
-ghost use Rattle.std.specs.Prelude.{◌≡◌, ℕ, ◌+◌, ◌-◌, ◌<◌, ◌≤◌, length, IfOk};
+ghost use Rattle.std.specs.Prelude.{◌≡◌, ℕ, ◌+◌, ◌-◌, ◌<◌, ◌≤◌, min, length, slice_index_or, IfOk};
 ghost use Rattle.lzk_reduce.specs.Renumbering.{at};
 ghost use Rattle.lzk_level.specs.Nodes.{ArePartsOf, IsGate, AreGates};
 ghost use Rattle.lzk_level.specs.Levels.{AreDepths, AreLast, AreNeeded, ArePartsNeeded};
@@ -91,8 +91,51 @@ fn needed_above(
     Ok(last)
 }
 
-/// The last level that needs each node. An output is needed up to the uppermost; a node that is needed at its
-/// depth needs its factors and parts there, since their wires or rows make its own.
+// The asserted nodes of the uppermost level are needed there, and each other at the level above its own, where it
+// is asserted.
+fn needed_asserts(
+    alloc: Global,
+    depths: &[u32],
+    asserts: &[Node],
+    count: u32,
+) -> Result<Vec<u32>, AllocError>
+    requires some { 1 ≤ count }
+    requires one { 1 ≤ length depths.now }
+    requires asserts { (i : ℕ) → i < length asserts.now → at asserts.now i < length depths.now }
+    ensures nodes { IfOk result (λ last. length last.items ≡ length depths.now) }
+    ensures each { IfOk result (λ last. (k : ℕ) → k < length depths.now → 1 ≤ at last.items k) }
+    ensures one { IfOk result (λ last. count ≤ at last.items 0) }
+    ensures asserts { IfOk result (λ last. (i : ℕ) → i < length asserts.now →
+        min count (at depths.now (at asserts.now i) + 1) ≤ at last.items (at asserts.now i)) }
+{
+    let mut last = vec![in alloc; 1; depths.len()]?;
+    last[0] = count;
+    for i in 0..asserts.len() {
+        let depth = depths[asserts[i].number() as usize];
+        let level = if depth < count { depth + 1 } else { count };
+        need(&mut last, asserts[i], level);
+    }
+    Ok(last)
+}
+
+// A node that is needed at its depth needs its factors and parts there, since their wires or rows make its own.
+fn need_all<F>(last: &mut Vec<u32>, made: &[Gate<F>], depths: &[u32])
+    requires count { length last.now.items ≡ length depths.now }
+    requires inputs { 1 + length made.now ≤ length depths.now }
+    requires gates { AreGates (length depths.now - length made.now - 1) made.now }
+    ensures count { length last.new.items ≡ length depths.now }
+    ensures grown { (k : ℕ) → at last.old.items k ≤ at last.new.items k }
+    ensures served { (i : ℕ) (d : Gate F) → i < length made.now → let k = length depths.now - length made.now + i in
+        at depths.now k ≤ at last.new.items k → AreNeeded last.new.items (at depths.now k) (slice_index_or made.now i d) }
+{
+    let inputs = depths.len() - made.len();
+    for j in 0..made.len() {
+        let i = made.len() - 1 - j;
+        need_of(last, inputs + i, &made[i], depths[inputs + i]);
+    }
+}
+
+/// The last level that needs each node. An output is needed up to the uppermost.
 pub fn last_levels<F>(
     alloc: Global,
     made: &[Gate<F>],
@@ -109,10 +152,28 @@ pub fn last_levels<F>(
     ensures outputs { IfOk result (λ last. (i : ℕ) → i < length outputs.now → count ≤ at last.items (at outputs.now i)) }
 {
     let mut last = needed_above(alloc, depths.len(), outputs, count)?;
-    let inputs = depths.len() - made.len();
-    for j in 0..made.len() {
-        let i = made.len() - 1 - j;
-        need_of(&mut last, inputs + i, &made[i], depths[inputs + i]);
-    }
+    need_all(&mut last, made, depths);
+    Ok(last)
+}
+
+/// The same for asserted nodes, each of which is needed at the level above its own, or at the uppermost.
+pub fn last_asserting<F>(
+    alloc: Global,
+    made: &[Gate<F>],
+    depths: &[u32],
+    asserts: &[Node],
+    count: u32,
+) -> Result<Vec<u32>, AllocError>
+    requires some { 1 ≤ count }
+    requires inputs { 1 + length made.now ≤ length depths.now }
+    requires gates { AreGates (length depths.now - length made.now - 1) made.now }
+    requires asserts { (i : ℕ) → i < length asserts.now → at asserts.now i < length depths.now }
+    ensures last { IfOk result (λ last. AreLast (length depths.now - length made.now) made.now depths.now last.items) }
+    ensures one { IfOk result (λ last. count ≤ at last.items 0) }
+    ensures asserts { IfOk result (λ last. (i : ℕ) → i < length asserts.now →
+        min count (at depths.now (at asserts.now i) + 1) ≤ at last.items (at asserts.now i)) }
+{
+    let mut last = needed_asserts(alloc, depths, asserts, count)?;
+    need_all(&mut last, made, depths);
     Ok(last)
 }

@@ -6,7 +6,9 @@ ghost use Rattle.lzk_level.specs.Nodes.{combined, ArePartsOf, IsGate, AreGates};
 ghost use Rattle.lzk_reduce.specs.Renumbering.{at};
 ghost use Rattle.lzk_level.specs.Bounds.{at_parts, total, gate_depth, gate_weight};
 ghost use Rattle.lzk_reduce.specs.Rows.{IsRow, row_value, ordered};
-ghost use Rattle.lzk_level.specs.Levels.{has_wire, place_in, width_of, row_at, ArePlaces, AreDepths, AreLast, AreWeights, AreValues, AreRows, AreShort, IsShort, AreFactorsBelow, HaveValues, Stands, placed_value, StartsWithOne};
+ghost use Rattle.lzk_level.specs.Levels.{has_wire, place_in, width_of, row_at, ArePlaces, AreDepths, AreLast};
+ghost use Rattle.lzk_level.specs.Levels.{AreWeights, AreValues, AreRows, AreShort, IsShort, AreFactorsBelow};
+ghost use Rattle.lzk_level.specs.Levels.{HaveValues, Stands, placed_value, StartsWithOne};
 
 use crate::node::{Gate, Node};
 use lzk_circuit::{Term, Terms};
@@ -54,7 +56,8 @@ fn part_row<F: Field>(
 ) -> Result<Vec<Term<F>>, AllocError>
     requires { node < length rows.now }
     ensures row { (width : ℕ) → IsRow F.ops width (row_at rows.now node) → IfOk result (λ row. IsRow F.ops width row.items) }
-    ensures value { (below : List F) → IfOk result (λ row. row_value F.ops below row.items ≡ F.ops.times factor (row_value F.ops below (row_at rows.now node))) }
+    ensures value { (below : List F) → IfOk result (λ row. row_value F.ops below row.items ≡
+        F.ops.times factor (row_value F.ops below (row_at rows.now node))) }
     ensures short { IfOk result (λ row. length row.items ≤ length (row_at rows.now node)) }
 {
     let row = &rows[node.number() as usize];
@@ -69,7 +72,8 @@ fn combined<F: Field>(
 ) -> Result<Vec<Term<F>>, AllocError>
     requires some { 1 ≤ length parts.now }
     requires nodes { ArePartsOf (length rows.now - 1) parts.now }
-    ensures row { (width : ℕ) → ((k : ℕ) → 1 ≤ k → k < length rows.now → IsRow F.ops width (row_at rows.now k)) → IfOk result (λ row. IsRow F.ops width row.items) }
+    ensures row { (width : ℕ) → ((k : ℕ) → 1 ≤ k → k < length rows.now → IsRow F.ops width (row_at rows.now k)) →
+        IfOk result (λ row. IsRow F.ops width row.items) }
     ensures value { (below : List F) → IfOk result (λ row. row_value F.ops below row.items ≡ combined F.ops (map (row_value F.ops below) rows.now) parts.now) }
     ensures short { IfOk result (λ row. length row.items ≤ total (at_parts (map length rows.now) parts.now)) }
 {
@@ -92,8 +96,10 @@ fn gate_row<F: Field>(
 ) -> Result<Vec<Term<F>>, AllocError>
     requires gate { IsGate (length rows.now - 1) gate.now }
     requires places { length rows.now ≤ length places.now }
-    ensures row { (width : ℕ) → 1 ≤ width → AreRows F.ops width rows.now → AreFactorsBelow width places.now gate.now → IfOk result (λ row. IsRow F.ops width row.items) }
-    ensures value { (below : List F) → entry F.ops below 0 ≡ F.ops.one → IfOk result (λ row. row_value F.ops below row.items ≡ placed_value F.ops (map (row_value F.ops below) rows.now) places.now below gate.now) }
+    ensures row { (width : ℕ) → 1 ≤ width → AreRows F.ops width rows.now → AreFactorsBelow width places.now gate.now →
+        IfOk result (λ row. IsRow F.ops width row.items) }
+    ensures value { (below : List F) → entry F.ops below 0 ≡ F.ops.one →
+        IfOk result (λ row. row_value F.ops below row.items ≡ placed_value F.ops (map (row_value F.ops below) rows.now) places.now below gate.now) }
     ensures short { IfOk result (λ row. length row.items ≤ gate_weight (map length rows.now) gate.now) }
 {
     match gate {
@@ -127,9 +133,12 @@ fn node_row<F: Field>(
     requires last { AreLast (length depths.now - length made.now) made.now depths.now last.now }
     requires high { level ≤ at last.now 0 }
     requires places { ArePlaces depths.now last.now (level - 1) below.now }
-    ensures row { AreRows F.ops (width_of depths.now last.now (level - 1)) rows.now → IfOk result (λ row. IsRow F.ops (width_of depths.now last.now (level - 1)) row.items) }
-    ensures value { (values wires : List F) → AreValues F.ops (length depths.now - length made.now) made.now values → Stands F.ops depths.now last.now (level - 1) values wires → HaveValues F.ops depths.now last.now level values wires rows.now
-        → IfOk result (λ row. at depths.now (length rows.now) ≤ level → level ≤ at last.now (length rows.now) → row_value F.ops wires row.items ≡ entry F.ops values (length rows.now)) }
+    ensures row { AreRows F.ops (width_of depths.now last.now (level - 1)) rows.now →
+        IfOk result (λ row. IsRow F.ops (width_of depths.now last.now (level - 1)) row.items) }
+    ensures value { (values wires : List F) → AreValues F.ops (length depths.now - length made.now) made.now values →
+        Stands F.ops depths.now last.now (level - 1) values wires → HaveValues F.ops depths.now last.now level values wires rows.now
+        → IfOk result (λ row. at depths.now (length rows.now) ≤ level → level ≤ at last.now (length rows.now) →
+        row_value F.ops wires row.items ≡ entry F.ops values (length rows.now)) }
     ensures short { (weights : List ℕ) → AreWeights (length depths.now - length made.now) made.now weights → AreShort depths.now level weights rows.now
         → IfOk result (λ row. IsShort depths.now level weights (length rows.now) (length row.items)) }
     ensures one { length rows.now ≡ 0 → IfOk result (λ row. row.items ≡ ordered F.ops.one 0 0 ∷ []) }
@@ -166,8 +175,10 @@ pub fn level_rows<F: Field>(
     requires places { ArePlaces depths.now last.now (level - 1) below.now }
     ensures count { IfOk result (λ rows. length rows.items ≡ length depths.now) }
     ensures row { IfOk result (λ rows. AreRows F.ops (width_of depths.now last.now (level - 1)) rows.items) }
-    ensures value { (values wires : List F) → AreValues F.ops (length depths.now - length made.now) made.now values → Stands F.ops depths.now last.now (level - 1) values wires → IfOk result (λ rows. HaveValues F.ops depths.now last.now level values wires rows.items) }
-    ensures short { (weights : List ℕ) → AreWeights (length depths.now - length made.now) made.now weights → IfOk result (λ rows. AreShort depths.now level weights rows.items) }
+    ensures value { (values wires : List F) → AreValues F.ops (length depths.now - length made.now) made.now values →
+        Stands F.ops depths.now last.now (level - 1) values wires → IfOk result (λ rows. HaveValues F.ops depths.now last.now level values wires rows.items) }
+    ensures short { (weights : List ℕ) → AreWeights (length depths.now - length made.now) made.now weights →
+        IfOk result (λ rows. AreShort depths.now level weights rows.items) }
     ensures one { IfOk result (λ rows. StartsWithOne F.ops rows.items) }
 {
     let mut rows = Vec::with_capacity(alloc, depths.len())?;

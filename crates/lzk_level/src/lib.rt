@@ -13,11 +13,14 @@
 //! ```
 //!
 //! [`compile`] builds and finishes the nodes of a source: its circuit has an output for each assert, which is
-//! left minus right on every input.
+//! left minus right on every input. [`compile_v2`] and `finish_v2` make circuits of version 2, in which a node is
+//! asserted where it stands, with no copies up to the outputs.
 #![tactic(auto)]
 
+mod asserting;
 mod builder;
 mod compiler;
+mod compiler_v2;
 mod constants;
 mod fault;
 mod finish;
@@ -32,6 +35,7 @@ mod theorems;
 
 pub use builder::Builder;
 pub use compiler::compile;
+pub use compiler_v2::compile_v2;
 pub use fault::{LevelError, LevelFault};
 pub use node::{Gate, Node, Parts};
 pub use theorems::compile_laws;

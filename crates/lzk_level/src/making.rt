@@ -3,7 +3,8 @@
 ghost use Rattle.std.specs.Prelude.{◌≡◌, ◌+◌, ◌<◌, ◌≤◌, false, None, IfOk};
 ghost use Rattle.lzk_expr.specs.View.{expr_of, part_list, expr_list};
 ghost use Rattle.lzk_level.specs.Nodes.{node_count, IsNode};
-ghost use Rattle.lzk_level.specs.Compilable.{IsWithin, ArePartsWithin, AreFactorsWithin, size_of, parts_size, factors_size, IsOperand, AreOperands, IsNodeOrNone};
+ghost use Rattle.lzk_level.specs.Compilable.{IsWithin, ArePartsWithin, AreFactorsWithin, size_of, parts_size};
+ghost use Rattle.lzk_level.specs.Compilable.{factors_size, IsOperand, AreOperands, IsNodeOrNone};
 ghost use Rattle.lzk_level.specs.Compiling.{scope, is_constant, there, at_let, multiple, scaled, joined, factored, made, made_parts, made_factors};
 
 use crate::builder::Builder;
@@ -190,8 +191,10 @@ fn make_factor<F: Field>(
     requires lets { AreOperands (node_count builder.old) lets.now }
     requires before { IsNodeOrNone (node_count builder.old) before }
     requires room { node_count builder.old + 1 + size_of (expr_of expr.now) ≤ 2147483648 }
-    ensures nodes { IfOk result (λ _. let s = scope F.ops F.element lets.now in builder.new ≡ (factored s builder.old before (expr_of expr.now) (made s builder.old (expr_of expr.now))).nodes) }
-    ensures node { IfOk result (λ node. let s = scope F.ops F.element lets.now in node ≡ (factored s builder.old before (expr_of expr.now) (made s builder.old (expr_of expr.now))).node) }
+    ensures nodes { IfOk result (λ _. let s = scope F.ops F.element lets.now in
+        builder.new ≡ (factored s builder.old before (expr_of expr.now) (made s builder.old (expr_of expr.now))).nodes) }
+    ensures node { IfOk result (λ node. let s = scope F.ops F.element lets.now in
+        node ≡ (factored s builder.old before (expr_of expr.now) (made s builder.old (expr_of expr.now))).node) }
 {
     match constant(lets, expr) {
         Some(_) => Ok(before),

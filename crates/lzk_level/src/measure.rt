@@ -153,19 +153,25 @@ fn check(layers: u32, wires: u32, terms: u64) -> Result<u32, LevelFault>
     Ok(layers)
 }
 
-/// How many layers the outputs need, where they keep the limits.
-pub fn check_limits(depths: &[u32], weights: &[u64], outputs: &[Node]) -> Result<u32, LevelFault>
-    requires few { length depths.now ≤ 2147483649 }
+/// How many layers the outputs need, where they keep the limits with so many further wires in a layer.
+pub fn check_limits(
+    depths: &[u32],
+    weights: &[u64],
+    outputs: &[Node],
+    further: u32,
+) -> Result<u32, LevelFault>
+    requires few { length depths.now + further ≤ 2147614721 }
     requires same { length weights.now ≡ length depths.now }
     requires nodes { (i : ℕ) → i < length outputs.now → at outputs.now i < length depths.now }
     ensures { (all : List ℕ) → weights.now ≡ map (min (2 ^ 64 - 1)) all → (let layers = greatest 1 (map (at depths.now) outputs.now) in
-        let terms = layers * length depths.now + total all + total (map (at all) outputs.now) in
+        let wires = length depths.now + further in
+        let terms = layers * wires + total all + total (map (at all) outputs.now) in
         MatchResult result
-        (λ count. (count ≡ layers) × (limit_fault layers (length depths.now) terms ≡ None))
-        (λ fault. limit_fault layers (length depths.now) terms ≡ Some fault)) }
+        (λ count. (count ≡ layers) × (limit_fault layers wires terms ≡ None))
+        (λ fault. limit_fault layers wires terms ≡ Some fault)) }
 {
     let layers = layers_of(depths, outputs);
-    let wires = depths.len() as u32;
+    let wires = depths.len() as u32 + further;
     let copies = layers as u64 * wires as u64;
     let terms = add_outputs(add_all(copies, weights), weights, outputs);
     check(layers, wires, terms)

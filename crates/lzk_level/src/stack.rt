@@ -27,8 +27,11 @@ pub fn inner_layer<F: Field>(
     requires same { length last.now ≡ length depths.now }
     requires few { length depths.now ≤ 131072 }
     ensures wires { IfOk result (λ layer. layer.wires ≡ width_of depths.now last.now level) }
-    ensures terms { (width : ℕ) → AreRows F.ops width rows.now → IfOk result (λ layer. AreTerms F.ops (width_of depths.now last.now level) width None layer.terms) }
-    ensures values { (below : List F) → AreRows F.ops (length below) rows.now → IfOk result (λ layer. (k : ℕ) → k < length depths.now → has_wire depths.now last.now level k ≡ true → wire F.ops (coef F.ops layer.terms) below (place_in depths.now last.now level k) ≡ row_value F.ops below (row_at rows.now k)) }
+    ensures terms { (width : ℕ) → AreRows F.ops width rows.now →
+        IfOk result (λ layer. AreTerms F.ops (width_of depths.now last.now level) width None layer.terms) }
+    ensures values { (below : List F) → AreRows F.ops (length below) rows.now →
+        IfOk result (λ layer. (k : ℕ) → k < length depths.now → has_wire depths.now last.now level k ≡ true →
+        wire F.ops (coef F.ops layer.terms) below (place_in depths.now last.now level k) ≡ row_value F.ops below (row_at rows.now k)) }
     ensures count { IfOk result (λ layer. length layer.terms ≡ lengths_in depths.now last.now level rows.now (length depths.now)) }
     ensures one { at depths.now 0 ≡ 0 → level < at last.now 0 → StartsWithOne F.ops rows.now → IfOk result (HasOne F.ops) }
 {
@@ -56,7 +59,9 @@ pub fn output_layer<F: Field>(
     requires few { length outputs.now ≤ 131072 }
     ensures wires { IfOk result (λ layer. layer.wires ≡ length outputs.now) }
     ensures terms { (width : ℕ) → AreRows F.ops width rows.now → IfOk result (λ layer. AreTerms F.ops (length outputs.now) width None layer.terms) }
-    ensures values { (below : List F) → AreRows F.ops (length below) rows.now → IfOk result (λ layer. (i : ℕ) → i < length outputs.now → wire F.ops (coef F.ops layer.terms) below i ≡ row_value F.ops below (row_at rows.now (at outputs.now i))) }
+    ensures values { (below : List F) → AreRows F.ops (length below) rows.now →
+        IfOk result (λ layer. (i : ℕ) → i < length outputs.now →
+        wire F.ops (coef F.ops layer.terms) below i ≡ row_value F.ops below (row_at rows.now (at outputs.now i))) }
     ensures count { IfOk result (λ layer. length layer.terms ≡ lengths_of rows.now outputs.now) }
 {
     let mut terms = Vec::new(alloc);

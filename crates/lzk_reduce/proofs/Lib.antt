@@ -2,11 +2,15 @@ pub mod RowLaws
 pub mod AddLaws
 pub mod MergeLaws
 pub mod AppendLaws
+pub mod AttachedLaws
+pub mod AttachedLayers
+pub mod AttachedReduced
 pub mod RenumberLaws
 pub mod InOrderLaws
 pub mod WireLaws
 pub mod MovedLaws
 pub mod MarkLaws
+pub mod TargetLaws
 pub mod ReducedLaws
 pub mod HashLaws
 pub mod KeptLaws
@@ -19,7 +23,9 @@ pub mod UsedLayersLaws
 pub mod PushedLaws
 pub mod PrunedLaws
 pub mod AllUsedLaws
+pub mod FormLaws
 pub mod NormalLaws
 pub mod StackedRows
 pub mod SomeRows
 pub mod EachReduced
+pub mod AssertedForm

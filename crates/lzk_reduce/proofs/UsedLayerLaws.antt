@@ -12,6 +12,7 @@ use Rattle.lzk_reduce.specs.Rows.{Less, row_value, term_value}
 use Rattle.lzk_reduce.specs.Renumbering.{of_wire}
 use Rattle.lzk_reduce.specs.Marks.{is_marked, names, marked_before}
 use Rattle.lzk_reduce.specs.Reduced.{terms_of, IsNamed}
+use Rattle.lzk_reduce.specs.Targets.{is_in}
 use Rattle.lzk_reduce.specs.Used.{named_marks, used_term, used_terms}
 use Rattle.lzk_reduce.proofs.RowLaws.{less-precedes, precedes-less, less-less}
 use Rattle.lzk_reduce.proofs.RenumberLaws.{wire-value}
@@ -40,11 +41,11 @@ module _ {A : Type 0} where
         marked-under o wires width marks below (Some t) ts h.2 (λ k l e. n k l (names-later marks t ts k e)),
       )
 
-  pub named-count : (width : ℕ) (marks : List Bool) (ts : List (Term A)) → length (named_marks width marks ts) ≡ width
-  named-count width marks ts = length-map-range_with_len (λ k. (k == 0) || names marks ts k) 0 width
+  pub named-count : (width : ℕ) (marks : List Bool) (ts : List (Term A)) (ws : List ℕ) → length (named_marks width marks ts ws) ≡ width
+  named-count width marks ts ws = length-map-range_with_len (λ k. ((k == 0) || names marks ts k) || is_in ws k) 0 width
 
-  pub named-is : (width : ℕ) (marks : List Bool) (ts : List (Term A)) (k : ℕ) → k < width → is_marked (named_marks width marks ts) k ≡ ((k == 0) || names marks ts k)
-  named-is width marks ts k l = get_or-map-range_with_len (λ j. (j == 0) || names marks ts j) 0 width k k false l (omega arith)
+  pub named-is : (width : ℕ) (marks : List Bool) (ts : List (Term A)) (ws : List ℕ) (k : ℕ) → k < width → is_marked (named_marks width marks ts ws) k ≡ (((k == 0) || names marks ts k) || is_in ws k)
+  named-is width marks ts ws k l = get_or-map-range_with_len (λ j. ((j == 0) || names marks ts j) || is_in ws j) 0 width k k false l (omega arith)
 
   -- a named wire is named by a term that stays
   pub named-used : (marks below : List Bool) (ts : List (Term A)) (k : ℕ) → names marks ts k ≡ true → IsNamed (used_terms marks below ts) (marked_before below k)

@@ -7,4 +7,7 @@ pub mod Hash
 pub mod Kept
 pub mod Used
 pub mod SomeReduced
+pub mod Targets
+pub mod Asserting
+pub mod Attached
 pub use Rattle.lzk_circuit.specs

@@ -12,7 +12,8 @@ use std::alloc::AllocError;
 
 // Whether a term may stand behind the last one of a row.
 fn is_behind<F: Field>(row: &[Term<F>], term: Term<F>) -> bool
-    ensures { (width : ℕ) → IsRow F.ops width row.now → term.g ≡ 0 → term.a ≤ term.b → term.b < width → result ≡ true → IsRow F.ops width (row.now ++ term ∷ []) }
+    ensures { (width : ℕ) → IsRow F.ops width row.now → term.g ≡ 0 → term.a ≤ term.b → term.b < width → result ≡ true →
+        IsRow F.ops width (row.now ++ term ∷ []) }
 {
     if is_zero(term.coef) {
         return false;

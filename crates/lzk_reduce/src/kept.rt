@@ -132,7 +132,8 @@ fn ends_of<F: Field>(kept: &KeptWires<F>, wire: u32) -> (usize, usize)
 fn terms_of<F: Field>(kept: &KeptWires<F>, wire: u32) -> &[Term<F>]
     requires table { IsTable kept.now }
     requires wire { wire < kept.now.count }
-    ensures { result.now ≡ take (at kept.now.starts.items (wire + 1) - at kept.now.starts.items wire) (drop (at kept.now.starts.items wire) kept.now.terms.items) }
+    ensures { result.now ≡ take (at kept.now.starts.items (wire + 1) - at kept.now.starts.items wire)
+        (drop (at kept.now.starts.items wire) kept.now.terms.items) }
 {
     let (start, end) = ends_of(kept, wire);
     &kept.terms[start..end]
@@ -144,8 +145,10 @@ fn found<F: Field>(kept: &KeptWires<F>, row: &[Term<F>], slot: usize) -> Option<
     requires slot { slot ≡ slot_of (length kept.now.heads.items) (map (place_of F.number_of) row.now) }
     requires within { slot < length kept.now.heads.items }
     ensures below { IfSome result (λ g. g < kept.now.count) }
-    ensures same { (width : ℕ) → IsKept F.ops F.number_of width kept.now → IfSome result (λ g. places_of F.number_of g kept.now.terms.items ≡ map (place_of F.number_of) row.now) }
-    ensures none { (width : ℕ) → IsKept F.ops F.number_of width kept.now → result ≡ None → (g : ℕ) → g < kept.now.count → places_of F.number_of g kept.now.terms.items ≢ map (place_of F.number_of) row.now }
+    ensures same { (width : ℕ) → IsKept F.ops F.number_of width kept.now →
+        IfSome result (λ g. places_of F.number_of g kept.now.terms.items ≡ map (place_of F.number_of) row.now) }
+    ensures none { (width : ℕ) → IsKept F.ops F.number_of width kept.now → result ≡ None → (g : ℕ) → g < kept.now.count →
+        places_of F.number_of g kept.now.terms.items ≢ map (place_of F.number_of) row.now }
 {
     let mut link = kept.heads[slot];
     while let Some(wire) = link {
@@ -170,7 +173,9 @@ fn add_wire<F: Field>(
     ensures wire { IfOk result (λ g. g ≡ kept.old.count) }
     ensures count { IfOk result (λ _. kept.new.count ≡ kept.old.count + 1) }
     ensures table { IfOk result (λ _. IsTable kept.new) }
-    ensures kept { (width : ℕ) → IsKept F.ops F.number_of width kept.old → IsRow F.ops width row.now → ((g : ℕ) → g < kept.old.count → places_of F.number_of g kept.old.terms.items ≢ map (place_of F.number_of) row.now) → IfOk result (λ _. IsKept F.ops F.number_of width kept.new) }
+    ensures kept { (width : ℕ) → IsKept F.ops F.number_of width kept.old → IsRow F.ops width row.now →
+        ((g : ℕ) → g < kept.old.count → places_of F.number_of g kept.old.terms.items ≢ map (place_of F.number_of) row.now) →
+        IfOk result (λ _. IsKept F.ops F.number_of width kept.new) }
     ensures terms { (width : ℕ) → IsKept F.ops F.number_of width kept.old → IfOk result (λ g. of_wire g kept.new.terms.items ≡ map (placed g) row.now) }
     ensures before { (i : ℕ) → i < kept.old.count → IfOk result (λ _. of_wire i kept.new.terms.items ≡ of_wire i kept.old.terms.items) }
     ensures short { IfOk result (λ _. length kept.new.terms.items ≡ length kept.old.terms.items + length row.now) }
@@ -189,10 +194,13 @@ pub fn wire_of<F: Field>(kept: &mut KeptWires<F>, row: &[Term<F>]) -> Result<u32
     requires few { kept.now.count < 131072 }
     requires table { IsTable kept.now }
     ensures table { IfOk result (λ _. IsTable kept.new) }
-    ensures kept { (width : ℕ) → IsKept F.ops F.number_of width kept.old → IsRow F.ops width row.now → IfOk result (λ _. IsKept F.ops F.number_of width kept.new) }
+    ensures kept { (width : ℕ) → IsKept F.ops F.number_of width kept.old → IsRow F.ops width row.now →
+        IfOk result (λ _. IsKept F.ops F.number_of width kept.new) }
     ensures wire { (width : ℕ) → IsKept F.ops F.number_of width kept.old → IsRow F.ops width row.now → IfOk result (λ g. g < kept.new.count) }
-    ensures terms { (width : ℕ) → IsKept F.ops F.number_of width kept.old → IsRow F.ops width row.now → IfOk result (λ g. of_wire g kept.new.terms.items ≡ map (placed g) row.now) }
-    ensures before { (width : ℕ) → IsKept F.ops F.number_of width kept.old → IsRow F.ops width row.now → (i : ℕ) → i < kept.old.count → IfOk result (λ _. of_wire i kept.new.terms.items ≡ of_wire i kept.old.terms.items) }
+    ensures terms { (width : ℕ) → IsKept F.ops F.number_of width kept.old → IsRow F.ops width row.now →
+        IfOk result (λ g. of_wire g kept.new.terms.items ≡ map (placed g) row.now) }
+    ensures before { (width : ℕ) → IsKept F.ops F.number_of width kept.old → IsRow F.ops width row.now → (i : ℕ) → i < kept.old.count →
+        IfOk result (λ _. of_wire i kept.new.terms.items ≡ of_wire i kept.old.terms.items) }
     ensures first { (width : ℕ) → IsKept F.ops F.number_of width kept.old → kept.old.count ≡ 0 → IfOk result (λ g. g ≡ 0) }
     ensures more { IfOk result (λ _. kept.old.count ≤ kept.new.count) }
     ensures count { IfOk result (λ _. kept.new.count ≤ kept.old.count + 1) }

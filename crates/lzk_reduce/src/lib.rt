@@ -12,6 +12,7 @@
 #![tactic(auto)]
 
 mod add;
+mod attach;
 mod in_order;
 mod kept;
 mod marks;
@@ -20,10 +21,13 @@ mod reduce;
 mod renumber;
 mod rows;
 mod share;
+mod targets;
 mod theorems;
 
 pub use add::add_term;
+pub use attach::asserting;
 pub use marks::marked_places;
 pub use reduce::reduced;
 pub use rows::{append, merged, scaled, single};
+pub use targets::Targets;
 pub use theorems::reduce_laws;

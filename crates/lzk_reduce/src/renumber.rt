@@ -21,7 +21,8 @@ fn renumbered<F: Field>(
 ) -> Result<Vec<Term<F>>, AllocError>
     requires terms { AreOver (length numbers.now) terms.now }
     ensures row { (width : ℕ) → AreNumbersBelow width numbers.now → IfOk result (λ row. IsRow F.ops width row.items) }
-    ensures value { (old new : List F) → AreCopies F.ops numbers.now old new → IfOk result (λ row. row_value F.ops new row.items ≡ row_value F.ops old terms.now) }
+    ensures value { (old new : List F) → AreCopies F.ops numbers.now old new →
+        IfOk result (λ row. row_value F.ops new row.items ≡ row_value F.ops old terms.now) }
     ensures short { IfOk result (λ row. length row.items ≤ length terms.now) }
     ensures one { IsOne F.ops terms.now → at numbers.now 0 ≡ 0 → IfOk result (λ row. IsOne F.ops row.items) }
 {
@@ -52,7 +53,8 @@ pub fn renumber<F: Field>(
 ) -> Result<(), AllocError>
     requires terms { AreOver (length numbers.now) terms.now }
     ensures row { (width : ℕ) → AreNumbersBelow width numbers.now → IfOk result (λ _. IsRow F.ops width row.new.items) }
-    ensures value { (old new : List F) → AreCopies F.ops numbers.now old new → IfOk result (λ _. row_value F.ops new row.new.items ≡ row_value F.ops old terms.now) }
+    ensures value { (old new : List F) → AreCopies F.ops numbers.now old new →
+        IfOk result (λ _. row_value F.ops new row.new.items ≡ row_value F.ops old terms.now) }
     ensures short { IfOk result (λ _. length row.new.items ≤ length terms.now) }
     ensures one { IsOne F.ops terms.now → at numbers.now 0 ≡ 0 → IfOk result (λ _. IsOne F.ops row.new.items) }
 {
@@ -91,7 +93,8 @@ pub fn wire_row<F: Field>(
     requires terms { AreTerms F.ops layer.now.wires (length numbers.now) None layer.now.terms }
     ensures end { IfOk result (λ end. end ≡ terms_before (g + 1) layer.now.terms) }
     ensures row { (width : ℕ) → AreNumbersBelow width numbers.now → IfOk result (λ _. IsRow F.ops width row.new.items) }
-    ensures value { (old new : List F) → AreCopies F.ops numbers.now old new → IfOk result (λ _. row_value F.ops new row.new.items ≡ row_value F.ops old (of_wire g layer.now.terms)) }
+    ensures value { (old new : List F) → AreCopies F.ops numbers.now old new →
+        IfOk result (λ _. row_value F.ops new row.new.items ≡ row_value F.ops old (of_wire g layer.now.terms)) }
     ensures short { IfOk result (λ end. start + length row.new.items ≤ end) }
     ensures one { IsOne F.ops (of_wire g layer.now.terms) → at numbers.now 0 ≡ 0 → IfOk result (λ _. IsOne F.ops row.new.items) }
 {

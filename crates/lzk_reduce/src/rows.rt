@@ -41,7 +41,8 @@ pub fn term_of<F: Field>(coef: F, a: u32, b: u32) -> Term<F>
 /// One term, or none where the coefficient is zero.
 pub fn single<F: Field>(alloc: Global, coef: F, a: u32, b: u32) -> Result<Vec<Term<F>>, AllocError>
     ensures row { (width : ℕ) → a < width → b < width → IfOk result (λ row. IsRow F.ops width row.items) }
-    ensures value { (below : List F) → IfOk result (λ row. row_value F.ops below row.items ≡ F.ops.times coef (F.ops.times (entry F.ops below a) (entry F.ops below b))) }
+    ensures value { (below : List F) → IfOk result (λ row. row_value F.ops below row.items ≡
+        F.ops.times coef (F.ops.times (entry F.ops below a) (entry F.ops below b))) }
     ensures short { IfOk result (λ row. length row.items ≤ 1) }
     ensures exact { coef ≢ F.ops.zero → IfOk result (λ row. row.items ≡ ordered coef a b ∷ []) }
 {
@@ -107,7 +108,8 @@ pub fn merged<F: Field>(
     right: &[Term<F>],
 ) -> Result<Vec<Term<F>>, AllocError>
     ensures row { (width : ℕ) → IsRow F.ops width left.now → IsRow F.ops width right.now → IfOk result (λ sum. IsRow F.ops width sum.items) }
-    ensures value { (below : List F) → IfOk result (λ sum. row_value F.ops below sum.items ≡ F.ops.plus (row_value F.ops below left.now) (row_value F.ops below right.now)) }
+    ensures value { (below : List F) → IfOk result (λ sum. row_value F.ops below sum.items ≡
+        F.ops.plus (row_value F.ops below left.now) (row_value F.ops below right.now)) }
     ensures short { IfOk result (λ sum. length sum.items ≤ length left.now + length right.now) }
 {
     let mut sum = Vec::with_capacity(alloc, left.len().saturating_add(right.len()))?;
@@ -124,9 +126,12 @@ pub fn merged<F: Field>(
 
 /// Appends a row as the terms of wire `g`, which is the next one.
 pub fn append<F: Field>(terms: &mut Vec<Term<F>>, g: u32, row: &[Term<F>]) -> Result<(), AllocError>
-    ensures terms { (width : ℕ) → AreTerms F.ops g width None terms.old.items → IsRow F.ops width row.now → IfOk result (λ _. AreTerms F.ops (g + 1) width None terms.new.items) }
-    ensures before { (below : List F) (i : ℕ) → i < g → IfOk result (λ _. wire F.ops (coef F.ops terms.new.items) below i ≡ wire F.ops (coef F.ops terms.old.items) below i) }
-    ensures added { (below : List F) → AreTerms F.ops g (length below) None terms.old.items → IsRow F.ops (length below) row.now → IfOk result (λ _. wire F.ops (coef F.ops terms.new.items) below g ≡ row_value F.ops below row.now) }
+    ensures terms { (width : ℕ) → AreTerms F.ops g width None terms.old.items → IsRow F.ops width row.now →
+        IfOk result (λ _. AreTerms F.ops (g + 1) width None terms.new.items) }
+    ensures before { (below : List F) (i : ℕ) → i < g → IfOk result (λ _. wire F.ops (coef F.ops terms.new.items) below i ≡
+        wire F.ops (coef F.ops terms.old.items) below i) }
+    ensures added { (below : List F) → AreTerms F.ops g (length below) None terms.old.items → IsRow F.ops (length below) row.now →
+        IfOk result (λ _. wire F.ops (coef F.ops terms.new.items) below g ≡ row_value F.ops below row.now) }
     ensures count { IfOk result (λ _. length terms.new.items ≡ length terms.old.items + length row.now) }
     ensures exact { IfOk result (λ _. terms.new.items ≡ terms.old.items ++ map (placed g) row.now) }
 {

@@ -4,10 +4,13 @@ ghost use Rattle.std.specs.Prelude.{◌≡◌, ℕ, ◌<◌, ◌≤◌, None, Li
 ghost use Rattle.lzk_circuit.specs.Valid.{AreTerms, AreLayers};
 ghost use Rattle.lzk_circuit.specs.Wires.{layer_values};
 ghost use Rattle.lzk_reduce.specs.Renumbering.{at, AreNumbersBelow, AreCopies};
-ghost use Rattle.lzk_reduce.specs.Reduced.{HasOne, HaveOnes, AreDifferent, AreInnerDifferent, AreSameOutputs, output_count};
+ghost use Rattle.lzk_reduce.specs.Reduced.{HasOne, HaveOnes, AreDifferent, AreInnerDifferent};
+ghost use Rattle.lzk_reduce.specs.Targets.{AreTargets};
+ghost use Rattle.lzk_reduce.specs.Asserting.{IsForm};
 
 use crate::kept::{none_kept, wire_of};
 use crate::renumber::{moved_layer, wire_row};
+use crate::targets::{Targets, moved_targets};
 use lzk_circuit::{Layer, Terms};
 use lzk_field::Field;
 use std::alloc::{AllocError, Global};
@@ -62,31 +65,34 @@ fn numbers_below(alloc: Global, count: u32) -> Result<Vec<u32>, AllocError>
     Ok(numbers)
 }
 
-/// The same layers, with no two wires of an inner layer that have the same terms. The first of equal wires
-/// stands for all; the outputs stay.
+/// The same layers, with no two wires of an inner layer that have the same terms, and what they assert. The
+/// first of equal wires stands for all; the outputs stay.
 pub fn shared<F: Field>(
     alloc: Global,
     inputs: u32,
     layers: &[Layer<F>],
-) -> Result<Vec<Layer<F>>, AllocError>
+    targets: &[Targets],
+) -> Result<(Vec<Layer<F>>, Vec<Targets>), AllocError>
     requires some { 1 ≤ length layers.now }
     requires layers { AreLayers F.ops inputs layers.now }
     requires ones { HaveOnes F.ops layers.now }
-    ensures count { IfOk result (λ kept. length kept.items ≡ length layers.now) }
-    ensures layers { IfOk result (λ kept. AreLayers F.ops inputs kept.items) }
-    ensures outputs { IfOk result (λ kept. output_count kept.items ≡ output_count layers.now) }
-    ensures values { IfOk result (λ kept. AreSameOutputs F.ops inputs kept.items layers.now) }
-    ensures ones { IfOk result (λ kept. HaveOnes F.ops kept.items) }
-    ensures different { IfOk result (λ kept. AreInnerDifferent kept.items) }
+    requires targets { AreTargets inputs targets.now layers.now }
+    ensures form { IfOk result (λ kept. IsForm F.ops inputs targets.now layers.now kept.1.items kept.0.items) }
+    ensures ones { IfOk result (λ kept. HaveOnes F.ops kept.0.items) }
+    ensures different { IfOk result (λ kept. AreInnerDifferent kept.0.items) }
 {
     let mut numbers = numbers_below(alloc, inputs)?;
     let mut kept = Vec::new(alloc);
+    let mut moved = Vec::new(alloc);
     for l in (1..layers.len()).rev() {
+        moved.push(moved_targets(alloc, targets, l, &numbers)?)?;
         let (layer, next) = shared_layer(alloc, &layers[l], &numbers)?;
         kept.push(layer)?;
         numbers = next;
     }
+    moved.push(moved_targets(alloc, targets, 0, &numbers)?)?;
     kept.push(moved_layer(alloc, &layers[0], &numbers)?)?;
     kept.reverse();
-    Ok(kept)
+    moved.reverse();
+    Ok((kept, moved))
 }

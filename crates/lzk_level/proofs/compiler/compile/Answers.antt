@@ -2,8 +2,9 @@ use Rattle.std.proofs.Common.{sym, subst}
 use Rattle.lzk_goldilocks.specs.Elements as gold
 use Rattle.lzk_gf128.specs.Elements as gf
 use Rattle.lzk_expr.specs.View.{statements_of, tree_of}
+use Rattle.lzk_level.specs.Bounds.{IsFaultOf}
 use Rattle.lzk_level.specs.Compiling.{nodes_of}
-use Rattle.lzk_level.specs.Compiled.{IsCompilable, IsFaultOf, limit_passed, limit_in, source_limit}
+use Rattle.lzk_level.specs.Compiled.{IsCompilable, limit_passed, limit_in, source_limit}
 use Rattle.lzk_level.proofs.CompiledLaws.{handed_on}
 use Rattle.lzk_level.proofs.FormedLaws.{compilable}
 use Rattle.lzk_level.proofs.compiler.compile.Goals as goal

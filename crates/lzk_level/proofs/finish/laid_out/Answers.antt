@@ -5,6 +5,7 @@ use Rattle.lzk_circuit.specs.Wires.{inputs_of, wires_of}
 use Rattle.lzk_level.specs.Nodes.{nodes_from, node_values}
 use Rattle.lzk_reduce.specs.Renumbering.{at}
 use Rattle.lzk_level.specs.Bounds.{node_depths, node_weights, layer_count, wire_bound, term_bound, total}
+use Rattle.lzk_level.proofs.AfterLaws.{no-further}
 use Rattle.lzk_level.proofs.FinishLaws.{ready, ready-weights, ready-values, ready-inputs, within-limits, greatest-some, greatest-each, depths-long, inputs-long}
 use Rattle.lzk_level.proofs.finish.laid_out.Goals as goal
 
@@ -21,7 +22,7 @@ stacked-requires-clause-few g c =
     let depths = c.deref.result.now in
     let n = nodes_from p q made in
     let is : depths ≡ node_depths n = c.deref.ensures.value ∙ c.in_ok-depths.ensures.depths in
-    let w = within-limits (layer_count n c.args.outputs.now) (wire_bound n) (term_bound n c.args.outputs.now) c.in_ok-depths.ensures.within in
+    let w = within-limits (layer_count n c.args.outputs.now) (wire_bound n) (term_bound n c.args.outputs.now) (sym (no-further n c.args.outputs.now) ∙ c.in_ok-depths.ensures.within) in
     omega (arith, ap length is, depths-long p q made, w.wires_most)
 
 pub stacked-requires-clause-inputs : goal.stacked-requires-clause-inputs
@@ -93,7 +94,7 @@ reduced-requires-clause-layers g c κs within =
     let is : depths ≡ node_depths n = c.deref.ensures.value ∙ c.in_ok-depths.ensures.depths in
     let r = ready p q made depths is c.requires.gates in
     let outputs = c.args.outputs.now in
-    let w = within-limits (layer_count n outputs) (wire_bound n) (term_bound n outputs) c.in_ok-depths.ensures.within in
+    let w = within-limits (layer_count n outputs) (wire_bound n) (term_bound n outputs) (sym (no-further n c.args.outputs.now) ∙ c.in_ok-depths.ensures.within) in
     let o = g.F.Field.ops in
     let inputs = length depths - length made in
     let weights = ready-weights p q made inputs r.inputs_are c.requires.gates in
@@ -113,7 +114,7 @@ pub circuit_of-requires-clause-most : goal.circuit_of-requires-clause-most
 circuit_of-requires-clause-most g c κs within =
     let n = nodes_from c.args.publics c.args.privates c.args.made.now in
     let outputs = c.args.outputs.now in
-    let w = within-limits (layer_count n outputs) (wire_bound n) (term_bound n outputs) c.in_ok-depths.ensures.within in
+    let w = within-limits (layer_count n outputs) (wire_bound n) (term_bound n outputs) (sym (no-further n c.args.outputs.now) ∙ c.in_ok-depths.ensures.within) in
     omega (arith, c.in_ok-layers-2.ensures.count, ap length c.deref-2.ensures.value, ap length c.reverse.ensures.items, length-reverse c.in_ok-layers.layers.items, c.in_ok-layers.ensures.count, c.in_ok-depths.ensures.count, w.layers_most)
 
 pub returns-clause-outputs : goal.returns-clause-outputs
@@ -132,3 +133,8 @@ returns-clause-outputs g c public private hp hq =
     let ins = inputs_of o public private in
     let layers : c.deref-2.result.now ≡ reverse c.in_ok-layers.layers.items = c.deref-2.ensures.value ∙ c.reverse.ensures.items in
     ap (λ w. wires_of o w.layers ins) c.circuit_of.ensures ∙ c.in_ok-layers-2.ensures.values ins (inputs-long o p q public private hp hq) ∙ ap (λ ls. wires_of o ls ins) layers ∙ c.in_ok-layers.ensures.values (node_values o n public private) ins values stand
+
+pub returns-clause-within : goal.returns-clause-within
+returns-clause-within g c =
+    let n = nodes_from c.args.publics c.args.privates c.args.made.now in
+    sym (no-further n c.args.outputs.now) ∙ c.in_ok-depths.ensures.within

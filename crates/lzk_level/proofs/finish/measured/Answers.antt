@@ -10,7 +10,7 @@ check_limits-requires-clause-few g c =
     let inputs = c.args.publics + c.args.privates in
     let start : List ℕ = replicate (1 + inputs) 0 in
     let long : length c.deref.result.now ≡ 1 + inputs + length c.args.made.now = ap length (c.deref.ensures.value ∙ c.in_ok-depths.ensures) ∙ after-length gate_depth start c.args.made.now ∙ ap (λ n. n + length c.args.made.now) (length-replicate (1 + inputs) 0) in
-    omega (arith, long, c.requires.few)
+    omega (arith, long, c.requires.few, c.requires.further)
 
 pub check_limits-requires-clause-same : goal.check_limits-requires-clause-same
 check_limits-requires-clause-same g c =
@@ -39,7 +39,7 @@ returns-in-Ok-clause-within g c =
     let depths : c.deref.result.now ≡ node_depths n = c.deref.ensures.value ∙ c.in_ok-depths.ensures in
     let weights : c.deref-2.result.now ≡ map (min (2 ^ 64 - 1)) (node_weights n) = c.deref-2.ensures.value ∙ c.in_ok-weights.ensures in
     let long : length (node_depths n) ≡ wire_bound n = after-length gate_depth start made ∙ ap (λ k. k + length made) (length-replicate (1 + (c.args.publics + c.args.privates)) 0) ∙ omega arith in
-    limits-of n outputs c.deref.result.now (node_weights n) None depths long (c.in-Ok.ensures (node_weights n) weights).1
+    limits-of c.args.further n outputs c.deref.result.now (node_weights n) None depths long (c.in-Ok.ensures (node_weights n) weights).1
 
 pub returns-in-Err-clause-fault : goal.returns-in-Err-clause-fault
 returns-in-Err-clause-fault g c =
@@ -50,4 +50,4 @@ returns-in-Err-clause-fault g c =
     let depths : c.deref.result.now ≡ node_depths n = c.deref.ensures.value ∙ c.in_ok-depths.ensures in
     let weights : c.deref-2.result.now ≡ map (min (2 ^ 64 - 1)) (node_weights n) = c.deref-2.ensures.value ∙ c.in_ok-weights.ensures in
     let long : length (node_depths n) ≡ wire_bound n = after-length gate_depth start made ∙ ap (λ k. k + length made) (length-replicate (1 + (c.args.publics + c.args.privates)) 0) ∙ omega arith in
-    limits-of n outputs c.deref.result.now (node_weights n) (Some c.in-Err.fault) depths long (c.in-Err.ensures (node_weights n) weights)
+    limits-of c.args.further n outputs c.deref.result.now (node_weights n) (Some c.in-Err.fault) depths long (c.in-Err.ensures (node_weights n) weights)

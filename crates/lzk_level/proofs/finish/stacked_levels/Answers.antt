@@ -54,7 +54,7 @@ returns-clause-valid g c =
     let same : c.in_ok-rows-2.rows.items ≡ rows = sym c.deref-3.ensures.value in
     let e = c.in_ok-rows-2.ensures in
     let f = c.in_ok-output_layer.ensures in
-    let all : Topped o inputs made depths count outputs c.push-2.new.self.items =
+    let all : Topped o inputs made depths last count outputs c.push-2.new.self.items =
     tower-ends o inputs made depths last count c.loop-level.layers.items c.push-2.new.self.items c.in_ok-output_layer.field-0 rows outputs c.requires.some (omega (arith, c.requires.inputs)) c.requires.gates c.requires.depths
     c.in_ok-push-2.ensures.items (ap length (sym same) ∙ e.count) (subst (AreRows o (width_of depths last (count - 1))) same e.row) f.wires c.requires.outputs
     (λ values wires v s. subst (HaveValues o depths last count values wires) same (e.value values wires v s)) (λ weights w. subst (AreShort depths count weights) same (e.short weights w))
@@ -76,7 +76,7 @@ returns-clause-values g c =
     let same : c.in_ok-rows-2.rows.items ≡ rows = sym c.deref-3.ensures.value in
     let e = c.in_ok-rows-2.ensures in
     let f = c.in_ok-output_layer.ensures in
-    let all : Topped o inputs made depths count outputs c.push-2.new.self.items =
+    let all : Topped o inputs made depths last count outputs c.push-2.new.self.items =
     tower-ends o inputs made depths last count c.loop-level.layers.items c.push-2.new.self.items c.in_ok-output_layer.field-0 rows outputs c.requires.some (omega (arith, c.requires.inputs)) c.requires.gates c.requires.depths
     c.in_ok-push-2.ensures.items (ap length (sym same) ∙ e.count) (subst (AreRows o (width_of depths last (count - 1))) same e.row) f.wires c.requires.outputs
     (λ values wires v s. subst (HaveValues o depths last count values wires) same (e.value values wires v s)) (λ weights w. subst (AreShort depths count weights) same (e.short weights w))
@@ -98,9 +98,97 @@ returns-clause-ones g c =
     let same : c.in_ok-rows-2.rows.items ≡ rows = sym c.deref-3.ensures.value in
     let e = c.in_ok-rows-2.ensures in
     let f = c.in_ok-output_layer.ensures in
-    let all : Topped o inputs made depths count outputs c.push-2.new.self.items =
+    let all : Topped o inputs made depths last count outputs c.push-2.new.self.items =
     tower-ends o inputs made depths last count c.loop-level.layers.items c.push-2.new.self.items c.in_ok-output_layer.field-0 rows outputs c.requires.some (omega (arith, c.requires.inputs)) c.requires.gates c.requires.depths
     c.in_ok-push-2.ensures.items (ap length (sym same) ∙ e.count) (subst (AreRows o (width_of depths last (count - 1))) same e.row) f.wires c.requires.outputs
     (λ values wires v s. subst (HaveValues o depths last count values wires) same (e.value values wires v s)) (λ weights w. subst (AreShort depths count weights) same (e.short weights w))
     f.terms f.values f.count c.requires.nodes c.requires.deep c.requires.needed under in
     all.ones
+
+pub returns-clause-widths : goal.returns-clause-widths
+returns-clause-widths g c =
+    let o = g.F.Field.ops in
+    let depths = c.args.depths.now in
+    let last = c.args.last.now in
+    let made = c.args.made.now in
+    let outputs = c.args.outputs.now in
+    let count = c.args.count in
+    let inputs = length depths - length made in
+    let top : c.loop-level.level ≡ count = omega (arith, c.loop-level-test.false, c.loop-level.auto.level-end c.requires.some) in
+    let under : Tower o inputs made depths last (count - 1) c.loop-level.layers.items = subst (λ n. Tower o inputs made depths last (n - 1) c.loop-level.layers.items) top c.loop-level.invariant.2 in
+    let rows = c.deref-3.result.now in
+    let same : c.in_ok-rows-2.rows.items ≡ rows = sym c.deref-3.ensures.value in
+    let e = c.in_ok-rows-2.ensures in
+    let f = c.in_ok-output_layer.ensures in
+    let all : Topped o inputs made depths last count outputs c.push-2.new.self.items =
+    tower-ends o inputs made depths last count c.loop-level.layers.items c.push-2.new.self.items c.in_ok-output_layer.field-0 rows outputs c.requires.some (omega (arith, c.requires.inputs)) c.requires.gates c.requires.depths
+    c.in_ok-push-2.ensures.items (ap length (sym same) ∙ e.count) (subst (AreRows o (width_of depths last (count - 1))) same e.row) f.wires c.requires.outputs
+    (λ values wires v s. subst (HaveValues o depths last count values wires) same (e.value values wires v s)) (λ weights w. subst (AreShort depths count weights) same (e.short weights w))
+    f.terms f.values f.count c.requires.nodes c.requires.deep c.requires.needed under in
+    all.widths
+
+pub returns-clause-terms : goal.returns-clause-terms
+returns-clause-terms g c =
+    let o = g.F.Field.ops in
+    let depths = c.args.depths.now in
+    let last = c.args.last.now in
+    let made = c.args.made.now in
+    let outputs = c.args.outputs.now in
+    let count = c.args.count in
+    let inputs = length depths - length made in
+    let top : c.loop-level.level ≡ count = omega (arith, c.loop-level-test.false, c.loop-level.auto.level-end c.requires.some) in
+    let under : Tower o inputs made depths last (count - 1) c.loop-level.layers.items = subst (λ n. Tower o inputs made depths last (n - 1) c.loop-level.layers.items) top c.loop-level.invariant.2 in
+    let rows = c.deref-3.result.now in
+    let same : c.in_ok-rows-2.rows.items ≡ rows = sym c.deref-3.ensures.value in
+    let e = c.in_ok-rows-2.ensures in
+    let f = c.in_ok-output_layer.ensures in
+    let all : Topped o inputs made depths last count outputs c.push-2.new.self.items =
+    tower-ends o inputs made depths last count c.loop-level.layers.items c.push-2.new.self.items c.in_ok-output_layer.field-0 rows outputs c.requires.some (omega (arith, c.requires.inputs)) c.requires.gates c.requires.depths
+    c.in_ok-push-2.ensures.items (ap length (sym same) ∙ e.count) (subst (AreRows o (width_of depths last (count - 1))) same e.row) f.wires c.requires.outputs
+    (λ values wires v s. subst (HaveValues o depths last count values wires) same (e.value values wires v s)) (λ weights w. subst (AreShort depths count weights) same (e.short weights w))
+    f.terms f.values f.count c.requires.nodes c.requires.deep c.requires.needed under in
+    all.terms
+
+pub returns-clause-few : goal.returns-clause-few
+returns-clause-few g c =
+    let o = g.F.Field.ops in
+    let depths = c.args.depths.now in
+    let last = c.args.last.now in
+    let made = c.args.made.now in
+    let outputs = c.args.outputs.now in
+    let count = c.args.count in
+    let inputs = length depths - length made in
+    let top : c.loop-level.level ≡ count = omega (arith, c.loop-level-test.false, c.loop-level.auto.level-end c.requires.some) in
+    let under : Tower o inputs made depths last (count - 1) c.loop-level.layers.items = subst (λ n. Tower o inputs made depths last (n - 1) c.loop-level.layers.items) top c.loop-level.invariant.2 in
+    let rows = c.deref-3.result.now in
+    let same : c.in_ok-rows-2.rows.items ≡ rows = sym c.deref-3.ensures.value in
+    let e = c.in_ok-rows-2.ensures in
+    let f = c.in_ok-output_layer.ensures in
+    let all : Topped o inputs made depths last count outputs c.push-2.new.self.items =
+    tower-ends o inputs made depths last count c.loop-level.layers.items c.push-2.new.self.items c.in_ok-output_layer.field-0 rows outputs c.requires.some (omega (arith, c.requires.inputs)) c.requires.gates c.requires.depths
+    c.in_ok-push-2.ensures.items (ap length (sym same) ∙ e.count) (subst (AreRows o (width_of depths last (count - 1))) same e.row) f.wires c.requires.outputs
+    (λ values wires v s. subst (HaveValues o depths last count values wires) same (e.value values wires v s)) (λ weights w. subst (AreShort depths count weights) same (e.short weights w))
+    f.terms f.values f.count c.requires.nodes c.requires.deep c.requires.needed under in
+    all.few_terms
+
+pub returns-clause-stand : goal.returns-clause-stand
+returns-clause-stand g c =
+    let o = g.F.Field.ops in
+    let depths = c.args.depths.now in
+    let last = c.args.last.now in
+    let made = c.args.made.now in
+    let outputs = c.args.outputs.now in
+    let count = c.args.count in
+    let inputs = length depths - length made in
+    let top : c.loop-level.level ≡ count = omega (arith, c.loop-level-test.false, c.loop-level.auto.level-end c.requires.some) in
+    let under : Tower o inputs made depths last (count - 1) c.loop-level.layers.items = subst (λ n. Tower o inputs made depths last (n - 1) c.loop-level.layers.items) top c.loop-level.invariant.2 in
+    let rows = c.deref-3.result.now in
+    let same : c.in_ok-rows-2.rows.items ≡ rows = sym c.deref-3.ensures.value in
+    let e = c.in_ok-rows-2.ensures in
+    let f = c.in_ok-output_layer.ensures in
+    let all : Topped o inputs made depths last count outputs c.push-2.new.self.items =
+    tower-ends o inputs made depths last count c.loop-level.layers.items c.push-2.new.self.items c.in_ok-output_layer.field-0 rows outputs c.requires.some (omega (arith, c.requires.inputs)) c.requires.gates c.requires.depths
+    c.in_ok-push-2.ensures.items (ap length (sym same) ∙ e.count) (subst (AreRows o (width_of depths last (count - 1))) same e.row) f.wires c.requires.outputs
+    (λ values wires v s. subst (HaveValues o depths last count values wires) same (e.value values wires v s)) (λ weights w. subst (AreShort depths count weights) same (e.short weights w))
+    f.terms f.values f.count c.requires.nodes c.requires.deep c.requires.needed under in
+    all.stand

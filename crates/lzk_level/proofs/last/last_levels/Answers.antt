@@ -1,47 +1,15 @@
-use Rattle.std.proofs.Common.{◌≡◌, subst, ◌+◌, ◌-◌, length, arith}
+use Rattle.std.proofs.Common.{arith}
 use Rattle.lzk_reduce.specs.Renumbering.{at}
-use Rattle.lzk_level.proofs.LastLaws.{AreServed, none-served, serves-next, gate-before, all-served}
 use Rattle.lzk_level.proofs.last.last_levels.Goals as goal
-
-pub loop-j-init : goal.loop-j-init
-loop-j-init g c =
-    let e = c.in_ok-last.ensures in
-    let inputs = length c.args.depths.now - length c.args.made.now in
-    (e.nodes, e.each, e.one, e.outputs, none-served inputs c.args.made.now c.args.depths.now c.in_ok-last.last.items (length c.args.made.now - 0) (omega arith))
-
-pub need_of-requires-clause-gate : goal.need_of-requires-clause-gate
-need_of-requires-clause-gate g c =
-    let made = c.args.made.now in
-    gate-before (length c.args.depths.now - length made) made (length made - 1 - c.loop-j.j) c.index-made-i.result (omega (arith, c.requires.inputs)) (omega (arith, c.loop-j-test.true)) c.index-made-i.is c.requires.gates
-
-pub loop-j-preserved : goal.loop-j-preserved
-loop-j-preserved g c =
-    let depths = c.args.depths.now in
-    let made = c.args.made.now in
-    let outputs = c.args.outputs.now in
-    let inputs = length depths - length made in
-    let i = length made - 1 - c.loop-j.j in
-    let gate = c.index-made-i.result in
-    let old = c.loop-j.last.items in
-    let new = c.need_of.new.last.items in
-    let e = c.need_of.ensures in
-    let v = c.loop-j.invariant in
-    let before : length made - c.loop-j.j ≡ i + 1 = omega (arith, c.loop-j-test.true) in
-    let next : i ≡ length made - (c.loop-j.j + 1) = omega arith in (
-      omega (arith, e.count, v.0),
-      λ k l. omega (arith, v.1 k l, e.grown k),
-      omega (arith, v.2, e.grown 0),
-      λ n l. omega (arith, v.3 n l, e.grown (at outputs n)),
-      subst (AreServed inputs made depths new) next (serves-next inputs made depths old new i gate (omega (arith, c.loop-j-test.true)) c.index-made-i.is e.grown e.others e.needed (subst (AreServed inputs made depths old) before v.4)),
-    )
 
 pub returns-clause-last : goal.returns-clause-last
 returns-clause-last g c =
-    let depths = c.args.depths.now in
-    let made = c.args.made.now in
-    let v = c.loop-j.invariant in
-    record {
-      count = v.0;
-      at_inputs = λ k l. v.1 k (omega (arith, l));
-      gates = all-served (length depths - length made) made depths c.loop-j.last.items (length made - c.loop-j.j) (omega (arith, c.loop-j-test.false)) v.4;
-    }
+    let e = c.in_ok-last.ensures in
+    let v = c.need_all.ensures in
+    record { count = v.count; at_inputs = λ k l. omega (arith, e.each k (omega (arith, l)), v.grown k); gates = v.served }
+
+pub returns-clause-one : goal.returns-clause-one
+returns-clause-one g c = omega (arith, c.in_ok-last.ensures.one, c.need_all.ensures.grown 0)
+
+pub returns-clause-outputs : goal.returns-clause-outputs
+returns-clause-outputs g c i l = omega (arith, c.in_ok-last.ensures.outputs i l, c.need_all.ensures.grown (at c.args.outputs.now i))

@@ -8,7 +8,7 @@ use Rattle.lzk_level.proofs.measure.check_limits.Goals as goal
 pub returns : goal.returns
 returns c all e =
     let layers = c.layers_of-layers.result in
-    let wires = length c.args.depths.now in
+    let wires = length c.args.depths.now + c.args.further in
     let outputs = c.args.outputs.now in
     let most = greatest 1 (map (at c.args.depths.now) outputs) in
     let terms = most * wires + total all + total (map (at all) outputs) in

@@ -1,4 +1,4 @@
-use Rattle.std.proofs.Common.{◌≡◌, ℕ, ◌<◌, ◌==◌, ◌||◌, true, length}
+use Rattle.std.proofs.Common.{◌≡◌, ℕ, ◌<◌, ◌==◌, ◌||◌, true, [], length}
 use Rattle.lzk_reduce.specs.Marks.{is_marked, names}
 use Rattle.lzk_reduce.specs.Used.{marks_of_under}
 use Rattle.lzk_reduce.proofs.PushedLaws.{if-two, marks-first, marks-last}
@@ -10,7 +10,7 @@ returns-in_default g c =
     let ts = c.args.terms.now in
     let marks = c.args.marks.now in
     let layers = c.args.layers.now in
-    if-two (λ below. length below.items ≡ n) (λ below. (k : ℕ) → k < n → is_marked below.items k ≡ true) (λ below. below.items ≡ marks_of_under n marks ts layers)
+    if-two (λ below. length below.items ≡ n) (λ below. (k : ℕ) → k < n → is_marked below.items k ≡ true) (λ below. below.items ≡ marks_of_under n marks ts [] layers)
     (λ below e is. marks-last n marks ts layers below.items c.in_default.ensures.value e is) c.all_marked.result c.all_marked.ensures.count c.all_marked.ensures.marks
 
 pub returns : goal.returns
@@ -19,5 +19,5 @@ returns g c =
     let ts = c.args.terms.now in
     let marks = c.args.marks.now in
     let layers = c.args.layers.now in
-    if-two (λ below. length below.items ≡ n) (λ below. (k : ℕ) → k < n → is_marked below.items k ≡ ((k == 0) || names marks ts k)) (λ below. below.items ≡ marks_of_under c.args.inputs marks ts layers)
+    if-two (λ below. length below.items ≡ n) (λ below. (k : ℕ) → k < n → is_marked below.items k ≡ ((k == 0) || names marks ts k)) (λ below. below.items ≡ marks_of_under c.args.inputs marks ts [] layers)
     (λ below e is. marks-first c.args.inputs marks ts layers c.in-Some.layer.now below.items c.in-Some.ensures.value e is) c.marks_below.result c.marks_below.ensures.count c.marks_below.ensures.marks

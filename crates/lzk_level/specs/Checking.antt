@@ -1,0 +1,70 @@
+-- The checks of asserted nodes, in a circuit of version 2.
+use Rattle.std.specs.Prelude.{◌≡◌, ℕ, ◌+◌, ◌-◌, ◌*◌, ◌<◌, ◌≤◌, ◌==◌, nat_lt, List, [], ◌∷◌, ◌++◌, length, map, take, count_by}
+use Rattle.std.proofs.Common.{zero, suc}
+use Rattle.std.specs.List.{filter}
+use Rattle.lzk_field.specs.Ring.{Ops}
+use Rattle.lzk_field.specs.Sums.{entry}
+use Rattle.lzk_circuit.specs.declared.layer.Layer.{Layer}
+use Rattle.lzk_circuit.specs.Checks.{checks_of, check_count}
+use Rattle.lzk_circuit.specs.Valid.{Wiring, AreLayersOf}
+use Rattle.lzk_circuit.specs.Wires.{inputs_of}
+use Rattle.lzk_reduce.specs.Attached.{IsReducedAsserting}
+use Rattle.lzk_reduce.specs.Renumbering.{at}
+use Rattle.lzk_level.specs.Bounds.{node_depths, total, greatest}
+use Rattle.lzk_level.specs.Levels.{place_in, AreDepths, AreWeights, AreValues, Begins}
+use Rattle.lzk_level.specs.Nodes.{Nodes, AreGates, node_values}
+use Rattle.lzk_level.specs.declared.node.Gate.{Gate}
+
+-- The place of the k-th of nodes with these depths, when they stand by depth from the largest, those of one depth in their order: so many are deeper,
+-- and so many are as deep and stand before it.
+abbrev pub check_of : List ℕ → ℕ → ℕ
+check_of ds k = count_by (nat_lt (at ds k)) ds + count_by (λ d. d == at ds k) (take k ds)
+
+-- on every input, each asserted node's check is its value
+abbrev pub HasChecks : {A : Type 0} → Ops A → (A → ℕ) → Nodes A → List ℕ → Wiring A → Type 0
+HasChecks o number n asserts c =
+    (public private : List _) → length public ≡ n.publics → length private ≡ n.privates → (k : ℕ) → k < length asserts
+    → entry o (checks_of o number c.layers (inputs_of o public private)) (check_of (map (at (node_depths n)) asserts) k) ≡ entry o (node_values o n public private) (at asserts k)
+
+-- the nodes with a depth, in their order
+abbrev pub of_depth : List ℕ → ℕ → List ℕ → List ℕ
+of_depth depths depth nodes = filter (λ k. at depths k == depth) nodes
+
+-- the wires of a level that are those of the asserted nodes of its depth
+abbrev pub level_targets : List ℕ → List ℕ → ℕ → List ℕ → List ℕ
+level_targets depths last level asserts = map (place_in depths last level) (of_depth depths level asserts)
+
+-- those of so many levels, the uppermost first
+abbrev pub targets_below : List ℕ → List ℕ → List ℕ → ℕ → List (List ℕ)
+targets_below depths last asserts zero = []
+targets_below depths last asserts (suc level) = level_targets depths last level asserts ∷ targets_below depths last asserts level
+
+-- the nodes of depths below one, the deepest first
+abbrev pub by_depth : List ℕ → List ℕ → ℕ → List ℕ
+by_depth depths nodes zero = []
+by_depth depths nodes (suc depth) = of_depth depths depth nodes ++ by_depth depths nodes depth
+
+-- the layers of a circuit of version 2 keep the limit on terms
+pub record KeepLimits {A : Type 0} (inputs : ℕ) (made : List (Gate A)) (depths asserts : List ℕ) (count : ℕ) : Type 0 where
+  pub weights : List ℕ
+  pub are : AreWeights inputs made weights
+  pub most : count * (length depths + length asserts) + total weights + total (map (at weights) asserts) ≤ 2097152
+
+-- asserted nodes over these gates, the layers that they need, and that they keep the limits
+pub record AreAsserts {A : Type 0} (inputs : ℕ) (made : List (Gate A)) (depths asserts : List ℕ) (count : ℕ) : Type 0 where
+  pub one : 1 ≤ inputs
+  pub few : length depths + length asserts ≤ 131072
+  pub gates : AreGates (inputs - 1) made
+  pub depths_are : AreDepths inputs made depths
+  pub some : 1 ≤ length asserts
+  pub nodes : (i : ℕ) → i < length asserts → (1 ≤ at asserts i) × (at asserts i < length depths)
+  pub is : count ≡ greatest 1 (map (at depths) asserts)
+  pub limits : KeepLimits inputs made depths asserts count
+
+-- reduced layers of version 2 with a check for each asserted node, the nodes being sorted by depth from the largest
+pub record AreAsserting {A : Type 0} (o : Ops A) (number : A → ℕ) (inputs : ℕ) (made : List (Gate A)) (depths asserts : List ℕ) (count : ℕ) (layers : List (Layer A)) : Type 0 where
+  pub layers_count : length layers ≡ count
+  pub valid : AreLayersOf o 2 inputs layers
+  pub checks_count : check_count number layers ≡ length asserts
+  pub checks : (values ins : List A) → AreValues o inputs made values → Begins o inputs values ins → checks_of o number layers ins ≡ map (entry o values) (by_depth depths asserts (suc count))
+  pub reduced : IsReducedAsserting o layers

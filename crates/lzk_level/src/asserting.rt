@@ -1,0 +1,180 @@
+//! Circuits of version 2: an asserted node of the uppermost level is an output, and each other is asserted by the
+//! layer above its own, with no copies up to the outputs.
+
+ghost use Rattle.std.specs.Prelude.{◌≡◌, ℕ, ◌+◌, ◌<◌, ◌≤◌, None, List, length, map, IfOk, IfErr};
+ghost use Rattle.lzk_circuit.specs.Checks.{check_count};
+ghost use Rattle.lzk_circuit.specs.Valid.{AreLayersOf, wiring_of};
+ghost use Rattle.lzk_reduce.specs.Attached.{IsReducedAsserting};
+ghost use Rattle.lzk_reduce.specs.Renumbering.{at};
+ghost use Rattle.lzk_level.specs.Bounds.{layer_count, level_fault_v2, IsFaultOf};
+ghost use Rattle.lzk_level.specs.Checking.{of_depth, level_targets, targets_below, HasChecks, AreAsserts, AreAsserting};
+ghost use Rattle.lzk_level.specs.Nodes.{AreGates, IsNode, node_count, nodes_from};
+
+use crate::builder::Builder;
+use crate::fault::LevelError;
+use crate::finish::{measured, stacked_levels};
+use crate::last::last_asserting;
+use crate::levels::places;
+use crate::node::{Gate, Node};
+use lzk_circuit::{Circuit, Layer};
+use lzk_field::Field;
+use lzk_reduce::{Targets, asserting};
+use std::alloc::{AllocError, Global};
+
+// The nodes with a depth, in their order.
+fn of_depth(
+    alloc: Global,
+    depths: &[u32],
+    nodes: &[Node],
+    depth: u32,
+) -> Result<Vec<Node>, AllocError>
+    requires { (i : ℕ) → i < length nodes.now → at nodes.now i < length depths.now }
+    ensures { IfOk result (λ found. found.items ≡ of_depth depths.now depth nodes.now) }
+{
+    let mut found = Vec::new(alloc);
+    for i in 0..nodes.len() {
+        if depths[nodes[i].number() as usize] == depth {
+            found.push(nodes[i])?;
+        }
+    }
+    Ok(found)
+}
+
+// The wires of a level that are those of the asserted nodes of its depth.
+fn level_targets(
+    alloc: Global,
+    depths: &[u32],
+    last: &[u32],
+    level: u32,
+    asserts: &[Node],
+) -> Result<Targets, AllocError>
+    requires few { length depths.now ≤ 131072 }
+    requires same { length last.now ≡ length depths.now }
+    requires nodes { (i : ℕ) → i < length asserts.now → at asserts.now i < length depths.now }
+    ensures { IfOk result (λ wires. wires ≡ level_targets depths.now last.now level asserts.now) }
+{
+    let places = places(alloc, depths, last, level)?;
+    let mut wires = Vec::new(alloc);
+    for i in 0..asserts.len() {
+        let k = asserts[i].number() as usize;
+        if depths[k] == level {
+            wires.push(places[k])?;
+        }
+    }
+    Ok(Targets::new(wires))
+}
+
+// What the layers assert, the outputs' layer first.
+fn all_targets(
+    alloc: Global,
+    depths: &[u32],
+    last: &[u32],
+    asserts: &[Node],
+    count: u32,
+) -> Result<Vec<Targets>, AllocError>
+    requires few { length depths.now ≤ 131072 }
+    requires same { length last.now ≡ length depths.now }
+    requires nodes { (i : ℕ) → i < length asserts.now → at asserts.now i < length depths.now }
+    ensures { IfOk result (λ targets. targets.items ≡ targets_below depths.now last.now asserts.now count) }
+{
+    let mut targets = Vec::with_capacity(alloc, count as usize)?;
+    for l in 0..count {
+        targets.push(level_targets(alloc, depths, last, count - 1 - l, asserts)?)?;
+    }
+    Ok(targets)
+}
+
+fn circuit_of<F: Field>(publics: u32, privates: u32, layers: Vec<Layer<F>>) -> Circuit<F>
+    requires publics { publics ≤ 65535 }
+    requires privates { privates ≤ 65536 }
+    requires some { 1 ≤ length layers.items }
+    requires most { length layers.items ≤ 512 }
+    requires layers { AreLayersOf F.ops 2 (1 + publics + privates) layers.items }
+    ensures { result ≡ wiring_of 2 publics privates layers.items }
+{
+    match Circuit::of_layers_v2(publics, privates, layers) {
+        Ok(circuit) => circuit,
+        Err(_) => unreachable!(),
+    }
+}
+
+// The layers of the reduced circuit whose checks are those of these nodes.
+fn asserting_layers<F: Field>(
+    alloc: Global,
+    inputs: u32,
+    made: &[Gate<F>],
+    depths: &[u32],
+    asserts: &[Node],
+    count: u32,
+) -> Result<Vec<Layer<F>>, AllocError>
+    requires { AreAsserts inputs made.now depths.now asserts.now count }
+    ensures { IfOk result (λ layers. AreAsserting F.ops F.number_of inputs made.now depths.now asserts.now count layers.items) }
+{
+    let outputs = of_depth(alloc, depths, asserts, count)?;
+    let last = last_asserting(alloc, made, depths, asserts, count)?;
+    let mut layers = stacked_levels(alloc, made, depths, &last, &outputs, count)?;
+    layers.reverse();
+    let targets = all_targets(alloc, depths, &last, asserts, count)?;
+    asserting(alloc, inputs, &layers, &targets)
+}
+
+// The reduced circuit whose checks are those of these nodes.
+fn laid_out<F: Field>(
+    alloc: Global,
+    publics: u32,
+    privates: u32,
+    made: &[Gate<F>],
+    asserts: &[Node],
+) -> Result<Circuit<F>, LevelError>
+    requires publics { publics ≤ 65535 }
+    requires privates { privates ≤ 65536 }
+    requires few { publics + privates + length made.now ≤ 2147483648 }
+    requires gates { AreGates (publics + privates) made.now }
+    requires some { 1 ≤ length asserts.now }
+    requires asserts { length asserts.now ≤ 131072 }
+    requires nodes { (i : ℕ) → i < length asserts.now → IsNode (publics + privates + length made.now) (at asserts.now i) }
+    ensures version { IfOk result (λ c. c.version ≡ 2) }
+    ensures publics { IfOk result (λ c. c.publics ≡ publics) }
+    ensures privates { IfOk result (λ c. c.privates ≡ privates) }
+    ensures layers { IfOk result (λ c. length c.layers ≡ layer_count (nodes_from publics privates made.now) asserts.now) }
+    ensures count { IfOk result (λ c. check_count F.number_of c.layers ≡ length asserts.now) }
+    ensures checks { IfOk result (HasChecks F.ops F.number_of (nodes_from publics privates made.now) asserts.now) }
+    ensures reduced { IfOk result (λ c. IsReducedAsserting F.ops c.layers) }
+    ensures within { IfOk result (λ _. level_fault_v2 (nodes_from publics privates made.now) asserts.now ≡ None) }
+    ensures fault { IfErr result (IsFaultOf (level_fault_v2 (nodes_from publics privates made.now) asserts.now)) }
+{
+    let (depths, count) = measured(
+        alloc,
+        publics,
+        privates,
+        made,
+        asserts,
+        asserts.len() as u32,
+    )?;
+    let inputs = 1 + publics + privates;
+    let layers = asserting_layers(alloc, inputs, made, &depths, asserts, count)?;
+    Ok(circuit_of(publics, privates, layers))
+}
+
+impl<F: Field> Builder<F> {
+    /// The circuit of version 2 with a check for each entry of `asserts`. An asserted node of the uppermost level
+    /// is an output, and each other is asserted by the layer above that of its depth. Its checks stand by depth
+    /// from the largest, those of one depth in their order. It is reduced, as that of `finish`, but for the wires
+    /// that assert. The builder is consumed, and dropped where a limit is passed.
+    pub fn finish_v2(self, asserts: &[Node]) -> Result<Circuit<F>, LevelError>
+        requires some { 1 ≤ length asserts.now }
+        requires few { length asserts.now ≤ 131072 }
+        requires nodes { (i : ℕ) → i < length asserts.now → IsNode (node_count self) (at asserts.now i) }
+        ensures version { IfOk result (λ c. c.version ≡ 2) }
+        ensures publics { IfOk result (λ c. c.publics ≡ self.publics) }
+        ensures privates { IfOk result (λ c. c.privates ≡ self.privates) }
+        ensures layers { IfOk result (λ c. length c.layers ≡ layer_count self asserts.now) }
+        ensures count { IfOk result (λ c. check_count F.number_of c.layers ≡ length asserts.now) }
+        ensures checks { IfOk result (HasChecks F.ops F.number_of self asserts.now) }
+        ensures reduced { IfOk result (λ c. IsReducedAsserting F.ops c.layers) }
+        ensures within { IfOk result (λ _. level_fault_v2 self asserts.now ≡ None) }
+        ensures fault { IfErr result (IsFaultOf (level_fault_v2 self asserts.now)) }
+    {
+        laid_out(self.alloc, self.publics, self.privates, &self.made, asserts)
+    }
+}
