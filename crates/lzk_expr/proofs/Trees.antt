@@ -38,13 +38,13 @@ alone es (f ∷ front) e one same = absurd (omega (arith, one, ap length same, l
 abbrev pub half' : Parts → Bool → Exprs → Half
 half' parts minus factors = record { parts = parts; minus = minus; factors = factors; negated = false }
 
-pub atom_taken : (parts : Parts) (minus neg : Bool) (es : List Expr) (e : Expr) (value : tree.Expr) → expr_of e ≡ negated neg value
-    → half' parts minus (expr_list (es ++ e ∷ [])) ≡ half' parts minus (add_factor (expr_list es) (negated neg value))
-atom_taken parts minus neg es e value h = ap (half' parts minus) (expr_pushed es e ∙ ap (add_factor (expr_list es)) h)
+pub atom_taken : (parts : Parts) (minus neg : Bool) (before after : Exprs) (e value : tree.Expr) → e ≡ negated neg value → after ≡ add_factor before e
+    → half' parts minus after ≡ half' parts minus (add_factor before (negated neg value))
+atom_taken parts minus neg before after e value h k = ap (half' parts minus) (k ∙ ap (add_factor before) h)
 
-pub product_ended : (ps : List Part) (minus next : Bool) (fs : Exprs) (e : Expr) (rest : List Expr) → expr_of e ≡ multiplied fs → rest ≡ []
-    → half' (part_list (ps ++ record { minus = minus; expr = e } ∷ [])) next (expr_list rest) ≡ half' (add_part (part_list ps) minus (multiplied fs)) next tree.NoExpr
-product_ended ps minus next fs e rest h none = ap (λ x. half' x next (expr_list rest)) (part_pushed ps minus e ∙ ap (add_part (part_list ps) minus) h) ∙ ap (λ xs. half' (add_part (part_list ps) minus (multiplied fs)) next (expr_list xs)) none
+pub product_ended : (ps : List Part) (minus next : Bool) (fs rest : Exprs) (e : Expr) → expr_of e ≡ multiplied fs → rest ≡ tree.NoExpr
+    → half' (part_list (ps ++ record { minus = minus; expr = e } ∷ [])) next rest ≡ half' (add_part (part_list ps) minus (multiplied fs)) next tree.NoExpr
+product_ended ps minus next fs rest e h none = ap (λ x. half' x next rest) (part_pushed ps minus e ∙ ap (add_part (part_list ps) minus) h) ∙ ap (half' (add_part (part_list ps) minus (multiplied fs)) next) none
 
 many_parts : (qs : Parts) (m n : Bool) (e f : tree.Expr) → added (part m e (add_part qs n f)) ≡ Added (part m e (add_part qs n f))
 many_parts tree.NoPart m n e f = refl

@@ -1,6 +1,9 @@
 -- What is being read in memory, as meanings.
 use Rattle.std.specs.Prelude.{List, map, reverse}
 use Rattle.lzk_expr.specs.declared.half.Half as memory
+use Rattle.lzk_expr.specs.declared.half.Factors.{Factors}
+use Rattle.lzk_expr.specs.declared.half.Factors.TheVariants as factors
+use Rattle.lzk_expr.specs.Trees.{Exprs, NoExpr, factor}
 use Rattle.lzk_expr.specs.declared.reads.Reads as reads
 use Rattle.lzk_expr.specs.declared.reads.Step as step
 use Rattle.lzk_expr.specs.declared.reads.Step.TheVariants as steps
@@ -8,8 +11,13 @@ use Rattle.lzk_expr.specs.Meanings.{Half, Reads, Step}
 use Rattle.lzk_expr.specs.Meanings as meaning
 use Rattle.lzk_expr.specs.View.{part_list, expr_list, expr_of}
 
+abbrev pub factors_of : Factors → Exprs
+factors_of factors.Nothing = NoExpr
+factors_of (factors.One e) = factor (expr_of e) NoExpr
+factors_of (factors.Many es) = expr_list es.items
+
 abbrev pub half_of : memory.Half → Half
-half_of r = record { parts = part_list r.parts.items; minus = r.minus; factors = expr_list r.factors.items; negated = r.negated }
+half_of r = record { parts = part_list r.parts.items; minus = r.minus; factors = factors_of r.factors; negated = r.negated }
 
 -- the innermost stands last in memory, and first here
 abbrev pub outer_of : List memory.Half → List Half

@@ -1,6 +1,6 @@
 -- The first token of a line, as it is read.
-use Rattle.std.specs.Prelude.{◌≡◌, ℕ, ◌≤◌, ◌<◌, ◌^◌, List, ◌∷◌, length}
-use Rattle.lzk_expr.specs.Tokens.{Piece, pieces, Token, tokens}
+use Rattle.std.specs.Prelude.{◌≡◌, ℕ, ◌≤◌, ◌<◌, ◌^◌, List, ◌∷◌, length, Bool, true}
+use Rattle.lzk_expr.specs.Tokens.{Piece, pieces, Token, tokens, is_sign}
 use Rattle.lzk_expr.specs.Tokens as token
 use Rattle.lzk_expr.specs.declared.tokens.Piece.{Piece as Read}
 use Rattle.lzk_expr.specs.declared.tokens.Piece.TheVariants as read
@@ -10,6 +10,11 @@ use Rattle.lzk_expr.specs.declared.tokens.Symbol.TheVariants as symbol
 abbrev pub piece_of : Read → Piece
 piece_of (read.Word w) = token.Word w.now
 piece_of (read.Sign b) = token.Sign b
+
+-- no byte that is of no token
+abbrev pub is_clean : Piece → Bool
+is_clean (token.Word w) = true
+is_clean (token.Sign b) = is_sign b
 
 -- the first piece, and what is behind it
 pub record IsPiece (bytes : List ℕ) (piece : Piece) (rest : List ℕ) : Type 0 where

@@ -1,6 +1,5 @@
 //! Fields, names, expressions and statements.
 
-use std::alloc::{AllocError, Global};
 use std::marker::Model;
 
 /// The field of a source: the prime field of 2^64 - 2^32 + 1 elements, or the one of 2^128.
@@ -12,34 +11,38 @@ pub enum FieldId {
     Gf2_128,
 }
 
-/// A name of a source: 1 to 32 letters, digits and `_`.
+/// A name of a source: 1 to 32 letters, digits and `_`. It is held in place, with no memory taken.
 #[derive(Drop)]
 pub struct Name {
-    bytes: Vec<u8>,
+    bytes: [u8; 32],
+    len: u8,
 }
 
 impl Model for Name {
-    ghost use Rattle.std.specs.Prelude.{List, ℕ, ◌≤◌, length};
+    ghost use Rattle.std.specs.Prelude.{List, ℕ, ◌≤◌, take};
 
     ghost Value = { List ℕ };
 
-    ghost view = { λ n. n.bytes.items };
+    ghost view = { λ n. take n.len n.bytes };
 
-    ghost invariant = { λ n. (1 ≤ length n.bytes.items) × (length n.bytes.items ≤ 32) };
+    ghost invariant = { λ n. (1 ≤ n.len) × (n.len ≤ 32) };
 }
 
 impl Name {
-    ghost use Rattle.std.specs.Prelude.{◌≡◌, ◌≤◌, length, IfOk};
+    ghost use Rattle.std.specs.Prelude.{◌≡◌, ◌≤◌, length};
 
     // The name with these bytes.
-    pub(crate) fn new(alloc: Global, bytes: &[u8]) -> Result<Name, AllocError>
+    pub(crate) fn new(bytes: &[u8]) -> Name
         requires some { 1 ≤ length bytes.now }
         requires few { length bytes.now ≤ 32 }
-        ensures { IfOk result (λ n. n ≡ bytes.now) }
+        ensures { result ≡ bytes.now }
     {
-        Ok(Name {
-            bytes: Vec::from_slice(alloc, bytes)?,
-        })
+        let mut held = [0; 32];
+        held[..bytes.len()].copy_from_slice(bytes);
+        Name {
+            bytes: held,
+            len: bytes.len() as u8,
+        }
     }
 
     /// The name's bytes.
@@ -48,7 +51,7 @@ impl Name {
         ensures some { 1 ≤ length self.now }
         ensures few { length self.now ≤ 32 }
     {
-        &self.bytes
+        &self.bytes[..self.len as usize]
     }
 }
 

@@ -13,7 +13,8 @@ use std::alloc::Global;
 
 // The element that a word stands for, behind so many others.
 fn element<F: Field>(line: u32, word: &[u8], count: u32, have: usize) -> Result<F, NumberFault>
-    ensures { (before : List ℕ) → length before ≡ have → MatchResult result (λ x. word_as F.size count line before (number_of word.now) ≡ Ok (before ++ F.number_of x ∷ []))
+    ensures { (before : List ℕ) → length before ≡ have → MatchResult result (λ x. word_as F.size count line before (number_of word.now) ≡
+        Ok (before ++ F.number_of x ∷ []))
         (λ e. word_as F.size count line before (number_of word.now) ≡ Err e) }
 {
     let fault = NumberFault {
@@ -59,7 +60,8 @@ fn take_words<F: Field>(
     count: u32,
     found: &mut Vec<F>,
 ) -> Result<(), NumberError>
-    ensures { MatchResult result (λ _. words_to F.size count line (runs is_plain bytes.now) (map F.number_of found.old.items) ≡ Ok (map F.number_of found.new.items))
+    ensures { MatchResult result (λ _. words_to F.size count line (runs is_plain bytes.now) (map F.number_of found.old.items) ≡
+        Ok (map F.number_of found.new.items))
         (λ e. Fails e (words_to F.size count line (runs is_plain bytes.now) (map F.number_of found.old.items))) }
 {
     let mut rest = bytes;

@@ -3,7 +3,9 @@
 ghost use Rattle.std.specs.Prelude.{◌≡◌, ◌∷◌, ◌++◌, ◌==◌, [], List, codes, decimal, slice_index_or, IfOk, OnOk};
 ghost use Rattle.lzk_expr.specs.Grammar.{field_name};
 ghost use Rattle.lzk_expr.specs.NameLists.{bytes_of, lists_of, open_text, close_text, between_parts, between_factors};
-ghost use Rattle.lzk_expr.specs.Printing.{Names, closed_sum, closed_product, closed_negative, expr_text, sum_text, product_text, statement_text, statement_line, source_text, names_of, public_names, private_names, let_names};
+ghost use Rattle.lzk_expr.specs.Printing.{Names, closed_sum, closed_product, closed_negative, expr_text, sum_text};
+ghost use Rattle.lzk_expr.specs.Printing.{product_text, statement_text, statement_line, source_text, names_of};
+ghost use Rattle.lzk_expr.specs.Printing.{public_names, private_names, let_names};
 ghost use Rattle.lzk_expr.specs.Sources.{SourceText};
 ghost use Rattle.lzk_expr.specs.View.{expr_of, part_list, expr_list, statement_of, statements_of, tree_of};
 
@@ -231,9 +233,12 @@ fn print_statement(
 
 // Takes the name that a statement declares.
 fn list_name<'a>(statement: &'a Statement, names: &mut NameLists<'a>) -> Result<(), AllocError>
-    ensures publics { OnOk result ((behind : _) → bytes_of names.new.publics.items ++ public_names behind ≡ bytes_of names.old.publics.items ++ public_names (statement_of statement.now ∷ behind)) }
-    ensures privates { OnOk result ((behind : _) → bytes_of names.new.privates.items ++ private_names behind ≡ bytes_of names.old.privates.items ++ private_names (statement_of statement.now ∷ behind)) }
-    ensures lets { OnOk result ((behind : _) → bytes_of names.new.lets.items ++ let_names behind ≡ bytes_of names.old.lets.items ++ let_names (statement_of statement.now ∷ behind)) }
+    ensures publics { OnOk result ((behind : _) → bytes_of names.new.publics.items ++ public_names behind ≡
+        bytes_of names.old.publics.items ++ public_names (statement_of statement.now ∷ behind)) }
+    ensures privates { OnOk result ((behind : _) → bytes_of names.new.privates.items ++ private_names behind ≡
+        bytes_of names.old.privates.items ++ private_names (statement_of statement.now ∷ behind)) }
+    ensures lets { OnOk result ((behind : _) → bytes_of names.new.lets.items ++ let_names behind ≡
+        bytes_of names.old.lets.items ++ let_names (statement_of statement.now ∷ behind)) }
 {
     match statement {
         Statement::Public(name) => names.publics.push(name.text())?,

@@ -1,17 +1,20 @@
 //! Reading statement lines.
 
-ghost use Rattle.std.specs.Prelude.{◌≡◌, ◌≤◌, ◌<◌, ◌+◌, ◌-◌, ◌∷◌, [], length, is_some, true, false, None, Some, MatchOption, IfOk, OnOk, position, ◌==◌, ◌||◌, ◌^◌};
+ghost use Rattle.std.specs.Prelude.{◌≡◌, ◌≤◌, ◌<◌, ◌+◌, ◌-◌, ◌∷◌, [], length, is_some, true, false, None, Some};
+ghost use Rattle.std.specs.Prelude.{MatchOption, IfSome, IfOk, OnOk, position, ◌==◌, ◌||◌, ◌^◌};
 ghost use Rattle.std.specs.List.{list_all};
 ghost use Rattle.lzk_expr.specs.Tokens.{tokens, Key, Equals};
 ghost use Rattle.lzk_expr.specs.Sources.{first_keyword, keeps_limits, is_short, is_few, is_field, nothing_yet};
-ghost use Rattle.lzk_expr.specs.Readers.{before_of, IsReader, Binds, Declares, step_of, Takes, TakesLine, TakesAny, IsField, is_name, is_inner, first_name, begins_equals, IsNamed, IsDefinition, IsNoDefinition, IsSplit, key_of, input_statement, input_count};
+ghost use Rattle.lzk_expr.specs.Readers.{before_of, IsReader, Binds, Declares, step_of, Takes, TakesLine, TakesAny};
+ghost use Rattle.lzk_expr.specs.Readers.{IsField, is_name, is_inner, first_name, begins_equals, IsNamed, IsDefinition};
+ghost use Rattle.lzk_expr.specs.Readers.{IsNoDefinition, IsSplit, key_of, input_statement, input_count, keeps_bounds};
 ghost use Rattle.lzk_expr.specs.View.{statements_of, expr_of};
 ghost use Rattle.lzk_expr.specs.Trees.{DeclarePublic, DeclarePrivate, Define, Assertion, name_of};
 ghost use Rattle.lzk_expr.specs.declared.tokens.Keyword.TheVariants.{Field, Let, Assert};
 
 use crate::ast::{Expr, FieldId, Name, Statement};
 use crate::names::{Binding, Names};
-use crate::rules::{bounded_count, is_empty_line, keeps_characters};
+use crate::rules::{is_empty_line, scanned};
 use crate::source_fault::SourceKind;
 use crate::sums::{both, read_sum};
 use crate::tokens::{Keyword, Symbol, next_token};
@@ -173,11 +176,14 @@ impl<'a> Reader<'a> {
         }
     }
 
-    fn keeps_limits(&self, keyword: Keyword, bytes: &[u8]) -> bool
-        requires { IsReader self.now }
-        ensures { result ≡ keeps_limits (before_of self.now).statements keyword (tokens bytes.now) }
+    // Whether a line of so many tokens keeps the limits; none are counted where a token or the parentheses break one.
+    fn keeps_limits(&self, keyword: Keyword, count: Option<usize>) -> bool
+        requires holds { IsReader self.now }
+        requires few { IfSome count (λ n. n < 2 ^ 63) }
+        ensures { (ts : _) → MatchOption count (keeps_bounds 0 ts ≡ false) (λ n. (keeps_bounds 0 ts ≡ true) × (n ≡ length ts)) →
+            result ≡ keeps_limits (before_of self.now).statements keyword ts }
     {
-        match bounded_count(bytes) {
+        match count {
             Some(count) => self.has_room(keyword, count.saturating_sub(1)),
             None => false,
         }
@@ -211,12 +217,7 @@ impl<'a> Reader<'a> {
         Ok(())
     }
 
-    fn declare_input(
-        &mut self,
-        alloc: Global,
-        input: Input,
-        name: &'a [u8],
-    ) -> Result<(), AllocError>
+    fn declare_input(&mut self, input: Input, name: &'a [u8]) -> Result<(), AllocError>
         requires holds { IsReader self.old }
         requires new { name_of (statements_of self.old.statements.items) name.now ≡ None }
         requires some { 1 ≤ length name.now }
@@ -226,7 +227,7 @@ impl<'a> Reader<'a> {
         ensures count { OnOk result (input_count input self.new ≡ input_count input self.old + 1) }
         ensures lets { OnOk result (self.new.lets ≡ self.old.lets) }
     {
-        let declared = Name::new(alloc, name)?;
+        let declared = Name::new(name);
         match input {
             Input::Public => {
                 let binding = Binding::Public(self.publics);
@@ -242,7 +243,7 @@ impl<'a> Reader<'a> {
         Ok(())
     }
 
-    fn define(&mut self, alloc: Global, name: &'a [u8], expr: Expr) -> Result<(), AllocError>
+    fn define(&mut self, name: &'a [u8], expr: Expr) -> Result<(), AllocError>
         requires holds { IsReader self.old }
         requires new { name_of (statements_of self.old.statements.items) name.now ≡ None }
         requires some { 1 ≤ length name.now }
@@ -251,7 +252,7 @@ impl<'a> Reader<'a> {
         ensures declares { OnOk result (Declares self.old self.new (Define name.now (expr_of expr))) }
         ensures lets { OnOk result (self.new.lets ≡ self.old.lets + 1) }
     {
-        let declared = Name::new(alloc, name)?;
+        let declared = Name::new(name);
         let binding = Binding::Named(self.lets);
         self.bind(Statement::Let(declared, expr), name, binding)?;
         self.lets += 1;
@@ -271,7 +272,6 @@ impl<'a> Reader<'a> {
 
     fn take_inputs(
         &mut self,
-        alloc: Global,
         input: Input,
         bytes: &'a [u8],
     ) -> Result<Option<SourceKind>, AllocError>
@@ -291,7 +291,7 @@ impl<'a> Reader<'a> {
             if self.names.find(name).is_some() {
                 return Ok(Some(SourceKind::Twice));
             }
-            self.declare_input(alloc, input, name)?;
+            self.declare_input(input, name)?;
             rest = after;
         }
         Ok(None)
@@ -321,7 +321,7 @@ impl<'a> Reader<'a> {
         if !sum.below {
             return Ok(Some(SourceKind::TooLarge));
         }
-        self.define(alloc, name, sum.expr)?;
+        self.define(name, sum.expr)?;
         Ok(None)
     }
 
@@ -369,8 +369,8 @@ impl<'a> Reader<'a> {
     {
         match keyword {
             Keyword::Field => Ok(self.take_field(bytes)),
-            Keyword::Public => self.take_inputs(alloc, Input::Public, bytes),
-            Keyword::Private => self.take_inputs(alloc, Input::Private, bytes),
+            Keyword::Public => self.take_inputs(Input::Public, bytes),
+            Keyword::Private => self.take_inputs(Input::Private, bytes),
             Keyword::Let => self.take_let(alloc, bytes),
             Keyword::Assert => self.take_assert(alloc, bytes),
         }
@@ -386,7 +386,8 @@ impl<'a> Reader<'a> {
         requires room { self.old.lets + 1 < 2 ^ 32 }
         ensures { IfOk result (λ broken. TakesLine self.old self.new bytes.now broken) }
     {
-        if !keeps_characters(bytes) {
+        let scan = scanned(bytes);
+        if !scan.clean {
             return Ok(Some(SourceKind::Character));
         }
         let Some((keyword, rest)) = first_keyword(bytes) else {
@@ -395,7 +396,7 @@ impl<'a> Reader<'a> {
         if !self.may_have(keyword) {
             return Ok(Some(SourceKind::NoField));
         }
-        if !self.keeps_limits(keyword, bytes) {
+        if !self.keeps_limits(keyword, scan.count) {
             return Ok(Some(SourceKind::Limit));
         }
         self.take_form(alloc, keyword, rest)

@@ -68,13 +68,14 @@ impl Reads {
     }
 
     fn close(&mut self, alloc: Global) -> Result<bool, AllocError>
-        ensures { IfOk result (λ taken. Goes taken (half_closed (reads_of self.old).outer (added (parts_of_half (reads_of self.old).now))) (reads_of self.new)) }
+        ensures { IfOk result (λ taken. Goes taken (half_closed (reads_of self.old).outer (added (parts_of_half (reads_of self.old).now)))
+            (reads_of self.new)) }
     {
         let Some(before) = self.outer.pop() else {
             return Ok(false);
         };
         let inner = mem::replace(&mut self.now, before);
-        let expr = ended(inner)?;
+        let expr = ended(alloc, inner)?;
         take_atom(alloc, &mut self.now, expr)?;
         self.ready = true;
         Ok(true)
@@ -138,12 +139,12 @@ impl Reads {
     }
 
     // The expression, where it was read whole.
-    pub fn end(self) -> Result<Option<Expr>, AllocError>
+    pub fn end(self, alloc: Global) -> Result<Option<Expr>, AllocError>
         ensures { IfOk result (λ o. MatchOption o (ends (reads_of self) ≡ None) (λ e. ends (reads_of self) ≡ Some (expr_of e))) }
     {
         if !self.ready || !self.outer.is_empty() {
             return Ok(None);
         }
-        Ok(Some(ended(self.now)?))
+        Ok(Some(ended(alloc, self.now)?))
     }
 }

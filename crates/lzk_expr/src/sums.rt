@@ -112,7 +112,7 @@ pub fn read_sum(
         }
         rest = after;
     }
-    match reads.end()? {
+    match reads.end(alloc)? {
         Some(expr) => Ok(Some(Sum { expr, known, below })),
         None => Ok(None),
     }
