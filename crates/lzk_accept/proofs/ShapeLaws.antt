@@ -20,7 +20,7 @@ module _ {A : Type 0} (o : Ops A) (c : Wiring A) (s : Script A) (shape : HasShap
   -- the lengths of a layer's draws
   pub layer_shape : (l : ℕ) → l < depth c → HasBits (bits_under c l) (layer_at o s l)
   layer_shape l h =
-      let d : LayerScript A = record { alpha = o.zero; ra = []; rb = [] } in
+      let d : LayerScript A = record { alpha = o.zero; beta = o.zero; ra = []; rb = [] } in
       shape.layers l (slice_index_or s.layers l d) (slice_get-get_or s.layers l d (omega (arith, shape.depth)))
 
   pub point_a_length : (l : ℕ) → l ≤ depth c → length (point_a o s l) ≡ bits (width_at c l)

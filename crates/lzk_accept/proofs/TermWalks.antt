@@ -1,5 +1,5 @@
 -- Sums over terms that are weighted wire by wire.
-use Rattle.std.specs.Prelude.{◌≡◌, ℕ, ◌<◌, ◌≤◌, ◌+◌, List, [], ◌∷◌, length, drop, slice_index_or, slice_get, Some}
+use Rattle.std.specs.Prelude.{◌≡◌, ℕ, ◌<◌, ◌≤◌, ◌+◌, List, [], ◌∷◌, length, drop, slice_index_or, slice_get, Some, None}
 use Rattle.std.proofs.Common.{zero, suc, refl, sym, ap, ◌∙◌, get_or, subst, arith}
 use Rattle.std.proofs.lemmas.Option.{get_or_from_slice_get, slice_get_within}
 use Rattle.std.proofs.lemmas.List.{drop_more, drop_all}
@@ -9,9 +9,11 @@ use Rattle.lzk_field.proofs.Solve.{var, null, ◌⊞◌, ◌⊠◌, solve}
 use Rattle.lzk_circuit.specs.Sums.{sum_list}
 use Rattle.lzk_circuit.specs.declared.layer.Layer.{Layer}
 use Rattle.lzk_circuit.specs.declared.layer.Term.{Term}
-use Rattle.lzk_circuit.specs.Valid.{Wiring, IsValid}
-use Rattle.lzk_circuit.specs.Wires.{AreDistinct}
-use Rattle.lzk_circuit.proofs.PlaceLaws.{terms-distinct, layer-at}
+use Rattle.lzk_circuit.specs.Valid.{Wiring, ArePlaced, IsValid}
+use Rattle.lzk_circuit.specs.Wires.{weighed_term, AreDistinct}
+use Rattle.lzk_sumcheck.proofs.LayerShapes.{terms-placed-at}
+use Rattle.lzk_circuit.proofs.OrderLaws.{placed-distinct}
+use Rattle.lzk_circuit.proofs.PlaceLaws.{layer-at}
 use Rattle.lzk_layout.specs.Places.{width_at}
 use Rattle.lzk_mle.specs.Multilinear.{eq}
 use Rattle.lzk_sumcheck.specs.declared.script.Script.{Script}
@@ -44,9 +46,9 @@ module _ {A : Type 0} (o : Ops A) (r : RingLaws o) where
       let T = var 0 in let W = var 1 in let I = var 2 in let Z = var 3 in let L = var 4 in let C = var 5 in let Y = var 6 in
       solve o r (total ∷ weight ∷ inner ∷ z ∷ linear ∷ coef ∷ y ∷ []) (T ⊞ W ⊠ (I ⊞ Z ⊠ (L ⊞ C ⊠ Y))) ((T ⊞ W ⊠ (I ⊞ Z ⊠ L)) ⊞ C ⊠ (W ⊠ (Z ⊠ Y))) refl
 
-  module _ (weights first second : List A) where
+  module _ (beta : A) (weights first second : List A) where
     abbrev pub count : Term A → A
-    count = counted o weights first second
+    count = counted o beta weights first second
 
     pub walk_starts : (ts : List (Term A)) (z : A) (walk : Walk A) → walk.total ≡ o.zero → walk.linear ≡ o.zero → walk.inner ≡ o.zero → plus (counted_so_far o weights z walk) (sum_list o ts count) ≡ sum_list o ts count
     walk_starts ts z walk et el ei =
@@ -68,36 +70,41 @@ module _ {A : Type 0} (o : Ops A) (r : RingLaws o) where
 module _ {A : Type 0} (o : Ops A) (r : RingLaws o) where
   open o use {plus, times}
 
-  counted_counts : (k n : ℕ) (weights first second : List A) (alpha : A) (pa pb ra rb : List A) (ts : List (Term A)) → AreDistinct o k n ts
+  counted_counts : (k n : ℕ) (weights first second : List A) (alpha beta : A) (pa pb ra rb : List A) (ts : List (Term A)) → AreDistinct o k n ts
       → ((g : ℕ) → g < k → entry o weights g ≡ plus (eq o g pa) (times alpha (eq o g pb))) → ((a : ℕ) → a < n → entry o first a ≡ eq o a ra) → ((b : ℕ) → b < n → entry o second b ≡ eq o b rb)
-      → sum_list o ts (counted o weights first second) ≡ sum_list o ts (counts_at o alpha pa pb ra rb)
-  counted_counts k n weights first second alpha pa pb ra rb [] h ew ea eb = refl
-  counted_counts k n weights first second alpha pa pb ra rb (t ∷ ts) h ew ea eb =
-      let rest = sum_list o ts (counted o weights first second) in
+      → sum_list o ts (counted o beta weights first second) ≡ sum_list o ts (counts_at o alpha beta pa pb ra rb)
+  counted_counts k n weights first second alpha beta pa pb ra rb [] h ew ea eb = refl
+  counted_counts k n weights first second alpha beta pa pb ra rb (t ∷ ts) h ew ea eb =
+      let rest = sum_list o ts (counted o beta weights first second) in
+      let y = (weighed_term o beta t).coef in
       let w = plus (eq o t.g pa) (times alpha (eq o t.g pb)) in
-      ap (λ x. plus (times t.coef (times x (times (entry o first t.a) (entry o second t.b)))) rest) (ew t.g h.0)
-      ∙ ap (λ x. plus (times t.coef (times w (times x (entry o second t.b)))) rest) (ea t.a h.1)
-      ∙ ap (λ x. plus (times t.coef (times w (times (eq o t.a ra) x))) rest) (eb t.b h.2)
-      ∙ ap (λ x. plus (times t.coef x) rest) (sym (r.times_assoc w (eq o t.a ra) (eq o t.b rb)))
-      ∙ ap (plus (counts_at o alpha pa pb ra rb t)) (counted_counts k n weights first second alpha pa pb ra rb ts h.4 ew ea eb)
+      ap (λ x. plus (times y (times x (times (entry o first t.a) (entry o second t.b)))) rest) (ew t.g h.0)
+      ∙ ap (λ x. plus (times y (times w (times x (entry o second t.b)))) rest) (ea t.a h.1)
+      ∙ ap (λ x. plus (times y (times w (times (eq o t.a ra) x))) rest) (eb t.b h.2)
+      ∙ ap (λ x. plus (times y x) rest) (sym (r.times_assoc w (eq o t.a ra) (eq o t.b rb)))
+      ∙ ap (plus (counts_at o alpha beta pa pb ra rb t)) (counted_counts k n weights first second alpha beta pa pb ra rb ts h.4 ew ea eb)
 
-  -- a layer's terms have each three numbers once, below the two widths
-  pub layer_distinct : (c : Wiring A) (l : ℕ) (layer : Layer A) → IsValid o c → slice_get c.layers l ≡ Some layer → AreDistinct o (width_at c l) (width_at c (l + 1)) layer.terms
-  layer_distinct c l layer valid is =
+  -- a layer's terms are in their places, below the two widths
+  pub layer_placed : (c : Wiring A) (l : ℕ) (layer : Layer A) → IsValid o c → slice_get c.layers l ≡ Some layer → ArePlaced (width_at c l) (width_at c (l + 1)) None layer.terms
+  layer_placed c l layer valid is =
       let here : layer ≡ slice_index_or c.layers l layer = sym (get_or_from_slice_get c.layers l layer layer is) in
-      subst (λ n. AreDistinct o n (width_at c (l + 1)) layer.terms) (wires_is c l layer is)
-      (subst (λ (x : Layer A). AreDistinct o x.wires (width_at c (l + 1)) x.terms) (sym here) (terms-distinct o c l layer (slice_get_within c.layers l layer is) valid))
+      subst (λ n. ArePlaced n (width_at c (l + 1)) None layer.terms) (wires_is c l layer is)
+      (subst (λ (x : Layer A). ArePlaced x.wires (width_at c (l + 1)) None x.terms) (sym here) (terms-placed-at o c l layer (slice_get_within c.layers l layer is) valid))
+
+  -- they have each three numbers once
+  pub layer_distinct : (c : Wiring A) (l : ℕ) (layer : Layer A) → IsValid o c → slice_get c.layers l ≡ Some layer → AreDistinct o (width_at c l) (width_at c (l + 1)) layer.terms
+  layer_distinct c l layer valid is = placed-distinct o (width_at c l) (width_at c (l + 1)) None layer.terms (layer_placed c l layer valid is)
 
   -- by tables of the weights and of both points, the sum over a layer's terms is its bound coefficient
   pub bound_by_tables : (c : Wiring A) (s : Script A) (l : ℕ) (layer : Layer A) (weights first second : List A) → IsValid o c → slice_get c.layers l ≡ Some layer
       → ((g : ℕ) → g < width_at c l → entry o weights g ≡ plus (eq o g (point_a o s l)) (times (layer_at o s l).alpha (eq o g (point_b o s l))))
       → ((a : ℕ) → a < width_at c (l + 1) → entry o first a ≡ eq o a (layer_at o s l).ra)
       → ((b : ℕ) → b < width_at c (l + 1) → entry o second b ≡ eq o b (layer_at o s l).rb)
-      → sum_list o layer.terms (counted o weights first second) ≡ bound_at o c (coefficients o c s) s l
+      → sum_list o layer.terms (counted o (layer_at o s l).beta weights first second) ≡ bound_at o c (coefficients o c s) s l
   bound_by_tables c s l layer weights first second valid is ew ef es =
       let distinct = layer_distinct c l layer valid is in
-      counted_counts (width_at c l) (width_at c (l + 1)) weights first second (layer_at o s l).alpha (point_a o s l) (point_b o s l) (layer_at o s l).ra (layer_at o s l).rb layer.terms distinct ew ef es
-      ∙ bound_sum o r c s l layer.terms (terms_is c l layer is) distinct
+      counted_counts (width_at c l) (width_at c (l + 1)) weights first second (layer_at o s l).alpha (layer_at o s l).beta (point_a o s l) (point_b o s l) (layer_at o s l).ra (layer_at o s l).rb layer.terms distinct ew ef es
+      ∙ bound_sum o r c s l layer.terms (terms_is c l layer is) (layer_placed c l layer valid is)
 
 -- each term is below the widths
 pub distinct_within : {A : Type 0} (o : Ops A) (k n : ℕ) (ts : List (Term A)) → AreDistinct o k n ts → (i : ℕ) (t : Term A) → slice_get ts i ≡ Some t → (t.g < k) × (t.a < n) × (t.b < n)

@@ -5,6 +5,7 @@ use Rattle.lzk_field.specs.Ring.{Ops}
 use Rattle.lzk_field.specs.Sums.{entry}
 use Rattle.lzk_sumcheck.specs.declared.script.LayerScript.{LayerScript}
 use Rattle.lzk_circuit.specs.declared.layer.Term.{Term}
+use Rattle.lzk_circuit.specs.Wires.{weighed_term}
 use Rattle.lzk_accept.specs.declared.terms.Walk.{Walk}
 use Rattle.lzk_accept.specs.Residuals.{next_claim}
 
@@ -18,9 +19,9 @@ through_rounds o point challenge sent pad claim (suc n) =
 abbrev pub challenge_of : {A : Type 0} → Ops A → LayerScript A → ℕ → A
 challenge_of o layer n = cond (n % 2 == 0) (entry o layer.ra (n / 2)) (entry o layer.rb (n / 2))
 
--- what a term counts by three tables: its coefficient times the weight of its wire, and the entries of its two wires below
-abbrev pub counted : {A : Type 0} → Ops A → List A → List A → List A → Term A → A
-counted o weights first second t = o.times t.coef (o.times (entry o weights t.g) (o.times (entry o first t.a) (entry o second t.b)))
+-- what a term counts by three tables: its coefficient, or beta for an assertion term, times the weight of its wire, and the entries of its two wires below
+abbrev pub counted : {A : Type 0} → Ops A → A → List A → List A → List A → Term A → A
+counted o beta weights first second t = o.times (weighed_term o beta t).coef (o.times (entry o weights t.g) (o.times (entry o first t.a) (entry o second t.b)))
 
 -- what a walk over terms has summed: the total, and what waits for its wire's weight. The entry of wire 0 is z
 abbrev pub counted_so_far : {A : Type 0} → Ops A → List A → A → Walk A → A

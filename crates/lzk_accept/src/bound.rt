@@ -11,7 +11,7 @@ ghost use Rattle.lzk_sumcheck.specs.Coefficients.{coefficients, bound_at};
 ghost use Rattle.lzk_accept.specs.Bound.{counts, counts_at};
 
 use crate::claims::{first_point, layer_of, second_point};
-use lzk_circuit::{Circuit, Term};
+use lzk_circuit::{Circuit, Term, weight_of};
 use lzk_field::Field;
 use lzk_mle::eq_table;
 use lzk_sumcheck::Script;
@@ -54,7 +54,8 @@ fn set_weights<F: Field>(alpha: F, first: &[F], second: &[F], weights: &mut [F],
     requires weights { length weights.old ≡ 2 ^ length first.now }
     requires room { length room.old ≡ 2 ^ length first.now }
     ensures length { length weights.new ≡ length weights.old }
-    ensures weights { let o = F.ops in (g : ℕ) → g < length weights.new → entry o weights.new g ≡ o.plus (eq o g first.now) (o.times alpha (eq o g second.now)) }
+    ensures weights { let o = F.ops in (g : ℕ) → g < length weights.new →
+        entry o weights.new g ≡ o.plus (eq o g first.now) (o.times alpha (eq o g second.now)) }
 {
     eq_table(first, weights);
     eq_table(second, room);
@@ -63,24 +64,24 @@ fn set_weights<F: Field>(alpha: F, first: &[F], second: &[F], weights: &mut [F],
 
 // What a term counts: its coefficient times its wire's weight and how its two wires below agree with the challenges, the first by a table and the
 // second by its bits.
-fn count_of<F: Field>(term: Term<F>, weights: &[F], firsts: &[F], rb: &[F]) -> F
+fn count_of<F: Field>(term: Term<F>, beta: F, weights: &[F], firsts: &[F], rb: &[F]) -> F
     requires wire { term.g < length weights.now }
     requires first { term.a < length firsts.now }
-    ensures { result ≡ counts F.ops weights.now firsts.now rb.now term }
+    ensures { result ≡ counts F.ops beta weights.now firsts.now rb.now term }
 {
     let weight = weights[term.g as usize];
     let first = firsts[term.a as usize];
-    term.coef.mul(weight.mul(first).mul(eq_of(term.b, rb)))
+    weight_of(term.coef, beta).mul(weight.mul(first).mul(eq_of(term.b, rb)))
 }
 
 // The sum of that over the terms.
-fn sum_terms<F: Field>(terms: &[Term<F>], weights: &[F], firsts: &[F], rb: &[F]) -> F
+fn sum_terms<F: Field>(terms: &[Term<F>], beta: F, weights: &[F], firsts: &[F], rb: &[F]) -> F
     requires { (i : ℕ) (t : declared.Term F) → slice_get terms.now i ≡ Some t → (t.g < length weights.now) × (t.a < length firsts.now) }
-    ensures { result ≡ sum_list F.ops terms.now (counts F.ops weights.now firsts.now rb.now) }
+    ensures { result ≡ sum_list F.ops terms.now (counts F.ops beta weights.now firsts.now rb.now) }
 {
     let mut sum = F::zero();
     for i in 0..terms.len() {
-        sum = sum.add(count_of(terms[i], weights, firsts, rb));
+        sum = sum.add(count_of(terms[i], beta, weights, firsts, rb));
     }
     sum
 }
@@ -91,6 +92,7 @@ fn sum_terms<F: Field>(terms: &[Term<F>], weights: &[F], firsts: &[F], rb: &[F])
 fn sum_at<F: Field>(
     terms: &[Term<F>],
     alpha: F,
+    beta: F,
     first: &[F],
     second: &[F],
     ra: &[F],
@@ -102,7 +104,7 @@ fn sum_at<F: Field>(
     requires points { length second.now ≡ length first.now }
     requires terms { (i : ℕ) (t : declared.Term F) → slice_get terms.now i ≡ Some t → (t.g < 2 ^ length first.now) × (t.a < 2 ^ length ra.now) }
     requires room { length room.old ≡ 262144 }
-    ensures value { result ≡ sum_list F.ops terms.now (counts_at F.ops alpha first.now second.now ra.now rb.now) }
+    ensures value { result ≡ sum_list F.ops terms.now (counts_at F.ops alpha beta first.now second.now ra.now rb.now) }
     ensures room { length room.new ≡ length room.old }
 {
     let size = 1 << first.len();
@@ -111,7 +113,7 @@ fn sum_at<F: Field>(
     set_weights(alpha, first, second, weights, other);
     let (firsts, _) = rest.split_at_mut(1 << ra.len());
     eq_table(ra, firsts);
-    sum_terms(terms, weights, firsts, rb)
+    sum_terms(terms, beta, weights, firsts, rb)
 }
 
 /// The weighted sum of layer `l`'s coefficients at its challenges. `room` has 262,144 places.
@@ -134,5 +136,5 @@ pub(crate) fn bound_of<F: Field>(
     let ra = layer.ra.as_slice();
     let rb = layer.rb.as_slice();
     let terms = circuit.layer(l).terms.as_slice();
-    sum_at(terms, layer.alpha, first, second, ra, rb, room)
+    sum_at(terms, layer.alpha, layer.beta, first, second, ra, rb, room)
 }

@@ -41,7 +41,8 @@ fn add_range<F: Field>(sums: &mut [F], by: F, list: &[F], start: usize, end: usi
     requires list { end ≤ length list.now }
     requires sums { end ≤ skip + length sums.old }
     ensures length { length sums.new ≡ length sums.old }
-    ensures entries { let o = F.ops in (j : ℕ) → entry o sums.new j ≡ o.plus (entry o sums.old j) (cond (nat_le start (skip + j) && nat_lt (skip + j) end) (o.times by (entry o list.now (skip + j))) o.zero) }
+    ensures entries { let o = F.ops in (j : ℕ) → entry o sums.new j ≡
+        o.plus (entry o sums.old j) (cond (nat_le start (skip + j) && nat_lt (skip + j) end) (o.times by (entry o list.now (skip + j))) o.zero) }
 {
     for j in start..end {
         sums[j - skip] = sums[j - skip].add(by.mul(list[j]));
@@ -81,7 +82,8 @@ fn sum_forms<F: Field>(forms: &[Form<F>], own: &[F], lambda: &[F], skip: usize, 
     requires behind { (i : ℕ) → i < length forms.now → (skip ≤ (form_at F.ops forms.now i).end) × (skip ≤ (form_at F.ops forms.now i).above) }
     requires room { length own.now ≤ skip + length sums.old }
     ensures length { length sums.new ≡ length sums.old }
-    ensures entries { let o = F.ops in (j : ℕ) → entry o sums.new j ≡ sum_below o (length forms.now) (λ i. o.times (entry o lambda.now i) (coefficient_in o own.now (form_at o forms.now i) (skip + j))) }
+    ensures entries { let o = F.ops in (j : ℕ) → entry o sums.new j ≡
+        sum_below o (length forms.now) (λ i. o.times (entry o lambda.now i) (coefficient_in o own.now (form_at o forms.now i) (skip + j))) }
     ensures rights { let o = F.ops in result ≡ sum_below o (length forms.now) (λ i. o.times (entry o lambda.now i) (form_at o forms.now i).right) }
 {
     clear(sums);
@@ -101,12 +103,14 @@ fn add_copies<F: Field>(params: &Params, forms: &[Form<F>], mu: &[F], rows: u32,
     requires bounded { AreBounded params.now }
     requires rows { rows ≤ params.now.nwrow }
     requires count { params.now.layers ≤ length forms.now }
-    requires sources { (l : ℕ) → l < params.now.layers → (rows * params.now.wr + 3 ≤ (form_at F.ops forms.now l).end) × ((form_at F.ops forms.now l).end ≤ params.now.nw) }
+    requires sources { (l : ℕ) → l < params.now.layers → (rows * params.now.wr + 3 ≤ (form_at F.ops forms.now l).end) ×
+        ((form_at F.ops forms.now l).end ≤ params.now.nw) }
     requires mu { length mu.now ≡ 3 * params.now.layers }
     requires room { length table.old ≡ (params.now.nrow - 3 - rows) * params.now.wr }
     ensures length { length table.new ≡ length table.old }
     ensures entries { let o = F.ops in let p = params.now in (i s : ℕ) → s < p.wr → entry o table.new (i * p.wr + s)
-        ≡ minus o (o.plus (entry o table.old (i * p.wr + s)) (sum_where o (3 * p.layers) (λ m. is_place (3 + (rows + i)) s (copy_place_of p m)) (entry o mu.now)))
+        ≡ minus o (o.plus (entry o table.old (i * p.wr + s))
+        (sum_where o (3 * p.layers) (λ m. is_place (3 + (rows + i)) s (copy_place_of p m)) (entry o mu.now)))
         (sum_where o (3 * p.layers) (λ m. is_place (3 + (rows + i)) s (place_of p (source_in o forms.now m))) (entry o mu.now)) }
 {
     let width = params.wr as usize;

@@ -79,7 +79,8 @@ fn set_place_factors<F: Field>(table: &[F], low: usize, factors: &mut [F])
     requires room { length factors.old ≡ 2 * length table.now }
     ensures length { length factors.new ≡ length factors.old }
     ensures here { let o = F.ops in (s : ℕ) → s < length table.now → entry o factors.new s ≡ entry o table.now (low + s) }
-    ensures next { let o = F.ops in (s : ℕ) → s < length table.now → entry o factors.new (length table.now + s) ≡ cond (nat_lt (low + s) (length table.now)) o.zero (entry o table.now (low + s - length table.now)) }
+    ensures next { let o = F.ops in (s : ℕ) → s < length table.now →
+        entry o factors.new (length table.now + s) ≡ cond (nat_lt (low + s) (length table.now)) o.zero (entry o table.now (low + s - length table.now)) }
 {
     let width = table.len();
     for s in 0..width {
@@ -118,7 +119,8 @@ fn set_point_factors<F: Field>(
     ensures low { length low.new ≡ length low.old }
     ensures high { length high.new ≡ length high.old }
     ensures products { let o = F.ops in (i s : ℕ) → i < rows → s < 2 ^ bits →
-        o.plus (o.times (entry o row_factors.new i) (entry o place_factors.new s)) (o.times (entry o row_factors.new (rows + i)) (entry o place_factors.new (2 ^ bits + s)))
+        o.plus (o.times (entry o row_factors.new i) (entry o place_factors.new s))
+        (o.times (entry o row_factors.new (rows + i)) (entry o place_factors.new (2 ^ bits + s)))
         ≡ o.times by (eq o (first + (i * 2 ^ bits + s)) r.now) }
 {
     let (lows, highs) = r.split_at(bits as usize);
@@ -302,7 +304,8 @@ pub fn combine_factored<F: Field>(
     requires room { HasRoomFor circuit.now factored.old }
     ensures forms { AreFormsOf F.ops circuit.now forms.new }
     ensures room { HasRoomFor circuit.now factored.new }
-    ensures combined { GivesCombined F.ops (params_of circuit.now) factored.new (combined_of F.ops F.element circuit.now public.now script.now messages.now challenges.now) }
+    ensures combined { GivesCombined F.ops (params_of circuit.now) factored.new
+        (combined_of F.ops F.element circuit.now public.now script.now messages.now challenges.now) }
     ensures wanted { result ≡ wanted_of F.ops F.element circuit.now public.now script.now messages.now challenges.now }
 {
     let skip = filled_inputs(circuit, factored.rows);
@@ -330,7 +333,8 @@ pub fn combine_with_bounds<F: Field>(
     requires room { HasRoomFor circuit.now factored.old }
     ensures forms { AreFormsOf F.ops circuit.now forms.new }
     ensures room { HasRoomFor circuit.now factored.new }
-    ensures combined { GivesCombined F.ops (params_of circuit.now) factored.new (combined_of F.ops F.element circuit.now public.now script.now messages.now challenges.now) }
+    ensures combined { GivesCombined F.ops (params_of circuit.now) factored.new
+        (combined_of F.ops F.element circuit.now public.now script.now messages.now challenges.now) }
     ensures wanted { result ≡ wanted_of F.ops F.element circuit.now public.now script.now messages.now challenges.now }
 {
     let skip = filled_inputs(circuit, factored.rows);

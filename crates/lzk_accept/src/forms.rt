@@ -49,7 +49,8 @@ impl<F> Model for Forms<F> {
 
     ghost view = { λ f. record { forms = f.forms.items; own = f.own.items; room = length f.weights.items } };
 
-    ghost invariant = { λ f. (length f.first.items ≡ length f.weights.items) × (length f.second.items ≡ length f.weights.items) × (length f.bounds.items + 1 ≡ length f.forms.items) };
+    ghost invariant = { λ f. (length f.first.items ≡ length f.weights.items) × (length f.second.items ≡ length f.weights.items) ×
+        (length f.bounds.items + 1 ≡ length f.forms.items) };
 }
 
 impl<F: Field> Form<F> {

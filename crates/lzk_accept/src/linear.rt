@@ -64,7 +64,8 @@ fn constant_of<F: Field>(
     bound: F,
     factors: Factors<F>,
 ) -> F
-    ensures { let o = F.ops in result ≡ minus o (o.plus claim.constant (o.times claim.weight (o.plus above.first (o.times alpha above.second)))) (o.times bound (o.times factors.first factors.second)) }
+    ensures { let o = F.ops in result ≡ minus o (o.plus claim.constant (o.times claim.weight (o.plus above.first (o.times alpha above.second))))
+        (o.times bound (o.times factors.first factors.second)) }
 {
     let before = above.first.add(alpha.mul(above.second));
     let rounds = claim.constant.add(claim.weight.mul(before));
@@ -114,7 +115,8 @@ fn layer_form<F: Field>(
     ensures before { (j : ℕ) → j < pads_at circuit.now l → entry F.ops own.new j ≡ entry F.ops own.old j }
     ensures after { (j : ℕ) → pads_at circuit.now (l + 1) ≤ j → entry F.ops own.new j ≡ entry F.ops own.old j }
     ensures placed { IsPlacedAt circuit.now l result }
-    ensures constraint { (public : List F) → IsConstraint F.ops F.element circuit.now (coefficients F.ops circuit.now script.now) public script.now messages.now l own.new result }
+    ensures constraint { (public : List F) → IsConstraint F.ops F.element circuit.now (coefficients F.ops circuit.now script.now) public script.now
+        messages.now l own.new result }
 {
     let layer = layer_of(circuit, script, l);
     let alpha = layer.alpha;
@@ -153,7 +155,8 @@ fn joined<F: Field>(k: usize, gamma: F, first: &[F], second: &[F]) -> F
 fn public_part<F: Field>(public: &[F], gamma: F, first: &[F], second: &[F]) -> F
     requires first { length public.now < length first.now }
     requires second { length public.now < length second.now }
-    ensures { let o = F.ops in result ≡ sum_below o (1 + length public.now) (λ k. o.times (o.plus (entry o first.now k) (o.times gamma (entry o second.now k))) (entry o (o.one ∷ public.now) k)) }
+    ensures { let o = F.ops in result ≡ sum_below o (1 + length public.now)
+        (λ k. o.times (o.plus (entry o first.now k) (o.times gamma (entry o second.now k))) (entry o (o.one ∷ public.now) k)) }
 {
     let mut total = joined(0, gamma, first, second);
     for i in 0..public.len() {
@@ -177,7 +180,8 @@ fn set_privates<F: Field>(
     requires first { at + count ≤ length first.now }
     requires second { at + count ≤ length second.now }
     ensures length { length own.new ≡ length own.old }
-    ensures entries { let o = F.ops in (k : ℕ) → skip ≤ k → k < count → entry o own.new k ≡ o.plus (entry o first.now (at + k)) (o.times gamma (entry o second.now (at + k))) }
+    ensures entries { let o = F.ops in (k : ℕ) → skip ≤ k → k < count →
+        entry o own.new k ≡ o.plus (entry o first.now (at + k)) (o.times gamma (entry o second.now (at + k))) }
     ensures after { (k : ℕ) → count ≤ k → entry F.ops own.new k ≡ entry F.ops own.old k }
 {
     for k in skip..count {
@@ -259,7 +263,9 @@ fn fill_layers<F: Field>(
     ensures above_a { result.first ≡ above_a F.ops circuit.now messages.now (depth circuit.now) }
     ensures above_b { result.second ≡ above_b F.ops circuit.now messages.now (depth circuit.now) }
     ensures placed { (i : ℕ) → i < depth circuit.now + 1 → IsPlacedAt circuit.now i (form_at F.ops forms.new i) }
-    ensures constraints { (public : List F) (i : ℕ) → i < depth circuit.now → IsConstraint F.ops F.element circuit.now (coefficients F.ops circuit.now script.now) public script.now messages.now i own.new (form_at F.ops forms.new i) }
+    ensures constraints { (public : List F) (i : ℕ) → i < depth circuit.now →
+        IsConstraint F.ops F.element circuit.now (coefficients F.ops circuit.now script.now) public script.now messages.now i own.new
+        (form_at F.ops forms.new i) }
 {
     let depth = circuit.depth();
     let points = ThreePoints::new();
@@ -302,8 +308,10 @@ fn fill_forms<F: Field>(
     requires bounds { AreBounds F.ops circuit.now script.now bounds.now }
     requires first_room { width_at circuit.now (depth circuit.now) ≤ length first.now }
     requires second_room { width_at circuit.now (depth circuit.now) ≤ length second.now }
-    requires first { let o = F.ops in (g : ℕ) → g < width_at circuit.now (depth circuit.now) → entry o first.now g ≡ eq o g (point_a o script.now (depth circuit.now)) }
-    requires second { let o = F.ops in (g : ℕ) → g < width_at circuit.now (depth circuit.now) → entry o second.now g ≡ eq o g (point_b o script.now (depth circuit.now)) }
+    requires first { let o = F.ops in (g : ℕ) → g < width_at circuit.now (depth circuit.now) →
+        entry o first.now g ≡ eq o g (point_a o script.now (depth circuit.now)) }
+    requires second { let o = F.ops in (g : ℕ) → g < width_at circuit.now (depth circuit.now) →
+        entry o second.now g ≡ eq o g (point_b o script.now (depth circuit.now)) }
     requires count { length forms.old ≡ depth circuit.now + 1 }
     requires placed { (i : ℕ) → i < depth circuit.now + 1 → IsPlacedAt circuit.now i (form_at F.ops forms.old i) }
     requires own { length own.old ≡ committed_count circuit.now }

@@ -91,7 +91,8 @@ impl<F: Field> ThreePoints<F> {
 /// before it, at the round's challenge `t`.
 pub fn next_claim<F: Field>(claim: F, p0: F, p2: F, t: F) -> F
     ensures value { result ≡ next_claim F.ops F.element claim p0 p2 t }
-    ensures polynomial { (coefficients : List F) → IsThrough F.ops F.element (p0 ∷ minus F.ops claim p0 ∷ p2 ∷ []) coefficients → result ≡ eval F.ops coefficients t }
+    ensures polynomial { (coefficients : List F) → IsThrough F.ops F.element (p0 ∷ minus F.ops claim p0 ∷ p2 ∷ []) coefficients →
+        result ≡ eval F.ops coefficients t }
 {
     ThreePoints::new().next_claim(claim, p0, p2, t)
 }

@@ -34,7 +34,8 @@ fn round_back<F: Field>(
     ensures second { let o = F.ops in entry o own.new (k + 1) ≡ o.times claim.weight shares.third }
     ensures before { (j : ℕ) → j < k → entry F.ops own.new j ≡ entry F.ops own.old j }
     ensures after { (j : ℕ) → k + 1 < j → entry F.ops own.new j ≡ entry F.ops own.old j }
-    ensures constant { let o = F.ops in result.constant ≡ o.plus claim.constant (o.times claim.weight (o.plus (o.times (minus o shares.first shares.second) p0) (o.times shares.third p2))) }
+    ensures constant { let o = F.ops in result.constant ≡ o.plus claim.constant
+        (o.times claim.weight (o.plus (o.times (minus o shares.first shares.second) p0) (o.times shares.third p2))) }
     ensures weight { result.weight ≡ F.ops.times claim.weight shares.second }
 {
     let first = shares.first.sub(shares.second);

@@ -121,7 +121,13 @@ pub(crate) fn layer_bound<F: Field>(
     let below = circuit.width(l + 1) as usize;
     set_table(layer.ra.as_slice(), below, first);
     set_table(layer.rb.as_slice(), below, second);
-    sum_terms(circuit.layer(l).terms.as_slice(), weights, first, second)
+    sum_terms(
+        circuit.layer(l).terms.as_slice(),
+        layer.beta,
+        weights,
+        first,
+        second,
+    )
 }
 
 /// Sets the bound coefficients of all layers, for which their terms are gone over, and the tables to the inputs' two points.
@@ -143,8 +149,10 @@ pub(crate) fn set_bounds<F: Field>(
     ensures second_length { length second.new ≡ length second.old }
     ensures bounds_length { length bounds.new ≡ length bounds.old }
     ensures bounds { AreBounds F.ops circuit.now script.now bounds.new }
-    ensures first { let o = F.ops in (g : ℕ) → g < width_at circuit.now (depth circuit.now) → entry o first.new g ≡ eq o g (point_a o script.now (depth circuit.now)) }
-    ensures second { let o = F.ops in (g : ℕ) → g < width_at circuit.now (depth circuit.now) → entry o second.new g ≡ eq o g (point_b o script.now (depth circuit.now)) }
+    ensures first { let o = F.ops in (g : ℕ) → g < width_at circuit.now (depth circuit.now) →
+        entry o first.new g ≡ eq o g (point_a o script.now (depth circuit.now)) }
+    ensures second { let o = F.ops in (g : ℕ) → g < width_at circuit.now (depth circuit.now) →
+        entry o second.new g ≡ eq o g (point_b o script.now (depth circuit.now)) }
 {
     let outputs = circuit.width(0) as usize;
     set_table(script.out_point.as_slice(), outputs, first);
@@ -166,8 +174,10 @@ pub(crate) fn set_input_tables<F: Field>(
     requires second_room { 2 ^ bits (width_at circuit.now (depth circuit.now)) ≤ length second.old }
     ensures first_length { length first.new ≡ length first.old }
     ensures second_length { length second.new ≡ length second.old }
-    ensures first { let o = F.ops in (g : ℕ) → g < width_at circuit.now (depth circuit.now) → entry o first.new g ≡ eq o g (point_a o script.now (depth circuit.now)) }
-    ensures second { let o = F.ops in (g : ℕ) → g < width_at circuit.now (depth circuit.now) → entry o second.new g ≡ eq o g (point_b o script.now (depth circuit.now)) }
+    ensures first { let o = F.ops in (g : ℕ) → g < width_at circuit.now (depth circuit.now) →
+        entry o first.new g ≡ eq o g (point_a o script.now (depth circuit.now)) }
+    ensures second { let o = F.ops in (g : ℕ) → g < width_at circuit.now (depth circuit.now) →
+        entry o second.new g ≡ eq o g (point_b o script.now (depth circuit.now)) }
 {
     let depth = circuit.depth();
     let inputs = circuit.width(depth) as usize;

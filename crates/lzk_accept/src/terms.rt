@@ -6,7 +6,7 @@ ghost use Rattle.lzk_circuit.specs.Sums.{sum_list};
 ghost use Rattle.lzk_circuit.specs.declared.layer.Term as declared;
 ghost use Rattle.lzk_accept.specs.Walks.{counted, counted_so_far};
 
-use lzk_circuit::Term;
+use lzk_circuit::{Term, weight_of};
 use lzk_field::Field;
 
 // A sum over terms, of which those of the last wire are not weighted yet. The terms whose first wire is wire 0 are summed without
@@ -54,14 +54,15 @@ fn at_wire<F: Field>(walk: Walk<F>, wire: u32, weights: &[F], base: F) -> Walk<F
 }
 
 // With one more term of the walk's wire.
-fn with_term<F: Field>(walk: Walk<F>, term: Term<F>, first: &[F], second: &[F]) -> Walk<F>
+fn with_term<F: Field>(walk: Walk<F>, term: Term<F>, beta: F, first: &[F], second: &[F]) -> Walk<F>
     requires a { term.a < length first.now }
     requires b { term.b < length second.now }
     requires wire { walk.wire ≡ term.g }
     ensures wire { result.wire ≡ term.g }
-    ensures sum { let o = F.ops in (weights : List F) → counted_so_far o weights (entry o first.now 0) result ≡ o.plus (counted_so_far o weights (entry o first.now 0) walk) (counted o weights first.now second.now term) }
+    ensures sum { let o = F.ops in (weights : List F) → counted_so_far o weights (entry o first.now 0) result ≡
+        o.plus (counted_so_far o weights (entry o first.now 0) walk) (counted o beta weights first.now second.now term) }
 {
-    let part = scaled(term.coef, second[term.b as usize]);
+    let part = scaled(weight_of(term.coef, beta), second[term.b as usize]);
     if term.a == 0 {
         return Walk {
             total: walk.total,
@@ -78,13 +79,21 @@ fn with_term<F: Field>(walk: Walk<F>, term: Term<F>, first: &[F], second: &[F]) 
     }
 }
 
-/// The sum over the terms of each coefficient times its wires' entries of the three tables. As terms ascend by their wires, this
+/// The sum over the terms of each coefficient, or beta for an assertion term, times its wires' entries of the three tables. As terms
+/// ascend by their wires, this
 /// takes at most two products a term, and two a wire.
-pub(crate) fn sum_terms<F: Field>(terms: &[Term<F>], weights: &[F], first: &[F], second: &[F]) -> F
+pub(crate) fn sum_terms<F: Field>(
+    terms: &[Term<F>],
+    beta: F,
+    weights: &[F],
+    first: &[F],
+    second: &[F],
+) -> F
     requires some { 0 < length weights.now }
     requires below { 0 < length first.now }
-    requires placed { (i : ℕ) (t : declared.Term F) → slice_get terms.now i ≡ Some t → (t.g < length weights.now) × (t.a < length first.now) × (t.b < length second.now) }
-    ensures { result ≡ sum_list F.ops terms.now (counted F.ops weights.now first.now second.now) }
+    requires placed { (i : ℕ) (t : declared.Term F) → slice_get terms.now i ≡ Some t → (t.g < length weights.now) × (t.a < length first.now) ×
+        (t.b < length second.now) }
+    ensures { result ≡ sum_list F.ops terms.now (counted F.ops beta weights.now first.now second.now) }
 {
     let base = first[0];
     let mut walk = Walk {
@@ -96,7 +105,7 @@ pub(crate) fn sum_terms<F: Field>(terms: &[Term<F>], weights: &[F], first: &[F],
     for i in 0..terms.len() {
         let term = terms[i];
         let there = at_wire(walk, term.g, weights, base);
-        walk = with_term(there, term, first, second);
+        walk = with_term(there, term, beta, first, second);
     }
     summed(walk, weights, base)
 }

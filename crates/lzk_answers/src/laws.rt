@@ -1,6 +1,8 @@
 //! Laws of answers, as contracts of functions that do nothing.
 
-ghost use Rattle.lzk_answers.specs.Laws.{NoFurtherZero, ColumnsOpen, LowDegreePasses, LinearPasses, QuadraticPasses, ZerosStand, LinearSumStands, CombinedRows, LowDegreeFails, LinearFails, QuadraticFails, SumsChange};
+ghost use Rattle.lzk_answers.specs.Laws.{NoFurtherZero, ColumnsOpen, LowDegreePasses, LinearPasses, QuadraticPasses};
+ghost use Rattle.lzk_answers.specs.Laws.{ZerosStand, LinearSumStands, CombinedRows, LowDegreeFails, LinearFails};
+ghost use Rattle.lzk_answers.specs.Laws.{QuadraticFails, SumsChange};
 
 use lzk_field::Field;
 

@@ -47,7 +47,8 @@ fn extend_behind<F: Field, X: RowExtend<F>>(
     ensures behind { length behind.new ≡ length behind.old }
     ensures room { length room.new ≡ length room.old }
     ensures given { (list : List F) → AreCoefficients F.ops params.now (entry F.ops coefficients.now) list → values.new ≡ list }
-    ensures further { (list : List F) → AreCoefficients F.ops params.now (entry F.ops coefficients.now) list → (k : ℕ) → k < length behind.old → entry F.ops behind.new k ≡ extension F.ops F.element list (params.now.block + k) }
+    ensures further { (list : List F) → AreCoefficients F.ops params.now (entry F.ops coefficients.now) list → (k : ℕ) → k < length behind.old →
+        entry F.ops behind.new k ≡ extension F.ops F.element list (params.now.block + k) }
     ensures values { length values.new ≡ length values.old }
 {
     fill_row(coefficients, values);
@@ -70,7 +71,8 @@ fn extend_coefficients<F: Field, X: RowExtend<F>>(
     requires room { X.rooms extender.now ≤ length room.old }
     ensures row { length row.new ≡ length row.old }
     ensures room { length room.new ≡ length room.old }
-    ensures values { (list : List F) → AreCoefficients F.ops params.now (entry F.ops coefficients.now) list → (k : ℕ) → k < params.now.dblock → entry F.ops row.new k ≡ extension F.ops F.element list k }
+    ensures values { (list : List F) → AreCoefficients F.ops params.now (entry F.ops coefficients.now) list → (k : ℕ) → k < params.now.dblock →
+        entry F.ops row.new k ≡ extension F.ops F.element list k }
 {
     let (values, behind) = row.split_at_mut(params.block as usize);
     extend_behind(params, coefficients, extender, values, behind, room);
@@ -156,8 +158,10 @@ fn add_factored<F: Field>(
     requires further { AreExtended F.ops F.element params.now place_factors.now behind.now }
     requires answer { length answer.old ≡ params.now.dblock }
     ensures answer { length answer.new ≡ length answer.old }
-    ensures values { let o = F.ops in (lists : ℕ → List F) → AreFactored o params.now rows 4 row_factors.now place_factors.now lists → (k : ℕ) → k < params.now.dblock →
-        entry o answer.new k ≡ o.plus (entry o answer.old k) (sum_below o rows (λ i. o.times (extension o F.element (lists (3 + i)) k) (entry o table.now ((3 + i) * width + k)))) }
+    ensures values { let o = F.ops in (lists : ℕ → List F) → AreFactored o params.now rows 4 row_factors.now place_factors.now lists → (k : ℕ) →
+        k < params.now.dblock →
+        entry o answer.new k ≡ o.plus (entry o answer.old k)
+        (sum_below o rows (λ i. o.times (extension o F.element (lists (3 + i)) k) (entry o table.now ((3 + i) * width + k)))) }
 {
     let block = params.block as usize;
     let (front, further) = answer.split_at_mut(block);
@@ -197,7 +201,8 @@ fn add_listed<F: Field, X: RowExtend<F>>(
     ensures room { length room.new ≡ length room.old }
     ensures answer { length answer.new ≡ length answer.old }
     ensures values { let o = F.ops in (lists : ℕ → List F) → AreListed o params.now m coefficients.now lists → (k : ℕ) → k < params.now.dblock →
-        entry o answer.new k ≡ o.plus (entry o answer.old k) (sum_below o (params.now.nrow - 3 - m) (λ t. o.times (extension o F.element (lists (3 + (m + t))) k) (entry o table.now ((3 + (m + t)) * width + k)))) }
+        entry o answer.new k ≡ o.plus (entry o answer.old k)
+        (sum_below o (params.now.nrow - 3 - m) (λ t. o.times (extension o F.element (lists (3 + (m + t))) k) (entry o table.now ((3 + (m + t)) * width + k)))) }
 {
     let wr = params.wr as usize;
     let size = params.dblock as usize;

@@ -16,7 +16,8 @@ fn add_product<F: Field>(answer: &mut [F], by: F, x: &[F], y: &[F])
     requires x { length x.now ≡ length answer.old }
     requires y { length y.now ≡ length answer.old }
     ensures length { length answer.new ≡ length answer.old }
-    ensures entries { let o = F.ops in (k : ℕ) → k < length answer.old → entry o answer.new k ≡ o.plus (entry o answer.old k) (o.times by (o.times (entry o x.now k) (entry o y.now k))) }
+    ensures entries { let o = F.ops in (k : ℕ) → k < length answer.old →
+        entry o answer.new k ≡ o.plus (entry o answer.old k) (o.times by (o.times (entry o x.now k) (entry o y.now k))) }
 {
     for k in 0..answer.len() {
         answer[k] = answer[k].add(by.mul(x[k].mul(y[k])));
@@ -40,7 +41,10 @@ fn add_triple<F: Field>(table: &[F], width: usize, first: usize, by: F, answer: 
     requires few { first ≤ 262 }
     requires short { length answer.old ≤ width }
     ensures length { length answer.new ≡ length answer.old }
-    ensures entries { let o = F.ops in (k : ℕ) → k < length answer.old → entry o answer.new k ≡ o.plus (entry o answer.old k) (o.times by (minus o (o.times (entry o table.now (first * width + k)) (entry o table.now ((first + 1) * width + k))) (entry o table.now ((first + 2) * width + k)))) }
+    ensures entries { let o = F.ops in (k : ℕ) → k < length answer.old →
+        entry o answer.new k ≡ o.plus (entry o answer.old k)
+        (o.times by (minus o (o.times (entry o table.now (first * width + k)) (entry o table.now ((first + 1) * width + k)))
+        (entry o table.now ((first + 2) * width + k)))) }
 {
     let size = answer.len();
     let x = row_of(table, width, first, size);

@@ -99,7 +99,9 @@ fn add_group<F: Field>(
     requires short { length out.old ≤ width }
     requires column { length column.old ≡ length factors.now }
     ensures length { length out.new ≡ length out.old }
-    ensures sums { let o = F.ops in (k : ℕ) → k < length out.old → entry o out.new k ≡ o.plus (entry o out.old k) (sum_below o (length factors.now) (λ i. o.times (entry o factors.now i) (entry o table.now ((first + i) * width + k)))) }
+    ensures sums { let o = F.ops in (k : ℕ) → k < length out.old →
+        entry o out.new k ≡ o.plus (entry o out.old k) (sum_below o (length factors.now)
+        (λ i. o.times (entry o factors.now i) (entry o table.now ((first + i) * width + k)))) }
 {
     for k in 0..out.len() {
         gather(table, width, first, k, column);
@@ -122,7 +124,9 @@ pub(crate) fn add_rows<F: Field>(
     requires column { 32 ≤ length column.old }
     ensures column { length column.new ≡ length column.old }
     ensures length { length out.new ≡ length out.old }
-    ensures sums { let o = F.ops in (k : ℕ) → k < length out.old → entry o out.new k ≡ o.plus (entry o out.old k) (sum_below o (length factors.now) (λ i. o.times (entry o factors.now i) (entry o table.now ((first + i) * width + k)))) }
+    ensures sums { let o = F.ops in (k : ℕ) → k < length out.old →
+        entry o out.new k ≡ o.plus (entry o out.old k) (sum_below o (length factors.now)
+        (λ i. o.times (entry o factors.now i) (entry o table.now ((first + i) * width + k)))) }
 {
     let mut start = 0;
     while start < factors.len() {
@@ -140,7 +144,9 @@ fn factored_at<F: Field>(factors: &[F], column: &[F], values: &[F], size: usize,
     requires factors { length factors.now ≡ 4 * length column.now }
     requires values { length values.now ≡ 4 * size }
     requires place { k < size }
-    ensures { let o = F.ops in let rows = length column.now in result ≡ sum_below o 4 (λ f. o.times (entry o values.now (f * size + k)) (sum_below o rows (λ i. o.times (entry o factors.now (f * rows + i)) (entry o column.now i)))) }
+    ensures { let o = F.ops in let rows = length column.now in
+        result ≡ sum_below o 4 (λ f. o.times (entry o values.now (f * size + k))
+        (sum_below o rows (λ i. o.times (entry o factors.now (f * rows + i)) (entry o column.now i)))) }
 {
     let rows = column.len();
     let mut sum = F::zero();
@@ -172,7 +178,8 @@ pub(crate) fn add_products<F: Field>(
     requires short { from + length out.old ≤ width }
     ensures length { length out.new ≡ length out.old }
     ensures sums { let o = F.ops in (k : ℕ) → k < length out.old → entry o out.new k ≡ o.plus (entry o out.old k)
-        (sum_below o 4 (λ f. o.times (entry o values.now (f * length out.old + k)) (sum_below o rows (λ i. o.times (entry o factors.now (f * rows + i)) (entry o table.now ((first + i) * width + (from + k))))))) }
+        (sum_below o 4 (λ f. o.times (entry o values.now (f * length out.old + k))
+        (sum_below o rows (λ i. o.times (entry o factors.now (f * rows + i)) (entry o table.now ((first + i) * width + (from + k))))))) }
 {
     let mut room = [F::zero(); MOST_ROWS];
     let (column, _) = room.split_at_mut(rows);

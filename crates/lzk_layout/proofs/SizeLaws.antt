@@ -10,7 +10,7 @@ use Rattle.std.proofs.lemmas.List.{length-map, length-append, length-drop}
 use Rattle.std.proofs.lemmas.List.Sums.{sum_by-cons, sum_by_more}
 use Rattle.lzk_field.specs.Ring.{Ops}
 use Rattle.lzk_circuit.specs.declared.layer.Layer.{Layer}
-use Rattle.lzk_circuit.specs.Valid.{Wiring, input_width, AreLayers, IsValid, widths}
+use Rattle.lzk_circuit.specs.Valid.{Wiring, input_width, AreLayersOf, IsValid, widths}
 use Rattle.lzk_layout.specs.declared.params.Params.{Params}
 use Rattle.lzk_layout.specs.Sizes.{row_width, under_widths, sent_count, pad_count, sent_counts, committed_count, sizes, params_of, AreParams, AreBounded}
 use Rattle.lzk_circuit.proofs.BitLaws.{bits_few}
@@ -18,14 +18,14 @@ use Rattle.lzk_layout.proofs.Least.{width_64, width_128, width_256, width_512}
 
 -- ---- widths
 
-narrow_from : {A : Type 0} (o : Ops A) (n l : ℕ) (layers : List (Layer A)) → n ≤ 131072 → AreLayers o n layers → get_or (map (λ layer. layer.wires) layers ++ n ∷ []) l 0 ≤ 131072
-narrow_from o n zero [] le h = le
-narrow_from o n (suc l) [] le h = omega arith
-narrow_from o n zero (layer ∷ layers) le h = let one = h.0 in one.most
-narrow_from o n (suc l) (layer ∷ layers) le h = narrow_from o n l layers le h.1
+narrow_from : {A : Type 0} (o : Ops A) (version n l : ℕ) (layers : List (Layer A)) → n ≤ 131072 → AreLayersOf o version n layers → get_or (map (λ layer. layer.wires) layers ++ n ∷ []) l 0 ≤ 131072
+narrow_from o version n zero [] le h = le
+narrow_from o version n (suc l) [] le h = omega arith
+narrow_from o version n zero (layer ∷ layers) le h = let one = h.0 in one.most
+narrow_from o version n (suc l) (layer ∷ layers) le h = narrow_from o version n l layers le h.1
 
 pub narrow : {A : Type 0} (o : Ops A) (c : Wiring A) (l : ℕ) → IsValid o c → get_or (widths c) l 0 ≤ 131072
-narrow o c l valid = narrow_from o (input_width c) l c.layers (omega (arith, valid.publics, valid.privates)) valid.layers
+narrow o c l valid = narrow_from o c.version (input_width c) l c.layers (omega (arith, valid.publics, valid.privates)) valid.layers
 
 get_or_next : (xs : List ℕ) (l : ℕ) → get_or (drop 1 xs) l 0 ≡ get_or xs (l + 1) 0
 get_or_next [] l = refl

@@ -103,8 +103,10 @@ fn put_head<F: Field>(out: &mut [u8], proof: &Proof<F>) -> usize
 
 // The elements that are no columns'.
 fn put_answers<F: Field>(out: &mut [u8], at: usize, proof: &Proof<F>) -> usize
-    requires { at + F.BYTES * (length proof.now.messages + length proof.now.ldt + length proof.now.dot + length proof.now.quad_head + length proof.now.quad_tail) ≤ length out.old }
-    ensures end { result ≡ at + F.BYTES * (length proof.now.messages + length proof.now.ldt + length proof.now.dot + length proof.now.quad_head + length proof.now.quad_tail) }
+    requires { at + F.BYTES * (length proof.now.messages + length proof.now.ldt + length proof.now.dot + length proof.now.quad_head + length
+        proof.now.quad_tail) ≤ length out.old }
+    ensures end { result ≡ at + F.BYTES * (length proof.now.messages + length proof.now.ldt + length proof.now.dot + length proof.now.quad_head +
+        length proof.now.quad_tail) }
     ensures length { length out.new ≡ length out.old }
     ensures front { take result out.new ≡ take at out.old ++ answers_bytes (element_field F.BYTES F.number_of) proof.now }
 {

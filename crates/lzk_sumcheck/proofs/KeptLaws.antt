@@ -1,5 +1,5 @@
 -- What a prover keeps of a layer: pairs, the coefficients of wire 0, and two tables.
-use Rattle.std.specs.Prelude.{◌≡◌, ◌≢◌, ℕ, ◌<◌, ◌≤◌, ◌+◌, ◌*◌, ◌^◌, ◌==◌, ◌&&◌, List, [], ◌∷◌, length, map, take, drop, slice_set, true, false, not, Bool, cond}
+use Rattle.std.specs.Prelude.{◌≡◌, ◌≢◌, ℕ, ◌<◌, ◌≤◌, ◌+◌, ◌*◌, ◌^◌, ◌==◌, ◌&&◌, None, List, [], ◌∷◌, length, map, take, drop, slice_set, true, false, not, Bool, cond}
 use Rattle.std.proofs.Common.{refl, sym, ap, ◌∙◌, arith, ◌⊎◌, inl, inr}
 use Rattle.std.proofs.lemmas.Bool.{cases_eq, eq-eqb, ne_eqb}
 use Rattle.std.proofs.lemmas.List.{get_or_past, get_or-take, length-take-le, get_or-set_same, get_or-set_other}
@@ -12,7 +12,10 @@ use Rattle.lzk_field.proofs.SumLaws.{sum-ext, sum-zero, sum-plus, sum-single}
 use Rattle.lzk_mle.specs.Multilinear.{tilde}
 use Rattle.lzk_mle.proofs.TableLaws.{extension-bound, extension-same, tilde-is}
 use Rattle.lzk_circuit.specs.declared.layer.Term.{Term}
-use Rattle.lzk_circuit.specs.Wires.{coef, is_at, AreDistinct}
+use Rattle.lzk_circuit.specs.Valid.{ArePlaced}
+use Rattle.lzk_circuit.specs.Wires.{coef, is_at, layer_coefficient, weighed, AreDistinct}
+use Rattle.lzk_circuit.proofs.AssertLaws.{weighed-coef, weighed-placed}
+use Rattle.lzk_circuit.proofs.OrderLaws.{placed-distinct}
 use Rattle.lzk_circuit.proofs.TermSums.{split}
 use Rattle.lzk_sumcheck.specs.declared.pairs.Pair.{Pair}
 use Rattle.lzk_sumcheck.specs.Layers.{layer_of_terms}
@@ -139,10 +142,20 @@ module _ {A : Type 0} (o : Ops A) (r : RingLaws o) where
       none true = refl
       none false = refl
 
-  pub first-kept : (terms : List (Term A)) (weights values first second linear : List A) (ps : List (Pair A)) (bits : ℕ) → AreDistinct o (length weights) (length values) terms
+  -- the same, of all coefficients
+  weighed-weights : (terms : List (Term A)) (beta : A) (weights : List A) (n a b : ℕ) → ArePlaced (length weights) n None terms
+      → sum_below o (length weights) (λ g. times (entry o weights g) (layer_coefficient o terms beta g a b)) ≡ spread o (map (first_pair o weights) (weighed o beta terms)) a b
+  weighed-weights terms beta weights n a b h =
+      let ts = weighed o beta terms in
+      sum-ext o r (length weights) (λ g. times (entry o weights g) (layer_coefficient o terms beta g a b)) (λ g. times (entry o weights g) (coef o ts g a b))
+      (λ g l. ap (times (entry o weights g)) (weighed-coef o r beta terms g a b))
+      ∙ weights-of ts weights n a b (placed-distinct o (length weights) n None ts (weighed-placed o beta (length weights) n terms h))
+
+  pub first-kept : (terms : List (Term A)) (beta : A) (weights values first second linear : List A) (ps : List (Pair A)) (bits : ℕ) → ArePlaced (length weights) (length values) None terms
       → ((i : ℕ) → entry o first i ≡ entry o values i) → ((i : ℕ) → entry o second i ≡ entry o values i)
-      → ((a b : ℕ) → counted o ps linear a b ≡ spread o (map (first_pair o weights) terms) a b) → IsKept o bits bits (state_of o (layer_of_terms o terms weights values bits)) true ps o.one linear first second
-  first-kept terms weights values first second linear ps bits h e e2 sums = record {
+      → ((a b : ℕ) → counted o ps linear a b ≡ spread o (map (first_pair o weights) (weighed o beta terms)) a b)
+      → IsKept o bits bits (state_of o (layer_of_terms o terms beta weights values bits)) true ps o.one linear first second
+  first-kept terms beta weights values first second linear ps bits h e e2 sums = record {
     n_is = refl;
     m_is = refl;
     q_is = λ a b. at a b (dec_lt a (length values)) (dec_lt b (length values)) ∙ sym (sums a b);
@@ -150,21 +163,24 @@ module _ {A : Type 0} (o : Ops A) (r : RingLaws o) where
     h_is = λ i. sym (e2 i);
   }
     where
-      at : (a b : ℕ) → Dec (a < length values) → Dec (b < length values) → cut o (length values) (λ c. cut o (length values) (weighted o (layer_of_terms o terms weights values bits) c) b) a ≡ spread o (map (first_pair o weights) terms) a b
+      apart : AreDistinct o (length weights) (length values) (weighed o beta terms)
+      apart = placed-distinct o (length weights) (length values) None (weighed o beta terms) (weighed-placed o beta (length weights) (length values) terms h)
+
+      at : (a b : ℕ) → Dec (a < length values) → Dec (b < length values) → cut o (length values) (λ c. cut o (length values) (weighted o (layer_of_terms o terms beta weights values bits) c) b) a ≡ spread o (map (first_pair o weights) (weighed o beta terms)) a b
       at a b (yes p) (yes q) =
           let n = length values in
-          let w = weighted o (layer_of_terms o terms weights values bits) in
-          cut-below o r n (λ c. cut o n (w c) b) a p ∙ cut-below o r n (w a) b q ∙ weights-of terms weights n a b h
+          let w = weighted o (layer_of_terms o terms beta weights values bits) in
+          cut-below o r n (λ c. cut o n (w c) b) a p ∙ cut-below o r n (w a) b q ∙ weighed-weights terms beta weights n a b h
       at a b (yes p) (no q) =
           let n = length values in
           let past : n ≤ b = omega arith in
-          let w = weighted o (layer_of_terms o terms weights values bits) in
-          cut-below o r n (λ c. cut o n (w c) b) a p ∙ cut-above o r n (w a) b past ∙ sym (outside-b terms weights (length weights) n a b h past)
+          let w = weighted o (layer_of_terms o terms beta weights values bits) in
+          cut-below o r n (λ c. cut o n (w c) b) a p ∙ cut-above o r n (w a) b past ∙ sym (outside-b (weighed o beta terms) weights (length weights) n a b apart past)
       at a b (no p) q =
           let n = length values in
           let past : n ≤ a = omega arith in
-          let w = weighted o (layer_of_terms o terms weights values bits) in
-          cut-above o r n (λ c. cut o n (w c) b) a past ∙ sym (outside-a terms weights (length weights) n a b h past)
+          let w = weighted o (layer_of_terms o terms beta weights values bits) in
+          cut-above o r n (λ c. cut o n (w c) b) a past ∙ sym (outside-a (weighed o beta terms) weights (length weights) n a b apart past)
 
   -- the pairs of terms are within tables that have all values
   pub terms-within : (k v n m : ℕ) (weights : List A) (ts : List (Term A)) → AreDistinct o k v ts → v ≤ n → v ≤ m → ArePairs n m (map (first_pair o weights) ts)

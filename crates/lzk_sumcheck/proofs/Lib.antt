@@ -23,3 +23,5 @@ pub mod SentLaws
 pub mod ShapeLaws
 pub mod SpreadLaws
 pub mod SumcheckLaws
+pub mod VersionLaws
+pub mod WireLaws

@@ -5,7 +5,7 @@ use Rattle.std.proofs.Common.{zero, suc, refl, sym, ap, ◌∙◌, arith}
 use Rattle.lzk_field.specs.Coding.{Coding}
 use Rattle.lzk_field.specs.Ring.{Ops}
 use Rattle.lzk_field.specs.Sums.{minus, entry}
-use Rattle.lzk_transcript.specs.Tape.{TapeState, after_draw}
+use Rattle.lzk_transcript.specs.Tape.{TapeState}
 use Rattle.lzk_mle.specs.Multilinear.{tilde}
 use Rattle.lzk_circuit.specs.declared.layer.Term.{Term}
 use Rattle.lzk_circuit.specs.Valid.{Wiring}
@@ -16,9 +16,9 @@ use Rattle.lzk_sumcheck.specs.Coefficients.{coefficients, terms_at, weights_at}
 use Rattle.lzk_sumcheck.specs.Layers.{layer_of_terms}
 use Rattle.lzk_sumcheck.specs.Messages.{layered_at, true_round, IsLayerSent}
 use Rattle.lzk_sumcheck.specs.Rounds.{Layered, round}
-use Rattle.lzk_sumcheck.specs.Script.{round_challenge, layer_script, after_layers, script, layer_at, challenge_at, first_challenges}
+use Rattle.lzk_sumcheck.specs.Script.{after_first, round_challenge, layer_script, after_layers, script, layer_at, challenge_at, first_challenges}
 use Rattle.lzk_sumcheck.specs.Sending.{AreRoundsSent}
-use Rattle.lzk_sumcheck.proofs.Prefixes.{StandAt, AgreeBelow, start, map-same, sent-suc, challenge-same, layer-same, script-layer, script-challenge, layer-agrees, weights-same, challenges-same}
+use Rattle.lzk_sumcheck.proofs.Prefixes.{StandAt, AgreeBelow, start, map-same, sent-suc, challenge-same, layer-same, script-layer, script-challenge, layer-agrees, beta-same, weights-same, challenges-same}
 
 take-range : {Y : Type 0} (f : ℕ → Y) (a i n : ℕ) → i ≤ n → take i (map f (range_with_len a n)) ≡ map f (range_with_len a i)
 take-range f a zero n h = refl
@@ -34,9 +34,11 @@ module _ {A : Type 0} (o : Ops A) (e : Coding A) (c : Wiring A) (values : List (
       → true_round o c (script o e xs c t) values l m x ≡ true_round o c (script o e ys c t) values l m x
   unfolding coefficients
   true-same n xs ys same l m x h r b =
-      let of_weights : List A → Layered A = λ w. layer_of_terms o (terms_at c l) w (list_at values (l + 1)) (bits_under c l) in
-      ap (λ w. round o (of_weights w) (first_challenges o (script o e xs c t) l m) x) (weights-same o e c t n xs ys same l h (omega (arith, b)))
-      ∙ ap (λ bound. round o (of_weights (weights_at o c (script o e ys c t) l)) bound x) (challenges-same o e c t n xs ys same l m h r b)
+      let of_weights : A → List A → Layered A = λ beta w. layer_of_terms o (terms_at c l) beta w (list_at values (l + 1)) (bits_under c l) in
+      let beta = (layer_at o (script o e ys c t) l).beta in
+      ap (λ y. round o (of_weights y (weights_at o c (script o e xs c t) l)) (first_challenges o (script o e xs c t) l m) x) (beta-same o e c t n xs ys same l h (omega (arith, b)))
+      ∙ ap (λ w. round o (of_weights beta w) (first_challenges o (script o e xs c t) l m) x) (weights-same o e c t n xs ys same l h (omega (arith, b)))
+      ∙ ap (λ bound. round o (of_weights beta (weights_at o c (script o e ys c t) l)) bound x) (challenges-same o e c t n xs ys same l m h r b)
 
   -- a layer that is sent stays
   pub sent-stays : (n : ℕ) (xs ys : List A) → AgreeBelow o e c t n xs ys → (l : ℕ) → l < depth c → sent_at c (suc l) ≤ n → SentAt xs l → SentAt ys l
@@ -59,43 +61,44 @@ module _ {A : Type 0} (o : Ops A) (e : Coding A) (c : Wiring A) (values : List (
   -- a layer that is sent from its own lists
   module _ (l : ℕ) (h : l < depth c) (ys sent own : List A) (now : TapeState) (before : now ≡ after_layers o e ys c l (start o e c t)) where
     own-challenges : (k : ℕ) → k ≡ bits_under c l → StandAt o (sent_at c l) (4 * k + 2) sent ys → (i : ℕ) → i ≤ 2 * k
-        → take i (map (round_challenge o e sent 0 (after_draw now)) (range_with_len 0 (2 * k))) ≡ first_challenges o (script o e ys c t) l i
+        → take i (map (round_challenge o e sent 0 (after_first c.version now)) (range_with_len 0 (2 * k))) ≡ first_challenges o (script o e ys c t) l i
     own-challenges k bits at i few =
-        let f = round_challenge o e sent 0 (after_draw now) in
+        let f = round_challenge o e sent 0 (after_first c.version now) in
         take-range f 0 i (2 * k) few
         ∙ map-same f (challenge_at o (script o e ys c t) l) 0 i
         (λ j q.
-        challenge-same o e (sent_at c l) (4 * k + 2) sent ys at 0 (sent_at c l) j (after_draw now) (omega arith) (omega (arith, q, few))
-        ∙ ap (λ s. round_challenge o e ys (sent_at c l) (after_draw s) j) before
+        challenge-same o e (sent_at c l) (4 * k + 2) sent ys at 0 (sent_at c l) j (after_first c.version now) (omega arith) (omega (arith, q, few))
+        ∙ ap (λ s. round_challenge o e ys (sent_at c l) (after_first c.version s) j) before
         ∙ sym (script-challenge o e c t ys l j h (omega (arith, q, few, bits))))
 
-    pub own-layer : (k : ℕ) → k ≡ bits_under c l → StandAt o (sent_at c l) (4 * k + 2) sent ys → (layer : LayerScript A) → layer ≡ layer_script o e sent 0 k now → layer ≡ layer_at o (script o e ys c t) l
+    pub own-layer : (k : ℕ) → k ≡ bits_under c l → StandAt o (sent_at c l) (4 * k + 2) sent ys → (layer : LayerScript A) → layer ≡ layer_script o e sent c.version 0 k now → layer ≡ layer_at o (script o e ys c t) l
     own-layer k bits at layer is =
-        is ∙ layer-same o e (sent_at c l) (4 * k + 2) sent ys at 0 (sent_at c l) k now (omega arith) (omega arith)
-        ∙ ap (λ b. layer_script o e ys (sent_at c l) b now) bits ∙ ap (layer_script o e ys (sent_at c l) (bits_under c l)) before ∙ sym (script-layer o e c t ys l h)
+        is ∙ layer-same o e (sent_at c l) (4 * k + 2) sent ys at c.version 0 (sent_at c l) k now (omega arith) (omega arith)
+        ∙ ap (λ b. layer_script o e ys c.version (sent_at c l) b now) bits ∙ ap (layer_script o e ys c.version (sent_at c l) (bits_under c l)) before ∙ sym (script-layer o e c t ys l h)
 
-    own-layered : (k : ℕ) (ts : List (Term A)) (ws vs : List A) → k ≡ bits_under c l → ts ≡ terms_at c l → ws ≡ weights_at o c (script o e ys c t) l → vs ≡ list_at values (l + 1)
-        → layer_of_terms o ts ws vs k ≡ layered_at o c (script o e ys c t) values l
+    own-layered : (k : ℕ) (ts : List (Term A)) (beta : A) (ws vs : List A) → k ≡ bits_under c l → ts ≡ terms_at c l → beta ≡ (layer_at o (script o e ys c t) l).beta → ws ≡ weights_at o c (script o e ys c t) l → vs ≡ list_at values (l + 1)
+        → layer_of_terms o ts beta ws vs k ≡ layered_at o c (script o e ys c t) values l
     unfolding coefficients
-    own-layered k ts ws vs bits terms weights below =
-        ap (λ x. layer_of_terms o x ws vs k) terms ∙ ap (λ x. layer_of_terms o (terms_at c l) x vs k) weights
-        ∙ ap (λ x. layer_of_terms o (terms_at c l) (weights_at o c (script o e ys c t) l) x k) below
-        ∙ ap (layer_of_terms o (terms_at c l) (weights_at o c (script o e ys c t) l) (list_at values (l + 1))) bits
+    own-layered k ts beta ws vs bits terms own_beta weights below =
+        let y = (layer_at o (script o e ys c t) l).beta in
+        ap (λ x. layer_of_terms o x beta ws vs k) terms ∙ ap (λ x. layer_of_terms o (terms_at c l) x ws vs k) own_beta ∙ ap (λ x. layer_of_terms o (terms_at c l) y x vs k) weights
+        ∙ ap (λ x. layer_of_terms o (terms_at c l) y (weights_at o c (script o e ys c t) l) x k) below
+        ∙ ap (layer_of_terms o (terms_at c l) y (weights_at o c (script o e ys c t) l) (list_at values (l + 1))) bits
 
     pub sent-own : (k : ℕ) (ts : List (Term A)) (ws vs : List A) (layer : LayerScript A) → k ≡ bits_under c l → ts ≡ terms_at c l → ws ≡ weights_at o c (script o e ys c t) l → vs ≡ list_at values (l + 1)
-        → layer ≡ layer_script o e sent 0 k now
+        → layer ≡ layer_script o e sent c.version 0 k now
         → StandAt o (sent_at c l) (4 * k + 2) sent ys → StandAt o (sent_at c l) (4 * k + 2) own pads
-        → AreRoundsSent o e.element (layer_of_terms o ts ws vs k) (map (round_challenge o e sent 0 (after_draw now)) (range_with_len 0 (2 * k))) own sent
+        → AreRoundsSent o e.element (layer_of_terms o ts layer.beta ws vs k) (map (round_challenge o e sent 0 (after_first c.version now)) (range_with_len 0 (2 * k))) own sent
         → entry o sent (4 * k) ≡ minus o (tilde o vs layer.ra) (entry o own (4 * k))
         → entry o sent (4 * k + 1) ≡ minus o (tilde o vs layer.rb) (entry o own (4 * k + 1))
         → SentAt ys l
     sent-own k ts ws vs layer bits terms weights below is at pat rounds fa fb =
         let b = sent_at c l in
-        let s = layer_of_terms o ts ws vs k in
+        let s = layer_of_terms o ts layer.beta ws vs k in
         let drawn = own-layer k bits at layer is in
-        let cs = map (round_challenge o e sent 0 (after_draw now)) (range_with_len 0 (2 * k)) in
+        let cs = map (round_challenge o e sent 0 (after_first c.version now)) (range_with_len 0 (2 * k)) in
         let value : (m : ℕ) (x : A) → m ≤ 2 * k → round o s (take m cs) x ≡ true_round o c (script o e ys c t) values l m x
-        = λ m x few. ap (λ y. round o y (take m cs) x) (own-layered k ts ws vs bits terms weights below) ∙ ap (λ bound. round o (layered_at o c (script o e ys c t) values l) bound x) (own-challenges k bits at m few) in
+        = λ m x few. ap (λ y. round o y (take m cs) x) (own-layered k ts layer.beta ws vs bits terms (ap (λ (x : LayerScript A). x.beta) drawn) weights below) ∙ ap (λ bound. round o (layered_at o c (script o e ys c t) values l) bound x) (own-challenges k bits at m few) in
         record {
           first = λ m q.
               let few : m < 2 * k = omega (arith, q, bits) in

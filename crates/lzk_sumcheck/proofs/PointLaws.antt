@@ -1,5 +1,5 @@
 -- The variables of a round, one by one, and the sum over all of them that are left.
-use Rattle.std.specs.Prelude.{◌≡◌, ◌≢◌, ℕ, ◌<◌, ◌+◌, ◌*◌, ◌-◌, ◌/◌, ◌%◌, ◌^◌, ◌==◌, List, [], ◌∷◌, ◌++◌, length, drop, true, false, Bool, cond}
+use Rattle.std.specs.Prelude.{◌≡◌, ◌≢◌, ℕ, ◌<◌, ◌+◌, ◌*◌, ◌-◌, ◌/◌, ◌%◌, ◌^◌, ◌==◌, None, List, [], ◌∷◌, ◌++◌, length, drop, map, true, false, Bool, cond}
 use Rattle.std.proofs.Common.{zero, suc, refl, sym, ap, ◌∙◌, arith, append_assoc}
 use Rattle.std.proofs.Math.Nat.{div-div-eq-div-mul, div-one, pow-succ'}
 use Rattle.std.proofs.lemmas.Bool.{eq-eqb, ne_eqb}
@@ -13,7 +13,10 @@ use Rattle.lzk_mle.specs.Multilinear.{low_bit, agree, eq, corner}
 use Rattle.lzk_mle.proofs.CornerLaws.{length-corner}
 use Rattle.lzk_circuit.specs.declared.layer.Term.{Term}
 use Rattle.lzk_circuit.specs.Sums.{sum_list}
-use Rattle.lzk_circuit.specs.Wires.{coef, AreDistinct}
+use Rattle.lzk_circuit.specs.Valid.{ArePlaced}
+use Rattle.lzk_circuit.specs.Wires.{coef, layer_coefficient, weighed_term, weighed, AreDistinct}
+use Rattle.lzk_circuit.proofs.AssertLaws.{weighed-coef, weighed-placed}
+use Rattle.lzk_circuit.proofs.OrderLaws.{placed-distinct}
 use Rattle.lzk_circuit.proofs.TermSums.{sum_triples-ext, coefficient_sum}
 use Rattle.lzk_sumcheck.specs.Rounds.{Layered, every_other, bound_coefficient, at, sum_fills, round}
 use Rattle.lzk_sumcheck.specs.Points.{point}
@@ -106,22 +109,30 @@ module _ {A : Type 0} (o : Ops A) (r : RingLaws o) where
       ∙ fills-corners v (λ y. at o s (bound ++ t ∷ y))
 
   -- what a term counts for
-  abbrev pub term_value : List A → List A → List A → Term A → A
-  term_value weights xs ys t = times (times (times (entry o weights t.g) t.coef) (eq o t.a xs)) (eq o t.b ys)
+  abbrev pub term_value : A → List A → List A → List A → Term A → A
+  term_value beta weights xs ys t = times (times (times (entry o weights t.g) (weighed_term o beta t).coef) (eq o t.a xs)) (eq o t.b ys)
 
   list-ext : {X : Type 0} (ts : List X) (f h : X → A) → ((t : X) → f t ≡ h t) → sum_list o ts f ≡ sum_list o ts h
   list-ext [] f h e = refl
   list-ext (t ∷ ts) f h e = ap (λ w. plus w (sum_list o ts f)) (e t) ∙ ap (plus (h t)) (list-ext ts f h e)
 
-  pub terms-sum : (terms : List (Term A)) (weights xs ys : List A) (width : ℕ) → AreDistinct o (length weights) width terms → sum_list o terms (term_value weights xs ys) ≡ bound_coefficient o (coef o terms) weights width xs ys
-  terms-sum terms weights xs ys width h =
+  list-mapped : {X Y : Type 0} (h : X → Y) (ts : List X) (f : Y → A) → sum_list o (map h ts) f ≡ sum_list o ts (λ t. f (h t))
+  list-mapped h [] f = refl
+  list-mapped h (t ∷ ts) f = ap (plus (f (h t))) (list-mapped h ts f)
+
+  pub terms-sum : (terms : List (Term A)) (beta : A) (weights xs ys : List A) (width : ℕ) → ArePlaced (length weights) width None terms
+      → sum_list o terms (term_value beta weights xs ys) ≡ bound_coefficient o (layer_coefficient o terms beta) weights width xs ys
+  terms-sum terms beta weights xs ys width h =
       let w = entry o weights in
       let f : ℕ → ℕ → ℕ → A = λ g a b. times (times (w g) (eq o a xs)) (eq o b ys) in
-      list-ext terms (term_value weights xs ys) (λ t. times t.coef (f t.g t.a t.b))
-      (λ t. solve o r (w t.g ∷ t.coef ∷ eq o t.a xs ∷ eq o t.b ys ∷ []) (((var 0 ⊠ var 1) ⊠ var 2) ⊠ var 3) (var 1 ⊠ ((var 0 ⊠ var 2) ⊠ var 3)) refl)
-      ∙ sym (coefficient_sum o r (length weights) width terms f h)
-      ∙ sum_triples-ext o r (length weights) width (λ g a b. times (coef o terms g a b) (f g a b)) (λ g a b. times (times (times (w g) (coef o terms g a b)) (eq o a xs)) (eq o b ys))
-      (λ g a b. solve o r (w g ∷ coef o terms g a b ∷ eq o a xs ∷ eq o b ys ∷ []) (var 1 ⊠ ((var 0 ⊠ var 2) ⊠ var 3)) (((var 0 ⊠ var 1) ⊠ var 2) ⊠ var 3) refl)
+      let ts = weighed o beta terms in
+      list-ext terms (term_value beta weights xs ys) (λ t. times (weighed_term o beta t).coef (f t.g t.a t.b))
+      (λ t. solve o r (w t.g ∷ (weighed_term o beta t).coef ∷ eq o t.a xs ∷ eq o t.b ys ∷ []) (((var 0 ⊠ var 1) ⊠ var 2) ⊠ var 3) (var 1 ⊠ ((var 0 ⊠ var 2) ⊠ var 3)) refl)
+      ∙ sym (list-mapped (weighed_term o beta) terms (λ t. times t.coef (f t.g t.a t.b)))
+      ∙ sym (coefficient_sum o r (length weights) width ts f (placed-distinct o (length weights) width None ts (weighed-placed o beta (length weights) width terms h)))
+      ∙ sum_triples-ext o r (length weights) width (λ g a b. times (coef o ts g a b) (f g a b)) (λ g a b. times (times (times (w g) (layer_coefficient o terms beta g a b)) (eq o a xs)) (eq o b ys))
+      (λ g a b. ap (λ x. times x (f g a b)) (sym (weighed-coef o r beta terms g a b))
+      ∙ solve o r (w g ∷ layer_coefficient o terms beta g a b ∷ eq o a xs ∷ eq o b ys ∷ []) (var 1 ⊠ ((var 0 ⊠ var 2) ⊠ var 3)) (((var 0 ⊠ var 1) ⊠ var 2) ⊠ var 3) refl)
 
   pub list-step : {X : Type 0} (ts rest : List X) (t : X) (i : ℕ) (f : X → A) (total after v all : A) → drop i ts ≡ t ∷ rest → v ≡ f t → after ≡ plus total v → plus total (sum_list o (drop i ts) f) ≡ all → plus after (sum_list o rest f) ≡ all
   list-step ts rest t i f total after v all front e p h = ap (λ w. plus w (sum_list o rest f)) (p ∙ ap (plus total) e) ∙ r.plus_assoc total (f t) (sum_list o rest f) ∙ sym (ap (λ xs. plus total (sum_list o xs f)) front) ∙ h

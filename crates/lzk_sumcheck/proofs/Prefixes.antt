@@ -18,7 +18,7 @@ use Rattle.lzk_mle.specs.Multilinear.{eq}
 use Rattle.lzk_sumcheck.specs.declared.script.LayerScript.{LayerScript}
 use Rattle.lzk_sumcheck.specs.Coefficients.{weights_at}
 use Rattle.lzk_sumcheck.specs.Draws.{with_element}
-use Rattle.lzk_sumcheck.specs.Script.{with_pair, after_rounds, round_challenge, layer_script, after_layer, after_layers, script, layer_at, point_a, point_b, challenge_at, first_challenges}
+use Rattle.lzk_sumcheck.specs.Script.{drawn_beta, after_first, with_pair, after_rounds, round_challenge, layer_script, after_layer, after_layers, script, layer_at, point_a, point_b, challenge_at, first_challenges}
 
 -- functions that agree have the same values
 pub map-same : {Y : Type 0} (f g : ℕ → Y) (k n : ℕ) → ((i : ℕ) → i < k + n → f i ≡ g i) → map f (range_with_len k n) ≡ map g (range_with_len k n)
@@ -59,21 +59,21 @@ module _ {A : Type 0} (o : Ops A) where
         ap (λ s. e.element (drawn (with_pair o e xs (i + 2 * m) s))) (rounds-same i j m t at (omega arith))
         ∙ ap (λ s. e.element (drawn s)) (pair-same (i + 2 * m) (j + 2 * m) (after_rounds o e ys j m t) (omega (arith, at)) h)
 
-    pub layer-same : (i j bits : ℕ) (t : TapeState) → j ≡ b + i → i + 4 * bits ≤ n → layer_script o e xs i bits t ≡ layer_script o e ys j bits t
+    pub layer-same : (version i j bits : ℕ) (t : TapeState) → j ≡ b + i → i + 4 * bits ≤ n → layer_script o e xs version i bits t ≡ layer_script o e ys version j bits t
     unfolding layer_script
-    layer-same i j bits t at h =
-        let s = after_draw t in
-        let make : List A → List A → LayerScript A = λ ra rb. record { alpha = e.element (drawn t); ra = ra; rb = rb } in
+    layer-same version i j bits t at h =
+        let s = after_first version t in
+        let make : List A → List A → LayerScript A = λ ra rb. record { alpha = e.element (drawn t); beta = drawn_beta o e version (after_draw t); ra = ra; rb = rb } in
         ap (λ ra. make ra (map (λ k. round_challenge o e xs i s (2 * k + 1)) (range_with_len 0 bits)))
         (map-same (λ k. round_challenge o e xs i s (2 * k)) (λ k. round_challenge o e ys j s (2 * k)) 0 bits (λ k l. challenge-same i j (2 * k) s at (omega (arith, l, h))))
         ∙ ap (make (map (λ k. round_challenge o e ys j s (2 * k)) (range_with_len 0 bits)))
         (map-same (λ k. round_challenge o e xs i s (2 * k + 1)) (λ k. round_challenge o e ys j s (2 * k + 1)) 0 bits (λ k l. challenge-same i j (2 * k + 1) s at (omega (arith, l, h))))
 
-    pub after-same : (i j bits : ℕ) (t : TapeState) → j ≡ b + i → i + 4 * bits + 2 ≤ n → after_layer o e xs i bits t ≡ after_layer o e ys j bits t
+    pub after-same : (version i j bits : ℕ) (t : TapeState) → j ≡ b + i → i + 4 * bits + 2 ≤ n → after_layer o e xs version i bits t ≡ after_layer o e ys version j bits t
     unfolding after_layer
-    after-same i j bits t at h =
-        ap (with_pair o e xs (i + 4 * bits)) (rounds-same i j (2 * bits) (after_draw t) at (omega arith))
-        ∙ pair-same (i + 4 * bits) (j + 4 * bits) (after_rounds o e ys j (2 * bits) (after_draw t)) (omega (arith, at)) (omega arith)
+    after-same version i j bits t at h =
+        ap (with_pair o e xs (i + 4 * bits)) (rounds-same i j (2 * bits) (after_first version t) at (omega arith))
+        ∙ pair-same (i + 4 * bits) (j + 4 * bits) (after_rounds o e ys j (2 * bits) (after_first version t)) (omega (arith, at)) (omega arith)
 
 -- the elements of the next layer begin behind a layer's factors
 pub sent-suc : {A : Type 0} (c : Wiring A) (l : ℕ) → l < depth c → sent_at c (suc l) ≡ factors_sent_at c l + 2
@@ -86,32 +86,36 @@ module _ {A : Type 0} (o : Ops A) (e : Coding A) (c : Wiring A) (t : TapeState) 
   abbrev pub start : TapeState
   start = after_draws (output_bits c) t
 
-  pub script-layer : (xs : List A) (l : ℕ) → l < depth c → layer_at o (script o e xs c t) l ≡ layer_script o e xs (sent_at c l) (bits_under c l) (after_layers o e xs c l start)
+  pub script-layer : (xs : List A) (l : ℕ) → l < depth c → layer_at o (script o e xs c t) l ≡ layer_script o e xs c.version (sent_at c l) (bits_under c l) (after_layers o e xs c l start)
   unfolding script
   script-layer xs l h =
-      let f : ℕ → LayerScript A = λ k. layer_script o e xs (sent_at c k) (bits_under c k) (after_layers o e xs c k start) in
-      get_or-map-range_with_len f 0 (depth c) l l (record { alpha = o.zero; ra = []; rb = [] }) h (omega arith)
+      let f : ℕ → LayerScript A = λ k. layer_script o e xs c.version (sent_at c k) (bits_under c k) (after_layers o e xs c k start) in
+      get_or-map-range_with_len f 0 (depth c) l l (record { alpha = o.zero; beta = o.zero; ra = []; rb = [] }) h (omega arith)
 
   script-alpha : (xs : List A) (l : ℕ) → l < depth c → (layer_at o (script o e xs c t) l).alpha ≡ e.element (drawn (after_layers o e xs c l start))
   unfolding layer_script
   script-alpha xs l h = ap (λ s. s.alpha) (script-layer xs l h)
 
+  pub script-beta : (xs : List A) (l : ℕ) → l < depth c → (layer_at o (script o e xs c t) l).beta ≡ drawn_beta o e c.version (after_draw (after_layers o e xs c l start))
+  unfolding layer_script
+  script-beta xs l h = ap (λ s. s.beta) (script-layer xs l h)
+
   -- the challenge of a round is what is drawn behind that round's elements
   pub script-challenge : (xs : List A) (l k : ℕ) → l < depth c → k < round_count c l
-      → challenge_at o (script o e xs c t) l k ≡ round_challenge o e xs (sent_at c l) (after_draw (after_layers o e xs c l start)) k
+      → challenge_at o (script o e xs c t) l k ≡ round_challenge o e xs (sent_at c l) (after_first c.version (after_layers o e xs c l start)) k
   unfolding layer_script
   script-challenge xs l k h q = go (eqb (k % 2) 0) refl
     where
       go : (b : Bool) → eqb (k % 2) 0 ≡ b
           → cond b (entry o (layer_at o (script o e xs c t) l).ra (k / 2)) (entry o (layer_at o (script o e xs c t) l).rb (k / 2))
-          ≡ round_challenge o e xs (sent_at c l) (after_draw (after_layers o e xs c l start)) k
+          ≡ round_challenge o e xs (sent_at c l) (after_first c.version (after_layers o e xs c l start)) k
       go true even =
-          let f = round_challenge o e xs (sent_at c l) (after_draw (after_layers o e xs c l start)) in
+          let f = round_challenge o e xs (sent_at c l) (after_first c.version (after_layers o e xs c l start)) in
           let whole : 2 * (k / 2) ≡ k = omega (arith, eqb-true (k % 2) 0 even) in
           ap (λ s. entry o s.ra (k / 2)) (script-layer xs l h)
           ∙ get_or-map-range_with_len (λ j. f (2 * j)) 0 (bits_under c l) (k / 2) (k / 2) o.zero (omega (arith, q, whole)) (omega arith) ∙ ap f whole
       go false odd =
-          let f = round_challenge o e xs (sent_at c l) (after_draw (after_layers o e xs c l start)) in
+          let f = round_challenge o e xs (sent_at c l) (after_first c.version (after_layers o e xs c l start)) in
           let whole : 2 * (k / 2) + 1 ≡ k = odd_half k odd in
           ap (λ s. entry o s.rb (k / 2)) (script-layer xs l h)
           ∙ get_or-map-range_with_len (λ j. f (2 * j + 1)) 0 (bits_under c l) (k / 2) (k / 2) o.zero (omega (arith, q, whole)) (omega arith) ∙ ap f whole
@@ -129,16 +133,19 @@ module _ {A : Type 0} (o : Ops A) (e : Coding A) (c : Wiring A) (t : TapeState) 
     layers-same zero s d h = refl
     layers-same (suc l) s d h =
         let next = sent-suc c l d in
-        ap (after_layer o e xs (sent_at c l) (bits_under c l)) (layers-same l s (omega arith) (omega (arith, h, next)))
-        ∙ after-same o e 0 n xs ys stand (sent_at c l) (sent_at c l) (bits_under c l) (after_layers o e ys c l s) (omega arith) (omega (arith, h, next))
+        ap (after_layer o e xs c.version (sent_at c l) (bits_under c l)) (layers-same l s (omega arith) (omega (arith, h, next)))
+        ∙ after-same o e 0 n xs ys stand c.version (sent_at c l) (sent_at c l) (bits_under c l) (after_layers o e ys c l s) (omega arith) (omega (arith, h, next))
 
     pub layer-agrees : (l : ℕ) → l < depth c → factors_sent_at c l ≤ n → layer_at o (script o e xs c t) l ≡ layer_at o (script o e ys c t) l
     layer-agrees l h b =
-        script-layer xs l h ∙ ap (layer_script o e xs (sent_at c l) (bits_under c l)) (layers-same l start (omega arith) (omega (arith, b)))
-        ∙ layer-same o e 0 n xs ys stand (sent_at c l) (sent_at c l) (bits_under c l) (after_layers o e ys c l start) (omega arith) (omega (arith, b)) ∙ sym (script-layer ys l h)
+        script-layer xs l h ∙ ap (layer_script o e xs c.version (sent_at c l) (bits_under c l)) (layers-same l start (omega arith) (omega (arith, b)))
+        ∙ layer-same o e 0 n xs ys stand c.version (sent_at c l) (sent_at c l) (bits_under c l) (after_layers o e ys c l start) (omega arith) (omega (arith, b)) ∙ sym (script-layer ys l h)
 
     alpha-same : (l : ℕ) → l < depth c → sent_at c l ≤ n → (layer_at o (script o e xs c t) l).alpha ≡ (layer_at o (script o e ys c t) l).alpha
     alpha-same l h b = script-alpha xs l h ∙ ap (λ s. e.element (drawn s)) (layers-same l start (omega arith) b) ∙ sym (script-alpha ys l h)
+
+    pub beta-same : (l : ℕ) → l < depth c → sent_at c l ≤ n → (layer_at o (script o e xs c t) l).beta ≡ (layer_at o (script o e ys c t) l).beta
+    beta-same l h b = script-beta xs l h ∙ ap (λ s. drawn_beta o e c.version (after_draw s)) (layers-same l start (omega arith) b) ∙ sym (script-beta ys l h)
 
     pub point-a-same : (l : ℕ) → l ≤ depth c → sent_at c l ≤ n → point_a o (script o e xs c t) l ≡ point_a o (script o e ys c t) l
     unfolding script
@@ -164,6 +171,6 @@ module _ {A : Type 0} (o : Ops A) (e : Coding A) (c : Wiring A) (t : TapeState) 
         map-same (challenge_at o (script o e xs c t) l) (challenge_at o (script o e ys c t) l) 0 m
         (λ i k.
         script-challenge xs l i h (omega (arith, k, r))
-        ∙ ap (λ s. round_challenge o e xs (sent_at c l) (after_draw s) i) (layers-same l start (omega arith) (omega (arith, b)))
-        ∙ challenge-same o e 0 n xs ys stand (sent_at c l) (sent_at c l) i (after_draw (after_layers o e ys c l start)) (omega arith) (omega (arith, k, b))
+        ∙ ap (λ s. round_challenge o e xs (sent_at c l) (after_first c.version s) i) (layers-same l start (omega arith) (omega (arith, b)))
+        ∙ challenge-same o e 0 n xs ys stand (sent_at c l) (sent_at c l) i (after_first c.version (after_layers o e ys c l start)) (omega arith) (omega (arith, k, b))
         ∙ sym (script-challenge ys l i h (omega (arith, k, r))))

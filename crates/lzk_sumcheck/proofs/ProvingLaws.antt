@@ -14,7 +14,7 @@ use Rattle.lzk_transcript.specs.Columns.{after_draws}
 use Rattle.lzk_mle.specs.Multilinear.{eq, tilde}
 use Rattle.lzk_circuit.specs.declared.layer.Term.{Term}
 use Rattle.lzk_circuit.specs.Valid.{Wiring}
-use Rattle.lzk_circuit.specs.Wires.{coef, list_at}
+use Rattle.lzk_circuit.specs.Wires.{layer_coefficient, list_at}
 use Rattle.lzk_layout.specs.Places.{depth, width_at, bits_under, output_bits, sent_at}
 use Rattle.lzk_sumcheck.specs.declared.script.LayerScript.{LayerScript}
 use Rattle.lzk_sumcheck.specs.declared.script.Script.{Script}
@@ -22,12 +22,12 @@ use Rattle.lzk_sumcheck.specs.Coefficients.{coefficients, terms_at, weights_at, 
 use Rattle.lzk_sumcheck.specs.Draws.{draws}
 use Rattle.lzk_sumcheck.specs.Layers.{layer_of_terms}
 use Rattle.lzk_sumcheck.specs.Rounds.{bound_coefficient}
-use Rattle.lzk_sumcheck.specs.Script.{round_challenge, layer_script, after_layer, after_layers, script, layer_at, point_a, point_b, zero_layer, HasBits}
+use Rattle.lzk_sumcheck.specs.Script.{drawn_beta, after_first, round_challenge, layer_script, after_layer, after_layers, script, layer_at, point_a, point_b, zero_layer, HasBits}
 use Rattle.lzk_sumcheck.specs.Sending.{AreRoundsSent}
 use Rattle.lzk_sumcheck.specs.Weights.{weighted}
 use Rattle.lzk_sumcheck.proofs.LayerLaws.{AreReplayed, replayed_none, replayed_more}
 use Rattle.lzk_sumcheck.proofs.MessagesLaws.{SentAt, sent-stays, sent-own, own-layer}
-use Rattle.lzk_sumcheck.proofs.Prefixes.{StandAt, AgreeBelow, start, map-same, stand, sent-suc, layer-same, after-same, layers-same, layer-agrees, weights-same, point-a-same, point-b-same}
+use Rattle.lzk_sumcheck.proofs.Prefixes.{StandAt, AgreeBelow, start, map-same, stand, sent-suc, layer-same, after-same, layers-same, layer-agrees, beta-same, weights-same, point-a-same, point-b-same}
 
 -- the places of a layer's elements rise from layer to layer
 pub sent-rises : {A : Type 0} (c : Wiring A) (l n : ℕ) → l ≤ n → n ≤ depth c → sent_at c l ≤ sent_at c n
@@ -62,17 +62,19 @@ layer-has o e sent c begun given l now layers old h h' bits x =
     subst (HasBits (bits_under c l)) (sym (old.rest l (omega arith)) ∙ get_or_default layers l d x h) (bits l (slice_index_or given l d) (slice_get-get_or given l d h'))
 
 -- a layer's script, by its parts
-pub layer-parts : {A : Type 0} (o : Ops A) (e : Coding A) (sent : List A) (bits : ℕ) (before begun : TapeState) (x : A) (ra rb : List A)
-    → x ≡ e.element (drawn before) → begun ≡ after_draw before
+pub layer-parts : {A : Type 0} (o : Ops A) (e : Coding A) (sent : List A) (version bits : ℕ) (before begun : TapeState) (x y : A) (ra rb : List A)
+    → x ≡ e.element (drawn before) → y ≡ drawn_beta o e version (after_draw before) → begun ≡ after_first version before
     → ra ≡ map (λ j. round_challenge o e sent 0 begun (2 * j)) (range_with_len 0 bits)
     → rb ≡ map (λ j. round_challenge o e sent 0 begun (2 * j + 1)) (range_with_len 0 bits)
-    → record { alpha = x; ra = ra; rb = rb } ≡ layer_script o e sent 0 bits before
+    → record { alpha = x; beta = y; ra = ra; rb = rb } ≡ layer_script o e sent version 0 bits before
 unfolding layer_script
-layer-parts {A} o e sent bits before begun x ra rb first next xa xb =
-    let make : A → List A → List A → LayerScript A = λ x ys zs. record { alpha = x; ra = ys; rb = zs } in
-    ap (λ y. make y ra rb) first ∙ ap (λ ys. make (e.element (drawn before)) ys rb) xa
-    ∙ ap (λ zs. make (e.element (drawn before)) (map (λ j. round_challenge o e sent 0 begun (2 * j)) (range_with_len 0 bits)) zs) xb
-    ∙ ap (λ t. make (e.element (drawn before)) (map (λ j. round_challenge o e sent 0 t (2 * j)) (range_with_len 0 bits)) (map (λ j. round_challenge o e sent 0 t (2 * j + 1)) (range_with_len 0 bits))) next
+layer-parts {A} o e sent version bits before begun x y ra rb first second next xa xb =
+    let alpha = e.element (drawn before) in
+    let beta = drawn_beta o e version (after_draw before) in
+    let make : A → A → List A → List A → LayerScript A = λ x y ys zs. record { alpha = x; beta = y; ra = ys; rb = zs } in
+    ap (λ z. make z y ra rb) first ∙ ap (λ z. make alpha z ra rb) second ∙ ap (λ ys. make alpha beta ys rb) xa
+    ∙ ap (λ zs. make alpha beta (map (λ j. round_challenge o e sent 0 begun (2 * j)) (range_with_len 0 bits)) zs) xb
+    ∙ ap (λ t. make alpha beta (map (λ j. round_challenge o e sent 0 t (2 * j)) (range_with_len 0 bits)) (map (λ j. round_challenge o e sent 0 t (2 * j + 1)) (range_with_len 0 bits))) next
 
 module _ {A : Type 0} (o : Ops A) (e : Coding A) (c : Wiring A) (values : List (List A)) (pads : List A) (t : TapeState) (given : List (LayerScript A)) where
   -- the first l layers are sent, and the tables are those of the two points of the next
@@ -105,15 +107,15 @@ module _ {A : Type 0} (o : Ops A) (e : Coding A) (c : Wiring A) (values : List (
             let next = sent-suc c k (omega (arith, h, d)) in
             let rise = sent-rises c (suc k) l (omega (arith, h)) d in
             old.done k h
-            ∙ ap (layer_script o e xs (sent_at c k) (bits_under c k)) (layers-same o e c t n xs ys same k (start o e c t) (omega (arith, h, d)) (omega (arith, next, rise)))
-            ∙ layer-same o e 0 n xs ys (stand o e c t n xs ys same) (sent_at c k) (sent_at c k) (bits_under c k) (after_layers o e ys c k (start o e c t)) (omega arith) (omega (arith, next, rise));
+            ∙ ap (layer_script o e xs c.version (sent_at c k) (bits_under c k)) (layers-same o e c t n xs ys same k (start o e c t) (omega (arith, h, d)) (omega (arith, next, rise)))
+            ∙ layer-same o e 0 n xs ys (stand o e c t n xs ys same) c.version (sent_at c k) (sent_at c k) (bits_under c k) (after_layers o e ys c k (start o e c t)) (omega arith) (omega (arith, next, rise));
         rest = old.rest;
       }
 
   -- the script of a layer that is sent from its own list
   own-script : (l : ℕ) (now : TapeState) (layers : List (LayerScript A)) (xs ys first second sent own : List A) (k : ℕ) (layer : LayerScript A)
       → AreProved l now layers xs first second → l < depth c → AgreeBelow o e c t (sent_at c l) xs ys
-      → k ≡ bits_under c l → layer ≡ layer_script o e sent 0 k now → StandAt o (sent_at c l) (4 * k + 2) sent ys
+      → k ≡ bits_under c l → layer ≡ layer_script o e sent c.version 0 k now → StandAt o (sent_at c l) (4 * k + 2) sent ys
       → layer ≡ layer_at o (script o e ys c t) l
   own-script l now layers xs ys first second sent own k layer old h same bits is at =
       own-layer o e c values pads t l h ys sent own now (replayed-same xs ys l now layers (omega arith) same old.replayed).tape k bits at layer is
@@ -139,9 +141,9 @@ module _ {A : Type 0} (o : Ops A) (e : Coding A) (c : Wiring A) (values : List (
       → AreProved l now layers xs first second → l < depth c → l < length layers
       → AgreeBelow o e c t (sent_at c l) xs ys
       → k ≡ bits_under c l → width ≡ width_at c l → ts ≡ terms_at c l → vs ≡ list_at values (l + 1)
-      → layer ≡ layer_script o e sent 0 k now → after ≡ after_layer o e sent 0 k now
+      → layer ≡ layer_script o e sent c.version 0 k now → after ≡ after_layer o e sent c.version 0 k now
       → StandAt o (sent_at c l) (4 * k + 2) sent ys → StandAt o (sent_at c l) (4 * k + 2) own pads
-      → AreRoundsSent o e.element (layer_of_terms o ts (weighted o layer.alpha first second width) vs k) (map (round_challenge o e sent 0 (after_draw now)) (range_with_len 0 (2 * k))) own sent
+      → AreRoundsSent o e.element (layer_of_terms o ts layer.beta (weighted o layer.alpha first second width) vs k) (map (round_challenge o e sent 0 (after_first c.version now)) (range_with_len 0 (2 * k))) own sent
       → entry o sent (4 * k) ≡ minus o (tilde o vs layer.ra) (entry o own (4 * k))
       → entry o sent (4 * k + 1) ≡ minus o (tilde o vs layer.rb) (entry o own (4 * k + 1))
       → ((g : ℕ) → g < width_at c (l + 1) → entry o first' g ≡ eq o g layer.ra)
@@ -156,8 +158,8 @@ module _ {A : Type 0} (o : Ops A) (e : Coding A) (c : Wiring A) (values : List (
       let weights = own-weights l now layers xs ys first second width layer old h same wide here in
       record {
         replayed = replayed_more o e ys c (start o e c t) given l now after layers layer replayed within
-            (is ∙ layer-same o e n (4 * k + 2) sent ys at 0 n k now (omega arith) (omega arith) ∙ ap (λ b. layer_script o e ys n b now) bits)
-            (next ∙ after-same o e n (4 * k + 2) sent ys at 0 n k now (omega arith) (omega arith) ∙ ap (λ b. after_layer o e ys n b now) bits);
+            (is ∙ layer-same o e n (4 * k + 2) sent ys at c.version 0 n k now (omega arith) (omega arith) ∙ ap (λ b. layer_script o e ys c.version n b now) bits)
+            (next ∙ after-same o e n (4 * k + 2) sent ys at c.version 0 n k now (omega arith) (omega arith) ∙ ap (λ b. after_layer o e ys c.version n b now) bits);
         table_a = λ g q. ta g q ∙ ap (λ (x : LayerScript A). eq o g x.ra) here ∙ ap (λ i. eq o g (point_a o s i)) after_l;
         table_b = λ g q. tb g q ∙ ap (λ (x : LayerScript A). eq o g x.rb) here ∙ ap (λ i. eq o g (point_b o s i)) after_l;
         done = λ i q.
@@ -181,29 +183,30 @@ module _ {A : Type 0} (o : Ops A) (e : Coding A) (c : Wiring A) (values : List (
   bound-stays n xs ys same k h b =
       let next = sent-suc c k h in
       let s = script o e xs c t in
-      let q = coef o (terms_at c k) in
+      let q = layer_coefficient o (terms_at c k) in
       let below = width_at c (k + 1) in
-      ap (λ w. bound_coefficient o q w below (layer_at o s k).ra (layer_at o s k).rb) (weights-same o e c t n xs ys same k h (omega (arith, b, next)))
-      ∙ ap (λ (x : LayerScript A). bound_coefficient o q (weights_at o c (script o e ys c t) k) below x.ra x.rb) (layer-agrees o e c t n xs ys same k h (omega (arith, b, next)))
+      ap (λ y. bound_coefficient o (q y) (weights_at o c s k) below (layer_at o s k).ra (layer_at o s k).rb) (beta-same o e c t n xs ys same k h (omega (arith, b, next)))
+      ∙ ap (λ w. bound_coefficient o (q (layer_at o (script o e ys c t) k).beta) w below (layer_at o s k).ra (layer_at o s k).rb) (weights-same o e c t n xs ys same k h (omega (arith, b, next)))
+      ∙ ap (λ (x : LayerScript A). bound_coefficient o (q (layer_at o (script o e ys c t) k).beta) (weights_at o c (script o e ys c t) k) below x.ra x.rb) (layer-agrees o e c t n xs ys same k h (omega (arith, b, next)))
 
   -- what a layer's came to, by its own lists
   bound-own : (s : Script A) (l width below : ℕ) (ts : List (Term A)) (first second : List A) (layer : LayerScript A)
       → ts ≡ terms_at c l → below ≡ width_at c (l + 1) → layer ≡ layer_at o s l → weighted o layer.alpha first second width ≡ weights_at o c s l
-      → bound_coefficient o (coef o ts) (weighted o layer.alpha first second width) below layer.ra layer.rb ≡ bound_at o c (coefficients o c s) s l
+      → bound_coefficient o (layer_coefficient o ts layer.beta) (weighted o layer.alpha first second width) below layer.ra layer.rb ≡ bound_at o c (coefficients o c s) s l
   unfolding bound_at coefficients
   bound-own s l width below ts first second layer terms under here weights =
-      ap (λ xs. bound_coefficient o (coef o xs) (weighted o layer.alpha first second width) below layer.ra layer.rb) terms
-      ∙ ap (λ w. bound_coefficient o (coef o (terms_at c l)) w below layer.ra layer.rb) weights
-      ∙ ap (λ n. bound_coefficient o (coef o (terms_at c l)) (weights_at o c s l) n layer.ra layer.rb) under
-      ∙ ap (λ (x : LayerScript A). bound_coefficient o (coef o (terms_at c l)) (weights_at o c s l) (width_at c (l + 1)) x.ra x.rb) here
+      ap (λ xs. bound_coefficient o (layer_coefficient o xs layer.beta) (weighted o layer.alpha first second width) below layer.ra layer.rb) terms
+      ∙ ap (λ w. bound_coefficient o (layer_coefficient o (terms_at c l) layer.beta) w below layer.ra layer.rb) weights
+      ∙ ap (λ n. bound_coefficient o (layer_coefficient o (terms_at c l) layer.beta) (weights_at o c s l) n layer.ra layer.rb) under
+      ∙ ap (λ (x : LayerScript A). bound_coefficient o (layer_coefficient o (terms_at c l) x.beta) (weights_at o c s l) (width_at c (l + 1)) x.ra x.rb) here
 
   -- one more layer
   pub bound-more : (l : ℕ) (now : TapeState) (layers : List (LayerScript A)) (xs ys first second sent own bounds : List A) (k width below : ℕ) (ts : List (Term A)) (layer : LayerScript A) (x : A)
       → AreProved l now layers xs first second → l < depth c → l < length bounds
       → AgreeBelow o e c t (sent_at c l) xs ys
       → k ≡ bits_under c l → width ≡ width_at c l → ts ≡ terms_at c l → below ≡ width_at c (l + 1)
-      → layer ≡ layer_script o e sent 0 k now → StandAt o (sent_at c l) (4 * k + 2) sent ys
-      → x ≡ bound_coefficient o (coef o ts) (weighted o layer.alpha first second width) below layer.ra layer.rb
+      → layer ≡ layer_script o e sent c.version 0 k now → StandAt o (sent_at c l) (4 * k + 2) sent ys
+      → x ≡ bound_coefficient o (layer_coefficient o ts layer.beta) (weighted o layer.alpha first second width) below layer.ra layer.rb
       → AreBound l xs bounds → AreBound (l + 1) ys (slice_set bounds l x)
   bound-more l now layers xs ys first second sent own bounds k width below ts layer x old h within same bits wide terms under is at value before i q =
       let s = script o e ys c t in

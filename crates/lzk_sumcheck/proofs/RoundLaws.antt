@@ -6,7 +6,7 @@ use Rattle.lzk_field.specs.Coding.{Coding}
 use Rattle.lzk_field.specs.Ring.{Ops}
 use Rattle.lzk_transcript.specs.Tape.{TapeState, drawn, after_draw}
 use Rattle.lzk_transcript.specs.Columns.{after_draws}
-use Rattle.lzk_sumcheck.specs.Script.{with_pair, after_rounds, round_challenge, layer_script}
+use Rattle.lzk_sumcheck.specs.Script.{drawn_beta, after_first, with_pair, after_rounds, round_challenge, layer_script}
 use Rattle.lzk_sumcheck.specs.declared.script.LayerScript.{LayerScript}
 use Rattle.lzk_sumcheck.proofs.Filled.{IsFilled, filled_more, filled_whole}
 
@@ -69,16 +69,19 @@ module _ {A : Type 0} (o : Ops A) (e : Coding A) (messages : List A) (i : ℕ) (
       }
 
   -- a layer's script, by its parts
-  pub layer_whole : (bits : ℕ) (before : TapeState) (s : LayerScript A) → start ≡ after_draw before → s.alpha ≡ e.element (drawn before)
+  pub layer_whole : (version bits : ℕ) (before : TapeState) (s : LayerScript A) → start ≡ after_first version before → s.alpha ≡ e.element (drawn before)
+      → s.beta ≡ drawn_beta o e version (after_draw before)
       → length s.ra ≡ bits → length s.rb ≡ bits
       → IsFilled o.zero (λ k. round_challenge o e messages i start (2 * k)) bits s.ra
       → IsFilled o.zero (λ k. round_challenge o e messages i start (2 * k + 1)) bits s.rb
-      → s ≡ layer_script o e messages i bits before
+      → s ≡ layer_script o e messages version i bits before
   unfolding layer_script
-  layer_whole bits before s begins first na nb fa fb =
+  layer_whole version bits before s begins first second na nb fa fb =
       let xa = filled_whole o.zero (λ k. round_challenge o e messages i start (2 * k)) bits s.ra na fa in
       let xb = filled_whole o.zero (λ k. round_challenge o e messages i start (2 * k + 1)) bits s.rb nb fb in
-      let make : A → List A → List A → LayerScript A = λ x ys zs. record { alpha = x; ra = ys; rb = zs } in
-      ap (λ x. make x s.ra s.rb) first ∙ ap (λ ys. make (e.element (drawn before)) ys s.rb) xa
-      ∙ ap (λ zs. make (e.element (drawn before)) (map (λ k. round_challenge o e messages i start (2 * k)) (range_with_len 0 bits)) zs) xb
-      ∙ ap (λ t. make (e.element (drawn before)) (map (λ k. round_challenge o e messages i t (2 * k)) (range_with_len 0 bits)) (map (λ k. round_challenge o e messages i t (2 * k + 1)) (range_with_len 0 bits))) begins
+      let alpha = e.element (drawn before) in
+      let beta = drawn_beta o e version (after_draw before) in
+      let make : A → A → List A → List A → LayerScript A = λ x y ys zs. record { alpha = x; beta = y; ra = ys; rb = zs } in
+      ap (λ x. make x s.beta s.ra s.rb) first ∙ ap (λ y. make alpha y s.ra s.rb) second ∙ ap (λ ys. make alpha beta ys s.rb) xa
+      ∙ ap (λ zs. make alpha beta (map (λ k. round_challenge o e messages i start (2 * k)) (range_with_len 0 bits)) zs) xb
+      ∙ ap (λ t. make alpha beta (map (λ k. round_challenge o e messages i t (2 * k)) (range_with_len 0 bits)) (map (λ k. round_challenge o e messages i t (2 * k + 1)) (range_with_len 0 bits))) begins

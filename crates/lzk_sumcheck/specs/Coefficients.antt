@@ -5,7 +5,7 @@ use Rattle.lzk_field.specs.Ring.{Ops}
 use Rattle.lzk_field.specs.Sums.{entry}
 use Rattle.lzk_circuit.specs.declared.layer.Term.{Term}
 use Rattle.lzk_circuit.specs.Valid.{Wiring}
-use Rattle.lzk_circuit.specs.Wires.{coef}
+use Rattle.lzk_circuit.specs.Wires.{layer_coefficient}
 use Rattle.lzk_sumcheck.specs.declared.script.Script.{Script}
 use Rattle.lzk_mle.specs.Multilinear.{eq}
 use Rattle.lzk_sumcheck.specs.Rounds.{bound_coefficient}
@@ -16,10 +16,9 @@ use Rattle.lzk_layout.specs.Places.{depth, width_at}
 abbrev pub terms_at : {A : Type 0} → Wiring A → ℕ → List (Term A)
 terms_at c l = slice_index_or (map (λ layer. layer.terms) c.layers) l []
 
--- The coefficient of layer l at (g, a, b). Only here is said which coefficients a circuit's layers have; a layer whose coefficients depend on its
--- draws takes them from the script.
+-- The coefficient of layer l at (g, a, b), with the layer's beta for an assertion term. Only here is said which coefficients a circuit's layers have.
 unfoldable pub coefficients : {A : Type 0} → Ops A → Wiring A → Script A → ℕ → ℕ → ℕ → ℕ → A
-coefficients o c s l = coef o (terms_at c l)
+coefficients o c s l = layer_coefficient o (terms_at c l) (layer_at o s l).beta
 
 -- the weight of each wire of layer l: eq at the one point, plus alpha times eq at the other
 abbrev pub weights_at : {A : Type 0} → Ops A → Wiring A → Script A → ℕ → List A

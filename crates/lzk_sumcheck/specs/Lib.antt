@@ -13,4 +13,5 @@ pub mod Rows
 pub mod Script
 pub mod Sending
 pub mod States
+pub mod Versions
 pub mod Weights

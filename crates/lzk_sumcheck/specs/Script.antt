@@ -13,6 +13,18 @@ use Rattle.lzk_sumcheck.specs.declared.script.LayerScript.{LayerScript}
 use Rattle.lzk_sumcheck.specs.declared.script.Script.{Script}
 use Rattle.lzk_sumcheck.specs.Draws.{draws, with_element}
 
+-- beta, which a layer draws behind alpha in version 2 alone; in version 1 it is 0
+unfoldable pub drawn_beta : {A : Type 0} → Ops A → Coding A → ℕ → TapeState → A
+drawn_beta o e version t = cond (version == 2) (e.element (drawn t)) o.zero
+
+-- the tape behind beta
+unfoldable pub after_beta : ℕ → TapeState → TapeState
+after_beta version t = cond (version == 2) (after_draw t) t
+
+-- the tape behind what a layer draws before its rounds: alpha, and in version 2 beta
+abbrev pub after_first : ℕ → TapeState → TapeState
+after_first version t = after_beta version (after_draw t)
+
 module _ {A : Type 0} (o : Ops A) (e : Coding A) (messages : List A) where
   -- the tape with two sent elements written, the first of which has number i
   abbrev pub with_pair : ℕ → TapeState → TapeState
@@ -27,28 +39,29 @@ module _ {A : Type 0} (o : Ops A) (e : Coding A) (messages : List A) where
   unfoldable pub round_challenge : ℕ → TapeState → ℕ → A
   round_challenge i t n = e.element (drawn (with_pair (i + 2 * n) (after_rounds i n t)))
 
-  -- What a layer draws whose sent elements begin at number i, and whose wires below are numbered by so many bits: alpha, and then the challenges of
-  -- the rounds. For each bit, from bit 0, there is a round for this bit of a, and then one for it of b.
-  unfoldable pub layer_script : ℕ → ℕ → TapeState → LayerScript A
-  layer_script i bits t = record {
+  -- What a layer draws whose sent elements begin at number i, and whose wires below are numbered by so many bits: alpha, in version 2 beta, and then
+  -- the challenges of the rounds. For each bit, from bit 0, there is a round for this bit of a, and then one for it of b.
+  unfoldable pub layer_script : ℕ → ℕ → ℕ → TapeState → LayerScript A
+  layer_script version i bits t = record {
     alpha = e.element (drawn t);
-    ra = map (λ j. round_challenge i (after_draw t) (2 * j)) (range_with_len 0 bits);
-    rb = map (λ j. round_challenge i (after_draw t) (2 * j + 1)) (range_with_len 0 bits);
+    beta = drawn_beta o e version (after_draw t);
+    ra = map (λ j. round_challenge i (after_first version t) (2 * j)) (range_with_len 0 bits);
+    rb = map (λ j. round_challenge i (after_first version t) (2 * j + 1)) (range_with_len 0 bits);
   }
 
   -- the tape after that layer: behind its rounds it sends two factors
-  unfoldable pub after_layer : ℕ → ℕ → TapeState → TapeState
-  after_layer i bits t = with_pair (i + 4 * bits) (after_rounds i (2 * bits) (after_draw t))
+  unfoldable pub after_layer : ℕ → ℕ → ℕ → TapeState → TapeState
+  after_layer version i bits t = with_pair (i + 4 * bits) (after_rounds i (2 * bits) (after_first version t))
 
   module _ (c : Wiring A) where
     -- the tape after the first l layers
     unfoldable pub after_layers : ℕ → TapeState → TapeState
     after_layers zero t = t
-    after_layers (suc l) t = after_layer (sent_at c l) (bits_under c l) (after_layers l t)
+    after_layers (suc l) t = after_layer c.version (sent_at c l) (bits_under c l) (after_layers l t)
 
     -- what each layer draws, the outputs' first
     abbrev pub layer_scripts : TapeState → List (LayerScript A)
-    layer_scripts t = map (λ l. layer_script (sent_at c l) (bits_under c l) (after_layers l t)) (range_with_len 0 (depth c))
+    layer_scripts t = map (λ l. layer_script c.version (sent_at c l) (bits_under c l) (after_layers l t)) (range_with_len 0 (depth c))
 
     -- the draws of the sumchecks: the point of the outputs, each layer's draws, and gamma
     unfoldable pub script : TapeState → Script A
@@ -79,7 +92,7 @@ pub record HasShape {A : Type 0} (c : Wiring A) (s : Script A) : Type 0 where
 
 -- a layer's script of zeros
 abbrev pub zero_layer : {A : Type 0} → Ops A → ℕ → LayerScript A
-zero_layer o bits = record { alpha = o.zero; ra = replicate bits o.zero; rb = replicate bits o.zero }
+zero_layer o bits = record { alpha = o.zero; beta = o.zero; ra = replicate bits o.zero; rb = replicate bits o.zero }
 
 -- a circuit's script of zeros
 abbrev pub zero_script : {A : Type 0} → Ops A → Wiring A → Script A
@@ -94,7 +107,7 @@ zero_script o c = record {
 module _ {A : Type 0} (o : Ops A) (s : Script A) where
   -- the draws of layer l
   abbrev pub layer_at : ℕ → LayerScript A
-  layer_at l = slice_index_or s.layers l (record { alpha = o.zero; ra = []; rb = [] })
+  layer_at l = slice_index_or s.layers l (record { alpha = o.zero; beta = o.zero; ra = []; rb = [] })
 
   -- the first point at which a claim on layer l's wires stands: the outputs' point at layer 0, and below it that of the layer above for a's bits
   abbrev pub point_a : ℕ → List A

@@ -6,7 +6,7 @@ ghost use Rattle.lzk_field.specs.Sums.{entry};
 ghost use Rattle.lzk_transcript.specs.Tape.{drawn, after_draw};
 ghost use Rattle.lzk_transcript.specs.Columns.{after_draws};
 ghost use Rattle.lzk_sumcheck.specs.Draws.{draws};
-ghost use Rattle.lzk_sumcheck.specs.Script.{with_pair, after_rounds, round_challenge};
+ghost use Rattle.lzk_sumcheck.specs.Script.{drawn_beta, after_beta, with_pair, after_rounds, round_challenge};
 
 use lzk_field::Field;
 use lzk_transcript::Tape;
@@ -19,6 +19,14 @@ pub fn draw_all<F: Field>(tape: &mut Tape, out: &mut [F])
     for i in 0..out.len() {
         out[i] = tape.draw();
     }
+}
+
+// Beta, which is drawn in version 2 alone.
+pub(crate) fn draw_beta<F: Field>(version: u8, tape: &mut Tape) -> F
+    ensures beta { let e = coding F.element F.number_of F.BYTES F.size F.ID in result ≡ drawn_beta F.ops e version tape.old }
+    ensures after { tape.new ≡ after_beta version tape.old }
+{
+    if version == 2 { tape.draw() } else { F::zero() }
 }
 
 /// Writes the two elements from place `i` on.

@@ -82,7 +82,8 @@ pub(crate) fn bind_kept<F: Field>(
     ensures pairs_length { length pairs.new ≡ length pairs.old }
     ensures within { ArePairs (length first.old) (length second.now) pairs.old → ArePairs (length second.now) result.table (take result.pairs pairs.new) }
     ensures kept { (j k : ℕ) (st : State F) → IsKept F.ops (j + 1) k st of_a pairs.old scale linear.old first.old second.now →
-        IsKept F.ops k j (bind_state F.ops x st) (not of_a) (take result.pairs pairs.new) result.scale (take result.linear linear.new) second.now (take result.table first.new) }
+        IsKept F.ops k j (bind_state F.ops x st) (not of_a) (take result.pairs pairs.new) result.scale (take result.linear linear.new) second.now
+        (take result.table first.new) }
 {
     let table = bind_table(first, x);
     let (scale, linear) = bind_linear(of_a, scale, linear, x);

@@ -1,12 +1,13 @@
 //! A layer's rounds and factors that are sent.
 
-ghost use Rattle.std.specs.Prelude.{◌≡◌, ℕ, ◌+◌, ◌*◌, ◌^◌, ◌<◌, ◌≤◌, Some, [], ◌∷◌, length, map, take, slice_get};
+ghost use Rattle.std.specs.Prelude.{◌≡◌, ℕ, ◌+◌, ◌*◌, ◌^◌, ◌<◌, ◌≤◌, Some, None, [], ◌∷◌, length, map, take, slice_get};
 ghost use Rattle.std.specs.List.{range_with_len};
 ghost use Rattle.lzk_field.specs.Coding.{coding};
 ghost use Rattle.lzk_field.specs.Sums.{minus, entry};
 ghost use Rattle.lzk_mle.specs.Multilinear.{tilde};
 ghost use Rattle.lzk_circuit.specs.declared.layer.Term as declared;
-ghost use Rattle.lzk_circuit.specs.Wires.{coef, AreDistinct};
+ghost use Rattle.lzk_circuit.specs.Valid.{ArePlaced};
+ghost use Rattle.lzk_circuit.specs.Wires.{layer_coefficient, weighed_term, weighed};
 ghost use Rattle.lzk_sumcheck.specs.Layers.{layer_of_terms};
 ghost use Rattle.lzk_sumcheck.specs.Orders.{places, IsOrderOf};
 ghost use Rattle.lzk_sumcheck.specs.Pairs.{first_pair, spread, ArePairs};
@@ -20,27 +21,28 @@ use crate::draws::write_pair;
 use crate::pairs::{Pair, absorb};
 use crate::rows::set_zeros;
 use crate::sending::send_rounds;
-use lzk_circuit::Term;
+use lzk_circuit::{Term, weight_of};
 use lzk_field::Field;
 use lzk_transcript::Tape;
 use std::marker::Sync;
 use std::thread::Threads;
 
-// The pair of a term's wires below, with the weight of its wire.
-fn pair_of<F: Field>(term: Term<F>, weights: &[F]) -> Pair<F>
+// The pair of a term's wires below, with the weight of its wire; an assertion term counts beta.
+fn pair_of<F: Field>(term: Term<F>, beta: F, weights: &[F]) -> Pair<F>
     requires wire { term.g < length weights.now }
-    ensures { result ≡ first_pair F.ops weights.now term }
+    ensures { result ≡ first_pair F.ops weights.now (weighed_term F.ops beta term) }
 {
     Pair {
         a: term.a,
         b: term.b,
-        coef: product_of(weights[term.g as usize], term.coef),
+        coef: product_of(weights[term.g as usize], weight_of(term.coef, beta)),
     }
 }
 
 // Counts a term in, with the coefficients of wire 0 or among the pairs; gives how many pairs there are then.
 fn put_term<F: Field>(
     term: Term<F>,
+    beta: F,
     weights: &[F],
     pairs: &mut [Pair<F>],
     kept: usize,
@@ -53,10 +55,12 @@ fn put_term<F: Field>(
     ensures length { length pairs.new ≡ length pairs.old }
     ensures linear_length { length linear.new ≡ length linear.old }
     ensures sums { let o = F.ops in (i j : ℕ) →
-        counted o (take result pairs.new) linear.new i j ≡ o.plus (counted o (take kept pairs.old) linear.old i j) (spread o (first_pair o weights.now term ∷ []) i j) }
-    ensures within { (n m : ℕ) → ArePairs n m (take kept pairs.old) → ArePairs n m (first_pair F.ops weights.now term ∷ []) → ArePairs n m (take result pairs.new) }
+        counted o (take result pairs.new) linear.new i j ≡ o.plus (counted o (take kept pairs.old) linear.old i j)
+        (spread o (first_pair o weights.now (weighed_term o beta term) ∷ []) i j) }
+    ensures within { (n m : ℕ) → ArePairs n m (take kept pairs.old) →
+        ArePairs n m (first_pair F.ops weights.now (weighed_term F.ops beta term) ∷ []) → ArePairs n m (take result pairs.new) }
 {
-    let pair = pair_of(term, weights);
+    let pair = pair_of(term, beta, weights);
     if pair.a == 0 {
         let b = pair.b as usize;
         linear[b] = sum_of(linear[b], pair.coef);
@@ -70,6 +74,7 @@ fn put_term<F: Field>(
 fn set_terms<F: Field>(
     terms: &[Term<F>],
     order: &[(u64, usize)],
+    beta: F,
     weights: &[F],
     pairs: &mut [Pair<F>],
     linear: &mut [F],
@@ -81,14 +86,15 @@ fn set_terms<F: Field>(
     ensures count { result ≤ length pairs.old }
     ensures length { length pairs.new ≡ length pairs.old }
     ensures linear_length { length linear.new ≡ length linear.old }
-    ensures sums { let o = F.ops in (i j : ℕ) → counted o (take result pairs.new) linear.new i j ≡ spread o (map (first_pair o weights.now) terms.now) i j }
-    ensures within { (n m : ℕ) → ArePairs n m (map (first_pair F.ops weights.now) terms.now) → ArePairs n m (take result pairs.new) }
+    ensures sums { let o = F.ops in (i j : ℕ) → counted o (take result pairs.new) linear.new i j ≡
+        spread o (map (first_pair o weights.now) (weighed o beta terms.now)) i j }
+    ensures within { (n m : ℕ) → ArePairs n m (map (first_pair F.ops weights.now) (weighed F.ops beta terms.now)) → ArePairs n m (take result pairs.new) }
 {
     set_zeros(linear);
     let mut kept = 0;
     for i in 0..order.len() {
         let k = order[i].1;
-        kept = put_term(terms[k], weights, pairs, kept, linear);
+        kept = put_term(terms[k], beta, weights, pairs, kept, linear);
     }
     kept
 }
@@ -125,6 +131,7 @@ pub(crate) fn send_layer<R: Threads + Sync, F: Field>(
     tape: &mut Tape,
     terms: &[Term<F>],
     order: &[(u64, usize)],
+    beta: F,
     weights: &[F],
     values: &[F],
     pairs: &mut [Pair<F>],
@@ -142,7 +149,7 @@ pub(crate) fn send_layer<R: Threads + Sync, F: Field>(
     requires bits { length rb.old ≡ length ra.old }
     requires few { length ra.old ≤ 17 }
     requires order { IsOrderOf terms.now (places order.now) }
-    requires terms { AreDistinct F.ops (length weights.now) (length values.now) terms.now }
+    requires terms { ArePlaced (length weights.now) (length values.now) None terms.now }
     requires fits { length values.now ≤ 2 ^ length ra.old }
     requires first { length first.old ≡ 2 ^ length ra.old }
     requires second { length second.old ≡ 2 ^ length ra.old }
@@ -164,10 +171,12 @@ pub(crate) fn send_layer<R: Threads + Sync, F: Field>(
     ensures after { let e = coding F.element F.number_of F.BYTES F.size F.ID in
         tape.new ≡ with_pair F.ops e sent.new (4 * length ra.old) (after_rounds F.ops e sent.new 0 (2 * length ra.old) tape.old) }
     ensures rounds { let o = F.ops in let e = coding F.element F.number_of F.BYTES F.size F.ID in
-        AreRoundsSent o F.element (layer_of_terms o terms.now weights.now values.now (length ra.old)) (map (round_challenge o e sent.new 0 tape.old) (range_with_len 0 (2 * length ra.old))) pads.now sent.new }
+        AreRoundsSent o F.element (layer_of_terms o terms.now beta weights.now values.now (length ra.old))
+        (map (round_challenge o e sent.new 0 tape.old) (range_with_len 0 (2 * length ra.old))) pads.now sent.new }
     ensures factor_a { let o = F.ops in entry o sent.new (4 * length ra.old) ≡ minus o (tilde o values.now ra.new) (entry o pads.now (4 * length ra.old)) }
-    ensures factor_b { let o = F.ops in entry o sent.new (4 * length ra.old + 1) ≡ minus o (tilde o values.now rb.new) (entry o pads.now (4 * length ra.old + 1)) }
-    ensures bound { let o = F.ops in result ≡ bound_coefficient o (coef o terms.now) weights.now (length values.now) ra.new rb.new }
+    ensures factor_b { let o = F.ops in entry o sent.new (4 * length ra.old + 1) ≡
+        minus o (tilde o values.now rb.new) (entry o pads.now (4 * length ra.old + 1)) }
+    ensures bound { let o = F.ops in result ≡ bound_coefficient o (layer_coefficient o terms.now beta) weights.now (length values.now) ra.new rb.new }
 {
     let size = table_size(values.len());
     let (low, _) = first.split_at_mut(size);
@@ -175,7 +184,7 @@ pub(crate) fn send_layer<R: Threads + Sync, F: Field>(
     let (linear, _) = linear.split_at_mut(size);
     pad_values(values, low);
     pad_values(values, high);
-    let kept = set_terms(terms, order, weights, pairs, linear);
+    let kept = set_terms(terms, order, beta, weights, pairs, linear);
     let count = 4 * ra.len();
     let (rounds, factors) = sent.split_at_mut(count);
     let bound = send_rounds(

@@ -78,7 +78,8 @@ fn sum_part<F: Field>(round: &Summed<F>, k: usize, each: usize, part: &mut [F])
     requires some { 1 ≤ each }
     requires begin { 2 * (k * each) < length round.now.first.now }
     requires part { length part.old ≡ 3 + min (2 * each) (length round.now.first.now - 2 * (k * each)) }
-    ensures { let r = round.now in BeginsWithSums F.ops (row_at F.ops r.of_a r.pairs.now r.scale r.linear.now r.second.now) r.first.now (k * each) each part.new }
+    ensures { let r = round.now in BeginsWithSums F.ops (row_at F.ops r.of_a r.pairs.now r.scale r.linear.now r.second.now) r.first.now (k * each)
+        each part.new }
 {
     let (sums, rows) = part.split_at_mut(SUMS);
     let from = 2 * (k * each);
@@ -149,8 +150,11 @@ fn sum_in_parts<R: Threads + Sync, F: Field>(
         pairs,
     };
     let one = |start: usize, part: &mut [F]|
-        requires { AreMatching round.now.of_a round.now.pairs.now round.now.linear.now round.now.first.now round.now.second.now × (0 < size) × (1 ≤ each) × (2 * (start / size * each) < length round.now.first.now) × (length part.now ≡ 3 + min (2 * each) (length round.now.first.now - 2 * (start / size * each))) }
-        ensures { let r = round.entry.now in BeginsWithSums F.ops (row_at F.ops r.of_a r.pairs.now r.scale r.linear.now r.second.now) r.first.now (start / size * each) each part.exit.now }
+        requires { AreMatching round.now.of_a round.now.pairs.now round.now.linear.now round.now.first.now round.now.second.now × (0 < size) ×
+            (1 ≤ each) × (2 * (start / size * each) < length round.now.first.now) ×
+            (length part.now ≡ 3 + min (2 * each) (length round.now.first.now - 2 * (start / size * each))) }
+        ensures { let r = round.entry.now in BeginsWithSums F.ops (row_at F.ops r.of_a r.pairs.now r.scale r.linear.now r.second.now) r.first.now
+            (start / size * each) each part.exit.now }
     {
         sum_part(round, start / size, each, part);
     };

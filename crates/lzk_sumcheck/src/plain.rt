@@ -1,17 +1,17 @@
 //! A round's value by the plain sum, over all points of zeros and ones for the variables that are left.
 
-ghost use Rattle.std.specs.Prelude.{◌≡◌, ◌*◌, ◌^◌, ◌<◌, ◌≤◌, Bool, true, false, length};
+ghost use Rattle.std.specs.Prelude.{◌≡◌, ◌*◌, ◌^◌, ◌<◌, ◌≤◌, Bool, true, false, None, length};
 ghost use Rattle.lzk_field.specs.Sums.{entry};
 ghost use Rattle.lzk_mle.specs.Multilinear.{low_bit, agree, eq, tilde};
-ghost use Rattle.lzk_circuit.specs.Valid.{HaveWidths};
-ghost use Rattle.lzk_circuit.specs.Wires.{coef, AreDistinct};
+ghost use Rattle.lzk_circuit.specs.Valid.{ArePlaced, HaveWidths};
+ghost use Rattle.lzk_circuit.specs.Wires.{layer_coefficient, weighed_term};
 ghost use Rattle.lzk_layout.specs.Places.{depth, bits_under, width_at};
 ghost use Rattle.lzk_sumcheck.specs.Layers.{layer_of_terms, weighted_layer};
 ghost use Rattle.lzk_sumcheck.specs.Points.{point};
 ghost use Rattle.lzk_sumcheck.specs.Rounds as rounds;
 ghost use Rattle.lzk_sumcheck.specs.Rounds.{every_other, bound_coefficient};
 
-use lzk_circuit::{Circuit, Term, Values, bits_of};
+use lzk_circuit::{Circuit, Term, Values, bits_of, weight_of};
 use lzk_field::Field;
 
 // Variable j of the point: one that is bound, or t, or a bit of z.
@@ -84,17 +84,26 @@ fn tilde_part<F: Field>(values: &[F], bits: usize, bound: &[F], t: F, z: u64, a:
 }
 
 // What a term counts for at the point: its coefficient times its wire's weight and how its two wires below agree.
-fn term_part<F: Field>(term: Term<F>, weights: &[F], bits: usize, bound: &[F], t: F, z: u64) -> F
+fn term_part<F: Field>(
+    term: Term<F>,
+    beta: F,
+    weights: &[F],
+    bits: usize,
+    bound: &[F],
+    t: F,
+    z: u64,
+) -> F
     requires few { bits ≤ 17 }
     requires free { length bound.now < 2 * bits }
     requires wire { term.g < length weights.now }
     ensures { let o = F.ops in let x = point o bits bound.now t z in
-        result ≡ o.times (o.times (o.times (entry o weights.now term.g) term.coef) (eq o term.a (every_other true x))) (eq o term.b (every_other false x)) }
+        result ≡ o.times (o.times (o.times (entry o weights.now term.g) (weighed_term o beta term).coef) (eq o term.a (every_other true x)))
+        (eq o term.b (every_other false x)) }
 {
     let first = eq_part(bits, bound, t, z, true, term.a);
     let second = eq_part(bits, bound, t, z, false, term.b);
     weights[term.g as usize]
-        .mul(term.coef)
+        .mul(weight_of(term.coef, beta))
         .mul(first)
         .mul(second)
 }
@@ -102,6 +111,7 @@ fn term_part<F: Field>(term: Term<F>, weights: &[F], bits: usize, bound: &[F], t
 // The sum of that over the terms.
 fn coefficient_part<F: Field>(
     terms: &[Term<F>],
+    beta: F,
     weights: &[F],
     width: usize,
     bits: usize,
@@ -111,13 +121,13 @@ fn coefficient_part<F: Field>(
 ) -> F
     requires few { bits ≤ 17 }
     requires free { length bound.now < 2 * bits }
-    requires terms { AreDistinct F.ops (length weights.now) width terms.now }
+    requires terms { ArePlaced (length weights.now) width None terms.now }
     ensures { let o = F.ops in let x = point o bits bound.now t z in
-        result ≡ bound_coefficient o (coef o terms.now) weights.now width (every_other true x) (every_other false x) }
+        result ≡ bound_coefficient o (layer_coefficient o terms.now beta) weights.now width (every_other true x) (every_other false x) }
 {
     let mut total = F::zero();
     for i in 0..terms.len() {
-        total = total.add(term_part(terms[i], weights, bits, bound, t, z));
+        total = total.add(term_part(terms[i], beta, weights, bits, bound, t, z));
     }
     total
 }
@@ -125,6 +135,7 @@ fn coefficient_part<F: Field>(
 // The round's value for a list of terms over a table of values.
 fn plain_sum<F: Field>(
     terms: &[Term<F>],
+    beta: F,
     values: &[F],
     bits: usize,
     weights: &[F],
@@ -134,12 +145,12 @@ fn plain_sum<F: Field>(
     requires few { bits ≤ 17 }
     requires free { length bound.now < 2 * bits }
     requires size { length values.now ≤ 131072 }
-    requires terms { AreDistinct F.ops (length weights.now) (length values.now) terms.now }
-    ensures { let o = F.ops in result ≡ rounds.round o (layer_of_terms o terms.now weights.now values.now bits) bound.now t }
+    requires terms { ArePlaced (length weights.now) (length values.now) None terms.now }
+    ensures { let o = F.ops in result ≡ rounds.round o (layer_of_terms o terms.now beta weights.now values.now bits) bound.now t }
 {
     let mut total = F::zero();
     for z in 0..(1u64 << (2 * bits - bound.len() - 1)) {
-        let coefficient = coefficient_part(terms, weights, values.len(), bits, bound, t, z);
+        let coefficient = coefficient_part(terms, beta, weights, values.len(), bits, bound, t, z);
         let first = tilde_part(values, bits, bound, t, z, true);
         let second = tilde_part(values, bits, bound, t, z, false);
         total = total.add(coefficient.mul(first).mul(second));
@@ -147,25 +158,26 @@ fn plain_sum<F: Field>(
     total
 }
 
-/// The value of a round of layer `l` at `t`, for any weights of the layer's wires: `bound` holds the challenges of the
-/// rounds before it. This is the plain sum over all zeros and ones for the variables that are left: the plain form beside
-/// `prove_layers`, for tests and small circuits.
+/// The value of a round of layer `l` at `t`, for any weights of the layer's wires and any beta for its assertion terms: `bound`
+/// holds the challenges of the rounds before it. This is the plain sum over all zeros and ones for the variables that are left:
+/// the plain form beside `prove_layers`, for tests and small circuits.
 pub fn plain_round<F: Field>(
     circuit: &Circuit<F>,
     values: &Values<F>,
     l: u32,
     weights: &[F],
+    beta: F,
     bound: &[F],
     t: F,
 ) -> F
     requires layer { l < depth circuit.now }
-    requires values { HaveWidths circuit.now values.now }
+    requires values { HaveWidths circuit.now values.now.wires }
     requires weights { length weights.now ≡ width_at circuit.now l }
     requires free { length bound.now < 2 * bits_under circuit.now l }
-    ensures round { let o = F.ops in result ≡ rounds.round o (weighted_layer o circuit.now values.now l weights.now) bound.now t }
+    ensures round { let o = F.ops in result ≡ rounds.round o (weighted_layer o circuit.now values.now.wires l weights.now beta) bound.now t }
 {
     let _depth = circuit.depth();
     let bits = bits_of(circuit.width(l + 1)) as usize;
     let terms = circuit.layer(l).terms.as_slice();
-    plain_sum(terms, values.layer(l + 1), bits, weights, bound, t)
+    plain_sum(terms, beta, values.layer(l + 1), bits, weights, bound, t)
 }

@@ -1,15 +1,14 @@
 //! What a prover sends in all sumchecks of a circuit.
 
-ghost use Rattle.std.specs.Prelude.{◌≡◌, ℕ, ◌+◌, ◌*◌, ◌^◌, ◌<◌, ◌≤◌, Some, [], length, map, slice_get, slice_index_or};
+ghost use Rattle.std.specs.Prelude.{◌≡◌, ℕ, ◌+◌, ◌*◌, ◌^◌, ◌<◌, ◌≤◌, Some, None, [], length, map, slice_get, slice_index_or};
 ghost use Rattle.std.specs.List.{range_with_len};
 ghost use Rattle.lzk_field.specs.Coding.{coding};
 ghost use Rattle.lzk_field.specs.Sums.{minus, entry};
 ghost use Rattle.lzk_mle.specs.Multilinear.{eq, tilde};
-ghost use Rattle.lzk_transcript.specs.Tape.{after_draw};
 ghost use Rattle.lzk_transcript.specs.Columns.{after_draws};
 ghost use Rattle.lzk_circuit.specs.Bits.{bits};
-ghost use Rattle.lzk_circuit.specs.Valid.{HaveWidths};
-ghost use Rattle.lzk_circuit.specs.Wires.{coef, AreDistinct};
+ghost use Rattle.lzk_circuit.specs.Valid.{ArePlaced, HaveWidths};
+ghost use Rattle.lzk_circuit.specs.Wires.{layer_coefficient};
 ghost use Rattle.lzk_layout.specs.Places.{depth, width_at, bits_under, output_bits};
 ghost use Rattle.lzk_layout.specs.Sizes.{sent_counts};
 ghost use Rattle.lzk_sumcheck.specs.declared.script.LayerScript as declared;
@@ -21,11 +20,12 @@ ghost use Rattle.lzk_sumcheck.specs.Orders.{places, IsOrderOf};
 ghost use Rattle.lzk_sumcheck.specs.Room.{IsRoomOf};
 ghost use Rattle.lzk_sumcheck.specs.Rounds.{bound_coefficient};
 ghost use Rattle.lzk_sumcheck.specs.Script as spec;
-ghost use Rattle.lzk_sumcheck.specs.Script.{with_pair, after_rounds, round_challenge, layer_script, after_layer, layer_scripts, after_layers, after_script, HasBits, HasShape};
+ghost use Rattle.lzk_sumcheck.specs.Script.{with_pair, after_first, after_rounds, round_challenge, layer_script};
+ghost use Rattle.lzk_sumcheck.specs.Script.{after_layer, layer_scripts, after_layers, after_script, HasBits, HasShape};
 ghost use Rattle.lzk_sumcheck.specs.Sending.{AreRoundsSent};
 ghost use Rattle.lzk_sumcheck.specs.Weights.{weighted};
 
-use crate::draws::draw_all;
+use crate::draws::{draw_all, draw_beta};
 use crate::layer::send_layer;
 use crate::order::Order;
 use crate::pairs::Pair;
@@ -40,7 +40,8 @@ use lzk_transcript::Tape;
 use std::marker::Sync;
 use std::thread::Threads;
 
-// Sends the rounds of a layer with these terms and weights, and its factors; gives what its coefficients come to. `first` and `second` are then the tables of the
+// Sends the rounds of a layer with these terms and weights, and its factors; gives what its coefficients come to. `first` and `second` are
+// then the tables of the
 // challenges of a's bits and of b's.
 fn prove_rounds<R: Threads + Sync, F: Field>(
     rt: &R,
@@ -48,6 +49,7 @@ fn prove_rounds<R: Threads + Sync, F: Field>(
     tape: &mut Tape,
     terms: &[Term<F>],
     order: &[(u64, usize)],
+    beta: F,
     weights: &[F],
     values: &[F],
     pairs: &mut [Pair<F>],
@@ -64,7 +66,7 @@ fn prove_rounds<R: Threads + Sync, F: Field>(
     requires few_workers { workers ≤ 64 }
     requires bits { length rb.old ≡ length ra.old }
     requires few { length ra.old ≤ 17 }
-    requires terms { AreDistinct F.ops (length weights.now) (length values.now) terms.now }
+    requires terms { ArePlaced (length weights.now) (length values.now) None terms.now }
     requires order { IsOrderOf terms.now (places order.now) }
     requires fits { length values.now ≤ 2 ^ length ra.old }
     requires first { 2 ^ length ra.old ≤ length first.old }
@@ -87,10 +89,12 @@ fn prove_rounds<R: Threads + Sync, F: Field>(
     ensures after { let e = coding F.element F.number_of F.BYTES F.size F.ID in
         tape.new ≡ with_pair F.ops e sent.new (4 * length ra.old) (after_rounds F.ops e sent.new 0 (2 * length ra.old) tape.old) }
     ensures rounds { let o = F.ops in let e = coding F.element F.number_of F.BYTES F.size F.ID in
-        AreRoundsSent o F.element (layer_of_terms o terms.now weights.now values.now (length ra.old)) (map (round_challenge o e sent.new 0 tape.old) (range_with_len 0 (2 * length ra.old))) pads.now sent.new }
+        AreRoundsSent o F.element (layer_of_terms o terms.now beta weights.now values.now (length ra.old))
+        (map (round_challenge o e sent.new 0 tape.old) (range_with_len 0 (2 * length ra.old))) pads.now sent.new }
     ensures factor_a { let o = F.ops in entry o sent.new (4 * length ra.old) ≡ minus o (tilde o values.now ra.new) (entry o pads.now (4 * length ra.old)) }
-    ensures factor_b { let o = F.ops in entry o sent.new (4 * length ra.old + 1) ≡ minus o (tilde o values.now rb.new) (entry o pads.now (4 * length ra.old + 1)) }
-    ensures bound { let o = F.ops in result ≡ bound_coefficient o (coef o terms.now) weights.now (length values.now) ra.new rb.new }
+    ensures factor_b { let o = F.ops in entry o sent.new (4 * length ra.old + 1) ≡
+        minus o (tilde o values.now rb.new) (entry o pads.now (4 * length ra.old + 1)) }
+    ensures bound { let o = F.ops in result ≡ bound_coefficient o (layer_coefficient o terms.now beta) weights.now (length values.now) ra.new rb.new }
     ensures first { let o = F.ops in (i : ℕ) → i < 2 ^ length ra.old → entry o first.new i ≡ eq o i ra.new }
     ensures second { let o = F.ops in (i : ℕ) → i < 2 ^ length ra.old → entry o second.new i ≡ eq o i rb.new }
 {
@@ -99,20 +103,22 @@ fn prove_rounds<R: Threads + Sync, F: Field>(
     let (low, _) = first.split_at_mut(size);
     let (high, _) = second.split_at_mut(size);
     let bound = send_layer(
-        rt, workers, tape, terms, order, weights, values, these, low, high, linear, rows, pads,
-        sent, ra, rb,
+        rt, workers, tape, terms, order, beta, weights, values, these, low, high, linear, rows,
+        pads, sent, ra, rb,
     );
     eq_table(ra, low);
     eq_table(rb, high);
     bound
 }
 
-// A layer: alpha is drawn, and the rounds and the factors are sent; gives what the coefficients come to. `first` and `second` are the tables of the layer's two points, and
+// A layer: alpha and beta are drawn, and the rounds and the factors are sent; gives what the coefficients come to. `first` and `second`
+// are the tables of the layer's two points, and
 // then those of the layer below; `weights` has a place for each wire.
 fn prove_layer<R: Threads + Sync, F: Field>(
     rt: &R,
     workers: usize,
     tape: &mut Tape,
+    version: u8,
     terms: &[Term<F>],
     order: &[(u64, usize)],
     values: &[F],
@@ -130,7 +136,7 @@ fn prove_layer<R: Threads + Sync, F: Field>(
     requires few_workers { workers ≤ 64 }
     requires bits { length layer.old.rb ≡ length layer.old.ra }
     requires few { length layer.old.ra ≤ 17 }
-    requires terms { AreDistinct F.ops (length weights.old) (length values.now) terms.now }
+    requires terms { ArePlaced (length weights.old) (length values.now) None terms.now }
     requires order { IsOrderOf terms.now (places order.now) }
     requires fits { length values.now ≤ 2 ^ length layer.old.ra }
     requires first_width { length weights.old ≤ length first.old }
@@ -149,17 +155,25 @@ fn prove_layer<R: Threads + Sync, F: Field>(
     ensures rows_length { length rows.new ≡ length rows.old }
     ensures pairs_length { length pairs.new ≡ length pairs.old }
     ensures weights_length { length weights.new ≡ length weights.old }
-    ensures script { let e = coding F.element F.number_of F.BYTES F.size F.ID in layer.new ≡ layer_script F.ops e sent.new 0 (length layer.old.ra) tape.old }
-    ensures after { let e = coding F.element F.number_of F.BYTES F.size F.ID in tape.new ≡ after_layer F.ops e sent.new 0 (length layer.old.ra) tape.old }
+    ensures script { let e = coding F.element F.number_of F.BYTES F.size F.ID in
+        layer.new ≡ layer_script F.ops e sent.new version 0 (length layer.old.ra) tape.old }
+    ensures after { let e = coding F.element F.number_of F.BYTES F.size F.ID in
+        tape.new ≡ after_layer F.ops e sent.new version 0 (length layer.old.ra) tape.old }
     ensures rounds { let o = F.ops in let e = coding F.element F.number_of F.BYTES F.size F.ID in
-        AreRoundsSent o F.element (layer_of_terms o terms.now (weighted o layer.new.alpha first.old second.old (length weights.old)) values.now (length layer.old.ra)) (map (round_challenge o e sent.new 0 (after_draw tape.old)) (range_with_len 0 (2 * length layer.old.ra))) pads.now sent.new }
-    ensures factor_a { let o = F.ops in entry o sent.new (4 * length layer.old.ra) ≡ minus o (tilde o values.now layer.new.ra) (entry o pads.now (4 * length layer.old.ra)) }
-    ensures factor_b { let o = F.ops in entry o sent.new (4 * length layer.old.ra + 1) ≡ minus o (tilde o values.now layer.new.rb) (entry o pads.now (4 * length layer.old.ra + 1)) }
-    ensures bound { let o = F.ops in result ≡ bound_coefficient o (coef o terms.now) (weighted o layer.new.alpha first.old second.old (length weights.old)) (length values.now) layer.new.ra layer.new.rb }
+        AreRoundsSent o F.element (layer_of_terms o terms.now layer.new.beta (weighted o layer.new.alpha first.old second.old (length weights.old))
+        values.now (length layer.old.ra)) (map (round_challenge o e sent.new 0 (after_first version tape.old))
+        (range_with_len 0 (2 * length layer.old.ra))) pads.now sent.new }
+    ensures factor_a { let o = F.ops in entry o sent.new (4 * length layer.old.ra) ≡
+        minus o (tilde o values.now layer.new.ra) (entry o pads.now (4 * length layer.old.ra)) }
+    ensures factor_b { let o = F.ops in entry o sent.new (4 * length layer.old.ra + 1) ≡
+        minus o (tilde o values.now layer.new.rb) (entry o pads.now (4 * length layer.old.ra + 1)) }
+    ensures bound { let o = F.ops in result ≡ bound_coefficient o (layer_coefficient o terms.now layer.new.beta)
+        (weighted o layer.new.alpha first.old second.old (length weights.old)) (length values.now) layer.new.ra layer.new.rb }
     ensures first { let o = F.ops in (i : ℕ) → i < 2 ^ length layer.old.ra → entry o first.new i ≡ eq o i layer.new.ra }
     ensures second { let o = F.ops in (i : ℕ) → i < 2 ^ length layer.old.ra → entry o second.new i ≡ eq o i layer.new.rb }
 {
     layer.alpha = tape.draw();
+    layer.beta = draw_beta(version, tape);
     set_weights(layer.alpha, first, second, weights);
     prove_rounds(
         rt,
@@ -167,6 +181,7 @@ fn prove_layer<R: Threads + Sync, F: Field>(
         tape,
         terms,
         order,
+        layer.beta,
         weights,
         values,
         pairs,
@@ -212,7 +227,7 @@ fn prove_list<R: Threads + Sync, F: Field>(
 )
     requires some_workers { 1 ≤ workers }
     requires few_workers { workers ≤ 64 }
-    requires values { HaveWidths circuit.now values.now }
+    requires values { HaveWidths circuit.now values.now.wires }
     requires pads { length pads.now ≡ sent_counts circuit.now }
     requires messages { length messages.old ≡ sent_counts circuit.now }
     requires point { length point.old ≡ output_bits circuit.now }
@@ -240,7 +255,8 @@ fn prove_list<R: Threads + Sync, F: Field>(
     ensures after { let e = coding F.element F.number_of F.BYTES F.size F.ID in
         tape.new ≡ after_layers F.ops e messages.new circuit.now (depth circuit.now) (after_draws (output_bits circuit.now) tape.old) }
     ensures sent { let e = coding F.element F.number_of F.BYTES F.size F.ID in
-        (l : ℕ) → l < depth circuit.now → IsLayerSent F.ops F.element circuit.now (spec.script F.ops e messages.new circuit.now tape.old) values.now pads.now messages.new l }
+        (l : ℕ) → l < depth circuit.now → IsLayerSent F.ops F.element circuit.now (spec.script F.ops e messages.new circuit.now tape.old)
+        values.now.wires pads.now messages.new l }
     ensures bounds { let e = coding F.element F.number_of F.BYTES F.size F.ID in
         AreBounds F.ops circuit.now (spec.script F.ops e messages.new circuit.now tape.old) bounds.new }
 {
@@ -261,6 +277,7 @@ fn prove_list<R: Threads + Sync, F: Field>(
             rt,
             workers,
             tape,
+            circuit.version(),
             circuit.layer(l).terms.as_slice(),
             order,
             values.layer(l + 1),
@@ -293,7 +310,7 @@ fn prove_scripts<R: Threads + Sync, F: Field>(
 )
     requires some_workers { 1 ≤ workers }
     requires few_workers { workers ≤ 64 }
-    requires values { HaveWidths circuit.now values.now }
+    requires values { HaveWidths circuit.now values.now.wires }
     requires pads { length pads.now ≡ sent_counts circuit.now }
     requires made { IsRoomOf circuit.now room.old }
     requires messages { length messages.old ≡ sent_counts circuit.now }
@@ -308,7 +325,8 @@ fn prove_scripts<R: Threads + Sync, F: Field>(
     ensures after { let e = coding F.element F.number_of F.BYTES F.size F.ID in
         tape.new ≡ after_layers F.ops e messages.new circuit.now (depth circuit.now) (after_draws (output_bits circuit.now) tape.old) }
     ensures sent { let e = coding F.element F.number_of F.BYTES F.size F.ID in
-        (l : ℕ) → l < depth circuit.now → IsLayerSent F.ops F.element circuit.now (spec.script F.ops e messages.new circuit.now tape.old) values.now pads.now messages.new l }
+        (l : ℕ) → l < depth circuit.now → IsLayerSent F.ops F.element circuit.now (spec.script F.ops e messages.new circuit.now tape.old)
+        values.now.wires pads.now messages.new l }
     ensures bounds { let e = coding F.element F.number_of F.BYTES F.size F.ID in
         AreBounds F.ops circuit.now (spec.script F.ops e messages.new circuit.now tape.old) room.new.bounds }
 {
@@ -347,14 +365,15 @@ pub fn prove_layers<R: Threads + Sync, F: Field>(
     messages: &mut [F],
     script: &mut Script<F>,
 )
-    requires values { HaveWidths circuit.now values.now }
+    requires values { HaveWidths circuit.now values.now.wires }
     requires pads { length pads.now ≡ sent_counts circuit.now }
     requires some_workers { 1 ≤ workers }
     requires few_workers { workers ≤ 64 }
     requires room { IsRoomOf circuit.now room.old }
     requires messages { length messages.old ≡ sent_counts circuit.now }
     requires shape { HasShape circuit.now script.old }
-    ensures messages { let e = coding F.element F.number_of F.BYTES F.size F.ID in AreMessages F.ops e circuit.now values.now pads.now tape.old messages.new }
+    ensures messages { let e = coding F.element F.number_of F.BYTES F.size F.ID in
+        AreMessages F.ops e circuit.now values.now.wires pads.now tape.old messages.new }
     ensures script { let e = coding F.element F.number_of F.BYTES F.size F.ID in script.new ≡ spec.script F.ops e messages.new circuit.now tape.old }
     ensures tape { let e = coding F.element F.number_of F.BYTES F.size F.ID in tape.new ≡ after_script F.ops e messages.new circuit.now tape.old }
     ensures shape { HasShape circuit.now script.new }

@@ -8,7 +8,7 @@ ghost use Rattle.lzk_sumcheck.specs.declared.script.LayerScript as declared;
 ghost use Rattle.lzk_sumcheck.specs.Script as spec;
 ghost use Rattle.lzk_sumcheck.specs.Script.{layer_script, after_layer, layer_scripts, after_layers, after_script, HasBits, HasShape};
 
-use crate::draws::{draw_all, replay_rounds, write_pair};
+use crate::draws::{draw_all, draw_beta, replay_rounds, write_pair};
 use crate::script::{LayerScript, LayerScripts, Script};
 use lzk_circuit::Circuit;
 use lzk_field::Field;
@@ -26,6 +26,7 @@ pub fn message_count<F: Field>(circuit: &Circuit<F>) -> u32
 // The layer whose elements begin at this place, and whose wires below are numbered by so many bits.
 fn replay_layer<F: Field>(
     tape: &mut Tape,
+    version: u8,
     messages: &[F],
     first: usize,
     bits: u32,
@@ -33,10 +34,11 @@ fn replay_layer<F: Field>(
 )
     requires bits { HasBits bits layer.old }
     requires messages { first + 4 * bits + 2 ≤ length messages.now }
-    ensures script { let e = coding F.element F.number_of F.BYTES F.size F.ID in layer.new ≡ layer_script F.ops e messages.now first bits tape.old }
-    ensures after { let e = coding F.element F.number_of F.BYTES F.size F.ID in tape.new ≡ after_layer F.ops e messages.now first bits tape.old }
+    ensures script { let e = coding F.element F.number_of F.BYTES F.size F.ID in layer.new ≡ layer_script F.ops e messages.now version first bits tape.old }
+    ensures after { let e = coding F.element F.number_of F.BYTES F.size F.ID in tape.new ≡ after_layer F.ops e messages.now version first bits tape.old }
 {
     layer.alpha = tape.draw();
+    layer.beta = draw_beta(version, tape);
     replay_rounds(
         tape,
         messages,
@@ -64,7 +66,9 @@ fn replay_layers<F: Field>(
     let mut places = LayerPlaces::first(circuit);
     for l in 0..circuit.depth() {
         let first = places.messages as usize;
-        replay_layer(tape, messages, first, places.bits, &mut layers[l as usize]);
+        let (version, bits) = (circuit.version(), places.bits);
+        let layer = &mut layers[l as usize];
+        replay_layer(tape, version, messages, first, bits, layer);
         places = places.next(circuit, l);
     }
 }

@@ -40,7 +40,8 @@ impl<F: Field> Model for Rounds<F> {
 
     ghost view = { λ r. record { orders = r.orders.items; pairs = length r.pairs.items; places = length r.weights.items; bounds = r.bounds.items } };
 
-    ghost invariant = { λ r. (length r.first.items ≡ length r.weights.items) × (length r.second.items ≡ length r.weights.items) × (length r.linear.items ≡ length r.weights.items) × (length r.rows.items ≡ length r.weights.items + 3 * 64) };
+    ghost invariant = { λ r. (length r.first.items ≡ length r.weights.items) × (length r.second.items ≡ length r.weights.items) ×
+        (length r.linear.items ≡ length r.weights.items) × (length r.rows.items ≡ length r.weights.items + 3 * 64) };
 }
 
 // How many bits number the wires of layer `l`.

@@ -142,7 +142,8 @@ fn add_pair_from<F: Field>(pair: Pair<F>, second: &[F], from: usize, rows: &mut 
 fn add_pairs_from<F: Field>(pairs: &[Pair<F>], second: &[F], from: usize, rows: &mut [F])
     requires { (n : ℕ) × ArePairs n (length second.now) pairs.now }
     ensures length { length rows.new ≡ length rows.old }
-    ensures sums { let o = F.ops in (i : ℕ) → i < length rows.old → entry o rows.new i ≡ o.plus (entry o rows.old i) (pairs_row o pairs.now second.now (from + i)) }
+    ensures sums { let o = F.ops in (i : ℕ) → i < length rows.old →
+        entry o rows.new i ≡ o.plus (entry o rows.old i) (pairs_row o pairs.now second.now (from + i)) }
 {
     for pair in pairs {
         add_pair_from(*pair, second, from, rows);

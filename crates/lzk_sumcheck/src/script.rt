@@ -15,6 +15,8 @@ use std::marker::Model;
 pub struct LayerScript<F> {
     /// Joins the layer's two claims.
     pub alpha: F,
+    /// Counts for the layer's assertion terms: 0 in version 1, where there are none.
+    pub beta: F,
     /// The challenges of the rounds for the bits of a, bit 0 first.
     pub ra: Elements<F>,
     /// The challenges of the rounds for the bits of b, bit 0 first.
@@ -75,6 +77,7 @@ fn layer_of_zeros<F: Field>(alloc: Global, bits: u32) -> Result<LayerScript<F>, 
 {
     Ok(LayerScript {
         alpha: F::zero(),
+        beta: F::zero(),
         ra: Elements::zeros(alloc, bits as usize)?,
         rb: Elements::zeros(alloc, bits as usize)?,
     })

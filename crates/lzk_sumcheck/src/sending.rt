@@ -110,13 +110,16 @@ pub(crate) fn send_rounds<R: Threads + Sync, F: Field>(
         ra.new ≡ every_other true (drawn_sent F.ops e sent.new (length ra.old + length rb.old) tape.old) }
     ensures rb { let e = coding F.element F.number_of F.BYTES F.size F.ID in
         rb.new ≡ every_other false (drawn_sent F.ops e sent.new (length ra.old + length rb.old) tape.old) }
-    ensures after { let e = coding F.element F.number_of F.BYTES F.size F.ID in tape.new ≡ after_sent F.ops e sent.new (length ra.old + length rb.old) tape.old }
+    ensures after { let e = coding F.element F.number_of F.BYTES F.size F.ID in
+        tape.new ≡ after_sent F.ops e sent.new (length ra.old + length rb.old) tape.old }
     ensures sent { let o = F.ops in let e = coding F.element F.number_of F.BYTES F.size F.ID in let n = length ra.old + length rb.old in
-        (st : State F) → IsKept o (length ra.old) (length rb.old) st of_a pairs.old scale linear.old first.old second.old → AreSent o F.element st (drawn_sent o e sent.new n tape.old) pads.now sent.new n }
+        (st : State F) → IsKept o (length ra.old) (length rb.old) st of_a pairs.old scale linear.old first.old second.old →
+        AreSent o F.element st (drawn_sent o e sent.new n tape.old) pads.now sent.new n }
     ensures factor_a { let o = F.ops in entry o first.new 0 ≡ tilde o first.old ra.new }
     ensures factor_b { let o = F.ops in entry o second.new 0 ≡ tilde o second.old rb.new }
     ensures bound { let o = F.ops in let e = coding F.element F.number_of F.BYTES F.size F.ID in let n = length ra.old + length rb.old in
-        (st : State F) → IsKept o (length ra.old) (length rb.old) st of_a pairs.old scale linear.old first.old second.old → result ≡ (after o (drawn_sent o e sent.new n tape.old) st).q 0 0 }
+        (st : State F) → IsKept o (length ra.old) (length rb.old) st of_a pairs.old scale linear.old first.old second.old →
+        result ≡ (after o (drawn_sent o e sent.new n tape.old) st).q 0 0 }
 {
     let Some((challenge, ra)) = ra.split_first_mut() else {
         return last_coefficient(pairs, scale, linear);

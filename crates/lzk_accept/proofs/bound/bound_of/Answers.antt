@@ -2,7 +2,10 @@ use Rattle.std.proofs.Common.{◌+◌, length, ap, sym, ◌∙◌, arith, subst}
 use Rattle.std.proofs.lemmas.Option.{get_or_from_slice_get, slice_get_within}
 use Rattle.lzk_circuit.specs.Bits.{bits}
 use Rattle.lzk_circuit.specs.Sums.{sum_list}
+use Rattle.std.specs.Prelude.{None}
+use Rattle.lzk_circuit.specs.Valid.{ArePlaced}
 use Rattle.lzk_circuit.specs.Wires.{AreDistinct}
+use Rattle.lzk_sumcheck.proofs.LayerShapes.{terms-placed-at}
 use Rattle.lzk_circuit.proofs.PlaceLaws.{terms-distinct}
 use Rattle.lzk_layout.specs.Places.{width_at}
 use Rattle.lzk_sumcheck.specs.Script.{layer_at, point_a, point_b}
@@ -44,18 +47,19 @@ returns-clause-value g c =
     let draws = c.layer_of-layer.ensures.layer in
     let ts = c.as_slice-terms.result.now in
     let at = get_or_from_slice_get w.layers l layer layer c.layer.ensures in
-    let distinct = subst (λ x. AreDistinct o x.wires (width_at w (l + 1)) x.terms) at (terms-distinct o w l layer (slice_get_within w.layers l layer c.layer.ensures) c.depth-depth.ensures.valid) in
-    let placed = subst (λ k. AreDistinct o k (width_at w (l + 1)) layer.terms) (wires_is w l layer c.layer.ensures) distinct in
+    let own = subst (λ x. ArePlaced x.wires (width_at w (l + 1)) None x.terms) at (terms-placed-at o w l layer (slice_get_within w.layers l layer c.layer.ensures) c.depth-depth.ensures.valid) in
+    let placed = subst (λ k. ArePlaced k (width_at w (l + 1)) None layer.terms) (wires_is w l layer c.layer.ensures) own in
     let ra = c.as_slice-ra.result.now in
     let rb = c.as_slice-rb.result.now in
     let first = c.first_point-first.result.now in
     let second = c.second_point-second.result.now in
-    let alpha = c.layer_of-layer.result.now.alpha in
+    let beta = c.layer_of-layer.result.now.beta in
     c.sum_at.ensures.value
-    ∙ ap (λ x. sum_list o ts (counts_at o x first second ra rb)) (ap (λ x. x.alpha) draws)
-    ∙ ap (λ x. sum_list o ts (counts_at o L.alpha x second ra rb)) c.first_point-first.ensures.point
-    ∙ ap (λ x. sum_list o ts (counts_at o L.alpha (point_a o s l) x ra rb)) c.second_point-second.ensures.point
-    ∙ ap (λ x. sum_list o ts (counts_at o L.alpha (point_a o s l) (point_b o s l) x rb)) (c.as_slice-ra.ensures ∙ ap (λ x. x.ra) draws)
-    ∙ ap (λ x. sum_list o ts (counts_at o L.alpha (point_a o s l) (point_b o s l) L.ra x)) (c.as_slice-rb.ensures ∙ ap (λ x. x.rb) draws)
+    ∙ ap (λ x. sum_list o ts (counts_at o x beta first second ra rb)) (ap (λ x. x.alpha) draws)
+    ∙ ap (λ x. sum_list o ts (counts_at o L.alpha x first second ra rb)) (ap (λ x. x.beta) draws)
+    ∙ ap (λ x. sum_list o ts (counts_at o L.alpha L.beta x second ra rb)) c.first_point-first.ensures.point
+    ∙ ap (λ x. sum_list o ts (counts_at o L.alpha L.beta (point_a o s l) x ra rb)) c.second_point-second.ensures.point
+    ∙ ap (λ x. sum_list o ts (counts_at o L.alpha L.beta (point_a o s l) (point_b o s l) x rb)) (c.as_slice-ra.ensures ∙ ap (λ x. x.ra) draws)
+    ∙ ap (λ x. sum_list o ts (counts_at o L.alpha L.beta (point_a o s l) (point_b o s l) L.ra x)) (c.as_slice-rb.ensures ∙ ap (λ x. x.rb) draws)
     ∙ bound_sum o g.F.Field.laws.ring w s l ts (c.as_slice-terms.ensures ∙ terms_is w l layer c.layer.ensures)
-    (subst (λ xs. AreDistinct o (width_at w l) (width_at w (l + 1)) xs) (sym c.as_slice-terms.ensures) placed)
+    (subst (λ xs. ArePlaced (width_at w l) (width_at w (l + 1)) None xs) (sym c.as_slice-terms.ensures) placed)

@@ -104,7 +104,8 @@ returns-clause-value g c =
     let second = c.set_table-2.new.table in
     let ia = c.as_slice.ensures ∙ ap (λ x. x.ra) c.layer_of-layer.ensures.layer in
     let ib = c.as_slice-2.ensures ∙ ap (λ x. x.rb) c.layer_of-layer.ensures.layer in
-    c.sum_terms.ensures ∙ ap (λ ts. sum_list o ts (counted o weights first second)) c.as_slice-3.ensures
+    c.sum_terms.ensures ∙ ap (λ ts. sum_list o ts (counted o c.layer_of-layer.result.now.beta weights first second)) c.as_slice-3.ensures
+    ∙ ap (λ x. sum_list o layer.terms (counted o x.beta weights first second)) c.layer_of-layer.ensures.layer
     ∙ bound_by_tables o g.F.Field.laws.ring w s l layer weights first second c.depth-depth.ensures.valid c.layer.ensures
     (λ k h. c.set_weights.ensures.entries k (omega (arith, h, c.width.ensures))
     ∙ ap (λ x. o.plus x (o.times c.layer_of-layer.result.now.alpha (entry o c.args.second.now k))) (c.requires.first k h)

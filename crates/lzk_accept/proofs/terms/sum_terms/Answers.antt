@@ -14,7 +14,7 @@ loop-i-init g c =
     let first = c.args.first.now in
     record {
       wire = c.requires.some;
-      sum = walk_starts o g.F.Field.laws.ring c.args.weights.now first c.args.second.now c.args.terms.now (entry o first 0)
+      sum = walk_starts o g.F.Field.laws.ring c.args.beta c.args.weights.now first c.args.second.now c.args.terms.now (entry o first 0)
           (record { total = c.zero.result; wire = 0; linear = c.zero-2.result; inner = c.zero-3.result }) c.zero.ensures c.zero-2.ensures c.zero-3.ensures;
     }
 
@@ -43,9 +43,9 @@ loop-i-preserved g c =
     let there = subst (λ b. counted_so_far o weights b c.at_wire-there.result ≡ counted_so_far o weights b walk) base c.at_wire-there.ensures.sum in
     record {
       wire = subst (λ n. n < length weights) (sym c.with_term-walk.ensures.wire) placed.0;
-      sum = walk_more o g.F.Field.laws.ring weights first second ts (counted_so_far o weights z walk) (counted_so_far o weights z c.with_term-walk.result)
-          (sum_list o ts (counted o weights first second)) c.loop-i.i t c.loop-i-test.true c.index-terms-i.is
-          (c.with_term-walk.ensures.sum weights ∙ ap (λ x. o.plus x (counted o weights first second t)) there) c.loop-i.invariant.sum;
+      sum = walk_more o g.F.Field.laws.ring c.args.beta weights first second ts (counted_so_far o weights z walk) (counted_so_far o weights z c.with_term-walk.result)
+          (sum_list o ts (counted o c.args.beta weights first second)) c.loop-i.i t c.loop-i-test.true c.index-terms-i.is
+          (c.with_term-walk.ensures.sum weights ∙ ap (λ x. o.plus x (counted o c.args.beta weights first second t)) there) c.loop-i.invariant.sum;
     }
 
 pub returns : goal.returns
@@ -56,4 +56,4 @@ returns g c =
     let first = c.args.first.now in
     let base : c.index-first-0.result ≡ entry o first 0 = c.index-first-0.is ∙ get_or_default first 0 c.index-first-0.result o.zero c.requires.below in
     c.summed.ensures ∙ ap (λ b. counted_so_far o weights b c.loop-i.walk) base
-    ∙ walk_ends o g.F.Field.laws.ring weights first c.args.second.now ts (counted_so_far o weights (entry o first 0) c.loop-i.walk) (sum_list o ts (counted o weights first c.args.second.now)) c.loop-i.i (omega arith) c.loop-i.invariant.sum
+    ∙ walk_ends o g.F.Field.laws.ring c.args.beta weights first c.args.second.now ts (counted_so_far o weights (entry o first 0) c.loop-i.walk) (sum_list o ts (counted o c.args.beta weights first c.args.second.now)) c.loop-i.i (omega arith) c.loop-i.invariant.sum

@@ -9,5 +9,5 @@ invariant-loop-i g l =
     let o = g.F.Field.ops in
     record {
       wire : l.walk.wire < length l.weights;
-      sum : o.plus (counted_so_far o l.weights (entry o l.first 0) l.walk) (sum_list o (drop l.i l.terms) (counted o l.weights l.first l.second)) ≡ sum_list o l.terms (counted o l.weights l.first l.second);
+      sum : o.plus (counted_so_far o l.weights (entry o l.first 0) l.walk) (sum_list o (drop l.i l.terms) (counted o l.beta l.weights l.first l.second)) ≡ sum_list o l.terms (counted o l.beta l.weights l.first l.second);
     }

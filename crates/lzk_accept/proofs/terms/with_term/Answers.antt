@@ -1,6 +1,7 @@
 use Rattle.std.proofs.Common.{◌≡◌, ℕ, ap, ◌∙◌}
 use Rattle.std.proofs.lemmas.List.{get_or_default}
 use Rattle.lzk_field.specs.Sums.{entry}
+use Rattle.lzk_circuit.specs.Wires.{weighed_term}
 use Rattle.lzk_accept.specs.Walks.{counted_so_far}
 use Rattle.lzk_accept.proofs.TermWalks.{term_added}
 use Rattle.lzk_accept.proofs.terms.with_term.Goals as goal
@@ -10,14 +11,15 @@ returns-clause-sum g c weights =
     let o = g.F.Field.ops in
     let walk = c.args.walk in
     let t = c.args.term in
+    let coef = (weighed_term o c.args.beta t).coef in
     let base = entry o c.args.first.now 0 in
     let weight = entry o weights walk.wire in
     let x = entry o c.args.first.now t.a in
     let y = entry o c.args.second.now t.b in
     let one : c.index-first-term.result ≡ x = c.index-first-term.is ∙ get_or_default c.args.first.now t.a c.index-first-term.result o.zero c.requires.a in
     let other : c.index-second-term.result ≡ y = c.index-second-term.is ∙ get_or_default c.args.second.now t.b c.index-second-term.result o.zero c.requires.b in
-    let inner : c.add-2.result ≡ o.plus walk.inner (o.times x (o.times t.coef y)) =
-    c.add-2.ensures ∙ ap (o.plus walk.inner) (c.mul.ensures ∙ ap (λ v. o.times v c.scaled-part.result) one ∙ ap (o.times x) (c.scaled-part.ensures ∙ ap (o.times t.coef) other)) in
+    let inner : c.add-2.result ≡ o.plus walk.inner (o.times x (o.times coef y)) =
+    c.add-2.ensures ∙ ap (o.plus walk.inner) (c.mul.ensures ∙ ap (λ v. o.times v c.scaled-part.result) one ∙ ap (o.times x) (c.scaled-part.ensures ∙ ap (λ v. o.times v c.index-second-term.result) c.weight_of.ensures ∙ ap (o.times coef) other)) in
     ap (λ v. o.plus walk.total (o.times weight (o.plus v (o.times base walk.linear)))) inner
-    ∙ term_added o g.F.Field.laws.ring walk.total weight walk.inner base walk.linear x t.coef y
-    ∙ ap (λ (n : ℕ). o.plus (counted_so_far o weights base walk) (o.times t.coef (o.times (entry o weights n) (o.times x y)))) c.requires.wire
+    ∙ term_added o g.F.Field.laws.ring walk.total weight walk.inner base walk.linear x coef y
+    ∙ ap (λ (n : ℕ). o.plus (counted_so_far o weights base walk) (o.times coef (o.times (entry o weights n) (o.times x y)))) c.requires.wire

@@ -1,4 +1,7 @@
 use Rattle.lzk_sumcheck.proofs.SumcheckLaws.{sumcheck_of}
+use Rattle.lzk_field.specs.Coding.{coding}
+use Rattle.lzk_sumcheck.proofs.VersionLaws.{first-version}
+use Rattle.lzk_sumcheck.proofs.WireLaws.{begins-with-checks, satisfied-claims}
 use Rattle.lzk_sumcheck.proofs.laws.sumcheck_laws.Goals as goal
 
 pub returns-clause-first : goal.returns-clause-first
@@ -12,3 +15,14 @@ returns-clause-curve g c = λ s fits. (sumcheck_of g.F.Field.laws s fits).curve
 
 pub returns-clause-last : goal.returns-clause-last
 returns-clause-last g c = λ s fits. (sumcheck_of g.F.Field.laws s fits).last
+
+pub returns-clause-checks : goal.returns-clause-checks
+returns-clause-checks g c = λ terms beta weights values bits fits. begins-with-checks g.F.Field.laws terms beta weights values bits fits
+
+pub returns-clause-satisfied : goal.returns-clause-satisfied
+returns-clause-satisfied g c = satisfied-claims g.F.Field.laws
+
+pub returns-clause-first_version : goal.returns-clause-first_version
+returns-clause-first_version g c =
+    let m = g.F.Field in
+    first-version m.ops (coding m.element m.number_of m.BYTES m.size m.ID) m.laws.ring

@@ -1,11 +1,13 @@
 use Rattle.std.proofs.Common.{◌≡◌, ◌+◌, ◌*◌, ◌^◌, ◌<◌, ◌≤◌, length, ap, sym, ◌∙◌, ◌++◌, take, arith, subst}
-use Rattle.std.specs.Prelude.{slice_set, true}
+use Rattle.std.specs.Prelude.{slice_set, None, true}
 use Rattle.std.proofs.lemmas.List.{get_or_default}
 use Rattle.std.proofs.lemmas.Nat.{pow_pos}
 use Rattle.lzk_field.specs.Coding.{coding}
 use Rattle.lzk_field.specs.Sums.{minus}
 use Rattle.lzk_mle.specs.Multilinear.{tilde}
-use Rattle.lzk_circuit.specs.Wires.{coef}
+use Rattle.lzk_circuit.specs.Wires.{layer_coefficient, weighed}
+use Rattle.lzk_circuit.proofs.AssertLaws.{weighed-placed}
+use Rattle.lzk_circuit.proofs.OrderLaws.{placed-distinct}
 use Rattle.lzk_sumcheck.specs.Layers.{layer_of_terms}
 use Rattle.lzk_sumcheck.specs.Rounds.{of_a, of_b, bound_coefficient}
 use Rattle.lzk_sumcheck.specs.Rows.{IsKept}
@@ -29,11 +31,12 @@ offset_bounds-1 g c =
     record { fits = times-less 1 (length c.args.sent.now) _ _ inside (omega arith) }
 
 pub set_terms-kept-requires-clause-wires : goal.set_terms-kept-requires-clause-wires
-set_terms-kept-requires-clause-wires g c κs within = wire_within g.F.Field.ops (length c.args.weights.now) (length c.args.values.now) c.args.terms.now c.requires.terms
+set_terms-kept-requires-clause-wires g c κs within = wire_within g.F.Field.ops (length c.args.weights.now) (length c.args.values.now) c.args.terms.now
+    (placed-distinct g.F.Field.ops (length c.args.weights.now) (length c.args.values.now) None c.args.terms.now c.requires.terms)
 
 pub set_terms-kept-requires-clause-linear : goal.set_terms-kept-requires-clause-linear
 set_terms-kept-requires-clause-linear g c κs within = λ i t is.
-    omega (arith, place_below g.F.Field.ops (length c.args.weights.now) (length c.args.values.now) c.args.terms.now c.requires.terms i t is, c.split_at_mut-linear.ensures.front_len, c.table_size-size.ensures.fits)
+    omega (arith, place_below g.F.Field.ops (length c.args.weights.now) (length c.args.values.now) c.args.terms.now (placed-distinct g.F.Field.ops (length c.args.weights.now) (length c.args.values.now) None c.args.terms.now c.requires.terms) i t is, c.split_at_mut-linear.ensures.front_len, c.table_size-size.ensures.fits)
 
 pub send_rounds-bound-requires-clause-pairs : goal.send_rounds-bound-requires-clause-pairs
 send_rounds-bound-requires-clause-pairs g c κs within =
@@ -41,7 +44,8 @@ send_rounds-bound-requires-clause-pairs g c κs within =
     let low = length c.pad_values.new.table in
     let high = length c.pad_values-2.new.table in
     c.set_terms-kept.ensures.within low high
-    (terms-within g.F.Field.ops g.F.Field.laws.ring (length a.weights.now) (length a.values.now) low high a.weights.now a.terms.now c.requires.terms
+    (terms-within g.F.Field.ops g.F.Field.laws.ring (length a.weights.now) (length a.values.now) low high a.weights.now (weighed g.F.Field.ops a.beta a.terms.now)
+    (placed-distinct g.F.Field.ops (length a.weights.now) (length a.values.now) None (weighed g.F.Field.ops a.beta a.terms.now) (weighed-placed g.F.Field.ops a.beta (length a.weights.now) (length a.values.now) a.terms.now c.requires.terms))
     (omega (arith, c.pad_values.ensures.length, c.split_at_mut-low.ensures.front_len, c.table_size-size.ensures.fits)) (omega (arith, c.pad_values-2.ensures.length, c.split_at_mut-high.ensures.front_len, c.table_size-size.ensures.fits)))
 
 pub returns-clause-ra : goal.returns-clause-ra
@@ -98,8 +102,8 @@ returns-clause-rounds g c =
     let factors = slice_set (slice_set c.split_at_mut-rounds.result.1.now 0 c.sub.result) 1 c.sub-2.result in
     let size : length rounds ≡ 2 * (2 * k) = omega (arith, c.send_rounds-bound.ensures.sent_length, c.split_at_mut-rounds.ensures.front_len) in
     let front : length rounds ≡ 4 * k = omega (arith, size) in
-    let s = layer_of_terms o a.terms.now a.weights.now a.values.now k in
-    let kept = first-kept o r a.terms.now a.weights.now a.values.now c.pad_values.new.table c.pad_values-2.new.table c.set_terms-kept.new.linear (take c.set_terms-kept.result c.set_terms-kept.new.pairs) k
+    let s = layer_of_terms o a.terms.now a.beta a.weights.now a.values.now k in
+    let kept = first-kept o r a.terms.now a.beta a.weights.now a.values.now c.pad_values.new.table c.pad_values-2.new.table c.set_terms-kept.new.linear (take c.set_terms-kept.result c.set_terms-kept.new.pairs) k
     c.requires.terms c.pad_values.ensures.entries c.pad_values-2.ensures.entries c.set_terms-kept.ensures.sums in
     let begun = subst (λ x. IsKept o k k (state_of o s) true (take c.set_terms-kept.result c.set_terms-kept.new.pairs) x c.set_terms-kept.new.linear c.pad_values.new.table c.pad_values-2.new.table) (sym c.one.ensures) kept in
     let equal : k ≡ length a.rb.now = omega (arith, c.requires.bits) in
@@ -155,8 +159,8 @@ returns-clause-bound g c =
     let k = length a.ra.now in
     let n = k + length a.rb.now in
     let both : n ≡ 2 * k = omega (arith, c.requires.bits) in
-    let s = layer_of_terms o a.terms.now a.weights.now a.values.now k in
-    let kept = first-kept o r a.terms.now a.weights.now a.values.now c.pad_values.new.table c.pad_values-2.new.table c.set_terms-kept.new.linear (take c.set_terms-kept.result c.set_terms-kept.new.pairs) k
+    let s = layer_of_terms o a.terms.now a.beta a.weights.now a.values.now k in
+    let kept = first-kept o r a.terms.now a.beta a.weights.now a.values.now c.pad_values.new.table c.pad_values-2.new.table c.set_terms-kept.new.linear (take c.set_terms-kept.result c.set_terms-kept.new.pairs) k
     c.requires.terms c.pad_values.ensures.entries c.pad_values-2.ensures.entries c.set_terms-kept.ensures.sums in
     let begun = subst (λ x. IsKept o k k (state_of o s) true (take c.set_terms-kept.result c.set_terms-kept.new.pairs) x c.set_terms-kept.new.linear c.pad_values.new.table c.pad_values-2.new.table) (sym c.one.ensures) kept in
     let equal : k ≡ length a.rb.now = omega (arith, c.requires.bits) in
@@ -164,5 +168,5 @@ returns-clause-bound g c =
     c.send_rounds-bound.ensures.bound (state_of o s)
     (subst (λ j. IsKept o k j (state_of o s) true (take c.set_terms-kept.result c.set_terms-kept.new.pairs) c.one.result c.set_terms-kept.new.linear c.pad_values.new.table c.pad_values-2.new.table) equal begun)
     ∙ bound-is o r s drawn c.requires.fits (length-drawn o e c.send_rounds-bound.new.sent n a.tape.now ∙ both)
-    ∙ ap (λ xs. bound_coefficient o (coef o a.terms.now) a.weights.now (length a.values.now) xs (of_b drawn)) (sym c.send_rounds-bound.ensures.ra)
-    ∙ ap (bound_coefficient o (coef o a.terms.now) a.weights.now (length a.values.now) c.send_rounds-bound.new.ra) (sym c.send_rounds-bound.ensures.rb)
+    ∙ ap (λ xs. bound_coefficient o (layer_coefficient o a.terms.now a.beta) a.weights.now (length a.values.now) xs (of_b drawn)) (sym c.send_rounds-bound.ensures.ra)
+    ∙ ap (bound_coefficient o (layer_coefficient o a.terms.now a.beta) a.weights.now (length a.values.now) c.send_rounds-bound.new.ra) (sym c.send_rounds-bound.ensures.rb)

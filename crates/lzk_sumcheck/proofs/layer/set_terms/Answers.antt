@@ -1,12 +1,13 @@
-use Rattle.std.proofs.Common.{◌≡◌, ◌+◌, ◌<◌, ◌≤◌, ◌∷◌, ℕ, length, map, take, drop, ap, ◌∙◌, sym, arith}
+use Rattle.std.proofs.Common.{◌≡◌, ◌+◌, ◌<◌, ◌≤◌, ◌∷◌, ℕ, length, map, take, drop, refl, ap, ◌∙◌, sym, arith, subst, []}
 use Rattle.std.specs.Prelude.{List, Some, ◌==◌, cond, slice_index_or}
 use Rattle.std.proofs.lemmas.Option.{slice_get-get_or}
 use Rattle.std.proofs.lemmas.List.{drop_more, drop_all, get_or_default, get_or-map, length-map}
 use Rattle.lzk_field.specs.Ring.{Ops}
 use Rattle.lzk_circuit.specs.declared.layer.Term.{Term}
+use Rattle.lzk_circuit.specs.Wires.{weighed_term, weighed}
 use Rattle.lzk_sumcheck.specs.declared.pairs.Pair.{Pair}
 use Rattle.lzk_sumcheck.specs.Orders.{places}
-use Rattle.lzk_sumcheck.specs.Pairs.{first_pair, spread}
+use Rattle.lzk_sumcheck.specs.Pairs.{first_pair, spread, ArePairs}
 use Rattle.lzk_sumcheck.specs.Rows.{counted}
 use Rattle.lzk_sumcheck.proofs.KeptLaws.{counted_none, counted_more}
 use Rattle.lzk_sumcheck.proofs.LayerSends.{no_term}
@@ -14,8 +15,16 @@ use Rattle.lzk_sumcheck.proofs.OrderLaws.{order_size, entry_place, place_within,
 use Rattle.lzk_sumcheck.proofs.layer.set_terms.Goals as goal
 
 -- the pairs in the order
-abbrev pairs_in : {A : Type 0} → Ops A → List A → List (Term A) → List ℕ → List (Pair A)
-pairs_in o weights ts ks = map (λ k. first_pair o weights (slice_index_or ts k (no_term o))) ks
+abbrev pairs_in : {A : Type 0} → Ops A → A → List A → List (Term A) → List ℕ → List (Pair A)
+pairs_in o beta weights ts ks = map (λ k. first_pair o weights (weighed_term o beta (slice_index_or ts k (no_term o)))) ks
+
+-- the pair of a term with beta for a coefficient of 0
+abbrev pair_by : {A : Type 0} → Ops A → A → List A → Term A → Pair A
+pair_by o beta weights t = first_pair o weights (weighed_term o beta t)
+
+all_by : {A : Type 0} (o : Ops A) (beta : A) (weights : List A) (ts : List (Term A)) → map (pair_by o beta weights) ts ≡ map (first_pair o weights) (weighed o beta ts)
+all_by o beta weights [] = refl
+all_by o beta weights (t ∷ ts) = ap (λ ps. pair_by o beta weights t ∷ ps) (all_by o beta weights ts)
 
 pub loop-i-init : goal.loop-i-init
 loop-i-init g c =
@@ -24,7 +33,7 @@ loop-i-init g c =
     record {
       pairs = omega arith;
       linear = c.set_zeros.ensures.length;
-      counted = counted_none o m.laws.ring (pairs_in o c.args.weights.now c.args.terms.now (places c.args.order.now)) c.args.pairs.now c.set_zeros.new.rows c.set_zeros.ensures.entries;
+      counted = counted_none o m.laws.ring (pairs_in o c.args.beta c.args.weights.now c.args.terms.now (places c.args.order.now)) c.args.pairs.now c.set_zeros.new.rows c.set_zeros.ensures.entries;
     }
 
 pub offset_bounds-terms-k : goal.offset_bounds-terms-k
@@ -61,14 +70,14 @@ loop-i-preserved g c =
     let inside : i < length ps = omega arith in
     let k = (slice_index_or ps i (0, 0)).1 in
     let t = c.index-terms-k.result in
-    let q = first_pair o w t in
-    let qs = pairs_in o w ts (places ps) in
+    let q = pair_by o c.args.beta w t in
+    let qs = pairs_in o c.args.beta w ts (places ps) in
     let term : t ≡ slice_index_or ts (slice_index_or (places ps) i 0) (no_term o) =
     c.index-terms-k.is ∙ get_or_default ts k t (no_term o) (place_within ts ps c.requires.order i inside) ∙ ap (λ n. slice_index_or ts n (no_term o)) (sym (entry_place ps i inside)) in
     let here : i < length (places ps) = omega (arith, inside, length-map ps (λ p. p.1)) in
-    let there : i < length qs = omega (arith, here, length-map (places ps) (λ n. first_pair o w (slice_index_or ts n (no_term o)))) in
+    let there : i < length qs = omega (arith, here, length-map (places ps) (λ n. pair_by o c.args.beta w (slice_index_or ts n (no_term o)))) in
     let front : drop i qs ≡ q ∷ drop (i + 1) qs =
-    drop_more qs i q there ∙ ap (λ x. x ∷ drop (i + 1) qs) (get_or-map (λ n. first_pair o w (slice_index_or ts n (no_term o))) (places ps) i 0 q here ∙ ap (first_pair o w) (sym term)) in
+    drop_more qs i q there ∙ ap (λ x. x ∷ drop (i + 1) qs) (get_or-map (λ n. pair_by o c.args.beta w (slice_index_or ts n (no_term o))) (places ps) i 0 q here ∙ ap (pair_by o c.args.beta w) (sym term)) in
     let e = c.put_term-kept.ensures in
     record {
       pairs = e.length ∙ c.loop-i.invariant.pairs;
@@ -87,11 +96,12 @@ returns-clause-sums g c = λ i j.
     let w = c.args.weights.now in
     let ts = c.args.terms.now in
     let ks = places c.args.order.now in
-    let qs = pairs_in o w ts ks in
+    let qs = pairs_in o c.args.beta w ts ks in
     let n = counted o (take c.loop-i.kept c.loop-i.pairs) c.loop-i.linear i j in
-    let past : length qs ≤ c.loop-i.i = omega (arith, c.loop-i-test.false, length-map c.args.order.now (λ p. p.1), length-map ks (λ k. first_pair o w (slice_index_or ts k (no_term o)))) in
+    let past : length qs ≤ c.loop-i.i = omega (arith, c.loop-i-test.false, length-map c.args.order.now (λ p. p.1), length-map ks (λ k. pair_by o c.args.beta w (slice_index_or ts k (no_term o)))) in
     sym (m.laws.ring.plus_zero n) ∙ sym (ap (λ xs. o.plus n (spread o xs i j)) (drop_all c.loop-i.i qs past)) ∙ c.loop-i.invariant.counted.sums i j
-    ∙ sum-permuted o m.laws.ring (λ (p : Pair g.row.F.Denot). cond (i == p.a) (cond (j == p.b) p.coef o.zero) o.zero) (map (first_pair o w) ts) qs (picked (first_pair o w) (no_term o) ts ks c.requires.order)
+    ∙ sum-permuted o m.laws.ring (λ (p : Pair g.row.F.Denot). cond (i == p.a) (cond (j == p.b) p.coef o.zero) o.zero) (map (pair_by o c.args.beta w) ts) qs (picked (pair_by o c.args.beta w) (no_term o) ts ks c.requires.order)
+    ∙ ap (λ ps. spread o ps i j) (all_by o c.args.beta w ts)
 
 pub returns-clause-within : goal.returns-clause-within
 returns-clause-within g c = λ n m h.
@@ -99,5 +109,5 @@ returns-clause-within g c = λ n m h.
     let ts = c.args.terms.now in
     let w = c.args.weights.now in
     let ks = places c.args.order.now in
-    let both = c.loop-i.invariant.counted.within n m (pairs-permuted n m (map (first_pair o w) ts) (pairs_in o w ts ks) (picked (first_pair o w) (no_term o) ts ks c.requires.order) h) in
+    let both = c.loop-i.invariant.counted.within n m (pairs-permuted n m (map (pair_by o c.args.beta w) ts) (pairs_in o c.args.beta w ts ks) (picked (pair_by o c.args.beta w) (no_term o) ts ks c.requires.order) (subst (ArePairs n m) (sym (all_by o c.args.beta w ts)) h)) in
     both.0

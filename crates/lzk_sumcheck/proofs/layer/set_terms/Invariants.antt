@@ -1,5 +1,6 @@
 use Rattle.std.proofs.Common.{◌≡◌, length, map}
 use Rattle.std.specs.Prelude.{slice_index_or}
+use Rattle.lzk_circuit.specs.Wires.{weighed_term}
 use Rattle.lzk_sumcheck.specs.Orders.{places}
 use Rattle.lzk_sumcheck.specs.Pairs.{first_pair}
 use Rattle.lzk_sumcheck.proofs.KeptLaws.{IsCounted}
@@ -13,5 +14,5 @@ invariant-loop-i g l =
     record {
       pairs : length l.pairs ≡ length l.fn.pairs;
       linear : length l.linear ≡ length l.fn.linear;
-      counted : IsCounted o m.laws.ring (map (λ k. first_pair o l.weights (slice_index_or l.terms k (no_term o))) (places l.order)) l.i l.kept l.pairs l.linear;
+      counted : IsCounted o m.laws.ring (map (λ k. first_pair o l.weights (weighed_term o l.beta (slice_index_or l.terms k (no_term o)))) (places l.order)) l.i l.kept l.pairs l.linear;
     }

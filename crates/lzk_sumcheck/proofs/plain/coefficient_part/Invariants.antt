@@ -10,5 +10,5 @@ abbrev pub invariant-loop-i : goal.invariant-loop-i
 invariant-loop-i g l =
     let o = g.F.Field.ops in
     let x = point o l.bits l.bound l.t l.z in
-    let f = term_value o g.F.Field.laws.ring l.weights (every_other true x) (every_other false x) in
+    let f = term_value o g.F.Field.laws.ring l.beta l.weights (every_other true x) (every_other false x) in
     o.plus l.total (sum_list o (drop l.i l.terms) f) ≡ sum_list o l.terms f

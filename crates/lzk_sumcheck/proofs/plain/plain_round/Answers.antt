@@ -1,12 +1,14 @@
 use Rattle.std.proofs.Common.{◌≡◌, ◌+◌, length, sym, ap, ◌∙◌, arith, subst}
 use Rattle.lzk_circuit.specs.Bits.{bits}
-use Rattle.lzk_circuit.specs.Wires.{AreDistinct, list_at}
+use Rattle.std.specs.Prelude.{None}
+use Rattle.lzk_circuit.specs.Valid.{ArePlaced}
+use Rattle.lzk_circuit.specs.Wires.{list_at}
 use Rattle.lzk_layout.specs.Places.{width_at, bits_under}
 use Rattle.lzk_layout.proofs.SizeLaws.{narrow}
 use Rattle.lzk_sumcheck.specs.Coefficients.{terms_at}
 use Rattle.lzk_sumcheck.specs.Layers.{layer_of_terms}
 use Rattle.lzk_sumcheck.specs.Rounds as rounds
-use Rattle.lzk_sumcheck.proofs.LayerShapes.{values_width, terms_is, terms_distinct}
+use Rattle.lzk_sumcheck.proofs.LayerShapes.{values_width, terms_is, terms_placed}
 use Rattle.lzk_sumcheck.proofs.plain.plain_round.Goals as goal
 
 pub bits_of-bits-requires : goal.bits_of-bits-requires
@@ -17,7 +19,7 @@ plain_sum-requires-clause-size g c κs within =
     omega (
       arith,
       ap length c.layer-2.ensures,
-      values_width c.args.circuit.now c.args.values.now (c.args.l + 1) c.requires.values (omega (arith, c.requires.layer)),
+      values_width c.args.circuit.now c.args.values.now.wires (c.args.l + 1) c.requires.values (omega (arith, c.requires.layer)),
       narrow g.F.Field.ops c.args.circuit.now (c.args.l + 1) c.depth-depth.ensures.valid,
     )
 
@@ -26,11 +28,11 @@ plain_sum-requires-clause-terms g c κs within =
     let o = g.F.Field.ops in
     let w = c.args.circuit.now in
     let l = c.args.l in
-    let below = ap length c.layer-2.ensures ∙ values_width w c.args.values.now (l + 1) c.requires.values (omega (arith, c.requires.layer)) in
-    subst (λ ts. AreDistinct o (length c.args.weights.now) (length c.layer-2.result.now) ts) (sym c.as_slice-terms.ensures)
-    (subst (λ n. AreDistinct o (length c.args.weights.now) n c.layer.result.now.terms) (sym below)
-    (subst (λ k. AreDistinct o k (width_at w (l + 1)) c.layer.result.now.terms) (sym c.requires.weights)
-    (terms_distinct w l c.layer.result.now c.layer.ensures o c.depth-depth.ensures.valid)))
+    let below = ap length c.layer-2.ensures ∙ values_width w c.args.values.now.wires (l + 1) c.requires.values (omega (arith, c.requires.layer)) in
+    subst (λ ts. ArePlaced (length c.args.weights.now) (length c.layer-2.result.now) None ts) (sym c.as_slice-terms.ensures)
+    (subst (λ n. ArePlaced (length c.args.weights.now) n None c.layer.result.now.terms) (sym below)
+    (subst (λ k. ArePlaced k (width_at w (l + 1)) None c.layer.result.now.terms) (sym c.requires.weights)
+    (terms_placed w l c.layer.result.now c.layer.ensures o c.depth-depth.ensures.valid)))
 
 pub returns : goal.returns
 returns g c =
@@ -43,7 +45,7 @@ returns g c =
     let few : c.bits_of-bits.result ≡ bits_under w l = c.bits_of-bits.ensures.bits ∙ ap bits c.width.ensures in
     record {
       round = c.plain_sum.ensures
-          ∙ ap (λ ts. rounds.round o (layer_of_terms o ts weights c.layer-2.result.now c.bits_of-bits.result) bound t) (c.as_slice-terms.ensures ∙ terms_is w l c.layer.result.now c.layer.ensures)
-          ∙ ap (λ values. rounds.round o (layer_of_terms o (terms_at w l) weights values c.bits_of-bits.result) bound t) c.layer-2.ensures
-          ∙ ap (λ n. rounds.round o (layer_of_terms o (terms_at w l) weights (list_at c.args.values.now (l + 1)) n) bound t) few;
+          ∙ ap (λ ts. rounds.round o (layer_of_terms o ts c.args.beta weights c.layer-2.result.now c.bits_of-bits.result) bound t) (c.as_slice-terms.ensures ∙ terms_is w l c.layer.result.now c.layer.ensures)
+          ∙ ap (λ values. rounds.round o (layer_of_terms o (terms_at w l) c.args.beta weights values c.bits_of-bits.result) bound t) c.layer-2.ensures
+          ∙ ap (λ n. rounds.round o (layer_of_terms o (terms_at w l) c.args.beta weights (list_at c.args.values.now.wires (l + 1)) n) bound t) few;
     }

@@ -12,7 +12,7 @@ pub returns : goal.returns
 returns g c =
     let m = g.F.Field in
     let o = m.ops in
-    let s = layer_of_terms o c.args.terms.now c.args.weights.now c.args.values.now c.args.bits in
+    let s = layer_of_terms o c.args.terms.now c.args.beta c.args.weights.now c.args.values.now c.args.bits in
     let k = 2 * c.args.bits - length c.args.bound.now - 1 in
     let whole : (1 * 2 ^ k) % 2 ^ 64 ≡ 1 * 2 ^ k = mod-eq_of_lt (omega (arith, pow_below k 64 (omega arith))) in
     let ended : c.loop-z.z ≡ 2 ^ k = omega (arith, whole) in

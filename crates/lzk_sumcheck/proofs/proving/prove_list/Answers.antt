@@ -1,19 +1,24 @@
 use Rattle.std.proofs.Common.{◌≡◌, ◌+◌, ◌*◌, ◌^◌, ◌<◌, ◌≤◌, ◌++◌, [], length, refl, sym, ap, ◌∙◌, arith, subst}
-use Rattle.std.specs.Prelude.{slice_index_or}
+use Rattle.std.specs.Prelude.{None, slice_index_or, map}
+use Rattle.std.specs.List.{range_with_len}
 use Rattle.std.proofs.lemmas.List.{length-append, length-set, get_or_default}
 use Rattle.lzk_field.specs.Coding.{coding}
 use Rattle.lzk_field.specs.Sums.{entry}
 use Rattle.lzk_mle.specs.Multilinear.{eq}
 use Rattle.lzk_transcript.specs.Columns.{after_draws}
-use Rattle.lzk_circuit.specs.Wires.{AreDistinct}
+use Rattle.lzk_circuit.specs.Valid.{ArePlaced}
 use Rattle.lzk_circuit.proofs.BitLaws.{bits_few, bits_enough}
 use Rattle.lzk_layout.specs.Places.{depth, width_at, bits_under, output_bits, sent_at}
 use Rattle.lzk_layout.proofs.SizeLaws.{narrow}
 use Rattle.lzk_sumcheck.specs.Coefficients.{terms_at}
 use Rattle.lzk_sumcheck.specs.Draws.{draws}
+use Rattle.lzk_sumcheck.specs.Layers.{layer_of_terms}
 use Rattle.lzk_sumcheck.specs.Orders.{places, IsOrderOf}
+use Rattle.lzk_sumcheck.specs.Script.{after_first, round_challenge, layer_script, after_layer}
+use Rattle.lzk_sumcheck.specs.Sending.{AreRoundsSent}
+use Rattle.lzk_sumcheck.specs.Weights.{weighted}
 use Rattle.lzk_sumcheck.proofs.LayerLaws.{AreReplayed, replayed_whole}
-use Rattle.lzk_sumcheck.proofs.LayerShapes.{values_depth, values_width, terms_is, terms_distinct}
+use Rattle.lzk_sumcheck.proofs.LayerShapes.{values_depth, values_width, terms_is, terms_placed}
 use Rattle.lzk_sumcheck.proofs.ProvingLaws.{AreBound, proved-none, proved-more, bound-more, front-kept, part-stands, layer-has, times-less}
 use Rattle.lzk_sumcheck.proofs.proving.prove_list.Goals as goal
 
@@ -49,7 +54,7 @@ loop-l-init g c =
       weights = refl;
       messages = refl;
       layers = refl;
-      proved = proved-none o e w c.args.values.now c.args.pads.now t c.args.layers.now c.draw_all.new.tape c.args.messages.now c.set_table.new.table c.set_table-2.new.table
+      proved = proved-none o e w c.args.values.now.wires c.args.pads.now t c.args.layers.now c.draw_all.new.tape c.args.messages.now c.set_table.new.table c.set_table-2.new.table
           (c.draw_all.ensures.after ∙ ap (λ n. after_draws n t) size)
           (λ k h. c.set_table.ensures.entries k (omega (arith, h, ap (λ n. 2 ^ n) len, bits_enough (width_at w 0))) ∙ ap (eq o k) points)
           (λ k h. c.set_table-2.ensures.entries k (omega (arith, h, ap (λ n. 2 ^ n) len, bits_enough (width_at w 0))) ∙ ap (eq o k) points);
@@ -68,7 +73,7 @@ pub layer-requires-in-loop-l-after_bounds : goal.layer-requires-in-loop-l-after_
 layer-requires-in-loop-l-after_bounds g c κs within =
     let w = c.args.circuit.now in
     let h : c.loop-l.l < depth w = omega (arith, c.depth-depth.ensures.depth, c.loop-l-test.true, c.loop-l.auto.l-end) in
-    omega (arith, h, values_depth w c.args.values.now c.requires.values)
+    omega (arith, h, values_depth w c.args.values.now.wires c.requires.values)
 
 pub offset_bounds-layers-l : goal.offset_bounds-layers-l
 offset_bounds-layers-l g c =
@@ -112,12 +117,12 @@ prove_layer-requires-clause-terms g c κs within =
     let h : l < depth w = omega (arith, c.depth-depth.ensures.depth, c.loop-l-test.true, c.loop-l.auto.l-end) in
     let wires = c.split_at_mut-wires.result.0.now in
     let vs = c.layer-in-loop-l.result.now in
-    let below : length vs ≡ width_at w (l + 1) = ap length c.layer-in-loop-l.ensures ∙ values_width w c.args.values.now (l + 1) c.requires.values (omega (arith, h)) in
+    let below : length vs ≡ width_at w (l + 1) = ap length c.layer-in-loop-l.ensures ∙ values_width w c.args.values.now.wires (l + 1) c.requires.values (omega (arith, h)) in
     let here : length wires ≡ width_at w l = omega (arith, c.split_at_mut-wires.ensures.front_len, c.width.ensures) in
-    subst (λ ts. AreDistinct o (length wires) (length vs) ts) (sym c.as_slice.ensures)
-    (subst (λ n. AreDistinct o (length wires) n c.layer.result.now.terms) (sym below)
-    (subst (λ k. AreDistinct o k (width_at w (l + 1)) c.layer.result.now.terms) (sym here)
-    (terms_distinct w l c.layer.result.now c.layer.ensures o c.depth-depth.ensures.valid)))
+    subst (λ ts. ArePlaced (length wires) (length vs) None ts) (sym c.as_slice.ensures)
+    (subst (λ n. ArePlaced (length wires) n None c.layer.result.now.terms) (sym below)
+    (subst (λ k. ArePlaced k (width_at w (l + 1)) None c.layer.result.now.terms) (sym here)
+    (terms_placed w l c.layer.result.now c.layer.ensures o c.depth-depth.ensures.valid)))
 
 pub prove_layer-requires-clause-order : goal.prove_layer-requires-clause-order
 prove_layer-requires-clause-order g c κs within =
@@ -140,7 +145,7 @@ prove_layer-requires-clause-fits g c κs within =
     let h : l < depth w = omega (arith, c.depth-depth.ensures.depth, c.loop-l-test.true, c.loop-l.auto.l-end) in
     let has = layer-has f.ops e c.loop-l.messages w (after_draws (output_bits w) c.args.tape.now) c.args.layers.now l c.loop-l.tape c.loop-l.layers inv.proved.replayed
     (omega (arith, h, inv.layers, c.requires.depth)) (omega (arith, h, c.requires.depth)) c.requires.bits c.index-layers-l.result in
-    let below : length c.layer-in-loop-l.result.now ≡ width_at w (l + 1) = ap length c.layer-in-loop-l.ensures ∙ values_width w c.args.values.now (l + 1) c.requires.values (omega (arith, h)) in
+    let below : length c.layer-in-loop-l.result.now ≡ width_at w (l + 1) = ap length c.layer-in-loop-l.ensures ∙ values_width w c.args.values.now.wires (l + 1) c.requires.values (omega (arith, h)) in
     omega (arith, below, ap (λ n. 2 ^ n) has.ra, bits_enough (width_at w (l + 1)))
 
 pub prove_layer-requires-clause-first : goal.prove_layer-requires-clause-first
@@ -247,6 +252,13 @@ loop-l-preserved g c =
     let count : length sent ≡ 4 * k + 2 = omega (arith, all.sent_length, c.split_at_mut-sent.ensures.front_len, few, has.ra) in
     let wide : length wires ≡ width_at w l = omega (arith, c.split_at_mut-wires.ensures.front_len, c.width.ensures) in
     let enough : width_at w (l + 1) ≤ 2 ^ k = omega (arith, ap (λ n. 2 ^ n) has.ra, bits_enough (width_at w (l + 1))) in
+    let now = c.loop-l.tape in
+    let layer = c.prove_layer.new.layer in
+    let ts = c.as_slice.result.now in
+    let script = all.script ∙ ap (λ v. layer_script o e sent v 0 k now) c.version.ensures.version in
+    let after = all.after ∙ ap (λ v. after_layer o e sent v 0 k now) c.version.ensures.version in
+    let rounds = subst (λ v. AreRoundsSent o f.element (layer_of_terms o ts layer.beta (weighted o layer.alpha c.loop-l.first c.loop-l.second (length wires)) vs k) (map (round_challenge o e sent 0 (after_first v now)) (range_with_len 0 (2 * k))) c.part.result.now sent)
+    c.version.ensures.version all.rounds in
     record {
       places = c.next-places.ensures.places;
       within = c.next-places.ensures.within;
@@ -258,25 +270,25 @@ loop-l-preserved g c =
       weights = omega (arith, length-append c.prove_layer.new.weights c.split_at_mut-wires.result.1.now, all.weights_length, c.split_at_mut-wires.ensures.front_len, c.split_at_mut-wires.ensures.back_len, inv.weights);
       messages = omega (arith, length-append front (sent ++ rest), length-append sent rest, all.sent_length, c.split_at_mut-sent.ensures.front_len, c.split_at_mut-sent.ensures.back_len, c.split_at_mut-later.ensures.front_len, c.split_at_mut-later.ensures.back_len, inv.messages);
       layers = length-set c.loop-l.layers l c.prove_layer.new.layer ∙ inv.layers;
-      proved = proved-more o e w c.args.values.now c.args.pads.now c.args.tape.now c.args.layers.now l c.loop-l.tape c.prove_layer.new.tape c.loop-l.layers c.loop-l.messages (front ++ (sent ++ rest))
+      proved = proved-more o e w c.args.values.now.wires c.args.pads.now c.args.tape.now c.args.layers.now l c.loop-l.tape c.prove_layer.new.tape c.loop-l.layers c.loop-l.messages (front ++ (sent ++ rest))
           c.loop-l.first c.loop-l.second c.prove_layer.new.first c.prove_layer.new.second sent c.part.result.now k (length wires) c.as_slice.result.now c.layer-in-loop-l.result.now c.prove_layer.new.layer
           inv.proved h inside
           (front-kept o (sent_at w l) c.loop-l.messages front c.split_at_mut-later.result.1.now (sent ++ rest) c.split_at_mut-later.ensures.value size)
           has.ra wide (c.as_slice.ensures ∙ terms_is w l c.layer.result.now c.layer.ensures) c.layer-in-loop-l.ensures
-          all.script all.after
+          script after
           (part-stands o (sent_at w l) (4 * k + 2) front sent rest size count)
           (λ j q. c.part.ensures.entries j (omega (arith, q, few, has.ra)) ∙ ap (λ b. entry o c.args.pads.now (b + j)) begins)
-          all.rounds all.factor_a all.factor_b
+          rounds all.factor_a all.factor_b
           (λ j q. all.first j (omega (arith, q, enough)))
           (λ j q. all.second j (omega (arith, q, enough)));
       bounds = length-set c.loop-l.bounds l c.prove_layer.result ∙ inv.bounds;
-      bound = bound-more o e w c.args.values.now c.args.pads.now c.args.tape.now c.args.layers.now l c.loop-l.tape c.loop-l.layers c.loop-l.messages (front ++ (sent ++ rest))
+      bound = bound-more o e w c.args.values.now.wires c.args.pads.now c.args.tape.now c.args.layers.now l c.loop-l.tape c.loop-l.layers c.loop-l.messages (front ++ (sent ++ rest))
           c.loop-l.first c.loop-l.second sent c.part.result.now c.loop-l.bounds k (length wires) (length vs) c.as_slice.result.now c.prove_layer.new.layer c.prove_layer.result
           inv.proved h (omega (arith, h, inv.bounds, c.requires.bounds))
           (front-kept o (sent_at w l) c.loop-l.messages front c.split_at_mut-later.result.1.now (sent ++ rest) c.split_at_mut-later.ensures.value size)
           has.ra wide (c.as_slice.ensures ∙ terms_is w l c.layer.result.now c.layer.ensures)
-          (ap length c.layer-in-loop-l.ensures ∙ values_width w c.args.values.now (l + 1) c.requires.values (omega (arith, h)))
-          all.script (part-stands o (sent_at w l) (4 * k + 2) front sent rest size count) all.bound inv.bound;
+          (ap length c.layer-in-loop-l.ensures ∙ values_width w c.args.values.now.wires (l + 1) c.requires.values (omega (arith, h)))
+          script (part-stands o (sent_at w l) (4 * k + 2) front sent rest size count) all.bound inv.bound;
     }
 
 pub returns-clause-scripts : goal.returns-clause-scripts
@@ -298,5 +310,5 @@ returns-clause-bounds g c =
     let all : c.loop-l.l ≡ depth w = omega (arith, c.depth-depth.ensures.depth, c.loop-l-test.false, c.loop-l.auto.l-end) in
     record {
       count = c.loop-l.invariant.bounds ∙ c.requires.bounds;
-      each = subst (λ l. AreBound f.ops e w a.values.now a.pads.now a.tape.now a.layers.now l c.loop-l.messages c.loop-l.bounds) all c.loop-l.invariant.bound;
+      each = subst (λ l. AreBound f.ops e w a.values.now.wires a.pads.now a.tape.now a.layers.now l c.loop-l.messages c.loop-l.bounds) all c.loop-l.invariant.bound;
     }

@@ -18,7 +18,7 @@ invariant-loop-l g l =
       weights : length l.weights ≡ length l.fn.weights;
       messages : length l.messages ≡ length l.fn.messages;
       layers : length l.layers ≡ length l.fn.layers;
-      proved : AreProved f.ops (coding f.element f.number_of f.BYTES f.size f.ID) l.circuit l.values l.pads l.fn.tape l.fn.layers l.l l.tape l.layers l.messages l.first l.second;
+      proved : AreProved f.ops (coding f.element f.number_of f.BYTES f.size f.ID) l.circuit l.values.wires l.pads l.fn.tape l.fn.layers l.l l.tape l.layers l.messages l.first l.second;
       bounds : length l.bounds ≡ length l.fn.bounds;
-      bound : AreBound f.ops (coding f.element f.number_of f.BYTES f.size f.ID) l.circuit l.values l.pads l.fn.tape l.fn.layers l.l l.messages l.bounds;
+      bound : AreBound f.ops (coding f.element f.number_of f.BYTES f.size f.ID) l.circuit l.values.wires l.pads l.fn.tape l.fn.layers l.l l.messages l.bounds;
     }

@@ -44,8 +44,8 @@ loop-l-preserved g c =
       places = c.next-places.ensures.places;
       within = c.next-places.ensures.within;
       layers = replayed_more f.ops e ms w c.args.tape.now c.args.layers.now l now c.replay_layer.new.tape c.loop-l.layers c.replay_layer.new.layer c.loop-l.invariant.layers h
-          (c.replay_layer.ensures.script ∙ ap (λ i. layer_script f.ops e ms i c.loop-l.places.bits now) begins ∙ ap (λ k. layer_script f.ops e ms (sent_at w l) k now) bits)
-          (c.replay_layer.ensures.after ∙ ap (λ i. after_layer f.ops e ms i c.loop-l.places.bits now) begins ∙ ap (λ k. after_layer f.ops e ms (sent_at w l) k now) bits);
+          (c.replay_layer.ensures.script ∙ ap (λ v. layer_script f.ops e ms v c.loop-l.places.messages c.loop-l.places.bits now) c.version-version.ensures.version ∙ ap (λ i. layer_script f.ops e ms w.version i c.loop-l.places.bits now) begins ∙ ap (λ k. layer_script f.ops e ms w.version (sent_at w l) k now) bits)
+          (c.replay_layer.ensures.after ∙ ap (λ v. after_layer f.ops e ms v c.loop-l.places.messages c.loop-l.places.bits now) c.version-version.ensures.version ∙ ap (λ i. after_layer f.ops e ms w.version i c.loop-l.places.bits now) begins ∙ ap (λ k. after_layer f.ops e ms w.version (sent_at w l) k now) bits);
     }
 
 pub returns-clause-scripts : goal.returns-clause-scripts
