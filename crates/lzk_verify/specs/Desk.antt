@@ -109,6 +109,7 @@ pub record AreLists {A : Type 0} (p : Params) (k : Intake A) : Type 0 where
   pub opened : AreOpened p.mcol k.drawn.columns
   pub column : length k.column.items ≡ p.nrow
   pub leaves : length k.leaves.items ≡ 128
+  pub rows : k.leaves.rows ≡ p.nrow
   pub digests : length k.digests.items ≡ 1536
   pub few : k.count ≤ 1536
 

@@ -21,7 +21,7 @@ use Rattle.lzk_sumcheck.specs.declared.script.LayerScript.{LayerScript}
 use Rattle.lzk_sumcheck.specs.declared.script.Script.{Script}
 use Rattle.lzk_sumcheck.specs.Draws.{with_element, with_array, with_bytes}
 use Rattle.lzk_sumcheck.specs.Opening.{public_tape}
-use Rattle.lzk_sumcheck.specs.Script.{after_rounds, after_layers, after_script, script, layer_at}
+use Rattle.lzk_sumcheck.specs.Script.{after_first, after_rounds, after_layers, after_script, script, layer_at}
 use Rattle.lzk_accept.specs.declared.challenges.Challenges.{Challenges}
 use Rattle.lzk_accept.specs.Challenges.{Transcript, challenge_count, challenges}
 use Rattle.lzk_accept.specs.Checks.{combined_row_of, AtEach, FailsFirst}
@@ -126,13 +126,13 @@ module _ {A : Type 0} (o : Ops A) (e : Coding A) (c : Wiring A) (p : Params) (me
   unfoldable pub with_messages : TapeState → TapeState
   with_messages t =
       cond (layers_done == depth c) (after_draws (challenge_count p) (after_script o e messages c t))
-      (within_layer layers_done (after_draws 1 (after_layers o e messages c layers_done (after_draws (output_bits c) t))))
+      (within_layer layers_done (after_first c.version (after_layers o e messages c layers_done (after_draws (output_bits c) t))))
 
   -- what layer l has drawn so far
   abbrev pub layer_drawn : Script A → ℕ → LayerScript A
   layer_drawn s l =
       let layer = layer_at o s l in
-      record { alpha = layer.alpha; ra = take ((rounds_done l + 1) / 2) layer.ra; rb = take (rounds_done l / 2) layer.rb }
+      record { alpha = layer.alpha; beta = layer.beta; ra = take ((rounds_done l + 1) / 2) layer.ra; rb = take (rounds_done l / 2) layer.rb }
 
   -- the part of the script that is drawn; gamma is 0 until all elements are sent
   unfoldable pub script_drawn : TapeState → Script A

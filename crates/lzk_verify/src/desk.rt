@@ -21,7 +21,8 @@ use std::marker::Model;
 /// A verifier of proofs over one circuit, which is fed a proof's file in pieces.
 ///
 /// All memory is taken by `new`, and a desk serves any number of proofs. It keeps the elements that a proof sends, the
-/// column that is being read, and digests, and no list of the file's bytes.
+/// column that is being read and up to three before it, since leaves are hashed four at a time, and digests, and no list
+/// of the file's bytes.
 ///
 /// ```text
 /// desk.open(&session, &public);
@@ -52,7 +53,11 @@ impl<'c, F: Field> Model for Desk<'c, F> {
 
     ghost Value = { DeskState F };
 
-    ghost view = { λ d. record { circuit = d.circuit.now; held = held_of F.ops (coding F.element F.number_of F.BYTES F.size F.ID) d.circuit.now d.params d.fed d.cursor.place d.intake } };
+    ghost view = { λ d. record {
+      circuit = d.circuit.now;
+      held = held_of F.ops (coding F.element F.number_of F.BYTES F.size F.ID) d.circuit.now
+          d.params d.fed d.cursor.place d.intake;
+    } };
 
     ghost invariant = { λ d. AreParts F.ops (coding F.element F.number_of F.BYTES F.size F.ID) d.circuit.now d.params d.id d.cursor d.intake d.room };
 }
@@ -114,7 +119,8 @@ impl<'c, F: Field> Desk<'c, F> {
     fn push(&mut self, byte: u8)
         requires fed { spec.is_fed self.old ≡ true }
         ensures stands { let e = coding F.element F.number_of F.BYTES F.size F.ID in
-            (session : List ℕ) (public : List F) (bytes : List ℕ) → Stands F.ops e session public bytes self.old → Stands F.ops e session public (bytes ++ byte ∷ []) self.new }
+            (session : List ℕ) (public : List F) (bytes : List ℕ) → Stands F.ops e session public bytes self.old →
+            Stands F.ops e session public (bytes ++ byte ∷ []) self.new }
         ensures fed { spec.is_fed self.new ≡ true }
         ensures circuit { self.new.circuit ≡ self.old.circuit }
     {
@@ -128,7 +134,8 @@ impl<'c, F: Field> Desk<'c, F> {
     pub fn feed(&mut self, piece: &[u8])
         requires fed { spec.is_fed self.old ≡ true }
         ensures stands { let e = coding F.element F.number_of F.BYTES F.size F.ID in
-            (session : List ℕ) (public : List F) (bytes : List ℕ) → Stands F.ops e session public bytes self.old → Stands F.ops e session public (bytes ++ piece.now) self.new }
+            (session : List ℕ) (public : List F) (bytes : List ℕ) → Stands F.ops e session public bytes self.old →
+            Stands F.ops e session public (bytes ++ piece.now) self.new }
         ensures fed { spec.is_fed self.new ≡ true }
         ensures circuit { self.new.circuit ≡ self.old.circuit }
     {
@@ -141,24 +148,33 @@ impl<'c, F: Field> Desk<'c, F> {
     fn judged(&mut self) -> Verdict<F>
         requires fed { spec.is_fed self.old ≡ true }
         ensures verdict { let e = coding F.element F.number_of F.BYTES F.size F.ID in
-            (session : List ℕ) (public : List F) (bytes : List ℕ) → Stands F.ops e session public bytes self.old → IsVerdict F.ops e self.old.circuit session public bytes result }
+            (session : List ℕ) (public : List F) (bytes : List ℕ) → Stands F.ops e session public bytes self.old →
+            IsVerdict F.ops e self.old.circuit session public bytes result }
         ensures one { let e = coding F.element F.number_of F.BYTES F.size F.ID in
-            (session : List ℕ) (public : List F) (bytes : List ℕ) → Stands F.ops e session public bytes self.old → IsOnlyVerdict F.ops e self.old.circuit session public bytes result }
+            (session : List ℕ) (public : List F) (bytes : List ℕ) → Stands F.ops e session public bytes self.old →
+            IsOnlyVerdict F.ops e self.old.circuit session public bytes result }
         ensures circuit { self.new.circuit ≡ self.old.circuit }
     {
         if let Err(fault) = self.cursor.finish() {
             return Verdict::Format(fault);
         }
-        judge(&self.params, &self.id, &self.intake, &mut self.room.nodes)
+        judge(
+            &self.params,
+            &self.id,
+            &mut self.intake,
+            &mut self.room.nodes,
+        )
     }
 
     /// The verdict on all bytes that were fed.
     pub fn end(&mut self) -> Verdict<F>
         requires fed { spec.is_fed self.old ≡ true }
         ensures verdict { let e = coding F.element F.number_of F.BYTES F.size F.ID in
-            (session : List ℕ) (public : List F) (bytes : List ℕ) → Stands F.ops e session public bytes self.old → IsVerdict F.ops e self.old.circuit session public bytes result }
+            (session : List ℕ) (public : List F) (bytes : List ℕ) → Stands F.ops e session public bytes self.old →
+            IsVerdict F.ops e self.old.circuit session public bytes result }
         ensures one { let e = coding F.element F.number_of F.BYTES F.size F.ID in
-            (session : List ℕ) (public : List F) (bytes : List ℕ) → Stands F.ops e session public bytes self.old → IsOnlyVerdict F.ops e self.old.circuit session public bytes result }
+            (session : List ℕ) (public : List F) (bytes : List ℕ) → Stands F.ops e session public bytes self.old →
+            IsOnlyVerdict F.ops e self.old.circuit session public bytes result }
         ensures idle { spec.is_fed self.new ≡ false }
         ensures circuit { self.new.circuit ≡ self.old.circuit }
     {

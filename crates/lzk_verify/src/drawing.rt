@@ -58,7 +58,8 @@ fn draw_opened<F: Field>(params: &Params, tape: &mut Tape, sent: &[F], columns: 
     requires sent { length sent.now ≡ sent_count params.now }
     requires room { length columns.old ≡ 128 }
     ensures columns { let e = coding F.element F.number_of F.BYTES F.size F.ID in
-        columns.new ≡ opened params.now.mcol 128 (with_array e (tail_in params.now sent.now) (with_array e (head_in params.now sent.now) (with_array e (dot_in params.now sent.now) (with_array e (ldt_in params.now sent.now) tape.old)))) }
+        columns.new ≡ opened params.now.mcol 128 (with_array e (tail_in params.now sent.now)
+        (with_array e (head_in params.now sent.now) (with_array e (dot_in params.now sent.now) (with_array e (ldt_in params.now sent.now) tape.old)))) }
     ensures opened { AreOpened params.now.mcol columns.new }
     ensures room { length columns.new ≡ 128 }
 {

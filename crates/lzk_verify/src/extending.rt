@@ -61,7 +61,8 @@ pub(crate) fn set_inverses<F: Field>(weights: &Weights<F>, point: u32, list: &mu
 pub(crate) fn last_factor<F: Field>(weights: &Weights<F>, point: u32) -> F
     requires behind { weights.now.count ≤ point }
     requires reached { point < weights.now.upto }
-    ensures { (inverses : List F) → length inverses ≡ weights.now.count → AreInverseDifferences F.ops F.element point inverses → Extends F.ops F.element point inverses result }
+    ensures { (inverses : List F) → length inverses ≡ weights.now.count → AreInverseDifferences F.ops F.element point inverses →
+        Extends F.ops F.element point inverses result }
 {
     let at = (point - weights.count()) as usize;
     weights.passed()[at]

@@ -19,13 +19,13 @@ ghost use Rattle.lzk_verify.specs.Desk.{AreRooms, AreLists, AreReady, AreWeighte
 ghost use Rattle.lzk_verify.specs.Kept as fields;
 ghost use Rattle.lzk_verify.specs.Kept.{ldt_in, dot_in, head_in, tail_in, whole_transcript, IsKept};
 
-use crate::drawing::{Drawn, OPENED, public_tape};
+use crate::drawing::{Drawn, public_tape};
+use crate::leaves::Leaves;
 use crate::room::{Room, zero_digests};
 use crate::sent::sent_count;
 use lzk_circuit::{Circuit, zeros};
 use lzk_field::Field;
 use lzk_layout::{Params, ProofPart};
-use lzk_merkle::leaf;
 use lzk_transcript::Tape;
 use std::alloc::{AllocError, Global};
 
@@ -42,7 +42,7 @@ pub(crate) struct Failing {
 
 /// What is kept of a proof.
 #[derive(Drop)]
-pub(crate) struct Intake<F> {
+pub(crate) struct Intake<F: Field> {
     pub(crate) public: Vec<F>,
     // Until the columns are drawn, with the session, the circuit's id and the public inputs written.
     tape: Tape,
@@ -57,7 +57,7 @@ pub(crate) struct Intake<F> {
     // The column that is being read.
     nonce: [u8; 32],
     column: Vec<F>,
-    pub(crate) leaves: Vec<[u8; 32]>,
+    pub(crate) leaves: Leaves<F>,
     pub(crate) failing: Failing,
     // How many digests are read.
     pub(crate) count: u32,
@@ -129,17 +129,19 @@ impl<F: Field> ElementLists<F> {
 
 // The lists of digests that an intake keeps.
 #[derive(Drop)]
-struct DigestLists {
-    leaves: Vec<[u8; 32]>,
+struct DigestLists<F: Field> {
+    leaves: Leaves<F>,
     path: Vec<[u8; 32]>,
 }
 
-impl DigestLists {
-    fn new(alloc: Global) -> Result<DigestLists, AllocError>
+impl<F: Field> DigestLists<F> {
+    fn new(alloc: Global, params: &Params) -> Result<DigestLists<F>, AllocError>
+        requires { AreBounded params.now }
         ensures leaves { IfOk result (λ lists. length lists.leaves.items ≡ 128) }
+        ensures rows { IfOk result (λ lists. lists.leaves.rows ≡ params.now.nrow) }
         ensures path { IfOk result (λ lists. length lists.path.items ≡ 1536) }
     {
-        let leaves = zero_digests(alloc, OPENED)?;
+        let leaves = Leaves::new(alloc, params)?;
         let path = zero_digests(alloc, MOST_DIGESTS)?;
         Ok(DigestLists { leaves, path })
     }
@@ -160,7 +162,7 @@ impl<F: Field> Intake<F> {
         ensures drawn { IfOk result (λ k. k.is_drawn ≡ false) }
     {
         let elements = ElementLists::new(alloc, circuit, params)?;
-        let opened = DigestLists::new(alloc)?;
+        let opened = DigestLists::new(alloc, params)?;
         let drawn = Drawn::new(alloc, circuit)?;
         Ok(Intake {
             public: elements.public,
@@ -183,14 +185,25 @@ impl<F: Field> Intake<F> {
     /// Begins with no fields. `id` is the circuit's.
     pub(crate) fn begin(&mut self, session: &[u8], id: &[u8; 32], public: &[F])
         requires { length public.now ≡ length self.old.public.items }
-        ensures others { self.new ≡ record self.old { tape = self.new.tape; public = self.new.public; is_drawn = false; failing = self.new.failing; count = 0 } }
+        ensures others { self.new ≡ record self.old {
+          tape = self.new.tape;
+          public = self.new.public;
+          is_drawn = false;
+          leaves = self.new.leaves;
+          failing = self.new.failing;
+          count = 0;
+        } }
+        ensures leaves { length self.new.leaves.items ≡ length self.old.leaves.items }
+        ensures rows { self.new.leaves.rows ≡ self.old.leaves.rows }
         ensures public { self.new.public.items ≡ public.now }
         ensures kept { let e = coding F.element F.number_of F.BYTES F.size F.ID in
-            (c : Wiring F) (p : Params) → AreBounded p → id.now ≡ id_of e c → IsKept F.ops e c p session.now public.now [] (kept_of F.ops e c p 0 None [] self.new) }
+            (c : Wiring F) (p : Params) → AreBounded p → id.now ≡ id_of e c →
+            IsKept F.ops e c p session.now public.now [] (kept_of F.ops e c p 0 None [] self.new) }
     {
         self.tape = public_tape(session, id, public);
         self.public.copy_from_slice(public);
         self.is_drawn = false;
+        self.leaves.forget();
         self.failing = Failing::none();
         self.count = 0;
     }
@@ -202,7 +215,8 @@ impl<F: Field> Intake<F> {
         requires sound { IsSound F.ops F.element circuit.now params.now self.old room.old }
         ensures sound { IsSound F.ops F.element circuit.now params.now self.new room.new }
         ensures others { self.new ≡ record self.old { tape = self.new.tape; drawn = self.new.drawn; wanted = self.new.wanted; is_drawn = true } }
-        ensures given { self.new.drawn ≡ whole_transcript F.ops (coding F.element F.number_of F.BYTES F.size F.ID) circuit.now params.now self.old.tape self.old.root self.old.sent.items }
+        ensures given { self.new.drawn ≡ whole_transcript F.ops (coding F.element F.number_of F.BYTES F.size F.ID) circuit.now params.now
+            self.old.tape self.old.root self.old.sent.items }
     {
         self.drawn
             .draw(circuit, params, &mut self.tape, &self.root, &self.sent);
@@ -218,21 +232,25 @@ impl<F: Field> Intake<F> {
         requires inside { k < 128 }
         ensures others { self.new ≡ record self.old { leaves = self.new.leaves; failing = self.new.failing } }
         ensures leaf { self.new.leaves.items ≡ slice_set self.old.leaves.items k (leaf_of F.BYTES F.number_of self.old.nonce self.old.column.items) }
+        ensures rows { self.new.leaves.rows ≡ self.old.leaves.rows }
         ensures low_degree { let index = slice_index self.old.drawn.columns k in
             room.old.answers ≡ weighted_answers F.ops F.element params.now self.old.sent.items → IsNoted self.old.failing.low_degree self.new.failing.low_degree
-            (IsLowDegreeIn F.ops F.element params.now self.old.column.items (params.now.dblock + index) (ldt_in params.now self.old.sent.items) self.old.drawn.challenges.u) index }
+            (IsLowDegreeIn F.ops F.element params.now self.old.column.items (params.now.dblock + index) (ldt_in params.now self.old.sent.items)
+            self.old.drawn.challenges.u) index }
         ensures linear { let index = slice_index self.old.drawn.columns k in
-            room.old.answers ≡ weighted_answers F.ops F.element params.now self.old.sent.items → (lists : ℕ → List F) → AreWeightedRows F.ops F.element params.now room.old.combined lists
+            room.old.answers ≡ weighted_answers F.ops F.element params.now self.old.sent.items → (lists : ℕ → List F) →
+            AreWeightedRows F.ops F.element params.now room.old.combined lists
             → IsNoted self.old.failing.linear self.new.failing.linear
             (IsLinearIn F.ops F.element params.now self.old.column.items (params.now.dblock + index) (dot_in params.now self.old.sent.items) lists) index }
         ensures quadratic { let index = slice_index self.old.drawn.columns k in
             room.old.answers ≡ weighted_answers F.ops F.element params.now self.old.sent.items → IsNoted self.old.failing.quadratic self.new.failing.quadratic
-            (IsQuadraticIn F.ops F.element params.now self.old.column.items (params.now.dblock + index) (values_of F.ops params.now (head_in params.now self.old.sent.items) (tail_in params.now self.old.sent.items)) self.old.drawn.challenges.v) index }
+            (IsQuadraticIn F.ops F.element params.now self.old.column.items (params.now.dblock + index)
+            (values_of F.ops params.now (head_in params.now self.old.sent.items) (tail_in params.now self.old.sent.items)) self.old.drawn.challenges.v) index }
         ensures room { room.new ≡ room.old }
     {
         let column = self.column.as_slice();
         let index = self.drawn.column(k);
-        self.leaves[k] = leaf(&self.nonce, column);
+        self.leaves.set(k, &self.nonce, column);
         let right = room.check_column(params, index, column, &self.drawn.challenges);
         self.failing = Failing {
             low_degree: least(self.failing.low_degree, right.low_degree, index),
@@ -247,7 +265,8 @@ impl<F: Field> Intake<F> {
         requires { k < length self.old.sent.items }
         ensures others { self.new ≡ record self.old { sent = self.new.sent; is_drawn = false } }
         ensures length { length self.new.sent.items ≡ length self.old.sent.items }
-        ensures sent { number_from (take F.BYTES block.now) < F.size → self.new.sent.items ≡ slice_set self.old.sent.items k (F.element (number_from (take F.BYTES block.now))) }
+        ensures sent { number_from (take F.BYTES block.now) < F.size →
+            self.new.sent.items ≡ slice_set self.old.sent.items k (F.element (number_from (take F.BYTES block.now))) }
     {
         self.sent[k as usize] = element_of(block);
         self.is_drawn = false;
@@ -271,8 +290,10 @@ impl<F: Field> Intake<F> {
         ensures kept { let e = coding F.element F.number_of F.BYTES F.size F.ID in
             (session : List ℕ) (public : List F) (fields : List (List ℕ)) (field : List ℕ)
             → length fields ≡ number_of params.now part → IsBlockOf (shape F.BYTES F.size) part block.now field
-            → IsKept F.ops e circuit.now params.now session public fields (kept_of F.ops e circuit.now params.now (length fields) (digests_in params.now fields) [] self.old)
-            → IsKept F.ops e circuit.now params.now session public (fields ++ field ∷ []) (kept_of F.ops e circuit.now params.now (length fields + 1) (digests_in params.now (fields ++ field ∷ [])) [] self.new) }
+            → IsKept F.ops e circuit.now params.now session public fields
+            (kept_of F.ops e circuit.now params.now (length fields) (digests_in params.now fields) [] self.old)
+            → IsKept F.ops e circuit.now params.now session public (fields ++ field ∷ [])
+            (kept_of F.ops e circuit.now params.now (length fields + 1) (digests_in params.now (fields ++ field ∷ [])) [] self.new) }
     {
         match part {
             ProofPart::Magic => {}

@@ -7,7 +7,7 @@ ghost use Rattle.lzk_verify.specs.Desk.{AreLists, AreFoundAnswers, IsFound};
 
 use crate::intake::Intake;
 use crate::low_degree::check_linear_sum;
-use crate::opening::{check_circuit_id, check_path_count, check_root};
+use crate::opening::{check_circuit_id, check_path_count};
 use crate::sent::dot_of;
 use crate::verdict::Verdict;
 use lzk_field::Field;
@@ -40,13 +40,14 @@ fn judge_answers<F: Field>(params: &Params, intake: &Intake<F>) -> Verdict<F>
 pub(crate) fn judge<F: Field>(
     params: &Params,
     id: &[u8; 32],
-    intake: &Intake<F>,
+    intake: &mut Intake<F>,
     nodes: &mut [[u8; 32]],
 ) -> Verdict<F>
     requires bounded { AreBounded params.now }
-    requires lists { AreLists params.now intake.now }
+    requires lists { AreLists params.now intake.old }
     requires nodes { length nodes.old ≡ 2 * params.now.mcol }
-    ensures found { IsFound F.ops params.now id.now intake.now result }
+    ensures found { IsFound F.ops params.now id.now intake.old result }
+    ensures intake { intake.new ≡ intake.old }
     ensures nodes { length nodes.new ≡ 2 * params.now.mcol }
 {
     if let Some(found) = check_circuit_id(id, &intake.id) {
@@ -58,7 +59,10 @@ pub(crate) fn judge<F: Field>(
         return Verdict::PathCount { found, needed };
     }
     let path = &intake.digests.as_slice()[..found as usize];
-    if let Some(found) = check_root(params, &intake.root, columns, &intake.leaves, path, nodes) {
+    if let Some(found) = intake
+        .leaves
+        .check_root(params, &intake.root, columns, path, nodes)
+    {
         return Verdict::Root { found };
     }
     judge_answers(params, intake)

@@ -12,6 +12,7 @@ mod extending;
 mod intake;
 mod judging;
 mod laws;
+mod leaves;
 mod linear;
 mod lists;
 mod low_degree;

@@ -13,11 +13,11 @@ use lzk_accept::Factored;
 use lzk_field::Field;
 use lzk_layout::Params;
 
-// How many values of a row stand before its elements.
-const HEAD: usize = 128;
+/// How many values of a row stand before its elements.
+pub(crate) const HEAD: usize = 128;
 
-// How many products a coefficient is the sum of, where rows are given by factors.
-const FACTORS: usize = 4;
+/// How many products a coefficient is the sum of, where rows are given by factors.
+pub(crate) const FACTORS: usize = 4;
 
 // The sum of a row's products with these factors.
 fn row_dot<F: Field>(table: &[F], i: usize, factors: &[F]) -> F
@@ -126,7 +126,8 @@ pub(crate) fn is_linear_at<F: Field>(
     requires inverses { length inverses.now ≡ params.now.dblock }
     ensures { (point : ℕ) (values : List F) (lists : ℕ → List F) → dot.now ≡ weighted F.ops F.element values
         → Extends F.ops F.element point (take params.now.block inverses.now) row_last → Extends F.ops F.element point inverses.now last
-        → AreWeightedRows F.ops F.element params.now combined.now lists → (IsTrue result ↔ IsLinearIn F.ops F.element params.now column.now point values lists) }
+        → AreWeightedRows F.ops F.element params.now combined.now lists →
+        (IsTrue result ↔ IsLinearIn F.ops F.element params.now column.now point values lists) }
 {
     let row = &inverses[..params.block as usize];
     let sum = linear_sum(params, column, combined, row, row_last);

@@ -16,7 +16,8 @@ fn low_degree_sum<F: Field>(params: &Params, column: &[F], u: &[F]) -> F
     requires bounded { AreBounded params.now }
     requires column { length column.now ≡ params.now.nrow }
     requires u { length u.now ≡ params.now.nrow - 3 }
-    ensures { result ≡ F.ops.plus (entry F.ops column.now 0) (sum_below F.ops (params.now.nrow - 3) (λ i. F.ops.times (entry F.ops u.now i) (entry F.ops column.now (3 + i)))) }
+    ensures { result ≡ F.ops.plus (entry F.ops column.now 0)
+        (sum_below F.ops (params.now.nrow - 3) (λ i. F.ops.times (entry F.ops u.now i) (entry F.ops column.now (3 + i)))) }
 {
     column[0].add(F::dot(u, &column[3..]))
 }

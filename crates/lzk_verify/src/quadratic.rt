@@ -48,7 +48,10 @@ fn quadratic_sum<F: Field>(params: &Params, column: &[F], v: &[F]) -> F
     requires bounded { AreBounded params.now }
     requires column { length column.now ≡ params.now.nrow }
     requires v { length v.now ≡ params.now.ntriple }
-    ensures { result ≡ F.ops.plus (entry F.ops column.now 2) (sum_below F.ops params.now.ntriple (λ i. F.ops.times (entry F.ops v.now i) (minus F.ops (F.ops.times (in_triple F.ops params.now column.now i 0) (in_triple F.ops params.now column.now i 1)) (in_triple F.ops params.now column.now i 2)))) }
+    ensures { result ≡ F.ops.plus (entry F.ops column.now 2)
+        (sum_below F.ops params.now.ntriple (λ i. F.ops.times (entry F.ops v.now i)
+        (minus F.ops (F.ops.times (in_triple F.ops params.now column.now i 0) (in_triple F.ops params.now column.now i 1))
+        (in_triple F.ops params.now column.now i 2)))) }
 {
     let first = 3 + params.nwrow as usize;
     let mut sum = F::zero();

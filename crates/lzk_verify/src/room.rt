@@ -41,7 +41,15 @@ impl<F: Field> Model for Room<F> {
 
     ghost Value = { Rooms F };
 
-    ghost view = { λ r. record { forms = r.forms; combined = r.combined; answers = r.answers; inverses = length r.inverses.items; nodes = length r.nodes.items; rows = r.rows; products = r.products } };
+    ghost view = { λ r. record {
+      forms = r.forms;
+      combined = r.combined;
+      answers = r.answers;
+      inverses = length r.inverses.items;
+      nodes = length r.nodes.items;
+      rows = r.rows;
+      products = r.products;
+    } };
 }
 
 /// So many digests of zeros.

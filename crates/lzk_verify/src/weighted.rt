@@ -10,6 +10,7 @@ ghost use Rattle.lzk_verify.specs.Desk.{AreAnswers, AreRows, AreWeightedRows, Ha
 ghost use Rattle.lzk_verify.specs.Extending.{weight, weighted};
 ghost use Rattle.lzk_verify.specs.Kept.{sent_count};
 
+use crate::linear::{FACTORS, HEAD};
 use crate::quadratic::fill_quadratic;
 use crate::sent::{dot_of, head_of, ldt_of, tail_of};
 use lzk_accept::Factored;
@@ -19,12 +20,6 @@ use lzk_layout::Params;
 use lzk_poly::Weights;
 use std::alloc::{AllocError, Global};
 use std::marker::Model;
-
-// How many values of a row stand before its elements.
-const HEAD: usize = 128;
-
-// How many products a coefficient is the sum of, where rows are given by factors.
-const FACTORS: usize = 4;
 
 /// The answers of a proof, each value times the weight of its point.
 #[derive(Drop)]

@@ -12,6 +12,6 @@ returns-clause-kept g c = λ w p bounded own.
     let e = coding f.element f.number_of f.BYTES f.size f.ID in
     let session = c.args.session.now in
     let public = c.args.public.now in
-    let k = record c.args.self.now { public = c.copy_from_slice.new.self; tape = c.public_tape-self.result; is_drawn = false; failing = c.none-self.result; count = 0 } in
+    let k = record c.args.self.now { public = c.copy_from_slice.new.self; tape = c.public_tape-self.result; is_drawn = false; leaves = c.forget.new.self; failing = c.none-self.result; count = 0 } in
     stored_kept f.ops e w p session public [] k []
     (stored_none f.ops e w p session public k c.copy_from_slice.ensures.items refl (c.public_tape-self.ensures ∙ ap (λ i. public_tape e session i public) own) c.none-self.ensures refl)
