@@ -6,7 +6,8 @@ use Rattle.lzk_field.specs.Ring.{Ops, RingLaws}
 use Rattle.lzk_field.specs.Sums.{sum_below, entry}
 use Rattle.lzk_field.proofs.RingBasics.{same_from_difference}
 use Rattle.lzk_circuit.specs.Valid.{Wiring, IsValid}
-use Rattle.lzk_circuit.specs.Wires.{inputs_of, IsSatisfied}
+use Rattle.lzk_circuit.specs.Wires.{inputs_of}
+use Rattle.lzk_circuit.specs.Checks.{IsSatisfied}
 use Rattle.lzk_layout.specs.declared.params.Params.{Params}
 use Rattle.lzk_layout.specs.declared.proof.Proof.{Proof}
 use Rattle.lzk_layout.specs.Sizes.{AreBounded, params_of, committed_count}
@@ -78,7 +79,7 @@ module _ {A : Type 0} (o : Ops A) (e : Coding A) (c : Wiring A) (session : List 
   abbrev right : ℕ → A
   right = right_of o e.element c public t.script q.messages
 
-  module _ (r : RingLaws o) (valid : IsValid o c) (counts : HaveCounts c public private) (change : Answers A → Answers A) (is : IsProofBy o e c session public private word change q) (vanish : ResidualsVanish o e) (satisfied : IsSatisfied o c.layers (inputs_of o public private)) where
+  module _ (r : RingLaws o) (valid : IsValid o c) (counts : HaveCounts c public private) (change : Answers A → Answers A) (is : IsProofBy o e c session public private word change q) (vanish : ResidualsVanish o e) (satisfied : IsSatisfied o e.number c.layers (inputs_of o public private)) where
     bounds : AreBounded p
     bounds = params_bounded o c valid
 

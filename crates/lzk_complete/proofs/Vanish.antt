@@ -13,9 +13,11 @@ use Rattle.lzk_field.proofs.SumLaws.{sum-ext, sum-zero, sum-plus, sum-times}
 use Rattle.lzk_transcript.specs.Tape.{TapeState}
 use Rattle.lzk_mle.specs.Multilinear.{eq, tilde}
 use Rattle.lzk_circuit.proofs.BitLaws.{bits_enough}
-use Rattle.lzk_circuit.proofs.DepthLaws.{first-values, last-values}
-use Rattle.lzk_circuit.specs.Valid.{Wiring}
-use Rattle.lzk_circuit.specs.Wires.{coef, wire, all_values, inputs_of, list_at, IsSatisfied}
+use Rattle.lzk_circuit.proofs.CheckLaws.{satisfied-asserts, satisfied-outputs}
+use Rattle.lzk_circuit.proofs.DepthLaws.{first-values, inputs-count, last-values}
+use Rattle.lzk_circuit.specs.Valid.{Wiring, IsValid}
+use Rattle.lzk_circuit.specs.Wires.{coef, zero_at, layer_coefficient, wire, all_values, inputs_of, list_at}
+use Rattle.lzk_circuit.specs.Checks.{IsSatisfied}
 use Rattle.lzk_layout.specs.Places.{depth, width_at, bits_under, round_count, sent_at, pads_at, factors_sent_at, factors_at}
 use Rattle.lzk_layout.specs.Sizes.{sent_counts}
 use Rattle.lzk_sumcheck.specs.declared.script.LayerScript.{LayerScript}
@@ -28,6 +30,7 @@ use Rattle.lzk_sumcheck.proofs.Prefixes.{start, script-layer}
 use Rattle.lzk_sumcheck.proofs.SentLaws.{evens, odds}
 use Rattle.lzk_sumcheck.proofs.ShapeLaws.{layer_bits}
 use Rattle.lzk_sumcheck.proofs.SumcheckLaws.{sumcheck_of}
+use Rattle.lzk_sumcheck.proofs.WireLaws.{wire-weighed}
 use Rattle.lzk_accept.specs.Residuals.{next_claim, padded, claim_a, claim_b, claim_after, product_at, inputs_at, residual}
 use Rattle.lzk_tableau.specs.Tableau.{randoms, committed}
 use Rattle.lzk_complete.specs.Residuals.{ResidualsVanish}
@@ -62,7 +65,7 @@ module _ {A : Type 0} (o : Ops A) (s : Script A) (l : ℕ) where
         odds o (challenge_at o s l) bits
         ∙ sym (fill_by_all (λ j. challenge_at o s l (2 * j + 1)) (layer_at o s l).rb bits o.zero size.rb (λ k h. challenge_odd k))
 
-module _ {A : Type 0} (o : Ops A) (e : Coding A) (laws : Laws o e.size e.number e.element e.bytes) (c : Wiring A) (public private : List A) (word : ℕ → ℕ) (t : TapeState) (sent : List A) (publics : length public ≡ c.publics) (privates : length private ≡ c.privates) (satisfied : IsSatisfied o c.layers (inputs_of o public private)) (are : AreMessages o e c (all_values o c.layers (inputs_of o public private)) (randoms o e word 0 (sent_counts c)) t sent) where
+module _ {A : Type 0} (o : Ops A) (e : Coding A) (laws : Laws o e.size e.number e.element e.bytes) (c : Wiring A) (public private : List A) (word : ℕ → ℕ) (t : TapeState) (sent : List A) (publics : length public ≡ c.publics) (privates : length private ≡ c.privates) (valid : IsValid o c) (satisfied : IsSatisfied o e.number c.layers (inputs_of o public private)) (are : AreMessages o e c (all_values o c.layers (inputs_of o public private)) (randoms o e word 0 (sent_counts c)) t sent) where
   abbrev V : List (List A)
   V = all_values o c.layers (inputs_of o public private)
 
@@ -81,6 +84,9 @@ module _ {A : Type 0} (o : Ops A) (e : Coding A) (laws : Laws o e.size e.number 
   abbrev L : ℕ → Layered A
   L = layered_at o c s V
 
+  count : length (inputs_of o public private) ≡ 1 + c.publics + c.privates
+  count = inputs-count o public private ∙ omega (arith, publics, privates)
+
   unpad : (x y z : A) → y ≡ z → o.plus (minus o x y) z ≡ x
   unpad x y z is = ap (λ w. o.plus (minus o x w) z) is ∙ solve o laws.ring (x ∷ z ∷ []) ((var 0 ⊟ var 1) ⊞ var 1) (var 0) refl
 
@@ -96,7 +102,7 @@ module _ {A : Type 0} (o : Ops A) (e : Coding A) (laws : Laws o e.size e.number 
   has_bits : (l : ℕ) → l < depth c → HasBits (bits_under c l) (layer_at o s l)
   has_bits l h =
       let own = script-layer o e c t sent l h in
-      let size = layer_bits o e sent (sent_at c l) (bits_under c l) (after_layers o e sent c l (start o e c t)) in
+      let size = layer_bits o e sent c.version (sent_at c l) (bits_under c l) (after_layers o e sent c l (start o e c t)) in
       record { ra = ap (λ (x : LayerScript A). length x.ra) own ∙ size.ra; rb = ap (λ (x : LayerScript A). length x.rb) own ∙ size.rb }
 
   -- ---- padded elements are true values
@@ -143,7 +149,7 @@ module _ {A : Type 0} (o : Ops A) (e : Coding A) (laws : Laws o e.size e.number 
       output_zero : (i : ℕ) → i < length (list_at V 0) → entry o (list_at V 0) i ≡ o.zero
       output_zero i h =
           let outputs = first-values o c.layers (inputs_of o public private) in
-          ap (λ xs. entry o xs i) outputs ∙ satisfied i (omega (arith, h, ap length outputs))
+          ap (λ xs. entry o xs i) outputs ∙ satisfied-outputs o e.size e.number e.element e.bytes laws c (inputs_of o public private) i valid count satisfied
 
   begins_a : (l : ℕ) → l ≤ depth c → claim_a o c sent W l ≡ tilde o (list_at V l) (point_a o s l)
   begins_a zero h = sym (no_outputs (point_a o s 0))
@@ -153,7 +159,11 @@ module _ {A : Type 0} (o : Ops A) (e : Coding A) (laws : Laws o e.size e.number 
   begins_b zero h = sym (no_outputs (point_b o s 0))
   begins_b (suc l) h = let z : l + 1 ≡ suc l = omega arith in padded_b l (omega (arith, h)) ∙ ap (λ i. tilde o (list_at V i) (layer_at o s l).rb) z
 
-  -- the weighted sum of a layer's wires is what the claims say
+  -- for satisfying inputs a layer's assertion terms count nothing
+  asserted_zero : (l g : ℕ) → l < depth c → wire o (zero_at o (terms_at c l)) (list_at V (l + 1)) g ≡ o.zero
+  asserted_zero l g h = satisfied-asserts o e.size e.number e.element e.bytes laws c (inputs_of o public private) l g valid count satisfied h
+
+  -- so the weighted sum of a layer's wires is what the claims say, whatever its beta
   weighted : (l : ℕ) → l < depth c → claim o (L l) [] ≡ o.plus (tilde o (list_at V l) (point_a o s l)) (o.times (layer_at o s l).alpha (tilde o (list_at V l) (point_b o s l)))
   unfolding coefficients
   weighted l h =
@@ -163,14 +173,21 @@ module _ {A : Type 0} (o : Ops A) (e : Coding A) (laws : Laws o e.size e.number 
       let qb = point_b o s l in
       let alpha = (layer_at o s l).alpha in
       let w : ℕ → A = λ g. o.plus (eq o g qa) (o.times alpha (eq o g qb)) in
-      let v : ℕ → A = λ g. wire o (coef o (terms_at c l)) below g in
+      let beta = (layer_at o s l).beta in
+      let v : ℕ → A = λ g. wire o (layer_coefficient o (terms_at c l) beta) below g in
       let x : ℕ → A = entry o (list_at V l) in
+      let wire_zero : (g : ℕ) → g < n → v g ≡ wire o (coef o (terms_at c l)) below g =
+      λ g k.
+      wire-weighed o laws.ring (terms_at c l) beta below g
+      ∙ ap (λ z. o.plus (wire o (coef o (terms_at c l)) below g) (o.times beta z)) (asserted_zero l g h)
+      ∙ ap (o.plus (wire o (coef o (terms_at c l)) below g)) (times_zero o laws.ring beta) ∙ laws.ring.plus_zero _ in
       let next : suc l ≡ l + 1 = omega arith in
       (identities l).first
       ∙ ap (λ k. sum_below o k (λ g. o.times (entry o (weights_at o c s l) g) (v g))) (length-map-range_with_len w 0 n)
       ∙ sum-ext o laws.ring n (λ g. o.times (entry o (weights_at o c s l) g) (v g)) (λ g. o.plus (o.times (eq o g qa) (x g)) (o.times alpha (o.times (eq o g qb) (x g))))
       (λ g k.
       ap (λ y. o.times y (v g)) (get_or-map-range_with_len w 0 n g g o.zero k (omega arith))
+      ∙ ap (o.times (w g)) (wire_zero g k)
       ∙ ap (o.times (w g)) (sym (values_are o c.layers (inputs_of o public private) l g h (omega (arith, k, length_V l)) ∙ ap (λ i. wire o (coef o (terms_at c l)) (list_at V i) g) next))
       ∙ solve o laws.ring (eq o g qa ∷ alpha ∷ eq o g qb ∷ x g ∷ []) ((var 0 ⊞ var 1 ⊠ var 2) ⊠ var 3) (var 0 ⊠ var 3 ⊞ var 1 ⊠ (var 2 ⊠ var 3)) refl)
       ∙ sum-plus o laws.ring n (λ g. o.times (eq o g qa) (x g)) (λ g. o.times alpha (o.times (eq o g qb) (x g)))
@@ -259,4 +276,4 @@ module _ {A : Type 0} (o : Ops A) (e : Coding A) (laws : Laws o e.size e.number 
 
 pub vanish : {A : Type 0} (o : Ops A) (e : Coding A) → Laws o e.size e.number e.element e.bytes → ResidualsVanish o e
 vanish o e laws = λ c session public private word t sent i valid counts satisfied h are.
-    residual_is_zero o e laws c public private word t sent counts.0 counts.1 satisfied are i h
+    residual_is_zero o e laws c public private word t sent counts.0 counts.1 valid satisfied are i h

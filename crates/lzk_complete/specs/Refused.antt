@@ -3,7 +3,8 @@ use Rattle.std.specs.Prelude.{◌≢◌, ℕ, cond, nat_lt, List, slice_index}
 use Rattle.lzk_field.specs.Coding.{Coding}
 use Rattle.lzk_field.specs.Ring.{Ops}
 use Rattle.lzk_circuit.specs.Valid.{Wiring, IsValid}
-use Rattle.lzk_circuit.specs.Wires.{inputs_of, IsSatisfied}
+use Rattle.lzk_circuit.specs.Wires.{inputs_of}
+use Rattle.lzk_circuit.specs.Checks.{IsSatisfied}
 use Rattle.lzk_layout.specs.declared.proof.Proof.{Proof}
 use Rattle.lzk_layout.specs.Proofs.{ProofBytes}
 use Rattle.lzk_layout.specs.Sizes.{params_of}
@@ -45,5 +46,5 @@ pub record IsRefused {A : Type 0} (o : Ops A) (e : Coding A) (c : Wiring A) (ses
 abbrev pub ChangedRefused : {A : Type 0} → Ops A → Coding A → Type 0
 ChangedRefused {A} o e =
     (c : Wiring A) (session : List ℕ) (public private : List A) (word : ℕ → ℕ) (which : Answer) (n : ℕ) (by : A) (bytes : List ℕ)
-    → IsValid o c → HaveCounts c public private → IsSatisfied o c.layers (inputs_of o public private) → IsSentPlace (params_of c) which n → by ≢ o.zero
+    → IsValid o c → HaveCounts c public private → IsSatisfied o e.number c.layers (inputs_of o public private) → IsSentPlace (params_of c) which n → by ≢ o.zero
     → IsChangedFile o e c session public private word which n by bytes → IsRefused o e c session public which n by bytes

@@ -18,8 +18,8 @@ use Rattle.lzk_sumcheck.specs.Coefficients.{coefficients, terms_at, weights_at}
 use Rattle.lzk_sumcheck.specs.Layers.{layer_of_terms}
 use Rattle.lzk_sumcheck.specs.Messages.{true_round, AreMessages}
 use Rattle.lzk_sumcheck.specs.Rounds.{Layered, round}
-use Rattle.lzk_sumcheck.specs.Script.{script, first_challenges}
-use Rattle.lzk_sumcheck.proofs.Prefixes.{AgreeBelow, sent-suc, layer-agrees, weights-same, challenges-same}
+use Rattle.lzk_sumcheck.specs.Script.{script, layer_at, first_challenges}
+use Rattle.lzk_sumcheck.proofs.Prefixes.{AgreeBelow, sent-suc, layer-agrees, beta-same, weights-same, challenges-same}
 
 same-entries : {A : Type 0} (o : Ops A) (xs ys : List A) → length xs ≡ length ys → ((k : ℕ) → k < length xs → entry o xs k ≡ entry o ys k) → xs ≡ ys
 same-entries o [] [] e same = refl
@@ -47,9 +47,11 @@ module _ {A : Type 0} (o : Ops A) (e : Coding A) (c : Wiring A) (values : List (
       → true_round o c (script o e xs c t) values l m x ≡ true_round o c (script o e ys c t) values l m x
   unfolding coefficients
   true-same n xs ys same l m x h r b =
-      let of_weights : List A → Layered A = λ w. layer_of_terms o (terms_at c l) w (list_at values (l + 1)) (bits_under c l) in
-      ap (λ w. round o (of_weights w) (first_challenges o (script o e xs c t) l m) x) (weights-same o e c t n xs ys same l h (omega (arith, b)))
-      ∙ ap (λ bound. round o (of_weights (weights_at o c (script o e ys c t) l)) bound x) (challenges-same o e c t n xs ys same l m h r b)
+      let of_weights : A → List A → Layered A = λ beta w. layer_of_terms o (terms_at c l) beta w (list_at values (l + 1)) (bits_under c l) in
+      let beta = (layer_at o (script o e ys c t) l).beta in
+      ap (λ y. round o (of_weights y (weights_at o c (script o e xs c t) l)) (first_challenges o (script o e xs c t) l m) x) (beta-same o e c t n xs ys same l h (omega (arith, b)))
+      ∙ ap (λ w. round o (of_weights beta w) (first_challenges o (script o e xs c t) l m) x) (weights-same o e c t n xs ys same l h (omega (arith, b)))
+      ∙ ap (λ bound. round o (of_weights beta (weights_at o c (script o e ys c t) l)) bound x) (challenges-same o e c t n xs ys same l m h r b)
 
   module _ (xs ys : List A) (f : AreMessages o e c values pads t xs) (g : AreMessages o e c values pads t ys) where
     -- Two lists that agree below a layer agree in its rounds: the next element is the true value by what stands before it, less its pad.

@@ -7,3 +7,4 @@ pub use Rattle.lzk_answers.specs as lzk_answers
 pub use Rattle.lzk_honest.specs as lzk_honest
 pub use Rattle.lzk_verify.specs as lzk_verify
 pub use Rattle.lzk_complete.specs as lzk_complete
+pub mod Statements

@@ -3,15 +3,16 @@ use Rattle.std.specs.Prelude.{◌≡◌, ℕ, length}
 use Rattle.lzk_field.specs.Coding.{Coding}
 use Rattle.lzk_field.specs.Ring.{Ops}
 use Rattle.lzk_poly.specs.Extension.{Reach}
+use Rattle.lzk_circuit.specs.Checks.{check_count}
 use Rattle.lzk_circuit.specs.Valid.{Wiring, HaveWidths}
 use Rattle.lzk_layout.specs.declared.params.Params.{Params}
 use Rattle.lzk_layout.specs.Sizes.{AreBounded, AreParams, params_of, proof_length}
 use Rattle.lzk_tableau.specs.Filled.{AreReaching}
 use Rattle.lzk_tableau.specs.Table.{IsTableOf}
 use Rattle.lzk_ligero.specs.Rooms.{IsRoomFor, IsSentFor, coefficient_reach}
-use Rattle.lzk_ligero.specs.declared.works.Answering.{Answering}
-use Rattle.lzk_ligero.specs.declared.works.Committed.{Committed}
-use Rattle.lzk_ligero.specs.declared.works.Extenders.{Extenders}
+use Rattle.lzk_ligero.specs.declared.parts.Answering.{Answering}
+use Rattle.lzk_ligero.specs.declared.parts.Committed.{Committed}
+use Rattle.lzk_ligero.specs.declared.parts.Extenders.{Extenders}
 use Rattle.lzk_ligero.specs.declared.works.Parts.{Parts}
 
 -- what extends rows, rows of products and rows of coefficients has these reaches
@@ -37,7 +38,8 @@ pub record ArePartsFor {A X : Type 0} (o : Ops A) (e : Coding A) (reach : X → 
   pub params : p.params ≡ params_of c
   pub valid : AreParams o p.params
   pub bounded : AreBounded p.params
-  pub values : HaveWidths c p.values
+  pub values : HaveWidths c p.values.wires
+  pub checks : length p.values.checks ≡ check_count e.number c.layers
   pub rows : AreReaching p.params (reach p.extenders.short) (reach p.extenders.long) (rooms p.extenders.short) (rooms p.extenders.long) p.committed.tableau.room
   pub coefficients : reach p.extenders.coefficients ≡ coefficient_reach p.params
   pub tableau : IsTableOf c p.committed.tableau

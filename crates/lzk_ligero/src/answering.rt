@@ -2,21 +2,21 @@
 
 ghost use Rattle.std.specs.Prelude.{◌≡◌, ℕ, ◌+◌, ◌-◌, ◌*◌, ◌≤◌, List, length, take, drop};
 ghost use Rattle.lzk_poly.specs.Through.{values_of};
-ghost use Rattle.lzk_layout.specs.Sizes.{AreBounded, params_of, sent_counts};
+ghost use Rattle.lzk_layout.specs.Sizes.{AreBounded, sent_counts};
 ghost use Rattle.lzk_sumcheck.specs.Coefficients.{AreBounds};
 ghost use Rattle.lzk_sumcheck.specs.Script as sumcheck;
 ghost use Rattle.lzk_accept.specs.Challenges as accept;
 ghost use Rattle.lzk_accept.specs.Checks.{combined_row_of};
-ghost use Rattle.lzk_accept.specs.Factored.{HasRoomFor};
-ghost use Rattle.lzk_accept.specs.Kept.{AreFormsOf};
 ghost use Rattle.lzk_answers.specs.Answers.{low_degree_answer, linear_answer, quadratic_answer};
 ghost use Rattle.lzk_answers.specs.Coefficients.{AreFactored, AreListed};
 ghost use Rattle.lzk_answers.specs.Rows.{IsTableOf};
-ghost use Rattle.lzk_ligero.specs.Rooms.{coefficient_reach};
+ghost use Rattle.lzk_ligero.specs.Rooms.{IsRoomFor, coefficient_reach};
+ghost use Rattle.lzk_ligero.specs.Statements.{IsStatement};
 
-use lzk_accept::{Challenges, Factored, Forms, combine_with_bounds};
+use crate::room::Room;
+use crate::statement::Statement;
+use lzk_accept::{Challenges, Factored, combine_with_bounds};
 use lzk_answers::{linear_by_factors_into, low_degree_into, quadratic_into};
-use lzk_circuit::Circuit;
 use lzk_field::Field;
 use lzk_layout::{Elements, Params};
 use lzk_poly::RowExtend;
@@ -139,46 +139,50 @@ fn answer_by_factors<F: Field, X: RowExtend<F>>(
     );
 }
 
-/// Sets the linear answer: the constraints are combined by the layers' bound coefficients, and the rows by them. `room` is for the
-/// extender and for twice as many values as a product of rows has.
+/// Sets the linear answer: the constraints are combined by the layers' bound coefficients, and the rows by them. The room has these
+/// bound coefficients, and elements for the extender and for twice as many values as a product of rows has.
 pub(crate) fn answer_linear<F: Field, X: RowExtend<F>>(
-    circuit: &Circuit<F>,
-    params: &Params,
-    public: &[F],
+    statement: &Statement<'_, F>,
     script: &Script<F>,
     messages: &[F],
     challenges: &Challenges<F>,
-    bounds: &[F],
     table: &[F],
     extender: &X,
-    forms: &mut Forms<F>,
-    factored: &mut Factored<F>,
-    room: &mut Elements<F>,
+    room: &mut Room<F>,
     answer: &mut Elements<F>,
 )
-    requires params { params.now ≡ params_of circuit.now }
-    requires bounded { AreBounded params.now }
-    requires public { length public.now ≡ circuit.now.publics }
-    requires script { sumcheck.HasShape circuit.now script.now }
-    requires messages { length messages.now ≡ sent_counts circuit.now }
-    requires challenges { accept.HasShape params.now challenges.now }
-    requires bounds { AreBounds F.ops circuit.now script.now bounds.now }
-    requires table { length table.now ≡ params.now.nrow * params.now.ncol }
-    requires reach { X.reach extender.now ≡ coefficient_reach params.now }
-    requires forms { AreFormsOf F.ops circuit.now forms.old }
-    requires factored { HasRoomFor circuit.now factored.old }
-    requires room { X.rooms extender.now + 2 * params.now.dblock ≤ length room.old }
-    requires answer { length answer.old ≡ params.now.dblock }
-    ensures forms { AreFormsOf F.ops circuit.now forms.new }
-    ensures factored { HasRoomFor circuit.now factored.new }
-    ensures room { length room.new ≡ length room.old }
-    ensures answer { length answer.new ≡ params.now.dblock }
-    ensures values { (rows : List (List F)) → length rows ≡ params.now.nrow → IsTableOf F.ops F.element params.now.ncol rows table.now →
-        answer.new ≡ values_of F.ops F.element params.now.dblock
-        (linear_answer F.ops F.element params.now rows (combined_row_of F.ops F.element circuit.now public.now script.now messages.now challenges.now)) }
+    requires statement { IsStatement F.ops statement.now }
+    requires script { sumcheck.HasShape statement.now.circuit.now script.now }
+    requires messages { length messages.now ≡ sent_counts statement.now.circuit.now }
+    requires challenges { accept.HasShape statement.now.params.now challenges.now }
+    requires table { length table.now ≡ statement.now.params.now.nrow * statement.now.params.now.ncol }
+    requires reach { X.reach extender.now ≡ coefficient_reach statement.now.params.now }
+    requires room { IsRoomFor F.ops statement.now.circuit.now statement.now.params.now (X.rooms extender.now) room.old }
+    requires bounds { AreBounds F.ops statement.now.circuit.now script.now room.old.rounds.bounds }
+    requires answer { length answer.old ≡ statement.now.params.now.dblock }
+    ensures room { IsRoomFor F.ops statement.now.circuit.now statement.now.params.now (X.rooms extender.now) room.new }
+    ensures answer { length answer.new ≡ statement.now.params.now.dblock }
+    ensures values { let s = statement.now in let p = s.params.now in
+        (rows : List (List F)) → length rows ≡ p.nrow → IsTableOf F.ops F.element p.ncol rows table.now →
+        answer.new ≡ values_of F.ops F.element p.dblock (linear_answer F.ops F.element p rows
+        (combined_row_of F.ops F.element s.circuit.now s.public.now script.now messages.now challenges.now)) }
 {
     combine_with_bounds(
-        circuit, public, script, messages, challenges, bounds, forms, factored,
+        statement.circuit,
+        statement.public,
+        script,
+        messages,
+        challenges,
+        room.rounds.bounds(),
+        &mut room.forms,
+        &mut room.factored,
     );
-    answer_by_factors(params, table, factored, extender, room, answer);
+    answer_by_factors(
+        statement.params,
+        table,
+        &room.factored,
+        extender,
+        &mut room.sums,
+        answer,
+    );
 }

@@ -3,8 +3,7 @@
 ghost use Rattle.std.specs.Prelude.{◌≡◌, ◌≤◌, length};
 ghost use Rattle.lzk_field.specs.Coding.{coding};
 ghost use Rattle.lzk_merkle.specs.Nodes.{AreOpened};
-ghost use Rattle.lzk_circuit.specs.Valid.{HaveWidths};
-ghost use Rattle.lzk_layout.specs.Sizes.{AreBounded, params_of, sent_counts};
+ghost use Rattle.lzk_layout.specs.Sizes.{AreBounded, sent_counts};
 ghost use Rattle.lzk_transcript.specs.Columns.{after_draws};
 ghost use Rattle.lzk_sumcheck.specs.Coefficients.{AreBounds};
 ghost use Rattle.lzk_sumcheck.specs.Messages.{AreMessages};
@@ -13,9 +12,10 @@ ghost use Rattle.lzk_sumcheck.specs.Room.{IsRoomOf};
 ghost use Rattle.lzk_sumcheck.specs.Script as sumcheck;
 ghost use Rattle.lzk_accept.specs.Challenges as spec;
 ghost use Rattle.lzk_accept.specs.Challenges.{challenge_count};
+ghost use Rattle.lzk_ligero.specs.Statements.{IsStatement};
 
+use crate::statement::Statement;
 use lzk_accept::{Challenges, draw_challenges};
-use lzk_circuit::{Circuit, Values};
 use lzk_field::Field;
 use lzk_layout::{Elements, Params, Proof};
 use lzk_sumcheck::{Rounds, Script, prove_layers};
@@ -45,9 +45,7 @@ pub(crate) fn open_tape<F: Field>(
 /// Sends the sumchecks of all layers, and draws what comes behind them. The layers' bound coefficients stay in the room.
 pub(crate) fn send<R: Threads + Sync, F: Field>(
     rt: &R,
-    circuit: &Circuit<F>,
-    params: &Params,
-    values: &Values<F>,
+    statement: &Statement<'_, F>,
     pads: &[F],
     workers: usize,
     tape: &mut Tape,
@@ -56,30 +54,32 @@ pub(crate) fn send<R: Threads + Sync, F: Field>(
     script: &mut Script<F>,
     challenges: &mut Challenges<F>,
 )
-    requires params { params.now ≡ params_of circuit.now }
-    requires values { HaveWidths circuit.now values.now }
-    requires pads { length pads.now ≡ sent_counts circuit.now }
+    requires statement { IsStatement F.ops statement.now }
+    requires pads { length pads.now ≡ sent_counts statement.now.circuit.now }
     requires some_workers { 1 ≤ workers }
     requires few_workers { workers ≤ 64 }
-    requires room { IsRoomOf circuit.now rounds.old }
-    requires messages { length messages.old ≡ sent_counts circuit.now }
-    requires script { sumcheck.HasShape circuit.now script.old }
-    requires challenges { spec.HasShape params.now challenges.old }
-    ensures messages { let e = coding F.element F.number_of F.BYTES F.size F.ID in AreMessages F.ops e circuit.now values.now pads.now tape.old messages.new }
-    ensures script { let e = coding F.element F.number_of F.BYTES F.size F.ID in script.new ≡ sumcheck.script F.ops e messages.new circuit.now tape.old }
+    requires room { IsRoomOf statement.now.circuit.now rounds.old }
+    requires messages { length messages.old ≡ sent_counts statement.now.circuit.now }
+    requires script { sumcheck.HasShape statement.now.circuit.now script.old }
+    requires challenges { spec.HasShape statement.now.params.now challenges.old }
+    ensures messages { let e = coding F.element F.number_of F.BYTES F.size F.ID in
+        AreMessages F.ops e statement.now.circuit.now statement.now.values.now.wires pads.now tape.old messages.new }
+    ensures script { let e = coding F.element F.number_of F.BYTES F.size F.ID in
+        script.new ≡ sumcheck.script F.ops e messages.new statement.now.circuit.now tape.old }
     ensures challenges { let e = coding F.element F.number_of F.BYTES F.size F.ID in
-        challenges.new ≡ spec.challenges e params.now (sumcheck.after_script F.ops e messages.new circuit.now tape.old) }
+        challenges.new ≡ spec.challenges e statement.now.params.now (sumcheck.after_script F.ops e messages.new statement.now.circuit.now tape.old) }
     ensures tape { let e = coding F.element F.number_of F.BYTES F.size F.ID in
-        tape.new ≡ after_draws (challenge_count params.now) (sumcheck.after_script F.ops e messages.new circuit.now tape.old) }
-    ensures script_shape { sumcheck.HasShape circuit.now script.new }
-    ensures challenges_shape { spec.HasShape params.now challenges.new }
-    ensures room { IsRoomOf circuit.now rounds.new }
-    ensures bounds { AreBounds F.ops circuit.now script.new rounds.new.bounds }
+        tape.new ≡ after_draws (challenge_count statement.now.params.now)
+        (sumcheck.after_script F.ops e messages.new statement.now.circuit.now tape.old) }
+    ensures script_shape { sumcheck.HasShape statement.now.circuit.now script.new }
+    ensures challenges_shape { spec.HasShape statement.now.params.now challenges.new }
+    ensures room { IsRoomOf statement.now.circuit.now rounds.new }
+    ensures bounds { AreBounds F.ops statement.now.circuit.now script.new rounds.new.bounds }
 {
     prove_layers(
         rt,
-        circuit,
-        values,
+        statement.circuit,
+        statement.values,
         pads,
         tape,
         workers,
@@ -87,7 +87,7 @@ pub(crate) fn send<R: Threads + Sync, F: Field>(
         messages.as_mut_slice(),
         script,
     );
-    draw_challenges(params, tape, challenges);
+    draw_challenges(statement.params, tape, challenges);
 }
 
 /// Writes the answers, and draws the columns that are opened.

@@ -19,8 +19,10 @@ mod changing;
 mod committing;
 mod drawing;
 mod opening;
+mod parts;
 mod proving;
 mod room;
+mod statement;
 mod works;
 mod writing;
 

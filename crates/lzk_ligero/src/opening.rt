@@ -45,7 +45,8 @@ fn write_columns<F: Field>(tableau: &Tableau<F>, rows: usize, columns: &[u32], o
     requires rows { rows ≡ tableau.now.params.nrow }
     requires room { length out.old ≡ length columns.now * rows }
     ensures room { length out.new ≡ length columns.now * rows }
-    ensures columns { let e = coding F.element F.number_of F.BYTES F.size F.ID in (c : Wiring F) (private : List F) (word : ℕ → ℕ) → tableau.now.params ≡ params_of c →
+    ensures columns { let e = coding F.element F.number_of F.BYTES F.size F.ID in (c : Wiring F) (private : List F) (word : ℕ → ℕ) →
+        tableau.now.params ≡ params_of c →
         IsTable F.ops F.element (params_of c).ncol (spec.tableau F.ops e c private word) tableau.now.rows →
         out.new ≡ flat_map (spec.column F.ops e c private word) columns.now }
 {
@@ -74,7 +75,8 @@ pub(crate) fn open_columns<F: Field, W: Words>(
     ensures column_room { length out.new ≡ length columns.now * rows }
     ensures nonces { let e = coding F.element F.number_of F.BYTES F.size F.ID in (c : Wiring F) (private : List F) → tableau.now.params ≡ params_of c →
         nonces.new ≡ map (spec.nonce F.ops e c private (low_words (W.at words.now))) columns.now }
-    ensures columns { let e = coding F.element F.number_of F.BYTES F.size F.ID in (c : Wiring F) (private : List F) (word : ℕ → ℕ) → tableau.now.params ≡ params_of c →
+    ensures columns { let e = coding F.element F.number_of F.BYTES F.size F.ID in (c : Wiring F) (private : List F) (word : ℕ → ℕ) →
+        tableau.now.params ≡ params_of c →
         IsTable F.ops F.element (params_of c).ncol (spec.tableau F.ops e c private word) tableau.now.rows →
         out.new ≡ flat_map (spec.column F.ops e c private word) columns.now }
 {

@@ -2,9 +2,7 @@
 
 ghost use Rattle.std.specs.Prelude.{◌≡◌, ◌≤◌, ◌*◌, List, length, take};
 ghost use Rattle.lzk_field.specs.Coding.{coding};
-ghost use Rattle.lzk_circuit.specs.Valid.{HaveWidths};
-ghost use Rattle.lzk_circuit.specs.Wires.{all_values, inputs_of};
-ghost use Rattle.lzk_layout.specs.Sizes.{AreBounded, AreParams, params_of, proof_length};
+ghost use Rattle.lzk_layout.specs.Sizes.{proof_length};
 ghost use Rattle.lzk_layout.specs.Proofs.{HasLengths};
 ghost use Rattle.lzk_merkle.specs.Nodes.{AreOpened};
 ghost use Rattle.lzk_sumcheck.specs.Coefficients.{AreBounds};
@@ -20,19 +18,20 @@ ghost use Rattle.lzk_honest.specs.Answered.{AreSent, answers_of};
 ghost use Rattle.lzk_honest.specs.Proving.{IsFileBy, words_of};
 ghost use Rattle.lzk_ligero.specs.Changes.{change_of, IsChangeOf};
 ghost use Rattle.lzk_ligero.specs.Rooms.{IsRoomFor, IsSentFor, coefficient_reach};
+ghost use Rattle.lzk_ligero.specs.Statements.{IsStatement};
 
 use crate::answering::{answer_linear, answer_low_degree, answer_quadratic};
 use crate::changing::{Change, make_change};
 use crate::committing::commit;
 use crate::drawing::{draw_opened, open_tape, send};
 use crate::opening::{open_columns, open_path};
+use crate::parts::{Answering, Committed, Extenders};
 use crate::room::{Room, Sent};
+use crate::statement::Statement;
 use crate::writing::write_file;
 use lzk_accept::Challenges;
-use lzk_circuit::{Circuit, Values};
 use lzk_field::{Field, Gate, Words};
-use lzk_layout::{Params, Proof};
-use lzk_merkle::Tree;
+use lzk_layout::Proof;
 use lzk_poly::RowExtend;
 use lzk_sumcheck::Script;
 use lzk_tableau::Tableau;
@@ -41,9 +40,7 @@ use std::thread::Threads;
 
 // Sets the answers, by what the tape gave behind the messages, and the bound coefficients that the sumchecks left.
 fn answer<F: Field, X: RowExtend<F>>(
-    circuit: &Circuit<F>,
-    params: &Params,
-    public: &[F],
+    statement: &Statement<'_, F>,
     script: &Script<F>,
     challenges: &Challenges<F>,
     table: &[F],
@@ -51,49 +48,43 @@ fn answer<F: Field, X: RowExtend<F>>(
     room: &mut Room<F>,
     proof: &mut Proof<F>,
 )
-    requires params { params.now ≡ params_of circuit.now }
-    requires bounded { AreBounded params.now }
-    requires public { length public.now ≡ circuit.now.publics }
-    requires script { sumcheck.HasShape circuit.now script.now }
-    requires challenges { accept.HasShape params.now challenges.now }
-    requires table { length table.now ≡ params.now.nrow * params.now.ncol }
-    requires reach { X.reach extender.now ≡ coefficient_reach params.now }
-    requires room { IsRoomFor F.ops circuit.now params.now (X.rooms extender.now) room.old }
-    requires bounds { AreBounds F.ops circuit.now script.now room.old.rounds.bounds }
-    requires lengths { HasLengths params.now proof.old }
-    ensures room { IsRoomFor F.ops circuit.now params.now (X.rooms extender.now) room.new }
-    ensures lengths { HasLengths params.now proof.new }
+    requires statement { IsStatement F.ops statement.now }
+    requires script { sumcheck.HasShape statement.now.circuit.now script.now }
+    requires challenges { accept.HasShape statement.now.params.now challenges.now }
+    requires table { length table.now ≡ statement.now.params.now.nrow * statement.now.params.now.ncol }
+    requires reach { X.reach extender.now ≡ coefficient_reach statement.now.params.now }
+    requires room { IsRoomFor F.ops statement.now.circuit.now statement.now.params.now (X.rooms extender.now) room.old }
+    requires bounds { AreBounds F.ops statement.now.circuit.now script.now room.old.rounds.bounds }
+    requires lengths { HasLengths statement.now.params.now proof.old }
+    ensures room { IsRoomFor F.ops statement.now.circuit.now statement.now.params.now (X.rooms extender.now) room.new }
+    ensures lengths { HasLengths statement.now.params.now proof.new }
     ensures id { proof.new.id ≡ proof.old.id }
     ensures root { proof.new.root ≡ proof.old.root }
     ensures messages { proof.new.messages ≡ proof.old.messages }
     ensures path { proof.new.path ≡ proof.old.path }
-    ensures answers { (rows : List (List F)) → length rows ≡ params.now.nrow → IsTableOf F.ops F.element params.now.ncol rows table.now →
-        AreSent params.now (answers_of F.ops F.element circuit.now params.now public.now script.now proof.new.messages challenges.now rows) proof.new }
+    ensures answers { let p = statement.now.params.now in (rows : List (List F)) → length rows ≡ p.nrow → IsTableOf F.ops F.element p.ncol rows table.now →
+        AreSent p (answers_of F.ops F.element statement.now.circuit.now p statement.now.public.now script.now proof.new.messages challenges.now rows)
+        proof.new }
 {
     answer_low_degree(
-        params,
+        statement.params,
         table,
         challenges.u.as_slice(),
         &mut room.sums,
         &mut proof.ldt,
     );
     answer_linear(
-        circuit,
-        params,
-        public,
+        statement,
         script,
         proof.messages.as_slice(),
         challenges,
-        room.rounds.bounds(),
         table,
         extender,
-        &mut room.forms,
-        &mut room.factored,
-        &mut room.sums,
+        room,
         &mut proof.dot,
     );
     answer_quadratic(
-        params,
+        statement.params,
         table,
         challenges.v.as_slice(),
         &mut room.values,
@@ -105,11 +96,7 @@ fn answer<F: Field, X: RowExtend<F>>(
 // Runs the tape: sends the sumchecks and the answers, with a change where there is one, and draws the columns.
 fn respond<R: Threads + Sync, F: Field, X: RowExtend<F>>(
     rt: &R,
-    circuit: &Circuit<F>,
-    params: &Params,
-    values: &Values<F>,
-    session: &[u8],
-    public: &[F],
+    statement: &Statement<'_, F>,
     workers: usize,
     extender: &X,
     tableau: &Tableau<F>,
@@ -117,36 +104,38 @@ fn respond<R: Threads + Sync, F: Field, X: RowExtend<F>>(
     room: &mut Room<F>,
     sent: &mut Sent<F>,
 )
-    requires params { params.now ≡ params_of circuit.now }
-    requires bounded { AreBounded params.now }
-    requires values { HaveWidths circuit.now values.now }
-    requires public { length public.now ≡ circuit.now.publics }
+    requires statement { IsStatement F.ops statement.now }
     requires some_workers { 1 ≤ workers }
     requires few_workers { workers ≤ 64 }
-    requires reach { X.reach extender.now ≡ coefficient_reach params.now }
-    requires table { kept.IsTableOf circuit.now tableau.now }
-    requires change { IsChangeOf params.now change }
-    requires room { IsRoomFor F.ops circuit.now params.now (X.rooms extender.now) room.old }
-    requires sent { IsSentFor (coding F.element F.number_of F.BYTES F.size F.ID) circuit.now params.now sent.old }
-    ensures room { IsRoomFor F.ops circuit.now params.now (X.rooms extender.now) room.new }
-    ensures sent { IsSentFor (coding F.element F.number_of F.BYTES F.size F.ID) circuit.now params.now sent.new }
+    requires reach { X.reach extender.now ≡ coefficient_reach statement.now.params.now }
+    requires table { kept.IsTableOf statement.now.circuit.now tableau.now }
+    requires change { IsChangeOf statement.now.params.now change }
+    requires room { IsRoomFor F.ops statement.now.circuit.now statement.now.params.now (X.rooms extender.now) room.old }
+    requires sent { IsSentFor (coding F.element F.number_of F.BYTES F.size F.ID) statement.now.circuit.now statement.now.params.now sent.old }
+    ensures room { IsRoomFor F.ops statement.now.circuit.now statement.now.params.now (X.rooms extender.now) room.new }
+    ensures sent { IsSentFor (coding F.element F.number_of F.BYTES F.size F.ID) statement.now.circuit.now statement.now.params.now sent.new }
     ensures root { sent.new.proof.root ≡ sent.old.proof.root }
-    ensures messages { let e = coding F.element F.number_of F.BYTES F.size F.ID in
-        AreMessages F.ops e circuit.now values.now tableau.now.pads (opening e session.now sent.new.proof.id public.now sent.new.proof.root) sent.new.proof.messages }
-    ensures drawn { let e = coding F.element F.number_of F.BYTES F.size F.ID in
+    ensures messages { let e = coding F.element F.number_of F.BYTES F.size F.ID in let s = statement.now in
+        AreMessages F.ops e s.circuit.now s.values.now.wires tableau.now.pads
+        (opening e s.session.now sent.new.proof.id s.public.now sent.new.proof.root) sent.new.proof.messages }
+    ensures drawn { let e = coding F.element F.number_of F.BYTES F.size F.ID in let s = statement.now in
         record { script = sent.new.script; challenges = sent.new.challenges; columns = sent.new.columns }
-        ≡ transcript F.ops e circuit.now session.now sent.new.proof.id public.now sent.new.proof }
-    ensures answers { (rows : List (List F)) → length rows ≡ params.now.nrow → IsTableOf F.ops F.element params.now.ncol rows tableau.now.rows →
-        AreSent params.now (change_of F.ops change
-        (answers_of F.ops F.element circuit.now params.now public.now sent.new.script sent.new.proof.messages sent.new.challenges rows)) sent.new.proof }
-    ensures opened { AreOpened params.now.mcol sent.new.columns }
+        ≡ transcript F.ops e s.circuit.now s.session.now sent.new.proof.id s.public.now sent.new.proof }
+    ensures answers { let s = statement.now in let p = s.params.now in
+        (rows : List (List F)) → length rows ≡ p.nrow → IsTableOf F.ops F.element p.ncol rows tableau.now.rows →
+        AreSent p (change_of F.ops change
+        (answers_of F.ops F.element s.circuit.now p s.public.now sent.new.script sent.new.proof.messages sent.new.challenges rows)) sent.new.proof }
+    ensures opened { AreOpened statement.now.params.now.mcol sent.new.columns }
 {
-    let mut tape = open_tape(session, &sent.proof.id, public, &sent.proof.root);
+    let mut tape = open_tape(
+        statement.session,
+        &sent.proof.id,
+        statement.public,
+        &sent.proof.root,
+    );
     send(
         rt,
-        circuit,
-        params,
-        values,
+        statement,
         tableau.pads(),
         workers,
         &mut tape,
@@ -156,9 +145,7 @@ fn respond<R: Threads + Sync, F: Field, X: RowExtend<F>>(
         &mut sent.challenges,
     );
     answer(
-        circuit,
-        params,
-        public,
+        statement,
         &sent.script,
         &sent.challenges,
         tableau.rows(),
@@ -166,85 +153,84 @@ fn respond<R: Threads + Sync, F: Field, X: RowExtend<F>>(
         room,
         &mut sent.proof,
     );
-    make_change(params, change, &mut sent.proof);
-    draw_opened(params, &mut tape, &sent.proof, &mut sent.columns);
+    make_change(statement.params, change, &mut sent.proof);
+    draw_opened(statement.params, &mut tape, &sent.proof, &mut sent.columns);
 }
 
-/// Makes the proof for wires of these values, with a change of an answer where there is one, and writes its file in front.
+/// Makes the proof for a statement, with a change of an answer where there is one, and writes its file in front.
 /// How many bytes it has. No memory is taken.
 pub(crate) fn write_proof<R: Threads + Sync, F: Field, W: Words, X: RowExtend<F>, G: Gate>(
     rt: &R,
-    circuit: &Circuit<F>,
-    params: &Params,
-    values: &Values<F>,
-    session: &[u8],
-    public: &[F],
-    private: &[F],
+    statement: &Statement<'_, F>,
     words: &W,
     workers: usize,
     gate: &G,
-    short: &X,
-    long: &X,
-    coefficients: &X,
+    extenders: &Extenders<X>,
     change: Option<Change<F>>,
-    tableau: &mut Tableau<F>,
-    tree: &mut Tree,
-    room: &mut Room<F>,
-    sent: &mut Sent<F>,
-    bytes: &mut [u8],
+    committed: &mut Committed<F>,
+    answering: &mut Answering<F>,
 ) -> usize
-    requires params { params.now ≡ params_of circuit.now }
-    requires valid { AreParams F.ops params.now }
-    requires bounded { AreBounded params.now }
-    requires widths { HaveWidths circuit.now values.now }
-    requires values { values.now ≡ all_values F.ops circuit.now.layers (inputs_of F.ops public.now private.now) }
-    requires public { length public.now ≡ circuit.now.publics }
-    requires private { length private.now ≡ circuit.now.privates }
+    requires statement { IsStatement F.ops statement.now }
     requires some_workers { 1 ≤ workers }
     requires few_workers { workers ≤ 64 }
-    requires extenders { AreReaching params.now (X.reach short.now) (X.reach long.now) (X.rooms short.now) (X.rooms long.now) tableau.old.room }
-    requires reach { X.reach coefficients.now ≡ coefficient_reach params.now }
-    requires change { IsChangeOf params.now change }
-    requires table { kept.IsTableOf circuit.now tableau.old }
-    requires leaves { length tree.old.leaves ≡ params.now.mcol }
-    requires room { IsRoomFor F.ops circuit.now params.now (X.rooms coefficients.now) room.old }
-    requires sent { IsSentFor (coding F.element F.number_of F.BYTES F.size F.ID) circuit.now params.now sent.old }
-    requires bytes { length bytes.old ≡ proof_length F.BYTES params.now 1536 }
-    ensures file { let e = coding F.element F.number_of F.BYTES F.size F.ID in
-        IsFileBy F.ops e circuit.now session.now public.now private.now (words_of (W.at words.now)) (change_of F.ops change) (take result bytes.new) }
-    ensures inside { result ≤ length bytes.new }
-    ensures table { kept.IsTableOf circuit.now tableau.new }
-    ensures table_room { tableau.new.room ≡ tableau.old.room }
-    ensures leaves { length tree.new.leaves ≡ params.now.mcol }
-    ensures room { IsRoomFor F.ops circuit.now params.now (X.rooms coefficients.now) room.new }
-    ensures sent { IsSentFor (coding F.element F.number_of F.BYTES F.size F.ID) circuit.now params.now sent.new }
-    ensures bytes { length bytes.new ≡ length bytes.old }
+    requires extenders { let x = extenders.now in
+        AreReaching statement.now.params.now (X.reach x.short) (X.reach x.long) (X.rooms x.short) (X.rooms x.long) committed.old.tableau.room }
+    requires reach { X.reach extenders.now.coefficients ≡ coefficient_reach statement.now.params.now }
+    requires change { IsChangeOf statement.now.params.now change }
+    requires table { kept.IsTableOf statement.now.circuit.now committed.old.tableau }
+    requires leaves { length committed.old.tree.leaves ≡ statement.now.params.now.mcol }
+    requires room { IsRoomFor F.ops statement.now.circuit.now statement.now.params.now (X.rooms extenders.now.coefficients) answering.old.room }
+    requires sent { IsSentFor (coding F.element F.number_of F.BYTES F.size F.ID) statement.now.circuit.now statement.now.params.now answering.old.sent }
+    requires bytes { length answering.old.bytes.items ≡ proof_length F.BYTES statement.now.params.now 1536 }
+    ensures file { let e = coding F.element F.number_of F.BYTES F.size F.ID in let s = statement.now in
+        IsFileBy F.ops e s.circuit.now s.session.now s.public.now s.private.now (words_of (W.at words.now)) (change_of F.ops change)
+        (take result answering.new.bytes.items) }
+    ensures inside { result ≤ length answering.new.bytes.items }
+    ensures table { kept.IsTableOf statement.now.circuit.now committed.new.tableau }
+    ensures table_room { committed.new.tableau.room ≡ committed.old.tableau.room }
+    ensures leaves { length committed.new.tree.leaves ≡ statement.now.params.now.mcol }
+    ensures room { IsRoomFor F.ops statement.now.circuit.now statement.now.params.now (X.rooms extenders.now.coefficients) answering.new.room }
+    ensures sent { IsSentFor (coding F.element F.number_of F.BYTES F.size F.ID) statement.now.circuit.now statement.now.params.now answering.new.sent }
+    ensures bytes { length answering.new.bytes.items ≡ length answering.old.bytes.items }
 {
+    let tableau = &mut committed.tableau;
+    let tree = &mut committed.tree;
+    let sent = &mut answering.sent;
     sent.proof.root = commit(
-        rt, circuit, private, words, workers, gate, short, long, tableau, tree,
+        rt,
+        statement.circuit,
+        statement.private,
+        words,
+        workers,
+        gate,
+        &extenders.short,
+        &extenders.long,
+        tableau,
+        tree,
     );
     respond(
         rt,
-        circuit,
-        params,
-        values,
-        session,
-        public,
+        statement,
         workers,
-        coefficients,
+        &extenders.coefficients,
         tableau,
         change,
-        room,
+        &mut answering.room,
         sent,
     );
     open_columns(
         tableau,
         words,
-        params.nrow as usize,
+        statement.params.nrow as usize,
         &sent.columns,
         &mut sent.proof.nonces,
         &mut sent.proof.columns,
     );
-    open_path(tree, params.mcol, &sent.columns, &mut sent.proof.path);
-    write_file(params, &sent.proof, bytes)
+    open_path(
+        tree,
+        statement.params.mcol,
+        &sent.columns,
+        &mut sent.proof.path,
+    );
+    write_file(statement.params, &sent.proof, &mut answering.bytes)
 }

@@ -5,119 +5,40 @@ ghost use Rattle.std.specs.Borrow.{sem};
 ghost use Rattle.lzk_circbytes.specs.Files.{id_of};
 ghost use Rattle.lzk_field.specs.Coding.{coding};
 ghost use Rattle.lzk_field.specs.Sums.{entry};
-ghost use Rattle.lzk_circuit.specs.Wires.{all_values, wires_of, inputs_of, list_at, IsFirstNonzero, IsSatisfied};
+ghost use Rattle.lzk_circuit.specs.Checks.{checks_of, IsSatisfied};
+ghost use Rattle.lzk_circuit.specs.Wires.{all_values, inputs_of, IsFirstNonzero};
 ghost use Rattle.lzk_honest.specs.Changed.{IsSentPlace};
 ghost use Rattle.lzk_honest.specs.Proving.{IsChangedFile, IsFileBy, IsProofFile, words_of};
 ghost use Rattle.lzk_complete.specs.AnyInputs.{AllButSum};
 ghost use Rattle.lzk_complete.specs.Refused.{IsRefused};
 ghost use Rattle.lzk_verify.specs.Verdict.{IsVerdict};
 ghost use Rattle.lzk_verify.specs.declared.verdict.Verdict.TheVariants.{Accepted};
-ghost use Rattle.lzk_layout.specs.Sizes.{AreBounded, AreParams, params_of};
+ghost use Rattle.lzk_layout.specs.Sizes.{params_of};
 ghost use Rattle.lzk_ligero.specs.Changes.{change_of, IsChangeOf};
-ghost use Rattle.lzk_ligero.specs.Parts.{AreExtendersFor, IsCommittedFor, IsAnsweringFor, ArePartsFor};
+ghost use Rattle.lzk_ligero.specs.Parts.{ArePartsFor};
 
 use crate::changing::Change;
+use crate::parts::{Answering, Committed, Extenders, make_extenders};
 use crate::proving::write_proof;
-use crate::room::{Room, Sent, file_room};
+use crate::statement::Statement;
 use lzk_circbytes::id;
 use lzk_circuit::{Circuit, Values};
 use lzk_complete::{changed_proofs_refused, proofs_accepted, proofs_checked};
 use lzk_field::{Field, Gate, Words};
 use lzk_honest::Answer;
 use lzk_layout::Params;
-use lzk_merkle::Tree;
 use lzk_poly::RowExtend;
-use lzk_tableau::Tableau;
 use std::alloc::{AllocError, Global};
 use std::marker::{Model, Sync};
 use std::thread::Threads;
 
-/// The first output that is not 0, and its value.
+/// The first check that is not 0, and its value.
 #[derive(Clone, Copy, Debug, PartialEq, Eq)]
 pub struct Unsatisfied<F> {
-    /// The output's number.
+    /// The check's number.
     pub output: u32,
     /// Its value.
     pub value: F,
-}
-
-// What extends rows, rows of products, and rows of coefficients.
-#[derive(Drop)]
-struct Extenders<X: Drop> {
-    short: X,
-    long: X,
-    coefficients: X,
-}
-
-// Extenders for these parameters.
-fn make_extenders<F: Field, X: RowExtend<F>>(
-    alloc: Global,
-    params: &Params,
-) -> Result<Extenders<X>, AllocError>
-    requires { AreBounded params.now }
-    ensures { IfOk result (AreExtendersFor X.reach params.now) }
-{
-    Ok(Extenders {
-        short: X::make(alloc, params.block, params.ncol)?,
-        long: X::make(alloc, params.dblock, params.ncol)?,
-        coefficients: X::make(alloc, params.block, params.dblock)?,
-    })
-}
-
-// What is committed to.
-#[derive(Drop)]
-struct Committed<F: Field> {
-    tableau: Tableau<F>,
-    tree: Tree,
-}
-
-impl<F: Field> Committed<F> {
-    // With room for extensions that take so many elements.
-    fn new(
-        alloc: Global,
-        circuit: &Circuit<F>,
-        params: &Params,
-        room: usize,
-    ) -> Result<Committed<F>, AllocError>
-        requires { AreBounded params.now }
-        ensures { IfOk result (IsCommittedFor circuit.now params.now room) }
-    {
-        Ok(Committed {
-            tableau: Tableau::new(alloc, circuit, room)?,
-            tree: Tree::new(alloc, params.mcol)?,
-        })
-    }
-}
-
-// What the tape and the answers need, and the proof with its file.
-#[derive(Drop)]
-struct Answering<F: Field> {
-    room: Room<F>,
-    sent: Sent<F>,
-    bytes: Vec<u8>,
-}
-
-impl<F: Field> Answering<F> {
-    // Where an extension of a row of coefficients takes so many elements.
-    fn new(
-        alloc: Global,
-        circuit: &Circuit<F>,
-        params: &Params,
-        room: usize,
-        id: [u8; 32],
-    ) -> Result<Answering<F>, AllocError>
-        requires params { params.now ≡ params_of circuit.now }
-        requires valid { AreParams F.ops params.now }
-        requires bounded { AreBounded params.now }
-        requires id { id ≡ id_of (coding F.element F.number_of F.BYTES F.size F.ID) circuit.now }
-        ensures { IfOk result (IsAnsweringFor F.ops (coding F.element F.number_of F.BYTES F.size F.ID) circuit.now params.now room) }
-    {
-        Ok(Answering {
-            room: Room::new(alloc, circuit, params, room)?,
-            sent: Sent::new(alloc, circuit, params, id)?,
-            bytes: file_room::<F>(alloc, params)?,
-        })
-    }
 }
 
 // What a prover holds beside its circuit.
@@ -156,14 +77,15 @@ impl<F: Field, X: RowExtend<F>> Parts<F, X> {
         })
     }
 
-    // Sets the wires to their values on these inputs. Gives the number of the first output that is not 0.
+    // Sets the wires and the checks to their values on these inputs. Gives the number of the first check that is not 0.
     fn evaluate(&mut self, circuit: &Circuit<F>, public: &[F], private: &[F]) -> Option<u32>
         requires public { length public.now ≡ circuit.now.publics }
         requires private { length private.now ≡ circuit.now.privates }
         requires parts { ArePartsFor F.ops (coding F.element F.number_of F.BYTES F.size F.ID) X.reach X.rooms circuit.now self.old }
         ensures parts { ArePartsFor F.ops (coding F.element F.number_of F.BYTES F.size F.ID) X.reach X.rooms circuit.now self.new }
-        ensures values { self.new.values ≡ all_values F.ops circuit.now.layers (inputs_of F.ops public.now private.now) }
-        ensures outputs { let outputs = wires_of F.ops circuit.now.layers (inputs_of F.ops public.now private.now) in
+        ensures values { self.new.values.wires ≡ all_values F.ops circuit.now.layers (inputs_of F.ops public.now private.now) }
+        ensures checks { self.new.values.checks ≡ checks_of F.ops F.number_of circuit.now.layers (inputs_of F.ops public.now private.now) }
+        ensures outputs { let outputs = checks_of F.ops F.number_of circuit.now.layers (inputs_of F.ops public.now private.now) in
             MatchOption result (IsFirstNonzero F.ops outputs None) (λ k. IsFirstNonzero F.ops outputs (Some (k, entry F.ops outputs k))) }
     {
         circuit.eval(public, private, &mut self.values);
@@ -193,44 +115,43 @@ impl<F: Field, X: RowExtend<F>> Parts<F, X> {
         requires most { workers ≤ 64 }
         requires parts { ArePartsFor F.ops (coding F.element F.number_of F.BYTES F.size F.ID) X.reach X.rooms circuit.now self.old }
         requires change { IsChangeOf (params_of circuit.now) change }
-        requires values { self.old.values ≡ all_values F.ops circuit.now.layers (inputs_of F.ops public.now private.now) }
+        requires values { self.old.values.wires ≡ all_values F.ops circuit.now.layers (inputs_of F.ops public.now private.now) }
         ensures parts { ArePartsFor F.ops (coding F.element F.number_of F.BYTES F.size F.ID) X.reach X.rooms circuit.now self.new }
         ensures inside { result ≤ length self.new.answering.bytes.items }
         ensures file { let e = coding F.element F.number_of F.BYTES F.size F.ID in
-            IsFileBy F.ops e circuit.now session.now public.now private.now (words_of (W.at words.now)) (change_of F.ops change) (take result self.new.answering.bytes.items) }
+            IsFileBy F.ops e circuit.now session.now public.now private.now (words_of (W.at words.now)) (change_of F.ops change)
+            (take result self.new.answering.bytes.items) }
     {
-        write_proof(
-            rt,
+        let statement = Statement {
             circuit,
-            &self.params,
-            &self.values,
+            params: &self.params,
+            values: &self.values,
             session,
             public,
             private,
+        };
+        write_proof(
+            rt,
+            &statement,
             words,
             workers,
             gate,
-            &self.extenders.short,
-            &self.extenders.long,
-            &self.extenders.coefficients,
+            &self.extenders,
             change,
-            &mut self.committed.tableau,
-            &mut self.committed.tree,
-            &mut self.answering.room,
-            &mut self.answering.sent,
-            &mut self.answering.bytes,
+            &mut self.committed,
+            &mut self.answering,
         )
     }
 
-    // An output with its value.
+    // A check's number with its value.
     fn fault(&self, output: u32) -> Unsatisfied<&F>
-        requires { output < length (list_at self.now.values 0) }
+        requires { output < length self.now.values.checks }
         ensures output { result.output ≡ output }
-        ensures value { result.value.now ≡ entry F.ops (list_at self.now.values 0) output }
+        ensures value { result.value.now ≡ entry F.ops self.now.values.checks output }
     {
         Unsatisfied {
             output,
-            value: &self.values.layer(0)[output as usize],
+            value: &self.values.checks()[output as usize],
         }
     }
 }
@@ -306,7 +227,8 @@ impl<'c, F: Field, X: RowExtend<F>> WorksOver<'c, F, X> {
         requires some { 1 ≤ workers }
         requires most { workers ≤ 64 }
         ensures* same { sem 𝓛 (StaysForCircuit F.row X.row F.Field X.RowExtend self.entry) }
-        ensures file { IsProofFile F.ops (coding F.element F.number_of F.BYTES F.size F.ID) self.old session.now public.now private.now (words_of (W.at words.now)) result.now }
+        ensures file { IsProofFile F.ops (coding F.element F.number_of F.BYTES F.size F.ID) self.old session.now public.now private.now
+            (words_of (W.at words.now)) result.now }
         ensures checked { AllButSum F.ops (coding F.element F.number_of F.BYTES F.size F.ID) self.old session.now public.now result.now }
     {
         proofs_checked::<F>();
@@ -350,7 +272,7 @@ impl<'c, F: Field, X: RowExtend<F>> WorksOver<'c, F, X> {
         ensures* same { sem 𝓛 (StaysForCircuit F.row X.row F.Field X.RowExtend self.entry) }
         ensures file { let e = coding F.element F.number_of F.BYTES F.size F.ID in
             IsChangedFile F.ops e self.old session.now public.now private.now (words_of (W.at words.now)) answer place by result.now }
-        ensures refused { IsSatisfied F.ops self.old.layers (inputs_of F.ops public.now private.now) → by ≢ F.ops.zero →
+        ensures refused { IsSatisfied F.ops F.number_of self.old.layers (inputs_of F.ops public.now private.now) → by ≢ F.ops.zero →
             IsRefused F.ops (coding F.element F.number_of F.BYTES F.size F.ID) self.old session.now public.now answer place by result.now }
     {
         changed_proofs_refused::<F>();
@@ -370,11 +292,11 @@ impl<'c, F: Field, X: RowExtend<F>> WorksOver<'c, F, X> {
         &self.parts.answering.bytes[..len]
     }
 
-    /// The bytes of the proof's file, or the first output that is not 0. No memory is taken.
+    /// The bytes of the proof's file, or the first check that is not 0. No memory is taken.
     ///
     /// # Errors
     ///
-    /// `Unsatisfied` where an output is not 0. The prover may be used again.
+    /// `Unsatisfied` where a check is not 0. The prover may be used again.
     pub fn prove<R: Threads + Sync, W: Words, G: Gate>(
         &mut self,
         rt: &R,
@@ -392,10 +314,13 @@ impl<'c, F: Field, X: RowExtend<F>> WorksOver<'c, F, X> {
         requires most { workers ≤ 64 }
         ensures* same { sem 𝓛 (StaysForCircuit F.row X.row F.Field X.RowExtend self.entry) }
         ensures proved { MatchResult result
-            (λ bytes. IsFirstNonzero F.ops (wires_of F.ops self.old.layers (inputs_of F.ops public.now private.now)) None
-            × IsProofFile F.ops (coding F.element F.number_of F.BYTES F.size F.ID) self.old session.now public.now private.now (words_of (W.at words.now)) bytes.now)
-            (λ fault. IsFirstNonzero F.ops (wires_of F.ops self.old.layers (inputs_of F.ops public.now private.now)) (Some (fault.output, fault.value.now))) }
-        ensures accepted { IfOk result (λ bytes. IsVerdict F.ops (coding F.element F.number_of F.BYTES F.size F.ID) self.old session.now public.now bytes.now Accepted) }
+            (λ bytes. IsFirstNonzero F.ops (checks_of F.ops F.number_of self.old.layers (inputs_of F.ops public.now private.now)) None
+            × IsProofFile F.ops (coding F.element F.number_of F.BYTES F.size F.ID) self.old session.now public.now private.now
+            (words_of (W.at words.now)) bytes.now)
+            (λ fault. IsFirstNonzero F.ops (checks_of F.ops F.number_of self.old.layers (inputs_of F.ops public.now private.now))
+            (Some (fault.output, fault.value.now))) }
+        ensures accepted { IfOk result (λ bytes. IsVerdict F.ops (coding F.element F.number_of F.BYTES F.size F.ID) self.old session.now public.now
+            bytes.now Accepted) }
     {
         if let Some(output) = self.parts.evaluate(self.circuit, public, private) {
             return Err(self.parts.fault(output));

@@ -1,10 +1,11 @@
 use Rattle.std.specs.Prelude.{map, take}
-use Rattle.std.proofs.Common.{refl, sym, ◌∙◌, subst}
+use Rattle.std.proofs.Common.{refl, sym, ◌∙◌, arith, subst}
 use Rattle.lzk_field.specs.Coding.{coding}
 use Rattle.lzk_circuit.specs.Wires.{all_values, inputs_of}
 use Rattle.lzk_layout.specs.Sizes.{params_of}
 use Rattle.lzk_layout.specs.Proofs.{ProofBytes}
 use Rattle.lzk_merkle.specs.Nodes.{tree_node, path_nodes}
+use Rattle.lzk_sumcheck.proofs.Filled.{refill_whole}
 use Rattle.lzk_sumcheck.specs.Messages.{AreMessages}
 use Rattle.lzk_sumcheck.specs.Opening.{opening}
 use Rattle.lzk_answers.specs.Rows.{IsTableOf}
@@ -21,24 +22,26 @@ returns-clause-file g c =
     let f = g.F.Field in
     let o = f.ops in
     let e = coding f.element f.number_of f.BYTES f.size f.ID in
-    let w = c.args.circuit.now in
-    let session = c.args.session.now in
-    let public = c.args.public.now in
-    let private = c.args.private.now in
+    let w = c.args.statement.now.circuit.now in
+    let session = c.args.statement.now.session.now in
+    let public = c.args.statement.now.public.now in
+    let private = c.args.statement.now.private.now in
     let word = words_of (g.W.Words.at c.args.words.now) in
-    let is = c.requires.params in
+    let is = c.requires.statement.params in
     let table = c.commit-sent.new.tableau in
     let sent = c.respond.new.sent in
     let proof = record sent.proof { nonces = c.open_columns.new.nonces; columns = c.open_columns.new.out; path = c.open_path.new.path } in
     let rows = tableau o e w private word in
     let tape = opening e session proof.id public proof.root in
-    let with_values = subst (λ values. AreMessages o e w values table.pads tape proof.messages) c.requires.values c.respond.ensures.messages in
+    let with_values = subst (λ values. AreMessages o e w values table.pads tape proof.messages) c.requires.statement.values c.respond.ensures.messages in
     let with_pads = subst (λ pads. AreMessages o e w (all_values o w.layers (inputs_of o public private)) pads tape proof.messages) c.commit-sent.ensures.pads with_values in
     let drawn = c.respond.ensures.drawn ∙ transcript_of o e w session proof.id public sent.proof proof refl refl refl refl refl refl in
     let rows_are = table_of o e.element (params_of w).ncol rows table.rows c.commit-sent.ensures.rows in
     let count = count_rows o e w private word in
     let answers = c.respond.ensures.answers rows (count ∙ sym (λ i. (is i).nrow)) (subst (λ p. IsTableOf o e.element p.ncol rows table.rows) (sym is) rows_are) in
     let change = change_of o c.args.change in
+    let bytes = c.args.answering.now.bytes in
+    let whole = refill_whole bytes.len bytes.items c.write_file.new.bytes (omega (arith, c.write_file.ensures.room, c.deref_mut.ensures.len)) in
     let a = subst (λ p. AreSent p (change (answers_of o e.element w p public sent.script sent.proof.messages sent.challenges rows)) sent.proof) is answers in
     record {
       proof = proof;
@@ -51,5 +54,6 @@ returns-clause-file g c =
           (c.open_columns.ensures.nonces w private c.commit-sent.ensures.made.params)
           (c.open_columns.ensures.columns w private word c.commit-sent.ensures.made.params c.commit-sent.ensures.rows)
           (c.open_path.ensures.digests ∙ (λ i. map (tree_node (is i).mcol (c.commit-sent.ensures.leaves i)) (path_nodes (is i).mcol sent.columns)));
-      written = subst (λ p. ProofBytes e.bytes e.number p proof (take c.write_file.result c.write_file.new.bytes)) is c.write_file.ensures.file;
+      written = subst (λ xs. ProofBytes e.bytes e.number (params_of w) proof (take c.write_file.result xs)) (sym whole)
+          (subst (λ p. ProofBytes e.bytes e.number p proof (take c.write_file.result c.write_file.new.bytes)) is c.write_file.ensures.file);
     }
