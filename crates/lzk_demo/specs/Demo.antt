@@ -4,8 +4,9 @@ use Rattle.std.proofs.Common.{zero, suc}
 use Rattle.lzk_field.specs.Ring.{Ops}
 use Rattle.lzk_expr.specs.Trees.{Expr, Number, PublicInput, PrivateInput, Named, Added, Multiplied, NoPart, part, NoExpr, factor, Statement, DeclarePublic, DeclarePrivate, Define, Assertion, SourceTree}
 use Rattle.lzk_expr.specs.declared.ast.FieldId.TheVariants.{Goldilocks}
-use Rattle.lzk_circuit.specs.Valid.{Wiring}
-use Rattle.lzk_circuit.specs.Wires.{inputs_of, IsSatisfied}
+use Rattle.lzk_circuit.specs.Valid.{Wiring, IsValid}
+use Rattle.lzk_circuit.specs.Wires.{inputs_of}
+use Rattle.lzk_circuit.specs.Checks.{IsSatisfied}
 use Rattle.lzk_level.specs.Compiled.{HasValues}
 use Rattle.lzk_demo.specs.declared.entry.Entry.{Entry}
 use Rattle.lzk_demo.specs.declared.entry.Entry.TheVariants.{Input, Made}
@@ -101,6 +102,6 @@ IsLogarithm n r = (n ≤ 2 ^ r) × ((k : ℕ) → n ≤ 2 ^ k → r ≤ k)
 abbrev pub IsDemoDepth : ℕ → ℕ → Type 0
 IsDemoDepth n depth = (r : ℕ) × IsLogarithm n r × (depth ≡ max 1 r)
 
--- the demo's inputs satisfy every circuit with the values of the demo's source
-abbrev pub InputsSatisfy : {A : Type 0} → Ops A → (ℕ → A) → ℕ → Wiring A → Type 0
-InputsSatisfy o element n c = c.publics ≡ 1 → c.privates ≡ n → HasValues o element (demo_statements n) c → IsSatisfied o c.layers (inputs_of o (demo_public o n) (demo_private o n))
+-- the demo's inputs satisfy every valid circuit of version 1 with the values of the demo's source
+abbrev pub InputsSatisfy : {A : Type 0} → Ops A → (A → ℕ) → (ℕ → A) → ℕ → Wiring A → Type 0
+InputsSatisfy o number element n c = c.version ≡ 1 → IsValid o c → c.publics ≡ 1 → c.privates ≡ n → HasValues o element (demo_statements n) c → IsSatisfied o number c.layers (inputs_of o (demo_public o n) (demo_private o n))

@@ -1,8 +1,9 @@
 //! The circuit.
 
 ghost use Rattle.std.specs.Prelude.{◌≡◌, ◌≤◌, length, IfOk};
-ghost use Rattle.lzk_goldilocks.specs.Elements.{ops, of_number};
-ghost use Rattle.lzk_circuit.specs.Wires.{inputs_of, IsSatisfied};
+ghost use Rattle.lzk_goldilocks.specs.Elements.{ops, number, of_number};
+ghost use Rattle.lzk_circuit.specs.Checks.{IsSatisfied};
+ghost use Rattle.lzk_circuit.specs.Wires.{inputs_of};
 ghost use Rattle.lzk_expr.specs.declared.ast.FieldId.TheVariants.{Goldilocks};
 ghost use Rattle.lzk_level.specs.Compiled.{HasValues, HasReducedLayers, field_of, source_layers};
 ghost use Rattle.lzk_demo.specs.Demo.{demo_tree, demo_statements, demo_public, demo_private, IsDemoDepth};
@@ -31,17 +32,23 @@ fn gold(circuit: AnyCircuit) -> Circuit<Gold>
 pub fn demo_circuit(alloc: Global, n: u32) -> Result<Circuit<Gold>, AllocError>
     requires some { 1 ≤ n }
     requires few { n ≤ 16384 }
+    ensures version { IfOk result (λ circuit. circuit.version ≡ 1) }
     ensures publics { IfOk result (λ circuit. circuit.publics ≡ 1) }
     ensures privates { IfOk result (λ circuit. circuit.privates ≡ n) }
     ensures layers { IfOk result (λ circuit. length circuit.layers ≡ source_layers (demo_tree n)) }
     ensures depth { IfOk result (λ circuit. IsDemoDepth n (length circuit.layers)) }
     ensures outputs { IfOk result (HasValues ops of_number (demo_statements n)) }
     ensures reduced { IfOk result (λ circuit. HasReducedLayers (AnyCircuit.Gold circuit)) }
-    ensures satisfied { IfOk result (λ circuit. IsSatisfied ops circuit.layers (inputs_of ops (demo_public ops n) (demo_private ops n))) }
+    ensures satisfied { IfOk result (λ circuit. IsSatisfied ops number circuit.layers (inputs_of ops (demo_public ops n) (demo_private ops n))) }
 {
     let source = demo_source(alloc, n)?;
     match compile(alloc, &source) {
-        Ok(circuit) => Ok(gold(circuit)),
+        Ok(circuit) => {
+            let circuit = gold(circuit);
+            // That tells that the circuit is valid.
+            circuit.depth();
+            Ok(circuit)
+        }
         Err(LevelError::OutOfMemory) => Err(AllocError),
         Err(LevelError::Fault(_)) => unreachable!(),
     }

@@ -1,7 +1,7 @@
 //! Laws of the definitions, as contracts of a function that does nothing.
 
 ghost use Rattle.std.specs.Prelude.{◌≡◌, ◌∷◌, [], ℕ, ◌≤◌, None};
-ghost use Rattle.lzk_goldilocks.specs.Elements.{ops, of_number};
+ghost use Rattle.lzk_goldilocks.specs.Elements.{ops, number, of_number};
 ghost use Rattle.lzk_goldilocks.specs.declared.element.Gold.{Gold};
 ghost use Rattle.lzk_circuit.specs.Valid.{Wiring};
 ghost use Rattle.lzk_expr.specs.SourceValues.{source_value};
@@ -17,7 +17,7 @@ pub fn demo_laws()
     ensures within { (n : ℕ) → 1 ≤ n → n ≤ 16384 → source_limit (demo_tree n) ≡ None }
     ensures depth { (n : ℕ) → 1 ≤ n → IsDemoDepth n (source_layers (demo_tree n)) }
     ensures value { (n : ℕ) → 1 ≤ n → source_value ops of_number (demo_public ops n) (demo_private ops n) (demo_statements n) ≡ ops.zero ∷ [] }
-    ensures satisfied { (n : ℕ) → 1 ≤ n → (circuit : Wiring Gold) → InputsSatisfy ops of_number n circuit }
+    ensures satisfied { (n : ℕ) → 1 ≤ n → (circuit : Wiring Gold) → InputsSatisfy ops number of_number n circuit }
     ensures circuit { (n : ℕ) → 1 ≤ n → n ≤ 16384 → HasSomeCircuit (demo_tree n) }
 {
     compile_laws();

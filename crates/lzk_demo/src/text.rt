@@ -2,7 +2,8 @@
 
 ghost use Rattle.std.specs.Prelude.{◌≡◌, ℕ, ◌+◌, ◌*◌, ◌/◌, ◌≤◌, ◌<◌, ◌∷◌, ◌++◌, length, decimal, IfOk, OnOk};
 ghost use Rattle.lzk_demo.specs.Demo.{paired, inputs_from};
-ghost use Rattle.lzk_demo.specs.Texts.{entry_text, IsBelow, AreBelow, private_line, privates_text, let_head, behind, or_text, let_line, round_text, assert_line, rounds_text, head_text, demo_text};
+ghost use Rattle.lzk_demo.specs.Texts.{entry_text, IsBelow, AreBelow, private_line, privates_text, let_head, behind};
+ghost use Rattle.lzk_demo.specs.Texts.{or_text, let_line, round_text, assert_line, rounds_text, head_text, demo_text};
 
 use crate::entry::Entry;
 use std::alloc::{AllocError, Global};

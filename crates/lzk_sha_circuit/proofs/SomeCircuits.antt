@@ -10,6 +10,7 @@ use Rattle.lzk_goldilocks.specs.declared.element.Gold.{Gold}
 use Rattle.lzk_circuit.specs.declared.layer.Layer.{Layer}
 use Rattle.lzk_circuit.specs.declared.layer.Term.{Term}
 use Rattle.lzk_circuit.specs.Valid.{IsValid, AreLayers, wiring}
+use Rattle.lzk_circuit.proofs.VersionLaws.{one-valid}
 use Rattle.lzk_circuit.specs.Wires.{inputs_of}
 use Rattle.lzk_reduce.specs.Rows.{row_value, ordered, placed}
 use Rattle.lzk_reduce.proofs.AppendLaws.{stacked-terms, stacked-before, stacked-added}
@@ -137,13 +138,8 @@ module _ {X : Type 0} (o : Ops X) (element : ℕ → X) (len : ℕ) where
 valid : (len : ℕ) (kept : List (Layer Gold)) → len ≤ 55 → length kept ≡ 2 → AreLayers gold.ops (input_count len) kept → IsValid gold.ops (wiring 8 (8 * len + 6376) kept)
 valid len kept few two layers =
     let width : input_count len ≡ 1 + 8 + (8 * len + 6376) = omega arith in
-    record {
-      publics = omega arith;
-      privates = omega (arith, few);
-      some = omega (arith, two);
-      depth = omega (arith, two);
-      layers = subst (λ n. AreLayers gold.ops n kept) width layers;
-    }
+    one-valid gold.ops 8 (8 * len + 6376) kept (omega arith) (omega (arith, few)) (omega (arith, two)) (omega (arith, two))
+    (subst (λ n. AreLayers gold.ops n kept) width layers)
 
 pub some_sha_circuit : SomeShaCircuit
 some_sha_circuit len few =
@@ -157,6 +153,7 @@ some_sha_circuit len few =
     let two = is.count in (
       wiring 8 (8 * len + 6376) kept,
       record {
+        version = refl;
         publics = refl;
         privates = refl;
         layers = two;

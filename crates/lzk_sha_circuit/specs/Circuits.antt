@@ -12,6 +12,7 @@ use Rattle.lzk_sha_circuit.specs.Places.{private_count}
 
 -- It has the counts of such a message, two layers, and on every input the definition's outputs; and it is reduced.
 pub record IsShaCircuit (len : ℕ) (c : Wiring Gold) : Type 0 where
+  pub version : c.version ≡ 1
   pub publics : c.publics ≡ 8
   pub privates : c.privates ≡ private_count len
   pub layers : length c.layers ≡ 2

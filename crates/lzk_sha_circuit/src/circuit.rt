@@ -23,7 +23,8 @@ fn layers_of(alloc: Global, len: u32) -> Result<Vec<Layer<Gold>>, AllocError>
     ensures count { IfOk result (λ layers. length layers.items ≡ 2) }
     ensures valid { IfOk result (λ layers. AreLayers ops (input_count len) layers.items) }
     ensures ones { IfOk result (λ layers. HaveOnes ops layers.items) }
-    ensures outputs { IfOk result (λ layers. (public private : List Gold) → length public ≡ 8 → length private ≡ private_count len → wires_of ops layers.items (inputs_of ops public private) ≡ sha_outputs ops of_number len public private) }
+    ensures outputs { IfOk result (λ layers. (public private : List Gold) → length public ≡ 8 → length private ≡ private_count len →
+        wires_of ops layers.items (inputs_of ops public private) ≡ sha_outputs ops of_number len public private) }
 {
     let outer = output_terms(alloc, len)?;
     let inner = inner_terms(alloc, len)?;
@@ -57,10 +58,12 @@ fn circuit_of(privates: u32, layers: Vec<Layer<Gold>>) -> Circuit<Gold>
 /// Where its outputs are all 0, the public inputs are the words of the digest of the message that the first private inputs spell.
 pub fn sha_circuit(alloc: Global, len: u32) -> Result<Circuit<Gold>, AllocError>
     requires { len ≤ 55 }
+    ensures version { IfOk result (λ circuit. circuit.version ≡ 1) }
     ensures publics { IfOk result (λ circuit. circuit.publics ≡ 8) }
     ensures privates { IfOk result (λ circuit. circuit.privates ≡ private_count len) }
     ensures layers { IfOk result (λ circuit. length circuit.layers ≡ 2) }
-    ensures outputs { IfOk result (λ circuit. (public private : List Gold) → length public ≡ 8 → length private ≡ private_count len → wires_of ops circuit.layers (inputs_of ops public private) ≡ sha_outputs ops of_number len public private) }
+    ensures outputs { IfOk result (λ circuit. (public private : List Gold) → length public ≡ 8 → length private ≡ private_count len →
+        wires_of ops circuit.layers (inputs_of ops public private) ≡ sha_outputs ops of_number len public private) }
     ensures reduced { IfOk result (λ circuit. IsReduced ops circuit.layers) }
 {
     let layers = layers_of(alloc, len)?;

@@ -3,7 +3,8 @@
 ghost use Rattle.std.specs.Prelude.{◌≡◌, ℕ, ◌+◌, ◌-◌, ◌*◌, ◌<◌, ◌≤◌, slice_index};
 ghost use Rattle.sha2.specs.Sha256.{padding};
 ghost use Rattle.lzk_goldilocks.specs.Elements.{ops, of_number};
-ghost use Rattle.lzk_sha_circuit.specs.Layers.{IsWordOf, IsPlaceOf, IsWhole, wire_entry, constant_entry, block_entry, bits_entry, word_entry, turned_entry, shifted_entry};
+ghost use Rattle.lzk_sha_circuit.specs.Layers.{IsWordOf, IsPlaceOf, IsWhole, wire_entry, constant_entry, block_entry};
+ghost use Rattle.lzk_sha_circuit.specs.Layers.{bits_entry, word_entry, turned_entry, shifted_entry};
 
 use crate::constants::INITIAL_HASH;
 use crate::products::Entry;

@@ -106,7 +106,8 @@ fn write_digest(
     variables: [u32; 8],
     bits: &mut Vec<Gold>,
 ) -> Result<Vec<Gold>, AllocError>
-    ensures words { IfOk result (λ public. public.items ≡ map (λ i. of_number ((slice_index initial_hash_256 i + slice_index variables i) % 2 ^ 32)) (range_with_len 0 8)) }
+    ensures words { IfOk result (λ public. public.items ≡ map (λ i. of_number ((slice_index initial_hash_256 i + slice_index variables i) % 2 ^ 32))
+        (range_with_len 0 8)) }
     ensures bits { OnOk result (bits.new.items ≡ bits.old.items ++ final_list of_number initial_hash_256 variables 8) }
 {
     let mut public = Vec::new(alloc);

@@ -10,7 +10,9 @@ ghost use Rattle.lzk_sha_circuit.specs.Digest.{AreBytes, HaveDigest};
 
 /// Where all outputs are 0, the private inputs begin with the bits of a message, and the public inputs are the words of its digest.
 pub fn digest_laws()
-    ensures { (len : ℕ) (public private : List Gold) → len ≤ 55 → length public ≡ 8 → length private ≡ private_count len → AreSatisfying ops of_number len public private → (message : List ℕ) × (length message ≡ len) × AreBytes message × HaveDigest of_number public private message }
+    ensures { (len : ℕ) (public private : List Gold) → len ≤ 55 → length public ≡ 8 → length private ≡ private_count len →
+        AreSatisfying ops of_number len public private → (message : List ℕ) × (length message ≡ len) × AreBytes message ×
+        HaveDigest of_number public private message }
 {}
 
 /// There is a circuit for messages of each number of bytes, whether or not there is memory for it, and every message satisfies it.

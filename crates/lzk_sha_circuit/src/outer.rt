@@ -2,7 +2,8 @@
 
 ghost use Rattle.std.specs.Prelude.{◌≡◌, ℕ, ◌+◌, ◌-◌, ◌*◌, ◌<◌, ◌≤◌, ◌++◌, ◌∷◌, [], IfOk, OnOk, slice_index};
 ghost use Rattle.lzk_goldilocks.specs.Elements.{ops, of_number};
-ghost use Rattle.lzk_sha_circuit.specs.Layers.{IsWordOf, IsWhole, IsBuilt, inner_count, last_word_of, bit_row, w_row, first_list, a_row, e_row, f_row, digest_row, output_rows};
+ghost use Rattle.lzk_sha_circuit.specs.Layers.{IsWordOf, IsWhole, IsBuilt, inner_count, last_word_of, bit_row, w_row};
+ghost use Rattle.lzk_sha_circuit.specs.Layers.{first_list, a_row, e_row, f_row, digest_row, output_rows};
 
 use crate::constants::{INITIAL_HASH, ROUND_CONSTANTS};
 use crate::entries::{Word, wire_entry};

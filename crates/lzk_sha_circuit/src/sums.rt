@@ -44,7 +44,8 @@ pub fn push_turned(
     requires word { IsWordOf len word }
     requires whole { IsWhole word }
     requires turn { k < 32 }
-    ensures { OnOk result (products.new.items ≡ products.old.items ++ or_word_list ops of_number (λ i. wire_entry ops (first + i)) (turned_entry ops of_number len word k)) }
+    ensures { OnOk result (products.new.items ≡ products.old.items ++ or_word_list ops of_number (λ i. wire_entry ops (first + i))
+        (turned_entry ops of_number len word k)) }
 {
     for i in 0..32 {
         push_or(
@@ -70,7 +71,8 @@ pub fn push_shifted(
     requires word { IsWordOf len word }
     requires whole { IsWhole word }
     requires turn { k < 32 }
-    ensures { OnOk result (products.new.items ≡ products.old.items ++ or_word_list ops of_number (λ i. wire_entry ops (first + i)) (shifted_entry ops of_number len word k)) }
+    ensures { OnOk result (products.new.items ≡ products.old.items ++ or_word_list ops of_number (λ i. wire_entry ops (first + i))
+        (shifted_entry ops of_number len word k)) }
 {
     for i in 0..32 {
         push_or(
@@ -98,7 +100,8 @@ pub fn push_ch(
     requires second_whole { IsWhole f }
     requires third { IsWordOf len g }
     requires third_whole { IsWhole g }
-    ensures { OnOk result (products.new.items ≡ products.old.items ++ ch_word_list ops of_number (word_entry ops of_number len e) (word_entry ops of_number len f) (word_entry ops of_number len g)) }
+    ensures { OnOk result (products.new.items ≡ products.old.items ++ ch_word_list ops of_number (word_entry ops of_number len e)
+        (word_entry ops of_number len f) (word_entry ops of_number len g)) }
 {
     for i in 0..32 {
         let (e, f, g) = (entry(len, e, i), entry(len, f, i), entry(len, g, i));
@@ -124,7 +127,8 @@ pub fn push_maj(
     requires right { IsWordOf len z }
     requires right_whole { IsWhole z }
     requires first { first ≤ 65536 }
-    ensures { OnOk result (products.new.items ≡ products.old.items ++ maj_word_list ops of_number (word_entry ops of_number len x) (word_entry ops of_number len y) (word_entry ops of_number len z) (λ i. wire_entry ops (first + i))) }
+    ensures { OnOk result (products.new.items ≡ products.old.items ++ maj_word_list ops of_number (word_entry ops of_number len x)
+        (word_entry ops of_number len y) (word_entry ops of_number len z) (λ i. wire_entry ops (first + i))) }
 {
     for i in 0..32 {
         let (x, y, z) = (entry(len, x, i), entry(len, y, i), entry(len, z, i));

@@ -38,6 +38,7 @@ returns c =
     let two = c.in_ok-layers.ensures.count in
     let kept = c.in_ok-kept.ensures.count in
     record {
+      version = ap (λ (w : Wiring Gold). w.version) made;
       publics = ap (λ (w : Wiring Gold). w.publics) made;
       privates = ap (λ (w : Wiring Gold). w.privates) made;
       layers = ap (λ (w : Wiring Gold). length w.layers) made ∙ kept ∙ long ∙ two;
