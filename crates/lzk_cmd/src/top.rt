@@ -14,7 +14,7 @@ ghost use Rattle.lzk_cmd_runs.specs.RunSteps.{TellsUnread, Works};
 ghost use Rattle.lzk_cmd_words.specs.Words.{LeavesShelf, command_of};
 
 use lzk_cmd_batch::batch;
-use lzk_cmd_circuits::{compile_source, eval, shacircuit, show};
+use lzk_cmd_circuits::{compile_source, eval, shacircuit, show, upgrade};
 use lzk_cmd_files::{Ending, Halt, Means, lines, print_ending};
 use lzk_cmd_laws::run_laws;
 use lzk_cmd_prove::{demo, prove, sha256};
@@ -54,7 +54,14 @@ fn work<R: Threads + Sync, S: Shelf, G: Gate>(
                 private,
             },
         ) => eval(means, circuit, public, private, shelf),
-        Some(Command::Compile { source, circuit }) => compile_source(means, source, circuit, shelf),
+        Some(
+            Command::Compile {
+                source,
+                circuit,
+                version,
+            },
+        ) => compile_source(means, source, circuit, version, shelf),
+        Some(Command::Upgrade { old, new }) => upgrade(means, old, new, shelf),
         Some(Command::Show { circuit }) => show(means, circuit, shelf),
         Some(Command::Prove(order)) => prove(means, &order, shelf),
         Some(
@@ -112,7 +119,7 @@ pub fn run<R: Threads + Sync, S: Shelf, K: Sink, G: Gate>(
     ensures one_end { OneEnd }
     ensures some_end { SomeEnd }
 
-    // What `prove` and `sha256` put is accepted; over a circuit with SHA-256's outputs every message satisfies.
+    // What `prove` and `sha256` put is accepted; over a circuit whose checks are SHA-256's outputs, as one of `shacircuit`, every message satisfies.
     ensures honest { ProvedIsAccepted }
     ensures hashed { HashedIsAccepted }
     ensures satisfied { HashesAreSatisfied }

@@ -17,21 +17,22 @@ use Rattle.lzk_cmd_files.specs.Walks.{Puts, WalksToPut}
 use Rattle.lzk_cmd_files.proofs.Laws.{level_quiet}
 use Rattle.lzk_cmd_files.proofs.Sights.{where_told, no_step}
 use Rattle.lzk_cmd_files.proofs.Steps.{handed_on, here, at_put}
+use Rattle.lzk_cmd_words.specs.declared.words.Version.{Version}
 
-module _ (source circuit : List ℕ) (s : SourceTree) where
-  pub no_circuit : (old : Seen) (h : Halt) (r : Result Ending Halt) → Compiles source circuit s (Err h) → IsErrAnd r (λ y. y ≡ h) → WalksToPut (λ files. CompileTree source circuit s) 1 old old r
-  no_circuit old h r a is = handed_on (WalksToPut (λ files. CompileTree source circuit s) 1 old old) r h is (go h a)
+module _ (version : Version) (source circuit : List ℕ) (s : SourceTree) where
+  pub no_circuit : (old : Seen) (h : Halt) (r : Result Ending Halt) → Compiles version source circuit s (Err h) → IsErrAnd r (λ y. y ≡ h) → WalksToPut (λ files. CompileTree version source circuit s) 1 old old r
+  no_circuit old h r a is = handed_on (WalksToPut (λ files. CompileTree version source circuit s) 1 old old) r h is (go h a)
     where
-      go : (h : Halt) → Compiles source circuit s (Err h) → WalksToPut (λ files. CompileTree source circuit s) 1 old old (Err h)
+      go : (h : Halt) → Compiles version source circuit s (Err h) → WalksToPut (λ files. CompileTree version source circuit s) 1 old old (Err h)
       go halts.Memory a = where_told old.files _ (λ f at. at)
       go (halts.End e) (found, fault, ends) = here _ 1 (Unit {0}) old old (level_refused source found) e (no_step old) (level_quiet source found) ends (λ f at. rw fault refl)
 
-  compiled_put : (bytes text : List ℕ) (stop : Stop) → IsCompiled s circuit bytes text → CompileTree source circuit s stop (puts stop circuit bytes text)
+  compiled_put : (bytes text : List ℕ) (stop : Stop) → IsCompiled version s circuit bytes text → CompileTree version source circuit s stop (puts stop circuit bytes text)
   compiled_put bytes text stop c =
       rw c.within (c.made, bytes, c.compiled, c.file, files_fit c.made bytes c.file, ap (puts stop circuit bytes) c.text_is)
 
-  pub puts_circuit : (old new : Seen) (made : Vec ℕ Global × String Global) (given : List ℕ) (r : Result Ending Halt) → Compiles source circuit s (Ok made) → given ≡ made.0.items
-      → Puts circuit given (string_bytes made.1) old new r → WalksToPut (λ files. CompileTree source circuit s) 1 old new r
+  pub puts_circuit : (old new : Seen) (made : Vec ℕ Global × String Global) (given : List ℕ) (r : Result Ending Halt) → Compiles version source circuit s (Ok made) → given ≡ made.0.items
+      → Puts circuit given (string_bytes made.1) old new r → WalksToPut (λ files. CompileTree version source circuit s) 1 old new r
   puts_circuit old new made given r c same h =
-      at_put (λ files. CompileTree source circuit s) 1 circuit made.0.items (string_bytes made.1) old new r (λ files stop. compiled_put made.0.items (string_bytes made.1) stop c)
+      at_put (λ files. CompileTree version source circuit s) 1 circuit made.0.items (string_bytes made.1) old new r (λ files stop. compiled_put made.0.items (string_bytes made.1) stop c)
       (subst (λ bytes. Puts circuit bytes (string_bytes made.1) old new r) same h)

@@ -1,7 +1,8 @@
 -- The end of an evaluation.
 use Rattle.std.proofs.Common.{ℕ, List, Option, Some, None, Result, Ok, Err, inl, refl, sym, subst, arith}
 use Rattle.lzk_circuit.specs.Valid.{Wiring}
-use Rattle.lzk_circuit.specs.Wires.{wires_of, inputs_of}
+use Rattle.lzk_circuit.specs.Checks.{checks_of}
+use Rattle.lzk_circuit.specs.Wires.{inputs_of}
 use Rattle.lzk_field.specs.Ring.{Ops}
 use Rattle.lzk_outside.specs.Outside.{Files}
 use Rattle.lzk_cmd_files.specs.declared.ending.Ending.{Ending}
@@ -23,9 +24,9 @@ verdict_quiet lines (Some first) = record { put = refl; present = refl; cause = 
 module _ {A : Type 0} (o : Ops A) (number : A → ℕ) (c : Wiring A) where
   -- the walk that has the inputs
   abbrev pub WithInputs : List A → List A → Files → Stop → End → Type 0
-  WithInputs publics privates files stop end = Evaluated o number (wires_of o c.layers (inputs_of o publics privates)) end
+  WithInputs publics privates files stop end = Evaluated o number (checks_of o number c.layers (inputs_of o publics privates)) end
 
-  pub evaluates : (publics privates : List A) (new : Seen) (r : Result Ending Halt) → Evaluates o number (wires_of o c.layers (inputs_of o publics privates)) r → Walks (WithInputs publics privates) 3 new new r
+  pub evaluates : (publics privates : List A) (new : Seen) (r : Result Ending Halt) → Evaluates o number (checks_of o number c.layers (inputs_of o publics privates)) r → Walks (WithInputs publics privates) 3 new new r
   evaluates publics privates new (Ok e) is =
       let evaluated = is.1 in
       here (WithInputs publics privates) 3 ⊥ new new is.0 e (no_step new) (subst IsQuiet (sym evaluated.2) (verdict_quiet _ evaluated.0)) is.2 (λ f at. evaluated)

@@ -3,3 +3,5 @@ pub mod Evals
 pub mod Outputs
 pub mod ShaFiles
 pub mod Terms
+pub mod Upgrades
+pub mod Versions

@@ -1,11 +1,9 @@
--- The lines of the outputs, one output further.
-use Rattle.std.proofs.Common.{◌≡◌, ℕ, suc, ◌+◌, ◌<◌, List, [], ◌∷◌, ◌++◌, length, map, drop, Some, refl, sym, ap, ◌∙◌, append_assoc, add-one, drop-cons}
+-- The lines of the checks, and of the layers, one further.
+use Rattle.std.proofs.Common.{◌≡◌, ℕ, suc, ◌+◌, ◌<◌, List, ◌∷◌, ◌++◌, length, map, drop, Some, sym, ap, ◌∙◌, append_assoc, add-one, drop-cons}
 use Rattle.std.specs.Prelude.{slice_get, slice_index_or}
 use Rattle.std.proofs.lemmas.Option.{slice_get_within, get_or_from_slice_get}
 use Rattle.std.proofs.lemmas.List.{length-map, get_or-map}
 use Rattle.lzk_circuit.specs.declared.layer.Layer.{Layer}
-use Rattle.lzk_circuit.specs.Wires.{list_at, all_values, wires_of}
-use Rattle.lzk_field.specs.Ring.{Ops}
 use Rattle.lzk_cmd_files.specs.Lines.{output_line, layer_line}
 use Rattle.lzk_cmd_circuits.specs.Evaluated.{output_lines, layer_lines}
 
@@ -18,11 +16,6 @@ one_more number zero x xs k old new whole l is e before =
     ap (λ w. w ++ output_lines (k + 1) (drop (k + 1) (map number xs))) e
     ∙ append_assoc old (output_line k (number x)) (output_lines (k + 1) (drop (k + 1) (map number xs)))
     ∙ ap (λ ys. old ++ output_lines k ys) (sym at) ∙ before
-
--- the first list is the outputs'
-pub outputs_are : {A : Type 0} (o : Ops A) (layers : List (Layer A)) (inputs : List A) → list_at (all_values o layers inputs) 0 ≡ wires_of o layers inputs
-outputs_are o [] inputs = refl
-outputs_are o (layer ∷ layers) inputs = refl
 
 pub one_more_layer : {A : Type 0} (x : Layer A) (xs : List (Layer A)) (k : ℕ) (old new whole : List ℕ) → slice_get xs k ≡ Some x
     → new ≡ old ++ layer_line k x.wires (length x.terms) → old ++ layer_lines k (drop k xs) ≡ whole → new ++ layer_lines (k + 1) (drop (k + 1) xs) ≡ whole

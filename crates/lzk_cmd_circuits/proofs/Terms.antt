@@ -3,7 +3,7 @@ use Rattle.std.proofs.Common.{◌≡◌, ℕ, suc, ◌+◌, ◌≤◌, List, [],
 use Rattle.std.specs.Prelude.{slice_get}
 use Rattle.std.proofs.lemmas.Option.{slice_get_within, get_or_from_slice_get}
 use Rattle.lzk_circuit.specs.declared.layer.Layer.{Layer}
-use Rattle.lzk_circuit.specs.Valid.{AreLayers, IsValid, Wiring, under_of}
+use Rattle.lzk_circuit.specs.Valid.{AreLayersOf, IsValid, Wiring, input_width, under_of}
 use Rattle.lzk_field.specs.Ring.{Ops}
 use Rattle.lzk_cmd_circuits.specs.Compiled.{term_count}
 
@@ -11,12 +11,12 @@ terms_under : {A : Type 0} (inputs : ℕ) (layers : List (Layer A)) → term_cou
 terms_under inputs [] = refl
 terms_under inputs (layer ∷ layers) = omega (arith, terms_under inputs layers)
 
-few_terms : {A : Type 0} (o : Ops A) (inputs : ℕ) (layers : List (Layer A)) → AreLayers o inputs layers → term_count layers ≤ 2097152
-few_terms o inputs [] h = lit≤ tt
-few_terms o inputs (layer ∷ layers) h = omega (arith, h.0.terms, terms_under inputs layers)
+few_terms : {A : Type 0} (o : Ops A) (version inputs : ℕ) (layers : List (Layer A)) → AreLayersOf o version inputs layers → term_count layers ≤ 2097152
+few_terms o version inputs [] h = lit≤ tt
+few_terms o version inputs (layer ∷ layers) h = omega (arith, h.0.terms, terms_under inputs layers)
 
 pub few : {A : Type 0} (o : Ops A) (c : Wiring A) → IsValid o c → term_count c.layers ≤ 2097152
-few o c h = few_terms o _ c.layers h.layers
+few o c h = few_terms o c.version (input_width c) c.layers h.layers
 
 rest_is : {A : Type 0} (x : Layer A) (xs : List (Layer A)) (k : ℕ) → slice_get xs k ≡ Some x → term_count (drop k xs) ≡ length x.terms + term_count (drop (k + 1) xs)
 rest_is x xs k is =

@@ -1,25 +1,50 @@
 -- The circuit of a source.
-use Rattle.std.specs.Prelude.{◌≡◌, ℕ, ◌+◌, ◌≤◌, List, [], ◌∷◌, length, count_by, MatchOption}
+use Rattle.std.specs.Prelude.{◌≡◌, ℕ, ◌+◌, ◌≤◌, Option, List, [], ◌∷◌, length, count_by, MatchOption}
 use Rattle.lzk_circbytes.specs.declared.any.AnyCircuit.{AnyCircuit}
 use Rattle.lzk_circbytes.specs.declared.any.AnyCircuit.TheVariants.{Gold, Gf}
 use Rattle.lzk_circbytes.specs.Files.{CircuitBytes}
 use Rattle.lzk_circuit.specs.declared.layer.Layer.{Layer}
 use Rattle.lzk_expr.specs.Trees.{SourceTree, is_public, is_private}
-use Rattle.lzk_level.specs.Compiled.{field_of, publics_of, privates_of, depth_of, HasSourceValues, HasReducedLayers, source_layers, source_limit}
+use Rattle.lzk_level.specs.declared.fault.LevelFault.{LevelFault}
+use Rattle.lzk_level.specs.Compiled.{version_of, field_of, publics_of, privates_of, depth_of, HasSourceValues, HasReducedLayers, HasSourceChecks, HasReducedAsserting, source_layers, source_limit, source_limit_v2}
 use Rattle.lzk_outside.specs.Outside.{Files}
 use Rattle.lzk_cmd_files.specs.Decoded.{circuit_limit, source_files, level_refused}
 use Rattle.lzk_cmd_files.specs.Ends.{End, Stop, puts}
 use Rattle.lzk_cmd_files.specs.Formats.{At}
 use Rattle.lzk_cmd_files.specs.Lines.{compiled_line}
+use Rattle.lzk_cmd_words.specs.declared.words.Version.{Version}
+use Rattle.lzk_cmd_words.specs.declared.words.Version.TheVariants.{One, Two}
 
--- The circuit has the source's field and counts, the layers that its nodes need, and on every input the values of its asserts as outputs, one for one; and it is reduced.
+-- The circuit of version 1 has the source's field and counts, the layers that its nodes need, and on every input the values of its asserts as outputs, one for one; and it is reduced.
 pub record Compiled (source : SourceTree) (c : AnyCircuit) : Type 0 where
+  pub version_is : version_of c ≡ 1
   pub field_is : field_of c ≡ source.field_is
   pub publics : publics_of c ≡ count_by is_public source.statements
   pub privates : privates_of c ≡ count_by is_private source.statements
   pub layers : depth_of c ≡ source_layers source
   pub outputs : HasSourceValues source.statements c
   pub reduced : HasReducedLayers c
+
+-- The circuit of version 2 has the same, but in place of outputs it has checks: as many as the source has asserts, and on every input each assert's check is its value.
+-- The asserts' checks stand by depth from the largest, those of one depth in their order.
+pub record CompiledV2 (source : SourceTree) (c : AnyCircuit) : Type 0 where
+  pub version_is : version_of c ≡ 2
+  pub field_is : field_of c ≡ source.field_is
+  pub publics : publics_of c ≡ count_by is_public source.statements
+  pub privates : privates_of c ≡ count_by is_private source.statements
+  pub layers : depth_of c ≡ source_layers source
+  pub checks : HasSourceChecks source.statements c
+  pub reduced : HasReducedAsserting c
+
+-- the one or the other, by the version that is asked for
+abbrev pub CompiledAs : Version → SourceTree → AnyCircuit → Type 0
+CompiledAs One = Compiled
+CompiledAs Two = CompiledV2
+
+-- the first limit that the source passes in this version
+abbrev pub limit_as : Version → SourceTree → Option LevelFault
+limit_as One = source_limit
+limit_as Two = source_limit_v2
 
 -- the number of terms of all layers together
 abbrev pub term_count : {A : Type 0} → List (Layer A) → ℕ
@@ -34,14 +59,14 @@ term_total (Gf c) = term_count c.layers
 abbrev pub compiled_text : List ℕ → AnyCircuit → ℕ → List ℕ
 compiled_text name c bytes = compiled_line name (depth_of c) (term_total c) bytes
 
--- the file of some circuit of the source is put, and it is within the limit of circuit files
-abbrev pub PutsCompiled : SourceTree → List ℕ → Stop → End → Type 0
-PutsCompiled source name stop end =
-    (c : AnyCircuit) × (bytes : List ℕ) × Compiled source c × CircuitBytes c bytes × (length bytes ≤ circuit_limit) × (end ≡ puts stop name bytes (compiled_text name c (length bytes)))
+-- the file of some circuit of the source in this version is put, and it is within the limit of circuit files
+abbrev pub PutsCompiled : Version → SourceTree → List ℕ → Stop → End → Type 0
+PutsCompiled version source name stop end =
+    (c : AnyCircuit) × (bytes : List ℕ) × CompiledAs version source c × CircuitBytes c bytes × (length bytes ≤ circuit_limit) × (end ≡ puts stop name bytes (compiled_text name c (length bytes)))
 
 -- The walk has a source: it puts the file of a circuit of it, or ends where the source passes a limit.
-abbrev pub CompileTree : List ℕ → List ℕ → SourceTree → Stop → End → Type 0
-CompileTree source circuit s stop end = MatchOption (source_limit s) (PutsCompiled s circuit stop end) (λ fault. end ≡ level_refused source fault)
+abbrev pub CompileTree : Version → List ℕ → List ℕ → SourceTree → Stop → End → Type 0
+CompileTree version source circuit s stop end = MatchOption (limit_as version s) (PutsCompiled version s circuit stop end) (λ fault. end ≡ level_refused source fault)
 
-unfoldable pub CompileRun : List ℕ → List ℕ → Files → Stop → End → Type 0
-CompileRun source circuit files stop end = At source_files files stop 0 source end (λ s. CompileTree source circuit s stop end)
+unfoldable pub CompileRun : Version → List ℕ → List ℕ → Files → Stop → End → Type 0
+CompileRun version source circuit files stop end = At source_files files stop 0 source end (λ s. CompileTree version source circuit s stop end)

@@ -6,7 +6,8 @@ use Rattle.lzk_circbytes.specs.Files.{circuit_id, goldilocks, gf128}
 use Rattle.lzk_circbytes.specs.Numbered.{numbered}
 use Rattle.lzk_circuit.specs.declared.layer.Layer.{Layer}
 use Rattle.lzk_circuit.specs.Valid.{Wiring}
-use Rattle.lzk_circuit.specs.Wires.{wires_of, inputs_of, IsFirstNonzero}
+use Rattle.lzk_circuit.specs.Checks.{checks_of}
+use Rattle.lzk_circuit.specs.Wires.{inputs_of, IsFirstNonzero}
 use Rattle.lzk_field.specs.Ring.{Ops}
 use Rattle.lzk_goldilocks.specs.Prime.{p}
 use Rattle.lzk_goldilocks.specs.Elements as gold
@@ -17,27 +18,27 @@ use Rattle.lzk_cmd_files.specs.Formats.{At}
 use Rattle.lzk_cmd_files.specs.Lines.{output_line, satisfied_line, unsatisfied_line, counts_lines, layer_line}
 use Rattle.lzk_cmd_files.specs.Ends.{End, says, Stop}
 
--- the outputs' lines, from output k on
+-- the lines of the checks, from check k on
 abbrev pub output_lines : ℕ → List ℕ → List ℕ
 output_lines k [] = []
 output_lines k (value ∷ values) = output_line k value ++ output_lines (k + 1) values
 
--- satisfied where no output is other than 0
+-- satisfied where no check is other than 0
 abbrev pub verdict : {A : Type 0} → List ℕ → Option (ℕ × A) → End
 verdict lines None = says 0 (lines ++ satisfied_line)
 verdict lines (Some first) = says 1 (lines ++ unsatisfied_line first.0)
 
--- what is printed of these outputs
+-- what is printed of these checks: those of layer 0 are the circuit's outputs
 abbrev pub Evaluated : {A : Type 0} → Ops A → (A → ℕ) → List A → End → Type 0
-Evaluated {A} o number outputs end =
-    (first : Option (ℕ × A)) × IsFirstNonzero o outputs first × (end ≡ verdict (output_lines 0 (map number outputs)) first)
+Evaluated {A} o number checks end =
+    (first : Option (ℕ × A)) × IsFirstNonzero o checks first × (end ≡ verdict (output_lines 0 (map number checks)) first)
 
 -- a circuit over a field, on the inputs of two number files
 unfoldable pub EvalOver : {A : Type 0} → Ops A → ℕ → (A → ℕ) → Wiring A → List ℕ → List ℕ → Files → Stop → End → Type 0
 EvalOver o size number c public private files stop end =
     At (number_files size number c.publics) files stop 1 public end (λ publics.
     At (number_files size number c.privates) files stop 2 private end (λ privates.
-    Evaluated o number (wires_of o c.layers (inputs_of o publics privates)) end))
+    Evaluated o number (checks_of o number c.layers (inputs_of o publics privates)) end))
 
 abbrev pub EvalAny : AnyCircuit → List ℕ → List ℕ → Files → Stop → End → Type 0
 EvalAny (Gold c) = EvalOver gold.ops p gold.number c
@@ -54,7 +55,7 @@ layer_lines l (layer ∷ layers) = layer_line l layer.wires (length layer.terms)
 
 -- what is printed of a circuit over a field with this name, with this id
 abbrev pub shown : {A : Type 0} → List ℕ → List ℕ → Wiring A → List ℕ
-shown field id c = counts_lines field id c.publics c.privates (length c.layers) ++ layer_lines 0 c.layers
+shown field id c = counts_lines field c.version id c.publics c.privates (length c.layers) ++ layer_lines 0 c.layers
 
 abbrev pub shown_any : AnyCircuit → List ℕ
 shown_any (Gold c) = shown (codes "goldilocks") (circuit_id goldilocks (numbered gold.number c)) c

@@ -2,3 +2,4 @@ pub mod CircuitSteps
 pub mod Compiled
 pub mod Evaluated
 pub mod ShaCircuits
+pub mod Upgraded

@@ -1,11 +1,12 @@
 //! The command `compile`.
 
-ghost use Rattle.std.specs.Prelude.{◌≡◌, ◌≤◌, length, IfOk, string_bytes};
+ghost use Rattle.std.specs.Prelude.{◌≡◌, ◌≤◌, None, length, IfErr, IfOk, string_bytes};
 ghost use Rattle.lzk_circbytes.specs.Files.{CircuitBytes, IsFile};
 ghost use Rattle.lzk_circbytes.specs.Numbered.{shape};
 ghost use Rattle.lzk_expr.specs.View.{tree_of};
+ghost use Rattle.lzk_level.specs.Bounds.{IsFaultOf};
 ghost use Rattle.lzk_cmd_files.specs.Lines.{compiled_line};
-ghost use Rattle.lzk_cmd_circuits.specs.Compiled.{CompileRun, CompileTree, compiled_text, term_count};
+ghost use Rattle.lzk_cmd_circuits.specs.Compiled.{CompiledAs, CompileRun, CompileTree, compiled_text, limit_as, term_count};
 ghost use Rattle.lzk_cmd_files.specs.Decoded.{source_files};
 ghost use Rattle.lzk_cmd_files.specs.Seen.{seen};
 ghost use Rattle.lzk_cmd_files.specs.Walks.{Moves, OnlyReads, Decodes, Gives, WalksToPut};
@@ -14,9 +15,10 @@ ghost use Rattle.lzk_cmd_circuits.specs.CircuitSteps.{Compiles};
 use lzk_circbytes::{AnyCircuit, encode};
 use lzk_circuit::Circuit;
 use lzk_cmd_files::{Ending, Halt, Means, TEXT_LIMIT, lines, put_file, read_file};
+use lzk_cmd_words::Version;
 use lzk_expr::{Source, SourceError, parse};
 use lzk_field::{Field, Gate};
-use lzk_level::{LevelError, compile};
+use lzk_level::{LevelError, compile, compile_v2};
 use lzk_outside::Shelf;
 use std::alloc::{AllocError, Global};
 use std::marker::Sync;
@@ -64,7 +66,8 @@ pub fn file_over<F: Field>(
     name: &str,
 ) -> Result<(Vec<u8>, String), AllocError>
     ensures file { IfOk result (λ made. IsFile F.ops F.number_of (shape F.ID F.BYTES F.size) circuit.now made.0.items) }
-    ensures text { IfOk result (λ made. string_bytes made.1 ≡ compiled_line name.now (length circuit.now.layers) (term_count circuit.now.layers) (length made.0.items)) }
+    ensures text { IfOk result (λ made.
+        string_bytes made.1 ≡ compiled_line name.now (length circuit.now.layers) (term_count circuit.now.layers) (length made.0.items)) }
 {
     let bytes = encode(alloc, circuit)?;
     let terms = count_terms(circuit);
@@ -83,16 +86,29 @@ fn file_of(alloc: Global, circuit: &AnyCircuit, name: &str) -> Result<(Vec<u8>, 
     }
 }
 
+// The circuit of a source in this version.
+fn in_version(alloc: Global, source: &Source, version: Version) -> Result<AnyCircuit, LevelError>
+    ensures compiled { IfOk result (CompiledAs version (tree_of source.now)) }
+    ensures within { IfOk result (λ _. limit_as version (tree_of source.now) ≡ None) }
+    ensures fault { IfErr result (IsFaultOf (limit_as version (tree_of source.now))) }
+{
+    match version {
+        Version::One => compile(alloc, source),
+        Version::Two => compile_v2(alloc, source),
+    }
+}
+
 // The file of a source's circuit and the line that tells of it, or the limit that the source passes.
 fn compiled(
     alloc: Global,
     name: &str,
     source: &Source,
     circuit: &str,
+    version: Version,
 ) -> Result<(Vec<u8>, String), Halt>
-    ensures { Compiles name.now circuit.now (tree_of source.now) result }
+    ensures { Compiles version name.now circuit.now (tree_of source.now) result }
 {
-    match compile(alloc, source) {
+    match in_version(alloc, source, version) {
         Ok(made) => Ok(file_of(alloc, &made, circuit)?),
         Err(LevelError::OutOfMemory) => Err(Halt::Memory),
         Err(LevelError::Fault(fault)) => {
@@ -108,25 +124,28 @@ fn compile_tree<S: Shelf>(
     name: &str,
     source: &Source,
     circuit: &str,
+    version: Version,
     shelf: &mut S,
 ) -> Result<Ending, Halt>
-    ensures walks { WalksToPut (λ files. CompileTree name.now circuit.now (tree_of source.now)) 1 (seen S.Shelf shelf.old) (seen S.Shelf shelf.new) result }
+    ensures walks { WalksToPut (λ files. CompileTree version name.now circuit.now (tree_of source.now)) 1
+        (seen S.Shelf shelf.old) (seen S.Shelf shelf.new) result }
     ensures moves { Moves (seen S.Shelf shelf.old) (seen S.Shelf shelf.new) }
 {
-    let (bytes, text) = compiled(alloc, name, source, circuit)?;
+    let (bytes, text) = compiled(alloc, name, source, circuit, version)?;
     put_file(alloc, shelf, circuit, &bytes, text)
 }
 
-/// Compiles a source file to a circuit file.
+/// Compiles a source file to a circuit file of this version.
 pub fn compile_source<R: Threads + Sync, S: Shelf, G: Gate>(
     means: &Means<'_, R, G>,
     source: &str,
     circuit: &str,
+    version: Version,
     shelf: &mut S,
 ) -> Result<Ending, Halt>
-    ensures walks { WalksToPut (CompileRun source.now circuit.now) 0 (seen S.Shelf shelf.old) (seen S.Shelf shelf.new) result }
+    ensures walks { WalksToPut (CompileRun version source.now circuit.now) 0 (seen S.Shelf shelf.old) (seen S.Shelf shelf.new) result }
     ensures moves { Moves (seen S.Shelf shelf.old) (seen S.Shelf shelf.new) }
 {
     let tree = read_source(means.alloc, shelf, source)?;
-    compile_tree(means.alloc, source, &tree, circuit, shelf)
+    compile_tree(means.alloc, source, &tree, circuit, version, shelf)
 }

@@ -1,7 +1,8 @@
 //! The command `eval`.
 
-ghost use Rattle.std.specs.Prelude.{◌≡◌, ◌<◌, length, map, IfOk, string_bytes};
-ghost use Rattle.lzk_circuit.specs.Wires.{inputs_of, list_at, wires_of};
+ghost use Rattle.std.specs.Prelude.{◌≡◌, length, map, IfOk, string_bytes};
+ghost use Rattle.lzk_circuit.specs.Checks.{checks_of};
+ghost use Rattle.lzk_circuit.specs.Wires.{inputs_of};
 ghost use Rattle.lzk_cmd_circuits.specs.Evaluated.{EvalOver, EvalAny, EvalRun, output_lines};
 ghost use Rattle.lzk_cmd_files.specs.Seen.{seen};
 ghost use Rattle.lzk_cmd_files.specs.Walks.{OnlyReads, Walks};
@@ -16,28 +17,26 @@ use std::alloc::{AllocError, Global};
 use std::marker::Sync;
 use std::thread::Threads;
 
-// The lines of the outputs.
+// The lines of the checks.
 fn output_lines<F: Field>(
     alloc: Global,
     values: &Values<F>,
     count: u32,
 ) -> Result<String, AllocError>
-    requires some { 0 < length values.now }
-    requires count { count ≡ length (list_at values.now 0) }
-    ensures { IfOk result (λ s. string_bytes s ≡ output_lines 0 (map F.number_of (list_at values.now 0))) }
+    requires count { count ≡ length values.now.checks }
+    ensures { IfOk result (λ s. string_bytes s ≡ output_lines 0 (map F.number_of values.now.checks)) }
 {
     let mut text = String::new(alloc);
     for k in 0..count {
-        lines::push_output(&mut text, k, values.wire(0, k).number())?;
+        lines::push_output(&mut text, k, values.check(k).number())?;
     }
     Ok(text)
 }
 
 // How a run ends that has these values.
 fn evaluation<F: Field>(alloc: Global, values: &Values<F>, count: u32) -> Result<Ending, AllocError>
-    requires some { 0 < length values.now }
-    requires count { count ≡ length (list_at values.now 0) }
-    ensures { IfOk result (IsEvaluation F.ops F.number_of (list_at values.now 0)) }
+    requires count { count ≡ length values.now.checks }
+    ensures { IfOk result (IsEvaluation F.ops F.number_of values.now.checks) }
 {
     let mut text = output_lines(alloc, values, count)?;
     match values.first_nonzero() {
@@ -61,11 +60,11 @@ fn evaluate<F: Field>(
 ) -> Result<Ending, Halt>
     requires publics { length publics.now ≡ circuit.now.publics }
     requires privates { length privates.now ≡ circuit.now.privates }
-    ensures { Evaluates F.ops F.number_of (wires_of F.ops circuit.now.layers (inputs_of F.ops publics.now privates.now)) result }
+    ensures { Evaluates F.ops F.number_of (checks_of F.ops F.number_of circuit.now.layers (inputs_of F.ops publics.now privates.now)) result }
 {
     let mut values = Values::new(alloc, circuit)?;
     circuit.eval(publics, privates, &mut values);
-    let ending = evaluation(alloc, &values, circuit.width(0));
+    let ending = evaluation(alloc, &values, circuit.checks());
     drop(values);
     Ok(ending?)
 }

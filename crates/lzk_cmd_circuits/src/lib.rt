@@ -1,4 +1,4 @@
-//! The commands of `zk` that make, show and evaluate circuits: `compile`, `shacircuit`, `show` and `eval`.
+//! The commands of `zk` that make, show and evaluate circuits: `compile`, `upgrade`, `shacircuit`, `show` and `eval`.
 //!
 //! A caller writes
 //!
@@ -11,8 +11,10 @@ mod compiling;
 mod evaluating;
 mod sha_circuits;
 mod showing;
+mod upgrading;
 
 pub use compiling::compile_source;
 pub use evaluating::eval;
 pub use sha_circuits::shacircuit;
 pub use showing::show;
+pub use upgrading::upgrade;

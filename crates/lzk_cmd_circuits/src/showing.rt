@@ -30,6 +30,7 @@ fn shown_text<F: Field>(
     let mut text = lines::tell_counts(
         alloc,
         field,
+        circuit.version(),
         id,
         circuit.publics(),
         circuit.privates(),

@@ -1,5 +1,5 @@
 -- The lines that a run prints.
-use Rattle.std.specs.Prelude.{ℕ, List, [], ◌∷◌, ◌++◌, Option, Some, None, codes}
+use Rattle.std.specs.Prelude.{ℕ, ◌==◌, List, [], ◌∷◌, ◌++◌, Option, Some, None, cond, codes}
 use Rattle.std.specs.Fmt.{decimal}
 use Rattle.hex.specs.Hex.{encode_lower}
 use Rattle.lzk_circbytes.specs.declared.fault.ByteKind.{ByteKind}
@@ -42,6 +42,7 @@ byte_kind_name bytes.Order = codes "Order"
 byte_kind_name bytes.Range = codes "Range"
 byte_kind_name bytes.Constant = codes "Constant"
 byte_kind_name bytes.Trailing = codes "Trailing"
+byte_kind_name bytes.Assertion = codes "Assertion"
 
 abbrev pub number_kind_name : NumberKind → List ℕ
 number_kind_name numbers.Syntax = codes "Syntax"
@@ -76,6 +77,10 @@ abbrev pub compiled_line : List ℕ → ℕ → ℕ → ℕ → List ℕ
 compiled_line name layers terms bytes =
     codes "compiled " ++ (name ++ (codes ": layers " ++ (decimal layers ++ (codes ", terms " ++ (decimal terms ++ (codes ", " ++ (decimal bytes ++ line (codes " bytes"))))))))
 
+-- a circuit was put in version 2
+abbrev pub upgraded_line : List ℕ → ℕ → List ℕ
+upgraded_line name bytes = codes "upgraded " ++ (name ++ (codes ": " ++ (decimal bytes ++ line (codes " bytes"))))
+
 abbrev pub reading_line : List ℕ → List ℕ
 reading_line name = line (codes "fault: reading " ++ name)
 
@@ -94,10 +99,14 @@ pair_line key value = key ++ (codes " " ++ line value)
 abbrev pub count_line : List ℕ → ℕ → List ℕ
 count_line key count = key ++ (codes " " ++ line (decimal count))
 
--- a circuit's field, its id and its counts
-abbrev pub counts_lines : List ℕ → List ℕ → ℕ → ℕ → ℕ → List ℕ
-counts_lines field digest publics privates layers =
-    pair_line (codes "field") field ++ pair_line (codes "id") (encode_lower digest) ++ count_line (codes "public") publics ++ count_line (codes "private") privates ++ count_line (codes "layers") layers
+-- a circuit's version, where it is 2
+abbrev pub version_lines : ℕ → List ℕ
+version_lines version = cond (version == 2) (pair_line (codes "version") (codes "2")) []
+
+-- a circuit's field, its version where it is 2, its id and its counts
+abbrev pub counts_lines : List ℕ → ℕ → List ℕ → ℕ → ℕ → ℕ → List ℕ
+counts_lines field version digest publics privates layers =
+    pair_line (codes "field") field ++ version_lines version ++ pair_line (codes "id") (encode_lower digest) ++ count_line (codes "public") publics ++ count_line (codes "private") privates ++ count_line (codes "layers") layers
 
 abbrev pub layer_line : ℕ → ℕ → ℕ → List ℕ
 layer_line l wires terms = codes "layer " ++ (decimal l ++ (codes ": wires " ++ (decimal wires ++ (codes " terms " ++ line (decimal terms)))))
@@ -149,7 +158,7 @@ told_line name (Some digest) bytes = hashed_line name digest bytes
 abbrev pub unfit_line : List ℕ → ℕ → List ℕ
 unfit_line name len = codes "refused: " ++ (name ++ (codes " is not for " ++ (decimal len ++ line (codes " bytes"))))
 
--- the first output that is not 0, with its value
+-- the first check that is not 0, with its value
 abbrev pub nonzero_line : ℕ → ℕ → List ℕ
 nonzero_line k value = codes "unsatisfied at output " ++ (decimal k ++ (codes " = " ++ line (decimal value)))
 

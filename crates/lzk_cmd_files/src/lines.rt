@@ -57,6 +57,7 @@ fn byte_kind_name(kind: ByteKind) -> &'static str
         ByteKind::Range => "Range",
         ByteKind::Constant => "Constant",
         ByteKind::Trailing => "Trailing",
+        ByteKind::Assertion => "Assertion",
     }
 }
 
@@ -156,6 +157,13 @@ pub fn tell_compiled(
     format!(in alloc; "compiled {name}: layers {layers}, terms {terms}, {bytes} bytes\n")
 }
 
+/// The line of a circuit that was put in version 2.
+pub fn tell_upgraded(alloc: Global, name: &str, bytes: usize) -> Result<String, AllocError>
+    ensures { IfOk result (λ s. string_bytes s ≡ lines.upgraded_line name.now bytes) }
+{
+    format!(in alloc; "upgraded {name}: {bytes} bytes\n")
+}
+
 // The line of a message's proof, by the digits of the digest.
 fn tell_digits(alloc: Global, name: &str, digits: &str, bytes: usize) -> Result<String, AllocError>
     ensures { IfOk result (λ s. string_bytes s ≡ lines.digits_line name.now digits.now bytes) }
@@ -200,28 +208,28 @@ pub fn tell_demo(alloc: Global, n: u32, layers: u32, bytes: usize) -> Result<Str
     format!(in alloc; "demo {n}: layers {layers}, proof {bytes} bytes, accepted\n")
 }
 
-/// The line of the first output that is not 0.
+/// The line of the first check that is not 0.
 pub fn tell_nonzero(alloc: Global, output: u32, value: u128) -> Result<String, AllocError>
     ensures { IfOk result (λ s. string_bytes s ≡ lines.nonzero_line output value) }
 {
     format!(in alloc; "unsatisfied at output {output} = {value}\n")
 }
 
-/// Puts the line of output k behind a text.
+/// Puts the line of check k behind a text.
 pub fn push_output(text: &mut String, k: u32, value: u128) -> Result<(), AllocError>
     ensures { OnOk result (string_bytes text.new ≡ string_bytes text.old ++ lines.output_line k value) }
 {
     write!(text, "output {k} = {value}\n")
 }
 
-/// Puts the line of outputs that are all 0 behind a text.
+/// Puts the line of checks that are all 0 behind a text.
 pub fn push_satisfied(text: &mut String) -> Result<(), AllocError>
     ensures { OnOk result (string_bytes text.new ≡ string_bytes text.old ++ lines.satisfied_line) }
 {
     text.push_str("satisfied\n")
 }
 
-/// Puts the line of the first output that is not 0 behind a text.
+/// Puts the line of the first check that is not 0 behind a text.
 pub fn push_unsatisfied(text: &mut String, k: u32) -> Result<(), AllocError>
     ensures { OnOk result (string_bytes text.new ≡ string_bytes text.old ++ lines.unsatisfied_line k) }
 {
@@ -240,20 +248,33 @@ fn push_count(text: &mut String, key: &str, count: u32) -> Result<(), AllocError
     write!(text, "{key} {count}\n")
 }
 
-/// The lines of a circuit's field, id and counts.
+// Puts the line of a circuit's version behind a text, where it is 2.
+fn push_version(text: &mut String, version: u8) -> Result<(), AllocError>
+    ensures { OnOk result (string_bytes text.new ≡ string_bytes text.old ++ lines.version_lines version) }
+{
+    if version == 2 {
+        push_pair(text, "version", "2")
+    } else {
+        Ok(())
+    }
+}
+
+/// The lines of a circuit's field, of its version where it is 2, and of its id and counts.
 pub fn tell_counts(
     alloc: Global,
     field: &str,
+    version: u8,
     digest: &[u8],
     publics: u32,
     privates: u32,
     layers: u32,
 ) -> Result<String, AllocError>
-    ensures { IfOk result (λ s. string_bytes s ≡ lines.counts_lines field.now digest.now publics privates layers) }
+    ensures { IfOk result (λ s. string_bytes s ≡ lines.counts_lines field.now version digest.now publics privates layers) }
 {
     let digits = hex::encode(alloc, digest)?;
     let mut text = String::new(alloc);
     push_pair(&mut text, "field", field)?;
+    push_version(&mut text, version)?;
     push_pair(&mut text, "id", &digits)?;
     push_count(&mut text, "public", publics)?;
     push_count(&mut text, "private", privates)?;

@@ -1,8 +1,8 @@
 -- What `prove` and `sha256` put is accepted.
-use Rattle.std.proofs.Common.{◌≡◌, inl, inr, ℕ, suc, Bool, true, false, List, length, Option, Some, None, Result, Ok, Err, refl, sym, ap, ◌∙◌, subst, arith}
-use Rattle.std.specs.Prelude.{◌≤◌, MatchBool, MatchOption, nat_lt}
+use Rattle.std.proofs.Common.{◌≡◌, ◌⊎◌, inl, inr, ℕ, suc, Bool, true, false, List, length, Option, Some, None, Result, Ok, Err, refl, sym, ap, ◌∙◌, subst, arith}
+use Rattle.std.specs.Prelude.{◌≤◌, ◌==◌, MatchBool, MatchOption, nat_lt}
 use Rattle.std.proofs.lemmas.List.{length-map}
-use Rattle.std.proofs.lemmas.Bool.{ltb-false}
+use Rattle.std.proofs.lemmas.Bool.{and_parts, eqb-true, ltb-false}
 use Rattle.hex.specs.declared.error.FromHexError.{FromHexError}
 use Rattle.hex.specs.Hex.{decode_of}
 use Rattle.hex.proofs.HexLemmas.{decode_of-ok}
@@ -10,12 +10,17 @@ use Rattle.lzk_circbytes.specs.declared.any.AnyCircuit.{AnyCircuit}
 use Rattle.lzk_circbytes.specs.declared.any.AnyCircuit.TheVariants.{Gold, Gf}
 use Rattle.sha2.specs.Sha256.{sha256}
 use Rattle.lzk_circbytes.specs.Files.{CircuitBytes}
-use Rattle.lzk_circuit.specs.Valid.{Wiring, IsValid}
-use Rattle.lzk_circuit.specs.Wires.{wires_of, inputs_of, IsFirstNonzero}
+use Rattle.lzk_circuit.specs.Checks.{checks_of}
+use Rattle.lzk_circuit.specs.Valid.{Wiring, input_width, IsValid}
+use Rattle.lzk_circuit.specs.Wires.{inputs_of, IsFirstNonzero}
+use Rattle.lzk_circuit.proofs.CheckLaws.{one-checks}
+use Rattle.lzk_circuit.proofs.DepthLaws.{inputs-count}
+use Rattle.lzk_circuit.proofs.VersionLaws.{valid-one}
 use Rattle.lzk_field.specs.Coding.{Coding}
 use Rattle.lzk_field.specs.Ring.{Ops}
 use Rattle.lzk_field.specs.Words.{seeded_word}
 use Rattle.lzk_goldilocks.specs.Elements as gold
+use Rattle.lzk_goldilocks.specs.Prime.{p}
 use Rattle.lzk_goldilocks.specs.declared.element.Gold.{Gold as GoldElement}
 use Rattle.lzk_gf128.specs.Elements as gf
 use Rattle.lzk_complete.specs.Complete.{Complete}
@@ -24,10 +29,11 @@ use Rattle.lzk_outside.specs.Outside.{Files}
 use Rattle.lzk_sha_circuit.specs.Circuits.{MessagesSatisfy}
 use Rattle.lzk_sha_circuit.specs.Digest.{AreBytes}
 use Rattle.lzk_sha_circuit.specs.Inputs.{sha_private}
+use Rattle.lzk_sha_circuit.specs.Places.{private_count}
 use Rattle.lzk_sha_circuit.proofs.Lookups.{length-sha_private}
 use Rattle.lzk_verify.specs.Verdict.{IsVerdict}
 use Rattle.lzk_verify.specs.declared.verdict.Verdict.TheVariants.{Accepted}
-use Rattle.lzk_cmd_runs.specs.Accepted.{PutsAccepted, PutsAcceptedAny, ProvedIsAccepted, HashedIsAccepted, HasShaOutputs, HashesAreSatisfied}
+use Rattle.lzk_cmd_runs.specs.Accepted.{PutsAccepted, PutsAcceptedAny, ProvedIsAccepted, HashedIsAccepted, HasShaOutputs, HasShaChecks, HashesAreSatisfied}
 use Rattle.lzk_cmd_files.specs.Decoded.{circuit_files, number_files}
 use Rattle.lzk_cmd_files.specs.Ends.{End, Stop, Nowhere, AtRead, AtPut, stops_at, says, missing_file, puts}
 use Rattle.lzk_cmd_files.specs.Formats.{Format, HasFile, Has, AtBytes, At}
@@ -143,13 +149,24 @@ put_status Nowhere name bytes text e = omega (arith, e)
 put_status (AtRead k) name bytes text e = omega (arith, e)
 put_status AtPut name bytes text e = omega (arith, e)
 
-satisfies : MessagesSatisfy → (c : Wiring GoldElement) (message : List ℕ) → length message ≤ 55 → AreBytes message → HasShaOutputs (length message) c → (proof session seed : List ℕ) (stop : Stop) (end : End) → ProvesHash c message proof session seed stop end → end.status ≡ 1 → ⊥
+-- the checks of a circuit of version 1 with these counts are its outputs
+sha_checks : (c : Wiring GoldElement) (len : ℕ) → IsValid gold.ops c → is_for len c ≡ true → HasShaChecks len c ⊎ ((c.version ≡ 1) × HasShaOutputs len c) → HasShaChecks len c
+sha_checks c len valid fits (inl checks) = checks
+sha_checks c len valid fits (inr (version, outputs)) = λ public private publics privates.
+    let counts = and_parts (c.publics == 8) (c.privates == private_count len) fits in
+    let few : c.publics ≡ 8 = eqb-true c.publics 8 counts.0 in
+    let many : c.privates ≡ private_count len = eqb-true c.privates (private_count len) counts.1 in
+    let inputs = inputs_of gold.ops public private in
+    let count : length inputs ≡ input_width c = inputs-count gold.ops public private ∙ omega (arith, publics, privates, few, many) in
+    one-checks gold.ops p gold.number gold.of_number 8 gold.laws (input_width c) c.layers inputs count valid.some (valid-one gold.ops c version valid) ∙ outputs public private publics privates
+
+satisfies : MessagesSatisfy → (c : Wiring GoldElement) (message : List ℕ) → length message ≤ 55 → AreBytes message → HasShaChecks (length message) c → (proof session seed : List ℕ) (stop : Stop) (end : End) → ProvesHash c message proof session seed stop end → end.status ≡ 1 → ⊥
 satisfies all c message few bytes is proof session seed stop end (None, first, (xs, file, fits, same)) one = put_status stop proof xs _ (sym (ap (λ (x : End). x.status) same) ∙ one)
 satisfies all c message few bytes is proof session seed stop end (Some found, first, same) one =
-    let outputs = is (digest_inputs message) (sha_private gold.of_number message) (length-digest message) (length-sha_private gold.of_number message gold.ops.zero) in
+    let checks = is (digest_inputs message) (sha_private gold.of_number message) (length-digest message) (length-sha_private gold.of_number message gold.ops.zero) in
     let zeros = all message few bytes in
-    none_nonzero gold.ops (wires_of gold.ops c.layers (inputs_of gold.ops (digest_inputs message) (sha_private gold.of_number message))) found
-    (subst (λ (xs : List GoldElement). IsFirstNonzero gold.ops xs None) (sym outputs) zeros) first
+    none_nonzero gold.ops (checks_of gold.ops gold.number c.layers (inputs_of gold.ops (digest_inputs message) (sha_private gold.of_number message))) found
+    (subst (λ (xs : List GoldElement). IsFirstNonzero gold.ops xs None) (sym checks) zeros) first
 
 pub hashes_satisfied : MessagesSatisfy → HashesAreSatisfied
 unfolding HashRun
@@ -160,8 +177,8 @@ hashes_satisfied all words files stop end circuit proof message seed session c i
     let bytes : found.1.bytes ≡ has.bytes = cc in
     let same : found.0 ≡ Gold c = circuits.one has.bytes found.0 (Gold c) (subst (λ (xs : List ℕ). circuit_files.means xs found.0) bytes found.1.means) has.means in
     let whole : HashAny circuit (Gold c) (message_of message) proof (session_of session) (seed_of seed) stop end = subst (λ (any : AnyCircuit). HashAny circuit any (message_of message) proof (session_of session) (seed_of seed) stop end) same found.2 in
-    refute (is_for (length (message_of message)) c) whole
+    refute (is_for (length (message_of message)) c) refl whole
   where
-    refute : (b : Bool) → MatchBool b (ProvesHash c (message_of message) proof (session_of session) (seed_of seed) stop end) (end ≡ says 3 (unfit_line circuit (length (message_of message)))) → ⊥
-    refute true proves = satisfies all c (message_of message) (message_fits words circuit proof message seed session is) (message_bytes message (decode_of message) refl) sha proof (session_of session) (seed_of seed) stop end proves one
-    refute false unfit = omega (arith, ap (λ (x : End). x.status) unfit, one)
+    refute : (b : Bool) → is_for (length (message_of message)) c ≡ b → MatchBool b (ProvesHash c (message_of message) proof (session_of session) (seed_of seed) stop end) (end ≡ says 3 (unfit_line circuit (length (message_of message)))) → ⊥
+    refute true fits proves = satisfies all c (message_of message) (message_fits words circuit proof message seed session is) (message_bytes message (decode_of message) refl) (sha_checks c (length (message_of message)) has.means.valid fits sha) proof (session_of session) (seed_of seed) stop end proves one
+    refute false other unfit = omega (arith, ap (λ (x : End). x.status) unfit, one)

@@ -5,11 +5,13 @@ use Rattle.lzk_batch.specs.Lists.{Listed}
 use Rattle.lzk_circbytes.specs.declared.any.AnyCircuit.{AnyCircuit}
 use Rattle.lzk_circbytes.specs.declared.any.AnyCircuit.TheVariants.{Gold, Gf}
 use Rattle.sha2.specs.Sha256.{sha256}
+use Rattle.lzk_circbytes.proofs.Whole.{one_file}
 use Rattle.lzk_circuit.specs.Valid.{Wiring}
-use Rattle.lzk_circuit.specs.Wires.{wires_of, inputs_of, IsFirstNonzero}
+use Rattle.lzk_circuit.specs.Checks.{checks_of}
+use Rattle.lzk_circuit.specs.Wires.{inputs_of, IsFirstNonzero}
 use Rattle.lzk_demo.specs.Demo.{demo_tree}
 use Rattle.lzk_expr.specs.Trees.{SourceTree}
-use Rattle.lzk_level.specs.Compiled.{source_layers, source_limit}
+use Rattle.lzk_level.specs.Compiled.{depth_of, source_layers}
 use Rattle.lzk_level.specs.declared.fault.LevelFault.{LevelFault}
 use Rattle.lzk_field.specs.Coding.{Coding}
 use Rattle.lzk_field.specs.Ring.{Ops, Laws}
@@ -26,22 +28,25 @@ use Rattle.lzk_outside.specs.Outside.{Files}
 use Rattle.lzk_sha_circuit.specs.Inputs.{sha_private}
 use Rattle.lzk_verify.proofs.OneVerdict.{one_verdict}
 use Rattle.lzk_cmd_runs.specs.Batched.{JobRead, AnyRead, GoldRead, GfRead, IsTold, AreTold, JobOver, JobAny, JobsRun, BatchRun, list_files, among, batch_end}
-use Rattle.lzk_cmd_circuits.specs.Compiled.{CompileRun, PutsCompiled, term_total}
+use Rattle.lzk_cmd_circuits.specs.Compiled.{CompiledAs, CompileRun, PutsCompiled, limit_as, term_total}
 use Rattle.lzk_cmd_runs.specs.Demo.{DemoRun}
 use Rattle.lzk_cmd_files.specs.Decoded.{circuit_files, number_files, source_files, proof_files, level_refused}
 use Rattle.lzk_cmd_files.specs.Ends.{End, Stop, stops_at, says, missing_file, refused_words, puts}
 use Rattle.lzk_cmd_files.specs.Formats.{Format, AtBytes, At}
 use Rattle.lzk_cmd_circuits.specs.ShaCircuits.{ShaCircuitRun}
+use Rattle.lzk_cmd_circuits.specs.Upgraded.{UpgradeRun, PutsUpgraded, upgraded_any}
 use Rattle.lzk_cmd_runs.specs.Hashed.{ProvesHash, HashAny, HashRun, digest_inputs, is_for}
 use Rattle.lzk_cmd_words.specs.Digits.{message_of, seed_of, session_of}
 use Rattle.lzk_cmd_words.specs.Keys.{number_of}
-use Rattle.lzk_cmd_files.specs.Lines.{larger_line, reading_line, told_line, unfit_line}
+use Rattle.lzk_cmd_files.specs.Lines.{larger_line, reading_line, told_line, unfit_line, upgraded_line}
 use Rattle.lzk_cmd_runs.specs.OneEnd.{PutAlike, DemoAlike, AreOne, OneEnd}
 use Rattle.lzk_cmd_runs.specs.Proved.{PutsProof, Proves, ProveOver, ProveAny, ProveRun, nonzero_end}
 use Rattle.lzk_cmd_circuits.specs.Evaluated.{Evaluated, EvalOver, EvalAny, EvalRun, ShowRun, verdict, output_lines}
 use Rattle.lzk_cmd_runs.specs.Run.{CommandRun}
 use Rattle.lzk_cmd_verify.specs.Verified.{Judged, VerifyOver, VerifyAny, VerifyRun, verdict_end, gold_coding, gf_coding}
-use Rattle.lzk_cmd_words.specs.Words.{Command, Eval, Compile, Show, Prove, Verify, Batch, Demo, ShaCircuit, Sha256, command_of}
+use Rattle.lzk_cmd_words.specs.declared.words.Version.{Version}
+use Rattle.lzk_cmd_words.specs.declared.words.Version.TheVariants.{One, Two}
+use Rattle.lzk_cmd_words.specs.Words.{Command, Eval, Compile, Upgrade, Show, Prove, Verify, Batch, Demo, ShaCircuit, Sha256, command_of}
 use Rattle.lzk_cmd_runs.proofs.Lists as lists
 use Rattle.lzk_cmd_runs.proofs.Lists.{among_lawful}
 use Rattle.lzk_cmd_files.proofs.Laws as formats
@@ -70,7 +75,7 @@ module _ (files : Files) (stop : Stop) (a b : End) (P : Type 0) (same : a ≡ b 
       go bytes (inr (fault, broken, h)) (inl (x, is, g)) = absurd (law.not_both bytes x fault is broken)
       go bytes (inr (f, broken, h)) (inr (e, again, g)) = same (h ∙ law.one_refusal name bytes f e broken again ∙ sym g)
 
--- the first output that is not 0
+-- the first value that is not 0
 one_first : {A : Type 0} (o : Ops A) (xs : List A) (f g : Option (ℕ × A)) → IsFirstNonzero o xs f → IsFirstNonzero o xs g → f ≡ g
 one_first o xs None None h k = refl
 one_first o xs None (Some (i, v)) h k = absurd (k.2 (sym k.1 ∙ h i k.0))
@@ -84,8 +89,8 @@ one_first o xs (Some (i, v)) (Some (j, w)) h k =
     at : (i j : ℕ) → (i < j → ⊥) → (j < i → ⊥) → i ≡ j
     at i j upper lower = omega (arith, upper, lower)
 
-one_evaluation : {A : Type 0} (o : Ops A) (number : A → ℕ) (outputs : List A) (a b : End) → Evaluated o number outputs a → Evaluated o number outputs b → a ≡ b
-one_evaluation o number outputs a b h k = h.2 ∙ ap (verdict (output_lines 0 (map number outputs))) (one_first o outputs h.0 k.0 h.1 k.1) ∙ sym k.2
+one_evaluation : {A : Type 0} (o : Ops A) (number : A → ℕ) (checks : List A) (a b : End) → Evaluated o number checks a → Evaluated o number checks b → a ≡ b
+one_evaluation o number checks a b h k = h.2 ∙ ap (verdict (output_lines 0 (map number checks))) (one_first o checks h.0 k.0 h.1 k.1) ∙ sym k.2
 
 one_eval_over : {A : Type 0} (o : Ops A) (size : ℕ) (number : A → ℕ) (injective : (x y : A) → number x ≡ number y → x ≡ y) (c : Wiring A) (public private : List ℕ) (files : Files) (stop : Stop) (a b : End)
     → EvalOver o size number c public private files stop a → EvalOver o size number c public private files stop b → a ≡ b
@@ -93,7 +98,7 @@ unfolding EvalOver
 one_eval_over o size number injective c public private files stop a b =
     one_step files stop a b (a ≡ b) (λ e. e) (number_files size number c.publics) (formats.numbers size number injective c.publics) 1 public _ _ (λ publics.
     one_step files stop a b (a ≡ b) (λ e. e) (number_files size number c.privates) (formats.numbers size number injective c.privates) 2 private _ _ (λ privates.
-    one_evaluation o number (wires_of o c.layers (inputs_of o publics privates)) a b))
+    one_evaluation o number (checks_of o number c.layers (inputs_of o publics privates)) a b))
 
 one_eval_any : (c : AnyCircuit) (public private : List ℕ) (files : Files) (stop : Stop) (a b : End) → EvalAny c public private files stop a → EvalAny c public private files stop b → a ≡ b
 one_eval_any (Gold c) public private files stop a b h k = one_eval_over gold.ops p gold.number gold.Gold-ext c public private files stop a b h k
@@ -163,24 +168,38 @@ one_shacircuit len circuit files stop a b (c, xs, is, file, fits, e) (d, ys, js,
   second_is = rw js.layers at f;
 }
 
-one_compile : (source circuit : List ℕ) (files : Files) (stop : Stop) (a b : End) → CompileRun source circuit files stop a → CompileRun source circuit files stop b
+-- a circuit of a source has its layers, in either version
+layers_as : (version : Version) (s : SourceTree) (c : AnyCircuit) → CompiledAs version s c → depth_of c ≡ source_layers s
+layers_as One s c is = is.layers
+layers_as Two s c is = is.layers
+
+one_compile : (version : Version) (source circuit : List ℕ) (files : Files) (stop : Stop) (a b : End) → CompileRun version source circuit files stop a → CompileRun version source circuit files stop b
     → (a ≡ b) ⊎ PutAlike stop circuit a b
 unfolding CompileRun
-one_compile source circuit files stop a b = one_step files stop a b _ inl source_files formats.sources 0 source _ _ (λ s. go s (source_limit s))
+one_compile version source circuit files stop a b = one_step files stop a b _ inl source_files formats.sources 0 source _ _ (λ s. go s (limit_as version s))
   where
-    alike : (s : SourceTree) → PutsCompiled s circuit stop a → PutsCompiled s circuit stop b → PutAlike stop circuit a b
+    alike : (s : SourceTree) → PutsCompiled version s circuit stop a → PutsCompiled version s circuit stop b → PutAlike stop circuit a b
     alike s (c, xs, is, file, fits, e) (d, ys, js, other, also, f) = record {
       layers = source_layers s;
       first = record { bytes = xs; terms = term_total c };
       second = record { bytes = ys; terms = term_total d };
-      first_is = rw is.layers at e;
-      second_is = rw js.layers at f;
+      first_is = rw (layers_as version s c is) at e;
+      second_is = rw (layers_as version s d js) at f;
     }
 
-    go : (s : SourceTree) (limit : Option LevelFault) → MatchOption limit (PutsCompiled s circuit stop a) (λ fault. a ≡ level_refused source fault) → MatchOption limit (PutsCompiled s circuit stop b) (λ fault. b ≡ level_refused source fault)
+    go : (s : SourceTree) (limit : Option LevelFault) → MatchOption limit (PutsCompiled version s circuit stop a) (λ fault. a ≡ level_refused source fault) → MatchOption limit (PutsCompiled version s circuit stop b) (λ fault. b ≡ level_refused source fault)
         → (a ≡ b) ⊎ PutAlike stop circuit a b
     go s None h k = inr (alike s h k)
     go s (Some fault) h k = inl (h ∙ sym k)
+
+-- a circuit has one file in version 2
+one_upgrade : (old new : List ℕ) (files : Files) (stop : Stop) (a b : End) → UpgradeRun old new files stop a → UpgradeRun old new files stop b → a ≡ b
+unfolding UpgradeRun
+one_upgrade old new files stop a b = one_step files stop a b (a ≡ b) (λ e. e) circuit_files formats.circuits 0 old _ _ go
+  where
+    go : (c : AnyCircuit) → PutsUpgraded c new stop a → PutsUpgraded c new stop b → a ≡ b
+    go c (xs, file, fits, e) (ys, other, also, f) =
+        e ∙ ap (λ (bytes : List ℕ). puts stop new bytes (upgraded_line new (length bytes))) (one_file (upgraded_any c) xs ys file other) ∙ sym f
 
 -- ---- the jobs of a batch
 
@@ -234,7 +253,8 @@ module _ (gold_file : OneFile gold.ops gold_coding) (gf_file : OneFile gf.ops gf
   unfolding EvalRun ShowRun ProveRun VerifyRun HashRun
   one_command (Eval circuit public private) files stop a b h k =
       one_step files stop a b (a ≡ b) (λ e. e) circuit_files formats.circuits 0 circuit _ _ (λ c. one_eval_any c public private files stop a b) h k
-  one_command (Compile source circuit) files stop a b h k = one_compile source circuit files stop a b h k
+  one_command (Compile source circuit version) files stop a b h k = one_compile version source circuit files stop a b h k
+  one_command (Upgrade old new) files stop a b h k = one_upgrade old new files stop a b h k
   one_command (Show circuit) files stop a b h k = one_step files stop a b (a ≡ b) (λ e. e) circuit_files formats.circuits 0 circuit _ _ (λ c x y. x ∙ sym y) h k
   one_command (Prove circuit public private proof seed session) files stop a b h k =
       one_step files stop a b (a ≡ b) (λ e. e) circuit_files formats.circuits 0 circuit _ _ (λ c. one_prove_any gold_file gf_file c public private proof (session_of session) (seed_of seed) files stop a b) h k

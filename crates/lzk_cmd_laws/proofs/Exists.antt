@@ -12,8 +12,10 @@ use Rattle.lzk_circbytes.specs.Spelling.{file_of}
 use Rattle.lzk_circbytes.proofs.OneFile.{file_of-IsFile}
 use Rattle.lzk_circbytes.proofs.Sizes.{files_fit}
 use Rattle.sha2.specs.Sha256.{sha256}
-use Rattle.lzk_circuit.specs.Valid.{Wiring, IsValid}
-use Rattle.lzk_circuit.specs.Wires.{wires_of, inputs_of, IsFirstNonzero}
+use Rattle.lzk_circuit.specs.Checks.{checks_of}
+use Rattle.lzk_circuit.specs.Valid.{Wiring, wiring_of, IsValid}
+use Rattle.lzk_circuit.specs.Wires.{inputs_of, IsFirstNonzero}
+use Rattle.lzk_circuit.proofs.VersionLaws.{upgraded-valid}
 use Rattle.lzk_expr.specs.declared.ast.FieldId.TheVariants.{Goldilocks, Gf2_128}
 use Rattle.lzk_expr.specs.Trees.{SourceTree}
 use Rattle.lzk_expr.specs.Sources.{TextReads, IsWellFormed}
@@ -25,31 +27,34 @@ use Rattle.lzk_field.specs.Words.{seeded_word}
 use Rattle.lzk_goldilocks.specs.Prime.{p}
 use Rattle.lzk_goldilocks.specs.Elements as gold
 use Rattle.lzk_gf128.specs.Elements as gf
-use Rattle.lzk_level.specs.Compiled.{source_limit}
 use Rattle.lzk_level.specs.declared.fault.LevelFault.{LevelFault}
-use Rattle.lzk_level.specs.SomeCircuit.{IsCircuitOf, HasSomeCircuit}
+use Rattle.lzk_level.specs.SomeCircuit.{IsCircuitOf, IsCircuitOfV2, HasSomeCircuit}
 use Rattle.lzk_level.proofs.SomeCircuits.{some_circuit}
+use Rattle.lzk_level.proofs.SomeCircuitsV2.{some_circuit_v2}
 use Rattle.lzk_honest.specs.Proving.{HaveCounts, SomeFile, FilesFit, words_of}
 use Rattle.lzk_outside.specs.Outside.{Files}
 use Rattle.lzk_sha_circuit.specs.Circuits.{SomeShaCircuit}
 use Rattle.lzk_sha_circuit.specs.Inputs.{sha_private}
 use Rattle.lzk_verify.proofs.SomeVerdict.{some_verdict}
 use Rattle.lzk_cmd_runs.specs.Batched.{JobRead, AnyRead, GoldRead, GfRead, TooMany, IsTold, AreTold, JobOver, JobAny, JobsRun, BatchRun, list_files, among, refused_among, total_limit, batch_end}
-use Rattle.lzk_cmd_circuits.specs.Compiled.{Compiled, CompileRun, CompileTree, PutsCompiled, compiled_text}
+use Rattle.lzk_cmd_circuits.specs.Compiled.{Compiled, CompiledV2, CompiledAs, CompileRun, CompileTree, PutsCompiled, compiled_text, limit_as}
 use Rattle.lzk_cmd_runs.specs.Demo.{DemoRun, demo_end}
 use Rattle.lzk_cmd_files.specs.Decoded.{circuit_files, number_files, source_files, proof_files, level_refused, text_limit, proof_limit}
 use Rattle.lzk_cmd_files.specs.Ends.{End, Stop, AtFile, stops_at, says, missing_file, refused_words, puts}
 use Rattle.lzk_cmd_files.specs.Formats.{Format, HasFile, AtBytes, At}
 use Rattle.lzk_cmd_circuits.specs.ShaCircuits.{ShaCircuitRun}
+use Rattle.lzk_cmd_circuits.specs.Upgraded.{UpgradeRun, PutsUpgraded, upgraded_any}
 use Rattle.lzk_cmd_runs.specs.Hashed.{ProvesHash, HashAny, HashRun, digest_inputs, is_for}
 use Rattle.lzk_cmd_words.specs.Digits.{message_of, seed_of, session_of}
-use Rattle.lzk_cmd_files.specs.Lines.{larger_line, reading_line, told_line, unfit_line}
+use Rattle.lzk_cmd_files.specs.Lines.{larger_line, reading_line, told_line, unfit_line, upgraded_line}
 use Rattle.lzk_cmd_runs.specs.Proved.{PutsProof, Proves, ProveOver, ProveAny, ProveRun, nonzero_end}
 use Rattle.lzk_cmd_circuits.specs.Evaluated.{Evaluated, EvalOver, EvalAny, EvalRun, ShowRun, verdict, output_lines, shown_any}
 use Rattle.lzk_cmd_runs.specs.Run.{CommandRun}
 use Rattle.lzk_cmd_runs.specs.SomeEnd.{AreBytes, SomeEnd}
 use Rattle.lzk_cmd_verify.specs.Verified.{Judged, VerifyOver, VerifyAny, VerifyRun, verdict_end, gold_coding, gf_coding}
-use Rattle.lzk_cmd_words.specs.Words.{Command, Eval, Compile, Show, Prove, Verify, Batch, Demo, ShaCircuit, Sha256, command_of}
+use Rattle.lzk_cmd_words.specs.declared.words.Version.{Version}
+use Rattle.lzk_cmd_words.specs.declared.words.Version.TheVariants.{One, Two}
+use Rattle.lzk_cmd_words.specs.Words.{Command, Eval, Compile, Upgrade, Show, Prove, Verify, Batch, Demo, ShaCircuit, Sha256, command_of}
 use Rattle.lzk_cmd_words.specs.Keys.{number_of}
 use Rattle.lzk_cmd_words.proofs.Counts.{HasNumber, has_number}
 use Rattle.lzk_cmd_runs.proofs.DemoCounts.{length_private, number_fits}
@@ -64,7 +69,24 @@ use Rattle.lzk_goldilocks.specs.declared.element.Gold.{Gold as GoldElement}
 
 -- what is said of a source's circuit, in the words of a run
 compiled_of : (source : SourceTree) (c : AnyCircuit) → IsCircuitOf source c → Compiled source c
-compiled_of source c is = record { field_is = is.field_is; publics = is.publics; privates = is.privates; layers = is.layers; outputs = is.outputs; reduced = is.reduced }
+compiled_of source c is = record { version_is = is.version_is; field_is = is.field_is; publics = is.publics; privates = is.privates; layers = is.layers; outputs = is.outputs; reduced = is.reduced }
+
+compiled_v2_of : (source : SourceTree) (c : AnyCircuit) → IsCircuitOfV2 source c → CompiledV2 source c
+compiled_v2_of source c is = record { version_is = is.version_is; field_is = is.field_is; publics = is.publics; privates = is.privates; layers = is.layers; checks = is.checks; reduced = is.reduced }
+
+-- a source within the limits of a version has a circuit of it
+some_as : (version : Version) (source : SourceTree) → IsWellFormed source → limit_as version source ≡ None → (c : AnyCircuit) × (bytes : List ℕ) × CompiledAs version source c × CircuitBytes c bytes
+some_as One source formed kept = let (c, bytes, is, file) = some_circuit source formed kept in (c, bytes, compiled_of source c is, file)
+some_as Two source formed kept = let (c, bytes, is, file) = some_circuit_v2 source formed kept in (c, bytes, compiled_v2_of source c is, file)
+
+-- a circuit has a file in version 2
+some_upgraded : (c : AnyCircuit) (bytes : List ℕ) → CircuitBytes c bytes → (file : List ℕ) × CircuitBytes (upgraded_any c) file
+some_upgraded (Gold c) bytes is =
+    let made = wiring_of 2 c.publics c.privates c.layers in
+    (file_of (shape 1 8 p) (numbered gold.number made), file_of-IsFile gold.ops p gold.number gold.of_number 8 gold.laws 1 made (upgraded-valid gold.ops c is.valid))
+some_upgraded (Gf c) bytes is =
+    let made = wiring_of 2 c.publics c.privates c.layers in
+    (file_of (shape 2 16 (2 ^ 128)) (numbered gf.number made), file_of-IsFile gf.ops (2 ^ 128) gf.number gf.of_number 16 gf.laws 2 made (upgraded-valid gf.ops c is.valid))
 
 fields_apart : Gf2_128 ≡ Goldilocks → ⊥
 fields_apart e = cc
@@ -97,7 +119,7 @@ module _ (files : Files) (stop : Stop) (k : ℕ) (name : List ℕ) where
       → ((x : X) → (end : End) × next end x) → (end : End) × At format files stop k name end (next end)
   some_at format total next then = some_with format total next (λ bytes x means. then x)
 
--- outputs have a first one that is not 0, or none
+-- values have a first one that is not 0, or none
 module _ {A : Type 0} (o : Ops A) (number : A → ℕ) (element : ℕ → A) (size bytes : ℕ) (laws : Laws o size number element bytes) where
   is_zero : (x : A) → number x ≡ 0 → x ≡ o.zero
   is_zero x e = sym (laws.numbers.element_number x) ∙ ap element (e ∙ sym laws.numbers.zero_number) ∙ laws.numbers.element_number o.zero
@@ -122,15 +144,15 @@ module _ {A : Type 0} (o : Ops A) (number : A → ℕ) (element : ℕ → A) (si
       go true e (first, h) = behind first (is_zero x (eqb-true (number x) 0 e)) h
       go false e rest = (Some (0, x), (omega arith, refl, λ same. eqb-false (number x) 0 e (ap number same ∙ laws.numbers.zero_number), λ g less. absurd (omega (arith, less))))
 
-  some_evaluation : (outputs : List A) → (end : End) × Evaluated o number outputs end
-  some_evaluation outputs = let first = some_first outputs in (verdict (output_lines 0 (map number outputs)) first.0, (first.0, first.1, refl))
+  some_evaluation : (checks : List A) → (end : End) × Evaluated o number checks end
+  some_evaluation checks = let first = some_first checks in (verdict (output_lines 0 (map number checks)) first.0, (first.0, first.1, refl))
 
   some_over : (c : Wiring A) (public private : List ℕ) (files : Files) (stop : Stop) → (end : End) × EvalOver o size number c public private files stop end
   unfolding EvalOver
   some_over c public private files stop =
       some_at files stop 1 public (number_files size number c.publics) (λ text has. numbers_total o size number element bytes laws 0 c.publics text) _ (λ publics.
       some_at files stop 2 private (number_files size number c.privates) (λ text has. numbers_total o size number element bytes laws 0 c.privates text) _ (λ privates.
-      some_evaluation (wires_of o c.layers (inputs_of o publics privates))))
+      some_evaluation (checks_of o number c.layers (inputs_of o publics privates))))
 
 some_eval : (c : AnyCircuit) (public private : List ℕ) (files : Files) (stop : Stop) → (end : End) × EvalAny c public private files stop end
 some_eval (Gold c) public private files stop = some_over gold.ops gold.number gold.of_number p 8 gold.laws c public private files stop
@@ -187,10 +209,10 @@ module _ (files : Files) (stop : Stop) (good : AreBytes files) (next : End → A
   some_job (Gold c) job k taken = some_job_over gold.ops gold_coding gold.laws GoldRead (λ read one h. h) c job k taken
   some_job (Gf c) job k taken = some_job_over gf.ops gf_coding gf.laws GfRead (λ read one h. h) c job k taken
 
--- inputs have a proof or a first output that is not 0, where valid circuits have a proof's file
+-- inputs have a proof or a first check that is not 0, where valid circuits have a proof's file
 module _ {A : Type 0} (o : Ops A) (e : Coding A) (laws : Laws o e.size e.number e.element e.bytes) (some : SomeFile o e) (fit : FilesFit o e) (c : Wiring A) (valid : IsValid o c) (proof session seed : List ℕ) (files : Files) (stop : Stop) where
   some_proves : (digest : Option (List ℕ)) (publics privates : List A) → HaveCounts c publics privates → (end : End) × Proves o e c proof digest session seed publics privates stop end
-  some_proves digest publics privates counts = go (some_first o e.number e.element e.size e.bytes laws (wires_of o c.layers (inputs_of o publics privates)))
+  some_proves digest publics privates counts = go (some_first o e.number e.element e.size e.bytes laws (checks_of o e.number c.layers (inputs_of o publics privates)))
     where
       word : ℕ → ℕ
       word = words_of (seeded_word seed)
@@ -201,7 +223,7 @@ module _ {A : Type 0} (o : Ops A) (e : Coding A) (laws : Laws o e.size e.number 
           (puts stop proof file.0 (told_line proof digest (length file.0)), (file.0, file.1, fit c session publics privates word file.0 valid file.1, refl))
       found (Some first) = (nonzero_end e.number first, refl)
 
-      go : (first : Option (ℕ × A)) × IsFirstNonzero o (wires_of o c.layers (inputs_of o publics privates)) first → (end : End) × Proves o e c proof digest session seed publics privates stop end
+      go : (first : Option (ℕ × A)) × IsFirstNonzero o (checks_of o e.number c.layers (inputs_of o publics privates)) first → (end : End) × Proves o e c proof digest session seed publics privates stop end
       go (first, is) = let behind = found first in (behind.0, (first, is, behind.1))
 
   some_prove_over : (public private : List ℕ) → (end : End) × ProveOver o e c public private proof session seed files stop end
@@ -218,7 +240,7 @@ pub record HaveFiles : Type 0 where
   pub gf_file : SomeFile gf.ops gf_coding
   pub gf_fits : FilesFit gf.ops gf_coding
   pub gold_accepted : Complete gold.ops gold_coding
-  pub demo_inputs : (n : ℕ) → 1 ≤ n → (c : Wiring GoldElement) → InputsSatisfy gold.ops gold.of_number n c
+  pub demo_inputs : (n : ℕ) → 1 ≤ n → (c : Wiring GoldElement) → InputsSatisfy gold.ops gold.number gold.of_number n c
   pub sha_circuit : SomeShaCircuit
   pub demo_circuit : (n : ℕ) → 1 ≤ n → n ≤ 16384 → HasSomeCircuit (demo_tree n)
 
@@ -230,13 +252,13 @@ module _ (have : HaveFiles) (files : Files) (stop : Stop) where
   circuits_there : AreBytes files → (name bytes : List ℕ) → HasFile (files name) circuit_files.limit bytes → ((c : AnyCircuit) × circuit_files.means bytes c) ⊎ ((fault : _) × circuit_files.breaks bytes fault)
   circuits_there good name bytes has = circuits_total bytes (good name bytes has.there)
 
-  some_tree : (source circuit : List ℕ) (s : SourceTree) → IsWellFormed s → (end : End) × CompileTree source circuit s stop end
-  some_tree source circuit s formed = go (source_limit s) refl
+  some_tree : (version : Version) (source circuit : List ℕ) (s : SourceTree) → IsWellFormed s → (end : End) × CompileTree version source circuit s stop end
+  some_tree version source circuit s formed = go (limit_as version s) refl
     where
-      go : (limit : Option LevelFault) → source_limit s ≡ limit → (end : End) × MatchOption limit (PutsCompiled s circuit stop end) (λ fault. end ≡ level_refused source fault)
+      go : (limit : Option LevelFault) → limit_as version s ≡ limit → (end : End) × MatchOption limit (PutsCompiled version s circuit stop end) (λ fault. end ≡ level_refused source fault)
       go None kept =
-          let (c, bytes, is, file) = some_circuit s formed kept in
-          (puts stop circuit bytes (compiled_text circuit c (length bytes)), (c, bytes, compiled_of s c is, file, files_fit c bytes file, refl))
+          let (c, bytes, is, file) = some_as version s formed kept in
+          (puts stop circuit bytes (compiled_text circuit c (length bytes)), (c, bytes, is, file, files_fit c bytes file, refl))
       go (Some fault) passed = (level_refused source fault, refl)
 
   some_jobs : AreBytes files → (list : List Listed) (k taken : ℕ) (jobs : List AnyRead) → (ends : List End) × AreTold jobs ends → (end : End) × JobsRun list k taken jobs files stop end
@@ -249,20 +271,27 @@ module _ (have : HaveFiles) (files : Files) (stop : Stop) where
   unfolding BatchRun
   some_batch good list = some_at files stop 0 list list_files (λ text has. lists.total text) _ (λ entries. some_jobs good entries 1 0 [] ([], tt))
 
-  some_compile : (source circuit : List ℕ) → (end : End) × CompileRun source circuit files stop end
+  some_compile : (version : Version) (source circuit : List ℕ) → (end : End) × CompileRun version source circuit files stop end
   unfolding CompileRun
-  some_compile source circuit =
-      some_file files stop 0 source text_limit (λ end text. AtBytes source_files source text end (λ s. CompileTree source circuit s stop end)) (λ text has. let (read, reads) = some_reading text in go text has read reads)
+  some_compile version source circuit =
+      some_file files stop 0 source text_limit (λ end text. AtBytes source_files source text end (λ s. CompileTree version source circuit s stop end)) (λ text has. let (read, reads) = some_reading text in go text has read reads)
     where
-      go : (text : List ℕ) → HasFile (files source) text_limit text → (read : Result SourceTree SourceFault) → TextReads text read → (end : End) × AtBytes source_files source text end (λ s. CompileTree source circuit s stop end)
-      go text has (Ok s) reads = let behind = some_tree source circuit s (record { text = text; short = has.fits; reads = reads }) in (behind.0, inl (s, reads, behind.1))
+      go : (text : List ℕ) → HasFile (files source) text_limit text → (read : Result SourceTree SourceFault) → TextReads text read → (end : End) × AtBytes source_files source text end (λ s. CompileTree version source circuit s stop end)
+      go text has (Ok s) reads = let behind = some_tree version source circuit s (record { text = text; short = has.fits; reads = reads }) in (behind.0, inl (s, reads, behind.1))
       go text has (Err fault) reads = (source_files.refused source fault, inr (fault, reads, refl))
+
+  some_upgrade : AreBytes files → (old new : List ℕ) → (end : End) × UpgradeRun old new files stop end
+  unfolding UpgradeRun
+  some_upgrade good old new = some_with files stop 0 old circuit_files (circuits_there good old) _ (λ bytes c means. go c (some_upgraded c bytes means))
+    where
+      go : (c : AnyCircuit) → (file : List ℕ) × CircuitBytes (upgraded_any c) file → (end : End) × PutsUpgraded c new stop end
+      go c (file, is) = (puts stop new file (upgraded_line new (length file)), (file, is, files_fit (upgraded_any c) file is, refl))
 
   some_demo : (n : ℕ) (seed : List ℕ) → 1 ≤ n → HasSomeCircuit (demo_tree n) → (end : End) × DemoRun n seed files stop end
   unfolding DemoRun
   some_demo n seed some (Gold c, bytes, is, file) =
       let counts : HaveCounts c (demo_public gold.ops n) (demo_private gold.ops n) = (sym (is.publics ∙ demo_publics n), length_private gold.ops n ∙ sym (is.privates ∙ demo_privates n)) in
-      let satisfied = have.demo_inputs n some c (is.publics ∙ demo_publics n) (is.privates ∙ demo_privates n) is.outputs in
+      let satisfied = have.demo_inputs n some c is.version_is file.valid (is.publics ∙ demo_publics n) (is.privates ∙ demo_privates n) is.outputs in
       let made = have.gold_file c [] (demo_public gold.ops n) (demo_private gold.ops n) (words_of (seeded_word seed)) file.valid counts (λ i. mod-lt (seeded_word seed i) (pow_pos 128)) in
       let accepted = have.gold_accepted c [] (demo_public gold.ops n) (demo_private gold.ops n) (words_of (seeded_word seed)) made.0 file.valid counts satisfied made.1 in
       (demo_end n c made.0, (c, made.0, record { compiled = compiled_of (demo_tree n) (Gold c) is; file = made.1; accepted = accepted }, refl))
@@ -287,7 +316,8 @@ module _ (have : HaveFiles) (files : Files) (stop : Stop) where
   some_command : (command : Command) → HasNumber command → AreBytes files → (end : End) × CommandRun command files stop end
   unfolding EvalRun ShowRun ProveRun VerifyRun HashRun
   some_command (Eval circuit public private) number good = some_at files stop 0 circuit circuit_files (circuits_there good circuit) _ (λ c. some_eval c public private files stop)
-  some_command (Compile source circuit) number good = some_compile source circuit
+  some_command (Compile source circuit version) number good = some_compile version source circuit
+  some_command (Upgrade old new) number good = some_upgrade good old new
   some_command (Show circuit) number good = some_at files stop 0 circuit circuit_files (circuits_there good circuit) _ (λ c. (says 0 (shown_any c), refl))
   some_command (Prove circuit public private proof seed session) number good =
       some_with files stop 0 circuit circuit_files (circuits_there good circuit) _ (λ bytes c means. some_prove have bytes c means public private proof (session_of session) (seed_of seed) files stop)

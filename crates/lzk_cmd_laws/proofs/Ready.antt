@@ -26,6 +26,7 @@ use Rattle.lzk_verify.specs.declared.verdict.Verdict.TheVariants as verdicts
 use Rattle.lzk_cmd_files.specs.Ends.{End, Stop, Nowhere, AtRead, AtPut, MayStop, Leaves}
 use Rattle.lzk_cmd_files.specs.Formats.{Format, HasFile, Has, AtBytes, At}
 use Rattle.lzk_cmd_circuits.specs.ShaCircuits.{ShaCircuitRun}
+use Rattle.lzk_cmd_circuits.specs.Upgraded.{UpgradeRun}
 use Rattle.lzk_cmd_runs.specs.Hashed.{ProvesHash, HashAny, HashRun, digest_inputs}
 use Rattle.lzk_cmd_words.specs.Digits.{message_of, seed_of, session_of}
 use Rattle.lzk_cmd_runs.specs.Outcome.{Answers, Outcome}
@@ -34,7 +35,7 @@ use Rattle.lzk_cmd_circuits.specs.Evaluated.{EvalOver, EvalAny, EvalRun, ShowRun
 use Rattle.lzk_cmd_runs.specs.Run.{CommandRun, RunOf}
 use Rattle.lzk_cmd_runs.specs.Sights.{Before, After}
 use Rattle.lzk_cmd_verify.specs.Verified.{VerifyOver, VerifyAny, VerifyRun, verdict_end, gold_coding, gf_coding}
-use Rattle.lzk_cmd_words.specs.Words.{Command, Eval, Compile, Show, Prove, Verify, Batch, Demo, ShaCircuit, Sha256, command_of}
+use Rattle.lzk_cmd_words.specs.Words.{Command, Eval, Compile, Upgrade, Show, Prove, Verify, Batch, Demo, ShaCircuit, Sha256, command_of}
 use Rattle.lzk_cmd_runs.proofs.Lists as lists
 use Rattle.lzk_cmd_runs.proofs.Lists.{among_lawful}
 use Rattle.lzk_cmd_files.proofs.Laws as laws
@@ -190,11 +191,14 @@ prove_any_done (Gold c) public private proof session seed files end has h = prov
 prove_any_done (Gf c) public private proof session seed files end has h = prove_over_done gf.ops gf_coding c public private proof session seed files end has h
 
 ready_done : (files : Files) (command : Command) (end : End) → IsReady files command → CommandRun command files Nowhere end → Done end
-unfolding EvalRun CompileRun ShowRun ProveRun VerifyRun DemoRun ShaCircuitRun HashRun
+unfolding EvalRun CompileRun UpgradeRun ShowRun ProveRun VerifyRun DemoRun ShaCircuitRun HashRun
 ready_done files (Eval circuit public private) end has h = eval_any_done has.0 public private files end has.2 (ready circuit_files laws.circuits files circuit 0 end has.0 _ has.1 h)
-ready_done files (Compile source circuit) end has h =
+ready_done files (Compile source circuit version) end has h =
     let made = rw has.1.1 at (ready source_files laws.sources files source 0 end has.0 _ has.1.0 h) in
     subst Done (sym made.5) (inl refl)
+ready_done files (Upgrade old new) end has h =
+    let put = ready circuit_files laws.circuits files old 0 end has.0 _ has.1 h in
+    subst Done (sym put.3) (inl refl)
 ready_done files (Show circuit) end has h = subst Done (sym (ready circuit_files laws.circuits files circuit 0 end has.0 _ has.1 h)) (inl refl)
 ready_done files (Prove circuit public private proof seed session) end has h =
     prove_any_done has.0 public private proof _ _ files end has.2 (ready circuit_files laws.circuits files circuit 0 end has.0 _ has.1 h)

@@ -1,5 +1,5 @@
 -- Bytes of a format mean something, or have a fault.
-use Rattle.std.proofs.Common.{◌≡◌, ◌⊎◌, ℕ, ◌<◌, ◌-◌, ◌^◌, Bool, true, false, cond, ltb, eqb, ◌&&◌, List, [], ◌∷◌, length, map, reverse, Option, None, Result, Ok, Err, inl, inr, refl, sym, ap, subst, ◌∙◌, mod-eq_of_lt}
+use Rattle.std.proofs.Common.{◌≡◌, ◌⊎◌, ℕ, ◌+◌, ◌<◌, ◌-◌, ◌^◌, Bool, true, false, cond, ltb, eqb, ◌&&◌, List, [], ◌∷◌, length, map, reverse, Option, None, Result, Ok, Err, inl, inr, refl, sym, ap, subst, ◌∙◌, arith, mod-eq_of_lt}
 use Rattle.std.specs.List.{AllByRecursion, list_any}
 use Rattle.std.proofs.lemmas.Bool.{eqb-true, and_parts, or_cases}
 use Rattle.lzk_circbytes.specs.declared.any.AnyCircuit.{AnyCircuit}
@@ -8,7 +8,7 @@ use Rattle.lzk_circbytes.specs.declared.fault.ByteKind.{ByteKind}
 use Rattle.lzk_circbytes.specs.declared.fault.ByteKind.TheVariants.{Magic, FieldId}
 use Rattle.lzk_circbytes.specs.Fits.{FitAlong, FitsTerm, FitsLayer, AreConstants, FitsWiring}
 use Rattle.lzk_circbytes.specs.Files.{IsFile, goldilocks, gf128, CircuitBytes, CircuitFaultAt, begins_with, field_at, circuit_at}
-use Rattle.lzk_circbytes.specs.Numbered.{Shape, shape, numbered_term, numbered_layer, numbered}
+use Rattle.lzk_circbytes.specs.Numbered.{Shape, shape, numbered_term, numbered_layer, numbered, coefs_of}
 use Rattle.lzk_circbytes.specs.Reading.{Stop as Left, ◌>>=◌, stops, wiring_at, as_before}
 use Rattle.lzk_circbytes.proofs.Ascending.{Has}
 use Rattle.lzk_circbytes.proofs.FileLaws.{map-reverse, valid_from_fits, file_from_read}
@@ -18,7 +18,7 @@ use Rattle.lzk_circbytes.proofs.Whole.{fault_found}
 use Rattle.lzk_circbytes.proofs.Wirings.{wiring_take}
 use Rattle.lzk_circuit.specs.declared.layer.Term.{Term}
 use Rattle.lzk_circuit.specs.declared.layer.Layer.{Layer}
-use Rattle.lzk_circuit.specs.Valid.{Under, above_layer, Wiring, wiring, IsValid}
+use Rattle.lzk_circuit.specs.Valid.{Under, above_layer, Wiring, wiring_of, IsValid}
 use Rattle.lzk_expr.specs.declared.fault.NumberFault.{NumberFault}
 use Rattle.lzk_expr.specs.Numbers.{NumberText, IsNumberFault, numbers_of}
 use Rattle.lzk_expr.proofs.Laws.{text_take}
@@ -47,6 +47,16 @@ module _ {A : Type 0} (o : Ops A) (size : ℕ) (number : A → ℕ) (element : �
   number_again : (n : ℕ) → n < size → number (element n) ≡ n
   number_again n less = laws.numbers.number_element n ∙ mod-eq_of_lt less
 
+  coefs_below : (version : ℕ) (cs : List ℕ) → ((n : ℕ) → Has cs n → n < size) → (n : ℕ) → Has (coefs_of version cs) n → n < size
+  coefs_below version cs small n = go (eqb version 2)
+    where
+      some : 0 < size
+      some = let points = laws.numbers.points in omega (arith, points)
+
+      go : (b : Bool) → Has (cond b (0 ∷ cs) cs) n → n < size
+      go true h = elim (or_cases (eqb n 0) (list_any (eqb n) cs) h) [ inl same ↦ subst (λ k. k < size) (sym (eqb-true n 0 same)) some | inr later ↦ small n later ]
+      go false h = small n h
+
   terms_again : (cs : List ℕ) → ((n : ℕ) → Has cs n → n < size) → (wires below : ℕ) (before : Option (Term ℕ)) (ts : List (Term ℕ)) → FitAlong as_before (FitsTerm cs wires below) before ts → map (numbered_term number) (map of_term ts) ≡ ts
   terms_again cs small wires below before [] h = refl
   terms_again cs small wires below before (t ∷ ts) h =
@@ -63,14 +73,14 @@ module _ {A : Type 0} (o : Ops A) (size : ℕ) (number : A → ℕ) (element : �
   here = shape id bytes size
 
   -- what is read is a circuit's
-  pub some_file : (rest : List ℕ) (w : Wiring ℕ) → IsBytes rest → wiring_at here rest ≡ Ok w → (c : Wiring A) × IsFile o number here c (76 ∷ 90 ∷ 67 ∷ 49 ∷ id ∷ rest)
-  some_file rest w fits e =
-      let s = wiring_take here rest w fits e in
+  pub some_file : (version : ℕ) → (version ≡ 1) ⊎ (version ≡ 2) → (rest : List ℕ) (w : Wiring ℕ) → IsBytes rest → wiring_at here version rest ≡ Ok w → (c : Wiring A) × IsFile o number here c (76 ∷ 90 ∷ 67 ∷ (48 + version) ∷ id ∷ rest)
+  some_file version known rest w fits e =
+      let s = wiring_take here version rest w fits e in
       let layers = map of_layer s.layers in
-      let same : map (numbered_layer number) layers ≡ s.layers = layers_again s.cs (constants_below here 0 s.cs s.fits.rising) _ s.layers s.fits.each in
-      let c = wiring s.publics s.privates (reverse layers) in
-      let valid : IsValid o c = valid_from_fits o size number element bytes laws id s.publics s.privates layers s.cs (subst (λ ls. FitsWiring here s.publics s.privates ls s.cs) (sym same) s.fits) in
-      let numbers : numbered number c ≡ w = ap (λ ls. wiring s.publics s.privates ls) (map-reverse (numbered_layer number) layers ∙ ap reverse same) ∙ sym s.is in
+      let same : map (numbered_layer number) layers ≡ s.layers = layers_again (coefs_of version s.cs) (coefs_below version s.cs (constants_below here 0 s.cs s.fits.rising)) _ s.layers s.fits.each in
+      let c = wiring_of version s.publics s.privates (reverse layers) in
+      let valid : IsValid o c = valid_from_fits o size number element bytes laws id version s.publics s.privates layers s.cs known (subst (λ ls. FitsWiring here version s.publics s.privates ls s.cs) (sym same) s.fits) in
+      let numbers : numbered number c ≡ w = ap (λ ls. wiring_of version s.publics s.privates ls) (map-reverse (numbered_layer number) layers ∙ ap reverse same) ∙ sym s.is in
       (c, file_from_read o size number element bytes laws id c rest fits valid (e ∙ ap (λ v. Ok v) (sym numbers)))
 
   -- ---- elements of their numbers
@@ -88,11 +98,25 @@ module _ {A : Type 0} (o : Ops A) (size : ℕ) (number : A → ℕ) (element : �
 
 -- ---- a circuit's whole file
 
--- a file that was read begins with `LZC1`
+-- a file that was read begins with `LZC1` or `LZC2`
 record Begins (bytes : List ℕ) (x : ℕ × Wiring ℕ) : Type 0 where
+  version : ℕ
+  known : (version ≡ 1) ⊎ (version ≡ 2)
   rest : List ℕ
-  is : bytes ≡ 76 ∷ 90 ∷ 67 ∷ 49 ∷ rest
-  read : field_at rest ≡ Ok x
+  is : bytes ≡ 76 ∷ 90 ∷ 67 ∷ (48 + version) ∷ rest
+  read : field_at version rest ≡ Ok x
+
+magic_is : (last a b c d : ℕ) (rest : List ℕ) → begins_with (76 ∷ 90 ∷ 67 ∷ last ∷ []) (a ∷ b ∷ c ∷ d ∷ rest) ≡ true → a ∷ b ∷ c ∷ d ∷ rest ≡ 76 ∷ 90 ∷ 67 ∷ last ∷ rest
+magic_is last a b c d rest h =
+    let p1 = and_parts (eqb 76 a) (eqb 90 b && (eqb 67 c && (eqb last d && true))) h in
+    let p2 = and_parts (eqb 90 b) (eqb 67 c && (eqb last d && true)) p1.1 in
+    let p3 = and_parts (eqb 67 c) (eqb last d && true) p2.1 in
+    let p4 = and_parts (eqb last d) true p3.1 in
+    let e1 : a ≡ 76 = sym (eqb-true 76 a p1.0) in
+    let e2 : b ≡ 90 = sym (eqb-true 90 b p2.0) in
+    let e3 : c ≡ 67 = sym (eqb-true 67 c p3.0) in
+    let e4 : d ≡ last = sym (eqb-true last d p4.0) in
+    rw (e1, e2, e3, e4) refl
 
 begins : (bytes : List ℕ) (x : ℕ × Wiring ℕ) → circuit_at bytes ≡ Ok x → Begins bytes x
 unfolding circuit_at
@@ -101,50 +125,50 @@ begins (a ∷ []) x e = absurd cc
 begins (a ∷ b ∷ []) x e = absurd cc
 begins (a ∷ b ∷ c ∷ []) x e = absurd cc
 begins (a ∷ b ∷ c ∷ d ∷ rest) x e =
-    let g = not_refused (ltb (length (a ∷ b ∷ c ∷ d ∷ rest)) 4) _ (cond (begins_with (76 ∷ 90 ∷ 67 ∷ 49 ∷ []) (a ∷ b ∷ c ∷ d ∷ rest)) (field_at rest) (stops Magic (a ∷ b ∷ c ∷ d ∷ rest))) x e in
-    let h = passed (begins_with (76 ∷ 90 ∷ 67 ∷ 49 ∷ []) (a ∷ b ∷ c ∷ d ∷ rest)) _ (field_at rest) x g.1 in
-    let p1 = and_parts (eqb 76 a) (eqb 90 b && (eqb 67 c && (eqb 49 d && true))) h.0 in
-    let p2 = and_parts (eqb 90 b) (eqb 67 c && (eqb 49 d && true)) p1.1 in
-    let p3 = and_parts (eqb 67 c) (eqb 49 d && true) p2.1 in
-    let p4 = and_parts (eqb 49 d) true p3.1 in
-    let e1 : a ≡ 76 = sym (eqb-true 76 a p1.0) in
-    let e2 : b ≡ 90 = sym (eqb-true 90 b p2.0) in
-    let e3 : c ≡ 67 = sym (eqb-true 67 c p3.0) in
-    let e4 : d ≡ 49 = sym (eqb-true 49 d p4.0) in
-    record { rest = rest; is = rw (e1, e2, e3, e4) refl; read = h.1 }
-
--- the field's byte, and the circuit behind it
-abbrev IsRead : ℕ → List ℕ → Type 0
-IsRead id rest = ((w : Wiring ℕ) × (id ≡ 1) × (wiring_at goldilocks rest ≡ Ok w)) ⊎ ((w : Wiring ℕ) × (id ≡ 2) × (wiring_at gf128 rest ≡ Ok w))
-
-field_read : (id : ℕ) (rest : List ℕ) (x : ℕ × Wiring ℕ) → field_at (id ∷ rest) ≡ Ok x → IsRead id rest
-field_read id rest x e = one (eqb id 1) (eqb id 2) refl refl e
+    let bytes : List ℕ = a ∷ b ∷ c ∷ d ∷ rest in
+    let one = begins_with (76 ∷ 90 ∷ 67 ∷ 49 ∷ []) bytes in
+    let two = begins_with (76 ∷ 90 ∷ 67 ∷ 50 ∷ []) bytes in
+    let g = not_refused (ltb (length bytes) 4) _ (cond one (field_at 1 rest) (cond two (field_at 2 rest) (stops Magic bytes))) x e in
+    pick one two refl refl g.1
   where
-    one : (p q : Bool) → eqb id 1 ≡ p → eqb id 2 ≡ q → cond p (wiring_at goldilocks rest >>= λ w. Ok (1, w)) (cond q (wiring_at gf128 rest >>= λ w. Ok (2, w)) (stops FieldId (id ∷ rest))) ≡ Ok x → IsRead id rest
-    one true q ep eq h = from (wiring_at goldilocks rest) _ x h (λ w read end. inl (w, eqb-true id 1 ep, read))
-    one false true ep eq h = from (wiring_at gf128 rest) _ x h (λ w read end. inr (w, eqb-true id 2 eq, read))
+    pick : (p q : Bool) → begins_with (76 ∷ 90 ∷ 67 ∷ 49 ∷ []) (a ∷ b ∷ c ∷ d ∷ rest) ≡ p → begins_with (76 ∷ 90 ∷ 67 ∷ 50 ∷ []) (a ∷ b ∷ c ∷ d ∷ rest) ≡ q
+        → cond p (field_at 1 rest) (cond q (field_at 2 rest) (stops Magic (a ∷ b ∷ c ∷ d ∷ rest))) ≡ Ok x → Begins (a ∷ b ∷ c ∷ d ∷ rest) x
+    pick true q ep eq h = record { version = 1; known = inl refl; rest = rest; is = magic_is 49 a b c d rest ep; read = h }
+    pick false true ep eq h = record { version = 2; known = inr refl; rest = rest; is = magic_is 50 a b c d rest eq; read = h }
+    pick false false ep eq h = absurd cc
+
+-- the field's byte, and the circuit of this version behind it
+abbrev IsRead : ℕ → ℕ → List ℕ → Type 0
+IsRead version id rest = ((w : Wiring ℕ) × (id ≡ 1) × (wiring_at goldilocks version rest ≡ Ok w)) ⊎ ((w : Wiring ℕ) × (id ≡ 2) × (wiring_at gf128 version rest ≡ Ok w))
+
+field_read : (version id : ℕ) (rest : List ℕ) (x : ℕ × Wiring ℕ) → field_at version (id ∷ rest) ≡ Ok x → IsRead version id rest
+field_read version id rest x e = one (eqb id 1) (eqb id 2) refl refl e
+  where
+    one : (p q : Bool) → eqb id 1 ≡ p → eqb id 2 ≡ q → cond p (wiring_at goldilocks version rest >>= λ w. Ok (1, w)) (cond q (wiring_at gf128 version rest >>= λ w. Ok (2, w)) (stops FieldId (id ∷ rest))) ≡ Ok x → IsRead version id rest
+    one true q ep eq h = from (wiring_at goldilocks version rest) _ x h (λ w read end. inl (w, eqb-true id 1 ep, read))
+    one false true ep eq h = from (wiring_at gf128 version rest) _ x h (λ w read end. inr (w, eqb-true id 2 eq, read))
     one false false ep eq h = absurd cc
 
-circuit_of : (id : ℕ) (rest : List ℕ) → IsBytes rest → IsRead id rest → (c : AnyCircuit) × CircuitBytes c (76 ∷ 90 ∷ 67 ∷ 49 ∷ id ∷ rest)
-circuit_of id rest fits (inl (w, is, e)) =
-    let made = some_file gold.ops p (λ x. x.n) gold.of_number 8 gold.laws 1 rest w fits e in
-    (Gold made.0, subst (λ n. IsFile gold.ops (λ x. x.n) goldilocks made.0 (76 ∷ 90 ∷ 67 ∷ 49 ∷ n ∷ rest)) (sym is) made.1)
-circuit_of id rest fits (inr (w, is, e)) =
-    let made = some_file gf.ops (2 ^ 128) (λ x. x.n) gf.of_number 16 gf.laws 2 rest w fits e in
-    (Gf made.0, subst (λ n. IsFile gf.ops (λ x. x.n) gf128 made.0 (76 ∷ 90 ∷ 67 ∷ 49 ∷ n ∷ rest)) (sym is) made.1)
+circuit_of : (version : ℕ) → (version ≡ 1) ⊎ (version ≡ 2) → (id : ℕ) (rest : List ℕ) → IsBytes rest → IsRead version id rest → (c : AnyCircuit) × CircuitBytes c (76 ∷ 90 ∷ 67 ∷ (48 + version) ∷ id ∷ rest)
+circuit_of version known id rest fits (inl (w, is, e)) =
+    let made = some_file gold.ops p (λ x. x.n) gold.of_number 8 gold.laws 1 version known rest w fits e in
+    (Gold made.0, subst (λ n. IsFile gold.ops (λ x. x.n) goldilocks made.0 (76 ∷ 90 ∷ 67 ∷ (48 + version) ∷ n ∷ rest)) (sym is) made.1)
+circuit_of version known id rest fits (inr (w, is, e)) =
+    let made = some_file gf.ops (2 ^ 128) (λ x. x.n) gf.of_number 16 gf.laws 2 version known rest w fits e in
+    (Gf made.0, subst (λ n. IsFile gf.ops (λ x. x.n) gf128 made.0 (76 ∷ 90 ∷ 67 ∷ (48 + version) ∷ n ∷ rest)) (sym is) made.1)
 
 found : (bytes : List ℕ) (x : ℕ × Wiring ℕ) → IsBytes bytes → circuit_at bytes ≡ Ok x → (c : AnyCircuit) × CircuitBytes c bytes
-found bytes x fits e = let b = begins bytes x e in go b.rest b.is b.read
+found bytes x fits e = let b = begins bytes x e in go b.version b.known b.rest b.is b.read
   where
-    behind : (id : ℕ) (rest : List ℕ) → bytes ≡ 76 ∷ 90 ∷ 67 ∷ 49 ∷ id ∷ rest → IsBytes rest
-    behind id rest is =
-        let w : IsBytes (76 ∷ 90 ∷ 67 ∷ 49 ∷ id ∷ rest) = subst IsBytes is fits in
-        IsBytes-rest id rest (IsBytes-rest 49 (id ∷ rest) (IsBytes-rest 67 (49 ∷ id ∷ rest) (IsBytes-rest 90 (67 ∷ 49 ∷ id ∷ rest) (IsBytes-rest 76 (90 ∷ 67 ∷ 49 ∷ id ∷ rest) w))))
+    behind : (magic id : ℕ) (rest : List ℕ) → bytes ≡ 76 ∷ 90 ∷ 67 ∷ magic ∷ id ∷ rest → IsBytes rest
+    behind magic id rest is =
+        let w : IsBytes (76 ∷ 90 ∷ 67 ∷ magic ∷ id ∷ rest) = subst IsBytes is fits in
+        IsBytes-rest id rest (IsBytes-rest magic (id ∷ rest) (IsBytes-rest 67 (magic ∷ id ∷ rest) (IsBytes-rest 90 (67 ∷ magic ∷ id ∷ rest) (IsBytes-rest 76 (90 ∷ 67 ∷ magic ∷ id ∷ rest) w))))
 
-    go : (rest : List ℕ) → bytes ≡ 76 ∷ 90 ∷ 67 ∷ 49 ∷ rest → field_at rest ≡ Ok x → (c : AnyCircuit) × CircuitBytes c bytes
-    go [] is read = absurd cc
-    go (id ∷ rest) is read =
-        let c = circuit_of id rest (behind id rest is) (field_read id rest x read) in
+    go : (version : ℕ) → (version ≡ 1) ⊎ (version ≡ 2) → (rest : List ℕ) → bytes ≡ 76 ∷ 90 ∷ 67 ∷ (48 + version) ∷ rest → field_at version rest ≡ Ok x → (c : AnyCircuit) × CircuitBytes c bytes
+    go version known [] is read = absurd cc
+    go version known (id ∷ rest) is read =
+        let c = circuit_of version known id rest (behind (48 + version) id rest is) (field_read version id rest x read) in
         (c.0, subst (λ bs. CircuitBytes c.0 bs) (sym is) c.1)
 
 pub circuits_total : (bytes : List ℕ) → IsBytes bytes → ((c : AnyCircuit) × CircuitBytes c bytes) ⊎ ((fault : ℕ × ByteKind) × CircuitFaultAt bytes fault.0 fault.1)

@@ -1,8 +1,9 @@
 -- The exits of `prove` behind its inputs.
 use Rattle.std.proofs.Common.{◌≡◌, ◌≤◌, ℕ, List, length, Option, Some, None, Result, Ok, inl, refl, ap, lit≤}
 use Rattle.std.specs.Result.{IsErrAnd}
+use Rattle.lzk_circuit.specs.Checks.{checks_of}
 use Rattle.lzk_circuit.specs.Valid.{Wiring}
-use Rattle.lzk_circuit.specs.Wires.{wires_of, inputs_of, IsFirstNonzero}
+use Rattle.lzk_circuit.specs.Wires.{inputs_of, IsFirstNonzero}
 use Rattle.lzk_field.specs.Coding.{Coding}
 use Rattle.lzk_field.specs.Ring.{Ops}
 use Rattle.lzk_field.specs.Words.{seeded_word}
@@ -34,7 +35,7 @@ module _ {A : Type 0} (o : Ops A) (e : Coding A) (c : Wiring A) (proof : List �
     Whole files = Proves o e c proof digest session seed publics privates
 
     abbrev IsFirst : Option (ℕ × A) → Type 0
-    IsFirst first = IsFirstNonzero o (wires_of o c.layers (inputs_of o publics privates)) first
+    IsFirst first = IsFirstNonzero o (checks_of o e.number c.layers (inputs_of o publics privates)) first
 
     -- there was no memory, and nothing was put
     pub no_memory : (old : Seen) (h : Halt) (r : Result Ending Halt) → h ≡ halts.Memory → IsErrAnd r (λ y. y ≡ h) → WalksToPut Whole 3 old old r

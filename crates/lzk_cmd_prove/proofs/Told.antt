@@ -1,8 +1,9 @@
 -- What is told of a demo.
 use Rattle.std.proofs.Common.{◌≡◌, ℕ, List, [], length, Result, Ok, sym, subst}
 use Rattle.lzk_circbytes.specs.declared.any.AnyCircuit.TheVariants.{Gold}
+use Rattle.lzk_circuit.specs.Checks.{IsSatisfied}
 use Rattle.lzk_circuit.specs.Valid.{Wiring, IsValid}
-use Rattle.lzk_circuit.specs.Wires.{inputs_of, IsSatisfied}
+use Rattle.lzk_circuit.specs.Wires.{inputs_of}
 use Rattle.lzk_complete.specs.Complete.{Complete}
 use Rattle.lzk_demo.specs.Demo.{demo_tree, demo_public, demo_private}
 use Rattle.lzk_field.specs.Words.{seeded_word}
@@ -23,7 +24,7 @@ use Rattle.lzk_cmd_files.specs.Walks.{IsEnding}
 use Rattle.lzk_cmd_runs.specs.RunSteps.{TellsDemo}
 
 -- the verdict on the proof of inputs that satisfy a circuit
-pub demo_verdict : Complete gold.ops gold_coding → (c : Wiring GoldElement) → IsValid gold.ops c → (publics privates : List GoldElement) → HaveCounts c publics privates → IsSatisfied gold.ops c.layers (inputs_of gold.ops publics privates)
+pub demo_verdict : Complete gold.ops gold_coding → (c : Wiring GoldElement) → IsValid gold.ops c → (publics privates : List GoldElement) → HaveCounts c publics privates → IsSatisfied gold.ops gold.number c.layers (inputs_of gold.ops publics privates)
     → (seed : List ℕ) (len : ℕ) (verdict : Verdict GoldElement) → HasVerdict gold.ops gold_coding c publics privates seed len verdict → verdict ≡ Accepted
 demo_verdict complete c valid publics privates counts satisfied seed len verdict h =
     sym (h.only Accepted (complete c [] publics privates (words_of (seeded_word seed)) h.bytes valid counts satisfied h.file))

@@ -2,10 +2,11 @@
 
 ghost use Rattle.std.specs.Prelude.{◌≡◌, ◌≤◌, IfOk, IsTrue, length};
 ghost use Rattle.lzk_circbytes.specs.Files.{id_of};
-ghost use Rattle.lzk_circuit.specs.Wires.{inputs_of, IsSatisfied};
+ghost use Rattle.lzk_circuit.specs.Checks.{IsSatisfied};
+ghost use Rattle.lzk_circuit.specs.Wires.{inputs_of};
 ghost use Rattle.lzk_field.specs.Coding.{coding};
 ghost use Rattle.lzk_demo.specs.Demo.{demo_private, demo_public, demo_tree};
-ghost use Rattle.lzk_goldilocks.specs.Elements.{ops};
+ghost use Rattle.lzk_goldilocks.specs.Elements.{number, ops};
 ghost use Rattle.lzk_cmd_circuits.specs.Compiled.{Compiled};
 ghost use Rattle.lzk_cmd_runs.specs.Demo.{HasVerdict};
 ghost use Rattle.lzk_cmd_words.specs.Keys.{is_number, number_of};
@@ -58,7 +59,7 @@ fn judge_own_proof<F: Field, X: RowExtend<F>, R: Threads + Sync, G: Gate>(
     requires works { works.old ≡ circuit.now }
     requires publics { length publics.now ≡ circuit.now.publics }
     requires privates { length privates.now ≡ circuit.now.privates }
-    requires satisfied { IsSatisfied F.ops circuit.now.layers (inputs_of F.ops publics.now privates.now) }
+    requires satisfied { IsSatisfied F.ops F.number_of circuit.now.layers (inputs_of F.ops publics.now privates.now) }
     requires some { 1 ≤ workers }
     requires most { workers ≤ 64 }
     ensures { IfOk result (λ made. HasVerdict F.ops (coding F.element F.number_of F.BYTES F.size F.ID) circuit.now
@@ -87,7 +88,7 @@ fn prove_and_verify<F: Field, X: RowExtend<F>, R: Threads + Sync, G: Gate>(
 ) -> Result<(usize, Verdict<F>), AllocError>
     requires publics { length publics.now ≡ circuit.now.publics }
     requires privates { length privates.now ≡ circuit.now.privates }
-    requires satisfied { IsSatisfied F.ops circuit.now.layers (inputs_of F.ops publics.now privates.now) }
+    requires satisfied { IsSatisfied F.ops F.number_of circuit.now.layers (inputs_of F.ops publics.now privates.now) }
     requires some { 1 ≤ workers }
     requires most { workers ≤ 64 }
     ensures { IfOk result (λ made. HasVerdict F.ops (coding F.element F.number_of F.BYTES F.size F.ID) circuit.now
@@ -112,7 +113,7 @@ fn prove_demo<R: Threads + Sync, G: Gate>(
 ) -> Result<usize, AllocError>
     requires publics { length inputs.now.public.items ≡ circuit.now.publics }
     requires privates { length inputs.now.private.items ≡ circuit.now.privates }
-    requires satisfied { IsSatisfied ops circuit.now.layers (inputs_of ops inputs.now.public.items inputs.now.private.items) }
+    requires satisfied { IsSatisfied ops number circuit.now.layers (inputs_of ops inputs.now.public.items inputs.now.private.items) }
     requires some { 1 ≤ workers }
     requires most { workers ≤ 64 }
     ensures { IfOk result (λ len. HasVerdict ops gold_coding circuit.now inputs.now.public.items inputs.now.private.items seed len Verdict.Accepted) }
@@ -144,7 +145,7 @@ fn prove_own_inputs<R: Threads + Sync, G: Gate>(
     requires number { 1 ≤ n }
     requires publics { circuit.now.publics ≡ 1 }
     requires privates { circuit.now.privates ≡ n }
-    requires satisfied { IsSatisfied ops circuit.now.layers (inputs_of ops (demo_public ops n) (demo_private ops n)) }
+    requires satisfied { IsSatisfied ops number circuit.now.layers (inputs_of ops (demo_public ops n) (demo_private ops n)) }
     requires some { 1 ≤ workers }
     requires most { workers ≤ 64 }
     ensures { IfOk result (λ len. HasVerdict ops gold_coding circuit.now (demo_public ops n) (demo_private ops n) seed len Verdict.Accepted) }
@@ -166,7 +167,7 @@ fn demo_over<R: Threads + Sync, G: Gate>(
     requires number { 1 ≤ n }
     requires publics { circuit.now.publics ≡ 1 }
     requires privates { circuit.now.privates ≡ n }
-    requires satisfied { IsSatisfied ops circuit.now.layers (inputs_of ops (demo_public ops n) (demo_private ops n)) }
+    requires satisfied { IsSatisfied ops number circuit.now.layers (inputs_of ops (demo_public ops n) (demo_private ops n)) }
     requires compiled { Compiled (demo_tree n) (AnyCircuit.Gold circuit.now) }
     requires some { 1 ≤ workers }
     requires most { workers ≤ 64 }

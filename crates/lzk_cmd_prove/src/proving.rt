@@ -40,7 +40,7 @@ pub struct Job<'a> {
     pub workers: usize,
 }
 
-// How a run ends that has this output.
+// How a run ends that has this check.
 fn unsatisfied<F: Field>(alloc: Global, first: Unsatisfied<&F>) -> Result<Ending, AllocError>
     ensures { IfOk result (IsEnding (nonzero_end F.number_of (first.entry.output, first.entry.value.now))) }
 {

@@ -16,9 +16,10 @@ use Rattle.lzk_cmd_circuits.specs.Compiled.{Compiled}
 use Rattle.lzk_cmd_words.specs.Keys.{are_digits, is_number, number_of}
 
 -- a circuit of the demo's source
-pub demo_compiled : (n : ℕ) (c : Wiring GoldElement) → c.publics ≡ 1 → c.privates ≡ n → length c.layers ≡ source_layers (demo_tree n) → HasValues gold.ops gold.of_number (demo_statements n) c → HasReducedLayers (Gold c)
+pub demo_compiled : (n : ℕ) (c : Wiring GoldElement) → c.version ≡ 1 → c.publics ≡ 1 → c.privates ≡ n → length c.layers ≡ source_layers (demo_tree n) → HasValues gold.ops gold.of_number (demo_statements n) c → HasReducedLayers (Gold c)
     → Compiled (demo_tree n) (Gold c)
-demo_compiled n c publics privates layers outputs reduced = record {
+demo_compiled n c version publics privates layers outputs reduced = record {
+  version_is = version;
   field_is = refl;
   publics = publics ∙ sym (demo_publics n);
   privates = privates ∙ sym (demo_privates n);
@@ -27,9 +28,9 @@ demo_compiled n c publics privates layers outputs reduced = record {
   reduced = reduced;
 }
 
--- outputs that are all 0 have none that is not
-pub none_nonzero : {A : Type 0} (o : Ops A) (outputs : List A) (first : ℕ × A) → IsFirstNonzero o outputs None → IsFirstNonzero o outputs (Some first) → ⊥
-none_nonzero o outputs first none some = some.2 (sym some.1 ∙ none first.0 some.0)
+-- checks that are all 0 have none that is not
+pub none_nonzero : {A : Type 0} (o : Ops A) (checks : List A) (first : ℕ × A) → IsFirstNonzero o checks None → IsFirstNonzero o checks (Some first) → ⊥
+none_nonzero o checks first none some = some.2 (sym some.1 ∙ none first.0 some.0)
 
 -- as many private inputs as the demo has
 length_alternating : (b : Bool) (n : ℕ) → length (alternating b n) ≡ n

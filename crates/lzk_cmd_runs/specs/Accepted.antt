@@ -9,6 +9,7 @@ use Rattle.lzk_goldilocks.specs.declared.element.Gold.{Gold as GoldElement}
 use Rattle.lzk_goldilocks.specs.Elements as gold
 use Rattle.lzk_gf128.specs.Elements as gf
 use Rattle.lzk_outside.specs.Outside.{Files, Appends}
+use Rattle.lzk_circuit.specs.Checks.{checks_of}
 use Rattle.lzk_circuit.specs.Wires.{wires_of, inputs_of}
 use Rattle.lzk_sha_circuit.specs.Outputs.{sha_outputs}
 use Rattle.lzk_sha_circuit.specs.Places.{private_count}
@@ -56,11 +57,17 @@ abbrev pub HasShaOutputs : ℕ → Wiring GoldElement → Type 0
 HasShaOutputs len c =
     (public private : List GoldElement) → length public ≡ 8 → length private ≡ private_count len → wires_of gold.ops c.layers (inputs_of gold.ops public private) ≡ sha_outputs gold.ops gold.of_number len public private
 
--- Over a circuit whose outputs are those for messages of so many bytes, no end of `sha256` tells of an output that is not 0.
+-- on all these inputs its checks are: a circuit of version 1 has its outputs as checks, and one of version 2 may have more
+abbrev pub HasShaChecks : ℕ → Wiring GoldElement → Type 0
+HasShaChecks len c =
+    (public private : List GoldElement) → length public ≡ 8 → length private ≡ private_count len → checks_of gold.ops gold.number c.layers (inputs_of gold.ops public private) ≡ sha_outputs gold.ops gold.of_number len public private
+
+-- Over a circuit whose checks are the definition's outputs for messages of so many bytes, no end of `sha256` tells of a check that is not 0. So it is over
+-- a circuit of version 1 with these outputs.
 abbrev pub HashesAreSatisfied : Type 0
 HashesAreSatisfied =
     (words : List (List ℕ)) (files : Files) (stop : Stop) (end : End) (circuit proof message seed : List ℕ) (session : Option (List ℕ)) (c : Wiring GoldElement)
-    → command_of words ≡ Some (Sha256 circuit proof message seed session) → Has circuit_files files circuit (Gold c) → HasShaOutputs (length (message_of message)) c → RunOf words files stop end → end.status ≡ 1 → ⊥
+    → command_of words ≡ Some (Sha256 circuit proof message seed session) → Has circuit_files files circuit (Gold c) → HasShaChecks (length (message_of message)) c ⊎ ((c.version ≡ 1) × HasShaOutputs (length (message_of message)) c) → RunOf words files stop end → end.status ≡ 1 → ⊥
 
 -- The run is done, and tells of the demo with n private inputs: of a circuit of its source, and of the proof of these inputs, which is accepted.
 pub record HasDemo (before : Before) (after : After) (n : ℕ) (seed : List ℕ) : Type 0 where

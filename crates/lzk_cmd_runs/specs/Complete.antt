@@ -8,8 +8,8 @@ use Rattle.lzk_expr.specs.Numbers.{NumberText}
 use Rattle.lzk_expr.specs.Trees.{SourceTree}
 use Rattle.lzk_goldilocks.specs.declared.element.Gold.{Gold as GoldElement}
 use Rattle.lzk_goldilocks.specs.Prime.{p}
-use Rattle.lzk_level.specs.Compiled.{source_limit}
 use Rattle.lzk_outside.specs.Outside.{Files}
+use Rattle.lzk_cmd_circuits.specs.Compiled.{limit_as}
 use Rattle.lzk_cmd_runs.specs.Batched.{list_files, total_limit}
 use Rattle.lzk_cmd_files.specs.Decoded.{circuit_files, source_files, proof_files, text_limit}
 use Rattle.lzk_cmd_files.specs.Ends.{End, Nowhere, Leaves}
@@ -19,7 +19,8 @@ use Rattle.lzk_cmd_words.specs.Digits.{message_of}
 use Rattle.lzk_cmd_runs.specs.Run.{RunOf}
 use Rattle.lzk_cmd_files.specs.Seen.{ReadFailed, PutFailed, WriteFailed}
 use Rattle.lzk_cmd_runs.specs.Sights.{Before, After}
-use Rattle.lzk_cmd_words.specs.Words.{Command, Eval, Compile, Show, Prove, Verify, Batch, Demo, ShaCircuit, Sha256, command_of}
+use Rattle.lzk_cmd_words.specs.declared.words.Version.{Version}
+use Rattle.lzk_cmd_words.specs.Words.{Command, Eval, Compile, Upgrade, Show, Prove, Verify, Batch, Demo, ShaCircuit, Sha256, command_of}
 
 -- a file of so many numbers, each below size, is there, within its limit
 abbrev pub HasNumbers : Files → List ℕ → ℕ → ℕ → Type 0
@@ -37,9 +38,9 @@ abbrev pub HasPublicsOf : AnyCircuit → Files → List ℕ → Type 0
 HasPublicsOf (Gold c) files public = HasNumbers files public p c.publics
 HasPublicsOf (Gf c) files public = HasNumbers files public (2 ^ 128) c.publics
 
--- the source's file is there, within its limit, and its circuit keeps the limits
-abbrev pub HasSource : Files → List ℕ → SourceTree → Type 0
-HasSource files name source = Has source_files files name source × (source_limit source ≡ None)
+-- the source's file is there, within its limit, and its circuit of this version keeps the limits
+abbrev pub HasSource : Files → List ℕ → Version → SourceTree → Type 0
+HasSource files name version source = Has source_files files name source × (limit_as version source ≡ None)
 
 -- the files of `verify` are there
 pub record IsJobReady (files : Files) (job : Listed) : Type 0 where
@@ -67,7 +68,8 @@ pub record IsBatchReady (files : Files) (list : List ℕ) : Type 0 where
 -- the files that a command reads are there, within their limits and of their formats, and a circuit that is to be proved for a message has its counts
 abbrev pub IsReady : Files → Command → Type 0
 IsReady files (Eval circuit public private) = (c : AnyCircuit) × Has circuit_files files circuit c × HasInputsOf c files public private
-IsReady files (Compile source circuit) = (s : SourceTree) × HasSource files source s
+IsReady files (Compile source circuit version) = (s : SourceTree) × HasSource files source version s
+IsReady files (Upgrade old new) = (c : AnyCircuit) × Has circuit_files files old c
 IsReady files (Show circuit) = (c : AnyCircuit) × Has circuit_files files circuit c
 IsReady files (Prove circuit public private proof seed session) = (c : AnyCircuit) × Has circuit_files files circuit c × HasInputsOf c files public private
 IsReady files (Verify circuit public proof session) = (c : AnyCircuit) × (bytes : List ℕ) × Has circuit_files files circuit c × HasPublicsOf c files public × Has proof_files files proof bytes

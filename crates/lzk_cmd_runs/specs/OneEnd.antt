@@ -34,7 +34,7 @@ pub record DemoAlike (n : ℕ) (a b : End) : Type 0 where
 
 -- two ends of a run are one, but for which circuit `compile` and `shacircuit` put, and `demo` proves
 abbrev pub AreOne : Option Command → Stop → End → End → Type 0
-AreOne (Some (Compile source circuit)) stop a b = (a ≡ b) ⊎ PutAlike stop circuit a b
+AreOne (Some (Compile source circuit version)) stop a b = (a ≡ b) ⊎ PutAlike stop circuit a b
 AreOne (Some (Demo count seed)) stop a b = DemoAlike (number_of count) a b
 AreOne (Some (ShaCircuit count circuit)) stop a b = PutAlike stop circuit a b
 AreOne command stop a b = a ≡ b

@@ -3,7 +3,8 @@ use Rattle.std.specs.Prelude.{◌≡◌, ◌≤◌, ℕ, List, length, Option, N
 use Rattle.lzk_circbytes.specs.declared.any.AnyCircuit.{AnyCircuit}
 use Rattle.lzk_circbytes.specs.declared.any.AnyCircuit.TheVariants.{Gold, Gf}
 use Rattle.lzk_circuit.specs.Valid.{Wiring}
-use Rattle.lzk_circuit.specs.Wires.{wires_of, inputs_of, IsFirstNonzero}
+use Rattle.lzk_circuit.specs.Checks.{checks_of}
+use Rattle.lzk_circuit.specs.Wires.{inputs_of, IsFirstNonzero}
 use Rattle.lzk_field.specs.Coding.{Coding}
 use Rattle.lzk_field.specs.Ring.{Ops}
 use Rattle.lzk_field.specs.Words.{seeded_word}
@@ -18,7 +19,7 @@ use Rattle.lzk_cmd_files.specs.Lines.{told_line, nonzero_line}
 use Rattle.lzk_cmd_words.specs.Digits.{seed_of, session_of}
 use Rattle.lzk_cmd_verify.specs.Verified.{gold_coding, gf_coding}
 
--- the end where an output is not 0
+-- the end where a check is not 0
 abbrev pub nonzero_end : {A : Type 0} → (A → ℕ) → ℕ × A → End
 nonzero_end number first = says 1 (nonzero_line first.0 (number first.1))
 
@@ -27,10 +28,10 @@ abbrev pub PutsProof : {A : Type 0} → Ops A → Coding A → Wiring A → List
 PutsProof o e c proof digest session seed publics privates stop end =
     (bytes : List ℕ) × IsProofFile o e c session publics privates (words_of (seeded_word seed)) bytes × (length bytes ≤ proof_limit) × (end ≡ puts stop proof bytes (told_line proof digest (length bytes)))
 
--- The walk has its inputs: where all outputs are 0 it puts the proof, and otherwise tells the first that is not.
+-- The walk has its inputs: where all checks are 0 it puts the proof, and otherwise tells the first that is not.
 abbrev pub Proves : {A : Type 0} → Ops A → Coding A → Wiring A → List ℕ → Option (List ℕ) → List ℕ → List ℕ → List A → List A → Stop → End → Type 0
 Proves {A} o e c proof digest session seed publics privates stop end =
-    (first : Option (ℕ × A)) × IsFirstNonzero o (wires_of o c.layers (inputs_of o publics privates)) first
+    (first : Option (ℕ × A)) × IsFirstNonzero o (checks_of o e.number c.layers (inputs_of o publics privates)) first
     × MatchOption first (PutsProof o e c proof digest session seed publics privates stop end) (λ found. end ≡ nonzero_end e.number found)
 
 -- a proof over a circuit over a field, for a session and a seed, of the inputs of two number files

@@ -5,19 +5,21 @@ use Rattle.lzk_cmd_runs.specs.Batched.{BatchRun}
 use Rattle.lzk_cmd_circuits.specs.Compiled.{CompileRun}
 use Rattle.lzk_cmd_runs.specs.Demo.{DemoRun}
 use Rattle.lzk_cmd_files.specs.Ends.{End, refused_words, Stop}
+use Rattle.lzk_cmd_circuits.specs.Upgraded.{UpgradeRun}
 use Rattle.lzk_cmd_circuits.specs.ShaCircuits.{ShaCircuitRun}
 use Rattle.lzk_cmd_runs.specs.Hashed.{HashRun}
 use Rattle.lzk_cmd_words.specs.Keys.{number_of}
 use Rattle.lzk_cmd_runs.specs.Proved.{ProveRun}
 use Rattle.lzk_cmd_words.specs.Digits.{seed_of}
 use Rattle.lzk_cmd_verify.specs.Verified.{VerifyRun}
-use Rattle.lzk_cmd_words.specs.Words.{Command, Eval, Compile, Show, Prove, Verify, Batch, Demo, ShaCircuit, Sha256, command_of}
+use Rattle.lzk_cmd_words.specs.Words.{Command, Eval, Compile, Upgrade, Show, Prove, Verify, Batch, Demo, ShaCircuit, Sha256, command_of}
 use Rattle.lzk_cmd_circuits.specs.Evaluated.{EvalRun, ShowRun}
 
 -- a run of this command
 abbrev pub CommandRun : Command → Files → Stop → End → Type 0
 CommandRun (Eval circuit public private) = EvalRun circuit public private
-CommandRun (Compile source circuit) = CompileRun source circuit
+CommandRun (Compile source circuit version) = CompileRun version source circuit
+CommandRun (Upgrade old new) = UpgradeRun old new
 CommandRun (Show circuit) = ShowRun circuit
 CommandRun (Prove circuit public private proof seed session) = ProveRun circuit public private proof seed session
 CommandRun (Verify circuit public proof session) = VerifyRun circuit public proof session

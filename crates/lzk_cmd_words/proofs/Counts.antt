@@ -9,7 +9,7 @@ use Rattle.lzk_cmd_words.specs.declared.table.Verb.TheVariants as verbs
 use Rattle.lzk_cmd_words.specs.Grammar.{Request, request_of, behind_verb, is_name, are_names, are_keys}
 use Rattle.lzk_cmd_words.specs.Keys.{Keys, is_count, is_number, keys_of, or_else}
 use Rattle.lzk_cmd_words.specs.Table.{verb_of, row_of}
-use Rattle.lzk_cmd_words.specs.Words.{Command, Eval, Compile, Show, Prove, Verify, Batch, Demo, ShaCircuit, Sha256, built, command_of}
+use Rattle.lzk_cmd_words.specs.Words.{Command, Eval, Compile, Upgrade, Show, Prove, Verify, Batch, Demo, ShaCircuit, Sha256, built, command_of}
 
 -- the names are those of the row
 abbrev KeepsRow : Request → Type 0
@@ -51,7 +51,8 @@ request_names (word ∷ words) request e = go (verb_of word) e
 -- the number that a command asks for, if it asks for one, is one
 abbrev pub HasNumber : Command → Type 0
 HasNumber (Eval circuit public private) = Unit {0}
-HasNumber (Compile source circuit) = Unit {0}
+HasNumber (Compile source circuit version) = Unit {0}
+HasNumber (Upgrade old new) = Unit {0}
 HasNumber (Show circuit) = Unit {0}
 HasNumber (Prove circuit public private proof seed session) = Unit {0}
 HasNumber (Verify circuit public proof session) = Unit {0}
@@ -73,6 +74,10 @@ built_number verbs.Compile [] keys command good e = absurd cc
 built_number verbs.Compile (n ∷ []) keys command good e = absurd cc
 built_number verbs.Compile (n ∷ m ∷ []) keys command good e = found _ command tt e
 built_number verbs.Compile (n ∷ m ∷ k ∷ rest) keys command good e = absurd cc
+built_number verbs.Upgrade [] keys command good e = absurd cc
+built_number verbs.Upgrade (n ∷ []) keys command good e = absurd cc
+built_number verbs.Upgrade (n ∷ m ∷ []) keys command good e = found _ command tt e
+built_number verbs.Upgrade (n ∷ m ∷ k ∷ rest) keys command good e = absurd cc
 built_number verbs.Show [] keys command good e = absurd cc
 built_number verbs.Show (n ∷ []) keys command good e = found _ command tt e
 built_number verbs.Show (n ∷ m ∷ rest) keys command good e = absurd cc

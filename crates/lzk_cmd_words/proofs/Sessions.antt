@@ -10,9 +10,9 @@ use Rattle.lzk_cmd_words.specs.declared.table.Verb.{Verb}
 use Rattle.lzk_cmd_words.specs.declared.table.Verb.TheVariants as verbs
 use Rattle.lzk_cmd_words.specs.Grammar.{Request, request_of, behind_verb, are_names, are_keys}
 use Rattle.lzk_cmd_words.specs.Digits.{message_of, decoded_or_none, session_of}
-use Rattle.lzk_cmd_words.specs.Keys.{Keys, no_keys, behind, are_hex, is_seed, is_session, is_message, is_number, with_seed, with_session, with_workers, with_message, with_key, keys_after, keys_of, or_else}
+use Rattle.lzk_cmd_words.specs.Keys.{Keys, no_keys, behind, are_hex, is_seed, is_session, is_message, is_number, is_version, with_seed, with_session, with_workers, with_message, with_version, with_key, keys_after, keys_of, or_else}
 use Rattle.lzk_cmd_words.specs.Table.{verb_of, row_of}
-use Rattle.lzk_cmd_words.specs.Words.{Command, Eval, Compile, Show, Prove, Verify, Batch, Demo, ShaCircuit, Sha256, built, command_of}
+use Rattle.lzk_cmd_words.specs.Words.{Command, Eval, Compile, Upgrade, Show, Prove, Verify, Batch, Demo, ShaCircuit, Sha256, built, command_of}
 
 -- the session that stands, if one does, is one, and so is the message
 abbrev AreFit : Keys → Type 0
@@ -27,14 +27,15 @@ kept keys next true more good e = subst AreFit (some_is more next e) (good refl)
 kept keys next false more good e = absurd cc
 
 one_key : (keys : Keys) (word : List ℕ) (next : Keys) → AreFit keys → with_key keys word ≡ Some next → AreFit next
-one_key keys word next good e = go (behind (codes "seed=") word) (behind (codes "session=") word) (behind (codes "workers=") word) (behind (codes "message=") word) e
+one_key keys word next good e = go (behind (codes "seed=") word) (behind (codes "session=") word) (behind (codes "workers=") word) (behind (codes "message=") word) (behind (codes "version=") word) e
   where
-    go : (a b c d : Option (List ℕ)) → or_else a (with_seed keys) (or_else b (with_session keys) (or_else c (with_workers keys) (or_else d (with_message keys) None))) ≡ Some next → AreFit next
-    go (Some text) b c d e = kept keys next (is_none keys.seed && is_seed text) (record keys { seed = Some text }) (λ h. good) e
-    go None (Some text) c d e = kept keys next (is_none keys.session && is_session text) (record keys { session = Some text }) (λ h. ((and_parts (is_none keys.session) (is_session text) h).1, good.1)) e
-    go None None (Some text) d e = kept keys next (is_none keys.workers && is_number 64 text) (record keys { workers = Some text }) (λ h. good) e
-    go None None None (Some text) e = kept keys next (is_none keys.message && is_message text) (record keys { message = Some text }) (λ h. (good.0, (and_parts (is_none keys.message) (is_message text) h).1)) e
-    go None None None None e = absurd cc
+    go : (a b c d v : Option (List ℕ)) → or_else a (with_seed keys) (or_else b (with_session keys) (or_else c (with_workers keys) (or_else d (with_message keys) (or_else v (with_version keys) None)))) ≡ Some next → AreFit next
+    go (Some text) b c d v e = kept keys next (is_none keys.seed && is_seed text) (record keys { seed = Some text }) (λ h. good) e
+    go None (Some text) c d v e = kept keys next (is_none keys.session && is_session text) (record keys { session = Some text }) (λ h. ((and_parts (is_none keys.session) (is_session text) h).1, good.1)) e
+    go None None (Some text) d v e = kept keys next (is_none keys.workers && is_number 64 text) (record keys { workers = Some text }) (λ h. good) e
+    go None None None (Some text) v e = kept keys next (is_none keys.message && is_message text) (record keys { message = Some text }) (λ h. (good.0, (and_parts (is_none keys.message) (is_message text) h).1)) e
+    go None None None None (Some text) e = kept keys next (is_none keys.version && is_version text) (record keys { version = Some text }) (λ h. good) e
+    go None None None None None e = absurd cc
 
 all_keys : (words : List (List ℕ)) (keys next : Keys) → AreFit keys → keys_after keys words ≡ Some next → AreFit next
 all_keys [] keys next good e = subst AreFit (some_is keys next e) good
@@ -92,7 +93,8 @@ few_message text good = let half = few_bytes 110 text (decode_of text) refl good
 -- the session that a command asks for
 abbrev pub asked : Command → Option (List ℕ)
 asked (Eval circuit public private) = None
-asked (Compile source circuit) = None
+asked (Compile source circuit version) = None
+asked (Upgrade old new) = None
 asked (Show circuit) = None
 asked (Prove circuit public private proof seed session) = session
 asked (Verify circuit public proof session) = session
@@ -122,6 +124,10 @@ built_session verbs.Compile [] keys command good e = absurd cc
 built_session verbs.Compile (n ∷ []) keys command good e = absurd cc
 built_session verbs.Compile (n ∷ m ∷ []) keys command good e = found _ command (tt, tt) e
 built_session verbs.Compile (n ∷ m ∷ k ∷ rest) keys command good e = absurd cc
+built_session verbs.Upgrade [] keys command good e = absurd cc
+built_session verbs.Upgrade (n ∷ []) keys command good e = absurd cc
+built_session verbs.Upgrade (n ∷ m ∷ []) keys command good e = found _ command (tt, tt) e
+built_session verbs.Upgrade (n ∷ m ∷ k ∷ rest) keys command good e = absurd cc
 built_session verbs.Show [] keys command good e = absurd cc
 built_session verbs.Show (n ∷ []) keys command good e = found _ command (tt, tt) e
 built_session verbs.Show (n ∷ m ∷ rest) keys command good e = absurd cc

@@ -29,9 +29,9 @@ abbrev pub are_names : Row → List (List ℕ) → Bool
 are_names row [] = true
 are_names row (name ∷ names) = is_first row.first name && list_all is_name names
 
--- the number of workers and the message stand, or do not, as the row says
+-- the number of workers, the message and the version stand, or do not, as the row says
 abbrev pub are_values : Row → Keys → Bool
-are_values row keys = may_stand row.workers (is_some keys.workers) && may_stand row.message (is_some keys.message)
+are_values row keys = may_stand row.workers (is_some keys.workers) && (may_stand row.message (is_some keys.message) && may_stand row.version (is_some keys.version))
 
 -- those keys stand that must, and no others than may
 abbrev pub are_keys : Row → Keys → Bool

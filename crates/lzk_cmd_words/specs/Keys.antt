@@ -1,5 +1,5 @@
 -- The keys behind the names.
-use Rattle.std.specs.Prelude.{ℕ, ◌-◌, ◌%◌, Bool, ◌&&◌, ◌==◌, nat_le, List, [], ◌∷◌, length, take, drop, map, Option, Some, None, is_none, cond, codes}
+use Rattle.std.specs.Prelude.{ℕ, ◌-◌, ◌%◌, Bool, ◌&&◌, ◌||◌, ◌==◌, nat_le, List, [], ◌∷◌, length, take, drop, map, Option, Some, None, is_none, cond, codes}
 use Rattle.std.specs.Int.Digits.{number_from_digits}
 use Rattle.std.specs.List.{list_all}
 use Rattle.std.specs.Char.{is_ascii_digit, is_ascii_hexdigit}
@@ -25,6 +25,10 @@ is_session text = (length text % 2 == 0) && (nat_le (length text) 128 && are_hex
 abbrev pub is_message : List ℕ → Bool
 is_message text = (length text % 2 == 0) && (nat_le (length text) 110 && are_hex text)
 
+-- a circuit's version, 1 or 2
+abbrev pub is_version : List ℕ → Bool
+is_version text = bytes_eq text (codes "1") || bytes_eq text (codes "2")
+
 -- the number of these digits
 abbrev pub number_of : List ℕ → ℕ
 number_of text = number_from_digits 10 (map (λ b. b - 48) text)
@@ -46,9 +50,10 @@ pub record Keys : Type 0 where
   pub session : Option (List ℕ)
   pub workers : Option (List ℕ)
   pub message : Option (List ℕ)
+  pub version : Option (List ℕ)
 
 abbrev pub no_keys : Keys
-no_keys = record { seed = None; session = None; workers = None; message = None }
+no_keys = record { seed = None; session = None; workers = None; message = None; version = None }
 
 -- a key may stand once
 abbrev pub with_seed : Keys → List ℕ → Option Keys
@@ -63,6 +68,9 @@ with_workers keys text = cond (is_none keys.workers && is_number 64 text) (Some 
 abbrev pub with_message : Keys → List ℕ → Option Keys
 with_message keys text = cond (is_none keys.message && is_message text) (Some (record keys { message = Some text })) None
 
+abbrev pub with_version : Keys → List ℕ → Option Keys
+with_version keys text = cond (is_none keys.version && is_version text) (Some (record keys { version = Some text })) None
+
 -- what follows from a value, or else
 abbrev pub or_else : {A B : Type 0} → Option A → (A → B) → B → B
 or_else None f other = other
@@ -74,7 +82,8 @@ with_key keys word =
     or_else (behind (codes "seed=") word) (with_seed keys)
     (or_else (behind (codes "session=") word) (with_session keys)
     (or_else (behind (codes "workers=") word) (with_workers keys)
-    (or_else (behind (codes "message=") word) (with_message keys) None)))
+    (or_else (behind (codes "message=") word) (with_message keys)
+    (or_else (behind (codes "version=") word) (with_version keys) None))))
 
 abbrev pub keys_after : Keys → List (List ℕ) → Option Keys
 keys_after keys [] = Some keys

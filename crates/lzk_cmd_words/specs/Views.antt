@@ -6,7 +6,8 @@ use Rattle.lzk_cmd_words.specs.Words as words
 
 abbrev pub command_view : Command → words.Command
 command_view (codes.Eval circuit public private) = words.Eval circuit.now public.now private.now
-command_view (codes.Compile source circuit) = words.Compile source.now circuit.now
+command_view (codes.Compile source circuit version) = words.Compile source.now circuit.now version
+command_view (codes.Upgrade old new) = words.Upgrade old.now new.now
 command_view (codes.Show circuit) = words.Show circuit.now
 command_view (codes.Prove order) = words.Prove order.circuit.now order.public.now order.private.now order.proof.now order.seed.now (option_copied order.session)
 command_view (codes.Verify circuit public proof session) = words.Verify circuit.now public.now proof.now (option_copied session)

@@ -1,14 +1,20 @@
 -- Which lists of words are commands.
-use Rattle.std.specs.Prelude.{ℕ, List, [], ◌∷◌, Option, Some, None}
+use Rattle.std.specs.Prelude.{ℕ, List, [], ◌∷◌, Option, Some, None, cond, codes}
+use Rattle.std.specs.Str.{bytes_eq}
 use Rattle.lzk_cmd_words.specs.declared.table.Verb.{Verb}
 use Rattle.lzk_cmd_words.specs.declared.table.Verb.TheVariants as verbs
+use Rattle.lzk_cmd_words.specs.declared.words.Version.{Version}
+use Rattle.lzk_cmd_words.specs.declared.words.Version.TheVariants.{One, Two}
 use Rattle.lzk_cmd_words.specs.Grammar.{request_of}
 use Rattle.lzk_cmd_words.specs.Keys.{Keys, or_else}
 
 -- a command, with the names of its files
 pub data Command : Type 0 where
   Eval : List ℕ → List ℕ → List ℕ → Command
-  Compile : List ℕ → List ℕ → Command
+  -- and the version that the circuit is to have
+  Compile : List ℕ → List ℕ → Version → Command
+  -- the circuit that is read, and the one that is put
+  Upgrade : List ℕ → List ℕ → Command
   Show : List ℕ → Command
   -- and the digits of the seed, and of the session, if there is one; not the number of workers
   Prove : List ℕ → List ℕ → List ℕ → List ℕ → List ℕ → Option (List ℕ) → Command
@@ -22,10 +28,16 @@ pub data Command : Type 0 where
   -- circuit and proof, and the digits of the message and the seed, and of the session, if there is one; not the number of workers
   Sha256 : List ℕ → List ℕ → List ℕ → List ℕ → Option (List ℕ) → Command
 
+-- the version of a text: 1 where none stands
+abbrev pub version_of : Option (List ℕ) → Version
+version_of None = One
+version_of (Some text) = cond (bytes_eq text (codes "2")) Two One
+
 -- the command of a word, names and keys that keep its row
 abbrev pub built : Verb → List (List ℕ) → Keys → Option Command
 built verbs.Eval (circuit ∷ public ∷ private ∷ []) keys = Some (Eval circuit public private)
-built verbs.Compile (source ∷ circuit ∷ []) keys = Some (Compile source circuit)
+built verbs.Compile (source ∷ circuit ∷ []) keys = Some (Compile source circuit (version_of keys.version))
+built verbs.Upgrade (old ∷ new ∷ []) keys = Some (Upgrade old new)
 built verbs.Show (circuit ∷ []) keys = Some (Show circuit)
 built verbs.Prove (circuit ∷ public ∷ private ∷ proof ∷ []) keys = or_else keys.seed (λ seed. Some (Prove circuit public private proof seed keys.session)) None
 built verbs.Verify (circuit ∷ public ∷ proof ∷ []) keys = Some (Verify circuit public proof keys.session)
@@ -43,7 +55,8 @@ command_of words = or_else (request_of words) (λ request. built request.verb re
 abbrev pub PutsFile : Option Command → Type 0
 PutsFile None = ⊥
 PutsFile (Some (Eval circuit public private)) = ⊥
-PutsFile (Some (Compile source circuit)) = Unit {0}
+PutsFile (Some (Compile source circuit version)) = Unit {0}
+PutsFile (Some (Upgrade old new)) = Unit {0}
 PutsFile (Some (Show circuit)) = ⊥
 PutsFile (Some (Prove circuit public private proof seed session)) = Unit {0}
 PutsFile (Some (Verify circuit public proof session)) = ⊥
@@ -56,7 +69,8 @@ PutsFile (Some (Sha256 circuit proof message seed session)) = Unit {0}
 abbrev pub LeavesShelf : Option Command → Type 0
 LeavesShelf None = Unit {0}
 LeavesShelf (Some (Eval circuit public private)) = ⊥
-LeavesShelf (Some (Compile source circuit)) = ⊥
+LeavesShelf (Some (Compile source circuit version)) = ⊥
+LeavesShelf (Some (Upgrade old new)) = ⊥
 LeavesShelf (Some (Show circuit)) = ⊥
 LeavesShelf (Some (Prove circuit public private proof seed session)) = ⊥
 LeavesShelf (Some (Verify circuit public proof session)) = ⊥

@@ -49,11 +49,13 @@ fn are_names(row: Row, names: &[String]) -> bool
     }
 }
 
-// The number of workers and the message stand, or do not, as the row says.
+// The number of workers, the message and the version stand, or do not, as the row says.
 fn are_values(row: Row, keys: &Keys<'_>) -> bool
     ensures { result ≡ texts.are_values row (keys_view keys.now) }
 {
-    may_stand(row.workers, keys.workers.is_some()) && may_stand(row.message, keys.message.is_some())
+    may_stand(row.workers, keys.workers.is_some())
+        && may_stand(row.message, keys.message.is_some())
+        && may_stand(row.version, keys.version.is_some())
 }
 
 fn are_keys(row: Row, keys: &Keys<'_>) -> bool

@@ -12,6 +12,7 @@ pub struct Keys<'a> {
     pub session: Option<&'a [u8]>,
     pub workers: Option<&'a [u8]>,
     pub message: Option<&'a [u8]>,
+    pub version: Option<&'a [u8]>,
 }
 
 // What stands behind a front, if the word has it.
@@ -53,6 +54,12 @@ fn is_message(text: &[u8]) -> bool
     ensures { result ≡ texts.is_message text.now }
 {
     text.len() % 2 == 0 && text.len() <= 110 && are_hex(text)
+}
+
+fn is_version(text: &[u8]) -> bool
+    ensures { result ≡ texts.is_version text.now }
+{
+    text == "1".as_bytes() || text == "2".as_bytes()
 }
 
 /// The number of these digits, if it is no more than `most`.
@@ -148,6 +155,19 @@ fn with_message<'a>(keys: Keys<'a>, text: &'a [u8]) -> Option<Keys<'a>>
     }
 }
 
+fn with_version<'a>(keys: Keys<'a>, text: &'a [u8]) -> Option<Keys<'a>>
+    ensures { option_map keys_view result ≡ texts.with_version (keys_view keys.entry) text.now }
+{
+    if keys.version.is_none() && is_version(text) {
+        Some(Keys {
+            version: Some(text),
+            ..keys
+        })
+    } else {
+        None
+    }
+}
+
 // The keys with that of one more word.
 fn with_key<'a>(keys: Keys<'a>, word: &'a [u8]) -> Option<Keys<'a>>
     ensures { option_map keys_view result ≡ texts.with_key (keys_view keys.entry) word.now }
@@ -164,6 +184,9 @@ fn with_key<'a>(keys: Keys<'a>, word: &'a [u8]) -> Option<Keys<'a>>
     if let Some(text) = behind("message=".as_bytes(), word) {
         return with_message(keys, text);
     }
+    if let Some(text) = behind("version=".as_bytes(), word) {
+        return with_version(keys, text);
+    }
     None
 }
 
@@ -176,6 +199,7 @@ pub fn keys_of(words: &[String]) -> Option<Keys<'_>>
         session: None,
         workers: None,
         message: None,
+        version: None,
     };
     for i in 0..words.len() {
         keys = with_key(keys, words[i].as_bytes())?;

@@ -8,6 +8,7 @@ ghost use Rattle.lzk_cmd_words.specs.Table as table;
 pub enum Verb {
     Eval,
     Compile,
+    Upgrade,
     Show,
     Prove,
     Verify,
@@ -42,6 +43,7 @@ pub struct Row {
     pub session: Stands,
     pub workers: Stands,
     pub message: Stands,
+    pub version: Stands,
 }
 
 /// The command of this word.
@@ -52,6 +54,8 @@ pub fn verb_of(word: &str) -> Option<Verb>
         Some(Verb::Eval)
     } else if word == "compile" {
         Some(Verb::Compile)
+    } else if word == "upgrade" {
+        Some(Verb::Upgrade)
     } else if word == "show" {
         Some(Verb::Show)
     } else if word == "prove" {
@@ -82,6 +86,7 @@ fn names(count: usize) -> Row
         session: Stands::Never,
         workers: Stands::Never,
         message: Stands::Never,
+        version: Stands::Never,
     }
 }
 
@@ -91,7 +96,11 @@ pub fn row_of(verb: Verb) -> Row
 {
     match verb {
         Verb::Eval => names(3),
-        Verb::Compile => names(2),
+        Verb::Compile => Row {
+            version: Stands::Maybe,
+            ..names(2)
+        },
+        Verb::Upgrade => names(2),
         Verb::Show => names(1),
         Verb::Prove => Row {
             seed: Stands::Always,

@@ -1,9 +1,9 @@
 //! Which command a list of words is.
 
 ghost use Rattle.std.specs.Prelude.{◌≡◌, MatchOption, map, string_bytes};
-ghost use Rattle.std.specs.Option.{option_map};
+ghost use Rattle.std.specs.Option.{option_copied, option_map};
 ghost use Rattle.lzk_cmd_words.specs.declared.table.Verb.TheVariants as verbs;
-ghost use Rattle.lzk_cmd_words.specs.Words.{built, command_of};
+ghost use Rattle.lzk_cmd_words.specs.Words.{built, command_of, version_of};
 ghost use Rattle.lzk_cmd_words.specs.KeyViews.{keys_view};
 ghost use Rattle.lzk_cmd_words.specs.Keys as texts;
 ghost use Rattle.lzk_cmd_words.specs.Views.{command_view};
@@ -35,6 +35,13 @@ pub struct HashOrder<'a> {
     pub workers: Option<&'a [u8]>,
 }
 
+/// The version that a compiled circuit is to have.
+#[derive(Clone, Copy)]
+pub enum Version {
+    One,
+    Two,
+}
+
 /// A command, with the names of its files, and the digits of its numbers and keys.
 #[derive(Clone, Copy)]
 pub enum Command<'a> {
@@ -46,6 +53,11 @@ pub enum Command<'a> {
     Compile {
         source: &'a str,
         circuit: &'a str,
+        version: Version,
+    },
+    Upgrade {
+        old: &'a str,
+        new: &'a str,
     },
     Show {
         circuit: &'a str,
@@ -87,14 +99,44 @@ fn eval_of(names: &[String]) -> Option<Command<'_>>
     }
 }
 
-// The files of `compile`.
-fn compile_of(names: &[String]) -> Option<Command<'_>>
-    ensures { (keys : texts.Keys) → option_map command_view result ≡ built verbs.Compile (map (λ w. string_bytes w) names.now) keys }
+// The version of a text.
+fn version_of(text: Option<&[u8]>) -> Version
+    ensures { result ≡ version_of (option_copied text.entry) }
+{
+    match text {
+        Some(text) => {
+            if text == "2".as_bytes() {
+                Version::Two
+            } else {
+                Version::One
+            }
+        }
+        None => Version::One,
+    }
+}
+
+// The files of `compile`, and its version.
+fn compile_of<'a>(names: &'a [String], keys: &Keys<'a>) -> Option<Command<'a>>
+    ensures { option_map command_view result ≡ built verbs.Compile (map (λ w. string_bytes w) names.now) (keys_view keys.now) }
 {
     match names {
         [source, circuit] => Some(Command::Compile {
             source: source.as_str(),
             circuit: circuit.as_str(),
+            version: version_of(keys.version),
+        }),
+        _ => None,
+    }
+}
+
+// The files of `upgrade`.
+fn upgrade_of(names: &[String]) -> Option<Command<'_>>
+    ensures { (keys : texts.Keys) → option_map command_view result ≡ built verbs.Upgrade (map (λ w. string_bytes w) names.now) keys }
+{
+    match names {
+        [old, new] => Some(Command::Upgrade {
+            old: old.as_str(),
+            new: new.as_str(),
         }),
         _ => None,
     }
@@ -218,7 +260,8 @@ fn built<'a>(verb: Verb, names: &'a [String], keys: &Keys<'a>) -> Option<Command
 {
     match verb {
         Verb::Eval => eval_of(names),
-        Verb::Compile => compile_of(names),
+        Verb::Compile => compile_of(names, keys),
+        Verb::Upgrade => upgrade_of(names),
         Verb::Show => show_of(names),
         Verb::Prove => prove_of(names, keys),
         Verb::Verify => verify_of(names, keys),
@@ -232,7 +275,9 @@ fn built<'a>(verb: Verb, names: &'a [String], keys: &Keys<'a>) -> Option<Command
 /// The command of the words, if they are one.
 #[tactic(auto, unfolding(crate::specs::Words::command_of))]
 pub fn parse_words(words: &[String]) -> Option<Command<'_>>
-    ensures { MatchOption result (command_of (map (λ w. string_bytes w) words.now) ≡ None) (λ c. command_of (map (λ w. string_bytes w) words.now) ≡ Some (command_view c)) }
+    ensures { MatchOption result
+        (command_of (map (λ w. string_bytes w) words.now) ≡ None)
+        (λ c. command_of (map (λ w. string_bytes w) words.now) ≡ Some (command_view c)) }
 {
     let request = request_of(words)?;
     built(request.verb, request.names, &request.keys)

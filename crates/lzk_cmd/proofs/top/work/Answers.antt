@@ -1,7 +1,7 @@
 use Rattle.std.specs.Option.{option_copied}
 use Rattle.lzk_cmd_files.specs.Seen.{seen}
 use Rattle.lzk_cmd_runs.specs.Sights.{texts}
-use Rattle.lzk_cmd_words.specs.Words.{Eval, Compile, Show, Prove, Verify, Batch, Demo, ShaCircuit, Sha256}
+use Rattle.lzk_cmd_words.specs.Words.{Eval, Compile, Upgrade, Show, Prove, Verify, Batch, Demo, ShaCircuit, Sha256}
 use Rattle.lzk_cmd_words.specs.Keys.{number_of}
 use Rattle.lzk_cmd_words.specs.Digits.{seed_of}
 use Rattle.lzk_cmd_words.proofs.Counts.{has_number}
@@ -23,7 +23,11 @@ returns-in-Some-Eval-clause-moves g c = only_moves (seen g.S.Shelf c.args.shelf.
 
 pub returns-in-Some-Compile-clause-works : goal.returns-in-Some-Compile-clause-works
 returns-in-Some-Compile-clause-works g c =
-    works (texts c.args.words.now) (Compile c.in-Some-Compile.source.now c.in-Some-Compile.circuit.now) (Unit {0}) (seen g.S.Shelf c.args.shelf.now) (seen g.S.Shelf c.compile_source.new.shelf) c.compile_source.result (rw c.in-Some-Compile.field-0-is at c.in-Some-Compile.ensures) (λ u. u) c.compile_source.ensures.walks
+    works (texts c.args.words.now) (Compile c.in-Some-Compile.source.now c.in-Some-Compile.circuit.now c.in-Some-Compile.version) (Unit {0}) (seen g.S.Shelf c.args.shelf.now) (seen g.S.Shelf c.compile_source.new.shelf) c.compile_source.result (rw c.in-Some-Compile.field-0-is at c.in-Some-Compile.ensures) (λ u. u) c.compile_source.ensures.walks
+
+pub returns-in-Some-Upgrade-clause-works : goal.returns-in-Some-Upgrade-clause-works
+returns-in-Some-Upgrade-clause-works g c =
+    works (texts c.args.words.now) (Upgrade c.in-Some-Upgrade.old.now c.in-Some-Upgrade.new.now) (Unit {0}) (seen g.S.Shelf c.args.shelf.now) (seen g.S.Shelf c.upgrade.new.shelf) c.upgrade.result (rw c.in-Some-Upgrade.field-0-is at c.in-Some-Upgrade.ensures) (λ u. u) c.upgrade.ensures.walks
 
 pub returns-in-Some-Show-clause-works : goal.returns-in-Some-Show-clause-works
 returns-in-Some-Show-clause-works g c =
@@ -72,10 +76,16 @@ pub returns-in-Some-Eval-clause-untouched : goal.returns-in-Some-Eval-clause-unt
 returns-in-Some-Eval-clause-untouched g c = λ h. leaves (texts c.args.words.now) (Eval c.in-Some-Eval.circuit.now c.in-Some-Eval.public.now c.in-Some-Eval.private.now) (rw c.in-Some-Eval.field-0-is at c.in-Some-Eval.ensures) (λ b. b) h
 
 pub returns-in-Some-Compile-clause-unread : goal.returns-in-Some-Compile-clause-unread
-returns-in-Some-Compile-clause-unread g c = on_unread (texts c.args.words.now) (Compile c.in-Some-Compile.source.now c.in-Some-Compile.circuit.now) c.compile_source.result (rw c.in-Some-Compile.field-0-is at c.in-Some-Compile.ensures) tt
+returns-in-Some-Compile-clause-unread g c = on_unread (texts c.args.words.now) (Compile c.in-Some-Compile.source.now c.in-Some-Compile.circuit.now c.in-Some-Compile.version) c.compile_source.result (rw c.in-Some-Compile.field-0-is at c.in-Some-Compile.ensures) tt
 
 pub returns-in-Some-Compile-clause-untouched : goal.returns-in-Some-Compile-clause-untouched
-returns-in-Some-Compile-clause-untouched g c = λ h. leaves (texts c.args.words.now) (Compile c.in-Some-Compile.source.now c.in-Some-Compile.circuit.now) (rw c.in-Some-Compile.field-0-is at c.in-Some-Compile.ensures) (λ b. b) h
+returns-in-Some-Compile-clause-untouched g c = λ h. leaves (texts c.args.words.now) (Compile c.in-Some-Compile.source.now c.in-Some-Compile.circuit.now c.in-Some-Compile.version) (rw c.in-Some-Compile.field-0-is at c.in-Some-Compile.ensures) (λ b. b) h
+
+pub returns-in-Some-Upgrade-clause-unread : goal.returns-in-Some-Upgrade-clause-unread
+returns-in-Some-Upgrade-clause-unread g c = on_unread (texts c.args.words.now) (Upgrade c.in-Some-Upgrade.old.now c.in-Some-Upgrade.new.now) c.upgrade.result (rw c.in-Some-Upgrade.field-0-is at c.in-Some-Upgrade.ensures) tt
+
+pub returns-in-Some-Upgrade-clause-untouched : goal.returns-in-Some-Upgrade-clause-untouched
+returns-in-Some-Upgrade-clause-untouched g c = λ h. leaves (texts c.args.words.now) (Upgrade c.in-Some-Upgrade.old.now c.in-Some-Upgrade.new.now) (rw c.in-Some-Upgrade.field-0-is at c.in-Some-Upgrade.ensures) (λ b. b) h
 
 pub returns-in-Some-Show-clause-unread : goal.returns-in-Some-Show-clause-unread
 returns-in-Some-Show-clause-unread g c = on_unread (texts c.args.words.now) (Show c.in-Some-Show.circuit.now) c.show.result (rw c.in-Some-Show.field-0-is at c.in-Some-Show.ensures) tt

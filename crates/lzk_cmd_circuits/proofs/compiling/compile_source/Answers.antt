@@ -8,18 +8,19 @@ use Rattle.lzk_cmd_files.specs.Ends.{End, Stop}
 use Rattle.lzk_cmd_files.specs.Seen.{seen}
 use Rattle.lzk_cmd_files.proofs.Laws as laws
 use Rattle.lzk_cmd_files.proofs.Steps.{ends, then}
+use Rattle.lzk_cmd_words.specs.declared.words.Version.{Version}
 use Rattle.lzk_cmd_circuits.proofs.compiling.compile_source.Goals as goal
 
 -- the walk that has the source
-abbrev next : List ℕ → List ℕ → Files → Stop → End → SourceTree → Type 0
-next source circuit files stop end s = CompileTree source circuit s stop end
+abbrev next : Version → List ℕ → List ℕ → Files → Stop → End → SourceTree → Type 0
+next version source circuit files stop end s = CompileTree version source circuit s stop end
 
 pub returns-in_err-tree-clause-walks : goal.returns-in_err-tree-clause-walks
 unfolding CompileRun
 returns-in_err-tree-clause-walks g c =
-    ends source_files (λ s. tree_of s) c.args.source.now 0 (next c.args.source.now c.args.circuit.now) (Unit {0}) (seen g.S.Shelf c.args.shelf.now) (seen g.S.Shelf c.read_source.new.shelf) c.in_err-tree.field-0.0 _ (laws.sources.quiet c.args.source.now) c.in_err-tree.ensures.reads c.in_err-tree.ensures.gives c.from_residual.ensures.1
+    ends source_files (λ s. tree_of s) c.args.source.now 0 (next c.args.version c.args.source.now c.args.circuit.now) (Unit {0}) (seen g.S.Shelf c.args.shelf.now) (seen g.S.Shelf c.read_source.new.shelf) c.in_err-tree.field-0.0 _ (laws.sources.quiet c.args.source.now) c.in_err-tree.ensures.reads c.in_err-tree.ensures.gives c.from_residual.ensures.1
 
 pub returns-clause-walks : goal.returns-clause-walks
 unfolding CompileRun
 returns-clause-walks g c =
-    then source_files (λ s. tree_of s) c.args.source.now 0 (next c.args.source.now c.args.circuit.now) (Unit {0}) (seen g.S.Shelf c.args.shelf.now) (seen g.S.Shelf c.read_source.new.shelf) (seen g.S.Shelf c.compile_tree.new.shelf) c.in_ok-tree.tree c.compile_tree.result c.in_ok-tree.ensures.reads c.in_ok-tree.ensures.gives c.compile_tree.ensures.walks
+    then source_files (λ s. tree_of s) c.args.source.now 0 (next c.args.version c.args.source.now c.args.circuit.now) (Unit {0}) (seen g.S.Shelf c.args.shelf.now) (seen g.S.Shelf c.read_source.new.shelf) (seen g.S.Shelf c.compile_tree.new.shelf) c.in_ok-tree.tree c.compile_tree.result c.in_ok-tree.ensures.reads c.in_ok-tree.ensures.gives c.compile_tree.ensures.walks

@@ -1,5 +1,6 @@
 use Rattle.std.proofs.Common.{List, refl, subst}
-use Rattle.lzk_circuit.specs.Wires.{inputs_of, wires_of}
+use Rattle.lzk_circuit.specs.Checks.{checks_of}
+use Rattle.lzk_circuit.specs.Wires.{inputs_of}
 use Rattle.lzk_cmd_circuits.specs.Evaluated.{EvalOver}
 use Rattle.lzk_cmd_files.specs.Seen.{seen}
 use Rattle.lzk_cmd_circuits.specs.CircuitSteps.{Evaluates}
@@ -31,8 +32,8 @@ returns-clause-walks g c =
     let publics = c.in_ok-publics.publics in
     let privates = c.in_ok-privates.privates in
     let end = seen g.S.Shelf c.read_elements-2.new.shelf in
-    let first = subst (λ (xs : List _). Evaluates o g.F.Field.number_of (wires_of o circuit.layers (inputs_of o xs c.deref-2.result.now)) c.evaluate.result) c.deref.ensures.value c.evaluate.ensures in
-    let both = subst (λ (ys : List _). Evaluates o g.F.Field.number_of (wires_of o circuit.layers (inputs_of o publics.items ys)) c.evaluate.result) c.deref-2.ensures.value first in
+    let first = subst (λ (xs : List _). Evaluates o g.F.Field.number_of (checks_of o g.F.Field.number_of circuit.layers (inputs_of o xs c.deref-2.result.now)) c.evaluate.result) c.deref.ensures.value c.evaluate.ensures in
+    let both = subst (λ (ys : List _). Evaluates o g.F.Field.number_of (checks_of o g.F.Field.number_of circuit.layers (inputs_of o publics.items ys)) c.evaluate.result) c.deref-2.ensures.value first in
     with_inputs g.F.Field.size g.F.Field.number_of circuit.publics circuit.privates c.args.public.now c.args.private.now (WithInputs o g.F.Field.number_of circuit) ⊥ (seen g.S.Shelf c.args.shelf.now) (seen g.S.Shelf c.read_elements.new.shelf) end end c.publics.result c.privates.result c.publics.ensures c.privates.ensures
     publics privates c.evaluate.result c.in_ok-publics.ensures.reads c.in_ok-publics.ensures.gives c.in_ok-privates.ensures.reads c.in_ok-privates.ensures.gives
     (evaluates o g.F.Field.number_of circuit publics.items privates.items end c.evaluate.result both)

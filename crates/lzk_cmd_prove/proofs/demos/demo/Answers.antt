@@ -7,7 +7,7 @@ use Rattle.lzk_cmd_prove.proofs.demos.demo.Goals as goal
 pub demo_over-ending-requires-clause-compiled : goal.demo_over-ending-requires-clause-compiled
 demo_over-ending-requires-clause-compiled g c κs within =
     let made = c.in_ok-circuit.ensures in
-    demo_compiled c.count_of-n.result c.in_ok-circuit.circuit made.publics made.privates made.layers made.outputs made.reduced
+    demo_compiled c.count_of-n.result c.in_ok-circuit.circuit made.version made.publics made.privates made.layers made.outputs made.reduced
 
 pub returns : goal.returns
 returns g c =

@@ -1,6 +1,7 @@
 use Rattle.std.proofs.Common.{ℕ, List, [], Some, refl, subst}
+use Rattle.lzk_circuit.specs.Checks.{checks_of}
 use Rattle.lzk_circuit.specs.Valid.{Wiring}
-use Rattle.lzk_circuit.specs.Wires.{wires_of, inputs_of, IsFirstNonzero}
+use Rattle.lzk_circuit.specs.Wires.{inputs_of, IsFirstNonzero}
 use Rattle.lzk_field.specs.Coding.{coding}
 use Rattle.lzk_field.specs.Words.{seeded_word}
 use Rattle.lzk_honest.specs.Proving.{IsProofFile, words_of}
@@ -10,9 +11,10 @@ use Rattle.lzk_cmd_prove.proofs.demos.judge_own_proof.Goals as goal
 pub unreachable-requires : goal.unreachable-requires
 unreachable-requires g c =
     let o = g.F.Field.ops in
+    let number = g.F.Field.number_of in
     let first = c.in-Err.field-0 in
-    let is = subst (λ (w : Wiring _). IsFirstNonzero o (wires_of o w.layers (inputs_of o c.args.publics.now c.args.privates.now)) (Some (first.output, first.value.now))) c.requires.works c.in-Err.ensures.proved in
-    none_nonzero o (wires_of o c.args.circuit.now.layers (inputs_of o c.args.publics.now c.args.privates.now)) (first.output, first.value.now) c.requires.satisfied is
+    let is = subst (λ (w : Wiring _). IsFirstNonzero o (checks_of o number w.layers (inputs_of o c.args.publics.now c.args.privates.now)) (Some (first.output, first.value.now))) c.requires.works c.in-Err.ensures.proved in
+    none_nonzero o (checks_of o number c.args.circuit.now.layers (inputs_of o c.args.publics.now c.args.privates.now)) (first.output, first.value.now) c.requires.satisfied is
 
 pub returns : goal.returns
 returns g c =

@@ -1,7 +1,8 @@
 use Rattle.std.proofs.Common.{ℕ, List, Some, None, refl, subst}
 use Rattle.std.specs.Option.{option_copied}
+use Rattle.lzk_circuit.specs.Checks.{checks_of}
 use Rattle.lzk_circuit.specs.Valid.{Wiring}
-use Rattle.lzk_circuit.specs.Wires.{wires_of, inputs_of, IsFirstNonzero}
+use Rattle.lzk_circuit.specs.Wires.{inputs_of, IsFirstNonzero}
 use Rattle.lzk_field.specs.Coding.{coding}
 use Rattle.lzk_field.specs.Words.{seeded_word}
 use Rattle.lzk_honest.specs.Proving.{IsProofFile, words_of}
@@ -18,7 +19,7 @@ returns-in_ok-text-in-Ok-clause-walks g c =
     let job = c.args.job.now in
     let bytes = c.in-Ok.bytes.now in
     let word = words_of (seeded_word job.seed) in
-    let first = subst (λ (w : Wiring _). IsFirstNonzero o (wires_of o w.layers (inputs_of o c.args.publics.now c.args.privates.now)) None) c.requires.works c.in-Ok.ensures.proved.0 in
+    let first = subst (λ (w : Wiring _). IsFirstNonzero o (checks_of o e.number w.layers (inputs_of o c.args.publics.now c.args.privates.now)) None) c.requires.works c.in-Ok.ensures.proved.0 in
     let seeded = subst (λ (s : List ℕ). IsProofFile o e c.args.works.now job.session.now c.args.publics.now c.args.privates.now (words_of (seeded_word s)) bytes) c.new-words.ensures c.in-Ok.ensures.proved.1 in
     let file = subst (λ (w : Wiring _). IsProofFile o e w job.session.now c.args.publics.now c.args.privates.now word bytes) c.requires.works seeded in
     puts_proof o e circuit job.proof.now (option_copied job.digest) job.session.now job.seed c.args.publics.now c.args.privates.now (seen g.S.Shelf c.args.shelf.now) (seen g.S.Shelf c.put_file.new.shelf) bytes _ c.put_file.result first file
@@ -30,7 +31,7 @@ returns-in_ok-unsatisfied-in-Err-clause-walks g c =
     let e = coding g.F.Field.element g.F.Field.number_of g.F.Field.BYTES g.F.Field.size g.F.Field.ID in
     let job = c.args.job.now in
     let first = c.in-Err.first in
-    let is = subst (λ (w : Wiring _). IsFirstNonzero o (wires_of o w.layers (inputs_of o c.args.publics.now c.args.privates.now)) (Some (first.output, first.value.now))) c.requires.works c.in-Err.ensures.proved in
+    let is = subst (λ (w : Wiring _). IsFirstNonzero o (checks_of o e.number w.layers (inputs_of o c.args.publics.now c.args.privates.now)) (Some (first.output, first.value.now))) c.requires.works c.in-Err.ensures.proved in
     tells_first o e c.args.circuit.now job.proof.now (option_copied job.digest) job.session.now job.seed c.args.publics.now c.args.privates.now (seen g.S.Shelf c.args.shelf.now) (first.output, first.value.now) c.in_ok-unsatisfied-in-Err.field-0 is c.in_ok-unsatisfied-in-Err.ensures
 
 pub returns-in_err-text-in-Ok-clause-walks : goal.returns-in_err-text-in-Ok-clause-walks
