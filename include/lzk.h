@@ -65,14 +65,15 @@ enum lzk_proof_kind {
 /* Which rule a circuit's file breaks (LZK_NO_CIRCUIT). */
 enum lzk_circuit_kind {
   LZK_CIRCUIT_TRUNCATED = 1,
-  LZK_CIRCUIT_MAGIC = 2,    /* the file does not begin with LZC1 */
+  LZK_CIRCUIT_MAGIC = 2,    /* the file begins with neither LZC1 nor LZC2 */
   LZK_CIRCUIT_FIELD = 3,    /* the field's byte is neither 1 nor 2 */
   LZK_CIRCUIT_LIMIT = 4,    /* a count, or a running total, is over its limit */
   LZK_CIRCUIT_VARINT = 5,   /* a number is not in its shortest form, or is 2^32 or more */
   LZK_CIRCUIT_ORDER = 6,    /* a term does not come after the one before it */
   LZK_CIRCUIT_RANGE = 7,    /* a wire, or the number of a constant, is out of range */
   LZK_CIRCUIT_CONSTANT = 8, /* a constant is zero, too large, not above the one before, or used by no term */
-  LZK_CIRCUIT_TRAILING = 9  /* bytes are left behind the last term */
+  LZK_CIRCUIT_TRAILING = 9, /* bytes are left behind the last term */
+  LZK_CIRCUIT_ASSERTION = 10 /* an assertion term is not the only one of its wire */
 };
 
 /* Which rule a text of public numbers breaks (LZK_NO_NUMBERS). */

@@ -146,7 +146,7 @@ pub use lzk_expr::{NumberError, Source, SourceError, parse, read_numbers};
 pub use lzk_field::{Field, Gate, Open, Seeded, Words};
 pub use lzk_gf128::Gf128;
 pub use lzk_goldilocks::Gold;
-pub use lzk_level::{LevelError, compile};
+pub use lzk_level::{LevelError, compile, compile_v2};
 pub use lzk_ligero::Unsatisfied;
 use lzk_ligero::WorksOver;
 use lzk_ntt::NttExtender;

@@ -76,7 +76,8 @@ fn one_list(
     requires dealt { batch.now.tickets.now.jobs ≡ length batch.now.jobs.now }
     requires of { IsOf batch.now.tickets.now pass.old }
     requires open { IsOpen batch.now.tickets.now pass.old }
-    ensures worked { IfOk result (λ lists. HaveWorked batch.now.circuits.now batch.now.jobs.now (pass.old ∷ []) (pass.new ∷ []) (map (λ list. list.items) lists.items)) }
+    ensures worked { IfOk result (λ lists. HaveWorked batch.now.circuits.now batch.now.jobs.now (pass.old ∷ []) (pass.new ∷ [])
+        (map (λ list. list.items) lists.items)) }
     ensures draws { DrawsOn pass.old pass.new }
 {
     let judged = work_alone(alloc, batch, pass)?;
@@ -113,13 +114,17 @@ fn share_out<R: Threads + Sync, G: Gate>(
     let next = first + half;
     let (front, back) = passes.split_at_mut(half);
     let mut front_lists = ||
-        requires { IsSync R.row × IsSync G.row × (1 ≤ length front.now) × (first + length front.now ≤ most_workers) × AreReady batch.now.circuits.now batch.now.jobs.now batch.now.tickets.now front.now }
-        ensures worked { IfOk result (λ lists. HaveWorked batch.entry.now.circuits.now batch.entry.now.jobs.now front.entry.now front.exit.now (map (λ list. list.items) lists.items)) }
+        requires { IsSync R.row × IsSync G.row × (1 ≤ length front.now) × (first + length front.now ≤ most_workers) ×
+            AreReady batch.now.circuits.now batch.now.jobs.now batch.now.tickets.now front.now }
+        ensures worked { IfOk result (λ lists. HaveWorked batch.entry.now.circuits.now batch.entry.now.jobs.now front.entry.now front.exit.now
+            (map (λ list. list.items) lists.items)) }
         ensures draws { AllZip DrawsOn front.entry.now front.exit.now }
     { share_out(rt, alloc, batch, gate, first, of, front) };
     let mut back_lists = ||
-        requires { IsSync R.row × IsSync G.row × (1 ≤ length back.now) × (next + length back.now ≤ most_workers) × AreReady batch.now.circuits.now batch.now.jobs.now batch.now.tickets.now back.now }
-        ensures worked { IfOk result (λ lists. HaveWorked batch.entry.now.circuits.now batch.entry.now.jobs.now back.entry.now back.exit.now (map (λ list. list.items) lists.items)) }
+        requires { IsSync R.row × IsSync G.row × (1 ≤ length back.now) × (next + length back.now ≤ most_workers) ×
+            AreReady batch.now.circuits.now batch.now.jobs.now batch.now.tickets.now back.now }
+        ensures worked { IfOk result (λ lists. HaveWorked batch.entry.now.circuits.now batch.entry.now.jobs.now back.entry.now back.exit.now
+            (map (λ list. list.items) lists.items)) }
         ensures draws { AllZip DrawsOn back.entry.now back.exit.now }
     { share_out(rt, alloc, batch, gate, next, of, back) };
     let (lists, others) = join_mut(rt, &mut front_lists, &mut back_lists);

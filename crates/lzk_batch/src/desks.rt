@@ -52,8 +52,10 @@ fn ready<'c, F: Field>(
 // The verdict on a job's proof, by the desk that is kept.
 fn judge_at<'c, F: Field>(kept: &mut Kept<'c, F>, job: &JobOf<F>) -> Verdict<F>
     requires { IsFit kept.old.desk.circuit job.now }
-    ensures verdict { IsVerdict F.ops (coding F.element F.number_of F.BYTES F.size F.ID) kept.old.desk.circuit job.now.session.items job.now.public.items job.now.proof.items result }
-    ensures one { IsOnlyVerdict F.ops (coding F.element F.number_of F.BYTES F.size F.ID) kept.old.desk.circuit job.now.session.items job.now.public.items job.now.proof.items result }
+    ensures verdict { IsVerdict F.ops (coding F.element F.number_of F.BYTES F.size F.ID) kept.old.desk.circuit job.now.session.items
+        job.now.public.items job.now.proof.items result }
+    ensures one { IsOnlyVerdict F.ops (coding F.element F.number_of F.BYTES F.size F.ID) kept.old.desk.circuit job.now.session.items
+        job.now.public.items job.now.proof.items result }
     ensures place { kept.new.place ≡ kept.old.place }
     ensures circuit { kept.new.desk.circuit ≡ kept.old.desk.circuit }
 {
@@ -69,8 +71,10 @@ fn judge_over<'c, F: Field>(
 ) -> Result<Verdict<F>, AllocError>
     requires fit { IsFit circuit.now job.now }
     requires kept { ForSome kept.old (λ k. k.place ≡ job.now.circuit → k.desk.circuit ≡ circuit.now) }
-    ensures verdict { IfOk result (IsVerdict F.ops (coding F.element F.number_of F.BYTES F.size F.ID) circuit.now job.now.session.items job.now.public.items job.now.proof.items) }
-    ensures one { IfOk result (IsOnlyVerdict F.ops (coding F.element F.number_of F.BYTES F.size F.ID) circuit.now job.now.session.items job.now.public.items job.now.proof.items) }
+    ensures verdict { IfOk result (IsVerdict F.ops (coding F.element F.number_of F.BYTES F.size F.ID) circuit.now job.now.session.items
+        job.now.public.items job.now.proof.items) }
+    ensures one { IfOk result (IsOnlyVerdict F.ops (coding F.element F.number_of F.BYTES F.size F.ID) circuit.now job.now.session.items
+        job.now.public.items job.now.proof.items) }
     ensures kept { ForSome kept.new (λ k. (k.place ≡ job.now.circuit) × (k.desk.circuit ≡ circuit.now)) }
 {
     ready(alloc, kept, job.circuit, circuit)?;
@@ -98,7 +102,8 @@ impl<'c> Model for Desks<'c> {
 
     ghost view = { λ d. d.circuits.now };
 
-    ghost invariant = { λ d. ForSome d.gold (λ k. IsGoldAt d.circuits.now k.place k.desk.circuit) × ForSome d.gf (λ k. IsGfAt d.circuits.now k.place k.desk.circuit) };
+    ghost invariant = { λ d. ForSome d.gold (λ k. IsGoldAt d.circuits.now k.place k.desk.circuit) ×
+        ForSome d.gf (λ k. IsGfAt d.circuits.now k.place k.desk.circuit) };
 }
 
 impl<'c> Desks<'c> {

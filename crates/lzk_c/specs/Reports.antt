@@ -52,6 +52,7 @@ circuit_kind circuits.Order = 6
 circuit_kind circuits.Range = 7
 circuit_kind circuits.Constant = 8
 circuit_kind circuits.Trailing = 9
+circuit_kind circuits.Assertion = 10
 
 abbrev pub number_kind : NumberKind → ℕ
 number_kind numbers.Syntax = 1

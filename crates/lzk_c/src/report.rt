@@ -88,6 +88,7 @@ fn circuit_kind(kind: ByteKind) -> u32
         ByteKind::Range => 7,
         ByteKind::Constant => 8,
         ByteKind::Trailing => 9,
+        ByteKind::Assertion => 10,
     }
 }
 
