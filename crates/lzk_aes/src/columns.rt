@@ -44,7 +44,8 @@ fn block_of(s: Columns) -> [u8; 16]
 #[inline(always)]
 fn add_round_key(s: Columns, words: &[u32; 60], round: usize) -> Columns
     requires { round < 15 }
-    ensures { state_bytes result.first result.second result.third result.fourth ≡ add_round_key (map word_bytes words.now) round (state_bytes s.first s.second s.third s.fourth) }
+    ensures { state_bytes result.first result.second result.third result.fourth ≡
+        add_round_key (map word_bytes words.now) round (state_bytes s.first s.second s.third s.fourth) }
 {
     Columns {
         first: xor(s.first, words[4 * round]),
@@ -58,7 +59,8 @@ fn add_round_key(s: Columns, words: &[u32; 60], round: usize) -> Columns
 #[inline(always)]
 #[tactic(auto, unfolding(crate::specs::Aes::shift_rows, crate::specs::Aes::mix_columns))]
 fn mix(s: Columns) -> Columns
-    ensures { state_bytes result.first result.second result.third result.fourth ≡ mix_columns (shift_rows (sub_bytes (state_bytes s.first s.second s.third s.fourth))) }
+    ensures { state_bytes result.first result.second result.third result.fourth ≡
+        mix_columns (shift_rows (sub_bytes (state_bytes s.first s.second s.third s.fourth))) }
 {
     Columns {
         first: mixed(s.first, s.second, s.third, s.fourth),
@@ -86,7 +88,8 @@ fn shift(s: Columns) -> Columns
 #[inline(always)]
 fn round(s: Columns, words: &[u32; 60], number: usize) -> Columns
     requires { number < 15 }
-    ensures { state_bytes result.first result.second result.third result.fourth ≡ round (map word_bytes words.now) number (state_bytes s.first s.second s.third s.fourth) }
+    ensures { state_bytes result.first result.second result.third result.fourth ≡
+        round (map word_bytes words.now) number (state_bytes s.first s.second s.third s.fourth) }
 {
     add_round_key(mix(s), words, number)
 }

@@ -10,7 +10,8 @@ use lzk_field::Field;
 pub fn forward_butterflies<F: Field>(low: &mut [F], high: &mut [F], twiddle: F)
     requires halves { length high.old ≡ length low.old }
     ensures lower { (i : ℕ) → i < length low.new → entry F.ops low.new i ≡ F.ops.plus (entry F.ops low.old i) (F.ops.times twiddle (entry F.ops high.old i)) }
-    ensures upper { (i : ℕ) → i < length high.new → entry F.ops high.new i ≡ F.ops.plus (F.ops.plus (entry F.ops low.old i) (F.ops.times twiddle (entry F.ops high.old i))) (entry F.ops high.old i) }
+    ensures upper { (i : ℕ) → i < length high.new → entry F.ops high.new i ≡
+        F.ops.plus (F.ops.plus (entry F.ops low.old i) (F.ops.times twiddle (entry F.ops high.old i))) (entry F.ops high.old i) }
 {
     for i in 0..low.len() {
         let sum = low[i].add(twiddle.mul(high[i]));
@@ -37,7 +38,8 @@ pub fn backward_butterflies<F: Field>(low: &mut [F], high: &mut [F], twiddle: F)
 pub fn add_multiples<F: Field>(low: &mut [F], high: &[F], twiddle: F, from: usize)
     requires halves { length high.now ≡ length low.old }
     ensures before { (i : ℕ) → i < from → entry F.ops low.new i ≡ entry F.ops low.old i }
-    ensures after { (i : ℕ) → from ≤ i → i < length low.new → entry F.ops low.new i ≡ F.ops.plus (entry F.ops low.old i) (F.ops.times twiddle (entry F.ops high.now i)) }
+    ensures after { (i : ℕ) → from ≤ i → i < length low.new →
+        entry F.ops low.new i ≡ F.ops.plus (entry F.ops low.old i) (F.ops.times twiddle (entry F.ops high.now i)) }
 {
     for i in from..low.len() {
         low[i] = low[i].add(twiddle.mul(high[i]));

@@ -44,7 +44,8 @@ fn transform_block<F: Field>(
     requires values { length values.now ≡ kernels.now.plan.count }
     requires block { v < kernels.now.plan.blocks }
     requires out { length out.old ≡ 2 ^ kernels.now.transform.bits }
-    ensures { let d = kernels.now.transform in (j : ℕ) → j < length out.new → entry F.ops out.new j ≡ spectrum F.ops d.bits d.root (weighted F.ops kernels.now.plan values.now weights.now v) j }
+    ensures { let d = kernels.now.transform in (j : ℕ) → j < length out.new →
+        entry F.ops out.new j ≡ spectrum F.ops d.bits d.root (weighted F.ops kernels.now.plan values.now weights.now v) j }
 {
     let plan = kernels.plan;
     let start = v * plan.block;
@@ -85,7 +86,9 @@ fn sum_products<F: Field>(kernels: &Kernels<F>, p: usize, spectra: &[F], out: &m
     requires piece { p < kernels.now.plan.pieces }
     requires spectra { length spectra.now ≡ kernels.now.plan.blocks * 2 ^ kernels.now.transform.bits }
     requires out { length out.old ≡ 2 ^ kernels.now.transform.bits }
-    ensures { let d = kernels.now.transform in (values weights : List F) → IsRoot F.ops d.bits d.root → AreSpectra F.ops d kernels.now.plan values weights 0 spectra.now → (j : ℕ) → j < length out.new → entry F.ops out.new j ≡ spectrum F.ops d.bits d.root (convolutions F.ops F.element d kernels.now.plan values weights p kernels.now.plan.blocks) j }
+    ensures { let d = kernels.now.transform in (values weights : List F) → IsRoot F.ops d.bits d.root →
+        AreSpectra F.ops d kernels.now.plan values weights 0 spectra.now → (j : ℕ) → j < length out.new →
+        entry F.ops out.new j ≡ spectrum F.ops d.bits d.root (convolutions F.ops F.element d kernels.now.plan values weights p kernels.now.plan.blocks) j }
 {
     let plan = kernels.plan;
     let size = kernels.transform.size();

@@ -11,7 +11,8 @@ pub fn forward_butterflies<F: Field>(low: &mut [F], high: &mut [F], twiddles: &[
     requires halves { length high.old ≡ length low.old }
     requires twiddles { length twiddles.now ≡ length low.old }
     ensures sums { (i : ℕ) → i < length low.new → entry F.ops low.new i ≡ F.ops.plus (entry F.ops low.old i) (entry F.ops high.old i) }
-    ensures twiddled { (i : ℕ) → i < length high.new → entry F.ops high.new i ≡ F.ops.times (minus F.ops (entry F.ops low.old i) (entry F.ops high.old i)) (entry F.ops twiddles.now i) }
+    ensures twiddled { (i : ℕ) → i < length high.new → entry F.ops high.new i ≡
+        F.ops.times (minus F.ops (entry F.ops low.old i) (entry F.ops high.old i)) (entry F.ops twiddles.now i) }
 {
     for i in 0..low.len() {
         let sum = low[i].add(high[i]);
@@ -25,8 +26,10 @@ pub fn forward_butterflies<F: Field>(low: &mut [F], high: &mut [F], twiddles: &[
 pub fn backward_butterflies<F: Field>(low: &mut [F], high: &mut [F], twiddles: &[F])
     requires halves { length high.old ≡ length low.old }
     requires twiddles { length twiddles.now ≡ length low.old }
-    ensures sums { (i : ℕ) → i < length low.new → entry F.ops low.new i ≡ F.ops.plus (entry F.ops low.old i) (F.ops.times (entry F.ops high.old i) (entry F.ops twiddles.now i)) }
-    ensures differences { (i : ℕ) → i < length high.new → entry F.ops high.new i ≡ minus F.ops (entry F.ops low.old i) (F.ops.times (entry F.ops high.old i) (entry F.ops twiddles.now i)) }
+    ensures sums { (i : ℕ) → i < length low.new → entry F.ops low.new i ≡
+        F.ops.plus (entry F.ops low.old i) (F.ops.times (entry F.ops high.old i) (entry F.ops twiddles.now i)) }
+    ensures differences { (i : ℕ) → i < length high.new → entry F.ops high.new i ≡
+        minus F.ops (entry F.ops low.old i) (F.ops.times (entry F.ops high.old i) (entry F.ops twiddles.now i)) }
 {
     for i in 0..low.len() {
         let twiddled = high[i].mul(twiddles[i]);
@@ -49,10 +52,14 @@ pub fn butterfly<F: Field>(values: &mut [F])
 /// Both levels of a forward transform of four, with one product. `fourth_root` is the root of order four.
 pub fn forward_four<F: Field>(values: &mut [F], fourth_root: F)
     requires { length values.old ≡ 4 }
-    ensures first { let o = F.ops in let x = values.old in entry o values.new 0 ≡ o.plus (o.plus (entry o x 0) (entry o x 2)) (o.plus (entry o x 1) (entry o x 3)) }
-    ensures second { let o = F.ops in let x = values.old in entry o values.new 1 ≡ minus o (o.plus (entry o x 0) (entry o x 2)) (o.plus (entry o x 1) (entry o x 3)) }
-    ensures third { let o = F.ops in let x = values.old in entry o values.new 2 ≡ o.plus (minus o (entry o x 0) (entry o x 2)) (o.times (minus o (entry o x 1) (entry o x 3)) fourth_root) }
-    ensures fourth { let o = F.ops in let x = values.old in entry o values.new 3 ≡ minus o (minus o (entry o x 0) (entry o x 2)) (o.times (minus o (entry o x 1) (entry o x 3)) fourth_root) }
+    ensures first { let o = F.ops in let x = values.old in entry o values.new 0 ≡
+        o.plus (o.plus (entry o x 0) (entry o x 2)) (o.plus (entry o x 1) (entry o x 3)) }
+    ensures second { let o = F.ops in let x = values.old in entry o values.new 1 ≡
+        minus o (o.plus (entry o x 0) (entry o x 2)) (o.plus (entry o x 1) (entry o x 3)) }
+    ensures third { let o = F.ops in let x = values.old in entry o values.new 2 ≡
+        o.plus (minus o (entry o x 0) (entry o x 2)) (o.times (minus o (entry o x 1) (entry o x 3)) fourth_root) }
+    ensures fourth { let o = F.ops in let x = values.old in entry o values.new 3 ≡
+        minus o (minus o (entry o x 0) (entry o x 2)) (o.times (minus o (entry o x 1) (entry o x 3)) fourth_root) }
 {
     let (a, b, c, d) = (values[0], values[1], values[2], values[3]);
     let (even, odd) = (a.add(c), b.add(d));
@@ -67,10 +74,14 @@ pub fn forward_four<F: Field>(values: &mut [F], fourth_root: F)
 /// of order four.
 pub fn backward_four<F: Field>(values: &mut [F], fourth_root: F)
     requires { length values.old ≡ 4 }
-    ensures first { let o = F.ops in let x = values.old in entry o values.new 0 ≡ o.plus (o.plus (entry o x 0) (entry o x 1)) (o.plus (entry o x 2) (entry o x 3)) }
-    ensures second { let o = F.ops in let x = values.old in entry o values.new 1 ≡ o.plus (minus o (entry o x 0) (entry o x 1)) (o.times (minus o (entry o x 2) (entry o x 3)) fourth_root) }
-    ensures third { let o = F.ops in let x = values.old in entry o values.new 2 ≡ minus o (o.plus (entry o x 0) (entry o x 1)) (o.plus (entry o x 2) (entry o x 3)) }
-    ensures fourth { let o = F.ops in let x = values.old in entry o values.new 3 ≡ minus o (minus o (entry o x 0) (entry o x 1)) (o.times (minus o (entry o x 2) (entry o x 3)) fourth_root) }
+    ensures first { let o = F.ops in let x = values.old in entry o values.new 0 ≡
+        o.plus (o.plus (entry o x 0) (entry o x 1)) (o.plus (entry o x 2) (entry o x 3)) }
+    ensures second { let o = F.ops in let x = values.old in entry o values.new 1 ≡
+        o.plus (minus o (entry o x 0) (entry o x 1)) (o.times (minus o (entry o x 2) (entry o x 3)) fourth_root) }
+    ensures third { let o = F.ops in let x = values.old in entry o values.new 2 ≡
+        minus o (o.plus (entry o x 0) (entry o x 1)) (o.plus (entry o x 2) (entry o x 3)) }
+    ensures fourth { let o = F.ops in let x = values.old in entry o values.new 3 ≡
+        minus o (minus o (entry o x 0) (entry o x 1)) (o.times (minus o (entry o x 2) (entry o x 3)) fourth_root) }
 {
     let (a, b, c, d) = (values[0], values[1], values[2], values[3]);
     let (even, odd) = (a.add(b), c.add(d));

@@ -36,7 +36,8 @@ impl<F: Field> Model for NttExtender<F> {
 
     ghost view = { λ e. record { reach = e.weights; room = (e.kernels.plan.blocks + 1) * 2 ^ e.kernels.transform.bits } };
 
-    ghost invariant = { λ e. (e.kernels.plan.count ≡ e.weights.count) × (e.kernels.plan.upto ≡ e.weights.upto) × IsReady F.ops F.element e.kernels.transform e.kernels.plan e.kernels.spectra.items };
+    ghost invariant = { λ e. (e.kernels.plan.count ≡ e.weights.count) × (e.kernels.plan.upto ≡ e.weights.upto) ×
+        IsReady F.ops F.element e.kernels.transform e.kernels.plan e.kernels.spectra.items };
 }
 
 impl<F: Field> NttExtender<F> {

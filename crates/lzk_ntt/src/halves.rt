@@ -15,7 +15,8 @@ use lzk_field::Field;
 pub fn forward<F: Field>(values: &mut [F], twiddles: &[F], bits: u32)
     requires whole { length values.old ≡ 2 ^ bits }
     requires twiddles { length values.old ≤ length twiddles.now }
-    ensures { (w : F) → IsRoot F.ops bits w → AreTwiddles F.ops bits w twiddles.now → (j : ℕ) → j < length values.new → entry F.ops values.new j ≡ spectrum F.ops bits w (λ i. entry F.ops values.old i) j }
+    ensures { (w : F) → IsRoot F.ops bits w → AreTwiddles F.ops bits w twiddles.now → (j : ℕ) → j < length values.new →
+        entry F.ops values.new j ≡ spectrum F.ops bits w (λ i. entry F.ops values.old i) j }
 {
     if bits == 3 {
         forward_eight(values, twiddles);
@@ -37,7 +38,8 @@ fn forward_small<F: Field>(values: &mut [F], twiddles: &[F], bits: u32)
     requires whole { length values.old ≡ 2 ^ bits }
     requires twiddles { length values.old ≤ length twiddles.now }
     requires few { bits ≤ 2 }
-    ensures { (w : F) → IsRoot F.ops bits w → AreTwiddles F.ops bits w twiddles.now → (j : ℕ) → j < length values.new → entry F.ops values.new j ≡ spectrum F.ops bits w (λ i. entry F.ops values.old i) j }
+    ensures { (w : F) → IsRoot F.ops bits w → AreTwiddles F.ops bits w twiddles.now → (j : ℕ) → j < length values.new →
+        entry F.ops values.new j ≡ spectrum F.ops bits w (λ i. entry F.ops values.old i) j }
 {
     if bits == 2 {
         forward_four(values, twiddles[3]);
@@ -52,7 +54,8 @@ fn forward_small<F: Field>(values: &mut [F], twiddles: &[F], bits: u32)
 fn forward_eight<F: Field>(values: &mut [F], twiddles: &[F])
     requires whole { length values.old ≡ 8 }
     requires twiddles { 8 ≤ length twiddles.now }
-    ensures { (w : F) → IsRoot F.ops 3 w → AreTwiddles F.ops 3 w twiddles.now → (j : ℕ) → j < length values.new → entry F.ops values.new j ≡ spectrum F.ops 3 w (λ i. entry F.ops values.old i) j }
+    ensures { (w : F) → IsRoot F.ops 3 w → AreTwiddles F.ops 3 w twiddles.now → (j : ℕ) → j < length values.new →
+        entry F.ops values.new j ≡ spectrum F.ops 3 w (λ i. entry F.ops values.old i) j }
 {
     let fourth_root = twiddles[3];
     let (low, high) = values.split_at_mut(4);
@@ -66,7 +69,9 @@ fn forward_eight<F: Field>(values: &mut [F], twiddles: &[F])
 pub fn backward<F: Field>(values: &mut [F], twiddles: &[F], bits: u32)
     requires whole { length values.old ≡ 2 ^ bits }
     requires twiddles { length values.old ≤ length twiddles.now }
-    ensures { (w v : F) → (x : ℕ → F) → IsRoot F.ops bits w → F.ops.times w v ≡ F.ops.one → AreTwiddles F.ops bits v twiddles.now → ((j : ℕ) → j < length values.old → entry F.ops values.old j ≡ spectrum F.ops bits w x j) → (i : ℕ) → i < length values.new → entry F.ops values.new i ≡ F.ops.times (doubled F.ops bits) (x i) }
+    ensures { (w v : F) → (x : ℕ → F) → IsRoot F.ops bits w → F.ops.times w v ≡ F.ops.one → AreTwiddles F.ops bits v twiddles.now →
+        ((j : ℕ) → j < length values.old → entry F.ops values.old j ≡ spectrum F.ops bits w x j) → (i : ℕ) → i < length values.new →
+        entry F.ops values.new i ≡ F.ops.times (doubled F.ops bits) (x i) }
 {
     if bits == 3 {
         backward_eight(values, twiddles);
@@ -88,7 +93,9 @@ fn backward_small<F: Field>(values: &mut [F], twiddles: &[F], bits: u32)
     requires whole { length values.old ≡ 2 ^ bits }
     requires twiddles { length values.old ≤ length twiddles.now }
     requires few { bits ≤ 2 }
-    ensures { (w v : F) → (x : ℕ → F) → IsRoot F.ops bits w → F.ops.times w v ≡ F.ops.one → AreTwiddles F.ops bits v twiddles.now → ((j : ℕ) → j < length values.old → entry F.ops values.old j ≡ spectrum F.ops bits w x j) → (i : ℕ) → i < length values.new → entry F.ops values.new i ≡ F.ops.times (doubled F.ops bits) (x i) }
+    ensures { (w v : F) → (x : ℕ → F) → IsRoot F.ops bits w → F.ops.times w v ≡ F.ops.one → AreTwiddles F.ops bits v twiddles.now →
+        ((j : ℕ) → j < length values.old → entry F.ops values.old j ≡ spectrum F.ops bits w x j) → (i : ℕ) → i < length values.new →
+        entry F.ops values.new i ≡ F.ops.times (doubled F.ops bits) (x i) }
 {
     if bits == 2 {
         backward_four(values, twiddles[3]);
@@ -103,7 +110,9 @@ fn backward_small<F: Field>(values: &mut [F], twiddles: &[F], bits: u32)
 fn backward_eight<F: Field>(values: &mut [F], twiddles: &[F])
     requires whole { length values.old ≡ 8 }
     requires twiddles { 8 ≤ length twiddles.now }
-    ensures { (w v : F) → (x : ℕ → F) → IsRoot F.ops 3 w → F.ops.times w v ≡ F.ops.one → AreTwiddles F.ops 3 v twiddles.now → ((j : ℕ) → j < length values.old → entry F.ops values.old j ≡ spectrum F.ops 3 w x j) → (i : ℕ) → i < length values.new → entry F.ops values.new i ≡ F.ops.times (doubled F.ops 3) (x i) }
+    ensures { (w v : F) → (x : ℕ → F) → IsRoot F.ops 3 w → F.ops.times w v ≡ F.ops.one → AreTwiddles F.ops 3 v twiddles.now →
+        ((j : ℕ) → j < length values.old → entry F.ops values.old j ≡ spectrum F.ops 3 w x j) → (i : ℕ) → i < length values.new →
+        entry F.ops values.new i ≡ F.ops.times (doubled F.ops 3) (x i) }
 {
     let fourth_root = twiddles[3];
     let (low, high) = values.split_at_mut(4);

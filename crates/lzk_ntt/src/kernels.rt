@@ -58,7 +58,9 @@ fn kernel<F: Field>(
     requires table { IsInverseTable F.ops F.element inverses.now }
     requires positive { 1 ≤ first }
     requires few { first ≤ 65536 }
-    ensures { IfOk result (λ v. (length v.items ≡ 2 ^ transform.now.bits) × ((j : ℕ) → j < 2 ^ transform.now.bits → entry F.ops v.items j ≡ spectrum F.ops transform.now.bits transform.now.root (kernel_entry F.ops F.element scale (length inverses.now) first) j)) }
+    ensures { IfOk result (λ v. (length v.items ≡ 2 ^ transform.now.bits) ×
+        ((j : ℕ) → j < 2 ^ transform.now.bits → entry F.ops v.items j ≡
+        spectrum F.ops transform.now.bits transform.now.root (kernel_entry F.ops F.element scale (length inverses.now) first) j)) }
 {
     let mut list = Vec::new(alloc);
     for t in 0..transform.size() {

@@ -126,7 +126,8 @@ impl MemShelf {
 }
 
 impl Shelf for MemShelf {
-    ghost use Rattle.lzk_outside.specs.Memory.{files_of, settings_of, tally_of, bytes_under, none_fails, IsFailing, TornFiles, next_settings, settings_after_put};
+    ghost use Rattle.lzk_outside.specs.Memory.{files_of, settings_of, tally_of, bytes_under, none_fails, IsFailing};
+    ghost use Rattle.lzk_outside.specs.Memory.{TornFiles, next_settings, settings_after_put};
 
     ghost held = { λ s. Some (files_of s) };
 

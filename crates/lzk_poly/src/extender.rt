@@ -184,7 +184,8 @@ impl<F: Field> Extender<F> {
         requires after { self.now.count ≤ from }
         requires reached { from + length out.old ≤ self.now.upto }
         requires limit { self.now.upto ≤ 65536 }
-        ensures { (k : ℕ) → k < length out.new → (let x = F.element (from + k) in entry F.ops out.old k ≡ parts F.ops F.element values.now start x → entry F.ops out.new k ≡ parts F.ops F.element values.now (start + length block.old) x) }
+        ensures { (k : ℕ) → k < length out.new → (let x = F.element (from + k) in entry F.ops out.old k ≡ parts F.ops F.element values.now start x →
+            entry F.ops out.new k ≡ parts F.ops F.element values.now (start + length block.old) x) }
     {
         let end = start + block.len();
         fill_block(

@@ -1,6 +1,7 @@
 //! Laws of the definitions, as contracts of functions that do nothing.
 
-ghost use Rattle.lzk_poly.specs.Laws.{LongerListsExtend, PolynomialsExtend, ProductsExtend, SumsExtend, ThroughHasValues, ThroughIsOnly, ThroughMeets, ThroughOfValues, ValuesStay};
+ghost use Rattle.lzk_poly.specs.Laws.{LongerListsExtend, PolynomialsExtend, ProductsExtend, SumsExtend};
+ghost use Rattle.lzk_poly.specs.Laws.{ThroughHasValues, ThroughIsOnly, ThroughMeets, ThroughOfValues, ValuesStay};
 
 use lzk_field::Field;
 

@@ -51,7 +51,8 @@ pub fn by_steps<F: Field>(block: &[F], inverses: &[F], first: usize) -> F
 pub fn fill_block<F: Field>(values: &[F], weights: &[F], block: &mut [F])
     requires values { length values.now ≡ length block.old }
     requires weights { length weights.now ≡ length block.old }
-    ensures { (k : ℕ) → k < length block.new → entry F.ops block.new k ≡ F.ops.times (entry F.ops values.now (length block.new - 1 - k)) (entry F.ops weights.now (length block.new - 1 - k)) }
+    ensures { (k : ℕ) → k < length block.new → entry F.ops block.new k ≡
+        F.ops.times (entry F.ops values.now (length block.new - 1 - k)) (entry F.ops weights.now (length block.new - 1 - k)) }
 {
     for k in 0..block.len() {
         let from_end = block.len() - 1 - k;
