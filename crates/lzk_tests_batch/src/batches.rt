@@ -1,13 +1,12 @@
 //! Batches of three jobs, of which the second is rejected. The verdicts wanted are those of an independent implementation.
 
-use crate::jobs::{Batch, are_fit, batch_of_three};
+use crate::jobs::{Batch, are_fit, fill_with_three};
 use lzk_batch::{AnyVerdict, Judged, Tickets, verify_batch};
 use lzk_field::{Gate, Open};
 use lzk_verify::Verdict;
 use std::alloc::Global;
 use std::marker::Sync;
 use std::sync::atomic::{AtomicU64, Ordering};
-use std::test::Fail;
 use std::thread::Threads;
 
 const WANTED: [AnyVerdict; 3] = [
@@ -71,6 +70,38 @@ fn seen<R: Threads + Sync, G: Gate>(
     }
 }
 
+// The same of a batch that is filled with the three jobs first.
+fn seen_filled<R: Threads + Sync, G: Gate>(
+    rt: &R,
+    alloc: Global,
+    batch: &mut Batch,
+    jobs: usize,
+    workers: usize,
+    gate: &G,
+) -> Option<([u8; 3], usize, u64)> {
+    match fill_with_three(rt, alloc, batch) {
+        Ok(()) => seen(rt, alloc, batch, jobs, workers, gate),
+        Err(_) => None,
+    }
+}
+
+// The same of a batch of its own. One exit drops the batch.
+fn seen_of_three<R: Threads + Sync, G: Gate>(
+    rt: &R,
+    alloc: Global,
+    jobs: usize,
+    workers: usize,
+    gate: &G,
+) -> Option<([u8; 3], usize, u64)> {
+    let mut batch = Batch {
+        circuits: Vec::new(alloc),
+        jobs: Vec::new(alloc),
+    };
+    let found = seen_filled(rt, alloc, &mut batch, jobs, workers, gate);
+    drop(batch);
+    found
+}
+
 // A gate in which two workers look for each other.
 #[derive(Drop)]
 struct Meeting {
@@ -107,29 +138,24 @@ impl Gate for Meeting {
 }
 
 #[test]
-fn two_passes_share_three_jobs(rt: HostRuntime) -> Result<(), Fail> {
-    let batch = batch_of_three(&rt, rt.alloc())?;
-    assert_eq!(rt;
-        seen(&rt, rt.alloc(), &batch, 3, 2, &Open),
-        Some(([1, 1, 1], 2, 5))
-    );
-    Ok(())
+fn two_passes_share_three_jobs(rt: HostRuntime) {
+    let found = seen_of_three(&rt, rt.alloc(), 3, 2, &Open);
+    assert_eq!(rt; found, Some(([1, 1, 1], 2, 5)));
 }
 
 #[test]
-fn two_verifiers_meet(rt: HostRuntime) -> Result<(), Fail> {
+fn two_verifiers_meet(rt: HostRuntime) {
     let gate = Meeting {
         first: AtomicU64::new(0),
         second: AtomicU64::new(0),
         first_saw: AtomicU64::new(0),
         second_saw: AtomicU64::new(0),
     };
-    let batch = batch_of_three(&rt, rt.alloc())?;
+    let found = seen_of_three(&rt, rt.alloc(), 2, 2, &gate);
+    let first_saw = gate.first_saw.load(Ordering::SeqCst);
+    let second_saw = gate.second_saw.load(Ordering::SeqCst);
     assert_eq!(rt;
-        seen(&rt, rt.alloc(), &batch, 2, 2, &gate),
-        Some(([1, 1, 0], 2, 4))
+        (found, first_saw, second_saw),
+        (Some(([1, 1, 0], 2, 4)), 1, 1)
     );
-    assert_eq!(rt; gate.first_saw.load(Ordering::SeqCst), 1);
-    assert_eq!(rt; gate.second_saw.load(Ordering::SeqCst), 1);
-    Ok(())
 }

@@ -34,7 +34,23 @@ fn elements(alloc: Global, numbers: &[u128]) -> Result<Vec<Gold>, AllocError> {
     Ok(list)
 }
 
-// The bytes of a proof.
+// The bytes of a proof by this prover.
+fn written<R: Threads + Sync>(
+    rt: &R,
+    alloc: Global,
+    works: &mut WorksOver<'_, Gold, NttExtender<Gold>>,
+    public: &[Gold],
+    private: &[Gold],
+) -> Result<Vec<u8>, AllocError>
+    requires public { length public.now ≡ works.old.publics }
+    requires private { length private.now ≡ works.old.privates }
+{
+    let words = Seeded::new([0; 32]);
+    let bytes = works.attempt(rt, &[], public, private, &words, 1, &Open);
+    bytes.to_vec(alloc)
+}
+
+// The same by a prover of its own. One exit drops the prover.
 fn proof_over<R: Threads + Sync>(
     rt: &R,
     alloc: Global,
@@ -46,10 +62,9 @@ fn proof_over<R: Threads + Sync>(
     requires private { length private.now ≡ circuit.now.privates }
 {
     let mut works = WorksOver::<Gold, NttExtender<Gold>>::new(alloc, circuit)?;
-    let words = Seeded::new([0; 32]);
-    works
-        .attempt(rt, &[], public, private, &words, 1, &Open)
-        .to_vec(alloc)
+    let proof = written(rt, alloc, &mut works, public, private);
+    drop(works);
+    proof
 }
 
 // The proof of a statement, if its inputs are as many as its circuit has.
@@ -74,20 +89,18 @@ fn proof_of<R: Threads + Sync>(
     }
 }
 
-// The circuit of a statement, with its proof.
-fn proved<R: Threads + Sync>(
+// The proof of a statement over the circuit at this place.
+fn proof_at<R: Threads + Sync>(
     rt: &R,
     alloc: Global,
+    circuits: &[AnyCircuit],
+    place: usize,
     statement: &Statement,
-) -> Result<(AnyCircuit, Vec<u8>), Unmade> {
-    let Ok(circuit) = decode(alloc, statement.circuit) else {
-        return Err(Unmade);
-    };
-    let proof = match &circuit {
-        AnyCircuit::Gold(over) => proof_of(rt, alloc, over, statement)?,
-        AnyCircuit::Gf(_) => return Err(Unmade),
-    };
-    Ok((circuit, proof))
+) -> Result<Vec<u8>, Unmade> {
+    match circuits.get(place) {
+        Some(AnyCircuit::Gold(circuit)) => proof_of(rt, alloc, circuit, statement),
+        _ => Err(Unmade),
+    }
 }
 
 // A job over the circuit at this place.
@@ -98,46 +111,69 @@ fn job(
     statement: &Statement,
     proof: &[u8],
 ) -> Result<Job, AllocError> {
+    let session = session.to_vec(alloc)?;
+    let public = elements(alloc, statement.public)?;
+    let proof = proof.to_vec(alloc)?;
     Ok(Job::Gold(JobOf {
         circuit,
-        session: session.to_vec(alloc)?,
-        public: elements(alloc, statement.public)?,
-        proof: proof.to_vec(alloc)?,
+        session,
+        public,
+        proof,
     }))
 }
 
 // A job for each of the statements, between which the first one's proof stands with another session.
-fn three_jobs(alloc: Global, square: &[u8], credential: &[u8]) -> Result<Vec<Job>, AllocError> {
-    let mut jobs = Vec::new(alloc);
+fn push_three(
+    alloc: Global,
+    square: &[u8],
+    credential: &[u8],
+    jobs: &mut Vec<Job>,
+) -> Result<(), AllocError> {
     jobs.push(job(alloc, 0, &[], &SQUARE, square)?)?;
     jobs.push(job(alloc, 0, &[0], &SQUARE, square)?)?;
     jobs.push(job(alloc, 1, &[], &CREDENTIAL, credential)?)?;
-    Ok(jobs)
+    Ok(())
 }
 
-// Both circuits.
-fn two_circuits(
+// The same with the proofs made here.
+fn push_jobs<R: Threads + Sync>(
+    rt: &R,
     alloc: Global,
-    first: AnyCircuit,
-    second: AnyCircuit,
-) -> Result<Vec<AnyCircuit>, AllocError> {
-    let mut circuits = Vec::with_capacity(alloc, 2)?;
-    circuits.push(first)?;
-    circuits.push(second)?;
-    Ok(circuits)
-}
-
-/// The batch of three jobs.
-pub fn batch_of_three<R: Threads + Sync>(rt: &R, alloc: Global) -> Result<Batch, Unmade> {
-    let (square, square_proof) = proved(rt, alloc, &SQUARE)?;
-    let (credential, credential_proof) = proved(rt, alloc, &CREDENTIAL)?;
-    let Ok(jobs) = three_jobs(alloc, &square_proof, &credential_proof) else {
-        return Err(Unmade);
-    };
-    match two_circuits(alloc, square, credential) {
-        Ok(circuits) => Ok(Batch { circuits, jobs }),
+    circuits: &[AnyCircuit],
+    jobs: &mut Vec<Job>,
+) -> Result<(), Unmade> {
+    let square = proof_at(rt, alloc, circuits, 0, &SQUARE)?;
+    let credential = proof_at(rt, alloc, circuits, 1, &CREDENTIAL)?;
+    match push_three(alloc, &square, &credential, jobs) {
+        Ok(()) => Ok(()),
         Err(_) => Err(Unmade),
     }
+}
+
+// The circuit of a statement.
+fn push_circuit(
+    alloc: Global,
+    statement: &Statement,
+    circuits: &mut Vec<AnyCircuit>,
+) -> Result<(), Unmade> {
+    let Ok(circuit) = decode(alloc, statement.circuit) else {
+        return Err(Unmade);
+    };
+    match circuits.push(circuit) {
+        Ok(()) => Ok(()),
+        Err(_) => Err(Unmade),
+    }
+}
+
+/// Fills an empty batch with the three jobs over both circuits.
+pub fn fill_with_three<R: Threads + Sync>(
+    rt: &R,
+    alloc: Global,
+    batch: &mut Batch,
+) -> Result<(), Unmade> {
+    push_circuit(alloc, &SQUARE, &mut batch.circuits)?;
+    push_circuit(alloc, &CREDENTIAL, &mut batch.circuits)?;
+    push_jobs(rt, alloc, &batch.circuits, &mut batch.jobs)
 }
 
 // Whether a job may be verified.

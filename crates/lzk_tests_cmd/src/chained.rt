@@ -37,23 +37,35 @@ fn compile_then_eval<R: Threads + Sync>(
 // A product of a private input is a public one.
 const SQUARE: &str = "field goldilocks\npublic y\nprivate x\nassert x*x = y\n";
 
-// A shelf with a source and its inputs.
-fn shelf_of(alloc: Global) -> Result<MemShelf, AllocError> {
-    let mut shelf = MemShelf::new(alloc, Vec::new(alloc), None);
+// Puts a source and its inputs on an empty shelf.
+fn fill(shelf: &mut MemShelf) -> Result<(), AllocError> {
     shelf.add("s", SQUARE.as_bytes())?;
     shelf.add("y", b"9\n")?;
     shelf.add("x", b"3\n")?;
-    Ok(shelf)
+    Ok(())
+}
+
+// The status of both runs over an empty shelf.
+fn status_of_both<R: Threads + Sync>(
+    rt: &R,
+    alloc: Global,
+    shelf: &mut MemShelf,
+) -> Result<u8, AllocError> {
+    fill(shelf)?;
+    let compile = words_of(alloc, "compile s c")?;
+    let eval = words_of(alloc, "eval c y x")?;
+    let mut out = MemSink::new(alloc, Vec::new(alloc), 7);
+    let status = compile_then_eval(rt, alloc, &compile, &eval, shelf, &mut out);
+    drop(out);
+    Ok(status)
 }
 
 #[test]
 fn a_source_is_compiled_and_evaluated(rt: HostRuntime) -> Result<(), Fail> {
     let alloc = rt.alloc();
-    let compile = words_of(alloc, "compile s c")?;
-    let eval = words_of(alloc, "eval c y x")?;
-    let mut shelf = shelf_of(alloc)?;
-    let mut out = MemSink::new(alloc, Vec::new(alloc), 7);
-    let status = compile_then_eval(&rt, alloc, &compile, &eval, &mut shelf, &mut out);
-    assert_eq!(rt; status, 0);
+    let mut shelf = MemShelf::new(alloc, Vec::new(alloc), None);
+    let status = status_of_both(&rt, alloc, &mut shelf);
+    drop(shelf);
+    assert_eq!(rt; status?, 0);
     Ok(())
 }

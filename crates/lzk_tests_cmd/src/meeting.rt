@@ -62,14 +62,13 @@ const SQUARE: [u8; 53] = [
     0x01, 0x00, 0x02, 0x00, 0x00,
 ];
 
-// A shelf with a circuit, its inputs and a list of two jobs.
-fn shelf_of(alloc: Global) -> Result<MemShelf, AllocError> {
-    let mut shelf = MemShelf::new(alloc, Vec::new(alloc), None);
+// Puts a circuit, its inputs and a list of two jobs on an empty shelf.
+fn fill(shelf: &mut MemShelf) -> Result<(), AllocError> {
     shelf.add("c", &SQUARE)?;
     shelf.add("y", b"9")?;
     shelf.add("x", b"3")?;
     shelf.add("l", b"c y w\nc y w")?;
-    Ok(shelf)
+    Ok(())
 }
 
 // Plays each of these runs, with a gate of its own. The status and whether two workers met, for the first that ended otherwise or was
@@ -113,10 +112,22 @@ const ROWS: [(&str, bool); 5] = [
     ),
 ];
 
+// The same of all rows, over an empty shelf.
+fn wrong_over<R: Threads + Sync>(
+    rt: &R,
+    alloc: Global,
+    shelf: &mut MemShelf,
+) -> Result<Option<usize>, AllocError> {
+    fill(shelf)?;
+    first_wrong(rt, alloc, &ROWS, shelf)
+}
+
 #[test]
 fn two_workers_meet(rt: HostRuntime) -> Result<(), Fail> {
     let alloc = rt.alloc();
-    let mut shelf = shelf_of(alloc)?;
-    assert_eq!(rt; first_wrong(&rt, alloc, &ROWS, &mut shelf)?, None);
+    let mut shelf = MemShelf::new(alloc, Vec::new(alloc), None);
+    let wrong = wrong_over(&rt, alloc, &mut shelf);
+    drop(shelf);
+    assert_eq!(rt; wrong?, None);
     Ok(())
 }

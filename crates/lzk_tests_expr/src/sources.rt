@@ -64,6 +64,17 @@ fn private_names(alloc: Global, count: u32) -> Result<Vec<u8>, AllocError> {
     Ok(text)
 }
 
+// A text whose third line has so many parentheses open, and then these bytes.
+fn opened(alloc: Global, count: usize, behind: &[u8]) -> Result<Vec<u8>, AllocError> {
+    let mut text = Vec::new(alloc);
+    text.extend_from_slice(b"field goldilocks\nprivate x\nassert ")?;
+    for _ in 0..count {
+        text.push(b'(')?;
+    }
+    text.extend_from_slice(behind)?;
+    Ok(text)
+}
+
 fn at(line: u32, kind: SourceKind) -> Option<SourceFault> {
     Some(SourceFault { line, kind })
 }
@@ -80,4 +91,26 @@ fn names_have_their_limit(rt: HostRuntime) -> Result<(), AllocError> {
     let more = private_names(rt.alloc(), 65_537)?;
     assert_eq!(rt; fault_of(rt.alloc(), &more), at(65_538, SourceKind::Limit));
     Ok(())
+}
+
+#[test]
+fn a_byte_of_no_token_is_named_before_a_limit(rt: HostRuntime) -> Result<(), AllocError> {
+    let deep = opened(rt.alloc(), 65, b"x = x")?;
+    assert_eq!(rt; fault_of(rt.alloc(), &deep), at(3, SourceKind::Limit));
+    let both = opened(rt.alloc(), 65, b"x = x ?")?;
+    assert_eq!(rt; fault_of(rt.alloc(), &both), at(3, SourceKind::Character));
+    let first = opened(rt.alloc(), 1, b"? = x")?;
+    assert_eq!(rt; fault_of(rt.alloc(), &first), at(3, SourceKind::Character));
+    let comment = opened(rt.alloc(), 65, b"x = x # ?")?;
+    assert_eq!(rt; fault_of(rt.alloc(), &comment), at(3, SourceKind::Limit));
+    Ok(())
+}
+
+#[test]
+fn names_have_at_most_32_bytes(rt: HostRuntime) {
+    let most =
+        b"field goldilocks\nprivate abcdefghijklmnopqrstuvwxyz_12345\nassert abcdefghijklmnopqrstuvwxyz_12345 = 1\n";
+    assert!(rt; prints_as(rt.alloc(), most, most));
+    let more = b"field goldilocks\nprivate abcdefghijklmnopqrstuvwxyz_123456\nassert 0 = 1\n";
+    assert_eq!(rt; fault_of(rt.alloc(), more), at(2, SourceKind::Limit));
 }

@@ -74,12 +74,8 @@ impl Gate for Meeting {
 fn two_workers_meet(rt: HostRuntime) -> Result<(), Fail> {
     let gate = Meeting::new();
     let by = seen(&rt, rt.alloc(), &SQUARE, &gate)?.by_workers;
-    assert_eq!(rt; by.one, SQUARE.digest);
-    assert_eq!(rt; by.two, SQUARE.digest);
-    assert_eq!(rt; by.five, SQUARE.digest);
-    assert_eq!(rt; by.seven, SQUARE.digest);
-    assert_eq!(rt; by.sixty_four, SQUARE.digest);
-    assert!(rt; gate.have_met());
+    let digests = [by.one, by.two, by.five, by.seven, by.sixty_four];
+    assert_eq!(rt; (digests, gate.have_met()), ([SQUARE.digest; 5], true));
     Ok(())
 }
 
@@ -87,6 +83,28 @@ fn two_workers_meet(rt: HostRuntime) -> Result<(), Fail> {
 #[derive(Drop)]
 struct Counting {
     entered: [AtomicU64; 4],
+}
+
+impl Counting {
+    fn new() -> Counting {
+        Counting {
+            entered: [
+                AtomicU64::new(0),
+                AtomicU64::new(0),
+                AtomicU64::new(0),
+                AtomicU64::new(0),
+            ],
+        }
+    }
+
+    fn counts(&self) -> [u64; 4] {
+        [
+            self.entered[0].load(Ordering::SeqCst),
+            self.entered[1].load(Ordering::SeqCst),
+            self.entered[2].load(Ordering::SeqCst),
+            self.entered[3].load(Ordering::SeqCst),
+        ]
+    }
 }
 
 impl Gate for Counting {
@@ -103,19 +121,9 @@ impl Gate for Counting {
 // Five workers share seven rows in four chunks of at most two; no other number of workers has four chunks.
 #[test]
 fn each_chunk_is_entered_once(rt: HostRuntime) -> Result<(), Fail> {
-    let gate = Counting {
-        entered: [
-            AtomicU64::new(0),
-            AtomicU64::new(0),
-            AtomicU64::new(0),
-            AtomicU64::new(0),
-        ],
-    };
+    let gate = Counting::new();
     let by = seen(&rt, rt.alloc(), &SQUARE, &gate)?.by_workers;
-    assert_eq!(rt; by.five, SQUARE.digest);
-    for count in &gate.entered {
-        assert_eq!(rt; count.load(Ordering::SeqCst), 1);
-    }
+    assert_eq!(rt; (by.five, gate.counts()), (SQUARE.digest, [1; 4]));
     Ok(())
 }
 
@@ -161,22 +169,37 @@ fn proved_by_two<R: Threads + Sync, W: Words>(
     Ok(proved)
 }
 
-// The same of the square's circuit as its file has it.
-fn seen_by_two<R: Threads + Sync, W: Words>(
+// The same of a circuit of one public and one private input.
+fn proved_of<R: Threads + Sync, W: Words>(
     rt: &R,
     alloc: Global,
+    held: &AnyCircuit,
     words: &W,
 ) -> Result<Result<[u8; 32], (u32, u128)>, Unseen> {
-    let Ok(AnyCircuit::Gold(circuit)) = decode(alloc, SQUARE.circuit) else {
+    let AnyCircuit::Gold(circuit) = held else {
         return Err(Unseen);
     };
     if circuit.publics() != 1 || circuit.privates() != 1 {
         return Err(Unseen);
     }
-    match proved_by_two(rt, alloc, &circuit, words) {
+    match proved_by_two(rt, alloc, circuit, words) {
         Ok(proved) => Ok(proved),
         Err(_) => Err(Unseen),
     }
+}
+
+// The same of the square's circuit as its file has it. One exit drops the circuit.
+fn seen_by_two<R: Threads + Sync, W: Words>(
+    rt: &R,
+    alloc: Global,
+    words: &W,
+) -> Result<Result<[u8; 32], (u32, u128)>, Unseen> {
+    let Ok(held) = decode(alloc, SQUARE.circuit) else {
+        return Err(Unseen);
+    };
+    let proved = proved_of(rt, alloc, &held, words);
+    drop(held);
+    proved
 }
 
 // Each worker hashes a part of the leaves, and so draws the nonces of its columns.
@@ -186,7 +209,6 @@ fn two_workers_hash_leaves(rt: HostRuntime) -> Result<(), Fail> {
         meeting: Meeting::new(),
     };
     let proved = seen_by_two(&rt, rt.alloc(), &words)?;
-    assert_eq!(rt; proved, Ok(OF_ZEROS));
-    assert!(rt; words.meeting.have_met());
+    assert_eq!(rt; (proved, words.meeting.have_met()), (Ok(OF_ZEROS), true));
     Ok(())
 }

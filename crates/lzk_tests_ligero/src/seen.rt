@@ -46,17 +46,15 @@ fn seen_over<R: Threads + Sync, F: Field, X: RowExtend<F>, G: Gate>(
     }
 }
 
-/// What a prover for this statement writes.
-pub fn seen<R: Threads + Sync, G: Gate>(
+// What a prover for this statement writes over a circuit.
+fn seen_of<R: Threads + Sync, G: Gate>(
     rt: &R,
     alloc: Global,
+    held: &AnyCircuit,
     case: &Case,
     gate: &G,
 ) -> Result<Written, Unseen> {
-    let Ok(held) = decode(alloc, case.circuit) else {
-        return Err(Unseen);
-    };
-    match &held {
+    match held {
         AnyCircuit::Gold(circuit) => {
             let public = [Gold::of_word(case.public)];
             let private = [Gold::of_word(case.private)];
@@ -76,6 +74,38 @@ pub fn seen<R: Threads + Sync, G: Gate>(
     }
 }
 
+/// What a prover for this statement writes.
+pub fn seen<R: Threads + Sync, G: Gate>(
+    rt: &R,
+    alloc: Global,
+    case: &Case,
+    gate: &G,
+) -> Result<Written, Unseen> {
+    let Ok(held) = decode(alloc, case.circuit) else {
+        return Err(Unseen);
+    };
+    let written = seen_of(rt, alloc, &held, case, gate);
+    drop(held);
+    written
+}
+
+// What a prover writes over a circuit over the binary field, whose rows are extended by sums.
+fn seen_of_sums<R: Threads + Sync, G: Gate>(
+    rt: &R,
+    alloc: Global,
+    held: &AnyCircuit,
+    case: &Case,
+    gate: &G,
+) -> Result<Written, Unseen> {
+    let AnyCircuit::Gf(circuit) = held else {
+        return Err(Unseen);
+    };
+    let public = [Gf128::of_word(case.public)];
+    let private = [Gf128::of_word(case.private)];
+    let four = [Gf128::of_word(4)];
+    seen_over::<R, Gf128, Rows<Gf128>, G>(rt, alloc, circuit, case, &public, &private, &four, gate)
+}
+
 /// What a prover for this statement over the binary field writes, whose rows are extended by sums.
 pub fn seen_by_sums<R: Threads + Sync, G: Gate>(
     rt: &R,
@@ -86,15 +116,7 @@ pub fn seen_by_sums<R: Threads + Sync, G: Gate>(
     let Ok(held) = decode(alloc, case.circuit) else {
         return Err(Unseen);
     };
-    match &held {
-        AnyCircuit::Gold(_) => Err(Unseen),
-        AnyCircuit::Gf(circuit) => {
-            let public = [Gf128::of_word(case.public)];
-            let private = [Gf128::of_word(case.private)];
-            let four = [Gf128::of_word(4)];
-            seen_over::<R, Gf128, Rows<Gf128>, G>(
-                rt, alloc, circuit, case, &public, &private, &four, gate,
-            )
-        }
-    }
+    let written = seen_of_sums(rt, alloc, &held, case, gate);
+    drop(held);
+    written
 }

@@ -54,13 +54,12 @@ struct Extremes {
 const USED: usize = 3_016;
 
 fn extreme_words(alloc: Global) -> Result<Extremes, AllocError> {
+    let words = vec![in alloc; u128::MAX; USED]?;
     Ok(Extremes {
         none: Listed {
             words: Vec::new(alloc),
         },
-        greatest: Listed {
-            words: vec![in alloc; u128::MAX; USED]?,
-        },
+        greatest: Listed { words },
     })
 }
 
@@ -166,6 +165,32 @@ fn write_all<R: Threads + Sync, F: Field, X: RowExtend<F>, G: Gate>(
     }
 }
 
+// What a prover over this circuit writes, also of these words.
+fn written_of<R: Threads + Sync, F: Field, X: RowExtend<F>, G: Gate>(
+    rt: &R,
+    alloc: Global,
+    circuit: &Circuit<F>,
+    case: &Case,
+    public: &[F],
+    private: &[F],
+    four: &[F],
+    extremes: &Extremes,
+    gate: &G,
+) -> Result<Written, AllocError>
+    requires session { length case.now.session.now ≤ 64 }
+    requires public { length public.now ≡ circuit.now.publics }
+    requires private { length private.now ≡ circuit.now.privates }
+    requires four { length four.now ≡ circuit.now.privates }
+{
+    let params = Params::of(circuit);
+    let mut works = WorksOver::<F, X>::new(alloc, circuit)?;
+    let written = write_all(
+        rt, &mut works, &params, case, public, private, four, extremes, gate,
+    );
+    drop(works);
+    Ok(written)
+}
+
 /// What a prover over this circuit writes.
 pub fn written_over<R: Threads + Sync, F: Field, X: RowExtend<F>, G: Gate>(
     rt: &R,
@@ -182,12 +207,10 @@ pub fn written_over<R: Threads + Sync, F: Field, X: RowExtend<F>, G: Gate>(
     requires private { length private.now ≡ circuit.now.privates }
     requires four { length four.now ≡ circuit.now.privates }
 {
-    let params = Params::of(circuit);
     let extremes = extreme_words(alloc)?;
-    let mut works = WorksOver::<F, X>::new(alloc, circuit)?;
-    let written = write_all(
-        rt, &mut works, &params, case, public, private, four, &extremes, gate,
+    let written = written_of::<R, F, X, G>(
+        rt, alloc, circuit, case, public, private, four, &extremes, gate,
     );
-    drop(works);
-    Ok(written)
+    drop(extremes);
+    written
 }

@@ -6,8 +6,8 @@ ghost use Rattle.lzk_sumcheck.specs.Script.{HasShape};
 ghost use Rattle.lzk_accept.specs.Challenges as accept;
 ghost use Rattle.lzk_accept.specs.Kept.{AreFormsOf};
 
-use crate::combined_vectors::COMBINED;
-use crate::shared::{Drawn, Shape, circuit_of, draw, undrawn};
+use crate::combined_vectors::{ASSERTING, COMBINED};
+use crate::shared::{Drawn, Shape, asserting_circuit_of, circuit_of, draw, undrawn};
 use lzk_accept::{Forms, combine, linear_forms};
 use lzk_circuit::Circuit;
 use lzk_field::Field;
@@ -41,9 +41,11 @@ pub(crate) fn uncombined<F: Field>(
     ensures forms { IfOk result (λ combined. AreFormsOf F.ops circuit.now combined.forms) }
     ensures coefficients { let p = params_of circuit.now in IfOk result (λ combined. length combined.coefficients ≡ (p.nrow - 3) * p.wr) }
 {
+    let coefficients = rows_for(&Params::of(circuit), alloc)?;
+    let forms = Forms::new(alloc, circuit)?;
     Ok(Combined {
-        forms: Forms::new(alloc, circuit)?,
-        coefficients: rows_for(&Params::of(circuit), alloc)?,
+        forms,
+        coefficients,
     })
 }
 
@@ -76,24 +78,96 @@ pub(crate) fn combine_rows<F: Field>(
     )
 }
 
-// The wanted sum, and that of the powers with the combined coefficients. None where there is no circuit of this shape.
-fn found<F: Field>(shape: Shape<'_>, alloc: Global) -> Result<Option<[u128; 2]>, AllocError> {
-    let Some(circuit) = circuit_of::<F>(shape, alloc)? else {
-        return Ok(None);
-    };
-    let mut drawn = undrawn(&circuit, alloc)?;
-    let mut combined = uncombined(&circuit, alloc)?;
-    draw(&circuit, &mut drawn);
-    let wanted = combine_rows(&circuit, &drawn, &mut combined);
+// The wanted sum, and that of the powers with the combined coefficients.
+fn sums_in<F: Field>(
+    circuit: &Circuit<F>,
+    drawn: &Drawn<F>,
+    combined: &mut Combined<F>,
+) -> [u128; 2]
+    requires public { length drawn.now.public ≡ circuit.now.publics }
+    requires messages { length drawn.now.messages ≡ sent_counts circuit.now }
+    requires script { HasShape circuit.now drawn.now.script }
+    requires challenges { accept.HasShape (params_of circuit.now) drawn.now.challenges }
+    requires forms { AreFormsOf F.ops circuit.now combined.old.forms }
+    requires coefficients { let p = params_of circuit.now in length combined.old.coefficients ≡ (p.nrow - 3) * p.wr }
+{
+    let wanted = combine_rows(circuit, drawn, combined);
     let sum = eval(combined.coefficients.as_slice(), F::point(3));
-    Ok(Some([wanted.number(), sum.number()]))
+    [wanted.number(), sum.number()]
+}
+
+// The same with constraints of its own, which one exit drops.
+fn sums_of<F: Field>(
+    circuit: &Circuit<F>,
+    drawn: &Drawn<F>,
+    alloc: Global,
+) -> Result<[u128; 2], AllocError>
+    requires public { length drawn.now.public ≡ circuit.now.publics }
+    requires messages { length drawn.now.messages ≡ sent_counts circuit.now }
+    requires script { HasShape circuit.now drawn.now.script }
+    requires challenges { accept.HasShape (params_of circuit.now) drawn.now.challenges }
+{
+    let mut combined = uncombined(circuit, alloc)?;
+    let found = sums_in(circuit, drawn, &mut combined);
+    drop(combined);
+    Ok(found)
+}
+
+// The same for what is drawn here, which one exit drops.
+fn sums<F: Field>(circuit: &Circuit<F>, alloc: Global) -> Result<[u128; 2], AllocError> {
+    let mut drawn = undrawn(circuit, alloc)?;
+    draw(circuit, &mut drawn);
+    let found = sums_of(circuit, &drawn, alloc);
+    drop(drawn);
+    found
+}
+
+// None where there is no circuit.
+fn sums_if<F: Field>(
+    circuit: &Option<Circuit<F>>,
+    alloc: Global,
+) -> Result<Option<[u128; 2]>, AllocError> {
+    match circuit {
+        Some(circuit) => Ok(Some(sums(circuit, alloc)?)),
+        None => Ok(None),
+    }
+}
+
+// None where there is no circuit of this shape.
+fn found<F: Field>(shape: Shape<'_>, alloc: Global) -> Result<Option<[u128; 2]>, AllocError> {
+    let circuit = circuit_of::<F>(shape, alloc)?;
+    let found = sums_if(&circuit, alloc);
+    drop(circuit);
+    found
+}
+
+// The same in version 2.
+fn found_asserting<F: Field>(
+    shape: Shape<'_>,
+    alloc: Global,
+) -> Result<Option<[u128; 2]>, AllocError> {
+    let circuit = asserting_circuit_of::<F>(shape, alloc)?;
+    let found = sums_if(&circuit, alloc);
+    drop(circuit);
+    found
 }
 
 #[test]
 fn combined_constraints_are_those_of_the_definition(rt: HostRuntime) -> Result<(), Fail> {
     for (shape, gold, gf) in COMBINED {
-        assert_eq!(rt; found::<Gold>(shape, rt.alloc())?, Some(gold));
-        assert_eq!(rt; found::<Gf128>(shape, rt.alloc())?, Some(gf));
+        let over_gold = found::<Gold>(shape, rt.alloc())?;
+        let over_gf = found::<Gf128>(shape, rt.alloc())?;
+        assert_eq!(rt; [over_gold, over_gf], [Some(gold), Some(gf)]);
+    }
+    Ok(())
+}
+
+#[test]
+fn assertion_terms_count_beta_in_the_constraints(rt: HostRuntime) -> Result<(), Fail> {
+    for (shape, gold, gf) in ASSERTING {
+        let over_gold = found_asserting::<Gold>(shape, rt.alloc())?;
+        let over_gf = found_asserting::<Gf128>(shape, rt.alloc())?;
+        assert_eq!(rt; [over_gold, over_gf], [Some(gold), Some(gf)]);
     }
     Ok(())
 }

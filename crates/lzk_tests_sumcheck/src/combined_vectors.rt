@@ -273,3 +273,58 @@ pub const COMBINED: [Combined; 10] = [
         ],
     ),
 ];
+
+/// The same of circuits of version 2, where a coefficient of 0 is that of an assertion term.
+pub const ASSERTING: [Combined; 3] = [
+    // One assertion term alone.
+    (
+        (1, 1, &[(1, &[(0, 2, 2, 0)])]),
+        [0x61b230dc39121c31, 0x91e66a354437e8b1],
+        [
+            0xa1c5f7dcda407b645b4a63bc88e84665,
+            0xf1c4b78f28753c85f291c9f070530572,
+        ],
+    ),
+    // Each of two layers has an assertion term behind its other wires.
+    (
+        (
+            1,
+            2,
+            &[
+                (3, &[(0, 0, 1, 3), (0, 1, 2, 5), (1, 2, 2, 1), (2, 0, 3, 0)]),
+                (
+                    5,
+                    &[
+                        (0, 0, 0, 1),
+                        (1, 1, 2, 7),
+                        (1, 2, 3, 2),
+                        (2, 3, 3, 4),
+                        (3, 0, 1, 1),
+                        (4, 2, 3, 0),
+                    ],
+                ),
+            ],
+        ),
+        [0x19603e49413504a6, 0xc45e0e8aa574f507],
+        [
+            0x619402046f902a81c9f42c2821c60d5e,
+            0x1560b143d01d448b97524da1f3e11f5a,
+        ],
+    ),
+    // No assertion term: the sums are those of version 1.
+    (
+        (
+            1,
+            2,
+            &[
+                (2, &[(0, 0, 1, 3), (0, 1, 2, 5), (1, 2, 2, 1)]),
+                (3, &[(0, 0, 0, 1), (1, 1, 2, 7), (1, 2, 3, 2), (2, 3, 3, 4)]),
+            ],
+        ),
+        [0x34b6ba430ed0e31e, 0xafde110d2bd712a8],
+        [
+            0xa70b662ce4beef454400d5710b000077,
+            0x198b9e62edad03de272348a038e241dc,
+        ],
+    ),
+];

@@ -11,6 +11,8 @@ mod combined_vectors;
 #[cfg(test)]
 mod rounds;
 #[cfg(test)]
+mod scripts;
+#[cfg(test)]
 mod shared;
 #[cfg(test)]
 mod worked;

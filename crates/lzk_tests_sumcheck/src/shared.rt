@@ -13,17 +13,22 @@ use lzk_sumcheck::{Script, message_count, replay};
 use lzk_transcript::Tape;
 use std::alloc::{AllocError, Global};
 
-/// A term's g, a and b, and its coefficient's number; the one that is minus one is written as 0.
+/// A term's g, a and b, and its coefficient's number; in version 1 the one that is minus one is written as 0.
 pub type Entry = (u32, u32, u32, u128);
 
 /// Public and private inputs, and each layer's wires and terms, the outputs' first.
 pub type Shape<'a> = (u32, u32, &'a [(u32, &'a [Entry])]);
 
-fn terms_of<F: Field>(entries: &[Entry], alloc: Global) -> Result<Vec<Term<F>>, AllocError> {
+// Terms whose coefficient is this one where the number is 0.
+fn terms_of<F: Field>(
+    entries: &[Entry],
+    of_zero: F,
+    alloc: Global,
+) -> Result<Vec<Term<F>>, AllocError> {
     let mut terms = Vec::new(alloc);
     for &(g, a, b, number) in entries {
         let coef = if number == 0 {
-            F::one().neg()
+            of_zero
         } else {
             F::of_word(number)
         };
@@ -35,20 +40,47 @@ fn terms_of<F: Field>(entries: &[Entry], alloc: Global) -> Result<Vec<Term<F>>, 
 /// One layer of one wire: a private input's square, less the public input.
 pub const SQUARE: Shape<'static> = (1, 1, &[(1, &[(0, 0, 1, 0), (0, 2, 2, 1)])]);
 
+fn push_layers<F: Field>(
+    rows: &[(u32, &[Entry])],
+    of_zero: F,
+    alloc: Global,
+    layers: &mut Vec<Layer<F>>,
+) -> Result<(), AllocError> {
+    for &(wires, entries) in rows {
+        let terms = Terms::new(terms_of(entries, of_zero, alloc)?);
+        layers.push(Layer { wires, terms })?;
+    }
+    Ok(())
+}
+
+fn layers_of<F: Field>(
+    rows: &[(u32, &[Entry])],
+    of_zero: F,
+    alloc: Global,
+) -> Result<Vec<Layer<F>>, AllocError> {
+    let mut layers = Vec::new(alloc);
+    push_layers(rows, of_zero, alloc, &mut layers)?;
+    Ok(layers)
+}
+
 /// The circuit of a shape, if it is one.
 pub fn circuit_of<F: Field>(
     shape: Shape<'_>,
     alloc: Global,
 ) -> Result<Option<Circuit<F>>, AllocError> {
     let (publics, privates, rows) = shape;
-    let mut layers = Vec::new(alloc);
-    for &(wires, entries) in rows {
-        layers.push(Layer {
-            wires,
-            terms: Terms::new(terms_of(entries, alloc)?),
-        })?;
-    }
+    let layers = layers_of(rows, F::one().neg(), alloc)?;
     Ok(Circuit::of_layers(publics, privates, layers).ok())
+}
+
+/// The circuit of version 2 of a shape, if it is one: a coefficient of 0 is that of an assertion term.
+pub fn asserting_circuit_of<F: Field>(
+    shape: Shape<'_>,
+    alloc: Global,
+) -> Result<Option<Circuit<F>>, AllocError> {
+    let (publics, privates, rows) = shape;
+    let layers = layers_of(rows, F::zero(), alloc)?;
+    Ok(Circuit::of_layers_v2(publics, privates, layers).ok())
 }
 
 // The element of so many times a word.
@@ -104,11 +136,15 @@ pub fn undrawn<F: Field>(circuit: &Circuit<F>, alloc: Global) -> Result<Drawn<F>
     ensures script { IfOk result (λ drawn. HasShape circuit.now drawn.script) }
     ensures challenges { IfOk result (λ drawn. accept.HasShape (params_of circuit.now) drawn.challenges) }
 {
+    let public = multiples(9, circuit.publics(), 1, alloc)?;
+    let messages = multiples(1, message_count(circuit), 0x1_0000_0001, alloc)?;
+    let challenges = Challenges::new(alloc, &Params::of(circuit))?;
+    let script = Script::new(alloc, circuit)?;
     Ok(Drawn {
-        public: multiples(9, circuit.publics(), 1, alloc)?,
-        messages: multiples(1, message_count(circuit), 0x1_0000_0001, alloc)?,
-        script: Script::new(alloc, circuit)?,
-        challenges: Challenges::new(alloc, &Params::of(circuit))?,
+        public,
+        messages,
+        script,
+        challenges,
     })
 }
 

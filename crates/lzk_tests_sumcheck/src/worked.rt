@@ -44,7 +44,6 @@ fn one_layer_script<F: Field>(
 ) -> Result<Option<Script<F>>, AllocError>
     ensures { IfOk result (λ some. IfSome some (λ script. HasShape circuit.now script)) }
 {
-    let mut script = Script::new(alloc, circuit)?;
     if circuit.depth() != 1 {
         return Ok(None);
     }
@@ -52,9 +51,11 @@ fn one_layer_script<F: Field>(
     if ra.len() != bits || rb.len() != bits {
         return Ok(None);
     }
+    let mut script = Script::new(alloc, circuit)?;
     let mut layers = Vec::new(alloc);
     layers.push(LayerScript {
         alpha,
+        beta: F::zero(),
         ra: Elements::new(ra),
         rb: Elements::new(rb),
     })?;
@@ -149,10 +150,9 @@ fn zeros_of<F: Field>(count: usize, alloc: Global) -> Result<Elements<F>, AllocE
 fn zeros_for<F: Field>(circuit: &Circuit<F>, alloc: Global) -> Result<Zeros<F>, AllocError>
     ensures w { IfOk result (λ zeros. length zeros.w ≡ committed_count circuit.now) }
 {
-    Ok(Zeros {
-        w: Elements::zeros(alloc, Params::of(circuit).nw as usize)?,
-        room: zeros_of(262_144, alloc)?,
-    })
+    let w = Elements::zeros(alloc, Params::of(circuit).nw as usize)?;
+    let room = zeros_of(262_144, alloc)?;
+    Ok(Zeros { w, room })
 }
 
 // Whether the residuals at zeros, the wanted sum and the combined coefficients are the worked ones.
@@ -180,6 +180,25 @@ fn is_worked<F: Field>(
     first && second && wanted.number() == 114 && are_standing(combined.coefficients.as_slice())
 }
 
+// The same with zeros and constraints of its own, which one exit drops.
+fn finds_for<F: Field>(
+    circuit: &Circuit<F>,
+    drawn: &Drawn<F>,
+    alloc: Global,
+) -> Result<bool, AllocError>
+    requires public { length drawn.now.public ≡ circuit.now.publics }
+    requires messages { length drawn.now.messages ≡ sent_counts circuit.now }
+    requires script { HasShape circuit.now drawn.now.script }
+    requires challenges { accept.HasShape (params_of circuit.now) drawn.now.challenges }
+{
+    let mut zeros = zeros_for(circuit, alloc)?;
+    let mut combined = uncombined(circuit, alloc)?;
+    let finds = is_worked(circuit, drawn, &mut zeros, &mut combined);
+    drop(combined);
+    drop(zeros);
+    Ok(finds)
+}
+
 // The same for the square's circuit, with this script.
 fn finds<F: Field>(
     circuit: &Circuit<F>,
@@ -189,25 +208,32 @@ fn finds<F: Field>(
     requires { HasShape circuit.now script }
 {
     let mut drawn = undrawn(circuit, alloc)?;
-    let mut zeros = zeros_for(circuit, alloc)?;
-    let mut combined = uncombined(circuit, alloc)?;
     set_by_hand(circuit, &mut drawn);
     drawn.script = script;
-    Ok(is_worked(circuit, &drawn, &mut zeros, &mut combined))
+    let finds = finds_for(circuit, &drawn, alloc);
+    drop(drawn);
+    finds
 }
 
 // With the script that is set by hand.
-fn found(alloc: Global) -> Result<Option<bool>, AllocError> {
-    let Some(circuit) = circuit_of::<Gold>(SQUARE, alloc)? else {
+fn found_over(circuit: &Option<Circuit<Gold>>, alloc: Global) -> Result<Option<bool>, AllocError> {
+    let Some(circuit) = circuit else {
         return Ok(None);
     };
     let ra = elements(&[0, 1], alloc)?;
     let rb = elements(&[0, 1], alloc)?;
     let (alpha, gamma) = (Gold::of_word(5), Gold::one());
-    match one_layer_script(&circuit, alpha, ra, rb, gamma, alloc)? {
-        Some(script) => Ok(Some(finds(&circuit, script, alloc)?)),
+    match one_layer_script(circuit, alpha, ra, rb, gamma, alloc)? {
+        Some(script) => Ok(Some(finds(circuit, script, alloc)?)),
         None => Ok(None),
     }
+}
+
+fn found(alloc: Global) -> Result<Option<bool>, AllocError> {
+    let circuit = circuit_of::<Gold>(SQUARE, alloc)?;
+    let found = found_over(&circuit, alloc);
+    drop(circuit);
+    found
 }
 
 #[test]

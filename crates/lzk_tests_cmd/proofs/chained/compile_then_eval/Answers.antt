@@ -7,11 +7,11 @@ use Rattle.lzk_tests_cmd.proofs.chained.compile_then_eval.Goals as goal
 
 pub returns-then-first-ne0 : goal.returns-then-first-ne0
 returns-then-first-ne0 g c = λ chain quiet silent.
-    done_or_memory _ _ _ _ (c.run-first.ensures.run.complete (Compile chain.source chain.circuit) chain.compiles (chain.tree, chain.has_source) (no_fault _ _ _ quiet) (no_fault _ _ _ quiet) (no_fault _ _ _ silent))
+    done_or_memory _ _ _ _ (c.run-first.ensures.run.complete (Compile chain.source chain.circuit chain.version) chain.compiles (chain.tree, chain.has_source) (no_fault _ _ _ quiet) (no_fault _ _ _ quiet) (no_fault _ _ _ silent))
 
 pub returns : goal.returns
 returns g c = λ chain quiet silent.
-    let first = c.run-first.ensures.run.complete (Compile chain.source chain.circuit) chain.compiles (chain.tree, chain.has_source) (no_fault _ _ _ quiet) (no_fault _ _ _ quiet) (no_fault _ _ _ silent) in
+    let first = c.run-first.ensures.run.complete (Compile chain.source chain.circuit chain.version) chain.compiles (chain.tree, chain.has_source) (no_fault _ _ _ quiet) (no_fault _ _ _ quiet) (no_fault _ _ _ silent) in
     elim first [
       | inl done ↦ done_or_memory _ _ _ _
           (c.run.ensures.run.complete (Eval chain.circuit chain.public chain.private) chain.evaluates

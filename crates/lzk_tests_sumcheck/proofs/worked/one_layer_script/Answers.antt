@@ -24,7 +24,7 @@ one_layer {A} c s layer layers gamma shape one is few =
 pub returns : goal.returns
 returns g c =
     let w = c.args.circuit.now in
-    let layer : LayerScript g.row.F.Denot = record { alpha = c.args.alpha; ra = c.new-2.result; rb = c.new-3.result } in
+    let layer : LayerScript g.row.F.Denot = record { alpha = c.args.alpha; beta = c.zero.result; ra = c.new-2.result; rb = c.new-3.result } in
     let is = c.new-4.ensures ∙ c.in_ok-push.ensures.items ∙ ap (λ xs. xs ++ layer ∷ []) c.new-layers.ensures.items in
     let one : depth w ≡ 1 = omega (arith, c.depth.ensures.depth, c.if-depth-ne1.false) in
     let below : c.bits_of-bits.result ≡ bits_under w 0 = c.bits_of-bits.ensures.bits ∙ ap bits c.width.ensures in
