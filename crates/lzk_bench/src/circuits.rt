@@ -1,7 +1,8 @@
 //! Circuits of a million and of two million terms, evaluated, written and read.
 
 ghost use Rattle.std.specs.Prelude.{◌≡◌, length};
-ghost use Rattle.lzk_circuit.specs.Valid.{HaveWidths};
+ghost use Rattle.lzk_goldilocks.specs.Elements.{number};
+ghost use Rattle.lzk_circuit.specs.Checks.{HasRoom};
 
 use lzk_circbytes::{AnyCircuit, decode, encode};
 use lzk_circuit::{Circuit, Layer, Term, Terms, Values};
@@ -68,55 +69,86 @@ fn repeat(
 )
     requires publics { length public.now ≡ circuit.now.publics }
     requires privates { length private.now ≡ circuit.now.privates }
-    requires room { HaveWidths circuit.now values.old }
+    requires room { HasRoom number circuit.now values.old }
 {
     for _ in 0..times {
         circuit.eval(public, private, values);
     }
 }
 
-/// Evaluations of the circuit.
-pub fn evaluated(alloc: Global, times: u32) -> Result<u128, AllocError> {
-    let Some(circuit) = circuit(alloc, 8)? else {
-        return Ok(0);
-    };
-    let mut values = Values::new(alloc, &circuit)?;
-    let mut public = Vec::new(alloc);
-    public.resize(INPUTS as usize, Gold::of_word(3))?;
-    let mut private = Vec::new(alloc);
-    private.resize(INPUTS as usize, Gold::of_word(5))?;
+// The first value that is not 0 behind evaluations.
+fn evaluate(
+    circuit: &Circuit<Gold>,
+    public: &[Gold],
+    private: &[Gold],
+    values: &mut Values<Gold>,
+    times: u32,
+) -> u128
+    requires { HasRoom number circuit.now values.old }
+{
     if circuit.publics() as usize == public.len() && circuit.privates() as usize == private.len() {
-        repeat(&circuit, &public, &private, &mut values, times);
+        repeat(circuit, public, private, values, times);
     }
     match values.first_nonzero() {
-        None => Ok(0),
-        Some((_, value)) => Ok(value.number()),
+        None => 0,
+        Some((_, value)) => value.number(),
     }
+}
+
+fn evaluated_of(alloc: Global, circuit: &Circuit<Gold>, times: u32) -> Result<u128, AllocError> {
+    let public = vec![in alloc; Gold::of_word(3); INPUTS as usize]?;
+    let private = vec![in alloc; Gold::of_word(5); INPUTS as usize]?;
+    let mut values = Values::new(alloc, circuit)?;
+    let found = evaluate(circuit, &public, &private, &mut values, times);
+    drop(values);
+    Ok(found)
+}
+
+/// Evaluations of the circuit.
+pub fn evaluated(alloc: Global, times: u32) -> Result<u128, AllocError> {
+    match circuit(alloc, 8)? {
+        Some(circuit) => evaluated_of(alloc, &circuit, times),
+        None => Ok(0),
+    }
+}
+
+// How often a file is read, modulo 2.
+fn decode_often(alloc: Global, file: &[u8], times: u32) -> u128 {
+    let mut good = 0u128;
+    for _ in 0..times {
+        if let Ok(AnyCircuit::Gold(_)) = decode(alloc, file) {
+            good ^= 1;
+        }
+    }
+    good
+}
+
+fn decoded_of(alloc: Global, circuit: &Circuit<Gold>, times: u32) -> Result<u128, AllocError> {
+    let file = encode(alloc, circuit)?;
+    let good = decode_often(alloc, &file, times);
+    Ok((file.len() as u128).wrapping_mul(2) ^ good)
 }
 
 /// Readings of the circuit's file, and the file's length.
 pub fn decoded(alloc: Global, times: u32) -> Result<u128, AllocError> {
-    let Some(circuit) = circuit(alloc, 16)? else {
-        return Ok(0);
-    };
-    let file = encode(alloc, &circuit)?;
-    let mut good = 0u128;
-    for _ in 0..times {
-        if let Ok(AnyCircuit::Gold(_)) = decode(alloc, &file) {
-            good ^= 1;
-        }
+    match circuit(alloc, 16)? {
+        Some(circuit) => decoded_of(alloc, &circuit, times),
+        None => Ok(0),
     }
-    Ok((file.len() as u128).wrapping_mul(2) ^ good)
+}
+
+fn encoded_of(alloc: Global, circuit: &Circuit<Gold>, times: u32) -> Result<u128, AllocError> {
+    let mut total = 0u128;
+    for _ in 0..times {
+        total ^= encode(alloc, circuit)?.len() as u128;
+    }
+    Ok(total)
 }
 
 /// Writings of the circuit's file, and the file's length.
 pub fn encoded(alloc: Global, times: u32) -> Result<u128, AllocError> {
-    let Some(circuit) = circuit(alloc, 16)? else {
-        return Ok(0);
-    };
-    let mut total = 0u128;
-    for _ in 0..times {
-        total ^= encode(alloc, &circuit)?.len() as u128;
+    match circuit(alloc, 16)? {
+        Some(circuit) => encoded_of(alloc, &circuit, times),
+        None => Ok(0),
     }
-    Ok(total)
 }

@@ -7,9 +7,9 @@ ghost use Rattle.lzk_accept.specs.Challenges as accept;
 ghost use Rattle.lzk_accept.specs.Kept.{AreFormsOf, AreFormsFor};
 
 use crate::rows::first_values;
-use crate::scripts::{Drawn, undrawn};
+use crate::scripts::{Drawn, draw_forms, undrawn};
 use crate::texts::parity_circuit;
-use lzk_accept::{Challenges, Forms, combine, draw_challenges, linear_forms};
+use lzk_accept::{Challenges, Forms, combine, linear_forms};
 use lzk_circuit::Circuit;
 use lzk_field::Field;
 use lzk_layout::Params;
@@ -143,19 +143,21 @@ fn combine_all<F: Field>(
     if !are_of(lists, circuit) {
         return F::zero();
     }
-    let params = Params::of(circuit);
-    let mut tape = Tape::new();
-    replay(circuit, &mut tape, &lists.messages, &mut drawn.script);
-    draw_challenges(&params, &mut tape, &mut drawn.challenges);
-    linear_forms(
+    draw_forms(
         circuit,
         &lists.public,
-        &drawn.script,
         &lists.messages,
-        &mut drawn.forms,
+        &mut Tape::new(),
+        drawn,
     );
     let a = drawn.coefficients.as_mut_slice();
-    combine_often(&params, &drawn.forms, &drawn.challenges, a, times)
+    combine_often(
+        &Params::of(circuit),
+        &drawn.forms,
+        &drawn.challenges,
+        a,
+        times,
+    )
 }
 
 fn combined_of<F: Field>(

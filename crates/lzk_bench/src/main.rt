@@ -30,53 +30,53 @@ use std::thread::Threads;
 // The checksum of a work on elements. None where there is no such work.
 fn elements_work(alloc: Global, work: &str, times: u32) -> Result<Option<u128>, AllocError> {
     let sum = match work {
-        "gold-mul" => elements::products::<Gold>(alloc, times)?,
-        "gold-many" => elements::many_products::<Gold>(alloc, times)?,
-        "gold-square" => elements::gold_squares(times),
-        "gf-square" => elements::gf_squares(times),
-        "gold-inv" => elements::inverses::<Gold>(times),
-        "gold-dot" => elements::dots::<Gold>(alloc, times)?,
-        "gf-mul" => elements::products::<Gf128>(alloc, times)?,
-        "gf-many" => elements::many_products::<Gf128>(alloc, times)?,
-        "gf-dot" => elements::dots::<Gf128>(alloc, times)?,
-        "gf-inv" => elements::inverses::<Gf128>(times),
+        "gold-mul" => elements::products::<Gold>(alloc, times),
+        "gold-many" => elements::many_products::<Gold>(alloc, times),
+        "gold-square" => Ok(elements::gold_squares(times)),
+        "gf-square" => Ok(elements::gf_squares(times)),
+        "gold-inv" => Ok(elements::inverses::<Gold>(times)),
+        "gold-dot" => elements::dots::<Gold>(alloc, times),
+        "gf-mul" => elements::products::<Gf128>(alloc, times),
+        "gf-many" => elements::many_products::<Gf128>(alloc, times),
+        "gf-dot" => elements::dots::<Gf128>(alloc, times),
+        "gf-inv" => Ok(elements::inverses::<Gf128>(times)),
         _ => return Ok(None),
     };
-    Ok(Some(sum))
+    Ok(Some(sum?))
 }
 
 // The same of the tape, leaves and trees.
 fn hashing_work(alloc: Global, work: &str, times: u32) -> Result<Option<u128>, AllocError> {
     let sum = match work {
-        "aes" => blocks::encrypted(times),
-        "draw" => blocks::drawn(times),
-        "absorb" => blocks::absorbed(times),
-        "leaf-7" => trees::leaves(alloc, times, 7)?,
-        "leaf-80" => trees::leaves(alloc, times, 80)?,
-        "tree" => trees::trees(alloc, times)?,
+        "aes" => Ok(blocks::encrypted(times)),
+        "draw" => Ok(blocks::drawn(times)),
+        "absorb" => Ok(blocks::absorbed(times)),
+        "leaf-7" => trees::leaves(alloc, times, 7),
+        "leaf-80" => trees::leaves(alloc, times, 80),
+        "tree" => trees::trees(alloc, times),
         _ => return Ok(None),
     };
-    Ok(Some(sum))
+    Ok(Some(sum?))
 }
 
 // The same of rows.
 fn rows_work(alloc: Global, work: &str, times: u32) -> Result<Option<u128>, AllocError> {
     let sum = match work {
-        "gold-extend-192" => rows::extended::<Gold>(alloc, times, 192)?,
-        "gold-extend-640" => rows::extended::<Gold>(alloc, times, 640)?,
-        "gold-extender" => rows::extenders::<Gold>(alloc, times, 640)?,
-        "gf-extender" => rows::extenders::<Gf128>(alloc, times, 640)?,
-        "gf-extend-192" => rows::extended::<Gf128>(alloc, times, 192)?,
-        "gf-extend-640" => rows::extended::<Gf128>(alloc, times, 640)?,
-        "ntt-192" => transforms::extended::<Gold, NttExtender<Gold>>(alloc, times, 192)?,
-        "ntt-384" => transforms::extended::<Gold, NttExtender<Gold>>(alloc, times, 384)?,
-        "ntt-640" => transforms::extended::<Gold, NttExtender<Gold>>(alloc, times, 640)?,
-        "afft-192" => transforms::extended::<Gf128, Transform>(alloc, times, 192)?,
-        "afft-384" => transforms::extended::<Gf128, Transform>(alloc, times, 384)?,
-        "afft-640" => transforms::extended::<Gf128, Transform>(alloc, times, 640)?,
+        "gold-extend-192" => rows::extended::<Gold>(alloc, times, 192),
+        "gold-extend-640" => rows::extended::<Gold>(alloc, times, 640),
+        "gold-extender" => rows::extenders::<Gold>(alloc, times, 640),
+        "gf-extender" => rows::extenders::<Gf128>(alloc, times, 640),
+        "gf-extend-192" => rows::extended::<Gf128>(alloc, times, 192),
+        "gf-extend-640" => rows::extended::<Gf128>(alloc, times, 640),
+        "ntt-192" => transforms::extended::<Gold, NttExtender<Gold>>(alloc, times, 192),
+        "ntt-384" => transforms::extended::<Gold, NttExtender<Gold>>(alloc, times, 384),
+        "ntt-640" => transforms::extended::<Gold, NttExtender<Gold>>(alloc, times, 640),
+        "afft-192" => transforms::extended::<Gf128, Transform>(alloc, times, 192),
+        "afft-384" => transforms::extended::<Gf128, Transform>(alloc, times, 384),
+        "afft-640" => transforms::extended::<Gf128, Transform>(alloc, times, 640),
         _ => return Ok(None),
     };
-    Ok(Some(sum))
+    Ok(Some(sum?))
 }
 
 // The same of tables, messages and constraints.
@@ -87,49 +87,53 @@ fn constraints_work<R: Threads + Sync>(
     times: u32,
 ) -> Result<Option<u128>, AllocError> {
     let sum = match work {
-        "gold-eq" => tables::eq_tables::<Gold>(alloc, times)?,
-        "gf-eq" => tables::eq_tables::<Gf128>(alloc, times)?,
-        "gold-tilde" => tables::extensions::<Gold>(alloc, times)?,
-        "gf-tilde" => tables::extensions::<Gf128>(alloc, times)?,
-        "forms" => constraints::formed(alloc, times)?,
-        "combine" => constraints::combined(alloc, times)?,
-        "messages" => messages::sent(rt, alloc, times)?,
-        "replay" => tables::replayed(alloc, times)?,
+        "gold-eq" => tables::eq_tables::<Gold>(alloc, times),
+        "gf-eq" => tables::eq_tables::<Gf128>(alloc, times),
+        "gold-tilde" => tables::extensions::<Gold>(alloc, times),
+        "gf-tilde" => tables::extensions::<Gf128>(alloc, times),
+        "forms" => constraints::formed(alloc, times),
+        "combine" => constraints::combined(alloc, times),
+        "messages" => messages::sent(rt, alloc, times),
+        "replay" => tables::replayed(alloc, times),
         _ => return Ok(None),
     };
-    Ok(Some(sum))
+    Ok(Some(sum?))
 }
 
 // The same of sources and circuits.
 fn circuits_work(alloc: Global, work: &str, times: u32) -> Result<Option<u128>, AllocError> {
     let sum = match work {
-        "eval" => circuits::evaluated(alloc, times)?,
-        "decode" => circuits::decoded(alloc, times)?,
-        "encode" => circuits::encoded(alloc, times)?,
-        "numbers" => texts::read(alloc, times)?,
-        "source" => texts::parsed(alloc, times)?,
-        "source-parity" => texts::parity_parsed(alloc, times)?,
-        "compile" => texts::compiled(alloc, times)?,
-        "reduce" => reducing::reduced_again(alloc, times)?,
+        "eval" => circuits::evaluated(alloc, times),
+        "decode" => circuits::decoded(alloc, times),
+        "encode" => circuits::encoded(alloc, times),
+        "numbers" => texts::read(alloc, times),
+        "source" => texts::parsed(alloc, times),
+        "source-parity" => texts::parity_parsed(alloc, times),
+        "compile" => texts::compiled(alloc, times),
+        "reduce" => reducing::reduced_again(alloc, times),
         _ => return Ok(None),
     };
-    Ok(Some(sum))
+    Ok(Some(sum?))
+}
+
+// The same of large proofs.
+fn proofs_work(alloc: Global, work: &str, times: u32) -> Result<Option<u128>, AllocError> {
+    let sum = match work {
+        "proof-read" => proofs::read::<Gold>(alloc, times),
+        "proof-write" => proofs::write::<Gold>(alloc, times),
+        _ => return Ok(None),
+    };
+    Ok(Some(sum?))
 }
 
 // The same of proofs' files.
-fn proofs_work<R: Files + AllocGlobal>(
-    rt: &R,
-    alloc: Global,
-    work: &str,
-    times: u32,
-) -> anyhow::Result<Option<u128>> {
-    let sum = match work {
-        "proof-read" => proofs::read::<Gold>(alloc, times)?,
-        "proof-write" => proofs::write::<Gold>(alloc, times)?,
-        "proof-files" => proofs::written_as_read(rt)?.wrapping_add(scripts::joined_as_given(rt)?),
-        _ => return Ok(None),
-    };
-    Ok(Some(sum))
+fn files_work<R: Files + AllocGlobal>(rt: &R, work: &str) -> anyhow::Result<Option<u128>> {
+    if work != "proof-files" {
+        return Ok(None);
+    }
+    let written = proofs::written_as_read(rt)?;
+    let joined = scripts::joined_as_given(rt)?;
+    Ok(Some(written.wrapping_add(joined)))
 }
 
 // The checksum of a work, done so often. None where there is no such work.
@@ -145,7 +149,8 @@ fn done<R: Files + Threads + Sync + AllocGlobal>(
         rows_work(alloc, work, times)?,
         constraints_work(rt, alloc, work, times)?,
         circuits_work(alloc, work, times)?,
-        proofs_work(rt, alloc, work, times)?,
+        proofs_work(alloc, work, times)?,
+        files_work(rt, work)?,
     ];
     Ok(found.into_iter().flatten().next())
 }
@@ -166,6 +171,31 @@ fn times_of(word: Option<String>) -> u32 {
     }
 }
 
+// Does a work on the files of a statement, and prints its checksum.
+fn run_named<R: Files + Print + Threads + Sync + AllocGlobal>(
+    rt: &R,
+    work: &str,
+    name: &str,
+    times: u32,
+) -> anyhow::Result<()> {
+    let sum = provers::done(rt, work, name, times)?;
+    println!(rt; "{work} {name} {times}: {sum}")?;
+    Ok(())
+}
+
+// The same of a work on nothing else.
+fn run<R: Files + Print + Threads + Sync + AllocGlobal>(
+    rt: &R,
+    work: &str,
+    times: u32,
+) -> anyhow::Result<()> {
+    match done(rt, work, times)? {
+        Some(sum) => println!(rt; "{work} {times}: {sum}")?,
+        None => println!(rt; "no such work")?,
+    }
+    Ok(())
+}
+
 fn main(rt: HostRuntime) -> anyhow::Result<()> {
     let mut words = env::args(&rt)?;
     let _program = words.next();
@@ -175,15 +205,9 @@ fn main(rt: HostRuntime) -> anyhow::Result<()> {
         };
         if is_named(&work) {
             let name = words.next().unwrap_or(String::new(rt.alloc()));
-            let times = times_of(words.next());
-            let sum = provers::done(&rt, &work, &name, times)?;
-            println!(rt; "{work} {name} {times}: {sum}")?;
+            run_named(&rt, &work, &name, times_of(words.next()))?;
         } else {
-            let times = times_of(words.next());
-            match done(&rt, &work, times)? {
-                Some(sum) => println!(rt; "{work} {times}: {sum}")?,
-                None => println!(rt; "no such work")?,
-            }
+            run(&rt, &work, times_of(words.next()))?;
         }
     }
     Ok(())

@@ -1,6 +1,7 @@
 //! What a prover sends in the sumchecks of a circuit over 16,384 bits.
 
 ghost use Rattle.std.specs.Prelude.{◌≡◌, length, IfOk};
+ghost use Rattle.lzk_circuit.specs.Checks.{HasRoom};
 ghost use Rattle.lzk_circuit.specs.Valid.{HaveWidths};
 ghost use Rattle.lzk_layout.specs.Sizes.{sent_counts};
 ghost use Rattle.lzk_sumcheck.specs.Room.{IsRoomOf};
@@ -27,7 +28,7 @@ fn send_often<R: Threads + Sync, F: Field>(
     script: &mut Script<F>,
     times: u32,
 ) -> F
-    requires values { HaveWidths circuit.now values.now }
+    requires values { HaveWidths circuit.now values.now.wires }
     requires pads { length pads.old ≡ sent_counts circuit.now }
     requires room { IsRoomOf circuit.now room.old }
     requires messages { length messages.old ≡ sent_counts circuit.now }
@@ -79,7 +80,7 @@ struct Work<F: Field> {
 }
 
 fn work_for<F: Field>(alloc: Global, circuit: &Circuit<F>) -> Result<Work<F>, AllocError>
-    ensures values { IfOk result (λ work. HaveWidths circuit.now work.values) }
+    ensures values { IfOk result (λ work. HasRoom F.number_of circuit.now work.values) }
     ensures rounds { IfOk result (λ work. IsRoomOf circuit.now work.rounds) }
     ensures script { IfOk result (λ work. HasShape circuit.now work.script) }
 {
@@ -101,7 +102,7 @@ fn send<R: Threads + Sync, F: Field>(
     work: &mut Work<F>,
     times: u32,
 ) -> u128
-    requires values { HaveWidths circuit.now work.old.values }
+    requires values { HasRoom F.number_of circuit.now work.old.values }
     requires rounds { IsRoomOf circuit.now work.old.rounds }
     requires script { HasShape circuit.now work.old.script }
 {

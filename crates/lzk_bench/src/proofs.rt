@@ -4,12 +4,12 @@ ghost use Rattle.std.specs.Prelude.{◌≡◌, ◌≤◌, length, IfOk};
 ghost use Rattle.lzk_layout.specs.Sizes.{AreParams, proof_length};
 ghost use Rattle.lzk_layout.specs.Proofs.{HasLengths};
 
+use crate::scripts::file_of;
 use lzk_circbytes::{AnyCircuit, decode};
 use lzk_circuit::{Circuit, Layer, Terms};
 use lzk_field::Field;
 use lzk_layout::{Elements, Params, Path, Proof, decode_proof, encode_proof, proof_len};
 use std::alloc::{AllocError, Global};
-use std::fs;
 use std::rt::Files;
 
 const INPUTS: u32 = 65_536;
@@ -145,28 +145,72 @@ fn write_often<F: Field>(
     total
 }
 
+// Reads or writes files of a large proof.
+fn work<F: Field>(
+    alloc: Global,
+    params: &Params,
+    is_read: bool,
+    times: u32,
+) -> Result<u128, AllocError>
+    requires { AreParams F.ops params.now }
+{
+    let mut proof = large_proof::<F>(alloc, params)?;
+    let mut bytes = file(alloc, params, &proof)?;
+    let total = if is_read {
+        read_often(params, &mut bytes, &mut proof, times)
+    } else {
+        write_often(params, &mut bytes, &mut proof, times)
+    };
+    drop(proof);
+    Ok(total.wrapping_add(bytes.len() as u128))
+}
+
 /// Readings of a file with 65,536 inputs' rows, 1,000 digests: 196,456 bytes over Goldilocks.
 pub fn read<F: Field>(alloc: Global, times: u32) -> Result<u128, AllocError> {
-    let Some(circuit) = circuit::<F>(alloc)? else {
-        return Ok(0);
-    };
-    let params = Params::of(&circuit);
-    let mut proof = large_proof::<F>(alloc, &params)?;
-    let mut bytes = file(alloc, &params, &proof)?;
-    let total = read_often(&params, &mut bytes, &mut proof, times);
-    Ok(total.wrapping_add(bytes.len() as u128))
+    match circuit::<F>(alloc)? {
+        Some(circuit) => work::<F>(alloc, &Params::of(&circuit), true, times),
+        None => Ok(0),
+    }
 }
 
 /// Writings of the same file.
 pub fn write<F: Field>(alloc: Global, times: u32) -> Result<u128, AllocError> {
-    let Some(circuit) = circuit::<F>(alloc)? else {
-        return Ok(0);
-    };
-    let params = Params::of(&circuit);
-    let mut proof = large_proof::<F>(alloc, &params)?;
-    let mut bytes = file(alloc, &params, &proof)?;
-    let total = write_often(&params, &mut bytes, &mut proof, times);
-    Ok(total.wrapping_add(bytes.len() as u128))
+    match circuit::<F>(alloc)? {
+        Some(circuit) => work::<F>(alloc, &Params::of(&circuit), false, times),
+        None => Ok(0),
+    }
+}
+
+// Whether the bytes are the file of a proof.
+fn is_file<F: Field>(
+    alloc: Global,
+    params: &Params,
+    proof: &Proof<F>,
+    bytes: &[u8],
+) -> Result<bool, AllocError>
+    requires params { AreParams F.ops params.now }
+    requires lengths { HasLengths params.now proof.now }
+    requires few { length proof.now.path.digests ≤ 1536 }
+{
+    let written = file(alloc, params, proof)?;
+    Ok(written.as_slice() == bytes)
+}
+
+// Whether the bytes are the file of a proof, which is read into this one, and that proof's file is these bytes.
+fn is_written_in<F: Field>(
+    alloc: Global,
+    params: &Params,
+    bytes: &[u8],
+    proof: &mut Proof<F>,
+) -> Result<bool, AllocError>
+    requires params { AreParams F.ops params.now }
+    requires lengths { HasLengths params.now proof.old }
+    requires room { 1536 ≤ proof.old.path.room }
+{
+    match decode_proof(params, bytes, proof) {
+        Ok(()) => is_file(alloc, params, proof, bytes),
+        Err(_) => Ok(false),
+    }
 }
 
 // Whether the bytes are the file of a proof for this circuit, and that proof's file is these bytes.
@@ -177,24 +221,32 @@ fn is_written_as_read<F: Field>(
 ) -> Result<bool, AllocError> {
     let params = Params::of(circuit);
     let mut proof = Proof::<F>::new(alloc, &params)?;
-    match decode_proof(&params, bytes, &mut proof) {
-        Ok(()) => Ok(file(alloc, &params, &proof)?.as_slice() == bytes),
-        Err(_) => Ok(false),
-    }
+    let same = is_written_in(alloc, &params, bytes, &mut proof);
+    drop(proof);
+    same
+}
+
+// The same of a circuit's file.
+fn is_same(alloc: Global, circuit: &[u8], proof: &[u8]) -> anyhow::Result<bool> {
+    let same = match decode(alloc, circuit)? {
+        AnyCircuit::Gold(circuit) => is_written_as_read(alloc, &circuit, proof),
+        AnyCircuit::Gf(circuit) => is_written_as_read(alloc, &circuit, proof),
+    };
+    Ok(same?)
+}
+
+// The same of files that lie where the program runs.
+fn is_same_by_name<R: Files + AllocGlobal>(rt: &R, name: &str) -> anyhow::Result<bool> {
+    let circuit = file_of(rt, name, "lzc")?;
+    let proof = file_of(rt, name, "lzp")?;
+    is_same(rt.alloc(), &circuit, &proof)
 }
 
 /// How many of the proofs that lie where the program runs are written as they were read.
 pub fn written_as_read<R: Files + AllocGlobal>(rt: &R) -> anyhow::Result<u128> {
-    let alloc = rt.alloc();
     let mut count = 0u128;
     for name in NAMES {
-        let circuit = fs::read(rt, format!(in alloc; "{name}.lzc")?.as_str())?;
-        let proof = fs::read(rt, format!(in alloc; "{name}.lzp")?.as_str())?;
-        let same = match decode(alloc, &circuit)? {
-            AnyCircuit::Gold(circuit) => is_written_as_read(alloc, &circuit, &proof)?,
-            AnyCircuit::Gf(circuit) => is_written_as_read(alloc, &circuit, &proof)?,
-        };
-        count = count.wrapping_add(same as u128);
+        count = count.wrapping_add(is_same_by_name(rt, name)? as u128);
     }
     Ok(count)
 }

@@ -45,7 +45,25 @@ fn prove_often<R: Threads + Sync, F: Field, X: RowExtend<F>>(
     sum
 }
 
-// The same of a circuit.
+// The same by a prover for a circuit.
+fn prove_anew<R: Threads + Sync, F: Field, X: RowExtend<F>>(
+    rt: &R,
+    alloc: Global,
+    circuit: &Circuit<F>,
+    public: &[F],
+    private: &[F],
+    times: u32,
+) -> Result<u128, AllocError>
+    requires public { length public.now ≡ circuit.now.publics }
+    requires private { length private.now ≡ circuit.now.privates }
+{
+    let mut works = WorksOver::<F, X>::new(alloc, circuit)?;
+    let sum = prove_often(rt, &mut works, public, private, times);
+    drop(works);
+    Ok(sum)
+}
+
+// The same of texts.
 fn proved<R: Threads + Sync, F: Field, X: RowExtend<F>>(
     rt: &R,
     alloc: Global,
@@ -62,10 +80,7 @@ fn proved<R: Threads + Sync, F: Field, X: RowExtend<F>>(
     ) else {
         return Ok(0);
     };
-    let mut works = WorksOver::<F, X>::new(alloc, circuit)?;
-    let sum = prove_often(rt, &mut works, &public, &private, times);
-    drop(works);
-    Ok(sum)
+    prove_anew::<R, F, X>(rt, alloc, circuit, &public, &private, times)
 }
 
 // How often a proof is accepted, as a whole.
@@ -152,6 +167,53 @@ fn read<R: Files + AllocGlobal>(rt: &R, name: &str, ending: &str) -> Result<Vec<
     Ok(fs::read(rt, path.as_str()).unwrap_or(Vec::new(alloc)))
 }
 
+fn texts_of<R: Files + AllocGlobal>(rt: &R, name: &str) -> Result<Texts, AllocError> {
+    let public = read(rt, name, "public")?;
+    let private = read(rt, name, "private")?;
+    let proof = read(rt, name, "lzp")?;
+    Ok(Texts {
+        public,
+        private,
+        proof,
+    })
+}
+
+// A work over a circuit.
+fn done_over<R: Threads + Sync, F: Field, X: RowExtend<F>>(
+    rt: &R,
+    alloc: Global,
+    circuit: &Circuit<F>,
+    texts: &Texts,
+    work: &str,
+    times: u32,
+) -> Result<u128, AllocError> {
+    if work == "prove" {
+        proved::<R, F, X>(rt, alloc, circuit, texts, times)
+    } else {
+        verified(alloc, circuit, texts, work == "feed", times)
+    }
+}
+
+// A work over the circuit of a file.
+fn done_for<R: AllocGlobal + Threads + Sync>(
+    rt: &R,
+    file: &[u8],
+    texts: &Texts,
+    work: &str,
+    times: u32,
+) -> anyhow::Result<u128> {
+    let alloc = rt.alloc();
+    let sum = match decode(alloc, file)? {
+        AnyCircuit::Gold(circuit) => {
+            done_over::<R, Gold, NttExtender<Gold>>(rt, alloc, &circuit, texts, work, times)
+        }
+        AnyCircuit::Gf(circuit) => {
+            done_over::<R, Gf128, Transform>(rt, alloc, &circuit, texts, work, times)
+        }
+    };
+    Ok(sum?)
+}
+
 /// The checksum of a work on a statement's files, done so often.
 pub fn done<R: Files + AllocGlobal + Threads + Sync>(
     rt: &R,
@@ -159,24 +221,7 @@ pub fn done<R: Files + AllocGlobal + Threads + Sync>(
     name: &str,
     times: u32,
 ) -> anyhow::Result<u128> {
-    let alloc = rt.alloc();
+    let texts = texts_of(rt, name)?;
     let file = read(rt, name, "lzc")?;
-    let texts = Texts {
-        public: read(rt, name, "public")?,
-        private: read(rt, name, "private")?,
-        proof: read(rt, name, "lzp")?,
-    };
-    let sum = match (decode(alloc, &file)?, work) {
-        (AnyCircuit::Gold(circuit), "prove") => {
-            proved::<R, Gold, NttExtender<Gold>>(rt, alloc, &circuit, &texts, times)?
-        }
-        (AnyCircuit::Gf(circuit), "prove") => {
-            proved::<R, Gf128, Transform>(rt, alloc, &circuit, &texts, times)?
-        }
-        (AnyCircuit::Gold(circuit), _) => {
-            verified(alloc, &circuit, &texts, work == "feed", times)?
-        }
-        (AnyCircuit::Gf(circuit), _) => verified(alloc, &circuit, &texts, work == "feed", times)?,
-    };
-    Ok(sum)
+    done_for(rt, &file, &texts, work, times)
 }

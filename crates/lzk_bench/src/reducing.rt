@@ -1,8 +1,9 @@
 //! The layers of a circuit over 16,384 bits, reduced once more.
 
-ghost use Rattle.std.specs.Prelude.{◌≡◌, IfOk};
+ghost use Rattle.std.specs.Prelude.{◌≡◌, ◌≤◌, length, IfOk};
 ghost use Rattle.lzk_goldilocks.specs.Elements.{ops};
-ghost use Rattle.lzk_reduce.specs.Reduced.{IsReduced};
+ghost use Rattle.lzk_circuit.specs.Valid.{AreLayers};
+ghost use Rattle.lzk_reduce.specs.Reduced.{HaveOnes, IsReduced};
 
 use crate::texts::parity_circuit;
 use lzk_circuit::{Circuit, Layer, Terms};
@@ -37,24 +38,41 @@ fn size(layers: &[Layer<Gold>]) -> u128 {
     total
 }
 
-// Reduced layers of a reduced circuit, made so often.
-fn reduce_often(alloc: Global, circuit: &Circuit<Gold>, times: u32) -> Result<u128, AllocError>
-    requires { IsReduced ops circuit.now.layers }
+// Reduced layers, made so often.
+fn reduce_often(
+    alloc: Global,
+    inputs: u32,
+    layers: &[Layer<Gold>],
+    times: u32,
+) -> Result<u128, AllocError>
+    requires some { 1 ≤ length layers.now }
+    requires layers { AreLayers ops inputs layers.now }
+    requires ones { HaveOnes ops layers.now }
+{
+    let mut total = 0u128;
+    for _ in 0..times {
+        total = total.wrapping_add(size(&reduced(alloc, inputs, layers)?));
+    }
+    Ok(total)
+}
+
+// The same of a reduced circuit's layers.
+fn reduced_of(alloc: Global, circuit: &Circuit<Gold>, times: u32) -> Result<u128, AllocError>
+    requires version { circuit.now.version ≡ 1 }
+    requires reduced { IsReduced ops circuit.now.layers }
 {
     let layers = layers_of(alloc, circuit)?;
     let _depth = circuit.depth();
     let inputs = 1 + circuit.publics() + circuit.privates();
-    let mut total = 0u128;
-    for _ in 0..times {
-        total = total.wrapping_add(size(&reduced(alloc, inputs, &layers)?));
-    }
-    Ok(total)
+    let total = reduce_often(alloc, inputs, &layers, times);
+    drop(layers);
+    total
 }
 
 /// Reduced layers of the circuit of a source over 16,384 bits: how many terms and wires they have.
 pub fn reduced_again(alloc: Global, times: u32) -> Result<u128, AllocError> {
     match parity_circuit(alloc)? {
-        Some(circuit) => reduce_often(alloc, &circuit, times),
+        Some(circuit) => reduced_of(alloc, &circuit, times),
         None => Ok(0),
     }
 }

@@ -13,23 +13,21 @@ pub fn first_values<F: Field>(alloc: Global, n: u32) -> Result<Vec<F>, AllocErro
     Ok(values)
 }
 
-/// Extensions of `n` values to twice as many less one and four times as many behind them, as a row of the
-/// prover is extended, the first value of each being the last one before.
-pub fn extended<F: Field>(alloc: Global, times: u32, n: u32) -> Result<u128, AllocError> {
-    if n < 1 || n > 1_000 {
-        return Ok(0);
-    }
-    let upto = 6 * n - 1;
-    let extender = Extender::<F>::new(alloc, n, upto)?;
-    let mut values = first_values::<F>(alloc, n)?;
-    let mut out = Vec::new(alloc);
-    out.resize((upto - n) as usize, F::zero())?;
+// The last value of extensions, the first value of each being the last one before.
+fn extend_often<F: Field>(
+    extender: &Extender<F>,
+    values: &mut [F],
+    out: &mut [F],
+    times: u32,
+) -> F {
+    let n = extender.count();
+    let upto = extender.upto();
     let mut last = F::zero();
     for _ in 0..times {
         if values.len() != n as usize || out.len() != (upto - n) as usize {
             break;
         }
-        extender.extend(&values, &mut out);
+        extender.extend(values, out);
         if let Some(value) = out.last() {
             last = *value;
         }
@@ -37,6 +35,21 @@ pub fn extended<F: Field>(alloc: Global, times: u32, n: u32) -> Result<u128, All
             *first = last;
         }
     }
+    last
+}
+
+/// Extensions of `n` values to twice as many less one and four times as many behind them, as a row of the
+/// prover is extended, the first value of each being the last one before.
+pub fn extended<F: Field>(alloc: Global, times: u32, n: u32) -> Result<u128, AllocError> {
+    if n < 1 || n > 1_000 {
+        return Ok(0);
+    }
+    let upto = 6 * n - 1;
+    let mut values = first_values::<F>(alloc, n)?;
+    let mut out = vec![in alloc; F::zero(); (upto - n) as usize]?;
+    let extender = Extender::<F>::new(alloc, n, upto)?;
+    let last = extend_often(&extender, &mut values, &mut out, times);
+    drop(extender);
     Ok(last.number())
 }
 

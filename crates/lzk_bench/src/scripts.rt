@@ -1,7 +1,7 @@
 //! What the tape draws for proofs of an independent implementation, and their constraints combined.
 
 ghost use Rattle.std.specs.Prelude.{◌≡◌, ◌≤◌, ◌-◌, ◌*◌, length, IfOk};
-ghost use Rattle.lzk_layout.specs.Sizes.{AreBounded, params_of};
+ghost use Rattle.lzk_layout.specs.Sizes.{AreBounded, params_of, sent_counts};
 ghost use Rattle.lzk_layout.specs.Proofs.{HasLengths};
 ghost use Rattle.lzk_sumcheck.specs.Script.{HasShape};
 ghost use Rattle.lzk_accept.specs.Challenges as accept;
@@ -117,16 +117,38 @@ pub fn undrawn<F: Field>(alloc: Global, circuit: &Circuit<F>) -> Result<Drawn<F>
     ensures forms { IfOk result (λ drawn. AreFormsOf F.ops circuit.now drawn.forms) }
     ensures coefficients { let p = params_of circuit.now in IfOk result (λ drawn. length drawn.coefficients ≡ (p.nrow - 3) * p.wr) }
 {
-    let script = Script::new(alloc, circuit)?;
-    let challenges = Challenges::new(alloc, &Params::of(circuit))?;
-    let forms = Forms::new(alloc, circuit)?;
     let coefficients = rows_for(&Params::of(circuit), alloc)?;
+    let challenges = Challenges::new(alloc, &Params::of(circuit))?;
+    let script = Script::new(alloc, circuit)?;
+    let forms = Forms::new(alloc, circuit)?;
     Ok(Drawn {
         script,
         challenges,
         forms,
         coefficients,
     })
+}
+
+/// What is drawn for elements that are sent to a tape, and their constraints.
+pub fn draw_forms<F: Field>(
+    circuit: &Circuit<F>,
+    public: &[F],
+    messages: &[F],
+    tape: &mut Tape,
+    drawn: &mut Drawn<F>,
+)
+    requires public { length public.now ≡ circuit.now.publics }
+    requires messages { length messages.now ≡ sent_counts circuit.now }
+    requires script { HasShape circuit.now drawn.old.script }
+    requires challenges { accept.HasShape (params_of circuit.now) drawn.old.challenges }
+    requires forms { AreFormsOf F.ops circuit.now drawn.old.forms }
+    ensures challenges { accept.HasShape (params_of circuit.now) drawn.new.challenges }
+    ensures forms { AreFormsOf F.ops circuit.now drawn.new.forms }
+    ensures coefficients { drawn.new.coefficients ≡ drawn.old.coefficients }
+{
+    replay(circuit, tape, messages, &mut drawn.script);
+    draw_challenges(&Params::of(circuit), tape, &mut drawn.challenges);
+    linear_forms(circuit, public, &drawn.script, messages, &mut drawn.forms);
 }
 
 // What is drawn for a proof before its columns, and its constraints combined.
@@ -136,7 +158,39 @@ struct Sums<F> {
     combined: F,
 }
 
-// Both of them, each as one element. None where the proof is not of the circuit.
+// Both of them, each as one element.
+fn sums_of_read<F: Field>(
+    circuit: &Circuit<F>,
+    session: &[u8],
+    public: &[F],
+    read: &Proof<F>,
+    drawn: &mut Drawn<F>,
+) -> Sums<F>
+    requires public { length public.now ≡ circuit.now.publics }
+    requires messages { length read.now.messages ≡ sent_counts circuit.now }
+    requires script { HasShape circuit.now drawn.old.script }
+    requires challenges { accept.HasShape (params_of circuit.now) drawn.old.challenges }
+    requires forms { AreFormsOf F.ops circuit.now drawn.old.forms }
+    requires coefficients { let p = params_of circuit.now in length drawn.old.coefficients ≡ (p.nrow - 3) * p.wr }
+{
+    let mut tape = Tape::new();
+    tape.bytes(b"lzk1");
+    tape.bytes(session);
+    tape.bytes(&read.id);
+    tape.array(public);
+    tape.bytes(&read.root);
+    draw_forms(circuit, public, read.messages.as_slice(), &mut tape, drawn);
+    let a = drawn.coefficients.as_mut_slice();
+    let wanted = combine(&Params::of(circuit), &drawn.forms, &drawn.challenges, a);
+    let draws = challenges_joined(script_joined(&drawn.script), &drawn.challenges);
+    let combined = joined(F::zero(), drawn.coefficients.as_slice());
+    Sums {
+        draws: next(draws, tape.draw()),
+        combined: next(combined, wanted),
+    }
+}
+
+// The same of a proof's bytes. None where the proof is not of the circuit.
 fn sums_in<F: Field>(
     circuit: &Circuit<F>,
     session: &[u8],
@@ -156,33 +210,12 @@ fn sums_in<F: Field>(
     if decode_proof(&params, proof, read).is_err() {
         return None;
     }
-    let messages = read.messages.as_slice();
-    if messages.len() != message_count(circuit) as usize
+    if read.messages.as_slice().len() != message_count(circuit) as usize
         || public.len() != circuit.publics() as usize
     {
         return None;
     }
-    let mut tape = Tape::new();
-    tape.bytes(b"lzk1");
-    tape.bytes(session);
-    tape.bytes(&read.id);
-    tape.array(public);
-    tape.bytes(&read.root);
-    replay(circuit, &mut tape, messages, &mut drawn.script);
-    draw_challenges(&params, &mut tape, &mut drawn.challenges);
-    linear_forms(circuit, public, &drawn.script, messages, &mut drawn.forms);
-    let wanted = combine(
-        &params,
-        &drawn.forms,
-        &drawn.challenges,
-        drawn.coefficients.as_mut_slice(),
-    );
-    let draws = challenges_joined(script_joined(&drawn.script), &drawn.challenges);
-    let combined = joined(F::zero(), drawn.coefficients.as_slice());
-    Some(Sums {
-        draws: next(draws, tape.draw()),
-        combined: next(combined, wanted),
-    })
+    Some(sums_of_read(circuit, session, public, read, drawn))
 }
 
 // The same in room of its own.
@@ -213,8 +246,9 @@ fn are_joined<F: Field>(
     let Ok(public) = read_numbers::<F>(alloc, &texts.public, circuit.publics()) else {
         return Ok(false);
     };
-    let found = sums_of(alloc, circuit, &texts.session, &public, &texts.proof)?;
-    Ok(found.is_some_and(|sums| (sums.draws.number(), sums.combined.number()) == wanted))
+    let found = sums_of(alloc, circuit, &texts.session, &public, &texts.proof);
+    drop(public);
+    Ok(found?.is_some_and(|sums| (sums.draws.number(), sums.combined.number()) == wanted))
 }
 
 // The files of a proof.
@@ -226,19 +260,27 @@ struct Texts {
     proof: Vec<u8>,
 }
 
-// A file that lies where the program runs.
-fn read<R: Files + AllocGlobal>(rt: &R, name: &str, ending: &str) -> anyhow::Result<Vec<u8>> {
+/// A file that lies where the program runs.
+pub fn file_of<R: Files + AllocGlobal>(
+    rt: &R,
+    name: &str,
+    ending: &str,
+) -> anyhow::Result<Vec<u8>> {
     let alloc = rt.alloc();
     let path = format!(in alloc; "{name}.{ending}")?;
     Ok(fs::read(rt, path.as_str())?)
 }
 
 fn texts_of<R: Files + AllocGlobal>(rt: &R, name: &str) -> anyhow::Result<Texts> {
+    let circuit = file_of(rt, name, "lzc")?;
+    let session = file_of(rt, name, "session")?;
+    let public = file_of(rt, name, "txt")?;
+    let proof = file_of(rt, name, "lzp")?;
     Ok(Texts {
-        circuit: read(rt, name, "lzc")?,
-        session: read(rt, name, "session")?,
-        public: read(rt, name, "txt")?,
-        proof: read(rt, name, "lzp")?,
+        circuit,
+        session,
+        public,
+        proof,
     })
 }
 
@@ -251,12 +293,21 @@ fn is_given(alloc: Global, texts: &Texts, wanted: (u128, u128)) -> anyhow::Resul
     Ok(same?)
 }
 
+// The same of files that lie where the program runs.
+fn is_given_by_name<R: Files + AllocGlobal>(
+    rt: &R,
+    name: &str,
+    wanted: (u128, u128),
+) -> anyhow::Result<bool> {
+    let texts = texts_of(rt, name)?;
+    is_given(rt.alloc(), &texts, wanted)
+}
+
 /// How many of the proofs that lie where the program runs have the draws and combined constraints of the table.
 pub fn joined_as_given<R: Files + AllocGlobal>(rt: &R) -> anyhow::Result<u128> {
     let mut count = 0u128;
     for (name, draws, combined) in JOINED {
-        let texts = texts_of(rt, name)?;
-        let same = is_given(rt.alloc(), &texts, (draws, combined))?;
+        let same = is_given_by_name(rt, name, (draws, combined))?;
         count = count.wrapping_add(same as u128);
     }
     Ok(count)

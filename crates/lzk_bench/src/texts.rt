@@ -1,12 +1,12 @@
 //! A number file and a source of 4 MiB, and a source of 49,150 nodes compiled.
 
-ghost use Rattle.std.specs.Prelude.{◌≤◌, length, IfOk, IfSome};
+ghost use Rattle.std.specs.Prelude.{◌≡◌, ◌≤◌, length, IfOk, IfSome};
 ghost use Rattle.lzk_goldilocks.specs.Elements.{ops};
 ghost use Rattle.lzk_reduce.specs.Reduced.{IsReduced};
 
 use lzk_circbytes::AnyCircuit;
 use lzk_circuit::Circuit;
-use lzk_expr::{parse, read_numbers};
+use lzk_expr::{Source, parse, read_numbers};
 use lzk_field::Field;
 use lzk_goldilocks::Gold;
 use lzk_level::compile;
@@ -73,6 +73,12 @@ fn push_name(alloc: Global, i: u32, text: &mut Vec<u8>) -> Result<(), AllocError
     push_number(alloc, i - BITS, text)
 }
 
+// Appends words and the name.
+fn push_behind(alloc: Global, words: &[u8], i: u32, text: &mut Vec<u8>) -> Result<(), AllocError> {
+    text.extend_from_slice(words)?;
+    push_name(alloc, i, text)
+}
+
 // Appends the line of pair `i`, which is 1 where just one of two earlier names is.
 fn push_pair(alloc: Global, i: u32, text: &mut Vec<u8>) -> Result<(), AllocError>
     requires some { 1 ≤ i }
@@ -81,34 +87,33 @@ fn push_pair(alloc: Global, i: u32, text: &mut Vec<u8>) -> Result<(), AllocError
     let (a, b) = (2 * i - 1, 2 * i);
     text.extend_from_slice(b"let t")?;
     push_number(alloc, i, text)?;
-    text.extend_from_slice(b" = ")?;
-    push_name(alloc, a, text)?;
-    text.extend_from_slice(b" + ")?;
-    push_name(alloc, b, text)?;
-    text.extend_from_slice(b" - 2 * ")?;
-    push_name(alloc, a, text)?;
-    text.extend_from_slice(b" * ")?;
-    push_name(alloc, b, text)?;
+    push_behind(alloc, b" = ", a, text)?;
+    push_behind(alloc, b" + ", b, text)?;
+    push_behind(alloc, b" - 2 * ", a, text)?;
+    push_behind(alloc, b" * ", b, text)?;
     text.push(b'\n')?;
     Ok(())
 }
 
-// A source which says that y is 1 where an odd number of its bits are, and 0 where an even number are. It
-// pairs the names from the first on, and puts a name for each pair behind the others.
-fn parity_source(alloc: Global) -> Result<Vec<u8>, AllocError> {
-    let mut text = Vec::new(alloc);
+// Appends the lines of a source which says that y is 1 where an odd number of its bits are, and 0 where an even number
+// are. It pairs the names from the first on, and puts a name for each pair behind the others.
+fn push_parity(alloc: Global, text: &mut Vec<u8>) -> Result<(), AllocError> {
     text.extend_from_slice(b"field goldilocks\npublic y\n")?;
     for i in 0..BITS {
         text.extend_from_slice(b"private x")?;
-        push_number(alloc, i + 1, &mut text)?;
+        push_number(alloc, i + 1, text)?;
         text.push(b'\n')?;
     }
     for i in 1..BITS {
-        push_pair(alloc, i, &mut text)?;
+        push_pair(alloc, i, text)?;
     }
-    text.extend_from_slice(b"assert ")?;
-    push_name(alloc, 2 * BITS - 1, &mut text)?;
-    text.extend_from_slice(b" = y\n")?;
+    push_behind(alloc, b"assert ", 2 * BITS - 1, text)?;
+    text.extend_from_slice(b" = y\n")
+}
+
+fn parity_source(alloc: Global) -> Result<Vec<u8>, AllocError> {
+    let mut text = Vec::new(alloc);
+    push_parity(alloc, &mut text)?;
     Ok(text)
 }
 
@@ -124,21 +129,34 @@ fn size(circuit: &Circuit<Gold>) -> u128 {
     total
 }
 
-// The circuit of a text, and none where it has none over Goldilocks.
-fn circuit_of(alloc: Global, text: &[u8]) -> Option<Circuit<Gold>>
-    requires { length text.now ≤ 4194304 }
-    ensures { IfSome result (λ circuit. IsReduced ops circuit.layers) }
+// The circuit of a source, and none where it has none over Goldilocks.
+fn gold_circuit(alloc: Global, source: &Source) -> Option<Circuit<Gold>>
+    ensures version { IfSome result (λ circuit. circuit.version ≡ 1) }
+    ensures reduced { IfSome result (λ circuit. IsReduced ops circuit.layers) }
 {
-    match compile(alloc, &parse(alloc, text).ok()?) {
+    match compile(alloc, source) {
         Ok(AnyCircuit::Gold(circuit)) => Some(circuit),
         Ok(AnyCircuit::Gf(_)) => None,
         Err(_) => None,
     }
 }
 
+// The same of a text.
+fn circuit_of(alloc: Global, text: &[u8]) -> Option<Circuit<Gold>>
+    requires { length text.now ≤ 4194304 }
+    ensures version { IfSome result (λ circuit. circuit.version ≡ 1) }
+    ensures reduced { IfSome result (λ circuit. IsReduced ops circuit.layers) }
+{
+    match parse(alloc, text) {
+        Ok(source) => gold_circuit(alloc, &source),
+        Err(_) => None,
+    }
+}
+
 /// The circuit of a source over 16,384 bits.
 pub fn parity_circuit(alloc: Global) -> Result<Option<Circuit<Gold>>, AllocError>
-    ensures { IfOk result (λ found. IfSome found (λ circuit. IsReduced ops circuit.layers)) }
+    ensures version { IfOk result (λ found. IfSome found (λ circuit. circuit.version ≡ 1)) }
+    ensures reduced { IfOk result (λ found. IfSome found (λ circuit. IsReduced ops circuit.layers)) }
 {
     let text = parity_source(alloc)?;
     if text.len() <= 4_194_304 {
