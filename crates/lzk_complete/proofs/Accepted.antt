@@ -3,7 +3,7 @@ use Rattle.lzk_field.specs.Coding.{Coding}
 use Rattle.lzk_field.specs.Ring.{Ops, RingLaws}
 use Rattle.lzk_layout.proofs.SizeLaws.{params_bounded}
 use Rattle.lzk_accept.specs.Challenges.{transcript}
-use Rattle.lzk_honest.specs.Changed.{unchanged}
+use Rattle.lzk_complete.specs.Changed.{unchanged}
 use Rattle.lzk_circbytes.specs.Files.{id_of}
 use Rattle.lzk_verify.specs.Verdict.{AllHold}
 use Rattle.lzk_verify.proofs.Acceptance.{accepts_exactly}

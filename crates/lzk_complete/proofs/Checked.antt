@@ -24,9 +24,9 @@ use Rattle.lzk_answers.specs.Opened.{IsSent, Satisfies, Stands}
 use Rattle.lzk_answers.specs.Opened as answers
 use Rattle.lzk_answers.specs.Rows.{AreRows}
 use Rattle.lzk_tableau.specs.Tableau.{column, committed, tableau}
-use Rattle.lzk_honest.specs.Answered.{Answers}
+use Rattle.lzk_complete.specs.Answered.{Answers}
 use Rattle.lzk_circbytes.specs.Files.{id_of}
-use Rattle.lzk_honest.specs.Proving.{HaveCounts, IsProofBy, own_answers}
+use Rattle.lzk_complete.specs.Proving.{HaveCounts, IsProofBy, own_answers}
 use Rattle.lzk_verify.specs.Verdict.{LowDegreeAt, LinearAt, QuadraticAt, wanted_sum}
 use Rattle.lzk_complete.specs.Residuals.{ResidualsVanish}
 use Rattle.lzk_complete.proofs.CommittedEntries.{length_committed, products}

@@ -4,8 +4,13 @@ pub mod Checked
 pub mod ClaimLaws
 pub mod CommittedEntries
 pub mod CommittedLaws
+pub mod FileSizes
+pub mod OneMessages
+pub mod OneProof
 pub mod OpenedColumns
 pub mod Refused
+pub mod SomeMessages
+pub mod SomeProof
 pub mod Standing
 pub mod Vanish
 pub mod WireLaws

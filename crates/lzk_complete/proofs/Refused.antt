@@ -19,12 +19,12 @@ use Rattle.lzk_accept.specs.Checks.{AtEach, FailsFirst, combined_row_of, found_s
 use Rattle.lzk_answers.specs.Answers.{linear_answer}
 use Rattle.lzk_answers.specs.Laws.{LowDegreeFails, LinearFails, QuadraticFails, SumsChange}
 use Rattle.lzk_tableau.specs.Tableau.{tableau}
-use Rattle.lzk_honest.specs.declared.answer.Answer.{Answer}
-use Rattle.lzk_honest.specs.declared.answer.Answer.TheVariants as answer
-use Rattle.lzk_honest.specs.Answered.{Answers, AreSent}
-use Rattle.lzk_honest.specs.Changed.{with_added, IsSentPlace}
+use Rattle.lzk_complete.specs.declared.answer.Answer.{Answer}
+use Rattle.lzk_complete.specs.declared.answer.Answer.TheVariants as answer
+use Rattle.lzk_complete.specs.Answered.{Answers, AreSent}
+use Rattle.lzk_complete.specs.Changed.{with_added, IsSentPlace}
 use Rattle.lzk_circbytes.specs.Files.{id_of}
-use Rattle.lzk_honest.specs.Proving.{own_answers}
+use Rattle.lzk_complete.specs.Proving.{own_answers}
 use Rattle.lzk_verify.specs.declared.verdict.Verdict.{Verdict}
 use Rattle.lzk_verify.specs.declared.verdict.Verdict.TheVariants.{LinearSum, Linear}
 use Rattle.lzk_verify.specs.Checks.{HasCircuitId, HasPathCount, HasRoot}

@@ -7,7 +7,7 @@ use Rattle.lzk_layout.specs.declared.proof.Proof.{Proof}
 use Rattle.lzk_layout.specs.Proofs.{ProofBytes}
 use Rattle.lzk_layout.specs.Sizes.{params_of}
 use Rattle.lzk_accept.specs.Checks.{AtEach}
-use Rattle.lzk_honest.specs.Proving.{HaveCounts, IsProofFile}
+use Rattle.lzk_complete.specs.Proving.{HaveCounts, IsProofFile}
 use Rattle.lzk_verify.specs.Checks.{HasCircuitId, HasPathCount, HasRoot}
 use Rattle.lzk_verify.specs.Verdict.{LowDegreeAt, LinearAt, QuadraticAt, given}
 

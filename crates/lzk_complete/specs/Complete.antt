@@ -5,7 +5,7 @@ use Rattle.lzk_field.specs.Ring.{Ops}
 use Rattle.lzk_circuit.specs.Valid.{Wiring, IsValid}
 use Rattle.lzk_circuit.specs.Wires.{inputs_of}
 use Rattle.lzk_circuit.specs.Checks.{IsSatisfied}
-use Rattle.lzk_honest.specs.Proving.{HaveCounts, IsProofFile}
+use Rattle.lzk_complete.specs.Proving.{HaveCounts, IsProofFile}
 use Rattle.lzk_verify.specs.Verdict.{IsVerdict}
 use Rattle.lzk_verify.specs.declared.verdict.Verdict.TheVariants.{Accepted}
 

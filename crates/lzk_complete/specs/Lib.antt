@@ -1,7 +1,9 @@
+pub mod Answered
 pub mod AnyInputs
+pub mod Changed
 pub mod Complete
+pub mod Proving
 pub mod Refused
 pub mod Residuals
 pub use Rattle.lzk_tableau.specs as lzk_tableau
 pub use Rattle.lzk_answers.specs as lzk_answers
-pub use Rattle.lzk_honest.specs as lzk_honest

@@ -10,10 +10,10 @@ use Rattle.lzk_layout.specs.Proofs.{ProofBytes}
 use Rattle.lzk_layout.specs.Sizes.{params_of}
 use Rattle.lzk_accept.specs.Challenges.{Transcript}
 use Rattle.lzk_accept.specs.Checks.{AtEach}
-use Rattle.lzk_honest.specs.declared.answer.Answer.{Answer}
-use Rattle.lzk_honest.specs.declared.answer.Answer.TheVariants as answer
-use Rattle.lzk_honest.specs.Changed.{IsSentPlace}
-use Rattle.lzk_honest.specs.Proving.{HaveCounts, IsChangedFile}
+use Rattle.lzk_complete.specs.declared.answer.Answer.{Answer}
+use Rattle.lzk_complete.specs.declared.answer.Answer.TheVariants as answer
+use Rattle.lzk_complete.specs.Changed.{IsSentPlace}
+use Rattle.lzk_complete.specs.Proving.{HaveCounts, IsChangedFile}
 use Rattle.lzk_verify.specs.declared.verdict.Verdict.{Verdict}
 use Rattle.lzk_verify.specs.declared.verdict.Verdict.TheVariants.{LowDegree, LinearSum, Linear, Quadratic}
 use Rattle.lzk_verify.specs.Verdict.{IsVerdict, LowDegreeAt, LinearAt, QuadraticAt, given, wanted_sum}

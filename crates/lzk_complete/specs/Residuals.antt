@@ -12,7 +12,7 @@ use Rattle.lzk_sumcheck.specs.Messages.{AreMessages}
 use Rattle.lzk_sumcheck.specs.Script.{script}
 use Rattle.lzk_accept.specs.Residuals.{residual}
 use Rattle.lzk_tableau.specs.Tableau.{committed}
-use Rattle.lzk_honest.specs.Proving.{HaveCounts, pads}
+use Rattle.lzk_complete.specs.Proving.{HaveCounts, pads}
 
 -- For satisfying inputs every residual of the committed list is 0, whatever the tape gives.
 abbrev pub ResidualsVanish : {A : Type 0} → Ops A → Coding A → Type 0

@@ -1,11 +1,10 @@
 //! The law of residuals, as the contract of a function that does nothing.
 
-ghost use Rattle.lzk_field.specs.Coding.{coding};
 ghost use Rattle.lzk_complete.specs.Residuals.{ResidualsVanish};
 
 use lzk_field::Field;
 
 /// For satisfying inputs every residual of the committed list is 0. The body does nothing.
 pub fn residuals_vanish<F: Field>()
-    ensures vanish { ResidualsVanish F.ops (coding F.element F.number_of F.BYTES F.size F.ID) }
+    ensures vanish { ResidualsVanish F.ops F.coding }
 {}

@@ -1,4 +1,3 @@
-use Rattle.lzk_field.specs.Coding.{coding}
 use Rattle.lzk_complete.proofs.Refused.{changed_refused}
 use Rattle.lzk_complete.proofs.laws.changed_proofs_refused.Goals as goal
 
@@ -8,7 +7,7 @@ returns g c =
     let pass = c.answers_pass.ensures in
     let fail = c.changed_answers_fail.ensures in
     record {
-      refused = changed_refused f.ops (coding f.element f.number_of f.BYTES f.size f.ID) f.laws.ring c.residuals_vanish.ensures.vanish
+      refused = changed_refused f.ops f.coding f.laws.ring c.residuals_vanish.ensures.vanish
           (record {
             columns = pass.columns;
             low_degree = pass.low_degree;

@@ -1,4 +1,3 @@
-use Rattle.lzk_field.specs.Coding.{coding}
 use Rattle.lzk_complete.proofs.Accepted.{complete}
 use Rattle.lzk_complete.proofs.laws.proofs_accepted.Goals as goal
 
@@ -7,7 +6,7 @@ returns g c =
     let f = g.F.Field in
     let pass = c.answers_pass.ensures in
     record {
-      accepted = complete f.ops (coding f.element f.number_of f.BYTES f.size f.ID) f.laws.ring c.residuals_vanish.ensures.vanish (record {
+      accepted = complete f.ops f.coding f.laws.ring c.residuals_vanish.ensures.vanish (record {
         columns = pass.columns;
         low_degree = pass.low_degree;
         linear = pass.linear;

@@ -1,4 +1,3 @@
-use Rattle.lzk_field.specs.Coding.{coding}
 use Rattle.lzk_complete.proofs.AnyChecked.{any_inputs}
 use Rattle.lzk_complete.proofs.laws.proofs_checked.Goals as goal
 
@@ -7,7 +6,7 @@ returns g c =
     let f = g.F.Field in
     let pass = c.answers_pass.ensures in
     record {
-      checked = any_inputs f.ops (coding f.element f.number_of f.BYTES f.size f.ID) f.laws.ring (record {
+      checked = any_inputs f.ops f.coding f.laws.ring (record {
         columns = pass.columns;
         low_degree = pass.low_degree;
         linear = pass.linear;

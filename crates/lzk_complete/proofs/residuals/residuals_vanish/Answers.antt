@@ -1,6 +1,5 @@
-use Rattle.lzk_field.specs.Coding.{coding}
 use Rattle.lzk_complete.proofs.Vanish.{vanish}
 use Rattle.lzk_complete.proofs.residuals.residuals_vanish.Goals as goal
 
 pub returns : goal.returns
-returns g c = let f = g.F.Field in record { vanish = vanish f.ops (coding f.element f.number_of f.BYTES f.size f.ID) f.laws }
+returns g c = let f = g.F.Field in record { vanish = vanish f.ops f.coding f.laws }

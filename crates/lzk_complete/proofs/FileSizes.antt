@@ -7,7 +7,7 @@ use Rattle.lzk_layout.specs.declared.params.Params.{Params}
 use Rattle.lzk_layout.specs.Sizes.{AreBounded, params_of, proof_length}
 use Rattle.lzk_layout.proofs.Lengths.{file_length}
 use Rattle.lzk_layout.proofs.SizeLaws.{params_bounded, file_fits}
-use Rattle.lzk_honest.specs.Proving.{FilesFit}
+use Rattle.lzk_complete.specs.Proving.{FilesFit}
 
 fits : (width : ℕ) (p : Params) (digests : ℕ) → width ≤ 16 → AreBounded p → digests ≤ 1536 → proof_length width p digests ≤ 2097152
 fits width p digests w h few =

@@ -15,9 +15,9 @@ use Rattle.lzk_sumcheck.specs.Messages.{AreMessages}
 use Rattle.lzk_sumcheck.specs.Opening.{opening}
 use Rattle.lzk_accept.specs.Challenges.{Transcript, transcript}
 use Rattle.lzk_tableau.specs.Tableau as prover
-use Rattle.lzk_honest.specs.declared.answer.Answer.{Answer}
-use Rattle.lzk_honest.specs.Answered.{Answers, answers_of, AreSent}
-use Rattle.lzk_honest.specs.Changed.{unchanged, with_added}
+use Rattle.lzk_complete.specs.declared.answer.Answer.{Answer}
+use Rattle.lzk_complete.specs.Answered.{Answers, answers_of, AreSent}
+use Rattle.lzk_complete.specs.Changed.{unchanged, with_added}
 
 -- the words of a source of random words, of 128 bits each
 abbrev pub words_of : (ℕ → ℕ) → ℕ → ℕ

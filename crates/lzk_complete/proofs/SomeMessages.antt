@@ -18,7 +18,7 @@ use Rattle.lzk_sumcheck.specs.Messages.{true_round, true_a, true_b, IsLayerSent,
 use Rattle.lzk_sumcheck.specs.Script.{script}
 use Rattle.lzk_sumcheck.proofs.Prefixes.{AgreeBelow, sent-suc, layer-agrees}
 use Rattle.lzk_sumcheck.proofs.ProvingLaws.{sent-rises}
-use Rattle.lzk_honest.proofs.OneMessages.{true-same}
+use Rattle.lzk_complete.proofs.OneMessages.{true-same}
 
 module _ {A : Type 0} (o : Ops A) (e : Coding A) (c : Wiring A) (values : List (List A)) (pads : List A) (t : TapeState) where
   -- the script, as far as these elements determine it

@@ -29,10 +29,10 @@ use Rattle.lzk_accept.specs.Challenges.{Transcript, transcript}
 use Rattle.lzk_accept.specs.Checks.{combined_row_of}
 use Rattle.lzk_answers.specs.Answers.{low_degree_answer, linear_answer, quadratic_answer}
 use Rattle.lzk_tableau.specs.Tableau.{nonce_words, column, nonce, leaves, tableau, row_at}
-use Rattle.lzk_honest.specs.Answered.{AreSent}
+use Rattle.lzk_complete.specs.Answered.{AreSent}
 use Rattle.lzk_circbytes.specs.Files.{id_of}
-use Rattle.lzk_honest.specs.Proving.{given, rows, digests, pads, own_answers, AreOpened, IsProofOf, IsProofFile, SomeFile}
-use Rattle.lzk_honest.proofs.SomeMessages.{messages, are_messages}
+use Rattle.lzk_complete.specs.Proving.{given, rows, digests, pads, own_answers, AreOpened, IsProofOf, IsProofFile, SomeFile}
+use Rattle.lzk_complete.proofs.SomeMessages.{messages, are_messages}
 
 -- lists of one length, one after the other
 length_blocks : {A : Type 0} (f : ℕ → List A) (n : ℕ) (js : List ℕ) → ((j : ℕ) → length (f j) ≡ n) → length (flat_map f js) ≡ length js * n

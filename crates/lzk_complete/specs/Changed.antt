@@ -3,9 +3,9 @@ use Rattle.std.specs.Prelude.{ℕ, ◌<◌, ◌≤◌, ◌⊎◌}
 use Rattle.lzk_field.specs.Ring.{Ops}
 use Rattle.lzk_layout.specs.declared.params.Params.{Params}
 use Rattle.lzk_answers.specs.Answers.{changed}
-use Rattle.lzk_honest.specs.declared.answer.Answer.{Answer}
-use Rattle.lzk_honest.specs.declared.answer.Answer.TheVariants.{LowDegree, Dot, Quad}
-use Rattle.lzk_honest.specs.Answered.{Answers}
+use Rattle.lzk_complete.specs.declared.answer.Answer.{Answer}
+use Rattle.lzk_complete.specs.declared.answer.Answer.TheVariants.{LowDegree, Dot, Quad}
+use Rattle.lzk_complete.specs.Answered.{Answers}
 
 -- nothing is changed
 abbrev pub unchanged : {A : Type 0} → Answers A → Answers A

@@ -21,8 +21,8 @@ use Rattle.lzk_poly.specs.Through.{values_of}
 use Rattle.lzk_answers.specs.Answers as answers
 use Rattle.lzk_tableau.specs.Tableau as prover
 use Rattle.lzk_circbytes.specs.Files.{id_of}
-use Rattle.lzk_honest.specs.Proving.{given, rows, digests, pads, IsProofOf, OneFile}
-use Rattle.lzk_honest.proofs.OneMessages.{one-list}
+use Rattle.lzk_complete.specs.Proving.{given, rows, digests, pads, IsProofOf, OneFile}
+use Rattle.lzk_complete.proofs.OneMessages.{one-list}
 
 module _ {A : Type 0} (o : Ops A) (e : Coding A) (c : Wiring A) (session : List ℕ) (public private : List A) (word : ℕ → ℕ) where
   -- the script and the challenges stand on root and messages alone

@@ -1,5 +1,0 @@
-pub mod FileSizes
-pub mod OneMessages
-pub mod OneProof
-pub mod SomeMessages
-pub mod SomeProof
