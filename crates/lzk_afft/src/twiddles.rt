@@ -13,8 +13,8 @@ use std::alloc::{AllocError, Global};
 /// first.
 pub fn twiddle_factors<F: Field>(alloc: Global, depth: u32) -> Result<Vec<F>, AllocError>
     requires few { depth ≤ 16 }
-    requires binary { IsBinary F.ops F.element depth }
-    ensures { IfOk result (λ v. (length v.items ≡ 2 ^ depth) × AreTwiddles F.ops F.element depth 0 1 v.items) }
+    requires binary { IsBinary F.ops F.coding.element depth }
+    ensures { IfOk result (λ v. (length v.items ≡ 2 ^ depth) × AreTwiddles F.ops F.coding.element depth 0 1 v.items) }
 {
     let mut images = vec![in alloc; F::zero(); depth as usize]?;
     let mut scaled = vec![in alloc; F::zero(); depth as usize]?;
@@ -27,7 +27,7 @@ pub fn twiddle_factors<F: Field>(alloc: Global, depth: u32) -> Result<Vec<F>, Al
 // The images of the points with one bit under the first subspace polynomial, which is t itself.
 fn set_points<F: Field>(images: &mut [F])
     requires few { length images.old ≤ 16 }
-    ensures { AreImages F.ops F.element 0 images.new }
+    ensures { AreImages F.ops F.coding.element 0 images.new }
 {
     for i in 0..images.len() {
         images[i] = F::point(1 << i);
@@ -47,9 +47,9 @@ fn fill_levels<F: Field>(
     requires whole { length twiddles.old ≡ 2 ^ (depth - from) }
     requires images { length images.old ≡ depth }
     requires scaled { length scaled.old ≡ depth }
-    requires binary { IsBinary F.ops F.element depth }
-    requires are_images { AreImages F.ops F.element from images.old }
-    ensures { AreLevelTwiddles F.ops F.element from depth twiddles.new }
+    requires binary { IsBinary F.ops F.coding.element depth }
+    requires are_images { AreImages F.ops F.coding.element from images.old }
+    ensures { AreLevelTwiddles F.ops F.coding.element from depth twiddles.new }
 {
     if from == depth {
         return;
@@ -69,8 +69,9 @@ fn normalize<F: Field>(images: &[F], scaled: &mut [F], from: u32)
     requires few { length images.now ≤ 16 }
     requires order { from < length images.now }
     requires scaled { length scaled.old ≡ length images.now }
-    requires are_images { AreImages F.ops F.element from images.now }
-    ensures { (i : ℕ) → i + from + 1 < length images.now → entry F.ops scaled.new i ≡ normalized F.ops F.element from (F.element (2 ^ (i + (from + 1)))) }
+    requires are_images { AreImages F.ops F.coding.element from images.now }
+    ensures { (i : ℕ) → i + from + 1 < length images.now → entry F.ops scaled.new i ≡
+        normalized F.ops F.coding.element from (F.coding.element (2 ^ (i + (from + 1)))) }
 {
     let first = from as usize;
     let inverse = match images[first].inv() {
@@ -112,9 +113,9 @@ fn shifted<F: Field>(low: &[F], by: F, high: &mut [F])
 // The images under the next subspace polynomial, S(t) * (S(t) + S(point 2^from)).
 fn next_images<F: Field>(images: &mut [F], from: u32)
     requires order { from < length images.old }
-    requires binary { IsBinary F.ops F.element (from + 1) }
-    requires are_images { AreImages F.ops F.element from images.old }
-    ensures { AreImages F.ops F.element (from + 1) images.new }
+    requires binary { IsBinary F.ops F.coding.element (from + 1) }
+    requires are_images { AreImages F.ops F.coding.element from images.old }
+    ensures { AreImages F.ops F.coding.element (from + 1) images.new }
 {
     let here = images[from as usize];
     for i in 0..images.len() {

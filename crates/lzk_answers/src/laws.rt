@@ -14,19 +14,19 @@ pub fn values_determine<F: Field>()
 /// The answers of rows are right at every opened column. Where the rows stand for a list that satisfies its constraints, the
 /// quadratic answer has its zeros, and the linear answer the wanted sum.
 pub fn answers_pass<F: Field>()
-    ensures columns { ColumnsOpen F.ops F.element }
-    ensures low_degree { LowDegreePasses F.ops F.element }
-    ensures linear { LinearPasses F.ops F.element }
-    ensures quadratic { QuadraticPasses F.ops F.element }
-    ensures zeros { ZerosStand F.ops F.element }
-    ensures linear_sum { LinearSumStands F.ops F.element }
-    ensures combined { CombinedRows F.ops F.element }
+    ensures columns { ColumnsOpen F.ops F.coding.element }
+    ensures low_degree { LowDegreePasses F.ops F.coding.element }
+    ensures linear { LinearPasses F.ops F.coding.element }
+    ensures quadratic { QuadraticPasses F.ops F.coding.element }
+    ensures zeros { ZerosStand F.ops F.coding.element }
+    ensures linear_sum { LinearSumStands F.ops F.coding.element }
+    ensures combined { CombinedRows F.ops F.coding.element }
 {}
 
 /// An answer of rows with one value changed is wrong at every opened column, and the linear answer's sum changes by as much.
 pub fn changed_answers_fail<F: Field>()
-    ensures low_degree { LowDegreeFails F.ops F.element }
-    ensures linear { LinearFails F.ops F.element }
-    ensures quadratic { QuadraticFails F.ops F.element }
-    ensures sums { SumsChange F.ops F.element }
+    ensures low_degree { LowDegreeFails F.ops F.coding.element }
+    ensures linear { LinearFails F.ops F.coding.element }
+    ensures quadratic { QuadraticFails F.ops F.coding.element }
+    ensures sums { SumsChange F.ops F.coding.element }
 {}

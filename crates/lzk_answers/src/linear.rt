@@ -11,11 +11,8 @@ ghost use Rattle.lzk_answers.specs.Rows.{IsTableOf};
 
 use crate::rows::{FACTORS, add_list, add_products, clear, multiply_list, row_of, set_list};
 use lzk_field::Field;
-use lzk_layout::Params;
+use lzk_layout::{BLINDS, Params};
 use lzk_poly::RowExtend;
-
-// How many values of a row stand before its elements.
-const HEAD: usize = 128;
 
 // Zeros, and then these coefficients.
 fn fill_row<F: Field>(coefficients: &[F], row: &mut [F])
@@ -24,7 +21,7 @@ fn fill_row<F: Field>(coefficients: &[F], row: &mut [F])
     ensures front { (s : ℕ) → s < 128 → entry F.ops row.new s ≡ F.ops.zero }
     ensures back { (s : ℕ) → s < length coefficients.now → entry F.ops row.new (128 + s) ≡ entry F.ops coefficients.now s }
 {
-    let (head, tail) = row.split_at_mut(HEAD);
+    let (head, tail) = row.split_at_mut(BLINDS);
     clear(head);
     tail.copy_from_slice(coefficients);
 }
@@ -48,7 +45,7 @@ fn extend_behind<F: Field, X: RowExtend<F>>(
     ensures room { length room.new ≡ length room.old }
     ensures given { (list : List F) → AreCoefficients F.ops params.now (entry F.ops coefficients.now) list → values.new ≡ list }
     ensures further { (list : List F) → AreCoefficients F.ops params.now (entry F.ops coefficients.now) list → (k : ℕ) → k < length behind.old →
-        entry F.ops behind.new k ≡ extension F.ops F.element list (params.now.block + k) }
+        entry F.ops behind.new k ≡ extension F.ops F.coding.element list (params.now.block + k) }
     ensures values { length values.new ≡ length values.old }
 {
     fill_row(coefficients, values);
@@ -72,7 +69,7 @@ fn extend_coefficients<F: Field, X: RowExtend<F>>(
     ensures row { length row.new ≡ length row.old }
     ensures room { length room.new ≡ length room.old }
     ensures values { (list : List F) → AreCoefficients F.ops params.now (entry F.ops coefficients.now) list → (k : ℕ) → k < params.now.dblock →
-        entry F.ops row.new k ≡ extension F.ops F.element list k }
+        entry F.ops row.new k ≡ extension F.ops F.coding.element list k }
 {
     let (values, behind) = row.split_at_mut(params.block as usize);
     extend_behind(params, coefficients, extender, values, behind, room);
@@ -97,7 +94,7 @@ fn add_extended<F: Field, X: RowExtend<F>>(
     ensures room { length room.new ≡ length room.old }
     ensures answer { length answer.new ≡ length answer.old }
     ensures values { let o = F.ops in (list : List F) → AreCoefficients o params.now (entry o coefficients.now) list → (k : ℕ) → k < params.now.dblock →
-        entry o answer.new k ≡ o.plus (entry o answer.old k) (o.times (extension o F.element list k) (entry o values.now k)) }
+        entry o answer.new k ≡ o.plus (entry o answer.old k) (o.times (extension o F.coding.element list k) (entry o values.now k)) }
 {
     let (row, rest) = room.split_at_mut(params.dblock as usize);
     extend_coefficients(params, coefficients, extender, row, rest);
@@ -124,7 +121,7 @@ fn extend_factors<F: Field, X: RowExtend<F>>(
     ensures values { length values.new ≡ length values.old }
     ensures behind { length behind.new ≡ length behind.old }
     ensures room { length room.new ≡ length room.old }
-    ensures further { AreExtended F.ops F.element params.now place_factors.now behind.new }
+    ensures further { AreExtended F.ops F.coding.element params.now place_factors.now behind.new }
 {
     let wr = params.wr as usize;
     let size = (params.dblock - params.block) as usize;
@@ -155,22 +152,22 @@ fn add_factored<F: Field>(
     requires row_factors { length row_factors.now ≡ 4 * rows }
     requires place_factors { length place_factors.now ≡ 4 * params.now.wr }
     requires behind { length behind.now ≡ 4 * (params.now.dblock - params.now.block) }
-    requires further { AreExtended F.ops F.element params.now place_factors.now behind.now }
+    requires further { AreExtended F.ops F.coding.element params.now place_factors.now behind.now }
     requires answer { length answer.old ≡ params.now.dblock }
     ensures answer { length answer.new ≡ length answer.old }
     ensures values { let o = F.ops in (lists : ℕ → List F) → AreFactored o params.now rows 4 row_factors.now place_factors.now lists → (k : ℕ) →
         k < params.now.dblock →
         entry o answer.new k ≡ o.plus (entry o answer.old k)
-        (sum_below o rows (λ i. o.times (extension o F.element (lists (3 + i)) k) (entry o table.now ((3 + i) * width + k)))) }
+        (sum_below o rows (λ i. o.times (extension o F.coding.element (lists (3 + i)) k) (entry o table.now ((3 + i) * width + k)))) }
 {
     let block = params.block as usize;
     let (front, further) = answer.split_at_mut(block);
-    let (_, elements) = front.split_at_mut(HEAD);
+    let (_, elements) = front.split_at_mut(BLINDS);
     add_products(
         table,
         width,
         3,
-        HEAD,
+        BLINDS,
         rows,
         row_factors,
         place_factors,
@@ -202,7 +199,8 @@ fn add_listed<F: Field, X: RowExtend<F>>(
     ensures answer { length answer.new ≡ length answer.old }
     ensures values { let o = F.ops in (lists : ℕ → List F) → AreListed o params.now m coefficients.now lists → (k : ℕ) → k < params.now.dblock →
         entry o answer.new k ≡ o.plus (entry o answer.old k)
-        (sum_below o (params.now.nrow - 3 - m) (λ t. o.times (extension o F.element (lists (3 + (m + t))) k) (entry o table.now ((3 + (m + t)) * width + k)))) }
+        (sum_below o (params.now.nrow - 3 - m) (λ t. o.times (extension o F.coding.element (lists (3 + (m + t))) k)
+        (entry o table.now ((3 + (m + t)) * width + k)))) }
 {
     let wr = params.wr as usize;
     let size = params.dblock as usize;
@@ -238,9 +236,9 @@ pub fn linear_into<F: Field, X: RowExtend<F>>(
     requires answer { length answer.old ≡ params.now.dblock }
     ensures room { length room.new ≡ length room.old }
     ensures answer { length answer.new ≡ length answer.old }
-    ensures values { (all : List (List F)) (lists : ℕ → List F) → length all ≡ params.now.nrow → IsTableOf F.ops F.element width all table.now →
+    ensures values { (all : List (List F)) (lists : ℕ → List F) → length all ≡ params.now.nrow → IsTableOf F.ops F.coding.element width all table.now →
         AreListed F.ops params.now 0 coefficients.now lists →
-        answer.new ≡ values_of F.ops F.element params.now.dblock (linear_answer F.ops F.element params.now all lists) }
+        answer.new ≡ values_of F.ops F.coding.element params.now.dblock (linear_answer F.ops F.coding.element params.now all lists) }
 {
     set_list(answer, row_of(table, width, 1, params.dblock as usize));
     add_listed(
@@ -285,10 +283,10 @@ pub fn linear_by_factors_into<F: Field, X: RowExtend<F>>(
     requires answer { length answer.old ≡ params.now.dblock }
     ensures room { length room.new ≡ length room.old }
     ensures answer { length answer.new ≡ length answer.old }
-    ensures values { (all : List (List F)) (lists : ℕ → List F) → length all ≡ params.now.nrow → IsTableOf F.ops F.element width all table.now →
+    ensures values { (all : List (List F)) (lists : ℕ → List F) → length all ≡ params.now.nrow → IsTableOf F.ops F.coding.element width all table.now →
         AreFactored F.ops params.now rows 4 row_factors.now place_factors.now lists →
         AreListed F.ops params.now rows coefficients.now lists →
-        answer.new ≡ values_of F.ops F.element params.now.dblock (linear_answer F.ops F.element params.now all lists) }
+        answer.new ≡ values_of F.ops F.coding.element params.now.dblock (linear_answer F.ops F.coding.element params.now all lists) }
 {
     let size = FACTORS * (params.dblock - params.block) as usize;
     let (behind, rest) = room.split_at_mut(size);

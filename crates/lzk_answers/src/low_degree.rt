@@ -31,8 +31,8 @@ pub fn low_degree_into<F: Field>(
     requires answer { length answer.old ≡ params.now.block }
     ensures room { length room.new ≡ length room.old }
     ensures answer { length answer.new ≡ length answer.old }
-    ensures values { (rows : List (List F)) → length rows ≡ params.now.nrow → IsTableOf F.ops F.element width rows table.now →
-        answer.new ≡ values_of F.ops F.element params.now.block (low_degree_answer F.ops F.element params.now rows u.now) }
+    ensures values { (rows : List (List F)) → length rows ≡ params.now.nrow → IsTableOf F.ops F.coding.element width rows table.now →
+        answer.new ≡ values_of F.ops F.coding.element params.now.block (low_degree_answer F.ops F.coding.element params.now rows u.now) }
 {
     set_list(answer, row_of(table, width, 0, params.block as usize));
     add_rows(table, width, 3, u, room, answer);

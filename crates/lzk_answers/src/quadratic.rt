@@ -72,8 +72,8 @@ pub fn quadratic_into<F: Field>(
     requires v { length v.now ≡ params.now.ntriple }
     requires answer { length answer.old ≡ params.now.dblock }
     ensures answer { length answer.new ≡ length answer.old }
-    ensures values { (rows : List (List F)) → length rows ≡ params.now.nrow → IsTableOf F.ops F.element width rows table.now →
-        answer.new ≡ values_of F.ops F.element params.now.dblock (quadratic_answer F.ops F.element params.now rows v.now) }
+    ensures values { (rows : List (List F)) → length rows ≡ params.now.nrow → IsTableOf F.ops F.coding.element width rows table.now →
+        answer.new ≡ values_of F.ops F.coding.element params.now.dblock (quadratic_answer F.ops F.coding.element params.now rows v.now) }
 {
     set_list(answer, row_of(table, width, 2, params.dblock as usize));
     for t in 0..v.len() {

@@ -4,12 +4,10 @@ ghost use Rattle.std.specs.Prelude.{◌≡◌, ℕ, ◌+◌, ◌*◌, ◌<◌, �
 ghost use Rattle.lzk_field.specs.Sums.{entry, sum_below};
 
 use lzk_field::Field;
+use lzk_layout::MOST_ROWS;
 
 // How many rows are added up at a time.
 const GROUP: usize = 32;
-
-// How many rows a table has, at most.
-const MOST_ROWS: usize = 265;
 
 // How many products a coefficient is the sum of, where rows are given by factors.
 pub(crate) const FACTORS: usize = 4;

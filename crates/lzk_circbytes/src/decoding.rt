@@ -12,7 +12,7 @@ use crate::fault::{ByteFault, ByteKind, DecodeError, ReadError};
 use crate::reading::{
     check_used, coefs_of, constants_of, constants_part, layers_of, limited_of, stop,
 };
-use lzk_circuit::{Circuit, Layer};
+use lzk_circuit::{Circuit, Layer, MOST_IN_ALL, MOST_LAYERS, MOST_PRIVATES, MOST_PUBLICS};
 use lzk_field::Field;
 use lzk_gf128::Gf128;
 use lzk_goldilocks::Gold;
@@ -29,8 +29,8 @@ fn body_of<F: Field>(
     bytes: &[u8],
 ) -> Result<Vec<Layer<F>>, ReadError>
     requires { count ≤ 2097152 }
-    ensures { Gives (λ layers. map (numbered_layer F.number_of) layers.items) result
-        (body_at (shape F.ID F.BYTES F.size) version inputs depth count bytes.now) }
+    ensures { Gives (λ layers. map (numbered_layer F.coding.number) layers.items) result
+        (body_at (shape F.coding.id F.coding.bytes F.coding.size) version inputs depth count bytes.now) }
 {
     let (constants, rest) = constants_of::<F>(alloc, count, bytes)?;
     let coefs = coefs_of(alloc, version, constants)?;
@@ -47,13 +47,13 @@ fn body_of<F: Field>(
 #[tactic(auto, unfolding(crate::specs::Reading::wiring_at))]
 fn circuit_of<F: Field>(alloc: Global, version: u8, bytes: &[u8]) -> Result<Circuit<F>, ReadError>
     requires { (version ≡ 1) ⊎ (version ≡ 2) }
-    ensures value { Gives (λ c. numbered F.number_of c) result (wiring_at (shape F.ID F.BYTES F.size) version bytes.now) }
+    ensures value { Gives (λ c. numbered F.coding.number c) result (wiring_at (shape F.coding.id F.coding.bytes F.coding.size) version bytes.now) }
     ensures valid { IfOk result (λ c. IsValid F.ops c) }
 {
-    let (publics, rest) = limited_of(0, 65_535, bytes)?;
-    let (privates, rest) = limited_of(0, 65_536, rest)?;
-    let (depth, rest) = limited_of(1, 512, rest)?;
-    let (count, rest) = limited_of(0, 2_097_152, rest)?;
+    let (publics, rest) = limited_of(0, MOST_PUBLICS, bytes)?;
+    let (privates, rest) = limited_of(0, MOST_PRIVATES, rest)?;
+    let (depth, rest) = limited_of(1, MOST_LAYERS, rest)?;
+    let (count, rest) = limited_of(0, MOST_IN_ALL, rest)?;
     let mut layers = body_of(alloc, version, 1 + publics + privates, depth, count, rest)?;
     layers.reverse();
     match Circuit::of_version(version, publics, privates, layers) {

@@ -11,15 +11,9 @@ ghost use Rattle.lzk_circbytes.specs.Reading.{layers_at, all_used};
 ghost use Rattle.lzk_circbytes.specs.Answers.{Gives, Marks, unmarked_from, under};
 
 use crate::fault::{ByteKind, ReadError};
-use lzk_circuit::{Layer, Term, Terms};
+use lzk_circuit::{Layer, MOST_IN_ALL, MOST_WIRES, Term, Terms};
 use lzk_field::Field;
 use std::alloc::{AllocError, Global};
-
-/// The wires of one layer, at most.
-const MOST_WIRES: u32 = 131_072;
-
-/// The wires of all layers together, at most, and so the terms.
-const MOST_IN_ALL: u32 = 2_097_152;
 
 /// The bytes of a term, at least, and of a layer with no terms.
 const LEAST_TERM: usize = 4;
@@ -127,7 +121,7 @@ fn step_of(base: u32, limit: u32, bytes: &[u8]) -> Result<(u32, &[u8]), ReadErro
 
 #[tactic(auto, unfolding(crate::specs::Reading::constant_at))]
 fn constant_of<F: Field>(before: u128, bytes: &[u8]) -> Result<(F, &[u8]), ReadError>
-    ensures { Gives (λ x. (F.number_of x.0, x.1.now)) result (constant_at (shape F.ID F.BYTES F.size) before bytes.now) }
+    ensures { Gives (λ x. (F.coding.number x.0, x.1.now)) result (constant_at (shape F.coding.id F.coding.bytes F.coding.size) before bytes.now) }
 {
     if bytes.len() < F::BYTES {
         return Err(stop(ByteKind::Truncated, bytes));
@@ -150,7 +144,7 @@ pub fn constants_of<F: Field>(
     count: u32,
     bytes: &[u8],
 ) -> Result<(Vec<F>, &[u8]), ReadError>
-    ensures { Gives (λ x. (map F.number_of x.0.items, x.1.now)) result (constants_at (shape F.ID F.BYTES F.size) count bytes.now) }
+    ensures { Gives (λ x. (map F.coding.number x.0.items, x.1.now)) result (constants_at (shape F.coding.id F.coding.bytes F.coding.size) count bytes.now) }
 {
     let room = (count as usize).min(bytes.len() / F::BYTES);
     let mut constants = Vec::with_capacity(alloc, room)?;
@@ -172,7 +166,7 @@ pub fn coefs_of<F: Field>(
     constants: Vec<F>,
 ) -> Result<Vec<F>, AllocError>
     requires { length constants.items < 2 ^ 32 }
-    ensures { IfOk result (λ coefs. map F.number_of coefs.items ≡ coefs_of version (map F.number_of constants.items)) }
+    ensures { IfOk result (λ coefs. map F.coding.number coefs.items ≡ coefs_of version (map F.coding.number constants.items)) }
 {
     if version != 2 {
         return Ok(constants);
@@ -192,7 +186,7 @@ pub fn constants_part<X>(version: u8, list: &[X]) -> &[X]
 }
 
 fn is_behind<F: Field>(before: &Option<Term<F>>, g: u32, a: u32, b: u32) -> bool
-    ensures { result ≡ stands_behind (option_map (numbered_term F.number_of) before.now) g a b }
+    ensures { result ≡ stands_behind (option_map (numbered_term F.coding.number) before.now) g a b }
 {
     match before {
         None => true,
@@ -201,7 +195,7 @@ fn is_behind<F: Field>(before: &Option<Term<F>>, g: u32, a: u32, b: u32) -> bool
 }
 
 fn wire_before<F: Field>(before: &Option<Term<F>>) -> u32
-    ensures { result ≡ wire_before (option_map (numbered_term F.number_of) before.now) }
+    ensures { result ≡ wire_before (option_map (numbered_term F.coding.number) before.now) }
 {
     match before {
         None => 0,
@@ -210,7 +204,7 @@ fn wire_before<F: Field>(before: &Option<Term<F>>) -> u32
 }
 
 fn is_apart<F: Field>(before: &Option<Term<F>>, term: &Term<F>) -> bool
-    ensures { result ≡ are_apart (λ n. n) (option_map (numbered_term F.number_of) before.now) (numbered_term F.number_of term.now) }
+    ensures { result ≡ are_apart (λ n. n) (option_map (numbered_term F.coding.number) before.now) (numbered_term F.coding.number term.now) }
 {
     match before {
         None => true,
@@ -228,10 +222,10 @@ fn term_of<'a, F: Field>(
     bytes: &'a [u8],
 ) -> Result<((Term<F>, u32), &'a [u8]), ReadError>
     requires { length constants.now < 2 ^ 32 }
-    ensures value { Gives (λ x. (numbered_term F.number_of x.0.0, x.1.now)) result
-        (term_at (map F.number_of constants.now) wires below (option_map (numbered_term F.number_of) before.now) bytes.now) }
+    ensures value { Gives (λ x. (numbered_term F.coding.number x.0.0, x.1.now)) result
+        (term_at (map F.coding.number constants.now) wires below (option_map (numbered_term F.coding.number) before.now) bytes.now) }
     ensures bound { IfOk result (λ x. x.0.1 < length constants.now) }
-    ensures constant { IfOk result (λ x. F.number_of x.0.0.coef ≡ slice_index_or (map F.number_of constants.now) x.0.1 0) }
+    ensures constant { IfOk result (λ x. F.coding.number x.0.0.coef ≡ slice_index_or (map F.coding.number constants.now) x.0.1 0) }
 {
     let (g, at_a) = step_of(wire_before(before), wires, bytes)?;
     let (a, at_b) = step_of(0, below, at_a)?;
@@ -259,12 +253,13 @@ pub fn terms_of<'a, F: Field>(
     bytes: &'a [u8],
 ) -> Result<(Vec<Term<F>>, &'a [u8]), ReadError>
     requires few { length constants.now < 2 ^ 32 }
-    requires rising { IsStrictlyIncreasing (map F.number_of constants.now) }
+    requires rising { IsStrictlyIncreasing (map F.coding.number constants.now) }
     requires flags { length used.old ≡ length constants.now }
-    ensures value { Gives (λ x. (map (numbered_term F.number_of) x.0.items, x.1.now)) result
-        (terms_at (map F.number_of constants.now) wires below count bytes.now) }
+    ensures value { Gives (λ x. (map (numbered_term F.coding.number) x.0.items, x.1.now)) result
+        (terms_at (map F.coding.number constants.now) wires below count bytes.now) }
     ensures count { IfOk result (λ x. length x.0.items ≡ count) }
-    ensures used { IfOk result (λ x. Marks (map F.number_of constants.now) (is_in_terms (map (numbered_term F.number_of) x.0.items)) used.old used.new) }
+    ensures used { IfOk result (λ x. Marks (map F.coding.number constants.now) (is_in_terms (map (numbered_term F.coding.number) x.0.items)) used.old
+        used.new) }
 {
     let room = (count as usize).min(bytes.len() / LEAST_TERM);
     let mut terms = Vec::with_capacity(alloc, room)?;
@@ -297,15 +292,16 @@ fn layer_of<'a, F: Field>(
     bytes: &'a [u8],
 ) -> Result<(Layer<F>, &'a [u8]), ReadError>
     requires few { length constants.now < 2 ^ 32 }
-    requires rising { IsStrictlyIncreasing (map F.number_of constants.now) }
+    requires rising { IsStrictlyIncreasing (map F.coding.number constants.now) }
     requires flags { length used.old ≡ length constants.now }
     requires wires { below.wires ≤ 2097152 }
     requires terms { below.terms ≤ 2097152 }
-    ensures value { Gives (λ x. (numbered_layer F.number_of x.0, x.1.now)) result
-        (layer_at (map F.number_of constants.now) (under below.width below.wires below.terms) bytes.now) }
+    ensures value { Gives (λ x. (numbered_layer F.coding.number x.0, x.1.now)) result
+        (layer_at (map F.coding.number constants.now) (under below.width below.wires below.terms) bytes.now) }
     ensures wires { IfOk result (λ x. below.wires + x.0.wires ≤ 2097152) }
     ensures terms { IfOk result (λ x. below.terms + length x.0.terms ≤ 2097152) }
-    ensures used { IfOk result (λ x. Marks (map F.number_of constants.now) (is_in_terms (map (numbered_term F.number_of) x.0.terms)) used.old used.new) }
+    ensures used { IfOk result (λ x. Marks (map F.coding.number constants.now) (is_in_terms (map (numbered_term F.coding.number) x.0.terms)) used.old
+        used.new) }
 {
     let (wires, at_count) = word_of(bytes)?;
     if wires < 1 || wires > MOST_WIRES || wires > MOST_IN_ALL - below.wires {
@@ -330,11 +326,12 @@ pub fn layers_of<'a, F: Field>(
     bytes: &'a [u8],
 ) -> Result<(Vec<Layer<F>>, &'a [u8]), ReadError>
     requires few { length constants.now < 2 ^ 32 }
-    requires rising { IsStrictlyIncreasing (map F.number_of constants.now) }
+    requires rising { IsStrictlyIncreasing (map F.coding.number constants.now) }
     requires flags { length used.old ≡ length constants.now }
-    ensures value { Gives (λ x. (map (numbered_layer F.number_of) x.0.items, x.1.now)) result
-        (layers_at (map F.number_of constants.now) inputs count bytes.now) }
-    ensures used { IfOk result (λ x. Marks (map F.number_of constants.now) (is_coefficient (map (numbered_layer F.number_of) x.0.items)) used.old used.new) }
+    ensures value { Gives (λ x. (map (numbered_layer F.coding.number) x.0.items, x.1.now)) result
+        (layers_at (map F.coding.number constants.now) inputs count bytes.now) }
+    ensures used { IfOk result (λ x. Marks (map F.coding.number constants.now) (is_coefficient (map (numbered_layer F.coding.number) x.0.items))
+        used.old used.new) }
 {
     let mut layers = Vec::with_capacity(alloc, (count as usize).min(bytes.len() / LEAST_LAYER))?;
     let mut below = Below {

@@ -1,12 +1,12 @@
 -- Assertion terms: what they count, and lists of terms with other coefficients.
-use Rattle.std.specs.Prelude.{◌≡◌, ◌≢◌, ℕ, ◌+◌, ◌<◌, ◌==◌, IsTrue, Bool, true, false, cond, Option, Some, None, List, [], ◌∷◌, length, map, drop}
+use Rattle.std.specs.Prelude.{◌≡◌, ◌≢◌, ℕ, ◌+◌, ◌<◌, IsTrue, Bool, true, false, cond, Option, Some, None, List, [], ◌∷◌, length, map}
 use Rattle.std.proofs.Common.{refl, sym, ap, ◌∙◌, arith, subst, get_or}
-use Rattle.lzk_field.specs.Ring.{Ops, RingLaws, FieldLaws, NumberLaws, Laws}
+use Rattle.lzk_field.specs.Ring.{Ops, RingLaws, FieldLaws, Laws}
 use Rattle.lzk_field.specs.Sums.{minus}
 use Rattle.lzk_field.proofs.RingBasics.{zero_plus, zero_times, times_zero, neg_zero}
 use Rattle.lzk_circuit.specs.declared.layer.Term.{Term}
 use Rattle.lzk_circuit.specs.declared.layer.Layer.{Layer}
-use Rattle.lzk_circuit.specs.Valid.{Wiring, input_width, under_of, follows, ArePlaced, IsValid, widths}
+use Rattle.lzk_circuit.specs.Valid.{Wiring, follows, ArePlaced, IsValid, widths}
 use Rattle.lzk_circuit.specs.Wires.{is_at, coef, zero_of, zero_at, layer_coefficient, weighed, wire, AreDistinct}
 use Rattle.lzk_circuit.proofs.TermSums.{sum_pairs-ext}
 use Rattle.lzk_circuit.proofs.OrderLaws.{placed-distinct}

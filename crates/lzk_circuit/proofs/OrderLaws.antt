@@ -1,5 +1,5 @@
 -- Terms that ascend are distinct.
-use Rattle.std.specs.Prelude.{◌≡◌, ℕ, ◌<◌, ◌==◌, ◌&&◌, ◌||◌, nat_lt, true, Option, Some, None, List, [], ◌∷◌, length}
+use Rattle.std.specs.Prelude.{◌≡◌, ℕ, ◌<◌, ◌==◌, ◌&&◌, ◌||◌, nat_lt, true, Option, Some, List, [], ◌∷◌, length}
 use Rattle.std.proofs.Common.{zero, suc, ◌⊎◌, inl, inr, refl, ◌∙◌, arith, get_or}
 use Rattle.std.specs.List.{AllByRecursion}
 use Rattle.std.proofs.lemmas.Bool.{eqb-true, ltb-true, or_cases, and_parts, cases_Bool, cond-false}

@@ -1,4 +1,4 @@
-//! How many bits number the wires of a layer.
+//! How many bits number the wires of a layer, and how many numbers have so many bits.
 
 ghost use Rattle.std.specs.Prelude.{ℕ, ◌≡◌, ◌<◌, ◌≤◌, ◌^◌};
 ghost use Rattle.lzk_circuit.specs.Bits.{bits};
@@ -20,4 +20,12 @@ pub fn bits_of(wires: u32) -> u32
         power *= 2;
     }
     17
+}
+
+/// How many numbers have so many bits.
+pub fn power_of(bits: u32) -> usize
+    requires { bits ≤ 17 }
+    ensures { result ≡ 2 ^ bits }
+{
+    1usize << bits
 }

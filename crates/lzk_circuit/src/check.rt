@@ -7,20 +7,8 @@ ghost use Rattle.lzk_circuit.specs.Valid.{Under, follows};
 
 use crate::fault::{CircuitFault, CircuitKind};
 use crate::layer::{Layer, Term};
+use crate::limits::{MOST_IN_ALL, MOST_LAYERS, MOST_PRIVATES, MOST_PUBLICS, MOST_WIRES};
 use lzk_field::Field;
-
-// The limits, as `most_publics` and the rest say them.
-const MOST_PUBLICS: u32 = 65_535;
-
-const MOST_PRIVATES: u32 = 65_536;
-
-const MOST_LAYERS: usize = 512;
-
-// Of one layer.
-const MOST_WIRES: u32 = 131_072;
-
-// Of all layers together, both wires and terms.
-const MOST_TOTAL: u32 = 2_097_152;
 
 fn over(layer: u32) -> CircuitFault
     ensures { result ≡ over_limit layer }
@@ -35,7 +23,11 @@ fn over(layer: u32) -> CircuitFault
 pub(crate) fn check_counts(publics: u32, privates: u32, depth: usize) -> Result<(), CircuitFault>
     ensures { MatchResult result (λ _. counts_fault publics privates depth ≡ None) (λ fault. counts_fault publics privates depth ≡ Some fault) }
 {
-    if publics > MOST_PUBLICS || privates > MOST_PRIVATES || depth < 1 || depth > MOST_LAYERS {
+    if publics > MOST_PUBLICS
+        || privates > MOST_PRIVATES
+        || depth < 1
+        || depth > MOST_LAYERS as usize
+    {
         return Err(over(0));
     }
     Ok(())
@@ -52,7 +44,7 @@ fn is_after<F: Field>(before: Option<Term<F>>, term: &Term<F>) -> bool
 }
 
 fn is_apart<F: Field>(before: Option<Term<F>>, term: &Term<F>) -> bool
-    ensures { result ≡ are_apart F.number_of before term.now }
+    ensures { result ≡ are_apart F.coding.number before term.now }
 {
     let Some(before) = before else {
         return true;
@@ -65,7 +57,7 @@ fn find_coef_fault<F: Field>(
     before: Option<Term<F>>,
     term: &Term<F>,
 ) -> Option<CircuitKind>
-    ensures { result ≡ coef_fault F.number_of version before term.now }
+    ensures { result ≡ coef_fault F.coding.number version before term.now }
 {
     if version == 1 {
         if term.coef.number() == 0 {
@@ -86,7 +78,7 @@ fn find_fault<F: Field>(
     before: Option<Term<F>>,
     term: &Term<F>,
 ) -> Option<CircuitKind>
-    ensures { result ≡ term_fault F.number_of version wires width before term.now }
+    ensures { result ≡ term_fault F.coding.number version wires width before term.now }
 {
     if term.g >= wires || term.a > term.b || term.b >= width {
         return Some(CircuitKind::Range);
@@ -106,8 +98,8 @@ fn check_terms<F: Field>(
 ) -> Result<(), CircuitFault>
     requires { length terms.now ≤ most_total }
     ensures { MatchResult result
-        (λ _. terms_fault F.number_of version layer wires width None 0 terms.now ≡ None)
-        (λ fault. terms_fault F.number_of version layer wires width None 0 terms.now ≡ Some fault) }
+        (λ _. terms_fault F.coding.number version layer wires width None 0 terms.now ≡ None)
+        (λ fault. terms_fault F.coding.number version layer wires width None 0 terms.now ≡ Some fault) }
 {
     let mut before = None;
     for place in 0..terms.len() {
@@ -139,7 +131,7 @@ fn check_limits(
     if wires < 1 || wires > MOST_WIRES {
         return Err(over(l));
     }
-    if wires > MOST_TOTAL - under_wires || terms > (MOST_TOTAL - under_terms) as usize {
+    if wires > MOST_IN_ALL - under_wires || terms > (MOST_IN_ALL - under_terms) as usize {
         return Err(over(l));
     }
     Ok(())
@@ -152,8 +144,8 @@ pub(crate) fn check_layers<F: Field>(
 ) -> Result<(), CircuitFault>
     requires { length layers.now ≤ most_layers }
     ensures { MatchResult result
-        (λ _. layers_fault F.number_of version inputs 0 layers.now ≡ None)
-        (λ fault. layers_fault F.number_of version inputs 0 layers.now ≡ Some fault) }
+        (λ _. layers_fault F.coding.number version inputs 0 layers.now ≡ None)
+        (λ fault. layers_fault F.coding.number version inputs 0 layers.now ≡ Some fault) }
 {
     let mut width = inputs;
     let mut wires = 0;

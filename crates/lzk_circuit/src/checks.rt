@@ -12,7 +12,7 @@ use lzk_field::Field;
 
 // How many of the terms are assertion terms.
 fn count_asserted<F: Field>(terms: &[Term<F>]) -> usize
-    ensures count { result ≡ length (assertion_wires F.number_of terms.now) }
+    ensures count { result ≡ length (assertion_wires F.coding.number terms.now) }
     ensures most { result ≤ length terms.now }
 {
     let mut count = 0;
@@ -26,8 +26,8 @@ fn count_asserted<F: Field>(terms: &[Term<F>]) -> usize
 
 // How many assertion terms the layers have.
 fn count_all_asserted<F: Field>(layers: &[Layer<F>]) -> u32
-    requires { assertion_count F.number_of layers.now ≤ most_wires + most_total }
-    ensures { result ≡ assertion_count F.number_of layers.now }
+    requires { assertion_count F.coding.number layers.now ≤ most_wires + most_total }
+    ensures { result ≡ assertion_count F.coding.number layers.now }
 {
     let Some((layer, layers)) = layers.split_first() else {
         return 0;
@@ -37,8 +37,8 @@ fn count_all_asserted<F: Field>(layers: &[Layer<F>]) -> u32
 
 // How many checks there are.
 pub(crate) fn count_checks<F: Field>(layers: &[Layer<F>]) -> u32
-    requires { check_count F.number_of layers.now ≤ most_wires + most_total }
-    ensures { result ≡ check_count F.number_of layers.now }
+    requires { check_count F.coding.number layers.now ≤ most_wires + most_total }
+    ensures { result ≡ check_count F.coding.number layers.now }
 {
     let Some((layer, layers)) = layers.split_first() else {
         return 0;
@@ -60,9 +60,9 @@ fn count_asserted_term<F: Field>(term: Term<F>, below: &[F], out: &mut [F])
     requires { IsPlaced (length out.old) (length below.now) term }
     ensures length { length out.new ≡ length out.old }
     ensures counts { let o = F.ops in
-        F.number_of term.coef ≡ 0 → out.new ≡ slice_set out.old term.g
+        F.coding.number term.coef ≡ 0 → out.new ≡ slice_set out.old term.g
         (o.plus (entry o out.old term.g) (o.times (entry o below.now term.a) (entry o below.now term.b))) }
-    ensures other { F.number_of term.coef ≢ 0 → out.new ≡ out.old }
+    ensures other { F.coding.number term.coef ≢ 0 → out.new ≡ out.old }
 {
     if term.coef.number() != 0 {
         return;
@@ -86,8 +86,8 @@ fn add_asserted<F: Field>(terms: &[Term<F>], below: &[F], out: &mut [F])
 fn set_asserted<F: Field>(layer: &Layer<F>, below: &[F], out: &mut [F])
     requires placed { ArePlaced layer.now.wires (length below.now) None layer.now.terms }
     requires apart { MayEachStand F.ops 2 None layer.now.terms }
-    requires room { length out.old ≡ length (assertion_wires F.number_of layer.now.terms) }
-    ensures { out.new ≡ map (asserted F.ops layer.now.terms below.now) (assertion_wires F.number_of layer.now.terms) }
+    requires room { length out.old ≡ length (assertion_wires F.coding.number layer.now.terms) }
+    ensures { out.new ≡ map (asserted F.ops layer.now.terms below.now) (assertion_wires F.coding.number layer.now.terms) }
 {
     let terms = layer.terms.as_slice();
     let mut next = 0;
@@ -104,9 +104,9 @@ fn set_asserted<F: Field>(layer: &Layer<F>, below: &[F], out: &mut [F])
 fn set_all_asserted<F: Field>(layers: &[Layer<F>], lists: &[Vec<F>], out: &mut [F])
     requires lists { (inputs : List F) × AreLayersOf F.ops 2 (length inputs) layers.now ×
         (map (λ list. list.items) lists.now ≡ all_values F.ops layers.now inputs) }
-    requires room { length out.old ≡ assertion_count F.number_of layers.now }
+    requires room { length out.old ≡ assertion_count F.coding.number layers.now }
     ensures { (inputs : List F) → map (λ list. list.items) lists.now ≡ all_values F.ops layers.now inputs →
-        out.new ≡ inner_checks F.ops F.number_of layers.now inputs }
+        out.new ≡ inner_checks F.ops F.coding.number layers.now inputs }
 {
     let Some((layer, layers)) = layers.split_first() else {
         return;
@@ -126,9 +126,9 @@ fn set_all_asserted<F: Field>(layers: &[Layer<F>], lists: &[Vec<F>], out: &mut [
 fn set_checks<F: Field>(layers: &[Layer<F>], lists: &[Vec<F>], out: &mut [F])
     requires lists { (inputs : List F) × AreLayersOf F.ops 2 (length inputs) layers.now ×
         (map (λ list. list.items) lists.now ≡ all_values F.ops layers.now inputs) }
-    requires room { length out.old ≡ check_count F.number_of layers.now }
+    requires room { length out.old ≡ check_count F.coding.number layers.now }
     ensures { (inputs : List F) → map (λ list. list.items) lists.now ≡ all_values F.ops layers.now inputs →
-        out.new ≡ checks_of F.ops F.number_of layers.now inputs }
+        out.new ≡ checks_of F.ops F.coding.number layers.now inputs }
 {
     let Some((layer, layers)) = layers.split_first() else {
         return;
@@ -149,9 +149,9 @@ fn set_checks<F: Field>(layers: &[Layer<F>], lists: &[Vec<F>], out: &mut [F])
 pub(crate) fn set_check_list<F: Field>(layers: &[Layer<F>], lists: &Vec<Vec<F>>, out: &mut Vec<F>)
     requires lists { (inputs : List F) × AreLayersOf F.ops 2 (length inputs) layers.now ×
         (map (λ list. list.items) lists.now.items ≡ all_values F.ops layers.now inputs) }
-    requires room { length out.old.items ≡ check_count F.number_of layers.now }
+    requires room { length out.old.items ≡ check_count F.coding.number layers.now }
     ensures { (inputs : List F) → map (λ list. list.items) lists.now.items ≡ all_values F.ops layers.now inputs →
-        out.new.items ≡ checks_of F.ops F.number_of layers.now inputs }
+        out.new.items ≡ checks_of F.ops F.coding.number layers.now inputs }
 {
     set_checks(layers, lists, out);
 }

@@ -43,7 +43,7 @@ impl<F: Field> Circuit<F> {
         requires { (version ≡ 1) ⊎ (version ≡ 2) }
         ensures circuit { MatchResult result
             (λ c. c ≡ wiring_of version publics privates layers.items)
-            (λ fault. first_fault F.number_of version publics privates layers.items ≡ Some fault) }
+            (λ fault. first_fault F.coding.number version publics privates layers.items ≡ Some fault) }
         ensures valid { MatchResult result
             (λ c. IsValid F.ops (wiring_of version publics privates layers.items))
             (λ fault. ¬ IsValid F.ops (wiring_of version publics privates layers.items)) }
@@ -66,7 +66,7 @@ impl<F: Field> Circuit<F> {
     ) -> Result<Circuit<F>, CircuitFault>
         ensures circuit { MatchResult result
             (λ c. c ≡ wiring publics privates layers.items)
-            (λ fault. first_fault F.number_of 1 publics privates layers.items ≡ Some fault) }
+            (λ fault. first_fault F.coding.number 1 publics privates layers.items ≡ Some fault) }
         ensures valid { MatchResult result
             (λ c. IsValid F.ops (wiring publics privates layers.items))
             (λ fault. ¬ IsValid F.ops (wiring publics privates layers.items)) }
@@ -82,7 +82,7 @@ impl<F: Field> Circuit<F> {
     ) -> Result<Circuit<F>, CircuitFault>
         ensures circuit { MatchResult result
             (λ c. c ≡ wiring_of 2 publics privates layers.items)
-            (λ fault. first_fault F.number_of 2 publics privates layers.items ≡ Some fault) }
+            (λ fault. first_fault F.coding.number 2 publics privates layers.items ≡ Some fault) }
         ensures valid { MatchResult result
             (λ c. IsValid F.ops (wiring_of 2 publics privates layers.items))
             (λ fault. ¬ IsValid F.ops (wiring_of 2 publics privates layers.items)) }
@@ -112,7 +112,7 @@ impl<F: Field> Circuit<F> {
 
     /// How many checks there are: one for each output, and one for each assertion wire of the layers below.
     pub fn checks(&self) -> u32
-        ensures { result ≡ check_count F.number_of self.now.layers }
+        ensures { result ≡ check_count F.coding.number self.now.layers }
     {
         count_checks(self.layers())
     }

@@ -21,11 +21,13 @@ mod circuit;
 mod eval;
 mod fault;
 mod layer;
+mod limits;
 mod values;
 
-pub use bits::bits_of;
+pub use bits::{bits_of, power_of};
 pub use circuit::Circuit;
 pub use eval::set_inputs;
 pub use fault::{CircuitFault, CircuitKind};
 pub use layer::{Layer, Term, Terms, weight_of};
+pub use limits::{MOST_IN_ALL, MOST_LAYERS, MOST_PRIVATES, MOST_PUBLICS, MOST_WIRES};
 pub use values::{Values, zeros};

@@ -36,7 +36,7 @@ impl<F: Field> Model for Values<F> {
 impl<F: Field> Values<F> {
     /// Room for this circuit. All wires and checks are 0 before the first `eval`. `Err` where there is no memory for it.
     pub fn new(alloc: Global, circuit: &Circuit<F>) -> Result<Values<F>, AllocError>
-        ensures room { IfOk result (λ values. HasRoom F.number_of circuit.now values) }
+        ensures room { IfOk result (λ values. HasRoom F.coding.number circuit.now values) }
         ensures zeros { IfOk result (λ values. AreZeros F.ops values.wires) }
         ensures checks { IfOk result (λ values. (k : _) → entry F.ops values.checks k ≡ F.ops.zero) }
     {
@@ -118,12 +118,12 @@ impl<F: Field> Circuit<F> {
     pub fn eval(&self, public: &[F], private: &[F], values: &mut Values<F>)
         requires publics { length public.now ≡ self.now.publics }
         requires privates { length private.now ≡ self.now.privates }
-        requires room { HasRoom F.number_of self.now values.old }
+        requires room { HasRoom F.coding.number self.now values.old }
         ensures wires { values.new.wires ≡ all_values F.ops self.now.layers (inputs_of F.ops public.now private.now) }
         ensures layers { AreLayerValues F.ops self.now.layers values.new.wires }
         ensures inputs { list_at values.new.wires (length self.now.layers) ≡ inputs_of F.ops public.now private.now }
-        ensures checks { values.new.checks ≡ checks_of F.ops F.number_of self.now.layers (inputs_of F.ops public.now private.now) }
-        ensures room { HasRoom F.number_of self.now values.new }
+        ensures checks { values.new.checks ≡ checks_of F.ops F.coding.number self.now.layers (inputs_of F.ops public.now private.now) }
+        ensures room { HasRoom F.coding.number self.now values.new }
     {
         eval_lists(self.layers(), public, private, &mut values.lists);
         set_check_list(self.layers(), &values.lists, &mut values.checks);

@@ -1,11 +1,9 @@
 -- The lower hexadecimal digits of a number's bytes.
-use Rattle.std.specs.Prelude.{◌≡◌, ℕ, ◌+◌, ◌*◌, ◌/◌, ◌%◌, ◌^◌, ◌<◌, slice_index, bit_and, Bool, true, false, cond}
+use Rattle.std.specs.Prelude.{◌≡◌, ℕ, ◌+◌, ◌*◌, ◌/◌, ◌%◌, ◌^◌, ◌<◌, slice_index, bit_and}
 use Rattle.std.proofs.Common.{zero, suc, refl, sym, ap, ◌∙◌, arith}
-use Rattle.std.proofs.lemmas.Bool.{false≢true}
 use Rattle.std.specs.Int.{to_le_bytes, byte_at, bytes_low_first, w64}
 use Rattle.std.specs.Int.Bits.{xor_mod}
 use Rattle.std.proofs.Math.Nat.{zero-add, add-zero}
-use native.Mathlib.Decide.{dec_lt}
 use Rattle.lzk_field.proofs.ByteForms.{pow_256}
 use Rattle.lzk_gf128.specs.Linear.{Additive}
 use Rattle.lzk_gf128.proofs.Basis.{all_below-at, agree, and_spreads, same_by_test, compose, add_shr}

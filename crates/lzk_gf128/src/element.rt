@@ -25,16 +25,12 @@ impl Gf128 {
 }
 
 impl Field for Gf128 {
-    ghost use Rattle.std.specs.Prelude.{◌^◌};
+    ghost use Rattle.std.specs.Prelude.{◌^◌, refl};
     ghost use Rattle.lzk_gf128.specs.Elements.{of_number, ops, laws, same};
 
     ghost ops = { ops };
 
-    ghost size = { 2 ^ 128 };
-
-    ghost number_of = { λ x. x.n };
-
-    ghost element = { of_number };
+    ghost coding = { record { element = of_number; number = λ x. x.n; bytes = 16; size = 2 ^ 128; id = 2 } };
 
     ghost BYTES = { 16 };
 
@@ -43,6 +39,10 @@ impl Field for Gf128 {
     ghost ID = { 2 };
 
     const ID: u8 = 2;
+
+    ghost coded_bytes = { refl };
+
+    ghost coded_id = { refl };
 
     ghost laws = { laws };
 

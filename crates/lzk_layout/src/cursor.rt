@@ -15,9 +15,9 @@ ghost use Rattle.lzk_layout.specs.declared.part.ProofPart.{ProofPart};
 ghost use Rattle.lzk_layout.specs.declared.fault.ProofFault.{ProofFault};
 
 use crate::fault::{ProofFault, ProofKind};
+use crate::limits::MOST_DIGESTS;
 use crate::params::Params;
 use crate::part::{ProofPart, part_of, width_of};
-use crate::proof::MOST_DIGESTS;
 use lzk_field::Field;
 use std::marker::{Model, PhantomData};
 
@@ -79,7 +79,7 @@ impl<F: Field> Model for Cursor<F> {
 
     ghost view = { λ c. state_of c.fault c.reading };
 
-    ghost invariant = { λ c. c.fault ≡ None → IsSound (shape F.BYTES F.size) c.reading };
+    ghost invariant = { λ c. c.fault ≡ None → IsSound (shape F.coding.bytes F.coding.size) c.reading };
 }
 
 #[tactic(auto, unfolding(crate::specs::Fields::wrong))]
@@ -95,8 +95,8 @@ fn wrong_magic(field: &[u8]) -> Option<ProofKind>
 
 #[tactic(auto, unfolding(crate::specs::Fields::wrong))]
 fn wrong_element<F: Field>(field: &[u8]) -> Option<ProofKind>
-    requires { length field.now ≡ F.BYTES }
-    ensures { result ≡ wrong (shape F.BYTES F.size) element field.now }
+    requires { length field.now ≡ F.coding.bytes }
+    ensures { result ≡ wrong (shape F.coding.bytes F.coding.size) element field.now }
 {
     match F::of_le(field) {
         Some(_) => None,
@@ -125,8 +125,8 @@ fn wrong_count(field: &[u8]) -> Option<ProofKind>
 // The check that the field of a part fails, if it fails one.
 #[tactic(auto, unfolding(crate::specs::Fields::wrong))]
 fn wrong_field<F: Field>(part: ProofPart, field: &[u8]) -> Option<ProofKind>
-    requires { length field.now ≡ part_width (shape F.BYTES F.size) part }
-    ensures { result ≡ wrong (shape F.BYTES F.size) (sort_of part) field.now }
+    requires { length field.now ≡ part_width (shape F.coding.bytes F.coding.size) part }
+    ensures { result ≡ wrong (shape F.coding.bytes F.coding.size) (sort_of part) field.now }
 {
     match part {
         ProofPart::Magic => wrong_magic(field),
@@ -143,7 +143,7 @@ fn wrong_field<F: Field>(part: ProofPart, field: &[u8]) -> Option<ProofKind>
 
 // The number of digests behind the field of a part.
 fn digests_behind<F: Field>(digests: Option<u32>, part: ProofPart, field: &[u8]) -> Option<u32>
-    requires { length field.now ≡ part_width (shape F.BYTES F.size) part }
+    requires { length field.now ≡ part_width (shape F.coding.bytes F.coding.size) part }
     ensures { result ≡ digests_after digests part field.now }
 {
     match part {
@@ -185,7 +185,7 @@ impl Reading {
     // The field of this part, the block's first bytes, passed.
     fn pass<F: Field>(&mut self, part: ProofPart, block: &[u8; 32], width: usize)
         requires bounded { AreBounded self.old.params }
-        requires width { width ≡ part_width (shape F.BYTES F.size) part }
+        requires width { width ≡ part_width (shape F.coding.bytes F.coding.size) part }
         requires few { width ≤ 32 }
         requires fields { self.old.fields ≤ 2 ^ 20 }
         requires offset { self.old.offset ≤ 2 ^ 40 }
@@ -201,8 +201,8 @@ impl Reading {
 
     // One byte more.
     fn take<F: Field>(&mut self, byte: u8) -> CursorStep
-        requires { IsSound (shape F.BYTES F.size) self.old }
-        ensures takes { Takes (shape F.BYTES F.size) self.old byte self.new result }
+        requires { IsSound (shape F.coding.bytes F.coding.size) self.old }
+        ensures takes { Takes (shape F.coding.bytes F.coding.size) self.old byte self.new result }
         ensures params { self.new.params ≡ self.old.params }
     {
         let Some(part) = self.part else {
@@ -228,7 +228,7 @@ impl<F: Field> Cursor<F> {
     /// A cursor that was pushed no bytes.
     pub fn new(params: &Params) -> Cursor<F>
         requires params { AreParams F.ops params.now }
-        ensures pushed { Pushed (shape F.BYTES F.size) result params.now [] }
+        ensures pushed { Pushed (shape F.coding.bytes F.coding.size) result params.now [] }
         ensures params { result.params ≡ params.now }
     {
         Cursor {
@@ -240,24 +240,26 @@ impl<F: Field> Cursor<F> {
 
     /// The next byte, and what it ends. No memory is taken, and the time does not grow with the bytes before.
     pub fn push(&mut self, byte: u8) -> CursorStep
-        ensures pushed { (p : Params) (b : List ℕ) → Pushed (shape F.BYTES F.size) self.old p b → Pushed (shape F.BYTES F.size) self.new p (b ++ byte ∷ []) }
-        ensures field { (p : Params) (b : List ℕ) → Pushed (shape F.BYTES F.size) self.old p b
-            → (part : ProofPart) (block : List ℕ) (n : ℕ) → result ≡ CursorStep.Field part block n ↔ EndsField (shape F.BYTES F.size) p b byte part block n }
-        ensures fault { (p : Params) (b : List ℕ) → Pushed (shape F.BYTES F.size) self.old p b
-            → (fault : ProofFault) → result ≡ CursorStep.Fault fault ↔ IsFaulty (shape F.BYTES F.size) p (b ++ byte ∷ []) fault }
-        ensures more { (p : Params) (b : List ℕ) → Pushed (shape F.BYTES F.size) self.old p b
-            → result ≡ CursorStep.More ↔ EndsNone (shape F.BYTES F.size) p b byte }
+        ensures pushed { (p : Params) (b : List ℕ) → Pushed (shape F.coding.bytes F.coding.size) self.old p b →
+            Pushed (shape F.coding.bytes F.coding.size) self.new p (b ++ byte ∷ []) }
+        ensures field { (p : Params) (b : List ℕ) → Pushed (shape F.coding.bytes F.coding.size) self.old p b
+            → (part : ProofPart) (block : List ℕ) (n : ℕ) → result ≡
+            CursorStep.Field part block n ↔ EndsField (shape F.coding.bytes F.coding.size) p b byte part block n }
+        ensures fault { (p : Params) (b : List ℕ) → Pushed (shape F.coding.bytes F.coding.size) self.old p b
+            → (fault : ProofFault) → result ≡ CursorStep.Fault fault ↔ IsFaulty (shape F.coding.bytes F.coding.size) p (b ++ byte ∷ []) fault }
+        ensures more { (p : Params) (b : List ℕ) → Pushed (shape F.coding.bytes F.coding.size) self.old p b
+            → result ≡ CursorStep.More ↔ EndsNone (shape F.coding.bytes F.coding.size) p b byte }
 
         // Whatever was pushed before.
-        ensures whole { IfField result (λ part block n. IsWholeField (shape F.BYTES F.size) self.old.params part block n) }
+        ensures whole { IfField result (λ part block n. IsWholeField (shape F.coding.bytes F.coding.size) self.old.params part block n) }
         ensures params { self.new.params ≡ self.old.params }
 
         // What holds of the fronts of all files.
-        ensures one_front { (p : Params) → OneFront (shape F.BYTES F.size) p }
-        ensures sound { (p : Params) → FrontIsSound (shape F.BYTES F.size) p }
-        ensures stays { (p : Params) → FaultStays (shape F.BYTES F.size) p }
-        ensures grows { (p : Params) → FrontGrows (shape F.BYTES F.size) p }
-        ensures fields { (p : Params) → FieldsStand (shape F.BYTES F.size) p }
+        ensures one_front { (p : Params) → OneFront (shape F.coding.bytes F.coding.size) p }
+        ensures sound { (p : Params) → FrontIsSound (shape F.coding.bytes F.coding.size) p }
+        ensures stays { (p : Params) → FaultStays (shape F.coding.bytes F.coding.size) p }
+        ensures grows { (p : Params) → FrontGrows (shape F.coding.bytes F.coding.size) p }
+        ensures fields { (p : Params) → FieldsStand (shape F.coding.bytes F.coding.size) p }
         ensures parts { (p : Params) → PartsStand p }
     {
         if let Some(fault) = self.fault {
@@ -272,15 +274,15 @@ impl<F: Field> Cursor<F> {
 
     /// The fault of all bytes that were pushed, if they are no proof's file. More may be pushed afterwards.
     pub fn finish(&self) -> Result<(), ProofFault>
-        ensures fault { (p : Params) (b : List ℕ) → Pushed (shape F.BYTES F.size) self.now p b
-            → (fault : ProofFault) → result ≡ Err fault ↔ ProofFaultAt (shape F.BYTES F.size) p b fault.offset fault.kind }
-        ensures whole { (p : Params) (b : List ℕ) → Pushed (shape F.BYTES F.size) self.now p b
-            → result ≡ Ok tt ↔ ((fault : ProofFault) → ¬ ProofFaultAt (shape F.BYTES F.size) p b fault.offset fault.kind) }
+        ensures fault { (p : Params) (b : List ℕ) → Pushed (shape F.coding.bytes F.coding.size) self.now p b
+            → (fault : ProofFault) → result ≡ Err fault ↔ ProofFaultAt (shape F.coding.bytes F.coding.size) p b fault.offset fault.kind }
+        ensures whole { (p : Params) (b : List ℕ) → Pushed (shape F.coding.bytes F.coding.size) self.now p b
+            → result ≡ Ok tt ↔ ((fault : ProofFault) → ¬ ProofFaultAt (shape F.coding.bytes F.coding.size) p b fault.offset fault.kind) }
 
         // A whole front is a proof's file, and the other way round.
-        ensures file { (p : Params) → FileIsFront F.BYTES F.size F.number_of p }
-        ensures front { (p : Params) → FrontIsFile F.BYTES F.size F.number_of p }
-        ensures parts { (p : Params) → FieldsAreParts F.BYTES F.number_of p }
+        ensures file { (p : Params) → FileIsFront F.coding.bytes F.coding.size F.coding.number p }
+        ensures front { (p : Params) → FrontIsFile F.coding.bytes F.coding.size F.coding.number p }
+        ensures parts { (p : Params) → FieldsAreParts F.coding.bytes F.coding.number p }
     {
         if let Some(fault) = self.fault {
             return Err(fault);

@@ -19,7 +19,7 @@ use lzk_field::Field;
 #[tactic(auto, unfolding(crate::specs::Fields::fields_at))]
 fn head_into<'a, F: Field>(proof: &mut Proof<F>, bytes: &'a [u8]) -> Result<&'a [u8], Stop>
     ensures read { Gives (λ rest. ((76 ∷ 90 ∷ 80 ∷ 49 ∷ []) ∷ proof.new.id ∷ proof.new.root ∷ [], rest.now)) result
-        (fields_at (shape F.BYTES F.size) (magic ∷ plain ∷ plain ∷ []) bytes.now) }
+        (fields_at (shape F.coding.bytes F.coding.size) (magic ∷ plain ∷ plain ∷ []) bytes.now) }
     ensures id { OnOk result (length proof.new.id ≡ 32) }
     ensures root { OnOk result (length proof.new.root ≡ 32) }
     ensures lengths { (p : Params) → HasLengths p proof.old → HasLengths p proof.new }
@@ -35,8 +35,8 @@ fn head_into<'a, F: Field>(proof: &mut Proof<F>, bytes: &'a [u8]) -> Result<&'a 
 
 // Elements in place of those of the list.
 fn list_into<'a, F: Field>(list: &mut Elements<F>, bytes: &'a [u8]) -> Result<&'a [u8], Stop>
-    ensures read { Gives (λ rest. (map (element_field F.BYTES F.number_of) list.new, rest.now)) result
-        (fields_at (shape F.BYTES F.size) (replicate (length list.old) element) bytes.now) }
+    ensures read { Gives (λ rest. (map (element_field F.coding.bytes F.coding.number) list.new, rest.now)) result
+        (fields_at (shape F.coding.bytes F.coding.size) (replicate (length list.old) element) bytes.now) }
     ensures length { length list.new ≡ length list.old }
 {
     elements_into(list.as_mut_slice(), bytes)
@@ -50,8 +50,8 @@ fn columns_into<'a, F: Field>(
     bytes: &'a [u8],
 ) -> Result<&'a [u8], Stop>
     requires { length columns.old ≡ length nonces.old * rows }
-    ensures read { Gives (λ rest. (opened_fields (element_field F.BYTES F.number_of) rows nonces.new columns.new, rest.now)) result
-        (fields_at (shape F.BYTES F.size) (opened_sorts rows (length nonces.old)) bytes.now) }
+    ensures read { Gives (λ rest. (opened_fields (element_field F.coding.bytes F.coding.number) rows nonces.new columns.new, rest.now)) result
+        (fields_at (shape F.coding.bytes F.coding.size) (opened_sorts rows (length nonces.old)) bytes.now) }
     ensures nonces { length nonces.new ≡ length nonces.old }
     ensures digests { OnOk result (AreDigests nonces.new) }
     ensures columns { length columns.new ≡ length columns.old }
@@ -62,8 +62,8 @@ fn columns_into<'a, F: Field>(
 // The elements that are no columns'.
 #[tactic(auto, using(crate::proofs::FieldLaws::fields_then, crate::proofs::FieldLaws::fields_stop))]
 fn answers_into<'a, F: Field>(proof: &mut Proof<F>, bytes: &'a [u8]) -> Result<&'a [u8], Stop>
-    ensures read { Gives (λ rest. (answer_fields (element_field F.BYTES F.number_of) proof.new, rest.now)) result
-        (fields_at (shape F.BYTES F.size) (answer_sorts_of proof.old) bytes.now) }
+    ensures read { Gives (λ rest. (answer_fields (element_field F.coding.bytes F.coding.number) proof.new, rest.now)) result
+        (fields_at (shape F.coding.bytes F.coding.size) (answer_sorts_of proof.old) bytes.now) }
     ensures lengths { (p : Params) → HasLengths p proof.old → HasLengths p proof.new }
     ensures others { proof.new ≡ record proof.old {
       messages = proof.new.messages;
@@ -85,8 +85,8 @@ fn answers_into<'a, F: Field>(proof: &mut Proof<F>, bytes: &'a [u8]) -> Result<&
 fn file_into<F: Field>(params: &Params, bytes: &[u8], proof: &mut Proof<F>) -> Result<(), Stop>
     requires lengths { HasLengths params.now proof.old }
     requires room { 1536 ≤ proof.old.path.room }
-    ensures read { Gives (λ _. fields_of (element_field F.BYTES F.number_of) params.now.nrow proof.new) result
-        (proof_at (shape F.BYTES F.size) params.now bytes.now) }
+    ensures read { Gives (λ _. fields_of (element_field F.coding.bytes F.coding.number) params.now.nrow proof.new) result
+        (proof_at (shape F.coding.bytes F.coding.size) params.now bytes.now) }
     ensures few { OnOk result (length proof.new.path.digests ≤ 1536) }
     ensures id { OnOk result (length proof.new.id ≡ 32) }
     ensures root { OnOk result (length proof.new.root ≡ 32) }
@@ -117,23 +117,23 @@ pub fn decode_proof<F: Field>(
     requires params { AreParams F.ops params.now }
     requires lengths { HasLengths params.now proof.old }
     requires room { 1536 ≤ proof.old.path.room }
-    ensures proof { OnOk result (ProofBytes F.BYTES F.number_of params.now proof.new bytes.now) }
+    ensures proof { OnOk result (ProofBytes F.coding.bytes F.coding.number params.now proof.new bytes.now) }
     ensures length { OnOk result
-        (length bytes.now ≡ proof_length F.BYTES params.now (length proof.new.path.digests)) }
+        (length bytes.now ≡ proof_length F.coding.bytes params.now (length proof.new.path.digests)) }
     ensures fault { IfErr result
-        (λ e. ProofFaultAt (shape F.BYTES F.size) params.now bytes.now e.offset e.kind) }
-    ensures no_proof { OnErr result (IsNoProof F.BYTES F.number_of params.now bytes.now) }
-    ensures read { IsRead F.BYTES F.number_of params.now proof.new bytes.now (is_ok result) }
+        (λ e. ProofFaultAt (shape F.coding.bytes F.coding.size) params.now bytes.now e.offset e.kind) }
+    ensures no_proof { OnErr result (IsNoProof F.coding.bytes F.coding.number params.now bytes.now) }
+    ensures read { IsRead F.coding.bytes F.coding.number params.now proof.new bytes.now (is_ok result) }
 
     // It may be decoded into again.
     ensures lengths { HasLengths params.now proof.new }
     ensures room { proof.new.path.room ≡ proof.old.path.room }
 
     // What is a file, and what is a fault, is so in one way only.
-    ensures one_proof { OneProof F.BYTES F.number_of params.now }
-    ensures one_fault { OneFault (shape F.BYTES F.size) params.now }
-    ensures no_fault { NoFault F.BYTES F.size F.number_of params.now }
-    ensures some_proof { SomeProof F.BYTES F.size F.number_of params.now }
+    ensures one_proof { OneProof F.coding.bytes F.coding.number params.now }
+    ensures one_fault { OneFault (shape F.coding.bytes F.coding.size) params.now }
+    ensures no_fault { NoFault F.coding.bytes F.coding.size F.coding.number params.now }
+    ensures some_proof { SomeProof F.coding.bytes F.coding.size F.coding.number params.now }
 {
     match file_into(params, bytes, proof) {
         Ok(()) => Ok(()),

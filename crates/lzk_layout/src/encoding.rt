@@ -23,10 +23,10 @@ fn put(out: &mut [u8], at: usize, bytes: &[u8]) -> usize
 }
 
 fn put_element<F: Field>(out: &mut [u8], at: usize, x: F) -> usize
-    requires { at + F.BYTES ≤ length out.old }
-    ensures end { result ≡ at + F.BYTES }
+    requires { at + F.coding.bytes ≤ length out.old }
+    ensures end { result ≡ at + F.coding.bytes }
     ensures length { length out.new ≡ length out.old }
-    ensures front { take result out.new ≡ take at out.old ++ element_field F.BYTES F.number_of x }
+    ensures front { take result out.new ≡ take at out.old ++ element_field F.coding.bytes F.coding.number x }
 {
     let mut buffer = [0u8; 16];
     let part = &mut buffer[..F::BYTES];
@@ -35,10 +35,10 @@ fn put_element<F: Field>(out: &mut [u8], at: usize, x: F) -> usize
 }
 
 fn put_elements<F: Field>(out: &mut [u8], at: usize, list: &[F]) -> usize
-    requires { at + F.BYTES * length list.now ≤ length out.old }
-    ensures end { result ≡ at + F.BYTES * length list.now }
+    requires { at + F.coding.bytes * length list.now ≤ length out.old }
+    ensures end { result ≡ at + F.coding.bytes * length list.now }
     ensures length { length out.new ≡ length out.old }
-    ensures front { take result out.new ≡ take at out.old ++ flat (map (element_field F.BYTES F.number_of) list.now) }
+    ensures front { take result out.new ≡ take at out.old ++ flat (map (element_field F.coding.bytes F.coding.number) list.now) }
 {
     let mut end = at;
     for i in 0..list.len() {
@@ -70,10 +70,10 @@ fn put_opened<F: Field>(
     rows: usize,
 ) -> usize
     requires columns { length columns.now ≡ length nonces.now * rows }
-    requires room { at + length nonces.now * (32 + F.BYTES * rows) ≤ length out.old }
-    ensures end { result ≡ at + length nonces.now * (32 + F.BYTES * rows) }
+    requires room { at + length nonces.now * (32 + F.coding.bytes * rows) ≤ length out.old }
+    ensures end { result ≡ at + length nonces.now * (32 + F.coding.bytes * rows) }
     ensures length { length out.new ≡ length out.old }
-    ensures front { take result out.new ≡ take at out.old ++ flat (opened_fields (element_field F.BYTES F.number_of) rows nonces.now columns.now) }
+    ensures front { take result out.new ≡ take at out.old ++ flat (opened_fields (element_field F.coding.bytes F.coding.number) rows nonces.now columns.now) }
     ensures digests { AreDigests nonces.now }
 {
     let mut end = at;
@@ -103,12 +103,12 @@ fn put_head<F: Field>(out: &mut [u8], proof: &Proof<F>) -> usize
 
 // The elements that are no columns'.
 fn put_answers<F: Field>(out: &mut [u8], at: usize, proof: &Proof<F>) -> usize
-    requires { at + F.BYTES * (length proof.now.messages + length proof.now.ldt + length proof.now.dot + length proof.now.quad_head + length
+    requires { at + F.coding.bytes * (length proof.now.messages + length proof.now.ldt + length proof.now.dot + length proof.now.quad_head + length
         proof.now.quad_tail) ≤ length out.old }
-    ensures end { result ≡ at + F.BYTES * (length proof.now.messages + length proof.now.ldt + length proof.now.dot + length proof.now.quad_head +
+    ensures end { result ≡ at + F.coding.bytes * (length proof.now.messages + length proof.now.ldt + length proof.now.dot + length proof.now.quad_head +
         length proof.now.quad_tail) }
     ensures length { length out.new ≡ length out.old }
-    ensures front { take result out.new ≡ take at out.old ++ answers_bytes (element_field F.BYTES F.number_of) proof.now }
+    ensures front { take result out.new ≡ take at out.old ++ answers_bytes (element_field F.coding.bytes F.coding.number) proof.now }
 {
     let end = put_elements(out, at, proof.messages.as_slice());
     let end = put_elements(out, end, proof.ldt.as_slice());
@@ -136,9 +136,9 @@ pub fn encode_proof<F: Field>(params: &Params, proof: &Proof<F>, out: &mut [u8])
     requires params { AreParams F.ops params.now }
     requires lengths { HasLengths params.now proof.now }
     requires few { length proof.now.path.digests ≤ 1536 }
-    requires room { length out.old ≡ proof_length F.BYTES params.now (length proof.now.path.digests) }
-    ensures file { ProofBytes F.BYTES F.number_of params.now proof.now out.new }
-    ensures one_file { OneFile F.BYTES F.number_of params.now }
+    requires room { length out.old ≡ proof_length F.coding.bytes params.now (length proof.now.path.digests) }
+    ensures file { ProofBytes F.coding.bytes F.coding.number params.now proof.now out.new }
+    ensures one_file { OneFile F.coding.bytes F.coding.number params.now }
 {
     let end = put_head(out, proof);
     let end = put_answers(out, end, proof);

@@ -4,6 +4,7 @@ ghost use Rattle.std.specs.Prelude.{◌≡◌, ◌<◌, ◌≤◌, ◌+◌, ◌*
 ghost use Rattle.lzk_layout.specs.Sizes.{row_width, sent_counts, committed_count, params_of, AreParams, AreBounded, place_of, proof_length};
 ghost use Rattle.lzk_layout.specs.Places.{copy_place_of};
 
+use crate::limits::{BLINDS, OPENED};
 use lzk_circuit::{Circuit, bits_of};
 use lzk_field::Field;
 
@@ -79,7 +80,7 @@ impl Params {
         let (nsum, nw) = counts_of(circuit);
         let layers = circuit.depth();
         let wr = row_width_of(nw);
-        let block = 128 + wr;
+        let block = BLINDS as u32 + wr;
         let dblock = 2 * block - 1;
         let mcol = 4 * block;
         let nwrow = nw.div_ceil(wr);
@@ -128,15 +129,15 @@ impl Params {
 /// How many bytes a proof's file with so many path digests has, for elements of F.
 pub fn proof_len<F: Field>(params: &Params, digests: u32) -> u64
     requires { AreParams F.ops params.now }
-    ensures length { result ≡ proof_length F.BYTES params.now digests }
+    ensures length { result ≡ proof_length F.coding.bytes params.now digests }
     ensures fits { digests ≤ 1536 → result ≤ 2097152 }
 {
     let elements = params.nsum
         + params.block
         + params.dblock
-        + 128
+        + BLINDS as u32
         + (params.dblock - params.block);
     let width = F::BYTES as u64;
-    let columns = 128 * (32 + width * params.nrow as u64);
+    let columns = OPENED as u64 * (32 + width * params.nrow as u64);
     72 + width * elements as u64 + columns + 32 * digests as u64
 }

@@ -5,8 +5,8 @@ ghost use Rattle.lzk_layout.specs.Sizes.{AreBounded};
 ghost use Rattle.lzk_layout.specs.Fields.{shape};
 ghost use Rattle.lzk_layout.specs.Parts.{part_width, parts, element_parts, opened_parts, path_parts};
 
+use crate::limits::{BLINDS, OPENED};
 use crate::params::Params;
-use crate::proof::OPENED;
 use lzk_field::Field;
 
 /// What a field of a proof's file is. Elements and digests are numbered from 0, in the order of the file.
@@ -59,7 +59,7 @@ fn opened_part(rows: u32, digests: u32, k: u32) -> Option<ProofPart>
     let each = 1 + rows;
     let column = k / each;
     if column >= OPENED as u32 {
-        return path_part(digests, k - 128 * each);
+        return path_part(digests, k - OPENED as u32 * each);
     }
     match k % each {
         0 => Some(ProofPart::Nonce(column)),
@@ -84,10 +84,10 @@ fn element_part(params: &Params, digests: u32, k: u32) -> Option<ProofPart>
         return Some(ProofPart::Dot(k));
     }
     let k = k - params.dblock;
-    if k < 128 {
+    if k < BLINDS as u32 {
         return Some(ProofPart::QuadHead(k));
     }
-    let k = k - 128;
+    let k = k - BLINDS as u32;
     let tail = params.dblock - params.block;
     if k < tail {
         return Some(ProofPart::QuadTail(k));
@@ -110,7 +110,7 @@ pub fn part_of(params: &Params, digests: u32, k: u32) -> Option<ProofPart>
 
 /// How many bytes a part's field has.
 pub fn width_of<F: Field>(part: ProofPart) -> usize
-    ensures width { result ≡ part_width (shape F.BYTES F.size) part }
+    ensures width { result ≡ part_width (shape F.coding.bytes F.coding.size) part }
     ensures some { 1 ≤ result }
     ensures few { result ≤ 32 }
 {

@@ -1,8 +1,9 @@
 //! Where each layer's elements and pads stand.
 
-ghost use Rattle.std.specs.Prelude.{◌≡◌, ◌+◌, ◌<◌, ◌≤◌, length};
+ghost use Rattle.std.specs.Prelude.{◌≡◌, ℕ, ◌+◌, ◌<◌, ◌≤◌, length};
+ghost use Rattle.lzk_circuit.specs.Bits.{bits};
 ghost use Rattle.lzk_circuit.specs.Valid.{IsValid};
-ghost use Rattle.lzk_layout.specs.Places.{bits_under, begun, places_of, AreWithin};
+ghost use Rattle.lzk_layout.specs.Places.{depth, width_at, bits_under, begun, places_of, AreWithin};
 
 use lzk_circuit::{Circuit, bits_of};
 use lzk_field::Field;
@@ -45,6 +46,32 @@ fn bits_below<F: Field>(circuit: &Circuit<F>, depth: u32, l: u32) -> u32
     } else {
         0
     }
+}
+
+/// How many bits number the wires of layer `l`; that of the inputs is behind the last.
+pub fn layer_bits<F: Field>(circuit: &Circuit<F>, l: u32) -> u32
+    requires layer { l ≤ depth circuit.now }
+    ensures bits { result ≡ bits (width_at circuit.now l) }
+    ensures few { result ≤ 17 }
+{
+    let _depth = circuit.depth();
+    bits_of(circuit.width(l))
+}
+
+/// The most bits that number the wires of a layer, or the inputs.
+pub fn most_bits<F: Field>(circuit: &Circuit<F>) -> u32
+    ensures most { (l : ℕ) → l < depth circuit.now + 1 → bits (width_at circuit.now l) ≤ result }
+    ensures least { (n : ℕ) → ((l : ℕ) → l < depth circuit.now + 1 → bits (width_at circuit.now l) ≤ n) → result ≤ n }
+    ensures few { result ≤ 17 }
+{
+    let mut most: u32 = 0;
+    for l in 0..circuit.depth() + 1 {
+        let bits = layer_bits(circuit, l);
+        if most < bits {
+            most = bits;
+        }
+    }
+    most
 }
 
 impl LayerPlaces {

@@ -4,16 +4,11 @@ ghost use Rattle.std.specs.Prelude.{◌≡◌, ◌≤◌, length, replicate, IfO
 ghost use Rattle.lzk_layout.specs.Sizes.{AreParams};
 ghost use Rattle.lzk_layout.specs.Proofs.{zero_digest, zero_proof, HasLengths};
 
+use crate::limits::{BLINDS, MOST_DIGESTS, OPENED};
 use crate::lists::{Blocks, Elements, Path};
 use crate::params::Params;
 use lzk_field::Field;
 use std::alloc::{AllocError, Global};
-
-/// The columns that are opened.
-pub(crate) const OPENED: usize = 128;
-
-/// The digests of a path, at most.
-pub(crate) const MOST_DIGESTS: usize = 1536;
 
 /// A proof: what the prover sends, in the order of the profile's proof file.
 #[derive(Drop)]
@@ -61,7 +56,7 @@ impl<F: Field> Proof<F> {
             messages: Elements::zeros(alloc, params.nsum as usize)?,
             ldt: Elements::zeros(alloc, params.block as usize)?,
             dot: Elements::zeros(alloc, params.dblock as usize)?,
-            quad_head: Elements::zeros(alloc, OPENED)?,
+            quad_head: Elements::zeros(alloc, BLINDS)?,
             quad_tail: Elements::zeros(alloc, (params.dblock - params.block) as usize)?,
             nonces: zero_blocks(alloc, OPENED)?,
             columns: Elements::zeros(alloc, OPENED * params.nrow as usize)?,

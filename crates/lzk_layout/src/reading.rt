@@ -7,8 +7,8 @@ ghost use Rattle.lzk_layout.specs.Answers.{Gives};
 ghost use Rattle.lzk_layout.specs.Fields.{magic, plain, element, count, Shape, shape, field_at, fields_at, path_at, opened_sorts};
 
 use crate::fault::{ProofKind, Stop};
+use crate::limits::MOST_DIGESTS;
 use crate::lists::Path;
-use crate::proof::MOST_DIGESTS;
 use lzk_field::Field;
 
 /// The check of the field that begins these bytes failed.
@@ -50,7 +50,8 @@ pub fn block_of(bytes: &[u8]) -> Result<(&[u8; 32], &[u8]), Stop>
 #[inline]
 #[tactic(auto, unfolding(crate::specs::Fields::field_at, crate::specs::Fields::wrong))]
 fn element_of<F: Field>(bytes: &[u8]) -> Result<(F, &[u8]), Stop>
-    ensures { Gives (λ x. (element_field F.BYTES F.number_of x.0, x.1.now)) result (field_at (shape F.BYTES F.size) element bytes.now) }
+    ensures { Gives (λ x. (element_field F.coding.bytes F.coding.number x.0, x.1.now)) result
+        (field_at (shape F.coding.bytes F.coding.size) element bytes.now) }
 {
     if bytes.len() < F::BYTES {
         return Err(stop(ProofKind::Truncated, bytes));
@@ -64,8 +65,8 @@ fn element_of<F: Field>(bytes: &[u8]) -> Result<(F, &[u8]), Stop>
 
 /// Elements in place of those of the list, and what is behind them.
 pub fn elements_into<'a, F: Field>(out: &mut [F], bytes: &'a [u8]) -> Result<&'a [u8], Stop>
-    ensures { Gives (λ rest. (map (element_field F.BYTES F.number_of) out.new, rest.now)) result
-        (fields_at (shape F.BYTES F.size) (replicate (length out.old) element) bytes.now) }
+    ensures { Gives (λ rest. (map (element_field F.coding.bytes F.coding.number) out.new, rest.now)) result
+        (fields_at (shape F.coding.bytes F.coding.size) (replicate (length out.old) element) bytes.now) }
 {
     let mut rest = bytes;
     for i in 0..out.len() {
@@ -84,8 +85,8 @@ pub fn opened_into<'a, F: Field>(
     bytes: &'a [u8],
 ) -> Result<&'a [u8], Stop>
     requires { length columns.old ≡ length nonces.old * rows }
-    ensures read { Gives (λ rest. (opened_fields (element_field F.BYTES F.number_of) rows nonces.new columns.new, rest.now)) result
-        (fields_at (shape F.BYTES F.size) (opened_sorts rows (length nonces.old)) bytes.now) }
+    ensures read { Gives (λ rest. (opened_fields (element_field F.coding.bytes F.coding.number) rows nonces.new columns.new, rest.now)) result
+        (fields_at (shape F.coding.bytes F.coding.size) (opened_sorts rows (length nonces.old)) bytes.now) }
     ensures digests { OnOk result (AreDigests nonces.new) }
 {
     let mut rest = bytes;

@@ -39,8 +39,8 @@ fn transform_block<F: Field>(
     v: usize,
     out: &mut [F],
 )
-    requires ready { IsReady F.ops F.element kernels.now.transform kernels.now.plan kernels.now.spectra.items }
-    requires weights { IsWeights F.ops F.element kernels.now.plan.count weights.now }
+    requires ready { IsReady F.ops F.coding.element kernels.now.transform kernels.now.plan kernels.now.spectra.items }
+    requires weights { IsWeights F.ops F.coding.element kernels.now.plan.count weights.now }
     requires values { length values.now ≡ kernels.now.plan.count }
     requires block { v < kernels.now.plan.blocks }
     requires out { length out.old ≡ 2 ^ kernels.now.transform.bits }
@@ -63,8 +63,8 @@ fn transform_blocks<F: Field>(
     from: usize,
     spectra: &mut [F],
 )
-    requires ready { IsReady F.ops F.element kernels.now.transform kernels.now.plan kernels.now.spectra.items }
-    requires weights { IsWeights F.ops F.element kernels.now.plan.count weights.now }
+    requires ready { IsReady F.ops F.coding.element kernels.now.transform kernels.now.plan kernels.now.spectra.items }
+    requires weights { IsWeights F.ops F.coding.element kernels.now.plan.count weights.now }
     requires values { length values.now ≡ kernels.now.plan.count }
     requires order { from ≤ kernels.now.plan.blocks }
     requires spectra { length spectra.old ≡ (kernels.now.plan.blocks - from) * 2 ^ kernels.now.transform.bits }
@@ -82,13 +82,14 @@ fn transform_blocks<F: Field>(
 // The sums over the blocks of the products of their transforms and their kernels for a piece: the transform of
 // the sum of the convolutions.
 fn sum_products<F: Field>(kernels: &Kernels<F>, p: usize, spectra: &[F], out: &mut [F])
-    requires ready { IsReady F.ops F.element kernels.now.transform kernels.now.plan kernels.now.spectra.items }
+    requires ready { IsReady F.ops F.coding.element kernels.now.transform kernels.now.plan kernels.now.spectra.items }
     requires piece { p < kernels.now.plan.pieces }
     requires spectra { length spectra.now ≡ kernels.now.plan.blocks * 2 ^ kernels.now.transform.bits }
     requires out { length out.old ≡ 2 ^ kernels.now.transform.bits }
     ensures { let d = kernels.now.transform in (values weights : List F) → IsRoot F.ops d.bits d.root →
         AreSpectra F.ops d kernels.now.plan values weights 0 spectra.now → (j : ℕ) → j < length out.new →
-        entry F.ops out.new j ≡ spectrum F.ops d.bits d.root (convolutions F.ops F.element d kernels.now.plan values weights p kernels.now.plan.blocks) j }
+        entry F.ops out.new j ≡ spectrum F.ops d.bits d.root
+        (convolutions F.ops F.coding.element d kernels.now.plan values weights p kernels.now.plan.blocks) j }
 {
     let plan = kernels.plan;
     let size = kernels.transform.size();
@@ -138,14 +139,14 @@ pub fn extend_by<F: Field>(
     convolved: &mut [F],
     out: &mut [F],
 )
-    requires ready { IsReady F.ops F.element kernels.now.transform kernels.now.plan kernels.now.spectra.items }
-    requires weights { IsWeights F.ops F.element kernels.now.plan.count weights.now }
-    requires passed { IsPassed F.ops F.element kernels.now.plan.count kernels.now.plan.upto passed.now }
+    requires ready { IsReady F.ops F.coding.element kernels.now.transform kernels.now.plan kernels.now.spectra.items }
+    requires weights { IsWeights F.ops F.coding.element kernels.now.plan.count weights.now }
+    requires passed { IsPassed F.ops F.coding.element kernels.now.plan.count kernels.now.plan.upto passed.now }
     requires values { length values.now ≡ kernels.now.plan.count }
     requires out { length out.old + kernels.now.plan.count ≡ kernels.now.plan.upto }
     requires spectra { length spectra.old ≡ kernels.now.plan.blocks * 2 ^ kernels.now.transform.bits }
     requires convolved { length convolved.old ≡ 2 ^ kernels.now.transform.bits }
-    ensures { (k : ℕ) → k < length out.new → entry F.ops out.new k ≡ extension F.ops F.element values.now (kernels.now.plan.count + k) }
+    ensures { (k : ℕ) → k < length out.new → entry F.ops out.new k ≡ extension F.ops F.coding.element values.now (kernels.now.plan.count + k) }
 {
     let plan = kernels.plan;
     transform_blocks(kernels, weights, values, 0, spectra);

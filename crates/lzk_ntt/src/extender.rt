@@ -37,7 +37,7 @@ impl<F: Field> Model for NttExtender<F> {
     ghost view = { λ e. record { reach = e.weights; room = (e.kernels.plan.blocks + 1) * 2 ^ e.kernels.transform.bits } };
 
     ghost invariant = { λ e. (e.kernels.plan.count ≡ e.weights.count) × (e.kernels.plan.upto ≡ e.weights.upto) ×
-        IsReady F.ops F.element e.kernels.transform e.kernels.plan e.kernels.spectra.items };
+        IsReady F.ops F.coding.element e.kernels.transform e.kernels.plan e.kernels.spectra.items };
 }
 
 impl<F: Field> NttExtender<F> {
@@ -54,7 +54,7 @@ impl<F: Field> NttExtender<F> {
         requires limit { upto ≤ 65536 }
         requires block { 1 ≤ block }
         requires fits { block ≤ 2 ^ transform.bits }
-        requires even { IsEven F.ops F.element upto }
+        requires even { IsEven F.ops F.coding.element upto }
         requires two { F.ops.plus F.ops.one F.ops.one ≢ F.ops.zero }
         ensures { IfOk result (λ e. e.reach ≡ record { count = n; upto = upto }) }
     {
@@ -82,7 +82,7 @@ impl<F: Field> NttExtender<F> {
         requires fits { length values.now ≡ self.now.reach.count }
         requires reached { length out.old + self.now.reach.count ≡ self.now.reach.upto }
         requires room { length room.old ≡ self.now.room }
-        ensures { (k : ℕ) → k < length out.new → entry F.ops out.new k ≡ extension F.ops F.element values.now (self.now.reach.count + k) }
+        ensures { (k : ℕ) → k < length out.new → entry F.ops out.new k ≡ extension F.ops F.coding.element values.now (self.now.reach.count + k) }
     {
         let spectra = self.kernels.plan.blocks * self.kernels.transform.size();
         let (spectra, convolved) = room.split_at_mut(spectra);

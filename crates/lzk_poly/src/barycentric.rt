@@ -40,9 +40,9 @@ impl<F: Field> Model for Weights<F> {
 
     ghost view = { λ w. record { count = w.count; upto = w.upto } };
 
-    ghost invariant = { λ w. (1 ≤ w.count) × (w.count ≤ w.upto) × (w.upto ≤ 65536) × IsWeights F.ops F.element w.count w.weights.items ×
-        IsPassed F.ops F.element w.count w.upto w.passed.items × (w.upto ≤ length w.inverses.items) ×
-        IsInverseTable F.ops F.element w.inverses.items × (IsTrue w.even ↔ IsEven F.ops F.element w.upto) };
+    ghost invariant = { λ w. (1 ≤ w.count) × (w.count ≤ w.upto) × (w.upto ≤ 65536) × IsWeights F.ops F.coding.element w.count w.weights.items ×
+        IsPassed F.ops F.coding.element w.count w.upto w.passed.items × (w.upto ≤ length w.inverses.items) ×
+        IsInverseTable F.ops F.coding.element w.inverses.items × (IsTrue w.even ↔ IsEven F.ops F.coding.element w.upto) };
 }
 
 impl<F: Field> Weights<F> {
@@ -100,21 +100,21 @@ impl<F: Field> Weights<F> {
     /// The weights, as many as there are values: each is the inverse of the product of the differences of
     /// its point and the other first points.
     pub fn weights(&self) -> &[F]
-        ensures { IsWeights F.ops F.element self.now.count result.now }
+        ensures { IsWeights F.ops F.coding.element self.now.count result.now }
     {
         &self.weights
     }
 
     /// At each point from the number of values on, the product of its differences from the first points.
     pub fn passed(&self) -> &[F]
-        ensures { IsPassed F.ops F.element self.now.count self.now.upto result.now }
+        ensures { IsPassed F.ops F.coding.element self.now.count self.now.upto result.now }
     {
         &self.passed
     }
 
     /// The inverses of the elements by number, at least as many as there are points. Entry 0 has no meaning.
     pub fn inverses(&self) -> &[F]
-        ensures table { IsInverseTable F.ops F.element result.now }
+        ensures table { IsInverseTable F.ops F.coding.element result.now }
         ensures enough { self.now.upto ≤ length result.now }
     {
         &self.inverses
@@ -122,7 +122,7 @@ impl<F: Field> Weights<F> {
 
     /// Whether the points are even: differences of points are the points with the differences of numbers.
     pub fn is_even(&self) -> bool
-        ensures { IsTrue result ↔ IsEven F.ops F.element self.now.upto }
+        ensures { IsTrue result ↔ IsEven F.ops F.coding.element self.now.upto }
     {
         self.even
     }

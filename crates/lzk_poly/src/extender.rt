@@ -45,7 +45,7 @@ impl<F: Field> Extender<F> {
         requires order { n ≤ upto }
         requires limit { upto ≤ 65536 }
         ensures reach { IfOk result (λ e. e ≡ record { count = n; upto = upto }) }
-        ensures one { (values : List F) → length values ≤ 65536 → IsInterpolated F.ops F.element values }
+        ensures one { (values : List F) → length values ≤ 65536 → IsInterpolated F.ops F.coding.element values }
     {
         let weights = Weights::new(alloc, n, upto)?;
         Ok(Extender { weights })
@@ -75,8 +75,8 @@ impl<F: Field> Extender<F> {
     pub fn extend_at(&self, values: &[F], j: u32) -> F
         requires fits { length values.now ≡ self.now.count }
         requires reached { j < self.now.upto }
-        ensures through { IsExtension F.ops F.element values.now j result }
-        ensures value { result ≡ extension F.ops F.element values.now j }
+        ensures through { IsExtension F.ops F.coding.element values.now j result }
+        ensures value { result ≡ extension F.ops F.coding.element values.now j }
     {
         let count = self.weights.count();
         if j < count {
@@ -90,8 +90,8 @@ impl<F: Field> Extender<F> {
     fn sum_at(&self, values: &[F], x: F) -> F
         requires fits { length values.now ≡ self.now.count }
         requires limit { length values.now ≤ 65536 }
-        requires apart { (i : ℕ) → i < length values.now → x ≢ F.element i }
-        ensures { result ≡ parts F.ops F.element values.now (length values.now) x }
+        requires apart { (i : ℕ) → i < length values.now → x ≢ F.coding.element i }
+        ensures { result ≡ parts F.ops F.coding.element values.now (length values.now) x }
     {
         let weights = self.weights.weights();
         let inverses = self.weights.inverses();
@@ -110,8 +110,8 @@ impl<F: Field> Extender<F> {
     pub fn extend(&self, values: &[F], out: &mut [F])
         requires fits { length values.now ≡ self.now.count }
         requires room { length out.old + self.now.count ≡ self.now.upto }
-        ensures through { (k : ℕ) → k < length out.new → IsExtension F.ops F.element values.now (self.now.count + k) (entry F.ops out.new k) }
-        ensures value { (k : ℕ) → k < length out.new → entry F.ops out.new k ≡ extension F.ops F.element values.now (self.now.count + k) }
+        ensures through { (k : ℕ) → k < length out.new → IsExtension F.ops F.coding.element values.now (self.now.count + k) (entry F.ops out.new k) }
+        ensures value { (k : ℕ) → k < length out.new → entry F.ops out.new k ≡ extension F.ops F.coding.element values.now (self.now.count + k) }
     {
         self.extend_from(values, self.count(), out);
     }
@@ -123,7 +123,7 @@ impl<F: Field> Extender<F> {
         requires after { self.now.count ≤ from }
         requires reached { from + length out.old ≤ self.now.upto }
         requires limit { self.now.upto ≤ 65536 }
-        ensures { (k : ℕ) → k < length out.new → entry F.ops out.new k ≡ extension F.ops F.element values.now (from + k) }
+        ensures { (k : ℕ) → k < length out.new → entry F.ops out.new k ≡ extension F.ops F.coding.element values.now (from + k) }
     {
         if out.is_empty() {
             return;
@@ -146,7 +146,7 @@ impl<F: Field> Extender<F> {
         requires reached { from + length out.old ≤ self.now.upto }
         requires limit { self.now.upto ≤ 65536 }
         requires room { 1 ≤ length room.old }
-        ensures { (k : ℕ) → k < length out.new → entry F.ops out.new k ≡ extension F.ops F.element values.now (from + k) }
+        ensures { (k : ℕ) → k < length out.new → entry F.ops out.new k ≡ extension F.ops F.coding.element values.now (from + k) }
     {
         self.sum_parts(values, from, out, room);
         let first = (from - self.weights.count()) as usize;
@@ -163,7 +163,8 @@ impl<F: Field> Extender<F> {
         requires reached { from + length out.old ≤ self.now.upto }
         requires limit { self.now.upto ≤ 65536 }
         requires room { 1 ≤ length room.old }
-        ensures { (k : ℕ) → k < length out.new → entry F.ops out.new k ≡ parts F.ops F.element values.now (length values.now) (F.element (from + k)) }
+        ensures { (k : ℕ) → k < length out.new → entry F.ops out.new k ≡
+            parts F.ops F.coding.element values.now (length values.now) (F.coding.element (from + k)) }
     {
         for t in 0..out.len() {
             out[t] = F::zero();
@@ -184,8 +185,9 @@ impl<F: Field> Extender<F> {
         requires after { self.now.count ≤ from }
         requires reached { from + length out.old ≤ self.now.upto }
         requires limit { self.now.upto ≤ 65536 }
-        ensures { (k : ℕ) → k < length out.new → (let x = F.element (from + k) in entry F.ops out.old k ≡ parts F.ops F.element values.now start x →
-            entry F.ops out.new k ≡ parts F.ops F.element values.now (start + length block.old) x) }
+        ensures { (k : ℕ) → k < length out.new → (let x = F.coding.element (from + k) in
+            entry F.ops out.old k ≡ parts F.ops F.coding.element values.now start x →
+            entry F.ops out.new k ≡ parts F.ops F.coding.element values.now (start + length block.old) x) }
     {
         let end = start + block.len();
         fill_block(
@@ -205,7 +207,7 @@ impl<F: Field> Extender<F> {
         requires after { self.now.count ≤ j }
         requires reached { j < self.now.upto }
         requires limit { self.now.upto ≤ 65536 }
-        ensures { result ≡ quotient_sum F.ops F.element block.now end (F.element j) }
+        ensures { result ≡ quotient_sum F.ops F.coding.element block.now end (F.coding.element j) }
     {
         let inverses = self.weights.inverses();
         if self.weights.is_even() {

@@ -33,4 +33,5 @@ pub use barycentric::Weights;
 pub use extender::Extender;
 pub use laws::{extension_laws, through_laws};
 pub use polynomial::eval;
+pub use quotients::inverse_of;
 pub use rows::RowExtend;

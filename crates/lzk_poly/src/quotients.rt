@@ -8,7 +8,7 @@ use lzk_field::Field;
 
 /// The inverse of an element, from the table where it is there.
 pub fn inverse_of<F: Field>(inverses: &[F], x: F) -> F
-    requires table { IsInverseTable F.ops F.element inverses.now }
+    requires table { IsInverseTable F.ops F.coding.element inverses.now }
     requires nonzero { x ≢ F.ops.zero }
     ensures { result ≡ F.ops.inverse x }
 {
@@ -25,11 +25,11 @@ pub fn inverse_of<F: Field>(inverses: &[F], x: F) -> F
 /// Each entry over the difference of `x` and a point, by the numbers of the differences: the first
 /// entry's point is the one just before `end`, the next entry's the one before that.
 pub fn by_numbers<F: Field>(block: &[F], inverses: &[F], end: u32, x: F) -> F
-    requires table { IsInverseTable F.ops F.element inverses.now }
+    requires table { IsInverseTable F.ops F.coding.element inverses.now }
     requires enough { length block.now ≤ end }
     requires limit { end ≤ 65536 }
-    requires apart { (i : ℕ) → i < end → x ≢ F.element i }
-    ensures { result ≡ quotient_sum F.ops F.element block.now end x }
+    requires apart { (i : ℕ) → i < end → x ≢ F.coding.element i }
+    ensures { result ≡ quotient_sum F.ops F.coding.element block.now end x }
 {
     let mut total = F::zero();
     for k in 0..block.len() {

@@ -23,7 +23,7 @@ impl Spacing {
     /// The spacing of the points below `upto`.
     pub fn of<F: Field>(upto: u32) -> Spacing
         requires { upto ≤ 65536 }
-        ensures { IsSpaced F.ops F.element upto result }
+        ensures { IsSpaced F.ops F.coding.element upto result }
     {
         if are_even::<F>(upto) {
             return Spacing::Even;
@@ -59,8 +59,8 @@ impl Spacing {
 // Whether the points below `upto` are zero, one, one more and so on.
 fn are_even<F: Field>(upto: u32) -> bool
     requires { upto ≤ 65536 }
-    ensures even { IsTrue result → IsEven F.ops F.element upto }
-    ensures all { IsEven F.ops F.element upto → IsTrue result }
+    ensures even { IsTrue result → IsEven F.ops F.coding.element upto }
+    ensures all { IsEven F.ops F.coding.element upto → IsTrue result }
 {
     for k in 1..upto {
         let next = F::point(k - 1).add(F::one());
@@ -89,7 +89,7 @@ fn bits_below(upto: u32) -> u32
 // Whether the field is binary and the points with so many bits are sums of those with one.
 fn are_binary<F: Field>(bits: u32) -> bool
     requires { bits ≤ 16 }
-    ensures { IsTrue result ↔ IsBinary F.ops F.element bits }
+    ensures { IsTrue result ↔ IsBinary F.ops F.coding.element bits }
 {
     if F::one().add(F::one()).number() != 0 {
         return false;
@@ -105,7 +105,7 @@ fn are_binary<F: Field>(bits: u32) -> bool
 // Whether each point whose highest bit is bit `b` is the sum of that bit's point and another.
 fn is_split<F: Field>(b: u32) -> bool
     requires { b < 16 }
-    ensures { IsTrue result ↔ ((k : ℕ) → k < 2 ^ b → F.element (2 ^ b + k) ≡ F.ops.plus (F.element (2 ^ b)) (F.element k)) }
+    ensures { IsTrue result ↔ ((k : ℕ) → k < 2 ^ b → F.coding.element (2 ^ b + k) ≡ F.ops.plus (F.coding.element (2 ^ b)) (F.coding.element k)) }
 {
     let bit = 1 << b;
     for k in 0..bit {

@@ -75,7 +75,7 @@ pub fn asserting<F: Field>(
     requires narrow { AreNarrowWith 131072 targets.now layers.now }
     requires few_wires { (under_of inputs layers.now).wires + target_count targets.now layers.now ≤ 2097152 }
     requires few_terms { (under_of inputs layers.now).terms + target_count targets.now layers.now ≤ 2097152 }
-    ensures { IfOk result (λ all. IsAssertingForm F.ops F.number_of inputs targets.now layers.now all.items) }
+    ensures { IfOk result (λ all. IsAssertingForm F.ops F.coding.number inputs targets.now layers.now all.items) }
 {
     if layers.len() == 1 {
         return attached(alloc, layers, targets);

@@ -40,7 +40,7 @@ fn empty_slots(alloc: Global, count: u32) -> Result<Vec<Option<u32>>, AllocError
 pub fn none_kept<F: Field>(alloc: Global, most: u32) -> Result<KeptWires<F>, AllocError>
     requires { 1 ≤ most }
     ensures table { IfOk result IsTable }
-    ensures kept { (width : ℕ) → IfOk result (IsKept F.ops F.number_of width) }
+    ensures kept { (width : ℕ) → IfOk result (IsKept F.ops F.coding.number width) }
     ensures count { IfOk result (λ kept. kept.count ≡ 0) }
     ensures terms { IfOk result (λ kept. kept.terms.items ≡ []) }
 {
@@ -71,7 +71,7 @@ fn mixed(hash: u64, number: u64) -> u64
 
 // The hash of a row.
 fn hash_of<F: Field>(row: &[Term<F>]) -> u64
-    ensures { result ≡ hash_from 0 (map (place_of F.number_of) row.now) }
+    ensures { result ≡ hash_from 0 (map (place_of F.coding.number) row.now) }
 {
     let mut hash = 0;
     for term in row {
@@ -86,7 +86,7 @@ fn hash_of<F: Field>(row: &[Term<F>]) -> u64
 // The slot of a row, of so many.
 fn slot_of<F: Field>(row: &[Term<F>], slots: usize) -> usize
     requires { 1 ≤ slots }
-    ensures slot { result ≡ slot_of slots (map (place_of F.number_of) row.now) }
+    ensures slot { result ≡ slot_of slots (map (place_of F.coding.number) row.now) }
     ensures within { result < slots }
 {
     (hash_of(row) >> 32) as usize % slots
@@ -94,16 +94,16 @@ fn slot_of<F: Field>(row: &[Term<F>], slots: usize) -> usize
 
 // Whether two terms stand at one place with one coefficient.
 fn is_same<F: Field>(own: Term<F>, term: Term<F>) -> bool
-    ensures yes { result ≡ true → place_of F.number_of own ≡ place_of F.number_of term }
-    ensures no { result ≡ false → place_of F.number_of own ≢ place_of F.number_of term }
+    ensures yes { result ≡ true → place_of F.coding.number own ≡ place_of F.coding.number term }
+    ensures no { result ≡ false → place_of F.coding.number own ≢ place_of F.coding.number term }
 {
     own.a == term.a && own.b == term.b && own.coef.number() == term.coef.number()
 }
 
 // Whether two wires have the same terms.
 fn are_same<F: Field>(own: &[Term<F>], row: &[Term<F>]) -> bool
-    ensures yes { result ≡ true → map (place_of F.number_of) own.now ≡ map (place_of F.number_of) row.now }
-    ensures no { result ≡ false → map (place_of F.number_of) own.now ≢ map (place_of F.number_of) row.now }
+    ensures yes { result ≡ true → map (place_of F.coding.number) own.now ≡ map (place_of F.coding.number) row.now }
+    ensures no { result ≡ false → map (place_of F.coding.number) own.now ≢ map (place_of F.coding.number) row.now }
 {
     if own.len() != row.len() {
         return false;
@@ -142,13 +142,13 @@ fn terms_of<F: Field>(kept: &KeptWires<F>, wire: u32) -> &[Term<F>]
 // The kept wire with this row, which falls into this slot.
 fn found<F: Field>(kept: &KeptWires<F>, row: &[Term<F>], slot: usize) -> Option<u32>
     requires table { IsTable kept.now }
-    requires slot { slot ≡ slot_of (length kept.now.heads.items) (map (place_of F.number_of) row.now) }
+    requires slot { slot ≡ slot_of (length kept.now.heads.items) (map (place_of F.coding.number) row.now) }
     requires within { slot < length kept.now.heads.items }
     ensures below { IfSome result (λ g. g < kept.now.count) }
-    ensures same { (width : ℕ) → IsKept F.ops F.number_of width kept.now →
-        IfSome result (λ g. places_of F.number_of g kept.now.terms.items ≡ map (place_of F.number_of) row.now) }
-    ensures none { (width : ℕ) → IsKept F.ops F.number_of width kept.now → result ≡ None → (g : ℕ) → g < kept.now.count →
-        places_of F.number_of g kept.now.terms.items ≢ map (place_of F.number_of) row.now }
+    ensures same { (width : ℕ) → IsKept F.ops F.coding.number width kept.now →
+        IfSome result (λ g. places_of F.coding.number g kept.now.terms.items ≡ map (place_of F.coding.number) row.now) }
+    ensures none { (width : ℕ) → IsKept F.ops F.coding.number width kept.now → result ≡ None → (g : ℕ) → g < kept.now.count →
+        places_of F.coding.number g kept.now.terms.items ≢ map (place_of F.coding.number) row.now }
 {
     let mut link = kept.heads[slot];
     while let Some(wire) = link {
@@ -168,15 +168,15 @@ fn add_wire<F: Field>(
 ) -> Result<u32, AllocError>
     requires few { kept.now.count < 131072 }
     requires table { IsTable kept.now }
-    requires slot { slot ≡ slot_of (length kept.now.heads.items) (map (place_of F.number_of) row.now) }
+    requires slot { slot ≡ slot_of (length kept.now.heads.items) (map (place_of F.coding.number) row.now) }
     requires within { slot < length kept.now.heads.items }
     ensures wire { IfOk result (λ g. g ≡ kept.old.count) }
     ensures count { IfOk result (λ _. kept.new.count ≡ kept.old.count + 1) }
     ensures table { IfOk result (λ _. IsTable kept.new) }
-    ensures kept { (width : ℕ) → IsKept F.ops F.number_of width kept.old → IsRow F.ops width row.now →
-        ((g : ℕ) → g < kept.old.count → places_of F.number_of g kept.old.terms.items ≢ map (place_of F.number_of) row.now) →
-        IfOk result (λ _. IsKept F.ops F.number_of width kept.new) }
-    ensures terms { (width : ℕ) → IsKept F.ops F.number_of width kept.old → IfOk result (λ g. of_wire g kept.new.terms.items ≡ map (placed g) row.now) }
+    ensures kept { (width : ℕ) → IsKept F.ops F.coding.number width kept.old → IsRow F.ops width row.now →
+        ((g : ℕ) → g < kept.old.count → places_of F.coding.number g kept.old.terms.items ≢ map (place_of F.coding.number) row.now) →
+        IfOk result (λ _. IsKept F.ops F.coding.number width kept.new) }
+    ensures terms { (width : ℕ) → IsKept F.ops F.coding.number width kept.old → IfOk result (λ g. of_wire g kept.new.terms.items ≡ map (placed g) row.now) }
     ensures before { (i : ℕ) → i < kept.old.count → IfOk result (λ _. of_wire i kept.new.terms.items ≡ of_wire i kept.old.terms.items) }
     ensures short { IfOk result (λ _. length kept.new.terms.items ≡ length kept.old.terms.items + length row.now) }
 {
@@ -194,14 +194,14 @@ pub fn wire_of<F: Field>(kept: &mut KeptWires<F>, row: &[Term<F>]) -> Result<u32
     requires few { kept.now.count < 131072 }
     requires table { IsTable kept.now }
     ensures table { IfOk result (λ _. IsTable kept.new) }
-    ensures kept { (width : ℕ) → IsKept F.ops F.number_of width kept.old → IsRow F.ops width row.now →
-        IfOk result (λ _. IsKept F.ops F.number_of width kept.new) }
-    ensures wire { (width : ℕ) → IsKept F.ops F.number_of width kept.old → IsRow F.ops width row.now → IfOk result (λ g. g < kept.new.count) }
-    ensures terms { (width : ℕ) → IsKept F.ops F.number_of width kept.old → IsRow F.ops width row.now →
+    ensures kept { (width : ℕ) → IsKept F.ops F.coding.number width kept.old → IsRow F.ops width row.now →
+        IfOk result (λ _. IsKept F.ops F.coding.number width kept.new) }
+    ensures wire { (width : ℕ) → IsKept F.ops F.coding.number width kept.old → IsRow F.ops width row.now → IfOk result (λ g. g < kept.new.count) }
+    ensures terms { (width : ℕ) → IsKept F.ops F.coding.number width kept.old → IsRow F.ops width row.now →
         IfOk result (λ g. of_wire g kept.new.terms.items ≡ map (placed g) row.now) }
-    ensures before { (width : ℕ) → IsKept F.ops F.number_of width kept.old → IsRow F.ops width row.now → (i : ℕ) → i < kept.old.count →
+    ensures before { (width : ℕ) → IsKept F.ops F.coding.number width kept.old → IsRow F.ops width row.now → (i : ℕ) → i < kept.old.count →
         IfOk result (λ _. of_wire i kept.new.terms.items ≡ of_wire i kept.old.terms.items) }
-    ensures first { (width : ℕ) → IsKept F.ops F.number_of width kept.old → kept.old.count ≡ 0 → IfOk result (λ g. g ≡ 0) }
+    ensures first { (width : ℕ) → IsKept F.ops F.coding.number width kept.old → kept.old.count ≡ 0 → IfOk result (λ g. g ≡ 0) }
     ensures more { IfOk result (λ _. kept.old.count ≤ kept.new.count) }
     ensures count { IfOk result (λ _. kept.new.count ≤ kept.old.count + 1) }
     ensures short { IfOk result (λ _. length kept.new.terms.items ≤ length kept.old.terms.items + length row.now) }

@@ -7,8 +7,8 @@ use lzk_field::Field;
 
 /// Writes the elements' bytes.
 pub fn write_elements<F: Field>(elements: &[F], out: &mut [u8])
-    requires { length out.old ≡ length elements.now * F.BYTES }
-    ensures { out.new ≡ elements_bytes F.BYTES (map F.number_of elements.now) }
+    requires { length out.old ≡ length elements.now * F.coding.bytes }
+    ensures { out.new ≡ elements_bytes F.coding.bytes (map F.coding.number elements.now) }
 {
     for i in 0..elements.len() {
         elements[i].to_le(&mut out[i * F::BYTES..(i + 1) * F::BYTES]);

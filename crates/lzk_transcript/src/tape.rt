@@ -92,7 +92,7 @@ impl Tape {
 
     fn append_elements<F: Field>(&mut self, elements: &[F])
         requires { length elements.now ≤ BLOCK }
-        ensures { self.new ≡ appended (elements_bytes F.BYTES (map F.number_of elements.now)) self.old }
+        ensures { self.new ≡ appended (elements_bytes F.coding.bytes (map F.coding.number elements.now)) self.old }
     {
         let mut block = [0; BLOCK * LONGEST];
         let used = elements.len() * F::BYTES;
@@ -121,7 +121,7 @@ impl Tape {
 
     /// Writes an element: its mark, its bytes, the lowest first.
     pub fn elem<F: Field>(&mut self, e: F)
-        ensures { self.new ≡ appended (element_entry F.BYTES (F.number_of e)) self.old }
+        ensures { self.new ≡ appended (element_entry F.coding.bytes (F.coding.number e)) self.old }
     {
         let mut entry = [0; 1 + LONGEST];
         entry[0] = ELEMENT;
@@ -131,7 +131,7 @@ impl Tape {
 
     /// Writes a list of elements: its mark, how many they are in eight bytes, the bytes of each.
     pub fn array<F: Field>(&mut self, es: &[F])
-        ensures { self.new ≡ appended (array_entry F.BYTES (map F.number_of es.now)) self.old }
+        ensures { self.new ≡ appended (array_entry F.coding.bytes (map F.coding.number es.now)) self.old }
     {
         self.append_count(ARRAY, es.len());
         let mut rest = es;
@@ -155,7 +155,7 @@ impl Tape {
 
     /// Draws an element: the one that a block's number stands for.
     pub fn draw<F: Field>(&mut self) -> F
-        ensures value { result ≡ F.element (drawn self.old) }
+        ensures value { result ≡ F.coding.element (drawn self.old) }
         ensures after { self.new ≡ after_draw self.old }
     {
         F::of_word(self.draw_block())

@@ -15,7 +15,7 @@ returns-then-bits-eq0-clause-values g t c =
       | then-bits-eq0-via-then-bits-eq0 w ↦
           let one : length values ≡ 1 = c.requires.whole ∙ ap (λ n. 2 ^ n) w.if-bits-eq0.true in
           let first : j ≡ 0 = omega (arith, one, c.requires.known) in
-          single g.F.Field.laws c.args.bits (entry o values) (g.F.Field.element (at + j)) w.if-bits-eq0.true ∙ ap (entry o values) (sym first)
+          single g.F.Field.laws c.args.bits (entry o values) (g.F.Field.coding.element (at + j)) w.if-bits-eq0.true ∙ ap (entry o values) (sym first)
       | then-bits-eq0-via-else-bits-eq0+then-known-eq0 w ↦ absurd (omega (arith, w.if-known-eq0.true))
     ]
 

@@ -11,7 +11,7 @@ returns-then-bits-eq0 g t c =
     let values = c.args.values.now in
     let one : length values ≡ 1 = c.requires.whole ∙ ap (λ n. 2 ^ n) c.if-bits-eq0.true in
     λ at block j h. let first : j ≡ 0 = omega (arith, one) in
-    ap (entry o values) first ∙ sym (single g.F.Field.laws c.args.bits (entry o values) (g.F.Field.element (at + j)) c.if-bits-eq0.true)
+    ap (entry o values) first ∙ sym (single g.F.Field.laws c.args.bits (entry o values) (g.F.Field.coding.element (at + j)) c.if-bits-eq0.true)
 
 pub offset_bounds-twiddles-node : goal.offset_bounds-twiddles-node
 offset_bounds-twiddles-node g t c =

@@ -24,7 +24,7 @@ pub returns-clause-values : goal.returns-clause-values
 returns-clause-values g t c =
     let o = g.F.Field.ops in
     let laws = g.F.Field.laws in
-    let element = g.F.Field.element in
+    let element = g.F.Field.coding.element in
     let room = c.args.room.now in
     let size = length room in
     let bits = c.args.bits in
@@ -52,7 +52,7 @@ pub returns-clause-same : goal.returns-clause-same
 returns-clause-same g t c =
     let o = g.F.Field.ops in
     let laws = g.F.Field.laws in
-    let element = g.F.Field.element in
+    let element = g.F.Field.coding.element in
     let size = length c.args.room.now in
     let bits = c.args.bits in
     let depth = c.args.depth in

@@ -134,7 +134,7 @@ returns-clause-values g t c =
     let twiddles = c.args.twiddles.now in
     let node_in : c.args.node < length twiddles = node_within c.args.node size (length twiddles) (omega (arith, parts.1, parts.2, positive (c.args.bits - 1))) c.requires.twiddles in
     let is : twiddle ≡ entry o twiddles c.args.node = c.index-twiddles-node.is ∙ get_or_default twiddles c.args.node twiddle o.zero node_in in
-    let element = g.F.Field.element in
+    let element = g.F.Field.coding.element in
     λ at block.
     let low_value = level_at_low g.F.Field.laws c.args.bits h at c.args.node twiddle room twiddles c.forward_butterflies.new.low parts.0 parts.1 block is
     (λ i l. c.forward_butterflies.ensures.lower i (omega (arith, front)) ∙ ap (λ v. o.plus v (o.times twiddle (entry o old_high i))) (low_at i l) ∙ ap (λ v. o.plus (entry o room i) (o.times twiddle v)) (high_at i l)) in

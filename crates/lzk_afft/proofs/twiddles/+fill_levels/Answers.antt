@@ -29,7 +29,7 @@ pub returns : goal.returns
 returns g t c =
     let o = g.F.Field.ops in
     let r = g.F.Field.laws.ring in
-    let point = g.F.Field.element in
+    let point = g.F.Field.coding.element in
     let first = zero_element g.F.Field.laws.numbers in
     let depth = c.args.depth in
     let from = c.args.from in

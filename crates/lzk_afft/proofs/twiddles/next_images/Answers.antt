@@ -9,7 +9,7 @@ use Rattle.lzk_afft.proofs.twiddles.next_images.Goals as goal
 pub returns : goal.returns
 returns g c =
     let o = g.F.Field.ops in
-    let point = g.F.Field.element in
+    let point = g.F.Field.coding.element in
     let from = c.args.from in
     let images = c.args.images.now in
     let here = c.index-images-from.result in

@@ -8,7 +8,7 @@ use Rattle.lzk_afft.proofs.twiddles.normalize.Goals as goal
 pub unreachable-requires : goal.unreachable-requires
 unreachable-requires g c =
     let o = g.F.Field.ops in
-    let point = g.F.Field.element in
+    let point = g.F.Field.coding.element in
     let from = c.args.from in
     let images = c.args.images.now in
     let here = c.index-images-first.result in
@@ -19,7 +19,7 @@ pub returns : goal.returns
 unfolding normalized
 returns g c =
     let o = g.F.Field.ops in
-    let point = g.F.Field.element in
+    let point = g.F.Field.coding.element in
     let from = c.args.from in
     let images = c.args.images.now in
     let here = c.index-images-first.result in

@@ -8,7 +8,7 @@ use Rattle.lzk_afft.proofs.twiddles.twiddle_factors.Goals as goal
 pub returns : goal.returns
 returns g c =
     let o = g.F.Field.ops in
-    let point = g.F.Field.element in
+    let point = g.F.Field.coding.element in
     let depth = c.args.depth in
     let new = c.fill_levels.new.twiddles in
     let items = c.in_ok-twiddles.twiddles.items in

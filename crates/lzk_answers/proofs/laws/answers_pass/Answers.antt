@@ -4,7 +4,7 @@ use Rattle.lzk_answers.proofs.StandLaws.{combined_rows, linear_sum_stands, zeros
 use Rattle.lzk_answers.proofs.laws.answers_pass.Goals as goal
 
 pub returns-clause-columns : goal.returns-clause-columns
-returns-clause-columns g c = columns_open g.F.Field.ops g.F.Field.element
+returns-clause-columns g c = columns_open g.F.Field.ops g.F.Field.coding.element
 
 pub returns-clause-low_degree : goal.returns-clause-low_degree
 returns-clause-low_degree g c = low_degree_passes g.F.Field.laws
@@ -22,4 +22,4 @@ pub returns-clause-linear_sum : goal.returns-clause-linear_sum
 returns-clause-linear_sum g c = linear_sum_stands g.F.Field.laws
 
 pub returns-clause-combined : goal.returns-clause-combined
-returns-clause-combined g c = combined_rows g.F.Field.ops g.F.Field.element
+returns-clause-combined g c = combined_rows g.F.Field.ops g.F.Field.coding.element

@@ -35,8 +35,8 @@ returns-clause-values g c lists are k h =
     let further_size : length further ≡ p.dblock - p.block = c.add_products-2.ensures.length ∙ rest_size in
     let first_size : length (front ++ given) ≡ p.block = omega (arith, length-append front given, size, given_size, b.block) in
     let sum : ℕ → ℕ → g.row.F.Denot = λ f k. sum_below o n (λ i. o.times (entry o factors (f * n + i)) (cell o width table (3 + i) k)) in
-    let After : ℕ → g.row.F.Denot → Type 0 = λ k v. v ≡ o.plus (entry o answer k) (sum_below o n (λ i. o.times (extension o m.element (lists (3 + i)) k) (cell o width table (3 + i) k))) in
-    let apart : (i j : ℕ) → i < j → j < 128 + p.wr → m.element i ≢ m.element j = points_apart m.laws (128 + p.wr) (omega (arith, b.wr)) in
+    let After : ℕ → g.row.F.Denot → Type 0 = λ k v. v ≡ o.plus (entry o answer k) (sum_below o n (λ i. o.times (extension o m.coding.element (lists (3 + i)) k) (cell o width table (3 + i) k))) in
+    let apart : (i j : ℕ) → i < j → j < 128 + p.wr → m.coding.element i ≢ m.coding.element j = points_apart m.laws (128 + p.wr) (omega (arith, b.wr)) in
     let place : ℕ → ℕ → g.row.F.Denot = λ f s. entry o places (f * p.wr + s) in
     let is = λ (f : ℕ). are_coefficients o p (place f) b.block in
     entries_joined o After (front ++ given) further
@@ -44,11 +44,11 @@ returns-clause-values g c lists are k h =
     entries_joined o After front given
     (λ k h.
     entry-front o x.result.0.now front 128 k y.ensures.front (omega arith) ∙ entry-front o answer x.result.0.now p.block k x.ensures.front (omega (arith, b.block))
-    ∙ nothing_added o r m.element p n 4 factors places b.block lists are width k table (entry o answer k) (λ f z. front-extension o r m.laws.field m.element 128 p.wr apart (place f) k (omega arith)))
+    ∙ nothing_added o r m.coding.element p n 4 factors places b.block lists are width k table (entry o answer k) (λ f z. front-extension o r m.laws.field m.coding.element 128 p.wr apart (place f) k (omega arith)))
     (λ s h.
     let at : 128 + s ≡ length front + s = omega arith in
-    products_added o r m.element p n 4 factors places b.block lists are width 128 s (length front + s) table (λ f. place f s) (entry o answer (length front + s)) (entry o given s) at
-    (λ f z. sym (back-extension o r m.laws.field m.element 128 p.wr apart (place f) s (omega arith)) ∙ ap (extension o m.element (place_row o p places f)) at)
+    products_added o r m.coding.element p n 4 factors places b.block lists are width 128 s (length front + s) table (λ f. place f s) (entry o answer (length front + s)) (entry o given s) at
+    (λ f z. sym (back-extension o r m.laws.field m.coding.element 128 p.wr apart (place f) s (omega arith)) ∙ ap (extension o m.coding.element (place_row o p places f)) at)
     (c.add_products.ensures.sums s (omega arith)
     ∙ ap (λ (size : ℕ). o.plus (entry o own s) (sum_below o 4 (λ f. o.times (entry o places (f * size + s)) (sum f (128 + s))))) own_size
     ∙ ap (λ w. o.plus w (sum_below o 4 (λ f. o.times (place f s) (sum f (128 + s)))))
@@ -58,8 +58,8 @@ returns-clause-values g c lists are k h =
     let at : p.block + d ≡ length (front ++ given) + d = omega arith in
     let step = p.dblock - p.block in
     let value : ℕ → g.row.F.Denot = λ f. entry o c.args.behind.now (f * step + d) in
-    products_added o r m.element p n 4 factors places b.block lists are width p.block d (length (front ++ given) + d) table value (entry o answer (length (front ++ given) + d)) (entry o further d) at
-    (λ f z. c.requires.further f (place_row o p places f) z (is f) d (omega arith) ∙ ap (extension o m.element (place_row o p places f)) at)
+    products_added o r m.coding.element p n 4 factors places b.block lists are width p.block d (length (front ++ given) + d) table value (entry o answer (length (front ++ given) + d)) (entry o further d) at
+    (λ f z. c.requires.further f (place_row o p places f) z (is f) d (omega arith) ∙ ap (extension o m.coding.element (place_row o p places f)) at)
     (c.add_products-2.ensures.sums d (omega arith)
     ∙ ap (λ (size : ℕ). o.plus (entry o rest d) (sum_below o 4 (λ f. o.times (entry o c.args.behind.now (f * size + d)) (sum f (p.block + d))))) rest_size
     ∙ ap (λ w. o.plus w (sum_below o 4 (λ f. o.times (value f) (sum f (p.block + d))))) (entry-back o answer rest p.block d x.ensures.back ∙ ap (entry o answer) at)))

@@ -17,4 +17,4 @@ returns-clause-further g c list are k h =
     let values = c.fill_row.new.row in
     let same : values ≡ list = coefficients_are o p (entry o c.args.coefficients.now) list values c.requires.bounded.block are (omega arith) c.fill_row.ensures.front (λ s q. c.fill_row.ensures.back s (omega arith)) in
     let count : (g.X.RowExtend.reach c.args.extender.now).count ≡ p.block = ap (λ (r : Reach). r.count) c.requires.reach in
-    c.extend_row.ensures.value k (omega arith) ∙ ap (λ xs. extension o m.element xs ((g.X.RowExtend.reach c.args.extender.now).count + k)) same ∙ ap (λ (n : ℕ). extension o m.element list (n + k)) count
+    c.extend_row.ensures.value k (omega arith) ∙ ap (λ xs. extension o m.coding.element xs ((g.X.RowExtend.reach c.args.extender.now).count + k)) same ∙ ap (λ (n : ℕ). extension o m.coding.element list (n + k)) count

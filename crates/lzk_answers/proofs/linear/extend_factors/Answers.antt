@@ -24,7 +24,7 @@ loop-f-preserved g c =
       whole,
       omega arith,
       λ j list h are k q.
-          rows_more o front row tail f size many wide j k (extension o m.element list (p.block + k)) h q
+          rows_more o front row tail f size many wide j k (extension o m.coding.element list (p.block + k)) h q
           (λ z. entry-front o l.behind front (f * size) (j * size + k) c.split_at_mut-rest.ensures.front (before_row j k f size z q) ∙ l.invariant.3 j list z are k q)
           (λ e.
           c.extend_behind.ensures.further list

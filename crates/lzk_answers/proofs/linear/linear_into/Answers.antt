@@ -13,9 +13,9 @@ returns-clause-values g c rows lists count is are =
     let table = c.args.table.now in
     let width = c.args.width in
     let size : length c.add_listed.new.answer ≡ p.dblock = omega arith in
-    linear_made o m.laws.ring m.element p rows width table c.add_listed.new.answer is count lists (omega (arith, b.rows)) c.requires.width size
+    linear_made o m.laws.ring m.coding.element p rows width table c.add_listed.new.answer is count lists (omega (arith, b.rows)) c.requires.width size
     (λ k h.
-    let f : ℕ → g.row.F.Denot = λ i. o.times (extension o m.element (lists (3 + i)) k) (cell o width table (3 + i) k) in
+    let f : ℕ → g.row.F.Denot = λ i. o.times (extension o m.coding.element (lists (3 + i)) k) (cell o width table (3 + i) k) in
     let start = entry o c.set_list.new.list k in
     rows_joined o m.laws.ring 0 (p.nrow - 3) f (cell o width table 1 k) start start (entry o c.add_listed.new.answer k) (omega arith)
     (ap (λ values. entry o values k) c.set_list.ensures ∙ c.row_of.ensures.values k h)

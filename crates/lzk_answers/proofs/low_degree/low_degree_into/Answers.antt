@@ -11,6 +11,6 @@ returns-clause-values g c rows count is =
     let u = c.args.u.now in
     let table = c.args.table.now in
     let width = c.args.width in
-    low_degree_made o m.laws.ring m.element c.args.params.now rows width table c.add_rows.new.out is count u (omega (arith, b.rows)) (omega (arith, b.block, b.dblock, c.requires.width)) c.requires.u (omega arith)
+    low_degree_made o m.laws.ring m.coding.element c.args.params.now rows width table c.add_rows.new.out is count u (omega (arith, b.rows)) (omega (arith, b.block, b.dblock, c.requires.width)) c.requires.u (omega arith)
     (λ k h. c.add_rows.ensures.sums k (omega arith)
     ∙ ap (λ x. o.plus x (sum_below o (length u) (λ i. o.times (entry o u i) (entry o table ((3 + i) * width + k))))) (ap (λ values. entry o values k) c.set_list.ensures ∙ c.row_of.ensures.values k h))

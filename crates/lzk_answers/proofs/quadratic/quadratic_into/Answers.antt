@@ -11,5 +11,5 @@ returns-clause-values g c rows count is =
     let v = c.args.v.now in
     let here = cell o c.args.width c.args.table.now in
     let done : c.loop-t.t ≡ p.ntriple = omega arith in
-    quadratic_made o m.laws.ring m.element p rows c.args.width c.args.table.now c.loop-t.answer is count v c.requires.bounded.rows c.requires.width c.loop-t.invariant.0
+    quadratic_made o m.laws.ring m.coding.element p rows c.args.width c.args.table.now c.loop-t.answer is count v c.requires.bounded.rows c.requires.width c.loop-t.invariant.0
     (λ k h. c.loop-t.invariant.1 k h ∙ ap (λ (n : ℕ). o.plus (here 2 k) (sum_below o n (λ t. let i = 3 + p.nwrow + 3 * t in o.times (entry o v t) (minus o (o.times (here i k) (here (i + 1) k)) (here (i + 2) k))))) done)

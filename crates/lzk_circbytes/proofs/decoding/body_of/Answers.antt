@@ -11,8 +11,8 @@ use Rattle.lzk_circbytes.proofs.decoding.body_of.Goals as goal
 
 pub coefs_of-requires-after_bounds : goal.coefs_of-requires-after_bounds
 coefs_of-requires-after_bounds g c = λ κs outlives.
-    let number = g.F.Field.number_of in
-    let s : Shape = shape g.F.Field.ID g.F.Field.BYTES g.F.Field.size in
+    let number = g.F.Field.coding.number in
+    let s : Shape = shape g.F.Field.coding.id g.F.Field.coding.bytes g.F.Field.coding.size in
     let bytes = c.args.bytes.now in
     let items = c.in_ok-constants.constants.items in
     let are = constants_are s c.args.count bytes (map number items) c.in_ok-constants.rest.now (bytes_fit bytes c.type_inv.bytes) c.in_ok-constants.ensures in
@@ -20,7 +20,7 @@ coefs_of-requires-after_bounds g c = λ κs outlives.
 
 pub constants_part-requires : goal.constants_part-requires
 constants_part-requires g c =
-    let number = g.F.Field.number_of in
+    let number = g.F.Field.coding.number in
     let numbers = map number c.in_ok-constants.constants.items in
     let flags = c.layers_of.new.used in
     let stay = c.layers_of.auto.used ∙ ap length c.deref_mut.ensures.value in
@@ -31,8 +31,8 @@ constants_part-requires g c =
 
 pub layers_of-requires-clause-few : goal.layers_of-requires-clause-few
 layers_of-requires-clause-few g c =
-    let number = g.F.Field.number_of in
-    let s : Shape = shape g.F.Field.ID g.F.Field.BYTES g.F.Field.size in
+    let number = g.F.Field.coding.number in
+    let s : Shape = shape g.F.Field.coding.id g.F.Field.coding.bytes g.F.Field.coding.size in
     let bytes = c.args.bytes.now in
     let items = c.in_ok-constants.constants.items in
     let numbers = map number items in
@@ -42,8 +42,8 @@ layers_of-requires-clause-few g c =
 
 pub layers_of-requires-clause-rising : goal.layers_of-requires-clause-rising
 layers_of-requires-clause-rising g c =
-    let number = g.F.Field.number_of in
-    let s : Shape = shape g.F.Field.ID g.F.Field.BYTES g.F.Field.size in
+    let number = g.F.Field.coding.number in
+    let s : Shape = shape g.F.Field.coding.id g.F.Field.coding.bytes g.F.Field.coding.size in
     let bytes = c.args.bytes.now in
     let items = c.in_ok-constants.constants.items in
     let numbers = map number items in
@@ -52,8 +52,8 @@ layers_of-requires-clause-rising g c =
 
 pub check_used-requires : goal.check_used-requires
 check_used-requires g c =
-    let number = g.F.Field.number_of in
-    let s : Shape = shape g.F.Field.ID g.F.Field.BYTES g.F.Field.size in
+    let number = g.F.Field.coding.number in
+    let s : Shape = shape g.F.Field.coding.id g.F.Field.coding.bytes g.F.Field.coding.size in
     let bytes = c.args.bytes.now in
     let items = c.in_ok-constants.constants.items in
     let numbers = map number items in
@@ -65,12 +65,12 @@ check_used-requires g c =
     let many = ap length (sym c.in_ok-coefs.ensures) ∙ length-map c.in_ok-coefs.coefs.items number in
     let len : length flags ≡ length (coefs_of v numbers) = omega (arith, stay, c.deref_mut.ensures.len, ap length c.deref_mut.ensures.value, c.in_ok-used.ensures.len, c.len.ensures, many) in
     let behind = c.constants_part.ensures ∙ ap (drop (zeros_of v)) back in
-    rw (ap length behind ∙ length-behind v numbers flags len, c.BYTES.ensures) are.room
+    rw (ap length behind ∙ length-behind v numbers flags len, (c.BYTES.ensures ∙ g.F.Field.coded_bytes)) are.room
 
 pub returns-in_err-check_used : goal.returns-in_err-check_used
 returns-in_err-check_used g c =
-    let number = g.F.Field.number_of in
-    let s : Shape = shape g.F.Field.ID g.F.Field.BYTES g.F.Field.size in
+    let number = g.F.Field.coding.number in
+    let s : Shape = shape g.F.Field.coding.id g.F.Field.coding.bytes g.F.Field.coding.size in
     let bytes = c.args.bytes.now in
     let items = c.in_ok-constants.constants.items in
     let numbers = map number items in
@@ -86,7 +86,7 @@ returns-in_err-check_used g c =
     let count : c.len.result ≡ length (coefs_of v numbers) = omega (arith, c.len.ensures, c.deref.ensures.len, ap length c.deref.ensures.value, many) in
     let none = c.in_ok-used.ensures.items_if_clones_equal (λ y e. e) ∙ ap (λ n. replicate n false) count in
     let given = ap (map number) c.deref.ensures.value ∙ c.in_ok-coefs.ensures in
-    let same = flags_read s v ls numbers (map number c.deref.result.now) c.in_ok-used.used.items c.deref_mut.result.now flags c.constants_part.result.now c.BYTES.result bytes given c.deref_mut.ensures.value behind c.BYTES.ensures none len c.in_ok-layers.ensures.used in
+    let same = flags_read s v ls numbers (map number c.deref.result.now) c.in_ok-used.used.items c.deref_mut.result.now flags c.constants_part.result.now c.BYTES.result bytes given c.deref_mut.ensures.value behind (c.BYTES.ensures ∙ g.F.Field.coded_bytes) none len c.in_ok-layers.ensures.used in
     let at_layers : layers_at (coefs_of v numbers) c.args.inputs c.args.depth c.in_ok-constants.rest.now ≡ Ok (ls, rest) =
     sym (ap (λ ks. layers_at ks c.args.inputs c.args.depth c.in_ok-constants.rest.now) given) ∙ c.in_ok-layers.ensures.value in
     let p = err_from_is_err_and c.from_residual-in_err-check_used.result c.from_residual-in_err-check_used.ensures.1 in
@@ -96,8 +96,8 @@ returns-in_err-check_used g c =
 
 pub returns-then-not-is_empty : goal.returns-then-not-is_empty
 returns-then-not-is_empty g c =
-    let number = g.F.Field.number_of in
-    let s : Shape = shape g.F.Field.ID g.F.Field.BYTES g.F.Field.size in
+    let number = g.F.Field.coding.number in
+    let s : Shape = shape g.F.Field.coding.id g.F.Field.coding.bytes g.F.Field.coding.size in
     let bytes = c.args.bytes.now in
     let items = c.in_ok-constants.constants.items in
     let numbers = map number items in
@@ -113,15 +113,15 @@ returns-then-not-is_empty g c =
     let count : c.len.result ≡ length (coefs_of v numbers) = omega (arith, c.len.ensures, c.deref.ensures.len, ap length c.deref.ensures.value, many) in
     let none = c.in_ok-used.ensures.items_if_clones_equal (λ y e. e) ∙ ap (λ n. replicate n false) count in
     let given = ap (map number) c.deref.ensures.value ∙ c.in_ok-coefs.ensures in
-    let same = flags_read s v ls numbers (map number c.deref.result.now) c.in_ok-used.used.items c.deref_mut.result.now flags c.constants_part.result.now c.BYTES.result bytes given c.deref_mut.ensures.value behind c.BYTES.ensures none len c.in_ok-layers.ensures.used in
+    let same = flags_read s v ls numbers (map number c.deref.result.now) c.in_ok-used.used.items c.deref_mut.result.now flags c.constants_part.result.now c.BYTES.result bytes given c.deref_mut.ensures.value behind (c.BYTES.ensures ∙ g.F.Field.coded_bytes) none len c.in_ok-layers.ensures.used in
     let at_layers : layers_at (coefs_of v numbers) c.args.inputs c.args.depth c.in_ok-constants.rest.now ≡ Ok (ls, rest) =
     sym (ap (λ ks. layers_at ks c.args.inputs c.args.depth c.in_ok-constants.rest.now) given) ∙ c.in_ok-layers.ensures.value in
     rw c.stop.ensures (body_left s v c.args.inputs c.args.depth c.args.count bytes numbers c.in_ok-constants.rest.now rest ls c.in_ok-constants.ensures at_layers (sym same ∙ c.in_ok-check_used.ensures) (sym c.if-not-is_empty.ensures))
 
 pub returns : goal.returns
 returns g c =
-    let number = g.F.Field.number_of in
-    let s : Shape = shape g.F.Field.ID g.F.Field.BYTES g.F.Field.size in
+    let number = g.F.Field.coding.number in
+    let s : Shape = shape g.F.Field.coding.id g.F.Field.coding.bytes g.F.Field.coding.size in
     let bytes = c.args.bytes.now in
     let items = c.in_ok-constants.constants.items in
     let numbers = map number items in
@@ -137,7 +137,7 @@ returns g c =
     let count : c.len.result ≡ length (coefs_of v numbers) = omega (arith, c.len.ensures, c.deref.ensures.len, ap length c.deref.ensures.value, many) in
     let none = c.in_ok-used.ensures.items_if_clones_equal (λ y e. e) ∙ ap (λ n. replicate n false) count in
     let given = ap (map number) c.deref.ensures.value ∙ c.in_ok-coefs.ensures in
-    let same = flags_read s v ls numbers (map number c.deref.result.now) c.in_ok-used.used.items c.deref_mut.result.now flags c.constants_part.result.now c.BYTES.result bytes given c.deref_mut.ensures.value behind c.BYTES.ensures none len c.in_ok-layers.ensures.used in
+    let same = flags_read s v ls numbers (map number c.deref.result.now) c.in_ok-used.used.items c.deref_mut.result.now flags c.constants_part.result.now c.BYTES.result bytes given c.deref_mut.ensures.value behind (c.BYTES.ensures ∙ g.F.Field.coded_bytes) none len c.in_ok-layers.ensures.used in
     let at_layers : layers_at (coefs_of v numbers) c.args.inputs c.args.depth c.in_ok-constants.rest.now ≡ Ok (ls, rest) =
     sym (ap (λ ks. layers_at ks c.args.inputs c.args.depth c.in_ok-constants.rest.now) given) ∙ c.in_ok-layers.ensures.value in
     body_whole s v c.args.inputs c.args.depth c.args.count bytes numbers c.in_ok-constants.rest.now rest ls c.in_ok-constants.ensures at_layers (sym same ∙ c.in_ok-check_used.ensures) (sym c.if-not-is_empty.ensures)

@@ -6,5 +6,5 @@ use Rattle.lzk_circbytes.proofs.encoding.absorb_layers.Given as goal
 
 abbrev pub invariant-loop-i : goal.invariant-loop-i
 invariant-loop-i g l =
-    let ls = reverse (map (numbered_layer g.F.Field.number_of) l.circuit.layers) in
+    let ls = reverse (map (numbered_layer g.F.Field.coding.number) l.circuit.layers) in
     Absorbed Holds256 l.constants l.fn.hasher l.hasher (drop l.i ls) ls

@@ -10,7 +10,7 @@ use Rattle.lzk_circbytes.proofs.encoding.coefs_of.Goals as goal
 
 pub loop-l-preserved : goal.loop-l-preserved
 loop-l-preserved g c =
-    let number = g.F.Field.number_of in
+    let number = g.F.Field.coding.number in
     let layers = c.args.circuit.now.layers in
     let layer = c.layer.result.now in
     let step = subst (λ (ts : List _). HaveSame c.push_coefficients.new.numbers.items (c.loop-l.numbers.items ++ map (λ t. t.coef) (map (numbered_term number) ts))) c.as_slice.ensures c.in_ok-push_coefficients.ensures.same in
@@ -23,8 +23,8 @@ pub returns-clause-numbers : goal.returns-clause-numbers
 returns-clause-numbers g c =
     let F = g.F.Field in
     let layers = c.args.circuit.now.layers in
-    let ks = coefficients (map (numbered_layer F.number_of) layers) in
+    let ks = coefficients (map (numbered_layer F.coding.number) layers) in
     let none = drop_all c.loop-l.l layers (omega (arith, c.loop-l-test.false, c.depth-l-end.ensures.depth)) in
     let all = coefs_of c.args.circuit.now.version ks in
-    let same : HaveSame c.loop-l.numbers.items all = same_end c.loop-l.numbers.items all (subst (λ (ls : List (Layer _)). HaveSame (c.loop-l.numbers.items ++ coefficients (map (numbered_layer F.number_of) ls)) all) none c.loop-l.invariant.same) in
-    coefs_made c.args.circuit.now.version ks c.loop-l.numbers.items c.sort_unstable.new.self.items c.dedup.new.self.items (coefficients_some F.ops F.size F.number_of F.element F.BYTES F.laws F.ID c.args.circuit.now c.depth-l-end.ensures.valid) same c.sort_unstable.ensures.permutation c.sort_unstable.ensures.sorted c.dedup.ensures.filtered
+    let same : HaveSame c.loop-l.numbers.items all = same_end c.loop-l.numbers.items all (subst (λ (ls : List (Layer _)). HaveSame (c.loop-l.numbers.items ++ coefficients (map (numbered_layer F.coding.number) ls)) all) none c.loop-l.invariant.same) in
+    coefs_made c.args.circuit.now.version ks c.loop-l.numbers.items c.sort_unstable.new.self.items c.dedup.new.self.items (coefficients_some F.ops F.coding.size F.coding.number F.coding.element F.coding.bytes F.laws F.coding.id c.args.circuit.now c.depth-l-end.ensures.valid) same c.sort_unstable.ensures.permutation c.sort_unstable.ensures.sorted c.dedup.ensures.filtered

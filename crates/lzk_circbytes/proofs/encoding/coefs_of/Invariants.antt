@@ -6,7 +6,7 @@ use Rattle.lzk_circbytes.proofs.encoding.coefs_of.Given as goal
 
 abbrev pub invariant-loop-l : goal.invariant-loop-l
 invariant-loop-l g l =
-    let view = numbered_layer g.F.Field.number_of in
+    let view = numbered_layer g.F.Field.coding.number in
     record {
       same : HaveSame (l.numbers.items ++ coefficients (map view (drop l.l l.circuit.layers))) (coefs_of l.circuit.version (coefficients (map view l.circuit.layers)));
       met : All (WasMet l.numbers.items) l.met;

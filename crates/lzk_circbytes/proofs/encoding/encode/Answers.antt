@@ -13,42 +13,42 @@ push_head-requires-after_bounds g c =
     let F = g.F.Field in
     let circuit = c.args.circuit.now in
     let is = c.constants_part.ensures ∙ ap (λ (v : ℕ). drop (zeros_of v) c.deref.result.now) c.version.ensures.version ∙ ap (drop (zeros_of circuit.version)) (c.deref.ensures.value ∙ c.in_ok-coefs.ensures.numbers)
-    ∙ coefs_behind circuit.version (constants_of (numbered F.number_of circuit)) in
-    omega (arith, few F.ops F.size F.number_of F.element F.BYTES F.laws F.ID circuit c.coefs_of.ensures.valid, ap length is)
+    ∙ coefs_behind circuit.version (constants_of (numbered F.coding.number circuit)) in
+    omega (arith, few F.ops F.coding.size F.coding.number F.coding.element F.coding.bytes F.laws F.coding.id circuit c.coefs_of.ensures.valid, ap length is)
 
 pub constants_part-requires : goal.constants_part-requires
 constants_part-requires g c =
     let F = g.F.Field in
     let circuit = c.args.circuit.now in
-    let cs = constants_of (numbered F.number_of circuit) in
+    let cs = constants_of (numbered F.coding.number circuit) in
     subst (λ (v : ℕ). zeros_of v ≤ length c.deref.result.now) (sym c.version.ensures.version)
     (omega (arith, zeros_few circuit.version cs, ap length (c.deref.ensures.value ∙ c.in_ok-coefs.ensures.numbers)))
 
 pub places-requires : goal.places-requires
 places-requires g c =
     let F = g.F.Field in
-    omega (arith, few_coefs F.ops F.size F.number_of F.element F.BYTES F.laws F.ID c.args.circuit.now c.coefs_of.ensures.valid, ap length c.deref-2.ensures.value, ap length c.in_ok-coefs.ensures.numbers)
+    omega (arith, few_coefs F.ops F.coding.size F.coding.number F.coding.element F.coding.bytes F.laws F.coding.id c.args.circuit.now c.coefs_of.ensures.valid, ap length c.deref-2.ensures.value, ap length c.in_ok-coefs.ensures.numbers)
 
 pub push_layers-requires-clause-rising : goal.push_layers-requires-clause-rising
 push_layers-requires-clause-rising g c =
     let F = g.F.Field in
-    λ κs outlives. subst IsStrictlyIncreasing (sym (c.deref-3.ensures.value ∙ c.in_ok-coefs.ensures.numbers)) (constants_rise F.ops F.size F.number_of F.element F.BYTES F.laws F.ID c.args.circuit.now)
+    λ κs outlives. subst IsStrictlyIncreasing (sym (c.deref-3.ensures.value ∙ c.in_ok-coefs.ensures.numbers)) (constants_rise F.ops F.coding.size F.coding.number F.coding.element F.coding.bytes F.laws F.coding.id c.args.circuit.now)
 
 pub push_layers-requires-clause-few : goal.push_layers-requires-clause-few
 push_layers-requires-clause-few g c =
     let F = g.F.Field in
-    omega (arith, few_coefs F.ops F.size F.number_of F.element F.BYTES F.laws F.ID c.args.circuit.now c.coefs_of.ensures.valid, ap length c.deref-3.ensures.value, ap length c.in_ok-coefs.ensures.numbers)
+    omega (arith, few_coefs F.ops F.coding.size F.coding.number F.coding.element F.coding.bytes F.laws F.coding.id c.args.circuit.now c.coefs_of.ensures.valid, ap length c.deref-3.ensures.value, ap length c.in_ok-coefs.ensures.numbers)
 
 pub push_layers-requires-clause-fit : goal.push_layers-requires-clause-fit
 push_layers-requires-clause-fit g c =
     let F = g.F.Field in
-    λ κs outlives. subst (λ (cs : List ℕ). CanWriteLayers cs (map (numbered_layer F.number_of) c.args.circuit.now.layers)) (sym (c.deref-3.ensures.value ∙ c.in_ok-coefs.ensures.numbers)) (can_write_layers F.ops F.size F.number_of F.element F.BYTES F.laws F.ID c.args.circuit.now c.coefs_of.ensures.valid)
+    λ κs outlives. subst (λ (cs : List ℕ). CanWriteLayers cs (map (numbered_layer F.coding.number) c.args.circuit.now.layers)) (sym (c.deref-3.ensures.value ∙ c.in_ok-coefs.ensures.numbers)) (can_write_layers F.ops F.coding.size F.coding.number F.coding.element F.coding.bytes F.laws F.coding.id c.args.circuit.now c.coefs_of.ensures.valid)
 
 pub returns-clause-same : goal.returns-clause-same
 returns-clause-same g c =
     let F = g.F.Field in
-    let s : Shape = shape F.ID F.BYTES F.size in
-    let w = numbered F.number_of c.args.circuit.now in
+    let s : Shape = shape F.coding.id F.coding.bytes F.coding.size in
+    let w = numbered F.coding.number c.args.circuit.now in
     let cs = constants_of w in
     let ks = coefs_of w.version cs in
     let given = c.constants_part.ensures ∙ ap (λ (v : ℕ). drop (zeros_of v) c.deref.result.now) c.version.ensures.version ∙ ap (drop (zeros_of w.version)) (c.deref.ensures.value ∙ c.in_ok-coefs.ensures.numbers)
@@ -60,5 +60,5 @@ returns-clause-same g c =
 pub returns-clause-file : goal.returns-clause-file
 returns-clause-file g c =
     let F = g.F.Field in
-    let s : Shape = shape F.ID F.BYTES F.size in
-    subst (λ (xs : List ℕ). IsFile F.ops F.number_of s c.args.circuit.now xs) (sym (returns-clause-same g c)) (file_of-IsFile F.ops F.size F.number_of F.element F.BYTES F.laws F.ID c.args.circuit.now c.coefs_of.ensures.valid)
+    let s : Shape = shape F.coding.id F.coding.bytes F.coding.size in
+    subst (λ (xs : List ℕ). IsFile F.ops F.coding.number s c.args.circuit.now xs) (sym (returns-clause-same g c)) (file_of-IsFile F.ops F.coding.size F.coding.number F.coding.element F.coding.bytes F.laws F.coding.id c.args.circuit.now c.coefs_of.ensures.valid)

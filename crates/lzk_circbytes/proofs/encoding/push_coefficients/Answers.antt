@@ -8,7 +8,7 @@ use Rattle.lzk_circbytes.proofs.encoding.push_coefficients.Goals as goal
 
 pub loop-t-preserved : goal.loop-t-preserved
 loop-t-preserved g c =
-    let number = g.F.Field.number_of in
+    let number = g.F.Field.coding.number in
     let terms = c.args.terms.now in
     record {
       same = term_goes_on number c.loop-t.numbers.items c.push_number.new.numbers.items c.loop-t.t-index terms c.t-item.result (c.args.numbers.now.items ++ map (λ t. t.coef) (map (numbered_term number) terms)) c.loop-t-test.true (sym c.t-item.is)
@@ -18,7 +18,7 @@ loop-t-preserved g c =
 
 pub returns-clause-same : goal.returns-clause-same
 returns-clause-same g c =
-    let number = g.F.Field.number_of in
+    let number = g.F.Field.coding.number in
     let terms = c.args.terms.now in
     let all = c.args.numbers.now.items ++ map (λ t. t.coef) (map (numbered_term number) terms) in
     let none = drop_all c.loop-t.t-index terms c.loop-t-test.false in

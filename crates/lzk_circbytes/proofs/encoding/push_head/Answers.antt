@@ -9,14 +9,14 @@ pub returns : goal.returns
 returns g c =
     let F = g.F.Field in
     let circuit = c.args.circuit.now in
-    let s : Shape = shape F.ID F.BYTES F.size in
-    let w = numbered F.number_of circuit in
+    let s : Shape = shape F.coding.id F.coding.bytes F.coding.size in
+    let w = numbered F.coding.number circuit in
     let cs = c.args.constants.now in
-    let depth : c.depth.result ≡ length w.layers = c.depth.ensures.depth ∙ sym (length-map circuit.layers (numbered_layer F.number_of)) in
+    let depth : c.depth.result ≡ length w.layers = c.depth.ensures.depth ∙ sym (length-map circuit.layers (numbered_layer F.coding.number)) in
     head_assembled s w cs c.args.out.now.items c.extend_from_slice.new.self.items c.push.new.self.items c.push-2.new.self.items c.push_word.new.out.items c.push_word-2.new.out.items c.push_word-3.new.out.items c.push_word-4.new.out.items c.push_constants.new.out.items
     c.in_ok-extend_from_slice.ensures.items
     (c.in_ok-push.ensures.items ∙ ap (λ (n : ℕ). c.extend_from_slice.new.self.items ++ (48 + n) ∷ []) c.version.ensures.version)
-    (c.in_ok-push-2.ensures.items ∙ ap (λ (n : ℕ). c.push.new.self.items ++ n ∷ []) c.ID.ensures)
+    (c.in_ok-push-2.ensures.items ∙ ap (λ (n : ℕ). c.push.new.self.items ++ n ∷ []) (c.ID.ensures ∙ g.F.Field.coded_id))
     (c.in_ok-push_word.ensures ∙ ap (λ (n : ℕ). c.push-2.new.self.items ++ to_le_bytes w32 n) c.publics.ensures)
     (c.in_ok-push_word-2.ensures ∙ ap (λ (n : ℕ). c.push_word.new.out.items ++ to_le_bytes w32 n) c.privates.ensures)
     (c.in_ok-push_word-3.ensures ∙ ap (λ (n : ℕ). c.push_word-2.new.out.items ++ to_le_bytes w32 n) depth)

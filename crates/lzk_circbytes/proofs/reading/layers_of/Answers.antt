@@ -11,7 +11,7 @@ use Rattle.lzk_circbytes.proofs.reading.layers_of.Goals as goal
 
 pub loop-init : goal.loop-init
 loop-init g c =
-    let number = g.F.Field.number_of in
+    let number = g.F.Field.coding.number in
     record {
       wires = lit≤ tt;
       terms = lit≤ tt;
@@ -23,12 +23,12 @@ loop-init g c =
 pub returns-in_err-layer-clause-value : goal.returns-in_err-layer-clause-value
 returns-in_err-layer-clause-value g c =
     let p = err_from_is_err_and c.from_residual-in_err-layer.result c.from_residual-in_err-layer.ensures.1 in
-    let numbers = map g.F.Field.number_of c.args.constants.now in
-    rw (p.1, p.2) (ends above_layer (layer_at numbers) c.in_err-layer.field-0.0 (map (numbered_layer g.F.Field.number_of) c.loop.layers.items) c.args.count c.loop.counter (under c.loop.below.width c.loop.below.wires c.loop.below.terms) c.loop.rest.now (layers_at numbers c.args.inputs c.args.count c.args.bytes.now) c.loop-test.true c.in_err-layer.ensures.value c.loop.invariant.read)
+    let numbers = map g.F.Field.coding.number c.args.constants.now in
+    rw (p.1, p.2) (ends above_layer (layer_at numbers) c.in_err-layer.field-0.0 (map (numbered_layer g.F.Field.coding.number) c.loop.layers.items) c.args.count c.loop.counter (under c.loop.below.width c.loop.below.wires c.loop.below.terms) c.loop.rest.now (layers_at numbers c.args.inputs c.args.count c.args.bytes.now) c.loop-test.true c.in_err-layer.ensures.value c.loop.invariant.read)
 
 pub loop-preserved : goal.loop-preserved
 loop-preserved g c =
-    let number = g.F.Field.number_of in
+    let number = g.F.Field.coding.number in
     let view = numbered_layer number in
     let numbers = map number c.args.constants.now in
     let l = c.in_ok-layer.layer in
@@ -45,5 +45,5 @@ loop-preserved g c =
 
 pub returns-clause-value : goal.returns-clause-value
 returns-clause-value g c =
-    let numbers = map g.F.Field.number_of c.args.constants.now in
-    is_done above_layer (layer_at numbers) (map (numbered_layer g.F.Field.number_of) c.loop.layers.items) c.args.count c.loop.counter (under c.loop.below.width c.loop.below.wires c.loop.below.terms) c.loop.rest.now (layers_at numbers c.args.inputs c.args.count c.args.bytes.now) c.loop-test.false c.loop.invariant.read
+    let numbers = map g.F.Field.coding.number c.args.constants.now in
+    is_done above_layer (layer_at numbers) (map (numbered_layer g.F.Field.coding.number) c.loop.layers.items) c.args.count c.loop.counter (under c.loop.below.width c.loop.below.wires c.loop.below.terms) c.loop.rest.now (layers_at numbers c.args.inputs c.args.count c.args.bytes.now) c.loop-test.false c.loop.invariant.read

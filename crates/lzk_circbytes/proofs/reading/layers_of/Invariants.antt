@@ -8,7 +8,7 @@ use Rattle.lzk_circbytes.proofs.reading.layers_of.Given as goal
 
 abbrev pub invariant-loop : goal.invariant-loop
 invariant-loop g l =
-    let number = g.F.Field.number_of in
+    let number = g.F.Field.coding.number in
     record {
       wires : l.below.wires ≤ 2097152;
       terms : l.below.terms ≤ 2097152;

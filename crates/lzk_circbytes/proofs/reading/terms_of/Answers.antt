@@ -10,7 +10,7 @@ use Rattle.lzk_circbytes.proofs.reading.terms_of.Goals as goal
 
 pub loop-init : goal.loop-init
 loop-init g c =
-    let number = g.F.Field.number_of in
+    let number = g.F.Field.coding.number in
     record {
       count = ap length c.in_ok-terms.ensures.items;
       flags = c.requires.flags;
@@ -21,12 +21,12 @@ loop-init g c =
 pub returns-in_err-term-clause-value : goal.returns-in_err-term-clause-value
 returns-in_err-term-clause-value g c =
     let p = err_from_is_err_and c.from_residual-in_err-term.result c.from_residual-in_err-term.ensures.1 in
-    let view = numbered_term g.F.Field.number_of in
-    rw (p.1, p.2) (ends as_before (term_at (map g.F.Field.number_of c.args.constants.now) c.args.wires c.args.below) c.in_err-term.field-0.0 (map view c.loop.terms.items) c.args.count c.loop.counter (option_map view c.loop.before) c.loop.rest.now (terms_at (map g.F.Field.number_of c.args.constants.now) c.args.wires c.args.below c.args.count c.args.bytes.now) c.loop-test.true c.in_err-term.ensures.value c.loop.invariant.read)
+    let view = numbered_term g.F.Field.coding.number in
+    rw (p.1, p.2) (ends as_before (term_at (map g.F.Field.coding.number c.args.constants.now) c.args.wires c.args.below) c.in_err-term.field-0.0 (map view c.loop.terms.items) c.args.count c.loop.counter (option_map view c.loop.before) c.loop.rest.now (terms_at (map g.F.Field.coding.number c.args.constants.now) c.args.wires c.args.below c.args.count c.args.bytes.now) c.loop-test.true c.in_err-term.ensures.value c.loop.invariant.read)
 
 pub loop-preserved : goal.loop-preserved
 loop-preserved g c =
-    let number = g.F.Field.number_of in
+    let number = g.F.Field.coding.number in
     let view = numbered_term number in
     let numbers = map number c.args.constants.now in
     let t = c.in_ok-term.term in
@@ -43,5 +43,5 @@ loop-preserved g c =
 
 pub returns-clause-value : goal.returns-clause-value
 returns-clause-value g c =
-    let view = numbered_term g.F.Field.number_of in
-    is_done as_before (term_at (map g.F.Field.number_of c.args.constants.now) c.args.wires c.args.below) (map view c.loop.terms.items) c.args.count c.loop.counter (option_map view c.loop.before) c.loop.rest.now (terms_at (map g.F.Field.number_of c.args.constants.now) c.args.wires c.args.below c.args.count c.args.bytes.now) c.loop-test.false c.loop.invariant.read
+    let view = numbered_term g.F.Field.coding.number in
+    is_done as_before (term_at (map g.F.Field.coding.number c.args.constants.now) c.args.wires c.args.below) (map view c.loop.terms.items) c.args.count c.loop.counter (option_map view c.loop.before) c.loop.rest.now (terms_at (map g.F.Field.coding.number c.args.constants.now) c.args.wires c.args.below c.args.count c.args.bytes.now) c.loop-test.false c.loop.invariant.read

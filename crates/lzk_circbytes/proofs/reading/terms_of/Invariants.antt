@@ -8,7 +8,7 @@ use Rattle.lzk_circbytes.proofs.reading.terms_of.Given as goal
 
 abbrev pub invariant-loop : goal.invariant-loop
 invariant-loop g l =
-    let number = g.F.Field.number_of in
+    let number = g.F.Field.coding.number in
     record {
       count : length l.terms.items ≡ l.counter;
       flags : length l.used ≡ length l.constants;

@@ -8,7 +8,7 @@ use Rattle.lzk_circuit.proofs.check.check_layers.Goals as goal
 
 pub returns-in_err-check_limits : goal.returns-in_err-check_limits
 returns-in_err-check_limits g c =
-    let number = g.F.Field.number_of in
+    let number = g.F.Field.coding.number in
     let layers = c.args.layers.now in
     let l = c.loop-l.l - 1 in
     let layer = c.index-layers-l.result in
@@ -22,7 +22,7 @@ returns-in_err-check_limits g c =
 
 pub returns-in_err-check_terms : goal.returns-in_err-check_terms
 returns-in_err-check_terms g c =
-    let number = g.F.Field.number_of in
+    let number = g.F.Field.coding.number in
     let layers = c.args.layers.now in
     let l = c.loop-l.l - 1 in
     let layer = c.index-layers-l.result in

@@ -1,5 +1,5 @@
-use Rattle.std.proofs.Common.{refl, ◌≡◌, ◌∙◌, ap, length, map, subst, sym, arith}
-use Rattle.std.specs.Prelude.{[], ◌∷◌, ◌++◌, None}
+use Rattle.std.proofs.Common.{refl, ◌∙◌, ap, length, map, subst, sym}
+use Rattle.std.specs.Prelude.{◌++◌, None}
 use Rattle.lzk_circuit.specs.Checks.{asserted, assertion_wires, inner_checks}
 use Rattle.lzk_circuit.specs.Valid.{ArePlaced, AreLayersOf}
 use Rattle.lzk_circuit.specs.Wires.{wires_of}
@@ -30,7 +30,7 @@ set_asserted-requires-clause-placed g t c κs within =
 pub returns : goal.returns
 returns g t c = λ inputs e.
     let o = g.F.Field.ops in
-    let number = g.F.Field.number_of in
+    let number = g.F.Field.coding.number in
     let layer = c.in-Some.layer.now in
     let rest = c.in-Some.layers.now in
     let lists = c.in-Some-split_first.lists.now in

@@ -23,11 +23,11 @@ loop-i-preserved g c = λ k l.
     let t = c.index-terms-i.result in
     let h = placed-at (length c.args.out.now) (length c.args.below.now) c.loop-i.i None c.args.terms.now t c.requires c.loop-i-test.true in
     let one = subst (λ t. IsPlaced (length c.args.out.now) (length c.args.below.now) t) (sym c.index-terms-i.is) h in
-    elim (cases_eq (m.number_of t.coef) 0) [
+    elim (cases_eq (m.coding.number t.coef) 0) [
       | inl z ↦ adding-step m.ops m.laws.ring c.args.terms.now c.args.below.now c.loop-i.out c.count_asserted_term.new.out c.loop-i.i k t _ c.loop-i-test.true c.index-terms-i.is (omega (arith, one.g, c.loop-i.auto.out))
-          (zero-only m.ops m.size m.number_of m.element m.BYTES m.laws.numbers t.coef z) (c.count_asserted_term.ensures.counts z) (c.loop-i.invariant k l)
+          (zero-only m.ops m.coding.size m.coding.number m.coding.element m.coding.bytes m.laws.numbers t.coef z) (c.count_asserted_term.ensures.counts z) (c.loop-i.invariant k l)
       | inr n ↦ adding-skips m.ops m.laws.ring m.laws.field c.args.terms.now c.args.below.now c.loop-i.out c.count_asserted_term.new.out c.loop-i.i k t _ c.loop-i-test.true c.index-terms-i.is
-          (λ z. n (ap m.number_of z ∙ m.laws.numbers.zero_number)) (c.count_asserted_term.ensures.other n) (c.loop-i.invariant k l)
+          (λ z. n (ap m.coding.number z ∙ m.laws.numbers.zero_number)) (c.count_asserted_term.ensures.other n) (c.loop-i.invariant k l)
     ]
 
 pub returns-clause-sum : goal.returns-clause-sum

@@ -1,4 +1,4 @@
-use Rattle.std.proofs.Common.{ℕ, List, get_or, ◌≡◌, ◌≢◌, ◌<◌, ◌+◌, ◌∙◌, ap, length, map, take, subst, sym, arith}
+use Rattle.std.proofs.Common.{ℕ, List, get_or, ◌≡◌, ◌≢◌, ◌<◌, ◌∙◌, ap, length, map, take, subst, sym, arith}
 use Rattle.std.specs.Prelude.{[], ◌∷◌, None}
 use Rattle.std.proofs.lemmas.List.{take_all, length-append}
 use Rattle.lzk_circuit.specs.declared.layer.Term.{Term}
@@ -29,7 +29,7 @@ product_of-requires-clause-b g c = λ κs le.
 
 pub bounds-out-next : goal.bounds-out-next
 bounds-out-next g c =
-    let number = g.F.Field.number_of in
+    let number = g.F.Field.coding.number in
     let within = wires-within number c.as_slice-terms.result.now c.loop-i.i c.index-terms-i.result c.loop-i-test.true c.index-terms-i.is (sym c.number.ensures ∙ c.if-number-eq0.true) in
     let room = ap (λ ts. length (assertion_wires number ts)) c.as_slice-terms.ensures in
     omega (arith, within, room, c.requires.room, c.loop-i.auto.out, c.loop-i.invariant.next)
@@ -48,25 +48,25 @@ loop-i-preserved g c =
           let z = sym c.number.ensures ∙ w.if-number-eq0.true in
           let one = at layer.wires (length below) c.loop-i.i layer.terms ts t same c.requires.placed c.loop-i-test.true c.index-terms-i.is in
           let value = w.product_of.ensures
-          ∙ sym (asserted-alone m.ops m.laws.ring layer.wires ts below c.loop-i.i t c.loop-i-test.true c.index-terms-i.is (zero-only m.ops m.size m.number_of m.element m.BYTES m.laws.numbers t.coef z)
+          ∙ sym (asserted-alone m.ops m.laws.ring layer.wires ts below c.loop-i.i t c.loop-i-test.true c.index-terms-i.is (zero-only m.ops m.coding.size m.coding.number m.coding.element m.coding.bytes m.laws.numbers t.coef z)
           (subst (ArePlaced layer.wires (length below) None) (sym same) c.requires.placed) (subst (MayEachStand m.ops 2 None) (sym same) c.requires.apart) one) in
-          let within = wires-within m.number_of ts c.loop-i.i t c.loop-i-test.true c.index-terms-i.is z in
-          let room = ap (λ ts. length (assertion_wires m.number_of ts)) same in
+          let within = wires-within m.coding.number ts c.loop-i.i t c.loop-i-test.true c.index-terms-i.is z in
+          let room = ap (λ ts. length (assertion_wires m.coding.number ts)) same in
           let less : c.loop-i.next < length c.loop-i.out = omega (arith, within, room, c.requires.room, c.loop-i.auto.out, c.loop-i.invariant.next) in
-          let more = ap length (wires-more m.number_of ts c.loop-i.i t c.loop-i-test.true c.index-terms-i.is z) ∙ length-append (assertion_wires m.number_of (take c.loop-i.i ts)) (t.g ∷ []) in
+          let more = ap length (wires-more m.coding.number ts c.loop-i.i t c.loop-i-test.true c.index-terms-i.is z) ∙ length-append (assertion_wires m.coding.number (take c.loop-i.i ts)) (t.g ∷ []) in
           record {
             few = omega (arith, w.next-is, c.loop-i.invariant.few);
             next = omega (arith, w.next-is, more, c.loop-i.invariant.next);
             set = ap (λ n. take n c.if-number-eq0.out) w.next-is
-                ∙ setting-step m.number_of f ts c.loop-i.out c.if-number-eq0.out c.loop-i.i c.loop-i.next t w.product_of.result c.loop-i-test.true c.index-terms-i.is z less w.out-is value c.loop-i.invariant.set;
+                ∙ setting-step m.coding.number f ts c.loop-i.out c.if-number-eq0.out c.loop-i.i c.loop-i.next t w.product_of.result c.loop-i-test.true c.index-terms-i.is z less w.out-is value c.loop-i.invariant.set;
           }
       | else-number-eq0 w ↦
-          let n : m.number_of t.coef ≢ 0 = λ z. w.if-number-eq0.false (c.number.ensures ∙ z) in
+          let n : m.coding.number t.coef ≢ 0 = λ z. w.if-number-eq0.false (c.number.ensures ∙ z) in
           record {
             few = omega (arith, w.next-is, c.loop-i.invariant.few);
-            next = w.next-is ∙ c.loop-i.invariant.next ∙ sym (ap length (wires-same m.number_of ts c.loop-i.i t c.loop-i-test.true c.index-terms-i.is n));
+            next = w.next-is ∙ c.loop-i.invariant.next ∙ sym (ap length (wires-same m.coding.number ts c.loop-i.i t c.loop-i-test.true c.index-terms-i.is n));
             set = ap (λ n. take n c.if-number-eq0.out) w.next-is
-                ∙ setting-skips m.number_of f ts c.loop-i.out c.if-number-eq0.out c.loop-i.i c.loop-i.next t c.loop-i-test.true c.index-terms-i.is n w.out-is c.loop-i.invariant.set;
+                ∙ setting-skips m.coding.number f ts c.loop-i.out c.if-number-eq0.out c.loop-i.i c.loop-i.next t c.loop-i-test.true c.index-terms-i.is n w.out-is c.loop-i.invariant.set;
           }
     ]
 
@@ -76,7 +76,7 @@ returns g c =
     let ts = c.as_slice-terms.result.now in
     let same = c.as_slice-terms.ensures in
     let done : take c.loop-i.i ts ≡ ts = take_all c.loop-i.i ts c.loop-i-test.false in
-    let count = ap (λ us. length (assertion_wires m.number_of us)) (done ∙ same) in
+    let count = ap (λ us. length (assertion_wires m.coding.number us)) (done ∙ same) in
     let all : take c.loop-i.next c.loop-i.out ≡ c.loop-i.out = take_all c.loop-i.next c.loop-i.out (omega (arith, count, c.requires.room, c.loop-i.auto.out, c.loop-i.invariant.next)) in
-    sym all ∙ c.loop-i.invariant.set ∙ ap (λ us. map (asserted m.ops ts c.args.below.now) (assertion_wires m.number_of us)) done
-    ∙ ap (λ us. map (asserted m.ops us c.args.below.now) (assertion_wires m.number_of us)) same
+    sym all ∙ c.loop-i.invariant.set ∙ ap (λ us. map (asserted m.ops ts c.args.below.now) (assertion_wires m.coding.number us)) done
+    ∙ ap (λ us. map (asserted m.ops us c.args.below.now) (assertion_wires m.coding.number us)) same

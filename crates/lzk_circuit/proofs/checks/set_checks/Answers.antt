@@ -1,6 +1,6 @@
-use Rattle.std.proofs.Common.{refl, ◌≡◌, ◌∙◌, ap, length, map, subst, sym, arith}
-use Rattle.std.specs.Prelude.{[], ◌∷◌, ◌++◌, None}
-use Rattle.lzk_circuit.specs.Checks.{output_checks, inner_checks, checks_of}
+use Rattle.std.proofs.Common.{refl, ◌∙◌, ap, length, subst, sym, arith}
+use Rattle.std.specs.Prelude.{◌++◌, None}
+use Rattle.lzk_circuit.specs.Checks.{output_checks, checks_of}
 use Rattle.lzk_circuit.specs.Valid.{ArePlaced, AreLayersOf}
 use Rattle.lzk_circuit.specs.Wires.{wires_of}
 use Rattle.lzk_circuit.proofs.CheckLaws.{under-values, top-values, top-length, some-values, placed-over, outputs-set}
@@ -42,7 +42,7 @@ add_asserted-requires-after_bounds g c κs within =
 pub returns : goal.returns
 returns g c = λ inputs e.
     let o = g.F.Field.ops in
-    let number = g.F.Field.number_of in
+    let number = g.F.Field.coding.number in
     let layer = c.in-Some.layer.now in
     let rest = c.in-Some.layers.now in
     let lists = c.in-Some-split_first.lists.now in

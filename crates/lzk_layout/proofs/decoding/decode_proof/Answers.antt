@@ -7,7 +7,7 @@ use Rattle.lzk_layout.proofs.ReadProof.{some_proof}
 use Rattle.lzk_layout.proofs.decoding.decode_proof.Goals as goal
 
 pub overflow_sub-result : goal.overflow_sub-result
-overflow_sub-result g c = proof_left (shape g.F.Field.BYTES g.F.Field.size) c.args.params.now c.args.bytes.now c.in-Err.stop c.in-Err.ensures.read
+overflow_sub-result g c = proof_left (shape g.F.Field.coding.bytes g.F.Field.coding.size) c.args.params.now c.args.bytes.now c.in-Err.stop c.in-Err.ensures.read
 
 pub returns-in-Ok-clause-proof : goal.returns-in-Ok-clause-proof
 returns-in-Ok-clause-proof g c =
@@ -19,42 +19,42 @@ returns-in-Ok-clause-proof g c =
       root = h.root;
       nonces = h.nonces;
       path = h.path;
-      are = proof_takes (shape g.F.Field.BYTES g.F.Field.size) c.args.params.now c.args.bytes.now _ h.read;
+      are = proof_takes (shape g.F.Field.coding.bytes g.F.Field.coding.size) c.args.params.now c.args.bytes.now _ h.read;
     }
 
 pub returns-in-Ok-clause-read : goal.returns-in-Ok-clause-read
 returns-in-Ok-clause-read g c = λ q f. (
   refl,
-  one_proof g.F.Field.ops g.F.Field.size g.F.Field.number_of g.F.Field.element g.F.Field.BYTES g.F.Field.laws c.args.params.now c.args.bytes.now q c.file_into.new.proof f (returns-in-Ok-clause-proof g c),
+  one_proof g.F.Field.ops g.F.Field.coding.size g.F.Field.coding.number g.F.Field.coding.element g.F.Field.coding.bytes g.F.Field.laws c.args.params.now c.args.bytes.now q c.file_into.new.proof f (returns-in-Ok-clause-proof g c),
 )
 
 pub returns-in-Ok-clause-one_proof : goal.returns-in-Ok-clause-one_proof
-returns-in-Ok-clause-one_proof g c = one_proof g.F.Field.ops g.F.Field.size g.F.Field.number_of g.F.Field.element g.F.Field.BYTES g.F.Field.laws c.args.params.now
+returns-in-Ok-clause-one_proof g c = one_proof g.F.Field.ops g.F.Field.coding.size g.F.Field.coding.number g.F.Field.coding.element g.F.Field.coding.bytes g.F.Field.laws c.args.params.now
 
 pub returns-in-Ok-clause-no_fault : goal.returns-in-Ok-clause-no_fault
-returns-in-Ok-clause-no_fault g c = no_fault g.F.Field.ops g.F.Field.size g.F.Field.number_of g.F.Field.element g.F.Field.BYTES g.F.Field.laws c.args.params.now
+returns-in-Ok-clause-no_fault g c = no_fault g.F.Field.ops g.F.Field.coding.size g.F.Field.coding.number g.F.Field.coding.element g.F.Field.coding.bytes g.F.Field.laws c.args.params.now
 
 pub returns-in-Err-clause-fault : goal.returns-in-Err-clause-fault
-returns-in-Err-clause-fault g c = fault_found (shape g.F.Field.BYTES g.F.Field.size) c.args.params.now c.args.bytes.now c.in-Err.stop.left c.in-Err.stop.kind c.in-Err.ensures.read
+returns-in-Err-clause-fault g c = fault_found (shape g.F.Field.coding.bytes g.F.Field.coding.size) c.args.params.now c.args.bytes.now c.in-Err.stop.left c.in-Err.stop.kind c.in-Err.ensures.read
 
 pub returns-in-Err-clause-no_proof : goal.returns-in-Err-clause-no_proof
 returns-in-Err-clause-no_proof g c =
-    no_proof g.F.Field.ops g.F.Field.size g.F.Field.number_of g.F.Field.element g.F.Field.BYTES g.F.Field.laws c.args.params.now c.args.bytes.now c.in-Err.stop c.in-Err.ensures.read
+    no_proof g.F.Field.ops g.F.Field.coding.size g.F.Field.coding.number g.F.Field.coding.element g.F.Field.coding.bytes g.F.Field.laws c.args.params.now c.args.bytes.now c.in-Err.stop c.in-Err.ensures.read
 
 pub returns-in-Err-clause-read : goal.returns-in-Err-clause-read
 returns-in-Err-clause-read g c = λ q f. absurd (returns-in-Err-clause-no_proof g c q f)
 
 pub returns-in-Err-clause-one_proof : goal.returns-in-Err-clause-one_proof
-returns-in-Err-clause-one_proof g c = one_proof g.F.Field.ops g.F.Field.size g.F.Field.number_of g.F.Field.element g.F.Field.BYTES g.F.Field.laws c.args.params.now
+returns-in-Err-clause-one_proof g c = one_proof g.F.Field.ops g.F.Field.coding.size g.F.Field.coding.number g.F.Field.coding.element g.F.Field.coding.bytes g.F.Field.laws c.args.params.now
 
 pub returns-in-Err-clause-no_fault : goal.returns-in-Err-clause-no_fault
-returns-in-Err-clause-no_fault g c = no_fault g.F.Field.ops g.F.Field.size g.F.Field.number_of g.F.Field.element g.F.Field.BYTES g.F.Field.laws c.args.params.now
+returns-in-Err-clause-no_fault g c = no_fault g.F.Field.ops g.F.Field.coding.size g.F.Field.coding.number g.F.Field.coding.element g.F.Field.coding.bytes g.F.Field.laws c.args.params.now
 
 pub returns-in-Ok-clause-length : goal.returns-in-Ok-clause-length
-returns-in-Ok-clause-length g c = file_length g.F.Field.BYTES g.F.Field.number_of c.args.params.now c.file_into.new.proof c.args.bytes.now (returns-in-Ok-clause-proof g c)
+returns-in-Ok-clause-length g c = file_length g.F.Field.coding.bytes g.F.Field.coding.number c.args.params.now c.file_into.new.proof c.args.bytes.now (returns-in-Ok-clause-proof g c)
 
 pub returns-in-Ok-clause-some_proof : goal.returns-in-Ok-clause-some_proof
-returns-in-Ok-clause-some_proof g c = some_proof g.F.Field.ops g.F.Field.size g.F.Field.number_of g.F.Field.element g.F.Field.BYTES g.F.Field.laws c.args.params.now
+returns-in-Ok-clause-some_proof g c = some_proof g.F.Field.ops g.F.Field.coding.size g.F.Field.coding.number g.F.Field.coding.element g.F.Field.coding.bytes g.F.Field.laws c.args.params.now
 
 pub returns-in-Err-clause-some_proof : goal.returns-in-Err-clause-some_proof
-returns-in-Err-clause-some_proof g c = some_proof g.F.Field.ops g.F.Field.size g.F.Field.number_of g.F.Field.element g.F.Field.BYTES g.F.Field.laws c.args.params.now
+returns-in-Err-clause-some_proof g c = some_proof g.F.Field.ops g.F.Field.coding.size g.F.Field.coding.number g.F.Field.coding.element g.F.Field.coding.bytes g.F.Field.laws c.args.params.now

@@ -11,8 +11,8 @@ use Rattle.lzk_layout.proofs.decoding.file_into.Goals as goal
 
 pub returns-in_err-rest-clause-read : goal.returns-in_err-rest-clause-read
 returns-in_err-rest-clause-read g c =
-    let s = shape g.F.Field.BYTES g.F.Field.size in
-    let field = element_field g.F.Field.BYTES g.F.Field.number_of in
+    let s = shape g.F.Field.coding.bytes g.F.Field.coding.size in
+    let field = element_field g.F.Field.coding.bytes g.F.Field.coding.number in
     let p = c.args.params.now in
     let bytes = c.args.bytes.now in
     let e = err_from_is_err_and c.from_residual.result c.from_residual.ensures.1 in
@@ -21,8 +21,8 @@ returns-in_err-rest-clause-read g c =
 
 pub returns-in_err-rest-2-clause-read : goal.returns-in_err-rest-2-clause-read
 returns-in_err-rest-2-clause-read g c =
-    let s = shape g.F.Field.BYTES g.F.Field.size in
-    let field = element_field g.F.Field.BYTES g.F.Field.number_of in
+    let s = shape g.F.Field.coding.bytes g.F.Field.coding.size in
+    let field = element_field g.F.Field.coding.bytes g.F.Field.coding.number in
     let p = c.args.params.now in
     let bytes = c.args.bytes.now in
     let e = err_from_is_err_and c.from_residual-in_err-rest-2.result c.from_residual-in_err-rest-2.ensures.1 in
@@ -34,8 +34,8 @@ returns-in_err-rest-2-clause-read g c =
 
 pub returns-in_err-rest-3-clause-read : goal.returns-in_err-rest-3-clause-read
 returns-in_err-rest-3-clause-read g c =
-    let s = shape g.F.Field.BYTES g.F.Field.size in
-    let field = element_field g.F.Field.BYTES g.F.Field.number_of in
+    let s = shape g.F.Field.coding.bytes g.F.Field.coding.size in
+    let field = element_field g.F.Field.coding.bytes g.F.Field.coding.number in
     let p = c.args.params.now in
     let bytes = c.args.bytes.now in
     let e = err_from_is_err_and c.from_residual-in_err-rest-3.result c.from_residual-in_err-rest-3.ensures.1 in
@@ -51,8 +51,8 @@ returns-in_err-rest-3-clause-read g c =
 
 pub returns-in_err-rest-4-clause-read : goal.returns-in_err-rest-4-clause-read
 returns-in_err-rest-4-clause-read g c =
-    let s = shape g.F.Field.BYTES g.F.Field.size in
-    let field = element_field g.F.Field.BYTES g.F.Field.number_of in
+    let s = shape g.F.Field.coding.bytes g.F.Field.coding.size in
+    let field = element_field g.F.Field.coding.bytes g.F.Field.coding.number in
     let p = c.args.params.now in
     let bytes = c.args.bytes.now in
     let e = err_from_is_err_and c.from_residual-in_err-rest-4.result c.from_residual-in_err-rest-4.ensures.1 in
@@ -70,8 +70,8 @@ returns-in_err-rest-4-clause-read g c =
 
 pub returns-then-not-is_empty-clause-read : goal.returns-then-not-is_empty-clause-read
 returns-then-not-is_empty-clause-read g c =
-    let s = shape g.F.Field.BYTES g.F.Field.size in
-    let field = element_field g.F.Field.BYTES g.F.Field.number_of in
+    let s = shape g.F.Field.coding.bytes g.F.Field.coding.size in
+    let field = element_field g.F.Field.coding.bytes g.F.Field.coding.number in
     let p = c.args.params.now in
     let bytes = c.args.bytes.now in
     let q = c.head_into.new.proof in
@@ -88,8 +88,8 @@ returns-then-not-is_empty-clause-read g c =
 
 pub returns-clause-read : goal.returns-clause-read
 returns-clause-read g c =
-    let s = shape g.F.Field.BYTES g.F.Field.size in
-    let field = element_field g.F.Field.BYTES g.F.Field.number_of in
+    let s = shape g.F.Field.coding.bytes g.F.Field.coding.size in
+    let field = element_field g.F.Field.coding.bytes g.F.Field.coding.number in
     let p = c.args.params.now in
     let bytes = c.args.bytes.now in
     let q = c.head_into.new.proof in

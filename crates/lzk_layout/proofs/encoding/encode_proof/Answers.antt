@@ -7,8 +7,8 @@ use Rattle.lzk_layout.proofs.encoding.encode_proof.Goals as goal
 
 pub returns-clause-file : goal.returns-clause-file
 returns-clause-file g c =
-    let field = element_field g.F.Field.BYTES g.F.Field.number_of in
-    let width = g.F.Field.BYTES in
+    let field = element_field g.F.Field.coding.bytes g.F.Field.coding.number in
+    let width = g.F.Field.coding.bytes in
     let p = c.args.params.now in
     let proof = c.args.proof.now in
     let lengths = c.requires.lengths in
@@ -35,4 +35,4 @@ returns-clause-file g c =
     }
 
 pub returns-clause-one_file : goal.returns-clause-one_file
-returns-clause-one_file g c = one_file g.F.Field.BYTES g.F.Field.number_of c.args.params.now
+returns-clause-one_file g c = one_file g.F.Field.coding.bytes g.F.Field.coding.number c.args.params.now

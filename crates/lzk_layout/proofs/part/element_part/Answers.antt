@@ -13,17 +13,17 @@ pub returns-then-k-params-3 : goal.returns-then-k-params-3
 returns-then-k-params-3 c =
     sym (dot_at c.args.params.now (opened_parts c.args.params.now.nrow 128 ++ path_parts c.args.digests) c.args.k c.if-k-params.false c.if-k-params-2.false c.if-k-params-3.true)
 
-pub returns-then-k-lt128 : goal.returns-then-k-lt128
-returns-then-k-lt128 c =
-    sym (head_at c.args.params.now (opened_parts c.args.params.now.nrow 128 ++ path_parts c.args.digests) c.args.k c.if-k-params.false c.if-k-params-2.false c.if-k-params-3.false c.if-k-lt128.true)
+pub returns-then-k : goal.returns-then-k
+returns-then-k c =
+    sym (head_at c.args.params.now (opened_parts c.args.params.now.nrow 128 ++ path_parts c.args.digests) c.args.k c.if-k-params.false c.if-k-params-2.false c.if-k-params-3.false c.if-k.true)
 
 pub returns-then-k-tail : goal.returns-then-k-tail
 returns-then-k-tail c =
-    sym (tail_at c.args.params.now (opened_parts c.args.params.now.nrow 128 ++ path_parts c.args.digests) c.args.k c.if-k-params.false c.if-k-params-2.false c.if-k-params-3.false c.if-k-lt128.false
+    sym (tail_at c.args.params.now (opened_parts c.args.params.now.nrow 128 ++ path_parts c.args.digests) c.args.k c.if-k-params.false c.if-k-params-2.false c.if-k-params-3.false c.if-k.false
     c.if-k-tail.true)
 
 pub returns : goal.returns
 returns c =
     c.opened_part.ensures
-    ∙ sym (past_elements c.args.params.now (opened_parts c.args.params.now.nrow 128 ++ path_parts c.args.digests) c.args.k c.if-k-params.false c.if-k-params-2.false c.if-k-params-3.false c.if-k-lt128.false
+    ∙ sym (past_elements c.args.params.now (opened_parts c.args.params.now.nrow 128 ++ path_parts c.args.digests) c.args.k c.if-k-params.false c.if-k-params-2.false c.if-k-params-3.false c.if-k.false
     c.if-k-tail.false)

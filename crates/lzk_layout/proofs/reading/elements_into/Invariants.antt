@@ -6,6 +6,6 @@ use Rattle.lzk_layout.proofs.reading.elements_into.Given as goal
 
 abbrev pub invariant-loop-i : goal.invariant-loop-i
 invariant-loop-i g l =
-    let s = shape g.F.Field.BYTES g.F.Field.size in
+    let s = shape g.F.Field.coding.bytes g.F.Field.coding.size in
     let n = length l.initial.out in
-    fields_at s (replicate n element) l.bytes ≡ behind (map (element_field g.F.Field.BYTES g.F.Field.number_of) (take l.i l.out)) (fields_at s (replicate (n - l.i) element) l.rest)
+    fields_at s (replicate n element) l.bytes ≡ behind (map (element_field g.F.Field.coding.bytes g.F.Field.coding.number) (take l.i l.out)) (fields_at s (replicate (n - l.i) element) l.rest)

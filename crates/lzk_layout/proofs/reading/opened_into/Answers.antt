@@ -8,8 +8,8 @@ use Rattle.lzk_layout.proofs.reading.opened_into.Goals as goal
 
 pub returns-in_err-nonce-clause-read : goal.returns-in_err-nonce-clause-read
 returns-in_err-nonce-clause-read g c =
-    let s = shape g.F.Field.BYTES g.F.Field.size in
-    let field = element_field g.F.Field.BYTES g.F.Field.number_of in
+    let s = shape g.F.Field.coding.bytes g.F.Field.coding.size in
+    let field = element_field g.F.Field.coding.bytes g.F.Field.coding.number in
     let rows = c.args.rows in
     let p = err_from_is_err_and c.from_residual.result c.from_residual.ensures.1 in
     let so_far = opened_fields field rows (take c.loop-i.i c.loop-i.nonces) (take c.loop-i.at c.loop-i.columns) in
@@ -17,8 +17,8 @@ returns-in_err-nonce-clause-read g c =
 
 pub returns-in_err-rest-clause-read : goal.returns-in_err-rest-clause-read
 returns-in_err-rest-clause-read g c =
-    let s = shape g.F.Field.BYTES g.F.Field.size in
-    let field = element_field g.F.Field.BYTES g.F.Field.number_of in
+    let s = shape g.F.Field.coding.bytes g.F.Field.coding.size in
+    let field = element_field g.F.Field.coding.bytes g.F.Field.coding.number in
     let rows = c.args.rows in
     let p = err_from_is_err_and c.from_residual-in_err-rest.result c.from_residual-in_err-rest.ensures.1 in
     let so_far = opened_fields field rows (take c.loop-i.i c.loop-i.nonces) (take c.loop-i.at c.loop-i.columns) in
@@ -30,8 +30,8 @@ returns-in_err-rest-clause-read g c =
 
 pub loop-i-preserved : goal.loop-i-preserved
 loop-i-preserved g c =
-    let s = shape g.F.Field.BYTES g.F.Field.size in
-    let field = element_field g.F.Field.BYTES g.F.Field.number_of in
+    let s = shape g.F.Field.coding.bytes g.F.Field.coding.size in
+    let field = element_field g.F.Field.coding.bytes g.F.Field.coding.number in
     let rows = c.args.rows in
     let n = length c.args.nonces.now in
     let so_far = opened_fields field rows (take c.loop-i.i c.loop-i.nonces) (take c.loop-i.at c.loop-i.columns) in
@@ -51,8 +51,8 @@ loop-i-preserved g c =
 
 pub returns-clause-read : goal.returns-clause-read
 returns-clause-read g c =
-    let s = shape g.F.Field.BYTES g.F.Field.size in
-    let field = element_field g.F.Field.BYTES g.F.Field.number_of in
+    let s = shape g.F.Field.coding.bytes g.F.Field.coding.size in
+    let field = element_field g.F.Field.coding.bytes g.F.Field.coding.number in
     let n = length c.args.nonces.now in
     let wide : length c.loop-i.columns ≡ n * c.args.rows = omega arith in
     columns_done field s c.args.rows n c.loop-i.i c.loop-i.at _ c.loop-i.nonces c.loop-i.columns c.loop-i.rest.now c.loop-i-test.false (omega arith) (omega arith) wide c.loop-i.invariant.at c.loop-i.invariant.read

@@ -6,8 +6,8 @@ use Rattle.lzk_layout.proofs.reading.opened_into.Given as goal
 
 abbrev pub invariant-loop-i : goal.invariant-loop-i
 invariant-loop-i g l =
-    let s = shape g.F.Field.BYTES g.F.Field.size in
-    let field = element_field g.F.Field.BYTES g.F.Field.number_of in
+    let s = shape g.F.Field.coding.bytes g.F.Field.coding.size in
+    let field = element_field g.F.Field.coding.bytes g.F.Field.coding.number in
     let n = length l.initial.nonces in
     record {
       at : l.at ≡ l.i * l.rows;

@@ -29,9 +29,9 @@ loop-p-preserved g c =
     let next : (p + 1) * plan.piece ≡ at + plan.piece = add-mul p 1 plan.piece ∙ omega arith in
     let long : length list ≡ n = omega (arith, c.backward.auto.values, c.sum_products.auto.out, c.loop-p.auto.convolved, c.requires.convolved) in
     let whole : length c.loop-p.out + plan.count ≡ plan.upto = omega (arith, c.loop-p.auto.out, c.requires.out) in
-    let conv : (t : ℕ) → t < n → entry o list t ≡ o.times (doubled o d.bits) (convolutions o m.element d plan values ws p plan.blocks t) =
+    let conv : (t : ℕ) → t < n → entry o list t ≡ o.times (doubled o d.bits) (convolutions o m.coding.element d plan values ws p plan.blocks t) =
     λ t h.
-    c.backward.ensures.entries (convolutions o m.element d plan values ws p plan.blocks)
+    c.backward.ensures.entries (convolutions o m.coding.element d plan values ws p plan.blocks)
     (λ j l. c.sum_products.ensures values ws c.backward.ensures.root c.transform_blocks.ensures j l)
     t (omega (arith, long, h)) in
     λ k below inside. elim (dec_lt k at) [
@@ -39,24 +39,24 @@ loop-p-preserved g c =
       | no l ↦
           let y = k - at in
           let j = plan.count + k in
-          let x = m.element j in
+          let x = m.coding.element j in
           let there : from_of plan p + y ≡ j = omega arith in
           let small : y < plan.piece = omega (arith, below, next) in
           let reached : k < length c.loop-p.out = omega (arith, inside, c.set_products.auto.out) in
           let limit : from_of plan p + y < plan.upto = omega (arith, there, reached, whole) in
           let full : min (plan.blocks * plan.block) plan.count ≡ length values = omega (arith, planned.blocks.all, c.requires.values) in
           let within : k < length products = omega (arith, c.requires.passed.0, reached, whole) in
-          let sum : entry o list (first + y) ≡ parts o m.element values (length values) x =
+          let sum : entry o list (first + y) ≡ parts o m.coding.element values (length values) x =
           conv (first + y) (omega (arith, small, planned.room, planned.some))
-          ∙ blocks_add o r m.laws.field m.element plan values x (doubled o d.bits) (λ v. convolution o m.element d plan values ws p v (first + y)) planned.blocks
-          (λ v h. block_adds o r m.laws.field m.element d plan values ws p v y planned h begins small limit c.requires.values c.requires.ready.even c.requires.weights c.requires.ready.inverse_size
-          ∙ ap (λ z. sum_below o (end_of plan v - v * plan.block) (λ i. part o m.element values (v * plan.block + i) (m.element z))) there)
+          ∙ blocks_add o r m.laws.field m.coding.element plan values x (doubled o d.bits) (λ v. convolution o m.coding.element d plan values ws p v (first + y)) planned.blocks
+          (λ v h. block_adds o r m.laws.field m.coding.element d plan values ws p v y planned h begins small limit c.requires.values c.requires.ready.even c.requires.weights c.requires.ready.inverse_size
+          ∙ ap (λ z. sum_below o (end_of plan v - v * plan.block) (λ i. part o m.coding.element values (v * plan.block + i) (m.coding.element z))) there)
           plan.blocks (omega arith)
-          ∙ ap (λ z. parts o m.element values z x) full in
-          let product : entry o products k ≡ passed o m.element (length values) x =
-          c.requires.passed.1 k within ∙ ap (λ z. passed o m.element z x) (sym c.requires.values) in
+          ∙ ap (λ z. parts o m.coding.element values z x) full in
+          let product : entry o products k ≡ passed o m.coding.element (length values) x =
+          c.requires.passed.1 k within ∙ ap (λ z. passed o m.coding.element z x) (sym c.requires.values) in
           c.set_products.ensures.inside k (omega arith) (omega (arith, c.min-to.ensures, below, next, reached))
           ∙ ap (λ u. o.times u (entry o products k)) sum
-          ∙ ap (o.times (parts o m.element values (length values) x)) product
+          ∙ ap (o.times (parts o m.coding.element values (length values) x)) product
           ∙ parts_extension m.laws values j (omega (arith, c.requires.values)) (omega (arith, reached, whole, planned.limit))
     ]

@@ -58,14 +58,14 @@ loop-v-init g c =
     let first = p * c.size-size.result in
     let size : c.size-size.result ≡ 2 ^ d.bits = c.size-size.ensures.value in
     let some : 0 < plan.blocks = blocks_some plan d.bits ready.planned in
-    let kernel : IsKernel o m.element d plan.upto (from_of plan p + 1 - end_of plan 0) ks ((0 * plan.pieces + p) * 2 ^ d.bits) =
-    subst (λ (zs : List g.row.F.Denot). IsKernel o m.element d plan.upto (from_of plan p + 1 - end_of plan 0) zs ((0 * plan.pieces + p) * 2 ^ d.bits)) (sym c.deref.ensures.value) (ready.kernels 0 p some c.requires.piece) in
+    let kernel : IsKernel o m.coding.element d plan.upto (from_of plan p + 1 - end_of plan 0) ks ((0 * plan.pieces + p) * 2 ^ d.bits) =
+    subst (λ (zs : List g.row.F.Denot). IsKernel o m.coding.element d plan.upto (from_of plan p + 1 - end_of plan 0) zs ((0 * plan.pieces + p) * 2 ^ d.bits)) (sym c.deref.ensures.value) (ready.kernels 0 p some c.requires.piece) in
     let place : first ≡ (0 * plan.pieces + p) * 2 ^ d.bits = ap (λ k. p * k) size ∙ (let same : p ≡ 0 * plan.pieces + p = omega arith in ap (λ k. k * 2 ^ d.bits) same) in
     λ values ws root known j h.
     let below : j < 2 ^ d.bits = omega (arith, h, c.multiply.auto.out, c.requires.out) in
     let start : j ≡ 0 * 2 ^ d.bits + j = omega arith in
     c.multiply.ensures j h
-    ∙ first_product o m.laws.ring m.element d plan values ws p j (entry o (take c.size-size.result c.args.spectra.now) j) (entry o (take (first + c.size-size.result - first) (drop first ks)) j) root
+    ∙ first_product o m.laws.ring m.coding.element d plan values ws p j (entry o (take c.size-size.result c.args.spectra.now) j) (entry o (take (first + c.size-size.result - first) (drop first ks)) j) root
     (get_or-take c.size-size.result c.args.spectra.now j o.zero (omega (arith, below, size)) ∙ ap (entry o c.args.spectra.now) start ∙ known 0 j some below)
     (entry-part o ks first (first + c.size-size.result - first) j (omega (arith, below, size)) ∙ ap (λ k. entry o ks (k + j)) place ∙ kernel.values j below)
 
@@ -101,13 +101,13 @@ loop-v-preserved g c =
     let place = (v * plan.pieces + p) * n in
     let at = v * n in
     let size : n ≡ 2 ^ d.bits = c.size-size.ensures.value in
-    let kernel : IsKernel o m.element d plan.upto (from_of plan p + 1 - end_of plan v) ks ((v * plan.pieces + p) * 2 ^ d.bits) =
-    subst (λ (zs : List g.row.F.Denot). IsKernel o m.element d plan.upto (from_of plan p + 1 - end_of plan v) zs ((v * plan.pieces + p) * 2 ^ d.bits)) (sym c.deref-in-loop-v.ensures.value) (ready.kernels v p c.loop-v-test.true c.requires.piece) in
+    let kernel : IsKernel o m.coding.element d plan.upto (from_of plan p + 1 - end_of plan v) ks ((v * plan.pieces + p) * 2 ^ d.bits) =
+    subst (λ (zs : List g.row.F.Denot). IsKernel o m.coding.element d plan.upto (from_of plan p + 1 - end_of plan v) zs ((v * plan.pieces + p) * 2 ^ d.bits)) (sym c.deref-in-loop-v.ensures.value) (ready.kernels v p c.loop-v-test.true c.requires.piece) in
     λ values ws root known j h.
     let before : j < length c.loop-v.out = omega (arith, h, c.add_products.auto.out) in
     let below : j < 2 ^ d.bits = omega (arith, before, c.loop-v.auto.out, c.multiply.auto.out, c.requires.out) in
     c.add_products.ensures j h
-    ∙ next_product o m.laws.ring m.element d plan values ws p v j (entry o c.loop-v.out j) (entry o (take (at + n - at) (drop at c.args.spectra.now)) j) (entry o (take (place + n - place) (drop place ks)) j) root
+    ∙ next_product o m.laws.ring m.coding.element d plan values ws p v j (entry o c.loop-v.out j) (entry o (take (at + n - at) (drop at c.args.spectra.now)) j) (entry o (take (place + n - place) (drop place ks)) j) root
     (c.loop-v.invariant values ws root known j before)
     (entry-part o c.args.spectra.now at (at + n - at) j (omega (arith, below, size)) ∙ ap (λ k. entry o c.args.spectra.now (v * k + j)) size ∙ spectra_at o d plan values ws c.args.spectra.now known v j c.loop-v-test.true below)
     (entry-part o ks place (place + n - place) j (omega (arith, below, size)) ∙ ap (λ k. entry o ks ((v * plan.pieces + p) * k + j)) size ∙ kernel.values j below)
@@ -119,4 +119,4 @@ returns g c =
     let plan = c.args.kernels.now.plan in
     let some : 0 < plan.blocks = blocks_some plan d.bits c.requires.ready.planned in
     let all : c.loop-v.v ≡ plan.blocks = omega (arith, some) in
-    λ values ws root known j h. c.loop-v.invariant values ws root known j h ∙ ap (λ n. spectrum m.ops d.bits d.root (convolutions m.ops m.element d plan values ws c.args.p n) j) all
+    λ values ws root known j h. c.loop-v.invariant values ws root known j h ∙ ap (λ n. spectrum m.ops d.bits d.root (convolutions m.ops m.coding.element d plan values ws c.args.p n) j) all

@@ -17,7 +17,7 @@ returns g c =
       ap length same ∙ omega (arith, c.forward.auto.values, c.deref_mut.ensures.len, c.loop-t.list.ok, whole),
       λ j h.
           ap (λ zs. entry o zs j) same
-          ∙ kernel_is o m.laws.ring m.laws.field m.element d.bits d.root c.args.scale c.args.first j c.args.inverses.now c.deref_mut.result.now new c.requires.table c.requires.positive
+          ∙ kernel_is o m.laws.ring m.laws.field m.coding.element d.bits d.root c.args.scale c.args.first j c.args.inverses.now c.deref_mut.result.now new c.requires.table c.requires.positive
           (λ i l. ap (λ zs. entry o zs i) c.deref_mut.ensures.value ∙ inv.entries i (omega (arith, whole)))
           (c.forward.ensures j (omega (arith, c.forward.auto.values, c.deref_mut.ensures.len, c.loop-t.list.ok, whole))),
     )

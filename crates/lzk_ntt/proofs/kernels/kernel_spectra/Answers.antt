@@ -15,16 +15,16 @@ loop-p-preserved g c =
     let scale = c.inverse_size-scale.result in
     let ks = c.loop-p.all.items in
     let list = c.in_ok-list.list.items in
-    built_more o m.element d plan v p scale ks list c.extend_from_slice.new.self.items c.loop-p.invariant
+    built_more o m.coding.element d plan v p scale ks list c.extend_from_slice.new.self.items c.loop-p.invariant
     (c.in_ok-extend_from_slice.ensures.items ∙ ap (λ zs. ks ++ zs) c.deref.ensures.value)
     c.in_ok-list.ensures.0
     (c.inverse_size-scale.ensures.value ∙ ap (λ b. o.inverse (doubled o b)) c.bits.ensures)
     (λ j h.
     c.in_ok-list.ensures.1 j h
-    ∙ ap (λ u. spectrum o d.bits d.root (kernel_entry o m.element scale u (from_of plan p + 1 - c.min-end.result)) j) c.requires.points
-    ∙ ap (λ e. spectrum o d.bits d.root (kernel_entry o m.element scale plan.upto (from_of plan p + 1 - e)) j) c.min-end.ensures)
+    ∙ ap (λ u. spectrum o d.bits d.root (kernel_entry o m.coding.element scale u (from_of plan p + 1 - c.min-end.result)) j) c.requires.points
+    ∙ ap (λ e. spectrum o d.bits d.root (kernel_entry o m.coding.element scale plan.upto (from_of plan p + 1 - e)) j) c.min-end.ensures)
 
 pub loop-v-preserved : goal.loop-v-preserved
 loop-v-preserved g c =
     let m = g.F.Field in
-    built_block m.ops m.element c.args.transform.now c.args.plan c.loop-v.v c.loop-p.p c.loop-p.all.items (omega arith) c.loop-p.invariant
+    built_block m.ops m.coding.element c.args.transform.now c.args.plan c.loop-v.v c.loop-p.p c.loop-p.all.items (omega arith) c.loop-p.invariant

@@ -11,8 +11,8 @@ returns-then-count-size g t c =
     let m = g.F.Field in
     λ h running inverted i l.
     c.set_all-then-count-size.ensures i l
-    ∙ fill_whole m.ops m.laws.ring m.element h c.args.bits c.args.base c.args.count (length c.args.out.now) i c.args.scale c.with_block.result (zero_element m.laws.numbers) c.requires.whole c.requires.binary c.requires.aligned c.if-count-size.true (omega arith)
-    (c.with_block.ensures (λ k. h (m.element k)) running inverted)
+    ∙ fill_whole m.ops m.laws.ring m.coding.element h c.args.bits c.args.base c.args.count (length c.args.out.now) i c.args.scale c.with_block.result (zero_element m.laws.numbers) c.requires.whole c.requires.binary c.requires.aligned c.if-count-size.true (omega arith)
+    (c.with_block.ensures (λ k. h (m.coding.element k)) running inverted)
 
 pub fill-requires-clause-whole : goal.fill-requires-clause-whole
 fill-requires-clause-whole g t c κs within = let half = halves c.args.bits (length c.args.out.now) c.requires.whole (omega arith) in omega (arith, half.1, c.split_at_mut-low.ensures.front_len)
@@ -20,7 +20,7 @@ fill-requires-clause-whole g t c κs within = let half = halves c.args.bits (len
 pub fill-requires-clause-aligned : goal.fill-requires-clause-aligned
 fill-requires-clause-aligned g t c κs within =
     let half = halves c.args.bits (length c.args.out.now) c.requires.whole (omega arith) in
-    below_low g.F.Field.ops g.F.Field.laws.ring g.F.Field.element c.args.bits c.args.base half.0 c.requires.aligned
+    below_low g.F.Field.ops g.F.Field.laws.ring g.F.Field.coding.element c.args.bits c.args.base half.0 c.requires.aligned
 
 pub fill-requires-then-count-half-clause-whole : goal.fill-requires-then-count-half-clause-whole
 fill-requires-then-count-half-clause-whole g t c κs within = let half = halves c.args.bits (length c.args.out.now) c.requires.whole (omega arith) in omega (arith, half.1, half.2, c.split_at_mut-low.ensures.back_len)
@@ -28,7 +28,7 @@ fill-requires-then-count-half-clause-whole g t c κs within = let half = halves 
 pub fill-requires-then-count-half-clause-aligned : goal.fill-requires-then-count-half-clause-aligned
 fill-requires-then-count-half-clause-aligned g t c κs within =
     let half = halves c.args.bits (length c.args.out.now) c.requires.whole (omega arith) in
-    below_high g.F.Field.ops g.F.Field.laws.ring g.F.Field.element c.args.bits c.args.base (length c.args.out.now / 2) half.0 half.1 c.requires.binary c.requires.aligned
+    below_high g.F.Field.ops g.F.Field.laws.ring g.F.Field.coding.element c.args.bits c.args.base (length c.args.out.now / 2) half.0 half.1 c.requires.binary c.requires.aligned
 
 pub fill-requires-else-count-half-clause-whole : goal.fill-requires-else-count-half-clause-whole
 fill-requires-else-count-half-clause-whole g t c κs within = let half = halves c.args.bits (length c.args.out.now) c.requires.whole (omega arith) in omega (arith, half.1, c.split_at_mut-low.ensures.front_len)
@@ -36,7 +36,7 @@ fill-requires-else-count-half-clause-whole g t c κs within = let half = halves 
 pub fill-requires-else-count-half-clause-aligned : goal.fill-requires-else-count-half-clause-aligned
 fill-requires-else-count-half-clause-aligned g t c κs within =
     let half = halves c.args.bits (length c.args.out.now) c.requires.whole (omega arith) in
-    below_high g.F.Field.ops g.F.Field.laws.ring g.F.Field.element c.args.bits c.args.base (length c.args.out.now / 2) half.0 half.1 c.requires.binary c.requires.aligned
+    below_high g.F.Field.ops g.F.Field.laws.ring g.F.Field.coding.element c.args.bits c.args.base (length c.args.out.now / 2) half.0 half.1 c.requires.binary c.requires.aligned
 
 pub fill-requires-else-count-half-2-clause-whole : goal.fill-requires-else-count-half-2-clause-whole
 fill-requires-else-count-half-2-clause-whole g t c κs within = let half = halves c.args.bits (length c.args.out.now) c.requires.whole (omega arith) in omega (arith, half.1, half.2, c.split_at_mut-low.ensures.back_len)
@@ -44,7 +44,7 @@ fill-requires-else-count-half-2-clause-whole g t c κs within = let half = halve
 pub fill-requires-else-count-half-2-clause-aligned : goal.fill-requires-else-count-half-2-clause-aligned
 fill-requires-else-count-half-2-clause-aligned g t c κs within =
     let half = halves c.args.bits (length c.args.out.now) c.requires.whole (omega arith) in
-    below_low g.F.Field.ops g.F.Field.laws.ring g.F.Field.element c.args.bits c.args.base half.0 c.requires.aligned
+    below_low g.F.Field.ops g.F.Field.laws.ring g.F.Field.coding.element c.args.bits c.args.base half.0 c.requires.aligned
 
 pub returns-then-count-half : goal.returns-then-count-half
 returns-then-count-half g t c =
@@ -55,10 +55,10 @@ returns-then-count-half g t c =
     let high = c.fill-then-count-half.new.out in
     let front : length low ≡ size / 2 = omega (arith, c.split_at_mut-low.ensures.front_len) in
     λ h running inverted.
-    entries_joined o (λ i y. y ≡ o.times c.args.scale (spread o h m.element c.args.count (m.element (c.args.base + i)))) low high
+    entries_joined o (λ i y. y ≡ o.times c.args.scale (spread o h m.coding.element c.args.count (m.coding.element (c.args.base + i)))) low high
     (c.fill.ensures h running inverted)
     (λ i l. let place : c.args.base + size / 2 + i ≡ c.args.base + (length low + i) = omega (arith, front) in
-    c.fill-then-count-half.ensures h running inverted i l ∙ ap (λ k. o.times c.args.scale (spread o h m.element c.args.count (m.element k))) place)
+    c.fill-then-count-half.ensures h running inverted i l ∙ ap (λ k. o.times c.args.scale (spread o h m.coding.element c.args.count (m.coding.element k))) place)
 
 pub returns-else-count-half : goal.returns-else-count-half
 returns-else-count-half g t c =
@@ -71,15 +71,15 @@ returns-else-count-half g t c =
     let low = c.fill-else-count-half.new.out in
     let high = c.fill-else-count-half-2.new.out in
     let parts = halves bits size c.requires.whole (omega arith) in
-    let binary : IsBinary o m.element (suc (bits - 1)) = subst (IsBinary o m.element) (sym parts.0) c.requires.binary in
-    let aligned : IsAligned o m.element (suc (bits - 1)) base = subst (λ (b : ℕ). IsAligned o m.element b base) (sym parts.0) c.requires.aligned in
+    let binary : IsBinary o m.coding.element (suc (bits - 1)) = subst (IsBinary o m.coding.element) (sym parts.0) c.requires.binary in
+    let aligned : IsAligned o m.coding.element (suc (bits - 1)) base = subst (λ (b : ℕ). IsAligned o m.coding.element b base) (sym parts.0) c.requires.aligned in
     let front : length low ≡ half = omega (arith, c.split_at_mut-low.ensures.front_len) in
     let back : length high ≡ half = omega (arith, parts.2, c.split_at_mut-low.ensures.back_len) in
     λ h running inverted.
-    entries_joined o (λ i y. y ≡ o.times c.args.scale (spread o h m.element c.args.count (m.element (base + i)))) low high
-    (λ i l. fill_low o m.laws.ring m.element h (bits - 1) base c.args.count half i c.args.scale c.with_block-near.result (entry o low i) (zero_element m.laws.numbers) parts.1 binary aligned (omega arith) (omega (arith, parts.2)) (omega (arith, front))
-    (c.with_block-near.ensures (λ k. h (m.element k)) running inverted) (c.fill-else-count-half.ensures h running inverted i l))
+    entries_joined o (λ i y. y ≡ o.times c.args.scale (spread o h m.coding.element c.args.count (m.coding.element (base + i)))) low high
+    (λ i l. fill_low o m.laws.ring m.coding.element h (bits - 1) base c.args.count half i c.args.scale c.with_block-near.result (entry o low i) (zero_element m.laws.numbers) parts.1 binary aligned (omega arith) (omega (arith, parts.2)) (omega (arith, front))
+    (c.with_block-near.ensures (λ k. h (m.coding.element k)) running inverted) (c.fill-else-count-half.ensures h running inverted i l))
     (λ i l. let place : base + half + i ≡ base + (length low + i) = omega (arith, front) in
-    fill_high o m.laws.ring m.element h (bits - 1) base c.args.count half i c.args.scale c.with_block-far.result (entry o high i) (zero_element m.laws.numbers) parts.1 binary aligned (omega arith) (omega (arith, parts.2)) (omega (arith, back))
-    (c.with_block-far.ensures (λ k. h (m.element k)) running inverted) (c.fill-else-count-half-2.ensures h running inverted i l)
-    ∙ ap (λ k. o.times c.args.scale (spread o h m.element c.args.count (m.element k))) place)
+    fill_high o m.laws.ring m.coding.element h (bits - 1) base c.args.count half i c.args.scale c.with_block-far.result (entry o high i) (zero_element m.laws.numbers) parts.1 binary aligned (omega arith) (omega (arith, parts.2)) (omega (arith, back))
+    (c.with_block-far.ensures (λ k. h (m.coding.element k)) running inverted) (c.fill-else-count-half-2.ensures h running inverted i l)
+    ∙ ap (λ k. o.times c.args.scale (spread o h m.coding.element c.args.count (m.coding.element k))) place)

@@ -6,4 +6,4 @@ abbrev pub invariant-loop-k : goal.invariant-loop-k
 invariant-loop-k g l =
     let m = g.F.Field in
     let o = m.ops in
-    l.total ≡ sum_below o l.k (λ k. o.times (entry o l.block k) (o.inverse (minus o l.x (m.element (l.end - 1 - k)))))
+    l.total ≡ sum_below o l.k (λ k. o.times (entry o l.block k) (o.inverse (minus o l.x (m.coding.element (l.end - 1 - k)))))

@@ -13,4 +13,4 @@ returns-then-number-clause-all g c =
     λ even.
     let next : c.point-in-loop-k.result ≡ c.add-next.result =
     c.point-in-loop-k.ensures ∙ even_goes_up m.laws c.args.upto k even (omega arith) (omega arith) ∙ ap (λ w. o.plus w o.one) (sym c.point.ensures) ∙ ap (o.plus c.point.result) (sym c.one.ensures) ∙ sym c.add-next.ensures in
-    absurd (c.if-number.true (c.number.ensures ∙ ap m.number_of next ∙ sym c.number-in-loop-k.ensures))
+    absurd (c.if-number.true (c.number.ensures ∙ ap m.coding.number next ∙ sym c.number-in-loop-k.ensures))

@@ -8,12 +8,12 @@ use Rattle.lzk_reduce.proofs.attach.asserting.Goals as goal
 pub returns-then-layers-eq1 : goal.returns-then-layers-eq1
 returns-then-layers-eq1 g c =
     let o = g.F.Field.ops in
-    let number = g.F.Field.number_of in
+    let number = g.F.Field.coding.number in
     let inputs = c.args.inputs in
     let ws = c.args.targets.now in
     let layers = c.args.layers.now in
     let r = c.requires in
-    let form = single-form o g.F.Field.size number g.F.Field.element g.F.Field.BYTES g.F.Field.laws inputs ws layers c.if-layers-eq1.true r.inputs r.terms r.ones r.targets r.narrow r.checks r.few_wires r.few_terms in
+    let form = single-form o g.F.Field.coding.size number g.F.Field.coding.element g.F.Field.coding.bytes g.F.Field.laws inputs ws layers c.if-layers-eq1.true r.inputs r.terms r.ones r.targets r.narrow r.checks r.few_wires r.few_terms in
     IfOk-weaker c.attached.result (λ all. all.items ≡ attached_layers o ws layers) (λ all. IsAssertingForm o number inputs ws layers all.items) (λ all e. subst (IsAssertingForm o number inputs ws layers) (sym e) form) c.attached.ensures
 
 pub attached-requires-2-clause-few : goal.attached-requires-2-clause-few
@@ -27,7 +27,7 @@ attached-requires-2-clause-few g c κs within =
 pub returns : goal.returns
 returns g c =
     let o = g.F.Field.ops in
-    let number = g.F.Field.number_of in
+    let number = g.F.Field.coding.number in
     let inputs = c.args.inputs in
     let ws = c.args.targets.now in
     let layers = c.args.layers.now in
@@ -36,7 +36,7 @@ returns g c =
     let moved = c.in_ok-kept.moved.items in
     let kept = c.in_ok-kept.kept.items in
     let lists = c.deref-2.result.now in
-    let form = reduced-form o g.F.Field.size number g.F.Field.element g.F.Field.BYTES g.F.Field.laws inputs ws layers moved kept r.some r.inputs r.narrow r.checks r.few_wires r.few_terms f.form f.reduced in
+    let form = reduced-form o g.F.Field.coding.size number g.F.Field.coding.element g.F.Field.coding.bytes g.F.Field.laws inputs ws layers moved kept r.some r.inputs r.narrow r.checks r.few_wires r.few_terms f.form f.reduced in
     let same = ap (attached_layers o lists) c.deref.ensures.value ∙ ap (λ ms. attached_layers o ms kept) c.deref-2.ensures.value in
     IfOk-weaker c.attached-2.result (λ all. all.items ≡ attached_layers o lists c.deref.result.now) (λ all. IsAssertingForm o number inputs ws layers all.items)
     (λ all e. subst (IsAssertingForm o number inputs ws layers) (sym (e ∙ same)) form) c.attached-2.ensures

@@ -39,13 +39,13 @@ returns-clause-kept g c width k is_row none =
       heads = refl;
       within = c.requires.within;
     } in
-    kept-adds g.F.Field.ops g.F.Field.number_of width old new c.args.row.now k refl c.in_ok-append.ensures.exact is_row slot c.requires.table more c.requires.slot none
+    kept-adds g.F.Field.ops g.F.Field.coding.number width old new c.args.row.now k refl c.in_ok-append.ensures.exact is_row slot c.requires.table more c.requires.slot none
 
 pub returns-clause-terms : goal.returns-clause-terms
 returns-clause-terms g c width k =
     let old = c.args.kept.now in
     let new : KeptWires _ = record { count = old.count + 1; terms = c.append.new.terms; starts = c.push.new.self; heads = old.heads; links = c.push-2.new.self } in
-    added-own g.F.Field.ops g.F.Field.number_of width old new c.args.row.now k refl c.in_ok-append.ensures.exact
+    added-own g.F.Field.ops g.F.Field.coding.number width old new c.args.row.now k refl c.in_ok-append.ensures.exact
 
 pub returns-clause-before : goal.returns-clause-before
 returns-clause-before g c i l =

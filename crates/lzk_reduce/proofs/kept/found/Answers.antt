@@ -19,7 +19,7 @@ returns-then-are_same-clause-below g c = c.loop-link.invariant.0 c.in-Some.wire 
 pub returns-then-are_same-clause-same : goal.returns-then-are_same-clause-same
 returns-then-are_same-clause-same g c width k =
     let l = c.loop-link.invariant.0 c.in-Some.wire c.in-Some.is in
-    ap (map (place_of g.F.Field.number_of)) (sym (kept-slice c.args.kept.now c.requires.table c.in-Some.wire l g.F.Field.ops width c.terms_of.result.now k.terms c.terms_of.ensures)) ∙ c.are_same.ensures.yes c.if-are_same.true
+    ap (map (place_of g.F.Field.coding.number)) (sym (kept-slice c.args.kept.now c.requires.table c.in-Some.wire l g.F.Field.ops width c.terms_of.result.now k.terms c.terms_of.ensures)) ∙ c.are_same.ensures.yes c.if-are_same.true
 
 pub index-link-requires-in-Some : goal.index-link-requires-in-Some
 index-link-requires-in-Some g c =
@@ -38,7 +38,7 @@ loop-link-smaller g c =
 pub loop-link-preserved : goal.loop-link-preserved
 loop-link-preserved g c =
     let kept = c.args.kept.now in
-    let n = g.F.Field.number_of in
+    let n = g.F.Field.coding.number in
     let w = c.in-Some.wire in
     let below = c.loop-link.invariant.0 w c.in-Some.is in
     let read : c.index-link-in-Some.result.now ≡ link_at kept.links.items w = any-default kept.links.items w c.index-link-in-Some.result.now None (omega (arith, below, c.requires.table.links_count)) c.index-link-in-Some.ensures in (

@@ -8,7 +8,7 @@ loop-term-preserved g c =
     let t = c.term-item.result in
     let x = c.mixed-hash.result in
     let y = c.mixed-hash-in-loop-term.result in
-    hash-step g.F.Field.number_of c.args.row.now c.loop-term.term-index t c.loop-term.hash x y c.mixed-hash-in-loop-term-2.result _
+    hash-step g.F.Field.coding.number c.args.row.now c.loop-term.term-index t c.loop-term.hash x y c.mixed-hash-in-loop-term-2.result _
     (search rules) c.term-item.is
     (c.mixed-hash.ensures ∙ ap (mixed c.loop-term.hash) c.from.ensures)
     (c.mixed-hash-in-loop-term.ensures ∙ ap (mixed x) c.from-in-loop-term.ensures)
@@ -16,4 +16,4 @@ loop-term-preserved g c =
     c.loop-term.invariant
 
 pub returns : goal.returns
-returns g c = hash-ends g.F.Field.number_of c.args.row.now c.loop-term.term-index c.loop-term.hash _ (search rules) c.loop-term.invariant
+returns g c = hash-ends g.F.Field.coding.number c.args.row.now c.loop-term.term-index c.loop-term.hash _ (search rules) c.loop-term.invariant

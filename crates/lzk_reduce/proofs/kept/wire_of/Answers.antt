@@ -4,4 +4,4 @@ use Rattle.lzk_reduce.proofs.kept.wire_of.Goals as goal
 pub returns-in-Some-clause-terms : goal.returns-in-Some-clause-terms
 returns-in-Some-clause-terms g c width k is_row =
     let f = g.F.Field in
-    found-row f.number_of (numbers-exact f.ops f.size f.number_of f.element f.BYTES f.laws.numbers) c.in-Some.wire c.args.kept.now.terms.items c.args.row.now (c.in-Some.ensures.same width k)
+    found-row f.coding.number (numbers-exact f.ops f.coding.size f.coding.number f.coding.element f.coding.bytes f.laws.numbers) c.in-Some.wire c.args.kept.now.terms.items c.args.row.now (c.in-Some.ensures.same width k)

@@ -11,4 +11,4 @@ returns-clause-yes g c h =
 pub returns-clause-no : goal.returns-clause-no
 returns-clause-no g c h e =
     let f = g.F.Field in
-    eqb-false c.number.result 0 h (c.number.ensures ∙ ap f.number_of e ∙ f.laws.numbers.zero_number)
+    eqb-false c.number.result 0 h (c.number.ensures ∙ ap f.coding.number e ∙ f.laws.numbers.zero_number)

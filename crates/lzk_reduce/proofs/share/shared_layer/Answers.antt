@@ -13,7 +13,7 @@ loop-g-init g c =
     let o = g.F.Field.ops in
     let kept = c.in_ok-kept.kept in
     let none = c.in_ok-kept.ensures in
-    subst (Sharing o g.F.Field.number_of c.args.layer.now c.args.numbers.now 0 0 kept) (sym c.in_ok-wires.ensures.items) (sharing-starts o g.F.Field.number_of c.args.layer.now c.args.numbers.now kept none.table none.kept none.count none.terms)
+    subst (Sharing o g.F.Field.coding.number c.args.layer.now c.args.numbers.now 0 0 kept) (sym c.in_ok-wires.ensures.items) (sharing-starts o g.F.Field.coding.number c.args.layer.now c.args.numbers.now kept none.table none.kept none.count none.terms)
 
 pub loop-g-preserved : goal.loop-g-preserved
 loop-g-preserved g c =
@@ -23,8 +23,8 @@ loop-g-preserved g c =
     let is = c.deref.ensures.value in
     let found = c.in_ok-end.ensures in
     let taken = c.in_ok-wire.ensures in
-    subst (Sharing o g.F.Field.number_of layer numbers (c.loop-g.g + 1) c.in_ok-end.end c.wire_of.new.kept) (sym c.in_ok-push.ensures.items)
-    (sharing-adds o g.F.Field.number_of layer numbers c.loop-g.g c.loop-g.start c.in_ok-end.end c.in_ok-wire.wire c.loop-g.kept c.wire_of.new.kept c.loop-g.wires.items c.deref.result.now
+    subst (Sharing o g.F.Field.coding.number layer numbers (c.loop-g.g + 1) c.in_ok-end.end c.wire_of.new.kept) (sym c.in_ok-push.ensures.items)
+    (sharing-adds o g.F.Field.coding.number layer numbers c.loop-g.g c.loop-g.start c.in_ok-end.end c.in_ok-wire.wire c.loop-g.kept c.wire_of.new.kept c.loop-g.wires.items c.deref.result.now
     (record {
       end_is = found.end;
       is = λ width n. subst (IsRow o width) (sym is) (found.row width n);

@@ -3,4 +3,4 @@ use Rattle.std.proofs.Common.{◌≡◌, ◌*◌, take, map}
 use Rattle.lzk_transcript.proofs.elements.write_elements.Given as goal
 
 abbrev pub invariant-loop-i : goal.invariant-loop-i
-invariant-loop-i g l = take (l.i * g.F.Field.BYTES) l.out ≡ elements_bytes g.F.Field.BYTES (map g.F.Field.number_of (take l.i l.elements))
+invariant-loop-i g l = take (l.i * g.F.Field.coding.bytes) l.out ≡ elements_bytes g.F.Field.coding.bytes (map g.F.Field.coding.number (take l.i l.elements))

@@ -35,12 +35,12 @@ set_check_list-requires-clause-lists g c = λ κs le.
     )
 
 -- what the checks are
-checked : (g : _) (c : After-set_check_list g) → c.set_check_list.new.out.items ≡ checks_of g.F.Field.ops g.F.Field.number_of c.args.self.now.layers (inputs_of g.F.Field.ops c.args.public.now c.args.private.now)
+checked : (g : _) (c : After-set_check_list g) → c.set_check_list.new.out.items ≡ checks_of g.F.Field.ops g.F.Field.coding.number c.args.self.now.layers (inputs_of g.F.Field.ops c.args.public.now c.args.private.now)
 checked g c =
     let o = g.F.Field.ops in
     let inputs = inputs_of o c.args.public.now c.args.private.now in
     c.set_check_list.ensures inputs (c.eval_lists.ensures ∙ ap (λ layers. all_values o layers inputs) (c.layers.ensures.layers ∙ sym c.layers-2.ensures.layers))
-    ∙ ap (λ layers. checks_of o g.F.Field.number_of layers inputs) c.layers-2.ensures.layers
+    ∙ ap (λ layers. checks_of o g.F.Field.coding.number layers inputs) c.layers-2.ensures.layers
 
 filled : (g : _) (c : After-set_check_list g) → HaveWidths c.args.self.now (items_of c.eval_lists.new.lists.items)
 filled g c =
@@ -49,14 +49,14 @@ filled g c =
 pub invariant_of-values : goal.invariant_of-values
 invariant_of-values g c =
     let o = g.F.Field.ops in
-    let number = g.F.Field.number_of in
+    let number = g.F.Field.coding.number in
     let circuit = c.args.self.now in (
       narrow o circuit c.eval_lists.new.lists.items c.layers.ensures.valid (filled g c),
       omega (arith, ap length (checked g c), length-checks o number circuit.layers (inputs_of o c.args.public.now c.args.private.now), few-checks o number circuit c.layers.ensures.valid),
     )
 
 pub returns-clause-room : goal.returns-clause-room
-returns-clause-room g c = (filled g c, ap length (checked g c) ∙ length-checks g.F.Field.ops g.F.Field.number_of c.args.self.now.layers (inputs_of g.F.Field.ops c.args.public.now c.args.private.now))
+returns-clause-room g c = (filled g c, ap length (checked g c) ∙ length-checks g.F.Field.ops g.F.Field.coding.number c.args.self.now.layers (inputs_of g.F.Field.ops c.args.public.now c.args.private.now))
 
 pub returns-clause-layers : goal.returns-clause-layers
 returns-clause-layers g c =

@@ -10,15 +10,15 @@ returns-in_err-check_layers-clause-valid g c =
     let m = g.F.Field in
     let count : c.len.result ≡ length c.args.layers.items = omega arith in
     let p = err_from_is_err_and c.from_residual-in_err-check_layers.result c.from_residual-in_err-check_layers.ensures.1 in
-    rw p.1 (not-valid m.ops m.size m.number_of m.element m.BYTES m.laws.numbers c.args.version c.args.publics c.args.privates c.args.layers.items _
-    (counts-pass m.number_of c.args.version c.args.publics c.args.privates c.args.layers.items _ (subst (λ n. counts_fault c.args.publics c.args.privates n ≡ None) count c.in_ok-check_counts.ensures) (rw c.deref.ensures.value at c.in_err-check_layers.ensures)))
+    rw p.1 (not-valid m.ops m.coding.size m.coding.number m.coding.element m.coding.bytes m.laws.numbers c.args.version c.args.publics c.args.privates c.args.layers.items _
+    (counts-pass m.coding.number c.args.version c.args.publics c.args.privates c.args.layers.items _ (subst (λ n. counts_fault c.args.publics c.args.privates n ≡ None) count c.in_ok-check_counts.ensures) (rw c.deref.ensures.value at c.in_err-check_layers.ensures)))
 
 pub invariant_of-result : goal.invariant_of-result
 invariant_of-result g c =
     let m = g.F.Field in
     let count : c.len.result ≡ length c.args.layers.items = omega arith in
-    valid-from m.ops m.size m.number_of m.element m.BYTES m.laws.numbers c.args.version c.args.publics c.args.privates c.args.layers.items c.requires
-    (counts-pass m.number_of c.args.version c.args.publics c.args.privates c.args.layers.items None (subst (λ n. counts_fault c.args.publics c.args.privates n ≡ None) count c.in_ok-check_counts.ensures) (rw c.deref.ensures.value at c.in_ok-check_layers.ensures))
+    valid-from m.ops m.coding.size m.coding.number m.coding.element m.coding.bytes m.laws.numbers c.args.version c.args.publics c.args.privates c.args.layers.items c.requires
+    (counts-pass m.coding.number c.args.version c.args.publics c.args.privates c.args.layers.items None (subst (λ n. counts_fault c.args.publics c.args.privates n ≡ None) count c.in_ok-check_counts.ensures) (rw c.deref.ensures.value at c.in_ok-check_layers.ensures))
 
 pub returns-clause-valid : goal.returns-clause-valid
 returns-clause-valid g c = invariant_of-result g c

@@ -17,7 +17,7 @@ invariant_of-result g c =
     let done : length (widths c.args.circuit.now) ≤ c.loop-l.l = omega (arith, widths-count o c.args.circuit.now) in
     let e : items_of c.loop-l.lists.items ≡ zero_lists o (widths c.args.circuit.now) = c.loop-l.invariant ∙ ap (zero_lists o) (take_all c.loop-l.l (widths c.args.circuit.now) done) in (
       narrow o c.args.circuit.now c.loop-l.lists.items c.depth-count.ensures.valid (ap (map length) e ∙ zeros-widths o (widths c.args.circuit.now)),
-      omega (arith, ap length c.in_ok-checks.ensures, length-replicate c.checks.result o.zero, c.checks.ensures, few-checks o g.F.Field.number_of c.args.circuit.now c.depth-count.ensures.valid),
+      omega (arith, ap length c.in_ok-checks.ensures, length-replicate c.checks.result o.zero, c.checks.ensures, few-checks o g.F.Field.coding.number c.args.circuit.now c.depth-count.ensures.valid),
     )
 
 pub returns-clause-room : goal.returns-clause-room

@@ -7,8 +7,8 @@ pub new-requires : goal.new-requires
 new-requires g c = are_bounded g.F.Field.ops c.args.params.now c.requires.params
 
 pub invariant_of-result : goal.invariant_of-result
-invariant_of-result g c = λ e. c.new.ensures.sound (shape g.F.Field.BYTES g.F.Field.size)
+invariant_of-result g c = λ e. c.new.ensures.sound (shape g.F.Field.coding.bytes g.F.Field.coding.size)
 
 pub returns-clause-pushed : goal.returns-clause-pushed
 returns-clause-pushed g c =
-    new_pushed (shape g.F.Field.BYTES g.F.Field.size) c.args.params.now c.new.result c.new.ensures.params c.new.ensures.fields c.new.ensures.digests c.new.ensures.held
+    new_pushed (shape g.F.Field.coding.bytes g.F.Field.coding.size) c.args.params.now c.new.result c.new.ensures.params c.new.ensures.fields c.new.ensures.digests c.new.ensures.held

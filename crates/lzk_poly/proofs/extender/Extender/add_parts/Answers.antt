@@ -15,16 +15,16 @@ returns g c =
     let start = c.args.start in
     let size : length block ≡ length c.args.block.now = omega arith in
     let counted : length values ≡ c.self.inside.weights.count = search rules in
-    let weights : IsWeights o m.element (length values) ws = subst (λ (n : ℕ). IsWeights o m.element n ws) (sym counted) c.weights.ensures in
+    let weights : IsWeights o m.coding.element (length values) ws = subst (λ (n : ℕ). IsWeights o m.coding.element n ws) (sym counted) c.weights.ensures in
     let placed : (xs : List g.row.F.Denot) (a n k : ℕ) → k < n → entry o (take n (drop a xs)) k ≡ entry o xs (a + k) =
     λ xs a n k h. get_or-take n (drop a xs) k o.zero h ∙ get_or-drop a xs k o.zero in
     let n = start + length c.args.block.now - start in
     λ k h e.
-    let x = m.element (c.args.from + k) in
+    let x = m.coding.element (c.args.from + k) in
     c.loop-t.invariant.1 k (omega arith)
-    ∙ ap (λ w. o.plus w (quotient_sum o m.element block (start + length c.args.block.now) x)) e
-    ∙ subst (λ (n : ℕ). o.plus (parts o m.element values start x) (quotient_sum o m.element block (start + n) x) ≡ parts o m.element values (start + n) x) size
-    (block_adds_parts o m.laws.ring m.laws.field m.element values ws block start x weights (omega arith)
+    ∙ ap (λ w. o.plus w (quotient_sum o m.coding.element block (start + length c.args.block.now) x)) e
+    ∙ subst (λ (n : ℕ). o.plus (parts o m.coding.element values start x) (quotient_sum o m.coding.element block (start + n) x) ≡ parts o m.coding.element values (start + n) x) size
+    (block_adds_parts o m.laws.ring m.laws.field m.coding.element values ws block start x weights (omega arith)
     (λ i l.
     let at = length block - 1 - i in
     let same : start + at ≡ start + length block - 1 - i = omega arith in

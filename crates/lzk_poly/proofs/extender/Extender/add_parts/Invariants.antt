@@ -7,5 +7,5 @@ abbrev pub invariant-loop-t : goal.invariant-loop-t
 invariant-loop-t g l =
     let m = g.F.Field in
     (length l.block ≡ length l.fn.block)
-    × ((k : ℕ) → k < l.t → entry m.ops l.out k ≡ m.ops.plus (entry m.ops l.fn.out k) (quotient_sum m.ops m.element l.block l.end (m.element (l.from + k))))
+    × ((k : ℕ) → k < l.t → entry m.ops l.out k ≡ m.ops.plus (entry m.ops l.fn.out k) (quotient_sum m.ops m.coding.element l.block l.end (m.coding.element (l.from + k))))
     × ((k : ℕ) → l.t ≤ k → k < length l.out → entry m.ops l.out k ≡ entry m.ops l.fn.out k)

@@ -15,7 +15,7 @@ returns-then-j-count-clause-value g c =
     let ended : c.args.self.now.upto ≡ c.self.inside.weights.upto = search rules in
     let below : j < length values = omega arith in
     c.index-values-j.is ∙ get_or_default values j c.index-values-j.result m.ops.zero below
-    ∙ sym (extension-given m.ops m.laws.ring m.laws.field m.element values (points_apart m.laws (length values) (omega arith)) j below)
+    ∙ sym (extension-given m.ops m.laws.ring m.laws.field m.coding.element values (points_apart m.laws (length values) (omega arith)) j below)
 
 pub returns-then-j-count-clause-through : goal.returns-then-j-count-clause-through
 returns-then-j-count-clause-through g c =
@@ -45,11 +45,11 @@ returns-clause-value g c =
     let at = j - c.count-count.result in
     let there : count + at ≡ j = omega arith in
     let within : at < length products = omega (arith, all.0) in
-    let product : c.index-passed-j.result ≡ passed o m.element (length values) (m.element j) =
+    let product : c.index-passed-j.result ≡ passed o m.coding.element (length values) (m.coding.element j) =
     c.index-passed-j.is ∙ get_or_default products at c.index-passed-j.result o.zero within ∙ all.1 at within
-    ∙ ap (λ i. passed o m.element count (m.element i)) there ∙ ap (λ n. passed o m.element n (m.element j)) (sym counted) in
-    c.mul.ensures ∙ ap (λ w. o.times w c.index-passed-j.result) (c.sum_at.ensures ∙ ap (λ x. parts o m.element values (length values) x) c.point.ensures)
-    ∙ ap (o.times (parts o m.element values (length values) (m.element j))) product
+    ∙ ap (λ i. passed o m.coding.element count (m.coding.element i)) there ∙ ap (λ n. passed o m.coding.element n (m.coding.element j)) (sym counted) in
+    c.mul.ensures ∙ ap (λ w. o.times w c.index-passed-j.result) (c.sum_at.ensures ∙ ap (λ x. parts o m.coding.element values (length values) x) c.point.ensures)
+    ∙ ap (o.times (parts o m.coding.element values (length values) (m.coding.element j))) product
     ∙ parts_extension m.laws values j (omega arith) (omega arith)
 
 pub returns-clause-through : goal.returns-clause-through

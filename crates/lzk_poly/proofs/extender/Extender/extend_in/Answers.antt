@@ -24,15 +24,15 @@ loop-t-preserved g c =
     let j = c.args.from + t in
     let there : count + at ≡ j = omega arith in
     let within : at < length products = omega (arith, all.0) in
-    let sum : c.index-out-t.result ≡ parts o m.element values (length values) (m.element j) =
+    let sum : c.index-out-t.result ≡ parts o m.coding.element values (length values) (m.coding.element j) =
     c.index-out-t.is ∙ get_or_default out t c.index-out-t.result o.zero (omega arith) ∙ c.loop-t.invariant.1 t (omega arith) (omega arith) in
-    let product : c.index-passed-first.result ≡ passed o m.element (length values) (m.element j) =
+    let product : c.index-passed-first.result ≡ passed o m.coding.element (length values) (m.coding.element j) =
     c.index-passed-first.is ∙ get_or_default products at c.index-passed-first.result o.zero within ∙ all.1 at within
-    ∙ ap (λ i. passed o m.element count (m.element i)) there ∙ ap (λ n. passed o m.element n (m.element j)) (sym counted) in
-    let value : c.mul.result ≡ extension o m.element values j =
-    c.mul.ensures ∙ ap (λ w. o.times w c.index-passed-first.result) sum ∙ ap (o.times (parts o m.element values (length values) (m.element j))) product
+    ∙ ap (λ i. passed o m.coding.element count (m.coding.element i)) there ∙ ap (λ n. passed o m.coding.element n (m.coding.element j)) (sym counted) in
+    let value : c.mul.result ≡ extension o m.coding.element values j =
+    c.mul.ensures ∙ ap (λ w. o.times w c.index-passed-first.result) sum ∙ ap (o.times (parts o m.coding.element values (length values) (m.coding.element j))) product
     ∙ parts_extension m.laws values j (omega arith) (omega arith) in (
-      below_more (λ k. entry o (slice_set out t c.mul.result) k ≡ extension o m.element values (c.args.from + k)) t
+      below_more (λ k. entry o (slice_set out t c.mul.result) k ≡ extension o m.coding.element values (c.args.from + k)) t
           (λ k h. get_or-set_other out t k c.mul.result o.zero (omega arith) ∙ c.loop-t.invariant.0 k h)
           (get_or-set_same out t c.mul.result o.zero (omega arith) ∙ value),
       λ k p q. get_or-set_other out t k c.mul.result o.zero (omega arith) ∙ c.loop-t.invariant.1 k (omega arith) (omega (arith, length-set out t c.mul.result)),

@@ -11,7 +11,7 @@ returns-then-is_even g c =
     let upto = c.self.inside.weights.upto in
     let ended : c.args.self.now.upto ≡ upto = search rules in
     c.by_steps.ensures
-    ∙ steps_are_quotients m.ops m.laws.ring m.laws.field m.element block table c.args.end c.args.j upto (c.is_even.ensures.0 (search rules)) c.inverses-inverses.ensures.table c.inverses-inverses.ensures.enough c.requires.enough (omega arith) (omega arith)
+    ∙ steps_are_quotients m.ops m.laws.ring m.laws.field m.coding.element block table c.args.end c.args.j upto (c.is_even.ensures.0 (search rules)) c.inverses-inverses.ensures.table c.inverses-inverses.ensures.enough c.requires.enough (omega arith) (omega arith)
 
 pub by_numbers-requires-clause-apart : goal.by_numbers-requires-clause-apart
 by_numbers-requires-clause-apart g c κs within =

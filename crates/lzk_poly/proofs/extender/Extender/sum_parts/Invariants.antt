@@ -9,7 +9,7 @@ invariant-loop-t g l = let o = g.F.Field.ops in (k : ℕ) → k < l.t → entry 
 abbrev pub invariant-loop-start : goal.invariant-loop-start
 invariant-loop-start g l =
     let m = g.F.Field in
-    (l.start ≤ length l.values) × ((k : ℕ) → k < length l.out → entry m.ops l.out k ≡ parts m.ops m.element l.values l.start (m.element (l.fn.from + k)))
+    (l.start ≤ length l.values) × ((k : ℕ) → k < length l.out → entry m.ops l.out k ≡ parts m.ops m.coding.element l.values l.start (m.coding.element (l.fn.from + k)))
 
 abbrev pub decreases-loop-start : goal.decreases-loop-start
 decreases-loop-start g l = length l.values - l.start
