@@ -1,7 +1,6 @@
 //! What is drawn behind the sumchecks' draws.
 
 ghost use Rattle.std.specs.Prelude.{◌≡◌, IfOk};
-ghost use Rattle.lzk_field.specs.Coding.{coding};
 ghost use Rattle.lzk_transcript.specs.Columns.{after_draws};
 ghost use Rattle.lzk_layout.specs.Sizes.{AreParams};
 ghost use Rattle.lzk_accept.specs.Challenges.{challenges, challenge_count, zero_challenges, HasShape};
@@ -44,7 +43,7 @@ impl<F: Field> Challenges<F> {
 /// Sets the challenges to what the tape gives behind gamma. No memory is taken.
 pub fn draw_challenges<F: Field>(params: &Params, tape: &mut Tape, out: &mut Challenges<F>)
     requires shape { HasShape params.now out.old }
-    ensures challenges { out.new ≡ challenges (coding F.element F.number_of F.BYTES F.size F.ID) params.now tape.old }
+    ensures challenges { out.new ≡ challenges F.coding params.now tape.old }
     ensures tape { tape.new ≡ after_draws (challenge_count params.now) tape.old }
     ensures shape { HasShape params.now out.new }
 {

@@ -128,11 +128,11 @@ fn after_round<F: Field>(
     claim: F,
     challenge: F,
 ) -> F
-    requires points { AreInverses F.ops F.element points }
+    requires points { AreInverses F.ops F.coding.element points }
     requires sent { i + 1 < length messages.now }
     requires pads { j + 1 < length w.now }
     ensures { let p = padded F.ops messages.now w.now in
-        result ≡ next_claim F.ops F.element claim (p i j) (p (i + 1) (j + 1)) challenge }
+        result ≡ next_claim F.ops F.coding.element claim (p i j) (p (i + 1) (j + 1)) challenge }
 {
     let p0 = padded(messages, w, i, j);
     let p2 = padded(messages, w, i + 1, j + 1);
@@ -151,7 +151,7 @@ pub(crate) fn after_rounds<F: Field>(
     requires shape { HasShape circuit.now script.now }
     requires messages { length messages.now ≡ sent_counts circuit.now }
     requires w { length w.now ≡ committed_count circuit.now }
-    ensures { result ≡ claim_after F.ops F.element circuit.now script.now messages.now w.now l (round_count circuit.now l) }
+    ensures { result ≡ claim_after F.ops F.coding.element circuit.now script.now messages.now w.now l (round_count circuit.now l) }
 {
     let layer = layer_of(circuit, script, l);
     let ra = layer.ra.as_slice();

@@ -17,8 +17,7 @@ use lzk_layout::Params;
 
 // Sets a list to zeros.
 fn clear<F: Field>(list: &mut [F])
-    ensures length { length list.new ≡ length list.old }
-    ensures entries { (j : ℕ) → entry F.ops list.new j ≡ F.ops.zero }
+    ensures { (j : ℕ) → entry F.ops list.new j ≡ F.ops.zero }
 {
     for j in 0..list.len() {
         list[j] = F::zero();
@@ -28,8 +27,7 @@ fn clear<F: Field>(list: &mut [F])
 // Adds to one entry of a list.
 fn add_at<F: Field>(sums: &mut [F], k: usize, x: F)
     requires { k < length sums.old }
-    ensures length { length sums.new ≡ length sums.old }
-    ensures entries { let o = F.ops in (j : ℕ) → entry o sums.new j ≡ o.plus (entry o sums.old j) (cond (j == k) x o.zero) }
+    ensures { let o = F.ops in (j : ℕ) → entry o sums.new j ≡ o.plus (entry o sums.old j) (cond (j == k) x o.zero) }
 {
     sums[k] = sums[k].add(x);
 }
@@ -40,8 +38,7 @@ fn add_range<F: Field>(sums: &mut [F], by: F, list: &[F], start: usize, end: usi
     requires start { start ≤ end }
     requires list { end ≤ length list.now }
     requires sums { end ≤ skip + length sums.old }
-    ensures length { length sums.new ≡ length sums.old }
-    ensures entries { let o = F.ops in (j : ℕ) → entry o sums.new j ≡
+    ensures { let o = F.ops in (j : ℕ) → entry o sums.new j ≡
         o.plus (entry o sums.old j) (cond (nat_le start (skip + j) && nat_lt (skip + j) end) (o.times by (entry o list.now (skip + j))) o.zero) }
 {
     for j in start..end {
@@ -64,8 +61,7 @@ fn add_form<F: Field>(sums: &mut [F], by: F, form: Form<F>, own: &[F], skip: usi
     requires end { skip ≤ form.end }
     requires above { skip ≤ form.above }
     requires room { length own.now ≤ skip + length sums.old }
-    ensures length { length sums.new ≡ length sums.old }
-    ensures entries { let o = F.ops in (j : ℕ) → entry o sums.new j ≡ o.plus (entry o sums.old j) (o.times by (coefficient_in o own.now form (skip + j))) }
+    ensures { let o = F.ops in (j : ℕ) → entry o sums.new j ≡ o.plus (entry o sums.old j) (o.times by (coefficient_in o own.now form (skip + j))) }
 {
     let start = larger(form.start as usize, skip);
     add_range(sums, by, own, start, form.end as usize, skip);
@@ -81,7 +77,6 @@ fn sum_forms<F: Field>(forms: &[Form<F>], own: &[F], lambda: &[F], skip: usize, 
     requires within { (i : ℕ) → i < length forms.now → IsWithin (length own.now) (form_at F.ops forms.now i) }
     requires behind { (i : ℕ) → i < length forms.now → (skip ≤ (form_at F.ops forms.now i).end) × (skip ≤ (form_at F.ops forms.now i).above) }
     requires room { length own.now ≤ skip + length sums.old }
-    ensures length { length sums.new ≡ length sums.old }
     ensures entries { let o = F.ops in (j : ℕ) → entry o sums.new j ≡
         sum_below o (length forms.now) (λ i. o.times (entry o lambda.now i) (coefficient_in o own.now (form_at o forms.now i) (skip + j))) }
     ensures rights { let o = F.ops in result ≡ sum_below o (length forms.now) (λ i. o.times (entry o lambda.now i) (form_at o forms.now i).right) }
@@ -97,6 +92,28 @@ fn sum_forms<F: Field>(forms: &[Form<F>], own: &[F], lambda: &[F], skip: usize, 
     wanted
 }
 
+// Adds a value's challenge at its copy's place, and takes it away at the value's own, which is one of the last three before the form's end.
+// The table has the rows from row 3 + rows on.
+fn add_copy<F: Field>(params: &Params, m: u32, end: u32, x: F, rows: u32, table: &mut [F])
+    requires bounded { AreBounded params.now }
+    requires rows { rows ≤ params.now.nwrow }
+    requires copy { m < 3 * params.now.layers }
+    requires behind { rows * params.now.wr + 3 ≤ end }
+    requires within { end ≤ params.now.nw }
+    requires room { length table.old ≡ (params.now.nrow - 3 - rows) * params.now.wr }
+    ensures { let o = F.ops in let p = params.now in (i s : ℕ) → s < p.wr → entry o table.new (i * p.wr + s) ≡
+        o.plus (o.plus (entry o table.old (i * p.wr + s)) (cond (is_place (3 + (rows + i)) s (copy_place_of p m)) x o.zero))
+        (cond (is_place (3 + (rows + i)) s (place_of p (end - 3 + m % 3))) (o.neg x) o.zero) }
+{
+    let width = params.wr as usize;
+    let (row, position) = params.copy_place(m);
+    let copy = (row - 3 - rows) as usize * width + position as usize;
+    add_at(table, copy, x);
+    let source = end - 3 + m % 3;
+    let skip = rows as usize * width;
+    add_at(table, source as usize - skip, x.neg());
+}
+
 // Adds the challenge of each value of the quadratic constraints at its copy's place, and takes it away at the value's own. The
 // table has the rows from row 3 + rows on.
 fn add_copies<F: Field>(params: &Params, forms: &[Form<F>], mu: &[F], rows: u32, table: &mut [F])
@@ -107,21 +124,14 @@ fn add_copies<F: Field>(params: &Params, forms: &[Form<F>], mu: &[F], rows: u32,
         ((form_at F.ops forms.now l).end ≤ params.now.nw) }
     requires mu { length mu.now ≡ 3 * params.now.layers }
     requires room { length table.old ≡ (params.now.nrow - 3 - rows) * params.now.wr }
-    ensures length { length table.new ≡ length table.old }
-    ensures entries { let o = F.ops in let p = params.now in (i s : ℕ) → s < p.wr → entry o table.new (i * p.wr + s)
+    ensures { let o = F.ops in let p = params.now in (i s : ℕ) → s < p.wr → entry o table.new (i * p.wr + s)
         ≡ minus o (o.plus (entry o table.old (i * p.wr + s))
         (sum_where o (3 * p.layers) (λ m. is_place (3 + (rows + i)) s (copy_place_of p m)) (entry o mu.now)))
         (sum_where o (3 * p.layers) (λ m. is_place (3 + (rows + i)) s (place_of p (source_in o forms.now m))) (entry o mu.now)) }
 {
-    let width = params.wr as usize;
-    let skip = rows as usize * width;
     for m in 0..3 * params.layers {
-        let x = mu[m as usize];
-        let (row, position) = params.copy_place(m);
-        let copy = (row - 3 - rows) as usize * width + position as usize;
-        add_at(table, copy, x);
-        let source = forms[(m / 3) as usize].end - 3 + m % 3;
-        add_at(table, source as usize - skip, x.neg());
+        let end = forms[(m / 3) as usize].end;
+        add_copy(params, m, end, mu[m as usize], rows, table);
     }
 }
 
@@ -139,7 +149,6 @@ pub(crate) fn combine_from<F: Field>(
     requires shape { HasShape params.now challenges.now }
     requires rows { (c : Wiring F) → params.now ≡ params_of c → AreFormsOf F.ops c forms.now → rows * params.now.wr ≤ c.privates }
     requires room { length table.old ≡ (params.now.nrow - 3 - rows) * params.now.wr }
-    ensures room { length table.new ≡ length table.old }
     ensures combined { (c : Wiring F) → params.now ≡ params_of c → AreFormsOf F.ops c forms.now →
         (i s : ℕ) → i < params.now.nrow - 3 - rows → s < params.now.wr →
         entry F.ops table.new (i * params.now.wr + s) ≡ spec.combined F.ops c (coefficient F.ops forms.now) challenges.now (3 + (rows + i)) s }

@@ -14,13 +14,13 @@ ghost use Rattle.lzk_accept.specs.Kept.{private_coefficient, AreFormsOf, AreRest
 use crate::challenges::Challenges;
 use crate::claims::{first_point, second_point};
 use crate::combination::combine_from;
-use crate::forms::{Forms, power_of};
-use crate::linear::{entry_of, rest_forms, rest_with_bounds};
-use lzk_circuit::{Circuit, bits_of};
+use crate::forms::Forms;
+use crate::linear::{rest_forms, rest_with_bounds};
+use lzk_circuit::{Circuit, bits_of, power_of};
 use lzk_field::Field;
 use lzk_layout::{Elements, Params};
 use lzk_mle::eq_table;
-use lzk_sumcheck::Script;
+use lzk_sumcheck::{Script, entry_at};
 use std::alloc::{AllocError, Global};
 
 /// Room for the combined coefficients of a circuit's constraints, and these coefficients. The rows that private inputs fill come
@@ -61,13 +61,12 @@ impl<F: Field> Factored<F> {
 fn set_row_factors<F: Field>(table: &[F], by: F, high: usize, rows: usize, factors: &mut [F])
     requires few { high ≤ 131072 }
     requires room { length factors.old ≡ 2 * rows }
-    ensures length { length factors.new ≡ length factors.old }
     ensures here { let o = F.ops in (i : ℕ) → i < rows → entry o factors.new i ≡ o.times by (entry o table.now (high + i)) }
     ensures next { let o = F.ops in (i : ℕ) → i < rows → entry o factors.new (rows + i) ≡ o.times by (entry o table.now (high + i + 1)) }
 {
     for i in 0..rows {
-        factors[i] = by.mul(entry_of(table, high + i));
-        factors[rows + i] = by.mul(entry_of(table, high + i + 1));
+        factors[i] = by.mul(entry_at(table, high + i));
+        factors[rows + i] = by.mul(entry_at(table, high + i + 1));
     }
 }
 
@@ -77,7 +76,6 @@ fn set_place_factors<F: Field>(table: &[F], low: usize, factors: &mut [F])
     requires low { low ≤ length table.now }
     requires few { length table.now ≤ 131072 }
     requires room { length factors.old ≡ 2 * length table.now }
-    ensures length { length factors.new ≡ length factors.old }
     ensures here { let o = F.ops in (s : ℕ) → s < length table.now → entry o factors.new s ≡ entry o table.now (low + s) }
     ensures next { let o = F.ops in (s : ℕ) → s < length table.now →
         entry o factors.new (length table.now + s) ≡ cond (nat_lt (low + s) (length table.now)) o.zero (entry o table.now (low + s - length table.now)) }
@@ -85,7 +83,7 @@ fn set_place_factors<F: Field>(table: &[F], low: usize, factors: &mut [F])
     let width = table.len();
     for s in 0..width {
         let k = low + s;
-        factors[s] = entry_of(table, k);
+        factors[s] = entry_at(table, k);
         factors[width + s] = if k < width {
             F::zero()
         } else {
@@ -94,43 +92,44 @@ fn set_place_factors<F: Field>(table: &[F], low: usize, factors: &mut [F])
     }
 }
 
-// Sets two factors for each row and each position, whose products sum to a multiple of how the numbers from `first` on agree with
-// a point. A row takes as many numbers as there are of so many bits.
+// The numbers that rows take: those from `first` on, and a row takes as many as there are of so many bits.
+#[derive(Clone, Copy)]
+struct Taken {
+    first: usize,
+    rows: usize,
+    bits: u32,
+}
+
+// Sets two factors for each row and each position, whose products sum to a multiple of how the rows' numbers agree with a point.
 fn set_point_factors<F: Field>(
     r: &[F],
     by: F,
-    bits: u32,
-    first: usize,
-    rows: usize,
+    taken: Taken,
     row_factors: &mut [F],
     place_factors: &mut [F],
     low: &mut [F],
     high: &mut [F],
 )
     requires few { length r.now ≤ 17 }
-    requires bits { bits ≤ length r.now }
-    requires numbers { first + rows * 2 ^ bits ≤ 2 ^ length r.now }
+    requires bits { taken.bits ≤ length r.now }
+    requires numbers { taken.first + taken.rows * 2 ^ taken.bits ≤ 2 ^ length r.now }
     requires low { 2 ^ length r.now ≤ length low.old }
     requires high { 2 ^ length r.now ≤ length high.old }
-    requires row_factors { length row_factors.old ≡ 2 * rows }
-    requires place_factors { length place_factors.old ≡ 2 * 2 ^ bits }
-    ensures row_length { length row_factors.new ≡ length row_factors.old }
-    ensures place_length { length place_factors.new ≡ length place_factors.old }
-    ensures low { length low.new ≡ length low.old }
-    ensures high { length high.new ≡ length high.old }
-    ensures products { let o = F.ops in (i s : ℕ) → i < rows → s < 2 ^ bits →
+    requires row_factors { length row_factors.old ≡ 2 * taken.rows }
+    requires place_factors { length place_factors.old ≡ 2 * 2 ^ taken.bits }
+    ensures { let o = F.ops in (i s : ℕ) → i < taken.rows → s < 2 ^ taken.bits →
         o.plus (o.times (entry o row_factors.new i) (entry o place_factors.new s))
-        (o.times (entry o row_factors.new (rows + i)) (entry o place_factors.new (2 ^ bits + s)))
-        ≡ o.times by (eq o (first + (i * 2 ^ bits + s)) r.now) }
+        (o.times (entry o row_factors.new (taken.rows + i)) (entry o place_factors.new (2 ^ taken.bits + s)))
+        ≡ o.times by (eq o (taken.first + (i * 2 ^ taken.bits + s)) r.now) }
 {
-    let (lows, highs) = r.split_at(bits as usize);
-    let width = power_of(bits);
+    let (lows, highs) = r.split_at(taken.bits as usize);
+    let width = power_of(taken.bits);
     let (low_table, _) = low.split_at_mut(width);
     eq_table(lows, low_table);
     let (high_table, _) = high.split_at_mut(power_of(highs.len() as u32));
     eq_table(highs, high_table);
-    set_row_factors(high_table, by, first / width, rows, row_factors);
-    set_place_factors(low_table, first % width, place_factors);
+    set_row_factors(high_table, by, taken.first / width, taken.rows, row_factors);
+    set_place_factors(low_table, taken.first % width, place_factors);
 }
 
 // Sets the factors of both points: those of the first, and those of the second behind them.
@@ -139,9 +138,7 @@ fn set_both_factors<F: Field>(
     rb: &[F],
     by: F,
     gamma: F,
-    bits: u32,
-    first: usize,
-    rows: usize,
+    taken: Taken,
     row_factors: &mut [F],
     place_factors: &mut [F],
     low: &mut [F],
@@ -149,34 +146,20 @@ fn set_both_factors<F: Field>(
 )
     requires few { length ra.now ≤ 17 }
     requires points { length rb.now ≡ length ra.now }
-    requires bits { bits ≤ length ra.now }
-    requires numbers { first + rows * 2 ^ bits ≤ 2 ^ length ra.now }
+    requires bits { taken.bits ≤ length ra.now }
+    requires numbers { taken.first + taken.rows * 2 ^ taken.bits ≤ 2 ^ length ra.now }
     requires low { 2 ^ length ra.now ≤ length low.old }
     requires high { 2 ^ length ra.now ≤ length high.old }
-    requires row_factors { length row_factors.old ≡ 4 * rows }
-    requires place_factors { length place_factors.old ≡ 4 * 2 ^ bits }
-    ensures row_length { length row_factors.new ≡ length row_factors.old }
-    ensures place_length { length place_factors.new ≡ length place_factors.old }
-    ensures low { length low.new ≡ length low.old }
-    ensures high { length high.new ≡ length high.old }
-    ensures products { let o = F.ops in (i s : ℕ) → i < rows → s < 2 ^ bits →
-        sum_below o 4 (λ k. o.times (entry o row_factors.new (k * rows + i)) (entry o place_factors.new (k * 2 ^ bits + s)))
-        ≡ o.times by (o.plus (eq o (first + (i * 2 ^ bits + s)) ra.now) (o.times gamma (eq o (first + (i * 2 ^ bits + s)) rb.now))) }
+    requires row_factors { length row_factors.old ≡ 4 * taken.rows }
+    requires place_factors { length place_factors.old ≡ 4 * 2 ^ taken.bits }
+    ensures { let o = F.ops in (i s : ℕ) → i < taken.rows → s < 2 ^ taken.bits → let n = taken.first + (i * 2 ^ taken.bits + s) in
+        sum_below o 4 (λ k. o.times (entry o row_factors.new (k * taken.rows + i)) (entry o place_factors.new (k * 2 ^ taken.bits + s)))
+        ≡ o.times by (o.plus (eq o n ra.now) (o.times gamma (eq o n rb.now))) }
 {
-    let (rows_a, rows_b) = row_factors.split_at_mut(2 * rows);
-    let (places_a, places_b) = place_factors.split_at_mut(2 * power_of(bits));
-    set_point_factors(ra, by, bits, first, rows, rows_a, places_a, low, high);
-    set_point_factors(
-        rb,
-        by.mul(gamma),
-        bits,
-        first,
-        rows,
-        rows_b,
-        places_b,
-        low,
-        high,
-    );
+    let (rows_a, rows_b) = row_factors.split_at_mut(2 * taken.rows);
+    let (places_a, places_b) = place_factors.split_at_mut(2 * power_of(taken.bits));
+    set_point_factors(ra, by, taken, rows_a, places_a, low, high);
+    set_point_factors(rb, by.mul(gamma), taken, rows_b, places_b, low, high);
 }
 
 // Sets the factors of the rows that private inputs fill, if there are any. The forms lend room.
@@ -197,8 +180,6 @@ fn set_private_factors<F: Field>(
     requires row_factors { length row_factors.old ≡ 4 * rows }
     requires place_factors { length place_factors.old ≡ 4 * 2 ^ bits }
     ensures forms { forms.new ≡ forms.old }
-    ensures row_length { length row_factors.new ≡ length row_factors.old }
-    ensures place_length { length place_factors.new ≡ length place_factors.old }
     ensures products { let o = F.ops in (i s : ℕ) → i < rows → s < 2 ^ bits →
         sum_below o 4 (λ k. o.times (entry o row_factors.new (k * rows + i)) (entry o place_factors.new (k * 2 ^ bits + s)))
         ≡ o.times by (private_coefficient o circuit.now script.now (i * 2 ^ bits + s)) }
@@ -207,14 +188,17 @@ fn set_private_factors<F: Field>(
         return;
     }
     let depth = circuit.depth();
+    let taken = Taken {
+        first: 1 + circuit.publics() as usize,
+        rows: rows as usize,
+        bits,
+    };
     set_both_factors(
         first_point(circuit, script, depth),
         second_point(circuit, script, depth),
         by,
         script.gamma,
-        bits,
-        1 + circuit.publics() as usize,
-        rows as usize,
+        taken,
         row_factors,
         place_factors,
         &mut forms.first,
@@ -246,11 +230,11 @@ fn fill<F: Field>(
     ensures forms { AreFormsOf F.ops circuit.now forms.new }
     ensures room { HasRoomFor circuit.now factored.new }
     ensures combined { let o = F.ops in let p = params_of circuit.now in (public messages : List F) →
-        AreRest o F.element circuit.now public script.now messages (factored.old.rows * p.wr) forms.old.forms forms.old.own →
-        GivesCombined o p factored.new (combined_of o F.element circuit.now public script.now messages challenges.now) }
+        AreRest o F.coding.element circuit.now public script.now messages (factored.old.rows * p.wr) forms.old.forms forms.old.own →
+        GivesCombined o p factored.new (combined_of o F.coding.element circuit.now public script.now messages challenges.now) }
     ensures wanted { let o = F.ops in let p = params_of circuit.now in (public messages : List F) →
-        AreRest o F.element circuit.now public script.now messages (factored.old.rows * p.wr) forms.old.forms forms.old.own →
-        result ≡ wanted_of o F.element circuit.now public script.now messages challenges.now }
+        AreRest o F.coding.element circuit.now public script.now messages (factored.old.rows * p.wr) forms.old.forms forms.old.own →
+        result ≡ wanted_of o F.coding.element circuit.now public script.now messages challenges.now }
 {
     let params = Params::of(circuit);
     let rows = factored.rows;
@@ -263,7 +247,7 @@ fn fill<F: Field>(
     );
     let depth = circuit.depth();
     let lambda = challenges.lambda.as_slice();
-    let by = entry_of(lambda, depth as usize);
+    let by = entry_at(lambda, depth as usize);
     let bits = bits_of(params.wr);
     set_private_factors(
         circuit,
@@ -305,8 +289,8 @@ pub fn combine_factored<F: Field>(
     ensures forms { AreFormsOf F.ops circuit.now forms.new }
     ensures room { HasRoomFor circuit.now factored.new }
     ensures combined { GivesCombined F.ops (params_of circuit.now) factored.new
-        (combined_of F.ops F.element circuit.now public.now script.now messages.now challenges.now) }
-    ensures wanted { result ≡ wanted_of F.ops F.element circuit.now public.now script.now messages.now challenges.now }
+        (combined_of F.ops F.coding.element circuit.now public.now script.now messages.now challenges.now) }
+    ensures wanted { result ≡ wanted_of F.ops F.coding.element circuit.now public.now script.now messages.now challenges.now }
 {
     let skip = filled_inputs(circuit, factored.rows);
     rest_forms(circuit, public, script, messages, skip, forms);
@@ -334,8 +318,8 @@ pub fn combine_with_bounds<F: Field>(
     ensures forms { AreFormsOf F.ops circuit.now forms.new }
     ensures room { HasRoomFor circuit.now factored.new }
     ensures combined { GivesCombined F.ops (params_of circuit.now) factored.new
-        (combined_of F.ops F.element circuit.now public.now script.now messages.now challenges.now) }
-    ensures wanted { result ≡ wanted_of F.ops F.element circuit.now public.now script.now messages.now challenges.now }
+        (combined_of F.ops F.coding.element circuit.now public.now script.now messages.now challenges.now) }
+    ensures wanted { result ≡ wanted_of F.ops F.coding.element circuit.now public.now script.now messages.now challenges.now }
 {
     let skip = filled_inputs(circuit, factored.rows);
     rest_with_bounds(circuit, public, script, messages, bounds, skip, forms);

@@ -5,9 +5,9 @@ ghost use Rattle.lzk_circuit.specs.Bits.{bits};
 ghost use Rattle.lzk_layout.specs.Places.{depth, width_at};
 ghost use Rattle.lzk_accept.specs.Kept.{form_at, coefficient, right, IsPlacedAt, AreFormsOf};
 
-use lzk_circuit::{Circuit, bits_of, zeros};
+use lzk_circuit::{Circuit, power_of, zeros};
 use lzk_field::Field;
-use lzk_layout::{LayerPlaces, Params};
+use lzk_layout::{LayerPlaces, Params, most_bits};
 use std::alloc::{AllocError, Global};
 use std::marker::Model;
 
@@ -70,43 +70,6 @@ impl<F: Field> Form<F> {
         };
         first.add(second)
     }
-}
-
-// How many bits number the wires of layer `l`.
-fn layer_bits<F: Field>(circuit: &Circuit<F>, l: u32) -> u32
-    requires { l ≤ depth circuit.now }
-    ensures bits { result ≡ bits (width_at circuit.now l) }
-    ensures few { result ≤ 17 }
-{
-    let _depth = circuit.depth();
-    bits_of(circuit.width(l))
-}
-
-// The most bits that number the wires of a layer.
-fn most_bits<F: Field>(circuit: &Circuit<F>) -> u32
-    ensures most { (l : ℕ) → l < depth circuit.now + 1 → bits (width_at circuit.now l) ≤ result }
-    ensures few { result ≤ 17 }
-{
-    let mut most: u32 = 0;
-    for l in 0..circuit.depth() + 1 {
-        let bits = layer_bits(circuit, l);
-        if most < bits {
-            most = bits;
-        }
-    }
-    most
-}
-
-// How many numbers have so many bits.
-pub(crate) fn power_of(bits: u32) -> usize
-    requires { bits ≤ 17 }
-    ensures { result ≡ 2 ^ bits }
-{
-    let mut power = 1;
-    for _k in 0..bits {
-        power *= 2;
-    }
-    power
 }
 
 // A form with no coefficients.

@@ -21,20 +21,13 @@ use crate::tables::{set_bounds, set_input_tables};
 use lzk_circuit::Circuit;
 use lzk_field::Field;
 use lzk_layout::LayerPlaces;
-use lzk_sumcheck::Script;
+use lzk_sumcheck::{Script, entry_at};
 
 /// The two factors that a layer sends, or zeros where there is no layer.
 #[derive(Clone, Copy)]
 struct Factors<F> {
     first: F,
     second: F,
-}
-
-/// The entry at a place of a list, and 0 past its end.
-pub(crate) fn entry_of<F: Field>(list: &[F], i: usize) -> F
-    ensures { result ≡ entry F.ops list.now i }
-{
-    if i < list.len() { list[i] } else { F::zero() }
 }
 
 // The two factors that are sent from place i on.
@@ -100,7 +93,7 @@ fn layer_form<F: Field>(
     old: Form<F>,
     own: &mut [F],
 ) -> Form<F>
-    requires points { AreInverses F.ops F.element points }
+    requires points { AreInverses F.ops F.coding.element points }
     requires layer { l < depth circuit.now }
     requires shape { HasShape circuit.now script.now }
     requires messages { length messages.now ≡ sent_counts circuit.now }
@@ -115,7 +108,7 @@ fn layer_form<F: Field>(
     ensures before { (j : ℕ) → j < pads_at circuit.now l → entry F.ops own.new j ≡ entry F.ops own.old j }
     ensures after { (j : ℕ) → pads_at circuit.now (l + 1) ≤ j → entry F.ops own.new j ≡ entry F.ops own.old j }
     ensures placed { IsPlacedAt circuit.now l result }
-    ensures constraint { (public : List F) → IsConstraint F.ops F.element circuit.now (coefficients F.ops circuit.now script.now) public script.now
+    ensures constraint { (public : List F) → IsConstraint F.ops F.coding.element circuit.now (coefficients F.ops circuit.now script.now) public script.now
         messages.now l own.new result }
 {
     let layer = layer_of(circuit, script, l);
@@ -264,7 +257,7 @@ fn fill_layers<F: Field>(
     ensures above_b { result.second ≡ above_b F.ops circuit.now messages.now (depth circuit.now) }
     ensures placed { (i : ℕ) → i < depth circuit.now + 1 → IsPlacedAt circuit.now i (form_at F.ops forms.new i) }
     ensures constraints { (public : List F) (i : ℕ) → i < depth circuit.now →
-        IsConstraint F.ops F.element circuit.now (coefficients F.ops circuit.now script.now) public script.now messages.now i own.new
+        IsConstraint F.ops F.coding.element circuit.now (coefficients F.ops circuit.now script.now) public script.now messages.now i own.new
         (form_at F.ops forms.new i) }
 {
     let depth = circuit.depth();
@@ -275,7 +268,7 @@ fn fill_layers<F: Field>(
         second: F::zero(),
     };
     for l in 0..depth {
-        let bound = entry_of(bounds, l as usize);
+        let bound = entry_at(bounds, l as usize);
         let old = form_of(forms, l as usize);
         let form = layer_form(
             points, circuit, script, messages, l, places, above, bound, old, own,
@@ -318,7 +311,7 @@ fn fill_forms<F: Field>(
     ensures forms_length { length forms.new ≡ length forms.old }
     ensures own_length { length own.new ≡ length own.old }
     ensures placed { (i : ℕ) → i < depth circuit.now + 1 → IsPlacedAt circuit.now i (form_at F.ops forms.new i) }
-    ensures rest { AreRest F.ops F.element circuit.now public.now script.now messages.now skip forms.new own.new }
+    ensures rest { AreRest F.ops F.coding.element circuit.now public.now script.now messages.now skip forms.new own.new }
 {
     let above = fill_layers(circuit, script, messages, bounds, forms, own);
     let depth = circuit.depth() as usize;
@@ -353,7 +346,7 @@ pub(crate) fn rest_forms<F: Field>(
     requires messages { length messages.now ≡ sent_counts circuit.now }
     requires made { AreFormsOf F.ops circuit.now forms.old }
     ensures made { AreFormsOf F.ops circuit.now forms.new }
-    ensures rest { AreRest F.ops F.element circuit.now public.now script.now messages.now skip forms.new.forms forms.new.own }
+    ensures rest { AreRest F.ops F.coding.element circuit.now public.now script.now messages.now skip forms.new.forms forms.new.own }
 {
     set_bounds(
         circuit,
@@ -394,7 +387,7 @@ pub(crate) fn rest_with_bounds<F: Field>(
     requires bounds { AreBounds F.ops circuit.now script.now bounds.now }
     requires made { AreFormsOf F.ops circuit.now forms.old }
     ensures made { AreFormsOf F.ops circuit.now forms.new }
-    ensures rest { AreRest F.ops F.element circuit.now public.now script.now messages.now skip forms.new.forms forms.new.own }
+    ensures rest { AreRest F.ops F.coding.element circuit.now public.now script.now messages.now skip forms.new.forms forms.new.own }
 {
     set_input_tables(circuit, script, &mut forms.first, &mut forms.second);
     fill_forms(
@@ -427,9 +420,9 @@ pub fn linear_forms<F: Field>(
     ensures made { AreFormsOf F.ops circuit.now forms.new }
     ensures coefficients { let q = coefficients F.ops circuit.now script.now in
         (i j : ℕ) → i < depth circuit.now + 1 → j < committed_count circuit.now →
-        coefficient F.ops forms.new i j ≡ linear_coefficient F.ops F.element circuit.now q public.now script.now messages.now i j }
+        coefficient F.ops forms.new i j ≡ linear_coefficient F.ops F.coding.element circuit.now q public.now script.now messages.now i j }
     ensures rights { let q = coefficients F.ops circuit.now script.now in
-        (i : ℕ) → i < depth circuit.now + 1 → right F.ops forms.new i ≡ right_side F.ops F.element circuit.now q public.now script.now messages.now i }
+        (i : ℕ) → i < depth circuit.now + 1 → right F.ops forms.new i ≡ right_side F.ops F.coding.element circuit.now q public.now script.now messages.now i }
 {
     rest_forms(circuit, public, script, messages, 0, forms);
 }

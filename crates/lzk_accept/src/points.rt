@@ -47,7 +47,7 @@ fn apart<F: Field>(x: F, u: F, v: F) -> F
 
 impl<F: Field> ThreePoints<F> {
     pub(crate) fn new() -> ThreePoints<F>
-        ensures { AreInverses F.ops F.element result }
+        ensures { AreInverses F.ops F.coding.element result }
     {
         let x0 = F::point(0);
         let x1 = F::point(1);
@@ -61,8 +61,8 @@ impl<F: Field> ThreePoints<F> {
 
     /// What the three values count for at `t`.
     pub(crate) fn shares(self, t: F) -> Shares<F>
-        requires { AreInverses F.ops F.element self }
-        ensures { AreShares F.ops F.element t result }
+        requires { AreInverses F.ops F.coding.element self }
+        ensures { AreShares F.ops F.coding.element t result }
     {
         let d0 = t.sub(F::point(0));
         let d1 = t.sub(F::point(1));
@@ -76,8 +76,8 @@ impl<F: Field> ThreePoints<F> {
 
     /// The claim after a round.
     pub(crate) fn next_claim(self, claim: F, p0: F, p2: F, t: F) -> F
-        requires { AreInverses F.ops F.element self }
-        ensures { result ≡ next_claim F.ops F.element claim p0 p2 t }
+        requires { AreInverses F.ops F.coding.element self }
+        ensures { result ≡ next_claim F.ops F.coding.element claim p0 p2 t }
     {
         let shares = self.shares(t);
         let first = p0.mul(shares.first);
@@ -90,8 +90,8 @@ impl<F: Field> ThreePoints<F> {
 /// The claim after a round whose values at points 0 and 2 are `p0` and `p2`, those at points 0 and 1 adding up to the claim
 /// before it, at the round's challenge `t`.
 pub fn next_claim<F: Field>(claim: F, p0: F, p2: F, t: F) -> F
-    ensures value { result ≡ next_claim F.ops F.element claim p0 p2 t }
-    ensures polynomial { (coefficients : List F) → IsThrough F.ops F.element (p0 ∷ minus F.ops claim p0 ∷ p2 ∷ []) coefficients →
+    ensures value { result ≡ next_claim F.ops F.coding.element claim p0 p2 t }
+    ensures polynomial { (coefficients : List F) → IsThrough F.ops F.coding.element (p0 ∷ minus F.ops claim p0 ∷ p2 ∷ []) coefficients →
         result ≡ eval F.ops coefficients t }
 {
     ThreePoints::new().next_claim(claim, p0, p2, t)

@@ -34,11 +34,11 @@ pub fn residual<F: Field>(
     requires w { length w.now ≡ committed_count circuit.now }
     requires room { length room.old ≡ 262144 }
     ensures value { let q = coefficients F.ops circuit.now script.now in
-        result ≡ spec.residual F.ops F.element circuit.now q public.now script.now messages.now w.now i }
+        result ≡ spec.residual F.ops F.coding.element circuit.now q public.now script.now messages.now w.now i }
     ensures affine { let q = coefficients F.ops circuit.now script.now in
-        IsForm F.ops (committed_count circuit.now) (λ v. spec.residual F.ops F.element circuit.now q public.now script.now messages.now v i)
-        (F.ops.neg (right_side F.ops F.element circuit.now q public.now script.now messages.now i))
-        (linear_coefficient F.ops F.element circuit.now q public.now script.now messages.now i) }
+        IsForm F.ops (committed_count circuit.now) (λ v. spec.residual F.ops F.coding.element circuit.now q public.now script.now messages.now v i)
+        (F.ops.neg (right_side F.ops F.coding.element circuit.now q public.now script.now messages.now i))
+        (linear_coefficient F.ops F.coding.element circuit.now q public.now script.now messages.now i) }
     ensures room { length room.new ≡ length room.old }
 {
     if i < circuit.depth() {

@@ -59,7 +59,7 @@ pub(crate) fn claim_form<F: Field>(
     own: &mut [F],
     at: usize,
 ) -> Claim<F>
-    requires points { AreInverses F.ops F.element points }
+    requires points { AreInverses F.ops F.coding.element points }
     requires bits { HasBits bits layer.now }
     requires messages { sent + 4 * bits ≤ length messages.now }
     requires room { at + 4 * bits ≤ length own.old }
@@ -67,7 +67,7 @@ pub(crate) fn claim_form<F: Field>(
     ensures before { (j : ℕ) → j < at → entry F.ops own.new j ≡ entry F.ops own.old j }
     ensures after { (j : ℕ) → at + 4 * bits ≤ j → entry F.ops own.new j ≡ entry F.ops own.old j }
     ensures form { let o = F.ops in (pad : ℕ → F) (x : F) →
-        through_rounds o F.element (challenge_of o layer.now) (λ k. entry o messages.now (sent + k)) pad x (2 * bits)
+        through_rounds o F.coding.element (challenge_of o layer.now) (λ k. entry o messages.now (sent + k)) pad x (2 * bits)
         ≡ o.plus (o.plus result.constant (o.times result.weight x)) (sum_below o (4 * bits) (λ k. o.times (entry o own.new (at + k)) (pad k))) }
 {
     let ra = layer.ra.as_slice();

@@ -23,5 +23,6 @@ pub mod SentLaws
 pub mod ShapeLaws
 pub mod SpreadLaws
 pub mod SumcheckLaws
+pub mod TableLaws
 pub mod VersionLaws
 pub mod WireLaws

@@ -13,5 +13,6 @@ pub mod Rows
 pub mod Script
 pub mod Sending
 pub mod States
+pub mod Tables
 pub mod Versions
 pub mod Weights

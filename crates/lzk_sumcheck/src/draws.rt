@@ -1,7 +1,6 @@
 //! Elements written to the tape, and drawn from it.
 
 ghost use Rattle.std.specs.Prelude.{◌≡◌, ℕ, ◌+◌, ◌*◌, ◌<◌, ◌≤◌, length};
-ghost use Rattle.lzk_field.specs.Coding.{coding};
 ghost use Rattle.lzk_field.specs.Sums.{entry};
 ghost use Rattle.lzk_transcript.specs.Tape.{drawn, after_draw};
 ghost use Rattle.lzk_transcript.specs.Columns.{after_draws};
@@ -13,7 +12,7 @@ use lzk_transcript::Tape;
 
 /// Draws an element for each place of `out`, in order. No memory is taken.
 pub fn draw_all<F: Field>(tape: &mut Tape, out: &mut [F])
-    ensures drawn { let e = coding F.element F.number_of F.BYTES F.size F.ID in out.new ≡ draws e 0 (length out.old) tape.old }
+    ensures drawn { out.new ≡ draws F.coding 0 (length out.old) tape.old }
     ensures after { tape.new ≡ after_draws (length out.old) tape.old }
 {
     for i in 0..out.len() {
@@ -23,7 +22,7 @@ pub fn draw_all<F: Field>(tape: &mut Tape, out: &mut [F])
 
 // Beta, which is drawn in version 2 alone.
 pub(crate) fn draw_beta<F: Field>(version: u8, tape: &mut Tape) -> F
-    ensures beta { let e = coding F.element F.number_of F.BYTES F.size F.ID in result ≡ drawn_beta F.ops e version tape.old }
+    ensures beta { result ≡ drawn_beta F.ops F.coding version tape.old }
     ensures after { tape.new ≡ after_beta version tape.old }
 {
     if version == 2 { tape.draw() } else { F::zero() }
@@ -32,7 +31,7 @@ pub(crate) fn draw_beta<F: Field>(version: u8, tape: &mut Tape) -> F
 /// Writes the two elements from place `i` on.
 pub fn write_pair<F: Field>(tape: &mut Tape, messages: &[F], i: usize)
     requires { i + 1 < length messages.now }
-    ensures { tape.new ≡ with_pair F.ops (coding F.element F.number_of F.BYTES F.size F.ID) messages.now i tape.old }
+    ensures { tape.new ≡ with_pair F.ops F.coding messages.now i tape.old }
 {
     tape.elem(messages[i]);
     tape.elem(messages[i + 1]);
@@ -41,8 +40,8 @@ pub fn write_pair<F: Field>(tape: &mut Tape, messages: &[F], i: usize)
 // A round: its two elements from place i on are written, and its challenge is drawn.
 pub(crate) fn replay_round<F: Field>(tape: &mut Tape, messages: &[F], i: usize) -> F
     requires { i + 1 < length messages.now }
-    ensures challenge { let e = coding F.element F.number_of F.BYTES F.size F.ID in result ≡ F.element (drawn (with_pair F.ops e messages.now i tape.old)) }
-    ensures after { let e = coding F.element F.number_of F.BYTES F.size F.ID in tape.new ≡ after_draw (with_pair F.ops e messages.now i tape.old) }
+    ensures challenge { result ≡ F.coding.element (drawn (with_pair F.ops F.coding messages.now i tape.old)) }
+    ensures after { tape.new ≡ after_draw (with_pair F.ops F.coding messages.now i tape.old) }
 {
     write_pair(tape, messages, i);
     tape.draw()
@@ -58,14 +57,9 @@ pub fn replay_rounds<F: Field>(
 )
     requires bits { length rb.old ≡ length ra.old }
     requires messages { i + 4 * length ra.old ≤ length messages.now }
-    ensures ra_length { length ra.new ≡ length ra.old }
-    ensures rb_length { length rb.new ≡ length rb.old }
-    ensures ra { let e = coding F.element F.number_of F.BYTES F.size F.ID in
-        (j : ℕ) → j < length ra.old → entry F.ops ra.new j ≡ round_challenge F.ops e messages.now i tape.old (2 * j) }
-    ensures rb { let e = coding F.element F.number_of F.BYTES F.size F.ID in
-        (j : ℕ) → j < length ra.old → entry F.ops rb.new j ≡ round_challenge F.ops e messages.now i tape.old (2 * j + 1) }
-    ensures after { let e = coding F.element F.number_of F.BYTES F.size F.ID in
-        tape.new ≡ after_rounds F.ops e messages.now i (2 * length ra.old) tape.old }
+    ensures ra { (j : ℕ) → j < length ra.old → entry F.ops ra.new j ≡ round_challenge F.ops F.coding messages.now i tape.old (2 * j) }
+    ensures rb { (j : ℕ) → j < length ra.old → entry F.ops rb.new j ≡ round_challenge F.ops F.coding messages.now i tape.old (2 * j + 1) }
+    ensures after { tape.new ≡ after_rounds F.ops F.coding messages.now i (2 * length ra.old) tape.old }
 {
     for j in 0..ra.len() {
         ra[j] = replay_round(tape, messages, i + 4 * j);

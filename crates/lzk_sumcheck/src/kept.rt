@@ -1,21 +1,19 @@
 //! A layer's tables and coefficients with one variable more bound.
 
-ghost use Rattle.std.specs.Prelude.{◌≡◌, ℕ, ◌+◌, ◌*◌, ◌/◌, ◌%◌, ◌<◌, ◌≤◌, Bool, true, false, not, List, ◌∷◌, length, take};
+ghost use Rattle.std.specs.Prelude.{◌≡◌, ℕ, ◌+◌, ◌*◌, ◌/◌, ◌%◌, ◌<◌, ◌≤◌, Bool, true, false, not, length, take};
 ghost use Rattle.lzk_field.specs.Sums.{entry};
-ghost use Rattle.lzk_mle.specs.Multilinear.{tilde};
 ghost use Rattle.lzk_sumcheck.specs.Pairs.{ArePairs, bound_entry, spread};
-ghost use Rattle.lzk_sumcheck.specs.Rows.{linear_at, IsKept};
-ghost use Rattle.lzk_sumcheck.specs.States.{State, bind_state, bound};
+ghost use Rattle.lzk_sumcheck.specs.Rows.{linear_at};
+ghost use Rattle.lzk_sumcheck.specs.States.{bound};
 
 use crate::arithmetic::between;
-use crate::pairs::{Pair, bind_pairs};
+use crate::pairs::Pair;
 use crate::rows::entry_at;
 use lzk_field::Field;
 
-// Puts in place of the first entries one for each two of them, as if bit 0 of their numbers were x; gives how many there are then.
-fn bind_table<F: Field>(table: &mut [F], x: F) -> usize
+/// Puts in place of the first entries one for each two of them, as if bit 0 of their numbers were x; gives how many there are then.
+pub(crate) fn bind_table<F: Field>(table: &mut [F], x: F) -> usize
     ensures half { result ≡ length table.old / 2 + length table.old % 2 }
-    ensures length { length table.new ≡ length table.old }
     ensures entries { let o = F.ops in (i : ℕ) → i < length table.old / 2 + length table.old % 2 → entry o table.new i ≡ bound_entry o x table.old i }
 {
     let half = table.len() / 2 + table.len() % 2;
@@ -25,9 +23,8 @@ fn bind_table<F: Field>(table: &mut [F], x: F) -> usize
     half
 }
 
-// Binds the variable in the coefficients of wire 0; gives their new factor, and how many there are then.
-fn bind_linear<F: Field>(of_a: bool, scale: F, linear: &mut [F], x: F) -> (F, usize)
-    ensures length { length linear.new ≡ length linear.old }
+/// Binds the variable in the coefficients of wire 0; gives their new factor, and how many there are then.
+pub(crate) fn bind_linear<F: Field>(of_a: bool, scale: F, linear: &mut [F], x: F) -> (F, usize)
     ensures for_a { of_a ≡ true → result.1 ≡ length linear.old }
     ensures for_b { of_a ≡ false → result.1 ≡ length linear.old / 2 + length linear.old % 2 }
     ensures entries { let o = F.ops in (i j : ℕ) →
@@ -51,47 +48,4 @@ pub(crate) fn last_coefficient<F: Field>(pairs: &[Pair<F>], scale: F, linear: &[
         total = total.add(pair.coef);
     }
     total
-}
-
-/// How much is left of a layer's coefficients, and of the table whose variable was bound.
-#[derive(Clone, Copy)]
-pub(crate) struct Left<F> {
-    pub(crate) pairs: usize,
-    pub(crate) scale: F,
-    pub(crate) linear: usize,
-    pub(crate) table: usize,
-}
-
-/// Binds the next variable at x in what is kept. The tables change places.
-pub(crate) fn bind_kept<F: Field>(
-    of_a: bool,
-    pairs: &mut [Pair<F>],
-    scale: F,
-    linear: &mut [F],
-    first: &mut [F],
-    second: &[F],
-    x: F,
-) -> Left<F>
-    ensures table { result.table ≡ length first.old / 2 + length first.old % 2 }
-    ensures first_length { length first.new ≡ length first.old }
-    ensures extension { (s : List F) → tilde F.ops (take result.table first.new) s ≡ tilde F.ops first.old (x ∷ s) }
-    ensures linear_length { length linear.new ≡ length linear.old }
-    ensures for_a { of_a ≡ true → result.linear ≡ length linear.old }
-    ensures for_b { of_a ≡ false → result.linear ≡ length linear.old / 2 + length linear.old % 2 }
-    ensures count { result.pairs ≤ length pairs.old }
-    ensures pairs_length { length pairs.new ≡ length pairs.old }
-    ensures within { ArePairs (length first.old) (length second.now) pairs.old → ArePairs (length second.now) result.table (take result.pairs pairs.new) }
-    ensures kept { (j k : ℕ) (st : State F) → IsKept F.ops (j + 1) k st of_a pairs.old scale linear.old first.old second.now →
-        IsKept F.ops k j (bind_state F.ops x st) (not of_a) (take result.pairs pairs.new) result.scale (take result.linear linear.new) second.now
-        (take result.table first.new) }
-{
-    let table = bind_table(first, x);
-    let (scale, linear) = bind_linear(of_a, scale, linear, x);
-    let pairs = bind_pairs(pairs, x);
-    Left {
-        pairs,
-        scale,
-        linear,
-        table,
-    }
 }

@@ -16,11 +16,13 @@
 #![tactic(auto)]
 
 mod arithmetic;
+mod crew;
 mod curve;
 mod draws;
 mod kept;
 mod laws;
 mod layer;
+mod opening;
 mod order;
 mod pairs;
 mod parts;
@@ -31,12 +33,15 @@ mod rounds;
 mod rows;
 mod script;
 mod sending;
+mod tables;
 mod weights;
 
 pub use draws::draw_all;
 pub use laws::sumcheck_laws;
+pub use opening::{draw_opened, public_tape};
 pub use plain::plain_round;
 pub use proving::prove_layers;
 pub use replaying::{message_count, replay};
 pub use rounds::Rounds;
+pub use rows::entry_at;
 pub use script::{LayerScript, LayerScripts, Script};

@@ -30,7 +30,6 @@ fn bound_pair<F: Field>(pair: Pair<F>, x: F) -> Pair<F>
 pub(crate) fn absorb<F: Field>(pairs: &mut [Pair<F>], kept: usize, p: Pair<F>) -> usize
     requires { kept < length pairs.old }
     ensures count { result ≤ kept + 1 }
-    ensures length { length pairs.new ≡ length pairs.old }
     ensures rest { drop (kept + 1) pairs.new ≡ drop (kept + 1) pairs.old }
     ensures sums { let o = F.ops in (i j : ℕ) → spread o (take result pairs.new) i j ≡ o.plus (spread o (take kept pairs.old) i j) (spread o (p ∷ []) i j) }
     ensures within { (n m : ℕ) → ArePairs n m (take kept pairs.old) → ArePairs n m (p ∷ []) → ArePairs n m (take result pairs.new) }
@@ -54,7 +53,6 @@ pub(crate) fn absorb<F: Field>(pairs: &mut [Pair<F>], kept: usize, p: Pair<F>) -
 /// are left.
 pub(crate) fn bind_pairs<F: Field>(pairs: &mut [Pair<F>], x: F) -> usize
     ensures count { result ≤ length pairs.old }
-    ensures length { length pairs.new ≡ length pairs.old }
     ensures sums { let o = F.ops in (i j : ℕ) → spread o (take result pairs.new) i j ≡ spread o (map (bind_pair o x) pairs.old) i j }
     ensures within { (n m : ℕ) → ArePairs n m (map (bind_pair F.ops x) pairs.old) → ArePairs n m (take result pairs.new) }
 {

@@ -1,12 +1,12 @@
 //! A round's sums: by the caller alone, or in parts, each of which a worker sums.
 
-ghost use Rattle.std.specs.Prelude.{◌≡◌, ℕ, ◌+◌, ◌-◌, ◌*◌, ◌/◌, ◌<◌, ◌≤◌, min, true, false, length};
+ghost use Rattle.std.specs.Prelude.{◌≡◌, ℕ, ◌+◌, ◌-◌, ◌*◌, ◌/◌, ◌<◌, ◌≤◌, min, length};
 ghost use Rattle.lzk_field.specs.Sums.{sum_below};
-ghost use Rattle.lzk_sumcheck.specs.Pairs.{ArePairs};
 ghost use Rattle.lzk_sumcheck.specs.Parts.{AreMatching, AreSums, BeginsWithSums, sums_in};
 ghost use Rattle.lzk_sumcheck.specs.Rows.{round_at, row_at};
 
 use crate::arithmetic::sum_of;
+use crate::crew::Crew;
 use crate::curve::{RoundSums, round_sums};
 use crate::pairs::Pair;
 use crate::rows::{set_rows, set_rows_from};
@@ -20,13 +20,13 @@ const WORTH_A_THREAD: usize = 10_000;
 
 /// What a round is summed over: pairs, coefficients of wire 0 and two tables.
 #[derive(Drop)]
-struct Summed<'a, F: Field> {
-    of_a: bool,
-    scale: F,
-    linear: &'a [F],
-    first: &'a [F],
-    second: &'a [F],
-    pairs: &'a [Pair<F>],
+pub(crate) struct Summed<'a, F: Field> {
+    pub(crate) of_a: bool,
+    pub(crate) scale: F,
+    pub(crate) linear: &'a [F],
+    pub(crate) first: &'a [F],
+    pub(crate) second: &'a [F],
+    pub(crate) pairs: &'a [Pair<F>],
 }
 
 /// How many sums stand before the rows of a part.
@@ -49,27 +49,21 @@ fn parts_of(workers: usize, pairs: usize, entries: usize) -> usize
 }
 
 // Sets all rows, and sums the round.
-fn sum_whole<F: Field>(
-    of_a: bool,
-    pairs: &[Pair<F>],
-    scale: F,
-    linear: &[F],
-    first: &[F],
-    second: &[F],
-    rows: &mut [F],
-) -> RoundSums<F>
-    requires first { 1 ≤ length first.now }
-    requires second { 1 ≤ length second.now }
-    requires for_a { of_a ≡ true → length linear.now ≡ length second.now }
-    requires for_b { of_a ≡ false → length linear.now ≡ length first.now }
-    requires pairs { ArePairs (length first.now) (length second.now) pairs.now }
-    requires rows { length first.now ≤ length rows.old }
-    ensures length { length rows.new ≡ length rows.old }
-    ensures sums { AreSums F.ops (row_at F.ops of_a pairs.now scale linear.now second.now) first.now result }
+fn sum_whole<F: Field>(round: &Summed<F>, rows: &mut [F]) -> RoundSums<F>
+    requires matching { AreMatching round.now.of_a round.now.pairs.now round.now.linear.now round.now.first.now round.now.second.now }
+    requires rows { length round.now.first.now ≤ length rows.old }
+    ensures { let r = round.now in AreSums F.ops (row_at F.ops r.of_a r.pairs.now r.scale r.linear.now r.second.now) r.first.now result }
 {
-    let (rows, _) = rows.split_at_mut(first.len());
-    set_rows(of_a, pairs, scale, linear, second, rows);
-    round_sums(rows, first)
+    let (rows, _) = rows.split_at_mut(round.first.len());
+    set_rows(
+        round.of_a,
+        round.pairs,
+        round.scale,
+        round.linear,
+        round.second,
+        rows,
+    );
+    round_sums(rows, round.first)
 }
 
 // Sums part `k` of a round: at most `each` times two places. Its sums are put first, and behind them its rows are written over.
@@ -118,37 +112,19 @@ fn add_parts<F: Field>(parts: &[F], size: usize, count: usize) -> RoundSums<F>
 fn sum_in_parts<R: Threads + Sync, F: Field>(
     rt: &R,
     parts: usize,
-    of_a: bool,
-    pairs: &[Pair<F>],
-    scale: F,
-    linear: &[F],
-    first: &[F],
-    second: &[F],
+    round: &Summed<F>,
     rows: &mut [F],
 ) -> RoundSums<F>
     requires some { 1 ≤ parts }
     requires few { parts ≤ 64 }
-    requires first { 1 ≤ length first.now }
-    requires second { 1 ≤ length second.now }
-    requires for_a { of_a ≡ true → length linear.now ≡ length second.now }
-    requires for_b { of_a ≡ false → length linear.now ≡ length first.now }
-    requires pairs { ArePairs (length first.now) (length second.now) pairs.now }
-    requires rows { length first.now + 3 * 64 ≤ length rows.old }
-    ensures length { length rows.new ≡ length rows.old }
-    ensures sums { AreSums F.ops (row_at F.ops of_a pairs.now scale linear.now second.now) first.now result }
+    requires matching { AreMatching round.now.of_a round.now.pairs.now round.now.linear.now round.now.first.now round.now.second.now }
+    requires rows { length round.now.first.now + 3 * 64 ≤ length rows.old }
+    ensures { let r = round.now in AreSums F.ops (row_at F.ops r.of_a r.pairs.now r.scale r.linear.now r.second.now) r.first.now result }
 {
-    let each = first.len().div_ceil(2).div_ceil(parts);
-    let count = first.len().div_ceil(2 * each);
+    let each = round.first.len().div_ceil(2).div_ceil(parts);
+    let count = round.first.len().div_ceil(2 * each);
     let size = SUMS + 2 * each;
-    let (used, _) = rows.split_at_mut(first.len() + SUMS * count);
-    let round = &Summed {
-        of_a,
-        scale,
-        linear,
-        first,
-        second,
-        pairs,
-    };
+    let (used, _) = rows.split_at_mut(round.first.len() + SUMS * count);
     let one = |start: usize, part: &mut [F]|
         requires { AreMatching round.now.of_a round.now.pairs.now round.now.linear.now round.now.first.now round.now.second.now × (0 < size) ×
             (1 ≤ each) × (2 * (start / size * each) < length round.now.first.now) ×
@@ -164,31 +140,18 @@ fn sum_in_parts<R: Threads + Sync, F: Field>(
 
 /// Sums a round, in parts where each is worth a worker. The sums are the same for every number of workers. `rows` is written over.
 pub(crate) fn sum_round<R: Threads + Sync, F: Field>(
-    rt: &R,
-    workers: usize,
-    of_a: bool,
-    pairs: &[Pair<F>],
-    scale: F,
-    linear: &[F],
-    first: &[F],
-    second: &[F],
+    crew: &Crew<R>,
+    round: &Summed<F>,
     rows: &mut [F],
 ) -> RoundSums<F>
-    requires some_workers { 1 ≤ workers }
-    requires few_workers { workers ≤ 64 }
-    requires first { 1 ≤ length first.now }
-    requires second { 1 ≤ length second.now }
-    requires for_a { of_a ≡ true → length linear.now ≡ length second.now }
-    requires for_b { of_a ≡ false → length linear.now ≡ length first.now }
-    requires pairs { ArePairs (length first.now) (length second.now) pairs.now }
-    requires rows { length first.now + 3 * 64 ≤ length rows.old }
-    ensures length { length rows.new ≡ length rows.old }
-    ensures sums { AreSums F.ops (row_at F.ops of_a pairs.now scale linear.now second.now) first.now result }
+    requires matching { AreMatching round.now.of_a round.now.pairs.now round.now.linear.now round.now.first.now round.now.second.now }
+    requires rows { length round.now.first.now + 3 * 64 ≤ length rows.old }
+    ensures { let r = round.now in AreSums F.ops (row_at F.ops r.of_a r.pairs.now r.scale r.linear.now r.second.now) r.first.now result }
 {
-    let parts = parts_of(workers, pairs.len(), first.len());
+    let parts = parts_of(crew.workers, round.pairs.len(), round.first.len());
     if parts == 1 {
-        sum_whole(of_a, pairs, scale, linear, first, second, rows)
+        sum_whole(round, rows)
     } else {
-        sum_in_parts(rt, parts, of_a, pairs, scale, linear, first, second, rows)
+        sum_in_parts(crew.rt, parts, round, rows)
     }
 }

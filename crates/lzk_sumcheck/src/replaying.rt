@@ -1,7 +1,6 @@
 //! The writes and draws of all sumchecks of a circuit.
 
 ghost use Rattle.std.specs.Prelude.{◌≡◌, ℕ, ◌+◌, ◌*◌, ◌≤◌, length, slice_get, Some};
-ghost use Rattle.lzk_field.specs.Coding.{coding};
 ghost use Rattle.lzk_layout.specs.Places.{depth, bits_under};
 ghost use Rattle.lzk_layout.specs.Sizes.{sent_counts};
 ghost use Rattle.lzk_sumcheck.specs.declared.script.LayerScript as declared;
@@ -34,8 +33,8 @@ fn replay_layer<F: Field>(
 )
     requires bits { HasBits bits layer.old }
     requires messages { first + 4 * bits + 2 ≤ length messages.now }
-    ensures script { let e = coding F.element F.number_of F.BYTES F.size F.ID in layer.new ≡ layer_script F.ops e messages.now version first bits tape.old }
-    ensures after { let e = coding F.element F.number_of F.BYTES F.size F.ID in tape.new ≡ after_layer F.ops e messages.now version first bits tape.old }
+    ensures script { layer.new ≡ layer_script F.ops F.coding messages.now version first bits tape.old }
+    ensures after { tape.new ≡ after_layer F.ops F.coding messages.now version first bits tape.old }
 {
     layer.alpha = tape.draw();
     layer.beta = draw_beta(version, tape);
@@ -59,9 +58,8 @@ fn replay_layers<F: Field>(
     requires messages { length messages.now ≡ sent_counts circuit.now }
     requires depth { length layers.old ≡ depth circuit.now }
     requires bits { (l : ℕ) (layer : declared.LayerScript F) → slice_get layers.old l ≡ Some layer → HasBits (bits_under circuit.now l) layer }
-    ensures scripts { let e = coding F.element F.number_of F.BYTES F.size F.ID in layers.new ≡ layer_scripts F.ops e messages.now circuit.now tape.old }
-    ensures after { let e = coding F.element F.number_of F.BYTES F.size F.ID in
-        tape.new ≡ after_layers F.ops e messages.now circuit.now (depth circuit.now) tape.old }
+    ensures scripts { layers.new ≡ layer_scripts F.ops F.coding messages.now circuit.now tape.old }
+    ensures after { tape.new ≡ after_layers F.ops F.coding messages.now circuit.now (depth circuit.now) tape.old }
 {
     let mut places = LayerPlaces::first(circuit);
     for l in 0..circuit.depth() {
@@ -83,9 +81,8 @@ fn replay_list<F: Field>(
     requires messages { length messages.now ≡ sent_counts circuit.now }
     requires depth { length layers.old ≡ depth circuit.now }
     requires bits { (l : ℕ) (layer : declared.LayerScript F) → slice_get layers.old l ≡ Some layer → HasBits (bits_under circuit.now l) layer }
-    ensures scripts { let e = coding F.element F.number_of F.BYTES F.size F.ID in layers.new ≡ layer_scripts F.ops e messages.now circuit.now tape.old }
-    ensures after { let e = coding F.element F.number_of F.BYTES F.size F.ID in
-        tape.new ≡ after_layers F.ops e messages.now circuit.now (depth circuit.now) tape.old }
+    ensures scripts { layers.new ≡ layer_scripts F.ops F.coding messages.now circuit.now tape.old }
+    ensures after { tape.new ≡ after_layers F.ops F.coding messages.now circuit.now (depth circuit.now) tape.old }
 {
     replay_layers(circuit, tape, messages, &mut layers.list);
 }
@@ -100,8 +97,8 @@ pub fn replay<F: Field>(
 )
     requires messages { length messages.now ≡ sent_counts circuit.now }
     requires shape { HasShape circuit.now script.old }
-    ensures script { let e = coding F.element F.number_of F.BYTES F.size F.ID in script.new ≡ spec.script F.ops e messages.now circuit.now tape.old }
-    ensures tape { let e = coding F.element F.number_of F.BYTES F.size F.ID in tape.new ≡ after_script F.ops e messages.now circuit.now tape.old }
+    ensures script { script.new ≡ spec.script F.ops F.coding messages.now circuit.now tape.old }
+    ensures tape { tape.new ≡ after_script F.ops F.coding messages.now circuit.now tape.old }
     ensures shape { HasShape circuit.now script.new }
 {
     draw_all(tape, script.out_point.as_mut_slice());

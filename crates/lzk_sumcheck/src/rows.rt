@@ -10,7 +10,7 @@ use crate::pairs::Pair;
 use lzk_field::Field;
 
 /// The entry at a place of a table, and 0 past its end.
-pub(crate) fn entry_at<F: Field>(table: &[F], i: usize) -> F
+pub fn entry_at<F: Field>(table: &[F], i: usize) -> F
     ensures { result ≡ entry F.ops table.now i }
 {
     if i < table.len() { table[i] } else { F::zero() }
@@ -18,8 +18,7 @@ pub(crate) fn entry_at<F: Field>(table: &[F], i: usize) -> F
 
 /// Sets all to 0.
 pub(crate) fn set_zeros<F: Field>(rows: &mut [F])
-    ensures length { length rows.new ≡ length rows.old }
-    ensures entries { let o = F.ops in (i : ℕ) → entry o rows.new i ≡ o.zero }
+    ensures { let o = F.ops in (i : ℕ) → entry o rows.new i ≡ o.zero }
 {
     for i in 0..rows.len() {
         rows[i] = F::zero();
@@ -29,8 +28,7 @@ pub(crate) fn set_zeros<F: Field>(rows: &mut [F])
 // Sets each row to the factor times an entry.
 fn set_multiples<F: Field>(factor: F, list: &[F], rows: &mut [F])
     requires { length list.now ≤ length rows.old }
-    ensures length { length rows.new ≡ length rows.old }
-    ensures entries { let o = F.ops in (i : ℕ) → entry o rows.new i ≡ o.times factor (entry o list.now i) }
+    ensures { let o = F.ops in (i : ℕ) → entry o rows.new i ≡ o.times factor (entry o list.now i) }
 {
     for i in 0..rows.len() {
         rows[i] = product_of(factor, entry_at(list, i));
@@ -43,8 +41,7 @@ fn set_linear<F: Field>(of_a: bool, scale: F, linear: &[F], second: &[F], rows: 
     requires second { 1 ≤ length second.now }
     requires for_a { of_a ≡ true → length linear.now ≡ length second.now }
     requires for_b { of_a ≡ false → length linear.now ≡ length rows.old }
-    ensures length { length rows.new ≡ length rows.old }
-    ensures entries { let o = F.ops in (i : ℕ) → entry o rows.new i ≡ linear_row o of_a scale linear.now second.now i }
+    ensures { let o = F.ops in (i : ℕ) → entry o rows.new i ≡ linear_row o of_a scale linear.now second.now i }
 {
     if of_a {
         set_zeros(rows);
@@ -58,8 +55,7 @@ fn set_linear<F: Field>(of_a: bool, scale: F, linear: &[F], second: &[F], rows: 
 fn add_pair<F: Field>(pair: Pair<F>, second: &[F], rows: &mut [F])
     requires first { pair.a < length rows.old }
     requires second { pair.b < length second.now }
-    ensures length { length rows.new ≡ length rows.old }
-    ensures sums { let o = F.ops in (i : ℕ) →
+    ensures { let o = F.ops in (i : ℕ) →
         entry o rows.new i ≡ o.plus (entry o rows.old i) (cond (i == pair.a) (o.times pair.coef (entry o second.now pair.b)) o.zero) }
 {
     let a = pair.a as usize;
@@ -69,8 +65,7 @@ fn add_pair<F: Field>(pair: Pair<F>, second: &[F], rows: &mut [F])
 // Adds to each row what the pairs with its number come to.
 fn add_pairs<F: Field>(pairs: &[Pair<F>], second: &[F], rows: &mut [F])
     requires { ArePairs (length rows.old) (length second.now) pairs.now }
-    ensures length { length rows.new ≡ length rows.old }
-    ensures sums { let o = F.ops in (i : ℕ) → entry o rows.new i ≡ o.plus (entry o rows.old i) (pairs_row o pairs.now second.now i) }
+    ensures { let o = F.ops in (i : ℕ) → entry o rows.new i ≡ o.plus (entry o rows.old i) (pairs_row o pairs.now second.now i) }
 {
     for pair in pairs {
         add_pair(*pair, second, rows);
@@ -91,8 +86,7 @@ pub(crate) fn set_rows<F: Field>(
     requires for_a { of_a ≡ true → length linear.now ≡ length second.now }
     requires for_b { of_a ≡ false → length linear.now ≡ length rows.old }
     requires pairs { ArePairs (length rows.old) (length second.now) pairs.now }
-    ensures length { length rows.new ≡ length rows.old }
-    ensures entries { let o = F.ops in (i : ℕ) → entry o rows.new i ≡ row_at o of_a pairs.now scale linear.now second.now i }
+    ensures { let o = F.ops in (i : ℕ) → entry o rows.new i ≡ row_at o of_a pairs.now scale linear.now second.now i }
 {
     set_linear(of_a, scale, linear, second, rows);
     add_pairs(pairs, second, rows);
@@ -111,8 +105,7 @@ fn set_linear_from<F: Field>(
     requires second { 1 ≤ length second.now }
     requires for_a { of_a ≡ true → length linear.now ≡ length second.now }
     requires for_b { of_a ≡ false → from + length rows.old ≤ length linear.now }
-    ensures length { length rows.new ≡ length rows.old }
-    ensures entries { let o = F.ops in (i : ℕ) → i < length rows.old → entry o rows.new i ≡ linear_row o of_a scale linear.now second.now (from + i) }
+    ensures { let o = F.ops in (i : ℕ) → i < length rows.old → entry o rows.new i ≡ linear_row o of_a scale linear.now second.now (from + i) }
 {
     if of_a {
         set_zeros(rows);
@@ -127,8 +120,7 @@ fn set_linear_from<F: Field>(
 // Adds to its row what a pair comes to, where that is one of the rows from number `from` on.
 fn add_pair_from<F: Field>(pair: Pair<F>, second: &[F], from: usize, rows: &mut [F])
     requires second { pair.b < length second.now }
-    ensures length { length rows.new ≡ length rows.old }
-    ensures sums { let o = F.ops in (i : ℕ) → i < length rows.old →
+    ensures { let o = F.ops in (i : ℕ) → i < length rows.old →
         entry o rows.new i ≡ o.plus (entry o rows.old i) (cond (from + i == pair.a) (o.times pair.coef (entry o second.now pair.b)) o.zero) }
 {
     let a = pair.a as usize;
@@ -141,8 +133,7 @@ fn add_pair_from<F: Field>(pair: Pair<F>, second: &[F], from: usize, rows: &mut 
 // Adds to each of the rows from number `from` on what the pairs with its number come to.
 fn add_pairs_from<F: Field>(pairs: &[Pair<F>], second: &[F], from: usize, rows: &mut [F])
     requires { (n : ℕ) × ArePairs n (length second.now) pairs.now }
-    ensures length { length rows.new ≡ length rows.old }
-    ensures sums { let o = F.ops in (i : ℕ) → i < length rows.old →
+    ensures { let o = F.ops in (i : ℕ) → i < length rows.old →
         entry o rows.new i ≡ o.plus (entry o rows.old i) (pairs_row o pairs.now second.now (from + i)) }
 {
     for pair in pairs {
@@ -165,8 +156,7 @@ pub(crate) fn set_rows_from<F: Field>(
     requires for_a { of_a ≡ true → length linear.now ≡ length second.now }
     requires for_b { of_a ≡ false → from + length rows.old ≤ length linear.now }
     requires pairs { (n : ℕ) × ArePairs n (length second.now) pairs.now }
-    ensures length { length rows.new ≡ length rows.old }
-    ensures entries { let o = F.ops in (i : ℕ) → i < length rows.old → entry o rows.new i ≡ row_at o of_a pairs.now scale linear.now second.now (from + i) }
+    ensures { let o = F.ops in (i : ℕ) → i < length rows.old → entry o rows.new i ≡ row_at o of_a pairs.now scale linear.now second.now (from + i) }
 {
     set_linear_from(of_a, scale, linear, second, from, rows);
     add_pairs_from(pairs, second, from, rows);

@@ -6,25 +6,17 @@ ghost use Rattle.lzk_mle.specs.Multilinear.{eq};
 ghost use Rattle.lzk_sumcheck.specs.Weights.{weighted};
 
 use crate::arithmetic::plus_product;
+use lzk_circuit::power_of;
 use lzk_field::Field;
 use lzk_mle::eq_table;
-
-/// How many numbers have so many bits.
-pub(crate) fn power_of(bits: usize) -> usize
-    requires { bits ≤ 17 }
-    ensures { result ≡ 2 ^ bits }
-{
-    1usize << bits
-}
 
 /// Sets the first entries of a table to how their numbers agree with a point.
 pub(crate) fn set_table<F: Field>(r: &[F], table: &mut [F])
     requires few { length r.now ≤ 17 }
     requires room { 2 ^ length r.now ≤ length table.old }
-    ensures length { length table.new ≡ length table.old }
-    ensures entries { let o = F.ops in (i : ℕ) → i < 2 ^ length r.now → entry o table.new i ≡ eq o i r.now }
+    ensures { let o = F.ops in (i : ℕ) → i < 2 ^ length r.now → entry o table.new i ≡ eq o i r.now }
 {
-    let size = power_of(r.len());
+    let size = power_of(r.len() as u32);
     let (entries, _) = table.split_at_mut(size);
     eq_table(r, entries);
 }

@@ -1,6 +1,5 @@
 use Rattle.std.proofs.Common.{◌≡◌, ◌+◌, ◌-◌, ◌*◌, List, length, ap, ◌∙◌, arith}
 use Rattle.std.specs.List.{refill}
-use Rattle.lzk_field.specs.Coding.{coding}
 use Rattle.lzk_transcript.specs.Columns.{after_draws}
 use Rattle.lzk_sumcheck.specs.Draws.{draws}
 use Rattle.lzk_sumcheck.proofs.Filled.{refill_whole}
@@ -11,7 +10,7 @@ use Rattle.lzk_accept.proofs.challenges.draw_challenges.Goals as goal
 pub returns-clause-challenges : goal.returns-clause-challenges
 returns-clause-challenges g c =
     let f = g.F.Field in
-    let e = coding f.element f.number_of f.BYTES f.size f.ID in
+    let e = f.coding in
     let p = c.args.params.now in
     let t = c.args.tape.now in
     let old = c.args.out.now in
@@ -42,7 +41,7 @@ returns-clause-challenges g c =
 pub returns-clause-tape : goal.returns-clause-tape
 returns-clause-tape g c =
     let f = g.F.Field in
-    let e = coding f.element f.number_of f.BYTES f.size f.ID in
+    let e = f.coding in
     let p = c.args.params.now in
     let t = c.args.tape.now in
     let a = c.draw_all in

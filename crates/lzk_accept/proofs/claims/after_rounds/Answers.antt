@@ -9,7 +9,7 @@ pub loop-n-init : goal.loop-n-init
 loop-n-init g c =
     let f = g.F.Field in
     let a = c.args in
-    claim_first f.ops f.element a.circuit.now a.script.now a.messages.now a.w.now a.l c.add-claim.result c.claims_on.result.0 c.claims_on.result.1 c.layer_of-layer.result.now.alpha
+    claim_first f.ops f.coding.element a.circuit.now a.script.now a.messages.now a.w.now a.l c.add-claim.result c.claims_on.result.0 c.claims_on.result.1 c.layer_of-layer.result.now.alpha
     c.claims_on.ensures.first c.claims_on.ensures.second (ap (λ x. x.alpha) c.layer_of-layer.ensures.layer) (c.add-claim.ensures ∙ ap (f.ops.plus c.claims_on.result.0) c.mul.ensures)
 
 pub offset_bounds-ra-n : goal.offset_bounds-ra-n
@@ -41,6 +41,6 @@ loop-n-preserved g c =
     x.is ∙ get_or_default c.as_slice-ra.result.now n x.result o.zero na ∙ ap (λ xs. entry o xs n) (c.as_slice-ra.ensures ∙ ap (λ z. z.ra) c.layer_of-layer.ensures.layer) in
     let second : y.result ≡ entry o layer.rb n =
     y.is ∙ get_or_default c.as_slice-rb.result.now n y.result o.zero nb ∙ ap (λ xs. entry o xs n) (c.as_slice-rb.ensures ∙ ap (λ z. z.rb) c.layer_of-layer.ensures.layer) in
-    two_more o f.element a.circuit.now a.script.now a.messages.now a.w.now a.l n c.loop-n.claim c.after_round-claim.result c.after_round-claim-in-loop-n.result x.result y.result
+    two_more o f.coding.element a.circuit.now a.script.now a.messages.now a.w.now a.l n c.loop-n.claim c.after_round-claim.result c.after_round-claim-in-loop-n.result x.result y.result
     (places.result.messages + 4 * n) (places.result.pads + 4 * n) c.loop-n.invariant (ap (λ p. p.messages + 4 * n) places.ensures.places) (ap (λ p. p.pads + 4 * n) places.ensures.places)
     first second c.after_round-claim.ensures c.after_round-claim-in-loop-n.ensures

@@ -3,8 +3,8 @@ use Rattle.lzk_field.specs.Sums.{entry}
 use Rattle.lzk_accept.proofs.CombinationLaws.{form_added, larger_reached, eqb-less}
 use Rattle.lzk_accept.proofs.combination.add_form.Goals as goal
 
-pub returns-clause-entries : goal.returns-clause-entries
-returns-clause-entries g c j =
+pub returns : goal.returns
+returns g c j =
     let o = g.F.Field.ops in
     let form = c.args.form in
     let skip = c.args.skip in
@@ -15,9 +15,9 @@ returns-clause-entries g c j =
     let reached = larger_reached form.start skip c.larger-start.result j e.first e.least in
     let one : form.above - skip + 1 ≡ form.above + 1 - skip = omega (arith, c.requires.above) in
     form_added o g.F.Field.laws.ring own form k by (entry o c.args.sums.now j) (entry o c.add_range.new.sums j) (entry o c.add_at.new.sums j) (entry o c.add_at-2.new.sums j)
-    (c.add_range.ensures.entries j ∙ ap (λ b. o.plus (entry o c.args.sums.now j) (cond (b && nat_lt k form.end) (o.times by (entry o own k)) o.zero)) reached)
-    (c.add_at.ensures.entries j ∙ ap (λ x. o.plus (entry o c.add_range.new.sums j) (cond (j == form.above - skip) x o.zero)) c.mul.ensures
+    (c.add_range.ensures j ∙ ap (λ b. o.plus (entry o c.args.sums.now j) (cond (b && nat_lt k form.end) (o.times by (entry o own k)) o.zero)) reached)
+    (c.add_at.ensures j ∙ ap (λ x. o.plus (entry o c.add_range.new.sums j) (cond (j == form.above - skip) x o.zero)) c.mul.ensures
     ∙ ap (λ b. o.plus (entry o c.add_range.new.sums j) (cond b (o.times by form.first) o.zero)) (eqb-less skip j form.above c.requires.above))
-    (c.add_at-2.ensures.entries j ∙ ap (λ x. o.plus (entry o c.add_at.new.sums j) (cond (j == form.above - skip + 1) x o.zero)) c.mul-2.ensures
+    (c.add_at-2.ensures j ∙ ap (λ x. o.plus (entry o c.add_at.new.sums j) (cond (j == form.above - skip + 1) x o.zero)) c.mul-2.ensures
     ∙ ap (λ n. o.plus (entry o c.add_at.new.sums j) (cond (j == n) (o.times by form.second) o.zero)) one
     ∙ ap (λ b. o.plus (entry o c.add_at.new.sums j) (cond b (o.times by form.second) o.zero)) (eqb-less skip j (form.above + 1) (omega (arith, c.requires.above))))

@@ -86,7 +86,7 @@ returns-clause-combined g c w params are i s h k =
     ∙ ap (λ ys. sum_below o (length c.deref.result.now) (λ l. o.times (entry o ch.lambda l) (coefficient_in o ys (form_at o c.deref.result.now l) (c.args.rows * p.wr + n)))) own
     ∙ ap (λ fs. sum_below o (length fs) (λ l. o.times (entry o ch.lambda l) (coefficient_in o kept.own (form_at o fs l) (c.args.rows * p.wr + n)))) forms
     ∙ ap (λ m. sum_below o (length kept.forms) (λ l. o.times (entry o ch.lambda l) (coefficient_in o kept.own (form_at o kept.forms l) m))) number in
-    let copied = c.add_copies.ensures.entries i s k
+    let copied = c.add_copies.ensures i s k
     ∙ ap (λ xs. minus o (o.plus (entry o before n) (sum_where o (3 * p.layers) (λ m. is_place (3 + j) s (copy_place_of p m)) (entry o xs)))
     (sum_where o (3 * p.layers) (λ m. is_place (3 + j) s (place_of p (source_in o c.deref-3.result.now m))) (entry o xs))) c.as_slice-2.ensures
     ∙ ap (λ fs. minus o (o.plus (entry o before n) (sum_where o (3 * p.layers) (λ m. is_place (3 + j) s (copy_place_of p m)) (entry o ch.mu)))

@@ -42,7 +42,7 @@ loop-i-preserved g c =
     let coefficients : ℕ → ℕ → _ = λ k l. o.times (entry o lambda l) (coefficient_in o own (form_at o forms l) (c.args.skip + k)) in
     let rights : ℕ → _ = λ l. o.times (entry o lambda l) (form_at o forms l).right in
     rw add-one (record {
-      entries = λ k. c.add_form.ensures.entries k
+      entries = λ k. c.add_form.ensures k
           ∙ ap (λ x. o.plus x (o.times by (coefficient_in o own form (c.args.skip + k)))) (c.loop-i.invariant.entries k)
           ∙ ap (λ x. o.plus (sum_below o i (coefficients k)) (o.times x (coefficient_in o own form (c.args.skip + k)))) by_is
           ∙ ap (λ x. o.plus (sum_below o i (coefficients k)) (o.times (entry o lambda i) (coefficient_in o own x (c.args.skip + k)))) is;

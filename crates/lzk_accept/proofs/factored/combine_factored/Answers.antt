@@ -9,7 +9,7 @@ returns-clause-combined g c =
     let messages = c.args.messages.now in
     let forms = c.rest_forms.new.forms in
     c.fill.ensures.combined public messages
-    (subst (λ skip. AreRest f.ops f.element c.args.circuit.now public c.args.script.now messages skip forms.forms forms.own) c.filled_inputs-skip.ensures.number c.rest_forms.ensures.rest)
+    (subst (λ skip. AreRest f.ops f.coding.element c.args.circuit.now public c.args.script.now messages skip forms.forms forms.own) c.filled_inputs-skip.ensures.number c.rest_forms.ensures.rest)
 
 pub returns-clause-wanted : goal.returns-clause-wanted
 returns-clause-wanted g c =
@@ -18,4 +18,4 @@ returns-clause-wanted g c =
     let messages = c.args.messages.now in
     let forms = c.rest_forms.new.forms in
     c.fill.ensures.wanted public messages
-    (subst (λ skip. AreRest f.ops f.element c.args.circuit.now public c.args.script.now messages skip forms.forms forms.own) c.filled_inputs-skip.ensures.number c.rest_forms.ensures.rest)
+    (subst (λ skip. AreRest f.ops f.coding.element c.args.circuit.now public c.args.script.now messages skip forms.forms forms.own) c.filled_inputs-skip.ensures.number c.rest_forms.ensures.rest)

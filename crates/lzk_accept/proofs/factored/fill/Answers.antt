@@ -48,7 +48,7 @@ returns-clause-combined g c public messages rest =
     let rows = c.args.factored.now.rows in
     let script = c.args.script.now in
     let ch = c.args.challenges.now in
-    let q = linear_coefficient o f.element w (coefficients o w script) public script messages in
+    let q = linear_coefficient o f.coding.element w (coefficients o w script) public script messages in
     let params = c.of-params.ensures.params in
     let wr : c.of-params.result.wr ≡ p.wr = ap (λ (x : Params). x.wr) params in
     let nrow : c.of-params.result.nrow ≡ p.nrow = ap (λ (x : Params). x.nrow) params in
@@ -59,12 +59,12 @@ returns-clause-combined g c public messages rest =
     let P = c.set_private_factors.new.place_factors in
     let table = c.combine_from-wanted.new.table in
     let room = c.args.factored.now in
-    let set_rows = refill_whole (length room.row_factors) room.row_factors R (c.set_private_factors.ensures.row_length ∙ ap length c.as_mut_slice-2.ensures.value) in
-    let set_places = refill_whole (length room.place_factors) room.place_factors P (c.set_private_factors.ensures.place_length ∙ ap length c.as_mut_slice-3.ensures.value) in
-    let set_table = refill_whole (length room.table) room.table table (c.combine_from-wanted.ensures.room ∙ ap length c.as_mut_slice.ensures.value) in
-    let by = c.entry_of-by.result in
+    let set_rows = refill_whole (length room.row_factors) room.row_factors R (c.set_private_factors.auto.row_factors ∙ ap length c.as_mut_slice-2.ensures.value) in
+    let set_places = refill_whole (length room.place_factors) room.place_factors P (c.set_private_factors.auto.place_factors ∙ ap length c.as_mut_slice-3.ensures.value) in
+    let set_table = refill_whole (length room.table) room.table table (c.combine_from-wanted.auto.table ∙ ap length c.as_mut_slice.ensures.value) in
+    let by = c.entry_at-by.result in
     let lambda : by ≡ entry o ch.lambda (depth w) =
-    c.entry_of-by.ensures ∙ ap (λ xs. entry o xs c.depth-depth.result) c.as_slice-lambda.ensures ∙ ap (entry o ch.lambda) c.depth-depth.ensures.depth in
+    c.entry_at-by.ensures ∙ ap (λ xs. entry o xs c.depth-depth.result) c.as_slice-lambda.ensures ∙ ap (entry o ch.lambda) c.depth-depth.ensures.depth in
     record {
       private_rows = λ i s hi hs.
           ap (λ xs. sum_below o 4 (λ k. o.times (entry o xs (k * rows + i)) (entry o (refill (length room.place_factors) room.place_factors P) (k * p.wr + s)))) set_rows
@@ -89,4 +89,4 @@ returns-clause-wanted g c public messages rest =
     let script = c.args.script.now in
     let q = coefficients o w script in
     c.combine_from-wanted.ensures.wanted w c.of-params.ensures.params c.requires.forms
-    ∙ same_wanted o f.laws.ring w c.args.challenges.now (right o c.args.forms.now) (right_side o f.element w q public script messages) rest.rights
+    ∙ same_wanted o f.laws.ring w c.args.challenges.now (right o c.args.forms.now) (right_side o f.coding.element w q public script messages) rest.rights

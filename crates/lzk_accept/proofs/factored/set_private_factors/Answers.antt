@@ -53,7 +53,7 @@ returns-clause-products g c i s hi hs =
     let ra : c.first_point.result.now ≡ point_a o script (depth w) = c.first_point.ensures.point ∙ ap (point_a o script) c.depth-depth.ensures.depth in
     let rb : c.second_point.result.now ≡ point_b o script (depth w) = c.second_point.ensures.point ∙ ap (point_b o script) c.depth-depth.ensures.depth in
     let first : 1 + c.publics.result ≡ 1 + w.publics = ap (λ k. 1 + k) c.publics.ensures in
-    c.set_both_factors.ensures.products i s hi hs
+    c.set_both_factors.ensures i s hi hs
     ∙ ap (λ k. o.times by (o.plus (eq o (k + n) c.first_point.result.now) (o.times script.gamma (eq o (k + n) c.second_point.result.now)))) first
     ∙ ap (λ r. o.times by (o.plus (eq o (1 + w.publics + n) r) (o.times script.gamma (eq o (1 + w.publics + n) c.second_point.result.now)))) ra
     ∙ ap (λ r. o.times by (o.plus (eq o (1 + w.publics + n) (point_a o script (depth w))) (o.times script.gamma (eq o (1 + w.publics + n) r)))) rb

@@ -57,11 +57,11 @@ returns-clause-rest g c =
     let put = c.set_form.ensures ∙ ap (λ n. slice_set forms n form) c.depth-depth.ensures.depth in
     let at = c.last_form-last.ensures.placed in
     let wide = width_last w in
-    rest_is o f.laws.ring f.element w public s ms skip c.set_form.new.forms own c.requires.skip (returns-clause-placed g c)
-    (λ i k. subst (λ fs. IsConstraint o f.element w q public s ms i whole (form_at o fs i)) (sym put)
-    (constraints_more o f.laws.ring f.element w q public s ms (depth w) layers.new.own whole forms form inside (omega arith) (λ i m. layers.ensures.placed i (omega arith))
+    rest_is o f.laws.ring f.coding.element w public s ms skip c.set_form.new.forms own c.requires.skip (returns-clause-placed g c)
+    (λ i k. subst (λ fs. IsConstraint o f.coding.element w q public s ms i whole (form_at o fs i)) (sym put)
+    (constraints_more o f.laws.ring f.coding.element w q public s ms (depth w) layers.new.own whole forms form inside (omega arith) (λ i m. layers.ensures.placed i (omega arith))
     (λ i m j a b. is.after j (omega (arith, start_after w i m, c.requires.skip)) (omega (arith, end_is w i m, pads_within w i m)) ∙ c.last_form-last.ensures.after j (omega (arith, start_after w i m)))
-    (last_is o f.laws.ring f.element w q public s ms layers.result first second whole form c.depth-depth.ensures.valid.some c.requires.public layers.ensures.above_a layers.ensures.above_b
+    (last_is o f.laws.ring f.coding.element w q public s ms layers.result first second whole form c.depth-depth.ensures.valid.some c.requires.public layers.ensures.above_a layers.ensures.above_b
     (λ j b. c.requires.first j (omega (arith, wide))) (λ j b. c.requires.second j (omega (arith, wide)))
     (at.start ∙ last_start w (depth w) (omega arith)) (at.end ∙ last_end w (depth w) (omega arith)) at.above
     (whole_last o w s public layers.result first second skip own whole form is

@@ -28,7 +28,7 @@ pub layer_form-form-requires-clause-bound : goal.layer_form-form-requires-clause
 layer_form-form-requires-clause-bound g c κs within =
     let l = c.loop-l.l in
     let h : l < depth c.args.circuit.now = omega (arith, c.depth-depth.ensures.depth, c.loop-l-test.true, c.loop-l.auto.l-end) in
-    c.entry_of-bound.ensures ∙ c.requires.bounds.each l h
+    c.entry_at-bound.ensures ∙ c.requires.bounds.each l h
 
 pub layer_form-form-requires-clause-form : goal.layer_form-form-requires-clause-form
 layer_form-form-requires-clause-form g c κs within =
@@ -62,8 +62,8 @@ loop-l-preserved g c =
       above_a = c.factors_from-above.ensures.first ∙ ap (entry o ms) sent ∙ ap (above_a o w ms) next;
       above_b = c.factors_from-above.ensures.second ∙ ap (λ k. entry o ms (k + 1)) sent ∙ ap (above_b o w ms) next;
       placed = λ i k. subst (λ fs. IsPlacedAt w i (form_at o fs i)) (sym c.set_form.ensures) (placed_set w o l forms form inside c.layer_form-form.ensures.placed i (inv.placed i k));
-      constraints = λ public i k. subst (λ fs. IsConstraint o f.element w q public s ms i own (form_at o fs i)) (sym c.set_form.ensures)
-          (constraints_more o f.laws.ring f.element w q public s ms l c.loop-l.own own forms form inside (omega arith) (λ i m. inv.placed i (omega arith))
+      constraints = λ public i k. subst (λ fs. IsConstraint o f.coding.element w q public s ms i own (form_at o fs i)) (sym c.set_form.ensures)
+          (constraints_more o f.laws.ring f.coding.element w q public s ms l c.loop-l.own own forms form inside (omega arith) (λ i m. inv.placed i (omega arith))
           (λ i m j a b. c.layer_form-form.ensures.before j (omega (arith, end_before w i l m (omega arith))))
           (c.layer_form-form.ensures.constraint public) (inv.constraints public) i k);
     }

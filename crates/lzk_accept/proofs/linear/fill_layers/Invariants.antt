@@ -17,5 +17,5 @@ invariant-loop-l g l =
       above_a : l.above.first ≡ above_a o w l.messages l.l;
       above_b : l.above.second ≡ above_b o w l.messages l.l;
       placed : (i : ℕ) → i < depth w + 1 → IsPlacedAt w i (form_at o l.forms i);
-      constraints : (public : List _) (i : ℕ) → i < l.l → IsConstraint o f.element w (coefficients o w l.script) public l.script l.messages i l.own (form_at o l.forms i);
+      constraints : (public : List _) (i : ℕ) → i < l.l → IsConstraint o f.coding.element w (coefficients o w l.script) public l.script l.messages i l.own (form_at o l.forms i);
     }

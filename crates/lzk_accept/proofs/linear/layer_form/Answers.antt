@@ -54,15 +54,15 @@ returns-clause-constraint g c public =
     let alpha : layer.alpha ≡ (layer_at o s l).alpha = ap (λ x. x.alpha) il in
     let four : 4 * places.bits ≡ 2 * round_count w l = omega arith in
     let two : 2 * places.bits ≡ round_count w l = omega arith in
-    layer_is o f.laws.ring f.element w q public s ms l claim c.args.bound own _ c.requires.layer c.requires.bound
+    layer_is o f.laws.ring f.coding.element w q public s ms l claim c.args.bound own _ c.requires.layer c.requires.bound
     (record {
       start = c.requires.form.start ∙ start_is w l c.requires.layer;
       end = c.requires.form.end ∙ end_is w l c.requires.layer;
       above = c.requires.form.above;
       rounds = λ pad x.
-          ap (λ y. through_rounds o f.element (challenge_of o y) (λ k. entry o ms (sent_at w l + k)) pad x (round_count w l)) (sym il)
-          ∙ ap (λ i. through_rounds o f.element (challenge_of o layer) (λ k. entry o ms (i + k)) pad x (round_count w l)) (sym sent)
-          ∙ ap (through_rounds o f.element (challenge_of o layer) (λ k. entry o ms (places.messages + k)) pad x) (sym two)
+          ap (λ y. through_rounds o f.coding.element (challenge_of o y) (λ k. entry o ms (sent_at w l + k)) pad x (round_count w l)) (sym il)
+          ∙ ap (λ i. through_rounds o f.coding.element (challenge_of o layer) (λ k. entry o ms (i + k)) pad x (round_count w l)) (sym sent)
+          ∙ ap (through_rounds o f.coding.element (challenge_of o layer) (λ k. entry o ms (places.messages + k)) pad x) (sym two)
           ∙ c.claim_form-claim.ensures.form pad x
           ∙ ap (λ n. o.plus (o.plus claim.constant (o.times claim.weight x)) (sum_below o n (λ k. o.times (entry o mid (places.pads + k)) (pad k)))) four
           ∙ ap (λ p. o.plus (o.plus claim.constant (o.times claim.weight x)) (sum_below o (2 * round_count w l) (λ k. o.times (entry o mid (p + k)) (pad k)))) pads

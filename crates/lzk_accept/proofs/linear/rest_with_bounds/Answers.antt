@@ -83,6 +83,6 @@ returns-clause-rest g c =
     let own = c.fill_forms.new.own in
     let nf : length c.fill_forms.new.forms ≡ inside.forms.len = omega (arith, c.fill_forms.ensures.forms_length, ap length c.deref_mut-3.ensures.value, inside.forms.ok.0) in
     let no : length c.fill_forms.new.own ≡ inside.own.len = omega (arith, c.fill_forms.ensures.own_length, ap length c.deref_mut-4.ensures.value, inside.own.ok.0) in
-    let rest = AreRest f.ops f.element c.args.circuit.now c.args.public.now c.args.script.now c.args.messages.now c.args.skip in
+    let rest = AreRest f.ops f.coding.element c.args.circuit.now c.args.public.now c.args.script.now c.args.messages.now c.args.skip in
     subst (λ fs. rest fs (with_items inside.own own).items) (sym (with_items_is inside.forms forms nf))
     (subst (rest forms) (sym (with_items_is inside.own own no)) c.fill_forms.ensures.rest)

@@ -7,4 +7,4 @@ pub returns-clause-polynomial : goal.returns-clause-polynomial
 returns-clause-polynomial g c = λ cs is.
     let f = g.F.Field in
     let a = c.args in
-    c.next_claim.ensures ∙ next_value f.ops f.laws.ring f.element f.laws.field a.claim a.p0 a.p2 a.t cs (points_apart f.laws 3 (omega arith)) is
+    c.next_claim.ensures ∙ next_value f.ops f.laws.ring f.coding.element f.laws.field a.claim a.p0 a.p2 a.t cs (points_apart f.laws 3 (omega arith)) is

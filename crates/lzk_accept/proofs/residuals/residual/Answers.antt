@@ -10,7 +10,7 @@ pub returns-then-i-depth-clause-value : goal.returns-then-i-depth-clause-value
 returns-then-i-depth-clause-value g c =
     let f = g.F.Field in
     let a = c.args in
-    residual_layer f.ops f.laws.ring f.element a.circuit.now (coefficients f.ops a.circuit.now a.script.now) a.public.now a.script.now a.messages.now a.w.now a.i
+    residual_layer f.ops f.laws.ring f.coding.element a.circuit.now (coefficients f.ops a.circuit.now a.script.now) a.public.now a.script.now a.messages.now a.w.now a.i
     c.sub.result c.after_rounds-claim.result c.bound_of-bound.result c.product_of.result c.mul.result (omega (arith, c.depth.ensures.depth))
     c.after_rounds-claim.ensures c.bound_of-bound.ensures.value c.product_of.ensures c.mul.ensures c.sub.ensures
 
@@ -18,7 +18,7 @@ pub returns-then-i-depth-clause-affine : goal.returns-then-i-depth-clause-affine
 returns-then-i-depth-clause-affine g c =
     let f = g.F.Field in
     let a = c.args in
-    residual-form f.ops f.laws.ring f.element a.circuit.now (coefficients f.ops a.circuit.now a.script.now) a.public.now a.script.now a.messages.now a.i c.requires.i
+    residual-form f.ops f.laws.ring f.coding.element a.circuit.now (coefficients f.ops a.circuit.now a.script.now) a.public.now a.script.now a.messages.now a.i c.requires.i
 
 pub returns-else-i-depth-clause-value : goal.returns-else-i-depth-clause-value
 returns-else-i-depth-clause-value g c =
@@ -29,7 +29,7 @@ returns-else-i-depth-clause-value g c =
     let s = a.script.now in
     let last : depth w ≡ a.i = omega (arith, c.depth.ensures.depth, c.requires.i) in
     let at = inputs_at o w a.public.now a.w.now in
-    residual_inputs o f.laws.ring f.element w (coefficients o w s) a.public.now s a.messages.now a.w.now a.i
+    residual_inputs o f.laws.ring f.coding.element w (coefficients o w s) a.public.now s a.messages.now a.w.now a.i
     c.sub-else-i-depth-2.result c.sub-else-i-depth.result c.inputs_of-inputs.result c.claims_on-first.result.0 c.claims_on-first.result.1 c.mul-else-i-depth.result (omega (arith, last))
     (c.inputs_of-inputs.ensures.value ∙ ap (λ l. o.plus (at (point_a o s l)) (o.times s.gamma (at (point_b o s l)))) last)
     c.claims_on-first.ensures.first c.claims_on-first.ensures.second c.sub-else-i-depth.ensures c.mul-else-i-depth.ensures c.sub-else-i-depth-2.ensures
@@ -38,4 +38,4 @@ pub returns-else-i-depth-clause-affine : goal.returns-else-i-depth-clause-affine
 returns-else-i-depth-clause-affine g c =
     let f = g.F.Field in
     let a = c.args in
-    residual-form f.ops f.laws.ring f.element a.circuit.now (coefficients f.ops a.circuit.now a.script.now) a.public.now a.script.now a.messages.now a.i c.requires.i
+    residual-form f.ops f.laws.ring f.coding.element a.circuit.now (coefficients f.ops a.circuit.now a.script.now) a.public.now a.script.now a.messages.now a.i c.requires.i

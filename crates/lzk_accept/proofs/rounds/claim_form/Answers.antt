@@ -38,7 +38,7 @@ loop-j-preserved g c =
     let after = c.round_back-claim.result in
     let eb = c.round_back-mid.ensures in
     let ea = c.round_back-claim.ensures in
-    let first : IsStep o f.laws.ring f.element sb (entry o ms (start + 4 * i + 2)) (entry o ms (start + 4 * i + 2 + 1)) old (at + 4 * i + 2) before mid between =
+    let first : IsStep o f.laws.ring f.coding.element sb (entry o ms (start + 4 * i + 2)) (entry o ms (start + 4 * i + 2 + 1)) old (at + 4 * i + 2) before mid between =
     record {
       first = eb.first;
       second = eb.second;
@@ -47,7 +47,7 @@ loop-j-preserved g c =
       constant = eb.constant ∙ ap (λ x. o.plus before.constant (o.times before.weight (o.plus (o.times (minus o sb.first sb.second) x) (o.times sb.third c.index-messages-i-in-loop-j.result)))) m2
           ∙ ap (λ x. o.plus before.constant (o.times before.weight (o.plus (o.times (minus o sb.first sb.second) (entry o ms (start + 4 * i + 2))) (o.times sb.third x)))) m3;
     } in
-    let second : IsStep o f.laws.ring f.element sa (entry o ms (start + 4 * i)) (entry o ms (start + 4 * i + 1)) mid (at + 4 * i) between new after =
+    let second : IsStep o f.laws.ring f.coding.element sa (entry o ms (start + 4 * i)) (entry o ms (start + 4 * i + 1)) mid (at + 4 * i) between new after =
     record {
       first = ea.first;
       second = ea.second;
@@ -60,8 +60,8 @@ loop-j-preserved g c =
       length = ea.length ∙ eb.length ∙ inv.length;
       before = λ k h. ea.before k (omega arith) ∙ eb.before k (omega arith) ∙ inv.before k h;
       after = λ k h. ea.after k (omega arith) ∙ eb.after k (omega arith) ∙ inv.after k h;
-      back = back_bit o f.laws.ring f.element layer ms start at (2 * c.args.bits) old mid new i j (4 * c.args.bits - 4 * j) (4 * c.args.bits - 4 * i) sa sb before between after again (omega arith)
-          (subst (λ t. AreShares o f.element t sb) tb c.shares-b.ensures) (subst (λ t. AreShares o f.element t sa) ta c.shares-a.ensures) inv.back first second;
+      back = back_bit o f.laws.ring f.coding.element layer ms start at (2 * c.args.bits) old mid new i j (4 * c.args.bits - 4 * j) (4 * c.args.bits - 4 * i) sa sb before between after again (omega arith)
+          (subst (λ t. AreShares o f.coding.element t sb) tb c.shares-b.ensures) (subst (λ t. AreShares o f.coding.element t sa) ta c.shares-a.ensures) inv.back first second;
     }
 
 pub returns-clause-form : goal.returns-clause-form
@@ -71,5 +71,5 @@ returns-clause-form g c pad x =
     let none : c.loop-j.j ≡ 0 = omega (arith, c.loop-j-test.false) in
     let own = c.loop-j.own in
     let four : 2 * (2 * c.args.bits) ≡ 4 * c.args.bits = omega arith in
-    back_whole o f.laws.ring f.element c.args.layer.now c.args.messages.now c.args.sent c.args.at (2 * c.args.bits) own c.loop-j.j (4 * c.args.bits - 4 * c.loop-j.j) c.loop-j.claim none (omega arith) c.loop-j.invariant.back pad x
+    back_whole o f.laws.ring f.coding.element c.args.layer.now c.args.messages.now c.args.sent c.args.at (2 * c.args.bits) own c.loop-j.j (4 * c.args.bits - 4 * c.loop-j.j) c.loop-j.claim none (omega arith) c.loop-j.invariant.back pad x
     ∙ ap (λ n. o.plus (o.plus c.loop-j.claim.constant (o.times c.loop-j.claim.weight x)) (sum_below o n (λ k. o.times (entry o own (c.args.at + k)) (pad k)))) four

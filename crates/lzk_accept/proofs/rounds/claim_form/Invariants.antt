@@ -11,5 +11,5 @@ invariant-loop-j g l =
       length : length l.own ≡ length l.fn.own;
       before : (k : ℕ) → k < l.at → entry o l.own k ≡ entry o l.fn.own k;
       after : (k : ℕ) → l.at + 4 * l.bits ≤ k → entry o l.own k ≡ entry o l.fn.own k;
-      back : IsBack o g.F.Field.laws.ring g.F.Field.element (challenge_of o l.layer) (λ k. entry o l.messages (l.sent + k)) l.own l.at (2 * l.bits) (2 * l.j) (4 * l.bits - 4 * l.j) l.claim.constant l.claim.weight;
+      back : IsBack o g.F.Field.laws.ring g.F.Field.coding.element (challenge_of o l.layer) (λ k. entry o l.messages (l.sent + k)) l.own l.at (2 * l.bits) (2 * l.j) (4 * l.bits - 4 * l.j) l.claim.constant l.claim.weight;
     }

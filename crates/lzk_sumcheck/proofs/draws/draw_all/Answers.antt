@@ -15,13 +15,13 @@ loop-i-preserved g c =
     let within : c.loop-i.i < length c.loop-i.out = omega arith in
     record {
       tape = c.draw.ensures.after ∙ draws_more c.loop-i.i c.args.tape.now c.loop-i.tape c.loop-i.invariant.tape;
-      out = filled_more f.ops.zero (λ k. f.element (draw_at k c.args.tape.now)) c.loop-i.i c.loop-i.out c.draw.result within
-          (c.draw.ensures.value ∙ ap (λ t. f.element (drawn t)) c.loop-i.invariant.tape) c.loop-i.invariant.out;
+      out = filled_more f.ops.zero (λ k. f.coding.element (draw_at k c.args.tape.now)) c.loop-i.i c.loop-i.out c.draw.result within
+          (c.draw.ensures.value ∙ ap (λ t. f.coding.element (drawn t)) c.loop-i.invariant.tape) c.loop-i.invariant.out;
     }
 
 pub returns-clause-drawn : goal.returns-clause-drawn
 returns-clause-drawn g c =
     let f = g.F.Field in
     let all : c.loop-i.i ≡ length c.args.out.now = omega arith in
-    filled_whole f.ops.zero (λ k. f.element (draw_at k c.args.tape.now)) (length c.args.out.now) c.loop-i.out (omega arith)
+    filled_whole f.ops.zero (λ k. f.coding.element (draw_at k c.args.tape.now)) (length c.args.out.now) c.loop-i.out (omega arith)
     (λ k h. c.loop-i.invariant.out k (omega arith))

@@ -1,5 +1,4 @@
 use Rattle.std.proofs.Common.{◌<◌, refl, length, arith}
-use Rattle.lzk_field.specs.Coding.{coding}
 use Rattle.lzk_sumcheck.specs.Script.{after_rounds}
 use Rattle.lzk_sumcheck.proofs.RoundLaws.{more_rounds}
 use Rattle.lzk_sumcheck.proofs.draws.replay_rounds.Goals as goal
@@ -16,5 +15,5 @@ loop-j-preserved g c =
     let second = c.replay_round-in-loop-j in
     let wa : l.j < length l.ra = omega arith in
     let wb : l.j < length l.rb = omega arith in
-    more_rounds f.ops (coding f.element f.number_of f.BYTES f.size f.ID) c.args.messages.now c.args.i c.args.tape.now l.j l.tape first.new.tape second.new.tape l.ra l.rb
+    more_rounds f.ops f.coding c.args.messages.now c.args.i c.args.tape.now l.j l.tape first.new.tape second.new.tape l.ra l.rb
     first.result second.result l.invariant wa wb first.ensures.challenge first.ensures.after second.ensures.challenge second.ensures.after

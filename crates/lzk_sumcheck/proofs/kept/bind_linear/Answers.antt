@@ -26,6 +26,6 @@ returns-else-of_a-clause-entries g c = λ i j.
     let new = c.bind_table.new.table in
     let half = length list / 2 + length list % 2 in
     let e = c.bind_table.ensures in
-    let taken = bound-taken o m.laws.ring list new half a.x i (omega arith) (omega (arith, e.length)) e.entries in
+    let taken = bound-taken o m.laws.ring list new half a.x i (omega arith) (omega (arith, c.bind_table.auto.table)) e.entries in
     subst (λ q. linear_at o (not q) a.scale (take c.bind_table.result new) j i ≡ bound o a.x (λ k. linear_at o q a.scale list k j) i) (sym c.if-of_a.false)
     (ap (λ n. linear_at o true a.scale (take n new) j i) e.half ∙ linear-bound_b o m.laws.ring a.scale a.x list (take half new) i j taken)

@@ -1,5 +1,4 @@
 use Rattle.lzk_sumcheck.proofs.SumcheckLaws.{sumcheck_of}
-use Rattle.lzk_field.specs.Coding.{coding}
 use Rattle.lzk_sumcheck.proofs.VersionLaws.{first-version}
 use Rattle.lzk_sumcheck.proofs.WireLaws.{begins-with-checks, satisfied-claims}
 use Rattle.lzk_sumcheck.proofs.laws.sumcheck_laws.Goals as goal
@@ -25,4 +24,4 @@ returns-clause-satisfied g c = satisfied-claims g.F.Field.laws
 pub returns-clause-first_version : goal.returns-clause-first_version
 returns-clause-first_version g c =
     let m = g.F.Field in
-    first-version m.ops (coding m.element m.number_of m.BYTES m.size m.ID) m.laws.ring
+    first-version m.ops m.coding m.laws.ring

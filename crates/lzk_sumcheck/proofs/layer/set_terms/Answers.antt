@@ -32,8 +32,8 @@ loop-i-init g c =
     let o = m.ops in
     record {
       pairs = omega arith;
-      linear = c.set_zeros.ensures.length;
-      counted = counted_none o m.laws.ring (pairs_in o c.args.beta c.args.weights.now c.args.terms.now (places c.args.order.now)) c.args.pairs.now c.set_zeros.new.rows c.set_zeros.ensures.entries;
+      linear = c.set_zeros.auto.rows;
+      counted = counted_none o m.laws.ring (pairs_in o c.args.beta c.args.weights.now c.args.terms.now (places c.args.order.now)) c.args.pairs.now c.set_zeros.new.rows c.set_zeros.ensures;
     }
 
 pub offset_bounds-terms-k : goal.offset_bounds-terms-k
@@ -80,8 +80,8 @@ loop-i-preserved g c =
     drop_more qs i q there ∙ ap (λ x. x ∷ drop (i + 1) qs) (get_or-map (λ n. pair_by o c.args.beta w (slice_index_or ts n (no_term o))) (places ps) i 0 q here ∙ ap (pair_by o c.args.beta w) (sym term)) in
     let e = c.put_term-kept.ensures in
     record {
-      pairs = e.length ∙ c.loop-i.invariant.pairs;
-      linear = e.linear_length ∙ c.loop-i.invariant.linear;
+      pairs = c.put_term-kept.auto.pairs ∙ c.loop-i.invariant.pairs;
+      linear = c.put_term-kept.auto.linear ∙ c.loop-i.invariant.linear;
       counted = counted_more o m.laws.ring qs c.loop-i.pairs c.put_term-kept.new.pairs c.loop-i.linear c.put_term-kept.new.linear i c.loop-i.kept c.put_term-kept.result q c.loop-i.invariant.counted front e.count e.sums e.within;
     }
 

@@ -37,7 +37,7 @@ returns g c =
     let part = take long (drop (2 * begin) first) in
     let three : length sums ≡ 3 = omega (arith, c.split_at_mut-sums.ensures.front_len) in
     let own : count ≡ min (2 * each) (n - 2 * begin) = omega (arith, c.split_at_mut-sums.ensures.back_len, c.requires.part) in
-    let size : length rows ≡ min (2 * each) (n - 2 * begin) = c.set_rows_from.ensures.length ∙ own in
+    let size : length rows ≡ min (2 * each) (n - 2 * begin) = c.set_rows_from.auto.rows ∙ own in
     let width : length part ≡ min (2 * each) (n - 2 * begin) = length-take long (drop (2 * begin) first) ∙ ap (min long) (length-drop (2 * begin) first) ∙ omega (arith, own) in
     let fits : length part ≤ 2 * each = omega (arith, width) in
     let x = c.round_sums-total.result in
@@ -45,7 +45,7 @@ returns g c =
       value = λ t. ap (λ s. round_at o s t) (three-put o sums rows x.all x.even x.lead three)
           ∙ c.round_sums-total.ensures each fits t
           ∙ part-sum o r begin each row first rows part t
-          (part-entries o r begin each n row rows size (λ i h. c.set_rows_from.ensures.entries i (omega (arith, h, c.set_rows_from.ensures.length)))
+          (part-entries o r begin each n row rows size (λ i h. c.set_rows_from.ensures i (omega (arith, h, c.set_rows_from.auto.rows)))
           (λ i past. row-past o r a.of_a n (length a.second.now) a.pairs.now a.scale a.linear.now a.second.now i c.requires.matching.pairs c.requires.matching.first c.requires.matching.for_b past))
           (part-entries o r begin each n (entry o first) part width (λ i h. get_or-take long (drop (2 * begin) first) i o.zero (omega (arith, h, width, own)) ∙ get_or-drop (2 * begin) first i o.zero)
           (λ i past. get_or_past first i o.zero past));

@@ -3,11 +3,11 @@ use Rattle.lzk_sumcheck.specs.Rows.{row_at}
 use Rattle.lzk_sumcheck.proofs.PartLaws.{whole-sum}
 use Rattle.lzk_sumcheck.proofs.parts.sum_whole.Goals as goal
 
-pub returns-clause-sums : goal.returns-clause-sums
-returns-clause-sums g c =
+pub returns : goal.returns
+returns g c =
     let m = g.F.Field in
-    let a = c.args in
+    let a = c.args.round.now in
     record {
       value = λ half fits t. c.round_sums.ensures half fits t
-          ∙ whole-sum m.ops m.laws.ring half (row_at m.ops a.of_a a.pairs.now a.scale a.linear.now a.second.now) c.set_rows.new.rows a.first.now t c.set_rows.ensures.entries;
+          ∙ whole-sum m.ops m.laws.ring half (row_at m.ops a.of_a a.pairs.now a.scale a.linear.now a.second.now) c.set_rows.new.rows a.first.now t c.set_rows.ensures;
     }

@@ -1,7 +1,6 @@
 use Rattle.std.proofs.Common.{◌≡◌, length, refl, sym, ap, ◌∙◌, subst, arith}
 use Rattle.std.specs.Prelude.{List}
 use Rattle.std.specs.List.{refill}
-use Rattle.lzk_field.specs.Coding.{coding}
 use Rattle.lzk_transcript.specs.Columns.{after_draws}
 use Rattle.lzk_layout.specs.Places.{output_bits}
 use Rattle.lzk_sumcheck.specs.declared.script.Script.{Script}
@@ -16,7 +15,7 @@ use Rattle.lzk_sumcheck.proofs.proving.prove_layers.Goals as goal
 pub returns : goal.returns
 returns g c =
     let f = g.F.Field in
-    let e = coding f.element f.number_of f.BYTES f.size f.ID in
+    let e = f.coding in
     let w = c.args.circuit.now in
     let t = c.args.tape.now in
     let ms = c.prove_scripts.new.messages in
@@ -30,7 +29,7 @@ returns g c =
     let filled : make (refill (length old) old out) ≡ spec.script f.ops e ms w t = ap make (refill_whole (length old) old out same)
     ∙ script_whole f.ops e ms w t out c.prove_scripts.new.layers c.draw-script.result start last refl all.after all.point all.scripts c.draw-script.ensures.value in
     record {
-      messages = record { count = all.messages_length ∙ c.requires.messages; layers = all.sent };
+      messages = record { count = c.prove_scripts.auto.messages ∙ c.requires.messages; layers = all.sent };
       script = filled;
       tape = tape_whole f.ops e ms w t start last c.draw-script.new.self refl all.after c.draw-script.ensures.after;
       shape = subst (λ s. HasShape w s) (sym filled) (script_shape f.ops e ms w t);

@@ -1,6 +1,5 @@
 use Rattle.std.proofs.Common.{◌≡◌, length, sym, ap, ◌∙◌, subst, arith}
 use Rattle.std.specs.List.{refill}
-use Rattle.lzk_field.specs.Coding.{coding}
 use Rattle.lzk_transcript.specs.Columns.{after_draws}
 use Rattle.lzk_layout.specs.Places.{output_bits}
 use Rattle.lzk_sumcheck.specs.declared.script.Script.{Script}
@@ -15,7 +14,7 @@ use Rattle.lzk_sumcheck.proofs.replaying.replay.Goals as goal
 pub returns : goal.returns
 returns g c =
     let f = g.F.Field in
-    let e = coding f.element f.number_of f.BYTES f.size f.ID in
+    let e = f.coding in
     let ms = c.args.messages.now in
     let w = c.args.circuit.now in
     let t = c.args.tape.now in

@@ -1,6 +1,5 @@
 use Rattle.std.proofs.Common.{◌≡◌, ◌*◌, length, ap, ◌∙◌, arith}
 use Rattle.std.specs.List.{refill}
-use Rattle.lzk_field.specs.Coding.{coding}
 use Rattle.lzk_sumcheck.specs.Script.{drawn_beta, after_beta, after_rounds}
 use Rattle.lzk_sumcheck.proofs.Filled.{refill_whole}
 use Rattle.lzk_sumcheck.proofs.RoundLaws.{layer_whole}
@@ -11,12 +10,12 @@ use Rattle.lzk_sumcheck.proofs.replaying.replay_layer.Goals as goal
 pub returns-clause-script : goal.returns-clause-script
 returns-clause-script g c =
     let f = g.F.Field in
-    let e = coding f.element f.number_of f.BYTES f.size f.ID in
+    let e = f.coding in
     let old = c.args.layer.now in
     let ra = c.replay_rounds.new.ra in
     let rb = c.replay_rounds.new.rb in
-    let na : length ra ≡ length old.ra = omega (arith, c.replay_rounds.ensures.ra_length, ap length c.as_mut_slice.ensures.value) in
-    let nb : length rb ≡ length old.rb = omega (arith, c.replay_rounds.ensures.rb_length, ap length c.as_mut_slice-2.ensures.value) in
+    let na : length ra ≡ length old.ra = omega (arith, c.replay_rounds.auto.ra, ap length c.as_mut_slice.ensures.value) in
+    let nb : length rb ≡ length old.rb = omega (arith, c.replay_rounds.auto.rb, ap length c.as_mut_slice-2.ensures.value) in
     let make : LayerScript g.row.F.Denot = record { alpha = c.draw-layer.result; beta = c.draw_beta-layer.result; ra = ra; rb = rb } in
     ap (λ xs. record { alpha = c.draw-layer.result; beta = c.draw_beta-layer.result; ra = xs; rb = refill (length old.rb) old.rb rb }) (refill_whole (length old.ra) old.ra ra na)
     ∙ ap (λ xs. record { alpha = c.draw-layer.result; beta = c.draw_beta-layer.result; ra = ra; rb = xs }) (refill_whole (length old.rb) old.rb rb nb)
@@ -29,7 +28,7 @@ returns-clause-script g c =
 pub returns-clause-after : goal.returns-clause-after
 returns-clause-after g c =
     let f = g.F.Field in
-    let e = coding f.element f.number_of f.BYTES f.size f.ID in
+    let e = f.coding in
     let ms = c.args.messages.now in
     let size : 2 * length c.as_mut_slice.result.now ≡ 2 * c.args.bits = omega (arith, c.requires.bits.ra, ap length c.as_mut_slice.ensures.value) in
     layer_after f.ops e ms c.args.version c.args.first c.args.bits c.args.tape.now c.replay_rounds.new.tape c.write_pair.new.tape

@@ -1,7 +1,6 @@
 use Rattle.std.proofs.Common.{◌≡◌, ◌<◌, length, sym, ap, ◌∙◌, arith, subst, slice_index_or}
 use Rattle.std.proofs.lemmas.List.{get_or_default}
 use Rattle.std.proofs.lemmas.Option.{slice_get-get_or}
-use Rattle.lzk_field.specs.Coding.{coding}
 use Rattle.lzk_layout.specs.Places.{depth, bits_under, sent_at}
 use Rattle.lzk_sumcheck.specs.Script.{HasBits, zero_layer, layer_script, after_layer}
 use Rattle.lzk_sumcheck.proofs.LayerLaws.{AreReplayed, replayed_none, replayed_more, replayed_whole}
@@ -13,7 +12,7 @@ loop-l-init g c =
     record {
       places = c.first-places.ensures.places;
       within = λ h. c.first-places.ensures.within;
-      layers = replayed_none f.ops (coding f.element f.number_of f.BYTES f.size f.ID) c.args.messages.now c.args.circuit.now c.args.tape.now c.args.layers.now;
+      layers = replayed_none f.ops f.coding c.args.messages.now c.args.circuit.now c.args.tape.now c.args.layers.now;
     }
 
 pub replay_layer-requires-clause-bits : goal.replay_layer-requires-clause-bits
@@ -32,7 +31,7 @@ replay_layer-requires-clause-bits g c κs within =
 pub loop-l-preserved : goal.loop-l-preserved
 loop-l-preserved g c =
     let f = g.F.Field in
-    let e = coding f.element f.number_of f.BYTES f.size f.ID in
+    let e = f.coding in
     let ms = c.args.messages.now in
     let w = c.args.circuit.now in
     let l = c.loop-l.l in
@@ -51,7 +50,7 @@ loop-l-preserved g c =
 pub returns-clause-scripts : goal.returns-clause-scripts
 returns-clause-scripts g c =
     let f = g.F.Field in
-    let e = coding f.element f.number_of f.BYTES f.size f.ID in
+    let e = f.coding in
     let all : c.loop-l.l ≡ depth c.args.circuit.now = omega (arith, c.loop-l-test.false, c.loop-l.auto.l-end, c.depth-l-end.ensures.depth) in
     let done = subst (λ l. AreReplayed f.ops e c.args.messages.now c.args.circuit.now c.args.tape.now c.args.layers.now l c.loop-l.tape c.loop-l.layers) all c.loop-l.invariant.layers in
     replayed_whole f.ops e c.args.messages.now c.args.circuit.now c.args.tape.now c.args.layers.now c.loop-l.tape c.loop-l.layers done (omega (arith, c.requires.depth))

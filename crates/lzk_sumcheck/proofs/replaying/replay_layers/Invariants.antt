@@ -1,5 +1,4 @@
 use Rattle.std.proofs.Common.{◌≡◌, ◌<◌}
-use Rattle.lzk_field.specs.Coding.{coding}
 use Rattle.lzk_layout.specs.Places.{depth, places_of, AreWithin}
 use Rattle.lzk_sumcheck.proofs.LayerLaws.{AreReplayed}
 use Rattle.lzk_sumcheck.proofs.replaying.replay_layers.Given as goal
@@ -10,5 +9,5 @@ invariant-loop-l g l =
     record {
       places : l.places ≡ places_of l.circuit l.l;
       within : l.l < depth l.circuit → AreWithin l.circuit l.places;
-      layers : AreReplayed f.ops (coding f.element f.number_of f.BYTES f.size f.ID) l.messages l.circuit l.fn.tape l.fn.layers l.l l.tape l.layers;
+      layers : AreReplayed f.ops f.coding l.messages l.circuit l.fn.tape l.fn.layers l.l l.tape l.layers;
     }

@@ -5,8 +5,8 @@ use Rattle.std.proofs.lemmas.List.{get_or_default, get_or-set_same, get_or-set_o
 use Rattle.lzk_field.specs.Sums.{entry}
 use Rattle.lzk_sumcheck.proofs.rows.add_pair.Goals as goal
 
-pub returns-clause-sums : goal.returns-clause-sums
-returns-clause-sums g c = λ i.
+pub returns : goal.returns
+returns g c = λ i.
     let m = g.F.Field in
     let o = m.ops in
     let p = c.args.pair in

@@ -31,12 +31,12 @@ loop-pair-preserved g c =
     let p = c.pair-item.result in
     let second = c.args.second.now in
     let front = drop_more ps i p c.loop-pair-test.true ∙ ap (λ x. x ∷ drop (i + 1) ps) (sym c.pair-item.is) in (
-      c.add_pair.ensures.length ∙ c.loop-pair.invariant.0,
-      λ k. row-more o m.laws.ring p (drop (i + 1) ps) (drop i ps) second k (entry o c.loop-pair.rows k) (entry o c.add_pair.new.rows k) (o.plus (entry o c.args.rows.now k) (pairs_row o ps second k)) front (c.add_pair.ensures.sums k) (c.loop-pair.invariant.1 k),
+      c.add_pair.auto.rows ∙ c.loop-pair.invariant.0,
+      λ k. row-more o m.laws.ring p (drop (i + 1) ps) (drop i ps) second k (entry o c.loop-pair.rows k) (entry o c.add_pair.new.rows k) (o.plus (entry o c.args.rows.now k) (pairs_row o ps second k)) front (c.add_pair.ensures k) (c.loop-pair.invariant.1 k),
     )
 
-pub returns-clause-sums : goal.returns-clause-sums
-returns-clause-sums g c = λ k.
+pub returns : goal.returns
+returns g c = λ k.
     let m = g.F.Field in
     let o = m.ops in
     let ps = c.args.pairs.now in

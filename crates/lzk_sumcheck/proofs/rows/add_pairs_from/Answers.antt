@@ -24,13 +24,13 @@ loop-pair-preserved g c =
     let second = c.args.second.now in
     let from = c.args.from in
     let front = drop_more ps i p c.loop-pair-test.true ∙ ap (λ x. x ∷ drop (i + 1) ps) (sym c.pair-item.is) in (
-      c.add_pair_from.ensures.length ∙ c.loop-pair.invariant.0,
+      c.add_pair_from.auto.rows ∙ c.loop-pair.invariant.0,
       λ k h. row-more o m.laws.ring p (drop (i + 1) ps) (drop i ps) second (from + k) (entry o c.loop-pair.rows k) (entry o c.add_pair_from.new.rows k) (o.plus (entry o c.args.rows.now k) (pairs_row o ps second (from + k))) front
-          (c.add_pair_from.ensures.sums k (omega (arith, h, c.loop-pair.invariant.0))) (c.loop-pair.invariant.1 k h),
+          (c.add_pair_from.ensures k (omega (arith, h, c.loop-pair.invariant.0))) (c.loop-pair.invariant.1 k h),
     )
 
-pub returns-clause-sums : goal.returns-clause-sums
-returns-clause-sums g c = λ k h.
+pub returns : goal.returns
+returns g c = λ k h.
     let m = g.F.Field in
     let o = m.ops in
     let ps = c.args.pairs.now in

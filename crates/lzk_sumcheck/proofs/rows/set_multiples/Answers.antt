@@ -4,8 +4,8 @@ use native.Mathlib.Decide.{dec_lt}
 use Rattle.lzk_field.proofs.RingBasics.{times_zero}
 use Rattle.lzk_sumcheck.proofs.rows.set_multiples.Goals as goal
 
-pub returns-clause-entries : goal.returns-clause-entries
-returns-clause-entries g c = λ k.
+pub returns : goal.returns
+returns g c = λ k.
     let m = g.F.Field in
     let o = m.ops in
     let inv = c.loop-i.invariant in
