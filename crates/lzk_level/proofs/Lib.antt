@@ -1,5 +1,7 @@
 pub mod LevelLaws
+pub mod SpanLaws
 pub mod CombineLaws
+pub mod SumLaws
 pub mod NodeLaws
 pub mod OneLaws
 pub mod InnerLaws

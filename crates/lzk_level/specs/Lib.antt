@@ -2,6 +2,7 @@ pub mod Nodes
 pub mod Bounds
 pub mod Meanings
 pub mod Levels
+pub mod Spans
 pub mod Checking
 pub mod Compilable
 pub mod Compiling

@@ -108,7 +108,7 @@ fn asserting_layers<F: Field>(
     count: u32,
 ) -> Result<Vec<Layer<F>>, AllocError>
     requires { AreAsserts inputs made.now depths.now asserts.now count }
-    ensures { IfOk result (λ layers. AreAsserting F.ops F.number_of inputs made.now depths.now asserts.now count layers.items) }
+    ensures { IfOk result (λ layers. AreAsserting F.ops F.coding.number inputs made.now depths.now asserts.now count layers.items) }
 {
     let outputs = of_depth(alloc, depths, asserts, count)?;
     let last = last_asserting(alloc, made, depths, asserts, count)?;
@@ -137,8 +137,8 @@ fn laid_out<F: Field>(
     ensures publics { IfOk result (λ c. c.publics ≡ publics) }
     ensures privates { IfOk result (λ c. c.privates ≡ privates) }
     ensures layers { IfOk result (λ c. length c.layers ≡ layer_count (nodes_from publics privates made.now) asserts.now) }
-    ensures count { IfOk result (λ c. check_count F.number_of c.layers ≡ length asserts.now) }
-    ensures checks { IfOk result (HasChecks F.ops F.number_of (nodes_from publics privates made.now) asserts.now) }
+    ensures count { IfOk result (λ c. check_count F.coding.number c.layers ≡ length asserts.now) }
+    ensures checks { IfOk result (HasChecks F.ops F.coding.number (nodes_from publics privates made.now) asserts.now) }
     ensures reduced { IfOk result (λ c. IsReducedAsserting F.ops c.layers) }
     ensures within { IfOk result (λ _. level_fault_v2 (nodes_from publics privates made.now) asserts.now ≡ None) }
     ensures fault { IfErr result (IsFaultOf (level_fault_v2 (nodes_from publics privates made.now) asserts.now)) }
@@ -169,8 +169,8 @@ impl<F: Field> Builder<F> {
         ensures publics { IfOk result (λ c. c.publics ≡ self.publics) }
         ensures privates { IfOk result (λ c. c.privates ≡ self.privates) }
         ensures layers { IfOk result (λ c. length c.layers ≡ layer_count self asserts.now) }
-        ensures count { IfOk result (λ c. check_count F.number_of c.layers ≡ length asserts.now) }
-        ensures checks { IfOk result (HasChecks F.ops F.number_of self asserts.now) }
+        ensures count { IfOk result (λ c. check_count F.coding.number c.layers ≡ length asserts.now) }
+        ensures checks { IfOk result (HasChecks F.ops F.coding.number self asserts.now) }
         ensures reduced { IfOk result (λ c. IsReducedAsserting F.ops c.layers) }
         ensures within { IfOk result (λ _. level_fault_v2 self asserts.now ≡ None) }
         ensures fault { IfErr result (IsFaultOf (level_fault_v2 self asserts.now)) }

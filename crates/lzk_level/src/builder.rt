@@ -91,7 +91,19 @@ impl<F: Field> Builder<F> {
         ensures same { OnErr result (self.new ≡ self.old) }
     {
         let list = Vec::from_slice(self.alloc, parts)?;
-        self.add(Gate::Combine(Parts::new(list)))
+        self.combine_list(list)
+    }
+
+    // The same of a list, which the node keeps.
+    pub(crate) fn combine_list(&mut self, parts: Vec<(F, Node)>) -> Result<Node, AllocError>
+        requires room { node_count self.old < 2147483648 }
+        requires some { 1 ≤ length parts.items }
+        requires nodes { ArePartsOf (node_count self.old) parts.items }
+        ensures node { IfOk result (λ node. node ≡ 1 + node_count self.old) }
+        ensures added { IfOk result (λ _. self.new ≡ with_gate self.old (Combine parts.items)) }
+        ensures same { OnErr result (self.new ≡ self.old) }
+    {
+        self.add(Gate::Combine(Parts::new(parts)))
     }
 
     /// The product of two nodes.

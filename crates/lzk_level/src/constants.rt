@@ -11,7 +11,7 @@ use lzk_expr::{Expr, Part};
 use lzk_field::Field;
 
 pub fn let_at<F: Field>(lets: &[Operand<F>], i: u32) -> Operand<F>
-    ensures { result ≡ let_at (scope F.ops F.element lets.now) i }
+    ensures { result ≡ let_at (scope F.ops F.coding.element lets.now) i }
 {
     match lets.get(i as usize) {
         Some(operand) => *operand,
@@ -20,7 +20,7 @@ pub fn let_at<F: Field>(lets: &[Operand<F>], i: u32) -> Operand<F>
 }
 
 fn let_constant<F: Field>(lets: &[Operand<F>], i: u32) -> Option<F>
-    ensures { result ≡ constant_of (scope F.ops F.element lets.now) (Named i) }
+    ensures { result ≡ constant_of (scope F.ops F.coding.element lets.now) (Named i) }
 {
     match let_at(lets, i) {
         Operand::Constant(c) => Some(c),
@@ -38,7 +38,7 @@ pub fn signed<F: Field>(minus: bool, x: F) -> F
 /// The value of a constant expression, and none of any other.
 #[cycle(constant)]
 pub fn constant<F: Field>(lets: &[Operand<F>], expr: &Expr) -> Option<F>
-    ensures { result ≡ constant_of (scope F.ops F.element lets.now) (expr_of expr.now) }
+    ensures { result ≡ constant_of (scope F.ops F.coding.element lets.now) (expr_of expr.now) }
 {
     match expr {
         Expr::Number(n) => Some(F::of_word(*n)),
@@ -53,7 +53,7 @@ pub fn constant<F: Field>(lets: &[Operand<F>], expr: &Expr) -> Option<F>
 
 #[cycle(constant)]
 fn constant_sum<F: Field>(lets: &[Operand<F>], parts: &[Part]) -> Option<F>
-    ensures { result ≡ constant_parts (scope F.ops F.element lets.now) (part_list parts.now) }
+    ensures { result ≡ constant_parts (scope F.ops F.coding.element lets.now) (part_list parts.now) }
 {
     let mut total = F::zero();
     let mut i = parts.len();
@@ -68,7 +68,7 @@ fn constant_sum<F: Field>(lets: &[Operand<F>], parts: &[Part]) -> Option<F>
 
 #[cycle(constant)]
 fn constant_product<F: Field>(lets: &[Operand<F>], factors: &[Expr]) -> Option<F>
-    ensures { result ≡ constant_factors (scope F.ops F.element lets.now) (expr_list factors.now) }
+    ensures { result ≡ constant_factors (scope F.ops F.coding.element lets.now) (expr_list factors.now) }
 {
     let mut total = F::one();
     let mut i = factors.len();
@@ -81,7 +81,7 @@ fn constant_product<F: Field>(lets: &[Operand<F>], factors: &[Expr]) -> Option<F
 
 /// The product of the constant factors, where there is one.
 pub fn constant_factor<F: Field>(lets: &[Operand<F>], factors: &[Expr]) -> Option<F>
-    ensures { result ≡ constant_factor (scope F.ops F.element lets.now) (expr_list factors.now) }
+    ensures { result ≡ constant_factor (scope F.ops F.coding.element lets.now) (expr_list factors.now) }
 {
     let mut product = None;
     let mut i = factors.len();

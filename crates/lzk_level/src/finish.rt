@@ -18,6 +18,7 @@ use crate::last::last_levels;
 use crate::levels::{level_rows, places};
 use crate::measure::{check_limits, depths_of, weights_of};
 use crate::node::{Gate, Node};
+use crate::rows::Rows;
 use crate::stack::{inner_layer, output_layer};
 use lzk_circuit::{Circuit, Layer};
 use lzk_field::Field;
@@ -70,13 +71,13 @@ pub fn stacked_levels<F: Field>(
         → IfOk result (λ layers. StandBelow F.ops depths.now last.now values inputs (reverse layers.items)) }
 {
     let mut layers = Vec::new(alloc);
+    let mut rows = Rows::new(alloc);
     let mut below = places(alloc, depths, last, 0)?;
     for level in 1..count {
-        let rows = level_rows(alloc, made, depths, last, level, &below)?;
-        layers.push(inner_layer(alloc, depths, last, level, &rows)?)?;
-        below = places(alloc, depths, last, level)?;
+        level_rows(alloc, made, depths, last, level, &below, &mut rows)?;
+        layers.push(inner_layer(alloc, depths, last, level, &rows, &mut below)?)?;
     }
-    let rows = level_rows(alloc, made, depths, last, count, &below)?;
+    level_rows(alloc, made, depths, last, count, &below, &mut rows)?;
     layers.push(output_layer(alloc, &rows, outputs)?)?;
     Ok(layers)
 }

@@ -30,7 +30,9 @@ mod levels;
 mod making;
 mod measure;
 mod node;
+mod rows;
 mod stack;
+mod sums;
 mod theorems;
 
 pub use builder::Builder;

@@ -7,13 +7,8 @@ ghost use Rattle.lzk_level.specs.Bounds.{at_parts, greatest, total, gate_depth, 
 
 use crate::fault::LevelFault;
 use crate::node::{Gate, Node};
+use lzk_circuit::{MOST_IN_ALL, MOST_LAYERS, MOST_WIRES};
 use std::alloc::{AllocError, Global};
-
-const MOST_LAYERS: u32 = 512;
-
-const MOST_WIRES: u32 = 131_072;
-
-const MOST_TERMS: u64 = 2_097_152;
 
 fn larger(a: u32, b: u32) -> u32
     ensures { result ≡ max a b }
@@ -147,7 +142,7 @@ fn check(layers: u32, wires: u32, terms: u64) -> Result<u32, LevelFault>
     if wires > MOST_WIRES {
         return Err(LevelFault::LayerWires(wires as u64));
     }
-    if terms > MOST_TERMS {
+    if terms > u64::from(MOST_IN_ALL) {
         return Err(LevelFault::Terms(terms));
     }
     Ok(layers)

@@ -6,22 +6,24 @@ ghost use Rattle.lzk_circuit.specs.Wires.{coef, wire};
 ghost use Rattle.lzk_reduce.specs.Renumbering.{at};
 ghost use Rattle.lzk_reduce.specs.Rows.{IsRow, row_value};
 ghost use Rattle.lzk_reduce.specs.Reduced.{HasOne};
-ghost use Rattle.lzk_level.specs.Levels.{has_wire, place_in, width_of, row_at, AreRows, lengths_in, lengths_of, StartsWithOne};
+ghost use Rattle.lzk_level.specs.Levels.{has_wire, place_in, width_of, row_at, ArePlaces, AreRows, lengths_in, lengths_of, StartsWithOne};
 
 use crate::levels::has_wire;
 use crate::node::Node;
+use crate::rows::Rows;
 use lzk_circuit::{Layer, Terms};
 use lzk_field::Field;
 use lzk_reduce::append;
 use std::alloc::{AllocError, Global};
 
-/// The layer of all nodes with a wire in a level.
+/// The layer of all nodes with a wire in a level, and each node's number among them.
 pub fn inner_layer<F: Field>(
     alloc: Global,
     depths: &[u32],
     last: &[u32],
     level: u32,
-    rows: &[Terms<F>],
+    rows: &Rows<F>,
+    places: &mut Vec<u32>,
 ) -> Result<Layer<F>, AllocError>
     requires rows { length rows.now ≡ length depths.now }
     requires same { length last.now ≡ length depths.now }
@@ -33,13 +35,16 @@ pub fn inner_layer<F: Field>(
         IfOk result (λ layer. (k : ℕ) → k < length depths.now → has_wire depths.now last.now level k ≡ true →
         wire F.ops (coef F.ops layer.terms) below (place_in depths.now last.now level k) ≡ row_value F.ops below (row_at rows.now k)) }
     ensures count { IfOk result (λ layer. length layer.terms ≡ lengths_in depths.now last.now level rows.now (length depths.now)) }
+    ensures places { IfOk result (λ _. ArePlaces depths.now last.now level places.new.items) }
     ensures one { at depths.now 0 ≡ 0 → level < at last.now 0 → StartsWithOne F.ops rows.now → IfOk result (HasOne F.ops) }
 {
     let mut terms = Vec::new(alloc);
     let mut wires = 0;
+    places.clear();
     for k in 0..depths.len() {
+        places.push(wires)?;
         if has_wire(depths, last, level, k) {
-            append(&mut terms, wires, rows[k].as_slice())?;
+            append(&mut terms, wires, rows.row(k))?;
             wires += 1;
         }
     }
@@ -52,7 +57,7 @@ pub fn inner_layer<F: Field>(
 /// The outputs' layer: a wire for each, with the row of its node.
 pub fn output_layer<F: Field>(
     alloc: Global,
-    rows: &[Terms<F>],
+    rows: &Rows<F>,
     outputs: &[Node],
 ) -> Result<Layer<F>, AllocError>
     requires nodes { (i : ℕ) → i < length outputs.now → at outputs.now i < length rows.now }
@@ -67,11 +72,7 @@ pub fn output_layer<F: Field>(
     let mut terms = Vec::new(alloc);
     for g in 0..outputs.len() {
         let node = outputs[g];
-        append(
-            &mut terms,
-            g as u32,
-            rows[node.number() as usize].as_slice(),
-        )?;
+        append(&mut terms, g as u32, rows.row(node.number() as usize))?;
     }
     Ok(Layer {
         wires: outputs.len() as u32,

@@ -110,7 +110,7 @@ asserting-requires-clause-few_terms g c κs within = (are_laid g c).is_ready.few
 pub returns : goal.returns
 returns g c =
     let o = g.F.Field.ops in
-    let number = g.F.Field.number_of in
+    let number = g.F.Field.coding.number in
     let inputs = c.args.inputs in
     let made = c.args.made.now in
     let depths = c.args.depths.now in

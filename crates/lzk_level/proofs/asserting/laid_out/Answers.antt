@@ -25,7 +25,7 @@ asserting_layers-requires-after_bounds g c κs within =
 pub returns-clause-checks : goal.returns-clause-checks
 returns-clause-checks g c public private hp hq k l =
     let o = g.F.Field.ops in
-    let number = g.F.Field.number_of in
+    let number = g.F.Field.coding.number in
     let p = c.args.publics in
     let q = c.args.privates in
     let made = c.args.made.now in

@@ -9,7 +9,7 @@ use Rattle.lzk_level.proofs.compiler.build.Goals as goal
 pub loop-i-preserved : goal.loop-i-preserved
 loop-i-preserved g c =
     let o = g.F.Field.ops in
-    let element = g.F.Field.element in
+    let element = g.F.Field.coding.element in
     let s = scope o element c.loop-i.lets.items in
     let n = c.loop-i.builder in
     let x = c.take_statement.new.builder in

@@ -11,5 +11,5 @@ invariant-loop-i g l = record {
   inputs : AreStatementsWithin l.builder.publics l.builder.privates (statements_of (drop l.i l.statements));
   lets : AreOperands (node_count l.builder) l.lets.items;
   room : node_count l.builder + statements_size (statements_of (drop l.i l.statements)) ≤ 2147483648;
-  made : behind l.outputs.items (statements_made (scope g.F.Field.ops g.F.Field.element l.lets.items) l.builder (statements_of (drop l.i l.statements))) ≡ nodes_of g.F.Field.ops g.F.Field.element (statements_of l.statements);
+  made : behind l.outputs.items (statements_made (scope g.F.Field.ops g.F.Field.coding.element l.lets.items) l.builder (statements_of (drop l.i l.statements))) ≡ nodes_of g.F.Field.ops g.F.Field.coding.element (statements_of l.statements);
 }

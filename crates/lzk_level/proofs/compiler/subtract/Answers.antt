@@ -9,32 +9,32 @@ use Rattle.lzk_level.proofs.compiler.subtract.Goals as goal
 
 pub make-requires-2-clause-inputs : goal.make-requires-2-clause-inputs
 make-requires-2-clause-inputs g c κs within =
-    let s = scope g.F.Field.ops g.F.Field.element c.args.lets.now in
+    let s = scope g.F.Field.ops g.F.Field.coding.element c.args.lets.now in
     made-inputs s c.args.builder.now c.make.new.builder (expr_of c.args.left.now) (λ p q. IsWithin p q (expr_of c.args.right.now)) c.in_ok-x.ensures.nodes c.requires.right
 
 pub make-requires-2-clause-lets : goal.make-requires-2-clause-lets
 make-requires-2-clause-lets g c κs within =
-    let s = scope g.F.Field.ops g.F.Field.element c.args.lets.now in
+    let s = scope g.F.Field.ops g.F.Field.coding.element c.args.lets.now in
     made-operands s c.args.builder.now c.make.new.builder (expr_of c.args.left.now) c.in_ok-x.ensures.nodes c.requires.lets
 
 pub make-requires-2-clause-room : goal.make-requires-2-clause-room
 make-requires-2-clause-room g c κs within =
-    let s = scope g.F.Field.ops g.F.Field.element c.args.lets.now in
+    let s = scope g.F.Field.ops g.F.Field.coding.element c.args.lets.now in
     let q = made-count s c.args.builder.now c.make.new.builder (expr_of c.args.left.now) c.in_ok-x.ensures.nodes in
     omega (arith, q, c.requires.room)
 
-pub combine-requires-clause-room : goal.combine-requires-clause-room
-combine-requires-clause-room g c κs within =
-    let s = scope g.F.Field.ops g.F.Field.element c.args.lets.now in
+pub combine_list-requires-clause-room : goal.combine_list-requires-clause-room
+combine_list-requires-clause-room g c κs within =
+    let s = scope g.F.Field.ops g.F.Field.coding.element c.args.lets.now in
     let q = made-count s c.args.builder.now c.make.new.builder (expr_of c.args.left.now) c.in_ok-x.ensures.nodes in
     let r = made-count s c.make.new.builder c.make-2.new.builder (expr_of c.args.right.now) c.in_ok-y.ensures.nodes in
     omega (arith, q, r, c.requires.room)
 
-pub combine-requires-clause-nodes : goal.combine-requires-clause-nodes
-combine-requires-clause-nodes g c κs within =
-    let s = scope g.F.Field.ops g.F.Field.element c.args.lets.now in
+pub combine_list-requires-clause-nodes : goal.combine_list-requires-clause-nodes
+combine_list-requires-clause-nodes g c κs within =
+    let s = scope g.F.Field.ops g.F.Field.coding.element c.args.lets.now in
     let n = c.args.builder.now in
     let y = c.make-2.new.builder in
-    let list = c.deref.ensures.value ∙ c.in_ok-push-2.ensures.items ∙ ap (λ l. l ++ (c.neg.result, c.in_ok-y.y) ∷ []) (c.in_ok-push.ensures.items ∙ ap (λ l. l ++ (c.one.result, c.in_ok-x.x) ∷ []) c.new-parts.ensures.items) in
+    let list = c.in_ok-push-2.ensures.items ∙ ap (λ l. l ++ (c.neg.result, c.in_ok-y.y) ∷ []) (c.in_ok-push.ensures.items ∙ ap (λ l. l ++ (c.one.result, c.in_ok-x.x) ∷ []) c.in_ok-parts.ensures.items) in
     subst (ArePartsOf (node_count y)) (sym list)
     (difference-parts s n c.make.new.builder y (expr_of c.args.left.now) (expr_of c.args.right.now) c.in_ok-x.x c.in_ok-y.y c.one.result c.neg.result c.in_ok-x.ensures.nodes c.in_ok-x.ensures.node c.in_ok-y.ensures.nodes c.in_ok-y.ensures.node c.requires.left c.requires.right c.requires.lets)

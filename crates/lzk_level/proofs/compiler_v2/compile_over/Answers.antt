@@ -10,42 +10,42 @@ use Rattle.lzk_level.proofs.compiler_v2.compile_over.Goals as goal
 
 pub finish_v2-requires-clause-some : goal.finish_v2-requires-clause-some
 finish_v2-requires-clause-some g c =
-    let n = built-count g.F.Field.ops g.F.Field.element (statements_of c.args.statements.now) c.deref.result.now (c.deref.ensures.value ∙ c.in_ok-builder.ensures.outputs) in
+    let n = built-count g.F.Field.ops g.F.Field.coding.element (statements_of c.args.statements.now) c.deref.result.now (c.deref.ensures.value ∙ c.in_ok-builder.ensures.outputs) in
     omega (arith, n, c.requires.compilable.some)
 
 pub finish_v2-requires-clause-few : goal.finish_v2-requires-clause-few
 finish_v2-requires-clause-few g c =
-    let n = built-count g.F.Field.ops g.F.Field.element (statements_of c.args.statements.now) c.deref.result.now (c.deref.ensures.value ∙ c.in_ok-builder.ensures.outputs) in
+    let n = built-count g.F.Field.ops g.F.Field.coding.element (statements_of c.args.statements.now) c.deref.result.now (c.deref.ensures.value ∙ c.in_ok-builder.ensures.outputs) in
     omega (arith, n, c.requires.compilable.asserts)
 
 pub finish_v2-requires-clause-nodes : goal.finish_v2-requires-clause-nodes
 finish_v2-requires-clause-nodes g c κs within =
-    built-nodes g.F.Field.ops g.F.Field.element (statements_of c.args.statements.now) c.in_ok-builder.builder c.deref.result.now c.in_ok-builder.ensures.nodes (c.deref.ensures.value ∙ c.in_ok-builder.ensures.outputs)
+    built-nodes g.F.Field.ops g.F.Field.coding.element (statements_of c.args.statements.now) c.in_ok-builder.builder c.deref.result.now c.in_ok-builder.ensures.nodes (c.deref.ensures.value ∙ c.in_ok-builder.ensures.outputs)
 
 pub returns-clause-publics : goal.returns-clause-publics
 returns-clause-publics g c =
     let n = c.in_ok-builder.builder in
-    let e = built-publics g.F.Field.ops g.F.Field.element (statements_of c.args.statements.now) n c.in_ok-builder.ensures.nodes in
+    let e = built-publics g.F.Field.ops g.F.Field.coding.element (statements_of c.args.statements.now) n c.in_ok-builder.ensures.nodes in
     IfOk-weaker c.finish_v2.result (λ x. x.publics ≡ n.publics) (λ x. x.publics ≡ c.args.publics) (λ x h. h ∙ e ∙ sym c.requires.publics) c.finish_v2.ensures.publics
 
 pub returns-clause-privates : goal.returns-clause-privates
 returns-clause-privates g c =
     let n = c.in_ok-builder.builder in
-    let e = built-privates g.F.Field.ops g.F.Field.element (statements_of c.args.statements.now) n c.in_ok-builder.ensures.nodes in
+    let e = built-privates g.F.Field.ops g.F.Field.coding.element (statements_of c.args.statements.now) n c.in_ok-builder.ensures.nodes in
     IfOk-weaker c.finish_v2.result (λ x. x.privates ≡ n.privates) (λ x. x.privates ≡ c.args.privates) (λ x h. h ∙ e ∙ sym c.requires.privates) c.finish_v2.ensures.privates
 
 pub returns-clause-count : goal.returns-clause-count
 returns-clause-count g c =
     let ss = statements_of c.args.statements.now in
     let ks = c.deref.result.now in
-    let many = built-count g.F.Field.ops g.F.Field.element ss ks (c.deref.ensures.value ∙ c.in_ok-builder.ensures.outputs) in
-    IfOk-weaker c.finish_v2.result (λ x. check_count g.F.Field.number_of x.layers ≡ length ks) (HasAsManyChecks g.F.Field.number_of ss) (λ x h. h ∙ many) c.finish_v2.ensures.count
+    let many = built-count g.F.Field.ops g.F.Field.coding.element ss ks (c.deref.ensures.value ∙ c.in_ok-builder.ensures.outputs) in
+    IfOk-weaker c.finish_v2.result (λ x. check_count g.F.Field.coding.number x.layers ≡ length ks) (HasAsManyChecks g.F.Field.coding.number ss) (λ x h. h ∙ many) c.finish_v2.ensures.count
 
 pub returns-clause-checks : goal.returns-clause-checks
 returns-clause-checks g c =
     let o = g.F.Field.ops in
-    let number = g.F.Field.number_of in
-    let element = g.F.Field.element in
+    let number = g.F.Field.coding.number in
+    let element = g.F.Field.coding.element in
     let ss = statements_of c.args.statements.now in
     let n = c.in_ok-builder.builder in
     let ks = c.deref.result.now in
@@ -55,5 +55,5 @@ returns-clause-checks g c =
 
 pub returns-clause-fault : goal.returns-clause-fault
 returns-clause-fault g c =
-    built-fault-v2 g.F.Field.ops g.F.Field.element (statements_of c.args.statements.now) c.in_ok-builder.builder c.deref.result.now c.finish_v2.result c.in_ok-builder.ensures.nodes (c.deref.ensures.value ∙ c.in_ok-builder.ensures.outputs)
+    built-fault-v2 g.F.Field.ops g.F.Field.coding.element (statements_of c.args.statements.now) c.in_ok-builder.builder c.deref.result.now c.finish_v2.result c.in_ok-builder.ensures.nodes (c.deref.ensures.value ∙ c.in_ok-builder.ensures.outputs)
     c.finish_v2.ensures.fault

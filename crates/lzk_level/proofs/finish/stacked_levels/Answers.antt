@@ -1,5 +1,5 @@
-use Rattle.std.proofs.Common.{◌≡◌, ◌∙◌, ap, sym, subst, ◌+◌, ◌-◌, length, arith}
-use Rattle.lzk_level.specs.Levels.{width_of, ArePlaces, AreRows, AreShort, HaveValues, StartsWithOne}
+use Rattle.std.proofs.Common.{◌≡◌, sym, subst, ◌+◌, ◌-◌, length, arith}
+use Rattle.lzk_level.specs.Levels.{ArePlaces}
 use Rattle.lzk_level.proofs.TowerLaws.{Tower, Topped, tower-starts, tower-adds, tower-ends}
 use Rattle.lzk_level.proofs.finish.stacked_levels.Goals as goal
 
@@ -19,25 +19,42 @@ loop-level-preserved g c =
     let made = c.args.made.now in
     let inputs = length depths - length made in
     let level = c.loop-level.level in
-    let rows = c.deref-in-loop-level.result.now in
-    let same : c.in_ok-rows.rows.items ≡ rows = sym c.deref-in-loop-level.ensures.value in
-    let e = c.in_ok-rows.ensures in
+    let rows = c.level_rows.new.rows in
+    let e = c.in_ok-level_rows.ensures in
     let f = c.in_ok-inner_layer.ensures in
     let i = c.loop-level.invariant in
     let back : level ≡ level + 1 - 1 = omega arith in (
       omega (arith, i.0),
-      subst (λ n. ArePlaces depths last n c.in_ok-below-2.below.items) back c.in_ok-below-2.ensures,
+      subst (λ n. ArePlaces depths last n c.inner_layer.new.places.items) back f.places,
       subst (λ n. Tower o inputs made depths last n c.push.new.self.items) back
           (tower-adds o inputs made depths last level c.loop-level.layers.items c.push.new.self.items c.in_ok-inner_layer.field-0 rows i.0 c.requires.few (omega (arith, c.requires.inputs)) (omega (arith, c.loop-level-test.true, c.requires.high)) c.requires.depths
-          c.in_ok-push.ensures.items (ap length (sym same) ∙ e.count) (subst (AreRows o (width_of depths last (level - 1))) same e.row)
-          (λ values wires v s. subst (HaveValues o depths last level values wires) same (e.value values wires v s)) (λ weights w. subst (AreShort depths level weights) same (e.short weights w))
-          f.wires f.terms f.values f.count (f.one (c.requires.depths.at_inputs 0 (omega (arith, c.requires.inputs))) (omega (arith, c.loop-level-test.true, c.requires.high)) (subst (StartsWithOne o) same e.one)) i.2),
+          c.in_ok-push.ensures.items e.count e.row e.value e.short
+          f.wires f.terms f.values f.count (f.one (c.requires.depths.at_inputs 0 (omega (arith, c.requires.inputs))) (omega (arith, c.loop-level-test.true, c.requires.high)) e.one) i.2),
     )
 
 pub level_rows-requires-2-clause-places : goal.level_rows-requires-2-clause-places
 level_rows-requires-2-clause-places g c κs within =
     let top : c.loop-level.level ≡ c.args.count = omega (arith, c.loop-level-test.false, c.loop-level.auto.level-end c.requires.some) in
     subst (λ n. ArePlaces c.args.depths.now c.args.last.now (n - 1) c.deref-2.result.now) top (subst (ArePlaces c.args.depths.now c.args.last.now (c.loop-level.level - 1)) (sym c.deref-2.ensures.value) c.loop-level.invariant.1)
+
+pub returns-clause-count : goal.returns-clause-count
+returns-clause-count g c =
+    let o = g.F.Field.ops in
+    let depths = c.args.depths.now in
+    let last = c.args.last.now in
+    let made = c.args.made.now in
+    let outputs = c.args.outputs.now in
+    let count = c.args.count in
+    let inputs = length depths - length made in
+    let top : c.loop-level.level ≡ count = omega (arith, c.loop-level-test.false, c.loop-level.auto.level-end c.requires.some) in
+    let under : Tower o inputs made depths last (count - 1) c.loop-level.layers.items = subst (λ n. Tower o inputs made depths last (n - 1) c.loop-level.layers.items) top c.loop-level.invariant.2 in
+    let rows = c.level_rows-2.new.rows in
+    let e = c.in_ok-level_rows-2.ensures in
+    let f = c.in_ok-output_layer.ensures in
+    let all : Topped o inputs made depths last count outputs c.push-2.new.self.items =
+    tower-ends o inputs made depths last count c.loop-level.layers.items c.push-2.new.self.items c.in_ok-output_layer.field-0 rows outputs c.requires.some (omega (arith, c.requires.inputs)) c.requires.gates c.requires.depths
+    c.in_ok-push-2.ensures.items e.count e.row f.wires c.requires.outputs e.value e.short f.terms f.values f.count c.requires.nodes c.requires.deep c.requires.needed under in
+    all.count_is
 
 pub returns-clause-valid : goal.returns-clause-valid
 returns-clause-valid g c =
@@ -50,15 +67,12 @@ returns-clause-valid g c =
     let inputs = length depths - length made in
     let top : c.loop-level.level ≡ count = omega (arith, c.loop-level-test.false, c.loop-level.auto.level-end c.requires.some) in
     let under : Tower o inputs made depths last (count - 1) c.loop-level.layers.items = subst (λ n. Tower o inputs made depths last (n - 1) c.loop-level.layers.items) top c.loop-level.invariant.2 in
-    let rows = c.deref-3.result.now in
-    let same : c.in_ok-rows-2.rows.items ≡ rows = sym c.deref-3.ensures.value in
-    let e = c.in_ok-rows-2.ensures in
+    let rows = c.level_rows-2.new.rows in
+    let e = c.in_ok-level_rows-2.ensures in
     let f = c.in_ok-output_layer.ensures in
     let all : Topped o inputs made depths last count outputs c.push-2.new.self.items =
     tower-ends o inputs made depths last count c.loop-level.layers.items c.push-2.new.self.items c.in_ok-output_layer.field-0 rows outputs c.requires.some (omega (arith, c.requires.inputs)) c.requires.gates c.requires.depths
-    c.in_ok-push-2.ensures.items (ap length (sym same) ∙ e.count) (subst (AreRows o (width_of depths last (count - 1))) same e.row) f.wires c.requires.outputs
-    (λ values wires v s. subst (HaveValues o depths last count values wires) same (e.value values wires v s)) (λ weights w. subst (AreShort depths count weights) same (e.short weights w))
-    f.terms f.values f.count c.requires.nodes c.requires.deep c.requires.needed under in
+    c.in_ok-push-2.ensures.items e.count e.row f.wires c.requires.outputs e.value e.short f.terms f.values f.count c.requires.nodes c.requires.deep c.requires.needed under in
     all.valid
 
 pub returns-clause-values : goal.returns-clause-values
@@ -72,15 +86,12 @@ returns-clause-values g c =
     let inputs = length depths - length made in
     let top : c.loop-level.level ≡ count = omega (arith, c.loop-level-test.false, c.loop-level.auto.level-end c.requires.some) in
     let under : Tower o inputs made depths last (count - 1) c.loop-level.layers.items = subst (λ n. Tower o inputs made depths last (n - 1) c.loop-level.layers.items) top c.loop-level.invariant.2 in
-    let rows = c.deref-3.result.now in
-    let same : c.in_ok-rows-2.rows.items ≡ rows = sym c.deref-3.ensures.value in
-    let e = c.in_ok-rows-2.ensures in
+    let rows = c.level_rows-2.new.rows in
+    let e = c.in_ok-level_rows-2.ensures in
     let f = c.in_ok-output_layer.ensures in
     let all : Topped o inputs made depths last count outputs c.push-2.new.self.items =
     tower-ends o inputs made depths last count c.loop-level.layers.items c.push-2.new.self.items c.in_ok-output_layer.field-0 rows outputs c.requires.some (omega (arith, c.requires.inputs)) c.requires.gates c.requires.depths
-    c.in_ok-push-2.ensures.items (ap length (sym same) ∙ e.count) (subst (AreRows o (width_of depths last (count - 1))) same e.row) f.wires c.requires.outputs
-    (λ values wires v s. subst (HaveValues o depths last count values wires) same (e.value values wires v s)) (λ weights w. subst (AreShort depths count weights) same (e.short weights w))
-    f.terms f.values f.count c.requires.nodes c.requires.deep c.requires.needed under in
+    c.in_ok-push-2.ensures.items e.count e.row f.wires c.requires.outputs e.value e.short f.terms f.values f.count c.requires.nodes c.requires.deep c.requires.needed under in
     all.values
 
 pub returns-clause-ones : goal.returns-clause-ones
@@ -94,15 +105,12 @@ returns-clause-ones g c =
     let inputs = length depths - length made in
     let top : c.loop-level.level ≡ count = omega (arith, c.loop-level-test.false, c.loop-level.auto.level-end c.requires.some) in
     let under : Tower o inputs made depths last (count - 1) c.loop-level.layers.items = subst (λ n. Tower o inputs made depths last (n - 1) c.loop-level.layers.items) top c.loop-level.invariant.2 in
-    let rows = c.deref-3.result.now in
-    let same : c.in_ok-rows-2.rows.items ≡ rows = sym c.deref-3.ensures.value in
-    let e = c.in_ok-rows-2.ensures in
+    let rows = c.level_rows-2.new.rows in
+    let e = c.in_ok-level_rows-2.ensures in
     let f = c.in_ok-output_layer.ensures in
     let all : Topped o inputs made depths last count outputs c.push-2.new.self.items =
     tower-ends o inputs made depths last count c.loop-level.layers.items c.push-2.new.self.items c.in_ok-output_layer.field-0 rows outputs c.requires.some (omega (arith, c.requires.inputs)) c.requires.gates c.requires.depths
-    c.in_ok-push-2.ensures.items (ap length (sym same) ∙ e.count) (subst (AreRows o (width_of depths last (count - 1))) same e.row) f.wires c.requires.outputs
-    (λ values wires v s. subst (HaveValues o depths last count values wires) same (e.value values wires v s)) (λ weights w. subst (AreShort depths count weights) same (e.short weights w))
-    f.terms f.values f.count c.requires.nodes c.requires.deep c.requires.needed under in
+    c.in_ok-push-2.ensures.items e.count e.row f.wires c.requires.outputs e.value e.short f.terms f.values f.count c.requires.nodes c.requires.deep c.requires.needed under in
     all.ones
 
 pub returns-clause-widths : goal.returns-clause-widths
@@ -116,15 +124,12 @@ returns-clause-widths g c =
     let inputs = length depths - length made in
     let top : c.loop-level.level ≡ count = omega (arith, c.loop-level-test.false, c.loop-level.auto.level-end c.requires.some) in
     let under : Tower o inputs made depths last (count - 1) c.loop-level.layers.items = subst (λ n. Tower o inputs made depths last (n - 1) c.loop-level.layers.items) top c.loop-level.invariant.2 in
-    let rows = c.deref-3.result.now in
-    let same : c.in_ok-rows-2.rows.items ≡ rows = sym c.deref-3.ensures.value in
-    let e = c.in_ok-rows-2.ensures in
+    let rows = c.level_rows-2.new.rows in
+    let e = c.in_ok-level_rows-2.ensures in
     let f = c.in_ok-output_layer.ensures in
     let all : Topped o inputs made depths last count outputs c.push-2.new.self.items =
     tower-ends o inputs made depths last count c.loop-level.layers.items c.push-2.new.self.items c.in_ok-output_layer.field-0 rows outputs c.requires.some (omega (arith, c.requires.inputs)) c.requires.gates c.requires.depths
-    c.in_ok-push-2.ensures.items (ap length (sym same) ∙ e.count) (subst (AreRows o (width_of depths last (count - 1))) same e.row) f.wires c.requires.outputs
-    (λ values wires v s. subst (HaveValues o depths last count values wires) same (e.value values wires v s)) (λ weights w. subst (AreShort depths count weights) same (e.short weights w))
-    f.terms f.values f.count c.requires.nodes c.requires.deep c.requires.needed under in
+    c.in_ok-push-2.ensures.items e.count e.row f.wires c.requires.outputs e.value e.short f.terms f.values f.count c.requires.nodes c.requires.deep c.requires.needed under in
     all.widths
 
 pub returns-clause-terms : goal.returns-clause-terms
@@ -138,15 +143,12 @@ returns-clause-terms g c =
     let inputs = length depths - length made in
     let top : c.loop-level.level ≡ count = omega (arith, c.loop-level-test.false, c.loop-level.auto.level-end c.requires.some) in
     let under : Tower o inputs made depths last (count - 1) c.loop-level.layers.items = subst (λ n. Tower o inputs made depths last (n - 1) c.loop-level.layers.items) top c.loop-level.invariant.2 in
-    let rows = c.deref-3.result.now in
-    let same : c.in_ok-rows-2.rows.items ≡ rows = sym c.deref-3.ensures.value in
-    let e = c.in_ok-rows-2.ensures in
+    let rows = c.level_rows-2.new.rows in
+    let e = c.in_ok-level_rows-2.ensures in
     let f = c.in_ok-output_layer.ensures in
     let all : Topped o inputs made depths last count outputs c.push-2.new.self.items =
     tower-ends o inputs made depths last count c.loop-level.layers.items c.push-2.new.self.items c.in_ok-output_layer.field-0 rows outputs c.requires.some (omega (arith, c.requires.inputs)) c.requires.gates c.requires.depths
-    c.in_ok-push-2.ensures.items (ap length (sym same) ∙ e.count) (subst (AreRows o (width_of depths last (count - 1))) same e.row) f.wires c.requires.outputs
-    (λ values wires v s. subst (HaveValues o depths last count values wires) same (e.value values wires v s)) (λ weights w. subst (AreShort depths count weights) same (e.short weights w))
-    f.terms f.values f.count c.requires.nodes c.requires.deep c.requires.needed under in
+    c.in_ok-push-2.ensures.items e.count e.row f.wires c.requires.outputs e.value e.short f.terms f.values f.count c.requires.nodes c.requires.deep c.requires.needed under in
     all.terms
 
 pub returns-clause-few : goal.returns-clause-few
@@ -160,15 +162,12 @@ returns-clause-few g c =
     let inputs = length depths - length made in
     let top : c.loop-level.level ≡ count = omega (arith, c.loop-level-test.false, c.loop-level.auto.level-end c.requires.some) in
     let under : Tower o inputs made depths last (count - 1) c.loop-level.layers.items = subst (λ n. Tower o inputs made depths last (n - 1) c.loop-level.layers.items) top c.loop-level.invariant.2 in
-    let rows = c.deref-3.result.now in
-    let same : c.in_ok-rows-2.rows.items ≡ rows = sym c.deref-3.ensures.value in
-    let e = c.in_ok-rows-2.ensures in
+    let rows = c.level_rows-2.new.rows in
+    let e = c.in_ok-level_rows-2.ensures in
     let f = c.in_ok-output_layer.ensures in
     let all : Topped o inputs made depths last count outputs c.push-2.new.self.items =
     tower-ends o inputs made depths last count c.loop-level.layers.items c.push-2.new.self.items c.in_ok-output_layer.field-0 rows outputs c.requires.some (omega (arith, c.requires.inputs)) c.requires.gates c.requires.depths
-    c.in_ok-push-2.ensures.items (ap length (sym same) ∙ e.count) (subst (AreRows o (width_of depths last (count - 1))) same e.row) f.wires c.requires.outputs
-    (λ values wires v s. subst (HaveValues o depths last count values wires) same (e.value values wires v s)) (λ weights w. subst (AreShort depths count weights) same (e.short weights w))
-    f.terms f.values f.count c.requires.nodes c.requires.deep c.requires.needed under in
+    c.in_ok-push-2.ensures.items e.count e.row f.wires c.requires.outputs e.value e.short f.terms f.values f.count c.requires.nodes c.requires.deep c.requires.needed under in
     all.few_terms
 
 pub returns-clause-stand : goal.returns-clause-stand
@@ -182,13 +181,10 @@ returns-clause-stand g c =
     let inputs = length depths - length made in
     let top : c.loop-level.level ≡ count = omega (arith, c.loop-level-test.false, c.loop-level.auto.level-end c.requires.some) in
     let under : Tower o inputs made depths last (count - 1) c.loop-level.layers.items = subst (λ n. Tower o inputs made depths last (n - 1) c.loop-level.layers.items) top c.loop-level.invariant.2 in
-    let rows = c.deref-3.result.now in
-    let same : c.in_ok-rows-2.rows.items ≡ rows = sym c.deref-3.ensures.value in
-    let e = c.in_ok-rows-2.ensures in
+    let rows = c.level_rows-2.new.rows in
+    let e = c.in_ok-level_rows-2.ensures in
     let f = c.in_ok-output_layer.ensures in
     let all : Topped o inputs made depths last count outputs c.push-2.new.self.items =
     tower-ends o inputs made depths last count c.loop-level.layers.items c.push-2.new.self.items c.in_ok-output_layer.field-0 rows outputs c.requires.some (omega (arith, c.requires.inputs)) c.requires.gates c.requires.depths
-    c.in_ok-push-2.ensures.items (ap length (sym same) ∙ e.count) (subst (AreRows o (width_of depths last (count - 1))) same e.row) f.wires c.requires.outputs
-    (λ values wires v s. subst (HaveValues o depths last count values wires) same (e.value values wires v s)) (λ weights w. subst (AreShort depths count weights) same (e.short weights w))
-    f.terms f.values f.count c.requires.nodes c.requires.deep c.requires.needed under in
+    c.in_ok-push-2.ensures.items e.count e.row f.wires c.requires.outputs e.value e.short f.terms f.values f.count c.requires.nodes c.requires.deep c.requires.needed under in
     all.stand

@@ -15,16 +15,16 @@ returns-in-Constant-clause-value g c below one =
     let k = c.in-Constant.c in
     let value = placed_value o (map (row_value o below) c.args.rows.now) c.args.places.now below in
     let unit : o.times k (o.times (entry o below 0) (entry o below 0)) ≡ k = ap (λ w. o.times k (o.times w w)) one ∙ ap (o.times k) (r.times_one o.one) ∙ r.times_one k in
-    IfOk-weaker c.single.result (λ row. row_value o below row.items ≡ o.times k (o.times (entry o below 0) (entry o below 0))) (λ row. row_value o below row.items ≡ value c.args.gate.now)
-    (λ row e. e ∙ unit ∙ sym (ap value c.in-Constant.is)) (c.single.ensures.value below)
+    IfOk-weaker c.fill_single.result (λ _. row_value o below c.fill_single.new.row.items ≡ o.times k (o.times (entry o below 0) (entry o below 0))) (λ _. row_value o below c.fill_single.new.row.items ≡ value c.args.gate.now)
+    (λ _ e. e ∙ unit ∙ sym (ap value c.in-Constant.is)) (c.fill_single.ensures.value below)
 
 pub returns-in-Combine-clause-value : goal.returns-in-Combine-clause-value
 returns-in-Combine-clause-value g c below one =
     let o = g.F.Field.ops in
     let counted = map (row_value o below) c.args.rows.now in
     let value = placed_value o counted c.args.places.now below in
-    IfOk-weaker c.combined.result (λ row. row_value o below row.items ≡ combined o counted c.as_slice.result.now) (λ row. row_value o below row.items ≡ value c.args.gate.now)
-    (λ row e. e ∙ ap (combined o counted) c.as_slice.ensures ∙ sym (ap value c.in-Combine.is)) (c.combined.ensures.value below)
+    IfOk-weaker c.sum_row.result (λ _. row_value o below c.sum_row.new.row.items ≡ combined o counted c.as_slice.result.now) (λ _. row_value o below c.sum_row.new.row.items ≡ value c.args.gate.now)
+    (λ _ e. e ∙ ap (combined o counted) c.as_slice.ensures ∙ sym (ap value c.in-Combine.is)) (c.sum_row.ensures.value below)
 
 pub returns-in-Mul-clause-value : goal.returns-in-Mul-clause-value
 returns-in-Mul-clause-value g c below one =
@@ -36,5 +36,5 @@ returns-in-Mul-clause-value g c below one =
     let product : o.times c.one.result (o.times (factor i) (factor j)) ≡ o.times (factor c.in-Mul.x) (factor c.in-Mul.y) =
     ap (λ w. o.times w (o.times (factor i) (factor j))) c.one.ensures ∙ one_times o g.F.Field.laws.ring (o.times (factor i) (factor j))
     ∙ ap (λ k. o.times (factor k) (factor j)) c.number.ensures ∙ ap (λ k. o.times (factor c.in-Mul.x) (factor k)) c.number-in-Mul.ensures in
-    IfOk-weaker c.single-in-Mul.result (λ row. row_value o below row.items ≡ o.times c.one.result (o.times (factor i) (factor j))) (λ row. row_value o below row.items ≡ value c.args.gate.now)
-    (λ row e. e ∙ product ∙ sym (ap value c.in-Mul.is)) (c.single-in-Mul.ensures.value below)
+    IfOk-weaker c.fill_single-in-Mul.result (λ _. row_value o below c.fill_single-in-Mul.new.row.items ≡ o.times c.one.result (o.times (factor i) (factor j))) (λ _. row_value o below c.fill_single-in-Mul.new.row.items ≡ value c.args.gate.now)
+    (λ _ e. e ∙ product ∙ sym (ap value c.in-Mul.is)) (c.fill_single-in-Mul.ensures.value below)

@@ -13,7 +13,7 @@ use Rattle.lzk_level.proofs.making.+make.Goals as goal
 
 pub make-returns-in-Some-clause-nodes : goal.make-returns-in-Some-clause-nodes
 make-returns-in-Some-clause-nodes g t c =
-    let s = scope g.F.Field.ops g.F.Field.element c.args.lets.now in
+    let s = scope g.F.Field.ops g.F.Field.coding.element c.args.lets.now in
     let n = c.args.builder.now in
     let e = expr_of c.args.expr.now in
     IfOk-weaker c.constant-in-Some.result (λ _. c.constant-in-Some.new.self ≡ with_gate n (gate.Constant c.in-Some.c)) (λ _. c.constant-in-Some.new.self ≡ (made s n e).nodes)
@@ -21,29 +21,29 @@ make-returns-in-Some-clause-nodes g t c =
 
 pub make_factor-join-requires-clause-room : goal.make_factor-join-requires-clause-room
 make_factor-join-requires-clause-room g t c κs within =
-    let s = scope g.F.Field.ops g.F.Field.element c.args.lets.now in
+    let s = scope g.F.Field.ops g.F.Field.coding.element c.args.lets.now in
     let q = made-count s c.args.builder.now c.make_free.new.builder (expr_of c.args.expr.now) c.in_ok-node-in-None.ensures.nodes in
     omega (arith, q, c.requires.room)
 
 pub make_factor-join-requires-clause-before : goal.make_factor-join-requires-clause-before
 make_factor-join-requires-clause-before g t c κs within =
-    let s = scope g.F.Field.ops g.F.Field.element c.args.lets.now in
+    let s = scope g.F.Field.ops g.F.Field.coding.element c.args.lets.now in
     let q = made-count s c.args.builder.now c.make_free.new.builder (expr_of c.args.expr.now) c.in_ok-node-in-None.ensures.nodes in
     or-none-more (node_count c.args.builder.now) (node_count c.make_free.new.builder) c.args.before q.0 c.requires.before
 
 pub make_factor-join-requires-clause-node : goal.make_factor-join-requires-clause-node
 make_factor-join-requires-clause-node g t c κs within =
-    let s = scope g.F.Field.ops g.F.Field.element c.args.lets.now in
+    let s = scope g.F.Field.ops g.F.Field.coding.element c.args.lets.now in
     made-node s c.args.builder.now c.make_free.new.builder c.in_ok-node-in-None.node (expr_of c.args.expr.now) c.in_ok-node-in-None.ensures.nodes c.in_ok-node-in-None.ensures.node c.requires.inputs c.requires.lets
 
 pub make_free-let_node-requires-clause-operand : goal.make_free-let_node-requires-clause-operand
 make_free-let_node-requires-clause-operand g t c κs within =
-    let s = scope g.F.Field.ops g.F.Field.element c.args.lets.now in
+    let s = scope g.F.Field.ops g.F.Field.coding.element c.args.lets.now in
     let-operand s (node_count c.args.builder.now) c.in-Named.i c.let_at.result c.let_at.ensures c.requires.lets
 
 pub make_free-multiply-requires-clause-room : goal.make_free-multiply-requires-clause-room
 make_free-multiply-requires-clause-room g t c κs within =
-    let s = scope g.F.Field.ops g.F.Field.element c.args.lets.now in
+    let s = scope g.F.Field.ops g.F.Field.coding.element c.args.lets.now in
     let n = c.args.builder.now in
     let e : expr_of c.args.expr.now ≡ tree.Neg (expr_of c.deref.result.now) = search (rules, the_lemmas) in
     let room = subst (λ x. node_count n + size_of x ≤ 2147483648) e c.requires.room in
@@ -52,15 +52,15 @@ make_free-multiply-requires-clause-room g t c κs within =
 
 pub make_free-multiply-requires-clause-node : goal.make_free-multiply-requires-clause-node
 make_free-multiply-requires-clause-node g t c κs within =
-    let s = scope g.F.Field.ops g.F.Field.element c.args.lets.now in
+    let s = scope g.F.Field.ops g.F.Field.coding.element c.args.lets.now in
     let n = c.args.builder.now in
     let e : expr_of c.args.expr.now ≡ tree.Neg (expr_of c.deref.result.now) = search (rules, the_lemmas) in
     let inputs = subst (λ x. IsWithin n.publics n.privates x) e c.requires.inputs in
     made-node s n c.make.new.builder c.in_ok-node-in-Neg.node (expr_of c.deref.result.now) c.in_ok-node-in-Neg.ensures.nodes c.in_ok-node-in-Neg.ensures.node inputs c.requires.lets
 
-pub make_free-combine-requires-clause-room : goal.make_free-combine-requires-clause-room
-make_free-combine-requires-clause-room g t c κs within =
-    let s = scope g.F.Field.ops g.F.Field.element c.args.lets.now in
+pub make_free-combine_list-requires-clause-room : goal.make_free-combine_list-requires-clause-room
+make_free-combine_list-requires-clause-room g t c κs within =
+    let s = scope g.F.Field.ops g.F.Field.coding.element c.args.lets.now in
     let n = c.args.builder.now in
     let ps = part_list c.deref-in-Sum.result.now in
     let e : expr_of c.args.expr.now ≡ tree.Added ps = search (rules, the_lemmas) in
@@ -68,29 +68,29 @@ make_free-combine-requires-clause-room g t c κs within =
     let q = parts-count s n c.make_parts.new.builder ps c.in_ok-list-in-Sum.ensures.nodes in
     omega (arith, q, room)
 
-pub make_free-combine-requires-clause-some : goal.make_free-combine-requires-clause-some
-make_free-combine-requires-clause-some g t c κs within =
-    let s = scope g.F.Field.ops g.F.Field.element c.args.lets.now in
+pub make_free-combine_list-requires-clause-some : goal.make_free-combine_list-requires-clause-some
+make_free-combine_list-requires-clause-some g t c κs within =
+    let s = scope g.F.Field.ops g.F.Field.coding.element c.args.lets.now in
     let n = c.args.builder.now in
     let ps = part_list c.deref-in-Sum.result.now in
     let e : expr_of c.args.expr.now ≡ tree.Added ps = search (rules, the_lemmas) in
     let free = sym (ap (is_constant s) e) ∙ c.requires.free in
-    let is = c.deref-in-Sum-2.ensures.value ∙ c.in_ok-list-in-Sum.ensures.parts in
+    let is = c.in_ok-list-in-Sum.ensures.parts in
     subst (λ l. 1 ≤ length l) (sym is) (parts-some s n ps free)
 
-pub make_free-combine-requires-clause-nodes : goal.make_free-combine-requires-clause-nodes
-make_free-combine-requires-clause-nodes g t c κs within =
-    let s = scope g.F.Field.ops g.F.Field.element c.args.lets.now in
+pub make_free-combine_list-requires-clause-nodes : goal.make_free-combine_list-requires-clause-nodes
+make_free-combine_list-requires-clause-nodes g t c κs within =
+    let s = scope g.F.Field.ops g.F.Field.coding.element c.args.lets.now in
     let n = c.args.builder.now in
     let ps = part_list c.deref-in-Sum.result.now in
     let e : expr_of c.args.expr.now ≡ tree.Added ps = search (rules, the_lemmas) in
     let inputs = subst (λ x. IsWithin n.publics n.privates x) e c.requires.inputs in
-    let is = c.deref-in-Sum-2.ensures.value ∙ c.in_ok-list-in-Sum.ensures.parts in
-    parts-nodes s n c.make_parts.new.builder ps c.deref-in-Sum-2.result.now c.in_ok-list-in-Sum.ensures.nodes is inputs c.requires.lets
+    let is = c.in_ok-list-in-Sum.ensures.parts in
+    parts-nodes s n c.make_parts.new.builder ps c.in_ok-list-in-Sum.list.items c.in_ok-list-in-Sum.ensures.nodes is inputs c.requires.lets
 
 pub make_free-scale-requires-clause-room : goal.make_free-scale-requires-clause-room
 make_free-scale-requires-clause-room g t c κs within =
-    let s = scope g.F.Field.ops g.F.Field.element c.args.lets.now in
+    let s = scope g.F.Field.ops g.F.Field.coding.element c.args.lets.now in
     let n = c.args.builder.now in
     let es = expr_list c.deref-in-Product.result.now in
     let e : expr_of c.args.expr.now ≡ tree.Multiplied es = search (rules, the_lemmas) in
@@ -100,7 +100,7 @@ make_free-scale-requires-clause-room g t c κs within =
 
 pub make_free-scale-requires-clause-node : goal.make_free-scale-requires-clause-node
 make_free-scale-requires-clause-node g t c κs within =
-    let s = scope g.F.Field.ops g.F.Field.element c.args.lets.now in
+    let s = scope g.F.Field.ops g.F.Field.coding.element c.args.lets.now in
     let n = c.args.builder.now in
     let es = expr_list c.deref-in-Product.result.now in
     let e : expr_of c.args.expr.now ≡ tree.Multiplied es = search (rules, the_lemmas) in
@@ -109,7 +109,7 @@ make_free-scale-requires-clause-node g t c κs within =
 
 pub make_free-unreachable-requires : goal.make_free-unreachable-requires
 make_free-unreachable-requires g t c =
-    let s = scope g.F.Field.ops g.F.Field.element c.args.lets.now in
+    let s = scope g.F.Field.ops g.F.Field.coding.element c.args.lets.now in
     let n = c.args.builder.now in
     let es = expr_list c.deref-in-Product.result.now in
     let e : expr_of c.args.expr.now ≡ tree.Multiplied es = search (rules, the_lemmas) in
@@ -118,7 +118,7 @@ make_free-unreachable-requires g t c =
 
 pub make_factors-loop-i-preserved : goal.make_factors-loop-i-preserved
 make_factors-loop-i-preserved g t c =
-    let s = scope g.F.Field.ops g.F.Field.element c.args.lets.now in
+    let s = scope g.F.Field.ops g.F.Field.coding.element c.args.lets.now in
     let n = c.loop-i.builder in
     let x = c.make_factor.new.builder in
     let e = expr_of c.index-factors-i.result in
@@ -137,7 +137,7 @@ make_factors-loop-i-preserved g t c =
 
 pub make_parts-loop-i-preserved : goal.make_parts-loop-i-preserved
 make_parts-loop-i-preserved g t c =
-    let s = scope g.F.Field.ops g.F.Field.element c.args.lets.now in
+    let s = scope g.F.Field.ops g.F.Field.coding.element c.args.lets.now in
     let n = c.loop-i.builder in
     let x = c.make.new.builder in
     let e = expr_of c.index-parts-i.result.expr in

@@ -1,13 +1,19 @@
-use Rattle.std.proofs.Common.{◌≡◌, ◌∙◌, sym, subst, ◌+◌, suc, arith, [], ◌∷◌}
-use Rattle.std.proofs.lemmas.List.{get_or_default}
+use Rattle.std.proofs.Common.{◌≡◌, ◌∙◌, ap, sym, subst, ◌+◌, suc, length, arith, [], ◌∷◌, ◌++◌}
+use Rattle.std.proofs.lemmas.List.{length-append}
 use Rattle.lzk_reduce.specs.Reduced.{terms_of}
+use Rattle.lzk_level.specs.Levels.{place_in}
+use Rattle.lzk_level.proofs.LevelLaws.{places-more}
 use Rattle.lzk_level.proofs.InnerLaws.{Inner, inner-starts, inner-skips, inner-adds}
 use Rattle.lzk_level.proofs.OneLaws.{has-one}
 use Rattle.lzk_level.proofs.stack.inner_layer.Goals.{then-has_wire+in_ok-append, else-has_wire}
 use Rattle.lzk_level.proofs.stack.inner_layer.Goals as goal
 
 pub loop-k-init : goal.loop-k-init
-loop-k-init g c = subst (Inner g.F.Field.ops c.args.depths.now c.args.last.now c.args.level c.args.rows.now 0 0) (sym c.new-terms.ensures.items) (inner-starts g.F.Field.ops c.args.depths.now c.args.last.now c.args.level c.args.rows.now)
+loop-k-init g c = record {
+  count = ap length c.clear.ensures.items;
+  places = λ j l. absurd (omega (arith, l));
+  inner = subst (Inner g.F.Field.ops c.args.depths.now c.args.last.now c.args.level c.args.rows.now 0 0) (sym c.new-terms.ensures.items) (inner-starts g.F.Field.ops c.args.depths.now c.args.last.now c.args.level c.args.rows.now);
+}
 
 pub loop-k-preserved : goal.loop-k-preserved
 loop-k-preserved g c =
@@ -18,23 +24,34 @@ loop-k-preserved g c =
     let k = c.loop-k.k in
     let next : suc k ≡ k + 1 = omega arith in
     let old = c.loop-k.terms.items in
-    elim c.if-has_wire.branch [
+    let places = c.loop-k.places.items in
+    let i = c.loop-k.invariant in
+    let pushed : c.push.new.self.items ≡ places ++ c.loop-k.wires ∷ [] = c.in_ok-push.ensures.items in
+    let inner : Inner o depths last c.args.level rows (k + 1) c.if-has_wire.wires c.if-has_wire.terms.items = elim c.if-has_wire.branch [
       | then-has_wire+in_ok-append w ↦
-          let row = w.as_slice.result.now in
+          let row = w.row.result.now in
           let new = w.append.new.terms.items in
           let e = w.in_ok-append.ensures in
           subst (λ n. Inner o depths last c.args.level rows n c.if-has_wire.wires c.if-has_wire.terms.items) next
           (subst (λ n. Inner o depths last c.args.level rows (suc k) n c.if-has_wire.terms.items) (sym w.wires-is)
           (subst (λ v. Inner o depths last c.args.level rows (suc k) (c.loop-k.wires + 1) v.items) (sym w.terms-is)
-          (inner-adds o depths last c.args.level rows k c.loop-k.wires old new row (sym c.has_wire.ensures ∙ w.if-has_wire.true) (omega (arith, c.requires.rows, c.loop-k-test.true)) (w.as_slice.ensures ∙ w.index-rows-k.is ∙ get_or_default rows k w.index-rows-k.result [] (omega (arith, c.requires.rows, c.loop-k-test.true))) e.terms e.before e.added e.count e.exact c.loop-k.invariant)))
+          (inner-adds o depths last c.args.level rows k c.loop-k.wires old new row (sym c.has_wire.ensures ∙ w.if-has_wire.true) (omega (arith, c.requires.rows, c.loop-k-test.true)) w.row.ensures e.terms e.before e.added e.count e.exact i.inner)))
       | else-has_wire w ↦
           subst (λ n. Inner o depths last c.args.level rows n c.if-has_wire.wires c.if-has_wire.terms.items) next
           (subst (λ n. Inner o depths last c.args.level rows (suc k) n c.if-has_wire.terms.items) (sym w.wires-is)
           (subst (λ v. Inner o depths last c.args.level rows (suc k) c.loop-k.wires v.items) (sym w.terms-is)
-          (inner-skips o depths last c.args.level rows k c.loop-k.wires old (sym c.has_wire.ensures ∙ w.if-has_wire.false) c.loop-k.invariant)))
-    ]
+          (inner-skips o depths last c.args.level rows k c.loop-k.wires old (sym c.has_wire.ensures ∙ w.if-has_wire.false) i.inner)))
+    ] in
+    record {
+      count = ap length pushed ∙ length-append places (c.loop-k.wires ∷ []) ∙ ap (λ n. n + 1) i.count;
+      places = places-more (place_in depths last c.args.level) places c.push.new.self.items c.loop-k.wires k pushed i.count i.inner.next i.places;
+      inner = inner;
+    }
+
+pub returns-clause-places : goal.returns-clause-places
+returns-clause-places g c = (omega (arith, c.loop-k.invariant.count, c.loop-k-test.false, c.loop-k.auto.k-end), λ j l. c.loop-k.invariant.places j (omega (arith, l, c.loop-k-test.false)))
 
 pub returns-clause-one : goal.returns-clause-one
 returns-clause-one g c zero_depth high first =
     subst (λ ts. terms_of 0 ts ≡ (0, 0, g.F.Field.ops.one) ∷ []) (sym c.new.ensures)
-    (has-one g.F.Field.ops c.args.depths.now c.args.last.now c.args.level c.args.rows.now c.loop-k.k c.loop-k.terms.items zero_depth high (omega (arith, c.requires.rows, c.loop-k-test.false)) c.loop-k.invariant.one first)
+    (has-one g.F.Field.ops c.args.depths.now c.args.last.now c.args.level c.args.rows.now c.loop-k.k c.loop-k.terms.items zero_depth high (omega (arith, c.requires.rows, c.loop-k-test.false)) c.loop-k.invariant.inner.one first)

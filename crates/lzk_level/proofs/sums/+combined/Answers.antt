@@ -5,7 +5,7 @@ use Rattle.lzk_level.specs.Bounds.{at_parts, total}
 use Rattle.lzk_reduce.specs.Rows.{row_value}
 use Rattle.lzk_level.specs.Levels.{row_at}
 use Rattle.lzk_level.proofs.CombineLaws.{parts-append, halves, value-of-one, value-of-halves, short-of-halves}
-use Rattle.lzk_level.proofs.levels.+combined.Goals as goal
+use Rattle.lzk_level.proofs.sums.+combined.Goals as goal
 
 pub combined-requires-clause-nodes : goal.combined-requires-clause-nodes
 combined-requires-clause-nodes g t c κs within =

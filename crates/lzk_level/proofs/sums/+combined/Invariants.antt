@@ -1,5 +1,5 @@
 use Rattle.std.proofs.Common.{length}
-use Rattle.lzk_level.proofs.levels.+combined.Given as goal
+use Rattle.lzk_level.proofs.sums.+combined.Given as goal
 
 -- proposed from what the function passes where it calls itself
 abbrev pub decreases-combined : goal.decreases-combined
