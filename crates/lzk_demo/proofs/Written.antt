@@ -1,5 +1,5 @@
--- The demo's text is short, and it is the printed text of its source.
-use Rattle.std.proofs.Common.{◌≡◌, ℕ, zero, suc, ◌+◌, ◌-◌, ◌*◌, ◌/◌, ◌≤◌, ◌<◌, List, [], ◌∷◌, ◌++◌, length, get_or, drop, refl, sym, ◌∙◌, ap, ap₂, append_assoc, arith}
+-- The demo's text is short, and it is the printed text of its source; the statements that are made so far.
+use Rattle.std.proofs.Common.{◌≡◌, ℕ, zero, suc, ◌+◌, ◌-◌, ◌*◌, ◌/◌, ◌≤◌, ◌<◌, List, [], ◌∷◌, ◌++◌, length, get_or, drop, refl, sym, subst, ◌∙◌, ap, ap₂, append_assoc, arith}
 use Rattle.std.specs.Prelude.{codes, decimal, slice_index_or}
 use Rattle.std.specs.List.{flat_map}
 use native.Mathlib.Decide.{dec_lt}
@@ -9,12 +9,15 @@ use Rattle.std.proofs.lemmas.Fmt.{decimal_digit}
 use Rattle.std.proofs.Math.Seq.{drop-cons}
 use Rattle.lzk_expr.specs.declared.printing.Place.{Place}
 use Rattle.lzk_expr.specs.declared.printing.Place.TheVariants as place
-use Rattle.lzk_expr.specs.Trees.{PublicInput, Statement, Define, Assertion}
+use Rattle.lzk_expr.specs.Built.{IsBuilt}
+use Rattle.lzk_expr.specs.Sources.{IsWellFormed}
+use Rattle.lzk_expr.specs.Trees.{PublicInput, Statement, DeclarePublic, DeclarePrivate, Define, Assertion}
 use Rattle.lzk_expr.specs.Printing.{Names, names_of, private_names, let_names, expr_text, statement_line, source_text}
 use Rattle.lzk_demo.specs.declared.entry.Entry.{Entry}
 use Rattle.lzk_demo.specs.declared.entry.Entry.TheVariants.{Input, Made}
 use Rattle.lzk_demo.specs.Demo.{input_name, let_name, expr_of, exclusive_or, round_lets, paired, rounds, inputs_from, privates_from, demo_statements, demo_tree}
 use Rattle.lzk_demo.specs.Texts.{entry_text, IsBelow, AreBelow, private_line, privates_text, let_line, round_text, assert_line, rounds_text, head_text, demo_text}
+use Rattle.lzk_expr.proofs.Reread.{built_reads}
 use Rattle.lzk_demo.proofs.Rounds.{length-paired}
 use Rattle.lzk_demo.proofs.Names.{input_short, let_short}
 
@@ -222,7 +225,7 @@ demo_printed n some =
     ∙ ap₂ (λ (x y : List ℕ). x ++ y) (privates_printed names n (n - 1) finds 0 n) (rounds_printed names n (n - 1) finds n 0 es (omega (arith, long)) (omega (arith, long)) (inputs_below n 0 n (omega arith))) in
     ap (λ (l : List ℕ). head_text ++ l) behind
 
--- ---- what is written so far
+-- ---- what is made so far
 
 two_more : (es : List Entry) (i : ℕ) (d : Entry) → 2 * i + 1 < length es → drop (2 * i) es ≡ get_or es (2 * i) d ∷ get_or es (2 * i + 1) d ∷ drop (2 * (i + 1)) es
 two_more es i d lt =
@@ -237,17 +240,13 @@ pair_listed es whole first i d list more lt h m =
     ap (λ k. more ++ paired k (drop (2 * (i + 1)) es)) next ∙ ap (λ (l : List Entry). l ++ paired (first + i + 1) (drop (2 * (i + 1)) es)) m ∙ append_assoc list (Made (first + i) ∷ []) _
     ∙ ap (λ (l : List Entry). list ++ paired (first + i) l) (sym (two_more es i d (omega arith))) ∙ h
 
-pub pair_written : (es : List Entry) (whole : List ℕ) (first i : ℕ) (d : Entry) (text more : List ℕ) → i < length es / 2 → text ++ round_text (first + i) (drop (2 * i) es) ≡ whole
-    → more ≡ text ++ let_line (first + i) (get_or es (2 * i) d) (get_or es (2 * i + 1) d) → more ++ round_text (first + (i + 1)) (drop (2 * (i + 1)) es) ≡ whole
-pair_written es whole first i d text more lt h m =
+pub pair_made : (es : List Entry) (whole : List Statement) (first i : ℕ) (d : Entry) (ss more : List Statement) → i < length es / 2 → ss ++ round_lets (first + i) (drop (2 * i) es) ≡ whole
+    → more ≡ ss ++ Define (let_name (first + i)) (exclusive_or (expr_of (get_or es (2 * i) d)) (expr_of (get_or es (2 * i + 1) d))) ∷ [] → more ++ round_lets (first + (i + 1)) (drop (2 * (i + 1)) es) ≡ whole
+pair_made es whole first i d ss more lt h m =
     let next : first + (i + 1) ≡ first + i + 1 = omega arith in
-    ap (λ k. more ++ round_text k (drop (2 * (i + 1)) es)) next ∙ ap (λ (l : List ℕ). l ++ round_text (first + i + 1) (drop (2 * (i + 1)) es)) m
-    ∙ append_assoc text (let_line (first + i) (get_or es (2 * i) d) (get_or es (2 * i + 1) d)) _ ∙ ap (λ (l : List Entry). text ++ round_text (first + i) l) (sym (two_more es i d (omega arith))) ∙ h
-
-pub below_at : (p k i : ℕ) (es : List Entry) (d : Entry) → AreBelow p k es → i < length es → IsBelow p k (get_or es i d)
-below_at p k i [] d h lt = absurd (omega arith)
-below_at p k zero (e ∷ es) d h lt = h.0
-below_at p k (suc i) (e ∷ es) d h lt = below_at p k i es d h.1 (omega arith)
+    let line = Define (let_name (first + i)) (exclusive_or (expr_of (get_or es (2 * i) d)) (expr_of (get_or es (2 * i + 1) d))) in
+    ap (λ k. more ++ round_lets k (drop (2 * (i + 1)) es)) next ∙ ap (λ (l : List Statement). l ++ round_lets (first + i + 1) (drop (2 * (i + 1)) es)) m
+    ∙ append_assoc ss (line ∷ []) _ ∙ ap (λ (l : List Entry). ss ++ round_lets (first + i) l) (sym (two_more es i d (omega arith))) ∙ h
 
 -- a round leaves fewer entries, and at least one
 pub fewer : (k : ℕ) (es ds : List Entry) → ds ≡ paired k es → 1 < length es → length ds < length es
@@ -259,40 +258,53 @@ some_left k es ds e lt = omega (arith, ap length e, length-paired k es)
 pub same_sum : (k : ℕ) (es ds : List Entry) → ds ≡ paired k es → k + length es / 2 + length ds ≡ k + length es
 same_sum k es ds e = omega (arith, ap length e, length-paired k es)
 
-pub round_written : (k n : ℕ) (es ds : List Entry) (text more whole : List ℕ) → 1 < length es → length es ≤ n + 1 → ds ≡ paired k es → more ≡ text ++ round_text k es → text ++ rounds_text n k es ≡ whole
-    → (m : ℕ) × (length ds ≤ m + 1) × (more ++ rounds_text m (k + length es / 2) ds ≡ whole)
-round_written k zero es ds text more whole lt few e f h = absurd (omega arith)
-round_written k (suc n) es ds text more whole lt few e f h = (
+pub round_made : (k n : ℕ) (es ds : List Entry) (ss more whole : List Statement) → 1 < length es → length es ≤ n + 1 → ds ≡ paired k es → more ≡ ss ++ round_lets k es → ss ++ rounds n k es ≡ whole
+    → (m : ℕ) × (length ds ≤ m + 1) × (more ++ rounds m (k + length es / 2) ds ≡ whole)
+round_made k zero es ds ss more whole lt few e f h = absurd (omega arith)
+round_made k (suc n) es ds ss more whole lt few e f h = (
   n,
   omega (arith, ap length e, length-paired k es),
-  ap (λ (l : List Entry). more ++ rounds_text n (k + length es / 2) l) e ∙ ap (λ (l : List ℕ). l ++ rounds_text n (k + length es / 2) (paired k es)) f ∙ append_assoc text (round_text k es) _ ∙ h,
+  ap (λ (l : List Entry). more ++ rounds n (k + length es / 2) l) e ∙ ap (λ (l : List Statement). l ++ rounds n (k + length es / 2) (paired k es)) f ∙ append_assoc ss (round_lets k es) _ ∙ h,
 )
 
-one_text : (n k : ℕ) (e : Entry) → rounds_text n k (e ∷ []) ≡ assert_line e
-one_text zero k e = refl
-one_text (suc n) k e = one_text n (k + 1 / 2) e
+one_entry : (n k : ℕ) (e : Entry) → rounds n k (e ∷ []) ≡ Assertion (expr_of e) (PublicInput 0) ∷ []
+one_entry zero k e = refl
+one_entry (suc n) k e = one_entry n (k + 1 / 2) e
 
-pub assert_written : (n k : ℕ) (es : List Entry) (e : Entry) (text more whole : List ℕ) → 1 ≤ length es → length es ≤ 1 → e ≡ get_or es 0 e → text ++ rounds_text n k es ≡ whole → more ≡ text ++ assert_line e → more ≡ whole
-assert_written n k [] e text more whole some few same h m = absurd (omega arith)
-assert_written n k (d ∷ c ∷ es) e text more whole some few same h m = absurd (omega arith)
-assert_written n k (d ∷ []) e text more whole some few same h m = m ∙ ap (λ (c : Entry). text ++ assert_line c) same ∙ ap (λ (l : List ℕ). text ++ l) (sym (one_text n k d)) ∙ h
+pub assert_made : (n k : ℕ) (es : List Entry) (e : Entry) (ss more whole : List Statement) → 1 ≤ length es → length es ≤ 1 → e ≡ get_or es 0 e → ss ++ rounds n k es ≡ whole
+    → more ≡ ss ++ Assertion (expr_of e) (PublicInput 0) ∷ [] → more ≡ whole
+assert_made n k [] e ss more whole some few same h m = absurd (omega arith)
+assert_made n k (d ∷ c ∷ es) e ss more whole some few same h m = absurd (omega arith)
+assert_made n k (d ∷ []) e ss more whole some few same h m =
+    m ∙ ap (λ (c : Entry). ss ++ Assertion (expr_of c) (PublicInput 0) ∷ []) same ∙ ap (λ (l : List Statement). ss ++ l) (sym (one_entry n k d)) ∙ h
 
 pub private_listed : (n i : ℕ) (list more whole : List Entry) → i < n → list ++ inputs_from i (n - i) ≡ whole → more ≡ list ++ Input i ∷ [] → more ++ inputs_from (i + 1) (n - (i + 1)) ≡ whole
 private_listed n i list more whole lt h m =
     let e : n - i ≡ suc (n - (i + 1)) = omega arith in
     ap (λ (l : List Entry). l ++ inputs_from (i + 1) (n - (i + 1))) m ∙ append_assoc list (Input i ∷ []) _ ∙ ap (λ k. list ++ inputs_from i k) (sym e) ∙ h
 
-pub private_written : (n i : ℕ) (text more whole : List ℕ) → i < n → text ++ privates_text i (n - i) ≡ whole → more ≡ text ++ private_line i → more ++ privates_text (i + 1) (n - (i + 1)) ≡ whole
-private_written n i text more whole lt h m =
+pub private_made : (n i : ℕ) (ss more whole : List Statement) → i < n → ss ++ privates_from i (n - i) ≡ whole → more ≡ ss ++ DeclarePrivate (input_name i) ∷ [] → more ++ privates_from (i + 1) (n - (i + 1)) ≡ whole
+private_made n i ss more whole lt h m =
     let e : n - i ≡ suc (n - (i + 1)) = omega arith in
-    ap (λ (l : List ℕ). l ++ privates_text (i + 1) (n - (i + 1))) m ∙ append_assoc text (private_line i) _ ∙ ap (λ k. text ++ privates_text i k) (sym e) ∙ h
+    ap (λ (l : List Statement). l ++ privates_from (i + 1) (n - (i + 1))) m ∙ append_assoc ss (DeclarePrivate (input_name i) ∷ []) _ ∙ ap (λ k. ss ++ privates_from i k) (sym e) ∙ h
 
 pub inputs_few : (n : ℕ) (es : List Entry) → es ≡ inputs_from 0 n → n ≤ 16384 → length es ≤ 16384
 inputs_few n es e few = omega (arith, ap length e, length-inputs 0 n)
 
-pub demo_written : (n : ℕ) (es : List Entry) (t0 t1 t2 t3 : List ℕ) → t0 ≡ [] → t1 ≡ t0 ++ head_text → t2 ≡ t1 ++ privates_text 0 n → es ≡ inputs_from 0 n → t3 ≡ t2 ++ rounds_text (length es) 0 es → t3 ≡ demo_text n
-demo_written n es t0 t1 t2 t3 none head privates e rest =
+pub demo_made : (n : ℕ) (es : List Entry) (s0 s1 s2 s3 : List Statement) → s1 ≡ s0 ++ DeclarePublic (121 ∷ []) ∷ [] → s2 ≡ s1 ++ privates_from 0 n → es ≡ inputs_from 0 n → s3 ≡ s2 ++ rounds (length es) 0 es
+    → s3 ≡ s0 ++ demo_statements n
+demo_made n es s0 s1 s2 s3 public privates e rest =
     let long : length es ≡ n = ap length e ∙ length-inputs 0 n in
-    let start : t2 ≡ head_text ++ privates_text 0 n = privates ∙ ap (λ (l : List ℕ). l ++ privates_text 0 n) (head ∙ ap (λ (l : List ℕ). l ++ head_text) none) in
-    rest ∙ ap (λ (l : List ℕ). l ++ rounds_text (length es) 0 es) start ∙ ap (λ (ds : List Entry). (head_text ++ privates_text 0 n) ++ rounds_text (length es) 0 ds) e
-    ∙ ap (λ m. (head_text ++ privates_text 0 n) ++ rounds_text m 0 (inputs_from 0 n)) long ∙ append_assoc head_text (privates_text 0 n) _
+    let start : s2 ≡ s0 ++ DeclarePublic (121 ∷ []) ∷ privates_from 0 n = privates ∙ ap (λ (l : List Statement). l ++ privates_from 0 n) public ∙ append_assoc s0 (DeclarePublic (121 ∷ []) ∷ []) _ in
+    rest ∙ ap (λ (l : List Statement). l ++ rounds (length es) 0 es) start
+    ∙ ap (λ (ds : List Entry). (s0 ++ DeclarePublic (121 ∷ []) ∷ privates_from 0 n) ++ rounds (length es) 0 ds) e
+    ∙ ap (λ m. (s0 ++ DeclarePublic (121 ∷ []) ∷ privates_from 0 n) ++ rounds m 0 (inputs_from 0 n)) long
+    ∙ append_assoc s0 (DeclarePublic (121 ∷ []) ∷ privates_from 0 n) _
+
+-- the demo's source is that of a text
+pub demo_formed : (n : ℕ) → 1 ≤ n → n ≤ 16384 → IsBuilt (demo_tree n) → IsWellFormed (demo_tree n)
+demo_formed n some few built = record {
+  text = source_text (demo_tree n);
+  short = subst (λ (t : List ℕ). length t ≤ 4194304) (sym (demo_printed n some)) (demo_short n some few);
+  reads = built_reads (demo_tree n) built;
+}

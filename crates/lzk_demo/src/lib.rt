@@ -13,12 +13,12 @@
 //! and has a circuit that the inputs satisfy.
 #![tactic(auto)]
 
+mod building;
 mod circuit;
 mod entry;
 mod inputs;
 mod laws;
 mod source;
-mod text;
 
 pub use circuit::demo_circuit;
 pub use inputs::{DemoInputs, demo_inputs};

@@ -5,8 +5,8 @@ ghost use Rattle.lzk_expr.specs.View.{tree_of};
 ghost use Rattle.lzk_level.specs.Compiled.{source_layers, source_limit};
 ghost use Rattle.lzk_demo.specs.Demo.{demo_tree, IsDemoDepth};
 
-use crate::text::write_demo;
-use lzk_expr::{Source, SourceError, parse};
+use crate::building::push_all;
+use lzk_expr::{FieldId, Source};
 use std::alloc::{AllocError, Global};
 
 /// The source over Goldilocks with `n` private inputs. `Err` where there is no memory for it.
@@ -19,10 +19,7 @@ pub fn demo_source(alloc: Global, n: u32) -> Result<Source, AllocError>
     ensures within { IfOk result (λ source. source_limit (tree_of source) ≡ None) }
     ensures depth { IfOk result (λ source. IsDemoDepth n (source_layers (tree_of source))) }
 {
-    let text = write_demo(alloc, n)?;
-    match parse(alloc, &text) {
-        Ok(source) => Ok(source),
-        Err(SourceError::OutOfMemory) => Err(AllocError),
-        Err(SourceError::Fault(_)) => unreachable!(),
-    }
+    let mut statements = Vec::new(alloc);
+    push_all(alloc, n, &mut statements)?;
+    Ok(Source::new(FieldId::Goldilocks, statements, 1, n, 1))
 }

@@ -31,8 +31,8 @@ impl Model for Name {
 impl Name {
     ghost use Rattle.std.specs.Prelude.{◌≡◌, ◌≤◌, length};
 
-    // The name with these bytes.
-    pub(crate) fn new(bytes: &[u8]) -> Name
+    /// The name with these bytes. Which names a source may have is asked where it is made.
+    pub fn new(bytes: &[u8]) -> Name
         requires some { 1 ≤ length bytes.now }
         requires few { length bytes.now ≤ 32 }
         ensures { result ≡ bytes.now }

@@ -13,9 +13,9 @@ use std::alloc::Global;
 
 // The element that a word stands for, behind so many others.
 fn element<F: Field>(line: u32, word: &[u8], count: u32, have: usize) -> Result<F, NumberFault>
-    ensures { (before : List ℕ) → length before ≡ have → MatchResult result (λ x. word_as F.size count line before (number_of word.now) ≡
-        Ok (before ++ F.number_of x ∷ []))
-        (λ e. word_as F.size count line before (number_of word.now) ≡ Err e) }
+    ensures { (before : List ℕ) → length before ≡ have → MatchResult result (λ x. word_as F.coding.size count line before (number_of word.now) ≡
+        Ok (before ++ F.coding.number x ∷ []))
+        (λ e. word_as F.coding.size count line before (number_of word.now) ≡ Err e) }
 {
     let fault = NumberFault {
         line,
@@ -60,9 +60,9 @@ fn take_words<F: Field>(
     count: u32,
     found: &mut Vec<F>,
 ) -> Result<(), NumberError>
-    ensures { MatchResult result (λ _. words_to F.size count line (runs is_plain bytes.now) (map F.number_of found.old.items) ≡
-        Ok (map F.number_of found.new.items))
-        (λ e. Fails e (words_to F.size count line (runs is_plain bytes.now) (map F.number_of found.old.items))) }
+    ensures { MatchResult result (λ _. words_to F.coding.size count line (runs is_plain bytes.now) (map F.coding.number found.old.items) ≡
+        Ok (map F.coding.number found.new.items))
+        (λ e. Fails e (words_to F.coding.size count line (runs is_plain bytes.now) (map F.coding.number found.old.items))) }
 {
     let mut rest = bytes;
     while let Some((word, after)) = next_word(rest) {
@@ -78,7 +78,8 @@ fn take_words<F: Field>(
 // The numbers of the text, or its fault.
 fn numbers<F: Field>(alloc: Global, text: &[u8], count: u32) -> Result<Vec<F>, NumberError>
     requires { length text.now ≤ 4194304 }
-    ensures { MatchResult result (λ v. numbers_of F.size count text.now ≡ Ok (map F.number_of v.items)) (λ e. Fails e (numbers_of F.size count text.now)) }
+    ensures { MatchResult result (λ v. numbers_of F.coding.size count text.now ≡ Ok (map F.coding.number v.items))
+        (λ e. Fails e (numbers_of F.coding.size count text.now)) }
 {
     let mut found = Vec::new(alloc);
     let mut left = Some(text);
@@ -102,9 +103,10 @@ fn numbers<F: Field>(alloc: Global, text: &[u8], count: u32) -> Result<Vec<F>, N
 /// the profile in docs/FORMATS.md. The text has at most 4 MiB. Want of memory may come at any time.
 pub fn read_numbers<F: Field>(alloc: Global, text: &[u8], count: u32) -> Result<Vec<F>, NumberError>
     requires { length text.now ≤ 4194304 }
-    ensures found { IfOk result (λ v. NumberText F.size count text.now (map F.number_of v.items)) }
-    ensures only { (list : List ℕ) → NumberText F.size count text.now list → MatchResult result (λ v. map F.number_of v.items ≡ list) (λ e. e ≡ OutOfMemory) }
-    ensures fault { IfErr result (IsFirstFault F.size count text.now) }
+    ensures found { IfOk result (λ v. NumberText F.coding.size count text.now (map F.coding.number v.items)) }
+    ensures only { (list : List ℕ) → NumberText F.coding.size count text.now list →
+        MatchResult result (λ v. map F.coding.number v.items ≡ list) (λ e. e ≡ OutOfMemory) }
+    ensures fault { IfErr result (IsFirstFault F.coding.size count text.now) }
 {
     numbers(alloc, text, count)
 }

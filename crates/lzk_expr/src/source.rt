@@ -39,8 +39,9 @@ impl Model for Source {
 }
 
 impl Source {
-    // The source with these statements, which are well formed.
-    pub(crate) fn new(
+    /// The source with these statements, which are those of some text of at most 4 MiB, and with their counts of public inputs, private
+    /// inputs and asserts. For callers that prove it; [`crate::parse`] reads a text.
+    pub fn new(
         field: FieldId,
         statements: Vec<Statement>,
         publics: u32,
@@ -102,10 +103,10 @@ impl Source {
         public: &[F],
         private: &[F],
     ) -> Result<Vec<F>, AllocError>
-        requires field { F.size ≡ field_size self.now.field_is }
+        requires field { F.coding.size ≡ field_size self.now.field_is }
         requires publics { length public.now ≡ count_by is_public (statements_of self.now.statements) }
         requires privates { length private.now ≡ count_by is_private (statements_of self.now.statements) }
-        ensures { IfOk result (λ v. v.items ≡ source_value F.ops F.element public.now private.now (statements_of self.now.statements)) }
+        ensures { IfOk result (λ v. v.items ≡ source_value F.ops F.coding.element public.now private.now (statements_of self.now.statements)) }
     {
         assert_values(alloc, public, private, &self.statements)
     }

@@ -5,5 +5,5 @@ use Rattle.lzk_expr.proofs.evaluate.assert_values.Given as goal
 
 abbrev pub invariant-loop-i : goal.invariant-loop-i
 invariant-loop-i g l =
-    l.found.items ++ assert_values (given g.F.Field.ops g.F.Field.element l.public l.private l.lets.items) (statements_of (drop l.i l.statements))
-    ≡ source_value g.F.Field.ops g.F.Field.element l.public l.private (statements_of l.statements)
+    l.found.items ++ assert_values (given g.F.Field.ops g.F.Field.coding.element l.public l.private l.lets.items) (statements_of (drop l.i l.statements))
+    ≡ source_value g.F.Field.ops g.F.Field.coding.element l.public l.private (statements_of l.statements)

@@ -19,7 +19,7 @@ is_only num size count text list (Err errors.OutOfMemory) h t = refl
 is_only num size count text list (Err (errors.Fault f)) h t = let again = text_again size count text list t in absurd cc
 
 pub returns-clause-found : goal.returns-clause-found
-returns-clause-found g c = is_found g.F.Field.number_of g.F.Field.size c.args.count c.args.text.now c.numbers.result c.numbers.ensures
+returns-clause-found g c = is_found g.F.Field.coding.number g.F.Field.coding.size c.args.count c.args.text.now c.numbers.result c.numbers.ensures
 
 pub returns-clause-only : goal.returns-clause-only
-returns-clause-only g c = λ list t. is_only g.F.Field.number_of g.F.Field.size c.args.count c.args.text.now list c.numbers.result c.numbers.ensures t
+returns-clause-only g c = λ list t. is_only g.F.Field.coding.number g.F.Field.coding.size c.args.count c.args.text.now list c.numbers.result c.numbers.ensures t
