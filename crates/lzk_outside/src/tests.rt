@@ -3,6 +3,7 @@
 use crate::{
     DiskShelf, MemShelf, MemSink, PutFault, Shelf, ShelfFault, Sink, SinkFault, StdoutSink,
 };
+use std::alloc::{AllocError, Global};
 use std::fs;
 use std::test::Fail;
 
@@ -40,23 +41,37 @@ const READS: [(&str, u64, Given); 7] = [
     ("", 0, (Ok(1), *b"x\0\0\0")),
 ];
 
-#[test]
-fn memory_holds_files(rt: HostRuntime) -> Result<(), Fail> {
-    let mut shelf = MemShelf::new(rt.alloc(), Vec::new(rt.alloc()), None);
+// The first read that gives something else.
+fn wrong_read<S: Shelf>(shelf: &mut S, rows: &[(&str, u64, Given)]) -> Option<usize> {
+    for i in 0..rows.len() {
+        let (name, from, given) = rows[i];
+        if read_four(shelf, name, from) != given {
+            return Some(i);
+        }
+    }
+    None
+}
+
+fn lay_files(shelf: &mut MemShelf) -> Result<(), AllocError> {
     shelf.add("hello", b"old")?;
     shelf.add("hello", b"hello")?;
     shelf.add("empty", b"")?;
-    shelf.add("", b"x")?;
-    for (name, from, given) in READS {
-        assert_eq!(rt;
-            read_four(&mut shelf, name, from),
-            given,
-            "{name} from {from}"
-        );
-    }
-    assert_eq!(rt; put_bytes(&mut shelf, "hello", b"new"), Ok(()));
-    assert!(rt; shelf.get("hello") == Some(b"new".as_slice()));
-    assert!(rt; shelf.get("hell").is_none());
+    shelf.add("", b"x")
+}
+
+fn holds_new(shelf: &mut MemShelf) -> bool {
+    put_bytes(shelf, "hello", b"new").is_ok()
+        && shelf.get("hello") == Some(b"new".as_slice())
+        && shelf.get("hell").is_none()
+}
+
+// A shelf is made by the test and lent, and so dropped behind few calls.
+#[test]
+fn memory_holds_files(rt: HostRuntime) -> Result<(), Fail> {
+    let mut shelf = MemShelf::new(rt.alloc(), Vec::new(rt.alloc()), None);
+    lay_files(&mut shelf)?;
+    assert_eq!(rt; wrong_read(&mut shelf, &READS), None);
+    assert!(rt; holds_new(&mut shelf));
     Ok(())
 }
 
@@ -68,65 +83,90 @@ const TORN: [(Option<u64>, &[u8]); 4] = [
     (Some(9), b"wxyz"),
 ];
 
+const BEFORE: [(&str, u64, Given); 2] = [("other", 0, MISSING), ("name", 0, FAILED)];
+
+const AFTER: [(&str, u64, Given); 1] = [("other", 0, (Ok(1), *b"v\0\0\0"))];
+
+// Whether the calls 1 and 3 fail, and no other.
+fn fails_twice(shelf: &mut MemShelf, left: &[u8]) -> bool {
+    wrong_read(shelf, &BEFORE).is_none()
+        && put_bytes(shelf, "other", b"v") == Ok(())
+        && put_bytes(shelf, "name", b"wxyz") == Err(PutFault::Failed)
+        && shelf.get("name") == Some(left)
+        && wrong_read(shelf, &AFTER).is_none()
+}
+
+fn is_torn(tear: Option<u64>, left: &[u8], alloc: Global) -> Result<bool, AllocError> {
+    let mut shelf = MemShelf::new(alloc, vec![in alloc; 3, 1]?, tear);
+    shelf.add("name", b"abc")?;
+    Ok(fails_twice(&mut shelf, left))
+}
+
 #[test]
 fn memory_fails_where_it_is_told(rt: HostRuntime) -> Result<(), Fail> {
     for (tear, left) in TORN {
-        let mut shelf = MemShelf::new(rt.alloc(), vec![in rt.alloc(); 3, 1]?, tear);
-        shelf.add("name", b"abc")?;
-        assert_eq!(rt; read_four(&mut shelf, "other", 0), MISSING);
-        assert_eq!(rt; read_four(&mut shelf, "name", 0), FAILED);
-        assert_eq!(rt; put_bytes(&mut shelf, "other", b"v"), Ok(()));
-        assert_eq!(rt;
-            put_bytes(&mut shelf, "name", b"wxyz"),
-            Err(PutFault::Failed)
-        );
-        assert!(rt; shelf.get("name") == Some(left), "torn at {tear:?}");
-        assert_eq!(rt; read_four(&mut shelf, "other", 0), (Ok(1), *b"v\0\0\0"));
+        assert!(rt; is_torn(tear, left, rt.alloc())?, "torn at {tear:?}");
     }
     Ok(())
+}
+
+// Whether three bytes are taken at a time, and the second write fails.
+fn takes_three(sink: &mut MemSink) -> bool {
+    write_five(sink, b"hello") == Ok(3)
+        && write_five(sink, b"lo, y") == Err(SinkFault::Failed)
+        && write_five(sink, b"lo, y") == Ok(3)
+        && sink.bytes() == b"hello,".as_slice()
 }
 
 #[test]
 fn memory_takes_writes(rt: HostRuntime) -> Result<(), Fail> {
     let mut sink = MemSink::new(rt.alloc(), vec![in rt.alloc(); 1]?, 3);
-    assert_eq!(rt; write_five(&mut sink, b"hello"), Ok(3));
-    assert_eq!(rt; write_five(&mut sink, b"lo, y"), Err(SinkFault::Failed));
-    assert_eq!(rt; write_five(&mut sink, b"lo, y"), Ok(3));
-    assert_eq!(rt; sink.bytes(), b"hello,".as_slice());
+    assert!(rt; takes_three(&mut sink));
     Ok(())
+}
+
+const DISK: &str = "lzk_outside_disk_test";
+
+// Read in order and past the end, then on in order again, and from the front again.
+const HELLO: [(&str, u64, Given); 8] = [
+    (DISK, 0, (Ok(4), *b"hell")),
+    (DISK, 3, (Ok(2), *b"lo\0\0")),
+    (DISK, 5, END),
+    (DISK, 6, END),
+    (DISK, 0, (Ok(4), *b"hell")),
+    (DISK, 4, (Ok(1), *b"o\0\0\0")),
+    (DISK, 5, END),
+    (DISK, 0, (Ok(4), *b"hell")),
+];
+
+// A folder is there, and is no file.
+const GONE: [(&str, u64, Given); 2] = [(DISK, 0, MISSING), (".", 0, FAILED)];
+
+fn puts_hello(shelf: &mut DiskShelf<HostRuntime>) -> bool {
+    put_bytes(shelf, DISK, b"longer than") == Ok(()) && put_bytes(shelf, DISK, b"hello") == Ok(())
+}
+
+fn puts_other(shelf: &mut DiskShelf<HostRuntime>) -> bool {
+    put_bytes(shelf, DISK, b"other") == Ok(()) && read_four(shelf, DISK, 4) == (Ok(1), *b"r\0\0\0")
 }
 
 #[test]
 fn disk_puts_and_reads(rt: HostRuntime) -> Result<(), Fail> {
     let mut shelf = DiskShelf::new(rt.clone()?, rt.alloc());
-    let name = "lzk_outside_disk_test";
-    assert_eq!(rt; put_bytes(&mut shelf, name, b"longer than"), Ok(()));
-    assert_eq!(rt; put_bytes(&mut shelf, name, b"hello"), Ok(()));
-    assert_eq!(rt; read_four(&mut shelf, name, 0), (Ok(4), *b"hell"));
-    assert_eq!(rt; read_four(&mut shelf, name, 3), (Ok(2), *b"lo\0\0"));
-    assert_eq!(rt; read_four(&mut shelf, name, 5), END);
-    assert_eq!(rt; read_four(&mut shelf, name, 6), END);
-    assert!(rt; fs::metadata(&rt, "lzk_outside_disk_test.0.part").is_err());
-
-    // Read on in order, then from the front again.
-    assert_eq!(rt; read_four(&mut shelf, name, 0), (Ok(4), *b"hell"));
-    assert_eq!(rt; read_four(&mut shelf, name, 4), (Ok(1), *b"o\0\0\0"));
-    assert_eq!(rt; read_four(&mut shelf, name, 5), END);
-    assert_eq!(rt; read_four(&mut shelf, name, 0), (Ok(4), *b"hell"));
-    assert_eq!(rt; put_bytes(&mut shelf, name, b"other"), Ok(()));
-    assert_eq!(rt; read_four(&mut shelf, name, 4), (Ok(1), *b"r\0\0\0"));
-    fs::remove_file(&rt, name)?;
-    assert_eq!(rt; read_four(&mut shelf, name, 0), MISSING);
-
-    // A folder is there, and is no file.
-    assert_eq!(rt; read_four(&mut shelf, ".", 0), FAILED);
-    assert_eq!(rt; put_bytes(&mut shelf, ".", b"hello"), Err(PutFault::Failed));
+    assert!(rt; puts_hello(&mut shelf));
+    assert_eq!(rt; wrong_read(&mut shelf, &HELLO), None);
+    assert!(rt; !fs::exists(&rt, "lzk_outside_disk_test.0.part")?);
+    assert!(rt; puts_other(&mut shelf));
+    fs::remove_file(&rt, DISK)?;
+    assert_eq!(rt; wrong_read(&mut shelf, &GONE), None);
+    assert!(rt; put_bytes(&mut shelf, ".", b"hello") == Err(PutFault::Failed));
     Ok(())
 }
 
 #[test]
 fn stdout_takes_bytes(rt: HostRuntime) -> Result<(), Fail> {
     let mut sink = StdoutSink::new(rt.clone()?, rt.alloc());
-    assert_eq!(rt; write_five(&mut sink, b"hello"), Ok(5));
+    let taken = write_five(&mut sink, b"hello");
+    assert_eq!(rt; taken, Ok(5));
     Ok(())
 }

@@ -89,7 +89,7 @@ fn wrong_number<F: Field>(rows: &[(u128, bool)]) -> Option<usize> {
 }
 
 fn written<F: Field>(n: u64) -> [u8; 8]
-    requires { F.BYTES ≡ 8 }
+    requires { F.coding.bytes ≡ 8 }
 {
     let mut out = [255; 8];
     of::<F>(n).to_le(&mut out);
@@ -97,7 +97,7 @@ fn written<F: Field>(n: u64) -> [u8; 8]
 }
 
 fn wrong_bytes<F: Field>(rows: &[(u64, [u8; 8])]) -> Option<usize>
-    requires { F.BYTES ≡ 8 }
+    requires { F.coding.bytes ≡ 8 }
 {
     for i in 0..rows.len() {
         let (n, bytes) = rows[i];
@@ -112,7 +112,7 @@ fn wrong_bytes<F: Field>(rows: &[(u64, [u8; 8])]) -> Option<usize>
 }
 
 fn element_at<F: Field>(rows: &[[u8; 8]]) -> Option<usize>
-    requires { F.BYTES ≡ 8 }
+    requires { F.coding.bytes ≡ 8 }
 {
     for i in 0..rows.len() {
         if F::of_le(&rows[i]).is_some() {

@@ -1,6 +1,6 @@
 //! Circuits that are refused, over both fields and through the bound.
 
-use lzk_circuit::{Circuit, CircuitFault, CircuitKind, Layer, Term, Terms, bits_of};
+use lzk_circuit::{Circuit, CircuitFault, CircuitKind, Layer, Term, Terms, bits_of, power_of};
 use lzk_field::Field;
 use lzk_gf128::Gf128;
 use lzk_goldilocks::Gold;
@@ -157,5 +157,12 @@ const BITS: [(u32, u32); 10] = [
 fn wires_have_their_bits(rt: HostRuntime) {
     for (wires, bits) in BITS {
         assert!(rt; wires <= 131072 && bits_of(wires) == bits);
+    }
+}
+
+#[test]
+fn bits_have_their_numbers(rt: HostRuntime) {
+    for (bits, count) in [(0, 1), (1, 2), (5, 32), (17, 131_072)] {
+        assert!(rt; power_of(bits) == count);
     }
 }

@@ -77,6 +77,21 @@ const GF_VALUES: [(u32, u128, u128); 3] = [
     ),
 ];
 
+// The values at the points up to the extender's end. None where it does not extend so many values.
+fn extended_by<F: Field>(
+    extender: &Extender<F>,
+    values: &[F],
+    alloc: Global,
+) -> Result<Option<Vec<F>>, AllocError> {
+    if values.len() != extender.count() as usize {
+        return Ok(None);
+    }
+    let further = extender.upto() - extender.count();
+    let mut out = vec![in alloc; F::zero(); further as usize]?;
+    extender.extend(values, &mut out);
+    Ok(Some(out))
+}
+
 // None where no extender can be had for so many values.
 fn extended<F: Field>(
     values: &[F],
@@ -86,42 +101,60 @@ fn extended<F: Field>(
     if values.is_empty() || upto > 65536 || values.len() > upto as usize {
         return Ok(None);
     }
-    let n = values.len() as u32;
-    let extender = Extender::new(alloc, n, upto)?;
-    let mut out = vec![in alloc; F::zero(); (upto - n) as usize]?;
-    extender.extend(values, &mut out);
-    Ok(Some(out))
+    let extender = Extender::new(alloc, values.len() as u32, upto)?;
+    extended_by(&extender, values, alloc)
+}
+
+// The value at Point(3) of the polynomial whose coefficients these are.
+fn value_at_three<F: Field>(coeffs: Option<Vec<F>>) -> Option<u128> {
+    match coeffs {
+        Some(list) => Some(eval(&list, F::point(3)).number()),
+        None => None,
+    }
+}
+
+fn number_of_row<F: Field>(n: u32, upto: u32, alloc: Global) -> Result<Option<u128>, AllocError> {
+    let values = mixed::<F>(n, 1, alloc)?;
+    Ok(value_at_three(extended(&values, upto, alloc)?))
 }
 
 fn wrong_row<F: Field>(rows: &[Row], alloc: Global) -> Result<Option<usize>, AllocError> {
     for i in 0..rows.len() {
         let (n, upto, wanted) = rows[i];
-        let values = mixed::<F>(n, 1, alloc)?;
-        match extended(&values, upto, alloc)? {
-            Some(out) => {
-                if eval(&out, F::point(3)).number() != wanted {
-                    return Ok(Some(i));
-                }
-            }
-            None => return Ok(Some(i)),
+        if number_of_row::<F>(n, upto, alloc)? != Some(wanted) {
+            return Ok(Some(i));
         }
     }
     Ok(None)
 }
 
+// None where the extender does not reach the point, or does not extend so many values.
+fn number_at<F: Field>(extender: &Extender<F>, values: &[F], j: u32) -> Option<u128> {
+    if values.len() != extender.count() as usize || j >= extender.upto() {
+        return None;
+    }
+    Some(extender.extend_at(values, j).number())
+}
+
+fn wrong_number<F: Field>(extender: &Extender<F>, values: &[F], places: &[Place]) -> Option<usize> {
+    for i in 0..places.len() {
+        let (j, wanted) = places[i];
+        if number_at(extender, values, j) != Some(wanted) {
+            return Some(i);
+        }
+    }
+    None
+}
+
 fn wrong_place<F: Field>(places: &[Place], alloc: Global) -> Result<Option<usize>, AllocError> {
     let values = mixed::<F>(192, 1, alloc)?;
     let extender = Extender::new(alloc, 192, 1151)?;
-    for i in 0..places.len() {
-        let (j, wanted) = places[i];
-        if values.len() != 192 || j >= 1151 {
-            return Ok(Some(i));
-        }
-        if extender.extend_at(&values, j).number() != wanted {
-            return Ok(Some(i));
-        }
-    }
-    Ok(None)
+    Ok(wrong_number(&extender, &values, places))
+}
+
+fn value_of<F: Field>(n: u32, t: u128, alloc: Global) -> Result<u128, AllocError> {
+    let coeffs = mixed::<F>(n, 1, alloc)?;
+    Ok(eval(&coeffs, F::of_word(t)).number())
 }
 
 fn wrong_value<F: Field>(
@@ -130,8 +163,7 @@ fn wrong_value<F: Field>(
 ) -> Result<Option<usize>, AllocError> {
     for i in 0..rows.len() {
         let (n, t, wanted) = rows[i];
-        let coeffs = mixed::<F>(n, 1, alloc)?;
-        if eval(&coeffs, F::of_word(t)).number() != wanted {
+        if value_of::<F>(n, t, alloc)? != wanted {
             return Ok(Some(i));
         }
     }
@@ -152,11 +184,15 @@ fn are_right<F: Field>(
     )
 }
 
+fn are_elements<F: Field>(list: &[F], wanted: &[u128], alloc: Global) -> Result<bool, AllocError> {
+    Ok(list == elements::<F>(wanted, alloc)?.as_slice())
+}
+
 // Whether the polynomial through `values` goes on with `further`.
 fn goes_on<F: Field>(values: &[u128], further: &[u128], alloc: Global) -> Result<bool, AllocError> {
     let values = elements::<F>(values, alloc)?;
     match extended(&values, 4, alloc)? {
-        Some(out) => Ok(out == elements::<F>(further, alloc)?),
+        Some(out) => are_elements(&out, further, alloc),
         None => Ok(false),
     }
 }

@@ -9,6 +9,8 @@ mod circuits;
 #[cfg(test)]
 mod extension;
 #[cfg(test)]
+mod inverses;
+#[cfg(test)]
 mod multilinear;
 #[cfg(test)]
 mod tape_vectors;

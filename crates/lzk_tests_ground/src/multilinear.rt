@@ -32,19 +32,27 @@ const GF_ROWS: [Row; 6] = [
 ];
 
 // None where there are too many variables.
-fn table_of<F: Field>(r: &[u128], alloc: Global) -> Result<Option<Vec<F>>, AllocError> {
-    let r = elements::<F>(r, alloc)?;
+fn table_at<F: Field>(r: &[F], alloc: Global) -> Result<Option<Vec<F>>, AllocError> {
     if r.len() > 17 {
         return Ok(None);
     }
     let mut table = vec![in alloc; F::zero(); 1usize << r.len()]?;
-    eq_table(&r, &mut table);
+    eq_table(r, &mut table);
     Ok(Some(table))
+}
+
+fn table_of<F: Field>(r: &[u128], alloc: Global) -> Result<Option<Vec<F>>, AllocError> {
+    let r = elements::<F>(r, alloc)?;
+    table_at(&r, alloc)
+}
+
+fn are_elements<F: Field>(list: &[F], wanted: &[u128], alloc: Global) -> Result<bool, AllocError> {
+    Ok(list == elements::<F>(wanted, alloc)?.as_slice())
 }
 
 fn is_table<F: Field>(r: &[u128], wanted: &[u128], alloc: Global) -> Result<bool, AllocError> {
     match table_of::<F>(r, alloc)? {
-        Some(table) => Ok(table == elements::<F>(wanted, alloc)?),
+        Some(table) => are_elements(&table, wanted, alloc),
         None => Ok(false),
     }
 }
@@ -73,12 +81,17 @@ fn is_extended<F: Field>(
     Ok(extended(&values, &r, alloc)? == Some(F::of_word(wanted)))
 }
 
+// The extension of n mixed values, at k variables.
+fn extended_row<F: Field>(n: u32, k: u32, alloc: Global) -> Result<Option<F>, AllocError> {
+    let values = mixed::<F>(n, 1, alloc)?;
+    let r = mixed::<F>(k, 7, alloc)?;
+    extended(&values, &r, alloc)
+}
+
 fn wrong_row<F: Field>(rows: &[Row], alloc: Global) -> Result<Option<usize>, AllocError> {
     for i in 0..rows.len() {
         let (n, k, wanted) = rows[i];
-        let values = mixed::<F>(n, 1, alloc)?;
-        let r = mixed::<F>(k, 7, alloc)?;
-        if extended(&values, &r, alloc)? != Some(F::of_word(wanted)) {
+        if extended_row::<F>(n, k, alloc)? != Some(F::of_word(wanted)) {
             return Ok(Some(i));
         }
     }
@@ -96,7 +109,7 @@ fn is_bound<F: Field>(
         return Ok(false);
     }
     bind(&mut table, F::of_word(r));
-    Ok(table == elements::<F>(wanted, alloc)?)
+    are_elements(&table, wanted, alloc)
 }
 
 // Coordinates and the table of all agreements with them; values, coordinates and the extension; a table, what its lower variable

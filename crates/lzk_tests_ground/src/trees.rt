@@ -57,6 +57,58 @@ fn digest_of_all(digests: &[[u8; 32]]) -> [u8; 32] {
     hasher.finalize()
 }
 
+fn leaves_of(opened: &[u32], alloc: Global) -> Result<Vec<[u8; 32]>, AllocError> {
+    let mut leaves = Vec::new(alloc);
+    for j in opened {
+        leaves.push(digest_of(*j))?;
+    }
+    Ok(leaves)
+}
+
+// The root that these leaves and digests lead to. None where they are too few or too many.
+fn root_from(
+    n: u32,
+    opened: &[u32],
+    leaves: &[[u8; 32]],
+    digests: &[[u8; 32]],
+    alloc: Global,
+) -> Result<Option<[u8; 32]>, AllocError>
+    requires most { n ≤ 65536 }
+    requires opened { AreOpened n opened.now }
+{
+    if leaves.len() != opened.len() || digests.len() != needed(n, opened) as usize {
+        return Ok(None);
+    }
+    let mut room = Vec::from_elem(alloc, [0u8; 32], 2 * n as usize)?;
+    Ok(Some(root_of(n, opened, leaves, digests, room.as_mut_slice())))
+}
+
+// Whether the digests of a path lead from these leaves to this root.
+fn leads_to(
+    n: u32,
+    opened: &[u32],
+    digests: &[[u8; 32]],
+    root: &[u8; 32],
+    alloc: Global,
+) -> Result<bool, AllocError>
+    requires most { n ≤ 65536 }
+    requires opened { AreOpened n opened.now }
+{
+    let leaves = leaves_of(opened, alloc)?;
+    Ok(root_from(n, opened, leaves.as_slice(), digests, alloc)? == Some(*root))
+}
+
+fn path_of(tree: &Tree, n: u32, opened: &[u32], alloc: Global) -> Result<Vec<[u8; 32]>, AllocError>
+    requires size { length tree.now.leaves ≡ n }
+    requires built { IsBuilt tree.now }
+    requires most { n ≤ 65536 }
+    requires opened { AreOpened n opened.now }
+{
+    let mut digests = Vec::from_elem(alloc, [0u8; 32], needed(n, opened) as usize)?;
+    tree.path(opened, digests.as_mut_slice());
+    Ok(digests)
+}
+
 // Whether the path of these leaves has so many digests, with this SHA-256, and both the tree and the path have this root.
 fn is_path(
     n: u32,
@@ -69,27 +121,26 @@ fn is_path(
     requires most { n ≤ 65536 }
     requires opened { AreOpened n opened.now }
 {
-    let tree = tree_of(n, alloc)?;
-    let mut digests = Vec::from_elem(alloc, [0u8; 32], needed(n, opened) as usize)?;
-    tree.path(opened, digests.as_mut_slice());
-    let mut leaves = Vec::new(alloc);
-    for j in opened {
-        leaves.push(digest_of(*j))?;
-    }
-    let mut room = Vec::from_elem(alloc, [0u8; 32], 2 * n as usize)?;
-    let found = root_of(
-        n,
-        opened,
-        leaves.as_slice(),
-        digests.as_slice(),
-        room.as_mut_slice(),
-    );
+    let (digests, found) = path_and_root(n, opened, alloc)?;
     Ok(
         digests.len() == count
             && digest_of_all(digests.as_slice()) == *path
             && found == *root
-            && tree.root() == *root,
+            && leads_to(n, opened, digests.as_slice(), root, alloc)?,
     )
+}
+
+// The path of these leaves in a tree of n, and the tree's root.
+fn path_and_root(
+    n: u32,
+    opened: &[u32],
+    alloc: Global,
+) -> Result<(Vec<[u8; 32]>, [u8; 32]), AllocError>
+    requires most { n ≤ 65536 }
+    requires opened { AreOpened n opened.now }
+{
+    let tree = tree_of(n, alloc)?;
+    Ok((path_of(&tree, n, opened, alloc)?, tree.root()))
 }
 
 fn wrong_tree(alloc: Global) -> Result<Option<usize>, AllocError> {
@@ -108,11 +159,7 @@ fn wrong_root(alloc: Global) -> Result<Option<usize>, AllocError> {
         if n > 65536 || !are_opened(n, opened) {
             return Ok(Some(i));
         }
-        if leaves.len() != opened.len() || digests.len() != needed(n, opened) as usize {
-            return Ok(Some(i));
-        }
-        let mut room = Vec::from_elem(alloc, [0u8; 32], 2 * n as usize)?;
-        if root_of(n, opened, leaves, digests, room.as_mut_slice()) != root {
+        if root_from(n, opened, leaves, digests, alloc)? != Some(root) {
             return Ok(Some(i));
         }
     }
@@ -126,20 +173,31 @@ fn paths_lead_to_their_roots(rt: HostRuntime) -> Result<(), Fail> {
     Ok(())
 }
 
-#[test]
-fn paths_of_wide_trees_lead_to_their_roots(rt: HostRuntime) -> Result<(), Fail> {
-    let mut opened = Vec::new(rt.alloc());
+// Of each six leaves one.
+fn wide_opened(alloc: Global) -> Result<Vec<u32>, AllocError> {
+    let mut opened = Vec::new(alloc);
     for k in 0..128u32 {
         opened.push(6 * k + k % 6)?;
     }
+    Ok(opened)
+}
+
+fn is_wide_path(opened: &[u32], alloc: Global) -> Result<bool, AllocError> {
     let (count, path, root) = WIDE;
-    let wide = are_opened(768, opened.as_slice())
-        && is_path(768, opened.as_slice(), count, &path, &root, rt.alloc())?;
-    assert!(rt; wide);
+    Ok(are_opened(768, opened) && is_path(768, opened, count, &path, &root, alloc)?)
+}
+
+fn is_longest_path(alloc: Global) -> Result<bool, AllocError> {
     let (count, path, root) = MOST;
-    let most = are_opened(65536, &MOST_OPENED)
-        && is_path(65536, &MOST_OPENED, count, &path, &root, rt.alloc())?;
-    assert!(rt; most);
+    Ok(are_opened(65536, &MOST_OPENED) && is_path(65536, &MOST_OPENED, count, &path, &root, alloc)?)
+}
+
+#[test]
+fn paths_of_wide_trees_lead_to_their_roots(rt: HostRuntime) -> Result<(), Fail> {
+    let opened = wide_opened(rt.alloc())?;
+    let wide = is_wide_path(opened.as_slice(), rt.alloc())?;
+    assert!(rt; wide);
+    assert!(rt; is_longest_path(rt.alloc())?);
     Ok(())
 }
 

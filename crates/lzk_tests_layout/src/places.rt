@@ -8,7 +8,7 @@ use lzk_circuit::Circuit;
 use lzk_field::Field;
 use lzk_gf128::Gf128;
 use lzk_goldilocks::Gold;
-use lzk_layout::{LayerPlaces, Params, Path};
+use lzk_layout::{LayerPlaces, Params, Path, layer_bits, most_bits};
 use std::alloc::{AllocError, Global};
 use std::test::Fail;
 
@@ -46,6 +46,26 @@ fn wrong_layers<F: Field>(alloc: Global) -> Result<Option<usize>, AllocError> {
 fn layers_have_their_places(rt: HostRuntime) -> Result<(), Fail> {
     assert_eq!(rt; wrong_layers::<Gold>(rt.alloc())?, None);
     assert_eq!(rt; wrong_layers::<Gf128>(rt.alloc())?, None);
+    Ok(())
+}
+
+// Whether layers of 1, 3 and 17 wires over ten inputs have these bits, and the most of them.
+fn are_bits<F: Field>(alloc: Global) -> Result<bool, AllocError> {
+    let Some(circuit) = circuit::<F>(alloc, (1, 8, &[1, 3, 17], 0))? else {
+        return Ok(false);
+    };
+    let bits = [0, 2, 5, 4];
+    let mut are = circuit.depth() == 3 && most_bits(&circuit) == 5;
+    for l in 0..circuit.depth() + 1 {
+        are = are && layer_bits(&circuit, l) == bits[l as usize % 4];
+    }
+    Ok(are)
+}
+
+#[test]
+fn layers_have_their_bits(rt: HostRuntime) -> Result<(), Fail> {
+    assert!(rt; are_bits::<Gold>(rt.alloc())?);
+    assert!(rt; are_bits::<Gf128>(rt.alloc())?);
     Ok(())
 }
 

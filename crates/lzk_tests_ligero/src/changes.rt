@@ -2,7 +2,7 @@
 
 ghost use Rattle.std.specs.Prelude.{◌≡◌, ◌≤◌, IsTrue, length};
 ghost use Rattle.lzk_layout.specs.Sizes.{params_of};
-ghost use Rattle.lzk_honest.specs.Changed.{IsSentPlace};
+ghost use Rattle.lzk_complete.specs.Changed.{IsSentPlace};
 
 use crate::vectors::{CHANGED, Case, Changed};
 use lzk_field::{Field, Open, Seeded};

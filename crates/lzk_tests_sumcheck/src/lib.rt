@@ -9,10 +9,14 @@ mod combined;
 #[cfg(test)]
 mod combined_vectors;
 #[cfg(test)]
+mod opening;
+#[cfg(test)]
 mod rounds;
 #[cfg(test)]
 mod scripts;
 #[cfg(test)]
 mod shared;
+#[cfg(test)]
+mod sharing;
 #[cfg(test)]
 mod worked;

@@ -4,13 +4,13 @@ ghost use Rattle.std.specs.Prelude.{◌≡◌, length};
 ghost use Rattle.lzk_goldilocks.specs.Elements.{number};
 ghost use Rattle.lzk_circuit.specs.Checks.{HasRoom};
 
-use crate::shared::{SQUARE, Shape, asserting_circuit_of, circuit_of};
+use crate::shared::{SQUARE, Shape, asserting_circuit_of, circuit_of, elements};
 use lzk_accept::next_claim;
 use lzk_circuit::{Circuit, Values, bits_of};
 use lzk_field::Field;
 use lzk_gf128::Gf128;
 use lzk_goldilocks::Gold;
-use lzk_sumcheck::{plain_round, sumcheck_laws};
+use lzk_sumcheck::{entry_at, plain_round, sumcheck_laws};
 use std::alloc::{AllocError, Global};
 use std::test::Fail;
 
@@ -99,5 +99,17 @@ fn assertion_terms_count_beta(rt: HostRuntime) -> Result<(), Fail> {
     let of_5 = asserted_rounds(rt.alloc(), 5)?;
     let wanted = [Some([0, 0, 0]), Some([9, 0, 9]), Some([45, 0, 45])];
     assert_eq!(rt; [of_0, of_1, of_5], wanted);
+    Ok(())
+}
+
+fn are_entries<F: Field>(alloc: Global) -> Result<bool, AllocError> {
+    let list = elements::<F>(&[1, 2], alloc)?;
+    Ok(entry_at(&list, 1) == F::point(2) && entry_at(&list, 2) == F::zero())
+}
+
+#[test]
+fn entries_past_the_end_are_zero(rt: HostRuntime) -> Result<(), Fail> {
+    assert!(rt; are_entries::<Gold>(rt.alloc())?);
+    assert!(rt; are_entries::<Gf128>(rt.alloc())?);
     Ok(())
 }
