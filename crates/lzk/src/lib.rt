@@ -72,7 +72,7 @@
 //! ) -> Verdict<F>
 //!     requires session { length session.now ≤ 64 }
 //!     requires public { length public.now ≡ verifier.old.circuit.publics }
-//!     ensures verdict { IsVerdict F.ops (coding F.element F.number_of F.BYTES F.size F.ID) verifier.old.circuit session.now public.now proof.now result }
+//!     ensures verdict { IsVerdict F.ops F.coding verifier.old.circuit session.now public.now proof.now result }
 //!     ensures circuit { verifier.new.circuit ≡ verifier.old.circuit }
 //! {
 //!     verifier.verify(session, public, proof)

@@ -2,7 +2,6 @@
 
 ghost use Rattle.std.specs.Prelude.{◌≡◌, None, IfOk, OnErr, IsSomeAnd};
 ghost use Rattle.std.specs.Option.{ForSome};
-ghost use Rattle.lzk_field.specs.Coding.{coding};
 ghost use Rattle.lzk_verify.specs.Verdict.{IsVerdict, IsOnlyVerdict};
 ghost use Rattle.lzk_batch.specs.Batch.{IsFit};
 
@@ -52,9 +51,9 @@ fn ready<'c, F: Field>(
 // The verdict on a job's proof, by the desk that is kept.
 fn judge_at<'c, F: Field>(kept: &mut Kept<'c, F>, job: &JobOf<F>) -> Verdict<F>
     requires { IsFit kept.old.desk.circuit job.now }
-    ensures verdict { IsVerdict F.ops (coding F.element F.number_of F.BYTES F.size F.ID) kept.old.desk.circuit job.now.session.items
+    ensures verdict { IsVerdict F.ops F.coding kept.old.desk.circuit job.now.session.items
         job.now.public.items job.now.proof.items result }
-    ensures one { IsOnlyVerdict F.ops (coding F.element F.number_of F.BYTES F.size F.ID) kept.old.desk.circuit job.now.session.items
+    ensures one { IsOnlyVerdict F.ops F.coding kept.old.desk.circuit job.now.session.items
         job.now.public.items job.now.proof.items result }
     ensures place { kept.new.place ≡ kept.old.place }
     ensures circuit { kept.new.desk.circuit ≡ kept.old.desk.circuit }
@@ -71,9 +70,9 @@ fn judge_over<'c, F: Field>(
 ) -> Result<Verdict<F>, AllocError>
     requires fit { IsFit circuit.now job.now }
     requires kept { ForSome kept.old (λ k. k.place ≡ job.now.circuit → k.desk.circuit ≡ circuit.now) }
-    ensures verdict { IfOk result (IsVerdict F.ops (coding F.element F.number_of F.BYTES F.size F.ID) circuit.now job.now.session.items
+    ensures verdict { IfOk result (IsVerdict F.ops F.coding circuit.now job.now.session.items
         job.now.public.items job.now.proof.items) }
-    ensures one { IfOk result (IsOnlyVerdict F.ops (coding F.element F.number_of F.BYTES F.size F.ID) circuit.now job.now.session.items
+    ensures one { IfOk result (IsOnlyVerdict F.ops F.coding circuit.now job.now.session.items
         job.now.public.items job.now.proof.items) }
     ensures kept { ForSome kept.new (λ k. (k.place ≡ job.now.circuit) × (k.desk.circuit ≡ circuit.now)) }
 {

@@ -80,7 +80,7 @@ struct Work<F: Field> {
 }
 
 fn work_for<F: Field>(alloc: Global, circuit: &Circuit<F>) -> Result<Work<F>, AllocError>
-    ensures values { IfOk result (λ work. HasRoom F.number_of circuit.now work.values) }
+    ensures values { IfOk result (λ work. HasRoom F.coding.number circuit.now work.values) }
     ensures rounds { IfOk result (λ work. IsRoomOf circuit.now work.rounds) }
     ensures script { IfOk result (λ work. HasShape circuit.now work.script) }
 {
@@ -102,7 +102,7 @@ fn send<R: Threads + Sync, F: Field>(
     work: &mut Work<F>,
     times: u32,
 ) -> u128
-    requires values { HasRoom F.number_of circuit.now work.old.values }
+    requires values { HasRoom F.coding.number circuit.now work.old.values }
     requires rounds { IsRoomOf circuit.now work.old.rounds }
     requires script { HasShape circuit.now work.old.script }
 {

@@ -95,7 +95,7 @@ fn file<F: Field>(alloc: Global, params: &Params, proof: &Proof<F>) -> Result<Ve
     requires params { AreParams F.ops params.now }
     requires lengths { HasLengths params.now proof.now }
     requires few { length proof.now.path.digests ≤ 1536 }
-    ensures { IfOk result (λ bytes. length bytes.items ≡ proof_length F.BYTES params.now (length proof.now.path.digests)) }
+    ensures { IfOk result (λ bytes. length bytes.items ≡ proof_length F.coding.bytes params.now (length proof.now.path.digests)) }
 {
     let digests = proof.path.len() as u32;
     let mut bytes = Vec::new(alloc);
@@ -132,7 +132,7 @@ fn write_often<F: Field>(
     requires params { AreParams F.ops params.now }
     requires lengths { HasLengths params.now proof.old }
     requires few { length proof.old.path.digests ≤ 1536 }
-    requires room { length bytes.old ≡ proof_length F.BYTES params.now (length proof.old.path.digests) }
+    requires room { length bytes.old ≡ proof_length F.coding.bytes params.now (length proof.old.path.digests) }
 {
     let mut total = 0u128;
     for k in 0..times {

@@ -3,7 +3,6 @@
 ghost use Rattle.std.specs.Prelude.{◌≡◌, length};
 ghost use Rattle.std.specs.List.{AllZip};
 ghost use Rattle.lzk_circbytes.specs.Files.{id_of};
-ghost use Rattle.lzk_field.specs.Coding.{coding};
 ghost use Rattle.lzk_c.specs.Answers as spec;
 ghost use Rattle.lzk_c.specs.Answers.{IsExplained, IsExplainedOf, IsExplainedOver, IsRefused};
 
@@ -37,7 +36,7 @@ fn explain_one<F: Field>(
     job: &mut Job<'_>,
 )
     requires circuit { desk.old.circuit ≡ circuit.now }
-    ensures told { IsExplainedOver F.ops (coding F.element F.number_of F.BYTES F.size F.ID) circuit.now job.old job.new }
+    ensures told { IsExplainedOver F.ops F.coding circuit.now job.old job.new }
     ensures circuit { desk.new.circuit ≡ circuit.now }
 {
     let found = verify_at(alloc, circuit, desk, job.public, job.session, job.proof);
@@ -52,7 +51,7 @@ fn explain_each<F: Field>(
     jobs: &mut [Job<'_>],
 )
     requires circuit { desk.old.circuit ≡ circuit.now }
-    ensures told { AllZip (IsExplainedOver F.ops (coding F.element F.number_of F.BYTES F.size F.ID) circuit.now) jobs.old jobs.new }
+    ensures told { AllZip (IsExplainedOver F.ops F.coding circuit.now) jobs.old jobs.new }
     ensures circuit { desk.new.circuit ≡ circuit.now }
 {
     for i in 0..jobs.len() {
@@ -78,8 +77,8 @@ fn refuse_each(refusal: Refusal, jobs: &mut [Job<'_>])
 
 // The report on each job, over a circuit over a field.
 fn explain_over<F: Field>(alloc: Global, circuit: &Circuit<F>, id: [u8; 32], jobs: &mut [Job<'_>])
-    requires id { id ≡ id_of (coding F.element F.number_of F.BYTES F.size F.ID) circuit.now }
-    ensures { AllZip (IsExplainedOver F.ops (coding F.element F.number_of F.BYTES F.size F.ID) circuit.now) jobs.old jobs.new }
+    requires id { id ≡ id_of F.coding circuit.now }
+    ensures { AllZip (IsExplainedOver F.ops F.coding circuit.now) jobs.old jobs.new }
 {
     match Desk::with_id(alloc, circuit, id) {
         Ok(mut desk) => explain_each(alloc, circuit, &mut desk, jobs),

@@ -2,7 +2,6 @@
 
 ghost use Rattle.std.specs.Prelude.{◌≡◌, ◌≤◌, true, ℕ, List, ◌++◌, length};
 ghost use Rattle.lzk_circbytes.specs.Files.{id_of};
-ghost use Rattle.lzk_field.specs.Coding.{coding};
 ghost use Rattle.lzk_verify.specs.Kept as kept;
 ghost use Rattle.lzk_verify.specs.Kept.{Stands};
 ghost use Rattle.lzk_verify.specs.Verdict.{IsVerdict};
@@ -28,7 +27,7 @@ pub struct Piece<'a> {
 // Feeds a desk all pieces.
 fn feed_pieces<F: Field>(desk: &mut Desk<'_, F>, pieces: &[Piece<'_>])
     requires fed { kept.is_fed desk.old ≡ true }
-    ensures stands { let e = coding F.element F.number_of F.BYTES F.size F.ID in
+    ensures stands { let e = F.coding in
         (session : List ℕ) (public : List F) (bytes : List ℕ) →
         Stands F.ops e session public bytes desk.old → Stands F.ops e session public (bytes ++ joined pieces.now) desk.new }
     ensures fed { kept.is_fed desk.new ≡ true }
@@ -48,7 +47,7 @@ fn verdict_on<F: Field>(
 ) -> Verdict<F>
     requires session { length session.now ≤ 64 }
     requires public { length public.now ≡ desk.old.circuit.publics }
-    ensures { IsVerdict F.ops (coding F.element F.number_of F.BYTES F.size F.ID) desk.old.circuit session.now public.now (joined pieces.now) result }
+    ensures { IsVerdict F.ops F.coding desk.old.circuit session.now public.now (joined pieces.now) result }
 {
     desk.open(session, public);
     feed_pieces(desk, pieces);
@@ -64,8 +63,8 @@ fn verify_over<F: Field>(
     session: &[u8],
     pieces: &[Piece<'_>],
 ) -> Result<Verdict<u128>, Refusal>
-    requires id { id ≡ id_of (coding F.element F.number_of F.BYTES F.size F.ID) circuit.now }
-    ensures { SaysOver F.ops (coding F.element F.number_of F.BYTES F.size F.ID) circuit.now public.now session.now (joined pieces.now) result }
+    requires id { id ≡ id_of F.coding circuit.now }
+    ensures { SaysOver F.ops F.coding circuit.now public.now session.now (joined pieces.now) result }
 {
     let publics = match publics_of(alloc, circuit, public, session) {
         Ok(publics) => publics,

@@ -2,7 +2,6 @@
 
 ghost use Rattle.std.specs.Prelude.{◌≡◌, ◌≤◌, length, map, IfOk, IfErr, OnOk};
 ghost use Rattle.lzk_circbytes.specs.Files.{id_of};
-ghost use Rattle.lzk_field.specs.Coding.{coding};
 ghost use Rattle.lzk_expr.specs.Numbers.{NumberText};
 ghost use Rattle.lzk_c.specs.Answers as spec;
 ghost use Rattle.lzk_c.specs.Answers.{Refuses, Says, SaysOf, SaysOver};
@@ -23,7 +22,7 @@ const MOST_TEXT: usize = 4_194_304;
 
 /// A verdict with numbers in the place of elements.
 pub fn numbered<F: Field>(verdict: Verdict<F>) -> Verdict<u128>
-    ensures { result ≡ spec.numbered F.number_of verdict }
+    ensures { result ≡ spec.numbered F.coding.number verdict }
 {
     match verdict {
         Verdict::Accepted => Verdict::Accepted,
@@ -48,10 +47,10 @@ pub fn publics_of<F: Field>(
     public: &[u8],
     session: &[u8],
 ) -> Result<Vec<F>, Refusal>
-    ensures numbers { IfOk result (λ publics. NumberText F.size circuit.now.publics public.now (map F.number_of publics.items)) }
+    ensures numbers { IfOk result (λ publics. NumberText F.coding.size circuit.now.publics public.now (map F.coding.number publics.items)) }
     ensures count { IfOk result (λ publics. length publics.items ≡ circuit.now.publics) }
     ensures short { OnOk result (length session.now ≤ 64) }
-    ensures refused { IfErr result (Refuses (coding F.element F.number_of F.BYTES F.size F.ID) circuit.now public.now session.now) }
+    ensures refused { IfErr result (Refuses F.coding circuit.now public.now session.now) }
 {
     if session.len() > MOST_SESSION || public.len() > MOST_TEXT {
         return Err(Refusal::TooLong);
@@ -73,7 +72,7 @@ pub fn verify_at<F: Field>(
     proof: &[u8],
 ) -> Result<Verdict<u128>, Refusal>
     requires circuit { desk.old.circuit ≡ circuit.now }
-    ensures told { SaysOver F.ops (coding F.element F.number_of F.BYTES F.size F.ID) circuit.now public.now session.now proof.now result }
+    ensures told { SaysOver F.ops F.coding circuit.now public.now session.now proof.now result }
     ensures circuit { desk.new.circuit ≡ circuit.now }
 {
     match publics_of(alloc, circuit, public, session) {
@@ -91,8 +90,8 @@ fn verify_over<F: Field>(
     session: &[u8],
     proof: &[u8],
 ) -> Result<Verdict<u128>, Refusal>
-    requires id { id ≡ id_of (coding F.element F.number_of F.BYTES F.size F.ID) circuit.now }
-    ensures { SaysOver F.ops (coding F.element F.number_of F.BYTES F.size F.ID) circuit.now public.now session.now proof.now result }
+    requires id { id ≡ id_of F.coding circuit.now }
+    ensures { SaysOver F.ops F.coding circuit.now public.now session.now proof.now result }
 {
     match Desk::with_id(alloc, circuit, id) {
         Ok(mut desk) => verify_at(alloc, circuit, &mut desk, public, session, proof),

@@ -14,7 +14,6 @@ pub use Rattle.lzk_verify.specs as lzk_verify
 pub use Rattle.lzk_demo.specs as lzk_demo
 pub use Rattle.lzk_sha_circuit.specs as lzk_sha_circuit
 pub use Rattle.lzk_complete.specs as lzk_complete
-pub use Rattle.lzk_honest.specs as lzk_honest
 pub use Rattle.lzk_ligero.specs as lzk_ligero
 pub use Rattle.lzk_goldilocks.specs as lzk_goldilocks
 pub use Rattle.lzk_gf128.specs as lzk_gf128

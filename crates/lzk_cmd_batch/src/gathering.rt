@@ -2,7 +2,6 @@
 
 ghost use Rattle.std.specs.Prelude.{◌≤◌, ◌<◌, All, length, map, IfOk};
 ghost use Rattle.lzk_batch.specs.Lists.{entry_view};
-ghost use Rattle.lzk_field.specs.Coding.{coding};
 ghost use Rattle.lzk_cmd_runs.specs.Batched.{total_limit};
 ghost use Rattle.lzk_cmd_batch.specs.Gathered.{AreKept, GivesAny, GivesJob, GivesJobs, GivesOver, IsShort, KeepsOn};
 ghost use Rattle.lzk_cmd_files.specs.Seen.{seen};
@@ -36,7 +35,7 @@ fn read_over<S: Shelf, F: Field>(
 ) -> Result<(JobOf<F>, usize), Halt>
     requires short { length entry.now.session.items ≤ 64 }
     requires taken { taken ≤ total_limit }
-    ensures gives { GivesOver (coding F.element F.number_of F.BYTES F.size F.ID) circuit.now
+    ensures gives { GivesOver F.coding circuit.now
         (seen S.Shelf shelf.old) (seen S.Shelf shelf.new) (entry_view entry.now) place taken result }
     ensures reads { OnlyReads (seen S.Shelf shelf.old) (seen S.Shelf shelf.new) }
 {

@@ -38,7 +38,7 @@ pub fn read_publics<S: Shelf, F: Field>(
     taken: usize,
 ) -> Result<(Vec<F>, usize), Halt>
     requires taken { taken ≤ total_limit }
-    ensures gives { Gives (among taken (number_files F.size F.number_of count)) (λ found. (found.0.items, found.1))
+    ensures gives { Gives (among taken (number_files F.coding.size F.coding.number count)) (λ found. (found.0.items, found.1))
         (seen S.Shelf shelf.old) (seen S.Shelf shelf.new) name.now result }
     ensures count { IfOk result (λ found. length found.0.items ≡ count) }
     ensures reads { OnlyReads (seen S.Shelf shelf.old) (seen S.Shelf shelf.new) }

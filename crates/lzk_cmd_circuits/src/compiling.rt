@@ -65,7 +65,7 @@ pub fn file_over<F: Field>(
     circuit: &Circuit<F>,
     name: &str,
 ) -> Result<(Vec<u8>, String), AllocError>
-    ensures file { IfOk result (λ made. IsFile F.ops F.number_of (shape F.ID F.BYTES F.size) circuit.now made.0.items) }
+    ensures file { IfOk result (λ made. IsFile F.ops F.coding.number (shape F.coding.id F.coding.bytes F.coding.size) circuit.now made.0.items) }
     ensures text { IfOk result (λ made.
         string_bytes made.1 ≡ compiled_line name.now (length circuit.now.layers) (term_count circuit.now.layers) (length made.0.items)) }
 {

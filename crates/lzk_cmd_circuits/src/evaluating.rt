@@ -24,7 +24,7 @@ fn output_lines<F: Field>(
     count: u32,
 ) -> Result<String, AllocError>
     requires count { count ≡ length values.now.checks }
-    ensures { IfOk result (λ s. string_bytes s ≡ output_lines 0 (map F.number_of values.now.checks)) }
+    ensures { IfOk result (λ s. string_bytes s ≡ output_lines 0 (map F.coding.number values.now.checks)) }
 {
     let mut text = String::new(alloc);
     for k in 0..count {
@@ -36,7 +36,7 @@ fn output_lines<F: Field>(
 // How a run ends that has these values.
 fn evaluation<F: Field>(alloc: Global, values: &Values<F>, count: u32) -> Result<Ending, AllocError>
     requires count { count ≡ length values.now.checks }
-    ensures { IfOk result (IsEvaluation F.ops F.number_of values.now.checks) }
+    ensures { IfOk result (IsEvaluation F.ops F.coding.number values.now.checks) }
 {
     let mut text = output_lines(alloc, values, count)?;
     match values.first_nonzero() {
@@ -60,7 +60,7 @@ fn evaluate<F: Field>(
 ) -> Result<Ending, Halt>
     requires publics { length publics.now ≡ circuit.now.publics }
     requires privates { length privates.now ≡ circuit.now.privates }
-    ensures { Evaluates F.ops F.number_of (checks_of F.ops F.number_of circuit.now.layers (inputs_of F.ops publics.now privates.now)) result }
+    ensures { Evaluates F.ops F.coding.number (checks_of F.ops F.coding.number circuit.now.layers (inputs_of F.ops publics.now privates.now)) result }
 {
     let mut values = Values::new(alloc, circuit)?;
     circuit.eval(publics, privates, &mut values);
@@ -77,7 +77,8 @@ fn eval_over<S: Shelf, F: Field>(
     private: &str,
     shelf: &mut S,
 ) -> Result<Ending, Halt>
-    ensures walks { Walks (EvalOver F.ops F.size F.number_of circuit.now public.now private.now) 1 (seen S.Shelf shelf.old) (seen S.Shelf shelf.new) result }
+    ensures walks { Walks (EvalOver F.ops F.coding.size F.coding.number circuit.now public.now private.now) 1 (seen S.Shelf shelf.old)
+        (seen S.Shelf shelf.new) result }
     ensures reads { OnlyReads (seen S.Shelf shelf.old) (seen S.Shelf shelf.new) }
 {
     let publics = read_elements::<S, F>(alloc, shelf, public, circuit.publics())?;

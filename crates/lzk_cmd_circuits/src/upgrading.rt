@@ -19,7 +19,7 @@ use std::thread::Threads;
 
 // The file of the circuit in version 2. It owns the circuit, so that no exit behind it drops one.
 fn bytes_over<F: Field>(alloc: Global, circuit: Circuit<F>) -> Result<Vec<u8>, AllocError>
-    ensures { IfOk result (λ bytes. IsFile F.ops F.number_of (shape F.ID F.BYTES F.size) (in_version_2 circuit) bytes.items) }
+    ensures { IfOk result (λ bytes. IsFile F.ops F.coding.number (shape F.coding.id F.coding.bytes F.coding.size) (in_version_2 circuit) bytes.items) }
 {
     let circuit = circuit.upgraded();
     encode(alloc, &circuit)

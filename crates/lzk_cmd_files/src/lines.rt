@@ -5,6 +5,7 @@ ghost use Rattle.std.specs.Option.{option_copied};
 ghost use Rattle.lzk_cmd_files.specs.Lines as lines;
 
 use lzk_circbytes::{ByteFault, ByteKind};
+use lzk_circuit::{MOST_IN_ALL, MOST_LAYERS, MOST_WIRES};
 use lzk_expr::{NumberFault, NumberKind, SourceFault, SourceKind};
 use lzk_level::LevelFault;
 use std::alloc::{AllocError, Global};
@@ -138,9 +139,9 @@ pub fn refuse_level(alloc: Global, name: &str, fault: LevelFault) -> Result<Stri
     ensures { IfOk result (λ s. string_bytes s ≡ lines.level_line name.now fault) }
 {
     match fault {
-        LevelFault::Layers(count) => tell_limit(alloc, name, "Layers", count, 512),
-        LevelFault::LayerWires(count) => tell_limit(alloc, name, "LayerWires", count, 131_072),
-        LevelFault::Terms(count) => tell_limit(alloc, name, "Terms", count, 2_097_152),
+        LevelFault::Layers(count) => tell_limit(alloc, name, "Layers", count, MOST_LAYERS),
+        LevelFault::LayerWires(count) => tell_limit(alloc, name, "LayerWires", count, MOST_WIRES),
+        LevelFault::Terms(count) => tell_limit(alloc, name, "Terms", count, MOST_IN_ALL),
     }
 }
 

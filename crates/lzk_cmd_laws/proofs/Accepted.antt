@@ -24,7 +24,7 @@ use Rattle.lzk_goldilocks.specs.Prime.{p}
 use Rattle.lzk_goldilocks.specs.declared.element.Gold.{Gold as GoldElement}
 use Rattle.lzk_gf128.specs.Elements as gf
 use Rattle.lzk_complete.specs.Complete.{Complete}
-use Rattle.lzk_honest.specs.Proving.{HaveCounts, words_of}
+use Rattle.lzk_complete.specs.Proving.{HaveCounts, words_of}
 use Rattle.lzk_outside.specs.Outside.{Files}
 use Rattle.lzk_sha_circuit.specs.Circuits.{MessagesSatisfy}
 use Rattle.lzk_sha_circuit.specs.Digest.{AreBytes}

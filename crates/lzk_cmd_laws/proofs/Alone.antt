@@ -18,7 +18,7 @@ use Rattle.lzk_field.specs.Ring.{Ops, Laws}
 use Rattle.lzk_goldilocks.specs.Prime.{p}
 use Rattle.lzk_goldilocks.specs.Elements as gold
 use Rattle.lzk_gf128.specs.Elements as gf
-use Rattle.lzk_honest.specs.Proving.{OneFile, words_of}
+use Rattle.lzk_complete.specs.Proving.{OneFile, words_of}
 use Rattle.lzk_field.specs.Words.{seeded_word}
 use Rattle.lzk_layout.specs.Fields.{shape}
 use Rattle.lzk_layout.specs.Sizes.{params_of}

@@ -31,7 +31,7 @@ use Rattle.lzk_level.specs.declared.fault.LevelFault.{LevelFault}
 use Rattle.lzk_level.specs.SomeCircuit.{IsCircuitOf, IsCircuitOfV2, HasSomeCircuit}
 use Rattle.lzk_level.proofs.SomeCircuits.{some_circuit}
 use Rattle.lzk_level.proofs.SomeCircuitsV2.{some_circuit_v2}
-use Rattle.lzk_honest.specs.Proving.{HaveCounts, SomeFile, FilesFit, words_of}
+use Rattle.lzk_complete.specs.Proving.{HaveCounts, SomeFile, FilesFit, words_of}
 use Rattle.lzk_outside.specs.Outside.{Files}
 use Rattle.lzk_sha_circuit.specs.Circuits.{SomeShaCircuit}
 use Rattle.lzk_sha_circuit.specs.Inputs.{sha_private}

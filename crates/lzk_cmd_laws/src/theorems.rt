@@ -4,11 +4,10 @@ ghost use Rattle.lzk_cmd_runs.specs.Accepted.{HashedIsAccepted, HashesAreSatisfi
 ghost use Rattle.lzk_cmd_runs.specs.OneEnd.{OneEnd};
 ghost use Rattle.lzk_cmd_runs.specs.SomeEnd.{SomeEnd};
 
-use lzk_complete::proofs_accepted;
+use lzk_complete::{proof_laws, proofs_accepted};
 use lzk_demo::demo_laws;
 use lzk_gf128::Gf128;
 use lzk_goldilocks::Gold;
-use lzk_honest::proof_laws;
 use lzk_sha_circuit::circuit_laws;
 
 /// Words, files and stop have one end, and have an end. The body does nothing.

@@ -7,7 +7,7 @@ use Rattle.lzk_circuit.specs.Wires.{inputs_of, IsFirstNonzero}
 use Rattle.lzk_field.specs.Coding.{Coding}
 use Rattle.lzk_field.specs.Ring.{Ops}
 use Rattle.lzk_field.specs.Words.{seeded_word}
-use Rattle.lzk_honest.specs.Proving.{IsProofFile, words_of}
+use Rattle.lzk_complete.specs.Proving.{IsProofFile, words_of}
 use Rattle.lzk_outside.specs.Outside.{Files}
 use Rattle.lzk_cmd_files.specs.declared.ending.Ending.{Ending}
 use Rattle.lzk_cmd_files.specs.declared.ending.Halt.{Halt}

@@ -9,7 +9,7 @@ use Rattle.lzk_demo.specs.Demo.{demo_tree, demo_public, demo_private}
 use Rattle.lzk_field.specs.Words.{seeded_word}
 use Rattle.lzk_goldilocks.specs.Elements as gold
 use Rattle.lzk_goldilocks.specs.declared.element.Gold.{Gold as GoldElement}
-use Rattle.lzk_honest.specs.Proving.{HaveCounts, IsProofFile, words_of}
+use Rattle.lzk_complete.specs.Proving.{HaveCounts, IsProofFile, words_of}
 use Rattle.lzk_verify.specs.declared.verdict.Verdict.{Verdict}
 use Rattle.lzk_verify.specs.declared.verdict.Verdict.TheVariants.{Accepted}
 use Rattle.lzk_verify.specs.Verdict.{IsVerdict}

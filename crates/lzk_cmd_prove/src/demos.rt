@@ -4,7 +4,6 @@ ghost use Rattle.std.specs.Prelude.{◌≡◌, ◌≤◌, IfOk, IsTrue, length};
 ghost use Rattle.lzk_circbytes.specs.Files.{id_of};
 ghost use Rattle.lzk_circuit.specs.Checks.{IsSatisfied};
 ghost use Rattle.lzk_circuit.specs.Wires.{inputs_of};
-ghost use Rattle.lzk_field.specs.Coding.{coding};
 ghost use Rattle.lzk_demo.specs.Demo.{demo_private, demo_public, demo_tree};
 ghost use Rattle.lzk_goldilocks.specs.Elements.{number, ops};
 ghost use Rattle.lzk_cmd_circuits.specs.Compiled.{Compiled};
@@ -55,14 +54,14 @@ fn judge_own_proof<F: Field, X: RowExtend<F>, R: Threads + Sync, G: Gate>(
     seed: [u8; 32],
     workers: usize,
 ) -> Result<(usize, Verdict<F>), AllocError>
-    requires id { id ≡ id_of (coding F.element F.number_of F.BYTES F.size F.ID) circuit.now }
+    requires id { id ≡ id_of F.coding circuit.now }
     requires works { works.old ≡ circuit.now }
     requires publics { length publics.now ≡ circuit.now.publics }
     requires privates { length privates.now ≡ circuit.now.privates }
-    requires satisfied { IsSatisfied F.ops F.number_of circuit.now.layers (inputs_of F.ops publics.now privates.now) }
+    requires satisfied { IsSatisfied F.ops F.coding.number circuit.now.layers (inputs_of F.ops publics.now privates.now) }
     requires some { 1 ≤ workers }
     requires most { workers ≤ 64 }
-    ensures { IfOk result (λ made. HasVerdict F.ops (coding F.element F.number_of F.BYTES F.size F.ID) circuit.now
+    ensures { IfOk result (λ made. HasVerdict F.ops F.coding circuit.now
         publics.now privates.now seed made.0 made.1) }
 {
     let words = Seeded::new(seed);
@@ -88,10 +87,10 @@ fn prove_and_verify<F: Field, X: RowExtend<F>, R: Threads + Sync, G: Gate>(
 ) -> Result<(usize, Verdict<F>), AllocError>
     requires publics { length publics.now ≡ circuit.now.publics }
     requires privates { length privates.now ≡ circuit.now.privates }
-    requires satisfied { IsSatisfied F.ops F.number_of circuit.now.layers (inputs_of F.ops publics.now privates.now) }
+    requires satisfied { IsSatisfied F.ops F.coding.number circuit.now.layers (inputs_of F.ops publics.now privates.now) }
     requires some { 1 ≤ workers }
     requires most { workers ≤ 64 }
-    ensures { IfOk result (λ made. HasVerdict F.ops (coding F.element F.number_of F.BYTES F.size F.ID) circuit.now
+    ensures { IfOk result (λ made. HasVerdict F.ops F.coding circuit.now
         publics.now privates.now seed made.0 made.1) }
 {
     let id = id(means.alloc, circuit)?;

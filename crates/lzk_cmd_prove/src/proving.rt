@@ -3,8 +3,7 @@
 ghost use Rattle.std.specs.Prelude.{◌≡◌, ◌≤◌, ℕ, List, None, length, IfOk};
 ghost use Rattle.std.specs.Option.{option_copied};
 ghost use Rattle.lzk_circbytes.specs.Files.{id_of, id_of_any};
-ghost use Rattle.lzk_field.specs.Coding.{coding};
-ghost use Rattle.lzk_honest.specs.Proving.{IsProofFile};
+ghost use Rattle.lzk_complete.specs.Proving.{IsProofFile};
 ghost use Rattle.lzk_cmd_files.specs.Decoded.{proof_limit};
 ghost use Rattle.lzk_cmd_runs.specs.Proved.{Proves, ProveOver, ProveAny, ProveRun, nonzero_end};
 ghost use Rattle.lzk_cmd_files.specs.Seen.{seen};
@@ -16,10 +15,10 @@ use lzk_circbytes::AnyCircuit;
 use lzk_circuit::Circuit;
 use lzk_cmd_files::{Ending, Halt, Means, lines, put_file, read_elements, read_held};
 use lzk_cmd_words::{Order, seed_bytes, session_bytes, workers_of};
+use lzk_complete::proof_laws;
 use lzk_field::{Field, Gate, Seeded};
 use lzk_gf128::Gf128;
 use lzk_goldilocks::Gold;
-use lzk_honest::proof_laws;
 use lzk_ligero::{Unsatisfied, WorksOver};
 use lzk_ntt::NttExtender;
 use lzk_outside::Shelf;
@@ -42,7 +41,7 @@ pub struct Job<'a> {
 
 // How a run ends that has this check.
 fn unsatisfied<F: Field>(alloc: Global, first: Unsatisfied<&F>) -> Result<Ending, AllocError>
-    ensures { IfOk result (IsEnding (nonzero_end F.number_of (first.entry.output, first.entry.value.now))) }
+    ensures { IfOk result (IsEnding (nonzero_end F.coding.number (first.entry.output, first.entry.value.now))) }
 {
     let text = lines::tell_nonzero(alloc, first.output, first.value.number())?;
     Ok(Ending { status: 1, text })
@@ -51,7 +50,7 @@ fn unsatisfied<F: Field>(alloc: Global, first: Unsatisfied<&F>) -> Result<Ending
 // A circuit's proofs are within their limit. The body does nothing.
 fn proofs_fit<F: Field>(circuit: &Circuit<F>)
     ensures { (session : List ℕ) (public private : List F) (word : ℕ → ℕ) (bytes : List ℕ)
-        → IsProofFile F.ops (coding F.element F.number_of F.BYTES F.size F.ID) circuit.now session public private word bytes → length bytes ≤ proof_limit }
+        → IsProofFile F.ops F.coding circuit.now session public private word bytes → length bytes ≤ proof_limit }
 {
     proof_laws::<F>();
     let _depth = circuit.depth();
@@ -73,7 +72,7 @@ fn put_proof<F: Field, X: RowExtend<F>, R: Threads + Sync, S: Shelf, G: Gate>(
     requires session { length job.now.session.now ≤ 64 }
     requires some { 1 ≤ job.now.workers }
     requires most { job.now.workers ≤ 64 }
-    ensures walks { WalksToPut (λ files. Proves F.ops (coding F.element F.number_of F.BYTES F.size F.ID) circuit.now
+    ensures walks { WalksToPut (λ files. Proves F.ops F.coding circuit.now
         job.now.proof.now (option_copied job.now.digest) job.now.session.now job.now.seed publics.now privates.now) 3
         (seen S.Shelf shelf.old) (seen S.Shelf shelf.new) result }
     ensures moves { Moves (seen S.Shelf shelf.old) (seen S.Shelf shelf.new) }
@@ -108,11 +107,11 @@ pub fn prove_inputs<F: Field, X: RowExtend<F>, R: Threads + Sync, S: Shelf, G: G
 ) -> Result<Ending, Halt>
     requires publics { length publics.now ≡ circuit.now.publics }
     requires privates { length privates.now ≡ circuit.now.privates }
-    requires id { job.now.id ≡ id_of (coding F.element F.number_of F.BYTES F.size F.ID) circuit.now }
+    requires id { job.now.id ≡ id_of F.coding circuit.now }
     requires session { length job.now.session.now ≤ 64 }
     requires some { 1 ≤ job.now.workers }
     requires most { job.now.workers ≤ 64 }
-    ensures walks { WalksToPut (λ files. Proves F.ops (coding F.element F.number_of F.BYTES F.size F.ID) circuit.now
+    ensures walks { WalksToPut (λ files. Proves F.ops F.coding circuit.now
         job.now.proof.now (option_copied job.now.digest) job.now.session.now job.now.seed publics.now privates.now) 3
         (seen S.Shelf shelf.old) (seen S.Shelf shelf.new) result }
     ensures moves { Moves (seen S.Shelf shelf.old) (seen S.Shelf shelf.new) }
@@ -134,12 +133,12 @@ fn prove_over<F: Field, X: RowExtend<F>, R: Threads + Sync, S: Shelf, G: Gate>(
     job: &Job<'_>,
     shelf: &mut S,
 ) -> Result<Ending, Halt>
-    requires id { job.now.id ≡ id_of (coding F.element F.number_of F.BYTES F.size F.ID) circuit.now }
+    requires id { job.now.id ≡ id_of F.coding circuit.now }
     requires digest { option_copied job.now.digest ≡ None }
     requires session { length job.now.session.now ≤ 64 }
     requires some { 1 ≤ job.now.workers }
     requires most { job.now.workers ≤ 64 }
-    ensures walks { WalksToPut (ProveOver F.ops (coding F.element F.number_of F.BYTES F.size F.ID) circuit.now
+    ensures walks { WalksToPut (ProveOver F.ops F.coding circuit.now
         public.now private.now job.now.proof.now job.now.session.now job.now.seed) 1
         (seen S.Shelf shelf.old) (seen S.Shelf shelf.new) result }
     ensures moves { Moves (seen S.Shelf shelf.old) (seen S.Shelf shelf.new) }

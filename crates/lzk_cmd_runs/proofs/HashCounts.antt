@@ -8,7 +8,7 @@ use Rattle.sha2.specs.Sha256.{sha256, word_at}
 use Rattle.lzk_circuit.specs.Valid.{Wiring}
 use Rattle.lzk_goldilocks.specs.declared.element.Gold.{Gold as GoldElement}
 use Rattle.lzk_goldilocks.specs.Elements as gold
-use Rattle.lzk_honest.specs.Proving.{HaveCounts}
+use Rattle.lzk_complete.specs.Proving.{HaveCounts}
 use Rattle.lzk_sha_circuit.specs.Digest.{digest_words}
 use Rattle.lzk_sha_circuit.specs.Inputs.{sha_private}
 use Rattle.lzk_sha_circuit.specs.Places.{private_count}

@@ -8,7 +8,7 @@ use Rattle.lzk_field.specs.Ring.{Ops}
 use Rattle.lzk_field.specs.Words.{seeded_word}
 use Rattle.lzk_goldilocks.specs.declared.element.Gold.{Gold as GoldElement}
 use Rattle.lzk_goldilocks.specs.Elements as gold
-use Rattle.lzk_honest.specs.Proving.{IsProofFile, words_of}
+use Rattle.lzk_complete.specs.Proving.{IsProofFile, words_of}
 use Rattle.lzk_outside.specs.Outside.{Files}
 use Rattle.lzk_verify.specs.declared.verdict.Verdict.{Verdict}
 use Rattle.lzk_verify.specs.declared.verdict.Verdict.TheVariants.{Accepted}

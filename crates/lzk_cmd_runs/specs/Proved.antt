@@ -10,7 +10,7 @@ use Rattle.lzk_field.specs.Ring.{Ops}
 use Rattle.lzk_field.specs.Words.{seeded_word}
 use Rattle.lzk_goldilocks.specs.Elements as gold
 use Rattle.lzk_gf128.specs.Elements as gf
-use Rattle.lzk_honest.specs.Proving.{IsProofFile, words_of}
+use Rattle.lzk_complete.specs.Proving.{IsProofFile, words_of}
 use Rattle.lzk_outside.specs.Outside.{Files}
 use Rattle.lzk_cmd_files.specs.Decoded.{circuit_files, number_files, proof_limit}
 use Rattle.lzk_cmd_files.specs.Ends.{End, says, Stop, puts}

@@ -1,7 +1,6 @@
 //! Reading a whole file in pieces, which a desk is fed.
 
 ghost use Rattle.std.specs.Prelude.{◌≡◌, ◌<◌, ◌≤◌, ◌^◌, true, length};
-ghost use Rattle.lzk_field.specs.Coding.{coding};
 ghost use Rattle.lzk_verify.specs.Kept as kept;
 ghost use Rattle.lzk_cmd_verify.specs.Feeding.{Feeds, FeedsOrEnds};
 ghost use Rattle.lzk_cmd_files.specs.Seen.{seen, ReadFailed, Missed};
@@ -29,7 +28,7 @@ pub fn feed_file<S: Shelf, F: Field>(
     requires some { 0 < length buffer.old }
     requires few { length buffer.old ≤ 65536 }
     requires fed { kept.is_fed desk.old ≡ true }
-    ensures told { Feeds F.ops (coding F.element F.number_of F.BYTES F.size F.ID) (S.held shelf.old) name.now limit desk.old desk.new result }
+    ensures told { Feeds F.ops F.coding (S.held shelf.old) name.now limit desk.old desk.new result }
     ensures fed { kept.is_fed desk.new ≡ true }
     ensures circuit { desk.new.circuit ≡ desk.old.circuit }
     ensures reads { OnlyReads (seen S.Shelf shelf.old) (seen S.Shelf shelf.new) }
@@ -61,7 +60,7 @@ pub fn feed_proof<S: Shelf, F: Field>(
     desk: &mut Desk<'_, F>,
 ) -> Result<(), Halt>
     requires fed { kept.is_fed desk.old ≡ true }
-    ensures gives { FeedsOrEnds F.ops (coding F.element F.number_of F.BYTES F.size F.ID)
+    ensures gives { FeedsOrEnds F.ops F.coding
         (seen S.Shelf shelf.old) (seen S.Shelf shelf.new) name.now desk.old desk.new result }
     ensures fed { kept.is_fed desk.new ≡ true }
     ensures circuit { desk.new.circuit ≡ desk.old.circuit }

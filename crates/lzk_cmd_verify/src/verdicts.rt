@@ -57,7 +57,7 @@ fn tell_column(alloc: Global, name: &str, column: u32) -> Result<String, AllocEr
 }
 
 fn tell_verdict<F: Field>(alloc: Global, verdict: &Verdict<F>) -> Result<String, AllocError>
-    ensures { IfOk result (λ s. string_bytes s ≡ verdict_line F.number_of verdict.now) }
+    ensures { IfOk result (λ s. string_bytes s ≡ verdict_line F.coding.number verdict.now) }
 {
     match verdict {
         Verdict::Accepted => "accepted\n".to_string(alloc),
@@ -87,7 +87,7 @@ fn status_of<F: Field>(verdict: &Verdict<F>) -> u8
 
 /// How a run ends that tells a verdict.
 pub fn ending_of<F: Field>(alloc: Global, verdict: &Verdict<F>) -> Result<Ending, AllocError>
-    ensures { IfOk result (IsEnding (verdict_end F.number_of verdict.now)) }
+    ensures { IfOk result (IsEnding (verdict_end F.coding.number verdict.now)) }
 {
     let text = tell_verdict(alloc, verdict)?;
     Ok(Ending {

@@ -3,7 +3,6 @@
 ghost use Rattle.std.specs.Prelude.{◌≡◌, ◌≤◌, [], length, IfOk};
 ghost use Rattle.std.specs.Option.{option_copied};
 ghost use Rattle.lzk_circbytes.specs.Files.{id_of, id_of_any};
-ghost use Rattle.lzk_field.specs.Coding.{coding};
 ghost use Rattle.lzk_verify.specs.Verdict.{IsOnlyVerdict, IsVerdict};
 ghost use Rattle.lzk_cmd_verify.specs.Feeding.{JudgesFile};
 ghost use Rattle.lzk_cmd_files.specs.Seen.{seen};
@@ -35,7 +34,7 @@ fn judge_by<S: Shelf, F: Field>(
 ) -> Result<Ending, Halt>
     requires session { length session.now ≤ 64 }
     requires publics { length publics.now ≡ desk.old.circuit.publics }
-    ensures walks { Walks (JudgesFile F.ops (coding F.element F.number_of F.BYTES F.size F.ID) desk.old.circuit session.now publics.now proof.now) 2
+    ensures walks { Walks (JudgesFile F.ops F.coding desk.old.circuit session.now publics.now proof.now) 2
         (seen S.Shelf shelf.old) (seen S.Shelf shelf.new) result }
     ensures reads { OnlyReads (seen S.Shelf shelf.old) (seen S.Shelf shelf.new) }
 {
@@ -55,10 +54,10 @@ fn judge_file<S: Shelf, F: Field>(
     proof: &str,
     shelf: &mut S,
 ) -> Result<Ending, Halt>
-    requires id { id ≡ id_of (coding F.element F.number_of F.BYTES F.size F.ID) circuit.now }
+    requires id { id ≡ id_of F.coding circuit.now }
     requires session { length session.now ≤ 64 }
     requires publics { length publics.now ≡ circuit.now.publics }
-    ensures walks { Walks (JudgesFile F.ops (coding F.element F.number_of F.BYTES F.size F.ID) circuit.now session.now publics.now proof.now) 2
+    ensures walks { Walks (JudgesFile F.ops F.coding circuit.now session.now publics.now proof.now) 2
         (seen S.Shelf shelf.old) (seen S.Shelf shelf.new) result }
     ensures reads { OnlyReads (seen S.Shelf shelf.old) (seen S.Shelf shelf.new) }
 {
@@ -76,10 +75,10 @@ pub fn verdict_on<F: Field>(
     publics: &[F],
     bytes: &[u8],
 ) -> Result<Verdict<F>, AllocError>
-    requires id { id ≡ id_of (coding F.element F.number_of F.BYTES F.size F.ID) circuit.now }
+    requires id { id ≡ id_of F.coding circuit.now }
     requires publics { length publics.now ≡ circuit.now.publics }
-    ensures verdict { IfOk result (IsVerdict F.ops (coding F.element F.number_of F.BYTES F.size F.ID) circuit.now [] publics.now bytes.now) }
-    ensures one { IfOk result (IsOnlyVerdict F.ops (coding F.element F.number_of F.BYTES F.size F.ID) circuit.now [] publics.now bytes.now) }
+    ensures verdict { IfOk result (IsVerdict F.ops F.coding circuit.now [] publics.now bytes.now) }
+    ensures one { IfOk result (IsOnlyVerdict F.ops F.coding circuit.now [] publics.now bytes.now) }
 {
     let mut desk = Desk::with_id(alloc, circuit, id)?;
     let verdict = desk.verify(b"", publics, bytes);
@@ -97,9 +96,9 @@ fn verify_over<S: Shelf, F: Field>(
     session: &[u8],
     shelf: &mut S,
 ) -> Result<Ending, Halt>
-    requires id { id ≡ id_of (coding F.element F.number_of F.BYTES F.size F.ID) circuit.now }
+    requires id { id ≡ id_of F.coding circuit.now }
     requires session { length session.now ≤ 64 }
-    ensures walks { Walks (VerifyOver F.ops (coding F.element F.number_of F.BYTES F.size F.ID) circuit.now public.now proof.now session.now) 1
+    ensures walks { Walks (VerifyOver F.ops F.coding circuit.now public.now proof.now session.now) 1
         (seen S.Shelf shelf.old) (seen S.Shelf shelf.new) result }
     ensures reads { OnlyReads (seen S.Shelf shelf.old) (seen S.Shelf shelf.new) }
 {

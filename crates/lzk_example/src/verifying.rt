@@ -1,7 +1,6 @@
 //! Verify.
 
 ghost use Rattle.std.specs.Prelude.{◌≡◌, ◌≤◌, length};
-ghost use Rattle.lzk_field.specs.Coding.{coding};
 ghost use Rattle.lzk_verify.specs.Verdict.{IsVerdict};
 
 use lzk::{Field, Verdict, Verifier};
@@ -15,7 +14,7 @@ pub fn verify_whole<F: Field>(
 ) -> Verdict<F>
     requires session { length session.now ≤ 64 }
     requires public { length public.now ≡ verifier.old.circuit.publics }
-    ensures verdict { IsVerdict F.ops (coding F.element F.number_of F.BYTES F.size F.ID) verifier.old.circuit session.now public.now proof.now result }
+    ensures verdict { IsVerdict F.ops F.coding verifier.old.circuit session.now public.now proof.now result }
     ensures circuit { verifier.new.circuit ≡ verifier.old.circuit }
 {
     verifier.verify(session, public, proof)

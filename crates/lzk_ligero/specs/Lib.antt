@@ -4,7 +4,6 @@ pub mod Parts
 pub mod Rooms
 pub use Rattle.lzk_tableau.specs as lzk_tableau
 pub use Rattle.lzk_answers.specs as lzk_answers
-pub use Rattle.lzk_honest.specs as lzk_honest
-pub use Rattle.lzk_verify.specs as lzk_verify
 pub use Rattle.lzk_complete.specs as lzk_complete
+pub use Rattle.lzk_verify.specs as lzk_verify
 pub mod Statements

@@ -18,7 +18,7 @@ use crate::statement::Statement;
 use lzk_accept::{Challenges, Factored, combine_with_bounds};
 use lzk_answers::{linear_by_factors_into, low_degree_into, quadratic_into};
 use lzk_field::Field;
-use lzk_layout::{Elements, Params};
+use lzk_layout::{BLINDS, Elements, Params};
 use lzk_poly::RowExtend;
 use lzk_sumcheck::Script;
 
@@ -37,8 +37,8 @@ pub(crate) fn answer_low_degree<F: Field>(
     requires answer { length answer.old ≡ params.now.block }
     ensures room { length room.new ≡ length room.old }
     ensures answer { length answer.new ≡ params.now.block }
-    ensures values { (rows : List (List F)) → length rows ≡ params.now.nrow → IsTableOf F.ops F.element params.now.ncol rows table.now →
-        answer.new ≡ values_of F.ops F.element params.now.block (low_degree_answer F.ops F.element params.now rows u.now) }
+    ensures values { (rows : List (List F)) → length rows ≡ params.now.nrow → IsTableOf F.ops F.coding.element params.now.ncol rows table.now →
+        answer.new ≡ values_of F.ops F.coding.element params.now.block (low_degree_answer F.ops F.coding.element params.now rows u.now) }
 {
     low_degree_into(
         params,
@@ -61,7 +61,7 @@ fn set_ends<F: Field>(params: &Params, all: &[F], head: &mut Elements<F>, tail: 
     ensures head { head.new ≡ take 128 all.now }
     ensures tail { tail.new ≡ drop params.now.block all.now }
 {
-    let (front, _) = all.split_at(128);
+    let (front, _) = all.split_at(BLINDS);
     head.as_mut_slice().copy_from_slice(front);
     let (_, back) = all.split_at(params.block as usize);
     tail.as_mut_slice().copy_from_slice(back);
@@ -85,10 +85,10 @@ pub(crate) fn answer_quadratic<F: Field>(
     ensures room { length values.new ≡ params.now.dblock }
     ensures head_length { length head.new ≡ 128 }
     ensures tail_length { length tail.new ≡ params.now.dblock - params.now.block }
-    ensures head { (rows : List (List F)) → length rows ≡ params.now.nrow → IsTableOf F.ops F.element params.now.ncol rows table.now →
-        head.new ≡ take 128 (values_of F.ops F.element params.now.dblock (quadratic_answer F.ops F.element params.now rows v.now)) }
-    ensures tail { (rows : List (List F)) → length rows ≡ params.now.nrow → IsTableOf F.ops F.element params.now.ncol rows table.now →
-        tail.new ≡ drop params.now.block (values_of F.ops F.element params.now.dblock (quadratic_answer F.ops F.element params.now rows v.now)) }
+    ensures head { (rows : List (List F)) → length rows ≡ params.now.nrow → IsTableOf F.ops F.coding.element params.now.ncol rows table.now →
+        head.new ≡ take 128 (values_of F.ops F.coding.element params.now.dblock (quadratic_answer F.ops F.coding.element params.now rows v.now)) }
+    ensures tail { (rows : List (List F)) → length rows ≡ params.now.nrow → IsTableOf F.ops F.coding.element params.now.ncol rows table.now →
+        tail.new ≡ drop params.now.block (values_of F.ops F.coding.element params.now.dblock (quadratic_answer F.ops F.coding.element params.now rows v.now)) }
 {
     quadratic_into(
         params,
@@ -120,10 +120,11 @@ fn answer_by_factors<F: Field, X: RowExtend<F>>(
     requires answer { length answer.old ≡ params.now.dblock }
     ensures room { length room.new ≡ length room.old }
     ensures answer { length answer.new ≡ params.now.dblock }
-    ensures values { (rows : List (List F)) (lists : ℕ → List F) → length rows ≡ params.now.nrow → IsTableOf F.ops F.element params.now.ncol rows table.now →
+    ensures values { (rows : List (List F)) (lists : ℕ → List F) → length rows ≡ params.now.nrow →
+        IsTableOf F.ops F.coding.element params.now.ncol rows table.now →
         AreFactored F.ops params.now factored.now.rows 4 factored.now.row_factors factored.now.place_factors lists →
         AreListed F.ops params.now factored.now.rows factored.now.table lists →
-        answer.new ≡ values_of F.ops F.element params.now.dblock (linear_answer F.ops F.element params.now rows lists) }
+        answer.new ≡ values_of F.ops F.coding.element params.now.dblock (linear_answer F.ops F.coding.element params.now rows lists) }
 {
     linear_by_factors_into(
         params,
@@ -163,9 +164,9 @@ pub(crate) fn answer_linear<F: Field, X: RowExtend<F>>(
     ensures room { IsRoomFor F.ops statement.now.circuit.now statement.now.params.now (X.rooms extender.now) room.new }
     ensures answer { length answer.new ≡ statement.now.params.now.dblock }
     ensures values { let s = statement.now in let p = s.params.now in
-        (rows : List (List F)) → length rows ≡ p.nrow → IsTableOf F.ops F.element p.ncol rows table.now →
-        answer.new ≡ values_of F.ops F.element p.dblock (linear_answer F.ops F.element p rows
-        (combined_row_of F.ops F.element s.circuit.now s.public.now script.now messages.now challenges.now)) }
+        (rows : List (List F)) → length rows ≡ p.nrow → IsTableOf F.ops F.coding.element p.ncol rows table.now →
+        answer.new ≡ values_of F.ops F.coding.element p.dblock (linear_answer F.ops F.coding.element p rows
+        (combined_row_of F.ops F.coding.element s.circuit.now s.public.now script.now messages.now challenges.now)) }
 {
     combine_with_bounds(
         statement.circuit,

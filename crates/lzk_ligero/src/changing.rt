@@ -4,13 +4,13 @@ ghost use Rattle.std.specs.Prelude.{◌≡◌, ◌-◌, ◌<◌, List, length, t
 ghost use Rattle.lzk_layout.specs.Proofs.{HasLengths};
 ghost use Rattle.lzk_layout.specs.Sizes.{AreBounded};
 ghost use Rattle.lzk_answers.specs.Answers.{changed};
-ghost use Rattle.lzk_honest.specs.Answered.{Answers, AreSent};
-ghost use Rattle.lzk_honest.specs.Changed.{IsSentPlace};
-ghost use Rattle.lzk_honest.specs.declared.answer.Answer.TheVariants.{Quad};
+ghost use Rattle.lzk_complete.specs.Answered.{Answers, AreSent};
+ghost use Rattle.lzk_complete.specs.Changed.{IsSentPlace};
+ghost use Rattle.lzk_complete.specs.declared.answer.Answer.TheVariants.{Quad};
 ghost use Rattle.lzk_ligero.specs.Changes.{change_of, IsChangeOf};
 
+use lzk_complete::Answer;
 use lzk_field::Field;
-use lzk_honest::Answer;
 use lzk_layout::{Elements, Params, Proof};
 
 /// What is added to which value of which answer.

@@ -1,7 +1,6 @@
 //! Commitment to the rows.
 
 ghost use Rattle.std.specs.Prelude.{◌≡◌, ℕ, ◌≤◌, length};
-ghost use Rattle.lzk_field.specs.Coding.{coding};
 ghost use Rattle.lzk_merkle.specs.Nodes.{tree_node};
 ghost use Rattle.lzk_merkle.specs.Tree.{IsBuilt};
 ghost use Rattle.lzk_layout.specs.Sizes.{params_of};
@@ -37,14 +36,11 @@ pub(crate) fn commit<R: Threads + Sync, F: Field, W: Words, X: RowExtend<F>, G: 
     requires leaves { length tree.old.leaves ≡ (params_of circuit.now).mcol }
     requires some_workers { 1 ≤ workers }
     requires few_workers { workers ≤ 64 }
-    ensures root { let e = coding F.element F.number_of F.BYTES F.size F.ID in
-        result ≡ tree_node (params_of circuit.now).mcol (spec.leaves F.ops e circuit.now private.now (low_words (W.at words.now))) 1 }
-    ensures pads { let e = coding F.element F.number_of F.BYTES F.size F.ID in
-        tableau.new.pads ≡ randoms F.ops e (low_words (W.at words.now)) 0 (params_of circuit.now).nsum }
-    ensures rows { let e = coding F.element F.number_of F.BYTES F.size F.ID in
-        IsTable F.ops F.element (params_of circuit.now).ncol (spec.tableau F.ops e circuit.now private.now (low_words (W.at words.now))) tableau.new.rows }
-    ensures leaves { let e = coding F.element F.number_of F.BYTES F.size F.ID in
-        tree.new.leaves ≡ spec.leaves F.ops e circuit.now private.now (low_words (W.at words.now)) }
+    ensures root { result ≡ tree_node (params_of circuit.now).mcol (spec.leaves F.ops F.coding circuit.now private.now (low_words (W.at words.now))) 1 }
+    ensures pads { tableau.new.pads ≡ randoms F.ops F.coding (low_words (W.at words.now)) 0 (params_of circuit.now).nsum }
+    ensures rows { IsTable F.ops F.coding.element (params_of circuit.now).ncol
+        (spec.tableau F.ops F.coding circuit.now private.now (low_words (W.at words.now))) tableau.new.rows }
+    ensures leaves { tree.new.leaves ≡ spec.leaves F.ops F.coding circuit.now private.now (low_words (W.at words.now)) }
     ensures count { length tree.new.leaves ≡ (params_of circuit.now).mcol }
     ensures built { IsBuilt tree.new }
     ensures made { IsTableOf circuit.now tableau.new }

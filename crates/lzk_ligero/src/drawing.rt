@@ -1,7 +1,6 @@
 //! What is written to the tape, and what the tape gives.
 
 ghost use Rattle.std.specs.Prelude.{◌≡◌, ◌≤◌, length};
-ghost use Rattle.lzk_field.specs.Coding.{coding};
 ghost use Rattle.lzk_merkle.specs.Nodes.{AreOpened};
 ghost use Rattle.lzk_layout.specs.Sizes.{AreBounded, sent_counts};
 ghost use Rattle.lzk_transcript.specs.Columns.{after_draws};
@@ -18,26 +17,21 @@ use crate::statement::Statement;
 use lzk_accept::{Challenges, draw_challenges};
 use lzk_field::Field;
 use lzk_layout::{Elements, Params, Proof};
-use lzk_sumcheck::{Rounds, Script, prove_layers};
+use lzk_sumcheck::{Rounds, Script, draw_opened, prove_layers, public_tape};
 use lzk_transcript::Tape;
 use std::marker::Sync;
 use std::thread::Threads;
 
 /// The new tape with `lzk1`, the session, the circuit's id, the public inputs and the root written.
-#[tactic(auto, unfolding(lzk_sumcheck::specs::Opening::public_tape))]
 pub(crate) fn open_tape<F: Field>(
     session: &[u8],
     id: &[u8; 32],
     public: &[F],
     root: &[u8; 32],
 ) -> Tape
-    ensures { result ≡ opening (coding F.element F.number_of F.BYTES F.size F.ID) session.now id.now public.now root.now }
+    ensures { result ≡ opening F.coding session.now id.now public.now root.now }
 {
-    let mut tape = Tape::new();
-    tape.bytes(b"lzk1");
-    tape.bytes(session);
-    tape.bytes(id);
-    tape.array(public);
+    let mut tape = public_tape(session, id, public);
     tape.bytes(root);
     tape
 }
@@ -62,15 +56,12 @@ pub(crate) fn send<R: Threads + Sync, F: Field>(
     requires messages { length messages.old ≡ sent_counts statement.now.circuit.now }
     requires script { sumcheck.HasShape statement.now.circuit.now script.old }
     requires challenges { spec.HasShape statement.now.params.now challenges.old }
-    ensures messages { let e = coding F.element F.number_of F.BYTES F.size F.ID in
-        AreMessages F.ops e statement.now.circuit.now statement.now.values.now.wires pads.now tape.old messages.new }
-    ensures script { let e = coding F.element F.number_of F.BYTES F.size F.ID in
-        script.new ≡ sumcheck.script F.ops e messages.new statement.now.circuit.now tape.old }
-    ensures challenges { let e = coding F.element F.number_of F.BYTES F.size F.ID in
+    ensures messages { AreMessages F.ops F.coding statement.now.circuit.now statement.now.values.now.wires pads.now tape.old messages.new }
+    ensures script { script.new ≡ sumcheck.script F.ops F.coding messages.new statement.now.circuit.now tape.old }
+    ensures challenges { let e = F.coding in
         challenges.new ≡ spec.challenges e statement.now.params.now (sumcheck.after_script F.ops e messages.new statement.now.circuit.now tape.old) }
-    ensures tape { let e = coding F.element F.number_of F.BYTES F.size F.ID in
-        tape.new ≡ after_draws (challenge_count statement.now.params.now)
-        (sumcheck.after_script F.ops e messages.new statement.now.circuit.now tape.old) }
+    ensures tape { tape.new ≡ after_draws (challenge_count statement.now.params.now)
+        (sumcheck.after_script F.ops F.coding messages.new statement.now.circuit.now tape.old) }
     ensures script_shape { sumcheck.HasShape statement.now.circuit.now script.new }
     ensures challenges_shape { spec.HasShape statement.now.params.now challenges.new }
     ensures room { IsRoomOf statement.now.circuit.now rounds.new }
@@ -91,7 +82,7 @@ pub(crate) fn send<R: Threads + Sync, F: Field>(
 }
 
 /// Writes the answers, and draws the columns that are opened.
-pub(crate) fn draw_opened<F: Field>(
+pub(crate) fn draw_columns<F: Field>(
     params: &Params,
     tape: &mut Tape,
     proof: &Proof<F>,
@@ -99,13 +90,13 @@ pub(crate) fn draw_opened<F: Field>(
 )
     requires bounded { AreBounded params.now }
     requires room { length columns.old ≡ 128 }
-    ensures columns { columns.new ≡ spec.columns (coding F.element F.number_of F.BYTES F.size F.ID) params.now proof.now tape.old }
+    ensures columns { columns.new ≡ spec.columns F.coding params.now proof.now tape.old }
     ensures opened { AreOpened params.now.mcol columns.new }
     ensures room { length columns.new ≡ 128 }
 {
-    tape.array(proof.ldt.as_slice());
-    tape.array(proof.dot.as_slice());
-    tape.array(proof.quad_head.as_slice());
-    tape.array(proof.quad_tail.as_slice());
-    tape.draw_columns(params.mcol, columns);
+    let low_degree = proof.ldt.as_slice();
+    let linear = proof.dot.as_slice();
+    let head = proof.quad_head.as_slice();
+    let tail = proof.quad_tail.as_slice();
+    draw_opened(params.mcol, low_degree, linear, head, tail, tape, columns);
 }

@@ -26,5 +26,5 @@ mod statement;
 mod works;
 mod writing;
 
-pub use lzk_honest::Answer;
+pub use lzk_complete::Answer;
 pub use works::{Unsatisfied, WorksOver};

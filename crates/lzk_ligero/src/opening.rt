@@ -2,7 +2,6 @@
 
 ghost use Rattle.std.specs.Prelude.{◌≡◌, ◌*◌, ◌≤◌, ◌<◌, ℕ, List, length, map, slice_index};
 ghost use Rattle.std.specs.List.{flat_map};
-ghost use Rattle.lzk_field.specs.Coding.{coding};
 ghost use Rattle.lzk_circuit.specs.Valid.{Wiring};
 ghost use Rattle.lzk_layout.specs.Sizes.{params_of};
 ghost use Rattle.lzk_merkle.specs.Nodes.{AreOpened, tree_node, path_nodes, needed};
@@ -26,8 +25,8 @@ fn write_nonces<F: Field, W: Words>(
     requires below { (k : ℕ) → k < length columns.now → slice_index columns.now k < tableau.now.params.mcol }
     requires room { length nonces.old ≡ length columns.now }
     ensures room { length nonces.new ≡ length columns.now }
-    ensures nonces { let e = coding F.element F.number_of F.BYTES F.size F.ID in (c : Wiring F) (private : List F) → tableau.now.params ≡ params_of c →
-        nonces.new ≡ map (spec.nonce F.ops e c private (low_words (W.at words.now))) columns.now }
+    ensures nonces { (c : Wiring F) (private : List F) → tableau.now.params ≡ params_of c →
+        nonces.new ≡ map (spec.nonce F.ops F.coding c private (low_words (W.at words.now))) columns.now }
 {
     let Some((&j, others)) = columns.split_first() else {
         return;
@@ -45,9 +44,9 @@ fn write_columns<F: Field>(tableau: &Tableau<F>, rows: usize, columns: &[u32], o
     requires rows { rows ≡ tableau.now.params.nrow }
     requires room { length out.old ≡ length columns.now * rows }
     ensures room { length out.new ≡ length columns.now * rows }
-    ensures columns { let e = coding F.element F.number_of F.BYTES F.size F.ID in (c : Wiring F) (private : List F) (word : ℕ → ℕ) →
+    ensures columns { let e = F.coding in (c : Wiring F) (private : List F) (word : ℕ → ℕ) →
         tableau.now.params ≡ params_of c →
-        IsTable F.ops F.element (params_of c).ncol (spec.tableau F.ops e c private word) tableau.now.rows →
+        IsTable F.ops F.coding.element (params_of c).ncol (spec.tableau F.ops e c private word) tableau.now.rows →
         out.new ≡ flat_map (spec.column F.ops e c private word) columns.now }
 {
     let Some((&j, others)) = columns.split_first() else {
@@ -73,11 +72,11 @@ pub(crate) fn open_columns<F: Field, W: Words>(
     requires column_room { length out.old ≡ length columns.now * rows }
     ensures nonce_room { length nonces.new ≡ length columns.now }
     ensures column_room { length out.new ≡ length columns.now * rows }
-    ensures nonces { let e = coding F.element F.number_of F.BYTES F.size F.ID in (c : Wiring F) (private : List F) → tableau.now.params ≡ params_of c →
-        nonces.new ≡ map (spec.nonce F.ops e c private (low_words (W.at words.now))) columns.now }
-    ensures columns { let e = coding F.element F.number_of F.BYTES F.size F.ID in (c : Wiring F) (private : List F) (word : ℕ → ℕ) →
+    ensures nonces { (c : Wiring F) (private : List F) → tableau.now.params ≡ params_of c →
+        nonces.new ≡ map (spec.nonce F.ops F.coding c private (low_words (W.at words.now))) columns.now }
+    ensures columns { let e = F.coding in (c : Wiring F) (private : List F) (word : ℕ → ℕ) →
         tableau.now.params ≡ params_of c →
-        IsTable F.ops F.element (params_of c).ncol (spec.tableau F.ops e c private word) tableau.now.rows →
+        IsTable F.ops F.coding.element (params_of c).ncol (spec.tableau F.ops e c private word) tableau.now.rows →
         out.new ≡ flat_map (spec.column F.ops e c private word) columns.now }
 {
     write_nonces(tableau, words, columns, nonces.as_mut_slice());

@@ -2,7 +2,6 @@
 
 ghost use Rattle.std.specs.Prelude.{◌≡◌, IfOk};
 ghost use Rattle.lzk_circbytes.specs.Files.{id_of};
-ghost use Rattle.lzk_field.specs.Coding.{coding};
 ghost use Rattle.lzk_layout.specs.Sizes.{AreBounded, AreParams, params_of};
 ghost use Rattle.lzk_ligero.specs.Parts.{AreExtendersFor, IsCommittedFor, IsAnsweringFor};
 
@@ -83,8 +82,8 @@ impl<F: Field> Answering<F> {
         requires params { params.now ≡ params_of circuit.now }
         requires valid { AreParams F.ops params.now }
         requires bounded { AreBounded params.now }
-        requires id { id ≡ id_of (coding F.element F.number_of F.BYTES F.size F.ID) circuit.now }
-        ensures { IfOk result (IsAnsweringFor F.ops (coding F.element F.number_of F.BYTES F.size F.ID) circuit.now params.now room) }
+        requires id { id ≡ id_of F.coding circuit.now }
+        ensures { IfOk result (IsAnsweringFor F.ops F.coding circuit.now params.now room) }
     {
         Ok(Answering {
             room: Room::new(alloc, circuit, params, room)?,

@@ -1,7 +1,6 @@
 //! A proof, step by step.
 
 ghost use Rattle.std.specs.Prelude.{◌≡◌, ◌≤◌, ◌*◌, List, length, take};
-ghost use Rattle.lzk_field.specs.Coding.{coding};
 ghost use Rattle.lzk_layout.specs.Sizes.{proof_length};
 ghost use Rattle.lzk_layout.specs.Proofs.{HasLengths};
 ghost use Rattle.lzk_merkle.specs.Nodes.{AreOpened};
@@ -14,8 +13,8 @@ ghost use Rattle.lzk_accept.specs.Challenges.{transcript};
 ghost use Rattle.lzk_answers.specs.Rows.{IsTableOf};
 ghost use Rattle.lzk_tableau.specs.Filled.{AreReaching};
 ghost use Rattle.lzk_tableau.specs.Table as kept;
-ghost use Rattle.lzk_honest.specs.Answered.{AreSent, answers_of};
-ghost use Rattle.lzk_honest.specs.Proving.{IsFileBy, words_of};
+ghost use Rattle.lzk_complete.specs.Answered.{AreSent, answers_of};
+ghost use Rattle.lzk_complete.specs.Proving.{IsFileBy, words_of};
 ghost use Rattle.lzk_ligero.specs.Changes.{change_of, IsChangeOf};
 ghost use Rattle.lzk_ligero.specs.Rooms.{IsRoomFor, IsSentFor, coefficient_reach};
 ghost use Rattle.lzk_ligero.specs.Statements.{IsStatement};
@@ -23,7 +22,7 @@ ghost use Rattle.lzk_ligero.specs.Statements.{IsStatement};
 use crate::answering::{answer_linear, answer_low_degree, answer_quadratic};
 use crate::changing::{Change, make_change};
 use crate::committing::commit;
-use crate::drawing::{draw_opened, open_tape, send};
+use crate::drawing::{draw_columns, open_tape, send};
 use crate::opening::{open_columns, open_path};
 use crate::parts::{Answering, Committed, Extenders};
 use crate::room::{Room, Sent};
@@ -62,8 +61,9 @@ fn answer<F: Field, X: RowExtend<F>>(
     ensures root { proof.new.root ≡ proof.old.root }
     ensures messages { proof.new.messages ≡ proof.old.messages }
     ensures path { proof.new.path ≡ proof.old.path }
-    ensures answers { let p = statement.now.params.now in (rows : List (List F)) → length rows ≡ p.nrow → IsTableOf F.ops F.element p.ncol rows table.now →
-        AreSent p (answers_of F.ops F.element statement.now.circuit.now p statement.now.public.now script.now proof.new.messages challenges.now rows)
+    ensures answers { let p = statement.now.params.now in (rows : List (List F)) → length rows ≡ p.nrow →
+        IsTableOf F.ops F.coding.element p.ncol rows table.now →
+        AreSent p (answers_of F.ops F.coding.element statement.now.circuit.now p statement.now.public.now script.now proof.new.messages challenges.now rows)
         proof.new }
 {
     answer_low_degree(
@@ -111,20 +111,20 @@ fn respond<R: Threads + Sync, F: Field, X: RowExtend<F>>(
     requires table { kept.IsTableOf statement.now.circuit.now tableau.now }
     requires change { IsChangeOf statement.now.params.now change }
     requires room { IsRoomFor F.ops statement.now.circuit.now statement.now.params.now (X.rooms extender.now) room.old }
-    requires sent { IsSentFor (coding F.element F.number_of F.BYTES F.size F.ID) statement.now.circuit.now statement.now.params.now sent.old }
+    requires sent { IsSentFor F.coding statement.now.circuit.now statement.now.params.now sent.old }
     ensures room { IsRoomFor F.ops statement.now.circuit.now statement.now.params.now (X.rooms extender.now) room.new }
-    ensures sent { IsSentFor (coding F.element F.number_of F.BYTES F.size F.ID) statement.now.circuit.now statement.now.params.now sent.new }
+    ensures sent { IsSentFor F.coding statement.now.circuit.now statement.now.params.now sent.new }
     ensures root { sent.new.proof.root ≡ sent.old.proof.root }
-    ensures messages { let e = coding F.element F.number_of F.BYTES F.size F.ID in let s = statement.now in
+    ensures messages { let e = F.coding in let s = statement.now in
         AreMessages F.ops e s.circuit.now s.values.now.wires tableau.now.pads
         (opening e s.session.now sent.new.proof.id s.public.now sent.new.proof.root) sent.new.proof.messages }
-    ensures drawn { let e = coding F.element F.number_of F.BYTES F.size F.ID in let s = statement.now in
+    ensures drawn { let s = statement.now in
         record { script = sent.new.script; challenges = sent.new.challenges; columns = sent.new.columns }
-        ≡ transcript F.ops e s.circuit.now s.session.now sent.new.proof.id s.public.now sent.new.proof }
+        ≡ transcript F.ops F.coding s.circuit.now s.session.now sent.new.proof.id s.public.now sent.new.proof }
     ensures answers { let s = statement.now in let p = s.params.now in
-        (rows : List (List F)) → length rows ≡ p.nrow → IsTableOf F.ops F.element p.ncol rows tableau.now.rows →
+        (rows : List (List F)) → length rows ≡ p.nrow → IsTableOf F.ops F.coding.element p.ncol rows tableau.now.rows →
         AreSent p (change_of F.ops change
-        (answers_of F.ops F.element s.circuit.now p s.public.now sent.new.script sent.new.proof.messages sent.new.challenges rows)) sent.new.proof }
+        (answers_of F.ops F.coding.element s.circuit.now p s.public.now sent.new.script sent.new.proof.messages sent.new.challenges rows)) sent.new.proof }
     ensures opened { AreOpened statement.now.params.now.mcol sent.new.columns }
 {
     let mut tape = open_tape(
@@ -154,7 +154,7 @@ fn respond<R: Threads + Sync, F: Field, X: RowExtend<F>>(
         &mut sent.proof,
     );
     make_change(statement.params, change, &mut sent.proof);
-    draw_opened(statement.params, &mut tape, &sent.proof, &mut sent.columns);
+    draw_columns(statement.params, &mut tape, &sent.proof, &mut sent.columns);
 }
 
 /// Makes the proof for a statement, with a change of an answer where there is one, and writes its file in front.
@@ -180,17 +180,17 @@ pub(crate) fn write_proof<R: Threads + Sync, F: Field, W: Words, X: RowExtend<F>
     requires table { kept.IsTableOf statement.now.circuit.now committed.old.tableau }
     requires leaves { length committed.old.tree.leaves ≡ statement.now.params.now.mcol }
     requires room { IsRoomFor F.ops statement.now.circuit.now statement.now.params.now (X.rooms extenders.now.coefficients) answering.old.room }
-    requires sent { IsSentFor (coding F.element F.number_of F.BYTES F.size F.ID) statement.now.circuit.now statement.now.params.now answering.old.sent }
-    requires bytes { length answering.old.bytes.items ≡ proof_length F.BYTES statement.now.params.now 1536 }
-    ensures file { let e = coding F.element F.number_of F.BYTES F.size F.ID in let s = statement.now in
-        IsFileBy F.ops e s.circuit.now s.session.now s.public.now s.private.now (words_of (W.at words.now)) (change_of F.ops change)
+    requires sent { IsSentFor F.coding statement.now.circuit.now statement.now.params.now answering.old.sent }
+    requires bytes { length answering.old.bytes.items ≡ proof_length F.coding.bytes statement.now.params.now 1536 }
+    ensures file { let s = statement.now in
+        IsFileBy F.ops F.coding s.circuit.now s.session.now s.public.now s.private.now (words_of (W.at words.now)) (change_of F.ops change)
         (take result answering.new.bytes.items) }
     ensures inside { result ≤ length answering.new.bytes.items }
     ensures table { kept.IsTableOf statement.now.circuit.now committed.new.tableau }
     ensures table_room { committed.new.tableau.room ≡ committed.old.tableau.room }
     ensures leaves { length committed.new.tree.leaves ≡ statement.now.params.now.mcol }
     ensures room { IsRoomFor F.ops statement.now.circuit.now statement.now.params.now (X.rooms extenders.now.coefficients) answering.new.room }
-    ensures sent { IsSentFor (coding F.element F.number_of F.BYTES F.size F.ID) statement.now.circuit.now statement.now.params.now answering.new.sent }
+    ensures sent { IsSentFor F.coding statement.now.circuit.now statement.now.params.now answering.new.sent }
     ensures bytes { length answering.new.bytes.items ≡ length answering.old.bytes.items }
 {
     let tableau = &mut committed.tableau;

@@ -2,20 +2,15 @@
 
 ghost use Rattle.std.specs.Prelude.{◌≡◌, ◌+◌, ◌*◌, length, IfOk, IfSome};
 ghost use Rattle.lzk_circbytes.specs.Files.{id_of};
-ghost use Rattle.lzk_field.specs.Coding.{coding};
 ghost use Rattle.lzk_layout.specs.Sizes.{AreBounded, AreParams, params_of, proof_length};
 ghost use Rattle.lzk_ligero.specs.Rooms.{IsRoomFor, IsSentFor};
 
-use crate::writing::MOST_DIGESTS;
 use lzk_accept::{Challenges, Factored, Forms};
 use lzk_circuit::Circuit;
 use lzk_field::Field;
-use lzk_layout::{Elements, Params, Proof, proof_len};
+use lzk_layout::{Elements, MOST_DIGESTS, OPENED, Params, Proof, proof_len};
 use lzk_sumcheck::{Rounds, Script};
 use std::alloc::{AllocError, Global};
-
-/// How many columns are opened.
-const OPENED: usize = 128;
 
 /// What is computed on the way to a proof.
 #[derive(Drop)]
@@ -88,8 +83,8 @@ impl<F: Field> Sent<F> {
     ) -> Result<Sent<F>, AllocError>
         requires params { params.now ≡ params_of circuit.now }
         requires valid { AreParams F.ops params.now }
-        requires id { id ≡ id_of (coding F.element F.number_of F.BYTES F.size F.ID) circuit.now }
-        ensures { IfOk result (λ sent. IsSentFor (coding F.element F.number_of F.BYTES F.size F.ID) circuit.now params.now sent) }
+        requires id { id ≡ id_of F.coding circuit.now }
+        ensures { IfOk result (λ sent. IsSentFor F.coding circuit.now params.now sent) }
     {
         let mut proof = Proof::new(alloc, params)?;
         proof.id = id;
@@ -105,9 +100,9 @@ impl<F: Field> Sent<F> {
 /// Room for the longest file of a proof with these parameters.
 pub(crate) fn file_room<F: Field>(alloc: Global, params: &Params) -> Result<Vec<u8>, AllocError>
     requires { AreParams F.ops params.now }
-    ensures { IfOk result (λ bytes. length bytes.items ≡ proof_length F.BYTES params.now 1536) }
+    ensures { IfOk result (λ bytes. length bytes.items ≡ proof_length F.coding.bytes params.now 1536) }
 {
     let mut bytes = Vec::new(alloc);
-    bytes.resize(proof_len::<F>(params, MOST_DIGESTS) as usize, 0)?;
+    bytes.resize(proof_len::<F>(params, MOST_DIGESTS as u32) as usize, 0)?;
     Ok(bytes)
 }

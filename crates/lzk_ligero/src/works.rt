@@ -3,12 +3,11 @@
 ghost use Rattle.std.specs.Prelude.{◌≡◌, ◌≢◌, ◌≤◌, ◌<◌, length, take, IfOk, MatchOption, MatchResult, Some, None};
 ghost use Rattle.std.specs.Borrow.{sem};
 ghost use Rattle.lzk_circbytes.specs.Files.{id_of};
-ghost use Rattle.lzk_field.specs.Coding.{coding};
 ghost use Rattle.lzk_field.specs.Sums.{entry};
 ghost use Rattle.lzk_circuit.specs.Checks.{checks_of, IsSatisfied};
 ghost use Rattle.lzk_circuit.specs.Wires.{all_values, inputs_of, IsFirstNonzero};
-ghost use Rattle.lzk_honest.specs.Changed.{IsSentPlace};
-ghost use Rattle.lzk_honest.specs.Proving.{IsChangedFile, IsFileBy, IsProofFile, words_of};
+ghost use Rattle.lzk_complete.specs.Changed.{IsSentPlace};
+ghost use Rattle.lzk_complete.specs.Proving.{IsChangedFile, IsFileBy, IsProofFile, words_of};
 ghost use Rattle.lzk_complete.specs.AnyInputs.{AllButSum};
 ghost use Rattle.lzk_complete.specs.Refused.{IsRefused};
 ghost use Rattle.lzk_verify.specs.Verdict.{IsVerdict};
@@ -23,9 +22,8 @@ use crate::proving::write_proof;
 use crate::statement::Statement;
 use lzk_circbytes::id;
 use lzk_circuit::{Circuit, Values};
-use lzk_complete::{changed_proofs_refused, proofs_accepted, proofs_checked};
+use lzk_complete::{Answer, changed_proofs_refused, proofs_accepted, proofs_checked};
 use lzk_field::{Field, Gate, Words};
-use lzk_honest::Answer;
 use lzk_layout::Params;
 use lzk_poly::RowExtend;
 use std::alloc::{AllocError, Global};
@@ -61,8 +59,8 @@ fn larger(a: usize, b: usize) -> usize
 
 impl<F: Field, X: RowExtend<F>> Parts<F, X> {
     fn new(alloc: Global, circuit: &Circuit<F>, id: [u8; 32]) -> Result<Parts<F, X>, AllocError>
-        requires id { id ≡ id_of (coding F.element F.number_of F.BYTES F.size F.ID) circuit.now }
-        ensures { IfOk result (λ parts. ArePartsFor F.ops (coding F.element F.number_of F.BYTES F.size F.ID) X.reach X.rooms circuit.now parts) }
+        requires id { id ≡ id_of F.coding circuit.now }
+        ensures { IfOk result (λ parts. ArePartsFor F.ops F.coding X.reach X.rooms circuit.now parts) }
     {
         let params = Params::of(circuit);
         let extenders = make_extenders::<F, X>(alloc, &params)?;
@@ -81,11 +79,11 @@ impl<F: Field, X: RowExtend<F>> Parts<F, X> {
     fn evaluate(&mut self, circuit: &Circuit<F>, public: &[F], private: &[F]) -> Option<u32>
         requires public { length public.now ≡ circuit.now.publics }
         requires private { length private.now ≡ circuit.now.privates }
-        requires parts { ArePartsFor F.ops (coding F.element F.number_of F.BYTES F.size F.ID) X.reach X.rooms circuit.now self.old }
-        ensures parts { ArePartsFor F.ops (coding F.element F.number_of F.BYTES F.size F.ID) X.reach X.rooms circuit.now self.new }
+        requires parts { ArePartsFor F.ops F.coding X.reach X.rooms circuit.now self.old }
+        ensures parts { ArePartsFor F.ops F.coding X.reach X.rooms circuit.now self.new }
         ensures values { self.new.values.wires ≡ all_values F.ops circuit.now.layers (inputs_of F.ops public.now private.now) }
-        ensures checks { self.new.values.checks ≡ checks_of F.ops F.number_of circuit.now.layers (inputs_of F.ops public.now private.now) }
-        ensures outputs { let outputs = checks_of F.ops F.number_of circuit.now.layers (inputs_of F.ops public.now private.now) in
+        ensures checks { self.new.values.checks ≡ checks_of F.ops F.coding.number circuit.now.layers (inputs_of F.ops public.now private.now) }
+        ensures outputs { let outputs = checks_of F.ops F.coding.number circuit.now.layers (inputs_of F.ops public.now private.now) in
             MatchOption result (IsFirstNonzero F.ops outputs None) (λ k. IsFirstNonzero F.ops outputs (Some (k, entry F.ops outputs k))) }
     {
         circuit.eval(public, private, &mut self.values);
@@ -113,13 +111,12 @@ impl<F: Field, X: RowExtend<F>> Parts<F, X> {
         requires private { length private.now ≡ circuit.now.privates }
         requires some { 1 ≤ workers }
         requires most { workers ≤ 64 }
-        requires parts { ArePartsFor F.ops (coding F.element F.number_of F.BYTES F.size F.ID) X.reach X.rooms circuit.now self.old }
+        requires parts { ArePartsFor F.ops F.coding X.reach X.rooms circuit.now self.old }
         requires change { IsChangeOf (params_of circuit.now) change }
         requires values { self.old.values.wires ≡ all_values F.ops circuit.now.layers (inputs_of F.ops public.now private.now) }
-        ensures parts { ArePartsFor F.ops (coding F.element F.number_of F.BYTES F.size F.ID) X.reach X.rooms circuit.now self.new }
+        ensures parts { ArePartsFor F.ops F.coding X.reach X.rooms circuit.now self.new }
         ensures inside { result ≤ length self.new.answering.bytes.items }
-        ensures file { let e = coding F.element F.number_of F.BYTES F.size F.ID in
-            IsFileBy F.ops e circuit.now session.now public.now private.now (words_of (W.at words.now)) (change_of F.ops change)
+        ensures file { IsFileBy F.ops F.coding circuit.now session.now public.now private.now (words_of (W.at words.now)) (change_of F.ops change)
             (take result self.new.answering.bytes.items) }
     {
         let statement = Statement {
@@ -166,7 +163,6 @@ pub struct WorksOver<'c, F: Field, X: RowExtend<F>> {
 }
 
 impl<'c, F: Field, X: RowExtend<F>> Model for WorksOver<'c, F, X> {
-    ghost use Rattle.lzk_field.specs.Coding.{coding};
     ghost use Rattle.lzk_circuit.specs.Valid.{Wiring};
     ghost use Rattle.lzk_ligero.specs.Parts.{ArePartsFor};
 
@@ -174,7 +170,7 @@ impl<'c, F: Field, X: RowExtend<F>> Model for WorksOver<'c, F, X> {
 
     ghost view = { λ w. w.circuit.now };
 
-    ghost invariant = { λ w. ArePartsFor F.ops (coding F.element F.number_of F.BYTES F.size F.ID) X.reach X.rooms w.circuit.now w.parts };
+    ghost invariant = { λ w. ArePartsFor F.ops F.coding X.reach X.rooms w.circuit.now w.parts };
 }
 
 impl<'c, F: Field, X: RowExtend<F>> WorksOver<'c, F, X> {
@@ -202,7 +198,7 @@ impl<'c, F: Field, X: RowExtend<F>> WorksOver<'c, F, X> {
         circuit: &'c Circuit<F>,
         id: [u8; 32],
     ) -> Result<WorksOver<'c, F, X>, AllocError>
-        requires id { id ≡ id_of (coding F.element F.number_of F.BYTES F.size F.ID) circuit.now }
+        requires id { id ≡ id_of F.coding circuit.now }
         ensures { IfOk result (λ works. works ≡ circuit.now) }
     {
         let parts = Parts::new(alloc, circuit, id)?;
@@ -227,9 +223,9 @@ impl<'c, F: Field, X: RowExtend<F>> WorksOver<'c, F, X> {
         requires some { 1 ≤ workers }
         requires most { workers ≤ 64 }
         ensures* same { sem 𝓛 (StaysForCircuit F.row X.row F.Field X.RowExtend self.entry) }
-        ensures file { IsProofFile F.ops (coding F.element F.number_of F.BYTES F.size F.ID) self.old session.now public.now private.now
+        ensures file { IsProofFile F.ops F.coding self.old session.now public.now private.now
             (words_of (W.at words.now)) result.now }
-        ensures checked { AllButSum F.ops (coding F.element F.number_of F.BYTES F.size F.ID) self.old session.now public.now result.now }
+        ensures checked { AllButSum F.ops F.coding self.old session.now public.now result.now }
     {
         proofs_checked::<F>();
         self.circuit.depth();
@@ -270,10 +266,9 @@ impl<'c, F: Field, X: RowExtend<F>> WorksOver<'c, F, X> {
         requires most { workers ≤ 64 }
         requires place { IsSentPlace (params_of self.old) answer place }
         ensures* same { sem 𝓛 (StaysForCircuit F.row X.row F.Field X.RowExtend self.entry) }
-        ensures file { let e = coding F.element F.number_of F.BYTES F.size F.ID in
-            IsChangedFile F.ops e self.old session.now public.now private.now (words_of (W.at words.now)) answer place by result.now }
-        ensures refused { IsSatisfied F.ops F.number_of self.old.layers (inputs_of F.ops public.now private.now) → by ≢ F.ops.zero →
-            IsRefused F.ops (coding F.element F.number_of F.BYTES F.size F.ID) self.old session.now public.now answer place by result.now }
+        ensures file { IsChangedFile F.ops F.coding self.old session.now public.now private.now (words_of (W.at words.now)) answer place by result.now }
+        ensures refused { IsSatisfied F.ops F.coding.number self.old.layers (inputs_of F.ops public.now private.now) → by ≢ F.ops.zero →
+            IsRefused F.ops F.coding self.old session.now public.now answer place by result.now }
     {
         changed_proofs_refused::<F>();
         self.circuit.depth();
@@ -314,12 +309,12 @@ impl<'c, F: Field, X: RowExtend<F>> WorksOver<'c, F, X> {
         requires most { workers ≤ 64 }
         ensures* same { sem 𝓛 (StaysForCircuit F.row X.row F.Field X.RowExtend self.entry) }
         ensures proved { MatchResult result
-            (λ bytes. IsFirstNonzero F.ops (checks_of F.ops F.number_of self.old.layers (inputs_of F.ops public.now private.now)) None
-            × IsProofFile F.ops (coding F.element F.number_of F.BYTES F.size F.ID) self.old session.now public.now private.now
+            (λ bytes. IsFirstNonzero F.ops (checks_of F.ops F.coding.number self.old.layers (inputs_of F.ops public.now private.now)) None
+            × IsProofFile F.ops F.coding self.old session.now public.now private.now
             (words_of (W.at words.now)) bytes.now)
-            (λ fault. IsFirstNonzero F.ops (checks_of F.ops F.number_of self.old.layers (inputs_of F.ops public.now private.now))
+            (λ fault. IsFirstNonzero F.ops (checks_of F.ops F.coding.number self.old.layers (inputs_of F.ops public.now private.now))
             (Some (fault.output, fault.value.now))) }
-        ensures accepted { IfOk result (λ bytes. IsVerdict F.ops (coding F.element F.number_of F.BYTES F.size F.ID) self.old session.now public.now
+        ensures accepted { IfOk result (λ bytes. IsVerdict F.ops F.coding self.old session.now public.now
             bytes.now Accepted) }
     {
         if let Some(output) = self.parts.evaluate(self.circuit, public, private) {

@@ -7,16 +7,13 @@ ghost use Rattle.lzk_layout.specs.Proofs.{HasLengths, ProofBytes};
 use lzk_field::Field;
 use lzk_layout::{Params, Proof, encode_proof, proof_len};
 
-/// The digests of a path, at most.
-pub(crate) const MOST_DIGESTS: u32 = 1536;
-
 /// Writes the proof's file in front. How many bytes it has.
 pub(crate) fn write_file<F: Field>(params: &Params, proof: &Proof<F>, bytes: &mut [u8]) -> usize
     requires params { AreParams F.ops params.now }
     requires lengths { HasLengths params.now proof.now }
     requires few { length proof.now.path.digests ≤ 1536 }
-    requires room { length bytes.old ≡ proof_length F.BYTES params.now 1536 }
-    ensures file { ProofBytes F.BYTES F.number_of params.now proof.now (take result bytes.new) }
+    requires room { length bytes.old ≡ proof_length F.coding.bytes params.now 1536 }
+    ensures file { ProofBytes F.coding.bytes F.coding.number params.now proof.now (take result bytes.new) }
     ensures inside { result ≤ length bytes.new }
     ensures room { length bytes.new ≡ length bytes.old }
 {

@@ -55,10 +55,11 @@ impl<F: Field> Room<F> {
         ensures rooms { AreRooms params.now self.new }
         ensures forms { AreFormsOf F.ops circuit.now self.new.forms }
         ensures factors { HasRoomFor circuit.now self.new.combined }
-        ensures rows { AreWeightedRows F.ops F.element params.now self.new.combined
-            (combined_row_of F.ops F.element circuit.now public.now drawn.now.script (messages_in params.now sent.now) drawn.now.challenges) }
-        ensures wanted { result ≡ wanted_of F.ops F.element circuit.now public.now drawn.now.script (messages_in params.now sent.now) drawn.now.challenges }
-        ensures answers { self.new.answers ≡ weighted_answers F.ops F.element params.now sent.now }
+        ensures rows { AreWeightedRows F.ops F.coding.element params.now self.new.combined
+            (combined_row_of F.ops F.coding.element circuit.now public.now drawn.now.script (messages_in params.now sent.now) drawn.now.challenges) }
+        ensures wanted { result ≡ wanted_of F.ops F.coding.element circuit.now public.now drawn.now.script (messages_in params.now sent.now)
+            drawn.now.challenges }
+        ensures answers { self.new.answers ≡ weighted_answers F.ops F.coding.element params.now sent.now }
     {
         let wanted = combine_constraints(
             circuit,
@@ -87,13 +88,13 @@ impl<F: Field> Room<F> {
         requires index { index < params.now.mcol }
         requires column { length column.now ≡ params.now.nrow }
         requires challenges { HasShape params.now challenges.now }
-        ensures low_degree { (values : List F) → self.old.answers.ldt ≡ weighted F.ops F.element values
-            → (IsTrue result.low_degree ↔ IsLowDegreeIn F.ops F.element params.now column.now (params.now.dblock + index) values challenges.now.u) }
-        ensures linear { (values : List F) (lists : ℕ → List F) → self.old.answers.dot ≡ weighted F.ops F.element values →
-            AreWeightedRows F.ops F.element params.now self.old.combined lists
-            → (IsTrue result.linear ↔ IsLinearIn F.ops F.element params.now column.now (params.now.dblock + index) values lists) }
-        ensures quadratic { (values : List F) → self.old.answers.quadratic ≡ weighted F.ops F.element values
-            → (IsTrue result.quadratic ↔ IsQuadraticIn F.ops F.element params.now column.now (params.now.dblock + index) values challenges.now.v) }
+        ensures low_degree { (values : List F) → self.old.answers.ldt ≡ weighted F.ops F.coding.element values
+            → (IsTrue result.low_degree ↔ IsLowDegreeIn F.ops F.coding.element params.now column.now (params.now.dblock + index) values challenges.now.u) }
+        ensures linear { (values : List F) (lists : ℕ → List F) → self.old.answers.dot ≡ weighted F.ops F.coding.element values →
+            AreWeightedRows F.ops F.coding.element params.now self.old.combined lists
+            → (IsTrue result.linear ↔ IsLinearIn F.ops F.coding.element params.now column.now (params.now.dblock + index) values lists) }
+        ensures quadratic { (values : List F) → self.old.answers.quadratic ≡ weighted F.ops F.coding.element values
+            → (IsTrue result.quadratic ↔ IsQuadraticIn F.ops F.coding.element params.now column.now (params.now.dblock + index) values challenges.now.v) }
         ensures room { self.new ≡ self.old }
     {
         let point = params.dblock + index;

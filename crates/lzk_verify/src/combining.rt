@@ -30,9 +30,9 @@ pub(crate) fn combine_constraints<F: Field>(
     requires drawn { HasRoom circuit.now params.now drawn.now }
     requires forms { AreFormsOf F.ops circuit.now forms.old }
     requires room { HasRoomFor circuit.now combined.old }
-    ensures rows { AreRows F.ops params.now combined.new (combined_row_of F.ops F.element circuit.now public.now drawn.now.script messages.now
+    ensures rows { AreRows F.ops params.now combined.new (combined_row_of F.ops F.coding.element circuit.now public.now drawn.now.script messages.now
         drawn.now.challenges) }
-    ensures wanted { result ≡ wanted_of F.ops F.element circuit.now public.now drawn.now.script messages.now drawn.now.challenges }
+    ensures wanted { result ≡ wanted_of F.ops F.coding.element circuit.now public.now drawn.now.script messages.now drawn.now.challenges }
     ensures forms { AreFormsOf F.ops circuit.now forms.new }
     ensures room { HasRoomFor circuit.now combined.new }
     ensures factors { HasFactors params.now combined.new }

@@ -2,7 +2,6 @@
 
 ghost use Rattle.std.specs.Prelude.{◌≡◌, ℕ, ◌≤◌, true, false, None, List, [], ◌∷◌, ◌++◌, length, IfOk, IsTrue, ◌↔◌};
 ghost use Rattle.lzk_circbytes.specs.Files.{id_of};
-ghost use Rattle.lzk_field.specs.Coding.{coding};
 ghost use Rattle.lzk_verify.specs.Kept as spec;
 ghost use Rattle.lzk_verify.specs.Kept.{Stands};
 ghost use Rattle.lzk_verify.specs.Verdict.{IsVerdict, IsOnlyVerdict, AcceptsExactly};
@@ -47,7 +46,6 @@ pub struct Desk<'c, F: Field> {
 
 impl<'c, F: Field> Model for Desk<'c, F> {
     ghost use Rattle.std.specs.Prelude.{◌≡◌};
-    ghost use Rattle.lzk_field.specs.Coding.{coding};
     ghost use Rattle.lzk_verify.specs.Desk.{AreParts, held_of};
     ghost use Rattle.lzk_verify.specs.Kept.{DeskState};
 
@@ -55,11 +53,11 @@ impl<'c, F: Field> Model for Desk<'c, F> {
 
     ghost view = { λ d. record {
       circuit = d.circuit.now;
-      held = held_of F.ops (coding F.element F.number_of F.BYTES F.size F.ID) d.circuit.now
+      held = held_of F.ops F.coding d.circuit.now
           d.params d.fed d.cursor.place d.intake;
     } };
 
-    ghost invariant = { λ d. AreParts F.ops (coding F.element F.number_of F.BYTES F.size F.ID) d.circuit.now d.params d.id d.cursor d.intake d.room };
+    ghost invariant = { λ d. AreParts F.ops F.coding d.circuit.now d.params d.id d.cursor d.intake d.room };
 }
 
 impl<'c, F: Field> Desk<'c, F> {
@@ -86,7 +84,7 @@ impl<'c, F: Field> Desk<'c, F> {
         circuit: &'c Circuit<F>,
         id: [u8; 32],
     ) -> Result<Desk<'c, F>, AllocError>
-        requires id { id ≡ id_of (coding F.element F.number_of F.BYTES F.size F.ID) circuit.now }
+        requires id { id ≡ id_of F.coding circuit.now }
         ensures circuit { IfOk result (λ desk. desk.circuit ≡ circuit.now) }
         ensures idle { IfOk result (λ desk. spec.is_fed desk ≡ false) }
     {
@@ -106,7 +104,7 @@ impl<'c, F: Field> Desk<'c, F> {
     pub fn open(&mut self, session: &[u8], public: &[F])
         requires session { length session.now ≤ 64 }
         requires public { length public.now ≡ self.old.circuit.publics }
-        ensures stands { Stands F.ops (coding F.element F.number_of F.BYTES F.size F.ID) session.now public.now [] self.new }
+        ensures stands { Stands F.ops F.coding session.now public.now [] self.new }
         ensures fed { spec.is_fed self.new ≡ true }
         ensures circuit { self.new.circuit ≡ self.old.circuit }
     {
@@ -118,7 +116,7 @@ impl<'c, F: Field> Desk<'c, F> {
     // The file's next byte.
     fn push(&mut self, byte: u8)
         requires fed { spec.is_fed self.old ≡ true }
-        ensures stands { let e = coding F.element F.number_of F.BYTES F.size F.ID in
+        ensures stands { let e = F.coding in
             (session : List ℕ) (public : List F) (bytes : List ℕ) → Stands F.ops e session public bytes self.old →
             Stands F.ops e session public (bytes ++ byte ∷ []) self.new }
         ensures fed { spec.is_fed self.new ≡ true }
@@ -133,7 +131,7 @@ impl<'c, F: Field> Desk<'c, F> {
     /// The next bytes of the file.
     pub fn feed(&mut self, piece: &[u8])
         requires fed { spec.is_fed self.old ≡ true }
-        ensures stands { let e = coding F.element F.number_of F.BYTES F.size F.ID in
+        ensures stands { let e = F.coding in
             (session : List ℕ) (public : List F) (bytes : List ℕ) → Stands F.ops e session public bytes self.old →
             Stands F.ops e session public (bytes ++ piece.now) self.new }
         ensures fed { spec.is_fed self.new ≡ true }
@@ -147,10 +145,10 @@ impl<'c, F: Field> Desk<'c, F> {
     // The verdict on all bytes that were fed.
     fn judged(&mut self) -> Verdict<F>
         requires fed { spec.is_fed self.old ≡ true }
-        ensures verdict { let e = coding F.element F.number_of F.BYTES F.size F.ID in
+        ensures verdict { let e = F.coding in
             (session : List ℕ) (public : List F) (bytes : List ℕ) → Stands F.ops e session public bytes self.old →
             IsVerdict F.ops e self.old.circuit session public bytes result }
-        ensures one { let e = coding F.element F.number_of F.BYTES F.size F.ID in
+        ensures one { let e = F.coding in
             (session : List ℕ) (public : List F) (bytes : List ℕ) → Stands F.ops e session public bytes self.old →
             IsOnlyVerdict F.ops e self.old.circuit session public bytes result }
         ensures circuit { self.new.circuit ≡ self.old.circuit }
@@ -169,10 +167,10 @@ impl<'c, F: Field> Desk<'c, F> {
     /// The verdict on all bytes that were fed.
     pub fn end(&mut self) -> Verdict<F>
         requires fed { spec.is_fed self.old ≡ true }
-        ensures verdict { let e = coding F.element F.number_of F.BYTES F.size F.ID in
+        ensures verdict { let e = F.coding in
             (session : List ℕ) (public : List F) (bytes : List ℕ) → Stands F.ops e session public bytes self.old →
             IsVerdict F.ops e self.old.circuit session public bytes result }
-        ensures one { let e = coding F.element F.number_of F.BYTES F.size F.ID in
+        ensures one { let e = F.coding in
             (session : List ℕ) (public : List F) (bytes : List ℕ) → Stands F.ops e session public bytes self.old →
             IsOnlyVerdict F.ops e self.old.circuit session public bytes result }
         ensures idle { spec.is_fed self.new ≡ false }
@@ -195,9 +193,9 @@ impl<'c, F: Field> Desk<'c, F> {
     pub fn verify(&mut self, session: &[u8], public: &[F], bytes: &[u8]) -> Verdict<F>
         requires session { length session.now ≤ 64 }
         requires public { length public.now ≡ self.old.circuit.publics }
-        ensures verdict { IsVerdict F.ops (coding F.element F.number_of F.BYTES F.size F.ID) self.old.circuit session.now public.now bytes.now result }
-        ensures one { IsOnlyVerdict F.ops (coding F.element F.number_of F.BYTES F.size F.ID) self.old.circuit session.now public.now bytes.now result }
-        ensures accepted { AcceptsExactly F.ops (coding F.element F.number_of F.BYTES F.size F.ID) self.old.circuit session.now public.now bytes.now }
+        ensures verdict { IsVerdict F.ops F.coding self.old.circuit session.now public.now bytes.now result }
+        ensures one { IsOnlyVerdict F.ops F.coding self.old.circuit session.now public.now bytes.now result }
+        ensures accepted { AcceptsExactly F.ops F.coding self.old.circuit session.now public.now bytes.now }
         ensures idle { spec.is_fed self.new ≡ false }
         ensures circuit { self.new.circuit ≡ self.old.circuit }
     {

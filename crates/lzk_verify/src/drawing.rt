@@ -1,12 +1,10 @@
 //! What the tape gives to a proof.
 
 ghost use Rattle.std.specs.Prelude.{◌≡◌, ◌<◌, ◌≤◌, length, slice_index, IfOk};
-ghost use Rattle.lzk_field.specs.Coding.{coding};
 ghost use Rattle.lzk_merkle.specs.Nodes.{AreOpened};
 ghost use Rattle.lzk_transcript.specs.Columns.{opened};
 ghost use Rattle.lzk_layout.specs.Sizes.{AreBounded, params_of};
 ghost use Rattle.lzk_sumcheck.specs.Draws.{with_array};
-ghost use Rattle.lzk_sumcheck.specs.Opening as spec;
 ghost use Rattle.lzk_verify.specs.Desk.{HasRoom};
 ghost use Rattle.lzk_verify.specs.Kept.{sent_count, ldt_in, dot_in, head_in, tail_in, whole_transcript};
 
@@ -14,14 +12,11 @@ use crate::sent::{dot_of, head_of, ldt_of, messages_of, tail_of};
 use lzk_accept::{Challenges, draw_challenges};
 use lzk_circuit::Circuit;
 use lzk_field::Field;
-use lzk_layout::Params;
-use lzk_sumcheck::{Script, replay};
+use lzk_layout::{OPENED, Params};
+use lzk_sumcheck::{Script, draw_opened, replay};
 use lzk_transcript::Tape;
 use std::alloc::{AllocError, Global};
 use std::marker::Model;
-
-/// How many columns are opened.
-pub(crate) const OPENED: usize = 128;
 
 /// All that the tape gives to a proof.
 #[derive(Drop)]
@@ -39,35 +34,22 @@ impl<F> Model for Drawn<F> {
     ghost view = { λ d. record { script = d.script; challenges = d.challenges; columns = d.columns.items } };
 }
 
-/// The new tape with `lzk1`, the session, the circuit's id and the public inputs written.
-#[tactic(auto, unfolding(lzk_sumcheck::specs::Opening::public_tape))]
-pub(crate) fn public_tape<F: Field>(session: &[u8], id: &[u8; 32], public: &[F]) -> Tape
-    ensures { result ≡ spec.public_tape (coding F.element F.number_of F.BYTES F.size F.ID) session.now id.now public.now }
-{
-    let mut tape = Tape::new();
-    tape.bytes(&[b'l', b'z', b'k', b'1']);
-    tape.bytes(session);
-    tape.bytes(id);
-    tape.array(public);
-    tape
-}
-
 // Writes the answers, and draws the columns that are opened.
-fn draw_opened<F: Field>(params: &Params, tape: &mut Tape, sent: &[F], columns: &mut [u32])
+fn draw_columns<F: Field>(params: &Params, tape: &mut Tape, sent: &[F], columns: &mut [u32])
     requires bounded { AreBounded params.now }
     requires sent { length sent.now ≡ sent_count params.now }
     requires room { length columns.old ≡ 128 }
-    ensures columns { let e = coding F.element F.number_of F.BYTES F.size F.ID in
+    ensures columns { let e = F.coding in
         columns.new ≡ opened params.now.mcol 128 (with_array e (tail_in params.now sent.now)
         (with_array e (head_in params.now sent.now) (with_array e (dot_in params.now sent.now) (with_array e (ldt_in params.now sent.now) tape.old)))) }
     ensures opened { AreOpened params.now.mcol columns.new }
     ensures room { length columns.new ≡ 128 }
 {
-    tape.array(ldt_of(params, sent));
-    tape.array(dot_of(params, sent));
-    tape.array(head_of(params, sent));
-    tape.array(tail_of(params, sent));
-    tape.draw_columns(params.mcol, columns);
+    let low_degree = ldt_of(params, sent);
+    let linear = dot_of(params, sent);
+    let head = head_of(params, sent);
+    let tail = tail_of(params, sent);
+    draw_opened(params.mcol, low_degree, linear, head, tail, tape, columns);
 }
 
 // As many columns, from the first on.
@@ -120,13 +102,13 @@ impl<F: Field> Drawn<F> {
         requires bounded { AreBounded params.now }
         requires sent { length sent.now ≡ sent_count params.now }
         requires room { HasRoom circuit.now params.now self.old }
-        ensures drawn { self.new ≡ whole_transcript F.ops (coding F.element F.number_of F.BYTES F.size F.ID) circuit.now params.now tape.old root.now sent.now }
+        ensures drawn { self.new ≡ whole_transcript F.ops F.coding circuit.now params.now tape.old root.now sent.now }
         ensures room { HasRoom circuit.now params.now self.new }
         ensures opened { AreOpened params.now.mcol self.new.columns }
     {
         tape.bytes(root);
         replay(circuit, tape, messages_of(params, sent), &mut self.script);
         draw_challenges(params, tape, &mut self.challenges);
-        draw_opened(params, tape, sent, &mut self.columns);
+        draw_columns(params, tape, sent, &mut self.columns);
     }
 }

@@ -8,32 +8,16 @@ ghost use Rattle.lzk_verify.specs.Extending as spec;
 ghost use Rattle.lzk_verify.specs.Extending.{AreInverseDifferences, Extends};
 
 use lzk_field::Field;
-use lzk_poly::Weights;
-
-// The inverse of an element, from the table where it is there.
-fn inverse_of<F: Field>(inverses: &[F], x: F) -> F
-    requires table { IsInverseTable F.ops F.element inverses.now }
-    requires nonzero { x ≢ F.ops.zero }
-    ensures { result ≡ F.ops.inverse x }
-{
-    let number = x.number();
-    if number < inverses.len() as u128 {
-        return inverses[number as usize];
-    }
-    match x.inv() {
-        Some(inverse) => inverse,
-        None => unreachable!(),
-    }
-}
+use lzk_poly::{Weights, inverse_of};
 
 // The inverse of the difference of two points. Where points are even, it stands in the table at the difference of their numbers.
 fn inverse_between<F: Field>(inverses: &[F], even: bool, point: u32, i: u32) -> F
-    requires table { IsInverseTable F.ops F.element inverses.now }
-    requires even { IsTrue even → IsEven F.ops F.element (point + 1) }
+    requires table { IsInverseTable F.ops F.coding.element inverses.now }
+    requires even { IsTrue even → IsEven F.ops F.coding.element (point + 1) }
     requires enough { point < length inverses.now }
     requires apart { i < point }
     requires limit { point < 65536 }
-    ensures { result ≡ F.ops.inverse (minus F.ops (F.element point) (F.element i)) }
+    ensures { result ≡ F.ops.inverse (minus F.ops (F.coding.element point) (F.coding.element i)) }
 {
     if even {
         return inverses[(point - i) as usize];
@@ -47,7 +31,7 @@ pub(crate) fn set_inverses<F: Field>(weights: &Weights<F>, point: u32, list: &mu
     requires reached { point < weights.now.upto }
     requires limit { weights.now.upto ≤ 65536 }
     ensures length { length list.new ≡ length list.old }
-    ensures inverses { AreInverseDifferences F.ops F.element point list.new }
+    ensures inverses { AreInverseDifferences F.ops F.coding.element point list.new }
 {
     let inverses = weights.inverses();
     let even = weights.is_even();
@@ -61,8 +45,8 @@ pub(crate) fn set_inverses<F: Field>(weights: &Weights<F>, point: u32, list: &mu
 pub(crate) fn last_factor<F: Field>(weights: &Weights<F>, point: u32) -> F
     requires behind { weights.now.count ≤ point }
     requires reached { point < weights.now.upto }
-    ensures { (inverses : List F) → length inverses ≡ weights.now.count → AreInverseDifferences F.ops F.element point inverses →
-        Extends F.ops F.element point inverses result }
+    ensures { (inverses : List F) → length inverses ≡ weights.now.count → AreInverseDifferences F.ops F.coding.element point inverses →
+        Extends F.ops F.coding.element point inverses result }
 {
     let at = (point - weights.count()) as usize;
     weights.passed()[at]
@@ -78,8 +62,9 @@ fn are_equal<F: Field>(x: F, y: F) -> bool
 /// Whether the polynomial through the values, of which these are weighted, has the wanted one at the inverses' point.
 pub(crate) fn extend_to<F: Field>(weighted: &[F], inverses: &[F], last: F, wanted: F) -> bool
     requires lengths { length weighted.now ≡ length inverses.now }
-    ensures { (point : ℕ) (values : List F) → weighted.now ≡ spec.weighted F.ops F.element values → Extends F.ops F.element point inverses.now last
-        → (IsTrue result ↔ extension F.ops F.element values point ≡ wanted) }
+    ensures { (point : ℕ) (values : List F) → weighted.now ≡ spec.weighted F.ops F.coding.element values →
+        Extends F.ops F.coding.element point inverses.now last
+        → (IsTrue result ↔ extension F.ops F.coding.element values point ≡ wanted) }
 {
     are_equal(F::dot(weighted, inverses).mul(last), wanted)
 }

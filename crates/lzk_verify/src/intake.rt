@@ -2,7 +2,6 @@
 
 ghost use Rattle.std.specs.Prelude.{◌≡◌, ℕ, ◌+◌, ◌<◌, ◌≤◌, true, false, None, List, [], ◌∷◌, ◌++◌, length, take, slice_set, slice_index, IfOk};
 ghost use Rattle.lzk_field.specs.Bytes.{number_from};
-ghost use Rattle.lzk_field.specs.Coding.{coding};
 ghost use Rattle.lzk_merkle.specs.Leaf.{leaf_of};
 ghost use Rattle.lzk_circuit.specs.Valid.{Wiring};
 ghost use Rattle.lzk_layout.specs.Sizes.{AreBounded, params_of};
@@ -19,18 +18,16 @@ ghost use Rattle.lzk_verify.specs.Desk.{AreRooms, AreLists, AreReady, AreWeighte
 ghost use Rattle.lzk_verify.specs.Kept as fields;
 ghost use Rattle.lzk_verify.specs.Kept.{ldt_in, dot_in, head_in, tail_in, whole_transcript, IsKept};
 
-use crate::drawing::{Drawn, public_tape};
+use crate::drawing::Drawn;
 use crate::leaves::Leaves;
 use crate::room::{Room, zero_digests};
 use crate::sent::sent_count;
 use lzk_circuit::{Circuit, zeros};
 use lzk_field::Field;
-use lzk_layout::{Params, ProofPart};
+use lzk_layout::{BLINDS, MOST_DIGESTS, Params, ProofPart};
+use lzk_sumcheck::public_tape;
 use lzk_transcript::Tape;
 use std::alloc::{AllocError, Global};
-
-/// How many digests a path has at most.
-const MOST_DIGESTS: usize = 1536;
 
 /// The least of the opened columns at which each check of the answers fails.
 #[derive(Clone, Copy)]
@@ -77,7 +74,7 @@ fn least(kept: Option<u32>, is_right: bool, column: u32) -> Option<u32>
 
 // The element that a field is.
 fn element_of<F: Field>(block: &[u8; 32]) -> F
-    ensures { number_from (take F.BYTES block.now) < F.size → result ≡ F.element (number_from (take F.BYTES block.now)) }
+    ensures { number_from (take F.coding.bytes block.now) < F.coding.size → result ≡ F.coding.element (number_from (take F.coding.bytes block.now)) }
 {
     match F::of_le(&block[..F::BYTES]) {
         Some(x) => x,
@@ -196,7 +193,7 @@ impl<F: Field> Intake<F> {
         ensures leaves { length self.new.leaves.items ≡ length self.old.leaves.items }
         ensures rows { self.new.leaves.rows ≡ self.old.leaves.rows }
         ensures public { self.new.public.items ≡ public.now }
-        ensures kept { let e = coding F.element F.number_of F.BYTES F.size F.ID in
+        ensures kept { let e = F.coding in
             (c : Wiring F) (p : Params) → AreBounded p → id.now ≡ id_of e c →
             IsKept F.ops e c p session.now public.now [] (kept_of F.ops e c p 0 None [] self.new) }
     {
@@ -212,10 +209,10 @@ impl<F: Field> Intake<F> {
     fn draw(&mut self, circuit: &Circuit<F>, params: &Params, room: &mut Room<F>)
         requires params { params.now ≡ params_of circuit.now }
         requires bounded { AreBounded params.now }
-        requires sound { IsSound F.ops F.element circuit.now params.now self.old room.old }
-        ensures sound { IsSound F.ops F.element circuit.now params.now self.new room.new }
+        requires sound { IsSound F.ops F.coding.element circuit.now params.now self.old room.old }
+        ensures sound { IsSound F.ops F.coding.element circuit.now params.now self.new room.new }
         ensures others { self.new ≡ record self.old { tape = self.new.tape; drawn = self.new.drawn; wanted = self.new.wanted; is_drawn = true } }
-        ensures given { self.new.drawn ≡ whole_transcript F.ops (coding F.element F.number_of F.BYTES F.size F.ID) circuit.now params.now
+        ensures given { self.new.drawn ≡ whole_transcript F.ops F.coding circuit.now params.now
             self.old.tape self.old.root self.old.sent.items }
     {
         self.drawn
@@ -231,20 +228,23 @@ impl<F: Field> Intake<F> {
         requires rooms { AreRooms params.now room.old }
         requires inside { k < 128 }
         ensures others { self.new ≡ record self.old { leaves = self.new.leaves; failing = self.new.failing } }
-        ensures leaf { self.new.leaves.items ≡ slice_set self.old.leaves.items k (leaf_of F.BYTES F.number_of self.old.nonce self.old.column.items) }
+        ensures leaf { self.new.leaves.items ≡ slice_set self.old.leaves.items k (leaf_of F.coding.bytes F.coding.number self.old.nonce self.old.column.items) }
         ensures rows { self.new.leaves.rows ≡ self.old.leaves.rows }
         ensures low_degree { let index = slice_index self.old.drawn.columns k in
-            room.old.answers ≡ weighted_answers F.ops F.element params.now self.old.sent.items → IsNoted self.old.failing.low_degree self.new.failing.low_degree
-            (IsLowDegreeIn F.ops F.element params.now self.old.column.items (params.now.dblock + index) (ldt_in params.now self.old.sent.items)
+            room.old.answers ≡ weighted_answers F.ops F.coding.element params.now self.old.sent.items →
+            IsNoted self.old.failing.low_degree self.new.failing.low_degree
+            (IsLowDegreeIn F.ops F.coding.element params.now self.old.column.items (params.now.dblock + index) (ldt_in params.now self.old.sent.items)
             self.old.drawn.challenges.u) index }
         ensures linear { let index = slice_index self.old.drawn.columns k in
-            room.old.answers ≡ weighted_answers F.ops F.element params.now self.old.sent.items → (lists : ℕ → List F) →
-            AreWeightedRows F.ops F.element params.now room.old.combined lists
+            room.old.answers ≡ weighted_answers F.ops F.coding.element params.now self.old.sent.items → (lists : ℕ → List F) →
+            AreWeightedRows F.ops F.coding.element params.now room.old.combined lists
             → IsNoted self.old.failing.linear self.new.failing.linear
-            (IsLinearIn F.ops F.element params.now self.old.column.items (params.now.dblock + index) (dot_in params.now self.old.sent.items) lists) index }
+            (IsLinearIn F.ops F.coding.element params.now self.old.column.items (params.now.dblock + index) (dot_in params.now self.old.sent.items)
+            lists) index }
         ensures quadratic { let index = slice_index self.old.drawn.columns k in
-            room.old.answers ≡ weighted_answers F.ops F.element params.now self.old.sent.items → IsNoted self.old.failing.quadratic self.new.failing.quadratic
-            (IsQuadraticIn F.ops F.element params.now self.old.column.items (params.now.dblock + index)
+            room.old.answers ≡ weighted_answers F.ops F.coding.element params.now self.old.sent.items →
+            IsNoted self.old.failing.quadratic self.new.failing.quadratic
+            (IsQuadraticIn F.ops F.coding.element params.now self.old.column.items (params.now.dblock + index)
             (values_of F.ops params.now (head_in params.now self.old.sent.items) (tail_in params.now self.old.sent.items)) self.old.drawn.challenges.v) index }
         ensures room { room.new ≡ room.old }
     {
@@ -265,8 +265,8 @@ impl<F: Field> Intake<F> {
         requires { k < length self.old.sent.items }
         ensures others { self.new ≡ record self.old { sent = self.new.sent; is_drawn = false } }
         ensures length { length self.new.sent.items ≡ length self.old.sent.items }
-        ensures sent { number_from (take F.BYTES block.now) < F.size →
-            self.new.sent.items ≡ slice_set self.old.sent.items k (F.element (number_from (take F.BYTES block.now))) }
+        ensures sent { number_from (take F.coding.bytes block.now) < F.coding.size →
+            self.new.sent.items ≡ slice_set self.old.sent.items k (F.coding.element (number_from (take F.coding.bytes block.now))) }
     {
         self.sent[k as usize] = element_of(block);
         self.is_drawn = false;
@@ -285,11 +285,11 @@ impl<F: Field> Intake<F> {
         requires params { params.now ≡ params_of circuit.now }
         requires bounded { AreBounded params.now }
         requires has { HasPart params.now 1536 part }
-        requires sound { IsSound F.ops F.element circuit.now params.now self.old room.old }
-        ensures sound { IsSound F.ops F.element circuit.now params.now self.new room.new }
-        ensures kept { let e = coding F.element F.number_of F.BYTES F.size F.ID in
+        requires sound { IsSound F.ops F.coding.element circuit.now params.now self.old room.old }
+        ensures sound { IsSound F.ops F.coding.element circuit.now params.now self.new room.new }
+        ensures kept { let e = F.coding in
             (session : List ℕ) (public : List F) (fields : List (List ℕ)) (field : List ℕ)
-            → length fields ≡ number_of params.now part → IsBlockOf (shape F.BYTES F.size) part block.now field
+            → length fields ≡ number_of params.now part → IsBlockOf (shape F.coding.bytes F.coding.size) part block.now field
             → IsKept F.ops e circuit.now params.now session public fields
             (kept_of F.ops e circuit.now params.now (length fields) (digests_in params.now fields) [] self.old)
             → IsKept F.ops e circuit.now params.now session public (fields ++ field ∷ [])
@@ -306,7 +306,10 @@ impl<F: Field> Intake<F> {
                 self.set_sent(params.nsum + params.block + params.dblock + i, block);
             }
             ProofPart::QuadTail(i) => {
-                self.set_sent(params.nsum + params.block + params.dblock + 128 + i, block);
+                self.set_sent(
+                    params.nsum + params.block + params.dblock + BLINDS as u32 + i,
+                    block,
+                );
                 if i + 1 == params.dblock - params.block {
                     self.draw(circuit, params, room);
                 }

@@ -1,7 +1,6 @@
 //! Laws of the definition of a verdict.
 
 ghost use Rattle.std.specs.Prelude.{ℕ, List};
-ghost use Rattle.lzk_field.specs.Coding.{coding};
 ghost use Rattle.lzk_circuit.specs.Valid.{Wiring};
 ghost use Rattle.lzk_verify.specs.Verdict.{OneVerdict, SomeVerdict, AcceptsExactly};
 
@@ -10,8 +9,7 @@ use lzk_field::Field;
 /// Laws of the definition of a verdict: all bytes have exactly one, and it is Accepted exactly where all checks hold. The body
 /// does nothing.
 pub fn verdict_laws<F: Field>()
-    ensures one { OneVerdict F.ops (coding F.element F.number_of F.BYTES F.size F.ID) }
-    ensures some { SomeVerdict F.ops (coding F.element F.number_of F.BYTES F.size F.ID) }
-    ensures accepted { let e = coding F.element F.number_of F.BYTES F.size F.ID in
-        (c : Wiring F) (session : List ℕ) (public : List F) (bytes : List ℕ) → AcceptsExactly F.ops e c session public bytes }
+    ensures one { OneVerdict F.ops F.coding }
+    ensures some { SomeVerdict F.ops F.coding }
+    ensures accepted { (c : Wiring F) (session : List ℕ) (public : List F) (bytes : List ℕ) → AcceptsExactly F.ops F.coding c session public bytes }
 {}

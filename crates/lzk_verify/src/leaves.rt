@@ -9,12 +9,11 @@ ghost use Rattle.lzk_verify.specs.Checks.{needed_digests};
 ghost use Rattle.lzk_verify.specs.Desk.{IsChecked};
 ghost use Rattle.lzk_verify.specs.Leaves.{FitsIn, AreThree, with_leaf, with_three, with_leaves};
 
-use crate::drawing::OPENED;
 use crate::opening::check_root;
 use crate::room::zero_digests;
 use lzk_circuit::zeros;
 use lzk_field::Field;
-use lzk_layout::Params;
+use lzk_layout::{OPENED, Params};
 use lzk_merkle::{four_leaves, leaf};
 use std::alloc::{AllocError, Global};
 use std::marker::Model;
@@ -54,11 +53,11 @@ impl<F: Field> Model for Leaves<F> {
     ghost Value = { LeafList };
 
     ghost view = { λ l. record {
-      items = with_leaves F.BYTES F.number_of l.waiting l.columns l.made.items;
+      items = with_leaves F.coding.bytes F.coding.number l.waiting l.columns l.made.items;
       rows = length l.columns.first.elements.items;
     } };
 
-    ghost invariant = { λ l. AreSound F.BYTES l.waiting l.columns l.made.items l.bytes.items };
+    ghost invariant = { λ l. AreSound F.coding.bytes l.waiting l.columns l.made.items l.bytes.items };
 }
 
 impl<F: Field> WaitingColumn<F> {
@@ -105,7 +104,7 @@ impl<F: Field> ThreeColumns<F> {
 // Room for the bytes of four leaves of so many elements.
 fn room_for_four<F: Field>(alloc: Global, params: &Params) -> Result<Vec<u8>, AllocError>
     requires { AreBounded params.now }
-    ensures { IfOk result (λ bytes. length bytes.items ≡ 4 * (32 + params.now.nrow * F.BYTES)) }
+    ensures { IfOk result (λ bytes. length bytes.items ≡ 4 * (32 + params.now.nrow * F.coding.bytes)) }
 {
     let mut bytes = Vec::new(alloc);
     bytes.resize(4 * (32 + params.nrow as usize * F::BYTES), 0)?;
@@ -123,8 +122,9 @@ fn make_four<F: Field>(
 )
     requires columns { AreThree (length made.old) (length elements.now) columns.now }
     requires inside { place < length made.old }
-    requires bytes { length bytes.old ≡ 4 * (32 + length elements.now * F.BYTES) }
-    ensures { made.new ≡ slice_set (with_three F.BYTES F.number_of columns.now made.old) place (leaf_of F.BYTES F.number_of nonce.now elements.now) }
+    requires bytes { length bytes.old ≡ 4 * (32 + length elements.now * F.coding.bytes) }
+    ensures { made.new ≡ slice_set (with_three F.coding.bytes F.coding.number columns.now made.old) place
+        (leaf_of F.coding.bytes F.coding.number nonce.now elements.now) }
 {
     let [first, second, third] = [&columns.first, &columns.second, &columns.third];
     let nonces = [first.nonce, second.nonce, third.nonce, *nonce];
@@ -145,7 +145,7 @@ fn make_four<F: Field>(
 // Makes the leaf of this column, where it waits.
 fn make_one<F: Field>(waits: bool, column: &WaitingColumn<F>, made: &mut [[u8; 32]])
     requires { column.now.place < length made.old }
-    ensures leaf { made.new ≡ cond waits (with_leaf F.BYTES F.number_of column.now made.old) made.old }
+    ensures leaf { made.new ≡ cond waits (with_leaf F.coding.bytes F.coding.number column.now made.old) made.old }
     ensures length { length made.new ≡ length made.old }
 {
     if waits {
@@ -156,7 +156,7 @@ fn make_one<F: Field>(waits: bool, column: &WaitingColumn<F>, made: &mut [[u8; 3
 // Makes the leaves of the first so many of the columns.
 fn make_waiting<F: Field>(waiting: usize, columns: &ThreeColumns<F>, made: &mut [[u8; 32]])
     requires { AreThree (length made.old) (length columns.now.first.elements.items) columns.now }
-    ensures { made.new ≡ with_leaves F.BYTES F.number_of waiting columns.now made.old }
+    ensures { made.new ≡ with_leaves F.coding.bytes F.coding.number waiting columns.now made.old }
 {
     make_one(waiting > 0, &columns.first, made);
     make_one(waiting > 1, &columns.second, made);
@@ -193,7 +193,7 @@ impl<F: Field> Leaves<F> {
     pub(crate) fn set(&mut self, place: usize, nonce: &[u8; 32], elements: &[F])
         requires inside { place < length self.old.items }
         requires rows { length elements.now ≡ self.old.rows }
-        ensures { self.new ≡ record self.old { items = slice_set self.old.items place (leaf_of F.BYTES F.number_of nonce.now elements.now) } }
+        ensures { self.new ≡ record self.old { items = slice_set self.old.items place (leaf_of F.coding.bytes F.coding.number nonce.now elements.now) } }
     {
         match self.waiting {
             0 => self.columns.first.set(place, nonce, elements),

@@ -11,10 +11,7 @@ ghost use Rattle.lzk_verify.specs.Extending.{Extends, row_sum, weighted};
 use crate::extending::extend_to;
 use lzk_accept::Factored;
 use lzk_field::Field;
-use lzk_layout::Params;
-
-/// How many values of a row stand before its elements.
-pub(crate) const HEAD: usize = 128;
+use lzk_layout::{BLINDS, Params};
 
 /// How many products a coefficient is the sum of, where rows are given by factors.
 pub(crate) const FACTORS: usize = 4;
@@ -93,11 +90,13 @@ fn linear_sum<F: Field>(
     requires column { length column.now ≡ params.now.nrow }
     requires combined { HasFactors params.now combined.now }
     requires inverses { length inverses.now ≡ params.now.block }
-    ensures { (point : ℕ) (lists : ℕ → List F) → Extends F.ops F.element point inverses.now last → AreWeightedRows F.ops F.element params.now combined.now lists
-        → result ≡ sum_below F.ops (params.now.nrow - 3) (λ i. F.ops.times (extension F.ops F.element (lists (3 + i)) point) (entry F.ops column.now (3 + i))) }
+    ensures { (point : ℕ) (lists : ℕ → List F) → Extends F.ops F.coding.element point inverses.now last →
+        AreWeightedRows F.ops F.coding.element params.now combined.now lists
+        → result ≡ sum_below F.ops (params.now.nrow - 3) (λ i. F.ops.times (extension F.ops F.coding.element (lists (3 + i)) point)
+        (entry F.ops column.now (3 + i))) }
 {
     let behind = 3 + combined.rows as usize;
-    let back = &inverses[HEAD..];
+    let back = &inverses[BLINDS..];
     let private = sum_private(
         &column[3..behind],
         combined.row_factors.as_slice(),
@@ -124,10 +123,10 @@ pub(crate) fn is_linear_at<F: Field>(
     requires column { length column.now ≡ params.now.nrow }
     requires combined { HasFactors params.now combined.now }
     requires inverses { length inverses.now ≡ params.now.dblock }
-    ensures { (point : ℕ) (values : List F) (lists : ℕ → List F) → dot.now ≡ weighted F.ops F.element values
-        → Extends F.ops F.element point (take params.now.block inverses.now) row_last → Extends F.ops F.element point inverses.now last
-        → AreWeightedRows F.ops F.element params.now combined.now lists →
-        (IsTrue result ↔ IsLinearIn F.ops F.element params.now column.now point values lists) }
+    ensures { (point : ℕ) (values : List F) (lists : ℕ → List F) → dot.now ≡ weighted F.ops F.coding.element values
+        → Extends F.ops F.coding.element point (take params.now.block inverses.now) row_last → Extends F.ops F.coding.element point inverses.now last
+        → AreWeightedRows F.ops F.coding.element params.now combined.now lists →
+        (IsTrue result ↔ IsLinearIn F.ops F.coding.element params.now column.now point values lists) }
 {
     let row = &inverses[..params.block as usize];
     let sum = linear_sum(params, column, combined, row, row_last);

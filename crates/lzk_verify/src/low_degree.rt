@@ -9,7 +9,7 @@ ghost use Rattle.lzk_verify.specs.Extending.{Extends, weighted};
 
 use crate::extending::extend_to;
 use lzk_field::Field;
-use lzk_layout::Params;
+use lzk_layout::{BLINDS, Params};
 
 // The sum of each u times an element of a column from row 3 on, and of its first element.
 fn low_degree_sum<F: Field>(params: &Params, column: &[F], u: &[F]) -> F
@@ -36,8 +36,8 @@ pub(crate) fn is_low_degree_at<F: Field>(
     requires column { length column.now ≡ params.now.nrow }
     requires u { length u.now ≡ params.now.nrow - 3 }
     requires inverses { length inverses.now ≡ params.now.block }
-    ensures { (point : ℕ) (values : List F) → ldt.now ≡ weighted F.ops F.element values → Extends F.ops F.element point inverses.now last
-        → (IsTrue result ↔ IsLowDegreeIn F.ops F.element params.now column.now point values u.now) }
+    ensures { (point : ℕ) (values : List F) → ldt.now ≡ weighted F.ops F.coding.element values → Extends F.ops F.coding.element point inverses.now last
+        → (IsTrue result ↔ IsLowDegreeIn F.ops F.coding.element params.now column.now point values u.now) }
 {
     extend_to(ldt, inverses, last, low_degree_sum(params, column, u))
 }
@@ -50,7 +50,7 @@ fn found_sum<F: Field>(params: &Params, values: &[F]) -> F
 {
     let mut sum = F::zero();
     for s in 0..params.wr as usize {
-        sum = sum.add(values[128 + s]);
+        sum = sum.add(values[BLINDS + s]);
     }
     sum
 }

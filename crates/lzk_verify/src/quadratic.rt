@@ -75,8 +75,8 @@ pub(crate) fn is_quadratic_at<F: Field>(
     requires column { length column.now ≡ params.now.nrow }
     requires v { length v.now ≡ params.now.ntriple }
     requires inverses { length inverses.now ≡ params.now.dblock }
-    ensures { (point : ℕ) (values : List F) → quadratic.now ≡ weighted F.ops F.element values → Extends F.ops F.element point inverses.now last
-        → (IsTrue result ↔ IsQuadraticIn F.ops F.element params.now column.now point values v.now) }
+    ensures { (point : ℕ) (values : List F) → quadratic.now ≡ weighted F.ops F.coding.element values → Extends F.ops F.coding.element point inverses.now last
+        → (IsTrue result ↔ IsQuadraticIn F.ops F.coding.element params.now column.now point values v.now) }
 {
     extend_to(quadratic, inverses, last, quadratic_sum(params, column, v))
 }

@@ -4,14 +4,18 @@ ghost use Rattle.std.specs.Prelude.{◌≡◌, ◌+◌, ◌-◌, length};
 ghost use Rattle.lzk_layout.specs.Sizes.{AreBounded};
 ghost use Rattle.lzk_verify.specs.Kept.{sent_count, messages_in, ldt_in, dot_in, head_in, tail_in};
 
-use lzk_layout::Params;
+use lzk_layout::{BLINDS, Params};
 
 /// How many these are.
 pub(crate) fn sent_count(params: &Params) -> usize
     requires { AreBounded params.now }
     ensures { result ≡ sent_count params.now }
 {
-    (params.nsum + params.block + params.dblock + 128 + (params.dblock - params.block)) as usize
+    (params.nsum
+        + params.block
+        + params.dblock
+        + BLINDS as u32
+        + (params.dblock - params.block)) as usize
 }
 
 /// Where the low degree answer begins.
@@ -42,7 +46,7 @@ fn tail_start(params: &Params) -> usize
     requires { AreBounded params.now }
     ensures { result ≡ params.now.nsum + params.now.block + params.now.dblock + 128 }
 {
-    head_start(params) + 128
+    head_start(params) + BLINDS
 }
 
 /// What the sumchecks send.

@@ -10,13 +10,13 @@ ghost use Rattle.lzk_verify.specs.Desk.{AreAnswers, AreRows, AreWeightedRows, Ha
 ghost use Rattle.lzk_verify.specs.Extending.{weight, weighted};
 ghost use Rattle.lzk_verify.specs.Kept.{sent_count};
 
-use crate::linear::{FACTORS, HEAD};
+use crate::linear::FACTORS;
 use crate::quadratic::fill_quadratic;
 use crate::sent::{dot_of, head_of, ldt_of, tail_of};
 use lzk_accept::Factored;
 use lzk_circuit::zeros;
 use lzk_field::Field;
-use lzk_layout::Params;
+use lzk_layout::{BLINDS, Params};
 use lzk_poly::Weights;
 use std::alloc::{AllocError, Global};
 use std::marker::Model;
@@ -56,7 +56,7 @@ fn weigh_row<F: Field>(own: &[F], start: usize, table: &mut [F])
 // Each value times its weight.
 fn weigh<F: Field>(weights: &Weights<F>, values: &mut [F])
     requires { length values.old ≡ weights.now.count }
-    ensures { values.new ≡ weighted F.ops F.element values.old }
+    ensures { values.new ≡ weighted F.ops F.coding.element values.old }
 {
     weigh_row(weights.weights(), 0, values);
 }
@@ -65,7 +65,7 @@ fn weigh<F: Field>(weights: &Weights<F>, values: &mut [F])
 fn set_weighted<F: Field>(weights: &Weights<F>, values: &[F], list: &mut [F])
     requires values { length values.now ≡ weights.now.count }
     requires room { length list.old ≡ weights.now.count }
-    ensures { list.new ≡ weighted F.ops F.element values.now }
+    ensures { list.new ≡ weighted F.ops F.coding.element values.now }
 {
     list.copy_from_slice(values);
     weigh(weights, list);
@@ -100,7 +100,7 @@ impl<F: Field> Weighted<F> {
         requires rows { rows.now ≡ spec.rows params.now }
         requires products { products.now ≡ spec.products params.now }
         requires sent { length sent.now ≡ sent_count params.now }
-        ensures { self.new ≡ spec.weighted_answers F.ops F.element params.now sent.now }
+        ensures { self.new ≡ spec.weighted_answers F.ops F.coding.element params.now sent.now }
     {
         set_weighted(rows, ldt_of(params, sent), &mut self.ldt);
         set_weighted(products, dot_of(params, sent), &mut self.dot);
@@ -132,9 +132,9 @@ pub(crate) fn weigh_rows<F: Field>(params: &Params, rows: &Weights<F>, combined:
     requires factors { HasFactors params.now combined.old }
     ensures factors { HasFactors params.now combined.new }
     ensures room { (c : Wiring F) → HasRoomFor c combined.old → HasRoomFor c combined.new }
-    ensures rows { (lists : ℕ → List F) → AreRows F.ops params.now combined.old lists → AreWeightedRows F.ops F.element params.now combined.new lists }
+    ensures rows { (lists : ℕ → List F) → AreRows F.ops params.now combined.old lists → AreWeightedRows F.ops F.coding.element params.now combined.new lists }
 {
-    let own = &rows.weights()[HEAD..];
+    let own = &rows.weights()[BLINDS..];
     let others = (params.nrow - 3 - combined.rows) as usize;
     weigh_table(own, FACTORS, combined.place_factors.as_mut_slice());
     weigh_table(own, others, combined.table.as_mut_slice());

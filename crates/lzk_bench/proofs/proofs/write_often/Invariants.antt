@@ -7,5 +7,5 @@ abbrev pub invariant-loop-k : goal.invariant-loop-k
 invariant-loop-k g l = record {
   lengths : HasLengths l.params l.proof;
   few : length l.proof.path.digests ≤ 1536;
-  room : length l.bytes ≡ proof_length g.F.Field.BYTES l.params (length l.proof.path.digests);
+  room : length l.bytes ≡ proof_length g.F.Field.coding.bytes l.params (length l.proof.path.digests);
 }

@@ -1,5 +1,4 @@
 use Rattle.std.proofs.Common.{length, ◌<◌, subst, arith}
-use Rattle.lzk_field.specs.Coding.{coding}
 use Rattle.lzk_c.specs.Answers.{IsExplainedOver}
 use Rattle.lzk_c.proofs.Zips.{done-step}
 use Rattle.lzk_c.proofs.jobs.explain_each.Goals as goal
@@ -7,7 +6,7 @@ use Rattle.lzk_c.proofs.jobs.explain_each.Goals as goal
 pub loop-i-preserved : goal.loop-i-preserved
 loop-i-preserved g c =
     let f = g.F.Field in
-    let R = IsExplainedOver f.ops (coding f.element f.number_of f.BYTES f.size f.ID) c.args.circuit.now in
+    let R = IsExplainedOver f.ops f.coding c.args.circuit.now in
     let h = c.loop-i.invariant.done in
     let i = c.loop-i.i in
     let within : i < length c.args.jobs.now = omega (arith, h.long) in

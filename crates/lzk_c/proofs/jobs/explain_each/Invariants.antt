@@ -1,5 +1,4 @@
 use Rattle.std.proofs.Common.{◌≡◌}
-use Rattle.lzk_field.specs.Coding.{coding}
 use Rattle.lzk_c.specs.Answers.{IsExplainedOver}
 use Rattle.lzk_c.proofs.Zips.{IsDone}
 use Rattle.lzk_c.proofs.jobs.explain_each.Given as goal
@@ -9,5 +8,5 @@ invariant-loop-i g l =
     let f = g.F.Field in
     record {
       circuit : l.desk.circuit ≡ l.fn.circuit;
-      done : IsDone (IsExplainedOver f.ops (coding f.element f.number_of f.BYTES f.size f.ID) l.fn.circuit) l.i l.fn.jobs l.jobs;
+      done : IsDone (IsExplainedOver f.ops f.coding l.fn.circuit) l.i l.fn.jobs l.jobs;
     }

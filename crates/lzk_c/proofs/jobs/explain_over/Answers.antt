@@ -1,4 +1,3 @@
-use Rattle.lzk_field.specs.Coding.{coding}
 use Rattle.lzk_c.specs.Answers.{SaysOver}
 use Rattle.lzk_c.specs.declared.refusal.Refusal.TheVariants.{OutOfMemory}
 use Rattle.lzk_c.proofs.Explaining.{refused-as}
@@ -7,5 +6,5 @@ use Rattle.lzk_c.proofs.jobs.explain_over.Goals as goal
 pub returns-in-Err : goal.returns-in-Err
 returns-in-Err g c =
     let f = g.F.Field in
-    refused-as OutOfMemory (SaysOver f.ops (coding f.element f.number_of f.BYTES f.size f.ID) c.args.circuit.now) (λ public session proof. tt)
+    refused-as OutOfMemory (SaysOver f.ops f.coding c.args.circuit.now) (λ public session proof. tt)
     c.args.jobs.now c.refuse_each.new.jobs c.refuse_each.ensures

@@ -1,6 +1,5 @@
 use Rattle.std.proofs.Common.{refl, ◌++◌, take, sym, ap, subst, ◌∙◌}
 use Rattle.std.proofs.lemmas.List.{take_more, take_all, flat_map_more, append_assoc, append-nil}
-use Rattle.lzk_field.specs.Coding.{coding}
 use Rattle.lzk_verify.specs.Kept.{Stands}
 use Rattle.lzk_c.specs.Answers.{joined}
 use Rattle.lzk_c.proofs.pieces.feed_pieces.Goals as goal
@@ -8,7 +7,7 @@ use Rattle.lzk_c.proofs.pieces.feed_pieces.Goals as goal
 pub loop-piece-init : goal.loop-piece-init
 loop-piece-init g c =
     let f = g.F.Field in
-    let e = coding f.element f.number_of f.BYTES f.size f.ID in
+    let e = f.coding in
     record {
       fed = c.requires.fed;
       circuit = refl;
@@ -18,7 +17,7 @@ loop-piece-init g c =
 pub loop-piece-preserved : goal.loop-piece-preserved
 loop-piece-preserved g c =
     let f = g.F.Field in
-    let e = coding f.element f.number_of f.BYTES f.size f.ID in
+    let e = f.coding in
     let pieces = c.args.pieces.now in
     let i = c.loop-piece.piece-index in
     record {
@@ -32,5 +31,5 @@ loop-piece-preserved g c =
 pub returns-clause-stands : goal.returns-clause-stands
 returns-clause-stands g c = λ session public bytes h.
     let f = g.F.Field in
-    let e = coding f.element f.number_of f.BYTES f.size f.ID in
+    let e = f.coding in
     subst (λ xs. Stands f.ops e session public xs c.loop-piece.desk) (ap (λ ys. bytes ++ joined ys) (take_all c.loop-piece.piece-index c.args.pieces.now c.loop-piece-test.false)) (c.loop-piece.invariant.stands session public bytes h)

@@ -1,5 +1,4 @@
 use Rattle.std.proofs.Common.{◌≡◌, ℕ, true, List, ◌++◌, take}
-use Rattle.lzk_field.specs.Coding.{coding}
 use Rattle.lzk_verify.specs.Kept as spec
 use Rattle.lzk_verify.specs.Kept.{Stands}
 use Rattle.lzk_c.specs.Answers.{joined}
@@ -8,7 +7,7 @@ use Rattle.lzk_c.proofs.pieces.feed_pieces.Given as goal
 abbrev pub invariant-loop-piece : goal.invariant-loop-piece
 invariant-loop-piece g l =
     let f = g.F.Field in
-    let e = coding f.element f.number_of f.BYTES f.size f.ID in
+    let e = f.coding in
     record {
       fed : spec.is_fed l.desk ≡ true;
       circuit : l.desk.circuit ≡ l.fn.desk.circuit;

@@ -1,6 +1,5 @@
 use Rattle.std.proofs.Common.{ℕ, List, Ok, Err, subst}
 use Rattle.lzk_batch.specs.Lists.{entry_view}
-use Rattle.lzk_field.specs.Coding.{coding}
 use Rattle.lzk_cmd_runs.specs.Batched.{among}
 use Rattle.lzk_cmd_files.specs.Decoded.{number_files, proof_files}
 use Rattle.lzk_cmd_files.specs.Seen.{seen}
@@ -14,8 +13,8 @@ returns-in_err-public-clause-gives g c =
     let old = seen g.S.Shelf c.args.shelf.now in
     let new = seen g.S.Shelf c.read_publics.new.shelf in
     let h = c.in_err-public.field-0.0 in
-    let gives = subst (λ (name : List ℕ). Gives (among c.args.taken (number_files f.size f.number_of c.publics.result)) items_with old new name (Err h)) c.deref-2.ensures c.in_err-public.ensures.gives in
-    no_publics (coding f.element f.number_of f.BYTES f.size f.ID) c.args.circuit.now (entry_view c.args.entry.now) c.args.place c.args.taken c.publics.result c.publics.ensures old new h _ c.in_err-public.ensures.reads gives c.from_residual-in_err-public.ensures.1
+    let gives = subst (λ (name : List ℕ). Gives (among c.args.taken (number_files f.coding.size f.coding.number c.publics.result)) items_with old new name (Err h)) c.deref-2.ensures c.in_err-public.ensures.gives in
+    no_publics f.coding c.args.circuit.now (entry_view c.args.entry.now) c.args.place c.args.taken c.publics.result c.publics.ensures old new h _ c.in_err-public.ensures.reads gives c.from_residual-in_err-public.ensures.1
 
 pub returns-in_err-proof-clause-gives : goal.returns-in_err-proof-clause-gives
 returns-in_err-proof-clause-gives g c =
@@ -24,7 +23,7 @@ returns-in_err-proof-clause-gives g c =
     let mid = seen g.S.Shelf c.read_publics.new.shelf in
     let new = seen g.S.Shelf c.read_proof.new.shelf in
     let h = c.in_err-proof.field-0.0 in
-    let gives = subst (λ (name : List ℕ). Gives (among c.args.taken (number_files f.size f.number_of c.publics.result)) items_with old mid name (Ok (c.in_ok-public.public, c.in_ok-public.taken))) c.deref-2.ensures c.in_ok-public.ensures.gives in
+    let gives = subst (λ (name : List ℕ). Gives (among c.args.taken (number_files f.coding.size f.coding.number c.publics.result)) items_with old mid name (Ok (c.in_ok-public.public, c.in_ok-public.taken))) c.deref-2.ensures c.in_ok-public.ensures.gives in
     let last = subst (λ (name : List ℕ). Gives (among c.in_ok-public.taken proof_files) items_with mid new name (Err h)) c.deref-3.ensures c.in_err-proof.ensures.gives in
-    no_proof (coding f.element f.number_of f.BYTES f.size f.ID) c.args.circuit.now (entry_view c.args.entry.now) c.args.place c.args.taken c.publics.result c.publics.ensures old mid new (c.in_ok-public.public, c.in_ok-public.taken) h _ c.in_ok-public.ensures.reads gives c.in_err-proof.ensures.reads last
+    no_proof f.coding c.args.circuit.now (entry_view c.args.entry.now) c.args.place c.args.taken c.publics.result c.publics.ensures old mid new (c.in_ok-public.public, c.in_ok-public.taken) h _ c.in_ok-public.ensures.reads gives c.in_err-proof.ensures.reads last
     c.from_residual-in_err-proof.ensures.1

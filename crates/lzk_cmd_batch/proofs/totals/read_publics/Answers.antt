@@ -8,5 +8,5 @@ use Rattle.lzk_cmd_batch.proofs.totals.read_publics.Goals as goal
 
 pub returns-in_err-elements-clause-gives : goal.returns-in_err-elements-clause-gives
 returns-in_err-elements-clause-gives g c =
-    refused (number_files g.F.Field.size g.F.Field.number_of c.args.count) items_with c.args.name.now (seen g.S.Shelf c.args.shelf.now) (seen g.S.Shelf c.read_file.new.shelf) c.args.taken _ items_of c.in_ok-text.text.items c.deref.result.now c.len.result c.in_ok-taken.taken
+    refused (number_files g.F.Field.coding.size g.F.Field.coding.number c.args.count) items_with c.args.name.now (seen g.S.Shelf c.args.shelf.now) (seen g.S.Shelf c.read_file.new.shelf) c.args.taken _ items_of c.in_ok-text.text.items c.deref.result.now c.len.result c.in_ok-taken.taken
     c.in_err-elements.field-0.0 c.deref.ensures.value (c.len.ensures ∙ c.in_ok-text.text.ok.0) c.in_ok-text.ensures.gives c.in_ok-taken.ensures c.in_err-elements.ensures.decodes c.from_residual-in_err-elements.ensures.1

@@ -6,7 +6,7 @@ use Rattle.lzk_cmd_circuits.proofs.evaluating.output_lines.Goals as goal
 
 pub loop-k-preserved : goal.loop-k-preserved
 loop-k-preserved g c =
-    let number = g.F.Field.number_of in
+    let number = g.F.Field.coding.number in
     let checks = c.args.values.now.checks in
     let k = c.loop-k.k in
     let below : k < length checks = omega (arith, c.requires.count, c.loop-k-test.true) in

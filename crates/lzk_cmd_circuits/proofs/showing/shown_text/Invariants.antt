@@ -8,4 +8,4 @@ use Rattle.lzk_cmd_circuits.proofs.showing.shown_text.Given as goal
 abbrev pub invariant-loop-l : goal.invariant-loop-l
 invariant-loop-l g l =
     string_bytes l.text ++ layer_lines l.l (drop l.l l.circuit.layers)
-    ≡ shown l.field (circuit_id (shape g.F.Field.ID g.F.Field.BYTES g.F.Field.size) (numbered g.F.Field.number_of l.circuit)) l.circuit
+    ≡ shown l.field (circuit_id (shape g.F.Field.coding.id g.F.Field.coding.bytes g.F.Field.coding.size) (numbered g.F.Field.coding.number l.circuit)) l.circuit

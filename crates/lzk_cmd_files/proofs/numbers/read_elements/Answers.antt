@@ -5,8 +5,8 @@ use Rattle.lzk_cmd_files.proofs.numbers.read_elements.Goals as goal
 
 pub returns-in_err-text-clause-gives : goal.returns-in_err-text-clause-gives
 returns-in_err-text-clause-gives g c =
-    no_bytes (number_files g.F.Field.size g.F.Field.number_of c.args.count) (λ v. v.items) c.args.name.now (seen g.S.Shelf c.args.shelf.now) (seen g.S.Shelf c.read_file.new.shelf) _ c.in_err-text.field-0.0 c.in_err-text.ensures.gives c.from_residual.ensures.1
+    no_bytes (number_files g.F.Field.coding.size g.F.Field.coding.number c.args.count) (λ v. v.items) c.args.name.now (seen g.S.Shelf c.args.shelf.now) (seen g.S.Shelf c.read_file.new.shelf) _ c.in_err-text.field-0.0 c.in_err-text.ensures.gives c.from_residual.ensures.1
 
 pub returns-clause-gives : goal.returns-clause-gives
 returns-clause-gives g c =
-    decoded (number_files g.F.Field.size g.F.Field.number_of c.args.count) (λ v. v.items) c.args.name.now (seen g.S.Shelf c.args.shelf.now) (seen g.S.Shelf c.read_file.new.shelf) _ c.in_ok-text.text.items c.deref.result.now c.deref.ensures.value c.in_ok-text.ensures.gives c.elements_of.ensures.decodes
+    decoded (number_files g.F.Field.coding.size g.F.Field.coding.number c.args.count) (λ v. v.items) c.args.name.now (seen g.S.Shelf c.args.shelf.now) (seen g.S.Shelf c.read_file.new.shelf) _ c.in_ok-text.text.items c.deref.result.now c.deref.ensures.value c.in_ok-text.ensures.gives c.elements_of.ensures.decodes

@@ -1,5 +1,4 @@
 use Rattle.std.proofs.Common.{ℕ, List, Option, None, refl, subst}
-use Rattle.lzk_field.specs.Coding.{coding}
 use Rattle.lzk_cmd_runs.specs.Proved.{ProveOver}
 use Rattle.lzk_cmd_files.specs.Seen.{seen}
 use Rattle.lzk_cmd_files.specs.Walks.{WalksToPut}
@@ -10,7 +9,7 @@ use Rattle.lzk_cmd_prove.proofs.proving.prove_over.Goals as goal
 pub returns-in_err-publics-clause-walks : goal.returns-in_err-publics-clause-walks
 unfolding ProveOver
 returns-in_err-publics-clause-walks g c =
-    let e = coding g.F.Field.element g.F.Field.number_of g.F.Field.BYTES g.F.Field.size g.F.Field.ID in
+    let e = g.F.Field.coding in
     let circuit = c.args.circuit.now in
     let job = c.args.job.now in
     let end = seen g.S.Shelf c.read_elements.new.shelf in
@@ -20,7 +19,7 @@ returns-in_err-publics-clause-walks g c =
 pub returns-in_err-privates-clause-walks : goal.returns-in_err-privates-clause-walks
 unfolding ProveOver
 returns-in_err-privates-clause-walks g c =
-    let e = coding g.F.Field.element g.F.Field.number_of g.F.Field.BYTES g.F.Field.size g.F.Field.ID in
+    let e = g.F.Field.coding in
     let circuit = c.args.circuit.now in
     let job = c.args.job.now in
     let end = seen g.S.Shelf c.read_elements-2.new.shelf in
@@ -31,7 +30,7 @@ pub returns-clause-walks : goal.returns-clause-walks
 unfolding ProveOver
 returns-clause-walks g c =
     let o = g.F.Field.ops in
-    let e = coding g.F.Field.element g.F.Field.number_of g.F.Field.BYTES g.F.Field.size g.F.Field.ID in
+    let e = g.F.Field.coding in
     let circuit = c.args.circuit.now in
     let job = c.args.job.now in
     let publics = c.in_ok-publics.publics in

@@ -3,9 +3,8 @@ use Rattle.std.specs.Option.{option_copied}
 use Rattle.lzk_circuit.specs.Checks.{checks_of}
 use Rattle.lzk_circuit.specs.Valid.{Wiring}
 use Rattle.lzk_circuit.specs.Wires.{inputs_of, IsFirstNonzero}
-use Rattle.lzk_field.specs.Coding.{coding}
 use Rattle.lzk_field.specs.Words.{seeded_word}
-use Rattle.lzk_honest.specs.Proving.{IsProofFile, words_of}
+use Rattle.lzk_complete.specs.Proving.{IsProofFile, words_of}
 use Rattle.lzk_cmd_files.specs.Seen.{seen}
 use Rattle.lzk_cmd_files.specs.declared.ending.Halt.TheVariants as halts
 use Rattle.lzk_cmd_prove.proofs.Proves.{no_memory, puts_proof, tells_first}
@@ -14,7 +13,7 @@ use Rattle.lzk_cmd_prove.proofs.proving.put_proof.Goals as goal
 pub returns-in_ok-text-in-Ok-clause-walks : goal.returns-in_ok-text-in-Ok-clause-walks
 returns-in_ok-text-in-Ok-clause-walks g c =
     let o = g.F.Field.ops in
-    let e = coding g.F.Field.element g.F.Field.number_of g.F.Field.BYTES g.F.Field.size g.F.Field.ID in
+    let e = g.F.Field.coding in
     let circuit = c.args.circuit.now in
     let job = c.args.job.now in
     let bytes = c.in-Ok.bytes.now in
@@ -28,7 +27,7 @@ returns-in_ok-text-in-Ok-clause-walks g c =
 pub returns-in_ok-unsatisfied-in-Err-clause-walks : goal.returns-in_ok-unsatisfied-in-Err-clause-walks
 returns-in_ok-unsatisfied-in-Err-clause-walks g c =
     let o = g.F.Field.ops in
-    let e = coding g.F.Field.element g.F.Field.number_of g.F.Field.BYTES g.F.Field.size g.F.Field.ID in
+    let e = g.F.Field.coding in
     let job = c.args.job.now in
     let first = c.in-Err.first in
     let is = subst (λ (w : Wiring _). IsFirstNonzero o (checks_of o e.number w.layers (inputs_of o c.args.publics.now c.args.privates.now)) (Some (first.output, first.value.now))) c.requires.works c.in-Err.ensures.proved in
@@ -36,12 +35,12 @@ returns-in_ok-unsatisfied-in-Err-clause-walks g c =
 
 pub returns-in_err-text-in-Ok-clause-walks : goal.returns-in_err-text-in-Ok-clause-walks
 returns-in_err-text-in-Ok-clause-walks g c =
-    let e = coding g.F.Field.element g.F.Field.number_of g.F.Field.BYTES g.F.Field.size g.F.Field.ID in
+    let e = g.F.Field.coding in
     let job = c.args.job.now in
     no_memory g.F.Field.ops e c.args.circuit.now job.proof.now (option_copied job.digest) job.session.now job.seed c.args.publics.now c.args.privates.now (seen g.S.Shelf c.args.shelf.now) halts.Memory _ refl c.from_residual.ensures.1
 
 pub returns-in_err-unsatisfied-in-Err-clause-walks : goal.returns-in_err-unsatisfied-in-Err-clause-walks
 returns-in_err-unsatisfied-in-Err-clause-walks g c =
-    let e = coding g.F.Field.element g.F.Field.number_of g.F.Field.BYTES g.F.Field.size g.F.Field.ID in
+    let e = g.F.Field.coding in
     let job = c.args.job.now in
     no_memory g.F.Field.ops e c.args.circuit.now job.proof.now (option_copied job.digest) job.session.now job.seed c.args.publics.now c.args.privates.now (seen g.S.Shelf c.args.shelf.now) halts.Memory _ refl c.from_residual-in_err-unsatisfied-in-Err.ensures.1

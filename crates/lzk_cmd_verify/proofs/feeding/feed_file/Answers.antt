@@ -1,5 +1,4 @@
 use Rattle.std.proofs.Common.{refl, ◌∙◌, arith}
-use Rattle.lzk_field.specs.Coding.{coding}
 use Rattle.lzk_cmd_files.specs.Seen.{seen}
 use Rattle.lzk_cmd_files.proofs.Sights.{no_step}
 use Rattle.lzk_cmd_verify.proofs.Fronts.{nothing_read, more_read}
@@ -8,7 +7,7 @@ use Rattle.lzk_cmd_verify.proofs.feeding.feed_file.Goals as goal
 pub loop-at-init : goal.loop-at-init
 loop-at-init g c =
     let f = g.F.Field in
-    let e = coding f.element f.number_of f.BYTES f.size f.ID in
+    let e = f.coding in
     record {
       front = nothing_read f.ops e (g.S.Shelf.held c.args.shelf.now) c.args.name.now c.args.desk.now;
       fed = c.requires.fed;
@@ -21,7 +20,7 @@ loop-at-init g c =
 pub loop-at-preserved : goal.loop-at-preserved
 loop-at-preserved g c =
     let f = g.F.Field in
-    let e = coding f.element f.number_of f.BYTES f.size f.ID in
+    let e = f.coding in
     let i = c.loop-at.invariant in
     let read = c.in-Ok.ensures in
     record {

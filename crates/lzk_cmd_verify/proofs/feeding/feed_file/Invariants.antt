@@ -1,5 +1,4 @@
 use Rattle.std.proofs.Common.{◌≡◌, ◌≤◌, ◌+◌, ◌-◌, true, length}
-use Rattle.lzk_field.specs.Coding.{coding}
 use Rattle.lzk_verify.specs.Kept.{is_fed}
 use Rattle.lzk_cmd_verify.specs.Feeding.{IsFedFront}
 use Rattle.lzk_cmd_files.specs.Seen.{seen}
@@ -9,7 +8,7 @@ use Rattle.lzk_cmd_verify.proofs.feeding.feed_file.Given as goal
 abbrev pub invariant-loop-at : goal.invariant-loop-at
 invariant-loop-at g l =
     let f = g.F.Field in
-    let e = coding f.element f.number_of f.BYTES f.size f.ID in
+    let e = f.coding in
     record {
       front : IsFedFront f.ops e (g.S.Shelf.held l.fn.shelf) l.name l.fn.desk l.desk l.at;
       fed : is_fed l.desk ≡ true;

@@ -1,17 +1,16 @@
 use Rattle.std.proofs.Common.{[], subst}
 use Rattle.lzk_circuit.specs.Valid.{Wiring}
-use Rattle.lzk_field.specs.Coding.{coding}
 use Rattle.lzk_verify.specs.Verdict.{IsVerdict, IsOnlyVerdict}
 use Rattle.lzk_cmd_verify.proofs.verifying.verdict_on.Goals as goal
 
 pub returns-clause-verdict : goal.returns-clause-verdict
 returns-clause-verdict g c =
     let f = g.F.Field in
-    let e = coding f.element f.number_of f.BYTES f.size f.ID in
+    let e = f.coding in
     subst (λ (w : Wiring _). IsVerdict f.ops e w [] c.args.publics.now c.args.bytes.now c.verify-verdict.result) c.in_ok-desk.ensures.circuit c.verify-verdict.ensures.verdict
 
 pub returns-clause-one : goal.returns-clause-one
 returns-clause-one g c =
     let f = g.F.Field in
-    let e = coding f.element f.number_of f.BYTES f.size f.ID in
+    let e = f.coding in
     subst (λ (w : Wiring _). IsOnlyVerdict f.ops e w [] c.args.publics.now c.args.bytes.now c.verify-verdict.result) c.in_ok-desk.ensures.circuit c.verify-verdict.ensures.one

@@ -1,5 +1,4 @@
 use Rattle.std.proofs.Common.{List, subst}
-use Rattle.lzk_field.specs.Coding.{coding}
 use Rattle.lzk_cmd_verify.specs.Feeding.{JudgesFile}
 use Rattle.lzk_cmd_files.specs.Seen.{seen}
 use Rattle.lzk_cmd_files.specs.Walks.{Walks}
@@ -8,7 +7,7 @@ use Rattle.lzk_cmd_verify.proofs.verifying.verify_over.Goals as goal
 
 pub returns-in_err-publics-clause-walks : goal.returns-in_err-publics-clause-walks
 returns-in_err-publics-clause-walks g c =
-    let e = coding g.F.Field.element g.F.Field.number_of g.F.Field.BYTES g.F.Field.size g.F.Field.ID in
+    let e = g.F.Field.coding in
     let end = seen g.S.Shelf c.read_elements.new.shelf in
     no_publics g.F.Field.ops e c.args.circuit.now c.args.public.now c.args.proof.now c.args.session.now (seen g.S.Shelf c.args.shelf.now) end end c.publics.result c.in_err-publics.field-0.0 _ c.publics.ensures
     c.in_err-publics.ensures.reads c.in_err-publics.ensures.gives c.from_residual.ensures.1
@@ -16,7 +15,7 @@ returns-in_err-publics-clause-walks g c =
 pub returns-clause-walks : goal.returns-clause-walks
 returns-clause-walks g c =
     let o = g.F.Field.ops in
-    let e = coding g.F.Field.element g.F.Field.number_of g.F.Field.BYTES g.F.Field.size g.F.Field.ID in
+    let e = g.F.Field.coding in
     let mid = seen g.S.Shelf c.read_elements.new.shelf in
     let end = seen g.S.Shelf c.judge_file.new.shelf in
     with_publics o e c.args.circuit.now c.args.public.now c.args.proof.now c.args.session.now (seen g.S.Shelf c.args.shelf.now) mid end c.publics.result c.in_ok-publics.publics c.judge_file.result

@@ -17,7 +17,7 @@ answer_by_factors-requires-clause-coefficients g c κs within =
 pub returns-clause-values : goal.returns-clause-values
 returns-clause-values g c = λ rows count table.
     let o = g.F.Field.ops in
-    let pt = g.F.Field.element in
+    let pt = g.F.Field.coding.element in
     let w = c.args.statement.now.circuit.now in
     let q = coefficient_of o pt w c.args.statement.now.public.now c.args.script.now c.args.messages.now in
     let all = c.combine_with_bounds.ensures.combined in

@@ -1,6 +1,5 @@
 use Rattle.std.specs.Prelude.{map, take}
 use Rattle.std.proofs.Common.{refl, sym, ◌∙◌, arith, subst}
-use Rattle.lzk_field.specs.Coding.{coding}
 use Rattle.lzk_circuit.specs.Wires.{all_values, inputs_of}
 use Rattle.lzk_layout.specs.Sizes.{params_of}
 use Rattle.lzk_layout.specs.Proofs.{ProofBytes}
@@ -10,8 +9,8 @@ use Rattle.lzk_sumcheck.specs.Messages.{AreMessages}
 use Rattle.lzk_sumcheck.specs.Opening.{opening}
 use Rattle.lzk_answers.specs.Rows.{IsTableOf}
 use Rattle.lzk_tableau.specs.Tableau.{tableau}
-use Rattle.lzk_honest.specs.Answered.{AreSent, answers_of}
-use Rattle.lzk_honest.specs.Proving.{words_of}
+use Rattle.lzk_complete.specs.Answered.{AreSent, answers_of}
+use Rattle.lzk_complete.specs.Proving.{words_of}
 use Rattle.lzk_ligero.specs.Changes.{change_of}
 use Rattle.lzk_ligero.proofs.Assembled.{assembled, transcript_of}
 use Rattle.lzk_ligero.proofs.TableLaws.{count_rows, table_of}
@@ -21,7 +20,7 @@ pub returns-clause-file : goal.returns-clause-file
 returns-clause-file g c =
     let f = g.F.Field in
     let o = f.ops in
-    let e = coding f.element f.number_of f.BYTES f.size f.ID in
+    let e = f.coding in
     let w = c.args.statement.now.circuit.now in
     let session = c.args.statement.now.session.now in
     let public = c.args.statement.now.public.now in

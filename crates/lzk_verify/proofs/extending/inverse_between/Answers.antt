@@ -12,13 +12,13 @@ returns-then-even g c =
     let table = c.args.inverses.now in
     let at = c.args.point - c.args.i in
     c.index-inverses-point.is ∙ get_or_default table at c.index-inverses-point.result o.zero (omega arith)
-    ∙ even_inverse o f.laws.ring f.laws.field f.element table c.args.i c.args.point (c.requires.even c.if-even.true) c.requires.table c.requires.enough c.requires.apart
+    ∙ even_inverse o f.laws.ring f.laws.field f.coding.element table c.args.i c.args.point (c.requires.even c.if-even.true) c.requires.table c.requires.enough c.requires.apart
 
 pub inverse_of-requires-clause-nonzero : goal.inverse_of-requires-clause-nonzero
 inverse_of-requires-clause-nonzero g c κs within = λ e.
     let f = g.F.Field in
     let o = f.ops in
-    let x = f.element c.args.point in
-    let y = f.element c.args.i in
+    let x = f.coding.element c.args.point in
+    let y = f.coding.element c.args.i in
     points_apart f.laws 65536 (omega arith) c.args.i c.args.point c.requires.apart c.requires.limit
     (sym (same_from_difference o f.laws.ring x y (ap (λ w. o.plus w (o.neg y)) (sym c.point.ensures) ∙ ap (λ w. o.plus c.point.result (o.neg w)) (sym c.point-2.ensures) ∙ sym c.sub.ensures ∙ e)))

@@ -15,4 +15,4 @@ returns g c = λ inverses long are.
     let there : count + at ≡ c.args.point = omega (arith, c.count.ensures.value) in
     let within : at < length products = omega (arith, all.0) in
     extended f.laws inverses count c.args.point c.index-passed-at.result long c.requires.behind (omega (arith, c.requires.reached, c.count.ensures.limit)) are
-    (c.index-passed-at.is ∙ get_or_default products at c.index-passed-at.result o.zero within ∙ all.1 at within ∙ ap (λ i. passed o f.element count (f.element i)) there)
+    (c.index-passed-at.is ∙ get_or_default products at c.index-passed-at.result o.zero within ∙ all.1 at within ∙ ap (λ i. passed o f.coding.element count (f.coding.element i)) there)

@@ -42,4 +42,4 @@ returns g c = λ point lists extends are.
     ∙ sum-ext o r rest (λ i. o.times (entry o others i) (row_sum o f.table back i)) (λ i. o.times (entry o column (3 + (n + i))) (table i))
     (λ i h j. o.times (at_others i h j) (row_sum_as o r f.table back i w (λ s. entry o factors (128 + s)) wide at_back j)) in
     c.mul.ensures ∙ ap (λ z. o.times z c.args.last) (c.add.ensures ∙ (λ j. o.plus (first j) (second j)))
-    ∙ linear_sums o r g.F.Field.element p point column factors c.args.last f lists are block c.requires.combined.rows c.requires.inverses (rows_long o g.F.Field.element p f lists are) extends
+    ∙ linear_sums o r g.F.Field.coding.element p point column factors c.args.last f lists are block c.requires.combined.rows c.requires.inverses (rows_long o g.F.Field.coding.element p f lists are) extends

@@ -6,4 +6,4 @@ use Rattle.lzk_verify.proofs.low_degree.is_low_degree_at.Goals as goal
 pub returns : goal.returns
 returns g c = λ point values is extends.
     let f = g.F.Field in
-    subst (λ (z : g.row.F.Denot). IsTrue c.extend_to.result ↔ extension f.ops f.element values point ≡ z) c.low_degree_sum.ensures (c.extend_to.ensures point values is extends)
+    subst (λ (z : g.row.F.Denot). IsTrue c.extend_to.result ↔ extension f.ops f.coding.element values point ≡ z) c.low_degree_sum.ensures (c.extend_to.ensures point values is extends)

@@ -26,7 +26,7 @@ returns-clause-rows g c = λ lists are.
     let table = c.weigh_table-2.new.table in
     let set_places = refill_whole (length old.place_factors) old.place_factors places (c.weigh_table.ensures.length ∙ ap length c.as_mut_slice.ensures.value) in
     let set_table = refill_whole (length old.table) old.table table (c.weigh_table-2.ensures.length ∙ ap length c.as_mut_slice-2.ensures.value) in
-    rows_weighted o f.laws.ring f.laws.field f.element p ws (subst (λ n. IsWeights o f.element n ws) count c.weights.ensures) block old _ refl refl
+    rows_weighted o f.laws.ring f.laws.field f.coding.element p ws (subst (λ n. IsWeights o f.coding.element n ws) count c.weights.ensures) block old _ refl refl
     (λ k s h q.
     ap (λ xs. entry o xs (k * p.wr + s)) set_places
     ∙ subst (λ n. s < n → entry o places (k * n + s) ≡ o.times (entry o old.place_factors (k * n + s)) (entry o own s)) wide

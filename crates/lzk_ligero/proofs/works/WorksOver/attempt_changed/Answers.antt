@@ -1,15 +1,14 @@
 use Rattle.std.specs.Prelude.{take}
 use Rattle.std.proofs.Common.{refl, sym, subst}
-use Rattle.lzk_field.specs.Coding.{coding}
 use Rattle.lzk_circuit.specs.Valid.{IsValid}
-use Rattle.lzk_honest.specs.Proving.{IsChangedFile, words_of}
+use Rattle.lzk_complete.specs.Proving.{IsChangedFile, words_of}
 use Rattle.lzk_ligero.proofs.works.WorksOver.attempt_changed.Goals as goal
 
 pub returns : goal.returns
 returns g c =
     let f = g.F.Field in
     let o = f.ops in
-    let e = coding f.element f.number_of f.BYTES f.size f.ID in
+    let e = f.coding in
     let session = c.args.session.now in
     let public = c.args.public.now in
     let private = c.args.private.now in

@@ -1,10 +1,9 @@
 use Rattle.std.specs.Prelude.{◌<◌, length, take, Some}
 use Rattle.std.proofs.Common.{refl, sym, subst}
-use Rattle.lzk_field.specs.Coding.{coding}
 use Rattle.lzk_circuit.specs.Valid.{Wiring, IsValid}
 use Rattle.lzk_circuit.specs.Checks.{checks_of, IsSatisfied}
 use Rattle.lzk_circuit.specs.Wires.{inputs_of, IsFirstNonzero}
-use Rattle.lzk_honest.specs.Proving.{IsProofFile, words_of}
+use Rattle.lzk_complete.specs.Proving.{IsProofFile, words_of}
 use Rattle.lzk_ligero.proofs.Outputs.{named-output}
 use Rattle.lzk_ligero.proofs.works.WorksOver.prove.Goals as goal
 
@@ -20,7 +19,7 @@ returns-in-Some g c =
       (refl, λ _. tt, c.self.view_is),
       record {
         same = tt;
-        proved = subst (λ (w : Wiring g.row.F.Denot). IsFirstNonzero o (checks_of o f.number_of w.layers inputs) (Some (c.fault.result.output, c.fault.result.value.now))) c.self.view_is
+        proved = subst (λ (w : Wiring g.row.F.Denot). IsFirstNonzero o (checks_of o f.coding.number w.layers inputs) (Some (c.fault.result.output, c.fault.result.value.now))) c.self.view_is
             (named-output o _ _ c.evaluate.ensures.checks _ _ _ c.in-Some.ensures.outputs c.fault.ensures.output c.fault.ensures.value);
         accepted = tt;
       },
@@ -30,13 +29,13 @@ pub returns : goal.returns
 returns g c =
     let f = g.F.Field in
     let o = f.ops in
-    let e = coding f.element f.number_of f.BYTES f.size f.ID in
+    let e = f.coding in
     let session = c.args.session.now in
     let public = c.args.public.now in
     let private = c.args.private.now in
     let word = words_of (g.W.Words.at c.args.words.now) in
     let valid = subst (IsValid o) c.self.view_is c.depth.ensures.valid in
-    let satisfied = subst (λ (w : Wiring g.row.F.Denot). IsSatisfied o f.number_of w.layers (inputs_of o public private)) c.self.view_is c.in_default.ensures.outputs in
+    let satisfied = subst (λ (w : Wiring g.row.F.Denot). IsSatisfied o f.coding.number w.layers (inputs_of o public private)) c.self.view_is c.in_default.ensures.outputs in
     let written = subst (λ w. IsProofFile o e w session public private word (take c.write-len.result c.write-len.new.self.answering.bytes.items)) c.self.view_is c.write-len.ensures.file in
     let file = subst (λ bytes. IsProofFile o e c.args.self.now session public private word (take c.write-len.result bytes)) (sym c.deref.ensures.value) written in (
       (refl, λ _. tt, c.self.view_is),

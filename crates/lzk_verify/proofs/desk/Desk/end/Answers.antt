@@ -1,8 +1,7 @@
-use Rattle.lzk_field.specs.Coding.{coding}
 use Rattle.lzk_verify.proofs.Beginning.{fed_is}
 use Rattle.lzk_verify.proofs.desk.Desk.end.Goals as goal
 
 pub returns-clause-idle : goal.returns-clause-idle
 returns-clause-idle g c =
     let f = g.F.Field in
-    fed_is f.ops (coding f.element f.number_of f.BYTES f.size f.ID) _ _ _ _ _
+    fed_is f.ops f.coding _ _ _ _ _

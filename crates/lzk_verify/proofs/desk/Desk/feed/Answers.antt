@@ -1,13 +1,12 @@
 use Rattle.std.proofs.Common.{refl, ◌++◌, take, sym, ap, subst, ◌∙◌}
 use Rattle.std.proofs.lemmas.List.{take_more, take_all, append_assoc, append-nil}
-use Rattle.lzk_field.specs.Coding.{coding}
 use Rattle.lzk_verify.specs.Kept.{Stands}
 use Rattle.lzk_verify.proofs.desk.Desk.feed.Goals as goal
 
 pub loop-byte-init : goal.loop-byte-init
 loop-byte-init g c =
     let f = g.F.Field in
-    let e = coding f.element f.number_of f.BYTES f.size f.ID in
+    let e = f.coding in
     record {
       fed = c.requires.fed;
       circuit = refl;
@@ -17,7 +16,7 @@ loop-byte-init g c =
 pub loop-byte-preserved : goal.loop-byte-preserved
 loop-byte-preserved g c =
     let f = g.F.Field in
-    let e = coding f.element f.number_of f.BYTES f.size f.ID in
+    let e = f.coding in
     let piece = c.args.piece.now in
     let i = c.loop-byte.byte-index in
     record {
@@ -31,5 +30,5 @@ loop-byte-preserved g c =
 pub returns-clause-stands : goal.returns-clause-stands
 returns-clause-stands g c = λ session public bytes h.
     let f = g.F.Field in
-    let e = coding f.element f.number_of f.BYTES f.size f.ID in
+    let e = f.coding in
     subst (λ xs. Stands f.ops e session public xs c.loop-byte.self) (ap (λ ys. bytes ++ ys) (take_all c.loop-byte.byte-index c.args.piece.now c.loop-byte-test.false)) (c.loop-byte.invariant.stands session public bytes h)

@@ -1,5 +1,4 @@
 use Rattle.std.proofs.Common.{◌≡◌, ℕ, true, List, ◌++◌, take}
-use Rattle.lzk_field.specs.Coding.{coding}
 use Rattle.lzk_verify.specs.Kept as spec
 use Rattle.lzk_verify.specs.Kept.{Stands}
 use Rattle.lzk_verify.proofs.desk.Desk.feed.Given as goal
@@ -7,7 +6,7 @@ use Rattle.lzk_verify.proofs.desk.Desk.feed.Given as goal
 abbrev pub invariant-loop-byte : goal.invariant-loop-byte
 invariant-loop-byte g l =
     let f = g.F.Field in
-    let e = coding f.element f.number_of f.BYTES f.size f.ID in
+    let e = f.coding in
     record {
       fed : spec.is_fed l.self ≡ true;
       circuit : l.self.circuit ≡ l.fn.self.circuit;

@@ -1,6 +1,5 @@
 use Rattle.std.proofs.Common.{◌≡◌, true, sym, ap, subst, ◌∙◌}
 use Rattle.std.specs.Prelude.{is_some}
-use Rattle.lzk_field.specs.Coding.{coding}
 use Rattle.lzk_layout.specs.Sizes.{params_of}
 use Rattle.lzk_layout.specs.Fields.{shape}
 use Rattle.lzk_layout.specs.Cursors.{CursorState, Pushed}
@@ -16,42 +15,42 @@ use Rattle.lzk_verify.proofs.desk.Desk.judged.Goals as goal
 pub returns-in-Err-clause-verdict : goal.returns-in-Err-clause-verdict
 returns-in-Err-clause-verdict g c = λ session public bytes h.
     let f = g.F.Field in
-    let e = coding f.element f.number_of f.BYTES f.size f.ID in
+    let e = f.coding in
     let d = c.self.inside in
     let w = d.circuit.now in
     let on : d.fed ≡ true = sym (fed_is f.ops e w d.params d.fed d.cursor.place d.intake) ∙ ap (λ (s : DeskState g.row.F.Denot). is_some s.held) c.self.view_is ∙ c.requires.fed in
     subst (λ (x : DeskState g.row.F.Denot). IsVerdict f.ops e x.circuit session public bytes (Format c.in-Err.fault)) c.self.view_is
     (faulty_ends f.ops e w d.params c.self.invariant.are session public bytes d.fed on d.cursor c.self.invariant.cursor_is d.intake (subst (λ (x : DeskState g.row.F.Denot). Stands f.ops e session public bytes x) (sym c.self.view_is) h)
-    c.in-Err.fault (λ x b pushed. (c.finish.ensures.fault x b (subst (λ (z : CursorState). Pushed (shape f.BYTES f.size) z x b) (sym (ap (λ (y : Inside g.row.F.Denot). y.cursor) c.self-inside.view_is)) pushed) c.in-Err.fault).0 c.in-Err.is))
+    c.in-Err.fault (λ x b pushed. (c.finish.ensures.fault x b (subst (λ (z : CursorState). Pushed (shape f.coding.bytes f.coding.size) z x b) (sym (ap (λ (y : Inside g.row.F.Denot). y.cursor) c.self-inside.view_is)) pushed) c.in-Err.fault).0 c.in-Err.is))
 
 pub returns-in-Err-clause-one : goal.returns-in-Err-clause-one
 returns-in-Err-clause-one g c = λ session public bytes h.
     let f = g.F.Field in
-    let e = coding f.element f.number_of f.BYTES f.size f.ID in
+    let e = f.coding in
     let d = c.self.inside in
     let w = d.circuit.now in
     let on : d.fed ≡ true = sym (fed_is f.ops e w d.params d.fed d.cursor.place d.intake) ∙ ap (λ (s : DeskState g.row.F.Denot). is_some s.held) c.self.view_is ∙ c.requires.fed in
     subst (λ (x : DeskState g.row.F.Denot). IsOnlyVerdict f.ops e x.circuit session public bytes (Format c.in-Err.fault)) c.self.view_is
     (only_this f.ops e w d.params c.self.invariant.are f.laws session public bytes (Format c.in-Err.fault)
     (faulty_ends f.ops e w d.params c.self.invariant.are session public bytes d.fed on d.cursor c.self.invariant.cursor_is d.intake (subst (λ (x : DeskState g.row.F.Denot). Stands f.ops e session public bytes x) (sym c.self.view_is) h)
-    c.in-Err.fault (λ x b pushed. (c.finish.ensures.fault x b (subst (λ (z : CursorState). Pushed (shape f.BYTES f.size) z x b) (sym (ap (λ (y : Inside g.row.F.Denot). y.cursor) c.self-inside.view_is)) pushed) c.in-Err.fault).0 c.in-Err.is)))
+    c.in-Err.fault (λ x b pushed. (c.finish.ensures.fault x b (subst (λ (z : CursorState). Pushed (shape f.coding.bytes f.coding.size) z x b) (sym (ap (λ (y : Inside g.row.F.Denot). y.cursor) c.self-inside.view_is)) pushed) c.in-Err.fault).0 c.in-Err.is)))
 
 pub returns-clause-verdict : goal.returns-clause-verdict
 returns-clause-verdict g c = λ session public bytes h.
     let f = g.F.Field in
-    let e = coding f.element f.number_of f.BYTES f.size f.ID in
+    let e = f.coding in
     let d = c.self.inside in
     let w = d.circuit.now in
     let i = c.self.invariant in
     let on : d.fed ≡ true = sym (fed_is f.ops e w d.params d.fed d.cursor.place d.intake) ∙ ap (λ (s : DeskState g.row.F.Denot). is_some s.held) c.self.view_is ∙ c.requires.fed in
     subst (λ (x : DeskState g.row.F.Denot). IsVerdict f.ops e x.circuit session public bytes c.judge.result) c.self.view_is
     (whole_ends f.ops e w d.params i.are session public bytes d.fed on d.cursor i.cursor_is d.intake (subst (λ (x : DeskState g.row.F.Denot). Stands f.ops e session public bytes x) (sym c.self.view_is) h)
-    f.laws i.bounded d.id i.id_is d.room i.sound c.judge.result (subst (λ (y : Inside g.row.F.Denot). IsFound f.ops y.params y.id y.intake c.judge.result) c.self-inside.view_is c.judge.ensures.found) (λ x b pushed. (c.finish.ensures.whole x b (subst (λ (z : CursorState). Pushed (shape f.BYTES f.size) z x b) (sym (ap (λ (y : Inside g.row.F.Denot). y.cursor) c.self-inside.view_is)) pushed)).0 (no_err c.finish.result c.in_default.not-Err)) (c.finish.ensures.front (params_of w)))
+    f.laws i.bounded d.id i.id_is d.room i.sound c.judge.result (subst (λ (y : Inside g.row.F.Denot). IsFound f.ops y.params y.id y.intake c.judge.result) c.self-inside.view_is c.judge.ensures.found) (λ x b pushed. (c.finish.ensures.whole x b (subst (λ (z : CursorState). Pushed (shape f.coding.bytes f.coding.size) z x b) (sym (ap (λ (y : Inside g.row.F.Denot). y.cursor) c.self-inside.view_is)) pushed)).0 (no_err c.finish.result c.in_default.not-Err)) (c.finish.ensures.front (params_of w)))
 
 pub returns-clause-one : goal.returns-clause-one
 returns-clause-one g c = λ session public bytes h.
     let f = g.F.Field in
-    let e = coding f.element f.number_of f.BYTES f.size f.ID in
+    let e = f.coding in
     let d = c.self.inside in
     let w = d.circuit.now in
     let i = c.self.invariant in
@@ -59,4 +58,4 @@ returns-clause-one g c = λ session public bytes h.
     subst (λ (x : DeskState g.row.F.Denot). IsOnlyVerdict f.ops e x.circuit session public bytes c.judge.result) c.self.view_is
     (only_this f.ops e w d.params i.are f.laws session public bytes c.judge.result
     (whole_ends f.ops e w d.params i.are session public bytes d.fed on d.cursor i.cursor_is d.intake (subst (λ (x : DeskState g.row.F.Denot). Stands f.ops e session public bytes x) (sym c.self.view_is) h)
-    f.laws i.bounded d.id i.id_is d.room i.sound c.judge.result (subst (λ (y : Inside g.row.F.Denot). IsFound f.ops y.params y.id y.intake c.judge.result) c.self-inside.view_is c.judge.ensures.found) (λ x b pushed. (c.finish.ensures.whole x b (subst (λ (z : CursorState). Pushed (shape f.BYTES f.size) z x b) (sym (ap (λ (y : Inside g.row.F.Denot). y.cursor) c.self-inside.view_is)) pushed)).0 (no_err c.finish.result c.in_default.not-Err)) (c.finish.ensures.front (params_of w))))
+    f.laws i.bounded d.id i.id_is d.room i.sound c.judge.result (subst (λ (y : Inside g.row.F.Denot). IsFound f.ops y.params y.id y.intake c.judge.result) c.self-inside.view_is c.judge.ensures.found) (λ x b pushed. (c.finish.ensures.whole x b (subst (λ (z : CursorState). Pushed (shape f.coding.bytes f.coding.size) z x b) (sym (ap (λ (y : Inside g.row.F.Denot). y.cursor) c.self-inside.view_is)) pushed)).0 (no_err c.finish.result c.in_default.not-Err)) (c.finish.ensures.front (params_of w))))

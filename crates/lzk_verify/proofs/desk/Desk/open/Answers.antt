@@ -1,4 +1,3 @@
-use Rattle.lzk_field.specs.Coding.{coding}
 use Rattle.lzk_verify.proofs.Beginning.{fed_is}
 use Rattle.lzk_verify.proofs.Fed.{begun_stands}
 use Rattle.lzk_verify.proofs.desk.Desk.open.Goals as goal
@@ -6,7 +5,7 @@ use Rattle.lzk_verify.proofs.desk.Desk.open.Goals as goal
 pub returns-clause-stands : goal.returns-clause-stands
 returns-clause-stands g c =
     let f = g.F.Field in
-    let e = coding f.element f.number_of f.BYTES f.size f.ID in
+    let e = f.coding in
     let d = c.self.inside in
     begun_stands f.ops e d.circuit.now d.params c.self.invariant.are c.args.session.now c.args.public.now c.new-self-inside.result c.begin.new.self c.new-self-inside.ensures.pushed
     (c.begin.ensures.kept d.circuit.now d.params c.self.invariant.bounded c.self.invariant.id_is)
@@ -14,4 +13,4 @@ returns-clause-stands g c =
 pub returns-clause-fed : goal.returns-clause-fed
 returns-clause-fed g c =
     let f = g.F.Field in
-    fed_is f.ops (coding f.element f.number_of f.BYTES f.size f.ID) _ _ _ _ _
+    fed_is f.ops f.coding _ _ _ _ _

@@ -1,6 +1,5 @@
 use Rattle.std.proofs.Common.{◌≡◌, true, sym, ap, subst, ◌∙◌, arith}
 use Rattle.std.specs.Prelude.{is_some}
-use Rattle.lzk_field.specs.Coding.{coding}
 use Rattle.lzk_layout.specs.Sizes.{params_of}
 use Rattle.lzk_layout.specs.Parts.{sort_of}
 use Rattle.lzk_verify.specs.Kept.{DeskState, Stands}
@@ -11,7 +10,7 @@ use Rattle.lzk_verify.proofs.desk.Desk.push.Goals as goal
 pub returns-in-Field-clause-stands : goal.returns-in-Field-clause-stands
 returns-in-Field-clause-stands g c = λ session public bytes h.
     let f = g.F.Field in
-    let e = coding f.element f.number_of f.BYTES f.size f.ID in
+    let e = f.coding in
     let d = c.self.inside in
     let w = d.circuit.now in
     let on : d.fed ≡ true = sym (fed_is f.ops e w d.params d.fed d.cursor.place d.intake) ∙ ap (λ (s : DeskState g.row.F.Denot). is_some s.held) c.self.view_is ∙ c.requires.fed in
@@ -21,13 +20,13 @@ returns-in-Field-clause-stands g c = λ session public bytes h.
     field_stands f.ops e w d.params c.self.invariant.are session public bytes c.args.byte d.fed on d.cursor c.push.new.self c.self.invariant.cursor_is d.intake c.push.ensures.pushed
     (c.push.ensures.one_front (params_of w)) (c.push.ensures.sound (params_of w)) before c.take.new.self part block c.in-Field.field-2
     (λ x b pushed. (c.push.ensures.field x b pushed part block c.in-Field.field-2).0 c.in-Field.is) c.in-Field.ensures.whole
-    (fits_block f.BYTES f.size (omega (arith, f.laws.numbers.few_bytes)) (sort_of part)) (c.push.ensures.parts (params_of w))
+    (fits_block f.coding.bytes f.coding.size (omega (arith, f.laws.numbers.few_bytes)) (sort_of part)) (c.push.ensures.parts (params_of w))
     (λ fields field. c.take.ensures.kept session public fields field)
 
 pub returns-in-Field-clause-fed : goal.returns-in-Field-clause-fed
 returns-in-Field-clause-fed g c =
     let f = g.F.Field in
-    let e = coding f.element f.number_of f.BYTES f.size f.ID in
+    let e = f.coding in
     let d = c.self.inside in
     fed_is f.ops e d.circuit.now d.params d.fed c.push.new.self.place c.take.new.self
     ∙ sym (fed_is f.ops e d.circuit.now d.params d.fed d.cursor.place d.intake) ∙ ap (λ (s : DeskState g.row.F.Denot). is_some s.held) c.self.view_is ∙ c.requires.fed
@@ -35,7 +34,7 @@ returns-in-Field-clause-fed g c =
 pub returns-in_default : goal.returns-in_default
 returns-in_default g c =
     let f = g.F.Field in
-    let e = coding f.element f.number_of f.BYTES f.size f.ID in
+    let e = f.coding in
     let d = c.self.inside in
     let w = d.circuit.now in
     let on : d.fed ≡ true = sym (fed_is f.ops e w d.params d.fed d.cursor.place d.intake) ∙ ap (λ (s : DeskState g.row.F.Denot). is_some s.held) c.self.view_is ∙ c.requires.fed in

@@ -1,5 +1,4 @@
 use Rattle.std.proofs.Common.{[], subst, ◌∙◌}
-use Rattle.lzk_field.specs.Coding.{coding}
 use Rattle.lzk_verify.specs.Verdict.{IsVerdict, IsOnlyVerdict}
 use Rattle.lzk_verify.proofs.Acceptance.{accepts_exactly}
 use Rattle.lzk_verify.proofs.desk.Desk.verify.Goals as goal
@@ -7,7 +6,7 @@ use Rattle.lzk_verify.proofs.desk.Desk.verify.Goals as goal
 pub returns-clause-verdict : goal.returns-clause-verdict
 returns-clause-verdict g c =
     let f = g.F.Field in
-    let e = coding f.element f.number_of f.BYTES f.size f.ID in
+    let e = f.coding in
     let session = c.args.session.now in
     let public = c.args.public.now in
     let bytes = c.args.bytes.now in
@@ -17,7 +16,7 @@ returns-clause-verdict g c =
 pub returns-clause-one : goal.returns-clause-one
 returns-clause-one g c =
     let f = g.F.Field in
-    let e = coding f.element f.number_of f.BYTES f.size f.ID in
+    let e = f.coding in
     let session = c.args.session.now in
     let public = c.args.public.now in
     let bytes = c.args.bytes.now in
@@ -27,4 +26,4 @@ returns-clause-one g c =
 pub returns-clause-accepted : goal.returns-clause-accepted
 returns-clause-accepted g c =
     let f = g.F.Field in
-    accepts_exactly f.ops (coding f.element f.number_of f.BYTES f.size f.ID) c.args.self.now.circuit c.args.session.now c.args.public.now c.args.bytes.now
+    accepts_exactly f.ops f.coding c.args.self.now.circuit c.args.session.now c.args.public.now c.args.bytes.now

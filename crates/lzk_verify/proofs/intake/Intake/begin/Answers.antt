@@ -1,6 +1,5 @@
 use Rattle.std.proofs.Common.{refl, ap, ◌∙◌}
 use Rattle.std.specs.Prelude.{false, []}
-use Rattle.lzk_field.specs.Coding.{coding}
 use Rattle.lzk_sumcheck.specs.Opening.{public_tape}
 use Rattle.lzk_verify.proofs.Beginning.{stored_none}
 use Rattle.lzk_verify.proofs.Stored.{stored_kept}
@@ -9,7 +8,7 @@ use Rattle.lzk_verify.proofs.intake.Intake.begin.Goals as goal
 pub returns-clause-kept : goal.returns-clause-kept
 returns-clause-kept g c = λ w p bounded own.
     let f = g.F.Field in
-    let e = coding f.element f.number_of f.BYTES f.size f.ID in
+    let e = f.coding in
     let session = c.args.session.now in
     let public = c.args.public.now in
     let k = record c.args.self.now { public = c.copy_from_slice.new.self; tape = c.public_tape-self.result; is_drawn = false; leaves = c.forget.new.self; failing = c.none-self.result; count = 0 } in

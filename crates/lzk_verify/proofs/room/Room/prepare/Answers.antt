@@ -9,7 +9,7 @@ returns-clause-rooms g c =
     let p = c.args.params.now in
     record {
       combined = c.weigh_rows.ensures.factors;
-      answers = subst (AreAnswers p) (sym c.set.ensures) (answers_long f.ops f.element p c.requires.bounded c.args.sent.now c.requires.sent);
+      answers = subst (AreAnswers p) (sym c.set.ensures) (answers_long f.ops f.coding.element p c.requires.bounded c.args.sent.now c.requires.sent);
       inverses = search rules;
       nodes = search rules;
       rows = search rules;
