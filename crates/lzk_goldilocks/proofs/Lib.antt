@@ -2,3 +2,4 @@ pub mod Delayed
 pub mod Descent
 pub mod Found
 pub mod Orders
+pub mod OverWord

@@ -4,3 +4,4 @@ pub mod Powers
 pub mod Primality
 pub mod Elements
 pub mod Roots
+pub mod Word

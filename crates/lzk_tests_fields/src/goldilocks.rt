@@ -9,8 +9,8 @@ use lzk_goldilocks::{Gold, root_of_unity};
 use std::alloc::{AllocError, Global};
 use std::test::Fail;
 use vectors::{
-    BYTES, DOTS, INVERSES, LEFT, NEGATIVES, NO_ELEMENTS, NUMBERS, PRODUCTS, RIGHT, ROOTS, SUMS,
-    WORDS,
+    BYTES, DOTS, INVERSES, LEFT, NEGATIVES, NO_ELEMENTS, NUMBERS, OVER_WORD, PRODUCTS, RIGHT,
+    ROOTS, SUMS, WORDS,
 };
 
 fn of<F: Field>(n: u64) -> F {
@@ -28,6 +28,17 @@ fn wrong_product<F: Field>(rows: &[(u64, u64, u64)]) -> Option<usize> {
     for i in 0..rows.len() {
         let (a, b, product) = rows[i];
         if of::<F>(a).mul(of(b)).number() != product as u128 {
+            return Some(i);
+        }
+    }
+    None
+}
+
+fn wrong_product_over_word(rows: &[(u64, u64, u64)], scale: Gold) -> Option<usize> {
+    for i in 0..rows.len() {
+        let (a, b, product) = rows[i];
+        let factor = of::<Gold>(b).mul(scale);
+        if of::<Gold>(a).mul_over_word(factor).number() != product as u128 {
             return Some(i);
         }
     }
@@ -151,6 +162,15 @@ fn arithmetic_is_that_of_numbers_modulo_the_prime(rt: HostRuntime) {
     assert_eq!(rt; wrong_inverse::<Gold>(&INVERSES), None);
     assert_eq!(rt; number(Gold::zero().inv()), None);
     assert_eq!(rt; Gold::one().number(), 1);
+}
+
+#[test]
+fn products_over_a_word_undo_a_factor(rt: HostRuntime) {
+    assert_eq!(rt; wrong_product_over_word(&OVER_WORD, Gold::one()), None);
+    assert_eq!(rt;
+        wrong_product_over_word(&PRODUCTS, Gold::of_word(1 << 64)),
+        None
+    );
 }
 
 #[test]
