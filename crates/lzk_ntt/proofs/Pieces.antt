@@ -157,5 +157,11 @@ blocks_some plan bits planned = some plan.blocks planned.blocks.all
     some zero h = absurd (omega (arith, h, planned.given))
     some (suc b) h = omega arith
 
+-- a transform behind some of them is within all
+pub next_fits : (v parts size : ℕ) → v < parts → v * size + size ≤ parts * size
+next_fits v parts size h =
+    let less : suc v ≤ parts = omega (arith, h) in
+    omega (arith, mul-le-mul_right size less, suc-mul v size)
+
 pub length_part : {A : Type 0} (xs : List A) (a n : ℕ) → a + n ≤ length xs → length (take n (drop a xs)) ≡ n
 length_part xs a n h = length-take-le n (drop a xs) (omega (arith, length-drop a xs))

@@ -9,7 +9,7 @@ ghost use Rattle.lzk_ntt.specs.Kernels.{convolutions, weighted, AreSpectra, IsRe
 ghost use Rattle.lzk_ntt.specs.Transform.{spectrum, IsRoot};
 
 use crate::kernels::Kernels;
-use crate::transform::{add_products, multiply};
+use crate::prepared::{Factor, Prepared};
 use lzk_field::Field;
 
 // The values times their weights, behind so many zeros and before zeros to the end.
@@ -32,7 +32,7 @@ fn weigh<F: Field>(values: &[F], weights: &[F], skip: usize, out: &mut [F])
 }
 
 // The transform of a block's values times their weights. A block that is short stands at the end of its places.
-fn transform_block<F: Field>(
+fn transform_block<F: Factor>(
     kernels: &Kernels<F>,
     weights: &[F],
     values: &[F],
@@ -56,7 +56,7 @@ fn transform_block<F: Field>(
 }
 
 // The transforms of the blocks from one on, one after the other.
-fn transform_blocks<F: Field>(
+fn transform_blocks<F: Factor>(
     kernels: &Kernels<F>,
     weights: &[F],
     values: &[F],
@@ -79,9 +79,32 @@ fn transform_blocks<F: Field>(
     transform_blocks(kernels, weights, values, from + 1, rest);
 }
 
+// Sets entries to the products of those at their place and the factors.
+fn set_multiples<F: Factor>(list: &[F], factors: &[Prepared<F>], out: &mut [F])
+    requires list { length list.now ≡ length out.old }
+    requires factors { length factors.now ≡ length out.old }
+    ensures { (j : ℕ) → j < length out.new → entry F.ops out.new j ≡ F.ops.times (entry F.ops list.now j) (entry F.ops factors.now j) }
+{
+    for j in 0..out.len() {
+        out[j] = factors[j].times(list[j]);
+    }
+}
+
+// Adds the products of the entries at their place and the factors.
+fn add_multiples<F: Factor>(list: &[F], factors: &[Prepared<F>], out: &mut [F])
+    requires list { length list.now ≡ length out.old }
+    requires factors { length factors.now ≡ length out.old }
+    ensures { (j : ℕ) → j < length out.new → entry F.ops out.new j ≡
+        F.ops.plus (entry F.ops out.old j) (F.ops.times (entry F.ops list.now j) (entry F.ops factors.now j)) }
+{
+    for j in 0..out.len() {
+        out[j] = out[j].add(factors[j].times(list[j]));
+    }
+}
+
 // The sums over the blocks of the products of their transforms and their kernels for a piece: the transform of
 // the sum of the convolutions.
-fn sum_products<F: Field>(kernels: &Kernels<F>, p: usize, spectra: &[F], out: &mut [F])
+fn sum_products<F: Factor>(kernels: &Kernels<F>, p: usize, spectra: &[F], out: &mut [F])
     requires ready { IsReady F.ops F.coding.element kernels.now.transform kernels.now.plan kernels.now.spectra.items }
     requires piece { p < kernels.now.plan.pieces }
     requires spectra { length spectra.now ≡ kernels.now.plan.blocks * 2 ^ kernels.now.transform.bits }
@@ -94,11 +117,11 @@ fn sum_products<F: Field>(kernels: &Kernels<F>, p: usize, spectra: &[F], out: &m
     let plan = kernels.plan;
     let size = kernels.transform.size();
     let first = p * size;
-    multiply(&spectra[..size], &kernels.spectra[first..first + size], out);
+    set_multiples(&spectra[..size], &kernels.spectra[first..first + size], out);
     for v in 1..plan.blocks {
         let place = (v * plan.pieces + p) * size;
         let at = v * size;
-        add_products(
+        add_multiples(
             &spectra[at..at + size],
             &kernels.spectra[place..place + size],
             out,
@@ -130,7 +153,7 @@ fn set_products<F: Field>(
 
 /// Writes the values at the points from that of the last given value on: the barycentric sums, times the
 /// products of differences.
-pub fn extend_by<F: Field>(
+pub fn extend_by<F: Factor>(
     kernels: &Kernels<F>,
     weights: &[F],
     passed: &[F],

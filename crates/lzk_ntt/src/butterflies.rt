@@ -3,11 +3,11 @@
 ghost use Rattle.std.specs.Prelude.{◌≡◌, ℕ, ◌<◌, length};
 ghost use Rattle.lzk_field.specs.Sums.{entry, minus};
 
-use lzk_field::Field;
+use crate::prepared::{Factor, Prepared};
 
 /// The butterflies of a forward level, of Gentleman and Sande: the sum of the entries at one place of both
 /// halves, and their difference times the twiddle factor.
-pub fn forward_butterflies<F: Field>(low: &mut [F], high: &mut [F], twiddles: &[F])
+pub fn forward_butterflies<F: Factor>(low: &mut [F], high: &mut [F], twiddles: &[Prepared<F>])
     requires halves { length high.old ≡ length low.old }
     requires twiddles { length twiddles.now ≡ length low.old }
     ensures sums { (i : ℕ) → i < length low.new → entry F.ops low.new i ≡ F.ops.plus (entry F.ops low.old i) (entry F.ops high.old i) }
@@ -16,14 +16,14 @@ pub fn forward_butterflies<F: Field>(low: &mut [F], high: &mut [F], twiddles: &[
 {
     for i in 0..low.len() {
         let sum = low[i].add(high[i]);
-        high[i] = low[i].sub(high[i]).mul(twiddles[i]);
+        high[i] = twiddles[i].times(low[i].sub(high[i]));
         low[i] = sum;
     }
 }
 
 /// The butterflies of a backward level, of Cooley and Tukey: the upper entry times the twiddle factor is
 /// added to the lower one, and taken from it.
-pub fn backward_butterflies<F: Field>(low: &mut [F], high: &mut [F], twiddles: &[F])
+pub fn backward_butterflies<F: Factor>(low: &mut [F], high: &mut [F], twiddles: &[Prepared<F>])
     requires halves { length high.old ≡ length low.old }
     requires twiddles { length twiddles.now ≡ length low.old }
     ensures sums { (i : ℕ) → i < length low.new → entry F.ops low.new i ≡
@@ -32,14 +32,14 @@ pub fn backward_butterflies<F: Field>(low: &mut [F], high: &mut [F], twiddles: &
         minus F.ops (entry F.ops low.old i) (F.ops.times (entry F.ops high.old i) (entry F.ops twiddles.now i)) }
 {
     for i in 0..low.len() {
-        let twiddled = high[i].mul(twiddles[i]);
+        let twiddled = twiddles[i].times(high[i]);
         high[i] = low[i].sub(twiddled);
         low[i] = low[i].add(twiddled);
     }
 }
 
 /// The sum and the difference of two entries: a transform of two, either way.
-pub fn butterfly<F: Field>(values: &mut [F])
+pub fn butterfly<F: Factor>(values: &mut [F])
     requires { length values.old ≡ 2 }
     ensures sum { entry F.ops values.new 0 ≡ F.ops.plus (entry F.ops values.old 0) (entry F.ops values.old 1) }
     ensures difference { entry F.ops values.new 1 ≡ minus F.ops (entry F.ops values.old 0) (entry F.ops values.old 1) }
@@ -50,7 +50,7 @@ pub fn butterfly<F: Field>(values: &mut [F])
 }
 
 /// Both levels of a forward transform of four, with one product. `fourth_root` is the root of order four.
-pub fn forward_four<F: Field>(values: &mut [F], fourth_root: F)
+pub fn forward_four<F: Factor>(values: &mut [F], fourth_root: Prepared<F>)
     requires { length values.old ≡ 4 }
     ensures first { let o = F.ops in let x = values.old in entry o values.new 0 ≡
         o.plus (o.plus (entry o x 0) (entry o x 2)) (o.plus (entry o x 1) (entry o x 3)) }
@@ -63,7 +63,7 @@ pub fn forward_four<F: Field>(values: &mut [F], fourth_root: F)
 {
     let (a, b, c, d) = (values[0], values[1], values[2], values[3]);
     let (even, odd) = (a.add(c), b.add(d));
-    let (left, right) = (a.sub(c), b.sub(d).mul(fourth_root));
+    let (left, right) = (a.sub(c), fourth_root.times(b.sub(d)));
     values[0] = even.add(odd);
     values[1] = even.sub(odd);
     values[2] = left.add(right);
@@ -72,7 +72,7 @@ pub fn forward_four<F: Field>(values: &mut [F], fourth_root: F)
 
 /// Both levels of a backward transform of four, with one product. `fourth_root` is the inverse of the root
 /// of order four.
-pub fn backward_four<F: Field>(values: &mut [F], fourth_root: F)
+pub fn backward_four<F: Factor>(values: &mut [F], fourth_root: Prepared<F>)
     requires { length values.old ≡ 4 }
     ensures first { let o = F.ops in let x = values.old in entry o values.new 0 ≡
         o.plus (o.plus (entry o x 0) (entry o x 1)) (o.plus (entry o x 2) (entry o x 3)) }
@@ -85,7 +85,7 @@ pub fn backward_four<F: Field>(values: &mut [F], fourth_root: F)
 {
     let (a, b, c, d) = (values[0], values[1], values[2], values[3]);
     let (even, odd) = (a.add(b), c.add(d));
-    let (left, right) = (a.sub(b), c.sub(d).mul(fourth_root));
+    let (left, right) = (a.sub(b), fourth_root.times(c.sub(d)));
     values[0] = even.add(odd);
     values[1] = left.add(right);
     values[2] = even.sub(odd);

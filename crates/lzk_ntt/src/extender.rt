@@ -8,8 +8,8 @@ ghost use Rattle.lzk_poly.specs.Weights.{IsEven};
 use crate::blocks::extend_by;
 use crate::kernels::{Kernels, kernel_spectra};
 use crate::plan::Plan;
+use crate::prepared::Factor;
 use crate::transform::Transform;
-use lzk_field::Field;
 use lzk_poly::Weights;
 use std::alloc::{AllocError, Global};
 use std::marker::Model;
@@ -22,12 +22,12 @@ use std::marker::Model;
 /// sum is transformed backward once. It takes no memory but the caller's room: a transform for each block, and
 /// one more.
 #[derive(Drop)]
-pub struct NttExtender<F: Field> {
+pub struct NttExtender<F: Factor> {
     weights: Weights<F>,
     kernels: Kernels<F>,
 }
 
-impl<F: Field> Model for NttExtender<F> {
+impl<F: Factor> Model for NttExtender<F> {
     ghost use Rattle.std.specs.Prelude.{◌≡◌, ◌+◌, ◌*◌, ◌^◌};
     ghost use Rattle.lzk_poly.specs.Extension.{Reach};
     ghost use Rattle.lzk_ntt.specs.Kernels.{Convolver, IsReady};
@@ -40,7 +40,7 @@ impl<F: Field> Model for NttExtender<F> {
         IsReady F.ops F.coding.element e.kernels.transform e.kernels.plan e.kernels.spectra.items };
 }
 
-impl<F: Field> NttExtender<F> {
+impl<F: Factor> NttExtender<F> {
     /// What extends rows of `n` values by these transforms, `block` values at a time.
     pub(crate) fn with_transform(
         alloc: Global,

@@ -2,10 +2,13 @@
 
 ghost use Rattle.std.specs.Prelude.{◌*◌, ◌^◌, ◌≤◌};
 ghost use Rattle.lzk_goldilocks.specs.Elements.{ops};
+ghost use Rattle.lzk_goldilocks.specs.Word.{word};
 ghost use Rattle.lzk_ntt.specs.Transform.{IsRoot};
 
 use crate::extender::NttExtender;
+use crate::prepared::Factor;
 use crate::transform::Transform;
+use lzk_field::Field;
 use lzk_goldilocks::{Gold, root_of_unity};
 use lzk_poly::RowExtend;
 use std::alloc::{AllocError, Global};
@@ -22,6 +25,18 @@ pub fn root_of(bits: u32) -> Gold
     ensures { IsRoot ops bits result }
 {
     root_of_unity(bits)
+}
+
+impl Factor for Gold {
+    ghost scale = { word };
+
+    fn scaled(self) -> Gold {
+        self.mul(Gold::of_word(1 << 64))
+    }
+
+    fn mul_over_scale(self, other: Gold) -> Gold {
+        self.mul_over_word(other)
+    }
 }
 
 // How many values are convolved at a time: all of a short row, and half of a longer one. Two blocks are added up

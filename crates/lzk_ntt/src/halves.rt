@@ -7,12 +7,12 @@ ghost use Rattle.lzk_ntt.specs.Transform.{spectrum, doubled, AreTwiddles, IsRoot
 use crate::butterflies::{
     backward_butterflies, backward_four, butterfly, forward_butterflies, forward_four,
 };
-use lzk_field::Field;
+use crate::prepared::{Factor, Prepared};
 
 /// The forward transform of the values, in place and in bit-reversed order.
 ///
 /// `twiddles` has the powers of the root from the middle on, before them those of its square, and so on.
-pub fn forward<F: Field>(values: &mut [F], twiddles: &[F], bits: u32)
+pub fn forward<F: Factor>(values: &mut [F], twiddles: &[Prepared<F>], bits: u32)
     requires whole { length values.old ≡ 2 ^ bits }
     requires twiddles { length values.old ≤ length twiddles.now }
     ensures { (w : F) → IsRoot F.ops bits w → AreTwiddles F.ops bits w twiddles.now → (j : ℕ) → j < length values.new →
@@ -34,7 +34,7 @@ pub fn forward<F: Field>(values: &mut [F], twiddles: &[F], bits: u32)
 }
 
 // The same of at most four values, the recursion's end.
-fn forward_small<F: Field>(values: &mut [F], twiddles: &[F], bits: u32)
+fn forward_small<F: Factor>(values: &mut [F], twiddles: &[Prepared<F>], bits: u32)
     requires whole { length values.old ≡ 2 ^ bits }
     requires twiddles { length values.old ≤ length twiddles.now }
     requires few { bits ≤ 2 }
@@ -51,7 +51,7 @@ fn forward_small<F: Field>(values: &mut [F], twiddles: &[F], bits: u32)
 }
 
 // The same of eight values, with no call for each level.
-fn forward_eight<F: Field>(values: &mut [F], twiddles: &[F])
+fn forward_eight<F: Factor>(values: &mut [F], twiddles: &[Prepared<F>])
     requires whole { length values.old ≡ 8 }
     requires twiddles { 8 ≤ length twiddles.now }
     ensures { (w : F) → IsRoot F.ops 3 w → AreTwiddles F.ops 3 w twiddles.now → (j : ℕ) → j < length values.new →
@@ -66,7 +66,7 @@ fn forward_eight<F: Field>(values: &mut [F], twiddles: &[F])
 
 /// The backward transform of values in bit-reversed order, in place. It is not divided by the number of the
 /// entries: each entry comes back doubled once for each level. `twiddles` has the powers of the inverse root.
-pub fn backward<F: Field>(values: &mut [F], twiddles: &[F], bits: u32)
+pub fn backward<F: Factor>(values: &mut [F], twiddles: &[Prepared<F>], bits: u32)
     requires whole { length values.old ≡ 2 ^ bits }
     requires twiddles { length values.old ≤ length twiddles.now }
     ensures { (w v : F) → (x : ℕ → F) → IsRoot F.ops bits w → F.ops.times w v ≡ F.ops.one → AreTwiddles F.ops bits v twiddles.now →
@@ -89,7 +89,7 @@ pub fn backward<F: Field>(values: &mut [F], twiddles: &[F], bits: u32)
 }
 
 // The same of at most four values, the recursion's end.
-fn backward_small<F: Field>(values: &mut [F], twiddles: &[F], bits: u32)
+fn backward_small<F: Factor>(values: &mut [F], twiddles: &[Prepared<F>], bits: u32)
     requires whole { length values.old ≡ 2 ^ bits }
     requires twiddles { length values.old ≤ length twiddles.now }
     requires few { bits ≤ 2 }
@@ -107,7 +107,7 @@ fn backward_small<F: Field>(values: &mut [F], twiddles: &[F], bits: u32)
 }
 
 // The same of eight values, with no call for each level.
-fn backward_eight<F: Field>(values: &mut [F], twiddles: &[F])
+fn backward_eight<F: Factor>(values: &mut [F], twiddles: &[Prepared<F>])
     requires whole { length values.old ≡ 8 }
     requires twiddles { 8 ≤ length twiddles.now }
     ensures { (w v : F) → (x : ℕ → F) → IsRoot F.ops 3 w → F.ops.times w v ≡ F.ops.one → AreTwiddles F.ops 3 v twiddles.now →

@@ -7,17 +7,18 @@ ghost use Rattle.lzk_ntt.specs.Kernels.{kernel_entry, AreKernels, IsPlan};
 ghost use Rattle.lzk_ntt.specs.Transform.{doubled, spectrum};
 
 use crate::plan::Plan;
+use crate::prepared::{Factor, Prepared, prepare};
 use crate::transform::Transform;
 use lzk_field::Field;
 use std::alloc::{AllocError, Global};
 
 /// The kernels of an extender, transformed, and what they are convolved by.
 #[derive(Drop)]
-pub struct Kernels<F: Field> {
+pub struct Kernels<F: Factor> {
     pub transform: Transform<F>,
     pub plan: Plan,
     /// The transformed kernels of each block and each piece, one after the other.
-    pub spectra: Vec<F>,
+    pub spectra: Vec<Prepared<F>>,
 }
 
 // The inverse of the backward transform's factor.
@@ -48,7 +49,7 @@ fn scaled<F: Field>(inverses: &[F], place: usize, scale: F) -> F
 }
 
 // The forward transform of the inverses of the points from `first` on, each times the scale.
-fn kernel<F: Field>(
+fn kernel<F: Factor>(
     alloc: Global,
     transform: &Transform<F>,
     inverses: &[F],
@@ -72,12 +73,12 @@ fn kernel<F: Field>(
 
 /// The transformed kernels of each block and each piece, one after the other. The backward transform's factor
 /// is undone in them once, so that no row has to.
-pub fn kernel_spectra<F: Field>(
+pub fn kernel_spectra<F: Factor>(
     alloc: Global,
     transform: &Transform<F>,
     inverses: &[F],
     plan: Plan,
-) -> Result<Vec<F>, AllocError>
+) -> Result<Vec<Prepared<F>>, AllocError>
     requires table { IsInverseTable F.ops F.coding.element inverses.now }
     requires points { length inverses.now ≡ plan.upto }
     requires plan { IsPlan plan transform.now.bits }
@@ -92,7 +93,8 @@ pub fn kernel_spectra<F: Field>(
         for p in 0..plan.pieces {
             let from = plan.count + p * plan.piece;
             let list = kernel(alloc, transform, inverses, scale, from + 1 - end)?;
-            all.extend_from_slice(&list)?;
+            let factors = prepare(alloc, &list)?;
+            all.extend_from_slice(&factors)?;
         }
     }
     Ok(all)

@@ -29,9 +29,11 @@ mod halves;
 mod kernels;
 mod laws;
 mod plan;
+mod prepared;
 mod transform;
 
 pub use extender::NttExtender;
 pub use gold::root_of;
 pub use laws::convolution_theorem;
+pub use prepared::{Factor, Prepared};
 pub use transform::Transform;

@@ -5,24 +5,29 @@ ghost use Rattle.lzk_field.specs.Sums.{entry};
 ghost use Rattle.lzk_ntt.specs.Transform.{cyclic_convolution, spectrum, doubled, AreTwiddles, IsPrincipal, IsRoot, Order};
 
 use crate::halves::{backward, forward};
+use crate::prepared::{Factor, Prepared};
 use lzk_field::Field;
 use std::alloc::{AllocError, Global};
 use std::marker::Model;
 
 // The twiddle factors of each level: the powers of `root`, half as many as its order, and before them those
 // of its square, and so on.
-fn twiddle_factors<F: Field>(alloc: Global, bits: u32, root: F) -> Result<Vec<F>, AllocError>
+fn twiddle_factors<F: Factor>(
+    alloc: Global,
+    bits: u32,
+    root: F,
+) -> Result<Vec<Prepared<F>>, AllocError>
     requires { bits ≤ 20 }
     ensures { IfOk result (λ v. (length v.items ≡ 2 ^ bits) × AreTwiddles F.ops bits root v.items) }
 {
-    let mut list = vec![in alloc; F::one(); 1 << bits]?;
+    let mut list = vec![in alloc; Prepared::new(F::one()); 1 << bits]?;
     if bits == 0 {
         return Ok(list);
     }
     let half: usize = 1 << (bits - 1);
     let mut power = F::one();
     for i in 0..half {
-        list[half + i] = power;
+        list[half + i] = Prepared::new(power);
         power = power.mul(root);
     }
     for k in (1..half).rev() {
@@ -31,8 +36,8 @@ fn twiddle_factors<F: Field>(alloc: Global, bits: u32, root: F) -> Result<Vec<F>
     Ok(list)
 }
 
-/// The products of the entries at one place.
-pub fn multiply<F: Field>(left: &[F], right: &[F], out: &mut [F])
+// The products of the entries at one place.
+fn multiply<F: Field>(left: &[F], right: &[F], out: &mut [F])
     requires left { length left.now ≡ length out.old }
     requires right { length right.now ≡ length out.old }
     ensures { (j : ℕ) → j < length out.new → entry F.ops out.new j ≡ F.ops.times (entry F.ops left.now j) (entry F.ops right.now j) }
@@ -42,30 +47,18 @@ pub fn multiply<F: Field>(left: &[F], right: &[F], out: &mut [F])
     }
 }
 
-/// Adds the products of the entries at one place.
-pub fn add_products<F: Field>(left: &[F], right: &[F], out: &mut [F])
-    requires left { length left.now ≡ length out.old }
-    requires right { length right.now ≡ length out.old }
-    ensures { (j : ℕ) → j < length out.new → entry F.ops out.new j ≡
-        F.ops.plus (entry F.ops out.old j) (F.ops.times (entry F.ops left.now j) (entry F.ops right.now j)) }
-{
-    for j in 0..out.len() {
-        out[j] = out[j].add(left[j].mul(right[j]));
-    }
-}
-
 /// The number-theoretic transforms of 2^bits entries by one root, with their twiddle factors, which are
 /// computed once.
 #[derive(Drop)]
-pub struct Transform<F: Field> {
+pub struct Transform<F: Factor> {
     bits: u32,
     root: F,
     inverse: F,
-    twiddles: Vec<F>,
-    inverse_twiddles: Vec<F>,
+    twiddles: Vec<Prepared<F>>,
+    inverse_twiddles: Vec<Prepared<F>>,
 }
 
-impl<F: Field> Model for Transform<F> {
+impl<F: Factor> Model for Transform<F> {
     ghost use Rattle.std.specs.Prelude.{◌≡◌, ◌≤◌, ◌^◌, length};
     ghost use Rattle.lzk_ntt.specs.Transform.{AreTwiddles, IsRoot, Order};
 
@@ -78,7 +71,7 @@ impl<F: Field> Model for Transform<F> {
         AreTwiddles F.ops e.bits e.inverse e.inverse_twiddles.items };
 }
 
-impl<F: Field> Transform<F> {
+impl<F: Factor> Transform<F> {
     /// The transforms of 2^bits entries by `root`, a root of one of that order.
     ///
     /// # Errors

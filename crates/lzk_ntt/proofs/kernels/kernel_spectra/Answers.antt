@@ -16,7 +16,7 @@ loop-p-preserved g c =
     let ks = c.loop-p.all.items in
     let list = c.in_ok-list.list.items in
     built_more o m.coding.element d plan v p scale ks list c.extend_from_slice.new.self.items c.loop-p.invariant
-    (c.in_ok-extend_from_slice.ensures.items ∙ ap (λ zs. ks ++ zs) c.deref.ensures.value)
+    (c.in_ok-extend_from_slice.ensures.items ∙ ap (λ zs. ks ++ zs) (c.deref-in-loop-p.ensures.value ∙ c.in_ok-factors.ensures ∙ c.deref.ensures.value))
     c.in_ok-list.ensures.0
     (c.inverse_size-scale.ensures.value ∙ ap (λ b. o.inverse (doubled o b)) c.bits.ensures)
     (λ j h.
