@@ -55,7 +55,7 @@ number_shallow : (o : Option ℕ) (n : ℕ) (ts : List Token) → is_shallow n (
 number_shallow None n ts = refl
 number_shallow (Some m) n ts = refl
 
-word_shallow : (w : List ℕ) (n : ℕ) (ts : List Token) → is_shallow n (word_token w ∷ ts) ≡ is_shallow n ts
+pub word_shallow : (w : List ℕ) (n : ℕ) (ts : List Token) → is_shallow n (word_token w ∷ ts) ≡ is_shallow n ts
 unfolding word_token
 word_shallow w n ts =
     either_shallow (bytes_eq w (codes "field")) (Key keys.Field) _ n ts refl (either_shallow (bytes_eq w (codes "public")) (Key keys.Public) _ n ts refl (either_shallow (bytes_eq w (codes "private")) (Key keys.Private) _ n ts refl

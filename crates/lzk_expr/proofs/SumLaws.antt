@@ -1,5 +1,5 @@
 -- What is read of a sum's tokens, as the grammar says it.
-use Rattle.std.proofs.Common.{◌≡◌, ℕ, Bool, true, false, ◌&&◌, List, [], ◌∷◌, ◌++◌, Option, Some, None, is_some, refl, sym, ◌∙◌, ap, ap₂, Bor}
+use Rattle.std.proofs.Common.{◌≡◌, ℕ, Bool, true, false, ◌&&◌, List, [], ◌∷◌, ◌++◌, Option, Some, None, is_some, refl, sym, ◌∙◌, ap, ap₂}
 use Rattle.std.specs.Option.{option_map}
 use Rattle.std.specs.Prelude.{nat_lt}
 use Rattle.std.specs.List.{list_all}
@@ -27,20 +27,20 @@ and_true false = refl
 
 -- the names of a sum are known where its tokens are
 mutual
-  pub sum_known : {S : Type 0} (m : HashMap (Bor (List ℕ)) Binding S) (s : g.Sum) → list_all (token_known m) (g.sum_tokens s) ≡ list_all (λ w. is_some (found m w)) (g.sum_names s)
+  pub sum_known : {S : Type 0} (m : HashMap (List ℕ) Binding S) (s : g.Sum) → list_all (token_known m) (g.sum_tokens s) ≡ list_all (λ w. is_some (found m w)) (g.sum_names s)
   sum_known m (g.Single p) = product_known m p
   sum_known m (g.Plus s p) = list_all-append (token_known m) (g.sum_tokens s) (token.Plus ∷ g.product_tokens p) ∙ both (sum_known m s) (product_known m p) ∙ sym (list_all-append (λ w. is_some (found m w)) (g.sum_names s) (g.product_names p))
   sum_known m (g.Less s p) = list_all-append (token_known m) (g.sum_tokens s) (token.Minus ∷ g.product_tokens p) ∙ both (sum_known m s) (product_known m p) ∙ sym (list_all-append (λ w. is_some (found m w)) (g.sum_names s) (g.product_names p))
 
-  pub product_known : {S : Type 0} (m : HashMap (Bor (List ℕ)) Binding S) (p : g.Product) → list_all (token_known m) (g.product_tokens p) ≡ list_all (λ w. is_some (found m w)) (g.product_names p)
+  pub product_known : {S : Type 0} (m : HashMap (List ℕ) Binding S) (p : g.Product) → list_all (token_known m) (g.product_tokens p) ≡ list_all (λ w. is_some (found m w)) (g.product_names p)
   product_known m (g.Lone f) = factor_known m f
   product_known m (g.Times p f) = list_all-append (token_known m) (g.product_tokens p) (token.Times ∷ g.factor_tokens f) ∙ both (product_known m p) (factor_known m f) ∙ sym (list_all-append (λ w. is_some (found m w)) (g.product_names p) (g.factor_names f))
 
-  pub factor_known : {S : Type 0} (m : HashMap (Bor (List ℕ)) Binding S) (f : g.Factor) → list_all (token_known m) (g.factor_tokens f) ≡ list_all (λ w. is_some (found m w)) (g.factor_names f)
+  pub factor_known : {S : Type 0} (m : HashMap (List ℕ) Binding S) (f : g.Factor) → list_all (token_known m) (g.factor_tokens f) ≡ list_all (λ w. is_some (found m w)) (g.factor_names f)
   factor_known m (g.Plain a) = atom_known m a
   factor_known m (g.Minus a) = atom_known m a
 
-  pub atom_known : {S : Type 0} (m : HashMap (Bor (List ℕ)) Binding S) (a : g.Atom) → list_all (token_known m) (g.atom_tokens a) ≡ list_all (λ w. is_some (found m w)) (g.atom_names a)
+  pub atom_known : {S : Type 0} (m : HashMap (List ℕ) Binding S) (a : g.Atom) → list_all (token_known m) (g.atom_tokens a) ≡ list_all (λ w. is_some (found m w)) (g.atom_names a)
   atom_known m (g.Number n) = refl
   atom_known m (g.Name w) = refl
   atom_known m (g.Group s) = list_all-append (token_known m) (g.sum_tokens s) (token.Close ∷ []) ∙ and_true (list_all (token_known m) (g.sum_tokens s)) ∙ sum_known m s

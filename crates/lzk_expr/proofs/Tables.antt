@@ -1,5 +1,5 @@
 -- The table and the counts with one more statement.
-use Rattle.std.proofs.Common.{◌≡◌, ℕ, ◌+◌, Bool, true, false, cond, List, [], ◌∷◌, ◌++◌, Option, Some, None, refl, sym, ◌∙◌, ap, arith, bytes_eq, Bor}
+use Rattle.std.proofs.Common.{◌≡◌, ℕ, ◌+◌, Bool, true, false, cond, List, [], ◌∷◌, ◌++◌, Option, Some, None, refl, sym, ◌∙◌, ap, arith, bytes_eq}
 use Rattle.std.specs.Prelude.{count_by}
 use Rattle.std.specs.Map.{update}
 use Rattle.std.specs.HashMap.{HashMap}
@@ -31,7 +31,7 @@ one_at m o b true none h = sym (ap (λ (x : Option Expr). or_first x (named (Som
 one_at m o b false none h = h ∙ sym (or_none o)
 
 -- what the table has after a declaration
-names_after : {S : Type 0} (m n : HashMap (Bor (List ℕ)) Binding S) (ss : List Statement) (s : Statement) (v : List ℕ) (b : Binding) → ((w : List ℕ) → named (found m w) ≡ name_of ss w)
+names_after : {S : Type 0} (m n : HashMap (List ℕ) Binding S) (ss : List Statement) (s : Statement) (v : List ℕ) (b : Binding) → ((w : List ℕ) → named (found m w) ≡ name_of ss w)
     → ((w : List ℕ) → found n w ≡ update bytes_eq (found m) v (Some b) w) → name_of ss v ≡ None
     → ((w : List ℕ) → name_of (ss ++ s ∷ []) w ≡ or_first (name_of ss w) (cond (bytes_eq v w) (named (Some b)) None)) → (w : List ℕ) → named (found n w) ≡ name_of (ss ++ s ∷ []) w
 names_after m n ss s v b before after none adds w =

@@ -17,3 +17,4 @@ pub mod NameLists
 pub mod Readers
 pub mod SomeReading
 pub use Rattle.lzk_field.specs
+pub mod Keys

@@ -1,6 +1,7 @@
 -- The first token of a line, as it is read.
-use Rattle.std.specs.Prelude.{◌≡◌, ℕ, ◌≤◌, ◌<◌, ◌^◌, List, ◌∷◌, length, Bool, true}
-use Rattle.lzk_expr.specs.Tokens.{Piece, pieces, Token, tokens, is_sign}
+use Rattle.std.specs.Prelude.{◌≡◌, ℕ, ◌+◌, ◌≤◌, ◌<◌, ◌^◌, List, [], ◌∷◌, length, nat_lt, ◌==◌, ◌&&◌, ◌||◌, Bool, true, if◌then◌else◌}
+use Rattle.lzk_expr.specs.Texts.{is_blank}
+use Rattle.lzk_expr.specs.Tokens.{Piece, pieces, Token, tokens, is_sign, in_word}
 use Rattle.lzk_expr.specs.Tokens as token
 use Rattle.lzk_expr.specs.declared.tokens.Piece.{Piece as Read}
 use Rattle.lzk_expr.specs.declared.tokens.Piece.TheVariants as read
@@ -42,3 +43,11 @@ pub record IsNext (bytes : List ℕ) (s : Symbol) (rest : List ℕ) : Type 0 whe
   pub tells : Tells s first
   pub tokens_are : tokens bytes ≡ first ∷ tokens rest
   pub shorter : length rest < length bytes
+
+-- behind so many bytes of a word and so many opened parentheses: no word has more than 32 bytes, no more than 64 parentheses are opened, and each byte is a blank or of a token
+abbrev pub goes_plainly : ℕ → ℕ → List ℕ → Bool
+goes_plainly run opened [] = true
+goes_plainly run opened (b ∷ bs) =
+    if in_word b then nat_lt run 32 && goes_plainly (run + 1) opened bs else
+    (if b == 40 then nat_lt opened 64 && goes_plainly 0 (opened + 1) bs else
+    ((is_blank b || is_sign b) && goes_plainly 0 opened bs))

@@ -24,6 +24,7 @@ mod digits;
 mod evaluate;
 mod fault;
 mod half;
+mod key;
 mod names;
 mod numbers;
 mod parsing;

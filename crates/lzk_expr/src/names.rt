@@ -4,6 +4,7 @@ ghost use Rattle.std.specs.Prelude.{◌≡◌, None, Some, OnOk, bytes_eq};
 ghost use Rattle.std.specs.Map.{update};
 ghost use Rattle.lzk_expr.specs.Table.{found};
 
+use crate::key::Key;
 use std::alloc::{AllocError, Global};
 use std::collections::HashMap;
 
@@ -17,7 +18,7 @@ pub enum Binding {
 
 #[derive(Drop)]
 pub struct Names<'a> {
-    pub table: HashMap<&'a [u8], Binding>,
+    pub table: HashMap<Key<'a>, Binding>,
 }
 
 impl<'a> Names<'a> {
@@ -32,7 +33,7 @@ impl<'a> Names<'a> {
     pub fn find(&self, name: &[u8]) -> Option<Binding>
         ensures { result ≡ found self.now.table name.now }
     {
-        match self.table.get(name) {
+        match self.table.get(&Key::new(name)) {
             Some(binding) => Some(*binding),
             None => None,
         }
@@ -41,7 +42,7 @@ impl<'a> Names<'a> {
     pub fn declare(&mut self, name: &'a [u8], binding: Binding) -> Result<(), AllocError>
         ensures { OnOk result ((w : _) → found self.new.table w ≡ update bytes_eq (found self.old.table) name.now (Some binding) w) }
     {
-        self.table.insert(name, binding)?;
+        self.table.insert(Key::new(name), binding)?;
         Ok(())
     }
 }

@@ -1,7 +1,7 @@
 //! Reading statement lines.
 
-ghost use Rattle.std.specs.Prelude.{◌≡◌, ◌≤◌, ◌<◌, ◌+◌, ◌-◌, ◌∷◌, [], length, is_some, true, false, None, Some};
-ghost use Rattle.std.specs.Prelude.{MatchOption, IfSome, IfOk, OnOk, position, ◌==◌, ◌||◌, ◌^◌};
+ghost use Rattle.std.specs.Prelude.{◌≡◌, ◌≤◌, ◌<◌, ◌+◌, ◌∷◌, [], length, is_some, true, false, None, Some};
+ghost use Rattle.std.specs.Prelude.{MatchOption, IfOk, OnOk, position, ◌==◌, ◌||◌, ◌^◌};
 ghost use Rattle.std.specs.List.{list_all};
 ghost use Rattle.lzk_expr.specs.Tokens.{tokens, Key, Equals};
 ghost use Rattle.lzk_expr.specs.Sources.{first_keyword, keeps_limits, is_short, is_few, is_field, nothing_yet};
@@ -81,6 +81,19 @@ fn are_names(bytes: &[u8]) -> bool
         rest = after;
     }
     true
+}
+
+fn token_count(bytes: &[u8]) -> usize
+    ensures is { result ≡ length (tokens bytes.now) }
+    ensures within { result ≤ length bytes.now }
+{
+    let mut count = 0usize;
+    let mut rest = bytes;
+    while let Some((_, after)) = next_token(rest) {
+        count += 1;
+        rest = after;
+    }
+    count
 }
 
 // The name that the bytes begin with, and what is behind it.
@@ -163,30 +176,29 @@ impl<'a> Reader<'a> {
         }
     }
 
-    fn has_room(&self, keyword: Keyword, more: usize) -> bool
+    // Each token behind public or private counts as an input.
+    fn has_room(&self, keyword: Keyword, rest: &[u8]) -> bool
         requires holds { IsReader self.now }
-        requires few { more < 2 ^ 63 }
-        ensures { result ≡ is_few (before_of self.now).statements keyword more }
+        ensures { result ≡ is_few (before_of self.now).statements keyword (length (tokens rest.now)) }
     {
         match keyword {
-            Keyword::Public => self.publics as usize + more <= 65_535,
-            Keyword::Private => self.privates as usize + more <= 65_536,
+            Keyword::Public => self.publics as usize + token_count(rest) <= 65_535,
+            Keyword::Private => self.privates as usize + token_count(rest) <= 65_536,
             Keyword::Assert => self.asserts < 131_072,
             _ => true,
         }
     }
 
-    // Whether a line of so many tokens keeps the limits; none are counted where a token or the parentheses break one.
-    fn keeps_limits(&self, keyword: Keyword, count: Option<usize>) -> bool
+    // Whether a line keeps the limits, where it is known whether its tokens and parentheses do.
+    fn keeps_limits(&self, keyword: Keyword, bounded: bool, rest: &[u8]) -> bool
         requires holds { IsReader self.now }
-        requires few { IfSome count (λ n. n < 2 ^ 63) }
-        ensures { (ts : _) → MatchOption count (keeps_bounds 0 ts ≡ false) (λ n. (keeps_bounds 0 ts ≡ true) × (n ≡ length ts)) →
+        ensures { (ts : _) → bounded ≡ keeps_bounds 0 ts → length ts ≡ length (tokens rest.now) + 1 →
             result ≡ keeps_limits (before_of self.now).statements keyword ts }
     {
-        match count {
-            Some(count) => self.has_room(keyword, count.saturating_sub(1)),
-            None => false,
+        if !bounded {
+            return false;
         }
+        self.has_room(keyword, rest)
     }
 
     fn take_field(&mut self, bytes: &[u8]) -> Option<SourceKind>
@@ -396,7 +408,7 @@ impl<'a> Reader<'a> {
         if !self.may_have(keyword) {
             return Ok(Some(SourceKind::NoField));
         }
-        if !self.keeps_limits(keyword, scan.count) {
+        if !self.keeps_limits(keyword, scan.bounded, rest) {
             return Ok(Some(SourceKind::Limit));
         }
         self.take_form(alloc, keyword, rest)

@@ -1,8 +1,8 @@
 //! The rules of a line that need no form.
 
-ghost use Rattle.std.specs.Prelude.{◌≡◌, ◌≤◌, ◌+◌, ◌∷◌, length, true, false, IfSome, MatchOption};
+ghost use Rattle.std.specs.Prelude.{◌≡◌, ℕ, List, ◌≤◌, ◌+◌, ◌∷◌, true, false, IfSome, MatchOption};
 ghost use Rattle.lzk_expr.specs.Tokens.{tokens, token_of, word_token, sign_token, keeps_characters, is_empty_line, is_sign};
-ghost use Rattle.lzk_expr.specs.TokenReadings.{piece_of, is_clean};
+ghost use Rattle.lzk_expr.specs.TokenReadings.{piece_of, is_clean, goes_plainly};
 ghost use Rattle.lzk_expr.specs.Readers.{keeps_bounds};
 ghost use Rattle.lzk_expr.specs.Sources.{is_short};
 
@@ -82,44 +82,91 @@ fn is_clean(piece: Piece<'_>) -> bool
     }
 }
 
-// What a line keeps: whether each byte is a blank or of a token, and then how many tokens it has, where its
-// names have at most 32 bytes and at most 64 parentheses are open at any place.
+// How a byte is gone past, behind so many bytes of a word and so many opened parentheses.
+fn plain_step(run: u32, opened: u32, b: u8) -> Option<(u32, u32)>
+    ensures { (bs : List ℕ) → MatchOption result (goes_plainly run opened (b ∷ bs) ≡ false)
+        (λ s. goes_plainly run opened (b ∷ bs) ≡ goes_plainly s.0 s.1 bs) }
+{
+    if in_word(b) {
+        if run >= 32 {
+            return None;
+        }
+        return Some((run + 1, opened));
+    }
+    if b == b'(' {
+        if opened >= 64 {
+            return None;
+        }
+        return Some((0, opened + 1));
+    }
+    if is_blank(b) || is_sign(b) {
+        return Some((0, opened));
+    }
+    None
+}
+
+// Whether each byte of a line is a blank or of a token, no word has more than 32 bytes, and no more than 64
+// parentheses are opened. So most lines are seen to keep their bounds, with no piece found.
+fn is_plain_line(line: &[u8]) -> bool
+    ensures { result ≡ goes_plainly 0 0 line.now }
+{
+    let mut run = 0u32;
+    let mut opened = 0u32;
+    for b in line {
+        match plain_step(run, opened, *b) {
+            Some((more, open)) => {
+                run = more;
+                opened = open;
+            }
+            None => return false,
+        }
+    }
+    true
+}
+
+// What a line keeps: whether each byte is a blank or of a token, and then whether its names have at most 32 bytes
+// and at most 64 parentheses are open at any place.
 #[derive(Clone, Copy)]
 pub struct Scan {
     pub clean: bool,
-    pub count: Option<usize>,
+    pub bounded: bool,
 }
 
-// One pass over the line.
-#[tactic(auto, using(crate::proofs::Clean::clean_first, crate::proofs::Clean::unclean, crate::proofs::Clean::clean_none))]
+// One pass over the line, and piece by piece where it is no plain one.
+#[tactic(auto, using(crate::proofs::Plain::scanning))]
 pub fn scanned(line: &[u8]) -> Scan
     ensures clean { result.clean ≡ keeps_characters line.now }
-    ensures within { IfSome result.count (λ count. count ≤ length line.now) }
-    ensures keeps { result.clean ≡ true → MatchOption result.count (keeps_bounds 0 (tokens line.now) ≡ false)
-        (λ count. (keeps_bounds 0 (tokens line.now) ≡ true) × (count ≡ length (tokens line.now))) }
+    ensures bounded { result.clean ≡ true → result.bounded ≡ keeps_bounds 0 (tokens line.now) }
 {
+    if is_plain_line(line) {
+        return Scan {
+            clean: true,
+            bounded: true,
+        };
+    }
     let mut depth = 0u32;
-    let mut count = 0usize;
     let mut rest = line;
     while let Some((piece, after)) = next_piece(rest) {
         if !is_clean(piece) {
             return Scan {
                 clean: false,
-                count: None,
+                bounded: false,
             };
         }
         match behind_piece(depth, piece) {
             Some(next) => depth = next,
             None => {
                 let clean = keeps_characters(after);
-                return Scan { clean, count: None };
+                return Scan {
+                    clean,
+                    bounded: false,
+                };
             }
         }
-        count += 1;
         rest = after;
     }
     Scan {
         clean: true,
-        count: Some(count),
+        bounded: true,
     }
 }

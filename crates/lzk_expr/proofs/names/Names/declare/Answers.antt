@@ -1,6 +1,7 @@
-use Rattle.std.proofs.Common.{Some}
-use Rattle.std.proofs.lemmas.Map.Text.{hash_map_updates_str}
+use Rattle.std.proofs.Common.{◌∙◌, ap, List, ℕ, Some, bytes_eq}
+use Rattle.std.specs.Map.{update}
+use Rattle.lzk_expr.specs.Table.{found}
 use Rattle.lzk_expr.proofs.names.Names.declare.Goals as goal
 
 pub returns : goal.returns
-returns c = λ w. hash_map_updates_str c.args.name.now c.args.self.now.table c.insert.new.self (Some c.args.binding) c.in_ok-insert.ensures.updates w
+returns c = λ w. c.in_ok-insert.ensures.updates.0 w ∙ ap (λ (v : List ℕ). update bytes_eq (found c.args.self.now.table) v (Some c.args.binding) w) c.new.ensures

@@ -1,4 +1,4 @@
-use Rattle.std.proofs.Common.{sym, ◌∙◌}
+use Rattle.std.proofs.Common.{sym, ap, length, arith, ◌∙◌}
 use Rattle.lzk_expr.specs.Tokens.{tokens}
 use Rattle.lzk_expr.proofs.Lines.{not_yes, not_no}
 use Rattle.lzk_expr.proofs.Taken.{takes_character, takes_keyword, takes_no_field, takes_limit, takes_form, if_ok}
@@ -17,9 +17,9 @@ returns-then-not-may_have c =
 pub returns-then-not-keeps_limits : goal.returns-then-not-keeps_limits
 returns-then-not-keeps_limits c =
     takes_limit c.args.self.now c.args.bytes.now c.in-Some.keyword (tokens c.in-Some.rest.now) (sym c.scanned-scan.ensures.clean ∙ not_no c.scanned-scan.result.clean c.if-not-scan.false) c.in-Some.ensures (sym c.if-not-may_have.ensures)
-    (sym (c.if-not-keeps_limits.ensures (tokens c.args.bytes.now) (c.scanned-scan.ensures.keeps (not_no c.scanned-scan.result.clean c.if-not-scan.false))))
+    (sym (c.if-not-keeps_limits.ensures (tokens c.args.bytes.now) (c.scanned-scan.ensures.bounded (not_no c.scanned-scan.result.clean c.if-not-scan.false)) (omega (arith, ap length c.in-Some.ensures))))
 
 pub returns : goal.returns
 returns c =
     if_ok c.take_form.result _ _ (λ broken t. takes_form c.args.self.now c.take_form.new.self c.args.bytes.now c.in-Some.keyword (tokens c.in-Some.rest.now) broken (sym c.scanned-scan.ensures.clean ∙ not_no c.scanned-scan.result.clean c.if-not-scan.false)
-    c.in-Some.ensures (sym c.if-not-may_have.ensures) (sym (c.if-not-keeps_limits.ensures (tokens c.args.bytes.now) (c.scanned-scan.ensures.keeps (not_no c.scanned-scan.result.clean c.if-not-scan.false)))) t) c.take_form.ensures
+    c.in-Some.ensures (sym c.if-not-may_have.ensures) (sym (c.if-not-keeps_limits.ensures (tokens c.args.bytes.now) (c.scanned-scan.ensures.bounded (not_no c.scanned-scan.result.clean c.if-not-scan.false)) (omega (arith, ap length c.in-Some.ensures)))) t) c.take_form.ensures
