@@ -18,7 +18,7 @@ use lzk_cmd_files::{Ending, Halt, Means, TEXT_LIMIT, lines, put_file, read_file}
 use lzk_cmd_words::Version;
 use lzk_expr::{Source, SourceError, parse};
 use lzk_field::{Field, Gate};
-use lzk_level::{LevelError, compile, compile_v2};
+use lzk_level::{LevelError, compile_owned, compile_owned_v2};
 use lzk_outside::Shelf;
 use std::alloc::{AllocError, Global};
 use std::marker::Sync;
@@ -87,14 +87,14 @@ fn file_of(alloc: Global, circuit: &AnyCircuit, name: &str) -> Result<(Vec<u8>, 
 }
 
 // The circuit of a source in this version.
-fn in_version(alloc: Global, source: &Source, version: Version) -> Result<AnyCircuit, LevelError>
-    ensures compiled { IfOk result (CompiledAs version (tree_of source.now)) }
-    ensures within { IfOk result (λ _. limit_as version (tree_of source.now) ≡ None) }
-    ensures fault { IfErr result (IsFaultOf (limit_as version (tree_of source.now))) }
+fn in_version(alloc: Global, source: Source, version: Version) -> Result<AnyCircuit, LevelError>
+    ensures compiled { IfOk result (CompiledAs version (tree_of source)) }
+    ensures within { IfOk result (λ _. limit_as version (tree_of source) ≡ None) }
+    ensures fault { IfErr result (IsFaultOf (limit_as version (tree_of source))) }
 {
     match version {
-        Version::One => compile(alloc, source),
-        Version::Two => compile_v2(alloc, source),
+        Version::One => compile_owned(alloc, source),
+        Version::Two => compile_owned_v2(alloc, source),
     }
 }
 
@@ -102,11 +102,11 @@ fn in_version(alloc: Global, source: &Source, version: Version) -> Result<AnyCir
 fn compiled(
     alloc: Global,
     name: &str,
-    source: &Source,
+    source: Source,
     circuit: &str,
     version: Version,
 ) -> Result<(Vec<u8>, String), Halt>
-    ensures { Compiles version name.now circuit.now (tree_of source.now) result }
+    ensures { Compiles version name.now circuit.now (tree_of source) result }
 {
     match in_version(alloc, source, version) {
         Ok(made) => Ok(file_of(alloc, &made, circuit)?),
@@ -122,12 +122,12 @@ fn compiled(
 fn compile_tree<S: Shelf>(
     alloc: Global,
     name: &str,
-    source: &Source,
+    source: Source,
     circuit: &str,
     version: Version,
     shelf: &mut S,
 ) -> Result<Ending, Halt>
-    ensures walks { WalksToPut (λ files. CompileTree version name.now circuit.now (tree_of source.now)) 1
+    ensures walks { WalksToPut (λ files. CompileTree version name.now circuit.now (tree_of source)) 1
         (seen S.Shelf shelf.old) (seen S.Shelf shelf.new) result }
     ensures moves { Moves (seen S.Shelf shelf.old) (seen S.Shelf shelf.new) }
 {
@@ -147,5 +147,5 @@ pub fn compile_source<R: Threads + Sync, S: Shelf, G: Gate>(
     ensures moves { Moves (seen S.Shelf shelf.old) (seen S.Shelf shelf.new) }
 {
     let tree = read_source(means.alloc, shelf, source)?;
-    compile_tree(means.alloc, source, &tree, circuit, version, shelf)
+    compile_tree(means.alloc, source, tree, circuit, version, shelf)
 }

@@ -12,7 +12,7 @@ use crate::source::demo_source;
 use lzk_circbytes::AnyCircuit;
 use lzk_circuit::Circuit;
 use lzk_goldilocks::Gold;
-use lzk_level::{LevelError, compile};
+use lzk_level::{LevelError, compile_owned};
 use std::alloc::{AllocError, Global};
 
 // The circuit over Goldilocks that a circuit is.
@@ -42,7 +42,7 @@ pub fn demo_circuit(alloc: Global, n: u32) -> Result<Circuit<Gold>, AllocError>
     ensures satisfied { IfOk result (λ circuit. IsSatisfied ops number circuit.layers (inputs_of ops (demo_public ops n) (demo_private ops n))) }
 {
     let source = demo_source(alloc, n)?;
-    match compile(alloc, &source) {
+    match compile_owned(alloc, source) {
         Ok(circuit) => {
             let circuit = gold(circuit);
             // That tells that the circuit is valid.

@@ -41,15 +41,12 @@ place-step depths last level k l = ap (λ b. cond b 1 0 + place_in depths last l
 pub place-below : (depths last : List ℕ) (level k n : ℕ) → k < n → has_wire depths last level k ≡ true → place_in depths last level k < place_in depths last level n
 place-below depths last level k n l d = omega (arith, place-step depths last level k d, place-more depths last level (suc k) n l)
 
-at-more : (f : ℕ → ℕ) (old : List ℕ) (x : ℕ) → x ≡ f (length old) → ((j : ℕ) → j < length old → at old j ≡ f j) → (j : ℕ) → j < length old + 1 → at (old ++ x ∷ []) j ≡ f j
-at-more f [] x e h zero l = e
-at-more f [] x e h (suc j) l = absurd (omega (arith, l))
-at-more f (y ∷ ys) x e h zero l = h 0 (omega arith)
-at-more f (y ∷ ys) x e h (suc j) l = at-more (λ i. f (suc i)) ys x e (λ i m. h (suc i) (omega (arith, m))) j (omega (arith, l))
-
 -- one more place
-pub places-more : (f : ℕ → ℕ) (old new : List ℕ) (x k : ℕ) → new ≡ old ++ x ∷ [] → length old ≡ k → x ≡ f k → ((j : ℕ) → j < k → at old j ≡ f j) → (j : ℕ) → j < k + 1 → at new j ≡ f j
-places-more f old new x k n c e h j l = ap (λ xs. at xs j) n ∙ at-more f old x (e ∙ ap f (sym c)) (λ i m. h i (omega (arith, m, c))) j (omega (arith, l, c))
+pub places-next : (f : ℕ → ℕ) (old new : List ℕ) (x k : ℕ) → at new k ≡ x → ((j : ℕ) → j < k → at new j ≡ at old j) → x ≡ f k → ((j : ℕ) → j < k → at old j ≡ f j) → (j : ℕ) → j < k + 1 → at new j ≡ f j
+places-next f old new x k here before is h j l = elim (cases_lt j k) [
+  | inl m ↦ before j m ∙ h j m
+  | inr m ↦ subst (λ i. at new i ≡ f i) (let e : k ≡ j = omega (arith, l, m) in e) (here ∙ is)
+]
 
 module _ {A : Type 0} where
   -- one more row

@@ -1,5 +1,6 @@
 pub mod LevelLaws
 pub mod SpanLaws
+pub mod FillLaws
 pub mod CombineLaws
 pub mod SumLaws
 pub mod NodeLaws

@@ -166,3 +166,53 @@ pub fn compile(alloc: Global, source: &Source) -> Result<AnyCircuit, LevelError>
         FieldId::Gf2_128 => Ok(AnyCircuit::Gf(compile_over(alloc, publics, privates, statements)?)),
     }
 }
+
+/// The nodes and outputs of a source that has no other use: it is dropped, and the levels may be laid out in its memory.
+pub fn build_dropping<F: Field>(
+    alloc: Global,
+    source: Source,
+) -> Result<(Builder<F>, Vec<Node>), AllocError>
+    ensures compilable { IsCompilable (statements_of source.statements) }
+    ensures nodes { IfOk result (λ built. built.0 ≡ (nodes_of F.ops F.coding.element (statements_of source.statements)).nodes) }
+    ensures outputs { IfOk result (λ built. built.1.items ≡ (nodes_of F.ops F.coding.element (statements_of source.statements)).outputs) }
+{
+    let publics = source.publics();
+    let privates = source.privates();
+    let statements = source.statements();
+    let built = build(alloc, publics, privates, statements);
+    drop(source);
+    built
+}
+
+// The circuit of a source that has no other use.
+fn compile_dropping<F: Field>(alloc: Global, source: Source) -> Result<Circuit<F>, LevelError>
+    ensures version { IfOk result (λ c. c.version ≡ 1) }
+    ensures publics { IfOk result (λ c. c.publics ≡ count_by is_public (statements_of source.statements)) }
+    ensures privates { IfOk result (λ c. c.privates ≡ count_by is_private (statements_of source.statements)) }
+    ensures layers { IfOk result (λ c. length c.layers ≡ layers_needed (nodes_of F.ops F.coding.element (statements_of source.statements))) }
+    ensures outputs { IfOk result (HasValues F.ops F.coding.element (statements_of source.statements)) }
+    ensures reduced { IfOk result (λ c. IsReduced F.ops c.layers) }
+    ensures within { IfOk result (λ _. limit_passed (nodes_of F.ops F.coding.element (statements_of source.statements)) ≡ None) }
+    ensures fault { IfErr result (IsFaultOf (limit_passed (nodes_of F.ops F.coding.element (statements_of source.statements)))) }
+{
+    let (builder, outputs) = build_dropping::<F>(alloc, source)?;
+    builder.finish(&outputs)
+}
+
+/// What [`compile`] makes of a source that has no other use, in less memory.
+pub fn compile_owned(alloc: Global, source: Source) -> Result<AnyCircuit, LevelError>
+    ensures version { IfOk result (λ c. version_of c ≡ 1) }
+    ensures field { IfOk result (λ c. field_of c ≡ source.field_is) }
+    ensures publics { IfOk result (λ c. publics_of c ≡ count_by is_public (statements_of source.statements)) }
+    ensures privates { IfOk result (λ c. privates_of c ≡ count_by is_private (statements_of source.statements)) }
+    ensures layers { IfOk result (λ c. depth_of c ≡ source_layers (tree_of source)) }
+    ensures outputs { IfOk result (HasSourceValues (statements_of source.statements)) }
+    ensures reduced { IfOk result HasReducedLayers }
+    ensures within { IfOk result (λ _. source_limit (tree_of source) ≡ None) }
+    ensures fault { IfErr result (IsFaultOf (source_limit (tree_of source))) }
+{
+    match source.field() {
+        FieldId::Goldilocks => Ok(AnyCircuit::Gold(compile_dropping(alloc, source)?)),
+        FieldId::Gf2_128 => Ok(AnyCircuit::Gf(compile_dropping(alloc, source)?)),
+    }
+}

@@ -10,7 +10,7 @@ ghost use Rattle.lzk_level.specs.Compiled.{IsCompilable, HasCheckedValues, HasAs
 ghost use Rattle.lzk_level.specs.Compiled.{limit_passed_v2, version_of, field_of, publics_of, privates_of, depth_of};
 ghost use Rattle.lzk_level.specs.Compiled.{HasSourceChecks, HasReducedAsserting, source_layers, source_limit_v2};
 
-use crate::compiler::build;
+use crate::compiler::{build, build_dropping};
 use crate::fault::LevelError;
 use lzk_circbytes::AnyCircuit;
 use lzk_circuit::Circuit;
@@ -63,5 +63,39 @@ pub fn compile_v2(alloc: Global, source: &Source) -> Result<AnyCircuit, LevelErr
             alloc, publics, privates, statements,
         )?)),
         FieldId::Gf2_128 => Ok(AnyCircuit::Gf(compile_over(alloc, publics, privates, statements)?)),
+    }
+}
+
+// The circuit of version 2 of a source that has no other use.
+fn compile_dropping<F: Field>(alloc: Global, source: Source) -> Result<Circuit<F>, LevelError>
+    ensures version { IfOk result (λ c. c.version ≡ 2) }
+    ensures publics { IfOk result (λ c. c.publics ≡ count_by is_public (statements_of source.statements)) }
+    ensures privates { IfOk result (λ c. c.privates ≡ count_by is_private (statements_of source.statements)) }
+    ensures layers { IfOk result (λ c. length c.layers ≡ layers_needed (nodes_of F.ops F.coding.element (statements_of source.statements))) }
+    ensures count { IfOk result (HasAsManyChecks F.coding.number (statements_of source.statements)) }
+    ensures checks { IfOk result (HasCheckedValues F.ops F.coding.number F.coding.element (statements_of source.statements)) }
+    ensures reduced { IfOk result (λ c. IsReducedAsserting F.ops c.layers) }
+    ensures within { IfOk result (λ _. limit_passed_v2 (nodes_of F.ops F.coding.element (statements_of source.statements)) ≡ None) }
+    ensures fault { IfErr result (IsFaultOf (limit_passed_v2 (nodes_of F.ops F.coding.element (statements_of source.statements)))) }
+{
+    let (builder, asserts) = build_dropping::<F>(alloc, source)?;
+    builder.finish_v2(&asserts)
+}
+
+/// What [`compile_v2`] makes of a source that has no other use, in less memory.
+pub fn compile_owned_v2(alloc: Global, source: Source) -> Result<AnyCircuit, LevelError>
+    ensures version { IfOk result (λ c. version_of c ≡ 2) }
+    ensures field { IfOk result (λ c. field_of c ≡ source.field_is) }
+    ensures publics { IfOk result (λ c. publics_of c ≡ count_by is_public (statements_of source.statements)) }
+    ensures privates { IfOk result (λ c. privates_of c ≡ count_by is_private (statements_of source.statements)) }
+    ensures layers { IfOk result (λ c. depth_of c ≡ source_layers (tree_of source)) }
+    ensures checks { IfOk result (HasSourceChecks (statements_of source.statements)) }
+    ensures reduced { IfOk result HasReducedAsserting }
+    ensures within { IfOk result (λ _. source_limit_v2 (tree_of source) ≡ None) }
+    ensures fault { IfErr result (IsFaultOf (source_limit_v2 (tree_of source))) }
+{
+    match source.field() {
+        FieldId::Goldilocks => Ok(AnyCircuit::Gold(compile_dropping(alloc, source)?)),
+        FieldId::Gf2_128 => Ok(AnyCircuit::Gf(compile_dropping(alloc, source)?)),
     }
 }

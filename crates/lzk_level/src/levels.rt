@@ -1,6 +1,6 @@
 //! Levels of wires, from the inputs up.
 
-ghost use Rattle.std.specs.Prelude.{◌≡◌, ◌≢◌, ℕ, ◌+◌, ◌-◌, ◌<◌, ◌≤◌, List, [], ◌∷◌, length, map, IfOk};
+ghost use Rattle.std.specs.Prelude.{◌≡◌, ◌≢◌, ℕ, ◌+◌, ◌-◌, ◌<◌, ◌≤◌, true, false, List, [], ◌∷◌, length, map, IfOk};
 ghost use Rattle.lzk_field.specs.Sums.{entry};
 ghost use Rattle.lzk_level.specs.Nodes.{IsGate, AreGates};
 ghost use Rattle.lzk_reduce.specs.Renumbering.{at};
@@ -27,6 +27,33 @@ pub fn has_wire(depths: &[u32], last: &[u32], level: u32, k: usize) -> bool
     depths[k] <= level && level < last[k]
 }
 
+// Whether a level needs the row of node `k`: it is no deeper, and the level or one above needs the node.
+fn is_needed(depths: &[u32], last: &[u32], level: u32, k: usize) -> bool
+    requires node { k < length depths.now }
+    requires same { length last.now ≡ length depths.now }
+    ensures up { result ≡ true → at depths.now k ≤ level }
+    ensures needed { result ≡ true → level ≤ at last.now k }
+    ensures passed { result ≡ false → at depths.now k ≤ level → at last.now k < level }
+{
+    depths[k] <= level && level <= last[k]
+}
+
+// Sets each node's number among those with a wire in a level.
+fn set_places(depths: &[u32], last: &[u32], level: u32, places: &mut [u32])
+    requires few { length depths.now ≤ 131072 }
+    requires same { length last.now ≡ length depths.now }
+    requires room { length places.old ≡ length depths.now }
+    ensures { ArePlaces depths.now last.now level places.new }
+{
+    let mut next = 0;
+    for k in 0..depths.len() {
+        places[k] = next;
+        if has_wire(depths, last, level, k) {
+            next += 1;
+        }
+    }
+}
+
 /// Each node's number among those with a wire in a level.
 pub fn places(
     alloc: Global,
@@ -38,14 +65,8 @@ pub fn places(
     requires same { length last.now ≡ length depths.now }
     ensures { IfOk result (λ places. ArePlaces depths.now last.now level places.items) }
 {
-    let mut places = Vec::with_capacity(alloc, depths.len())?;
-    let mut next = 0;
-    for k in 0..depths.len() {
-        places.push(next)?;
-        if has_wire(depths, last, level, k) {
-            next += 1;
-        }
-    }
+    let mut places = vec![in alloc; 0; depths.len()]?;
+    set_places(depths, last, level, &mut places);
     Ok(places)
 }
 
@@ -129,7 +150,7 @@ fn node_row<F: Field>(
     gate_row(alloc, below, rows, &made[k - inputs], row)
 }
 
-// Makes the row of the next node: a deeper node has none, nor one that no level from here on needs.
+// Makes the row of the next node, which the level needs.
 fn next_row<F: Field>(
     alloc: Global,
     made: &[Gate<F>],
@@ -142,6 +163,8 @@ fn next_row<F: Field>(
 ) -> Result<(), AllocError>
     requires level { 1 ≤ level }
     requires next { length rows.old < length depths.now }
+    requires up { at depths.now (length rows.old) ≤ level }
+    requires needed { level ≤ at last.now (length rows.old) }
     requires inputs { 1 + length made.now ≤ length depths.now }
     requires gates { AreGates (length depths.now - length made.now - 1) made.now }
     requires depths { AreDepths (length depths.now - length made.now) made.now depths.now }
@@ -158,18 +181,12 @@ fn next_row<F: Field>(
         → IfOk result (λ _. AreShort depths.now level weights rows.new) }
     ensures one { (1 ≤ length rows.old → StartsWithOne F.ops rows.old) → IfOk result (λ _. StartsWithOne F.ops rows.new) }
 {
-    let k = rows.len();
-    if depths[k] > level {
-        return rows.push_none();
-    }
-    if last[k] < level {
-        return rows.push_none();
-    }
     node_row(alloc, made, depths, last, level, below, rows, row)?;
     rows.push(row)
 }
 
-/// The row of each node in a level, over the places of the level below.
+/// The row of each node in a level, over the places of the level below. A deeper node has none, nor one that no
+/// level from here on needs.
 pub fn level_rows<F: Field>(
     alloc: Global,
     made: &[Gate<F>],
@@ -197,7 +214,10 @@ pub fn level_rows<F: Field>(
     rows.clear();
     let mut row = Vec::new(alloc);
     for k in 0..depths.len() {
-        next_row(alloc, made, depths, last, level, below, rows, &mut row)?;
+        if is_needed(depths, last, level, k) {
+            rows.fill_to(k)?;
+            next_row(alloc, made, depths, last, level, below, rows, &mut row)?;
+        }
     }
-    Ok(())
+    rows.fill_to(depths.len())
 }

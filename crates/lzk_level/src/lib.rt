@@ -36,8 +36,8 @@ mod sums;
 mod theorems;
 
 pub use builder::Builder;
-pub use compiler::compile;
-pub use compiler_v2::compile_v2;
+pub use compiler::{compile, compile_owned};
+pub use compiler_v2::{compile_owned_v2, compile_v2};
 pub use fault::{LevelError, LevelFault};
 pub use node::{Gate, Node, Parts};
 pub use theorems::compile_laws;

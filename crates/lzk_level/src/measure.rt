@@ -73,10 +73,12 @@ pub fn depths_of<F>(alloc: Global, inputs: u32, made: &[Gate<F>]) -> Result<Vec<
     requires gates { AreGates inputs made.now }
     ensures { IfOk result (λ depths. depths.items ≡ after gate_depth (replicate (1 + inputs) 0) made.now) }
 {
-    let mut depths = vec![in alloc; 0; 1 + inputs as usize]?;
+    let first = 1 + inputs as usize;
+    let mut depths = Vec::with_capacity(alloc, first + made.len())?;
+    depths.resize(first, 0)?;
     for i in 0..made.len() {
         let depth = depth_of(&depths, &made[i]);
-        depths.push(depth)?;
+        depths.push_reserved(depth);
     }
     Ok(depths)
 }

@@ -1,6 +1,6 @@
 //! The rows of a level's nodes.
 
-ghost use Rattle.std.specs.Prelude.{◌≡◌, ◌<◌, ◌≤◌, [], ◌∷◌, ◌++◌, length, IfOk};
+ghost use Rattle.std.specs.Prelude.{◌≡◌, ◌-◌, ◌<◌, ◌≤◌, [], ◌∷◌, ◌++◌, length, replicate, IfOk};
 ghost use Rattle.lzk_level.specs.Levels.{row_at};
 ghost use Rattle.lzk_level.specs.Spans.{piece};
 
@@ -72,11 +72,12 @@ impl<F: Field> Rows<F> {
         piece(&self.terms, self.spans[k])
     }
 
-    /// The next row, with no terms.
-    pub fn push_none(&mut self) -> Result<(), AllocError>
-        ensures { IfOk result (λ _. self.new ≡ self.old ++ [] ∷ []) }
+    /// So many rows, of which those behind the ones that are there have no terms.
+    pub fn fill_to(&mut self, count: usize) -> Result<(), AllocError>
+        requires within { length self.old ≤ count }
+        ensures { IfOk result (λ _. self.new ≡ self.old ++ replicate (count - length self.old) []) }
     {
-        self.spans.push((0, 0))?;
+        self.spans.resize(count, (0, 0))?;
         Ok(())
     }
 

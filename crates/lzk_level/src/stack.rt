@@ -16,6 +16,16 @@ use lzk_field::Field;
 use lzk_reduce::append;
 use std::alloc::{AllocError, Global};
 
+// Sets one place of many.
+fn set_place(places: &mut [u32], k: usize, place: u32)
+    requires there { k < length places.old }
+    ensures count { length places.new ≡ length places.old }
+    ensures here { at places.new k ≡ place }
+    ensures before { (j : ℕ) → j < k → at places.new j ≡ at places.old j }
+{
+    places[k] = place;
+}
+
 /// The layer of all nodes with a wire in a level, and each node's number among them.
 pub fn inner_layer<F: Field>(
     alloc: Global,
@@ -23,10 +33,11 @@ pub fn inner_layer<F: Field>(
     last: &[u32],
     level: u32,
     rows: &Rows<F>,
-    places: &mut Vec<u32>,
+    places: &mut [u32],
 ) -> Result<Layer<F>, AllocError>
     requires rows { length rows.now ≡ length depths.now }
     requires same { length last.now ≡ length depths.now }
+    requires room { length places.old ≡ length depths.now }
     requires few { length depths.now ≤ 131072 }
     ensures wires { IfOk result (λ layer. layer.wires ≡ width_of depths.now last.now level) }
     ensures terms { (width : ℕ) → AreRows F.ops width rows.now →
@@ -35,14 +46,13 @@ pub fn inner_layer<F: Field>(
         IfOk result (λ layer. (k : ℕ) → k < length depths.now → has_wire depths.now last.now level k ≡ true →
         wire F.ops (coef F.ops layer.terms) below (place_in depths.now last.now level k) ≡ row_value F.ops below (row_at rows.now k)) }
     ensures count { IfOk result (λ layer. length layer.terms ≡ lengths_in depths.now last.now level rows.now (length depths.now)) }
-    ensures places { IfOk result (λ _. ArePlaces depths.now last.now level places.new.items) }
+    ensures places { IfOk result (λ _. ArePlaces depths.now last.now level places.new) }
     ensures one { at depths.now 0 ≡ 0 → level < at last.now 0 → StartsWithOne F.ops rows.now → IfOk result (HasOne F.ops) }
 {
     let mut terms = Vec::new(alloc);
     let mut wires = 0;
-    places.clear();
     for k in 0..depths.len() {
-        places.push(wires)?;
+        set_place(places, k, wires);
         if has_wire(depths, last, level, k) {
             append(&mut terms, wires, rows.row(k))?;
             wires += 1;

@@ -4,8 +4,8 @@ use Rattle.lzk_cmd_circuits.proofs.Compiles.{no_circuit, puts_circuit}
 use Rattle.lzk_cmd_circuits.proofs.compiling.compile_tree.Goals as goal
 
 pub returns-in_err-bytes-clause-walks : goal.returns-in_err-bytes-clause-walks
-returns-in_err-bytes-clause-walks g c = no_circuit c.args.version c.args.name.now c.args.circuit.now (tree_of c.args.source.now) (seen g.S.Shelf c.args.shelf.now) c.in_err-bytes.field-0.0 _ c.in_err-bytes.ensures c.from_residual.ensures.1
+returns-in_err-bytes-clause-walks g c = no_circuit c.args.version c.args.name.now c.args.circuit.now (tree_of c.args.source) (seen g.S.Shelf c.args.shelf.now) c.in_err-bytes.field-0.0 _ c.in_err-bytes.ensures c.from_residual.ensures.1
 
 pub returns-clause-walks : goal.returns-clause-walks
 returns-clause-walks g c =
-    puts_circuit c.args.version c.args.name.now c.args.circuit.now (tree_of c.args.source.now) (seen g.S.Shelf c.args.shelf.now) (seen g.S.Shelf c.put_file.new.shelf) (c.in_ok-bytes.bytes, c.in_ok-bytes.text) c.deref.result.now _ c.in_ok-bytes.ensures c.deref.ensures.value c.put_file.ensures.puts
+    puts_circuit c.args.version c.args.name.now c.args.circuit.now (tree_of c.args.source) (seen g.S.Shelf c.args.shelf.now) (seen g.S.Shelf c.put_file.new.shelf) (c.in_ok-bytes.bytes, c.in_ok-bytes.text) c.deref.result.now _ c.in_ok-bytes.ensures c.deref.ensures.value c.put_file.ensures.puts

@@ -1,4 +1,6 @@
 use Rattle.std.proofs.Common.{◌≡◌, sym, subst, ◌+◌, ◌-◌, length, arith}
+use Rattle.std.proofs.lemmas.List.{with_items_is}
+use Rattle.std.specs.Vec.{with_items}
 use Rattle.lzk_level.specs.Levels.{ArePlaces}
 use Rattle.lzk_level.proofs.TowerLaws.{Tower, Topped, tower-starts, tower-adds, tower-ends}
 use Rattle.lzk_level.proofs.finish.stacked_levels.Goals as goal
@@ -23,9 +25,10 @@ loop-level-preserved g c =
     let e = c.in_ok-level_rows.ensures in
     let f = c.in_ok-inner_layer.ensures in
     let i = c.loop-level.invariant in
+    let kept : length c.inner_layer.new.places ≡ c.loop-level.below.len = omega (arith, f.places.0, i.1.0, c.loop-level.below.ok.0) in
     let back : level ≡ level + 1 - 1 = omega arith in (
       omega (arith, i.0),
-      subst (λ n. ArePlaces depths last n c.inner_layer.new.places.items) back f.places,
+      subst (λ n. ArePlaces depths last n (with_items c.loop-level.below c.inner_layer.new.places).items) back (subst (ArePlaces depths last level) (sym (with_items_is c.loop-level.below c.inner_layer.new.places kept)) f.places),
       subst (λ n. Tower o inputs made depths last n c.push.new.self.items) back
           (tower-adds o inputs made depths last level c.loop-level.layers.items c.push.new.self.items c.in_ok-inner_layer.field-0 rows i.0 c.requires.few (omega (arith, c.requires.inputs)) (omega (arith, c.loop-level-test.true, c.requires.high)) c.requires.depths
           c.in_ok-push.ensures.items e.count e.row e.value e.short

@@ -18,11 +18,12 @@ loop-i-preserved g c =
     let d = c.depth_of-depth.result in
     let i = c.loop-i.invariant in
     let same : seen ≡ old = c.deref.ensures.value in
-    let grown : c.push.new.self.items ≡ old ++ d ∷ [] = c.in_ok-push.ensures.items in
+    let grown : c.push_reserved.new.self.items ≡ old ++ d ∷ [] = c.push_reserved.ensures.items in
     let is : d ≡ gate_depth old gate = c.depth_of-depth.ensures.depth ∙ ap (λ ds. gate_depth ds gate) same in
     let start = replicate (1 + c.args.inputs) 0 in
     let is_gate : IsGate (length old - 1) gate = gate-of c.args.inputs c.loop-i.i (length old) c.args.made.now gate i.0 c.loop-i-test.true c.index-made-i.is c.requires.gates in (
       omega (arith, ap length grown, length-append old (d ∷ []), i.0),
       grown ∙ ap (λ x. old ++ x ∷ []) is ∙ ap (λ ds. ds ++ gate_depth ds gate ∷ []) i.1 ∙ sym (after-next gate_depth start c.args.made.now c.loop-i.i gate c.loop-i-test.true c.index-made-i.is),
       subst (λ ds. (k : ℕ) → k < length ds → at ds k < length ds) (sym grown) (below-more old d i.2 (omega (arith, is, depth-most old gate (omega (arith, i.0)) i.2 is_gate))),
+      omega (arith, i.3, c.push_reserved.ensures.capacity),
     )

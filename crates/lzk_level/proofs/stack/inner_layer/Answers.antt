@@ -1,8 +1,7 @@
 use Rattle.std.proofs.Common.{◌≡◌, ◌∙◌, ap, sym, subst, ◌+◌, suc, length, arith, [], ◌∷◌, ◌++◌}
-use Rattle.std.proofs.lemmas.List.{length-append}
 use Rattle.lzk_reduce.specs.Reduced.{terms_of}
 use Rattle.lzk_level.specs.Levels.{place_in}
-use Rattle.lzk_level.proofs.LevelLaws.{places-more}
+use Rattle.lzk_level.proofs.LevelLaws.{places-next}
 use Rattle.lzk_level.proofs.InnerLaws.{Inner, inner-starts, inner-skips, inner-adds}
 use Rattle.lzk_level.proofs.OneLaws.{has-one}
 use Rattle.lzk_level.proofs.stack.inner_layer.Goals.{then-has_wire+in_ok-append, else-has_wire}
@@ -10,7 +9,7 @@ use Rattle.lzk_level.proofs.stack.inner_layer.Goals as goal
 
 pub loop-k-init : goal.loop-k-init
 loop-k-init g c = record {
-  count = ap length c.clear.ensures.items;
+  count = c.requires.room;
   places = λ j l. absurd (omega (arith, l));
   inner = subst (Inner g.F.Field.ops c.args.depths.now c.args.last.now c.args.level c.args.rows.now 0 0) (sym c.new-terms.ensures.items) (inner-starts g.F.Field.ops c.args.depths.now c.args.last.now c.args.level c.args.rows.now);
 }
@@ -24,9 +23,7 @@ loop-k-preserved g c =
     let k = c.loop-k.k in
     let next : suc k ≡ k + 1 = omega arith in
     let old = c.loop-k.terms.items in
-    let places = c.loop-k.places.items in
     let i = c.loop-k.invariant in
-    let pushed : c.push.new.self.items ≡ places ++ c.loop-k.wires ∷ [] = c.in_ok-push.ensures.items in
     let inner : Inner o depths last c.args.level rows (k + 1) c.if-has_wire.wires c.if-has_wire.terms.items = elim c.if-has_wire.branch [
       | then-has_wire+in_ok-append w ↦
           let row = w.row.result.now in
@@ -42,14 +39,15 @@ loop-k-preserved g c =
           (subst (λ v. Inner o depths last c.args.level rows (suc k) c.loop-k.wires v.items) (sym w.terms-is)
           (inner-skips o depths last c.args.level rows k c.loop-k.wires old (sym c.has_wire.ensures ∙ w.if-has_wire.false) i.inner)))
     ] in
+    let e = c.set_place.ensures in
     record {
-      count = ap length pushed ∙ length-append places (c.loop-k.wires ∷ []) ∙ ap (λ n. n + 1) i.count;
-      places = places-more (place_in depths last c.args.level) places c.push.new.self.items c.loop-k.wires k pushed i.count i.inner.next i.places;
+      count = e.count ∙ i.count;
+      places = places-next (place_in depths last c.args.level) c.loop-k.places c.set_place.new.places c.loop-k.wires k e.here e.before i.inner.next i.places;
       inner = inner;
     }
 
 pub returns-clause-places : goal.returns-clause-places
-returns-clause-places g c = (omega (arith, c.loop-k.invariant.count, c.loop-k-test.false, c.loop-k.auto.k-end), λ j l. c.loop-k.invariant.places j (omega (arith, l, c.loop-k-test.false)))
+returns-clause-places g c = (c.loop-k.invariant.count, λ j l. c.loop-k.invariant.places j (omega (arith, l, c.loop-k-test.false)))
 
 pub returns-clause-one : goal.returns-clause-one
 returns-clause-one g c zero_depth high first =

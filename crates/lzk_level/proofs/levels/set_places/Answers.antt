@@ -1,6 +1,6 @@
 use Rattle.std.proofs.Common.{arith}
 use Rattle.lzk_level.proofs.LevelLaws.{place-most}
-use Rattle.lzk_level.proofs.levels.places.Goals as goal
+use Rattle.lzk_level.proofs.levels.set_places.Goals as goal
 
 pub overflow_add-next : goal.overflow_add-next
 overflow_add-next c = omega (arith, c.loop-k.invariant.1, place-most c.args.depths.now c.args.last.now c.args.level c.loop-k.k, c.requires.few, c.loop-k-test.true)
