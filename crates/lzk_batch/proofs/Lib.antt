@@ -8,3 +8,4 @@ pub mod Working
 pub mod Sharing
 pub mod Ordering
 pub mod Placing
+pub mod Mapped

@@ -12,7 +12,7 @@ use Rattle.lzk_circbytes.specs.declared.any.AnyCircuit.{AnyCircuit}
 use Rattle.lzk_batch.specs.declared.job.Job.{Job}
 use Rattle.lzk_batch.specs.declared.job.Judged.{Judged}
 use Rattle.lzk_batch.specs.Passes.{TicketsState, PassState, IsOpen}
-use Rattle.lzk_batch.specs.Batch.{IsJudged, AreJobsDrawn, HasDrawnOneLate, AllZip₃, numbers_of, drawn_since}
+use Rattle.lzk_batch.specs.Batch.{IsJudged, AreJobsDrawn, DrawsOn, HasDrawnOneLate, AllZip₃, numbers_of, drawn_since}
 use Rattle.lzk_batch.specs.Working.{HasWorked, HaveWorked}
 
 -- ---- lists that are joined
@@ -130,3 +130,8 @@ module _ (batch : List AnyCircuit) (list : List Job) where
   pub returned_late : (tickets : TicketsState) (old new : List PassState) (r : Result Lists AllocError) → tickets.jobs ≡ length list → All (IsOpen tickets) old → IfOk r (λ l. HaveWorked batch list old new (map items_of l.items)) → IfOk r (λ l. All (HasDrawnOneLate (length list)) new)
   returned_late tickets old new (Ok l) count before w = all_one_late old new (map items_of l.items) (subst (λ n. All (λ (p : PassState). All (λ x. x < n) p.drawn) old) count before) w
   returned_late tickets old new (Err e) count before w = tt
+
+-- passes that have drawn nothing more
+pub draws_none : (passes : List PassState) → AllZip DrawsOn passes passes
+draws_none [] = tt
+draws_none (p ∷ ps) = (([], record { table = refl; spare = refl; drawn = sym (append-nil p.drawn) }), draws_none ps)

@@ -3,6 +3,7 @@
 ghost use Rattle.std.specs.Prelude.{◌≡◌, ◌≤◌, ◌<◌, ◌+◌, ◌++◌, [], ◌∷◌, ℕ, length, map, All, IfOk, IsOkAnd};
 ghost use Rattle.std.specs.List.{AllZip};
 ghost use Rattle.std.specs.Thread.{IsSync};
+ghost use Rattle.lzk_circbytes.specs.Files.{id_of_any};
 ghost use Rattle.lzk_batch.specs.Tickets.{most_jobs, most_workers};
 ghost use Rattle.lzk_batch.specs.Passes.{IsOf, IsOpen, AreAll};
 ghost use Rattle.lzk_batch.specs.Batch.{IsJobFit, IsJudged, HaveVerdicts, DrawsOn, AreJobsDrawn, HasDrawnOneLate, AllZip₃};
@@ -12,7 +13,7 @@ use crate::desks::Desks;
 use crate::job::{AnyVerdict, Job, Judged};
 use crate::order::gather_verdicts;
 use crate::tickets::{Pass, Tickets};
-use lzk_circbytes::AnyCircuit;
+use lzk_circbytes::{AnyCircuit, id};
 use lzk_field::Gate;
 use std::alloc::{AllocError, Global};
 use std::thread::{Threads, join_mut};
@@ -47,12 +48,14 @@ fn work(
 #[derive(Drop)]
 struct Batch<'a> {
     circuits: &'a [AnyCircuit],
+    ids: &'a [[u8; 32]],
     jobs: &'a [Job],
     tickets: &'a Tickets,
 }
 
 // Verifies with one pass, and with desks of its own.
 fn work_alone(alloc: Global, batch: &Batch<'_>, pass: &mut Pass) -> Result<Vec<Judged>, AllocError>
+    requires ids { batch.now.ids.now ≡ map id_of_any batch.now.circuits.now }
     requires fit { All (IsJobFit batch.now.circuits.now) batch.now.jobs.now }
     requires dealt { batch.now.tickets.now.jobs ≡ length batch.now.jobs.now }
     requires of { IsOf batch.now.tickets.now pass.old }
@@ -60,7 +63,7 @@ fn work_alone(alloc: Global, batch: &Batch<'_>, pass: &mut Pass) -> Result<Vec<J
     ensures worked { IfOk result (λ judged. HasWorked batch.now.circuits.now batch.now.jobs.now pass.old pass.new judged.items) }
     ensures draws { DrawsOn pass.old pass.new }
 {
-    let mut desks = Desks::new(batch.circuits);
+    let mut desks = Desks::new(batch.circuits, batch.ids);
     let judged = work(alloc, &mut desks, batch.jobs, batch.tickets, pass);
     drop(desks);
     judged
@@ -72,6 +75,7 @@ fn one_list(
     batch: &Batch<'_>,
     pass: &mut Pass,
 ) -> Result<Vec<Vec<Judged>>, AllocError>
+    requires ids { batch.now.ids.now ≡ map id_of_any batch.now.circuits.now }
     requires fit { All (IsJobFit batch.now.circuits.now) batch.now.jobs.now }
     requires dealt { batch.now.tickets.now.jobs ≡ length batch.now.jobs.now }
     requires of { IsOf batch.now.tickets.now pass.old }
@@ -97,6 +101,7 @@ fn share_out<R: Threads + Sync, G: Gate>(
     of: usize,
     passes: &mut [Pass],
 ) -> Result<Vec<Vec<Judged>>, AllocError>
+    requires ids { batch.now.ids.now ≡ map id_of_any batch.now.circuits.now }
     requires ready { AreReady batch.now.circuits.now batch.now.jobs.now batch.now.tickets.now passes.old }
     requires some { 1 ≤ length passes.old }
     requires few { first + length passes.old ≤ most_workers }
@@ -115,6 +120,7 @@ fn share_out<R: Threads + Sync, G: Gate>(
     let (front, back) = passes.split_at_mut(half);
     let mut front_lists = ||
         requires { IsSync R.row × IsSync G.row × (1 ≤ length front.now) × (first + length front.now ≤ most_workers) ×
+            (batch.now.ids.now ≡ map id_of_any batch.now.circuits.now) ×
             AreReady batch.now.circuits.now batch.now.jobs.now batch.now.tickets.now front.now }
         ensures worked { IfOk result (λ lists. HaveWorked batch.entry.now.circuits.now batch.entry.now.jobs.now front.entry.now front.exit.now
             (map (λ list. list.items) lists.items)) }
@@ -122,6 +128,7 @@ fn share_out<R: Threads + Sync, G: Gate>(
     { share_out(rt, alloc, batch, gate, first, of, front) };
     let mut back_lists = ||
         requires { IsSync R.row × IsSync G.row × (1 ≤ length back.now) × (next + length back.now ≤ most_workers) ×
+            (batch.now.ids.now ≡ map id_of_any batch.now.circuits.now) ×
             AreReady batch.now.circuits.now batch.now.jobs.now batch.now.tickets.now back.now }
         ensures worked { IfOk result (λ lists. HaveWorked batch.entry.now.circuits.now batch.entry.now.jobs.now back.entry.now back.exit.now
             (map (λ list. list.items) lists.items)) }
@@ -143,14 +150,37 @@ fn joined(
     Ok(lists)
 }
 
+// The id of a circuit, by its file.
+fn id_of_circuit(alloc: Global, circuit: &AnyCircuit) -> Result<[u8; 32], AllocError>
+    ensures { IfOk result (λ id. id ≡ id_of_any circuit.now) }
+{
+    match circuit {
+        AnyCircuit::Gold(circuit) => id(alloc, circuit),
+        AnyCircuit::Gf(circuit) => id(alloc, circuit),
+    }
+}
+
+// The ids of the circuits.
+fn ids_of(alloc: Global, circuits: &[AnyCircuit]) -> Result<Vec<[u8; 32]>, AllocError>
+    ensures { IfOk result (λ ids. ids.items ≡ map id_of_any circuits.now) }
+{
+    let mut ids = Vec::with_capacity(alloc, circuits.len())?;
+    for i in 0..circuits.len() {
+        let id = id_of_circuit(alloc, &circuits[i])?;
+        ids.push(id)?;
+    }
+    Ok(ids)
+}
+
 /// Verifies jobs with a worker for each pass.
 ///
 /// A worker enters the gate once, before its first draw, with its pass's place and the number of passes. Then it verifies the job
-/// whose number it draws, until it draws none.
+/// whose number it draws, until it draws none. The circuits are written once, for their ids.
 ///
 /// # Errors
 ///
-/// `AllocError` where the memory for a desk or a list is not given. The passes may have drawn numbers, and may be gathered.
+/// `AllocError` where the memory for a circuit's file, a desk or a list is not given. The passes may have drawn numbers, and may be
+/// gathered.
 pub fn verify_batch<R: Threads + Sync, G: Gate>(
     rt: &R,
     alloc: Global,
@@ -172,8 +202,37 @@ pub fn verify_batch<R: Threads + Sync, G: Gate>(
     ensures draws { AllZip DrawsOn passes.old passes.new }
     ensures all { AreAll tickets.now passes.old → AreAll tickets.now passes.new }
 {
+    let ids = ids_of(alloc, circuits)?;
+    verify_with_ids(rt, alloc, circuits, &ids, jobs, tickets, passes, gate)
+}
+
+// The same for circuits whose ids are known.
+fn verify_with_ids<R: Threads + Sync, G: Gate>(
+    rt: &R,
+    alloc: Global,
+    circuits: &[AnyCircuit],
+    ids: &[[u8; 32]],
+    jobs: &[Job],
+    tickets: &Tickets,
+    passes: &mut [Pass],
+    gate: &G,
+) -> Result<Vec<Vec<Judged>>, AllocError>
+    requires ids { ids.now ≡ map id_of_any circuits.now }
+    requires fit { All (IsJobFit circuits.now) jobs.now }
+    requires dealt { tickets.now.jobs ≡ length jobs.now }
+    requires of { All (IsOf tickets.now) passes.old }
+    requires open { All (IsOpen tickets.now) passes.old }
+    requires some { 1 ≤ length passes.old }
+    requires few { length passes.old ≤ most_workers }
+    ensures jobs { IfOk result (λ lists. AllZip₃ (AreJobsDrawn (length jobs.now)) passes.old passes.new (map (λ list. list.items) lists.items)) }
+    ensures verdicts { IfOk result (λ lists. All (λ list. All (IsJudged circuits.now jobs.now) list.items) lists.items) }
+    ensures late { IfOk result (λ _. All (HasDrawnOneLate (length jobs.now)) passes.new) }
+    ensures draws { AllZip DrawsOn passes.old passes.new }
+    ensures all { AreAll tickets.now passes.old → AreAll tickets.now passes.new }
+{
     let batch = Batch {
         circuits,
+        ids,
         jobs,
         tickets,
     };
@@ -181,11 +240,12 @@ pub fn verify_batch<R: Threads + Sync, G: Gate>(
     share_out(rt, alloc, &batch, gate, 0, of, passes)
 }
 
-/// Verifies jobs with so many workers, and gives their verdicts in the order of the jobs.
+/// Verifies jobs with so many workers, and gives their verdicts in the order of the jobs. The circuits are written once, for their
+/// ids.
 ///
 /// # Errors
 ///
-/// `AllocError` where the memory for the tickets, a desk or a list is not given.
+/// `AllocError` where the memory for the tickets, a circuit's file, a desk or a list is not given.
 pub fn verify_all<R: Threads + Sync, G: Gate>(
     rt: &R,
     alloc: Global,
@@ -200,7 +260,32 @@ pub fn verify_all<R: Threads + Sync, G: Gate>(
     requires few { workers ≤ most_workers }
     ensures { IfOk result (λ verdicts. HaveVerdicts circuits.now jobs.now verdicts.items) }
 {
+    let ids = ids_of(alloc, circuits)?;
+    verify_all_with_ids(rt, alloc, circuits, &ids, jobs, workers, gate)
+}
+
+/// The same for circuits whose ids are known, as SHA-256 of the files that they were read from: no circuit is written.
+///
+/// # Errors
+///
+/// `AllocError` where the memory for the tickets, a desk or a list is not given.
+pub fn verify_all_with_ids<R: Threads + Sync, G: Gate>(
+    rt: &R,
+    alloc: Global,
+    circuits: &[AnyCircuit],
+    ids: &[[u8; 32]],
+    jobs: &[Job],
+    workers: usize,
+    gate: &G,
+) -> Result<Vec<AnyVerdict>, AllocError>
+    requires ids { ids.now ≡ map id_of_any circuits.now }
+    requires fit { All (IsJobFit circuits.now) jobs.now }
+    requires jobs { length jobs.now ≤ most_jobs }
+    requires some { 1 ≤ workers }
+    requires few { workers ≤ most_workers }
+    ensures { IfOk result (λ verdicts. HaveVerdicts circuits.now jobs.now verdicts.items) }
+{
     let (tickets, mut passes) = Tickets::deal(alloc, jobs.len() as u32, workers)?;
-    let lists = verify_batch(rt, alloc, circuits, jobs, &tickets, &mut passes, gate)?;
+    let lists = verify_with_ids(rt, alloc, circuits, ids, jobs, &tickets, &mut passes, gate)?;
     gather_verdicts(alloc, tickets, passes, &lists)
 }

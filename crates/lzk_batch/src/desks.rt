@@ -1,7 +1,8 @@
 //! The desks of a worker.
 
-ghost use Rattle.std.specs.Prelude.{◌≡◌, None, IfOk, OnErr, IsSomeAnd};
+ghost use Rattle.std.specs.Prelude.{◌≡◌, None, IfOk, OnErr, IsSomeAnd, map};
 ghost use Rattle.std.specs.Option.{ForSome};
+ghost use Rattle.lzk_circbytes.specs.Files.{id_of, id_of_any};
 ghost use Rattle.lzk_verify.specs.Verdict.{IsVerdict, IsOnlyVerdict};
 ghost use Rattle.lzk_batch.specs.Batch.{IsFit};
 
@@ -28,8 +29,10 @@ fn ready<'c, F: Field>(
     kept: &mut Option<Kept<'c, F>>,
     place: u32,
     circuit: &'c Circuit<F>,
+    id: [u8; 32],
 ) -> Result<(), AllocError>
-    requires { ForSome kept.old (λ k. k.place ≡ place → k.desk.circuit ≡ circuit.now) }
+    requires kept { ForSome kept.old (λ k. k.place ≡ place → k.desk.circuit ≡ circuit.now) }
+    requires id { id ≡ id_of F.coding circuit.now }
     ensures kept { IfOk result (λ _. IsSomeAnd kept.new (λ k. (k.place ≡ place) × (k.desk.circuit ≡ circuit.now))) }
     ensures none { OnErr result (kept.new ≡ None) }
 {
@@ -39,7 +42,7 @@ fn ready<'c, F: Field>(
         }
     }
     drop(kept.take());
-    match Desk::new(alloc, circuit) {
+    match Desk::with_id(alloc, circuit, id) {
         Ok(desk) => {
             drop(kept.replace(Kept { place, desk }));
             Ok(())
@@ -66,9 +69,11 @@ fn judge_over<'c, F: Field>(
     alloc: Global,
     kept: &mut Option<Kept<'c, F>>,
     circuit: &'c Circuit<F>,
+    id: [u8; 32],
     job: &JobOf<F>,
 ) -> Result<Verdict<F>, AllocError>
     requires fit { IsFit circuit.now job.now }
+    requires id { id ≡ id_of F.coding circuit.now }
     requires kept { ForSome kept.old (λ k. k.place ≡ job.now.circuit → k.desk.circuit ≡ circuit.now) }
     ensures verdict { IfOk result (IsVerdict F.ops F.coding circuit.now job.now.session.items
         job.now.public.items job.now.proof.items) }
@@ -76,44 +81,48 @@ fn judge_over<'c, F: Field>(
         job.now.public.items job.now.proof.items) }
     ensures kept { ForSome kept.new (λ k. (k.place ≡ job.now.circuit) × (k.desk.circuit ≡ circuit.now)) }
 {
-    ready(alloc, kept, job.circuit, circuit)?;
+    ready(alloc, kept, job.circuit, circuit, id)?;
     match kept {
         Some(kept) => Ok(judge_at(kept, job)),
         None => unreachable!(),
     }
 }
 
-/// The circuits of a batch, with the last desk over each field.
+/// The circuits of a batch and their ids, with the last desk over each field.
 #[derive(Drop)]
 pub struct Desks<'c> {
     circuits: &'c [AnyCircuit],
+    ids: &'c [[u8; 32]],
     gold: Option<Kept<'c, Gold>>,
     gf: Option<Kept<'c, Gf128>>,
 }
 
 impl<'c> Model for Desks<'c> {
-    ghost use Rattle.std.specs.Prelude.{List};
+    ghost use Rattle.std.specs.Prelude.{◌≡◌, List, map};
     ghost use Rattle.std.specs.Option.{ForSome};
     ghost use Rattle.lzk_circbytes.specs.declared.any.AnyCircuit.{AnyCircuit};
+    ghost use Rattle.lzk_circbytes.specs.Files.{id_of_any};
     ghost use Rattle.lzk_batch.specs.Circuits.{IsGoldAt, IsGfAt};
 
     ghost Value = { List AnyCircuit };
 
     ghost view = { λ d. d.circuits.now };
 
-    ghost invariant = { λ d. ForSome d.gold (λ k. IsGoldAt d.circuits.now k.place k.desk.circuit) ×
-        ForSome d.gf (λ k. IsGfAt d.circuits.now k.place k.desk.circuit) };
+    ghost invariant = { λ d. (d.ids.now ≡ map id_of_any d.circuits.now) ×
+        ForSome d.gold (λ k. IsGoldAt d.circuits.now k.place k.desk.circuit) × ForSome d.gf (λ k. IsGfAt d.circuits.now k.place k.desk.circuit) };
 }
 
 impl<'c> Desks<'c> {
     ghost use Rattle.lzk_batch.specs.Batch.{IsJobFit, HasVerdict};
 
-    /// No desk, for these circuits.
-    pub fn new(circuits: &'c [AnyCircuit]) -> Desks<'c>
+    /// No desk, for these circuits with their ids.
+    pub fn new(circuits: &'c [AnyCircuit], ids: &'c [[u8; 32]]) -> Desks<'c>
+        requires ids { ids.now ≡ map id_of_any circuits.now }
         ensures { result ≡ circuits.now }
     {
         Desks {
             circuits,
+            ids,
             gold: None,
             gf: None,
         }
@@ -129,7 +138,8 @@ impl<'c> Desks<'c> {
         let AnyCircuit::Gold(circuit) = &circuits[job.circuit as usize] else {
             unreachable!()
         };
-        match judge_over(alloc, &mut self.gold, circuit, job) {
+        let id = self.ids[job.circuit as usize];
+        match judge_over(alloc, &mut self.gold, circuit, id, job) {
             Ok(verdict) => Ok(AnyVerdict::Gold(verdict)),
             Err(error) => Err(error),
         }
@@ -145,7 +155,8 @@ impl<'c> Desks<'c> {
         let AnyCircuit::Gf(circuit) = &circuits[job.circuit as usize] else {
             unreachable!()
         };
-        match judge_over(alloc, &mut self.gf, circuit, job) {
+        let id = self.ids[job.circuit as usize];
+        match judge_over(alloc, &mut self.gf, circuit, id, job) {
             Ok(verdict) => Ok(AnyVerdict::Gf(verdict)),
             Err(error) => Err(error),
         }

@@ -20,7 +20,7 @@ mod rule;
 mod tickets;
 mod words;
 
-pub use batch::{verify_all, verify_batch};
+pub use batch::{verify_all, verify_all_with_ids, verify_batch};
 pub use entry::Entry;
 pub use job::{AnyVerdict, Job, JobOf, Judged};
 pub use list::parse_list;

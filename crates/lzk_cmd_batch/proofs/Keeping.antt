@@ -1,5 +1,5 @@
 -- Circuits that are kept by the names of their files, and bytes that are counted together.
-use Rattle.std.proofs.Common.{◌≡◌, ◌+◌, ◌<◌, ◌≤◌, inr, ℕ, true, zero, suc, List, [], ◌∷◌, ◌++◌, length, Option, Some, Result, Ok, Err, refl, sym, ap, ◌∙◌, subst, arith, append-nil}
+use Rattle.std.proofs.Common.{◌≡◌, ◌+◌, ◌<◌, ◌≤◌, inr, ℕ, true, zero, suc, List, [], ◌∷◌, ◌++◌, length, map, Option, Some, Result, Ok, Err, refl, sym, ap, ◌∙◌, subst, arith, append-nil}
 use Rattle.std.specs.Prelude.{IfSome, slice_get, slice_index_or}
 use Rattle.std.specs.Borrow.{Bor}
 use Rattle.std.specs.Str.{bytes_eq}
@@ -8,7 +8,7 @@ use Rattle.std.proofs.lemmas.Slice.Eq.{bytes_eq-Decides}
 use Rattle.std.specs.Result.{IsErrAnd}
 use Rattle.std.specs.List.{AllZip}
 use Rattle.lzk_circbytes.specs.declared.any.AnyCircuit.{AnyCircuit}
-use Rattle.lzk_circbytes.specs.Files.{CircuitBytes}
+use Rattle.lzk_circbytes.specs.Files.{CircuitBytes, id_of_any}
 use Rattle.lzk_outside.specs.Outside.{Files}
 use Rattle.lzk_cmd_files.specs.declared.ending.Halt.{Halt}
 use Rattle.lzk_cmd_files.specs.declared.ending.Halt.TheVariants as halts
@@ -125,10 +125,18 @@ module _ (told : Option Files) where
     kept = subst (λ xs. AllZip (IsKept told) xs new.all.items) (sym files) (subst (λ ys. AllZip (IsKept told) (old.files.items ++ file ∷ []) ys) (sym all) (each_more (IsKept told) old.files.items old.all.items file c h is));
   }
 
-pub put_behind : (told : Option Files) (old new : Circuits) (name : Bor (List ℕ)) (c : AnyCircuit) (bytes given : List ℕ) (len : ℕ) → AreKept told old → new.files.items ≡ old.files.items ++ (record { name = name; bytes = len }) ∷ [] → new.all.items ≡ old.all.items ++ c ∷ []
-    → given ≡ bytes → len ≡ length bytes → length bytes ≤ circuit_limit → IfSome told (λ files. HasFile (files name.now) circuit_limit bytes) → CircuitBytes c given → KeepsOn told old new
-put_behind told old new name c bytes given len h files all same long few has means =
-    keeps_more told old new (record { name = name; bytes = len }) c h (record { bytes = bytes; long = sym long; few = subst (λ n. n ≤ circuit_limit) (sym long) few; file_is = has; means = subst (CircuitBytes c) same means }) files all
+pub put_behind : (told : Option Files) (old new : Circuits) (name : Bor (List ℕ)) (c : AnyCircuit) (id bytes given : List ℕ) (len : ℕ) → AreKept told old → new.files.items ≡ old.files.items ++ (record { name = name; bytes = len; id = id }) ∷ []
+    → new.all.items ≡ old.all.items ++ c ∷ [] → given ≡ bytes → len ≡ length bytes → length bytes ≤ circuit_limit → IfSome told (λ files. HasFile (files name.now) circuit_limit bytes) → CircuitBytes c given → id ≡ id_of_any c → KeepsOn told old new
+put_behind told old new name c id bytes given len h files all same long few has means is =
+    keeps_more told old new (record { name = name; bytes = len; id = id }) c h
+    (record { bytes = bytes; long = sym long; few = subst (λ n. n ≤ circuit_limit) (sym long) few; file_is = has; means = subst (CircuitBytes c) same means; id = is }) files all
+
+-- the ids that stand with the files are those of the circuits
+pub kept_ids : (told : Option Files) (files : List CircuitFile) (all : List AnyCircuit) → AllZip (IsKept told) files all → map (λ (file : CircuitFile). file.id) files ≡ map id_of_any all
+kept_ids told [] [] h = refl
+kept_ids told [] (c ∷ cs) h = absurd h
+kept_ids told (f ∷ fs) [] h = absurd h
+kept_ids told (f ∷ fs) (c ∷ cs) h = cc (h.0.id, kept_ids told fs cs h.1)
 
 pub few_bytes : (told : Option Files) (kept : Circuits) (name : List ℕ) (place : ℕ) → AreKept told kept → (at : IsPlaceOf kept.files.items name place) → at.0.bytes ≤ circuit_limit
 few_bytes told kept name place h (file, there, same) = let found = each_at (IsKept told) kept.files.items kept.all.items place file h there in found.2.few

@@ -10,7 +10,7 @@ use Rattle.lzk_batch.specs.declared.job.JobOf.{JobOf}
 use Rattle.lzk_batch.specs.Lists.{Listed}
 use Rattle.lzk_circbytes.specs.declared.any.AnyCircuit.{AnyCircuit}
 use Rattle.lzk_circbytes.specs.declared.any.AnyCircuit.TheVariants.{Gold, Gf}
-use Rattle.lzk_circbytes.specs.Files.{CircuitBytes}
+use Rattle.lzk_circbytes.specs.Files.{CircuitBytes, id_of_any}
 use Rattle.lzk_circuit.specs.Valid.{Wiring}
 use Rattle.lzk_field.specs.Coding.{Coding}
 use Rattle.lzk_goldilocks.specs.Elements as gold
@@ -41,13 +41,14 @@ Counts taken name bytes (Err (halts.End e)) = (total_limit < taken + bytes) × I
 
 -- ---- circuits that are kept
 
--- a circuit, and its file as it was read, where that is told
+-- a circuit with its id, and its file as it was read, where that is told
 pub record IsKept (told : Option Files) (file : CircuitFile) (c : AnyCircuit) : Type 0 where
   pub bytes : List ℕ
   pub long : length bytes ≡ file.bytes
   pub few : file.bytes ≤ circuit_limit
   pub file_is : IfSome told (λ files. HasFile (files file.name.now) circuit_limit bytes)
   pub means : CircuitBytes c bytes
+  pub id : file.id ≡ id_of_any c
 
 abbrev pub AreKept : Option Files → Circuits → Type 0
 AreKept told kept = AllZip (IsKept told) kept.files.items kept.all.items

@@ -1,6 +1,7 @@
 //! The command `batch`.
 
-ghost use Rattle.std.specs.Prelude.{◌≤◌, All, length, map, IfOk};
+ghost use Rattle.std.specs.Prelude.{◌≡◌, ◌≤◌, All, length, map, IfOk};
+ghost use Rattle.lzk_circbytes.specs.Files.{id_of_any};
 ghost use Rattle.lzk_batch.specs.Lists.{entry_view};
 ghost use Rattle.lzk_cmd_runs.specs.Batched.{BatchRun, list_files};
 ghost use Rattle.lzk_cmd_batch.specs.Gathered.{AreHeld, IsShort, TellsJobs};
@@ -9,7 +10,7 @@ ghost use Rattle.lzk_cmd_files.specs.Walks.{Decodes, Gives, OnlyReads, Walks};
 
 use crate::gathering::{Gathered, read_jobs};
 use crate::telling::{refuse_list, tell_verdicts};
-use lzk_batch::{Entry, ListError, parse_list, verify_all};
+use lzk_batch::{Entry, ListError, parse_list, verify_all_with_ids};
 use lzk_cmd_files::{Ending, Halt, Means, read_file};
 use lzk_cmd_words::workers_of;
 use lzk_field::Gate;
@@ -54,15 +55,17 @@ fn judge<R: Threads + Sync, G: Gate>(
     workers: usize,
 ) -> Result<Ending, AllocError>
     requires held { AreHeld gathered.now }
+    requires ids { gathered.now.ids.items ≡ map id_of_any gathered.now.circuits.items }
     requires few { length gathered.now.jobs.items ≤ 256 }
     requires some { 1 ≤ workers }
     requires most { workers ≤ 64 }
     ensures { IfOk result (TellsJobs gathered.now) }
 {
-    let verdicts = verify_all(
+    let verdicts = verify_all_with_ids(
         means.rt,
         means.alloc,
         &gathered.circuits,
+        &gathered.ids,
         &gathered.jobs,
         workers,
         means.gate,

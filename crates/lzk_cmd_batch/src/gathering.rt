@@ -1,13 +1,14 @@
 //! The files of the jobs of a batch.
 
-ghost use Rattle.std.specs.Prelude.{◌≤◌, ◌<◌, All, length, map, IfOk};
+ghost use Rattle.std.specs.Prelude.{◌≡◌, ◌≤◌, ◌<◌, All, length, map, IfOk};
+ghost use Rattle.lzk_circbytes.specs.Files.{id_of_any};
 ghost use Rattle.lzk_batch.specs.Lists.{entry_view};
 ghost use Rattle.lzk_cmd_runs.specs.Batched.{total_limit};
 ghost use Rattle.lzk_cmd_batch.specs.Gathered.{AreKept, GivesAny, GivesJob, GivesJobs, GivesOver, IsShort, KeepsOn};
 ghost use Rattle.lzk_cmd_files.specs.Seen.{seen};
 ghost use Rattle.lzk_cmd_files.specs.Walks.{OnlyReads};
 
-use crate::kept::{Circuits, circuit_at};
+use crate::kept::{Circuits, circuit_at, ids_of};
 use crate::totals::{read_proof, read_publics};
 use lzk_batch::{Entry, Job, JobOf};
 use lzk_circbytes::AnyCircuit;
@@ -17,10 +18,11 @@ use lzk_field::Field;
 use lzk_outside::Shelf;
 use std::alloc::Global;
 
-/// Jobs, and the circuits that they share.
+/// Jobs, and the circuits that they share, with the circuits' ids.
 #[derive(Drop)]
 pub struct Gathered {
     pub circuits: Vec<AnyCircuit>,
+    pub ids: Vec<[u8; 32]>,
     pub jobs: Vec<Job>,
 }
 
@@ -112,6 +114,7 @@ pub fn read_jobs<S: Shelf>(
     requires few { length entries.now ≤ 256 }
     requires short { All IsShort (map entry_view entries.now) }
     ensures gives { GivesJobs (seen S.Shelf shelf.old) (seen S.Shelf shelf.new) (map entry_view entries.now) result }
+    ensures ids { IfOk result (λ gathered. gathered.ids.items ≡ map id_of_any gathered.circuits.items) }
     ensures reads { OnlyReads (seen S.Shelf shelf.old) (seen S.Shelf shelf.new) }
 {
     let mut kept = Circuits::new(alloc);
@@ -122,8 +125,10 @@ pub fn read_jobs<S: Shelf>(
         jobs.push(job)?;
         taken = all;
     }
+    let ids = ids_of(alloc, &kept.files)?;
     Ok(Gathered {
         circuits: kept.all,
+        ids,
         jobs,
     })
 }

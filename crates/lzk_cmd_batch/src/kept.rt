@@ -1,6 +1,6 @@
 //! The circuits of a batch, by the names of their files.
 
-ghost use Rattle.std.specs.Prelude.{◌≡◌, ◌≤◌, ◌<◌, [], IfOk, IfSome};
+ghost use Rattle.std.specs.Prelude.{◌≡◌, ◌≤◌, ◌<◌, [], IfOk, IfSome, map};
 ghost use Rattle.lzk_cmd_runs.specs.Batched.{total_limit};
 ghost use Rattle.lzk_cmd_batch.specs.Gathered.{AreKept, GivesLast, GivesPlace, IsPlaceOf, KeepsOn};
 ghost use Rattle.lzk_cmd_files.specs.Seen.{seen};
@@ -8,15 +8,16 @@ ghost use Rattle.lzk_cmd_files.specs.Walks.{OnlyReads};
 
 use crate::totals::count_in;
 use lzk_circbytes::AnyCircuit;
-use lzk_cmd_files::{CIRCUIT_LIMIT, Halt, circuit_of, read_file};
+use lzk_cmd_files::{CIRCUIT_LIMIT, Halt, Held, held_of, read_file};
 use lzk_outside::Shelf;
-use std::alloc::Global;
+use std::alloc::{AllocError, Global};
 
-/// A circuit's file that was read: its name, and how many bytes it has.
+/// A circuit's file that was read: its name, how many bytes it has, and SHA-256 of them, which is the circuit's id.
 #[derive(Clone, Copy)]
 pub struct CircuitFile<'a> {
     pub name: &'a str,
     pub bytes: usize,
+    pub id: [u8; 32],
 }
 
 /// The circuits that were read, and the file of each, in the same order.
@@ -67,10 +68,11 @@ fn keep_circuit<'a, S: Shelf>(
 {
     let bytes = read_file(alloc, shelf, name, CIRCUIT_LIMIT)?;
     let taken = count_in(alloc, name, taken, bytes.len())?;
-    let circuit = circuit_of(alloc, name, &bytes)?;
+    let Held { circuit, id } = held_of(alloc, name, &bytes)?;
     kept.files.push(CircuitFile {
         name,
         bytes: bytes.len(),
+        id,
     })?;
     kept.all.push(circuit)?;
     Ok(taken)
@@ -101,4 +103,15 @@ pub fn circuit_at<'a, S: Shelf>(
             Ok((place, taken))
         }
     }
+}
+
+/// The ids of the circuits, in the order of their files.
+pub fn ids_of(alloc: Global, files: &[CircuitFile<'_>]) -> Result<Vec<[u8; 32]>, AllocError>
+    ensures { IfOk result (λ ids. ids.items ≡ map (λ file. file.id) files.now) }
+{
+    let mut ids = Vec::with_capacity(alloc, files.len())?;
+    for i in 0..files.len() {
+        ids.push(files[i].id)?;
+    }
+    Ok(ids)
 }

@@ -34,8 +34,8 @@ pub struct Held {
     pub id: [u8; 32],
 }
 
-// The circuit of these bytes with its id, which is that of its file.
-fn held_of(alloc: Global, name: &str, bytes: &[u8]) -> Result<Held, Halt>
+/// The circuit of these bytes with its id, which is that of its file.
+pub fn held_of(alloc: Global, name: &str, bytes: &[u8]) -> Result<Held, Halt>
     ensures decodes { Decodes circuit_files (λ held. held.circuit) name.now bytes.now result }
     ensures id { IfOk result (λ held. held.id ≡ id_of_any held.circuit) }
 {

@@ -16,7 +16,7 @@ mod means;
 mod numbers;
 mod print;
 
-pub use circuits::{Held, circuit_of, read_circuit, read_held};
+pub use circuits::{Held, circuit_of, held_of, read_circuit, read_held};
 pub use ending::{Ending, Halt};
 pub use files::{CIRCUIT_LIMIT, PROOF_LIMIT, TEXT_LIMIT, put_file, read_file};
 pub use load::LoadFault;

@@ -1,7 +1,9 @@
-use Rattle.std.proofs.Common.{Option, map, refl, sym, subst, arith}
+use Rattle.std.proofs.Common.{Option, map, refl, sym, ap, ◌∙◌, subst, arith}
 use Rattle.lzk_batch.specs.Lists.{entry_view}
 use Rattle.lzk_outside.specs.Outside.{Files}
 use Rattle.lzk_cmd_batch.specs.Gathered.{AreKept}
+use Rattle.lzk_cmd_batch.specs.declared.kept.CircuitFile.{CircuitFile}
+use Rattle.lzk_cmd_batch.proofs.Keeping.{kept_ids}
 use Rattle.lzk_cmd_files.specs.Seen.{seen}
 use Rattle.lzk_cmd_batch.proofs.Gathers.{entry_at, short_at, reading_begins, reading_goes_on, reading_ends, ends_later}
 use Rattle.lzk_cmd_files.proofs.Sights.{reads_then}
@@ -42,7 +44,14 @@ loop-i-preserved g c =
 
 pub returns-clause-gives : goal.returns-clause-gives
 returns-clause-gives g c =
-    reading_ends (seen g.S.Shelf c.args.shelf.now) (seen g.S.Shelf c.loop-i.shelf) c.args.entries.now c.loop-i.i c.loop-i.taken c.loop-i.kept (record { circuits = c.loop-i.kept.all; jobs = c.loop-i.jobs }) c.loop-i.invariant c.requires.few c.loop-i.auto.i-end c.loop-i-test.false refl
+    reading_ends (seen g.S.Shelf c.args.shelf.now) (seen g.S.Shelf c.loop-i.shelf) c.args.entries.now c.loop-i.i c.loop-i.taken c.loop-i.kept (record { circuits = c.loop-i.kept.all; ids = c.in_ok-ids.ids; jobs = c.loop-i.jobs }) c.loop-i.invariant c.requires.few c.loop-i.auto.i-end c.loop-i-test.false refl
+
+pub returns-in_err-ids-clause-reads : goal.returns-in_err-ids-clause-reads
+returns-in_err-ids-clause-reads g c = c.loop-i.invariant.reads
+
+pub returns-clause-ids : goal.returns-clause-ids
+returns-clause-ids g c =
+    c.in_ok-ids.ensures ∙ ap (map (λ (file : CircuitFile). file.id)) c.deref.ensures.value ∙ kept_ids (g.S.Shelf.held c.args.shelf.now) c.loop-i.kept.files.items c.loop-i.kept.all.items c.loop-i.invariant.kept_are
 
 pub returns-clause-reads : goal.returns-clause-reads
 returns-clause-reads g c = c.loop-i.invariant.reads

@@ -2,6 +2,7 @@ use Rattle.std.proofs.Common.{ℕ, Err, refl, ◌∙◌}
 use Rattle.lzk_circbytes.specs.declared.any.AnyCircuit.{AnyCircuit}
 use Rattle.lzk_cmd_files.specs.Decoded.{circuit_files}
 use Rattle.lzk_cmd_files.specs.Seen.{seen}
+use Rattle.lzk_cmd_files.specs.declared.circuits.Held.{Held}
 use Rattle.lzk_cmd_batch.proofs.Keeping.{refused, no_last, last_circuit, put_behind}
 use Rattle.lzk_cmd_batch.proofs.kept.keep_circuit.Goals as goal
 
@@ -11,15 +12,15 @@ returns-in_err-circuit-clause-gives g c =
     let new = seen g.S.Shelf c.read_file.new.shelf in
     let h = c.in_err-circuit.field-0.0 in
     no_last old new c.args.kept.now c.args.kept.now c.args.name.now c.args.taken h _
-    (refused circuit_files (λ (found : AnyCircuit × ℕ). found) c.args.name.now old new c.args.taken (Err h) (λ (x : AnyCircuit). x) c.in_ok-bytes.bytes.items c.deref.result.now c.len.result c.in_ok-taken.taken h
-    c.deref.ensures.value (c.len.ensures ∙ c.in_ok-bytes.bytes.ok.0) c.in_ok-bytes.ensures.gives c.in_ok-taken.ensures c.in_err-circuit.ensures refl) c.from_residual-in_err-circuit.ensures.1
+    (refused circuit_files (λ (found : AnyCircuit × ℕ). found) c.args.name.now old new c.args.taken (Err h) (λ (x : Held). x.circuit) c.in_ok-bytes.bytes.items c.deref.result.now c.len.result c.in_ok-taken.taken h
+    c.deref.ensures.value (c.len.ensures ∙ c.in_ok-bytes.bytes.ok.0) c.in_ok-bytes.ensures.gives c.in_ok-taken.ensures c.in_err-circuit.ensures.decodes refl) c.from_residual-in_err-circuit.ensures.1
 
 pub returns-clause-gives : goal.returns-clause-gives
 returns-clause-gives g c =
-    last_circuit (seen g.S.Shelf c.args.shelf.now) (seen g.S.Shelf c.read_file.new.shelf) c.args.kept.now c.push-2.new.self.items c.args.name.now c.args.taken c.in_ok-circuit.circuit c.in_ok-bytes.bytes.items c.deref.result.now c.len.result c.in_ok-taken.taken
-    c.in_ok-push-2.ensures.items c.deref.ensures.value (c.len.ensures ∙ c.in_ok-bytes.bytes.ok.0) c.in_ok-bytes.ensures.gives c.in_ok-taken.ensures c.in_ok-circuit.ensures
+    last_circuit (seen g.S.Shelf c.args.shelf.now) (seen g.S.Shelf c.read_file.new.shelf) c.args.kept.now c.push-2.new.self.items c.args.name.now c.args.taken c.in_ok-circuit.field-0.circuit c.in_ok-bytes.bytes.items c.deref.result.now c.len.result c.in_ok-taken.taken
+    c.in_ok-push-2.ensures.items c.deref.ensures.value (c.len.ensures ∙ c.in_ok-bytes.bytes.ok.0) c.in_ok-bytes.ensures.gives c.in_ok-taken.ensures c.in_ok-circuit.ensures.decodes
 
 pub returns-clause-kept : goal.returns-clause-kept
 returns-clause-kept g c =
-    put_behind (g.S.Shelf.held c.args.shelf.now) c.args.kept.now (record { files = c.push.new.self; all = c.push-2.new.self }) c.args.name c.in_ok-circuit.circuit c.in_ok-bytes.bytes.items c.deref.result.now c.len-2.result
-    c.requires.kept c.in_ok-push.ensures.items c.in_ok-push-2.ensures.items c.deref.ensures.value (c.len-2.ensures ∙ c.in_ok-bytes.bytes.ok.0) c.in_ok-bytes.ensures.fits c.in_ok-bytes.ensures.gives c.in_ok-circuit.ensures
+    put_behind (g.S.Shelf.held c.args.shelf.now) c.args.kept.now (record { files = c.push.new.self; all = c.push-2.new.self }) c.args.name c.in_ok-circuit.field-0.circuit c.in_ok-circuit.field-0.id c.in_ok-bytes.bytes.items c.deref.result.now c.len-2.result
+    c.requires.kept c.in_ok-push.ensures.items c.in_ok-push-2.ensures.items c.deref.ensures.value (c.len-2.ensures ∙ c.in_ok-bytes.bytes.ok.0) c.in_ok-bytes.ensures.fits c.in_ok-bytes.ensures.gives c.in_ok-circuit.ensures.decodes c.in_ok-circuit.ensures.id
