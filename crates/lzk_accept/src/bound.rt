@@ -129,7 +129,7 @@ pub(crate) fn bound_of<F: Field>(
     ensures value { result ≡ bound_at F.ops circuit.now (coefficients F.ops circuit.now script.now) script.now l }
     ensures room { length room.new ≡ length room.old }
 {
-    let _depth = circuit.depth();
+    circuit.valid_laws();
     let layer = layer_of(circuit, script, l);
     let first = first_point(circuit, script, l);
     let second = second_point(circuit, script, l);

@@ -33,7 +33,7 @@ pub(crate) fn layer_of<'a, F: Field>(
     ensures layer { result.now ≡ layer_at F.ops script.now l }
     ensures bits { HasBits (bits_under circuit.now l) result.now }
 {
-    let _depth = circuit.depth();
+    circuit.valid_laws();
     nth_layer(script, l)
 }
 

@@ -109,7 +109,7 @@ pub(crate) fn layer_bound<F: Field>(
     ensures second { let o = F.ops in (g : ℕ) → g < width_at circuit.now (l + 1) → entry o second.new g ≡ eq o g (point_b o script.now (l + 1)) }
     ensures value { result ≡ bound_at F.ops circuit.now (coefficients F.ops circuit.now script.now) script.now l }
 {
-    let _depth = circuit.depth();
+    circuit.valid_laws();
     let layer = layer_of(circuit, script, l);
     set_weights(
         circuit.width(l) as usize,

@@ -62,7 +62,7 @@ fn reduced_of(alloc: Global, circuit: &Circuit<Gold>, times: u32) -> Result<u128
     requires reduced { IsReduced ops circuit.now.layers }
 {
     let layers = layers_of(alloc, circuit)?;
-    let _depth = circuit.depth();
+    circuit.valid_laws();
     let inputs = 1 + circuit.publics() + circuit.privates();
     let total = reduce_often(alloc, inputs, &layers, times);
     drop(layers);

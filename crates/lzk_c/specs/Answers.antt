@@ -1,5 +1,5 @@
 -- What a program is told of a proof.
-use Rattle.std.specs.Prelude.{◌≡◌, ◌<◌, ◌^◌, ◌⊎◌, ℕ, List, length, map, Result, Ok, Err}
+use Rattle.std.specs.Prelude.{◌≡◌, ◌<◌, ◌≤◌, ◌^◌, ◌⊎◌, ℕ, List, length, map, Result, Ok, Err}
 use Rattle.std.specs.List.{flat_map}
 use Rattle.lzk_c.specs.declared.refusal.Refusal.{Refusal}
 use Rattle.lzk_c.specs.declared.refusal.Refusal.TheVariants.{NoCircuit, TooLong, NoNumbers, OutOfMemory}
@@ -40,10 +40,14 @@ numbered number (LinearSum found wanted) = LinearSum (number found) (number want
 numbered number (Linear column) = Linear column
 numbered number (Quadratic column) = Quadratic column
 
+-- neither the session nor the text is too long
+abbrev pub AreShort : List ℕ → List ℕ → Type 0
+AreShort public session = (length session ≤ most_session) × (length public ≤ most_text)
+
 -- what is refused beside a circuit: a session or a text that is too long, or the first fault of the text; want of memory may come at any time
 abbrev pub Refuses : {A : Type 0} → Coding A → Wiring A → List ℕ → List ℕ → Refusal → Type 0
 Refuses e c public session TooLong = (most_session < length session) ⊎ (most_text < length public)
-Refuses e c public session (NoNumbers fault) = IsNumberFault e.size c.publics public fault
+Refuses e c public session (NoNumbers fault) = AreShort public session × IsNumberFault e.size c.publics public fault
 Refuses e c public session (NoCircuit fault) = ⊥
 Refuses e c public session OutOfMemory = Unit {0}
 
@@ -54,7 +58,7 @@ Judges {A} o e c public session proof found =
 
 -- what is told of a proof over a circuit over a field
 abbrev pub SaysOver : {A : Type 0} → Ops A → Coding A → Wiring A → List ℕ → List ℕ → List ℕ → Result (Verdict ℕ) Refusal → Type 0
-SaysOver o e c public session proof (Ok found) = Judges o e c public session proof found
+SaysOver o e c public session proof (Ok found) = AreShort public session × Judges o e c public session proof found
 SaysOver o e c public session proof (Err refusal) = Refuses e c public session refusal
 
 abbrev pub SaysOf : AnyCircuit → List ℕ → List ℕ → List ℕ → Result (Verdict ℕ) Refusal → Type 0

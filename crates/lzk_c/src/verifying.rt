@@ -50,6 +50,7 @@ pub fn publics_of<F: Field>(
     ensures numbers { IfOk result (λ publics. NumberText F.coding.size circuit.now.publics public.now (map F.coding.number publics.items)) }
     ensures count { IfOk result (λ publics. length publics.items ≡ circuit.now.publics) }
     ensures short { OnOk result (length session.now ≤ 64) }
+    ensures text { OnOk result (length public.now ≤ 4194304) }
     ensures refused { IfErr result (Refuses F.coding circuit.now public.now session.now) }
 {
     if session.len() > MOST_SESSION || public.len() > MOST_TEXT {

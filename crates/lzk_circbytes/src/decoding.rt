@@ -56,10 +56,7 @@ fn circuit_of<F: Field>(alloc: Global, version: u8, bytes: &[u8]) -> Result<Circ
     let (count, rest) = limited_of(0, MOST_IN_ALL, rest)?;
     let mut layers = body_of(alloc, version, 1 + publics + privates, depth, count, rest)?;
     layers.reverse();
-    match Circuit::of_version(version, publics, privates, layers) {
-        Ok(circuit) => Ok(circuit),
-        Err(_) => unreachable!(),
-    }
+    Ok(Circuit::of_valid(version, publics, privates, layers))
 }
 
 /// The circuit from the field's byte on.

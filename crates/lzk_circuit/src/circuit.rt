@@ -58,6 +58,20 @@ impl<F: Field> Circuit<F> {
         })
     }
 
+    /// The circuit with these layers, which the caller knows to be valid. Nothing is looked at.
+    pub fn of_valid(version: u8, publics: u32, privates: u32, layers: Vec<Layer<F>>) -> Circuit<F>
+        requires layers { IsValid F.ops (wiring_of version publics privates layers.items) }
+        ensures circuit { result ≡ wiring_of version publics privates layers.items }
+        ensures valid { IsValid F.ops result }
+    {
+        Circuit {
+            version,
+            publics,
+            privates,
+            layers,
+        }
+    }
+
     /// The circuit of version 1 with these layers, the outputs' first. The layers are dropped on a refusal.
     pub fn of_layers(
         publics: u32,
@@ -108,6 +122,13 @@ impl<F: Field> Circuit<F> {
             privates: self.privates,
             layers: self.layers,
         }
+    }
+
+    /// A circuit is valid: a law, for callers that see its value alone. Nothing is done.
+    pub fn valid_laws(&self)
+        ensures { IsValid F.ops self.now }
+    {
+        let _ = &self.layers;
     }
 
     /// How many checks there are: one for each output, and one for each assertion wire of the layers below.

@@ -118,7 +118,7 @@ fn prove_demo<R: Threads + Sync, G: Gate>(
     ensures { IfOk result (λ len. HasVerdict ops gold_coding circuit.now inputs.now.public.items inputs.now.private.items seed len Verdict.Accepted) }
 {
     proofs_accepted::<Gold>();
-    let _depth = circuit.depth();
+    circuit.valid_laws();
     let (len, verdict) = prove_and_verify::<Gold, NttExtender<Gold>, R, G>(
         means,
         circuit,

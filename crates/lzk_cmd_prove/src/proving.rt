@@ -53,7 +53,7 @@ fn proofs_fit<F: Field>(circuit: &Circuit<F>)
         → IsProofFile F.ops F.coding circuit.now session public private word bytes → length bytes ≤ proof_limit }
 {
     proof_laws::<F>();
-    let _depth = circuit.depth();
+    circuit.valid_laws();
 }
 
 // Proves with a prover for the circuit, and puts the proof once it is whole.

@@ -46,7 +46,7 @@ pub fn demo_circuit(alloc: Global, n: u32) -> Result<Circuit<Gold>, AllocError>
         Ok(circuit) => {
             let circuit = gold(circuit);
             // That tells that the circuit is valid.
-            circuit.depth();
+            circuit.valid_laws();
             Ok(circuit)
         }
         Err(LevelError::OutOfMemory) => Err(AllocError),

@@ -54,7 +54,7 @@ pub fn layer_bits<F: Field>(circuit: &Circuit<F>, l: u32) -> u32
     ensures bits { result ≡ bits (width_at circuit.now l) }
     ensures few { result ≤ 17 }
 {
-    let _depth = circuit.depth();
+    circuit.valid_laws();
     bits_of(circuit.width(l))
 }
 

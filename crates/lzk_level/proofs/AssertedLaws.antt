@@ -163,6 +163,23 @@ module _ {A : Type 0} (o : Ops A) (inputs : ℕ) (made : List (Gate A)) (depths 
       ∙ subst (λ n. Asserted inputs made depths last asserts n → layer.wires ≡ length (of_depth depths n asserts) → output_count (layer ∷ layers) + target_count (targets_below depths last asserts n) (layer ∷ layers) ≡ length asserts) e
       (counted-layers layer layers) a w.0
 
+  first-layer : (number : A → ℕ) (layer : Layer A) (layers all : List (Layer A)) → layer.wires ≡ length (of_depth depths (suc (length layers)) asserts)
+      → IsAssertingForm o number inputs (targets_below depths last asserts (suc (length layers))) (layer ∷ layers) all
+      → output_count all ≡ length (of_depth depths (suc (length layers)) asserts) + length (of_depth depths (length layers) asserts)
+  first-layer number layer layers all e form =
+      let own = of_depth depths (length layers) asserts in
+      omega (arith, e, form.first_count, length-map own (place_in depths last (length layers)))
+
+  -- the first layer has a wire for each asserted node of the two uppermost levels
+  pub first-wires : (number : A → ℕ) (count : ℕ) (layers all : List (Layer A)) → length layers ≡ count → 1 ≤ count → HaveWidthsBelow depths last inputs (length (of_depth depths count asserts)) layers
+      → IsAssertingForm o number inputs (targets_below depths last asserts count) layers all → output_count all ≡ length (of_depth depths count asserts) + length (of_depth depths (count - 1) asserts)
+  first-wires number count [] all e some w form = absurd (omega (arith, e, some))
+  first-wires number count (layer ∷ layers) all e some w form =
+      let down : length layers ≡ count - 1 = omega (arith, e) in
+      subst (λ n. output_count all ≡ length (of_depth depths count asserts) + length (of_depth depths n asserts)) down
+      (subst (λ n. layer.wires ≡ length (of_depth depths n asserts) → IsAssertingForm o number inputs (targets_below depths last asserts n) (layer ∷ layers) all → output_count all ≡ length (of_depth depths n asserts) + length (of_depth depths (length layers) asserts)) e
+      (first-layer number layer layers all) w.0 form)
+
   -- the layers are what is asked
   pub are-asserting : (number : A → ℕ) (count : ℕ) (layers all : List (Layer A)) → length layers ≡ count → 1 ≤ count → Asserted inputs made depths last asserts count → HaveWidthsBelow depths last inputs (length (of_depth depths count asserts)) layers
       → ((values ins : List A) → AreValues o inputs made values → Begins o inputs values ins → wires_of o layers ins ≡ map (entry o values) (of_depth depths count asserts))
@@ -172,6 +189,7 @@ module _ {A : Type 0} (o : Ops A) (inputs : ℕ) (made : List (Gate A)) (depths 
     layers_count = form.count ∙ e;
     valid = form.valid;
     checks_count = counted number count layers all e some a widths form;
+    first_count = first-wires number count layers all e some widths form;
     checks = λ vs ins v b. checked number count layers all vs ins e some a b.width (sym (b.each 0 first) ∙ v.one) (values vs ins v b) (stand vs ins v b) form;
     reduced = form.reduced;
   }

@@ -9,8 +9,9 @@ use Rattle.lzk_circuit.specs.Checks.{checks_of, check_count}
 use Rattle.lzk_circuit.specs.Valid.{Wiring, AreLayersOf}
 use Rattle.lzk_circuit.specs.Wires.{inputs_of}
 use Rattle.lzk_reduce.specs.Attached.{IsReducedAsserting}
+use Rattle.lzk_reduce.specs.Reduced.{output_count}
 use Rattle.lzk_reduce.specs.Renumbering.{at}
-use Rattle.lzk_level.specs.Bounds.{node_depths, total, greatest}
+use Rattle.lzk_level.specs.Bounds.{node_depths, layer_count, total, greatest}
 use Rattle.lzk_level.specs.Levels.{place_in, AreDepths, AreWeights, AreValues, Begins}
 use Rattle.lzk_level.specs.Nodes.{Nodes, AreGates, node_values}
 use Rattle.lzk_level.specs.declared.node.Gate.{Gate}
@@ -29,6 +30,14 @@ HasChecks o number n asserts c =
 -- the nodes with a depth, in their order
 abbrev pub of_depth : List ℕ → ℕ → List ℕ → List ℕ
 of_depth depths depth nodes = filter (λ k. at depths k == depth) nodes
+
+-- The first layer has a wire for each asserted node of the uppermost level and of the level below it: no further node is carried up to it, and each
+-- is asserted by an inner layer.
+abbrev pub HasFewOutputs : {A : Type 0} → Nodes A → List ℕ → Wiring A → Type 0
+HasFewOutputs n asserts c =
+    let depths = node_depths n in
+    let count = layer_count n asserts in
+    output_count c.layers ≡ length (of_depth depths count asserts) + length (of_depth depths (count - 1) asserts)
 
 -- the wires of a level that are those of the asserted nodes of its depth
 abbrev pub level_targets : List ℕ → List ℕ → ℕ → List ℕ → List ℕ
@@ -66,5 +75,6 @@ pub record AreAsserting {A : Type 0} (o : Ops A) (number : A → ℕ) (inputs : 
   pub layers_count : length layers ≡ count
   pub valid : AreLayersOf o 2 inputs layers
   pub checks_count : check_count number layers ≡ length asserts
+  pub first_count : output_count layers ≡ length (of_depth depths count asserts) + length (of_depth depths (count - 1) asserts)
   pub checks : (values ins : List A) → AreValues o inputs made values → Begins o inputs values ins → checks_of o number layers ins ≡ map (entry o values) (by_depth depths asserts (suc count))
   pub reduced : IsReducedAsserting o layers

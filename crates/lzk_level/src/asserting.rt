@@ -7,7 +7,7 @@ ghost use Rattle.lzk_circuit.specs.Valid.{AreLayersOf, wiring_of};
 ghost use Rattle.lzk_reduce.specs.Attached.{IsReducedAsserting};
 ghost use Rattle.lzk_reduce.specs.Renumbering.{at};
 ghost use Rattle.lzk_level.specs.Bounds.{layer_count, level_fault_v2, IsFaultOf};
-ghost use Rattle.lzk_level.specs.Checking.{of_depth, level_targets, targets_below, HasChecks, AreAsserts, AreAsserting};
+ghost use Rattle.lzk_level.specs.Checking.{of_depth, level_targets, targets_below, HasChecks, HasFewOutputs, AreAsserts, AreAsserting};
 ghost use Rattle.lzk_level.specs.Nodes.{AreGates, IsNode, node_count, nodes_from};
 
 use crate::builder::Builder;
@@ -139,6 +139,7 @@ fn laid_out<F: Field>(
     ensures layers { IfOk result (λ c. length c.layers ≡ layer_count (nodes_from publics privates made.now) asserts.now) }
     ensures count { IfOk result (λ c. check_count F.coding.number c.layers ≡ length asserts.now) }
     ensures checks { IfOk result (HasChecks F.ops F.coding.number (nodes_from publics privates made.now) asserts.now) }
+    ensures outputs { IfOk result (HasFewOutputs (nodes_from publics privates made.now) asserts.now) }
     ensures reduced { IfOk result (λ c. IsReducedAsserting F.ops c.layers) }
     ensures within { IfOk result (λ _. level_fault_v2 (nodes_from publics privates made.now) asserts.now ≡ None) }
     ensures fault { IfErr result (IsFaultOf (level_fault_v2 (nodes_from publics privates made.now) asserts.now)) }
@@ -171,6 +172,7 @@ impl<F: Field> Builder<F> {
         ensures layers { IfOk result (λ c. length c.layers ≡ layer_count self asserts.now) }
         ensures count { IfOk result (λ c. check_count F.coding.number c.layers ≡ length asserts.now) }
         ensures checks { IfOk result (HasChecks F.ops F.coding.number self asserts.now) }
+        ensures outputs { IfOk result (HasFewOutputs self asserts.now) }
         ensures reduced { IfOk result (λ c. IsReducedAsserting F.ops c.layers) }
         ensures within { IfOk result (λ _. level_fault_v2 self asserts.now ≡ None) }
         ensures fault { IfErr result (IsFaultOf (level_fault_v2 self asserts.now)) }

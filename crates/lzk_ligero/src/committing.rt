@@ -11,14 +11,13 @@ ghost use Rattle.lzk_tableau.specs.Tableau.{low_words, randoms};
 
 use lzk_circuit::Circuit;
 use lzk_field::{Field, Gate, Words};
+use lzk_hands::Hands;
 use lzk_merkle::Tree;
 use lzk_poly::RowExtend;
 use lzk_tableau::Tableau;
-use std::marker::Sync;
-use std::thread::Threads;
 
 /// Fills the rows and hashes their columns. Gives the root of the columns' tree.
-pub(crate) fn commit<R: Threads + Sync, F: Field, W: Words, X: RowExtend<F>, G: Gate>(
+pub(crate) fn commit<R: Hands, F: Field, W: Words, X: RowExtend<F>, G: Gate>(
     rt: &R,
     circuit: &Circuit<F>,
     private: &[F],

@@ -7,7 +7,7 @@ ghost use Rattle.lzk_transcript.specs.Columns.{after_draws};
 ghost use Rattle.lzk_sumcheck.specs.Coefficients.{AreBounds};
 ghost use Rattle.lzk_sumcheck.specs.Messages.{AreMessages};
 ghost use Rattle.lzk_sumcheck.specs.Opening.{opening};
-ghost use Rattle.lzk_sumcheck.specs.Room.{IsRoomOf};
+ghost use Rattle.lzk_sumcheck_prover.specs.Room.{IsRoomOf};
 ghost use Rattle.lzk_sumcheck.specs.Script as sumcheck;
 ghost use Rattle.lzk_accept.specs.Challenges as spec;
 ghost use Rattle.lzk_accept.specs.Challenges.{challenge_count};
@@ -16,11 +16,11 @@ ghost use Rattle.lzk_ligero.specs.Statements.{IsStatement};
 use crate::statement::Statement;
 use lzk_accept::{Challenges, draw_challenges};
 use lzk_field::Field;
+use lzk_hands::Hands;
 use lzk_layout::{Elements, Params, Proof};
-use lzk_sumcheck::{Rounds, Script, draw_opened, prove_layers, public_tape};
+use lzk_sumcheck::{Script, draw_opened, public_tape};
+use lzk_sumcheck_prover::{Rounds, prove_layers};
 use lzk_transcript::Tape;
-use std::marker::Sync;
-use std::thread::Threads;
 
 /// The new tape with `lzk1`, the session, the circuit's id, the public inputs and the root written.
 pub(crate) fn open_tape<F: Field>(
@@ -37,7 +37,7 @@ pub(crate) fn open_tape<F: Field>(
 }
 
 /// Sends the sumchecks of all layers, and draws what comes behind them. The layers' bound coefficients stay in the room.
-pub(crate) fn send<R: Threads + Sync, F: Field>(
+pub(crate) fn send<R: Hands, F: Field>(
     rt: &R,
     statement: &Statement<'_, F>,
     pads: &[F],

@@ -30,12 +30,11 @@ use crate::statement::Statement;
 use crate::writing::write_file;
 use lzk_accept::Challenges;
 use lzk_field::{Field, Gate, Words};
+use lzk_hands::Hands;
 use lzk_layout::Proof;
 use lzk_poly::RowExtend;
 use lzk_sumcheck::Script;
 use lzk_tableau::Tableau;
-use std::marker::Sync;
-use std::thread::Threads;
 
 // Sets the answers, by what the tape gave behind the messages, and the bound coefficients that the sumchecks left.
 fn answer<F: Field, X: RowExtend<F>>(
@@ -94,7 +93,7 @@ fn answer<F: Field, X: RowExtend<F>>(
 }
 
 // Runs the tape: sends the sumchecks and the answers, with a change where there is one, and draws the columns.
-fn respond<R: Threads + Sync, F: Field, X: RowExtend<F>>(
+fn respond<R: Hands, F: Field, X: RowExtend<F>>(
     rt: &R,
     statement: &Statement<'_, F>,
     workers: usize,
@@ -159,7 +158,7 @@ fn respond<R: Threads + Sync, F: Field, X: RowExtend<F>>(
 
 /// Makes the proof for a statement, with a change of an answer where there is one, and writes its file in front.
 /// How many bytes it has. No memory is taken.
-pub(crate) fn write_proof<R: Threads + Sync, F: Field, W: Words, X: RowExtend<F>, G: Gate>(
+pub(crate) fn write_proof<R: Hands, F: Field, W: Words, X: RowExtend<F>, G: Gate>(
     rt: &R,
     statement: &Statement<'_, F>,
     words: &W,

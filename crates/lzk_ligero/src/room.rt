@@ -9,7 +9,8 @@ use lzk_accept::{Challenges, Factored, Forms};
 use lzk_circuit::Circuit;
 use lzk_field::Field;
 use lzk_layout::{Elements, MOST_DIGESTS, OPENED, Params, Proof, proof_len};
-use lzk_sumcheck::{Rounds, Script};
+use lzk_sumcheck::Script;
+use lzk_sumcheck_prover::Rounds;
 use std::alloc::{AllocError, Global};
 
 /// What is computed on the way to a proof.

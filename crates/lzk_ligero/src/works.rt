@@ -24,11 +24,11 @@ use lzk_circbytes::id;
 use lzk_circuit::{Circuit, Values};
 use lzk_complete::{Answer, changed_proofs_refused, proofs_accepted, proofs_checked};
 use lzk_field::{Field, Gate, Words};
+use lzk_hands::Hands;
 use lzk_layout::Params;
 use lzk_poly::RowExtend;
 use std::alloc::{AllocError, Global};
-use std::marker::{Model, Sync};
-use std::thread::Threads;
+use std::marker::Model;
 
 /// The first check that is not 0, and its value.
 #[derive(Clone, Copy, Debug, PartialEq, Eq)]
@@ -95,7 +95,7 @@ impl<F: Field, X: RowExtend<F>> Parts<F, X> {
 
     // Makes the proof for wires of these values, with a change of an answer where there is one, and writes its file in front.
     // How many bytes it has.
-    fn write<R: Threads + Sync, W: Words, G: Gate>(
+    fn write<R: Hands, W: Words, G: Gate>(
         &mut self,
         rt: &R,
         circuit: &Circuit<F>,
@@ -207,7 +207,7 @@ impl<'c, F: Field, X: RowExtend<F>> WorksOver<'c, F, X> {
 
     /// The bytes of the proof's file, whether the inputs satisfy the circuit or not. It is there for tests, and does what
     /// `prove` does for inputs that satisfy it. No memory is taken.
-    pub fn attempt<R: Threads + Sync, W: Words, G: Gate>(
+    pub fn attempt<R: Hands, W: Words, G: Gate>(
         &mut self,
         rt: &R,
         session: &[u8],
@@ -228,7 +228,7 @@ impl<'c, F: Field, X: RowExtend<F>> WorksOver<'c, F, X> {
         ensures checked { AllButSum F.ops F.coding self.old session.now public.now result.now }
     {
         proofs_checked::<F>();
-        self.circuit.depth();
+        self.circuit.valid_laws();
         self.parts.evaluate(self.circuit, public, private);
         let len = self.parts.write(
             rt,
@@ -246,7 +246,7 @@ impl<'c, F: Field, X: RowExtend<F>> WorksOver<'c, F, X> {
 
     /// The bytes of the proof's file where `by` was added to one value of an answer before the columns were drawn. It is there for
     /// tests of verifiers: what is opened is that of the changed answers, so that one check alone refuses it. No memory is taken.
-    pub fn attempt_changed<R: Threads + Sync, W: Words, G: Gate>(
+    pub fn attempt_changed<R: Hands, W: Words, G: Gate>(
         &mut self,
         rt: &R,
         session: &[u8],
@@ -271,7 +271,7 @@ impl<'c, F: Field, X: RowExtend<F>> WorksOver<'c, F, X> {
             IsRefused F.ops F.coding self.old session.now public.now answer place by result.now }
     {
         changed_proofs_refused::<F>();
-        self.circuit.depth();
+        self.circuit.valid_laws();
         self.parts.evaluate(self.circuit, public, private);
         let len = self.parts.write(
             rt,
@@ -292,7 +292,7 @@ impl<'c, F: Field, X: RowExtend<F>> WorksOver<'c, F, X> {
     /// # Errors
     ///
     /// `Unsatisfied` where a check is not 0. The prover may be used again.
-    pub fn prove<R: Threads + Sync, W: Words, G: Gate>(
+    pub fn prove<R: Hands, W: Words, G: Gate>(
         &mut self,
         rt: &R,
         session: &[u8],
@@ -321,7 +321,7 @@ impl<'c, F: Field, X: RowExtend<F>> WorksOver<'c, F, X> {
             return Err(self.parts.fault(output));
         }
         proofs_accepted::<F>();
-        self.circuit.depth();
+        self.circuit.valid_laws();
         let len = self.parts.write(
             rt,
             self.circuit,

@@ -14,6 +14,10 @@ use Rattle.lzk_reduce.proofs.EachReduced.{some_reduced_with}
 use Rattle.lzk_reduce.proofs.FormLaws.{few-wires, few-terms, same-count, same-first, still-narrow}
 
 module _ {A : Type 0} (o : Ops A) (size : ℕ) (number : A → ℕ) (element : ℕ → A) (bytes : ℕ) (laws : Laws o size number element bytes) where
+  first-wires : (ws : List (List ℕ)) (layers : List (Layer A)) → 1 ≤ length layers → output_count (attached_layers o ws layers) ≡ output_count layers + length (targets_at ws 0)
+  first-wires ws [] many = absurd (omega (arith, many))
+  first-wires ws (layer ∷ layers) many = refl
+
   -- a single layer
   pub single-form : (inputs : ℕ) (ws : List (List ℕ)) (layers : List (Layer A)) → length layers ≡ 1 → 1 ≤ inputs → AreAllTerms o inputs layers → HaveOnes o layers → AreTargets inputs ws layers → AreNarrowWith 131072 ws layers
       → 1 ≤ output_count layers + length (targets_at ws 0) → (under_of inputs layers).wires + target_count ws layers ≤ 2097152 → (under_of inputs layers).terms + target_count ws layers ≤ 2097152
@@ -24,6 +28,7 @@ module _ {A : Type 0} (o : Ops A) (size : ℕ) (number : A → ℕ) (element : �
         count = layers-count o ws layers;
         valid = attached-layers o inputs ws layers many terms (λ two. absurd (omega (arith, two, single))) t narrow some wires all;
         checks_count = attached-count o size number element bytes laws inputs ws layers terms;
+        first_count = first-wires ws layers many;
         checks = λ values e one.
             attached-checks o size number element bytes laws ws layers values many (subst (λ n. AreAllTerms o n layers) (sym e) terms) (subst (λ n. AreTargets n ws layers) (sym e) t) ones (omega (arith, e, first)) one;
         reduced = attached-single o ws layers single;
@@ -51,6 +56,7 @@ module _ {A : Type 0} (o : Ops A) (size : ℕ) (number : A → ℕ) (element : �
         valid = attached-layers o inputs moved kept more terms (λ two. f.valid) f.targets (still-narrow 131072 moved ws kept layers f.count f.fewer f.as_many narrow) (omega (arith, some, f.outputs, same-first moved ws layers many f.as_many))
             (omega (arith, wires, few-wires inputs kept layers f.fewer, same)) (omega (arith, all, few-terms inputs kept layers f.fewer, same));
         checks_count = attached-count o size number element bytes laws inputs moved kept terms ∙ omega (arith, f.outputs, same);
+        first_count = first-wires moved kept more ∙ omega (arith, f.outputs, same-first moved ws layers many f.as_many);
         checks = λ values e one.
             attached-checks o size number element bytes laws moved kept values more (subst (λ n. AreAllTerms o n kept) (sym e) terms) (subst (λ n. AreTargets n moved kept) (sym e) f.targets) ones (omega (arith, e, first)) one
             ∙ ap₂ (λ xs ys. xs ++ ys) (f.values values e) (f.asserted values e);

@@ -59,5 +59,7 @@ pub record IsAssertingForm {A : Type 0} (o : Ops A) (number : A → ℕ) (inputs
   pub count : length all ≡ length layers
   pub valid : AreLayersOf o 2 inputs all
   pub checks_count : check_count number all ≡ output_count layers + target_count ws layers
+  -- the first layer has a wire for each output and for each wire that it asserts
+  pub first_count : output_count all ≡ output_count layers + length (targets_at ws 0)
   pub checks : (values : List A) → length values ≡ inputs → entry o values 0 ≡ o.one → checks_of o number all values ≡ wires_of o layers values ++ target_values o ws layers values
   pub reduced : IsReducedAsserting o all

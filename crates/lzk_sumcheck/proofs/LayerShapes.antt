@@ -44,6 +44,12 @@ module _ {A : Type 0} (c : Wiring A) (l : ℕ) (layer : Layer A) (is : slice_get
       ap (λ x. x.terms) (sym (get_or_from_slice_get c.layers l layer layer is))
       ∙ sym (get_or-map (λ x. x.terms) c.layers l layer [] within)
 
+  -- they are few
+  pub terms_few : (o : Ops A) → IsValid o c → length layer.terms ≤ 2097152
+  terms_few o valid =
+      let here : layer ≡ slice_index_or c.layers l layer = sym (get_or_from_slice_get c.layers l layer layer is) in
+      omega (arith, ap (λ (x : Layer A). length x.terms) here, (layer-at o c l layer (slice_get_within c.layers l layer is) valid).terms)
+
   -- they are in their places, below the two widths
   pub terms_placed : (o : Ops A) → IsValid o c → ArePlaced (width_at c l) (width_at c (l + 1)) None layer.terms
   terms_placed o valid =

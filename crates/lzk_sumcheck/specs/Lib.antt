@@ -3,16 +3,10 @@ pub mod Draws
 pub mod Layers
 pub mod Messages
 pub mod Opening
-pub mod Orders
-pub mod Pairs
-pub mod Parts
 pub mod Points
-pub mod Room
 pub mod Rounds
-pub mod Rows
 pub mod Script
 pub mod Sending
 pub mod States
-pub mod Tables
 pub mod Versions
 pub mod Weights

@@ -20,8 +20,8 @@ pub fn draw_all<F: Field>(tape: &mut Tape, out: &mut [F])
     }
 }
 
-// Beta, which is drawn in version 2 alone.
-pub(crate) fn draw_beta<F: Field>(version: u8, tape: &mut Tape) -> F
+/// Beta, which is drawn in version 2 alone, and 0 in version 1.
+pub fn draw_beta<F: Field>(version: u8, tape: &mut Tape) -> F
     ensures beta { result ≡ drawn_beta F.ops F.coding version tape.old }
     ensures after { tape.new ≡ after_beta version tape.old }
 {
@@ -37,8 +37,8 @@ pub fn write_pair<F: Field>(tape: &mut Tape, messages: &[F], i: usize)
     tape.elem(messages[i + 1]);
 }
 
-// A round: its two elements from place i on are written, and its challenge is drawn.
-pub(crate) fn replay_round<F: Field>(tape: &mut Tape, messages: &[F], i: usize) -> F
+/// A round: its two elements from place `i` on are written, and its challenge is drawn.
+pub fn replay_round<F: Field>(tape: &mut Tape, messages: &[F], i: usize) -> F
     requires { i + 1 < length messages.now }
     ensures challenge { result ≡ F.coding.element (drawn (with_pair F.ops F.coding messages.now i tape.old)) }
     ensures after { tape.new ≡ after_draw (with_pair F.ops F.coding messages.now i tape.old) }

@@ -46,8 +46,8 @@ fn variable_of<F: Field>(bits: usize, bound: &[F], t: F, z: u64, a: bool, j: usi
     }
 }
 
-// How bit 0 of a number agrees with a variable.
-pub(crate) fn agreement<F: Field>(number: u32, x: F) -> F
+/// How bit 0 of a number agrees with a variable: the variable where it is 1, and 1 less it where it is 0.
+pub fn agreement<F: Field>(number: u32, x: F) -> F
     ensures { let o = F.ops in result ≡ agree o (low_bit o number) x }
 {
     if number % 2 == 0 { F::one().sub(x) } else { x }
@@ -176,7 +176,7 @@ pub fn plain_round<F: Field>(
     requires free { length bound.now < 2 * bits_under circuit.now l }
     ensures round { let o = F.ops in result ≡ rounds.round o (weighted_layer o circuit.now values.now.wires l weights.now beta) bound.now t }
 {
-    let _depth = circuit.depth();
+    circuit.valid_laws();
     let bits = bits_of(circuit.width(l + 1)) as usize;
     let terms = circuit.layer(l).terms.as_slice();
     plain_sum(terms, beta, values.layer(l + 1), bits, weights, bound, t)

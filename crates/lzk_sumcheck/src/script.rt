@@ -26,7 +26,8 @@ pub struct LayerScript<F> {
 /// The layers' scripts, the outputs' first. It is made from a `Vec` and gives it back, with no memory taken.
 #[derive(Drop)]
 pub struct LayerScripts<F> {
-    pub(crate) list: Vec<LayerScript<F>>,
+    /// The scripts in order.
+    pub list: Vec<LayerScript<F>>,
 }
 
 impl<F> Model for LayerScripts<F> {
@@ -87,7 +88,7 @@ fn layer_of_zeros<F: Field>(alloc: Global, bits: u32) -> Result<LayerScript<F>, 
 fn output_bits_of<F: Field>(circuit: &Circuit<F>) -> u32
     ensures { result ≡ output_bits circuit.now }
 {
-    let _depth = circuit.depth();
+    circuit.valid_laws();
     bits_of(circuit.width(0))
 }
 

@@ -3,13 +3,14 @@
 ghost use Rattle.std.specs.Prelude.{◌≡◌, ◌≤◌, length, IfOk};
 ghost use Rattle.lzk_circuit.specs.Valid.{HaveWidths};
 ghost use Rattle.lzk_layout.specs.Sizes.{sent_counts};
-ghost use Rattle.lzk_sumcheck.specs.Room.{IsRoomOf};
+ghost use Rattle.lzk_sumcheck_prover.specs.Room.{IsRoomOf};
 ghost use Rattle.lzk_sumcheck.specs.Script.{HasShape};
 
 use crate::shared::{Shape, circuit_of};
 use lzk_circuit::{Circuit, Values, zeros};
 use lzk_gf128::Gf128;
-use lzk_sumcheck::{Rounds, Script, message_count, prove_layers};
+use lzk_sumcheck::{Script, message_count};
+use lzk_sumcheck_prover::{Rounds, prove_layers};
 use lzk_transcript::Tape;
 use std::alloc::{AllocError, Global};
 use std::io;

@@ -15,11 +15,11 @@ use Rattle.lzk_accept.proofs.ShapeLaws.{few_bits, wires_is, terms_is}
 use Rattle.lzk_accept.proofs.bound.bound_of.Goals as goal
 
 pub sum_at-requires-clause-few : goal.sum_at-requires-clause-few
-sum_at-requires-clause-few g c κs within = omega (arith, c.first_point-first.ensures.length, few_bits g.F.Field.ops c.args.circuit.now c.args.l c.depth-depth.ensures.valid)
+sum_at-requires-clause-few g c κs within = omega (arith, c.first_point-first.ensures.length, few_bits g.F.Field.ops c.args.circuit.now c.args.l c.valid_laws.ensures)
 
 pub sum_at-requires-clause-few_below : goal.sum_at-requires-clause-few_below
 sum_at-requires-clause-few_below g c κs within =
-    omega (arith, ap length c.as_slice-ra.ensures, c.layer_of-layer.ensures.bits.ra, few_bits g.F.Field.ops c.args.circuit.now (c.args.l + 1) c.depth-depth.ensures.valid)
+    omega (arith, ap length c.as_slice-ra.ensures, c.layer_of-layer.ensures.bits.ra, few_bits g.F.Field.ops c.args.circuit.now (c.args.l + 1) c.valid_laws.ensures)
 
 pub sum_at-requires-clause-points : goal.sum_at-requires-clause-points
 sum_at-requires-clause-points g c κs within = c.second_point-second.ensures.length ∙ sym c.first_point-first.ensures.length
@@ -31,7 +31,7 @@ sum_at-requires-clause-terms g c κs within =
     let l = c.args.l in
     let layer = c.layer.result.now in
     let at = get_or_from_slice_get w.layers l layer layer c.layer.ensures in
-    let distinct = subst (λ x. AreDistinct o x.wires (width_at w (l + 1)) x.terms) at (terms-distinct o w l layer (slice_get_within w.layers l layer c.layer.ensures) c.depth-depth.ensures.valid) in
+    let distinct = subst (λ x. AreDistinct o x.wires (width_at w (l + 1)) x.terms) at (terms-distinct o w l layer (slice_get_within w.layers l layer c.layer.ensures) c.valid_laws.ensures) in
     below_powers o layer.wires (width_at w (l + 1)) (length c.first_point-first.result.now) (length c.as_slice-ra.result.now) c.as_slice-terms.result.now
     (subst (λ ts. AreDistinct o layer.wires (width_at w (l + 1)) ts) (sym c.as_slice-terms.ensures) distinct)
     (c.first_point-first.ensures.length ∙ ap bits (sym (wires_is w l layer c.layer.ensures))) (ap length c.as_slice-ra.ensures ∙ c.layer_of-layer.ensures.bits.ra)
@@ -47,7 +47,7 @@ returns-clause-value g c =
     let draws = c.layer_of-layer.ensures.layer in
     let ts = c.as_slice-terms.result.now in
     let at = get_or_from_slice_get w.layers l layer layer c.layer.ensures in
-    let own = subst (λ x. ArePlaced x.wires (width_at w (l + 1)) None x.terms) at (terms-placed-at o w l layer (slice_get_within w.layers l layer c.layer.ensures) c.depth-depth.ensures.valid) in
+    let own = subst (λ x. ArePlaced x.wires (width_at w (l + 1)) None x.terms) at (terms-placed-at o w l layer (slice_get_within w.layers l layer c.layer.ensures) c.valid_laws.ensures) in
     let placed = subst (λ k. ArePlaced k (width_at w (l + 1)) None layer.terms) (wires_is w l layer c.layer.ensures) own in
     let ra = c.as_slice-ra.result.now in
     let rb = c.as_slice-rb.result.now in

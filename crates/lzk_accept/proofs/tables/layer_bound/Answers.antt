@@ -54,12 +54,12 @@ set_table-requires-2-clause-room g c κs within =
 pub sum_terms-requires-clause-some : goal.sum_terms-requires-clause-some
 sum_terms-requires-clause-some g c κs within =
     let w = c.args.circuit.now in
-    omega (arith, c.set_weights.ensures.length, some_layer g.F.Field.ops w c.args.l c.layer.result.now c.depth-depth.ensures.valid c.layer.ensures, bits_enough (width_at w c.args.l), c.requires.room c.args.l (omega (arith, c.requires.layer)))
+    omega (arith, c.set_weights.ensures.length, some_layer g.F.Field.ops w c.args.l c.layer.result.now c.valid_laws.ensures c.layer.ensures, bits_enough (width_at w c.args.l), c.requires.room c.args.l (omega (arith, c.requires.layer)))
 
 pub sum_terms-requires-clause-below : goal.sum_terms-requires-clause-below
 sum_terms-requires-clause-below g c κs within =
     let w = c.args.circuit.now in
-    omega (arith, c.set_table.ensures.length, c.requires.first_room, some_layer g.F.Field.ops w c.args.l c.layer.result.now c.depth-depth.ensures.valid c.layer.ensures, bits_enough (width_at w c.args.l), c.requires.room c.args.l (omega (arith, c.requires.layer)))
+    omega (arith, c.set_table.ensures.length, c.requires.first_room, some_layer g.F.Field.ops w c.args.l c.layer.result.now c.valid_laws.ensures c.layer.ensures, bits_enough (width_at w c.args.l), c.requires.room c.args.l (omega (arith, c.requires.layer)))
 
 pub sum_terms-requires-clause-placed : goal.sum_terms-requires-clause-placed
 sum_terms-requires-clause-placed g c κs within = λ i t is.
@@ -67,7 +67,7 @@ sum_terms-requires-clause-placed g c κs within = λ i t is.
     let w = c.args.circuit.now in
     let l = c.args.l in
     let layer = c.layer.result.now in
-    let below = distinct_within o (width_at w l) (width_at w (l + 1)) layer.terms (layer_distinct o g.F.Field.laws.ring w l layer c.depth-depth.ensures.valid c.layer.ensures) i t
+    let below = distinct_within o (width_at w l) (width_at w (l + 1)) layer.terms (layer_distinct o g.F.Field.laws.ring w l layer c.valid_laws.ensures c.layer.ensures) i t
     (ap (λ ts. slice_get ts i) (sym c.as_slice-3.ensures) ∙ is) in
     let here : width_at w l ≤ length c.set_weights.new.weights = omega (arith, c.set_weights.ensures.length, bits_enough (width_at w l), c.requires.room l (omega (arith, c.requires.layer))) in
     let one : width_at w (l + 1) ≤ length c.set_table.new.table = omega (arith, c.set_table.ensures.length, bits_enough (width_at w (l + 1)), c.requires.room (l + 1) (omega (arith, c.requires.layer)), c.requires.first_room) in
@@ -106,7 +106,7 @@ returns-clause-value g c =
     let ib = c.as_slice-2.ensures ∙ ap (λ x. x.rb) c.layer_of-layer.ensures.layer in
     c.sum_terms.ensures ∙ ap (λ ts. sum_list o ts (counted o c.layer_of-layer.result.now.beta weights first second)) c.as_slice-3.ensures
     ∙ ap (λ x. sum_list o layer.terms (counted o x.beta weights first second)) c.layer_of-layer.ensures.layer
-    ∙ bound_by_tables o g.F.Field.laws.ring w s l layer weights first second c.depth-depth.ensures.valid c.layer.ensures
+    ∙ bound_by_tables o g.F.Field.laws.ring w s l layer weights first second c.valid_laws.ensures c.layer.ensures
     (λ k h. c.set_weights.ensures.entries k (omega (arith, h, c.width.ensures))
     ∙ ap (λ x. o.plus x (o.times c.layer_of-layer.result.now.alpha (entry o c.args.second.now k))) (c.requires.first k h)
     ∙ ap (λ x. o.plus (eq o k (point_a o s l)) (o.times c.layer_of-layer.result.now.alpha x)) (c.requires.second k h)

@@ -25,4 +25,4 @@ reduce_often-total-requires-clause-layers c =
     let circuit = c.args.circuit.now in
     let inputs : input_width circuit ≡ 1 + c.publics.result + c.privates.result = λ i. 1 + sym c.publics.ensures i + sym c.privates.ensures i in
     subst (λ (layers : List (Layer Gold)). AreLayers ops (1 + c.publics.result + c.privates.result) layers) (sym (c.deref.ensures.value ∙ c.in_ok-layers.ensures))
-    (subst (λ n. AreLayers ops n circuit.layers) inputs (valid-one ops circuit c.requires.version c.depth-depth.ensures.valid))
+    (subst (λ n. AreLayers ops n circuit.layers) inputs (valid-one ops circuit c.requires.version c.valid_laws.ensures))

@@ -5,8 +5,8 @@ use Rattle.lzk_circbytes.proofs.Bodies.{wiring_done, turned, bytes_fit}
 use Rattle.lzk_circbytes.proofs.FileLaws.{valid_from_read}
 use Rattle.lzk_circbytes.proofs.decoding.circuit_of.Goals as goal
 
-pub unreachable-requires : goal.unreachable-requires
-unreachable-requires g c =
+pub of_valid-requires-clause-layers : goal.of_valid-requires-clause-layers
+of_valid-requires-clause-layers g c κs within =
     let s : Shape = shape g.F.Field.coding.id g.F.Field.coding.bytes g.F.Field.coding.size in
     let number = g.F.Field.coding.number in
     let publics = c.in_ok-publics.publics in
@@ -17,7 +17,7 @@ unreachable-requires g c =
     c.in_ok-publics.ensures.value c.in_ok-privates.ensures.value c.in_ok-depth.ensures.value c.in_ok-count.ensures.value c.in_ok-layers.ensures in
     let read' = turned number s c.args.version publics privates c.args.bytes.now layers (reverse layers) refl read in
     let valid = valid_from_read g.F.Field.ops g.F.Field.coding.size number g.F.Field.coding.element g.F.Field.coding.bytes g.F.Field.laws g.F.Field.coding.id c.args.version publics privates layers c.args.bytes.now c.requires (bytes_fit c.args.bytes.now c.type_inv.bytes) read' in
-    absurd (c.in-Err.ensures.valid (subst (λ (ls : List _). IsValid g.F.Field.ops (wiring_of c.args.version publics privates ls)) (sym c.reverse.ensures.items) valid))
+    subst (λ (ls : List _). IsValid g.F.Field.ops (wiring_of c.args.version publics privates ls)) (sym c.reverse.ensures.items) valid
 
 pub returns-clause-value : goal.returns-clause-value
 returns-clause-value g c =
@@ -29,4 +29,4 @@ returns-clause-value g c =
     let back = c.reverse.new.self.items in
     let read = wiring_done s c.args.version publics privates c.in_ok-depth.depth c.in_ok-count.count c.args.bytes.now c.in_ok-publics.rest.now c.in_ok-privates.rest.now c.in_ok-depth.rest.now c.in_ok-count.rest.now (map (numbered_layer number) layers)
     c.in_ok-publics.ensures.value c.in_ok-privates.ensures.value c.in_ok-depth.ensures.value c.in_ok-count.ensures.value c.in_ok-layers.ensures in
-    turned number s c.args.version publics privates c.args.bytes.now layers back c.reverse.ensures.items read ∙ ap (λ (w : Wiring _). Ok (numbered number w)) (sym c.in-Ok.ensures.circuit)
+    turned number s c.args.version publics privates c.args.bytes.now layers back c.reverse.ensures.items read ∙ ap (λ (w : Wiring _). Ok (numbered number w)) (sym c.of_valid.ensures.circuit)

@@ -1,4 +1,4 @@
 use Rattle.lzk_cmd_prove.proofs.proving.proofs_fit.Goals as goal
 
 pub returns : goal.returns
-returns g c = λ session public private word bytes file. c.proof_laws.ensures.fit c.args.circuit.now session public private word bytes c.depth-depth.ensures.valid file
+returns g c = λ session public private word bytes file. c.proof_laws.ensures.fit c.args.circuit.now session public private word bytes c.valid_laws.ensures file

@@ -30,4 +30,4 @@ returns-in-Ok-clause-depth c = subst (IsDemoDepth c.args.n) (sym (returns-in-Ok-
 pub returns-in-Ok-clause-satisfied : goal.returns-in-Ok-clause-satisfied
 returns-in-Ok-clause-satisfied c =
     let values = subst (λ (x : AnyCircuit). HasSourceValues (statements_of c.in_ok-source.source.statements) x) c.gold-circuit.ensures c.in-Ok.ensures.outputs in
-    demo_satisfied c.args.n c.requires.some c.gold-circuit.result (returns-in-Ok-clause-version c) c.depth.ensures.valid (returns-in-Ok-clause-publics c) (returns-in-Ok-clause-privates c) (subst (λ (t : SourceTree). HasValues ops of_number t.statements c.gold-circuit.result) c.in_ok-source.ensures.tree values)
+    demo_satisfied c.args.n c.requires.some c.gold-circuit.result (returns-in-Ok-clause-version c) c.valid_laws.ensures (returns-in-Ok-clause-publics c) (returns-in-Ok-clause-privates c) (subst (λ (t : SourceTree). HasValues ops of_number t.statements c.gold-circuit.result) c.in_ok-source.ensures.tree values)

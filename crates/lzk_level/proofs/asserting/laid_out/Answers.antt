@@ -2,6 +2,7 @@ use Rattle.std.proofs.Common.{◌≡◌, ◌∙◌, ap, sym, subst, ◌+◌, map
 use Rattle.lzk_field.specs.Sums.{entry}
 use Rattle.lzk_circuit.specs.Checks.{checks_of}
 use Rattle.lzk_circuit.specs.Wires.{inputs_of}
+use Rattle.lzk_reduce.specs.Reduced.{output_count}
 use Rattle.lzk_reduce.specs.Renumbering.{at}
 use Rattle.lzk_level.specs.Bounds.{node_depths}
 use Rattle.lzk_level.specs.Checking.{check_of, AreAsserts, AreAsserting}
@@ -42,3 +43,18 @@ returns-clause-checks g c public private hp hq k l =
     let a = subst (λ ds. AreAsserting o number inputs made ds asserts count c.in_ok-layers.layers.items) is c.in_ok-layers.ensures in
     ap (λ w. entry o (checks_of o number w.layers ins) (check_of (map (at (node_depths n)) asserts) k)) c.circuit_of.ensures
     ∙ check-value o (node_depths n) asserts count values (checks_of o number c.in_ok-layers.layers.items ins) k l c.in_ok-depths.ensures.count (a.checks values ins v b)
+
+pub returns-clause-outputs : goal.returns-clause-outputs
+returns-clause-outputs g c =
+    let o = g.F.Field.ops in
+    let number = g.F.Field.coding.number in
+    let p = c.args.publics in
+    let q = c.args.privates in
+    let made = c.args.made.now in
+    let asserts = c.args.asserts.now in
+    let count = c.in_ok-depths.count in
+    let n = nodes_from p q made in
+    let is : c.deref.result.now ≡ node_depths n = c.deref.ensures.value ∙ c.in_ok-depths.ensures.depths in
+    let a = subst (λ ds. AreAsserting o number (1 + p + q) made ds asserts count c.in_ok-layers.layers.items) is c.in_ok-layers.ensures in
+    let b = subst (λ k. AreAsserting o number (1 + p + q) made (node_depths n) asserts k c.in_ok-layers.layers.items) c.in_ok-depths.ensures.count a in
+    ap (λ w. output_count w.layers) c.circuit_of.ensures ∙ b.first_count

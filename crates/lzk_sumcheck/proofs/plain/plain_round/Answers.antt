@@ -12,7 +12,7 @@ use Rattle.lzk_sumcheck.proofs.LayerShapes.{values_width, terms_is, terms_placed
 use Rattle.lzk_sumcheck.proofs.plain.plain_round.Goals as goal
 
 pub bits_of-bits-requires : goal.bits_of-bits-requires
-bits_of-bits-requires g c = omega (arith, c.width.ensures, narrow g.F.Field.ops c.args.circuit.now (c.args.l + 1) c.depth-depth.ensures.valid)
+bits_of-bits-requires g c = omega (arith, c.width.ensures, narrow g.F.Field.ops c.args.circuit.now (c.args.l + 1) c.valid_laws.ensures)
 
 pub plain_sum-requires-clause-size : goal.plain_sum-requires-clause-size
 plain_sum-requires-clause-size g c κs within =
@@ -20,7 +20,7 @@ plain_sum-requires-clause-size g c κs within =
       arith,
       ap length c.layer-2.ensures,
       values_width c.args.circuit.now c.args.values.now.wires (c.args.l + 1) c.requires.values (omega (arith, c.requires.layer)),
-      narrow g.F.Field.ops c.args.circuit.now (c.args.l + 1) c.depth-depth.ensures.valid,
+      narrow g.F.Field.ops c.args.circuit.now (c.args.l + 1) c.valid_laws.ensures,
     )
 
 pub plain_sum-requires-clause-terms : goal.plain_sum-requires-clause-terms
@@ -32,7 +32,7 @@ plain_sum-requires-clause-terms g c κs within =
     subst (λ ts. ArePlaced (length c.args.weights.now) (length c.layer-2.result.now) None ts) (sym c.as_slice-terms.ensures)
     (subst (λ n. ArePlaced (length c.args.weights.now) n None c.layer.result.now.terms) (sym below)
     (subst (λ k. ArePlaced k (width_at w (l + 1)) None c.layer.result.now.terms) (sym c.requires.weights)
-    (terms_placed w l c.layer.result.now c.layer.ensures o c.depth-depth.ensures.valid)))
+    (terms_placed w l c.layer.result.now c.layer.ensures o c.valid_laws.ensures)))
 
 pub returns : goal.returns
 returns g c =
