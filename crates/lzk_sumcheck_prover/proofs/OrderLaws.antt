@@ -1,9 +1,9 @@
 -- Lists in another order.
-use Rattle.std.specs.Prelude.{◌≡◌, ℕ, ◌+◌, ◌<◌, Bool, true, false, not, cond, Option, Some, None, List, [], ◌∷◌, ◌++◌, ◌-◌, length, map, slice_get, slice_index_or, slice_set}
+use Rattle.std.specs.Prelude.{◌≡◌, ℕ, ◌+◌, ◌%◌, ◌<◌, Bool, true, false, not, cond, Option, Some, None, List, [], ◌∷◌, ◌++◌, ◌-◌, length, map, slice_get, slice_index_or, slice_set}
 use Rattle.std.specs.List.{range_with_len, AllByRecursion, swap}
 use Rattle.std.specs.List.Sorted.{IsPermutation}
 use Rattle.std.proofs.Common.{zero, suc, refl, sym, ap, ◌∙◌, get_or, arith, subst, inl, inr}
-use Rattle.std.proofs.lemmas.List.{length-set, get_or-set_same, get_or-set_other, get_or_append_left, get_or-append_right, get_or-map, length-map, length-append, append_assoc}
+use Rattle.std.proofs.lemmas.List.{length-set, get_or-set_same, get_or-set_other, get_or_append_left, get_or-append_right, length-append, append_assoc}
 use Rattle.std.proofs.lemmas.List.Elements.{recursion_from_All, All-from_recursion}
 use Rattle.std.proofs.lemmas.List.FromFn.{length-range_with_len, get_or-range_with_len, map-range_with_len_more}
 use Rattle.std.proofs.lemmas.Option.{slice_get-get_or}
@@ -86,13 +86,13 @@ all_placed f (suc n) =
     (one_placed (f n) (places_where f n) (places_where (λ i. not (f i)) n) (range_with_len 0 n) n (all_placed f n))
 
 -- so an order, however these are sorted
-pub order_sorted : {A : Type 0} (ts : List (Term A)) (ps qs : List (ℕ × ℕ))
+pub order_sorted : {A : Type 0} (ts : List (Term A)) (ps qs : List ℕ)
     → places ps ≡ places_where (is_linear ts) (length ts) ++ places_where (λ i. not (is_linear ts i)) (length ts)
     → IsPermutation ps qs → IsOrderOf ts (places qs)
 order_sorted ts ps qs is h =
     IsPermutation-trans (range_with_len 0 (length ts)) (places ps) (places qs)
     (subst (IsPermutation (range_with_len 0 (length ts))) (sym is) (all_placed (is_linear ts) (length ts)))
-    (IsPermutation-map (λ p. p.1) ps qs h)
+    (IsPermutation-map (λ w. w % 2097152) ps qs h)
 
 -- as many places as entries, and each of an entry
 pub order_length : {X : Type 0} (xs : List X) (ks : List ℕ) → IsOrderOf xs ks → length ks ≡ length xs
@@ -102,17 +102,6 @@ pub place_below : {X : Type 0} (xs : List X) (ks : List ℕ) → IsOrderOf xs ks
 place_below xs ks h i d l =
     let n = length xs in
     All-permutation (λ k. k < n) (range_with_len 0 n) ks h (λ j e q. omega (arith, q, length-range_with_len 0 n, get_or-range_with_len 0 n j e (omega (arith, q, length-range_with_len 0 n)))) i d l
-
--- places that stand behind numbers
-pub entry_place : (ps : List (ℕ × ℕ)) (i : ℕ) → i < length ps → slice_index_or (places ps) i 0 ≡ (slice_index_or ps i (0, 0)).1
-entry_place ps i l = get_or-map (λ p. p.1) ps i (0, 0) 0 l
-
-pub order_size : {X : Type 0} (xs : List X) (ps : List (ℕ × ℕ)) → IsOrderOf xs (places ps) → length ps ≡ length xs
-order_size xs ps h = sym (length-map ps (λ p. p.1)) ∙ order_length xs (places ps) h
-
-pub place_within : {X : Type 0} (xs : List X) (ps : List (ℕ × ℕ)) → IsOrderOf xs (places ps) → (i : ℕ) → i < length ps → (slice_index_or ps i (0, 0)).1 < length xs
-place_within xs ps h i l =
-    subst (λ n. n < length xs) (entry_place ps i l) (place_below xs (places ps) h i 0 (omega (arith, l, length-map ps (λ p. p.1))))
 
 -- orders of the first n layers
 pub record AreOrdersBelow {A : Type 0} (c : Wiring A) (n : ℕ) (orders : List (List ℕ)) : Type 0 where

@@ -1,6 +1,6 @@
 //! An order of a layer's terms in which equal pairs of wires stand beside each other, and stay so as variables are bound.
 
-ghost use Rattle.std.specs.Prelude.{◌≡◌, ◌<◌, ◌≤◌, IfOk, length};
+ghost use Rattle.std.specs.Prelude.{◌≡◌, ◌%◌, ◌<◌, ◌≤◌, IfOk, length};
 ghost use Rattle.std.specs.List.Sorted.{IsPermutation};
 ghost use Rattle.lzk_layout.specs.Places.{depth};
 ghost use Rattle.lzk_sumcheck.specs.Coefficients.{terms_at};
@@ -35,13 +35,21 @@ fn spaced(number: u32) -> u64 {
     (x | (x << 1)) & 0x5555_5555_5555_5555
 }
 
-// The bits of a and b in turn, so that those which are bound first count least.
+// The bits of a and b in turn, so that those which are bound first count least: 34 bits.
 fn key_of<F: Field>(term: Term<F>) -> u64 {
     spaced(term.a) | (spaced(term.b) << 1)
 }
 
+// A term's number and, below it, the term's place in one word, by which it is sorted.
+fn word_of(key: u64, place: u32) -> u64
+    requires place { place < 2097152 }
+    ensures place { result % 2097152 ≡ place }
+{
+    (key % (1 << 43)) * 2_097_152 + place as u64
+}
+
 // Sorts a list from a place on.
-fn sort_from(list: &mut [(u64, u32)], start: usize)
+fn sort_from(list: &mut [u64], start: usize)
     requires start { start ≤ length list.old }
     ensures { IsPermutation list.old list.new }
 {
@@ -49,9 +57,9 @@ fn sort_from(list: &mut [(u64, u32)], start: usize)
     rest.sort_unstable();
 }
 
-// The places of terms, each behind the number that it is ordered by. Those with wire 0 stand in front, as they were, and only the others are
-// sorted.
-fn sorted_places<F: Field>(alloc: Global, terms: &[Term<F>]) -> Result<Vec<(u64, u32)>, AllocError>
+// The places of terms, each below the number that it is ordered by. Those with wire 0 stand in front, as they were, and
+// only the others are sorted.
+fn sorted_places<F: Field>(alloc: Global, terms: &[Term<F>]) -> Result<Vec<u64>, AllocError>
     requires few { length terms.now ≤ 2097152 }
     ensures { IfOk result (λ list. IsOrderOf terms.now (places list.items)) }
 {
@@ -59,14 +67,14 @@ fn sorted_places<F: Field>(alloc: Global, terms: &[Term<F>]) -> Result<Vec<(u64,
     for i in 0..terms.len() {
         let term = terms[i];
         if term.a == 0 {
-            list.push((0, i as u32))?;
+            list.push(word_of(0, i as u32))?;
         }
     }
     let front = list.len();
     for j in 0..terms.len() {
         let term = terms[j];
         if term.a != 0 {
-            list.push((key_of(term), j as u32))?;
+            list.push(word_of(key_of(term), j as u32))?;
         }
     }
     sort_from(&mut list, front);
@@ -74,10 +82,12 @@ fn sorted_places<F: Field>(alloc: Global, terms: &[Term<F>]) -> Result<Vec<(u64,
 }
 
 // The places alone.
-fn places_of(alloc: Global, list: &[(u64, u32)]) -> Result<Vec<u32>, AllocError>
+fn places_of(alloc: Global, list: &[u64]) -> Result<Vec<u32>, AllocError>
     ensures { IfOk result (λ v. v.items ≡ places list.now) }
 {
-    list.iter().map(|x| x.1).collect(alloc)
+    list.iter()
+        .map(|word| (*word % 2_097_152) as u32)
+        .collect(alloc)
 }
 
 impl Order {

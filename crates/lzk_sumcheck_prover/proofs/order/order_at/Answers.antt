@@ -1,4 +1,4 @@
-use Rattle.std.proofs.Common.{◌∙◌, ◌≤◌, length, ap, arith, subst, IfOk}
+use Rattle.std.proofs.Common.{◌∙◌, length, ap, arith, subst, IfOk}
 use Rattle.lzk_sumcheck_prover.specs.Orders.{IsOrderOf}
 use Rattle.lzk_sumcheck.proofs.LayerShapes.{terms_is, terms_few}
 use Rattle.lzk_sumcheck_prover.proofs.order.order_at.Goals as goal
