@@ -43,13 +43,14 @@ static enum fate fate_of(const char *name) {
 }
 
 static int opened(const char *name, int folder, const char *path, int flags, mode_t mode) {
-  if (flags & O_EXCL) {
-    if (fate_of("open") == FAILS) return -1;
-    note("open", "");
-  }
+  int file;
+  if ((flags & O_EXCL) && fate_of("open") == FAILS) return -1;
   if (!strcmp(name, "openat") || !strcmp(name, "openat64"))
-    return ((int (*)(int, const char *, int, mode_t))real(name))(folder, path, flags, mode);
-  return ((int (*)(const char *, int, mode_t))real(name))(path, flags, mode);
+    file = ((int (*)(int, const char *, int, mode_t))real(name))(folder, path, flags, mode);
+  else
+    file = ((int (*)(const char *, int, mode_t))real(name))(path, flags, mode);
+  if ((flags & O_EXCL) && file >= 0) note("open", "");
+  return file;
 }
 
 #define MODE(flags) \
