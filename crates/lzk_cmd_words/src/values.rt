@@ -1,6 +1,6 @@
 //! What the digits of the keys stand for.
 
-ghost use Rattle.std.specs.Prelude.{◌≡◌, ◌≤◌, IsTrue, IfOk, IfSome};
+ghost use Rattle.std.specs.Prelude.{◌≡◌, ◌≤◌, IsTrue, IfOk, IfSome, None};
 ghost use Rattle.std.specs.Option.{option_copied};
 ghost use Rattle.lzk_cmd_words.specs.Digits.{message_of, seed_of, session_of};
 ghost use Rattle.lzk_cmd_words.specs.Keys.{is_number, number_of};
@@ -49,6 +49,7 @@ pub fn workers_of(digits: Option<&[u8]>) -> usize
     ensures some { 1 ≤ result }
     ensures most { result ≤ 64 }
     ensures number { IfSome (option_copied digits.entry) (λ text. IsTrue (is_number 64 text) → result ≡ number_of text) }
+    ensures default { option_copied digits.entry ≡ None → result ≡ 1 }
 {
     let Some(text) = digits else {
         return 1;

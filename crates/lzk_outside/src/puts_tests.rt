@@ -64,15 +64,27 @@ fn write_with_mode(rt: &HostRuntime, name: &str, mode: u32) -> io::Result<()> {
     fs::set_permissions(rt, name, fs::Permissions::from_mode(mode))
 }
 
+// A file's mode before a put and behind it.
+const MODES: [(u32, u32); 8] = [
+    (0o600, 0o600),
+    (0o640, 0o640),
+    (0o644, 0o644),
+    (0o777, 0o777),
+    (0o444, 0o444),
+    (0o4755, 0o755),
+    (0o2775, 0o775),
+    (0o1644, 0o644),
+];
+
 #[test]
 fn permissions_stay_and_another_name_keeps_the_old_bytes(rt: HostRuntime) -> Result<(), Fail> {
     new_folder(&rt, "put_modes")?;
-    for mode in [0o600, 0o640, 0o644, 0o777, 0o444] {
+    for (mode, kept) in MODES {
         write_with_mode(&rt, "put_modes/a", mode)?;
         fs::hard_link(&rt, "put_modes/a", "put_modes/b")?;
         assert!(rt; put_new(&rt, "put_modes/a")?);
         assert!(rt; holds(&rt, "put_modes/a", b"new")? && holds(&rt, "put_modes/b", b"old")?);
-        assert_eq!(rt; mode_of(&rt, "put_modes/a")?, mode);
+        assert_eq!(rt; mode_of(&rt, "put_modes/a")?, kept);
         fs::remove_file(&rt, "put_modes/a")?;
         fs::remove_file(&rt, "put_modes/b")?;
     }
@@ -80,22 +92,38 @@ fn permissions_stay_and_another_name_keeps_the_old_bytes(rt: HostRuntime) -> Res
     Ok(())
 }
 
+// Another name of the file that a link leads to keeps the old bytes, so this file was put beside itself.
 #[test]
-fn link_is_written_through(rt: HostRuntime) -> Result<(), Fail> {
+fn link_stays_and_leads_to_the_new_file(rt: HostRuntime) -> Result<(), Fail> {
     new_folder(&rt, "put_link")?;
-    fs::write(&rt, "put_link/b", b"older")?;
-    symlink(&rt, "b", "put_link/a")?;
+    fs::create_dir(&rt, "put_link/to")?;
+    fs::write(&rt, "put_link/to/b", b"older")?;
+    fs::hard_link(&rt, "put_link/to/b", "put_link/c")?;
+    symlink(&rt, "to/b", "put_link/next")?;
+    symlink(&rt, "next", "put_link/a")?;
     assert!(rt; put_new(&rt, "put_link/a")?);
-    assert!(rt; is_link(&rt, "put_link/a")? && holds(&rt, "put_link/b", b"new")?);
+    assert!(rt; is_link(&rt, "put_link/a")? && is_link(&rt, "put_link/next")?);
+    assert!(rt; holds(&rt, "put_link/to/b", b"new")? && !is_link(&rt, "put_link/to/b")?);
+    assert!(rt; holds(&rt, "put_link/c", b"older")?);
     fs::remove_dir_all(&rt, "put_link")?;
     Ok(())
 }
 
-// Takes each name that a put of "put_taken/a" tries.
-fn take_names(rt: &HostRuntime) -> io::Result<()> {
+#[test]
+fn link_to_nothing_makes_what_it_leads_to(rt: HostRuntime) -> Result<(), Fail> {
+    new_folder(&rt, "put_dangling")?;
+    symlink(&rt, "b", "put_dangling/a")?;
+    assert!(rt; put_new(&rt, "put_dangling/a")?);
+    assert!(rt; is_link(&rt, "put_dangling/a")? && holds(&rt, "put_dangling/b", b"new")?);
+    fs::remove_dir_all(&rt, "put_dangling")?;
+    Ok(())
+}
+
+// What so many killed puts of "put_taken/a" may leave.
+fn leave_beside(rt: &HostRuntime, count: u32) -> io::Result<()> {
     new_folder(rt, "put_taken")?;
     fs::write(rt, "put_taken/a", b"old")?;
-    for number in 0..100 {
+    for number in 0..count {
         fs::write(
             rt,
             format!(in rt.alloc(); "put_taken/a.{number}.part")?,
@@ -106,15 +134,32 @@ fn take_names(rt: &HostRuntime) -> io::Result<()> {
 }
 
 #[test]
-fn put_fails_where_no_name_is_free(rt: HostRuntime) -> Result<(), Fail> {
-    take_names(&rt)?;
-    assert!(rt; !put_new(&rt, "put_taken/a")?);
-    assert!(rt; holds(&rt, "put_taken/a", b"old")?);
-    fs::remove_file(&rt, "put_taken/a.99.part")?;
+fn files_left_beside_do_not_stop_a_put(rt: HostRuntime) -> Result<(), Fail> {
+    leave_beside(&rt, 250)?;
     assert!(rt; put_new(&rt, "put_taken/a")?);
     assert!(rt; holds(&rt, "put_taken/a", b"new")?);
-    assert!(rt; holds(&rt, "put_taken/a.98.part", b"other")?);
-    assert!(rt; !fs::exists(&rt, "put_taken/a.99.part")?);
+    assert!(rt; holds(&rt, "put_taken/a.249.part", b"other")?);
+    assert!(rt; !fs::exists(&rt, "put_taken/a.250.part")?);
     fs::remove_dir_all(&rt, "put_taken")?;
+    Ok(())
+}
+
+// A name of 250 bytes, so that none is left for a file beside it.
+fn long_name(rt: &HostRuntime) -> io::Result<String> {
+    Ok(format!(in rt.alloc(); "put_long/{:0>250}", "a")?)
+}
+
+#[test]
+fn long_name_is_put_in_place(rt: HostRuntime) -> Result<(), Fail> {
+    new_folder(&rt, "put_long")?;
+    let name = long_name(&rt)?;
+    for old in [b"longer than new".as_slice(), b"", b"old"] {
+        fs::write(&rt, name.as_str(), old)?;
+        fs::hard_link(&rt, name.as_str(), "put_long/b")?;
+        assert!(rt; put_new(&rt, &name)?);
+        assert!(rt; holds(&rt, &name, b"new")? && holds(&rt, "put_long/b", b"new")?);
+        fs::remove_file(&rt, "put_long/b")?;
+    }
+    fs::remove_dir_all(&rt, "put_long")?;
     Ok(())
 }
