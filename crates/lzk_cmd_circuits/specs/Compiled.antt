@@ -6,7 +6,7 @@ use Rattle.lzk_circbytes.specs.Files.{CircuitBytes}
 use Rattle.lzk_circuit.specs.declared.layer.Layer.{Layer}
 use Rattle.lzk_expr.specs.Trees.{SourceTree, is_public, is_private}
 use Rattle.lzk_level.specs.declared.fault.LevelFault.{LevelFault}
-use Rattle.lzk_level.specs.Compiled.{version_of, field_of, publics_of, privates_of, depth_of, HasSourceValues, HasReducedLayers, HasSourceChecks, HasReducedAsserting, source_layers, source_limit, source_limit_v2}
+use Rattle.lzk_level.specs.Compiled.{version_of, field_of, publics_of, privates_of, depth_of, HasSourceValues, HasReducedLayers, HasSourceChecks, HasReducedAsserting, HasFewSourceOutputs, source_layers, source_limit, source_limit_v2}
 use Rattle.lzk_outside.specs.Outside.{Files}
 use Rattle.lzk_cmd_files.specs.Decoded.{circuit_limit, source_files, level_refused}
 use Rattle.lzk_cmd_files.specs.Ends.{End, Stop, puts}
@@ -26,7 +26,7 @@ pub record Compiled (source : SourceTree) (c : AnyCircuit) : Type 0 where
   pub reduced : HasReducedLayers c
 
 -- The circuit of version 2 has the same, but in place of outputs it has checks: as many as the source has asserts, and on every input each assert's check is its value.
--- The asserts' checks stand by depth from the largest, those of one depth in their order.
+-- The asserts' checks stand by depth from the largest, those of one depth in their order, and the first layer has the wires of the two uppermost levels alone.
 pub record CompiledV2 (source : SourceTree) (c : AnyCircuit) : Type 0 where
   pub version_is : version_of c ≡ 2
   pub field_is : field_of c ≡ source.field_is
@@ -34,6 +34,7 @@ pub record CompiledV2 (source : SourceTree) (c : AnyCircuit) : Type 0 where
   pub privates : privates_of c ≡ count_by is_private source.statements
   pub layers : depth_of c ≡ source_layers source
   pub checks : HasSourceChecks source.statements c
+  pub outputs : HasFewSourceOutputs source.statements c
   pub reduced : HasReducedAsserting c
 
 -- the one or the other, by the version that is asked for

@@ -72,7 +72,7 @@ compiled_of : (source : SourceTree) (c : AnyCircuit) → IsCircuitOf source c �
 compiled_of source c is = record { version_is = is.version_is; field_is = is.field_is; publics = is.publics; privates = is.privates; layers = is.layers; outputs = is.outputs; reduced = is.reduced }
 
 compiled_v2_of : (source : SourceTree) (c : AnyCircuit) → IsCircuitOfV2 source c → CompiledV2 source c
-compiled_v2_of source c is = record { version_is = is.version_is; field_is = is.field_is; publics = is.publics; privates = is.privates; layers = is.layers; checks = is.checks; reduced = is.reduced }
+compiled_v2_of source c is = record { version_is = is.version_is; field_is = is.field_is; publics = is.publics; privates = is.privates; layers = is.layers; checks = is.checks; outputs = is.outputs; reduced = is.reduced }
 
 -- a source within the limits of a version has a circuit of it
 some_as : (version : Version) (source : SourceTree) → IsWellFormed source → limit_as version source ≡ None → (c : AnyCircuit) × (bytes : List ℕ) × CompiledAs version source c × CircuitBytes c bytes

@@ -22,9 +22,9 @@ use Rattle.lzk_reduce.proofs.AssertedForm.{some_asserting}
 use Rattle.lzk_reduce.proofs.NormalLaws.{zero_or_not}
 use Rattle.lzk_level.specs.Nodes.{Nodes, node_count, IsNode, node_values}
 use Rattle.lzk_level.specs.Bounds.{node_depths, node_weights, layer_count, wire_bound, total, level_fault_v2}
-use Rattle.lzk_level.specs.Checking.{of_depth, targets_below, HasChecks}
+use Rattle.lzk_level.specs.Checking.{of_depth, targets_below, HasChecks, HasFewOutputs}
 use Rattle.lzk_level.specs.Compiling.{scope, inputs_alone, nodes_of}
-use Rattle.lzk_level.specs.Compiled.{HasCheckedValues, HasAsManyChecks, limit_passed_v2, limit_in_v2, layers_in, layers_needed, IsCompilable}
+use Rattle.lzk_level.specs.Compiled.{HasCheckedValues, HasAsManyChecks, HasFewMade, limit_passed_v2, limit_in_v2, layers_in, layers_needed, IsCompilable}
 use Rattle.lzk_level.specs.SomeCircuit.{HasSomeCircuitV2, SomeCircuitV2}
 use Rattle.lzk_level.proofs.AssertedLaws.{asserts-of, laid, laid-asserting, check-value}
 use Rattle.lzk_level.proofs.CheckingLaws.{depth-each, depth-few}
@@ -43,6 +43,7 @@ module _ {A : Type 0} (o : Ops A) (size : ℕ) (number : A → ℕ) (element : �
     pub layers : length c.layers ≡ layer_count n asserts
     pub count : check_count number c.layers ≡ length asserts
     pub checks : HasChecks o number n asserts c
+    pub outputs : HasFewOutputs n asserts c
     pub reduced : IsReducedAsserting o c.layers
     pub valid : IsValid o c
 
@@ -85,6 +86,7 @@ module _ {A : Type 0} (o : Ops A) (size : ℕ) (number : A → ℕ) (element : �
               let v = ready-values o n.publics n.privates inputs n.made public private refl gates hp hq in
               let begins = ready-inputs o n.publics n.privates inputs n.made public private refl hp hq in
               check-value o depths asserts count values (checks_of o number all ins) k l refl (is.checks values ins v begins);
+          outputs = is.first_count;
           reduced = is.reduced;
           valid = record { version = inr refl; publics = fewer; privates = few; some = omega (arith, high, one); depth = omega (arith, high, w.layers_most); layers = subst (λ k. AreLayersOf o 2 k all) width is.valid };
         },
@@ -98,6 +100,7 @@ module _ {A : Type 0} (o : Ops A) (size : ℕ) (number : A → ℕ) (element : �
     pub layers : length c.layers ≡ layers_needed (nodes_of o element ss)
     pub count : HasAsManyChecks number ss c
     pub checks : HasCheckedValues o number element ss c
+    pub outputs : HasFewMade (nodes_of o element ss) c
     pub reduced : IsReducedAsserting o c.layers
     pub valid : IsValid o c
 
@@ -118,6 +121,7 @@ module _ {A : Type 0} (o : Ops A) (size : ℕ) (number : A → ℕ) (element : �
           layers = is.layers;
           count = is.count ∙ many;
           checks = checked-values o element ss laws.ring number n m.outputs c refl refl good is.publics is.privates is.checks;
+          outputs = is.outputs;
           reduced = is.reduced;
           valid = is.valid;
         },
@@ -132,7 +136,7 @@ has_circuit_v2 source good fits = over source.field_is refl fits
         let (c, is) = made gold.ops p gold.number gold.of_number 8 gold.laws ss good limit in (
           Gold c,
           file_of (shape 1 8 p) (numbered gold.number c),
-          record { version_is = is.version; field_is = sym e; publics = is.publics; privates = is.privates; layers = is.layers ∙ ap (λ g. layers_in g ss) (sym e); checks = (is.count, is.checks); reduced = is.reduced },
+          record { version_is = is.version; field_is = sym e; publics = is.publics; privates = is.privates; layers = is.layers ∙ ap (λ g. layers_in g ss) (sym e); checks = (is.count, is.checks); outputs = is.outputs; reduced = is.reduced },
           file_of-IsFile gold.ops p gold.number gold.of_number 8 gold.laws 1 c is.valid,
         )
     over Gf2_128 e limit =
@@ -140,7 +144,7 @@ has_circuit_v2 source good fits = over source.field_is refl fits
         let (c, is) = made gf.ops (2 ^ 128) gf.number gf.of_number 16 gf.laws ss good limit in (
           Gf c,
           file_of (shape 2 16 (2 ^ 128)) (numbered gf.number c),
-          record { version_is = is.version; field_is = sym e; publics = is.publics; privates = is.privates; layers = is.layers ∙ ap (λ g. layers_in g ss) (sym e); checks = (is.count, is.checks); reduced = is.reduced },
+          record { version_is = is.version; field_is = sym e; publics = is.publics; privates = is.privates; layers = is.layers ∙ ap (λ g. layers_in g ss) (sym e); checks = (is.count, is.checks); outputs = is.outputs; reduced = is.reduced },
           file_of-IsFile gf.ops (2 ^ 128) gf.number gf.of_number 16 gf.laws 2 c is.valid,
         )
 

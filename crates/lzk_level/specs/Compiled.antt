@@ -18,7 +18,7 @@ use Rattle.lzk_expr.specs.declared.ast.FieldId.{FieldId}
 use Rattle.lzk_expr.specs.declared.ast.FieldId.TheVariants.{Goldilocks, Gf2_128}
 use Rattle.lzk_level.specs.declared.fault.LevelFault.{LevelFault}
 use Rattle.lzk_level.specs.Bounds.{layer_count, level_fault, level_fault_v2, node_depths}
-use Rattle.lzk_level.specs.Checking.{check_of}
+use Rattle.lzk_level.specs.Checking.{check_of, HasFewOutputs}
 use Rattle.lzk_level.specs.Compilable.{AreStatementsWithin, statements_size}
 use Rattle.lzk_level.specs.Compiling.{MadeOutputs, nodes_of}
 
@@ -87,6 +87,14 @@ HasSourceChecks ss (Gf c) = HasAsManyChecks gf.number ss c × HasCheckedValues g
 abbrev pub HasReducedAsserting : AnyCircuit → Type 0
 HasReducedAsserting (Gold c) = IsReducedAsserting gold.ops c.layers
 HasReducedAsserting (Gf c) = IsReducedAsserting gf.ops c.layers
+
+-- The first layer has a wire for each asserted node of the two uppermost levels alone: the other asserts stand in inner layers.
+abbrev pub HasFewMade : {A : Type 0} → MadeOutputs A → Wiring A → Type 0
+HasFewMade m c = HasFewOutputs m.nodes m.outputs c
+
+abbrev pub HasFewSourceOutputs : List Statement → AnyCircuit → Type 0
+HasFewSourceOutputs ss (Gold c) = HasFewMade (nodes_of gold.ops gold.of_number ss) c
+HasFewSourceOutputs ss (Gf c) = HasFewMade (nodes_of gf.ops gf.of_number ss) c
 
 -- no inner wire is there twice, or for nothing
 abbrev pub HasReducedLayers : AnyCircuit → Type 0

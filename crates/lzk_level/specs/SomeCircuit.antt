@@ -4,7 +4,7 @@ use Rattle.lzk_circbytes.specs.declared.any.AnyCircuit.{AnyCircuit}
 use Rattle.lzk_circbytes.specs.Files.{CircuitBytes}
 use Rattle.lzk_expr.specs.Sources.{IsWellFormed}
 use Rattle.lzk_expr.specs.Trees.{SourceTree, is_public, is_private}
-use Rattle.lzk_level.specs.Compiled.{version_of, field_of, publics_of, privates_of, depth_of, HasSourceValues, HasReducedLayers, HasSourceChecks, HasReducedAsserting, source_layers, source_limit, source_limit_v2}
+use Rattle.lzk_level.specs.Compiled.{version_of, field_of, publics_of, privates_of, depth_of, HasSourceValues, HasReducedLayers, HasSourceChecks, HasReducedAsserting, source_layers, source_limit, source_limit_v2, HasFewSourceOutputs}
 
 -- The circuit has the source's field and counts, the layers that its nodes need, and on every input the values of its asserts as outputs, one for one; and it is reduced.
 pub record IsCircuitOf (source : SourceTree) (c : AnyCircuit) : Type 0 where
@@ -25,7 +25,7 @@ abbrev pub SomeCircuit : Type 0
 SomeCircuit = (source : SourceTree) → IsWellFormed source → source_limit source ≡ None → HasSomeCircuit source
 
 -- The circuit of version 2 has the source's field and counts, the layers that its nodes need, and a check for each assert that on every input is its
--- value; and it is reduced.
+-- value; its outputs are those of the two uppermost levels alone; and it is reduced.
 pub record IsCircuitOfV2 (source : SourceTree) (c : AnyCircuit) : Type 0 where
   pub version_is : version_of c ≡ 2
   pub field_is : field_of c ≡ source.field_is
@@ -33,6 +33,7 @@ pub record IsCircuitOfV2 (source : SourceTree) (c : AnyCircuit) : Type 0 where
   pub privates : privates_of c ≡ count_by is_private source.statements
   pub layers : depth_of c ≡ source_layers source
   pub checks : HasSourceChecks source.statements c
+  pub outputs : HasFewSourceOutputs source.statements c
   pub reduced : HasReducedAsserting c
 
 abbrev pub HasSomeCircuitV2 : SourceTree → Type 0

@@ -9,6 +9,7 @@ ghost use Rattle.lzk_level.specs.Compiling.{nodes_of};
 ghost use Rattle.lzk_level.specs.Compiled.{IsCompilable, HasCheckedValues, HasAsManyChecks, layers_needed};
 ghost use Rattle.lzk_level.specs.Compiled.{limit_passed_v2, version_of, field_of, publics_of, privates_of, depth_of};
 ghost use Rattle.lzk_level.specs.Compiled.{HasSourceChecks, HasReducedAsserting, source_layers, source_limit_v2};
+ghost use Rattle.lzk_level.specs.Compiled.{HasFewMade, HasFewSourceOutputs};
 
 use crate::compiler::{build, build_dropping};
 use crate::fault::LevelError;
@@ -34,6 +35,7 @@ fn compile_over<F: Field>(
     ensures layers { IfOk result (λ c. length c.layers ≡ layers_needed (nodes_of F.ops F.coding.element (statements_of statements.now))) }
     ensures count { IfOk result (HasAsManyChecks F.coding.number (statements_of statements.now)) }
     ensures checks { IfOk result (HasCheckedValues F.ops F.coding.number F.coding.element (statements_of statements.now)) }
+    ensures outputs { IfOk result (HasFewMade (nodes_of F.ops F.coding.element (statements_of statements.now))) }
     ensures reduced { IfOk result (λ c. IsReducedAsserting F.ops c.layers) }
     ensures within { IfOk result (λ _. limit_passed_v2 (nodes_of F.ops F.coding.element (statements_of statements.now)) ≡ None) }
     ensures fault { IfErr result (IsFaultOf (limit_passed_v2 (nodes_of F.ops F.coding.element (statements_of statements.now)))) }
@@ -51,6 +53,7 @@ pub fn compile_v2(alloc: Global, source: &Source) -> Result<AnyCircuit, LevelErr
     ensures privates { IfOk result (λ c. privates_of c ≡ count_by is_private (statements_of source.now.statements)) }
     ensures layers { IfOk result (λ c. depth_of c ≡ source_layers (tree_of source.now)) }
     ensures checks { IfOk result (HasSourceChecks (statements_of source.now.statements)) }
+    ensures outputs { IfOk result (HasFewSourceOutputs (statements_of source.now.statements)) }
     ensures reduced { IfOk result HasReducedAsserting }
     ensures within { IfOk result (λ _. source_limit_v2 (tree_of source.now) ≡ None) }
     ensures fault { IfErr result (IsFaultOf (source_limit_v2 (tree_of source.now))) }
@@ -74,6 +77,7 @@ fn compile_dropping<F: Field>(alloc: Global, source: Source) -> Result<Circuit<F
     ensures layers { IfOk result (λ c. length c.layers ≡ layers_needed (nodes_of F.ops F.coding.element (statements_of source.statements))) }
     ensures count { IfOk result (HasAsManyChecks F.coding.number (statements_of source.statements)) }
     ensures checks { IfOk result (HasCheckedValues F.ops F.coding.number F.coding.element (statements_of source.statements)) }
+    ensures outputs { IfOk result (HasFewMade (nodes_of F.ops F.coding.element (statements_of source.statements))) }
     ensures reduced { IfOk result (λ c. IsReducedAsserting F.ops c.layers) }
     ensures within { IfOk result (λ _. limit_passed_v2 (nodes_of F.ops F.coding.element (statements_of source.statements)) ≡ None) }
     ensures fault { IfErr result (IsFaultOf (limit_passed_v2 (nodes_of F.ops F.coding.element (statements_of source.statements)))) }
@@ -90,6 +94,7 @@ pub fn compile_owned_v2(alloc: Global, source: Source) -> Result<AnyCircuit, Lev
     ensures privates { IfOk result (λ c. privates_of c ≡ count_by is_private (statements_of source.statements)) }
     ensures layers { IfOk result (λ c. depth_of c ≡ source_layers (tree_of source)) }
     ensures checks { IfOk result (HasSourceChecks (statements_of source.statements)) }
+    ensures outputs { IfOk result (HasFewSourceOutputs (statements_of source.statements)) }
     ensures reduced { IfOk result HasReducedAsserting }
     ensures within { IfOk result (λ _. source_limit_v2 (tree_of source) ≡ None) }
     ensures fault { IfErr result (IsFaultOf (source_limit_v2 (tree_of source))) }

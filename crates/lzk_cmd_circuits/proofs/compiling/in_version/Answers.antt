@@ -10,4 +10,4 @@ returns-in-One-clause-compiled c =
 pub returns-in-Two-clause-compiled : goal.returns-in-Two-clause-compiled
 returns-in-Two-clause-compiled c =
     let made = c.compile_owned_v2.ensures in
-    rw c.in-Two.is (compiled_two (tree_of c.args.source) c.compile_owned_v2.result made.version made.field made.publics made.privates made.layers made.checks made.reduced)
+    rw c.in-Two.is (compiled_two (tree_of c.args.source) c.compile_owned_v2.result made.version made.field made.publics made.privates made.layers made.checks made.outputs made.reduced)
