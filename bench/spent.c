@@ -1,5 +1,5 @@
-/* spent PROGRAM WORD..: runs a program with its output thrown away, and prints its status, its processor time in microseconds and the
-   most memory that it held in kilobytes. A script's own child would count the memory of the script. */
+/* spent PROGRAM WORD..: runs a program with its output thrown away, and prints its status, its processor time in microseconds, the
+   most memory that it held in kilobytes and how many pages it touched first. A script's own child would count the memory of the script. */
 #include <fcntl.h>
 #include <stdio.h>
 #include <sys/resource.h>
@@ -23,6 +23,7 @@ int main(int count, char **words) {
         _exit(127);
     }
     if (wait4(child, &status, 0, &used) < 0) return 2;
-    printf("%d %ld %ld\n", WIFEXITED(status) ? WEXITSTATUS(status) : -1, micros(used.ru_utime) + micros(used.ru_stime), used.ru_maxrss);
+    printf("%d %ld %ld %ld\n", WIFEXITED(status) ? WEXITSTATUS(status) : -1, micros(used.ru_utime) + micros(used.ru_stime), used.ru_maxrss,
+           used.ru_minflt);
     return 0;
 }
