@@ -1,11 +1,12 @@
-"""Verifies proofs over one circuit by a pool of four threads:  verify.py LIBRARY CIRCUIT PUBLIC PROOF..
+"""Verifies proofs over one circuit by a pool of four threads:  verify.py CIRCUIT PUBLIC PROOF..
 
-Prints a line for each proof, in order. Ends with the greatest answer.
+Prints a line for each proof, in order. Ends with 1 where one is rejected. Needs the package `lzk`: PYTHONPATH=../../python, or pip.
 """
 
 import sys
+from concurrent.futures import ThreadPoolExecutor
 
-from lzk import Library, line
+import lzk
 
 
 def read(name):
@@ -13,11 +14,11 @@ def read(name):
         return file.read()
 
 
-if len(sys.argv) < 5:
+if len(sys.argv) < 4:
     sys.exit(__doc__)
-library = Library(sys.argv[1])
-circuit, public = read(sys.argv[2]), read(sys.argv[3])
-reports = library.explain_all([(circuit, public, b"", read(name)) for name in sys.argv[4:]], workers=4)
-for report in reports:
-    print(line(report))
-sys.exit(max(report.answer for report in reports))
+circuit, public = read(sys.argv[1]), read(sys.argv[2])
+with ThreadPoolExecutor(4) as pool:
+    verdicts = list(pool.map(lambda name: lzk.explain(circuit, public, read(name)), sys.argv[3:]))
+for verdict in verdicts:
+    print(verdict)
+sys.exit(not all(verdicts))

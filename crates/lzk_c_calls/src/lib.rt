@@ -1,0 +1,63 @@
+//! Statements for programs in C, and in any language that calls C: compile, show and evaluate.
+//!
+//! `include/lzk.h` declares what is here. A caller hands in bytes and room for bytes, and is told what came of it. Nothing is
+//! kept between calls, no thread is started, no file is read, and nothing is printed. No call asks anything of its caller but
+//! that each pointer leads to as many bytes as are said.
+//!
+//! ```text
+//! lzk_outcome found;
+//! if (lzk_compile(1, source, source_len, room, sizeof room, &found) == LZK_DONE) keep(room, found.count);
+//! ```
+#![tactic(auto)]
+
+ghost use Rattle.std.specs.Prelude.{◌≡◌};
+ghost use Rattle.lzk_calls.specs.Exports.{Compiles, Evaluates};
+ghost use Rattle.lzk_calls.specs.Shown.{Shows};
+
+use lzk_calls::{Info, Outcome, compile_text, evaluate, info_of, outcome_of};
+use std::alloc::Global;
+
+/// Compiles a source's text to a circuit's file, in version 1 or 2, and puts it into a room.
+#[unsafe(no_mangle)]
+pub extern "C" fn lzk_compile(
+    alloc: Global,
+    version: u32,
+    source: &[u8],
+    room: &mut [u8],
+    outcome: &mut Outcome,
+) -> u32
+    ensures told { Compiles version source.now room.old room.new outcome.new }
+    ensures answer { result ≡ outcome.new.answer }
+{
+    let told = outcome_of(compile_text(alloc, version, source, room));
+    *outcome = told;
+    told.answer
+}
+
+/// Writes what a circuit's file holds.
+#[unsafe(no_mangle)]
+pub extern "C" fn lzk_circuit_info(alloc: Global, circuit: &[u8], info: &mut Info) -> u32
+    ensures told { Shows circuit.now info.new }
+    ensures answer { result ≡ info.new.answer }
+{
+    let told = info_of(alloc, circuit);
+    *info = told;
+    told.answer
+}
+
+/// Evaluates a circuit, and writes the first check that is not 0.
+#[unsafe(no_mangle)]
+pub extern "C" fn lzk_eval(
+    alloc: Global,
+    circuit: &[u8],
+    public: &[u8],
+    private: &[u8],
+    outcome: &mut Outcome,
+) -> u32
+    ensures told { Evaluates circuit.now public.now private.now outcome.new }
+    ensures answer { result ≡ outcome.new.answer }
+{
+    let told = outcome_of(evaluate(alloc, circuit, public, private));
+    *outcome = told;
+    told.answer
+}

@@ -1,0 +1,115 @@
+//! A source's circuit, as a file.
+
+ghost use Rattle.std.specs.Prelude.{◌≡◌, ◌≤◌, None, length, IfErr, IfOk, OnOk};
+ghost use Rattle.lzk_circbytes.specs.Files.{CircuitBytes};
+ghost use Rattle.lzk_expr.specs.View.{tree_of};
+ghost use Rattle.lzk_expr.specs.Sources.{SourceText};
+ghost use Rattle.lzk_level.specs.Bounds.{IsFaultOf};
+ghost use Rattle.lzk_calls.specs.Compiled.{CompiledAs, Compiles, CompilesAs, IsFileOf, IsUncompiled, limit_as};
+
+use crate::refusal::Refusal;
+use crate::room::put;
+use crate::version::{Version, version_of};
+use lzk_circbytes::{AnyCircuit, encode};
+use lzk_expr::{Source, SourceError, parse};
+use lzk_level::{LevelError, compile_owned, compile_owned_v2};
+use std::alloc::{AllocError, Global};
+
+/// The most bytes of a text.
+pub const MOST_TEXT: usize = 4_194_304;
+
+// The source of a text.
+fn source_of(alloc: Global, version: Version, text: &[u8]) -> Result<Source, Refusal>
+    ensures source { IfOk result (λ source. SourceText text.now (tree_of source)) }
+    ensures short { OnOk result (length text.now ≤ 4194304) }
+    ensures refused { IfErr result (IsUncompiled version text.now) }
+{
+    if text.len() > MOST_TEXT {
+        return Err(Refusal::TooLong);
+    }
+    match parse(alloc, text) {
+        Ok(source) => Ok(source),
+        Err(SourceError::Fault(fault)) => Err(Refusal::NoSource(fault)),
+        Err(SourceError::OutOfMemory) => Err(Refusal::OutOfMemory),
+    }
+}
+
+// The circuit of a source in this version.
+fn in_version(alloc: Global, source: Source, version: Version) -> Result<AnyCircuit, LevelError>
+    ensures compiled { IfOk result (CompiledAs version (tree_of source)) }
+    ensures within { IfOk result (λ _. limit_as version (tree_of source) ≡ None) }
+    ensures fault { IfErr result (IsFaultOf (limit_as version (tree_of source))) }
+{
+    match version {
+        Version::One => compile_owned(alloc, source),
+        Version::Two => compile_owned_v2(alloc, source),
+    }
+}
+
+// The file of a circuit, which has no other use.
+fn file_of(alloc: Global, circuit: AnyCircuit) -> Result<Vec<u8>, AllocError>
+    ensures { IfOk result (λ bytes. CircuitBytes circuit bytes.items) }
+{
+    match &circuit {
+        AnyCircuit::Gold(c) => encode(alloc, c),
+        AnyCircuit::Gf(c) => encode(alloc, c),
+    }
+}
+
+// The file of a source's circuit.
+fn compiled_of(
+    alloc: Global,
+    version: Version,
+    text: &[u8],
+    source: Source,
+) -> Result<Vec<u8>, Refusal>
+    requires short { length text.now ≤ 4194304 }
+    requires source { SourceText text.now (tree_of source) }
+    ensures file { IfOk result (λ bytes. IsFileOf version text.now bytes.items) }
+    ensures refused { IfErr result (IsUncompiled version text.now) }
+{
+    match in_version(alloc, source, version) {
+        Ok(circuit) => match file_of(alloc, circuit) {
+            Ok(bytes) => Ok(bytes),
+            Err(_) => Err(Refusal::OutOfMemory),
+        },
+        Err(LevelError::Fault(fault)) => Err(Refusal::OverLimit(fault)),
+        Err(LevelError::OutOfMemory) => Err(Refusal::OutOfMemory),
+    }
+}
+
+// The file of a text's circuit.
+fn compiled(alloc: Global, version: Version, text: &[u8]) -> Result<Vec<u8>, Refusal>
+    ensures file { IfOk result (λ bytes. IsFileOf version text.now bytes.items) }
+    ensures refused { IfErr result (IsUncompiled version text.now) }
+{
+    match source_of(alloc, version, text) {
+        Ok(source) => compiled_of(alloc, version, text, source),
+        Err(refusal) => Err(refusal),
+    }
+}
+
+// The same, put into a room.
+fn compile_as(alloc: Global, version: Version, text: &[u8], room: &mut [u8]) -> Result<u64, Refusal>
+    ensures { CompilesAs version text.now room.old room.new result }
+{
+    match compiled(alloc, version, text) {
+        Ok(bytes) => put(&bytes, room),
+        Err(refusal) => Err(refusal),
+    }
+}
+
+/// The file of a text's circuit in the version with this number, put into a room. How many bytes it has.
+pub fn compile_text(
+    alloc: Global,
+    version: u32,
+    text: &[u8],
+    room: &mut [u8],
+) -> Result<u64, Refusal>
+    ensures { Compiles version text.now room.old room.new result }
+{
+    match version_of(version) {
+        Some(version) => compile_as(alloc, version, text, room),
+        None => Err(Refusal::NoVersion),
+    }
+}

@@ -1,0 +1,136 @@
+// Longfellow ZK for C++17: include/lzk.h with strings of bytes, exceptions and a desk that frees itself.
+//
+//   auto circuit = lzk::compile("field goldilocks\npublic y\nprivate x\nassert x*x = y\n");
+//   auto proof = lzk::prove(circuit, "9", "3", "nonce", seed);
+//   if (lzk::verify(circuit, "9", "nonce", proof)) ..
+//
+// The circuit is the statement: take it from your own store, and never from who sends the proof.
+#ifndef LZK_HPP
+#define LZK_HPP
+
+#include "lzk.h"
+#include <array>
+#include <memory>
+#include <new>
+#include <stdexcept>
+#include <string>
+#include <string_view>
+
+namespace lzk {
+
+using bytes = std::string;       // any bytes
+using view = std::string_view;   // the same, of somebody else
+using seed_bytes = std::array<uint8_t, 32>;
+
+// Why there is no answer. Want of memory is std::bad_alloc.
+class error : public std::runtime_error {
+public:
+  explicit error(const lzk_outcome &found) : std::runtime_error(name(found.answer)), outcome(found) {}
+  lzk_outcome outcome; // of a circuit or public numbers that a verifier refuses: answer, kind, line and offset
+
+  static const char *name(uint32_t answer) {
+    switch (answer) {
+    case LZK_TOO_LONG: return "lzk: a session or a text is too long";
+    case LZK_NO_CIRCUIT: return "lzk: no circuit's file";
+    case LZK_NO_NUMBERS: return "lzk: not the circuit's public numbers";
+    case LZK_NO_SOURCE: return "lzk: no source";
+    case LZK_UNSATISFIED: return "lzk: the numbers do not satisfy the circuit";
+    case LZK_NO_PRIVATES: return "lzk: not the circuit's private numbers";
+    case LZK_OVER_LIMIT: return "lzk: the circuit would pass a limit";
+    case LZK_NO_VERSION: return "lzk: no such version";
+    default: return "lzk: NULL";
+    }
+  }
+};
+
+// What was found of a proof. It is true where the proof is accepted.
+struct [[nodiscard]] verdict {
+  lzk_report report;
+  explicit operator bool() const { return report.answer == LZK_ACCEPTED; }
+};
+
+namespace detail {
+inline const uint8_t *at(view v) { return reinterpret_cast<const uint8_t *>(v.data()); }
+
+inline void check(const lzk_outcome &found) {
+  if (found.answer == LZK_NO_MEMORY) throw std::bad_alloc();
+  if (found.answer != LZK_DONE) throw error(found);
+}
+
+inline void check(uint32_t answer, uint32_t kind = 0, uint32_t line = 0, uint64_t offset = 0) {
+  lzk_outcome found = {};
+  found.answer = answer, found.kind = kind, found.line = line, found.offset = offset;
+  check(found);
+}
+
+inline verdict judged(const lzk_report &report) {
+  if (report.answer > LZK_REJECTED) check(report.answer, report.kind, report.line, report.offset);
+  return {report};
+}
+} // namespace detail
+
+inline bytes compile(view source, uint32_t version = 1) {
+  bytes room(65536, '\0');
+  lzk_outcome found;
+  while (lzk_compile(version, detail::at(source), source.size(), reinterpret_cast<uint8_t *>(&room[0]), room.size(), &found) == LZK_NO_ROOM)
+    room.resize(found.count);
+  detail::check(found);
+  room.resize(found.count);
+  return room;
+}
+
+inline lzk_info circuit_info(view circuit) {
+  lzk_info info;
+  lzk_circuit_info(detail::at(circuit), circuit.size(), &info);
+  detail::check(info.answer, info.kind, 0, info.offset);
+  return info;
+}
+
+inline void evaluate(view circuit, view public_numbers, view private_numbers) {
+  lzk_outcome found;
+  lzk_eval(detail::at(circuit), circuit.size(), detail::at(public_numbers), public_numbers.size(), detail::at(private_numbers), private_numbers.size(), &found);
+  detail::check(found);
+}
+
+// The seed is 32 bytes that nobody else can guess, new for each proof.
+inline bytes prove(view circuit, view public_numbers, view private_numbers, view session, const seed_bytes &seed) {
+  bytes room(LZK_MOST_PROOF, '\0');
+  lzk_outcome found;
+  lzk_prove(detail::at(circuit), circuit.size(), detail::at(public_numbers), public_numbers.size(), detail::at(private_numbers), private_numbers.size(),
+            detail::at(session), session.size(), seed.data(), reinterpret_cast<uint8_t *>(&room[0]), room.size(), &found);
+  detail::check(found);
+  room.resize(found.count);
+  return room;
+}
+
+inline verdict verify(view circuit, view public_numbers, view session, view proof) {
+  lzk_report report;
+  lzk_explain(detail::at(circuit), circuit.size(), detail::at(public_numbers), public_numbers.size(), detail::at(session), session.size(),
+              detail::at(proof), proof.size(), &report);
+  return detail::judged(report);
+}
+
+// A verifier that is fed a proof while it arrives.
+class desk {
+public:
+  desk(view circuit, view public_numbers, view session) {
+    lzk_desk *made;
+    detail::check(lzk_desk_open(&made, detail::at(circuit), circuit.size(), detail::at(public_numbers), public_numbers.size(), detail::at(session), session.size()));
+    held.reset(made);
+  }
+  void feed(view piece) { detail::check(lzk_desk_feed(held.get(), detail::at(piece), piece.size())); }
+  verdict end() {
+    lzk_report report;
+    lzk_desk_end(held.get(), &report);
+    return detail::judged(report);
+  }
+
+private:
+  struct free_desk {
+    void operator()(lzk_desk *it) const { lzk_desk_free(it); }
+  };
+  std::unique_ptr<lzk_desk, free_desk> held;
+};
+
+} // namespace lzk
+#endif

@@ -1,0 +1,394 @@
+//! Longfellow ZK: compile a statement, prove it, verify a proof.
+//!
+//! ```
+//! # fn main() -> Result<(), lzk::Error> {
+//! let circuit = lzk::compile("field goldilocks\npublic y\nprivate x\nassert x*x = y\n", lzk::Version::One)?;
+//! let seed = lzk::fresh_seed().expect("the system's random numbers");
+//! let proof = lzk::prove(&circuit, &lzk::text(&[9]), &lzk::text(&[3]), b"nonce", &seed)?;
+//! assert!(lzk::verify(&circuit, &lzk::text(&[9]), b"nonce", &proof)?.is_accepted());
+//! # Ok(())
+//! # }
+//! ```
+//!
+//! The circuit is the statement: take it from your own store, and never from who sends the proof. The code of the calls is proved
+//! (docs/EMBEDDING.md); this crate only hands them slices.
+#![warn(missing_docs)]
+
+use std::fmt;
+use std::io::{self, Read};
+
+mod raw;
+
+/// No proof's file has more bytes.
+pub const MOST_PROOF: usize = 2_097_152;
+
+/// A circuit's version.
+#[derive(Clone, Copy, Debug, PartialEq, Eq)]
+pub enum Version {
+    /// Each assert is an output.
+    One = 1,
+    /// An assert is an assertion term where it stands: smaller where asserts have many depths.
+    Two = 2,
+}
+
+/// Why there is no answer. Numbers of rules are those of include/lzk.h.
+#[derive(Clone, Copy, Debug, PartialEq, Eq)]
+#[non_exhaustive]
+pub enum Error {
+    /// A session has more than 64 bytes, or a text more than 4,194,304.
+    TooLong,
+    /// The bytes are no circuit's file.
+    NoCircuit {
+        /// The rule that is broken.
+        rule: u32,
+        /// The byte where it is broken.
+        offset: u64,
+    },
+    /// The text has not the circuit's public numbers.
+    NoPublics {
+        /// The rule that is broken.
+        rule: u32,
+        /// The line, from 1.
+        line: u32,
+    },
+    /// The text has not the circuit's private numbers.
+    NoPrivates {
+        /// The rule that is broken.
+        rule: u32,
+        /// The line, from 1.
+        line: u32,
+    },
+    /// The text is no source.
+    NoSource {
+        /// The rule that is broken.
+        rule: u32,
+        /// The line, from 1.
+        line: u32,
+    },
+    /// The source's circuit would pass a limit.
+    OverLimit {
+        /// Which: 1 layers, 2 wires of a layer, 3 terms.
+        limit: u32,
+        /// The number that passes it.
+        count: u64,
+    },
+    /// The numbers do not satisfy the circuit.
+    Unsatisfied {
+        /// The first check that is not 0.
+        check: u32,
+        /// Its value.
+        value: u128,
+    },
+    /// There was no memory.
+    NoMemory,
+    /// The library is of another version.
+    OtherVersion,
+}
+
+impl fmt::Display for Error {
+    fn fmt(&self, f: &mut fmt::Formatter<'_>) -> fmt::Result {
+        match self {
+            Error::TooLong => write!(f, "a session or a text is too long"),
+            Error::NoCircuit { rule, offset } => write!(f, "circuit at byte {offset}: rule {rule}"),
+            Error::NoPublics { rule, line } => write!(f, "public numbers at line {line}: rule {rule}"),
+            Error::NoPrivates { rule, line } => write!(f, "private numbers at line {line}: rule {rule}"),
+            Error::NoSource { rule, line } => write!(f, "source at line {line}: rule {rule}"),
+            Error::OverLimit { limit, count } => write!(f, "limit {limit} is passed by {count}"),
+            Error::Unsatisfied { check, value } => write!(f, "check {check} is {value}"),
+            Error::NoMemory => write!(f, "no memory"),
+            Error::OtherVersion => write!(f, "the library is of another version"),
+        }
+    }
+}
+
+impl std::error::Error for Error {}
+
+/// What was found of a proof.
+#[must_use]
+#[derive(Clone, Copy, Debug, PartialEq, Eq)]
+pub enum Verdict {
+    /// All checks hold.
+    Accepted,
+    /// The bytes are no proof's file for this circuit.
+    Format {
+        /// The rule that is broken.
+        rule: u32,
+        /// The byte where it is broken.
+        offset: u64,
+    },
+    /// It is for the circuit with this id.
+    CircuitId([u8; 32]),
+    /// The path has another length, as for another session or other public numbers.
+    PathCount {
+        /// How many digests it has.
+        found: u32,
+        /// How many it needs.
+        needed: u32,
+    },
+    /// The opened columns are not those that were committed to.
+    Root([u8; 32]),
+    /// The low degree answer fails at this column.
+    LowDegree(u32),
+    /// The linear answer has another sum.
+    LinearSum {
+        /// The sum that was found.
+        found: u128,
+        /// The sum that was wanted.
+        wanted: u128,
+    },
+    /// The linear answer fails at this column.
+    Linear(u32),
+    /// The quadratic answer fails at this column.
+    Quadratic(u32),
+}
+
+impl Verdict {
+    /// Whether all checks hold.
+    #[must_use]
+    pub fn is_accepted(&self) -> bool {
+        *self == Verdict::Accepted
+    }
+}
+
+/// The field of a circuit.
+#[derive(Clone, Copy, Debug, PartialEq, Eq)]
+pub enum Field {
+    /// The numbers below 2^64 - 2^32 + 1.
+    Goldilocks,
+    /// Polynomials modulo x^128 + x^7 + x^2 + x + 1.
+    Gf2_128,
+}
+
+/// What a circuit's file holds.
+#[derive(Clone, Copy, Debug, PartialEq, Eq)]
+pub struct Info {
+    /// Its field.
+    pub field: Field,
+    /// Its version.
+    pub version: u32,
+    /// How many public numbers.
+    pub publics: u32,
+    /// How many private numbers.
+    pub privates: u32,
+    /// How many layers.
+    pub layers: u32,
+    /// How many checks.
+    pub checks: u32,
+    /// SHA-256 of the file.
+    pub id: [u8; 32],
+}
+
+fn version_fits() -> Result<(), Error> {
+    // No pointer is handed over.
+    if unsafe { raw::lzk_version() } == 2 { Ok(()) } else { Err(Error::OtherVersion) }
+}
+
+fn done(found: &raw::Outcome) -> Result<usize, Error> {
+    let (rule, line) = (found.kind, found.line);
+    Err(match found.answer {
+        0 => return Ok(found.count as usize),
+        2 => Error::TooLong,
+        3 => Error::NoCircuit { rule, offset: found.offset },
+        4 => Error::NoPublics { rule, line },
+        5 => Error::NoSource { rule, line },
+        8 => Error::Unsatisfied { check: found.check, value: u128::from_le_bytes(found.value) },
+        9 => Error::NoPrivates { rule, line },
+        10 => Error::OverLimit { limit: rule, count: found.count },
+        _ => Error::NoMemory,
+    })
+}
+
+fn verdict(found: &raw::Report) -> Result<Verdict, Error> {
+    let (rule, line) = (found.kind, found.line);
+    match found.answer {
+        0 => return Ok(Verdict::Accepted),
+        1 => (),
+        2 => return Err(Error::TooLong),
+        3 => return Err(Error::NoCircuit { rule, offset: found.offset }),
+        4 => return Err(Error::NoPublics { rule, line }),
+        _ => return Err(Error::NoMemory),
+    }
+    Ok(match found.check {
+        1 => Verdict::Format { rule, offset: found.offset },
+        2 => Verdict::CircuitId(found.found_digest),
+        3 => Verdict::PathCount { found: found.found_count, needed: found.needed_count },
+        4 => Verdict::Root(found.found_digest),
+        5 => Verdict::LowDegree(found.column),
+        6 => Verdict::LinearSum { found: u128::from_le_bytes(found.found_sum), wanted: u128::from_le_bytes(found.wanted_sum) },
+        7 => Verdict::Linear(found.column),
+        _ => Verdict::Quadratic(found.column),
+    })
+}
+
+/// The text of these numbers, as the calls take them: a line each.
+#[must_use]
+pub fn text(numbers: &[u128]) -> Vec<u8> {
+    numbers.iter().flat_map(|number| format!("{number}\n").into_bytes()).collect()
+}
+
+/// 32 bytes of the system's random numbers: a seed for one proof.
+///
+/// # Errors
+///
+/// The system gives none.
+pub fn fresh_seed() -> io::Result<[u8; 32]> {
+    let mut seed = [0; 32];
+    std::fs::File::open("/dev/urandom")?.read_exact(&mut seed)?;
+    Ok(seed)
+}
+
+/// The file of a statement's circuit.
+///
+/// # Errors
+///
+/// `NoSource`, `OverLimit`, `TooLong`, `NoMemory`.
+pub fn compile(source: &str, version: Version) -> Result<Vec<u8>, Error> {
+    version_fits()?;
+    let mut room = vec![0; 65_536];
+    loop {
+        let mut found = raw::Outcome::default();
+        // Each pointer leads to as many bytes as are said, and nothing else has what is written.
+        unsafe { raw::lzk_compile(version as u32, source.as_ptr(), source.len(), room.as_mut_ptr(), room.len(), &mut found) };
+        if found.answer == 7 {
+            room = vec![0; found.count as usize];
+            continue;
+        }
+        room.truncate(done(&found)?);
+        return Ok(room);
+    }
+}
+
+/// What a circuit's file holds.
+///
+/// # Errors
+///
+/// `NoCircuit`, `NoMemory`.
+pub fn circuit_info(circuit: &[u8]) -> Result<Info, Error> {
+    version_fits()?;
+    let mut found = raw::Info::default();
+    unsafe { raw::lzk_circuit_info(circuit.as_ptr(), circuit.len(), &mut found) };
+    match found.answer {
+        0 => Ok(Info {
+            field: if found.field == 1 { Field::Goldilocks } else { Field::Gf2_128 },
+            version: found.version,
+            publics: found.publics,
+            privates: found.privates,
+            layers: found.layers,
+            checks: found.checks,
+            id: found.id,
+        }),
+        3 => Err(Error::NoCircuit { rule: found.kind, offset: found.offset }),
+        _ => Err(Error::NoMemory),
+    }
+}
+
+/// Whether the numbers of two texts satisfy a circuit.
+///
+/// # Errors
+///
+/// `Unsatisfied` where they do not; `NoCircuit`, `NoPublics`, `NoPrivates`, `TooLong`, `NoMemory`.
+pub fn evaluate(circuit: &[u8], public: &[u8], private: &[u8]) -> Result<(), Error> {
+    version_fits()?;
+    let mut found = raw::Outcome::default();
+    unsafe { raw::lzk_eval(circuit.as_ptr(), circuit.len(), public.as_ptr(), public.len(), private.as_ptr(), private.len(), &mut found) };
+    done(&found).map(|_| ())
+}
+
+/// The proof that the numbers of two texts satisfy a circuit. The seed is 32 bytes that nobody else can guess, new for each proof:
+/// who knows it knows the private numbers. The same seed gives the same bytes. The caller's thread does all the work. Clear your own copies of
+/// seed and private numbers: the library clears the memory that it takes, but not the stack.
+///
+/// # Errors
+///
+/// As `evaluate`.
+pub fn prove(circuit: &[u8], public: &[u8], private: &[u8], session: &[u8], seed: &[u8; 32]) -> Result<Vec<u8>, Error> {
+    version_fits()?;
+    let (mut room, mut found) = (vec![0; MOST_PROOF], raw::Outcome::default());
+    unsafe {
+        raw::lzk_prove(
+            circuit.as_ptr(), circuit.len(), public.as_ptr(), public.len(), private.as_ptr(), private.len(), session.as_ptr(), session.len(),
+            seed.as_ptr(), room.as_mut_ptr(), room.len(), &mut found,
+        )
+    };
+    room.truncate(done(&found)?);
+    room.shrink_to_fit();
+    Ok(room)
+}
+
+/// The verdict on a proof.
+///
+/// # Errors
+///
+/// `NoCircuit`, `NoPublics`, `TooLong`, `NoMemory`.
+pub fn verify(circuit: &[u8], public: &[u8], session: &[u8], proof: &[u8]) -> Result<Verdict, Error> {
+    version_fits()?;
+    let mut found = raw::Report::default();
+    unsafe {
+        raw::lzk_explain(
+            circuit.as_ptr(), circuit.len(), public.as_ptr(), public.len(), session.as_ptr(), session.len(), proof.as_ptr(), proof.len(), &mut found,
+        )
+    };
+    verdict(&found)
+}
+
+/// A verifier that is fed a proof while it arrives.
+///
+/// ```
+/// # fn main() -> Result<(), lzk::Error> {
+/// # let circuit = lzk::compile("field goldilocks\npublic y\nprivate x\nassert x*x = y\n", lzk::Version::One)?;
+/// # let proof = lzk::prove(&circuit, b"9", b"3", b"nonce", &[7; 32])?;
+/// let mut desk = lzk::Desk::open(&circuit, b"9", b"nonce")?;
+/// for piece in proof.chunks(1000) {
+///     desk.feed(piece)?;
+/// }
+/// assert!(desk.end()?.is_accepted());
+/// # Ok(())
+/// # }
+/// ```
+pub struct Desk(*mut raw::Desk);
+
+// A desk is its owner's alone, and keeps nothing of a thread.
+unsafe impl Send for Desk {}
+
+impl Desk {
+    /// A desk for proofs over this circuit, of these public numbers, for this session. They are looked at by `end`.
+    ///
+    /// # Errors
+    ///
+    /// `TooLong`, `NoMemory`.
+    pub fn open(circuit: &[u8], public: &[u8], session: &[u8]) -> Result<Desk, Error> {
+        version_fits()?;
+        let mut desk = std::ptr::null_mut();
+        let answer = unsafe {
+            raw::lzk_desk_open(&mut desk, circuit.as_ptr(), circuit.len(), public.as_ptr(), public.len(), session.as_ptr(), session.len())
+        };
+        done(&raw::Outcome { answer, ..Default::default() }).map(|_| Desk(desk))
+    }
+
+    /// The next bytes of the proof.
+    ///
+    /// # Errors
+    ///
+    /// `NoMemory`: feed them again.
+    pub fn feed(&mut self, piece: &[u8]) -> Result<(), Error> {
+        let answer = unsafe { raw::lzk_desk_feed(self.0, piece.as_ptr(), piece.len()) };
+        done(&raw::Outcome { answer, ..Default::default() }).map(|_| ())
+    }
+
+    /// The verdict on all that was fed. The desk is ready for the next proof.
+    ///
+    /// # Errors
+    ///
+    /// `NoCircuit`, `NoPublics`, `NoMemory`.
+    pub fn end(&mut self) -> Result<Verdict, Error> {
+        let mut found = raw::Report::default();
+        unsafe { raw::lzk_desk_end(self.0, &mut found) };
+        verdict(&found)
+    }
+}
+
+impl Drop for Desk {
+    fn drop(&mut self) {
+        unsafe { raw::lzk_desk_free(self.0) }
+    }
+}
