@@ -222,21 +222,24 @@ def run(words: List[str]) -> Tuple[List[str], int]:
         return [], 6
 
 
+def lines_of(words: List[str]) -> Tuple[List[str], int]:
+    """The same, also of the words that ask for help or for the version."""
+    if words in ([], ["help"], ["--help"], ["-h"]):
+        return (__doc__ or "").strip().split("\n"), 0 if words else 2
+    if words in (["version"], ["--version"]):
+        return [f"lzk {lzk.__version__}"], 0
+    return run(words)
+
+
 def main() -> int:
     """Runs the words of the command line."""
-    words = sys.argv[1:]
-    if words in ([], ["help"], ["--help"], ["-h"]):
-        print((__doc__ or "").strip())
-        return 0 if words else 2
-    if words in (["version"], ["--version"]):
-        print(f"lzk {lzk.__version__}")
-        return 0
-    lines, status = run(words)
+    lines, status = lines_of(sys.argv[1:])
     try:
-        for line in lines:
-            print(line)
+        sys.stdout.write("".join(f"{line}\n" for line in lines))
         sys.stdout.flush()
     except OSError:
+        # Python would tell of it once more at its end.
+        os.dup2(os.open(os.devnull, os.O_WRONLY), sys.stdout.fileno())
         return 5
     return status
 
