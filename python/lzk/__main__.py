@@ -20,6 +20,7 @@ programs: leave it out. `prove` does its work in one thread for every N.
 
 from __future__ import annotations
 
+import io
 import os
 import re
 import sys
@@ -234,6 +235,8 @@ def lines_of(words: List[str]) -> Tuple[List[str], int]:
 def main() -> int:
     """Runs the words of the command line."""
     lines, status = lines_of(sys.argv[1:])
+    if isinstance(sys.stdout, io.TextIOWrapper):
+        sys.stdout.reconfigure(errors="surrogateescape")  # a name is printed as it was given
     try:
         sys.stdout.write("".join(f"{line}\n" for line in lines))
         sys.stdout.flush()

@@ -175,9 +175,12 @@ int main(int count, char **words) {
 
   long places[4][4] = {{0}};
   pthread_t threads[4];
-  for (long i = 0; i < 4; i++) places[i][0] = (long)len, places[i][1] = i, places[i][3] = times, pthread_create(&threads[i], NULL, prove_often, places[i]);
+  pthread_attr_t small;
+  pthread_attr_init(&small);
+  pthread_attr_setstacksize(&small, 256 << 10);
+  for (long i = 0; i < 4; i++) places[i][0] = (long)len, places[i][1] = i, places[i][3] = times, pthread_create(&threads[i], &small, prove_often, places[i]);
   for (long i = 0; i < 4; i++) pthread_join(threads[i], NULL);
-  told("4 threads prove side by side", places[0][2] + places[1][2] + places[2][2] + places[3][2] == 0);
+  told("4 threads with a stack of 256 KiB prove side by side", places[0][2] + places[1][2] + places[2][2] + places[3][2] == 0);
 
   told("want of memory is told by lzk_eval", refuse_each(len, "eval") > 5);
   told("want of memory is told by lzk_compile", refuse_each(len, "compile") > 5);
