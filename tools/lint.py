@@ -18,7 +18,7 @@ import re
 import stat
 import sys
 
-from statement import FIELDS, KINDS, Fault, Statement, check_order, names_in, read_numbers, show, sides_of
+from statement import FIELDS, KINDS, Fault, Statement, check_order, names_in, occurrences, read_numbers, show, sides_of, terms_of
 
 KNOWN = os.path.join(os.path.dirname(os.path.dirname(os.path.realpath(__file__))), ".build", "sources")
 MOST_BYTES = {"statement": 1 << 18, "numbers": 1 << 22, "circuit": 1 << 26, "proof": 1 << 21}
@@ -73,11 +73,28 @@ def constants(statement):
     return [(one, first) for one, first, second in zip(statement.asserts, *values) if first == second]
 
 
+def free(statement):
+    """The asserts that hold for any numbers of the others by a choice of one private input, which stands nowhere else, and this input."""
+    field, counts = FIELDS[statement.field], {}
+    for expression in [*statement.lets.values(), *(side for one in statement.asserts for side in (one.left, one.right))]:
+        for name in occurrences(expression):
+            counts[name] = counts.get(name, 0) + 1
+    found = []
+    for one in statement.asserts:
+        terms = terms_of(field, one.left) + terms_of(field, one.right)
+        names = [name for name in statement.private_names() & set(terms) if counts[name] == 1]
+        if names:
+            found.append((one, min(names)))
+    return found
+
+
 def told_of(statement, name):
     lines = [f"{name}: no assert uses {kind} {some(names)}" for kind, names in unused(statement).items() if names]
     for one, value in constants(statement)[:MOST_LINES]:
         says = "holds for any numbers, so it says nothing" if value == 0 else "holds for no numbers"
         lines.append(f"{name}, line {one.line}: {says}: {one.text}")
+    for one, chosen in free(statement)[:MOST_LINES]:
+        lines.append(f"{name}, line {one.line}: some {chosen} makes this hold, whatever the other numbers are, and nothing else uses {chosen}: {one.text}")
     return lines
 
 

@@ -14,6 +14,18 @@ WORDS = re.compile(rb"[A-Za-z0-9_]+|[-+*()=]|[^ \t\r]")
 NUMBER = re.compile(r"[0-9]+|0x[0-9a-fA-F]+")
 
 
+NO_COMPARISON = "there is no comparison: docs/LANGUAGE.md says how bits and inverses do it"
+HINTS = {
+    "^": "a power is a product: x*x",
+    ",": "names are parted by blanks",
+    ";": "a line has one statement",
+    "/": "there is no division: a private inverse i with x*i = 1 does it",
+    "!": NO_COMPARISON,
+    "<": NO_COMPARISON,
+    ">": NO_COMPARISON,
+}
+
+
 class Gold:
     """Arithmetic modulo p = 2^64 - 2^32 + 1."""
 
@@ -215,7 +227,7 @@ class Statement:
     def check_tokens(self, line, first):
         for token in line.tokens:
             if not token.is_word() and token.text not in "+-*()=" or not token.text.isascii():
-                raise line.fault("Character", token, "no token of a statement has this byte" + {"^": "; a power is a product: x*x"}.get(token.text, ""))
+                raise line.fault("Character", token, HINTS.get(token.text, "no token of a statement has this byte"))
         if first.text not in KEYWORDS:
             raise line.fault("Keyword", first, "a line begins with one of: " + ", ".join(KEYWORDS))
         if self.field is None and first.text != "field":
@@ -242,6 +254,9 @@ class Statement:
         if self.field is not None:
             raise line.fault("Twice", line.tokens[0], "the field is named once")
         self.field = token.text
+
+    def private_names(self):
+        return set(self.inputs["private"])
 
     def read_names(self, line, kind):
         names = line.tokens[1:]
@@ -345,6 +360,39 @@ def value_of(field, expression, values):
     for inner in part:
         total = field.times(total, value_of(field, inner, values))
     return total
+
+
+def constant_of(field, expression):
+    """The value of an expression without names, and None for another."""
+    return None if names_in(expression) else value_of(field, expression, {})
+
+
+def terms_of(field, expression):
+    """The names that stand in an expression as a term of its sum, times constants that are not 0, each as often as it stands so."""
+    kind, part = expression
+    if kind == "name":
+        return [part]
+    if kind == "negative":
+        return terms_of(field, part)
+    if kind == "sum":
+        return [name for _, inner in part for name in terms_of(field, inner)]
+    if kind == "product":
+        moving = [inner for inner in part if names_in(inner)]
+        if len(moving) == 1 and all(constant_of(field, inner) for inner in part if inner is not moving[0]):
+            return terms_of(field, moving[0])
+    return []
+
+
+def occurrences(expression):
+    """The names of an expression, each as often as it stands there."""
+    kind, part = expression
+    if kind == "name":
+        return [part]
+    if kind == "number":
+        return []
+    if kind == "negative":
+        return occurrences(part)
+    return [name for inner in part for name in occurrences(inner[1] if kind == "sum" else inner)]
 
 
 def sides_of(statement, values):
