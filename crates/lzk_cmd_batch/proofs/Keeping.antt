@@ -1,9 +1,12 @@
 -- Circuits that are kept by the names of their files, and bytes that are counted together.
-use Rattle.std.proofs.Common.{◌≡◌, ◌+◌, ◌<◌, ◌≤◌, inr, ℕ, true, zero, suc, List, [], ◌∷◌, ◌++◌, length, map, Option, Some, Result, Ok, Err, refl, sym, ap, ◌∙◌, subst, arith, append-nil}
-use Rattle.std.specs.Prelude.{IfSome, slice_get, slice_index_or}
+use Rattle.std.proofs.Common.{◌≡◌, ◌≢◌, ◌+◌, ◌<◌, ◌≤◌, inr, ℕ, true, false, zero, suc, List, [], ◌∷◌, ◌++◌, length, map, Option, Some, Result, Ok, Err, refl, sym, ap, ◌∙◌, subst, arith, append-nil}
+use Rattle.std.specs.Prelude.{All, IfSome, slice_get, slice_index_or}
 use Rattle.std.specs.Borrow.{Bor}
 use Rattle.std.specs.Str.{bytes_eq}
-use Rattle.std.proofs.lemmas.Option.{slice_get-get_or, get_or_from_slice_get}
+use native.Mathlib.Decide.{dec_lt}
+use Rattle.std.proofs.lemmas.Bool.Decides.{not_from_Decides}
+use Rattle.std.proofs.lemmas.List.{get_or_default}
+use Rattle.std.proofs.lemmas.Option.{slice_get-get_or, slice_get_within, get_or_from_slice_get}
 use Rattle.std.proofs.lemmas.Slice.Eq.{bytes_eq-Decides}
 use Rattle.std.specs.Result.{IsErrAnd}
 use Rattle.std.specs.List.{AllZip}
@@ -97,6 +100,23 @@ as_long P (a ∷ xs) (b ∷ ys) h = ap suc (as_long P xs ys h.1)
 -- a file at a place, whose name this is
 pub place_at : (files : List CircuitFile) (name : List ℕ) (i : ℕ) (d : CircuitFile) → i < length files → bytes_eq (slice_index_or files i d).name.now name ≡ true → IsPlaceOf files name i
 place_at files name i d less same = (slice_index_or files i d, slice_get-get_or files i d less, (bytes_eq-Decides (slice_index_or files i d).name.now name).0 same)
+
+-- none of the files before the next place has the name, where none before this one has it and its own is another
+pub other_at : (files : List CircuitFile) (name : List ℕ) (i : ℕ) (d : CircuitFile) → i < length files → bytes_eq (slice_index_or files i d).name.now name ≡ false
+    → ((k : ℕ) (e : CircuitFile) → k < i → (slice_index_or files k e).name.now ≢ name) → (k : ℕ) (e : CircuitFile) → k < i + 1 → (slice_index_or files k e).name.now ≢ name
+other_at files name i d less other before k e up =
+    elim (dec_lt k i) [
+      yes below ↦ before k e below
+    | no past ↦
+        let here : k ≡ i = omega (arith, up, past) in
+        subst (λ j. (slice_index_or files j e).name.now ≢ name) (sym here)
+          (subst (λ (file : CircuitFile). file.name.now ≢ name) (get_or_default files i d e less) (not_from_Decides _ (bytes_eq-Decides (slice_index_or files i d).name.now name) other))
+    ]
+
+-- where no file has the name, none has it at a place
+pub nowhere : (files : List CircuitFile) (name : List ℕ) → All (λ (file : CircuitFile). file.name.now ≢ name) files → (place : ℕ) → IsPlaceOf files name place → ⊥
+nowhere files name none place (file, here, same) =
+    none place file (slice_get_within files place file here) (ap (λ (f : CircuitFile). f.name.now) (get_or_from_slice_get files place file file here) ∙ same)
 
 -- the end at a circuit's file, where it is read to be put behind the others
 pub no_last : (old new : Seen) (before kept : Circuits) (name : List ℕ) (taken : ℕ) (h : Halt) (r : Result ℕ Halt) → Gives {R = AnyCircuit × ℕ} (among taken circuit_files) (λ found. found) old new name (Err h) → IsErrAnd r (λ y. y ≡ h) → GivesLast old new before kept name taken r

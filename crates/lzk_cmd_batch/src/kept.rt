@@ -1,6 +1,6 @@
 //! The circuits of a batch, by the names of their files.
 
-ghost use Rattle.std.specs.Prelude.{◌≡◌, ◌≤◌, ◌<◌, [], IfOk, IfSome, map};
+ghost use Rattle.std.specs.Prelude.{◌≡◌, ◌≢◌, ◌≤◌, ◌<◌, ℕ, [], All, IfNone, IfOk, IfSome, map};
 ghost use Rattle.lzk_cmd_runs.specs.Batched.{total_limit};
 ghost use Rattle.lzk_cmd_batch.specs.Gathered.{AreKept, GivesLast, GivesPlace, IsPlaceOf, KeepsOn};
 ghost use Rattle.lzk_cmd_files.specs.Seen.{seen};
@@ -42,7 +42,8 @@ impl<'a> Circuits<'a> {
 
 // The place of a file of this name, if there is one.
 fn place_of(files: &[CircuitFile<'_>], name: &str) -> Option<usize>
-    ensures { IfSome result (λ i. IsPlaceOf files.now name.now i) }
+    ensures some { IfSome result (λ i. IsPlaceOf files.now name.now i) }
+    ensures none { IfNone result (All (λ file. file.name.now ≢ name.now) files.now) }
 {
     for i in 0..files.len() {
         if files[i].name == name {
@@ -91,6 +92,9 @@ pub fn circuit_at<'a, S: Shelf>(
     ensures gives { GivesPlace (seen S.Shelf shelf.old) (seen S.Shelf shelf.new) kept.new.all.items name.now taken result }
     ensures kept { IfOk result (λ _. KeepsOn (S.held shelf.old) kept.old kept.new) }
     ensures reads { OnlyReads (seen S.Shelf shelf.old) (seen S.Shelf shelf.new) }
+
+    // A circuit that was read before is not read again.
+    ensures again { (place : ℕ) → IsPlaceOf kept.old.files.items name.now place → (kept.new ≡ kept.old) × (shelf.new ≡ shelf.old) }
 {
     match place_of(&kept.files, name) {
         Some(place) => {

@@ -9,7 +9,8 @@
 //! ```
 #![tactic(auto)]
 
-ghost use Rattle.std.specs.Prelude.{◌≡◌, IfOk, IsErr};
+ghost use Rattle.std.specs.Prelude.{◌≡◌, ◌≤◌, IfOk, IsErr};
+ghost use Rattle.std.specs.Process.{exit_status};
 
 use lzk_cmd::run;
 use lzk_field::Open;
@@ -39,27 +40,37 @@ fn start<T: Threads + Sync>(
     rt: &HostRuntime,
     threads: &T,
     words: &[String],
-) -> Result<u8, AllocError> {
+) -> Result<u8, AllocError>
+    ensures { IfOk result (λ status. status ≤ 6) }
+{
     let mut shelf = DiskShelf::new(rt.clone()?, rt.alloc());
     let mut out = StdoutSink::new(rt.clone()?, rt.alloc());
     Ok(run(threads, rt.alloc(), words, &mut shelf, &mut out, &Open))
 }
 
-// The status that a program ends with: what `run` answered, or 6 where there was no memory to call it.
-fn status_of(answer: Result<u8, AllocError>) -> u8
-    ensures answered { IfOk answer (λ status. result ≡ status) }
-    ensures memory { IsErr answer → result ≡ 6 }
+// What a program ends with: the status that `run` answered, or 6 where there was no memory to call it.
+fn ended(answer: Result<u8, AllocError>) -> ExitCode
+    ensures answered { IfOk answer (λ status. exit_status result ≡ status) }
+    ensures memory { IsErr answer → exit_status result ≡ 6 }
 {
-    answer.unwrap_or(6)
+    ExitCode::from(answer.unwrap_or(6))
+}
+
+/// Runs these words, and gives the status.
+pub fn run_words<T: Threads + Sync>(rt: &HostRuntime, threads: &T, words: &[String]) -> ExitCode
+    ensures status { exit_status result ≤ 6 }
+{
+    ended(start(rt, threads, words))
 }
 
 /// Runs the words after the program's name, and gives the status. A word that is no text is no word of a
 /// command. A program's `main` gives its runtime for both: only there may it start threads.
-pub fn run_program<T: Threads + Sync>(rt: &HostRuntime, threads: &T) -> ExitCode {
-    let answer = match words(rt) {
-        Ok(words) => start(rt, threads, &words),
-        Err(e) if e.kind() == io::ErrorKind::OutOfMemory => Err(AllocError),
-        Err(_) => start(rt, threads, &[]),
-    };
-    ExitCode::from(status_of(answer))
+pub fn run_program<T: Threads + Sync>(rt: &HostRuntime, threads: &T) -> ExitCode
+    ensures status { exit_status result ≤ 6 }
+{
+    match words(rt) {
+        Ok(words) => run_words(rt, threads, &words),
+        Err(e) if e.kind() == io::ErrorKind::OutOfMemory => ended(Err(AllocError)),
+        Err(_) => run_words(rt, threads, &[]),
+    }
 }

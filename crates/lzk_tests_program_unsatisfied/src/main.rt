@@ -1,9 +1,40 @@
-//! The program `zk`, run where inputs do not satisfy a circuit.
+//! The program `zk`, run where inputs do not satisfy a circuit; and before that, over words that end with each other status.
 #![tactic(auto)]
 
-use lzk_main::run_program;
+use lzk_main::{run_program, run_words};
+use std::alloc::AllocError;
+use std::marker::Sync;
 use std::process::ExitCode;
+use std::thread::Threads;
+
+// Words, and the status that they end with.
+const RUNS: [(&str, u8); 5] = [
+    ("show sq.lzc", 0),
+    ("nothing", 2),
+    ("show missing.lzc", 3),
+    ("show .", 4),
+    ("upgrade sq.lzc missing/new.lzc", 5),
+];
+
+// Whether words, parted by blanks, end with a status.
+fn end_with<T: Threads + Sync>(
+    rt: &HostRuntime,
+    threads: &T,
+    text: &str,
+    status: u8,
+) -> Result<bool, AllocError> {
+    let mut words = Vec::new(rt.alloc());
+    for word in text.split(' ') {
+        words.push(word.to_string(rt.alloc())?)?;
+    }
+    Ok(run_words(rt, threads, &words) == ExitCode::from(status))
+}
 
 fn main(rt: HostRuntime) -> ExitCode {
+    for (text, status) in RUNS {
+        if !matches!(end_with(&rt, &rt, text, status), Ok(true)) {
+            return ExitCode::from(9);
+        }
+    }
     run_program(&rt, &rt)
 }

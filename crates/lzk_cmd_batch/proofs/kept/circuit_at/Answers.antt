@@ -5,17 +5,17 @@ use Rattle.lzk_cmd_batch.proofs.kept.circuit_at.Goals as goal
 
 pub count_in-requires-clause-bytes : goal.count_in-requires-clause-bytes
 count_in-requires-clause-bytes g c =
-    let few = few_at (g.S.Shelf.held c.args.shelf.now) c.args.kept.now c.args.name.now c.in-Some.place c.deref.result.now c.index.result.now c.requires.kept c.deref.ensures.value c.in-Some.ensures c.index.ensures in omega (arith, few)
+    let few = few_at (g.S.Shelf.held c.args.shelf.now) c.args.kept.now c.args.name.now c.in-Some.place c.deref.result.now c.index.result.now c.requires.kept c.deref.ensures.value c.in-Some.ensures.some c.index.ensures in omega (arith, few)
 
 pub returns-in_err-taken-in-Some-clause-gives : goal.returns-in_err-taken-in-Some-clause-gives
 returns-in_err-taken-in-Some-clause-gives g c =
     let s = seen g.S.Shelf c.args.shelf.now in
-    again_over_at s s c.args.kept.now c.args.name.now c.args.taken c.in-Some.place c.deref.result.now c.index.result.now c.requires.kept c.deref.ensures.value c.in-Some.ensures c.index.ensures c.in_err-taken-in-Some.field-0.0 _ c.in_err-taken-in-Some.ensures c.from_residual.ensures.1
+    again_over_at s s c.args.kept.now c.args.name.now c.args.taken c.in-Some.place c.deref.result.now c.index.result.now c.requires.kept c.deref.ensures.value c.in-Some.ensures.some c.index.ensures c.in_err-taken-in-Some.field-0.0 _ c.in_err-taken-in-Some.ensures c.from_residual.ensures.1
 
 pub returns-in_ok-taken-in-Some-clause-gives : goal.returns-in_ok-taken-in-Some-clause-gives
 returns-in_ok-taken-in-Some-clause-gives g c =
     let s = seen g.S.Shelf c.args.shelf.now in
-    again_at s s c.args.kept.now c.args.name.now c.args.taken c.in-Some.place c.deref.result.now c.index.result.now c.requires.kept c.deref.ensures.value c.in-Some.ensures c.index.ensures c.in_ok-taken-in-Some.taken c.in_ok-taken-in-Some.ensures
+    again_at s s c.args.kept.now c.args.name.now c.args.taken c.in-Some.place c.deref.result.now c.index.result.now c.requires.kept c.deref.ensures.value c.in-Some.ensures.some c.index.ensures c.in_ok-taken-in-Some.taken c.in_ok-taken-in-Some.ensures
 
 pub returns-in_ok-taken-in-None-clause-gives : goal.returns-in_ok-taken-in-None-clause-gives
 returns-in_ok-taken-in-None-clause-gives g c =
