@@ -106,10 +106,10 @@ pub other_at : (files : List CircuitFile) (name : List ℕ) (i : ℕ) (d : Circu
     → ((k : ℕ) (e : CircuitFile) → k < i → (slice_index_or files k e).name.now ≢ name) → (k : ℕ) (e : CircuitFile) → k < i + 1 → (slice_index_or files k e).name.now ≢ name
 other_at files name i d less other before k e up =
     elim (dec_lt k i) [
-      yes below ↦ before k e below
-    | no past ↦
-        let here : k ≡ i = omega (arith, up, past) in
-        subst (λ j. (slice_index_or files j e).name.now ≢ name) (sym here)
+      | yes below ↦ before k e below
+      | no past ↦
+          let here : k ≡ i = omega (arith, up, past) in
+          subst (λ j. (slice_index_or files j e).name.now ≢ name) (sym here)
           (subst (λ (file : CircuitFile). file.name.now ≢ name) (get_or_default files i d e less) (not_from_Decides _ (bytes_eq-Decides (slice_index_or files i d).name.now name) other))
     ]
 
