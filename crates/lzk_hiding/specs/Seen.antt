@@ -1,5 +1,5 @@
 -- What a prover sends and opens, by its random elements and for any challenges, and what of it a verifier checks.
-use Rattle.std.specs.Prelude.{◌≡◌, ◌≢◌, ℕ, ◌+◌, ◌-◌, ◌*◌, ◌<◌, List, length, slice_index}
+use Rattle.std.specs.Prelude.{◌≡◌, ◌≢◌, ℕ, ◌+◌, ◌-◌, ◌<◌, List, length, slice_index}
 use Rattle.std.specs.List.{flat_map}
 use Rattle.std.proofs.Common.{zero, suc}
 use Rattle.lzk_field.specs.Coding.{Coding}
@@ -14,7 +14,6 @@ use Rattle.lzk_layout.specs.Places.{depth}
 use Rattle.lzk_sumcheck.specs.declared.script.Script.{Script}
 use Rattle.lzk_sumcheck.specs.Messages.{IsLayerSent}
 use Rattle.lzk_accept.specs.declared.challenges.Challenges.{Challenges}
-use Rattle.lzk_accept.specs.Checks.{IsLowDegree, HasLinearSum, IsLinear, IsQuadratic, AtEach, combined_row_of, wanted_of}
 use Rattle.lzk_tableau.specs.Tableau.{randoms, tableau, column, row1_words, row2_words, nonce_words}
 use Rattle.lzk_complete.specs.Answered.{answers_of, AreSent}
 

@@ -17,6 +17,7 @@ ghost use Rattle.lzk_hiding.specs.Laws.{
   SomeSeen,
   WordsCounted,
 };
+ghost use Rattle.lzk_hiding.specs.Words.{IsSmall, RandomAreFew};
 
 use lzk_field::Field;
 
@@ -49,4 +50,12 @@ pub fn simulator_laws<F: Field>()
     ensures once { SimulatedOnce F.ops F.coding }
     ensures counts { CountsAgree F.ops }
     ensures hides { Hides F.ops F.coding }
+{}
+
+/// A Goldilocks element of a random word is within 2^-96 of uniform, and all random elements of a proof together, of
+/// which no circuit has more than 72,574, within 2^-79. Over GF(2^128) each element has one word.
+pub fn word_laws<F: Field>()
+    ensures few { RandomAreFew F.ops }
+    ensures one { IsSmall 18446744069414584321 340282366920938463463374607431768211456 1 96 }
+    ensures all { IsSmall 18446744069414584321 340282366920938463463374607431768211456 72574 79 }
 {}

@@ -1,9 +1,9 @@
 -- Acceptance is passing by the draws of the proof's own tape.
-use Rattle.std.specs.Prelude.{◌≡◌, ℕ, ◌*◌, ◌≤◌, List, length}
+use Rattle.std.specs.Prelude.{ℕ, ◌*◌, ◌≤◌, List}
 use Rattle.std.proofs.Common.{sym, ap, ◌∙◌, arith}
 use Rattle.lzk_field.specs.Coding.{Coding}
 use Rattle.lzk_field.specs.Ring.{Ops}
-use Rattle.lzk_circuit.specs.Valid.{Wiring, IsValid}
+use Rattle.lzk_circuit.specs.Valid.{Wiring}
 use Rattle.lzk_layout.specs.declared.proof.Proof.{Proof}
 use Rattle.lzk_layout.specs.Sizes.{AreBounded, params_of}
 use Rattle.lzk_layout.proofs.SizeLaws.{params_bounded}

@@ -8,7 +8,8 @@ use Rattle.lzk_layout.specs.Proofs.{ProofBytes}
 use Rattle.lzk_layout.specs.Sizes.{params_of}
 use Rattle.lzk_accept.specs.Challenges.{Transcript}
 use Rattle.lzk_verify.specs.declared.verdict.Verdict.TheVariants.{Accepted}
-use Rattle.lzk_verify.specs.Verdict.{IsVerdict, given, HasCircuitId, HasPathCount, HasRoot}
+use Rattle.lzk_verify.specs.Checks.{HasCircuitId, HasPathCount, HasRoot}
+use Rattle.lzk_verify.specs.Verdict.{IsVerdict, given}
 use Rattle.lzk_sound.specs.Passing.{Passes}
 
 module _ {A : Type 0} (o : Ops A) (e : Coding A) (c : Wiring A) (session : List ℕ) (public : List A) (proof : Proof A) where
