@@ -1,0 +1,5 @@
+pub mod Counting
+pub mod FewLaws
+pub mod Lists
+pub mod Sets
+pub mod Splitting

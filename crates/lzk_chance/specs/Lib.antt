@@ -1,0 +1,4 @@
+pub mod Draws
+pub mod Few
+pub mod Laws
+pub mod Sets

@@ -1,0 +1,61 @@
+//! Laws of the definitions, as contracts of functions that do nothing.
+
+ghost use Rattle.lzk_hiding.specs.Laws.{
+  CountsAgree,
+  DrawsAreCases,
+  ElementsDecide,
+  Hides,
+  ListsCounted,
+  OneSeen,
+  ProofsAreSeen,
+  ProofsLead,
+  SeenAlike,
+  SeenEquallyOften,
+  SeenPasses,
+  SimulatedOnce,
+  SimulatedPasses,
+  SomeSeen,
+  WordsCounted,
+};
+ghost use Rattle.lzk_hiding.specs.Words.{IsSmall, RandomAreFew};
+
+use lzk_field::Field;
+
+/// What a prover sends and opens is seen by its own tape's draws. Random elements lead to one thing, and what it is
+/// they alone decide. What is seen of satisfying inputs passes a verifier's checks.
+pub fn seen_laws<F: Field>()
+    ensures seen { ProofsAreSeen F.ops F.coding }
+    ensures cases { DrawsAreCases F.ops F.coding }
+    ensures lead { ProofsLead F.ops F.coding }
+    ensures some { SomeSeen F.ops F.coding }
+    ensures one { OneSeen F.ops F.coding }
+    ensures decided { ElementsDecide F.ops F.coding }
+    ensures passes { SeenPasses F.ops F.coding }
+{}
+
+/// Whichever satisfying private inputs a prover has, to all that passes lead equally many lists of random elements:
+/// so they hide which they are.
+pub fn hiding_laws<F: Field>()
+    ensures equally { SeenEquallyOften F.ops F.coding }
+    ensures alike { SeenAlike F.ops F.coding }
+    ensures lists { ListsCounted F.coding }
+    ensures words { WordsCounted F.coding }
+{}
+
+/// A simulator, which knows no private inputs, makes exactly what passes, each by one list of free elements; and a
+/// prover's lists are longer by the idle elements. So to anything lead equal shares of both: what a prover shows and
+/// what a simulator makes have the same distribution.
+pub fn simulator_laws<F: Field>()
+    ensures passes { SimulatedPasses F.ops F.coding }
+    ensures once { SimulatedOnce F.ops F.coding }
+    ensures counts { CountsAgree F.ops }
+    ensures hides { Hides F.ops F.coding }
+{}
+
+/// A Goldilocks element of a random word is within 2^-96 of uniform, and all random elements of a proof together, of
+/// which no circuit has more than 72,574, within 2^-79. Over GF(2^128) each element has one word.
+pub fn word_laws<F: Field>()
+    ensures few { RandomAreFew F.ops }
+    ensures one { IsSmall 18446744069414584321 340282366920938463463374607431768211456 1 96 }
+    ensures all { IsSmall 18446744069414584321 340282366920938463463374607431768211456 72574 79 }
+{}

@@ -1,0 +1,4 @@
+pub mod Bad
+pub mod Claims
+pub mod Laws
+pub mod Passing

@@ -1,0 +1,21 @@
+//! Laws of the definitions, as contracts of functions that do nothing.
+
+ghost use Rattle.lzk_sound.specs.Laws.{BetasAreFew, BindingsAreFew, JoinsAreFew, RoundsAreFew, SatisfiedUnlessBad, ShownUnlessBad};
+
+use lzk_field::Field;
+
+/// Few draws are bad at each place: two in a round, and one in a join of two claims, as a beta, and as a coordinate
+/// of a point.
+pub fn bad_draws_laws<F: Field>()
+    ensures joins { JoinsAreFew F.ops }
+    ensures betas { BetasAreFew F.ops }
+    ensures rounds { RoundsAreFew F.ops F.coding.element }
+    ensures bindings { BindingsAreFew F.ops }
+{}
+
+/// Where a committed list makes all residuals 0 and has its products, and no draw is bad, what it has as private
+/// inputs satisfies the circuit.
+pub fn sound_laws<F: Field>()
+    ensures shown { ShownUnlessBad F.ops F.coding }
+    ensures satisfied { SatisfiedUnlessBad F.ops F.coding }
+{}

@@ -1,0 +1,9 @@
+mod Bound
+mod Count
+mod Facts
+mod Fronts
+mod Made
+mod Masks
+mod Near
+mod Numbers
+mod Rows

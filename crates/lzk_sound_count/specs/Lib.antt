@@ -1,0 +1,3 @@
+pub mod Game
+pub mod Laws
+pub mod Numbers
