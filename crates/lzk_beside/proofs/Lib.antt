@@ -1,0 +1,4 @@
+pub mod LayerLaws
+pub mod LevelLaws
+pub mod JoinLaws
+pub mod CheckLaws

@@ -1,0 +1,35 @@
+use Rattle.std.proofs.Common.{◌≡◌, ◌∙◌, ap, refl, sym, subst, arith, length, ◌+◌}
+use Rattle.lzk_circuit.specs.Valid.{Wiring, input_width, IsValid}
+use Rattle.lzk_circuit.specs.Wires.{inputs_of, wires_of}
+use Rattle.lzk_reduce.specs.Renumbering.{AreNumbersBelow}
+use Rattle.lzk_beside.proofs.CheckLaws.{input-length, checks-joined, satisfied-joined}
+use Rattle.lzk_beside.proofs.JoinLaws.{fit-valid}
+use Rattle.lzk_beside.proofs.joining.beside.Goals as goal
+
+pub returns-in-Ok-clause-checks : goal.returns-in-Ok-clause-checks
+returns-in-Ok-clause-checks g c public private np nq =
+    let o = g.F.Field.ops in
+    let first = c.args.first.now in
+    let second = c.args.second.now in
+    let whole = c.in-Ok.circuit in
+    let is = c.in-Ok.ensures.circuit in
+    let inputs = inputs_of o public private in
+    let long : length inputs ≡ 1 + c.args.publics + c.args.privates = input-length o public private c.args.publics c.args.privates np nq in
+    let values = c.in_ok-layers.ensures.values inputs (omega (arith, long)) refl (subst (λ n. AreNumbersBelow n first.places.now) (sym long) c.requires.first) (subst (λ n. AreNumbersBelow n second.places.now) (sym long) c.requires.second) in
+    checks-joined o g.F.Field.coding.size g.F.Field.coding.number g.F.Field.coding.element g.F.Field.coding.bytes g.F.Field.laws
+    first.circuit.now second.circuit.now whole first.places.now second.places.now inputs
+    c.depth.ensures.valid c.depth-2.ensures.valid (subst (IsValid o) (sym is) c.in-Ok.ensures.valid) first.version second.version (ap (λ (w : Wiring g.row.F.Denot). w.version) is) first.count second.count
+    (long ∙ sym (ap (λ (w : Wiring g.row.F.Denot). input_width w) is)) (ap (λ (w : Wiring g.row.F.Denot). wires_of o w.layers inputs) is ∙ values)
+
+pub returns-in-Ok-clause-satisfied : goal.returns-in-Ok-clause-satisfied
+returns-in-Ok-clause-satisfied g c public private np nq =
+    let first = c.args.first.now in
+    let second = c.args.second.now in
+    satisfied-joined g.F.Field.ops g.F.Field.coding.size g.F.Field.coding.number g.F.Field.coding.element g.F.Field.coding.bytes g.F.Field.laws
+    first.circuit.now second.circuit.now c.in-Ok.circuit first.places.now second.places.now (inputs_of g.F.Field.ops public private) (returns-in-Ok-clause-checks g c public private np nq)
+
+pub returns-in-Err-clause-cause : goal.returns-in-Err-clause-cause
+returns-in-Err-clause-cause g c = λ fit.
+    c.in-Err.ensures.valid
+    (fit-valid g.F.Field.ops c.args.publics c.args.privates c.args.first.now.circuit.now c.args.second.now.circuit.now c.in_ok-layers.layers.items c.requires.publics c.requires.privates c.depth.ensures.valid c.depth-2.ensures.valid
+    (c.in_ok-layers.ensures.levels (1 + c.args.publics + c.args.privates) (omega arith) c.requires.first c.requires.second) fit)

@@ -1,0 +1,11 @@
+use Rattle.std.proofs.Common.{◌≡◌, ℕ, ◌≤◌, List, length, take}
+use Rattle.lzk_reduce.specs.Renumbering.{AreNumbersBelow, AreCopies}
+use Rattle.lzk_reduce.specs.Rows.{IsRow, row_value}
+use Rattle.lzk_beside.proofs.row.set_row.Given as goal
+
+abbrev pub invariant-loop-i : goal.invariant-loop-i
+invariant-loop-i g l = record {
+  row : (width : ℕ) → AreNumbersBelow width l.numbers → IsRow g.F.Field.ops width l.row.items;
+  value : (old new : List g.row.F.Denot) → AreCopies g.F.Field.ops l.numbers old new → row_value g.F.Field.ops new l.row.items ≡ row_value g.F.Field.ops old (take l.i l.terms);
+  short : length l.row.items ≤ l.i;
+}

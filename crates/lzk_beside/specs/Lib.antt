@@ -1,0 +1,3 @@
+pub mod Chosen
+pub mod Levels
+pub use Rattle.lzk_reduce.specs

@@ -1,0 +1,114 @@
+//! The levels of two circuits side by side.
+
+ghost use Rattle.std.specs.Prelude.{◌≡◌, ℕ, ◌+◌, ◌<◌, ◌≤◌, ◌++◌, ◌∷◌, None, List, length, drop, IfOk};
+ghost use Rattle.lzk_circuit.specs.Valid.{AreTerms, input_width};
+ghost use Rattle.lzk_circuit.specs.Wires.{coef, wire, wires_of, layer_values};
+ghost use Rattle.lzk_field.specs.Sums.{entry};
+ghost use Rattle.lzk_beside.specs.Levels.{level_wires, level_terms};
+ghost use Rattle.lzk_reduce.specs.Renumbering.{at, AreNumbersBelow, AreCopies};
+
+use crate::layer::{add_layer, copies};
+use lzk_circuit::{Circuit, Layer, Term, Terms};
+use lzk_field::Field;
+use std::alloc::{AllocError, Global};
+
+/// So many numbers, from `start` on.
+pub fn numbers_from(alloc: Global, start: u32, count: u32) -> Result<Vec<u32>, AllocError>
+    requires { start + count ≤ 262144 }
+    ensures count { IfOk result (λ numbers. length numbers.items ≡ count) }
+    ensures each { (k : ℕ) → k < count → IfOk result (λ numbers. at numbers.items k ≡ start + k) }
+{
+    let mut numbers = Vec::with_capacity(alloc, count as usize)?;
+    for k in 0..count {
+        numbers.push(start + k)?;
+    }
+    Ok(numbers)
+}
+
+/// The wires of the whole's input layer that a part's input layer is: the one, and those at its places.
+pub fn input_numbers(alloc: Global, places: &[u32]) -> Result<Vec<u32>, AllocError>
+    ensures { IfOk result (λ numbers. numbers.items ≡ 0 ∷ places.now) }
+{
+    let mut numbers = Vec::new(alloc);
+    numbers.push(0)?;
+    numbers.extend_from_slice(places)?;
+    Ok(numbers)
+}
+
+// Appends the wires of a circuit's level `l` as those from `start` on, over the wires below with these numbers.
+// Gives how many there are.
+fn add_level<F: Field>(
+    alloc: Global,
+    terms: &mut Vec<Term<F>>,
+    start: u32,
+    circuit: &Circuit<F>,
+    l: u32,
+    numbers: &[u32],
+) -> Result<u32, AllocError>
+    requires version { circuit.now.version ≡ 1 }
+    requires few { start ≤ 131072 }
+    requires numbers { length numbers.now ≡ level_wires circuit.now (l + 1) }
+    ensures count { IfOk result (λ count. count ≡ level_wires circuit.now l) }
+    ensures most { IfOk result (λ count. count ≤ 131072) }
+    ensures terms { (width : ℕ) → AreNumbersBelow width numbers.now → AreTerms F.ops start width None terms.old.items →
+        IfOk result (λ _. AreTerms F.ops (start + level_wires circuit.now l) width None terms.new.items) }
+    ensures before { (below : List F) (i : ℕ) → i < start →
+        IfOk result (λ _. wire F.ops (coef F.ops terms.new.items) below i ≡
+        wire F.ops (coef F.ops terms.old.items) below i) }
+    ensures values { (inputs new : List F) → length inputs ≡ input_width circuit.now → entry F.ops inputs 0 ≡
+        F.ops.one →
+        AreNumbersBelow (length new) numbers.now →
+        AreCopies F.ops numbers.now (wires_of F.ops (drop (l + 1) circuit.now.layers) inputs) new →
+        AreTerms F.ops start (length new) None terms.old.items →
+        IfOk result (λ count. (g : ℕ) → g < count → wire F.ops (coef F.ops terms.new.items) new (start + g) ≡
+        entry F.ops (wires_of F.ops (drop l circuit.now.layers) inputs) g) }
+    ensures short { IfOk result (λ _. length terms.new.items ≤ length terms.old.items + level_terms circuit.now l) }
+{
+    if l < circuit.depth() {
+        let layer = circuit.layer(l);
+        add_layer(alloc, terms, start, layer, numbers)?;
+        return Ok(layer.wires);
+    }
+    let count = 1 + circuit.publics() + circuit.privates();
+    let layer = copies(alloc, count)?;
+    add_layer(alloc, terms, start, &layer, numbers)?;
+    Ok(count)
+}
+
+/// Level `l` of two circuits side by side, over the wires below with these numbers. Gives the layer, and how many of
+/// its wires are the first circuit's.
+pub fn joined_layer<F: Field>(
+    alloc: Global,
+    first: &Circuit<F>,
+    second: &Circuit<F>,
+    l: u32,
+    left: &[u32],
+    right: &[u32],
+) -> Result<(Layer<F>, u32), AllocError>
+    requires one { first.now.version ≡ 1 }
+    requires other { second.now.version ≡ 1 }
+    requires left { length left.now ≡ level_wires first.now (l + 1) }
+    requires right { length right.now ≡ level_wires second.now (l + 1) }
+    ensures wires { IfOk result (λ level. level.0.wires ≡ level_wires first.now l + level_wires second.now l) }
+    ensures split { IfOk result (λ level. level.1 ≡ level_wires first.now l) }
+    ensures most { IfOk result (λ level. level.0.wires ≤ 262144) }
+    ensures terms { (width : ℕ) → AreNumbersBelow width left.now → AreNumbersBelow width right.now →
+        IfOk result (λ level. AreTerms F.ops level.0.wires width None level.0.terms) }
+    ensures short { IfOk result (λ level. length level.0.terms ≤ level_terms first.now l + level_terms second.now l) }
+    ensures values { (x y below : List F) → length x ≡ input_width first.now → entry F.ops x 0 ≡ F.ops.one →
+        length y ≡ input_width second.now → entry F.ops y 0 ≡ F.ops.one →
+        AreNumbersBelow (length below) left.now → AreNumbersBelow (length below) right.now →
+        AreCopies F.ops left.now (wires_of F.ops (drop (l + 1) first.now.layers) x) below →
+        AreCopies F.ops right.now (wires_of F.ops (drop (l + 1) second.now.layers) y) below →
+        IfOk result (λ level. layer_values F.ops level.0 below ≡
+        wires_of F.ops (drop l first.now.layers) x ++ wires_of F.ops (drop l second.now.layers) y) }
+{
+    let mut terms = Vec::new(alloc);
+    let split = add_level(alloc, &mut terms, 0, first, l, left)?;
+    let more = add_level(alloc, &mut terms, split, second, l, right)?;
+    let layer = Layer {
+        wires: split + more,
+        terms: Terms::new(terms),
+    };
+    Ok((layer, split))
+}

@@ -1,0 +1,23 @@
+//! Statements made of gadgets, each with the theorem that what it asserts holds exactly where what it claims is true.
+//!
+//! A [`Statement`] holds nodes over the Goldilocks field and asserts that some are 0. A gadget adds nodes and asserts.
+//! Its contract says, for all inputs, that all asserts hold behind the call exactly where they held before it and the
+//! gadget's claim is true: so a gadget neither lets through what is false nor forbids what is true. This follows no
+//! standard. A caller writes, for two public numbers of which the first is at most the second,
+//!
+//! ```text
+//! let mut s = Statement::new(alloc, 2, 4)?;
+//! let (x, y) = (s.public(0), s.public(1));
+//! let bits = [s.private(0), s.private(1), s.private(2), s.private(3)];
+//! s.assert_at_most(x, y, &bits)?;
+//! let circuit = s.finish()?;
+//! ```
+#![tactic(auto)]
+
+mod bits;
+mod laws;
+mod numbers;
+mod statement;
+
+pub use laws::gadget_laws;
+pub use statement::Statement;

@@ -1,0 +1,134 @@
+//! Statements.
+
+ghost use Rattle.std.specs.Prelude.{◌≡◌, ℕ, ◌+◌, ◌<◌, ◌≤◌, ◌↔◌, List, [], length, IfOk};
+ghost use Rattle.lzk_field.specs.Sums.{entry};
+ghost use Rattle.lzk_goldilocks.specs.Elements.{ops};
+ghost use Rattle.lzk_goldilocks.specs.declared.element.Gold.{Gold};
+ghost use Rattle.lzk_level.specs.Nodes.{node_count, nodes_from, IsNode};
+ghost use Rattle.lzk_circuit.specs.Wires.{inputs_of, wires_of};
+ghost use Rattle.lzk_gadgets.specs.Claims.{AreInputs, AreAllZero, Holds, value, Makes, Adds};
+
+use lzk_circuit::Circuit;
+use lzk_goldilocks::Gold;
+use lzk_level::{Builder, LevelError, Node};
+use std::alloc::{AllocError, Global};
+use std::marker::Model;
+
+/// Nodes over the Goldilocks field, some of which are asserted to be 0.
+#[derive(Drop)]
+pub struct Statement {
+    builder: Builder<Gold>,
+    asserts: Vec<Node>,
+}
+
+impl Model for Statement {
+    ghost use Rattle.lzk_goldilocks.specs.declared.element.Gold.{Gold};
+    ghost use Rattle.lzk_level.specs.Nodes.{node_count};
+    ghost use Rattle.lzk_gadgets.specs.Claims.{Claims, AreNodes};
+
+    ghost Value = { Claims Gold };
+
+    ghost view = { λ s. record { nodes = s.builder; asserts = s.asserts.items } };
+
+    ghost invariant = { λ s. AreNodes (node_count s.builder) s.asserts.items };
+}
+
+impl Statement {
+    /// A statement of so many inputs, which claims nothing.
+    pub fn new(alloc: Global, publics: u32, privates: u32) -> Result<Statement, AllocError>
+        requires publics { publics ≤ 65535 }
+        requires privates { privates ≤ 65536 }
+        ensures { IfOk result (λ s. s ≡ record { nodes = nodes_from publics privates []; asserts = [] }) }
+    {
+        let builder = Builder::new(alloc, publics, privates)?;
+        Ok(Statement {
+            builder,
+            asserts: Vec::new(alloc),
+        })
+    }
+
+    /// Public input `i`.
+    pub fn public(&self, i: u32) -> Node
+        requires { i < self.now.nodes.publics }
+        ensures node { IsNode (node_count self.now.nodes) result }
+        ensures value { (public private : List Gold) → AreInputs self.now public private →
+            value ops self.now public private result ≡ entry ops public i }
+    {
+        self.builder.public(i)
+    }
+
+    /// Private input `i`.
+    pub fn private(&self, i: u32) -> Node
+        requires { i < self.now.nodes.privates }
+        ensures node { IsNode (node_count self.now.nodes) result }
+        ensures value { (public private : List Gold) → AreInputs self.now public private →
+            value ops self.now public private result ≡ entry ops private i }
+    {
+        self.builder.private(i)
+    }
+
+    /// A node that is `c` on every input.
+    pub fn constant(&mut self, c: Gold) -> Result<Node, AllocError>
+        requires room { node_count self.old.nodes < 2147483648 }
+        ensures makes { IfOk result (λ node. Makes ops 1 self.old self.new node) }
+        ensures value { (public private : List Gold) → AreInputs self.old public private →
+            IfOk result (λ node. value ops self.new public private node ≡ c) }
+    {
+        let node = self.builder.constant(c)?;
+        Ok(node)
+    }
+
+    /// The product of two nodes.
+    pub fn product(&mut self, x: Node, y: Node) -> Result<Node, AllocError>
+        requires room { node_count self.old.nodes < 2147483648 }
+        requires left { IsNode (node_count self.old.nodes) x }
+        requires right { IsNode (node_count self.old.nodes) y }
+        ensures makes { IfOk result (λ node. Makes ops 1 self.old self.new node) }
+        ensures value { (public private : List Gold) → AreInputs self.old public private →
+            IfOk result (λ node. value ops self.new public private node ≡
+            ops.times (value ops self.old public private x) (value ops self.old public private y)) }
+    {
+        let node = self.builder.mul(x, y)?;
+        Ok(node)
+    }
+
+    /// `a` times a node and `b` times another.
+    pub fn weighted(&mut self, a: Gold, x: Node, b: Gold, y: Node) -> Result<Node, AllocError>
+        requires room { node_count self.old.nodes < 2147483648 }
+        requires left { IsNode (node_count self.old.nodes) x }
+        requires right { IsNode (node_count self.old.nodes) y }
+        ensures makes { IfOk result (λ node. Makes ops 1 self.old self.new node) }
+        ensures value { (public private : List Gold) → AreInputs self.old public private →
+            IfOk result (λ node. value ops self.new public private node ≡
+            ops.plus (ops.times a (value ops self.old public private x))
+            (ops.times b (value ops self.old public private y))) }
+    {
+        let node = self.builder.combine(&[(a, x), (b, y)])?;
+        Ok(node)
+    }
+
+    /// Asserts that a node is 0.
+    pub fn assert_zero(&mut self, x: Node) -> Result<(), AllocError>
+        requires { IsNode (node_count self.old.nodes) x }
+        ensures { IfOk result (λ _. Adds ops 0 1 self.old self.new
+            (λ public private. value ops self.old public private x ≡ ops.zero)) }
+    {
+        self.asserts.push(x)?;
+        Ok(())
+    }
+
+    /// The statement's circuit: on every input its outputs are all 0 exactly where the statement holds. It has an
+    /// assert or more.
+    pub fn finish(self) -> Result<Circuit<Gold>, LevelError>
+        requires some { 1 ≤ length self.asserts }
+        requires few { length self.asserts ≤ 131072 }
+        ensures publics { IfOk result (λ c. c.publics ≡ self.nodes.publics) }
+        ensures privates { IfOk result (λ c. c.privates ≡ self.nodes.privates) }
+        ensures holds { (public private : List Gold) → AreInputs self public private →
+            IfOk result (λ c. AreAllZero ops (wires_of ops c.layers (inputs_of ops public private)) ↔
+            Holds ops self public private) }
+    {
+        let circuit = self.builder.finish(&self.asserts)?;
+        Ok(circuit)
+    }
+}
