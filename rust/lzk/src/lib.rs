@@ -295,8 +295,8 @@ pub fn evaluate(circuit: &[u8], public: &[u8], private: &[u8]) -> Result<(), Err
 }
 
 /// The proof that the numbers of two texts satisfy a circuit. The seed is 32 bytes that nobody else can guess, new for each proof:
-/// who knows it knows the private numbers. The same seed gives the same bytes. The caller's thread does all the work. Clear your own copies of
-/// seed and private numbers: the library clears the memory that it takes, but not the stack.
+/// who knows it knows the private numbers. The same seed gives the same bytes. The caller's thread does all the work. The library clears the
+/// memory that it takes, and the stack that it used; clear your own copies of seed and private numbers.
 ///
 /// # Errors
 ///
