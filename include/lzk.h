@@ -8,7 +8,7 @@
    A pointer may be NULL where the number beside it is 0, as an empty std::vector gives it; elsewhere NULL is refused, by LZK_NULL. The
    caller owes three things: each other pointer leads to as many bytes as are said beside it; nothing writes to these bytes during the
    call; and what is written lies apart from them, and is the call's alone until it returns. Memory is taken by malloc, and given back by
-   free, and set to zero before that; lzk_eval and lzk_prove set to zero what they left of the stack, too. lzk_prove wants some 64 KiB of it.
+   free, and set to zero before that; lzk_eval and lzk_prove set to zero what they left of the stack, too. lzk_prove wants some 65 KiB of it.
 
    Link with liblzk.a or liblzk.so, which `./build library` makes. docs/EMBEDDING.md has examples, costs, and what is not offered. */
 
