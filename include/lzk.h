@@ -8,7 +8,7 @@
    A pointer may be NULL where the number beside it is 0, as an empty std::vector gives it; elsewhere NULL is refused, by LZK_NULL. The
    caller owes three things: each other pointer leads to as many bytes as are said beside it; nothing writes to these bytes during the
    call; and what is written lies apart from them, and is the call's alone until it returns. Memory is taken by malloc, and given back by
-   free, and set to zero before that. The stack is not.
+   free, and set to zero before that; lzk_eval and lzk_prove set to zero what they left of the stack, too. lzk_prove wants some 65 KiB of it.
 
    Link with liblzk.a or liblzk.so, which `./build library` makes. docs/EMBEDDING.md has examples, costs, and what is not offered. */
 
@@ -256,7 +256,7 @@ uint32_t lzk_eval(const uint8_t *circuit, size_t circuit_len, const uint8_t *pub
 /* Proves, and puts the proof's file in front of room; LZK_MOST_PROOF bytes are always enough. The seed is 32 bytes that nobody else can guess,
    new for each proof: who knows it knows the private numbers. The bytes are those of `zk prove` with this seed: they are the one proof that the
    seed gives, and it is accepted. The caller's thread does all the work. Gives what lzk_eval gives, or LZK_NO_ROOM. Clear your own copies of
-   seed and private numbers; what the call leaves of them is in the stack alone. */
+   seed and private numbers. */
 uint32_t lzk_prove(const uint8_t *circuit, size_t circuit_len, const uint8_t *public_numbers, size_t public_numbers_len,
                    const uint8_t *private_numbers, size_t private_numbers_len, const uint8_t *session, size_t session_len,
                    const uint8_t seed[32], uint8_t *room, size_t room_len, lzk_outcome *outcome);

@@ -115,9 +115,23 @@ uint32_t lzk_circuit_info(IN(circuit), lzk_info *info) {
   return lzk_proved_circuit_info(GIVEN(circuit), info);
 }
 
+/* Set to zero what a call with secrets left of the stack: they lie where its frames were. Measured, evaluating takes some 9 KiB, and proving 50
+   over Goldilocks and 60 over GF(2^128). */
+static __attribute__((noinline)) void clear_after_eval(void) {
+  uint8_t below[12 << 10];
+  explicit_bzero(below, sizeof below);
+}
+
+static __attribute__((noinline)) void clear_after_prove(void) {
+  uint8_t below[60 << 10];
+  explicit_bzero(below, sizeof below);
+}
+
 uint32_t lzk_eval(IN(circuit), IN(numbers), IN(privates), lzk_outcome *outcome) {
   if (IS_NULL(circuit) || IS_NULL(numbers) || IS_NULL(privates) || !outcome) return null_outcome(outcome);
-  return lzk_proved_eval(GIVEN(circuit), GIVEN(numbers), GIVEN(privates), outcome);
+  lzk_proved_eval(GIVEN(circuit), GIVEN(numbers), GIVEN(privates), outcome);
+  clear_after_eval();
+  return outcome->answer;
 }
 
 uint32_t lzk_prove(IN(circuit), IN(numbers), IN(privates), IN(session), const uint8_t seed[32], uint8_t *room, size_t room_len, lzk_outcome *outcome) {
@@ -125,7 +139,9 @@ uint32_t lzk_prove(IN(circuit), IN(numbers), IN(privates), IN(session), const ui
   if (IS_NULL(circuit) || IS_NULL(numbers) || IS_NULL(privates) || IS_NULL(session) || !seed || IS_NULL(room) || !outcome) return null_outcome(outcome);
   /* Pointers alone: no secret is copied here. */
   const given all = {{GIVEN(circuit)}, {GIVEN(numbers)}, {GIVEN(privates)}, {GIVEN(session)}, seed};
-  return lzk_proved_prove(&all, room ? room : none, room_len, outcome);
+  lzk_proved_prove(&all, room ? room : none, room_len, outcome);
+  clear_after_prove();
+  return outcome->answer;
 }
 
 /* ---- The desk. What is fed behind so many bytes changes no report. A file that breaks no rule of the format is as long as the proof that a

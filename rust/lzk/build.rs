@@ -7,7 +7,15 @@ fn main() {
     println!("cargo:rerun-if-env-changed=PKG_CONFIG_PATH");
     let here = std::env::var("CARGO_MANIFEST_DIR").expect("cargo sets it");
     let built = Path::new(&here).join("../../.build");
-    let folder = std::env::var("LZK_LIB_DIR").ok().or_else(from_pkg_config).or_else(|| built.join("liblzk.a").exists().then(|| built.display().to_string()));
+    let folder = std::env::var("LZK_LIB_DIR")
+        .ok()
+        .or_else(from_pkg_config)
+        .or_else(|| {
+            built
+                .join("liblzk.a")
+                .exists()
+                .then(|| built.display().to_string())
+        });
     let Some(folder) = folder else {
         panic!("liblzk is missing: make it by ./build library, install it by ./build install, or name its folder by LZK_LIB_DIR");
     };
@@ -17,7 +25,10 @@ fn main() {
 }
 
 fn from_pkg_config() -> Option<String> {
-    let found = Command::new("pkg-config").args(["--variable=libdir", "lzk"]).output().ok()?;
+    let found = Command::new("pkg-config")
+        .args(["--variable=libdir", "lzk"])
+        .output()
+        .ok()?;
     let folder = String::from_utf8(found.stdout).ok()?.trim().to_owned();
     (found.status.success() && !folder.is_empty()).then_some(folder)
 }

@@ -7,7 +7,13 @@ fn main() -> Result<(), Box<dyn Error>> {
         return Err("prove SOURCE PUBLIC PRIVATE".into());
     };
     let circuit = lzk::compile(&std::fs::read_to_string(source)?, lzk::Version::One)?;
-    let proof = lzk::prove(&circuit, public.as_bytes(), private.as_bytes(), b"nonce", &lzk::fresh_seed()?)?;
+    let proof = lzk::prove(
+        &circuit,
+        public.as_bytes(),
+        private.as_bytes(),
+        b"nonce",
+        &lzk::fresh_seed()?,
+    )?;
     match lzk::verify(&circuit, public.as_bytes(), b"nonce", &proof)? {
         lzk::Verdict::Accepted => println!("accepted"),
         verdict => println!("rejected: {verdict:?}"),

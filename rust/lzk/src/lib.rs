@@ -90,8 +90,12 @@ impl fmt::Display for Error {
         match self {
             Error::TooLong => write!(f, "a session or a text is too long"),
             Error::NoCircuit { rule, offset } => write!(f, "circuit at byte {offset}: rule {rule}"),
-            Error::NoPublics { rule, line } => write!(f, "public numbers at line {line}: rule {rule}"),
-            Error::NoPrivates { rule, line } => write!(f, "private numbers at line {line}: rule {rule}"),
+            Error::NoPublics { rule, line } => {
+                write!(f, "public numbers at line {line}: rule {rule}")
+            }
+            Error::NoPrivates { rule, line } => {
+                write!(f, "private numbers at line {line}: rule {rule}")
+            }
             Error::NoSource { rule, line } => write!(f, "source at line {line}: rule {rule}"),
             Error::OverLimit { limit, count } => write!(f, "limit {limit} is passed by {count}"),
             Error::Unsatisfied { check, value } => write!(f, "check {check} is {value}"),
@@ -180,7 +184,11 @@ pub struct Info {
 
 fn version_fits() -> Result<(), Error> {
     // No pointer is handed over.
-    if unsafe { raw::lzk_version() } == 2 { Ok(()) } else { Err(Error::OtherVersion) }
+    if unsafe { raw::lzk_version() } == 2 {
+        Ok(())
+    } else {
+        Err(Error::OtherVersion)
+    }
 }
 
 fn done(found: &raw::Outcome) -> Result<usize, Error> {
@@ -188,12 +196,21 @@ fn done(found: &raw::Outcome) -> Result<usize, Error> {
     Err(match found.answer {
         0 => return Ok(found.count as usize),
         2 => Error::TooLong,
-        3 => Error::NoCircuit { rule, offset: found.offset },
+        3 => Error::NoCircuit {
+            rule,
+            offset: found.offset,
+        },
         4 => Error::NoPublics { rule, line },
         5 => Error::NoSource { rule, line },
-        8 => Error::Unsatisfied { check: found.check, value: u128::from_le_bytes(found.value) },
+        8 => Error::Unsatisfied {
+            check: found.check,
+            value: u128::from_le_bytes(found.value),
+        },
         9 => Error::NoPrivates { rule, line },
-        10 => Error::OverLimit { limit: rule, count: found.count },
+        10 => Error::OverLimit {
+            limit: rule,
+            count: found.count,
+        },
         _ => Error::NoMemory,
     })
 }
@@ -204,17 +221,31 @@ fn verdict(found: &raw::Report) -> Result<Verdict, Error> {
         0 => return Ok(Verdict::Accepted),
         1 => (),
         2 => return Err(Error::TooLong),
-        3 => return Err(Error::NoCircuit { rule, offset: found.offset }),
+        3 => {
+            return Err(Error::NoCircuit {
+                rule,
+                offset: found.offset,
+            })
+        }
         4 => return Err(Error::NoPublics { rule, line }),
         _ => return Err(Error::NoMemory),
     }
     Ok(match found.check {
-        1 => Verdict::Format { rule, offset: found.offset },
+        1 => Verdict::Format {
+            rule,
+            offset: found.offset,
+        },
         2 => Verdict::CircuitId(found.found_digest),
-        3 => Verdict::PathCount { found: found.found_count, needed: found.needed_count },
+        3 => Verdict::PathCount {
+            found: found.found_count,
+            needed: found.needed_count,
+        },
         4 => Verdict::Root(found.found_digest),
         5 => Verdict::LowDegree(found.column),
-        6 => Verdict::LinearSum { found: u128::from_le_bytes(found.found_sum), wanted: u128::from_le_bytes(found.wanted_sum) },
+        6 => Verdict::LinearSum {
+            found: u128::from_le_bytes(found.found_sum),
+            wanted: u128::from_le_bytes(found.wanted_sum),
+        },
         7 => Verdict::Linear(found.column),
         _ => Verdict::Quadratic(found.column),
     })
@@ -223,7 +254,10 @@ fn verdict(found: &raw::Report) -> Result<Verdict, Error> {
 /// The text of these numbers, as the calls take them: a line each.
 #[must_use]
 pub fn text(numbers: &[u128]) -> Vec<u8> {
-    numbers.iter().flat_map(|number| format!("{number}\n").into_bytes()).collect()
+    numbers
+        .iter()
+        .flat_map(|number| format!("{number}\n").into_bytes())
+        .collect()
 }
 
 /// 32 bytes of the system's random numbers: a seed for one proof.
@@ -248,7 +282,16 @@ pub fn compile(source: &str, version: Version) -> Result<Vec<u8>, Error> {
     loop {
         let mut found = raw::Outcome::default();
         // Each pointer leads to as many bytes as are said, and nothing else has what is written.
-        unsafe { raw::lzk_compile(version as u32, source.as_ptr(), source.len(), room.as_mut_ptr(), room.len(), &mut found) };
+        unsafe {
+            raw::lzk_compile(
+                version as u32,
+                source.as_ptr(),
+                source.len(),
+                room.as_mut_ptr(),
+                room.len(),
+                &mut found,
+            )
+        };
         if found.answer == 7 {
             room = vec![0; found.count as usize];
             continue;
@@ -269,7 +312,11 @@ pub fn circuit_info(circuit: &[u8]) -> Result<Info, Error> {
     unsafe { raw::lzk_circuit_info(circuit.as_ptr(), circuit.len(), &mut found) };
     match found.answer {
         0 => Ok(Info {
-            field: if found.field == 1 { Field::Goldilocks } else { Field::Gf2_128 },
+            field: if found.field == 1 {
+                Field::Goldilocks
+            } else {
+                Field::Gf2_128
+            },
             version: found.version,
             publics: found.publics,
             privates: found.privates,
@@ -277,7 +324,10 @@ pub fn circuit_info(circuit: &[u8]) -> Result<Info, Error> {
             checks: found.checks,
             id: found.id,
         }),
-        3 => Err(Error::NoCircuit { rule: found.kind, offset: found.offset }),
+        3 => Err(Error::NoCircuit {
+            rule: found.kind,
+            offset: found.offset,
+        }),
         _ => Err(Error::NoMemory),
     }
 }
@@ -290,24 +340,50 @@ pub fn circuit_info(circuit: &[u8]) -> Result<Info, Error> {
 pub fn evaluate(circuit: &[u8], public: &[u8], private: &[u8]) -> Result<(), Error> {
     version_fits()?;
     let mut found = raw::Outcome::default();
-    unsafe { raw::lzk_eval(circuit.as_ptr(), circuit.len(), public.as_ptr(), public.len(), private.as_ptr(), private.len(), &mut found) };
+    unsafe {
+        raw::lzk_eval(
+            circuit.as_ptr(),
+            circuit.len(),
+            public.as_ptr(),
+            public.len(),
+            private.as_ptr(),
+            private.len(),
+            &mut found,
+        )
+    };
     done(&found).map(|_| ())
 }
 
 /// The proof that the numbers of two texts satisfy a circuit. The seed is 32 bytes that nobody else can guess, new for each proof:
-/// who knows it knows the private numbers. The same seed gives the same bytes. The caller's thread does all the work. Clear your own copies of
-/// seed and private numbers: the library clears the memory that it takes, but not the stack.
+/// who knows it knows the private numbers. The same seed gives the same bytes. The caller's thread does all the work. The library clears the
+/// memory that it takes, and the stack that it used; clear your own copies of seed and private numbers.
 ///
 /// # Errors
 ///
 /// As `evaluate`.
-pub fn prove(circuit: &[u8], public: &[u8], private: &[u8], session: &[u8], seed: &[u8; 32]) -> Result<Vec<u8>, Error> {
+pub fn prove(
+    circuit: &[u8],
+    public: &[u8],
+    private: &[u8],
+    session: &[u8],
+    seed: &[u8; 32],
+) -> Result<Vec<u8>, Error> {
     version_fits()?;
     let (mut room, mut found) = (vec![0; MOST_PROOF], raw::Outcome::default());
     unsafe {
         raw::lzk_prove(
-            circuit.as_ptr(), circuit.len(), public.as_ptr(), public.len(), private.as_ptr(), private.len(), session.as_ptr(), session.len(),
-            seed.as_ptr(), room.as_mut_ptr(), room.len(), &mut found,
+            circuit.as_ptr(),
+            circuit.len(),
+            public.as_ptr(),
+            public.len(),
+            private.as_ptr(),
+            private.len(),
+            session.as_ptr(),
+            session.len(),
+            seed.as_ptr(),
+            room.as_mut_ptr(),
+            room.len(),
+            &mut found,
         )
     };
     room.truncate(done(&found)?);
@@ -320,12 +396,25 @@ pub fn prove(circuit: &[u8], public: &[u8], private: &[u8], session: &[u8], seed
 /// # Errors
 ///
 /// `NoCircuit`, `NoPublics`, `TooLong`, `NoMemory`.
-pub fn verify(circuit: &[u8], public: &[u8], session: &[u8], proof: &[u8]) -> Result<Verdict, Error> {
+pub fn verify(
+    circuit: &[u8],
+    public: &[u8],
+    session: &[u8],
+    proof: &[u8],
+) -> Result<Verdict, Error> {
     version_fits()?;
     let mut found = raw::Report::default();
     unsafe {
         raw::lzk_explain(
-            circuit.as_ptr(), circuit.len(), public.as_ptr(), public.len(), session.as_ptr(), session.len(), proof.as_ptr(), proof.len(), &mut found,
+            circuit.as_ptr(),
+            circuit.len(),
+            public.as_ptr(),
+            public.len(),
+            session.as_ptr(),
+            session.len(),
+            proof.as_ptr(),
+            proof.len(),
+            &mut found,
         )
     };
     verdict(&found)
@@ -360,9 +449,21 @@ impl Desk {
         version_fits()?;
         let mut desk = std::ptr::null_mut();
         let answer = unsafe {
-            raw::lzk_desk_open(&mut desk, circuit.as_ptr(), circuit.len(), public.as_ptr(), public.len(), session.as_ptr(), session.len())
+            raw::lzk_desk_open(
+                &mut desk,
+                circuit.as_ptr(),
+                circuit.len(),
+                public.as_ptr(),
+                public.len(),
+                session.as_ptr(),
+                session.len(),
+            )
         };
-        done(&raw::Outcome { answer, ..Default::default() }).map(|_| Desk(desk))
+        done(&raw::Outcome {
+            answer,
+            ..Default::default()
+        })
+        .map(|_| Desk(desk))
     }
 
     /// The next bytes of the proof.
@@ -372,7 +473,11 @@ impl Desk {
     /// `NoMemory`: feed them again.
     pub fn feed(&mut self, piece: &[u8]) -> Result<(), Error> {
         let answer = unsafe { raw::lzk_desk_feed(self.0, piece.as_ptr(), piece.len()) };
-        done(&raw::Outcome { answer, ..Default::default() }).map(|_| ())
+        done(&raw::Outcome {
+            answer,
+            ..Default::default()
+        })
+        .map(|_| ())
     }
 
     /// The verdict on all that was fed. The desk is ready for the next proof.

@@ -50,15 +50,58 @@ pub struct Desk {
 
 extern "C" {
     pub fn lzk_version() -> u32;
-    pub fn lzk_explain(c: *const u8, cn: usize, p: *const u8, pn: usize, s: *const u8, sn: usize, w: *const u8, wn: usize, report: *mut Report) -> u32;
-    pub fn lzk_compile(version: u32, text: *const u8, len: usize, room: *mut u8, room_len: usize, outcome: *mut Outcome) -> u32;
-    pub fn lzk_circuit_info(c: *const u8, cn: usize, info: *mut Info) -> u32;
-    pub fn lzk_eval(c: *const u8, cn: usize, p: *const u8, pn: usize, q: *const u8, qn: usize, outcome: *mut Outcome) -> u32;
-    pub fn lzk_prove(
-        c: *const u8, cn: usize, p: *const u8, pn: usize, q: *const u8, qn: usize, s: *const u8, sn: usize, seed: *const u8, room: *mut u8, room_len: usize,
+    pub fn lzk_explain(
+        c: *const u8,
+        cn: usize,
+        p: *const u8,
+        pn: usize,
+        s: *const u8,
+        sn: usize,
+        w: *const u8,
+        wn: usize,
+        report: *mut Report,
+    ) -> u32;
+    pub fn lzk_compile(
+        version: u32,
+        text: *const u8,
+        len: usize,
+        room: *mut u8,
+        room_len: usize,
         outcome: *mut Outcome,
     ) -> u32;
-    pub fn lzk_desk_open(desk: *mut *mut Desk, c: *const u8, cn: usize, p: *const u8, pn: usize, s: *const u8, sn: usize) -> u32;
+    pub fn lzk_circuit_info(c: *const u8, cn: usize, info: *mut Info) -> u32;
+    pub fn lzk_eval(
+        c: *const u8,
+        cn: usize,
+        p: *const u8,
+        pn: usize,
+        q: *const u8,
+        qn: usize,
+        outcome: *mut Outcome,
+    ) -> u32;
+    pub fn lzk_prove(
+        c: *const u8,
+        cn: usize,
+        p: *const u8,
+        pn: usize,
+        q: *const u8,
+        qn: usize,
+        s: *const u8,
+        sn: usize,
+        seed: *const u8,
+        room: *mut u8,
+        room_len: usize,
+        outcome: *mut Outcome,
+    ) -> u32;
+    pub fn lzk_desk_open(
+        desk: *mut *mut Desk,
+        c: *const u8,
+        cn: usize,
+        p: *const u8,
+        pn: usize,
+        s: *const u8,
+        sn: usize,
+    ) -> u32;
     pub fn lzk_desk_feed(desk: *mut Desk, bytes: *const u8, len: usize) -> u32;
     pub fn lzk_desk_end(desk: *mut Desk, report: *mut Report) -> u32;
     pub fn lzk_desk_free(desk: *mut Desk);
