@@ -1,3 +1,4 @@
+pub mod Alls
 pub mod Counting
 pub mod FewLaws
 pub mod Lists

@@ -36,7 +36,8 @@ pub record IsCase {A : Type 0} (o : Ops A) (e : Coding A) (c : Wiring A) (public
 -- What is seen of satisfying inputs passes.
 abbrev pub SeenPasses : {A : Type 0} → Ops A → Coding A → Type 0
 SeenPasses {A} o e =
-    (c : Wiring A) (public private : List A) (s : Script A) (ch : Challenges A) (columns : List ℕ) (word : ℕ → ℕ) (proof : Proof A)
+    (c : Wiring A) (public private : List A) (s : Script A) (ch : Challenges A) (columns : List ℕ) (word : ℕ → ℕ)
+    (proof : Proof A)
     → IsCase o e c public private s columns → IsSeen o e c public s ch columns private word proof
     → Passes o e c public s ch columns proof
 
@@ -59,7 +60,8 @@ SeenEquallyOften {A} o e =
 -- elements.
 abbrev pub SeenAlike : {A : Type 0} → Ops A → Coding A → Type 0
 SeenAlike {A} o e =
-    (c : Wiring A) (public first second : List A) (s : Script A) (ch : Challenges A) (columns : List ℕ) (proof : Proof A)
+    (c : Wiring A) (public first second : List A) (s : Script A) (ch : Challenges A) (columns : List ℕ)
+    (proof : Proof A)
     → IsCase o e c public first s columns → IsCase o e c public second s columns
     → AreEquallyMany (LeadsTo o e c public s ch columns first proof) (LeadsTo o e c public s ch columns second proof)
 
@@ -85,14 +87,16 @@ pub record ShowSame {A : Type 0} (first second : Proof A) : Type 0 where
 -- And to one thing at most.
 abbrev pub OneSeen : {A : Type 0} → Ops A → Coding A → Type 0
 OneSeen {A} o e =
-    (c : Wiring A) (public private : List A) (s : Script A) (ch : Challenges A) (columns : List ℕ) (word : ℕ → ℕ) (first second : Proof A)
+    (c : Wiring A) (public private : List A) (s : Script A) (ch : Challenges A) (columns : List ℕ) (word : ℕ → ℕ)
+    (first second : Proof A)
     → IsSeen o e c public s ch columns private word first → IsSeen o e c public s ch columns private word second
     → ShowSame first second
 
 -- What words lead to is decided by the elements that they stand for.
 abbrev pub ElementsDecide : {A : Type 0} → Ops A → Coding A → Type 0
 ElementsDecide {A} o e =
-    (c : Wiring A) (public private : List A) (s : Script A) (ch : Challenges A) (columns : List ℕ) (first second : ℕ → ℕ) (proof : Proof A)
+    (c : Wiring A) (public private : List A) (s : Script A) (ch : Challenges A) (columns : List ℕ)
+    (first second : ℕ → ℕ) (proof : Proof A)
     → IsCase o e c public private s columns
     → ((i : ℕ) → i < random_count (params_of c) → e.element (first i) ≡ e.element (second i))
     → IsSeen o e c public s ch columns private first proof → IsSeen o e c public s ch columns private second proof

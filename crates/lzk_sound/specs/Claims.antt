@@ -58,7 +58,8 @@ module _ {A : Type 0} (o : Ops A) (c : Wiring A) (public w : List A) where
     abbrev pub IsBadChallenge : ℕ → ℕ → A → Type 0
     IsBadChallenge l n x =
         IsBadRound o point (layered_at o c s values_in l) (first_challenges o s l n) (claim_after o point c s messages w l n)
-        (padded o messages w (sent_at c l + 2 * n) (pads_at c l + 2 * n)) (padded o messages w (sent_at c l + 2 * n + 1) (pads_at c l + 2 * n + 1)) x
+        (padded o messages w (sent_at c l + 2 * n) (pads_at c l + 2 * n))
+        (padded o messages w (sent_at c l + 2 * n + 1) (pads_at c l + 2 * n + 1)) x
 
     -- x as gamma joins the claims on the inputs to a true one, and one of them is not true
     abbrev pub IsBadGamma : A → Type 0

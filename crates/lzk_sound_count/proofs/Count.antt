@@ -3,7 +3,6 @@ use Rattle.std.specs.Prelude.{◌≡◌, ℕ, ◌+◌, ◌-◌, ◌*◌, ◌^◌
 use Rattle.std.specs.List.{range_with_len}
 use Rattle.std.proofs.Common.{zero, suc, refl, sym, ap, ◌∙◌, arith, subst, add-mul, mul_assoc, mul_comm, mul-le-mul_right, zero-mul, take_at, drop_at, length-append}
 use Rattle.std.proofs.lemmas.Bool.{false≢true, lt-ltb, le-ltb}
-use Rattle.std.proofs.lemmas.Grind.{div_ceil_times}
 use Rattle.std.proofs.lemmas.List.{take-append-drop, get_or-take, get_or-drop, length-take-le, length-replicate}
 use Rattle.std.proofs.lemmas.List.FromFn.{length-range_with_len, length-map-range_with_len}
 use native.Mathlib.Decide.{dec_lt}
@@ -14,7 +13,7 @@ use Rattle.lzk_field.proofs.SumLaws.{sum-ext}
 use Rattle.lzk_poly.specs.Through.{through}
 use Rattle.lzk_poly.proofs.Through.{eval-through, length-through}
 use Rattle.lzk_chance.specs.Draws.{count, draws_from}
-use Rattle.lzk_chance.specs.Few.{AreDistinct}
+use Rattle.lzk_chance.specs.Few.{AreDistinct, HasAll}
 use Rattle.lzk_chance.specs.Sets.{choose, sets_of, count_pairs}
 use Rattle.lzk_chance.proofs.Counting.{length-draws}
 use Rattle.lzk_chance.proofs.Lists.{all_long, all_of, count_more}
@@ -43,17 +42,25 @@ use Rattle.lzk_sound_whole.proofs.Copies.{copies_caught, products_follow}
 use Rattle.lzk_sound_whole.proofs.Joining.{gaps_join}
 use Rattle.lzk_sound_whole.proofs.Wholes.{whole_rare}
 use Rattle.lzk_sound_near.specs.Near.{AreClose}
-use Rattle.lzk_sound_table.specs.Table.{place, IsNear}
-use Rattle.lzk_sound_table.proofs.Far.{far_tables_pass_rarely}
+use Rattle.lzk_sound_table.specs.Table.{place, tested, IsNear}
+use Rattle.lzk_sound_near.proofs.Alls.{combinations_rare, same_elements}
+use Rattle.lzk_sound_table.proofs.Far.{columns_apart}
 use Rattle.lzk_sound_count.proofs.Made.{made_are}
 use Rattle.lzk_sound_count.specs.Game.{Strategy, row_count, whole_count, script_draws, weights_in, shown}
-use Rattle.lzk_sound_count.specs.Laws.{IsCheat, bad_count, FalseIsRare}
+use Rattle.lzk_sound_count.specs.Laws.{IsCheat, bad_count, all_elements, FalseIsRare}
 use Rattle.lzk_sound_count.proofs.Bound.{most_most}
+use Rattle.lzk_sound_count.proofs.Elements.{elements_all}
 use Rattle.lzk_sound_count.proofs.Facts.{AreTooMany, too_many, few_sets, known, lengths_of, script_part, linear_part, other_part}
 use Rattle.lzk_sound_count.proofs.Fronts.{found, front, behind, fronts_few, backs_few, either_counts}
 use Rattle.lzk_sound_count.proofs.Masks.{flip, flip_false}
 use Rattle.lzk_sound_count.proofs.Near.{hides_some, few_hide, and_left, and_right}
 use Rattle.lzk_sound_count.proofs.Rows.{here, low_here, rows, second_close, third_close, dot_right, quad_right, coefficient, right, quads}
+
+pub product_most : (a b c d : ℕ) → a ≤ c → b ≤ d → a * b ≤ c * d
+product_most a b c d h l =
+    let first : a * b ≤ c * b = mul-le-mul_right b h in
+    let second : b * c ≤ d * c = mul-le-mul_right c l in
+    omega (arith, first, second, mul_comm c b, mul_comm c d)
 
 -- the contrary
 abbrev flip_of : Bool → Bool
@@ -63,7 +70,7 @@ flipped : (b : Bool) → flip_of b ≡ true → b ≡ false
 flipped true is = absurd (false≢true is)
 flipped false is = refl
 
-module _ {A : Type 0} (o : Ops A) (e : Coding A) (laws : Laws o e.size e.number e.element e.bytes) (c : Wiring A) (public : List A) (strategy : Strategy A) (wins : List A → List ℕ → Bool) (ds : List A) (cheat : IsCheat o e c public strategy wins) (distinct : AreDistinct ds) (b : AreBounded (params_of c)) where
+module _ {A : Type 0} (o : Ops A) (e : Coding A) (laws : Laws o e.size e.number e.element e.bytes) (c : Wiring A) (public : List A) (strategy : Strategy A) (wins : List A → List ℕ → Bool) (ds : List A) (cheat : IsCheat o e c public strategy wins) (distinct : AreDistinct ds) (every : HasAll ds) (large : 2 ^ 18 ≤ length ds) (b : AreBounded (params_of c)) where
   abbrev p : Params
   p = params_of c
 
@@ -98,14 +105,20 @@ module _ {A : Type 0} (o : Ops A) (e : Coding A) (laws : Laws o e.size e.number 
   v_part : (x u v : List A) → length x ≡ n1 → length u ≡ nu → (weights_in c (x ++ (u ++ v))).v ≡ v
   v_part x u v lx lu = ap (drop nu) (other_part c x (u ++ v) lx) ∙ drop_at u v nu lu
 
+  few_rows : nu * (p.block + 1) < N
+  few_rows =
+      let most : nu * (p.block + 1) ≤ 262 * 641 = product_most nu (p.block + 1) 262 641 (omega (arith, b.nrow)) (omega (arith, b.block, b.wr)) in
+      omega (arith, most, large)
+
   -- ---- a table that is far from codewords
 
-  far_count : (IsNear o e.element p strategy.table p.block → ⊥) → count bad (draws_from ds (whole_count c)) * N ≤ nu * (p.block + 1) * N ^ whole_count c
+  far_count : (IsNear o e.element p strategy.table p.block → ⊥) → count bad (draws_from ds (whole_count c)) * N ≤ (p.block + 2) * N ^ whole_count c
   far_count far =
-      let K = nu * (p.block + 1) in
+      let K = p.block + 2 in
       backs_few ds bad n1 (nu + nv) K
       (λ x lx. fronts_few ds (λ t. bad (x ++ t)) nu nv K
-      (far_tables_pass_rarely laws p strategy.table p.block (front ds (λ t. bad (x ++ t)) nu nv K) ds b (omega arith) far
+      (combinations_rare o laws.ring laws.field (same_elements laws.numbers) (place o e.element p strategy.table) p.block p.mcol p.block nu (strategy.table 0)
+      (tested o e.element p strategy.table) (front ds (λ t. bad (x ++ t)) nu nv K) ds (columns_apart laws p strategy.table b) (omega (arith, b.mcol)) far
       (λ u lu is.
       let found = behind ds (λ t. bad (x ++ t)) nu nv K u is in
       let v = found.0 in
@@ -121,7 +134,7 @@ module _ {A : Type 0} (o : Ops A) (e : Coding A) (laws : Laws o e.size e.number 
             let passes = low_here o e laws c b public strategy draws j (flip_false (here o e laws c b public strategy draws) j out) in
             sym (eval-through o laws.ring e.element ldt (e.element (p.dblock + j)) ∙ passes
             ∙ ap (λ ws. o.plus (strategy.table 0 j) (sum_below o nu (λ i. o.times (entry o ws i) (strategy.table (3 + i) j)))) (u_part x u v lx lu));
-      }) distinct))
+      }) distinct every few_rows))
 
   -- ---- a table that is near codewords
 
@@ -351,21 +364,11 @@ module _ {A : Type 0} (o : Ops A) (e : Coding A) (laws : Laws o e.size e.number 
         absurd (omega (arith, more, far_count far, up))
   ]
     where
-      far_less : nu * (p.block + 1) ≤ bad_count c
+      far_less : p.block + 2 ≤ bad_count c
       far_less = omega arith
 
-      one_row : (n k : ℕ) → 1 ≤ n → k ≤ n * (k + 1)
-      one_row n k h = let up : 1 * (k + 1) ≤ n * (k + 1) = mul-le-mul_right (k + 1) h in omega (arith, up)
-
       near_less : p.block + (most c outputs + 19) ≤ bad_count c
-      near_less = omega (arith, one_row nu p.block (omega (arith, some_rows)))
-        where
-          some_triple : (n w l : ℕ) → l ≤ n * w → 1 ≤ l → 1 ≤ n
-          some_triple zero w l h one = absurd (omega (arith, h, one, zero-mul w))
-          some_triple (suc n) w l h one = omega arith
-
-          some_rows : 1 ≤ nu
-          some_rows = omega (arith, b.rows, some_triple p.ntriple p.wr p.layers (omega (arith, (div_ceil_times p.layers p.wr (omega (arith, b.wide))).0)) b.some)
+      near_less = omega arith
 
   pub count_whole : count_pairs wins (draws_from ds (whole_count c)) (sets_of 128 (range_with_len 0 p.mcol)) * N
       ≤ (bad_count c * choose p.mcol 128 + N * choose (3 * p.block - 1) 128) * N ^ whole_count c
@@ -391,4 +394,10 @@ module _ {A : Type 0} (o : Ops A) (e : Coding A) (laws : Laws o e.size e.number 
           omega (arith, first, expand, a, up, d, f, add-mul (B * M) (N * C) T)
 
 pub false_rare : {A : Type 0} (o : Ops A) (e : Coding A) → Laws o e.size e.number e.element e.bytes → FalseIsRare o e
-false_rare o e laws = λ c public strategy wins ds cheat distinct. count_whole o e laws c public strategy wins ds cheat distinct (params_bounded o c cheat.valid)
+false_rare o e laws = λ c public strategy wins cheat large.
+    let all = elements_all e laws.numbers in
+    let ds = all_elements e in
+    let C = choose (3 * (params_of c).block - 1) 128 in
+    let M = choose (params_of c).mcol 128 in
+    subst (λ (n : ℕ). count_pairs wins (draws_from ds (whole_count c)) (sets_of 128 (range_with_len 0 (params_of c).mcol)) * n ≤ (bad_count c * M + n * C) * n ^ whole_count c) all.count
+    (count_whole o e laws c public strategy wins ds cheat all.distinct all.every (omega (arith, large, all.count)) (params_bounded o c cheat.valid))

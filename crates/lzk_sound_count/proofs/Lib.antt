@@ -1,5 +1,6 @@
 mod Bound
 mod Count
+mod Elements
 mod Facts
 mod Fronts
 mod Made

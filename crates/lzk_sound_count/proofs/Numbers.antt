@@ -22,10 +22,11 @@ use Rattle.lzk_sound_draws.specs.Game.Target.{outputs}
 use Rattle.lzk_sound_draws.specs.Laws.{most, add_below}
 use Rattle.lzk_sound_draws.proofs.Most.{most_is}
 use Rattle.lzk_sound_draws.proofs.Places.{few_firsts}
-use Rattle.lzk_sound_count.specs.Game.{row_count, whole_count}
-use Rattle.lzk_sound_count.specs.Laws.{bad_count}
+use Rattle.lzk_sound_count.specs.Game.{whole_count}
+use Rattle.lzk_sound_count.specs.Laws.{bad_count, all_elements}
 use Rattle.lzk_sound_count.specs.Numbers.{ColumnsMissRarely, PassesByOneIn}
 use Rattle.lzk_sound_count.proofs.Count.{false_rare}
+use Rattle.lzk_sound_count.proofs.Elements.{elements_all}
 
 -- ---- computed
 
@@ -51,12 +52,6 @@ below_most : (n most : ℕ) (f : ℕ → ℕ) → ((k : ℕ) → k < n → f k �
 below_most zero most f few = omega (arith, zero-mul most)
 below_most (suc n) most f few = omega (arith, below_most n most f (λ k h. few k (omega (arith, h))), few n (omega arith), add-mul 1 n most)
 
-product_most : (a b c d : ℕ) → a ≤ c → b ≤ d → a * b ≤ c * d
-product_most a b c d h l =
-    let first : a * b ≤ c * b = mul-le-mul_right b h in
-    let second : b * c ≤ d * c = mul-le-mul_right c l in
-    omega (arith, first, second, mul_comm c b, mul_comm c d)
-
 module _ {A : Type 0} (o : Ops A) (c : Wiring A) (valid : IsValid o c) where
   few_in_layer : (k : ℕ) → k < depth c → firsts c + 4 * bits_under c k ≤ 70
   few_in_layer k h = let w = within c o valid k h in omega (arith, w.bits, few_firsts c)
@@ -71,11 +66,8 @@ module _ {A : Type 0} (o : Ops A) (c : Wiring A) (valid : IsValid o c) where
       let layers : depth c * 70 ≤ 512 * 70 = mul-le-mul_right 70 b.layers in
       omega (arith, most_is c outputs, sum, layers, few_outputs)
 
-  pub bad_bounded : bad_count c ≤ 203819
-  bad_bounded =
-      let b = params_bounded o c valid in
-      let rows : row_count c * ((params_of c).block + 1) ≤ 262 * 641 = product_most (row_count c) ((params_of c).block + 1) 262 641 (omega (arith, b.nrow)) (omega (arith, b.block, b.wr)) in
-      omega (arith, rows, most_few)
+  pub bad_bounded : bad_count c ≤ 36517
+  bad_bounded = let b = params_bounded o c valid in omega (arith, b.block, b.wr, most_few)
 
 -- ---- together
 
@@ -111,46 +103,63 @@ one_in x N T M E C F k a d most q h few many bad miss all some parts =
     let nonzero : 1 * k ≤ N * k = mul-le-mul_right k (omega (arith, some, many)) in
     parts_of x N T M E C F k a d h (omega (arith, second, bad, third, mul_comm a q, mul_comm a N)) miss all (omega (arith, nonzero, parts))
 
-goldilocks_bad : 203819 * 2 ^ 46 * 8 ≤ 7 * (2 ^ 64 - 2 ^ 32 + 1)
-goldilocks_bad = leb-true (203819 * 2 ^ 46 * 8) (7 * (2 ^ 64 - 2 ^ 32 + 1)) refl
+goldilocks_bad : 36517 * 2 ^ 48 * 8 ≤ 7 * (2 ^ 64 - 2 ^ 32 + 1)
+goldilocks_bad = leb-true (36517 * 2 ^ 48 * 8) (7 * (2 ^ 64 - 2 ^ 32 + 1)) refl
 
-gf128_bad : 203819 * 2 ^ 54 * 3 ≤ 1 * 2 ^ 128
-gf128_bad = leb-true (203819 * 2 ^ 54 * 3) (1 * 2 ^ 128) refl
+goldilocks_few_bad : 1024 * 2 ^ 53 * 8 ≤ 5 * (2 ^ 64 - 2 ^ 32 + 1)
+goldilocks_few_bad = leb-true (1024 * 2 ^ 53 * 8) (5 * (2 ^ 64 - 2 ^ 32 + 1)) refl
 
-some_goldilocks : 0 < 2 ^ 64 - 2 ^ 32 + 1
-some_goldilocks = ltb-true 0 (2 ^ 64 - 2 ^ 32 + 1) refl
+gf128_bad : 36517 * 2 ^ 54 * 3 ≤ 1 * 2 ^ 128
+gf128_bad = leb-true (36517 * 2 ^ 54 * 3) (1 * 2 ^ 128) refl
 
-some_gf128 : 0 < 2 ^ 128
-some_gf128 = ltb-true 0 (2 ^ 128) refl
+large_goldilocks : 2 ^ 18 ≤ 2 ^ 64 - 2 ^ 32 + 1
+large_goldilocks = leb-true (2 ^ 18) (2 ^ 64 - 2 ^ 32 + 1) refl
 
--- what is missed more often than so, is missed more often than less
+large_gf128 : 2 ^ 18 ≤ 2 ^ 128
+large_gf128 = leb-true (2 ^ 18) (2 ^ 128) refl
+
+-- what is missed at most so often, is missed at most less often
 less_often : (C M F k d by : ℕ) → C * by ≤ M → F * k ≤ by * d → C * F * k ≤ d * M
 less_often C M F k d by h l =
     let first : C * by * d ≤ M * d = mul-le-mul_right d h in
     let second : F * k * C ≤ by * d * C = mul-le-mul_right C l in
     omega (arith, first, second, mul_assoc C F k, mul_comm C (F * k), mul_assoc C by d, mul_comm C (by * d), mul_comm M d)
 
-goldilocks_miss : 2 ^ 46 * 8 ≤ 3 * 2 ^ 53 * 1
-goldilocks_miss = leb-true (2 ^ 46 * 8) (3 * 2 ^ 53 * 1) refl
+goldilocks_miss : 2 ^ 48 * 8 ≤ 3 * 2 ^ 53 * 1
+goldilocks_miss = leb-true (2 ^ 48 * 8) (3 * 2 ^ 53 * 1) refl
+
+goldilocks_few_miss : 2 ^ 53 * 8 ≤ 3 * 2 ^ 53 * 3
+goldilocks_few_miss = leb-true (2 ^ 53 * 8) (3 * 2 ^ 53 * 3) refl
 
 gf128_miss : 2 ^ 54 * 3 ≤ 3 * 2 ^ 53 * 2
 gf128_miss = leb-true (2 ^ 54 * 3) (3 * 2 ^ 53 * 2) refl
 
 module _ {A : Type 0} (o : Ops A) (e : Coding A) (laws : Laws o e.size e.number e.element e.bytes) where
-  shares : (by elements k a d : ℕ) → 203819 * 2 ^ by * k ≤ a * elements → 2 ^ by * k ≤ 3 * 2 ^ 53 * d → a + d ≤ k → 0 < elements → 0 < k → PassesByOneIn o e by elements
-  shares by elements k a d bad miss all some parts c public strategy wins ds cheat distinct many =
+  shares : (limit by elements k a d : ℕ) → limit * 2 ^ by * k ≤ a * elements → 2 ^ by * k ≤ 3 * 2 ^ 53 * d → a + d ≤ k → 2 ^ 18 ≤ elements → 0 < k → PassesByOneIn o e limit by elements
+  shares limit by elements k a d bad miss all large parts c public strategy wins cheat few many =
       let S = sets_of 128 (range_with_len 0 (params_of c).mcol) in
+      let ds = all_elements e in
       let D = draws_from ds (whole_count c) in
       let M = choose (params_of c).mcol 128 in
       let C = choose (3 * (params_of c).block - 1) 128 in
       let sets : length S ≡ M = sets_counted 128 (range_with_len 0 (params_of c).mcol) ∙ ap (λ (j : ℕ). choose j 128) (length-range_with_len 0 (params_of c).mcol) in
-      let draws : length D ≡ length ds ^ whole_count c = length-draws ds (whole_count c) in
-      let rare = one_in (count_pairs wins D S) (length ds) (length ds ^ whole_count c) M (bad_count c) C (2 ^ by) k a d 203819 elements (false_rare o e laws c public strategy wins ds cheat distinct) (bad_bounded o c cheat.valid) many bad
+      let draws : length D ≡ e.size ^ whole_count c = length-draws ds (whole_count c) ∙ ap (λ (j : ℕ). j ^ whole_count c) (elements_all e laws.numbers).count in
+      let some : 0 < elements = positive (2 ^ 18) elements one_at_least large in
+      let rare = one_in (count_pairs wins D S) e.size (e.size ^ whole_count c) M (bad_count c) C (2 ^ by) k a d limit elements (false_rare o e laws c public strategy wins cheat (omega (arith, large, many))) few many bad
       (less_often C M (2 ^ by) k d (3 * 2 ^ 53) (columns_miss o c cheat.valid) miss) all some parts in
-      subst (λ (j : ℕ). count_pairs wins D S * 2 ^ by ≤ j * length S) (sym draws) (subst (λ (j : ℕ). count_pairs wins D S * 2 ^ by ≤ length ds ^ whole_count c * j) (sym sets) rare)
+      subst (λ (j : ℕ). count_pairs wins D S * 2 ^ by ≤ j * length S) (sym draws) (subst (λ (j : ℕ). count_pairs wins D S * 2 ^ by ≤ e.size ^ whole_count c * j) (sym sets) rare)
+    where
+      positive : (x y : ℕ) → 0 < x → x ≤ y → 0 < y
+      positive x y h l = omega (arith, h, l)
 
-  pub goldilocks_share : PassesByOneIn o e 46 (2 ^ 64 - 2 ^ 32 + 1)
-  goldilocks_share = shares 46 (2 ^ 64 - 2 ^ 32 + 1) 8 7 1 goldilocks_bad goldilocks_miss (omega arith) some_goldilocks (omega arith)
+      one_at_least : 0 < 2 ^ 18
+      one_at_least = ltb-true 0 (2 ^ 18) refl
 
-  pub gf128_share : PassesByOneIn o e 54 (2 ^ 128)
-  gf128_share = shares 54 (2 ^ 128) 3 1 2 gf128_bad gf128_miss (omega arith) some_gf128 (omega arith)
+  pub goldilocks_share : PassesByOneIn o e 36517 48 (2 ^ 64 - 2 ^ 32 + 1)
+  goldilocks_share = shares 36517 48 (2 ^ 64 - 2 ^ 32 + 1) 8 7 1 goldilocks_bad goldilocks_miss (omega arith) large_goldilocks (omega arith)
+
+  pub goldilocks_few_share : PassesByOneIn o e 1024 53 (2 ^ 64 - 2 ^ 32 + 1)
+  goldilocks_few_share = shares 1024 53 (2 ^ 64 - 2 ^ 32 + 1) 8 5 3 goldilocks_few_bad goldilocks_few_miss (omega arith) large_goldilocks (omega arith)
+
+  pub gf128_share : PassesByOneIn o e 36517 54 (2 ^ 128)
+  gf128_share = shares 36517 54 (2 ^ 128) 3 1 2 gf128_bad gf128_miss (omega arith) large_gf128 (omega arith)

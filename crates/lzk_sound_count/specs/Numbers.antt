@@ -4,12 +4,11 @@ use Rattle.std.specs.List.{range_with_len}
 use Rattle.lzk_field.specs.Coding.{Coding}
 use Rattle.lzk_field.specs.Ring.{Ops}
 use Rattle.lzk_chance.specs.Draws.{draws_from}
-use Rattle.lzk_chance.specs.Few.{AreDistinct}
 use Rattle.lzk_chance.specs.Sets.{sets_of, choose, count_pairs}
 use Rattle.lzk_circuit.specs.Valid.{Wiring, IsValid}
 use Rattle.lzk_layout.specs.Sizes.{params_of}
 use Rattle.lzk_sound_count.specs.Game.{Strategy, whole_count}
-use Rattle.lzk_sound_count.specs.Laws.{IsCheat, bad_count}
+use Rattle.lzk_sound_count.specs.Laws.{IsCheat, bad_count, all_elements}
 
 -- Of the sets of 128 columns at most one in 3 * 2^53 lies among three quarters of them, but for one.
 abbrev pub ColumnsMissRarely : {A : Type 0} → Ops A → Type 0
@@ -19,14 +18,14 @@ ColumnsMissRarely {A} o =
 
 -- No valid circuit has more than so many bad elements, of all draws and weights together.
 abbrev pub BadAreBounded : {A : Type 0} → Ops A → Type 0
-BadAreBounded {A} o = (c : Wiring A) → IsValid o c → bad_count c ≤ 203819
+BadAreBounded {A} o = (c : Wiring A) → IsValid o c → bad_count c ≤ 36517
 
--- By at most one in 2^by of all pairs of draws and of a set of 128 columns a false statement passes, for draws from
--- so many elements at least.
-abbrev pub PassesByOneIn : {A : Type 0} → Ops A → Coding A → ℕ → ℕ → Type 0
-PassesByOneIn {A} o e by elements =
-    (c : Wiring A) (public : List A) (strategy : Strategy A) (wins : List A → List ℕ → Bool) (ds : List A)
-    → IsCheat o e c public strategy wins → AreDistinct ds
-    → elements ≤ length ds
-    → count_pairs wins (draws_from ds (whole_count c)) (sets_of 128 (range_with_len 0 (params_of c).mcol)) * 2 ^ by
-    ≤ length (draws_from ds (whole_count c)) * length (sets_of 128 (range_with_len 0 (params_of c).mcol))
+-- By at most one in 2^by of all pairs of draws and of a set of 128 columns a false statement passes, for circuits
+-- with so many bad elements at most, over a field of so many elements at least.
+abbrev pub PassesByOneIn : {A : Type 0} → Ops A → Coding A → ℕ → ℕ → ℕ → Type 0
+PassesByOneIn {A} o e bad by elements =
+    (c : Wiring A) (public : List A) (strategy : Strategy A) (wins : List A → List ℕ → Bool)
+    → IsCheat o e c public strategy wins → bad_count c ≤ bad
+    → elements ≤ e.size
+    → count_pairs wins (draws_from (all_elements e) (whole_count c)) (sets_of 128 (range_with_len 0 (params_of c).mcol)) * 2 ^ by
+    ≤ length (draws_from (all_elements e) (whole_count c)) * length (sets_of 128 (range_with_len 0 (params_of c).mcol))

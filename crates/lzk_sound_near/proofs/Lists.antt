@@ -53,7 +53,7 @@ module _ {A : Type 0} (o : Ops A) (r : RingLaws o) (f : FieldLaws o) (at : ℕ �
   N = length ds
 
   abbrev Wins : ℕ → (ℕ → A) → (ℕ → ℕ → A) → (List A → Bool) → Type 0
-  Wins m constant rows wins = (ws : List A) → length ws ≡ m → wins ws ≡ true → AreClose o at n end e 1 (λ i. mixed o constant rows (entry o ws) m)
+  Wins m constant rows wins = (ws : List A) → length ws ≡ m → wins ws ≡ true → (AreClose o at n end e 1 (λ i. mixed o constant rows (entry o ws) m) → ⊥) → ⊥
 
   first_is : (m : ℕ) (constant : ℕ → A) (rows : ℕ → ℕ → A) (x : A) (ws : List A) (j : ℕ)
       → mixed o (λ j. o.plus (constant j) (o.times x (rows 0 j))) (λ i. rows (suc i)) (entry o ws) m j ≡ mixed o constant rows (entry o (x ∷ ws)) (suc m) j
@@ -70,7 +70,7 @@ module _ {A : Type 0} (o : Ops A) (r : RingLaws o) (f : FieldLaws o) (at : ℕ �
       only_one (suc i) j h = absurd (omega (arith, h))
 
       go : (b : Bool) → wins [] ≡ b → (cond b 1 0 + 0) * N ≤ 0 * (e + 1) * N ^ 0
-      go true is = absurd (far (close_same o at n end e 1 (0 + 1) (λ i. mixed o constant rows (entry o []) 0) (headed constant rows) (omega arith) only_one (only [] refl is)))
+      go true is = absurd (only [] refl is (λ c. far (close_same o at n end e 1 (0 + 1) (λ i. mixed o constant rows (entry o []) 0) (headed constant rows) (omega arith) only_one c)))
       go false is = omega arith
   rare (suc m) constant rows wins far only =
       let T = N ^ m in
@@ -79,9 +79,11 @@ module _ {A : Type 0} (o : Ops A) (r : RingLaws o) (f : FieldLaws o) (at : ℕ �
       let few : HasAtMost (e + 1) P = step_few o r at n end e m constant rows f apart small (λ c. far (close_same o at n end e (m + 2) (suc m + 1) (headed constant rows) (headed constant rows) (omega arith) (λ i j h. refl) c)) in
       let rest : (x : A) → (P x → ⊥) → count (λ t. wins (x ∷ t)) (draws_from ds m) * N ≤ S =
       λ x none. rare m (λ j. o.plus (constant j) (o.times x (rows 0 j))) (λ i. rows (suc i)) (λ t. wins (x ∷ t)) none
-      (λ ws is won.
-      close_same o at n end e 1 1 (λ i. mixed o constant rows (entry o (x ∷ ws)) (suc m)) (λ i. mixed o (λ j. o.plus (constant j) (o.times x (rows 0 j))) (λ i. rows (suc i)) (entry o ws) m) (omega arith)
-      (λ i j h. first_is m constant rows x ws j) (only (x ∷ ws) (ap suc is) won)) in
+      (λ ws is won never.
+      only (x ∷ ws) (ap suc is) won
+      (λ c. never
+      (close_same o at n end e 1 1 (λ i. mixed o constant rows (entry o (x ∷ ws)) (suc m)) (λ i. mixed o (λ j. o.plus (constant j) (o.times x (rows 0 j))) (λ i. rows (suc i)) (entry o ws) m) (omega arith)
+      (λ i j h. first_is m constant rows x ws j) c))) in
       let all = fronts_few P wins (draws_from ds m) N T S (length-draws ds m) rest (e + 1) few ds distinct in
       let power : N ^ suc m ≡ T * N = pow-suc N m ∙ omega (arith, mul_comm T N) in
       let right : suc m * (e + 1) * N ^ suc m ≡ (e + 1) * (T * N) + m * (e + 1) * (T * N) =
@@ -90,4 +92,4 @@ module _ {A : Type 0} (o : Ops A) (r : RingLaws o) (f : FieldLaws o) (at : ℕ �
       omega (arith, all, right, left)
 
 pub mixes_rare : {A : Type 0} (o : Ops A) → RingLaws o → FieldLaws o → MixesAreRare o
-mixes_rare o r f = λ at n end e m constant rows wins ds apart small far only distinct. rare o r f at n end e apart small ds distinct m constant rows wins far only
+mixes_rare o r f = λ at n end e m constant rows wins ds apart small far only distinct. rare o r f at n end e apart small ds distinct m constant rows wins far (λ ws is won never. never (only ws is won))

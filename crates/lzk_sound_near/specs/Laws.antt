@@ -4,7 +4,7 @@ use Rattle.lzk_field.specs.Ring.{Ops}
 use Rattle.lzk_field.specs.Sums.{entry}
 use Rattle.lzk_poly.specs.Polynomial.{eval}
 use Rattle.lzk_chance.specs.Draws.{count, draws_from}
-use Rattle.lzk_chance.specs.Few.{AreDistinct, HasAtMost}
+use Rattle.lzk_chance.specs.Few.{AreDistinct, HasAtMost, HasAll}
 use Rattle.lzk_sound_near.specs.Near.{AreApart, AreClose, AreBothClose, on_line}
 use Rattle.lzk_sound_near.specs.Mixes.{headed, mixed, IsBadMix}
 
@@ -42,6 +42,18 @@ MixesAreRare {A} o =
     → ((ws : List A) → length ws ≡ m → wins ws ≡ true → AreClose o at n end e 1 (λ i. mixed o constant rows (entry o ws) m))
     → AreDistinct ds
     → count wins (draws_from ds m) * length ds ≤ m * (e + 1) * length ds ^ m
+
+-- The same for weights from a list of all elements, of which there are more than m times e + 1: the share is at most
+-- e + 2 over their number, however many words there are. For on each line through a combination that is far few are
+-- close.
+abbrev pub CombinationsAreRare : {A : Type 0} → Ops A → Type 0
+CombinationsAreRare {A} o =
+    (at : ℕ → A) (n end e m : ℕ) (constant : ℕ → A) (rows : ℕ → ℕ → A) (wins : List A → Bool) (ds : List A)
+    → AreApart at end → 3 * e + n ≤ end
+    → (AreClose o at n end e (m + 1) (headed constant rows) → ⊥)
+    → ((ws : List A) → length ws ≡ m → wins ws ≡ true → AreClose o at n end e 1 (λ i. mixed o constant rows (entry o ws) m))
+    → AreDistinct ds → HasAll ds → m * (e + 1) < length ds
+    → count wins (draws_from ds m) * length ds ≤ (e + 2) * length ds ^ m
 
 -- A word that is not close to a codeword has the values of a given polynomial at fewer than all but e of the columns.
 abbrev pub FarAgreesRarely : {A : Type 0} → Ops A → Type 0

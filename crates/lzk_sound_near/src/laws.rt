@@ -1,6 +1,13 @@
 //! Laws of the definitions, as contracts of functions that do nothing.
 
-ghost use Rattle.lzk_sound_near.specs.Laws.{FarAgreesRarely, FarUnlessBad, LinesAreFew, MixesAreFew, MixesAreRare};
+ghost use Rattle.lzk_sound_near.specs.Laws.{
+  CombinationsAreRare,
+  FarAgreesRarely,
+  FarUnlessBad,
+  LinesAreFew,
+  MixesAreFew,
+  MixesAreRare,
+};
 
 use lzk_field::Field;
 
@@ -16,5 +23,6 @@ pub fn mix_laws<F: Field>()
     ensures weights { MixesAreFew F.ops }
     ensures far { FarUnlessBad F.ops }
     ensures lists { MixesAreRare F.ops }
+    ensures all { CombinationsAreRare F.ops }
     ensures columns { FarAgreesRarely F.ops }
 {}

@@ -38,7 +38,8 @@ ColumnsAreFew {A} o point =
 -- constraints, unless some draw is bad for them.
 abbrev pub RowsSatisfyUnlessBad : {A : Type 0} → Ops A → Coding A → Type 0
 RowsSatisfyUnlessBad {A} o e =
-    (c : Wiring A) (coefficient : ℕ → ℕ → A) (right : ℕ → A) (ch : Challenges A) (rows : List (List A)) (proof : Proof A) (columns : List ℕ)
+    (c : Wiring A) (coefficient : ℕ → ℕ → A) (right : ℕ → A) (ch : Challenges A) (rows : List (List A))
+    (proof : Proof A) (columns : List ℕ)
     → AreBounded (params_of c) → AreRows (params_of c) rows → AreOpened o e.element (params_of c) rows proof columns
     → HasLengths (params_of c) proof
     → HasLinearSum o (params_of c) proof (wanted o c right ch)

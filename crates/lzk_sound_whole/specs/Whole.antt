@@ -55,7 +55,8 @@ pub record IsWholeForger {A : Type 0} (o : Ops A) (e : Coding A) (c : Wiring A) 
 -- more, over the list's length.
 abbrev pub WholeIsRare : {A : Type 0} → Ops A → Coding A → Type 0
 WholeIsRare {A} o e =
-    (c : Wiring A) (public : List A) (rows : List (List A)) (send : List A → List A) (wins : List A → List A → Bool) (target : Target) (ds : List A)
+    (c : Wiring A) (public : List A) (rows : List (List A)) (send : List A → List A) (wins : List A → List A → Bool)
+    (target : Target) (ds : List A)
     → IsWholeForger o e c public rows send wins
     → IsOf c target → (AreZero o (entry o (table_of o c public (held o c rows) target)) → ⊥) → AreDistinct ds
     → count (λ r. wins (take (draw_count c) r) (drop (draw_count c) r)) (draws_from ds (draw_count c + weight_count c)) * length ds
@@ -76,7 +77,8 @@ GapsJoin {A} o =
 -- Where a copy is not what it copies, the share is at most one over the list's length.
 abbrev pub CopiesAreCaught : {A : Type 0} → Ops A → Coding A → Type 0
 CopiesAreCaught {A} o e =
-    (c : Wiring A) (public : List A) (rows : List (List A)) (send : List A → List A) (wins : List A → List A → Bool) (m : ℕ) (ds : List A)
+    (c : Wiring A) (public : List A) (rows : List (List A)) (send : List A → List A) (wins : List A → List A → Bool)
+    (m : ℕ) (ds : List A)
     → m < 3 * depth c → copy_gap o c rows m ≢ o.zero
     → WinsBySum o e c public rows send wins → AreDistinct ds
     → count (λ r. wins (take (draw_count c) r) (drop (draw_count c) r)) (draws_from ds (draw_count c + weight_count c)) * length ds
