@@ -17,6 +17,7 @@ ghost use Rattle.lzk_hiding.specs.Laws.{
   SomeSeen,
   WordsCounted,
 };
+ghost use Rattle.lzk_hiding.specs.Tree.{ProgrammedAccepted, ProofsAreCompleted};
 ghost use Rattle.lzk_hiding.specs.Words.{IsSmall, RandomAreFew};
 
 use lzk_field::Field;
@@ -58,4 +59,12 @@ pub fn word_laws<F: Field>()
     ensures few { RandomAreFew F.ops }
     ensures one { IsSmall 18446744069414584321 340282366920938463463374607431768211456 1 96 }
     ensures all { IsSmall 18446744069414584321 340282366920938463463374607431768211456 72574 79 }
+{}
+
+/// Root and path of a prover's proof are made of what is seen, the nonces and the digests of the other columns. By a
+/// programmed tape, which gives draws that were fixed before, what passes is so completed to a proof with the verdict
+/// Accepted, by any nonces and any such digests.
+pub fn tape_laws<F: Field>()
+    ensures completed { ProofsAreCompleted F.ops F.coding }
+    ensures programmed { ProgrammedAccepted F.ops F.coding }
 {}
