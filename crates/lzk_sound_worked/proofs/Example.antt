@@ -1,0 +1,96 @@
+-- A worked instance. The circuit has one layer with one wire, which is the one, so that its output is never 0. The prover commits to a table that is far
+-- from codewords and sends zeros, and wins by draws of zeros.
+use Rattle.std.specs.Prelude.{[], ◌∷◌}
+use Rattle.std.specs.List.{range_with_len}
+use Rattle.std.proofs.Common.{inl, refl, sym, ap, ◌∙◌, arith}
+use Rattle.lzk_field.specs.Coding.{Coding}
+use Rattle.lzk_field.specs.Ring.{Ops, Laws}
+use Rattle.lzk_field.specs.Sums.{minus}
+use Rattle.lzk_field.proofs.Solve.{var, null, unit, ◌⊞◌, ◌⊟◌, ◌⊠◌, solve}
+use Rattle.lzk_chance.specs.Draws.{draws_from}
+use Rattle.lzk_chance.specs.Sets.{sets_of}
+use Rattle.lzk_circuit.specs.declared.layer.Term.{Term}
+use Rattle.lzk_circuit.specs.declared.layer.Layer.{Layer}
+use Rattle.lzk_circuit.specs.Valid.{Wiring, IsValid}
+use Rattle.lzk_circuit.specs.Wires.{wire}
+use Rattle.lzk_layout.specs.Sizes.{params_of}
+use Rattle.lzk_layout.proofs.SizeLaws.{params_bounded}
+use Rattle.lzk_sound_count.specs.Game.{whole_count}
+use Rattle.lzk_sound_count.specs.Laws.{IsFalse, all_elements}
+use Rattle.lzk_sound_worked.specs.Zeros.{zeros_sent, half_table, sees_zeros}
+use Rattle.lzk_sound_worked.specs.Laws.{CheatsPass, SomeCheat}
+use Rattle.lzk_sound_worked.proofs.Counts.{zeros_seen, zero_is_in, some_draws, some_sets, pairs_with_zeros}
+use Rattle.lzk_sound_worked.proofs.FarTables.{half_far, half_masks}
+use Rattle.lzk_sound_worked.proofs.Passing.{zeros_passed, zeros_prover}
+
+module _ {A : Type 0} (o : Ops A) (e : Coding A) (laws : Laws o e.size e.number e.element e.bytes) where
+  pub cheats_pass : CheatsPass o e
+  cheats_pass c public table valid publics wrong masks =
+      let b = params_bounded o c valid in (
+        record {
+          valid = valid;
+          publics = publics;
+          wrong = wrong;
+          prover = zeros_prover o c table;
+          only = λ draws columns long many seen. zeros_passed o e laws c b public table masks draws (zeros_seen o e laws draws seen) columns;
+        },
+        (
+          some_sets 128 (params_of c).mcol (omega (arith, b.mcol, b.block)),
+          pairs_with_zeros o e laws (draws_from (all_elements e) (whole_count c)) (sets_of 128 (range_with_len 0 (params_of c).mcol)) (some_draws o e laws (all_elements e) (whole_count c) (zero_is_in o e laws)),
+        ),
+      )
+
+  abbrev term : Term A
+  term = record { g = 0; a = 0; b = 0; coef = o.one }
+
+  abbrev layer : Layer A
+  layer = record { wires = 1; terms = term ∷ [] }
+
+  abbrev circuit : Wiring A
+  circuit = record { version = 1; publics = 0; privates = 0; layers = layer ∷ [] }
+
+  valid : IsValid o circuit
+  valid = record {
+    version = inl refl;
+    publics = omega arith;
+    privates = omega arith;
+    some = omega arith;
+    depth = omega arith;
+    layers = (
+      record {
+        some = omega arith;
+        most = omega arith;
+        wires = omega arith;
+        terms = omega arith;
+        each = (record { g = omega arith; a = omega arith; b = omega arith }, refl, tt);
+        coefs = (record { nonzero = λ _. laws.field.one_not_zero; apart = λ _. tt }, tt);
+      },
+      tt,
+    );
+  }
+
+  wrong : IsFalse o e circuit []
+  unfolding wire
+  wrong [] count satisfied =
+      let I = var 0 in
+      laws.field.one_not_zero
+      (solve o laws.ring [] unit (unit ⊞ (unit ⊟ unit)) refl
+      ∙ ap (λ y. o.plus o.one (minus o o.one y)) (sym (laws.field.times_inverse o.one laws.field.one_not_zero))
+      ∙ solve o laws.ring (o.inverse o.one ∷ []) (unit ⊞ (unit ⊟ unit ⊠ I))
+      ((null ⊞ (null ⊞ ((unit ⊠ unit) ⊠ unit))) ⊞ (null ⊞ (null ⊞ (((unit ⊟ unit ⊠ I) ⊠ unit) ⊠ unit)))) refl
+      ∙ satisfied 0 (omega arith))
+  wrong (x ∷ xs) count satisfied = absurd (omega (arith, count))
+
+  pub some_cheat : SomeCheat o e
+  some_cheat =
+      let b = params_bounded o circuit valid in
+      let all = cheats_pass circuit [] (half_table o circuit) valid refl wrong (half_masks o e laws circuit b) in
+      record {
+        circuit = circuit;
+        public = [];
+        strategy = zeros_sent o circuit (half_table o circuit);
+        wins = sees_zeros e;
+        cheat = all.0;
+        far = half_far o e laws circuit b;
+        counted = omega (arith, all.1.0, all.1.1);
+      }

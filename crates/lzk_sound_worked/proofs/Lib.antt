@@ -1,0 +1,5 @@
+mod Counts
+mod Example
+mod FarTables
+mod Passing
+mod Zeros
