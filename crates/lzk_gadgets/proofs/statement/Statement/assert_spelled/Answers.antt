@@ -1,4 +1,4 @@
-use Rattle.std.proofs.Common.{arith, ◌∙◌, ◌≡◌, ◌+◌, ◌*◌, ◌≤◌, length}
+use Rattle.std.proofs.Common.{arith, ◌∙◌, ◌≡◌, ◌+◌, ◌*◌, length}
 use Rattle.std.proofs.lemmas.List.{length-map}
 use Rattle.lzk_goldilocks.specs.Elements.{ops}
 use Rattle.lzk_level.specs.Nodes.{node_count}
