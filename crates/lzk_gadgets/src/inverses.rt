@@ -18,8 +18,7 @@ impl Statement {
     /// ([`crate::inverse_laws`]).
     pub fn assert_nonzero(&mut self, x: Node, inverse: Node) -> Result<(), AllocError>
         requires room { node_count self.old.nodes + 3 ≤ 2147483648 }
-        requires node { IsNode (node_count self.old.nodes) x }
-        requires inverse { IsNode (node_count self.old.nodes) inverse }
+        requires nodes { IsNode (node_count self.old.nodes) x × IsNode (node_count self.old.nodes) inverse }
         ensures { IfOk result (λ _. Adds ops 3 1 self.old self.new
             (λ public private.
             AreInverse (value ops self.old public private x) (value ops self.old public private inverse))) }
@@ -34,9 +33,8 @@ impl Statement {
     /// they differ.
     pub fn assert_different(&mut self, x: Node, y: Node, inverse: Node) -> Result<(), AllocError>
         requires room { node_count self.old.nodes + 4 ≤ 2147483648 }
-        requires left { IsNode (node_count self.old.nodes) x }
-        requires right { IsNode (node_count self.old.nodes) y }
-        requires inverse { IsNode (node_count self.old.nodes) inverse }
+        requires nodes { IsNode (node_count self.old.nodes) x × IsNode (node_count self.old.nodes) y ×
+            IsNode (node_count self.old.nodes) inverse }
         ensures { IfOk result (λ _. Adds ops 4 1 self.old self.new (λ public private.
             AreInverse (difference (value ops self.old public private x) (value ops self.old public private y))
             (value ops self.old public private inverse))) }

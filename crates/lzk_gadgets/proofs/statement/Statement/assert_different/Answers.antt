@@ -16,4 +16,4 @@ returns c =
     let z = c.args.inverse in
     let m = c.in_ok-difference.ensures.makes in
     adds_behind ops 1 3 4 1 s t c.assert_nonzero.new.self d (λ p q. AreInverse (value ops t p q d) (value ops t p q z)) (λ p q. AreInverse (difference (value ops s p q x) (value ops s p q y)) (value ops s p q z)) m c.in_ok-assert_nonzero.ensures (omega arith)
-    (λ p q a. different_claim (value ops t p q d) (value ops t p q z) (value ops s p q x) (value ops s p q y) (value ops s p q z) (c.in_ok-difference.ensures.value p q a) (m.keeps.same p q a z c.requires.inverse.1))
+    (λ p q a. different_claim (value ops t p q d) (value ops t p q z) (value ops s p q x) (value ops s p q y) (value ops s p q z) (c.in_ok-difference.ensures.value p q a) (m.keeps.same p q a z c.requires.nodes.2.1))
