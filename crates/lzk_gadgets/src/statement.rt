@@ -81,8 +81,7 @@ impl Statement {
     /// The product of two nodes.
     pub fn product(&mut self, x: Node, y: Node) -> Result<Node, AllocError>
         requires room { node_count self.old.nodes < 2147483648 }
-        requires left { IsNode (node_count self.old.nodes) x }
-        requires right { IsNode (node_count self.old.nodes) y }
+        requires nodes { IsNode (node_count self.old.nodes) x × IsNode (node_count self.old.nodes) y }
         ensures makes { IfOk result (λ node. Makes ops 1 self.old self.new node) }
         ensures value { (public private : List Gold) → AreInputs self.old public private →
             IfOk result (λ node. value ops self.new public private node ≡
@@ -95,8 +94,7 @@ impl Statement {
     /// `a` times a node and `b` times another.
     pub fn weighted(&mut self, a: Gold, x: Node, b: Gold, y: Node) -> Result<Node, AllocError>
         requires room { node_count self.old.nodes < 2147483648 }
-        requires left { IsNode (node_count self.old.nodes) x }
-        requires right { IsNode (node_count self.old.nodes) y }
+        requires nodes { IsNode (node_count self.old.nodes) x × IsNode (node_count self.old.nodes) y }
         ensures makes { IfOk result (λ node. Makes ops 1 self.old self.new node) }
         ensures value { (public private : List Gold) → AreInputs self.old public private →
             IfOk result (λ node. value ops self.new public private node ≡
