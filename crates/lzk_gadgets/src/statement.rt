@@ -1,9 +1,10 @@
 //! Statements.
 
-ghost use Rattle.std.specs.Prelude.{◌≡◌, ℕ, ◌+◌, ◌<◌, ◌≤◌, ◌↔◌, List, [], length, IfOk};
+ghost use Rattle.std.specs.Prelude.{◌≡◌, ℕ, ◌+◌, ◌<◌, ◌≤◌, ◌↔◌, List, [], length, IfOk, IfErr};
 ghost use Rattle.lzk_field.specs.Sums.{entry};
 ghost use Rattle.lzk_goldilocks.specs.Elements.{ops};
 ghost use Rattle.lzk_goldilocks.specs.declared.element.Gold.{Gold};
+ghost use Rattle.lzk_level.specs.Bounds.{IsLevelError};
 ghost use Rattle.lzk_level.specs.Nodes.{node_count, nodes_from, IsNode};
 ghost use Rattle.lzk_circuit.specs.Wires.{inputs_of, wires_of};
 ghost use Rattle.lzk_gadgets.specs.Claims.{AreInputs, AreAllZero, Holds, value, Makes, Adds};
@@ -116,15 +117,17 @@ impl Statement {
     }
 
     /// The statement's circuit: on every input its outputs are all 0 exactly where the statement holds. It has an
-    /// assert or more.
+    /// assert or more. A fault is the first limit of circuits that its nodes pass.
     pub fn finish(self) -> Result<Circuit<Gold>, LevelError>
         requires some { 1 ≤ length self.asserts }
         requires few { length self.asserts ≤ 131072 }
+        ensures version { IfOk result (λ c. c.version ≡ 1) }
         ensures publics { IfOk result (λ c. c.publics ≡ self.nodes.publics) }
         ensures privates { IfOk result (λ c. c.privates ≡ self.nodes.privates) }
         ensures holds { (public private : List Gold) → AreInputs self public private →
             IfOk result (λ c. AreAllZero ops (wires_of ops c.layers (inputs_of ops public private)) ↔
             Holds ops self public private) }
+        ensures fault { IfErr result (IsLevelError self.nodes self.asserts) }
     {
         let circuit = self.builder.finish(&self.asserts)?;
         Ok(circuit)
