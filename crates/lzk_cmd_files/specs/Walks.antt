@@ -6,6 +6,8 @@ use Rattle.lzk_outside.specs.Outside.{Files, Holds, Torn, Appends}
 use Rattle.lzk_cmd_files.specs.declared.ending.Ending.{Ending}
 use Rattle.lzk_cmd_files.specs.declared.ending.Halt.{Halt}
 use Rattle.lzk_cmd_files.specs.declared.ending.Halt.TheVariants as halts
+use Rattle.lzk_cmd_files.specs.declared.load.LoadFault.{LoadFault}
+use Rattle.lzk_cmd_files.specs.declared.load.LoadFault.TheVariants.{Missing, TooLarge, Failed, OutOfMemory}
 use Rattle.lzk_cmd_files.specs.Ends.{End as Ended, says, missing_file, Stop, Nowhere, AtPut, MayStop, stops_at, puts, Leaves}
 use Rattle.lzk_cmd_files.specs.Formats.{Format, HasFile}
 use Rattle.lzk_cmd_files.specs.Lines.{reading_line, larger_line}
@@ -49,6 +51,18 @@ FileEnds old new name limit e =
     (ReadFailed old new × IsEnding (says 4 (reading_line name)) e)
     ⊎ ((Missed old new × IfSome old.files (λ files. files name ≡ None) × IsEnding (missing_file name) e)
     ⊎ (IfSome old.files (λ files. IsSomeAnd (files name) (λ bytes. limit < length bytes)) × IsEnding (says 3 (larger_line name limit)) e))
+
+-- how a run ends at a file that was not read
+abbrev pub IsEndingOf : List ℕ → ℕ → LoadFault → Ending → Type 0
+IsEndingOf name limit Missing e = IsEnding (missing_file name) e
+IsEndingOf name limit TooLarge e = IsEnding (says 3 (larger_line name limit)) e
+IsEndingOf name limit Failed e = IsEnding (says 4 (reading_line name)) e
+IsEndingOf name limit OutOfMemory e = ⊥
+
+-- or for want of memory, which may come at any fault
+abbrev pub IsHaltOf : List ℕ → ℕ → LoadFault → Halt → Type 0
+IsHaltOf name limit fault halts.Memory = Unit {0}
+IsHaltOf name limit fault (halts.End e) = IsEndingOf name limit fault e
 
 -- the bytes of the file, or such an end
 abbrev pub GivesBytes : Seen → Seen → List ℕ → ℕ → Result (Vec ℕ Global) Halt → Type 0

@@ -2,13 +2,13 @@
 
 ghost use Rattle.std.specs.Prelude.{◌<◌, ◌≤◌, ◌^◌, length, IfOk, string_bytes};
 ghost use Rattle.lzk_cmd_files.specs.Seen.{seen};
-ghost use Rattle.lzk_cmd_files.specs.Walks.{GivesBytes, Moves, OnlyReads, Puts};
+ghost use Rattle.lzk_cmd_files.specs.Walks.{GivesBytes, IsEndingOf, IsHaltOf, Moves, OnlyReads, Puts};
 
 use crate::ending::{Ending, Halt};
 use crate::lines;
 use crate::load::{LoadFault, load};
 use lzk_outside::{PutFault, Shelf};
-use std::alloc::Global;
+use std::alloc::{AllocError, Global};
 
 /// The largest circuit file that is read, in bytes.
 pub const CIRCUIT_LIMIT: usize = 67_108_864;
@@ -18,6 +18,34 @@ pub const TEXT_LIMIT: usize = 4_194_304;
 
 /// The largest proof that is read, in bytes.
 pub const PROOF_LIMIT: usize = 2_097_152;
+
+// How a run ends at a file that was not read; an error is how it ends too, for want of memory.
+fn ending_of(
+    alloc: Global,
+    name: &str,
+    limit: usize,
+    fault: LoadFault,
+) -> Result<Ending, AllocError>
+    ensures { IfOk result (IsEndingOf name.now limit fault) }
+{
+    let (status, text) = match fault {
+        LoadFault::OutOfMemory => return Err(AllocError),
+        LoadFault::Failed => (4, lines::tell_reading(alloc, name)?),
+        LoadFault::Missing => (3, lines::tell_missing(alloc, name)?),
+        LoadFault::TooLarge => (3, lines::tell_larger(alloc, name, limit)?),
+    };
+    Ok(Ending { status, text })
+}
+
+/// How a run ends at a file that was not read.
+pub fn halt_of(alloc: Global, name: &str, limit: usize, fault: LoadFault) -> Halt
+    ensures { IsHaltOf name.now limit fault result }
+{
+    match ending_of(alloc, name, limit, fault) {
+        Ok(ending) => Halt::End(ending),
+        Err(AllocError) => Halt::Memory,
+    }
+}
 
 /// A whole file, or the end of the run.
 pub fn read_file<S: Shelf>(
@@ -33,19 +61,7 @@ pub fn read_file<S: Shelf>(
 {
     match load(alloc, shelf, name, limit) {
         Ok(bytes) => Ok(bytes),
-        Err(LoadFault::OutOfMemory) => Err(Halt::Memory),
-        Err(LoadFault::Failed) => {
-            let text = lines::tell_reading(alloc, name)?;
-            Err(Halt::End(Ending { status: 4, text }))
-        }
-        Err(LoadFault::Missing) => {
-            let text = lines::tell_missing(alloc, name)?;
-            Err(Halt::End(Ending { status: 3, text }))
-        }
-        Err(LoadFault::TooLarge) => {
-            let text = lines::tell_larger(alloc, name, limit)?;
-            Err(Halt::End(Ending { status: 3, text }))
-        }
+        Err(fault) => Err(halt_of(alloc, name, limit, fault)),
     }
 }
 

@@ -6,7 +6,7 @@ ghost use Rattle.lzk_cmd_verify.specs.Feeding.{Feeds, FeedsOrEnds};
 ghost use Rattle.lzk_cmd_files.specs.Seen.{seen, ReadFailed, Missed};
 ghost use Rattle.lzk_cmd_files.specs.Walks.{OnlyReads};
 
-use lzk_cmd_files::{Ending, Halt, LoadFault, PROOF_LIMIT, lines};
+use lzk_cmd_files::{Halt, LoadFault, PROOF_LIMIT, halt_of};
 use lzk_field::Field;
 use lzk_outside::{Shelf, ShelfFault};
 use lzk_verify::Desk;
@@ -71,18 +71,6 @@ pub fn feed_proof<S: Shelf, F: Field>(
     drop(buffer);
     match fed {
         Ok(()) => Ok(()),
-        Err(LoadFault::OutOfMemory) => Err(Halt::Memory),
-        Err(LoadFault::Failed) => {
-            let text = lines::tell_reading(alloc, name)?;
-            Err(Halt::End(Ending { status: 4, text }))
-        }
-        Err(LoadFault::Missing) => {
-            let text = lines::tell_missing(alloc, name)?;
-            Err(Halt::End(Ending { status: 3, text }))
-        }
-        Err(LoadFault::TooLarge) => {
-            let text = lines::tell_larger(alloc, name, PROOF_LIMIT)?;
-            Err(Halt::End(Ending { status: 3, text }))
-        }
+        Err(fault) => Err(halt_of(alloc, name, PROOF_LIMIT, fault)),
     }
 }

@@ -17,8 +17,7 @@ impl Statement {
     /// One node less another.
     pub fn difference(&mut self, x: Node, y: Node) -> Result<Node, AllocError>
         requires room { node_count self.old.nodes < 2147483648 }
-        requires left { IsNode (node_count self.old.nodes) x }
-        requires right { IsNode (node_count self.old.nodes) y }
+        requires nodes { IsNode (node_count self.old.nodes) x × IsNode (node_count self.old.nodes) y }
         ensures makes { IfOk result (λ node. Makes ops 1 self.old self.new node) }
         ensures value { (public private : List Gold) → AreInputs self.old public private →
             IfOk result (λ node. value ops self.new public private node ≡
@@ -31,8 +30,7 @@ impl Statement {
     /// Claims that two nodes are equal.
     pub fn assert_equal(&mut self, x: Node, y: Node) -> Result<(), AllocError>
         requires room { node_count self.old.nodes < 2147483648 }
-        requires left { IsNode (node_count self.old.nodes) x }
-        requires right { IsNode (node_count self.old.nodes) y }
+        requires nodes { IsNode (node_count self.old.nodes) x × IsNode (node_count self.old.nodes) y }
         ensures { IfOk result (λ _. Adds ops 1 1 self.old self.new
             (λ public private. value ops self.old public private x ≡ value ops self.old public private y)) }
     {
@@ -71,9 +69,8 @@ impl Statement {
     /// `x` where the bit is 1, and `y` where it is 0: what it is elsewhere is not said.
     pub fn select(&mut self, bit: Node, x: Node, y: Node) -> Result<Node, AllocError>
         requires room { node_count self.old.nodes + 3 ≤ 2147483648 }
-        requires bit { IsNode (node_count self.old.nodes) bit }
-        requires left { IsNode (node_count self.old.nodes) x }
-        requires right { IsNode (node_count self.old.nodes) y }
+        requires nodes { IsNode (node_count self.old.nodes) bit × IsNode (node_count self.old.nodes) x ×
+            IsNode (node_count self.old.nodes) y }
         ensures makes { IfOk result (λ node. Makes ops 3 self.old self.new node) }
         ensures one { (public private : List Gold) → AreInputs self.old public private →
             value ops self.old public private bit ≡ of_number 1 →

@@ -12,12 +12,17 @@
 //! s.assert_at_most(x, y, &bits)?;
 //! let circuit = s.finish()?;
 //! ```
+//!
+//! and the prover of 5 and 11 has `spelling(alloc, 6, 4)?` for private inputs.
 #![tactic(auto)]
 
 mod bits;
+mod inverses;
 mod laws;
 mod numbers;
 mod statement;
+mod witness;
 
-pub use laws::gadget_laws;
+pub use laws::{gadget_laws, inverse_laws};
 pub use statement::Statement;
+pub use witness::spelling;

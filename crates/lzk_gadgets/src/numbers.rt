@@ -1,9 +1,9 @@
 //! Numbers by their bits, and order.
 
-ghost use Rattle.std.specs.Prelude.{◌≡◌, ℕ, ◌+◌, ◌-◌, ◌*◌, ◌<◌, ◌≤◌, ◌^◌, ◌↔◌, List, length, IfOk};
+ghost use Rattle.std.specs.Prelude.{◌≡◌, ℕ, ◌+◌, ◌-◌, ◌*◌, ◌<◌, ◌≤◌, ◌^◌, ◌↔◌, List, ◌∷◌, length, IfOk};
 ghost use Rattle.lzk_goldilocks.specs.Elements.{ops};
 ghost use Rattle.lzk_goldilocks.specs.declared.element.Gold.{Gold};
-ghost use Rattle.lzk_level.specs.Nodes.{node_count, IsNode};
+ghost use Rattle.lzk_level.specs.Nodes.{node_count};
 ghost use Rattle.lzk_gadgets.specs.Claims.{AreInputs, AreNodes, value, values, Holds, Keeps, Makes, Adds};
 ghost use Rattle.lzk_gadgets.specs.Spelled.{worth, Spells};
 
@@ -38,8 +38,7 @@ impl Statement {
     pub fn assert_spelled(&mut self, x: Node, bits: &[Node]) -> Result<(), AllocError>
         requires few { length bits.now ≤ 63 }
         requires room { node_count self.old.nodes + 2 + 3 * length bits.now ≤ 2147483648 }
-        requires node { IsNode (node_count self.old.nodes) x }
-        requires nodes { AreNodes (node_count self.old.nodes) bits.now }
+        requires nodes { AreNodes (node_count self.old.nodes) (x ∷ bits.now) }
         ensures { IfOk result (λ _. Adds ops (2 + 3 * length bits.now) (1 + length bits.now) self.old self.new
             (λ public private.
             Spells (value ops self.old public private x).n (values ops self.old public private bits.now))) }
@@ -55,9 +54,7 @@ impl Statement {
     pub fn assert_at_most(&mut self, x: Node, y: Node, bits: &[Node]) -> Result<(), AllocError>
         requires few { length bits.now ≤ 62 }
         requires room { node_count self.old.nodes + 3 + 3 * length bits.now ≤ 2147483648 }
-        requires left { IsNode (node_count self.old.nodes) x }
-        requires right { IsNode (node_count self.old.nodes) y }
-        requires nodes { AreNodes (node_count self.old.nodes) bits.now }
+        requires nodes { AreNodes (node_count self.old.nodes) (x ∷ y ∷ bits.now) }
         ensures keeps { IfOk result (λ _. Keeps ops (3 + 3 * length bits.now) self.old self.new) }
         ensures count { IfOk result (λ _. length self.new.asserts ≡ length self.old.asserts + (1 + length bits.now)) }
         ensures claim { (public private : List Gold) → AreInputs self.old public private →

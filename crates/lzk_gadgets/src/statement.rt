@@ -1,9 +1,10 @@
 //! Statements.
 
-ghost use Rattle.std.specs.Prelude.{◌≡◌, ℕ, ◌+◌, ◌<◌, ◌≤◌, ◌↔◌, List, [], length, IfOk};
+ghost use Rattle.std.specs.Prelude.{◌≡◌, ℕ, ◌+◌, ◌<◌, ◌≤◌, ◌↔◌, List, [], length, IfOk, IfErr};
 ghost use Rattle.lzk_field.specs.Sums.{entry};
 ghost use Rattle.lzk_goldilocks.specs.Elements.{ops};
 ghost use Rattle.lzk_goldilocks.specs.declared.element.Gold.{Gold};
+ghost use Rattle.lzk_level.specs.Bounds.{IsLevelError};
 ghost use Rattle.lzk_level.specs.Nodes.{node_count, nodes_from, IsNode};
 ghost use Rattle.lzk_circuit.specs.Wires.{inputs_of, wires_of};
 ghost use Rattle.lzk_gadgets.specs.Claims.{AreInputs, AreAllZero, Holds, value, Makes, Adds};
@@ -81,8 +82,7 @@ impl Statement {
     /// The product of two nodes.
     pub fn product(&mut self, x: Node, y: Node) -> Result<Node, AllocError>
         requires room { node_count self.old.nodes < 2147483648 }
-        requires left { IsNode (node_count self.old.nodes) x }
-        requires right { IsNode (node_count self.old.nodes) y }
+        requires nodes { IsNode (node_count self.old.nodes) x × IsNode (node_count self.old.nodes) y }
         ensures makes { IfOk result (λ node. Makes ops 1 self.old self.new node) }
         ensures value { (public private : List Gold) → AreInputs self.old public private →
             IfOk result (λ node. value ops self.new public private node ≡
@@ -95,8 +95,7 @@ impl Statement {
     /// `a` times a node and `b` times another.
     pub fn weighted(&mut self, a: Gold, x: Node, b: Gold, y: Node) -> Result<Node, AllocError>
         requires room { node_count self.old.nodes < 2147483648 }
-        requires left { IsNode (node_count self.old.nodes) x }
-        requires right { IsNode (node_count self.old.nodes) y }
+        requires nodes { IsNode (node_count self.old.nodes) x × IsNode (node_count self.old.nodes) y }
         ensures makes { IfOk result (λ node. Makes ops 1 self.old self.new node) }
         ensures value { (public private : List Gold) → AreInputs self.old public private →
             IfOk result (λ node. value ops self.new public private node ≡
@@ -118,15 +117,17 @@ impl Statement {
     }
 
     /// The statement's circuit: on every input its outputs are all 0 exactly where the statement holds. It has an
-    /// assert or more.
+    /// assert or more. A fault is the first limit of circuits that its nodes pass.
     pub fn finish(self) -> Result<Circuit<Gold>, LevelError>
         requires some { 1 ≤ length self.asserts }
         requires few { length self.asserts ≤ 131072 }
+        ensures version { IfOk result (λ c. c.version ≡ 1) }
         ensures publics { IfOk result (λ c. c.publics ≡ self.nodes.publics) }
         ensures privates { IfOk result (λ c. c.privates ≡ self.nodes.privates) }
         ensures holds { (public private : List Gold) → AreInputs self public private →
             IfOk result (λ c. AreAllZero ops (wires_of ops c.layers (inputs_of ops public private)) ↔
             Holds ops self public private) }
+        ensures fault { IfErr result (IsLevelError self.nodes self.asserts) }
     {
         let circuit = self.builder.finish(&self.asserts)?;
         Ok(circuit)

@@ -1,0 +1,129 @@
+//! Small statements, and which numbers satisfy them.
+
+use lzk_circuit::{Circuit, Values};
+use lzk_field::Field;
+use lzk_gadgets::{Statement, gadget_laws, inverse_laws, spelling};
+use lzk_goldilocks::Gold;
+use lzk_level::LevelError;
+use std::alloc::{AllocError, Global};
+use std::test::Fail;
+
+// Two public numbers; the first is at most the second, which four private bits show.
+fn at_most(alloc: Global) -> Result<Circuit<Gold>, LevelError> {
+    let mut s = Statement::new(alloc, 2, 4)?;
+    let (x, y) = (s.public(0), s.public(1));
+    let bits = [s.private(0), s.private(1), s.private(2), s.private(3)];
+    s.assert_at_most(x, y, &bits)?;
+    s.finish()
+}
+
+// The second number where the private bit is 1, and the third where it is 0, is the first.
+fn chosen(alloc: Global) -> Result<Circuit<Gold>, LevelError> {
+    let mut s = Statement::new(alloc, 3, 1)?;
+    let (wanted, x, y) = (s.public(0), s.public(1), s.public(2));
+    let bit = s.private(0);
+    s.assert_bit(bit)?;
+    let found = s.select(bit, x, y)?;
+    s.assert_equal(found, wanted)?;
+    s.finish()
+}
+
+// A number that is 3 or 5, and is not the second, whose difference from it has a private inverse; neither is it 0.
+fn listed(alloc: Global) -> Result<Circuit<Gold>, LevelError> {
+    let mut s = Statement::new(alloc, 2, 2)?;
+    let (x, y) = (s.public(0), s.public(1));
+    let (inverse, of_difference) = (s.private(0), s.private(1));
+    s.assert_among(x, &[Gold::of_word(3), Gold::of_word(5)])?;
+    s.assert_nonzero(x, inverse)?;
+    s.assert_different(x, y, of_difference)?;
+    s.finish()
+}
+
+// Whether a circuit is satisfied by these numbers, the public ones first.
+fn holds(
+    alloc: Global,
+    circuit: &Circuit<Gold>,
+    public: &[u128],
+    private: &[u128],
+) -> Result<bool, AllocError> {
+    let mut left = Vec::new(alloc);
+    for number in public {
+        left.push(Gold::of_word(*number))?;
+    }
+    let mut right = Vec::new(alloc);
+    for number in private {
+        right.push(Gold::of_word(*number))?;
+    }
+    if left.len() != circuit.publics() as usize || right.len() != circuit.privates() as usize {
+        return Ok(false);
+    }
+    let mut values = Values::new(alloc, circuit)?;
+    circuit.eval(&left, &right, &mut values);
+    Ok(values.first_nonzero().is_none())
+}
+
+#[test]
+fn order_is_shown_by_bits(rt: HostRuntime) -> Result<(), Fail> {
+    let alloc = rt.alloc();
+    gadget_laws();
+    let Ok(circuit) = at_most(alloc) else {
+        assert!(rt; false);
+        return Ok(());
+    };
+    // 5 at most 11, by the bits of 6
+    assert!(rt; holds(alloc, &circuit, &[5, 11], &[0, 1, 1, 0])?);
+    assert!(rt; holds(alloc, &circuit, &[7, 7], &[0, 0, 0, 0])?);
+    // other bits; no bits that spell 6; the wrong order; sixteen apart
+    assert!(rt; !holds(alloc, &circuit, &[5, 11], &[1, 1, 1, 0])?);
+    assert!(rt; !holds(alloc, &circuit, &[5, 11], &[2, 0, 1, 0])?);
+    assert!(rt; !holds(alloc, &circuit, &[11, 5], &[0, 1, 1, 0])?);
+    assert!(rt; !holds(alloc, &circuit, &[0, 16], &[0, 0, 0, 0])?);
+    Ok(())
+}
+
+#[test]
+fn a_bit_chooses(rt: HostRuntime) -> Result<(), Fail> {
+    let alloc = rt.alloc();
+    let Ok(circuit) = chosen(alloc) else {
+        assert!(rt; false);
+        return Ok(());
+    };
+    assert!(rt; holds(alloc, &circuit, &[3, 3, 4], &[1])?);
+    assert!(rt; holds(alloc, &circuit, &[4, 3, 4], &[0])?);
+    assert!(rt; !holds(alloc, &circuit, &[4, 3, 4], &[1])?);
+    // 2 * 3 - 1 * 4 is 2, but 2 is no bit
+    assert!(rt; !holds(alloc, &circuit, &[2, 3, 4], &[2])?);
+    Ok(())
+}
+
+#[test]
+fn listed_numbers_differ_by_inverses(rt: HostRuntime) -> Result<(), Fail> {
+    let alloc = rt.alloc();
+    inverse_laws();
+    let Ok(circuit) = listed(alloc) else {
+        assert!(rt; false);
+        return Ok(());
+    };
+    // 1/3, 1/5 and 1/2 modulo 2^64 - 2^32 + 1
+    let third = 12_297_829_379_609_722_881;
+    let fifth = 14_757_395_255_531_667_457;
+    let half = 9_223_372_034_707_292_161;
+    assert!(rt; holds(alloc, &circuit, &[3, 1], &[third, half])?);
+    assert!(rt; holds(alloc, &circuit, &[5, 3], &[fifth, half])?);
+    // no inverse; another number; the same number
+    assert!(rt; !holds(alloc, &circuit, &[3, 1], &[fifth, half])?);
+    assert!(rt; !holds(alloc, &circuit, &[1, 3], &[1, half])?);
+    assert!(rt; !holds(alloc, &circuit, &[3, 3], &[third, half])?);
+    Ok(())
+}
+
+#[test]
+fn numbers_are_spelled(rt: HostRuntime) -> Result<(), Fail> {
+    let alloc = rt.alloc();
+    let mut numbers = Vec::new(alloc);
+    for bit in spelling(alloc, 6, 4)? {
+        numbers.push(bit.number())?;
+    }
+    assert_eq!(rt; numbers.as_slice(), [0, 1, 1, 0].as_slice());
+    Ok(())
+}

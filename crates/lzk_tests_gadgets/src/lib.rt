@@ -1,0 +1,10 @@
+//! Tests of `lzk_beside` and `lzk_gadgets`: circuits side by side with values of an independent implementation, and
+//! gadgets at numbers on both sides of what they claim.
+//!
+//! They stand above what they test, so that those crates are proved once and not again with their tests.
+#![tactic(auto)]
+
+#[cfg(test)]
+mod gadgets;
+#[cfg(test)]
+mod side_by_side;

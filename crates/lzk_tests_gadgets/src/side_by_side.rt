@@ -1,0 +1,183 @@
+//! Two circuits side by side: what an independent implementation makes of the parts' outputs, one part after the other.
+
+ghost use Rattle.std.specs.Prelude.{◌<◌, ◌↔◌, IfSome, IsTrue, EachIndex, slice_index};
+ghost use Rattle.lzk_reduce.specs.Renumbering.{AreNumbersBelow};
+
+use lzk_beside::{BesideError, Part, beside};
+use lzk_circuit::{Circuit, Layer, Term, Terms, Values};
+use lzk_field::Field;
+use lzk_gf128::Gf128;
+use lzk_goldilocks::Gold;
+use std::alloc::{AllocError, Global};
+use std::test::Fail;
+
+// Layer, wire, the two wires below, and the coefficient.
+type Row = (u32, u32, u32, u32, u128);
+
+// Three layers over 2 public and 2 private inputs.
+const DEEP: [Row; 15] = [
+    (0, 0, 2, 3, 1),
+    (0, 1, 0, 2, 1),
+    (0, 2, 0, 1, 1),
+    (0, 3, 2, 3, 1),
+    (1, 0, 0, 0, 1),
+    (1, 1, 0, 2, 1),
+    (1, 2, 3, 4, 1),
+    (1, 3, 0, 1, 5),
+    (1, 3, 0, 4, 2),
+    (2, 0, 0, 0, 1),
+    (2, 1, 0, 1, 1),
+    (2, 2, 0, 2, 1),
+    (2, 3, 0, 4, 1),
+    (2, 4, 0, 0, 7),
+    (2, 4, 0, 3, 3),
+];
+
+// One layer over 1 public and 3 private inputs. The first two terms have opposite coefficients: the second one is
+// made negative below. They go out where both inputs are one.
+const FLAT: [Row; 5] = [
+    (0, 0, 0, 2, 5),
+    (0, 0, 0, 3, 5),
+    (0, 0, 1, 2, 3),
+    (0, 1, 0, 1, 2),
+    (0, 1, 4, 4, 1),
+];
+
+// Out of order; an input twice, and the one.
+const DEEP_PLACES: [u32; 4] = [2, 3, 5, 1];
+
+const FLAT_PLACES: [u32; 4] = [1, 4, 4, 0];
+
+const PUBLIC: [u128; 2] = [7, 11];
+
+const PRIVATE: [u128; 3] = [13, 17, 19];
+
+// The outputs that an independent implementation gives for the parts over these inputs.
+const GOLD_DEEP: [u128; 4] = [81_984, 448, 13, 81_984];
+
+const GOLD_FLAT: [u128; 2] = [357, 15];
+
+const GF_DEEP: [u128; 4] = [9_762, 158, 13, 9_762];
+
+const GF_FLAT: [u128; 2] = [153, 15];
+
+fn layer_of<F: Field>(
+    alloc: Global,
+    rows: &[Row],
+    l: u32,
+    wires: u32,
+) -> Result<Layer<F>, AllocError> {
+    let mut terms = Vec::new(alloc);
+    for row in rows {
+        let coef = F::of_word(row.4);
+        let coef = if row.3 == 3 && row.4 == 5 {
+            coef.neg()
+        } else {
+            coef
+        };
+        if row.0 == l {
+            terms.push(Term {
+                g: row.1,
+                a: row.2,
+                b: row.3,
+                coef,
+            })?;
+        }
+    }
+    Ok(Layer {
+        wires,
+        terms: Terms::new(terms),
+    })
+}
+
+fn deep<F: Field>(alloc: Global) -> Result<Option<Circuit<F>>, AllocError> {
+    let mut layers = Vec::new(alloc);
+    layers.push(layer_of(alloc, &DEEP, 0, 4)?)?;
+    layers.push(layer_of(alloc, &DEEP, 1, 4)?)?;
+    layers.push(layer_of(alloc, &DEEP, 2, 5)?)?;
+    Ok(Circuit::of_layers(2, 2, layers).ok())
+}
+
+fn flat<F: Field>(alloc: Global) -> Result<Option<Circuit<F>>, AllocError> {
+    let mut layers = Vec::new(alloc);
+    layers.push(layer_of(alloc, &FLAT, 0, 2)?)?;
+    Ok(Circuit::of_layers(1, 3, layers).ok())
+}
+
+// Whether the outputs of a circuit over these inputs are these numbers, the first list's first.
+fn has_outputs<F: Field>(
+    alloc: Global,
+    circuit: &Circuit<F>,
+    first: &[u128],
+    second: &[u128],
+) -> Result<bool, AllocError> {
+    let mut public = Vec::new(alloc);
+    for number in &PUBLIC {
+        public.push(F::of_word(*number))?;
+    }
+    let mut private = Vec::new(alloc);
+    for number in &PRIVATE {
+        private.push(F::of_word(*number))?;
+    }
+    if public.len() != circuit.publics() as usize || private.len() != circuit.privates() as usize {
+        return Ok(false);
+    }
+    let mut values = Values::new(alloc, circuit)?;
+    circuit.eval(&public, &private, &mut values);
+    let mut numbers = Vec::new(alloc);
+    for check in values.checks() {
+        numbers.push(check.number())?;
+    }
+    let mut wanted = Vec::from_slice(alloc, first)?;
+    wanted.extend_from_slice(second)?;
+    Ok(numbers.as_slice() == wanted.as_slice())
+}
+
+// Whether both orders of the two parts have these outputs.
+fn both_orders<F: Field>(
+    alloc: Global,
+    deep_outputs: &[u128],
+    flat_outputs: &[u128],
+) -> Result<bool, BesideError> {
+    let (Some(deep), Some(flat)) = (deep::<F>(alloc)?, flat::<F>(alloc)?) else {
+        return Ok(false);
+    };
+    let Some(deep) = part_of(&deep, &DEEP_PLACES) else {
+        return Ok(false);
+    };
+    let Some(flat) = part_of(&flat, &FLAT_PLACES) else {
+        return Ok(false);
+    };
+    let one = beside(alloc, 2, 3, &deep, &flat)?;
+    let other = beside(alloc, 2, 3, &flat, &deep)?;
+    Ok(
+        one.depth() == 3
+            && has_outputs(alloc, &one, deep_outputs, flat_outputs)?
+            && has_outputs(alloc, &other, flat_outputs, deep_outputs)?,
+    )
+}
+
+// Whether each place is a wire of the input layer of 2 public and 3 private inputs.
+fn are_below(places: &[u32]) -> bool
+    ensures { IsTrue result ↔ EachIndex places.now (λ k. slice_index places.now k < 6) }
+{
+    places.iter().all(|place| *place < 6)
+}
+
+fn part_of<'a, F: Field>(circuit: &'a Circuit<F>, places: &'a [u32]) -> Option<Part<'a, F>>
+    ensures { IfSome result (λ part. AreNumbersBelow 6 part.places.now) }
+{
+    let count = circuit.publics() as usize + circuit.privates() as usize;
+    if circuit.version() == 1 && places.len() == count && are_below(places) {
+        return Some(Part { circuit, places });
+    }
+    None
+}
+
+#[test]
+fn outputs_are_those_of_the_parts(rt: HostRuntime) -> Result<(), Fail> {
+    let alloc = rt.alloc();
+    assert!(rt; matches!(both_orders::<Gold>(alloc, &GOLD_DEEP, &GOLD_FLAT), Ok(true)));
+    assert!(rt; matches!(both_orders::<Gf128>(alloc, &GF_DEEP, &GF_FLAT), Ok(true)));
+    Ok(())
+}
