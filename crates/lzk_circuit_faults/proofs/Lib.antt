@@ -1,0 +1,5 @@
+mod Varints
+mod Runs
+mod Ties
+mod Places
+mod FirstFaults

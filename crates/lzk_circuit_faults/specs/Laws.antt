@@ -1,0 +1,22 @@
+-- A circuit file's fault is the first check that its fields fail.
+use Rattle.std.specs.Prelude.{◌≡◌, ◌↔◌, ℕ, List}
+use Rattle.lzk_circbytes.specs.declared.fault.ByteKind.{ByteKind}
+use Rattle.lzk_circbytes.specs.Files.{CircuitFaultAt}
+use Rattle.lzk_circuit_faults.specs.Fields.{FirstFault}
+use Rattle.lzk_circuit_faults.specs.Circuits.{file_fields}
+
+-- the first check that the fields of a circuit's file fail in these bytes
+abbrev pub IsFirstFault : List ℕ → ℕ → ByteKind → Type 0
+IsFirstFault bytes offset kind = FirstFault file_fields 0 bytes offset kind
+
+-- the fault that reading finds is the first, and the first is found
+abbrev pub FaultIsFirst : Type 0
+FaultIsFirst =
+    (bytes : List ℕ) (offset : ℕ) (kind : ByteKind)
+    → CircuitFaultAt bytes offset kind ↔ IsFirstFault bytes offset kind
+
+-- bytes have one first fault
+abbrev pub OneFirstFault : Type 0
+OneFirstFault =
+    (bytes : List ℕ) (m n : ℕ) (k l : ByteKind)
+    → IsFirstFault bytes m k → IsFirstFault bytes n l → (m ≡ n) × (k ≡ l)

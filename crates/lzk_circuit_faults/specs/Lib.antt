@@ -1,0 +1,4 @@
+pub mod Fields
+pub mod Circuits
+pub mod Laws
+pub use Rattle.lzk_circbytes.specs as lzk_circbytes
