@@ -1,12 +1,14 @@
 -- The fault that reading a circuit's file finds is the first, and the first is found.
-use Rattle.std.proofs.Common.{◌≡◌, ℕ, ◌-◌, ◌≤◌, List, length, Result, Ok, Err, refl, sym, ap, subst, ◌∙◌, arith}
+use Rattle.std.proofs.Common.{◌≡◌, ℕ, ◌-◌, ◌≤◌, List, length, Result, Ok, Err, refl, sym, ap, subst, ◌∙◌, arith, inl, inr}
 use Rattle.lzk_circbytes.specs.declared.fault.ByteKind.{ByteKind}
 use Rattle.lzk_circbytes.specs.Reading.{Stop}
 use Rattle.lzk_circbytes.specs.Files.{circuit_at, CircuitFaultAt}
 use Rattle.lzk_circuit_faults.specs.Circuits.{file_fields}
-use Rattle.lzk_circuit_faults.specs.Laws.{IsFirstFault, FaultIsFirst, OneFirstFault}
+use Rattle.lzk_circuit_faults.specs.Laws.{IsFirstFault, FaultIsFirst, OneFirstFault, FileOrFault, NeverBoth}
 use Rattle.lzk_circuit_faults.proofs.Runs.{Run, run, first_is_found, found_is_first}
-use Rattle.lzk_circuit_faults.proofs.Ties.{void, file_same}
+use Rattle.lzk_circuit_faults.proofs.Ties.{by_result, void, file_same}
+use Rattle.lzk_circuit_faults.proofs.Circuits.{some_circuit}
+use Rattle.lzk_circbytes.proofs.Whole.{no_fault, fault_found}
 use Rattle.lzk_circuit_faults.proofs.Places.{within_bytes, file_within}
 
 stop_of : Stop → Run
@@ -56,3 +58,10 @@ one_first_fault bytes m n k l first second =
     let g = first_is_fault bytes n l second in
     let left : length bytes - m ≡ length bytes - n = ap left_of (sym f.0 ∙ g.0) in
     (omega (arith, left, f.1, g.1), ap (kind_of k) (sym f.0 ∙ g.0))
+
+pub file_or_fault : FileOrFault
+file_or_fault bytes fits = by_result (circuit_at bytes) (λ x e. inl (some_circuit bytes fits x e)) (λ stop e.
+    inr (length bytes - stop.left, stop.kind, fault_is_first bytes (length bytes - stop.left) stop.kind (fault_found bytes stop.left stop.kind e)))
+
+pub never_both : NeverBoth
+never_both c bytes offset kind file first = no_fault c bytes offset kind file (first_is_fault bytes offset kind first)

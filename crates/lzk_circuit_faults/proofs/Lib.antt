@@ -3,3 +3,4 @@ mod Runs
 mod Ties
 mod Places
 mod FirstFaults
+mod Circuits

@@ -27,7 +27,7 @@ pub by_bool : {G : Type 0} (b : Bool) → (b ≡ true → G) → (b ≡ false �
 by_bool true f g = f refl
 by_bool false f g = g refl
 
-by_result : {A G : Type 0} (r : Result A Stop) → ((x : A) → r ≡ Ok x → G) → ((e : Stop) → r ≡ Err e → G) → G
+pub by_result : {A G : Type 0} (r : Result A Stop) → ((x : A) → r ≡ Ok x → G) → ((e : Stop) → r ≡ Err e → G) → G
 by_result (Ok x) f g = f x refl
 by_result (Err e) f g = g e refl
 
