@@ -26,7 +26,8 @@ ProofsAreSeen {A} o e =
     → (let t = given o e c session public private word proof in IsSeen o e c public t.script t.challenges t.columns private word proof)
 
 -- a valid circuit, inputs that satisfy it, a script of its shape, and columns
-pub record IsCase {A : Type 0} (o : Ops A) (e : Coding A) (c : Wiring A) (public private : List A) (s : Script A) (columns : List ℕ) : Type 0 where
+pub record IsCase {A : Type 0} (o : Ops A) (e : Coding A) (c : Wiring A) (public private : List A) (s : Script A)
+    (columns : List ℕ) : Type 0 where
   pub valid : IsValid o c
   pub counts : HaveCounts c public private
   pub satisfied : IsSatisfied o e.number c.layers (inputs_of o public private)
@@ -138,7 +139,8 @@ CountsAgree {A} o = (c : Wiring A) → IsValid o c
 
 -- To a proof lead equally large shares of a prover's lists of random elements and of a simulator's lists of free
 -- ones: so many of the prover's and one of the simulator's where it passes, and none where it does not.
-pub record HasEqualShares {A : Type 0} (o : Ops A) (e : Coding A) (c : Wiring A) (public private : List A) (s : Script A) (ch : Challenges A) (columns : List ℕ) (proof : Proof A) : Type 0 where
+pub record HasEqualShares {A : Type 0} (o : Ops A) (e : Coding A) (c : Wiring A) (public private : List A)
+    (s : Script A) (ch : Challenges A) (columns : List ℕ) (proof : Proof A) : Type 0 where
   pub passing : Passes o e c public s ch columns proof
       → HasExactly (e.size ^ idle_count (params_of c)) (LeadsTo o e c public s ch columns private proof)
       × HasExactly 1 (Makes o e c public s ch columns proof)
@@ -165,11 +167,13 @@ ProofsLead {A} o e =
     → IsValid o c → HaveCounts c public private → IsSatisfied o e.number c.layers (inputs_of o public private)
     → IsProofOf o e c session public private word proof
     → (let t = given o e c session public private word proof in
-    LeadsTo o e c public t.script t.challenges t.columns private proof (map (λ i. e.element (word i)) (range_with_len 0 (random_count (params_of c)))))
+    LeadsTo o e c public t.script t.challenges t.columns private proof
+    (map (λ i. e.element (word i)) (range_with_len 0 (random_count (params_of c)))))
 
 -- Of the numbers below n, each element has as many as n holds the field's size, and one more where its number is
 -- below the remainder.
 abbrev pub WordsCounted : {A : Type 0} → Coding A → Type 0
 WordsCounted {A} e =
     (n : ℕ) (x : A)
-    → HasExactly (n / e.size + cond (nat_lt (e.number x) (n % e.size)) 1 0) (λ (word : ℕ). (word < n) × (e.element word ≡ x))
+    → HasExactly (n / e.size + cond (nat_lt (e.number x) (n % e.size)) 1 0)
+    (λ (word : ℕ). (word < n) × (e.element word ≡ x))

@@ -39,14 +39,17 @@ idle_at p (suc k) = row2_words p + (128 + k)
 
 -- ---- views
 
-module _ {A : Type 0} (o : Ops A) (e : Coding A) (c : Wiring A) (public : List A) (s : Script A) (ch : Challenges A) (columns : List ℕ) where
+module _ {A : Type 0} (o : Ops A) (e : Coding A) (c : Wiring A) (public : List A) (s : Script A) (ch : Challenges A)
+    (columns : List ℕ) where
   -- The sent elements, the answers and the opened columns of a proof are those of a prover with these private inputs
   -- and words, for this script, these challenges and these columns. The other parts of the proof may be anything.
   pub record IsSeen (private : List A) (word : ℕ → ℕ) (proof : Proof A) : Type 0 where
     pub count : length proof.messages ≡ sent_counts c
     pub layers : (l : ℕ) → l < depth c
-        → IsLayerSent o e.element c s (all_values o c.layers (inputs_of o public private)) (randoms o e word 0 (sent_counts c)) proof.messages l
-    pub answers : AreSent (params_of c) (answers_of o e.element c (params_of c) public s proof.messages ch (tableau o e c private word)) proof
+        → IsLayerSent o e.element c s (all_values o c.layers (inputs_of o public private))
+        (randoms o e word 0 (sent_counts c)) proof.messages l
+    pub answers : AreSent (params_of c) (answers_of o e.element c (params_of c) public s proof.messages ch
+        (tableau o e c private word)) proof
     pub opened : proof.columns ≡ flat_map (column o e c private word) columns
 
 -- 128 columns of the tree, of which no two are the same

@@ -40,7 +40,8 @@ rows_free p = tail_free p + (p.dblock - p.block)
 abbrev pub free_count : Params → ℕ
 free_count p = rows_free p + 128 * (p.nrow - 3)
 
-module _ {A : Type 0} (o : Ops A) (e : Coding A) (c : Wiring A) (public : List A) (s : Script A) (ch : Challenges A) (columns : List ℕ) where
+module _ {A : Type 0} (o : Ops A) (e : Coding A) (c : Wiring A) (public : List A) (s : Script A) (ch : Challenges A)
+    (columns : List ℕ) where
   -- the parameters of the circuit
   abbrev p : Params
   p = params_of c
@@ -52,19 +53,23 @@ module _ {A : Type 0} (o : Ops A) (e : Coding A) (c : Wiring A) (public : List A
   -- what the first three rows have at the k-th opened column, for answers and for what the rows behind them have
   -- there
   abbrev pub first_cell : List A → (ℕ → ℕ → A) → ℕ → A
-  first_cell ldt behind k = minus o (extension o e.element ldt (point_at k)) (sum_below o (p.nrow - 3) (λ i. o.times (entry o ch.u i) (behind k (3 + i))))
+  first_cell ldt behind k = minus o (extension o e.element ldt (point_at k)) (sum_below o (p.nrow - 3)
+      (λ i. o.times (entry o ch.u i) (behind k (3 + i))))
 
   -- and row 1
   abbrev pub second_cell : List A → List A → (ℕ → ℕ → A) → ℕ → A
   second_cell messages dot behind k =
       minus o (extension o e.element dot (point_at k))
-      (sum_below o (p.nrow - 3) (λ i. o.times (extension o e.element (combined_row_of o e.element c public s messages ch (3 + i)) (point_at k)) (behind k (3 + i))))
+      (sum_below o (p.nrow - 3)
+      (λ i. o.times (extension o e.element (combined_row_of o e.element c public s messages ch (3 + i)) (point_at k))
+      (behind k (3 + i))))
 
   -- and row 2
   abbrev pub third_cell : List A → (ℕ → ℕ → A) → ℕ → A
   third_cell quads behind k =
       minus o (extension o e.element quads (point_at k))
-      (sum_below o p.ntriple (λ t. let first = 3 + p.nwrow + 3 * t in o.times (entry o ch.v t) (minus o (o.times (behind k first) (behind k (first + 1))) (behind k (first + 2)))))
+      (sum_below o p.ntriple (λ t. let first = 3 + p.nwrow + 3 * t in o.times (entry o ch.v t)
+      (minus o (o.times (behind k first) (behind k (first + 1))) (behind k (first + 2)))))
 
   -- by these free elements
   module _ (free : ℕ → A) where
@@ -78,11 +83,13 @@ module _ {A : Type 0} (o : Ops A) (e : Coding A) (c : Wiring A) (public : List A
 
     -- the one value of the linear answer that is not free: it makes the sum that is wanted
     abbrev pub last_dot : A
-    last_dot = minus o (wanted_of o e.element c public s free_messages ch) (sum_below o (p.wr - 1) (λ k. free (dot_free p + (128 + k))))
+    last_dot = minus o (wanted_of o e.element c public s free_messages ch)
+        (sum_below o (p.wr - 1) (λ k. free (dot_free p + (128 + k))))
 
     -- the values of the linear answer: the last that its sum counts is the one that is not free
     abbrev pub dot_at : ℕ → A
-    dot_at x = cond (nat_lt x (p.block - 1)) (free (dot_free p + x)) (cond (nat_lt x p.block) last_dot (free (dot_free p + (x - 1))))
+    dot_at x = cond (nat_lt x (p.block - 1)) (free (dot_free p + x))
+        (cond (nat_lt x p.block) last_dot (free (dot_free p + (x - 1))))
 
     -- the linear answer
     abbrev pub free_dot : List A

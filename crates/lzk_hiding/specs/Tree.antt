@@ -17,12 +17,14 @@ use Rattle.lzk_verify.specs.Verdict.{IsJudged}
 use Rattle.lzk_tableau.specs.Tableau.{leaves}
 use Rattle.lzk_complete.specs.Proving.{IsProofOf, given}
 
-module _ {A : Type 0} (o : Ops A) (e : Coding A) (c : Wiring A) (columns : List ℕ) (view : Proof A) (nonces : List (List ℕ)) (others : ℕ → List ℕ) where
+module _ {A : Type 0} (o : Ops A) (e : Coding A) (c : Wiring A) (columns : List ℕ) (view : Proof A)
+    (nonces : List (List ℕ)) (others : ℕ → List ℕ) where
   -- the digest of column j: where it is opened that of what is seen with its nonce, and elsewhere another
   abbrev pub digest_of : ℕ → List ℕ
   digest_of j =
       let k = place_of j columns in
-      cond (nat_lt k (length columns)) (leaf_of e.bytes e.number (slice_index_or nonces k []) (column o (params_of c) view k)) (others j)
+      cond (nat_lt k (length columns)) (leaf_of e.bytes e.number (slice_index_or nonces k [])
+      (column o (params_of c) view k)) (others j)
 
   -- those of all columns
   abbrev pub all_digests : List (List ℕ)
@@ -34,7 +36,11 @@ module _ {A : Type 0} (o : Ops A) (e : Coding A) (c : Wiring A) (columns : List 
     id = id_of e c;
     root = tree_node (params_of c).mcol all_digests 1;
     nonces = nonces;
-    path = record { digests = map (tree_node (params_of c).mcol all_digests) (path_nodes (params_of c).mcol columns); room = 1536 };
+    path = record {
+      digests = map (tree_node (params_of c).mcol all_digests)
+          (path_nodes (params_of c).mcol columns);
+      room = 1536;
+    };
   }
 
 -- A tape may be programmed: it gives any draws that were fixed before, with 128 ascending columns. What passes by

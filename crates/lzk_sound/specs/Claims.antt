@@ -45,7 +45,8 @@ module _ {A : Type 0} (o : Ops A) (c : Wiring A) (public w : List A) where
 
     -- x as alpha of layer l joins its two claims to a true one, and one of them is not true
     abbrev pub IsBadAlpha : ℕ → A → Type 0
-    IsBadAlpha l x = IsBadJoin o (claim_a o c messages w l) (claim_b o c messages w l) (tilde o (values_at l) (point_a o s l)) (tilde o (values_at l) (point_b o s l)) x
+    IsBadAlpha l x = IsBadJoin o (claim_a o c messages w l) (claim_b o c messages w l)
+        (tilde o (values_at l) (point_a o s l)) (tilde o (values_at l) (point_b o s l)) x
 
     -- x as beta of layer l makes what its assertion terms count look like 0
     abbrev pub IsBadBetaAt : ℕ → A → Type 0
@@ -57,7 +58,8 @@ module _ {A : Type 0} (o : Ops A) (c : Wiring A) (public w : List A) where
     -- x as the challenge of round n of layer l makes a claim true that was not
     abbrev pub IsBadChallenge : ℕ → ℕ → A → Type 0
     IsBadChallenge l n x =
-        IsBadRound o point (layered_at o c s values_in l) (first_challenges o s l n) (claim_after o point c s messages w l n)
+        IsBadRound o point (layered_at o c s values_in l) (first_challenges o s l n)
+        (claim_after o point c s messages w l n)
         (padded o messages w (sent_at c l + 2 * n) (pads_at c l + 2 * n))
         (padded o messages w (sent_at c l + 2 * n + 1) (pads_at c l + 2 * n + 1)) x
 
@@ -74,7 +76,8 @@ module _ {A : Type 0} (o : Ops A) (c : Wiring A) (public w : List A) where
 
     -- x as alpha of layer l joins what its assertion terms count at the two points to 0, and one of them is not 0
     abbrev pub IsHidingAlpha : ℕ → A → Type 0
-    IsHidingAlpha l x = IsBadJoin o (tilde o (asserted_at l) (point_a o s l)) (tilde o (asserted_at l) (point_b o s l)) o.zero o.zero x
+    IsHidingAlpha l x = IsBadJoin o (tilde o (asserted_at l) (point_a o s l))
+        (tilde o (asserted_at l) (point_b o s l)) o.zero o.zero x
 
     -- the outputs' point hides no output
     abbrev pub OutputsShow : Type 0

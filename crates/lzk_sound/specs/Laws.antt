@@ -39,7 +39,8 @@ BindingsAreFew {A} o = (values before : List A) → HasAtMost 1 (IsBadBinding o 
 
 -- a list that is committed to, draws and sent elements, by which the constraints of a proof are met and no draw is
 -- bad
-pub record PassesWell {A : Type 0} (o : Ops A) (e : Coding A) (c : Wiring A) (public w : List A) (s : Script A) (messages : List A) : Type 0 where
+pub record PassesWell {A : Type 0} (o : Ops A) (e : Coding A) (c : Wiring A) (public w : List A) (s : Script A)
+    (messages : List A) : Type 0 where
   pub valid : IsValid o c
   pub publics : length public ≡ c.publics
   pub count : length w ≡ committed_count c
@@ -54,7 +55,8 @@ abbrev pub ShownUnlessBad : {A : Type 0} → Ops A → Coding A → Type 0
 ShownUnlessBad {A} o e =
     (c : Wiring A) (public w : List A) (s : Script A) (messages : List A) → PassesWell o e c public w s messages
     → (OutputsShow o c public w e.element s messages → AreZero o (entry o (values_at o c public w 0)))
-    × ((l : ℕ) → l < depth c → AssertedShow o c public w e.element s messages l → AreZero o (entry o (asserted_at o c public w l)))
+    × ((l : ℕ) → l < depth c → AssertedShow o c public w e.element s messages l
+    → AreZero o (entry o (asserted_at o c public w l)))
 
 -- And where none of these is bad either, the private inputs in the list satisfy the circuit.
 abbrev pub SatisfiedUnlessBad : {A : Type 0} → Ops A → Coding A → Type 0

@@ -67,4 +67,5 @@ module _ {A : Type 0} (o : Ops A) (c : Wiring A) (strategy : Strategy A) where
 -- what is shown passes the last four checks, by these draws and columns
 abbrev pub IsPassed : {A : Type 0} → Ops A → Coding A → Wiring A → List A → Strategy A → List A → List ℕ → Type 0
 IsPassed o e c public strategy draws columns =
-    Passes o e c public (script_of o c (script_draws c draws)) (weights_in c draws) columns (shown o c strategy draws columns)
+    Passes o e c public (script_of o c (script_draws c draws)) (weights_in c draws) columns
+    (shown o c strategy draws columns)

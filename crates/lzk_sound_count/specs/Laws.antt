@@ -22,7 +22,8 @@ IsFalse {A} o e c public = (private : List A) → length private ≡ c.privates
 
 -- A valid circuit, public inputs for which nobody has private ones, and a prover of them. A test says yes only to
 -- draws and columns by which what he shows passes.
-pub record IsCheat {A : Type 0} (o : Ops A) (e : Coding A) (c : Wiring A) (public : List A) (strategy : Strategy A) (wins : List A → List ℕ → Bool) : Type 0 where
+pub record IsCheat {A : Type 0} (o : Ops A) (e : Coding A) (c : Wiring A) (public : List A) (strategy : Strategy A)
+    (wins : List A → List ℕ → Bool) : Type 0 where
   pub valid : IsValid o c
   pub publics : length public ≡ c.publics
   pub wrong : IsFalse o e c public
@@ -47,8 +48,10 @@ abbrev pub FalseIsRare : {A : Type 0} → Ops A → Coding A → Type 0
 FalseIsRare {A} o e =
     (c : Wiring A) (public : List A) (strategy : Strategy A) (wins : List A → List ℕ → Bool)
     → IsCheat o e c public strategy wins → 2 ^ 18 ≤ e.size
-    → count_pairs wins (draws_from (all_elements e) (whole_count c)) (sets_of 128 (range_with_len 0 (params_of c).mcol)) * e.size
-    ≤ (bad_count c * choose (params_of c).mcol 128 + e.size * choose (3 * (params_of c).block - 1) 128) * e.size ^ whole_count c
+    → count_pairs wins (draws_from (all_elements e) (whole_count c)) (sets_of 128 (range_with_len 0 (params_of c).mcol))
+    * e.size
+    ≤ (bad_count c * choose (params_of c).mcol 128 + e.size * choose (3 * (params_of c).block - 1) 128)
+    * e.size ^ whole_count c
 
 -- a list that has everything once, and is so long
 pub record AreAll {A : Type 0} (size : ℕ) (ds : List A) : Type 0 where

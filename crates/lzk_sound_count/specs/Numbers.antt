@@ -27,5 +27,6 @@ PassesByOneIn {A} o e bad by elements =
     (c : Wiring A) (public : List A) (strategy : Strategy A) (wins : List A → List ℕ → Bool)
     → IsCheat o e c public strategy wins → bad_count c ≤ bad
     → elements ≤ e.size
-    → count_pairs wins (draws_from (all_elements e) (whole_count c)) (sets_of 128 (range_with_len 0 (params_of c).mcol)) * 2 ^ by
+    → count_pairs wins (draws_from (all_elements e) (whole_count c)) (sets_of 128 (range_with_len 0 (params_of c).mcol))
+    * 2 ^ by
     ≤ length (draws_from (all_elements e) (whole_count c)) * length (sets_of 128 (range_with_len 0 (params_of c).mcol))

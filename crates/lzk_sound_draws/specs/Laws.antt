@@ -21,7 +21,8 @@ most c target = total_from (λ k. degree target (draw_at c k)) 0 (draw_count c)
 
 -- A circuit, public inputs, a list that was committed to before all draws, and a prover. The test says yes only to
 -- draws by which all residuals are 0.
-pub record IsForger {A : Type 0} (o : Ops A) (e : Coding A) (c : Wiring A) (public w : List A) (send : List A → List A) (wins : List A → Bool) : Type 0 where
+pub record IsForger {A : Type 0} (o : Ops A) (e : Coding A) (c : Wiring A) (public w : List A) (send : List A → List A)
+    (wins : List A → Bool) : Type 0 where
   pub valid : IsValid o c
   pub publics : length public ≡ c.publics
   pub count : length w ≡ committed_count c

@@ -36,7 +36,8 @@ module _ {A : Type 0} (c : Wiring A) where
   draw_in l zero k = cond (k == 0) gamma other
   draw_in l (suc left) k =
       cond (k == 0) (alpha l)
-      (cond (nat_lt k firsts) (beta l) (cond (nat_lt k (firsts + round_count c l)) (challenge l (k - firsts)) (draw_in (suc l) left (k - firsts - round_count c l))))
+      (cond (nat_lt k firsts) (beta l) (cond (nat_lt k (firsts + round_count c l)) (challenge l (k - firsts))
+      (draw_in (suc l) left (k - firsts - round_count c l))))
 
   -- what draw k is for
   abbrev pub draw_at : ℕ → Draw

@@ -39,7 +39,8 @@ MixesAreRare {A} o =
     (at : ℕ → A) (n end e m : ℕ) (constant : ℕ → A) (rows : ℕ → ℕ → A) (wins : List A → Bool) (ds : List A)
     → AreApart at end → 3 * e + n ≤ end
     → (AreClose o at n end e (m + 1) (headed constant rows) → ⊥)
-    → ((ws : List A) → length ws ≡ m → wins ws ≡ true → AreClose o at n end e 1 (λ i. mixed o constant rows (entry o ws) m))
+    → ((ws : List A) → length ws ≡ m → wins ws ≡ true
+    → AreClose o at n end e 1 (λ i. mixed o constant rows (entry o ws) m))
     → AreDistinct ds
     → count wins (draws_from ds m) * length ds ≤ m * (e + 1) * length ds ^ m
 
@@ -51,7 +52,8 @@ CombinationsAreRare {A} o =
     (at : ℕ → A) (n end e m : ℕ) (constant : ℕ → A) (rows : ℕ → ℕ → A) (wins : List A → Bool) (ds : List A)
     → AreApart at end → 3 * e + n ≤ end
     → (AreClose o at n end e (m + 1) (headed constant rows) → ⊥)
-    → ((ws : List A) → length ws ≡ m → wins ws ≡ true → AreClose o at n end e 1 (λ i. mixed o constant rows (entry o ws) m))
+    → ((ws : List A) → length ws ≡ m → wins ws ≡ true
+    → AreClose o at n end e 1 (λ i. mixed o constant rows (entry o ws) m))
     → AreDistinct ds → HasAll ds → m * (e + 1) < length ds
     → count wins (draws_from ds m) * length ds ≤ (e + 2) * length ds ^ m
 

@@ -20,4 +20,5 @@ module _ {A : Type 0} (o : Ops A) (constant : ℕ → A) (rows : ℕ → ℕ →
     -- times row k it is, with those behind.
     pub record IsBadMix (k : ℕ) (x : A) : Type 0 where
       pub far : AreClose o at n end e (m - k + 1) (headed (mixed k) (λ i. rows (k + i))) → ⊥
-      pub near : AreClose o at n end e (m - (k + 1) + 1) (headed (λ j. o.plus (mixed k j) (o.times x (rows k j))) (λ i. rows (k + 1 + i)))
+      pub near : AreClose o at n end e (m - (k + 1) + 1)
+          (headed (λ j. o.plus (mixed k j) (o.times x (rows k j))) (λ i. rows (k + 1 + i)))

@@ -29,7 +29,8 @@ module _ {A : Type 0} (o : Ops A) (c : Wiring A) (rows : List (List A)) where
 
   -- by how much copy m is not the entry that it copies
   abbrev pub copy_gap : ℕ → A
-  copy_gap m = minus o (element o rows (copy_place_of (params_of c) m).0 (copy_place_of (params_of c) m).1) (placed (constrained_at c m))
+  copy_gap m = minus o (element o rows (copy_place_of (params_of c) m).0 (copy_place_of (params_of c) m).1)
+      (placed (constrained_at c m))
 
   -- the element of triple t at position s, in its first, second or third row
   abbrev pub in_triple : ℕ → ℕ → ℕ → A
@@ -55,7 +56,9 @@ module _ {A : Type 0} (o : Ops A) (c : Wiring A) (rows : List (List A)) where
       pub mus : AreGoodWeights o linear_rest copy_gap (entry o ch.mu) (3 * depth c)
       pub vs : (s : ℕ) → s < (params_of c).wr
           → AreGoodWeights o (element o rows 2 s) (product_gap s) (entry o ch.v) (params_of c).ntriple
-      pub linear : AreBadColumns o point (params_of c).dblock proof.dot (linear_of o point (params_of c) rows (combined_row o c coefficient ch)) columns
+      pub linear : AreBadColumns o point (params_of c).dblock proof.dot
+          (linear_of o point (params_of c) rows (combined_row o c coefficient ch)) columns
           → ⊥
-      pub quadratic : AreBadColumns o point (params_of c).dblock (quadratic_values o (params_of c) proof) (quadratic_of o point (params_of c) rows ch.v) columns
+      pub quadratic : AreBadColumns o point (params_of c).dblock (quadratic_values o (params_of c) proof)
+          (quadratic_of o point (params_of c) rows ch.v) columns
           → ⊥

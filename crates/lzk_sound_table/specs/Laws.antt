@@ -19,14 +19,16 @@ abbrev pub FarTablesPassRarely : {A : Type 0} → Ops A → (ℕ → A) → Type
 FarTablesPassRarely {A} o point =
     (p : Params) (table : ℕ → ℕ → A) (e : ℕ) (wins : List A → Bool) (ds : List A) → AreBounded p → e ≤ p.block
     → (IsNear o point p table e → ⊥)
-    → ((u : List A) → length u ≡ p.nrow - 3 → wins u ≡ true → AreClose o (place o point p table) p.block p.mcol e 1 (λ i. low_degree_at o point p table u))
+    → ((u : List A) → length u ≡ p.nrow - 3 → wins u ≡ true
+    → AreClose o (place o point p table) p.block p.mcol e 1 (λ i. low_degree_at o point p table u))
     → AreDistinct ds
     → count wins (draws_from ds (p.nrow - 3)) * length ds ≤ (p.nrow - 3) * (e + 1) * length ds ^ (p.nrow - 3)
 
 -- Columns of a table that is not near codewords were opened, and the low degree answer passes at each. If no weight
 -- is bad, all these columns are among those at which it passes, fewer than all but e; and at each place at most e + 1
 -- weights are bad.
-pub record IsCaught {A : Type 0} (o : Ops A) (point : ℕ → A) (p : Params) (table : ℕ → ℕ → A) (proof : Proof A) (columns : List ℕ) (u : List A) (e : ℕ) : Type 0 where
+pub record IsCaught {A : Type 0} (o : Ops A) (point : ℕ → A) (p : Params) (table : ℕ → ℕ → A) (proof : Proof A)
+    (columns : List ℕ) (u : List A) (e : ℕ) : Type 0 where
   pub passes : (k : ℕ) → k < length columns → PassesAt o point p table u proof (slice_index columns k)
   pub few : HasAtMost (p.mcol - e - 1) (λ (j : ℕ). (j < p.mcol) × PassesAt o point p table u proof j)
 
@@ -36,6 +38,7 @@ FarTablesAreCaught {A} o point =
     (p : Params) (table : ℕ → ℕ → A) (proof : Proof A) (columns : List ℕ) (u : List A) (e : ℕ) → AreBounded p
     → e ≤ p.block → (IsNear o point p table e → ⊥)
     → ((k : ℕ) → k < p.nrow - 3 → HasAtMost (e + 1) (IsBadRowWeight o point p table e u k))
-    × (AreOpenedIn o point p table proof columns → HasLengths p proof → AtEach columns (IsLowDegree o p proof point columns u)
+    × (AreOpenedIn o point p table proof columns → HasLengths p proof
+    → AtEach columns (IsLowDegree o p proof point columns u)
     → ((k : ℕ) → k < p.nrow - 3 → IsBadRowWeight o point p table e u k (entry o u k) → ⊥)
     → IsCaught o point p table proof columns u e)

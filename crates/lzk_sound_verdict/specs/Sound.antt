@@ -12,7 +12,8 @@ use Rattle.lzk_verify.specs.Checks.{HasCircuitId, HasPathCount, HasRoot}
 use Rattle.lzk_verify.specs.Verdict.{IsVerdict, given}
 use Rattle.lzk_sound.specs.Passing.{Passes}
 
-module _ {A : Type 0} (o : Ops A) (e : Coding A) (c : Wiring A) (session : List ℕ) (public : List A) (proof : Proof A) where
+module _ {A : Type 0} (o : Ops A) (e : Coding A) (c : Wiring A) (session : List ℕ) (public : List A)
+    (proof : Proof A) where
   -- what the proof's tape gives to it
   abbrev pub drawn : Transcript A
   drawn = given o e c session public proof
@@ -26,14 +27,16 @@ module _ {A : Type 0} (o : Ops A) (e : Coding A) (c : Wiring A) (session : List 
 
 -- The bytes are the file of a proof that passes by the draws and at the columns that its own tape gives, which are
 -- such as the count of `lzk_sound_count` speaks of.
-pub record PassesByTape {A : Type 0} (o : Ops A) (e : Coding A) (c : Wiring A) (session : List ℕ) (public : List A) (bytes : List ℕ) : Type 0 where
+pub record PassesByTape {A : Type 0} (o : Ops A) (e : Coding A) (c : Wiring A) (session : List ℕ) (public : List A)
+    (bytes : List ℕ) : Type 0 where
   pub proof : Proof A
   pub read : ProofBytes e.bytes e.number (params_of c) proof bytes
   pub id : HasCircuitId e c proof
   pub path : HasPathCount (params_of c) proof (given o e c session public proof).columns
   pub root : HasRoot o e (params_of c) proof (given o e c session public proof).columns
   pub columns : AreDrawn o e c session public proof
-  pub passes : Passes o e c public (given o e c session public proof).script (given o e c session public proof).challenges
+  pub passes : Passes o e c public (given o e c session public proof).script
+      (given o e c session public proof).challenges
       (given o e c session public proof).columns proof
 
 -- Accepted bytes are so, and no others.

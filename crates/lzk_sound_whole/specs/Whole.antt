@@ -38,12 +38,15 @@ abbrev pub WinsBySum : {A : Type 0} → Ops A → Coding A → Wiring A → List
 WinsBySum {A} o e c public rows send wins =
     (draws weights : List A) → length draws ≡ draw_count c → length weights ≡ weight_count c
     → wins draws weights ≡ true
-    → combination o (second_sum o c rows) (gap_at o c rows (coefficient_of o e.element c public (script_of o c draws) (send draws)) (right_of o e.element c public (script_of o c draws) (send draws)))
+    → combination o (second_sum o c rows) (gap_at o c rows
+    (coefficient_of o e.element c public (script_of o c draws) (send draws))
+    (right_of o e.element c public (script_of o c draws) (send draws)))
     (entry o weights) (weight_count c) ≡ o.zero
 
 -- A circuit, public inputs, rows that were committed to before all draws, and a prover of the sumchecks, who wins by
 -- the sum alone.
-pub record IsWholeForger {A : Type 0} (o : Ops A) (e : Coding A) (c : Wiring A) (public : List A) (rows : List (List A)) (send : List A → List A) (wins : List A → List A → Bool) : Type 0 where
+pub record IsWholeForger {A : Type 0} (o : Ops A) (e : Coding A) (c : Wiring A) (public : List A) (rows : List (List A))
+    (send : List A → List A) (wins : List A → List A → Bool) : Type 0 where
   pub valid : IsValid o c
   pub publics : length public ≡ c.publics
   pub products : HasProducts o c public (held o c rows)
@@ -59,7 +62,8 @@ WholeIsRare {A} o e =
     (target : Target) (ds : List A)
     → IsWholeForger o e c public rows send wins
     → IsOf c target → (AreZero o (entry o (table_of o c public (held o c rows) target)) → ⊥) → AreDistinct ds
-    → count (λ r. wins (take (draw_count c) r) (drop (draw_count c) r)) (draws_from ds (draw_count c + weight_count c)) * length ds
+    → count (λ r. wins (take (draw_count c) r) (drop (draw_count c) r)) (draws_from ds (draw_count c + weight_count c))
+    * length ds
     ≤ (most c target + 1) * length ds ^ (draw_count c + weight_count c)
 
 -- the weights of a proof's challenges, lambda and behind it mu
@@ -81,7 +85,8 @@ CopiesAreCaught {A} o e =
     (m : ℕ) (ds : List A)
     → m < 3 * depth c → copy_gap o c rows m ≢ o.zero
     → WinsBySum o e c public rows send wins → AreDistinct ds
-    → count (λ r. wins (take (draw_count c) r) (drop (draw_count c) r)) (draws_from ds (draw_count c + weight_count c)) * length ds
+    → count (λ r. wins (take (draw_count c) r) (drop (draw_count c) r)) (draws_from ds (draw_count c + weight_count c))
+    * length ds
     ≤ length ds ^ (draw_count c + weight_count c)
 
 -- Where all copies are right and the triples are products, the list has its products. Of a triple that is not,
