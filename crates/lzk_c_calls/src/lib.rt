@@ -1,8 +1,8 @@
 //! Statements for programs in C, and in any language that calls C: compile, show and evaluate.
 //!
-//! `include/lzk.h` declares what is here. A caller hands in bytes and room for bytes, and is told what came of it. Nothing is
-//! kept between calls, no thread is started, no file is read, and nothing is printed. No call asks anything of its caller but
-//! that each pointer leads to as many bytes as are said.
+//! `include/lzk.h` declares what is here. A caller hands in bytes and room for bytes, and is told what came of it.
+//! Nothing is kept between calls, no thread is started, no file is read, and nothing is printed. No call asks anything
+//! of its caller but that each pointer leads to as many bytes as are said.
 //!
 //! ```text
 //! lzk_outcome found;

@@ -1,9 +1,9 @@
 //! The prover for programs in C, and in any language that calls C.
 //!
-//! A library for C may start no thread, and the prover's crates stand on `lzk_hands`, which starts them. So `lzk_prove` is
-//! proved here for all that may do a chunk's work, and `./build library` makes an export of it: `lzk_alone` stands in the
-//! place of `lzk_hands`, the caller's own thread in that of `rt`, and the crates above `lzk_hands`, this one last, are proved
-//! once more over that. `include/lzk.h` declares the export.
+//! A library for C may start no thread, and the prover's crates stand on `lzk_hands`, which starts them. So `lzk_prove`
+//! is proved here for all that may do a chunk's work, and `./build library` makes an export of it: `lzk_alone` stands
+//! in the place of `lzk_hands`, the caller's own thread in that of `rt`, and the crates above `lzk_hands`, this one
+//! last, are proved once more over that. `include/lzk.h` declares the export.
 //!
 //! ```text
 //! lzk_outcome found;
