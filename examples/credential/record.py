@@ -11,6 +11,8 @@
 Numbers have their highest byte first. A record is one block of SHA-256, and its digest is what the issuer signs.
 """
 
+import contextlib
+import fcntl
 import hashlib
 import os
 import subprocess
@@ -22,6 +24,14 @@ SECRET = slice(15, 31)
 PSEUDONYM = b"LZP1"
 PSEUDONYM_LENGTH = 36
 SIGNED = b"LZK1 record "
+
+
+@contextlib.contextmanager
+def alone(folder):
+    """Runs over one folder follow one another, so that each knows what the one before has seen or shown."""
+    with open(os.path.join(folder, "lock"), "w", encoding="utf-8") as file:
+        fcntl.flock(file, fcntl.LOCK_EX)
+        yield
 
 
 def record(birth, until, country, secret, salt):

@@ -37,6 +37,8 @@ def seen(folder, name):
 def remember(folder, name, word):
     with open(path_of(folder, name), "a", encoding="utf-8") as file:
         file.write(word + "\n")
+        file.flush()
+        os.fsync(file.fileno())
 
 
 def ask(folder, service, request_file, latest_birth, today, country, flags):
@@ -111,9 +113,13 @@ def main():
     with open(answer_file, encoding="utf-8") as file:
         answer = json.load(file)
     try:
-        check(os.environ["ZK"], folder, issuer_key, nonce, answer)
+        with R.alone(folder):
+            check(os.environ["ZK"], folder, issuer_key, nonce, answer)
     except Refused as refused:
         print(f"refused: {refused}")
+        return 1
+    except (KeyError, TypeError, ValueError):
+        print("refused: the answer has not its form")
         return 1
     print("let in")
     return 0

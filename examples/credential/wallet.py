@@ -51,8 +51,11 @@ class Records:
 
     def mark(self):
         """Counts the next one as shown. This is done before it is: a wallet that is cut off loses a record, and shows none twice."""
-        with open(self.path, "w", encoding="utf-8") as file:
+        with open(self.path + ".new", "w", encoding="utf-8") as file:
             file.write(str(self.shown + 1))
+            file.flush()
+            os.fsync(file.fileno())
+        os.replace(self.path + ".new", self.path)
 
 
 def prove(zk, wallet, request, service, record):
@@ -96,7 +99,8 @@ def main():
     with open(request_file, encoding="utf-8") as file:
         request = json.load(file)
     try:
-        found = answer(os.environ["ZK"], wallet, service, request, "anyway" in flags, "again" in flags)
+        with R.alone(wallet):
+            found = answer(os.environ["ZK"], wallet, service, request, "anyway" in flags, "again" in flags)
     except Refused as refused:
         print(f"nothing is proved: {refused}")
         return 1
