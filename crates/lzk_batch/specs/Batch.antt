@@ -59,8 +59,10 @@ pub record IsJobFit (batch : List AnyCircuit) (job : Job) : Type 0 where
 
 -- the verdict on a job's proof, for a circuit
 abbrev pub IsJobVerdict : AnyCircuit → Job → AnyVerdict → Type 0
-IsJobVerdict (circuits.Gold c) (jobs.Gold job) (verdicts.Gold v) = IsVerdict gold.ops gold_coding c job.session.items job.public.items job.proof.items v
-IsJobVerdict (circuits.Gf c) (jobs.Gf job) (verdicts.Gf v) = IsVerdict gf.ops gf_coding c job.session.items job.public.items job.proof.items v
+IsJobVerdict (circuits.Gold c) (jobs.Gold job) (verdicts.Gold v) =
+    IsVerdict gold.ops gold_coding c job.session.items job.public.items job.proof.items v
+IsJobVerdict (circuits.Gf c) (jobs.Gf job) (verdicts.Gf v) =
+    IsVerdict gf.ops gf_coding c job.session.items job.public.items job.proof.items v
 IsJobVerdict c job v = ⊥
 
 -- this verdict alone is that on a job's proof

@@ -40,9 +40,12 @@ if_ok (Err e) = None
 
 -- what stands behind a front, if the word has it
 abbrev pub behind : List ℕ → List ℕ → Option (List ℕ)
-behind front word = cond (nat_le (length front) (length word) && bytes_eq (take (length front) word) front) (Some (drop (length front) word)) None
+behind front word =
+    cond (nat_le (length front) (length word) && bytes_eq (take (length front) word) front)
+    (Some (drop (length front) word)) None
 
--- the bytes of a session: those of its hexadecimal digits, of either case, if they are an even number of them and no more than the most
+-- the bytes of a session: those of its hexadecimal digits, of either case, if they are an even number of them and no
+-- more than the most
 abbrev pub session_bytes : List ℕ → Option (List ℕ)
 session_bytes digits = cond (nat_le (length digits) most_digits) (if_ok (decode_of digits)) None
 
@@ -54,7 +57,8 @@ session_of words = None
 
 -- the job of the words of a line, if they are three names and then at most a session
 abbrev pub entry_of : List (List ℕ) → Option Listed
-entry_of (circuit ∷ public ∷ proof ∷ others) = and_then (session_of others) (λ session. Some (listed circuit public proof session))
+entry_of (circuit ∷ public ∷ proof ∷ others) =
+    and_then (session_of others) (λ session. Some (listed circuit public proof session))
 entry_of words = None
 
 -- the job of a line, if it is UTF-8 and has one
@@ -74,7 +78,9 @@ one_more line have (Some entry) = Ok (have ++ entry ∷ [])
 
 -- The jobs with that of one more line. That there are as many as may be is said before the line is read.
 abbrev pub with_line : ℕ → List ℕ → List Listed → Result (List Listed) ListFault
-with_line line bytes have = if is_skipped bytes then Ok have else (if nat_lt (length have) most_entries then one_more line have (line_entry bytes) else breaks line Limit)
+with_line line bytes have =
+    if is_skipped bytes then Ok have else
+    (if nat_lt (length have) most_entries then one_more line have (line_entry bytes) else breaks line Limit)
 
 abbrev pub if_read : {A B : Type 0} → Result A ListFault → (A → Result B ListFault) → Result B ListFault
 if_read (Ok x) f = f x
@@ -88,7 +94,8 @@ entries_to line (bytes ∷ others) have = if_read (with_line line bytes have) (�
 unfoldable pub entries_of : List ℕ → Result (List Listed) ListFault
 entries_of text = entries_to 1 (lines text) []
 
--- The text is a list of these jobs: each line that is not skipped has one, in this order, and they are no more than may be.
+-- The text is a list of these jobs: each line that is not skipped has one, in this order, and they are no more than may
+-- be.
 pub record ListText (text : List ℕ) (entries : List Listed) : Type 0 where
   pub jobs : map line_entry (filter (λ line. not (is_skipped line)) (lines text)) ≡ map Some entries
   pub few : length entries ≤ most_entries
@@ -108,4 +115,5 @@ IsFirstFault text errors.OutOfMemory = Unit {0}
 IsFirstFault text (errors.Fault fault) = IsListFault text fault
 
 abbrev pub entry_view : Entry → Listed
-entry_view entry = listed (string_bytes entry.circuit) (string_bytes entry.public) (string_bytes entry.proof) entry.session.items
+entry_view entry =
+    listed (string_bytes entry.circuit) (string_bytes entry.public) (string_bytes entry.proof) entry.session.items

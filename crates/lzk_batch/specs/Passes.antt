@@ -9,7 +9,8 @@ pub record TicketsState : Type 0 where
   pub table : TableId
   pub jobs : ℕ
 
--- a pass: the table of its tickets, the numbers that it has drawn, and how many more than one of them may be past all jobs
+-- a pass: the table of its tickets, the numbers that it has drawn, and how many more than one of them may be past all
+-- jobs
 pub record PassState : Type 0 where
   pub table : TableId
   pub drawn : List ℕ

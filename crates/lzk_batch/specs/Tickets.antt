@@ -28,7 +28,8 @@ HasEachBelowOnce n xs = (x : ℕ) → times x xs ≡ once_below n x
 abbrev pub late : List ℕ → ℕ
 late xs = count_by (λ x. nat_le most_jobs x) xs
 
--- what a seat knows: the numbers that it drew, and how many more than one of them may be past all jobs; and whether a join has spent it
+-- what a seat knows: the numbers that it drew, and how many more than one of them may be past all jobs; and whether a
+-- join has spent it
 abbrev pub view_of : List ℕ → ℕ → Bool → View
 view_of drawn spare spent = record { drawn = drawn; spare = spare; is_spent = spent }
 

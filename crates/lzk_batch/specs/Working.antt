@@ -7,14 +7,17 @@ use Rattle.lzk_batch.specs.Passes.{TicketsState, PassState, IsOf, IsOpen}
 use Rattle.lzk_batch.specs.Batch.{IsJobFit, IsJudged, numbers_of, HasDrawnMore, AllZip₃}
 
 -- passes may be lent for these jobs
-pub record AreReady (batch : List AnyCircuit) (list : List Job) (tickets : TicketsState) (passes : List PassState) : Type 0 where
+pub record AreReady (batch : List AnyCircuit) (list : List Job) (tickets : TicketsState)
+    (passes : List PassState) : Type 0 where
   pub fit : All (IsJobFit batch) list
   pub dealt : tickets.jobs ≡ length list
   pub of : All (IsOf tickets) passes
   pub still : All (IsOpen tickets) passes
 
--- the pass has drawn the numbers of these jobs, in this order, each of which has its verdict, and then one number that is no job's
-pub record HasWorked (batch : List AnyCircuit) (list : List Job) (old new : PassState) (judged : List Judged) : Type 0 where
+-- the pass has drawn the numbers of these jobs, in this order, each of which has its verdict, and then one number that
+-- is no job's
+pub record HasWorked (batch : List AnyCircuit) (list : List Job) (old new : PassState)
+    (judged : List Judged) : Type 0 where
   pub last : ℕ
   pub past : length list ≤ last
   pub below : All (λ n. n < length list) (numbers_of judged)

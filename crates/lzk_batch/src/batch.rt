@@ -60,7 +60,8 @@ fn work_alone(alloc: Global, batch: &Batch<'_>, pass: &mut Pass) -> Result<Vec<J
     requires dealt { batch.now.tickets.now.jobs ≡ length batch.now.jobs.now }
     requires of { IsOf batch.now.tickets.now pass.old }
     requires open { IsOpen batch.now.tickets.now pass.old }
-    ensures worked { IfOk result (λ judged. HasWorked batch.now.circuits.now batch.now.jobs.now pass.old pass.new judged.items) }
+    ensures worked { IfOk result
+        (λ judged. HasWorked batch.now.circuits.now batch.now.jobs.now pass.old pass.new judged.items) }
     ensures draws { DrawsOn pass.old pass.new }
 {
     let mut desks = Desks::new(batch.circuits, batch.ids);
@@ -80,7 +81,8 @@ fn one_list(
     requires dealt { batch.now.tickets.now.jobs ≡ length batch.now.jobs.now }
     requires of { IsOf batch.now.tickets.now pass.old }
     requires open { IsOpen batch.now.tickets.now pass.old }
-    ensures worked { IfOk result (λ lists. HaveWorked batch.now.circuits.now batch.now.jobs.now (pass.old ∷ []) (pass.new ∷ [])
+    ensures worked { IfOk result (λ lists.
+        HaveWorked batch.now.circuits.now batch.now.jobs.now (pass.old ∷ []) (pass.new ∷ [])
         (map (λ list. list.items) lists.items)) }
     ensures draws { DrawsOn pass.old pass.new }
 {
@@ -105,7 +107,9 @@ fn share_out<R: Threads + Sync, G: Gate>(
     requires ready { AreReady batch.now.circuits.now batch.now.jobs.now batch.now.tickets.now passes.old }
     requires some { 1 ≤ length passes.old }
     requires few { first + length passes.old ≤ most_workers }
-    ensures worked { IfOk result (λ lists. HaveWorked batch.now.circuits.now batch.now.jobs.now passes.old passes.new (map (λ list. list.items) lists.items)) }
+    ensures worked { IfOk result (λ lists.
+        HaveWorked batch.now.circuits.now batch.now.jobs.now passes.old passes.new
+        (map (λ list. list.items) lists.items)) }
     ensures draws { AllZip DrawsOn passes.old passes.new }
 {
     if passes.len() == 1 {
@@ -122,7 +126,8 @@ fn share_out<R: Threads + Sync, G: Gate>(
         requires { IsSync R.row × IsSync G.row × (1 ≤ length front.now) × (first + length front.now ≤ most_workers) ×
             (batch.now.ids.now ≡ map id_of_any batch.now.circuits.now) ×
             AreReady batch.now.circuits.now batch.now.jobs.now batch.now.tickets.now front.now }
-        ensures worked { IfOk result (λ lists. HaveWorked batch.entry.now.circuits.now batch.entry.now.jobs.now front.entry.now front.exit.now
+        ensures worked { IfOk result (λ lists.
+            HaveWorked batch.entry.now.circuits.now batch.entry.now.jobs.now front.entry.now front.exit.now
             (map (λ list. list.items) lists.items)) }
         ensures draws { AllZip DrawsOn front.entry.now front.exit.now }
     { share_out(rt, alloc, batch, gate, first, of, front) };
@@ -130,7 +135,8 @@ fn share_out<R: Threads + Sync, G: Gate>(
         requires { IsSync R.row × IsSync G.row × (1 ≤ length back.now) × (next + length back.now ≤ most_workers) ×
             (batch.now.ids.now ≡ map id_of_any batch.now.circuits.now) ×
             AreReady batch.now.circuits.now batch.now.jobs.now batch.now.tickets.now back.now }
-        ensures worked { IfOk result (λ lists. HaveWorked batch.entry.now.circuits.now batch.entry.now.jobs.now back.entry.now back.exit.now
+        ensures worked { IfOk result (λ lists.
+            HaveWorked batch.entry.now.circuits.now batch.entry.now.jobs.now back.entry.now back.exit.now
             (map (λ list. list.items) lists.items)) }
         ensures draws { AllZip DrawsOn back.entry.now back.exit.now }
     { share_out(rt, alloc, batch, gate, next, of, back) };
@@ -174,13 +180,13 @@ fn ids_of(alloc: Global, circuits: &[AnyCircuit]) -> Result<Vec<[u8; 32]>, Alloc
 
 /// Verifies jobs with a worker for each pass.
 ///
-/// A worker enters the gate once, before its first draw, with its pass's place and the number of passes. Then it verifies the job
-/// whose number it draws, until it draws none. The circuits are written once, for their ids.
+/// A worker enters the gate once, before its first draw, with its pass's place and the number of passes. Then it
+/// verifies the job whose number it draws, until it draws none. The circuits are written once, for their ids.
 ///
 /// # Errors
 ///
-/// `AllocError` where the memory for a circuit's file, a desk or a list is not given. The passes may have drawn numbers, and may be
-/// gathered.
+/// `AllocError` where the memory for a circuit's file, a desk or a list is not given. The passes may have drawn
+/// numbers, and may be gathered.
 pub fn verify_batch<R: Threads + Sync, G: Gate>(
     rt: &R,
     alloc: Global,
@@ -196,8 +202,10 @@ pub fn verify_batch<R: Threads + Sync, G: Gate>(
     requires open { All (IsOpen tickets.now) passes.old }
     requires some { 1 ≤ length passes.old }
     requires few { length passes.old ≤ most_workers }
-    ensures jobs { IfOk result (λ lists. AllZip₃ (AreJobsDrawn (length jobs.now)) passes.old passes.new (map (λ list. list.items) lists.items)) }
-    ensures verdicts { IfOk result (λ lists. All (λ list. All (IsJudged circuits.now jobs.now) list.items) lists.items) }
+    ensures jobs { IfOk result (λ lists.
+        AllZip₃ (AreJobsDrawn (length jobs.now)) passes.old passes.new (map (λ list. list.items) lists.items)) }
+    ensures verdicts { IfOk result
+        (λ lists. All (λ list. All (IsJudged circuits.now jobs.now) list.items) lists.items) }
     ensures late { IfOk result (λ _. All (HasDrawnOneLate (length jobs.now)) passes.new) }
     ensures draws { AllZip DrawsOn passes.old passes.new }
     ensures all { AreAll tickets.now passes.old → AreAll tickets.now passes.new }
@@ -224,8 +232,10 @@ fn verify_with_ids<R: Threads + Sync, G: Gate>(
     requires open { All (IsOpen tickets.now) passes.old }
     requires some { 1 ≤ length passes.old }
     requires few { length passes.old ≤ most_workers }
-    ensures jobs { IfOk result (λ lists. AllZip₃ (AreJobsDrawn (length jobs.now)) passes.old passes.new (map (λ list. list.items) lists.items)) }
-    ensures verdicts { IfOk result (λ lists. All (λ list. All (IsJudged circuits.now jobs.now) list.items) lists.items) }
+    ensures jobs { IfOk result (λ lists.
+        AllZip₃ (AreJobsDrawn (length jobs.now)) passes.old passes.new (map (λ list. list.items) lists.items)) }
+    ensures verdicts { IfOk result
+        (λ lists. All (λ list. All (IsJudged circuits.now jobs.now) list.items) lists.items) }
     ensures late { IfOk result (λ _. All (HasDrawnOneLate (length jobs.now)) passes.new) }
     ensures draws { AllZip DrawsOn passes.old passes.new }
     ensures all { AreAll tickets.now passes.old → AreAll tickets.now passes.new }
@@ -240,8 +250,8 @@ fn verify_with_ids<R: Threads + Sync, G: Gate>(
     share_out(rt, alloc, &batch, gate, 0, of, passes)
 }
 
-/// Verifies jobs with so many workers, and gives their verdicts in the order of the jobs. The circuits are written once, for their
-/// ids.
+/// Verifies jobs with so many workers, and gives their verdicts in the order of the jobs. The circuits are written
+/// once, for their ids.
 ///
 /// # Errors
 ///

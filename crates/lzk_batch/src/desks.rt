@@ -108,8 +108,10 @@ impl<'c> Model for Desks<'c> {
 
     ghost view = { λ d. d.circuits.now };
 
-    ghost invariant = { λ d. (d.ids.now ≡ map id_of_any d.circuits.now) ×
-        ForSome d.gold (λ k. IsGoldAt d.circuits.now k.place k.desk.circuit) × ForSome d.gf (λ k. IsGfAt d.circuits.now k.place k.desk.circuit) };
+    ghost invariant = { λ d.
+        (d.ids.now ≡ map id_of_any d.circuits.now)
+        × ForSome d.gold (λ k. IsGoldAt d.circuits.now k.place k.desk.circuit)
+        × ForSome d.gf (λ k. IsGfAt d.circuits.now k.place k.desk.circuit) };
 }
 
 impl<'c> Desks<'c> {

@@ -1,6 +1,7 @@
 //! Batches of proofs, verified by workers that draw their jobs as tickets.
 //!
-//! A worker draws the number of a job from one word of `atomic_table`, so that no job waits for a worker that is busy. A caller writes
+//! A worker draws the number of a job from one word of `atomic_table`, so that no job waits for a worker that is busy.
+//! A caller writes
 //!
 //! ```text
 //! let verdicts = verify_all(&rt, alloc, &circuits, &jobs, 4, &Open)?;

@@ -83,7 +83,8 @@ fn take_line(
     bytes: &[u8],
     entries: &mut Vec<Entry>,
 ) -> Result<(), ListError>
-    ensures { MatchResult result (λ _. with_line line bytes.now (map entry_view entries.old.items) ≡ Ok (map entry_view entries.new.items))
+    ensures { MatchResult result
+        (λ _. with_line line bytes.now (map entry_view entries.old.items) ≡ Ok (map entry_view entries.new.items))
         (λ e. Fails e (with_line line bytes.now (map entry_view entries.old.items))) }
 {
     if is_skipped(bytes) {
@@ -113,7 +114,8 @@ fn take_line(
 pub fn parse_list(alloc: Global, text: &[u8]) -> Result<Vec<Entry>, ListError>
     requires { length text.now ≤ 65536 }
     ensures entries { IfOk result (λ v. ListText text.now (map entry_view v.items)) }
-    ensures only { (entries : List Listed) → ListText text.now entries → MatchResult result (λ v. map entry_view v.items ≡ entries) (λ e. e ≡ OutOfMemory) }
+    ensures only { (entries : List Listed) → ListText text.now entries
+        → MatchResult result (λ v. map entry_view v.items ≡ entries) (λ e. e ≡ OutOfMemory) }
     ensures fault { IfErr result (IsFirstFault text.now) }
     ensures read { IfOk result (λ v. entries_of text.now ≡ Ok (map entry_view v.items)) }
 {

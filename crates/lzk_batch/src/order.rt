@@ -40,7 +40,8 @@ fn verdict_of(lists: &[Vec<Judged>], number: u32) -> Option<AnyVerdict>
 fn in_order(alloc: Global, jobs: u32, lists: &[Vec<Judged>]) -> Result<Vec<AnyVerdict>, AllocError>
     requires once { HasEachBelowOnce jobs (numbers_in lists.now) }
     ensures count { IfOk result (λ verdicts. vec_len verdicts ≡ jobs) }
-    ensures verdicts { IfOk result (λ verdicts. (k : ℕ) (v : _) → slice_get verdicts.items k ≡ Some v → HasVerdictIn lists.now k v) }
+    ensures verdicts { IfOk result
+        (λ verdicts. (k : ℕ) (v : _) → slice_get verdicts.items k ≡ Some v → HasVerdictIn lists.now k v) }
 {
     let mut verdicts = Vec::with_capacity(alloc, jobs as usize)?;
     for number in 0..jobs {
@@ -52,7 +53,8 @@ fn in_order(alloc: Global, jobs: u32, lists: &[Vec<Judged>]) -> Result<Vec<AnyVe
     Ok(verdicts)
 }
 
-/// Takes in the passes of a batch, all of which it was lent with nothing drawn, and gives the verdicts in the order of the jobs.
+/// Takes in the passes of a batch, all of which it was lent with nothing drawn, and gives the verdicts in the order of
+/// the jobs.
 /// Each job then stands once in the lists.
 ///
 /// # Errors
@@ -69,7 +71,8 @@ pub fn gather_verdicts(
     requires late { All (HasDrawnOneLate tickets.jobs) passes.items }
     ensures once { IfOk result (λ _. HasEachBelowOnce tickets.jobs (numbers_in lists.now)) }
     ensures count { IfOk result (λ verdicts. vec_len verdicts ≡ tickets.jobs) }
-    ensures verdicts { IfOk result (λ verdicts. (k : ℕ) (v : _) → slice_get verdicts.items k ≡ Some v → HasVerdictIn lists.now k v) }
+    ensures verdicts { IfOk result
+        (λ verdicts. (k : ℕ) (v : _) → slice_get verdicts.items k ≡ Some v → HasVerdictIn lists.now k v) }
 {
     let jobs = tickets.jobs();
     tickets.gather(passes)?;

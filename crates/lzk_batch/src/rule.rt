@@ -30,7 +30,8 @@ impl Play<u8, View> for Draws {
     ghost use Rattle.std.specs.Prelude.{◌≡◌, ◌<◌, [], ◌∷◌, ◌++◌, All};
     ghost use Rattle.lzk_batch.specs.Tickets.{view_of};
 
-    ghost then = { λ _ me n after. All (λ x. x < n) me.0.drawn × (after ≡ (view_of (me.0.drawn ++ n ∷ []) me.0.spare me.0.is_spent, me.1)) };
+    ghost then = { λ _ me n after.
+        All (λ x. x < n) me.0.drawn × (after ≡ (view_of (me.0.drawn ++ n ∷ []) me.0.spare me.0.is_spent, me.1)) };
 }
 
 /// A seat gives a share to a new one, or takes in another with its shares.

@@ -28,7 +28,8 @@ impl Model for Tickets {
 
     ghost view = { λ t. tickets_of t.word.shared.table_id t.jobs };
 
-    ghost invariant = { λ t. (t.word.shared.table_id.words ≡ 1) × (t.word.shared.table_id.slots ≡ 0) × (t.jobs ≤ most_jobs) };
+    ghost invariant = { λ t.
+        (t.word.shared.table_id.words ≡ 1) × (t.word.shared.table_id.slots ≡ 0) × (t.jobs ≤ most_jobs) };
 }
 
 /// What a worker draws with.

@@ -25,7 +25,8 @@ expr_of (Made k) = Named k
 
 -- a + b - 2 * a * b
 abbrev pub exclusive_or : Expr → Expr → Expr
-exclusive_or a b = Added (part false a (part false b (part true (Multiplied (factor (Number 2) (factor a (factor b NoExpr)))) NoPart)))
+exclusive_or a b =
+    Added (part false a (part false b (part true (Multiplied (factor (Number 2) (factor a (factor b NoExpr)))) NoPart)))
 
 -- The let lines of a round: one for each adjacent pair, the first with the number k.
 abbrev pub round_lets : ℕ → List Entry → List Statement
@@ -104,4 +105,6 @@ IsDemoDepth n depth = (r : ℕ) × IsLogarithm n r × (depth ≡ max 1 r)
 
 -- the demo's inputs satisfy every valid circuit of version 1 with the values of the demo's source
 abbrev pub InputsSatisfy : {A : Type 0} → Ops A → (A → ℕ) → (ℕ → A) → ℕ → Wiring A → Type 0
-InputsSatisfy o number element n c = c.version ≡ 1 → IsValid o c → c.publics ≡ 1 → c.privates ≡ n → HasValues o element (demo_statements n) c → IsSatisfied o number c.layers (inputs_of o (demo_public o n) (demo_private o n))
+InputsSatisfy o number element n c =
+    c.version ≡ 1 → IsValid o c → c.publics ≡ 1 → c.privates ≡ n → HasValues o element (demo_statements n) c
+    → IsSatisfied o number c.layers (inputs_of o (demo_public o n) (demo_private o n))

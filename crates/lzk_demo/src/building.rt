@@ -45,7 +45,8 @@ fn expr_of(entry: Entry) -> Expr
 
 // Twice the product of two entries.
 fn twice_product(alloc: Global, a: Entry, b: Entry) -> Result<Expr, AllocError>
-    ensures { IfOk result (λ e. view.expr_of e ≡ Multiplied (factor (Number 2) (factor (spec.expr_of a) (factor (spec.expr_of b) NoExpr)))) }
+    ensures { IfOk result (λ e.
+        view.expr_of e ≡ Multiplied (factor (Number 2) (factor (spec.expr_of a) (factor (spec.expr_of b) NoExpr)))) }
 {
     let factors = vec![in alloc; Expr::Number(2), expr_of(a), expr_of(b)]?;
     Ok(Expr::Product(factors))
@@ -74,7 +75,8 @@ fn exclusive_or(alloc: Global, a: Entry, b: Entry) -> Result<Expr, AllocError>
 // The let of a pair.
 fn let_of(alloc: Global, k: u32, a: Entry, b: Entry) -> Result<Statement, AllocError>
     requires { k < 16384 }
-    ensures { IfOk result (λ s. statement_of s ≡ Define (spec.let_name k) (spec.exclusive_or (spec.expr_of a) (spec.expr_of b))) }
+    ensures { IfOk result
+        (λ s. statement_of s ≡ Define (spec.let_name k) (spec.exclusive_or (spec.expr_of a) (spec.expr_of b))) }
 {
     let name = let_name(alloc, k)?;
     let expr = exclusive_or(alloc, a, b)?;
@@ -90,7 +92,8 @@ fn assert_of(entry: Entry) -> Statement
 
 // Adds a statement.
 fn push(statement: Statement, statements: &mut Vec<Statement>) -> Result<(), AllocError>
-    ensures { OnOk result (statements_of statements.new.items ≡ statements_of statements.old.items ++ statement_of statement ∷ []) }
+    ensures { OnOk result
+        (statements_of statements.new.items ≡ statements_of statements.old.items ++ statement_of statement ∷ []) }
 {
     statements.push(statement)?;
     Ok(())
@@ -105,7 +108,8 @@ fn push_round(
 ) -> Result<Vec<Entry>, AllocError>
     requires { first + length entries.now ≤ 16384 }
     ensures list { IfOk result (λ list. list.items ≡ paired first entries.now) }
-    ensures lets { OnOk result (statements_of statements.new.items ≡ statements_of statements.old.items ++ round_lets first entries.now) }
+    ensures lets { OnOk result
+        (statements_of statements.new.items ≡ statements_of statements.old.items ++ round_lets first entries.now) }
 {
     let mut list = Vec::with_capacity(alloc, entries.len() / 2 + 1)?;
     for i in 0..entries.len() / 2 {
@@ -128,7 +132,8 @@ fn push_rounds(
 ) -> Result<(), AllocError>
     requires some { 1 ≤ length inputs.items }
     requires few { length inputs.items ≤ 16384 }
-    ensures { OnOk result (statements_of statements.new.items ≡ statements_of statements.old.items ++ rounds (length inputs.items) 0 inputs.items) }
+    ensures { OnOk result (statements_of statements.new.items
+        ≡ statements_of statements.old.items ++ rounds (length inputs.items) 0 inputs.items) }
 {
     let mut entries = inputs;
     let mut made = 0;
@@ -148,7 +153,8 @@ fn push_inputs(
 ) -> Result<Vec<Entry>, AllocError>
     requires { n ≤ 16384 }
     ensures list { IfOk result (λ list. list.items ≡ inputs_from 0 n) }
-    ensures privates { OnOk result (statements_of statements.new.items ≡ statements_of statements.old.items ++ privates_from 0 n) }
+    ensures privates { OnOk result
+        (statements_of statements.new.items ≡ statements_of statements.old.items ++ privates_from 0 n) }
 {
     let mut list = Vec::with_capacity(alloc, n as usize)?;
     for i in 0..n {
@@ -163,7 +169,8 @@ fn push_inputs(
 pub fn push_all(alloc: Global, n: u32, statements: &mut Vec<Statement>) -> Result<(), AllocError>
     requires some { 1 ≤ n }
     requires few { n ≤ 16384 }
-    ensures { OnOk result (statements_of statements.new.items ≡ statements_of statements.old.items ++ demo_statements n) }
+    ensures { OnOk result
+        (statements_of statements.new.items ≡ statements_of statements.old.items ++ demo_statements n) }
 {
     statements.reserve(2 * n as usize + 1)?;
     push(Statement::Public(Name::new(b"y")), statements)?;

@@ -26,7 +26,8 @@ fn gold(circuit: AnyCircuit) -> Circuit<Gold>
     }
 }
 
-/// The reduced circuit of the source with `n` private inputs. `Err` where there is no memory for it: no limit is passed.
+/// The reduced circuit of the source with `n` private inputs. `Err` where there is no memory for it: no limit is
+/// passed.
 ///
 /// Its outputs are the source's values on every input, and the inputs of `demo_inputs` satisfy it.
 pub fn demo_circuit(alloc: Global, n: u32) -> Result<Circuit<Gold>, AllocError>
@@ -39,7 +40,8 @@ pub fn demo_circuit(alloc: Global, n: u32) -> Result<Circuit<Gold>, AllocError>
     ensures depth { IfOk result (λ circuit. IsDemoDepth n (length circuit.layers)) }
     ensures outputs { IfOk result (HasValues ops of_number (demo_statements n)) }
     ensures reduced { IfOk result (λ circuit. HasReducedLayers (AnyCircuit.Gold circuit)) }
-    ensures satisfied { IfOk result (λ circuit. IsSatisfied ops number circuit.layers (inputs_of ops (demo_public ops n) (demo_private ops n))) }
+    ensures satisfied { IfOk result
+        (λ circuit. IsSatisfied ops number circuit.layers (inputs_of ops (demo_public ops n) (demo_private ops n))) }
 {
     let source = demo_source(alloc, n)?;
     match compile_owned(alloc, source) {

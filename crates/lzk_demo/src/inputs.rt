@@ -34,13 +34,14 @@ fn bit_of(bit: bool) -> Gold
 
 /// The inputs of the source with `n` private bits. `Err` where there is no memory for them.
 ///
-/// Private input xi is 1 where i is odd and 0 where i is even, and the public input is 1 where an odd number of them are 1. They
-/// satisfy the source.
+/// Private input xi is 1 where i is odd and 0 where i is even, and the public input is 1 where an odd number of them
+/// are 1. They satisfy the source.
 pub fn demo_inputs(alloc: Global, n: u32) -> Result<DemoInputs, AllocError>
     requires { 1 ≤ n }
     ensures public { IfOk result (λ inputs. inputs.public.items ≡ demo_public ops n) }
     ensures private { IfOk result (λ inputs. inputs.private.items ≡ demo_private ops n) }
-    ensures value { IfOk result (λ inputs. source_value ops of_number inputs.public.items inputs.private.items (demo_statements n) ≡ ops.zero ∷ []) }
+    ensures value { IfOk result (λ inputs.
+        source_value ops of_number inputs.public.items inputs.private.items (demo_statements n) ≡ ops.zero ∷ []) }
 {
     let mut private = Vec::new(alloc);
     let mut odd = false;

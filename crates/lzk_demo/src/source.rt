@@ -11,7 +11,8 @@ use std::alloc::{AllocError, Global};
 
 /// The source over Goldilocks with `n` private inputs. `Err` where there is no memory for it.
 ///
-/// A circuit of it keeps all limits. It has as many layers as the logarithm of `n` to base 2, rounded up, and one where `n` is 1.
+/// A circuit of it keeps all limits. It has as many layers as the logarithm of `n` to base 2, rounded up, and one where
+/// `n` is 1.
 pub fn demo_source(alloc: Global, n: u32) -> Result<Source, AllocError>
     requires some { 1 ≤ n }
     requires few { n ≤ 16384 }

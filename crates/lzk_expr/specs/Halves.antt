@@ -17,7 +17,12 @@ factors_of (factors.One e) = factor (expr_of e) NoExpr
 factors_of (factors.Many es) = expr_list es.items
 
 abbrev pub half_of : memory.Half → Half
-half_of r = record { parts = part_list r.parts.items; minus = r.minus; factors = factors_of r.factors; negated = r.negated }
+half_of r = record {
+  parts = part_list r.parts.items;
+  minus = r.minus;
+  factors = factors_of r.factors;
+  negated = r.negated;
+}
 
 -- the innermost stands last in memory, and first here
 abbrev pub outer_of : List memory.Half → List Half

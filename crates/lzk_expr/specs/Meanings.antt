@@ -32,7 +32,12 @@ negated true e = Neg e
 
 -- with one more factor
 abbrev pub with_atom : Half → Expr → Half
-with_atom h e = record { parts = h.parts; minus = h.minus; factors = add_factor h.factors (negated h.negated e); negated = false }
+with_atom h e = record {
+  parts = h.parts;
+  minus = h.minus;
+  factors = add_factor h.factors (negated h.negated e);
+  negated = false;
+}
 
 -- with the product as one more part
 abbrev pub parts_of_half : Half → Parts
@@ -51,7 +56,8 @@ pub data Step : Type 0 where
   Close : Step
   Other : Step
 
--- The reading of an expression: what stands before each open parenthesis, the innermost first; what is read now; and whether a product is there.
+-- The reading of an expression: what stands before each open parenthesis, the innermost first; what is read now; and
+-- whether a product is there.
 pub record Reads : Type 0 where
   pub outer : List Half
   pub now : Half
@@ -74,7 +80,12 @@ half_closed [] e = None
 half_closed (h ∷ hs) e = Some (record { outer = hs; now = with_atom h e; ready = true })
 
 abbrev pub minus_next : Reads → Bool → Option Reads
-minus_next r false = Some (record { outer = r.outer; now = record { parts = r.now.parts; minus = r.now.minus; factors = r.now.factors; negated = true }; ready = false })
+minus_next r false =
+    Some (record {
+      outer = r.outer;
+      now = record { parts = r.now.parts; minus = r.now.minus; factors = r.now.factors; negated = true };
+      ready = false;
+    })
 minus_next r true = None
 
 -- where an atom is needed
@@ -135,7 +146,8 @@ then_reads (Some r) f = f r
 -- the reading of tokens
 unfoldable pub reads_all : (ℕ → Expr) → (List ℕ → Expr) → Reads → List Token → Option Reads
 reads_all number name r [] = Some r
-reads_all number name r (t ∷ ts) = then_reads (next r (token_step number name t)) (λ more. reads_all number name more ts)
+reads_all number name r (t ∷ ts) =
+    then_reads (next r (token_step number name t)) (λ more. reads_all number name more ts)
 
 abbrev pub ends_of : Option Reads → Option Expr
 ends_of None = None

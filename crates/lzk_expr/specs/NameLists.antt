@@ -9,7 +9,11 @@ abbrev pub bytes_of : List (Bor (List ℕ)) → List (List ℕ)
 bytes_of names = map (λ (b : Bor (List ℕ)). b.now) names
 
 abbrev pub lists_of : NameLists → Names
-lists_of n = record { publics = bytes_of n.publics.items; privates = bytes_of n.privates.items; lets = bytes_of n.lets.items }
+lists_of n = record {
+  publics = bytes_of n.publics.items;
+  privates = bytes_of n.privates.items;
+  lets = bytes_of n.lets.items;
+}
 
 abbrev pub open_text : Bool → List ℕ
 open_text false = []

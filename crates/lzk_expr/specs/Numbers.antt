@@ -19,7 +19,9 @@ breaks line kind = Err (record { line = line; kind = kind })
 -- a word as one more number, where fewer than count are there
 abbrev pub word_as : ℕ → ℕ → ℕ → List ℕ → Option ℕ → Result (List ℕ) NumberFault
 word_as size count line have None = breaks line Syntax
-word_as size count line have (Some n) = if nat_lt (length have) count then (if nat_lt n size then Ok (have ++ n ∷ []) else breaks line TooLarge) else breaks line TooMany
+word_as size count line have (Some n) =
+    if nat_lt (length have) count then (if nat_lt n size then Ok (have ++ n ∷ []) else breaks line TooLarge) else breaks
+    line TooMany
 
 unfoldable pub words_to : ℕ → ℕ → ℕ → List (List ℕ) → List ℕ → Result (List ℕ) NumberFault
 words_to size count line [] have = Ok have
@@ -52,7 +54,8 @@ abbrev pub Fails : {Y : Type 0} → NumberError → Result Y NumberFault → Typ
 Fails errors.OutOfMemory read = Unit {0}
 Fails (errors.Fault f) read = read ≡ Err f
 
--- The text is no list of numbers. The fault is on the line of the first token that breaks a rule, and is the first rule that it breaks.
+-- The text is no list of numbers. The fault is on the line of the first token that breaks a rule, and is the first rule
+-- that it breaks.
 abbrev pub IsNumberFault : ℕ → ℕ → List ℕ → NumberFault → Type 0
 IsNumberFault size count text fault = numbers_of size count text ≡ Err fault
 

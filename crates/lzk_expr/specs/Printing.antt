@@ -1,4 +1,5 @@
--- The text of a source: one statement a line, one space between tokens, but parentheses and a minus before an atom stand close.
+-- The text of a source: one statement a line, one space between tokens, but parentheses and a minus before an atom
+-- stand close.
 use Rattle.std.specs.Prelude.{ℕ, List, [], ◌∷◌, ◌++◌, Bool, true, false, codes, decimal, slice_index_or}
 use Rattle.std.specs.List.{flat_map}
 use Rattle.lzk_expr.specs.declared.printing.Place.{Place}
@@ -30,7 +31,8 @@ let_names (_ ∷ ss) = let_names ss
 abbrev pub names_of : List Statement → Names
 names_of ss = record { publics = public_names ss; privates = private_names ss; lets = let_names ss }
 
--- A sum is in parentheses as a part, as a factor and under a minus; a product as a factor and under a minus; a negative under a minus.
+-- A sum is in parentheses as a part, as a factor and under a minus; a product as a factor and under a minus; a negative
+-- under a minus.
 abbrev pub closed_sum : Place → Bool
 closed_sum place.Alone = false
 closed_sum _ = true
@@ -82,10 +84,12 @@ abbrev pub statement_text : Names → Statement → List ℕ
 statement_text names (DeclarePublic w) = codes "public " ++ w
 statement_text names (DeclarePrivate w) = codes "private " ++ w
 statement_text names (Define w e) = codes "let " ++ (w ++ (codes " = " ++ expr_text names place.Alone e))
-statement_text names (Assertion e f) = codes "assert " ++ (expr_text names place.Alone e ++ (codes " = " ++ expr_text names place.Alone f))
+statement_text names (Assertion e f) =
+    codes "assert " ++ (expr_text names place.Alone e ++ (codes " = " ++ expr_text names place.Alone f))
 
 abbrev pub statement_line : Names → Statement → List ℕ
 statement_line names s = statement_text names s ++ (10 ∷ [])
 
 unfoldable pub source_text : SourceTree → List ℕ
-source_text s = codes "field " ++ (field_name s.field_is ++ (10 ∷ flat_map (statement_line (names_of s.statements)) s.statements))
+source_text s =
+    codes "field " ++ (field_name s.field_is ++ (10 ∷ flat_map (statement_line (names_of s.statements)) s.statements))

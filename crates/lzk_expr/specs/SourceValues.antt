@@ -4,7 +4,8 @@ use Rattle.lzk_field.specs.Ring.{Ops}
 use Rattle.lzk_field.specs.Sums.{minus, entry}
 use Rattle.lzk_expr.specs.Trees.{Expr, Number, PublicInput, PrivateInput, Named, Neg, Added, Multiplied, Parts, NoPart, part, Exprs, NoExpr, factor, Statement, DeclarePublic, DeclarePrivate, Define, Assertion}
 
--- what the leaves of an expression stand for: the element of a number, the inputs, and the values of the let names so far
+-- what the leaves of an expression stand for: the element of a number, the inputs, and the values of the let names so
+-- far
 pub record Given (A : Type 0) : Type 0 where
   pub ops : Ops A
   pub element : ℕ → A
@@ -36,7 +37,13 @@ abbrev mutual
   factors_value g (factor e es) = g.ops.times (value_of g e) (factors_value g es)
 
 abbrev pub with_let : {A : Type 0} → Given A → A → Given A
-with_let g x = record { ops = g.ops; element = g.element; publics = g.publics; privates = g.privates; lets = g.lets ++ x ∷ [] }
+with_let g x = record {
+  ops = g.ops;
+  element = g.element;
+  publics = g.publics;
+  privates = g.privates;
+  lets = g.lets ++ x ∷ [];
+}
 
 -- Left minus right, for each assert in order.
 abbrev pub assert_values : {A : Type 0} → Given A → List Statement → List A
@@ -47,7 +54,13 @@ assert_values g (Define w e ∷ ss) = assert_values (with_let g (value_of g e)) 
 assert_values g (Assertion e f ∷ ss) = minus g.ops (value_of g e) (value_of g f) ∷ assert_values g ss
 
 abbrev pub given : {A : Type 0} → Ops A → (ℕ → A) → List A → List A → List A → Given A
-given o element publics privates lets = record { ops = o; element = element; publics = publics; privates = privates; lets = lets }
+given o element publics privates lets = record {
+  ops = o;
+  element = element;
+  publics = publics;
+  privates = privates;
+  lets = lets;
+}
 
 -- the value of a source at these inputs
 abbrev pub source_value : {A : Type 0} → Ops A → (ℕ → A) → List A → List A → List Statement → List A

@@ -112,7 +112,9 @@ keyword_read b ts form (Some k) =
 
 -- all rules of a statement line, in their order
 abbrev pub line_read : Before → List ℕ → Option Line → Result Before SourceKind
-line_read b bytes form = if keeps_characters bytes then keyword_read b (tokens bytes) form (first_keyword (tokens bytes)) else Err kinds.Character
+line_read b bytes form =
+    if keeps_characters bytes then keyword_read b (tokens bytes) form (first_keyword (tokens bytes)) else Err
+    kinds.Character
 
 -- What was read before is followed by this, where the line holds these bytes before its comment.
 pub record LineReads (b : Before) (bytes : List ℕ) (read : Result Before SourceKind) : Type 0 where
@@ -130,12 +132,14 @@ LineThen n read rest (Ok b) = rest b
 -- a line is skipped where it holds nothing before its comment, and is a statement line else
 abbrev pub LineAt : ℕ → Before → List ℕ → Result Before SourceFault → (Before → Type 0) → Bool → Type 0
 LineAt n b bytes read rest true = rest b
-LineAt n b bytes read rest false = (step : Result Before SourceKind) × LineReads b bytes step × LineThen n read rest step
+LineAt n b bytes read rest false =
+    (step : Result Before SourceKind) × LineReads b bytes step × LineThen n read rest step
 
 -- the lines from a number on, read behind what was read before
 unfoldable pub LinesRead : ℕ → Before → List (List ℕ) → Result Before SourceFault → Type 0
 LinesRead n b [] read = read ≡ Ok b
-LinesRead n b (l ∷ ls) read = LineAt n b (content l) read (λ next. LinesRead (n + 1) next ls read) (is_empty_line (content l))
+LinesRead n b (l ∷ ls) read =
+    LineAt n b (content l) read (λ next. LinesRead (n + 1) next ls read) (is_empty_line (content l))
 
 -- at the end, which is in the line with this number: a field line and an assert are there
 abbrev pub ended : ℕ → Before → Option FieldId → Result SourceTree SourceFault

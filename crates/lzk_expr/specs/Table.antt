@@ -36,7 +36,8 @@ token_below f (token.Number n) = nat_lt n (field_size f)
 token_below f _ = true
 
 -- The tokens stand for this expression; and whether its names are known and its numbers are below the field's size.
-pub record IsSum {S : Type 0} (f : FieldId) (m : HashMap (List ℕ) Binding S) (ts : List Token) (e : Expr) (known below : Bool) : Type 0 where
+pub record IsSum {S : Type 0} (f : FieldId) (m : HashMap (List ℕ) Binding S) (ts : List Token) (e : Expr)
+    (known below : Bool) : Type 0 where
   pub read : sum_read held_number (bound m) ts ≡ Some e
   pub known_is : list_all (token_known m) ts ≡ known
   pub below_is : list_all (token_below f) ts ≡ below

@@ -48,7 +48,8 @@ is_marked word = nat_lt 2 (length word) && ((slice_index word 0 == 48) && (slice
 
 -- decimal digits, or 0x and hexadecimal ones
 unfoldable pub number_of : List ℕ → Option ℕ
-number_of word = if is_marked word then value_in 16 0 (drop 2 word) else (if length word == 0 then None else value_in 10 0 word)
+number_of word =
+    if is_marked word then value_in 16 0 (drop 2 word) else (if length word == 0 then None else value_in 10 0 word)
 
 -- the first run of bytes that pass, and what is behind it
 pub record IsRun (p : ℕ → Bool) (bytes word rest : List ℕ) : Type 0 where

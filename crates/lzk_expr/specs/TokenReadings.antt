@@ -44,7 +44,8 @@ pub record IsNext (bytes : List ℕ) (s : Symbol) (rest : List ℕ) : Type 0 whe
   pub tokens_are : tokens bytes ≡ first ∷ tokens rest
   pub shorter : length rest < length bytes
 
--- behind so many bytes of a word and so many opened parentheses: no word has more than 32 bytes, no more than 64 parentheses are opened, and each byte is a blank or of a token
+-- behind so many bytes of a word and so many opened parentheses: no word has more than 32 bytes, no more than 64
+-- parentheses are opened, and each byte is a blank or of a token
 abbrev pub goes_plainly : ℕ → ℕ → List ℕ → Bool
 goes_plainly run opened [] = true
 goes_plainly run opened (b ∷ bs) =

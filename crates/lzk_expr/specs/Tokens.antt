@@ -42,7 +42,8 @@ onto b true (Sign c ∷ ps) = Word (b ∷ []) ∷ Sign c ∷ ps
 -- words are longest runs
 unfoldable pub pieces : List ℕ → List Piece
 pieces [] = []
-pieces (b ∷ bs) = if in_word b then onto b (begins in_word bs) (pieces bs) else (if is_blank b then pieces bs else Sign b ∷ pieces bs)
+pieces (b ∷ bs) =
+    if in_word b then onto b (begins in_word bs) (pieces bs) else (if is_blank b then pieces bs else Sign b ∷ pieces bs)
 
 -- ---- what a piece is
 

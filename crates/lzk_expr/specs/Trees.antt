@@ -36,8 +36,10 @@ add_factor (factor f es) e = factor f (add_factor es e)
 abbrev mutual
   pub sum_means : (ℕ → Expr) → (List ℕ → Expr) → grammar.Sum → Expr
   sum_means number name (grammar.Single p) = product_means number name p
-  sum_means number name (grammar.Plus s p) = Added (add_part (sum_parts number name s) false (product_means number name p))
-  sum_means number name (grammar.Less s p) = Added (add_part (sum_parts number name s) true (product_means number name p))
+  sum_means number name (grammar.Plus s p) =
+      Added (add_part (sum_parts number name s) false (product_means number name p))
+  sum_means number name (grammar.Less s p) =
+      Added (add_part (sum_parts number name s) true (product_means number name p))
 
   pub sum_parts : (ℕ → Expr) → (List ℕ → Expr) → grammar.Sum → Parts
   sum_parts number name (grammar.Single p) = part false (product_means number name p) NoPart
@@ -46,11 +48,13 @@ abbrev mutual
 
   pub product_means : (ℕ → Expr) → (List ℕ → Expr) → grammar.Product → Expr
   product_means number name (grammar.Lone f) = factor_means number name f
-  product_means number name (grammar.Times p f) = Multiplied (add_factor (product_factors number name p) (factor_means number name f))
+  product_means number name (grammar.Times p f) =
+      Multiplied (add_factor (product_factors number name p) (factor_means number name f))
 
   pub product_factors : (ℕ → Expr) → (List ℕ → Expr) → grammar.Product → Exprs
   product_factors number name (grammar.Lone f) = factor (factor_means number name f) NoExpr
-  product_factors number name (grammar.Times p f) = add_factor (product_factors number name p) (factor_means number name f)
+  product_factors number name (grammar.Times p f) =
+      add_factor (product_factors number name p) (factor_means number name f)
 
   pub factor_means : (ℕ → Expr) → (List ℕ → Expr) → grammar.Factor → Expr
   factor_means number name (grammar.Plain a) = atom_means number name a
@@ -87,8 +91,10 @@ is_assertion _ = false
 -- What the statements say that a name is. Inputs and let names are numbered in order, each kind from 0.
 abbrev pub declared_from : ℕ → ℕ → ℕ → List Statement → List ℕ → Option Expr
 declared_from p q l [] w = None
-declared_from p q l (DeclarePublic v ∷ ss) w = if bytes_eq v w then Some (PublicInput p) else declared_from (p + 1) q l ss w
-declared_from p q l (DeclarePrivate v ∷ ss) w = if bytes_eq v w then Some (PrivateInput q) else declared_from p (q + 1) l ss w
+declared_from p q l (DeclarePublic v ∷ ss) w =
+    if bytes_eq v w then Some (PublicInput p) else declared_from (p + 1) q l ss w
+declared_from p q l (DeclarePrivate v ∷ ss) w =
+    if bytes_eq v w then Some (PrivateInput q) else declared_from p (q + 1) l ss w
 declared_from p q l (Define v e ∷ ss) w = if bytes_eq v w then Some (Named l) else declared_from p q (l + 1) ss w
 declared_from p q l (Assertion e f ∷ ss) w = declared_from p q l ss w
 
@@ -109,4 +115,5 @@ line_means ss (grammar.FieldLine f) = []
 line_means ss (grammar.PublicLine w ws) = map DeclarePublic (w ∷ ws)
 line_means ss (grammar.PrivateLine w ws) = map DeclarePrivate (w ∷ ws)
 line_means ss (grammar.LetLine w s) = Define w (sum_means Number (meaning ss) s) ∷ []
-line_means ss (grammar.AssertLine s t) = Assertion (sum_means Number (meaning ss) s) (sum_means Number (meaning ss) t) ∷ []
+line_means ss (grammar.AssertLine s t) =
+    Assertion (sum_means Number (meaning ss) s) (sum_means Number (meaning ss) t) ∷ []

@@ -36,7 +36,8 @@ pub fn value<F: Field>(public: &[F], private: &[F], lets: &[F], expr: &Expr) -> 
 
 #[cycle(value)]
 fn sum<F: Field>(public: &[F], private: &[F], lets: &[F], parts: &[Part]) -> F
-    ensures { result ≡ parts_value (given F.ops F.coding.element public.now private.now lets.now) (part_list parts.now) }
+    ensures { result
+        ≡ parts_value (given F.ops F.coding.element public.now private.now lets.now) (part_list parts.now) }
 {
     let mut total = F::zero();
     let mut i = parts.len();
@@ -51,7 +52,8 @@ fn sum<F: Field>(public: &[F], private: &[F], lets: &[F], parts: &[Part]) -> F
 
 #[cycle(value)]
 fn product<F: Field>(public: &[F], private: &[F], lets: &[F], factors: &[Expr]) -> F
-    ensures { result ≡ factors_value (given F.ops F.coding.element public.now private.now lets.now) (expr_list factors.now) }
+    ensures { result
+        ≡ factors_value (given F.ops F.coding.element public.now private.now lets.now) (expr_list factors.now) }
 {
     let mut total = F::one();
     let mut i = factors.len();
@@ -70,8 +72,10 @@ fn take_statement<F: Field>(
     lets: &mut Vec<F>,
     found: &mut Vec<F>,
 ) -> Result<(), AllocError>
-    ensures { OnOk result ((behind : _) → found.new.items ++ assert_values (given F.ops F.coding.element public.now private.now lets.new.items) behind
-        ≡ found.old.items ++ assert_values (given F.ops F.coding.element public.now private.now lets.old.items) (statement_of statement.now ∷ behind)) }
+    ensures { OnOk result ((behind : _)
+        → found.new.items ++ assert_values (given F.ops F.coding.element public.now private.now lets.new.items) behind
+        ≡ found.old.items ++ assert_values (given F.ops F.coding.element public.now private.now lets.old.items)
+        (statement_of statement.now ∷ behind)) }
 {
     match statement {
         Statement::Public(_) => {}
@@ -96,7 +100,8 @@ pub fn assert_values<F: Field>(
     private: &[F],
     statements: &[Statement],
 ) -> Result<Vec<F>, AllocError>
-    ensures { IfOk result (λ v. v.items ≡ source_value F.ops F.coding.element public.now private.now (statements_of statements.now)) }
+    ensures { IfOk result
+        (λ v. v.items ≡ source_value F.ops F.coding.element public.now private.now (statements_of statements.now)) }
 {
     let mut lets = Vec::new(alloc);
     let mut found = Vec::new(alloc);

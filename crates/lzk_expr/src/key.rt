@@ -1,4 +1,5 @@
-//! Names as keys of a table. They are short: a byte at a time and one write are faster than what serves slices of any length.
+//! Names as keys of a table. They are short: a byte at a time and one write are faster than what serves slices of any
+//! length.
 
 ghost use Rattle.std.specs.Prelude.{◌≡◌, [], ◌∷◌, bytes_eq};
 ghost use Rattle.std.specs.Cmp.{partial_equiv_from_equiv};

@@ -40,7 +40,8 @@ impl<'a> Names<'a> {
     }
 
     pub fn declare(&mut self, name: &'a [u8], binding: Binding) -> Result<(), AllocError>
-        ensures { OnOk result ((w : _) → found self.new.table w ≡ update bytes_eq (found self.old.table) name.now (Some binding) w) }
+        ensures { OnOk result
+            ((w : _) → found self.new.table w ≡ update bytes_eq (found self.old.table) name.now (Some binding) w) }
     {
         self.table.insert(Key::new(name), binding)?;
         Ok(())

@@ -13,8 +13,9 @@ use std::alloc::Global;
 
 // The element that a word stands for, behind so many others.
 fn element<F: Field>(line: u32, word: &[u8], count: u32, have: usize) -> Result<F, NumberFault>
-    ensures { (before : List ℕ) → length before ≡ have → MatchResult result (λ x. word_as F.coding.size count line before (number_of word.now) ≡
-        Ok (before ++ F.coding.number x ∷ []))
+    ensures { (before : List ℕ) → length before ≡ have
+        → MatchResult result
+        (λ x. word_as F.coding.size count line before (number_of word.now) ≡ Ok (before ++ F.coding.number x ∷ []))
         (λ e. word_as F.coding.size count line before (number_of word.now) ≡ Err e) }
 {
     let fault = NumberFault {
@@ -60,9 +61,10 @@ fn take_words<F: Field>(
     count: u32,
     found: &mut Vec<F>,
 ) -> Result<(), NumberError>
-    ensures { MatchResult result (λ _. words_to F.coding.size count line (runs is_plain bytes.now) (map F.coding.number found.old.items) ≡
-        Ok (map F.coding.number found.new.items))
-        (λ e. Fails e (words_to F.coding.size count line (runs is_plain bytes.now) (map F.coding.number found.old.items))) }
+    ensures { MatchResult result (λ _.
+        words_to F.coding.size count line (runs is_plain bytes.now) (map F.coding.number found.old.items)
+        ≡ Ok (map F.coding.number found.new.items)) (λ e.
+        Fails e (words_to F.coding.size count line (runs is_plain bytes.now) (map F.coding.number found.old.items))) }
 {
     let mut rest = bytes;
     while let Some((word, after)) = next_word(rest) {

@@ -55,7 +55,8 @@ fn source(alloc: Global, text: &[u8]) -> Result<Source, SourceError>
 pub fn parse(alloc: Global, text: &[u8]) -> Result<Source, SourceError>
     requires { length text.now ≤ 4194304 }
     ensures source { IfOk result (λ s. SourceText text.now (tree_of s)) }
-    ensures only { (source : SourceTree) → SourceText text.now source → MatchResult result (λ s. tree_of s ≡ source) (λ e. e ≡ OutOfMemory) }
+    ensures only { (source : SourceTree) → SourceText text.now source
+        → MatchResult result (λ s. tree_of s ≡ source) (λ e. e ≡ OutOfMemory) }
     ensures built { (source : SourceTree) → IsBuilt source → text.now ≡ source_text source →
         MatchResult result (λ s. tree_of s ≡ source) (λ e. e ≡ OutOfMemory) }
     ensures fault { IfErr result (IsFirstSourceFault text.now) }

@@ -176,7 +176,8 @@ fn print_product(
     factors: &[Expr],
     text: &mut Vec<u8>,
 ) -> Result<(), AllocError>
-    ensures { OnOk result (text.new.items ≡ text.old.items ++ product_text (lists_of names.now) (expr_list factors.now)) }
+    ensures { OnOk result
+        (text.new.items ≡ text.old.items ++ product_text (lists_of names.now) (expr_list factors.now)) }
 {
     for i in 0..factors.len() {
         print_times(i == 0, text)?;
@@ -192,7 +193,8 @@ fn print_words(
     statement: &Statement,
     text: &mut Vec<u8>,
 ) -> Result<(), AllocError>
-    ensures { OnOk result (text.new.items ≡ text.old.items ++ statement_text (lists_of names.now) (statement_of statement.now)) }
+    ensures { OnOk result
+        (text.new.items ≡ text.old.items ++ statement_text (lists_of names.now) (statement_of statement.now)) }
 {
     match statement {
         Statement::Public(name) => {
@@ -224,7 +226,8 @@ fn print_statement(
     statement: &Statement,
     text: &mut Vec<u8>,
 ) -> Result<(), AllocError>
-    ensures { OnOk result (text.new.items ≡ text.old.items ++ statement_line (lists_of names.now) (statement_of statement.now)) }
+    ensures { OnOk result
+        (text.new.items ≡ text.old.items ++ statement_line (lists_of names.now) (statement_of statement.now)) }
 {
     print_words(alloc, names, statement, text)?;
     text.push(b'\n')?;

@@ -42,7 +42,8 @@ pub enum Input {
 
 // The keyword that the bytes begin with, and what is behind it.
 fn first_keyword(bytes: &[u8]) -> Option<(Keyword, &[u8])>
-    ensures { MatchOption result (first_keyword (tokens bytes.now) ≡ None) (λ x. tokens bytes.now ≡ Key x.0 ∷ tokens x.1.now) }
+    ensures { MatchOption result (first_keyword (tokens bytes.now) ≡ None)
+        (λ x. tokens bytes.now ≡ Key x.0 ∷ tokens x.1.now) }
 {
     match next_token(bytes) {
         Some((Symbol::Key(keyword), rest)) => Some((keyword, rest)),
@@ -98,7 +99,8 @@ fn token_count(bytes: &[u8]) -> usize
 
 // The name that the bytes begin with, and what is behind it.
 fn first_name(bytes: &[u8]) -> Option<(&[u8], &[u8])>
-    ensures { MatchOption result (first_name (tokens bytes.now) ≡ None) (λ x. IsNamed (tokens bytes.now) x.0.now (tokens x.1.now)) }
+    ensures { MatchOption result (first_name (tokens bytes.now) ≡ None)
+        (λ x. IsNamed (tokens bytes.now) x.0.now (tokens x.1.now)) }
 {
     match next_token(bytes) {
         Some((Symbol::Name(name), rest)) => Some((name, rest)),
@@ -108,7 +110,8 @@ fn first_name(bytes: &[u8]) -> Option<(&[u8], &[u8])>
 
 // What is behind the sign = that the bytes begin with.
 fn behind_equals(bytes: &[u8]) -> Option<&[u8]>
-    ensures { MatchOption result (begins_equals (tokens bytes.now) ≡ false) (λ rest. tokens bytes.now ≡ Equals ∷ tokens rest.now) }
+    ensures { MatchOption result (begins_equals (tokens bytes.now) ≡ false)
+        (λ rest. tokens bytes.now ≡ Equals ∷ tokens rest.now) }
 {
     match next_token(bytes) {
         Some((Symbol::Equals, rest)) => Some(rest),
@@ -118,7 +121,8 @@ fn behind_equals(bytes: &[u8]) -> Option<&[u8]>
 
 // The name that a let line defines, and its expression.
 fn definition(bytes: &[u8]) -> Option<(&[u8], &[u8])>
-    ensures { MatchOption result (IsNoDefinition (tokens bytes.now)) (λ x. IsDefinition (tokens bytes.now) x.0.now (tokens x.1.now)) }
+    ensures { MatchOption result (IsNoDefinition (tokens bytes.now))
+        (λ x. IsDefinition (tokens bytes.now) x.0.now (tokens x.1.now)) }
 {
     let Some((name, rest)) = first_name(bytes) else {
         return None;
@@ -137,7 +141,8 @@ fn equals_at(bytes: &[u8]) -> Option<usize>
 
 // What is before the first sign =, and what is behind it.
 fn halves(bytes: &[u8]) -> Option<(&[u8], &[u8])>
-    ensures { MatchOption result (list_all is_inner (tokens bytes.now) ≡ true) (λ x. IsSplit (tokens bytes.now) (tokens x.0.now) (tokens x.1.now)) }
+    ensures { MatchOption result (list_all is_inner (tokens bytes.now) ≡ true)
+        (λ x. IsSplit (tokens bytes.now) (tokens x.0.now) (tokens x.1.now)) }
 {
     match equals_at(bytes) {
         None => None,

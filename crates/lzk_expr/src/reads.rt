@@ -68,7 +68,8 @@ impl Reads {
     }
 
     fn close(&mut self, alloc: Global) -> Result<bool, AllocError>
-        ensures { IfOk result (λ taken. Goes taken (half_closed (reads_of self.old).outer (added (parts_of_half (reads_of self.old).now)))
+        ensures { IfOk result (λ taken.
+            Goes taken (half_closed (reads_of self.old).outer (added (parts_of_half (reads_of self.old).now)))
             (reads_of self.new)) }
     {
         let Some(before) = self.outer.pop() else {
@@ -140,7 +141,8 @@ impl Reads {
 
     // The expression, where it was read whole.
     pub fn end(self, alloc: Global) -> Result<Option<Expr>, AllocError>
-        ensures { IfOk result (λ o. MatchOption o (ends (reads_of self) ≡ None) (λ e. ends (reads_of self) ≡ Some (expr_of e))) }
+        ensures { IfOk result
+            (λ o. MatchOption o (ends (reads_of self) ≡ None) (λ e. ends (reads_of self) ≡ Some (expr_of e))) }
     {
         if !self.ready || !self.outer.is_empty() {
             return Ok(None);

@@ -58,7 +58,8 @@ fn behind_sign(depth: u32, sign: u8) -> Option<u32>
 fn behind_piece(depth: u32, piece: Piece<'_>) -> Option<u32>
     requires { depth ≤ 64 }
     ensures within { IfSome result (λ n. n ≤ 64) }
-    ensures keeps { (behind : _) → MatchOption result (keeps_bounds depth (token_of (piece_of piece.entry) ∷ behind) ≡ false)
+    ensures keeps { (behind : _)
+        → MatchOption result (keeps_bounds depth (token_of (piece_of piece.entry) ∷ behind) ≡ false)
         (λ n. keeps_bounds depth (token_of (piece_of piece.entry) ∷ behind) ≡ keeps_bounds n behind) }
 {
     match piece {

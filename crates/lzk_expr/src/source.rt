@@ -33,14 +33,16 @@ impl Model for Source {
 
     ghost view = { λ s. record { field_is = s.field; statements = s.statements.items } };
 
-    ghost invariant = { λ s. IsSource (tree_of (record { field_is = s.field; statements = s.statements.items })) s.publics s.privates s.asserts };
+    ghost invariant = { λ s.
+        IsSource (tree_of (record { field_is = s.field; statements = s.statements.items })) s.publics s.privates
+        s.asserts };
 
     ghost coded = { Prim.hlevel (codes, statement_row.the_row.coded, field_row.the_row.coded) };
 }
 
 impl Source {
-    /// The source with these statements, which are those of some text of at most 4 MiB, and with their counts of public inputs, private
-    /// inputs and asserts. For callers that prove it; [`crate::parse`] reads a text.
+    /// The source with these statements, which are those of some text of at most 4 MiB, and with their counts of public
+    /// inputs, private inputs and asserts. For callers that prove it; [`crate::parse`] reads a text.
     pub fn new(
         field: FieldId,
         statements: Vec<Statement>,
@@ -48,7 +50,8 @@ impl Source {
         privates: u32,
         asserts: u32,
     ) -> Source
-        requires { IsSource (tree_of (record { field_is = field; statements = statements.items })) publics privates asserts }
+        requires { IsSource (tree_of (record { field_is = field; statements = statements.items })) publics privates
+            asserts }
         ensures { result ≡ record { field_is = field; statements = statements.items } }
     {
         Source {
@@ -106,7 +109,8 @@ impl Source {
         requires field { F.coding.size ≡ field_size self.now.field_is }
         requires publics { length public.now ≡ count_by is_public (statements_of self.now.statements) }
         requires privates { length private.now ≡ count_by is_private (statements_of self.now.statements) }
-        ensures { IfOk result (λ v. v.items ≡ source_value F.ops F.coding.element public.now private.now (statements_of self.now.statements)) }
+        ensures { IfOk result (λ v.
+            v.items ≡ source_value F.ops F.coding.element public.now private.now (statements_of self.now.statements)) }
     {
         assert_values(alloc, public, private, &self.statements)
     }

@@ -53,7 +53,8 @@ fn bound(binding: Option<Binding>) -> Expr
 }
 
 fn added(field: FieldId, names: &Names<'_>, symbol: Symbol<'_>) -> Addition
-    ensures step { (t : _) → Tells symbol.entry t → step_of result.step ≡ token_step held_number (bound names.now.table) t }
+    ensures step { (t : _) → Tells symbol.entry t
+        → step_of result.step ≡ token_step held_number (bound names.now.table) t }
     ensures known { (t : _) → Tells symbol.entry t → result.known ≡ token_known names.now.table t }
     ensures below { (t : _) → Tells symbol.entry t → result.below ≡ token_below field t }
 {

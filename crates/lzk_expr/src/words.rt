@@ -79,7 +79,8 @@ pub fn next_word(bytes: &[u8]) -> Option<(&[u8], &[u8])>
 
 // The first line, and what is behind its line feed.
 pub fn next_line(text: &[u8]) -> (&[u8], Option<&[u8]>)
-    ensures { MatchOption result.1 (lines text.now ≡ result.0.now ∷ []) (λ rest. IsLine text.now result.0.now rest.now) }
+    ensures { MatchOption result.1 (lines text.now ≡ result.0.now ∷ [])
+        (λ rest. IsLine text.now result.0.now rest.now) }
 {
     match feed_at(text) {
         Some(i) => {

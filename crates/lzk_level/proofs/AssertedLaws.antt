@@ -22,7 +22,8 @@ use Rattle.lzk_level.proofs.AfterLaws.{depths-are}
 use Rattle.lzk_level.proofs.AssertingLaws.{are-targets, asserted-values, asserted-count, narrow, wires-few, lists-count, mul-more}
 use Rattle.lzk_level.proofs.CheckingLaws.{check-place, all-placed, deepest, depth-light, depth-each}
 use Rattle.lzk_level.proofs.FinishLaws.{greatest-each, within-limits, depths-long, ready-weights}
-use Rattle.lzk_level.proofs.TowerLaws.{mapped-at, Topped}
+use Rattle.lzk_level.proofs.TowerLaws.{mapped-at}
+use Rattle.lzk_level.specs.Stacking.{AreStacked}
 
 -- asserted nodes, and how many layers they need
 pub record Asserted {A : Type 0} (inputs : ℕ) (made : List (Gate A)) (depths last asserts : List ℕ) (count : ℕ) : Type 0 where
@@ -51,10 +52,8 @@ asserts-of n asserts gates some nodes fits =
     let long : length depths ≡ wire_bound n = depths-long n.publics n.privates n.made ∙ omega arith in
     let product : count * (length depths + length asserts) ≡ count * (wire_bound n + length asserts) = ap (λ k. count * (k + length asserts)) long in
     record {
-      one = omega arith;
+      graph = record { one = omega arith; few = omega (arith, long, w.wires_most); gates = below; depths_are = depths-are inputs n.made (omega arith) below };
       few = omega (arith, long, w.wires_most);
-      gates = below;
-      depths_are = depths-are inputs n.made (omega arith) below;
       some = some;
       nodes = λ i l. ((nodes i l).0, omega (arith, long, (nodes i l).1));
       is = refl;
@@ -208,7 +207,7 @@ module _ {A : Type 0} (o : Ops A) (inputs : ℕ) (made : List (Gate A)) (depths 
     pub stands : (values ins : List A) → AreValues o inputs made values → Begins o inputs values ins → StandBelow o depths last values ins layers
 
   laid-under : (count : ℕ) (stacked : List (Layer A)) → 1 ≤ count → AreAsserts inputs made depths asserts count → ((i : ℕ) → i < length asserts → min count (at depths (at asserts i) + 1) ≤ at last (at asserts i))
-      → Topped o inputs made depths last count (of_depth depths count asserts) stacked → Laid count (targets_below depths last asserts count) (reverse stacked)
+      → AreStacked o inputs made depths last count (of_depth depths count asserts) stacked → Laid count (targets_below depths last asserts count) (reverse stacked)
   laid-under count stacked some given needed t =
       let a = asserted-with inputs made depths last asserts count given needed in
       let own = of_depth depths count asserts in
@@ -232,10 +231,10 @@ module _ {A : Type 0} (o : Ops A) (inputs : ℕ) (made : List (Gate A)) (depths 
         stands = t.stand;
       }
 
-  pub laid : (count width : ℕ) (outputs : List ℕ) (stacked layers : List (Layer A)) (ws : List (List ℕ)) → 1 ≤ count → AreAsserts inputs made depths asserts count → ((i : ℕ) → i < length asserts → min count (at depths (at asserts i) + 1) ≤ at last (at asserts i))
-      → width ≡ inputs → outputs ≡ of_depth depths count asserts → Topped o width made depths last count outputs stacked → layers ≡ reverse stacked → ws ≡ targets_below depths last asserts count → Laid count ws layers
-  laid count width outputs stacked layers ws some given needed e own t turned targets =
-      let here = subst (λ ks. Topped o inputs made depths last count ks stacked) own (subst (λ n. Topped o n made depths last count outputs stacked) e t) in
+  pub laid : (count : ℕ) (outputs : List ℕ) (stacked layers : List (Layer A)) (ws : List (List ℕ)) → 1 ≤ count → AreAsserts inputs made depths asserts count → ((i : ℕ) → i < length asserts → min count (at depths (at asserts i) + 1) ≤ at last (at asserts i))
+      → outputs ≡ of_depth depths count asserts → AreStacked o inputs made depths last count outputs stacked → layers ≡ reverse stacked → ws ≡ targets_below depths last asserts count → Laid count ws layers
+  laid count outputs stacked layers ws some given needed own t turned targets =
+      let here = subst (λ ks. AreStacked o inputs made depths last count ks stacked) own t in
       subst (λ xs. Laid count xs layers) (sym targets) (subst (Laid count (targets_below depths last asserts count)) (sym turned) (laid-under count stacked some given needed here))
 
   -- with their assertion wires they are what is asked

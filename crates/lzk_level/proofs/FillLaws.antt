@@ -1,5 +1,5 @@
 -- Rows of the nodes that a level passes over.
-use Rattle.std.specs.Prelude.{◌≡◌, ℕ, ◌+◌, ◌-◌, ◌<◌, ◌≤◌, List, [], ◌∷◌, ◌++◌, length, replicate, take, map}
+use Rattle.std.specs.Prelude.{◌≡◌, ℕ, ◌+◌, ◌-◌, ◌<◌, ◌≤◌, List, [], ◌∷◌, ◌++◌, length, replicate, take}
 use Rattle.std.proofs.Common.{zero, suc, inl, inr, refl, sym, ap, ◌∙◌, arith, subst}
 use Rattle.std.proofs.lemmas.Bool.{cases_lt}
 use Rattle.std.proofs.lemmas.List.{length-append, length-replicate, map-append, take_all}
@@ -9,7 +9,8 @@ use Rattle.lzk_circuit.specs.declared.layer.Term.{Term}
 use Rattle.lzk_reduce.specs.Renumbering.{at}
 use Rattle.lzk_reduce.specs.Rows.{IsRow, row_value}
 use Rattle.lzk_level.specs.declared.node.Gate.{Gate}
-use Rattle.lzk_level.specs.Levels.{row_at, width_of, IsShort, AreRows, AreValues, AreWeights, AreShort, HaveValues, Stands, StartsWithOne}
+use Rattle.lzk_level.specs.Levels.{row_at, width_of, IsShort, StartsWithOne}
+use Rattle.lzk_level.specs.Stacking.{AreLevelRows}
 use Rattle.lzk_level.specs.Spans.{piece, pieces, AreSpans}
 
 pub spans-filled : (n count : ℕ) (ss : List (ℕ × ℕ)) → AreSpans n ss → AreSpans n (ss ++ replicate count (0, 0))
@@ -56,15 +57,8 @@ module _ {A : Type 0} where
   one-filled o [] count f none some = absurd (omega (arith, some, none refl, none-count (Term A) count))
   one-filled o (r ∷ rs) count f none some = f (omega arith)
 
-  -- the rows of a level's first nodes
-  pub record Formed (o : Ops A) (inputs : ℕ) (made : List (Gate A)) (depths last : List ℕ) (level : ℕ) (rows : List (List (Term A))) : Type 0 where
-    pub row : AreRows o (width_of depths last (level - 1)) rows
-    pub value : (values wires : List A) → AreValues o inputs made values → Stands o depths last (level - 1) values wires → HaveValues o depths last level values wires rows
-    pub short : (weights : List ℕ) → AreWeights inputs made weights → AreShort depths level weights rows
-    pub one : 1 ≤ length rows → StartsWithOne o rows
-
   filled : (o : Ops A) (inputs : ℕ) (made : List (Gate A)) (depths last : List ℕ) (level : ℕ) (rows : List (List (Term A))) (count : ℕ) → at depths 0 ≡ 0 → level ≤ at last 0 → ArePassed depths last level (length rows) (length rows + count)
-      → Formed o inputs made depths last level rows → Formed o inputs made depths last level (rows ++ replicate count [])
+      → AreLevelRows o inputs made depths last level rows → AreLevelRows o inputs made depths last level (rows ++ replicate count [])
   filled o inputs made depths last level rows count first high passed formed =
       record {
         row = rows-filled (λ k us. IsRow o (width_of depths last (level - 1)) us) rows count formed.row (λ j l m. tt);
@@ -75,9 +69,9 @@ module _ {A : Type 0} where
 
   -- the rows that go on to a node are formed
   formed-filled : (o : Ops A) (inputs : ℕ) (made : List (Gate A)) (depths last : List ℕ) (level : ℕ) (rows new : List (List (Term A))) (k : ℕ) → at depths 0 ≡ 0 → level ≤ at last 0 → length rows ≤ k → ArePassed depths last level (length rows) k
-      → new ≡ rows ++ replicate (k - length rows) [] → Formed o inputs made depths last level rows → Formed o inputs made depths last level new
+      → new ≡ rows ++ replicate (k - length rows) [] → AreLevelRows o inputs made depths last level rows → AreLevelRows o inputs made depths last level new
   formed-filled o inputs made depths last level rows new k first high within passed is formed =
-      subst (Formed o inputs made depths last level) (sym is) (filled o inputs made depths last level rows (k - length rows) first high (λ j l m. passed j l (omega (arith, m, within))) formed)
+      subst (AreLevelRows o inputs made depths last level) (sym is) (filled o inputs made depths last level rows (k - length rows) first high (λ j l m. passed j l (omega (arith, m, within))) formed)
 
   filled-length : (rows new : List (List (Term A))) (k : ℕ) → length rows ≤ k → new ≡ rows ++ replicate (k - length rows) [] → length new ≡ k
   filled-length rows new k within is = ap length is ∙ length-append rows (replicate (k - length rows) []) ∙ ap (λ n. length rows + n) (none-count (Term A) (k - length rows)) ∙ omega (arith, within)
@@ -86,7 +80,7 @@ module _ {A : Type 0} where
   pub record Walked (o : Ops A) (inputs : ℕ) (made : List (Gate A)) (depths last : List ℕ) (level k : ℕ) (rows : List (List (Term A))) : Type 0 where
     pub within : length rows ≤ k
     pub passed : ArePassed depths last level (length rows) k
-    pub formed : Formed o inputs made depths last level rows
+    pub formed : AreLevelRows o inputs made depths last level rows
 
   pub walk-starts : (o : Ops A) (inputs : ℕ) (made : List (Gate A)) (depths last : List ℕ) (level : ℕ) → Walked o inputs made depths last level 0 []
   walk-starts o inputs made depths last level = record {
@@ -116,27 +110,19 @@ module _ {A : Type 0} where
 
   pub walk-adds : (o : Ops A) (inputs : ℕ) (made : List (Gate A)) (depths last : List ℕ) (level k : ℕ) (rows filled new : List (List (Term A))) → at depths 0 ≡ 0 → level ≤ at last 0 → filled ≡ rows ++ replicate (k - length rows) []
       → length new ≡ length filled + 1
-      → (AreRows o (width_of depths last (level - 1)) filled → AreRows o (width_of depths last (level - 1)) new)
-      → ((values wires : List A) → AreValues o inputs made values → Stands o depths last (level - 1) values wires → HaveValues o depths last level values wires filled → HaveValues o depths last level values wires new)
-      → ((weights : List ℕ) → AreWeights inputs made weights → AreShort depths level weights filled → AreShort depths level weights new)
-      → ((1 ≤ length filled → StartsWithOne o filled) → StartsWithOne o new)
+      → (AreLevelRows o inputs made depths last level filled → AreLevelRows o inputs made depths last level new)
       → Walked o inputs made depths last level k rows → Walked o inputs made depths last level (k + 1) new
-  walk-adds o inputs made depths last level k rows filled new first high is count row value short one w =
+  walk-adds o inputs made depths last level k rows filled new first high is count more w =
       let formed = formed-filled o inputs made depths last level rows filled k first high w.within w.passed is w.formed in
       let done : length new ≡ k + 1 = count ∙ ap (λ n. n + 1) (filled-length rows filled k w.within is) in
       record {
         within = omega (arith, done);
         passed = λ j l m. absurd (omega (arith, l, m, done));
-        formed = record {
-          row = row formed.row;
-          value = λ values wires v s. value values wires v s (formed.value values wires v s);
-          short = λ weights h. short weights h (formed.short weights h);
-          one = λ some. one formed.one;
-        };
+        formed = more formed;
       }
 
   pub walk-ends : (o : Ops A) (inputs : ℕ) (made : List (Gate A)) (depths last : List ℕ) (level k n : ℕ) (rows new : List (List (Term A))) → at depths 0 ≡ 0 → level ≤ at last 0 → k ≡ n → new ≡ rows ++ replicate (n - length rows) []
-      → Walked o inputs made depths last level k rows → (length new ≡ n) × Formed o inputs made depths last level new
+      → Walked o inputs made depths last level k rows → (length new ≡ n) × AreLevelRows o inputs made depths last level new
   walk-ends o inputs made depths last level k n rows new first high top is w =
       let within : length rows ≤ n = omega (arith, top, w.within) in
       let passed : ArePassed depths last level (length rows) n = subst (ArePassed depths last level (length rows)) top w.passed in

@@ -11,10 +11,10 @@ use Rattle.lzk_circuit.specs.Wires.{inputs_of}
 use Rattle.lzk_level.specs.declared.node.Gate.{Gate}
 use Rattle.lzk_level.specs.declared.fault.LevelFault.{LevelFault}
 use Rattle.lzk_level.specs.declared.fault.LevelFault.TheVariants.{Layers, LayerWires, Terms}
-use Rattle.lzk_level.specs.Nodes.{nodes_from, node_values, gate_value, AreGates}
+use Rattle.lzk_level.specs.Nodes.{nodes_from, node_values, gate_value, after, AreGates}
 use Rattle.lzk_reduce.specs.Renumbering.{at}
-use Rattle.lzk_level.specs.Bounds.{greatest, gate_depth, node_depths, node_weights, limit_fault}
-use Rattle.lzk_level.specs.Levels.{AreDepths, AreWeights, AreValues, Begins}
+use Rattle.lzk_level.specs.Bounds.{greatest, gate_depth, gate_weight, node_depths, node_weights, limit_fault}
+use Rattle.lzk_level.specs.Levels.{AreDepths, AreWeights, AreValues, Begins, IsGraph}
 use Rattle.lzk_level.proofs.AfterLaws.{after-length, after-front, depths-are, weights-are, values-are}
 
 -- no limit is passed
@@ -67,25 +67,25 @@ module _ {A : Type 0} where
       let start : List ℕ = replicate (1 + (publics + privates)) 0 in
       after-length gate_depth start made ∙ ap (λ k. k + length made) (length-replicate (1 + (publics + privates)) 0)
 
-  -- what the layers' builder asks of the depths
-  pub record Ready (made : List (Gate A)) (depths : List ℕ) (inputs : ℕ) : Type 0 where
-    pub inputs_are : length depths - length made ≡ inputs
-    pub long : 1 + length made ≤ length depths
-    pub gates_are : AreGates (length depths - length made - 1) made
-    pub depths_are : AreDepths (length depths - length made) made depths
+  pub weights-long : (publics privates : ℕ) (made : List (Gate A)) → length (node_weights (nodes_from publics privates made)) ≡ 1 + (publics + privates) + length made
+  weights-long publics privates made =
+      let one : ℕ = 1 in
+      let start : List ℕ = 0 ∷ replicate (publics + privates) one in
+      after-length gate_weight start made ∙ omega (arith, length-replicate (publics + privates) one)
 
-  pub ready : (publics privates : ℕ) (made : List (Gate A)) (depths : List ℕ) → depths ≡ node_depths (nodes_from publics privates made) → AreGates (publics + privates) made → Ready made depths (1 + (publics + privates))
-  ready publics privates made depths e h =
-      let inputs = 1 + (publics + privates) in
-      let long : length depths ≡ inputs + length made = ap length e ∙ depths-long publics privates made in
-      let is : inputs ≡ length depths - length made = omega (arith, long) in
-      let less : publics + privates ≡ length depths - length made - 1 = omega (arith, long) in
-      let before : publics + privates ≡ inputs - 1 = omega arith in
+  -- nodes within the limit on wires are a graph
+  pub is-graph : (inputs publics privates : ℕ) (made : List (Gate A)) (depths : List ℕ) → inputs ≡ 1 + (publics + privates) → depths ≡ node_depths (nodes_from publics privates made) → AreGates (publics + privates) made
+      → 1 + (publics + privates) + length made ≤ 131072 → IsGraph inputs made depths
+  is-graph inputs publics privates made depths width e h few =
+      let long : length depths ≡ 1 + (publics + privates) + length made = ap length e ∙ depths-long publics privates made in
+      let before : publics + privates ≡ inputs - 1 = omega (arith, width) in
+      let gates = subst (λ n. AreGates n made) before h in
+      let one : 1 ≤ inputs = omega (arith, width) in
       record {
-        inputs_are = sym is;
-        long = omega (arith, long);
-        gates_are = subst (λ n. AreGates n made) less h;
-        depths_are = subst (λ n. AreDepths n made depths) is (subst (AreDepths inputs made) (sym e) (depths-are inputs made (omega arith) (subst (λ n. AreGates n made) before h)));
+        one = one;
+        few = omega (arith, long, few);
+        gates = gates;
+        depths_are = subst (AreDepths inputs made) (sym (e ∙ ap (λ n. after gate_depth (replicate n 0) made) (sym width))) (depths-are inputs made one gates);
       }
 
   pub ready-weights : (publics privates : ℕ) (made : List (Gate A)) (inputs : ℕ) → inputs ≡ 1 + (publics + privates) → AreGates (publics + privates) made → AreWeights inputs made (node_weights (nodes_from publics privates made))

@@ -55,8 +55,8 @@ module _ {A : Type 0} (o : Ops A) (size : ℕ) (number : A → ℕ) (element : �
       let count = layer_count n asserts in
       let w = within-limits count (wire_bound n + length asserts) (count * (wire_bound n + length asserts) + total (node_weights n) + total (map (at (node_weights n)) asserts)) fits in
       let given = asserts-of n asserts gates some nodes fits in
-      let below = given.gates in
-      let d = given.depths_are in
+      let below = given.graph.gates in
+      let d = given.graph.depths_are in
       let few_nodes = given.few in
       let one : 1 ≤ count = greatest-some 1 (map (at depths) asserts) in
       let last = replicate (length depths) count in
@@ -67,7 +67,7 @@ module _ {A : Type 0} (o : Ops A) (size : ℕ) (number : A → ℕ) (element : �
       (omega (arith, depth-few depths count asserts, w.wires_most)) (λ i l. (each i l).0.1) (λ i l. omega (arith, (each i l).1)) in
       let layers = reverse top in
       let targets = targets_below depths last asserts count in
-      let l = laid o inputs n.made depths last asserts count inputs outputs top layers targets one given needed refl refl t refl refl in
+      let l = laid o inputs n.made depths last asserts count outputs top layers targets one given needed refl t refl refl in
       let r = l.is_ready in
       let (all, form) = some_asserting o size number element bytes laws inputs targets layers (omega (arith, l.long, one)) (omega arith) l.terms_are r.layers_are l.ones_are r.targets r.narrow_are r.checks r.few_wires r.few_terms in
       let is = laid-asserting o inputs n.made depths last asserts number count targets layers all one (omega arith) l form in

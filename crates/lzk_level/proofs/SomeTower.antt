@@ -15,12 +15,13 @@ use Rattle.lzk_level.specs.declared.node.Gate.{Gate}
 use Rattle.lzk_level.specs.declared.node.Gate.TheVariants.{Constant, Combine, Mul}
 use Rattle.lzk_level.specs.Nodes.{ArePartsOf, IsGate, AreGates}
 use Rattle.lzk_level.specs.Levels.{place_in, width_of, row_at, has_wire, AreDepths, AreLast, AreNeeded, ArePartsNeeded, lengths_in, lengths_of}
+use Rattle.lzk_level.specs.Stacking.{AreStacked}
 use Rattle.lzk_level.proofs.InnerLaws.{Inner, inner-starts, inner-skips, inner-adds, Outer, outer-starts, outer-adds}
 use Rattle.lzk_level.proofs.NodeLaws.{gate-at}
 use Rattle.lzk_level.proofs.LastLaws.{more-nodes}
 use Rattle.lzk_level.proofs.OneLaws.{has-one}
 use Rattle.lzk_level.proofs.SomeLevelRows.{level-rows}
-use Rattle.lzk_level.proofs.TowerLaws.{Tower, Topped, tower-starts, tower-adds, tower-ends}
+use Rattle.lzk_level.proofs.TowerLaws.{Tower, tower-starts, tower-adds, tower-ends}
 
 module _ {A : Type 0} (o : Ops A) (r : RingLaws o) (rows : List (List (Term A))) where
   -- the terms of an inner layer
@@ -115,7 +116,7 @@ module _ {A : Type 0} (o : Ops A) (r : RingLaws o) (f : FieldLaws o) (decide : Z
 
   -- the layers for outputs
   pub topped : (count : ℕ) (outputs : List ℕ) → 1 ≤ count → length outputs ≤ 131072 → ((i : ℕ) → i < length outputs → at outputs i < length depths) → ((i : ℕ) → i < length outputs → at depths (at outputs i) ≤ count)
-      → (layers : List (Layer A)) × Topped o inputs made depths (replicate (length depths) count) count outputs layers
+      → (layers : List (Layer A)) × AreStacked o inputs made depths (replicate (length depths) count) count outputs layers
   topped count outputs some most nodes deep =
       let last = replicate (length depths) count in
       let w = flat-last inputs count made depths first some gates d in

@@ -20,6 +20,7 @@ use Rattle.lzk_level.specs.Bounds.{at_parts, total, greatest, gate_depth}
 use Rattle.lzk_reduce.specs.Rows.{row_value}
 use Rattle.lzk_reduce.specs.Reduced.{HasOne, HaveOnes, HaveOnesUnder}
 use Rattle.lzk_level.specs.Levels.{HaveWidths, HaveWidthsBelow, StandFrom, StandBelow, place_in, width_of, row_at, AreDepths, AreWeights, AreValues, AreRows, AreShort, HaveValues, Stands, Begins, AreLast, has_wire, lengths_in, lengths_of}
+use Rattle.lzk_level.specs.Stacking.{AreStacked}
 use Rattle.lzk_reduce.specs.Targets.{AreAllTerms}
 use Rattle.lzk_reduce.proofs.AttachedLayers.{all-terms}
 use Rattle.lzk_level.proofs.LevelLaws.{place-most, place-below, wire-there, wire-no-deeper, wire-needed}
@@ -245,18 +246,6 @@ module _ {A : Type 0} (o : Ops A) where
             subst (StandFrom o depths last values ins) (sym turned) (subst (λ n. Stands o depths last n values (layer_values o layer below)) high_as here, t.stand values ins v s);
       }
 
-  -- the layers for outputs
-  pub record Topped (inputs : ℕ) (made : List (Gate A)) (depths last : List ℕ) (count : ℕ) (outputs : List ℕ) (layers : List (Layer A)) : Type 0 where
-    pub count_is : length layers ≡ count
-    pub valid : (weights : List ℕ) → AreWeights inputs made weights → 1 ≤ length outputs → ((i : ℕ) → i < length outputs → 1 ≤ at outputs i) → count * length depths + total weights + total (map (at weights) outputs) ≤ 2097152 → AreLayers o inputs (reverse layers)
-    pub values : (values ins : List A) → AreValues o inputs made values → Begins o inputs values ins → wires_of o (reverse layers) ins ≡ map (entry o values) outputs
-    pub ones : HaveOnes o (reverse layers)
-    pub widths : HaveWidthsBelow depths last inputs (length outputs) (reverse layers)
-    pub stand : (values ins : List A) → AreValues o inputs made values → Begins o inputs values ins → StandBelow o depths last values ins (reverse layers)
-    pub terms : (weights : List ℕ) → AreWeights inputs made weights → ((i : ℕ) → i < length outputs → 1 ≤ at outputs i) → count * length depths + total weights + total (map (at weights) outputs) ≤ 2097152 → AreAllTerms o inputs (reverse layers)
-    pub few_terms : (weights : List ℕ) → AreWeights inputs made weights → ((i : ℕ) → i < length outputs → 1 ≤ at outputs i) → count * length depths + total weights + total (map (at weights) outputs) ≤ 2097152
-        → (under_of inputs (reverse layers)).terms ≤ count * length depths + total weights + total (map (at weights) outputs)
-
   -- with the outputs' layer on top
   pub tower-ends : (inputs : ℕ) (made : List (Gate A)) (depths last : List ℕ) (count : ℕ) (layers all : List (Layer A)) (layer : Layer A) (rows : List (List (Term A))) (outputs : List ℕ) → 1 ≤ count → 1 ≤ inputs → AreGates (inputs - 1) made → AreDepths inputs made depths
       → all ≡ layers ++ layer ∷ [] → length rows ≡ length depths → AreRows o (width_of depths last (count - 1)) rows → layer.wires ≡ length outputs → length outputs ≤ 131072
@@ -265,7 +254,7 @@ module _ {A : Type 0} (o : Ops A) where
       → ((width : ℕ) → AreRows o width rows → AreTerms o (length outputs) width None layer.terms)
       → ((below : List A) → AreRows o (length below) rows → (i : ℕ) → i < length outputs → wire o (coef o layer.terms) below i ≡ row_value o below (row_at rows (at outputs i)))
       → length layer.terms ≡ lengths_of rows outputs → ((i : ℕ) → i < length outputs → at outputs i < length depths) → ((i : ℕ) → i < length outputs → at depths (at outputs i) ≤ count) → ((i : ℕ) → i < length outputs → count ≤ at last (at outputs i))
-      → Tower inputs made depths last (count - 1) layers → Topped inputs made depths last count outputs all
+      → Tower inputs made depths last (count - 1) layers → AreStacked o inputs made depths last count outputs all
   tower-ends inputs made depths last count layers all layer rows outputs some first gates d grown long ordered wires few have short terms each terms_count nodes deep needed t =
       let turned : reverse all ≡ layer ∷ reverse layers = reverse-push layers all layer grown in
       let more : count * length depths ≡ (count - 1) * length depths + length depths = one-more count (length depths) some in

@@ -22,7 +22,8 @@ total (n ∷ ns) = n + total ns
 abbrev pub at_parts : {A : Type 0} → List ℕ → List (A × ℕ) → List ℕ
 at_parts ns parts = map (λ p. at ns p.1) parts
 
--- the depth of a gate, over those of the nodes before it: how many layers of products stand under it, a constant counting as one
+-- the depth of a gate, over those of the nodes before it: how many layers of products stand under it, a constant
+-- counting as one
 abbrev pub gate_depth : {A : Type 0} → List ℕ → Gate A → ℕ
 gate_depth depths (Constant c) = 1
 gate_depth depths (Combine parts) = greatest 1 (at_parts depths parts)
@@ -52,7 +53,8 @@ wire_bound n = 1 + node_count n
 
 -- all layers together need no more terms
 abbrev pub term_bound : {A : Type 0} → Nodes A → List ℕ → ℕ
-term_bound n outputs = layer_count n outputs * wire_bound n + total (node_weights n) + total (map (at (node_weights n)) outputs)
+term_bound n outputs =
+    layer_count n outputs * wire_bound n + total (node_weights n) + total (map (at (node_weights n)) outputs)
 
 -- the first limit that so many layers, wires and terms pass
 abbrev pub limit_fault : ℕ → ℕ → ℕ → Option LevelFault
@@ -70,9 +72,11 @@ level_fault n outputs = limit_fault (layer_count n outputs) (wire_bound n) (term
 -- the same with so many further wires in a layer
 abbrev pub level_fault_with : {A : Type 0} → ℕ → Nodes A → List ℕ → Option LevelFault
 level_fault_with further n outputs =
-    limit_fault (layer_count n outputs) (wire_bound n + further) (layer_count n outputs * (wire_bound n + further) + total (node_weights n) + total (map (at (node_weights n)) outputs))
+    limit_fault (layer_count n outputs) (wire_bound n + further) (layer_count n outputs * (wire_bound n + further)
+    + total (node_weights n) + total (map (at (node_weights n)) outputs))
 
--- the first limit that these asserted nodes pass in a circuit of version 2, where a layer may have a further wire for each of them
+-- the first limit that these asserted nodes pass in a circuit of version 2, where a layer may have a further wire for
+-- each of them
 abbrev pub level_fault_v2 : {A : Type 0} → Nodes A → List ℕ → Option LevelFault
 level_fault_v2 n asserts = level_fault_with (length asserts) n asserts
 

@@ -12,12 +12,12 @@ use Rattle.lzk_reduce.specs.Attached.{IsReducedAsserting}
 use Rattle.lzk_reduce.specs.Reduced.{output_count}
 use Rattle.lzk_reduce.specs.Renumbering.{at}
 use Rattle.lzk_level.specs.Bounds.{node_depths, layer_count, total, greatest}
-use Rattle.lzk_level.specs.Levels.{place_in, AreDepths, AreWeights, AreValues, Begins}
-use Rattle.lzk_level.specs.Nodes.{Nodes, AreGates, node_values}
+use Rattle.lzk_level.specs.Levels.{place_in, IsGraph, AreWeights, AreValues, Begins}
+use Rattle.lzk_level.specs.Nodes.{Nodes, node_values}
 use Rattle.lzk_level.specs.declared.node.Gate.{Gate}
 
--- The place of the k-th of nodes with these depths, when they stand by depth from the largest, those of one depth in their order: so many are deeper,
--- and so many are as deep and stand before it.
+-- The place of the k-th of nodes with these depths, when they stand by depth from the largest, those of one depth in
+-- their order: so many are deeper, and so many are as deep and stand before it.
 abbrev pub check_of : List ℕ → ℕ → ℕ
 check_of ds k = count_by (nat_lt (at ds k)) ds + count_by (λ d. d == at ds k) (take k ds)
 
@@ -25,14 +25,15 @@ check_of ds k = count_by (nat_lt (at ds k)) ds + count_by (λ d. d == at ds k) (
 abbrev pub HasChecks : {A : Type 0} → Ops A → (A → ℕ) → Nodes A → List ℕ → Wiring A → Type 0
 HasChecks o number n asserts c =
     (public private : List _) → length public ≡ n.publics → length private ≡ n.privates → (k : ℕ) → k < length asserts
-    → entry o (checks_of o number c.layers (inputs_of o public private)) (check_of (map (at (node_depths n)) asserts) k) ≡ entry o (node_values o n public private) (at asserts k)
+    → entry o (checks_of o number c.layers (inputs_of o public private)) (check_of (map (at (node_depths n)) asserts) k)
+    ≡ entry o (node_values o n public private) (at asserts k)
 
 -- the nodes with a depth, in their order
 abbrev pub of_depth : List ℕ → ℕ → List ℕ → List ℕ
 of_depth depths depth nodes = filter (λ k. at depths k == depth) nodes
 
--- The first layer has a wire for each asserted node of the uppermost level and of the level below it: no further node is carried up to it, and each
--- is asserted by an inner layer.
+-- The first layer has a wire for each asserted node of the uppermost level and of the level below it: no further node
+-- is carried up to it, and each is asserted by an inner layer.
 abbrev pub HasFewOutputs : {A : Type 0} → Nodes A → List ℕ → Wiring A → Type 0
 HasFewOutputs n asserts c =
     let depths = node_depths n in
@@ -46,7 +47,8 @@ level_targets depths last level asserts = map (place_in depths last level) (of_d
 -- those of so many levels, the uppermost first
 abbrev pub targets_below : List ℕ → List ℕ → List ℕ → ℕ → List (List ℕ)
 targets_below depths last asserts zero = []
-targets_below depths last asserts (suc level) = level_targets depths last level asserts ∷ targets_below depths last asserts level
+targets_below depths last asserts (suc level) =
+    level_targets depths last level asserts ∷ targets_below depths last asserts level
 
 -- the nodes of depths below one, the deepest first
 abbrev pub by_depth : List ℕ → List ℕ → ℕ → List ℕ
@@ -54,27 +56,30 @@ by_depth depths nodes zero = []
 by_depth depths nodes (suc depth) = of_depth depths depth nodes ++ by_depth depths nodes depth
 
 -- the layers of a circuit of version 2 keep the limit on terms
-pub record KeepLimits {A : Type 0} (inputs : ℕ) (made : List (Gate A)) (depths asserts : List ℕ) (count : ℕ) : Type 0 where
+pub record KeepLimits {A : Type 0} (inputs : ℕ) (made : List (Gate A)) (depths asserts : List ℕ)
+    (count : ℕ) : Type 0 where
   pub weights : List ℕ
   pub are : AreWeights inputs made weights
   pub most : count * (length depths + length asserts) + total weights + total (map (at weights) asserts) ≤ 2097152
 
 -- asserted nodes over these gates, the layers that they need, and that they keep the limits
-pub record AreAsserts {A : Type 0} (inputs : ℕ) (made : List (Gate A)) (depths asserts : List ℕ) (count : ℕ) : Type 0 where
-  pub one : 1 ≤ inputs
+pub record AreAsserts {A : Type 0} (inputs : ℕ) (made : List (Gate A)) (depths asserts : List ℕ)
+    (count : ℕ) : Type 0 where
+  pub graph : IsGraph inputs made depths
   pub few : length depths + length asserts ≤ 131072
-  pub gates : AreGates (inputs - 1) made
-  pub depths_are : AreDepths inputs made depths
   pub some : 1 ≤ length asserts
   pub nodes : (i : ℕ) → i < length asserts → (1 ≤ at asserts i) × (at asserts i < length depths)
   pub is : count ≡ greatest 1 (map (at depths) asserts)
   pub limits : KeepLimits inputs made depths asserts count
 
 -- reduced layers of version 2 with a check for each asserted node, the nodes being sorted by depth from the largest
-pub record AreAsserting {A : Type 0} (o : Ops A) (number : A → ℕ) (inputs : ℕ) (made : List (Gate A)) (depths asserts : List ℕ) (count : ℕ) (layers : List (Layer A)) : Type 0 where
+pub record AreAsserting {A : Type 0} (o : Ops A) (number : A → ℕ) (inputs : ℕ) (made : List (Gate A))
+    (depths asserts : List ℕ) (count : ℕ) (layers : List (Layer A)) : Type 0 where
   pub layers_count : length layers ≡ count
   pub valid : AreLayersOf o 2 inputs layers
   pub checks_count : check_count number layers ≡ length asserts
-  pub first_count : output_count layers ≡ length (of_depth depths count asserts) + length (of_depth depths (count - 1) asserts)
-  pub checks : (values ins : List A) → AreValues o inputs made values → Begins o inputs values ins → checks_of o number layers ins ≡ map (entry o values) (by_depth depths asserts (suc count))
+  pub first_count : output_count layers
+      ≡ length (of_depth depths count asserts) + length (of_depth depths (count - 1) asserts)
+  pub checks : (values ins : List A) → AreValues o inputs made values → Begins o inputs values ins
+      → checks_of o number layers ins ≡ map (entry o values) (by_depth depths asserts (suc count))
   pub reduced : IsReducedAsserting o layers

@@ -25,7 +25,8 @@ use Rattle.lzk_level.specs.Compiling.{MadeOutputs, nodes_of}
 -- on every input, the circuit's outputs are the values of the source's asserts, one for one
 abbrev pub HasValues : {A : Type 0} → Ops A → (ℕ → A) → List Statement → Wiring A → Type 0
 HasValues o element ss c =
-    (public private : List _) → length public ≡ c.publics → length private ≡ c.privates → wires_of o c.layers (inputs_of o public private) ≡ source_value o element public private ss
+    (public private : List _) → length public ≡ c.publics → length private ≡ c.privates
+    → wires_of o c.layers (inputs_of o public private) ≡ source_value o element public private ss
 
 -- how many layers nodes with their outputs need, and the first limit that they pass
 abbrev pub layers_needed : {A : Type 0} → MadeOutputs A → ℕ
@@ -45,8 +46,11 @@ output_depths m = map (at (node_depths m.nodes)) m.outputs
 -- on every input, each assert's check is its value
 abbrev pub HasCheckedValues : {A : Type 0} → Ops A → (A → ℕ) → (ℕ → A) → List Statement → Wiring A → Type 0
 HasCheckedValues o number element ss c =
-    (public private : List _) → length public ≡ c.publics → length private ≡ c.privates → (k : ℕ) → k < count_by is_assertion ss
-    → entry o (checks_of o number c.layers (inputs_of o public private)) (check_of (output_depths (nodes_of o element ss)) k) ≡ entry o (source_value o element public private ss) k
+    (public private : List _) → length public ≡ c.publics → length private ≡ c.privates → (k : ℕ)
+    → k < count_by is_assertion ss
+    → entry o (checks_of o number c.layers (inputs_of o public private))
+    (check_of (output_depths (nodes_of o element ss)) k)
+    ≡ entry o (source_value o element public private ss) k
 
 -- there are as many checks as asserts
 abbrev pub HasAsManyChecks : {A : Type 0} → (A → ℕ) → List Statement → Wiring A → Type 0
@@ -80,7 +84,8 @@ HasSourceValues ss (Gf c) = HasValues gf.ops gf.of_number ss c
 
 -- there are as many checks as asserts, and on every input each assert's check is its value
 abbrev pub HasSourceChecks : List Statement → AnyCircuit → Type 0
-HasSourceChecks ss (Gold c) = HasAsManyChecks gold.number ss c × HasCheckedValues gold.ops gold.number gold.of_number ss c
+HasSourceChecks ss (Gold c) =
+    HasAsManyChecks gold.number ss c × HasCheckedValues gold.ops gold.number gold.of_number ss c
 HasSourceChecks ss (Gf c) = HasAsManyChecks gf.number ss c × HasCheckedValues gf.ops gf.number gf.of_number ss c
 
 -- no inner wire is there twice, or for nothing, but for those that assert
@@ -88,7 +93,8 @@ abbrev pub HasReducedAsserting : AnyCircuit → Type 0
 HasReducedAsserting (Gold c) = IsReducedAsserting gold.ops c.layers
 HasReducedAsserting (Gf c) = IsReducedAsserting gf.ops c.layers
 
--- The first layer has a wire for each asserted node of the two uppermost levels alone: the other asserts stand in inner layers.
+-- The first layer has a wire for each asserted node of the two uppermost levels alone: the other asserts stand in inner
+-- layers.
 abbrev pub HasFewMade : {A : Type 0} → MadeOutputs A → Wiring A → Type 0
 HasFewMade m c = HasFewOutputs m.nodes m.outputs c
 

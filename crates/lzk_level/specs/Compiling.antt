@@ -72,7 +72,9 @@ constant_factors s es = cond (are_constant s es) (Some (factors_value (constants
 -- the product of the constant factors; none where there is no such factor
 abbrev pub constant_factor : {A : Type 0} → Scope A → Exprs → Option A
 constant_factor s NoExpr = None
-constant_factor s (factor e es) = cond (is_constant s e) (Some (s.ops.times (constant s e) (unwrap_or (constant_factor s es) s.ops.one))) (constant_factor s es)
+constant_factor s (factor e es) =
+    cond (is_constant s e) (Some (s.ops.times (constant s e) (unwrap_or (constant_factor s es) s.ops.one)))
+    (constant_factor s es)
 
 -- nodes, and the number of one of them
 pub record Made (A : Type 0) : Type 0 where
@@ -114,7 +116,9 @@ joined (Some k) m = next m.nodes (gate.Mul k m.node)
 
 -- one more factor, with what it is made of: a constant one makes no nodes
 abbrev pub factored : {A : Type 0} → Scope A → Nodes A → Option ℕ → Expr → Made A → MadeFactors A
-factored s n before e m = cond (is_constant s e) (record { nodes = n; node = before }) (record { nodes = (joined before m).nodes; node = Some (joined before m).node })
+factored s n before e m =
+    cond (is_constant s e) (record { nodes = n; node = before })
+    (record { nodes = (joined before m).nodes; node = Some (joined before m).node })
 
 -- the product of the factors, of which there is one
 abbrev pub product : {A : Type 0} → MadeFactors A → Made A
@@ -138,12 +142,15 @@ abbrev mutual
   made s n (Named i) = at_let n (let_at s i)
   made s n (Neg e) = unless_constant s n (Neg e) (multiple (s.ops.neg s.ops.one) (made s n e))
   made s n (Added ps) = unless_constant s n (Added ps) (summed (made_parts s n ps))
-  made s n (Multiplied es) = unless_constant s n (Multiplied es) (scaled (constant_factor s es) (product (made_factors s n None es)))
+  made s n (Multiplied es) =
+      unless_constant s n (Multiplied es) (scaled (constant_factor s es) (product (made_factors s n None es)))
 
   -- each part with 1 or -1
   pub made_parts : {A : Type 0} → Scope A → Nodes A → Parts → MadeParts A
   made_parts s n NoPart = record { nodes = n; parts = [] }
-  made_parts s n (part m e ps) = let rest = made_parts s (made s n e).nodes ps in record { nodes = rest.nodes; parts = (signed s.ops m s.ops.one, (made s n e).node) ∷ rest.parts }
+  made_parts s n (part m e ps) =
+      let rest = made_parts s (made s n e).nodes ps in
+      record { nodes = rest.nodes; parts = (signed s.ops m s.ops.one, (made s n e).node) ∷ rest.parts }
 
   -- the factors that are not constant, joined from left to right to what stands before them
   pub made_factors : {A : Type 0} → Scope A → Nodes A → Option ℕ → Exprs → MadeFactors A

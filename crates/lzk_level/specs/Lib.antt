@@ -3,9 +3,11 @@ pub mod Bounds
 pub mod Meanings
 pub mod Levels
 pub mod Spans
+pub mod Stacking
 pub mod Checking
 pub mod Compilable
 pub mod Compiling
 pub mod Compiled
 pub mod SomeCircuit
+pub mod Upgraded
 pub use Rattle.lzk_field.specs

@@ -9,4 +9,5 @@ use Rattle.lzk_level.specs.Nodes.{Nodes, node_values}
 -- on every input, the circuit's outputs are the values of these nodes, one for one
 abbrev pub HasOutputs : {A : Type 0} → Ops A → Nodes A → List ℕ → Wiring A → Type 0
 HasOutputs o n outputs c =
-    (public private : List _) → length public ≡ n.publics → length private ≡ n.privates → wires_of o c.layers (inputs_of o public private) ≡ map (entry o (node_values o n public private)) outputs
+    (public private : List _) → length public ≡ n.publics → length private ≡ n.privates
+    → wires_of o c.layers (inputs_of o public private) ≡ map (entry o (node_values o n public private)) outputs

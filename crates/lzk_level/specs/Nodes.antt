@@ -1,12 +1,14 @@
 -- A builder's nodes, and their values.
 use Rattle.std.specs.Prelude.{ℕ, ◌+◌, ◌≤◌, ◌++◌, List, [], ◌∷◌, length}
+use Rattle.std.specs.Coded.{×_prop, Unit-prop, le_prop}
 use Rattle.lzk_field.specs.Ring.{Ops}
 use Rattle.lzk_field.specs.Sums.{entry}
 use Rattle.lzk_circuit.specs.Wires.{inputs_of}
 use Rattle.lzk_level.specs.declared.node.Gate.{Gate}
 use Rattle.lzk_level.specs.declared.node.Gate.TheVariants.{Constant, Combine, Mul}
 
--- The nodes of a builder: its inputs, and those that were made, in order. They are numbered from 1, the public inputs first; number 0 is the one, which is no node.
+-- The nodes of a builder: its inputs, and those that were made, in order. They are numbered from 1, the public inputs
+-- first; number 0 is the one, which is no node.
 pub record Nodes (A : Type 0) : Type 0 where
   pub publics : ℕ
   pub privates : ℕ
@@ -44,6 +46,20 @@ IsGate n (Mul x y) = IsNode n x × IsNode n y
 abbrev pub AreGates : {A : Type 0} → ℕ → List (Gate A) → Type 0
 AreGates n [] = Unit {0}
 AreGates n (gate ∷ gates) = IsGate n gate × AreGates (n + 1) gates
+
+-- there is one proof of it at most
+ArePartsOf-prop : {A : Type 0} (n : ℕ) (ps : List (A × ℕ)) → IsProp (ArePartsOf n ps)
+ArePartsOf-prop n [] = Unit-prop
+ArePartsOf-prop n (p ∷ ps) = ×_prop (×_prop le_prop le_prop) (ArePartsOf-prop n ps)
+
+IsGate-prop : {A : Type 0} (n : ℕ) (gate : Gate A) → IsProp (IsGate n gate)
+IsGate-prop n (Constant c) = Unit-prop
+IsGate-prop n (Combine parts) = ×_prop le_prop (ArePartsOf-prop n parts)
+IsGate-prop n (Mul x y) = ×_prop (×_prop le_prop le_prop) (×_prop le_prop le_prop)
+
+pub AreGates-prop : {A : Type 0} (n : ℕ) (gates : List (Gate A)) → IsProp (AreGates n gates)
+AreGates-prop n [] = Unit-prop
+AreGates-prop n (gate ∷ gates) = ×_prop (IsGate-prop n gate) (AreGates-prop (n + 1) gates)
 
 -- the sum of the coefficients times the values at these numbers
 abbrev pub combined : {A : Type 0} → Ops A → List A → List (A × ℕ) → A

@@ -6,7 +6,8 @@ use Rattle.lzk_expr.specs.Sources.{IsWellFormed}
 use Rattle.lzk_expr.specs.Trees.{SourceTree, is_public, is_private}
 use Rattle.lzk_level.specs.Compiled.{version_of, field_of, publics_of, privates_of, depth_of, HasSourceValues, HasReducedLayers, HasSourceChecks, HasReducedAsserting, source_layers, source_limit, source_limit_v2, HasFewSourceOutputs}
 
--- The circuit has the source's field and counts, the layers that its nodes need, and on every input the values of its asserts as outputs, one for one; and it is reduced.
+-- The circuit has the source's field and counts, the layers that its nodes need, and on every input the values of its
+-- asserts as outputs, one for one; and it is reduced.
 pub record IsCircuitOf (source : SourceTree) (c : AnyCircuit) : Type 0 where
   pub version_is : version_of c ≡ 1
   pub field_is : field_of c ≡ source.field_is
@@ -24,8 +25,8 @@ HasSomeCircuit source = (c : AnyCircuit) × (bytes : List ℕ) × IsCircuitOf so
 abbrev pub SomeCircuit : Type 0
 SomeCircuit = (source : SourceTree) → IsWellFormed source → source_limit source ≡ None → HasSomeCircuit source
 
--- The circuit of version 2 has the source's field and counts, the layers that its nodes need, and a check for each assert that on every input is its
--- value; its outputs are those of the two uppermost levels alone; and it is reduced.
+-- The circuit of version 2 has the source's field and counts, the layers that its nodes need, and a check for each
+-- assert that on every input is its value; its outputs are those of the two uppermost levels alone; and it is reduced.
 pub record IsCircuitOfV2 (source : SourceTree) (c : AnyCircuit) : Type 0 where
   pub version_is : version_of c ≡ 2
   pub field_is : field_of c ≡ source.field_is

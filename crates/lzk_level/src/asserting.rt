@@ -1,18 +1,19 @@
 //! Circuits of version 2: an asserted node of the uppermost level is an output, and each other is asserted by the
 //! layer above its own, with no copies up to the outputs.
 
-ghost use Rattle.std.specs.Prelude.{◌≡◌, ℕ, ◌+◌, ◌<◌, ◌≤◌, None, List, length, map, IfOk, IfErr};
+ghost use Rattle.std.specs.Prelude.{◌≡◌, ℕ, ◌+◌, ◌<◌, ◌≤◌, None, length, IfOk, IfErr};
 ghost use Rattle.lzk_circuit.specs.Checks.{check_count};
 ghost use Rattle.lzk_circuit.specs.Valid.{AreLayersOf, wiring_of};
 ghost use Rattle.lzk_reduce.specs.Attached.{IsReducedAsserting};
 ghost use Rattle.lzk_reduce.specs.Renumbering.{at};
 ghost use Rattle.lzk_level.specs.Bounds.{layer_count, level_fault_v2, IsFaultOf};
 ghost use Rattle.lzk_level.specs.Checking.{of_depth, level_targets, targets_below, HasChecks, HasFewOutputs, AreAsserts, AreAsserting};
-ghost use Rattle.lzk_level.specs.Nodes.{AreGates, IsNode, node_count, nodes_from};
+ghost use Rattle.lzk_level.specs.Nodes.{IsNode, node_count};
 
 use crate::builder::Builder;
 use crate::fault::LevelError;
 use crate::finish::{measured, stacked_levels};
+use crate::graph::Graph;
 use crate::last::last_asserting;
 use crate::levels::places;
 use crate::node::{Gate, Node};
@@ -41,23 +42,20 @@ fn of_depth(
 }
 
 // The wires of a level that are those of the asserted nodes of its depth.
-fn level_targets(
+fn level_targets<F>(
     alloc: Global,
-    depths: &[u32],
-    last: &[u32],
+    graph: &Graph<'_, F>,
     level: u32,
     asserts: &[Node],
 ) -> Result<Targets, AllocError>
-    requires few { length depths.now ≤ 131072 }
-    requires same { length last.now ≡ length depths.now }
-    requires nodes { (i : ℕ) → i < length asserts.now → at asserts.now i < length depths.now }
-    ensures { IfOk result (λ wires. wires ≡ level_targets depths.now last.now level asserts.now) }
+    requires nodes { (i : ℕ) → i < length asserts.now → at asserts.now i < length graph.now.depths.now }
+    ensures { IfOk result (λ wires. wires ≡ level_targets graph.now.depths.now graph.now.last.now level asserts.now) }
 {
-    let places = places(alloc, depths, last, level)?;
+    let places = places(alloc, graph, level)?;
     let mut wires = Vec::new(alloc);
     for i in 0..asserts.len() {
         let k = asserts[i].number() as usize;
-        if depths[k] == level {
+        if graph.depths[k] == level {
             wires.push(places[k])?;
         }
     }
@@ -65,21 +63,19 @@ fn level_targets(
 }
 
 // What the layers assert, the outputs' layer first.
-fn all_targets(
+fn all_targets<F>(
     alloc: Global,
-    depths: &[u32],
-    last: &[u32],
+    graph: &Graph<'_, F>,
     asserts: &[Node],
     count: u32,
 ) -> Result<Vec<Targets>, AllocError>
-    requires few { length depths.now ≤ 131072 }
-    requires same { length last.now ≡ length depths.now }
-    requires nodes { (i : ℕ) → i < length asserts.now → at asserts.now i < length depths.now }
-    ensures { IfOk result (λ targets. targets.items ≡ targets_below depths.now last.now asserts.now count) }
+    requires nodes { (i : ℕ) → i < length asserts.now → at asserts.now i < length graph.now.depths.now }
+    ensures { IfOk result
+        (λ targets. targets.items ≡ targets_below graph.now.depths.now graph.now.last.now asserts.now count) }
 {
     let mut targets = Vec::with_capacity(alloc, count as usize)?;
     for l in 0..count {
-        targets.push(level_targets(alloc, depths, last, count - 1 - l, asserts)?)?;
+        targets.push(level_targets(alloc, graph, count - 1 - l, asserts)?)?;
     }
     Ok(targets)
 }
@@ -108,53 +104,50 @@ fn asserting_layers<F: Field>(
     count: u32,
 ) -> Result<Vec<Layer<F>>, AllocError>
     requires { AreAsserts inputs made.now depths.now asserts.now count }
-    ensures { IfOk result (λ layers. AreAsserting F.ops F.coding.number inputs made.now depths.now asserts.now count layers.items) }
+    ensures { IfOk result
+        (λ layers. AreAsserting F.ops F.coding.number inputs made.now depths.now asserts.now count layers.items) }
 {
     let outputs = of_depth(alloc, depths, asserts, count)?;
-    let last = last_asserting(alloc, made, depths, asserts, count)?;
-    let mut layers = stacked_levels(alloc, made, depths, &last, &outputs, count)?;
+    let last = last_asserting(alloc, inputs as usize, made, depths, asserts, count)?;
+    let graph = Graph {
+        inputs: inputs as usize,
+        made,
+        depths,
+        last: &last,
+    };
+    let mut layers = stacked_levels(alloc, &graph, &outputs, count)?;
     layers.reverse();
-    let targets = all_targets(alloc, depths, &last, asserts, count)?;
+    let targets = all_targets(alloc, &graph, asserts, count)?;
     asserting(alloc, inputs, &layers, &targets)
 }
 
 // The reduced circuit whose checks are those of these nodes.
-fn laid_out<F: Field>(
-    alloc: Global,
-    publics: u32,
-    privates: u32,
-    made: &[Gate<F>],
-    asserts: &[Node],
-) -> Result<Circuit<F>, LevelError>
-    requires publics { publics ≤ 65535 }
-    requires privates { privates ≤ 65536 }
-    requires few { publics + privates + length made.now ≤ 2147483648 }
-    requires gates { AreGates (publics + privates) made.now }
+fn laid_out<F: Field>(builder: &Builder<F>, asserts: &[Node]) -> Result<Circuit<F>, LevelError>
     requires some { 1 ≤ length asserts.now }
     requires asserts { length asserts.now ≤ 131072 }
-    requires nodes { (i : ℕ) → i < length asserts.now → IsNode (publics + privates + length made.now) (at asserts.now i) }
+    requires nodes { (i : ℕ) → i < length asserts.now → IsNode (node_count builder.now) (at asserts.now i) }
     ensures version { IfOk result (λ c. c.version ≡ 2) }
-    ensures publics { IfOk result (λ c. c.publics ≡ publics) }
-    ensures privates { IfOk result (λ c. c.privates ≡ privates) }
-    ensures layers { IfOk result (λ c. length c.layers ≡ layer_count (nodes_from publics privates made.now) asserts.now) }
+    ensures publics { IfOk result (λ c. c.publics ≡ builder.now.publics) }
+    ensures privates { IfOk result (λ c. c.privates ≡ builder.now.privates) }
+    ensures layers { IfOk result (λ c. length c.layers ≡ layer_count builder.now asserts.now) }
     ensures count { IfOk result (λ c. check_count F.coding.number c.layers ≡ length asserts.now) }
-    ensures checks { IfOk result (HasChecks F.ops F.coding.number (nodes_from publics privates made.now) asserts.now) }
-    ensures outputs { IfOk result (HasFewOutputs (nodes_from publics privates made.now) asserts.now) }
+    ensures checks { IfOk result (HasChecks F.ops F.coding.number builder.now asserts.now) }
+    ensures outputs { IfOk result (HasFewOutputs builder.now asserts.now) }
     ensures reduced { IfOk result (λ c. IsReducedAsserting F.ops c.layers) }
-    ensures within { IfOk result (λ _. level_fault_v2 (nodes_from publics privates made.now) asserts.now ≡ None) }
-    ensures fault { IfErr result (IsFaultOf (level_fault_v2 (nodes_from publics privates made.now) asserts.now)) }
+    ensures within { IfOk result (λ _. level_fault_v2 builder.now asserts.now ≡ None) }
+    ensures fault { IfErr result (IsFaultOf (level_fault_v2 builder.now asserts.now)) }
 {
-    let (depths, count) = measured(
-        alloc,
-        publics,
-        privates,
-        made,
+    let (depths, count) = measured(builder, asserts, asserts.len() as u32)?;
+    let inputs = 1 + builder.publics + builder.privates;
+    let layers = asserting_layers(
+        builder.alloc,
+        inputs,
+        &builder.made,
+        &depths,
         asserts,
-        asserts.len() as u32,
+        count,
     )?;
-    let inputs = 1 + publics + privates;
-    let layers = asserting_layers(alloc, inputs, made, &depths, asserts, count)?;
-    Ok(circuit_of(publics, privates, layers))
+    Ok(circuit_of(builder.publics, builder.privates, layers))
 }
 
 impl<F: Field> Builder<F> {
@@ -177,6 +170,6 @@ impl<F: Field> Builder<F> {
         ensures within { IfOk result (λ _. level_fault_v2 self asserts.now ≡ None) }
         ensures fault { IfErr result (IsFaultOf (level_fault_v2 self asserts.now)) }
     {
-        laid_out(self.alloc, self.publics, self.privates, &self.made, asserts)
+        laid_out(&self, asserts)
     }
 }

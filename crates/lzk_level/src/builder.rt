@@ -26,8 +26,11 @@ impl<F: Field> Model for Builder<F> {
 
     ghost view = { λ b. record { publics = b.publics; privates = b.privates; made = b.made.items } };
 
-    ghost invariant = { λ b. (b.publics ≤ 65535) × (b.privates ≤ 65536) × (b.publics + b.privates + length b.made.items ≤ 2147483648) ×
-        AreGates (b.publics + b.privates) b.made.items };
+    ghost invariant = { λ b.
+        (b.publics ≤ 65535)
+        × (b.privates ≤ 65536)
+        × (b.publics + b.privates + length b.made.items ≤ 2147483648)
+        × AreGates (b.publics + b.privates) b.made.items };
 }
 
 impl<F: Field> Builder<F> {

@@ -34,8 +34,10 @@ fn define<F: Field>(
     requires inputs { IsWithin builder.old.publics builder.old.privates (expr_of expr.now) }
     requires lets { AreOperands (node_count builder.old) lets.now }
     requires room { node_count builder.old + size_of (expr_of expr.now) ≤ 2147483648 }
-    ensures nodes { IfOk result (λ _. builder.new ≡ let_nodes (scope F.ops F.coding.element lets.now) builder.old (expr_of expr.now)) }
-    ensures operand { IfOk result (λ operand. operand ≡ let_operand (scope F.ops F.coding.element lets.now) builder.old (expr_of expr.now)) }
+    ensures nodes { IfOk result
+        (λ _. builder.new ≡ let_nodes (scope F.ops F.coding.element lets.now) builder.old (expr_of expr.now)) }
+    ensures operand { IfOk result
+        (λ operand. operand ≡ let_operand (scope F.ops F.coding.element lets.now) builder.old (expr_of expr.now)) }
 {
     match constant(lets, expr) {
         Some(c) => Ok(Operand::Constant(c)),
@@ -55,9 +57,14 @@ fn subtract<F: Field>(
     requires right { IsWithin builder.old.publics builder.old.privates (expr_of right.now) }
     requires lets { AreOperands (node_count builder.old) lets.now }
     requires room { node_count builder.old + 1 + size_of (expr_of left.now) + size_of (expr_of right.now) ≤ 2147483648 }
-    ensures nodes { IfOk result (λ _. builder.new ≡ (made_assert (scope F.ops F.coding.element lets.now) builder.old (expr_of left.now)
+    ensures nodes { IfOk result (λ _.
+        builder.new
+        ≡ (made_assert (scope F.ops F.coding.element lets.now) builder.old (expr_of left.now)
         (expr_of right.now)).nodes) }
-    ensures node { IfOk result (λ node. node ≡ (made_assert (scope F.ops F.coding.element lets.now) builder.old (expr_of left.now) (expr_of right.now)).node) }
+    ensures node { IfOk result (λ node.
+        node
+        ≡ (made_assert (scope F.ops F.coding.element lets.now) builder.old (expr_of left.now)
+        (expr_of right.now)).node) }
 {
     let x = make(alloc, builder, lets, left)?;
     let y = make(alloc, builder, lets, right)?;
@@ -77,10 +84,13 @@ fn take_statement<F: Field>(
     requires inputs { IsStatementWithin builder.old.publics builder.old.privates (statement_of statement.now) }
     requires lets { AreOperands (node_count builder.old) lets.old.items }
     requires room { node_count builder.old + statement_size (statement_of statement.now) ≤ 2147483648 }
-    ensures nodes { OnOk result (builder.new ≡ statement_nodes (scope F.ops F.coding.element lets.old.items) builder.old (statement_of statement.now)) }
-    ensures lets { OnOk result (lets.new.items ≡ lets.old.items ++ statement_lets (scope F.ops F.coding.element lets.old.items) builder.old
-        (statement_of statement.now)) }
-    ensures outputs { OnOk result (outputs.new.items ≡ outputs.old.items ++ statement_outputs (scope F.ops F.coding.element lets.old.items) builder.old
+    ensures nodes { OnOk result (builder.new
+        ≡ statement_nodes (scope F.ops F.coding.element lets.old.items) builder.old (statement_of statement.now)) }
+    ensures lets { OnOk result (lets.new.items
+        ≡ lets.old.items
+        ++ statement_lets (scope F.ops F.coding.element lets.old.items) builder.old (statement_of statement.now)) }
+    ensures outputs { OnOk result (outputs.new.items
+        ≡ outputs.old.items ++ statement_outputs (scope F.ops F.coding.element lets.old.items) builder.old
         (statement_of statement.now)) }
 {
     match statement {
@@ -108,8 +118,10 @@ pub fn build<F: Field>(
     requires publics { publics ≡ count_by is_public (statements_of statements.now) }
     requires privates { privates ≡ count_by is_private (statements_of statements.now) }
     requires compilable { IsCompilable (statements_of statements.now) }
-    ensures nodes { IfOk result (λ built. built.0 ≡ (nodes_of F.ops F.coding.element (statements_of statements.now)).nodes) }
-    ensures outputs { IfOk result (λ built. built.1.items ≡ (nodes_of F.ops F.coding.element (statements_of statements.now)).outputs) }
+    ensures nodes { IfOk result
+        (λ built. built.0 ≡ (nodes_of F.ops F.coding.element (statements_of statements.now)).nodes) }
+    ensures outputs { IfOk result
+        (λ built. built.1.items ≡ (nodes_of F.ops F.coding.element (statements_of statements.now)).outputs) }
 {
     let mut builder = Builder::new(alloc, publics, privates)?;
     let mut lets = Vec::new(alloc);
@@ -133,11 +145,14 @@ fn compile_over<F: Field>(
     ensures version { IfOk result (λ c. c.version ≡ 1) }
     ensures publics { IfOk result (λ c. c.publics ≡ publics) }
     ensures privates { IfOk result (λ c. c.privates ≡ privates) }
-    ensures layers { IfOk result (λ c. length c.layers ≡ layers_needed (nodes_of F.ops F.coding.element (statements_of statements.now))) }
+    ensures layers { IfOk result
+        (λ c. length c.layers ≡ layers_needed (nodes_of F.ops F.coding.element (statements_of statements.now))) }
     ensures outputs { IfOk result (HasValues F.ops F.coding.element (statements_of statements.now)) }
     ensures reduced { IfOk result (λ c. IsReduced F.ops c.layers) }
-    ensures within { IfOk result (λ _. limit_passed (nodes_of F.ops F.coding.element (statements_of statements.now)) ≡ None) }
-    ensures fault { IfErr result (IsFaultOf (limit_passed (nodes_of F.ops F.coding.element (statements_of statements.now)))) }
+    ensures within { IfOk result
+        (λ _. limit_passed (nodes_of F.ops F.coding.element (statements_of statements.now)) ≡ None) }
+    ensures fault { IfErr result
+        (IsFaultOf (limit_passed (nodes_of F.ops F.coding.element (statements_of statements.now)))) }
 {
     let (builder, outputs) = build::<F>(alloc, publics, privates, statements)?;
     builder.finish(&outputs)
@@ -167,14 +182,17 @@ pub fn compile(alloc: Global, source: &Source) -> Result<AnyCircuit, LevelError>
     }
 }
 
-/// The nodes and outputs of a source that has no other use: it is dropped, and the levels may be laid out in its memory.
+/// The nodes and outputs of a source that has no other use: it is dropped, and the levels may be laid out in its
+/// memory.
 pub fn build_dropping<F: Field>(
     alloc: Global,
     source: Source,
 ) -> Result<(Builder<F>, Vec<Node>), AllocError>
     ensures compilable { IsCompilable (statements_of source.statements) }
-    ensures nodes { IfOk result (λ built. built.0 ≡ (nodes_of F.ops F.coding.element (statements_of source.statements)).nodes) }
-    ensures outputs { IfOk result (λ built. built.1.items ≡ (nodes_of F.ops F.coding.element (statements_of source.statements)).outputs) }
+    ensures nodes { IfOk result
+        (λ built. built.0 ≡ (nodes_of F.ops F.coding.element (statements_of source.statements)).nodes) }
+    ensures outputs { IfOk result
+        (λ built. built.1.items ≡ (nodes_of F.ops F.coding.element (statements_of source.statements)).outputs) }
 {
     let publics = source.publics();
     let privates = source.privates();
@@ -189,11 +207,14 @@ fn compile_dropping<F: Field>(alloc: Global, source: Source) -> Result<Circuit<F
     ensures version { IfOk result (λ c. c.version ≡ 1) }
     ensures publics { IfOk result (λ c. c.publics ≡ count_by is_public (statements_of source.statements)) }
     ensures privates { IfOk result (λ c. c.privates ≡ count_by is_private (statements_of source.statements)) }
-    ensures layers { IfOk result (λ c. length c.layers ≡ layers_needed (nodes_of F.ops F.coding.element (statements_of source.statements))) }
+    ensures layers { IfOk result
+        (λ c. length c.layers ≡ layers_needed (nodes_of F.ops F.coding.element (statements_of source.statements))) }
     ensures outputs { IfOk result (HasValues F.ops F.coding.element (statements_of source.statements)) }
     ensures reduced { IfOk result (λ c. IsReduced F.ops c.layers) }
-    ensures within { IfOk result (λ _. limit_passed (nodes_of F.ops F.coding.element (statements_of source.statements)) ≡ None) }
-    ensures fault { IfErr result (IsFaultOf (limit_passed (nodes_of F.ops F.coding.element (statements_of source.statements)))) }
+    ensures within { IfOk result
+        (λ _. limit_passed (nodes_of F.ops F.coding.element (statements_of source.statements)) ≡ None) }
+    ensures fault { IfErr result
+        (IsFaultOf (limit_passed (nodes_of F.ops F.coding.element (statements_of source.statements)))) }
 {
     let (builder, outputs) = build_dropping::<F>(alloc, source)?;
     builder.finish(&outputs)

@@ -32,13 +32,17 @@ fn compile_over<F: Field>(
     ensures version { IfOk result (λ c. c.version ≡ 2) }
     ensures publics { IfOk result (λ c. c.publics ≡ publics) }
     ensures privates { IfOk result (λ c. c.privates ≡ privates) }
-    ensures layers { IfOk result (λ c. length c.layers ≡ layers_needed (nodes_of F.ops F.coding.element (statements_of statements.now))) }
+    ensures layers { IfOk result
+        (λ c. length c.layers ≡ layers_needed (nodes_of F.ops F.coding.element (statements_of statements.now))) }
     ensures count { IfOk result (HasAsManyChecks F.coding.number (statements_of statements.now)) }
-    ensures checks { IfOk result (HasCheckedValues F.ops F.coding.number F.coding.element (statements_of statements.now)) }
+    ensures checks { IfOk result
+        (HasCheckedValues F.ops F.coding.number F.coding.element (statements_of statements.now)) }
     ensures outputs { IfOk result (HasFewMade (nodes_of F.ops F.coding.element (statements_of statements.now))) }
     ensures reduced { IfOk result (λ c. IsReducedAsserting F.ops c.layers) }
-    ensures within { IfOk result (λ _. limit_passed_v2 (nodes_of F.ops F.coding.element (statements_of statements.now)) ≡ None) }
-    ensures fault { IfErr result (IsFaultOf (limit_passed_v2 (nodes_of F.ops F.coding.element (statements_of statements.now)))) }
+    ensures within { IfOk result
+        (λ _. limit_passed_v2 (nodes_of F.ops F.coding.element (statements_of statements.now)) ≡ None) }
+    ensures fault { IfErr result
+        (IsFaultOf (limit_passed_v2 (nodes_of F.ops F.coding.element (statements_of statements.now)))) }
 {
     let (builder, asserts) = build::<F>(alloc, publics, privates, statements)?;
     builder.finish_v2(&asserts)
@@ -74,13 +78,17 @@ fn compile_dropping<F: Field>(alloc: Global, source: Source) -> Result<Circuit<F
     ensures version { IfOk result (λ c. c.version ≡ 2) }
     ensures publics { IfOk result (λ c. c.publics ≡ count_by is_public (statements_of source.statements)) }
     ensures privates { IfOk result (λ c. c.privates ≡ count_by is_private (statements_of source.statements)) }
-    ensures layers { IfOk result (λ c. length c.layers ≡ layers_needed (nodes_of F.ops F.coding.element (statements_of source.statements))) }
+    ensures layers { IfOk result
+        (λ c. length c.layers ≡ layers_needed (nodes_of F.ops F.coding.element (statements_of source.statements))) }
     ensures count { IfOk result (HasAsManyChecks F.coding.number (statements_of source.statements)) }
-    ensures checks { IfOk result (HasCheckedValues F.ops F.coding.number F.coding.element (statements_of source.statements)) }
+    ensures checks { IfOk result
+        (HasCheckedValues F.ops F.coding.number F.coding.element (statements_of source.statements)) }
     ensures outputs { IfOk result (HasFewMade (nodes_of F.ops F.coding.element (statements_of source.statements))) }
     ensures reduced { IfOk result (λ c. IsReducedAsserting F.ops c.layers) }
-    ensures within { IfOk result (λ _. limit_passed_v2 (nodes_of F.ops F.coding.element (statements_of source.statements)) ≡ None) }
-    ensures fault { IfErr result (IsFaultOf (limit_passed_v2 (nodes_of F.ops F.coding.element (statements_of source.statements)))) }
+    ensures within { IfOk result
+        (λ _. limit_passed_v2 (nodes_of F.ops F.coding.element (statements_of source.statements)) ≡ None) }
+    ensures fault { IfErr result
+        (IsFaultOf (limit_passed_v2 (nodes_of F.ops F.coding.element (statements_of source.statements)))) }
 {
     let (builder, asserts) = build_dropping::<F>(alloc, source)?;
     builder.finish_v2(&asserts)

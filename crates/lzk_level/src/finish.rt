@@ -1,19 +1,18 @@
 //! Circuits of nodes.
 
-ghost use Rattle.std.specs.Prelude.{◌≡◌, ℕ, ◌+◌, ◌-◌, ◌*◌, ◌<◌, ◌≤◌, None, List, length, map, reverse, IfOk, IfErr};
-ghost use Rattle.lzk_field.specs.Sums.{entry};
-ghost use Rattle.lzk_circuit.specs.Valid.{AreLayers, wiring, under_of};
-ghost use Rattle.lzk_circuit.specs.Wires.{wires_of};
-ghost use Rattle.lzk_reduce.specs.Reduced.{HaveOnes, IsReduced};
-ghost use Rattle.lzk_level.specs.Nodes.{AreGates, IsNode, node_count, nodes_from};
+ghost use Rattle.std.specs.Prelude.{◌≡◌, ℕ, ◌+◌, ◌<◌, ◌≤◌, None, length, IfOk, IfErr};
+ghost use Rattle.lzk_circuit.specs.Valid.{AreLayers, wiring};
+ghost use Rattle.lzk_reduce.specs.Reduced.{IsReduced};
+ghost use Rattle.lzk_level.specs.Nodes.{IsNode, node_count};
 ghost use Rattle.lzk_reduce.specs.Renumbering.{at};
-ghost use Rattle.lzk_level.specs.Bounds.{total, layer_count, level_fault, level_fault_with, node_depths, IsLevelError, IsFaultOf};
+ghost use Rattle.lzk_level.specs.Bounds.{layer_count, level_fault, level_fault_with, node_depths, IsLevelError, IsFaultOf};
 ghost use Rattle.lzk_level.specs.Meanings.{HasOutputs};
-ghost use Rattle.lzk_level.specs.Levels.{AreDepths, AreLast, AreWeights, AreValues, Begins, StandBelow, HaveWidthsBelow};
-ghost use Rattle.lzk_reduce.specs.Targets.{AreAllTerms};
+ghost use Rattle.lzk_level.specs.Levels.{IsGraph};
+ghost use Rattle.lzk_level.specs.Stacking.{AreOutputs, AreNeededTo, AreStacked, HaveStack};
 
 use crate::builder::Builder;
 use crate::fault::LevelError;
+use crate::graph::Graph;
 use crate::last::last_levels;
 use crate::levels::{level_rows, places};
 use crate::measure::{check_limits, depths_of, weights_of};
@@ -29,55 +28,24 @@ use std::alloc::{AllocError, Global};
 /// depth on, as far as a level above needs it.
 pub fn stacked_levels<F: Field>(
     alloc: Global,
-    made: &[Gate<F>],
-    depths: &[u32],
-    last: &[u32],
+    graph: &Graph<'_, F>,
     outputs: &[Node],
     count: u32,
 ) -> Result<Vec<Layer<F>>, AllocError>
-    requires some { 1 ≤ count }
-    requires few { length depths.now ≤ 131072 }
-    requires inputs { 1 + length made.now ≤ length depths.now }
-    requires gates { AreGates (length depths.now - length made.now - 1) made.now }
-    requires depths { AreDepths (length depths.now - length made.now) made.now depths.now }
-    requires outputs { length outputs.now ≤ 131072 }
-    requires nodes { (i : ℕ) → i < length outputs.now → at outputs.now i < length depths.now }
-    requires deep { (i : ℕ) → i < length outputs.now → at depths.now (at outputs.now i) ≤ count }
-    requires last { AreLast (length depths.now - length made.now) made.now depths.now last.now }
-    requires high { count ≤ at last.now 0 }
-    requires needed { (i : ℕ) → i < length outputs.now → count ≤ at last.now (at outputs.now i) }
-    ensures count { IfOk result (λ layers. length layers.items ≡ count) }
-    ensures valid { (weights : List ℕ) → AreWeights (length depths.now - length made.now) made.now weights → 1 ≤ length outputs.now →
-        ((i : ℕ) → i < length outputs.now → 1 ≤ at outputs.now i)
-        → count * length depths.now + total weights + total (map (at weights) outputs.now) ≤ 2097152 →
-        IfOk result (λ layers. AreLayers F.ops (length depths.now - length made.now) (reverse layers.items)) }
-    ensures values { (values inputs : List F) → AreValues F.ops (length depths.now - length made.now) made.now values →
-        Begins F.ops (length depths.now - length made.now) values inputs
-        → IfOk result (λ layers. wires_of F.ops (reverse layers.items) inputs ≡ map (entry F.ops values) outputs.now) }
-    ensures ones { IfOk result (λ layers. HaveOnes F.ops (reverse layers.items)) }
-    ensures widths { IfOk result (λ layers. HaveWidthsBelow depths.now last.now (length depths.now - length made.now) (length outputs.now)
-        (reverse layers.items)) }
-    ensures terms { (weights : List ℕ) → AreWeights (length depths.now - length made.now) made.now weights →
-        ((i : ℕ) → i < length outputs.now → 1 ≤ at outputs.now i)
-        → count * length depths.now + total weights + total (map (at weights) outputs.now) ≤ 2097152 →
-        IfOk result (λ layers. AreAllTerms F.ops (length depths.now - length made.now) (reverse layers.items)) }
-    ensures few { (weights : List ℕ) → AreWeights (length depths.now - length made.now) made.now weights →
-        ((i : ℕ) → i < length outputs.now → 1 ≤ at outputs.now i)
-        → count * length depths.now + total weights + total (map (at weights) outputs.now) ≤ 2097152
-        → IfOk result (λ layers. (under_of (length depths.now - length made.now) (reverse layers.items)).terms ≤
-        count * length depths.now + total weights + total (map (at weights) outputs.now)) }
-    ensures stand { (values inputs : List F) → AreValues F.ops (length depths.now - length made.now) made.now values →
-        Begins F.ops (length depths.now - length made.now) values inputs
-        → IfOk result (λ layers. StandBelow F.ops depths.now last.now values inputs (reverse layers.items)) }
+    requires outputs { AreOutputs graph.now.depths.now outputs.now count }
+    requires needed { AreNeededTo graph.now.last.now outputs.now count }
+    ensures { IfOk result (λ layers.
+        AreStacked F.ops graph.now.inputs graph.now.made.now graph.now.depths.now graph.now.last.now count outputs.now
+        layers.items) }
 {
     let mut layers = Vec::new(alloc);
     let mut rows = Rows::new(alloc);
-    let mut below = places(alloc, depths, last, 0)?;
+    let mut below = places(alloc, graph, 0)?;
     for level in 1..count {
-        level_rows(alloc, made, depths, last, level, &below, &mut rows)?;
-        layers.push(inner_layer(alloc, depths, last, level, &rows, &mut below)?)?;
+        level_rows(alloc, graph, level, &below, &mut rows)?;
+        layers.push(inner_layer(alloc, graph, level, &rows, &mut below)?)?;
     }
-    level_rows(alloc, made, depths, last, count, &below, &mut rows)?;
+    level_rows(alloc, graph, count, &below, &mut rows)?;
     layers.push(output_layer(alloc, &rows, outputs)?)?;
     Ok(layers)
 }
@@ -85,57 +53,43 @@ pub fn stacked_levels<F: Field>(
 // The layers for these outputs, the last first.
 fn stacked<F: Field>(
     alloc: Global,
+    inputs: usize,
     made: &[Gate<F>],
     depths: &[u32],
     outputs: &[Node],
     count: u32,
 ) -> Result<Vec<Layer<F>>, AllocError>
-    requires some { 1 ≤ count }
-    requires few { length depths.now ≤ 131072 }
-    requires inputs { 1 + length made.now ≤ length depths.now }
-    requires gates { AreGates (length depths.now - length made.now - 1) made.now }
-    requires depths { AreDepths (length depths.now - length made.now) made.now depths.now }
-    requires outputs { length outputs.now ≤ 131072 }
-    requires nodes { (i : ℕ) → i < length outputs.now → at outputs.now i < length depths.now }
-    requires deep { (i : ℕ) → i < length outputs.now → at depths.now (at outputs.now i) ≤ count }
-    ensures count { IfOk result (λ layers. length layers.items ≡ count) }
-    ensures valid { (weights : List ℕ) → AreWeights (length depths.now - length made.now) made.now weights → 1 ≤ length outputs.now →
-        ((i : ℕ) → i < length outputs.now → 1 ≤ at outputs.now i)
-        → count * length depths.now + total weights + total (map (at weights) outputs.now) ≤ 2097152 →
-        IfOk result (λ layers. AreLayers F.ops (length depths.now - length made.now) (reverse layers.items)) }
-    ensures values { (values inputs : List F) → AreValues F.ops (length depths.now - length made.now) made.now values →
-        Begins F.ops (length depths.now - length made.now) values inputs
-        → IfOk result (λ layers. wires_of F.ops (reverse layers.items) inputs ≡ map (entry F.ops values) outputs.now) }
-    ensures ones { IfOk result (λ layers. HaveOnes F.ops (reverse layers.items)) }
+    requires graph { IsGraph inputs made.now depths.now }
+    requires outputs { AreOutputs depths.now outputs.now count }
+    ensures { IfOk result (λ layers. HaveStack F.ops inputs made.now depths.now count outputs.now layers.items) }
 {
-    let last = last_levels(alloc, made, depths, outputs, count)?;
-    stacked_levels(alloc, made, depths, &last, outputs, count)
+    let last = last_levels(alloc, inputs, made, depths, outputs, count)?;
+    let graph = Graph {
+        inputs,
+        made,
+        depths,
+        last: &last,
+    };
+    stacked_levels(alloc, &graph, outputs, count)
 }
 
 /// The depths of the one and all nodes, and how many layers the outputs need, where they keep the limits with so
 /// many further wires in a layer.
 pub fn measured<F: Field>(
-    alloc: Global,
-    publics: u32,
-    privates: u32,
-    made: &[Gate<F>],
+    builder: &Builder<F>,
     outputs: &[Node],
     further: u32,
 ) -> Result<(Vec<u32>, u32), LevelError>
-    requires publics { publics ≤ 65535 }
-    requires privates { privates ≤ 65536 }
-    requires few { publics + privates + length made.now ≤ 2147483648 }
     requires further { further ≤ 131072 }
-    requires gates { AreGates (publics + privates) made.now }
-    requires nodes { (i : ℕ) → i < length outputs.now → IsNode (publics + privates + length made.now) (at outputs.now i) }
-    ensures depths { IfOk result (λ sizes. sizes.0.items ≡ node_depths (nodes_from publics privates made.now)) }
-    ensures count { IfOk result (λ sizes. sizes.1 ≡ layer_count (nodes_from publics privates made.now) outputs.now) }
-    ensures within { IfOk result (λ _. level_fault_with further (nodes_from publics privates made.now) outputs.now ≡ None) }
-    ensures fault { IfErr result (IsFaultOf (level_fault_with further (nodes_from publics privates made.now) outputs.now)) }
+    requires nodes { (i : ℕ) → i < length outputs.now → IsNode (node_count builder.now) (at outputs.now i) }
+    ensures depths { IfOk result (λ sizes. sizes.0.items ≡ node_depths builder.now) }
+    ensures count { IfOk result (λ sizes. sizes.1 ≡ layer_count builder.now outputs.now) }
+    ensures within { IfOk result (λ _. level_fault_with further builder.now outputs.now ≡ None) }
+    ensures fault { IfErr result (IsFaultOf (level_fault_with further builder.now outputs.now)) }
 {
-    let inputs = publics + privates;
-    let depths = depths_of(alloc, inputs, made)?;
-    let weights = weights_of(alloc, inputs, made)?;
+    let inputs = builder.publics + builder.privates;
+    let depths = depths_of(builder.alloc, inputs, &builder.made)?;
+    let weights = weights_of(builder.alloc, inputs, &builder.made)?;
     match check_limits(&depths, &weights, outputs, further) {
         Ok(count) => Ok((depths, count)),
         Err(fault) => Err(LevelError::Fault(fault)),
@@ -157,34 +111,32 @@ fn circuit_of<F: Field>(publics: u32, privates: u32, layers: Vec<Layer<F>>) -> C
 }
 
 // The reduced circuit whose outputs are these nodes.
-fn laid_out<F: Field>(
-    alloc: Global,
-    publics: u32,
-    privates: u32,
-    made: &[Gate<F>],
-    outputs: &[Node],
-) -> Result<Circuit<F>, LevelError>
-    requires publics { publics ≤ 65535 }
-    requires privates { privates ≤ 65536 }
-    requires few { publics + privates + length made.now ≤ 2147483648 }
-    requires gates { AreGates (publics + privates) made.now }
+fn laid_out<F: Field>(builder: &Builder<F>, outputs: &[Node]) -> Result<Circuit<F>, LevelError>
     requires some { 1 ≤ length outputs.now }
     requires outputs { length outputs.now ≤ 131072 }
-    requires nodes { (i : ℕ) → i < length outputs.now → IsNode (publics + privates + length made.now) (at outputs.now i) }
+    requires nodes { (i : ℕ) → i < length outputs.now → IsNode (node_count builder.now) (at outputs.now i) }
     ensures version { IfOk result (λ c. c.version ≡ 1) }
-    ensures publics { IfOk result (λ c. c.publics ≡ publics) }
-    ensures privates { IfOk result (λ c. c.privates ≡ privates) }
-    ensures layers { IfOk result (λ c. length c.layers ≡ layer_count (nodes_from publics privates made.now) outputs.now) }
-    ensures outputs { IfOk result (HasOutputs F.ops (nodes_from publics privates made.now) outputs.now) }
+    ensures publics { IfOk result (λ c. c.publics ≡ builder.now.publics) }
+    ensures privates { IfOk result (λ c. c.privates ≡ builder.now.privates) }
+    ensures layers { IfOk result (λ c. length c.layers ≡ layer_count builder.now outputs.now) }
+    ensures outputs { IfOk result (HasOutputs F.ops builder.now outputs.now) }
     ensures reduced { IfOk result (λ c. IsReduced F.ops c.layers) }
-    ensures within { IfOk result (λ _. level_fault (nodes_from publics privates made.now) outputs.now ≡ None) }
-    ensures fault { IfErr result (IsLevelError (nodes_from publics privates made.now) outputs.now) }
+    ensures within { IfOk result (λ _. level_fault builder.now outputs.now ≡ None) }
+    ensures fault { IfErr result (IsLevelError builder.now outputs.now) }
 {
-    let (depths, count) = measured(alloc, publics, privates, made, outputs, 0)?;
-    let mut layers = stacked(alloc, made, &depths, outputs, count)?;
+    let (depths, count) = measured(builder, outputs, 0)?;
+    let inputs = 1 + builder.publics + builder.privates;
+    let mut layers = stacked(
+        builder.alloc,
+        inputs as usize,
+        &builder.made,
+        &depths,
+        outputs,
+        count,
+    )?;
     layers.reverse();
-    let layers = reduced(alloc, 1 + publics + privates, &layers)?;
-    Ok(circuit_of(publics, privates, layers))
+    let layers = reduced(builder.alloc, inputs, &layers)?;
+    Ok(circuit_of(builder.publics, builder.privates, layers))
 }
 
 impl<F: Field> Builder<F> {
@@ -204,6 +156,6 @@ impl<F: Field> Builder<F> {
         ensures within { IfOk result (λ _. level_fault self outputs.now ≡ None) }
         ensures fault { IfErr result (IsLevelError self outputs.now) }
     {
-        laid_out(self.alloc, self.publics, self.privates, &self.made, outputs)
+        laid_out(&self, outputs)
     }
 }

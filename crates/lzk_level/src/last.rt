@@ -2,8 +2,9 @@
 
 ghost use Rattle.std.specs.Prelude.{◌≡◌, ℕ, ◌+◌, ◌-◌, ◌<◌, ◌≤◌, min, length, slice_index_or, IfOk};
 ghost use Rattle.lzk_reduce.specs.Renumbering.{at};
-ghost use Rattle.lzk_level.specs.Nodes.{ArePartsOf, IsGate, AreGates};
-ghost use Rattle.lzk_level.specs.Levels.{AreDepths, AreLast, AreNeeded, ArePartsNeeded};
+ghost use Rattle.lzk_level.specs.Nodes.{ArePartsOf, IsGate};
+ghost use Rattle.lzk_level.specs.Stacking.{AreOutputs, AreNeededTo};
+ghost use Rattle.lzk_level.specs.Levels.{IsGraph, AreLast, AreNeeded, ArePartsNeeded};
 
 use crate::node::{Gate, Node};
 use std::alloc::{AllocError, Global};
@@ -81,7 +82,8 @@ fn needed_above(
     ensures nodes { IfOk result (λ last. length last.items ≡ nodes) }
     ensures each { IfOk result (λ last. (k : ℕ) → k < nodes → 1 ≤ at last.items k) }
     ensures one { IfOk result (λ last. count ≤ at last.items 0) }
-    ensures outputs { IfOk result (λ last. (i : ℕ) → i < length outputs.now → count ≤ at last.items (at outputs.now i)) }
+    ensures outputs { IfOk result
+        (λ last. (i : ℕ) → i < length outputs.now → count ≤ at last.items (at outputs.now i)) }
 {
     let mut last = vec![in alloc; 1; nodes]?;
     last[0] = count;
@@ -119,16 +121,15 @@ fn needed_asserts(
 }
 
 // A node that is needed at its depth needs its factors and parts there, since their wires or rows make its own.
-fn need_all<F>(last: &mut Vec<u32>, made: &[Gate<F>], depths: &[u32])
+fn need_all<F>(last: &mut Vec<u32>, inputs: usize, made: &[Gate<F>], depths: &[u32])
     requires count { length last.now.items ≡ length depths.now }
-    requires inputs { 1 + length made.now ≤ length depths.now }
-    requires gates { AreGates (length depths.now - length made.now - 1) made.now }
+    requires graph { IsGraph inputs made.now depths.now }
     ensures count { length last.new.items ≡ length depths.now }
     ensures grown { (k : ℕ) → at last.old.items k ≤ at last.new.items k }
-    ensures served { (i : ℕ) (d : Gate F) → i < length made.now → let k = length depths.now - length made.now + i in
-        at depths.now k ≤ at last.new.items k → AreNeeded last.new.items (at depths.now k) (slice_index_or made.now i d) }
+    ensures served { (i : ℕ) (d : Gate F) → i < length made.now
+        → let k = inputs + i in at depths.now k ≤ at last.new.items k
+        → AreNeeded last.new.items (at depths.now k) (slice_index_or made.now i d) }
 {
-    let inputs = depths.len() - made.len();
     for j in 0..made.len() {
         let i = made.len() - 1 - j;
         need_of(last, inputs + i, &made[i], depths[inputs + i]);
@@ -138,42 +139,41 @@ fn need_all<F>(last: &mut Vec<u32>, made: &[Gate<F>], depths: &[u32])
 /// The last level that needs each node. An output is needed up to the uppermost.
 pub fn last_levels<F>(
     alloc: Global,
+    inputs: usize,
     made: &[Gate<F>],
     depths: &[u32],
     outputs: &[Node],
     count: u32,
 ) -> Result<Vec<u32>, AllocError>
-    requires some { 1 ≤ count }
-    requires inputs { 1 + length made.now ≤ length depths.now }
-    requires gates { AreGates (length depths.now - length made.now - 1) made.now }
-    requires outputs { (i : ℕ) → i < length outputs.now → at outputs.now i < length depths.now }
-    ensures last { IfOk result (λ last. AreLast (length depths.now - length made.now) made.now depths.now last.items) }
-    ensures one { IfOk result (λ last. count ≤ at last.items 0) }
-    ensures outputs { IfOk result (λ last. (i : ℕ) → i < length outputs.now → count ≤ at last.items (at outputs.now i)) }
+    requires graph { IsGraph inputs made.now depths.now }
+    requires outputs { AreOutputs depths.now outputs.now count }
+    ensures last { IfOk result (λ last. AreLast inputs made.now depths.now last.items) }
+    ensures outputs { IfOk result (λ last. AreNeededTo last.items outputs.now count) }
 {
     let mut last = needed_above(alloc, depths.len(), outputs, count)?;
-    need_all(&mut last, made, depths);
+    need_all(&mut last, inputs, made, depths);
     Ok(last)
 }
 
-/// The same for asserted nodes, each of which is needed at the level above its own, or at the uppermost.
+/// The last level that needs each node, where the asserted nodes are needed at the level above their own, or at the
+/// uppermost.
 pub fn last_asserting<F>(
     alloc: Global,
+    inputs: usize,
     made: &[Gate<F>],
     depths: &[u32],
     asserts: &[Node],
     count: u32,
 ) -> Result<Vec<u32>, AllocError>
     requires some { 1 ≤ count }
-    requires inputs { 1 + length made.now ≤ length depths.now }
-    requires gates { AreGates (length depths.now - length made.now - 1) made.now }
+    requires graph { IsGraph inputs made.now depths.now }
     requires asserts { (i : ℕ) → i < length asserts.now → at asserts.now i < length depths.now }
-    ensures last { IfOk result (λ last. AreLast (length depths.now - length made.now) made.now depths.now last.items) }
+    ensures last { IfOk result (λ last. AreLast inputs made.now depths.now last.items) }
     ensures one { IfOk result (λ last. count ≤ at last.items 0) }
     ensures asserts { IfOk result (λ last. (i : ℕ) → i < length asserts.now →
         min count (at depths.now (at asserts.now i) + 1) ≤ at last.items (at asserts.now i)) }
 {
     let mut last = needed_asserts(alloc, depths, asserts, count)?;
-    need_all(&mut last, made, depths);
+    need_all(&mut last, inputs, made, depths);
     Ok(last)
 }

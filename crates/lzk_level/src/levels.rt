@@ -2,14 +2,15 @@
 
 ghost use Rattle.std.specs.Prelude.{◌≡◌, ◌≢◌, ℕ, ◌+◌, ◌-◌, ◌<◌, ◌≤◌, true, false, List, [], ◌∷◌, length, map, IfOk};
 ghost use Rattle.lzk_field.specs.Sums.{entry};
-ghost use Rattle.lzk_level.specs.Nodes.{IsGate, AreGates};
+ghost use Rattle.lzk_level.specs.Nodes.{IsGate};
 ghost use Rattle.lzk_reduce.specs.Renumbering.{at};
-ghost use Rattle.lzk_level.specs.Bounds.{gate_depth, gate_weight};
+ghost use Rattle.lzk_level.specs.Bounds.{gate_weight};
 ghost use Rattle.lzk_reduce.specs.Rows.{IsRow, row_value, ordered};
-ghost use Rattle.lzk_level.specs.Levels.{has_wire, place_in, width_of, row_at, ArePlaces, AreDepths, AreLast};
-ghost use Rattle.lzk_level.specs.Levels.{AreWeights, AreValues, AreRows, AreShort, IsShort, AreFactorsBelow};
-ghost use Rattle.lzk_level.specs.Levels.{HaveValues, Stands, placed_value, StartsWithOne};
+ghost use Rattle.lzk_level.specs.Levels.{has_wire, width_of, ArePlaces, AreRows, AreFactorsBelow, placed_value};
+ghost use Rattle.lzk_level.specs.Levels.{AreWeights, AreValues, AreShort, IsShort, HaveValues, Stands};
+ghost use Rattle.lzk_level.specs.Stacking.{IsNeeded, AreLevelRows};
 
+use crate::graph::Graph;
 use crate::node::Gate;
 use crate::rows::Rows;
 use crate::sums::sum_row;
@@ -19,54 +20,43 @@ use lzk_reduce::add_term;
 use std::alloc::{AllocError, Global};
 
 /// Whether node `k` has a wire in a level: it is no deeper, and a level above needs it.
-pub fn has_wire(depths: &[u32], last: &[u32], level: u32, k: usize) -> bool
-    requires node { k < length depths.now }
-    requires same { length last.now ≡ length depths.now }
-    ensures { result ≡ has_wire depths.now last.now level k }
+pub fn has_wire<F>(graph: &Graph<'_, F>, level: u32, k: usize) -> bool
+    requires node { k < length graph.now.depths.now }
+    ensures { result ≡ has_wire graph.now.depths.now graph.now.last.now level k }
 {
-    depths[k] <= level && level < last[k]
+    graph.depths[k] <= level && level < graph.last[k]
 }
 
 // Whether a level needs the row of node `k`: it is no deeper, and the level or one above needs the node.
-fn is_needed(depths: &[u32], last: &[u32], level: u32, k: usize) -> bool
-    requires node { k < length depths.now }
-    requires same { length last.now ≡ length depths.now }
-    ensures up { result ≡ true → at depths.now k ≤ level }
-    ensures needed { result ≡ true → level ≤ at last.now k }
-    ensures passed { result ≡ false → at depths.now k ≤ level → at last.now k < level }
+fn is_needed<F>(graph: &Graph<'_, F>, level: u32, k: usize) -> bool
+    requires node { k < length graph.now.depths.now }
+    ensures up { result ≡ true → at graph.now.depths.now k ≤ level }
+    ensures needed { result ≡ true → level ≤ at graph.now.last.now k }
+    ensures passed { result ≡ false → at graph.now.depths.now k ≤ level → at graph.now.last.now k < level }
 {
-    depths[k] <= level && level <= last[k]
+    graph.depths[k] <= level && level <= graph.last[k]
 }
 
 // Sets each node's number among those with a wire in a level.
-fn set_places(depths: &[u32], last: &[u32], level: u32, places: &mut [u32])
-    requires few { length depths.now ≤ 131072 }
-    requires same { length last.now ≡ length depths.now }
-    requires room { length places.old ≡ length depths.now }
-    ensures { ArePlaces depths.now last.now level places.new }
+fn set_places<F>(graph: &Graph<'_, F>, level: u32, places: &mut [u32])
+    requires room { length places.old ≡ length graph.now.depths.now }
+    ensures { ArePlaces graph.now.depths.now graph.now.last.now level places.new }
 {
     let mut next = 0;
-    for k in 0..depths.len() {
+    for k in 0..places.len() {
         places[k] = next;
-        if has_wire(depths, last, level, k) {
+        if has_wire(graph, level, k) {
             next += 1;
         }
     }
 }
 
 /// Each node's number among those with a wire in a level.
-pub fn places(
-    alloc: Global,
-    depths: &[u32],
-    last: &[u32],
-    level: u32,
-) -> Result<Vec<u32>, AllocError>
-    requires few { length depths.now ≤ 131072 }
-    requires same { length last.now ≡ length depths.now }
-    ensures { IfOk result (λ places. ArePlaces depths.now last.now level places.items) }
+pub fn places<F>(alloc: Global, graph: &Graph<'_, F>, level: u32) -> Result<Vec<u32>, AllocError>
+    ensures { IfOk result (λ places. ArePlaces graph.now.depths.now graph.now.last.now level places.items) }
 {
-    let mut places = vec![in alloc; 0; depths.len()]?;
-    set_places(depths, last, level, &mut places);
+    let mut places = vec![in alloc; 0; graph.depths.len()]?;
+    set_places(graph, level, &mut places);
     Ok(places)
 }
 
@@ -94,8 +84,10 @@ fn gate_row<F: Field>(
     requires places { length rows.now ≤ length places.now }
     ensures row { (width : ℕ) → 1 ≤ width → AreRows F.ops width rows.now → AreFactorsBelow width places.now gate.now →
         IfOk result (λ _. IsRow F.ops width row.new.items) }
-    ensures value { (below : List F) → entry F.ops below 0 ≡ F.ops.one →
-        IfOk result (λ _. row_value F.ops below row.new.items ≡ placed_value F.ops (map (row_value F.ops below) rows.now) places.now below gate.now) }
+    ensures value { (below : List F) → entry F.ops below 0 ≡ F.ops.one
+        → IfOk result (λ _.
+        row_value F.ops below row.new.items
+        ≡ placed_value F.ops (map (row_value F.ops below) rows.now) places.now below gate.now) }
     ensures short { IfOk result (λ _. length row.new.items ≤ gate_weight (map length rows.now) gate.now) }
 {
     match gate {
@@ -110,78 +102,57 @@ fn gate_row<F: Field>(
     }
 }
 
-// The row of node `k` in a level that needs it, behind those of the nodes before it. A node that is less deep goes
-// on from below.
+// The row of the next node in a level that needs it, behind those of the nodes before it. A node that is less deep
+// goes on from below.
 fn node_row<F: Field>(
     alloc: Global,
-    made: &[Gate<F>],
-    depths: &[u32],
-    last: &[u32],
+    graph: &Graph<'_, F>,
     level: u32,
     below: &[u32],
     rows: &Rows<F>,
     row: &mut Vec<Term<F>>,
 ) -> Result<(), AllocError>
     requires level { 1 ≤ level }
-    requires next { length rows.now < length depths.now }
-    requires up { at depths.now (length rows.now) ≤ level }
-    requires needed { level ≤ at last.now (length rows.now) }
-    requires inputs { 1 + length made.now ≤ length depths.now }
-    requires gates { AreGates (length depths.now - length made.now - 1) made.now }
-    requires depths { AreDepths (length depths.now - length made.now) made.now depths.now }
-    requires last { AreLast (length depths.now - length made.now) made.now depths.now last.now }
-    requires high { level ≤ at last.now 0 }
-    requires places { ArePlaces depths.now last.now (level - 1) below.now }
-    ensures row { AreRows F.ops (width_of depths.now last.now (level - 1)) rows.now →
-        IfOk result (λ _. IsRow F.ops (width_of depths.now last.now (level - 1)) row.new.items) }
-    ensures value { (values wires : List F) → AreValues F.ops (length depths.now - length made.now) made.now values →
-        Stands F.ops depths.now last.now (level - 1) values wires → HaveValues F.ops depths.now last.now level values wires rows.now
-        → IfOk result (λ _. at depths.now (length rows.now) ≤ level → level ≤ at last.now (length rows.now) →
-        row_value F.ops wires row.new.items ≡ entry F.ops values (length rows.now)) }
-    ensures short { (weights : List ℕ) → AreWeights (length depths.now - length made.now) made.now weights → AreShort depths.now level weights rows.now
-        → IfOk result (λ _. IsShort depths.now level weights (length rows.now) (length row.new.items)) }
+    requires high { level ≤ at graph.now.last.now 0 }
+    requires next { IsNeeded graph.now.depths.now graph.now.last.now level (length rows.now) }
+    requires places { ArePlaces graph.now.depths.now graph.now.last.now (level - 1) below.now }
+    ensures row { AreRows F.ops (width_of graph.now.depths.now graph.now.last.now (level - 1)) rows.now →
+        IfOk result (λ _. IsRow F.ops (width_of graph.now.depths.now graph.now.last.now (level - 1)) row.new.items) }
+    ensures value { (values wires : List F) → AreValues F.ops graph.now.inputs graph.now.made.now values →
+        Stands F.ops graph.now.depths.now graph.now.last.now (level - 1) values wires →
+        HaveValues F.ops graph.now.depths.now graph.now.last.now level values wires rows.now →
+        IfOk result (λ _. row_value F.ops wires row.new.items ≡ entry F.ops values (length rows.now)) }
+    ensures short { (weights : List ℕ) → AreWeights graph.now.inputs graph.now.made.now weights →
+        AreShort graph.now.depths.now level weights rows.now →
+        IfOk result (λ _. IsShort graph.now.depths.now level weights (length rows.now) (length row.new.items)) }
     ensures one { length rows.now ≡ 0 → IfOk result (λ _. row.new.items ≡ ordered F.ops.one 0 0 ∷ []) }
 {
     let k = rows.len();
-    if depths[k] < level {
+    if graph.depths[k] < level {
         return fill_single(row, F::one(), 0, below[k]);
     }
-    let inputs = depths.len() - made.len();
-    gate_row(alloc, below, rows, &made[k - inputs], row)
+    gate_row(alloc, below, rows, &graph.made[k - graph.inputs], row)
 }
 
 // Makes the row of the next node, which the level needs.
 fn next_row<F: Field>(
     alloc: Global,
-    made: &[Gate<F>],
-    depths: &[u32],
-    last: &[u32],
+    graph: &Graph<'_, F>,
     level: u32,
     below: &[u32],
     rows: &mut Rows<F>,
     row: &mut Vec<Term<F>>,
 ) -> Result<(), AllocError>
     requires level { 1 ≤ level }
-    requires next { length rows.old < length depths.now }
-    requires up { at depths.now (length rows.old) ≤ level }
-    requires needed { level ≤ at last.now (length rows.old) }
-    requires inputs { 1 + length made.now ≤ length depths.now }
-    requires gates { AreGates (length depths.now - length made.now - 1) made.now }
-    requires depths { AreDepths (length depths.now - length made.now) made.now depths.now }
-    requires last { AreLast (length depths.now - length made.now) made.now depths.now last.now }
-    requires high { level ≤ at last.now 0 }
-    requires places { ArePlaces depths.now last.now (level - 1) below.now }
+    requires high { level ≤ at graph.now.last.now 0 }
+    requires next { IsNeeded graph.now.depths.now graph.now.last.now level (length rows.old) }
+    requires places { ArePlaces graph.now.depths.now graph.now.last.now (level - 1) below.now }
     ensures count { IfOk result (λ _. length rows.new ≡ length rows.old + 1) }
-    ensures row { AreRows F.ops (width_of depths.now last.now (level - 1)) rows.old →
-        IfOk result (λ _. AreRows F.ops (width_of depths.now last.now (level - 1)) rows.new) }
-    ensures value { (values wires : List F) → AreValues F.ops (length depths.now - length made.now) made.now values →
-        Stands F.ops depths.now last.now (level - 1) values wires → HaveValues F.ops depths.now last.now level values wires rows.old
-        → IfOk result (λ _. HaveValues F.ops depths.now last.now level values wires rows.new) }
-    ensures short { (weights : List ℕ) → AreWeights (length depths.now - length made.now) made.now weights → AreShort depths.now level weights rows.old
-        → IfOk result (λ _. AreShort depths.now level weights rows.new) }
-    ensures one { (1 ≤ length rows.old → StartsWithOne F.ops rows.old) → IfOk result (λ _. StartsWithOne F.ops rows.new) }
+    ensures rows { (let are = AreLevelRows F.ops graph.now.inputs graph.now.made.now graph.now.depths.now
+        graph.now.last.now level in
+        are rows.old → IfOk result (λ _. are rows.new)) }
 {
-    node_row(alloc, made, depths, last, level, below, rows, row)?;
+    node_row(alloc, graph, level, below, rows, row)?;
     rows.push(row)
 }
 
@@ -189,35 +160,26 @@ fn next_row<F: Field>(
 /// level from here on needs.
 pub fn level_rows<F: Field>(
     alloc: Global,
-    made: &[Gate<F>],
-    depths: &[u32],
-    last: &[u32],
+    graph: &Graph<'_, F>,
     level: u32,
     below: &[u32],
     rows: &mut Rows<F>,
 ) -> Result<(), AllocError>
     requires level { 1 ≤ level }
-    requires inputs { 1 + length made.now ≤ length depths.now }
-    requires gates { AreGates (length depths.now - length made.now - 1) made.now }
-    requires depths { AreDepths (length depths.now - length made.now) made.now depths.now }
-    requires last { AreLast (length depths.now - length made.now) made.now depths.now last.now }
-    requires high { level ≤ at last.now 0 }
-    requires places { ArePlaces depths.now last.now (level - 1) below.now }
-    ensures count { IfOk result (λ _. length rows.new ≡ length depths.now) }
-    ensures row { IfOk result (λ _. AreRows F.ops (width_of depths.now last.now (level - 1)) rows.new) }
-    ensures value { (values wires : List F) → AreValues F.ops (length depths.now - length made.now) made.now values →
-        Stands F.ops depths.now last.now (level - 1) values wires → IfOk result (λ _. HaveValues F.ops depths.now last.now level values wires rows.new) }
-    ensures short { (weights : List ℕ) → AreWeights (length depths.now - length made.now) made.now weights →
-        IfOk result (λ _. AreShort depths.now level weights rows.new) }
-    ensures one { IfOk result (λ _. StartsWithOne F.ops rows.new) }
+    requires high { level ≤ at graph.now.last.now 0 }
+    requires places { ArePlaces graph.now.depths.now graph.now.last.now (level - 1) below.now }
+    ensures count { IfOk result (λ _. length rows.new ≡ length graph.now.depths.now) }
+    ensures rows { IfOk result (λ _.
+        AreLevelRows F.ops graph.now.inputs graph.now.made.now graph.now.depths.now graph.now.last.now level rows.new) }
 {
     rows.clear();
     let mut row = Vec::new(alloc);
-    for k in 0..depths.len() {
-        if is_needed(depths, last, level, k) {
+    let nodes = graph.depths.len();
+    for k in 0..nodes {
+        if is_needed(graph, level, k) {
             rows.fill_to(k)?;
-            next_row(alloc, made, depths, last, level, below, rows, &mut row)?;
+            next_row(alloc, graph, level, below, rows, &mut row)?;
         }
     }
-    rows.fill_to(depths.len())
+    rows.fill_to(nodes)
 }

@@ -24,6 +24,7 @@ mod compiler_v2;
 mod constants;
 mod fault;
 mod finish;
+mod graph;
 mod last;
 mod lets;
 mod levels;

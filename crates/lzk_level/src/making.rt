@@ -91,8 +91,10 @@ pub fn make<F: Field>(
     requires inputs { IsWithin builder.old.publics builder.old.privates (expr_of expr.now) }
     requires lets { AreOperands (node_count builder.old) lets.now }
     requires room { node_count builder.old + size_of (expr_of expr.now) ≤ 2147483648 }
-    ensures nodes { IfOk result (λ _. builder.new ≡ (made (scope F.ops F.coding.element lets.now) builder.old (expr_of expr.now)).nodes) }
-    ensures node { IfOk result (λ node. node ≡ (made (scope F.ops F.coding.element lets.now) builder.old (expr_of expr.now)).node) }
+    ensures nodes { IfOk result
+        (λ _. builder.new ≡ (made (scope F.ops F.coding.element lets.now) builder.old (expr_of expr.now)).nodes) }
+    ensures node { IfOk result
+        (λ node. node ≡ (made (scope F.ops F.coding.element lets.now) builder.old (expr_of expr.now)).node) }
 {
     match constant(lets, expr) {
         Some(c) => builder.constant(c),
@@ -112,8 +114,10 @@ fn make_free<F: Field>(
     requires free { is_constant (scope F.ops F.coding.element lets.now) (expr_of expr.now) ≡ false }
     requires lets { AreOperands (node_count builder.old) lets.now }
     requires room { node_count builder.old + size_of (expr_of expr.now) ≤ 2147483648 }
-    ensures nodes { IfOk result (λ _. builder.new ≡ (made (scope F.ops F.coding.element lets.now) builder.old (expr_of expr.now)).nodes) }
-    ensures node { IfOk result (λ node. node ≡ (made (scope F.ops F.coding.element lets.now) builder.old (expr_of expr.now)).node) }
+    ensures nodes { IfOk result
+        (λ _. builder.new ≡ (made (scope F.ops F.coding.element lets.now) builder.old (expr_of expr.now)).nodes) }
+    ensures node { IfOk result
+        (λ node. node ≡ (made (scope F.ops F.coding.element lets.now) builder.old (expr_of expr.now)).node) }
 {
     match expr {
         Expr::Number(n) => builder.constant(F::of_word(*n)),
@@ -145,8 +149,10 @@ fn make_parts<F: Field>(
     requires inputs { ArePartsWithin builder.old.publics builder.old.privates (part_list parts.now) }
     requires lets { AreOperands (node_count builder.old) lets.now }
     requires room { node_count builder.old + parts_size (part_list parts.now) ≤ 2147483648 }
-    ensures nodes { IfOk result (λ _. builder.new ≡ (made_parts (scope F.ops F.coding.element lets.now) builder.old (part_list parts.now)).nodes) }
-    ensures parts { IfOk result (λ list. list.items ≡ (made_parts (scope F.ops F.coding.element lets.now) builder.old (part_list parts.now)).parts) }
+    ensures nodes { IfOk result (λ _.
+        builder.new ≡ (made_parts (scope F.ops F.coding.element lets.now) builder.old (part_list parts.now)).nodes) }
+    ensures parts { IfOk result (λ list.
+        list.items ≡ (made_parts (scope F.ops F.coding.element lets.now) builder.old (part_list parts.now)).parts) }
 {
     let mut list = Vec::with_capacity(alloc, parts.len())?;
     for i in 0..parts.len() {
@@ -168,8 +174,11 @@ fn make_factors<F: Field>(
     requires inputs { AreFactorsWithin builder.old.publics builder.old.privates (expr_list factors.now) }
     requires lets { AreOperands (node_count builder.old) lets.now }
     requires room { node_count builder.old + factors_size (expr_list factors.now) ≤ 2147483648 }
-    ensures nodes { IfOk result (λ _. builder.new ≡ (made_factors (scope F.ops F.coding.element lets.now) builder.old None (expr_list factors.now)).nodes) }
-    ensures node { IfOk result (λ node. node ≡ (made_factors (scope F.ops F.coding.element lets.now) builder.old None (expr_list factors.now)).node) }
+    ensures nodes { IfOk result (λ _.
+        builder.new
+        ≡ (made_factors (scope F.ops F.coding.element lets.now) builder.old None (expr_list factors.now)).nodes) }
+    ensures node { IfOk result (λ node.
+        node ≡ (made_factors (scope F.ops F.coding.element lets.now) builder.old None (expr_list factors.now)).node) }
 {
     let mut product = None;
     for i in 0..factors.len() {
@@ -191,8 +200,10 @@ fn make_factor<F: Field>(
     requires lets { AreOperands (node_count builder.old) lets.now }
     requires before { IsNodeOrNone (node_count builder.old) before }
     requires room { node_count builder.old + 1 + size_of (expr_of expr.now) ≤ 2147483648 }
-    ensures nodes { IfOk result (λ _. let s = scope F.ops F.coding.element lets.now in
-        builder.new ≡ (factored s builder.old before (expr_of expr.now) (made s builder.old (expr_of expr.now))).nodes) }
+    ensures nodes { IfOk result (λ _.
+        let s = scope F.ops F.coding.element lets.now in
+        builder.new
+        ≡ (factored s builder.old before (expr_of expr.now) (made s builder.old (expr_of expr.now))).nodes) }
     ensures node { IfOk result (λ node. let s = scope F.ops F.coding.element lets.now in
         node ≡ (factored s builder.old before (expr_of expr.now) (made s builder.old (expr_of expr.now))).node) }
 {

@@ -87,7 +87,8 @@ pub fn depths_of<F>(alloc: Global, inputs: u32, made: &[Gate<F>]) -> Result<Vec<
 pub fn weights_of<F>(alloc: Global, inputs: u32, made: &[Gate<F>]) -> Result<Vec<u64>, AllocError>
     requires few { inputs + length made.now ≤ 2147483648 }
     requires gates { AreGates inputs made.now }
-    ensures { IfOk result (λ weights. weights.items ≡ map (min (2 ^ 64 - 1)) (after gate_weight (0 ∷ replicate inputs 1) made.now)) }
+    ensures { IfOk result
+        (λ weights. weights.items ≡ map (min (2 ^ 64 - 1)) (after gate_weight (0 ∷ replicate inputs 1) made.now)) }
 {
     let mut weights = vec![in alloc; 1; 1 + inputs as usize]?;
     weights[0] = 0;
@@ -160,11 +161,11 @@ pub fn check_limits(
     requires few { length depths.now + further ≤ 2147614721 }
     requires same { length weights.now ≡ length depths.now }
     requires nodes { (i : ℕ) → i < length outputs.now → at outputs.now i < length depths.now }
-    ensures { (all : List ℕ) → weights.now ≡ map (min (2 ^ 64 - 1)) all → (let layers = greatest 1 (map (at depths.now) outputs.now) in
+    ensures { (all : List ℕ) → weights.now ≡ map (min (2 ^ 64 - 1)) all
+        → (let layers = greatest 1 (map (at depths.now) outputs.now) in
         let wires = length depths.now + further in
         let terms = layers * wires + total all + total (map (at all) outputs.now) in
-        MatchResult result
-        (λ count. (count ≡ layers) × (limit_fault layers wires terms ≡ None))
+        MatchResult result (λ count. (count ≡ layers) × (limit_fault layers wires terms ≡ None))
         (λ fault. limit_fault layers wires terms ≡ Some fault)) }
 {
     let layers = layers_of(depths, outputs);

@@ -24,7 +24,8 @@ fn part_row<F: Field>(
     node: Node,
 ) -> Result<Vec<Term<F>>, AllocError>
     requires { node < length rows.now }
-    ensures row { (width : ℕ) → IsRow F.ops width (row_at rows.now node) → IfOk result (λ row. IsRow F.ops width row.items) }
+    ensures row { (width : ℕ) → IsRow F.ops width (row_at rows.now node)
+        → IfOk result (λ row. IsRow F.ops width row.items) }
     ensures value { (below : List F) → IfOk result (λ row. row_value F.ops below row.items ≡
         F.ops.times factor (row_value F.ops below (row_at rows.now node))) }
     ensures short { IfOk result (λ row. length row.items ≤ length (row_at rows.now node)) }
@@ -49,7 +50,8 @@ fn are_few<F: Field>(rows: &Rows<F>, parts: &[(F, Node)]) -> bool
 
 // Adds a multiple of a part's row to a row.
 fn add_part<F: Field>(row: &mut Vec<Term<F>>, factor: F, part: &[Term<F>]) -> Result<(), AllocError>
-    ensures row { (width : ℕ) → IsRow F.ops width row.old.items → IsRow F.ops width part.now → IfOk result (λ _. IsRow F.ops width row.new.items) }
+    ensures row { (width : ℕ) → IsRow F.ops width row.old.items → IsRow F.ops width part.now
+        → IfOk result (λ _. IsRow F.ops width row.new.items) }
     ensures value { (below : List F) → IfOk result (λ _. row_value F.ops below row.new.items ≡
         F.ops.plus (row_value F.ops below row.old.items) (F.ops.times factor (row_value F.ops below part.now))) }
     ensures short { IfOk result (λ _. length row.new.items ≤ length row.old.items + length part.now) }
@@ -92,7 +94,9 @@ fn combined<F: Field>(
     requires nodes { ArePartsOf (length rows.now - 1) parts.now }
     ensures row { (width : ℕ) → ((k : ℕ) → 1 ≤ k → k < length rows.now → IsRow F.ops width (row_at rows.now k)) →
         IfOk result (λ row. IsRow F.ops width row.items) }
-    ensures value { (below : List F) → IfOk result (λ row. row_value F.ops below row.items ≡ combined F.ops (map (row_value F.ops below) rows.now) parts.now) }
+    ensures value { (below : List F)
+        → IfOk result
+        (λ row. row_value F.ops below row.items ≡ combined F.ops (map (row_value F.ops below) rows.now) parts.now) }
     ensures short { IfOk result (λ row. length row.items ≤ total (at_parts (map length rows.now) parts.now)) }
 {
     if are_few(rows, parts) {

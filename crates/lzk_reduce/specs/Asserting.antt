@@ -14,7 +14,8 @@ AreUsedWith above ws layer = (g : ℕ) → 1 ≤ g → g < layer.wires → IsNam
 -- the first list is that of the layer above these
 abbrev pub AreUsedUnderWith : {A : Type 0} → Layer A → List (List ℕ) → List (Layer A) → Type 0
 AreUsedUnderWith above ws [] = Unit {0}
-AreUsedUnderWith above ws (layer ∷ layers) = AreUsedWith above (targets_at ws 0) layer × AreUsedUnderWith layer (behind ws) layers
+AreUsedUnderWith above ws (layer ∷ layers) =
+    AreUsedWith above (targets_at ws 0) layer × AreUsedUnderWith layer (behind ws) layers
 
 abbrev pub AreAllUsedWith : {A : Type 0} → List (List ℕ) → List (Layer A) → Type 0
 AreAllUsedWith ws [] = Unit {0}
@@ -28,7 +29,8 @@ pub record IsReducedUnder {A : Type 0} (o : Ops A) (above : Layer A) (ws : List 
 
 abbrev pub AreReducedWithUnder : {A : Type 0} → Ops A → Layer A → List (List ℕ) → List (Layer A) → Type 0
 AreReducedWithUnder o above ws [] = Unit {0}
-AreReducedWithUnder o above ws (layer ∷ layers) = IsReducedUnder o above (targets_at ws 0) layer × AreReducedWithUnder o layer (behind ws) layers
+AreReducedWithUnder o above ws (layer ∷ layers) =
+    IsReducedUnder o above (targets_at ws 0) layer × AreReducedWithUnder o layer (behind ws) layers
 
 -- no inner wire is there twice, or for nothing
 abbrev pub IsReducedWith : {A : Type 0} → Ops A → List (List ℕ) → List (Layer A) → Type 0
@@ -39,15 +41,18 @@ IsReducedWith o ws (layer ∷ layers) = AreReducedWithUnder o layer ws layers
 abbrev pub AreFewer : {A : Type 0} → List (Layer A) → List (Layer A) → Type 0
 AreFewer [] layers = Unit {0}
 AreFewer (x ∷ xs) [] = ⊥
-AreFewer (x ∷ xs) (layer ∷ layers) = (x.wires ≤ layer.wires) × (length x.terms ≤ length layer.terms) × AreFewer xs layers
+AreFewer (x ∷ xs) (layer ∷ layers) =
+    (x.wires ≤ layer.wires) × (length x.terms ≤ length layer.terms) × AreFewer xs layers
 
 -- each layer asserts as many wires
 abbrev pub AreAsMany : {A : Type 0} → List (List ℕ) → List (List ℕ) → List (Layer A) → Type 0
 AreAsMany moved ws [] = Unit {0}
-AreAsMany moved ws (layer ∷ layers) = (length (targets_at moved 0) ≡ length (targets_at ws 0)) × AreAsMany (behind moved) (behind ws) layers
+AreAsMany moved ws (layer ∷ layers) =
+    (length (targets_at moved 0) ≡ length (targets_at ws 0)) × AreAsMany (behind moved) (behind ws) layers
 
 -- layers with the same outputs, that assert the same values, by no more wires and terms
-pub record IsForm {A : Type 0} (o : Ops A) (inputs : ℕ) (ws : List (List ℕ)) (layers : List (Layer A)) (moved : List (List ℕ)) (kept : List (Layer A)) : Type 0 where
+pub record IsForm {A : Type 0} (o : Ops A) (inputs : ℕ) (ws : List (List ℕ)) (layers : List (Layer A))
+    (moved : List (List ℕ)) (kept : List (Layer A)) : Type 0 where
   pub count : length kept ≡ length layers
   pub lists : length moved ≡ length layers
   pub valid : AreLayers o inputs kept

@@ -35,7 +35,8 @@ IsMetWithin (suc n) links g (Some w) = (w ≡ g) ⊎ IsMetWithin n links g (link
 abbrev pub IsMet : List (Option ℕ) → ℕ → Option ℕ → Type 0
 IsMet links g link = (n : ℕ) × IsMetWithin n links g link
 
--- Each wire's terms stand where the starts say, the last wire of a slot is one of the wires, and each link leads to an earlier one.
+-- Each wire's terms stand where the starts say, the last wire of a slot is one of the wires, and each link leads to an
+-- earlier one.
 pub record IsTable {A : Type 0} (kept : KeptWires A) : Type 0 where
   pub starts_count : length kept.starts.items ≡ kept.count + 1
   pub starts_are : (g : ℕ) → g ≤ kept.count → at kept.starts.items g ≡ terms_before g kept.terms.items
@@ -48,5 +49,8 @@ pub record IsTable {A : Type 0} (kept : KeptWires A) : Type 0 where
 -- The terms are those of so many wires, over so many, each wire is met in its slot, and no two have the same places.
 pub record IsKept {A : Type 0} (o : Ops A) (number_of : A → ℕ) (width : ℕ) (kept : KeptWires A) : Type 0 where
   pub terms : AreTerms o kept.count width None kept.terms.items
-  pub met : (g : ℕ) → g < kept.count → IsMet kept.links.items g (link_at kept.heads.items (slot_of (length kept.heads.items) (places_of number_of g kept.terms.items)))
-  pub different : (g h : ℕ) → g < h → h < kept.count → places_of number_of g kept.terms.items ≢ places_of number_of h kept.terms.items
+  pub met : (g : ℕ) → g < kept.count
+      → IsMet kept.links.items g
+      (link_at kept.heads.items (slot_of (length kept.heads.items) (places_of number_of g kept.terms.items)))
+  pub different : (g h : ℕ) → g < h → h < kept.count
+      → places_of number_of g kept.terms.items ≢ places_of number_of h kept.terms.items

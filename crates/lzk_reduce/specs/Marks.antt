@@ -19,4 +19,5 @@ marked_before marks (suc k) = cond (is_marked marks k) 1 0 + marked_before marks
 
 -- each wire's number among the marked ones
 abbrev pub AreMarkedPlaces : List Bool → List ℕ → Type 0
-AreMarkedPlaces marks places = (length places ≡ length marks) × ((k : ℕ) → k < length marks → at places k ≡ marked_before marks k)
+AreMarkedPlaces marks places =
+    (length places ≡ length marks) × ((k : ℕ) → k < length marks → at places k ≡ marked_before marks k)

@@ -78,4 +78,5 @@ output_count (layer ∷ layers) = layer.wires
 
 -- the layers have the same outputs on inputs of so many wires
 abbrev pub AreSameOutputs : {A : Type 0} → Ops A → ℕ → List (Layer A) → List (Layer A) → Type 0
-AreSameOutputs {A = A} o inputs kept layers = (values : List A) → length values ≡ inputs → wires_of o kept values ≡ wires_of o layers values
+AreSameOutputs {A = A} o inputs kept layers =
+    (values : List A) → length values ≡ inputs → wires_of o kept values ≡ wires_of o layers values

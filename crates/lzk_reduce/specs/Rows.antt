@@ -39,9 +39,14 @@ Less s t = (s.a < t.a) ⊎ ((s.a ≡ t.a) × (s.b < t.b))
 abbrev pub added : {A : Type 0} → Ops A → Term A → Term A → Term A
 added o x y = record { g = x.g; a = x.a; b = x.b; coef = o.plus x.coef y.coef }
 
--- a sum of rows grows by the earlier of two terms, or by what they add up to, unless that is zero; so many were taken of the left row and of the right one
+-- a sum of rows grows by the earlier of two terms, or by what they add up to, unless that is zero; so many were taken
+-- of the left row and of the right one
 abbrev pub IsNext : {A : Type 0} → Ops A → Term A → Term A → List (Term A) → List (Term A) → ℕ × ℕ → Type 0
 IsNext o x y old new taken =
     (Less x y × (new ≡ old ++ x ∷ []) × (taken ≡ (1, 0)))
     ⊎ ((Less y x × (new ≡ old ++ y ∷ []) × (taken ≡ (0, 1)))
-    ⊎ ((x.a ≡ y.a) × (x.b ≡ y.b) × (taken ≡ (1, 1)) × (((o.plus x.coef y.coef ≡ o.zero) × (new ≡ old)) ⊎ ((o.plus x.coef y.coef ≢ o.zero) × (new ≡ old ++ added o x y ∷ [])))))
+    ⊎ ((x.a ≡ y.a)
+    × (x.b ≡ y.b)
+    × (taken ≡ (1, 1))
+    × (((o.plus x.coef y.coef ≡ o.zero) × (new ≡ old))
+    ⊎ ((o.plus x.coef y.coef ≢ o.zero) × (new ≡ old ++ added o x y ∷ [])))))

@@ -15,4 +15,6 @@ pub record IsReducedForm {A : Type 0} (o : Ops A) (inputs : ℕ) (layers kept : 
 
 -- layers whose first wires go on from each other have a reduced form
 abbrev pub SomeReduced : {A : Type 0} → Ops A → Type 0
-SomeReduced {A} o = (inputs : ℕ) (layers : List (Layer A)) → 1 ≤ length layers → AreLayers o inputs layers → HaveOnes o layers → (kept : List (Layer A)) × IsReducedForm o inputs layers kept
+SomeReduced {A} o =
+    (inputs : ℕ) (layers : List (Layer A)) → 1 ≤ length layers → AreLayers o inputs layers → HaveOnes o layers
+    → (kept : List (Layer A)) × IsReducedForm o inputs layers kept

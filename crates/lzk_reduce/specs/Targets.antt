@@ -27,12 +27,14 @@ AreBelow width ws = AllByRecursion (λ w. w < width) ws
 -- each layer asserts wires of the layer below it, the last one inputs, of which there are so many
 abbrev pub AreTargets : {A : Type 0} → ℕ → List (List ℕ) → List (Layer A) → Type 0
 AreTargets inputs ws [] = Unit {0}
-AreTargets inputs ws (layer ∷ layers) = AreBelow (under_of inputs layers).width (targets_at ws 0) × AreTargets inputs (behind ws) layers
+AreTargets inputs ws (layer ∷ layers) =
+    AreBelow (under_of inputs layers).width (targets_at ws 0) × AreTargets inputs (behind ws) layers
 
 -- the values of the asserted wires, those of the first layer's first
 abbrev pub target_values : {A : Type 0} → Ops A → List (List ℕ) → List (Layer A) → List A → List A
 target_values o ws [] inputs = []
-target_values o ws (layer ∷ layers) inputs = map (entry o (wires_of o layers inputs)) (targets_at ws 0) ++ target_values o (behind ws) layers inputs
+target_values o ws (layer ∷ layers) inputs =
+    map (entry o (wires_of o layers inputs)) (targets_at ws 0) ++ target_values o (behind ws) layers inputs
 
 -- how many wires the layers assert
 abbrev pub target_count : {A : Type 0} → List (List ℕ) → List (Layer A) → ℕ
@@ -40,10 +42,13 @@ target_count ws [] = 0
 target_count ws (layer ∷ layers) = length (targets_at ws 0) + target_count (behind ws) layers
 
 -- the layers assert wires of the same values, one for one
-abbrev pub AreSameTargets : {A : Type 0} → Ops A → ℕ → List (List ℕ) → List (Layer A) → List (List ℕ) → List (Layer A) → Type 0
-AreSameTargets {A = A} o inputs moved kept ws layers = (values : List A) → length values ≡ inputs → target_values o moved kept values ≡ target_values o ws layers values
+abbrev pub AreSameTargets : {A : Type 0} → Ops A → ℕ → List (List ℕ) → List (Layer A) → List (List ℕ) → List (Layer A)
+    → Type 0
+AreSameTargets {A = A} o inputs moved kept ws layers =
+    (values : List A) → length values ≡ inputs → target_values o moved kept values ≡ target_values o ws layers values
 
 -- the terms of each layer are those of its wires, over the wires below
 abbrev pub AreAllTerms : {A : Type 0} → Ops A → ℕ → List (Layer A) → Type 0
 AreAllTerms o inputs [] = Unit {0}
-AreAllTerms o inputs (layer ∷ layers) = AreTerms o layer.wires (under_of inputs layers).width None layer.terms × AreAllTerms o inputs layers
+AreAllTerms o inputs (layer ∷ layers) =
+    AreTerms o layer.wires (under_of inputs layers).width None layer.terms × AreAllTerms o inputs layers

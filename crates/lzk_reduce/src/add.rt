@@ -50,9 +50,13 @@ fn add_coef<F: Field>(row: &mut Vec<Term<F>>, place: usize, coef: F)
 
 /// Adds `coef` times wires `a` and `b` to a row. The terms behind it are moved, so rows are best made in order.
 pub fn add_term<F: Field>(row: &mut Vec<Term<F>>, coef: F, a: u32, b: u32) -> Result<(), AllocError>
-    ensures row { (width : ℕ) → IsRow F.ops width row.old.items → a < width → b < width → IfOk result (λ _. IsRow F.ops width row.new.items) }
-    ensures value { (below : List F) → IfOk result (λ _. row_value F.ops below row.new.items ≡
-        F.ops.plus (F.ops.times coef (F.ops.times (entry F.ops below a) (entry F.ops below b))) (row_value F.ops below row.old.items)) }
+    ensures row { (width : ℕ) → IsRow F.ops width row.old.items → a < width → b < width
+        → IfOk result (λ _. IsRow F.ops width row.new.items) }
+    ensures value { (below : List F)
+        → IfOk result (λ _.
+        row_value F.ops below row.new.items
+        ≡ F.ops.plus (F.ops.times coef (F.ops.times (entry F.ops below a) (entry F.ops below b)))
+        (row_value F.ops below row.old.items)) }
     ensures short { IfOk result (λ _. length row.new.items ≤ length row.old.items + 1) }
     ensures alone { row.old.items ≡ [] → coef ≢ F.ops.zero → IfOk result (λ _. row.new.items ≡ ordered coef a b ∷ []) }
 {

@@ -32,7 +32,8 @@ pub fn in_order<F: Field>(
     row: &mut Vec<Term<F>>,
 ) -> Result<bool, AllocError>
     requires terms { AreOver (length numbers.now) terms.now }
-    ensures row { (width : ℕ) → AreNumbersBelow width numbers.now → IfOk result (λ found. found ≡ true → IsRow F.ops width row.new.items) }
+    ensures row { (width : ℕ) → AreNumbersBelow width numbers.now
+        → IfOk result (λ found. found ≡ true → IsRow F.ops width row.new.items) }
     ensures exact { IfOk result (λ found. found ≡ true → row.new.items ≡ map (over_numbers numbers.now) terms.now) }
 {
     row.clear();

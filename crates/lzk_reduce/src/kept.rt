@@ -147,8 +147,9 @@ fn found<F: Field>(kept: &KeptWires<F>, row: &[Term<F>], slot: usize) -> Option<
     ensures below { IfSome result (λ g. g < kept.now.count) }
     ensures same { (width : ℕ) → IsKept F.ops F.coding.number width kept.now →
         IfSome result (λ g. places_of F.coding.number g kept.now.terms.items ≡ map (place_of F.coding.number) row.now) }
-    ensures none { (width : ℕ) → IsKept F.ops F.coding.number width kept.now → result ≡ None → (g : ℕ) → g < kept.now.count →
-        places_of F.coding.number g kept.now.terms.items ≢ map (place_of F.coding.number) row.now }
+    ensures none { (width : ℕ) → IsKept F.ops F.coding.number width kept.now → result ≡ None → (g : ℕ)
+        → g < kept.now.count
+        → places_of F.coding.number g kept.now.terms.items ≢ map (place_of F.coding.number) row.now }
 {
     let mut link = kept.heads[slot];
     while let Some(wire) = link {
@@ -173,11 +174,14 @@ fn add_wire<F: Field>(
     ensures wire { IfOk result (λ g. g ≡ kept.old.count) }
     ensures count { IfOk result (λ _. kept.new.count ≡ kept.old.count + 1) }
     ensures table { IfOk result (λ _. IsTable kept.new) }
-    ensures kept { (width : ℕ) → IsKept F.ops F.coding.number width kept.old → IsRow F.ops width row.now →
-        ((g : ℕ) → g < kept.old.count → places_of F.coding.number g kept.old.terms.items ≢ map (place_of F.coding.number) row.now) →
-        IfOk result (λ _. IsKept F.ops F.coding.number width kept.new) }
-    ensures terms { (width : ℕ) → IsKept F.ops F.coding.number width kept.old → IfOk result (λ g. of_wire g kept.new.terms.items ≡ map (placed g) row.now) }
-    ensures before { (i : ℕ) → i < kept.old.count → IfOk result (λ _. of_wire i kept.new.terms.items ≡ of_wire i kept.old.terms.items) }
+    ensures kept { (width : ℕ) → IsKept F.ops F.coding.number width kept.old → IsRow F.ops width row.now
+        → ((g : ℕ) → g < kept.old.count
+        → places_of F.coding.number g kept.old.terms.items ≢ map (place_of F.coding.number) row.now)
+        → IfOk result (λ _. IsKept F.ops F.coding.number width kept.new) }
+    ensures terms { (width : ℕ) → IsKept F.ops F.coding.number width kept.old
+        → IfOk result (λ g. of_wire g kept.new.terms.items ≡ map (placed g) row.now) }
+    ensures before { (i : ℕ) → i < kept.old.count
+        → IfOk result (λ _. of_wire i kept.new.terms.items ≡ of_wire i kept.old.terms.items) }
     ensures short { IfOk result (λ _. length kept.new.terms.items ≡ length kept.old.terms.items + length row.now) }
 {
     let wire = kept.count;
@@ -196,12 +200,15 @@ pub fn wire_of<F: Field>(kept: &mut KeptWires<F>, row: &[Term<F>]) -> Result<u32
     ensures table { IfOk result (λ _. IsTable kept.new) }
     ensures kept { (width : ℕ) → IsKept F.ops F.coding.number width kept.old → IsRow F.ops width row.now →
         IfOk result (λ _. IsKept F.ops F.coding.number width kept.new) }
-    ensures wire { (width : ℕ) → IsKept F.ops F.coding.number width kept.old → IsRow F.ops width row.now → IfOk result (λ g. g < kept.new.count) }
+    ensures wire { (width : ℕ) → IsKept F.ops F.coding.number width kept.old → IsRow F.ops width row.now
+        → IfOk result (λ g. g < kept.new.count) }
     ensures terms { (width : ℕ) → IsKept F.ops F.coding.number width kept.old → IsRow F.ops width row.now →
         IfOk result (λ g. of_wire g kept.new.terms.items ≡ map (placed g) row.now) }
-    ensures before { (width : ℕ) → IsKept F.ops F.coding.number width kept.old → IsRow F.ops width row.now → (i : ℕ) → i < kept.old.count →
-        IfOk result (λ _. of_wire i kept.new.terms.items ≡ of_wire i kept.old.terms.items) }
-    ensures first { (width : ℕ) → IsKept F.ops F.coding.number width kept.old → kept.old.count ≡ 0 → IfOk result (λ g. g ≡ 0) }
+    ensures before { (width : ℕ) → IsKept F.ops F.coding.number width kept.old → IsRow F.ops width row.now → (i : ℕ)
+        → i < kept.old.count
+        → IfOk result (λ _. of_wire i kept.new.terms.items ≡ of_wire i kept.old.terms.items) }
+    ensures first { (width : ℕ) → IsKept F.ops F.coding.number width kept.old → kept.old.count ≡ 0
+        → IfOk result (λ g. g ≡ 0) }
     ensures more { IfOk result (λ _. kept.old.count ≤ kept.new.count) }
     ensures count { IfOk result (λ _. kept.new.count ≤ kept.old.count + 1) }
     ensures short { IfOk result (λ _. length kept.new.terms.items ≤ length kept.old.terms.items + length row.now) }

@@ -57,7 +57,8 @@ pub fn marks_below<F: Field>(
 ) -> Result<Vec<bool>, AllocError>
     requires terms { AreTerms F.ops (length marks.now) width None terms.now }
     ensures count { IfOk result (λ below. length below.items ≡ width) }
-    ensures marks { IfOk result (λ below. (k : ℕ) → k < width → is_marked below.items k ≡ ((k == 0) || names marks.now terms.now k)) }
+    ensures marks { IfOk result
+        (λ below. (k : ℕ) → k < width → is_marked below.items k ≡ ((k == 0) || names marks.now terms.now k)) }
 {
     let mut below = first_marked(alloc, width)?;
     for i in 0..terms.len() {

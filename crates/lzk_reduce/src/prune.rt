@@ -55,7 +55,8 @@ fn marks_with<F: Field>(
 ) -> Result<Vec<bool>, AllocError>
     requires terms { AreTerms F.ops (length marks.now) (under_of inputs layers.now).width None terms.now }
     requires targets { AreBelow (under_of inputs layers.now).width (targets_at targets.now l) }
-    ensures { IfOk result (λ below. below.items ≡ marks_of_under inputs marks.now terms.now (targets_at targets.now l) layers.now) }
+    ensures { IfOk result
+        (λ below. below.items ≡ marks_of_under inputs marks.now terms.now (targets_at targets.now l) layers.now) }
 {
     let mut below = marks_under(alloc, inputs, terms, marks, layers)?;
     mark_targets(&mut below, targets, l);

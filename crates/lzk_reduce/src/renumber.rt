@@ -68,7 +68,8 @@ pub fn renumber<F: Field>(
 /// Where the terms of wire `g` end, which begin at `start`.
 pub fn end_of<F: Field>(terms: &[Term<F>], start: usize, g: u32) -> usize
     requires start { start ≡ terms_before g terms.now }
-    ensures end { (wires width : ℕ) → AreTerms F.ops wires width None terms.now → result ≡ terms_before (g + 1) terms.now }
+    ensures end { (wires width : ℕ) → AreTerms F.ops wires width None terms.now
+        → result ≡ terms_before (g + 1) terms.now }
     ensures after { start ≤ result }
     ensures within { result ≤ length terms.now }
 {
@@ -96,7 +97,8 @@ pub fn wire_row<F: Field>(
     ensures value { (old new : List F) → AreCopies F.ops numbers.now old new →
         IfOk result (λ _. row_value F.ops new row.new.items ≡ row_value F.ops old (of_wire g layer.now.terms)) }
     ensures short { IfOk result (λ end. start + length row.new.items ≤ end) }
-    ensures one { IsOne F.ops (of_wire g layer.now.terms) → at numbers.now 0 ≡ 0 → IfOk result (λ _. IsOne F.ops row.new.items) }
+    ensures one { IsOne F.ops (of_wire g layer.now.terms) → at numbers.now 0 ≡ 0
+        → IfOk result (λ _. IsOne F.ops row.new.items) }
 {
     let terms = layer.terms.as_slice();
     let end = end_of(terms, start, g);
@@ -112,9 +114,13 @@ pub fn moved_layer<F: Field>(
 ) -> Result<Layer<F>, AllocError>
     requires terms { AreTerms F.ops layer.now.wires (length numbers.now) None layer.now.terms }
     ensures wires { IfOk result (λ moved. moved.wires ≡ layer.now.wires) }
-    ensures terms { (width : ℕ) → AreNumbersBelow width numbers.now → IfOk result (λ moved. AreTerms F.ops layer.now.wires width None moved.terms) }
-    ensures values { (old new : List F) → length old ≡ length numbers.now → AreNumbersBelow (length new) numbers.now → AreCopies F.ops numbers.now old new
-        → IfOk result (λ moved. (g : ℕ) → g < layer.now.wires → wire F.ops (coef F.ops moved.terms) new g ≡ wire F.ops (coef F.ops layer.now.terms) old g) }
+    ensures terms { (width : ℕ) → AreNumbersBelow width numbers.now
+        → IfOk result (λ moved. AreTerms F.ops layer.now.wires width None moved.terms) }
+    ensures values { (old new : List F) → length old ≡ length numbers.now → AreNumbersBelow (length new) numbers.now
+        → AreCopies F.ops numbers.now old new
+        → IfOk result (λ moved.
+        (g : ℕ) → g < layer.now.wires
+        → wire F.ops (coef F.ops moved.terms) new g ≡ wire F.ops (coef F.ops layer.now.terms) old g) }
     ensures count { IfOk result (λ moved. length moved.terms ≤ length layer.now.terms) }
 {
     let mut terms = Vec::with_capacity(alloc, layer.terms.as_slice().len())?;

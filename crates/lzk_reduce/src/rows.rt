@@ -25,7 +25,8 @@ pub fn term_of<F: Field>(coef: F, a: u32, b: u32) -> Term<F>
     ensures order { result.a ≤ result.b }
     ensures exact { result ≡ ordered coef a b }
     ensures width { (width : ℕ) → a < width → b < width → result.b < width }
-    ensures value { (below : List F) → term_value F.ops below result ≡ F.ops.times coef (F.ops.times (entry F.ops below a) (entry F.ops below b)) }
+    ensures value { (below : List F)
+        → term_value F.ops below result ≡ F.ops.times coef (F.ops.times (entry F.ops below a) (entry F.ops below b)) }
 {
     if a <= b {
         return Term { g: 0, a, b, coef };
@@ -61,7 +62,9 @@ pub fn scaled<F: Field>(
     row: &[Term<F>],
 ) -> Result<Vec<Term<F>>, AllocError>
     ensures row { (width : ℕ) → IsRow F.ops width row.now → IfOk result (λ multiple. IsRow F.ops width multiple.items) }
-    ensures value { (below : List F) → IfOk result (λ multiple. row_value F.ops below multiple.items ≡ F.ops.times factor (row_value F.ops below row.now)) }
+    ensures value { (below : List F)
+        → IfOk result
+        (λ multiple. row_value F.ops below multiple.items ≡ F.ops.times factor (row_value F.ops below row.now)) }
     ensures short { IfOk result (λ multiple. length multiple.items ≤ length row.now) }
 {
     if is_zero(factor) {
@@ -107,7 +110,8 @@ pub fn merged<F: Field>(
     left: &[Term<F>],
     right: &[Term<F>],
 ) -> Result<Vec<Term<F>>, AllocError>
-    ensures row { (width : ℕ) → IsRow F.ops width left.now → IsRow F.ops width right.now → IfOk result (λ sum. IsRow F.ops width sum.items) }
+    ensures row { (width : ℕ) → IsRow F.ops width left.now → IsRow F.ops width right.now
+        → IfOk result (λ sum. IsRow F.ops width sum.items) }
     ensures value { (below : List F) → IfOk result (λ sum. row_value F.ops below sum.items ≡
         F.ops.plus (row_value F.ops below left.now) (row_value F.ops below right.now)) }
     ensures short { IfOk result (λ sum. length sum.items ≤ length left.now + length right.now) }
@@ -128,10 +132,12 @@ pub fn merged<F: Field>(
 pub fn append<F: Field>(terms: &mut Vec<Term<F>>, g: u32, row: &[Term<F>]) -> Result<(), AllocError>
     ensures terms { (width : ℕ) → AreTerms F.ops g width None terms.old.items → IsRow F.ops width row.now →
         IfOk result (λ _. AreTerms F.ops (g + 1) width None terms.new.items) }
-    ensures before { (below : List F) (i : ℕ) → i < g → IfOk result (λ _. wire F.ops (coef F.ops terms.new.items) below i ≡
-        wire F.ops (coef F.ops terms.old.items) below i) }
-    ensures added { (below : List F) → AreTerms F.ops g (length below) None terms.old.items → IsRow F.ops (length below) row.now →
-        IfOk result (λ _. wire F.ops (coef F.ops terms.new.items) below g ≡ row_value F.ops below row.now) }
+    ensures before { (below : List F) (i : ℕ) → i < g
+        → IfOk result
+        (λ _. wire F.ops (coef F.ops terms.new.items) below i ≡ wire F.ops (coef F.ops terms.old.items) below i) }
+    ensures added { (below : List F) → AreTerms F.ops g (length below) None terms.old.items
+        → IsRow F.ops (length below) row.now
+        → IfOk result (λ _. wire F.ops (coef F.ops terms.new.items) below g ≡ row_value F.ops below row.now) }
     ensures count { IfOk result (λ _. length terms.new.items ≡ length terms.old.items + length row.now) }
     ensures exact { IfOk result (λ _. terms.new.items ≡ terms.old.items ++ map (placed g) row.now) }
 {

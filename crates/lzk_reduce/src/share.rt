@@ -29,9 +29,12 @@ fn shared_layer<F: Field>(
     ensures first { IfOk result (λ shared. at shared.1.items 0 ≡ 0) }
     ensures some { IfOk result (λ shared. 1 ≤ shared.0.wires) }
     ensures wires { IfOk result (λ shared. shared.0.wires ≤ layer.now.wires) }
-    ensures terms { (width : ℕ) → AreNumbersBelow width numbers.now → IfOk result (λ shared. AreTerms F.ops shared.0.wires width None shared.0.terms) }
-    ensures values { (old new : List F) → length old ≡ length numbers.now → AreNumbersBelow (length new) numbers.now → AreCopies F.ops numbers.now old new
-        → IfOk result (λ shared. AreCopies F.ops shared.1.items (layer_values F.ops layer.now old) (layer_values F.ops shared.0 new)) }
+    ensures terms { (width : ℕ) → AreNumbersBelow width numbers.now
+        → IfOk result (λ shared. AreTerms F.ops shared.0.wires width None shared.0.terms) }
+    ensures values { (old new : List F) → length old ≡ length numbers.now → AreNumbersBelow (length new) numbers.now
+        → AreCopies F.ops numbers.now old new
+        → IfOk result (λ shared.
+        AreCopies F.ops shared.1.items (layer_values F.ops layer.now old) (layer_values F.ops shared.0 new)) }
     ensures one { HasOne F.ops layer.now → at numbers.now 0 ≡ 0 → IfOk result (λ shared. HasOne F.ops shared.0) }
     ensures different { IfOk result (λ shared. AreDifferent shared.0) }
     ensures short { IfOk result (λ shared. length shared.0.terms ≤ length layer.now.terms) }

@@ -91,7 +91,8 @@ fn mark_each(marks: &mut Vec<bool>, wires: &[u32])
 pub fn mark_targets(marks: &mut Vec<bool>, targets: &[Targets], l: usize)
     requires { AreBelow (length marks.now.items) (targets_at targets.now l) }
     ensures count { length marks.new.items ≡ length marks.old.items }
-    ensures marks { (k : ℕ) → is_marked marks.new.items k ≡ (is_marked marks.old.items k || is_in (targets_at targets.now l) k) }
+    ensures marks { (k : ℕ)
+        → is_marked marks.new.items k ≡ (is_marked marks.old.items k || is_in (targets_at targets.now l) k) }
 {
     if let Some(own) = targets.get(l) {
         mark_each(marks, own.as_slice());

@@ -4,9 +4,9 @@ use Rattle.lzk_level.proofs.CheckingLaws.{targets-more}
 use Rattle.lzk_level.proofs.asserting.all_targets.Goals as goal
 
 pub loop-l-preserved : goal.loop-l-preserved
-loop-l-preserved c =
-    let depths = c.args.depths.now in
-    let last = c.args.last.now in
+loop-l-preserved g c =
+    let depths = c.args.graph.now.depths.now in
+    let last = c.args.graph.now.last.now in
     let asserts = c.args.asserts.now in
     let old = c.loop-l.targets.items in
     let rest = targets_below depths last asserts (c.args.count - (c.loop-l.l + 1)) in

@@ -1,66 +1,47 @@
-use Rattle.std.proofs.Common.{◌≡◌, ◌∙◌, ap, sym, subst, ℕ, ◌+◌, ◌-◌, ◌<◌, ◌≤◌, min, length, map, arith}
+use Rattle.std.proofs.Common.{◌≡◌, ◌∙◌, ap, sym, subst, ℕ, ◌+◌, ◌<◌, ◌≤◌, min, length, map, arith}
 use Rattle.lzk_reduce.specs.Attached.{IsAssertingForm}
 use Rattle.lzk_reduce.specs.Renumbering.{at}
 use Rattle.std.proofs.lemmas.Result.{IfOk-weaker}
 use Rattle.lzk_level.specs.Checking.{targets_below, AreAsserting}
-use Rattle.lzk_level.specs.Levels.{AreDepths}
 use Rattle.lzk_level.proofs.AssertedLaws.{Laid, laid, laid-asserting, tops}
 use Rattle.lzk_level.proofs.CheckingLaws.{depth-few}
 use Rattle.lzk_level.proofs.FinishLaws.{greatest-some}
-use Rattle.lzk_level.proofs.TowerLaws.{Topped}
 use Rattle.lzk_level.proofs.asserting.asserting_layers.Given.{Over}
-use Rattle.lzk_level.proofs.asserting.asserting_layers.Goals.{After-deref-5}
+use Rattle.lzk_level.proofs.asserting.asserting_layers.Goals.{After-deref-4}
 use Rattle.lzk_level.proofs.asserting.asserting_layers.Goals as goal
 
 pub last_asserting-requires-clause-some : goal.last_asserting-requires-clause-some
 last_asserting-requires-clause-some g c = omega (arith, c.requires.is, greatest-some 1 (map (at c.args.depths.now) c.args.asserts.now))
 
-pub stacked_levels-requires-clause-some : goal.stacked_levels-requires-clause-some
-stacked_levels-requires-clause-some g c κs within = omega (arith, c.requires.is, greatest-some 1 (map (at c.args.depths.now) c.args.asserts.now))
-
-pub stacked_levels-requires-clause-depths : goal.stacked_levels-requires-clause-depths
-stacked_levels-requires-clause-depths g c κs within =
-    let inputs = c.args.inputs in
-    let depths = c.args.depths.now in
-    let made = c.args.made.now in
-    let e : inputs ≡ length depths - length made = omega (arith, c.requires.depths_are.count) in
-    subst (λ n. AreDepths n made depths) e c.requires.depths_are
-
 pub stacked_levels-requires-clause-outputs : goal.stacked_levels-requires-clause-outputs
-stacked_levels-requires-clause-outputs g c κs within = omega (arith, ap length (c.deref-2.ensures.value ∙ c.in_ok-outputs.ensures), depth-few c.args.depths.now c.args.count c.args.asserts.now, c.requires.few)
-
-pub stacked_levels-requires-clause-nodes : goal.stacked_levels-requires-clause-nodes
-stacked_levels-requires-clause-nodes g c κs within i l =
+stacked_levels-requires-clause-outputs g c κs within =
     let depths = c.args.depths.now in
     let asserts = c.args.asserts.now in
     let count = c.args.count in
     let last = c.deref.result.now in
+    let own = c.deref-2.ensures.value ∙ c.in_ok-outputs.ensures in
     let needed = subst (λ ls. (j : ℕ) → j < length asserts → min count (at depths (at asserts j) + 1) ≤ at ls (at asserts j)) (sym c.deref.ensures.value) c.in_ok-last.ensures.asserts in
-    let t = tops g.F.Field.ops c.args.inputs c.args.made.now depths last asserts count c.deref-2.result.now c.requires needed (c.deref-2.ensures.value ∙ c.in_ok-outputs.ensures) i l in
-    t.within
-
-pub stacked_levels-requires-clause-deep : goal.stacked_levels-requires-clause-deep
-stacked_levels-requires-clause-deep g c κs within i l =
-    let depths = c.args.depths.now in
-    let asserts = c.args.asserts.now in
-    let count = c.args.count in
-    let last = c.deref.result.now in
-    let needed = subst (λ ls. (j : ℕ) → j < length asserts → min count (at depths (at asserts j) + 1) ≤ at ls (at asserts j)) (sym c.deref.ensures.value) c.in_ok-last.ensures.asserts in
-    let t = tops g.F.Field.ops c.args.inputs c.args.made.now depths last asserts count c.deref-2.result.now c.requires needed (c.deref-2.ensures.value ∙ c.in_ok-outputs.ensures) i l in
-    omega (arith, t.deep_as)
+    let t = tops g.F.Field.ops c.args.inputs c.args.made.now depths last asserts count c.deref-2.result.now c.requires needed own in
+    record {
+      some = omega (arith, c.requires.is, greatest-some 1 (map (at depths) asserts));
+      few = omega (arith, ap length own, depth-few depths count asserts, c.requires.few);
+      nodes = λ i l. (t i l).within;
+      deep = λ i l. omega (arith, (t i l).deep_as);
+    }
 
 pub stacked_levels-requires-clause-needed : goal.stacked_levels-requires-clause-needed
-stacked_levels-requires-clause-needed g c κs within i l =
+stacked_levels-requires-clause-needed g c κs within =
     let depths = c.args.depths.now in
     let asserts = c.args.asserts.now in
     let count = c.args.count in
     let last = c.deref.result.now in
+    let own = c.deref-2.ensures.value ∙ c.in_ok-outputs.ensures in
     let needed = subst (λ ls. (j : ℕ) → j < length asserts → min count (at depths (at asserts j) + 1) ≤ at ls (at asserts j)) (sym c.deref.ensures.value) c.in_ok-last.ensures.asserts in
-    let t = tops g.F.Field.ops c.args.inputs c.args.made.now depths last asserts count c.deref-2.result.now c.requires needed (c.deref-2.ensures.value ∙ c.in_ok-outputs.ensures) i l in
-    t.needed_there
+    let t = tops g.F.Field.ops c.args.inputs c.args.made.now depths last asserts count c.deref-2.result.now c.requires needed own in
+    record { one = subst (λ ls. count ≤ at ls 0) (sym c.deref.ensures.value) c.in_ok-last.ensures.one; each = λ i l. (t i l).needed_there }
 
 -- the layers are laid as is asked
-are_laid : (g : Over) (c : After-deref-5 g) → Laid g.F.Field.ops c.args.inputs c.args.made.now c.args.depths.now c.deref.result.now c.args.asserts.now c.args.count c.deref-5.result.now c.deref-4.result.now
+are_laid : (g : Over) (c : After-deref-4 g) → Laid g.F.Field.ops c.args.inputs c.args.made.now c.args.depths.now c.deref.result.now c.args.asserts.now c.args.count c.deref-4.result.now c.deref-3.result.now
 are_laid g c =
     let o = g.F.Field.ops in
     let inputs = c.args.inputs in
@@ -69,16 +50,14 @@ are_laid g c =
     let asserts = c.args.asserts.now in
     let count = c.args.count in
     let last = c.deref.result.now in
-    let layers = c.deref-4.result.now in
-    let ws = c.deref-5.result.now in
+    let layers = c.deref-3.result.now in
+    let ws = c.deref-4.result.now in
     let e = c.in_ok-layers.ensures in
     let some : 1 ≤ count = omega (arith, c.requires.is, greatest-some 1 (map (at depths) asserts)) in
     let needed = subst (λ ls. (j : ℕ) → j < length asserts → min count (at depths (at asserts j) + 1) ≤ at ls (at asserts j)) (sym c.deref.ensures.value) c.in_ok-last.ensures.asserts in
-    let width : length depths - length made ≡ inputs = omega (arith, c.requires.depths_are.count) in
-    let stacked : Topped o (length depths - length made) made depths last count c.deref-2.result.now c.in_ok-layers.layers.items = record { count_is = e.count; valid = e.valid; values = e.values; ones = e.ones; widths = e.widths; stand = e.stand; terms = e.terms; few_terms = e.few } in
-    let targets : ws ≡ targets_below depths last asserts count = c.deref-5.ensures.value ∙ c.in_ok-targets.ensures ∙ ap (λ ls. targets_below depths ls asserts count) (c.deref-3.ensures.value ∙ sym c.deref.ensures.value) in
-    laid o inputs made depths last asserts count (length depths - length made) c.deref-2.result.now c.in_ok-layers.layers.items layers ws some c.requires needed width
-    (c.deref-2.ensures.value ∙ c.in_ok-outputs.ensures) stacked (c.deref-4.ensures.value ∙ c.reverse.ensures.items) targets
+    let targets : ws ≡ targets_below depths last asserts count = c.deref-4.ensures.value ∙ c.in_ok-targets.ensures in
+    laid o inputs made depths last asserts count c.deref-2.result.now c.in_ok-layers.layers.items layers ws some c.requires needed
+    (c.deref-2.ensures.value ∙ c.in_ok-outputs.ensures) e (c.deref-3.ensures.value ∙ c.reverse.ensures.items) targets
 
 pub asserting-requires-clause-some : goal.asserting-requires-clause-some
 asserting-requires-clause-some g c κs within = omega (arith, (are_laid g c).long, c.requires.is, greatest-some 1 (map (at c.args.depths.now) c.args.asserts.now))
@@ -116,9 +95,9 @@ returns g c =
     let depths = c.args.depths.now in
     let asserts = c.args.asserts.now in
     let count = c.args.count in
-    let layers = c.deref-4.result.now in
-    let ws = c.deref-5.result.now in
+    let layers = c.deref-3.result.now in
+    let ws = c.deref-4.result.now in
     let some : 1 ≤ count = omega (arith, c.requires.is, greatest-some 1 (map (at depths) asserts)) in
-    let all = are_laid g (goal.at.returns g c).After-deref-5 in
+    let all = are_laid g (goal.at.returns g c).After-deref-4 in
     IfOk-weaker c.asserting.result (λ ls. IsAssertingForm o number inputs ws layers ls.items) (λ ls. AreAsserting o number inputs made depths asserts count ls.items)
-    (λ ls h. laid-asserting o inputs made depths c.deref.result.now asserts number count ws layers ls.items some c.requires.one all h) c.asserting.ensures
+    (λ ls h. laid-asserting o inputs made depths c.deref.result.now asserts number count ws layers ls.items some c.requires.graph.one all h) c.asserting.ensures

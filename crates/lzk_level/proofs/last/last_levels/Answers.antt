@@ -6,10 +6,10 @@ pub returns-clause-last : goal.returns-clause-last
 returns-clause-last g c =
     let e = c.in_ok-last.ensures in
     let v = c.need_all.ensures in
-    record { count = v.count; at_inputs = λ k l. omega (arith, e.each k (omega (arith, l)), v.grown k); gates = v.served }
-
-pub returns-clause-one : goal.returns-clause-one
-returns-clause-one g c = omega (arith, c.in_ok-last.ensures.one, c.need_all.ensures.grown 0)
+    record { count = v.count; at_inputs = λ k l. omega (arith, e.each k (omega (arith, l, c.requires.graph.depths_are.count)), v.grown k); gates = v.served }
 
 pub returns-clause-outputs : goal.returns-clause-outputs
-returns-clause-outputs g c i l = omega (arith, c.in_ok-last.ensures.outputs i l, c.need_all.ensures.grown (at c.args.outputs.now i))
+returns-clause-outputs g c = record {
+  one = omega (arith, c.in_ok-last.ensures.one, c.need_all.ensures.grown 0);
+  each = λ i l. omega (arith, c.in_ok-last.ensures.outputs i l, c.need_all.ensures.grown (at c.args.outputs.now i));
+}

@@ -4,19 +4,19 @@ use Rattle.lzk_level.proofs.last.need_all.Goals as goal
 
 pub loop-j-init : goal.loop-j-init
 loop-j-init g c =
-    let inputs = length c.args.depths.now - length c.args.made.now in
+    let inputs = c.args.inputs in
     (c.requires.count, λ k. omega arith, none-served inputs c.args.made.now c.args.depths.now c.args.last.now.items (length c.args.made.now - 0) (omega arith))
 
 pub need_of-requires-clause-gate : goal.need_of-requires-clause-gate
 need_of-requires-clause-gate g c =
     let made = c.args.made.now in
-    gate-before (length c.args.depths.now - length made) made (length made - 1 - c.loop-j.j) c.index-made-i.result (omega (arith, c.requires.inputs)) (omega (arith, c.loop-j-test.true)) c.index-made-i.is c.requires.gates
+    gate-before c.args.inputs made (length made - 1 - c.loop-j.j) c.index-made-i.result c.requires.graph.one (omega (arith, c.loop-j-test.true)) c.index-made-i.is c.requires.graph.gates
 
 pub loop-j-preserved : goal.loop-j-preserved
 loop-j-preserved g c =
     let depths = c.args.depths.now in
     let made = c.args.made.now in
-    let inputs = length depths - length made in
+    let inputs = c.args.inputs in
     let i = length made - 1 - c.loop-j.j in
     let gate = c.index-made-i.result in
     let old = c.loop-j.last.items in
@@ -34,4 +34,4 @@ pub returns-clause-served : goal.returns-clause-served
 returns-clause-served g c =
     let depths = c.args.depths.now in
     let made = c.args.made.now in
-    all-served (length depths - length made) made depths c.loop-j.last.items (length made - c.loop-j.j) (omega (arith, c.loop-j-test.false)) c.loop-j.invariant.2
+    all-served c.args.inputs made depths c.loop-j.last.items (length made - c.loop-j.j) (omega (arith, c.loop-j-test.false)) c.loop-j.invariant.2

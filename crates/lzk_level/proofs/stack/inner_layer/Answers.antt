@@ -1,6 +1,8 @@
-use Rattle.std.proofs.Common.{◌≡◌, ◌∙◌, ap, sym, subst, ◌+◌, suc, length, arith, [], ◌∷◌, ◌++◌}
+use Rattle.std.proofs.Common.{◌≡◌, ◌∙◌, ap, sym, subst, ◌+◌, suc, length, arith, None, [], ◌∷◌}
 use Rattle.lzk_reduce.specs.Reduced.{terms_of}
-use Rattle.lzk_level.specs.Levels.{place_in}
+use Rattle.lzk_circuit.specs.Valid.{AreTerms}
+use Rattle.lzk_circuit.specs.Wires.{coef, wire}
+use Rattle.lzk_level.specs.Levels.{place_in, width_of, lengths_in}
 use Rattle.lzk_level.proofs.LevelLaws.{places-next}
 use Rattle.lzk_level.proofs.InnerLaws.{Inner, inner-starts, inner-skips, inner-adds}
 use Rattle.lzk_level.proofs.OneLaws.{has-one}
@@ -11,14 +13,14 @@ pub loop-k-init : goal.loop-k-init
 loop-k-init g c = record {
   count = c.requires.room;
   places = λ j l. absurd (omega (arith, l));
-  inner = subst (Inner g.F.Field.ops c.args.depths.now c.args.last.now c.args.level c.args.rows.now 0 0) (sym c.new-terms.ensures.items) (inner-starts g.F.Field.ops c.args.depths.now c.args.last.now c.args.level c.args.rows.now);
+  inner = subst (Inner g.F.Field.ops c.args.graph.now.depths.now c.args.graph.now.last.now c.args.level c.args.rows.now 0 0) (sym c.new-terms.ensures.items) (inner-starts g.F.Field.ops c.args.graph.now.depths.now c.args.graph.now.last.now c.args.level c.args.rows.now);
 }
 
 pub loop-k-preserved : goal.loop-k-preserved
 loop-k-preserved g c =
     let o = g.F.Field.ops in
-    let depths = c.args.depths.now in
-    let last = c.args.last.now in
+    let depths = c.args.graph.now.depths.now in
+    let last = c.args.graph.now.last.now in
     let rows = c.args.rows.now in
     let k = c.loop-k.k in
     let next : suc k ≡ k + 1 = omega arith in
@@ -46,10 +48,28 @@ loop-k-preserved g c =
       inner = inner;
     }
 
+pub returns-clause-layer : goal.returns-clause-layer
+returns-clause-layer g c =
+    let o = g.F.Field.ops in
+    let depths = c.args.graph.now.depths.now in
+    let last = c.args.graph.now.last.now in
+    let level = c.args.level in
+    let rows = c.args.rows.now in
+    let i = c.loop-k.invariant.inner in
+    let top : c.loop-k.k ≡ length depths = omega (arith, c.loop-k-test.false, c.loop-k.auto.k-end, c.requires.rows) in
+    let width : c.loop-k.wires ≡ width_of depths last level = i.next ∙ ap (place_in depths last level) top in
+    record {
+      wires = width;
+      terms = λ n h. subst (λ ts. AreTerms o (width_of depths last level) n None ts) (sym c.new.ensures) (subst (λ w. AreTerms o w n None c.loop-k.terms.items) width (i.ordered n h));
+      values = λ below h k l up. ap (λ ts. wire o (coef o ts) below (place_in depths last level k)) c.new.ensures ∙ i.each below h k (omega (arith, l, top)) up;
+      count = ap length c.new.ensures ∙ i.count ∙ ap (lengths_in depths last level rows) top;
+    }
+
 pub returns-clause-places : goal.returns-clause-places
-returns-clause-places g c = (c.loop-k.invariant.count, λ j l. c.loop-k.invariant.places j (omega (arith, l, c.loop-k-test.false)))
+returns-clause-places g c = (c.loop-k.invariant.count, λ j l. c.loop-k.invariant.places j (omega (arith, l, c.loop-k-test.false, c.requires.rows)))
 
 pub returns-clause-one : goal.returns-clause-one
-returns-clause-one g c zero_depth high first =
+returns-clause-one g c high first =
+    let graph = c.args.graph.now in
     subst (λ ts. terms_of 0 ts ≡ (0, 0, g.F.Field.ops.one) ∷ []) (sym c.new.ensures)
-    (has-one g.F.Field.ops c.args.depths.now c.args.last.now c.args.level c.args.rows.now c.loop-k.k c.loop-k.terms.items zero_depth high (omega (arith, c.requires.rows, c.loop-k-test.false)) c.loop-k.invariant.inner.one first)
+    (has-one g.F.Field.ops graph.depths.now graph.last.now c.args.level c.args.rows.now c.loop-k.k c.loop-k.terms.items (graph.graph.depths_are.at_inputs 0 graph.graph.one) high (omega (arith, c.requires.rows, c.loop-k-test.false)) c.loop-k.invariant.inner.one first)

@@ -6,7 +6,7 @@ use Rattle.lzk_level.proofs.stack.inner_layer.Given as goal
 
 abbrev pub invariant-loop-k : goal.invariant-loop-k
 invariant-loop-k g l = record {
-  count : length l.places ≡ length l.depths;
-  places : (j : ℕ) → j < l.k → at l.places j ≡ place_in l.depths l.last l.level j;
-  inner : Inner g.F.Field.ops l.depths l.last l.level l.rows l.k l.wires l.terms.items;
+  count : length l.places ≡ length l.graph.depths.now;
+  places : (j : ℕ) → j < l.k → at l.places j ≡ place_in l.graph.depths.now l.graph.last.now l.level j;
+  inner : Inner g.F.Field.ops l.graph.depths.now l.graph.last.now l.level l.rows l.k l.wires l.terms.items;
 }

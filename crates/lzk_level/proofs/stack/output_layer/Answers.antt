@@ -1,7 +1,9 @@
-use Rattle.std.proofs.Common.{◌≡◌, ◌∙◌, ap, sym, subst, arith}
-use Rattle.std.proofs.lemmas.List.{get_or_default}
+use Rattle.std.proofs.Common.{◌≡◌, ◌∙◌, ap, refl, sym, subst, length, take, None, arith}
+use Rattle.std.proofs.lemmas.List.{get_or_default, take_all}
 use Rattle.lzk_reduce.specs.Renumbering.{at}
-use Rattle.lzk_level.specs.Levels.{row_at}
+use Rattle.lzk_circuit.specs.Valid.{AreTerms}
+use Rattle.lzk_circuit.specs.Wires.{coef, wire}
+use Rattle.lzk_level.specs.Levels.{row_at, lengths_of}
 use Rattle.lzk_level.proofs.InnerLaws.{Outer, outer-starts, outer-adds}
 use Rattle.lzk_level.proofs.stack.output_layer.Goals as goal
 
@@ -24,3 +26,19 @@ row-requires-clause-there g c κs within =
     let i = c.loop-g.g in
     let number : c.number.result ≡ at outputs i = c.number.ensures ∙ c.index-outputs-g.is ∙ get_or_default outputs i c.index-outputs-g.result 0 c.loop-g-test.true in
     omega (arith, number, c.requires.nodes i c.loop-g-test.true)
+
+pub returns : goal.returns
+returns g c =
+    let o = g.F.Field.ops in
+    let rows = c.args.rows.now in
+    let outputs = c.args.outputs.now in
+    let i = c.loop-g.invariant in
+    let top : c.loop-g.g ≡ length outputs = omega (arith, c.loop-g-test.false, c.loop-g.auto.g-end) in
+    record {
+      layer = record {
+        wires = refl;
+        terms = λ n h. subst (λ ts. AreTerms o (length outputs) n None ts) (sym c.new.ensures) (subst (λ w. AreTerms o w n None c.loop-g.terms.items) top (i.ordered n h));
+        values = λ below h k l. ap (λ ts. wire o (coef o ts) below k) c.new.ensures ∙ i.each below h k (omega (arith, l, top));
+        count = ap length c.new.ensures ∙ i.count ∙ ap (λ n. lengths_of rows (take n outputs)) top ∙ ap (lengths_of rows) (take_all (length outputs) outputs (omega arith));
+      };
+    }
