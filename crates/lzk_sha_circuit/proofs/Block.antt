@@ -1,12 +1,11 @@
--- The first 16 words hold the words of the padded message.
+-- The first 16 words hold the words of the block.
 use Rattle.std.specs.Prelude.{◌≡◌, ℕ, ◌+◌, ◌-◌, ◌*◌, ◌/◌, ◌%◌, ◌^◌, ◌<◌, ◌≤◌, List, [], ◌∷◌, ◌++◌, length, replicate, slice_index, if◌then◌else◌}
 use Rattle.std.specs.Int.{bit_at, w64, to_be_bytes, byte_at, bytes_high_first}
-use Rattle.std.proofs.Common.{sym, ap, ◌∙◌, arith, zero, suc, inl, inr, lt-ltb, le-ltb, mod-lt}
-use Rattle.std.proofs.lemmas.List.{get_or_append_left, get_or-append_right}
+use Rattle.std.proofs.Common.{sym, ap, ◌∙◌, arith, zero, suc, inl, inr, lt-ltb, mod-lt}
 use Rattle.std.proofs.lemmas.Nat.Bits.{bit_at_cat_low, bit_at_cat_high}
 use Rattle.std.proofs.lemmas.Bool.{cases_lt}
-use Rattle.sha2.specs.Sha256.{padded_message, padding, word_at}
-use Rattle.lzk_sha_circuit.specs.Places.{block_bit, schedule_word, bits_from, w_place}
+use Rattle.sha2.specs.Sha256.{padding, word_at}
+use Rattle.lzk_sha_circuit.specs.Places.{Places, block_bit, schedule_word, bits_from, w_place}
 use Rattle.lzk_sha_circuit.specs.Digest.{AreBytes}
 use Rattle.lzk_sha_circuit.proofs.Held.{Held}
 
@@ -21,7 +20,7 @@ one_byte : (x : ℕ) → x < 256 → (xs : List ℕ) → Bytes xs → Bytes (x �
 one_byte x lt xs h zero = lt
 one_byte x lt xs h (suc k) = h k
 
-both_bytes : (xs ys : List ℕ) → Bytes xs → Bytes ys → Bytes (xs ++ ys)
+pub both_bytes : (xs ys : List ℕ) → Bytes xs → Bytes ys → Bytes (xs ++ ys)
 both_bytes [] ys hx hy k = hy k
 both_bytes (x ∷ xs) ys hx hy zero = hx 0
 both_bytes (x ∷ xs) ys hx hy (suc k) = both_bytes xs ys (λ j. hx (suc j)) hy k
@@ -39,11 +38,11 @@ high_bytes : (k n : ℕ) → Bytes (bytes_high_first k n)
 high_bytes zero n = no_bytes
 high_bytes (suc k) n = one_byte (byte_at k n) (byte-lt k n) (bytes_high_first k n) (high_bytes k n)
 
-padding_bytes : (n : ℕ) → Bytes (padding n)
+pub padding_bytes : (n : ℕ) → Bytes (padding n)
 padding_bytes n =
     both_bytes (0x80 ∷ replicate ((119 - n % 64) % 64) 0) (to_be_bytes w64 (n * 8 % 2 ^ 64)) (one_byte 128 (omega arith) (replicate ((119 - n % 64) % 64) 0) (zero_bytes ((119 - n % 64) % 64))) (high_bytes 8 (n * 8 % 2 ^ 64))
 
-message_bytes : (m : List ℕ) → AreBytes m → Bytes m
+pub message_bytes : (m : List ℕ) → AreBytes m → Bytes m
 message_bytes [] h k = omega arith
 message_bytes (x ∷ xs) h zero = h 0 (omega arith)
 message_bytes (x ∷ xs) h (suc k) = message_bytes xs (λ j lt. h (suc j) (omega arith)) k
@@ -86,26 +85,13 @@ word_at_bit p h t i lt =
     (λ a b. (ap (λ k. slice_index p k) (omega arith), omega arith))
     (λ a. (ap (λ k. slice_index p k) (omega arith), omega arith))
 
-module _ {A : Type 0} (element : ℕ → A) (len : ℕ) (input : ℕ → A) (m : List ℕ) (long : length m ≡ len) (bytes : AreBytes m)
-    (bits : (j : ℕ) → j < 8 * len → input j ≡ element (bit_at (slice_index m (j / 8)) (7 - j % 8))) where
-  block_bit_is : (j : ℕ) → block_bit element len input j ≡ element (bit_at (slice_index (padded_message m) (j / 8)) (7 - j % 8))
-  block_bit_is j = elim (cases_lt j (8 * len)) [
-    | inl less ↦
-        let inside : j / 8 < length m = omega arith in
-        ap (λ b. if b then input j else element (bit_at (slice_index (padding len) (j / 8 - len)) (7 - j % 8))) (lt-ltb j (8 * len) less)
-        ∙ bits j less ∙ ap (λ x. element (bit_at x (7 - j % 8))) (sym (get_or_append_left m (padding (length m)) 0 (j / 8) inside))
-    | inr more ↦
-        let past : len ≤ j / 8 = omega arith in
-        ap (λ b. if b then input j else element (bit_at (slice_index (padding len) (j / 8 - len)) (7 - j % 8))) (le-ltb j (8 * len) more)
-        ∙ ap (λ x. element (bit_at x (7 - j % 8))) (sym (get_or-append_right m (padding (length m)) len (j / 8) 0 long past ∙ ap (λ n. slice_index (padding n) (j / 8 - len)) long))
-  ]
-
-  pub held_block : (t : ℕ) → t < 16 → Held element 32 (schedule_word element len input t) (word_at (padded_message m) (4 * t))
+module _ {A : Type 0} (element : ℕ → A) (given : Places) (input : ℕ → A) (block : List ℕ) (long : length block ≡ 64) (bytes : AreBytes block)
+    (bits : (j : ℕ) → j < 512 → block_bit element given input j ≡ element (bit_at (slice_index block (j / 8)) (7 - j % 8))) where
+  pub held_block : (t : ℕ) → t < 16 → Held element 32 (schedule_word element given input t) (word_at block (4 * t))
   held_block t lt =
-      let p = padded_message m in
-      let h = both_bytes m (padding (length m)) (message_bytes m bytes) (padding_bytes (length m)) in record {
-        below = word-lt (slice_index p (4 * t)) (slice_index p (4 * t + 1)) (slice_index p (4 * t + 2)) (slice_index p (4 * t + 3)) (h (4 * t)) (h (4 * t + 1)) (h (4 * t + 2)) (h (4 * t + 3));
+      let h = message_bytes block bytes in record {
+        below = word-lt (slice_index block (4 * t)) (slice_index block (4 * t + 1)) (slice_index block (4 * t + 2)) (slice_index block (4 * t + 3)) (h (4 * t)) (h (4 * t + 1)) (h (4 * t + 2)) (h (4 * t + 3));
         bits = λ i few.
-            ap (λ b. if b then block_bit element len input (32 * t + (31 - i)) else bits_from input (w_place len t) 32 i) (lt-ltb t 16 lt)
-            ∙ block_bit_is (32 * t + (31 - i)) ∙ ap element (sym (word_at_bit p h t i few));
+            ap (λ b. if b then block_bit element given input (32 * t + (31 - i)) else bits_from input (w_place given t) 32 i) (lt-ltb t 16 lt)
+            ∙ bits (32 * t + (31 - i)) (omega (arith, lt)) ∙ ap element (sym (word_at_bit block h t i few));
       }

@@ -8,8 +8,8 @@ use Rattle.std.proofs.lemmas.List.FromFn.{length-map-range_with_len, get_or-map-
 use Rattle.std.proofs.lemmas.Nat.Bits.{bit_at-lt}
 use Rattle.std.proofs.lemmas.Nat.{div_below}
 use Rattle.lzk_sha_circuit.specs.Places.{bits_from}
-use Rattle.sha2.specs.Sha256.{rounds, round_constants, initial_hash_256}
-use Rattle.lzk_sha_circuit.specs.Inputs.{bit_list, sum_list, round_list, schedule_list, rounds_list, final_list, sha_private, words_of, next_total, first_total, second_total}
+use Rattle.sha2.specs.Sha256.{schedule, rounds, round_constants}
+use Rattle.lzk_sha_circuit.specs.Inputs.{bit_list, sum_list, round_list, schedule_list, rounds_list, final_list, compression_private, next_total, first_total, second_total}
 use Rattle.lzk_sha_circuit.proofs.Numbered.{IsBit}
 use Rattle.lzk_sha_circuit.proofs.Held.{Held}
 
@@ -125,21 +125,19 @@ module _ {A : Type 0} (element : ℕ → A) (d : A) (zero_is : d ≡ element 0) 
       let e = slice_index v 3 + first_total v k w in
       both_bits (sum_list element 3 a) (sum_list element 3 e) (sum_list_bits 3 a) (sum_list_bits 3 e)
 
-  -- every private input of a message is a bit
-  pub private_bits : (m : List ℕ) → AreBits (sha_private element m)
-  unfolding sha_private schedule_list rounds_list final_list
-  private_bits m =
-      let ws = words_of m in
-      let h = initial_hash_256 in
+  -- every private input of a compression is a bit, where those that it is given are
+  pub compression_bits : (first : List A) (h block : List ℕ) → AreBits first → AreBits (compression_private element first h block)
+  unfolding compression_private schedule_list rounds_list final_list
+  compression_bits first h block hf =
+      let ws = schedule block 48 in
       let v = rounds h ws 64 in
       let fw = λ (t : ℕ). sum_list element 2 (next_total ws t) in
       let fr = λ (t : ℕ). round_list element (rounds h ws t) (slice_index round_constants t) (slice_index ws t) in
       let ff = λ (i : ℕ). sum_list element 1 (slice_index h i + slice_index v i) in
-      let p1 = flat_map (bit_list element 8) m in
       let p2 = flat_map fw (range_with_len 16 48) in
       let p3 = flat_map fr (range_with_len 0 64) in
       let p4 = flat_map ff (range_with_len 0 8) in
-      both_bits p1 (p2 ++ (p3 ++ p4)) (chunk_bits (bit_list element 8) (bit_list_bits 8) m)
+      both_bits first (p2 ++ (p3 ++ p4)) hf
       (both_bits p2 (p3 ++ p4) (chunk_bits fw (λ t. sum_list_bits 2 (next_total ws t)) (range_with_len 16 48))
       (both_bits p3 p4 (chunk_bits fr (λ t. round_list_bits (rounds h ws t) (slice_index round_constants t) (slice_index ws t)) (range_with_len 0 64))
       (chunk_bits ff (λ i. sum_list_bits 1 (slice_index h i + slice_index v i)) (range_with_len 0 8))))

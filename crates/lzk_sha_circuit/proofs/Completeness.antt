@@ -1,32 +1,30 @@
--- The inputs of a message satisfy the circuit, and have its digest.
+-- The inputs of a compression satisfy its circuit.
 use Rattle.std.specs.Prelude.{◌≡◌, ℕ, ◌+◌, ◌-◌, ◌*◌, ◌/◌, ◌%◌, ◌^◌, ◌<◌, ◌≤◌, List, [], ◌∷◌, length, map, slice_index, slice_index_or}
-use Rattle.std.specs.List.{range_with_len}
-use Rattle.std.proofs.Common.{refl, sym, ap, ◌∙◌, arith, zero, suc, inl, inr, subst, mod-lt, mul-le-mul_right}
+use Rattle.std.specs.Int.{bit_at}
+use Rattle.std.proofs.Common.{refl, sym, ap, ◌∙◌, arith, zero, suc, inl, inr, subst, mul-le-mul_right, get_or-append-add, ext_get_or}
 use Rattle.std.proofs.lemmas.Bool.{cases_lt}
+use Rattle.std.proofs.lemmas.List.{get_or_append_left, get_or-map}
 use Rattle.lzk_field.specs.Ring.{Ops}
 use Rattle.lzk_field.specs.Sums.{entry}
-use Rattle.std.proofs.lemmas.List.{get_or_append_left, length-map, get_or-map}
-use Rattle.std.proofs.lemmas.List.FromFn.{length-map-range_with_len, get_or-map-range_with_len}
-use Rattle.lzk_sha_circuit.proofs.Soundness.{begins_with}
-use Rattle.std.proofs.Common.{get_or-append-add, ext_get_or}
-use Rattle.sha2.specs.Sha256.{round_constants, initial_hash_256, padded_message, word_at, rounds, round, compress, sha256}
+use Rattle.sha2.specs.Sha256.{round_constants, schedule, rounds, round, compress}
 use Rattle.sha2.proofs.Schedule256.{slice_index-schedule_first, slice_index-schedule_next}
-use Rattle.lzk_sha_circuit.specs.Words.{worth, constant}
-use Rattle.lzk_sha_circuit.specs.Places.{bits_from, schedule_word, a_word, e_word, final_word, w_place, a_place, e_place, f_place}
-use Rattle.lzk_sha_circuit.specs.Outputs.{digest_output, bit_output, AreSatisfying}
-use Rattle.lzk_sha_circuit.specs.Digest.{AreBytes, HaveDigest, digest_words}
-use Rattle.lzk_sha_circuit.specs.Inputs.{sum_list, round_list, sha_private, sha_public, words_of, next_total, first_total, second_total}
+use Rattle.lzk_sha_circuit.specs.Words.{worth}
+use Rattle.lzk_sha_circuit.specs.Compression.{Finds, AreBits}
+use Rattle.lzk_sha_circuit.specs.Places.{Places, IsPlaced, bits_from, block_bit, schedule_word, a_word, e_word, start_word, final_word, w_place, a_place, e_place, f_place}
+use Rattle.lzk_sha_circuit.specs.Outputs.{bit_output, digest_output, AreCompressing}
+use Rattle.lzk_sha_circuit.specs.Inputs.{sum_list, round_list, compression_private, next_total, first_total, second_total}
 use Rattle.lzk_sha_circuit.proofs.Numbered.{Numbered, IsBit}
 use Rattle.lzk_sha_circuit.proofs.Gates.{two_cases}
-use Rattle.lzk_sha_circuit.proofs.Held.{Held, held_constant, held_same, worth_is}
+use Rattle.lzk_sha_circuit.proofs.Held.{Held, held_same, worth_is}
 use Rattle.lzk_sha_circuit.proofs.Valued.{zero_from_same}
-use Rattle.lzk_sha_circuit.proofs.WordSums.{first_number, second_number, initial_below, next_sum_is}
+use Rattle.lzk_sha_circuit.proofs.WordSums.{first_number, second_number, next_sum_is}
 use Rattle.lzk_sha_circuit.proofs.Standard.{last_number, variables, next_word_is, a_of_round, e_of_round, round_is, eight_cases}
-use Rattle.lzk_sha_circuit.proofs.Digests.{digest_word}
 use Rattle.lzk_sha_circuit.proofs.Block.{held_block}
+use Rattle.lzk_sha_circuit.proofs.Compressed.{length-compress}
+use Rattle.lzk_sha_circuit.proofs.Found.{each_bit, held_start, block_value, finds_longer}
 use Rattle.lzk_sha_circuit.proofs.Parts.{Parts, satisfying_of}
-use Rattle.lzk_sha_circuit.proofs.Chunks.{word_held, carry_held, private_bits, length-sum_list}
-use Rattle.lzk_sha_circuit.proofs.Lookups.{message_entry, schedule_entry, round_entry, final_entry, length-sha_private}
+use Rattle.lzk_sha_circuit.proofs.Chunks.{word_held, carry_held, compression_bits, length-sum_list}
+use Rattle.lzk_sha_circuit.proofs.Lookups.{schedule_entry, round_entry, final_entry}
 use Rattle.lzk_sha_circuit.proofs.Traces.{a_word_first, e_word_first, a_word_is, e_word_is, schedule_word_is, w_backward, a_backward, e_backward, f_backward, a_sum, e_sum, held_last}
 
 -- ---- the words of the rounds, A (s - 4) and E (s - 4)
@@ -73,76 +71,92 @@ fits m s count bits lt le = let most = mul-le-mul_right m le in omega (arith, lt
 square : (v : ℕ) → v < 2 → v * v ≡ v
 square = two_cases (λ v. v * v ≡ v) refl refl
 
-module _ {A : Type 0} (o : Ops A) (element : ℕ → A) (size : ℕ) (h : Numbered o element size) (m : List ℕ) (short : length m ≤ 55) (bytes : AreBytes m) where
-  len : ℕ
-  len = length m
-
+module _ {A : Type 0} (o : Ops A) (element : ℕ → A) (size : ℕ) (h : Numbered o element size) (given : Places) (placed : IsPlaced given)
+    (first : List A) (long : length first ≡ given.inputs) (are_bits : AreBits o element first) (state block : List ℕ) (finds : Finds o element given first state block) where
   input : ℕ → A
-  input = entry o (sha_private element m)
+  input = entry o (compression_private element first state block)
 
   ws : List ℕ
-  ws = words_of m
+  ws = schedule block 48
 
   abbrev a_at : ℕ → ℕ
-  a_at = a_from initial_hash_256 ws
+  a_at = a_from state ws
 
   abbrev e_at : ℕ → ℕ
-  e_at = e_from initial_hash_256 ws
+  e_at = e_from state ws
 
-  shape : (t : ℕ) → rounds initial_hash_256 ws t ≡ variables a_at e_at t
+  eight_words : state ≡ slice_index state 0 ∷ slice_index state 1 ∷ slice_index state 2 ∷ slice_index state 3 ∷ slice_index state 4 ∷ slice_index state 5 ∷ slice_index state 6 ∷ slice_index state 7 ∷ []
+  eight_words =
+      let x = slice_index state in
+      let all = x 0 ∷ x 1 ∷ x 2 ∷ x 3 ∷ x 4 ∷ x 5 ∷ x 6 ∷ x 7 ∷ [] in
+      let eight = finds.is_state.eight in
+      ext_get_or 0 state all eight (λ i lt. eight_cases (λ k. slice_index state k ≡ slice_index all k) refl refl refl refl refl refl refl refl i (omega (arith, eight, lt)))
+
+  shape : (t : ℕ) → rounds state ws t ≡ variables a_at e_at t
   shape =
-      let x = slice_index initial_hash_256 in
-      shape_of initial_hash_256 ws (x 0) (x 1) (x 2) (x 3) (x 4) (x 5) (x 6) (x 7) refl
+      let x = slice_index state in
+      shape_of state ws (x 0) (x 1) (x 2) (x 3) (x 4) (x 5) (x 6) (x 7) eight_words
+
+  -- ---- the state and the block
+  still_finds : Finds o element given (compression_private element first state block) state block
+  unfolding compression_private
+  still_finds = finds_longer o element given placed first _ long state block finds
+
+  held_first : (k : ℕ) → k < 8 → Held element 32 (start_word element given (entry o (compression_private element first state block)) k) (slice_index state k)
+  held_first = held_start o element given placed (compression_private element first state block) state block still_finds
+
+  block_bits : (j : ℕ) → j < 512 → block_bit element given (entry o (compression_private element first state block)) j ≡ element (bit_at (slice_index block (j / 8)) (7 - j % 8))
+  block_bits = block_value o element given placed (compression_private element first state block) state block still_finds
 
   -- ---- the words and carries that the inputs hold
   w_value : (t : ℕ) → 16 ≤ t → t < 64 → slice_index ws t ≡ next_total ws t % 2 ^ 32
   unfolding ws
-  w_value t le lt = slice_index-schedule_next (padded_message m) 48 t le lt ∙ next_word_is (words_of m) t
+  w_value t le lt = slice_index-schedule_next block 48 t le lt ∙ next_word_is (schedule block 48) t
 
-  held_w : (t : ℕ) → t < 64 → Held element 32 (schedule_word element len input t) (slice_index ws t)
-  unfolding ws len input
+  held_w : (t : ℕ) → t < 64 → Held element 32 (schedule_word element given input t) (slice_index ws t)
+  unfolding ws input
   held_w t lt = elim (cases_lt t 16) [
     | inl low ↦
-        subst (λ n. Held element 32 (schedule_word element len input t) n) (sym (slice_index-schedule_first (padded_message m) 48 t low))
-        (held_block element len input m refl bytes (λ j l. message_entry element m o.zero j l) t low)
+        subst (λ n. Held element 32 (schedule_word element given input t) n) (sym (slice_index-schedule_first block 48 t low))
+        (held_block element given (entry o (compression_private element first state block)) block finds.is_block.long finds.is_block.bytes block_bits t low)
     | inr high ↦
-        held_same element 32 (bits_from input (w_place len t) 32) (schedule_word element len input t) (slice_index ws t) (λ i l. schedule_word_is element len input t high i)
-        (subst (λ n. Held element 32 (bits_from input (w_place len t) 32) n) (sym (w_value t high lt))
-        (word_held element input (w_place len t) 2 (next_total ws t) o.zero (λ j l. schedule_entry element m o.zero t j high lt l)))
+        held_same element 32 (bits_from input (w_place given t) 32) (schedule_word element given input t) (slice_index ws t) (λ i l. schedule_word_is element given input t high i)
+        (subst (λ n. Held element 32 (bits_from input (w_place given t) 32) n) (sym (w_value t high lt))
+        (word_held element input (w_place given t) 2 (next_total ws t) o.zero (λ j l. schedule_entry element given first long state block o.zero t j high lt l)))
   ]
 
-  w_carry : (t : ℕ) → 16 ≤ t → t < 64 → Held element 2 (bits_from input (w_place len t + 32) 2) (next_total ws t / 2 ^ 32)
-  unfolding ws len input
+  w_carry : (t : ℕ) → 16 ≤ t → t < 64 → Held element 2 (bits_from input (w_place given t + 32) 2) (next_total ws t / 2 ^ 32)
+  unfolding ws input
   w_carry t le lt =
-      carry_held element input (w_place len t) 2 (next_total ws t) o.zero (λ j l. schedule_entry element m o.zero t j le lt l)
-      (next_sum_is o element size h len input (slice_index ws) t (λ s l. held_w s (omega arith)) le).below
+      carry_held element input (w_place given t) 2 (next_total ws t) o.zero (λ j l. schedule_entry element given first long state block o.zero t j le lt l)
+      (next_sum_is o element size h given input (slice_index ws) t (λ s l. held_w s (omega arith)) le).below
 
   a_total : ℕ → ℕ
-  a_total t = let v = rounds initial_hash_256 ws t in first_total v (slice_index round_constants t) (slice_index ws t) + second_total v
+  a_total t = let v = rounds state ws t in first_total v (slice_index round_constants t) (slice_index ws t) + second_total v
 
   e_total : ℕ → ℕ
-  e_total t = let v = rounds initial_hash_256 ws t in slice_index v 3 + first_total v (slice_index round_constants t) (slice_index ws t)
+  e_total t = let v = rounds state ws t in slice_index v 3 + first_total v (slice_index round_constants t) (slice_index ws t)
 
-  a_stands : (t : ℕ) → t < 64 → (j : ℕ) → j < 32 + 3 → input (a_place len t + j) ≡ slice_index_or (sum_list element 3 (a_total t)) j o.zero
-  unfolding ws len input a_total round_list
+  a_stands : (t : ℕ) → t < 64 → (j : ℕ) → j < 32 + 3 → input (a_place given t + j) ≡ slice_index_or (sum_list element 3 (a_total t)) j o.zero
+  unfolding ws input a_total round_list
   a_stands t lt j l =
-      let v = rounds initial_hash_256 ws t in
+      let v = rounds state ws t in
       let k = slice_index round_constants t in
       let w = slice_index ws t in
-      let long = length-sum_list element 3 (first_total v k w + second_total v) in
-      round_entry element m o.zero t j lt (omega arith)
-      ∙ get_or_append_left (sum_list element 3 (first_total v k w + second_total v)) (sum_list element 3 (slice_index v 3 + first_total v k w)) o.zero j (omega (arith, long))
+      let count = length-sum_list element 3 (first_total v k w + second_total v) in
+      round_entry element given first long state block o.zero t j lt (omega arith)
+      ∙ get_or_append_left (sum_list element 3 (first_total v k w + second_total v)) (sum_list element 3 (slice_index v 3 + first_total v k w)) o.zero j (omega (arith, count))
 
-  e_stands : (t : ℕ) → t < 64 → (j : ℕ) → j < 32 + 3 → input (e_place len t + j) ≡ slice_index_or (sum_list element 3 (e_total t)) j o.zero
-  unfolding ws len input e_total round_list
+  e_stands : (t : ℕ) → t < 64 → (j : ℕ) → j < 32 + 3 → input (e_place given t + j) ≡ slice_index_or (sum_list element 3 (e_total t)) j o.zero
+  unfolding ws input e_total round_list
   e_stands t lt j l =
-      let v = rounds initial_hash_256 ws t in
+      let v = rounds state ws t in
       let k = slice_index round_constants t in
       let w = slice_index ws t in
-      let long = length-sum_list element 3 (first_total v k w + second_total v) in
-      let there : e_place len t + j ≡ a_place len t + (length (sum_list element 3 (first_total v k w + second_total v)) + j) = omega (arith, long) in
+      let count = length-sum_list element 3 (first_total v k w + second_total v) in
+      let there : e_place given t + j ≡ a_place given t + (length (sum_list element 3 (first_total v k w + second_total v)) + j) = omega (arith, count) in
       ap input there
-      ∙ round_entry element m o.zero t (length (sum_list element 3 (first_total v k w + second_total v)) + j) lt (omega (arith, long))
+      ∙ round_entry element given first long state block o.zero t (length (sum_list element 3 (first_total v k w + second_total v)) + j) lt (omega (arith, count))
       ∙ get_or-append-add (sum_list element 3 (first_total v k w + second_total v)) (sum_list element 3 (slice_index v 3 + first_total v k w)) j o.zero
 
   a_number : ℕ → ℕ
@@ -161,77 +175,75 @@ module _ {A : Type 0} (o : Ops A) (element : ℕ → A) (size : ℕ) (h : Number
 
   a_value : (t : ℕ) → a_at (t + 4) ≡ a_number t % 2 ^ 32
   unfolding a_number
-  a_value t = a_step initial_hash_256 ws t (shape t)
+  a_value t = a_step state ws t (shape t)
 
   e_value : (t : ℕ) → e_at (t + 4) ≡ e_number t % 2 ^ 32
   unfolding e_number
-  e_value t = e_step initial_hash_256 ws t (shape t)
+  e_value t = e_step state ws t (shape t)
 
-  held_a : (s : ℕ) → s < 68 → Held element 32 (a_word element len input s) (a_at s)
-  unfolding rounds
+  held_a : (s : ℕ) → s < 68 → Held element 32 (a_word element given input s) (a_at s)
+  unfolding rounds input
   held_a s lt = elim (cases_lt s 4) [
     | inl low ↦
-        let n = slice_index initial_hash_256 (3 - s) in
         let turn : 0 ≡ s - 3 = omega arith in
-        subst (λ k. Held element 32 (a_word element len input s) (slice_index (rounds initial_hash_256 ws k) (3 - s))) turn
-        (held_same element 32 (constant element n) (a_word element len input s) n (λ i l. a_word_first element len input s low i) (held_constant element 32 n (initial_below (3 - s))))
+        subst (λ k. Held element 32 (a_word element given input s) (slice_index (rounds state ws k) (3 - s))) turn
+        (held_same element 32 (start_word element given input (3 - s)) (a_word element given input s) (slice_index state (3 - s)) (λ i l. a_word_first element given input s low i) (held_first (3 - s) (omega arith)))
     | inr high ↦
         let t = s - 4 in
         let back : t + 4 ≡ s = omega arith in
-        subst (λ k. Held element 32 (a_word element len input k) (a_at k)) back
-        (held_same element 32 (bits_from input (a_place len t) 32) (a_word element len input (t + 4)) (a_at (t + 4)) (λ i l. a_word_is element len input t i)
-        (subst (λ n. Held element 32 (bits_from input (a_place len t) 32) n) (ap (λ n. n % 2 ^ 32) (a_total_is t) ∙ sym (a_value t))
-        (word_held element input (a_place len t) 3 (a_total t) o.zero (a_stands t (omega arith)))))
+        subst (λ k. Held element 32 (a_word element given input k) (a_at k)) back
+        (held_same element 32 (bits_from input (a_place given t) 32) (a_word element given input (t + 4)) (a_at (t + 4)) (λ i l. a_word_is element given input t i)
+        (subst (λ n. Held element 32 (bits_from input (a_place given t) 32) n) (ap (λ n. n % 2 ^ 32) (a_total_is t) ∙ sym (a_value t))
+        (word_held element input (a_place given t) 3 (a_total t) o.zero (a_stands t (omega arith)))))
   ]
 
-  held_e : (s : ℕ) → s < 68 → Held element 32 (e_word element len input s) (e_at s)
-  unfolding rounds
+  held_e : (s : ℕ) → s < 68 → Held element 32 (e_word element given input s) (e_at s)
+  unfolding rounds input
   held_e s lt = elim (cases_lt s 4) [
     | inl low ↦
-        let n = slice_index initial_hash_256 (7 - s) in
         let turn : 0 ≡ s - 3 = omega arith in
         let place : 7 - s ≡ 4 + (3 - s) = omega arith in
-        subst (λ k. Held element 32 (e_word element len input s) (slice_index (rounds initial_hash_256 ws k) (4 + (3 - s)))) turn
-        (subst (λ k. Held element 32 (e_word element len input s) (slice_index initial_hash_256 k)) place
-        (held_same element 32 (constant element n) (e_word element len input s) n (λ i l. e_word_first element len input s low i) (held_constant element 32 n (initial_below (7 - s)))))
+        subst (λ k. Held element 32 (e_word element given input s) (slice_index (rounds state ws k) (4 + (3 - s)))) turn
+        (subst (λ k. Held element 32 (e_word element given input s) (slice_index state k)) place
+        (held_same element 32 (start_word element given input (7 - s)) (e_word element given input s) (slice_index state (7 - s)) (λ i l. e_word_first element given input s low i) (held_first (7 - s) (omega arith))))
     | inr high ↦
         let t = s - 4 in
         let back : t + 4 ≡ s = omega arith in
-        subst (λ k. Held element 32 (e_word element len input k) (e_at k)) back
-        (held_same element 32 (bits_from input (e_place len t) 32) (e_word element len input (t + 4)) (e_at (t + 4)) (λ i l. e_word_is element len input t i)
-        (subst (λ n. Held element 32 (bits_from input (e_place len t) 32) n) (ap (λ n. n % 2 ^ 32) (e_total_is t) ∙ sym (e_value t))
-        (word_held element input (e_place len t) 3 (e_total t) o.zero (e_stands t (omega arith)))))
+        subst (λ k. Held element 32 (e_word element given input k) (e_at k)) back
+        (held_same element 32 (bits_from input (e_place given t) 32) (e_word element given input (t + 4)) (e_at (t + 4)) (λ i l. e_word_is element given input t i)
+        (subst (λ n. Held element 32 (bits_from input (e_place given t) 32) n) (ap (λ n. n % 2 ^ 32) (e_total_is t) ∙ sym (e_value t))
+        (word_held element input (e_place given t) 3 (e_total t) o.zero (e_stands t (omega arith)))))
   ]
 
-  a_carry : (t : ℕ) → t < 64 → Held element 3 (bits_from input (a_place len t + 32) 3) (a_number t / 2 ^ 32)
+  a_carry : (t : ℕ) → t < 64 → Held element 3 (bits_from input (a_place given t + 32) 3) (a_number t / 2 ^ 32)
   unfolding a_number
   a_carry t lt =
-      let small : a_total t < 2 ^ 3 * 2 ^ 32 = subst (λ n. n < 8 * 2 ^ 32) (sym (a_total_is t)) (a_sum o element size h len input (slice_index ws) a_at e_at held_w held_a held_e t lt).below in
-      subst (λ n. Held element 3 (bits_from input (a_place len t + 32) 3) (n / 2 ^ 32)) (a_total_is t) (carry_held element input (a_place len t) 3 (a_total t) o.zero (a_stands t lt) small)
+      let small : a_total t < 2 ^ 3 * 2 ^ 32 = subst (λ n. n < 8 * 2 ^ 32) (sym (a_total_is t)) (a_sum o element size h given input (slice_index ws) a_at e_at held_w held_a held_e t lt).below in
+      subst (λ n. Held element 3 (bits_from input (a_place given t + 32) 3) (n / 2 ^ 32)) (a_total_is t) (carry_held element input (a_place given t) 3 (a_total t) o.zero (a_stands t lt) small)
 
-  e_carry : (t : ℕ) → t < 64 → Held element 3 (bits_from input (e_place len t + 32) 3) (e_number t / 2 ^ 32)
+  e_carry : (t : ℕ) → t < 64 → Held element 3 (bits_from input (e_place given t + 32) 3) (e_number t / 2 ^ 32)
   unfolding e_number
   e_carry t lt =
-      let small : e_total t < 2 ^ 3 * 2 ^ 32 = subst (λ n. n < 8 * 2 ^ 32) (sym (e_total_is t)) (e_sum o element size h len input (slice_index ws) a_at e_at held_w held_a held_e t lt).below in
-      subst (λ n. Held element 3 (bits_from input (e_place len t + 32) 3) (n / 2 ^ 32)) (e_total_is t) (carry_held element input (e_place len t) 3 (e_total t) o.zero (e_stands t lt) small)
+      let small : e_total t < 2 ^ 3 * 2 ^ 32 = subst (λ n. n < 8 * 2 ^ 32) (sym (e_total_is t)) (e_sum o element size h given input (slice_index ws) a_at e_at held_w held_a held_e t lt).below in
+      subst (λ n. Held element 3 (bits_from input (e_place given t + 32) 3) (n / 2 ^ 32)) (e_total_is t) (carry_held element input (e_place given t) 3 (e_total t) o.zero (e_stands t lt) small)
 
   -- ---- the digest
   f_total : ℕ → ℕ
-  f_total i = slice_index initial_hash_256 i + slice_index (rounds initial_hash_256 ws 64) i
+  f_total i = slice_index state i + slice_index (rounds state ws 64) i
 
   f_number : ℕ → ℕ
-  f_number i = slice_index initial_hash_256 i + last_number a_at e_at i
+  f_number i = slice_index state i + last_number a_at e_at i
 
   last_is : (i : ℕ) → i < 8 → slice_index (variables a_at e_at 64) i ≡ last_number a_at e_at i
   last_is = eight_cases (λ i. slice_index (variables a_at e_at 64) i ≡ last_number a_at e_at i) refl refl refl refl refl refl refl refl
 
   f_total_is : (i : ℕ) → i < 8 → f_total i ≡ f_number i
   unfolding f_total f_number
-  f_total_is i lt = ap (λ n. slice_index initial_hash_256 i + n) (ap (λ v. slice_index v i) (shape 64) ∙ last_is i lt)
+  f_total_is i lt = ap (λ n. slice_index state i + n) (ap (λ v. slice_index v i) (shape 64) ∙ last_is i lt)
 
-  f_stands : (i : ℕ) → i < 8 → (j : ℕ) → j < 32 + 1 → input (f_place len i + j) ≡ slice_index_or (sum_list element 1 (f_total i)) j o.zero
-  unfolding ws len input f_total
-  f_stands i lt j l = final_entry element m o.zero i j lt l
+  f_stands : (i : ℕ) → i < 8 → (j : ℕ) → j < 32 + 1 → input (f_place given i + j) ≡ slice_index_or (sum_list element 1 (f_total i)) j o.zero
+  unfolding ws input f_total
+  f_stands i lt j l = final_entry element given first long state block o.zero i j lt l
 
   two_words : (a b : ℕ) → a < 2 ^ 32 → b < 2 ^ 32 → a + b < 2 ^ 1 * 2 ^ 32
   two_words a b la lb = omega arith
@@ -239,62 +251,44 @@ module _ {A : Type 0} (o : Ops A) (element : ℕ → A) (size : ℕ) (h : Number
   f_small : (i : ℕ) → i < 8 → f_total i < 2 ^ 1 * 2 ^ 32
   unfolding f_number
   f_small i lt =
-      let last = held_last o element size h len input (slice_index ws) a_at e_at held_w held_a held_e i lt in
-      subst (λ n. n < 2 ^ 1 * 2 ^ 32) (sym (f_total_is i lt)) (two_words (slice_index initial_hash_256 i) (last_number a_at e_at i) (initial_below i) last.below)
+      let last = held_last o element size h given input (slice_index ws) a_at e_at held_w held_a held_e i lt in
+      subst (λ n. n < 2 ^ 1 * 2 ^ 32) (sym (f_total_is i lt)) (two_words (slice_index state i) (last_number a_at e_at i) (held_first i lt).below last.below)
 
-  held_f : (i : ℕ) → i < 8 → Held element 32 (final_word element len input i) (f_total i % 2 ^ 32)
-  held_f i lt = word_held element input (f_place len i) 1 (f_total i) o.zero (f_stands i lt)
+  held_f : (i : ℕ) → i < 8 → Held element 32 (final_word element given input i) (f_total i % 2 ^ 32)
+  held_f i lt = word_held element input (f_place given i) 1 (f_total i) o.zero (f_stands i lt)
 
-  f_carry : (i : ℕ) → i < 8 → Held element 1 (bits_from input (f_place len i + 32) 1) (f_number i / 2 ^ 32)
+  f_carry : (i : ℕ) → i < 8 → Held element 1 (bits_from input (f_place given i + 32) 1) (f_number i / 2 ^ 32)
   f_carry i lt =
-      subst (λ n. Held element 1 (bits_from input (f_place len i + 32) 1) (n / 2 ^ 32)) (f_total_is i lt) (carry_held element input (f_place len i) 1 (f_total i) o.zero (f_stands i lt) (f_small i lt))
+      subst (λ n. Held element 1 (bits_from input (f_place given i + 32) 1) (n / 2 ^ 32)) (f_total_is i lt) (carry_held element input (f_place given i) 1 (f_total i) o.zero (f_stands i lt) (f_small i lt))
 
   bit_zero : (x : A) → IsBit element x → bit_output o x ≡ o.zero
   bit_zero x (v, lt, e) =
       let once = square v lt in
       zero_from_same o element size h (o.times x x) x (v * v) v ((λ i. o.times (e i) (e i)) ∙ h.times_is v v) e once
 
-  public_entry : (i : ℕ) → i < 8 → entry o (sha_public element m) i ≡ element (f_total i % 2 ^ 32)
-  unfolding f_total ws sha_public
-  public_entry i lt =
-      get_or-map-range_with_len (λ i. element ((slice_index initial_hash_256 i + slice_index (rounds initial_hash_256 (words_of m) 64) i) % 2 ^ 32)) 0 8 i i o.zero lt (omega arith)
+  result_word : (i : ℕ) → i < 8 → slice_index (compress state block) i ≡ f_total i % 2 ^ 32
+  unfolding compress f_total ws
+  result_word = eight_cases (λ i. slice_index (compress state block) i ≡ (slice_index state i + slice_index (rounds state (schedule block 48) 64) i) % 2 ^ 32) refl refl refl refl refl refl refl refl
 
-  parts : Parts o element len (sha_public element m) (sha_private element m)
+  public_entry : (i : ℕ) → i < 8 → entry o (map element (compress state block)) i ≡ element (f_total i % 2 ^ 32)
+  public_entry i lt =
+      let eight = length-compress state block in
+      get_or-map element (compress state block) i 0 o.zero (omega (arith, eight, lt)) ∙ ap element (result_word i lt)
+
+  parts : Parts o element given (map element (compress state block)) (compression_private element first state block)
   unfolding digest_output input f_number a_number e_number
   parts = record {
-    bits = λ j lt. bit_zero (entry o (sha_private element m) j) (private_bits element o.zero h.zero_is m j);
-    schedule = λ t le lt. w_backward o element size h len input (slice_index ws) a_at e_at held_w held_a held_e t le lt (w_value t le lt) (w_carry t le lt);
+    bits = λ j lt. bit_zero (entry o (compression_private element first state block) j) (compression_bits element o.zero h.zero_is first state block (each_bit o element h.zero_is first are_bits) j);
+    schedule = λ t le lt. w_backward o element size h given input (slice_index ws) a_at e_at held_w held_a held_e t le lt (w_value t le lt) (w_carry t le lt);
     rounds = λ t lt. (
-      a_backward o element size h len input (slice_index ws) a_at e_at held_w held_a held_e t lt (a_value t) (a_carry t lt),
-      e_backward o element size h len input (slice_index ws) a_at e_at held_w held_a held_e t lt (e_value t) (e_carry t lt),
+      a_backward o element size h given input (slice_index ws) a_at e_at held_w held_a held_e t lt (a_value t) (a_carry t lt),
+      e_backward o element size h given input (slice_index ws) a_at e_at held_w held_a held_e t lt (e_value t) (e_carry t lt),
     );
-    finals = λ i lt. f_backward o element size h len input (slice_index ws) a_at e_at held_w held_a held_e i (f_total i % 2 ^ 32) lt (ap (λ n. n % 2 ^ 32) (f_total_is i lt)) (held_f i lt) (f_carry i lt);
+    finals = λ i lt. f_backward o element size h given input (slice_index ws) a_at e_at held_w held_a held_e i (slice_index state i) (f_total i % 2 ^ 32) lt (held_first i lt) (ap (λ n. n % 2 ^ 32) (f_total_is i lt)) (held_f i lt) (f_carry i lt);
     digest = λ i lt.
-        zero_from_same o element size h (worth o element 32 (final_word element len input i)) (entry o (sha_public element m) i) (f_total i % 2 ^ 32) (f_total i % 2 ^ 32)
-        (worth_is o element size h 32 (final_word element len input i) (f_total i % 2 ^ 32) (held_f i lt)) (public_entry i lt) refl;
+        zero_from_same o element size h (worth o element 32 (final_word element given input i)) (entry o (map element (compress state block)) i) (f_total i % 2 ^ 32) (f_total i % 2 ^ 32)
+        (worth_is o element size h 32 (final_word element given input i) (f_total i % 2 ^ 32) (held_f i lt)) (public_entry i lt) refl;
   }
 
-  pub satisfied : AreSatisfying o element (length m) (sha_public element m) (sha_private element m)
-  unfolding len
-  satisfied = satisfying_of o element (length m) (sha_public element m) (sha_private element m) parts
-
-  state_word : (i : ℕ) → i < 8 → slice_index (compress initial_hash_256 (padded_message m)) i ≡ f_total i % 2 ^ 32
-  unfolding compress f_total ws
-  state_word = eight_cases (λ i. slice_index (compress initial_hash_256 (padded_message m)) i ≡ (slice_index initial_hash_256 i + slice_index (rounds initial_hash_256 (words_of m) 64) i) % 2 ^ 32) refl refl refl refl refl refl refl refl
-
-  word_is : (i : ℕ) → i < 8 → word_at (sha256 m) (4 * i) ≡ f_total i % 2 ^ 32
-  word_is i lt =
-      digest_word m short (compress initial_hash_256 (padded_message m)) refl (λ j l. subst (λ n. n < 2 ^ 32) (sym (state_word j l)) (mod-lt (f_total j) (omega arith))) i lt
-      ∙ state_word i lt
-
-  pub has_digest : HaveDigest element (sha_public element m) (sha_private element m) m
-  unfolding digest_words len input sha_public
-  has_digest =
-      let f = λ (i : ℕ). word_at (sha256 m) (4 * i) in
-      let eight = length-map (map f (range_with_len 0 8)) element ∙ length-map-range_with_len f 0 8 in
-      let count = length-sha_private element m o.zero in
-      record {
-        bits = begins_with o element (sha_private element m) m (omega (arith, count)) (λ j lt. message_entry element m o.zero j lt);
-        words = ext_get_or o.zero (sha_public element m) (map element (map f (range_with_len 0 8))) (sym eight) (λ i lt.
-            public_entry i lt ∙ ap element (sym (word_is i lt)) ∙ ap element (sym (get_or-map-range_with_len f 0 8 i i 0 lt (omega arith))) ∙ sym (get_or-map element (map f (range_with_len 0 8)) i 0 o.zero lt));
-      }
+  pub compressing : AreCompressing o element given (map element (compress state block)) (compression_private element first state block)
+  compressing = satisfying_of o element given (map element (compress state block)) (compression_private element first state block) parts

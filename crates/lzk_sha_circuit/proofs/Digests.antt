@@ -25,7 +25,7 @@ sha256_is m le =
     ap (λ n. digest_bytes (hash_after initial_hash_256 (padded_message m) n) 8) one
     ∙ ap (λ b. digest_bytes (compress initial_hash_256 b) 8) (take_all 64 (padded_message m) (omega (arith, long)))
 
-word_of_digest : (h : List ℕ) → ((i : ℕ) → i < 8 → slice_index h i < 2 ^ 32) → (i : ℕ) → i < 8 → word_at (digest_bytes h 8) (4 * i) ≡ slice_index h i
+pub word_of_digest : (h : List ℕ) → ((i : ℕ) → i < 8 → slice_index h i < 2 ^ 32) → (i : ℕ) → i < 8 → word_at (digest_bytes h 8) (4 * i) ≡ slice_index h i
 unfolding digest_bytes
 word_of_digest h below i lt =
     eight_cases (λ j. slice_index h j < 2 ^ 32 → word_at (digest_bytes h 8) (4 * j) ≡ slice_index h j)

@@ -3,10 +3,10 @@ use Rattle.std.specs.Prelude.{◌≡◌, ℕ, ◌+◌, ◌-◌, ◌*◌, ◌%◌
 use Rattle.std.specs.List.{range_with_len, flat_map}
 use Rattle.std.proofs.Common.{sym, ap, ◌∙◌, arith, get_or-take, append_assoc}
 use Rattle.std.proofs.lemmas.List.{take_more, flat_map_more}
-use Rattle.sha2.specs.Sha256.{padded_message, word_at, schedule, next_word, rounds, round, round_constants, initial_hash_256, add32, temp1, temp2}
+use Rattle.sha2.specs.Sha256.{word_at, schedule, next_word, compress, rounds, round, round_constants, add32, temp1, temp2}
 use Rattle.sha2.specs.Sha256 as standard
 use Rattle.sha2.proofs.Schedule256.{slice_index-schedule_first, slice_index-schedule_next, length-schedule, rounds_next}
-use Rattle.lzk_sha_circuit.specs.Inputs.{words_of, sha_private, sha_public, bit_list, sum_list, schedule_list, round_list, rounds_list, final_list, next_total, first_total, second_total}
+use Rattle.lzk_sha_circuit.specs.Inputs.{compression_private, sum_list, schedule_list, round_list, rounds_list, final_list, next_total, first_total, second_total}
 use Rattle.lzk_sha_circuit.proofs.Written.{chunk_more}
 use Rattle.lzk_sha_circuit.proofs.Standard.{next_word_is, a_of_round, e_of_round}
 
@@ -71,31 +71,24 @@ round_from a b c d e f g h k w next_a next_e ea ee =
     λ i. (ea ∙ sym (a_of_round v k w)) i ∷ a ∷ b ∷ c ∷ (ee ∙ sym (e_of_round v k w)) i ∷ e ∷ f ∷ g ∷ []
 
 -- ---- all parts together
-module _ {A : Type 0} (element : ℕ → A) (m block words v : List ℕ) (e_block : block ≡ padded_message m) (e_words : words ≡ schedule block 48) (e_v : v ≡ rounds initial_hash_256 words 64) where
-  words_are : words ≡ words_of m
-  words_are = e_words ∙ ap (λ b. schedule b 48) e_block
-
+module _ {A : Type 0} (element : ℕ → A) (h block words v : List ℕ) (e_words : words ≡ schedule block 48) (e_v : v ≡ rounds h words 64) where
   pub length-words : length words ≡ 64
-  length-words = ap length words_are ∙ length-schedule (padded_message m) 48
+  length-words = ap length e_words ∙ length-schedule block 48
 
-  v_is : v ≡ rounds initial_hash_256 (words_of m) 64
-  v_is = e_v ∙ ap (λ w. rounds initial_hash_256 w 64) words_are
+  v_is : v ≡ rounds h (schedule block 48) 64
+  v_is = e_v ∙ ap (λ w. rounds h w 64) e_words
 
-  pub private_is : (p0 p1 p2 p3 p4 : List A) → p0 ≡ [] → p1 ≡ p0 ++ flat_map (bit_list element 8) m → p2 ≡ p1 ++ schedule_list element (schedule block 48) 48
-      → p3 ≡ p2 ++ rounds_list element initial_hash_256 words 64 → p4 ≡ p3 ++ final_list element initial_hash_256 v 8 → p4 ≡ sha_private element m
-  unfolding sha_private
-  private_is p0 p1 p2 p3 p4 e0 e1 e2 e3 e4 =
-      let ws = words_of m in
-      let h = initial_hash_256 in
-      let q1 = flat_map (bit_list element 8) m in
+  pub private_is : (p1 p2 p3 p4 : List A) → p2 ≡ p1 ++ schedule_list element (schedule block 48) 48
+      → p3 ≡ p2 ++ rounds_list element h words 64 → p4 ≡ p3 ++ final_list element h v 8 → p4 ≡ compression_private element p1 h block
+  unfolding compression_private
+  private_is p1 p2 p3 p4 e2 e3 e4 =
+      let ws = schedule block 48 in
       let q2 = schedule_list element ws 48 in
       let q3 = rounds_list element h ws 64 in
       let q4 = final_list element h (rounds h ws 64) 8 in
-      let f1 : p1 ≡ q1 = e1 ∙ ap (λ l. l ++ q1) e0 in
-      let f2 : p2 ≡ q1 ++ q2 = e2 ∙ (λ i. f1 i ++ schedule_list element (schedule (e_block i) 48) 48) in
-      let f3 : p3 ≡ q1 ++ q2 ++ q3 = e3 ∙ (λ i. f2 i ++ rounds_list element h (words_are i) 64) in
-      e4 ∙ (λ i. f3 i ++ final_list element h (v_is i) 8) ∙ append_assoc (q1 ++ q2) q3 q4 ∙ append_assoc q1 q2 (q3 ++ q4)
+      let f3 : p3 ≡ p1 ++ q2 ++ q3 = e3 ∙ (λ i. e2 i ++ rounds_list element h (e_words i) 64) in
+      e4 ∙ (λ i. f3 i ++ final_list element h (v_is i) 8) ∙ append_assoc (p1 ++ q2) q3 q4 ∙ append_assoc p1 q2 (q3 ++ q4)
 
-  pub public_is : (q : List A) → q ≡ map (λ i. element ((slice_index initial_hash_256 i + slice_index v i) % 2 ^ 32)) (range_with_len 0 8) → q ≡ sha_public element m
-  unfolding sha_public
-  public_is q e = e ∙ ap (λ w. map (λ i. element ((slice_index initial_hash_256 i + slice_index w i) % 2 ^ 32)) (range_with_len 0 8)) v_is
+  pub words_are : (q : List A) → q ≡ map (λ i. element ((slice_index h i + slice_index v i) % 2 ^ 32)) (range_with_len 0 8) → q ≡ map element (compress h block)
+  unfolding compress
+  words_are q e = e ∙ ap (λ w. map (λ i. element ((slice_index h i + slice_index w i) % 2 ^ 32)) (range_with_len 0 8)) v_is

@@ -10,7 +10,9 @@ pub mod Block
 pub mod Zeros
 pub mod Traces
 pub mod Parts
+pub mod Found
 pub mod Soundness
+pub mod Compressed
 pub mod Written
 pub mod Filled
 pub mod Chunks
@@ -25,5 +27,8 @@ pub mod EntryValues
 pub mod InnerValues
 pub mod CircuitValues
 pub mod Sizes
+pub mod MessagePlaces
+pub mod Messages
+pub mod Exactly
 pub mod CircuitLaws
 pub mod SomeCircuits

@@ -1,5 +1,5 @@
--- There is a circuit for messages of each number of bytes.
-use Rattle.std.specs.Prelude.{◌≡◌, ℕ, ◌+◌, ◌-◌, ◌*◌, ◌<◌, ◌≤◌, List, [], ◌∷◌, ◌++◌, length, map, Result, Ok}
+-- There is a circuit for each compression, and for messages of each number of bytes.
+use Rattle.std.specs.Prelude.{◌≡◌, ℕ, ◌+◌, ◌-◌, ◌<◌, ◌≤◌, List, [], ◌∷◌, ◌++◌, length, map, Result, Ok}
 use Rattle.std.specs.List.{range_with_len, flat_map}
 use Rattle.std.proofs.Common.{zero, suc, refl, ap, ap₂, ◌∙◌, arith, subst, length-append}
 use Rattle.std.proofs.lemmas.List.{length-map}
@@ -16,12 +16,14 @@ use Rattle.lzk_reduce.specs.Rows.{row_value, ordered, placed}
 use Rattle.lzk_reduce.proofs.AppendLaws.{stacked-terms, stacked-before, stacked-added}
 use Rattle.lzk_reduce.proofs.EachReduced.{some_reduced}
 use Rattle.lzk_reduce.proofs.NormalLaws.{ZeroOrNot, zero_or_not, AreOfRow, ordered-of-row, ordered-value, normal}
+use Rattle.lzk_sha_circuit.specs.Places.{Places, IsPlaced, message_places, total_count}
 use Rattle.lzk_sha_circuit.specs.declared.products.Product.{Product}
 use Rattle.lzk_sha_circuit.specs.declared.entries.Word.{Word}
 use Rattle.lzk_sha_circuit.specs.declared.entries.Word.TheVariants.{Schedule, A, E}
-use Rattle.lzk_sha_circuit.specs.Circuits.{SomeShaCircuit}
+use Rattle.lzk_sha_circuit.specs.Circuits.{SomeShaCircuit, SomeCompressionCircuit}
 use Rattle.lzk_sha_circuit.specs.Products.{AreWithin, products_value, or_list}
 use Rattle.lzk_sha_circuit.specs.Layers.{IsBuilt, Grows, IsWordOf, IsWhole, input_count, inner_count, turned_entry, pass_row, pair_rows, schedule_pairs, round_pairs, inner_rows, bit_row, w_row, a_row, e_row, f_row, digest_row, output_rows}
+use Rattle.lzk_sha_circuit.proofs.MessagePlaces.{message_placed}
 use Rattle.lzk_sha_circuit.proofs.CircuitLaws.{two_layers, layers_valid, layers_ones}
 use Rattle.lzk_sha_circuit.proofs.CircuitValues.{outputs_are}
 use Rattle.lzk_sha_circuit.proofs.Growth.{grown, grows_none, grows_two, built_from}
@@ -88,70 +90,71 @@ module _ {X : Type 0} (o : Ops X) (r : RingLaws o) (f : FieldLaws o) (decide : Z
       (terms, built_from o width rows terms [] refl (g width all))
 
 -- ---- the rows of the two layers
-module _ {X : Type 0} (o : Ops X) (element : ℕ → X) (len : ℕ) where
-  pairs_within : (x : Word) (j : ℕ) (y : Word) (k : ℕ) → IsWordOf len x → IsWhole x → IsWordOf len y → IsWhole y → AreAllWithin (input_count len) (pair_rows o element len x j y k)
+module _ {X : Type 0} (o : Ops X) (element : ℕ → X) (given : Places) (ok : IsPlaced given) where
+  pairs_within : (x : Word) (j : ℕ) (y : Word) (k : ℕ) → IsWordOf given x → IsWhole x → IsWordOf given y → IsWhole y → AreAllWithin (input_count given) (pair_rows o element given x j y k)
   unfolding pair_rows
   pairs_within x j y k hx wx hy wy =
-      all-each (input_count len) (λ i. or_list o element o.one (turned_entry o element len x j i) (turned_entry o element len y k i)) 32 0
-      (λ i le lt. or_within o element (input_count len) o.one (turned_entry o element len x j i) (turned_entry o element len y k i) (turned_within o element len x j i hx wx) (turned_within o element len y k i hy wy))
+      all-each (input_count given) (λ i. or_list o element o.one (turned_entry o element given x j i) (turned_entry o element given y k i)) 32 0
+      (λ i le lt. or_within o element (input_count given) o.one (turned_entry o element given x j i) (turned_entry o element given y k i) (turned_within o element given ok x j i hx wx) (turned_within o element given ok y k i hy wy))
 
-  schedule_within : (t : ℕ) → 16 ≤ t → t < 64 → AreAllWithin (input_count len) (schedule_pairs o element len t)
+  schedule_within : (t : ℕ) → 16 ≤ t → t < 64 → AreAllWithin (input_count given) (schedule_pairs o element given t)
   unfolding schedule_pairs
   schedule_within t le lt =
-      all-append (input_count len) (pair_rows o element len (Schedule (t - 2)) 17 (Schedule (t - 2)) 19) (pair_rows o element len (Schedule (t - 15)) 7 (Schedule (t - 15)) 18)
+      all-append (input_count given) (pair_rows o element given (Schedule (t - 2)) 17 (Schedule (t - 2)) 19) (pair_rows o element given (Schedule (t - 15)) 7 (Schedule (t - 15)) 18)
       (pairs_within (Schedule (t - 2)) 17 (Schedule (t - 2)) 19 (omega (arith, lt)) (λ i l. l) (omega (arith, lt)) (λ i l. l))
       (pairs_within (Schedule (t - 15)) 7 (Schedule (t - 15)) 18 (omega (arith, lt)) (λ i l. l) (omega (arith, lt)) (λ i l. l))
 
-  round_within : (t : ℕ) → t < 64 → AreAllWithin (input_count len) (round_pairs o element len t)
+  round_within : (t : ℕ) → t < 64 → AreAllWithin (input_count given) (round_pairs o element given t)
   unfolding round_pairs
   round_within t lt =
-      all-append (input_count len) (pair_rows o element len (E (t + 3)) 6 (E (t + 3)) 11) _ (pairs_within (E (t + 3)) 6 (E (t + 3)) 11 (omega (arith, lt)) (λ i l. l) (omega (arith, lt)) (λ i l. l))
-      (all-append (input_count len) (pair_rows o element len (A (t + 3)) 2 (A (t + 3)) 13) (pair_rows o element len (A (t + 3)) 0 (A (t + 2)) 0)
+      all-append (input_count given) (pair_rows o element given (E (t + 3)) 6 (E (t + 3)) 11) _ (pairs_within (E (t + 3)) 6 (E (t + 3)) 11 (omega (arith, lt)) (λ i l. l) (omega (arith, lt)) (λ i l. l))
+      (all-append (input_count given) (pair_rows o element given (A (t + 3)) 2 (A (t + 3)) 13) (pair_rows o element given (A (t + 3)) 0 (A (t + 2)) 0)
       (pairs_within (A (t + 3)) 2 (A (t + 3)) 13 (omega (arith, lt)) (λ i l. l) (omega (arith, lt)) (λ i l. l))
       (pairs_within (A (t + 3)) 0 (A (t + 2)) 0 (omega (arith, lt)) (λ i l. l) (omega (arith, lt)) (λ i l. l)))
 
-  inner_within : AreAllWithin (input_count len) (inner_rows o element len)
+  inner_within : AreAllWithin (input_count given) (inner_rows o element given)
   unfolding inner_rows
   inner_within =
-      all-append (input_count len) (map (pass_row o) (range_with_len 0 (input_count len))) _ (all-each (input_count len) (pass_row o) (input_count len) 0 (λ i le lt. (omega arith, omega (arith, lt), tt)))
-      (all-append (input_count len) (flat_map (schedule_pairs o element len) (range_with_len 16 48)) (flat_map (round_pairs o element len) (range_with_len 0 64))
-      (all-chunks (input_count len) (schedule_pairs o element len) 48 16 (λ t le lt. schedule_within t le (omega (arith, lt))))
-      (all-chunks (input_count len) (round_pairs o element len) 64 0 (λ t le lt. round_within t (omega (arith, lt)))))
+      all-append (input_count given) (map (pass_row o) (range_with_len 0 (input_count given))) _ (all-each (input_count given) (pass_row o) (input_count given) 0 (λ i le lt. (omega arith, omega (arith, lt), tt)))
+      (all-append (input_count given) (flat_map (schedule_pairs o element given) (range_with_len 16 48)) (flat_map (round_pairs o element given) (range_with_len 0 64))
+      (all-chunks (input_count given) (schedule_pairs o element given) 48 16 (λ t le lt. schedule_within t le (omega (arith, lt))))
+      (all-chunks (input_count given) (round_pairs o element given) 64 0 (λ t le lt. round_within t (omega (arith, lt)))))
 
-  output_within : AreAllWithin (inner_count len) (output_rows o element len)
+  output_within : AreAllWithin (inner_count given) (output_rows o element given)
   unfolding output_rows
   output_within =
-      let w = inner_count len in
-      let pair = λ (t : ℕ). a_row o element len t ∷ e_row o element len t ∷ [] in
-      let r0 = map (bit_row o) (range_with_len 0 (8 * len + 6376)) in
-      let r1 = map (w_row o element len) (range_with_len 16 48) in
+      let w = inner_count given in
+      let pair = λ (t : ℕ). a_row o element given t ∷ e_row o element given t ∷ [] in
+      let r0 = map (bit_row o) (range_with_len 0 (given.inputs + 6376)) in
+      let r1 = map (w_row o element given) (range_with_len 16 48) in
       let r2 = flat_map pair (range_with_len 0 64) in
-      let r3 = map (f_row o element len) (range_with_len 0 8) in
-      let r4 = map (digest_row o element len) (range_with_len 0 8) in
-      all-append w r0 (r1 ++ (r2 ++ (r3 ++ r4))) (all-each w (bit_row o) (8 * len + 6376) 0 (λ j le lt. bit_row_within o element len j (omega (arith, lt))))
-      (all-append w r1 (r2 ++ (r3 ++ r4)) (all-each w (w_row o element len) 48 16 (λ t le lt. w_row_within o element len t le (omega (arith, lt))))
-      (all-append w r2 (r3 ++ r4) (all-chunks w pair 64 0 (λ t le lt. (a_row_within o element len t (omega (arith, lt)), (e_row_within o element len t (omega (arith, lt)), tt))))
-      (all-append w r3 r4 (all-each w (f_row o element len) 8 0 (λ i le lt. f_row_within o element len i (omega (arith, lt)))) (all-each w (digest_row o element len) 8 0 (λ i le lt. digest_row_within o element len i (omega (arith, lt)))))))
+      let r3 = map (f_row o element given) (range_with_len 0 8) in
+      let r4 = map (digest_row o element given) (range_with_len 0 8) in
+      all-append w r0 (r1 ++ (r2 ++ (r3 ++ r4))) (all-each w (bit_row o) (given.inputs + 6376) 0 (λ j le lt. bit_row_within o element given ok j (omega (arith, lt))))
+      (all-append w r1 (r2 ++ (r3 ++ r4)) (all-each w (w_row o element given) 48 16 (λ t le lt. w_row_within o element given ok t le (omega (arith, lt))))
+      (all-append w r2 (r3 ++ r4) (all-chunks w pair 64 0 (λ t le lt. (a_row_within o element given ok t (omega (arith, lt)), (e_row_within o element given ok t (omega (arith, lt)), tt))))
+      (all-append w r3 r4 (all-each w (f_row o element given) 8 0 (λ i le lt. f_row_within o element given ok i (omega (arith, lt)))) (all-each w (digest_row o element given) 8 0 (λ i le lt. digest_row_within o element given ok i (omega (arith, lt)))))))
 
 -- ---- the circuit
 
-valid : (len : ℕ) (kept : List (Layer Gold)) → len ≤ 55 → length kept ≡ 2 → AreLayers gold.ops (input_count len) kept → IsValid gold.ops (wiring 8 (8 * len + 6376) kept)
-valid len kept few two layers =
-    let width : input_count len ≡ 1 + 8 + (8 * len + 6376) = omega arith in
-    one-valid gold.ops 8 (8 * len + 6376) kept (omega arith) (omega (arith, few)) (omega (arith, two)) (omega (arith, two))
+valid : (given : Places) (kept : List (Layer Gold)) → IsPlaced given → length kept ≡ 2 → AreLayers gold.ops (input_count given) kept → IsValid gold.ops (wiring 8 (total_count given) kept)
+valid given kept placed two layers =
+    let few = placed.few in
+    let width : input_count given ≡ 1 + 8 + total_count given = omega arith in
+    one-valid gold.ops 8 (total_count given) kept (omega arith) (omega (arith, few)) (omega (arith, two)) (omega (arith, two))
     (subst (λ n. AreLayers gold.ops n kept) width layers)
 
-pub some_sha_circuit : SomeShaCircuit
-some_sha_circuit len few =
+pub some_compression : SomeCompressionCircuit
+some_compression given ok =
     let o = gold.ops in
     let element = gold.of_number in
     let decide = zero_or_not o p (λ (x : Gold). x.n) element 8 gold.numbers in
-    let (t0, outer) = some_built o gold.ring gold.field decide (inner_count len) (output_rows o element len) (output_within o element len) in
-    let (t1, inner) = some_built o gold.ring gold.field decide (input_count len) (inner_rows o element len) (inner_within o element len) in
-    let layers = two_layers len t0 t1 in
-    let (kept, is) = some_reduced o p (λ (x : Gold). x.n) element 8 gold.laws (input_count len) layers (omega arith) (layers_valid o element len few t0 t1 outer inner) (layers_ones o element len few t0 t1 outer inner) in
+    let (t0, outer) = some_built o gold.ring gold.field decide (inner_count given) (output_rows o element given) (output_within o element given ok) in
+    let (t1, inner) = some_built o gold.ring gold.field decide (input_count given) (inner_rows o element given) (inner_within o element given ok) in
+    let layers = two_layers given t0 t1 in
+    let (kept, is) = some_reduced o p (λ (x : Gold). x.n) element 8 gold.laws (input_count given) layers (omega arith) (layers_valid o element given ok t0 t1 outer inner) (layers_ones o element given ok t0 t1 outer inner) in
     let two = is.count in (
-      wiring 8 (8 * len + 6376) kept,
+      wiring 8 (total_count given) kept,
       record {
         version = refl;
         publics = refl;
@@ -159,8 +162,13 @@ some_sha_circuit len few =
         layers = two;
         outputs = λ public private short long.
             let both = length-append public private in
-            is.values (inputs_of o public private) (omega (arith, both, short, long)) ∙ outputs_are o gold.ring element len public private short long t0 t1 outer inner;
+            is.values (inputs_of o public private) (omega (arith, both, short, long)) ∙ outputs_are o gold.ring element given ok public private short long t0 t1 outer inner;
         reduced = is.reduced;
       },
-      valid len kept few two is.valid,
+      valid given kept ok two is.valid,
     )
+
+pub some_sha_circuit : SomeShaCircuit
+some_sha_circuit len few =
+    let (c, is, v) = some_compression (message_places len) (message_placed len few) in
+    (c, record { version = is.version; publics = is.publics; privates = is.privates; layers = is.layers; outputs = is.outputs; reduced = is.reduced }, v)

@@ -7,7 +7,7 @@ use Rattle.lzk_field.specs.Ring.{Ops}
 use Rattle.lzk_field.specs.Sums.{minus}
 use Rattle.lzk_field.proofs.RingBasics.{same_from_difference}
 use Rattle.lzk_sha_circuit.specs.Words.{worth}
-use Rattle.lzk_sha_circuit.specs.Places.{bits_from}
+use Rattle.lzk_sha_circuit.specs.Places.{Places, bits_from}
 use Rattle.lzk_sha_circuit.specs.Outputs.{with_carry}
 use Rattle.lzk_sha_circuit.proofs.Numbered.{Numbered}
 use Rattle.lzk_sha_circuit.proofs.Held.{Held, worth_is}
@@ -58,18 +58,18 @@ module _ {A : Type 0} (o : Ops A) (element : ℕ → A) (size : ℕ) (h : Number
   carry_backward m x y z s ex ey ez =
       zero_from_same x (o.plus y (o.times (element m) z)) s (s / m * m + s % m) ex (carried_is m (s % m) (s / m) y z ey ez) (sym (div-add-mod' s m))
 
-  module _ (len : ℕ) (input : ℕ → A) where
+  module _ (given : Places) (input : ℕ → A) where
     -- a word that is what a sum is, its carry taken off
     pub word_follows : (place bits : ℕ) (x : A) (s t c : ℕ) → 2 ^ bits ≤ 8 → 8 * 2 ^ 32 ≤ size → Valued element (2 ^ 32) 8 x s
         → Held element 32 (bits_from input place 32) t → Held element bits (bits_from input (place + 32) bits) c
-        → minus o x (with_carry o element len input place bits) ≡ o.zero → t ≡ s % 2 ^ 32
+        → minus o x (with_carry o element given input place bits) ≡ o.zero → t ≡ s % 2 ^ 32
     word_follows place bits x s t c few big vx ht hc e =
         carry_forward (2 ^ 32) (2 ^ bits) x (worth o element 32 (bits_from input place 32)) (worth o element bits (bits_from input (place + 32) bits)) s t c few big vx
         (worth_is o element size h 32 (bits_from input place 32) t ht) ht.below (worth_is o element size h bits (bits_from input (place + 32) bits) c hc) hc.below e
 
     pub word_meets : (place bits : ℕ) (x : A) (s : ℕ) → x ≡ element s
         → Held element 32 (bits_from input place 32) (s % 2 ^ 32) → Held element bits (bits_from input (place + 32) bits) (s / 2 ^ 32)
-        → minus o x (with_carry o element len input place bits) ≡ o.zero
+        → minus o x (with_carry o element given input place bits) ≡ o.zero
     word_meets place bits x s ex ht hc =
         carry_backward (2 ^ 32) x (worth o element 32 (bits_from input place 32)) (worth o element bits (bits_from input (place + 32) bits)) s ex
         (worth_is o element size h 32 (bits_from input place 32) (s % 2 ^ 32) ht) (worth_is o element size h bits (bits_from input (place + 32) bits) (s / 2 ^ 32) hc)

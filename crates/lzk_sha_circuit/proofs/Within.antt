@@ -1,18 +1,20 @@
 -- The rows name wires of the layer below.
-use Rattle.std.specs.Prelude.{◌≡◌, ℕ, ◌+◌, ◌-◌, ◌*◌, ◌/◌, ◌%◌, ◌^◌, ◌<◌, ◌≤◌, nat_lt, if◌then◌else◌, Bool, true, false, List, [], ◌∷◌, ◌++◌, length, slice_index}
+use Rattle.std.specs.Prelude.{◌≡◌, ℕ, ◌+◌, ◌-◌, ◌*◌, ◌%◌, ◌^◌, ◌<◌, ◌≤◌, nat_lt, if◌then◌else◌, Bool, true, false, List, [], ◌∷◌, ◌++◌, length, slice_index}
 use Rattle.std.specs.List.{range_with_len, flat_map}
 use Rattle.std.proofs.Common.{zero, suc, inl, inr, refl, ap, ◌∙◌, arith, lt-ltb, le-ltb, length-append}
 use Rattle.std.proofs.lemmas.Bool.{cases_lt}
 use Rattle.std.proofs.lemmas.List.FromFn.{length-map-range_with_len}
 use Rattle.lzk_field.specs.Ring.{Ops}
-use Rattle.sha2.specs.Sha256.{padding, initial_hash_256, round_constants}
+use Rattle.sha2.specs.Sha256.{round_constants}
 use Rattle.lzk_sha_circuit.specs.declared.products.Product.{Product}
 use Rattle.lzk_sha_circuit.specs.declared.products.Entry.{Entry}
+use Rattle.lzk_sha_circuit.specs.declared.bit.Bit.{Bit}
+use Rattle.lzk_sha_circuit.specs.declared.bit.Bit.TheVariants.{Zero, One, Input}
 use Rattle.lzk_sha_circuit.specs.declared.entries.Word.{Word}
-use Rattle.lzk_sha_circuit.specs.declared.entries.Word.TheVariants.{Schedule, A, E, Bits}
-use Rattle.lzk_sha_circuit.specs.Places.{w_place, a_place, e_place, f_place}
+use Rattle.lzk_sha_circuit.specs.declared.entries.Word.TheVariants.{State, Schedule, A, E, Bits}
+use Rattle.lzk_sha_circuit.specs.Places.{Places, IsBitOf, IsPlaced, bit_of, w_place, a_place, e_place, f_place}
 use Rattle.lzk_sha_circuit.specs.Products.{AreWithin, linear, or_list, chosen_list, most_list, worth_list, or_word_list, ch_word_list, maj_word_list}
-use Rattle.lzk_sha_circuit.specs.Layers.{input_count, inner_count, IsWordOf, IsPlaceOf, IsWhole, wire_entry, constant_entry, block_entry, bits_entry, word_entry, turned_entry, shifted_entry, or_entry, or_place_w, or_place_round, pair_rows, schedule_pairs, round_pairs, carry_list, bit_row, w_row, first_list, a_row, e_row, last_word_of, f_row, digest_row}
+use Rattle.lzk_sha_circuit.specs.Layers.{input_count, inner_count, IsWordOf, IsPlaceOf, IsWhole, constant_entry, bit_entry, bits_entry, word_entry, turned_entry, shifted_entry, or_entry, or_place_w, or_place_round, pair_rows, schedule_pairs, round_pairs, carry_list, bit_row, w_row, first_list, a_row, e_row, last_word_of, f_row, digest_row}
 use Rattle.lzk_sha_circuit.proofs.RowLaws.{within-append}
 
 within_chunks : {X : Type 0} (width : ℕ) (f : ℕ → List (Product X)) (n a : ℕ) → ((i : ℕ) → a ≤ i → i < a + n → AreWithin width (f i)) → AreWithin width (flat_map f (range_with_len a n))
@@ -31,18 +33,24 @@ module _ {X : Type 0} (o : Ops X) (element : ℕ → X) where
   pub is_more : (m n : ℕ) → nat_lt m n ≡ false → n ≤ m
   is_more m n e = elim (cases_lt m n) [ inl l ↦ absurd (let f = lt-ltb m n l in cc) | inr l ↦ l ]
 
-  pub word_within : (len : ℕ) (w : Word) (i : ℕ) → IsWordOf len w → IsPlaceOf w i → (word_entry o element len w i).wire < input_count len
+  bit_within : (n : ℕ) (x : Bit) → IsBitOf n x → (bit_entry o element x).wire < n + 6385
+  bit_within n Zero h = omega arith
+  bit_within n One h = omega arith
+  bit_within n (Input j) h = let lt = h j refl in omega (arith, lt)
+
+  pub word_within : (given : Places) → IsPlaced given → (w : Word) (i : ℕ) → IsWordOf given w → IsPlaceOf w i → (word_entry o element given w i).wire < input_count given
   unfolding word_entry
-  word_within len (Schedule t) i hw hi =
-      let j = 32 * t + (31 - i) in
-      if_within (input_count len) (nat_lt t 16) (block_entry o element len j) (bits_entry o (w_place len t) 32 i)
-      (λ b. if_within (input_count len) (nat_lt j (8 * len)) (wire_entry o (9 + j)) (constant_entry element (slice_index (padding len) (j / 8 - len)) (7 - j % 8)) (λ c. let l = is_less j (8 * len) c in omega (arith, l)) (λ c. omega arith))
-      (λ b. let l = is_more t 16 b in omega (arith, l, hw))
-  word_within len (A s) i hw hi =
-      if_within (input_count len) (nat_lt s 4) (constant_entry element (slice_index initial_hash_256 (3 - s)) i) (bits_entry o (a_place len (s - 4)) 32 i) (λ b. omega arith) (λ b. let l = is_more s 4 b in omega (arith, l, hw))
-  word_within len (E s) i hw hi =
-      if_within (input_count len) (nat_lt s 4) (constant_entry element (slice_index initial_hash_256 (7 - s)) i) (bits_entry o (e_place len (s - 4)) 32 i) (λ b. omega arith) (λ b. let l = is_more s 4 b in omega (arith, l, hw))
-  word_within len (Bits place n) i hw hi = omega (arith, hw, hi)
+  word_within given ok (State k) i hw hi = bit_within given.inputs (bit_of given.state (32 * k + (31 - i))) (ok.state_within (32 * k + (31 - i)))
+  word_within given ok (Schedule t) i hw hi =
+      if_within (input_count given) (nat_lt t 16) (bit_entry o element (bit_of given.block (32 * t + (31 - i)))) (bits_entry o (w_place given t) 32 i)
+      (λ b. bit_within given.inputs (bit_of given.block (32 * t + (31 - i))) (ok.block_within (32 * t + (31 - i)))) (λ b. let l = is_more t 16 b in omega (arith, l, hw))
+  word_within given ok (A s) i hw hi =
+      if_within (input_count given) (nat_lt s 4) (bit_entry o element (bit_of given.state (32 * (3 - s) + (31 - i)))) (bits_entry o (a_place given (s - 4)) 32 i)
+      (λ b. bit_within given.inputs (bit_of given.state (32 * (3 - s) + (31 - i))) (ok.state_within (32 * (3 - s) + (31 - i)))) (λ b. let l = is_more s 4 b in omega (arith, l, hw))
+  word_within given ok (E s) i hw hi =
+      if_within (input_count given) (nat_lt s 4) (bit_entry o element (bit_of given.state (32 * (7 - s) + (31 - i)))) (bits_entry o (e_place given (s - 4)) 32 i)
+      (λ b. bit_within given.inputs (bit_of given.state (32 * (7 - s) + (31 - i))) (ok.state_within (32 * (7 - s) + (31 - i)))) (λ b. let l = is_more s 4 b in omega (arith, l, hw))
+  word_within given ok (Bits place n) i hw hi = omega (arith, hw, hi)
 
   -- ---- formulas
   pub or_within : (width : ℕ) (s : X) (x y : Entry X) → x.wire < width → y.wire < width → AreWithin width (or_list o element s x y)
@@ -74,114 +82,115 @@ module _ {X : Type 0} (o : Ops X) (element : ℕ → X) where
     maj_word_within x y z u hx hy hz hu =
         within_chunks width (λ i. most_list o (element (2 ^ i)) (x i) (y i) (z i) (u i)) 32 0 (λ i le lt. most_within width (element (2 ^ i)) (x i) (y i) (z i) (u i) (hx i (omega arith)) (hy i (omega arith)) (hz i (omega arith)) (hu i (omega arith)))
 
-  pub turned_within : (len : ℕ) (w : Word) (k i : ℕ) → IsWordOf len w → IsWhole w → (turned_entry o element len w k i).wire < input_count len
-  turned_within len w k i hw whole = word_within len w ((i + k) % 32) hw (whole ((i + k) % 32) (omega arith))
+  pub turned_within : (given : Places) → IsPlaced given → (w : Word) (k i : ℕ) → IsWordOf given w → IsWhole w → (turned_entry o element given w k i).wire < input_count given
+  turned_within given ok w k i hw whole = word_within given ok w ((i + k) % 32) hw (whole ((i + k) % 32) (omega arith))
 
   -- ---- the rows of the outputs
-  module _ (len : ℕ) where
-    below_inner : (k : ℕ) → k < input_count len → k < inner_count len
+  module _ (given : Places) (ok : IsPlaced given) where
+    below_inner : (k : ℕ) → k < input_count given → k < inner_count given
     below_inner k l = omega (arith, l)
 
-    some : 1 ≤ inner_count len
+    some : 1 ≤ inner_count given
     some = omega arith
 
-    entries : (w : Word) → IsWordOf len w → IsWhole w → (i : ℕ) → i < 32 → (word_entry o element len w i).wire < inner_count len
-    entries w hw whole i lt = below_inner _ (word_within len w i hw (whole i lt))
+    entries : (w : Word) → IsWordOf given w → IsWhole w → (i : ℕ) → i < 32 → (word_entry o element given w i).wire < inner_count given
+    entries w hw whole i lt = below_inner _ (word_within given ok w i hw (whole i lt))
 
-    turned_entries : (w : Word) (k : ℕ) → IsWordOf len w → IsWhole w → (i : ℕ) → i < 32 → (turned_entry o element len w k i).wire < inner_count len
-    turned_entries w k hw whole i lt = below_inner _ (turned_within len w k i hw whole)
+    turned_entries : (w : Word) (k : ℕ) → IsWordOf given w → IsWhole w → (i : ℕ) → i < 32 → (turned_entry o element given w k i).wire < inner_count given
+    turned_entries w k hw whole i lt = below_inner _ (turned_within given ok w k i hw whole)
 
-    shifted_entries : (w : Word) (k : ℕ) → IsWordOf len w → IsWhole w → (i : ℕ) → i < 32 → (shifted_entry o element len w k i).wire < inner_count len
+    shifted_entries : (w : Word) (k : ℕ) → IsWordOf given w → IsWhole w → (i : ℕ) → i < 32 → (shifted_entry o element given w k i).wire < inner_count given
     shifted_entries w k hw whole i lt =
-        if_within (inner_count len) (nat_lt (i + k) 32) (word_entry o element len w (i + k)) (record { factor = element 0; wire = 0 })
-        (λ b. below_inner _ (word_within len w (i + k) hw (whole (i + k) (is_less (i + k) 32 b)))) (λ b. omega arith)
+        if_within (inner_count given) (nat_lt (i + k) 32) (word_entry o element given w (i + k)) (constant_entry element 0)
+        (λ b. below_inner _ (word_within given ok w (i + k) hw (whole (i + k) (is_less (i + k) 32 b)))) (λ b. omega arith)
 
-    ors : (place : ℕ) → place + 32 ≤ 9216 → (i : ℕ) → i < 32 → (or_entry o element len place i).wire < inner_count len
+    ors : (place : ℕ) → place + 32 ≤ 9216 → (i : ℕ) → i < 32 → (or_entry o element given place i).wire < inner_count given
     ors place le i lt = omega (arith, le, lt)
 
-    carry_within : (place bits : ℕ) → place + 32 + bits ≤ 8 * len + 6376 → AreWithin (inner_count len) (carry_list o element len place bits)
+    carry_within : (place bits : ℕ) → place + 32 + bits ≤ given.inputs + 6376 → AreWithin (inner_count given) (carry_list o element given place bits)
     carry_within place bits le =
-        within-append (inner_count len) (worth_list o element (o.neg o.one) 32 (word_entry o element len (Bits place 32))) (worth_list o element (o.neg (element (2 ^ 32))) bits (word_entry o element len (Bits (place + 32) bits)))
-        (worth_within (inner_count len) (o.neg o.one) 32 (word_entry o element len (Bits place 32)) some (λ i lt. below_inner _ (word_within len (Bits place 32) i (omega arith) lt)))
-        (worth_within (inner_count len) (o.neg (element (2 ^ 32))) bits (word_entry o element len (Bits (place + 32) bits)) some (λ i lt. below_inner _ (word_within len (Bits (place + 32) bits) i (omega arith) lt)))
+        within-append (inner_count given) (worth_list o element (o.neg o.one) 32 (word_entry o element given (Bits place 32))) (worth_list o element (o.neg (element (2 ^ 32))) bits (word_entry o element given (Bits (place + 32) bits)))
+        (worth_within (inner_count given) (o.neg o.one) 32 (word_entry o element given (Bits place 32)) some (λ i lt. below_inner _ (word_within given ok (Bits place 32) i (omega arith) lt)))
+        (worth_within (inner_count given) (o.neg (element (2 ^ 32))) bits (word_entry o element given (Bits (place + 32) bits)) some (λ i lt. below_inner _ (word_within given ok (Bits (place + 32) bits) i (omega arith) lt)))
 
-    word_worth : (w : Word) → IsWordOf len w → IsWhole w → AreWithin (inner_count len) (worth_list o element o.one 32 (word_entry o element len w))
-    word_worth w hw whole = worth_within (inner_count len) o.one 32 (word_entry o element len w) some (entries w hw whole)
+    word_worth : (w : Word) → IsWordOf given w → IsWhole w → AreWithin (inner_count given) (worth_list o element o.one 32 (word_entry o element given w))
+    word_worth w hw whole = worth_within (inner_count given) o.one 32 (word_entry o element given w) some (entries w hw whole)
 
-    pub bit_row_within : (j : ℕ) → j < 8 * len + 6376 → AreWithin (inner_count len) (bit_row o j)
+    pub bit_row_within : (j : ℕ) → j < given.inputs + 6376 → AreWithin (inner_count given) (bit_row o j)
     unfolding bit_row
     bit_row_within j lt = (omega (arith, lt), omega (arith, lt), (omega arith, omega (arith, lt), tt))
 
-    pub w_row_within : (t : ℕ) → 16 ≤ t → t < 64 → AreWithin (inner_count len) (w_row o element len t)
+    pub w_row_within : (t : ℕ) → 16 ≤ t → t < 64 → AreWithin (inner_count given) (w_row o element given t)
     unfolding w_row
     w_row_within t le lt =
-        within-append (inner_count len) (or_word_list o element (or_entry o element len (or_place_w o element t)) (shifted_entry o element len (Schedule (t - 2)) 10)) _
-        (or_word_within (inner_count len) _ _ (ors (64 * (t - 16)) (omega arith)) (shifted_entries (Schedule (t - 2)) 10 (omega arith) (λ i l. l)))
-        (within-append (inner_count len) (worth_list o element o.one 32 (word_entry o element len (Schedule (t - 7)))) _ (word_worth (Schedule (t - 7)) (omega arith) (λ i l. l))
-        (within-append (inner_count len) (or_word_list o element (or_entry o element len (or_place_w o element t + 32)) (shifted_entry o element len (Schedule (t - 15)) 3)) _
-        (or_word_within (inner_count len) _ _ (ors (64 * (t - 16) + 32) (omega arith)) (shifted_entries (Schedule (t - 15)) 3 (omega arith) (λ i l. l)))
-        (within-append (inner_count len) (worth_list o element o.one 32 (word_entry o element len (Schedule (t - 16)))) _ (word_worth (Schedule (t - 16)) (omega arith) (λ i l. l))
-        (carry_within (w_place len t) 2 (omega arith)))))
+        within-append (inner_count given) (or_word_list o element (or_entry o element given (or_place_w o element t)) (shifted_entry o element given (Schedule (t - 2)) 10)) _
+        (or_word_within (inner_count given) _ _ (ors (64 * (t - 16)) (omega arith)) (shifted_entries (Schedule (t - 2)) 10 (omega arith) (λ i l. l)))
+        (within-append (inner_count given) (worth_list o element o.one 32 (word_entry o element given (Schedule (t - 7)))) _ (word_worth (Schedule (t - 7)) (omega arith) (λ i l. l))
+        (within-append (inner_count given) (or_word_list o element (or_entry o element given (or_place_w o element t + 32)) (shifted_entry o element given (Schedule (t - 15)) 3)) _
+        (or_word_within (inner_count given) _ _ (ors (64 * (t - 16) + 32) (omega arith)) (shifted_entries (Schedule (t - 15)) 3 (omega arith) (λ i l. l)))
+        (within-append (inner_count given) (worth_list o element o.one 32 (word_entry o element given (Schedule (t - 16)))) _ (word_worth (Schedule (t - 16)) (omega arith) (λ i l. l))
+        (carry_within (w_place given t) 2 (omega arith)))))
 
-    first_within : (t : ℕ) → t < 64 → AreWithin (inner_count len) (first_list o element len t)
+    first_within : (t : ℕ) → t < 64 → AreWithin (inner_count given) (first_list o element given t)
     unfolding first_list
     first_within t lt =
-        within-append (inner_count len) (worth_list o element o.one 32 (word_entry o element len (E t))) _ (word_worth (E t) (omega arith) (λ i l. l))
-        (within-append (inner_count len) (or_word_list o element (or_entry o element len (or_place_round o element t)) (turned_entry o element len (E (t + 3)) 25)) _
-        (or_word_within (inner_count len) _ _ (ors (3072 + 96 * t) (omega arith)) (turned_entries (E (t + 3)) 25 (omega arith) (λ i l. l)))
-        (within-append (inner_count len) (ch_word_list o element (word_entry o element len (E (t + 3))) (word_entry o element len (E (t + 2))) (word_entry o element len (E (t + 1)))) _
-        (ch_word_within (inner_count len) _ _ _ (entries (E (t + 3)) (omega arith) (λ i l. l)) (entries (E (t + 2)) (omega arith) (λ i l. l)) (entries (E (t + 1)) (omega arith) (λ i l. l)))
-        (within-append (inner_count len) (record { coef = element (slice_index round_constants t); a = 0; b = 0 } ∷ []) (worth_list o element o.one 32 (word_entry o element len (Schedule t))) (omega arith, omega arith, tt) (word_worth (Schedule t) lt (λ i l. l)))))
+        within-append (inner_count given) (worth_list o element o.one 32 (word_entry o element given (E t))) _ (word_worth (E t) (omega arith) (λ i l. l))
+        (within-append (inner_count given) (or_word_list o element (or_entry o element given (or_place_round o element t)) (turned_entry o element given (E (t + 3)) 25)) _
+        (or_word_within (inner_count given) _ _ (ors (3072 + 96 * t) (omega arith)) (turned_entries (E (t + 3)) 25 (omega arith) (λ i l. l)))
+        (within-append (inner_count given) (ch_word_list o element (word_entry o element given (E (t + 3))) (word_entry o element given (E (t + 2))) (word_entry o element given (E (t + 1)))) _
+        (ch_word_within (inner_count given) _ _ _ (entries (E (t + 3)) (omega arith) (λ i l. l)) (entries (E (t + 2)) (omega arith) (λ i l. l)) (entries (E (t + 1)) (omega arith) (λ i l. l)))
+        (within-append (inner_count given) (record { coef = element (slice_index round_constants t); a = 0; b = 0 } ∷ []) (worth_list o element o.one 32 (word_entry o element given (Schedule t))) (omega arith, omega arith, tt) (word_worth (Schedule t) lt (λ i l. l)))))
 
-    pub a_row_within : (t : ℕ) → t < 64 → AreWithin (inner_count len) (a_row o element len t)
+    pub a_row_within : (t : ℕ) → t < 64 → AreWithin (inner_count given) (a_row o element given t)
     unfolding a_row
     a_row_within t lt =
-        within-append (inner_count len) (first_list o element len t) _ (first_within t lt)
-        (within-append (inner_count len) (or_word_list o element (or_entry o element len (or_place_round o element t + 32)) (turned_entry o element len (A (t + 3)) 22)) _
-        (or_word_within (inner_count len) _ _ (ors (3072 + 96 * t + 32) (omega arith)) (turned_entries (A (t + 3)) 22 (omega arith) (λ i l. l)))
-        (within-append (inner_count len) (maj_word_list o element (word_entry o element len (A (t + 3))) (word_entry o element len (A (t + 2))) (word_entry o element len (A (t + 1))) (or_entry o element len (or_place_round o element t + 64))) _
-        (maj_word_within (inner_count len) _ _ _ _ (entries (A (t + 3)) (omega arith) (λ i l. l)) (entries (A (t + 2)) (omega arith) (λ i l. l)) (entries (A (t + 1)) (omega arith) (λ i l. l)) (ors (3072 + 96 * t + 64) (omega arith)))
-        (carry_within (a_place len t) 3 (omega arith))))
+        within-append (inner_count given) (first_list o element given t) _ (first_within t lt)
+        (within-append (inner_count given) (or_word_list o element (or_entry o element given (or_place_round o element t + 32)) (turned_entry o element given (A (t + 3)) 22)) _
+        (or_word_within (inner_count given) _ _ (ors (3072 + 96 * t + 32) (omega arith)) (turned_entries (A (t + 3)) 22 (omega arith) (λ i l. l)))
+        (within-append (inner_count given) (maj_word_list o element (word_entry o element given (A (t + 3))) (word_entry o element given (A (t + 2))) (word_entry o element given (A (t + 1))) (or_entry o element given (or_place_round o element t + 64))) _
+        (maj_word_within (inner_count given) _ _ _ _ (entries (A (t + 3)) (omega arith) (λ i l. l)) (entries (A (t + 2)) (omega arith) (λ i l. l)) (entries (A (t + 1)) (omega arith) (λ i l. l)) (ors (3072 + 96 * t + 64) (omega arith)))
+        (carry_within (a_place given t) 3 (omega arith))))
 
-    pub e_row_within : (t : ℕ) → t < 64 → AreWithin (inner_count len) (e_row o element len t)
+    pub e_row_within : (t : ℕ) → t < 64 → AreWithin (inner_count given) (e_row o element given t)
     unfolding e_row
     e_row_within t lt =
-        within-append (inner_count len) (worth_list o element o.one 32 (word_entry o element len (A t))) _ (word_worth (A t) (omega arith) (λ i l. l))
-        (within-append (inner_count len) (first_list o element len t) _ (first_within t lt) (carry_within (e_place len t) 3 (omega arith)))
+        within-append (inner_count given) (worth_list o element o.one 32 (word_entry o element given (A t))) _ (word_worth (A t) (omega arith) (λ i l. l))
+        (within-append (inner_count given) (first_list o element given t) _ (first_within t lt) (carry_within (e_place given t) 3 (omega arith)))
 
-    last_is_word : (b : Bool) (i : ℕ) → i < 8 → (b ≡ false → 4 ≤ i) → IsWordOf len (if b then A (67 - i) else E (71 - i)) × IsWhole (if b then A (67 - i) else E (71 - i))
+    last_is_word : (b : Bool) (i : ℕ) → i < 8 → (b ≡ false → 4 ≤ i) → IsWordOf given (if b then A (67 - i) else E (71 - i)) × IsWhole (if b then A (67 - i) else E (71 - i))
     last_is_word true i lt high = (omega arith, λ j l. l)
     last_is_word false i lt high = let l = high refl in (omega (arith, l), λ j m. m)
 
-    pub f_row_within : (i : ℕ) → i < 8 → AreWithin (inner_count len) (f_row o element len i)
+    pub f_row_within : (i : ℕ) → i < 8 → AreWithin (inner_count given) (f_row o element given i)
     unfolding f_row
     f_row_within i lt =
         let last = last_is_word (nat_lt i 4) i lt (is_more i 4) in
-        within-append (inner_count len) (record { coef = element (slice_index initial_hash_256 i); a = 0; b = 0 } ∷ []) _ (omega arith, omega arith, tt)
-        (within-append (inner_count len) (worth_list o element o.one 32 (word_entry o element len (last_word_of o element i))) _ (word_worth (last_word_of o element i) last.0 last.1) (carry_within (f_place len i) 1 (omega arith)))
+        within-append (inner_count given) (worth_list o element o.one 32 (word_entry o element given (State i))) _ (word_worth (State i) lt (λ j l. l))
+        (within-append (inner_count given) (worth_list o element o.one 32 (word_entry o element given (last_word_of o element i))) _ (word_worth (last_word_of o element i) last.0 last.1) (carry_within (f_place given i) 1 (omega arith)))
 
-    pub digest_row_within : (i : ℕ) → i < 8 → AreWithin (inner_count len) (digest_row o element len i)
+    pub digest_row_within : (i : ℕ) → i < 8 → AreWithin (inner_count given) (digest_row o element given i)
     unfolding digest_row
     digest_row_within i lt =
-        within-append (inner_count len) (worth_list o element o.one 32 (word_entry o element len (Bits (f_place len i) 32))) _ (word_worth (Bits (f_place len i) 32) (omega arith) (λ j l. l)) (omega arith, omega arith, tt)
+        within-append (inner_count given) (worth_list o element o.one 32 (word_entry o element given (Bits (f_place given i) 32))) _ (word_worth (Bits (f_place given i) 32) (omega arith) (λ j l. l)) (omega arith, omega arith, tt)
 
-    -- ---- how many rows
-    pub length-pair_rows : (x : Word) (j : ℕ) (y : Word) (k : ℕ) → length (pair_rows o element len x j y k) ≡ 32
+  -- ---- how many rows
+  module _ (given : Places) where
+    pub length-pair_rows : (x : Word) (j : ℕ) (y : Word) (k : ℕ) → length (pair_rows o element given x j y k) ≡ 32
     unfolding pair_rows
-    length-pair_rows x j y k = length-map-range_with_len (λ i. or_list o element o.one (turned_entry o element len x j i) (turned_entry o element len y k i)) 0 32
+    length-pair_rows x j y k = length-map-range_with_len (λ i. or_list o element o.one (turned_entry o element given x j i) (turned_entry o element given y k i)) 0 32
 
-    pub length-schedule_pairs : (t : ℕ) → length (schedule_pairs o element len t) ≡ 64
+    pub length-schedule_pairs : (t : ℕ) → length (schedule_pairs o element given t) ≡ 64
     unfolding schedule_pairs
     length-schedule_pairs t =
-        let p = pair_rows o element len (Schedule (t - 2)) 17 (Schedule (t - 2)) 19 in
-        let q = pair_rows o element len (Schedule (t - 15)) 7 (Schedule (t - 15)) 18 in
+        let p = pair_rows o element given (Schedule (t - 2)) 17 (Schedule (t - 2)) 19 in
+        let q = pair_rows o element given (Schedule (t - 15)) 7 (Schedule (t - 15)) 18 in
         length-append p q ∙ (λ i. length-pair_rows (Schedule (t - 2)) 17 (Schedule (t - 2)) 19 i + length-pair_rows (Schedule (t - 15)) 7 (Schedule (t - 15)) 18 i)
 
-    pub length-round_pairs : (t : ℕ) → length (round_pairs o element len t) ≡ 96
+    pub length-round_pairs : (t : ℕ) → length (round_pairs o element given t) ≡ 96
     unfolding round_pairs
     length-round_pairs t =
-        let p = pair_rows o element len (E (t + 3)) 6 (E (t + 3)) 11 in
-        let q = pair_rows o element len (A (t + 3)) 2 (A (t + 3)) 13 in
-        let r = pair_rows o element len (A (t + 3)) 0 (A (t + 2)) 0 in
+        let p = pair_rows o element given (E (t + 3)) 6 (E (t + 3)) 11 in
+        let q = pair_rows o element given (A (t + 3)) 2 (A (t + 3)) 13 in
+        let r = pair_rows o element given (A (t + 3)) 0 (A (t + 2)) 0 in
         length-append p (q ++ r) ∙ ap (λ n. length p + n) (length-append q r)
         ∙ (λ i. length-pair_rows (E (t + 3)) 6 (E (t + 3)) 11 i + (length-pair_rows (A (t + 3)) 2 (A (t + 3)) 13 i + length-pair_rows (A (t + 3)) 0 (A (t + 2)) 0 i))

@@ -9,7 +9,8 @@ AreBytes message = EachIndex message (λ k. slice_index message k < 256)
 
 -- the bits of a message, byte by byte, the most significant first
 abbrev pub message_bits : List ℕ → List ℕ
-message_bits message = map (λ j. bit_at (slice_index message (j / 8)) (7 - j % 8)) (range_with_len 0 (8 * length message))
+message_bits message =
+    map (λ j. bit_at (slice_index message (j / 8)) (7 - j % 8)) (range_with_len 0 (8 * length message))
 
 -- the eight words of a message's digest, big-endian
 unfoldable pub digest_words : List ℕ → List ℕ

@@ -1,5 +1,7 @@
 pub mod Circuits
+pub mod Compression
 pub mod Digest
+pub mod Found
 pub mod Inputs
 pub mod Layers
 pub mod Outputs

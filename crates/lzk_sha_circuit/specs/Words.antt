@@ -1,5 +1,6 @@
--- Words over the operations of a field. A word is a function from places to entries: the entry at place i is worth 2 ^ i, and a word of SHA-256
--- has the places below 32. The formulas are meant for entries that are 0 or 1, and are defined for all.
+-- Words over the operations of a field. A word is a function from places to entries: the entry at place i is worth 2 ^
+-- i, and a word of SHA-256 has the places below 32. The formulas are meant for entries that are 0 or 1, and are defined
+-- for all.
 use Rattle.std.specs.Prelude.{ℕ, ◌+◌, ◌%◌, ◌^◌, nat_lt, if◌then◌else◌}
 use Rattle.std.specs.Int.{bit_at}
 use Rattle.lzk_field.specs.Ring.{Ops}

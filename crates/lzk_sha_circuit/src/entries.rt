@@ -1,12 +1,14 @@
 //! Entries of words, as factors times input wires.
 
-ghost use Rattle.std.specs.Prelude.{◌≡◌, ℕ, ◌+◌, ◌-◌, ◌*◌, ◌<◌, ◌≤◌, slice_index};
-ghost use Rattle.sha2.specs.Sha256.{padding};
+ghost use Rattle.std.specs.Prelude.{◌≡◌, ℕ, ◌+◌, ◌-◌, ◌*◌, ◌<◌, ◌≤◌};
+ghost use Rattle.lzk_sha_circuit.specs.Found.{places_of};
 ghost use Rattle.lzk_goldilocks.specs.Elements.{ops, of_number};
-ghost use Rattle.lzk_sha_circuit.specs.Layers.{IsWordOf, IsPlaceOf, IsWhole, wire_entry, constant_entry, block_entry};
+ghost use Rattle.lzk_sha_circuit.specs.Places.{IsBitOf};
+ghost use Rattle.lzk_sha_circuit.specs.Layers.{IsWordOf, IsPlaceOf, IsWhole, wire_entry, bit_entry};
 ghost use Rattle.lzk_sha_circuit.specs.Layers.{bits_entry, word_entry, turned_entry, shifted_entry};
 
-use crate::constants::INITIAL_HASH;
+use crate::bit::Bit;
+use crate::given::Given;
 use crate::products::Entry;
 use lzk_field::Field;
 use lzk_goldilocks::Gold;
@@ -14,6 +16,8 @@ use lzk_goldilocks::Gold;
 /// A word of the circuit.
 #[derive(Clone, Copy)]
 pub enum Word {
+    /// Word i of the state.
+    State(u32),
     /// W t.
     Schedule(u32),
     /// A (s - 4).
@@ -34,44 +38,21 @@ pub fn wire_entry(wire: u32) -> Entry<Gold>
     }
 }
 
-// A bit of a number.
-fn constant_entry(number: u32, place: u32) -> Entry<Gold>
-    requires { place < 32 }
-    ensures { result ≡ constant_entry of_number number place }
+// A bit that is given.
+fn bit_entry(bit: Bit) -> Entry<Gold>
+    requires { IsBitOf 768 bit }
+    ensures { result ≡ bit_entry ops of_number bit }
 {
-    Entry {
-        factor: Gold::point((number >> place) & 1),
-        wire: 0,
-    }
-}
-
-// A byte of the padding behind a message of `len` bytes.
-fn padding_byte(len: u32, k: u32) -> u32
-    requires few { len ≤ 55 }
-    requires within { len + k < 64 }
-    ensures value { result ≡ slice_index (padding len) k }
-{
-    if k == 0 {
-        0x80
-    } else if len + k < 62 {
-        0
-    } else if len + k == 62 {
-        8 * len / 256
-    } else {
-        8 * len % 256
-    }
-}
-
-// A bit of the block.
-fn block_entry(len: u32, j: u32) -> Entry<Gold>
-    requires few { len ≤ 55 }
-    requires within { j < 512 }
-    ensures { result ≡ block_entry ops of_number len j }
-{
-    if j < 8 * len {
-        wire_entry(9 + j)
-    } else {
-        constant_entry(padding_byte(len, j / 8 - len), 7 - j % 8)
+    match bit {
+        Bit::Zero => Entry {
+            factor: Gold::zero(),
+            wire: 0,
+        },
+        Bit::One => Entry {
+            factor: Gold::one(),
+            wire: 0,
+        },
+        Bit::Input(j) => wire_entry(9 + j),
     }
 }
 
@@ -86,33 +67,33 @@ fn bits_entry(place: u32, count: u32, i: u32) -> Entry<Gold>
 
 // An entry of a word.
 #[tactic(auto, unfolding(crate::specs::Layers::word_entry))]
-pub fn entry(len: u32, word: Word, i: u32) -> Entry<Gold>
-    requires few { len ≤ 55 }
-    requires word { IsWordOf len word }
+pub fn entry(given: &Given, word: Word, i: u32) -> Entry<Gold>
+    requires word { IsWordOf (places_of given.now) word }
     requires place { i < 32 }
     requires within { IsPlaceOf word i }
-    ensures { result ≡ word_entry ops of_number len word i }
+    ensures { result ≡ word_entry ops of_number (places_of given.now) word i }
 {
     match word {
+        Word::State(k) => bit_entry(given.state_bit(32 * k + (31 - i))),
         Word::Schedule(t) => {
             if t < 16 {
-                block_entry(len, 32 * t + (31 - i))
+                bit_entry(given.block_bit(32 * t + (31 - i)))
             } else {
-                bits_entry(8 * len + 34 * (t - 16), 32, i)
+                bits_entry(given.inputs + 34 * (t - 16), 32, i)
             }
         }
         Word::A(s) => {
             if s < 4 {
-                constant_entry(INITIAL_HASH[3 - s as usize], i)
+                bit_entry(given.state_bit(32 * (3 - s) + (31 - i)))
             } else {
-                bits_entry(8 * len + 1632 + 70 * (s - 4), 32, i)
+                bits_entry(given.inputs + 1632 + 70 * (s - 4), 32, i)
             }
         }
         Word::E(s) => {
             if s < 4 {
-                constant_entry(INITIAL_HASH[7 - s as usize], i)
+                bit_entry(given.state_bit(32 * (7 - s) + (31 - i)))
             } else {
-                bits_entry(8 * len + 1632 + 70 * (s - 4) + 35, 32, i)
+                bits_entry(given.inputs + 1632 + 70 * (s - 4) + 35, 32, i)
             }
         }
         Word::Bits(place, count) => bits_entry(place, count, i),
@@ -120,28 +101,26 @@ pub fn entry(len: u32, word: Word, i: u32) -> Entry<Gold>
 }
 
 // An entry of a word that is rotated right by `k` places.
-pub fn turned_entry(len: u32, word: Word, k: u32, i: u32) -> Entry<Gold>
-    requires few { len ≤ 55 }
-    requires word { IsWordOf len word }
+pub fn turned_entry(given: &Given, word: Word, k: u32, i: u32) -> Entry<Gold>
+    requires word { IsWordOf (places_of given.now) word }
     requires whole { IsWhole word }
     requires turn { k < 32 }
     requires place { i < 32 }
-    ensures { result ≡ turned_entry ops of_number len word k i }
+    ensures { result ≡ turned_entry ops of_number (places_of given.now) word k i }
 {
-    entry(len, word, (i + k) % 32)
+    entry(given, word, (i + k) % 32)
 }
 
 // An entry of a word that is shifted right by `k` places.
-pub fn shifted_entry(len: u32, word: Word, k: u32, i: u32) -> Entry<Gold>
-    requires few { len ≤ 55 }
-    requires word { IsWordOf len word }
+pub fn shifted_entry(given: &Given, word: Word, k: u32, i: u32) -> Entry<Gold>
+    requires word { IsWordOf (places_of given.now) word }
     requires whole { IsWhole word }
     requires turn { k < 32 }
     requires place { i < 32 }
-    ensures { result ≡ shifted_entry ops of_number len word k i }
+    ensures { result ≡ shifted_entry ops of_number (places_of given.now) word k i }
 {
     if i + k < 32 {
-        entry(len, word, i + k)
+        entry(given, word, i + k)
     } else {
         Entry {
             factor: Gold::zero(),

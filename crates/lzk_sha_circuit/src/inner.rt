@@ -3,9 +3,11 @@
 ghost use Rattle.std.specs.Prelude.{◌≡◌, ℕ, ◌+◌, ◌-◌, ◌*◌, ◌<◌, ◌≤◌, map, IfOk, OnOk};
 ghost use Rattle.std.specs.List.{range_with_len};
 ghost use Rattle.lzk_goldilocks.specs.Elements.{ops, of_number};
+ghost use Rattle.lzk_sha_circuit.specs.Found.{places_of};
 ghost use Rattle.lzk_sha_circuit.specs.Layers.{IsWordOf, IsWhole, IsBuilt, Grows, input_count, pass_row, pair_rows, schedule_pairs, round_pairs, inner_rows};
 
 use crate::entries::{Word, turned_entry};
+use crate::given::Given;
 use crate::products::{Product, push_or};
 use crate::rows::push_row;
 use lzk_circuit::Term;
@@ -15,7 +17,8 @@ use std::alloc::{AllocError, Global};
 
 // So many wires that go on from below.
 fn push_inputs(alloc: Global, count: u32, terms: &mut Vec<Term<Gold>>) -> Result<(), AllocError>
-    ensures { OnOk result (Grows ops count 0 terms.old.items (map (pass_row ops) (range_with_len 0 count)) terms.new.items) }
+    ensures { OnOk result
+        (Grows ops count 0 terms.old.items (map (pass_row ops) (range_with_len 0 count)) terms.new.items) }
 {
     for k in 0..count {
         let product = Product {
@@ -31,28 +34,28 @@ fn push_inputs(alloc: Global, count: u32, terms: &mut Vec<Term<Gold>>) -> Result
 // The exclusive ors of the entries of two words, which are rotated right by `j` and `k` places.
 fn push_pairs(
     alloc: Global,
-    len: u32,
+    given: &Given,
     first: u32,
     x: (Word, u32),
     y: (Word, u32),
     terms: &mut Vec<Term<Gold>>,
 ) -> Result<(), AllocError>
-    requires few { len ≤ 55 }
     requires first { first ≤ 65536 }
-    requires left { IsWordOf len x.0 }
+    requires left { IsWordOf (places_of given.now) x.0 }
     requires left_whole { IsWhole x.0 }
     requires left_turn { x.1 < 32 }
-    requires right { IsWordOf len y.0 }
+    requires right { IsWordOf (places_of given.now) y.0 }
     requires right_whole { IsWhole y.0 }
     requires right_turn { y.1 < 32 }
-    ensures { OnOk result (Grows ops (input_count len) first terms.old.items (pair_rows ops of_number len x.0 x.1 y.0 y.1) terms.new.items) }
+    ensures { OnOk result (Grows ops (input_count (places_of given.now)) first terms.old.items
+        (pair_rows ops of_number (places_of given.now) x.0 x.1 y.0 y.1) terms.new.items) }
 {
     for i in 0..32 {
         let mut products = Vec::new(alloc);
         push_or(
             Gold::one(),
-            turned_entry(len, x.0, x.1, i),
-            turned_entry(len, y.0, y.1, i),
+            turned_entry(given, x.0, x.1, i),
+            turned_entry(given, y.0, y.1, i),
             &mut products,
         )?;
         push_row(alloc, first + i, &products, terms)?;
@@ -63,53 +66,55 @@ fn push_pairs(
 // Those of σ1 and σ0 for W t.
 fn push_schedule_pairs(
     alloc: Global,
-    len: u32,
+    given: &Given,
     t: u32,
     terms: &mut Vec<Term<Gold>>,
 ) -> Result<(), AllocError>
-    requires few { len ≤ 55 }
     requires low { 16 ≤ t }
     requires high { t < 64 }
-    ensures { OnOk result (Grows ops (input_count len) (input_count len + 64 * (t - 16)) terms.old.items (schedule_pairs ops of_number len t) terms.new.items) }
+    ensures { OnOk result (Grows ops (input_count (places_of given.now))
+        (input_count (places_of given.now) + 64 * (t - 16)) terms.old.items
+        (schedule_pairs ops of_number (places_of given.now) t) terms.new.items) }
 {
-    let first = 8 * len + 6385 + 64 * (t - 16);
+    let first = given.inputs + 6385 + 64 * (t - 16);
     let (two, fifteen) = (Word::Schedule(t - 2), Word::Schedule(t - 15));
-    push_pairs(alloc, len, first, (two, 17), (two, 19), terms)?;
-    push_pairs(alloc, len, first + 32, (fifteen, 7), (fifteen, 18), terms)?;
+    push_pairs(alloc, given, first, (two, 17), (two, 19), terms)?;
+    push_pairs(alloc, given, first + 32, (fifteen, 7), (fifteen, 18), terms)?;
     Ok(())
 }
 
 // Those of Σ1, Σ0 and Maj for a round.
 fn push_round_pairs(
     alloc: Global,
-    len: u32,
+    given: &Given,
     t: u32,
     terms: &mut Vec<Term<Gold>>,
 ) -> Result<(), AllocError>
-    requires few { len ≤ 55 }
     requires high { t < 64 }
-    ensures { OnOk result (Grows ops (input_count len) (input_count len + 3072 + 96 * t) terms.old.items (round_pairs ops of_number len t) terms.new.items) }
+    ensures { OnOk result (Grows ops (input_count (places_of given.now))
+        (input_count (places_of given.now) + 3072 + 96 * t) terms.old.items
+        (round_pairs ops of_number (places_of given.now) t) terms.new.items) }
 {
-    let first = 8 * len + 9457 + 96 * t;
+    let first = given.inputs + 9457 + 96 * t;
     let (a, b, e) = (Word::A(t + 3), Word::A(t + 2), Word::E(t + 3));
-    push_pairs(alloc, len, first, (e, 6), (e, 11), terms)?;
-    push_pairs(alloc, len, first + 32, (a, 2), (a, 13), terms)?;
-    push_pairs(alloc, len, first + 64, (a, 0), (b, 0), terms)?;
+    push_pairs(alloc, given, first, (e, 6), (e, 11), terms)?;
+    push_pairs(alloc, given, first + 32, (a, 2), (a, 13), terms)?;
+    push_pairs(alloc, given, first + 64, (a, 0), (b, 0), terms)?;
     Ok(())
 }
 
 // The terms of the inner layer.
-pub fn inner_terms(alloc: Global, len: u32) -> Result<Vec<Term<Gold>>, AllocError>
-    requires { len ≤ 55 }
-    ensures { IfOk result (λ terms. IsBuilt ops (input_count len) (inner_rows ops of_number len) terms.items) }
+pub fn inner_terms(alloc: Global, given: &Given) -> Result<Vec<Term<Gold>>, AllocError>
+    ensures { IfOk result (λ terms.
+        IsBuilt ops (input_count (places_of given.now)) (inner_rows ops of_number (places_of given.now)) terms.items) }
 {
     let mut terms = Vec::new(alloc);
-    push_inputs(alloc, 8 * len + 6385, &mut terms)?;
+    push_inputs(alloc, given.inputs + 6385, &mut terms)?;
     for t in 16..64 {
-        push_schedule_pairs(alloc, len, t, &mut terms)?;
+        push_schedule_pairs(alloc, given, t, &mut terms)?;
     }
     for round in 0..64 {
-        push_round_pairs(alloc, len, round, &mut terms)?;
+        push_round_pairs(alloc, given, round, &mut terms)?;
     }
     Ok(terms)
 }

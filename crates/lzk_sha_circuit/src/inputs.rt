@@ -3,11 +3,13 @@
 ghost use Rattle.std.specs.Prelude.{◌≡◌, ℕ, ◌+◌, ◌-◌, ◌*◌, ◌%◌, ◌^◌, ◌<◌, ◌≤◌, ◌++◌, length, map, slice_index, IfOk, OnOk};
 ghost use Rattle.std.specs.List.{range_with_len, flat_map};
 ghost use Rattle.lzk_goldilocks.specs.Elements.{ops, of_number};
-ghost use Rattle.sha2.specs.Sha256.{schedule, round, rounds, initial_hash_256};
-ghost use Rattle.lzk_sha_circuit.specs.Places.{private_count};
-ghost use Rattle.lzk_sha_circuit.specs.Outputs.{AreSatisfying};
+ghost use Rattle.sha2.specs.Sha256.{schedule, round, rounds, compress};
+ghost use Rattle.lzk_sha_circuit.specs.Places.{Places, IsPlaced, private_count};
+ghost use Rattle.lzk_sha_circuit.specs.Outputs.{AreCompressing, AreSatisfying};
+ghost use Rattle.lzk_sha_circuit.specs.Compression.{AreBits, Finds};
 ghost use Rattle.lzk_sha_circuit.specs.Digest.{HaveDigest};
-ghost use Rattle.lzk_sha_circuit.specs.Inputs.{next_total, bit_list, schedule_list, round_list, rounds_list, final_list, sha_private};
+ghost use Rattle.lzk_sha_circuit.specs.Inputs.{next_total, bit_list, schedule_list, round_list, rounds_list, final_list};
+ghost use Rattle.lzk_sha_circuit.specs.Inputs.{compression_private, sha_private};
 
 use crate::bits::{write_bits, write_sum};
 use crate::constants::{INITIAL_HASH, ROUND_CONSTANTS};
@@ -87,12 +89,16 @@ fn write_round(
 }
 
 // All rounds.
-fn write_rounds(words: &[u32], bits: &mut Vec<Gold>) -> Result<[u32; 8], AllocError>
+fn write_rounds(
+    state: [u32; 8],
+    words: &[u32],
+    bits: &mut Vec<Gold>,
+) -> Result<[u32; 8], AllocError>
     requires { length words.now ≡ 64 }
-    ensures variables { IfOk result (λ variables. variables ≡ rounds initial_hash_256 words.now 64) }
-    ensures bits { OnOk result (bits.new.items ≡ bits.old.items ++ rounds_list of_number initial_hash_256 words.now 64) }
+    ensures variables { IfOk result (λ variables. variables ≡ rounds state words.now 64) }
+    ensures bits { OnOk result (bits.new.items ≡ bits.old.items ++ rounds_list of_number state words.now 64) }
 {
-    let mut variables = INITIAL_HASH;
+    let mut variables = state;
     for t in 0..64 {
         let next = write_round(variables, ROUND_CONSTANTS[t], words[t], bits)?;
         variables = next;
@@ -100,23 +106,51 @@ fn write_rounds(words: &[u32], bits: &mut Vec<Gold>) -> Result<[u32; 8], AllocEr
     Ok(variables)
 }
 
-// Gives the words of the digest, and writes them.
-fn write_digest(
+// Gives the words of the state behind the block, and writes them.
+fn write_result(
     alloc: Global,
+    state: [u32; 8],
     variables: [u32; 8],
     bits: &mut Vec<Gold>,
 ) -> Result<Vec<Gold>, AllocError>
-    ensures words { IfOk result (λ public. public.items ≡ map (λ i. of_number ((slice_index initial_hash_256 i + slice_index variables i) % 2 ^ 32))
-        (range_with_len 0 8)) }
-    ensures bits { OnOk result (bits.new.items ≡ bits.old.items ++ final_list of_number initial_hash_256 variables 8) }
+    ensures words { IfOk result (λ public.
+        public.items
+        ≡ map (λ i. of_number ((slice_index state i + slice_index variables i) % 2 ^ 32)) (range_with_len 0 8)) }
+    ensures bits { OnOk result (bits.new.items ≡ bits.old.items ++ final_list of_number state variables 8) }
 {
     let mut public = Vec::new(alloc);
     for i in 0..8 {
-        let sum = u64::from(INITIAL_HASH[i]) + u64::from(variables[i]);
+        let sum = u64::from(state[i]) + u64::from(variables[i]);
         let word = write_sum(sum, 1, bits)?;
         public.push(Gold::of_word(u128::from(word)))?;
     }
     Ok(public)
+}
+
+/// The inputs of a compression of a block of 64 bytes from a state, behind those that it is given. `Err` where there is
+/// no memory for them.
+///
+/// They satisfy the circuit wherever that finds this state and this block at what it is given
+/// ([`crate::compression_laws`]).
+pub fn compression_inputs(
+    alloc: Global,
+    given: Vec<Gold>,
+    state: [u32; 8],
+    block: &[u8],
+) -> Result<ShaInputs, AllocError>
+    requires { length block.now ≡ 64 }
+    ensures publics { IfOk result (λ inputs. inputs.public.items ≡ map of_number (compress state block.now)) }
+    ensures privates { IfOk result
+        (λ inputs. inputs.private.items ≡ compression_private of_number given.items state block.now) }
+    ensures satisfying { (places : Places) → IsPlaced places → length given.items ≡ places.inputs →
+        AreBits ops of_number given.items → Finds ops of_number places given.items state block.now →
+        IfOk result (λ inputs. AreCompressing ops of_number places inputs.public.items inputs.private.items) }
+{
+    let mut private = given;
+    let words = write_schedule(alloc, block, &mut private)?;
+    let variables = write_rounds(state, &words, &mut private)?;
+    let public = write_result(alloc, state, variables, &mut private)?;
+    Ok(ShaInputs { public, private })
 }
 
 /// The inputs for a message of at most 55 bytes. `Err` where there is no memory for them.
@@ -126,15 +160,14 @@ pub fn sha_inputs(alloc: Global, message: &[u8]) -> Result<ShaInputs, AllocError
     requires { length message.now ≤ 55 }
     ensures publics { IfOk result (λ inputs. length inputs.public.items ≡ 8) }
     ensures privates { IfOk result (λ inputs. length inputs.private.items ≡ private_count (length message.now)) }
-    ensures satisfying { IfOk result (λ inputs. AreSatisfying ops of_number (length message.now) inputs.public.items inputs.private.items) }
+    ensures satisfying { IfOk result
+        (λ inputs. AreSatisfying ops of_number (length message.now) inputs.public.items inputs.private.items) }
     ensures digest { IfOk result (λ inputs. HaveDigest of_number inputs.public.items inputs.private.items message.now) }
     ensures exact { IfOk result (λ inputs. inputs.private.items ≡ sha_private of_number message.now) }
 {
     let block = padded(alloc, message)?;
-    let mut private = Vec::new(alloc);
-    write_message(message, &mut private)?;
-    let words = write_schedule(alloc, &block, &mut private)?;
-    let variables = write_rounds(&words, &mut private)?;
-    let public = write_digest(alloc, variables, &mut private)?;
-    Ok(ShaInputs { public, private })
+    let mut bits = Vec::new(alloc);
+    write_message(message, &mut bits)?;
+    let inputs = compression_inputs(alloc, bits, INITIAL_HASH, &block)?;
+    Ok(inputs)
 }

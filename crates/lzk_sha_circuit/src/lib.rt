@@ -12,19 +12,25 @@
 //! and its digest.
 #![tactic(auto)]
 
+mod bit;
 mod bits;
 mod circuit;
 mod constants;
 mod entries;
+mod given;
 mod inner;
 mod inputs;
 mod laws;
+mod message;
 mod outer;
 mod products;
 mod rows;
 mod sums;
 mod words;
 
-pub use circuit::sha_circuit;
-pub use inputs::{ShaInputs, sha_inputs};
-pub use laws::{circuit_laws, digest_laws};
+pub use bit::Bit;
+pub use circuit::{compression_circuit, sha_circuit};
+pub use given::Given;
+pub use inputs::{ShaInputs, compression_inputs, sha_inputs};
+pub use laws::{circuit_laws, compression_laws, digest_laws};
+pub use message::initial_state;

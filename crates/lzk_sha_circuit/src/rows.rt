@@ -19,7 +19,8 @@ const FEW: usize = 16;
 // What a few products add up to. The last one goes first, since the wires of a word's entries descend.
 fn row_of_few(alloc: Global, products: &[Product<Gold>]) -> Result<Vec<Term<Gold>>, AllocError>
     ensures row { (width : ℕ) → AreWithin width products.now → IfOk result (λ row. IsRow ops width row.items) }
-    ensures value { (below : List Gold) → IfOk result (λ row. row_value ops below row.items ≡ products_value ops below products.now) }
+    ensures value { (below : List Gold)
+        → IfOk result (λ row. row_value ops below row.items ≡ products_value ops below products.now) }
     ensures short { IfOk result (λ row. length row.items ≤ length products.now) }
     ensures one { products.now ≡ one_row ops → IfOk result (λ row. row.items ≡ ordered ops.one 0 0 ∷ []) }
 {
@@ -34,7 +35,8 @@ fn row_of_few(alloc: Global, products: &[Product<Gold>]) -> Result<Vec<Term<Gold
 // What the products add up to.
 fn row_of(alloc: Global, products: &[Product<Gold>]) -> Result<Vec<Term<Gold>>, AllocError>
     ensures row { (width : ℕ) → AreWithin width products.now → IfOk result (λ row. IsRow ops width row.items) }
-    ensures value { (below : List Gold) → IfOk result (λ row. row_value ops below row.items ≡ products_value ops below products.now) }
+    ensures value { (below : List Gold)
+        → IfOk result (λ row. row_value ops below row.items ≡ products_value ops below products.now) }
     ensures short { IfOk result (λ row. length row.items ≤ length products.now) }
     ensures one { products.now ≡ one_row ops → IfOk result (λ row. row.items ≡ ordered ops.one 0 0 ∷ []) }
 {
@@ -54,7 +56,8 @@ pub fn push_row(
     products: &[Product<Gold>],
     terms: &mut Vec<Term<Gold>>,
 ) -> Result<(), AllocError>
-    ensures { (width : ℕ) → AreWithin width products.now → OnOk result (Grows ops width wire terms.old.items (products.now ∷ []) terms.new.items) }
+    ensures { (width : ℕ) → AreWithin width products.now
+        → OnOk result (Grows ops width wire terms.old.items (products.now ∷ []) terms.new.items) }
 {
     let row = row_of(alloc, products)?;
     append(terms, wire, &row)

@@ -7,4 +7,6 @@
 #[cfg(test)]
 mod gadgets;
 #[cfg(test)]
+mod hashes;
+#[cfg(test)]
 mod side_by_side;

@@ -1,5 +1,6 @@
 use Rattle.std.proofs.Common.{◌≡◌, ◌+◌, ◌*◌, ◌++◌, ℕ, ap, sym, arith, length, subst}
 use Rattle.lzk_goldilocks.specs.Elements.{ops, of_number}
+use Rattle.lzk_sha_circuit.specs.Found.{places_of}
 use Rattle.lzk_sha_circuit.specs.declared.entries.Word.TheVariants.{A, E}
 use Rattle.lzk_sha_circuit.specs.Layers.{Grows, input_count, pair_rows, round_pairs}
 use Rattle.lzk_sha_circuit.proofs.Growth.{grows_two}
@@ -9,16 +10,16 @@ use Rattle.lzk_sha_circuit.proofs.inner.push_round_pairs.Goals as goal
 pub returns : goal.returns
 unfolding round_pairs
 returns c =
-    let len = c.args.len in
+    let given = places_of c.args.given.now in
     let t = c.args.t in
-    let w = input_count len in
-    let first = 8 * len + 9457 + 96 * t in
-    let e : first ≡ input_count len + 3072 + 96 * t = omega arith in
-    let p = pair_rows ops of_number len (E (t + 3)) 6 (E (t + 3)) 11 in
-    let q = pair_rows ops of_number len (A (t + 3)) 2 (A (t + 3)) 13 in
-    let r = pair_rows ops of_number len (A (t + 3)) 0 (A (t + 2)) 0 in
-    let long_p = length-pair_rows ops of_number len (E (t + 3)) 6 (E (t + 3)) 11 in
-    let long_q = length-pair_rows ops of_number len (A (t + 3)) 2 (A (t + 3)) 13 in
+    let w = input_count given in
+    let first = given.inputs + 9457 + 96 * t in
+    let e : first ≡ input_count given + 3072 + 96 * t = omega arith in
+    let p = pair_rows ops of_number given (E (t + 3)) 6 (E (t + 3)) 11 in
+    let q = pair_rows ops of_number given (A (t + 3)) 2 (A (t + 3)) 13 in
+    let r = pair_rows ops of_number given (A (t + 3)) 0 (A (t + 2)) 0 in
+    let long_p = length-pair_rows ops of_number given (E (t + 3)) 6 (E (t + 3)) 11 in
+    let long_q = length-pair_rows ops of_number given (A (t + 3)) 2 (A (t + 3)) 13 in
     let next : first + 64 ≡ first + 32 + length q = omega (arith, long_q) in
     let old = c.args.terms.now.items in
     let new = c.push_pairs-3.new.terms.items in

@@ -1,6 +1,7 @@
 use Rattle.std.proofs.Common.{◌≡◌, ◌+◌, ◌^◌, ◌++◌, ◌∙◌, ℕ, ap, arith}
 use Rattle.std.specs.List.{range_with_len, flat_map}
 use Rattle.lzk_goldilocks.specs.Elements.{ops, of_number}
+use Rattle.lzk_sha_circuit.specs.Found.{places_of}
 use Rattle.lzk_sha_circuit.specs.Products.{or_list, or_word_list}
 use Rattle.lzk_sha_circuit.specs.Layers.{wire_entry, shifted_entry}
 use Rattle.lzk_sha_circuit.proofs.Written.{chunk_more}
@@ -9,7 +10,7 @@ use Rattle.lzk_sha_circuit.proofs.sums.push_shifted.Goals as goal
 pub loop-i-preserved : goal.loop-i-preserved
 loop-i-preserved c =
     let a = c.args in
-    chunk_more (λ (i : ℕ). or_list ops of_number (of_number (2 ^ i)) (wire_entry ops (a.first + i)) (shifted_entry ops of_number a.len a.word a.k i)) a.products.now.items c.loop-i.products.items c.push_or.new.products.items (or_list ops of_number c.power.result c.wire_entry.result c.shifted_entry.result) 0 c.loop-i.i c.loop-i.i c.loop-i.invariant c.in_ok-push_or.ensures
+    chunk_more (λ (i : ℕ). or_list ops of_number (of_number (2 ^ i)) (wire_entry ops (a.first + i)) (shifted_entry ops of_number (places_of a.given.now) a.word a.k i)) a.products.now.items c.loop-i.products.items c.push_or.new.products.items (or_list ops of_number c.power.result c.wire_entry.result c.shifted_entry.result) 0 c.loop-i.i c.loop-i.i c.loop-i.invariant c.in_ok-push_or.ensures
     (λ j. or_list ops of_number (c.power.ensures j) (c.wire_entry.ensures j) (c.shifted_entry.ensures j)) (omega arith)
 
 pub returns : goal.returns
@@ -17,4 +18,4 @@ unfolding or_word_list
 returns c =
     let a = c.args in
     let e : c.loop-i.i ≡ 32 = omega arith in
-    c.loop-i.invariant ∙ ap (λ n. a.products.now.items ++ flat_map (λ (i : ℕ). or_list ops of_number (of_number (2 ^ i)) (wire_entry ops (a.first + i)) (shifted_entry ops of_number a.len a.word a.k i)) (range_with_len 0 n)) e
+    c.loop-i.invariant ∙ ap (λ n. a.products.now.items ++ flat_map (λ (i : ℕ). or_list ops of_number (of_number (2 ^ i)) (wire_entry ops (a.first + i)) (shifted_entry ops of_number (places_of a.given.now) a.word a.k i)) (range_with_len 0 n)) e

@@ -1,0 +1,6 @@
+pub mod LayoutLaws
+pub mod Steps
+pub mod HashLaws
+pub mod HashCircuits
+pub mod Filling
+pub mod Filled

@@ -1,0 +1,7 @@
+use Rattle.std.proofs.Common.{◌≡◌, ℕ, ◌+◌, map}
+use Rattle.std.specs.List.{range_with_len}
+use Rattle.lzk_sha_blocks.specs.Layout.{block_bit}
+use Rattle.lzk_sha_blocks.proofs.given.block_bits.Given as goal
+
+abbrev pub invariant-loop-j : goal.invariant-loop-j
+invariant-loop-j l = l.bits.items ≡ map (block_bit l.len l.i) (range_with_len 0 l.j)

@@ -1,0 +1,4 @@
+pub mod Causes
+pub mod Hashed
+pub mod Layout
+pub mod Witness

@@ -1,0 +1,116 @@
+//! The circuit.
+
+ghost use Rattle.std.specs.Prelude.{◌≡◌, ℕ, ◌+◌, ◌*◌, ◌<◌, ◌≤◌, ◌↔◌, List, length, IfOk, IfErr};
+ghost use Rattle.lzk_goldilocks.specs.Elements.{ops, number, of_number};
+ghost use Rattle.lzk_goldilocks.specs.declared.element.Gold.{Gold};
+ghost use Rattle.lzk_beside.specs.Chosen.{chosen};
+ghost use Rattle.lzk_circuit.specs.Checks.{IsSatisfied};
+ghost use Rattle.lzk_circuit.specs.Wires.{inputs_of};
+ghost use Rattle.lzk_reduce.specs.Renumbering.{AreNumbersBelow};
+ghost use Rattle.lzk_sha_circuit.specs.Outputs.{AreCompressing};
+ghost use Rattle.lzk_sha_blocks.specs.Layout.{blocks, private_count, given_count, block_places};
+ghost use Rattle.lzk_sha_blocks.specs.Hashed.{IsBlockSatisfied, AreHashing};
+ghost use Rattle.lzk_sha_blocks.specs.Causes.{IsCause};
+ghost use Rattle.lzk_sha_blocks.specs.declared.error.DigestError.TheVariants.{TooLong};
+
+use crate::error::DigestError;
+use crate::given::block_given;
+use crate::layout::{all_wires, block_count, wires};
+use lzk_beside::{Part, beside};
+use lzk_circuit::Circuit;
+use lzk_goldilocks::Gold;
+use lzk_sha_circuit::compression_circuit;
+use std::alloc::{AllocError, Global};
+
+// The circuit of block `i`.
+fn block_circuit(alloc: Global, len: u32, i: u32) -> Result<Circuit<Gold>, AllocError>
+    requires few { len ≤ 503 }
+    requires block { i < blocks len }
+    ensures version { IfOk result (λ circuit. circuit.version ≡ 1) }
+    ensures publics { IfOk result (λ circuit. circuit.publics ≡ 8) }
+    ensures privates { IfOk result (λ circuit. circuit.privates ≡ given_count len i + 6376) }
+    ensures satisfied { IfOk result (λ circuit.
+        (public private : List Gold) → length public ≡ 8 → length private ≡ given_count len i + 6376
+        → IsSatisfied ops number circuit.layers (inputs_of ops public private)
+        ↔ AreCompressing ops of_number (block_places len i) public private) }
+{
+    let given = block_given(alloc, len, i)?;
+    let circuit = compression_circuit(alloc, &given)?;
+    Ok(circuit)
+}
+
+// A circuit over the inputs that it sees, and block `i` beside it.
+fn with_block(
+    alloc: Global,
+    len: u32,
+    i: u32,
+    before: &Circuit<Gold>,
+    seen: &[u32],
+) -> Result<Circuit<Gold>, DigestError>
+    requires few { len ≤ 503 }
+    requires block { i < blocks len }
+    requires version { before.now.version ≡ 1 }
+    requires count { length seen.now ≡ before.now.publics + before.now.privates }
+    requires below { AreNumbersBelow (9 + private_count len) seen.now }
+    ensures version { IfOk result (λ circuit. circuit.version ≡ 1) }
+    ensures publics { IfOk result (λ circuit. circuit.publics ≡ 8) }
+    ensures privates { IfOk result (λ circuit. circuit.privates ≡ private_count len) }
+    ensures satisfied { (public private : List Gold) → length public ≡ 8 → length private ≡ private_count len
+        → IfOk result (λ circuit.
+        let inputs = inputs_of ops public private in
+        IsSatisfied ops number circuit.layers inputs
+        ↔ (IsSatisfied ops number before.now.layers (chosen ops seen.now inputs)
+        × IsBlockSatisfied ops of_number len inputs i)) }
+    ensures cause { IfErr result (λ e. e ≡ TooLong → ⊥) }
+{
+    let next = block_circuit(alloc, len, i)?;
+    let places = wires(alloc, len, i)?;
+    let first = Part {
+        circuit: before,
+        places: seen,
+    };
+    let second = Part {
+        circuit: &next,
+        places: &places,
+    };
+    let circuit = beside(
+        alloc,
+        8,
+        8 * len + 6384 * block_count(len) - 8,
+        &first,
+        &second,
+    )?;
+    Ok(circuit)
+}
+
+/// The circuit for messages of `len` bytes, at most 503.
+///
+/// Where it is satisfied, the public inputs are the words of the digest of the message that the first private inputs
+/// spell ([`crate::hashing_laws`]).
+pub fn digest_circuit(alloc: Global, len: u32) -> Result<Circuit<Gold>, DigestError>
+    ensures version { IfOk result (λ circuit. circuit.version ≡ 1) }
+    ensures publics { IfOk result (λ circuit. circuit.publics ≡ 8) }
+    ensures privates { IfOk result (λ circuit. circuit.privates ≡ private_count len) }
+    ensures satisfied { (public private : List Gold) → length public ≡ 8 → length private ≡ private_count len →
+        IfOk result (λ circuit. IsSatisfied ops number circuit.layers (inputs_of ops public private) ↔
+        AreHashing ops of_number len public private) }
+    ensures short { IfOk result (λ _. len ≤ 503) }
+    ensures cause { IfErr result (IsCause len) }
+{
+    if len > 503 {
+        return Err(DigestError::TooLong);
+    }
+    let first = block_circuit(alloc, len, 0)?;
+    if len < 56 {
+        return Ok(first);
+    }
+    let blocks = block_count(len);
+    let seen = wires(alloc, len, 0)?;
+    let all = all_wires(alloc, 8 * len + 6384 * blocks)?;
+    let mut whole = with_block(alloc, len, 1, &first, &seen)?;
+    for i in 2..blocks {
+        let next = with_block(alloc, len, i, &whole, &all)?;
+        whole = next;
+    }
+    Ok(whole)
+}

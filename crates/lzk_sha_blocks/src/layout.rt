@@ -1,0 +1,116 @@
+//! Where the blocks' circuits find their inputs among those of the whole.
+
+ghost use Rattle.std.specs.Prelude.{◌≡◌, ◌+◌, ◌*◌, ◌<◌, ◌≤◌, ◌++◌, map, IfOk};
+ghost use Rattle.std.specs.List.{range_with_len};
+ghost use Rattle.lzk_sha_blocks.specs.Layout.{blocks, held, added, state_count, given_count};
+ghost use Rattle.lzk_sha_blocks.specs.Layout.{public_wire, state_wire, private_wire, public_wires, private_wires};
+
+use std::alloc::{AllocError, Global};
+
+// How many blocks the message has.
+pub(crate) fn block_count(len: u32) -> u32
+    requires { len ≤ 503 }
+    ensures count { result ≡ blocks len }
+    ensures some { 1 ≤ result }
+    ensures few { result ≤ 8 }
+{
+    (len + 72) / 64
+}
+
+// How many bytes of the message block `i` holds.
+pub(crate) fn held(len: u32, i: u32) -> u32
+    requires few { len ≤ 503 }
+    requires block { i < 8 }
+    ensures count { result ≡ held len i }
+    ensures few { result ≤ 64 }
+{
+    let start = 64 * i;
+    if len <= start {
+        0
+    } else if len - start < 64 {
+        len - start
+    } else {
+        64
+    }
+}
+
+// How many bits of the state block `i` is given.
+pub(crate) fn state_count(i: u32) -> u32
+    ensures count { result ≡ state_count i }
+    ensures few { result ≤ 256 }
+{
+    match i {
+        0 => 0,
+        _ => 256,
+    }
+}
+
+// Where word `k` of the state behind block `i` is.
+fn public_wire(len: u32, i: u32, k: u32) -> u32
+    requires few { len ≤ 503 }
+    requires block { i < 8 }
+    requires word { k < 8 }
+    ensures { result ≡ public_wire len i k }
+{
+    if i + 1 < block_count(len) {
+        9 + (8 * len + 6384 * i) + 6376 + k
+    } else {
+        1 + k
+    }
+}
+
+// Where bit `j` of the state behind block `i` is.
+fn state_wire(len: u32, i: u32, j: u32) -> u32
+    requires few { len ≤ 503 }
+    requires block { i < 8 }
+    requires bit { j < 256 }
+    ensures { result ≡ state_wire len i j }
+{
+    9 + (8 * len + 6384 * i) + 6112 + 33 * (j / 32) + j % 32
+}
+
+// Where private input `j` of block `i` is.
+fn private_wire(len: u32, i: u32, j: u32) -> u32
+    requires few { len ≤ 503 }
+    requires block { i < 8 }
+    requires input { j < given_count len i + 6376 }
+    ensures { result ≡ private_wire len i j }
+{
+    let own = 8 * held(len, i);
+    let given = own + state_count(i);
+    if j < own {
+        9 + 512 * i + j
+    } else if j < given {
+        state_wire(len, i - 1, j - own)
+    } else {
+        9 + (8 * len + 6384 * i) + (j - given)
+    }
+}
+
+// The wires of the whole's input layer that block `i` sees.
+pub(crate) fn wires(alloc: Global, len: u32, i: u32) -> Result<Vec<u32>, AllocError>
+    requires few { len ≤ 503 }
+    requires block { i < 8 }
+    ensures { IfOk result (λ wires. wires.items ≡ public_wires len i ++ private_wires len i) }
+{
+    let mut wires = Vec::new(alloc);
+    for k in 0..8 {
+        wires.push(public_wire(len, i, k))?;
+    }
+    let count = 8 * held(len, i) + state_count(i) + 6376;
+    for j in 0..count {
+        wires.push(private_wire(len, i, j))?;
+    }
+    Ok(wires)
+}
+
+// The wires of so many inputs, in order.
+pub(crate) fn all_wires(alloc: Global, count: u32) -> Result<Vec<u32>, AllocError>
+    ensures { IfOk result (λ wires. wires.items ≡ range_with_len 1 count) }
+{
+    let mut wires = Vec::new(alloc);
+    for k in 0..count {
+        wires.push(1 + k)?;
+    }
+    Ok(wires)
+}
