@@ -1,0 +1,2 @@
+pub mod Files
+pub use Rattle.lzk_policy_circuit.specs

@@ -1,0 +1,3 @@
+pub mod Partials
+pub mod LinesLeft
+pub mod TextLaws

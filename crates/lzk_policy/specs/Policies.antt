@@ -1,0 +1,231 @@
+-- Policies, and the texts that are some.
+use Rattle.std.specs.Prelude.{◌≡◌, ℕ, ◌+◌, ◌^◌, ◌≤◌, ◌<◌, nat_lt, nat_le, ◌==◌, ◌&&◌, Bool, true, false, not, IsTrue, List, [], ◌∷◌, ◌++◌, length, Option, Some, None, Result, Ok, Err, slice_get, is_some, if◌then◌else◌}
+use Rattle.std.specs.Str.{bytes_eq}
+use Rattle.std.specs.List.{list_all, AllByRecursion}
+use Rattle.lzk_expr.specs.Texts.{lines}
+use Rattle.lzk_policy.specs.declared.policy.FieldKind.{FieldKind}
+use Rattle.lzk_policy.specs.declared.policy.FieldKind.TheVariants as kinds
+use Rattle.lzk_policy.specs.declared.policy.RecordField.{RecordField}
+use Rattle.lzk_policy.specs.declared.policy.Claim.{Claim}
+use Rattle.lzk_policy.specs.declared.policy.Claim.TheVariants as claims
+use Rattle.lzk_policy.specs.declared.policy.Show.{Show}
+use Rattle.lzk_policy.specs.declared.line.Line.{Line}
+use Rattle.lzk_policy.specs.declared.line.Line.TheVariants as lines
+use Rattle.lzk_policy.specs.declared.fault.PolicyKind.{PolicyKind}
+use Rattle.lzk_policy.specs.declared.fault.PolicyKind.TheVariants as faults
+use Rattle.lzk_policy.specs.declared.fault.PolicyFault.{PolicyFault}
+use Rattle.lzk_policy.specs.declared.fault.PolicyError.{PolicyError}
+use Rattle.lzk_policy.specs.declared.fault.PolicyError.TheVariants as whole_errors
+use Rattle.lzk_policy.specs.declared.fault.LineError.{LineError}
+use Rattle.lzk_policy.specs.declared.fault.LineError.TheVariants as errors
+use Rattle.lzk_policy.specs.declared.draft.Draft.{Draft}
+use Rattle.lzk_policy.specs.Lines.{line_of, is_skipped}
+
+-- what a policy says: how many bytes a record has, where its fields stand, and what is shown of it beside its digest
+pub record Contents : Type 0 where
+  pub size : ℕ
+  pub fields : List RecordField
+  pub shows : List Show
+
+-- a record is one block of SHA-256
+abbrev pub most_bytes : ℕ
+most_bytes = 55
+
+abbrev pub most_fields : ℕ
+most_fields = 32
+
+abbrev pub most_shows : ℕ
+most_shows = 8
+
+-- the bytes of a pseudonym's label, and those of a service's tag
+abbrev pub label_size : ℕ
+label_size = 4
+
+abbrev pub tag_size : ℕ
+tag_size = 16
+
+-- ---- what may stand in a policy
+
+-- a date has four bytes, a text one to seven, other bytes one or more
+abbrev pub has_size : FieldKind → ℕ → Bool
+has_size kinds.Date size = size == 4
+has_size kinds.Text size = nat_le 1 size && nat_le size 7
+has_size kinds.Bytes size = nat_le 1 size
+
+-- the field's bytes are bytes of the record
+abbrev pub lies_within : ℕ → RecordField → Bool
+lies_within size f = nat_le (f.place + f.size) size
+
+abbrev pub is_date : FieldKind → Bool
+is_date kinds.Date = true
+is_date kinds.Text = false
+is_date kinds.Bytes = false
+
+abbrev pub is_text : FieldKind → Bool
+is_text kinds.Text = true
+is_text kinds.Date = false
+is_text kinds.Bytes = false
+
+abbrev pub is_bytes : FieldKind → Bool
+is_bytes kinds.Bytes = true
+is_bytes kinds.Date = false
+is_bytes kinds.Text = false
+
+-- each is the number of at most seven bytes
+abbrev pub are_small : List ℕ → Bool
+are_small numbers = list_all (λ n. nat_lt n (2 ^ 56)) numbers
+
+-- A date is compared, a date or a text is told, a text is one of some of its size, and a pseudonym is made of bytes
+-- that are one block together with label and tag.
+abbrev pub suits : RecordField → Claim → Bool
+suits f (claims.AtMost value) = is_date f.kind
+suits f (claims.AtLeast value) = is_date f.kind
+suits f (claims.Equal value) = not (is_bytes f.kind)
+suits f (claims.OneOf texts) =
+    is_text f.kind && (texts.size == f.size) && nat_le (length texts.numbers) 16 && are_small texts.numbers
+suits f (claims.Pseudonym value) = is_bytes f.kind && nat_le (label_size + f.size + tag_size) most_bytes
+
+-- a field of a record of so many bytes
+abbrev pub IsField : ℕ → RecordField → Type 0
+IsField size f = IsTrue (has_size f.kind f.size) × IsTrue (lies_within size f)
+
+-- what is shown suits a field of the policy
+abbrev pub IsShowOf : List RecordField → Show → Type 0
+IsShowOf fields s = (f : RecordField) × (slice_get fields s.field ≡ Some f) × IsTrue (suits f s.claim)
+
+-- what holds of each policy
+pub record IsPolicy (p : Contents) : Type 0 where
+  pub some : 1 ≤ p.size
+  pub block : p.size ≤ most_bytes
+  pub fields : AllByRecursion (IsField p.size) p.fields
+  pub shown : 1 ≤ length p.shows
+  pub few : length p.shows ≤ most_shows
+  pub shows : AllByRecursion (IsShowOf p.fields) p.shows
+
+-- ---- a policy line by line
+
+-- what the lines so far say: how many bytes a record has, if one said so, the fields, whether the digest is shown, and
+-- what else is shown
+pub record Partial : Type 0 where
+  pub size : Option ℕ
+  pub fields : List RecordField
+  pub digest : Bool
+  pub shows : List Show
+
+abbrev pub nothing : Partial
+nothing = record { size = None; fields = []; digest = false; shows = [] }
+
+-- what holds of what the lines so far say
+pub record IsPartial (p : Partial) : Type 0 where
+  pub some : (n : ℕ) → p.size ≡ Some n → (1 ≤ n) × (n ≤ most_bytes) × AllByRecursion (IsField n) p.fields
+  pub none : p.size ≡ None → p.fields ≡ []
+  pub fields : length p.fields ≤ most_fields
+  pub few : length p.shows ≤ most_shows
+  pub shown : p.digest ≡ false → p.shows ≡ []
+  pub shows : AllByRecursion (IsShowOf p.fields) p.shows
+
+-- the number of the field with this name, counted from k on
+unfoldable pub field_from : ℕ → List ℕ → List RecordField → Option ℕ
+field_from k name [] = None
+field_from k name (f ∷ fs) = if bytes_eq f.name name then Some k else field_from (k + 1) name fs
+
+abbrev pub field_number : List RecordField → List ℕ → Option ℕ
+field_number fields name = field_from 0 name fields
+
+-- a record line comes first, and once
+unfoldable pub with_size : Partial → ℕ → Result Partial PolicyKind
+with_size p n =
+    if is_some p.size then Err faults.Order else
+    (if nat_le 1 n && nat_le n most_bytes then Ok (record p { size = Some n }) else Err faults.Size)
+
+-- a field of a record of so many bytes
+unfoldable pub with_new_field : Partial → ℕ → RecordField → Result Partial PolicyKind
+with_new_field p size f =
+    if is_some (field_number p.fields f.name) then Err faults.Repeated else
+    (if not (has_size f.kind f.size) then Err faults.Size else
+    (if not (lies_within size f) then Err faults.Place else
+    (if nat_lt (length p.fields) most_fields then Ok (record p { fields = p.fields ++ f ∷ [] }) else Err faults.Limit)))
+
+unfoldable pub with_field_behind : Partial → RecordField → Option ℕ → Result Partial PolicyKind
+with_field_behind p f None = Err faults.Order
+with_field_behind p f (Some size) = with_new_field p size f
+
+-- fields come behind the record line and before all that is shown
+unfoldable pub with_field : Partial → RecordField → Result Partial PolicyKind
+with_field p f = if p.digest then Err faults.Order else with_field_behind p f p.size
+
+-- the digest is shown first, and once
+unfoldable pub with_digest : Partial → Result Partial PolicyKind
+with_digest p =
+    if is_some p.size && not p.digest then Ok (record p { digest = true }) else Err faults.Order
+
+-- what is shown of the field with this number
+unfoldable pub with_claim : Partial → ℕ → Option RecordField → Claim → Result Partial PolicyKind
+with_claim p k None claim = Err faults.Unknown
+with_claim p k (Some f) claim =
+    if not (suits f claim) then Err faults.Claim else
+    (if nat_lt (length p.shows) most_shows
+    then Ok (record p { shows = p.shows ++ record { field = k; claim = claim } ∷ [] }) else Err faults.Limit)
+
+unfoldable pub with_number : Partial → Option ℕ → Claim → Result Partial PolicyKind
+with_number p None claim = Err faults.Unknown
+with_number p (Some k) claim = with_claim p k (slice_get p.fields k) claim
+
+-- all else is shown behind the digest
+unfoldable pub with_show : Partial → List ℕ → Claim → Result Partial PolicyKind
+with_show p name claim = if p.digest then with_number p (field_number p.fields name) claim else Err faults.Order
+
+abbrev pub with_said : Partial → Line → Result Partial PolicyKind
+with_said p (lines.Record n) = with_size p n
+with_said p (lines.Field f) = with_field p f
+with_said p lines.Digest = with_digest p
+with_said p (lines.Show name claim) = with_show p name claim
+
+unfoldable pub with_line : Partial → Option Line → Result Partial PolicyKind
+with_line p None = Err faults.Syntax
+with_line p (Some line) = with_said p line
+
+abbrev pub at_line : {A : Type 0} → ℕ → Result A PolicyKind → Result A PolicyFault
+at_line line (Ok x) = Ok x
+at_line line (Err kind) = Err (record { line = line; kind = kind })
+
+-- what the lines say together with one more
+unfoldable pub with_bytes : ℕ → Partial → List ℕ → Result Partial PolicyFault
+with_bytes line p bytes = if is_skipped bytes then Ok p else at_line line (with_line p (line_of bytes))
+
+-- the whole: the digest and something else is shown
+unfoldable pub whole_of : ℕ → Partial → Option ℕ → Result Contents PolicyFault
+whole_of line p None = Err (record { line = line; kind = faults.Missing })
+whole_of line p (Some size) =
+    if p.digest && nat_le 1 (length p.shows) then Ok (record { size = size; fields = p.fields; shows = p.shows })
+    else Err (record { line = line; kind = faults.Missing })
+
+abbrev pub whole : ℕ → Partial → Result Contents PolicyFault
+whole line p = whole_of line p p.size
+
+abbrev pub if_read : {A B : Type 0} → Result A PolicyFault → (A → Result B PolicyFault) → Result B PolicyFault
+if_read (Ok x) f = f x
+if_read (Err e) f = Err e
+
+unfoldable pub policy_from : ℕ → Partial → List (List ℕ) → Result Contents PolicyFault
+policy_from line p [] = whole line p
+policy_from line p (bytes ∷ others) = if_read (with_bytes line p bytes) (λ more. policy_from (line + 1) more others)
+
+-- the policy that a text is, or its first fault
+unfoldable pub policy_of : List ℕ → Result Contents PolicyFault
+policy_of text = policy_from 1 nothing (lines text)
+
+-- ---- in memory
+
+abbrev pub partial_of : Draft → Partial
+partial_of d = record { size = d.size; fields = d.fields.items; digest = d.is_digest_shown; shows = d.shows.items }
+
+-- the kind of a refusal, or memory ran out
+abbrev pub Refuses : {A : Type 0} → LineError → Result A PolicyKind → Type 0
+Refuses (errors.Kind kind) said = said ≡ Err kind
+Refuses errors.OutOfMemory said = Unit {0}
+
+-- the first fault of a text, or memory ran out
+abbrev pub Fails : {A : Type 0} → PolicyError → Result A PolicyFault → Type 0
+Fails (whole_errors.Fault fault) read = read ≡ Err fault
+Fails whole_errors.OutOfMemory read = Unit {0}

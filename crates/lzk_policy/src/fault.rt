@@ -1,0 +1,94 @@
+//! Why a text is no policy.
+
+ghost use Rattle.std.specs.Prelude.{◌≡◌};
+
+use std::alloc::{AllocError, AllocFailed};
+use thiserror::Error;
+
+/// The rule that a line breaks.
+#[derive(Clone, Copy, Debug, PartialEq, Eq)]
+pub enum PolicyKind {
+    /// The line is of no form that a line may have.
+    Syntax,
+    /// The line stands in a wrong place: the record comes first, then fields, then the digest, then all else.
+    Order,
+    /// A field of this name stands before.
+    Repeated,
+    /// A record, a field or a text has too few or too many bytes.
+    Size,
+    /// The field's bytes are not all bytes of the record.
+    Place,
+    /// No field has this name.
+    Unknown,
+    /// What is shown does not suit the field.
+    Claim,
+    /// There are too many fields, or too much is shown.
+    Limit,
+    /// The text ends before a record, its digest and one thing more are there.
+    Missing,
+}
+
+/// The first line that breaks a rule, counted from 1, and the rule. `Missing` names the line behind the last.
+#[derive(Clone, Copy, Debug, PartialEq, Eq)]
+pub struct PolicyFault {
+    pub line: u32,
+    pub kind: PolicyKind,
+}
+
+/// Why a text gives no policy: a rule that it breaks, or want of memory.
+#[derive(Debug, Drop, Error)]
+pub enum PolicyError {
+    /// The text is no policy.
+    #[error("line {}: {:?}", .0.line, .0.kind)]
+    Fault(PolicyFault),
+    /// There was no memory for the policy.
+    #[error("out of memory")]
+    OutOfMemory,
+}
+
+impl From<AllocError> for PolicyError {
+    ghost use Rattle.lzk_policy.specs.declared.fault.PolicyError.TheVariants.{OutOfMemory};
+
+    ghost from_gives = { λ _ e. e ≡ OutOfMemory };
+
+    fn from(_e: AllocError) -> PolicyError {
+        PolicyError::OutOfMemory
+    }
+}
+
+impl<T: Drop> From<AllocFailed<T>> for PolicyError {
+    ghost use Rattle.lzk_policy.specs.declared.fault.PolicyError.TheVariants.{OutOfMemory};
+
+    ghost from_gives = { λ _ e. e ≡ OutOfMemory };
+
+    fn from(_e: AllocFailed<T>) -> PolicyError {
+        PolicyError::OutOfMemory
+    }
+}
+
+/// Why a line adds nothing: the rule that it breaks, or want of memory.
+#[derive(Debug, Drop)]
+pub enum LineError {
+    Kind(PolicyKind),
+    OutOfMemory,
+}
+
+impl From<AllocError> for LineError {
+    ghost use Rattle.lzk_policy.specs.declared.fault.LineError.TheVariants.{OutOfMemory};
+
+    ghost from_gives = { λ _ e. e ≡ OutOfMemory };
+
+    fn from(_e: AllocError) -> LineError {
+        LineError::OutOfMemory
+    }
+}
+
+impl<T: Drop> From<AllocFailed<T>> for LineError {
+    ghost use Rattle.lzk_policy.specs.declared.fault.LineError.TheVariants.{OutOfMemory};
+
+    ghost from_gives = { λ _ e. e ≡ OutOfMemory };
+
+    fn from(_e: AllocFailed<T>) -> LineError {
+        LineError::OutOfMemory
+    }
+}

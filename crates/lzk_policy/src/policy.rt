@@ -1,0 +1,145 @@
+//! Policies.
+
+ghost use Rattle.std.specs.Prelude.{◌≡◌, ◌≤◌, length, slice_get, Some};
+ghost use Rattle.lzk_policy.specs.Policies.{IsPolicy};
+
+use lzk_expr::Name;
+use std::marker::Model;
+
+/// What the bytes of a field are.
+#[derive(Clone, Copy, Debug, PartialEq, Eq)]
+pub enum FieldKind {
+    /// A day as the number YYYYMMDD, in four bytes, the first worth most.
+    Date,
+    /// One to seven bytes that are told or compared as a whole.
+    Text,
+    /// Bytes that are never shown.
+    Bytes,
+}
+
+/// A field of a record.
+#[derive(Drop)]
+pub struct RecordField {
+    /// How lines call it.
+    pub name: Name,
+    /// What its bytes are.
+    pub kind: FieldKind,
+    /// Where its first byte stands in the record.
+    pub place: u32,
+    /// How many bytes it has.
+    pub size: u32,
+}
+
+/// The texts that a field may have, each as the number that its bytes are, the first worth most.
+#[derive(Drop)]
+pub struct TextList {
+    size: u32,
+    numbers: Vec<u64>,
+}
+
+impl Model for TextList {
+    ghost use Rattle.lzk_policy.specs.Texts.{Texts};
+
+    ghost Value = { Texts };
+
+    ghost view = { λ t. record { size = t.size; numbers = t.numbers.items } };
+}
+
+impl TextList {
+    /// Texts of so many bytes.
+    pub fn new(size: u32, numbers: Vec<u64>) -> TextList
+        ensures { result ≡ record { size = size; numbers = numbers.items } }
+    {
+        TextList { size, numbers }
+    }
+
+    /// How many bytes each text has.
+    pub fn size(&self) -> u32
+        ensures { result ≡ self.now.size }
+    {
+        self.size
+    }
+
+    /// The texts' numbers.
+    pub fn numbers(&self) -> &[u64]
+        ensures { result.now ≡ self.now.numbers }
+    {
+        &self.numbers
+    }
+}
+
+/// What is shown of a field. A name is that of a value, which is chosen when it is shown.
+#[derive(Drop)]
+pub enum Claim {
+    /// The date is no later than the value.
+    AtMost(Name),
+    /// The date is no earlier than the value.
+    AtLeast(Name),
+    /// The date or text is the value.
+    Equal(Name),
+    /// The text is one of these.
+    OneOf(TextList),
+    /// Who holds the record is, for the service that the value stands for, this pseudonym.
+    Pseudonym(Name),
+}
+
+/// What is shown, and of which field, counted from 0.
+#[derive(Drop)]
+pub struct Show {
+    pub field: u32,
+    pub claim: Claim,
+}
+
+/// What a record is, and what is shown of it beside its digest.
+#[derive(Drop)]
+pub struct Policy {
+    size: u32,
+    fields: Vec<RecordField>,
+    shows: Vec<Show>,
+}
+
+impl Model for Policy {
+    ghost use Rattle.lzk_policy.specs.Policies.{Contents, IsPolicy};
+
+    ghost Value = { Contents };
+
+    ghost view = { λ p. record { size = p.size; fields = p.fields.items; shows = p.shows.items } };
+
+    ghost invariant = { λ p. IsPolicy (record { size = p.size; fields = p.fields.items; shows = p.shows.items }) };
+}
+
+impl Policy {
+    /// The policy of these parts.
+    pub fn new(size: u32, fields: Vec<RecordField>, shows: Vec<Show>) -> Policy
+        requires { IsPolicy (record { size = size; fields = fields.items; shows = shows.items }) }
+        ensures { result ≡ record { size = size; fields = fields.items; shows = shows.items } }
+    {
+        Policy {
+            size,
+            fields,
+            shows,
+        }
+    }
+
+    /// How many bytes a record has.
+    pub fn size(&self) -> u32
+        ensures size { result ≡ self.now.size }
+        ensures policy { IsPolicy self.now }
+    {
+        self.size
+    }
+
+    /// The fields.
+    pub fn fields(&self) -> &[RecordField]
+        ensures { result.now ≡ self.now.fields }
+    {
+        &self.fields
+    }
+
+    /// What is shown beside the digest.
+    pub fn shows(&self) -> &[Show]
+        ensures { result.now ≡ self.now.shows }
+    {
+        &self.shows
+    }
+}

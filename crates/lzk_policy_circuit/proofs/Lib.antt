@@ -1,0 +1,10 @@
+pub mod Bytes
+pub mod Hashing
+pub mod Lists
+pub mod Dates
+pub mod Pseudonyms
+pub mod Whole
+pub mod Parts
+pub mod Adding
+pub mod Joined
+pub mod Answering

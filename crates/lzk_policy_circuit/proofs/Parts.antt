@@ -1,0 +1,117 @@
+-- What parts of the circuit see of the whole's inputs.
+use Rattle.std.proofs.Common.{◌≡◌, ℕ, ◌+◌, ◌-◌, ◌<◌, ◌≤◌, List, [], ◌∷◌, ◌++◌, length, take, drop, map, zero, suc, refl, sym, ap, subst, ◌∙◌, arith, inl, inr, ext_get_or, get_or-take, get_or-append-add, append_assoc, length-append, length-drop, None}
+use Rattle.std.specs.List.{range_with_len}
+use Rattle.std.proofs.lemmas.Bool.{cases_lt}
+use Rattle.std.proofs.lemmas.List.{get_or_append_left, length-take-le, get_or-drop, map-append}
+use Rattle.std.proofs.lemmas.List.FromFn.{length-map-range_with_len, get_or-map-range_with_len, length-range_with_len, get_or-range_with_len}
+use Rattle.std.proofs.Math.Seq.{take-append-add}
+use Rattle.lzk_field.specs.Ring.{Ops, Laws}
+use Rattle.lzk_field.specs.Sums.{entry}
+use Rattle.lzk_circuit.specs.Checks.{checks_of}
+use Rattle.lzk_circuit.specs.Valid.{Wiring, input_width, IsValid}
+use Rattle.lzk_circuit.specs.Wires.{wires_of, inputs_of, IsFirstNonzero}
+use Rattle.lzk_circuit.proofs.CheckLaws.{one-checks}
+use Rattle.lzk_circuit.proofs.VersionLaws.{valid-one}
+use Rattle.lzk_gadgets.specs.Claims.{AreAllZero}
+use Rattle.lzk_reduce.specs.Renumbering.{at, AreNumbersBelow}
+use Rattle.lzk_beside.specs.Chosen.{chosen}
+use Rattle.lzk_policy_circuit.specs.Places.{hash_places}
+
+-- ---- places
+
+pub range_below : (width a n : ℕ) → a + n ≤ width → AreNumbersBelow width (range_with_len a n)
+range_below width a n l k lk =
+    let inside : k < n = omega (arith, length-range_with_len a n, lk) in
+    subst (λ (x : ℕ). x < width) (sym (get_or-range_with_len a n k 0 inside)) (omega (arith, inside, l))
+
+pub both_below : (width : ℕ) (xs ys : List ℕ) → AreNumbersBelow width xs → AreNumbersBelow width ys → AreNumbersBelow width (xs ++ ys)
+both_below width xs ys hx hy k l =
+    elim (cases_lt k (length xs)) [
+      | inl less ↦ subst (λ (n : ℕ). n < width) (sym (get_or_append_left xs ys 0 k less)) (hx k less)
+      | inr more ↦
+          let there : length xs + (k - length xs) ≡ k = omega (arith, more) in
+          let inside : k - length xs < length ys = omega (arith, length-append xs ys, l, more) in
+          let is : at (xs ++ ys) k ≡ at ys (k - length xs) = ap (at (xs ++ ys)) (sym there) ∙ get_or-append-add xs ys (k - length xs) 0 in
+          subst (λ (n : ℕ). n < width) (sym is) (hy (k - length xs) inside)
+    ]
+
+pub hash_places_below : (width words bits count rest : ℕ) → words + 8 ≤ width → bits + count ≤ width → rest + 6376 ≤ width → AreNumbersBelow width (hash_places words bits count rest)
+hash_places_below width words bits count rest a b c =
+    both_below width (range_with_len words 8 ++ range_with_len bits count) (range_with_len rest 6376)
+    (both_below width (range_with_len words 8) (range_with_len bits count) (range_below width words 8 a) (range_below width bits count b)) (range_below width rest 6376 c)
+
+pub hash_places_count : (words bits count rest : ℕ) → length (hash_places words bits count rest) ≡ 8 + (count + 6376)
+hash_places_count words bits count rest =
+    omega (
+      arith,
+      length-append (range_with_len words 8 ++ range_with_len bits count) (range_with_len rest 6376),
+      length-append (range_with_len words 8) (range_with_len bits count),
+      length-range_with_len words 8,
+      length-range_with_len bits count,
+      length-range_with_len rest 6376,
+    )
+
+module _ {A : Type 0} (o : Ops A) where
+  pub row_is : (f : ℕ → A) (xs : List A) (a b n : ℕ) → b + n ≤ length xs → ((i : ℕ) → i < n → f (a + i) ≡ entry o xs (b + i)) → map f (range_with_len a n) ≡ take n (drop b xs)
+  row_is f xs a b n le h =
+      let right : length (take n (drop b xs)) ≡ n = length-take-le n (drop b xs) (omega (arith, length-drop b xs, le)) in
+      let left : length (map f (range_with_len a n)) ≡ n = length-map-range_with_len f a n in
+      ext_get_or o.zero (map f (range_with_len a n)) (take n (drop b xs)) (left ∙ sym right) (λ i l.
+      let inside : i < n = omega (arith, left, l) in
+      get_or-map-range_with_len f a n i (a + i) o.zero inside refl ∙ h i inside ∙ sym (get_or-take n (drop b xs) i o.zero inside ∙ get_or-drop b xs i o.zero))
+
+  module _ (public private : List A) where
+    public_entry : (i : ℕ) → i < length public → entry o (inputs_of o public private) (1 + i) ≡ entry o public i
+    public_entry i l =
+        let one : 1 + i ≡ suc i = omega arith in
+        ap (entry o (inputs_of o public private)) one ∙ get_or_append_left public private o.zero i l
+
+    private_entry : (i : ℕ) → entry o (inputs_of o public private) (1 + length public + i) ≡ entry o private i
+    private_entry i =
+        let one : 1 + length public + i ≡ suc (length public + i) = omega arith in
+        ap (entry o (inputs_of o public private)) one ∙ get_or-append-add public private i o.zero
+
+    -- the first inputs
+    pub chosen_front : (stated : ℕ) → stated ≤ length private → chosen o (range_with_len 1 (length public + stated)) (inputs_of o public private) ≡ inputs_of o public (take stated private)
+    chosen_front stated le =
+        let n = length public + stated in
+        let xs = inputs_of o public private in
+        let room : 1 + n ≤ length xs = omega (arith, length-append public private, le) in
+        ap (λ (l : List A). o.one ∷ l) (row_is (entry o xs) xs 1 1 n room (λ i l. refl) ∙ take-append-add public private stated)
+
+    -- the inputs of a hash
+    pub chosen_hash : (words bits count rest : ℕ) → words + 8 ≤ length public → bits + count ≤ length private → rest + 6376 ≤ length private
+        → chosen o (hash_places (1 + words) (1 + length public + bits) count (1 + length public + rest)) (inputs_of o public private)
+        ≡ inputs_of o (take 8 (drop words public)) (take count (drop bits private) ++ take 6376 (drop rest private))
+    chosen_hash words bits count rest lw lb lr =
+        let xs = inputs_of o public private in
+        let f = entry o xs in
+        let r1 = range_with_len (1 + words) 8 in
+        let r2 = range_with_len (1 + length public + bits) count in
+        let r3 = range_with_len (1 + length public + rest) 6376 in
+        let a = take 8 (drop words public) in
+        let b = take count (drop bits private) in
+        let c = take 6376 (drop rest private) in
+        let e1 : map f r1 ≡ a = row_is f public (1 + words) words 8 lw (λ i l.
+        let there : 1 + words + i ≡ 1 + (words + i) = omega arith in ap f there ∙ public_entry (words + i) (omega (arith, lw, l))) in
+        let e2 : map f r2 ≡ b = row_is f private (1 + length public + bits) bits count lb (λ i l.
+        let there : 1 + length public + bits + i ≡ 1 + length public + (bits + i) = omega arith in ap f there ∙ private_entry (bits + i)) in
+        let e3 : map f r3 ≡ c = row_is f private (1 + length public + rest) rest 6376 lr (λ i l.
+        let there : 1 + length public + rest + i ≡ 1 + length public + (rest + i) = omega arith in ap f there ∙ private_entry (rest + i)) in
+        ap (λ (l : List A). o.one ∷ l)
+        (map-append f (r1 ++ r2) r3 ∙ ap (λ l. l ++ map f r3) (map-append f r1 r2) ∙ (λ i. (e1 i ++ e2 i) ++ e3 i) ∙ append_assoc a b c)
+
+  -- ---- checks that are all 0
+
+  pub all_zero_forward : (xs : List A) → IsFirstNonzero o xs None → AreAllZero o xs
+  all_zero_forward [] h = tt
+  all_zero_forward (x ∷ xs) h = (h 0 (omega arith), all_zero_forward xs (λ g l. h (suc g) (omega (arith, l))))
+
+  pub all_zero_backward : (xs : List A) → AreAllZero o xs → IsFirstNonzero o xs None
+  all_zero_backward [] h g l = absurd (omega (arith, l))
+  all_zero_backward (x ∷ xs) h zero l = h.0
+  all_zero_backward (x ∷ xs) h (suc g) l = all_zero_backward xs h.1 g (omega (arith, l))
+
+module _ {A : Type 0} (o : Ops A) (size : ℕ) (number : A → ℕ) (element : ℕ → A) (bytes : ℕ) (laws : Laws o size number element bytes) where
+  pub own_checks : (c : Wiring A) (inputs : List A) → IsValid o c → c.version ≡ 1 → length inputs ≡ input_width c → checks_of o number c.layers inputs ≡ wires_of o c.layers inputs
+  own_checks c inputs valid one n = one-checks o size number element bytes laws (input_width c) c.layers inputs n valid.some (valid-one o c one valid)

@@ -1,0 +1,348 @@
+-- A policy's circuit is satisfied by some private inputs exactly where there is a record.
+use Rattle.std.proofs.Common.{◌≡◌, ℕ, ◌+◌, ◌*◌, ◌^◌, ◌<◌, ◌≤◌, List, [], ◌∷◌, ◌++◌, length, take, drop, map, zero, suc, refl, sym, ap, subst, ◌∙◌, arith, Option, Some, append_assoc, append-nil, length-append, length-drop}
+use Rattle.std.specs.Prelude.{IsTrue, Bool, true, false, ◌&&◌, ◌==◌, not, nat_le, MatchOption, slice_get}
+use Rattle.std.specs.List.{AllByRecursion}
+use Rattle.std.proofs.lemmas.Bool.{leb-true, eqb-true}
+use Rattle.std.proofs.Math.Nat.{pow-le-pow_right}
+use Rattle.std.proofs.lemmas.List.{length-take-le}
+use Rattle.lzk_field.specs.Sums.{entry}
+use Rattle.lzk_goldilocks.specs.Elements.{ops, of_number}
+use Rattle.lzk_goldilocks.specs.declared.element.Gold.{Gold}
+use Rattle.lzk_gadgets.specs.Inverses.{difference, IsAmong}
+use Rattle.lzk_sha_circuit.specs.Digest.{AreBytes, digest_words}
+use Rattle.lzk_sha_circuit.specs.Outputs.{AreSatisfying}
+use Rattle.lzk_policy.specs.declared.policy.FieldKind.{FieldKind}
+use Rattle.lzk_policy.specs.declared.policy.FieldKind.TheVariants as kinds
+use Rattle.lzk_policy.specs.declared.policy.RecordField.{RecordField}
+use Rattle.lzk_policy.specs.declared.policy.Claim.{Claim}
+use Rattle.lzk_policy.specs.declared.policy.Claim.TheVariants as claims
+use Rattle.lzk_policy.specs.declared.policy.Show.{Show}
+use Rattle.lzk_policy.specs.Policies.{Contents, IsPolicy, IsField, IsShowOf, has_size, suits, are_small, is_date, is_text, is_bytes}
+use Rattle.lzk_policy_circuit.specs.Meaning.{field_number, value_count, values_of, pseudonym_message, IsTrueOf, AreTrueOf, IsShown, public_count}
+use Rattle.lzk_policy_circuit.specs.Layout.{hash_rest, message_size, own_of, own_of_claim, rest_of_claim, own_count, owns_of, rests_of, stated_count, private_count}
+use Rattle.lzk_policy_circuit.specs.Met.{field_worth, number_worth, IsOrdered, IsStated, AreStated, IsHashed, AreHashed, Satisfy}
+use Rattle.lzk_policy_circuit.proofs.Lists.{drop_front, take_front, drop_twice}
+use Rattle.lzk_policy_circuit.proofs.Bytes.{AreBitsOf, number_is, number_below}
+use Rattle.lzk_policy_circuit.proofs.Dates.{most_forward, least_forward, ordered, among_forward, among_backward, number_of_small, own_number}
+use Rattle.lzk_policy_circuit.proofs.Pseudonyms.{spelt, message_front, message_rest, length-message_front, length-message_rest, message_bits_are, message_satisfies_parts, pseudonym_forward, pseudonym_backward, bytes_message, long_message}
+
+-- ---- what a policy says of fields
+
+both : (a b : Bool) → IsTrue (a && b) → IsTrue a × IsTrue b
+both true b h = (refl, h)
+both false b h = absurd cc
+
+at_most : (a b : ℕ) → IsTrue (nat_le a b) → a ≤ b
+at_most a b h = leb-true a b h
+
+equal : (a b : ℕ) → IsTrue (a == b) → a ≡ b
+equal a b h = eqb-true a b h
+
+date_size : (k : FieldKind) (n : ℕ) → IsTrue (is_date k) → IsTrue (has_size k n) → n ≡ 4
+date_size kinds.Date n d h = equal n 4 h
+date_size kinds.Text n d h = absurd cc
+date_size kinds.Bytes n d h = absurd cc
+
+told_size : (k : FieldKind) (n : ℕ) → IsTrue (not (is_bytes k)) → IsTrue (has_size k n) → n ≤ 7
+told_size kinds.Date n d h = omega (arith, equal n 4 h)
+told_size kinds.Text n d h = at_most n 7 (both (nat_le 1 n) (nat_le n 7) h).1
+told_size kinds.Bytes n d h = absurd cc
+
+text_size : (k : FieldKind) (n : ℕ) → IsTrue (is_text k) → IsTrue (has_size k n) → n ≤ 7
+text_size kinds.Text n d h = at_most n 7 (both (nat_le 1 n) (nat_le n 7) h).1
+text_size kinds.Date n d h = absurd cc
+text_size kinds.Bytes n d h = absurd cc
+
+power : (n k : ℕ) → n ≤ k → 256 ^ n ≤ 256 ^ k
+power n k l = pow-le-pow_right (omega arith) l
+
+module _ (m : List ℕ) (bytes : AreBytes m) (f : RecordField) (is : IsField (length m) f) where
+  within : f.place + f.size ≤ length m
+  within = at_most (f.place + f.size) (length m) is.1
+
+  small_date : IsTrue (is_date f.kind) → field_number m f < 2 ^ 32
+  small_date d =
+      let four = date_size f.kind f.size d is.0 in
+      let below = number_below m f.place f.size bytes within in
+      omega (arith, below, power f.size 4 (omega (arith, four)))
+
+  small_text : f.size ≤ 7 → field_number m f < 2 ^ 56
+  small_text l =
+      let below = number_below m f.place f.size bytes within in
+      omega (arith, below, power f.size 7 l)
+
+  worth_is : (bits : List Gold) → AreBitsOf bits 0 m → field_worth bits f ≡ of_number (field_number m f)
+  worth_is bits h =
+      let zero_at : 8 * f.place ≡ 0 + 8 * f.place = omega arith in
+      ap (λ a. number_worth bits a f.size) zero_at ∙ number_is bits 0 m h bytes f.place f.size within
+
+  number_of_date : IsTrue (is_date f.kind) → (of_number (field_number m f)).n ≡ field_number m f
+  number_of_date d = number_of_small (field_number m f) (omega (arith, small_date d))
+
+  number_of_told : f.size ≤ 7 → (of_number (field_number m f)).n ≡ field_number m f
+  number_of_told l = number_of_small (field_number m f) (omega (arith, small_text l))
+
+  -- ---- what is asserted is true
+
+  claim_forward : (claim : Claim) → IsTrue (suits f claim) → (bits public own rests : List Gold) → AreBitsOf bits 0 m → value_count claim ≤ length public → own_of_claim f claim ≤ length own → rest_of_claim claim ≤ length rests
+      → IsStated bits f claim public own → IsHashed f claim public own rests → IsTrueOf m f claim public
+  claim_forward (claims.AtMost value) s bits public own rests h lp lo lr a b =
+      let n = field_number m f in
+      let v = entry ops public 0 in
+      let e = worth_is bits h in
+      let is_n = number_of_date s in
+      let r = most_forward (of_number n) v own lo (omega (arith, is_n, small_date s)) (subst (λ (x : Gold). IsOrdered (difference v x) v own) e a) in
+      (omega (arith, r.0, is_n), r.1)
+  claim_forward (claims.AtLeast value) s bits public own rests h lp lo lr a b =
+      let n = field_number m f in
+      let v = entry ops public 0 in
+      let is_n = number_of_date s in
+      let r = least_forward (of_number n) v own lo (subst (λ (x : Gold). IsOrdered (difference x v) v own) (worth_is bits h) a) in
+      omega (arith, r, is_n)
+  claim_forward (claims.Equal value) s bits public own rests h lp lo lr a b =
+      ap (λ (x : Gold). x.n) (sym a ∙ worth_is bits h) ∙ number_of_told (told_size f.kind f.size s is.0)
+  claim_forward (claims.OneOf texts) s bits public own rests h lp lo lr a b =
+      let t = both (is_text f.kind && (texts.size == f.size) && nat_le (length texts.numbers) 16) (are_small texts.numbers) s in
+      let v = both (is_text f.kind && (texts.size == f.size)) (nat_le (length texts.numbers) 16) t.0 in
+      let u = both (is_text f.kind) (texts.size == f.size) v.0 in
+      among_forward (field_number m f) texts.numbers (small_text (text_size f.kind f.size u.0 is.0)) t.1
+      (subst (λ (x : Gold). IsAmong x (map of_number texts.numbers)) (worth_is bits h) a)
+  claim_forward (claims.Pseudonym value) s bits public own rests h lp lo lr a b =
+      let len = message_size f in
+      let few : len ≤ 55 = at_most len 55 (both (is_bytes f.kind) (nat_le len 55) s).1 in
+      let eight : length (take 8 (drop 4 public)) ≡ 8 = length-take-le 8 (drop 4 public) (omega (arith, length-drop 4 public, lp)) in
+      let w = spelt len (take 8 (drop 4 public)) own (take hash_rest rests) few eight lo (length-take-le hash_rest rests lr) b in
+      pseudonym_forward m f within bits own public h bytes (omega (arith, lp)) w.message w.size_is w.bytes_are w.bits_are a w.digest_is
+
+  -- ---- and what is true has inputs
+
+  pub record Found (claim : Claim) (public : List Gold) : Type 0 where
+    pub own : List Gold
+    pub rest : List Gold
+    pub own_size : length own ≡ own_of_claim f claim
+    pub rest_size : length rest ≡ rest_of_claim claim
+    pub stated : (bits more : List Gold) → AreBitsOf bits 0 m → IsStated bits f claim public (own ++ more)
+    pub hashed : (more others : List Gold) → IsHashed f claim public (own ++ more) (rest ++ others)
+
+  claim_backward : (claim : Claim) → IsTrue (suits f claim) → (public : List Gold) → IsTrueOf m f claim public → Found claim public
+  claim_backward (claims.AtMost value) s public t =
+      let n = field_number m f in
+      let v = entry ops public 0 in
+      let is_n = number_of_date s in
+      let o = ordered (of_number n) v v (omega (arith, t.0, is_n)) t.1 t.1 in
+      record {
+        own = o.0;
+        rest = [];
+        own_size = o.1;
+        rest_size = refl;
+        stated = λ bits more h. subst (λ (x : Gold). IsOrdered (difference v x) v (o.0 ++ more)) (sym (worth_is bits h)) (o.2 more);
+        hashed = λ more others. tt;
+      }
+  claim_backward (claims.AtLeast value) s public t =
+      let n = field_number m f in
+      let v = entry ops public 0 in
+      let is_n = number_of_date s in
+      let small = small_date s in
+      let o = ordered v (of_number n) v (omega (arith, t, is_n)) (omega (arith, is_n, small)) (omega (arith, t, small)) in
+      record {
+        own = o.0;
+        rest = [];
+        own_size = o.1;
+        rest_size = refl;
+        stated = λ bits more h. subst (λ (x : Gold). IsOrdered (difference x v) v (o.0 ++ more)) (sym (worth_is bits h)) (o.2 more);
+        hashed = λ more others. tt;
+      }
+  claim_backward (claims.Equal value) s public t = record {
+    own = [];
+    rest = [];
+    own_size = refl;
+    rest_size = refl;
+    stated = λ bits more h. worth_is bits h ∙ ap of_number (sym t) ∙ sym (own_number (entry ops public 0));
+    hashed = λ more others. tt;
+  }
+  claim_backward (claims.OneOf texts) s public t = record {
+    own = [];
+    rest = [];
+    own_size = refl;
+    rest_size = refl;
+    stated = λ bits more h. subst (λ (x : Gold). IsAmong x (map of_number texts.numbers)) (sym (worth_is bits h)) (among_backward (field_number m f) texts.numbers t);
+    hashed = λ more others. tt;
+  }
+  claim_backward (claims.Pseudonym value) s public t =
+      let len = message_size f in
+      let few : len ≤ 55 = at_most len 55 (both (is_bytes f.kind) (nat_le len 55) s).1 in
+      let w = pseudonym_message m f t.tag in
+      let long : length w ≡ len = long_message m f within t.tag t.is_tag bytes in
+      let bw : AreBytes w = bytes_message m f within t.tag t.is_tag bytes in
+      let short : length w ≤ 55 = omega (arith, long, few) in
+      let own = message_front w short bw in
+      let rest = message_rest w short bw in
+      let long_own : length own ≡ 8 * len = length-message_front w short bw ∙ ap (λ n. 8 * n) long in
+      let long_rest : length rest ≡ hash_rest = length-message_rest w short bw in
+      record {
+        own = own;
+        rest = rest;
+        own_size = long_own;
+        rest_size = long_rest;
+        stated = λ bits more h. pseudonym_backward m f within t.tag t.is_tag bytes bits (own ++ more) public h (message_bits_are w short bw more) t.words;
+        hashed = λ more others.
+            let one : take (8 * len) (own ++ more) ≡ own = take_front (8 * len) own more (sym long_own) in
+            let two : take hash_rest (rest ++ others) ≡ rest = take_front hash_rest rest others (sym long_rest) in
+            let three : map of_number (digest_words w) ≡ take 8 (drop 4 public) = sym t.digest in
+            subst (λ (l : List Gold). AreSatisfying ops of_number len l (take (8 * len) (own ++ more) ++ take hash_rest (rest ++ others))) three
+            (subst (λ (k : ℕ). AreSatisfying ops of_number k (map of_number (digest_words w)) (take (8 * len) (own ++ more) ++ take hash_rest (rest ++ others))) long
+            (subst (λ (l : List Gold). AreSatisfying ops of_number (length w) (map of_number (digest_words w)) l) (λ i. sym one i ++ sym two i) (message_satisfies_parts w short bw)));
+      }
+
+-- ---- all that is shown
+
+at_field : (o : Option RecordField) (f : RecordField) (P : RecordField → Type 0) → o ≡ Some f → MatchOption o ⊥ P → P f
+at_field o f P e h = subst (λ (x : Option RecordField). MatchOption x ⊥ P) e h
+
+put_field : (o : Option RecordField) (f : RecordField) (P : RecordField → Type 0) → o ≡ Some f → P f → MatchOption o ⊥ P
+put_field o f P e h = subst (λ (x : Option RecordField). MatchOption x ⊥ P) (sym e) h
+
+slot_size : (fields : List RecordField) (s : Show) (f : RecordField) → slice_get fields s.field ≡ Some f → own_count fields s ≡ own_of_claim f s.claim
+slot_size fields s f e = ap (λ o. own_of o s.claim) e
+
+-- the field that stands at a place
+field_there : (n : ℕ) (fields : List RecordField) (k : ℕ) (f : RecordField) → AllByRecursion (IsField n) fields → slice_get fields k ≡ Some f → IsField n f
+field_there n [] k f h e = absurd cc
+field_there n (g ∷ gs) zero f h e = let same : g ≡ f = cc in subst (IsField n) same h.0
+field_there n (g ∷ gs) (suc k) f h e = field_there n gs k f h.1 e
+
+module _ (m : List ℕ) (bytes : AreBytes m) (fields : List RecordField) (are : AllByRecursion (IsField (length m)) fields) where
+  shows_forward : (ss : List Show) → AllByRecursion (IsShowOf fields) ss → (bits public own rests : List Gold) → AreBitsOf bits 0 m → values_of ss ≤ length public → owns_of fields ss ≤ length own → rests_of ss ≤ length rests
+      → AreStated bits fields ss public own → AreHashed fields ss public own rests → AreTrueOf m fields ss public
+  shows_forward [] w bits public own rests h lp lo lr a b = tt
+  shows_forward (s ∷ ss) w bits public own rests h lp lo lr a b =
+      let f = w.0.0 in
+      let there = w.0.1 in
+      let size = slot_size fields s f there in
+      let first = claim_forward m bytes f (field_there (length m) fields s.field f are there) s.claim w.0.2 bits public own rests h (omega (arith, lp)) (omega (arith, lo, size)) (omega (arith, lr))
+      (at_field (slice_get fields s.field) f (λ g. IsStated bits g s.claim public own) there a.0)
+      (at_field (slice_get fields s.field) f (λ g. IsHashed g s.claim public own rests) there b.0) in
+      let n = value_count s.claim in
+      let k = own_count fields s in
+      let r = rest_of_claim s.claim in (
+        put_field (slice_get fields s.field) f (λ g. IsTrueOf m g s.claim public) there first,
+        shows_forward ss w.1 bits (drop n public) (drop k own) (drop r rests) h
+            (omega (arith, length-drop n public, lp)) (omega (arith, length-drop k own, lo)) (omega (arith, length-drop r rests, lr)) a.1 b.1,
+      )
+
+  pub record AllFound (ss : List Show) (public : List Gold) : Type 0 where
+    pub own : List Gold
+    pub rests : List Gold
+    pub own_size : length own ≡ owns_of fields ss
+    pub rests_size : length rests ≡ rests_of ss
+    pub stated : (bits more : List Gold) → AreBitsOf bits 0 m → AreStated bits fields ss public (own ++ more)
+    pub hashed : (more others : List Gold) → AreHashed fields ss public (own ++ more) (rests ++ others)
+
+  shows_backward : (ss : List Show) → AllByRecursion (IsShowOf fields) ss → (public : List Gold) → AreTrueOf m fields ss public → AllFound ss public
+  shows_backward [] w public t = record {
+    own = [];
+    rests = [];
+    own_size = refl;
+    rests_size = refl;
+    stated = λ bits more h. tt;
+    hashed = λ more others. tt;
+  }
+  shows_backward (s ∷ ss) w public t =
+      let f = w.0.0 in
+      let there = w.0.1 in
+      let size = slot_size fields s f there in
+      let n = value_count s.claim in
+      let k = own_count fields s in
+      let r = rest_of_claim s.claim in
+      let one = claim_backward m bytes f (field_there (length m) fields s.field f are there) s.claim w.0.2 public
+      (at_field (slice_get fields s.field) f (λ g. IsTrueOf m g s.claim public) there t.0) in
+      let more_ = shows_backward ss w.1 (drop n public) t.1 in
+      record {
+        own = one.own ++ more_.own;
+        rests = one.rest ++ more_.rests;
+        own_size = omega (arith, length-append one.own more_.own, one.own_size, more_.own_size, size);
+        rests_size = omega (arith, length-append one.rest more_.rests, one.rest_size, more_.rests_size);
+        stated = λ bits more h.
+            let turn : (one.own ++ more_.own) ++ more ≡ one.own ++ (more_.own ++ more) = append_assoc one.own more_.own more in
+            let behind : drop k ((one.own ++ more_.own) ++ more) ≡ more_.own ++ more = ap (drop k) turn ∙ drop_front k one.own (more_.own ++ more) (size ∙ sym one.own_size) in (
+              put_field (slice_get fields s.field) f (λ g. IsStated bits g s.claim public ((one.own ++ more_.own) ++ more)) there
+                  (subst (λ (l : List Gold). IsStated bits f s.claim public l) (sym turn) (one.stated bits (more_.own ++ more) h)),
+              subst (λ (l : List Gold). AreStated bits fields ss (drop n public) l) (sym behind) (more_.stated bits more h),
+            );
+        hashed = λ more others.
+            let turn : (one.own ++ more_.own) ++ more ≡ one.own ++ (more_.own ++ more) = append_assoc one.own more_.own more in
+            let behind : drop k ((one.own ++ more_.own) ++ more) ≡ more_.own ++ more = ap (drop k) turn ∙ drop_front k one.own (more_.own ++ more) (size ∙ sym one.own_size) in
+            let rturn : (one.rest ++ more_.rests) ++ others ≡ one.rest ++ (more_.rests ++ others) = append_assoc one.rest more_.rests others in
+            let rbehind : drop r ((one.rest ++ more_.rests) ++ others) ≡ more_.rests ++ others = ap (drop r) rturn ∙ drop_front r one.rest (more_.rests ++ others) (sym one.rest_size) in (
+              put_field (slice_get fields s.field) f (λ g. IsHashed g s.claim public ((one.own ++ more_.own) ++ more) ((one.rest ++ more_.rests) ++ others)) there
+                  (subst (λ (l : List Gold). IsHashed f s.claim public l ((one.rest ++ more_.rests) ++ others)) (sym turn)
+                  (subst (λ (l : List Gold). IsHashed f s.claim public (one.own ++ (more_.own ++ more)) l) (sym rturn) (one.hashed (more_.own ++ more) (more_.rests ++ others)))),
+              subst (λ (l : List Gold). AreHashed fields ss (drop n public) l (drop r ((one.rest ++ more_.rests) ++ others))) (sym behind)
+                  (subst (λ (l : List Gold). AreHashed fields ss (drop n public) (more_.own ++ more) l) (sym rbehind) (more_.hashed more others)),
+            );
+      }
+
+-- ---- the whole
+
+pub satisfied_forward : (c : Contents) → IsPolicy c → (public private : List Gold) → length public ≡ public_count c → length private ≡ private_count c → Satisfy c public private
+    → (m : List ℕ) × IsShown c m public
+satisfied_forward c w public private np nq h =
+    let n = 8 * c.size in
+    let s = stated_count c in
+    let own = take s private in
+    let eight : length (take 8 public) ≡ 8 = length-take-le 8 public (omega (arith, np)) in
+    let long : length own ≡ s = length-take-le s private (omega (arith, nq)) in
+    let rest : length (take hash_rest (drop s private)) ≡ 6376 = length-take-le hash_rest (drop s private) (omega (arith, length-drop s private, nq)) in
+    let d = spelt c.size (take 8 public) own (take hash_rest (drop s private)) w.block eight (omega (arith, long)) rest h.hashed in
+    let m = d.message in
+    let fields = subst (λ (k : ℕ). AllByRecursion (IsField k) c.fields) (sym d.size_is) w.fields in
+    let twice : length (drop (s + hash_rest) private) ≡ rests_of c.shows = omega (arith, length-drop (s + hash_rest) private, nq) in (
+      m,
+      record {
+        bytes = record { size_is = d.size_is; bytes_are = d.bytes_are };
+        digest = d.digest_is;
+        lines = shows_forward m d.bytes_are c.fields fields c.shows w.shows own (drop 8 public) (drop n own) (drop (s + hash_rest) private) d.bits_are
+            (omega (arith, length-drop 8 public, np)) (omega (arith, length-drop n own, long)) (omega (arith, twice)) h.stated h.pseudonyms;
+      },
+    )
+
+pub satisfied_backward : (c : Contents) → IsPolicy c → (m : List ℕ) (public : List Gold) → IsShown c m public
+    → (private : List Gold) × (length private ≡ private_count c) × Satisfy c public private
+satisfied_backward c w m public h =
+    let bytes = h.bytes.bytes_are in
+    let size = h.bytes.size_is in
+    let short : length m ≤ 55 = omega (arith, size, w.block) in
+    let n = 8 * c.size in
+    let s = stated_count c in
+    let fields = subst (λ (k : ℕ). AllByRecursion (IsField k) c.fields) (sym size) w.fields in
+    let r = shows_backward m bytes c.fields fields c.shows w.shows (drop 8 public) h.lines in
+    let front = message_front m short bytes in
+    let rest = message_rest m short bytes in
+    let stated = front ++ r.own in
+    let behind = rest ++ r.rests in
+    let private = stated ++ behind in
+    let long_front : length front ≡ n = length-message_front m short bytes ∙ ap (λ k. 8 * k) size in
+    let long_rest : length rest ≡ 6376 = length-message_rest m short bytes in
+    let long_stated : length stated ≡ s = omega (arith, length-append front r.own, long_front, r.own_size) in
+    let stated_at : take s private ≡ stated = take_front s stated behind (sym long_stated) in
+    let behind_at : drop s private ≡ behind = drop_front s stated behind (sym long_stated) in
+    let own_at : drop n (take s private) ≡ r.own ++ [] = ap (drop n) stated_at ∙ drop_front n front r.own (sym long_front) ∙ sym (append-nil r.own) in
+    let front_at_ : take n (take s private) ≡ front = ap (take n) stated_at ∙ take_front n front r.own (sym long_front) in
+    let rest_at : take hash_rest (drop s private) ≡ rest = ap (take hash_rest) behind_at ∙ take_front hash_rest rest r.rests (sym long_rest) in
+    let rests_at : drop (s + hash_rest) private ≡ r.rests ++ [] =
+    sym (drop_twice s hash_rest private) ∙ ap (drop hash_rest) behind_at ∙ drop_front hash_rest rest r.rests (sym long_rest) ∙ sym (append-nil r.rests) in
+    let bits : AreBitsOf (take s private) 0 m = subst (λ (l : List Gold). AreBitsOf l 0 m) (sym stated_at) (message_bits_are m short bytes r.own) in
+    let whole : length private ≡ private_count c = omega (arith, length-append stated behind, length-append rest r.rests, long_stated, long_rest, r.rests_size) in (
+      private,
+      whole,
+      record {
+        stated = subst (λ (l : List Gold). AreStated (take s private) c.fields c.shows (drop 8 public) l) (sym own_at) (r.stated (take s private) [] bits);
+        hashed =
+            subst (λ (l : List Gold). AreSatisfying ops of_number c.size l (take n (take s private) ++ take hash_rest (drop s private))) (sym h.digest)
+            (subst (λ (k : ℕ). AreSatisfying ops of_number k (map of_number (digest_words m)) (take n (take s private) ++ take hash_rest (drop s private))) size
+            (subst (λ (l : List Gold). AreSatisfying ops of_number (length m) (map of_number (digest_words m)) l) (λ i. sym front_at_ i ++ sym rest_at i) (message_satisfies_parts m short bytes)));
+        pseudonyms =
+            subst (λ (l : List Gold). AreHashed c.fields c.shows (drop 8 public) l (drop (s + hash_rest) private)) (sym own_at)
+            (subst (λ (l : List Gold). AreHashed c.fields c.shows (drop 8 public) (r.own ++ []) l) (sym rests_at) (r.hashed [] []));
+      },
+    )

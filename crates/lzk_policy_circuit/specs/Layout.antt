@@ -1,0 +1,74 @@
+-- Where the private inputs of a policy's circuit stand. In order: the bits of the record, the highest of a byte first;
+-- for what is shown, one after another, bits of differences and of dates, the lowest first, and those of a pseudonym's
+-- message; the rest of the record's hash; the rests of the pseudonyms' hashes.
+use Rattle.std.specs.Prelude.{ℕ, ◌+◌, ◌*◌, List, [], ◌∷◌, slice_get, Option, Some, None}
+use Rattle.lzk_policy.specs.declared.policy.RecordField.{RecordField}
+use Rattle.lzk_policy.specs.declared.policy.Claim.{Claim}
+use Rattle.lzk_policy.specs.declared.policy.Claim.TheVariants as claims
+use Rattle.lzk_policy.specs.declared.policy.Show.{Show}
+use Rattle.lzk_policy.specs.Policies.{Contents}
+
+-- the private inputs of a hash beside the bits of its message
+abbrev pub hash_rest : ℕ
+hash_rest = 6376
+
+-- the bytes of a pseudonym's message: label, secret and tag
+abbrev pub message_size : RecordField → ℕ
+message_size f = 4 + f.size + 16
+
+-- the bits that go with what is shown of a field
+abbrev pub own_of_claim : RecordField → Claim → ℕ
+own_of_claim f (claims.AtMost value) = 64
+own_of_claim f (claims.AtLeast value) = 64
+own_of_claim f (claims.Equal value) = 0
+own_of_claim f (claims.OneOf texts) = 0
+own_of_claim f (claims.Pseudonym value) = 8 * message_size f
+
+abbrev pub rest_of_claim : Claim → ℕ
+rest_of_claim (claims.Pseudonym value) = hash_rest
+rest_of_claim (claims.AtMost value) = 0
+rest_of_claim (claims.AtLeast value) = 0
+rest_of_claim (claims.Equal value) = 0
+rest_of_claim (claims.OneOf texts) = 0
+
+abbrev pub own_of : Option RecordField → Claim → ℕ
+own_of None claim = 0
+own_of (Some f) claim = own_of_claim f claim
+
+abbrev pub own_count : List RecordField → Show → ℕ
+own_count fields s = own_of (slice_get fields s.field) s.claim
+
+-- the same of all that is shown
+abbrev pub owns_of : List RecordField → List Show → ℕ
+owns_of fields [] = 0
+owns_of fields (s ∷ ss) = own_count fields s + owns_of fields ss
+
+abbrev pub rests_of : List Show → ℕ
+rests_of [] = 0
+rests_of (s ∷ ss) = rest_of_claim s.claim + rests_of ss
+
+-- how many private inputs the statement has, and the whole circuit
+abbrev pub stated_count : Contents → ℕ
+stated_count p = 8 * p.size + owns_of p.fields p.shows
+
+abbrev pub private_count : Contents → ℕ
+private_count p = stated_count p + (hash_rest + rests_of p.shows)
+
+-- how many asserts the statement has for what is shown of a field, and for all
+abbrev pub asserts_of_claim : RecordField → Claim → ℕ
+asserts_of_claim f (claims.AtMost value) = 66
+asserts_of_claim f (claims.AtLeast value) = 66
+asserts_of_claim f (claims.Equal value) = 1
+asserts_of_claim f (claims.OneOf texts) = 1
+asserts_of_claim f (claims.Pseudonym value) = 8 + f.size
+
+abbrev pub asserts_of_field : Option RecordField → Claim → ℕ
+asserts_of_field None claim = 0
+asserts_of_field (Some f) claim = asserts_of_claim f claim
+
+abbrev pub assert_count : List RecordField → Show → ℕ
+assert_count fields s = asserts_of_field (slice_get fields s.field) s.claim
+
+abbrev pub asserts_of : List RecordField → List Show → ℕ
+asserts_of fields [] = 0
+asserts_of fields (s ∷ ss) = assert_count fields s + asserts_of fields ss

@@ -1,0 +1,6 @@
+pub mod Causes
+pub mod Layout
+pub mod Meaning
+pub mod Met
+pub mod Places
+pub use Rattle.lzk_policy.specs

@@ -1,0 +1,242 @@
+//! A policy's circuit: the statement and its hashes, side by side.
+
+ghost use Rattle.std.specs.Prelude.{◌≡◌, ℕ, ◌+◌, ◌*◌, ◌≤◌, ◌<◌, ◌↔◌, List, ◌++◌, take, drop, length, IsTrue, IfOk, IfErr};
+ghost use Rattle.std.specs.List.{AllByRecursion, range_with_len};
+ghost use Rattle.lzk_circuit.specs.Checks.{IsSatisfied};
+ghost use Rattle.lzk_circuit.specs.Wires.{inputs_of};
+ghost use Rattle.lzk_goldilocks.specs.Elements.{ops, of_number, number};
+ghost use Rattle.lzk_goldilocks.specs.declared.element.Gold.{Gold};
+ghost use Rattle.lzk_sha_circuit.specs.Outputs.{AreSatisfying};
+ghost use Rattle.lzk_policy.specs.Policies.{IsPolicy, IsShowOf, suits};
+ghost use Rattle.lzk_policy_circuit.specs.Layout as layout;
+ghost use Rattle.lzk_policy_circuit.specs.Meaning as meaning;
+ghost use Rattle.lzk_policy_circuit.specs.Meaning.{IsShown};
+ghost use Rattle.lzk_policy_circuit.specs.Met.{AreStated, IsHashed, AreHashed, Satisfy};
+ghost use Rattle.lzk_policy_circuit.specs.Causes.{IsPolicyCause};
+
+use crate::counts::{
+    HASH_REST, field_of, own_of_claim, owns_of, rest_of_claim, rests_of, value_count, values_of,
+};
+use crate::error::PolicyCircuitError;
+use crate::places::{hash_places, row};
+use crate::shows::assert_shows;
+use lzk_beside::{Part, beside};
+use lzk_circuit::Circuit;
+use lzk_gadgets::Statement;
+use lzk_goldilocks::Gold;
+use lzk_policy::{Claim, Policy, RecordField, Show};
+use lzk_sha_circuit::sha_circuit;
+use std::alloc::Global;
+
+// The statement's circuit.
+fn stated_circuit(
+    alloc: Global,
+    policy: &Policy,
+    publics: u32,
+    stated: u32,
+) -> Result<Circuit<Gold>, PolicyCircuitError>
+    requires policy { IsPolicy policy.now }
+    requires publics { publics ≡ meaning.public_count policy.now }
+    requires stated { stated ≡ layout.stated_count policy.now }
+    requires few { stated ≤ 65536 }
+    requires small { publics ≤ 65535 }
+    ensures version { IfOk result (λ c. c.version ≡ 1) }
+    ensures publics { IfOk result (λ c. c.publics ≡ publics) }
+    ensures privates { IfOk result (λ c. c.privates ≡ stated) }
+    ensures satisfied { (public private : List Gold) → length public ≡ publics → length private ≡ stated →
+        IfOk result (λ c. IsSatisfied ops number c.layers (inputs_of ops public private) ↔
+        AreStated private policy.now.fields policy.now.shows (drop 8 public) (drop (8 * policy.now.size) private)) }
+    ensures cause { IfErr result IsPolicyCause }
+{
+    let mut s = Statement::new(alloc, publics, stated)?;
+    let size = policy.size();
+    assert_shows(
+        alloc,
+        &mut s,
+        size,
+        policy.fields(),
+        policy.shows(),
+        8,
+        8 * size,
+    )?;
+    match s.finish() {
+        Ok(circuit) => {
+            circuit.valid_laws();
+            Ok(circuit)
+        }
+        Err(e) => Err(PolicyCircuitError::Statement(e)),
+    }
+}
+
+// A circuit beside the hash of a message: the words of its digest are the public inputs from `words` on, its bits the
+// private inputs from `bits` on, and the rest those from `rest` on.
+fn with_hash(
+    alloc: Global,
+    publics: u32,
+    privates: u32,
+    circuit: &Circuit<Gold>,
+    len: u32,
+    words: u32,
+    bits: u32,
+    rest: u32,
+) -> Result<Circuit<Gold>, PolicyCircuitError>
+    requires version { circuit.now.version ≡ 1 }
+    requires inputs { circuit.now.publics ≡ publics }
+    requires some { circuit.now.privates ≤ privates }
+    requires publics { publics ≤ 65535 }
+    requires privates { privates ≤ 65536 }
+    requires len { len ≤ 55 }
+    requires words { words + 8 ≤ publics }
+    requires bits { bits + 8 * len ≤ privates }
+    requires rest { rest + 6376 ≤ privates }
+    ensures version { IfOk result (λ c. c.version ≡ 1) }
+    ensures publics { IfOk result (λ c. c.publics ≡ publics) }
+    ensures privates { IfOk result (λ c. c.privates ≡ privates) }
+    ensures satisfied { (public private : List Gold) → length public ≡ publics → length private ≡ privates →
+        IfOk result (λ c. IsSatisfied ops number c.layers (inputs_of ops public private) ↔
+        (IsSatisfied ops number circuit.now.layers (inputs_of ops public (take circuit.now.privates private)) ×
+        AreSatisfying ops of_number len (take 8 (drop words public))
+        (take (8 * len) (drop bits private) ++ take 6376 (drop rest private)))) }
+    ensures cause { IfErr result IsPolicyCause }
+{
+    let places = row(alloc, 1, publics + circuit.privates())?;
+    let first = Part {
+        circuit,
+        places: &places,
+    };
+    let hash = sha_circuit(alloc, len)?;
+    hash.valid_laws();
+    let hash_inputs = hash_places(
+        alloc,
+        1 + words,
+        1 + publics + bits,
+        8 * len,
+        1 + publics + rest,
+    )?;
+    let second = Part {
+        circuit: &hash,
+        places: &hash_inputs,
+    };
+    match beside(alloc, publics, privates, &first, &second) {
+        Ok(whole) => Ok(whole),
+        Err(e) => Err(PolicyCircuitError::Beside(e)),
+    }
+}
+
+// A circuit beside the hash of a pseudonym, where what is shown is one.
+fn with_claim(
+    alloc: Global,
+    circuit: Circuit<Gold>,
+    field: &RecordField,
+    claim: &Claim,
+    words: u32,
+    bits: u32,
+    rest: u32,
+) -> Result<Circuit<Gold>, PolicyCircuitError>
+    requires version { circuit.version ≡ 1 }
+    requires publics { circuit.publics ≤ 65535 }
+    requires privates { circuit.privates ≤ 65536 }
+    requires suits { IsTrue (suits field.now claim.now) }
+    requires words { words + meaning.value_count claim.now ≤ circuit.publics }
+    requires bits { bits + layout.own_of_claim field.now claim.now ≤ circuit.privates }
+    requires rest { rest + layout.rest_of_claim claim.now ≤ circuit.privates }
+    ensures version { IfOk result (λ c. c.version ≡ 1) }
+    ensures publics { IfOk result (λ c. c.publics ≡ circuit.publics) }
+    ensures privates { IfOk result (λ c. c.privates ≡ circuit.privates) }
+    ensures satisfied { (public private : List Gold) → length public ≡ circuit.publics →
+        length private ≡ circuit.privates →
+        IfOk result (λ c. IsSatisfied ops number c.layers (inputs_of ops public private) ↔
+        (IsSatisfied ops number circuit.layers (inputs_of ops public private) ×
+        IsHashed field.now claim.now (drop words public) (drop bits private) (drop rest private))) }
+    ensures cause { IfErr result IsPolicyCause }
+{
+    match claim {
+        Claim::Pseudonym(_) => {
+            let (publics, privates) = (circuit.publics(), circuit.privates());
+            let len = 4 + field.size + 16;
+            with_hash(
+                alloc,
+                publics,
+                privates,
+                &circuit,
+                len,
+                words + 4,
+                bits,
+                rest,
+            )
+        }
+        _ => Ok(circuit),
+    }
+}
+
+// A circuit beside the hashes of the pseudonyms among all that is shown.
+fn with_pseudonyms(
+    alloc: Global,
+    circuit: Circuit<Gold>,
+    fields: &[RecordField],
+    shows: &[Show],
+    words: u32,
+    bits: u32,
+    rest: u32,
+) -> Result<Circuit<Gold>, PolicyCircuitError>
+    requires version { circuit.version ≡ 1 }
+    requires publics { circuit.publics ≤ 65535 }
+    requires privates { circuit.privates ≤ 65536 }
+    requires shows { AllByRecursion (IsShowOf fields.now) shows.now }
+    requires words { words + meaning.values_of shows.now ≤ circuit.publics }
+    requires bits { bits + layout.owns_of fields.now shows.now ≤ circuit.privates }
+    requires rest { rest + layout.rests_of shows.now ≤ circuit.privates }
+    ensures version { IfOk result (λ c. c.version ≡ 1) }
+    ensures publics { IfOk result (λ c. c.publics ≡ circuit.publics) }
+    ensures privates { IfOk result (λ c. c.privates ≡ circuit.privates) }
+    ensures satisfied { (public private : List Gold) → length public ≡ circuit.publics →
+        length private ≡ circuit.privates →
+        IfOk result (λ c. IsSatisfied ops number c.layers (inputs_of ops public private) ↔
+        (IsSatisfied ops number circuit.layers (inputs_of ops public private) ×
+        AreHashed fields.now shows.now (drop words public) (drop bits private) (drop rest private))) }
+    ensures cause { IfErr result IsPolicyCause }
+{
+    let Some((show, others)) = shows.split_first() else {
+        return Ok(circuit);
+    };
+    let field = field_of(fields, show);
+    let next = words + value_count(&show.claim);
+    let behind = bits + own_of_claim(field, &show.claim);
+    let last = rest + rest_of_claim(&show.claim);
+    let more = with_claim(alloc, circuit, field, &show.claim, words, bits, rest)?;
+    with_pseudonyms(alloc, more, fields, others, next, behind, last)
+}
+
+/// The circuit of a policy. Its public inputs are the words of the record's digest, and then the numbers that go with
+/// what is shown; docs/POLICY.md has its private ones.
+pub fn policy_circuit(alloc: Global, policy: &Policy) -> Result<Circuit<Gold>, PolicyCircuitError>
+    ensures version { IfOk result (λ c. c.version ≡ 1) }
+    ensures publics { IfOk result (λ c. c.publics ≡ meaning.public_count policy.now) }
+    ensures privates { IfOk result (λ c. c.privates ≡ layout.private_count policy.now) }
+    ensures shown { (public : List Gold) → length public ≡ meaning.public_count policy.now →
+        IfOk result (λ c. ((private : List Gold) × (length private ≡ c.privates) ×
+        IsSatisfied ops number c.layers (inputs_of ops public private)) ↔
+        ((m : List ℕ) × IsShown policy.now m public)) }
+    ensures satisfied { (public private : List Gold) → length public ≡ meaning.public_count policy.now →
+        length private ≡ layout.private_count policy.now →
+        IfOk result (λ c. IsSatisfied ops number c.layers (inputs_of ops public private) ↔
+        Satisfy policy.now public private) }
+    ensures cause { IfErr result IsPolicyCause }
+{
+    let size = policy.size();
+    let (fields, shows) = (policy.fields(), policy.shows());
+    let publics = 8 + values_of(shows);
+    let stated = 8 * size + owns_of(fields, shows);
+    let privates = stated + (HASH_REST + rests_of(shows));
+    let statement = stated_circuit(alloc, policy, publics, stated)?;
+    let record = with_hash(alloc, publics, privates, &statement, size, 0, 0, stated)?;
+    with_pseudonyms(
+        alloc,
+        record,
+        fields,
+        shows,
+        8,
+        8 * size,
+        stated + HASH_REST,
+    )
+}

@@ -1,0 +1,102 @@
+//! How many inputs go with what is shown.
+
+ghost use Rattle.std.specs.Prelude.{◌≡◌, ◌+◌, ◌*◌, ◌≤◌, IsTrue, Some, length, slice_get};
+ghost use Rattle.std.specs.List.{AllByRecursion};
+ghost use Rattle.lzk_policy.specs.Policies.{IsShowOf, suits};
+ghost use Rattle.lzk_policy_circuit.specs.Layout as layout;
+ghost use Rattle.lzk_policy_circuit.specs.Meaning as meaning;
+
+use lzk_policy::{Claim, RecordField, Show};
+
+/// The private inputs of a hash beside the bits of its message.
+pub const HASH_REST: u32 = 6376;
+
+/// How many public inputs go with what is shown.
+pub fn value_count(claim: &Claim) -> u32
+    ensures count { result ≡ meaning.value_count claim.now }
+    ensures few { result ≤ 12 }
+{
+    match claim {
+        Claim::AtMost(_) => 1,
+        Claim::AtLeast(_) => 1,
+        Claim::Equal(_) => 1,
+        Claim::OneOf(_) => 0,
+        Claim::Pseudonym(_) => 12,
+    }
+}
+
+/// How many of the statement's private inputs do.
+pub fn own_of_claim(field: &RecordField, claim: &Claim) -> u32
+    requires { IsTrue (suits field.now claim.now) }
+    ensures count { result ≡ layout.own_of_claim field.now claim.now }
+    ensures few { result ≤ 600 }
+{
+    match claim {
+        Claim::AtMost(_) => 64,
+        Claim::AtLeast(_) => 64,
+        Claim::Equal(_) => 0,
+        Claim::OneOf(_) => 0,
+        Claim::Pseudonym(_) => 8 * (4 + field.size + 16),
+    }
+}
+
+/// And how many of a hash.
+pub fn rest_of_claim(claim: &Claim) -> u32
+    ensures count { result ≡ layout.rest_of_claim claim.now }
+    ensures few { result ≤ 6376 }
+{
+    match claim {
+        Claim::AtMost(_) => 0,
+        Claim::AtLeast(_) => 0,
+        Claim::Equal(_) => 0,
+        Claim::OneOf(_) => 0,
+        Claim::Pseudonym(_) => HASH_REST,
+    }
+}
+
+/// The field of which something is shown.
+pub fn field_of<'a>(fields: &'a [RecordField], show: &Show) -> &'a RecordField
+    requires { IsShowOf fields.now show.now }
+    ensures there { slice_get fields.now show.now.field ≡ Some result.now }
+    ensures suits { IsTrue (suits result.now show.now.claim) }
+{
+    &fields[show.field as usize]
+}
+
+/// How many public inputs go with all that is shown.
+pub fn values_of(shows: &[Show]) -> u32
+    requires { length shows.now ≤ 8 }
+    ensures count { result ≡ meaning.values_of shows.now }
+    ensures few { result ≤ 12 * length shows.now }
+{
+    let Some((show, others)) = shows.split_first() else {
+        return 0;
+    };
+    value_count(&show.claim) + values_of(others)
+}
+
+/// How many of the statement's private inputs do.
+pub fn owns_of(fields: &[RecordField], shows: &[Show]) -> u32
+    requires few { length shows.now ≤ 8 }
+    requires shows { AllByRecursion (IsShowOf fields.now) shows.now }
+    ensures count { result ≡ layout.owns_of fields.now shows.now }
+    ensures most { result ≤ 600 * length shows.now }
+{
+    let Some((show, others)) = shows.split_first() else {
+        return 0;
+    };
+    let field = field_of(fields, show);
+    own_of_claim(field, &show.claim) + owns_of(fields, others)
+}
+
+/// And how many of hashes.
+pub fn rests_of(shows: &[Show]) -> u32
+    requires { length shows.now ≤ 8 }
+    ensures count { result ≡ layout.rests_of shows.now }
+    ensures few { result ≤ 6376 * length shows.now }
+{
+    let Some((show, others)) = shows.split_first() else {
+        return 0;
+    };
+    rest_of_claim(&show.claim) + rests_of(others)
+}

@@ -1,0 +1,42 @@
+//! Why a policy gives no circuit.
+
+ghost use Rattle.std.specs.Prelude.{◌≡◌};
+
+use lzk_beside::BesideError;
+use lzk_level::LevelError;
+use std::alloc::{AllocError, AllocFailed};
+use thiserror::Error;
+
+/// Why a policy gives no circuit: a limit that the whole would pass, or want of memory.
+#[derive(Debug, Drop, Error)]
+pub enum PolicyCircuitError {
+    /// The statement would pass a limit of circuits.
+    #[error("{0}")]
+    Statement(LevelError),
+    /// The statement and the hashes side by side would.
+    #[error("{0}")]
+    Beside(BesideError),
+    /// There was no memory for the circuit.
+    #[error("out of memory")]
+    OutOfMemory,
+}
+
+impl From<AllocError> for PolicyCircuitError {
+    ghost use Rattle.lzk_policy_circuit.specs.declared.error.PolicyCircuitError.TheVariants.{OutOfMemory};
+
+    ghost from_gives = { λ _ e. e ≡ OutOfMemory };
+
+    fn from(_e: AllocError) -> PolicyCircuitError {
+        PolicyCircuitError::OutOfMemory
+    }
+}
+
+impl<T: Drop> From<AllocFailed<T>> for PolicyCircuitError {
+    ghost use Rattle.lzk_policy_circuit.specs.declared.error.PolicyCircuitError.TheVariants.{OutOfMemory};
+
+    ghost from_gives = { λ _ e. e ≡ OutOfMemory };
+
+    fn from(_e: AllocFailed<T>) -> PolicyCircuitError {
+        PolicyCircuitError::OutOfMemory
+    }
+}

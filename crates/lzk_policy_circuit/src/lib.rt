@@ -1,0 +1,26 @@
+//! The circuit of a policy, with the theorem that it is satisfied exactly where there is a record for which each shown
+//! line is true.
+//!
+//! A policy (`lzk_policy`) says what a record is and what is shown of it; docs/POLICY.md has its lines, and which
+//! public and private inputs the circuit has. It is a statement of gadgets (`lzk_gadgets`) beside the circuit of
+//! SHA-256 for the record and for each pseudonym (`lzk_sha_circuit`, `lzk_beside`), over the Goldilocks field alone,
+//! since that is the field of the circuit of SHA-256. This follows no standard. A caller writes
+//!
+//! ```text
+//! let policy = parse_policy(alloc, text)?;
+//! let circuit = policy_circuit(alloc, &policy)?;
+//! ```
+//!
+//! `specs/Meaning.antt` says what is shown, `specs/Met.antt` which inputs satisfy the circuit.
+#![tactic(auto)]
+
+mod circuit;
+mod claims;
+mod counts;
+mod error;
+mod numbers;
+mod places;
+mod shows;
+
+pub use circuit::policy_circuit;
+pub use error::PolicyCircuitError;

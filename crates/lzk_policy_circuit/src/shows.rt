@@ -1,0 +1,123 @@
+//! What a statement asserts of all that is shown.
+
+ghost use Rattle.std.specs.Prelude.{◌≡◌, ℕ, ◌+◌, ◌*◌, ◌≤◌, ◌<◌, IsTrue, Some, MatchOption, List, drop, map, length, slice_get, IfOk};
+ghost use Rattle.std.specs.List.{AllByRecursion};
+ghost use Rattle.lzk_goldilocks.specs.Elements.{ops, of_number};
+ghost use Rattle.lzk_goldilocks.specs.declared.element.Gold.{Gold};
+ghost use Rattle.lzk_level.specs.Nodes.{node_count};
+ghost use Rattle.lzk_gadgets.specs.Claims.{Adds};
+ghost use Rattle.lzk_policy.specs.Policies.{IsField, IsShowOf, suits};
+ghost use Rattle.lzk_policy_circuit.specs.Layout as layout;
+ghost use Rattle.lzk_policy_circuit.specs.Meaning as meaning;
+ghost use Rattle.lzk_policy_circuit.specs.Met.{IsComposed, IsStated, AreStated};
+
+use crate::claims::{
+    assert_at_least, assert_at_most, assert_label, assert_number, assert_same, assert_tag,
+    assert_text,
+};
+use crate::counts::{field_of, own_of_claim, value_count};
+use lzk_field::Field;
+use lzk_gadgets::Statement;
+use lzk_goldilocks::Gold;
+use lzk_policy::{Claim, RecordField, Show, TextList};
+use std::alloc::{AllocError, Global};
+
+// The texts' numbers as elements.
+fn elements_of(alloc: Global, texts: &TextList) -> Result<Vec<Gold>, AllocError>
+    ensures { IfOk result (λ list. list.items ≡ map of_number texts.now.numbers) }
+{
+    let mut elements = Vec::new(alloc);
+    for number in texts.numbers() {
+        elements.push(Gold::of_word(u128::from(*number)))?;
+    }
+    Ok(elements)
+}
+
+// Claims that a pseudonym's message is label, field and tag.
+fn assert_composed(
+    s: &mut Statement,
+    field: &RecordField,
+    i: u32,
+    own: u32,
+) -> Result<(), AllocError>
+    requires few { field.now.place + field.now.size ≤ 55 }
+    requires there { 8 * (field.now.place + field.now.size) ≤ s.old.nodes.privates }
+    requires message { own + 8 * layout.message_size field.now ≤ s.old.nodes.privates }
+    requires inputs { s.old.nodes.privates ≤ 65536 }
+    requires values { i + 12 ≤ s.old.nodes.publics }
+    requires publics { s.old.nodes.publics ≤ 65535 }
+    requires room { node_count s.old.nodes + 2000 ≤ 2147483648 }
+    ensures { IfOk result (λ _. Adds ops 2000 (8 + field.now.size) s.old s.new
+        (λ public private. IsComposed private field.now (drop i public) (drop own private))) }
+{
+    assert_label(s, own)?;
+    assert_same(s, 8 * field.place, own + 32, field.size)?;
+    assert_tag(s, own + 32 + 8 * field.size, i)?;
+    Ok(())
+}
+
+// Claims what is shown of a field: its values stand from public input `i` on, its bits from private input `own` on.
+fn assert_claim(
+    alloc: Global,
+    s: &mut Statement,
+    field: &RecordField,
+    claim: &Claim,
+    i: u32,
+    own: u32,
+) -> Result<(), AllocError>
+    requires few { field.now.place + field.now.size ≤ 55 }
+    requires suits { IsTrue (suits field.now claim.now) }
+    requires there { 8 * (field.now.place + field.now.size) ≤ s.old.nodes.privates }
+    requires bits { own + layout.own_of_claim field.now claim.now ≤ s.old.nodes.privates }
+    requires inputs { s.old.nodes.privates ≤ 65536 }
+    requires values { i + meaning.value_count claim.now ≤ s.old.nodes.publics }
+    requires publics { s.old.nodes.publics ≤ 65535 }
+    requires room { node_count s.old.nodes + 2000 ≤ 2147483648 }
+    ensures { IfOk result (λ _. Adds ops 2000 (layout.asserts_of_claim field.now claim.now) s.old s.new
+        (λ public private. IsStated private field.now claim.now (drop i public) (drop own private))) }
+{
+    match claim {
+        Claim::AtMost(_) => assert_at_most(alloc, s, 8 * field.place, field.size, i, own),
+        Claim::AtLeast(_) => assert_at_least(alloc, s, 8 * field.place, field.size, i, own),
+        Claim::Equal(_) => assert_number(s, 8 * field.place, field.size, i),
+        Claim::OneOf(texts) => {
+            let choices = elements_of(alloc, texts)?;
+            assert_text(s, 8 * field.place, field.size, &choices)
+        }
+        Claim::Pseudonym(_) => assert_composed(s, field, i, own),
+    }
+}
+
+/// Claims all that is shown: its values stand from public input `i` on, its bits from private input `own` on.
+pub fn assert_shows(
+    alloc: Global,
+    s: &mut Statement,
+    size: u32,
+    fields: &[RecordField],
+    shows: &[Show],
+    i: u32,
+    own: u32,
+) -> Result<(), AllocError>
+    requires few { length shows.now ≤ 8 }
+    requires block { size ≤ 55 }
+    requires fields { AllByRecursion (IsField size) fields.now }
+    requires shows { AllByRecursion (IsShowOf fields.now) shows.now }
+    requires there { 8 * size ≤ s.old.nodes.privates }
+    requires bits { own + layout.owns_of fields.now shows.now ≤ s.old.nodes.privates }
+    requires inputs { s.old.nodes.privates ≤ 65536 }
+    requires values { i + meaning.values_of shows.now ≤ s.old.nodes.publics }
+    requires publics { s.old.nodes.publics ≤ 65535 }
+    requires room { node_count s.old.nodes + 2000 * length shows.now ≤ 2147483648 }
+    ensures { IfOk result (λ _. Adds ops (2000 * length shows.now) (layout.asserts_of fields.now shows.now) s.old s.new
+        (λ public private. AreStated private fields.now shows.now (drop i public) (drop own private))) }
+{
+    let Some((show, others)) = shows.split_first() else {
+        return Ok(());
+    };
+    let field = field_of(fields, show);
+    assert_claim(alloc, s, field, &show.claim, i, own)?;
+    let next = i + value_count(&show.claim);
+    let behind = own + own_of_claim(field, &show.claim);
+    assert_shows(alloc, s, size, fields, others, next, behind)?;
+    Ok(())
+}

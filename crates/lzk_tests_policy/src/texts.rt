@@ -1,0 +1,113 @@
+//! Texts that are policies, and texts that are none.
+
+use lzk_policy::{Policy, PolicyError, PolicyFault, PolicyKind, number_at, parse_policy};
+use std::alloc::Global;
+use std::test::Fail;
+
+// Texts with the first line that breaks a rule, and the rule.
+const REFUSED: [(&[u8], u32, PolicyKind); 26] = [
+    (b"", 2, PolicyKind::Missing),
+    (b"record 47\n", 3, PolicyKind::Missing),
+    (
+        b"record 47\nfield a date at 0\nshow digest",
+        4,
+        PolicyKind::Missing,
+    ),
+    (b"record\n", 1, PolicyKind::Syntax),
+    (b"record 4 7\n", 1, PolicyKind::Syntax),
+    (b"record 0x2f\n", 1, PolicyKind::Syntax),
+    (b"record 1000\n", 1, PolicyKind::Syntax),
+    (b"\n# a record\n record 56 # bytes", 3, PolicyKind::Size),
+    (b"record 0\n", 1, PolicyKind::Size),
+    (b"record 47\nrecord 47\n", 2, PolicyKind::Order),
+    (b"field a date at 0\n", 1, PolicyKind::Order),
+    (b"record 47\nfield a date 4\n", 2, PolicyKind::Syntax),
+    (b"record 47\nfield a day at 0\n", 2, PolicyKind::Syntax),
+    (
+        b"record 47\nfield abcdefghijklmnopqrstuvwxyz0123456 date at 0\n",
+        2,
+        PolicyKind::Syntax,
+    ),
+    (b"record 47\nfield a date at 44\n", 2, PolicyKind::Place),
+    (b"record 47\nfield a text 8 at 0\n", 2, PolicyKind::Size),
+    (b"record 47\nfield a bytes 0 at 0\n", 2, PolicyKind::Size),
+    (
+        b"record 47\nfield a date at 0\nfield a text 2 at 4\n",
+        3,
+        PolicyKind::Repeated,
+    ),
+    (b"record 47\nshow a at most D\n", 2, PolicyKind::Order),
+    (
+        b"record 47\nshow digest\nshow a at most D\n",
+        3,
+        PolicyKind::Unknown,
+    ),
+    (
+        b"record 47\nfield a text 2 at 0\nshow digest\nshow a at most D\n",
+        4,
+        PolicyKind::Claim,
+    ),
+    (
+        b"record 47\nfield a text 2 at 0\nshow digest\nshow a one of NL B\n",
+        4,
+        PolicyKind::Syntax,
+    ),
+    (
+        b"record 47\nfield a text 3 at 0\nshow digest\nshow a one of NL BE\n",
+        4,
+        PolicyKind::Claim,
+    ),
+    (
+        b"record 47\nfield a bytes 36 at 0\nshow digest\nshow pseudonym of a for S\n",
+        4,
+        PolicyKind::Claim,
+    ),
+    (
+        b"record 47\nfield a date at 0\nshow digest\nfield b date at 4\n",
+        4,
+        PolicyKind::Order,
+    ),
+    (
+        b"record 47\nfield a date at 0\nshow digest\nshow digest\n",
+        4,
+        PolicyKind::Order,
+    ),
+];
+
+const WHOLE: &[u8] = b"record 47 # bytes\n\nfield birth date at 4\nfield country text 2 at 12\n\
+    field secret bytes 16 at 15\nshow digest\nshow birth at most LATEST\nshow country one of NL BE\n\
+    show pseudonym of secret for SERVICE";
+
+/// The policy of a text that is not too long for one.
+pub fn read(alloc: Global, text: &[u8]) -> Result<Policy, PolicyError> {
+    if text.len() > 65_536 {
+        return Err(PolicyError::OutOfMemory);
+    }
+    parse_policy(alloc, text)
+}
+
+#[test]
+fn lines_are_refused_with_their_rule(rt: HostRuntime) -> Result<(), Fail> {
+    for (text, line, kind) in REFUSED {
+        let fault = PolicyFault { line, kind };
+        match read(rt.alloc(), text) {
+            Err(PolicyError::Fault(found)) => assert_eq!(rt; found, fault),
+            _ => assert!(rt; false),
+        }
+    }
+    Ok(())
+}
+
+#[test]
+fn a_policy_is_read(rt: HostRuntime) -> Result<(), Fail> {
+    let Ok(policy) = read(rt.alloc(), WHOLE) else {
+        assert!(rt; false);
+        return Ok(());
+    };
+    assert_eq!(rt; policy.size(), 47);
+    assert_eq!(rt; policy.fields().len(), 3);
+    assert_eq!(rt; policy.shows().len(), 3);
+    // "NL" is 78 * 256 + 76
+    assert_eq!(rt; number_at(b"  NL", 2, 2), 20044);
+    Ok(())
+}
