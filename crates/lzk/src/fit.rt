@@ -41,8 +41,8 @@ fn place_of(job: &Job) -> usize
     }
 }
 
-/// Whether a job may be verified: its circuit stands where it says, is over the job's field and has as many public inputs, and the session
-/// has 64 bytes at most.
+/// Whether a job may be verified: its circuit stands where it says, is over the job's field and has as many public
+/// inputs, and the session has 64 bytes at most.
 pub fn is_fit(circuits: &[AnyCircuit], job: &Job) -> bool
     ensures { IsTrue result ↔ IsJobFit circuits.now job.now }
 {

@@ -1,8 +1,8 @@
 //! Longfellow ZK for programs in Rattle: the names that a wallet or a service needs, under `use lzk::{..}`.
 //!
-//! The scheme is that of draft-google-cfrg-libzk over the commitment of Ligero (CCS 2017), as the profile in docs/FORMATS.md has it. The
-//! functions below stand as they are in the program `lzk_example`, which the gate proves and runs. What each call promises is said where it is
-//! declared.
+//! The scheme is that of draft-google-cfrg-libzk over the commitment of Ligero (CCS 2017), as the profile in
+//! docs/FORMATS.md has it. The functions below stand as they are in the program `lzk_example`, which the gate proves
+//! and runs. What each call promises is said where it is declared.
 //!
 //! Compile a statement: a source names a field and its inputs and asserts equations.
 //!
@@ -19,8 +19,8 @@
 //! }
 //! ```
 //!
-//! Prove it: a prover takes all its memory at once and serves any number of inputs. The seed is 32 bytes that nobody else can guess, new
-//! for each proof.
+//! Prove it: a prover takes all its memory at once and serves any number of inputs. The seed is 32 bytes that nobody
+//! else can guess, new for each proof.
 //!
 //! ```text
 //! // A proof by a prover, which serves any number of inputs.

@@ -12,10 +12,11 @@
 #![tactic(auto)]
 
 ghost use Rattle.std.specs.Prelude.{◌≡◌};
-ghost use Rattle.lzk_calls.specs.Exports.{Proves};
+ghost use Rattle.lzk_prove.specs.Exports.{Proves};
 
-use lzk_calls::{Outcome, With, outcome_of, prove};
+use lzk_calls::{Outcome, outcome_of};
 use lzk_hands::Hands;
+use lzk_prove::{With, prove};
 use std::alloc::Global;
 
 /// What is proved, for which session, by which seed.

@@ -30,6 +30,15 @@ use std::alloc::AllocError;
 use std::marker::Sync;
 use std::thread::Threads;
 
+// What the demo's proof is made with: random words by a seed, and workers.
+#[derive(Clone, Copy)]
+struct Made {
+    seed: [u8; 32],
+    workers: usize,
+    ghost some: { 1 ≤ workers },
+    ghost few: { workers ≤ 64 },
+}
+
 // The number of these digits.
 fn count_of(digits: &str) -> u32
     requires { IsTrue (is_number 16384 digits.now) }
@@ -43,7 +52,8 @@ fn count_of(digits: &str) -> u32
     }
 }
 
-// Proves for inputs that satisfy a circuit with a prover for it, and verifies the proof. How many bytes it has, and the verdict.
+// Proves for inputs that satisfy a circuit with a prover for it, and verifies the proof. How many bytes it has, and the
+// verdict.
 fn judge_own_proof<F: Field, X: RowExtend<F>, R: Threads + Sync, G: Gate>(
     means: &Means<'_, R, G>,
     circuit: &Circuit<F>,
@@ -51,22 +61,20 @@ fn judge_own_proof<F: Field, X: RowExtend<F>, R: Threads + Sync, G: Gate>(
     works: &mut WorksOver<'_, F, X>,
     publics: &[F],
     privates: &[F],
-    seed: [u8; 32],
-    workers: usize,
+    by: Made,
 ) -> Result<(usize, Verdict<F>), AllocError>
     requires id { id ≡ id_of F.coding circuit.now }
     requires works { works.old ≡ circuit.now }
     requires publics { length publics.now ≡ circuit.now.publics }
     requires privates { length privates.now ≡ circuit.now.privates }
-    requires satisfied { IsSatisfied F.ops F.coding.number circuit.now.layers (inputs_of F.ops publics.now privates.now) }
-    requires some { 1 ≤ workers }
-    requires most { workers ≤ 64 }
+    requires satisfied { IsSatisfied F.ops F.coding.number circuit.now.layers
+        (inputs_of F.ops publics.now privates.now) }
     ensures { IfOk result (λ made. HasVerdict F.ops F.coding circuit.now
-        publics.now privates.now seed made.0 made.1) }
+        publics.now privates.now by.seed made.0 made.1) }
 {
-    let words = Seeded::new(seed);
+    let words = Seeded::new(by.seed);
     match works.prove(
-        means.rt, b"", publics, privates, &words, workers, means.gate,
+        means.rt, b"", publics, privates, &words, by.workers, means.gate,
     ) {
         Ok(bytes) => {
             let verdict = verdict_on(means.alloc, circuit, id, publics, bytes)?;
@@ -82,22 +90,18 @@ fn prove_and_verify<F: Field, X: RowExtend<F>, R: Threads + Sync, G: Gate>(
     circuit: &Circuit<F>,
     publics: &[F],
     privates: &[F],
-    seed: [u8; 32],
-    workers: usize,
+    by: Made,
 ) -> Result<(usize, Verdict<F>), AllocError>
     requires publics { length publics.now ≡ circuit.now.publics }
     requires privates { length privates.now ≡ circuit.now.privates }
-    requires satisfied { IsSatisfied F.ops F.coding.number circuit.now.layers (inputs_of F.ops publics.now privates.now) }
-    requires some { 1 ≤ workers }
-    requires most { workers ≤ 64 }
+    requires satisfied { IsSatisfied F.ops F.coding.number circuit.now.layers
+        (inputs_of F.ops publics.now privates.now) }
     ensures { IfOk result (λ made. HasVerdict F.ops F.coding circuit.now
-        publics.now privates.now seed made.0 made.1) }
+        publics.now privates.now by.seed made.0 made.1) }
 {
     let id = id(means.alloc, circuit)?;
     let mut works = WorksOver::<F, X>::with_id(means.alloc, circuit, id)?;
-    let judged = judge_own_proof(
-        means, circuit, id, &mut works, publics, privates, seed, workers,
-    );
+    let judged = judge_own_proof(means, circuit, id, &mut works, publics, privates, by);
     drop(works);
     judged
 }
@@ -107,15 +111,15 @@ fn prove_demo<R: Threads + Sync, G: Gate>(
     means: &Means<'_, R, G>,
     circuit: &Circuit<Gold>,
     inputs: &DemoInputs,
-    seed: [u8; 32],
-    workers: usize,
+    by: Made,
 ) -> Result<usize, AllocError>
     requires publics { length inputs.now.public.items ≡ circuit.now.publics }
     requires privates { length inputs.now.private.items ≡ circuit.now.privates }
-    requires satisfied { IsSatisfied ops number circuit.now.layers (inputs_of ops inputs.now.public.items inputs.now.private.items) }
-    requires some { 1 ≤ workers }
-    requires most { workers ≤ 64 }
-    ensures { IfOk result (λ len. HasVerdict ops gold_coding circuit.now inputs.now.public.items inputs.now.private.items seed len Verdict.Accepted) }
+    requires satisfied { IsSatisfied ops number circuit.now.layers
+        (inputs_of ops inputs.now.public.items inputs.now.private.items) }
+    ensures { IfOk result (λ len.
+        HasVerdict ops gold_coding circuit.now inputs.now.public.items inputs.now.private.items by.seed len
+        Verdict.Accepted) }
 {
     proofs_accepted::<Gold>();
     circuit.valid_laws();
@@ -124,8 +128,7 @@ fn prove_demo<R: Threads + Sync, G: Gate>(
         circuit,
         &inputs.public,
         &inputs.private,
-        seed,
-        workers,
+        by,
     )?;
     match verdict {
         Verdict::Accepted => Ok(len),
@@ -138,19 +141,18 @@ fn prove_own_inputs<R: Threads + Sync, G: Gate>(
     means: &Means<'_, R, G>,
     n: u32,
     circuit: &Circuit<Gold>,
-    seed: [u8; 32],
-    workers: usize,
+    by: Made,
 ) -> Result<usize, AllocError>
     requires number { 1 ≤ n }
     requires publics { circuit.now.publics ≡ 1 }
     requires privates { circuit.now.privates ≡ n }
-    requires satisfied { IsSatisfied ops number circuit.now.layers (inputs_of ops (demo_public ops n) (demo_private ops n)) }
-    requires some { 1 ≤ workers }
-    requires most { workers ≤ 64 }
-    ensures { IfOk result (λ len. HasVerdict ops gold_coding circuit.now (demo_public ops n) (demo_private ops n) seed len Verdict.Accepted) }
+    requires satisfied { IsSatisfied ops number circuit.now.layers
+        (inputs_of ops (demo_public ops n) (demo_private ops n)) }
+    ensures { IfOk result (λ len.
+        HasVerdict ops gold_coding circuit.now (demo_public ops n) (demo_private ops n) by.seed len Verdict.Accepted) }
 {
     let inputs = demo_inputs(means.alloc, n)?;
-    let len = prove_demo(means, circuit, &inputs, seed, workers);
+    let len = prove_demo(means, circuit, &inputs, by);
     drop(inputs);
     len
 }
@@ -160,19 +162,17 @@ fn demo_over<R: Threads + Sync, G: Gate>(
     means: &Means<'_, R, G>,
     n: u32,
     circuit: &Circuit<Gold>,
-    seed: [u8; 32],
-    workers: usize,
+    by: Made,
 ) -> Result<Ending, Halt>
     requires number { 1 ≤ n }
     requires publics { circuit.now.publics ≡ 1 }
     requires privates { circuit.now.privates ≡ n }
-    requires satisfied { IsSatisfied ops number circuit.now.layers (inputs_of ops (demo_public ops n) (demo_private ops n)) }
+    requires satisfied { IsSatisfied ops number circuit.now.layers
+        (inputs_of ops (demo_public ops n) (demo_private ops n)) }
     requires compiled { Compiled (demo_tree n) (AnyCircuit.Gold circuit.now) }
-    requires some { 1 ≤ workers }
-    requires most { workers ≤ 64 }
-    ensures { TellsDemo n seed result }
+    ensures { TellsDemo n by.seed result }
 {
-    let bytes = prove_own_inputs(means, n, circuit, seed, workers)?;
+    let bytes = prove_own_inputs(means, n, circuit, by)?;
     let text = lines::tell_demo(means.alloc, n, circuit.depth(), bytes)?;
     Ok(Ending { status: 0, text })
 }
@@ -189,7 +189,11 @@ pub fn demo<R: Threads + Sync, G: Gate>(
 {
     let n = count_of(count);
     let circuit = demo_circuit(means.alloc, n)?;
-    let ending = demo_over(means, n, &circuit, seed_bytes(seed), workers_of(workers));
+    let by = Made {
+        seed: seed_bytes(seed),
+        workers: workers_of(workers),
+    };
+    let ending = demo_over(means, n, &circuit, by);
     drop(circuit);
     ending
 }

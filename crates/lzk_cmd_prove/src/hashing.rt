@@ -57,10 +57,8 @@ fn prove_hash<R: Threads + Sync, S: Shelf, G: Gate>(
     requires publics { circuit.now.publics ≡ 8 }
     requires privates { circuit.now.privates ≡ private_count (length message.now) }
     requires digest { option_copied job.now.digest ≡ Some (sha256 message.now) }
-    requires session { length job.now.session.now ≤ 64 }
-    requires some { 1 ≤ job.now.workers }
-    requires most { job.now.workers ≤ 64 }
-    ensures walks { WalksToPut (λ files. ProvesHash circuit.now message.now job.now.proof.now job.now.session.now job.now.seed) 1
+    ensures walks { WalksToPut
+        (λ files. ProvesHash circuit.now message.now job.now.proof.now job.now.session.now job.now.seed) 1
         (seen S.Shelf shelf.old) (seen S.Shelf shelf.new) result }
     ensures moves { Moves (seen S.Shelf shelf.old) (seen S.Shelf shelf.new) }
 {
@@ -87,10 +85,8 @@ fn hash_any<R: Threads + Sync, S: Shelf, G: Gate>(
     requires id { job.now.id ≡ id_of_any circuit.now }
     requires message { length message.now ≤ 55 }
     requires digest { option_copied job.now.digest ≡ Some (sha256 message.now) }
-    requires session { length job.now.session.now ≤ 64 }
-    requires some { 1 ≤ job.now.workers }
-    requires most { job.now.workers ≤ 64 }
-    ensures walks { WalksToPut (λ files. HashAny name.now circuit.now message.now job.now.proof.now job.now.session.now job.now.seed) 1
+    ensures walks { WalksToPut
+        (λ files. HashAny name.now circuit.now message.now job.now.proof.now job.now.session.now job.now.seed) 1
         (seen S.Shelf shelf.old) (seen S.Shelf shelf.new) result }
     ensures moves { Moves (seen S.Shelf shelf.old) (seen S.Shelf shelf.new) }
 {
@@ -114,8 +110,9 @@ pub fn sha256<R: Threads + Sync, S: Shelf, G: Gate>(
 ) -> Result<Ending, Halt>
     requires message { length (message_of order.now.message.now) ≤ 55 }
     requires session { length (session_of (option_copied order.now.session)) ≤ 64 }
-    ensures walks { WalksToPut (HashRun order.now.circuit.now order.now.proof.now order.now.message.now order.now.seed.now (option_copied order.now.session)) 0
-        (seen S.Shelf shelf.old) (seen S.Shelf shelf.new) result }
+    ensures walks { WalksToPut (HashRun order.now.circuit.now order.now.proof.now order.now.message.now
+        order.now.seed.now (option_copied order.now.session)) 0 (seen S.Shelf shelf.old) (seen S.Shelf shelf.new)
+        result }
     ensures moves { Moves (seen S.Shelf shelf.old) (seen S.Shelf shelf.new) }
 {
     let session = session_bytes(means.alloc, order.session)?;

@@ -27,8 +27,8 @@ use std::alloc::{AllocError, Global};
 use std::marker::Sync;
 use std::thread::Threads;
 
-/// What a proof is made with beside its circuit and inputs: the circuit's id, the name of the proof's file, the digest that is told
-/// with it, its session, seed and workers.
+/// What a proof is made with beside its circuit and inputs: the circuit's id, the name of the proof's file, the digest
+/// that is told with it, its session, seed and workers.
 #[derive(Clone, Copy)]
 pub struct Job<'a> {
     pub id: [u8; 32],
@@ -37,6 +37,9 @@ pub struct Job<'a> {
     pub session: &'a [u8],
     pub seed: [u8; 32],
     pub workers: usize,
+    pub ghost short: { length session.now ≤ 64 },
+    pub ghost some: { 1 ≤ workers },
+    pub ghost few: { workers ≤ 64 },
 }
 
 // How a run ends that has this check.
@@ -69,9 +72,6 @@ fn put_proof<F: Field, X: RowExtend<F>, R: Threads + Sync, S: Shelf, G: Gate>(
     requires works { works.old ≡ circuit.now }
     requires publics { length publics.now ≡ circuit.now.publics }
     requires privates { length privates.now ≡ circuit.now.privates }
-    requires session { length job.now.session.now ≤ 64 }
-    requires some { 1 ≤ job.now.workers }
-    requires most { job.now.workers ≤ 64 }
     ensures walks { WalksToPut (λ files. Proves F.ops F.coding circuit.now
         job.now.proof.now (option_copied job.now.digest) job.now.session.now job.now.seed publics.now privates.now) 3
         (seen S.Shelf shelf.old) (seen S.Shelf shelf.new) result }
@@ -108,9 +108,6 @@ pub fn prove_inputs<F: Field, X: RowExtend<F>, R: Threads + Sync, S: Shelf, G: G
     requires publics { length publics.now ≡ circuit.now.publics }
     requires privates { length privates.now ≡ circuit.now.privates }
     requires id { job.now.id ≡ id_of F.coding circuit.now }
-    requires session { length job.now.session.now ≤ 64 }
-    requires some { 1 ≤ job.now.workers }
-    requires most { job.now.workers ≤ 64 }
     ensures walks { WalksToPut (λ files. Proves F.ops F.coding circuit.now
         job.now.proof.now (option_copied job.now.digest) job.now.session.now job.now.seed publics.now privates.now) 3
         (seen S.Shelf shelf.old) (seen S.Shelf shelf.new) result }
@@ -135,9 +132,6 @@ fn prove_over<F: Field, X: RowExtend<F>, R: Threads + Sync, S: Shelf, G: Gate>(
 ) -> Result<Ending, Halt>
     requires id { job.now.id ≡ id_of F.coding circuit.now }
     requires digest { option_copied job.now.digest ≡ None }
-    requires session { length job.now.session.now ≤ 64 }
-    requires some { 1 ≤ job.now.workers }
-    requires most { job.now.workers ≤ 64 }
     ensures walks { WalksToPut (ProveOver F.ops F.coding circuit.now
         public.now private.now job.now.proof.now job.now.session.now job.now.seed) 1
         (seen S.Shelf shelf.old) (seen S.Shelf shelf.new) result }
@@ -159,10 +153,8 @@ fn prove_any<R: Threads + Sync, S: Shelf, G: Gate>(
 ) -> Result<Ending, Halt>
     requires id { job.now.id ≡ id_of_any circuit.now }
     requires digest { option_copied job.now.digest ≡ None }
-    requires session { length job.now.session.now ≤ 64 }
-    requires some { 1 ≤ job.now.workers }
-    requires most { job.now.workers ≤ 64 }
-    ensures walks { WalksToPut (ProveAny circuit.now public.now private.now job.now.proof.now job.now.session.now job.now.seed) 1
+    ensures walks { WalksToPut
+        (ProveAny circuit.now public.now private.now job.now.proof.now job.now.session.now job.now.seed) 1
         (seen S.Shelf shelf.old) (seen S.Shelf shelf.new) result }
     ensures moves { Moves (seen S.Shelf shelf.old) (seen S.Shelf shelf.new) }
 {
@@ -183,9 +175,9 @@ pub fn prove<R: Threads + Sync, S: Shelf, G: Gate>(
     shelf: &mut S,
 ) -> Result<Ending, Halt>
     requires session { length (session_of (option_copied order.now.session)) ≤ 64 }
-    ensures walks { WalksToPut (ProveRun order.now.circuit.now order.now.public.now order.now.private.now order.now.proof.now
-        order.now.seed.now (option_copied order.now.session)) 0
-        (seen S.Shelf shelf.old) (seen S.Shelf shelf.new) result }
+    ensures walks { WalksToPut (ProveRun order.now.circuit.now order.now.public.now order.now.private.now
+        order.now.proof.now order.now.seed.now (option_copied order.now.session)) 0 (seen S.Shelf shelf.old)
+        (seen S.Shelf shelf.new) result }
     ensures moves { Moves (seen S.Shelf shelf.old) (seen S.Shelf shelf.new) }
 {
     let session = session_bytes(means.alloc, order.session)?;

@@ -17,14 +17,17 @@ pub record Answers (A : Type 0) : Type 0 where
   pub quadratic : List A
 
 -- those of the rows' combinations by this script, these sent elements and these challenges
-abbrev pub answers_of : {A : Type 0} → Ops A → (ℕ → A) → Wiring A → Params → List A → Script A → List A → Challenges A → List (List A) → Answers A
+abbrev pub answers_of : {A : Type 0} → Ops A → (ℕ → A) → Wiring A → Params → List A → Script A → List A → Challenges A
+    → List (List A)
+    → Answers A
 answers_of o point c p public s messages ch rows = record {
   low_degree = values_of o point p.block (low_degree_answer o point p rows ch.u);
   linear = values_of o point p.dblock (linear_answer o point p rows (combined_row_of o point c public s messages ch));
   quadratic = values_of o point p.dblock (quadratic_answer o point p rows ch.v);
 }
 
--- A proof has them. Of the quadratic answer the first 128 values are sent, and those behind the points of the rows' elements.
+-- A proof has them. Of the quadratic answer the first 128 values are sent, and those behind the points of the rows'
+-- elements.
 pub record AreSent {A : Type 0} (p : Params) (answers : Answers A) (proof : Proof A) : Type 0 where
   pub low_degree : proof.ldt ≡ answers.low_degree
   pub linear : proof.dot ≡ answers.linear

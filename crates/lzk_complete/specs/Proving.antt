@@ -24,7 +24,8 @@ abbrev pub words_of : (ℕ → ℕ) → ℕ → ℕ
 words_of = prover.low_words
 
 -- The proof of a prover with these random words, below 2 ^ 128 each.
-module _ {A : Type 0} (o : Ops A) (e : Coding A) (c : Wiring A) (session : List ℕ) (public private : List A) (word : ℕ → ℕ) where
+module _ {A : Type 0} (o : Ops A) (e : Coding A) (c : Wiring A) (session : List ℕ) (public private : List A)
+    (word : ℕ → ℕ) where
   abbrev p : Params
   p = params_of c
 
@@ -44,7 +45,8 @@ module _ {A : Type 0} (o : Ops A) (e : Coding A) (c : Wiring A) (session : List 
   abbrev pub pads : List A
   pads = prover.randoms o e word 0 (sent_counts c)
 
-  -- The opened columns are those that the proof's own tape draws, in ascending order, each with its nonce. The path leads from them to the root.
+  -- The opened columns are those that the proof's own tape draws, in ascending order, each with its nonce. The path
+  -- leads from them to the root.
   pub record AreOpened (proof : Proof A) : Type 0 where
     pub nonces : proof.nonces ≡ map (prover.nonce o e c private word) (given proof).columns
     pub columns : proof.columns ≡ flat_map (prover.column o e c private word) (given proof).columns
@@ -52,14 +54,16 @@ module _ {A : Type 0} (o : Ops A) (e : Coding A) (c : Wiring A) (session : List 
 
   -- the values of its answers, for what the tape gives behind its messages
   abbrev pub own_answers : Proof A → Answers A
-  own_answers proof = answers_of o e.element c p public (given proof).script proof.messages (given proof).challenges rows
+  own_answers proof =
+      answers_of o e.element c p public (given proof).script proof.messages (given proof).challenges rows
 
-  -- Each part stands on what is written to the tape before it: the messages on the root, the answers on the messages, the columns on the answers, which
-  -- are sent as this change leaves them.
+  -- Each part stands on what is written to the tape before it: the messages on the root, the answers on the messages,
+  -- the columns on the answers, which are sent as this change leaves them.
   pub record IsProofBy (change : Answers A → Answers A) (proof : Proof A) : Type 0 where
     pub id : proof.id ≡ id_of e c
     pub root : proof.root ≡ tree_node p.mcol digests 1
-    pub messages : AreMessages o e c (all_values o c.layers (inputs_of o public private)) pads (opening e session (id_of e c) public proof.root) proof.messages
+    pub messages : AreMessages o e c (all_values o c.layers (inputs_of o public private)) pads
+        (opening e session (id_of e c) public proof.root) proof.messages
     pub answers : AreSent p (change (own_answers proof)) proof
     pub opened : AreOpened proof
 
@@ -92,8 +96,10 @@ OneFile {A} o e = (c : Wiring A) (session : List ℕ) (public private : List A) 
 
 -- valid circuits and inputs of their counts have one, of words of 128 bits
 abbrev pub SomeFile : {A : Type 0} → Ops A → Coding A → Type 0
-SomeFile {A} o e = (c : Wiring A) (session : List ℕ) (public private : List A) (word : ℕ → ℕ)
-    → IsValid o c → HaveCounts c public private → ((i : ℕ) → word i < 2 ^ 128) → (bytes : List ℕ) × IsProofFile o e c session public private word bytes
+SomeFile {A} o e =
+    (c : Wiring A) (session : List ℕ) (public private : List A) (word : ℕ → ℕ) → IsValid o c
+    → HaveCounts c public private → ((i : ℕ) → word i < 2 ^ 128)
+    → (bytes : List ℕ) × IsProofFile o e c session public private word bytes
 
 -- it is no longer than a proof's file may be
 abbrev pub FilesFit : {A : Type 0} → Ops A → Coding A → Type 0

@@ -18,6 +18,9 @@ use Rattle.lzk_complete.specs.Proving.{HaveCounts, pads}
 abbrev pub ResidualsVanish : {A : Type 0} → Ops A → Coding A → Type 0
 ResidualsVanish {A} o e =
     (c : Wiring A) (session : List ℕ) (public private : List A) (word : ℕ → ℕ) (t : TapeState) (sent : List A) (i : ℕ)
-    → IsValid o c → HaveCounts c public private → IsSatisfied o e.number c.layers (inputs_of o public private) → i ≤ depth c
-    → AreMessages o e c (all_values o c.layers (inputs_of o public private)) (pads o e c session public private word) t sent
-    → (let s = script o e sent c t in residual o e.element c (coefficients o c s) public s sent (committed o e c private word) i ≡ o.zero)
+    → IsValid o c → HaveCounts c public private → IsSatisfied o e.number c.layers (inputs_of o public private)
+    → i ≤ depth c
+    → AreMessages o e c (all_values o c.layers (inputs_of o public private)) (pads o e c session public private word) t
+    sent
+    → (let s = script o e sent c t in
+    residual o e.element c (coefficients o c s) public s sent (committed o e c private word) i ≡ o.zero)

@@ -9,8 +9,8 @@ use crate::residuals::residuals_vanish;
 use lzk_answers::{answers_pass, changed_answers_fail};
 use lzk_field::Field;
 
-/// Laws of the definition of a proof: there is one file at most, valid circuits and inputs of their counts have one, and it
-/// fits. The body does nothing.
+/// Laws of the definition of a proof: there is one file at most, valid circuits and inputs of their counts have one,
+/// and it fits. The body does nothing.
 pub fn proof_laws<F: Field>()
     ensures one { OneFile F.ops F.coding }
     ensures some { SomeFile F.ops F.coding }
@@ -25,8 +25,8 @@ pub fn proofs_accepted<F: Field>()
     answers_pass::<F>();
 }
 
-/// Where one value of an answer is changed before the columns are drawn, the check of that answer alone refuses the file. The
-/// body only calls what the proof stands on.
+/// Where one value of an answer is changed before the columns are drawn, the check of that answer alone refuses the
+/// file. The body only calls what the proof stands on.
 pub fn changed_proofs_refused<F: Field>()
     ensures refused { ChangedRefused F.ops F.coding }
 {
@@ -35,8 +35,8 @@ pub fn changed_proofs_refused<F: Field>()
     changed_answers_fail::<F>();
 }
 
-/// The file of the proof of any inputs, satisfying or not, meets all conditions but that on the linear answer's sum. The body only
-/// calls what the proof stands on.
+/// The file of the proof of any inputs, satisfying or not, meets all conditions but that on the linear answer's sum.
+/// The body only calls what the proof stands on.
 pub fn proofs_checked<F: Field>()
     ensures checked { AnyInputs F.ops F.coding }
 {

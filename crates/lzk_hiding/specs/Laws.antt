@@ -23,7 +23,8 @@ abbrev pub ProofsAreSeen : {A : Type 0} → Ops A → Coding A → Type 0
 ProofsAreSeen {A} o e =
     (c : Wiring A) (session : List ℕ) (public private : List A) (word : ℕ → ℕ) (proof : Proof A)
     → IsProofOf o e c session public private word proof
-    → (let t = given o e c session public private word proof in IsSeen o e c public t.script t.challenges t.columns private word proof)
+    → (let t = given o e c session public private word proof in
+    IsSeen o e c public t.script t.challenges t.columns private word proof)
 
 -- a valid circuit, inputs that satisfy it, a script of its shape, and columns
 pub record IsCase {A : Type 0} (o : Ops A) (e : Coding A) (c : Wiring A) (public private : List A) (s : Script A)

@@ -23,9 +23,17 @@ FieldMembers F = record {
 }
 
 -- It is for the circuit that it was for. `named 1` is the place of the circuit's lifetime in the signature.
-abbrev pub StaysForCircuit : (F X : RattleType) → FieldMembers F.Denot → extend.Ghosts X.Denot F.Denot → MutBor (Wiring F.Denot) → Fml
+abbrev pub StaysForCircuit : (F X : RattleType) → FieldMembers F.Denot → extend.Ghosts X.Denot F.Denot
+    → MutBor (Wiring F.Denot)
+    → Fml
 StaysForCircuit F X f x works =
-    let row = the_row (record { mir = named 1; lft = [] }) F X
-    (record { ops = f.ops; coding = f.coding; BYTES = f.BYTES; ID = f.ID; coded_bytes = f.coded_bytes; coded_id = f.coded_id; laws = f.laws })
-    (record { eq = f.eq }) x in
+    let row = the_row (record { mir = named 1; lft = [] }) F X (record {
+      ops = f.ops;
+      coding = f.coding;
+      BYTES = f.BYTES;
+      ID = f.ID;
+      coded_bytes = f.coded_bytes;
+      coded_id = f.coded_id;
+      laws = f.laws;
+    }) (record { eq = f.eq }) x in
     follows_so row row works.ghost_name none (λ _ _. ⊤) (λ last. last ≡ works.now)

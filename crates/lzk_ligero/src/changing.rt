@@ -48,8 +48,10 @@ fn add_to_quadratic<F: Field>(
     requires tail { length tail.old ≡ params.now.dblock - params.now.block }
     ensures head_length { length head.new ≡ 128 }
     ensures tail_length { length tail.new ≡ params.now.dblock - params.now.block }
-    ensures head { (values : List F) → head.old ≡ take 128 values → head.new ≡ take 128 (changed F.ops values place by) }
-    ensures tail { (values : List F) → tail.old ≡ drop params.now.block values → tail.new ≡ drop params.now.block (changed F.ops values place by) }
+    ensures head { (values : List F) → head.old ≡ take 128 values
+        → head.new ≡ take 128 (changed F.ops values place by) }
+    ensures tail { (values : List F) → tail.old ≡ drop params.now.block values
+        → tail.new ≡ drop params.now.block (changed F.ops values place by) }
 {
     let block = params.block as usize;
     if place < block {
@@ -73,7 +75,8 @@ pub(crate) fn make_change<F: Field>(
     ensures root { proof.new.root ≡ proof.old.root }
     ensures messages { proof.new.messages ≡ proof.old.messages }
     ensures path { proof.new.path ≡ proof.old.path }
-    ensures answers { (answers : Answers F) → AreSent params.now answers proof.old → AreSent params.now (change_of F.ops change answers) proof.new }
+    ensures answers { (answers : Answers F) → AreSent params.now answers proof.old
+        → AreSent params.now (change_of F.ops change answers) proof.new }
 {
     let Some(Change { answer, place, by }) = change else {
         return;

@@ -1,8 +1,9 @@
 //! The prover: from a circuit and its inputs to the bytes of a proof.
 //!
-//! As in draft-google-cfrg-libzk and Ligero (CCS 2017), a prover commits to its private inputs and to pads by a tree over
-//! columns, sends the sumchecks of all layers less the pads, answers for what the pads and inputs have to meet by
-//! combinations of the rows, and opens the columns that the tape draws. The bytes are those of docs/PROTOCOL.md, sections 1 to
+//! As in draft-google-cfrg-libzk and Ligero (CCS 2017), a prover commits to its private inputs and to pads by a tree
+//! over columns, sends the sumchecks of all layers less the pads, answers for what the pads and inputs have to meet by
+//! combinations of the rows, and opens the columns that the tape draws. The bytes are those of docs/PROTOCOL.md,
+//! sections 1 to
 //! 8, and docs/FORMATS.md, section 9, for any random words and any number of workers. A caller writes
 //!
 //! ```text
@@ -14,17 +15,11 @@
 //! ```
 #![tactic(auto)]
 
-mod answering;
 mod changing;
-mod committing;
-mod drawing;
-mod opening;
-mod parts;
 mod proving;
-mod room;
-mod statement;
+mod sending;
 mod works;
-mod writing;
 
 pub use lzk_complete::Answer;
-pub use works::{Unsatisfied, WorksOver};
+pub use lzk_ligero_steps::Unsatisfied;
+pub use works::WorksOver;

@@ -1,7 +1,6 @@
 //! A proof, step by step.
 
 ghost use Rattle.std.specs.Prelude.{◌≡◌, ◌≤◌, ◌*◌, List, length, take};
-ghost use Rattle.lzk_layout.specs.Sizes.{proof_length};
 ghost use Rattle.lzk_layout.specs.Proofs.{HasLengths};
 ghost use Rattle.lzk_merkle.specs.Nodes.{AreOpened};
 ghost use Rattle.lzk_sumcheck.specs.Coefficients.{AreBounds};
@@ -16,22 +15,21 @@ ghost use Rattle.lzk_tableau.specs.Table as kept;
 ghost use Rattle.lzk_complete.specs.Answered.{AreSent, answers_of};
 ghost use Rattle.lzk_complete.specs.Proving.{IsFileBy, words_of};
 ghost use Rattle.lzk_ligero.specs.Changes.{change_of, IsChangeOf};
-ghost use Rattle.lzk_ligero.specs.Rooms.{IsRoomFor, IsSentFor, coefficient_reach};
-ghost use Rattle.lzk_ligero.specs.Statements.{IsStatement};
+ghost use Rattle.lzk_ligero_steps.specs.Parts.{IsAnsweringFor, IsCommittedFor};
+ghost use Rattle.lzk_ligero_steps.specs.Rooms.{IsRoomFor, IsSentFor, coefficient_reach};
 
-use crate::answering::{answer_linear, answer_low_degree, answer_quadratic};
 use crate::changing::{Change, make_change};
-use crate::committing::commit;
-use crate::drawing::{draw_columns, open_tape, send};
-use crate::opening::{open_columns, open_path};
-use crate::parts::{Answering, Committed, Extenders};
-use crate::room::{Room, Sent};
-use crate::statement::Statement;
-use crate::writing::write_file;
+use crate::sending::send;
 use lzk_accept::Challenges;
+use lzk_commit::{Extending, Inputs, commit};
+use lzk_crew::Crew;
 use lzk_field::{Field, Gate, Words};
 use lzk_hands::Hands;
 use lzk_layout::Proof;
+use lzk_ligero_steps::{
+    Answering, Committed, Extenders, Room, Sent, Statement, answer_linear, answer_low_degree,
+    answer_quadratic, draw_columns, open_columns, open_path, open_tape, write_file,
+};
 use lzk_poly::RowExtend;
 use lzk_sumcheck::Script;
 use lzk_tableau::Tableau;
@@ -46,7 +44,6 @@ fn answer<F: Field, X: RowExtend<F>>(
     room: &mut Room<F>,
     proof: &mut Proof<F>,
 )
-    requires statement { IsStatement F.ops statement.now }
     requires script { sumcheck.HasShape statement.now.circuit.now script.now }
     requires challenges { accept.HasShape statement.now.params.now challenges.now }
     requires table { length table.now ≡ statement.now.params.now.nrow * statement.now.params.now.ncol }
@@ -60,13 +57,13 @@ fn answer<F: Field, X: RowExtend<F>>(
     ensures root { proof.new.root ≡ proof.old.root }
     ensures messages { proof.new.messages ≡ proof.old.messages }
     ensures path { proof.new.path ≡ proof.old.path }
-    ensures answers { let p = statement.now.params.now in (rows : List (List F)) → length rows ≡ p.nrow →
-        IsTableOf F.ops F.coding.element p.ncol rows table.now →
-        AreSent p (answers_of F.ops F.coding.element statement.now.circuit.now p statement.now.public.now script.now proof.new.messages challenges.now rows)
-        proof.new }
+    ensures answers { let p = statement.now.params.now in
+        (rows : List (List F)) → length rows ≡ p.nrow → IsTableOf F.ops F.coding.element p.ncol rows table.now
+        → AreSent p (answers_of F.ops F.coding.element statement.now.circuit.now p statement.now.public.now script.now
+        proof.new.messages challenges.now rows) proof.new }
 {
     answer_low_degree(
-        statement.params,
+        statement,
         table,
         challenges.u.as_slice(),
         &mut room.sums,
@@ -83,7 +80,7 @@ fn answer<F: Field, X: RowExtend<F>>(
         &mut proof.dot,
     );
     answer_quadratic(
-        statement.params,
+        statement,
         table,
         challenges.v.as_slice(),
         &mut room.values,
@@ -93,19 +90,15 @@ fn answer<F: Field, X: RowExtend<F>>(
 }
 
 // Runs the tape: sends the sumchecks and the answers, with a change where there is one, and draws the columns.
-fn respond<R: Hands, F: Field, X: RowExtend<F>>(
-    rt: &R,
+fn respond<R: Hands, F: Field, X: RowExtend<F>, G>(
+    crew: &Crew<R, G>,
     statement: &Statement<'_, F>,
-    workers: usize,
     extender: &X,
     tableau: &Tableau<F>,
     change: Option<Change<F>>,
     room: &mut Room<F>,
     sent: &mut Sent<F>,
 )
-    requires statement { IsStatement F.ops statement.now }
-    requires some_workers { 1 ≤ workers }
-    requires few_workers { workers ≤ 64 }
     requires reach { X.reach extender.now ≡ coefficient_reach statement.now.params.now }
     requires table { kept.IsTableOf statement.now.circuit.now tableau.now }
     requires change { IsChangeOf statement.now.params.now change }
@@ -120,10 +113,11 @@ fn respond<R: Hands, F: Field, X: RowExtend<F>>(
     ensures drawn { let s = statement.now in
         record { script = sent.new.script; challenges = sent.new.challenges; columns = sent.new.columns }
         ≡ transcript F.ops F.coding s.circuit.now s.session.now sent.new.proof.id s.public.now sent.new.proof }
-    ensures answers { let s = statement.now in let p = s.params.now in
-        (rows : List (List F)) → length rows ≡ p.nrow → IsTableOf F.ops F.coding.element p.ncol rows tableau.now.rows →
-        AreSent p (change_of F.ops change
-        (answers_of F.ops F.coding.element s.circuit.now p s.public.now sent.new.script sent.new.proof.messages sent.new.challenges rows)) sent.new.proof }
+    ensures answers { let s = statement.now in
+        let p = s.params.now in
+        (rows : List (List F)) → length rows ≡ p.nrow → IsTableOf F.ops F.coding.element p.ncol rows tableau.now.rows
+        → AreSent p (change_of F.ops change (answers_of F.ops F.coding.element s.circuit.now p s.public.now
+        sent.new.script sent.new.proof.messages sent.new.challenges rows)) sent.new.proof }
     ensures opened { AreOpened statement.now.params.now.mcol sent.new.columns }
 {
     let mut tape = open_tape(
@@ -133,10 +127,9 @@ fn respond<R: Hands, F: Field, X: RowExtend<F>>(
         &sent.proof.root,
     );
     send(
-        rt,
+        crew,
         statement,
         tableau.pads(),
-        workers,
         &mut tape,
         &mut room.rounds,
         &mut sent.proof.messages,
@@ -159,58 +152,48 @@ fn respond<R: Hands, F: Field, X: RowExtend<F>>(
 /// Makes the proof for a statement, with a change of an answer where there is one, and writes its file in front.
 /// How many bytes it has. No memory is taken.
 pub(crate) fn write_proof<R: Hands, F: Field, W: Words, X: RowExtend<F>, G: Gate>(
-    rt: &R,
+    crew: &Crew<R, G>,
     statement: &Statement<'_, F>,
     words: &W,
-    workers: usize,
-    gate: &G,
     extenders: &Extenders<X>,
     change: Option<Change<F>>,
     committed: &mut Committed<F>,
     answering: &mut Answering<F>,
 ) -> usize
-    requires statement { IsStatement F.ops statement.now }
-    requires some_workers { 1 ≤ workers }
-    requires few_workers { workers ≤ 64 }
-    requires extenders { let x = extenders.now in
-        AreReaching statement.now.params.now (X.reach x.short) (X.reach x.long) (X.rooms x.short) (X.rooms x.long) committed.old.tableau.room }
+    requires reaching { let s = statement.now in let x = extenders.now in
+        AreReaching s.params.now (X.reach x.short) (X.reach x.long) (X.rooms x.short) (X.rooms x.long)
+        committed.old.tableau.room }
     requires reach { X.reach extenders.now.coefficients ≡ coefficient_reach statement.now.params.now }
     requires change { IsChangeOf statement.now.params.now change }
-    requires table { kept.IsTableOf statement.now.circuit.now committed.old.tableau }
-    requires leaves { length committed.old.tree.leaves ≡ statement.now.params.now.mcol }
-    requires room { IsRoomFor F.ops statement.now.circuit.now statement.now.params.now (X.rooms extenders.now.coefficients) answering.old.room }
-    requires sent { IsSentFor F.coding statement.now.circuit.now statement.now.params.now answering.old.sent }
-    requires bytes { length answering.old.bytes.items ≡ proof_length F.coding.bytes statement.now.params.now 1536 }
+    requires committed { let s = statement.now in
+        IsCommittedFor s.circuit.now s.params.now committed.old.tableau.room committed.old }
+    requires answering { let s = statement.now in
+        IsAnsweringFor F.ops F.coding s.circuit.now s.params.now (X.rooms extenders.now.coefficients) answering.old }
     ensures file { let s = statement.now in
-        IsFileBy F.ops F.coding s.circuit.now s.session.now s.public.now s.private.now (words_of (W.at words.now)) (change_of F.ops change)
-        (take result answering.new.bytes.items) }
+        IsFileBy F.ops F.coding s.circuit.now s.session.now s.public.now s.private.now (words_of (W.at words.now))
+        (change_of F.ops change) (take result answering.new.bytes.items) }
     ensures inside { result ≤ length answering.new.bytes.items }
-    ensures table { kept.IsTableOf statement.now.circuit.now committed.new.tableau }
-    ensures table_room { committed.new.tableau.room ≡ committed.old.tableau.room }
-    ensures leaves { length committed.new.tree.leaves ≡ statement.now.params.now.mcol }
-    ensures room { IsRoomFor F.ops statement.now.circuit.now statement.now.params.now (X.rooms extenders.now.coefficients) answering.new.room }
-    ensures sent { IsSentFor F.coding statement.now.circuit.now statement.now.params.now answering.new.sent }
-    ensures bytes { length answering.new.bytes.items ≡ length answering.old.bytes.items }
+    ensures committed { let s = statement.now in
+        IsCommittedFor s.circuit.now s.params.now committed.old.tableau.room committed.new }
+    ensures answering { let s = statement.now in
+        IsAnsweringFor F.ops F.coding s.circuit.now s.params.now (X.rooms extenders.now.coefficients) answering.new }
 {
     let tableau = &mut committed.tableau;
     let tree = &mut committed.tree;
     let sent = &mut answering.sent;
-    sent.proof.root = commit(
-        rt,
-        statement.circuit,
-        statement.private,
+    let inputs = Inputs {
+        circuit: statement.circuit,
+        private: statement.private,
         words,
-        workers,
-        gate,
-        &extenders.short,
-        &extenders.long,
-        tableau,
-        tree,
-    );
+    };
+    let extending = Extending {
+        short: &extenders.short,
+        long: &extenders.long,
+    };
+    sent.proof.root = commit(crew, &inputs, &extending, tableau, tree);
     respond(
-        rt,
+        crew,
         statement,
-        workers,
         &extenders.coefficients,
         tableau,
         change,
@@ -231,5 +214,6 @@ pub(crate) fn write_proof<R: Hands, F: Field, W: Words, X: RowExtend<F>, G: Gate
         &sent.columns,
         &mut sent.proof.path,
     );
+    statement.circuit.valid_laws();
     write_file(statement.params, &sent.proof, &mut answering.bytes)
 }

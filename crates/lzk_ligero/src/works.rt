@@ -1,6 +1,6 @@
 //! The prover.
 
-ghost use Rattle.std.specs.Prelude.{◌≡◌, ◌≢◌, ◌≤◌, ◌<◌, length, take, IfOk, MatchOption, MatchResult, Some, None};
+ghost use Rattle.std.specs.Prelude.{◌≡◌, ◌≢◌, ◌≤◌, ◌<◌, length, take, IfOk, MatchResult, Some, None};
 ghost use Rattle.std.specs.Borrow.{sem};
 ghost use Rattle.lzk_circbytes.specs.Files.{id_of};
 ghost use Rattle.lzk_field.specs.Sums.{entry};
@@ -14,143 +14,62 @@ ghost use Rattle.lzk_verify.specs.Verdict.{IsVerdict};
 ghost use Rattle.lzk_verify.specs.declared.verdict.Verdict.TheVariants.{Accepted};
 ghost use Rattle.lzk_layout.specs.Sizes.{params_of};
 ghost use Rattle.lzk_ligero.specs.Changes.{change_of, IsChangeOf};
-ghost use Rattle.lzk_ligero.specs.Parts.{ArePartsFor};
+ghost use Rattle.lzk_ligero_steps.specs.Parts.{ArePartsFor};
 
 use crate::changing::Change;
-use crate::parts::{Answering, Committed, Extenders, make_extenders};
 use crate::proving::write_proof;
-use crate::statement::Statement;
 use lzk_circbytes::id;
-use lzk_circuit::{Circuit, Values};
+use lzk_circuit::Circuit;
 use lzk_complete::{Answer, changed_proofs_refused, proofs_accepted, proofs_checked};
+use lzk_crew::Crew;
 use lzk_field::{Field, Gate, Words};
 use lzk_hands::Hands;
-use lzk_layout::Params;
+use lzk_ligero_steps::{Parts, Statement, Unsatisfied};
 use lzk_poly::RowExtend;
 use std::alloc::{AllocError, Global};
 use std::marker::Model;
 
-/// The first check that is not 0, and its value.
-#[derive(Clone, Copy, Debug, PartialEq, Eq)]
-pub struct Unsatisfied<F> {
-    /// The check's number.
-    pub output: u32,
-    /// Its value.
-    pub value: F,
-}
-
-// What a prover holds beside its circuit.
-#[derive(Drop)]
-struct Parts<F: Field, X: RowExtend<F>> {
-    params: Params,
-    values: Values<F>,
-    extenders: Extenders<X>,
-    committed: Committed<F>,
-    answering: Answering<F>,
-}
-
-// The larger of two sizes.
-fn larger(a: usize, b: usize) -> usize
-    ensures first { a ≤ result }
-    ensures second { b ≤ result }
+// Makes the proof for wires of these values, with a change of an answer where there is one, and writes its file in
+// front.
+// How many bytes it has.
+fn write<R: Hands, F: Field, W: Words, X: RowExtend<F>, G: Gate>(
+    crew: &Crew<R, G>,
+    circuit: &Circuit<F>,
+    session: &[u8],
+    public: &[F],
+    private: &[F],
+    words: &W,
+    change: Option<Change<F>>,
+    parts: &mut Parts<F, X>,
+) -> usize
+    requires public { length public.now ≡ circuit.now.publics }
+    requires private { length private.now ≡ circuit.now.privates }
+    requires parts { ArePartsFor F.ops F.coding X.reach X.rooms circuit.now parts.old }
+    requires change { IsChangeOf (params_of circuit.now) change }
+    requires values { parts.old.values.wires
+        ≡ all_values F.ops circuit.now.layers (inputs_of F.ops public.now private.now) }
+    ensures parts { ArePartsFor F.ops F.coding X.reach X.rooms circuit.now parts.new }
+    ensures inside { result ≤ length parts.new.answering.bytes.items }
+    ensures file { IsFileBy F.ops F.coding circuit.now session.now public.now private.now (words_of (W.at words.now))
+        (change_of F.ops change) (take result parts.new.answering.bytes.items) }
 {
-    a.max(b)
-}
-
-impl<F: Field, X: RowExtend<F>> Parts<F, X> {
-    fn new(alloc: Global, circuit: &Circuit<F>, id: [u8; 32]) -> Result<Parts<F, X>, AllocError>
-        requires id { id ≡ id_of F.coding circuit.now }
-        ensures { IfOk result (λ parts. ArePartsFor F.ops F.coding X.reach X.rooms circuit.now parts) }
-    {
-        let params = Params::of(circuit);
-        let extenders = make_extenders::<F, X>(alloc, &params)?;
-        let room = larger(extenders.short.room_len(), extenders.long.room_len());
-        let coefficient_room = extenders.coefficients.room_len();
-        Ok(Parts {
-            params,
-            values: Values::new(alloc, circuit)?,
-            extenders,
-            committed: Committed::new(alloc, circuit, &params, room)?,
-            answering: Answering::new(alloc, circuit, &params, coefficient_room, id)?,
-        })
-    }
-
-    // Sets the wires and the checks to their values on these inputs. Gives the number of the first check that is not 0.
-    fn evaluate(&mut self, circuit: &Circuit<F>, public: &[F], private: &[F]) -> Option<u32>
-        requires public { length public.now ≡ circuit.now.publics }
-        requires private { length private.now ≡ circuit.now.privates }
-        requires parts { ArePartsFor F.ops F.coding X.reach X.rooms circuit.now self.old }
-        ensures parts { ArePartsFor F.ops F.coding X.reach X.rooms circuit.now self.new }
-        ensures values { self.new.values.wires ≡ all_values F.ops circuit.now.layers (inputs_of F.ops public.now private.now) }
-        ensures checks { self.new.values.checks ≡ checks_of F.ops F.coding.number circuit.now.layers (inputs_of F.ops public.now private.now) }
-        ensures outputs { let outputs = checks_of F.ops F.coding.number circuit.now.layers (inputs_of F.ops public.now private.now) in
-            MatchOption result (IsFirstNonzero F.ops outputs None) (λ k. IsFirstNonzero F.ops outputs (Some (k, entry F.ops outputs k))) }
-    {
-        circuit.eval(public, private, &mut self.values);
-        match self.values.first_nonzero() {
-            None => None,
-            Some((output, _)) => Some(output),
-        }
-    }
-
-    // Makes the proof for wires of these values, with a change of an answer where there is one, and writes its file in front.
-    // How many bytes it has.
-    fn write<R: Hands, W: Words, G: Gate>(
-        &mut self,
-        rt: &R,
-        circuit: &Circuit<F>,
-        session: &[u8],
-        public: &[F],
-        private: &[F],
-        words: &W,
-        workers: usize,
-        gate: &G,
-        change: Option<Change<F>>,
-    ) -> usize
-        requires public { length public.now ≡ circuit.now.publics }
-        requires private { length private.now ≡ circuit.now.privates }
-        requires some { 1 ≤ workers }
-        requires most { workers ≤ 64 }
-        requires parts { ArePartsFor F.ops F.coding X.reach X.rooms circuit.now self.old }
-        requires change { IsChangeOf (params_of circuit.now) change }
-        requires values { self.old.values.wires ≡ all_values F.ops circuit.now.layers (inputs_of F.ops public.now private.now) }
-        ensures parts { ArePartsFor F.ops F.coding X.reach X.rooms circuit.now self.new }
-        ensures inside { result ≤ length self.new.answering.bytes.items }
-        ensures file { IsFileBy F.ops F.coding circuit.now session.now public.now private.now (words_of (W.at words.now)) (change_of F.ops change)
-            (take result self.new.answering.bytes.items) }
-    {
-        let statement = Statement {
-            circuit,
-            params: &self.params,
-            values: &self.values,
-            session,
-            public,
-            private,
-        };
-        write_proof(
-            rt,
-            &statement,
-            words,
-            workers,
-            gate,
-            &self.extenders,
-            change,
-            &mut self.committed,
-            &mut self.answering,
-        )
-    }
-
-    // A check's number with its value.
-    fn fault(&self, output: u32) -> Unsatisfied<&F>
-        requires { output < length self.now.values.checks }
-        ensures output { result.output ≡ output }
-        ensures value { result.value.now ≡ entry F.ops self.now.values.checks output }
-    {
-        Unsatisfied {
-            output,
-            value: &self.values.checks()[output as usize],
-        }
-    }
+    let statement = Statement {
+        circuit,
+        params: &parts.params,
+        values: &parts.values,
+        session,
+        public,
+        private,
+    };
+    write_proof(
+        crew,
+        &statement,
+        words,
+        &parts.extenders,
+        change,
+        &mut parts.committed,
+        &mut parts.answering,
+    )
 }
 
 /// A prover over one circuit, which extends rows by X.
@@ -164,7 +83,7 @@ pub struct WorksOver<'c, F: Field, X: RowExtend<F>> {
 
 impl<'c, F: Field, X: RowExtend<F>> Model for WorksOver<'c, F, X> {
     ghost use Rattle.lzk_circuit.specs.Valid.{Wiring};
-    ghost use Rattle.lzk_ligero.specs.Parts.{ArePartsFor};
+    ghost use Rattle.lzk_ligero_steps.specs.Parts.{ArePartsFor};
 
     ghost Value = { Wiring F };
 
@@ -205,7 +124,8 @@ impl<'c, F: Field, X: RowExtend<F>> WorksOver<'c, F, X> {
         Ok(WorksOver { circuit, parts })
     }
 
-    /// The bytes of the proof's file, whether the inputs satisfy the circuit or not. It is there for tests, and does what
+    /// The bytes of the proof's file, whether the inputs satisfy the circuit or not. It is there for tests, and does
+    /// what
     /// `prove` does for inputs that satisfy it. No memory is taken.
     pub fn attempt<R: Hands, W: Words, G: Gate>(
         &mut self,
@@ -230,22 +150,23 @@ impl<'c, F: Field, X: RowExtend<F>> WorksOver<'c, F, X> {
         proofs_checked::<F>();
         self.circuit.valid_laws();
         self.parts.evaluate(self.circuit, public, private);
-        let len = self.parts.write(
-            rt,
+        let crew = Crew { rt, gate, workers };
+        let len = write(
+            &crew,
             self.circuit,
             session,
             public,
             private,
             words,
-            workers,
-            gate,
             None,
+            &mut self.parts,
         );
         &self.parts.answering.bytes[..len]
     }
 
-    /// The bytes of the proof's file where `by` was added to one value of an answer before the columns were drawn. It is there for
-    /// tests of verifiers: what is opened is that of the changed answers, so that one check alone refuses it. No memory is taken.
+    /// The bytes of the proof's file where `by` was added to one value of an answer before the columns were drawn. It
+    /// is there for tests of verifiers: what is opened is that of the changed answers, so that one check alone refuses
+    /// it. No memory is taken.
     pub fn attempt_changed<R: Hands, W: Words, G: Gate>(
         &mut self,
         rt: &R,
@@ -266,23 +187,25 @@ impl<'c, F: Field, X: RowExtend<F>> WorksOver<'c, F, X> {
         requires most { workers ≤ 64 }
         requires place { IsSentPlace (params_of self.old) answer place }
         ensures* same { sem 𝓛 (StaysForCircuit F.row X.row F.Field X.RowExtend self.entry) }
-        ensures file { IsChangedFile F.ops F.coding self.old session.now public.now private.now (words_of (W.at words.now)) answer place by result.now }
-        ensures refused { IsSatisfied F.ops F.coding.number self.old.layers (inputs_of F.ops public.now private.now) → by ≢ F.ops.zero →
-            IsRefused F.ops F.coding self.old session.now public.now answer place by result.now }
+        ensures file { IsChangedFile F.ops F.coding self.old session.now public.now private.now
+            (words_of (W.at words.now)) answer place by result.now }
+        ensures refused { IsSatisfied F.ops F.coding.number self.old.layers (inputs_of F.ops public.now private.now)
+            → by ≢ F.ops.zero
+            → IsRefused F.ops F.coding self.old session.now public.now answer place by result.now }
     {
         changed_proofs_refused::<F>();
         self.circuit.valid_laws();
         self.parts.evaluate(self.circuit, public, private);
-        let len = self.parts.write(
-            rt,
+        let crew = Crew { rt, gate, workers };
+        let len = write(
+            &crew,
             self.circuit,
             session,
             public,
             private,
             words,
-            workers,
-            gate,
             Some(Change { answer, place, by }),
+            &mut self.parts,
         );
         &self.parts.answering.bytes[..len]
     }
@@ -308,11 +231,13 @@ impl<'c, F: Field, X: RowExtend<F>> WorksOver<'c, F, X> {
         requires some { 1 ≤ workers }
         requires most { workers ≤ 64 }
         ensures* same { sem 𝓛 (StaysForCircuit F.row X.row F.Field X.RowExtend self.entry) }
-        ensures proved { MatchResult result
-            (λ bytes. IsFirstNonzero F.ops (checks_of F.ops F.coding.number self.old.layers (inputs_of F.ops public.now private.now)) None
-            × IsProofFile F.ops F.coding self.old session.now public.now private.now
-            (words_of (W.at words.now)) bytes.now)
-            (λ fault. IsFirstNonzero F.ops (checks_of F.ops F.coding.number self.old.layers (inputs_of F.ops public.now private.now))
+        ensures proved { MatchResult result (λ bytes.
+            IsFirstNonzero F.ops
+            (checks_of F.ops F.coding.number self.old.layers (inputs_of F.ops public.now private.now)) None
+            × IsProofFile F.ops F.coding self.old session.now public.now private.now (words_of (W.at words.now))
+            bytes.now) (λ fault.
+            IsFirstNonzero F.ops
+            (checks_of F.ops F.coding.number self.old.layers (inputs_of F.ops public.now private.now))
             (Some (fault.output, fault.value.now))) }
         ensures accepted { IfOk result (λ bytes. IsVerdict F.ops F.coding self.old session.now public.now
             bytes.now Accepted) }
@@ -322,16 +247,16 @@ impl<'c, F: Field, X: RowExtend<F>> WorksOver<'c, F, X> {
         }
         proofs_accepted::<F>();
         self.circuit.valid_laws();
-        let len = self.parts.write(
-            rt,
+        let crew = Crew { rt, gate, workers };
+        let len = write(
+            &crew,
             self.circuit,
             session,
             public,
             private,
             words,
-            workers,
-            gate,
             None,
+            &mut self.parts,
         );
         Ok(&self.parts.answering.bytes[..len])
     }

@@ -1,12 +1,2 @@
 pub mod Chunks
-pub mod CurveLaws
-pub mod KeptLaws
-pub mod LastLaws
-pub mod LayerSends
-pub mod MergeLaws
-pub mod OrderLaws
-pub mod PartLaws
-pub mod RowLaws
 pub mod SendLaws
-pub mod SpreadLaws
-pub mod TableLaws

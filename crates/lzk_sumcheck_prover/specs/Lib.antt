@@ -1,6 +1,1 @@
-pub mod Orders
-pub mod Pairs
-pub mod Parts
-pub mod Room
-pub mod Rows
-pub mod Tables
+pub use Rattle.lzk_rounds.specs as lzk_rounds

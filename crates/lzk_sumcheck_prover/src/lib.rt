@@ -1,8 +1,8 @@
 //! The prover's side of the sumchecks: the true values of the rounds, less their pads.
 //!
 //! As in draft-google-cfrg-libzk, each layer has two rounds for each bit that numbers the wires below
-//! it. [`prove_layers`] does the writes and draws of `lzk_sumcheck::replay` and sets the messages that are sent. It stands
-//! apart from what a verifier needs. A caller writes
+//! it. [`prove_layers`] does the writes and draws of `lzk_sumcheck::replay` and sets the messages that are sent. It
+//! stands apart from what a verifier needs. A caller writes
 //!
 //! ```text
 //! let mut script = Script::new(alloc, &circuit)?;
@@ -12,20 +12,10 @@
 //! ```
 #![tactic(auto)]
 
-mod arithmetic;
-mod crew;
-mod curve;
-mod kept;
 mod layer;
-mod order;
-mod pairs;
-mod parts;
 mod proving;
-mod rounds;
-mod rows;
 mod sending;
-mod tables;
-mod weights;
+mod summing;
 
+pub use lzk_rounds::Rounds;
 pub use proving::prove_layers;
-pub use rounds::Rounds;

@@ -5,17 +5,17 @@ ghost use Rattle.lzk_field.specs.Sums.{minus, entry};
 ghost use Rattle.lzk_mle.specs.Multilinear.{tilde};
 ghost use Rattle.lzk_transcript.specs.Tape.{drawn, after_draw};
 ghost use Rattle.lzk_sumcheck.specs.Rounds.{every_other};
-ghost use Rattle.lzk_sumcheck_prover.specs.Rows.{round_at};
+ghost use Rattle.lzk_rounds.specs.Rows.{round_at};
 ghost use Rattle.lzk_sumcheck.specs.Script.{with_pair};
 ghost use Rattle.lzk_sumcheck.specs.Sending.{after_sent, drawn_sent, AreSent};
 ghost use Rattle.lzk_sumcheck.specs.States.{State, after};
-ghost use Rattle.lzk_sumcheck_prover.specs.Tables.{AreKept};
+ghost use Rattle.lzk_rounds.specs.Tables.{AreKept};
 
-use crate::crew::Crew;
-use crate::curve::RoundSums;
-use crate::tables::{Last, Tables};
+use crate::summing::sums;
+use lzk_crew::Crew;
 use lzk_field::Field;
 use lzk_hands::Hands;
+use lzk_rounds::{Last, RoundSums, Tables};
 use lzk_sumcheck::replay_round;
 use lzk_transcript::Tape;
 
@@ -23,8 +23,10 @@ use lzk_transcript::Tape;
 fn send_round<F: Field>(tape: &mut Tape, sums: RoundSums<F>, pads: &[F], sent: &mut [F]) -> F
     requires pads { 2 ≤ length pads.now }
     requires room { length sent.old ≡ 2 }
-    ensures first { let o = F.ops in entry o sent.new 0 ≡ minus o (round_at o sums (F.coding.element 0)) (entry o pads.now 0) }
-    ensures second { let o = F.ops in entry o sent.new 1 ≡ minus o (round_at o sums (F.coding.element 2)) (entry o pads.now 1) }
+    ensures first { let o = F.ops in
+        entry o sent.new 0 ≡ minus o (round_at o sums (F.coding.element 0)) (entry o pads.now 0) }
+    ensures second { let o = F.ops in
+        entry o sent.new 1 ≡ minus o (round_at o sums (F.coding.element 2)) (entry o pads.now 1) }
     ensures challenge { result ≡ F.coding.element (drawn (with_pair F.ops F.coding sent.new 0 tape.old)) }
     ensures after { tape.new ≡ after_draw (with_pair F.ops F.coding sent.new 0 tape.old) }
 {
@@ -35,11 +37,11 @@ fn send_round<F: Field>(tape: &mut Tape, sums: RoundSums<F>, pads: &[F], sent: &
     replay_round(tape, sent, 0)
 }
 
-/// Sends the rounds of the variables that are left, the next of which is bit 0 of the first table's numbers: a bit of a, or one of b. The
-/// tables change places from round to round, and so do the lists of challenges. What is left of each table is its extension at its
-/// challenges.
-pub(crate) fn send_rounds<R: Hands, F: Field>(
-    crew: &Crew<R>,
+/// Sends the rounds of the variables that are left, the next of which is bit 0 of the first table's numbers: a bit of
+/// a, or one of b. The tables change places from round to round, and so do the lists of challenges. What is left of
+/// each table is its extension at its challenges.
+pub(crate) fn send_rounds<R: Hands, F: Field, G>(
+    crew: &Crew<R, G>,
     tape: &mut Tape,
     tables: &mut Tables<F>,
     pads: &[F],
@@ -54,8 +56,10 @@ pub(crate) fn send_rounds<R: Hands, F: Field>(
     requires pads { length pads.now ≡ 2 * (length ra.old + length rb.old) }
     requires sent { length sent.old ≡ 2 * (length ra.old + length rb.old) }
     ensures room { tables.new.room ≡ tables.old.room }
-    ensures ra { ra.new ≡ every_other true (drawn_sent F.ops F.coding sent.new (length ra.old + length rb.old) tape.old) }
-    ensures rb { rb.new ≡ every_other false (drawn_sent F.ops F.coding sent.new (length ra.old + length rb.old) tape.old) }
+    ensures ra { ra.new
+        ≡ every_other true (drawn_sent F.ops F.coding sent.new (length ra.old + length rb.old) tape.old) }
+    ensures rb { rb.new
+        ≡ every_other false (drawn_sent F.ops F.coding sent.new (length ra.old + length rb.old) tape.old) }
     ensures after { tape.new ≡ after_sent F.ops F.coding sent.new (length ra.old + length rb.old) tape.old }
     ensures sent { let o = F.ops in let n = length ra.old + length rb.old in
         (st : State F) → AreKept o (length ra.old) (length rb.old) st tables.old →
@@ -70,7 +74,7 @@ pub(crate) fn send_rounds<R: Hands, F: Field>(
         return tables.last();
     };
     let (now, later) = sent.split_at_mut(2);
-    let sums = tables.sums(crew);
+    let sums = sums(crew, tables);
     let x = send_round(tape, sums, pads, now);
     *challenge = x;
     tables.bind(x);

@@ -10,4 +10,4 @@ returns g c =
     let n = c.args.n in
     let len = c.in_ok-bytes.bytes in
     let text = sym (c.in_ok-text.ensures ∙ ap (λ (depth : ℕ). demo_line n depth len) c.depth.ensures.depth) in
-    demo_told n c.args.seed c.args.circuit.now (demo_public ops n) (demo_private ops n) len _ c.requires.compiled refl refl c.in_ok-bytes.ensures (record { status = refl; text = text })
+    demo_told n c.args.by.seed c.args.circuit.now (demo_public ops n) (demo_private ops n) len _ c.requires.compiled refl refl c.in_ok-bytes.ensures (record { status = refl; text = text })

@@ -26,7 +26,7 @@ returns g c =
     record {
       bytes = bytes;
       long = refl;
-      file = subst (λ (w : Wiring _). IsProofFile o e w [] publics privates (words_of (seeded_word c.args.seed)) bytes) c.requires.works seeded;
+      file = subst (λ (w : Wiring _). IsProofFile o e w [] publics privates (words_of (seeded_word c.args.by.seed)) bytes) c.requires.works seeded;
       is = c.in_ok-verdict-in-Ok.ensures.verdict;
       only = c.in_ok-verdict-in-Ok.ensures.one;
     }

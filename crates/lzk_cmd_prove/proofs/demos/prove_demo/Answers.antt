@@ -10,7 +10,7 @@ pub unreachable-requires : goal.unreachable-requires
 unreachable-requires g c =
     let circuit = c.args.circuit.now in
     let inputs = c.args.inputs.now in
-    let seed = c.args.seed in
+    let seed = c.args.by.seed in
     let len = c.in_ok-len.len in
     let verdict = c.in_ok-len.verdict in
     let first = subst (λ (xs : List Gold). HasVerdict ops gold_coding circuit xs c.deref-2.result.now seed len verdict) c.deref.ensures.value c.in_ok-len.ensures in

@@ -17,5 +17,5 @@ returns g c =
     let circuit = c.args.circuit.now in
     let inputs = c.in_ok-inputs.inputs in
     let len = c.prove_demo-len.result in
-    subst (λ (ps : List GoldElement). IfOk len (λ n. HasVerdict ops gold_coding circuit ps (demo_private ops c.args.n) c.args.seed n Accepted)) c.in_ok-inputs.ensures.public
-    (subst (λ (qs : List GoldElement). IfOk len (λ n. HasVerdict ops gold_coding circuit inputs.public.items qs c.args.seed n Accepted)) c.in_ok-inputs.ensures.private c.prove_demo-len.ensures)
+    subst (λ (ps : List GoldElement). IfOk len (λ n. HasVerdict ops gold_coding circuit ps (demo_private ops c.args.n) c.args.by.seed n Accepted)) c.in_ok-inputs.ensures.public
+    (subst (λ (qs : List GoldElement). IfOk len (λ n. HasVerdict ops gold_coding circuit inputs.public.items qs c.args.by.seed n Accepted)) c.in_ok-inputs.ensures.private c.prove_demo-len.ensures)

@@ -14,7 +14,7 @@ returns-clause-drawn g c =
     let root : c.make_change.new.proof.root ≡ c.args.sent.now.proof.root = c.make_change.ensures.root ∙ c.answer.ensures.root in
     let starts = c.open_tape-tape.ensures ∙ (λ i. opening e c.args.statement.now.session.now (sym id i) c.args.statement.now.public.now (sym root i)) in
     drawn_is f.ops e c.args.statement.now.circuit.now c.args.statement.now.session.now c.args.statement.now.public.now c.args.statement.now.params.now c.make_change.new.proof c.send.new.messages c.send.new.script c.send.new.challenges
-    c.draw_columns.new.columns _ _ c.requires.statement.params starts (c.make_change.ensures.messages ∙ c.answer.ensures.messages) c.send.ensures.script c.send.ensures.challenges c.send.ensures.tape c.draw_columns.ensures.columns
+    c.draw_columns.new.columns _ _ c.args.statement.now.are starts (c.make_change.ensures.messages ∙ c.answer.ensures.messages) c.send.ensures.script c.send.ensures.challenges c.send.ensures.tape c.draw_columns.ensures.columns
 
 pub returns-clause-answers : goal.returns-clause-answers
 returns-clause-answers g c = λ rows count table.

@@ -16,6 +16,10 @@ use Rattle.lzk_ligero.proofs.Assembled.{assembled, transcript_of}
 use Rattle.lzk_ligero.proofs.TableLaws.{count_rows, table_of}
 use Rattle.lzk_ligero.proofs.proving.write_proof.Goals as goal
 
+pub write_file-requires-clause-params : goal.write_file-requires-clause-params
+write_file-requires-clause-params g c κs within =
+    record { circuit = c.args.statement.now.circuit.now; valid = c.valid_laws.ensures; are = c.args.statement.now.are }
+
 pub returns-clause-file : goal.returns-clause-file
 returns-clause-file g c =
     let f = g.F.Field in
@@ -26,13 +30,13 @@ returns-clause-file g c =
     let public = c.args.statement.now.public.now in
     let private = c.args.statement.now.private.now in
     let word = words_of (g.W.Words.at c.args.words.now) in
-    let is = c.requires.statement.params in
+    let is = c.args.statement.now.are in
     let table = c.commit-sent.new.tableau in
     let sent = c.respond.new.sent in
     let proof = record sent.proof { nonces = c.open_columns.new.nonces; columns = c.open_columns.new.out; path = c.open_path.new.path } in
     let rows = tableau o e w private word in
     let tape = opening e session proof.id public proof.root in
-    let with_values = subst (λ values. AreMessages o e w values table.pads tape proof.messages) c.requires.statement.values c.respond.ensures.messages in
+    let with_values = subst (λ values. AreMessages o e w values table.pads tape proof.messages) c.args.statement.now.evaluated c.respond.ensures.messages in
     let with_pads = subst (λ pads. AreMessages o e w (all_values o w.layers (inputs_of o public private)) pads tape proof.messages) c.commit-sent.ensures.pads with_values in
     let drawn = c.respond.ensures.drawn ∙ transcript_of o e w session proof.id public sent.proof proof refl refl refl refl refl refl in
     let rows_are = table_of o e.element (params_of w).ncol rows table.rows c.commit-sent.ensures.rows in

@@ -7,12 +7,12 @@ use Rattle.lzk_mle.specs.Multilinear.{tilde}
 use Rattle.lzk_circuit.specs.Wires.{layer_coefficient}
 use Rattle.lzk_sumcheck.specs.Layers.{layer_of_terms}
 use Rattle.lzk_sumcheck.specs.Rounds.{of_a, of_b, bound_coefficient}
-use Rattle.lzk_sumcheck_prover.specs.Rows.{IsKept}
+use Rattle.lzk_rounds.specs.Rows.{IsKept}
 use Rattle.lzk_sumcheck.specs.Script.{with_pair, round_challenge}
 use Rattle.lzk_sumcheck.specs.Sending.{after_sent, drawn_sent, AreRoundsSent}
-use Rattle.lzk_sumcheck_prover.specs.Tables.{AreKept}
-use Rattle.lzk_sumcheck_prover.proofs.KeptLaws.{first-kept}
-use Rattle.lzk_sumcheck_prover.proofs.LayerSends.{drawn-front, after-front, pair-behind, rounds-sent, tilde-padded, first-behind, second-behind}
+use Rattle.lzk_rounds.specs.Tables.{AreKept}
+use Rattle.lzk_rounds.proofs.KeptLaws.{first-kept}
+use Rattle.lzk_rounds.proofs.LayerSends.{drawn-front, after-front, pair-behind, rounds-sent, tilde-padded, first-behind, second-behind}
 use Rattle.lzk_sumcheck.proofs.ProvingLaws.{times-less}
 use Rattle.lzk_sumcheck.proofs.SentLaws.{after-is, drawn-is, length-drawn, evens, odds}
 use Rattle.lzk_sumcheck.proofs.SumcheckLaws.{state_of, bound-is}

@@ -8,7 +8,7 @@ use Rattle.lzk_sumcheck.specs.Layers.{layer_of_terms}
 use Rattle.lzk_sumcheck.specs.Rounds.{bound_coefficient}
 use Rattle.lzk_sumcheck.specs.Script.{drawn_beta, after_beta, after_rounds, round_challenge, with_pair}
 use Rattle.lzk_sumcheck.specs.Sending.{AreRoundsSent}
-use Rattle.lzk_sumcheck_prover.specs.Tables.{TableRoom}
+use Rattle.lzk_rounds.specs.Tables.{TableRoom}
 use Rattle.lzk_sumcheck.specs.Weights.{weighted}
 use Rattle.lzk_sumcheck.proofs.Filled.{refill_whole}
 use Rattle.lzk_sumcheck.proofs.LayerLaws.{layer_after}

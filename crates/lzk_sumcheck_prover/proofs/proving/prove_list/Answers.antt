@@ -12,10 +12,10 @@ use Rattle.lzk_layout.proofs.SizeLaws.{narrow}
 use Rattle.lzk_sumcheck.specs.Coefficients.{terms_at}
 use Rattle.lzk_sumcheck.specs.Draws.{draws}
 use Rattle.lzk_sumcheck.specs.Layers.{layer_of_terms}
-use Rattle.lzk_sumcheck_prover.specs.Orders.{IsOrderOf}
+use Rattle.lzk_rounds.specs.Orders.{IsOrderOf}
 use Rattle.lzk_sumcheck.specs.Script.{after_first, round_challenge, layer_script, after_layer}
 use Rattle.lzk_sumcheck.specs.Sending.{AreRoundsSent}
-use Rattle.lzk_sumcheck_prover.specs.Tables.{TableRoom}
+use Rattle.lzk_rounds.specs.Tables.{TableRoom}
 use Rattle.lzk_sumcheck.specs.Weights.{weighted}
 use Rattle.lzk_sumcheck.proofs.LayerLaws.{AreReplayed, replayed_whole}
 use Rattle.lzk_sumcheck.proofs.LayerShapes.{values_depth, values_width, terms_is, terms_placed}
@@ -69,7 +69,7 @@ pub layer-requires-in-loop-l-after_bounds : goal.layer-requires-in-loop-l-after_
 layer-requires-in-loop-l-after_bounds g c κs within =
     let w = c.args.on.now.circuit.now in
     let h : c.loop-l.l < depth w = omega (arith, c.depth-depth.ensures.depth, c.loop-l-test.true, c.loop-l.auto.l-end) in
-    omega (arith, h, values_depth w c.args.on.now.values.now.wires c.requires.values)
+    omega (arith, h, values_depth w c.args.on.now.values.now.wires c.args.on.now.widths)
 
 pub offset_bounds-layers-l : goal.offset_bounds-layers-l
 offset_bounds-layers-l g c =
@@ -113,7 +113,7 @@ prove_layer-requires-clause-terms g c κs within =
     let h : l < depth w = omega (arith, c.depth-depth.ensures.depth, c.loop-l-test.true, c.loop-l.auto.l-end) in
     let wires = c.split_at_mut-wires.result.0.now in
     let vs = c.layer-in-loop-l.result.now in
-    let below : length vs ≡ width_at w (l + 1) = ap length c.layer-in-loop-l.ensures ∙ values_width w c.args.on.now.values.now.wires (l + 1) c.requires.values (omega (arith, h)) in
+    let below : length vs ≡ width_at w (l + 1) = ap length c.layer-in-loop-l.ensures ∙ values_width w c.args.on.now.values.now.wires (l + 1) c.args.on.now.widths (omega (arith, h)) in
     let here : length wires ≡ width_at w l = omega (arith, c.split_at_mut-wires.ensures.front_len, c.width.ensures) in
     subst (λ ts. ArePlaced (length wires) (length vs) None ts) (sym c.as_slice.ensures)
     (subst (λ n. ArePlaced (length wires) n None c.layer.result.now.terms) (sym below)
@@ -125,11 +125,11 @@ prove_layer-requires-clause-order g c κs within =
     let w = c.args.on.now.circuit.now in
     let l = c.loop-l.l in
     let h : l < depth w = omega (arith, c.depth-depth.ensures.depth, c.loop-l-test.true, c.loop-l.auto.l-end) in
-    let inside : l < length c.args.orders.now = omega (arith, h, c.requires.orders_count) in
-    let here : c.as_slice-order.result.now ≡ slice_index_or c.args.orders.now l [] =
-    c.as_slice-order.ensures ∙ c.index-orders-l.is ∙ get_or_default c.args.orders.now l c.index-orders-l.result [] inside in
-    subst (λ ts. IsOrderOf ts c.as_slice-order.result.now) (sym (c.as_slice.ensures ∙ terms_is w l c.layer.result.now c.layer.ensures))
-    (subst (IsOrderOf (terms_at w l)) (sym here) (c.requires.orders l h))
+    let inside : l < length c.args.orders.now = omega (arith, h, c.requires.orders.count) in
+    let here : c.as_slice-in-loop-l.result.now ≡ slice_index_or c.args.orders.now l [] =
+    c.as_slice-in-loop-l.ensures ∙ c.index-orders-l.is ∙ get_or_default c.args.orders.now l c.index-orders-l.result [] inside in
+    subst (λ ts. IsOrderOf ts c.as_slice-in-loop-l.result.now) (sym (c.as_slice.ensures ∙ terms_is w l c.layer.result.now c.layer.ensures))
+    (subst (IsOrderOf (terms_at w l)) (sym here) (c.requires.orders.each l h))
 
 pub prove_layer-requires-clause-fits : goal.prove_layer-requires-clause-fits
 prove_layer-requires-clause-fits g c κs within =
@@ -141,7 +141,7 @@ prove_layer-requires-clause-fits g c κs within =
     let h : l < depth w = omega (arith, c.depth-depth.ensures.depth, c.loop-l-test.true, c.loop-l.auto.l-end) in
     let has = layer-has f.ops e c.loop-l.messages w (after_draws (output_bits w) c.args.tape.now) c.args.layers.now l c.loop-l.tape c.loop-l.layers inv.proved.replayed
     (omega (arith, h, c.loop-l.auto.layers, c.requires.depth)) (omega (arith, h, c.requires.depth)) c.requires.bits c.index-layers-l.result in
-    let below : length c.layer-in-loop-l.result.now ≡ width_at w (l + 1) = ap length c.layer-in-loop-l.ensures ∙ values_width w c.args.on.now.values.now.wires (l + 1) c.requires.values (omega (arith, h)) in
+    let below : length c.layer-in-loop-l.result.now ≡ width_at w (l + 1) = ap length c.layer-in-loop-l.ensures ∙ values_width w c.args.on.now.values.now.wires (l + 1) c.args.on.now.widths (omega (arith, h)) in
     omega (arith, below, ap (λ n. 2 ^ n) has.ra, bits_enough (width_at w (l + 1)))
 
 pub prove_layer-requires-clause-first : goal.prove_layer-requires-clause-first
@@ -247,7 +247,7 @@ loop-l-preserved g c =
           inv.proved h (omega (arith, h, c.loop-l.auto.bounds, c.requires.bounds))
           (front-kept o (sent_at w l) c.loop-l.messages front c.split_at_mut-later.result.1.now (sent ++ rest) c.split_at_mut-later.ensures.value size)
           has.ra wide (c.as_slice.ensures ∙ terms_is w l c.layer.result.now c.layer.ensures)
-          (ap length c.layer-in-loop-l.ensures ∙ values_width w c.args.on.now.values.now.wires (l + 1) c.requires.values (omega (arith, h)))
+          (ap length c.layer-in-loop-l.ensures ∙ values_width w c.args.on.now.values.now.wires (l + 1) c.args.on.now.widths (omega (arith, h)))
           script (part-stands o (sent_at w l) (4 * k + 2) front sent rest size count) all.bound inv.bound;
     }
 

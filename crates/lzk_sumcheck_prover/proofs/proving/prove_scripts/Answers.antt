@@ -1,25 +1,21 @@
 use Rattle.std.proofs.Common.{◌≡◌, length, sym, ap, ◌∙◌, arith, subst}
-use Rattle.std.specs.Prelude.{[], slice_get, slice_index_or}
+use Rattle.std.specs.Prelude.{slice_get}
 use Rattle.std.specs.Vec.{with_items}
 use Rattle.std.proofs.lemmas.List.{with_items_is}
-use Rattle.lzk_sumcheck.specs.Coefficients.{terms_at, AreBounds}
-use Rattle.lzk_sumcheck_prover.specs.Orders.{IsOrderOf, AreOrders}
-use Rattle.lzk_sumcheck_prover.specs.Room.{RoundsRoom}
+use Rattle.lzk_sumcheck.specs.Coefficients.{AreBounds}
+use Rattle.lzk_rounds.specs.Orders.{AreOrders}
+use Rattle.lzk_rounds.specs.Room.{RoundsRoom}
 use Rattle.lzk_sumcheck.specs.Script as spec
-use Rattle.lzk_sumcheck_prover.specs.Tables.{TableRoom}
+use Rattle.lzk_rounds.specs.Tables.{TableRoom}
 use Rattle.lzk_sumcheck_prover.proofs.proving.prove_scripts.Goals as goal
 
 pub prove_list-requires-clause-bits : goal.prove_list-requires-clause-bits
 prove_list-requires-clause-bits g c κs within = λ l layer is. c.requires.bits l layer (ap (λ xs. slice_get xs l) (sym (c.deref_mut-3.ensures.value ∙ c.layers.view_is)) ∙ is)
 
-pub prove_list-requires-clause-orders_count : goal.prove_list-requires-clause-orders_count
-prove_list-requires-clause-orders_count g c κs within =
-    ap length (c.deref.ensures.value ∙ ap (λ (x : RoundsRoom _). x.orders) c.room.view_is) ∙ c.requires.made.orders.count
-
 pub prove_list-requires-clause-orders : goal.prove_list-requires-clause-orders
-prove_list-requires-clause-orders g c κs within = λ l h.
-    let same : c.deref.result.now ≡ c.args.room.now.orders = c.deref.ensures.value ∙ ap (λ (x : RoundsRoom _). x.orders) c.room.view_is in
-    subst (λ xs. IsOrderOf (terms_at c.args.on.now.circuit.now l) (slice_index_or xs l [])) (sym same) (c.requires.made.orders.each l h)
+prove_list-requires-clause-orders g c κs within =
+    subst (AreOrders c.args.on.now.circuit.now) (sym (c.deref.ensures.value ∙ ap (λ (x : RoundsRoom _). x.orders) c.room.view_is))
+    c.requires.made.orders
 
 pub prove_list-requires-clause-pairs : goal.prove_list-requires-clause-pairs
 prove_list-requires-clause-pairs g c κs within = λ l h. omega (arith, c.requires.made.pairs l h, ap (λ (x : RoundsRoom _). x.pairs) c.room.view_is)

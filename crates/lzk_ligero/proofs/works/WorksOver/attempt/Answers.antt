@@ -14,7 +14,7 @@ returns g c =
     let private = c.args.private.now in
     let word = words_of (g.W.Words.at c.args.words.now) in
     let valid = subst (IsValid o) c.self.view_is c.valid_laws.ensures in
-    let written = subst (λ w. IsProofFile o e w session public private word (take c.write-len.result c.write-len.new.self.answering.bytes.items)) c.self.view_is c.write-len.ensures.file in
+    let written = subst (λ w. IsProofFile o e w session public private word (take c.write-len.result c.write-len.new.parts.answering.bytes.items)) c.self.view_is c.write-len.ensures.file in
     let file = subst (λ bytes. IsProofFile o e c.args.self.now session public private word (take c.write-len.result bytes)) (sym c.deref.ensures.value) written in (
       (refl, λ _. tt, c.self.view_is),
       record {

@@ -17,7 +17,7 @@ returns g c =
     let n = c.args.place in
     let by = c.args.by in
     let valid = subst (IsValid o) c.self.view_is c.valid_laws.ensures in
-    let written = subst (λ w. IsChangedFile o e w session public private word which n by (take c.write-len.result c.write-len.new.self.answering.bytes.items)) c.self.view_is c.write-len.ensures.file in
+    let written = subst (λ w. IsChangedFile o e w session public private word which n by (take c.write-len.result c.write-len.new.parts.answering.bytes.items)) c.self.view_is c.write-len.ensures.file in
     let file = subst (λ bytes. IsChangedFile o e c.args.self.now session public private word which n by (take c.write-len.result bytes)) (sym c.deref.ensures.value) written in (
       (refl, λ _. tt, c.self.view_is),
       record {

@@ -4,7 +4,7 @@ use Rattle.lzk_circuit.specs.Valid.{Wiring, IsValid}
 use Rattle.lzk_circuit.specs.Checks.{checks_of, IsSatisfied}
 use Rattle.lzk_circuit.specs.Wires.{inputs_of, IsFirstNonzero}
 use Rattle.lzk_complete.specs.Proving.{IsProofFile, words_of}
-use Rattle.lzk_ligero.proofs.Outputs.{named-output}
+use Rattle.lzk_ligero_steps.proofs.Outputs.{named-output}
 use Rattle.lzk_ligero.proofs.works.WorksOver.prove.Goals as goal
 
 pub fault-requires-after_bounds : goal.fault-requires-after_bounds
@@ -36,7 +36,7 @@ returns g c =
     let word = words_of (g.W.Words.at c.args.words.now) in
     let valid = subst (IsValid o) c.self.view_is c.valid_laws.ensures in
     let satisfied = subst (λ (w : Wiring g.row.F.Denot). IsSatisfied o f.coding.number w.layers (inputs_of o public private)) c.self.view_is c.in_default.ensures.outputs in
-    let written = subst (λ w. IsProofFile o e w session public private word (take c.write-len.result c.write-len.new.self.answering.bytes.items)) c.self.view_is c.write-len.ensures.file in
+    let written = subst (λ w. IsProofFile o e w session public private word (take c.write-len.result c.write-len.new.parts.answering.bytes.items)) c.self.view_is c.write-len.ensures.file in
     let file = subst (λ bytes. IsProofFile o e c.args.self.now session public private word (take c.write-len.result bytes)) (sym c.deref.ensures.value) written in (
       (refl, λ _. tt, c.self.view_is),
       record {

@@ -1,0 +1,1 @@
+pub use Rattle.lzk_tableau.specs as lzk_tableau

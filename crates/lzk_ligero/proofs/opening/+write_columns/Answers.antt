@@ -1,7 +1,0 @@
-use Rattle.std.proofs.Common.{ℕ, suc, ◌<◌, List, length, slice_index, arith, ap, subst}
-use Rattle.lzk_ligero.proofs.opening.+write_columns.Goals as goal
-
-pub write_columns-requires-clause-below : goal.write_columns-requires-clause-below
-write_columns-requires-clause-below g t c κs within = λ k h.
-    subst (λ (xs : List ℕ). slice_index xs (suc k) < c.args.tableau.now.params.mcol) c.in-Some.ensures.cases.0
-    (c.requires.below (suc k) (omega (arith, h, ap length c.in-Some.ensures.cases.0)))

@@ -1,0 +1,2 @@
+mod CoefficientLaws
+pub mod Outputs

@@ -1,0 +1,103 @@
+//! What a prover holds, and its wires evaluated.
+
+ghost use Rattle.std.specs.Prelude.{◌≡◌, ◌≤◌, ◌<◌, length, IfOk, MatchOption, Some, None};
+ghost use Rattle.lzk_circbytes.specs.Files.{id_of};
+ghost use Rattle.lzk_field.specs.Sums.{entry};
+ghost use Rattle.lzk_circuit.specs.Checks.{checks_of};
+ghost use Rattle.lzk_circuit.specs.Wires.{all_values, inputs_of, IsFirstNonzero};
+ghost use Rattle.lzk_ligero_steps.specs.Parts.{ArePartsFor};
+
+use crate::parts::{Answering, Committed, Extenders, make_extenders};
+use lzk_circuit::{Circuit, Values};
+use lzk_field::Field;
+use lzk_layout::{Params, Plan};
+use lzk_poly::RowExtend;
+use std::alloc::{AllocError, Global};
+
+/// The first check that is not 0, and its value.
+#[derive(Clone, Copy, Debug, PartialEq, Eq)]
+pub struct Unsatisfied<F> {
+    /// The check's number.
+    pub output: u32,
+    /// Its value.
+    pub value: F,
+}
+
+/// What a prover holds beside its circuit.
+#[derive(Drop)]
+pub struct Parts<F: Field, X: RowExtend<F>> {
+    /// The circuit's parameters.
+    pub params: Params,
+    /// The values of its wires and checks.
+    pub values: Values<F>,
+    /// What extends rows.
+    pub extenders: Extenders<X>,
+    /// What is committed to.
+    pub committed: Committed<F>,
+    /// What the tape and the answers need.
+    pub answering: Answering<F>,
+}
+
+// The larger of two sizes.
+fn larger(a: usize, b: usize) -> usize
+    ensures first { a ≤ result }
+    ensures second { b ≤ result }
+{
+    a.max(b)
+}
+
+impl<F: Field, X: RowExtend<F>> Parts<F, X> {
+    /// Parts for this circuit, whose id this is. `Err` where there is no memory for them.
+    pub fn new(alloc: Global, circuit: &Circuit<F>, id: [u8; 32]) -> Result<Parts<F, X>, AllocError>
+        requires id { id ≡ id_of F.coding circuit.now }
+        ensures { IfOk result (λ parts. ArePartsFor F.ops F.coding X.reach X.rooms circuit.now parts) }
+    {
+        let params = Params::of(circuit);
+        let plan = Plan { circuit, params };
+        let extenders = make_extenders::<F, X>(alloc, &plan)?;
+        let room = larger(extenders.short.room_len(), extenders.long.room_len());
+        let coefficient_room = extenders.coefficients.room_len();
+        Ok(Parts {
+            params,
+            values: Values::new(alloc, circuit)?,
+            extenders,
+            committed: Committed::new(alloc, &plan, room)?,
+            answering: Answering::new(alloc, &plan, coefficient_room, id)?,
+        })
+    }
+
+    /// Sets the wires and the checks to their values on these inputs. Gives the number of the first check that is not
+    /// 0.
+    pub fn evaluate(&mut self, circuit: &Circuit<F>, public: &[F], private: &[F]) -> Option<u32>
+        requires public { length public.now ≡ circuit.now.publics }
+        requires private { length private.now ≡ circuit.now.privates }
+        requires parts { ArePartsFor F.ops F.coding X.reach X.rooms circuit.now self.old }
+        ensures parts { ArePartsFor F.ops F.coding X.reach X.rooms circuit.now self.new }
+        ensures values { self.new.values.wires
+            ≡ all_values F.ops circuit.now.layers (inputs_of F.ops public.now private.now) }
+        ensures checks { self.new.values.checks
+            ≡ checks_of F.ops F.coding.number circuit.now.layers (inputs_of F.ops public.now private.now) }
+        ensures outputs { let outputs = checks_of F.ops F.coding.number circuit.now.layers
+            (inputs_of F.ops public.now private.now) in
+            MatchOption result (IsFirstNonzero F.ops outputs None)
+            (λ k. IsFirstNonzero F.ops outputs (Some (k, entry F.ops outputs k))) }
+    {
+        circuit.eval(public, private, &mut self.values);
+        match self.values.first_nonzero() {
+            None => None,
+            Some((output, _)) => Some(output),
+        }
+    }
+
+    /// A check's number with its value.
+    pub fn fault(&self, output: u32) -> Unsatisfied<&F>
+        requires { output < length self.now.values.checks }
+        ensures output { result.output ≡ output }
+        ensures value { result.value.now ≡ entry F.ops self.now.values.checks output }
+    {
+        Unsatisfied {
+            output,
+            value: &self.values.checks()[output as usize],
+        }
+    }
+}

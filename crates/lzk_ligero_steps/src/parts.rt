@@ -1,0 +1,91 @@
+//! The parts that a prover is made of.
+
+ghost use Rattle.std.specs.Prelude.{◌≡◌, IfOk};
+ghost use Rattle.lzk_circbytes.specs.Files.{id_of};
+ghost use Rattle.lzk_layout.specs.Sizes.{AreParams};
+ghost use Rattle.lzk_ligero_steps.specs.Parts.{AreExtendersFor, IsCommittedFor, IsAnsweringFor};
+
+use crate::room::{Room, Sent, file_room};
+use lzk_field::Field;
+use lzk_layout::Plan;
+use lzk_merkle::Tree;
+use lzk_poly::RowExtend;
+use lzk_tableau::Tableau;
+use std::alloc::{AllocError, Global};
+
+/// What extends rows, rows of products, and rows of coefficients.
+#[derive(Drop)]
+pub struct Extenders<X: Drop> {
+    /// What extends rows of `block` values.
+    pub short: X,
+    /// What extends rows of `dblock` values.
+    pub long: X,
+    /// What extends rows of coefficients.
+    pub coefficients: X,
+}
+
+/// Extenders for a circuit's parameters.
+pub fn make_extenders<F: Field, X: RowExtend<F>>(
+    alloc: Global,
+    plan: &Plan<'_, F>,
+) -> Result<Extenders<X>, AllocError>
+    ensures { IfOk result (AreExtendersFor X.reach plan.now.params) }
+{
+    Ok(Extenders {
+        short: X::make(alloc, plan.params.block, plan.params.ncol)?,
+        long: X::make(alloc, plan.params.dblock, plan.params.ncol)?,
+        coefficients: X::make(alloc, plan.params.block, plan.params.dblock)?,
+    })
+}
+
+/// What is committed to.
+#[derive(Drop)]
+pub struct Committed<F: Field> {
+    /// The rows.
+    pub tableau: Tableau<F>,
+    /// The tree over their columns.
+    pub tree: Tree,
+}
+
+impl<F: Field> Committed<F> {
+    /// With room for extensions that take so many elements.
+    pub fn new(alloc: Global, plan: &Plan<'_, F>, room: usize) -> Result<Committed<F>, AllocError>
+        ensures { IfOk result (IsCommittedFor plan.now.circuit.now plan.now.params room) }
+    {
+        Ok(Committed {
+            tableau: Tableau::new(alloc, plan.circuit, room)?,
+            tree: Tree::new(alloc, plan.params.mcol)?,
+        })
+    }
+}
+
+/// What the tape and the answers need, and the proof with its file.
+#[derive(Drop)]
+pub struct Answering<F: Field> {
+    /// What is computed on the way to a proof.
+    pub room: Room<F>,
+    /// What is sent, and what the tape gives.
+    pub sent: Sent<F>,
+    /// Room for the proof's file.
+    pub bytes: Vec<u8>,
+}
+
+impl<F: Field> Answering<F> {
+    /// Where an extension of a row of coefficients takes so many elements.
+    pub fn new(
+        alloc: Global,
+        plan: &Plan<'_, F>,
+        room: usize,
+        id: [u8; 32],
+    ) -> Result<Answering<F>, AllocError>
+        requires valid { AreParams F.ops plan.now.params }
+        requires id { id ≡ id_of F.coding plan.now.circuit.now }
+        ensures { IfOk result (IsAnsweringFor F.ops F.coding plan.now.circuit.now plan.now.params room) }
+    {
+        Ok(Answering {
+            room: Room::new(alloc, plan, room)?,
+            sent: Sent::new(alloc, plan, id)?,
+            bytes: file_room::<F>(alloc, &plan.params)?,
+        })
+    }
+}

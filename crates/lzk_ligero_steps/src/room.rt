@@ -1,0 +1,100 @@
+//! What a prover keeps.
+
+ghost use Rattle.std.specs.Prelude.{◌≡◌, ◌+◌, ◌*◌, length, IfOk, IfSome};
+ghost use Rattle.lzk_circbytes.specs.Files.{id_of};
+ghost use Rattle.lzk_layout.specs.Sizes.{AreBounded, AreParams, proof_length};
+ghost use Rattle.lzk_ligero_steps.specs.Rooms.{IsRoomFor, IsSentFor};
+
+use lzk_accept::{Challenges, Factored, Forms};
+use lzk_field::Field;
+use lzk_layout::{Elements, MOST_DIGESTS, OPENED, Params, Plan, Proof, proof_len};
+use lzk_rounds::Rounds;
+use lzk_sumcheck::Script;
+use std::alloc::{AllocError, Global};
+
+/// What is computed on the way to a proof.
+#[derive(Drop)]
+pub struct Room<F: Field> {
+    /// Room for the sumchecks.
+    pub rounds: Rounds<F>,
+    /// The linear constraints.
+    pub forms: Forms<F>,
+    /// The combined coefficients.
+    pub factored: Factored<F>,
+    /// Room for the sums and extensions of the linear answer.
+    pub sums: Elements<F>,
+    /// All values of the quadratic answer.
+    pub values: Elements<F>,
+}
+
+/// What is sent, and what the tape gives.
+#[derive(Drop)]
+pub struct Sent<F: Field> {
+    /// The proof.
+    pub proof: Proof<F>,
+    /// What the sumchecks draw.
+    pub script: Script<F>,
+    /// What is drawn behind them.
+    pub challenges: Challenges<F>,
+    /// The columns that are opened.
+    pub columns: [u32; OPENED],
+}
+
+// How many elements the linear answer takes, where its extender takes so many. None where no number of the machine says
+// it.
+fn sums_len(params: &Params, extender_room: usize) -> Option<usize>
+    requires { AreBounded params.now }
+    ensures { IfSome result (λ len. len ≡ extender_room + 2 * params.now.dblock) }
+{
+    extender_room.checked_add(2 * params.dblock as usize)
+}
+
+impl<F: Field> Room<F> {
+    /// Room for this circuit, whose parameters these are. An extension of a row of coefficients takes so many elements.
+    pub fn new(
+        alloc: Global,
+        plan: &Plan<'_, F>,
+        extender_room: usize,
+    ) -> Result<Room<F>, AllocError>
+        ensures { IfOk result (λ room. IsRoomFor F.ops plan.now.circuit.now plan.now.params extender_room room) }
+    {
+        let Some(len) = sums_len(&plan.params, extender_room) else {
+            return Err(AllocError);
+        };
+        Ok(Room {
+            rounds: Rounds::new(alloc, plan.circuit)?,
+            forms: Forms::new(alloc, plan.circuit)?,
+            factored: Factored::new(alloc, plan.circuit)?,
+            sums: Elements::zeros(alloc, len)?,
+            values: Elements::zeros(alloc, plan.params.dblock as usize)?,
+        })
+    }
+}
+
+impl<F: Field> Sent<F> {
+    /// A proof of zeros over this circuit, with its id.
+    pub fn new(alloc: Global, plan: &Plan<'_, F>, id: [u8; 32]) -> Result<Sent<F>, AllocError>
+        requires valid { AreParams F.ops plan.now.params }
+        requires id { id ≡ id_of F.coding plan.now.circuit.now }
+        ensures { IfOk result (λ sent. IsSentFor F.coding plan.now.circuit.now plan.now.params sent) }
+    {
+        let mut proof = Proof::new(alloc, &plan.params)?;
+        proof.id = id;
+        Ok(Sent {
+            proof,
+            script: Script::new(alloc, plan.circuit)?,
+            challenges: Challenges::new(alloc, &plan.params)?,
+            columns: [0; OPENED],
+        })
+    }
+}
+
+/// Room for the longest file of a proof with these parameters.
+pub fn file_room<F: Field>(alloc: Global, params: &Params) -> Result<Vec<u8>, AllocError>
+    requires { AreParams F.ops params.now }
+    ensures { IfOk result (λ bytes. length bytes.items ≡ proof_length F.coding.bytes params.now 1536) }
+{
+    let mut bytes = Vec::new(alloc);
+    bytes.resize(proof_len::<F>(params, MOST_DIGESTS as u32) as usize, 0)?;
+    Ok(bytes)
+}

@@ -1,0 +1,10 @@
+pub mod CurveLaws
+pub mod KeptLaws
+pub mod LastLaws
+pub mod LayerSends
+pub mod MergeLaws
+pub mod OrderLaws
+pub mod PartLaws
+pub mod RowLaws
+pub mod SpreadLaws
+pub mod TableLaws
