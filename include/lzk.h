@@ -128,7 +128,7 @@ enum lzk_limit_kind {
 #define LZK_MOST_PROOF 2097152
 #define LZK_MOST_CIRCUIT 67108864
 
-/* What came of lzk_compile, lzk_eval or lzk_prove. A field that the answer does not speak of is 0. Where several causes stand together, the
+/* What came of lzk_compile, lzk_sha_circuit, lzk_upgrade, lzk_eval or lzk_prove. A field that the answer does not speak of is 0. Where several causes stand together, the
    first of these is told: LZK_NULL, LZK_NO_VERSION, LZK_NO_CIRCUIT, LZK_TOO_LONG, LZK_NO_NUMBERS, LZK_NO_PRIVATES, LZK_NO_SOURCE, LZK_OVER_LIMIT,
    LZK_UNSATISFIED, LZK_NO_ROOM. */
 typedef struct lzk_outcome {
@@ -244,6 +244,13 @@ void lzk_desk_free(lzk_desk *desk);
 /* Compiles a source's text (docs/LANGUAGE.md) to a circuit's file of version 1 or 2, in front of room. Gives LZK_DONE, LZK_NO_VERSION,
    LZK_TOO_LONG, LZK_NO_SOURCE, LZK_OVER_LIMIT, LZK_NO_MEMORY or LZK_NO_ROOM: call again with room for outcome->count bytes. */
 uint32_t lzk_compile(uint32_t version, const uint8_t *source, size_t source_len, uint8_t *room, size_t room_len, lzk_outcome *outcome);
+
+/* Makes the circuit of SHA-256 for messages of so many bytes, 0 to 55 (docs/FORMATS.md, section 14), and puts its file in front of room. Gives
+   LZK_DONE, LZK_TOO_LONG, LZK_NO_MEMORY or LZK_NO_ROOM. */
+uint32_t lzk_sha_circuit(uint32_t message_len, uint8_t *room, size_t room_len, lzk_outcome *outcome);
+
+/* Puts a circuit's file of version 2 in front of room. Gives LZK_DONE, LZK_NO_CIRCUIT, LZK_NO_MEMORY or LZK_NO_ROOM. */
+uint32_t lzk_upgrade(const uint8_t *circuit, size_t circuit_len, uint8_t *room, size_t room_len, lzk_outcome *outcome);
 
 /* Writes what a circuit's file holds. Gives LZK_DONE, LZK_NO_CIRCUIT or LZK_NO_MEMORY. */
 uint32_t lzk_circuit_info(const uint8_t *circuit, size_t circuit_len, lzk_info *info);

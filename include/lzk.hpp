@@ -30,7 +30,7 @@ public:
 
   static const char *name(uint32_t answer) {
     switch (answer) {
-    case LZK_TOO_LONG: return "lzk: a session or a text is too long";
+    case LZK_TOO_LONG: return "lzk: a session, a text or a message is too long";
     case LZK_NO_CIRCUIT: return "lzk: no circuit's file";
     case LZK_NO_NUMBERS: return "lzk: not the circuit's public numbers";
     case LZK_NO_SOURCE: return "lzk: no source";
@@ -69,14 +69,34 @@ inline verdict judged(const lzk_report &report) {
 }
 } // namespace detail
 
-inline bytes compile(view source, uint32_t version = 1) {
+namespace detail {
+// What a call puts into a room, which is made as large as it asks for.
+template <typename Call> bytes made(Call call) {
   bytes room(65536, '\0');
   lzk_outcome found;
-  while (lzk_compile(version, detail::at(source), source.size(), reinterpret_cast<uint8_t *>(&room[0]), room.size(), &found) == LZK_NO_ROOM)
-    room.resize(found.count);
-  detail::check(found);
+  while (call(reinterpret_cast<uint8_t *>(&room[0]), room.size(), &found) == LZK_NO_ROOM) room.resize(found.count);
+  check(found);
   room.resize(found.count);
   return room;
+}
+} // namespace detail
+
+inline bytes compile(view source, uint32_t version = 1) {
+  return detail::made([&](uint8_t *room, size_t len, lzk_outcome *found) {
+    return lzk_compile(version, detail::at(source), source.size(), room, len, found);
+  });
+}
+
+// The circuit of SHA-256 for messages of so many bytes, 0 to 55.
+inline bytes sha_circuit(uint32_t message_len) {
+  return detail::made([&](uint8_t *room, size_t len, lzk_outcome *found) { return lzk_sha_circuit(message_len, room, len, found); });
+}
+
+// The circuit in version 2.
+inline bytes upgrade(view circuit) {
+  return detail::made([&](uint8_t *room, size_t len, lzk_outcome *found) {
+    return lzk_upgrade(detail::at(circuit), circuit.size(), room, len, found);
+  });
 }
 
 inline lzk_info circuit_info(view circuit) {

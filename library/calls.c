@@ -21,6 +21,8 @@ uint32_t lzk_proved_explain(IN(circuit), IN(numbers), IN(session), IN(proof), lz
 uint32_t lzk_proved_explain_pieces(IN(circuit), IN(numbers), IN(session), const lzk_bytes *pieces, size_t count, lzk_report *report);
 void lzk_proved_explain_each(IN(circuit), lzk_job *jobs, size_t count);
 uint32_t lzk_proved_compile(uint32_t version, IN(source), uint8_t *room, size_t room_len, lzk_outcome *outcome);
+uint32_t lzk_proved_sha_circuit(uint32_t, uint8_t *, size_t, lzk_outcome *);
+uint32_t lzk_proved_upgrade(const uint8_t *, size_t, uint8_t *, size_t, lzk_outcome *);
 uint32_t lzk_proved_circuit_info(IN(circuit), lzk_info *info);
 uint32_t lzk_proved_eval(IN(circuit), IN(numbers), IN(privates), lzk_outcome *outcome);
 
@@ -104,6 +106,18 @@ uint32_t lzk_compile(uint32_t version, IN(source), uint8_t *room, size_t room_le
   uint8_t none[1];
   if (IS_NULL(source) || IS_NULL(room) || !outcome) return null_outcome(outcome);
   return lzk_proved_compile(version, GIVEN(source), room ? room : none, room_len, outcome);
+}
+
+uint32_t lzk_sha_circuit(uint32_t message_len, uint8_t *room, size_t room_len, lzk_outcome *outcome) {
+  uint8_t none[1];
+  if (IS_NULL(room) || !outcome) return null_outcome(outcome);
+  return lzk_proved_sha_circuit(message_len, room ? room : none, room_len, outcome);
+}
+
+uint32_t lzk_upgrade(IN(circuit), uint8_t *room, size_t room_len, lzk_outcome *outcome) {
+  uint8_t none[1];
+  if (IS_NULL(circuit) || IS_NULL(room) || !outcome) return null_outcome(outcome);
+  return lzk_proved_upgrade(GIVEN(circuit), room ? room : none, room_len, outcome);
 }
 
 uint32_t lzk_circuit_info(IN(circuit), lzk_info *info) {

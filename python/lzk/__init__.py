@@ -16,10 +16,11 @@ keeps copies of what it was handed: private numbers and seeds stay in its memory
 
 from ._calls import Field, Info, Verdict, library_version
 from ._errors import Error, NoCircuit, NoMemory, NoNumbers, NoSource, OverLimit, Rejected, TooLong, Unsatisfied
-from ._lzk import Desk, circuit_info, compile, evaluate, explain, explain_each, explain_pieces, prove, verify
+from ._lzk import Desk, circuit_info, compile, evaluate, explain, explain_each, explain_pieces, prove, sha_circuit, upgrade, verify
 
 __all__ = [
     "Desk", "Error", "Field", "Info", "NoCircuit", "NoMemory", "NoNumbers", "NoSource", "OverLimit", "Rejected", "TooLong", "Unsatisfied",
-    "Verdict", "circuit_info", "compile", "evaluate", "explain", "explain_each", "explain_pieces", "library_version", "prove", "verify",
+    "Verdict", "circuit_info", "compile", "evaluate", "explain", "explain_each", "explain_pieces", "library_version", "prove",
+    "sha_circuit", "upgrade", "verify",
 ]  # fmt: skip
 __version__ = "0.2"

@@ -4,6 +4,8 @@
       prints whether the numbers of two files satisfy a circuit, and otherwise the first check that is not 0
   compile SOURCE CIRCUIT [version=N]
       writes the circuit of a source; version=2 is smaller where asserts have many depths
+  upgrade OLD NEW
+      writes a circuit's file of version 2
   show CIRCUIT
       prints a circuit's field, id and counts
   prove CIRCUIT PUBLIC PRIVATE PROOF [seed=HEX] [session=HEX] [workers=N]
@@ -13,9 +15,15 @@
   batch LIST [workers=N]
       prints that for each proof of a list, by N threads; a line is CIRCUIT PUBLIC PROOF [session=HEX]
 
+  demo N [seed=HEX] [workers=N]
+      proves and verifies that a public bit is the exclusive or of N private ones, 1 to 16,384
+  shacircuit N CIRCUIT
+      writes the circuit of SHA-256 for messages of N bytes, 0 to 55
+  sha256 CIRCUIT PROOF message=HEX [seed=HEX] [session=HEX] [workers=N]
+      writes a proof of knowing a message with this digest
+
 A NAME is the path of a file. Texts and statuses are those of `zk`, but for lines that the library has no numbers for: of each layer, of each
-check, of terms. `demo`, `upgrade`, `shacircuit` and `sha256` are commands of `zk` alone. A seed among the words can be seen by other
-programs: leave it out. `prove` does its work in one thread for every N.
+check, of terms. A seed among the words can be seen by other programs: leave it out. Proofs are made in one thread for every N.
 """
 
 from __future__ import annotations
@@ -30,12 +38,15 @@ from typing import Callable, Dict, List, Optional, Tuple
 
 import lzk
 
+from . import _statements
+
 COMMANDS: Dict[str, Tuple[int, Tuple[str, ...]]] = {
     "eval": (3, ()), "compile": (2, ("version",)), "show": (1, ()), "prove": (4, ("seed", "session", "workers")), "verify": (3, ("session",)),
-    "batch": (1, ("workers",)),
+    "batch": (1, ("workers",)), "upgrade": (2, ()), "demo": (1, ("seed", "workers")), "shacircuit": (2, ()),
+    "sha256": (2, ("message", "seed", "session", "workers")),
 }  # fmt: skip
 VALUES = {
-    "version": r"[12]", "seed": r"[0-9a-fA-F]{64}", "session": r"(?:[0-9a-fA-F]{2}){0,64}", "workers": r"(?=.{1,9}$)0*([1-9]|[1-5][0-9]|6[0-4])",
+    "version": r"[12]", "message": r"(?:[0-9a-fA-F]{2}){0,55}", "seed": r"[0-9a-fA-F]{64}", "session": r"(?:[0-9a-fA-F]{2}){0,64}", "workers": r"(?=.{1,9}$)0*([1-9]|[1-5][0-9]|6[0-4])",
 }  # fmt: skip
 MOST_TEXT, MOST_CIRCUIT, MOST_PROOF = 4_194_304, 67_108_864, 2_097_152
 MOST_LIST, MOST_OF_A_LIST, MOST_JOBS = 65_536, 134_217_728, 256
@@ -120,7 +131,11 @@ def compile_(names: List[str], keys: Dict[str, str]) -> Tuple[List[str], int]:
     source, made = Files().read(names[0], MOST_TEXT), []
     refusing(names[0], lambda: made.append(lzk.compile(source, int(keys.get("version", "1")))))
     put(names[1], made[0])
-    return [f"compiled {names[1]}: layers {lzk.circuit_info(made[0]).layers}, {len(made[0])} bytes"], 0
+    return [made_line(names[1], made[0])], 0
+
+
+def made_line(name: str, circuit: bytes) -> str:
+    return f"compiled {name}: layers {lzk.circuit_info(circuit).layers}, {len(circuit)} bytes"
 
 
 def show(names: List[str], keys: Dict[str, str]) -> Tuple[List[str], int]:
@@ -146,15 +161,52 @@ def eval_(names: List[str], keys: Dict[str, str]) -> Tuple[List[str], int]:
     return ["satisfied"], 0
 
 
+def seed_of(keys: Dict[str, str]) -> Optional[bytes]:
+    return bytes.fromhex(keys["seed"]) if "seed" in keys else None
+
+
 def prove(names: List[str], keys: Dict[str, str]) -> Tuple[List[str], int]:
     given, made = read_inputs(names), []
-    seed = bytes.fromhex(keys["seed"]) if "seed" in keys else None
     try:
-        refusing(names[2], lambda: made.append(lzk.prove(*given, bytes.fromhex(keys.get("session", "")), seed)))
+        refusing(names[2], lambda: made.append(lzk.prove(*given, bytes.fromhex(keys.get("session", "")), seed_of(keys))))
     except lzk.Unsatisfied as found:
         return [unsatisfied(found)], 1
     put(names[3], made[0])
     return [f"proved {names[3]}: {len(made[0])} bytes"], 0
+
+
+def upgrade(names: List[str], keys: Dict[str, str]) -> Tuple[List[str], int]:
+    made = lzk.upgrade(Files().circuit(names[0]))
+    put(names[1], made)
+    return [f"upgraded {names[1]}: {len(made)} bytes"], 0
+
+
+def demo(names: List[str], keys: Dict[str, str]) -> Tuple[List[str], int]:
+    count = int(names[0])
+    circuit = lzk.compile(_statements.parity_source(count))
+    public, private = _statements.parity_inputs(count)
+    proof = lzk.prove(circuit, public, private, seed=seed_of(keys))
+    verdict = lzk.explain(circuit, public, proof)
+    return [f"demo {count}: layers {lzk.circuit_info(circuit).layers}, proof {len(proof)} bytes, {verdict}"], int(not verdict)
+
+
+def shacircuit(names: List[str], keys: Dict[str, str]) -> Tuple[List[str], int]:
+    made = lzk.sha_circuit(int(names[0]))
+    put(names[1], made)
+    return [made_line(names[1], made)], 0
+
+
+def sha256(names: List[str], keys: Dict[str, str]) -> Tuple[List[str], int]:
+    circuit, message = Files().circuit(names[0]), bytes.fromhex(keys["message"])
+    info, (public, private) = lzk.circuit_info(circuit), _statements.sha_inputs(message)
+    if (info.field, info.publics, info.privates) != (lzk.Field.GOLDILOCKS, len(public), len(private)):
+        raise Ended(f"refused: {names[0]} is not for {len(message)} bytes", 3)
+    try:
+        made = lzk.prove(circuit, public, private, bytes.fromhex(keys.get("session", "")), seed_of(keys))
+    except lzk.Unsatisfied as found:
+        return [unsatisfied(found)], 1
+    put(names[1], made)
+    return [f"proved {names[1]}: {len(made)} bytes, digest {b''.join(word.to_bytes(4, 'big') for word in public).hex()}"], 0
 
 
 def read_job(files: Files, names: List[str], session: str) -> Tuple[bytes, bytes, bytes, bytes]:
@@ -196,7 +248,12 @@ def batch(names: List[str], keys: Dict[str, str]) -> Tuple[List[str], int]:
     return [*lines, f"batch: {accepted} accepted, {len(jobs) - accepted} rejected"], int(accepted < len(jobs))
 
 
-RUNS = {"eval": eval_, "compile": compile_, "show": show, "prove": prove, "verify": verify, "batch": batch}
+RUNS = {
+    "eval": eval_, "compile": compile_, "upgrade": upgrade, "show": show, "prove": prove, "verify": verify, "batch": batch, "demo": demo,
+    "shacircuit": shacircuit, "sha256": sha256,
+}  # fmt: skip
+# Commands whose first name is a number, with the least and the most.
+COUNTS = {"demo": (1, _statements.MOST_BITS), "shacircuit": (0, _statements.MOST_MESSAGE)}
 
 
 def parsed(words: List[str]) -> Optional[Tuple[List[str], Dict[str, str]]]:
@@ -205,6 +262,11 @@ def parsed(words: List[str]) -> Optional[Tuple[List[str], Dict[str, str]]]:
     names, rest = words[1 : count + 1], words[count + 1 :]
     keys = dict(word.partition("=")[::2] for word in rest)
     is_well = count and len(names) == count and all(names) and len(keys) == len(rest)
+    if is_well and words[0] in COUNTS:
+        least, most = COUNTS[words[0]]
+        is_well = re.fullmatch("[0-9]{1,9}", names[0]) is not None and least <= int(names[0]) <= most
+    if words[:1] == ["sha256"] and "message" not in keys:
+        return None
     if not is_well or any(key not in known or "=" not in word or not re.fullmatch(VALUES[key], keys[key]) for key, word in zip(keys, rest)):
         return None
     return names, keys

@@ -119,6 +119,7 @@ def _load() -> ctypes.CDLL:
     parts = {"b": (TEXT, SIZE), "s": (TEXT,), "r": (ctypes.c_char_p, SIZE), "p": (ctypes.c_void_p,), "u": (U32,), "n": (SIZE,)}
     shapes = {
         "lzk_explain": "bbbbp", "lzk_explain_pieces": "bbbpnp", "lzk_explain_each": "bpn", "lzk_compile": "ubrp", "lzk_circuit_info": "bp",
+        "lzk_sha_circuit": "urp", "lzk_upgrade": "brp",
         "lzk_eval": "bbbp", "lzk_prove": "bbbbsrp", "lzk_desk_open": "pbbb", "lzk_desk_feed": "pb", "lzk_desk_end": "pp", "lzk_desk_free": "p",
     }  # fmt: skip
     for name, shape in shapes.items():

@@ -5,7 +5,7 @@ from __future__ import annotations
 import ctypes
 import secrets
 from types import TracebackType
-from typing import Iterable, List, Optional, Sequence, Tuple, Type, Union
+from typing import Callable, Iterable, List, Optional, Sequence, Tuple, Type, Union
 
 from . import _calls, _errors
 from ._calls import CALLS, Field, Info, Verdict
@@ -37,7 +37,7 @@ def _refuse(found: Union[_calls.Report, _calls.Outcome, _calls.RawInfo]) -> None
     """Raises what an answer means that is neither 0 nor 1."""
     answer, kind = found.answer, found.kind
     if answer == 2:
-        raise _errors.TooLong("a session or a text is too long")
+        raise _errors.TooLong("a session, a text or a message is too long")
     if answer == 3:
         raise _errors.NoCircuit(_errors.CIRCUIT_RULES[kind], found.offset)
     if answer in (4, 9):
@@ -72,6 +72,17 @@ def verdict_of(report: _calls.Report) -> Verdict:
     )
 
 
+def _made(call: Callable[[object, int, object], int]) -> bytes:
+    """What a call puts into a room, which is made as large as it asks for."""
+    size, outcome = 65536, _calls.Outcome()
+    while True:
+        room = ctypes.create_string_buffer(size)
+        if call(room, size, ctypes.byref(outcome)) != 7:
+            _refuse(outcome)
+            return room.raw[: outcome.count]
+        size = outcome.count
+
+
 def compile(source: Union[str, bytes], version: int = 1) -> bytes:
     """The file of a statement's circuit, of version 1 or 2.
 
@@ -80,14 +91,19 @@ def compile(source: Union[str, bytes], version: int = 1) -> bytes:
     if version not in (1, 2):
         raise ValueError("a circuit's version is 1 or 2")
     text = source.encode() if isinstance(source, str) else bytes(source)
-    size, outcome = 65536, _calls.Outcome()
-    while True:
-        room = ctypes.create_string_buffer(size)
-        answer = CALLS.lzk_compile(version, *passed(text), room, size, ctypes.byref(outcome))
-        if answer != 7:
-            _refuse(outcome)
-            return room.raw[: outcome.count]
-        size = outcome.count
+    return _made(lambda room, size, outcome: CALLS.lzk_compile(version, *passed(text), room, size, outcome))
+
+
+def sha_circuit(message_length: int) -> bytes:
+    """The file of the circuit of SHA-256 for messages of so many bytes, 0 to 55. Raises TooLong, NoMemory."""
+    if message_length < 0:
+        raise ValueError("a length is not negative")
+    return _made(lambda room, size, outcome: CALLS.lzk_sha_circuit(min(message_length, 56), room, size, outcome))
+
+
+def upgrade(circuit: bytes) -> bytes:
+    """The file of a circuit in version 2. Raises NoCircuit, NoMemory."""
+    return _made(lambda room, size, outcome: CALLS.lzk_upgrade(*passed(circuit), room, size, outcome))
 
 
 def circuit_info(circuit: bytes) -> Info:

@@ -48,6 +48,30 @@ class Statements(unittest.TestCase):
         self.assertGreater(len(circuit), 65536)
         self.assertEqual(lzk.circuit_info(circuit).checks, 9000)
 
+    def test_upgrade(self):
+        for source in (SQUARE, SQUARE.replace("goldilocks", "gf2_128")):
+            upgraded = lzk.upgrade(lzk.compile(source))
+            self.assertEqual(lzk.circuit_info(upgraded).version, 2)
+            self.assertEqual(lzk.upgrade(upgraded), upgraded)
+            lzk.verify(upgraded, [9 if "gold" in source else 5], lzk.prove(upgraded, [9 if "gold" in source else 5], [3]))
+        with self.assertRaises(lzk.NoCircuit):
+            lzk.upgrade(b"LZC1")
+
+    def test_sha_circuit(self):
+        import hashlib
+
+        from lzk._statements import sha_inputs
+
+        for message in (b"", b"abc", bytes(range(55))):
+            circuit, (public, private) = lzk.sha_circuit(len(message)), sha_inputs(message)
+            self.assertEqual(b"".join(word.to_bytes(4, "big") for word in public), hashlib.sha256(message).digest())
+            lzk.evaluate(circuit, public, private)
+            private[0] ^= 1
+            with self.assertRaises(lzk.Unsatisfied):
+                lzk.evaluate(circuit, public, private)
+        with self.assertRaises(lzk.TooLong):
+            lzk.sha_circuit(56)
+
     def test_no_circuit(self):
         with self.assertRaises(lzk.NoCircuit) as found:
             lzk.circuit_info(b"LZC1\x07")

@@ -1,4 +1,5 @@
-//! Statements for programs in C, and in any language that calls C: compile, show and evaluate.
+//! Statements for programs in C, and in any language that calls C: compile, make a circuit of SHA-256, upgrade, show
+//! and evaluate.
 //!
 //! `include/lzk.h` declares what is here. A caller hands in bytes and room for bytes, and is told what came of it.
 //! Nothing is kept between calls, no thread is started, no file is read, and nothing is printed. No call asks anything
@@ -11,10 +12,12 @@
 #![tactic(auto)]
 
 ghost use Rattle.std.specs.Prelude.{◌≡◌};
-ghost use Rattle.lzk_calls.specs.Exports.{Compiles, Evaluates};
+ghost use Rattle.lzk_calls.specs.Exports.{Compiles, Evaluates, MakesHash, Upgrades};
 ghost use Rattle.lzk_calls.specs.Shown.{Shows};
 
-use lzk_calls::{Info, Outcome, compile_text, evaluate, info_of, outcome_of};
+use lzk_calls::{
+    Info, Outcome, compile_text, evaluate, info_of, make_sha_circuit, outcome_of, upgrade,
+};
 use std::alloc::Global;
 
 /// Compiles a source's text to a circuit's file, in version 1 or 2, and puts it into a room.
@@ -30,6 +33,38 @@ pub extern "C" fn lzk_compile(
     ensures answer { result ≡ outcome.new.answer }
 {
     let told = outcome_of(compile_text(alloc, version, source, room));
+    *outcome = told;
+    told.answer
+}
+
+/// Makes the circuit of SHA-256 for messages of so many bytes, at most 55, and puts its file into a room.
+#[unsafe(no_mangle)]
+pub extern "C" fn lzk_sha_circuit(
+    alloc: Global,
+    len: u32,
+    room: &mut [u8],
+    outcome: &mut Outcome,
+) -> u32
+    ensures told { MakesHash len room.old room.new outcome.new }
+    ensures answer { result ≡ outcome.new.answer }
+{
+    let told = outcome_of(make_sha_circuit(alloc, len, room));
+    *outcome = told;
+    told.answer
+}
+
+/// Puts a circuit's file of version 2 into a room.
+#[unsafe(no_mangle)]
+pub extern "C" fn lzk_upgrade(
+    alloc: Global,
+    circuit: &[u8],
+    room: &mut [u8],
+    outcome: &mut Outcome,
+) -> u32
+    ensures told { Upgrades circuit.now room.old room.new outcome.new }
+    ensures answer { result ≡ outcome.new.answer }
+{
+    let told = outcome_of(upgrade(alloc, circuit, room));
     *outcome = told;
     told.answer
 }

@@ -1,5 +1,5 @@
 -- What a program is told that compiles.
-use Rattle.std.specs.Prelude.{◌≡◌, ◌≢◌, ◌<◌, ◌≤◌, ◌⊎◌, ℕ, List, Option, None, Some, Result, Ok, Err, length}
+use Rattle.std.specs.Prelude.{◌≡◌, ◌≢◌, ◌<◌, ◌≤◌, ◌⊎◌, ℕ, List, Option, None, Some, Result, Err, length}
 use Rattle.lzk_circbytes.specs.declared.any.AnyCircuit.{AnyCircuit}
 use Rattle.lzk_circbytes.specs.Files.{CircuitBytes}
 use Rattle.lzk_expr.specs.Trees.{SourceTree}
@@ -39,7 +39,8 @@ abbrev pub IsUncompiled : Version → List ℕ → Refusal → Type 0
 IsUncompiled version text TooLong = most_text < length text
 IsUncompiled version text (NoSource fault) = (length text ≤ most_text) × IsSourceFault text fault
 IsUncompiled version text (OverLimit fault) =
-    (length text ≤ most_text) × ((source : SourceTree) × SourceText text source × (limit_as version source ≡ Some fault))
+    (length text ≤ most_text)
+    × ((source : SourceTree) × SourceText text source × (limit_as version source ≡ Some fault))
 IsUncompiled version text OutOfMemory = Unit {0}
 IsUncompiled version text other = ⊥
 

@@ -5,7 +5,8 @@ use Rattle.lzk_calls.specs.declared.refusal.Refusal.{Refusal}
 use Rattle.lzk_calls.specs.Outcomes.{outcome_of}
 use Rattle.lzk_calls.specs.Compiled as compiled
 use Rattle.lzk_calls.specs.Evaluated as evaluated
-use Rattle.lzk_calls.specs.Proved as proved
+use Rattle.lzk_calls.specs.Hashed as hashed
+use Rattle.lzk_calls.specs.Upgraded as upgraded
 
 abbrev pub IsOutcome : (Result ℕ Refusal → Type 0) → Outcome → Type 0
 IsOutcome Tells outcome = (told : Result ℕ Refusal) × Tells told × (outcome ≡ outcome_of told)
@@ -16,6 +17,8 @@ Compiles version text old new = IsOutcome (compiled.Compiles version text old ne
 abbrev pub Evaluates : List ℕ → List ℕ → List ℕ → Outcome → Type 0
 Evaluates circuit public private = IsOutcome (evaluated.Evaluates circuit public private)
 
-abbrev pub Proves : List ℕ → List ℕ → List ℕ → List ℕ → List ℕ → List ℕ → List ℕ → Outcome → Type 0
-Proves circuit public private session seed old new =
-    IsOutcome (proved.Proves circuit public private session seed old new)
+abbrev pub Upgrades : List ℕ → List ℕ → List ℕ → Outcome → Type 0
+Upgrades circuit old new = IsOutcome (upgraded.Upgrades circuit old new)
+
+abbrev pub MakesHash : ℕ → List ℕ → List ℕ → Outcome → Type 0
+MakesHash len old new = IsOutcome (hashed.MakesHash len old new)

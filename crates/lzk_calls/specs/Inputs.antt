@@ -1,5 +1,5 @@
 -- A circuit and its inputs, as they are read.
-use Rattle.std.specs.Prelude.{◌≡◌, ◌<◌, ◌≤◌, ◌^◌, ◌⊎◌, ℕ, List, length, map}
+use Rattle.std.specs.Prelude.{◌<◌, ◌≤◌, ◌^◌, ◌⊎◌, ℕ, List, length, map}
 use Rattle.lzk_circbytes.specs.Files.{CircuitFaultAt}
 use Rattle.lzk_circuit.specs.Valid.{Wiring}
 use Rattle.lzk_expr.specs.Numbers.{NumberText, IsNumberFault}
@@ -35,8 +35,8 @@ AreShort session public private =
     (length session ≤ most_session) × ((length public ≤ most_text) × (length private ≤ most_text))
 
 -- these are the inputs of two texts, beside a session; nothing is too long
-pub record AreInputs {A : Type 0} (e : Coding A) (c : Wiring A) (session public private : List ℕ) (publics privates : List A)
-    : Type 0 where
+pub record AreInputs {A : Type 0} (e : Coding A) (c : Wiring A) (session public private : List ℕ)
+    (publics privates : List A) : Type 0 where
   pub short : AreShort session public private
   pub of_public : NumberText e.size c.publics public (map e.number publics)
   pub of_private : NumberText e.size c.privates private (map e.number privates)

@@ -1,7 +1,8 @@
-//! The calls of a program in another language, from bytes to bytes: compile, show, evaluate, prove.
+//! The calls of a program in another language, from bytes to bytes: compile, make a circuit of SHA-256, upgrade, show,
+//! evaluate.
 //!
-//! A caller hands in the bytes of files and texts and room for bytes, and is told what came of it. `lzk_c_calls` exports three
-//! of them to C, and `lzk_c_prove` the fourth. A caller writes
+//! A caller hands in the bytes of files and texts and room for bytes, and is told what came of it. `lzk_c_calls`
+//! exports them to C. The call that proves is `lzk_prove`. A caller writes
 //!
 //! ```text
 //! let told = compile_text(alloc, 1, source, &mut room);
@@ -11,17 +12,21 @@
 
 mod compiling;
 mod evaluating;
+mod hashing;
 mod info;
 mod outcome;
-mod proving;
 mod reading;
 mod refusal;
 mod room;
+mod upgrading;
 mod version;
 
 pub use crate::compiling::compile_text;
 pub use crate::evaluating::evaluate;
+pub use crate::hashing::make_sha_circuit;
 pub use crate::info::{Info, info_of};
 pub use crate::outcome::{Outcome, outcome_of};
-pub use crate::proving::{With, prove};
+pub use crate::reading::{Inputs, circuit_of, inputs_of};
 pub use crate::refusal::Refusal;
+pub use crate::room::put;
+pub use crate::upgrading::upgrade;

@@ -10,7 +10,8 @@ use Rattle.lzk_cmd_files.specs.Lines.{upgraded_line}
 use Rattle.lzk_cmd_files.specs.Seen.{Seen}
 use Rattle.lzk_cmd_files.specs.Walks.{Puts, WalksToPut}
 use Rattle.lzk_cmd_files.proofs.Steps.{at_put}
-use Rattle.lzk_cmd_circuits.specs.Upgraded.{PutsUpgraded, upgraded_any}
+use Rattle.lzk_level.specs.Upgraded.{upgraded_any}
+use Rattle.lzk_cmd_circuits.specs.Upgraded.{PutsUpgraded}
 
 pub puts_upgraded : (c : AnyCircuit) (name bytes given text : List ℕ) (old new : Seen) (r : Result Ending Halt) → CircuitBytes (upgraded_any c) bytes → text ≡ upgraded_line name (length bytes) → given ≡ bytes
     → Puts name given text old new r → WalksToPut (λ files. PutsUpgraded c name) 1 old new r

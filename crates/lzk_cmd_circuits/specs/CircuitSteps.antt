@@ -38,4 +38,5 @@ pub record IsCompiled (version : Version) (source : SourceTree) (circuit bytes t
 abbrev pub Compiles : Version → List ℕ → List ℕ → SourceTree → Result (Vec ℕ Global × String Global) Halt → Type 0
 Compiles version name circuit source (Ok made) = IsCompiled version source circuit made.0.items (string_bytes made.1)
 Compiles version name circuit source (Err halts.Memory) = Unit {0}
-Compiles version name circuit source (Err (halts.End e)) = (found : LevelFault) × (limit_as version source ≡ Some found) × IsEnding (level_refused name found) e
+Compiles version name circuit source (Err (halts.End e)) =
+    (found : LevelFault) × (limit_as version source ≡ Some found) × IsEnding (level_refused name found) e

@@ -15,7 +15,8 @@ use Rattle.lzk_cmd_files.specs.Lines.{compiled_line}
 use Rattle.lzk_cmd_words.specs.declared.words.Version.{Version}
 use Rattle.lzk_cmd_words.specs.declared.words.Version.TheVariants.{One, Two}
 
--- The circuit of version 1 has the source's field and counts, the layers that its nodes need, and on every input the values of its asserts as outputs, one for one; and it is reduced.
+-- The circuit of version 1 has the source's field and counts, the layers that its nodes need, and on every input the
+-- values of its asserts as outputs, one for one; and it is reduced.
 pub record Compiled (source : SourceTree) (c : AnyCircuit) : Type 0 where
   pub version_is : version_of c ≡ 1
   pub field_is : field_of c ≡ source.field_is
@@ -25,8 +26,10 @@ pub record Compiled (source : SourceTree) (c : AnyCircuit) : Type 0 where
   pub outputs : HasSourceValues source.statements c
   pub reduced : HasReducedLayers c
 
--- The circuit of version 2 has the same, but in place of outputs it has checks: as many as the source has asserts, and on every input each assert's check is its value.
--- The asserts' checks stand by depth from the largest, those of one depth in their order, and the first layer has the wires of the two uppermost levels alone.
+-- The circuit of version 2 has the same, but in place of outputs it has checks: as many as the source has asserts, and
+-- on every input each assert's check is its value.
+-- The asserts' checks stand by depth from the largest, those of one depth in their order, and the first layer has the
+-- wires of the two uppermost levels alone.
 pub record CompiledV2 (source : SourceTree) (c : AnyCircuit) : Type 0 where
   pub version_is : version_of c ≡ 2
   pub field_is : field_of c ≡ source.field_is
@@ -63,11 +66,19 @@ compiled_text name c bytes = compiled_line name (depth_of c) (term_total c) byte
 -- the file of some circuit of the source in this version is put, and it is within the limit of circuit files
 abbrev pub PutsCompiled : Version → SourceTree → List ℕ → Stop → End → Type 0
 PutsCompiled version source name stop end =
-    (c : AnyCircuit) × (bytes : List ℕ) × CompiledAs version source c × CircuitBytes c bytes × (length bytes ≤ circuit_limit) × (end ≡ puts stop name bytes (compiled_text name c (length bytes)))
+    (c : AnyCircuit)
+    × (bytes : List ℕ)
+    × CompiledAs version source c
+    × CircuitBytes c bytes
+    × (length bytes ≤ circuit_limit)
+    × (end ≡ puts stop name bytes (compiled_text name c (length bytes)))
 
 -- The walk has a source: it puts the file of a circuit of it, or ends where the source passes a limit.
 abbrev pub CompileTree : Version → List ℕ → List ℕ → SourceTree → Stop → End → Type 0
-CompileTree version source circuit s stop end = MatchOption (limit_as version s) (PutsCompiled version s circuit stop end) (λ fault. end ≡ level_refused source fault)
+CompileTree version source circuit s stop end =
+    MatchOption (limit_as version s) (PutsCompiled version s circuit stop end)
+    (λ fault. end ≡ level_refused source fault)
 
 unfoldable pub CompileRun : Version → List ℕ → List ℕ → Files → Stop → End → Type 0
-CompileRun version source circuit files stop end = At source_files files stop 0 source end (λ s. CompileTree version source circuit s stop end)
+CompileRun version source circuit files stop end =
+    At source_files files stop 0 source end (λ s. CompileTree version source circuit s stop end)

@@ -31,7 +31,9 @@ verdict lines (Some first) = says 1 (lines ++ unsatisfied_line first.0)
 -- what is printed of these checks: those of layer 0 are the circuit's outputs
 abbrev pub Evaluated : {A : Type 0} → Ops A → (A → ℕ) → List A → End → Type 0
 Evaluated {A} o number checks end =
-    (first : Option (ℕ × A)) × IsFirstNonzero o checks first × (end ≡ verdict (output_lines 0 (map number checks)) first)
+    (first : Option (ℕ × A))
+    × IsFirstNonzero o checks first
+    × (end ≡ verdict (output_lines 0 (map number checks)) first)
 
 -- a circuit over a field, on the inputs of two number files
 unfoldable pub EvalOver : {A : Type 0} → Ops A → ℕ → (A → ℕ) → Wiring A → List ℕ → List ℕ → Files → Stop → End → Type 0

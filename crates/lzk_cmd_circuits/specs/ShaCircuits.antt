@@ -13,7 +13,12 @@ use Rattle.lzk_cmd_files.specs.Ends.{End, Stop, puts}
 -- The run puts the file of some circuit for messages of so many bytes, and tells of it. It reads no file.
 unfoldable pub ShaCircuitRun : ℕ → List ℕ → Files → Stop → End → Type 0
 ShaCircuitRun len name files stop end =
-    (c : Wiring GoldElement) × (bytes : List ℕ) × IsShaCircuit len c × CircuitBytes (Gold c) bytes × (length bytes ≤ circuit_limit) × (end ≡ puts stop name bytes (compiled_text name (Gold c) (length bytes)))
+    (c : Wiring GoldElement)
+    × (bytes : List ℕ)
+    × IsShaCircuit len c
+    × CircuitBytes (Gold c) bytes
+    × (length bytes ≤ circuit_limit)
+    × (end ≡ puts stop name bytes (compiled_text name (Gold c) (length bytes)))
 
 -- the bytes are the file of a circuit for messages of so many bytes, and the text tells of it
 pub record IsShaFile (len : ℕ) (name bytes text : List ℕ) : Type 0 where

@@ -41,7 +41,8 @@ fn source_of(alloc: Global, name: &str, text: &[u8]) -> Result<Source, Halt>
 
 // The source in a file.
 fn read_source<S: Shelf>(alloc: Global, shelf: &mut S, name: &str) -> Result<Source, Halt>
-    ensures gives { Gives source_files (λ s. tree_of s) (seen S.Shelf shelf.old) (seen S.Shelf shelf.new) name.now result }
+    ensures gives { Gives source_files (λ s. tree_of s) (seen S.Shelf shelf.old) (seen S.Shelf shelf.new) name.now
+        result }
     ensures reads { OnlyReads (seen S.Shelf shelf.old) (seen S.Shelf shelf.new) }
 {
     let text = read_file(alloc, shelf, name, TEXT_LIMIT)?;
@@ -65,9 +66,11 @@ pub fn file_over<F: Field>(
     circuit: &Circuit<F>,
     name: &str,
 ) -> Result<(Vec<u8>, String), AllocError>
-    ensures file { IfOk result (λ made. IsFile F.ops F.coding.number (shape F.coding.id F.coding.bytes F.coding.size) circuit.now made.0.items) }
+    ensures file { IfOk result (λ made.
+        IsFile F.ops F.coding.number (shape F.coding.id F.coding.bytes F.coding.size) circuit.now made.0.items) }
     ensures text { IfOk result (λ made.
-        string_bytes made.1 ≡ compiled_line name.now (length circuit.now.layers) (term_count circuit.now.layers) (length made.0.items)) }
+        string_bytes made.1
+        ≡ compiled_line name.now (length circuit.now.layers) (term_count circuit.now.layers) (length made.0.items)) }
 {
     let bytes = encode(alloc, circuit)?;
     let terms = count_terms(circuit);
@@ -78,7 +81,8 @@ pub fn file_over<F: Field>(
 // The same over either field.
 fn file_of(alloc: Global, circuit: &AnyCircuit, name: &str) -> Result<(Vec<u8>, String), AllocError>
     ensures file { IfOk result (λ made. CircuitBytes circuit.now made.0.items) }
-    ensures text { IfOk result (λ made. string_bytes made.1 ≡ compiled_text name.now circuit.now (length made.0.items)) }
+    ensures text { IfOk result
+        (λ made. string_bytes made.1 ≡ compiled_text name.now circuit.now (length made.0.items)) }
 {
     match circuit {
         AnyCircuit::Gold(c) => file_over(alloc, c, name),
@@ -143,7 +147,8 @@ pub fn compile_source<R: Threads + Sync, S: Shelf, G: Gate>(
     version: Version,
     shelf: &mut S,
 ) -> Result<Ending, Halt>
-    ensures walks { WalksToPut (CompileRun version source.now circuit.now) 0 (seen S.Shelf shelf.old) (seen S.Shelf shelf.new) result }
+    ensures walks { WalksToPut (CompileRun version source.now circuit.now) 0 (seen S.Shelf shelf.old)
+        (seen S.Shelf shelf.new) result }
     ensures moves { Moves (seen S.Shelf shelf.old) (seen S.Shelf shelf.new) }
 {
     let tree = read_source(means.alloc, shelf, source)?;

@@ -60,7 +60,8 @@ fn evaluate<F: Field>(
 ) -> Result<Ending, Halt>
     requires publics { length publics.now ≡ circuit.now.publics }
     requires privates { length privates.now ≡ circuit.now.privates }
-    ensures { Evaluates F.ops F.coding.number (checks_of F.ops F.coding.number circuit.now.layers (inputs_of F.ops publics.now privates.now)) result }
+    ensures { Evaluates F.ops F.coding.number
+        (checks_of F.ops F.coding.number circuit.now.layers (inputs_of F.ops publics.now privates.now)) result }
 {
     let mut values = Values::new(alloc, circuit)?;
     circuit.eval(publics, privates, &mut values);
@@ -77,8 +78,8 @@ fn eval_over<S: Shelf, F: Field>(
     private: &str,
     shelf: &mut S,
 ) -> Result<Ending, Halt>
-    ensures walks { Walks (EvalOver F.ops F.coding.size F.coding.number circuit.now public.now private.now) 1 (seen S.Shelf shelf.old)
-        (seen S.Shelf shelf.new) result }
+    ensures walks { Walks (EvalOver F.ops F.coding.size F.coding.number circuit.now public.now private.now) 1
+        (seen S.Shelf shelf.old) (seen S.Shelf shelf.new) result }
     ensures reads { OnlyReads (seen S.Shelf shelf.old) (seen S.Shelf shelf.new) }
 {
     let publics = read_elements::<S, F>(alloc, shelf, public, circuit.publics())?;
@@ -94,7 +95,8 @@ fn eval_any<S: Shelf>(
     private: &str,
     shelf: &mut S,
 ) -> Result<Ending, Halt>
-    ensures walks { Walks (EvalAny circuit.now public.now private.now) 1 (seen S.Shelf shelf.old) (seen S.Shelf shelf.new) result }
+    ensures walks { Walks (EvalAny circuit.now public.now private.now) 1 (seen S.Shelf shelf.old)
+        (seen S.Shelf shelf.new) result }
     ensures reads { OnlyReads (seen S.Shelf shelf.old) (seen S.Shelf shelf.new) }
 {
     match circuit {
@@ -111,7 +113,8 @@ pub fn eval<R: Threads + Sync, S: Shelf, G: Gate>(
     private: &str,
     shelf: &mut S,
 ) -> Result<Ending, Halt>
-    ensures walks { Walks (EvalRun circuit.now public.now private.now) 0 (seen S.Shelf shelf.old) (seen S.Shelf shelf.new) result }
+    ensures walks { Walks (EvalRun circuit.now public.now private.now) 0 (seen S.Shelf shelf.old)
+        (seen S.Shelf shelf.new) result }
     ensures reads { OnlyReads (seen S.Shelf shelf.old) (seen S.Shelf shelf.new) }
 {
     let held = read_circuit(means.alloc, shelf, circuit)?;

@@ -45,7 +45,8 @@ pub fn shacircuit<R: Threads + Sync, S: Shelf, G: Gate>(
     shelf: &mut S,
 ) -> Result<Ending, Halt>
     requires number { IsTrue (is_count 55 count.now) }
-    ensures walks { WalksToPut (ShaCircuitRun (number_of count.now) circuit.now) 0 (seen S.Shelf shelf.old) (seen S.Shelf shelf.new) result }
+    ensures walks { WalksToPut (ShaCircuitRun (number_of count.now) circuit.now) 0 (seen S.Shelf shelf.old)
+        (seen S.Shelf shelf.new) result }
     ensures moves { Moves (seen S.Shelf shelf.old) (seen S.Shelf shelf.new) }
     ensures put { EndsAtPut result }
 {

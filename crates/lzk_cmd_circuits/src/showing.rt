@@ -24,9 +24,13 @@ fn shown_text<F: Field>(
     id: &[u8; 32],
     field: &str,
 ) -> Result<String, AllocError>
-    requires id { id.now ≡ circuit_id (shape F.coding.id F.coding.bytes F.coding.size) (numbered F.coding.number circuit.now) }
-    ensures { IfOk result (λ s. string_bytes s ≡ shown field.now
-        (circuit_id (shape F.coding.id F.coding.bytes F.coding.size) (numbered F.coding.number circuit.now)) circuit.now) }
+    requires id { id.now
+        ≡ circuit_id (shape F.coding.id F.coding.bytes F.coding.size) (numbered F.coding.number circuit.now) }
+    ensures { IfOk result (λ s.
+        string_bytes s
+        ≡ shown field.now
+        (circuit_id (shape F.coding.id F.coding.bytes F.coding.size) (numbered F.coding.number circuit.now))
+        circuit.now) }
 {
     let mut text = lines::tell_counts(
         alloc,
@@ -51,9 +55,11 @@ fn ending<F: Field>(
     id: &[u8; 32],
     field: &str,
 ) -> Result<Ending, AllocError>
-    requires id { id.now ≡ circuit_id (shape F.coding.id F.coding.bytes F.coding.size) (numbered F.coding.number circuit.now) }
+    requires id { id.now
+        ≡ circuit_id (shape F.coding.id F.coding.bytes F.coding.size) (numbered F.coding.number circuit.now) }
     ensures { IfOk result (IsEnding (says 0 (shown field.now
-        (circuit_id (shape F.coding.id F.coding.bytes F.coding.size) (numbered F.coding.number circuit.now)) circuit.now))) }
+        (circuit_id (shape F.coding.id F.coding.bytes F.coding.size) (numbered F.coding.number circuit.now))
+        circuit.now))) }
 {
     Ok(Ending {
         status: 0,

@@ -6,7 +6,8 @@ ghost use Rattle.lzk_circbytes.specs.Numbered.{shape};
 ghost use Rattle.lzk_cmd_files.specs.Lines.{upgraded_line};
 ghost use Rattle.lzk_cmd_files.specs.Seen.{seen};
 ghost use Rattle.lzk_cmd_files.specs.Walks.{Moves, WalksToPut};
-ghost use Rattle.lzk_cmd_circuits.specs.Upgraded.{PutsUpgraded, UpgradeRun, in_version_2, upgraded_any};
+ghost use Rattle.lzk_level.specs.Upgraded.{in_version_2, upgraded_any};
+ghost use Rattle.lzk_cmd_circuits.specs.Upgraded.{PutsUpgraded, UpgradeRun};
 
 use lzk_circbytes::{AnyCircuit, encode};
 use lzk_circuit::Circuit;
@@ -19,7 +20,9 @@ use std::thread::Threads;
 
 // The file of the circuit in version 2. It owns the circuit, so that no exit behind it drops one.
 fn bytes_over<F: Field>(alloc: Global, circuit: Circuit<F>) -> Result<Vec<u8>, AllocError>
-    ensures { IfOk result (λ bytes. IsFile F.ops F.coding.number (shape F.coding.id F.coding.bytes F.coding.size) (in_version_2 circuit) bytes.items) }
+    ensures { IfOk result (λ bytes.
+        IsFile F.ops F.coding.number (shape F.coding.id F.coding.bytes F.coding.size) (in_version_2 circuit)
+        bytes.items) }
 {
     let circuit = circuit.upgraded();
     encode(alloc, &circuit)
@@ -52,7 +55,8 @@ fn upgrade_circuit<S: Shelf>(
     name: &str,
     shelf: &mut S,
 ) -> Result<Ending, Halt>
-    ensures walks { WalksToPut (λ files. PutsUpgraded circuit name.now) 1 (seen S.Shelf shelf.old) (seen S.Shelf shelf.new) result }
+    ensures walks { WalksToPut (λ files. PutsUpgraded circuit name.now) 1 (seen S.Shelf shelf.old)
+        (seen S.Shelf shelf.new) result }
     ensures moves { Moves (seen S.Shelf shelf.old) (seen S.Shelf shelf.new) }
 {
     let (bytes, text) = upgraded(alloc, circuit, name)?;

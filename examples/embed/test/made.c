@@ -79,6 +79,7 @@ static long refuse_each(size_t len, const char *which) {
     uint32_t answer = LZK_NULL;
     requests = 0, refused_at = at;
     if (!strcmp(which, "eval")) answer = lzk_eval(circuit, len, T(publics[1]), T(privates[1]), &found);
+    if (!strcmp(which, "upgrade")) answer = lzk_upgrade(circuit, len, room, sizeof room, &found);
     if (!strcmp(which, "compile")) answer = lzk_compile(1, T(sources[0]), room, sizeof room, &found);
     if (!strcmp(which, "info")) answer = lzk_circuit_info(circuit, len, &info);
     if (!strcmp(which, "prove")) answer = prove(len, 1, room, sizeof room, &found);
@@ -161,6 +162,10 @@ int main(int count, char **words) {
        is_outcome(found, LZK_NO_NUMBERS, LZK_NUMBER_TOO_MANY, 1, 0) && lzk_prove(circuit, len, T("1"), T("\nx"), T(""), seed, other, 9, &found) == LZK_NO_PRIVATES &&
        is_outcome(found, LZK_NO_PRIVATES, LZK_NUMBER_SYNTAX, 2, 0) && lzk_prove(proof, proof_len, T("1"), T("1"), T(""), seed, other, 9, &found) == LZK_NO_CIRCUIT &&
        found.kind == LZK_CIRCUIT_MAGIC);
+  told("a circuit of version 2 is put, and one of SHA-256 where there is room",
+       lzk_upgrade(circuit, len, other, sizeof other, &found) == LZK_DONE && lzk_circuit_info(other, found.count, &info) == LZK_DONE && info.version == 2 &&
+       lzk_upgrade(circuit, 3, other, sizeof other, &found) == LZK_NO_CIRCUIT && lzk_sha_circuit(3, other, 9, &found) == LZK_NO_ROOM && found.count > 9 &&
+       lzk_sha_circuit(56, other, 9, &found) == LZK_TOO_LONG && lzk_sha_circuit(3, NULL, 9, &found) == LZK_NULL && lzk_upgrade(NULL, 3, other, 9, &found) == LZK_NULL);
   told("NULL is refused, and is empty where it has no bytes",
        lzk_prove(NULL, 1, T("1"), T("1"), T(""), seed, other, 9, &found) == LZK_NULL && found.answer == LZK_NULL && lzk_prove(circuit, len, T("1"), T("1"), T(""), NULL, other, 9, &found) == LZK_NULL &&
        lzk_prove(circuit, len, T("1"), T("1"), T(""), seed, NULL, 9, &found) == LZK_NULL && lzk_prove(circuit, len, T("1"), T("1"), T(""), seed, other, 9, NULL) == LZK_NULL &&
@@ -196,6 +201,7 @@ int main(int count, char **words) {
 
   told("want of memory is told by lzk_eval", refuse_each(len, "eval") > 5);
   told("want of memory is told by lzk_compile", refuse_each(len, "compile") > 5);
+  told("want of memory is told by lzk_upgrade", refuse_each(len, "upgrade") > 1);
   told("want of memory is told by lzk_circuit_info", refuse_each(len, "info") > 1);
   told("want of memory is told by lzk_prove, and the room is as it was", refuse_each(len, "prove") > 20);
   told("want of memory is told by a desk, which goes on", refuse_desk(len, proof_len) > 20);

@@ -88,7 +88,7 @@ pub enum Error {
 impl fmt::Display for Error {
     fn fmt(&self, f: &mut fmt::Formatter<'_>) -> fmt::Result {
         match self {
-            Error::TooLong => write!(f, "a session or a text is too long"),
+            Error::TooLong => write!(f, "a session, a text or a message is too long"),
             Error::NoCircuit { rule, offset } => write!(f, "circuit at byte {offset}: rule {rule}"),
             Error::NoPublics { rule, line } => {
                 write!(f, "public numbers at line {line}: rule {rule}")
@@ -271,27 +271,13 @@ pub fn fresh_seed() -> io::Result<[u8; 32]> {
     Ok(seed)
 }
 
-/// The file of a statement's circuit.
-///
-/// # Errors
-///
-/// `NoSource`, `OverLimit`, `TooLong`, `NoMemory`.
-pub fn compile(source: &str, version: Version) -> Result<Vec<u8>, Error> {
+// What a call puts into a room, which is made as large as it asks for.
+fn made(call: impl Fn(&mut [u8], &mut raw::Outcome)) -> Result<Vec<u8>, Error> {
     version_fits()?;
     let mut room = vec![0; 65_536];
     loop {
         let mut found = raw::Outcome::default();
-        // Each pointer leads to as many bytes as are said, and nothing else has what is written.
-        unsafe {
-            raw::lzk_compile(
-                version as u32,
-                source.as_ptr(),
-                source.len(),
-                room.as_mut_ptr(),
-                room.len(),
-                &mut found,
-            )
-        };
+        call(&mut room, &mut found);
         if found.answer == 7 {
             room = vec![0; found.count as usize];
             continue;
@@ -299,6 +285,49 @@ pub fn compile(source: &str, version: Version) -> Result<Vec<u8>, Error> {
         room.truncate(done(&found)?);
         return Ok(room);
     }
+}
+
+/// The file of a statement's circuit.
+///
+/// # Errors
+///
+/// `NoSource`, `OverLimit`, `TooLong`, `NoMemory`.
+pub fn compile(source: &str, version: Version) -> Result<Vec<u8>, Error> {
+    let (text, len) = (source.as_ptr(), source.len());
+    // Here and below each pointer leads to as many bytes as are said, and nothing else has what is written.
+    made(|room, found| unsafe {
+        raw::lzk_compile(
+            version as u32,
+            text,
+            len,
+            room.as_mut_ptr(),
+            room.len(),
+            found,
+        );
+    })
+}
+
+/// The file of the circuit of SHA-256 for messages of so many bytes, 0 to 55.
+///
+/// # Errors
+///
+/// `TooLong`, `NoMemory`.
+pub fn sha_circuit(message_len: u32) -> Result<Vec<u8>, Error> {
+    made(|room, found| unsafe {
+        raw::lzk_sha_circuit(message_len, room.as_mut_ptr(), room.len(), found);
+    })
+}
+
+/// The file of a circuit in version 2.
+///
+/// # Errors
+///
+/// `NoCircuit`, `NoMemory`.
+pub fn upgrade(circuit: &[u8]) -> Result<Vec<u8>, Error> {
+    let (bytes, len) = (circuit.as_ptr(), circuit.len());
+    made(|room, found| unsafe {
+        raw::lzk_upgrade(bytes, len, room.as_mut_ptr(), room.len(), found);
+    })
 }
 
 /// What a circuit's file holds.

@@ -69,6 +69,19 @@ extern "C" {
         room_len: usize,
         outcome: *mut Outcome,
     ) -> u32;
+    pub fn lzk_sha_circuit(
+        message_len: u32,
+        room: *mut u8,
+        room_len: usize,
+        outcome: *mut Outcome,
+    ) -> u32;
+    pub fn lzk_upgrade(
+        c: *const u8,
+        cn: usize,
+        room: *mut u8,
+        room_len: usize,
+        outcome: *mut Outcome,
+    ) -> u32;
     pub fn lzk_circuit_info(c: *const u8, cn: usize, info: *mut Info) -> u32;
     pub fn lzk_eval(
         c: *const u8,

@@ -1,4 +1,7 @@
-use lzk::{circuit_info, compile, evaluate, prove, text, verify, Desk, Error, Verdict, Version};
+use lzk::{
+    circuit_info, compile, evaluate, prove, sha_circuit, text, upgrade, verify, Desk, Error,
+    Verdict, Version,
+};
 
 const SQUARE: &str = "field goldilocks\npublic y\nprivate x\nassert x*x = y\n";
 
@@ -52,5 +55,15 @@ fn refuses() -> Result<(), Error> {
         verify(&circuit, b"9", b"", b"")?,
         Verdict::Format { rule: 1, offset: 0 }
     );
+    Ok(())
+}
+
+#[test]
+fn upgrades_and_hashes() -> Result<(), Error> {
+    let upgraded = upgrade(&compile(SQUARE, Version::One)?)?;
+    assert_eq!(upgrade(&upgraded)?, upgraded);
+    assert!(matches!(upgrade(b"LZC1"), Err(Error::NoCircuit { .. })));
+    assert_eq!(circuit_info(&sha_circuit(3)?)?.privates, 8 * 3 + 6376);
+    assert!(matches!(sha_circuit(56), Err(Error::TooLong)));
     Ok(())
 }
