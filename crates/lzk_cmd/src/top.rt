@@ -1,13 +1,12 @@
 //! The top call.
 
 ghost use Rattle.std.specs.Prelude.{◌≡◌, IfOk};
-ghost use Rattle.lzk_cmd_runs.specs.Accepted.{DemoIsAccepted, HashedIsAccepted, HashesAreSatisfied, ProvedIsAccepted};
+ghost use Rattle.lzk_cmd_runs.specs.Accepted.{DemoIsAccepted};
 ghost use Rattle.lzk_cmd_files.specs.Ends.{refused_words};
 ghost use Rattle.lzk_cmd_runs.specs.Made.{ShaCircuitIsMade};
-ghost use Rattle.lzk_cmd_runs.specs.OneEnd.{OneEnd};
+ghost use Rattle.lzk_cmd_runs.specs.Laws.{RunLaws};
 ghost use Rattle.lzk_cmd_runs.specs.Promise.{Promise};
 ghost use Rattle.lzk_cmd_files.specs.Seen.{seen, seen_sink};
-ghost use Rattle.lzk_cmd_runs.specs.SomeEnd.{SomeEnd};
 ghost use Rattle.lzk_cmd_runs.specs.Sights.{before, after, texts};
 ghost use Rattle.lzk_cmd_files.specs.Walks.{Concludes, IsEnding, Moves, Quiet};
 ghost use Rattle.lzk_cmd_runs.specs.RunSteps.{TellsUnread, Works};
@@ -16,8 +15,8 @@ ghost use Rattle.lzk_cmd_words.specs.Words.{LeavesShelf, command_of};
 use lzk_cmd_batch::batch;
 use lzk_cmd_circuits::{compile_source, eval, shacircuit, show, upgrade};
 use lzk_cmd_files::{Ending, Halt, Means, lines, print_ending};
-use lzk_cmd_laws::run_laws;
 use lzk_cmd_prove::{demo, prove, sha256};
+use lzk_cmd_runs::run_laws;
 use lzk_cmd_verify::verify;
 use lzk_cmd_words::{Command, parse_words};
 use lzk_field::Gate;
@@ -110,25 +109,23 @@ pub fn run<R: Threads + Sync, S: Shelf, K: Sink, G: Gate>(
     gate: &G,
 ) -> u8
     // What was seen before, and what stands after.
-    ensures run { Promise (before S.Shelf K.Sink words.now shelf.old out.old) (after S.Shelf K.Sink result shelf.new out.new) }
+    ensures run { Promise (before S.Shelf K.Sink words.now shelf.old out.old)
+        (after S.Shelf K.Sink result shelf.new out.new) }
 
     // Where the words are no command, or one that reads and puts no file, the shelf is as before in every respect.
     ensures untouched { LeavesShelf (command_of (texts words.now)) → shelf.new ≡ shelf.old }
 
-    // Words, files and stop have one end, and have an end.
-    ensures one_end { OneEnd }
-    ensures some_end { SomeEnd }
-
-    // What `prove` and `sha256` put is accepted; over a circuit whose checks are SHA-256's outputs, as one of `shacircuit`, every message satisfies.
-    ensures honest { ProvedIsAccepted }
-    ensures hashed { HashedIsAccepted }
-    ensures satisfied { HashesAreSatisfied }
+    // Words, files and stop have one end, and have an end. What `prove` and `sha256` put is accepted; over a circuit
+    // whose checks are SHA-256's outputs, as one of `shacircuit`, every message satisfies.
+    ensures laws { RunLaws }
 
     // `shacircuit` refuses nothing.
-    ensures made { ShaCircuitIsMade (before S.Shelf K.Sink words.now shelf.old out.old) (after S.Shelf K.Sink result shelf.new out.new) }
+    ensures made { ShaCircuitIsMade (before S.Shelf K.Sink words.now shelf.old out.old)
+        (after S.Shelf K.Sink result shelf.new out.new) }
 
     // What `demo` proves is accepted.
-    ensures demo { DemoIsAccepted (before S.Shelf K.Sink words.now shelf.old out.old) (after S.Shelf K.Sink result shelf.new out.new) }
+    ensures demo { DemoIsAccepted (before S.Shelf K.Sink words.now shelf.old out.old)
+        (after S.Shelf K.Sink result shelf.new out.new) }
 {
     run_laws();
     let means = Means { rt, alloc, gate };

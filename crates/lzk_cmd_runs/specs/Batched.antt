@@ -55,8 +55,8 @@ abbrev pub refused_among : {X F : Type 0} → Format X F → List ℕ → Among 
 refused_among format name TooMany = says 3 (larger_line name total_limit)
 refused_among format name (Own fault) = format.refused name fault
 
--- Files of a format, behind others that have so many bytes: what one means, and how many bytes they all have with it. Its own limit is tested
--- first, then that of all, and its contents after.
+-- Files of a format, behind others that have so many bytes: what one means, and how many bytes they all have with it.
+-- Its own limit is tested first, then that of all, and its contents after.
 abbrev pub among : {X F : Type 0} → ℕ → Format X F → Format (X × ℕ) (Among F)
 among {X} {F} taken format = record {
   limit = format.limit;
@@ -96,7 +96,8 @@ job_line k text = decimal k ++ (codes ": " ++ text)
 
 -- how many jobs were accepted, and how many rejected
 abbrev pub batch_line : ℕ → ℕ → List ℕ
-batch_line accepted rejected = codes "batch: " ++ (decimal accepted ++ (codes " accepted, " ++ (decimal rejected ++ line (codes " rejected"))))
+batch_line accepted rejected =
+    codes "batch: " ++ (decimal accepted ++ (codes " accepted, " ++ (decimal rejected ++ line (codes " rejected"))))
 
 -- the jobs' lines, from job k on
 abbrev pub job_lines : ℕ → List End → List ℕ
@@ -111,28 +112,33 @@ rejected_of ends = count_by (λ end. not (end.status == 0)) ends
 
 -- the end that tells of all jobs: it is done where none was rejected
 abbrev pub batch_end : List End → End
-batch_end ends = says (cond (rejected_of ends == 0) 0 1) (job_lines 1 ends ++ batch_line (accepted_of ends) (rejected_of ends))
+batch_end ends =
+    says (cond (rejected_of ends == 0) 0 1) (job_lines 1 ends ++ batch_line (accepted_of ends) (rejected_of ends))
 
 -- ---- the walk
 
 -- over a job's number and proof files, of which the first is the one behind the k-th
-abbrev pub JobOver : {A : Type 0} → Coding A → Wiring A → Listed → ℕ → ℕ → Files → Stop → End → (JobRead A → ℕ → Type 0) → Type 0
+abbrev pub JobOver : {A : Type 0} → Coding A → Wiring A → Listed → ℕ → ℕ → Files → Stop → End → (JobRead A → ℕ → Type 0)
+    → Type 0
 JobOver e c job k taken files stop end next =
     At (among taken (number_files e.size e.number c.publics)) files stop (k + 1) job.public end (λ publics.
     At (among publics.1 proof_files) files stop (k + 2) job.proof end (λ proof.
     next (record { circuit = c; session = job.session; publics = publics.0; proof = proof.0 }) proof.1))
 
 abbrev pub JobAny : AnyCircuit → Listed → ℕ → ℕ → Files → Stop → End → (AnyRead → ℕ → Type 0) → Type 0
-JobAny (Gold c) job k taken files stop end next = JobOver gold_coding c job k taken files stop end (λ read. next (GoldRead read))
-JobAny (Gf c) job k taken files stop end next = JobOver gf_coding c job k taken files stop end (λ read. next (GfRead read))
+JobAny (Gold c) job k taken files stop end next =
+    JobOver gold_coding c job k taken files stop end (λ read. next (GoldRead read))
+JobAny (Gf c) job k taken files stop end next =
+    JobOver gf_coding c job k taken files stop end (λ read. next (GfRead read))
 
--- Over the files of these jobs, from the k-th file on, where those before have so many bytes and these jobs were read: the files of each job in
--- order, and then it tells how `verify` ends on each.
+-- Over the files of these jobs, from the k-th file on, where those before have so many bytes and these jobs were read:
+-- the files of each job in order, and then it tells how `verify` ends on each.
 abbrev pub JobsRun : List Listed → ℕ → ℕ → List AnyRead → Files → Stop → End → Type 0
 JobsRun [] k taken jobs files stop end = (ends : List End) × AreTold jobs ends × (end ≡ batch_end ends)
 JobsRun (job ∷ list) k taken jobs files stop end =
     At (among taken circuit_files) files stop k job.circuit end (λ circuit.
-    JobAny circuit.0 job k circuit.1 files stop end (λ read taken. JobsRun list (k + 3) taken (jobs ++ read ∷ []) files stop end))
+    JobAny circuit.0 job k circuit.1 files stop end
+    (λ read taken. JobsRun list (k + 3) taken (jobs ++ read ∷ []) files stop end))
 
 unfoldable pub BatchRun : List ℕ → Files → Stop → End → Type 0
 BatchRun list files stop end = At list_files files stop 0 list end (λ entries. JobsRun entries 1 0 [] files stop end)

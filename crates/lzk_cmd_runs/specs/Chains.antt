@@ -8,7 +8,8 @@ use Rattle.lzk_cmd_runs.specs.Complete.{HasSource, HasNumbers}
 use Rattle.lzk_cmd_words.specs.declared.words.Version.{Version}
 use Rattle.lzk_cmd_words.specs.Words.{Eval, Compile, command_of}
 
--- the first words compile a source that is ready, and the second evaluate its circuit on two other files that have its inputs
+-- the first words compile a source that is ready, and the second evaluate its circuit on two other files that have its
+-- inputs
 pub record AreChained (first second : List (List ℕ)) (files : Files) : Type 0 where
   pub source : List ℕ
   pub circuit : List ℕ

@@ -24,10 +24,12 @@ use Rattle.lzk_cmd_words.specs.Words.{Command, Eval, Compile, Upgrade, Show, Pro
 
 -- a file of so many numbers, each below size, is there, within its limit
 abbrev pub HasNumbers : Files → List ℕ → ℕ → ℕ → Type 0
-HasNumbers files name size count = (text : List ℕ) × (list : List ℕ) × HasFile (files name) text_limit text × NumberText size count text list
+HasNumbers files name size count =
+    (text : List ℕ) × (list : List ℕ) × HasFile (files name) text_limit text × NumberText size count text list
 
 abbrev pub HasInputs : {A : Type 0} → ℕ → Files → Wiring A → List ℕ → List ℕ → Type 0
-HasInputs size files c public private = HasNumbers files public size c.publics × HasNumbers files private size c.privates
+HasInputs size files c public private =
+    HasNumbers files public size c.publics × HasNumbers files private size c.privates
 
 abbrev pub HasInputsOf : AnyCircuit → Files → List ℕ → List ℕ → Type 0
 HasInputsOf (Gold c) files public private = HasInputs p files c public private
@@ -65,20 +67,32 @@ pub record IsBatchReady (files : Files) (list : List ℕ) : Type 0 where
   pub each : All (IsJobReady files) jobs
   pub few : sum_by (job_size files) jobs ≤ total_limit
 
--- the files that a command reads are there, within their limits and of their formats, and a circuit that is to be proved for a message has its counts
+-- the files that a command reads are there, within their limits and of their formats, and a circuit that is to be
+-- proved for a message has its counts
 abbrev pub IsReady : Files → Command → Type 0
-IsReady files (Eval circuit public private) = (c : AnyCircuit) × Has circuit_files files circuit c × HasInputsOf c files public private
+IsReady files (Eval circuit public private) =
+    (c : AnyCircuit) × Has circuit_files files circuit c × HasInputsOf c files public private
 IsReady files (Compile source circuit version) = (s : SourceTree) × HasSource files source version s
 IsReady files (Upgrade old new) = (c : AnyCircuit) × Has circuit_files files old c
 IsReady files (Show circuit) = (c : AnyCircuit) × Has circuit_files files circuit c
-IsReady files (Prove circuit public private proof seed session) = (c : AnyCircuit) × Has circuit_files files circuit c × HasInputsOf c files public private
-IsReady files (Verify circuit public proof session) = (c : AnyCircuit) × (bytes : List ℕ) × Has circuit_files files circuit c × HasPublicsOf c files public × Has proof_files files proof bytes
+IsReady files (Prove circuit public private proof seed session) =
+    (c : AnyCircuit) × Has circuit_files files circuit c × HasInputsOf c files public private
+IsReady files (Verify circuit public proof session) =
+    (c : AnyCircuit)
+    × (bytes : List ℕ)
+    × Has circuit_files files circuit c
+    × HasPublicsOf c files public
+    × Has proof_files files proof bytes
 IsReady files (Batch list) = IsBatchReady files list
 IsReady files (Demo count seed) = Unit {0}
 IsReady files (ShaCircuit count circuit) = Unit {0}
-IsReady files (Sha256 circuit proof message seed session) = (c : Wiring GoldElement) × Has circuit_files files circuit (Gold c) × (is_for (length (message_of message)) c ≡ true)
+IsReady files (Sha256 circuit proof message seed session) =
+    (c : Wiring GoldElement)
+    × Has circuit_files files circuit (Gold c)
+    × (is_for (length (message_of message)) c ≡ true)
 
--- the run is done, or its inputs don't satisfy the circuit or its proof is rejected, its text is printed to the end, and its file is put
+-- the run is done, or its inputs don't satisfy the circuit or its proof is rejected, its text is printed to the end,
+-- and its file is put
 pub record Completed (before : Before) (after : After) (files : Files) (text : List ℕ) : Type 0 where
   pub end : End
   pub run : RunOf before.words files Nowhere end
@@ -90,5 +104,7 @@ pub record Completed (before : Before) (after : After) (files : Files) (text : L
 -- where the words are a command, its files are ready and nothing failed, the run completes, or there is no memory
 abbrev pub Completes : Before → After → Files → List ℕ → Type 0
 Completes before after files text =
-    (command : Command) → command_of before.words ≡ Some command → IsReady files command → ¬ ReadFailed before.shelf after.shelf → ¬ PutFailed before.shelf after.shelf → ¬ WriteFailed before.sink after.sink
+    (command : Command) → command_of before.words ≡ Some command → IsReady files command
+    → ¬ ReadFailed before.shelf after.shelf → ¬ PutFailed before.shelf after.shelf
+    → ¬ WriteFailed before.sink after.sink
     → Completed before after files text ⊎ (after.status ≡ 6)

@@ -18,14 +18,18 @@ use Rattle.lzk_cmd_files.specs.Ends.{End, says, Stop}
 use Rattle.lzk_cmd_files.specs.Lines.{demo_line}
 use Rattle.lzk_cmd_verify.specs.Verified.{gold_coding}
 
--- a circuit of the demo's source with n private inputs, the file of its one proof for the empty session and the seed's words, and the verdict on it
+-- a circuit of the demo's source with n private inputs, the file of its one proof for the empty session and the seed's
+-- words, and the verdict on it
 pub record IsDemo (n : ℕ) (seed : List ℕ) (c : Wiring GoldElement) (bytes : List ℕ) : Type 0 where
   pub compiled : Compiled (demo_tree n) (Gold c)
-  pub file : IsProofFile gold.ops gold_coding c [] (demo_public gold.ops n) (demo_private gold.ops n) (words_of (seeded_word seed)) bytes
+  pub file : IsProofFile gold.ops gold_coding c [] (demo_public gold.ops n) (demo_private gold.ops n)
+      (words_of (seeded_word seed)) bytes
   pub accepted : IsVerdict gold.ops gold_coding c [] (demo_public gold.ops n) bytes Accepted
 
--- a proof of so many bytes of these inputs of a circuit, for the empty session and the seed's words, and this one verdict on it
-pub record HasVerdict {A : Type 0} (o : Ops A) (e : Coding A) (c : Wiring A) (publics privates : List A) (seed : List ℕ) (len : ℕ) (verdict : Verdict A) : Type 0 where
+-- a proof of so many bytes of these inputs of a circuit, for the empty session and the seed's words, and this one
+-- verdict on it
+pub record HasVerdict {A : Type 0} (o : Ops A) (e : Coding A) (c : Wiring A) (publics privates : List A) (seed : List ℕ)
+    (len : ℕ) (verdict : Verdict A) : Type 0 where
   pub bytes : List ℕ
   pub long : length bytes ≡ len
   pub file : IsProofFile o e c [] publics privates (words_of (seeded_word seed)) bytes
@@ -38,4 +42,5 @@ demo_end n c bytes = says 0 (demo_line n (length c.layers) (length bytes))
 
 -- The run tells of such a circuit, and of its proof that is accepted. It reads no file, and nothing stops it.
 unfoldable pub DemoRun : ℕ → List ℕ → Files → Stop → End → Type 0
-DemoRun n seed files stop end = (c : Wiring GoldElement) × (bytes : List ℕ) × IsDemo n seed c bytes × (end ≡ demo_end n c bytes)
+DemoRun n seed files stop end =
+    (c : Wiring GoldElement) × (bytes : List ℕ) × IsDemo n seed c bytes × (end ≡ demo_end n c bytes)

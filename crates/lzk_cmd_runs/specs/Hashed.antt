@@ -26,16 +26,21 @@ digest_inputs message = map gold.of_number (digest_words message)
 abbrev pub is_for : ℕ → Wiring GoldElement → Bool
 is_for len c = (c.publics == 8) && (c.privates == private_count len)
 
--- the walk has a circuit of these counts: it proves on the message's digest and the words that lead to it, and tells the digest
+-- the walk has a circuit of these counts: it proves on the message's digest and the words that lead to it, and tells
+-- the digest
 abbrev pub ProvesHash : Wiring GoldElement → List ℕ → List ℕ → List ℕ → List ℕ → Stop → End → Type 0
-ProvesHash c message proof session seed = Proves gold.ops gold_coding c proof (Some (sha256 message)) session seed (digest_inputs message) (sha_private gold.of_number message)
+ProvesHash c message proof session seed =
+    Proves gold.ops gold_coding c proof (Some (sha256 message)) session seed (digest_inputs message)
+    (sha_private gold.of_number message)
 
 -- the walk has a circuit under a name: it proves for the message, or refuses a circuit of other counts or another field
 abbrev pub HashAny : List ℕ → AnyCircuit → List ℕ → List ℕ → List ℕ → List ℕ → Stop → End → Type 0
 HashAny name (Gold c) message proof session seed stop end =
-    MatchBool (is_for (length message) c) (ProvesHash c message proof session seed stop end) (end ≡ says 3 (unfit_line name (length message)))
+    MatchBool (is_for (length message) c) (ProvesHash c message proof session seed stop end)
+    (end ≡ says 3 (unfit_line name (length message)))
 HashAny name (Gf c) message proof session seed stop end = end ≡ says 3 (unfit_line name (length message))
 
 unfoldable pub HashRun : List ℕ → List ℕ → List ℕ → List ℕ → Option (List ℕ) → Files → Stop → End → Type 0
 HashRun circuit proof message seed session files stop end =
-    At circuit_files files stop 0 circuit end (λ c. HashAny circuit c (message_of message) proof (session_of session) (seed_of seed) stop end)
+    At circuit_files files stop 0 circuit end
+    (λ c. HashAny circuit c (message_of message) proof (session_of session) (seed_of seed) stop end)

@@ -4,6 +4,7 @@ pub mod Chains
 pub mod Complete
 pub mod Demo
 pub mod Hashed
+pub mod Laws
 pub mod Made
 pub mod OneEnd
 pub mod Outcome

@@ -40,4 +40,7 @@ AreOne (Some (ShaCircuit count circuit)) stop a b = PutAlike stop circuit a b
 AreOne command stop a b = a ≡ b
 
 abbrev pub OneEnd : Type 0
-OneEnd = (words : List (List ℕ)) (files : Files) (stop : Stop) (a b : End) → RunOf words files stop a → RunOf words files stop b → AreOne (command_of words) stop a b
+OneEnd =
+    (words : List (List ℕ)) (files : Files) (stop : Stop) (a b : End) → RunOf words files stop a
+    → RunOf words files stop b
+    → AreOne (command_of words) stop a b

@@ -35,9 +35,11 @@ pub record Ends (before : Before) (after : After) (files : Files) (text : List �
 -- The end of such a run, or for want of memory nothing.
 abbrev pub Outcome : Before → After → Files → List ℕ → Type 0
 Outcome before after files text =
-    Ends before after files text ⊎ ((after.status ≡ 6) × (after.shelf.files ≡ Some files) × (after.sink.written ≡ Some text))
+    Ends before after files text
+    ⊎ ((after.status ≡ 6) × (after.shelf.files ≡ Some files) × (after.sink.written ≡ Some text))
 
 -- what was printed is a refusal's line
 abbrev pub Refused : Before → After → Type 0
 Refused before after =
-    IfSome before.sink.written (λ text. (line : List ℕ) × IsRefusal (Missed before.shelf after.shelf) line × (after.sink.written ≡ Some (text ++ line)))
+    IfSome before.sink.written (λ text.
+    (line : List ℕ) × IsRefusal (Missed before.shelf after.shelf) line × (after.sink.written ≡ Some (text ++ line)))

@@ -23,19 +23,31 @@ use Rattle.lzk_cmd_verify.specs.Verified.{gold_coding, gf_coding}
 abbrev pub nonzero_end : {A : Type 0} → (A → ℕ) → ℕ × A → End
 nonzero_end number first = says 1 (nonzero_line first.0 (number first.1))
 
--- the file of the proof of the seed's words is put, and it is within the limit of proofs; the line tells of it, and of the digest that it is of, if it is of one
-abbrev pub PutsProof : {A : Type 0} → Ops A → Coding A → Wiring A → List ℕ → Option (List ℕ) → List ℕ → List ℕ → List A → List A → Stop → End → Type 0
+-- the file of the proof of the seed's words is put, and it is within the limit of proofs; the line tells of it, and of
+-- the digest that it is of, if it is of one
+abbrev pub PutsProof : {A : Type 0} → Ops A → Coding A → Wiring A → List ℕ → Option (List ℕ) → List ℕ → List ℕ → List A
+    → List A → Stop → End
+    → Type 0
 PutsProof o e c proof digest session seed publics privates stop end =
-    (bytes : List ℕ) × IsProofFile o e c session publics privates (words_of (seeded_word seed)) bytes × (length bytes ≤ proof_limit) × (end ≡ puts stop proof bytes (told_line proof digest (length bytes)))
+    (bytes : List ℕ)
+    × IsProofFile o e c session publics privates (words_of (seeded_word seed)) bytes
+    × (length bytes ≤ proof_limit)
+    × (end ≡ puts stop proof bytes (told_line proof digest (length bytes)))
 
 -- The walk has its inputs: where all checks are 0 it puts the proof, and otherwise tells the first that is not.
-abbrev pub Proves : {A : Type 0} → Ops A → Coding A → Wiring A → List ℕ → Option (List ℕ) → List ℕ → List ℕ → List A → List A → Stop → End → Type 0
+abbrev pub Proves : {A : Type 0} → Ops A → Coding A → Wiring A → List ℕ → Option (List ℕ) → List ℕ → List ℕ → List A
+    → List A → Stop → End
+    → Type 0
 Proves {A} o e c proof digest session seed publics privates stop end =
-    (first : Option (ℕ × A)) × IsFirstNonzero o (checks_of o e.number c.layers (inputs_of o publics privates)) first
-    × MatchOption first (PutsProof o e c proof digest session seed publics privates stop end) (λ found. end ≡ nonzero_end e.number found)
+    (first : Option (ℕ × A))
+    × IsFirstNonzero o (checks_of o e.number c.layers (inputs_of o publics privates)) first
+    × MatchOption first (PutsProof o e c proof digest session seed publics privates stop end)
+    (λ found. end ≡ nonzero_end e.number found)
 
 -- a proof over a circuit over a field, for a session and a seed, of the inputs of two number files
-unfoldable pub ProveOver : {A : Type 0} → Ops A → Coding A → Wiring A → List ℕ → List ℕ → List ℕ → List ℕ → List ℕ → Files → Stop → End → Type 0
+unfoldable pub ProveOver : {A : Type 0} → Ops A → Coding A → Wiring A → List ℕ → List ℕ → List ℕ → List ℕ → List ℕ
+    → Files → Stop → End
+    → Type 0
 ProveOver o e c public private proof session seed files stop end =
     At (number_files e.size e.number c.publics) files stop 1 public end (λ publics.
     At (number_files e.size e.number c.privates) files stop 2 private end (λ privates.
@@ -47,4 +59,5 @@ ProveAny (Gf c) = ProveOver gf.ops gf_coding c
 
 unfoldable pub ProveRun : List ℕ → List ℕ → List ℕ → List ℕ → List ℕ → Option (List ℕ) → Files → Stop → End → Type 0
 ProveRun circuit public private proof seed session files stop end =
-    At circuit_files files stop 0 circuit end (λ c. ProveAny c public private proof (session_of session) (seed_of seed) files stop end)
+    At circuit_files files stop 0 circuit end
+    (λ c. ProveAny c public private proof (session_of session) (seed_of seed) files stop end)

@@ -30,4 +30,5 @@ CommandRun (Sha256 circuit proof message seed session) = HashRun circuit proof m
 
 -- a run of these words over these files may end so
 abbrev pub RunOf : List (List ℕ) → Files → Stop → End → Type 0
-RunOf words files stop end = MatchOption (command_of words) (end ≡ refused_words) (λ command. CommandRun command files stop end)
+RunOf words files stop end =
+    MatchOption (command_of words) (end ≡ refused_words) (λ command. CommandRun command files stop end)

@@ -19,11 +19,13 @@ Works words old new r = Settles (RunOf words) 0 (command_of words ≡ None) (Put
 
 -- the end of a demo, or there is no memory
 abbrev pub TellsDemo : ℕ → List ℕ → Result Ending Halt → Type 0
-TellsDemo n seed (Ok e) = (c : Wiring GoldElement) × (bytes : List ℕ) × IsDemo n seed c bytes × IsEnding (demo_end n c bytes) e
+TellsDemo n seed (Ok e) =
+    (c : Wiring GoldElement) × (bytes : List ℕ) × IsDemo n seed c bytes × IsEnding (demo_end n c bytes) e
 TellsDemo n seed (Err halts.Memory) = Unit {0}
 TellsDemo n seed (Err (halts.End e)) = ⊥
 
--- of the words of `demo` and `shacircuit`, which read no file, such an end or that of a put, whether or not the shelf tells its files
+-- of the words of `demo` and `shacircuit`, which read no file, such an end or that of a put, whether or not the shelf
+-- tells its files
 abbrev pub OnUnread : Command → Result Ending Halt → Type 0
 OnUnread (Demo count seed) r = TellsDemo (number_of count) (seed_of seed) r
 OnUnread (ShaCircuit count circuit) r = EndsAtPut r

@@ -9,4 +9,5 @@ abbrev pub AreBytes : Files → Type 0
 AreBytes files = (name bytes : List ℕ) → files name ≡ Some bytes → (i : ℕ) → slice_index bytes i < 256
 
 abbrev pub SomeEnd : Type 0
-SomeEnd = (words : List (List ℕ)) (files : Files) (stop : Stop) → AreBytes files → (end : End) × RunOf words files stop end
+SomeEnd =
+    (words : List (List ℕ)) (files : Files) (stop : Stop) → AreBytes files → (end : End) × RunOf words files stop end

@@ -20,7 +20,7 @@ use Rattle.lzk_cmd_words.specs.declared.words.Version.{Version}
 use Rattle.lzk_cmd_words.specs.declared.words.Version.TheVariants.{One, Two}
 use Rattle.lzk_cmd_words.specs.Words.{Eval, Compile}
 use Rattle.lzk_cmd_files.proofs.Laws.{sources}
-use Rattle.lzk_cmd_laws.proofs.Ready.{run_command, ready}
+use Rattle.lzk_cmd_runs.proofs.Ready.{run_command, ready}
 
 -- what never fails has no fault
 pub no_fault : (never : Bool) (before now : ℕ) → IsTrue never → Faulted never before now → ⊥

@@ -12,7 +12,7 @@ use Rattle.lzk_circbytes.specs.Numbered.{Shape, shape, numbered_term, numbered_l
 use Rattle.lzk_circbytes.specs.Reading.{Stop as Left, ◌>>=◌, stops, wiring_at, as_before}
 use Rattle.lzk_circbytes.proofs.Ascending.{Has}
 use Rattle.lzk_circbytes.proofs.FileLaws.{map-reverse, valid_from_fits, file_from_read}
-use Rattle.lzk_circbytes.proofs.Steps.{IsBytes, IsBytes-rest, from, not_refused, passed}
+use Rattle.lzk_circbytes.proofs.Steps.{IsBytes, IsBytes-rest, from, not_refused}
 use Rattle.lzk_circbytes.proofs.Validity.{index_has}
 use Rattle.lzk_circbytes.proofs.Whole.{fault_found}
 use Rattle.lzk_circbytes.proofs.Wirings.{wiring_take}

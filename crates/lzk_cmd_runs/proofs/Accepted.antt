@@ -30,7 +30,6 @@ use Rattle.lzk_sha_circuit.specs.Circuits.{MessagesSatisfy}
 use Rattle.lzk_sha_circuit.specs.Digest.{AreBytes}
 use Rattle.lzk_sha_circuit.specs.Inputs.{sha_private}
 use Rattle.lzk_sha_circuit.specs.Places.{private_count}
-use Rattle.lzk_sha_circuit.proofs.Lookups.{length-sha_private}
 use Rattle.lzk_verify.specs.Verdict.{IsVerdict}
 use Rattle.lzk_verify.specs.declared.verdict.Verdict.TheVariants.{Accepted}
 use Rattle.lzk_cmd_runs.specs.Accepted.{PutsAccepted, PutsAcceptedAny, ProvedIsAccepted, HashedIsAccepted, HasShaOutputs, HasShaChecks, HashesAreSatisfied}
@@ -45,7 +44,7 @@ use Rattle.lzk_cmd_runs.specs.Run.{CommandRun}
 use Rattle.lzk_cmd_verify.specs.Verified.{gold_coding, gf_coding}
 use Rattle.lzk_cmd_words.specs.Words.{Prove, Sha256}
 use Rattle.lzk_cmd_runs.proofs.DemoCounts.{none_nonzero}
-use Rattle.lzk_cmd_runs.proofs.HashCounts.{hash_counts, length-digest}
+use Rattle.lzk_cmd_runs.proofs.HashCounts.{hash_counts, length-digest, length-sha_private}
 use Rattle.lzk_cmd_files.proofs.Laws.{circuits}
 use Rattle.lzk_cmd_words.proofs.Sessions.{message_fits}
 
@@ -163,7 +162,7 @@ sha_checks c len valid fits (inr (version, outputs)) = λ public private publics
 satisfies : MessagesSatisfy → (c : Wiring GoldElement) (message : List ℕ) → length message ≤ 55 → AreBytes message → HasShaChecks (length message) c → (proof session seed : List ℕ) (stop : Stop) (end : End) → ProvesHash c message proof session seed stop end → end.status ≡ 1 → ⊥
 satisfies all c message few bytes is proof session seed stop end (None, first, (xs, file, fits, same)) one = put_status stop proof xs _ (sym (ap (λ (x : End). x.status) same) ∙ one)
 satisfies all c message few bytes is proof session seed stop end (Some found, first, same) one =
-    let checks = is (digest_inputs message) (sha_private gold.of_number message) (length-digest message) (length-sha_private gold.of_number message gold.ops.zero) in
+    let checks = is (digest_inputs message) (sha_private gold.of_number message) (length-digest message) (length-sha_private message) in
     let zeros = all message few bytes in
     none_nonzero gold.ops (checks_of gold.ops gold.number c.layers (inputs_of gold.ops (digest_inputs message) (sha_private gold.of_number message))) found
     (subst (λ (xs : List GoldElement). IsFirstNonzero gold.ops xs None) (sym checks) zeros) first

@@ -34,7 +34,8 @@ use Rattle.lzk_cmd_files.specs.Decoded.{circuit_files, number_files, source_file
 use Rattle.lzk_cmd_files.specs.Ends.{End, Stop, stops_at, says, missing_file, refused_words, puts}
 use Rattle.lzk_cmd_files.specs.Formats.{Format, AtBytes, At}
 use Rattle.lzk_cmd_circuits.specs.ShaCircuits.{ShaCircuitRun}
-use Rattle.lzk_cmd_circuits.specs.Upgraded.{UpgradeRun, PutsUpgraded, upgraded_any}
+use Rattle.lzk_level.specs.Upgraded.{upgraded_any}
+use Rattle.lzk_cmd_circuits.specs.Upgraded.{UpgradeRun, PutsUpgraded}
 use Rattle.lzk_cmd_runs.specs.Hashed.{ProvesHash, HashAny, HashRun, digest_inputs, is_for}
 use Rattle.lzk_cmd_words.specs.Digits.{message_of, seed_of, session_of}
 use Rattle.lzk_cmd_words.specs.Keys.{number_of}

@@ -43,7 +43,8 @@ use Rattle.lzk_cmd_files.specs.Decoded.{circuit_files, number_files, source_file
 use Rattle.lzk_cmd_files.specs.Ends.{End, Stop, AtFile, stops_at, says, missing_file, refused_words, puts}
 use Rattle.lzk_cmd_files.specs.Formats.{Format, HasFile, AtBytes, At}
 use Rattle.lzk_cmd_circuits.specs.ShaCircuits.{ShaCircuitRun}
-use Rattle.lzk_cmd_circuits.specs.Upgraded.{UpgradeRun, PutsUpgraded, upgraded_any}
+use Rattle.lzk_level.specs.Upgraded.{upgraded_any}
+use Rattle.lzk_cmd_circuits.specs.Upgraded.{UpgradeRun, PutsUpgraded}
 use Rattle.lzk_cmd_runs.specs.Hashed.{ProvesHash, HashAny, HashRun, digest_inputs, is_for}
 use Rattle.lzk_cmd_words.specs.Digits.{message_of, seed_of, session_of}
 use Rattle.lzk_cmd_files.specs.Lines.{larger_line, reading_line, told_line, unfit_line, upgraded_line}
@@ -61,7 +62,7 @@ use Rattle.lzk_cmd_runs.proofs.DemoCounts.{length_private, number_fits}
 use Rattle.lzk_cmd_runs.proofs.HashCounts.{count_fits, hash_counts}
 use Rattle.lzk_cmd_runs.proofs.Lists as lists
 use Rattle.lzk_cmd_runs.proofs.Lists.{among_total}
-use Rattle.lzk_cmd_laws.proofs.Total.{circuits_total, numbers_total}
+use Rattle.lzk_cmd_runs.proofs.Total.{circuits_total, numbers_total}
 use Rattle.lzk_complete.specs.Complete.{Complete}
 use Rattle.lzk_demo.specs.Demo.{demo_tree, demo_public, demo_private, InputsSatisfy}
 use Rattle.lzk_demo.proofs.Limits.{demo_publics, demo_privates}

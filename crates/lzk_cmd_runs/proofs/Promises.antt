@@ -15,7 +15,7 @@ use Rattle.lzk_cmd_runs.specs.Sights.{Before, After}
 use Rattle.lzk_cmd_files.specs.Walks.{Concludes, Moves, Quiet, Settled, Prints}
 use Rattle.lzk_cmd_runs.specs.RunSteps.{Works}
 use Rattle.lzk_cmd_words.specs.Words.{PutsFile, command_of}
-use Rattle.lzk_cmd_laws.proofs.Ready.{completes}
+use Rattle.lzk_cmd_runs.proofs.Ready.{completes}
 use Rattle.lzk_cmd_files.proofs.Sights.{where_told, at_told}
 
 -- what is appended where the text is told

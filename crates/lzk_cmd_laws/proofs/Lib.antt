@@ -1,6 +1,0 @@
-pub mod Accepted
-pub mod Alone
-pub mod Exists
-pub mod Promises
-pub mod Ready
-pub mod Total
