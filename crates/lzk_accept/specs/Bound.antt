@@ -6,11 +6,14 @@ use Rattle.lzk_mle.specs.Multilinear.{eq}
 use Rattle.lzk_circuit.specs.declared.layer.Term.{Term}
 use Rattle.lzk_circuit.specs.Wires.{weighed_term}
 
--- its coefficient, or beta for an assertion term, times the weight of its wire, the entry of its wire a, and how its wire b agrees with the point
+-- its coefficient, or beta for an assertion term, times the weight of its wire, the entry of its wire a, and how its
+-- wire b agrees with the point
 abbrev pub counts : {A : Type 0} → Ops A → A → List A → List A → List A → Term A → A
-counts o beta weights firsts rb t = o.times (weighed_term o beta t).coef (o.times (o.times (entry o weights t.g) (entry o firsts t.a)) (eq o t.b rb))
+counts o beta weights firsts rb t =
+    o.times (weighed_term o beta t).coef (o.times (o.times (entry o weights t.g) (entry o firsts t.a)) (eq o t.b rb))
 
 -- the same, with each by its bits: the weight is that of a wire with claims at two points
 abbrev pub counts_at : {A : Type 0} → Ops A → A → A → List A → List A → List A → List A → Term A → A
 counts_at o alpha beta first second ra rb t =
-    o.times (weighed_term o beta t).coef (o.times (o.times (o.plus (eq o t.g first) (o.times alpha (eq o t.g second))) (eq o t.a ra)) (eq o t.b rb))
+    o.times (weighed_term o beta t).coef
+    (o.times (o.times (o.plus (eq o t.g first) (o.times alpha (eq o t.g second))) (eq o t.a ra)) (eq o t.b rb))

@@ -24,7 +24,12 @@ challenges e p t =
     let rows = p.nrow - 3 in
     let lines = p.layers + 1 in
     let squares = 3 * p.layers in
-    record { u = draws e 0 rows t; lambda = draws e rows lines t; mu = draws e (rows + lines) squares t; v = draws e (rows + lines + squares) p.ntriple t }
+    record {
+      u = draws e 0 rows t;
+      lambda = draws e rows lines t;
+      mu = draws e (rows + lines) squares t;
+      v = draws e (rows + lines + squares) p.ntriple t;
+    }
 
 -- the lengths are those of the parameters
 pub record HasShape {A : Type 0} (p : Params) (ch : Challenges A) : Type 0 where
@@ -44,7 +49,8 @@ zero_challenges o p = record {
 
 -- the tape with a proof's four lists of answers written
 abbrev pub with_answers : {A : Type 0} → Coding A → Proof A → TapeState → TapeState
-with_answers e proof t = with_array e proof.quad_tail (with_array e proof.quad_head (with_array e proof.dot (with_array e proof.ldt t)))
+with_answers e proof t =
+    with_array e proof.quad_tail (with_array e proof.quad_head (with_array e proof.dot (with_array e proof.ldt t)))
 
 -- the columns that are opened, drawn behind the answers
 abbrev pub columns : {A : Type 0} → Coding A → Params → Proof A → TapeState → List ℕ
@@ -57,9 +63,14 @@ pub record Transcript (A : Type 0) : Type 0 where
   pub columns : List ℕ
 
 -- the same, of a session, a circuit's id, the public inputs, and a proof's root, sent elements and answers
-unfoldable pub transcript : {A : Type 0} → Ops A → Coding A → Wiring A → List ℕ → List ℕ → List A → Proof A → Transcript A
+unfoldable pub transcript : {A : Type 0} → Ops A → Coding A → Wiring A → List ℕ → List ℕ → List A → Proof A
+    → Transcript A
 transcript o e c session id public proof =
     let start = opening e session id public proof.root in
     let after = after_script o e proof.messages c start in
     let behind = after_draws (challenge_count (params_of c)) after in
-    record { script = script o e proof.messages c start; challenges = challenges e (params_of c) after; columns = columns e (params_of c) proof behind }
+    record {
+      script = script o e proof.messages c start;
+      challenges = challenges e (params_of c) after;
+      columns = columns e (params_of c) proof behind;
+    }

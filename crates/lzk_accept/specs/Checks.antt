@@ -14,26 +14,27 @@ use Rattle.lzk_accept.specs.Combination as combination
 
 -- ---- the linear constraints of a circuit: its residuals for a script and sent elements are zero
 
-module _ {A : Type 0} (o : Ops A) (point : ℕ → A) (c : Wiring A) (public : List A) (s : Script A) (messages : List A) where
-  -- the coefficient of linear constraint i at entry j
-  abbrev pub coefficient_of : ℕ → ℕ → A
-  coefficient_of = linear_coefficient o point c (coefficients o c s) public s messages
+module _ {A : Type 0} (o : Ops A) (point : ℕ → A) (c : Wiring A) (public : List A) (s : Script A) (messages : List A)
+  where
+    -- the coefficient of linear constraint i at entry j
+    abbrev pub coefficient_of : ℕ → ℕ → A
+    coefficient_of = linear_coefficient o point c (coefficients o c s) public s messages
 
-  -- the right side of linear constraint i
-  abbrev pub right_of : ℕ → A
-  right_of = right_side o point c (coefficients o c s) public s messages
+    -- the right side of linear constraint i
+    abbrev pub right_of : ℕ → A
+    right_of = right_side o point c (coefficients o c s) public s messages
 
-  -- the combined coefficient at a row and a position
-  abbrev pub combined_of : Challenges A → ℕ → ℕ → A
-  combined_of ch = combination.combined o c coefficient_of ch
+    -- the combined coefficient at a row and a position
+    abbrev pub combined_of : Challenges A → ℕ → ℕ → A
+    combined_of ch = combination.combined o c coefficient_of ch
 
-  -- the values of a row of combined coefficients
-  abbrev pub combined_row_of : Challenges A → ℕ → List A
-  combined_row_of ch = combination.combined_row o c coefficient_of ch
+    -- the values of a row of combined coefficients
+    abbrev pub combined_row_of : Challenges A → ℕ → List A
+    combined_row_of ch = combination.combined_row o c coefficient_of ch
 
-  -- the sum that is wanted
-  abbrev pub wanted_of : Challenges A → A
-  wanted_of ch = combination.wanted o c right_of ch
+    -- the sum that is wanted
+    abbrev pub wanted_of : Challenges A → A
+    wanted_of ch = combination.wanted o c right_of ch
 
 -- ---- the conditions
 
@@ -69,18 +70,25 @@ module _ {A : Type 0} (o : Ops A) (p : Params) (proof : Proof A) where
 
     -- at the k-th opened column, the low degree answer is row 0 plus the sum of u times each row from row 3 on
     abbrev pub IsLowDegree : List A → ℕ → Type 0
-    IsLowDegree u k = extension o point proof.ldt (point_of k) ≡ o.plus (at_row k 0) (sum_below o (p.nrow - 3) (λ i. o.times (entry o u i) (at_row k (3 + i))))
+    IsLowDegree u k =
+        extension o point proof.ldt (point_of k)
+        ≡ o.plus (at_row k 0) (sum_below o (p.nrow - 3) (λ i. o.times (entry o u i) (at_row k (3 + i))))
 
-    -- at the k-th opened column, the linear answer is row 1 plus the sum, over each row from row 3 on, of the extension of the combined
-    -- coefficients' row times the row
+    -- at the k-th opened column, the linear answer is row 1 plus the sum, over each row from row 3 on, of the extension
+    -- of the combined coefficients' row times the row
     abbrev pub IsLinear : (ℕ → List A) → ℕ → Type 0
-    IsLinear combined_row k = extension o point proof.dot (point_of k)
-        ≡ o.plus (at_row k 1) (sum_below o (p.nrow - 3) (λ i. o.times (extension o point (combined_row (3 + i)) (point_of k)) (at_row k (3 + i))))
+    IsLinear combined_row k =
+        extension o point proof.dot (point_of k)
+        ≡ o.plus (at_row k 1) (sum_below o (p.nrow - 3)
+        (λ i. o.times (extension o point (combined_row (3 + i)) (point_of k)) (at_row k (3 + i))))
 
-    -- at the k-th opened column, the quadratic answer is row 2 plus the sum of v times the product of a triple's first two rows less the third
+    -- at the k-th opened column, the quadratic answer is row 2 plus the sum of v times the product of a triple's first
+    -- two rows less the third
     abbrev pub IsQuadratic : List A → ℕ → Type 0
-    IsQuadratic v k = extension o point quadratic_values (point_of k)
-        ≡ o.plus (at_row k 2) (sum_below o p.ntriple (λ i. o.times (entry o v i) (minus o (o.times (in_triple k i 0) (in_triple k i 1)) (in_triple k i 2))))
+    IsQuadratic v k =
+        extension o point quadratic_values (point_of k)
+        ≡ o.plus (at_row k 2) (sum_below o p.ntriple
+        (λ i. o.times (entry o v i) (minus o (o.times (in_triple k i 0) (in_triple k i 1)) (in_triple k i 2))))
 
 -- a fact of each opened column, by its place
 abbrev pub AtEach : List ℕ → (ℕ → Type 0) → Type 0

@@ -21,7 +21,9 @@ module _ {A : Type 0} (o : Ops A) (c : Wiring A) (coefficient : ℕ → ℕ → 
   -- the sum of lambda i times the coefficient of constraint i at j, over all i, and all j that stand at the place
   abbrev pub from_constraints : ℕ → ℕ → A
   from_constraints row s =
-      sum_below o (depth c + 1) (λ i. sum_where o (committed_count c) (λ j. is_place row s (place_of (params_of c) j)) (λ j. o.times (entry o ch.lambda i) (coefficient i j)))
+      sum_below o (depth c + 1) (λ i.
+      sum_where o (committed_count c) (λ j. is_place row s (place_of (params_of c) j))
+      (λ j. o.times (entry o ch.lambda i) (coefficient i j)))
 
   -- the sum of the challenges whose copy stands at the place
   abbrev pub from_copies : ℕ → ℕ → A
@@ -29,7 +31,8 @@ module _ {A : Type 0} (o : Ops A) (c : Wiring A) (coefficient : ℕ → ℕ → 
 
   -- the sum of the challenges whose committed entry stands at the place
   abbrev pub from_entries : ℕ → ℕ → A
-  from_entries row s = sum_where o (3 * depth c) (λ m. is_place row s (place_of (params_of c) (constrained_at c m))) (entry o ch.mu)
+  from_entries row s =
+      sum_where o (3 * depth c) (λ m. is_place row s (place_of (params_of c) (constrained_at c m))) (entry o ch.mu)
 
   -- the combined coefficient at a row and a position
   unfoldable pub combined : ℕ → ℕ → A

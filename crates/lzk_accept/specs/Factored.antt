@@ -16,9 +16,11 @@ pub record HasRoomFor {A : Type 0} (c : Wiring A) (f : Factored A) : Type 0 wher
 
 -- the sum over the four factors of row i times that of position s, where rows have so many positions
 abbrev pub by_factors : {A : Type 0} → Ops A → ℕ → Factored A → ℕ → ℕ → A
-by_factors o width f i s = sum_below o 4 (λ k. o.times (entry o f.row_factors (k * f.rows + i)) (entry o f.place_factors (k * width + s)))
+by_factors o width f i s =
+    sum_below o 4 (λ k. o.times (entry o f.row_factors (k * f.rows + i)) (entry o f.place_factors (k * width + s)))
 
 -- the factors and the table give this coefficient of each row, from row 3 on, at each position
 pub record GivesCombined {A : Type 0} (o : Ops A) (p : Params) (f : Factored A) (combined : ℕ → ℕ → A) : Type 0 where
   pub private_rows : (i s : ℕ) → i < f.rows → s < p.wr → by_factors o p.wr f i s ≡ combined (3 + i) s
-  pub other_rows : (i s : ℕ) → i < p.nrow - 3 - f.rows → s < p.wr → entry o f.table (i * p.wr + s) ≡ combined (3 + (f.rows + i)) s
+  pub other_rows : (i s : ℕ) → i < p.nrow - 3 - f.rows → s < p.wr
+      → entry o f.table (i * p.wr + s) ≡ combined (3 + (f.rows + i)) s

@@ -16,8 +16,8 @@ use Rattle.lzk_accept.specs.declared.forms.Form.{Form}
 use Rattle.lzk_accept.specs.declared.linear.Factors.{Factors}
 use Rattle.lzk_accept.specs.Residuals.{linear_coefficient, right_side}
 
--- A form for each constraint. Each entry of the committed list is in one constraint's own range, which has its coefficient there from own. The
--- tables have so much room.
+-- A form for each constraint. Each entry of the committed list is in one constraint's own range, which has its
+-- coefficient there from own. The tables have so much room.
 pub record LinearForms (A : Type 0) : Type 0 where
   pub forms : List (Form A)
   pub own : List A
@@ -32,7 +32,8 @@ module _ {A : Type 0} (o : Ops A) where
 
   -- the form of constraint i
   abbrev pub form_at : List (Form A) → ℕ → Form A
-  form_at forms i = slice_index_or forms i (record { start = 0; end = 0; above = 0; first = o.zero; second = o.zero; right = o.zero })
+  form_at forms i =
+      slice_index_or forms i (record { start = 0; end = 0; above = 0; first = o.zero; second = o.zero; right = o.zero })
 
   -- the coefficient of constraint i at entry j
   abbrev pub coefficient : LinearForms A → ℕ → ℕ → A
@@ -49,7 +50,8 @@ own_start c i = cond (nat_lt i (depth c)) (pads_at c i) 0
 abbrev pub own_end : {A : Type 0} → Wiring A → ℕ → ℕ
 own_end c i = cond (nat_lt i (depth c)) (pads_at c (i + 1)) c.privates
 
--- The form has the places of constraint i. The uppermost layer has none above, and its own factors stand in their place.
+-- The form has the places of constraint i. The uppermost layer has none above, and its own factors stand in their
+-- place.
 pub record IsPlacedAt {A : Type 0} (c : Wiring A) (i : ℕ) (form : Form A) : Type 0 where
   pub start : form.start ≡ own_start c i
   pub end : form.end ≡ own_end c i
@@ -79,8 +81,10 @@ abbrev pub source_in : {A : Type 0} → Ops A → List (Form A) → ℕ → ℕ
 source_in o forms m = (form_at o forms (m / 3)).end - 3 + m % 3
 
 -- a form is that of linear constraint i
-pub record IsConstraint {A : Type 0} (o : Ops A) (point : ℕ → A) (c : Wiring A) (q : ℕ → ℕ → ℕ → ℕ → A) (public : List A) (s : Script A) (messages : List A) (i : ℕ) (own : List A) (form : Form A) : Type 0 where
-  pub coefficient : (j : ℕ) → j < committed_count c → coefficient_in o own form j ≡ linear_coefficient o point c q public s messages i j
+pub record IsConstraint {A : Type 0} (o : Ops A) (point : ℕ → A) (c : Wiring A) (q : ℕ → ℕ → ℕ → ℕ → A)
+    (public : List A) (s : Script A) (messages : List A) (i : ℕ) (own : List A) (form : Form A) : Type 0 where
+  pub coefficient : (j : ℕ) → j < committed_count c
+      → coefficient_in o own form j ≡ linear_coefficient o point c q public s messages i j
   pub right : form.right ≡ right_side o point c q public s messages i
 
 module _ {A : Type 0} (o : Ops A) (c : Wiring A) (messages : List A) where
@@ -101,27 +105,38 @@ below_top o x (suc l) = x
 
 -- the coefficient of the inputs' constraint at private input number j: how its wire agrees with the inputs' two points
 abbrev pub private_coefficient : {A : Type 0} → Ops A → Wiring A → Script A → ℕ → A
-private_coefficient o c s j = o.plus (eq o (1 + c.publics + j) (point_a o s (depth c))) (o.times s.gamma (eq o (1 + c.publics + j) (point_b o s (depth c))))
+private_coefficient o c s j =
+    o.plus (eq o (1 + c.publics + j) (point_a o s (depth c)))
+    (o.times s.gamma (eq o (1 + c.publics + j) (point_b o s (depth c))))
 
--- What is written of the inputs' constraint, by the tables of the two points: the private inputs' coefficients from number skip on are these at
--- their wires, and the right side has what the public inputs give, less the two claims.
-pub record IsLastForm {A : Type 0} (o : Ops A) (c : Wiring A) (public : List A) (gamma : A) (above : Factors A) (first second : List A) (skip : ℕ) (own : List A) (form : Form A) : Type 0 where
-  pub privates : (k : ℕ) → skip ≤ k → k < c.privates → entry o own k ≡ o.plus (entry o first (1 + c.publics + k)) (o.times gamma (entry o second (1 + c.publics + k)))
+-- What is written of the inputs' constraint, by the tables of the two points: the private inputs' coefficients from
+-- number skip on are these at their wires, and the right side has what the public inputs give, less the two claims.
+pub record IsLastForm {A : Type 0} (o : Ops A) (c : Wiring A) (public : List A) (gamma : A) (above : Factors A)
+    (first second : List A) (skip : ℕ) (own : List A) (form : Form A) : Type 0 where
+  pub privates : (k : ℕ) → skip ≤ k → k < c.privates
+      → entry o own k ≡ o.plus (entry o first (1 + c.publics + k)) (o.times gamma (entry o second (1 + c.publics + k)))
   pub left : form.first ≡ o.neg o.one
   pub other : form.second ≡ o.neg gamma
   pub right : form.right
-      ≡ o.neg (minus o (minus o (sum_below o (1 + length public) (λ k. o.times (o.plus (entry o first k) (o.times gamma (entry o second k))) (entry o (o.one ∷ public) k))) above.first)
-      (o.times gamma above.second))
+      ≡ o.neg (minus o (minus o (sum_below o (1 + length public)
+      (λ k. o.times (o.plus (entry o first k) (o.times gamma (entry o second k))) (entry o (o.one ∷ public) k)))
+      above.first) (o.times gamma above.second))
 
 -- what is kept from entry number skip on, with the private inputs' coefficients before it
 pub record IsWhole {A : Type 0} (o : Ops A) (c : Wiring A) (s : Script A) (skip : ℕ) (own whole : List A) : Type 0 where
   pub before : (j : ℕ) → j < skip → entry o whole j ≡ private_coefficient o c s j
   pub after : (j : ℕ) → skip ≤ j → j < committed_count c → entry o whole j ≡ entry o own j
 
--- Kept are the linear constraints, but for the inputs' coefficients at the first skip private inputs. Those are how the private inputs agree with
--- the inputs' two points, and no layer's constraint has any there.
-pub record AreRest {A : Type 0} (o : Ops A) (point : ℕ → A) (c : Wiring A) (public : List A) (s : Script A) (messages : List A) (skip : ℕ) (forms : List (Form A)) (own : List A) : Type 0 where
-  pub entries : (i j : ℕ) → i < depth c + 1 → skip ≤ j → j < committed_count c → coefficient_in o own (form_at o forms i) j ≡ linear_coefficient o point c (coefficients o c s) public s messages i j
-  pub rights : (i : ℕ) → i < depth c + 1 → (form_at o forms i).right ≡ right_side o point c (coefficients o c s) public s messages i
-  pub layers : (i j : ℕ) → i < depth c → j < skip → linear_coefficient o point c (coefficients o c s) public s messages i j ≡ o.zero
-  pub inputs : (j : ℕ) → j < skip → linear_coefficient o point c (coefficients o c s) public s messages (depth c) j ≡ private_coefficient o c s j
+-- Kept are the linear constraints, but for the inputs' coefficients at the first skip private inputs. Those are how the
+-- private inputs agree with the inputs' two points, and no layer's constraint has any there.
+pub record AreRest {A : Type 0} (o : Ops A) (point : ℕ → A) (c : Wiring A) (public : List A) (s : Script A)
+    (messages : List A) (skip : ℕ) (forms : List (Form A)) (own : List A) : Type 0 where
+  pub entries : (i j : ℕ) → i < depth c + 1 → skip ≤ j → j < committed_count c
+      → coefficient_in o own (form_at o forms i) j
+      ≡ linear_coefficient o point c (coefficients o c s) public s messages i j
+  pub rights : (i : ℕ) → i < depth c + 1
+      → (form_at o forms i).right ≡ right_side o point c (coefficients o c s) public s messages i
+  pub layers : (i j : ℕ) → i < depth c → j < skip
+      → linear_coefficient o point c (coefficients o c s) public s messages i j ≡ o.zero
+  pub inputs : (j : ℕ) → j < skip
+      → linear_coefficient o point c (coefficients o c s) public s messages (depth c) j ≡ private_coefficient o c s j

@@ -36,7 +36,8 @@ module _ {A : Type 0} (o : Ops A) where
     inputs_at public w r = tilde o (inputs_of o public (take c.privates w)) r
 
     module _ (messages : List A) where
-      -- the first claim with which a layer begins: zero at layer 0, and below it the first padded factor of the layer above
+      -- the first claim with which a layer begins: zero at layer 0, and below it the first padded factor of the layer
+      -- above
       abbrev pub claim_a : List A → ℕ → A
       claim_a w zero = o.zero
       claim_a w (suc l) = padded messages w (factors_sent_at c l) (factors_at c l)
@@ -46,7 +47,8 @@ module _ {A : Type 0} (o : Ops A) where
       claim_b w zero = o.zero
       claim_b w (suc l) = padded messages w (factors_sent_at c l + 1) (factors_at c l + 1)
 
-      -- s0 * s1 + s0 * d1 + s1 * d0 + e, of layer l's sent factors and the three entries of w that stand for their pads and the pads' product
+      -- s0 * s1 + s0 * d1 + s1 * d0 + e, of layer l's sent factors and the three entries of w that stand for their pads
+      -- and the pads' product
       abbrev pub product_at : List A → ℕ → A
       product_at w l =
           let s0 = entry o messages (factors_sent_at c l) in
@@ -59,25 +61,28 @@ module _ {A : Type 0} (o : Ops A) where
 module _ {A : Type 0} (o : Ops A) (point : ℕ → A) (c : Wiring A) where
   -- the claim of layer l after n rounds
   unfoldable pub claim_after : Script A → List A → List A → ℕ → ℕ → A
-  claim_after s messages w l zero = o.plus (claim_a o c messages w l) (o.times (layer_at o s l).alpha (claim_b o c messages w l))
+  claim_after s messages w l zero =
+      o.plus (claim_a o c messages w l) (o.times (layer_at o s l).alpha (claim_b o c messages w l))
   claim_after s messages w l (suc n) =
       let i = sent_at c l + 2 * n in
       let j = pads_at c l + 2 * n in
-      next_claim o point (claim_after s messages w l n) (padded o messages w i j) (padded o messages w (i + 1) (j + 1)) (challenge_at o s l n)
+      next_claim o point (claim_after s messages w l n) (padded o messages w i j) (padded o messages w (i + 1) (j + 1))
+      (challenge_at o s l n)
 
   module _ (q : ℕ → ℕ → ℕ → ℕ → A) (public : List A) (s : Script A) (messages : List A) where
-    -- the i-th residual: for a layer the claim after its rounds, less what the factors give; behind the last layer what the inputs give, less its claims
+    -- the i-th residual: for a layer the claim after its rounds, less what the factors give; behind the last layer what
+    -- the inputs give, less its claims
     unfoldable pub residual : List A → ℕ → A
     residual w i =
-        cond (nat_lt i (depth c))
-        (minus o (claim_after s messages w i (round_count c i)) (o.times (bound_at o c q s i) (product_at o c messages w i)))
-        (minus o
-        (minus o (o.plus (inputs_at o c public w (point_a o s i)) (o.times s.gamma (inputs_at o c public w (point_b o s i)))) (claim_a o c messages w i))
-        (o.times s.gamma (claim_b o c messages w i)))
+        cond (nat_lt i (depth c)) (minus o (claim_after s messages w i (round_count c i))
+        (o.times (bound_at o c q s i) (product_at o c messages w i))) (minus o (minus o
+        (o.plus (inputs_at o c public w (point_a o s i)) (o.times s.gamma (inputs_at o c public w (point_b o s i))))
+        (claim_a o c messages w i)) (o.times s.gamma (claim_b o c messages w i)))
 
     -- the coefficient of linear constraint i at entry j: what a one there changes
     abbrev pub linear_coefficient : ℕ → ℕ → A
-    linear_coefficient i j = minus o (residual (unit o (committed_count c) j) i) (residual (zeros o (committed_count c)) i)
+    linear_coefficient i j =
+        minus o (residual (unit o (committed_count c) j) i) (residual (zeros o (committed_count c)) i)
 
     -- the right side of linear constraint i
     abbrev pub right_side : ℕ → A

@@ -40,7 +40,9 @@ fn eq_of<F: Field>(number: u32, r: &[F]) -> F
 fn add_multiple<F: Field>(sums: &mut [F], by: F, list: &[F])
     requires { length list.now ≡ length sums.old }
     ensures length { length sums.new ≡ length sums.old }
-    ensures entries { let o = F.ops in (i : ℕ) → i < length sums.old → entry o sums.new i ≡ o.plus (entry o sums.old i) (o.times by (entry o list.now i)) }
+    ensures entries { let o = F.ops in
+        (i : ℕ) → i < length sums.old
+        → entry o sums.new i ≡ o.plus (entry o sums.old i) (o.times by (entry o list.now i)) }
 {
     for i in 0..sums.len() {
         sums[i] = sums[i].add(by.mul(list[i]));
@@ -62,8 +64,8 @@ fn set_weights<F: Field>(alpha: F, first: &[F], second: &[F], weights: &mut [F],
     add_multiple(weights, alpha, room);
 }
 
-// What a term counts: its coefficient times its wire's weight and how its two wires below agree with the challenges, the first by a table and the
-// second by its bits.
+// What a term counts: its coefficient times its wire's weight and how its two wires below agree with the challenges,
+// the first by a table and the second by its bits.
 fn count_of<F: Field>(term: Term<F>, beta: F, weights: &[F], firsts: &[F], rb: &[F]) -> F
     requires wire { term.g < length weights.now }
     requires first { term.a < length firsts.now }
@@ -76,7 +78,8 @@ fn count_of<F: Field>(term: Term<F>, beta: F, weights: &[F], firsts: &[F], rb: &
 
 // The sum of that over the terms.
 fn sum_terms<F: Field>(terms: &[Term<F>], beta: F, weights: &[F], firsts: &[F], rb: &[F]) -> F
-    requires { (i : ℕ) (t : declared.Term F) → slice_get terms.now i ≡ Some t → (t.g < length weights.now) × (t.a < length firsts.now) }
+    requires { (i : ℕ) (t : declared.Term F) → slice_get terms.now i ≡ Some t
+        → (t.g < length weights.now) × (t.a < length firsts.now) }
     ensures { result ≡ sum_list F.ops terms.now (counts F.ops beta weights.now firsts.now rb.now) }
 {
     let mut sum = F::zero();
@@ -86,8 +89,8 @@ fn sum_terms<F: Field>(terms: &[Term<F>], beta: F, weights: &[F], firsts: &[F], 
     sum
 }
 
-// The sum over the terms, of each coefficient times the weight of its wire, which has claims at two points, and times how its two wires below
-// agree with the challenges.
+// The sum over the terms, of each coefficient times the weight of its wire, which has claims at two points, and times
+// how its two wires below agree with the challenges.
 #[tactic(auto, using(crate::proofs::ShapeLaws::power_small))]
 fn sum_at<F: Field>(
     terms: &[Term<F>],
@@ -102,7 +105,8 @@ fn sum_at<F: Field>(
     requires few { length first.now ≤ 17 }
     requires few_below { length ra.now ≤ 17 }
     requires points { length second.now ≡ length first.now }
-    requires terms { (i : ℕ) (t : declared.Term F) → slice_get terms.now i ≡ Some t → (t.g < 2 ^ length first.now) × (t.a < 2 ^ length ra.now) }
+    requires terms { (i : ℕ) (t : declared.Term F) → slice_get terms.now i ≡ Some t
+        → (t.g < 2 ^ length first.now) × (t.a < 2 ^ length ra.now) }
     requires room { length room.old ≡ 262144 }
     ensures value { result ≡ sum_list F.ops terms.now (counts_at F.ops alpha beta first.now second.now ra.now rb.now) }
     ensures room { length room.new ≡ length room.old }

@@ -151,7 +151,8 @@ pub(crate) fn after_rounds<F: Field>(
     requires shape { HasShape circuit.now script.now }
     requires messages { length messages.now ≡ sent_counts circuit.now }
     requires w { length w.now ≡ committed_count circuit.now }
-    ensures { result ≡ claim_after F.ops F.coding.element circuit.now script.now messages.now w.now l (round_count circuit.now l) }
+    ensures { result
+        ≡ claim_after F.ops F.coding.element circuit.now script.now messages.now w.now l (round_count circuit.now l) }
 {
     let layer = layer_of(circuit, script, l);
     let ra = layer.ra.as_slice();
@@ -169,8 +170,8 @@ pub(crate) fn after_rounds<F: Field>(
     claim
 }
 
-/// What the two factors of layer `l` give with their pads, the third of the layer's last entries of `w` standing for the
-/// pads' product.
+/// What the two factors of layer `l` give with their pads, the third of the layer's last entries of `w` standing for
+/// the pads' product.
 pub(crate) fn product_of<F: Field>(circuit: &Circuit<F>, messages: &[F], w: &[F], l: u32) -> F
     requires layer { l < depth circuit.now }
     requires messages { length messages.now ≡ sent_counts circuit.now }

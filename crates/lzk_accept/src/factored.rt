@@ -23,10 +23,10 @@ use lzk_mle::eq_table;
 use lzk_sumcheck::{Script, entry_at};
 use std::alloc::{AllocError, Global};
 
-/// Room for the combined coefficients of a circuit's constraints, and these coefficients. The rows that private inputs fill come
-/// first, from row 3 on. The coefficient of such a row at a position is the sum of four products, of a factor of the row and one
-/// of the position: private inputs are numbered through the rows, and how a number agrees with a point is a product of what its
-/// upper and its lower bits give.
+/// Room for the combined coefficients of a circuit's constraints, and these coefficients. The rows that private inputs
+/// fill come first, from row 3 on. The coefficient of such a row at a position is the sum of four products, of a factor
+/// of the row and one of the position: private inputs are numbered through the rows, and how a number agrees with a
+/// point is a product of what its upper and its lower bits give.
 #[derive(Drop)]
 pub struct Factored<F> {
     /// How many rows private inputs fill.
@@ -40,7 +40,8 @@ pub struct Factored<F> {
 }
 
 impl<F: Field> Factored<F> {
-    /// Room for this circuit's constraints. What it holds means nothing before it is set. `Err` where there is no memory for it.
+    /// Room for this circuit's constraints. What it holds means nothing before it is set. `Err` where there is no
+    /// memory for it.
     pub fn new(alloc: Global, circuit: &Circuit<F>) -> Result<Factored<F>, AllocError>
         ensures room { IfOk result (λ factored. HasRoomFor circuit.now factored) }
     {
@@ -57,12 +58,15 @@ impl<F: Field> Factored<F> {
     }
 }
 
-// Sets two factors for each row: the multiples of a table's entries from number `high` on, and those of the next entries.
+// Sets two factors for each row: the multiples of a table's entries from number `high` on, and those of the next
+// entries.
 fn set_row_factors<F: Field>(table: &[F], by: F, high: usize, rows: usize, factors: &mut [F])
     requires few { high ≤ 131072 }
     requires room { length factors.old ≡ 2 * rows }
-    ensures here { let o = F.ops in (i : ℕ) → i < rows → entry o factors.new i ≡ o.times by (entry o table.now (high + i)) }
-    ensures next { let o = F.ops in (i : ℕ) → i < rows → entry o factors.new (rows + i) ≡ o.times by (entry o table.now (high + i + 1)) }
+    ensures here { let o = F.ops in
+        (i : ℕ) → i < rows → entry o factors.new i ≡ o.times by (entry o table.now (high + i)) }
+    ensures next { let o = F.ops in
+        (i : ℕ) → i < rows → entry o factors.new (rows + i) ≡ o.times by (entry o table.now (high + i + 1)) }
 {
     for i in 0..rows {
         factors[i] = by.mul(entry_at(table, high + i));
@@ -70,15 +74,18 @@ fn set_row_factors<F: Field>(table: &[F], by: F, high: usize, rows: usize, facto
     }
 }
 
-// Sets two factors for each position: the table's entries from number `low` on, with zeros past its end, and zeros, with the
-// table's first entries behind them.
+// Sets two factors for each position: the table's entries from number `low` on, with zeros past its end, and zeros,
+// with the table's first entries behind them.
 fn set_place_factors<F: Field>(table: &[F], low: usize, factors: &mut [F])
     requires low { low ≤ length table.now }
     requires few { length table.now ≤ 131072 }
     requires room { length factors.old ≡ 2 * length table.now }
-    ensures here { let o = F.ops in (s : ℕ) → s < length table.now → entry o factors.new s ≡ entry o table.now (low + s) }
-    ensures next { let o = F.ops in (s : ℕ) → s < length table.now →
-        entry o factors.new (length table.now + s) ≡ cond (nat_lt (low + s) (length table.now)) o.zero (entry o table.now (low + s - length table.now)) }
+    ensures here { let o = F.ops in
+        (s : ℕ) → s < length table.now → entry o factors.new s ≡ entry o table.now (low + s) }
+    ensures next { let o = F.ops in
+        (s : ℕ) → s < length table.now
+        → entry o factors.new (length table.now + s)
+        ≡ cond (nat_lt (low + s) (length table.now)) o.zero (entry o table.now (low + s - length table.now)) }
 {
     let width = table.len();
     for s in 0..width {
@@ -100,7 +107,8 @@ struct Taken {
     bits: u32,
 }
 
-// Sets two factors for each row and each position, whose products sum to a multiple of how the rows' numbers agree with a point.
+// Sets two factors for each row and each position, whose products sum to a multiple of how the rows' numbers agree with
+// a point.
 fn set_point_factors<F: Field>(
     r: &[F],
     by: F,
@@ -152,8 +160,12 @@ fn set_both_factors<F: Field>(
     requires high { 2 ^ length ra.now ≤ length high.old }
     requires row_factors { length row_factors.old ≡ 4 * taken.rows }
     requires place_factors { length place_factors.old ≡ 4 * 2 ^ taken.bits }
-    ensures { let o = F.ops in (i s : ℕ) → i < taken.rows → s < 2 ^ taken.bits → let n = taken.first + (i * 2 ^ taken.bits + s) in
-        sum_below o 4 (λ k. o.times (entry o row_factors.new (k * taken.rows + i)) (entry o place_factors.new (k * 2 ^ taken.bits + s)))
+    ensures { let o = F.ops in
+        (i s : ℕ) → i < taken.rows → s < 2 ^ taken.bits
+        → let n = taken.first + (i * 2 ^ taken.bits + s) in
+        sum_below o 4 (λ k.
+        o.times (entry o row_factors.new (k * taken.rows + i))
+        (entry o place_factors.new (k * 2 ^ taken.bits + s)))
         ≡ o.times by (o.plus (eq o n ra.now) (o.times gamma (eq o n rb.now))) }
 {
     let (rows_a, rows_b) = row_factors.split_at_mut(2 * taken.rows);
@@ -180,8 +192,10 @@ fn set_private_factors<F: Field>(
     requires row_factors { length row_factors.old ≡ 4 * rows }
     requires place_factors { length place_factors.old ≡ 4 * 2 ^ bits }
     ensures forms { forms.new ≡ forms.old }
-    ensures products { let o = F.ops in (i s : ℕ) → i < rows → s < 2 ^ bits →
-        sum_below o 4 (λ k. o.times (entry o row_factors.new (k * rows + i)) (entry o place_factors.new (k * 2 ^ bits + s)))
+    ensures products { let o = F.ops in
+        (i s : ℕ) → i < rows → s < 2 ^ bits
+        → sum_below o 4
+        (λ k. o.times (entry o row_factors.new (k * rows + i)) (entry o place_factors.new (k * 2 ^ bits + s)))
         ≡ o.times by (private_coefficient o circuit.now script.now (i * 2 ^ bits + s)) }
 {
     if rows == 0 {
@@ -229,12 +243,19 @@ fn fill<F: Field>(
     requires room { HasRoomFor circuit.now factored.old }
     ensures forms { AreFormsOf F.ops circuit.now forms.new }
     ensures room { HasRoomFor circuit.now factored.new }
-    ensures combined { let o = F.ops in let p = params_of circuit.now in (public messages : List F) →
-        AreRest o F.coding.element circuit.now public script.now messages (factored.old.rows * p.wr) forms.old.forms forms.old.own →
-        GivesCombined o p factored.new (combined_of o F.coding.element circuit.now public script.now messages challenges.now) }
-    ensures wanted { let o = F.ops in let p = params_of circuit.now in (public messages : List F) →
-        AreRest o F.coding.element circuit.now public script.now messages (factored.old.rows * p.wr) forms.old.forms forms.old.own →
-        result ≡ wanted_of o F.coding.element circuit.now public script.now messages challenges.now }
+    ensures combined { let o = F.ops in
+        let p = params_of circuit.now in
+        (public messages : List F)
+        → AreRest o F.coding.element circuit.now public script.now messages (factored.old.rows * p.wr) forms.old.forms
+        forms.old.own
+        → GivesCombined o p factored.new
+        (combined_of o F.coding.element circuit.now public script.now messages challenges.now) }
+    ensures wanted { let o = F.ops in
+        let p = params_of circuit.now in
+        (public messages : List F)
+        → AreRest o F.coding.element circuit.now public script.now messages (factored.old.rows * p.wr) forms.old.forms
+        forms.old.own
+        → result ≡ wanted_of o F.coding.element circuit.now public script.now messages challenges.now }
 {
     let params = Params::of(circuit);
     let rows = factored.rows;
@@ -262,9 +283,10 @@ fn fill<F: Field>(
     wanted
 }
 
-/// Combines all constraints into one, with the challenges as factors. Sets the factors of the rows that private inputs fill and the
-/// coefficients of the other rows, and gives the sum that is wanted of them. Each private input that stands in a filled row costs
-/// nothing. The forms are left with the constraints but for these inputs' coefficients. No memory is taken.
+/// Combines all constraints into one, with the challenges as factors. Sets the factors of the rows that private inputs
+/// fill and the coefficients of the other rows, and gives the sum that is wanted of them. Each private input that
+/// stands in a filled row costs nothing. The forms are left with the constraints but for these inputs' coefficients. No
+/// memory is taken.
 ///
 /// ```text
 /// let mut forms = Forms::new(alloc, &circuit)?;
@@ -290,7 +312,8 @@ pub fn combine_factored<F: Field>(
     ensures room { HasRoomFor circuit.now factored.new }
     ensures combined { GivesCombined F.ops (params_of circuit.now) factored.new
         (combined_of F.ops F.coding.element circuit.now public.now script.now messages.now challenges.now) }
-    ensures wanted { result ≡ wanted_of F.ops F.coding.element circuit.now public.now script.now messages.now challenges.now }
+    ensures wanted { result
+        ≡ wanted_of F.ops F.coding.element circuit.now public.now script.now messages.now challenges.now }
 {
     let skip = filled_inputs(circuit, factored.rows);
     rest_forms(circuit, public, script, messages, skip, forms);
@@ -319,7 +342,8 @@ pub fn combine_with_bounds<F: Field>(
     ensures room { HasRoomFor circuit.now factored.new }
     ensures combined { GivesCombined F.ops (params_of circuit.now) factored.new
         (combined_of F.ops F.coding.element circuit.now public.now script.now messages.now challenges.now) }
-    ensures wanted { result ≡ wanted_of F.ops F.coding.element circuit.now public.now script.now messages.now challenges.now }
+    ensures wanted { result
+        ≡ wanted_of F.ops F.coding.element circuit.now public.now script.now messages.now challenges.now }
 {
     let skip = filled_inputs(circuit, factored.rows);
     rest_with_bounds(circuit, public, script, messages, bounds, skip, forms);

@@ -14,8 +14,8 @@ use std::marker::Model;
 /// What is kept of a linear constraint beside the coefficients of its own range.
 #[derive(Clone, Copy)]
 pub struct Form<F> {
-    /// Where its own range begins in the committed list: at a layer's first pad, and of the inputs' constraint at the first
-    /// private input.
+    /// Where its own range begins in the committed list: at a layer's first pad, and of the inputs' constraint at the
+    /// first private input.
     pub start: u32,
     /// Where that range ends.
     pub end: u32,
@@ -29,8 +29,8 @@ pub struct Form<F> {
     pub right: F,
 }
 
-/// Room for the linear constraints of a circuit: one for each layer, and one for the inputs. What is kept is linear in the
-/// committed list.
+/// Room for the linear constraints of a circuit: one for each layer, and one for the inputs. What is kept is linear in
+/// the committed list.
 #[derive(Drop)]
 pub struct Forms<F> {
     pub(crate) forms: Vec<Form<F>>,
@@ -49,14 +49,18 @@ impl<F> Model for Forms<F> {
 
     ghost view = { λ f. record { forms = f.forms.items; own = f.own.items; room = length f.weights.items } };
 
-    ghost invariant = { λ f. (length f.first.items ≡ length f.weights.items) × (length f.second.items ≡ length f.weights.items) ×
-        (length f.bounds.items + 1 ≡ length f.forms.items) };
+    ghost invariant = { λ f.
+        (length f.first.items ≡ length f.weights.items)
+        × (length f.second.items ≡ length f.weights.items)
+        × (length f.bounds.items + 1 ≡ length f.forms.items) };
 }
 
 impl<F: Field> Form<F> {
     // The coefficient at entry j, but for its own range.
     fn at_factor(self, j: u32) -> F
-        ensures { result ≡ F.ops.plus (cond (j == self.above) self.first F.ops.zero) (cond (j == self.above + 1) self.second F.ops.zero) }
+        ensures { result
+            ≡ F.ops.plus (cond (j == self.above) self.first F.ops.zero)
+            (cond (j == self.above + 1) self.second F.ops.zero) }
     {
         let first = if j == self.above {
             self.first
@@ -74,7 +78,15 @@ impl<F: Field> Form<F> {
 
 // A form with no coefficients.
 fn empty<F: Field>(start: u32, end: u32, above: u32) -> Form<F>
-    ensures { result ≡ record { start = start; end = end; above = above; first = F.ops.zero; second = F.ops.zero; right = F.ops.zero } }
+    ensures { result
+        ≡ record {
+          start = start;
+          end = end;
+          above = above;
+          first = F.ops.zero;
+          second = F.ops.zero;
+          right = F.ops.zero;
+        } }
 {
     Form {
         start,
@@ -89,7 +101,8 @@ fn empty<F: Field>(start: u32, end: u32, above: u32) -> Form<F>
 // A form for each constraint, in its place.
 fn empty_forms<F: Field>(alloc: Global, circuit: &Circuit<F>) -> Result<Vec<Form<F>>, AllocError>
     ensures count { IfOk result (λ forms. length forms.items ≡ depth circuit.now + 1) }
-    ensures places { IfOk result (λ forms. (i : ℕ) → i < depth circuit.now + 1 → IsPlacedAt circuit.now i (form_at F.ops forms.items i)) }
+    ensures places { IfOk result
+        (λ forms. (i : ℕ) → i < depth circuit.now + 1 → IsPlacedAt circuit.now i (form_at F.ops forms.items i)) }
 {
     let depth = circuit.depth();
     let mut forms = Vec::with_capacity(alloc, depth as usize + 1)?;
@@ -120,8 +133,8 @@ impl<F: Field> Forms<F> {
         })
     }
 
-    /// The coefficient of constraint `i` at entry `j` of the committed list. The layers' constraints come first, and the
-    /// inputs' last.
+    /// The coefficient of constraint `i` at entry `j` of the committed list. The layers' constraints come first, and
+    /// the inputs' last.
     pub fn coefficient(&self, i: u32, j: u32) -> F
         requires constraint { i < length self.now.forms }
         requires entry { j < length self.now.own }

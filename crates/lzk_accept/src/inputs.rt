@@ -26,8 +26,8 @@ fn extension_of<F: Field>(values: &[F], r: &[F], room: &mut [F]) -> F
     tilde(values, r, room)
 }
 
-/// The extension of the inputs at the two points at which claims on them stand, those at the second one times gamma. `room`
-/// has 262,144 places.
+/// The extension of the inputs at the two points at which claims on them stand, those at the second one times gamma.
+/// `room` has 262,144 places.
 pub(crate) fn inputs_of<F: Field>(
     circuit: &Circuit<F>,
     public: &[F],

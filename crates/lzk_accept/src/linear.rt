@@ -57,7 +57,9 @@ fn constant_of<F: Field>(
     bound: F,
     factors: Factors<F>,
 ) -> F
-    ensures { let o = F.ops in result ≡ minus o (o.plus claim.constant (o.times claim.weight (o.plus above.first (o.times alpha above.second))))
+    ensures { let o = F.ops in
+        result
+        ≡ minus o (o.plus claim.constant (o.times claim.weight (o.plus above.first (o.times alpha above.second))))
         (o.times bound (o.times factors.first factors.second)) }
 {
     let before = above.first.add(alpha.mul(above.second));
@@ -108,7 +110,8 @@ fn layer_form<F: Field>(
     ensures before { (j : ℕ) → j < pads_at circuit.now l → entry F.ops own.new j ≡ entry F.ops own.old j }
     ensures after { (j : ℕ) → pads_at circuit.now (l + 1) ≤ j → entry F.ops own.new j ≡ entry F.ops own.old j }
     ensures placed { IsPlacedAt circuit.now l result }
-    ensures constraint { (public : List F) → IsConstraint F.ops F.coding.element circuit.now (coefficients F.ops circuit.now script.now) public script.now
+    ensures constraint { (public : List F)
+        → IsConstraint F.ops F.coding.element circuit.now (coefficients F.ops circuit.now script.now) public script.now
         messages.now l own.new result }
 {
     let layer = layer_of(circuit, script, l);
@@ -148,8 +151,11 @@ fn joined<F: Field>(k: usize, gamma: F, first: &[F], second: &[F]) -> F
 fn public_part<F: Field>(public: &[F], gamma: F, first: &[F], second: &[F]) -> F
     requires first { length public.now < length first.now }
     requires second { length public.now < length second.now }
-    ensures { let o = F.ops in result ≡ sum_below o (1 + length public.now)
-        (λ k. o.times (o.plus (entry o first.now k) (o.times gamma (entry o second.now k))) (entry o (o.one ∷ public.now) k)) }
+    ensures { let o = F.ops in
+        result
+        ≡ sum_below o (1 + length public.now) (λ k.
+        o.times (o.plus (entry o first.now k) (o.times gamma (entry o second.now k)))
+        (entry o (o.one ∷ public.now) k)) }
 {
     let mut total = joined(0, gamma, first, second);
     for i in 0..public.len() {
@@ -158,7 +164,8 @@ fn public_part<F: Field>(public: &[F], gamma: F, first: &[F], second: &[F]) -> F
     total
 }
 
-// The coefficients of the inputs' constraint at the private inputs from number `skip` on. Their wires begin at number `at`.
+// The coefficients of the inputs' constraint at the private inputs from number `skip` on. Their wires begin at number
+// `at`.
 fn set_privates<F: Field>(
     own: &mut [F],
     skip: usize,
@@ -182,8 +189,8 @@ fn set_privates<F: Field>(
     }
 }
 
-// The constraint of the inputs, behind the last layer, without its coefficients at the first `skip` private inputs. What stands
-// elsewhere in `own` is left.
+// The constraint of the inputs, behind the last layer, without its coefficients at the first `skip` private inputs.
+// What stands elsewhere in `own` is left.
 fn last_form<F: Field>(
     circuit: &Circuit<F>,
     public: &[F],
@@ -256,9 +263,9 @@ fn fill_layers<F: Field>(
     ensures above_a { result.first ≡ above_a F.ops circuit.now messages.now (depth circuit.now) }
     ensures above_b { result.second ≡ above_b F.ops circuit.now messages.now (depth circuit.now) }
     ensures placed { (i : ℕ) → i < depth circuit.now + 1 → IsPlacedAt circuit.now i (form_at F.ops forms.new i) }
-    ensures constraints { (public : List F) (i : ℕ) → i < depth circuit.now →
-        IsConstraint F.ops F.coding.element circuit.now (coefficients F.ops circuit.now script.now) public script.now messages.now i own.new
-        (form_at F.ops forms.new i) }
+    ensures constraints { (public : List F) (i : ℕ) → i < depth circuit.now
+        → IsConstraint F.ops F.coding.element circuit.now (coefficients F.ops circuit.now script.now) public script.now
+        messages.now i own.new (form_at F.ops forms.new i) }
 {
     let depth = circuit.depth();
     let points = ThreePoints::new();
@@ -280,8 +287,8 @@ fn fill_layers<F: Field>(
     above
 }
 
-// Sets all constraints, but for the inputs' coefficients at the first `skip` private inputs, from the layers' bound coefficients and
-// the tables of the inputs' two points.
+// Sets all constraints, but for the inputs' coefficients at the first `skip` private inputs, from the layers' bound
+// coefficients and the tables of the inputs' two points.
 fn fill_forms<F: Field>(
     circuit: &Circuit<F>,
     public: &[F],
@@ -311,7 +318,8 @@ fn fill_forms<F: Field>(
     ensures forms_length { length forms.new ≡ length forms.old }
     ensures own_length { length own.new ≡ length own.old }
     ensures placed { (i : ℕ) → i < depth circuit.now + 1 → IsPlacedAt circuit.now i (form_at F.ops forms.new i) }
-    ensures rest { AreRest F.ops F.coding.element circuit.now public.now script.now messages.now skip forms.new own.new }
+    ensures rest { AreRest F.ops F.coding.element circuit.now public.now script.now messages.now skip forms.new
+        own.new }
 {
     let above = fill_layers(circuit, script, messages, bounds, forms, own);
     let depth = circuit.depth() as usize;
@@ -330,8 +338,9 @@ fn fill_forms<F: Field>(
     set_form(forms, depth, last);
 }
 
-/// Sets the forms to the linear constraints, but for the coefficients of the inputs' constraint at the first `skip` private
-/// inputs. They are how these inputs' wires agree with the inputs' two points, and no layer's constraint has them.
+/// Sets the forms to the linear constraints, but for the coefficients of the inputs' constraint at the first `skip`
+/// private inputs. They are how these inputs' wires agree with the inputs' two points, and no layer's constraint has
+/// them.
 pub(crate) fn rest_forms<F: Field>(
     circuit: &Circuit<F>,
     public: &[F],
@@ -346,7 +355,8 @@ pub(crate) fn rest_forms<F: Field>(
     requires messages { length messages.now ≡ sent_counts circuit.now }
     requires made { AreFormsOf F.ops circuit.now forms.old }
     ensures made { AreFormsOf F.ops circuit.now forms.new }
-    ensures rest { AreRest F.ops F.coding.element circuit.now public.now script.now messages.now skip forms.new.forms forms.new.own }
+    ensures rest { AreRest F.ops F.coding.element circuit.now public.now script.now messages.now skip forms.new.forms
+        forms.new.own }
 {
     set_bounds(
         circuit,
@@ -387,7 +397,8 @@ pub(crate) fn rest_with_bounds<F: Field>(
     requires bounds { AreBounds F.ops circuit.now script.now bounds.now }
     requires made { AreFormsOf F.ops circuit.now forms.old }
     ensures made { AreFormsOf F.ops circuit.now forms.new }
-    ensures rest { AreRest F.ops F.coding.element circuit.now public.now script.now messages.now skip forms.new.forms forms.new.own }
+    ensures rest { AreRest F.ops F.coding.element circuit.now public.now script.now messages.now skip forms.new.forms
+        forms.new.own }
 {
     set_input_tables(circuit, script, &mut forms.first, &mut forms.second);
     fill_forms(
@@ -404,8 +415,8 @@ pub(crate) fn rest_with_bounds<F: Field>(
     );
 }
 
-/// Sets the forms to the coefficients and right sides of all linear constraints: what the sumchecks' residuals are less at a list
-/// of pads and private inputs. No memory is taken. It is the plain form beside `combine_factored`, for tests.
+/// Sets the forms to the coefficients and right sides of all linear constraints: what the sumchecks' residuals are less
+/// at a list of pads and private inputs. No memory is taken. It is the plain form beside `combine_factored`, for tests.
 pub fn linear_forms<F: Field>(
     circuit: &Circuit<F>,
     public: &[F],
@@ -419,10 +430,13 @@ pub fn linear_forms<F: Field>(
     requires made { AreFormsOf F.ops circuit.now forms.old }
     ensures made { AreFormsOf F.ops circuit.now forms.new }
     ensures coefficients { let q = coefficients F.ops circuit.now script.now in
-        (i j : ℕ) → i < depth circuit.now + 1 → j < committed_count circuit.now →
-        coefficient F.ops forms.new i j ≡ linear_coefficient F.ops F.coding.element circuit.now q public.now script.now messages.now i j }
+        (i j : ℕ) → i < depth circuit.now + 1 → j < committed_count circuit.now
+        → coefficient F.ops forms.new i j
+        ≡ linear_coefficient F.ops F.coding.element circuit.now q public.now script.now messages.now i j }
     ensures rights { let q = coefficients F.ops circuit.now script.now in
-        (i : ℕ) → i < depth circuit.now + 1 → right F.ops forms.new i ≡ right_side F.ops F.coding.element circuit.now q public.now script.now messages.now i }
+        (i : ℕ) → i < depth circuit.now + 1
+        → right F.ops forms.new i
+        ≡ right_side F.ops F.coding.element circuit.now q public.now script.now messages.now i }
 {
     rest_forms(circuit, public, script, messages, 0, forms);
 }

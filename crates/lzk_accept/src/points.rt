@@ -19,8 +19,8 @@ fn inverse_of<F: Field>(x: F) -> F
     }
 }
 
-/// For each of the first three points, the inverse of the product of its differences to the other two. They depend on the
-/// field alone, so rounds that are gone through together pay no inversion each.
+/// For each of the first three points, the inverse of the product of its differences to the other two. They depend on
+/// the field alone, so rounds that are gone through together pay no inversion each.
 #[derive(Clone, Copy)]
 pub(crate) struct ThreePoints<F> {
     pub(crate) first: F,
@@ -87,12 +87,13 @@ impl<F: Field> ThreePoints<F> {
     }
 }
 
-/// The claim after a round whose values at points 0 and 2 are `p0` and `p2`, those at points 0 and 1 adding up to the claim
-/// before it, at the round's challenge `t`.
+/// The claim after a round whose values at points 0 and 2 are `p0` and `p2`, those at points 0 and 1 adding up to the
+/// claim before it, at the round's challenge `t`.
 pub fn next_claim<F: Field>(claim: F, p0: F, p2: F, t: F) -> F
     ensures value { result ≡ next_claim F.ops F.coding.element claim p0 p2 t }
-    ensures polynomial { (coefficients : List F) → IsThrough F.ops F.coding.element (p0 ∷ minus F.ops claim p0 ∷ p2 ∷ []) coefficients →
-        result ≡ eval F.ops coefficients t }
+    ensures polynomial { (coefficients : List F)
+        → IsThrough F.ops F.coding.element (p0 ∷ minus F.ops claim p0 ∷ p2 ∷ []) coefficients
+        → result ≡ eval F.ops coefficients t }
 {
     ThreePoints::new().next_claim(claim, p0, p2, t)
 }

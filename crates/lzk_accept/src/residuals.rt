@@ -16,8 +16,9 @@ use lzk_circuit::Circuit;
 use lzk_field::Field;
 use lzk_sumcheck::Script;
 
-/// What is left of the claims when the pads and the private inputs are `w`: of layer `i`, or of the inputs where `i` is the
-/// number of layers. `room` has 262,144 places, and no memory is taken. It is the plain form beside `combine_factored`, for tests.
+/// What is left of the claims when the pads and the private inputs are `w`: of layer `i`, or of the inputs where `i` is
+/// the number of layers. `room` has 262,144 places, and no memory is taken. It is the plain form beside
+/// `combine_factored`, for tests.
 pub fn residual<F: Field>(
     circuit: &Circuit<F>,
     public: &[F],
@@ -36,7 +37,8 @@ pub fn residual<F: Field>(
     ensures value { let q = coefficients F.ops circuit.now script.now in
         result ≡ spec.residual F.ops F.coding.element circuit.now q public.now script.now messages.now w.now i }
     ensures affine { let q = coefficients F.ops circuit.now script.now in
-        IsForm F.ops (committed_count circuit.now) (λ v. spec.residual F.ops F.coding.element circuit.now q public.now script.now messages.now v i)
+        IsForm F.ops (committed_count circuit.now)
+        (λ v. spec.residual F.ops F.coding.element circuit.now q public.now script.now messages.now v i)
         (F.ops.neg (right_side F.ops F.coding.element circuit.now q public.now script.now messages.now i))
         (linear_coefficient F.ops F.coding.element circuit.now q public.now script.now messages.now i) }
     ensures room { length room.new ≡ length room.old }

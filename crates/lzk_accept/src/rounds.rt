@@ -49,7 +49,8 @@ fn round_back<F: Field>(
     }
 }
 
-/// The claim after a layer's rounds, as a form of the claim before and of the pads, whose coefficients are written from place `at` on.
+/// The claim after a layer's rounds, as a form of the claim before and of the pads, whose coefficients are written from
+/// place `at` on.
 pub(crate) fn claim_form<F: Field>(
     points: ThreePoints<F>,
     layer: &LayerScript<F>,
@@ -66,9 +67,12 @@ pub(crate) fn claim_form<F: Field>(
     ensures length { length own.new ≡ length own.old }
     ensures before { (j : ℕ) → j < at → entry F.ops own.new j ≡ entry F.ops own.old j }
     ensures after { (j : ℕ) → at + 4 * bits ≤ j → entry F.ops own.new j ≡ entry F.ops own.old j }
-    ensures form { let o = F.ops in (pad : ℕ → F) (x : F) →
-        through_rounds o F.coding.element (challenge_of o layer.now) (λ k. entry o messages.now (sent + k)) pad x (2 * bits)
-        ≡ o.plus (o.plus result.constant (o.times result.weight x)) (sum_below o (4 * bits) (λ k. o.times (entry o own.new (at + k)) (pad k))) }
+    ensures form { let o = F.ops in
+        (pad : ℕ → F) (x : F)
+        → through_rounds o F.coding.element (challenge_of o layer.now) (λ k. entry o messages.now (sent + k)) pad x
+        (2 * bits)
+        ≡ o.plus (o.plus result.constant (o.times result.weight x))
+        (sum_below o (4 * bits) (λ k. o.times (entry o own.new (at + k)) (pad k))) }
 {
     let ra = layer.ra.as_slice();
     let rb = layer.rb.as_slice();

@@ -14,13 +14,14 @@ use lzk_circuit::Circuit;
 use lzk_field::Field;
 use lzk_sumcheck::Script;
 
-// Moves each of the first `size` entries to twice its place, and puts x times it behind that. It goes from the last one down, so that
-// each is read before it is written over.
+// Moves each of the first `size` entries to twice its place, and puts x times it behind that. It goes from the last one
+// down, so that each is read before it is written over.
 fn spread_entries<F: Field>(table: &mut [F], size: usize, x: F)
     requires { 2 * size ≤ length table.old }
     ensures length { length table.new ≡ length table.old }
     ensures wholes { let o = F.ops in (i : ℕ) → i < size → entry o table.new (2 * i) ≡ entry o table.old i }
-    ensures ones { let o = F.ops in (i : ℕ) → i < size → entry o table.new (2 * i + 1) ≡ o.times x (entry o table.old i) }
+    ensures ones { let o = F.ops in
+        (i : ℕ) → i < size → entry o table.new (2 * i + 1) ≡ o.times x (entry o table.old i) }
 {
     for i in (0..size).rev() {
         let whole = table[i];
@@ -33,7 +34,9 @@ fn spread_entries<F: Field>(table: &mut [F], size: usize, x: F)
 fn lessen_pairs<F: Field>(table: &mut [F], size: usize)
     requires { 2 * size ≤ length table.old }
     ensures length { length table.new ≡ length table.old }
-    ensures zeros { let o = F.ops in (i : ℕ) → i < size → entry o table.new (2 * i) ≡ minus o (entry o table.old (2 * i)) (entry o table.old (2 * i + 1)) }
+    ensures zeros { let o = F.ops in
+        (i : ℕ) → i < size
+        → entry o table.new (2 * i) ≡ minus o (entry o table.old (2 * i)) (entry o table.old (2 * i + 1)) }
     ensures ones { let o = F.ops in (i : ℕ) → i < size → entry o table.new (2 * i + 1) ≡ entry o table.old (2 * i + 1) }
 {
     for i in 0..size {
@@ -43,20 +46,22 @@ fn lessen_pairs<F: Field>(table: &mut [F], size: usize)
     }
 }
 
-// Splits each of the first `size` entries in two: times 1 - x at twice its place, and times x behind that. All products come before all
-// differences, since in one loop the compiler makes a branch of a difference's borrow.
+// Splits each of the first `size` entries in two: times 1 - x at twice its place, and times x behind that. All products
+// come before all differences, since in one loop the compiler makes a branch of a difference's borrow.
 fn split_entries<F: Field>(table: &mut [F], size: usize, x: F)
     requires { 2 * size ≤ length table.old }
     ensures length { length table.new ≡ length table.old }
-    ensures zeros { let o = F.ops in (i : ℕ) → i < size → entry o table.new (2 * i) ≡ o.times (minus o o.one x) (entry o table.old i) }
-    ensures ones { let o = F.ops in (i : ℕ) → i < size → entry o table.new (2 * i + 1) ≡ o.times x (entry o table.old i) }
+    ensures zeros { let o = F.ops in
+        (i : ℕ) → i < size → entry o table.new (2 * i) ≡ o.times (minus o o.one x) (entry o table.old i) }
+    ensures ones { let o = F.ops in
+        (i : ℕ) → i < size → entry o table.new (2 * i + 1) ≡ o.times x (entry o table.old i) }
 {
     spread_entries(table, size, x);
     lessen_pairs(table, size);
 }
 
-/// Sets the first `width` entries of a table to how their numbers agree with a point. Each takes about one product, however far
-/// the width is from a power of two.
+/// Sets the first `width` entries of a table to how their numbers agree with a point. Each takes about one product,
+/// however far the width is from a power of two.
 pub(crate) fn set_table<F: Field>(r: &[F], width: usize, table: &mut [F])
     requires width { width ≤ 2 ^ length r.now }
     requires room { 2 ^ length r.now ≤ length table.old }
@@ -78,15 +83,17 @@ fn set_weights<F: Field>(width: usize, alpha: F, first: &[F], second: &[F], weig
     requires second { width ≤ length second.now }
     requires room { width ≤ length weights.old }
     ensures length { length weights.new ≡ length weights.old }
-    ensures entries { let o = F.ops in (g : ℕ) → g < width → entry o weights.new g ≡ o.plus (entry o first.now g) (o.times alpha (entry o second.now g)) }
+    ensures entries { let o = F.ops in
+        (g : ℕ) → g < width
+        → entry o weights.new g ≡ o.plus (entry o first.now g) (o.times alpha (entry o second.now g)) }
 {
     for g in 0..width {
         weights[g] = first[g].add(alpha.mul(second[g]));
     }
 }
 
-/// The weighted sum of layer `l`'s coefficients at its challenges. On the way the tables go from the layer's two points to those
-/// of the layer below.
+/// The weighted sum of layer `l`'s coefficients at its challenges. On the way the tables go from the layer's two points
+/// to those of the layer below.
 pub(crate) fn layer_bound<F: Field>(
     circuit: &Circuit<F>,
     script: &Script<F>,
@@ -100,13 +107,17 @@ pub(crate) fn layer_bound<F: Field>(
     requires room { (k : ℕ) → k < depth circuit.now + 1 → 2 ^ bits (width_at circuit.now k) ≤ length weights.old }
     requires first_room { length first.old ≡ length weights.old }
     requires second_room { length second.old ≡ length weights.old }
-    requires first { let o = F.ops in (g : ℕ) → g < width_at circuit.now l → entry o first.old g ≡ eq o g (point_a o script.now l) }
-    requires second { let o = F.ops in (g : ℕ) → g < width_at circuit.now l → entry o second.old g ≡ eq o g (point_b o script.now l) }
+    requires first { let o = F.ops in
+        (g : ℕ) → g < width_at circuit.now l → entry o first.old g ≡ eq o g (point_a o script.now l) }
+    requires second { let o = F.ops in
+        (g : ℕ) → g < width_at circuit.now l → entry o second.old g ≡ eq o g (point_b o script.now l) }
     ensures weights_length { length weights.new ≡ length weights.old }
     ensures first_length { length first.new ≡ length first.old }
     ensures second_length { length second.new ≡ length second.old }
-    ensures first { let o = F.ops in (g : ℕ) → g < width_at circuit.now (l + 1) → entry o first.new g ≡ eq o g (point_a o script.now (l + 1)) }
-    ensures second { let o = F.ops in (g : ℕ) → g < width_at circuit.now (l + 1) → entry o second.new g ≡ eq o g (point_b o script.now (l + 1)) }
+    ensures first { let o = F.ops in
+        (g : ℕ) → g < width_at circuit.now (l + 1) → entry o first.new g ≡ eq o g (point_a o script.now (l + 1)) }
+    ensures second { let o = F.ops in
+        (g : ℕ) → g < width_at circuit.now (l + 1) → entry o second.new g ≡ eq o g (point_b o script.now (l + 1)) }
     ensures value { result ≡ bound_at F.ops circuit.now (coefficients F.ops circuit.now script.now) script.now l }
 {
     circuit.valid_laws();
@@ -130,7 +141,8 @@ pub(crate) fn layer_bound<F: Field>(
     )
 }
 
-/// Sets the bound coefficients of all layers, for which their terms are gone over, and the tables to the inputs' two points.
+/// Sets the bound coefficients of all layers, for which their terms are gone over, and the tables to the inputs' two
+/// points.
 pub(crate) fn set_bounds<F: Field>(
     circuit: &Circuit<F>,
     script: &Script<F>,

@@ -9,8 +9,8 @@ ghost use Rattle.lzk_accept.specs.Walks.{counted, counted_so_far};
 use lzk_circuit::{Term, weight_of};
 use lzk_field::Field;
 
-// A sum over terms, of which those of the last wire are not weighted yet. The terms whose first wire is wire 0 are summed without
-// its entry.
+// A sum over terms, of which those of the last wire are not weighted yet. The terms whose first wire is wire 0 are
+// summed without its entry.
 #[derive(Clone, Copy)]
 struct Walk<F> {
     total: F,
@@ -59,8 +59,11 @@ fn with_term<F: Field>(walk: Walk<F>, term: Term<F>, beta: F, first: &[F], secon
     requires b { term.b < length second.now }
     requires wire { walk.wire ≡ term.g }
     ensures wire { result.wire ≡ term.g }
-    ensures sum { let o = F.ops in (weights : List F) → counted_so_far o weights (entry o first.now 0) result ≡
-        o.plus (counted_so_far o weights (entry o first.now 0) walk) (counted o beta weights first.now second.now term) }
+    ensures sum { let o = F.ops in
+        (weights : List F)
+        → counted_so_far o weights (entry o first.now 0) result
+        ≡ o.plus (counted_so_far o weights (entry o first.now 0) walk)
+        (counted o beta weights first.now second.now term) }
 {
     let part = scaled(weight_of(term.coef, beta), second[term.b as usize]);
     if term.a == 0 {
@@ -79,9 +82,8 @@ fn with_term<F: Field>(walk: Walk<F>, term: Term<F>, beta: F, first: &[F], secon
     }
 }
 
-/// The sum over the terms of each coefficient, or beta for an assertion term, times its wires' entries of the three tables. As terms
-/// ascend by their wires, this
-/// takes at most two products a term, and two a wire.
+/// The sum over the terms of each coefficient, or beta for an assertion term, times its wires' entries of the three
+/// tables. As terms ascend by their wires, this takes at most two products a term, and two a wire.
 pub(crate) fn sum_terms<F: Field>(
     terms: &[Term<F>],
     beta: F,
@@ -91,8 +93,8 @@ pub(crate) fn sum_terms<F: Field>(
 ) -> F
     requires some { 0 < length weights.now }
     requires below { 0 < length first.now }
-    requires placed { (i : ℕ) (t : declared.Term F) → slice_get terms.now i ≡ Some t → (t.g < length weights.now) × (t.a < length first.now) ×
-        (t.b < length second.now) }
+    requires placed { (i : ℕ) (t : declared.Term F) → slice_get terms.now i ≡ Some t
+        → (t.g < length weights.now) × (t.a < length first.now) × (t.b < length second.now) }
     ensures { result ≡ sum_list F.ops terms.now (counted F.ops beta weights.now first.now second.now) }
 {
     let base = first[0];

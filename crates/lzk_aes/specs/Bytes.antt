@@ -29,7 +29,8 @@ bit_of b i = b / 2 ^ (i % 8) % 2
 
 -- bit i of the affine map
 abbrev pub affine_bit : ℕ → ℕ → ℕ
-affine_bit b i = (bit_of b i + bit_of b (i + 4) + bit_of b (i + 5) + bit_of b (i + 6) + bit_of b (i + 7) + bit_of 0x63 i) % 2
+affine_bit b i =
+    (bit_of b i + bit_of b (i + 4) + bit_of b (i + 5) + bit_of b (i + 6) + bit_of b (i + 7) + bit_of 0x63 i) % 2
 
 -- the affine map over GF(2)
 abbrev pub affine : ℕ → ℕ

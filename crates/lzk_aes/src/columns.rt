@@ -74,7 +74,8 @@ fn mix(s: Columns) -> Columns
 #[inline(always)]
 #[tactic(auto, unfolding(crate::specs::Aes::shift_rows))]
 fn shift(s: Columns) -> Columns
-    ensures { state_bytes result.first result.second result.third result.fourth ≡ shift_rows (sub_bytes (state_bytes s.first s.second s.third s.fourth)) }
+    ensures { state_bytes result.first result.second result.third result.fourth
+        ≡ shift_rows (sub_bytes (state_bytes s.first s.second s.third s.fourth)) }
 {
     Columns {
         first: shifted(s.first, s.second, s.third, s.fourth),
@@ -98,7 +99,8 @@ fn round(s: Columns, words: &[u32; 60], number: usize) -> Columns
 /// each round, which takes 1.4 times as long.
 #[inline(always)]
 fn rounds(words: &[u32; 60], block: [u8; 16]) -> Columns
-    ensures { state_bytes result.first result.second result.third result.fourth ≡ after_round (map word_bytes words.now) block 13 }
+    ensures { state_bytes result.first result.second result.third result.fourth
+        ≡ after_round (map word_bytes words.now) block 13 }
 {
     let s = add_round_key(columns_of(block), words, 0);
     let s = round(s, words, 1);

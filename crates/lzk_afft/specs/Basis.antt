@@ -1,4 +1,5 @@
--- The novel polynomial basis of Lin, Chung and Han: products of normalized subspace polynomials, and coefficients in it.
+-- The novel polynomial basis of Lin, Chung and Han: products of normalized subspace polynomials, and coefficients in
+-- it.
 use Rattle.std.specs.Prelude.{◌≡◌, ℕ, ◌/◌, ◌%◌, ◌^◌, ◌<◌, List, length, cond}
 use Rattle.std.proofs.Common.{eqb}
 use Rattle.lzk_field.specs.Ring.{Ops}

@@ -7,12 +7,17 @@ use Rattle.lzk_poly.specs.Extension.{Reach}
 use Rattle.lzk_poly.specs.Products.{IsAligned, IsBinary}
 use Rattle.lzk_afft.specs.Basis.{normalized, vanishing}
 
--- The twiddle factor of a block of 2 ^ b points stands at its node, and those of its halves at twice the node and the next: the normalized subspace polynomial of half the block, at the block's first point.
+-- The twiddle factor of a block of 2 ^ b points stands at its node, and those of its halves at twice the node and the
+-- next: the normalized subspace polynomial of half the block, at the block's first point.
 abbrev pub AreTwiddles : {A : Type 0} → Ops A → (ℕ → A) → ℕ → ℕ → ℕ → List A → Type 0
 AreTwiddles o point zero at node twiddles = Unit {0}
-AreTwiddles o point (suc b) at node twiddles = (entry o twiddles node ≡ normalized o point b (point at)) × AreTwiddles o point b at (2 * node) twiddles × AreTwiddles o point b (at + 2 ^ b) (2 * node + 1) twiddles
+AreTwiddles o point (suc b) at node twiddles =
+    (entry o twiddles node ≡ normalized o point b (point at))
+    × AreTwiddles o point b at (2 * node) twiddles
+    × AreTwiddles o point b (at + 2 ^ b) (2 * node + 1) twiddles
 
--- A block of 2 ^ b points from a place on, a coset of the subspace of the first 2 ^ b points: each is the sum of the block's first point and one of these. The list has the block's twiddle factors.
+-- A block of 2 ^ b points from a place on, a coset of the subspace of the first 2 ^ b points: each is the sum of the
+-- block's first point and one of these. The list has the block's twiddle factors.
 pub record IsBlock {A : Type 0} (o : Ops A) (point : ℕ → A) (b at node : ℕ) (twiddles : List A) : Type 0 where
   pub few : b ≤ 16
   pub binary : IsBinary o point b
@@ -21,7 +26,9 @@ pub record IsBlock {A : Type 0} (o : Ops A) (point : ℕ → A) (b at node : ℕ
 
 -- From a level on, the twiddle factors of the blocks of each level, from the place on that is the number of its blocks.
 abbrev pub AreLevelTwiddles : {A : Type 0} → Ops A → (ℕ → A) → ℕ → ℕ → List A → Type 0
-AreLevelTwiddles o point from depth twiddles = (b c : ℕ) → from ≤ b → b < depth → c < 2 ^ (depth - 1 - b) → entry o twiddles (2 ^ (depth - 1 - b) + c) ≡ normalized o point b (point (c * 2 ^ (b + 1)))
+AreLevelTwiddles o point from depth twiddles =
+    (b c : ℕ) → from ≤ b → b < depth → c < 2 ^ (depth - 1 - b)
+    → entry o twiddles (2 ^ (depth - 1 - b) + c) ≡ normalized o point b (point (c * 2 ^ (b + 1)))
 
 -- the images under the subspace polynomial of the points with one bit, which the other points are sums of
 abbrev pub AreImages : {A : Type 0} → Ops A → (ℕ → A) → ℕ → List A → Type 0
@@ -39,8 +46,10 @@ pub record Transformer : Type 0 where
   pub reach : Reach
   pub room : ℕ
 
--- All twiddle factors for 2 ^ depth points, which hold the points, and 2 ^ bits points are the smallest block that holds the values.
-pub record IsReady {A : Type 0} (o : Ops A) (point : ℕ → A) (count upto bits depth : ℕ) (twiddles : List A) : Type 0 where
+-- All twiddle factors for 2 ^ depth points, which hold the points, and 2 ^ bits points are the smallest block that
+-- holds the values.
+pub record IsReady {A : Type 0} (o : Ops A) (point : ℕ → A) (count upto bits depth : ℕ)
+    (twiddles : List A) : Type 0 where
   pub some : 1 ≤ count
   pub order : count ≤ upto
   pub limit : upto ≤ 65536

@@ -16,8 +16,9 @@ pub fn forward<F: Field>(values: &mut [F], twiddles: &[F], bits: u32, node: usiz
     requires whole { length values.old ≡ 2 ^ bits }
     requires twiddles { (node + 1) * length values.old ≤ 2 * length twiddles.now }
     requires limit { length twiddles.now ≤ 65536 }
-    ensures { (at : ℕ) → IsBlock F.ops F.coding.element bits at node twiddles.now → (j : ℕ) → j < length values.new →
-        entry F.ops values.new j ≡ basis_sum F.ops F.coding.element (entry F.ops values.old) (2 ^ bits) (F.coding.element (at + j)) }
+    ensures { (at : ℕ) → IsBlock F.ops F.coding.element bits at node twiddles.now → (j : ℕ) → j < length values.new
+        → entry F.ops values.new j
+        ≡ basis_sum F.ops F.coding.element (entry F.ops values.old) (2 ^ bits) (F.coding.element (at + j)) }
 {
     if bits == 0 {
         return;
@@ -39,8 +40,9 @@ pub fn backward<F: Field>(values: &mut [F], twiddles: &[F], bits: u32, node: usi
     requires known { known ≤ length values.old }
     requires twiddles { (node + 1) * length values.old ≤ 2 * length twiddles.now }
     requires limit { length twiddles.now ≤ 65536 }
-    ensures values { (at : ℕ) → IsBlock F.ops F.coding.element bits at node twiddles.now → (j : ℕ) → j < known →
-        basis_sum F.ops F.coding.element (entry F.ops values.new) (2 ^ bits) (F.coding.element (at + j)) ≡ entry F.ops values.old j }
+    ensures values { (at : ℕ) → IsBlock F.ops F.coding.element bits at node twiddles.now → (j : ℕ) → j < known
+        → basis_sum F.ops F.coding.element (entry F.ops values.new) (2 ^ bits) (F.coding.element (at + j))
+        ≡ entry F.ops values.old j }
     ensures rest { (j : ℕ) → known ≤ j → j < length values.old → entry F.ops values.new j ≡ entry F.ops values.old j }
 {
     if bits == 0 || known == 0 {

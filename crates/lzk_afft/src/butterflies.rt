@@ -9,9 +9,12 @@ use lzk_field::Field;
 /// the sum to the upper one.
 pub fn forward_butterflies<F: Field>(low: &mut [F], high: &mut [F], twiddle: F)
     requires halves { length high.old ≡ length low.old }
-    ensures lower { (i : ℕ) → i < length low.new → entry F.ops low.new i ≡ F.ops.plus (entry F.ops low.old i) (F.ops.times twiddle (entry F.ops high.old i)) }
-    ensures upper { (i : ℕ) → i < length high.new → entry F.ops high.new i ≡
-        F.ops.plus (F.ops.plus (entry F.ops low.old i) (F.ops.times twiddle (entry F.ops high.old i))) (entry F.ops high.old i) }
+    ensures lower { (i : ℕ) → i < length low.new
+        → entry F.ops low.new i ≡ F.ops.plus (entry F.ops low.old i) (F.ops.times twiddle (entry F.ops high.old i)) }
+    ensures upper { (i : ℕ) → i < length high.new
+        → entry F.ops high.new i
+        ≡ F.ops.plus (F.ops.plus (entry F.ops low.old i) (F.ops.times twiddle (entry F.ops high.old i)))
+        (entry F.ops high.old i) }
 {
     for i in 0..low.len() {
         let sum = low[i].add(twiddle.mul(high[i]));
@@ -24,8 +27,10 @@ pub fn forward_butterflies<F: Field>(low: &mut [F], high: &mut [F], twiddle: F)
 /// upper one, and then the twiddle factor times the upper one from the lower.
 pub fn backward_butterflies<F: Field>(low: &mut [F], high: &mut [F], twiddle: F)
     requires halves { length high.old ≡ length low.old }
-    ensures upper { (i : ℕ) → i < length high.new → entry F.ops high.new i ≡ minus F.ops (entry F.ops high.old i) (entry F.ops low.old i) }
-    ensures lower { (i : ℕ) → i < length low.new → entry F.ops low.new i ≡ minus F.ops (entry F.ops low.old i) (F.ops.times twiddle (entry F.ops high.new i)) }
+    ensures upper { (i : ℕ) → i < length high.new
+        → entry F.ops high.new i ≡ minus F.ops (entry F.ops high.old i) (entry F.ops low.old i) }
+    ensures lower { (i : ℕ) → i < length low.new
+        → entry F.ops low.new i ≡ minus F.ops (entry F.ops low.old i) (F.ops.times twiddle (entry F.ops high.new i)) }
 {
     for i in 0..low.len() {
         let upper = high[i].sub(low[i]);
@@ -49,7 +54,8 @@ pub fn add_multiples<F: Field>(low: &mut [F], high: &[F], twiddle: F, from: usiz
 /// Takes the twiddle factor times the upper entries from the lower ones.
 pub fn subtract_multiples<F: Field>(low: &mut [F], high: &[F], twiddle: F)
     requires halves { length high.now ≡ length low.old }
-    ensures { (i : ℕ) → i < length low.new → entry F.ops low.new i ≡ minus F.ops (entry F.ops low.old i) (F.ops.times twiddle (entry F.ops high.now i)) }
+    ensures { (i : ℕ) → i < length low.new
+        → entry F.ops low.new i ≡ minus F.ops (entry F.ops low.old i) (F.ops.times twiddle (entry F.ops high.now i)) }
 {
     for i in 0..low.len() {
         low[i] = low[i].sub(twiddle.mul(high[i]));
@@ -60,7 +66,8 @@ pub fn subtract_multiples<F: Field>(low: &mut [F], high: &[F], twiddle: F)
 pub fn add_entries<F: Field>(high: &mut [F], low: &[F], from: usize)
     requires halves { length low.now ≡ length high.old }
     ensures before { (i : ℕ) → i < from → entry F.ops high.new i ≡ entry F.ops high.old i }
-    ensures after { (i : ℕ) → from ≤ i → i < length high.new → entry F.ops high.new i ≡ F.ops.plus (entry F.ops high.old i) (entry F.ops low.now i) }
+    ensures after { (i : ℕ) → from ≤ i → i < length high.new
+        → entry F.ops high.new i ≡ F.ops.plus (entry F.ops high.old i) (entry F.ops low.now i) }
 {
     for i in from..high.len() {
         high[i] = high[i].add(low[i]);

@@ -15,8 +15,9 @@ pub fn interpolate<F: Field>(values: &[F], twiddles: &[F], bits: u32, node: usiz
     requires whole { length room.old ≡ 2 ^ bits }
     requires twiddles { (node + 1) * length room.old ≤ 2 * length twiddles.now }
     requires limit { length twiddles.now ≤ 65536 }
-    ensures meets { IsBlock F.ops F.coding.element bits 0 node twiddles.now → (j : ℕ) → j < length values.now →
-        basis_sum F.ops F.coding.element (entry F.ops room.new) (2 ^ bits) (F.coding.element j) ≡ entry F.ops values.now j }
+    ensures meets { IsBlock F.ops F.coding.element bits 0 node twiddles.now → (j : ℕ) → j < length values.now
+        → basis_sum F.ops F.coding.element (entry F.ops room.new) (2 ^ bits) (F.coding.element j)
+        ≡ entry F.ops values.now j }
     ensures rest { (j : ℕ) → length values.now ≤ j → j < length room.new → entry F.ops room.new j ≡ F.ops.zero }
 {
     for i in 0..room.len() {
@@ -76,8 +77,9 @@ fn evaluate_block<F: Field>(
     requires inside { skip + length out.old ≤ length room.old }
     requires twiddles { (node + 1) * length room.old ≤ 2 * length twiddles.now }
     requires limit { length twiddles.now ≤ 65536 }
-    ensures values { (at : ℕ) → IsBlock F.ops F.coding.element bits at node twiddles.now → (k : ℕ) → k < length out.new →
-        entry F.ops out.new k ≡ basis_sum F.ops F.coding.element (entry F.ops room.old) (2 ^ bits) (F.coding.element (at + (skip + k))) }
+    ensures values { (at : ℕ) → IsBlock F.ops F.coding.element bits at node twiddles.now → (k : ℕ) → k < length out.new
+        → entry F.ops out.new k
+        ≡ basis_sum F.ops F.coding.element (entry F.ops room.old) (2 ^ bits) (F.coding.element (at + (skip + k))) }
     ensures same { (k : ℕ) → k < length room.new → entry F.ops room.new k ≡ entry F.ops room.old k }
 {
     if out.is_empty() {

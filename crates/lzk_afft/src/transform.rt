@@ -88,7 +88,9 @@ impl Transform {
         requires room { length room.old ≡ self.now.room }
         ensures meets { AreCoefficients ops of_number values.now coeffs.new }
         ensures only { (others : List Gf128) → AreCoefficients ops of_number values.now others → others ≡ coeffs.new }
-        ensures same { (t : Gf128) → basis_sum ops of_number (entry ops coeffs.new) (length coeffs.new) t ≡ eval ops (through ops of_number values.now) t }
+        ensures same { (t : Gf128)
+            → basis_sum ops of_number (entry ops coeffs.new) (length coeffs.new) t
+            ≡ eval ops (through ops of_number values.now) t }
     {
         let node = 1 << (self.depth - self.bits);
         interpolate(values, &self.twiddles, self.bits, node, room);
@@ -103,8 +105,10 @@ impl Transform {
         requires fits { length values.now ≡ self.now.reach.count }
         requires reached { length out.old + self.now.reach.count ≡ self.now.reach.upto }
         requires room { length room.old ≡ self.now.room }
-        ensures through { (k : ℕ) → k < length out.new → IsExtension ops of_number values.now (self.now.reach.count + k) (entry ops out.new k) }
-        ensures value { (k : ℕ) → k < length out.new → entry ops out.new k ≡ extension ops of_number values.now (self.now.reach.count + k) }
+        ensures through { (k : ℕ) → k < length out.new
+            → IsExtension ops of_number values.now (self.now.reach.count + k) (entry ops out.new k) }
+        ensures value { (k : ℕ) → k < length out.new
+            → entry ops out.new k ≡ extension ops of_number values.now (self.now.reach.count + k) }
     {
         let node = 1 << (self.depth - self.bits);
         interpolate(values, &self.twiddles, self.bits, node, room);

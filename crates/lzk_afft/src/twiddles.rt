@@ -86,8 +86,10 @@ fn normalize<F: Field>(images: &[F], scaled: &mut [F], from: u32)
 // At each place the sum of the images of its bits, which is the image of the sum of their points.
 fn fill_sums<F: Field>(images: &[F], row: &mut [F])
     requires whole { length row.old ≡ 2 ^ length images.now }
-    ensures { (h : ℕ → F) → h 0 ≡ F.ops.zero → ((i k : ℕ) → i < length images.now → k < 2 ^ i → h (2 ^ i + k) ≡ F.ops.plus (h (2 ^ i)) (h k)) →
-        ((i : ℕ) → i < length images.now → entry F.ops images.now i ≡ h (2 ^ i)) → (c : ℕ) → c < length row.new → entry F.ops row.new c ≡ h c }
+    ensures { (h : ℕ → F) → h 0 ≡ F.ops.zero
+        → ((i k : ℕ) → i < length images.now → k < 2 ^ i → h (2 ^ i + k) ≡ F.ops.plus (h (2 ^ i)) (h k))
+        → ((i : ℕ) → i < length images.now → entry F.ops images.now i ≡ h (2 ^ i)) → (c : ℕ) → c < length row.new
+        → entry F.ops row.new c ≡ h c }
 {
     if images.is_empty() {
         row[0] = F::zero();

@@ -16,11 +16,13 @@ use Rattle.lzk_answers.specs.Answers.{low_degree_answer, linear_answer, quadrati
 use Rattle.lzk_answers.specs.Coefficients.{AreCoefficients}
 use Rattle.lzk_answers.specs.Opened.{AreOpened, IsSent, Satisfies, Stands}
 
--- A polynomial with at most n + 1 coefficients that is zero at n different points, and not everywhere, is zero at no other point.
+-- A polynomial with at most n + 1 coefficients that is zero at n different points, and not everywhere, is zero at no
+-- other point.
 abbrev pub NoFurtherZero : {A : Type 0} → Ops A → Type 0
 NoFurtherZero {A} o =
-    (n : ℕ) (cs : List A) (at : ℕ → A) (s t : A) → length cs ≤ n + 1 → ((i j : ℕ) → i < j → j < n → at i ≢ at j) → ((i : ℕ) → i < n → eval o cs (at i) ≡ o.zero)
-    → eval o cs s ≢ o.zero → ((i : ℕ) → i < n → at i ≢ t) → eval o cs t ≢ o.zero
+    (n : ℕ) (cs : List A) (at : ℕ → A) (s t : A) → length cs ≤ n + 1 → ((i j : ℕ) → i < j → j < n → at i ≢ at j)
+    → ((i : ℕ) → i < n → eval o cs (at i) ≡ o.zero) → eval o cs s ≢ o.zero → ((i : ℕ) → i < n → at i ≢ t)
+    → eval o cs t ≢ o.zero
 
 module _ {A : Type 0} (o : Ops A) (point : ℕ → A) where
   -- the values of the answers of rows
@@ -41,43 +43,55 @@ module _ {A : Type 0} (o : Ops A) (point : ℕ → A) where
 
   -- columns of the rows, one after another, are opened
   abbrev pub ColumnsOpen : Type 0
-  ColumnsOpen = (p : Params) (rows : List (List A)) (proof : Proof A) (columns : List ℕ) → length rows ≡ p.nrow → proof.columns ≡ columns_of o point p rows columns → AreOpened o point p rows proof columns
+  ColumnsOpen =
+      (p : Params) (rows : List (List A)) (proof : Proof A) (columns : List ℕ) → length rows ≡ p.nrow
+      → proof.columns ≡ columns_of o point p rows columns
+      → AreOpened o point p rows proof columns
 
   -- the low degree answer of any rows is right at each opened column
   abbrev pub LowDegreePasses : Type 0
   LowDegreePasses =
-      (p : Params) (rows : List (List A)) (proof : Proof A) (columns : List ℕ) (u : List A) → AreBounded p → AreRows p rows → AreOpened o point p rows proof columns
-      → proof.ldt ≡ low_degree_of p rows u → AtEach columns (IsLowDegree o p proof point columns u)
+      (p : Params) (rows : List (List A)) (proof : Proof A) (columns : List ℕ) (u : List A) → AreBounded p
+      → AreRows p rows → AreOpened o point p rows proof columns → proof.ldt ≡ low_degree_of p rows u
+      → AtEach columns (IsLowDegree o p proof point columns u)
 
   -- so is the linear answer, for any coefficients
   abbrev pub LinearPasses : Type 0
   LinearPasses =
-      (p : Params) (rows : List (List A)) (proof : Proof A) (columns : List ℕ) (coefficients : ℕ → List A) → AreBounded p → AreRows p rows → AreOpened o point p rows proof columns
-      → ((i : ℕ) → i < p.nrow - 3 → length (coefficients (3 + i)) ≡ p.block)
-      → proof.dot ≡ linear_of p rows coefficients → AtEach columns (IsLinear o p proof point columns coefficients)
+      (p : Params) (rows : List (List A)) (proof : Proof A) (columns : List ℕ) (coefficients : ℕ → List A)
+      → AreBounded p → AreRows p rows → AreOpened o point p rows proof columns
+      → ((i : ℕ) → i < p.nrow - 3 → length (coefficients (3 + i)) ≡ p.block) → proof.dot ≡ linear_of p rows coefficients
+      → AtEach columns (IsLinear o p proof point columns coefficients)
 
   -- and the quadratic answer, where the values that are not sent are zeros
   abbrev pub QuadraticPasses : Type 0
   QuadraticPasses =
-      (p : Params) (rows : List (List A)) (proof : Proof A) (columns : List ℕ) (v : List A) → AreBounded p → AreRows p rows → AreOpened o point p rows proof columns
-      → HaveZeros p (quadratic_of p rows v) → IsSent p (quadratic_of p rows v) proof → AtEach columns (IsQuadratic o p proof point columns v)
+      (p : Params) (rows : List (List A)) (proof : Proof A) (columns : List ℕ) (v : List A) → AreBounded p
+      → AreRows p rows → AreOpened o point p rows proof columns → HaveZeros p (quadratic_of p rows v)
+      → IsSent p (quadratic_of p rows v) proof
+      → AtEach columns (IsQuadratic o p proof point columns v)
 
   -- Rows for a list that satisfies its constraints have these zeros.
   abbrev pub ZerosStand : Type 0
   ZerosStand =
-      (c : Wiring A) (coefficient : ℕ → ℕ → A) (right : ℕ → A) (w : List A) (rows : List (List A)) (v : List A) → AreBounded (params_of c) → AreRows (params_of c) rows
-      → Satisfies o c coefficient right w → Stands o c w rows → HaveZeros (params_of c) (quadratic_of (params_of c) rows v)
+      (c : Wiring A) (coefficient : ℕ → ℕ → A) (right : ℕ → A) (w : List A) (rows : List (List A)) (v : List A)
+      → AreBounded (params_of c) → AreRows (params_of c) rows → Satisfies o c coefficient right w → Stands o c w rows
+      → HaveZeros (params_of c) (quadratic_of (params_of c) rows v)
 
   -- The linear answer of such rows, for the combined coefficients, has the sum that is wanted.
   abbrev pub LinearSumStands : Type 0
   LinearSumStands =
-      (c : Wiring A) (coefficient : ℕ → ℕ → A) (right : ℕ → A) (ch : Challenges A) (w : List A) (rows : List (List A)) (proof : Proof A) → AreBounded (params_of c) → AreRows (params_of c) rows
-      → Satisfies o c coefficient right w → Stands o c w rows
-      → proof.dot ≡ linear_of (params_of c) rows (combined_row o c coefficient ch) → HasLinearSum o (params_of c) proof (wanted o c right ch)
+      (c : Wiring A) (coefficient : ℕ → ℕ → A) (right : ℕ → A) (ch : Challenges A) (w : List A) (rows : List (List A))
+      (proof : Proof A)
+      → AreBounded (params_of c) → AreRows (params_of c) rows → Satisfies o c coefficient right w → Stands o c w rows
+      → proof.dot ≡ linear_of (params_of c) rows (combined_row o c coefficient ch)
+      → HasLinearSum o (params_of c) proof (wanted o c right ch)
 
   -- a row of combined coefficients has these at the points of a row's elements
   abbrev pub CombinedRows : Type 0
-  CombinedRows = (c : Wiring A) (coefficient : ℕ → ℕ → A) (ch : Challenges A) (i : ℕ) → AreCoefficients o (params_of c) (combined o c coefficient ch i) (combined_row o c coefficient ch i)
+  CombinedRows =
+      (c : Wiring A) (coefficient : ℕ → ℕ → A) (ch : Challenges A) (i : ℕ)
+      → AreCoefficients o (params_of c) (combined o c coefficient ch i) (combined_row o c coefficient ch i)
 
   -- ---- answers with something that is not zero added to value n
 
@@ -88,25 +102,35 @@ module _ {A : Type 0} (o : Ops A) (point : ℕ → A) where
   -- the low degree answer is then wrong at each opened column
   abbrev pub LowDegreeFails : Type 0
   LowDegreeFails =
-      (p : Params) (rows : List (List A)) (proof : Proof A) (columns : List ℕ) (u : List A) (n : ℕ) (by : A) → AreBounded p → AreRows p rows → AreOpened o point p rows proof columns → AreColumns p columns
-      → by ≢ o.zero → n < p.block → proof.ldt ≡ changed o (low_degree_of p rows u) n by → AtEach columns (λ k. IsLowDegree o p proof point columns u k → ⊥)
+      (p : Params) (rows : List (List A)) (proof : Proof A) (columns : List ℕ) (u : List A) (n : ℕ) (by : A)
+      → AreBounded p → AreRows p rows → AreOpened o point p rows proof columns → AreColumns p columns → by ≢ o.zero
+      → n < p.block → proof.ldt ≡ changed o (low_degree_of p rows u) n by
+      → AtEach columns (λ k. IsLowDegree o p proof point columns u k → ⊥)
 
   -- so is the linear answer
   abbrev pub LinearFails : Type 0
   LinearFails =
-      (p : Params) (rows : List (List A)) (proof : Proof A) (columns : List ℕ) (coefficients : ℕ → List A) (n : ℕ) (by : A) → AreBounded p → AreRows p rows → AreOpened o point p rows proof columns → AreColumns p columns
-      → ((i : ℕ) → i < p.nrow - 3 → length (coefficients (3 + i)) ≡ p.block)
-      → by ≢ o.zero → n < p.dblock → proof.dot ≡ changed o (linear_of p rows coefficients) n by → AtEach columns (λ k. IsLinear o p proof point columns coefficients k → ⊥)
+      (p : Params) (rows : List (List A)) (proof : Proof A) (columns : List ℕ) (coefficients : ℕ → List A) (n : ℕ)
+      (by : A)
+      → AreBounded p → AreRows p rows → AreOpened o point p rows proof columns → AreColumns p columns
+      → ((i : ℕ) → i < p.nrow - 3 → length (coefficients (3 + i)) ≡ p.block) → by ≢ o.zero → n < p.dblock
+      → proof.dot ≡ changed o (linear_of p rows coefficients) n by
+      → AtEach columns (λ k. IsLinear o p proof point columns coefficients k → ⊥)
 
   -- and the quadratic answer, where the value is sent
   abbrev pub QuadraticFails : Type 0
   QuadraticFails =
-      (p : Params) (rows : List (List A)) (proof : Proof A) (columns : List ℕ) (v : List A) (n : ℕ) (by : A) → AreBounded p → AreRows p rows → AreOpened o point p rows proof columns → AreColumns p columns
-      → HaveZeros p (quadratic_of p rows v) → by ≢ o.zero → (n < 128) ⊎ (p.block ≤ n) → n < p.dblock → IsSent p (changed o (quadratic_of p rows v) n by) proof
+      (p : Params) (rows : List (List A)) (proof : Proof A) (columns : List ℕ) (v : List A) (n : ℕ) (by : A)
+      → AreBounded p → AreRows p rows → AreOpened o point p rows proof columns → AreColumns p columns
+      → HaveZeros p (quadratic_of p rows v) → by ≢ o.zero → (n < 128) ⊎ (p.block ≤ n) → n < p.dblock
+      → IsSent p (changed o (quadratic_of p rows v) n by) proof
       → AtEach columns (λ k. IsQuadratic o p proof point columns v k → ⊥)
 
-  -- The linear answer's sum rises by what is added at the point of a row's element, and stays where something is added elsewhere.
+  -- The linear answer's sum rises by what is added at the point of a row's element, and stays where something is added
+  -- elsewhere.
   abbrev pub SumsChange : Type 0
   SumsChange =
-      (p : Params) (before after : Proof A) (n : ℕ) (by : A) → n < length before.dot → after.dot ≡ changed o before.dot n by
-      → (128 ≤ n → n < p.block → found_sum o p after ≡ o.plus (found_sum o p before) by) × ((n < 128) ⊎ (p.block ≤ n) → found_sum o p after ≡ found_sum o p before)
+      (p : Params) (before after : Proof A) (n : ℕ) (by : A) → n < length before.dot
+      → after.dot ≡ changed o before.dot n by
+      → (128 ≤ n → n < p.block → found_sum o p after ≡ o.plus (found_sum o p before) by)
+      × ((n < 128) ⊎ (p.block ≤ n) → found_sum o p after ≡ found_sum o p before)

@@ -9,7 +9,8 @@ use Rattle.lzk_layout.specs.declared.params.Params.{Params}
 abbrev pub row : {A : Type 0} → List (List A) → ℕ → List A
 row rows i = slice_index_or rows i []
 
--- Three rows that hide the answers, the second and the third as long as products of two rows, and behind them rows of block values each.
+-- Three rows that hide the answers, the second and the third as long as products of two rows, and behind them rows of
+-- block values each.
 pub record AreRows {A : Type 0} (p : Params) (rows : List (List A)) : Type 0 where
   pub count : length rows ≡ p.nrow
   pub first : length (row rows 0) ≡ p.block
@@ -20,7 +21,8 @@ pub record AreRows {A : Type 0} (p : Params) (rows : List (List A)) : Type 0 whe
 module _ {A : Type 0} (o : Ops A) (point : ℕ → A) where
   -- one row after another, the values of each row's polynomial at the first width points
   pub record IsTableOf (width : ℕ) (rows : List (List A)) (table : List A) : Type 0 where
-    pub values : (i k : ℕ) → i < length rows → k < width → entry o table (i * width + k) ≡ extension o point (row rows i) k
+    pub values : (i k : ℕ) → i < length rows → k < width
+        → entry o table (i * width + k) ≡ extension o point (row rows i) k
 
   -- the value of each row's polynomial at point j
   abbrev pub column_at : List (List A) → ℕ → List A

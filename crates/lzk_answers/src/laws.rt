@@ -11,8 +11,8 @@ pub fn values_determine<F: Field>()
     ensures zeros { NoFurtherZero F.ops }
 {}
 
-/// The answers of rows are right at every opened column. Where the rows stand for a list that satisfies its constraints, the
-/// quadratic answer has its zeros, and the linear answer the wanted sum.
+/// The answers of rows are right at every opened column. Where the rows stand for a list that satisfies its
+/// constraints, the quadratic answer has its zeros, and the linear answer the wanted sum.
 pub fn answers_pass<F: Field>()
     ensures columns { ColumnsOpen F.ops F.coding.element }
     ensures low_degree { LowDegreePasses F.ops F.coding.element }
@@ -23,7 +23,8 @@ pub fn answers_pass<F: Field>()
     ensures combined { CombinedRows F.ops F.coding.element }
 {}
 
-/// An answer of rows with one value changed is wrong at every opened column, and the linear answer's sum changes by as much.
+/// An answer of rows with one value changed is wrong at every opened column, and the linear answer's sum changes by as
+/// much.
 pub fn changed_answers_fail<F: Field>()
     ensures low_degree { LowDegreeFails F.ops F.coding.element }
     ensures linear { LinearFails F.ops F.coding.element }

@@ -1,9 +1,9 @@
 //! The answers of a prover: combinations of its rows.
 //!
-//! A row stands for the polynomial through its values. As in Ligero (CCS 2017), the answers are sums of such polynomials
-//! times drawn factors, times polynomials of coefficients, and of products of two rows less a third, each with a row of
-//! its own that hides it. They are sent by their values. A verifier compares each answer's extension with the same
-//! combination of an opened column's elements.
+//! A row stands for the polynomial through its values. As in Ligero (CCS 2017), the answers are sums of such
+//! polynomials times drawn factors, times polynomials of coefficients, and of products of two rows less a third, each
+//! with a row of its own that hides it. They are sent by their values. A verifier compares each answer's extension with
+//! the same combination of an opened column's elements.
 //!
 //! The rows stand in a table: one after another, the values of each at the same first points. A caller writes
 //!

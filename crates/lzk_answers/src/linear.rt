@@ -19,7 +19,8 @@ fn fill_row<F: Field>(coefficients: &[F], row: &mut [F])
     requires { length row.old ≡ 128 + length coefficients.now }
     ensures length { length row.new ≡ length row.old }
     ensures front { (s : ℕ) → s < 128 → entry F.ops row.new s ≡ F.ops.zero }
-    ensures back { (s : ℕ) → s < length coefficients.now → entry F.ops row.new (128 + s) ≡ entry F.ops coefficients.now s }
+    ensures back { (s : ℕ) → s < length coefficients.now
+        → entry F.ops row.new (128 + s) ≡ entry F.ops coefficients.now s }
 {
     let (head, tail) = row.split_at_mut(BLINDS);
     clear(head);
@@ -43,9 +44,11 @@ fn extend_behind<F: Field, X: RowExtend<F>>(
     requires room { X.rooms extender.now ≤ length room.old }
     ensures behind { length behind.new ≡ length behind.old }
     ensures room { length room.new ≡ length room.old }
-    ensures given { (list : List F) → AreCoefficients F.ops params.now (entry F.ops coefficients.now) list → values.new ≡ list }
-    ensures further { (list : List F) → AreCoefficients F.ops params.now (entry F.ops coefficients.now) list → (k : ℕ) → k < length behind.old →
-        entry F.ops behind.new k ≡ extension F.ops F.coding.element list (params.now.block + k) }
+    ensures given { (list : List F) → AreCoefficients F.ops params.now (entry F.ops coefficients.now) list
+        → values.new ≡ list }
+    ensures further { (list : List F) → AreCoefficients F.ops params.now (entry F.ops coefficients.now) list → (k : ℕ)
+        → k < length behind.old
+        → entry F.ops behind.new k ≡ extension F.ops F.coding.element list (params.now.block + k) }
     ensures values { length values.new ≡ length values.old }
 {
     fill_row(coefficients, values);
@@ -68,15 +71,16 @@ fn extend_coefficients<F: Field, X: RowExtend<F>>(
     requires room { X.rooms extender.now ≤ length room.old }
     ensures row { length row.new ≡ length row.old }
     ensures room { length room.new ≡ length room.old }
-    ensures values { (list : List F) → AreCoefficients F.ops params.now (entry F.ops coefficients.now) list → (k : ℕ) → k < params.now.dblock →
-        entry F.ops row.new k ≡ extension F.ops F.coding.element list k }
+    ensures values { (list : List F) → AreCoefficients F.ops params.now (entry F.ops coefficients.now) list → (k : ℕ)
+        → k < params.now.dblock
+        → entry F.ops row.new k ≡ extension F.ops F.coding.element list k }
 {
     let (values, behind) = row.split_at_mut(params.block as usize);
     extend_behind(params, coefficients, extender, values, behind, room);
 }
 
-// Adds, at each point, the value of a row of coefficients times what is given there. The first DBLOCK entries of `room`, and
-// then the extender's, are room.
+// Adds, at each point, the value of a row of coefficients times what is given there. The first DBLOCK entries of
+// `room`, and then the extender's, are room.
 fn add_extended<F: Field, X: RowExtend<F>>(
     params: &Params,
     coefficients: &[F],
@@ -93,8 +97,10 @@ fn add_extended<F: Field, X: RowExtend<F>>(
     requires answer { length answer.old ≡ params.now.dblock }
     ensures room { length room.new ≡ length room.old }
     ensures answer { length answer.new ≡ length answer.old }
-    ensures values { let o = F.ops in (list : List F) → AreCoefficients o params.now (entry o coefficients.now) list → (k : ℕ) → k < params.now.dblock →
-        entry o answer.new k ≡ o.plus (entry o answer.old k) (o.times (extension o F.coding.element list k) (entry o values.now k)) }
+    ensures values { let o = F.ops in
+        (list : List F) → AreCoefficients o params.now (entry o coefficients.now) list → (k : ℕ) → k < params.now.dblock
+        → entry o answer.new k
+        ≡ o.plus (entry o answer.old k) (o.times (extension o F.coding.element list k) (entry o values.now k)) }
 {
     let (row, rest) = room.split_at_mut(params.dblock as usize);
     extend_coefficients(params, coefficients, extender, row, rest);
@@ -102,8 +108,8 @@ fn add_extended<F: Field, X: RowExtend<F>>(
     add_list(answer, row);
 }
 
-// The values from point BLOCK on of the polynomials of the factors' rows of place factors, one row after another. `values`
-// is room, of BLOCK elements.
+// The values from point BLOCK on of the polynomials of the factors' rows of place factors, one row after another.
+// `values` is room, of BLOCK elements.
 fn extend_factors<F: Field, X: RowExtend<F>>(
     params: &Params,
     place_factors: &[F],
@@ -133,8 +139,9 @@ fn extend_factors<F: Field, X: RowExtend<F>>(
     }
 }
 
-// Adds the products of rows that are given by factors: for each factor, the sum of the rows' multiples, times the values of
-// the row of place factors. These are zeros at the first points, then the place factors, and then those of `behind`.
+// Adds the products of rows that are given by factors: for each factor, the sum of the rows' multiples, times the
+// values of the row of place factors. These are zeros at the first points, then the place factors, and then those of
+// `behind`.
 fn add_factored<F: Field>(
     params: &Params,
     table: &[F],
@@ -155,10 +162,12 @@ fn add_factored<F: Field>(
     requires further { AreExtended F.ops F.coding.element params.now place_factors.now behind.now }
     requires answer { length answer.old ≡ params.now.dblock }
     ensures answer { length answer.new ≡ length answer.old }
-    ensures values { let o = F.ops in (lists : ℕ → List F) → AreFactored o params.now rows 4 row_factors.now place_factors.now lists → (k : ℕ) →
-        k < params.now.dblock →
-        entry o answer.new k ≡ o.plus (entry o answer.old k)
-        (sum_below o rows (λ i. o.times (extension o F.coding.element (lists (3 + i)) k) (entry o table.now ((3 + i) * width + k)))) }
+    ensures values { let o = F.ops in
+        (lists : ℕ → List F) → AreFactored o params.now rows 4 row_factors.now place_factors.now lists → (k : ℕ)
+        → k < params.now.dblock
+        → entry o answer.new k
+        ≡ o.plus (entry o answer.old k) (sum_below o rows (λ i.
+        o.times (extension o F.coding.element (lists (3 + i)) k) (entry o table.now ((3 + i) * width + k)))) }
 {
     let block = params.block as usize;
     let (front, further) = answer.split_at_mut(block);
@@ -197,9 +206,11 @@ fn add_listed<F: Field, X: RowExtend<F>>(
     requires answer { length answer.old ≡ params.now.dblock }
     ensures room { length room.new ≡ length room.old }
     ensures answer { length answer.new ≡ length answer.old }
-    ensures values { let o = F.ops in (lists : ℕ → List F) → AreListed o params.now m coefficients.now lists → (k : ℕ) → k < params.now.dblock →
-        entry o answer.new k ≡ o.plus (entry o answer.old k)
-        (sum_below o (params.now.nrow - 3 - m) (λ t. o.times (extension o F.coding.element (lists (3 + (m + t))) k)
+    ensures values { let o = F.ops in
+        (lists : ℕ → List F) → AreListed o params.now m coefficients.now lists → (k : ℕ) → k < params.now.dblock
+        → entry o answer.new k
+        ≡ o.plus (entry o answer.old k) (sum_below o (params.now.nrow - 3 - m) (λ t.
+        o.times (extension o F.coding.element (lists (3 + (m + t))) k)
         (entry o table.now ((3 + (m + t)) * width + k)))) }
 {
     let wr = params.wr as usize;
@@ -214,9 +225,9 @@ fn add_listed<F: Field, X: RowExtend<F>>(
 /// Sets `answer`, of DBLOCK values, to the values of the linear answer: row 1, and each row from row 3 on times the
 /// polynomial of its combined coefficients.
 ///
-/// `table` has the rows one after another, with `width` values each, at the first points, and `coefficients` the combined
-/// coefficients of each row from row 3 on, one an element of the row. The extender's and DBLOCK more elements of `room` are
-/// used. What they hold before and after has no meaning. No memory is taken. It is the plain form beside
+/// `table` has the rows one after another, with `width` values each, at the first points, and `coefficients` the
+/// combined coefficients of each row from row 3 on, one an element of the row. The extender's and DBLOCK more elements
+/// of `room` are used. What they hold before and after has no meaning. No memory is taken. It is the plain form beside
 /// `linear_by_factors_into`, for tests.
 pub fn linear_into<F: Field, X: RowExtend<F>>(
     params: &Params,
@@ -236,9 +247,11 @@ pub fn linear_into<F: Field, X: RowExtend<F>>(
     requires answer { length answer.old ≡ params.now.dblock }
     ensures room { length room.new ≡ length room.old }
     ensures answer { length answer.new ≡ length answer.old }
-    ensures values { (all : List (List F)) (lists : ℕ → List F) → length all ≡ params.now.nrow → IsTableOf F.ops F.coding.element width all table.now →
-        AreListed F.ops params.now 0 coefficients.now lists →
-        answer.new ≡ values_of F.ops F.coding.element params.now.dblock (linear_answer F.ops F.coding.element params.now all lists) }
+    ensures values { (all : List (List F)) (lists : ℕ → List F) → length all ≡ params.now.nrow
+        → IsTableOf F.ops F.coding.element width all table.now → AreListed F.ops params.now 0 coefficients.now lists
+        → answer.new
+        ≡ values_of F.ops F.coding.element params.now.dblock
+        (linear_answer F.ops F.coding.element params.now all lists) }
 {
     set_list(answer, row_of(table, width, 1, params.dblock as usize));
     add_listed(
@@ -253,12 +266,12 @@ pub fn linear_into<F: Field, X: RowExtend<F>>(
     );
 }
 
-/// The same where the coefficients of the first `rows` rows from row 3 on are sums of four products: these rows cost a sum of
-/// their multiples and a product of two rows for each of the four, and no product of every row.
+/// The same where the coefficients of the first `rows` rows from row 3 on are sums of four products: these rows cost a
+/// sum of their multiples and a product of two rows for each of the four, and no product of every row.
 ///
 /// Factor f of row 3 + i is entry `f * rows + i` of `row_factors`, and factor f of position s is entry `f * WR + s` of
-/// `place_factors`. `coefficients` has the combined coefficients of the rows behind these. The extender's and twice DBLOCK
-/// elements of `room` are used.
+/// `place_factors`. `coefficients` has the combined coefficients of the rows behind these. The extender's and twice
+/// DBLOCK elements of `room` are used.
 pub fn linear_by_factors_into<F: Field, X: RowExtend<F>>(
     params: &Params,
     table: &[F],
@@ -283,10 +296,13 @@ pub fn linear_by_factors_into<F: Field, X: RowExtend<F>>(
     requires answer { length answer.old ≡ params.now.dblock }
     ensures room { length room.new ≡ length room.old }
     ensures answer { length answer.new ≡ length answer.old }
-    ensures values { (all : List (List F)) (lists : ℕ → List F) → length all ≡ params.now.nrow → IsTableOf F.ops F.coding.element width all table.now →
-        AreFactored F.ops params.now rows 4 row_factors.now place_factors.now lists →
-        AreListed F.ops params.now rows coefficients.now lists →
-        answer.new ≡ values_of F.ops F.coding.element params.now.dblock (linear_answer F.ops F.coding.element params.now all lists) }
+    ensures values { (all : List (List F)) (lists : ℕ → List F) → length all ≡ params.now.nrow
+        → IsTableOf F.ops F.coding.element width all table.now
+        → AreFactored F.ops params.now rows 4 row_factors.now place_factors.now lists
+        → AreListed F.ops params.now rows coefficients.now lists
+        → answer.new
+        ≡ values_of F.ops F.coding.element params.now.dblock
+        (linear_answer F.ops F.coding.element params.now all lists) }
 {
     let size = FACTORS * (params.dblock - params.block) as usize;
     let (behind, rest) = room.split_at_mut(size);

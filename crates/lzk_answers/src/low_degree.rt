@@ -13,8 +13,8 @@ use lzk_layout::Params;
 /// Sets `answer`, of BLOCK values, to the values of the low degree answer: row 0, and each row from row 3 on times its
 /// factor of `u`.
 ///
-/// `table` has the rows one after another, with `width` values each, at the first points. What `room` holds before and after
-/// has no meaning. No memory is taken.
+/// `table` has the rows one after another, with `width` values each, at the first points. What `room` holds before and
+/// after has no meaning. No memory is taken.
 pub fn low_degree_into<F: Field>(
     params: &Params,
     table: &[F],
@@ -31,8 +31,11 @@ pub fn low_degree_into<F: Field>(
     requires answer { length answer.old ≡ params.now.block }
     ensures room { length room.new ≡ length room.old }
     ensures answer { length answer.new ≡ length answer.old }
-    ensures values { (rows : List (List F)) → length rows ≡ params.now.nrow → IsTableOf F.ops F.coding.element width rows table.now →
-        answer.new ≡ values_of F.ops F.coding.element params.now.block (low_degree_answer F.ops F.coding.element params.now rows u.now) }
+    ensures values { (rows : List (List F)) → length rows ≡ params.now.nrow
+        → IsTableOf F.ops F.coding.element width rows table.now
+        → answer.new
+        ≡ values_of F.ops F.coding.element params.now.block
+        (low_degree_answer F.ops F.coding.element params.now rows u.now) }
 {
     set_list(answer, row_of(table, width, 0, params.block as usize));
     add_rows(table, width, 3, u, room, answer);

@@ -16,8 +16,10 @@ fn add_product<F: Field>(answer: &mut [F], by: F, x: &[F], y: &[F])
     requires x { length x.now ≡ length answer.old }
     requires y { length y.now ≡ length answer.old }
     ensures length { length answer.new ≡ length answer.old }
-    ensures entries { let o = F.ops in (k : ℕ) → k < length answer.old →
-        entry o answer.new k ≡ o.plus (entry o answer.old k) (o.times by (o.times (entry o x.now k) (entry o y.now k))) }
+    ensures entries { let o = F.ops in
+        (k : ℕ) → k < length answer.old
+        → entry o answer.new k
+        ≡ o.plus (entry o answer.old k) (o.times by (o.times (entry o x.now k) (entry o y.now k))) }
 {
     for k in 0..answer.len() {
         answer[k] = answer[k].add(by.mul(x[k].mul(y[k])));
@@ -28,7 +30,9 @@ fn add_product<F: Field>(answer: &mut [F], by: F, x: &[F], y: &[F])
 fn add_multiple<F: Field>(answer: &mut [F], by: F, z: &[F])
     requires z { length z.now ≡ length answer.old }
     ensures length { length answer.new ≡ length answer.old }
-    ensures entries { let o = F.ops in (k : ℕ) → k < length answer.old → entry o answer.new k ≡ o.plus (entry o answer.old k) (o.times by (entry o z.now k)) }
+    ensures entries { let o = F.ops in
+        (k : ℕ) → k < length answer.old
+        → entry o answer.new k ≡ o.plus (entry o answer.old k) (o.times by (entry o z.now k)) }
 {
     for k in 0..answer.len() {
         answer[k] = answer[k].add(by.mul(z[k]));
@@ -41,9 +45,11 @@ fn add_triple<F: Field>(table: &[F], width: usize, first: usize, by: F, answer: 
     requires few { first ≤ 262 }
     requires short { length answer.old ≤ width }
     ensures length { length answer.new ≡ length answer.old }
-    ensures entries { let o = F.ops in (k : ℕ) → k < length answer.old →
-        entry o answer.new k ≡ o.plus (entry o answer.old k)
-        (o.times by (minus o (o.times (entry o table.now (first * width + k)) (entry o table.now ((first + 1) * width + k)))
+    ensures entries { let o = F.ops in
+        (k : ℕ) → k < length answer.old
+        → entry o answer.new k
+        ≡ o.plus (entry o answer.old k) (o.times by (minus o
+        (o.times (entry o table.now (first * width + k)) (entry o table.now ((first + 1) * width + k)))
         (entry o table.now ((first + 2) * width + k)))) }
 {
     let size = answer.len();
@@ -54,8 +60,8 @@ fn add_triple<F: Field>(table: &[F], width: usize, first: usize, by: F, answer: 
     add_multiple(answer, by.neg(), z);
 }
 
-/// Sets `answer`, of DBLOCK values, to the values of the quadratic answer: row 2, and for each triple the product of its
-/// first two rows less the third, times the triple's factor of `v`.
+/// Sets `answer`, of DBLOCK values, to the values of the quadratic answer: row 2, and for each triple the product of
+/// its first two rows less the third, times the triple's factor of `v`.
 ///
 /// Where the rows hold products as they should, the values at the points of a row's elements are zero and are not sent.
 /// `table` has the rows one after another, with `width` values each, at the first points. No memory is taken.
@@ -72,8 +78,11 @@ pub fn quadratic_into<F: Field>(
     requires v { length v.now ≡ params.now.ntriple }
     requires answer { length answer.old ≡ params.now.dblock }
     ensures answer { length answer.new ≡ length answer.old }
-    ensures values { (rows : List (List F)) → length rows ≡ params.now.nrow → IsTableOf F.ops F.coding.element width rows table.now →
-        answer.new ≡ values_of F.ops F.coding.element params.now.dblock (quadratic_answer F.ops F.coding.element params.now rows v.now) }
+    ensures values { (rows : List (List F)) → length rows ≡ params.now.nrow
+        → IsTableOf F.ops F.coding.element width rows table.now
+        → answer.new
+        ≡ values_of F.ops F.coding.element params.now.dblock
+        (quadratic_answer F.ops F.coding.element params.now rows v.now) }
 {
     set_list(answer, row_of(table, width, 2, params.dblock as usize));
     for t in 0..v.len() {

@@ -54,7 +54,8 @@ pub(crate) fn set_list<F: Field>(list: &mut [F], values: &[F])
 pub(crate) fn add_list<F: Field>(list: &mut [F], values: &[F])
     requires { length values.now ≡ length list.old }
     ensures length { length list.new ≡ length list.old }
-    ensures entries { (k : ℕ) → k < length list.old → entry F.ops list.new k ≡ F.ops.plus (entry F.ops list.old k) (entry F.ops values.now k) }
+    ensures entries { (k : ℕ) → k < length list.old
+        → entry F.ops list.new k ≡ F.ops.plus (entry F.ops list.old k) (entry F.ops values.now k) }
 {
     for k in 0..list.len() {
         list[k] = list[k].add(values[k]);
@@ -65,7 +66,8 @@ pub(crate) fn add_list<F: Field>(list: &mut [F], values: &[F])
 pub(crate) fn multiply_list<F: Field>(list: &mut [F], values: &[F])
     requires { length values.now ≡ length list.old }
     ensures length { length list.new ≡ length list.old }
-    ensures entries { (k : ℕ) → k < length list.old → entry F.ops list.new k ≡ F.ops.times (entry F.ops list.old k) (entry F.ops values.now k) }
+    ensures entries { (k : ℕ) → k < length list.old
+        → entry F.ops list.new k ≡ F.ops.times (entry F.ops list.old k) (entry F.ops values.now k) }
 {
     for k in 0..list.len() {
         list[k] = list[k].mul(values[k]);
@@ -77,7 +79,8 @@ fn gather<F: Field>(table: &[F], width: usize, first: usize, k: usize, column: &
     requires inside { (first + length column.old) * width ≤ length table.now }
     requires column { k < width }
     ensures length { length column.new ≡ length column.old }
-    ensures entries { (i : ℕ) → i < length column.old → entry F.ops column.new i ≡ entry F.ops table.now ((first + i) * width + k) }
+    ensures entries { (i : ℕ) → i < length column.old
+        → entry F.ops column.new i ≡ entry F.ops table.now ((first + i) * width + k) }
 {
     for i in 0..column.len() {
         column[i] = table[(first + i) * width + k];
@@ -107,7 +110,8 @@ fn add_group<F: Field>(
     }
 }
 
-// Adds to each entry the sum of multiples of rows' values, from row `first` on. `column` is room, of GROUP elements or more.
+// Adds to each entry the sum of multiples of rows' values, from row `first` on. `column` is room, of GROUP elements or
+// more.
 pub(crate) fn add_rows<F: Field>(
     table: &[F],
     width: usize,
@@ -137,7 +141,8 @@ pub(crate) fn add_rows<F: Field>(
     }
 }
 
-// The sum, over the factors, of what is given for each at place `k` times the sum of its multiples of a column's entries.
+// The sum, over the factors, of what is given for each at place `k` times the sum of its multiples of a column's
+// entries.
 fn factored_at<F: Field>(factors: &[F], column: &[F], values: &[F], size: usize, k: usize) -> F
     requires factors { length factors.now ≡ 4 * length column.now }
     requires values { length values.now ≡ 4 * size }
@@ -175,9 +180,13 @@ pub(crate) fn add_products<F: Field>(
     requires long { 265 ≤ length table.now }
     requires short { from + length out.old ≤ width }
     ensures length { length out.new ≡ length out.old }
-    ensures sums { let o = F.ops in (k : ℕ) → k < length out.old → entry o out.new k ≡ o.plus (entry o out.old k)
-        (sum_below o 4 (λ f. o.times (entry o values.now (f * length out.old + k))
-        (sum_below o rows (λ i. o.times (entry o factors.now (f * rows + i)) (entry o table.now ((first + i) * width + (from + k))))))) }
+    ensures sums { let o = F.ops in
+        (k : ℕ) → k < length out.old
+        → entry o out.new k
+        ≡ o.plus (entry o out.old k) (sum_below o 4 (λ f.
+        o.times (entry o values.now (f * length out.old + k)) (sum_below o rows (λ i.
+        o.times (entry o factors.now (f * rows + i))
+        (entry o table.now ((first + i) * width + (from + k))))))) }
 {
     let mut room = [F::zero(); MOST_ROWS];
     let (column, _) = room.split_at_mut(rows);

@@ -44,7 +44,8 @@ numbered number (Quadratic column) = Quadratic column
 abbrev pub AreShort : List ℕ → List ℕ → Type 0
 AreShort public session = (length session ≤ most_session) × (length public ≤ most_text)
 
--- what is refused beside a circuit: a session or a text that is too long, or the first fault of the text; want of memory may come at any time
+-- what is refused beside a circuit: a session or a text that is too long, or the first fault of the text; want of
+-- memory may come at any time
 abbrev pub Refuses : {A : Type 0} → Coding A → Wiring A → List ℕ → List ℕ → Refusal → Type 0
 Refuses e c public session TooLong = (most_session < length session) ⊎ (most_text < length public)
 Refuses e c public session (NoNumbers fault) = AreShort public session × IsNumberFault e.size c.publics public fault
@@ -54,10 +55,13 @@ Refuses e c public session OutOfMemory = Unit {0}
 -- the text has the circuit's public numbers, and this is the verdict on the proof for them
 abbrev pub Judges : {A : Type 0} → Ops A → Coding A → Wiring A → List ℕ → List ℕ → List ℕ → Verdict ℕ → Type 0
 Judges {A} o e c public session proof found =
-    (publics : List A) × NumberText e.size c.publics public (map e.number publics) × ((verdict : Verdict A) × IsVerdict o e c session publics proof verdict × (found ≡ numbered e.number verdict))
+    (publics : List A)
+    × NumberText e.size c.publics public (map e.number publics)
+    × ((verdict : Verdict A) × IsVerdict o e c session publics proof verdict × (found ≡ numbered e.number verdict))
 
 -- what is told of a proof over a circuit over a field
-abbrev pub SaysOver : {A : Type 0} → Ops A → Coding A → Wiring A → List ℕ → List ℕ → List ℕ → Result (Verdict ℕ) Refusal → Type 0
+abbrev pub SaysOver : {A : Type 0} → Ops A → Coding A → Wiring A → List ℕ → List ℕ → List ℕ → Result (Verdict ℕ) Refusal
+    → Type 0
 SaysOver o e c public session proof (Ok found) = AreShort public session × Judges o e c public session proof found
 SaysOver o e c public session proof (Err refusal) = Refuses e c public session refusal
 
@@ -79,15 +83,18 @@ IsRead c circuit = CircuitBytes c circuit
 -- what is told of the bytes of a circuit's file, of a text of public numbers, of a session and of a proof
 abbrev pub Says : List ℕ → List ℕ → List ℕ → List ℕ → Result (Verdict ℕ) Refusal → Type 0
 Says circuit public session proof told =
-    ((refusal : Refusal) × (told ≡ Err refusal) × IsUnread circuit refusal) ⊎ ((c : AnyCircuit) × CircuitBytes c circuit × SaysOf c public session proof told)
+    ((refusal : Refusal) × (told ≡ Err refusal) × IsUnread circuit refusal)
+    ⊎ ((c : AnyCircuit) × CircuitBytes c circuit × SaysOf c public session proof told)
 
 -- the report has what is told
 abbrev pub Explains : List ℕ → List ℕ → List ℕ → List ℕ → Report → Type 0
-Explains circuit public session proof report = (told : Result (Verdict ℕ) Refusal) × Says circuit public session proof told × (report ≡ report_of told)
+Explains circuit public session proof report =
+    (told : Result (Verdict ℕ) Refusal) × Says circuit public session proof told × (report ≡ report_of told)
 
 -- the number is that of such a report
 abbrev pub Answers : List ℕ → List ℕ → List ℕ → List ℕ → ℕ → Type 0
-Answers circuit public session proof n = (report : Report) × Explains circuit public session proof report × (n ≡ report.answer)
+Answers circuit public session proof n =
+    (report : Report) × Explains circuit public session proof report × (n ≡ report.answer)
 
 -- the bytes of all pieces, one after another
 abbrev pub joined : List Piece → List ℕ
@@ -100,9 +107,12 @@ ExplainsPieces circuit public session pieces = Explains circuit public session (
 -- ---- many proofs over one circuit
 
 -- a job is as it was, and its report has what such a relation tells of its text, its session and its proof
-pub record IsExplainedBy (Tells : List ℕ → List ℕ → List ℕ → Result (Verdict ℕ) Refusal → Type 0) (old new : Job) : Type 0 where
+pub record IsExplainedBy (Tells : List ℕ → List ℕ → List ℕ → Result (Verdict ℕ) Refusal → Type 0)
+    (old new : Job) : Type 0 where
   pub same : new ≡ record old { report = new.report }
-  pub found : (told : Result (Verdict ℕ) Refusal) × Tells old.public.now old.session.now old.proof.now told × (new.report ≡ report_of told)
+  pub found : (told : Result (Verdict ℕ) Refusal)
+      × Tells old.public.now old.session.now old.proof.now told
+      × (new.report ≡ report_of told)
 
 abbrev pub IsExplainedOver : {A : Type 0} → Ops A → Coding A → Wiring A → Job → Job → Type 0
 IsExplainedOver o e c = IsExplainedBy (SaysOver o e c)

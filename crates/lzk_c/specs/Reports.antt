@@ -69,7 +69,8 @@ verdict_report (CircuitId found) = record (failed 2) { found_digest = found }
 verdict_report (PathCount found needed) = record (failed 3) { found_count = found; needed_count = needed }
 verdict_report (Root found) = record (failed 4) { found_digest = found }
 verdict_report (LowDegree column) = record (failed 5) { column = column }
-verdict_report (LinearSum found wanted) = record (failed 6) { found_sum = to_le_bytes w128 found; wanted_sum = to_le_bytes w128 wanted }
+verdict_report (LinearSum found wanted) =
+    record (failed 6) { found_sum = to_le_bytes w128 found; wanted_sum = to_le_bytes w128 wanted }
 verdict_report (Linear column) = record (failed 7) { column = column }
 verdict_report (Quadratic column) = record (failed 8) { column = column }
 

@@ -1,9 +1,9 @@
 //! The verifier for programs in C, and in any language that calls C.
 //!
-//! `include/lzk.h` declares what is here, and `library/calls.c` refuses NULL in front of it. A caller hands in the bytes of a
-//! circuit's file, a text of public numbers, a session and a proof, and is told the verdict of `lzk_verify` on them. Nothing is
-//! kept between calls, no thread is started, no file is read, and nothing is printed. No call asks anything of its caller but
-//! that each pointer leads to as many bytes as are said.
+//! `include/lzk.h` declares what is here, and `library/calls.c` refuses NULL in front of it. A caller hands in the
+//! bytes of a circuit's file, a text of public numbers, a session and a proof, and is told the verdict of `lzk_verify`
+//! on them. Nothing is kept between calls, no thread is started, no file is read, and nothing is printed. No call asks
+//! anything of its caller but that each pointer leads to as many bytes as are said.
 //!
 //! ```text
 //! uint32_t answer = lzk_verify(circuit, circuit_len, public, public_len, session, session_len, proof, proof_len);

@@ -28,8 +28,8 @@ pub struct Piece<'a> {
 fn feed_pieces<F: Field>(desk: &mut Desk<'_, F>, pieces: &[Piece<'_>])
     requires fed { kept.is_fed desk.old ≡ true }
     ensures stands { let e = F.coding in
-        (session : List ℕ) (public : List F) (bytes : List ℕ) →
-        Stands F.ops e session public bytes desk.old → Stands F.ops e session public (bytes ++ joined pieces.now) desk.new }
+        (session : List ℕ) (public : List F) (bytes : List ℕ) → Stands F.ops e session public bytes desk.old
+        → Stands F.ops e session public (bytes ++ joined pieces.now) desk.new }
     ensures fed { kept.is_fed desk.new ≡ true }
     ensures circuit { desk.new.circuit ≡ desk.old.circuit }
 {

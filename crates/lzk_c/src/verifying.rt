@@ -47,7 +47,8 @@ pub fn publics_of<F: Field>(
     public: &[u8],
     session: &[u8],
 ) -> Result<Vec<F>, Refusal>
-    ensures numbers { IfOk result (λ publics. NumberText F.coding.size circuit.now.publics public.now (map F.coding.number publics.items)) }
+    ensures numbers { IfOk result
+        (λ publics. NumberText F.coding.size circuit.now.publics public.now (map F.coding.number publics.items)) }
     ensures count { IfOk result (λ publics. length publics.items ≡ circuit.now.publics) }
     ensures short { OnOk result (length session.now ≤ 64) }
     ensures text { OnOk result (length public.now ≤ 4194304) }

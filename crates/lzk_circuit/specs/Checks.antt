@@ -21,17 +21,22 @@ asserted o ts below g = wire o (zero_at o ts) below g
 
 -- a check for each wire of layer 0: the wire, and what an assertion term counts for it
 abbrev pub output_checks : {A : Type 0} → Ops A → Layer A → List A → List A
-output_checks o layer below = map (λ g. o.plus (wire o (coef o layer.terms) below g) (asserted o layer.terms below g)) (range_with_len 0 layer.wires)
+output_checks o layer below =
+    map (λ g. o.plus (wire o (coef o layer.terms) below g) (asserted o layer.terms below g))
+    (range_with_len 0 layer.wires)
 
 -- for each assertion wire of these layers what its term counts
 abbrev pub inner_checks : {A : Type 0} → Ops A → (A → ℕ) → List (Layer A) → List A → List A
 inner_checks o number [] inputs = []
-inner_checks o number (layer ∷ layers) inputs = map (asserted o layer.terms (wires_of o layers inputs)) (assertion_wires number layer.terms) ++ inner_checks o number layers inputs
+inner_checks o number (layer ∷ layers) inputs =
+    map (asserted o layer.terms (wires_of o layers inputs)) (assertion_wires number layer.terms)
+    ++ inner_checks o number layers inputs
 
 -- all checks over the inputs: the outputs' come first, and then those of each layer from 1 on
 abbrev pub checks_of : {A : Type 0} → Ops A → (A → ℕ) → List (Layer A) → List A → List A
 checks_of o number [] inputs = []
-checks_of o number (layer ∷ layers) inputs = output_checks o layer (wires_of o layers inputs) ++ inner_checks o number layers inputs
+checks_of o number (layer ∷ layers) inputs =
+    output_checks o layer (wires_of o layers inputs) ++ inner_checks o number layers inputs
 
 -- how many assertion wires these layers have
 abbrev pub assertion_count : {A : Type 0} → (A → ℕ) → List (Layer A) → ℕ

@@ -28,7 +28,8 @@ zero_at o (t ∷ ts) g a b = cond (is_at t g a b) (zero_of o t.coef) (zero_at o 
 abbrev pub layer_coefficient : {A : Type 0} → Ops A → List (Term A) → A → ℕ → ℕ → ℕ → A
 layer_coefficient o terms beta g a b = o.plus (coef o terms g a b) (o.times beta (zero_at o terms g a b))
 
--- the same terms, each with its coefficient, and beta for an assertion term: the coefficients of these are `layer_coefficient`
+-- the same terms, each with its coefficient, and beta for an assertion term: the coefficients of these are
+-- `layer_coefficient`
 abbrev pub weighed_term : {A : Type 0} → Ops A → A → Term A → Term A
 weighed_term o beta t = record { g = t.g; a = t.a; b = t.b; coef = o.plus t.coef (o.times beta (zero_of o t.coef)) }
 
@@ -37,7 +38,9 @@ weighed o beta ts = map (weighed_term o beta) ts
 
 -- wire g, over the values of the wires below, for any coefficients q
 unfoldable pub wire : {A : Type 0} → Ops A → (ℕ → ℕ → ℕ → A) → List A → ℕ → A
-wire o q values g = sum_pairs o (length values) (λ a b. o.times (o.times (q g a b) (slice_index_or values a o.zero)) (slice_index_or values b o.zero))
+wire o q values g =
+    sum_pairs o (length values)
+    (λ a b. o.times (o.times (q g a b) (slice_index_or values a o.zero)) (slice_index_or values b o.zero))
 
 -- the values of a layer's wires, over those of the layer below
 abbrev pub layer_values : {A : Type 0} → Ops A → Layer A → List A → List A
@@ -63,13 +66,18 @@ list_at values l = slice_index_or values l []
 
 -- each layer has the values of its wires over those of the layer below
 abbrev pub AreLayerValues : {A : Type 0} → Ops A → List (Layer A) → List (List A) → Type 0
-AreLayerValues {A} o layers values = (l : ℕ) (layer : Layer A) → slice_get layers l ≡ Some layer → list_at values l ≡ layer_values o layer (list_at values (l + 1))
+AreLayerValues {A} o layers values =
+    (l : ℕ) (layer : Layer A) → slice_get layers l ≡ Some layer
+    → list_at values l ≡ layer_values o layer (list_at values (l + 1))
 
 -- the least number whose value is not 0, with the value; none where all are 0
 abbrev pub IsFirstNonzero : {A : Type 0} → Ops A → List A → Option (ℕ × A) → Type 0
 IsFirstNonzero o outputs None = (g : ℕ) → g < length outputs → slice_index_or outputs g o.zero ≡ o.zero
 IsFirstNonzero o outputs (Some (g, v)) =
-    (g < length outputs) × (slice_index_or outputs g o.zero ≡ v) × (v ≢ o.zero) × ((k : ℕ) → k < g → slice_index_or outputs k o.zero ≡ o.zero)
+    (g < length outputs)
+    × (slice_index_or outputs g o.zero ≡ v)
+    × (v ≢ o.zero)
+    × ((k : ℕ) → k < g → slice_index_or outputs k o.zero ≡ o.zero)
 
 -- every wire is 0
 abbrev pub AreZeros : {A : Type 0} → Ops A → List (List A) → Type 0

@@ -21,7 +21,8 @@ fn over(layer: u32) -> CircuitFault
 }
 
 pub(crate) fn check_counts(publics: u32, privates: u32, depth: usize) -> Result<(), CircuitFault>
-    ensures { MatchResult result (λ _. counts_fault publics privates depth ≡ None) (λ fault. counts_fault publics privates depth ≡ Some fault) }
+    ensures { MatchResult result (λ _. counts_fault publics privates depth ≡ None)
+        (λ fault. counts_fault publics privates depth ≡ Some fault) }
 {
     if publics > MOST_PUBLICS
         || privates > MOST_PRIVATES

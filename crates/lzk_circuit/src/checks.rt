@@ -75,7 +75,8 @@ fn count_asserted_term<F: Field>(term: Term<F>, below: &[F], out: &mut [F])
 fn add_asserted<F: Field>(terms: &[Term<F>], below: &[F], out: &mut [F])
     requires { ArePlaced (length out.old) (length below.now) None terms.now }
     ensures length { length out.new ≡ length out.old }
-    ensures sum { (k : _) → k < length out.old → entry F.ops out.new k ≡ F.ops.plus (entry F.ops out.old k) (asserted F.ops terms.now below.now k) }
+    ensures sum { (k : _) → k < length out.old
+        → entry F.ops out.new k ≡ F.ops.plus (entry F.ops out.old k) (asserted F.ops terms.now below.now k) }
 {
     for i in 0..terms.len() {
         count_asserted_term(terms[i], below, out);
@@ -87,7 +88,8 @@ fn set_asserted<F: Field>(layer: &Layer<F>, below: &[F], out: &mut [F])
     requires placed { ArePlaced layer.now.wires (length below.now) None layer.now.terms }
     requires apart { MayEachStand F.ops 2 None layer.now.terms }
     requires room { length out.old ≡ length (assertion_wires F.coding.number layer.now.terms) }
-    ensures { out.new ≡ map (asserted F.ops layer.now.terms below.now) (assertion_wires F.coding.number layer.now.terms) }
+    ensures { out.new
+        ≡ map (asserted F.ops layer.now.terms below.now) (assertion_wires F.coding.number layer.now.terms) }
 {
     let terms = layer.terms.as_slice();
     let mut next = 0;

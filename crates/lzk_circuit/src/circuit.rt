@@ -12,7 +12,8 @@ use crate::layer::Layer;
 use lzk_field::Field;
 use std::marker::Model;
 
-/// A valid circuit: its counts are within the limits, and each layer's terms ascend strictly by (g, a, b) and stay in range, with a at most b.
+/// A valid circuit: its counts are within the limits, and each layer's terms ascend strictly by (g, a, b) and stay in
+/// range, with a at most b.
 /// In version 1 no coefficient is zero; in version 2 a coefficient may be zero where its term is the only one of its g.
 #[derive(Drop)]
 pub struct Circuit<F: Field> {

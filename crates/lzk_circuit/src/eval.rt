@@ -70,8 +70,10 @@ pub fn set_inputs<F: Field>(public: &[F], private: &[F], inputs: &mut [F])
 // Sets the lists of all layers, the inputs' first and then from the last layer to the uppermost.
 fn eval_layers<F: Field>(layers: &[Layer<F>], public: &[F], private: &[F], lists: &mut [Vec<F>])
     requires layers { AreLayersPlaced (1 + length public.now + length private.now) layers.now }
-    requires room { map (λ list. length list.items) lists.old ≡ map (λ layer. layer.wires) layers.now ++ (1 + length public.now + length private.now) ∷ [] }
-    ensures { map (λ list. list.items) lists.new ≡ all_values F.ops layers.now (inputs_of F.ops public.now private.now) }
+    requires room { map (λ list. length list.items) lists.old
+        ≡ map (λ layer. layer.wires) layers.now ++ (1 + length public.now + length private.now) ∷ [] }
+    ensures { map (λ list. list.items) lists.new
+        ≡ all_values F.ops layers.now (inputs_of F.ops public.now private.now) }
 {
     let Some((layer, layers)) = layers.split_first() else {
         set_inputs(public, private, &mut lists[0]);
@@ -94,7 +96,8 @@ pub(crate) fn eval_lists<F: Field>(
     requires layers { AreLayersPlaced (1 + length public.now + length private.now) layers.now }
     requires room { map (λ list. length list.items) lists.old.items ≡
         map (λ layer. layer.wires) layers.now ++ (1 + length public.now + length private.now) ∷ [] }
-    ensures { map (λ list. list.items) lists.new.items ≡ all_values F.ops layers.now (inputs_of F.ops public.now private.now) }
+    ensures { map (λ list. list.items) lists.new.items
+        ≡ all_values F.ops layers.now (inputs_of F.ops public.now private.now) }
 {
     eval_layers(layers, public, private, lists);
 }

@@ -1,7 +1,7 @@
 //! Why layers make no valid circuit.
 
-/// The check that failed: a number out of range, an order of terms, a coefficient that is zero, a count over its limit, or an assertion
-/// term that is not the only one of its wire.
+/// The check that failed: a number out of range, an order of terms, a coefficient that is zero, a count over its limit,
+/// or an assertion term that is not the only one of its wire.
 #[derive(Clone, Copy, Debug, PartialEq, Eq)]
 pub enum CircuitKind {
     /// A term has a wire that is not there, or `a` is above `b`.
@@ -16,7 +16,8 @@ pub enum CircuitKind {
     Assertion,
 }
 
-/// The first check that failed, the layer, and the term's number in it. Place 0 for a limit, and layer 0 for a circuit's own counts.
+/// The first check that failed, the layer, and the term's number in it. Place 0 for a limit, and layer 0 for a
+/// circuit's own counts.
 #[derive(Clone, Copy, Debug, PartialEq, Eq)]
 pub struct CircuitFault {
     /// The check that failed.

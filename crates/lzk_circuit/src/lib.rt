@@ -4,7 +4,8 @@
 //! of wires of the layer below, of a coefficient times the two wires' values. Layer 0 holds the outputs.
 //! Below the last layer stand the inputs: the one, the public inputs and the private ones. In version 2
 //! a term with coefficient zero asserts that the product of its two wires is 0. A circuit is satisfied
-//! where its checks are 0: the outputs, and what the assertion terms count. The limits are those of the profile in docs/FORMATS.md. A caller writes
+//! where its checks are 0: the outputs, and what the assertion terms count. The limits are those of the profile in
+//! docs/FORMATS.md. A caller writes
 //!
 //! ```text
 //! let circuit = Circuit::of_layers(publics, privates, layers)?;

@@ -30,11 +30,14 @@ impl<F: Field> Model for Values<F> {
 
     ghost view = { λ v. record { wires = map (λ list. list.items) v.lists.items; checks = v.checks.items } };
 
-    ghost invariant = { λ v. AllByRecursion (λ list. length list.items ≤ most_wires) v.lists.items × (length v.checks.items ≤ most_wires + most_total) };
+    ghost invariant = { λ v.
+        AllByRecursion (λ list. length list.items ≤ most_wires) v.lists.items
+        × (length v.checks.items ≤ most_wires + most_total) };
 }
 
 impl<F: Field> Values<F> {
-    /// Room for this circuit. All wires and checks are 0 before the first `eval`. `Err` where there is no memory for it.
+    /// Room for this circuit. All wires and checks are 0 before the first `eval`. `Err` where there is no memory for
+    /// it.
     pub fn new(alloc: Global, circuit: &Circuit<F>) -> Result<Values<F>, AllocError>
         ensures room { IfOk result (λ values. HasRoom F.coding.number circuit.now values) }
         ensures zeros { IfOk result (λ values. AreZeros F.ops values.wires) }
@@ -113,7 +116,8 @@ fn find_nonzero<F: Field>(checks: &[F]) -> Option<(u32, F)>
 }
 
 impl<F: Field> Circuit<F> {
-    /// Sets each wire and each check to its value. The slices are as long as the circuit has public and private inputs, and
+    /// Sets each wire and each check to its value. The slices are as long as the circuit has public and private inputs,
+    /// and
     /// `values` is room that was made for this circuit.
     pub fn eval(&self, public: &[F], private: &[F], values: &mut Values<F>)
         requires publics { length public.now ≡ self.now.publics }
@@ -122,7 +126,8 @@ impl<F: Field> Circuit<F> {
         ensures wires { values.new.wires ≡ all_values F.ops self.now.layers (inputs_of F.ops public.now private.now) }
         ensures layers { AreLayerValues F.ops self.now.layers values.new.wires }
         ensures inputs { list_at values.new.wires (length self.now.layers) ≡ inputs_of F.ops public.now private.now }
-        ensures checks { values.new.checks ≡ checks_of F.ops F.coding.number self.now.layers (inputs_of F.ops public.now private.now) }
+        ensures checks { values.new.checks
+            ≡ checks_of F.ops F.coding.number self.now.layers (inputs_of F.ops public.now private.now) }
         ensures room { HasRoom F.coding.number self.now values.new }
     {
         eval_lists(self.layers(), public, private, &mut values.lists);

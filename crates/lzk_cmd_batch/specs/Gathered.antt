@@ -37,7 +37,8 @@ use Rattle.lzk_cmd_files.specs.Walks.{IsEnding, Gives, Settled}
 abbrev pub Counts : ℕ → List ℕ → ℕ → Result ℕ Halt → Type 0
 Counts taken name bytes (Ok all) = (all ≡ taken + bytes) × (all ≤ total_limit)
 Counts taken name bytes (Err halts.Memory) = Unit {0}
-Counts taken name bytes (Err (halts.End e)) = (total_limit < taken + bytes) × IsEnding (says 3 (larger_line name total_limit)) e
+Counts taken name bytes (Err (halts.End e)) =
+    (total_limit < taken + bytes) × IsEnding (says 3 (larger_line name total_limit)) e
 
 -- ---- circuits that are kept
 
@@ -72,19 +73,27 @@ pub record HasCircuit (old new : Seen) (kept : List AnyCircuit) (name : List ℕ
 
 -- how many bytes all files have with that of a circuit which was put behind the others; or the end at the file
 abbrev pub GivesLast : Seen → Seen → Circuits → Circuits → List ℕ → ℕ → Result ℕ Halt → Type 0
-GivesLast old new before kept name taken (Ok all) = HasCircuit old new kept.all.items name taken (length before.all.items) all
-GivesLast old new before kept name taken (Err halt) = Gives {R = AnyCircuit × ℕ} (among taken circuit_files) (λ found. found) old new name (Err halt)
+GivesLast old new before kept name taken (Ok all) =
+    HasCircuit old new kept.all.items name taken (length before.all.items) all
+GivesLast old new before kept name taken (Err halt) =
+    Gives {R = AnyCircuit × ℕ} (among taken circuit_files) (λ found. found) old new name (Err halt)
 
 -- such a place, and how many bytes all files have; or the end at the file
 abbrev pub GivesPlace : Seen → Seen → List AnyCircuit → List ℕ → ℕ → Result (ℕ × ℕ) Halt → Type 0
 GivesPlace old new kept name taken (Ok found) = HasCircuit old new kept name taken found.0 found.1
-GivesPlace old new kept name taken (Err halt) = Gives {R = AnyCircuit × ℕ} (among taken circuit_files) (λ found. found) old new name (Err halt)
+GivesPlace old new kept name taken (Err halt) =
+    Gives {R = AnyCircuit × ℕ} (among taken circuit_files) (λ found. found) old new name (Err halt)
 
 -- ---- a job that is read
 
 -- a job over a circuit, as it was read
 abbrev pub read_over : {A : Type 0} → Wiring A → JobOf A → JobRead A
-read_over c job = record { circuit = c; session = job.session.items; publics = job.public.items; proof = job.proof.items }
+read_over c job = record {
+  circuit = c;
+  session = job.session.items;
+  publics = job.public.items;
+  proof = job.proof.items;
+}
 
 -- the same over either field
 abbrev pub IsReadOf : AnyCircuit → Job → AnyRead → Type 0
@@ -100,7 +109,8 @@ pub record IsHeld (kept : List AnyCircuit) (job : Job) (read : AnyRead) : Type 0
   pub is : IsReadOf circuit job read
 
 -- a job's number and proof files have what was read
-pub record HasOver {A : Type 0} (e : Coding A) (c : Wiring A) (files : Files) (job : Listed) (taken : ℕ) (read : JobRead A) (all : ℕ) : Type 0 where
+pub record HasOver {A : Type 0} (e : Coding A) (c : Wiring A) (files : Files) (job : Listed) (taken : ℕ)
+    (read : JobRead A) (all : ℕ) : Type 0 where
   pub publics : List A
   pub proof : List ℕ
   pub is : read ≡ record { circuit = c; session = job.session; publics = publics; proof = proof }
@@ -128,29 +138,38 @@ Behind list k jobs files stop end read taken = JobsRun list (k + 3) taken (jobs 
 abbrev pub EndsOver : {A : Type 0} → Coding A → Wiring A → Listed → ℕ → Seen → Seen → Ending → Type 0
 EndsOver {A} e c job taken old new ending =
     (wrap : JobRead A → AnyRead) (list : List Listed) (k : ℕ) (jobs : List AnyRead)
-    → Settled (λ files stop end. JobOver e c job k taken files stop end (λ read. Behind list k jobs files stop end (wrap read))) (k + 1) ⊥ ⊥ old new ending
+    → Settled (λ files stop end.
+    JobOver e c job k taken files stop end (λ read. Behind list k jobs files stop end (wrap read))) (k + 1) ⊥ ⊥ old
+    new ending
 
 abbrev pub EndsAny : AnyCircuit → Listed → ℕ → Seen → Seen → Ending → Type 0
 EndsAny c job taken old new ending =
-    (list : List Listed) (k : ℕ) (jobs : List AnyRead) → Settled (λ files stop end. JobAny c job k taken files stop end (Behind list k jobs files stop end)) (k + 1) ⊥ ⊥ old new ending
+    (list : List Listed) (k : ℕ) (jobs : List AnyRead)
+    → Settled (λ files stop end. JobAny c job k taken files stop end (Behind list k jobs files stop end)) (k + 1) ⊥ ⊥
+    old new ending
 
 abbrev pub EndsJob : Listed → ℕ → Seen → Seen → Ending → Type 0
-EndsJob job taken old new ending = (list : List Listed) (k : ℕ) (jobs : List AnyRead) → Settled (JobsRun (job ∷ list) k taken jobs) k ⊥ ⊥ old new ending
+EndsJob job taken old new ending =
+    (list : List Listed) (k : ℕ) (jobs : List AnyRead)
+    → Settled (JobsRun (job ∷ list) k taken jobs) k ⊥ ⊥ old new ending
 
 -- a job over a circuit at a place, and how many bytes all files have with its own
-pub record ReadsOver {A : Type 0} (e : Coding A) (c : Wiring A) (told : Option Files) (entry : Listed) (place taken : ℕ) (job : JobOf A) (all : ℕ) : Type 0 where
+pub record ReadsOver {A : Type 0} (e : Coding A) (c : Wiring A) (told : Option Files) (entry : Listed) (place taken : ℕ)
+    (job : JobOf A) (all : ℕ) : Type 0 where
   pub place_is : job.circuit ≡ place
   pub fits : IsFit c job
   pub few : all ≤ total_limit
   pub files_have : IfSome told (λ files. HasOver e c files entry taken (read_over c job) all)
 
-abbrev pub GivesOver : {A : Type 0} → Coding A → Wiring A → Seen → Seen → Listed → ℕ → ℕ → Result (JobOf A × ℕ) Halt → Type 0
+abbrev pub GivesOver : {A : Type 0} → Coding A → Wiring A → Seen → Seen → Listed → ℕ → ℕ → Result (JobOf A × ℕ) Halt
+    → Type 0
 GivesOver e c old new entry place taken (Ok found) = ReadsOver e c old.files entry place taken found.0 found.1
 GivesOver e c old new entry place taken (Err halts.Memory) = Unit {0}
 GivesOver e c old new entry place taken (Err (halts.End ending)) = EndsOver e c entry taken old new ending
 
 -- the same over either field
-pub record ReadsAny (c : AnyCircuit) (told : Option Files) (entry : Listed) (place taken : ℕ) (job : Job) (all : ℕ) : Type 0 where
+pub record ReadsAny (c : AnyCircuit) (told : Option Files) (entry : Listed) (place taken : ℕ) (job : Job)
+    (all : ℕ) : Type 0 where
   pub place_is : place_of job ≡ place
   pub fits : IsFitFor c job
   pub few : all ≤ total_limit
@@ -164,7 +183,8 @@ GivesAny c old new entry place taken (Err halts.Memory) = Unit {0}
 GivesAny c old new entry place taken (Err (halts.End ending)) = EndsAny c entry taken old new ending
 
 -- and with its circuit's file
-pub record ReadsJob (told : Option Files) (kept : List AnyCircuit) (entry : Listed) (taken : ℕ) (job : Job) (all : ℕ) : Type 0 where
+pub record ReadsJob (told : Option Files) (kept : List AnyCircuit) (entry : Listed) (taken : ℕ) (job : Job)
+    (all : ℕ) : Type 0 where
   pub read : AnyRead
   pub held : IsHeld kept job read
   pub few : all ≤ total_limit
@@ -184,10 +204,13 @@ IsShort entry = length entry.session ≤ 64
 -- a walk that comes behind the first i jobs comes from the first one
 abbrev pub LeadsTo : Files → List Listed → ℕ → ℕ → List AnyRead → Type 0
 LeadsTo files entries i taken reads =
-    (stop : Stop) (end : Ended) → ((j : ℕ) → j < 1 + 3 * i → stops_at stop j ≡ false) → JobsRun (drop i entries) (1 + 3 * i) taken reads files stop end → JobsRun entries 1 0 [] files stop end
+    (stop : Stop) (end : Ended) → ((j : ℕ) → j < 1 + 3 * i → stops_at stop j ≡ false)
+    → JobsRun (drop i entries) (1 + 3 * i) taken reads files stop end
+    → JobsRun entries 1 0 [] files stop end
 
 -- the first i jobs were read
-pub record HasRead (told : Option Files) (entries : List Listed) (i taken : ℕ) (kept : List AnyCircuit) (list : List Job) : Type 0 where
+pub record HasRead (told : Option Files) (entries : List Listed) (i taken : ℕ) (kept : List AnyCircuit)
+    (list : List Job) : Type 0 where
   pub reads : List AnyRead
   pub held : AllZip (IsHeld kept) list reads
   pub leads : IfSome told (λ files. LeadsTo files entries i taken reads)
@@ -209,7 +232,9 @@ AreHeld g = (reads : List AnyRead) × AllZip (IsHeld g.circuits.items) g.jobs.it
 
 -- the end tells how `verify` ends on each of the jobs
 abbrev pub TellsJobs : Gathered → Ending → Type 0
-TellsJobs g ending = (reads : List AnyRead) → AllZip (IsHeld g.circuits.items) g.jobs.items reads → (ends : List Ended) × AreTold reads ends × IsEnding (batch_end ends) ending
+TellsJobs g ending =
+    (reads : List AnyRead) → AllZip (IsHeld g.circuits.items) g.jobs.items reads
+    → (ends : List Ended) × AreTold reads ends × IsEnding (batch_end ends) ending
 
 -- how `verify` ends with a verdict over either field
 abbrev pub any_end : AnyVerdict → Ended

@@ -39,7 +39,8 @@ fn list_of(alloc: Global, name: &str, text: &[u8]) -> Result<Vec<Entry>, Halt>
 
 // The jobs of a list's file.
 fn read_list<S: Shelf>(alloc: Global, shelf: &mut S, name: &str) -> Result<Vec<Entry>, Halt>
-    ensures gives { Gives list_files (λ v. map entry_view v.items) (seen S.Shelf shelf.old) (seen S.Shelf shelf.new) name.now result }
+    ensures gives { Gives list_files (λ v. map entry_view v.items) (seen S.Shelf shelf.old) (seen S.Shelf shelf.new)
+        name.now result }
     ensures reads { OnlyReads (seen S.Shelf shelf.old) (seen S.Shelf shelf.new) }
     ensures few { IfOk result (λ v. length v.items ≤ 256) }
     ensures short { IfOk result (λ v. All IsShort (map entry_view v.items)) }

@@ -70,7 +70,8 @@ fn read_any<S: Shelf>(
 ) -> Result<(Job, usize), Halt>
     requires short { length entry.now.session.items ≤ 64 }
     requires taken { taken ≤ total_limit }
-    ensures gives { GivesAny circuit.now (seen S.Shelf shelf.old) (seen S.Shelf shelf.new) (entry_view entry.now) place taken result }
+    ensures gives { GivesAny circuit.now (seen S.Shelf shelf.old) (seen S.Shelf shelf.new) (entry_view entry.now) place
+        taken result }
     ensures reads { OnlyReads (seen S.Shelf shelf.old) (seen S.Shelf shelf.new) }
 {
     match circuit {
@@ -97,7 +98,8 @@ fn read_job<'a, S: Shelf>(
     requires taken { taken ≤ total_limit }
     requires kept { AreKept (S.held shelf.old) kept.old }
     requires room { length kept.old.all.items < 256 }
-    ensures gives { GivesJob (seen S.Shelf shelf.old) (seen S.Shelf shelf.new) kept.new.all.items (entry_view entry.now) taken result }
+    ensures gives { GivesJob (seen S.Shelf shelf.old) (seen S.Shelf shelf.new) kept.new.all.items (entry_view entry.now)
+        taken result }
     ensures kept { IfOk result (λ _. KeepsOn (S.held shelf.old) kept.old kept.new) }
     ensures reads { OnlyReads (seen S.Shelf shelf.old) (seen S.Shelf shelf.new) }
 {

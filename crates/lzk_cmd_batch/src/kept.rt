@@ -63,7 +63,8 @@ fn keep_circuit<'a, S: Shelf>(
 ) -> Result<usize, Halt>
     requires taken { taken ≤ total_limit }
     requires kept { AreKept (S.held shelf.old) kept.old }
-    ensures gives { GivesLast (seen S.Shelf shelf.old) (seen S.Shelf shelf.new) kept.old kept.new name.now taken result }
+    ensures gives { GivesLast (seen S.Shelf shelf.old) (seen S.Shelf shelf.new) kept.old kept.new name.now taken
+        result }
     ensures kept { IfOk result (λ _. KeepsOn (S.held shelf.old) kept.old kept.new) }
     ensures reads { OnlyReads (seen S.Shelf shelf.old) (seen S.Shelf shelf.new) }
 {
@@ -79,7 +80,8 @@ fn keep_circuit<'a, S: Shelf>(
     Ok(taken)
 }
 
-/// The place of the circuit of this file, which is read where it was not before, and how many bytes all files have with it.
+/// The place of the circuit of this file, which is read where it was not before, and how many bytes all files have with
+/// it.
 pub fn circuit_at<'a, S: Shelf>(
     alloc: Global,
     shelf: &mut S,
@@ -89,12 +91,14 @@ pub fn circuit_at<'a, S: Shelf>(
 ) -> Result<(usize, usize), Halt>
     requires taken { taken ≤ total_limit }
     requires kept { AreKept (S.held shelf.old) kept.old }
-    ensures gives { GivesPlace (seen S.Shelf shelf.old) (seen S.Shelf shelf.new) kept.new.all.items name.now taken result }
+    ensures gives { GivesPlace (seen S.Shelf shelf.old) (seen S.Shelf shelf.new) kept.new.all.items name.now taken
+        result }
     ensures kept { IfOk result (λ _. KeepsOn (S.held shelf.old) kept.old kept.new) }
     ensures reads { OnlyReads (seen S.Shelf shelf.old) (seen S.Shelf shelf.new) }
 
     // A circuit that was read before is not read again.
-    ensures again { (place : ℕ) → IsPlaceOf kept.old.files.items name.now place → (kept.new ≡ kept.old) × (shelf.new ≡ shelf.old) }
+    ensures again { (place : ℕ) → IsPlaceOf kept.old.files.items name.now place
+        → (kept.new ≡ kept.old) × (shelf.new ≡ shelf.old) }
 {
     match place_of(&kept.files, name) {
         Some(place) => {

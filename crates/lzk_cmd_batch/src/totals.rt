@@ -38,8 +38,8 @@ pub fn read_publics<S: Shelf, F: Field>(
     taken: usize,
 ) -> Result<(Vec<F>, usize), Halt>
     requires taken { taken ≤ total_limit }
-    ensures gives { Gives (among taken (number_files F.coding.size F.coding.number count)) (λ found. (found.0.items, found.1))
-        (seen S.Shelf shelf.old) (seen S.Shelf shelf.new) name.now result }
+    ensures gives { Gives (among taken (number_files F.coding.size F.coding.number count))
+        (λ found. (found.0.items, found.1)) (seen S.Shelf shelf.old) (seen S.Shelf shelf.new) name.now result }
     ensures count { IfOk result (λ found. length found.0.items ≡ count) }
     ensures reads { OnlyReads (seen S.Shelf shelf.old) (seen S.Shelf shelf.new) }
 {
@@ -57,7 +57,8 @@ pub fn read_proof<S: Shelf>(
     taken: usize,
 ) -> Result<(Vec<u8>, usize), Halt>
     requires taken { taken ≤ total_limit }
-    ensures gives { Gives (among taken proof_files) (λ found. (found.0.items, found.1)) (seen S.Shelf shelf.old) (seen S.Shelf shelf.new) name.now result }
+    ensures gives { Gives (among taken proof_files) (λ found. (found.0.items, found.1)) (seen S.Shelf shelf.old)
+        (seen S.Shelf shelf.new) name.now result }
     ensures reads { OnlyReads (seen S.Shelf shelf.old) (seen S.Shelf shelf.new) }
 {
     let bytes = read_file(alloc, shelf, name, PROOF_LIMIT)?;

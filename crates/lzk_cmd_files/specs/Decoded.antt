@@ -51,7 +51,12 @@ source_files = record {
 
 -- files of proofs, which are taken as they are: no contents are refused
 abbrev pub proof_files : Format (List ℕ) ⊥
-proof_files = record { limit = proof_limit; means = λ bytes file. file ≡ bytes; breaks = λ bytes fault. ⊥; refused = λ name fault. absurd fault }
+proof_files = record {
+  limit = proof_limit;
+  means = λ bytes file. file ≡ bytes;
+  breaks = λ bytes fault. ⊥;
+  refused = λ name fault. absurd fault;
+}
 
 -- a source whose circuit passes a limit
 abbrev pub level_refused : List ℕ → LevelFault → End

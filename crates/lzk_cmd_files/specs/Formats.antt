@@ -13,11 +13,13 @@ pub record Format (X F : Type 0) : Type 1 where
 -- The walk has a file's bytes: it goes on with what they mean, or ends at their first fault.
 abbrev pub AtBytes : {X F : Type 0} → Format X F → List ℕ → List ℕ → End → (X → Type 0) → Type 0
 AtBytes {X} {F} format name bytes end next =
-    ((x : X) × format.means bytes x × next x) ⊎ ((fault : F) × format.breaks bytes fault × (end ≡ format.refused name fault))
+    ((x : X) × format.means bytes x × next x)
+    ⊎ ((fault : F) × format.breaks bytes fault × (end ≡ format.refused name fault))
 
 -- The walk at its k-th file, which is of a format: it ends at the file, or goes on with its bytes.
 abbrev pub At : {X F : Type 0} → Format X F → Files → Stop → ℕ → List ℕ → End → (X → Type 0) → Type 0
-At format files stop k name end next = AtFile files stop k name format.limit end (λ bytes. AtBytes format name bytes end next)
+At format files stop k name end next =
+    AtFile files stop k name format.limit end (λ bytes. AtBytes format name bytes end next)
 
 -- a file is there within a limit, and has these bytes
 pub record HasFile (file : Option (List ℕ)) (limit : ℕ) (bytes : List ℕ) : Type 0 where

@@ -24,13 +24,16 @@ abbrev pub missing_line : List ℕ → List ℕ
 missing_line name = codes "refused: " ++ (name ++ line (codes " is missing"))
 
 abbrev pub larger_line : List ℕ → ℕ → List ℕ
-larger_line name limit = codes "refused: " ++ (name ++ (codes " is larger than " ++ (decimal limit ++ line (codes " bytes"))))
+larger_line name limit =
+    codes "refused: " ++ (name ++ (codes " is larger than " ++ (decimal limit ++ line (codes " bytes"))))
 
 abbrev pub byte_line : List ℕ → ℕ → List ℕ → List ℕ
-byte_line name offset kind = codes "refused: " ++ (name ++ (codes " at byte " ++ (decimal offset ++ (codes ": " ++ line kind))))
+byte_line name offset kind =
+    codes "refused: " ++ (name ++ (codes " at byte " ++ (decimal offset ++ (codes ": " ++ line kind))))
 
 abbrev pub text_line : List ℕ → ℕ → List ℕ → List ℕ
-text_line name number kind = codes "refused: " ++ (name ++ (codes " at line " ++ (decimal number ++ (codes ": " ++ line kind))))
+text_line name number kind =
+    codes "refused: " ++ (name ++ (codes " at line " ++ (decimal number ++ (codes ": " ++ line kind))))
 
 abbrev pub byte_kind_name : ByteKind → List ℕ
 byte_kind_name bytes.Truncated = codes "Truncated"
@@ -63,7 +66,9 @@ source_kind_name sources.Limit = codes "Limit"
 
 -- a number of a circuit that its source gives is over a limit
 abbrev pub limit_line : List ℕ → List ℕ → ℕ → ℕ → List ℕ
-limit_line name kind count limit = codes "refused: " ++ (name ++ (codes ": " ++ (kind ++ (codes " " ++ (decimal count ++ (codes " over " ++ line (decimal limit)))))))
+limit_line name kind count limit =
+    codes "refused: "
+    ++ (name ++ (codes ": " ++ (kind ++ (codes " " ++ (decimal count ++ (codes " over " ++ line (decimal limit)))))))
 
 abbrev pub level_line : List ℕ → LevelFault → List ℕ
 level_line name (Layers count) = limit_line name (codes "Layers") count 512
@@ -75,7 +80,8 @@ writing_line name = line (codes "fault: writing " ++ name)
 
 abbrev pub compiled_line : List ℕ → ℕ → ℕ → ℕ → List ℕ
 compiled_line name layers terms bytes =
-    codes "compiled " ++ (name ++ (codes ": layers " ++ (decimal layers ++ (codes ", terms " ++ (decimal terms ++ (codes ", " ++ (decimal bytes ++ line (codes " bytes"))))))))
+    codes "compiled " ++ (name ++ (codes ": layers " ++ (decimal layers
+    ++ (codes ", terms " ++ (decimal terms ++ (codes ", " ++ (decimal bytes ++ line (codes " bytes"))))))))
 
 -- a circuit was put in version 2
 abbrev pub upgraded_line : List ℕ → ℕ → List ℕ
@@ -106,10 +112,13 @@ version_lines version = cond (version == 2) (pair_line (codes "version") (codes 
 -- a circuit's field, its version where it is 2, its id and its counts
 abbrev pub counts_lines : List ℕ → ℕ → List ℕ → ℕ → ℕ → ℕ → List ℕ
 counts_lines field version digest publics privates layers =
-    pair_line (codes "field") field ++ version_lines version ++ pair_line (codes "id") (encode_lower digest) ++ count_line (codes "public") publics ++ count_line (codes "private") privates ++ count_line (codes "layers") layers
+    pair_line (codes "field") field ++ version_lines version ++ pair_line (codes "id") (encode_lower digest)
+    ++ count_line (codes "public") publics ++ count_line (codes "private") privates
+    ++ count_line (codes "layers") layers
 
 abbrev pub layer_line : ℕ → ℕ → ℕ → List ℕ
-layer_line l wires terms = codes "layer " ++ (decimal l ++ (codes ": wires " ++ (decimal wires ++ (codes " terms " ++ line (decimal terms)))))
+layer_line l wires terms =
+    codes "layer " ++ (decimal l ++ (codes ": wires " ++ (decimal wires ++ (codes " terms " ++ line (decimal terms)))))
 
 abbrev pub proof_kind_name : ProofKind → List ℕ
 proof_kind_name proofs.Truncated = codes "Truncated"
@@ -129,10 +138,12 @@ abbrev pub digest_line : List ℕ → List ℕ → List ℕ
 digest_line name digest = codes "rejected: " ++ (name ++ (codes " " ++ line (encode_lower digest)))
 
 abbrev pub path_count_line : ℕ → ℕ → List ℕ
-path_count_line found needed = codes "rejected: path count " ++ (decimal found ++ (codes ", needed " ++ line (decimal needed)))
+path_count_line found needed =
+    codes "rejected: path count " ++ (decimal found ++ (codes ", needed " ++ line (decimal needed)))
 
 abbrev pub linear_sum_line : ℕ → ℕ → List ℕ
-linear_sum_line found wanted = codes "rejected: linear sum " ++ (decimal found ++ (codes ", wanted " ++ line (decimal wanted)))
+linear_sum_line found wanted =
+    codes "rejected: linear sum " ++ (decimal found ++ (codes ", wanted " ++ line (decimal wanted)))
 
 -- a check of this name fails at a column
 abbrev pub column_line : List ℕ → ℕ → List ℕ
@@ -144,7 +155,8 @@ proved_line name bytes = codes "proved " ++ (name ++ (codes ": " ++ (decimal byt
 
 -- and it is of a message with a digest of these digits
 abbrev pub digits_line : List ℕ → List ℕ → ℕ → List ℕ
-digits_line name digits bytes = codes "proved " ++ (name ++ (codes ": " ++ (decimal bytes ++ (codes " bytes, digest " ++ line digits))))
+digits_line name digits bytes =
+    codes "proved " ++ (name ++ (codes ": " ++ (decimal bytes ++ (codes " bytes, digest " ++ line digits))))
 
 abbrev pub hashed_line : List ℕ → List ℕ → ℕ → List ℕ
 hashed_line name digest bytes = digits_line name (encode_lower digest) bytes
@@ -164,4 +176,6 @@ nonzero_line k value = codes "unsatisfied at output " ++ (decimal k ++ (codes " 
 
 -- a demo's circuit and proof
 abbrev pub demo_line : ℕ → ℕ → ℕ → List ℕ
-demo_line n layers bytes = codes "demo " ++ (decimal n ++ (codes ": layers " ++ (decimal layers ++ (codes ", proof " ++ (decimal bytes ++ line (codes " bytes, accepted"))))))
+demo_line n layers bytes =
+    codes "demo " ++ (decimal n ++ (codes ": layers "
+    ++ (decimal layers ++ (codes ", proof " ++ (decimal bytes ++ line (codes " bytes, accepted"))))))

@@ -15,7 +15,8 @@ abbrev pub list_break_name : ListBreak → List ℕ
 list_break_name Form = codes "Syntax"
 list_break_name Limit = codes "Limit"
 
--- what is refused: a missing file, one that is larger than a limit, the contents of a circuit's, number or source file or of a list, a source that passes a limit, or a circuit that is not for messages of so many bytes
+-- what is refused: a missing file, one that is larger than a limit, the contents of a circuit's, number or source file
+-- or of a list, a source that passes a limit, or a circuit that is not for messages of so many bytes
 pub data Refusal : Type 0 where
   Missing : List ℕ → Refusal
   Larger : List ℕ → ℕ → Refusal

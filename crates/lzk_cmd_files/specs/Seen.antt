@@ -14,7 +14,13 @@ pub record Seen : Type 0 where
   pub never : Bool
 
 abbrev pub seen : {S : Type 0} → ShelfMembers S → S → Seen
-seen of s = record { files = of.held s; reads = of.read_faults s; puts = of.put_faults s; misses = of.misses s; never = of.never_fails s }
+seen of s = record {
+  files = of.held s;
+  reads = of.read_faults s;
+  puts = of.put_faults s;
+  misses = of.misses s;
+  never = of.never_fails s;
+}
 
 -- a read failed, a put failed, a name was not there
 abbrev pub ReadFailed : Seen → Seen → Type 0

@@ -50,7 +50,8 @@ abbrev pub FileEnds : Seen → Seen → List ℕ → ℕ → Ending → Type 0
 FileEnds old new name limit e =
     (ReadFailed old new × IsEnding (says 4 (reading_line name)) e)
     ⊎ ((Missed old new × IfSome old.files (λ files. files name ≡ None) × IsEnding (missing_file name) e)
-    ⊎ (IfSome old.files (λ files. IsSomeAnd (files name) (λ bytes. limit < length bytes)) × IsEnding (says 3 (larger_line name limit)) e))
+    ⊎ (IfSome old.files (λ files. IsSomeAnd (files name) (λ bytes. limit < length bytes))
+    × IsEnding (says 3 (larger_line name limit)) e))
 
 -- how a run ends at a file that was not read
 abbrev pub IsEndingOf : List ℕ → ℕ → LoadFault → Ending → Type 0
@@ -74,15 +75,21 @@ GivesBytes old new name limit (Err (halts.End e)) = FileEnds old new name limit 
 abbrev pub Decodes : {X F R : Type 0} → Format X F → (R → X) → List ℕ → List ℕ → Result R Halt → Type 0
 Decodes format view name bytes (Ok r) = format.means bytes (view r)
 Decodes format view name bytes (Err halts.Memory) = Unit {0}
-Decodes {X} {F} format view name bytes (Err (halts.End e)) = (fault : F) × format.breaks bytes fault × IsEnding (format.refused name fault) e
+Decodes {X} {F} format view name bytes (Err (halts.End e)) =
+    (fault : F) × format.breaks bytes fault × IsEnding (format.refused name fault) e
 
 -- what the file means, or the end at the file or at its bytes
 abbrev pub Gives : {X F R : Type 0} → Format X F → (R → X) → Seen → Seen → List ℕ → Result R Halt → Type 0
-Gives format view old new name (Ok r) = (bytes : List ℕ) × HasBytes old name format.limit bytes × format.means bytes (view r)
+Gives format view old new name (Ok r) =
+    (bytes : List ℕ) × HasBytes old name format.limit bytes × format.means bytes (view r)
 Gives format view old new name (Err halts.Memory) = Unit {0}
 Gives {X} {F} format view old new name (Err (halts.End e)) =
     FileEnds old new name format.limit e
-    ⊎ ((bytes : List ℕ) × HasBytes old name format.limit bytes × (fault : F) × format.breaks bytes fault × IsEnding (format.refused name fault) e)
+    ⊎ ((bytes : List ℕ)
+    × HasBytes old name format.limit bytes
+    × (fault : F)
+    × format.breaks bytes fault
+    × IsEnding (format.refused name fault) e)
 
 -- ---- what a walk answers
 
@@ -96,7 +103,8 @@ pub record HasCause (no_command puts : Type 0) (old new : Seen) (end : Ended) : 
   pub writing : end.status ≡ 5 → puts × PutFailed old new
 
 -- the walk has this end from its k-th file on, for a stop that may be and that lets it come so far
-pub record Settled (tail : Files → Stop → Ended → Type 0) (k : ℕ) (no_command puts : Type 0) (old new : Seen) (e : Ending) : Type 0 where
+pub record Settled (tail : Files → Stop → Ended → Type 0) (k : ℕ) (no_command puts : Type 0) (old new : Seen)
+    (e : Ending) : Type 0 where
   pub stop : Stop
   pub end : Ended
   pub may : MayStop stop old new

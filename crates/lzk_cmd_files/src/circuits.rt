@@ -50,7 +50,8 @@ pub fn held_of(alloc: Global, name: &str, bytes: &[u8]) -> Result<Held, Halt>
 
 /// The circuit in a file, and its id.
 pub fn read_held<S: Shelf>(alloc: Global, shelf: &mut S, name: &str) -> Result<Held, Halt>
-    ensures gives { Gives circuit_files (λ held. held.circuit) (seen S.Shelf shelf.old) (seen S.Shelf shelf.new) name.now result }
+    ensures gives { Gives circuit_files (λ held. held.circuit) (seen S.Shelf shelf.old) (seen S.Shelf shelf.new)
+        name.now result }
     ensures id { IfOk result (λ held. held.id ≡ id_of_any held.circuit) }
     ensures reads { OnlyReads (seen S.Shelf shelf.old) (seen S.Shelf shelf.new) }
 {

@@ -73,7 +73,8 @@ pub fn put_file<S: Shelf>(
     bytes: &[u8],
     text: String,
 ) -> Result<Ending, Halt>
-    ensures puts { Puts name.now bytes.now (string_bytes text) (seen S.Shelf shelf.old) (seen S.Shelf shelf.new) result }
+    ensures puts { Puts name.now bytes.now (string_bytes text) (seen S.Shelf shelf.old) (seen S.Shelf shelf.new)
+        result }
     ensures moves { Moves (seen S.Shelf shelf.old) (seen S.Shelf shelf.new) }
 {
     let fault = lines::tell_writing(alloc, name)?;

@@ -1,4 +1,5 @@
-//! The steps that the commands of `zk` share: files that are read and put, their circuits and numbers, and how a run ends.
+//! The steps that the commands of `zk` share: files that are read and put, their circuits and numbers, and how a run
+//! ends.
 //!
 //! Each step gives a value or the end of the run. A caller writes
 //!

@@ -103,21 +103,24 @@ fn tell_line(alloc: Global, name: &str, line: u32, kind: &str) -> Result<String,
 
 /// The line that refuses the bytes of a circuit file.
 pub fn refuse_circuit(alloc: Global, name: &str, fault: ByteFault) -> Result<String, AllocError>
-    ensures { IfOk result (λ s. string_bytes s ≡ lines.byte_line name.now fault.offset (lines.byte_kind_name fault.kind)) }
+    ensures { IfOk result
+        (λ s. string_bytes s ≡ lines.byte_line name.now fault.offset (lines.byte_kind_name fault.kind)) }
 {
     tell_byte(alloc, name, fault.offset, byte_kind_name(fault.kind))
 }
 
 /// The line that refuses the text of a number file.
 pub fn refuse_numbers(alloc: Global, name: &str, fault: NumberFault) -> Result<String, AllocError>
-    ensures { IfOk result (λ s. string_bytes s ≡ lines.text_line name.now fault.line (lines.number_kind_name fault.kind)) }
+    ensures { IfOk result
+        (λ s. string_bytes s ≡ lines.text_line name.now fault.line (lines.number_kind_name fault.kind)) }
 {
     tell_line(alloc, name, fault.line, number_kind_name(fault.kind))
 }
 
 /// The line that refuses the text of a source.
 pub fn refuse_source(alloc: Global, name: &str, fault: SourceFault) -> Result<String, AllocError>
-    ensures { IfOk result (λ s. string_bytes s ≡ lines.text_line name.now fault.line (lines.source_kind_name fault.kind)) }
+    ensures { IfOk result
+        (λ s. string_bytes s ≡ lines.text_line name.now fault.line (lines.source_kind_name fault.kind)) }
 {
     tell_line(alloc, name, fault.line, source_kind_name(fault.kind))
 }
@@ -270,7 +273,8 @@ pub fn tell_counts(
     privates: u32,
     layers: u32,
 ) -> Result<String, AllocError>
-    ensures { IfOk result (λ s. string_bytes s ≡ lines.counts_lines field.now version digest.now publics privates layers) }
+    ensures { IfOk result
+        (λ s. string_bytes s ≡ lines.counts_lines field.now version digest.now publics privates layers) }
 {
     let digits = hex::encode(alloc, digest)?;
     let mut text = String::new(alloc);

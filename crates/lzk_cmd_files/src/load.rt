@@ -20,7 +20,8 @@ pub enum LoadFault {
 /// How many bytes one read asks for.
 const CHUNK: usize = 4096;
 
-/// All the bytes of a file, if they are no more than the limit. Nothing is read past the limit but the rest of one read.
+/// All the bytes of a file, if they are no more than the limit. Nothing is read past the limit but the rest of one
+/// read.
 pub fn load<S: Shelf>(
     alloc: Global,
     shelf: &mut S,

@@ -21,7 +21,8 @@ pub fn elements_of<F: Field>(
     count: u32,
 ) -> Result<Vec<F>, Halt>
     requires { length text.now ≤ 4194304 }
-    ensures decodes { Decodes (number_files F.coding.size F.coding.number count) (λ v. v.items) name.now text.now result }
+    ensures decodes { Decodes (number_files F.coding.size F.coding.number count) (λ v. v.items) name.now text.now
+        result }
     ensures count { IfOk result (λ v. length v.items ≡ count) }
 {
     match read_numbers(alloc, text, count) {
@@ -41,7 +42,8 @@ pub fn read_elements<S: Shelf, F: Field>(
     name: &str,
     count: u32,
 ) -> Result<Vec<F>, Halt>
-    ensures gives { Gives (number_files F.coding.size F.coding.number count) (λ v. v.items) (seen S.Shelf shelf.old) (seen S.Shelf shelf.new) name.now result }
+    ensures gives { Gives (number_files F.coding.size F.coding.number count) (λ v. v.items) (seen S.Shelf shelf.old)
+        (seen S.Shelf shelf.new) name.now result }
     ensures reads { OnlyReads (seen S.Shelf shelf.old) (seen S.Shelf shelf.new) }
     ensures count { IfOk result (λ v. length v.items ≡ count) }
 {

@@ -24,7 +24,8 @@ fn print<K: Sink>(out: &mut K, text: &[u8]) -> Result<(), SinkFault>
 
 /// Prints how a run ends, and answers its status: 5 after a failed write, 6 for want of memory.
 pub fn print_ending<K: Sink>(out: &mut K, ending: &Ending) -> u8
-    ensures prints { Prints (seen_sink K.Sink out.old) (seen_sink K.Sink out.new) ending.now.status (string_bytes ending.now.text) result }
+    ensures prints { Prints (seen_sink K.Sink out.old) (seen_sink K.Sink out.new) ending.now.status
+        (string_bytes ending.now.text) result }
     ensures quiet { Quiet (seen_sink K.Sink out.old) (seen_sink K.Sink out.new) }
 {
     match print(out, ending.text.as_bytes()) {

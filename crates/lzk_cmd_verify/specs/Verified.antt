@@ -41,10 +41,12 @@ verdict_end number verdict = says (verdict_status verdict) (verdict_line number 
 
 -- the end tells the verdict on these bytes
 abbrev pub Judged : {A : Type 0} → Ops A → Coding A → Wiring A → List ℕ → List A → List ℕ → End → Type 0
-Judged {A} o e c session publics bytes end = (verdict : Verdict A) × IsVerdict o e c session publics bytes verdict × (end ≡ verdict_end e.number verdict)
+Judged {A} o e c session publics bytes end =
+    (verdict : Verdict A) × IsVerdict o e c session publics bytes verdict × (end ≡ verdict_end e.number verdict)
 
 -- a proof over a circuit over a field, for a session and the public inputs of a number file
-unfoldable pub VerifyOver : {A : Type 0} → Ops A → Coding A → Wiring A → List ℕ → List ℕ → List ℕ → Files → Stop → End → Type 0
+unfoldable pub VerifyOver : {A : Type 0} → Ops A → Coding A → Wiring A → List ℕ → List ℕ → List ℕ → Files → Stop → End
+    → Type 0
 VerifyOver o e c public proof session files stop end =
     At (number_files e.size e.number c.publics) files stop 1 public end (λ publics.
     At proof_files files stop 2 proof end (λ bytes.

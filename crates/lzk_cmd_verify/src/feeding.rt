@@ -15,8 +15,8 @@ use std::alloc::Global;
 /// How many bytes one read of a proof asks for.
 const PIECE: usize = 65_536;
 
-/// Feeds a desk all the bytes of a file, if they are no more than the limit, by reads into the buffer. Nothing is read past
-/// the limit but the rest of one read.
+/// Feeds a desk all the bytes of a file, if they are no more than the limit, by reads into the buffer. Nothing is read
+/// past the limit but the rest of one read.
 pub fn feed_file<S: Shelf, F: Field>(
     shelf: &mut S,
     name: &str,

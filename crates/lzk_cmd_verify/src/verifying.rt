@@ -118,7 +118,8 @@ fn verify_any<S: Shelf>(
 ) -> Result<Ending, Halt>
     requires id { id ≡ id_of_any circuit.now }
     requires session { length session.now ≤ 64 }
-    ensures walks { Walks (VerifyAny circuit.now public.now proof.now session.now) 1 (seen S.Shelf shelf.old) (seen S.Shelf shelf.new) result }
+    ensures walks { Walks (VerifyAny circuit.now public.now proof.now session.now) 1 (seen S.Shelf shelf.old)
+        (seen S.Shelf shelf.new) result }
     ensures reads { OnlyReads (seen S.Shelf shelf.old) (seen S.Shelf shelf.new) }
 {
     match circuit {

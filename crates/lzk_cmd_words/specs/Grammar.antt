@@ -31,17 +31,21 @@ are_names row (name ∷ names) = is_first row.first name && list_all is_name nam
 
 -- the number of workers, the message and the version stand, or do not, as the row says
 abbrev pub are_values : Row → Keys → Bool
-are_values row keys = may_stand row.workers (is_some keys.workers) && (may_stand row.message (is_some keys.message) && may_stand row.version (is_some keys.version))
+are_values row keys =
+    may_stand row.workers (is_some keys.workers) &&
+    (may_stand row.message (is_some keys.message) && may_stand row.version (is_some keys.version))
 
 -- those keys stand that must, and no others than may
 abbrev pub are_keys : Row → Keys → Bool
-are_keys row keys = may_stand row.seed (is_some keys.seed) && (may_stand row.session (is_some keys.session) && are_values row keys)
+are_keys row keys =
+    may_stand row.seed (is_some keys.seed) && (may_stand row.session (is_some keys.session) && are_values row keys)
 
 abbrev pub behind_verb : Verb → List (List ℕ) → Option Request
 behind_verb verb words =
     let row = row_of verb in
-    cond (nat_le row.names (length words))
-    (or_else (keys_of (drop row.names words)) (λ keys. cond (are_names row (take row.names words) && are_keys row keys) (Some (record { verb = verb; names = take row.names words; keys = keys })) None) None) None
+    cond (nat_le row.names (length words)) (or_else (keys_of (drop row.names words)) (λ keys.
+    cond (are_names row (take row.names words) && are_keys row keys)
+    (Some (record { verb = verb; names = take row.names words; keys = keys })) None) None) None
 
 -- the command comes first, then its names, then keys in any order
 abbrev pub request_of : List (List ℕ) → Option Request

@@ -7,7 +7,9 @@ use Rattle.std.specs.Str.{bytes_eq}
 
 -- what stands behind a front, if the word has it
 abbrev pub behind : List ℕ → List ℕ → Option (List ℕ)
-behind front word = cond (nat_le (length front) (length word) && bytes_eq (take (length front) word) front) (Some (drop (length front) word)) None
+behind front word =
+    cond (nat_le (length front) (length word) && bytes_eq (take (length front) word) front)
+    (Some (drop (length front) word)) None
 
 abbrev pub are_hex : List ℕ → Bool
 are_hex text = list_all is_ascii_hexdigit text
@@ -38,11 +40,14 @@ number_up_to most text = cond (nat_le (number_of text) most) (Some (number_of te
 
 -- 1 to 9 digits of a number from 1 to most
 abbrev pub is_number : ℕ → List ℕ → Bool
-is_number most text = (nat_le 1 (length text) && nat_le (length text) 9) && (are_digits text && (nat_le 1 (number_of text) && nat_le (number_of text) most))
+is_number most text =
+    (nat_le 1 (length text) && nat_le (length text) 9) &&
+    (are_digits text && (nat_le 1 (number_of text) && nat_le (number_of text) most))
 
 -- 1 to 9 digits of a number up to most
 abbrev pub is_count : ℕ → List ℕ → Bool
-is_count most text = (nat_le 1 (length text) && nat_le (length text) 9) && (are_digits text && nat_le (number_of text) most)
+is_count most text =
+    (nat_le 1 (length text) && nat_le (length text) 9) && (are_digits text && nat_le (number_of text) most)
 
 -- the keys that stand, each with what is behind its `=`
 pub record Keys : Type 0 where
@@ -60,16 +65,20 @@ abbrev pub with_seed : Keys → List ℕ → Option Keys
 with_seed keys text = cond (is_none keys.seed && is_seed text) (Some (record keys { seed = Some text })) None
 
 abbrev pub with_session : Keys → List ℕ → Option Keys
-with_session keys text = cond (is_none keys.session && is_session text) (Some (record keys { session = Some text })) None
+with_session keys text =
+    cond (is_none keys.session && is_session text) (Some (record keys { session = Some text })) None
 
 abbrev pub with_workers : Keys → List ℕ → Option Keys
-with_workers keys text = cond (is_none keys.workers && is_number 64 text) (Some (record keys { workers = Some text })) None
+with_workers keys text =
+    cond (is_none keys.workers && is_number 64 text) (Some (record keys { workers = Some text })) None
 
 abbrev pub with_message : Keys → List ℕ → Option Keys
-with_message keys text = cond (is_none keys.message && is_message text) (Some (record keys { message = Some text })) None
+with_message keys text =
+    cond (is_none keys.message && is_message text) (Some (record keys { message = Some text })) None
 
 abbrev pub with_version : Keys → List ℕ → Option Keys
-with_version keys text = cond (is_none keys.version && is_version text) (Some (record keys { version = Some text })) None
+with_version keys text =
+    cond (is_none keys.version && is_version text) (Some (record keys { version = Some text })) None
 
 -- what follows from a value, or else
 abbrev pub or_else : {A B : Type 0} → Option A → (A → B) → B → B

@@ -23,7 +23,15 @@ verb_of word =
 
 -- so many names of files, and no keys
 abbrev pub plain : ℕ → Row
-plain count = record { names = count; first = File; seed = Never; session = Never; workers = Never; message = Never; version = Never }
+plain count = record {
+  names = count;
+  first = File;
+  seed = Never;
+  session = Never;
+  workers = Never;
+  message = Never;
+  version = Never;
+}
 
 abbrev pub row_of : Verb → Row
 row_of Eval = plain 3

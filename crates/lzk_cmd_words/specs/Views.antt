@@ -9,9 +9,13 @@ command_view (codes.Eval circuit public private) = words.Eval circuit.now public
 command_view (codes.Compile source circuit version) = words.Compile source.now circuit.now version
 command_view (codes.Upgrade old new) = words.Upgrade old.now new.now
 command_view (codes.Show circuit) = words.Show circuit.now
-command_view (codes.Prove order) = words.Prove order.circuit.now order.public.now order.private.now order.proof.now order.seed.now (option_copied order.session)
-command_view (codes.Verify circuit public proof session) = words.Verify circuit.now public.now proof.now (option_copied session)
+command_view (codes.Prove order) =
+    words.Prove order.circuit.now order.public.now order.private.now order.proof.now order.seed.now
+    (option_copied order.session)
+command_view (codes.Verify circuit public proof session) =
+    words.Verify circuit.now public.now proof.now (option_copied session)
 command_view (codes.Batch list workers) = words.Batch list.now
 command_view (codes.Demo count seed workers) = words.Demo count.now seed.now
 command_view (codes.ShaCircuit count circuit) = words.ShaCircuit count.now circuit.now
-command_view (codes.Sha256 order) = words.Sha256 order.circuit.now order.proof.now order.message.now order.seed.now (option_copied order.session)
+command_view (codes.Sha256 order) =
+    words.Sha256 order.circuit.now order.proof.now order.message.now order.seed.now (option_copied order.session)

@@ -25,7 +25,8 @@ pub data Command : Type 0 where
   Demo : List ℕ → List ℕ → Command
   -- the digits of the number of bytes, and the circuit
   ShaCircuit : List ℕ → List ℕ → Command
-  -- circuit and proof, and the digits of the message and the seed, and of the session, if there is one; not the number of workers
+  -- circuit and proof, and the digits of the message and the seed, and of the session, if there is one; not the number
+  -- of workers
   Sha256 : List ℕ → List ℕ → List ℕ → List ℕ → Option (List ℕ) → Command
 
 -- the version of a text: 1 where none stands
@@ -39,12 +40,15 @@ built verbs.Eval (circuit ∷ public ∷ private ∷ []) keys = Some (Eval circu
 built verbs.Compile (source ∷ circuit ∷ []) keys = Some (Compile source circuit (version_of keys.version))
 built verbs.Upgrade (old ∷ new ∷ []) keys = Some (Upgrade old new)
 built verbs.Show (circuit ∷ []) keys = Some (Show circuit)
-built verbs.Prove (circuit ∷ public ∷ private ∷ proof ∷ []) keys = or_else keys.seed (λ seed. Some (Prove circuit public private proof seed keys.session)) None
+built verbs.Prove (circuit ∷ public ∷ private ∷ proof ∷ []) keys =
+    or_else keys.seed (λ seed. Some (Prove circuit public private proof seed keys.session)) None
 built verbs.Verify (circuit ∷ public ∷ proof ∷ []) keys = Some (Verify circuit public proof keys.session)
 built verbs.Batch (list ∷ []) keys = Some (Batch list)
 built verbs.Demo (count ∷ []) keys = or_else keys.seed (λ seed. Some (Demo count seed)) None
 built verbs.ShaCircuit (count ∷ circuit ∷ []) keys = Some (ShaCircuit count circuit)
-built verbs.Sha256 (circuit ∷ proof ∷ []) keys = or_else keys.message (λ message. or_else keys.seed (λ seed. Some (Sha256 circuit proof message seed keys.session)) None) None
+built verbs.Sha256 (circuit ∷ proof ∷ []) keys =
+    or_else keys.message
+    (λ message. or_else keys.seed (λ seed. Some (Sha256 circuit proof message seed keys.session)) None) None
 built verb names keys = None
 
 -- the command of a list of words, if they are one

@@ -68,7 +68,8 @@ fn are_keys(row: Row, keys: &Keys<'_>) -> bool
 
 // The names and the keys are those of the row.
 fn fits(row: Row, names: &[String], keys: &Keys<'_>) -> bool
-    ensures { result ≡ (texts.are_names row (map (λ w. string_bytes w) names.now) && texts.are_keys row (keys_view keys.now)) }
+    ensures { result
+        ≡ (texts.are_names row (map (λ w. string_bytes w) names.now) && texts.are_keys row (keys_view keys.now)) }
 {
     are_names(row, names) && are_keys(row, keys)
 }

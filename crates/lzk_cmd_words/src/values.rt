@@ -48,7 +48,8 @@ pub fn seed_bytes(digits: &[u8]) -> [u8; 32]
 pub fn workers_of(digits: Option<&[u8]>) -> usize
     ensures some { 1 ≤ result }
     ensures most { result ≤ 64 }
-    ensures number { IfSome (option_copied digits.entry) (λ text. IsTrue (is_number 64 text) → result ≡ number_of text) }
+    ensures number { IfSome (option_copied digits.entry)
+        (λ text. IsTrue (is_number 64 text) → result ≡ number_of text) }
     ensures default { option_copied digits.entry ≡ None → result ≡ 1 }
 {
     let Some(text) = digits else {

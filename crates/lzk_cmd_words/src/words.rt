@@ -24,7 +24,8 @@ pub struct Order<'a> {
     pub workers: Option<&'a [u8]>,
 }
 
-/// The names of the files of `sha256`, and the digits of its message and seed, and of its session and workers if they stand.
+/// The names of the files of `sha256`, and the digits of its message and seed, and of its session and workers if they
+/// stand.
 #[derive(Clone, Copy)]
 pub struct HashOrder<'a> {
     pub circuit: &'a str,
@@ -87,7 +88,8 @@ pub enum Command<'a> {
 
 // The files of `eval`.
 fn eval_of(names: &[String]) -> Option<Command<'_>>
-    ensures { (keys : texts.Keys) → option_map command_view result ≡ built verbs.Eval (map (λ w. string_bytes w) names.now) keys }
+    ensures { (keys : texts.Keys)
+        → option_map command_view result ≡ built verbs.Eval (map (λ w. string_bytes w) names.now) keys }
 {
     match names {
         [circuit, public, private] => Some(Command::Eval {
@@ -117,7 +119,8 @@ fn version_of(text: Option<&[u8]>) -> Version
 
 // The files of `compile`, and its version.
 fn compile_of<'a>(names: &'a [String], keys: &Keys<'a>) -> Option<Command<'a>>
-    ensures { option_map command_view result ≡ built verbs.Compile (map (λ w. string_bytes w) names.now) (keys_view keys.now) }
+    ensures { option_map command_view result
+        ≡ built verbs.Compile (map (λ w. string_bytes w) names.now) (keys_view keys.now) }
 {
     match names {
         [source, circuit] => Some(Command::Compile {
@@ -131,7 +134,8 @@ fn compile_of<'a>(names: &'a [String], keys: &Keys<'a>) -> Option<Command<'a>>
 
 // The files of `upgrade`.
 fn upgrade_of(names: &[String]) -> Option<Command<'_>>
-    ensures { (keys : texts.Keys) → option_map command_view result ≡ built verbs.Upgrade (map (λ w. string_bytes w) names.now) keys }
+    ensures { (keys : texts.Keys)
+        → option_map command_view result ≡ built verbs.Upgrade (map (λ w. string_bytes w) names.now) keys }
 {
     match names {
         [old, new] => Some(Command::Upgrade {
@@ -144,7 +148,8 @@ fn upgrade_of(names: &[String]) -> Option<Command<'_>>
 
 // The file of `show`.
 fn show_of(names: &[String]) -> Option<Command<'_>>
-    ensures { (keys : texts.Keys) → option_map command_view result ≡ built verbs.Show (map (λ w. string_bytes w) names.now) keys }
+    ensures { (keys : texts.Keys)
+        → option_map command_view result ≡ built verbs.Show (map (λ w. string_bytes w) names.now) keys }
 {
     match names {
         [circuit] => Some(Command::Show {
@@ -156,7 +161,8 @@ fn show_of(names: &[String]) -> Option<Command<'_>>
 
 // The files of `prove`, its seed, and its session and workers.
 fn prove_of<'a>(names: &'a [String], keys: &Keys<'a>) -> Option<Command<'a>>
-    ensures { option_map command_view result ≡ built verbs.Prove (map (λ w. string_bytes w) names.now) (keys_view keys.now) }
+    ensures { option_map command_view result
+        ≡ built verbs.Prove (map (λ w. string_bytes w) names.now) (keys_view keys.now) }
 {
     match names {
         [circuit, public, private, proof] => {
@@ -177,7 +183,8 @@ fn prove_of<'a>(names: &'a [String], keys: &Keys<'a>) -> Option<Command<'a>>
 
 // The files of `verify`, and its session.
 fn verify_of<'a>(names: &'a [String], keys: &Keys<'a>) -> Option<Command<'a>>
-    ensures { option_map command_view result ≡ built verbs.Verify (map (λ w. string_bytes w) names.now) (keys_view keys.now) }
+    ensures { option_map command_view result
+        ≡ built verbs.Verify (map (λ w. string_bytes w) names.now) (keys_view keys.now) }
 {
     match names {
         [circuit, public, proof] => Some(Command::Verify {
@@ -192,7 +199,8 @@ fn verify_of<'a>(names: &'a [String], keys: &Keys<'a>) -> Option<Command<'a>>
 
 // The list of `batch`, and its workers.
 fn batch_of<'a>(names: &'a [String], keys: &Keys<'a>) -> Option<Command<'a>>
-    ensures { option_map command_view result ≡ built verbs.Batch (map (λ w. string_bytes w) names.now) (keys_view keys.now) }
+    ensures { option_map command_view result
+        ≡ built verbs.Batch (map (λ w. string_bytes w) names.now) (keys_view keys.now) }
 {
     match names {
         [list] => Some(Command::Batch {
@@ -205,7 +213,8 @@ fn batch_of<'a>(names: &'a [String], keys: &Keys<'a>) -> Option<Command<'a>>
 
 // The number of `demo`, its seed, and its workers.
 fn demo_of<'a>(names: &'a [String], keys: &Keys<'a>) -> Option<Command<'a>>
-    ensures { option_map command_view result ≡ built verbs.Demo (map (λ w. string_bytes w) names.now) (keys_view keys.now) }
+    ensures { option_map command_view result
+        ≡ built verbs.Demo (map (λ w. string_bytes w) names.now) (keys_view keys.now) }
 {
     match names {
         [count] => {
@@ -222,7 +231,8 @@ fn demo_of<'a>(names: &'a [String], keys: &Keys<'a>) -> Option<Command<'a>>
 
 // The number of bytes and the circuit of `shacircuit`.
 fn shacircuit_of(names: &[String]) -> Option<Command<'_>>
-    ensures { (keys : texts.Keys) → option_map command_view result ≡ built verbs.ShaCircuit (map (λ w. string_bytes w) names.now) keys }
+    ensures { (keys : texts.Keys)
+        → option_map command_view result ≡ built verbs.ShaCircuit (map (λ w. string_bytes w) names.now) keys }
 {
     match names {
         [count, circuit] => Some(Command::ShaCircuit {
@@ -235,7 +245,8 @@ fn shacircuit_of(names: &[String]) -> Option<Command<'_>>
 
 // The files of `sha256`, its message and seed, and its session and workers.
 fn sha256_of<'a>(names: &'a [String], keys: &Keys<'a>) -> Option<Command<'a>>
-    ensures { option_map command_view result ≡ built verbs.Sha256 (map (λ w. string_bytes w) names.now) (keys_view keys.now) }
+    ensures { option_map command_view result
+        ≡ built verbs.Sha256 (map (λ w. string_bytes w) names.now) (keys_view keys.now) }
 {
     match names {
         [circuit, proof] => {

@@ -1,4 +1,5 @@
--- What the bodies do on the way to a product, a square and an inverse. Only the contracts of private functions cite this file.
+-- What the bodies do on the way to a product, a square and an inverse. Only the contracts of private functions cite
+-- this file.
 use Rattle.std.specs.Prelude.{◌≡◌, ℕ, ◌*◌, ◌/◌, ◌%◌, ◌^◌, ◌<◌, List, slice_index, bit_and}
 use Rattle.std.proofs.Common.{zero, suc}
 use Rattle.lzk_gf128.specs.declared.arith.Wide.{Wide}

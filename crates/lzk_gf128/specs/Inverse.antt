@@ -49,8 +49,11 @@ pick-below f h zero c p = rw (zero-mul c, zero-mul (f c)) (AdditiveBelow-zero f 
 pick-below f h (suc zero) c p = rw (one-mul c, one-mul (f c)) refl
 pick-below f h (suc (suc i)) c p = absurd (omega arith)
 
-pub same_below : (f g : ℕ → ℕ) → AdditiveBelow f → AdditiveBelow g → (k : ℕ) → k ≤ 128 → ((j : ℕ) → j < k → f (2 ^ j) ≡ g (2 ^ j)) → (n : ℕ) → n < 2 ^ k → f n ≡ g n
-same_below f g hf hg zero fits agree n small = let e : n ≡ 0 = omega arith in rw e (AdditiveBelow-zero f hf ∙ sym (AdditiveBelow-zero g hg))
+pub same_below : (f g : ℕ → ℕ) → AdditiveBelow f → AdditiveBelow g → (k : ℕ) → k ≤ 128
+    → ((j : ℕ) → j < k → f (2 ^ j) ≡ g (2 ^ j)) → (n : ℕ) → n < 2 ^ k
+    → f n ≡ g n
+same_below f g hf hg zero fits agree n small =
+    let e : n ≡ 0 = omega arith in rw e (AdditiveBelow-zero f hf ∙ sym (AdditiveBelow-zero g hg))
 same_below f g hf hg (suc k) fits agree n small =
     let low = n % 2 ^ k in
     let top = n / 2 ^ k in
@@ -59,9 +62,11 @@ same_below f g hf hg (suc k) fits agree n small =
     let power_below : 2 ^ k < 2 ^ 128 = pow_below k 128 (omega arith) in
     let split : (top * 2 ^ k) ⊕ low ≡ n = xor_shifted top k low low_lt ∙ shr_split n k in
     let part : (h : ℕ → ℕ) → AdditiveBelow h → h n ≡ (top * h (2 ^ k)) ⊕ h low =
-    λ h hh. ap h (sym split) ∙ hh (top * 2 ^ k) low (pick_lt top (2 ^ k) top_lt power_below) (omega (arith, low_lt, power_below)) ∙ ap (λ w. w ⊕ h low) (pick-below h hh top (2 ^ k) top_lt) in
-    part f hf
-    ∙ ap (λ w. (top * w) ⊕ f low) (agree k (omega arith))
+    λ h hh.
+    ap h (sym split)
+    ∙ hh (top * 2 ^ k) low (pick_lt top (2 ^ k) top_lt power_below) (omega (arith, low_lt, power_below))
+    ∙ ap (λ w. w ⊕ h low) (pick-below h hh top (2 ^ k) top_lt) in
+    part f hf ∙ ap (λ w. (top * w) ⊕ f low) (agree k (omega arith))
     ∙ ap (λ w. (top * g (2 ^ k)) ⊕ w) (same_below f g hf hg k (omega arith) (λ j p. agree j (omega arith)) low low_lt)
     ∙ sym (part g hg)
 
@@ -78,7 +83,9 @@ square-additive a b ha hb =
     ∙ xor_assoc (m a a) (m a b) (m a b ⊕ m b b)
     ∙ ap (λ w. m a a ⊕ w) (sym (xor_assoc (m a b) (m a b) (m b b)) ∙ ap (λ w. w ⊕ m b b) (xor_self (m a b)))
 
-swap_times : (a b c d : ℕ) → Below a → Below b → Below c → Below d → times_bits 128 (times_bits 128 a b) (times_bits 128 c d) ≡ times_bits 128 (times_bits 128 a c) (times_bits 128 b d)
+swap_times : (a b c d : ℕ) → Below a → Below b → Below c → Below d
+    → times_bits 128 (times_bits 128 a b) (times_bits 128 c d)
+    ≡ times_bits 128 (times_bits 128 a c) (times_bits 128 b d)
 swap_times a b c d ha hb hc hd =
     let m = times_bits 128 in
     times_assoc a b (m c d) ha hb (times_bits_lt 128 c d hc)
@@ -94,11 +101,16 @@ squares_lt (suc k) n h = square_lt (squares k n) (squares_lt k n h)
 
 squares-additive : (k : ℕ) → AdditiveBelow (squares k)
 squares-additive zero a b ha hb = refl
-squares-additive (suc k) a b ha hb = ap square (squares-additive k a b ha hb) ∙ square-additive (squares k a) (squares k b) (squares_lt k a ha) (squares_lt k b hb)
+squares-additive (suc k) a b ha hb =
+    ap square (squares-additive k a b ha hb)
+    ∙ square-additive (squares k a) (squares k b) (squares_lt k a ha) (squares_lt k b hb)
 
-pub squares-times : (k a b : ℕ) → Below a → Below b → squares k (times_bits 128 a b) ≡ times_bits 128 (squares k a) (squares k b)
+pub squares-times : (k a b : ℕ) → Below a → Below b
+    → squares k (times_bits 128 a b) ≡ times_bits 128 (squares k a) (squares k b)
 squares-times zero a b ha hb = refl
-squares-times (suc k) a b ha hb = ap square (squares-times k a b ha hb) ∙ square-times (squares k a) (squares k b) (squares_lt k a ha) (squares_lt k b hb)
+squares-times (suc k) a b ha hb =
+    ap square (squares-times k a b ha hb)
+    ∙ square-times (squares k a) (squares k b) (squares_lt k a ha) (squares_lt k b hb)
 
 squares-one : (k : ℕ) → squares k 1 ≡ 1
 squares-one zero = refl
@@ -112,7 +124,8 @@ fixed_pow : (j : ℕ) → j < 128 → squares 128 (2 ^ j) ≡ 2 ^ j
 fixed_pow zero h = squares-one 128
 fixed_pow (suc j) h =
     ap (squares 128) (sym (double_is j h)) ∙ squares-times 128 2 (2 ^ j) (omega arith) (pow_below j 128 (omega arith))
-    ∙ ap (λ w. times_bits 128 w (squares 128 (2 ^ j))) frobenius ∙ ap (times_bits 128 2) (fixed_pow j (omega arith)) ∙ double_is j h
+    ∙ ap (λ w. times_bits 128 w (squares 128 (2 ^ j))) frobenius ∙ ap (times_bits 128 2) (fixed_pow j (omega arith))
+    ∙ double_is j h
 
 -- a ^ (2 ^ 128) is a
 fixed : (a : ℕ) → Below a → squares 128 a ≡ a
@@ -132,23 +145,31 @@ apply-additive ts a b ha hb = every ts a b
 
 clears_at : (k j : ℕ) → clears k ≡ true → j < k → apply table (square (2 ^ j) ⊕ 2 ^ j) ≡ (2 ^ j) ⊕ (2 ^ j % 2)
 clears_at zero j e h = absurd (omega arith)
-clears_at (suc k) j e h = here (eqb (apply table (square (2 ^ k) ⊕ 2 ^ k)) ((2 ^ k) ⊕ (2 ^ k % 2))) refl e (dec_lt j k) (clears_at k j)
+clears_at (suc k) j e h =
+    here (eqb (apply table (square (2 ^ k) ⊕ 2 ^ k)) ((2 ^ k) ⊕ (2 ^ k % 2))) refl e (dec_lt j k) (clears_at k j)
   where
-    here : (t : Bool) → eqb (apply table (square (2 ^ k) ⊕ 2 ^ k)) ((2 ^ k) ⊕ (2 ^ k % 2)) ≡ t → cond t (clears k) false ≡ true → Dec (j < k)
-        → (clears k ≡ true → j < k → apply table (square (2 ^ j) ⊕ 2 ^ j) ≡ (2 ^ j) ⊕ (2 ^ j % 2)) → apply table (square (2 ^ j) ⊕ 2 ^ j) ≡ (2 ^ j) ⊕ (2 ^ j % 2)
+    here : (t : Bool) → eqb (apply table (square (2 ^ k) ⊕ 2 ^ k)) ((2 ^ k) ⊕ (2 ^ k % 2)) ≡ t
+        → cond t (clears k) false ≡ true → Dec (j < k)
+        → (clears k ≡ true → j < k → apply table (square (2 ^ j) ⊕ 2 ^ j) ≡ (2 ^ j) ⊕ (2 ^ j % 2))
+        → apply table (square (2 ^ j) ⊕ 2 ^ j) ≡ (2 ^ j) ⊕ (2 ^ j % 2)
     here false d e q ih = absurd (false≢true e)
     here true d e (yes q) ih = ih e q
-    here true d e (no q) ih = let same : j ≡ k = omega arith in subst (λ w. apply table (square (2 ^ w) ⊕ 2 ^ w) ≡ (2 ^ w) ⊕ (2 ^ w % 2)) (sym same) (eqb-true _ _ d)
+    here true d e (no q) ih =
+        let same : j ≡ k = omega arith in
+        subst (λ w. apply table (square (2 ^ w) ⊕ 2 ^ w) ≡ (2 ^ w) ⊕ (2 ^ w % 2)) (sym same) (eqb-true _ _ d)
 
 low_lt : (n : ℕ) → Below (n % 2)
 low_lt n = omega (arith, bit_lt n)
 
 cleared : (n : ℕ) → Below n → apply table (square n ⊕ n) ≡ n ⊕ (n % 2)
 cleared n h =
-    same_below (λ m. apply table (square m ⊕ m)) (λ m. m ⊕ (m % 2))
-    (λ a b ha hb. ap (λ w. apply table (w ⊕ (a ⊕ b))) (square-additive a b ha hb) ∙ ap (apply table) (xor_swap (square a) (square b) a b) ∙ apply-additive table (square a ⊕ a) (square b ⊕ b) (xor_lt 128 (square a) a (square_lt a ha) ha) (xor_lt 128 (square b) b (square_lt b hb) hb))
-    (λ a b ha hb. ap (λ w. (a ⊕ b) ⊕ w) (low_bit_xor a b) ∙ xor_swap a b (a % 2) (b % 2))
-    128 (omega arith) (λ j p. clears_at 128 j clears_all p) n h
+    same_below (λ m. apply table (square m ⊕ m)) (λ m. m ⊕ (m % 2)) (λ a b ha hb.
+    ap (λ w. apply table (w ⊕ (a ⊕ b))) (square-additive a b ha hb)
+    ∙ ap (apply table) (xor_swap (square a) (square b) a b)
+    ∙ apply-additive table (square a ⊕ a) (square b ⊕ b) (xor_lt 128 (square a) a (square_lt a ha) ha)
+    (xor_lt 128 (square b) b (square_lt b hb) hb))
+    (λ a b ha hb. ap (λ w. (a ⊕ b) ⊕ w) (low_bit_xor a b) ∙ xor_swap a b (a % 2) (b % 2)) 128 (omega arith)
+    (λ j p. clears_at 128 j clears_all p) n h
 
 xor-same : (a b : ℕ) → a ⊕ b ≡ 0 → a ≡ b
 xor-same a b e = sym (xor_zero_r a) ∙ ap (λ w. a ⊕ w) (sym (xor_self b)) ∙ sym (xor_assoc a b b) ∙ ap (λ w. w ⊕ b) e
@@ -158,9 +179,9 @@ apply-zero ts = AdditiveBelow-zero (apply ts) (apply-additive ts)
 
 idempotent : (e : ℕ) → Below e → square e ≡ e → e < 2
 idempotent e h fix =
-    let none : e ⊕ (e % 2) ≡ 0 = sym (cleared e h) ∙ ap (λ w. apply table (w ⊕ e)) fix ∙ ap (apply table) (xor_self e) ∙ apply-zero table in
-    let bit : e ≡ e % 2 = xor-same e (e % 2) none in
-    omega (arith, bit, bit_lt e)
+    let none : e ⊕ (e % 2) ≡ 0 = sym (cleared e h) ∙ ap (λ w. apply table (w ⊕ e)) fix ∙ ap (apply table) (xor_self e)
+    ∙ apply-zero table in
+    let bit : e ≡ e % 2 = xor-same e (e % 2) none in omega (arith, bit, bit_lt e)
 
 -- ---- a ^ (2 ^ k - 1)
 abbrev pub most : ℕ → ℕ → ℕ
@@ -206,7 +227,9 @@ times_inverse a h positive = by_value (times_bits 128 b a) (idempotent e e_lt fi
     fixes = times_assoc b a e b_lt h e_lt ∙ ap (times_bits 128 b) (times_comm a e h e_lt ∙ keeps)
 
     by_value : (v : ℕ) → e < 2 → e ≡ v → v ≡ 1
-    by_value zero l q = absurd (omega (arith, sym keeps ∙ ap (λ w. times_bits 128 w a) q ∙ times_comm 0 a (omega arith) h ∙ times_bits-zero 128 a))
+    by_value zero l q =
+        absurd (omega
+        (arith, sym keeps ∙ ap (λ w. times_bits 128 w a) q ∙ times_comm 0 a (omega arith) h ∙ times_bits-zero 128 a))
     by_value (suc zero) l q = refl
     by_value (suc (suc v)) l q = absurd (omega arith)
 

@@ -172,8 +172,9 @@ impl Wide {
         requires place { k < 8 }
         requires first { slice_index x.now k < 16 }
         requires second { slice_index y.now k < 16 }
-        ensures value { in_wide result ≡ bit_xor (moved 4 (in_wide self))
-            (bit_xor (numbered table.now.low table.now.high (slice_index x.now k)) (moved 64 (numbered table.now.low table.now.high (slice_index y.now k)))) }
+        ensures value { in_wide result
+            ≡ bit_xor (moved 4 (in_wide self)) (bit_xor (numbered table.now.low table.now.high (slice_index x.now k))
+            (moved 64 (numbered table.now.low table.now.high (slice_index y.now k)))) }
         ensures room { (j : ℕ) → j ≤ 64 → self.high < 2 ^ (60 + j) → result.high < 2 ^ (64 + j) }
     {
         self.digit_on(table.at(x[k]), table.at(y[k]))

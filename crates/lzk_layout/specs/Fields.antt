@@ -83,11 +83,13 @@ opened_sorts rows (suc n) = plain ∷ (replicate rows element ++ opened_sorts ro
 -- the sorts of so many elements sent, and of answers of so many elements
 abbrev pub answer_sorts : ℕ → ℕ → ℕ → ℕ → ℕ → List Sort
 answer_sorts messages ldt dot quad_head quad_tail =
-    replicate messages element ++ (replicate ldt element ++ (replicate dot element ++ (replicate quad_head element ++ replicate quad_tail element)))
+    replicate messages element ++ (replicate ldt element
+    ++ (replicate dot element ++ (replicate quad_head element ++ replicate quad_tail element)))
 
 -- the sorts of the fields before the number of digests
 unfoldable pub sorts_of : Params → List Sort
-sorts_of p = magic ∷ plain ∷ plain ∷ (answer_sorts p.nsum p.block p.dblock 128 (p.dblock - p.block) ++ opened_sorts p.nrow 128)
+sorts_of p =
+    magic ∷ plain ∷ plain ∷ (answer_sorts p.nsum p.block p.dblock 128 (p.dblock - p.block) ++ opened_sorts p.nrow 128)
 
 -- all of the bytes as a proof's fields
 unfoldable pub proof_at : Shape → Params → List ℕ → Result (List (List ℕ)) Stop
@@ -96,10 +98,12 @@ proof_at shape p bytes = do
   path ← path_at shape first.1
   if length path.1 == 0 then Ok (first.0 ++ path.0) else stops kinds.Trailing path.1
 
--- The bytes are no proof's file. The fields before offset are whole and pass their checks, and kind is the first check that the field there
--- fails; or all pass, and a byte is left there. The law FaultIsFirst, in FirstFaults.antt, says this of the fields themselves.
+-- The bytes are no proof's file. The fields before offset are whole and pass their checks, and kind is the first check
+-- that the field there fails; or all pass, and a byte is left there. The law FaultIsFirst, in FirstFaults.antt, says
+-- this of the fields themselves.
 abbrev pub ProofFaultAt : Shape → Params → List ℕ → ℕ → ProofKind → Type 0
-ProofFaultAt shape p bytes offset kind = (proof_at shape p bytes ≡ Err (record { left = length bytes - offset; kind = kind })) × (offset ≤ length bytes)
+ProofFaultAt shape p bytes offset kind =
+    (proof_at shape p bytes ≡ Err (record { left = length bytes - offset; kind = kind })) × (offset ≤ length bytes)
 
 -- a field that passes as one of this sort
 pub record IsField (shape : Shape) (s : Sort) (field : List ℕ) : Type 0 where

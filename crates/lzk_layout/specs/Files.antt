@@ -21,11 +21,14 @@ pub record IsSameProof {A : Type 0} (q r : Proof A) : Type 0 where
 
 -- a file is one proof's
 abbrev pub OneProof : {A : Type 0} → ℕ → (A → ℕ) → Params → Type 0
-OneProof {A} bytes number p = (file : List ℕ) (q r : Proof A) → ProofBytes bytes number p q file → ProofBytes bytes number p r file → IsSameProof q r
+OneProof {A} bytes number p =
+    (file : List ℕ) (q r : Proof A) → ProofBytes bytes number p q file → ProofBytes bytes number p r file
+    → IsSameProof q r
 
 -- a proof has one file
 abbrev pub OneFile : {A : Type 0} → ℕ → (A → ℕ) → Params → Type 0
-OneFile {A} bytes number p = (q : Proof A) (xs ys : List ℕ) → ProofBytes bytes number p q xs → ProofBytes bytes number p q ys → xs ≡ ys
+OneFile {A} bytes number p =
+    (q : Proof A) (xs ys : List ℕ) → ProofBytes bytes number p q xs → ProofBytes bytes number p q ys → xs ≡ ys
 
 -- no proof has these bytes as its file
 abbrev pub IsNoProof : {A : Type 0} → ℕ → (A → ℕ) → Params → List ℕ → Type 0
@@ -33,15 +36,20 @@ IsNoProof {A} bytes number p file = (q : Proof A) → ¬ ProofBytes bytes number
 
 -- bytes that are this proof's file are read as this proof
 abbrev pub IsRead : {A : Type 0} → ℕ → (A → ℕ) → Params → Proof A → List ℕ → Bool → Type 0
-IsRead {A} bytes number p read file ok = (q : Proof A) → ProofBytes bytes number p q file → IsTrue ok × IsSameProof q read
+IsRead {A} bytes number p read file ok =
+    (q : Proof A) → ProofBytes bytes number p q file → IsTrue ok × IsSameProof q read
 
 -- bytes have one first fault
 abbrev pub OneFault : Shape → Params → Type 0
-OneFault shape p = (file : List ℕ) (m n : ℕ) (k l : ProofKind) → ProofFaultAt shape p file m k → ProofFaultAt shape p file n l → (m ≡ n) × (k ≡ l)
+OneFault shape p =
+    (file : List ℕ) (m n : ℕ) (k l : ProofKind) → ProofFaultAt shape p file m k → ProofFaultAt shape p file n l
+    → (m ≡ n) × (k ≡ l)
 
 -- no proof's file has a fault
 abbrev pub NoFault : {A : Type 0} → ℕ → ℕ → (A → ℕ) → Params → Type 0
-NoFault {A} bytes size number p = (q : Proof A) (file : List ℕ) (offset : ℕ) (kind : ProofKind) → ProofBytes bytes number p q file → ¬ ProofFaultAt (shape bytes size) p file offset kind
+NoFault {A} bytes size number p =
+    (q : Proof A) (file : List ℕ) (offset : ℕ) (kind : ProofKind) → ProofBytes bytes number p q file
+    → ¬ ProofFaultAt (shape bytes size) p file offset kind
 
 -- each number is a byte's
 abbrev pub AreBytes : List ℕ → Type 0
@@ -55,4 +63,6 @@ pub record IsProofFile {A : Type 0} (bytes : ℕ) (number : A → ℕ) (p : Para
 -- bytes that have no fault are some proof's file
 abbrev pub SomeProof : {A : Type 0} → ℕ → ℕ → (A → ℕ) → Params → Type 0
 SomeProof bytes size number p =
-    (file : List ℕ) → AreBytes file → ((offset : ℕ) (kind : ProofKind) → ¬ ProofFaultAt (shape bytes size) p file offset kind) → IsProofFile bytes number p file
+    (file : List ℕ) → AreBytes file
+    → ((offset : ℕ) (kind : ProofKind) → ¬ ProofFaultAt (shape bytes size) p file offset kind)
+    → IsProofFile bytes number p file

@@ -9,15 +9,16 @@ use Rattle.lzk_layout.specs.Fields.{Shape, wrong, AreFields, ProofFaultAt}
 use Rattle.lzk_layout.specs.Parts.{sort_of, part_width}
 use Rattle.lzk_layout.specs.Fronts.{digests_in, known_parts, next_part}
 
--- The rest, where the field of this part is to begin, fails this check: the bytes end before the field does, or it is whole and wrong. Where no part
--- comes, a byte is left.
+-- The rest, where the field of this part is to begin, fails this check: the bytes end before the field does, or it is
+-- whole and wrong. Where no part comes, a byte is left.
 abbrev pub FailsNext : Shape → Option ProofPart → List ℕ → ProofKind → Type 0
 FailsNext s None rest kind = (rest ≢ []) × (kind ≡ kinds.Trailing)
 FailsNext s (Some part) rest kind =
-    ((length rest < part_width s part) × (kind ≡ kinds.Truncated)) ⊎ ((part_width s part ≤ length rest) × (wrong s (sort_of part) (take (part_width s part) rest) ≡ Some kind))
+    ((length rest < part_width s part) × (kind ≡ kinds.Truncated))
+    ⊎ ((part_width s part ≤ length rest) × (wrong s (sort_of part) (take (part_width s part) rest) ≡ Some kind))
 
--- The bytes are some fields and the rest. The fields are the first of a file's, they are whole and each passes its check. The rest begins at the offset,
--- and the check that it fails is the kind.
+-- The bytes are some fields and the rest. The fields are the first of a file's, they are whole and each passes its
+-- check. The rest begins at the offset, and the check that it fails is the kind.
 pub record IsFirstFault (s : Shape) (p : Params) (bytes : List ℕ) (offset : ℕ) (kind : ProofKind) : Type 0 where
   pub fields : List (List ℕ)
   pub rest : List ℕ
@@ -28,4 +29,6 @@ pub record IsFirstFault (s : Shape) (p : Params) (bytes : List ℕ) (offset : �
 
 -- the fault that reading finds is the first, and the first is found
 abbrev pub FaultIsFirst : Shape → Params → Type 0
-FaultIsFirst s p = (bytes : List ℕ) (offset : ℕ) (kind : ProofKind) → ProofFaultAt s p bytes offset kind ↔ IsFirstFault s p bytes offset kind
+FaultIsFirst s p =
+    (bytes : List ℕ) (offset : ℕ) (kind : ProofKind)
+    → ProofFaultAt s p bytes offset kind ↔ IsFirstFault s p bytes offset kind

@@ -31,8 +31,8 @@ abbrev pub IsUnfinished : Shape → Option ProofPart → List ℕ → Type 0
 IsUnfinished s None rest = rest ≡ []
 IsUnfinished s (Some part) rest = length rest < part_width s part
 
--- The bytes are these fields and the rest. The fields are the first of a file's, they are whole and each passes its check, and the field behind them
--- is not whole. So the bytes have no fault but that they end too soon.
+-- The bytes are these fields and the rest. The fields are the first of a file's, they are whole and each passes its
+-- check, and the field behind them is not whole. So the bytes have no fault but that they end too soon.
 pub record IsFront (s : Shape) (p : Params) (bytes : List ℕ) (fields : List (List ℕ)) (rest : List ℕ) : Type 0 where
   pub are : bytes ≡ flat fields ++ rest
   pub pass : AreFields s (map sort_of (take (length fields) (known_parts p (digests_in p fields)))) fields
@@ -42,8 +42,10 @@ pub record IsFront (s : Shape) (p : Params) (bytes : List ℕ) (fields : List (L
 abbrev pub IsFaulty : Shape → Params → List ℕ → ProofFault → Type 0
 IsFaulty s p bytes fault = ProofFaultAt s p bytes fault.offset fault.kind × (fault.kind ≢ kinds.Truncated)
 
--- This byte behind the bytes ends the field of this part, which passes its check. The block is the field's bytes, followed by zeros, and n their number.
-pub record EndsField (s : Shape) (p : Params) (bytes : List ℕ) (byte : ℕ) (part : ProofPart) (block : List ℕ) (n : ℕ) : Type 0 where
+-- This byte behind the bytes ends the field of this part, which passes its check. The block is the field's bytes,
+-- followed by zeros, and n their number.
+pub record EndsField (s : Shape) (p : Params) (bytes : List ℕ) (byte : ℕ) (part : ProofPart) (block : List ℕ)
+    (n : ℕ) : Type 0 where
   pub fields : List (List ℕ)
   pub rest : List ℕ
   pub before : IsFront s p bytes fields rest
@@ -73,46 +75,63 @@ IfField _ P = Unit {0}
 
 -- bytes have one front
 abbrev pub OneFront : Shape → Params → Type 0
-OneFront s p = (bytes : List ℕ) (fields gs : List (List ℕ)) (rest r : List ℕ) → IsFront s p bytes fields rest → IsFront s p bytes gs r → (fields ≡ gs) × (rest ≡ r)
+OneFront s p =
+    (bytes : List ℕ) (fields gs : List (List ℕ)) (rest r : List ℕ) → IsFront s p bytes fields rest
+    → IsFront s p bytes gs r
+    → (fields ≡ gs) × (rest ≡ r)
 
 -- bytes that are a front have no fault but that they end
 abbrev pub FrontIsSound : Shape → Params → Type 0
-FrontIsSound s p = (bytes : List ℕ) (fields : List (List ℕ)) (rest : List ℕ) (fault : ProofFault) → IsFront s p bytes fields rest → ¬ IsFaulty s p bytes fault
+FrontIsSound s p =
+    (bytes : List ℕ) (fields : List (List ℕ)) (rest : List ℕ) (fault : ProofFault) → IsFront s p bytes fields rest
+    → ¬ IsFaulty s p bytes fault
 
 -- bytes with a fault that is not their end keep it, whatever comes behind them
 abbrev pub FaultStays : Shape → Params → Type 0
-FaultStays s p = (bytes more : List ℕ) (fault : ProofFault) → IsFaulty s p bytes fault → IsFaulty s p (bytes ++ more) fault
+FaultStays s p =
+    (bytes more : List ℕ) (fault : ProofFault) → IsFaulty s p bytes fault → IsFaulty s p (bytes ++ more) fault
 
 -- the fields of a front are the first of each longer front
 abbrev pub FrontGrows : Shape → Params → Type 0
-FrontGrows s p = (bytes more : List ℕ) (fields gs : List (List ℕ)) (rest r : List ℕ) → IsFront s p bytes fields rest → IsFront s p (bytes ++ more) gs r → fields ≡ take (length fields) gs
+FrontGrows s p =
+    (bytes more : List ℕ) (fields gs : List (List ℕ)) (rest r : List ℕ) → IsFront s p bytes fields rest
+    → IsFront s p (bytes ++ more) gs r
+    → fields ≡ take (length fields) gs
 
 -- each field of a front stands at its place, and passes as its part
 abbrev pub FieldsStand : Shape → Params → Type 0
 FieldsStand s p =
-    (bytes : List ℕ) (fields : List (List ℕ)) (rest : List ℕ) → IsFront s p bytes fields rest → (k : ℕ) (part : ProofPart)
-    → k < length fields → slice_get (known_parts p (digests_in p fields)) k ≡ Some part
-    → IsField s (sort_of part) (slice_index_or fields k []) × (slice_index_or fields k [] ≡ take (part_width s part) (drop (field_place s p (unwrap_or (digests_in p fields) 0) k) bytes))
+    (bytes : List ℕ) (fields : List (List ℕ)) (rest : List ℕ) → IsFront s p bytes fields rest
+    → (k : ℕ) (part : ProofPart) → k < length fields → slice_get (known_parts p (digests_in p fields)) k ≡ Some part
+    → IsField s (sort_of part) (slice_index_or fields k [])
+    × (slice_index_or fields k []
+    ≡ take (part_width s part) (drop (field_place s p (unwrap_or (digests_in p fields) 0) k) bytes))
 
 -- each part stands at its number, and no other
 abbrev pub PartsStand : Params → Type 0
-PartsStand p = (digests k : ℕ) (part : ProofPart) → slice_get (parts p digests) k ≡ Some part → (k ≡ number_of p part) × HasPart p digests part
+PartsStand p =
+    (digests k : ℕ) (part : ProofPart) → slice_get (parts p digests) k ≡ Some part
+    → (k ≡ number_of p part) × HasPart p digests part
 
 -- the front of a proof's file is all its fields, and no part comes behind them
 abbrev pub FileIsFront : {A : Type 0} → ℕ → ℕ → (A → ℕ) → Params → Type 0
 FileIsFront {A} bytes size number p =
     (q : Proof A) (file : List ℕ) → ProofBytes bytes number p q file
-    → let fields = fields_of (element_field bytes number) p.nrow q in IsFront (shape bytes size) p file fields [] × (next_part p fields ≡ None)
+    → let fields = fields_of (element_field bytes number) p.nrow q in
+    IsFront (shape bytes size) p file fields [] × (next_part p fields ≡ None)
 
 -- a front behind which no part comes is all fields of a proof whose file the bytes are
-pub record IsFileOf {A : Type 0} (bytes : ℕ) (number : A → ℕ) (p : Params) (file : List ℕ) (fields : List (List ℕ)) : Type 0 where
+pub record IsFileOf {A : Type 0} (bytes : ℕ) (number : A → ℕ) (p : Params) (file : List ℕ)
+    (fields : List (List ℕ)) : Type 0 where
   pub proof : Proof A
   pub is : ProofBytes bytes number p proof file
   pub fields_are : fields ≡ fields_of (element_field bytes number) p.nrow proof
 
 abbrev pub FrontIsFile : {A : Type 0} → ℕ → ℕ → (A → ℕ) → Params → Type 0
 FrontIsFile bytes size number p =
-    (file : List ℕ) (fields : List (List ℕ)) (rest : List ℕ) → AreBytes file → IsFront (shape bytes size) p file fields rest → next_part p fields ≡ None → IsFileOf bytes number p file fields
+    (file : List ℕ) (fields : List (List ℕ)) (rest : List ℕ) → AreBytes file
+    → IsFront (shape bytes size) p file fields rest → next_part p fields ≡ None
+    → IsFileOf bytes number p file fields
 
 -- this field is that part of the proof, whose columns have so many elements
 abbrev pub IsPartOf : {A : Type 0} → (A → List ℕ) → ℕ → Proof A → ProofPart → List ℕ → Type 0
@@ -133,4 +152,6 @@ IsPartOf field rows q (Digest i) f = slice_get q.path.digests i ≡ Some f
 abbrev pub FieldsAreParts : {A : Type 0} → ℕ → (A → ℕ) → Params → Type 0
 FieldsAreParts {A} bytes number p =
     (q : Proof A) (file : List ℕ) → ProofBytes bytes number p q file → (k : ℕ) (part : ProofPart) (f : List ℕ)
-    → slice_get (parts p (length q.path.digests)) k ≡ Some part → slice_get (fields_of (element_field bytes number) p.nrow q) k ≡ Some f → IsPartOf (element_field bytes number) p.nrow q part f
+    → slice_get (parts p (length q.path.digests)) k ≡ Some part
+    → slice_get (fields_of (element_field bytes number) p.nrow q) k ≡ Some f
+    → IsPartOf (element_field bytes number) p.nrow q part f

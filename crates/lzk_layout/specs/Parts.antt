@@ -41,9 +41,12 @@ opened_parts rows n = flat_map (column_parts rows) (range_with_len 0 n)
 abbrev pub path_parts : ℕ → List ProofPart
 path_parts digests = Count ∷ each Digest digests
 
--- the parts of the elements sent and of the three answers, the third as its first values and its last, in front of others
+-- the parts of the elements sent and of the three answers, the third as its first values and its last, in front of
+-- others
 unfoldable pub element_parts : Params → List ProofPart → List ProofPart
-element_parts p others = each Message p.nsum ++ (each Ldt p.block ++ (each Dot p.dblock ++ (each QuadHead 128 ++ (each QuadTail (p.dblock - p.block) ++ others))))
+element_parts p others =
+    each Message p.nsum ++ (each Ldt p.block
+    ++ (each Dot p.dblock ++ (each QuadHead 128 ++ (each QuadTail (p.dblock - p.block) ++ others))))
 
 -- the parts of a file of so many digests
 unfoldable pub parts : Params → ℕ → List ProofPart
@@ -53,7 +56,8 @@ parts p digests = Magic ∷ Id ∷ Root ∷ element_parts p (opened_parts p.nrow
 abbrev pub field_place : Shape → Params → ℕ → ℕ → ℕ
 field_place s p digests k = sum_by (part_width s) (take k (parts p digests))
 
--- how many fields stand before the low degree answer, the linear answer, the quadratic answer's first and last values, and the opened columns
+-- how many fields stand before the low degree answer, the linear answer, the quadratic answer's first and last values,
+-- and the opened columns
 abbrev pub before_ldt : Params → ℕ
 before_ldt p = 3 + p.nsum
 

@@ -1,4 +1,5 @@
--- Where the sent elements and the committed entries of each layer stand, and where the copies of the factors stand in the rows.
+-- Where the sent elements and the committed entries of each layer stand, and where the copies of the factors stand in
+-- the rows.
 use Rattle.std.specs.Prelude.{ℕ, ◌+◌, ◌*◌, ◌/◌, ◌%◌, ◌≤◌, length, take, slice_index_or}
 use Rattle.std.specs.List.{sum_by}
 use Rattle.lzk_circuit.specs.Bits.{bits}
@@ -31,7 +32,8 @@ round_count c l = 2 * bits_under c l
 abbrev pub sent_at : {A : Type 0} → Wiring A → ℕ → ℕ
 sent_at c l = sum_by sent_count (take l (under_widths c))
 
--- the place of the first pad of layer l in the committed list: behind the private inputs, and the pads of the layers before it
+-- the place of the first pad of layer l in the committed list: behind the private inputs, and the pads of the layers
+-- before it
 abbrev pub pads_at : {A : Type 0} → Wiring A → ℕ → ℕ
 pads_at c l = c.privates + sum_by pad_count (take l (under_widths c))
 
@@ -39,11 +41,13 @@ pads_at c l = c.privates + sum_by pad_count (take l (under_widths c))
 abbrev pub factors_sent_at : {A : Type 0} → Wiring A → ℕ → ℕ
 factors_sent_at c l = sent_at c l + 2 * round_count c l
 
--- the place of the first factor's pad of layer l in the committed list; the second factor's stands next, and then their product
+-- the place of the first factor's pad of layer l in the committed list; the second factor's stands next, and then their
+-- product
 abbrev pub factors_at : {A : Type 0} → Wiring A → ℕ → ℕ
 factors_at c l = pads_at c l + 2 * round_count c l
 
--- the place in the committed list of number m of the quadratic constraints' values, three for each layer: its factors' pads and their product
+-- the place in the committed list of number m of the quadratic constraints' values, three for each layer: its factors'
+-- pads and their product
 abbrev pub constrained_at : {A : Type 0} → Wiring A → ℕ → ℕ
 constrained_at c m = factors_at c (m / 3) + m % 3
 
@@ -51,10 +55,16 @@ constrained_at c m = factors_at c (m / 3) + m % 3
 abbrev pub copy_place_of : Params → ℕ → ℕ × ℕ
 copy_place_of p m = (3 + p.nwrow + 3 * (m / 3 / p.wr) + m % 3, (m / 3) % p.wr)
 
--- the places of a layer whose elements and pads begin at these two: two rounds for each bit, and two elements and pads in each, come before the
--- factors
+-- the places of a layer whose elements and pads begin at these two: two rounds for each bit, and two elements and pads
+-- in each, come before the factors
 abbrev pub begun : ℕ → ℕ → ℕ → LayerPlaces
-begun bits messages pads = record { bits = bits; messages = messages; factors_sent = messages + 4 * bits; pads = pads; factors = pads + 4 * bits }
+begun bits messages pads = record {
+  bits = bits;
+  messages = messages;
+  factors_sent = messages + 4 * bits;
+  pads = pads;
+  factors = pads + 4 * bits;
+}
 
 -- the places of layer l
 abbrev pub places_of : {A : Type 0} → Wiring A → ℕ → LayerPlaces
@@ -66,7 +76,8 @@ places_of c l = record {
   factors = factors_at c l;
 }
 
--- a layer's two factors are among the elements that are sent, and their pads and the product among those that are committed to
+-- a layer's two factors are among the elements that are sent, and their pads and the product among those that are
+-- committed to
 pub record AreWithin {A : Type 0} (c : Wiring A) (places : LayerPlaces) : Type 0 where
   pub bits : places.bits ≤ 17
   pub sent : places.factors_sent + 2 ≤ sent_counts c

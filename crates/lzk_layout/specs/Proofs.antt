@@ -18,19 +18,23 @@ element_field bytes number x = bytes_of bytes (number x)
 -- the opened columns: to each nonce its column, of so many elements
 abbrev pub opened_fields : {A : Type 0} → (A → List ℕ) → ℕ → List (List ℕ) → List A → List (List ℕ)
 opened_fields field rows [] columns = []
-opened_fields field rows (n ∷ ns) columns = n ∷ (map field (take rows columns) ++ opened_fields field rows ns (drop rows columns))
+opened_fields field rows (n ∷ ns) columns =
+    n ∷ (map field (take rows columns) ++ opened_fields field rows ns (drop rows columns))
 
 -- the bytes of the elements that are no columns'
 abbrev pub answers_bytes : {A : Type 0} → (A → List ℕ) → Proof A → List ℕ
 answers_bytes field proof =
-    flat (map field proof.messages) ++ (flat (map field proof.ldt) ++ (flat (map field proof.dot) ++ (flat (map field proof.quad_head) ++ flat (map field proof.quad_tail))))
+    flat (map field proof.messages) ++ (flat (map field proof.ldt)
+    ++ (flat (map field proof.dot) ++ (flat (map field proof.quad_head) ++ flat (map field proof.quad_tail))))
 
--- all fields of a proof's file: `LZP1`, the circuit's id, the root, the elements sent, the opened columns, and the path behind its count
+-- all fields of a proof's file: `LZP1`, the circuit's id, the root, the elements sent, the opened columns, and the path
+-- behind its count
 abbrev pub fields_of : {A : Type 0} → (A → List ℕ) → ℕ → Proof A → List (List ℕ)
 fields_of field rows proof =
-    (76 ∷ 90 ∷ 80 ∷ 49 ∷ []) ∷ proof.id ∷ proof.root
-    ∷ (map field proof.messages ++ (map field proof.ldt ++ (map field proof.dot ++ (map field proof.quad_head ++ (map field proof.quad_tail
-    ++ (opened_fields field rows proof.nonces proof.columns ++ (to_le_bytes w32 (length proof.path.digests) ∷ proof.path.digests)))))))
+    (76 ∷ 90 ∷ 80 ∷ 49 ∷ []) ∷ proof.id ∷ proof.root ∷ (map field proof.messages ++ (map field proof.ldt
+    ++ (map field proof.dot ++ (map field proof.quad_head ++ (map field proof.quad_tail
+    ++ (opened_fields field rows proof.nonces proof.columns
+    ++ (to_le_bytes w32 (length proof.path.digests) ∷ proof.path.digests)))))))
 
 -- digests of 32 bytes each
 abbrev pub AreDigests : List (List ℕ) → Type 0
@@ -46,8 +50,10 @@ pub record HasLengths {A : Type 0} (p : Params) (proof : Proof A) : Type 0 where
   pub nonces : length proof.nonces ≡ 128
   pub columns : length proof.columns ≡ 128 * p.nrow
 
--- The bytes are the file of a proof, for elements of so many bytes: its fields in order, with the parameters' lengths and at most 1,536 digests.
-pub record ProofBytes {A : Type 0} (bytes : ℕ) (number : A → ℕ) (p : Params) (proof : Proof A) (file : List ℕ) : Type 0 where
+-- The bytes are the file of a proof, for elements of so many bytes: its fields in order, with the parameters' lengths
+-- and at most 1,536 digests.
+pub record ProofBytes {A : Type 0} (bytes : ℕ) (number : A → ℕ) (p : Params) (proof : Proof A)
+    (file : List ℕ) : Type 0 where
   pub lengths : HasLengths p proof
   pub few : length proof.path.digests ≤ 1536
   pub id : length proof.id ≡ 32

@@ -59,7 +59,8 @@ pub record TakesMore (s : Shape) (old : Reading) (byte : ℕ) (new : Reading) : 
   pub new_is : new ≡ record old { held = old.held + 1; block = slice_set old.block old.held byte }
 
 -- the byte ends a field that passes
-pub record TakesField (s : Shape) (old : Reading) (byte : ℕ) (new : Reading) (part : ProofPart) (block : List ℕ) (n : ℕ) : Type 0 where
+pub record TakesField (s : Shape) (old : Reading) (byte : ℕ) (new : Reading) (part : ProofPart) (block : List ℕ)
+    (n : ℕ) : Type 0 where
   pub is : old.part ≡ Some part
   pub long : old.held + 1 ≡ part_width s part
   pub number : n ≡ part_width s part
@@ -71,7 +72,8 @@ pub record TakesField (s : Shape) (old : Reading) (byte : ℕ) (new : Reading) (
 abbrev pub FailsPart : Shape → Reading → ℕ → ProofKind → Option ProofPart → Type 0
 FailsPart s old byte kind None = kind ≡ kinds.Trailing
 FailsPart s old byte kind (Some part) =
-    (old.held + 1 ≡ part_width s part) × (wrong s (sort_of part) (take (old.held + 1) (slice_set old.block old.held byte)) ≡ Some kind)
+    (old.held + 1 ≡ part_width s part)
+    × (wrong s (sort_of part) (take (old.held + 1) (slice_set old.block old.held byte)) ≡ Some kind)
 
 -- the byte fails a check
 pub record TakesFault (s : Shape) (old : Reading) (byte : ℕ) (fault : ProofFault) : Type 0 where

@@ -1,4 +1,5 @@
--- The parameters of a circuit: how long its committed list is, how it is laid out in rows, and how long a proof's file is.
+-- The parameters of a circuit: how long its committed list is, how it is laid out in rows, and how long a proof's file
+-- is.
 use Rattle.std.specs.Prelude.{◌≡◌, ℕ, ◌+◌, ◌-◌, ◌*◌, ◌/◌, ◌%◌, ◌^◌, ◌≤◌, nat_le, List, [], ◌∷◌, length, drop}
 use Rattle.std.specs.Int.{div_ceil}
 use Rattle.std.specs.List.{sum, sum_by}
@@ -87,9 +88,9 @@ pub record AreBounded (p : Params) : Type 0 where
 abbrev pub place_of : Params → ℕ → ℕ × ℕ
 place_of p j = (3 + j / p.wr, j % p.wr)
 
--- how long the regions of a proof's file are, with so many bytes an element and so many digests: the magic, the circuit's id, the root, the
--- sumcheck elements, the low degree answer, the linear answer, the quadratic answer's first and last values, the opened columns with their
--- nonces, the number of digests, and the digests
+-- how long the regions of a proof's file are, with so many bytes an element and so many digests: the magic, the
+-- circuit's id, the root, the sumcheck elements, the low degree answer, the linear answer, the quadratic answer's first
+-- and last values, the opened columns with their nonces, the number of digests, and the digests
 abbrev pub regions : ℕ → Params → ℕ → List ℕ
 regions bytes p digests =
     4 ∷ 32 ∷ 32 ∷ bytes * p.nsum ∷ bytes * p.block ∷ bytes * p.dblock ∷ bytes * 128 ∷ bytes * (p.dblock - p.block)

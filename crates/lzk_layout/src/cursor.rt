@@ -47,8 +47,8 @@ struct Reading {
     block: [u8; 32],
 }
 
-/// A reader of the file of a proof over F that is pushed one byte at a time. It keeps lengths and counts, and the bytes of
-/// one field at most.
+/// A reader of the file of a proof over F that is pushed one byte at a time. It keeps lengths and counts, and the bytes
+/// of one field at most.
 ///
 /// ```text
 /// let mut cursor = Cursor::<F>::new(&params);
@@ -246,12 +246,14 @@ impl<F: Field> Cursor<F> {
             → (part : ProofPart) (block : List ℕ) (n : ℕ) → result ≡
             CursorStep.Field part block n ↔ EndsField (shape F.coding.bytes F.coding.size) p b byte part block n }
         ensures fault { (p : Params) (b : List ℕ) → Pushed (shape F.coding.bytes F.coding.size) self.old p b
-            → (fault : ProofFault) → result ≡ CursorStep.Fault fault ↔ IsFaulty (shape F.coding.bytes F.coding.size) p (b ++ byte ∷ []) fault }
+            → (fault : ProofFault)
+            → result ≡ CursorStep.Fault fault ↔ IsFaulty (shape F.coding.bytes F.coding.size) p (b ++ byte ∷ []) fault }
         ensures more { (p : Params) (b : List ℕ) → Pushed (shape F.coding.bytes F.coding.size) self.old p b
             → result ≡ CursorStep.More ↔ EndsNone (shape F.coding.bytes F.coding.size) p b byte }
 
         // Whatever was pushed before.
-        ensures whole { IfField result (λ part block n. IsWholeField (shape F.coding.bytes F.coding.size) self.old.params part block n) }
+        ensures whole { IfField result
+            (λ part block n. IsWholeField (shape F.coding.bytes F.coding.size) self.old.params part block n) }
         ensures params { self.new.params ≡ self.old.params }
 
         // What holds of the fronts of all files.
@@ -275,9 +277,12 @@ impl<F: Field> Cursor<F> {
     /// The fault of all bytes that were pushed, if they are no proof's file. More may be pushed afterwards.
     pub fn finish(&self) -> Result<(), ProofFault>
         ensures fault { (p : Params) (b : List ℕ) → Pushed (shape F.coding.bytes F.coding.size) self.now p b
-            → (fault : ProofFault) → result ≡ Err fault ↔ ProofFaultAt (shape F.coding.bytes F.coding.size) p b fault.offset fault.kind }
+            → (fault : ProofFault)
+            → result ≡ Err fault ↔ ProofFaultAt (shape F.coding.bytes F.coding.size) p b fault.offset fault.kind }
         ensures whole { (p : Params) (b : List ℕ) → Pushed (shape F.coding.bytes F.coding.size) self.now p b
-            → result ≡ Ok tt ↔ ((fault : ProofFault) → ¬ ProofFaultAt (shape F.coding.bytes F.coding.size) p b fault.offset fault.kind) }
+            → result ≡ Ok tt
+            ↔ ((fault : ProofFault)
+            → ¬ ProofFaultAt (shape F.coding.bytes F.coding.size) p b fault.offset fault.kind) }
 
         // A whole front is a proof's file, and the other way round.
         ensures file { (p : Params) → FileIsFront F.coding.bytes F.coding.size F.coding.number p }

@@ -50,8 +50,9 @@ fn columns_into<'a, F: Field>(
     bytes: &'a [u8],
 ) -> Result<&'a [u8], Stop>
     requires { length columns.old ≡ length nonces.old * rows }
-    ensures read { Gives (λ rest. (opened_fields (element_field F.coding.bytes F.coding.number) rows nonces.new columns.new, rest.now)) result
-        (fields_at (shape F.coding.bytes F.coding.size) (opened_sorts rows (length nonces.old)) bytes.now) }
+    ensures read { Gives
+        (λ rest. (opened_fields (element_field F.coding.bytes F.coding.number) rows nonces.new columns.new, rest.now))
+        result (fields_at (shape F.coding.bytes F.coding.size) (opened_sorts rows (length nonces.old)) bytes.now) }
     ensures nonces { length nonces.new ≡ length nonces.old }
     ensures digests { OnOk result (AreDigests nonces.new) }
     ensures columns { length columns.new ≡ length columns.old }
@@ -62,8 +63,8 @@ fn columns_into<'a, F: Field>(
 // The elements that are no columns'.
 #[tactic(auto, using(crate::proofs::FieldLaws::fields_then, crate::proofs::FieldLaws::fields_stop))]
 fn answers_into<'a, F: Field>(proof: &mut Proof<F>, bytes: &'a [u8]) -> Result<&'a [u8], Stop>
-    ensures read { Gives (λ rest. (answer_fields (element_field F.coding.bytes F.coding.number) proof.new, rest.now)) result
-        (fields_at (shape F.coding.bytes F.coding.size) (answer_sorts_of proof.old) bytes.now) }
+    ensures read { Gives (λ rest. (answer_fields (element_field F.coding.bytes F.coding.number) proof.new, rest.now))
+        result (fields_at (shape F.coding.bytes F.coding.size) (answer_sorts_of proof.old) bytes.now) }
     ensures lengths { (p : Params) → HasLengths p proof.old → HasLengths p proof.new }
     ensures others { proof.new ≡ record proof.old {
       messages = proof.new.messages;
@@ -85,8 +86,8 @@ fn answers_into<'a, F: Field>(proof: &mut Proof<F>, bytes: &'a [u8]) -> Result<&
 fn file_into<F: Field>(params: &Params, bytes: &[u8], proof: &mut Proof<F>) -> Result<(), Stop>
     requires lengths { HasLengths params.now proof.old }
     requires room { 1536 ≤ proof.old.path.room }
-    ensures read { Gives (λ _. fields_of (element_field F.coding.bytes F.coding.number) params.now.nrow proof.new) result
-        (proof_at (shape F.coding.bytes F.coding.size) params.now bytes.now) }
+    ensures read { Gives (λ _. fields_of (element_field F.coding.bytes F.coding.number) params.now.nrow proof.new)
+        result (proof_at (shape F.coding.bytes F.coding.size) params.now bytes.now) }
     ensures few { OnOk result (length proof.new.path.digests ≤ 1536) }
     ensures id { OnOk result (length proof.new.id ≡ 32) }
     ensures root { OnOk result (length proof.new.root ≡ 32) }
@@ -107,8 +108,8 @@ fn file_into<F: Field>(params: &Params, bytes: &[u8], proof: &mut Proof<F>) -> R
 }
 
 /// Makes `proof` the proof whose file the bytes are, with no memory taken. After a fault the proof's contents are free,
-/// but for what `lengths` and `room` say: it may be decoded into again. It is the plain form beside `Cursor`, which a verifier
-/// reads by.
+/// but for what `lengths` and `room` say: it may be decoded into again. It is the plain form beside `Cursor`, which a
+/// verifier reads by.
 pub fn decode_proof<F: Field>(
     params: &Params,
     bytes: &[u8],

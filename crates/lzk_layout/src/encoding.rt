@@ -38,7 +38,8 @@ fn put_elements<F: Field>(out: &mut [u8], at: usize, list: &[F]) -> usize
     requires { at + F.coding.bytes * length list.now ≤ length out.old }
     ensures end { result ≡ at + F.coding.bytes * length list.now }
     ensures length { length out.new ≡ length out.old }
-    ensures front { take result out.new ≡ take at out.old ++ flat (map (element_field F.coding.bytes F.coding.number) list.now) }
+    ensures front { take result out.new
+        ≡ take at out.old ++ flat (map (element_field F.coding.bytes F.coding.number) list.now) }
 {
     let mut end = at;
     for i in 0..list.len() {
@@ -73,7 +74,9 @@ fn put_opened<F: Field>(
     requires room { at + length nonces.now * (32 + F.coding.bytes * rows) ≤ length out.old }
     ensures end { result ≡ at + length nonces.now * (32 + F.coding.bytes * rows) }
     ensures length { length out.new ≡ length out.old }
-    ensures front { take result out.new ≡ take at out.old ++ flat (opened_fields (element_field F.coding.bytes F.coding.number) rows nonces.now columns.now) }
+    ensures front { take result out.new
+        ≡ take at out.old
+        ++ flat (opened_fields (element_field F.coding.bytes F.coding.number) rows nonces.now columns.now) }
     ensures digests { AreDigests nonces.now }
 {
     let mut end = at;
@@ -103,12 +106,15 @@ fn put_head<F: Field>(out: &mut [u8], proof: &Proof<F>) -> usize
 
 // The elements that are no columns'.
 fn put_answers<F: Field>(out: &mut [u8], at: usize, proof: &Proof<F>) -> usize
-    requires { at + F.coding.bytes * (length proof.now.messages + length proof.now.ldt + length proof.now.dot + length proof.now.quad_head + length
-        proof.now.quad_tail) ≤ length out.old }
-    ensures end { result ≡ at + F.coding.bytes * (length proof.now.messages + length proof.now.ldt + length proof.now.dot + length proof.now.quad_head +
-        length proof.now.quad_tail) }
+    requires { at + F.coding.bytes * (length proof.now.messages + length proof.now.ldt + length proof.now.dot
+        + length proof.now.quad_head + length proof.now.quad_tail)
+        ≤ length out.old }
+    ensures end { result
+        ≡ at + F.coding.bytes * (length proof.now.messages + length proof.now.ldt + length proof.now.dot
+        + length proof.now.quad_head + length proof.now.quad_tail) }
     ensures length { length out.new ≡ length out.old }
-    ensures front { take result out.new ≡ take at out.old ++ answers_bytes (element_field F.coding.bytes F.coding.number) proof.now }
+    ensures front { take result out.new
+        ≡ take at out.old ++ answers_bytes (element_field F.coding.bytes F.coding.number) proof.now }
 {
     let end = put_elements(out, at, proof.messages.as_slice());
     let end = put_elements(out, end, proof.ldt.as_slice());
@@ -123,7 +129,8 @@ fn put_path<F: Field>(out: &mut [u8], at: usize, proof: &Proof<F>) -> usize
     requires room { at + 4 + 32 * length proof.now.path.digests ≤ length out.old }
     ensures end { result ≡ at + 4 + 32 * length proof.now.path.digests }
     ensures length { length out.new ≡ length out.old }
-    ensures front { take result out.new ≡ take at out.old ++ (to_le_bytes w32 (length proof.now.path.digests) ++ flat proof.now.path.digests) }
+    ensures front { take result out.new
+        ≡ take at out.old ++ (to_le_bytes w32 (length proof.now.path.digests) ++ flat proof.now.path.digests) }
     ensures digests { AreDigests proof.now.path.digests }
 {
     let count = proof.path.len() as u32;

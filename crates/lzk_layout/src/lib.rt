@@ -30,6 +30,7 @@ mod lists;
 mod params;
 mod part;
 mod places;
+mod plan;
 mod proof;
 mod reading;
 
@@ -43,4 +44,5 @@ pub use lists::{Blocks, Elements, Path};
 pub use params::{Params, proof_len};
 pub use part::ProofPart;
 pub use places::{LayerPlaces, layer_bits, most_bits};
+pub use plan::Plan;
 pub use proof::Proof;

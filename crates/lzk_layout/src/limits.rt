@@ -3,8 +3,8 @@
 /// How many columns are opened.
 pub const OPENED: usize = 128;
 
-/// How many random values each row of the tableau begins with. They are as many as opened columns, so that these tell nothing about
-/// the row's elements. An answer's first values are its values at their places.
+/// How many random values each row of the tableau begins with. They are as many as opened columns, so that these tell
+/// nothing about the row's elements. An answer's first values are its values at their places.
 pub const BLINDS: usize = 128;
 
 /// Digests of a path, at most.

@@ -8,7 +8,8 @@ use crate::limits::{BLINDS, OPENED};
 use lzk_circuit::{Circuit, bits_of};
 use lzk_field::Field;
 
-/// The numbers and lengths that a circuit gives, those of 'Parameters and committed values' of the profile in docs/FORMATS.md.
+/// The numbers and lengths that a circuit gives, those of 'Parameters and committed values' of the profile in
+/// docs/FORMATS.md.
 #[derive(Clone, Copy, Debug, PartialEq, Eq)]
 pub struct Params {
     /// How many elements are committed to.
@@ -111,8 +112,8 @@ impl Params {
         (3 + j / self.wr, j % self.wr)
     }
 
-    /// Row and position of the copy of value `m` of the quadratic constraints. Layer l has the values from 3l on: its first
-    /// factor's pad, the second's, and their product.
+    /// Row and position of the copy of value `m` of the quadratic constraints. Layer l has the values from 3l on: its
+    /// first factor's pad, the second's, and their product.
     pub fn copy_place(&self, m: u32) -> (u32, u32)
         requires params { AreBounded self.now }
         requires value { m < 3 * self.now.layers }

@@ -30,7 +30,8 @@ pub struct LayerPlaces {
     pub factors_sent: u32,
     /// The place of the layer's first pad in the committed list.
     pub pads: u32,
-    /// The place of the first factor's pad in the committed list. The second's is the next, and then comes their product.
+    /// The place of the first factor's pad in the committed list. The second's is the next, and then comes their
+    /// product.
     pub factors: u32,
 }
 
@@ -100,8 +101,8 @@ impl LayerPlaces {
         LayerPlaces::from(bits, 0, circuit.privates())
     }
 
-    /// The places of the layer below layer `l`, whose places these are. Behind the last layer, where all elements and pads
-    /// end, with no bits.
+    /// The places of the layer below layer `l`, whose places these are. Behind the last layer, where all elements and
+    /// pads end, with no bits.
     pub fn next<F: Field>(self, circuit: &Circuit<F>, l: u32) -> LayerPlaces
         requires layer { l < length circuit.now.layers }
         requires places { self ≡ places_of circuit.now l }

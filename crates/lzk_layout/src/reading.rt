@@ -24,7 +24,8 @@ pub fn stop(kind: ProofKind, bytes: &[u8]) -> Stop
 /// What is behind the magic.
 #[tactic(auto, unfolding(crate::specs::Fields::field_at, crate::specs::Fields::wrong))]
 pub fn magic_of(bytes: &[u8]) -> Result<&[u8], Stop>
-    ensures { (shape : Shape) → Gives (λ rest. (76 ∷ 90 ∷ 80 ∷ 49 ∷ [], rest.now)) result (field_at shape magic bytes.now) }
+    ensures { (shape : Shape)
+        → Gives (λ rest. (76 ∷ 90 ∷ 80 ∷ 49 ∷ [], rest.now)) result (field_at shape magic bytes.now) }
 {
     match bytes {
         [b'L', b'Z', b'P', b'1', rest @ ..] => Ok(rest),
@@ -85,8 +86,9 @@ pub fn opened_into<'a, F: Field>(
     bytes: &'a [u8],
 ) -> Result<&'a [u8], Stop>
     requires { length columns.old ≡ length nonces.old * rows }
-    ensures read { Gives (λ rest. (opened_fields (element_field F.coding.bytes F.coding.number) rows nonces.new columns.new, rest.now)) result
-        (fields_at (shape F.coding.bytes F.coding.size) (opened_sorts rows (length nonces.old)) bytes.now) }
+    ensures read { Gives
+        (λ rest. (opened_fields (element_field F.coding.bytes F.coding.number) rows nonces.new columns.new, rest.now))
+        result (fields_at (shape F.coding.bytes F.coding.size) (opened_sorts rows (length nonces.old)) bytes.now) }
     ensures digests { OnOk result (AreDigests nonces.new) }
 {
     let mut rest = bytes;
@@ -104,7 +106,8 @@ pub fn opened_into<'a, F: Field>(
 // The number of digests, and what is behind it.
 #[tactic(auto, unfolding(crate::specs::Fields::field_at, crate::specs::Fields::wrong))]
 fn count_of(bytes: &[u8]) -> Result<(usize, &[u8]), Stop>
-    ensures read { (shape : Shape) → Gives (λ x. (to_le_bytes w32 x.0, x.1.now)) result (field_at shape count bytes.now) }
+    ensures read { (shape : Shape)
+        → Gives (λ x. (to_le_bytes w32 x.0, x.1.now)) result (field_at shape count bytes.now) }
     ensures few { IfOk result (λ x. x.0 ≤ 1536) }
 {
     if bytes.len() < 4 {
@@ -123,7 +126,8 @@ fn count_of(bytes: &[u8]) -> Result<(usize, &[u8]), Stop>
 pub fn path_into<'a>(path: &mut Path, bytes: &'a [u8]) -> Result<&'a [u8], Stop>
     requires { 1536 ≤ path.old.room }
     ensures room { path.new.room ≡ path.old.room }
-    ensures read { (shape : Shape) → Gives (λ rest. (to_le_bytes w32 (length path.new.digests) ∷ path.new.digests, rest.now)) result
+    ensures read { (shape : Shape)
+        → Gives (λ rest. (to_le_bytes w32 (length path.new.digests) ∷ path.new.digests, rest.now)) result
         (path_at shape bytes.now) }
     ensures few { OnOk result (length path.new.digests ≤ 1536) }
     ensures digests { OnOk result (AreDigests path.new.digests) }

@@ -33,7 +33,8 @@ pub fn bind<F: Field>(table: &mut [F], r: F)
     ensures low { let o = F.ops in (i : ℕ) → i < length table.old / 2 → entry o table.new i ≡
         o.plus (o.times (minus o o.one r) (entry o table.old (2 * i))) (o.times r (entry o table.old (2 * i + 1))) }
     ensures high { let o = F.ops in (i : ℕ) → length table.old / 2 ≤ i → entry o table.new i ≡ entry o table.old i }
-    ensures extension { (s : List F) → tilde F.ops (take (length table.old / 2) table.new) s ≡ tilde F.ops table.old (r ∷ s) }
+    ensures extension { (s : List F)
+        → tilde F.ops (take (length table.old / 2) table.new) s ≡ tilde F.ops table.old (r ∷ s) }
 {
     bind_first(table, table.len() / 2, r);
 }
@@ -59,7 +60,8 @@ pub fn tilde<F: Field>(values: &[F], r: &[F], room: &mut [F]) -> F
     requires fits { length values.now ≤ 2 ^ length r.now }
     requires room { length room.old ≡ 2 ^ length r.now }
     ensures value { result ≡ tilde F.ops values.now r.now }
-    ensures entry { let o = F.ops in (i : ℕ) → i < length room.old → r.now ≡ corner o (length r.now) i → result ≡ entry o values.now i }
+    ensures entry { let o = F.ops in
+        (i : ℕ) → i < length room.old → r.now ≡ corner o (length r.now) i → result ≡ entry o values.now i }
 {
     fill(values, room);
     let mut size = room.len();

@@ -10,7 +10,8 @@ use lzk_field::Field;
 fn fill_ones<F: Field>(low: &[F], high: &mut [F], x: F)
     requires { length high.old ≡ length low.now }
     ensures length { length high.new ≡ length high.old }
-    ensures products { let o = F.ops in (i : ℕ) → i < length low.now → entry o high.new i ≡ o.times x (entry o low.now i) }
+    ensures products { let o = F.ops in
+        (i : ℕ) → i < length low.now → entry o high.new i ≡ o.times x (entry o low.now i) }
 {
     for i in 0..low.len() {
         high[i] = x.mul(low[i]);
@@ -21,20 +22,23 @@ fn fill_ones<F: Field>(low: &[F], high: &mut [F], x: F)
 fn take_ones<F: Field>(low: &mut [F], high: &[F])
     requires { length low.old ≡ length high.now }
     ensures length { length low.new ≡ length low.old }
-    ensures differences { let o = F.ops in (i : ℕ) → i < length high.now → entry o low.new i ≡ minus o (entry o low.old i) (entry o high.now i) }
+    ensures differences { let o = F.ops in
+        (i : ℕ) → i < length high.now → entry o low.new i ≡ minus o (entry o low.old i) (entry o high.now i) }
 {
     for i in 0..high.len() {
         low[i] = low[i].sub(high[i]);
     }
 }
 
-// Doubles the table of the first `size` entries: each times 1 - x, and behind them each times x. Products and differences
-// have a loop each, so that no difference waits for its product.
+// Doubles the table of the first `size` entries: each times 1 - x, and behind them each times x. Products and
+// differences have a loop each, so that no difference waits for its product.
 fn double<F: Field>(table: &mut [F], size: usize, x: F)
     requires { 2 * size ≤ length table.old }
     ensures length { length table.new ≡ length table.old }
-    ensures zeros { let o = F.ops in (i : ℕ) → i < size → entry o table.new i ≡ o.times (minus o o.one x) (entry o table.old i) }
-    ensures ones { let o = F.ops in (i : ℕ) → i < size → entry o table.new (size + i) ≡ o.times x (entry o table.old i) }
+    ensures zeros { let o = F.ops in
+        (i : ℕ) → i < size → entry o table.new i ≡ o.times (minus o o.one x) (entry o table.old i) }
+    ensures ones { let o = F.ops in
+        (i : ℕ) → i < size → entry o table.new (size + i) ≡ o.times x (entry o table.old i) }
 {
     let (low, rest) = table.split_at_mut(size);
     let (high, _) = rest.split_at_mut(size);

@@ -8,7 +8,8 @@ module _ {A : Type 0} (o : Ops A) (r : RingLaws o) (f : FieldLaws o) (s : A) (h 
 
   -- over the scale, and times it
   pub over_times : (x : A) → times (times x (inverse s)) s ≡ x
-  over_times x = r.times_assoc x (inverse s) s ∙ ap (times x) (r.times_comm (inverse s) s ∙ f.times_inverse s h) ∙ r.times_one x
+  over_times x =
+      r.times_assoc x (inverse s) s ∙ ap (times x) (r.times_comm (inverse s) s ∙ f.times_inverse s h) ∙ r.times_one x
 
   -- times the scale, and over it
   pub times_over : (x : A) → times (times x s) (inverse s) ≡ x

@@ -17,7 +17,8 @@ fn weigh<F: Field>(values: &[F], weights: &[F], skip: usize, out: &mut [F])
     requires same { length weights.now ≡ length values.now }
     requires room { skip + length values.now ≤ length out.old }
     ensures before { (i : ℕ) → i < skip → entry F.ops out.new i ≡ F.ops.zero }
-    ensures near { (i : ℕ) → i < length values.now → entry F.ops out.new (skip + i) ≡ F.ops.times (entry F.ops values.now i) (entry F.ops weights.now i) }
+    ensures near { (i : ℕ) → i < length values.now
+        → entry F.ops out.new (skip + i) ≡ F.ops.times (entry F.ops values.now i) (entry F.ops weights.now i) }
     ensures far { (i : ℕ) → skip + length values.now ≤ i → i < length out.new → entry F.ops out.new i ≡ F.ops.zero }
 {
     for h in 0..skip {
@@ -44,8 +45,10 @@ fn transform_block<F: Factor>(
     requires values { length values.now ≡ kernels.now.plan.count }
     requires block { v < kernels.now.plan.blocks }
     requires out { length out.old ≡ 2 ^ kernels.now.transform.bits }
-    ensures { let d = kernels.now.transform in (j : ℕ) → j < length out.new →
-        entry F.ops out.new j ≡ spectrum F.ops d.bits d.root (weighted F.ops kernels.now.plan values.now weights.now v) j }
+    ensures { let d = kernels.now.transform in
+        (j : ℕ) → j < length out.new
+        → entry F.ops out.new j
+        ≡ spectrum F.ops d.bits d.root (weighted F.ops kernels.now.plan values.now weights.now v) j }
 {
     let plan = kernels.plan;
     let start = v * plan.block;
@@ -83,7 +86,8 @@ fn transform_blocks<F: Factor>(
 fn set_multiples<F: Factor>(list: &[F], factors: &[Prepared<F>], out: &mut [F])
     requires list { length list.now ≡ length out.old }
     requires factors { length factors.now ≡ length out.old }
-    ensures { (j : ℕ) → j < length out.new → entry F.ops out.new j ≡ F.ops.times (entry F.ops list.now j) (entry F.ops factors.now j) }
+    ensures { (j : ℕ) → j < length out.new
+        → entry F.ops out.new j ≡ F.ops.times (entry F.ops list.now j) (entry F.ops factors.now j) }
 {
     for j in 0..out.len() {
         out[j] = factors[j].times(list[j]);
@@ -143,7 +147,8 @@ fn set_products<F: Field>(
     requires within { to ≤ length out.old }
     requires factors { to ≤ length factors.now }
     requires enough { first + (to - at) ≤ length list.now }
-    ensures inside { (k : ℕ) → at ≤ k → k < to → entry F.ops out.new k ≡ F.ops.times (entry F.ops list.now (first + (k - at))) (entry F.ops factors.now k) }
+    ensures inside { (k : ℕ) → at ≤ k → k < to
+        → entry F.ops out.new k ≡ F.ops.times (entry F.ops list.now (first + (k - at))) (entry F.ops factors.now k) }
     ensures before { (k : ℕ) → k < at → entry F.ops out.new k ≡ entry F.ops out.old k }
 {
     for k in at..to {
@@ -169,7 +174,8 @@ pub fn extend_by<F: Factor>(
     requires out { length out.old + kernels.now.plan.count ≡ kernels.now.plan.upto }
     requires spectra { length spectra.old ≡ kernels.now.plan.blocks * 2 ^ kernels.now.transform.bits }
     requires convolved { length convolved.old ≡ 2 ^ kernels.now.transform.bits }
-    ensures { (k : ℕ) → k < length out.new → entry F.ops out.new k ≡ extension F.ops F.coding.element values.now (kernels.now.plan.count + k) }
+    ensures { (k : ℕ) → k < length out.new
+        → entry F.ops out.new k ≡ extension F.ops F.coding.element values.now (kernels.now.plan.count + k) }
 {
     let plan = kernels.plan;
     transform_blocks(kernels, weights, values, 0, spectra);

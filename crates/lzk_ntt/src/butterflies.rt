@@ -10,7 +10,8 @@ use crate::prepared::{Factor, Prepared};
 pub fn forward_butterflies<F: Factor>(low: &mut [F], high: &mut [F], twiddles: &[Prepared<F>])
     requires halves { length high.old ≡ length low.old }
     requires twiddles { length twiddles.now ≡ length low.old }
-    ensures sums { (i : ℕ) → i < length low.new → entry F.ops low.new i ≡ F.ops.plus (entry F.ops low.old i) (entry F.ops high.old i) }
+    ensures sums { (i : ℕ) → i < length low.new
+        → entry F.ops low.new i ≡ F.ops.plus (entry F.ops low.old i) (entry F.ops high.old i) }
     ensures twiddled { (i : ℕ) → i < length high.new → entry F.ops high.new i ≡
         F.ops.times (minus F.ops (entry F.ops low.old i) (entry F.ops high.old i)) (entry F.ops twiddles.now i) }
 {

@@ -34,7 +34,8 @@ impl<F: Factor> Model for NttExtender<F> {
 
     ghost Value = { Convolver };
 
-    ghost view = { λ e. record { reach = e.weights; room = (e.kernels.plan.blocks + 1) * 2 ^ e.kernels.transform.bits } };
+    ghost view = { λ e.
+        record { reach = e.weights; room = (e.kernels.plan.blocks + 1) * 2 ^ e.kernels.transform.bits } };
 
     ghost invariant = { λ e. (e.kernels.plan.count ≡ e.weights.count) × (e.kernels.plan.upto ≡ e.weights.upto) ×
         IsReady F.ops F.coding.element e.kernels.transform e.kernels.plan e.kernels.spectra.items };
@@ -82,7 +83,8 @@ impl<F: Factor> NttExtender<F> {
         requires fits { length values.now ≡ self.now.reach.count }
         requires reached { length out.old + self.now.reach.count ≡ self.now.reach.upto }
         requires room { length room.old ≡ self.now.room }
-        ensures { (k : ℕ) → k < length out.new → entry F.ops out.new k ≡ extension F.ops F.coding.element values.now (self.now.reach.count + k) }
+        ensures { (k : ℕ) → k < length out.new
+            → entry F.ops out.new k ≡ extension F.ops F.coding.element values.now (self.now.reach.count + k) }
     {
         let spectra = self.kernels.plan.blocks * self.kernels.transform.size();
         let (spectra, convolved) = room.split_at_mut(spectra);

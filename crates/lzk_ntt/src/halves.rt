@@ -69,9 +69,11 @@ fn forward_eight<F: Factor>(values: &mut [F], twiddles: &[Prepared<F>])
 pub fn backward<F: Factor>(values: &mut [F], twiddles: &[Prepared<F>], bits: u32)
     requires whole { length values.old ≡ 2 ^ bits }
     requires twiddles { length values.old ≤ length twiddles.now }
-    ensures { (w v : F) → (x : ℕ → F) → IsRoot F.ops bits w → F.ops.times w v ≡ F.ops.one → AreTwiddles F.ops bits v twiddles.now →
-        ((j : ℕ) → j < length values.old → entry F.ops values.old j ≡ spectrum F.ops bits w x j) → (i : ℕ) → i < length values.new →
-        entry F.ops values.new i ≡ F.ops.times (doubled F.ops bits) (x i) }
+    ensures { (w v : F) → (x : ℕ → F) → IsRoot F.ops bits w → F.ops.times w v ≡ F.ops.one
+        → AreTwiddles F.ops bits v twiddles.now
+        → ((j : ℕ) → j < length values.old → entry F.ops values.old j ≡ spectrum F.ops bits w x j) → (i : ℕ)
+        → i < length values.new
+        → entry F.ops values.new i ≡ F.ops.times (doubled F.ops bits) (x i) }
 {
     if bits == 3 {
         backward_eight(values, twiddles);
@@ -93,9 +95,11 @@ fn backward_small<F: Factor>(values: &mut [F], twiddles: &[Prepared<F>], bits: u
     requires whole { length values.old ≡ 2 ^ bits }
     requires twiddles { length values.old ≤ length twiddles.now }
     requires few { bits ≤ 2 }
-    ensures { (w v : F) → (x : ℕ → F) → IsRoot F.ops bits w → F.ops.times w v ≡ F.ops.one → AreTwiddles F.ops bits v twiddles.now →
-        ((j : ℕ) → j < length values.old → entry F.ops values.old j ≡ spectrum F.ops bits w x j) → (i : ℕ) → i < length values.new →
-        entry F.ops values.new i ≡ F.ops.times (doubled F.ops bits) (x i) }
+    ensures { (w v : F) → (x : ℕ → F) → IsRoot F.ops bits w → F.ops.times w v ≡ F.ops.one
+        → AreTwiddles F.ops bits v twiddles.now
+        → ((j : ℕ) → j < length values.old → entry F.ops values.old j ≡ spectrum F.ops bits w x j) → (i : ℕ)
+        → i < length values.new
+        → entry F.ops values.new i ≡ F.ops.times (doubled F.ops bits) (x i) }
 {
     if bits == 2 {
         backward_four(values, twiddles[3]);
@@ -110,9 +114,11 @@ fn backward_small<F: Factor>(values: &mut [F], twiddles: &[Prepared<F>], bits: u
 fn backward_eight<F: Factor>(values: &mut [F], twiddles: &[Prepared<F>])
     requires whole { length values.old ≡ 8 }
     requires twiddles { 8 ≤ length twiddles.now }
-    ensures { (w v : F) → (x : ℕ → F) → IsRoot F.ops 3 w → F.ops.times w v ≡ F.ops.one → AreTwiddles F.ops 3 v twiddles.now →
-        ((j : ℕ) → j < length values.old → entry F.ops values.old j ≡ spectrum F.ops 3 w x j) → (i : ℕ) → i < length values.new →
-        entry F.ops values.new i ≡ F.ops.times (doubled F.ops 3) (x i) }
+    ensures { (w v : F) → (x : ℕ → F) → IsRoot F.ops 3 w → F.ops.times w v ≡ F.ops.one
+        → AreTwiddles F.ops 3 v twiddles.now
+        → ((j : ℕ) → j < length values.old → entry F.ops values.old j ≡ spectrum F.ops 3 w x j) → (i : ℕ)
+        → i < length values.new
+        → entry F.ops values.new i ≡ F.ops.times (doubled F.ops 3) (x i) }
 {
     let fourth_root = twiddles[3];
     let (low, high) = values.split_at_mut(4);

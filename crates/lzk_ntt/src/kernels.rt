@@ -59,9 +59,12 @@ fn kernel<F: Factor>(
     requires table { IsInverseTable F.ops F.coding.element inverses.now }
     requires positive { 1 ≤ first }
     requires few { first ≤ 65536 }
-    ensures { IfOk result (λ v. (length v.items ≡ 2 ^ transform.now.bits) ×
-        ((j : ℕ) → j < 2 ^ transform.now.bits → entry F.ops v.items j ≡
-        spectrum F.ops transform.now.bits transform.now.root (kernel_entry F.ops F.coding.element scale (length inverses.now) first) j)) }
+    ensures { IfOk result (λ v.
+        (length v.items ≡ 2 ^ transform.now.bits)
+        × ((j : ℕ) → j < 2 ^ transform.now.bits
+        → entry F.ops v.items j
+        ≡ spectrum F.ops transform.now.bits transform.now.root
+        (kernel_entry F.ops F.coding.element scale (length inverses.now) first) j)) }
 {
     let mut list = Vec::new(alloc);
     for t in 0..transform.size() {
@@ -84,7 +87,9 @@ pub fn kernel_spectra<F: Factor>(
     requires plan { IsPlan plan transform.now.bits }
     requires two { F.ops.plus F.ops.one F.ops.one ≢ F.ops.zero }
     ensures kernels { IfOk result (λ v. AreKernels F.ops F.coding.element transform.now plan v.items) }
-    ensures inverse_size { F.ops.times (doubled F.ops transform.now.bits) (F.ops.inverse (doubled F.ops transform.now.bits)) ≡ F.ops.one }
+    ensures inverse_size { F.ops.times (doubled F.ops transform.now.bits)
+        (F.ops.inverse (doubled F.ops transform.now.bits))
+        ≡ F.ops.one }
 {
     let scale = inverse_size::<F>(transform.bits());
     let mut all = Vec::new(alloc);

@@ -11,10 +11,15 @@ use lzk_field::Field;
 ///
 /// The number of the entries must have an inverse in the field.
 pub fn convolution_theorem<F: Field>()
-    ensures undone { (n : ℕ) → (w v : F) → IsPrincipal F.ops n w → F.ops.times w v ≡ F.ops.one →
-        F.ops.times (sum_below F.ops n (λ j. F.ops.one)) (F.ops.inverse (sum_below F.ops n (λ j. F.ops.one))) ≡ F.ops.one → (x : ℕ → F) → (t : ℕ) →
-        t < n → inverse_dft F.ops n v (λ j. dft F.ops n w x j) t ≡ x t }
-    ensures conv { (n : ℕ) → (w v : F) → IsPrincipal F.ops n w → F.ops.times w v ≡ F.ops.one →
-        F.ops.times (sum_below F.ops n (λ j. F.ops.one)) (F.ops.inverse (sum_below F.ops n (λ j. F.ops.one))) ≡ F.ops.one → (x y : ℕ → F) → (t : ℕ) →
-        t < n → inverse_dft F.ops n v (λ j. F.ops.times (dft F.ops n w x j) (dft F.ops n w y j)) t ≡ cyclic_convolution F.ops n x y t }
+    ensures undone { (n : ℕ) → (w v : F) → IsPrincipal F.ops n w → F.ops.times w v ≡ F.ops.one
+        → F.ops.times (sum_below F.ops n (λ j. F.ops.one)) (F.ops.inverse (sum_below F.ops n (λ j. F.ops.one)))
+        ≡ F.ops.one
+        → (x : ℕ → F) → (t : ℕ) → t < n
+        → inverse_dft F.ops n v (λ j. dft F.ops n w x j) t ≡ x t }
+    ensures conv { (n : ℕ) → (w v : F) → IsPrincipal F.ops n w → F.ops.times w v ≡ F.ops.one
+        → F.ops.times (sum_below F.ops n (λ j. F.ops.one)) (F.ops.inverse (sum_below F.ops n (λ j. F.ops.one)))
+        ≡ F.ops.one
+        → (x y : ℕ → F) → (t : ℕ) → t < n
+        → inverse_dft F.ops n v (λ j. F.ops.times (dft F.ops n w x j) (dft F.ops n w y j)) t
+        ≡ cyclic_convolution F.ops n x y t }
 {}

@@ -39,7 +39,8 @@ impl<F: Factor> Model for Prepared<F> {
 
     ghost inverse = { λ v. record { scaled = F.ops.times v F.scale } };
 
-    ghost inverse_ok = { λ x h i. record { scaled = over_times F.ops F.Field.laws.ring F.Field.laws.field F.scale h x.scaled i } };
+    ghost inverse_ok = { λ x h i.
+        record { scaled = over_times F.ops F.Field.laws.ring F.Field.laws.field F.scale h x.scaled i } };
 }
 
 impl<F: Factor> Clone for Prepared<F> {

@@ -40,7 +40,8 @@ fn twiddle_factors<F: Factor>(
 fn multiply<F: Field>(left: &[F], right: &[F], out: &mut [F])
     requires left { length left.now ≡ length out.old }
     requires right { length right.now ≡ length out.old }
-    ensures { (j : ℕ) → j < length out.new → entry F.ops out.new j ≡ F.ops.times (entry F.ops left.now j) (entry F.ops right.now j) }
+    ensures { (j : ℕ) → j < length out.new
+        → entry F.ops out.new j ≡ F.ops.times (entry F.ops left.now j) (entry F.ops right.now j) }
 {
     for j in 0..out.len() {
         out[j] = left[j].mul(right[j]);
@@ -66,9 +67,14 @@ impl<F: Factor> Model for Transform<F> {
 
     ghost view = { λ e. record { bits = e.bits; root = e.root } };
 
-    ghost invariant = { λ e. (e.bits ≤ 20) × IsRoot F.ops e.bits e.root × (F.ops.times e.root e.inverse ≡ F.ops.one) ×
-        (length e.twiddles.items ≡ 2 ^ e.bits) × AreTwiddles F.ops e.bits e.root e.twiddles.items × (length e.inverse_twiddles.items ≡ 2 ^ e.bits) ×
-        AreTwiddles F.ops e.bits e.inverse e.inverse_twiddles.items };
+    ghost invariant = { λ e.
+        (e.bits ≤ 20)
+        × IsRoot F.ops e.bits e.root
+        × (F.ops.times e.root e.inverse ≡ F.ops.one)
+        × (length e.twiddles.items ≡ 2 ^ e.bits)
+        × AreTwiddles F.ops e.bits e.root e.twiddles.items
+        × (length e.inverse_twiddles.items ≡ 2 ^ e.bits)
+        × AreTwiddles F.ops e.bits e.inverse e.inverse_twiddles.items };
 }
 
 impl<F: Factor> Transform<F> {
@@ -100,7 +106,8 @@ impl<F: Factor> Transform<F> {
     /// The forward transform, in place and in bit-reversed order: of as many entries as the root's order.
     pub fn forward(&self, values: &mut [F])
         requires { length values.old ≡ 2 ^ self.now.bits }
-        ensures { (j : ℕ) → j < length values.new → entry F.ops values.new j ≡ spectrum F.ops self.now.bits self.now.root (λ i. entry F.ops values.old i) j }
+        ensures { (j : ℕ) → j < length values.new
+            → entry F.ops values.new j ≡ spectrum F.ops self.now.bits self.now.root (λ i. entry F.ops values.old i) j }
     {
         forward(values, &self.twiddles, self.bits);
     }
@@ -110,8 +117,11 @@ impl<F: Factor> Transform<F> {
     pub fn backward(&self, values: &mut [F])
         requires { length values.old ≡ 2 ^ self.now.bits }
         ensures root { IsRoot F.ops self.now.bits self.now.root }
-        ensures entries { (x : ℕ → F) → ((j : ℕ) → j < length values.old → entry F.ops values.old j ≡ spectrum F.ops self.now.bits self.now.root x j)
-            → (i : ℕ) → i < length values.new → entry F.ops values.new i ≡ F.ops.times (doubled F.ops self.now.bits) (x i) }
+        ensures entries { (x : ℕ → F)
+            → ((j : ℕ) → j < length values.old
+            → entry F.ops values.old j ≡ spectrum F.ops self.now.bits self.now.root x j)
+            → (i : ℕ) → i < length values.new
+            → entry F.ops values.new i ≡ F.ops.times (doubled F.ops self.now.bits) (x i) }
     {
         backward(values, &self.inverse_twiddles, self.bits);
     }
@@ -122,9 +132,13 @@ impl<F: Factor> Transform<F> {
         requires left { length left.now ≡ 2 ^ self.now.bits }
         requires right { length right.now ≡ 2 ^ self.now.bits }
         requires out { length out.old ≡ 2 ^ self.now.bits }
-        ensures { (x y : ℕ → F) → ((j : ℕ) → j < length left.now → entry F.ops left.now j ≡ spectrum F.ops self.now.bits self.now.root x j) →
-            ((j : ℕ) → j < length right.now → entry F.ops right.now j ≡ spectrum F.ops self.now.bits self.now.root y j) → (t : ℕ) →
-            t < length out.new → entry F.ops out.new t ≡ F.ops.times (doubled F.ops self.now.bits) (cyclic_convolution F.ops (2 ^ self.now.bits) x y t) }
+        ensures { (x y : ℕ → F)
+            → ((j : ℕ) → j < length left.now → entry F.ops left.now j ≡ spectrum F.ops self.now.bits self.now.root x j)
+            → ((j : ℕ) → j < length right.now
+            → entry F.ops right.now j ≡ spectrum F.ops self.now.bits self.now.root y j)
+            → (t : ℕ) → t < length out.new
+            → entry F.ops out.new t
+            ≡ F.ops.times (doubled F.ops self.now.bits) (cyclic_convolution F.ops (2 ^ self.now.bits) x y t) }
     {
         multiply(left, right, out);
         self.backward(out);

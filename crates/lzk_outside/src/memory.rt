@@ -290,7 +290,8 @@ impl Sink for MemSink {
         ensures err { OnErr result (Some (bytes_of self.new) ≡ Some (bytes_of self.old)) }
         ensures cause { Counts (result ≡ Err SinkFault.Failed) (faults_of self.old) (faults_of self.new) }
         ensures never { IsTrue (no_write_fails (sink_settings_of self.old)) → result ≢ Err SinkFault.Failed }
-        ensures uncounted { IsTrue (no_write_fails (sink_settings_of self.old)) → faults_of self.new ≡ faults_of self.old }
+        ensures uncounted { IsTrue (no_write_fails (sink_settings_of self.old))
+            → faults_of self.new ≡ faults_of self.old }
         ensures kept { no_write_fails (sink_settings_of self.new) ≡ no_write_fails (sink_settings_of self.old) }
 
         // The writes that fail are those that were named.

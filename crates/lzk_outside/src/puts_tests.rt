@@ -1,4 +1,5 @@
-//! What a put leaves of the files beside it, of permissions, of links and of other names of the file: no clause can say it.
+//! What a put leaves of the files beside it, of permissions, of links and of other names of the file: no clause can say
+//! it.
 use crate::{DiskShelf, Shelf};
 use std::os::unix::fs::{PermissionsExt, symlink};
 use std::test::Fail;

@@ -100,8 +100,8 @@ enum Stop {
     Failed(io::Error),
 }
 
-// What an error stops of a call that makes, marks or renames a file. Refused are: a folder that may not be written, or is
-// on a disk that may not; another's file in a folder where only its owner may rename it; a name on which a file is
+// What an error stops of a call that makes, marks or renames a file. Refused are: a folder that may not be written, or
+// is on a disk that may not; another's file in a folder where only its owner may rename it; a name on which a file is
 // mounted, or that is on another disk; a name beside it that is too long; no free name beside it, or no memory for one;
 // permissions on a disk that has none.
 fn stop_of(e: io::Error) -> Stop {
@@ -144,8 +144,8 @@ fn sync_folder<R: Files>(rt: &R, folder: &str) -> io::Result<()> {
     }
 }
 
-// Makes a name hold these bytes by a file beside it. Where that stops, the old file stays, but where only the name was not
-// written down to the disk.
+// Makes a name hold these bytes by a file beside it. Where that stops, the old file stays, but where only the name was
+// not written down to the disk.
 fn put_beside<R: Files>(
     rt: &R,
     alloc: Global,
@@ -179,8 +179,8 @@ fn cut<F: Seek + OpenFile>(file: &mut F, done: bool) -> io::Result<()> {
     Ok(())
 }
 
-// A file that is there, or else a new one. Where one is there it is opened as such: some systems let nobody make what is
-// another's in a folder for all.
+// A file that is there, or else a new one. Where one is there it is opened as such: some systems let nobody make what
+// is another's in a folder for all.
 fn open_in_place<R: Files>(rt: &R, name: &str) -> io::Result<R::File> {
     match OpenOptions::new().write(true).open(rt, name) {
         Err(e) if e.kind() == ErrorKind::NotFound => OpenOptions::new()
@@ -191,7 +191,8 @@ fn open_in_place<R: Files>(rt: &R, name: &str) -> io::Result<R::File> {
     }
 }
 
-// Writes a name as it is: a file's bytes from its front on, and what it had behind them is cut away when they are there.
+// Writes a name as it is: a file's bytes from its front on, and what it had behind them is cut away when they are
+// there.
 fn put_in_place<R: Files>(rt: &R, name: &str, bytes: &[u8]) -> io::Result<()> {
     let mut file = open_in_place(rt, name)?;
     let done = file.write_all(bytes);

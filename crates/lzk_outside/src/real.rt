@@ -145,9 +145,9 @@ impl<R: Files + Drop> Shelf for DiskShelf<R> {
     }
 
     /// Writes the whole file anew, with the old one's permission bits: beside it under a name that is free, as
-    /// `NAME.0.part`, which then takes its place. A link to a regular file stays, and that file is written so. A device, a
-    /// pipe, an open file of a process and what another link leads to are written in place, and so is a file where none
-    /// may be made beside it or renamed to it. Every error is a failure.
+    /// `NAME.0.part`, which then takes its place. A link to a regular file stays, and that file is written so. A
+    /// device, a pipe, an open file of a process and what another link leads to are written in place, and so is a file
+    /// where none may be made beside it or renamed to it. Every error is a failure.
     fn put(&mut self, name: &str, bytes: &[u8]) -> Result<(), PutFault>
         ensures cause { Counts (result ≡ Err PutFault.Failed)
             (tally_of self.old).put_faults (tally_of self.new).put_faults }

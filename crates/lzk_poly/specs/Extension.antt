@@ -31,7 +31,8 @@ lagrange o point n i x = o.times (others o point n i x) (o.inverse (others o poi
 
 -- the value at the j-th point of the polynomial through the values, by Lagrange's formula
 abbrev pub extension : {A : Type 0} → Ops A → (ℕ → A) → List A → ℕ → A
-extension o point values j = sum_below o (length values) (λ i. o.times (entry o values i) (lagrange o point (length values) i (point j)))
+extension o point values j =
+    sum_below o (length values) (λ i. o.times (entry o values i) (lagrange o point (length values) i (point j)))
 
 -- how many values an extender takes, and the end of the points that it reaches
 pub record Reach : Type 0 where

@@ -40,9 +40,15 @@ impl<F: Field> Model for Weights<F> {
 
     ghost view = { λ w. record { count = w.count; upto = w.upto } };
 
-    ghost invariant = { λ w. (1 ≤ w.count) × (w.count ≤ w.upto) × (w.upto ≤ 65536) × IsWeights F.ops F.coding.element w.count w.weights.items ×
-        IsPassed F.ops F.coding.element w.count w.upto w.passed.items × (w.upto ≤ length w.inverses.items) ×
-        IsInverseTable F.ops F.coding.element w.inverses.items × (IsTrue w.even ↔ IsEven F.ops F.coding.element w.upto) };
+    ghost invariant = { λ w.
+        (1 ≤ w.count)
+        × (w.count ≤ w.upto)
+        × (w.upto ≤ 65536)
+        × IsWeights F.ops F.coding.element w.count w.weights.items
+        × IsPassed F.ops F.coding.element w.count w.upto w.passed.items
+        × (w.upto ≤ length w.inverses.items)
+        × IsInverseTable F.ops F.coding.element w.inverses.items
+        × (IsTrue w.even ↔ IsEven F.ops F.coding.element w.upto) };
 }
 
 impl<F: Field> Weights<F> {

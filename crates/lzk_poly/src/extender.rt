@@ -110,8 +110,10 @@ impl<F: Field> Extender<F> {
     pub fn extend(&self, values: &[F], out: &mut [F])
         requires fits { length values.now ≡ self.now.count }
         requires room { length out.old + self.now.count ≡ self.now.upto }
-        ensures through { (k : ℕ) → k < length out.new → IsExtension F.ops F.coding.element values.now (self.now.count + k) (entry F.ops out.new k) }
-        ensures value { (k : ℕ) → k < length out.new → entry F.ops out.new k ≡ extension F.ops F.coding.element values.now (self.now.count + k) }
+        ensures through { (k : ℕ) → k < length out.new
+            → IsExtension F.ops F.coding.element values.now (self.now.count + k) (entry F.ops out.new k) }
+        ensures value { (k : ℕ) → k < length out.new
+            → entry F.ops out.new k ≡ extension F.ops F.coding.element values.now (self.now.count + k) }
     {
         self.extend_from(values, self.count(), out);
     }
@@ -123,7 +125,8 @@ impl<F: Field> Extender<F> {
         requires after { self.now.count ≤ from }
         requires reached { from + length out.old ≤ self.now.upto }
         requires limit { self.now.upto ≤ 65536 }
-        ensures { (k : ℕ) → k < length out.new → entry F.ops out.new k ≡ extension F.ops F.coding.element values.now (from + k) }
+        ensures { (k : ℕ) → k < length out.new
+            → entry F.ops out.new k ≡ extension F.ops F.coding.element values.now (from + k) }
     {
         if out.is_empty() {
             return;
@@ -146,7 +149,8 @@ impl<F: Field> Extender<F> {
         requires reached { from + length out.old ≤ self.now.upto }
         requires limit { self.now.upto ≤ 65536 }
         requires room { 1 ≤ length room.old }
-        ensures { (k : ℕ) → k < length out.new → entry F.ops out.new k ≡ extension F.ops F.coding.element values.now (from + k) }
+        ensures { (k : ℕ) → k < length out.new
+            → entry F.ops out.new k ≡ extension F.ops F.coding.element values.now (from + k) }
     {
         self.sum_parts(values, from, out, room);
         let first = (from - self.weights.count()) as usize;

@@ -42,7 +42,9 @@ pub fn by_numbers<F: Field>(block: &[F], inverses: &[F], end: u32, x: F) -> F
 /// The sum of the products of a block and the table's entries from `first` on.
 pub fn by_steps<F: Field>(block: &[F], inverses: &[F], first: usize) -> F
     requires { first + length block.now ≤ length inverses.now }
-    ensures { result ≡ sum_below F.ops (length block.now) (λ k. F.ops.times (entry F.ops block.now k) (entry F.ops inverses.now (first + k))) }
+    ensures { result
+        ≡ sum_below F.ops (length block.now)
+        (λ k. F.ops.times (entry F.ops block.now k) (entry F.ops inverses.now (first + k))) }
 {
     F::dot(block, &inverses[first..first + block.len()])
 }
@@ -51,8 +53,10 @@ pub fn by_steps<F: Field>(block: &[F], inverses: &[F], first: usize) -> F
 pub fn fill_block<F: Field>(values: &[F], weights: &[F], block: &mut [F])
     requires values { length values.now ≡ length block.old }
     requires weights { length weights.now ≡ length block.old }
-    ensures { (k : ℕ) → k < length block.new → entry F.ops block.new k ≡
-        F.ops.times (entry F.ops values.now (length block.new - 1 - k)) (entry F.ops weights.now (length block.new - 1 - k)) }
+    ensures { (k : ℕ) → k < length block.new
+        → entry F.ops block.new k
+        ≡ F.ops.times (entry F.ops values.now (length block.new - 1 - k))
+        (entry F.ops weights.now (length block.new - 1 - k)) }
 {
     for k in 0..block.len() {
         let from_end = block.len() - 1 - k;

@@ -44,5 +44,6 @@ pub trait RowExtend<F: Field>: Sync + Drop {
         requires fits { length values.now ≡ (reach self.now).count }
         requires reached { length out.old + (reach self.now).count ≡ (reach self.now).upto }
         requires rooms { length room.old ≡ rooms self.now }
-        ensures value { (k : ℕ) → k < length out.new → entry F.ops out.new k ≡ extension F.ops F.coding.element values.now ((reach self.now).count + k) };
+        ensures value { (k : ℕ) → k < length out.new
+            → entry F.ops out.new k ≡ extension F.ops F.coding.element values.now ((reach self.now).count + k) };
 }

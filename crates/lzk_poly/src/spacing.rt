@@ -105,7 +105,9 @@ fn are_binary<F: Field>(bits: u32) -> bool
 // Whether each point whose highest bit is bit `b` is the sum of that bit's point and another.
 fn is_split<F: Field>(b: u32) -> bool
     requires { b < 16 }
-    ensures { IsTrue result ↔ ((k : ℕ) → k < 2 ^ b → F.coding.element (2 ^ b + k) ≡ F.ops.plus (F.coding.element (2 ^ b)) (F.coding.element k)) }
+    ensures { IsTrue result
+        ↔ ((k : ℕ) → k < 2 ^ b
+        → F.coding.element (2 ^ b + k) ≡ F.ops.plus (F.coding.element (2 ^ b)) (F.coding.element k)) }
 {
     let bit = 1 << b;
     for k in 0..bit {

@@ -6,7 +6,8 @@ use Rattle.lzk_sumcheck.specs.Draws.{with_array, with_bytes}
 
 -- the new tape with `lzk1`, a session, a circuit's id and the public inputs written
 unfoldable pub public_tape : {A : Type 0} → Coding A → List ℕ → List ℕ → List A → TapeState
-public_tape e session id public = with_array e public (with_bytes id (with_bytes session (with_bytes (108 ∷ 122 ∷ 107 ∷ 49 ∷ []) new_tape)))
+public_tape e session id public =
+    with_array e public (with_bytes id (with_bytes session (with_bytes (108 ∷ 122 ∷ 107 ∷ 49 ∷ []) new_tape)))
 
 -- that tape with a root written
 abbrev pub opening : {A : Type 0} → Coding A → List ℕ → List ℕ → List A → List ℕ → TapeState

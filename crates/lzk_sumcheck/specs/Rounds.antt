@@ -8,7 +8,8 @@ use Rattle.lzk_circuit.specs.Sums.{sum_pairs}
 use Rattle.lzk_circuit.specs.Wires.{wire}
 use Rattle.lzk_mle.specs.Multilinear.{eq, tilde}
 
--- a layer's coefficient at each (g, a, b), a weight for each wire of it, and the values of the wires below, whose numbers have so many bits
+-- a layer's coefficient at each (g, a, b), a weight for each wire of it, and the values of the wires below, whose
+-- numbers have so many bits
 pub record Layered (A : Type 0) : Type 0 where
   pub coefficient : ℕ → ℕ → ℕ → A
   pub weights : List A
@@ -21,7 +22,8 @@ every_other from_first [] = []
 every_other true (x ∷ xs) = x ∷ every_other false xs
 every_other false (x ∷ xs) = every_other true xs
 
--- of the values of a layer's variables, those of the bits of a: bit 0 of a comes first, then bit 0 of b, bit 1 of a and so on
+-- of the values of a layer's variables, those of the bits of a: bit 0 of a comes first, then bit 0 of b, bit 1 of a and
+-- so on
 abbrev pub of_a : {A : Type 0} → List A → List A
 of_a x = every_other true x
 
@@ -29,7 +31,8 @@ of_a x = every_other true x
 abbrev pub of_b : {A : Type 0} → List A → List A
 of_b x = every_other false x
 
--- the sum over all g, and all a and b below the width, of weight g times the coefficient times eq(a, xa) times eq(b, xb)
+-- the sum over all g, and all a and b below the width, of weight g times the coefficient times eq(a, xa) times eq(b,
+-- xb)
 abbrev pub bound_coefficient : {A : Type 0} → Ops A → (ℕ → ℕ → ℕ → A) → List A → ℕ → List A → List A → A
 bound_coefficient o q weights width xa xb =
     sum_below o (length weights) (λ g. sum_pairs o width (λ a b.
@@ -38,7 +41,8 @@ bound_coefficient o q weights width xa xb =
 -- what is summed, at values of all variables: the bound coefficient times the two extensions
 abbrev pub at : {A : Type 0} → Ops A → Layered A → List A → A
 at o s x =
-    o.times (o.times (bound_coefficient o s.coefficient s.weights (length s.values) (of_a x) (of_b x)) (tilde o s.values (of_a x))) (tilde o s.values (of_b x))
+    o.times (o.times (bound_coefficient o s.coefficient s.weights (length s.values) (of_a x) (of_b x))
+    (tilde o s.values (of_a x))) (tilde o s.values (of_b x))
 
 -- the sum of f over all lists of n zeros and ones
 abbrev pub sum_fills : {A : Type 0} → Ops A → ℕ → (List A → A) → A
@@ -61,21 +65,28 @@ IsFitting s = length s.values ≤ 2 ^ s.bits
 
 -- the claim with nothing bound is the weighted sum of the layer's wires
 abbrev pub BeginsWithWires : {A : Type 0} → Ops A → Layered A → Type 0
-BeginsWithWires o s = claim o s [] ≡ sum_below o (length s.weights) (λ g. o.times (entry o s.weights g) (wire o s.coefficient s.values g))
+BeginsWithWires o s =
+    claim o s [] ≡ sum_below o (length s.weights) (λ g. o.times (entry o s.weights g) (wire o s.coefficient s.values g))
 
 -- a round's values at points 0 and 1 add up to the claim before it
 abbrev pub RoundsAddUp : {A : Type 0} → Ops A → (ℕ → A) → Layered A → Type 0
-RoundsAddUp {A} o point s = (bound : List A) → length bound < 2 * s.bits → o.plus (round o s bound (point 0)) (round o s bound (point 1)) ≡ claim o s bound
+RoundsAddUp {A} o point s =
+    (bound : List A) → length bound < 2 * s.bits
+    → o.plus (round o s bound (point 0)) (round o s bound (point 1)) ≡ claim o s bound
 
 -- a round is one polynomial with three coefficients
 abbrev pub RoundsAreCurves : {A : Type 0} → Ops A → Layered A → Type 0
-RoundsAreCurves {A} o s = (bound : List A) → length bound < 2 * s.bits → (c : List A) × ((length c ≡ 3) × ((t : A) → round o s bound t ≡ eval o c t))
+RoundsAreCurves {A} o s =
+    (bound : List A) → length bound < 2 * s.bits
+    → (c : List A) × ((length c ≡ 3) × ((t : A) → round o s bound t ≡ eval o c t))
 
 -- with all variables bound, the claim is the bound coefficient times the two extensions
 abbrev pub EndsWithFactors : {A : Type 0} → Ops A → Layered A → Type 0
 EndsWithFactors {A} o s =
     (bound : List A) → length bound ≡ 2 * s.bits
-    → claim o s bound ≡ o.times (o.times (bound_coefficient o s.coefficient s.weights (length s.values) (of_a bound) (of_b bound)) (tilde o s.values (of_a bound))) (tilde o s.values (of_b bound))
+    → claim o s bound
+    ≡ o.times (o.times (bound_coefficient o s.coefficient s.weights (length s.values) (of_a bound) (of_b bound))
+    (tilde o s.values (of_a bound))) (tilde o s.values (of_b bound))
 
 -- all four
 pub record IsSumcheck {A : Type 0} (o : Ops A) (point : ℕ → A) (s : Layered A) : Type 0 where

@@ -39,8 +39,9 @@ module _ {A : Type 0} (o : Ops A) (e : Coding A) (messages : List A) where
   unfoldable pub round_challenge : ℕ → TapeState → ℕ → A
   round_challenge i t n = e.element (drawn (with_pair (i + 2 * n) (after_rounds i n t)))
 
-  -- What a layer draws whose sent elements begin at number i, and whose wires below are numbered by so many bits: alpha, in version 2 beta, and then
-  -- the challenges of the rounds. For each bit, from bit 0, there is a round for this bit of a, and then one for it of b.
+  -- What a layer draws whose sent elements begin at number i, and whose wires below are numbered by so many bits:
+  -- alpha, in version 2 beta, and then the challenges of the rounds. For each bit, from bit 0, there is a round for
+  -- this bit of a, and then one for it of b.
   unfoldable pub layer_script : ℕ → ℕ → ℕ → TapeState → LayerScript A
   layer_script version i bits t = record {
     alpha = e.element (drawn t);
@@ -61,7 +62,8 @@ module _ {A : Type 0} (o : Ops A) (e : Coding A) (messages : List A) where
 
     -- what each layer draws, the outputs' first
     abbrev pub layer_scripts : TapeState → List (LayerScript A)
-    layer_scripts t = map (λ l. layer_script c.version (sent_at c l) (bits_under c l) (after_layers l t)) (range_with_len 0 (depth c))
+    layer_scripts t =
+        map (λ l. layer_script c.version (sent_at c l) (bits_under c l) (after_layers l t)) (range_with_len 0 (depth c))
 
     -- the draws of the sumchecks: the point of the outputs, each layer's draws, and gamma
     unfoldable pub script : TapeState → Script A
@@ -109,7 +111,8 @@ module _ {A : Type 0} (o : Ops A) (s : Script A) where
   abbrev pub layer_at : ℕ → LayerScript A
   layer_at l = slice_index_or s.layers l (record { alpha = o.zero; beta = o.zero; ra = []; rb = [] })
 
-  -- the first point at which a claim on layer l's wires stands: the outputs' point at layer 0, and below it that of the layer above for a's bits
+  -- the first point at which a claim on layer l's wires stands: the outputs' point at layer 0, and below it that of the
+  -- layer above for a's bits
   abbrev pub point_a : ℕ → List A
   point_a zero = s.out_point
   point_a (suc l) = (layer_at l).ra

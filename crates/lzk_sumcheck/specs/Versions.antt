@@ -13,4 +13,5 @@ use Rattle.lzk_sumcheck.specs.Script.{script, layer_at}
 abbrev pub FirstVersion : {A : Type 0} → Ops A → Coding A → Type 0
 FirstVersion {A} o e =
     (c : Wiring A) (t : TapeState) (messages : List A) (l g a b : ℕ) → c.version ≡ 1 → l < depth c
-    → (let s = script o e messages c t in ((layer_at o s l).beta ≡ o.zero) × (coefficients o c s l g a b ≡ coef o (terms_at c l) g a b))
+    → (let s = script o e messages c t in
+    ((layer_at o s l).beta ≡ o.zero) × (coefficients o c s l g a b ≡ coef o (terms_at c l) g a b))

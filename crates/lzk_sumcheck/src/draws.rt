@@ -57,8 +57,10 @@ pub fn replay_rounds<F: Field>(
 )
     requires bits { length rb.old ≡ length ra.old }
     requires messages { i + 4 * length ra.old ≤ length messages.now }
-    ensures ra { (j : ℕ) → j < length ra.old → entry F.ops ra.new j ≡ round_challenge F.ops F.coding messages.now i tape.old (2 * j) }
-    ensures rb { (j : ℕ) → j < length ra.old → entry F.ops rb.new j ≡ round_challenge F.ops F.coding messages.now i tape.old (2 * j + 1) }
+    ensures ra { (j : ℕ) → j < length ra.old
+        → entry F.ops ra.new j ≡ round_challenge F.ops F.coding messages.now i tape.old (2 * j) }
+    ensures rb { (j : ℕ) → j < length ra.old
+        → entry F.ops rb.new j ≡ round_challenge F.ops F.coding messages.now i tape.old (2 * j + 1) }
     ensures after { tape.new ≡ after_rounds F.ops F.coding messages.now i (2 * length ra.old) tape.old }
 {
     for j in 0..ra.len() {

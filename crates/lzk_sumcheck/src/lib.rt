@@ -2,8 +2,8 @@
 //!
 //! As in draft-google-cfrg-libzk, each layer has two rounds for each bit that numbers the wires below
 //! it, and a round sends two elements and draws a challenge. [`replay`] does the writes and draws of
-//! all layers; lzk_sumcheck_prover does them and sends the true values less their pads. [`plain_round`] is the value of a
-//! round by its plain sum, and [`sumcheck_laws`] names what holds of the rounds. A caller writes
+//! all layers; lzk_sumcheck_prover does them and sends the true values less their pads. [`plain_round`] is the value of
+//! a round by its plain sum, and [`sumcheck_laws`] names what holds of the rounds. A caller writes
 //!
 //! ```text
 //! let mut script = Script::new(alloc, &circuit)?;

@@ -96,9 +96,11 @@ fn term_part<F: Field>(
     requires few { bits ≤ 17 }
     requires free { length bound.now < 2 * bits }
     requires wire { term.g < length weights.now }
-    ensures { let o = F.ops in let x = point o bits bound.now t z in
-        result ≡ o.times (o.times (o.times (entry o weights.now term.g) (weighed_term o beta term).coef) (eq o term.a (every_other true x)))
-        (eq o term.b (every_other false x)) }
+    ensures { let o = F.ops in
+        let x = point o bits bound.now t z in
+        result
+        ≡ o.times (o.times (o.times (entry o weights.now term.g) (weighed_term o beta term).coef)
+        (eq o term.a (every_other true x))) (eq o term.b (every_other false x)) }
 {
     let first = eq_part(bits, bound, t, z, true, term.a);
     let second = eq_part(bits, bound, t, z, false, term.b);
@@ -122,8 +124,11 @@ fn coefficient_part<F: Field>(
     requires few { bits ≤ 17 }
     requires free { length bound.now < 2 * bits }
     requires terms { ArePlaced (length weights.now) width None terms.now }
-    ensures { let o = F.ops in let x = point o bits bound.now t z in
-        result ≡ bound_coefficient o (layer_coefficient o terms.now beta) weights.now width (every_other true x) (every_other false x) }
+    ensures { let o = F.ops in
+        let x = point o bits bound.now t z in
+        result
+        ≡ bound_coefficient o (layer_coefficient o terms.now beta) weights.now width (every_other true x)
+        (every_other false x) }
 {
     let mut total = F::zero();
     for i in 0..terms.len() {
@@ -146,7 +151,8 @@ fn plain_sum<F: Field>(
     requires free { length bound.now < 2 * bits }
     requires size { length values.now ≤ 131072 }
     requires terms { ArePlaced (length weights.now) (length values.now) None terms.now }
-    ensures { let o = F.ops in result ≡ rounds.round o (layer_of_terms o terms.now beta weights.now values.now bits) bound.now t }
+    ensures { let o = F.ops in
+        result ≡ rounds.round o (layer_of_terms o terms.now beta weights.now values.now bits) bound.now t }
 {
     let mut total = F::zero();
     for z in 0..(1u64 << (2 * bits - bound.len() - 1)) {
@@ -158,9 +164,9 @@ fn plain_sum<F: Field>(
     total
 }
 
-/// The value of a round of layer `l` at `t`, for any weights of the layer's wires and any beta for its assertion terms: `bound`
-/// holds the challenges of the rounds before it. This is the plain sum over all zeros and ones for the variables that are left:
-/// the plain form beside `prove_layers`, for tests and small circuits.
+/// The value of a round of layer `l` at `t`, for any weights of the layer's wires and any beta for its assertion terms:
+/// `bound` holds the challenges of the rounds before it. This is the plain sum over all zeros and ones for the
+/// variables that are left: the plain form beside `prove_layers`, for tests and small circuits.
 pub fn plain_round<F: Field>(
     circuit: &Circuit<F>,
     values: &Values<F>,
@@ -174,7 +180,8 @@ pub fn plain_round<F: Field>(
     requires values { HaveWidths circuit.now values.now.wires }
     requires weights { length weights.now ≡ width_at circuit.now l }
     requires free { length bound.now < 2 * bits_under circuit.now l }
-    ensures round { let o = F.ops in result ≡ rounds.round o (weighted_layer o circuit.now values.now.wires l weights.now beta) bound.now t }
+    ensures round { let o = F.ops in
+        result ≡ rounds.round o (weighted_layer o circuit.now values.now.wires l weights.now beta) bound.now t }
 {
     circuit.valid_laws();
     let bits = bits_of(circuit.width(l + 1)) as usize;

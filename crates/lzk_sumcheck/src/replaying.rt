@@ -57,7 +57,8 @@ fn replay_layers<F: Field>(
 )
     requires messages { length messages.now ≡ sent_counts circuit.now }
     requires depth { length layers.old ≡ depth circuit.now }
-    requires bits { (l : ℕ) (layer : declared.LayerScript F) → slice_get layers.old l ≡ Some layer → HasBits (bits_under circuit.now l) layer }
+    requires bits { (l : ℕ) (layer : declared.LayerScript F) → slice_get layers.old l ≡ Some layer
+        → HasBits (bits_under circuit.now l) layer }
     ensures scripts { layers.new ≡ layer_scripts F.ops F.coding messages.now circuit.now tape.old }
     ensures after { tape.new ≡ after_layers F.ops F.coding messages.now circuit.now (depth circuit.now) tape.old }
 {
@@ -80,7 +81,8 @@ fn replay_list<F: Field>(
 )
     requires messages { length messages.now ≡ sent_counts circuit.now }
     requires depth { length layers.old ≡ depth circuit.now }
-    requires bits { (l : ℕ) (layer : declared.LayerScript F) → slice_get layers.old l ≡ Some layer → HasBits (bits_under circuit.now l) layer }
+    requires bits { (l : ℕ) (layer : declared.LayerScript F) → slice_get layers.old l ≡ Some layer
+        → HasBits (bits_under circuit.now l) layer }
     ensures scripts { layers.new ≡ layer_scripts F.ops F.coding messages.now circuit.now tape.old }
     ensures after { tape.new ≡ after_layers F.ops F.coding messages.now circuit.now (depth circuit.now) tape.old }
 {

@@ -44,4 +44,8 @@ drawn t = number_from (aes (flushed t).seed (bytes_of 16 (flushed t).counter))
 
 -- the tape after a draw: the counter goes up by one
 unfoldable pub after_draw : TapeState → TapeState
-after_draw t = record { seed = (flushed t).seed; pending = (flushed t).pending; counter = ((flushed t).counter + 1) % 2 ^ 128 }
+after_draw t = record {
+  seed = (flushed t).seed;
+  pending = (flushed t).pending;
+  counter = ((flushed t).counter + 1) % 2 ^ 128;
+}

@@ -48,7 +48,8 @@ impl Model for Tape {
 
     ghost view = { λ t. record { seed = t.cipher; pending = t.pending; counter = t.counter } };
 
-    ghost invariant = { λ t. Holds256 t.hasher (t.cipher ++ t.pending) × (t.is_pending ≡ not (nat_eq (length t.pending) 0)) };
+    ghost invariant = { λ t.
+        Holds256 t.hasher (t.cipher ++ t.pending) × (t.is_pending ≡ not (nat_eq (length t.pending) 0)) };
 }
 
 impl Tape {
@@ -161,8 +162,8 @@ impl Tape {
         F::of_word(self.draw_block())
     }
 
-    /// Draws as many different columns below `mcol` as `out` has places, one block for each. A block's number picks by its
-    /// place among the columns that are left.
+    /// Draws as many different columns below `mcol` as `out` has places, one block for each. A block's number picks by
+    /// its place among the columns that are left.
     pub fn draw_columns(&mut self, mcol: u32, out: &mut [u32])
         requires enough { length out.old ≤ mcol }
         requires few { mcol ≤ 65536 }
