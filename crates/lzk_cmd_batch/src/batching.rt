@@ -20,7 +20,7 @@ use std::marker::Sync;
 use std::thread::Threads;
 
 /// The largest list that is read, in bytes.
-const LIST_LIMIT: usize = 65_536;
+const MOST_LIST: usize = 65_536;
 
 // The jobs of this list.
 fn list_of(alloc: Global, name: &str, text: &[u8]) -> Result<Vec<Entry>, Halt>
@@ -45,7 +45,7 @@ fn read_list<S: Shelf>(alloc: Global, shelf: &mut S, name: &str) -> Result<Vec<E
     ensures few { IfOk result (λ v. length v.items ≤ 256) }
     ensures short { IfOk result (λ v. All IsShort (map entry_view v.items)) }
 {
-    let text = read_file(alloc, shelf, name, LIST_LIMIT)?;
+    let text = read_file(alloc, shelf, name, MOST_LIST)?;
     list_of(alloc, name, &text)
 }
 

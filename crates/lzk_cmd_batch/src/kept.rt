@@ -8,7 +8,7 @@ ghost use Rattle.lzk_cmd_files.specs.Walks.{OnlyReads};
 
 use crate::totals::count_in;
 use lzk_circbytes::AnyCircuit;
-use lzk_cmd_files::{CIRCUIT_LIMIT, Halt, Held, held_of, read_file};
+use lzk_cmd_files::{Halt, Held, MOST_CIRCUIT, held_of, read_file};
 use lzk_outside::Shelf;
 use std::alloc::{AllocError, Global};
 
@@ -68,7 +68,7 @@ fn keep_circuit<'a, S: Shelf>(
     ensures kept { IfOk result (λ _. KeepsOn (S.held shelf.old) kept.old kept.new) }
     ensures reads { OnlyReads (seen S.Shelf shelf.old) (seen S.Shelf shelf.new) }
 {
-    let bytes = read_file(alloc, shelf, name, CIRCUIT_LIMIT)?;
+    let bytes = read_file(alloc, shelf, name, MOST_CIRCUIT)?;
     let taken = count_in(alloc, name, taken, bytes.len())?;
     let Held { circuit, id } = held_of(alloc, name, &bytes)?;
     kept.files.push(CircuitFile {

@@ -7,13 +7,13 @@ ghost use Rattle.lzk_cmd_batch.specs.Gathered.{Counts};
 ghost use Rattle.lzk_cmd_files.specs.Seen.{seen};
 ghost use Rattle.lzk_cmd_files.specs.Walks.{Gives, OnlyReads};
 
-use lzk_cmd_files::{Ending, Halt, PROOF_LIMIT, TEXT_LIMIT, elements_of, lines, read_file};
+use lzk_cmd_files::{Ending, Halt, MOST_PROOF, MOST_TEXT, elements_of, lines, read_file};
 use lzk_field::Field;
 use lzk_outside::Shelf;
 use std::alloc::Global;
 
 /// How many bytes the files of all jobs of a batch may have together.
-pub const TOTAL_LIMIT: usize = 134_217_728;
+pub const MOST_TOTAL: usize = 134_217_728;
 
 /// How many bytes the files have with one more, or the end of the run.
 pub fn count_in(alloc: Global, name: &str, taken: usize, bytes: usize) -> Result<usize, Halt>
@@ -22,10 +22,10 @@ pub fn count_in(alloc: Global, name: &str, taken: usize, bytes: usize) -> Result
     ensures { Counts taken name.now bytes result }
 {
     let all = taken + bytes;
-    if all <= TOTAL_LIMIT {
+    if all <= MOST_TOTAL {
         return Ok(all);
     }
-    let text = lines::tell_larger(alloc, name, TOTAL_LIMIT)?;
+    let text = lines::tell_larger(alloc, name, MOST_TOTAL)?;
     Err(Halt::End(Ending { status: 3, text }))
 }
 
@@ -43,7 +43,7 @@ pub fn read_publics<S: Shelf, F: Field>(
     ensures count { IfOk result (λ found. length found.0.items ≡ count) }
     ensures reads { OnlyReads (seen S.Shelf shelf.old) (seen S.Shelf shelf.new) }
 {
-    let text = read_file(alloc, shelf, name, TEXT_LIMIT)?;
+    let text = read_file(alloc, shelf, name, MOST_TEXT)?;
     let taken = count_in(alloc, name, taken, text.len())?;
     let elements = elements_of(alloc, name, &text, count)?;
     Ok((elements, taken))
@@ -61,7 +61,7 @@ pub fn read_proof<S: Shelf>(
         (seen S.Shelf shelf.new) name.now result }
     ensures reads { OnlyReads (seen S.Shelf shelf.old) (seen S.Shelf shelf.new) }
 {
-    let bytes = read_file(alloc, shelf, name, PROOF_LIMIT)?;
+    let bytes = read_file(alloc, shelf, name, MOST_PROOF)?;
     let taken = count_in(alloc, name, taken, bytes.len())?;
     Ok((bytes, taken))
 }

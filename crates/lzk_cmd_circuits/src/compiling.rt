@@ -14,7 +14,7 @@ ghost use Rattle.lzk_cmd_circuits.specs.CircuitSteps.{Compiles};
 
 use lzk_circbytes::{AnyCircuit, encode};
 use lzk_circuit::Circuit;
-use lzk_cmd_files::{Ending, Halt, Means, TEXT_LIMIT, lines, put_file, read_file};
+use lzk_cmd_files::{Ending, Halt, MOST_TEXT, Means, lines, put_file, read_file};
 use lzk_cmd_words::Version;
 use lzk_expr::{Source, SourceError, parse};
 use lzk_field::{Field, Gate};
@@ -45,7 +45,7 @@ fn read_source<S: Shelf>(alloc: Global, shelf: &mut S, name: &str) -> Result<Sou
         result }
     ensures reads { OnlyReads (seen S.Shelf shelf.old) (seen S.Shelf shelf.new) }
 {
-    let text = read_file(alloc, shelf, name, TEXT_LIMIT)?;
+    let text = read_file(alloc, shelf, name, MOST_TEXT)?;
     source_of(alloc, name, &text)
 }
 

@@ -7,7 +7,7 @@ ghost use Rattle.lzk_cmd_files.specs.Seen.{seen};
 ghost use Rattle.lzk_cmd_files.specs.Walks.{Decodes, Gives, OnlyReads};
 
 use crate::ending::{Ending, Halt};
-use crate::files::{CIRCUIT_LIMIT, read_file};
+use crate::files::{MOST_CIRCUIT, read_file};
 use crate::lines;
 use lzk_circbytes::{AnyCircuit, DecodeError, decode, id_of_file};
 use lzk_outside::Shelf;
@@ -55,7 +55,7 @@ pub fn read_held<S: Shelf>(alloc: Global, shelf: &mut S, name: &str) -> Result<H
     ensures id { IfOk result (λ held. held.id ≡ id_of_any held.circuit) }
     ensures reads { OnlyReads (seen S.Shelf shelf.old) (seen S.Shelf shelf.new) }
 {
-    let bytes = read_file(alloc, shelf, name, CIRCUIT_LIMIT)?;
+    let bytes = read_file(alloc, shelf, name, MOST_CIRCUIT)?;
     held_of(alloc, name, &bytes)
 }
 
@@ -64,6 +64,6 @@ pub fn read_circuit<S: Shelf>(alloc: Global, shelf: &mut S, name: &str) -> Resul
     ensures gives { Gives circuit_files (λ c. c) (seen S.Shelf shelf.old) (seen S.Shelf shelf.new) name.now result }
     ensures reads { OnlyReads (seen S.Shelf shelf.old) (seen S.Shelf shelf.new) }
 {
-    let bytes = read_file(alloc, shelf, name, CIRCUIT_LIMIT)?;
+    let bytes = read_file(alloc, shelf, name, MOST_CIRCUIT)?;
     circuit_of(alloc, name, &bytes)
 }

@@ -11,13 +11,13 @@ use lzk_outside::{PutFault, Shelf};
 use std::alloc::{AllocError, Global};
 
 /// The largest circuit file that is read, in bytes.
-pub const CIRCUIT_LIMIT: usize = 67_108_864;
+pub const MOST_CIRCUIT: usize = 67_108_864;
 
 /// The largest number or source file that is read, in bytes.
-pub const TEXT_LIMIT: usize = 4_194_304;
+pub const MOST_TEXT: usize = 4_194_304;
 
 /// The largest proof that is read, in bytes.
-pub const PROOF_LIMIT: usize = 2_097_152;
+pub const MOST_PROOF: usize = 2_097_152;
 
 // How a run ends at a file that was not read; an error is how it ends too, for want of memory.
 fn ending_of(

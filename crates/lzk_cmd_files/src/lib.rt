@@ -19,7 +19,7 @@ mod print;
 
 pub use circuits::{Held, circuit_of, held_of, read_circuit, read_held};
 pub use ending::{Ending, Halt};
-pub use files::{CIRCUIT_LIMIT, PROOF_LIMIT, TEXT_LIMIT, halt_of, put_file, read_file};
+pub use files::{MOST_CIRCUIT, MOST_PROOF, MOST_TEXT, halt_of, put_file, read_file};
 pub use load::LoadFault;
 pub use means::Means;
 pub use numbers::{elements_of, read_elements};

@@ -6,7 +6,7 @@ ghost use Rattle.lzk_cmd_files.specs.Seen.{seen};
 ghost use Rattle.lzk_cmd_files.specs.Walks.{Decodes, Gives, OnlyReads};
 
 use crate::ending::{Ending, Halt};
-use crate::files::{TEXT_LIMIT, read_file};
+use crate::files::{MOST_TEXT, read_file};
 use crate::lines;
 use lzk_expr::{NumberError, read_numbers};
 use lzk_field::Field;
@@ -47,6 +47,6 @@ pub fn read_elements<S: Shelf, F: Field>(
     ensures reads { OnlyReads (seen S.Shelf shelf.old) (seen S.Shelf shelf.new) }
     ensures count { IfOk result (λ v. length v.items ≡ count) }
 {
-    let text = read_file(alloc, shelf, name, TEXT_LIMIT)?;
+    let text = read_file(alloc, shelf, name, MOST_TEXT)?;
     elements_of(alloc, name, &text, count)
 }

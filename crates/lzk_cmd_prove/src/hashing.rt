@@ -13,11 +13,11 @@ ghost use Rattle.lzk_cmd_files.specs.Seen.{seen};
 ghost use Rattle.lzk_cmd_verify.specs.Verified.{gold_coding};
 ghost use Rattle.lzk_cmd_files.specs.Walks.{IsEnding, Moves, WalksToPut};
 
-use crate::proving::{Job, prove_inputs};
+use crate::proving::{Task, prove_inputs};
 use lzk_circbytes::AnyCircuit;
 use lzk_circuit::Circuit;
 use lzk_cmd_files::{Ending, Halt, Means, lines, read_held};
-use lzk_cmd_words::{HashOrder, message_bytes, seed_bytes, session_bytes, workers_of};
+use lzk_cmd_words::{HashWords, message_bytes, seed_bytes, session_bytes, workers_of};
 use lzk_field::Gate;
 use lzk_goldilocks::Gold;
 use lzk_ntt::NttExtender;
@@ -49,16 +49,16 @@ fn prove_hash<R: Threads + Sync, S: Shelf, G: Gate>(
     means: &Means<'_, R, G>,
     circuit: &Circuit<Gold>,
     message: &[u8],
-    job: &Job<'_>,
+    task: &Task<'_>,
     shelf: &mut S,
 ) -> Result<Ending, Halt>
-    requires id { job.now.id ≡ id_of gold_coding circuit.now }
+    requires id { task.now.id ≡ id_of gold_coding circuit.now }
     requires message { length message.now ≤ 55 }
     requires publics { circuit.now.publics ≡ 8 }
     requires privates { circuit.now.privates ≡ private_count (length message.now) }
-    requires digest { option_copied job.now.digest ≡ Some (sha256 message.now) }
+    requires digest { option_copied task.now.digest ≡ Some (sha256 message.now) }
     ensures walks { WalksToPut
-        (λ files. ProvesHash circuit.now message.now job.now.proof.now job.now.session.now job.now.seed) 1
+        (λ files. ProvesHash circuit.now message.now task.now.proof.now task.now.session.now task.now.seed) 1
         (seen S.Shelf shelf.old) (seen S.Shelf shelf.new) result }
     ensures moves { Moves (seen S.Shelf shelf.old) (seen S.Shelf shelf.new) }
 {
@@ -68,7 +68,7 @@ fn prove_hash<R: Threads + Sync, S: Shelf, G: Gate>(
         circuit,
         &inputs.public,
         &inputs.private,
-        job,
+        task,
         shelf,
     )
 }
@@ -79,21 +79,21 @@ fn hash_any<R: Threads + Sync, S: Shelf, G: Gate>(
     name: &str,
     circuit: &AnyCircuit,
     message: &[u8],
-    job: &Job<'_>,
+    task: &Task<'_>,
     shelf: &mut S,
 ) -> Result<Ending, Halt>
-    requires id { job.now.id ≡ id_of_any circuit.now }
+    requires id { task.now.id ≡ id_of_any circuit.now }
     requires message { length message.now ≤ 55 }
-    requires digest { option_copied job.now.digest ≡ Some (sha256 message.now) }
+    requires digest { option_copied task.now.digest ≡ Some (sha256 message.now) }
     ensures walks { WalksToPut
-        (λ files. HashAny name.now circuit.now message.now job.now.proof.now job.now.session.now job.now.seed) 1
+        (λ files. HashAny name.now circuit.now message.now task.now.proof.now task.now.session.now task.now.seed) 1
         (seen S.Shelf shelf.old) (seen S.Shelf shelf.new) result }
     ensures moves { Moves (seen S.Shelf shelf.old) (seen S.Shelf shelf.new) }
 {
     match circuit {
         AnyCircuit::Gold(c) => {
             if is_for(c, message.len()) {
-                prove_hash(means, c, message, job, shelf)
+                prove_hash(means, c, message, task, shelf)
             } else {
                 Ok(unfit(means.alloc, name, message.len())?)
             }
@@ -105,7 +105,7 @@ fn hash_any<R: Threads + Sync, S: Shelf, G: Gate>(
 /// Proves for a circuit file and a message, and puts the proof.
 pub fn sha256<R: Threads + Sync, S: Shelf, G: Gate>(
     means: &Means<'_, R, G>,
-    order: &HashOrder<'_>,
+    order: &HashWords<'_>,
     shelf: &mut S,
 ) -> Result<Ending, Halt>
     requires message { length (message_of order.now.message.now) ≤ 55 }
@@ -119,7 +119,7 @@ pub fn sha256<R: Threads + Sync, S: Shelf, G: Gate>(
     let message = message_bytes(means.alloc, order.message)?;
     let held = read_held(means.alloc, shelf, order.circuit)?;
     let digest = Sha256::digest(message.as_slice());
-    let job = Job {
+    let task = Task {
         id: held.id,
         proof: order.proof,
         digest: Some(&digest),
@@ -127,5 +127,5 @@ pub fn sha256<R: Threads + Sync, S: Shelf, G: Gate>(
         seed: seed_bytes(order.seed),
         workers: workers_of(order.workers),
     };
-    hash_any(means, order.circuit, &held.circuit, &message, &job, shelf)
+    hash_any(means, order.circuit, &held.circuit, &message, &task, shelf)
 }

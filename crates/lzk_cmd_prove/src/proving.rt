@@ -14,7 +14,7 @@ use lzk_afft::Transform;
 use lzk_circbytes::AnyCircuit;
 use lzk_circuit::Circuit;
 use lzk_cmd_files::{Ending, Halt, Means, lines, put_file, read_elements, read_held};
-use lzk_cmd_words::{Order, seed_bytes, session_bytes, workers_of};
+use lzk_cmd_words::{ProveWords, seed_bytes, session_bytes, workers_of};
 use lzk_complete::proof_laws;
 use lzk_field::{Field, Gate, Seeded};
 use lzk_gf128::Gf128;
@@ -30,7 +30,7 @@ use std::thread::Threads;
 /// What a proof is made with beside its circuit and inputs: the circuit's id, the name of the proof's file, the digest
 /// that is told with it, its session, seed and workers.
 #[derive(Clone, Copy)]
-pub struct Job<'a> {
+pub struct Task<'a> {
     pub id: [u8; 32],
     pub proof: &'a str,
     pub digest: Option<&'a [u8]>,
@@ -66,31 +66,31 @@ fn put_proof<F: Field, X: RowExtend<F>, R: Threads + Sync, S: Shelf, G: Gate>(
     works: &mut WorksOver<'_, F, X>,
     publics: &[F],
     privates: &[F],
-    job: &Job<'_>,
+    task: &Task<'_>,
     shelf: &mut S,
 ) -> Result<Ending, Halt>
     requires works { works.old ≡ circuit.now }
     requires publics { length publics.now ≡ circuit.now.publics }
     requires privates { length privates.now ≡ circuit.now.privates }
-    ensures walks { WalksToPut (λ files. Proves F.ops F.coding circuit.now
-        job.now.proof.now (option_copied job.now.digest) job.now.session.now job.now.seed publics.now privates.now) 3
-        (seen S.Shelf shelf.old) (seen S.Shelf shelf.new) result }
+    ensures walks { WalksToPut (λ files.
+        Proves F.ops F.coding circuit.now task.now.proof.now (option_copied task.now.digest) task.now.session.now
+        task.now.seed publics.now privates.now) 3 (seen S.Shelf shelf.old) (seen S.Shelf shelf.new) result }
     ensures moves { Moves (seen S.Shelf shelf.old) (seen S.Shelf shelf.new) }
 {
     proofs_fit(circuit);
-    let words = Seeded::new(job.seed);
+    let words = Seeded::new(task.seed);
     match works.prove(
         means.rt,
-        job.session,
+        task.session,
         publics,
         privates,
         &words,
-        job.workers,
+        task.workers,
         means.gate,
     ) {
         Ok(bytes) => {
-            let text = lines::tell_proved(means.alloc, job.proof, job.digest, bytes.len())?;
-            put_file(means.alloc, shelf, job.proof, bytes, text)
+            let text = lines::tell_proved(means.alloc, task.proof, task.digest, bytes.len())?;
+            put_file(means.alloc, shelf, task.proof, bytes, text)
         }
         Err(first) => Ok(unsatisfied(means.alloc, first)?),
     }
@@ -102,20 +102,20 @@ pub fn prove_inputs<F: Field, X: RowExtend<F>, R: Threads + Sync, S: Shelf, G: G
     circuit: &Circuit<F>,
     publics: &[F],
     privates: &[F],
-    job: &Job<'_>,
+    task: &Task<'_>,
     shelf: &mut S,
 ) -> Result<Ending, Halt>
     requires publics { length publics.now ≡ circuit.now.publics }
     requires privates { length privates.now ≡ circuit.now.privates }
-    requires id { job.now.id ≡ id_of F.coding circuit.now }
-    ensures walks { WalksToPut (λ files. Proves F.ops F.coding circuit.now
-        job.now.proof.now (option_copied job.now.digest) job.now.session.now job.now.seed publics.now privates.now) 3
-        (seen S.Shelf shelf.old) (seen S.Shelf shelf.new) result }
+    requires id { task.now.id ≡ id_of F.coding circuit.now }
+    ensures walks { WalksToPut (λ files.
+        Proves F.ops F.coding circuit.now task.now.proof.now (option_copied task.now.digest) task.now.session.now
+        task.now.seed publics.now privates.now) 3 (seen S.Shelf shelf.old) (seen S.Shelf shelf.new) result }
     ensures moves { Moves (seen S.Shelf shelf.old) (seen S.Shelf shelf.new) }
 {
-    let mut works = WorksOver::<F, X>::with_id(means.alloc, circuit, job.id)?;
+    let mut works = WorksOver::<F, X>::with_id(means.alloc, circuit, task.id)?;
     let ending = put_proof::<F, X, R, S, G>(
-        means, circuit, &mut works, publics, privates, job, shelf,
+        means, circuit, &mut works, publics, privates, task, shelf,
     );
     drop(works);
     ending
@@ -127,19 +127,19 @@ fn prove_over<F: Field, X: RowExtend<F>, R: Threads + Sync, S: Shelf, G: Gate>(
     circuit: &Circuit<F>,
     public: &str,
     private: &str,
-    job: &Job<'_>,
+    task: &Task<'_>,
     shelf: &mut S,
 ) -> Result<Ending, Halt>
-    requires id { job.now.id ≡ id_of F.coding circuit.now }
-    requires digest { option_copied job.now.digest ≡ None }
+    requires id { task.now.id ≡ id_of F.coding circuit.now }
+    requires digest { option_copied task.now.digest ≡ None }
     ensures walks { WalksToPut (ProveOver F.ops F.coding circuit.now
-        public.now private.now job.now.proof.now job.now.session.now job.now.seed) 1
+        public.now private.now task.now.proof.now task.now.session.now task.now.seed) 1
         (seen S.Shelf shelf.old) (seen S.Shelf shelf.new) result }
     ensures moves { Moves (seen S.Shelf shelf.old) (seen S.Shelf shelf.new) }
 {
     let publics = read_elements::<S, F>(means.alloc, shelf, public, circuit.publics())?;
     let privates = read_elements::<S, F>(means.alloc, shelf, private, circuit.privates())?;
-    prove_inputs::<F, X, R, S, G>(means, circuit, &publics, &privates, job, shelf)
+    prove_inputs::<F, X, R, S, G>(means, circuit, &publics, &privates, task, shelf)
 }
 
 // The same over either field.
@@ -148,22 +148,22 @@ fn prove_any<R: Threads + Sync, S: Shelf, G: Gate>(
     circuit: &AnyCircuit,
     public: &str,
     private: &str,
-    job: &Job<'_>,
+    task: &Task<'_>,
     shelf: &mut S,
 ) -> Result<Ending, Halt>
-    requires id { job.now.id ≡ id_of_any circuit.now }
-    requires digest { option_copied job.now.digest ≡ None }
+    requires id { task.now.id ≡ id_of_any circuit.now }
+    requires digest { option_copied task.now.digest ≡ None }
     ensures walks { WalksToPut
-        (ProveAny circuit.now public.now private.now job.now.proof.now job.now.session.now job.now.seed) 1
+        (ProveAny circuit.now public.now private.now task.now.proof.now task.now.session.now task.now.seed) 1
         (seen S.Shelf shelf.old) (seen S.Shelf shelf.new) result }
     ensures moves { Moves (seen S.Shelf shelf.old) (seen S.Shelf shelf.new) }
 {
     match circuit {
         AnyCircuit::Gold(c) => {
-            prove_over::<Gold, NttExtender<Gold>, R, S, G>(means, c, public, private, job, shelf)
+            prove_over::<Gold, NttExtender<Gold>, R, S, G>(means, c, public, private, task, shelf)
         }
         AnyCircuit::Gf(c) => {
-            prove_over::<Gf128, Transform, R, S, G>(means, c, public, private, job, shelf)
+            prove_over::<Gf128, Transform, R, S, G>(means, c, public, private, task, shelf)
         }
     }
 }
@@ -171,7 +171,7 @@ fn prove_any<R: Threads + Sync, S: Shelf, G: Gate>(
 /// Proves for a circuit file and two number files, and puts the proof.
 pub fn prove<R: Threads + Sync, S: Shelf, G: Gate>(
     means: &Means<'_, R, G>,
-    order: &Order<'_>,
+    order: &ProveWords<'_>,
     shelf: &mut S,
 ) -> Result<Ending, Halt>
     requires session { length (session_of (option_copied order.now.session)) ≤ 64 }
@@ -182,7 +182,7 @@ pub fn prove<R: Threads + Sync, S: Shelf, G: Gate>(
 {
     let session = session_bytes(means.alloc, order.session)?;
     let held = read_held(means.alloc, shelf, order.circuit)?;
-    let job = Job {
+    let task = Task {
         id: held.id,
         proof: order.proof,
         digest: None,
@@ -195,7 +195,7 @@ pub fn prove<R: Threads + Sync, S: Shelf, G: Gate>(
         &held.circuit,
         order.public,
         order.private,
-        &job,
+        &task,
         shelf,
     )
 }

@@ -6,7 +6,7 @@ ghost use Rattle.lzk_cmd_verify.specs.Feeding.{Feeds, FeedsOrEnds};
 ghost use Rattle.lzk_cmd_files.specs.Seen.{seen, ReadFailed, Missed};
 ghost use Rattle.lzk_cmd_files.specs.Walks.{OnlyReads};
 
-use lzk_cmd_files::{Halt, LoadFault, PROOF_LIMIT, halt_of};
+use lzk_cmd_files::{Halt, LoadFault, MOST_PROOF, halt_of};
 use lzk_field::Field;
 use lzk_outside::{Shelf, ShelfFault};
 use lzk_verify::Desk;
@@ -67,10 +67,10 @@ pub fn feed_proof<S: Shelf, F: Field>(
     ensures reads { OnlyReads (seen S.Shelf shelf.old) (seen S.Shelf shelf.new) }
 {
     let mut buffer = vec![in alloc; 0u8; PIECE]?;
-    let fed = feed_file(shelf, name, PROOF_LIMIT, desk, &mut buffer);
+    let fed = feed_file(shelf, name, MOST_PROOF, desk, &mut buffer);
     drop(buffer);
     match fed {
         Ok(()) => Ok(()),
-        Err(fault) => Err(halt_of(alloc, name, PROOF_LIMIT, fault)),
+        Err(fault) => Err(halt_of(alloc, name, MOST_PROOF, fault)),
     }
 }

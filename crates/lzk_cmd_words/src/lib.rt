@@ -15,4 +15,4 @@ mod words;
 
 pub use keys::number_up_to;
 pub use values::{message_bytes, seed_bytes, session_bytes, workers_of};
-pub use words::{Command, HashOrder, Order, Version, parse_words};
+pub use words::{Command, HashWords, ProveWords, Version, parse_words};

@@ -28,10 +28,10 @@ pub enum First {
 
 /// Whether a key may stand behind the names.
 #[derive(Clone, Copy)]
-pub enum Stands {
-    Never,
-    Maybe,
-    Always,
+pub enum Key {
+    Forbidden,
+    Optional,
+    Required,
 }
 
 /// A row: how many names a command has, what the first is, and which keys stand behind them.
@@ -39,11 +39,11 @@ pub enum Stands {
 pub struct Row {
     pub names: usize,
     pub first: First,
-    pub seed: Stands,
-    pub session: Stands,
-    pub workers: Stands,
-    pub message: Stands,
-    pub version: Stands,
+    pub seed: Key,
+    pub session: Key,
+    pub workers: Key,
+    pub message: Key,
+    pub version: Key,
 }
 
 /// The command of this word.
@@ -82,11 +82,11 @@ fn names(count: usize) -> Row
     Row {
         names: count,
         first: First::File,
-        seed: Stands::Never,
-        session: Stands::Never,
-        workers: Stands::Never,
-        message: Stands::Never,
-        version: Stands::Never,
+        seed: Key::Forbidden,
+        session: Key::Forbidden,
+        workers: Key::Forbidden,
+        message: Key::Forbidden,
+        version: Key::Forbidden,
     }
 }
 
@@ -97,29 +97,29 @@ pub fn row_of(verb: Verb) -> Row
     match verb {
         Verb::Eval => names(3),
         Verb::Compile => Row {
-            version: Stands::Maybe,
+            version: Key::Optional,
             ..names(2)
         },
         Verb::Upgrade => names(2),
         Verb::Show => names(1),
         Verb::Prove => Row {
-            seed: Stands::Always,
-            session: Stands::Maybe,
-            workers: Stands::Maybe,
+            seed: Key::Required,
+            session: Key::Optional,
+            workers: Key::Optional,
             ..names(4)
         },
         Verb::Verify => Row {
-            session: Stands::Maybe,
+            session: Key::Optional,
             ..names(3)
         },
         Verb::Batch => Row {
-            workers: Stands::Maybe,
+            workers: Key::Optional,
             ..names(1)
         },
         Verb::Demo => Row {
             first: First::Inputs,
-            seed: Stands::Always,
-            workers: Stands::Maybe,
+            seed: Key::Required,
+            workers: Key::Optional,
             ..names(1)
         },
         Verb::ShaCircuit => Row {
@@ -127,22 +127,22 @@ pub fn row_of(verb: Verb) -> Row
             ..names(2)
         },
         Verb::Sha256 => Row {
-            seed: Stands::Always,
-            session: Stands::Maybe,
-            workers: Stands::Maybe,
-            message: Stands::Always,
+            seed: Key::Required,
+            session: Key::Optional,
+            workers: Key::Optional,
+            message: Key::Required,
             ..names(2)
         },
     }
 }
 
 /// Whether a key that stands, or does not, may do so.
-pub fn may_stand(stands: Stands, there: bool) -> bool
+pub fn may_stand(stands: Key, there: bool) -> bool
     ensures { result ≡ table.may_stand stands there }
 {
     match stands {
-        Stands::Never => !there,
-        Stands::Maybe => true,
-        Stands::Always => there,
+        Key::Forbidden => !there,
+        Key::Optional => true,
+        Key::Required => there,
     }
 }

@@ -14,7 +14,7 @@ use crate::table::Verb;
 
 /// The names of the files of `prove`, and the digits of its seed, and of its session and workers if they stand.
 #[derive(Clone, Copy)]
-pub struct Order<'a> {
+pub struct ProveWords<'a> {
     pub circuit: &'a str,
     pub public: &'a str,
     pub private: &'a str,
@@ -27,7 +27,7 @@ pub struct Order<'a> {
 /// The names of the files of `sha256`, and the digits of its message and seed, and of its session and workers if they
 /// stand.
 #[derive(Clone, Copy)]
-pub struct HashOrder<'a> {
+pub struct HashWords<'a> {
     pub circuit: &'a str,
     pub proof: &'a str,
     pub message: &'a [u8],
@@ -63,7 +63,7 @@ pub enum Command<'a> {
     Show {
         circuit: &'a str,
     },
-    Prove(Order<'a>),
+    Prove(ProveWords<'a>),
     Verify {
         circuit: &'a str,
         public: &'a str,
@@ -83,7 +83,7 @@ pub enum Command<'a> {
         count: &'a str,
         circuit: &'a str,
     },
-    Sha256(HashOrder<'a>),
+    Sha256(HashWords<'a>),
 }
 
 // The files of `eval`.
@@ -167,7 +167,7 @@ fn prove_of<'a>(names: &'a [String], keys: &Keys<'a>) -> Option<Command<'a>>
     match names {
         [circuit, public, private, proof] => {
             let seed = keys.seed?;
-            Some(Command::Prove(Order {
+            Some(Command::Prove(ProveWords {
                 circuit: circuit.as_str(),
                 public: public.as_str(),
                 private: private.as_str(),
@@ -252,7 +252,7 @@ fn sha256_of<'a>(names: &'a [String], keys: &Keys<'a>) -> Option<Command<'a>>
         [circuit, proof] => {
             let message = keys.message?;
             let seed = keys.seed?;
-            Some(Command::Sha256(HashOrder {
+            Some(Command::Sha256(HashWords {
                 circuit: circuit.as_str(),
                 proof: proof.as_str(),
                 message,

@@ -4,7 +4,7 @@ use lzk_field::Field;
 use lzk_gf128::Gf128;
 use lzk_goldilocks::Gold;
 use lzk_poly::RowExtend;
-use lzk_rows::Rows;
+use lzk_tests_rows::Rows;
 use std::alloc::{AllocError, Global};
 use std::test::Fail;
 

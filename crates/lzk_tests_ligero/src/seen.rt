@@ -12,7 +12,7 @@ use lzk_gf128::Gf128;
 use lzk_goldilocks::Gold;
 use lzk_ntt::NttExtender;
 use lzk_poly::RowExtend;
-use lzk_rows::Rows;
+use lzk_tests_rows::Rows;
 use std::alloc::Global;
 use std::marker::Sync;
 use std::thread::Threads;

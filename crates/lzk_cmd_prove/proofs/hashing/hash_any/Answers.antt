@@ -10,17 +10,17 @@ pub returns-in_ok-unfit-in-Gold-clause-walks : goal.returns-in_ok-unfit-in-Gold-
 returns-in_ok-unfit-in-Gold-clause-walks g c =
     let name = c.args.name.now in
     let message = c.args.message.now in
-    let job = c.args.job.now in
+    let task = c.args.task.now in
     let s = seen g.S.Shelf c.args.shelf.now in
     let e = c.in_ok-unfit-in-Gold.field-0 in
     let other : is_for (length message) c.in-Gold.c ≡ false = sym c.is_for.ensures ∙ c.if-is_for.false in
-    subst (λ (any : AnyCircuit). WalksToPut (λ files. HashAny name any message job.proof.now job.session.now job.seed) 1 s s (Ok e)) (sym c.in-Gold.is) (refuses_counts name message job.proof.now job.session.now job.seed c.in-Gold.c s e other c.in_ok-unfit-in-Gold.ensures)
+    subst (λ (any : AnyCircuit). WalksToPut (λ files. HashAny name any message task.proof.now task.session.now task.seed) 1 s s (Ok e)) (sym c.in-Gold.is) (refuses_counts name message task.proof.now task.session.now task.seed c.in-Gold.c s e other c.in_ok-unfit-in-Gold.ensures)
 
 pub returns-in_ok-unfit-in-Gf-clause-walks : goal.returns-in_ok-unfit-in-Gf-clause-walks
 returns-in_ok-unfit-in-Gf-clause-walks g c =
     let name = c.args.name.now in
     let message = c.args.message.now in
-    let job = c.args.job.now in
+    let task = c.args.task.now in
     let s = seen g.S.Shelf c.args.shelf.now in
     let e = c.in_ok-unfit-in-Gf.field-0 in
-    subst (λ (any : AnyCircuit). WalksToPut (λ files. HashAny name any message job.proof.now job.session.now job.seed) 1 s s (Ok e)) (sym c.in-Gf.is) (refuses_field name message job.proof.now job.session.now job.seed c.in-Gf.field-0 s e c.in_ok-unfit-in-Gf.ensures)
+    subst (λ (any : AnyCircuit). WalksToPut (λ files. HashAny name any message task.proof.now task.session.now task.seed) 1 s s (Ok e)) (sym c.in-Gf.is) (refuses_field name message task.proof.now task.session.now task.seed c.in-Gf.field-0 s e c.in_ok-unfit-in-Gf.ensures)

@@ -8,11 +8,11 @@ use Rattle.lzk_cmd_prove.proofs.hashing.prove_hash.Goals as goal
 
 pub returns-in_err-inputs-clause-walks : goal.returns-in_err-inputs-clause-walks
 returns-in_err-inputs-clause-walks g c =
-    let job = c.args.job.now in
-    no_memory (λ files. ProvesHash c.args.circuit.now c.args.message.now job.proof.now job.session.now job.seed) 1 (seen g.S.Shelf c.args.shelf.now) _ c.from_residual.ensures.1
+    let task = c.args.task.now in
+    no_memory (λ files. ProvesHash c.args.circuit.now c.args.message.now task.proof.now task.session.now task.seed) 1 (seen g.S.Shelf c.args.shelf.now) _ c.from_residual.ensures.1
 
 pub returns-clause-walks : goal.returns-clause-walks
 returns-clause-walks g c =
-    let job = c.args.job.now in
-    hash_proved c.args.circuit.now c.args.message.now job.proof.now job.session.now job.seed (option_copied job.digest) c.deref.result.now c.deref-2.result.now (seen g.S.Shelf c.args.shelf.now) (seen g.S.Shelf c.prove_inputs.new.shelf) c.prove_inputs.result
+    let task = c.args.task.now in
+    hash_proved c.args.circuit.now c.args.message.now task.proof.now task.session.now task.seed (option_copied task.digest) c.deref.result.now c.deref-2.result.now (seen g.S.Shelf c.args.shelf.now) (seen g.S.Shelf c.prove_inputs.new.shelf) c.prove_inputs.result
     c.requires.digest (c.deref.ensures.value ∙ c.in_ok-inputs.ensures.digest.words) (c.deref-2.ensures.value ∙ c.in_ok-inputs.ensures.exact) c.prove_inputs.ensures.walks
