@@ -1,8 +1,8 @@
 -- Layers that are made wire by wire: of copies, and over other numbers of the wires below.
-use Rattle.std.specs.Prelude.{◌≡◌, ℕ, ◌+◌, ◌-◌, ◌<◌, ◌≤◌, None, List, [], ◌∷◌, ◌++◌, length, take, drop}
+use Rattle.std.specs.Prelude.{◌≡◌, ◌≢◌, ℕ, ◌+◌, ◌-◌, ◌<◌, ◌≤◌, ◌==◌, ◌&&◌, ◌||◌, Bool, true, false, None, List, [], ◌∷◌, ◌++◌, length, map, take, drop}
 use Rattle.std.proofs.Common.{zero, suc, inl, inr, refl, sym, ap, ◌∙◌, arith, subst, get_or}
 use Rattle.std.proofs.lemmas.Bool.{cases_lt}
-use Rattle.std.proofs.lemmas.List.{take_more, length-take}
+use Rattle.std.proofs.lemmas.List.{drop_more, take_more, length-take}
 use Rattle.lzk_field.specs.Ring.{Ops, RingLaws}
 use Rattle.lzk_field.specs.Sums.{entry}
 use Rattle.lzk_field.proofs.RingBasics.{one_times}
@@ -11,10 +11,12 @@ use Rattle.lzk_circuit.specs.declared.layer.Layer.{Layer}
 use Rattle.lzk_circuit.specs.Valid.{AreTerms}
 use Rattle.lzk_circuit.specs.Wires.{coef, wire}
 use Rattle.lzk_reduce.specs.Renumbering.{at, of_wire, terms_before, AreOver, AreNumbersBelow, AreCopies}
-use Rattle.lzk_reduce.specs.Rows.{IsRow, row_value, term_value}
+use Rattle.lzk_reduce.specs.Rows.{IsRow, row_value, term_value, ordered, placed}
 use Rattle.lzk_reduce.proofs.RenumberLaws.{copied-value, wire-value}
 use Rattle.lzk_reduce.proofs.RowLaws.{value-append}
 use Rattle.lzk_reduce.proofs.WireLaws.{before-none}
+use Rattle.lzk_beside.specs.Asserts.{is_asserted, AreLone, HasLone}
+use Rattle.lzk_beside.proofs.RowLaws.{lone-append}
 
 -- ---- a row, term by term
 
@@ -51,6 +53,32 @@ module _ {A : Type 0} (o : Ops A) (r : RingLaws o) where
       ex ∙ ap (λ y. o.plus (o.times t.coef (o.times (entry o new y) (entry o new b))) value) ea
       ∙ ap (λ y. o.plus (o.times t.coef (o.times (entry o new (at numbers t.a)) (entry o new y))) value) eb
       ∙ row-more numbers old new ts i t value h over l is e
+
+module _ {A : Type 0} (o : Ops A) where
+  -- the row of one term, for a step of the loop
+  pub row-alone : (ts : List (Term A)) (numbers : List ℕ) (i : ℕ) (t u : Term A) (old new : List (Term A)) (a b : ℕ) → i < length ts → t ≡ get_or ts i t → ts ≡ u ∷ []
+      → a ≡ at numbers t.a → b ≡ at numbers t.b → old ≡ take i (ordered u.coef (at numbers u.a) (at numbers u.b) ∷ [])
+      → (old ≡ [] → t.coef ≢ o.zero → new ≡ ordered t.coef a b ∷ []) → u.coef ≢ o.zero → new ≡ take (i + 1) (ordered u.coef (at numbers u.a) (at numbers u.b) ∷ [])
+  row-alone ts numbers (suc i) t u old new a b l is e ea eb before adds nz = absurd (omega (arith, l, ap length e))
+  row-alone ts numbers zero t u old new a b l is e ea eb before adds nz =
+      let same : t ≡ u = is ∙ ap (λ us. get_or us 0 t) e in
+      adds before (λ z. nz (ap (λ (x : Term A). x.coef) (sym same) ∙ z))
+      ∙ ap (λ x. ordered t.coef x b ∷ []) ea ∙ ap (λ x. ordered t.coef (at numbers t.a) x ∷ []) eb
+      ∙ ap (λ (x : Term A). ordered x.coef (at numbers x.a) (at numbers x.b) ∷ []) same
+
+-- ---- marks, from the last term on
+
+module _ {A : Type 0} (number : A → ℕ) where
+  or-assoc : (a b c : Bool) → (a || (b || c)) ≡ ((a || b) || c)
+  or-assoc true b c = refl
+  or-assoc false b c = refl
+
+  pub next-asserted : (ts : List (Term A)) (i j : ℕ) (t : Term A) (g : ℕ) (old : Bool) → j + 1 ≡ i → j < length ts → t ≡ get_or ts j t
+      → (((number t.coef == 0) && (t.g == g)) || (is_asserted number (drop i ts) g || old)) ≡ (is_asserted number (drop j ts) g || old)
+  next-asserted ts i j t g old back l is =
+      or-assoc ((number t.coef == 0) && (t.g == g)) (is_asserted number (drop i ts) g) old
+      ∙ ap (λ k. (((number t.coef == 0) && (t.g == g)) || is_asserted number (drop k ts) g) || old) (sym back)
+      ∙ ap (λ us. is_asserted number us g || old) (sym (drop_more ts j t l ∙ ap (λ u. u ∷ drop (j + 1) ts) (sym is)))
 
 -- ---- copies
 
@@ -99,6 +127,8 @@ module _ {A : Type 0} (o : Ops A) where
     pub values : (old new : List A) → length old ≡ length numbers → AreNumbersBelow (length new) numbers → AreCopies o numbers old new → AreTerms o start (length new) None first
         → (i : ℕ) → i < g → wire o (coef o kept) new (start + i) ≡ wire o (coef o layer.terms) old i
     pub short : length kept ≤ length first + place
+    pub lone : (marks : ℕ → Bool) (width : ℕ) → AreNumbersBelow width numbers → AreTerms o start width None first → AreLone o marks None first
+        → ((i : ℕ) → i < layer.wires → marks (start + i) ≡ true → HasLone o layer.terms i) → AreLone o marks None kept
 
   pub adding-starts : (layer : Layer A) (numbers : List ℕ) (start : ℕ) (first : List (Term A)) → Adding layer numbers start first 0 0 first
   adding-starts layer numbers start first = record {
@@ -107,7 +137,18 @@ module _ {A : Type 0} (o : Ops A) where
     before = λ below i l. refl;
     values = λ old new l n h k i j. absurd (omega (arith, j));
     short = omega arith;
+    lone = λ marks width n h l each. l;
   }
+
+  -- the row of a wire with one term, whose coefficient is 1
+  abbrev pub lone-of : List (Term A) → List (Term A) → ℕ → Type 0
+  lone-of ts row g = HasLone o ts g → (u : Term A) × (row ≡ u ∷ []) × (u.coef ≡ o.one)
+
+  pub row-lone : o.one ≢ o.zero → (ts own row again : List (Term A)) (numbers : List ℕ) (g : ℕ) → own ≡ of_wire g ts → again ≡ row
+      → ((t : Term A) → own ≡ t ∷ [] → t.coef ≢ o.zero → row ≡ ordered t.coef (at numbers t.a) (at numbers t.b) ∷ [])
+      → lone-of ts again g
+  row-lone one ts own row again numbers g e same exact = λ (h : HasLone o ts g).
+      (ordered h.term.coef (at numbers h.term.a) (at numbers h.term.b), same ∙ exact h.term (e ∙ h.own) (λ z. one (sym h.coef ∙ z)), h.coef)
 
 module _ {A : Type 0} (o : Ops A) (r : RingLaws o) where
   pub adding-adds : (layer : Layer A) (numbers : List ℕ) (start : ℕ) (first : List (Term A)) (g place end : ℕ) (kept row more : List (Term A)) → g < layer.wires → AreTerms o layer.wires (length numbers) None layer.terms
@@ -119,8 +160,10 @@ module _ {A : Type 0} (o : Ops A) (r : RingLaws o) where
       → ((below : List A) (i : ℕ) → i < start + g → wire o (coef o more) below i ≡ wire o (coef o kept) below i)
       → ((below : List A) → AreTerms o (start + g) (length below) None kept → IsRow o (length below) row → wire o (coef o more) below (start + g) ≡ row_value o below row)
       → length more ≡ length kept + length row
+      → more ≡ kept ++ map (placed (start + g)) row
+      → lone-of o layer.terms row g
       → Adding o layer numbers start first g place kept → Adding o layer numbers start first (g + 1) end more
-  adding-adds layer numbers start first g place end kept row more l ts e is_row value short terms before added count m = record {
+  adding-adds layer numbers start first g place end kept row more l ts e is_row value short terms before added count exact lone m = record {
     place_is = e;
     terms = λ width n h. subst (λ k. AreTerms o k width None more) (omega arith) (terms width (m.terms width n h) (is_row width n));
     before = λ below i k. before below i (omega (arith, k)) ∙ m.before below i k;
@@ -132,4 +175,7 @@ module _ {A : Type 0} (o : Ops A) (r : RingLaws o) where
           (added new (m.terms (length new) n f) (is_row (length new) n) ∙ value old new h ∙ sym (wire-value o r layer.wires layer.terms old g l (subst (λ w. AreTerms o layer.wires w None layer.terms) (sym k) ts)))
     ];
     short = omega (arith, count, short, m.short);
+    lone = λ marks width n h f each.
+        subst (AreLone o marks None) (sym exact)
+        (lone-append o marks (start + g) width None kept row tt (m.terms width n h) (m.lone marks width n h f each) (λ y. lone (each g l y)));
   }

@@ -1,4 +1,6 @@
+pub mod AssertLaws
+pub mod CheckLaws
+pub mod JoinLaws
 pub mod LayerLaws
 pub mod LevelLaws
-pub mod JoinLaws
-pub mod CheckLaws
+pub mod RowLaws

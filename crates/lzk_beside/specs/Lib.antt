@@ -1,3 +1,4 @@
+pub mod Asserts
 pub mod Chosen
 pub mod Levels
 pub use Rattle.lzk_reduce.specs

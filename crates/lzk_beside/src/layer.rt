@@ -1,10 +1,11 @@
 //! Layers over other numbers of the wires below, and layers of copies.
 
-ghost use Rattle.std.specs.Prelude.{◌≡◌, ℕ, ◌+◌, ◌<◌, ◌≤◌, None, List, length, IfOk};
+ghost use Rattle.std.specs.Prelude.{◌≡◌, ℕ, ◌+◌, ◌<◌, ◌≤◌, Bool, true, None, List, length, IfOk};
 ghost use Rattle.lzk_circuit.specs.Valid.{AreTerms};
 ghost use Rattle.lzk_circuit.specs.Wires.{coef, wire};
 ghost use Rattle.lzk_field.specs.Sums.{entry};
 ghost use Rattle.lzk_reduce.specs.Renumbering.{AreNumbersBelow, AreCopies};
+ghost use Rattle.lzk_beside.specs.Asserts.{AreLone, HasLone};
 
 use crate::row::{end_of, set_row};
 use lzk_circuit::{Layer, Term, Terms};
@@ -51,6 +52,10 @@ pub fn add_layer<F: Field>(
         IfOk result (λ _. (g : ℕ) → g < layer.now.wires →
         wire F.ops (coef F.ops terms.new.items) new (start + g) ≡ wire F.ops (coef F.ops layer.now.terms) old g) }
     ensures short { IfOk result (λ _. length terms.new.items ≤ length terms.old.items + length layer.now.terms) }
+    ensures lone { (marks : ℕ → Bool) (width : ℕ) → AreNumbersBelow width numbers.now →
+        AreTerms F.ops start width None terms.old.items → AreLone F.ops marks None terms.old.items →
+        ((g : ℕ) → g < layer.now.wires → marks (start + g) ≡ true → HasLone F.ops layer.now.terms g) →
+        IfOk result (λ _. AreLone F.ops marks None terms.new.items) }
 {
     let own = layer.terms.as_slice();
     let mut row = Vec::new(alloc);

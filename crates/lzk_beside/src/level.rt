@@ -1,12 +1,16 @@
 //! The levels of two circuits side by side.
 
-ghost use Rattle.std.specs.Prelude.{◌≡◌, ℕ, ◌+◌, ◌<◌, ◌≤◌, ◌++◌, ◌∷◌, None, List, length, drop, IfOk};
-ghost use Rattle.lzk_circuit.specs.Valid.{AreTerms, input_width};
+ghost use Rattle.std.specs.Prelude.{◌≡◌, ℕ, ◌+◌, ◌<◌, ◌≤◌, ◌++◌, ◌||◌, ◌∷◌, ◌^◌, Bool, None, List, length, drop, IfOk};
+ghost use Rattle.lzk_circuit.specs.Checks.{asserted};
+ghost use Rattle.lzk_circuit.specs.Valid.{ArePlaced, AreTerms, MayEachStand, IsValid, input_width};
 ghost use Rattle.lzk_circuit.specs.Wires.{coef, wire, wires_of, layer_values};
 ghost use Rattle.lzk_field.specs.Sums.{entry};
-ghost use Rattle.lzk_beside.specs.Levels.{level_wires, level_terms};
+ghost use Rattle.lzk_beside.specs.Asserts.{AreLone, first_sum, first_asserted, first_asserts};
+ghost use Rattle.lzk_beside.specs.Levels.{level_wires, level_terms, AreJoinedValues};
+ghost use Rattle.lzk_reduce.specs.Marks.{is_marked};
 ghost use Rattle.lzk_reduce.specs.Renumbering.{at, AreNumbersBelow, AreCopies};
 
+use crate::asserts::{cleared, mark_asserted, unmarked, weighed};
 use crate::layer::{add_layer, copies};
 use lzk_circuit::{Circuit, Layer, Term, Terms};
 use lzk_field::Field;
@@ -35,8 +39,8 @@ pub fn input_numbers(alloc: Global, places: &[u32]) -> Result<Vec<u32>, AllocErr
     Ok(numbers)
 }
 
-// Appends the wires of a circuit's level `l` as those from `start` on, over the wires below with these numbers.
-// Gives how many there are.
+// Appends the wires of a circuit's level `l` as those from `start` on, over the wires below with these numbers. Where a
+// wire is asserted, its term has the coefficient 1. Gives how many wires there are.
 fn add_level<F: Field>(
     alloc: Global,
     terms: &mut Vec<Term<F>>,
@@ -45,7 +49,6 @@ fn add_level<F: Field>(
     l: u32,
     numbers: &[u32],
 ) -> Result<u32, AllocError>
-    requires version { circuit.now.version ≡ 1 }
     requires few { start ≤ 131072 }
     requires numbers { length numbers.now ≡ level_wires circuit.now (l + 1) }
     ensures count { IfOk result (λ count. count ≡ level_wires circuit.now l) }
@@ -61,18 +64,67 @@ fn add_level<F: Field>(
         AreCopies F.ops numbers.now (wires_of F.ops (drop (l + 1) circuit.now.layers) inputs) new →
         AreTerms F.ops start (length new) None terms.old.items →
         IfOk result (λ count. (g : ℕ) → g < count → wire F.ops (coef F.ops terms.new.items) new (start + g) ≡
-        entry F.ops (wires_of F.ops (drop l circuit.now.layers) inputs) g) }
+        first_sum F.ops (drop l circuit.now.layers) inputs g) }
     ensures short { IfOk result (λ _. length terms.new.items ≤ length terms.old.items + level_terms circuit.now l) }
+    ensures lone { (marks : ℕ → Bool) (width : ℕ) → AreNumbersBelow width numbers.now →
+        AreTerms F.ops start width None terms.old.items → AreLone F.ops marks None terms.old.items →
+        ((g : ℕ) → g < level_wires circuit.now l → marks (start + g) ≡
+        first_asserted F.coding.number (drop l circuit.now.layers) g) →
+        IfOk result (λ _. AreLone F.ops marks None terms.new.items) }
+    ensures valid { IfOk result (λ _. IsValid F.ops circuit.now) }
 {
     if l < circuit.depth() {
-        let layer = circuit.layer(l);
-        add_layer(alloc, terms, start, layer, numbers)?;
-        return Ok(layer.wires);
+        let own = circuit.layer(l);
+        let whole = weighed(alloc, own)?;
+        add_layer(alloc, terms, start, &whole, numbers)?;
+        return Ok(whole.wires);
     }
     let count = 1 + circuit.publics() + circuit.privates();
     let layer = copies(alloc, count)?;
     add_layer(alloc, terms, start, &layer, numbers)?;
     Ok(count)
+}
+
+// Marks the assertion wires of a circuit's level `l`, as those from `start` on.
+fn mark_level<F: Field>(circuit: &Circuit<F>, l: u32, start: u32, marks: &mut Vec<bool>)
+    requires few { length marks.old.items < 2 ^ 32 }
+    requires room { start + level_wires circuit.now l ≤ length marks.old.items }
+    ensures count { length marks.new.items ≡ length marks.old.items }
+    ensures before { (k : ℕ) → k < start → is_marked marks.new.items k ≡ is_marked marks.old.items k }
+    ensures own { (g : ℕ) → is_marked marks.new.items (start + g) ≡
+        (first_asserted F.coding.number (drop l circuit.now.layers) g || is_marked marks.old.items (start + g)) }
+    ensures valid { IsValid F.ops circuit.now }
+{
+    if l >= circuit.depth() {
+        return;
+    }
+    let own = circuit.layer(l);
+    mark_asserted(own.terms.as_slice(), start, marks);
+}
+
+// The marks of the assertion wires of two circuits' level `l`, of which the first has `split` wires and the second
+// `more`.
+fn joined_marks<F: Field>(
+    alloc: Global,
+    first: &Circuit<F>,
+    second: &Circuit<F>,
+    l: u32,
+    split: u32,
+    more: u32,
+) -> Result<Vec<bool>, AllocError>
+    requires split { split ≡ level_wires first.now l }
+    requires more { more ≡ level_wires second.now l }
+    requires few { split + more ≤ 262144 }
+    ensures count { IfOk result (λ marks. length marks.items ≡ split + more) }
+    ensures left { (g : ℕ) → g < split → IfOk result (λ marks. is_marked marks.items g ≡
+        first_asserted F.coding.number (drop l first.now.layers) g) }
+    ensures right { (g : ℕ) → g < more → IfOk result (λ marks. is_marked marks.items (split + g) ≡
+        first_asserted F.coding.number (drop l second.now.layers) g) }
+{
+    let mut marks = unmarked(alloc, split + more)?;
+    mark_level(first, l, 0, &mut marks);
+    mark_level(second, l, split, &mut marks);
+    Ok(marks)
 }
 
 /// Level `l` of two circuits side by side, over the wires below with these numbers. Gives the layer, and how many of
@@ -85,30 +137,36 @@ pub fn joined_layer<F: Field>(
     left: &[u32],
     right: &[u32],
 ) -> Result<(Layer<F>, u32), AllocError>
-    requires one { first.now.version ≡ 1 }
-    requires other { second.now.version ≡ 1 }
     requires left { length left.now ≡ level_wires first.now (l + 1) }
     requires right { length right.now ≡ level_wires second.now (l + 1) }
     ensures wires { IfOk result (λ level. level.0.wires ≡ level_wires first.now l + level_wires second.now l) }
     ensures split { IfOk result (λ level. level.1 ≡ level_wires first.now l) }
     ensures most { IfOk result (λ level. level.0.wires ≤ 262144) }
     ensures terms { (width : ℕ) → AreNumbersBelow width left.now → AreNumbersBelow width right.now →
-        IfOk result (λ level. AreTerms F.ops level.0.wires width None level.0.terms) }
+        IfOk result (λ level. ArePlaced level.0.wires width None level.0.terms) }
+    ensures coefs { (version width : ℕ) → AreNumbersBelow width left.now → AreNumbersBelow width right.now →
+        (version ≡ 1 → (first.now.version ≡ 1) × (second.now.version ≡ 1)) →
+        IfOk result (λ level. MayEachStand F.ops version None level.0.terms) }
     ensures short { IfOk result (λ level. length level.0.terms ≤ level_terms first.now l + level_terms second.now l) }
-    ensures values { (x y below : List F) → length x ≡ input_width first.now → entry F.ops x 0 ≡ F.ops.one →
-        length y ≡ input_width second.now → entry F.ops y 0 ≡ F.ops.one →
-        AreNumbersBelow (length below) left.now → AreNumbersBelow (length below) right.now →
-        AreCopies F.ops left.now (wires_of F.ops (drop (l + 1) first.now.layers) x) below →
-        AreCopies F.ops right.now (wires_of F.ops (drop (l + 1) second.now.layers) y) below →
+    ensures values { (x y below : List F) → AreJoinedValues F.ops first.now second.now l left.now right.now x y below →
         IfOk result (λ level. layer_values F.ops level.0 below ≡
         wires_of F.ops (drop l first.now.layers) x ++ wires_of F.ops (drop l second.now.layers) y) }
+    ensures first { (x y below : List F) → AreJoinedValues F.ops first.now second.now l left.now right.now x y below →
+        IfOk result (λ level. (g : ℕ) → g < level_wires first.now l → asserted F.ops level.0.terms below g ≡
+        first_asserts F.ops (drop l first.now.layers) x g) }
+    ensures second { (x y below : List F) → AreJoinedValues F.ops first.now second.now l left.now right.now x y below →
+        IfOk result (λ level. (g : ℕ) → g < level_wires second.now l →
+        asserted F.ops level.0.terms below (level.1 + g) ≡
+        first_asserts F.ops (drop l second.now.layers) y g) }
 {
     let mut terms = Vec::new(alloc);
     let split = add_level(alloc, &mut terms, 0, first, l, left)?;
     let more = add_level(alloc, &mut terms, split, second, l, right)?;
+    let marks = joined_marks(alloc, first, second, l, split, more)?;
+    let all = cleared(alloc, &terms, &marks)?;
     let layer = Layer {
         wires: split + more,
-        terms: Terms::new(terms),
+        terms: Terms::new(all),
     };
     Ok((layer, split))
 }

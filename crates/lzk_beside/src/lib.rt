@@ -2,7 +2,8 @@
 //!
 //! A statement is often made of parts that share inputs: a hash of a message beside claims about the
 //! message's bits. [`beside`] lays two circuits of version 1 side by side. The outputs of the whole are those of
-//! the first part and then those of the second, each over the inputs that it chose. A caller writes
+//! the first part and then those of the second, each over the inputs that it chose. [`beside_any`] does so with
+//! circuits of either version, which may assert within their layers. A caller writes
 //!
 //! ```text
 //! let first = Part { circuit: &statement, places: &[1, 2, 3] };
@@ -11,6 +12,7 @@
 //! ```
 #![tactic(auto)]
 
+mod asserts;
 mod error;
 mod joining;
 mod layer;
@@ -19,5 +21,5 @@ mod part;
 mod row;
 
 pub use error::BesideError;
-pub use joining::beside;
-pub use part::Part;
+pub use joining::{beside, beside_any};
+pub use part::{AnyPart, Part};

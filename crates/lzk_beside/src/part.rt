@@ -16,3 +16,13 @@ pub struct Part<'a, F: Field> {
     ghost version: { circuit.now.version ≡ 1 },
     ghost count: { length places.now ≡ circuit.now.publics + circuit.now.privates },
 }
+
+/// A circuit of version 1 or 2 that is to stand beside another.
+#[derive(Drop)]
+pub struct AnyPart<'a, F: Field> {
+    /// The circuit.
+    pub circuit: &'a Circuit<F>,
+    /// For each input, the public ones first, a wire of the whole's input layer, as in [`Part`].
+    pub places: &'a [u32],
+    ghost count: { length places.now ≡ circuit.now.publics + circuit.now.privates },
+}

@@ -1,9 +1,9 @@
 //! The terms of one wire over other numbers of the wires below.
 
-ghost use Rattle.std.specs.Prelude.{◌≡◌, ℕ, ◌+◌, ◌<◌, ◌≤◌, None, List, length, IfOk};
+ghost use Rattle.std.specs.Prelude.{◌≡◌, ◌≢◌, ℕ, ◌+◌, ◌<◌, ◌≤◌, None, List, [], ◌∷◌, length, IfOk};
 ghost use Rattle.lzk_circuit.specs.Valid.{AreTerms};
 ghost use Rattle.lzk_reduce.specs.Renumbering.{at, AreOver, AreNumbersBelow, AreCopies, terms_before};
-ghost use Rattle.lzk_reduce.specs.Rows.{IsRow, row_value};
+ghost use Rattle.lzk_reduce.specs.Rows.{IsRow, row_value, ordered};
 
 use lzk_circuit::Term;
 use lzk_field::Field;
@@ -46,6 +46,8 @@ pub fn set_row<F: Field>(
     ensures value { (old new : List F) → AreCopies F.ops numbers.now old new →
         IfOk result (λ _. row_value F.ops new row.new.items ≡ row_value F.ops old terms.now) }
     ensures short { IfOk result (λ _. length row.new.items ≤ length terms.now) }
+    ensures alone { (t : Term F) → terms.now ≡ t ∷ [] → t.coef ≢ F.ops.zero →
+        IfOk result (λ _. row.new.items ≡ ordered t.coef (at numbers.now t.a) (at numbers.now t.b) ∷ []) }
 {
     row.clear();
     for i in 0..terms.len() {

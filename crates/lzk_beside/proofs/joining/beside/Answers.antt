@@ -1,9 +1,10 @@
-use Rattle.std.proofs.Common.{◌≡◌, ◌∙◌, ap, refl, sym, subst, arith, length, ◌+◌}
-use Rattle.lzk_circuit.specs.Valid.{Wiring, input_width, IsValid}
+use Rattle.std.proofs.Common.{◌≡◌, ◌∙◌, inl, ap, refl, sym, subst, arith, length, ◌+◌}
+use Rattle.lzk_circuit.specs.Valid.{Wiring, wiring, input_width, IsValid}
 use Rattle.lzk_circuit.specs.Wires.{inputs_of, wires_of}
 use Rattle.lzk_reduce.specs.Renumbering.{AreNumbersBelow}
+use Rattle.lzk_beside.specs.Levels.{IsSizedBeside}
 use Rattle.lzk_beside.proofs.CheckLaws.{input-length, checks-joined, satisfied-joined}
-use Rattle.lzk_beside.proofs.JoinLaws.{fit-valid}
+use Rattle.lzk_beside.proofs.JoinLaws.{fit-valid, sized-beside}
 use Rattle.lzk_beside.proofs.joining.beside.Goals as goal
 
 pub returns-in-Ok-clause-checks : goal.returns-in-Ok-clause-checks
@@ -28,8 +29,20 @@ returns-in-Ok-clause-satisfied g c public private np nq =
     satisfied-joined g.F.Field.ops g.F.Field.coding.size g.F.Field.coding.number g.F.Field.coding.element g.F.Field.coding.bytes g.F.Field.laws
     first.circuit.now second.circuit.now c.in-Ok.circuit first.places.now second.places.now (inputs_of g.F.Field.ops public private) (returns-in-Ok-clause-checks g c public private np nq)
 
+pub returns-in-Ok-clause-sizes : goal.returns-in-Ok-clause-sizes
+returns-in-Ok-clause-sizes g c =
+    let first = c.args.first.now in
+    let second = c.args.second.now in
+    let n = 1 + c.args.publics + c.args.privates in
+    subst (IsSizedBeside first.circuit.now second.circuit.now) (sym c.in-Ok.ensures.circuit)
+    (sized-beside g.F.Field.ops 1 n first.circuit.now second.circuit.now (wiring c.args.publics c.args.privates c.in_ok-layers.layers.items)
+    (c.in_ok-layers.ensures.levels 1 n (λ v. (first.version, second.version)) (omega arith) c.requires.first c.requires.second))
+
 pub returns-in-Err-clause-cause : goal.returns-in-Err-clause-cause
 returns-in-Err-clause-cause g c = λ fit.
+    let first = c.args.first.now in
+    let second = c.args.second.now in
+    let n = 1 + c.args.publics + c.args.privates in
     c.in-Err.ensures.valid
-    (fit-valid g.F.Field.ops c.args.publics c.args.privates c.args.first.now.circuit.now c.args.second.now.circuit.now c.in_ok-layers.layers.items c.requires.publics c.requires.privates c.depth.ensures.valid c.depth-2.ensures.valid
-    (c.in_ok-layers.ensures.levels (1 + c.args.publics + c.args.privates) (omega arith) c.requires.first c.requires.second) fit)
+    (fit-valid g.F.Field.ops 1 c.args.publics c.args.privates first.circuit.now second.circuit.now c.in_ok-layers.layers.items (inl refl) c.requires.publics c.requires.privates c.depth.ensures.valid c.depth-2.ensures.valid
+    (c.in_ok-layers.ensures.levels 1 n (λ v. (first.version, second.version)) (omega arith) c.requires.first c.requires.second) fit)

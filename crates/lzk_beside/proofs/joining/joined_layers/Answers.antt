@@ -1,7 +1,10 @@
-use Rattle.std.proofs.Common.{◌∙◌, ap, sym, subst, arith, length, [], ◌∷◌, ◌+◌, ◌-◌, drop, reverse}
+use Rattle.std.proofs.Common.{◌≡◌, ◌∙◌, ap, sym, subst, arith, [], ◌∷◌, ◌-◌, drop, reverse}
 use Rattle.std.proofs.lemmas.List.{drop_all, reverse-append}
-use Rattle.lzk_circuit.specs.Wires.{wires_of}
-use Rattle.lzk_reduce.specs.Renumbering.{AreNumbersBelow, AreCopies}
+use Rattle.std.specs.Prelude.{◌↔◌}
+use Rattle.lzk_reduce.specs.Renumbering.{AreNumbersBelow}
+use Rattle.lzk_beside.specs.Asserts.{AreAssertsZero}
+use Rattle.lzk_beside.specs.Chosen.{chosen}
+use Rattle.lzk_beside.specs.Levels.{AreJoinedValues}
 use Rattle.lzk_beside.proofs.JoinLaws.{Standing, standing-starts, standing-adds, standing-ends}
 use Rattle.lzk_beside.proofs.joining.joined_layers.Goals as goal
 
@@ -41,15 +44,28 @@ loop-l-preserved g c =
     (standing-adds o one other first.places.now second.places.now c.args.depth l m (reverse c.loop-l.layers.items) c.loop-l.left.items c.loop-l.right.items next_left next_right layer split (layer.wires - split)
     (omega (arith, c.loop-l-test.true)) first.count second.count found.wires found.split (omega (arith, found.wires, found.split))
     (λ width hl hr. found.terms width (subst (AreNumbersBelow width) (sym dl) hl) (subst (AreNumbersBelow width) (sym dr) hr))
+    (λ version width hl hr may. found.coefs version width (subst (AreNumbersBelow width) (sym dl) hl) (subst (AreNumbersBelow width) (sym dr) hr) may)
     found.short
-    (λ x y below nx ex ny ey bl br cl cr. found.values x y below nx ex ny ey (subst (AreNumbersBelow (length below)) (sym dl) bl) (subst (AreNumbersBelow (length below)) (sym dr) br)
-    (subst (λ ns. AreCopies o ns (wires_of o (drop (m + 1) one.layers) x) below) (sym dl) cl)
-    (subst (λ ns. AreCopies o ns (wires_of o (drop (m + 1) other.layers) y) below) (sym dr) cr))
+    (λ x y below j. found.values x y below (subst (λ ns. AreJoinedValues o one other m ns c.deref-in-loop-l.result.now x y below) (sym dl) (subst (λ ns. AreJoinedValues o one other m c.loop-l.left.items ns x y below) (sym dr) j)))
+    (λ x y below j. found.first x y below (subst (λ ns. AreJoinedValues o one other m ns c.deref-in-loop-l.result.now x y below) (sym dl) (subst (λ ns. AreJoinedValues o one other m c.loop-l.left.items ns x y below) (sym dr) j)))
+    (λ x y below j. found.second x y below (subst (λ ns. AreJoinedValues o one other m ns c.deref-in-loop-l.result.now x y below) (sym dl) (subst (λ ns. AreJoinedValues o one other m c.loop-l.left.items ns x y below) (sym dr) j)))
     c.in_ok-left-2.ensures.count c.in_ok-left-2.ensures.each c.in_ok-right-2.ensures.count c.in_ok-right-2.ensures.each c.loop-l.invariant)
 
 pub returns-clause-levels : goal.returns-clause-levels
-returns-clause-levels g c inputs some hp hq =
+returns-clause-levels g c version inputs may some hp hq =
     let first = c.args.first.now in
     let second = c.args.second.now in
     standing-ends g.F.Field.ops first.circuit.now second.circuit.now first.places.now second.places.now c.args.depth c.loop-l.l (reverse c.loop-l.layers.items) c.reverse.new.self.items c.loop-l.left.items c.loop-l.right.items
-    (omega (arith, c.loop-l-test.false)) c.requires.depth c.reverse.ensures.items c.loop-l.invariant inputs some hp hq
+    (omega (arith, c.loop-l-test.false)) c.requires.depth c.reverse.ensures.items c.loop-l.invariant version inputs may some hp hq
+
+pub returns-clause-asserts : goal.returns-clause-asserts
+returns-clause-asserts g c values some e hp hq =
+    let o = g.F.Field.ops in
+    let first = c.args.first.now in
+    let second = c.args.second.now in
+    let x = chosen o first.places.now values in
+    let y = chosen o second.places.now values in
+    let v = c.loop-l.invariant.valued values some e hp hq in
+    let bottom : c.loop-l.l ≡ 0 = omega (arith, c.loop-l-test.false) in
+    subst (λ ls. AreAssertsZero o ls values ↔ (AreAssertsZero o first.circuit.now.layers x × AreAssertsZero o second.circuit.now.layers y)) (sym c.reverse.ensures.items)
+    (subst (λ k. AreAssertsZero o (reverse c.loop-l.layers.items) values ↔ (AreAssertsZero o (drop k first.circuit.now.layers) x × AreAssertsZero o (drop k second.circuit.now.layers) y)) bottom v.asserts)

@@ -1,10 +1,10 @@
-use Rattle.std.proofs.Common.{◌≡◌, ◌∙◌, ap, sym, subst, arith, length, None, ◌+◌}
+use Rattle.std.proofs.Common.{◌≡◌, ◌∙◌, refl, ap, sym, subst, arith, length, take, drop, map, None, ◌+◌, ◌-◌, ◌++◌}
 use Rattle.lzk_circuit.specs.Valid.{AreTerms}
 use Rattle.lzk_reduce.specs.Renumbering.{AreOver, terms_before}
-use Rattle.lzk_reduce.specs.Rows.{IsRow, row_value}
+use Rattle.lzk_reduce.specs.Rows.{IsRow, row_value, placed}
 use Rattle.lzk_reduce.proofs.RenumberLaws.{over-own, terms-over}
 use Rattle.lzk_reduce.proofs.WireLaws.{own-slice, before-most}
-use Rattle.lzk_beside.proofs.LayerLaws.{adding-starts, adding-adds, part-length}
+use Rattle.lzk_beside.proofs.LayerLaws.{adding-starts, adding-adds, part-length, row-lone}
 use Rattle.lzk_beside.proofs.layer.add_layer.Goals as goal
 
 pub loop-g-init : goal.loop-g-init
@@ -42,7 +42,8 @@ loop-g-preserved g c =
     (λ width n. subst (IsRow o width) (sym is) (found.row width n))
     (λ old new copies. ap (row_value o new) is ∙ found.value old new copies ∙ ap (row_value o old) own)
     (part-length us c.loop-g.at c.end_of-end.result row (ap length is) found.short c.end_of-end.ensures.after)
-    e.terms e.before e.added e.count c.loop-g.invariant
+    e.terms e.before e.added e.count (e.exact ∙ ap (λ us. c.loop-g.terms.items ++ map (placed (c.args.start + k)) us) refl)
+    (row-lone o g.F.Field.laws.field.one_not_zero ts (take (c.end_of-end.result - c.loop-g.at) (drop c.loop-g.at us)) c.set_row.new.row.items row numbers k own is found.alone) c.loop-g.invariant
 
 pub returns-clause-terms : goal.returns-clause-terms
 returns-clause-terms g c width n h =
@@ -56,3 +57,6 @@ returns-clause-values g c old new l n h f i j = c.loop-g.invariant.values old ne
 pub returns-clause-short : goal.returns-clause-short
 returns-clause-short g c =
     omega (arith, c.loop-g.invariant.short, c.loop-g.invariant.place_is, before-most c.loop-g.g c.args.layer.now.terms)
+
+pub returns-clause-lone : goal.returns-clause-lone
+returns-clause-lone g c marks width n h l each = c.loop-g.invariant.lone marks width n h l each

@@ -1,7 +1,8 @@
-use Rattle.std.proofs.Common.{◌∙◌, ap, sym, subst, arith, length, ◌<◌}
+use Rattle.std.proofs.Common.{◌∙◌, ap, sym, subst, arith, length, [], ◌∷◌, ◌<◌}
 use Rattle.std.proofs.lemmas.List.{take_all}
-use Rattle.lzk_reduce.specs.Rows.{row_value}
-use Rattle.lzk_beside.proofs.LayerLaws.{over-at, row-next}
+use Rattle.lzk_reduce.specs.Renumbering.{at}
+use Rattle.lzk_reduce.specs.Rows.{row_value, ordered}
+use Rattle.lzk_beside.proofs.LayerLaws.{over-at, row-next, row-alone}
 use Rattle.lzk_beside.proofs.row.set_row.Goals as goal
 
 pub numbers_of-a-requires-clause-a : goal.numbers_of-a-requires-clause-a
@@ -28,8 +29,16 @@ loop-i-preserved g c =
           row-next o g.F.Field.laws.ring numbers old new terms i t (row_value o new c.loop-i.row.items) (row_value o new c.add_term.new.row.items) c.numbers_of-a.result.0 c.numbers_of-a.result.1
           h c.requires.terms c.loop-i-test.true c.index-terms-i.is (c.loop-i.invariant.value old new h) c.numbers_of-a.ensures.a c.numbers_of-a.ensures.b (c.in_ok-add_term.ensures.value new);
       short = omega (arith, c.in_ok-add_term.ensures.short, c.loop-i.invariant.short);
+      alone = λ u is nz.
+          row-alone o terms numbers i t u c.loop-i.row.items c.add_term.new.row.items c.numbers_of-a.result.0 c.numbers_of-a.result.1 c.loop-i-test.true c.index-terms-i.is is
+          c.numbers_of-a.ensures.a c.numbers_of-a.ensures.b (c.loop-i.invariant.alone u is nz) (λ none n. c.in_ok-add_term.ensures.alone none n) nz;
     }
 
 pub returns-clause-value : goal.returns-clause-value
 returns-clause-value g c old new h =
     c.loop-i.invariant.value old new h ∙ ap (row_value g.F.Field.ops old) (take_all c.loop-i.i c.args.terms.now (omega (arith, c.loop-i-test.false)))
+
+pub returns-clause-alone : goal.returns-clause-alone
+returns-clause-alone g c t is nz =
+    c.loop-i.invariant.alone t is nz
+    ∙ take_all c.loop-i.i (ordered t.coef (at c.args.numbers.now t.a) (at c.args.numbers.now t.b) ∷ []) (omega (arith, c.loop-i-test.false, ap length is))
