@@ -9,7 +9,7 @@ use Rattle.lzk_field.specs.Ring.{Ops}
 use Rattle.lzk_circuit.specs.Valid.{Wiring}
 use Rattle.lzk_layout.specs.declared.params.Params.{Params}
 use Rattle.lzk_layout.specs.Parts.{before_opened, before_count}
-use Rattle.lzk_layout.specs.Sizes.{AreParams, AreBounded, params_of}
+use Rattle.lzk_layout.specs.Sizes.{AreParams}
 use Rattle.lzk_layout.specs.Cursors.{CursorPlace, faulty, reading, CursorState}
 use Rattle.lzk_sumcheck.specs.Script.{HasShape}
 use Rattle.lzk_accept.specs.Factored.{HasRoomFor}
@@ -62,12 +62,10 @@ module _ {A : Type 0} (o : Ops A) (e : Coding A) (c : Wiring A) (p : Params) (se
       }
 
 -- the parts of a new desk hang together
-pub new_parts : {A : Type 0} (o : Ops A) (e : Coding A) (c : Wiring A) (p : Params) (id : List ℕ) (cursor : CursorState) (k : Intake A) (r : Rooms A) → p ≡ params_of c → AreParams o p → AreBounded p → id ≡ id_of e c → cursor.params ≡ p
+pub new_parts : {A : Type 0} (o : Ops A) (e : Coding A) (c : Wiring A) (p : Params) (id : List ℕ) (cursor : CursorState) (k : Intake A) (r : Rooms A) → AreParams o p → id ≡ id_of e c → cursor.params ≡ p
     → length k.public.items ≡ c.publics → HasShape c k.drawn.script → AreLists p k → k.is_drawn ≡ false → AreFormsOf o c r.forms → HasRoomFor c r.combined → AreRooms p r → AreParts o e c p id cursor k r
-new_parts o e c p id cursor k r are valid bounded own lengths publics script lists not forms factors rooms = record {
-  are = are;
+new_parts o e c p id cursor k r valid own lengths publics script lists not forms factors rooms = record {
   valid = valid;
-  bounded = bounded;
   id_is = own;
   cursor_is = lengths;
   sound = record { public = publics; script = script; lists = lists; forms = forms; factors = factors; rooms = rooms; ready = λ h. absurd (let t : true ≡ false = sym h ∙ not in cc) };

@@ -1,7 +1,7 @@
 -- What a desk stands behind that begins, and that is pushed one byte more.
-use Rattle.std.specs.Prelude.{◌≡◌, ◌≢◌, ◌↔◌, refl, ℕ, ◌+◌, ◌-◌, ◌≤◌, Bool, true, None, List, [], ◌∷◌, ◌++◌, length, take, replicate}
+use Rattle.std.specs.Prelude.{◌≡◌, ◌≢◌, ◌↔◌, refl, ℕ, ◌-◌, Bool, true, None, List, [], ◌∷◌, ◌++◌, length, take, replicate}
 use Rattle.std.proofs.Common.{sym, ap, subst, ◌∙◌, arith}
-use Rattle.std.proofs.lemmas.List.{length-append, length-replicate, length_push, take_at}
+use Rattle.std.proofs.lemmas.List.{length-append, length_push, take_at}
 use Rattle.lzk_field.specs.Coding.{Coding}
 use Rattle.lzk_field.specs.Ring.{Ops}
 use Rattle.lzk_circuit.specs.Valid.{Wiring}
@@ -12,22 +12,15 @@ use Rattle.lzk_layout.specs.declared.params.Params.{Params}
 use Rattle.lzk_layout.specs.declared.part.ProofPart.{ProofPart}
 use Rattle.lzk_layout.specs.Sizes.{params_of}
 use Rattle.lzk_layout.specs.Proofs.{flat}
-use Rattle.lzk_layout.specs.Fields.{Sort, magic, plain, element, count, shape, width, IsField}
-use Rattle.lzk_layout.specs.Parts.{sort_of, part_width, parts, number_of}
-use Rattle.lzk_layout.specs.Fronts.{IsFront, EndsField, EndsNone, IsFaulty, OneFront, FrontIsSound, PartsStand, IsWholeField, digests_in}
+use Rattle.lzk_layout.specs.Fields.{shape}
+use Rattle.lzk_layout.specs.Parts.{parts, number_of}
+use Rattle.lzk_layout.specs.Fronts.{IsFront, EndsField, EndsNone, IsFaulty, OneFront, FrontIsSound, PartsStand}
 use Rattle.lzk_layout.specs.Cursors.{CursorState, Pushed}
 use Rattle.lzk_verify.specs.declared.intake.Intake.{Intake}
-use Rattle.lzk_verify.specs.Desk.{kept_of, held_of, IsBlockOf}
+use Rattle.lzk_verify.specs.Desk.{kept_of, held_of, IsKeptOf}
 use Rattle.lzk_verify.specs.Kept.{IsKept, IsHeldOf, DeskState, Stands}
 use Rattle.lzk_verify.proofs.Pushing.{KeepsFields, begun_keeps, takes_keeps, keeps_kept, field_keeps, more_keeps, fault_keeps}
 use Rattle.lzk_verify.proofs.Standing.{held_pushed, pushed_held}
-
--- a field fits into a block
-pub fits_block : (bytes size : ℕ) → bytes ≤ 32 → (x : Sort) → width (shape bytes size) x ≤ 32
-fits_block bytes size h magic = omega arith
-fits_block bytes size h plain = omega arith
-fits_block bytes size h element = h
-fits_block bytes size h count = omega arith
 
 module _ {A : Type 0} (o : Ops A) (e : Coding A) (c : Wiring A) (p : Params) (are : p ≡ params_of c) where
   -- a desk with these parts
@@ -78,27 +71,20 @@ module _ {A : Type 0} (o : Ops A) (e : Coding A) (c : Wiring A) (p : Params) (ar
 
     -- The byte ends a field, which is taken.
     pub field_stands : (l : Intake A) (part : ProofPart) (block : List ℕ) (n : ℕ) → ((x : Params) (b : List ℕ) → Pushed (shape e.bytes e.size) cursor x b → EndsField (shape e.bytes e.size) x b byte part block n)
-        → IsWholeField (shape e.bytes e.size) cursor.params part block n → part_width (shape e.bytes e.size) part ≤ 32 → PartsStand (params_of c)
-        → ((fields : List (List ℕ)) (field : List ℕ) → length fields ≡ number_of p part → IsBlockOf (shape e.bytes e.size) part block field
-        → IsKept o e c p session public fields (kept_of o e c p (length fields) (digests_in p fields) [] k)
-        → IsKept o e c p session public (fields ++ field ∷ []) (kept_of o e c p (length fields + 1) (digests_in p (fields ++ field ∷ [])) [] l))
+        → PartsStand (params_of c)
+        → ((fields : List (List ℕ)) → length fields ≡ number_of p part → IsKeptOf o e c p session public fields k
+        → IsKeptOf o e c p session public (fields ++ take n block ∷ []) l)
         → Stands o e session public (bytes ++ byte ∷ []) (desk_of fed next l)
-    field_stands l part block n ends_field whole few stand takes =
+    field_stands l part block n ends_field stand takes =
         let ends = ends_field (params_of c) bytes was_pushed in
         let field : List ℕ = ends.rest ++ byte ∷ [] in
         let long : length field ≡ n = length_push ends.rest byte ∙ sym ends.number in
         let front : take n block ≡ field = ap (take n) ends.is ∙ take_at field (replicate (32 - n) 0) n long in
-        let width : n ≡ part_width (shape e.bytes e.size) part = sym (ap length front ∙ long) ∙ whole.passes.long in
-        let all : length block ≡ 32 = ap length ends.is ∙ length-append field (replicate (32 - n) 0) ∙ (let zeros : List ℕ = replicate (32 - n) 0 in let z : length zeros ≡ 32 - n = length-replicate (32 - n) 0 in omega (arith, z, long, width, few)) in
-        let is_block : IsBlockOf (shape e.bytes e.size) part block field = record {
-          long = all;
-          is = sym front ∙ ap (λ m. take m block) width;
-          passes = subst (λ xs. IsField (shape e.bytes e.size) (sort_of part) xs) front whole.passes;
-        } in
         let number : length ends.fields ≡ number_of p part = (stand _ (length ends.fields) part ends.next).0 ∙ ap (λ x. number_of x part) (sym are) in
         stands_next l
         (field_keeps o e c p are session public one sound bytes byte cursor.place k was_held l part block n ends
-        (takes_keeps o e c p are session public ends.fields field k l (takes ends.fields field number is_block)))
+        (takes_keeps o e c p are session public ends.fields field k l
+        (subst (λ (f : List ℕ). IsKeptOf o e c p session public ends.fields k → IsKeptOf o e c p session public (ends.fields ++ f ∷ []) l) front (takes ends.fields number))))
 
     -- The byte ends none, or the bytes have a fault.
     pub none_stands : (step : CursorStep) → ((part : ProofPart) (block : List ℕ) (n : ℕ) → step ≢ Field part block n)

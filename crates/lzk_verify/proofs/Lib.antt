@@ -11,6 +11,7 @@ pub mod ColumnLaws
 pub mod CombinedRows
 pub mod OneVerdict
 pub mod Pushing
+pub mod SentPlaces
 pub mod SomeVerdict
 pub mod Standing
 pub mod Stored

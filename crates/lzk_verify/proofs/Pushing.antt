@@ -1,7 +1,6 @@
 -- A desk that is pushed one byte more.
-use Rattle.std.specs.Prelude.{◌≡◌, refl, ℕ, ◌+◌, true, Option, None, List, [], ◌∷◌, ◌++◌, length}
+use Rattle.std.specs.Prelude.{◌≡◌, refl, ℕ, true, Option, None, List, [], ◌∷◌, ◌++◌, length}
 use Rattle.std.proofs.Common.{sym, subst, arith}
-use Rattle.std.proofs.lemmas.List.{length_push}
 use Rattle.lzk_field.specs.Coding.{Coding}
 use Rattle.lzk_field.specs.Ring.{Ops}
 use Rattle.lzk_circuit.specs.Valid.{Wiring}
@@ -15,7 +14,7 @@ use Rattle.lzk_layout.specs.declared.fault.ProofFault.{ProofFault}
 use Rattle.lzk_layout.specs.Cursors.{CursorPlace, faulty, reading}
 use Rattle.lzk_verify.specs.declared.intake.Intake.{Intake}
 use Rattle.lzk_verify.specs.Kept.{IsKept, IsHeldOf}
-use Rattle.lzk_verify.specs.Desk.{kept_of, held_of}
+use Rattle.lzk_verify.specs.Desk.{IsKeptOf, kept_of, held_of}
 use Rattle.lzk_verify.proofs.Stored.{IsStored, kept_stored, stored_kept}
 
 module _ {A : Type 0} (o : Ops A) (e : Coding A) (c : Wiring A) (p : Params) (are : p ≡ params_of c) (session : List ℕ) (public : List A) where
@@ -48,14 +47,13 @@ module _ {A : Type 0} (o : Ops A) (e : Coding A) (c : Wiring A) (p : Params) (ar
 
   -- what an intake promises that takes a field
   pub takes_keeps : (fields : List (List ℕ)) (f : List ℕ) (k l : Intake A)
-      → (IsKept o e c p session public fields (kept_of o e c p (length fields) (digests_in p fields) [] k)
-      → IsKept o e c p session public (fields ++ f ∷ []) (kept_of o e c p (length fields + 1) (digests_in p (fields ++ f ∷ [])) [] l))
+      → (IsKeptOf o e c p session public fields k → IsKeptOf o e c p session public (fields ++ f ∷ []) l)
       → KeepsFields fields k → KeepsFields (fields ++ f ∷ []) l
   takes_keeps fields f k l takes s =
-      let old : IsKept o e c p session public fields (kept_of o e c p (length fields) (digests_in p fields) [] k) =
+      let old : IsKeptOf o e c p session public fields k =
       subst (λ q. IsKept o e c q session public fields (kept_of o e c q (length fields) (digests_in q fields) [] k)) (sym are) (stored_kept o e c (params_of c) session public fields k [] s) in
       kept_stored o e c (params_of c) session public (fields ++ f ∷ []) l [] (digests_in p (fields ++ f ∷ []))
-      (subst (λ (z : Params × ℕ). IsKept o e c z.0 session public (fields ++ f ∷ []) (kept_of o e c z.0 z.1 (digests_in p (fields ++ f ∷ [])) [] l)) (λ i. (are i, sym (length_push fields f) i)) (takes old))
+      (subst (λ q. IsKept o e c q session public (fields ++ f ∷ []) (kept_of o e c q (length (fields ++ f ∷ [])) (digests_in p (fields ++ f ∷ [])) [] l)) are (takes old))
 
   -- what an intake keeps that begins
   pub begun_keeps : (k : Intake A) → IsKept o e c p session public [] (kept_of o e c p 0 None [] k) → KeepsFields [] k

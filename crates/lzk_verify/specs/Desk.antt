@@ -8,10 +8,8 @@ use Rattle.lzk_merkle.specs.Nodes as tree
 use Rattle.lzk_merkle.specs.Nodes.{AreOpened}
 use Rattle.lzk_circuit.specs.Valid.{Wiring}
 use Rattle.lzk_layout.specs.declared.params.Params.{Params}
-use Rattle.lzk_layout.specs.Sizes.{AreBounded, AreParams, params_of}
-use Rattle.lzk_layout.specs.declared.part.ProofPart.{ProofPart}
-use Rattle.lzk_layout.specs.Fields.{Shape, IsField}
-use Rattle.lzk_layout.specs.Parts.{sort_of, part_width}
+use Rattle.lzk_layout.specs.Sizes.{AreParams}
+use Rattle.lzk_layout.specs.Fronts.{digests_in}
 use Rattle.lzk_layout.specs.Cursors.{CursorPlace, faulty, reading, CursorState}
 use Rattle.lzk_sumcheck.specs.Script as sumcheck
 use Rattle.lzk_accept.specs.Challenges as accept
@@ -27,7 +25,7 @@ use Rattle.lzk_circbytes.specs.Files.{id_of}
 use Rattle.lzk_verify.specs.Checks.{needed_digests}
 use Rattle.lzk_verify.specs.Columns.{values_of}
 use Rattle.lzk_verify.specs.Extending.{weighted}
-use Rattle.lzk_verify.specs.Kept.{sent_count, messages_in, ldt_in, dot_in, head_in, tail_in, whole_columns, column_fields, tape_reached, given_before, Kept, Held, stopped, keeping}
+use Rattle.lzk_verify.specs.Kept.{sent_count, messages_in, ldt_in, dot_in, head_in, tail_in, whole_columns, column_fields, tape_reached, given_before, Kept, Held, stopped, keeping, IsKept}
 use Rattle.lzk_verify.specs.Verdict.{Unless}
 
 -- what a check answers: none where it holds, and otherwise what is kept
@@ -73,8 +71,11 @@ pub record WeightedAnswers (A : Type 0) : Type 0 where
 
 -- those of the elements that a proof sends
 abbrev pub weighted_answers : {A : Type 0} → Ops A → (ℕ → A) → Params → List A → WeightedAnswers A
-weighted_answers o element p sent =
-    record { ldt = weighted o element (ldt_in p sent); dot = weighted o element (dot_in p sent); quadratic = weighted o element (values_of o p (head_in p sent) (tail_in p sent)) }
+weighted_answers o element p sent = record {
+  ldt = weighted o element (ldt_in p sent);
+  dot = weighted o element (dot_in p sent);
+  quadratic = weighted o element (values_of o p (head_in p sent) (tail_in p sent));
+}
 
 -- as long as the parameters say
 pub record AreAnswers {A : Type 0} (p : Params) (a : WeightedAnswers A) : Type 0 where
@@ -114,13 +115,17 @@ pub record AreLists {A : Type 0} (p : Params) (k : Intake A) : Type 0 where
   pub few : k.count ≤ 1536
 
 -- what the opened columns are checked with is that of what was drawn
-pub record AreReady {A : Type 0} (o : Ops A) (element : ℕ → A) (c : Wiring A) (p : Params) (k : Intake A) (r : Rooms A) : Type 0 where
-  pub rows : AreWeightedRows o element p r.combined (combined_row_of o element c k.public.items k.drawn.script (messages_in p k.sent.items) k.drawn.challenges)
-  pub wanted : k.wanted ≡ wanted_of o element c k.public.items k.drawn.script (messages_in p k.sent.items) k.drawn.challenges
+pub record AreReady {A : Type 0} (o : Ops A) (element : ℕ → A) (c : Wiring A) (p : Params) (k : Intake A)
+    (r : Rooms A) : Type 0 where
+  pub rows : AreWeightedRows o element p r.combined
+      (combined_row_of o element c k.public.items k.drawn.script (messages_in p k.sent.items) k.drawn.challenges)
+  pub wanted : k.wanted
+      ≡ wanted_of o element c k.public.items k.drawn.script (messages_in p k.sent.items) k.drawn.challenges
   pub answers : r.answers ≡ weighted_answers o element p k.sent.items
 
 -- an intake and its room are those for a circuit of these parameters
-pub record IsSound {A : Type 0} (o : Ops A) (element : ℕ → A) (c : Wiring A) (p : Params) (k : Intake A) (r : Rooms A) : Type 0 where
+pub record IsSound {A : Type 0} (o : Ops A) (element : ℕ → A) (c : Wiring A) (p : Params) (k : Intake A)
+    (r : Rooms A) : Type 0 where
   pub public : length k.public.items ≡ c.publics
   pub script : sumcheck.HasShape c k.drawn.script
   pub lists : AreLists p k
@@ -141,13 +146,8 @@ IsNoted (Some least_so_far) new Check column = new ≡ Some least_so_far
 IsNoted None None Check column = Check
 IsNoted None (Some x) Check column = (¬ Check) × (x ≡ column)
 
--- the field of this part is the first bytes of the block, and passes
-pub record IsBlockOf (s : Shape) (part : ProofPart) (block field : List ℕ) : Type 0 where
-  pub long : length block ≡ 32
-  pub is : field ≡ take (part_width s part) block
-  pub passes : IsField s (sort_of part) field
-
--- what an intake keeps, of so many fields, with this number of digests once it is read, and these bytes of the next field
+-- what an intake keeps, of so many fields, with this number of digests once it is read, and these bytes of the next
+-- field
 unfoldable pub kept_of : {A : Type 0} → Ops A → Coding A → Wiring A → Params → ℕ → Option ℕ → List ℕ → Intake A → Kept A
 kept_of o e c p n digests rest k =
     let root = cond (nat_lt 2 n) k.root [] in
@@ -172,17 +172,23 @@ kept_of o e c p n digests rest k =
       digests = take k.count k.digests.items;
     }
 
+-- an intake keeps what these fields give, and nothing of the next
+abbrev pub IsKeptOf : {A : Type 0} → Ops A → Coding A → Wiring A → Params → List ℕ → List A → List (List ℕ) → Intake A
+    → Type 0
+IsKeptOf o e c p session public fields k =
+    IsKept o e c p session public fields (kept_of o e c p (length fields) (digests_in p fields) [] k)
+
 -- what a desk holds
-unfoldable pub held_of : {A : Type 0} → Ops A → Coding A → Wiring A → Params → Bool → CursorPlace → Intake A → Option (Held A)
+unfoldable pub held_of : {A : Type 0} → Ops A → Coding A → Wiring A → Params → Bool → CursorPlace → Intake A
+    → Option (Held A)
 held_of o e c p false place k = None
 held_of o e c p true (faulty fault) k = Some (stopped fault)
 held_of o e c p true (reading n digests rest) k = Some (keeping (kept_of o e c p n digests rest k))
 
 -- how a desk's parts hang together
-pub record AreParts {A : Type 0} (o : Ops A) (e : Coding A) (c : Wiring A) (p : Params) (id : List ℕ) (cursor : CursorState) (k : Intake A) (r : Rooms A) : Type 0 where
-  pub are : p ≡ params_of c
+pub record AreParts {A : Type 0} (o : Ops A) (e : Coding A) (c : Wiring A) (p : Params) (id : List ℕ)
+    (cursor : CursorState) (k : Intake A) (r : Rooms A) : Type 0 where
   pub valid : AreParams o p
-  pub bounded : AreBounded p
   pub id_is : id ≡ id_of e c
   pub cursor_is : cursor.params ≡ p
   pub sound : IsSound o e.element c p k r

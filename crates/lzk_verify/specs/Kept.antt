@@ -10,6 +10,8 @@ use Rattle.lzk_transcript.specs.Tape.{TapeState}
 use Rattle.lzk_transcript.specs.Columns.{after_draws, opened}
 use Rattle.lzk_circuit.specs.Valid.{Wiring}
 use Rattle.lzk_layout.specs.declared.params.Params.{Params}
+use Rattle.lzk_layout.specs.declared.part.ProofPart.{ProofPart}
+use Rattle.lzk_layout.specs.declared.part.ProofPart.TheVariants.{Magic, Id, Root, Message, Ldt, Dot, QuadHead, QuadTail, Nonce, Column, Count, Digest}
 use Rattle.lzk_layout.specs.declared.fault.ProofFault.{ProofFault}
 use Rattle.lzk_layout.specs.Sizes.{params_of}
 use Rattle.lzk_layout.specs.Places.{depth, output_bits, round_count, sent_at}
@@ -33,6 +35,21 @@ use Rattle.lzk_verify.specs.Columns.{values_of, IsLowDegreeIn, IsLinearIn, IsQua
 -- how many they are
 abbrev pub sent_count : Params → ℕ
 sent_count p = p.nsum + p.block + p.dblock + 128 + (p.dblock - p.block)
+
+-- where each of them stands among all, and none of the other parts of a file
+abbrev pub place_of : Params → ProofPart → Option ℕ
+place_of p (Message i) = Some i
+place_of p (Ldt i) = Some (p.nsum + i)
+place_of p (Dot i) = Some (p.nsum + p.block + i)
+place_of p (QuadHead i) = Some (p.nsum + p.block + p.dblock + i)
+place_of p (QuadTail i) = Some (p.nsum + p.block + p.dblock + 128 + i)
+place_of p Magic = None
+place_of p Id = None
+place_of p Root = None
+place_of p (Nonce k) = None
+place_of p (Column k i) = None
+place_of p Count = None
+place_of p (Digest i) = None
 
 module _ {A : Type 0} (p : Params) (sent : List A) where
   -- those of the sumchecks
@@ -126,20 +143,29 @@ module _ {A : Type 0} (o : Ops A) (e : Coding A) (c : Wiring A) (p : Params) (me
   unfoldable pub with_messages : TapeState → TapeState
   with_messages t =
       cond (layers_done == depth c) (after_draws (challenge_count p) (after_script o e messages c t))
-      (within_layer layers_done (after_first c.version (after_layers o e messages c layers_done (after_draws (output_bits c) t))))
+      (within_layer layers_done
+      (after_first c.version (after_layers o e messages c layers_done (after_draws (output_bits c) t))))
 
   -- what layer l has drawn so far
   abbrev pub layer_drawn : Script A → ℕ → LayerScript A
   layer_drawn s l =
       let layer = layer_at o s l in
-      record { alpha = layer.alpha; beta = layer.beta; ra = take ((rounds_done l + 1) / 2) layer.ra; rb = take (rounds_done l / 2) layer.rb }
+      record {
+        alpha = layer.alpha;
+        beta = layer.beta;
+        ra = take ((rounds_done l + 1) / 2) layer.ra;
+        rb = take (rounds_done l / 2) layer.rb;
+      }
 
   -- the part of the script that is drawn; gamma is 0 until all elements are sent
   unfoldable pub script_drawn : TapeState → Script A
   script_drawn t =
       let s = script o e messages c t in
-      cond (layers_done == depth c) s
-      (record { out_point = s.out_point; layers = map (layer_drawn s) (range_with_len 0 (layers_done + 1)); gamma = o.zero })
+      cond (layers_done == depth c) s (record {
+        out_point = s.out_point;
+        layers = map (layer_drawn s) (range_with_len 0 (layers_done + 1));
+        gamma = o.zero;
+      })
 
 -- a list that is whole is written to the tape
 abbrev pub with_whole : {A : Type 0} → Coding A → ℕ → List A → TapeState → TapeState
@@ -163,11 +189,13 @@ has_messages p n = nat_le (3 + p.nsum) n
 abbrev pub has_answers : Params → ℕ → Bool
 has_answers p n = nat_le (before_opened p) n
 
-module _ {A : Type 0} (o : Ops A) (e : Coding A) (c : Wiring A) (p : Params) (start : TapeState) (root : List ℕ) (sent : List A) where
+module _ {A : Type 0} (o : Ops A) (e : Coding A) (c : Wiring A) (p : Params) (start : TapeState) (root : List ℕ)
+    (sent : List A) where
   -- the tape behind the challenges, with the answers that are whole written
   abbrev pub with_answers : TapeState → TapeState
   with_answers t =
-      with_whole e (p.dblock - p.block) (tail_in p sent) (with_whole e 128 (head_in p sent) (with_whole e p.dblock (dot_in p sent) (with_whole e p.block (ldt_in p sent) t)))
+      with_whole e (p.dblock - p.block) (tail_in p sent) (with_whole e 128 (head_in p sent)
+      (with_whole e p.dblock (dot_in p sent) (with_whole e p.block (ldt_in p sent) t)))
 
   -- the tape behind gamma, once the elements of the sumchecks are whole
   abbrev pub behind_script : TapeState
@@ -176,17 +204,22 @@ module _ {A : Type 0} (o : Ops A) (e : Coding A) (c : Wiring A) (p : Params) (st
   -- the tape behind the answers, once they are whole
   abbrev pub behind_answers : TapeState
   behind_answers =
-      with_array e (tail_in p sent) (with_array e (head_in p sent) (with_array e (dot_in p sent) (with_array e (ldt_in p sent) (after_draws (challenge_count p) behind_script))))
+      with_array e (tail_in p sent) (with_array e (head_in p sent)
+      (with_array e (dot_in p sent) (with_array e (ldt_in p sent) (after_draws (challenge_count p) behind_script))))
 
   -- all that the tape gives, once the answers are whole
   unfoldable pub whole_transcript : Transcript A
-  whole_transcript =
-      record { script = script o e (messages_in p sent) c (with_bytes root start); challenges = challenges e p behind_script; columns = opened p.mcol 128 behind_answers }
+  whole_transcript = record {
+    script = script o e (messages_in p sent) c (with_bytes root start);
+    challenges = challenges e p behind_script;
+    columns = opened p.mcol 128 behind_answers;
+  }
 
   module _ (n : ℕ) where
     -- the tape after all writes and draws that the fields allow
     unfoldable pub tape_reached : TapeState
-    tape_reached = cond (has_root n) (with_answers (with_messages o e c p (messages_in p sent) (with_bytes root start))) start
+    tape_reached =
+        cond (has_root n) (with_answers (with_messages o e c p (messages_in p sent) (with_bytes root start))) start
 
     -- what the tape gave before the answers are whole
     unfoldable pub given_before : Transcript A
@@ -208,8 +241,8 @@ pub record Kept (A : Type 0) : Type 0 where
   pub fields : ℕ
   pub rest : List ℕ
   pub public : List A
-  -- until the columns are drawn: the tape with the session, the circuit's id and the public inputs written, and the tape after all writes and draws
-  -- that the fields allow
+  -- until the columns are drawn: the tape with the session, the circuit's id and the public inputs written, and the
+  -- tape after all writes and draws that the fields allow
   pub start : Option TapeState
   pub tape : Option TapeState
   pub id : List ℕ
@@ -234,12 +267,15 @@ IsLeastFailing columns CheckAt None = AtEach columns CheckAt
 IsLeastFailing columns CheckAt (Some column) = FailsFirst columns CheckAt column
 
 -- the checks of the answers at opened column k of these fields
-module _ {A : Type 0} (o : Ops A) (e : Coding A) (c : Wiring A) (p : Params) (public : List A) (fields : List (List ℕ)) (given : Transcript A) where
+module _ {A : Type 0} (o : Ops A) (e : Coding A) (c : Wiring A) (p : Params) (public : List A) (fields : List (List ℕ))
+    (given : Transcript A) where
   abbrev pub point_at : ℕ → ℕ
   point_at k = p.dblock + slice_index_or given.columns k 0
 
   abbrev pub LowDegreeRead : ℕ → Type 0
-  LowDegreeRead k = IsLowDegreeIn o e.element p (column_read e p fields k) (point_at k) (ldt_in p (sent_read e p fields)) given.challenges.u
+  LowDegreeRead k =
+      IsLowDegreeIn o e.element p (column_read e p fields k) (point_at k) (ldt_in p (sent_read e p fields))
+      given.challenges.u
 
   abbrev pub LinearRead : ℕ → Type 0
   LinearRead k =
@@ -251,7 +287,8 @@ module _ {A : Type 0} (o : Ops A) (e : Coding A) (c : Wiring A) (p : Params) (pu
       IsQuadraticIn o e.element p (column_read e p fields k) (point_at k)
       (values_of o p (head_in p (sent_read e p fields)) (tail_in p (sent_read e p fields))) given.challenges.v
 
-module _ {A : Type 0} (o : Ops A) (e : Coding A) (c : Wiring A) (p : Params) (session : List ℕ) (public : List A) (fields : List (List ℕ)) where
+module _ {A : Type 0} (o : Ops A) (e : Coding A) (c : Wiring A) (p : Params) (session : List ℕ) (public : List A)
+    (fields : List (List ℕ)) where
   -- the tape that begins, and what it gave so far
   abbrev pub start_of : TapeState
   start_of = public_tape e session (id_of e c) public
@@ -281,8 +318,11 @@ module _ {A : Type 0} (o : Ops A) (e : Coding A) (c : Wiring A) (p : Params) (se
     pub low_degree_is : IsLeastFailing columns_of (LowDegreeRead o e c p public fields given_of) k.low_degree
     pub linear_is : IsLeastFailing columns_of (LinearRead o e c p public fields given_of) k.linear
     pub quadratic_is : IsLeastFailing columns_of (QuadraticRead o e c p public fields given_of) k.quadratic
-    pub nonce_is : k.nonce ≡ cond (nat_lt 0 (column_fields p (length fields))) (nonce_read p fields (whole_columns p (length fields))) []
-    pub column_is : k.column ≡ cond (nat_lt 0 (column_fields p (length fields))) (column_read e p fields (whole_columns p (length fields))) []
+    pub nonce_is : k.nonce
+        ≡ cond (nat_lt 0 (column_fields p (length fields))) (nonce_read p fields (whole_columns p (length fields))) []
+    pub column_is : k.column
+        ≡ cond (nat_lt 0 (column_fields p (length fields))) (column_read e p fields (whole_columns p (length fields)))
+        []
     pub count_is : k.count ≡ digests_in p fields
     pub digests_are : k.digests ≡ digests_read p fields
 
@@ -301,18 +341,22 @@ abbrev pub is_fed : {A : Type 0} → DeskState A → Bool
 is_fed d = is_some d.held
 
 -- the bytes have a front whose fields and rest are kept
-pub record IsKeptOf {A : Type 0} (o : Ops A) (e : Coding A) (c : Wiring A) (session : List ℕ) (public : List A) (bytes : List ℕ) (k : Kept A) : Type 0 where
+pub record IsKeptOf {A : Type 0} (o : Ops A) (e : Coding A) (c : Wiring A) (session : List ℕ) (public : List A)
+    (bytes : List ℕ) (k : Kept A) : Type 0 where
   pub fields : List (List ℕ)
   pub front : IsFront (shape e.bytes e.size) (params_of c) bytes fields k.rest
   pub kept : IsKept o e c (params_of c) session public fields k
 
 -- what is held is that of these bytes
-unfoldable pub IsHeldOf : {A : Type 0} → Ops A → Coding A → Wiring A → List ℕ → List A → List ℕ → Option (Held A) → Type 0
+unfoldable pub IsHeldOf : {A : Type 0} → Ops A → Coding A → Wiring A → List ℕ → List A → List ℕ → Option (Held A)
+    → Type 0
 IsHeldOf o e c session public bytes None = ⊥
 IsHeldOf o e c session public bytes (Some (stopped fault)) = IsFaulty (shape e.bytes e.size) (params_of c) bytes fault
 IsHeldOf o e c session public bytes (Some (keeping k)) = IsKeptOf o e c session public bytes k
 
--- The desk stands behind these bytes: it is being fed, and keeps of them, for this session and these public inputs, what a verifier keeps.
-pub record Stands {A : Type 0} (o : Ops A) (e : Coding A) (session : List ℕ) (public : List A) (bytes : List ℕ) (d : DeskState A) : Type 0 where
+-- The desk stands behind these bytes: it is being fed, and keeps of them, for this session and these public inputs,
+-- what a verifier keeps.
+pub record Stands {A : Type 0} (o : Ops A) (e : Coding A) (session : List ℕ) (public : List A) (bytes : List ℕ)
+    (d : DeskState A) : Type 0 where
   pub are_bytes : AreBytes bytes
   pub held : IsHeldOf o e d.circuit session public bytes d.held

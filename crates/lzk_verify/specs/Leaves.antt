@@ -36,7 +36,8 @@ module _ {A : Type 0} (width : ℕ) (number_of : A → ℕ) where
       cond (nat_lt 2 n) (with_leaf c.third two) two
 
 -- what holds of the leaves that are made, of the columns that wait, and of the room for the bytes of four
-pub record AreSound {A : Type 0} (width waiting : ℕ) (c : ThreeColumns A) (made : List (List ℕ)) (bytes : List ℕ) : Type 0 where
+pub record AreSound {A : Type 0} (width waiting : ℕ) (c : ThreeColumns A) (made : List (List ℕ))
+    (bytes : List ℕ) : Type 0 where
   pub few : waiting ≤ 3
   pub columns : AreThree (length made) (length c.first.elements.items) c
   pub bytes_are : length bytes ≡ 4 * (32 + length c.first.elements.items * width)

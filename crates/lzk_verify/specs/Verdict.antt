@@ -21,7 +21,8 @@ use Rattle.lzk_verify.specs.Checks.{HasCircuitId, needed_digests, HasPathCount, 
 abbrev pub given : {A : Type 0} → Ops A → Coding A → Wiring A → List ℕ → List A → Proof A → Transcript A
 given o e c session public proof = transcript o e c session (id_of e c) public proof
 
-module _ {A : Type 0} (o : Ops A) (e : Coding A) (c : Wiring A) (p : Params) (public : List A) (proof : Proof A) (t : Transcript A) where
+module _ {A : Type 0} (o : Ops A) (e : Coding A) (c : Wiring A) (p : Params) (public : List A) (proof : Proof A)
+    (t : Transcript A) where
   -- at the k-th opened column, the low degree answer is what the rows give
   abbrev pub LowDegreeAt : ℕ → Type 0
   LowDegreeAt k = IsLowDegree o p proof e.element t.columns t.challenges.u k
@@ -48,20 +49,25 @@ Unless Check failed next = (¬ Check × failed) ⊎ (Check × next)
 
 -- where a check fails at a column, the one, of the least such column; where it fails at none, the other
 abbrev pub UnlessAt : List ℕ → (ℕ → Type 0) → (ℕ → Type 0) → Type 0 → Type 0
-UnlessAt columns CheckAt failed next = ((column : ℕ) × (FailsFirst columns CheckAt column × failed column)) ⊎ (AtEach columns CheckAt × next)
+UnlessAt columns CheckAt failed next =
+    ((column : ℕ) × (FailsFirst columns CheckAt column × failed column)) ⊎ (AtEach columns CheckAt × next)
 
--- The verdict on a proof that has the circuit's id and leads to its root, for parameters p: the first check of its answers that fails, with what was
--- found, or that none fails.
-abbrev pub AreAnswersJudged : {A : Type 0} → Ops A → Coding A → Wiring A → Params → List A → Proof A → Transcript A → Verdict A → Type 0
+-- The verdict on a proof that has the circuit's id and leads to its root, for parameters p: the first check of its
+-- answers that fails, with what was found, or that none fails.
+abbrev pub AreAnswersJudged : {A : Type 0} → Ops A → Coding A → Wiring A → Params → List A → Proof A → Transcript A
+    → Verdict A
+    → Type 0
 AreAnswersJudged o e c p public proof t v =
-    UnlessAt t.columns (LowDegreeAt o e c p public proof t) (λ column. v ≡ LowDegree column)
-    (Unless (HasLinearSum o p proof (wanted_sum o e c p public proof t)) (v ≡ LinearSum (found_sum o p proof) (wanted_sum o e c p public proof t))
-    (UnlessAt t.columns (LinearAt o e c p public proof t) (λ column. v ≡ Linear column)
-    (UnlessAt t.columns (QuadraticAt o e c p public proof t) (λ column. v ≡ Quadratic column)
-    (v ≡ Accepted))))
+    UnlessAt t.columns (LowDegreeAt o e c p public proof t) (λ column. v ≡ LowDegree column) (Unless
+    (HasLinearSum o p proof (wanted_sum o e c p public proof t))
+    (v ≡ LinearSum (found_sum o p proof) (wanted_sum o e c p public proof t)) (UnlessAt t.columns
+    (LinearAt o e c p public proof t) (λ column. v ≡ Linear column)
+    (UnlessAt t.columns (QuadraticAt o e c p public proof t) (λ column. v ≡ Quadratic column) (v ≡ Accepted))))
 
 -- the verdict on a proof that was read: the first check that fails, with what was found, or that none fails
-unfoldable pub IsJudged : {A : Type 0} → Ops A → Coding A → Wiring A → Params → List A → Proof A → Transcript A → Verdict A → Type 0
+unfoldable pub IsJudged : {A : Type 0} → Ops A → Coding A → Wiring A → Params → List A → Proof A → Transcript A
+    → Verdict A
+    → Type 0
 IsJudged o e c p public proof t v =
     Unless (HasCircuitId e c proof) (v ≡ CircuitId proof.id)
     (Unless (HasPathCount p proof t.columns) (v ≡ PathCount (length proof.path.digests) (needed_digests p t.columns))
@@ -75,7 +81,8 @@ pub record HasFault {A : Type 0} (e : Coding A) (c : Wiring A) (bytes : List ℕ
   pub is : v ≡ Format fault
 
 -- the bytes are the file of a proof, and this is the verdict on it
-pub record HasProof {A : Type 0} (o : Ops A) (e : Coding A) (c : Wiring A) (session : List ℕ) (public : List A) (bytes : List ℕ) (v : Verdict A) : Type 0 where
+pub record HasProof {A : Type 0} (o : Ops A) (e : Coding A) (c : Wiring A) (session : List ℕ) (public : List A)
+    (bytes : List ℕ) (v : Verdict A) : Type 0 where
   pub proof : Proof A
   pub read : ProofBytes e.bytes e.number (params_of c) proof bytes
   pub judged : IsJudged o e c (params_of c) public proof (given o e c session public proof) v
@@ -85,16 +92,21 @@ unfoldable pub IsVerdict : {A : Type 0} → Ops A → Coding A → Wiring A → 
 IsVerdict o e c session public bytes v = HasFault e c bytes v ⊎ HasProof o e c session public bytes v
 
 -- All checks hold: what acceptance means.
-pub record AllHold {A : Type 0} (o : Ops A) (e : Coding A) (c : Wiring A) (session : List ℕ) (public : List A) (bytes : List ℕ) : Type 0 where
+pub record AllHold {A : Type 0} (o : Ops A) (e : Coding A) (c : Wiring A) (session : List ℕ) (public : List A)
+    (bytes : List ℕ) : Type 0 where
   pub proof : Proof A
   pub format : ProofBytes e.bytes e.number (params_of c) proof bytes
   pub circuit_id : HasCircuitId e c proof
   pub path_count : HasPathCount (params_of c) proof (given o e c session public proof).columns
   pub root : HasRoot o e (params_of c) proof (given o e c session public proof).columns
-  pub low_degree : AtEach (given o e c session public proof).columns (LowDegreeAt o e c (params_of c) public proof (given o e c session public proof))
-  pub linear_sum : HasLinearSum o (params_of c) proof (wanted_sum o e c (params_of c) public proof (given o e c session public proof))
-  pub linear : AtEach (given o e c session public proof).columns (LinearAt o e c (params_of c) public proof (given o e c session public proof))
-  pub quadratic : AtEach (given o e c session public proof).columns (QuadraticAt o e c (params_of c) public proof (given o e c session public proof))
+  pub low_degree : AtEach (given o e c session public proof).columns
+      (LowDegreeAt o e c (params_of c) public proof (given o e c session public proof))
+  pub linear_sum : HasLinearSum o (params_of c) proof
+      (wanted_sum o e c (params_of c) public proof (given o e c session public proof))
+  pub linear : AtEach (given o e c session public proof).columns
+      (LinearAt o e c (params_of c) public proof (given o e c session public proof))
+  pub quadratic : AtEach (given o e c session public proof).columns
+      (QuadraticAt o e c (params_of c) public proof (given o e c session public proof))
 
 -- this verdict alone is that on the bytes
 abbrev pub IsOnlyVerdict : {A : Type 0} → Ops A → Coding A → Wiring A → List ℕ → List A → List ℕ → Verdict A → Type 0
@@ -102,13 +114,18 @@ IsOnlyVerdict {A} o e c session public bytes v = (w : Verdict A) → IsVerdict o
 
 -- the bytes are accepted exactly where all checks hold
 abbrev pub AcceptsExactly : {A : Type 0} → Ops A → Coding A → Wiring A → List ℕ → List A → List ℕ → Type 0
-AcceptsExactly o e c session public bytes = IsVerdict o e c session public bytes Accepted ↔ AllHold o e c session public bytes
+AcceptsExactly o e c session public bytes =
+    IsVerdict o e c session public bytes Accepted ↔ AllHold o e c session public bytes
 
 -- bytes have one verdict at most
 abbrev pub OneVerdict : {A : Type 0} → Ops A → Coding A → Type 0
 OneVerdict {A} o e =
-    (c : Wiring A) (session : List ℕ) (public : List A) (bytes : List ℕ) (v w : Verdict A) → IsVerdict o e c session public bytes v → IsVerdict o e c session public bytes w → v ≡ w
+    (c : Wiring A) (session : List ℕ) (public : List A) (bytes : List ℕ) (v w : Verdict A)
+    → IsVerdict o e c session public bytes v → IsVerdict o e c session public bytes w
+    → v ≡ w
 
 -- bytes have a verdict
 abbrev pub SomeVerdict : {A : Type 0} → Ops A → Coding A → Type 0
-SomeVerdict {A} o e = (c : Wiring A) (session : List ℕ) (public : List A) (bytes : List ℕ) → AreBytes bytes → (v : Verdict A) × IsVerdict o e c session public bytes v
+SomeVerdict {A} o e =
+    (c : Wiring A) (session : List ℕ) (public : List A) (bytes : List ℕ) → AreBytes bytes
+    → (v : Verdict A) × IsVerdict o e c session public bytes v

@@ -1,7 +1,6 @@
 //! How the answers are checked at an opened column.
 
 ghost use Rattle.std.specs.Prelude.{◌≡◌, ℕ, ◌+◌, ◌<◌, ◌↔◌, IsTrue, List, length};
-ghost use Rattle.lzk_layout.specs.Sizes.{AreBounded, params_of};
 ghost use Rattle.lzk_accept.specs.Challenges.{HasShape};
 ghost use Rattle.lzk_accept.specs.Checks.{combined_row_of, wanted_of};
 ghost use Rattle.lzk_accept.specs.Factored.{HasRoomFor};
@@ -21,9 +20,8 @@ use crate::room::Room;
 use crate::sent::messages_of;
 use crate::weighted::weigh_rows;
 use lzk_accept::Challenges;
-use lzk_circuit::Circuit;
 use lzk_field::Field;
-use lzk_layout::Params;
+use lzk_layout::Plan;
 
 /// Which answers are right at a column.
 #[derive(Clone, Copy)]
@@ -34,95 +32,97 @@ pub(crate) struct RightAnswers {
 }
 
 impl<F: Field> Room<F> {
-    /// Computes what the columns are checked with, once all that a proof sends before them is there. Gives the sum that the linear
-    /// answer should have.
+    /// Computes what the columns are checked with, once all that a proof sends before them is there. Gives the sum that
+    /// the linear answer should have.
     pub(crate) fn prepare(
         &mut self,
-        circuit: &Circuit<F>,
-        params: &Params,
+        plan: &Plan<'_, F>,
         public: &[F],
         sent: &[F],
         drawn: &Drawn<F>,
     ) -> F
-        requires params { params.now ≡ params_of circuit.now }
-        requires bounded { AreBounded params.now }
-        requires public { length public.now ≡ circuit.now.publics }
-        requires sent { length sent.now ≡ sent_count params.now }
-        requires drawn { HasRoom circuit.now params.now drawn.now }
-        requires rooms { AreRooms params.now self.old }
-        requires forms { AreFormsOf F.ops circuit.now self.old.forms }
-        requires factors { HasRoomFor circuit.now self.old.combined }
-        ensures rooms { AreRooms params.now self.new }
-        ensures forms { AreFormsOf F.ops circuit.now self.new.forms }
-        ensures factors { HasRoomFor circuit.now self.new.combined }
-        ensures rows { AreWeightedRows F.ops F.coding.element params.now self.new.combined
-            (combined_row_of F.ops F.coding.element circuit.now public.now drawn.now.script (messages_in params.now sent.now) drawn.now.challenges) }
-        ensures wanted { result ≡ wanted_of F.ops F.coding.element circuit.now public.now drawn.now.script (messages_in params.now sent.now)
-            drawn.now.challenges }
-        ensures answers { self.new.answers ≡ weighted_answers F.ops F.coding.element params.now sent.now }
+        requires public { length public.now ≡ plan.now.circuit.now.publics }
+        requires sent { length sent.now ≡ sent_count plan.now.params }
+        requires drawn { HasRoom plan.now.circuit.now plan.now.params drawn.now }
+        requires rooms { AreRooms plan.now.params self.old }
+        requires forms { AreFormsOf F.ops plan.now.circuit.now self.old.forms }
+        requires factors { HasRoomFor plan.now.circuit.now self.old.combined }
+        ensures rooms { AreRooms plan.now.params self.new }
+        ensures forms { AreFormsOf F.ops plan.now.circuit.now self.new.forms }
+        ensures factors { HasRoomFor plan.now.circuit.now self.new.combined }
+        ensures rows { AreWeightedRows F.ops F.coding.element plan.now.params self.new.combined (combined_row_of F.ops
+            F.coding.element plan.now.circuit.now public.now drawn.now.script (messages_in plan.now.params sent.now)
+            drawn.now.challenges) }
+        ensures wanted { result
+            ≡ wanted_of F.ops F.coding.element plan.now.circuit.now public.now drawn.now.script
+            (messages_in plan.now.params sent.now) drawn.now.challenges }
+        ensures answers { self.new.answers ≡ weighted_answers F.ops F.coding.element plan.now.params sent.now }
     {
         let wanted = combine_constraints(
-            circuit,
-            params,
+            plan,
             public,
-            messages_of(params, sent),
+            messages_of(plan, sent),
             drawn,
-            &mut self.forms,
-            &mut self.combined,
+            &mut self.linear.forms,
+            &mut self.linear.combined,
         );
-        weigh_rows(params, &self.rows, &mut self.combined);
-        self.answers.set(params, &self.rows, &self.products, sent);
+        weigh_rows(plan, &self.weights.rows, &mut self.linear.combined);
+        self.answered
+            .answers
+            .set(plan, &self.weights.rows, &self.weights.products, sent);
         wanted
     }
 
     /// Which answers are right at this column.
     pub(crate) fn check_column(
         &mut self,
-        params: &Params,
+        plan: &Plan<'_, F>,
         index: u32,
         column: &[F],
         challenges: &Challenges<F>,
     ) -> RightAnswers
-        requires bounded { AreBounded params.now }
-        requires rooms { AreRooms params.now self.old }
-        requires index { index < params.now.mcol }
-        requires column { length column.now ≡ params.now.nrow }
-        requires challenges { HasShape params.now challenges.now }
-        ensures low_degree { (values : List F) → self.old.answers.ldt ≡ weighted F.ops F.coding.element values
-            → (IsTrue result.low_degree ↔ IsLowDegreeIn F.ops F.coding.element params.now column.now (params.now.dblock + index) values challenges.now.u) }
-        ensures linear { (values : List F) (lists : ℕ → List F) → self.old.answers.dot ≡ weighted F.ops F.coding.element values →
-            AreWeightedRows F.ops F.coding.element params.now self.old.combined lists
-            → (IsTrue result.linear ↔ IsLinearIn F.ops F.coding.element params.now column.now (params.now.dblock + index) values lists) }
-        ensures quadratic { (values : List F) → self.old.answers.quadratic ≡ weighted F.ops F.coding.element values
-            → (IsTrue result.quadratic ↔ IsQuadraticIn F.ops F.coding.element params.now column.now (params.now.dblock + index) values challenges.now.v) }
+        requires rooms { AreRooms plan.now.params self.old }
+        requires index { index < plan.now.params.mcol }
+        requires column { length column.now ≡ plan.now.params.nrow }
+        requires challenges { HasShape plan.now.params challenges.now }
+        ensures low_degree { let p = plan.now.params in (values : List F) →
+            self.old.answers.ldt ≡ weighted F.ops F.coding.element values → (IsTrue result.low_degree ↔
+            IsLowDegreeIn F.ops F.coding.element p column.now (p.dblock + index) values challenges.now.u) }
+        ensures linear { let p = plan.now.params in (values : List F) (lists : ℕ → List F) →
+            self.old.answers.dot ≡ weighted F.ops F.coding.element values →
+            AreWeightedRows F.ops F.coding.element p self.old.combined lists → (IsTrue result.linear ↔
+            IsLinearIn F.ops F.coding.element p column.now (p.dblock + index) values lists) }
+        ensures quadratic { let p = plan.now.params in (values : List F) →
+            self.old.answers.quadratic ≡ weighted F.ops F.coding.element values → (IsTrue result.quadratic ↔
+            IsQuadraticIn F.ops F.coding.element p column.now (p.dblock + index) values challenges.now.v) }
         ensures room { self.new ≡ self.old }
     {
-        let point = params.dblock + index;
-        set_inverses(&self.products, point, &mut self.inverses);
-        let row_last = last_factor(&self.rows, point);
-        let last = last_factor(&self.products, point);
-        let inverses = self.inverses.as_slice();
-        let row = &inverses[..params.block as usize];
+        let point = plan.params.dblock + index;
+        set_inverses(&self.weights.products, point, &mut self.answered.inverses);
+        let row_last = last_factor(&self.weights.rows, point);
+        let last = last_factor(&self.weights.products, point);
+        let inverses = self.answered.inverses.as_slice();
+        let row = &inverses[..plan.params.block as usize];
         let low_degree = is_low_degree_at(
-            params,
-            &self.answers.ldt,
+            plan,
+            &self.answered.answers.ldt,
             column,
             challenges.u.as_slice(),
             row,
             row_last,
         );
         let linear = is_linear_at(
-            params,
-            &self.answers.dot,
+            plan,
+            &self.answered.answers.dot,
             column,
-            &self.combined,
+            &self.linear.combined,
             inverses,
             row_last,
             last,
         );
         let quadratic = is_quadratic_at(
-            params,
-            &self.answers.quadratic,
+            plan,
+            &self.answered.answers.quadratic,
             column,
             challenges.v.as_slice(),
             inverses,

@@ -13,15 +13,15 @@ use crate::verdict::Verdict;
 use lzk_circbytes::id;
 use lzk_circuit::Circuit;
 use lzk_field::Field;
-use lzk_layout::{Cursor, CursorStep, Params};
+use lzk_layout::{Cursor, CursorStep, Plan};
 use std::alloc::{AllocError, Global};
 use std::marker::Model;
 
 /// A verifier of proofs over one circuit, which is fed a proof's file in pieces.
 ///
 /// All memory is taken by `new`, and a desk serves any number of proofs. It keeps the elements that a proof sends, the
-/// column that is being read and up to three before it, since leaves are hashed four at a time, and digests, and no list
-/// of the file's bytes.
+/// column that is being read and up to three before it, since leaves are hashed four at a time, and digests, and no
+/// list of the file's bytes.
 ///
 /// ```text
 /// desk.open(&session, &public);
@@ -35,8 +35,7 @@ use std::marker::Model;
 /// ```
 #[derive(Drop)]
 pub struct Desk<'c, F: Field> {
-    circuit: &'c Circuit<F>,
-    params: Params,
+    plan: Plan<'c, F>,
     id: [u8; 32],
     fed: bool,
     cursor: Cursor<F>,
@@ -52,12 +51,12 @@ impl<'c, F: Field> Model for Desk<'c, F> {
     ghost Value = { DeskState F };
 
     ghost view = { λ d. record {
-      circuit = d.circuit.now;
-      held = held_of F.ops F.coding d.circuit.now
-          d.params d.fed d.cursor.place d.intake;
+      circuit = d.plan.circuit.now;
+      held = held_of F.ops F.coding d.plan.circuit.now
+          d.plan.params d.fed d.cursor.place d.intake;
     } };
 
-    ghost invariant = { λ d. AreParts F.ops F.coding d.circuit.now d.params d.id d.cursor d.intake d.room };
+    ghost invariant = { λ d. AreParts F.ops F.coding d.plan.circuit.now d.plan.params d.id d.cursor d.intake d.room };
 }
 
 impl<'c, F: Field> Desk<'c, F> {
@@ -88,15 +87,17 @@ impl<'c, F: Field> Desk<'c, F> {
         ensures circuit { IfOk result (λ desk. desk.circuit ≡ circuit.now) }
         ensures idle { IfOk result (λ desk. spec.is_fed desk ≡ false) }
     {
-        let params = Params::of(circuit);
+        let plan = Plan::of(circuit);
+        let cursor = Cursor::new(&plan.params);
+        let intake = Intake::new(alloc, &plan)?;
+        let room = Room::new(alloc, &plan)?;
         Ok(Desk {
-            circuit,
-            params,
+            plan,
             id,
             fed: false,
-            cursor: Cursor::new(&params),
-            intake: Intake::new(alloc, circuit, &params)?,
-            room: Room::new(alloc, circuit, &params)?,
+            cursor,
+            intake,
+            room,
         })
     }
 
@@ -108,7 +109,7 @@ impl<'c, F: Field> Desk<'c, F> {
         ensures fed { spec.is_fed self.new ≡ true }
         ensures circuit { self.new.circuit ≡ self.old.circuit }
     {
-        self.cursor = Cursor::new(&self.params);
+        self.cursor = Cursor::new(&self.plan.params);
         self.intake.begin(session, &self.id, public);
         self.fed = true;
     }
@@ -122,9 +123,9 @@ impl<'c, F: Field> Desk<'c, F> {
         ensures fed { spec.is_fed self.new ≡ true }
         ensures circuit { self.new.circuit ≡ self.old.circuit }
     {
-        if let CursorStep::Field(part, block, _) = self.cursor.push(byte) {
+        if let CursorStep::Field(part, block, width) = self.cursor.push(byte) {
             self.intake
-                .take(self.circuit, &self.params, part, &block, &mut self.room);
+                .take(&self.plan, part, &block, width, &mut self.room);
         }
     }
 
@@ -156,12 +157,7 @@ impl<'c, F: Field> Desk<'c, F> {
         if let Err(fault) = self.cursor.finish() {
             return Verdict::Format(fault);
         }
-        judge(
-            &self.params,
-            &self.id,
-            &mut self.intake,
-            &mut self.room.nodes,
-        )
+        judge(&self.plan, &self.id, &mut self.intake, &mut self.room.nodes)
     }
 
     /// The verdict on all bytes that were fed.

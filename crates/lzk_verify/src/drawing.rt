@@ -3,7 +3,7 @@
 ghost use Rattle.std.specs.Prelude.{◌≡◌, ◌<◌, ◌≤◌, length, slice_index, IfOk};
 ghost use Rattle.lzk_merkle.specs.Nodes.{AreOpened};
 ghost use Rattle.lzk_transcript.specs.Columns.{opened};
-ghost use Rattle.lzk_layout.specs.Sizes.{AreBounded, params_of};
+ghost use Rattle.lzk_layout.specs.Sizes.{params_of};
 ghost use Rattle.lzk_sumcheck.specs.Draws.{with_array};
 ghost use Rattle.lzk_verify.specs.Desk.{HasRoom};
 ghost use Rattle.lzk_verify.specs.Kept.{sent_count, ldt_in, dot_in, head_in, tail_in, whole_transcript};
@@ -12,7 +12,7 @@ use crate::sent::{dot_of, head_of, ldt_of, messages_of, tail_of};
 use lzk_accept::{Challenges, draw_challenges};
 use lzk_circuit::Circuit;
 use lzk_field::Field;
-use lzk_layout::{OPENED, Params};
+use lzk_layout::{OPENED, Params, Plan};
 use lzk_sumcheck::{Script, draw_opened, replay};
 use lzk_transcript::Tape;
 use std::alloc::{AllocError, Global};
@@ -35,21 +35,30 @@ impl<F> Model for Drawn<F> {
 }
 
 // Writes the answers, and draws the columns that are opened.
-fn draw_columns<F: Field>(params: &Params, tape: &mut Tape, sent: &[F], columns: &mut [u32])
-    requires bounded { AreBounded params.now }
-    requires sent { length sent.now ≡ sent_count params.now }
+fn draw_columns<F: Field>(plan: &Plan<'_, F>, tape: &mut Tape, sent: &[F], columns: &mut [u32])
+    requires sent { length sent.now ≡ sent_count plan.now.params }
     requires room { length columns.old ≡ 128 }
     ensures columns { let e = F.coding in
-        columns.new ≡ opened params.now.mcol 128 (with_array e (tail_in params.now sent.now)
-        (with_array e (head_in params.now sent.now) (with_array e (dot_in params.now sent.now) (with_array e (ldt_in params.now sent.now) tape.old)))) }
-    ensures opened { AreOpened params.now.mcol columns.new }
+        columns.new
+        ≡ opened plan.now.params.mcol 128 (with_array e (tail_in plan.now.params sent.now) (with_array e
+        (head_in plan.now.params sent.now) (with_array e (dot_in plan.now.params sent.now)
+        (with_array e (ldt_in plan.now.params sent.now) tape.old)))) }
+    ensures opened { AreOpened plan.now.params.mcol columns.new }
     ensures room { length columns.new ≡ 128 }
 {
-    let low_degree = ldt_of(params, sent);
-    let linear = dot_of(params, sent);
-    let head = head_of(params, sent);
-    let tail = tail_of(params, sent);
-    draw_opened(params.mcol, low_degree, linear, head, tail, tape, columns);
+    let low_degree = ldt_of(plan, sent);
+    let linear = dot_of(plan, sent);
+    let head = head_of(plan, sent);
+    let tail = tail_of(plan, sent);
+    draw_opened(
+        plan.params.mcol,
+        low_degree,
+        linear,
+        head,
+        tail,
+        tape,
+        columns,
+    );
 }
 
 // As many columns, from the first on.
@@ -90,25 +99,22 @@ impl<F: Field> Drawn<F> {
     /// Runs the tape, to which session, circuit's id and public inputs are written, with what a proof sends. No memory
     /// is taken.
     #[tactic(auto, unfolding(crate::specs::Kept::whole_transcript))]
-    pub(crate) fn draw(
-        &mut self,
-        circuit: &Circuit<F>,
-        params: &Params,
-        tape: &mut Tape,
-        root: &[u8; 32],
-        sent: &[F],
-    )
-        requires params { params.now ≡ params_of circuit.now }
-        requires bounded { AreBounded params.now }
-        requires sent { length sent.now ≡ sent_count params.now }
-        requires room { HasRoom circuit.now params.now self.old }
-        ensures drawn { self.new ≡ whole_transcript F.ops F.coding circuit.now params.now tape.old root.now sent.now }
-        ensures room { HasRoom circuit.now params.now self.new }
-        ensures opened { AreOpened params.now.mcol self.new.columns }
+    pub(crate) fn draw(&mut self, plan: &Plan<'_, F>, tape: &mut Tape, root: &[u8; 32], sent: &[F])
+        requires sent { length sent.now ≡ sent_count plan.now.params }
+        requires room { HasRoom plan.now.circuit.now plan.now.params self.old }
+        ensures drawn { self.new
+            ≡ whole_transcript F.ops F.coding plan.now.circuit.now plan.now.params tape.old root.now sent.now }
+        ensures room { HasRoom plan.now.circuit.now plan.now.params self.new }
+        ensures opened { AreOpened plan.now.params.mcol self.new.columns }
     {
         tape.bytes(root);
-        replay(circuit, tape, messages_of(params, sent), &mut self.script);
-        draw_challenges(params, tape, &mut self.challenges);
-        draw_columns(params, tape, sent, &mut self.columns);
+        replay(
+            plan.circuit,
+            tape,
+            messages_of(plan, sent),
+            &mut self.script,
+        );
+        draw_challenges(&plan.params, tape, &mut self.challenges);
+        draw_columns(plan, tape, sent, &mut self.columns);
     }
 }

@@ -10,7 +10,8 @@ ghost use Rattle.lzk_verify.specs.Extending.{AreInverseDifferences, Extends};
 use lzk_field::Field;
 use lzk_poly::{Weights, inverse_of};
 
-// The inverse of the difference of two points. Where points are even, it stands in the table at the difference of their numbers.
+// The inverse of the difference of two points. Where points are even, it stands in the table at the difference of their
+// numbers.
 fn inverse_between<F: Field>(inverses: &[F], even: bool, point: u32, i: u32) -> F
     requires table { IsInverseTable F.ops F.coding.element inverses.now }
     requires even { IsTrue even → IsEven F.ops F.coding.element (point + 1) }
@@ -40,13 +41,14 @@ pub(crate) fn set_inverses<F: Field>(weights: &Weights<F>, point: u32, list: &mu
     }
 }
 
-/// What the sum of weighted values' products with the inverses at a point behind theirs is multiplied by, to be the value there of
-/// the polynomial through the values.
+/// What the sum of weighted values' products with the inverses at a point behind theirs is multiplied by, to be the
+/// value there of the polynomial through the values.
 pub(crate) fn last_factor<F: Field>(weights: &Weights<F>, point: u32) -> F
     requires behind { weights.now.count ≤ point }
     requires reached { point < weights.now.upto }
-    ensures { (inverses : List F) → length inverses ≡ weights.now.count → AreInverseDifferences F.ops F.coding.element point inverses →
-        Extends F.ops F.coding.element point inverses result }
+    ensures { (inverses : List F) → length inverses ≡ weights.now.count
+        → AreInverseDifferences F.ops F.coding.element point inverses
+        → Extends F.ops F.coding.element point inverses result }
 {
     let at = (point - weights.count()) as usize;
     weights.passed()[at]

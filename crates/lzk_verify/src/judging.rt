@@ -2,7 +2,6 @@
 
 ghost use Rattle.std.specs.Prelude.{◌≡◌, ◌≤◌, ◌*◌, ◌+◌, ◌-◌, length, take};
 ghost use Rattle.lzk_field.specs.Sums.{entry, sum_below};
-ghost use Rattle.lzk_layout.specs.Sizes.{AreBounded};
 ghost use Rattle.lzk_verify.specs.Desk.{AreLists, AreFoundAnswers, IsFound};
 
 use crate::intake::Intake;
@@ -11,19 +10,18 @@ use crate::opening::{check_circuit_id, check_path_count};
 use crate::sent::dot_of;
 use crate::verdict::Verdict;
 use lzk_field::Field;
-use lzk_layout::Params;
+use lzk_layout::Plan;
 
 // The first check of the answers that fails, or that none fails.
-fn judge_answers<F: Field>(params: &Params, intake: &Intake<F>) -> Verdict<F>
-    requires bounded { AreBounded params.now }
-    requires lists { AreLists params.now intake.now }
-    ensures { AreFoundAnswers F.ops params.now intake.now result }
+fn judge_answers<F: Field>(plan: &Plan<'_, F>, intake: &Intake<F>) -> Verdict<F>
+    requires lists { AreLists plan.now.params intake.now }
+    ensures { AreFoundAnswers F.ops plan.now.params intake.now result }
 {
     if let Some(column) = intake.failing.low_degree {
         return Verdict::LowDegree { column };
     }
     let wanted = intake.wanted;
-    if let Some(found) = check_linear_sum(params, dot_of(params, &intake.sent), wanted) {
+    if let Some(found) = check_linear_sum(plan, dot_of(plan, &intake.sent), wanted) {
         return Verdict::LinearSum { found, wanted };
     }
     if let Some(column) = intake.failing.linear {
@@ -38,32 +36,31 @@ fn judge_answers<F: Field>(params: &Params, intake: &Intake<F>) -> Verdict<F>
 /// The first check that fails, or that none fails, of a proof whose fields are all read. `id` is the circuit's, and
 /// `nodes` is room. No memory is taken.
 pub(crate) fn judge<F: Field>(
-    params: &Params,
+    plan: &Plan<'_, F>,
     id: &[u8; 32],
     intake: &mut Intake<F>,
     nodes: &mut [[u8; 32]],
 ) -> Verdict<F>
-    requires bounded { AreBounded params.now }
-    requires lists { AreLists params.now intake.old }
-    requires nodes { length nodes.old ≡ 2 * params.now.mcol }
-    ensures found { IsFound F.ops params.now id.now intake.old result }
+    requires lists { AreLists plan.now.params intake.old }
+    requires nodes { length nodes.old ≡ 2 * plan.now.params.mcol }
+    ensures found { IsFound F.ops plan.now.params id.now intake.old result }
     ensures intake { intake.new ≡ intake.old }
-    ensures nodes { length nodes.new ≡ 2 * params.now.mcol }
+    ensures nodes { length nodes.new ≡ 2 * plan.now.params.mcol }
 {
     if let Some(found) = check_circuit_id(id, &intake.id) {
         return Verdict::CircuitId { found };
     }
     let columns = intake.drawn.columns.as_slice();
     let found = intake.count;
-    if let Some(needed) = check_path_count(params, found, columns) {
+    if let Some(needed) = check_path_count(plan, found, columns) {
         return Verdict::PathCount { found, needed };
     }
     let path = &intake.digests.as_slice()[..found as usize];
     if let Some(found) = intake
         .leaves
-        .check_root(params, &intake.root, columns, path, nodes)
+        .check_root(plan, &intake.root, columns, path, nodes)
     {
         return Verdict::Root { found };
     }
-    judge_answers(params, intake)
+    judge_answers(plan, intake)
 }

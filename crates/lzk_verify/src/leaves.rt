@@ -1,7 +1,6 @@
 //! The leaves of the opened columns, which are hashed four at a time.
 
 ghost use Rattle.std.specs.Prelude.{◌≡◌, ◌+◌, ◌*◌, ◌<◌, cond, length, slice_set, IfOk};
-ghost use Rattle.lzk_layout.specs.Sizes.{AreBounded};
 ghost use Rattle.lzk_merkle.specs.Leaf.{leaf_of};
 ghost use Rattle.lzk_merkle.specs.Nodes as tree;
 ghost use Rattle.lzk_merkle.specs.Nodes.{AreOpened};
@@ -13,7 +12,7 @@ use crate::opening::check_root;
 use crate::room::zero_digests;
 use lzk_circuit::zeros;
 use lzk_field::Field;
-use lzk_layout::{OPENED, Params};
+use lzk_layout::{OPENED, Plan};
 use lzk_merkle::{four_leaves, leaf};
 use std::alloc::{AllocError, Global};
 use std::marker::Model;
@@ -102,12 +101,11 @@ impl<F: Field> ThreeColumns<F> {
 }
 
 // Room for the bytes of four leaves of so many elements.
-fn room_for_four<F: Field>(alloc: Global, params: &Params) -> Result<Vec<u8>, AllocError>
-    requires { AreBounded params.now }
-    ensures { IfOk result (λ bytes. length bytes.items ≡ 4 * (32 + params.now.nrow * F.coding.bytes)) }
+fn room_for_four<F: Field>(alloc: Global, plan: &Plan<'_, F>) -> Result<Vec<u8>, AllocError>
+    ensures { IfOk result (λ bytes. length bytes.items ≡ 4 * (32 + plan.now.params.nrow * F.coding.bytes)) }
 {
     let mut bytes = Vec::new(alloc);
-    bytes.resize(4 * (32 + params.nrow as usize * F::BYTES), 0)?;
+    bytes.resize(4 * (32 + plan.params.nrow as usize * F::BYTES), 0)?;
     Ok(bytes)
 }
 
@@ -165,13 +163,12 @@ fn make_waiting<F: Field>(waiting: usize, columns: &ThreeColumns<F>, made: &mut 
 
 impl<F: Field> Leaves<F> {
     /// Room for the leaves of the opened columns.
-    pub(crate) fn new(alloc: Global, params: &Params) -> Result<Leaves<F>, AllocError>
-        requires { AreBounded params.now }
+    pub(crate) fn new(alloc: Global, plan: &Plan<'_, F>) -> Result<Leaves<F>, AllocError>
         ensures items { IfOk result (λ leaves. length leaves.items ≡ 128) }
-        ensures rows { IfOk result (λ leaves. leaves.rows ≡ params.now.nrow) }
+        ensures rows { IfOk result (λ leaves. leaves.rows ≡ plan.now.params.nrow) }
     {
-        let columns = ThreeColumns::new(alloc, params.nrow as usize)?;
-        let bytes = room_for_four::<F>(alloc, params)?;
+        let columns = ThreeColumns::new(alloc, plan.params.nrow as usize)?;
+        let bytes = room_for_four::<F>(alloc, plan)?;
         let made = zero_digests(alloc, OPENED)?;
         Ok(Leaves {
             made,
@@ -193,7 +190,11 @@ impl<F: Field> Leaves<F> {
     pub(crate) fn set(&mut self, place: usize, nonce: &[u8; 32], elements: &[F])
         requires inside { place < length self.old.items }
         requires rows { length elements.now ≡ self.old.rows }
-        ensures { self.new ≡ record self.old { items = slice_set self.old.items place (leaf_of F.coding.bytes F.coding.number nonce.now elements.now) } }
+        ensures { self.new
+            ≡ record self.old {
+              items = slice_set self.old.items place
+                  (leaf_of F.coding.bytes F.coding.number nonce.now elements.now);
+            } }
     {
         match self.waiting {
             0 => self.columns.first.set(place, nonce, elements),
@@ -217,23 +218,23 @@ impl<F: Field> Leaves<F> {
     /// afterwards.
     pub(crate) fn check_root(
         &mut self,
-        params: &Params,
+        plan: &Plan<'_, F>,
         root: &[u8; 32],
         columns: &[u32],
         path: &[[u8; 32]],
         nodes: &mut [[u8; 32]],
     ) -> Option<[u8; 32]>
-        requires bounded { AreBounded params.now }
-        requires opened { AreOpened params.now.mcol columns.now }
-        requires path { length path.now ≡ needed_digests params.now columns.now }
+        requires opened { AreOpened plan.now.params.mcol columns.now }
+        requires path { length path.now ≡ needed_digests plan.now.params columns.now }
         requires leaves { length self.old.items ≡ length columns.now }
-        requires nodes { length nodes.old ≡ 2 * params.now.mcol }
-        ensures root { let found = tree.root_of params.now.mcol columns.now self.old.items path.now in IsChecked (found ≡ root.now) found result }
-        ensures nodes { length nodes.new ≡ 2 * params.now.mcol }
+        requires nodes { length nodes.old ≡ 2 * plan.now.params.mcol }
+        ensures root { let found = tree.root_of plan.now.params.mcol columns.now self.old.items path.now in
+            IsChecked (found ≡ root.now) found result }
+        ensures nodes { length nodes.new ≡ 2 * plan.now.params.mcol }
         ensures same { self.new ≡ self.old }
     {
         make_waiting(self.waiting, &self.columns, &mut self.made);
         self.waiting = 0;
-        check_root(params, root, columns, &self.made, path, nodes)
+        check_root(plan, root, columns, &self.made, path, nodes)
     }
 }

@@ -3,7 +3,6 @@
 ghost use Rattle.std.specs.Prelude.{◌≡◌, ℕ, ◌+◌, ◌-◌, ◌*◌, ◌<◌, ◌≤◌, ◌↔◌, IsTrue, List, length, take};
 ghost use Rattle.lzk_field.specs.Sums.{entry, sum_below};
 ghost use Rattle.lzk_poly.specs.Extension.{extension};
-ghost use Rattle.lzk_layout.specs.Sizes.{AreBounded};
 ghost use Rattle.lzk_verify.specs.Columns.{IsLinearIn};
 ghost use Rattle.lzk_verify.specs.Desk.{HasFactors, AreWeightedRows};
 ghost use Rattle.lzk_verify.specs.Extending.{Extends, row_sum, weighted};
@@ -11,7 +10,7 @@ ghost use Rattle.lzk_verify.specs.Extending.{Extends, row_sum, weighted};
 use crate::extending::extend_to;
 use lzk_accept::Factored;
 use lzk_field::Field;
-use lzk_layout::{BLINDS, Params};
+use lzk_layout::{BLINDS, Plan};
 
 /// How many products a coefficient is the sum of, where rows are given by factors.
 pub(crate) const FACTORS: usize = 4;
@@ -32,7 +31,10 @@ fn sum_rows<F: Field>(elements: &[F], table: &[F], factors: &[F]) -> F
     requires most { length elements.now ≤ 265 }
     requires width { length factors.now ≤ 512 }
     requires table { length table.now ≡ length elements.now * length factors.now }
-    ensures { let o = F.ops in result ≡ sum_below o (length elements.now) (λ i. o.times (entry o elements.now i) (row_sum o table.now factors.now i)) }
+    ensures { let o = F.ops in
+        result
+        ≡ sum_below o (length elements.now)
+        (λ i. o.times (entry o elements.now i) (row_sum o table.now factors.now i)) }
 {
     let mut sum = F::zero();
     for i in 0..elements.len() {
@@ -41,8 +43,8 @@ fn sum_rows<F: Field>(elements: &[F], table: &[F], factors: &[F]) -> F
     sum
 }
 
-// The same of rows whose coefficients are sums of four products: for each of the four, the elements' products with the row factors
-// times the place factors' with the factors.
+// The same of rows whose coefficients are sums of four products: for each of the four, the elements' products with the
+// row factors times the place factors' with the factors.
 fn sum_factored<F: Field>(
     elements: &[F],
     row_factors: &[F],
@@ -53,7 +55,10 @@ fn sum_factored<F: Field>(
     requires width { length factors.now ≤ 512 }
     requires row_factors { length row_factors.now ≡ 4 * length elements.now }
     requires place_factors { length place_factors.now ≡ 4 * length factors.now }
-    ensures { let o = F.ops in result ≡ sum_below o 4 (λ k. o.times (row_sum o row_factors.now elements.now k) (row_sum o place_factors.now factors.now k)) }
+    ensures { let o = F.ops in
+        result
+        ≡ sum_below o 4
+        (λ k. o.times (row_sum o row_factors.now elements.now k) (row_sum o place_factors.now factors.now k)) }
 {
     let mut sum = F::zero();
     for k in 0..FACTORS {
@@ -69,7 +74,10 @@ fn sum_private<F: Field>(elements: &[F], row_factors: &[F], place_factors: &[F],
     requires width { length factors.now ≤ 512 }
     requires row_factors { length row_factors.now ≡ 4 * length elements.now }
     requires place_factors { length place_factors.now ≡ 4 * length factors.now }
-    ensures { let o = F.ops in result ≡ sum_below o 4 (λ k. o.times (row_sum o row_factors.now elements.now k) (row_sum o place_factors.now factors.now k)) }
+    ensures { let o = F.ops in
+        result
+        ≡ sum_below o 4
+        (λ k. o.times (row_sum o row_factors.now elements.now k) (row_sum o place_factors.now factors.now k)) }
 {
     if elements.is_empty() {
         return F::zero();
@@ -77,23 +85,23 @@ fn sum_private<F: Field>(elements: &[F], row_factors: &[F], place_factors: &[F],
     sum_factored(elements, row_factors, place_factors, factors)
 }
 
-// The sum, over the rows from row 3 on, of the extension of the combined coefficients' row times a column's element. What gives the
-// coefficients gives each times its weight.
+// The sum, over the rows from row 3 on, of the extension of the combined coefficients' row times a column's element.
+// What gives the coefficients gives each times its weight.
 fn linear_sum<F: Field>(
-    params: &Params,
+    plan: &Plan<'_, F>,
     column: &[F],
     combined: &Factored<F>,
     inverses: &[F],
     last: F,
 ) -> F
-    requires bounded { AreBounded params.now }
-    requires column { length column.now ≡ params.now.nrow }
-    requires combined { HasFactors params.now combined.now }
-    requires inverses { length inverses.now ≡ params.now.block }
-    ensures { (point : ℕ) (lists : ℕ → List F) → Extends F.ops F.coding.element point inverses.now last →
-        AreWeightedRows F.ops F.coding.element params.now combined.now lists
-        → result ≡ sum_below F.ops (params.now.nrow - 3) (λ i. F.ops.times (extension F.ops F.coding.element (lists (3 + i)) point)
-        (entry F.ops column.now (3 + i))) }
+    requires column { length column.now ≡ plan.now.params.nrow }
+    requires combined { HasFactors plan.now.params combined.now }
+    requires inverses { length inverses.now ≡ plan.now.params.block }
+    ensures { (point : ℕ) (lists : ℕ → List F) → Extends F.ops F.coding.element point inverses.now last
+        → AreWeightedRows F.ops F.coding.element plan.now.params combined.now lists
+        → result
+        ≡ sum_below F.ops (plan.now.params.nrow - 3) (λ i.
+        F.ops.times (extension F.ops F.coding.element (lists (3 + i)) point) (entry F.ops column.now (3 + i))) }
 {
     let behind = 3 + combined.rows as usize;
     let back = &inverses[BLINDS..];
@@ -107,10 +115,10 @@ fn linear_sum<F: Field>(
     private.add(others).mul(last)
 }
 
-/// Whether the linear answer, whose weighted values these are, is right at the inverses' point, of a column. The last factor of the
-/// values of a row comes first, and that of the values of a product of two rows behind it.
+/// Whether the linear answer, whose weighted values these are, is right at the inverses' point, of a column. The last
+/// factor of the values of a row comes first, and that of the values of a product of two rows behind it.
 pub(crate) fn is_linear_at<F: Field>(
-    params: &Params,
+    plan: &Plan<'_, F>,
     dot: &[F],
     column: &[F],
     combined: &Factored<F>,
@@ -118,17 +126,17 @@ pub(crate) fn is_linear_at<F: Field>(
     row_last: F,
     last: F,
 ) -> bool
-    requires bounded { AreBounded params.now }
-    requires dot { length dot.now ≡ params.now.dblock }
-    requires column { length column.now ≡ params.now.nrow }
-    requires combined { HasFactors params.now combined.now }
-    requires inverses { length inverses.now ≡ params.now.dblock }
+    requires dot { length dot.now ≡ plan.now.params.dblock }
+    requires column { length column.now ≡ plan.now.params.nrow }
+    requires combined { HasFactors plan.now.params combined.now }
+    requires inverses { length inverses.now ≡ plan.now.params.dblock }
     ensures { (point : ℕ) (values : List F) (lists : ℕ → List F) → dot.now ≡ weighted F.ops F.coding.element values
-        → Extends F.ops F.coding.element point (take params.now.block inverses.now) row_last → Extends F.ops F.coding.element point inverses.now last
-        → AreWeightedRows F.ops F.coding.element params.now combined.now lists →
-        (IsTrue result ↔ IsLinearIn F.ops F.coding.element params.now column.now point values lists) }
+        → Extends F.ops F.coding.element point (take plan.now.params.block inverses.now) row_last
+        → Extends F.ops F.coding.element point inverses.now last
+        → AreWeightedRows F.ops F.coding.element plan.now.params combined.now lists
+        → (IsTrue result ↔ IsLinearIn F.ops F.coding.element plan.now.params column.now point values lists) }
 {
-    let row = &inverses[..params.block as usize];
-    let sum = linear_sum(params, column, combined, row, row_last);
+    let row = &inverses[..plan.params.block as usize];
+    let sum = linear_sum(plan, column, combined, row, row_last);
     extend_to(dot, inverses, last, column[1].add(sum))
 }

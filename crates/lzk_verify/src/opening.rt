@@ -3,11 +3,11 @@
 ghost use Rattle.std.specs.Prelude.{◌≡◌, ◌≤◌, ◌*◌, length, List, ℕ, take};
 ghost use Rattle.lzk_merkle.specs.Nodes as tree;
 ghost use Rattle.lzk_merkle.specs.Nodes.{AreOpened};
-ghost use Rattle.lzk_layout.specs.Sizes.{AreBounded};
 ghost use Rattle.lzk_verify.specs.Checks.{needed_digests};
 ghost use Rattle.lzk_verify.specs.Desk.{IsChecked};
 
-use lzk_layout::Params;
+use lzk_field::Field;
+use lzk_layout::Plan;
 use lzk_merkle::{needed, root_of};
 
 /// A proof's id where it is not this one.
@@ -18,33 +18,37 @@ pub(crate) fn check_circuit_id(id: &[u8; 32], found: &[u8; 32]) -> Option<[u8; 3
 }
 
 /// How many digests the drawn columns need, where the proof has another number of them.
-pub(crate) fn check_path_count(params: &Params, found: u32, columns: &[u32]) -> Option<u32>
-    requires bounded { AreBounded params.now }
-    requires opened { AreOpened params.now.mcol columns.now }
-    ensures { IsChecked (found ≡ needed_digests params.now columns.now) (needed_digests params.now columns.now) result }
+pub(crate) fn check_path_count<F: Field>(
+    plan: &Plan<'_, F>,
+    found: u32,
+    columns: &[u32],
+) -> Option<u32>
+    requires opened { AreOpened plan.now.params.mcol columns.now }
+    ensures { IsChecked (found ≡ needed_digests plan.now.params columns.now)
+        (needed_digests plan.now.params columns.now) result }
 {
-    let count = needed(params.mcol, columns);
+    let count = needed(plan.params.mcol, columns);
     if found == count { None } else { Some(count) }
 }
 
 /// The root that the opened columns and the path lead to, where it is not the proof's. `nodes` is room, and says
 /// nothing afterwards.
-pub(crate) fn check_root(
-    params: &Params,
+pub(crate) fn check_root<F: Field>(
+    plan: &Plan<'_, F>,
     root: &[u8; 32],
     columns: &[u32],
     leaves: &[[u8; 32]],
     path: &[[u8; 32]],
     nodes: &mut [[u8; 32]],
 ) -> Option<[u8; 32]>
-    requires bounded { AreBounded params.now }
-    requires opened { AreOpened params.now.mcol columns.now }
-    requires path { length path.now ≡ needed_digests params.now columns.now }
+    requires opened { AreOpened plan.now.params.mcol columns.now }
+    requires path { length path.now ≡ needed_digests plan.now.params columns.now }
     requires leaves { length leaves.now ≡ length columns.now }
-    requires nodes { length nodes.old ≡ 2 * params.now.mcol }
-    ensures root { let found = tree.root_of params.now.mcol columns.now leaves.now path.now in IsChecked (found ≡ root.now) found result }
-    ensures nodes { length nodes.new ≡ 2 * params.now.mcol }
+    requires nodes { length nodes.old ≡ 2 * plan.now.params.mcol }
+    ensures root { let found = tree.root_of plan.now.params.mcol columns.now leaves.now path.now in
+        IsChecked (found ≡ root.now) found result }
+    ensures nodes { length nodes.new ≡ 2 * plan.now.params.mcol }
 {
-    let found = root_of(params.mcol, columns, leaves, path, nodes);
+    let found = root_of(plan.params.mcol, columns, leaves, path, nodes);
     if found == *root { None } else { Some(found) }
 }

@@ -1,7 +1,6 @@
 //! The room in which a proof is checked.
 
 ghost use Rattle.std.specs.Prelude.{◌≡◌, IfOk, length, replicate};
-ghost use Rattle.lzk_layout.specs.Sizes.{AreBounded, params_of};
 ghost use Rattle.lzk_accept.specs.Factored.{HasRoomFor};
 ghost use Rattle.lzk_accept.specs.Kept.{AreFormsOf};
 ghost use Rattle.lzk_verify.specs.Desk as spec;
@@ -11,7 +10,7 @@ use crate::weighted::Weighted;
 use lzk_accept::{Factored, Forms};
 use lzk_circuit::{Circuit, zeros};
 use lzk_field::Field;
-use lzk_layout::Params;
+use lzk_layout::Plan;
 use lzk_poly::Weights;
 use std::alloc::{AllocError, Global};
 use std::marker::Model;
@@ -19,20 +18,11 @@ use std::marker::Model;
 /// Room for what is computed of a proof, and the weights that extend its answers.
 #[derive(Drop)]
 pub(crate) struct Room<F: Field> {
-    /// The linear constraints.
-    pub(crate) forms: Forms<F>,
-    /// The combined coefficients of the rows from row 3 on.
-    pub(crate) combined: Factored<F>,
-    /// The answers, weighted.
-    pub(crate) answers: Weighted<F>,
-    /// The inverses of the differences of a column's point and those of the values of a product of two rows.
-    pub(crate) inverses: Vec<F>,
+    pub(crate) linear: LinearRoom<F>,
+    pub(crate) answered: AnswerRoom<F>,
     /// The digests of a tree's nodes.
     pub(crate) nodes: Vec<[u8; 32]>,
-    /// The weights of the values of a row.
-    pub(crate) rows: Weights<F>,
-    /// The weights of the values of a product of two rows.
-    pub(crate) products: Weights<F>,
+    pub(crate) weights: BothWeights<F>,
 }
 
 impl<F: Field> Model for Room<F> {
@@ -42,13 +32,13 @@ impl<F: Field> Model for Room<F> {
     ghost Value = { Rooms F };
 
     ghost view = { λ r. record {
-      forms = r.forms;
-      combined = r.combined;
-      answers = r.answers;
-      inverses = length r.inverses.items;
+      forms = r.linear.forms;
+      combined = r.linear.combined;
+      answers = r.answered.answers;
+      inverses = length r.answered.inverses.items;
       nodes = length r.nodes.items;
-      rows = r.rows;
-      products = r.products;
+      rows = r.weights.rows;
+      products = r.weights.products;
     } };
 }
 
@@ -61,11 +51,12 @@ pub(crate) fn zero_digests(alloc: Global, count: usize) -> Result<Vec<[u8; 32]>,
     Ok(list)
 }
 
-// Room for the linear constraints and their combination.
+/// Room for the linear constraints and their combination.
 #[derive(Drop)]
-struct LinearRoom<F: Field> {
-    forms: Forms<F>,
-    combined: Factored<F>,
+pub(crate) struct LinearRoom<F: Field> {
+    pub(crate) forms: Forms<F>,
+    /// The combined coefficients of the rows from row 3 on.
+    pub(crate) combined: Factored<F>,
 }
 
 impl<F: Field> LinearRoom<F> {
@@ -79,68 +70,62 @@ impl<F: Field> LinearRoom<F> {
     }
 }
 
-// Room for the weighted answers, and for the inverses at a column's point.
+/// Room for what the answers are checked with at a column.
 #[derive(Drop)]
-struct AnswerRoom<F: Field> {
-    answers: Weighted<F>,
-    inverses: Vec<F>,
+pub(crate) struct AnswerRoom<F: Field> {
+    /// The answers, weighted.
+    pub(crate) answers: Weighted<F>,
+    /// The inverses of the differences of the column's point and those of the values of a product of two rows.
+    pub(crate) inverses: Vec<F>,
 }
 
 impl<F: Field> AnswerRoom<F> {
-    fn new(alloc: Global, params: &Params) -> Result<AnswerRoom<F>, AllocError>
-        ensures answers { IfOk result (λ room. AreAnswers params.now room.answers) }
-        ensures inverses { IfOk result (λ room. length room.inverses.items ≡ params.now.dblock) }
+    fn new(alloc: Global, plan: &Plan<'_, F>) -> Result<AnswerRoom<F>, AllocError>
+        ensures answers { IfOk result (λ room. AreAnswers plan.now.params room.answers) }
+        ensures inverses { IfOk result (λ room. length room.inverses.items ≡ plan.now.params.dblock) }
     {
-        let answers = Weighted::new(alloc, params)?;
-        let inverses = zeros(alloc, params.dblock as usize)?;
+        let answers = Weighted::new(alloc, plan)?;
+        let inverses = zeros(alloc, plan.params.dblock as usize)?;
         Ok(AnswerRoom { answers, inverses })
     }
 }
 
-// The weights of the values of a row, and of a product of two rows.
+/// The weights that extend values.
 #[derive(Drop)]
-struct BothWeights<F: Field> {
-    rows: Weights<F>,
-    products: Weights<F>,
+pub(crate) struct BothWeights<F: Field> {
+    /// Those of the values of a row.
+    pub(crate) rows: Weights<F>,
+    /// Those of the values of a product of two rows.
+    pub(crate) products: Weights<F>,
 }
 
 impl<F: Field> BothWeights<F> {
-    fn new(alloc: Global, params: &Params) -> Result<BothWeights<F>, AllocError>
-        requires bounded { AreBounded params.now }
-        ensures rows { IfOk result (λ weights. weights.rows ≡ spec.rows params.now) }
-        ensures products { IfOk result (λ weights. weights.products ≡ spec.products params.now) }
+    fn new(alloc: Global, plan: &Plan<'_, F>) -> Result<BothWeights<F>, AllocError>
+        ensures rows { IfOk result (λ weights. weights.rows ≡ spec.rows plan.now.params) }
+        ensures products { IfOk result (λ weights. weights.products ≡ spec.products plan.now.params) }
     {
-        let rows = Weights::new(alloc, params.block, params.ncol)?;
-        let products = Weights::new(alloc, params.dblock, params.ncol)?;
+        let rows = Weights::new(alloc, plan.params.block, plan.params.ncol)?;
+        let products = Weights::new(alloc, plan.params.dblock, plan.params.ncol)?;
         Ok(BothWeights { rows, products })
     }
 }
 
 impl<F: Field> Room<F> {
     /// Room for proofs over this circuit, whose parameters these are.
-    pub(crate) fn new(
-        alloc: Global,
-        circuit: &Circuit<F>,
-        params: &Params,
-    ) -> Result<Room<F>, AllocError>
-        requires params { params.now ≡ params_of circuit.now }
-        requires bounded { AreBounded params.now }
-        ensures rooms { IfOk result (λ room. AreRooms params.now room) }
-        ensures forms { IfOk result (λ room. AreFormsOf F.ops circuit.now room.forms) }
-        ensures factors { IfOk result (λ room. HasRoomFor circuit.now room.combined) }
+    pub(crate) fn new(alloc: Global, plan: &Plan<'_, F>) -> Result<Room<F>, AllocError>
+        ensures rooms { IfOk result (λ room. AreRooms plan.now.params room) }
+        ensures forms { IfOk result (λ room. AreFormsOf F.ops plan.now.circuit.now room.forms) }
+        ensures factors { IfOk result (λ room. HasRoomFor plan.now.circuit.now room.combined) }
     {
-        let linear = LinearRoom::new(alloc, circuit)?;
-        let answers = AnswerRoom::new(alloc, params)?;
-        let nodes = zero_digests(alloc, 2 * params.mcol as usize)?;
-        let weights = BothWeights::new(alloc, params)?;
+        let linear = LinearRoom::new(alloc, plan.circuit)?;
+        let answered = AnswerRoom::new(alloc, plan)?;
+        let nodes = zero_digests(alloc, 2 * plan.params.mcol as usize)?;
+        let weights = BothWeights::new(alloc, plan)?;
         Ok(Room {
-            forms: linear.forms,
-            combined: linear.combined,
-            answers: answers.answers,
-            inverses: answers.inverses,
+            linear,
+            answered,
             nodes,
-            rows: weights.rows,
-            products: weights.products,
+            weights,
         })
     }
 }

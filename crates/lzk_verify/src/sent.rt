@@ -1,100 +1,109 @@
 //! The elements that a proof sends before its columns are drawn, in the order of its file.
 
 ghost use Rattle.std.specs.Prelude.{◌≡◌, ◌+◌, ◌-◌, length};
-ghost use Rattle.lzk_layout.specs.Sizes.{AreBounded};
+ghost use Rattle.lzk_layout.specs.Parts.{HasPart};
+ghost use Rattle.lzk_verify.specs.Kept as spec;
 ghost use Rattle.lzk_verify.specs.Kept.{sent_count, messages_in, ldt_in, dot_in, head_in, tail_in};
 
-use lzk_layout::{BLINDS, Params};
+use lzk_field::Field;
+use lzk_layout::{BLINDS, Plan, ProofPart};
 
 /// How many these are.
-pub(crate) fn sent_count(params: &Params) -> usize
-    requires { AreBounded params.now }
-    ensures { result ≡ sent_count params.now }
+pub(crate) fn sent_count<F: Field>(plan: &Plan<'_, F>) -> usize
+    ensures { result ≡ sent_count plan.now.params }
 {
-    (params.nsum
-        + params.block
-        + params.dblock
+    (plan.params.nsum
+        + plan.params.block
+        + plan.params.dblock
         + BLINDS as u32
-        + (params.dblock - params.block)) as usize
+        + (plan.params.dblock - plan.params.block)) as usize
 }
 
 /// Where the low degree answer begins.
-fn ldt_start(params: &Params) -> usize
-    ensures { result ≡ params.now.nsum }
+fn ldt_start<F: Field>(plan: &Plan<'_, F>) -> usize
+    ensures { result ≡ plan.now.params.nsum }
 {
-    params.nsum as usize
+    plan.params.nsum as usize
 }
 
 /// Where the linear answer begins.
-fn dot_start(params: &Params) -> usize
-    requires { AreBounded params.now }
-    ensures { result ≡ params.now.nsum + params.now.block }
+fn dot_start<F: Field>(plan: &Plan<'_, F>) -> usize
+    ensures { result ≡ plan.now.params.nsum + plan.now.params.block }
 {
-    (params.nsum + params.block) as usize
+    (plan.params.nsum + plan.params.block) as usize
 }
 
 /// Where the quadratic answer's first values begin.
-fn head_start(params: &Params) -> usize
-    requires { AreBounded params.now }
-    ensures { result ≡ params.now.nsum + params.now.block + params.now.dblock }
+fn head_start<F: Field>(plan: &Plan<'_, F>) -> usize
+    ensures { result ≡ plan.now.params.nsum + plan.now.params.block + plan.now.params.dblock }
 {
-    (params.nsum + params.block + params.dblock) as usize
+    (plan.params.nsum + plan.params.block + plan.params.dblock) as usize
 }
 
 /// Where its last ones begin.
-fn tail_start(params: &Params) -> usize
-    requires { AreBounded params.now }
-    ensures { result ≡ params.now.nsum + params.now.block + params.now.dblock + 128 }
+fn tail_start<F: Field>(plan: &Plan<'_, F>) -> usize
+    ensures { result ≡ plan.now.params.nsum + plan.now.params.block + plan.now.params.dblock + 128 }
 {
-    head_start(params) + BLINDS
+    head_start(plan) + BLINDS
+}
+
+/// Where an element that a proof sends before its columns stands among all of these. None of a part that is no such
+/// element.
+pub(crate) fn place_of<F: Field>(plan: &Plan<'_, F>, part: ProofPart) -> Option<usize>
+    requires { HasPart plan.now.params 1536 part }
+    ensures { result ≡ spec.place_of plan.now.params part }
+{
+    match part {
+        ProofPart::Message(i) => Some(i as usize),
+        ProofPart::Ldt(i) => Some(ldt_start(plan) + i as usize),
+        ProofPart::Dot(i) => Some(dot_start(plan) + i as usize),
+        ProofPart::QuadHead(i) => Some(head_start(plan) + i as usize),
+        ProofPart::QuadTail(i) => Some(tail_start(plan) + i as usize),
+        _ => None,
+    }
 }
 
 /// What the sumchecks send.
-pub(crate) fn messages_of<'a, F>(params: &Params, sent: &'a [F]) -> &'a [F]
-    requires bounded { AreBounded params.now }
-    requires all { length sent.now ≡ sent_count params.now }
-    ensures value { result.now ≡ messages_in params.now sent.now }
-    ensures length { length result.now ≡ params.now.nsum }
+pub(crate) fn messages_of<'a, F: Field>(plan: &Plan<'_, F>, sent: &'a [F]) -> &'a [F]
+    requires all { length sent.now ≡ sent_count plan.now.params }
+    ensures value { result.now ≡ messages_in plan.now.params sent.now }
+    ensures length { length result.now ≡ plan.now.params.nsum }
 {
-    &sent[..ldt_start(params)]
+    &sent[..ldt_start(plan)]
 }
 
 /// The low degree answer.
-pub(crate) fn ldt_of<'a, F>(params: &Params, sent: &'a [F]) -> &'a [F]
-    requires bounded { AreBounded params.now }
-    requires all { length sent.now ≡ sent_count params.now }
-    ensures value { result.now ≡ ldt_in params.now sent.now }
-    ensures length { length result.now ≡ params.now.block }
+pub(crate) fn ldt_of<'a, F: Field>(plan: &Plan<'_, F>, sent: &'a [F]) -> &'a [F]
+    requires all { length sent.now ≡ sent_count plan.now.params }
+    ensures value { result.now ≡ ldt_in plan.now.params sent.now }
+    ensures length { length result.now ≡ plan.now.params.block }
 {
-    &sent[ldt_start(params)..dot_start(params)]
+    &sent[ldt_start(plan)..dot_start(plan)]
 }
 
 /// The linear answer.
-pub(crate) fn dot_of<'a, F>(params: &Params, sent: &'a [F]) -> &'a [F]
-    requires bounded { AreBounded params.now }
-    requires all { length sent.now ≡ sent_count params.now }
-    ensures value { result.now ≡ dot_in params.now sent.now }
-    ensures length { length result.now ≡ params.now.dblock }
+pub(crate) fn dot_of<'a, F: Field>(plan: &Plan<'_, F>, sent: &'a [F]) -> &'a [F]
+    requires all { length sent.now ≡ sent_count plan.now.params }
+    ensures value { result.now ≡ dot_in plan.now.params sent.now }
+    ensures length { length result.now ≡ plan.now.params.dblock }
 {
-    &sent[dot_start(params)..head_start(params)]
+    &sent[dot_start(plan)..head_start(plan)]
 }
 
 /// The quadratic answer's first values.
-pub(crate) fn head_of<'a, F>(params: &Params, sent: &'a [F]) -> &'a [F]
-    requires bounded { AreBounded params.now }
-    requires all { length sent.now ≡ sent_count params.now }
-    ensures value { result.now ≡ head_in params.now sent.now }
+pub(crate) fn head_of<'a, F: Field>(plan: &Plan<'_, F>, sent: &'a [F]) -> &'a [F]
+    requires all { length sent.now ≡ sent_count plan.now.params }
+    ensures value { result.now ≡ head_in plan.now.params sent.now }
     ensures length { length result.now ≡ 128 }
 {
-    &sent[head_start(params)..tail_start(params)]
+    &sent[head_start(plan)..tail_start(plan)]
 }
 
 /// Its last ones.
-pub(crate) fn tail_of<'a, F>(params: &Params, sent: &'a [F]) -> &'a [F]
-    requires bounded { AreBounded params.now }
-    requires all { length sent.now ≡ sent_count params.now }
-    ensures value { result.now ≡ tail_in params.now sent.now }
-    ensures length { length result.now ≡ params.now.dblock - params.now.block }
+pub(crate) fn tail_of<'a, F: Field>(plan: &Plan<'_, F>, sent: &'a [F]) -> &'a [F]
+    requires all { length sent.now ≡ sent_count plan.now.params }
+    ensures value { result.now ≡ tail_in plan.now.params sent.now }
+    ensures length { length result.now ≡ plan.now.params.dblock - plan.now.params.block }
 {
-    &sent[tail_start(params)..]
+    &sent[tail_start(plan)..]
 }

@@ -3,7 +3,6 @@
 ghost use Rattle.std.specs.Prelude.{◌≡◌, ℕ, ◌+◌, ◌-◌, ◌*◌, ◌<◌, ◌≤◌, List, length, IfOk};
 ghost use Rattle.lzk_field.specs.Sums.{entry};
 ghost use Rattle.lzk_circuit.specs.Valid.{Wiring};
-ghost use Rattle.lzk_layout.specs.Sizes.{AreBounded};
 ghost use Rattle.lzk_accept.specs.Factored.{HasRoomFor};
 ghost use Rattle.lzk_verify.specs.Desk as spec;
 ghost use Rattle.lzk_verify.specs.Desk.{AreAnswers, AreRows, AreWeightedRows, HasFactors};
@@ -16,7 +15,7 @@ use crate::sent::{dot_of, head_of, ldt_of, tail_of};
 use lzk_accept::Factored;
 use lzk_circuit::zeros;
 use lzk_field::Field;
-use lzk_layout::{BLINDS, Params};
+use lzk_layout::{BLINDS, Plan};
 use lzk_poly::Weights;
 use std::alloc::{AllocError, Global};
 use std::marker::Model;
@@ -44,7 +43,9 @@ impl<F: Field> Model for Weighted<F> {
 fn weigh_row<F: Field>(own: &[F], start: usize, table: &mut [F])
     requires { start + length own.now ≤ length table.old }
     ensures length { length table.new ≡ length table.old }
-    ensures here { let o = F.ops in (s : ℕ) → s < length own.now → entry o table.new (start + s) ≡ o.times (entry o table.old (start + s)) (entry o own.now s) }
+    ensures here { let o = F.ops in
+        (s : ℕ) → s < length own.now
+        → entry o table.new (start + s) ≡ o.times (entry o table.old (start + s)) (entry o own.now s) }
     ensures before { (k : ℕ) → k < start → entry F.ops table.new k ≡ entry F.ops table.old k }
     ensures behind { (k : ℕ) → start + length own.now ≤ k → entry F.ops table.new k ≡ entry F.ops table.old k }
 {
@@ -73,12 +74,12 @@ fn set_weighted<F: Field>(weights: &Weights<F>, values: &[F], list: &mut [F])
 
 impl<F: Field> Weighted<F> {
     /// Room for answers.
-    pub(crate) fn new(alloc: Global, params: &Params) -> Result<Weighted<F>, AllocError>
-        ensures { IfOk result (λ answers. AreAnswers params.now answers) }
+    pub(crate) fn new(alloc: Global, plan: &Plan<'_, F>) -> Result<Weighted<F>, AllocError>
+        ensures { IfOk result (λ answers. AreAnswers plan.now.params answers) }
     {
-        let ldt = zeros(alloc, params.block as usize)?;
-        let dot = zeros(alloc, params.dblock as usize)?;
-        let quadratic = zeros(alloc, params.dblock as usize)?;
+        let ldt = zeros(alloc, plan.params.block as usize)?;
+        let dot = zeros(alloc, plan.params.dblock as usize)?;
+        let quadratic = zeros(alloc, plan.params.dblock as usize)?;
         Ok(Weighted {
             ldt,
             dot,
@@ -86,27 +87,26 @@ impl<F: Field> Weighted<F> {
         })
     }
 
-    /// Sets the answers among the elements that a proof sends. `rows` are the weights of the values of a row, and `products` those of
-    /// a product of two rows.
+    /// Sets the answers among the elements that a proof sends. `rows` are the weights of the values of a row, and
+    /// `products` those of a product of two rows.
     pub(crate) fn set(
         &mut self,
-        params: &Params,
+        plan: &Plan<'_, F>,
         rows: &Weights<F>,
         products: &Weights<F>,
         sent: &[F],
     )
-        requires bounded { AreBounded params.now }
-        requires room { AreAnswers params.now self.old }
-        requires rows { rows.now ≡ spec.rows params.now }
-        requires products { products.now ≡ spec.products params.now }
-        requires sent { length sent.now ≡ sent_count params.now }
-        ensures { self.new ≡ spec.weighted_answers F.ops F.coding.element params.now sent.now }
+        requires room { AreAnswers plan.now.params self.old }
+        requires rows { rows.now ≡ spec.rows plan.now.params }
+        requires products { products.now ≡ spec.products plan.now.params }
+        requires sent { length sent.now ≡ sent_count plan.now.params }
+        ensures { self.new ≡ spec.weighted_answers F.ops F.coding.element plan.now.params sent.now }
     {
-        set_weighted(rows, ldt_of(params, sent), &mut self.ldt);
-        set_weighted(products, dot_of(params, sent), &mut self.dot);
-        let head = head_of(params, sent);
-        let tail = tail_of(params, sent);
-        fill_quadratic(params, head, tail, &mut self.quadratic);
+        set_weighted(rows, ldt_of(plan, sent), &mut self.ldt);
+        set_weighted(products, dot_of(plan, sent), &mut self.dot);
+        let head = head_of(plan, sent);
+        let tail = tail_of(plan, sent);
+        fill_quadratic(plan, head, tail, &mut self.quadratic);
         weigh(products, &mut self.quadratic);
     }
 }
@@ -117,8 +117,10 @@ fn weigh_table<F: Field>(own: &[F], count: usize, table: &mut [F])
     requires width { length own.now ≤ 512 }
     requires room { length table.old ≡ count * length own.now }
     ensures length { length table.new ≡ length table.old }
-    ensures each { let o = F.ops in (i s : ℕ) → i < count → s < length own.now →
-        entry o table.new (i * length own.now + s) ≡ o.times (entry o table.old (i * length own.now + s)) (entry o own.now s) }
+    ensures each { let o = F.ops in
+        (i s : ℕ) → i < count → s < length own.now
+        → entry o table.new (i * length own.now + s)
+        ≡ o.times (entry o table.old (i * length own.now + s)) (entry o own.now s) }
 {
     for i in 0..count {
         weigh_row(own, i * own.len(), table);
@@ -126,16 +128,20 @@ fn weigh_table<F: Field>(own: &[F], count: usize, table: &mut [F])
 }
 
 /// Each coefficient of the combined rows, times the weight of its place.
-pub(crate) fn weigh_rows<F: Field>(params: &Params, rows: &Weights<F>, combined: &mut Factored<F>)
-    requires bounded { AreBounded params.now }
-    requires rows { rows.now ≡ spec.rows params.now }
-    requires factors { HasFactors params.now combined.old }
-    ensures factors { HasFactors params.now combined.new }
+pub(crate) fn weigh_rows<F: Field>(
+    plan: &Plan<'_, F>,
+    rows: &Weights<F>,
+    combined: &mut Factored<F>,
+)
+    requires rows { rows.now ≡ spec.rows plan.now.params }
+    requires factors { HasFactors plan.now.params combined.old }
+    ensures factors { HasFactors plan.now.params combined.new }
     ensures room { (c : Wiring F) → HasRoomFor c combined.old → HasRoomFor c combined.new }
-    ensures rows { (lists : ℕ → List F) → AreRows F.ops params.now combined.old lists → AreWeightedRows F.ops F.coding.element params.now combined.new lists }
+    ensures rows { (lists : ℕ → List F) → AreRows F.ops plan.now.params combined.old lists
+        → AreWeightedRows F.ops F.coding.element plan.now.params combined.new lists }
 {
     let own = &rows.weights()[BLINDS..];
-    let others = (params.nrow - 3 - combined.rows) as usize;
+    let others = (plan.params.nrow - 3 - combined.rows) as usize;
     weigh_table(own, FACTORS, combined.place_factors.as_mut_slice());
     weigh_table(own, others, combined.table.as_mut_slice());
 }

@@ -11,12 +11,12 @@ pub returns-clause-rows : goal.returns-clause-rows
 returns-clause-rows g c =
     let f = g.F.Field in
     let o = f.ops in
-    let w = c.args.circuit.now in
+    let w = c.args.plan.now.circuit.now in
     let d = c.args.drawn.now in
     let public = c.args.public.now in
     let messages = c.args.messages.now in
     let factored = c.combine_factored.new.factored in
-    subst (λ q. AreRows o q factored (combined_row_of o f.coding.element w public d.script messages d.challenges)) (sym c.requires.params)
+    subst (λ q. AreRows o q factored (combined_row_of o f.coding.element w public d.script messages d.challenges)) (sym c.args.plan.now.are)
     (rows_are o w d.challenges (coefficient_of o f.coding.element w public d.script messages) factored
     (subst (λ (t : Transcript g.row.F.Denot). GivesCombined o (params_of w) factored (combined_of o f.coding.element w public t.script messages t.challenges)) c.drawn.view_is c.combine_factored.ensures.combined))
 
@@ -24,7 +24,7 @@ pub returns-clause-wanted : goal.returns-clause-wanted
 returns-clause-wanted g c =
     let f = g.F.Field in
     let view = c.drawn.view_is in
-    c.combine_factored.ensures.wanted ∙ (λ i. wanted_of f.ops f.coding.element c.args.circuit.now c.args.public.now (view i).script c.args.messages.now (view i).challenges)
+    c.combine_factored.ensures.wanted ∙ (λ i. wanted_of f.ops f.coding.element c.args.plan.now.circuit.now c.args.public.now (view i).script c.args.messages.now (view i).challenges)
 
 pub returns-clause-factors : goal.returns-clause-factors
-returns-clause-factors g c = factors_are c.args.circuit.now c.args.params.now c.combine_factored.new.factored c.requires.params c.requires.bounded c.combine_factored.ensures.room
+returns-clause-factors g c = factors_are c.args.plan.now.circuit.now c.args.plan.now.params c.combine_factored.new.factored c.args.plan.now.are c.args.plan.now.bounded c.combine_factored.ensures.room

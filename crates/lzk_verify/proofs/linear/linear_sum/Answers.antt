@@ -10,7 +10,7 @@ pub returns : goal.returns
 returns g c = λ point lists extends are.
     let o = g.F.Field.ops in
     let r = g.F.Field.laws.ring in
-    let p = c.args.params.now in
+    let p = c.args.plan.now.params in
     let f = c.args.combined.now in
     let column = c.args.column.now in
     let factors = c.args.inverses.now in
@@ -20,7 +20,7 @@ returns g c = λ point lists extends are.
     let back : List g.row.F.Denot = take (length factors - 128) (drop 128 factors) in
     let private : List g.row.F.Denot = take (3 + n - 3) (drop 3 column) in
     let others : List g.row.F.Denot = take (length column - (3 + n)) (drop (3 + n) column) in
-    let block = c.requires.bounded.block in
+    let block = c.args.plan.now.bounded.block in
     let wide : length back ≡ w = length-take-le (length factors - 128) (drop 128 factors) (omega (arith, length-drop 128 factors)) ∙ omega (arith, c.requires.inverses, block) in
     let few : length private ≡ n = length-take-le (3 + n - 3) (drop 3 column) (omega (arith, length-drop 3 column, c.requires.column, c.requires.combined.rows)) ∙ omega arith in
     let many : length others ≡ rest = length-take-le (length column - (3 + n)) (drop (3 + n) column) (omega (arith, length-drop (3 + n) column)) ∙ omega (arith, c.requires.column) in

@@ -13,9 +13,9 @@ pub returns-clause-rows : goal.returns-clause-rows
 returns-clause-rows g c = λ lists are.
     let f = g.F.Field in
     let o = f.ops in
-    let p = c.args.params.now in
+    let p = c.args.plan.now.params in
     let old = c.args.combined.now in
-    let block = c.requires.bounded.block in
+    let block = c.args.plan.now.bounded.block in
     let ws = c.weights.result.now in
     let count : c.args.rows.now.count ≡ p.block = ap (λ (r : Reach). r.count) c.requires.rows in
     let long : length ws ≡ 128 + p.wr = c.weights.ensures.0 ∙ count ∙ block in

@@ -8,4 +8,4 @@ pub returns : goal.returns
 returns g c =
     let f = g.F.Field in
     let d = c.self.inside in
-    sym (fed_is f.ops f.coding d.circuit.now d.params d.fed d.cursor.place d.intake) ∙ ap (λ (s : DeskState g.row.F.Denot). is_some s.held) c.self.view_is
+    sym (fed_is f.ops f.coding d.plan.circuit.now d.plan.params d.fed d.cursor.place d.intake) ∙ ap (λ (s : DeskState g.row.F.Denot). is_some s.held) c.self.view_is

@@ -17,45 +17,45 @@ returns-in-Err-clause-verdict g c = λ session public bytes h.
     let f = g.F.Field in
     let e = f.coding in
     let d = c.self.inside in
-    let w = d.circuit.now in
-    let on : d.fed ≡ true = sym (fed_is f.ops e w d.params d.fed d.cursor.place d.intake) ∙ ap (λ (s : DeskState g.row.F.Denot). is_some s.held) c.self.view_is ∙ c.requires.fed in
+    let w = d.plan.circuit.now in
+    let on : d.fed ≡ true = sym (fed_is f.ops e w d.plan.params d.fed d.cursor.place d.intake) ∙ ap (λ (s : DeskState g.row.F.Denot). is_some s.held) c.self.view_is ∙ c.requires.fed in
     subst (λ (x : DeskState g.row.F.Denot). IsVerdict f.ops e x.circuit session public bytes (Format c.in-Err.fault)) c.self.view_is
-    (faulty_ends f.ops e w d.params c.self.invariant.are session public bytes d.fed on d.cursor c.self.invariant.cursor_is d.intake (subst (λ (x : DeskState g.row.F.Denot). Stands f.ops e session public bytes x) (sym c.self.view_is) h)
-    c.in-Err.fault (λ x b pushed. (c.finish.ensures.fault x b (subst (λ (z : CursorState). Pushed (shape f.coding.bytes f.coding.size) z x b) (sym (ap (λ (y : Inside g.row.F.Denot). y.cursor) c.self-inside.view_is)) pushed) c.in-Err.fault).0 c.in-Err.is))
+    (faulty_ends f.ops e w d.plan.params d.plan.are session public bytes d.fed on d.cursor c.self.invariant.cursor_is d.intake (subst (λ (x : DeskState g.row.F.Denot). Stands f.ops e session public bytes x) (sym c.self.view_is) h)
+    c.in-Err.fault (λ x b pushed. (c.finish.ensures.fault x b (subst (λ (z : CursorState). Pushed (shape f.coding.bytes f.coding.size) z x b) (sym (ap (λ (y : Inside g.row.F.Denot g.F.Field g.F.PartialEq). y.cursor) c.self-inside.view_is)) pushed) c.in-Err.fault).0 c.in-Err.is))
 
 pub returns-in-Err-clause-one : goal.returns-in-Err-clause-one
 returns-in-Err-clause-one g c = λ session public bytes h.
     let f = g.F.Field in
     let e = f.coding in
     let d = c.self.inside in
-    let w = d.circuit.now in
-    let on : d.fed ≡ true = sym (fed_is f.ops e w d.params d.fed d.cursor.place d.intake) ∙ ap (λ (s : DeskState g.row.F.Denot). is_some s.held) c.self.view_is ∙ c.requires.fed in
+    let w = d.plan.circuit.now in
+    let on : d.fed ≡ true = sym (fed_is f.ops e w d.plan.params d.fed d.cursor.place d.intake) ∙ ap (λ (s : DeskState g.row.F.Denot). is_some s.held) c.self.view_is ∙ c.requires.fed in
     subst (λ (x : DeskState g.row.F.Denot). IsOnlyVerdict f.ops e x.circuit session public bytes (Format c.in-Err.fault)) c.self.view_is
-    (only_this f.ops e w d.params c.self.invariant.are f.laws session public bytes (Format c.in-Err.fault)
-    (faulty_ends f.ops e w d.params c.self.invariant.are session public bytes d.fed on d.cursor c.self.invariant.cursor_is d.intake (subst (λ (x : DeskState g.row.F.Denot). Stands f.ops e session public bytes x) (sym c.self.view_is) h)
-    c.in-Err.fault (λ x b pushed. (c.finish.ensures.fault x b (subst (λ (z : CursorState). Pushed (shape f.coding.bytes f.coding.size) z x b) (sym (ap (λ (y : Inside g.row.F.Denot). y.cursor) c.self-inside.view_is)) pushed) c.in-Err.fault).0 c.in-Err.is)))
+    (only_this f.ops e w d.plan.params d.plan.are f.laws session public bytes (Format c.in-Err.fault)
+    (faulty_ends f.ops e w d.plan.params d.plan.are session public bytes d.fed on d.cursor c.self.invariant.cursor_is d.intake (subst (λ (x : DeskState g.row.F.Denot). Stands f.ops e session public bytes x) (sym c.self.view_is) h)
+    c.in-Err.fault (λ x b pushed. (c.finish.ensures.fault x b (subst (λ (z : CursorState). Pushed (shape f.coding.bytes f.coding.size) z x b) (sym (ap (λ (y : Inside g.row.F.Denot g.F.Field g.F.PartialEq). y.cursor) c.self-inside.view_is)) pushed) c.in-Err.fault).0 c.in-Err.is)))
 
 pub returns-clause-verdict : goal.returns-clause-verdict
 returns-clause-verdict g c = λ session public bytes h.
     let f = g.F.Field in
     let e = f.coding in
     let d = c.self.inside in
-    let w = d.circuit.now in
+    let w = d.plan.circuit.now in
     let i = c.self.invariant in
-    let on : d.fed ≡ true = sym (fed_is f.ops e w d.params d.fed d.cursor.place d.intake) ∙ ap (λ (s : DeskState g.row.F.Denot). is_some s.held) c.self.view_is ∙ c.requires.fed in
+    let on : d.fed ≡ true = sym (fed_is f.ops e w d.plan.params d.fed d.cursor.place d.intake) ∙ ap (λ (s : DeskState g.row.F.Denot). is_some s.held) c.self.view_is ∙ c.requires.fed in
     subst (λ (x : DeskState g.row.F.Denot). IsVerdict f.ops e x.circuit session public bytes c.judge.result) c.self.view_is
-    (whole_ends f.ops e w d.params i.are session public bytes d.fed on d.cursor i.cursor_is d.intake (subst (λ (x : DeskState g.row.F.Denot). Stands f.ops e session public bytes x) (sym c.self.view_is) h)
-    f.laws i.bounded d.id i.id_is d.room i.sound c.judge.result (subst (λ (y : Inside g.row.F.Denot). IsFound f.ops y.params y.id y.intake c.judge.result) c.self-inside.view_is c.judge.ensures.found) (λ x b pushed. (c.finish.ensures.whole x b (subst (λ (z : CursorState). Pushed (shape f.coding.bytes f.coding.size) z x b) (sym (ap (λ (y : Inside g.row.F.Denot). y.cursor) c.self-inside.view_is)) pushed)).0 (no_err c.finish.result c.in_default.not-Err)) (c.finish.ensures.front (params_of w)))
+    (whole_ends f.ops e w d.plan.params d.plan.are session public bytes d.fed on d.cursor i.cursor_is d.intake (subst (λ (x : DeskState g.row.F.Denot). Stands f.ops e session public bytes x) (sym c.self.view_is) h)
+    f.laws d.plan.bounded d.id i.id_is d.room i.sound c.judge.result (subst (λ (y : Inside g.row.F.Denot g.F.Field g.F.PartialEq). IsFound f.ops y.plan.params y.id y.intake c.judge.result) c.self-inside.view_is c.judge.ensures.found) (λ x b pushed. (c.finish.ensures.whole x b (subst (λ (z : CursorState). Pushed (shape f.coding.bytes f.coding.size) z x b) (sym (ap (λ (y : Inside g.row.F.Denot g.F.Field g.F.PartialEq). y.cursor) c.self-inside.view_is)) pushed)).0 (no_err c.finish.result c.in_default.not-Err)) (c.finish.ensures.front (params_of w)))
 
 pub returns-clause-one : goal.returns-clause-one
 returns-clause-one g c = λ session public bytes h.
     let f = g.F.Field in
     let e = f.coding in
     let d = c.self.inside in
-    let w = d.circuit.now in
+    let w = d.plan.circuit.now in
     let i = c.self.invariant in
-    let on : d.fed ≡ true = sym (fed_is f.ops e w d.params d.fed d.cursor.place d.intake) ∙ ap (λ (s : DeskState g.row.F.Denot). is_some s.held) c.self.view_is ∙ c.requires.fed in
+    let on : d.fed ≡ true = sym (fed_is f.ops e w d.plan.params d.fed d.cursor.place d.intake) ∙ ap (λ (s : DeskState g.row.F.Denot). is_some s.held) c.self.view_is ∙ c.requires.fed in
     subst (λ (x : DeskState g.row.F.Denot). IsOnlyVerdict f.ops e x.circuit session public bytes c.judge.result) c.self.view_is
-    (only_this f.ops e w d.params i.are f.laws session public bytes c.judge.result
-    (whole_ends f.ops e w d.params i.are session public bytes d.fed on d.cursor i.cursor_is d.intake (subst (λ (x : DeskState g.row.F.Denot). Stands f.ops e session public bytes x) (sym c.self.view_is) h)
-    f.laws i.bounded d.id i.id_is d.room i.sound c.judge.result (subst (λ (y : Inside g.row.F.Denot). IsFound f.ops y.params y.id y.intake c.judge.result) c.self-inside.view_is c.judge.ensures.found) (λ x b pushed. (c.finish.ensures.whole x b (subst (λ (z : CursorState). Pushed (shape f.coding.bytes f.coding.size) z x b) (sym (ap (λ (y : Inside g.row.F.Denot). y.cursor) c.self-inside.view_is)) pushed)).0 (no_err c.finish.result c.in_default.not-Err)) (c.finish.ensures.front (params_of w))))
+    (only_this f.ops e w d.plan.params d.plan.are f.laws session public bytes c.judge.result
+    (whole_ends f.ops e w d.plan.params d.plan.are session public bytes d.fed on d.cursor i.cursor_is d.intake (subst (λ (x : DeskState g.row.F.Denot). Stands f.ops e session public bytes x) (sym c.self.view_is) h)
+    f.laws d.plan.bounded d.id i.id_is d.room i.sound c.judge.result (subst (λ (y : Inside g.row.F.Denot g.F.Field g.F.PartialEq). IsFound f.ops y.plan.params y.id y.intake c.judge.result) c.self-inside.view_is c.judge.ensures.found) (λ x b pushed. (c.finish.ensures.whole x b (subst (λ (z : CursorState). Pushed (shape f.coding.bytes f.coding.size) z x b) (sym (ap (λ (y : Inside g.row.F.Denot g.F.Field g.F.PartialEq). y.cursor) c.self-inside.view_is)) pushed)).0 (no_err c.finish.result c.in_default.not-Err)) (c.finish.ensures.front (params_of w))))

@@ -7,8 +7,8 @@ returns-clause-stands g c =
     let f = g.F.Field in
     let e = f.coding in
     let d = c.self.inside in
-    begun_stands f.ops e d.circuit.now d.params c.self.invariant.are c.args.session.now c.args.public.now c.new-self-inside.result c.begin.new.self c.new-self-inside.ensures.pushed
-    (c.begin.ensures.kept d.circuit.now d.params c.self.invariant.bounded c.self.invariant.id_is)
+    begun_stands f.ops e d.plan.circuit.now d.plan.params d.plan.are c.args.session.now c.args.public.now c.new-self-inside.result c.begin.new.self c.new-self-inside.ensures.pushed
+    (c.begin.ensures.kept d.plan.circuit.now d.plan.params d.plan.bounded c.self.invariant.id_is)
 
 pub returns-clause-fed : goal.returns-clause-fed
 returns-clause-fed g c =

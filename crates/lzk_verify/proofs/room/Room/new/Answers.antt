@@ -4,7 +4,7 @@ use Rattle.lzk_verify.proofs.room.Room.new.Goals as goal
 
 pub returns-clause-rooms : goal.returns-clause-rooms
 returns-clause-rooms g c = record {
-  combined = factors_are c.args.circuit.now c.args.params.now c.in_ok-linear.linear.combined c.requires.params c.requires.bounded c.in_ok-linear.ensures.factors;
+  combined = factors_are c.args.plan.now.circuit.now c.args.plan.now.params c.in_ok-linear.linear.combined c.args.plan.now.are c.args.plan.now.bounded c.in_ok-linear.ensures.factors;
   answers = search rules;
   inverses = search rules;
   nodes = search rules;
