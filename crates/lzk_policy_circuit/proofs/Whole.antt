@@ -1,10 +1,10 @@
 -- A policy's circuit is satisfied by some private inputs exactly where there is a record.
 use Rattle.std.proofs.Common.{◌≡◌, ℕ, ◌+◌, ◌*◌, ◌^◌, ◌<◌, ◌≤◌, List, [], ◌∷◌, ◌++◌, length, take, drop, map, zero, suc, refl, sym, ap, subst, ◌∙◌, arith, Option, Some, append_assoc, append-nil, length-append, length-drop}
-use Rattle.std.specs.Prelude.{IsTrue, Bool, true, false, ◌&&◌, ◌==◌, not, nat_le, MatchOption, slice_get}
+use Rattle.std.specs.Prelude.{◌-◌, nat_lt, max, replicate, if◌then◌else◌, IsTrue, Bool, true, false, ◌&&◌, ◌==◌, not, nat_le, MatchOption, slice_get}
 use Rattle.std.specs.List.{AllByRecursion}
 use Rattle.std.proofs.lemmas.Bool.{leb-true, eqb-true}
-use Rattle.std.proofs.Math.Nat.{pow-le-pow_right}
-use Rattle.std.proofs.lemmas.List.{length-take-le}
+use Rattle.std.proofs.Math.Nat.{pow-le-pow_right, le-max_left}
+use Rattle.std.proofs.lemmas.List.{length-take-le, length-replicate}
 use Rattle.lzk_field.specs.Sums.{entry}
 use Rattle.lzk_goldilocks.specs.Elements.{ops, of_number}
 use Rattle.lzk_goldilocks.specs.declared.element.Gold.{Gold}
@@ -19,7 +19,7 @@ use Rattle.lzk_policy.specs.declared.policy.Claim.TheVariants as claims
 use Rattle.lzk_policy.specs.declared.policy.Show.{Show}
 use Rattle.lzk_policy.specs.Policies.{Contents, IsPolicy, IsField, IsShowOf, has_size, suits, are_small, is_date, is_text, is_bytes}
 use Rattle.lzk_policy_circuit.specs.Meaning.{field_number, value_count, values_of, pseudonym_message, IsTrueOf, AreTrueOf, IsShown, public_count}
-use Rattle.lzk_policy_circuit.specs.Layout.{hash_rest, message_size, own_of, own_of_claim, rest_of_claim, own_count, owns_of, rests_of, stated_count, private_count}
+use Rattle.lzk_policy_circuit.specs.Layout.{hash_rest, message_size, own_of, own_of_claim, rest_of_claim, own_count, owns_of, rests_of, stated_count, needed_count, private_count, padded}
 use Rattle.lzk_policy_circuit.specs.Met.{field_worth, number_worth, IsOrdered, IsStated, AreStated, IsHashed, AreHashed, Satisfy}
 use Rattle.lzk_policy_circuit.proofs.Lists.{drop_front, take_front, drop_twice}
 use Rattle.lzk_policy_circuit.proofs.Bytes.{AreBitsOf, number_is, number_below}
@@ -284,6 +284,15 @@ module _ (m : List ℕ) (bytes : AreBytes m) (fields : List RecordField) (are : 
 
 -- ---- the whole
 
+-- idle inputs are beside those that have a meaning
+padded_at : (n : ℕ) (b : Bool) → n ≤ (if b then n else max n 16384)
+padded_at n true = omega arith
+padded_at n false = le-max_left n 16384
+
+pub padded_most : (n : ℕ) → n ≤ padded n
+unfolding padded
+padded_most n = padded_at n (nat_lt n 9000)
+
 pub satisfied_forward : (c : Contents) → IsPolicy c → (public private : List Gold) → length public ≡ public_count c → length private ≡ private_count c → Satisfy c public private
     → (m : List ℕ) × IsShown c m public
 satisfied_forward c w public private np nq h =
@@ -291,12 +300,13 @@ satisfied_forward c w public private np nq h =
     let s = stated_count c in
     let own = take s private in
     let eight : length (take 8 public) ≡ 8 = length-take-le 8 public (omega (arith, np)) in
-    let long : length own ≡ s = length-take-le s private (omega (arith, nq)) in
-    let rest : length (take hash_rest (drop s private)) ≡ 6376 = length-take-le hash_rest (drop s private) (omega (arith, length-drop s private, nq)) in
+    let enough : s + (hash_rest + rests_of c.shows) ≤ length private = subst (λ (k : ℕ). needed_count c ≤ k) (sym nq) (padded_most (needed_count c)) in
+    let long : length own ≡ s = length-take-le s private (omega (arith, enough)) in
+    let rest : length (take hash_rest (drop s private)) ≡ 6376 = length-take-le hash_rest (drop s private) (omega (arith, length-drop s private, enough)) in
     let d = spelt c.size (take 8 public) own (take hash_rest (drop s private)) w.block eight (omega (arith, long)) rest h.hashed in
     let m = d.message in
     let fields = subst (λ (k : ℕ). AllByRecursion (IsField k) c.fields) (sym d.size_is) w.fields in
-    let twice : length (drop (s + hash_rest) private) ≡ rests_of c.shows = omega (arith, length-drop (s + hash_rest) private, nq) in (
+    let twice : rests_of c.shows ≤ length (drop (s + hash_rest) private) = omega (arith, length-drop (s + hash_rest) private, enough) in (
       m,
       record {
         bytes = record { size_is = d.size_is; bytes_are = d.bytes_are };
@@ -319,7 +329,9 @@ satisfied_backward c w m public h =
     let front = message_front m short bytes in
     let rest = message_rest m short bytes in
     let stated = front ++ r.own in
-    let behind = rest ++ r.rests in
+    let idle : List Gold = replicate (private_count c - needed_count c) ops.zero in
+    let others = r.rests ++ idle in
+    let behind = rest ++ others in
     let private = stated ++ behind in
     let long_front : length front ≡ n = length-message_front m short bytes ∙ ap (λ k. 8 * k) size in
     let long_rest : length rest ≡ 6376 = length-message_rest m short bytes in
@@ -328,11 +340,21 @@ satisfied_backward c w m public h =
     let behind_at : drop s private ≡ behind = drop_front s stated behind (sym long_stated) in
     let own_at : drop n (take s private) ≡ r.own ++ [] = ap (drop n) stated_at ∙ drop_front n front r.own (sym long_front) ∙ sym (append-nil r.own) in
     let front_at_ : take n (take s private) ≡ front = ap (take n) stated_at ∙ take_front n front r.own (sym long_front) in
-    let rest_at : take hash_rest (drop s private) ≡ rest = ap (take hash_rest) behind_at ∙ take_front hash_rest rest r.rests (sym long_rest) in
-    let rests_at : drop (s + hash_rest) private ≡ r.rests ++ [] =
-    sym (drop_twice s hash_rest private) ∙ ap (drop hash_rest) behind_at ∙ drop_front hash_rest rest r.rests (sym long_rest) ∙ sym (append-nil r.rests) in
+    let rest_at : take hash_rest (drop s private) ≡ rest = ap (take hash_rest) behind_at ∙ take_front hash_rest rest others (sym long_rest) in
+    let rests_at : drop (s + hash_rest) private ≡ others =
+    sym (drop_twice s hash_rest private) ∙ ap (drop hash_rest) behind_at ∙ drop_front hash_rest rest others (sym long_rest) in
     let bits : AreBitsOf (take s private) 0 m = subst (λ (l : List Gold). AreBitsOf l 0 m) (sym stated_at) (message_bits_are m short bytes r.own) in
-    let whole : length private ≡ private_count c = omega (arith, length-append stated behind, length-append rest r.rests, long_stated, long_rest, r.rests_size) in (
+    let whole : length private ≡ private_count c = omega (
+      arith,
+      length-append stated behind,
+      length-append rest others,
+      length-append r.rests idle,
+      length-replicate (private_count c - needed_count c) ops.zero,
+      long_stated,
+      long_rest,
+      r.rests_size,
+      padded_most (needed_count c),
+    ) in (
       private,
       whole,
       record {
@@ -343,6 +365,6 @@ satisfied_backward c w m public h =
             (subst (λ (l : List Gold). AreSatisfying ops of_number (length m) (map of_number (digest_words m)) l) (λ i. sym front_at_ i ++ sym rest_at i) (message_satisfies_parts m short bytes)));
         pseudonyms =
             subst (λ (l : List Gold). AreHashed c.fields c.shows (drop 8 public) l (drop (s + hash_rest) private)) (sym own_at)
-            (subst (λ (l : List Gold). AreHashed c.fields c.shows (drop 8 public) (r.own ++ []) l) (sym rests_at) (r.hashed [] []));
+            (subst (λ (l : List Gold). AreHashed c.fields c.shows (drop 8 public) (r.own ++ []) l) (sym rests_at) (r.hashed [] idle));
       },
     )

@@ -1,7 +1,7 @@
 -- Where the private inputs of a policy's circuit stand. In order: the bits of the record, the highest of a byte first;
 -- for what is shown, one after another, bits of differences and of dates, the lowest first, and those of a pseudonym's
 -- message; the rest of the record's hash; the rests of the pseudonyms' hashes.
-use Rattle.std.specs.Prelude.{ℕ, ◌+◌, ◌*◌, List, [], ◌∷◌, slice_get, Option, Some, None}
+use Rattle.std.specs.Prelude.{ℕ, ◌+◌, ◌-◌, ◌*◌, nat_lt, max, if◌then◌else◌, List, [], ◌∷◌, slice_get, Option, Some, None}
 use Rattle.lzk_policy.specs.declared.policy.RecordField.{RecordField}
 use Rattle.lzk_policy.specs.declared.policy.Claim.{Claim}
 use Rattle.lzk_policy.specs.declared.policy.Claim.TheVariants as claims
@@ -47,12 +47,25 @@ abbrev pub rests_of : List Show → ℕ
 rests_of [] = 0
 rests_of (s ∷ ss) = rest_of_claim s.claim + rests_of ss
 
--- how many private inputs the statement has, and the whole circuit
+-- how many private inputs the statement has, and how many have a meaning
 abbrev pub stated_count : Contents → ℕ
 stated_count p = 8 * p.size + owns_of p.fields p.shows
 
+abbrev pub needed_count : Contents → ℕ
+needed_count p = stated_count p + (hash_rest + rests_of p.shows)
+
+-- With idle ones behind them, where these make a proof shorter: past 16384 committed numbers a row has 256 of them and
+-- not 128, so that there are half as many rows.
+unfoldable pub padded : ℕ → ℕ
+padded needed = if nat_lt needed 9000 then needed else max needed 16384
+
+-- how many private inputs the whole circuit has
 abbrev pub private_count : Contents → ℕ
-private_count p = stated_count p + (hash_rest + rests_of p.shows)
+private_count p = padded (needed_count p)
+
+-- how many of them are idle
+abbrev pub idle_count : Contents → ℕ
+idle_count p = private_count p - needed_count p
 
 -- how many asserts the statement has for what is shown of a field, and for all
 abbrev pub asserts_of_claim : RecordField → Claim → ℕ

@@ -15,7 +15,8 @@ ghost use Rattle.lzk_policy_circuit.specs.Met.{AreStated, IsHashed, AreHashed, S
 ghost use Rattle.lzk_policy_circuit.specs.Causes.{IsPolicyCause};
 
 use crate::counts::{
-    HASH_REST, field_of, own_of_claim, owns_of, rest_of_claim, rests_of, value_count, values_of,
+    HASH_REST, field_of, own_of_claim, owns_of, padded, rest_of_claim, rests_of, value_count,
+    values_of,
 };
 use crate::error::PolicyCircuitError;
 use crate::places::{hash_places, row};
@@ -227,7 +228,7 @@ pub fn policy_circuit(alloc: Global, policy: &Policy) -> Result<Circuit<Gold>, P
     let (fields, shows) = (policy.fields(), policy.shows());
     let publics = 8 + values_of(shows);
     let stated = 8 * size + owns_of(fields, shows);
-    let privates = stated + (HASH_REST + rests_of(shows));
+    let privates = padded(stated + (HASH_REST + rests_of(shows)));
     let statement = stated_circuit(alloc, policy, publics, stated)?;
     let record = with_hash(alloc, publics, privates, &statement, size, 0, 0, stated)?;
     with_pseudonyms(

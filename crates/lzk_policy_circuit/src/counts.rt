@@ -6,10 +6,15 @@ ghost use Rattle.lzk_policy.specs.Policies.{IsShowOf, suits};
 ghost use Rattle.lzk_policy_circuit.specs.Layout as layout;
 ghost use Rattle.lzk_policy_circuit.specs.Meaning as meaning;
 
-use lzk_policy::{Claim, RecordField, Show};
+use lzk_policy::{Claim, Policy, RecordField, Show};
 
 /// The private inputs of a hash beside the bits of its message.
 pub const HASH_REST: u32 = 6376;
+
+/// From so many private inputs on idle ones make a proof shorter, up to so many in all.
+const IDLE_FROM: u32 = 9000;
+
+const IDLE_TO: u32 = 16_384;
 
 /// How many public inputs go with what is shown.
 pub fn value_count(claim: &Claim) -> u32
@@ -63,6 +68,20 @@ pub fn field_of<'a>(fields: &'a [RecordField], show: &Show) -> &'a RecordField
     &fields[show.field as usize]
 }
 
+/// How many private inputs there are where so many have a meaning: some are idle where these make a proof shorter.
+#[tactic(auto, unfolding(crate::specs::Layout::padded))]
+pub fn padded(needed: u32) -> u32
+    ensures count { result ≡ layout.padded needed }
+    ensures enough { needed ≤ result }
+    ensures few { needed ≤ 65536 → result ≤ 65536 }
+{
+    if needed < IDLE_FROM {
+        needed
+    } else {
+        needed.max(IDLE_TO)
+    }
+}
+
 /// How many public inputs go with all that is shown.
 pub fn values_of(shows: &[Show]) -> u32
     requires { length shows.now ≤ 8 }
@@ -99,4 +118,13 @@ pub fn rests_of(shows: &[Show]) -> u32
         return 0;
     };
     rest_of_claim(&show.claim) + rests_of(others)
+}
+
+/// How many private inputs of a policy's circuit are idle: they are the last, and may be anything.
+pub fn idle_count(policy: &Policy) -> u32
+    ensures { result ≡ layout.idle_count policy.now }
+{
+    let stated = 8 * policy.size() + owns_of(policy.fields(), policy.shows());
+    let needed = stated + (HASH_REST + rests_of(policy.shows()));
+    padded(needed) - needed
 }

@@ -23,4 +23,5 @@ mod places;
 mod shows;
 
 pub use circuit::policy_circuit;
+pub use counts::idle_count;
 pub use error::PolicyCircuitError;

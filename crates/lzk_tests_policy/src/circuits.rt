@@ -49,7 +49,8 @@ fn push_bit(bits: &mut Vec<Gold>, bit: u128) -> Result<(), AllocError> {
     Ok(())
 }
 
-fn private_inputs(alloc: Global) -> Result<Vec<Gold>, AllocError> {
+// The bits, and zeros for inputs that are idle.
+fn private_inputs(alloc: Global, count: u32) -> Result<Vec<Gold>, AllocError> {
     let mut bits = Vec::new(alloc);
     for digit in PRIVATE.as_bytes() {
         let number = digit_value(*digit);
@@ -58,6 +59,7 @@ fn private_inputs(alloc: Global) -> Result<Vec<Gold>, AllocError> {
         push_bit(&mut bits, number / 2 % 2)?;
         push_bit(&mut bits, number % 2)?;
     }
+    bits.resize(count as usize, Gold::zero())?;
     Ok(bits)
 }
 
@@ -91,7 +93,7 @@ fn a_record_satisfies_its_policy(rt: HostRuntime) -> Result<(), Fail> {
         return Ok(());
     };
     let public = public_inputs(alloc)?;
-    let private = private_inputs(alloc)?;
+    let private = private_inputs(alloc, circuit.privates())?;
     assert!(rt; holds(alloc, &circuit, &public, &private)?);
     Ok(())
 }
@@ -103,7 +105,7 @@ fn changed_numbers_do_not(rt: HostRuntime) -> Result<(), Fail> {
         assert!(rt; false);
         return Ok(());
     };
-    let private = private_inputs(alloc)?;
+    let private = private_inputs(alloc, circuit.privates())?;
     for (place, number) in CHANGED {
         let mut public = public_inputs(alloc)?;
         if let Some(old) = public.get_mut(place) {

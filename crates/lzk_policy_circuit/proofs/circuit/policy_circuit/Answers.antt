@@ -7,7 +7,7 @@ use Rattle.lzk_circuit.specs.Checks.{IsSatisfied}
 use Rattle.lzk_circuit.specs.Wires.{inputs_of}
 use Rattle.lzk_sha_circuit.specs.Outputs.{AreSatisfying}
 use Rattle.lzk_policy_circuit.specs.Meaning.{values_of, public_count}
-use Rattle.lzk_policy_circuit.specs.Layout.{owns_of, rests_of, stated_count, private_count}
+use Rattle.lzk_policy_circuit.specs.Layout.{owns_of, rests_of, stated_count, private_count, padded}
 use Rattle.lzk_policy_circuit.specs.Met.{AreStated, AreHashed, Satisfy}
 use Rattle.lzk_policy_circuit.proofs.Answering.{ok_all, ok_map, ok_both}
 use Rattle.lzk_policy_circuit.proofs.Joined.{then_iff, whole_satisfied, shown_exactly}
@@ -24,14 +24,14 @@ satisfied_by c public private np nq =
     let ep : 8 + c.values_of-publics.result ≡ public_count p = λ i. 8 + (c.values_of-publics.ensures.count ∙ (λ j. values_of (shows j))) i in
     let es : stated ≡ stated_count p = λ i. 8 * size i + (c.owns_of.ensures.count ∙ (λ j. owns_of (fields j) (shows j))) i in
     let er : c.rests_of.result ≡ rests_of p.shows = c.rests_of.ensures.count ∙ (λ j. rests_of (shows j)) in
-    let eq : stated + (6376 + c.rests_of.result) ≡ private_count p = λ i. es i + (6376 + er i) in
+    let eq : c.padded-privates.result ≡ private_count p = c.padded-privates.ensures.count ∙ (λ i. padded (es i + (6376 + er i))) in
     let statement = c.in_ok-statement.statement in
     let record_ = c.in_ok-record.record in
     let xs = inputs_of ops public private in
     let B = IsSatisfied ops number record_.layers xs in
     let np_ = np ∙ sym ep in
     let nq_ = nq ∙ sym eq in
-    let long : length (take stated private) ≡ stated = length-take-le stated private (omega (arith, nq_)) in
+    let long : length (take stated private) ≡ stated = length-take-le stated private (omega (arith, nq_, c.padded-privates.ensures.enough)) in
     let R = λ (n z s : ℕ). B ↔ (IsSatisfied ops number statement.layers (inputs_of ops public (take n private)) ×
     AreSatisfying ops of_number z (take 8 (drop 0 public)) (take (8 * z) (drop 0 private) ++ take 6376 (drop s private))) in
     let r = subst (λ (T : Type 0). T) (λ i. R ((c.in_ok-statement.ensures.privates ∙ es) i) (size i) (es i)) (c.in_ok-record.ensures.satisfied public private np_ nq_) in
@@ -49,7 +49,7 @@ private_counted c =
     let size = c.size-size.ensures.size in
     let es : 8 * c.size-size.result + c.owns_of.result ≡ stated_count p = λ i. 8 * size i + (c.owns_of.ensures.count ∙ (λ j. owns_of (fields j) (shows j))) i in
     let er : c.rests_of.result ≡ rests_of p.shows = c.rests_of.ensures.count ∙ (λ j. rests_of (shows j)) in
-    ok_map c.with_pseudonyms.result _ _ c.with_pseudonyms.ensures.privates (λ w e. e ∙ c.in_ok-record.ensures.privates ∙ (λ i. es i + (6376 + er i)))
+    ok_map c.with_pseudonyms.result _ _ c.with_pseudonyms.ensures.privates (λ w e. e ∙ c.in_ok-record.ensures.privates ∙ c.padded-privates.ensures.count ∙ (λ i. padded (es i + (6376 + er i))))
 
 pub returns-clause-shown : goal.returns-clause-shown
 returns-clause-shown c = λ public np.

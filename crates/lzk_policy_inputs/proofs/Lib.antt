@@ -1,0 +1,4 @@
+pub mod Bits
+pub mod Claims
+pub mod Shows
+pub mod Places

@@ -1,0 +1,225 @@
+//! The inputs of what is shown, one thing after another.
+
+ghost use Rattle.std.specs.Prelude.{◌≡◌, ℕ, ◌<◌, ◌≤◌, ◌+◌, ◌-◌, ◌^◌, [], ◌∷◌, ◌++◌, IsTrue, IfOk, OnOk, length, map};
+ghost use Rattle.std.specs.List.{AllByRecursion};
+ghost use Rattle.lzk_goldilocks.specs.Elements.{of_number};
+ghost use Rattle.lzk_sha_circuit.specs.Digest.{digest_words};
+ghost use Rattle.lzk_policy.specs.Policies.{IsField, IsShowOf, suits};
+ghost use Rattle.lzk_policy_circuit.specs.Meaning as meaning;
+ghost use Rattle.lzk_policy_circuit.specs.Layout as layout;
+ghost use Rattle.lzk_policy_inputs.specs.Chosen.{numbers_of, joined};
+ghost use Rattle.lzk_policy_inputs.specs.Refused.{IsRight, AtAll};
+ghost use Rattle.lzk_policy_inputs.specs.Filled.{low_bits, order_bits, front_of, rest_of, own_of, hashed_of};
+
+use crate::check::field_of;
+use crate::value::{Value, chosen_number, own_number};
+use lzk_field::Field;
+use lzk_gadgets::spelling;
+use lzk_goldilocks::Gold;
+use lzk_policy::{Claim, Policy, RecordField, Show, number_at};
+use lzk_sha_circuit::sha_inputs;
+use std::alloc::{AllocError, Global};
+
+/// The inputs so far.
+#[derive(Drop)]
+pub struct Draft {
+    /// The public inputs.
+    pub public: Vec<Gold>,
+    /// The private inputs of the statement.
+    pub stated: Vec<Gold>,
+    /// The other private inputs of hashes.
+    pub hashed: Vec<Gold>,
+}
+
+// Appends 32 bits of a number, the lowest first.
+fn append_bits(alloc: Global, number: u64, bits: &mut Vec<Gold>) -> Result<(), AllocError>
+    requires { number < 2 ^ 32 }
+    ensures { OnOk result (bits.new.items ≡ bits.old.items ++ low_bits 32 number) }
+{
+    let word = spelling(alloc, number, 32)?;
+    bits.extend_from_slice(&word)?;
+    Ok(())
+}
+
+// A service's tag as four numbers.
+fn tag_numbers(tag: &[u8; 16]) -> [Gold; 4]
+    ensures { result ≡ map of_number (meaning.tag_words tag.now) }
+{
+    [
+        Gold::of_word(u128::from(number_at(tag, 0, 4))),
+        Gold::of_word(u128::from(number_at(tag, 4, 4))),
+        Gold::of_word(u128::from(number_at(tag, 8, 4))),
+        Gold::of_word(u128::from(number_at(tag, 12, 4))),
+    ]
+}
+
+// The message whose digest is the pseudonym for the service with a tag.
+fn pseudonym_message(
+    alloc: Global,
+    bytes: &[u8],
+    field: &RecordField,
+    tag: &[u8; 16],
+) -> Result<Vec<u8>, AllocError>
+    requires { field.now.place + field.now.size ≤ length bytes.now }
+    ensures message { IfOk result (λ m. m.items ≡ meaning.pseudonym_message bytes.now field.now tag.now) }
+    ensures size { IfOk result (λ m. length m.items ≡ layout.message_size field.now) }
+{
+    let (start, size) = (field.place as usize, field.size as usize);
+    let mut message = Vec::from_slice(alloc, b"LZP1")?;
+    message.extend_from_slice(&bytes[start..start + size])?;
+    message.extend_from_slice(tag)?;
+    Ok(message)
+}
+
+impl Draft {
+    /// No inputs.
+    pub fn new(alloc: Global) -> Draft
+        ensures public { result.public.items ≡ [] }
+        ensures stated { result.stated.items ≡ [] }
+        ensures hashed { result.hashed.items ≡ [] }
+    {
+        Draft {
+            public: Vec::new(alloc),
+            stated: Vec::new(alloc),
+            hashed: Vec::new(alloc),
+        }
+    }
+
+    // Appends a number that is told.
+    fn append_number(&mut self, number: u64) -> Result<(), AllocError>
+        ensures public { OnOk result (self.new.public.items ≡ self.old.public.items ++ of_number number ∷ []) }
+        ensures stated { self.new.stated.items ≡ self.old.stated.items }
+        ensures hashed { self.new.hashed.items ≡ self.old.hashed.items }
+    {
+        self.public.push(Gold::of_word(u128::from(number)))?;
+        Ok(())
+    }
+
+    // Appends a date that is told, and the bits of a difference and of the date.
+    fn append_order(
+        &mut self,
+        alloc: Global,
+        difference: u64,
+        number: u64,
+    ) -> Result<(), AllocError>
+        requires difference { difference < 2 ^ 32 }
+        requires number { number < 2 ^ 32 }
+        ensures public { OnOk result (self.new.public.items ≡ self.old.public.items ++ of_number number ∷ []) }
+        ensures stated { OnOk result (self.new.stated.items ≡ self.old.stated.items ++ order_bits difference number) }
+        ensures hashed { self.new.hashed.items ≡ self.old.hashed.items }
+    {
+        self.append_number(number)?;
+        append_bits(alloc, difference, &mut self.stated)?;
+        append_bits(alloc, number, &mut self.stated)?;
+        Ok(())
+    }
+
+    /// Appends the words of a message's digest, the message's bits and the rest of its hash.
+    pub fn append_hash(&mut self, alloc: Global, message: &[u8]) -> Result<(), AllocError>
+        requires { length message.now ≤ 55 }
+        ensures public { OnOk result
+            (self.new.public.items ≡ self.old.public.items ++ map of_number (digest_words message.now)) }
+        ensures stated { OnOk result
+            (self.new.stated.items ≡ self.old.stated.items ++ front_of (length message.now) message.now) }
+        ensures hashed { OnOk result
+            (self.new.hashed.items ≡ self.old.hashed.items ++ rest_of (length message.now) message.now) }
+    {
+        let inputs = sha_inputs(alloc, message)?;
+        let (front, rest) = inputs.private.split_at(8 * message.len());
+        self.public.extend_from_slice(&inputs.public)?;
+        self.stated.extend_from_slice(front)?;
+        self.hashed.extend_from_slice(rest)
+    }
+
+    // Appends a service's tag and the pseudonym for it.
+    fn append_pseudonym(
+        &mut self,
+        alloc: Global,
+        bytes: &[u8],
+        field: &RecordField,
+        tag: &[u8; 16],
+    ) -> Result<(), AllocError>
+        requires within { field.now.place + field.now.size ≤ length bytes.now }
+        requires few { layout.message_size field.now ≤ 55 }
+        ensures public { OnOk result (self.new.public.items ≡ self.old.public.items
+            ++ (map of_number (meaning.tag_words tag.now)
+            ++ map of_number (digest_words (meaning.pseudonym_message bytes.now field.now tag.now)))) }
+        ensures stated { OnOk result (self.new.stated.items ≡ self.old.stated.items
+            ++ front_of (layout.message_size field.now) (meaning.pseudonym_message bytes.now field.now tag.now)) }
+        ensures hashed { OnOk result (self.new.hashed.items ≡ self.old.hashed.items
+            ++ rest_of (layout.message_size field.now) (meaning.pseudonym_message bytes.now field.now tag.now)) }
+    {
+        let message = pseudonym_message(alloc, bytes, field, tag)?;
+        self.public.extend_from_slice(&tag_numbers(tag))?;
+        self.append_hash(alloc, &message)?;
+        Ok(())
+    }
+
+    // Appends the inputs of what is shown of a field.
+    fn append_claim(
+        &mut self,
+        alloc: Global,
+        bytes: &[u8],
+        field: &RecordField,
+        claim: &Claim,
+        value: &Value,
+    ) -> Result<(), AllocError>
+        requires field { IsField (length bytes.now) field.now }
+        requires suits { IsTrue (suits field.now claim.now) }
+        requires right { IsRight bytes.now field.now claim.now value.now }
+        ensures public { OnOk result (self.new.public.items
+            ≡ self.old.public.items ++ numbers_of bytes.now field.now claim.now value.now) }
+        ensures stated { OnOk result (self.new.stated.items
+            ≡ self.old.stated.items ++ own_of bytes.now field.now claim.now value.now) }
+        ensures hashed { OnOk result (self.new.hashed.items
+            ≡ self.old.hashed.items ++ hashed_of bytes.now field.now claim.now value.now) }
+    {
+        match claim {
+            Claim::AtMost(_) => {
+                let number = chosen_number(bytes, field, value);
+                self.append_order(alloc, number - own_number(bytes, field), number)
+            }
+            Claim::AtLeast(_) => {
+                let number = chosen_number(bytes, field, value);
+                self.append_order(alloc, own_number(bytes, field) - number, number)
+            }
+            Claim::Equal(_) => self.append_number(chosen_number(bytes, field, value)),
+            Claim::OneOf(_) => Ok(()),
+            Claim::Pseudonym(_) => match value {
+                Value::Tag(tag) => self.append_pseudonym(alloc, bytes, field, tag),
+                _ => Ok(()),
+            },
+        }
+    }
+
+    /// Appends the inputs of all that is shown.
+    pub fn append_shows(
+        &mut self,
+        alloc: Global,
+        policy: &Policy,
+        bytes: &[u8],
+        shows: &[Show],
+        values: &[Value],
+    ) -> Result<(), AllocError>
+        requires size { length bytes.now ≡ policy.now.size }
+        requires shows { AllByRecursion (IsShowOf policy.now.fields) shows.now }
+        requires right { AtAll (IsRight bytes.now) policy.now.fields shows.now values.now }
+        ensures public { OnOk result (self.new.public.items
+            ≡ self.old.public.items ++ joined (numbers_of bytes.now) policy.now.fields shows.now values.now) }
+        ensures stated { OnOk result (self.new.stated.items
+            ≡ self.old.stated.items ++ joined (own_of bytes.now) policy.now.fields shows.now values.now) }
+        ensures hashed { OnOk result (self.new.hashed.items
+            ≡ self.old.hashed.items ++ joined (hashed_of bytes.now) policy.now.fields shows.now values.now) }
+    {
+        let Some((show, others)) = shows.split_first() else {
+            return Ok(());
+        };
+        let Some((value, behind)) = values.split_first() else {
+            return Ok(());
+        };
+        let field = field_of(policy, show);
+        self.append_claim(alloc, bytes, field, &show.claim, value)?;
+        self.append_shows(alloc, policy, bytes, others, behind)?;
+        Ok(())
+    }
+}

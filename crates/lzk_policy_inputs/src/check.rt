@@ -1,0 +1,70 @@
+//! Whether what is shown is true of a record.
+
+ghost use Rattle.std.specs.Prelude.{◌≡◌, ℕ, ◌<◌, ◌≤◌, ◌+◌, ◌↔◌, IsTrue, IfOk, IfErr, length, slice_get, Some};
+ghost use Rattle.lzk_policy.specs.Policies.{IsPolicy, IsField, IsShowOf, suits};
+ghost use Rattle.lzk_policy_circuit.specs.Meaning.{AreBytesOf, IsTrueOf};
+ghost use Rattle.lzk_policy_inputs.specs.Chosen.{HasKind, numbers_of};
+ghost use Rattle.lzk_policy_inputs.specs.Refused.{IsRightBefore, IsRefused};
+
+use crate::error::InputsError;
+use crate::value::{Value, chosen_number, has_kind, own_number};
+use lzk_policy::{Claim, Policy, RecordField, Show};
+
+/// How many numbers there are of four bytes.
+const DATES: u64 = 1 << 32;
+
+/// Whether what is shown of a field is true of the record with its value.
+pub fn is_true(bytes: &[u8], field: &RecordField, claim: &Claim, value: &Value) -> bool
+    requires field { IsField (length bytes.now) field.now }
+    requires suits { IsTrue (suits field.now claim.now) }
+    requires kind { HasKind claim.now value.now }
+    ensures { IsTrue result ↔ IsTrueOf bytes.now field.now claim.now
+        (numbers_of bytes.now field.now claim.now value.now) }
+{
+    match claim {
+        Claim::AtMost(_) => {
+            let number = chosen_number(bytes, field, value);
+            own_number(bytes, field) <= number && number < DATES
+        }
+        Claim::AtLeast(_) => chosen_number(bytes, field, value) <= own_number(bytes, field),
+        Claim::Equal(_) => chosen_number(bytes, field, value) == own_number(bytes, field),
+        Claim::OneOf(texts) => texts.numbers().contains(&own_number(bytes, field)),
+        Claim::Pseudonym(_) => true,
+    }
+}
+
+/// The field of which something is shown.
+pub fn field_of<'a>(policy: &'a Policy, show: &Show) -> &'a RecordField
+    requires { IsShowOf policy.now.fields show.now }
+    ensures there { slice_get policy.now.fields show.now.field ≡ Some result.now }
+    ensures suits { IsTrue (suits result.now show.now.claim) }
+    ensures field { IsField policy.now.size result.now }
+{
+    let _size = policy.size();
+    &policy.fields()[show.field as usize]
+}
+
+/// Whether all that is shown is true of the record with the values; otherwise the first thing that is wrong.
+pub fn check(policy: &Policy, bytes: &[u8], values: &[Value]) -> Result<(), InputsError>
+    ensures policy { IsPolicy policy.now }
+    ensures right { IfOk result (λ _. IsRightBefore policy.now bytes.now values.now (length policy.now.shows)) }
+    ensures refusal { IfErr result (IsRefused policy.now bytes.now values.now) }
+{
+    if bytes.len() != policy.size() as usize {
+        return Err(InputsError::Record);
+    }
+    let shows = policy.shows();
+    if values.len() != shows.len() {
+        return Err(InputsError::Count);
+    }
+    for place in 0..shows.len() {
+        let (show, value) = (&shows[place], &values[place]);
+        if !has_kind(&show.claim, value) {
+            return Err(InputsError::Kind(place as u32));
+        }
+        if !is_true(bytes, field_of(policy, show), &show.claim, value) {
+            return Err(InputsError::False(place as u32));
+        }
+    }
+    Ok(())
+}
