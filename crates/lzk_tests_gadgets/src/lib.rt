@@ -1,9 +1,11 @@
-//! Tests of `lzk_beside` and `lzk_gadgets`: circuits side by side with values of an independent implementation, and
-//! gadgets at numbers on both sides of what they claim.
+//! Tests of `lzk_beside`, `lzk_gadgets` and `lzk_gadgets_circuits`: circuits side by side with values of an independent
+//! implementation, and gadgets at numbers on both sides of what they claim.
 //!
 //! They stand above what they test, so that those crates are proved once and not again with their tests.
 #![tactic(auto)]
 
+#[cfg(test)]
+mod circuits;
 #[cfg(test)]
 mod gadgets;
 #[cfg(test)]

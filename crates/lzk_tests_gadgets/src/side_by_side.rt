@@ -3,7 +3,7 @@
 ghost use Rattle.std.specs.Prelude.{◌<◌, ◌↔◌, IfSome, IsTrue, EachIndex, slice_index};
 ghost use Rattle.lzk_reduce.specs.Renumbering.{AreNumbersBelow};
 
-use lzk_beside::{BesideError, Part, beside};
+use lzk_beside::{AnyPart, BesideError, Part, beside, beside_any};
 use lzk_circuit::{Circuit, Layer, Term, Terms, Values};
 use lzk_field::Field;
 use lzk_gf128::Gf128;
@@ -52,6 +52,21 @@ const PUBLIC: [u128; 2] = [7, 11];
 
 const PRIVATE: [u128; 3] = [13, 17, 19];
 
+// Two layers of version 2 over 1 public and 2 private inputs. A wire that is named above and an output are asserted.
+const ASSERTING: [Row; 7] = [
+    (0, 0, 0, 1, 1),
+    (0, 1, 1, 2, 1),
+    (0, 2, 3, 3, 0),
+    (1, 0, 0, 0, 1),
+    (1, 1, 1, 2, 1),
+    (1, 2, 2, 3, 0),
+    (1, 3, 0, 3, 2),
+];
+
+const ASSERTING_PLACES: [u32; 3] = [4, 1, 2];
+
+const OTHER_PLACES: [u32; 3] = [5, 5, 0];
+
 // The outputs that an independent implementation gives for the parts over these inputs.
 const GOLD_DEEP: [u128; 4] = [81_984, 448, 13, 81_984];
 
@@ -60,6 +75,15 @@ const GOLD_FLAT: [u128; 2] = [357, 15];
 const GF_DEEP: [u128; 4] = [9_762, 158, 13, 9_762];
 
 const GF_FLAT: [u128; 2] = [153, 15];
+
+// The outputs and then the asserted product, over the first places and over the others.
+const GOLD_ASSERTING: [u128; 4] = [119, 0, 484, 77];
+
+const GOLD_OTHER: [u128; 4] = [361, 0, 4, 19];
+
+const GF_ASSERTING: [u128; 4] = [119, 0, 276, 49];
+
+const GF_OTHER: [u128; 4] = [261, 0, 4, 19];
 
 fn layer_of<F: Field>(
     alloc: Global,
@@ -157,6 +181,48 @@ fn both_orders<F: Field>(
     )
 }
 
+fn asserting<F: Field>(alloc: Global) -> Result<Option<Circuit<F>>, AllocError> {
+    let mut layers = Vec::new(alloc);
+    layers.push(layer_of(alloc, &ASSERTING, 0, 3)?)?;
+    layers.push(layer_of(alloc, &ASSERTING, 1, 4)?)?;
+    Ok(Circuit::of_version(2, 1, 2, layers).ok())
+}
+
+// Whether an asserting circuit beside a deeper one, and beside itself over other inputs, has these checks: the outputs
+// of both, and then what the inner layers assert.
+fn has_asserts<F: Field>(
+    alloc: Global,
+    deep_outputs: &[u128],
+    one: &[u128; 4],
+    other: &[u128; 4],
+) -> Result<bool, BesideError> {
+    let (Some(deep), Some(one_part)) = (deep::<F>(alloc)?, asserting::<F>(alloc)?) else {
+        return Ok(false);
+    };
+    let Some(other_part) = asserting::<F>(alloc)? else {
+        return Ok(false);
+    };
+    let Some(deep) = any_part_of(&deep, &DEEP_PLACES) else {
+        return Ok(false);
+    };
+    let Some(first) = any_part_of(&one_part, &ASSERTING_PLACES) else {
+        return Ok(false);
+    };
+    let Some(second) = any_part_of(&other_part, &OTHER_PLACES) else {
+        return Ok(false);
+    };
+    let below = beside_any(alloc, 2, 3, &deep, &first)?;
+    let twice = beside_any(alloc, 2, 3, &first, &second)?;
+    let outputs = [
+        one[0], one[1], one[2], other[0], other[1], other[2], one[3], other[3],
+    ];
+    Ok(
+        below.version() == 2
+            && has_outputs(alloc, &below, deep_outputs, one)?
+            && has_outputs(alloc, &twice, &outputs, &[])?,
+    )
+}
+
 // Whether each place is a wire of the input layer of 2 public and 3 private inputs.
 fn are_below(places: &[u32]) -> bool
     ensures { IsTrue result ↔ EachIndex places.now (λ k. slice_index places.now k < 6) }
@@ -174,10 +240,38 @@ fn part_of<'a, F: Field>(circuit: &'a Circuit<F>, places: &'a [u32]) -> Option<P
     None
 }
 
+fn any_part_of<'a, F: Field>(circuit: &'a Circuit<F>, places: &'a [u32]) -> Option<AnyPart<'a, F>>
+    ensures { IfSome result (λ part. AreNumbersBelow 6 part.places.now) }
+{
+    let count = circuit.publics() as usize + circuit.privates() as usize;
+    if places.len() == count && are_below(places) {
+        return Some(AnyPart { circuit, places });
+    }
+    None
+}
+
 #[test]
 fn outputs_are_those_of_the_parts(rt: HostRuntime) -> Result<(), Fail> {
     let alloc = rt.alloc();
     assert!(rt; matches!(both_orders::<Gold>(alloc, &GOLD_DEEP, &GOLD_FLAT), Ok(true)));
     assert!(rt; matches!(both_orders::<Gf128>(alloc, &GF_DEEP, &GF_FLAT), Ok(true)));
+    Ok(())
+}
+
+#[test]
+fn asserts_are_those_of_the_parts(rt: HostRuntime) -> Result<(), Fail> {
+    let alloc = rt.alloc();
+    assert!(rt;
+        matches!(
+            has_asserts::<Gold>(alloc, &GOLD_DEEP, &GOLD_ASSERTING, &GOLD_OTHER),
+            Ok(true)
+        )
+    );
+    assert!(rt;
+        matches!(
+            has_asserts::<Gf128>(alloc, &GF_DEEP, &GF_ASSERTING, &GF_OTHER),
+            Ok(true)
+        )
+    );
     Ok(())
 }
