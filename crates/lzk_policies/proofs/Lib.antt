@@ -1,0 +1,3 @@
+pub mod Placed
+pub mod Seen
+pub mod Under

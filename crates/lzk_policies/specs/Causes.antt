@@ -1,0 +1,20 @@
+-- When a policy and a depth give no circuit.
+use Rattle.std.specs.Prelude.{ℕ, ◌<◌}
+use Rattle.lzk_beside.specs.Levels.{IsCause}
+use Rattle.lzk_circuit.specs.Valid.{Wiring}
+use Rattle.lzk_goldilocks.specs.declared.element.Gold.{Gold}
+use Rattle.lzk_policy.specs.Policies.{Contents}
+use Rattle.lzk_policy_circuit.specs.Causes.{IsPolicyCause}
+use Rattle.lzk_sha_path.specs.Causes.{IsPathCause}
+use Rattle.lzk_policies.specs.Rooted.{private_count}
+use Rattle.lzk_policies.specs.declared.error.RootedError.{RootedError}
+use Rattle.lzk_policies.specs.declared.error.RootedError.TheVariants.{Policy, Path, Privates, Beside, OutOfMemory}
+
+-- the policy gives none, or the depth does, or there are too many private inputs, or the two do not stand side by side,
+-- or memory ran out
+abbrev pub IsRootedCause : Contents → ℕ → RootedError → Type 0
+IsRootedCause p depth (Policy e) = IsPolicyCause e
+IsRootedCause p depth (Path e) = IsPathCause depth e
+IsRootedCause p depth Privates = 65536 < private_count p depth
+IsRootedCause p depth (Beside e) = (first : Wiring Gold) × (second : Wiring Gold) × IsCause first second e
+IsRootedCause p depth OutOfMemory = Unit {0}

@@ -1,0 +1,62 @@
+//! Why a policy and a depth give no circuit.
+
+ghost use Rattle.std.specs.Prelude.{◌≡◌};
+ghost use Rattle.lzk_policies.specs.declared.error.RootedError.TheVariants.{OutOfMemory, Path, Policy};
+
+use lzk_beside::BesideError;
+use lzk_policy_circuit::PolicyCircuitError;
+use lzk_sha_path::PathError;
+use std::alloc::{AllocError, AllocFailed};
+use thiserror::Error;
+
+/// Why there is no circuit of a record under a root.
+#[derive(Debug, Drop, Error)]
+pub enum RootedError {
+    /// The policy has no circuit.
+    #[error("{0}")]
+    Policy(PolicyCircuitError),
+    /// The path has no circuit.
+    #[error("{0}")]
+    Path(PathError),
+    /// A circuit has at most 65,536 private inputs.
+    #[error("more than 65536 private inputs")]
+    Privates,
+    /// The two do not stand beside one another.
+    #[error("{0}")]
+    Beside(BesideError),
+    /// There was no memory.
+    #[error("out of memory")]
+    OutOfMemory,
+}
+
+impl From<AllocError> for RootedError {
+    ghost from_gives = { λ _ e. e ≡ OutOfMemory };
+
+    fn from(_e: AllocError) -> RootedError {
+        RootedError::OutOfMemory
+    }
+}
+
+impl<T: Drop> From<AllocFailed<T>> for RootedError {
+    ghost from_gives = { λ _ e. e ≡ OutOfMemory };
+
+    fn from(_e: AllocFailed<T>) -> RootedError {
+        RootedError::OutOfMemory
+    }
+}
+
+impl From<PolicyCircuitError> for RootedError {
+    ghost from_gives = { λ error e. e ≡ Policy error };
+
+    fn from(error: PolicyCircuitError) -> RootedError {
+        RootedError::Policy(error)
+    }
+}
+
+impl From<PathError> for RootedError {
+    ghost from_gives = { λ error e. e ≡ Path error };
+
+    fn from(error: PathError) -> RootedError {
+        RootedError::Path(error)
+    }
+}

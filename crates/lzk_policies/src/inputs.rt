@@ -1,0 +1,174 @@
+//! The inputs of a record under a root.
+
+ghost use Rattle.std.specs.Prelude.{◌≡◌, ℕ, ◌+◌, ◌≤◌, ◌<◌, ◌^◌, List, ◌++◌, take, drop, length, IfOk, IfErr};
+ghost use Rattle.sha2.specs.Sha256.{word_at};
+ghost use Rattle.lzk_sha_circuit.specs.Compression.{IsState};
+ghost use Rattle.lzk_sha_circuit.specs.Digest.{digest_words};
+ghost use Rattle.lzk_sha_path.specs.Roots.{AreNodes};
+ghost use Rattle.lzk_policy.specs.Policies.{Contents};
+ghost use Rattle.lzk_policy_circuit.specs.Meaning.{public_count};
+ghost use Rattle.lzk_policy_inputs.specs.declared.value.Value as value;
+ghost use Rattle.lzk_policies.specs.Placed.{IsRootedRefusal, root_words, shown_numbers};
+ghost use Rattle.lzk_policies.specs.Rooted.{IsShownUnder, SatisfyUnder, private_count};
+
+use crate::refusal::RootedInputsError;
+use lzk_goldilocks::Gold;
+use lzk_policy::Policy;
+use lzk_policy_inputs::{PolicyInputs, Value, policy_inputs};
+use lzk_sha_path::{PathError, PathInputs, path_inputs};
+use sha2::{Digest, Sha256};
+use std::alloc::{AllocError, Global};
+use std::marker::Model;
+
+/// Where a leaf stands under a root.
+#[derive(Clone, Copy)]
+pub struct Place<'a> {
+    /// The leaf's number in its row, counted from 0.
+    pub index: u32,
+    /// The nodes beside the path from the leaf to the root, the lowest first: one to six.
+    pub siblings: &'a [[u32; 8]],
+}
+
+/// The public and the private inputs of the circuit of a record under a root.
+#[derive(Drop)]
+pub struct RootedInputs {
+    public: Vec<Gold>,
+    private: Vec<Gold>,
+}
+
+impl Model for RootedInputs {
+    ghost use Rattle.lzk_policy_inputs.specs.Both.{Inputs};
+
+    ghost Value = { Inputs };
+
+    ghost view = { λ i. record { public = i.public.items; private = i.private.items } };
+}
+
+impl RootedInputs {
+    /// The public inputs.
+    pub fn public(&self) -> &[Gold]
+        ensures { result.now ≡ self.now.public }
+    {
+        &self.public
+    }
+
+    /// The private inputs.
+    pub fn private(&self) -> &[Gold]
+        ensures { result.now ≡ self.now.private }
+    {
+        &self.private
+    }
+}
+
+// The word whose first byte stands here.
+fn word_at(digest: &[u8; 32], at: usize) -> u32
+    requires { at + 4 ≤ 32 }
+    ensures { result ≡ word_at digest.now at }
+{
+    u32::from_be_bytes([digest[at], digest[at + 1], digest[at + 2], digest[at + 3]])
+}
+
+// The words of a record's digest.
+fn digest_words(bytes: &[u8]) -> [u32; 8]
+    ensures { result ≡ digest_words bytes.now }
+{
+    let digest = Sha256::digest(bytes);
+    [
+        word_at(&digest, 0),
+        word_at(&digest, 4),
+        word_at(&digest, 8),
+        word_at(&digest, 12),
+        word_at(&digest, 16),
+        word_at(&digest, 20),
+        word_at(&digest, 24),
+        word_at(&digest, 28),
+    ]
+}
+
+// Eight words are a node. The body does nothing.
+fn word_laws(words: &[u32])
+    requires { length words.now ≡ 8 }
+    ensures { IsState words.now }
+{}
+
+// Eight words each are nodes.
+fn node_laws(nodes: &[[u32; 8]])
+    ensures { AreNodes nodes.now }
+{
+    let Some((first, others)) = nodes.split_first() else {
+        return;
+    };
+    word_laws(first);
+    node_laws(others);
+}
+
+// Whether the path has one to six levels, and the leaf's number is one of its row.
+fn check_place(place: &Place<'_>) -> Result<(), RootedInputsError>
+    ensures within { IfOk result (λ _. place.now.index < 2 ^ length place.now.siblings.now) }
+    ensures refusal { (p : Contents) (m : List ℕ) (vs : List value.Value) →
+        IfErr result (IsRootedRefusal p m vs place.now.index (length place.now.siblings.now)) }
+{
+    let depth = place.siblings.len();
+    if depth == 0 || depth > 6 {
+        return Err(RootedInputsError::Path(PathError::Depth));
+    }
+    if place.index >= 1 << depth {
+        return Err(RootedInputsError::Index);
+    }
+    Ok(())
+}
+
+// The inputs of the whole, of those of its parts.
+fn laid_out(
+    alloc: Global,
+    shown: &PolicyInputs,
+    path: &PathInputs,
+) -> Result<RootedInputs, AllocError>
+    requires shown { 8 ≤ length shown.now.public }
+    requires path { 8 ≤ length path.now.public.items }
+    ensures public { IfOk result (λ i. i.public ≡ drop 8 path.now.public.items ++ drop 8 shown.now.public) }
+    ensures private { IfOk result (λ i. i.private ≡
+        (shown.now.private ++ take 8 path.now.public.items) ++ path.now.private.items) }
+{
+    let (leaf, root) = path.public.split_at(8);
+    let mut public = Vec::from_slice(alloc, root)?;
+    public.extend_from_slice(&shown.public()[8..])?;
+    let mut private = Vec::from_slice(alloc, shown.private())?;
+    private.extend_from_slice(leaf)?;
+    private.extend_from_slice(&path.private)?;
+    Ok(RootedInputs { public, private })
+}
+
+/// The inputs of the circuit of a record under a root ([`crate::rooted_circuit`], with as many levels as there are
+/// nodes beside the path), with one value for each thing that is shown beside the root, in order.
+///
+/// A wrong place is told before a wrong record or value.
+pub fn rooted_inputs(
+    alloc: Global,
+    policy: &Policy,
+    bytes: &[u8],
+    values: &[Value],
+    place: &Place<'_>,
+) -> Result<RootedInputs, RootedInputsError>
+    ensures public { IfOk result (λ i. i.public ≡
+        root_words bytes.now place.now.index place.now.siblings.now ++
+        shown_numbers policy.now bytes.now values.now) }
+    ensures shown { IfOk result (λ i. IsShownUnder policy.now (length place.now.siblings.now) bytes.now
+        (take 8 i.public) (drop 8 i.public)) }
+    ensures publics { IfOk result (λ i. length i.public ≡ public_count policy.now) }
+    ensures privates { IfOk result (λ i.
+        length i.private ≡ private_count policy.now (length place.now.siblings.now)) }
+    ensures satisfied { IfOk result (λ i. SatisfyUnder policy.now (length place.now.siblings.now)
+        (take 8 i.public) (drop 8 i.public) i.private) }
+    ensures refusal { IfErr result (IsRootedRefusal policy.now bytes.now values.now
+        place.now.index (length place.now.siblings.now)) }
+{
+    check_place(place)?;
+    node_laws(place.siblings);
+    let leaf = digest_words(bytes);
+    word_laws(&leaf);
+    let shown = policy_inputs(alloc, policy, bytes, values)?;
+    let path = path_inputs(alloc, leaf, place.index, place.siblings)?;
+    let inputs = laid_out(alloc, &shown, &path)?;
+    Ok(inputs)
+}

@@ -1,0 +1,58 @@
+//! Why a record has no inputs under a root.
+
+ghost use Rattle.std.specs.Prelude.{◌≡◌};
+ghost use Rattle.lzk_policies.specs.declared.refusal.RootedInputsError.TheVariants.{OutOfMemory, Path, Policy};
+
+use lzk_policy_inputs::InputsError;
+use lzk_sha_path::PathError;
+use std::alloc::{AllocError, AllocFailed};
+use thiserror::Error;
+
+/// Why a record, values and a place under a root give no inputs.
+#[derive(Debug, Drop, Error)]
+pub enum RootedInputsError {
+    /// The record and the values have no inputs under the policy.
+    #[error("{0}")]
+    Policy(InputsError),
+    /// The path has no inputs.
+    #[error("{0}")]
+    Path(PathError),
+    /// The row of a leaf has two to the power of the levels' number.
+    #[error("leaf is none of its row")]
+    Index,
+    /// There was no memory.
+    #[error("out of memory")]
+    OutOfMemory,
+}
+
+impl From<AllocError> for RootedInputsError {
+    ghost from_gives = { λ _ e. e ≡ OutOfMemory };
+
+    fn from(_e: AllocError) -> RootedInputsError {
+        RootedInputsError::OutOfMemory
+    }
+}
+
+impl<T: Drop> From<AllocFailed<T>> for RootedInputsError {
+    ghost from_gives = { λ _ e. e ≡ OutOfMemory };
+
+    fn from(_e: AllocFailed<T>) -> RootedInputsError {
+        RootedInputsError::OutOfMemory
+    }
+}
+
+impl From<InputsError> for RootedInputsError {
+    ghost from_gives = { λ error e. e ≡ Policy error };
+
+    fn from(error: InputsError) -> RootedInputsError {
+        RootedInputsError::Policy(error)
+    }
+}
+
+impl From<PathError> for RootedInputsError {
+    ghost from_gives = { λ error e. e ≡ Path error };
+
+    fn from(error: PathError) -> RootedInputsError {
+        RootedInputsError::Path(error)
+    }
+}

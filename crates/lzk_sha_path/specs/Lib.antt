@@ -1,0 +1,4 @@
+pub mod Causes
+pub mod Climbs
+pub mod Levels
+pub mod Roots
