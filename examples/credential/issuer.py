@@ -2,7 +2,9 @@
 """The issuer: an Ed25519 key, and records for a person, each with a salt and a signature of its own.
 
     issuer.py key FOLDER
-    issuer.py issue FOLDER WALLET COUNT BIRTH UNTIL COUNTRY
+    issuer.py issue FOLDER POLICY PERSON WALLET COUNT
+
+PERSON is a file of TOML or JSON with the value of each date and text that POLICY has as a field.
 """
 
 import json
@@ -10,8 +12,9 @@ import os
 import secrets
 import subprocess
 import sys
+import tempfile
 
-import record as R
+import common as C
 
 
 def make_key(folder):
@@ -22,18 +25,57 @@ def make_key(folder):
     print("a key")
 
 
-def issue(folder, wallet, count, birth, until, country):
+def sign(key, message):
+    """The signature by an Ed25519 key."""
+    with tempfile.NamedTemporaryFile() as file:
+        file.write(message)
+        file.flush()
+        words = ["openssl", "pkeyutl", "-sign", "-rawin", "-inkey", key, "-in", file.name]
+        return subprocess.run(words, stdout=subprocess.PIPE, check=True).stdout
+
+
+def read_person(path):
+    with open(path, "rb") as file:
+        if path.endswith(".json"):
+            return json.load(file)
+        import tomllib  # since Python 3.11
+
+        return tomllib.load(file)
+
+
+def bytes_of(value, kind, size):
+    """A field's bytes: a date as the number YYYYMMDD, the first byte worth most, or a text as it is."""
+    found = int(value).to_bytes(size, "big") if kind == "date" else value.encode()
+    if len(found) != size:
+        raise ValueError(f"{value} has not {size} bytes")
+    return found
+
+
+def record(policy, values):
+    """A record with these fields' bytes. All else is a salt."""
+    made = bytearray(secrets.token_bytes(C.size_of(policy)))
+    for name, (_, place, size) in C.fields_of(policy).items():
+        made[place : place + size] = values[name]
+    return bytes(made)
+
+
+def issue(folder, policy_file, person_file, wallet, count):
     os.makedirs(wallet, mode=0o700)
-    # Chosen here, so the issuer knows it: docs/CREDENTIALS.md says what follows from that.
-    secret = secrets.token_bytes(16)
+    with open(policy_file, encoding="utf-8") as file:
+        policy = file.read()
+    person = read_person(person_file)
+    # Secrets are chosen here, so the issuer knows them: docs/CREDENTIALS.md says what follows from that.
+    values = {
+        name: secrets.token_bytes(size) if kind == "bytes" else bytes_of(person[name], kind, size)
+        for name, (kind, _, size) in C.fields_of(policy).items()
+    }
     records = []
     for _ in range(count):
-        record = R.record(birth, until, country, secret, secrets.token_bytes(16))
-        signature = R.sign(os.path.join(folder, "key.pem"), R.SIGNED + R.digest(record))
-        records.append({"record": record.hex(), "signature": signature.hex()})
-    path = os.path.join(wallet, "records.json")
-    with open(os.open(path, os.O_WRONLY | os.O_CREAT, 0o600), "w", encoding="utf-8") as file:
-        json.dump(records, file)
+        made = record(policy, values)
+        signature = sign(os.path.join(folder, "key.pem"), C.SIGNED + C.digest(made))
+        records.append({"record": made.hex(), "signature": signature.hex()})
+    C.write(os.path.join(wallet, "records.json"), json.dumps(records).encode())
+    C.write(os.path.join(wallet, "layout.txt"), policy.encode())
     print(f"{count} records")
 
 
@@ -41,9 +83,8 @@ def main():
     words = sys.argv[1:]
     if len(words) == 2 and words[0] == "key":
         make_key(words[1])
-    elif len(words) == 7 and words[0] == "issue":
-        _, folder, wallet, count, birth, until, country = words
-        issue(folder, wallet, int(count), int(birth), int(until), country)
+    elif len(words) == 6 and words[0] == "issue":
+        issue(*words[1:5], int(words[5]))
     else:
         print(__doc__)
         return 2

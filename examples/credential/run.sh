@@ -1,17 +1,22 @@
 #!/bin/sh
-# An issuer, wallets and services: who is let in, and what is refused. Needs Python 3, and openssl with Ed25519.
+# An issuer, wallets and services: who is let in, and what is refused. Needs Python 3.11, and openssl with Ed25519.
 here=$(cd "$(dirname "$0")" && pwd)
 # shellcheck source=examples/common.sh
 . "$here/../common.sh"
 # shellcheck disable=SC2154
 export ZK="$zk"
+export ZK_CREDENTIAL="${ZK_CREDENTIAL:-$(cd "$here/../.." && pwd)/zk-credential}"
 export PYTHONDONTWRITEBYTECODE=1
 
 # Runs one of the three programs.
 call() {
-    echo "\$ $*"
     program=$1
     shift
+    printf '$ %s' "$program"
+    for word in "$@"; do
+        printf ' %s' "${word##"$here"/}"
+    done
+    echo
     python3 "$here/$program.py" "$@" || echo "(status $?)"
 }
 
@@ -19,64 +24,75 @@ tell() {
     echo "--- $*"
 }
 
-# Adults of one country, on a day of 2026.
+# Adults on a day of 2026.
 ask() {
-    call service request "$1" "$2" "$3" 20081129 20261129 NL ${4:+"$4"}
+    call service request "$1" "$2" "$here/$3" "$4" 20081129 20261129
 }
 
 check() {
     call service check "$1" issuer/public.pem "$2" "$3"
 }
 
+issue() {
+    call issuer issue "$1" "$here/policy.txt" "$here/$2" "$3" "$4"
+}
+
+tell what a verifier learns
+"$ZK_CREDENTIAL" show "$here/policy.txt"
+tell records
 call issuer key issuer
-call issuer issue issuer ann 6 19990412 20301231 NL
-call issuer issue issuer bob 3 20120101 20301231 NL
-call issuer issue issuer eve 3 19800101 20251231 NL
+issue issuer ann.toml ann 7
+issue issuer bob.json bob 3
+issue issuer eve.toml eve 3
 tell an adult
-ask shop shop.example q1
+ask shop shop.example plain.txt q1
 call wallet ann shop.example q1 a1
 check shop q1 a1
 tell the same answer again
 check shop q1 a1
 tell the same answer in another session
-ask shop shop.example q2
+ask shop shop.example plain.txt q2
 check shop q2 a1
 tell the same, where the service lost its list of records
 mv shop/digests shop/lost
-ask shop shop.example q3
+ask shop shop.example plain.txt q3
 check shop q3 a1
 mv shop/lost shop/digests
 tell a record that was shown, proved once more
-ask shop shop.example q4
+ask shop shop.example plain.txt q4
 call wallet ann shop.example q4 a4 again
 check shop q4 a4
 tell somebody too young, and one who tries to prove it anyway
-ask shop shop.example q5
+ask shop shop.example plain.txt q5
 call wallet bob shop.example q5 a5
 call wallet bob shop.example q5 a5 anyway
 tell a record that has expired, in the same two ways
 call wallet eve shop.example q5 a5
 call wallet eve shop.example q5 a5 anyway
 tell a false service hands on the request of another
-ask shop shop.example q6
+ask shop shop.example plain.txt q6
 call wallet ann evil.example q6 a6
 tell and the same under its own name
 sed 's/shop\.example/evil.example/' q6 >q7
 call wallet ann evil.example q7 a7
 check shop q6 a7
+tell a service that asks for a secret by another name
+sed 's/text 2 at 12/text 2 at 15/' "$here/plain.txt" >spy.txt
+call service request spy spy.example spy.txt q8 20081129 20261129
+call wallet ann spy.example q8 a8
 tell a record of an issuer of its own
 call issuer key forger
-call issuer issue forger mallory 1 19990412 20301231 NL
-ask shop shop.example q8
-call wallet mallory shop.example q8 a8
-check shop q8 a8
+issue forger ann.toml mallory 1
+ask shop shop.example plain.txt q9
+call wallet mallory shop.example q9 a9
+check shop q9 a9
 tell with a pseudonym: once, by another record again, and at another service
-ask club club.example q9 pseudonym
-call wallet ann club.example q9 a9
-check club q9 a9
-ask club club.example q10 pseudonym
+ask club club.example policy.txt q10
 call wallet ann club.example q10 a10
 check club q10 a10
-ask bar bar.example q11 pseudonym
-call wallet ann bar.example q11 a11
-check bar q11 a11
+ask club club.example policy.txt q11
+call wallet ann club.example q11 a11
+check club q11 a11
+ask bar bar.example policy.txt q12
+call wallet ann bar.example q12 a12
+check bar q12 a12

@@ -1,11 +1,10 @@
 #!/usr/bin/env python3
 """The service: makes a request with a fresh nonce, and checks the answer. Every public number is its own.
 
-    service.py request FOLDER SERVICE REQUEST LATEST_BIRTH TODAY COUNTRY [pseudonym]
+    service.py request FOLDER SERVICE POLICY REQUEST LATEST TODAY
     service.py check FOLDER ISSUER_KEY REQUEST ANSWER
 
-FOLDER keeps the sessions that are open, the digests and pseudonyms that were seen, and the circuits. ZK names the
-program.
+FOLDER keeps the sessions that are open, the digests and pseudonyms that were seen, and the circuits.
 """
 
 import json
@@ -13,13 +12,10 @@ import os
 import secrets
 import subprocess
 import sys
+import tempfile
 
-import record as R
-import statement as S
-
-
-class Refused(Exception):
-    """Why nobody is let in, in words."""
+import common as C
+from common import Refused
 
 
 def path_of(folder, name):
@@ -41,16 +37,14 @@ def remember(folder, name, word):
         os.fsync(file.fileno())
 
 
-def ask(folder, service, request_file, latest_birth, today, country, flags):
+def ask(folder, service, policy_file, request_file, latest, today):
     os.makedirs(folder, exist_ok=True)
-    request = {
-        "service": service,
-        "latest_birth": int(latest_birth),
-        "today": int(today),
-        "country": country,
-        "pseudonym": "pseudonym" in flags,
-        "nonce": secrets.token_hex(16),
-    }
+    with open(policy_file, encoding="utf-8") as file:
+        policy = file.read()
+    values = {"LATEST": latest, "TODAY": today}
+    if "SERVICE" in policy.split():
+        values["SERVICE"] = C.tag_of(service).hex()
+    request = {"service": service, "policy": policy, "values": values, "nonce": secrets.token_hex(16)}
     for path in (request_file, path_of(folder, "open-" + request["nonce"])):
         with open(path, "w", encoding="utf-8") as file:
             json.dump(request, file)
@@ -69,28 +63,37 @@ def opened(folder, nonce):
     return request
 
 
-def is_proved(zk, folder, request, digest, pseudonym, proof):
+def is_signed(public_key, message, signature):
+    with tempfile.TemporaryDirectory() as folder:
+        paths = [os.path.join(folder, name) for name in ("message", "signature")]
+        for path, data in zip(paths, (message, signature)):
+            with open(path, "wb") as file:
+                file.write(data)
+        words = ["openssl", "pkeyutl", "-verify", "-rawin", "-pubin", "-inkey", public_key, "-sigfile", paths[1], "-in", paths[0]]
+        return subprocess.run(words, stdout=subprocess.DEVNULL, stderr=subprocess.DEVNULL, check=False).returncode == 0
+
+
+def is_proved(folder, request, digest, pseudonym, proof):
     numbers, proof_file = path_of(folder, "public.txt"), path_of(folder, "proof.lzp")
-    S.number_file(numbers, S.public_numbers(request, digest, pseudonym))
-    with open(proof_file, "wb") as file:
-        file.write(proof)
-    session = R.session_of(request["service"], request["nonce"])
-    words = [S.kept_circuit(zk, folder, request["pseudonym"]), numbers, proof_file, f"session={session}"]
-    ran = subprocess.run([zk, "verify", *words], stdout=subprocess.PIPE, text=True, check=False)
-    return ran.returncode == 0 and ran.stdout == "accepted\n"
+    public = C.public_numbers(request["policy"], digest, request["values"], pseudonym)
+    C.write(numbers, "".join(f"{number}\n" for number in public).encode())
+    C.write(proof_file, proof)
+    session = C.session_of(request["service"], request["nonce"])
+    words = [C.circuit_of(folder, request["policy"]), numbers, proof_file, f"session={session}"]
+    return C.run("ZK", "verify", *words) == (0, "accepted\n")
 
 
-def check(zk, folder, issuer_key, nonce, answer):
+def check(folder, issuer_key, nonce, answer):
     request = opened(folder, nonce)
     digest = bytes.fromhex(answer["digest"])
-    pseudonym = bytes.fromhex(answer["pseudonym"]) if request["pseudonym"] else None
+    pseudonym = bytes.fromhex(answer["pseudonym"]) if "SERVICE" in request["values"] else None
     if len(digest) != 32 or (pseudonym is not None and len(pseudonym) != 32):
         raise Refused("a digest has 32 bytes")
-    if not R.is_signed(issuer_key, R.SIGNED + digest, bytes.fromhex(answer["signature"])):
+    if not is_signed(issuer_key, C.SIGNED + digest, bytes.fromhex(answer["signature"])):
         raise Refused("the issuer did not sign this record")
     if digest.hex() in seen(folder, "digests"):
         raise Refused("this record was shown before")
-    if not is_proved(zk, folder, request, digest, pseudonym, bytes.fromhex(answer["proof"])):
+    if not is_proved(folder, request, digest, pseudonym, bytes.fromhex(answer["proof"])):
         raise Refused("the proof does not hold for this session")
     remember(folder, "digests", digest.hex())
     if pseudonym is not None:
@@ -101,8 +104,8 @@ def check(zk, folder, issuer_key, nonce, answer):
 
 def main():
     words = sys.argv[1:]
-    if len(words) >= 7 and words[0] == "request":
-        ask(*words[1:7], words[7:])
+    if len(words) == 7 and words[0] == "request":
+        ask(*words[1:])
         return 0
     if len(words) != 5 or words[0] != "check":
         print(__doc__)
@@ -113,8 +116,8 @@ def main():
     with open(answer_file, encoding="utf-8") as file:
         answer = json.load(file)
     try:
-        with R.alone(folder):
-            check(os.environ["ZK"], folder, issuer_key, nonce, answer)
+        with C.alone(folder):
+            check(folder, issuer_key, nonce, answer)
     except Refused as refused:
         print(f"refused: {refused}")
         return 1

@@ -3,31 +3,17 @@
 
     wallet.py WALLET SERVICE REQUEST ANSWER [anyway] [again]
 
-SERVICE is whom the wallet is connected to, by its own channel, and not what the request says. ZK names the program.
-With `anyway` it proves what is not true, with `again` it shows a record once more: what a dishonest one would try.
+SERVICE is whom the wallet is connected to, by its own channel, and not what the request says. With `anyway` it tries to
+prove what is not true, with `again` it shows a record once more: what a dishonest one would try.
 """
 
 import json
 import os
 import secrets
-import subprocess
 import sys
-import tempfile
 
-import record as R
-import statement as S
-
-
-class Refused(Exception):
-    """Why nothing is proved, in words."""
-
-
-def is_true(request, record):
-    return (
-        R.birth_of(record) <= request["latest_birth"]
-        and request["today"] <= R.until_of(record)
-        and R.country_of(record) == request["country"]
-    )
+import common as C
+from common import Refused
 
 
 class Records:
@@ -50,7 +36,7 @@ class Records:
         return bytes.fromhex(self.records[place]["record"]), self.records[place]["signature"]
 
     def mark(self):
-        """Counts the next one as shown. This is done before it is: a wallet that is cut off loses a record, and shows none twice."""
+        """Counts the next one as shown, before it is: a wallet that is cut off then loses a record, and shows none twice."""
         with open(self.path + ".new", "w", encoding="utf-8") as file:
             file.write(str(self.shown + 1))
             file.flush()
@@ -58,34 +44,72 @@ class Records:
         os.replace(self.path + ".new", self.path)
 
 
-def prove(zk, wallet, request, service, record):
-    """The proof, and the pseudonym where one is asked for. Files with private numbers are in memory, and go at the end."""
-    named = request["pseudonym"]
-    pseudonym = R.digest(R.pseudonym_message(record[R.SECRET], service)) if named else None
-    memory = "/dev/shm" if os.path.isdir("/dev/shm") else None
-    with tempfile.TemporaryDirectory(dir=memory) as folder:
-        path = lambda name: os.path.join(folder, name)  # noqa: E731
-        S.number_file(path("public.txt"), S.public_numbers(request, R.digest(record), pseudonym))
-        S.number_file(path("private.txt"), S.private_numbers(request, record, named))
-        words = [S.kept_circuit(zk, wallet, named), *(path(name) for name in ("public.txt", "private.txt", "proof.lzp"))]
-        words += [f"seed={secrets.token_hex(32)}", f"session={R.session_of(service, request['nonce'])}"]
-        ran = subprocess.run([zk, "prove", *words], stdout=subprocess.PIPE, text=True, check=False)
-        if ran.returncode:
-            raise Refused(f"zk prove: {ran.stdout.split()[0]}")
-        with open(path("proof.lzp"), "rb") as file:
-            return file.read(), pseudonym
+def values_of(request, service):
+    """The text of values: those of the request, but for the service, whom the wallet knows."""
+    values = dict(request["values"])
+    if "SERVICE" in values:
+        values["SERVICE"] = C.tag_of(service).hex()
+    return values
 
 
-def answer(zk, wallet, service, request, anyway, again):
+def text_of(values):
+    return "".join(f"{name} {value}\n" for name, value in values.items()).encode()
+
+
+def lie(public, values, told):
+    """Puts a service's numbers in the place of those for which the inputs were made."""
+    with open(public, encoding="utf-8") as file:
+        numbers = file.read().split()
+    changed = {told[name]: value for name, value in values.items() if told[name] != value}
+    C.write(public, "".join(changed.get(number, number) + "\n" for number in numbers).encode())
+
+
+def make_inputs(paths, values, anyway):
+    """The two files of inputs, or why there are none."""
+    words = [paths[name] for name in ("policy", "record", "values", "public", "private")]
+    C.write(paths["values"], text_of(values))
+    status, said = C.run("ZK_CREDENTIAL", "inputs", *words)
+    if status and anyway:
+        # A dishonest wallet makes inputs for dates that are true of everybody.
+        told = {**values, "LATEST": "4294967295", "TODAY": "0"}
+        C.write(paths["values"], text_of(told))
+        status, said = C.run("ZK_CREDENTIAL", "inputs", *words)
+        lie(paths["public"], values, told)
+    if status:
+        raise Refused(said.strip())
+
+
+def prove(wallet, request, service, record, anyway):
+    """The proof. Files with private numbers are in memory, and go at the end."""
+    circuit = C.circuit_of(wallet, request["policy"])
+    with C.private_folder() as folder:
+        names = ("policy", "record", "values", "public", "private", "proof")
+        paths = {name: os.path.join(folder, name) for name in names}
+        C.write(paths["policy"], request["policy"].encode())
+        C.write(paths["record"], record)
+        make_inputs(paths, values_of(request, service), anyway)
+        words = [circuit, paths["public"], paths["private"], paths["proof"]]
+        words += [f"seed={secrets.token_hex(32)}", f"session={C.session_of(service, request['nonce'])}"]
+        status, said = C.run("ZK", "prove", *words)
+        if status:
+            raise Refused(f"zk prove: {said.split()[0]}")
+        with open(paths["proof"], "rb") as file:
+            return file.read()
+
+
+def answer(wallet, service, request, anyway, again):
     if request["service"] != service:
         raise Refused("the request is another service's")
+    # A service says what is to be shown, and never where a field stands: else it could ask for a secret by another name.
+    with open(os.path.join(wallet, "layout.txt"), encoding="utf-8") as file:
+        if C.layout_of(request["policy"]) != C.layout_of(file.read()):
+            raise Refused("the request has other fields than the records")
     records = Records(wallet)
     record, signature = records.next(again)
-    if not anyway and not is_true(request, record):
-        raise Refused("the request is not true of this record")
+    proof = prove(wallet, request, service, record, anyway)
     records.mark()
-    proof, pseudonym = prove(zk, wallet, request, service, record)
-    found = {"digest": R.digest(record).hex(), "signature": signature, "proof": proof.hex()}
+    found = {"digest": C.digest(record).hex(), "signature": signature, "proof": proof.hex()}
+    pseudonym = C.pseudonym_of(request["policy"], record, C.tag_of(service))
     if pseudonym:
         found["pseudonym"] = pseudonym.hex()
     return found
@@ -99,8 +123,8 @@ def main():
     with open(request_file, encoding="utf-8") as file:
         request = json.load(file)
     try:
-        with R.alone(wallet):
-            found = answer(os.environ["ZK"], wallet, service, request, "anyway" in flags, "again" in flags)
+        with C.alone(wallet):
+            found = answer(wallet, service, request, "anyway" in flags, "again" in flags)
     except Refused as refused:
         print(f"nothing is proved: {refused}")
         return 1

@@ -1,2 +1,0 @@
-pub mod Files
-pub use Rattle.lzk_policy_circuit.specs

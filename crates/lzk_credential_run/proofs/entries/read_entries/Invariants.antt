@@ -1,0 +1,9 @@
+use Rattle.lzk_expr.proofs.Taking.{left_size}
+use Rattle.lzk_credential_run.proofs.EntryLines.{Left}
+use Rattle.lzk_credential_run.proofs.entries.read_entries.Given as goal
+
+abbrev pub invariant-loop-left : goal.invariant-loop-left
+invariant-loop-left l = Left l.line l.text l.left l.found.items
+
+abbrev pub decreases-loop-left : goal.decreases-loop-left
+decreases-loop-left l = left_size l.left

@@ -1,0 +1,11 @@
+pub mod Chosen
+pub mod Circuits
+pub mod Digests
+pub mod Ends
+pub mod Entries
+pub mod Files
+pub mod Given
+pub mod Lines
+pub mod Runs
+pub mod Shown
+pub mod Words

@@ -1,0 +1,75 @@
+-- The lines that a run prints beside those that `zk` prints.
+use Rattle.std.specs.Prelude.{ℕ, ◌-◌, nat_le, ◌==◌, ◌&&◌, Bool, not, List, [], ◌∷◌, ◌++◌, codes, drop, if◌then◌else◌}
+use Rattle.std.specs.Fmt.{decimal}
+use Rattle.std.specs.List.{flat_map}
+use Rattle.std.specs.Int.{w64, to_be_bytes}
+use Rattle.hex.specs.Hex.{encode_lower}
+use Rattle.lzk_cmd_files.specs.Lines.{line, text_line}
+use Rattle.lzk_policy.specs.declared.fault.PolicyKind.{PolicyKind}
+use Rattle.lzk_policy.specs.declared.fault.PolicyKind.TheVariants as kinds
+use Rattle.lzk_policy.specs.declared.fault.PolicyFault.{PolicyFault}
+
+-- ---- refusals
+
+abbrev pub policy_kind_name : PolicyKind → List ℕ
+policy_kind_name kinds.Syntax = codes "Syntax"
+policy_kind_name kinds.Order = codes "Order"
+policy_kind_name kinds.Repeated = codes "Repeated"
+policy_kind_name kinds.Size = codes "Size"
+policy_kind_name kinds.Place = codes "Place"
+policy_kind_name kinds.Unknown = codes "Unknown"
+policy_kind_name kinds.Claim = codes "Claim"
+policy_kind_name kinds.Limit = codes "Limit"
+policy_kind_name kinds.Missing = codes "Missing"
+
+-- a line of a text that breaks a rule
+abbrev pub kind_line : List ℕ → ℕ → List ℕ → List ℕ
+kind_line = text_line
+
+-- a text that is no policy
+abbrev pub policy_line : List ℕ → PolicyFault → List ℕ
+policy_line name fault = kind_line name fault.line (policy_kind_name fault.kind)
+
+-- a policy whose circuit would pass a limit
+abbrev pub limit_line : List ℕ → List ℕ
+limit_line name = codes "refused: " ++ (name ++ line (codes ": its circuit would pass a limit"))
+
+-- a record that has too few bytes
+abbrev pub short_line : List ℕ → ℕ → ℕ → List ℕ
+short_line name bytes size =
+    codes "refused: "
+    ++ (name ++ (codes " has " ++ (decimal bytes ++ (codes " bytes and not " ++ line (decimal size)))))
+
+-- ---- what is done
+
+-- the circuit or the inputs are put
+abbrev pub put_line : List ℕ
+put_line = line (codes "put")
+
+abbrev pub plain_line : List ℕ → List ℕ
+plain_line text = line text
+
+-- a digest
+abbrev pub digest_line : List ℕ → List ℕ
+digest_line digest = plain_line (encode_lower digest)
+
+-- ---- bytes that a person reads
+
+-- a byte of ASCII that is seen, but for the mark of the others
+abbrev pub is_seen : ℕ → Bool
+is_seen b = nat_le 33 b && nat_le b 126 && not (b == 92)
+
+-- hexadecimal digits behind a mark
+abbrev pub marked : List ℕ → List ℕ
+marked digits = codes "\\x" ++ digits
+
+-- a byte as it is, or its two hexadecimal digits behind the mark
+abbrev pub shown_byte : ℕ → List ℕ
+shown_byte b = if is_seen b then b ∷ [] else marked (encode_lower (b ∷ []))
+
+abbrev pub shown_bytes : List ℕ → List ℕ
+shown_bytes bytes = flat_map shown_byte bytes
+
+-- the text of so many bytes that a number is, the first worth most
+abbrev pub text_bytes : ℕ → ℕ → List ℕ
+text_bytes size number = drop (8 - size) (to_be_bytes w64 number)

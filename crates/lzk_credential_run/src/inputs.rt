@@ -1,0 +1,287 @@
+//! The command `inputs`.
+
+ghost use Rattle.std.specs.Prelude.{◌≡◌, ◌++◌, ◌≤◌, [], ◌∷◌, length, map, IfOk, OnOk, string_bytes};
+ghost use Rattle.std.specs.Fmt.{decimal};
+ghost use Rattle.lzk_goldilocks.specs.Elements.{number};
+ghost use Rattle.lzk_cmd_files.specs.Seen.{seen};
+ghost use Rattle.lzk_cmd_files.specs.Walks.{Decodes, Gives, IsEnding, OnlyReads};
+ghost use Rattle.lzk_credential_run.specs.Ends.{Settles};
+ghost use Rattle.lzk_credential_run.specs.Given as given;
+
+use crate::entries::{ValuesError, ValuesFault, ValuesKind};
+use crate::lines;
+use crate::policies::read_policy;
+use crate::records::read_record;
+use crate::showing::push_show;
+use crate::values::read_values;
+use lzk_cmd_files::{Ending, Halt, put_file, read_file};
+use lzk_field::Field;
+use lzk_goldilocks::Gold;
+use lzk_outside::Shelf;
+use lzk_policy::Policy;
+use lzk_policy_inputs::{InputsError, PolicyInputs, Value, policy_inputs};
+use std::alloc::{AllocError, Global};
+
+/// The largest text of values that is read, in bytes.
+const VALUES_LIMIT: usize = 65_536;
+
+fn values_kind_name(kind: ValuesKind) -> &'static str
+    ensures { result.now ≡ given.values_kind_name kind }
+{
+    match kind {
+        ValuesKind::Syntax => "Syntax",
+        ValuesKind::Unknown => "Unknown",
+        ValuesKind::Repeated => "Repeated",
+        ValuesKind::Value => "Value",
+    }
+}
+
+// Appends the line of what is shown at a place.
+fn push_line_at(
+    alloc: Global,
+    text: &mut String,
+    policy: &Policy,
+    place: u32,
+) -> Result<(), AllocError>
+    ensures { OnOk result (string_bytes text.new ≡ string_bytes text.old ++ given.line_at policy.now place) }
+{
+    match policy.shows().get(place as usize) {
+        Some(show) => push_show(alloc, text, policy.fields(), show),
+        None => Ok(()),
+    }
+}
+
+fn tell_no_value(alloc: Global, name: &str) -> Result<String, AllocError>
+    ensures { IfOk result (λ s. string_bytes s ≡ given.no_value_front name.now) }
+{
+    format!(in alloc; "refused: {name} has no value: ")
+}
+
+// The line that refuses a text of values.
+fn refuse_values(
+    alloc: Global,
+    name: &str,
+    policy: &Policy,
+    fault: ValuesFault,
+) -> Result<String, AllocError>
+    ensures { IfOk result (λ s. string_bytes s ≡ given.values_line name.now policy.now fault) }
+{
+    match fault {
+        ValuesFault::Line(line, kind) => {
+            lines::tell_line(alloc, name, line, values_kind_name(kind))
+        }
+        ValuesFault::Missing(place) => {
+            let mut text = tell_no_value(alloc, name)?;
+            push_line_at(alloc, &mut text, policy, place)?;
+            Ok(text)
+        }
+    }
+}
+
+// The values that a text gives.
+fn values_in(alloc: Global, name: &str, policy: &Policy, text: &[u8]) -> Result<Vec<Value>, Halt>
+    requires { length text.now ≤ 65536 }
+    ensures { Decodes (given.value_files policy.now) (λ v. v.items) name.now text.now result }
+{
+    match read_values(alloc, policy, text) {
+        Ok(values) => Ok(values),
+        Err(ValuesError::OutOfMemory) => Err(Halt::Memory),
+        Err(ValuesError::Fault(fault)) => {
+            let text = refuse_values(alloc, name, policy, fault)?;
+            Err(Halt::End(Ending { status: 3, text }))
+        }
+    }
+}
+
+// The values that a file gives.
+fn read_given<S: Shelf>(
+    alloc: Global,
+    shelf: &mut S,
+    name: &str,
+    policy: &Policy,
+) -> Result<Vec<Value>, Halt>
+    ensures gives { Gives (given.value_files policy.now) (λ v. v.items) (seen S.Shelf shelf.old)
+        (seen S.Shelf shelf.new) name.now result }
+    ensures reads { OnlyReads (seen S.Shelf shelf.old) (seen S.Shelf shelf.new) }
+{
+    let text = read_file(alloc, shelf, name, VALUES_LIMIT)?;
+    values_in(alloc, name, policy, &text)
+}
+
+// The line of something shown that is not true.
+fn refuse_false(alloc: Global, policy: &Policy, place: u32) -> Result<String, AllocError>
+    ensures { IfOk result (λ s. string_bytes s ≡ given.false_line policy.now place) }
+{
+    let mut text = "not true: ".to_string(alloc)?;
+    push_line_at(alloc, &mut text, policy, place)?;
+    Ok(text)
+}
+
+fn refuse_unfit(alloc: Global) -> Result<String, AllocError>
+    ensures { IfOk result (λ s. string_bytes s ≡ given.unfit_line) }
+{
+    "refused: record and values do not fit the policy\n".to_string(alloc)
+}
+
+// How a run ends whose record and values do not fit the policy.
+fn unfit(alloc: Global) -> Halt
+    ensures { given.IsUnfit result }
+{
+    match refuse_unfit(alloc) {
+        Ok(text) => Halt::End(Ending { status: 3, text }),
+        Err(_) => Halt::Memory,
+    }
+}
+
+// How a run ends for which something shown is not true.
+fn untrue(alloc: Global, policy: &Policy, place: u32) -> Halt
+    ensures { given.IsUntrue policy.now place result }
+{
+    match refuse_false(alloc, policy, place) {
+        Ok(text) => Halt::End(Ending { status: 3, text }),
+        Err(_) => Halt::Memory,
+    }
+}
+
+// How a run ends that has no inputs for this cause.
+fn halt_of(alloc: Global, policy: &Policy, error: InputsError) -> Halt
+    ensures { given.IsHaltFor policy.now error result }
+{
+    match error {
+        InputsError::OutOfMemory => Halt::Memory,
+        InputsError::False(place) => untrue(alloc, policy, place),
+        InputsError::Record => unfit(alloc),
+        InputsError::Count => unfit(alloc),
+        InputsError::Kind(_) => unfit(alloc),
+    }
+}
+
+// The inputs of a record and values.
+fn inputs_of(
+    alloc: Global,
+    policy: &Policy,
+    bytes: &[u8],
+    values: &[Value],
+) -> Result<PolicyInputs, Halt>
+    ensures { given.MakesInputs policy.now bytes.now values.now result }
+{
+    match policy_inputs(alloc, policy, bytes, values) {
+        Ok(inputs) => Ok(inputs),
+        Err(error) => Err(halt_of(alloc, policy, error)),
+    }
+}
+
+fn push_number(text: &mut String, number: u128) -> Result<(), AllocError>
+    ensures { OnOk result (string_bytes text.new ≡ string_bytes text.old ++ (decimal number ++ 10 ∷ [])) }
+{
+    write!(text, "{number}\n")
+}
+
+// Numbers in decimal digits, one a line.
+fn number_text(alloc: Global, elements: &[Gold]) -> Result<String, AllocError>
+    ensures { IfOk result (λ s. string_bytes s ≡ given.number_lines (map number elements.now)) }
+{
+    let mut text = String::new(alloc);
+    for element in elements {
+        push_number(&mut text, element.number())?;
+    }
+    Ok(text)
+}
+
+// Puts one file and then another.
+fn put_both<S: Shelf>(
+    alloc: Global,
+    public: &str,
+    first: &[u8],
+    private: &str,
+    second: &[u8],
+    shelf: &mut S,
+) -> Result<Ending, Halt>
+    ensures { Settles (given.PutsBoth public.now first.now private.now second.now) (given.PutsOne public.now)
+        (seen S.Shelf shelf.old) (seen S.Shelf shelf.new) result }
+{
+    let text = lines::tell_put(alloc)?;
+    let done = put_file(alloc, shelf, public, first, String::new(alloc))?;
+    if done.status != 0 {
+        return Ok(done);
+    }
+    put_file(alloc, shelf, private, second, text)
+}
+
+// Puts the inputs of a record and values.
+fn put_inputs<S: Shelf>(
+    alloc: Global,
+    policy: &Policy,
+    bytes: &[u8],
+    values: &[Value],
+    public: &str,
+    private: &str,
+    shelf: &mut S,
+) -> Result<Ending, Halt>
+    ensures { Settles (given.PutsInputs public.now private.now policy.now bytes.now values.now)
+        (given.PutsOne public.now) (seen S.Shelf shelf.old) (seen S.Shelf shelf.new) result }
+{
+    let inputs = inputs_of(alloc, policy, bytes, values)?;
+    let first = number_text(alloc, inputs.public())?;
+    let second = number_text(alloc, inputs.private())?;
+    put_both(
+        alloc,
+        public,
+        first.as_bytes(),
+        private,
+        second.as_bytes(),
+        shelf,
+    )
+}
+
+// The same with the values in a file.
+fn with_record<S: Shelf>(
+    alloc: Global,
+    policy: &Policy,
+    bytes: &[u8],
+    values: &str,
+    public: &str,
+    private: &str,
+    shelf: &mut S,
+) -> Result<Ending, Halt>
+    ensures { Settles (given.WithRecord values.now public.now private.now policy.now bytes.now)
+        (given.PutsOne public.now) (seen S.Shelf shelf.old) (seen S.Shelf shelf.new) result }
+{
+    let read = read_given(alloc, shelf, values, policy)?;
+    put_inputs(alloc, policy, bytes, &read, public, private, shelf)
+}
+
+// The same with the record in a file.
+fn with_policy<S: Shelf>(
+    alloc: Global,
+    policy: &Policy,
+    name: &str,
+    values: &str,
+    public: &str,
+    private: &str,
+    shelf: &mut S,
+) -> Result<Ending, Halt>
+    ensures { Settles (given.WithPolicy name.now values.now public.now private.now policy.now)
+        (given.PutsOne public.now) (seen S.Shelf shelf.old) (seen S.Shelf shelf.new) result }
+{
+    let read = read_record(alloc, shelf, name, policy)?;
+    with_record(alloc, policy, &read, values, public, private, shelf)
+}
+
+/// Puts the public and the private inputs of a policy's circuit for a record and values, or names the first thing shown
+/// that is not true.
+pub fn inputs<S: Shelf>(
+    alloc: Global,
+    policy: &str,
+    name: &str,
+    values: &str,
+    public: &str,
+    private: &str,
+    shelf: &mut S,
+) -> Result<Ending, Halt>
+    ensures { Settles (given.InputsRun policy.now name.now values.now public.now private.now)
+        (given.PutsOne public.now) (seen S.Shelf shelf.old) (seen S.Shelf shelf.new) result }
+{
+    let read = read_policy(alloc, shelf, policy)?;
+    with_policy(alloc, &read, name, values, public, private, shelf)
+}

@@ -1,0 +1,77 @@
+//! The lines that a run prints beside those of `zk`.
+
+ghost use Rattle.std.specs.Prelude.{◌≡◌, ◌++◌, ◌≤◌, IfOk, OnOk, string_bytes};
+ghost use Rattle.lzk_credential_run.specs.Lines as lines;
+
+use lzk_policy::{PolicyFault, PolicyKind};
+use std::alloc::{AllocError, Global};
+
+fn policy_kind_name(kind: PolicyKind) -> &'static str
+    ensures { result.now ≡ lines.policy_kind_name kind }
+{
+    match kind {
+        PolicyKind::Syntax => "Syntax",
+        PolicyKind::Order => "Order",
+        PolicyKind::Repeated => "Repeated",
+        PolicyKind::Size => "Size",
+        PolicyKind::Place => "Place",
+        PolicyKind::Unknown => "Unknown",
+        PolicyKind::Claim => "Claim",
+        PolicyKind::Limit => "Limit",
+        PolicyKind::Missing => "Missing",
+    }
+}
+
+/// The line of a rule that a line of a file breaks.
+pub fn tell_line(alloc: Global, name: &str, line: u32, kind: &str) -> Result<String, AllocError>
+    ensures { IfOk result (λ s. string_bytes s ≡ lines.kind_line name.now line kind.now) }
+{
+    format!(in alloc; "refused: {name} at line {line}: {kind}\n")
+}
+
+/// The line that refuses a text that is no policy.
+pub fn refuse_policy(alloc: Global, name: &str, fault: PolicyFault) -> Result<String, AllocError>
+    ensures { IfOk result (λ s. string_bytes s ≡ lines.policy_line name.now fault) }
+{
+    tell_line(alloc, name, fault.line, policy_kind_name(fault.kind))
+}
+
+/// The line that refuses a policy whose circuit would pass a limit.
+pub fn refuse_limit(alloc: Global, name: &str) -> Result<String, AllocError>
+    ensures { IfOk result (λ s. string_bytes s ≡ lines.limit_line name.now) }
+{
+    format!(in alloc; "refused: {name}: its circuit would pass a limit\n")
+}
+
+/// The line that refuses a record that has too few bytes.
+pub fn refuse_short(
+    alloc: Global,
+    name: &str,
+    bytes: usize,
+    size: u32,
+) -> Result<String, AllocError>
+    ensures { IfOk result (λ s. string_bytes s ≡ lines.short_line name.now bytes size) }
+{
+    format!(in alloc; "refused: {name} has {bytes} bytes and not {size}\n")
+}
+
+/// The line that tells that all is put.
+pub fn tell_put(alloc: Global) -> Result<String, AllocError>
+    ensures { IfOk result (λ s. string_bytes s ≡ lines.put_line) }
+{
+    "put\n".to_string(alloc)
+}
+
+fn tell_digits(alloc: Global, digits: &str) -> Result<String, AllocError>
+    ensures { IfOk result (λ s. string_bytes s ≡ lines.plain_line digits.now) }
+{
+    format!(in alloc; "{digits}\n")
+}
+
+/// The line of a digest.
+pub fn tell_digest(alloc: Global, digest: &[u8]) -> Result<String, AllocError>
+    ensures { IfOk result (λ s. string_bytes s ≡ lines.digest_line digest.now) }
+{
+    let digits = hex::encode(alloc, digest)?;
+    tell_digits(alloc, &digits)
+}

@@ -1,0 +1,71 @@
+//! Files that runs read.
+
+/// A policy with each kind of line.
+pub const POLICY: &[u8] = b"record 47\nfield birth date at 4\nfield until date at 8\n\
+    field country text 2 at 12\nfield secret bytes 16 at 15\nshow digest\nshow birth at most LATEST\n\
+    show until at least TODAY\nshow country as COUNTRY\nshow country one of BE NL\n\
+    show pseudonym of secret for SERVICE\n";
+
+/// Born on 1999-04-11, holds until 2030-12-31, of NL.
+pub const RECORD: &[u8] =
+    b"LZK1\x01\x31\x07\x8b\x01\x35\xc5\xafNL\x01\x00\x01\x02\x03\x04\x05\x06\x07\
+    \x08\x09\x0a\x0b\x0c\x0d\x0e\x0fdefghijklmnopqrs";
+
+/// Values with which all that is shown is true of the record.
+pub const VALUES: &[u8] = b"# chosen\nTODAY 20261129 # now\nCOUNTRY NL\n\n\
+    SERVICE 004197665b5376f4e9f5e3aee904dc72\nLATEST 20081129\n";
+
+/// The public inputs for them: the words of the digest, two dates, the country, the words of the service's tag, and
+/// those of the pseudonym.
+pub const PUBLIC: &[u8] =
+    b"3824770159\n4143953038\n746108916\n1665380848\n490793538\n359605606\n2433455564\n\
+    2556184549\n20081129\n20261129\n20044\n4298598\n1532196596\n3925205934\n3909409906\n3635009805\n2522574092\n\
+    414419444\n4009862973\n3610553314\n3732274161\n1109350892\n403422487\n";
+
+/// The SHA-256 digest of the file of private inputs.
+pub const PRIVATE_DIGEST: &str = "8585bb47bde17986bb66153a8fdf2dc7ae9511b0e9f2c9c8bd79ffb03dd84ef3";
+
+/// All files, by their names.
+pub const FILES: [(&str, &[u8]); 20] = [
+    ("p", POLICY),
+    ("r", RECORD),
+    ("v", VALUES),
+    ("p_place", b"record 47\nfield b date at 45\n"),
+    (
+        "p_bytes",
+        b"record 9\nfield \xc3\xa9\\a text 2 at 0\nshow digest\nshow \xc3\xa9\\a one of \xc3\xa9 NL\n",
+    ),
+    ("r_short", b"LZK1"),
+    (
+        "r_long",
+        b"012345678901234567890123456789012345678901234567",
+    ),
+    ("v_syntax", b"LATEST\n"),
+    ("v_unknown", b"LATEST 1\nBIRTH 2\n"),
+    ("v_repeated", b"LATEST 1\nTODAY 2\nLATEST 1\n"),
+    ("v_date", b"LATEST 2008-11-29\n"),
+    ("v_digits", b"LATEST 12345678901\n"),
+    ("v_missing", b"LATEST 20081129\n"),
+    ("v_text", b"LATEST 20081129\nTODAY 20261129\nCOUNTRY NLX\n"),
+    ("v_tag", b"LATEST 20081129\nTODAY 20261129\nSERVICE 00\n"),
+    (
+        "v_own",
+        b"LATEST 20081129\nTODAY 20261129\nSERVICE 004197665b5376f4e9f5e3aee904dc72\n",
+    ),
+    (
+        "v_other",
+        b"LATEST 20081129\nTODAY 20261129\nCOUNTRY BE\nSERVICE 004197665b5376f4e9f5e3aee904dc72\n",
+    ),
+    (
+        "v_young",
+        b"LATEST 19990410\nTODAY 20261129\nSERVICE 004197665b5376f4e9f5e3aee904dc72\n",
+    ),
+    (
+        "v_far",
+        b"LATEST 4294967296\nTODAY 20261129\nSERVICE 004197665b5376f4e9f5e3aee904dc72\n",
+    ),
+    (
+        "v_expired",
+        b"LATEST 20081129\nTODAY 20310101\nSERVICE 004197665b5376f4e9f5e3aee904dc72\n",
+    ),
+];
