@@ -133,6 +133,9 @@
 //!     Ok(verify_all(rt, rt.alloc(), circuits, jobs, 4, &Open)?)
 //! }
 //! ```
+//!
+//! A statement can also be made of gadgets, by [`Statement`], and of circuits that share inputs, by [`beside`], or by
+//! [`beside_any`] where they assert within their layers.
 #![tactic(auto)]
 
 mod fit;
@@ -140,13 +143,15 @@ mod fit;
 pub use crate::fit::{are_fit, is_fit};
 use lzk_afft::Transform;
 pub use lzk_batch::{AnyVerdict, Job, JobOf, verify_all};
+pub use lzk_beside::{AnyPart, BesideError, Part, beside, beside_any};
 pub use lzk_circbytes::{AnyCircuit, DecodeError, decode, encode, id};
 pub use lzk_circuit::Circuit;
 pub use lzk_expr::{NumberError, Source, SourceError, parse, read_numbers};
 pub use lzk_field::{Field, Gate, Open, Seeded, Words};
+pub use lzk_gadgets::Statement;
 pub use lzk_gf128::Gf128;
 pub use lzk_goldilocks::Gold;
-pub use lzk_level::{LevelError, compile, compile_v2};
+pub use lzk_level::{LevelError, Node, compile, compile_v2};
 pub use lzk_ligero::Unsatisfied;
 use lzk_ligero::WorksOver;
 use lzk_ntt::NttExtender;
