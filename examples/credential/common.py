@@ -8,6 +8,7 @@ import contextlib
 import fcntl
 import hashlib
 import os
+import re
 import subprocess
 import tempfile
 
@@ -19,8 +20,9 @@ class Refused(Exception):
 
 
 def lines_of(policy):
-    """The words of each line that says something."""
-    return [words for line in policy.splitlines() if (words := line.split("#")[0].split())]
+    """The words of each line that says something, parted as docs/POLICY.md parts them and by no other blanks: whoever
+    checks a text must read what `zk-credential` reads."""
+    return [words for line in policy.split("\n") if (words := re.findall(r"[^ \t\r]+", line.split("#")[0]))]
 
 
 def layout_of(policy):
@@ -67,7 +69,7 @@ def number_of(kind, value):
 
 
 def public_numbers(policy, digest_shown, values, pseudonym):
-    """The public inputs as docs/POLICY.md has them, of values by their names. SERVICE's is a tag in hexadecimal digits."""
+    """The public inputs as docs/POLICY.md has them, of values by their names. A service's is a tag in hexadecimal digits."""
     fields, numbers = fields_of(policy), words_of(digest_shown)
     for words in lines_of(policy):
         match words:
@@ -76,6 +78,11 @@ def public_numbers(policy, digest_shown, values, pseudonym):
             case ["show", "pseudonym", "of", _, "for", value]:
                 numbers += words_of(bytes.fromhex(values[value])) + words_of(pseudonym)
     return numbers
+
+
+def tag_names(policy):
+    """The names that stand for a service's tag."""
+    return {words[-1] for words in lines_of(policy) if words[:2] == ["show", "pseudonym"]}
 
 
 def pseudonym_of(policy, record, tag):

@@ -41,7 +41,7 @@ tell what a verifier learns
 "$ZK_CREDENTIAL" show "$here/policy.txt"
 tell records
 call issuer key issuer
-issue issuer ann.toml ann 7
+issue issuer ann.toml ann 8
 issue issuer bob.json bob 3
 issue issuer eve.toml eve 3
 tell an adult
@@ -80,6 +80,14 @@ tell a service that asks for a secret by another name
 sed 's/text 2 at 12/text 2 at 15/' "$here/plain.txt" >spy.txt
 call service request spy spy.example spy.txt q8 20081129 20261129
 call wallet ann spy.example q8 a8
+tell a service that gives the tag of another, by a name of its own and by a value of two lines
+sed 's/for SERVICE/for MEMBER/' "$here/policy.txt" >tag.txt
+call service request spy spy.example tag.txt q13 20081129 20261129
+sed "s/\"MEMBER\": \"[0-9a-f]*\"/\"MEMBER\": \"00112233445566778899aabbccddeeff\"/" q13 >q14
+call wallet ann spy.example q14 a14
+check spy q13 a14
+sed 's/"20261129"/"20261129\\nMEMBER 00112233445566778899aabbccddeeff"/' q13 >q15
+call wallet ann spy.example q15 a15
 tell a record of an issuer of its own
 call issuer key forger
 issue forger ann.toml mallory 1

@@ -41,9 +41,7 @@ def ask(folder, service, policy_file, request_file, latest, today):
     os.makedirs(folder, exist_ok=True)
     with open(policy_file, encoding="utf-8") as file:
         policy = file.read()
-    values = {"LATEST": latest, "TODAY": today}
-    if "SERVICE" in policy.split():
-        values["SERVICE"] = C.tag_of(service).hex()
+    values = {"LATEST": latest, "TODAY": today, **{name: C.tag_of(service).hex() for name in C.tag_names(policy)}}
     request = {"service": service, "policy": policy, "values": values, "nonce": secrets.token_hex(16)}
     for path in (request_file, path_of(folder, "open-" + request["nonce"])):
         with open(path, "w", encoding="utf-8") as file:
@@ -86,7 +84,7 @@ def is_proved(folder, request, digest, pseudonym, proof):
 def check(folder, issuer_key, nonce, answer):
     request = opened(folder, nonce)
     digest = bytes.fromhex(answer["digest"])
-    pseudonym = bytes.fromhex(answer["pseudonym"]) if "SERVICE" in request["values"] else None
+    pseudonym = bytes.fromhex(answer["pseudonym"]) if C.tag_names(request["policy"]) else None
     if len(digest) != 32 or (pseudonym is not None and len(pseudonym) != 32):
         raise Refused("a digest has 32 bytes")
     if not is_signed(issuer_key, C.SIGNED + digest, bytes.fromhex(answer["signature"])):

@@ -9,6 +9,7 @@ prove what is not true, with `again` it shows a record once more: what a dishone
 
 import json
 import os
+import re
 import secrets
 import sys
 
@@ -45,10 +46,12 @@ class Records:
 
 
 def values_of(request, service):
-    """The text of values: those of the request, but for the service, whom the wallet knows."""
-    values = dict(request["values"])
-    if "SERVICE" in values:
-        values["SERVICE"] = C.tag_of(service).hex()
+    """The values of the request, but for each tag, which is that of the service that the wallet knows: by another's tag a
+    service could try out which of the other's pseudonyms is the holder's. A name or value of several words could say more lines."""
+    tags = {name: C.tag_of(service).hex() for name in C.tag_names(request["policy"])}
+    values = {**request["values"], **tags}
+    if not all(re.fullmatch(r"[^ \t\r\n#]+", word) for pair in values.items() for word in pair):
+        raise Refused("a value is no word")
     return values
 
 
@@ -127,6 +130,9 @@ def main():
             found = answer(wallet, service, request, "anyway" in flags, "again" in flags)
     except Refused as refused:
         print(f"nothing is proved: {refused}")
+        return 1
+    except (AttributeError, KeyError, TypeError, ValueError):
+        print("nothing is proved: the request has not its form")
         return 1
     with open(answer_file, "w", encoding="utf-8") as file:
         json.dump(found, file)
