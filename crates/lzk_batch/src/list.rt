@@ -8,8 +8,9 @@ ghost use Rattle.lzk_batch.specs.declared.list_fault.ListError.TheVariants.{OutO
 
 use crate::entry::Entry;
 use crate::list_fault::{ListError, ListFault, ListKind};
-use crate::words::{behind, is_skipped, next_line, next_word};
+use crate::words::{behind, is_skipped, next_word};
 use hex::FromHexError;
+use lzk_expr::words::next_line;
 use std::alloc::{AllocError, Global};
 use std::str;
 

@@ -46,7 +46,9 @@ Gives view (Err e) read = Fails e read
 
 -- the flags of those numbers that pass the test were set, and the others stayed
 abbrev pub Marks : List ℕ → (ℕ → Bool) → List Bool → List Bool → Type 0
-Marks numbers test old new = (i : ℕ) → i < length numbers → slice_index_or new i false ≡ (slice_index_or old i false || test (slice_index numbers i))
+Marks numbers test old new =
+    (i : ℕ) → i < length numbers
+    → slice_index_or new i false ≡ (slice_index_or old i false || test (slice_index numbers i))
 
 -- the bytes from the first number on whose flag is not set
 abbrev pub unmarked_from : ℕ → List Bool → List ℕ → Option (List ℕ)

@@ -16,8 +16,10 @@ use Rattle.lzk_circbytes.specs.Numbered.{Shape, shape, numbered, coefficients, n
 use Rattle.lzk_circbytes.specs.Reading.{Stop, ◌>>=◌, stops, wiring_at}
 use Rattle.lzk_circbytes.specs.Spelling.{file_bytes, file_of}
 
--- The bytes are the file of a valid circuit over a field: its fields in order, with exactly its coefficients other than 0 as constants, ascending.
-pub record IsFile {A : Type 0} (o : Ops A) (number : A → ℕ) (shape : Shape) (c : Wiring A) (bytes : List ℕ) : Type 0 where
+-- The bytes are the file of a valid circuit over a field: its fields in order, with exactly its coefficients other than
+-- 0 as constants, ascending.
+pub record IsFile {A : Type 0} (o : Ops A) (number : A → ℕ) (shape : Shape) (c : Wiring A)
+    (bytes : List ℕ) : Type 0 where
   pub valid : IsValid o c
   pub constants : List ℕ
   pub ascending : IsStrictlyIncreasing constants
@@ -73,10 +75,12 @@ circuit_at bytes =
     (if begins_with (76 ∷ 90 ∷ 67 ∷ 49 ∷ []) bytes then field_at 1 (drop 4 bytes) else
     (if begins_with (76 ∷ 90 ∷ 67 ∷ 50 ∷ []) bytes then field_at 2 (drop 4 bytes) else stops Magic bytes))
 
--- The bytes are no circuit's file. The fields before offset are whole and pass their checks, and kind is the first check that the field
--- there fails; or all pass, and the constant there is the first that no term uses, or a byte is left there.
+-- The bytes are no circuit's file. The fields before offset are whole and pass their checks, and kind is the first
+-- check that the field there fails; or all pass, and the constant there is the first that no term uses, or a byte is
+-- left there.
 abbrev pub CircuitFaultAt : List ℕ → ℕ → ByteKind → Type 0
-CircuitFaultAt bytes offset kind = (circuit_at bytes ≡ Err (record { left = length bytes - offset; kind = kind })) × (offset ≤ length bytes)
+CircuitFaultAt bytes offset kind =
+    (circuit_at bytes ≡ Err (record { left = length bytes - offset; kind = kind })) × (offset ≤ length bytes)
 
 -- ---- what holds of all files
 
@@ -90,11 +94,15 @@ OneFile = (c : AnyCircuit) (xs ys : List ℕ) → CircuitBytes c xs → CircuitB
 
 -- bytes have one first fault
 abbrev pub OneFault : Type 0
-OneFault = (bytes : List ℕ) (m n : ℕ) (k l : ByteKind) → CircuitFaultAt bytes m k → CircuitFaultAt bytes n l → (m ≡ n) × (k ≡ l)
+OneFault =
+    (bytes : List ℕ) (m n : ℕ) (k l : ByteKind) → CircuitFaultAt bytes m k → CircuitFaultAt bytes n l
+    → (m ≡ n) × (k ≡ l)
 
 -- no circuit's file has a fault
 abbrev pub NoFault : Type 0
-NoFault = (c : AnyCircuit) (bytes : List ℕ) (offset : ℕ) (kind : ByteKind) → CircuitBytes c bytes → ¬ CircuitFaultAt bytes offset kind
+NoFault =
+    (c : AnyCircuit) (bytes : List ℕ) (offset : ℕ) (kind : ByteKind) → CircuitBytes c bytes
+    → ¬ CircuitFaultAt bytes offset kind
 
 -- no circuit's file has more than 2^26 bytes
 abbrev pub FilesFit : Type 0

@@ -40,7 +40,8 @@ abbrev pub AreConstants : Shape → ℕ → List ℕ → Type 0
 AreConstants shape before cs = FitAlong as_last (FitsConstant shape) before cs
 
 -- what stands behind the field's byte, with these constants and with the layers from the inputs up
-pub record FitsWiring (shape : Shape) (version publics privates : ℕ) (layers : List (Layer ℕ)) (cs : List ℕ) : Type 0 where
+pub record FitsWiring (shape : Shape) (version publics privates : ℕ) (layers : List (Layer ℕ))
+    (cs : List ℕ) : Type 0 where
   pub few_publics : publics ≤ 65535
   pub few_privates : privates ≤ 65536
   pub some : 1 ≤ length layers
@@ -63,9 +64,11 @@ CanWriteAll coefs terms = FitAlong as_before (CanWrite coefs) None terms
 -- the layers' terms can be written
 abbrev pub CanWriteLayers : List ℕ → List (Layer ℕ) → Type 0
 CanWriteLayers coefs [] = Unit {0}
-CanWriteLayers coefs (layer ∷ layers) = CanWriteAll coefs layer.terms × (length layer.terms < 2 ^ 32) × CanWriteLayers coefs layers
+CanWriteLayers coefs (layer ∷ layers) =
+    CanWriteAll coefs layer.terms × (length layer.terms < 2 ^ 32) × CanWriteLayers coefs layers
 
 -- all that stands before the layers
 abbrev pub head_bytes : Shape → Wiring ℕ → List ℕ → List ℕ
 head_bytes shape c cs =
-    76 ∷ 90 ∷ 67 ∷ (48 + c.version) ∷ shape.id ∷ (to_le_bytes w32 c.publics ++ (to_le_bytes w32 c.privates ++ (to_le_bytes w32 (length c.layers) ++ (to_le_bytes w32 (length cs) ++ constants_bytes shape cs))))
+    76 ∷ 90 ∷ 67 ∷ (48 + c.version) ∷ shape.id ∷ (to_le_bytes w32 c.publics ++ (to_le_bytes w32 c.privates
+    ++ (to_le_bytes w32 (length c.layers) ++ (to_le_bytes w32 (length cs) ++ constants_bytes shape cs))))

@@ -5,7 +5,8 @@ use Rattle.lzk_circuit.specs.declared.layer.Term.{Term}
 use Rattle.lzk_circuit.specs.declared.layer.Layer.{Layer}
 use Rattle.lzk_circuit.specs.Valid.{Wiring, wiring_of}
 
--- how a field's elements are written: by which byte the field is named, in how many bytes an element, and how many elements there are
+-- how a field's elements are written: by which byte the field is named, in how many bytes an element, and how many
+-- elements there are
 pub record Shape : Type 0 where
   pub id : ℕ
   pub bytes : ℕ
@@ -38,8 +39,8 @@ coefficients layers = flat_map (λ layer. map (λ t. t.coef) layer.terms) layers
 abbrev pub nonzero : List ℕ → List ℕ
 nonzero ns = filter (λ n. nat_lt 0 n) ns
 
--- What a term's last number counts among: the constants, and in version 2 zero before them. So it is 0 there for an assertion term, and 1 + the
--- number of the constant for another.
+-- What a term's last number counts among: the constants, and in version 2 zero before them. So it is 0 there for an
+-- assertion term, and 1 + the number of the constant for another.
 abbrev pub coefs_of : ℕ → List ℕ → List ℕ
 coefs_of version cs = cond (version == 2) (0 ∷ cs) cs
 

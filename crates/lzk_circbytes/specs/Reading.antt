@@ -29,7 +29,8 @@ abbrev pub must : Bool → ByteKind → List ℕ → Result (Unit {0}) Stop
 must holds kind bytes = if holds then Ok tt else stops kind bytes
 
 -- so many items, each read with what the items before it left
-unfoldable pub many : {S A : Type 0} → (S → A → S) → (S → List ℕ → Result (A × List ℕ) Stop) → ℕ → S → List ℕ → Result (List A × List ℕ) Stop
+unfoldable pub many : {S A : Type 0} → (S → A → S) → (S → List ℕ → Result (A × List ℕ) Stop) → ℕ → S → List ℕ
+    → Result (List A × List ℕ) Stop
 many next item zero s bytes = Ok ([], bytes)
 many next item (suc n) s bytes = do
   x ← item s bytes
@@ -38,7 +39,8 @@ many next item (suc n) s bytes = do
 
 -- four bytes
 unfoldable pub word_at : List ℕ → Result (ℕ × List ℕ) Stop
-word_at bytes = if nat_lt (length bytes) 4 then stops Truncated bytes else Ok (from_le_bytes w32 (take 4 bytes), drop 4 bytes)
+word_at bytes =
+    if nat_lt (length bytes) 4 then stops Truncated bytes else Ok (from_le_bytes w32 (take 4 bytes), drop 4 bytes)
 
 -- a word from low to high
 unfoldable pub limited_at : ℕ → ℕ → List ℕ → Result (ℕ × List ℕ) Stop
@@ -46,7 +48,8 @@ limited_at low high bytes = do
   n ← word_at bytes
   if nat_le low n.0 && nat_le n.0 high then Ok n else stops Limit bytes
 
--- Seven bits a byte, the lowest first, in at most k bytes; the top bit says that another follows. field is what the number begins.
+-- Seven bits a byte, the lowest first, in at most k bytes; the top bit says that another follows. field is what the
+-- number begins.
 unfoldable pub septets_at : ℕ → List ℕ → List ℕ → Result (ℕ × List ℕ) Stop
 septets_at zero field bytes = stops Varint field
 septets_at (suc k) field [] = stops Truncated field
@@ -98,7 +101,8 @@ term_at coefs wires below before bytes = do
   b ← step_at a.0 below a.1
   _ ← must (stands_behind before g.0 a.0 b.0) Order a.1
   k ← step_at 0 (length coefs) b.1
-  _ ← must (are_apart (λ n. n) before (record { g = g.0; a = a.0; b = b.0; coef = slice_index coefs k.0 })) Assertion b.1
+  _ ← must (are_apart (λ n. n) before (record { g = g.0; a = a.0; b = b.0; coef = slice_index coefs k.0 }))
+      Assertion b.1
   Ok (record { g = g.0; a = a.0; b = b.0; coef = slice_index coefs k.0 }, k.1)
 
 abbrev pub as_before : Option (Term ℕ) → Term ℕ → Option (Term ℕ)
@@ -124,7 +128,8 @@ layers_at coefs inputs count bytes = many above_layer (layer_at coefs) count (ab
 -- the bytes from the first constant on that no term uses
 abbrev pub unused_from : ℕ → List (Layer ℕ) → List ℕ → List ℕ → Option (List ℕ)
 unused_from width layers [] bytes = None
-unused_from width layers (c ∷ cs) bytes = if is_coefficient layers c then unused_from width layers cs (drop width bytes) else Some bytes
+unused_from width layers (c ∷ cs) bytes =
+    if is_coefficient layers c then unused_from width layers cs (drop width bytes) else Some bytes
 
 abbrev pub all_used : Option (List ℕ) → Result (Unit {0}) Stop
 all_used None = Ok tt

@@ -28,10 +28,13 @@ index_of (x ∷ xs) c = if nat_eq x c then 0 else suc (index_of xs c)
 
 -- the step of g, then a, then b less a, then the number of the constant
 unfoldable pub term_bytes : List ℕ → Option (Term ℕ) → Term ℕ → List ℕ
-term_bytes coefs before t = varint (t.g - wire_before before) ++ (varint t.a ++ (varint (t.b - t.a) ++ varint (index_of coefs t.coef)))
+term_bytes coefs before t =
+    varint (t.g - wire_before before) ++ (varint t.a ++ (varint (t.b - t.a) ++ varint (index_of coefs t.coef)))
 
 unfoldable pub layer_bytes : List ℕ → Under → Layer ℕ → List ℕ
-layer_bytes coefs under layer = to_le_bytes w32 layer.wires ++ (to_le_bytes w32 (length layer.terms) ++ spells as_before (term_bytes coefs) None layer.terms)
+layer_bytes coefs under layer =
+    to_le_bytes w32 layer.wires
+    ++ (to_le_bytes w32 (length layer.terms) ++ spells as_before (term_bytes coefs) None layer.terms)
 
 -- the layers from the inputs up
 abbrev pub layers_bytes : List ℕ → ℕ → List (Layer ℕ) → List ℕ
@@ -43,8 +46,9 @@ constants_bytes shape cs = spells as_last (λ before c. bytes_of shape.bytes c) 
 -- what stands behind the field's byte
 abbrev pub tail_bytes : Shape → Wiring ℕ → List ℕ → List ℕ
 tail_bytes shape c cs =
-    to_le_bytes w32 c.publics ++ (to_le_bytes w32 c.privates ++ (to_le_bytes w32 (length c.layers) ++ (to_le_bytes w32 (length cs)
-    ++ (constants_bytes shape cs ++ layers_bytes (coefs_of c.version cs) (1 + c.publics + c.privates) (reverse c.layers)))))
+    to_le_bytes w32 c.publics ++ (to_le_bytes w32 c.privates ++ (to_le_bytes w32 (length c.layers)
+    ++ (to_le_bytes w32 (length cs) ++ (constants_bytes shape cs
+    ++ layers_bytes (coefs_of c.version cs) (1 + c.publics + c.privates) (reverse c.layers)))))
 
 -- `LZC1` or `LZC2`, the field's byte and the rest, with these constants
 abbrev pub file_bytes : Shape → Wiring ℕ → List ℕ → List ℕ

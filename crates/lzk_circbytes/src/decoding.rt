@@ -47,7 +47,8 @@ fn body_of<F: Field>(
 #[tactic(auto, unfolding(crate::specs::Reading::wiring_at))]
 fn circuit_of<F: Field>(alloc: Global, version: u8, bytes: &[u8]) -> Result<Circuit<F>, ReadError>
     requires { (version ≡ 1) ⊎ (version ≡ 2) }
-    ensures value { Gives (λ c. numbered F.coding.number c) result (wiring_at (shape F.coding.id F.coding.bytes F.coding.size) version bytes.now) }
+    ensures value { Gives (λ c. numbered F.coding.number c) result
+        (wiring_at (shape F.coding.id F.coding.bytes F.coding.size) version bytes.now) }
     ensures valid { IfOk result (λ c. IsValid F.ops c) }
 {
     let (publics, rest) = limited_of(0, MOST_PUBLICS, bytes)?;

@@ -41,7 +41,8 @@ fn push_coefficients<F: Field>(
     terms: &[Term<F>],
 ) -> Result<(), AllocError>
     requires { All (WasMet numbers.old.items) met.old }
-    ensures same { OnOk result (HaveSame numbers.new.items (numbers.old.items ++ map (λ t. t.coef) (map (numbered_term F.coding.number) terms.now))) }
+    ensures same { OnOk result (HaveSame numbers.new.items
+        (numbers.old.items ++ map (λ t. t.coef) (map (numbered_term F.coding.number) terms.now))) }
     ensures met { OnOk result (All (WasMet numbers.new.items) met.new) }
 {
     for t in terms {
@@ -52,7 +53,8 @@ fn push_coefficients<F: Field>(
 
 /// The numbers of the circuit's coefficients, each once, ascending, and in version 2 zero before them.
 fn coefs_of<F: Field>(alloc: Global, circuit: &Circuit<F>) -> Result<Vec<u128>, AllocError>
-    ensures numbers { IfOk result (λ numbers. numbers.items ≡ coefs_of circuit.now.version (constants_of (numbered F.coding.number circuit.now))) }
+    ensures numbers { IfOk result (λ numbers.
+        numbers.items ≡ coefs_of circuit.now.version (constants_of (numbered F.coding.number circuit.now))) }
     ensures valid { IsValid F.ops circuit.now }
 {
     let mut numbers = Vec::new(alloc);
@@ -99,7 +101,9 @@ fn push_layers<F: Field>(
     requires rising { IsStrictlyIncreasing constants.now }
     requires few { length constants.now ≤ 2097153 }
     requires fit { CanWriteLayers constants.now (map (numbered_layer F.coding.number) circuit.now.layers) }
-    ensures { OnOk result (out.new.items ≡ out.old.items ++ layers_bytes constants.now 0 (reverse (map (numbered_layer F.coding.number) circuit.now.layers))) }
+    ensures { OnOk result (out.new.items
+        ≡ out.old.items
+        ++ layers_bytes constants.now 0 (reverse (map (numbered_layer F.coding.number) circuit.now.layers))) }
 {
     let depth = circuit.depth();
     for i in 0..depth {
@@ -110,8 +114,10 @@ fn push_layers<F: Field>(
 
 /// The circuit's one file. `decode` of it gives the circuit back.
 pub fn encode<F: Field>(alloc: Global, circuit: &Circuit<F>) -> Result<Vec<u8>, AllocError>
-    ensures file { IfOk result (λ bytes. IsFile F.ops F.coding.number (shape F.coding.id F.coding.bytes F.coding.size) circuit.now bytes.items) }
-    ensures same { IfOk result (λ bytes. bytes.items ≡ file_of (shape F.coding.id F.coding.bytes F.coding.size) (numbered F.coding.number circuit.now)) }
+    ensures file { IfOk result (λ bytes.
+        IsFile F.ops F.coding.number (shape F.coding.id F.coding.bytes F.coding.size) circuit.now bytes.items) }
+    ensures same { IfOk result (λ bytes.
+        bytes.items ≡ file_of (shape F.coding.id F.coding.bytes F.coding.size) (numbered F.coding.number circuit.now)) }
 {
     let coefs = coefs_of(alloc, circuit)?;
     let mut out = Vec::new(alloc);
@@ -132,8 +138,9 @@ fn absorb_layers<F: Field>(
     requires rising { IsStrictlyIncreasing constants.now }
     requires few { length constants.now ≤ 2097153 }
     requires fit { CanWriteLayers constants.now (map (numbered_layer F.coding.number) circuit.now.layers) }
-    ensures { (m : List ℕ) → Holds256 hasher.old m → OnOk result
-        (Holds256 hasher.new (m ++ layers_bytes constants.now 0 (reverse (map (numbered_layer F.coding.number) circuit.now.layers)))) }
+    ensures { (m : List ℕ) → Holds256 hasher.old m
+        → OnOk result (Holds256 hasher.new
+        (m ++ layers_bytes constants.now 0 (reverse (map (numbered_layer F.coding.number) circuit.now.layers)))) }
 {
     let mut piece = room;
     let depth = circuit.depth();
@@ -147,7 +154,8 @@ fn absorb_layers<F: Field>(
 
 /// SHA-256 of the circuit's file.
 pub fn id<F: Field>(alloc: Global, circuit: &Circuit<F>) -> Result<[u8; 32], AllocError>
-    ensures { IfOk result (λ digest. digest ≡ circuit_id (shape F.coding.id F.coding.bytes F.coding.size) (numbered F.coding.number circuit.now)) }
+    ensures { IfOk result (λ digest.
+        digest ≡ circuit_id (shape F.coding.id F.coding.bytes F.coding.size) (numbered F.coding.number circuit.now)) }
 {
     let coefs = coefs_of(alloc, circuit)?;
     let mut piece = Vec::new(alloc);

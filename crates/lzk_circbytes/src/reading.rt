@@ -121,7 +121,8 @@ fn step_of(base: u32, limit: u32, bytes: &[u8]) -> Result<(u32, &[u8]), ReadErro
 
 #[tactic(auto, unfolding(crate::specs::Reading::constant_at))]
 fn constant_of<F: Field>(before: u128, bytes: &[u8]) -> Result<(F, &[u8]), ReadError>
-    ensures { Gives (λ x. (F.coding.number x.0, x.1.now)) result (constant_at (shape F.coding.id F.coding.bytes F.coding.size) before bytes.now) }
+    ensures { Gives (λ x. (F.coding.number x.0, x.1.now)) result
+        (constant_at (shape F.coding.id F.coding.bytes F.coding.size) before bytes.now) }
 {
     if bytes.len() < F::BYTES {
         return Err(stop(ByteKind::Truncated, bytes));
@@ -144,7 +145,8 @@ pub fn constants_of<F: Field>(
     count: u32,
     bytes: &[u8],
 ) -> Result<(Vec<F>, &[u8]), ReadError>
-    ensures { Gives (λ x. (map F.coding.number x.0.items, x.1.now)) result (constants_at (shape F.coding.id F.coding.bytes F.coding.size) count bytes.now) }
+    ensures { Gives (λ x. (map F.coding.number x.0.items, x.1.now)) result
+        (constants_at (shape F.coding.id F.coding.bytes F.coding.size) count bytes.now) }
 {
     let room = (count as usize).min(bytes.len() / F::BYTES);
     let mut constants = Vec::with_capacity(alloc, room)?;
@@ -166,7 +168,8 @@ pub fn coefs_of<F: Field>(
     constants: Vec<F>,
 ) -> Result<Vec<F>, AllocError>
     requires { length constants.items < 2 ^ 32 }
-    ensures { IfOk result (λ coefs. map F.coding.number coefs.items ≡ coefs_of version (map F.coding.number constants.items)) }
+    ensures { IfOk result
+        (λ coefs. map F.coding.number coefs.items ≡ coefs_of version (map F.coding.number constants.items)) }
 {
     if version != 2 {
         return Ok(constants);
@@ -204,7 +207,9 @@ fn wire_before<F: Field>(before: &Option<Term<F>>) -> u32
 }
 
 fn is_apart<F: Field>(before: &Option<Term<F>>, term: &Term<F>) -> bool
-    ensures { result ≡ are_apart (λ n. n) (option_map (numbered_term F.coding.number) before.now) (numbered_term F.coding.number term.now) }
+    ensures { result
+        ≡ are_apart (λ n. n) (option_map (numbered_term F.coding.number) before.now)
+        (numbered_term F.coding.number term.now) }
 {
     match before {
         None => true,
@@ -222,10 +227,12 @@ fn term_of<'a, F: Field>(
     bytes: &'a [u8],
 ) -> Result<((Term<F>, u32), &'a [u8]), ReadError>
     requires { length constants.now < 2 ^ 32 }
-    ensures value { Gives (λ x. (numbered_term F.coding.number x.0.0, x.1.now)) result
-        (term_at (map F.coding.number constants.now) wires below (option_map (numbered_term F.coding.number) before.now) bytes.now) }
+    ensures value { Gives (λ x. (numbered_term F.coding.number x.0.0, x.1.now)) result (term_at
+        (map F.coding.number constants.now) wires below (option_map (numbered_term F.coding.number) before.now)
+        bytes.now) }
     ensures bound { IfOk result (λ x. x.0.1 < length constants.now) }
-    ensures constant { IfOk result (λ x. F.coding.number x.0.0.coef ≡ slice_index_or (map F.coding.number constants.now) x.0.1 0) }
+    ensures constant { IfOk result
+        (λ x. F.coding.number x.0.0.coef ≡ slice_index_or (map F.coding.number constants.now) x.0.1 0) }
 {
     let (g, at_a) = step_of(wire_before(before), wires, bytes)?;
     let (a, at_b) = step_of(0, below, at_a)?;
@@ -258,7 +265,8 @@ pub fn terms_of<'a, F: Field>(
     ensures value { Gives (λ x. (map (numbered_term F.coding.number) x.0.items, x.1.now)) result
         (terms_at (map F.coding.number constants.now) wires below count bytes.now) }
     ensures count { IfOk result (λ x. length x.0.items ≡ count) }
-    ensures used { IfOk result (λ x. Marks (map F.coding.number constants.now) (is_in_terms (map (numbered_term F.coding.number) x.0.items)) used.old
+    ensures used { IfOk result (λ x.
+        Marks (map F.coding.number constants.now) (is_in_terms (map (numbered_term F.coding.number) x.0.items)) used.old
         used.new) }
 {
     let room = (count as usize).min(bytes.len() / LEAST_TERM);
@@ -300,7 +308,8 @@ fn layer_of<'a, F: Field>(
         (layer_at (map F.coding.number constants.now) (under below.width below.wires below.terms) bytes.now) }
     ensures wires { IfOk result (λ x. below.wires + x.0.wires ≤ 2097152) }
     ensures terms { IfOk result (λ x. below.terms + length x.0.terms ≤ 2097152) }
-    ensures used { IfOk result (λ x. Marks (map F.coding.number constants.now) (is_in_terms (map (numbered_term F.coding.number) x.0.terms)) used.old
+    ensures used { IfOk result (λ x.
+        Marks (map F.coding.number constants.now) (is_in_terms (map (numbered_term F.coding.number) x.0.terms)) used.old
         used.new) }
 {
     let (wires, at_count) = word_of(bytes)?;
@@ -330,7 +339,8 @@ pub fn layers_of<'a, F: Field>(
     requires flags { length used.old ≡ length constants.now }
     ensures value { Gives (λ x. (map (numbered_layer F.coding.number) x.0.items, x.1.now)) result
         (layers_at (map F.coding.number constants.now) inputs count bytes.now) }
-    ensures used { IfOk result (λ x. Marks (map F.coding.number constants.now) (is_coefficient (map (numbered_layer F.coding.number) x.0.items))
+    ensures used { IfOk result (λ x.
+        Marks (map F.coding.number constants.now) (is_coefficient (map (numbered_layer F.coding.number) x.0.items))
         used.old used.new) }
 {
     let mut layers = Vec::with_capacity(alloc, (count as usize).min(bytes.len() / LEAST_LAYER))?;

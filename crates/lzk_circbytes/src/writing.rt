@@ -79,7 +79,8 @@ fn push_bytes(out: &mut Vec<u8>, count: usize, n: u128) -> Result<(), AllocError
 
 /// The constants, by their numbers.
 pub fn push_constants<F: Field>(out: &mut Vec<u8>, constants: &[u128]) -> Result<(), AllocError>
-    ensures { OnOk result (out.new.items ≡ out.old.items ++ constants_bytes (shape F.coding.id F.coding.bytes F.coding.size) constants.now) }
+    ensures { OnOk result (out.new.items
+        ≡ out.old.items ++ constants_bytes (shape F.coding.id F.coding.bytes F.coding.size) constants.now) }
 {
     for c in constants {
         push_bytes(out, F::BYTES, *c)?;
@@ -100,8 +101,9 @@ fn push_term<F: Field>(
     requires found { index_of constants.now (F.coding.number term.coef) < length constants.now }
     requires g { before ≤ term.g }
     requires a { term.a ≤ term.b }
-    ensures { OnOk result (out.new.items ≡ (((out.old.items ++ varint (term.g - before)) ++ varint term.a) ++ varint (term.b - term.a)) ++ varint
-        (index_of constants.now (F.coding.number term.coef))) }
+    ensures { OnOk result (out.new.items
+        ≡ (((out.old.items ++ varint (term.g - before)) ++ varint term.a) ++ varint (term.b - term.a))
+        ++ varint (index_of constants.now (F.coding.number term.coef))) }
 {
     let at = place_of(constants, places, term.coef.number());
     out.reserve(MOST_OF_TERM)?;
@@ -121,7 +123,9 @@ fn push_terms<F: Field>(
     requires rising { IsStrictlyIncreasing constants.now }
     requires few { length constants.now ≤ 2097153 }
     requires fit { CanWriteAll constants.now (map (numbered_term F.coding.number) terms.now) }
-    ensures { OnOk result (out.new.items ≡ out.old.items ++ spells as_before (term_bytes constants.now) None (map (numbered_term F.coding.number) terms.now)) }
+    ensures { OnOk result (out.new.items
+        ≡ out.old.items
+        ++ spells as_before (term_bytes constants.now) None (map (numbered_term F.coding.number) terms.now)) }
 {
     let mut before = 0;
     for t in terms {
@@ -143,7 +147,8 @@ pub fn push_layer<F: Field>(
     requires few { length constants.now ≤ 2097153 }
     requires fit { CanWriteAll constants.now (map (numbered_term F.coding.number) layer.now.terms) }
     requires terms { length layer.now.terms < 2 ^ 32 }
-    ensures { OnOk result (out.new.items ≡ out.old.items ++ layer_bytes constants.now (under 0 0 0) (numbered_layer F.coding.number layer.now)) }
+    ensures { OnOk result (out.new.items
+        ≡ out.old.items ++ layer_bytes constants.now (under 0 0 0) (numbered_layer F.coding.number layer.now)) }
 {
     let terms = layer.terms.as_slice();
     push_word(out, layer.wires)?;

@@ -37,7 +37,7 @@ mod source_fault;
 mod sums;
 mod theorems;
 mod tokens;
-mod words;
+pub mod words;
 
 pub use ast::{Expr, FieldId, Name, Part, Statement};
 pub use fault::{NumberError, NumberFault, NumberKind};

@@ -1,9 +1,10 @@
-//! The lines and words of a text.
+//! The lines and words of a text, for readers of other small languages too.
 
 ghost use Rattle.std.specs.Prelude.{◌≡◌, ◌<◌, ◌≤◌, [], ◌∷◌, length, drop, MatchOption, Some, not, position};
 ghost use Rattle.std.specs.List.{slice_split, prefix_len, position_or_len};
 ghost use Rattle.lzk_expr.specs.Texts.{lines, content, runs, is_plain, is_blank, is_feed, is_hash, IsRun, IsLine};
 
+/// Whether a byte is a space, a tab or a carriage return.
 pub fn is_blank(b: u8) -> bool
     ensures { result ≡ is_blank b }
 {
@@ -27,7 +28,7 @@ fn feed_at(line: &[u8]) -> Option<usize>
     line.iter().position(|b| *b == b'\n')
 }
 
-// Where the first byte stands that is no blank.
+/// Where the first byte stands that is no blank.
 pub fn word_at(bytes: &[u8]) -> Option<usize>
     ensures { result ≡ position is_plain bytes.now }
 {
@@ -40,7 +41,7 @@ fn blank_at(bytes: &[u8]) -> Option<usize>
     bytes.iter().position(|b| is_blank(*b))
 }
 
-// What stands on a line before its comment.
+/// What stands on a line before its comment.
 #[tactic(auto, using(crate::proofs::Runs::found_at, crate::proofs::Runs::found_none))]
 pub fn content(line: &[u8]) -> &[u8]
     ensures { result.now ≡ content line.now }
@@ -51,9 +52,9 @@ pub fn content(line: &[u8]) -> &[u8]
     }
 }
 
-// How long the word is that the bytes begin with.
+/// How long the word is that the bytes begin with.
 #[tactic(auto, using(crate::proofs::Runs::found_at, crate::proofs::Runs::found_none))]
-fn word_len(bytes: &[u8]) -> usize
+pub fn word_len(bytes: &[u8]) -> usize
     ensures len { result ≡ prefix_len is_plain bytes.now }
     ensures within { result ≤ length bytes.now }
 {
@@ -63,7 +64,7 @@ fn word_len(bytes: &[u8]) -> usize
     }
 }
 
-// The next word, and what is behind it.
+/// The next word, and what is behind it.
 pub fn next_word(bytes: &[u8]) -> Option<(&[u8], &[u8])>
     ensures { MatchOption result (runs is_plain bytes.now ≡ []) (λ x. IsRun is_plain bytes.now x.0.now x.1.now) }
 {
@@ -77,7 +78,7 @@ pub fn next_word(bytes: &[u8]) -> Option<(&[u8], &[u8])>
     }
 }
 
-// The first line, and what is behind its line feed.
+/// The first line, and what is behind its line feed.
 pub fn next_line(text: &[u8]) -> (&[u8], Option<&[u8]>)
     ensures { MatchOption result.1 (lines text.now ≡ result.0.now ∷ [])
         (λ rest. IsLine text.now result.0.now rest.now) }
