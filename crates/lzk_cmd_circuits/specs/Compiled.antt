@@ -1,12 +1,13 @@
 -- The circuit of a source.
-use Rattle.std.specs.Prelude.{◌≡◌, ℕ, ◌+◌, ◌≤◌, Option, List, [], ◌∷◌, length, count_by, MatchOption}
+use Rattle.std.specs.Prelude.{◌≡◌, ℕ, ◌+◌, ◌≤◌, Option, List, [], ◌∷◌, length, MatchOption}
 use Rattle.lzk_circbytes.specs.declared.any.AnyCircuit.{AnyCircuit}
 use Rattle.lzk_circbytes.specs.declared.any.AnyCircuit.TheVariants.{Gold, Gf}
 use Rattle.lzk_circbytes.specs.Files.{CircuitBytes}
 use Rattle.lzk_circuit.specs.declared.layer.Layer.{Layer}
-use Rattle.lzk_expr.specs.Trees.{SourceTree, is_public, is_private}
+use Rattle.lzk_expr.specs.Trees.{SourceTree}
 use Rattle.lzk_level.specs.declared.fault.LevelFault.{LevelFault}
-use Rattle.lzk_level.specs.Compiled.{version_of, field_of, publics_of, privates_of, depth_of, HasSourceValues, HasReducedLayers, HasSourceChecks, HasReducedAsserting, HasFewSourceOutputs, source_layers, source_limit, source_limit_v2}
+use Rattle.lzk_level.specs.Compiled.{depth_of, source_limit, source_limit_v2}
+use Rattle.lzk_level.specs.SomeCircuit.{IsCircuitOf, IsCircuitOfV2}
 use Rattle.lzk_outside.specs.Outside.{Files}
 use Rattle.lzk_cmd_files.specs.Decoded.{circuit_limit, source_files, level_refused}
 use Rattle.lzk_cmd_files.specs.Ends.{End, Stop, puts}
@@ -15,35 +16,10 @@ use Rattle.lzk_cmd_files.specs.Lines.{compiled_line}
 use Rattle.lzk_cmd_words.specs.declared.words.Version.{Version}
 use Rattle.lzk_cmd_words.specs.declared.words.Version.TheVariants.{One, Two}
 
--- The circuit of version 1 has the source's field and counts, the layers that its nodes need, and on every input the
--- values of its asserts as outputs, one for one; and it is reduced.
-pub record Compiled (source : SourceTree) (c : AnyCircuit) : Type 0 where
-  pub version_is : version_of c ≡ 1
-  pub field_is : field_of c ≡ source.field_is
-  pub publics : publics_of c ≡ count_by is_public source.statements
-  pub privates : privates_of c ≡ count_by is_private source.statements
-  pub layers : depth_of c ≡ source_layers source
-  pub outputs : HasSourceValues source.statements c
-  pub reduced : HasReducedLayers c
-
--- The circuit of version 2 has the same, but in place of outputs it has checks: as many as the source has asserts, and
--- on every input each assert's check is its value.
--- The asserts' checks stand by depth from the largest, those of one depth in their order, and the first layer has the
--- wires of the two uppermost levels alone.
-pub record CompiledV2 (source : SourceTree) (c : AnyCircuit) : Type 0 where
-  pub version_is : version_of c ≡ 2
-  pub field_is : field_of c ≡ source.field_is
-  pub publics : publics_of c ≡ count_by is_public source.statements
-  pub privates : privates_of c ≡ count_by is_private source.statements
-  pub layers : depth_of c ≡ source_layers source
-  pub checks : HasSourceChecks source.statements c
-  pub outputs : HasFewSourceOutputs source.statements c
-  pub reduced : HasReducedAsserting c
-
--- the one or the other, by the version that is asked for
+-- what `compile` or `compile_v2` promises of a source's circuit, by the version that is asked for
 abbrev pub CompiledAs : Version → SourceTree → AnyCircuit → Type 0
-CompiledAs One = Compiled
-CompiledAs Two = CompiledV2
+CompiledAs One = IsCircuitOf
+CompiledAs Two = IsCircuitOfV2
 
 -- the first limit that the source passes in this version
 abbrev pub limit_as : Version → SourceTree → Option LevelFault

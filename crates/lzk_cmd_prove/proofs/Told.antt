@@ -15,7 +15,7 @@ use Rattle.lzk_verify.specs.declared.verdict.Verdict.TheVariants.{Accepted}
 use Rattle.lzk_verify.specs.Verdict.{IsVerdict}
 use Rattle.lzk_cmd_files.specs.declared.ending.Ending.{Ending}
 use Rattle.lzk_cmd_files.specs.declared.ending.Halt.{Halt}
-use Rattle.lzk_cmd_circuits.specs.Compiled.{Compiled}
+use Rattle.lzk_level.specs.SomeCircuit.{IsCircuitOf}
 use Rattle.lzk_cmd_runs.specs.Demo.{IsDemo, HasVerdict}
 use Rattle.lzk_cmd_files.specs.Ends.{says}
 use Rattle.lzk_cmd_files.specs.Lines.{demo_line}
@@ -30,7 +30,7 @@ demo_verdict complete c valid publics privates counts satisfied seed len verdict
     sym (h.only Accepted (complete c [] publics privates (words_of (seeded_word seed)) h.bytes valid counts satisfied h.file))
 
 -- what is told of an accepted proof
-pub demo_told : (n : ℕ) (seed : List ℕ) (c : Wiring GoldElement) (publics privates : List GoldElement) (len : ℕ) (e : Ending) → Compiled (demo_tree n) (Gold c) → publics ≡ demo_public gold.ops n → privates ≡ demo_private gold.ops n
+pub demo_told : (n : ℕ) (seed : List ℕ) (c : Wiring GoldElement) (publics privates : List GoldElement) (len : ℕ) (e : Ending) → IsCircuitOf (demo_tree n) (Gold c) → publics ≡ demo_public gold.ops n → privates ≡ demo_private gold.ops n
     → HasVerdict gold.ops gold_coding c publics privates seed len Accepted → IsEnding (says 0 (demo_line n (length c.layers) len)) e → TellsDemo n seed (Ok e)
 demo_told n seed c publics privates len e compiled public private h ends =
     let word = words_of (seeded_word seed) in

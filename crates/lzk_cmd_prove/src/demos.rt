@@ -6,7 +6,7 @@ ghost use Rattle.lzk_circuit.specs.Checks.{IsSatisfied};
 ghost use Rattle.lzk_circuit.specs.Wires.{inputs_of};
 ghost use Rattle.lzk_demo.specs.Demo.{demo_private, demo_public, demo_tree};
 ghost use Rattle.lzk_goldilocks.specs.Elements.{number, ops};
-ghost use Rattle.lzk_cmd_circuits.specs.Compiled.{Compiled};
+ghost use Rattle.lzk_level.specs.SomeCircuit.{IsCircuitOf};
 ghost use Rattle.lzk_cmd_runs.specs.Demo.{HasVerdict};
 ghost use Rattle.lzk_cmd_words.specs.Keys.{is_number, number_of};
 ghost use Rattle.lzk_cmd_words.specs.Digits.{seed_of};
@@ -169,7 +169,7 @@ fn demo_over<R: Threads + Sync, G: Gate>(
     requires privates { circuit.now.privates ≡ n }
     requires satisfied { IsSatisfied ops number circuit.now.layers
         (inputs_of ops (demo_public ops n) (demo_private ops n)) }
-    requires compiled { Compiled (demo_tree n) (AnyCircuit.Gold circuit.now) }
+    requires compiled { IsCircuitOf (demo_tree n) (AnyCircuit.Gold circuit.now) }
     ensures { TellsDemo n by.seed result }
 {
     let bytes = prove_own_inputs(means, n, circuit, by)?;

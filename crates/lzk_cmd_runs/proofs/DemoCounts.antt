@@ -12,12 +12,12 @@ use Rattle.lzk_field.specs.Ring.{Ops}
 use Rattle.lzk_goldilocks.specs.Elements as gold
 use Rattle.lzk_goldilocks.specs.declared.element.Gold.{Gold as GoldElement}
 use Rattle.lzk_level.specs.Compiled.{HasValues, HasReducedLayers, source_layers}
-use Rattle.lzk_cmd_circuits.specs.Compiled.{Compiled}
+use Rattle.lzk_level.specs.SomeCircuit.{IsCircuitOf}
 use Rattle.lzk_cmd_words.specs.Keys.{are_digits, is_number, number_of}
 
 -- a circuit of the demo's source
 pub demo_compiled : (n : ℕ) (c : Wiring GoldElement) → c.version ≡ 1 → c.publics ≡ 1 → c.privates ≡ n → length c.layers ≡ source_layers (demo_tree n) → HasValues gold.ops gold.of_number (demo_statements n) c → HasReducedLayers (Gold c)
-    → Compiled (demo_tree n) (Gold c)
+    → IsCircuitOf (demo_tree n) (Gold c)
 demo_compiled n c version publics privates layers outputs reduced = record {
   version_is = version;
   field_is = refl;

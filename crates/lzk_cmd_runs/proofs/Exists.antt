@@ -28,7 +28,7 @@ use Rattle.lzk_goldilocks.specs.Prime.{p}
 use Rattle.lzk_goldilocks.specs.Elements as gold
 use Rattle.lzk_gf128.specs.Elements as gf
 use Rattle.lzk_level.specs.declared.fault.LevelFault.{LevelFault}
-use Rattle.lzk_level.specs.SomeCircuit.{IsCircuitOf, IsCircuitOfV2, HasSomeCircuit}
+use Rattle.lzk_level.specs.SomeCircuit.{HasSomeCircuit}
 use Rattle.lzk_level.proofs.SomeCircuits.{some_circuit}
 use Rattle.lzk_level.proofs.SomeCircuitsV2.{some_circuit_v2}
 use Rattle.lzk_complete.specs.Proving.{HaveCounts, SomeFile, FilesFit, words_of}
@@ -37,7 +37,7 @@ use Rattle.lzk_sha_circuit.specs.Circuits.{SomeShaCircuit}
 use Rattle.lzk_sha_circuit.specs.Inputs.{sha_private}
 use Rattle.lzk_verify.proofs.SomeVerdict.{some_verdict}
 use Rattle.lzk_cmd_runs.specs.Batched.{JobRead, AnyRead, GoldRead, GfRead, TooMany, IsTold, AreTold, JobOver, JobAny, JobsRun, BatchRun, list_files, among, refused_among, total_limit, batch_end}
-use Rattle.lzk_cmd_circuits.specs.Compiled.{Compiled, CompiledV2, CompiledAs, CompileRun, CompileTree, PutsCompiled, compiled_text, limit_as}
+use Rattle.lzk_cmd_circuits.specs.Compiled.{CompiledAs, CompileRun, CompileTree, PutsCompiled, compiled_text, limit_as}
 use Rattle.lzk_cmd_runs.specs.Demo.{DemoRun, demo_end}
 use Rattle.lzk_cmd_files.specs.Decoded.{circuit_files, number_files, source_files, proof_files, level_refused, text_limit, proof_limit}
 use Rattle.lzk_cmd_files.specs.Ends.{End, Stop, AtFile, stops_at, says, missing_file, refused_words, puts}
@@ -68,17 +68,10 @@ use Rattle.lzk_demo.specs.Demo.{demo_tree, demo_public, demo_private, InputsSati
 use Rattle.lzk_demo.proofs.Limits.{demo_publics, demo_privates}
 use Rattle.lzk_goldilocks.specs.declared.element.Gold.{Gold as GoldElement}
 
--- what is said of a source's circuit, in the words of a run
-compiled_of : (source : SourceTree) (c : AnyCircuit) → IsCircuitOf source c → Compiled source c
-compiled_of source c is = record { version_is = is.version_is; field_is = is.field_is; publics = is.publics; privates = is.privates; layers = is.layers; outputs = is.outputs; reduced = is.reduced }
-
-compiled_v2_of : (source : SourceTree) (c : AnyCircuit) → IsCircuitOfV2 source c → CompiledV2 source c
-compiled_v2_of source c is = record { version_is = is.version_is; field_is = is.field_is; publics = is.publics; privates = is.privates; layers = is.layers; checks = is.checks; outputs = is.outputs; reduced = is.reduced }
-
 -- a source within the limits of a version has a circuit of it
 some_as : (version : Version) (source : SourceTree) → IsWellFormed source → limit_as version source ≡ None → (c : AnyCircuit) × (bytes : List ℕ) × CompiledAs version source c × CircuitBytes c bytes
-some_as One source formed kept = let (c, bytes, is, file) = some_circuit source formed kept in (c, bytes, compiled_of source c is, file)
-some_as Two source formed kept = let (c, bytes, is, file) = some_circuit_v2 source formed kept in (c, bytes, compiled_v2_of source c is, file)
+some_as One source formed kept = some_circuit source formed kept
+some_as Two source formed kept = some_circuit_v2 source formed kept
 
 -- a circuit has a file in version 2
 some_upgraded : (c : AnyCircuit) (bytes : List ℕ) → CircuitBytes c bytes → (file : List ℕ) × CircuitBytes (upgraded_any c) file

@@ -13,7 +13,7 @@ use Rattle.lzk_outside.specs.Outside.{Files}
 use Rattle.lzk_verify.specs.declared.verdict.Verdict.{Verdict}
 use Rattle.lzk_verify.specs.declared.verdict.Verdict.TheVariants.{Accepted}
 use Rattle.lzk_verify.specs.Verdict.{IsVerdict, IsOnlyVerdict}
-use Rattle.lzk_cmd_circuits.specs.Compiled.{Compiled}
+use Rattle.lzk_level.specs.SomeCircuit.{IsCircuitOf}
 use Rattle.lzk_cmd_files.specs.Ends.{End, says, Stop}
 use Rattle.lzk_cmd_files.specs.Lines.{demo_line}
 use Rattle.lzk_cmd_verify.specs.Verified.{gold_coding}
@@ -21,7 +21,7 @@ use Rattle.lzk_cmd_verify.specs.Verified.{gold_coding}
 -- a circuit of the demo's source with n private inputs, the file of its one proof for the empty session and the seed's
 -- words, and the verdict on it
 pub record IsDemo (n : ℕ) (seed : List ℕ) (c : Wiring GoldElement) (bytes : List ℕ) : Type 0 where
-  pub compiled : Compiled (demo_tree n) (Gold c)
+  pub compiled : IsCircuitOf (demo_tree n) (Gold c)
   pub file : IsProofFile gold.ops gold_coding c [] (demo_public gold.ops n) (demo_private gold.ops n)
       (words_of (seeded_word seed)) bytes
   pub accepted : IsVerdict gold.ops gold_coding c [] (demo_public gold.ops n) bytes Accepted
