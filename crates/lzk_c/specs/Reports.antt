@@ -4,10 +4,8 @@ use Rattle.std.specs.Int.{w128, to_le_bytes}
 use Rattle.lzk_c.specs.declared.report.Report.{Report}
 use Rattle.lzk_c.specs.declared.refusal.Refusal.{Refusal}
 use Rattle.lzk_c.specs.declared.refusal.Refusal.TheVariants.{NoCircuit, TooLong, NoNumbers, OutOfMemory}
-use Rattle.lzk_circbytes.specs.declared.fault.ByteKind.{ByteKind}
-use Rattle.lzk_circbytes.specs.declared.fault.ByteKind.TheVariants as circuits
-use Rattle.lzk_expr.specs.declared.fault.NumberKind.{NumberKind}
-use Rattle.lzk_expr.specs.declared.fault.NumberKind.TheVariants as numbers
+use Rattle.lzk_circbytes.specs.Kinds as circuits
+use Rattle.lzk_expr.specs.Kinds as numbers
 use Rattle.lzk_layout.specs.declared.fault.ProofKind.{ProofKind}
 use Rattle.lzk_layout.specs.declared.fault.ProofKind.TheVariants as proofs
 use Rattle.lzk_verify.specs.declared.verdict.Verdict.{Verdict}
@@ -33,34 +31,13 @@ told answer = record {
 abbrev pub failed : ℕ → Report
 failed check = record (told 1) { check = check }
 
--- ---- the numbers of rules, in the order in which they are declared
-
+-- the numbers of rules of proofs, in the order in which they are declared
 abbrev pub proof_kind : ProofKind → ℕ
 proof_kind proofs.Truncated = 1
 proof_kind proofs.Magic = 2
 proof_kind proofs.Element = 3
 proof_kind proofs.PathLimit = 4
 proof_kind proofs.Trailing = 5
-
-abbrev pub circuit_kind : ByteKind → ℕ
-circuit_kind circuits.Truncated = 1
-circuit_kind circuits.Magic = 2
-circuit_kind circuits.FieldId = 3
-circuit_kind circuits.Limit = 4
-circuit_kind circuits.Varint = 5
-circuit_kind circuits.Order = 6
-circuit_kind circuits.Range = 7
-circuit_kind circuits.Constant = 8
-circuit_kind circuits.Trailing = 9
-circuit_kind circuits.Assertion = 10
-
-abbrev pub number_kind : NumberKind → ℕ
-number_kind numbers.Syntax = 1
-number_kind numbers.TooLarge = 2
-number_kind numbers.TooFew = 3
-number_kind numbers.TooMany = 4
-
--- ---- the reports
 
 abbrev pub verdict_report : Verdict ℕ → Report
 verdict_report Accepted = told 0
@@ -76,8 +53,8 @@ verdict_report (Quadratic column) = record (failed 8) { column = column }
 
 abbrev pub refusal_report : Refusal → Report
 refusal_report TooLong = told 2
-refusal_report (NoCircuit fault) = record (told 3) { kind = circuit_kind fault.kind; offset = fault.offset }
-refusal_report (NoNumbers fault) = record (told 4) { kind = number_kind fault.kind; line = fault.line }
+refusal_report (NoCircuit fault) = record (told 3) { kind = circuits.rule_number fault.kind; offset = fault.offset }
+refusal_report (NoNumbers fault) = record (told 4) { kind = numbers.rule_number fault.kind; line = fault.line }
 refusal_report OutOfMemory = told 6
 
 abbrev pub report_of : Result (Verdict ℕ) Refusal → Report

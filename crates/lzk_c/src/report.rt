@@ -4,8 +4,6 @@ ghost use Rattle.std.specs.Prelude.{◌≡◌};
 ghost use Rattle.lzk_c.specs.Reports as spec;
 
 use crate::refusal::Refusal;
-use lzk_circbytes::ByteKind;
-use lzk_expr::NumberKind;
 use lzk_layout::ProofKind;
 use lzk_verify::Verdict;
 
@@ -75,34 +73,6 @@ fn proof_kind(kind: ProofKind) -> u32
     }
 }
 
-fn circuit_kind(kind: ByteKind) -> u32
-    ensures { result ≡ spec.circuit_kind kind }
-{
-    match kind {
-        ByteKind::Truncated => 1,
-        ByteKind::Magic => 2,
-        ByteKind::FieldId => 3,
-        ByteKind::Limit => 4,
-        ByteKind::Varint => 5,
-        ByteKind::Order => 6,
-        ByteKind::Range => 7,
-        ByteKind::Constant => 8,
-        ByteKind::Trailing => 9,
-        ByteKind::Assertion => 10,
-    }
-}
-
-fn number_kind(kind: NumberKind) -> u32
-    ensures { result ≡ spec.number_kind kind }
-{
-    match kind {
-        NumberKind::Syntax => 1,
-        NumberKind::TooLarge => 2,
-        NumberKind::TooFew => 3,
-        NumberKind::TooMany => 4,
-    }
-}
-
 fn verdict_report(verdict: Verdict<u128>) -> Report
     ensures { result ≡ spec.verdict_report verdict }
 {
@@ -152,12 +122,12 @@ fn refusal_report(refusal: Refusal) -> Report
     match refusal {
         Refusal::TooLong => told(2),
         Refusal::NoCircuit(fault) => Report {
-            kind: circuit_kind(fault.kind),
+            kind: fault.kind.number(),
             offset: fault.offset,
             ..told(3)
         },
         Refusal::NoNumbers(fault) => Report {
-            kind: number_kind(fault.kind),
+            kind: fault.kind.number(),
             line: fault.line,
             ..told(4)
         },

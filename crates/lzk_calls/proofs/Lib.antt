@@ -1,2 +1,1 @@
-mod Versions
 pub mod Hashes

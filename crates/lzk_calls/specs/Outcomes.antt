@@ -5,10 +5,8 @@ use Rattle.lzk_calls.specs.declared.outcome.Outcome.{Outcome}
 use Rattle.lzk_calls.specs.declared.refusal.Refusal.{Refusal}
 use Rattle.lzk_calls.specs.declared.refusal.Refusal.TheVariants.{TooLong, NoCircuit, NoPublics, NoPrivates, NoSource}
 use Rattle.lzk_calls.specs.declared.refusal.Refusal.TheVariants.{OutOfMemory, NoRoom, Unsatisfied, OverLimit, NoVersion}
-use Rattle.lzk_circbytes.specs.declared.fault.ByteKind.{ByteKind}
-use Rattle.lzk_circbytes.specs.declared.fault.ByteKind.TheVariants as circuits
-use Rattle.lzk_expr.specs.declared.fault.NumberKind.{NumberKind}
-use Rattle.lzk_expr.specs.declared.fault.NumberKind.TheVariants as numbers
+use Rattle.lzk_circbytes.specs.Kinds as circuits
+use Rattle.lzk_expr.specs.Kinds as numbers
 use Rattle.lzk_expr.specs.declared.source_fault.SourceKind.{SourceKind}
 use Rattle.lzk_expr.specs.declared.source_fault.SourceKind.TheVariants as sources
 use Rattle.lzk_level.specs.declared.fault.LevelFault.{LevelFault}
@@ -26,26 +24,7 @@ told answer = record {
   value = replicate 16 0;
 }
 
--- ---- the numbers of rules, in the order in which they are declared
-
-abbrev pub circuit_kind : ByteKind → ℕ
-circuit_kind circuits.Truncated = 1
-circuit_kind circuits.Magic = 2
-circuit_kind circuits.FieldId = 3
-circuit_kind circuits.Limit = 4
-circuit_kind circuits.Varint = 5
-circuit_kind circuits.Order = 6
-circuit_kind circuits.Range = 7
-circuit_kind circuits.Constant = 8
-circuit_kind circuits.Trailing = 9
-circuit_kind circuits.Assertion = 10
-
-abbrev pub number_kind : NumberKind → ℕ
-number_kind numbers.Syntax = 1
-number_kind numbers.TooLarge = 2
-number_kind numbers.TooFew = 3
-number_kind numbers.TooMany = 4
-
+-- the numbers of rules of sources, in the order in which they are declared
 abbrev pub source_kind : SourceKind → ℕ
 source_kind sources.Character = 1
 source_kind sources.Syntax = 2
@@ -57,8 +36,6 @@ source_kind sources.NoField = 7
 source_kind sources.NoAssert = 8
 source_kind sources.Limit = 9
 
--- ---- what is written
-
 abbrev pub limit_outcome : LevelFault → Outcome
 limit_outcome (Layers count) = record (told 10) { kind = 1; count = count }
 limit_outcome (LayerWires count) = record (told 10) { kind = 2; count = count }
@@ -66,13 +43,13 @@ limit_outcome (Terms count) = record (told 10) { kind = 3; count = count }
 
 abbrev pub refusal_outcome : Refusal → Outcome
 refusal_outcome TooLong = told 2
-refusal_outcome (NoCircuit fault) = record (told 3) { kind = circuit_kind fault.kind; offset = fault.offset }
-refusal_outcome (NoPublics fault) = record (told 4) { kind = number_kind fault.kind; line = fault.line }
+refusal_outcome (NoCircuit fault) = record (told 3) { kind = circuits.rule_number fault.kind; offset = fault.offset }
+refusal_outcome (NoPublics fault) = record (told 4) { kind = numbers.rule_number fault.kind; line = fault.line }
 refusal_outcome (NoSource fault) = record (told 5) { kind = source_kind fault.kind; line = fault.line }
 refusal_outcome OutOfMemory = told 6
 refusal_outcome (NoRoom count) = record (told 7) { count = count }
 refusal_outcome (Unsatisfied check value) = record (told 8) { check = check; value = to_le_bytes w128 value }
-refusal_outcome (NoPrivates fault) = record (told 9) { kind = number_kind fault.kind; line = fault.line }
+refusal_outcome (NoPrivates fault) = record (told 9) { kind = numbers.rule_number fault.kind; line = fault.line }
 refusal_outcome (OverLimit fault) = limit_outcome fault
 refusal_outcome NoVersion = told 11
 

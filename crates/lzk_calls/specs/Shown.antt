@@ -12,7 +12,7 @@ use Rattle.lzk_calls.specs.declared.info.Info.{Info}
 use Rattle.lzk_calls.specs.declared.refusal.Refusal.{Refusal}
 use Rattle.lzk_calls.specs.declared.refusal.Refusal.TheVariants.{NoCircuit}
 use Rattle.lzk_calls.specs.Inputs.{IsUnread}
-use Rattle.lzk_calls.specs.Outcomes.{circuit_kind}
+use Rattle.lzk_circbytes.specs.Kinds.{rule_number}
 
 abbrev pub refused : ℕ → ℕ → ℕ → Info
 refused answer kind offset = record {
@@ -30,7 +30,7 @@ refused answer kind offset = record {
 
 -- a file is refused for a rule that it breaks, or for want of memory
 abbrev pub refusal_info : Refusal → Info
-refusal_info (NoCircuit fault) = refused 3 (circuit_kind fault.kind) fault.offset
+refusal_info (NoCircuit fault) = refused 3 (rule_number fault.kind) fault.offset
 refusal_info other = refused 6 0 0
 
 abbrev pub info_over : {A : Type 0} → (A → ℕ) → ℕ → List ℕ → Wiring A → Info

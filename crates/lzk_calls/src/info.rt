@@ -5,7 +5,6 @@ ghost use Rattle.lzk_circbytes.specs.Files.{CircuitBytes};
 ghost use Rattle.lzk_calls.specs.Shown as spec;
 ghost use Rattle.lzk_calls.specs.Shown.{Shows};
 
-use crate::outcome::circuit_kind;
 use crate::reading::circuit_of;
 use crate::refusal::Refusal;
 use lzk_circbytes::{AnyCircuit, id_of_file};
@@ -61,7 +60,7 @@ fn refusal_info(refusal: Refusal) -> Info
     ensures { result ≡ spec.refusal_info refusal }
 {
     match refusal {
-        Refusal::NoCircuit(fault) => refused(3, circuit_kind(fault.kind), fault.offset),
+        Refusal::NoCircuit(fault) => refused(3, fault.kind.number(), fault.offset),
         _ => refused(6, 0, 0),
     }
 }

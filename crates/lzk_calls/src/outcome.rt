@@ -4,8 +4,7 @@ ghost use Rattle.std.specs.Prelude.{◌≡◌};
 ghost use Rattle.lzk_calls.specs.Outcomes as spec;
 
 use crate::refusal::Refusal;
-use lzk_circbytes::ByteKind;
-use lzk_expr::{NumberKind, SourceKind};
+use lzk_expr::SourceKind;
 use lzk_level::LevelFault;
 
 /// What came of a call. A field that the answer does not speak of is 0.
@@ -40,35 +39,6 @@ fn told(answer: u32) -> Outcome
         offset: 0,
         count: 0,
         value: [0; 16],
-    }
-}
-
-/// The number of a rule of circuits' files.
-pub fn circuit_kind(kind: ByteKind) -> u32
-    ensures { result ≡ spec.circuit_kind kind }
-{
-    match kind {
-        ByteKind::Truncated => 1,
-        ByteKind::Magic => 2,
-        ByteKind::FieldId => 3,
-        ByteKind::Limit => 4,
-        ByteKind::Varint => 5,
-        ByteKind::Order => 6,
-        ByteKind::Range => 7,
-        ByteKind::Constant => 8,
-        ByteKind::Trailing => 9,
-        ByteKind::Assertion => 10,
-    }
-}
-
-fn number_kind(kind: NumberKind) -> u32
-    ensures { result ≡ spec.number_kind kind }
-{
-    match kind {
-        NumberKind::Syntax => 1,
-        NumberKind::TooLarge => 2,
-        NumberKind::TooFew => 3,
-        NumberKind::TooMany => 4,
     }
 }
 
@@ -116,12 +86,12 @@ fn refusal_outcome(refusal: Refusal) -> Outcome
     match refusal {
         Refusal::TooLong => told(2),
         Refusal::NoCircuit(fault) => Outcome {
-            kind: circuit_kind(fault.kind),
+            kind: fault.kind.number(),
             offset: fault.offset,
             ..told(3)
         },
         Refusal::NoPublics(fault) => Outcome {
-            kind: number_kind(fault.kind),
+            kind: fault.kind.number(),
             line: fault.line,
             ..told(4)
         },
@@ -138,7 +108,7 @@ fn refusal_outcome(refusal: Refusal) -> Outcome
             ..told(8)
         },
         Refusal::NoPrivates(fault) => Outcome {
-            kind: number_kind(fault.kind),
+            kind: fault.kind.number(),
             line: fault.line,
             ..told(9)
         },

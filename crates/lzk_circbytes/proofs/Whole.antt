@@ -80,12 +80,12 @@ no_circuit bytes e h c f = apart (numbers_of c) e (sym (circuit_read c bytes f) 
 -- ---- what was read
 
 -- a file that was read begins with `LZC1` or `LZC2`
-record Begins (bytes : List ℕ) (x : ℕ × Wiring ℕ) : Type 0 where
-  version : ℕ
-  known : (version ≡ 1) ⊎ (version ≡ 2)
-  rest : List ℕ
-  is : bytes ≡ 76 ∷ 90 ∷ 67 ∷ (48 + version) ∷ rest
-  read : field_at version rest ≡ Ok x
+pub record Begins (bytes : List ℕ) (x : ℕ × Wiring ℕ) : Type 0 where
+  pub version : ℕ
+  pub known : (version ≡ 1) ⊎ (version ≡ 2)
+  pub rest : List ℕ
+  pub is : bytes ≡ 76 ∷ 90 ∷ 67 ∷ (48 + version) ∷ rest
+  pub read : field_at version rest ≡ Ok x
 
 magic_is : (last a b c d : ℕ) (rest : List ℕ) → begins_with (76 ∷ 90 ∷ 67 ∷ last ∷ []) (a ∷ b ∷ c ∷ d ∷ rest) ≡ true → a ∷ b ∷ c ∷ d ∷ rest ≡ 76 ∷ 90 ∷ 67 ∷ last ∷ rest
 magic_is last a b c d rest h =
@@ -99,7 +99,7 @@ magic_is last a b c d rest h =
     let e4 : d ≡ last = sym (eqb-true last d p4.0) in
     rw (e1, e2, e3, e4) refl
 
-begins : (bytes : List ℕ) (x : ℕ × Wiring ℕ) → circuit_at bytes ≡ Ok x → Begins bytes x
+pub begins : (bytes : List ℕ) (x : ℕ × Wiring ℕ) → circuit_at bytes ≡ Ok x → Begins bytes x
 unfolding circuit_at
 begins [] x e = absurd cc
 begins (a ∷ []) x e = absurd cc

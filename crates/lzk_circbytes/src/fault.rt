@@ -31,6 +31,28 @@ pub enum ByteKind {
     Assertion,
 }
 
+impl ByteKind {
+    ghost use Rattle.lzk_circbytes.specs.Kinds.{rule_number};
+
+    /// Its number, which callers in C are told.
+    pub fn number(self) -> u32
+        ensures { result ≡ rule_number self }
+    {
+        match self {
+            ByteKind::Truncated => 1,
+            ByteKind::Magic => 2,
+            ByteKind::FieldId => 3,
+            ByteKind::Limit => 4,
+            ByteKind::Varint => 5,
+            ByteKind::Order => 6,
+            ByteKind::Range => 7,
+            ByteKind::Constant => 8,
+            ByteKind::Trailing => 9,
+            ByteKind::Assertion => 10,
+        }
+    }
+}
+
 /// The first check that failed, and the offset in bytes of the first byte of its field.
 #[derive(Clone, Copy, Debug, PartialEq, Eq)]
 pub struct ByteFault {

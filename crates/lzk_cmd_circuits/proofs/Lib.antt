@@ -4,4 +4,3 @@ pub mod Outputs
 pub mod ShaFiles
 pub mod Terms
 pub mod Upgrades
-pub mod Versions

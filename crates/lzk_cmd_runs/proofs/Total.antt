@@ -14,7 +14,7 @@ use Rattle.lzk_circbytes.proofs.Ascending.{Has}
 use Rattle.lzk_circbytes.proofs.FileLaws.{map-reverse, valid_from_fits, file_from_read}
 use Rattle.lzk_circbytes.proofs.Steps.{IsBytes, IsBytes-rest, from, not_refused}
 use Rattle.lzk_circbytes.proofs.Validity.{index_has}
-use Rattle.lzk_circbytes.proofs.Whole.{fault_found}
+use Rattle.lzk_circbytes.proofs.Whole.{begins, fault_found}
 use Rattle.lzk_circbytes.proofs.Wirings.{wiring_take}
 use Rattle.lzk_circuit.specs.declared.layer.Term.{Term}
 use Rattle.lzk_circuit.specs.declared.layer.Layer.{Layer}
@@ -97,45 +97,6 @@ module _ {A : Type 0} (o : Ops A) (size : ℕ) (number : A → ℕ) (element : �
       go (Err fault) e = inr (fault, e)
 
 -- ---- a circuit's whole file
-
--- a file that was read begins with `LZC1` or `LZC2`
-record Begins (bytes : List ℕ) (x : ℕ × Wiring ℕ) : Type 0 where
-  version : ℕ
-  known : (version ≡ 1) ⊎ (version ≡ 2)
-  rest : List ℕ
-  is : bytes ≡ 76 ∷ 90 ∷ 67 ∷ (48 + version) ∷ rest
-  read : field_at version rest ≡ Ok x
-
-magic_is : (last a b c d : ℕ) (rest : List ℕ) → begins_with (76 ∷ 90 ∷ 67 ∷ last ∷ []) (a ∷ b ∷ c ∷ d ∷ rest) ≡ true → a ∷ b ∷ c ∷ d ∷ rest ≡ 76 ∷ 90 ∷ 67 ∷ last ∷ rest
-magic_is last a b c d rest h =
-    let p1 = and_parts (eqb 76 a) (eqb 90 b && (eqb 67 c && (eqb last d && true))) h in
-    let p2 = and_parts (eqb 90 b) (eqb 67 c && (eqb last d && true)) p1.1 in
-    let p3 = and_parts (eqb 67 c) (eqb last d && true) p2.1 in
-    let p4 = and_parts (eqb last d) true p3.1 in
-    let e1 : a ≡ 76 = sym (eqb-true 76 a p1.0) in
-    let e2 : b ≡ 90 = sym (eqb-true 90 b p2.0) in
-    let e3 : c ≡ 67 = sym (eqb-true 67 c p3.0) in
-    let e4 : d ≡ last = sym (eqb-true last d p4.0) in
-    rw (e1, e2, e3, e4) refl
-
-begins : (bytes : List ℕ) (x : ℕ × Wiring ℕ) → circuit_at bytes ≡ Ok x → Begins bytes x
-unfolding circuit_at
-begins [] x e = absurd cc
-begins (a ∷ []) x e = absurd cc
-begins (a ∷ b ∷ []) x e = absurd cc
-begins (a ∷ b ∷ c ∷ []) x e = absurd cc
-begins (a ∷ b ∷ c ∷ d ∷ rest) x e =
-    let bytes : List ℕ = a ∷ b ∷ c ∷ d ∷ rest in
-    let one = begins_with (76 ∷ 90 ∷ 67 ∷ 49 ∷ []) bytes in
-    let two = begins_with (76 ∷ 90 ∷ 67 ∷ 50 ∷ []) bytes in
-    let g = not_refused (ltb (length bytes) 4) _ (cond one (field_at 1 rest) (cond two (field_at 2 rest) (stops Magic bytes))) x e in
-    pick one two refl refl g.1
-  where
-    pick : (p q : Bool) → begins_with (76 ∷ 90 ∷ 67 ∷ 49 ∷ []) (a ∷ b ∷ c ∷ d ∷ rest) ≡ p → begins_with (76 ∷ 90 ∷ 67 ∷ 50 ∷ []) (a ∷ b ∷ c ∷ d ∷ rest) ≡ q
-        → cond p (field_at 1 rest) (cond q (field_at 2 rest) (stops Magic (a ∷ b ∷ c ∷ d ∷ rest))) ≡ Ok x → Begins (a ∷ b ∷ c ∷ d ∷ rest) x
-    pick true q ep eq h = record { version = 1; known = inl refl; rest = rest; is = magic_is 49 a b c d rest ep; read = h }
-    pick false true ep eq h = record { version = 2; known = inr refl; rest = rest; is = magic_is 50 a b c d rest eq; read = h }
-    pick false false ep eq h = absurd cc
 
 -- the field's byte, and the circuit of this version behind it
 abbrev IsRead : ℕ → ℕ → List ℕ → Type 0

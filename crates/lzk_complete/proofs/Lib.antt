@@ -13,4 +13,3 @@ pub mod SomeMessages
 pub mod SomeProof
 pub mod Standing
 pub mod Vanish
-pub mod WireLaws

@@ -22,13 +22,13 @@ use Rattle.lzk_verify.specs.Checks.{leaf_at, HasPathCount, HasRoot}
 use Rattle.lzk_complete.proofs.Standing.{length_rows}
 
 -- n more are dropped with the front list
-drop_behind : {X : Type 0} (xs ys : List X) (n m : ℕ) → length xs ≡ n → drop (n + m) (xs ++ ys) ≡ drop m ys
+pub drop_behind : {X : Type 0} (xs ys : List X) (n m : ℕ) → length xs ≡ n → drop (n + m) (xs ++ ys) ≡ drop m ys
 drop_behind [] ys n m e = let z : n + m ≡ m = omega (arith, e) in ap (λ k. drop k ys) z
 drop_behind (x ∷ xs) ys n m e =
     let z : n + m ≡ suc (length xs + m) = omega (arith, e) in ap (λ k. drop k (x ∷ (xs ++ ys))) z ∙ drop_behind xs ys (length xs) m refl
 
 -- lists of one length, one after the other: the k-th
-block_is : {X : Type 0} (f : ℕ → List X) (n : ℕ) (js : List ℕ) (k : ℕ) → ((j : ℕ) → length (f j) ≡ n) → k < length js → take n (drop (k * n) (flat_map f js)) ≡ f (slice_index js k)
+pub block_is : {X : Type 0} (f : ℕ → List X) (n : ℕ) (js : List ℕ) (k : ℕ) → ((j : ℕ) → length (f j) ≡ n) → k < length js → take n (drop (k * n) (flat_map f js)) ≡ f (slice_index js k)
 block_is f n [] k same h = absurd (omega (arith, h))
 block_is f n (j ∷ js) zero same h = let z : 0 * n ≡ 0 = omega arith in ap (λ m. take n (drop m (f j ++ flat_map f js))) z ∙ take_at (f j) (flat_map f js) n (same j)
 block_is f n (j ∷ js) (suc k) same h =

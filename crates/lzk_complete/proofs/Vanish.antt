@@ -1,4 +1,4 @@
--- For satisfying inputs every residual of the committed list is 0.
+-- For satisfying inputs every residual of the committed list is 0, by any script and the elements that are sent by it.
 use Rattle.std.specs.Prelude.{◌≡◌, ℕ, ◌+◌, ◌*◌, ◌/◌, ◌%◌, ◌==◌, ◌<◌, ◌≤◌, Bool, true, false, cond, nat_lt, List, [], ◌∷◌, length}
 use Rattle.std.proofs.Common.{zero, suc, refl, sym, ap, ◌∙◌, arith}
 use Rattle.std.proofs.lemmas.Bool.{ltb-true, lt-ltb, false≢true}
@@ -10,7 +10,6 @@ use Rattle.lzk_field.specs.Sums.{sum_below, minus, entry}
 use Rattle.lzk_field.proofs.RingBasics.{times_zero}
 use Rattle.lzk_field.proofs.Solve.{var, null, ◌⊞◌, ◌⊟◌, ◌⊠◌, solve}
 use Rattle.lzk_field.proofs.SumLaws.{sum-ext, sum-zero, sum-plus, sum-times}
-use Rattle.lzk_transcript.specs.Tape.{TapeState}
 use Rattle.lzk_mle.specs.Multilinear.{eq, tilde}
 use Rattle.lzk_circuit.proofs.BitLaws.{bits_enough}
 use Rattle.lzk_circuit.proofs.CheckLaws.{satisfied-asserts, satisfied-outputs}
@@ -20,23 +19,21 @@ use Rattle.lzk_circuit.specs.Wires.{coef, zero_at, layer_coefficient, wire, all_
 use Rattle.lzk_circuit.specs.Checks.{IsSatisfied}
 use Rattle.lzk_layout.specs.Places.{depth, width_at, bits_under, round_count, sent_at, pads_at, factors_sent_at, factors_at}
 use Rattle.lzk_layout.specs.Sizes.{sent_counts}
-use Rattle.lzk_sumcheck.specs.declared.script.LayerScript.{LayerScript}
 use Rattle.lzk_sumcheck.specs.declared.script.Script.{Script}
 use Rattle.lzk_sumcheck.specs.Coefficients.{coefficients, terms_at, weights_at, bound_at}
-use Rattle.lzk_sumcheck.specs.Messages.{layered_at, true_round, true_a, true_b, AreMessages}
+use Rattle.lzk_sumcheck.specs.Messages.{layered_at, true_round, true_a, true_b, IsLayerSent}
 use Rattle.lzk_sumcheck.specs.Rounds.{Layered, of_a, of_b, bound_coefficient, claim, round, IsFitting, IsSumcheck}
-use Rattle.lzk_sumcheck.specs.Script.{script, after_layers, layer_at, point_a, point_b, challenge_at, first_challenges, HasBits}
-use Rattle.lzk_sumcheck.proofs.Prefixes.{start, script-layer}
+use Rattle.lzk_sumcheck.specs.Script.{script, layer_at, point_a, point_b, challenge_at, first_challenges, HasBits, HasShape}
 use Rattle.lzk_sumcheck.proofs.SentLaws.{evens, odds}
-use Rattle.lzk_sumcheck.proofs.ShapeLaws.{layer_bits}
+use Rattle.lzk_sumcheck.proofs.ShapeLaws.{script_shape}
+use Rattle.lzk_accept.proofs.ShapeLaws.{layer_shape}
 use Rattle.lzk_sumcheck.proofs.SumcheckLaws.{sumcheck_of}
-use Rattle.lzk_sumcheck.proofs.WireLaws.{wire-weighed}
 use Rattle.lzk_accept.specs.Residuals.{next_claim, padded, claim_a, claim_b, claim_after, product_at, inputs_at, residual}
 use Rattle.lzk_tableau.specs.Tableau.{randoms, committed}
 use Rattle.lzk_complete.specs.Residuals.{ResidualsVanish}
 use Rattle.lzk_complete.proofs.ClaimLaws.{next_true}
 use Rattle.lzk_complete.proofs.CommittedLaws.{entry_pad, entry_product, privates_first}
-use Rattle.lzk_complete.proofs.WireLaws.{values_are, length_values}
+use Rattle.lzk_sumcheck.proofs.WireLaws.{wire-weighed, values_are, length_values}
 
 -- the challenges of a layer's rounds are those of a's bits and those of b's bits in turn
 module _ {A : Type 0} (o : Ops A) (s : Script A) (l : ℕ) where
@@ -65,15 +62,12 @@ module _ {A : Type 0} (o : Ops A) (s : Script A) (l : ℕ) where
         odds o (challenge_at o s l) bits
         ∙ sym (fill_by_all (λ j. challenge_at o s l (2 * j + 1)) (layer_at o s l).rb bits o.zero size.rb (λ k h. challenge_odd k))
 
-module _ {A : Type 0} (o : Ops A) (e : Coding A) (laws : Laws o e.size e.number e.element e.bytes) (c : Wiring A) (public private : List A) (word : ℕ → ℕ) (t : TapeState) (sent : List A) (publics : length public ≡ c.publics) (privates : length private ≡ c.privates) (valid : IsValid o c) (satisfied : IsSatisfied o e.number c.layers (inputs_of o public private)) (are : AreMessages o e c (all_values o c.layers (inputs_of o public private)) (randoms o e word 0 (sent_counts c)) t sent) where
+module _ {A : Type 0} (o : Ops A) (e : Coding A) (laws : Laws o e.size e.number e.element e.bytes) (c : Wiring A) (public private : List A) (word : ℕ → ℕ) (s : Script A) (shape : HasShape c s) (sent : List A) (publics : length public ≡ c.publics) (privates : length private ≡ c.privates) (valid : IsValid o c) (satisfied : IsSatisfied o e.number c.layers (inputs_of o public private)) (layers : (l : ℕ) → l < depth c → IsLayerSent o e.element c s (all_values o c.layers (inputs_of o public private)) (randoms o e word 0 (sent_counts c)) sent l) where
   abbrev V : List (List A)
   V = all_values o c.layers (inputs_of o public private)
 
   abbrev pad : ℕ → A
   pad = entry o (randoms o e word 0 (sent_counts c))
-
-  abbrev s : Script A
-  s = script o e sent c t
 
   abbrev W : List A
   W = committed o e c private word
@@ -100,23 +94,20 @@ module _ {A : Type 0} (o : Ops A) (e : Coding A) (laws : Laws o e.size e.number 
   identities l = sumcheck_of laws (L l) (fits l)
 
   has_bits : (l : ℕ) → l < depth c → HasBits (bits_under c l) (layer_at o s l)
-  has_bits l h =
-      let own = script-layer o e c t sent l h in
-      let size = layer_bits o e sent c.version (sent_at c l) (bits_under c l) (after_layers o e sent c l (start o e c t)) in
-      record { ra = ap (λ (x : LayerScript A). length x.ra) own ∙ size.ra; rb = ap (λ (x : LayerScript A). length x.rb) own ∙ size.rb }
+  has_bits l h = layer_shape o c s shape l h
 
   -- ---- padded elements are true values
 
   padded_first : (l m : ℕ) → l < depth c → m < round_count c l → padded o sent W (sent_at c l + 2 * m) (pads_at c l + 2 * m) ≡ true_round o c s V l m (e.element 0)
   padded_first l m h b =
-      ap (λ x. o.plus x (entry o W (pads_at c l + 2 * m))) ((are.layers l h).first m b)
+      ap (λ x. o.plus x (entry o W (pads_at c l + 2 * m))) ((layers l h).first m b)
       ∙ unpad (true_round o c s V l m (e.element 0)) (pad (sent_at c l + 2 * m)) (entry o W (pads_at c l + 2 * m)) (sym (entry_pad o e c private word privates l (2 * m) h (omega (arith, b))))
 
   padded_second : (l m : ℕ) → l < depth c → m < round_count c l → padded o sent W (sent_at c l + 2 * m + 1) (pads_at c l + 2 * m + 1) ≡ true_round o c s V l m (e.element 2)
   padded_second l m h b =
       let z : pads_at c l + 2 * m + 1 ≡ pads_at c l + (2 * m + 1) = omega arith in
       let y : sent_at c l + (2 * m + 1) ≡ sent_at c l + 2 * m + 1 = omega arith in
-      ap (λ x. o.plus x (entry o W (pads_at c l + 2 * m + 1))) ((are.layers l h).second m b)
+      ap (λ x. o.plus x (entry o W (pads_at c l + 2 * m + 1))) ((layers l h).second m b)
       ∙ unpad (true_round o c s V l m (e.element 2)) (pad (sent_at c l + 2 * m + 1)) (entry o W (pads_at c l + 2 * m + 1))
       (sym (ap (entry o W) z ∙ entry_pad o e c private word privates l (2 * m + 1) h (omega (arith, b)) ∙ ap pad y))
 
@@ -131,12 +122,12 @@ module _ {A : Type 0} (o : Ops A) (e : Coding A) (laws : Laws o e.size e.number 
 
   padded_a : (l : ℕ) → l < depth c → padded o sent W (factors_sent_at c l) (factors_at c l) ≡ true_a o s V l
   padded_a l h =
-      ap (λ x. o.plus x (entry o W (factors_at c l))) (are.layers l h).factor_a
+      ap (λ x. o.plus x (entry o W (factors_at c l))) (layers l h).factor_a
       ∙ unpad (true_a o s V l) (pad (factors_sent_at c l)) (entry o W (factors_at c l)) (sym (pad_a l h))
 
   padded_b : (l : ℕ) → l < depth c → padded o sent W (factors_sent_at c l + 1) (factors_at c l + 1) ≡ true_b o s V l
   padded_b l h =
-      ap (λ x. o.plus x (entry o W (factors_at c l + 1))) (are.layers l h).factor_b
+      ap (λ x. o.plus x (entry o W (factors_at c l + 1))) (layers l h).factor_b
       ∙ unpad (true_b o s V l) (pad (factors_sent_at c l + 1)) (entry o W (factors_at c l + 1)) (sym (pad_b l h))
 
   -- ---- the claims with which a layer begins
@@ -276,4 +267,5 @@ module _ {A : Type 0} (o : Ops A) (e : Coding A) (laws : Laws o e.size e.number 
 
 pub vanish : {A : Type 0} (o : Ops A) (e : Coding A) → Laws o e.size e.number e.element e.bytes → ResidualsVanish o e
 vanish o e laws = λ c session public private word t sent i valid counts satisfied h are.
-    residual_is_zero o e laws c public private word t sent counts.0 counts.1 valid satisfied are i h
+    residual_is_zero o e laws c public private word (script o e sent c t) (script_shape o e sent c t) sent counts.0 counts.1
+    valid satisfied are.layers i h

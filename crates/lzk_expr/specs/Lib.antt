@@ -18,3 +18,4 @@ pub mod Readers
 pub mod SomeReading
 pub use Rattle.lzk_field.specs
 pub mod Keys
+pub mod Kinds

@@ -20,6 +20,22 @@ pub enum NumberKind {
     TooMany,
 }
 
+impl NumberKind {
+    ghost use Rattle.lzk_expr.specs.Kinds.{rule_number};
+
+    /// Its number in this order, from 1, which callers in C are told.
+    pub fn number(self) -> u32
+        ensures { result ≡ rule_number self }
+    {
+        match self {
+            NumberKind::Syntax => 1,
+            NumberKind::TooLarge => 2,
+            NumberKind::TooFew => 3,
+            NumberKind::TooMany => 4,
+        }
+    }
+}
+
 /// The line of the first token that breaks a rule, from 1, and the first rule that it breaks. A text
 /// with too few numbers is at fault on its last line.
 #[derive(Clone, Copy, Debug, PartialEq, Eq)]

@@ -21,6 +21,7 @@ use Rattle.lzk_sound.specs.Passing.{Passes}
 use Rattle.lzk_layout.proofs.SizeLaws.{params_bounded}
 use Rattle.lzk_tableau.specs.Tableau as prover
 use Rattle.lzk_complete.specs.Proving.{IsProofOf, given}
+use Rattle.lzk_complete.proofs.OpenedColumns.{block_is}
 use Rattle.lzk_complete.proofs.Standing.{length_rows}
 use Rattle.lzk_verify.specs.Checks.{leaf_at, HasRoot}
 use Rattle.lzk_verify.specs.declared.verdict.Verdict.TheVariants.{Accepted}
@@ -92,18 +93,6 @@ range_same f g a zero same = refl
 range_same f g a (suc n) same =
     ap (λ y. y ∷ map f (range_with_len (a + 1) n)) (same a (omega arith) (omega arith))
     ∙ ap (λ ys. g a ∷ ys) (range_same f g (a + 1) n (λ j l h. same j (omega (arith, l)) (omega (arith, h))))
-
-drop_behind : {X : Type 0} (xs ys : List X) (n m : ℕ) → length xs ≡ n → drop (n + m) (xs ++ ys) ≡ drop m ys
-drop_behind [] ys n m e = let z : n + m ≡ m = omega (arith, e) in ap (λ k. drop k ys) z
-drop_behind (x ∷ xs) ys n m e =
-    let z : n + m ≡ suc (length xs + m) = omega (arith, e) in ap (λ k. drop k (x ∷ (xs ++ ys))) z ∙ drop_behind xs ys (length xs) m refl
-
-block_is : {X : Type 0} (f : ℕ → List X) (n : ℕ) (js : List ℕ) (k : ℕ) → ((j : ℕ) → length (f j) ≡ n) → k < length js → take n (drop (k * n) (flat_map f js)) ≡ f (slice_index js k)
-block_is f n [] k same h = absurd (omega (arith, h))
-block_is f n (j ∷ js) zero same h = let z : 0 * n ≡ 0 = omega arith in ap (λ m. take n (drop m (f j ++ flat_map f js))) z ∙ take_at (f j) (flat_map f js) n (same j)
-block_is f n (j ∷ js) (suc k) same h =
-    let z : suc k * n ≡ n + k * n = omega arith in
-    ap (λ m. take n (drop m (f j ++ flat_map f js))) z ∙ ap (take n) (drop_behind (f j) (flat_map f js) n (k * n) (same j)) ∙ block_is f n js k same (omega (arith, h))
 
 module _ {A : Type 0} (o : Ops A) (e : Coding A) (c : Wiring A) (session : List ℕ) (public private : List A) (word : ℕ → ℕ) (proof : Proof A) (valid : IsValid o c) (is : IsProofOf o e c session public private word proof) where
   abbrev q : Params

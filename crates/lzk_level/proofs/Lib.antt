@@ -28,3 +28,4 @@ pub mod MadeGates
 pub mod SomeTower
 pub mod SomeCircuits
 pub mod SomeCircuitsV2
+pub mod Versions

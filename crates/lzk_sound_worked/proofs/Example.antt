@@ -2,19 +2,18 @@
 -- from codewords and sends zeros, and wins by draws of zeros.
 use Rattle.std.specs.Prelude.{[], ◌∷◌}
 use Rattle.std.specs.List.{range_with_len}
-use Rattle.std.proofs.Common.{inl, refl, sym, ap, ◌∙◌, arith}
+use Rattle.std.proofs.Common.{refl, sym, ap, ◌∙◌, arith}
 use Rattle.lzk_field.specs.Coding.{Coding}
 use Rattle.lzk_field.specs.Ring.{Ops, Laws}
 use Rattle.lzk_field.specs.Sums.{minus}
 use Rattle.lzk_field.proofs.Solve.{var, null, unit, ◌⊞◌, ◌⊟◌, ◌⊠◌, solve}
 use Rattle.lzk_chance.specs.Draws.{draws_from}
 use Rattle.lzk_chance.specs.Sets.{sets_of}
-use Rattle.lzk_circuit.specs.declared.layer.Term.{Term}
-use Rattle.lzk_circuit.specs.declared.layer.Layer.{Layer}
-use Rattle.lzk_circuit.specs.Valid.{Wiring, IsValid}
+use Rattle.lzk_circuit.specs.Valid.{Wiring}
 use Rattle.lzk_circuit.specs.Wires.{wire}
 use Rattle.lzk_layout.specs.Sizes.{params_of}
 use Rattle.lzk_layout.proofs.SizeLaws.{params_bounded}
+use Rattle.lzk_sound_draws.proofs.Example.{circuit, valid}
 use Rattle.lzk_sound_count.specs.Game.{whole_count}
 use Rattle.lzk_sound_count.specs.Laws.{IsFalse, all_elements}
 use Rattle.lzk_sound_worked.specs.Zeros.{zeros_sent, half_table, sees_zeros}
@@ -40,36 +39,11 @@ module _ {A : Type 0} (o : Ops A) (e : Coding A) (laws : Laws o e.size e.number 
         ),
       )
 
-  abbrev term : Term A
-  term = record { g = 0; a = 0; b = 0; coef = o.one }
+  -- the circuit of the forger who wins now and then
+  abbrev one_wire : Wiring A
+  one_wire = circuit o e laws
 
-  abbrev layer : Layer A
-  layer = record { wires = 1; terms = term ∷ [] }
-
-  abbrev circuit : Wiring A
-  circuit = record { version = 1; publics = 0; privates = 0; layers = layer ∷ [] }
-
-  valid : IsValid o circuit
-  valid = record {
-    version = inl refl;
-    publics = omega arith;
-    privates = omega arith;
-    some = omega arith;
-    depth = omega arith;
-    layers = (
-      record {
-        some = omega arith;
-        most = omega arith;
-        wires = omega arith;
-        terms = omega arith;
-        each = (record { g = omega arith; a = omega arith; b = omega arith }, refl, tt);
-        coefs = (record { nonzero = λ _. laws.field.one_not_zero; apart = λ _. tt }, tt);
-      },
-      tt,
-    );
-  }
-
-  wrong : IsFalse o e circuit []
+  wrong : IsFalse o e one_wire []
   unfolding wire
   wrong [] count satisfied =
       let I = var 0 in
@@ -83,14 +57,14 @@ module _ {A : Type 0} (o : Ops A) (e : Coding A) (laws : Laws o e.size e.number 
 
   pub some_cheat : SomeCheat o e
   some_cheat =
-      let b = params_bounded o circuit valid in
-      let all = cheats_pass circuit [] (half_table o circuit) valid refl wrong (half_masks o e laws circuit b) in
+      let b = params_bounded o one_wire (valid o e laws) in
+      let all = cheats_pass one_wire [] (half_table o one_wire) (valid o e laws) refl wrong (half_masks o e laws one_wire b) in
       record {
-        circuit = circuit;
+        circuit = one_wire;
         public = [];
-        strategy = zeros_sent o circuit (half_table o circuit);
+        strategy = zeros_sent o one_wire (half_table o one_wire);
         wins = sees_zeros e;
         cheat = all.0;
-        far = half_far o e laws circuit b;
+        far = half_far o e laws one_wire b;
         counted = omega (arith, all.1.0, all.1.1);
       }

@@ -1,5 +1,5 @@
 use Rattle.lzk_expr.specs.View.{tree_of}
-use Rattle.lzk_cmd_circuits.proofs.Versions.{compiled_one, compiled_two}
+use Rattle.lzk_level.proofs.Versions.{compiled_one, compiled_two}
 use Rattle.lzk_cmd_circuits.proofs.compiling.in_version.Goals as goal
 
 pub returns-in-One-clause-compiled : goal.returns-in-One-clause-compiled

@@ -1,4 +1,4 @@
--- The circuit of a source in either version, by the clauses of `compile_owned` and `compile_owned_v2`.
+-- The circuit of a source in either version, by the clauses of `compile` and `compile_v2` and of those that drop the source.
 use Rattle.std.proofs.Common.{◌≡◌, Result, Ok, Err}
 use Rattle.std.specs.Prelude.{count_by, IfOk}
 use Rattle.lzk_circbytes.specs.declared.any.AnyCircuit.{AnyCircuit}
