@@ -15,7 +15,7 @@ use Rattle.lzk_sha_circuit.specs.Words.{exclusive_or, rotated}
 use Rattle.lzk_sha_circuit.specs.Places.{Places, IsPlaced, total_count, schedule_word, a_word, e_word}
 use Rattle.lzk_sha_circuit.specs.Outputs.{w_output, a_output, e_output, f_output, digest_output, bit_output, compression_outputs}
 use Rattle.lzk_sha_circuit.specs.Products.{products_value, or_list, entry_value}
-use Rattle.lzk_sha_circuit.specs.Layers.{row_at, IsBuilt, input_count, inner_count, IsWordOf, IsWhole, turned_entry, inner_rows, output_rows, bit_row, w_row, a_row, e_row, f_row, digest_row, or_place_w, or_place_round}
+use Rattle.lzk_sha_circuit.specs.Layers.{row_at, IsBuilt, input_count, inner_count, IsWord, turned_entry, inner_rows, output_rows, bit_row, w_row, a_row, e_row, f_row, digest_row, or_place_w, or_place_round}
 use Rattle.lzk_sha_circuit.proofs.Chunks.{length-range_chunks}
 use Rattle.lzk_sha_circuit.proofs.RowValues.{or_value}
 use Rattle.lzk_sha_circuit.proofs.EntryValues.{word_of, turned_value, w_row_value, a_row_value, e_row_value, f_row_value, digest_row_value, bit_row_value}
@@ -80,12 +80,12 @@ module _ {X : Type 0} (o : Ops X) (r : RingLaws o) (element : ℕ → X) (given 
       ∙ r.plus_zero _ ∙ one_times o r _ ∙ one_times o r (entry o (inputs_of o public private) k)
 
   -- the exclusive or of two turned words
-  or_at : (k : ℕ) (x : Word) (j : ℕ) (y : Word) (l i : ℕ) → k < inner_count given → IsWordOf given x → IsWhole x → IsWordOf given y → IsWhole y
+  or_at : (k : ℕ) (x : Word) (j : ℕ) (y : Word) (l i : ℕ) → k < inner_count given → IsWord x → IsWord y
       → row_at (inner_rows o element given) k ≡ or_list o element o.one (turned_entry o element given x j i) (turned_entry o element given y l i)
       → (a b : X) → entry_value o (inputs_of o public private) (turned_entry o element given x j i) ≡ a → entry_value o (inputs_of o public private) (turned_entry o element given y l i) ≡ b
       → entry o below k ≡ exclusive_or o element a b
   unfolding inputs
-  or_at k x j y l i lt hx wx hy wy row a b ea eb =
+  or_at k x j y l i lt hx hy row a b ea eb =
       below_at k lt ∙ ap (products_value o (inputs_of o public private)) row
       ∙ or_value o r element (inputs_of o public private) refl o.one (turned_entry o element given x j i) (turned_entry o element given y l i)
       ∙ one_times o r _ ∙ (λ n. exclusive_or o element (ea n) (eb n))
@@ -93,36 +93,36 @@ module _ {X : Type 0} (o : Ops X) (r : RingLaws o) (element : ℕ → X) (given 
   same : (k : ℕ) → k < input_count given → entry o (inputs_of o public private) k ≡ entry o (inputs_of o public private) k
   same k lt = refl
 
-  turned : (w : Word) (k i : ℕ) → IsWordOf given w → IsWhole w → entry_value o (inputs_of o public private) (turned_entry o element given w k i) ≡ rotated k (word_of o r element given ok public private short below pass w) i
-  turned w k i hw whole = turned_value o r element given ok public private short (inputs_of o public private) same w k i hw whole
+  turned : (w : Word) (k i : ℕ) → IsWord w → entry_value o (inputs_of o public private) (turned_entry o element given w k i) ≡ rotated k (word_of o r element given ok public private short below pass w) i
+  turned w k i hw = turned_value o r element given ok public private short (inputs_of o public private) same w k i hw
 
   ors_w1 : (t i : ℕ) → 16 ≤ t → t < 64 → i < 32 → entry o below (input_count given + or_place_w o element t + i) ≡ exclusive_or o element (rotated 17 (schedule_word element given (entry o private) (t - 2)) i) (rotated 19 (schedule_word element given (entry o private) (t - 2)) i)
   ors_w1 t i le lt li =
       let w = Schedule (t - 2) in
-      or_at (input_count given + or_place_w o element t + i) w 17 w 19 i (omega arith) (omega arith) (λ j m. m) (omega arith) (λ j m. m) (w1_at o element given t i le lt li) _ _ (turned w 17 i (omega arith) (λ j m. m)) (turned w 19 i (omega arith) (λ j m. m))
+      or_at (input_count given + or_place_w o element t + i) w 17 w 19 i (omega arith) (omega arith) (omega arith) (w1_at o element given t i le lt li) _ _ (turned w 17 i (omega arith)) (turned w 19 i (omega arith))
 
   ors_w0 : (t i : ℕ) → 16 ≤ t → t < 64 → i < 32 → entry o below (input_count given + (or_place_w o element t + 32) + i) ≡ exclusive_or o element (rotated 7 (schedule_word element given (entry o private) (t - 15)) i) (rotated 18 (schedule_word element given (entry o private) (t - 15)) i)
   ors_w0 t i le lt li =
       let w = Schedule (t - 15) in
-      or_at (input_count given + (or_place_w o element t + 32) + i) w 7 w 18 i (omega arith) (omega arith) (λ j m. m) (omega arith) (λ j m. m) (w0_at o element given t i le lt li) _ _ (turned w 7 i (omega arith) (λ j m. m)) (turned w 18 i (omega arith) (λ j m. m))
+      or_at (input_count given + (or_place_w o element t + 32) + i) w 7 w 18 i (omega arith) (omega arith) (omega arith) (w0_at o element given t i le lt li) _ _ (turned w 7 i (omega arith)) (turned w 18 i (omega arith))
 
   ors_e : (t i : ℕ) → t < 64 → i < 32 → entry o below (input_count given + or_place_round o element t + i) ≡ exclusive_or o element (rotated 6 (e_word element given (entry o private) (t + 3)) i) (rotated 11 (e_word element given (entry o private) (t + 3)) i)
   ors_e t i lt li =
       let w = E (t + 3) in
-      or_at (input_count given + or_place_round o element t + i) w 6 w 11 i (omega arith) (omega arith) (λ j m. m) (omega arith) (λ j m. m) (e_at o element given t i lt li) _ _ (turned w 6 i (omega arith) (λ j m. m)) (turned w 11 i (omega arith) (λ j m. m))
+      or_at (input_count given + or_place_round o element t + i) w 6 w 11 i (omega arith) (omega arith) (omega arith) (e_at o element given t i lt li) _ _ (turned w 6 i (omega arith)) (turned w 11 i (omega arith))
 
   ors_a : (t i : ℕ) → t < 64 → i < 32 → entry o below (input_count given + (or_place_round o element t + 32) + i) ≡ exclusive_or o element (rotated 2 (a_word element given (entry o private) (t + 3)) i) (rotated 13 (a_word element given (entry o private) (t + 3)) i)
   ors_a t i lt li =
       let w = A (t + 3) in
-      or_at (input_count given + (or_place_round o element t + 32) + i) w 2 w 13 i (omega arith) (omega arith) (λ j m. m) (omega arith) (λ j m. m) (a_at o element given t i lt li) _ _ (turned w 2 i (omega arith) (λ j m. m)) (turned w 13 i (omega arith) (λ j m. m))
+      or_at (input_count given + (or_place_round o element t + 32) + i) w 2 w 13 i (omega arith) (omega arith) (omega arith) (a_at o element given t i lt li) _ _ (turned w 2 i (omega arith)) (turned w 13 i (omega arith))
 
   ors_m : (t i : ℕ) → t < 64 → i < 32 → entry o below (input_count given + (or_place_round o element t + 64) + i) ≡ exclusive_or o element (a_word element given (entry o private) (t + 3) i) (a_word element given (entry o private) (t + 2) i)
   ors_m t i lt li =
       let x = A (t + 3) in
       let y = A (t + 2) in
       let still : (i + 0) % 32 ≡ i = omega arith in
-      or_at (input_count given + (or_place_round o element t + 64) + i) x 0 y 0 i (omega arith) (omega arith) (λ j m. m) (omega arith) (λ j m. m) (m_at o element given t i lt li) _ _
-      (turned x 0 i (omega arith) (λ j m. m) ∙ ap (a_word element given (entry o private) (t + 3)) still) (turned y 0 i (omega arith) (λ j m. m) ∙ ap (a_word element given (entry o private) (t + 2)) still)
+      or_at (input_count given + (or_place_round o element t + 64) + i) x 0 y 0 i (omega arith) (omega arith) (omega arith) (m_at o element given t i lt li) _ _
+      (turned x 0 i (omega arith) ∙ ap (a_word element given (entry o private) (t + 3)) still) (turned y 0 i (omega arith) ∙ ap (a_word element given (entry o private) (t + 2)) still)
 
   -- ---- the outputs
   bits_of_list : map (λ j. bit_output o (entry o private j)) (range_with_len 0 (given.inputs + 6376)) ≡ map (bit_output o) private

@@ -13,15 +13,15 @@ use Rattle.lzk_sha_circuit.specs.declared.products.Entry.{Entry}
 use Rattle.lzk_sha_circuit.specs.declared.bit.Bit.{Bit}
 use Rattle.lzk_sha_circuit.specs.declared.bit.Bit.TheVariants.{Zero, One, Input}
 use Rattle.lzk_sha_circuit.specs.declared.entries.Word.{Word}
-use Rattle.lzk_sha_circuit.specs.declared.entries.Word.TheVariants.{State, Schedule, A, E, Bits}
+use Rattle.lzk_sha_circuit.specs.declared.entries.Word.TheVariants.{State, Schedule, A, E}
 use Rattle.lzk_sha_circuit.specs.Words.{worth, rotated, shifted, exclusive_or, ch, maj, big_sigma0, big_sigma1, small_sigma0, small_sigma1}
 use Rattle.lzk_sha_circuit.specs.Places.{Places, IsBitOf, IsPlaced, bit_of, bit_value, bits_from, schedule_word, a_word, e_word, start_word, last_word, final_word, w_place, a_place, e_place, f_place}
 use Rattle.lzk_sha_circuit.specs.Outputs.{with_carry, first_sum, w_output, a_output, e_output, f_output, digest_output, bit_output}
 use Rattle.lzk_sha_circuit.specs.Products.{product_value, products_value, entry_value, linear, worth_list, or_word_list, ch_word_list, maj_word_list}
-use Rattle.lzk_sha_circuit.specs.Layers.{input_count, IsWordOf, IsPlaceOf, IsWhole, wire_entry, constant_entry, bit_entry, bits_entry, word_entry, turned_entry, shifted_entry, or_entry, or_place_w, or_place_round, carry_list, bit_row, w_row, first_list, a_row, e_row, last_word_of, f_row, digest_row}
+use Rattle.lzk_sha_circuit.specs.Layers.{input_count, IsWord, wire_entry, constant_entry, bit_entry, bits_entry, word_entry, turned_entry, shifted_entry, or_entry, or_place_w, or_place_round, carry_list, bit_row, w_row, first_list, a_row, e_row, last_word_of, f_row, digest_row}
 use Rattle.lzk_sha_circuit.proofs.RowLaws.{value-append}
 use Rattle.lzk_sha_circuit.proofs.RowValues.{worth_value, or_word_value, ch_word_value, maj_word_value}
-use Rattle.lzk_sha_circuit.proofs.Within.{is_less, is_more}
+use Rattle.lzk_sha_circuit.proofs.Within.{is_more}
 
 module _ {X : Type 0} (o : Ops X) (r : RingLaws o) (element : ℕ → X) (given : Places) (ok : IsPlaced given) (public private : List X) (short : length public ≡ 8)
     (below : List X) (pass : (k : ℕ) → k < input_count given → entry o below k ≡ entry o (inputs_of o public private) k) where
@@ -58,51 +58,49 @@ module _ {X : Type 0} (o : Ops X) (r : RingLaws o) (element : ℕ → X) (given 
   word_of (Schedule t) = schedule_word element given input t
   word_of (A s) = a_word element given input s
   word_of (E s) = e_word element given input s
-  word_of (Bits place n) = bits_from input place n
 
-  pub word_value : (w : Word) (i : ℕ) → IsWordOf given w → IsPlaceOf w i → entry_value o below (word_entry o element given w i) ≡ word_of w i
+  pub word_value : (w : Word) (i : ℕ) → IsWord w → entry_value o below (word_entry o element given w i) ≡ word_of w i
   unfolding word_entry
-  word_value (State k) i hw hi = found_value (bit_of given.state (32 * k + (31 - i))) (ok.state_within (32 * k + (31 - i)))
-  word_value (Schedule t) i hw hi =
+  word_value (State k) i hw = found_value (bit_of given.state (32 * k + (31 - i))) (ok.state_within (32 * k + (31 - i)))
+  word_value (Schedule t) i hw =
       let x = bit_of given.block (32 * t + (31 - i)) in
       if_value (nat_lt t 16) (bit_entry o element x) (bits_entry o (w_place given t) 32 i) (bit_value element input x) (bits_from input (w_place given t) 32 i)
       (λ b. found_value x (ok.block_within (32 * t + (31 - i)))) (λ b. let l = is_more o element t 16 b in wire_value (w_place given t + (32 - 1 - i)) (omega (arith, l, hw)))
-  word_value (A s) i hw hi =
+  word_value (A s) i hw =
       let x = bit_of given.state (32 * (3 - s) + (31 - i)) in
       if_value (nat_lt s 4) (bit_entry o element x) (bits_entry o (a_place given (s - 4)) 32 i) (bit_value element input x) (bits_from input (a_place given (s - 4)) 32 i)
       (λ b. found_value x (ok.state_within (32 * (3 - s) + (31 - i)))) (λ b. let l = is_more o element s 4 b in wire_value (a_place given (s - 4) + (32 - 1 - i)) (omega (arith, l, hw)))
-  word_value (E s) i hw hi =
+  word_value (E s) i hw =
       let x = bit_of given.state (32 * (7 - s) + (31 - i)) in
       if_value (nat_lt s 4) (bit_entry o element x) (bits_entry o (e_place given (s - 4)) 32 i) (bit_value element input x) (bits_from input (e_place given (s - 4)) 32 i)
       (λ b. found_value x (ok.state_within (32 * (7 - s) + (31 - i)))) (λ b. let l = is_more o element s 4 b in wire_value (e_place given (s - 4) + (32 - 1 - i)) (omega (arith, l, hw)))
-  word_value (Bits place n) i hw hi = wire_value (place + (n - 1 - i)) (omega (arith, hw, hi))
 
-  pub turned_value : (w : Word) (k i : ℕ) → IsWordOf given w → IsWhole w → entry_value o below (turned_entry o element given w k i) ≡ rotated k (word_of w) i
-  turned_value w k i hw whole = word_value w ((i + k) % 32) hw (whole ((i + k) % 32) (omega arith))
+  pub turned_value : (w : Word) (k i : ℕ) → IsWord w → entry_value o below (turned_entry o element given w k i) ≡ rotated k (word_of w) i
+  turned_value w k i hw = word_value w ((i + k) % 32) hw
 
-  pub shifted_value : (w : Word) (k i : ℕ) → IsWordOf given w → IsWhole w → entry_value o below (shifted_entry o element given w k i) ≡ shifted o element k (word_of w) i
-  shifted_value w k i hw whole =
+  pub shifted_value : (w : Word) (k i : ℕ) → IsWord w → entry_value o below (shifted_entry o element given w k i) ≡ shifted o element k (word_of w) i
+  shifted_value w k i hw =
       if_value (nat_lt (i + k) 32) (word_entry o element given w (i + k)) (constant_entry element 0) (word_of w (i + k)) (element 0)
-      (λ b. word_value w (i + k) hw (whole (i + k) (is_less o element (i + k) 32 b))) (λ b. constant_value 0)
+      (λ b. word_value w (i + k) hw) (λ b. constant_value 0)
 
   -- ---- the rows, where the inner layer has the exclusive ors
   module _ (ors_w1 : (t i : ℕ) → 16 ≤ t → t < 64 → i < 32 → entry o below (input_count given + or_place_w o element t + i) ≡ exclusive_or o element (rotated 17 (word_of (Schedule (t - 2))) i) (rotated 19 (word_of (Schedule (t - 2))) i))
       (ors_w0 : (t i : ℕ) → 16 ≤ t → t < 64 → i < 32 → entry o below (input_count given + (or_place_w o element t + 32) + i) ≡ exclusive_or o element (rotated 7 (word_of (Schedule (t - 15))) i) (rotated 18 (word_of (Schedule (t - 15))) i)) where
-    scaled_word : (s : X) (n : ℕ) (w : Word) → IsWordOf given w → ((i : ℕ) → i < n → IsPlaceOf w i) → products_value o below (worth_list o element s n (word_entry o element given w)) ≡ o.times s (worth o element n (word_of w))
-    scaled_word s n w hw places = worth_value o r element below one s n (word_entry o element given w) (word_of w) (λ i lt. word_value w i hw (places i lt))
+    scaled_bits : (s : X) (place n : ℕ) → place + n ≤ given.inputs + 6376 → products_value o below (worth_list o element s n (bits_entry o place n)) ≡ o.times s (worth o element n (bits_from input place n))
+    scaled_bits s place n le = worth_value o r element below one s n (bits_entry o place n) (bits_from input place n) (λ i lt. wire_value (place + (n - 1 - i)) (omega (arith, le, lt)))
 
     carry_value : (place bits : ℕ) → place + 32 + bits ≤ given.inputs + 6376
-        → products_value o below (carry_list o element given place bits) ≡ o.neg (with_carry o element given input place bits)
+        → products_value o below (carry_list o element place bits) ≡ o.neg (with_carry o element given input place bits)
     carry_value place bits le =
         let x = worth o element 32 (bits_from input place 32) in
         let y = worth o element bits (bits_from input (place + 32) bits) in
         let m = element (2 ^ 32) in
-        value-append o r below (worth_list o element (o.neg o.one) 32 (word_entry o element given (Bits place 32))) (worth_list o element (o.neg m) bits (word_entry o element given (Bits (place + 32) bits)))
-        ∙ (λ i. o.plus (scaled_word (o.neg o.one) 32 (Bits place 32) (omega arith) (λ j l. l) i) (scaled_word (o.neg m) bits (Bits (place + 32) bits) (omega arith) (λ j l. l) i))
+        value-append o r below (worth_list o element (o.neg o.one) 32 (bits_entry o place 32)) (worth_list o element (o.neg m) bits (bits_entry o (place + 32) bits))
+        ∙ (λ i. o.plus (scaled_bits (o.neg o.one) place 32 (omega (arith, le)) i) (scaled_bits (o.neg m) (place + 32) bits (omega (arith, le)) i))
         ∙ solve o r (x ∷ y ∷ m ∷ []) (opp unit ⊠ var 0 ⊞ opp (var 2) ⊠ var 1) (opp (var 0 ⊞ var 2 ⊠ var 1)) refl
 
-    word_worth : (w : Word) → IsWordOf given w → IsWhole w → products_value o below (worth_list o element o.one 32 (word_entry o element given w)) ≡ worth o element 32 (word_of w)
-    word_worth w hw whole = scaled_word o.one 32 w hw whole ∙ one_times o r (worth o element 32 (word_of w))
+    word_worth : (w : Word) → IsWord w → products_value o below (worth_list o element o.one 32 (word_entry o element given w)) ≡ worth o element 32 (word_of w)
+    word_worth w hw = worth_value o r element below one o.one 32 (word_entry o element given w) (word_of w) (λ i lt. word_value w i hw) ∙ one_times o r (worth o element 32 (word_of w))
 
     or_wire : (place i : ℕ) (v : X) → entry o below (input_count given + place + i) ≡ v → entry_value o below (or_entry o element given place i) ≡ v
     or_wire place i v e = one_times o r (entry o below (input_count given + place + i)) ∙ e
@@ -120,17 +118,17 @@ module _ {X : Type 0} (o : Ops X) (r : RingLaws o) (element : ℕ → X) (given 
         let l7 = worth_list o element o.one 32 (word_entry o element given (Schedule (t - 7))) in
         let l0 = or_word_list o element (or_entry o element given (or_place_w o element t + 32)) (shifted_entry o element given (Schedule (t - 15)) 3) in
         let l16 = worth_list o element o.one 32 (word_entry o element given (Schedule (t - 16))) in
-        let lc = carry_list o element given (w_place given t) 2 in
+        let lc = carry_list o element (w_place given t) 2 in
         let v1 : products_value o below l1 ≡ s1 =
         or_word_value o r element below one (or_entry o element given (or_place_w o element t)) (shifted_entry o element given (Schedule (t - 2)) 10)
         (λ i. exclusive_or o element (rotated 17 (w (t - 2)) i) (rotated 19 (w (t - 2)) i)) (shifted o element 10 (w (t - 2)))
-        (λ i l. or_wire (or_place_w o element t) i (exclusive_or o element (rotated 17 (w (t - 2)) i) (rotated 19 (w (t - 2)) i)) (ors_w1 t i le lt l)) (λ i l. shifted_value (Schedule (t - 2)) 10 i (omega arith) (λ j m. m)) in
+        (λ i l. or_wire (or_place_w o element t) i (exclusive_or o element (rotated 17 (w (t - 2)) i) (rotated 19 (w (t - 2)) i)) (ors_w1 t i le lt l)) (λ i l. shifted_value (Schedule (t - 2)) 10 i (omega arith)) in
         let v0 : products_value o below l0 ≡ s0 =
         or_word_value o r element below one (or_entry o element given (or_place_w o element t + 32)) (shifted_entry o element given (Schedule (t - 15)) 3)
         (λ i. exclusive_or o element (rotated 7 (w (t - 15)) i) (rotated 18 (w (t - 15)) i)) (shifted o element 3 (w (t - 15)))
-        (λ i l. or_wire (or_place_w o element t + 32) i (exclusive_or o element (rotated 7 (w (t - 15)) i) (rotated 18 (w (t - 15)) i)) (ors_w0 t i le lt l)) (λ i l. shifted_value (Schedule (t - 15)) 3 i (omega arith) (λ j m. m)) in
-        let v7 = word_worth (Schedule (t - 7)) (omega arith) (λ j m. m) in
-        let v16 = word_worth (Schedule (t - 16)) (omega arith) (λ j m. m) in
+        (λ i l. or_wire (or_place_w o element t + 32) i (exclusive_or o element (rotated 7 (w (t - 15)) i) (rotated 18 (w (t - 15)) i)) (ors_w0 t i le lt l)) (λ i l. shifted_value (Schedule (t - 15)) 3 i (omega arith)) in
+        let v7 = word_worth (Schedule (t - 7)) (omega arith) in
+        let v16 = word_worth (Schedule (t - 16)) (omega arith) in
         let vc = carry_value (w_place given t) 2 (omega arith) in
         value-append o r below l1 (l7 ++ (l0 ++ (l16 ++ lc)))
         ∙ ap (o.plus (products_value o below l1)) (value-append o r below l7 (l0 ++ (l16 ++ lc)) ∙ ap (o.plus (products_value o below l7)) (value-append o r below l0 (l16 ++ lc) ∙ ap (o.plus (products_value o below l0)) (value-append o r below l16 lc)))
@@ -158,15 +156,15 @@ module _ {X : Type 0} (o : Ops X) (r : RingLaws o) (element : ℕ → X) (given 
           let l2 = ch_word_list o element (word_entry o element given (E (t + 3))) (word_entry o element given (E (t + 2))) (word_entry o element given (E (t + 1))) in
           let p3 : Product X = record { coef = s3; a = 0; b = 0 } in
           let l4 = worth_list o element o.one 32 (word_entry o element given (Schedule t)) in
-          let v0 = word_worth (E t) (omega arith) (λ j m. m) in
+          let v0 = word_worth (E t) (omega arith) in
           let v1 : products_value o below l1 ≡ s1 =
           or_word_value o r element below one (or_entry o element given (or_place_round o element t)) (turned_entry o element given (E (t + 3)) 25)
           (λ i. exclusive_or o element (rotated 6 (e (t + 3)) i) (rotated 11 (e (t + 3)) i)) (rotated 25 (e (t + 3)))
-          (λ i l. or_wire (or_place_round o element t) i (exclusive_or o element (rotated 6 (e (t + 3)) i) (rotated 11 (e (t + 3)) i)) (ors_e t i lt l)) (λ i l. turned_value (E (t + 3)) 25 i (omega arith) (λ j m. m)) in
+          (λ i l. or_wire (or_place_round o element t) i (exclusive_or o element (rotated 6 (e (t + 3)) i) (rotated 11 (e (t + 3)) i)) (ors_e t i lt l)) (λ i l. turned_value (E (t + 3)) 25 i (omega arith)) in
           let v2 : products_value o below l2 ≡ s2 =
           ch_word_value o r element below one (word_entry o element given (E (t + 3))) (word_entry o element given (E (t + 2))) (word_entry o element given (E (t + 1))) (e (t + 3)) (e (t + 2)) (e (t + 1))
-          (λ i l. word_value (E (t + 3)) i (omega arith) l) (λ i l. word_value (E (t + 2)) i (omega arith) l) (λ i l. word_value (E (t + 1)) i (omega arith) l) in
-          let v4 = word_worth (Schedule t) lt (λ j m. m) in
+          (λ i l. word_value (E (t + 3)) i (omega arith)) (λ i l. word_value (E (t + 2)) i (omega arith)) (λ i l. word_value (E (t + 1)) i (omega arith)) in
+          let v4 = word_worth (Schedule t) lt in
           value-append o r below l0 (l1 ++ (l2 ++ (p3 ∷ l4)))
           ∙ ap (o.plus (products_value o below l0)) (value-append o r below l1 (l2 ++ (p3 ∷ l4)) ∙ ap (o.plus (products_value o below l1)) (value-append o r below l2 (p3 ∷ l4)))
           ∙ (λ i. o.plus (v0 i) (o.plus (v1 i) (o.plus (v2 i) (o.plus (number_value (slice_index round_constants t) i) (v4 i)))))
@@ -183,14 +181,14 @@ module _ {X : Type 0} (o : Ops X) (r : RingLaws o) (element : ℕ → X) (given 
           let l0 = first_list o element given t in
           let l1 = or_word_list o element (or_entry o element given (or_place_round o element t + 32)) (turned_entry o element given (A (t + 3)) 22) in
           let l2 = maj_word_list o element (word_entry o element given (A (t + 3))) (word_entry o element given (A (t + 2))) (word_entry o element given (A (t + 1))) (or_entry o element given (or_place_round o element t + 64)) in
-          let lc = carry_list o element given (a_place given t) 3 in
+          let lc = carry_list o element (a_place given t) 3 in
           let v1 : products_value o below l1 ≡ s1 =
           or_word_value o r element below one (or_entry o element given (or_place_round o element t + 32)) (turned_entry o element given (A (t + 3)) 22)
           (λ i. exclusive_or o element (rotated 2 (a (t + 3)) i) (rotated 13 (a (t + 3)) i)) (rotated 22 (a (t + 3)))
-          (λ i l. or_wire (or_place_round o element t + 32) i (exclusive_or o element (rotated 2 (a (t + 3)) i) (rotated 13 (a (t + 3)) i)) (ors_a t i lt l)) (λ i l. turned_value (A (t + 3)) 22 i (omega arith) (λ j m. m)) in
+          (λ i l. or_wire (or_place_round o element t + 32) i (exclusive_or o element (rotated 2 (a (t + 3)) i) (rotated 13 (a (t + 3)) i)) (ors_a t i lt l)) (λ i l. turned_value (A (t + 3)) 22 i (omega arith)) in
           let v2 : products_value o below l2 ≡ s2 =
           maj_word_value o r element below one (word_entry o element given (A (t + 3))) (word_entry o element given (A (t + 2))) (word_entry o element given (A (t + 1))) (or_entry o element given (or_place_round o element t + 64)) (a (t + 3)) (a (t + 2)) (a (t + 1))
-          (λ i l. word_value (A (t + 3)) i (omega arith) l) (λ i l. word_value (A (t + 2)) i (omega arith) l) (λ i l. word_value (A (t + 1)) i (omega arith) l) (λ i l. or_wire (or_place_round o element t + 64) i (exclusive_or o element (a (t + 3) i) (a (t + 2) i)) (ors_m t i lt l)) in
+          (λ i l. word_value (A (t + 3)) i (omega arith)) (λ i l. word_value (A (t + 2)) i (omega arith)) (λ i l. word_value (A (t + 1)) i (omega arith)) (λ i l. or_wire (or_place_round o element t + 64) i (exclusive_or o element (a (t + 3) i) (a (t + 2) i)) (ors_m t i lt l)) in
           let vc = carry_value (a_place given t) 3 (omega arith) in
           value-append o r below l0 (l1 ++ (l2 ++ lc))
           ∙ ap (o.plus (products_value o below l0)) (value-append o r below l1 (l2 ++ lc) ∙ ap (o.plus (products_value o below l1)) (value-append o r below l2 lc))
@@ -205,16 +203,16 @@ module _ {X : Type 0} (o : Ops X) (r : RingLaws o) (element : ℕ → X) (given 
           let last = with_carry o element given input (e_place given t) 3 in
           let l0 = worth_list o element o.one 32 (word_entry o element given (A t)) in
           let l1 = first_list o element given t in
-          let lc = carry_list o element given (e_place given t) 3 in
+          let lc = carry_list o element (e_place given t) 3 in
           value-append o r below l0 (l1 ++ lc) ∙ ap (o.plus (products_value o below l0)) (value-append o r below l1 lc)
-          ∙ (λ i. o.plus (word_worth (A t) (omega arith) (λ j m. m) i) (o.plus (first_value t lt i) (carry_value (e_place given t) 3 (omega arith) i)))
+          ∙ (λ i. o.plus (word_worth (A t) (omega arith) i) (o.plus (first_value t lt i) (carry_value (e_place given t) 3 (omega arith) i)))
           ∙ solve o r (s0 ∷ f ∷ last ∷ []) (var 0 ⊞ (var 1 ⊞ opp (var 2))) ((var 0 ⊞ var 1) ⊟ var 2) refl
 
       last_value : (i : ℕ) → i < 8 → products_value o below (worth_list o element o.one 32 (word_entry o element given (last_word_of o element i))) ≡ worth o element 32 (last_word element given input i)
       last_value i lt = pick (nat_lt i 4) (is_more o element i 4) where
         pick : (b : Bool) → (b ≡ false → 4 ≤ i) → products_value o below (worth_list o element o.one 32 (word_entry o element given (if b then A (67 - i) else E (71 - i)))) ≡ worth o element 32 (if b then a_word element given input (67 - i) else e_word element given input (71 - i))
-        pick true high = word_worth (A (67 - i)) (omega arith) (λ j m. m)
-        pick false high = let l = high refl in word_worth (E (71 - i)) (omega (arith, l)) (λ j m. m)
+        pick true high = word_worth (A (67 - i)) (omega arith)
+        pick false high = let l = high refl in word_worth (E (71 - i)) (omega (arith, l))
 
       pub f_row_value : (i : ℕ) → i < 8 → products_value o below (f_row o element given i) ≡ f_output o element given input i
       unfolding f_row f_output
@@ -224,9 +222,9 @@ module _ {X : Type 0} (o : Ops X) (r : RingLaws o) (element : ℕ → X) (given 
           let last = with_carry o element given input (f_place given i) 1 in
           let l0 = worth_list o element o.one 32 (word_entry o element given (State i)) in
           let l1 = worth_list o element o.one 32 (word_entry o element given (last_word_of o element i)) in
-          let lc = carry_list o element given (f_place given i) 1 in
+          let lc = carry_list o element (f_place given i) 1 in
           value-append o r below l0 (l1 ++ lc) ∙ ap (o.plus (products_value o below l0)) (value-append o r below l1 lc)
-          ∙ (λ j. o.plus (word_worth (State i) lt (λ k m. m) j) (o.plus (last_value i lt j) (carry_value (f_place given i) 1 (omega arith) j)))
+          ∙ (λ j. o.plus (word_worth (State i) lt j) (o.plus (last_value i lt j) (carry_value (f_place given i) 1 (omega arith) j)))
           ∙ solve o r (n ∷ s ∷ last ∷ []) (var 0 ⊞ (var 1 ⊞ opp (var 2))) ((var 0 ⊞ var 1) ⊟ var 2) refl
 
       public_wire : (i : ℕ) → i < 8 → entry o below (1 + i) ≡ entry o public i
@@ -239,10 +237,10 @@ module _ {X : Type 0} (o : Ops X) (r : RingLaws o) (element : ℕ → X) (given 
       digest_row_value i lt =
           let s = worth o element 32 (final_word element given input i) in
           let v = entry o public i in
-          let l1 = worth_list o element o.one 32 (word_entry o element given (Bits (f_place given i) 32)) in
+          let l1 = worth_list o element o.one 32 (bits_entry o (f_place given i) 32) in
           let p = linear o (o.neg o.one) (wire_entry o (1 + i)) in
           value-append o r below l1 (p ∷ [])
-          ∙ (λ j. o.plus (word_worth (Bits (f_place given i) 32) (omega arith) (λ k m. m) j) (o.plus (o.times (o.times (o.neg o.one) o.one) (o.times (one j) (public_wire i lt j))) o.zero))
+          ∙ (λ j. o.plus ((scaled_bits o.one (f_place given i) 32 (omega (arith, lt)) ∙ one_times o r s) j) (o.plus (o.times (o.times (o.neg o.one) o.one) (o.times (one j) (public_wire i lt j))) o.zero))
           ∙ solve o r (s ∷ v ∷ []) (var 0 ⊞ ((opp unit ⊠ unit) ⊠ (unit ⊠ var 1) ⊞ null)) (var 0 ⊟ var 1) refl
 
       pub bit_row_value : (j : ℕ) → j < given.inputs + 6376 → products_value o below (bit_row o j) ≡ bit_output o (input j)

@@ -7,10 +7,10 @@ use Rattle.sha2.specs.Sha256.{round_constants}
 use Rattle.lzk_sha_circuit.specs.declared.products.Product.{Product}
 use Rattle.lzk_sha_circuit.specs.declared.products.Entry.{Entry}
 use Rattle.lzk_sha_circuit.specs.declared.entries.Word.{Word}
-use Rattle.lzk_sha_circuit.specs.declared.entries.Word.TheVariants.{State, Schedule, A, E, Bits}
+use Rattle.lzk_sha_circuit.specs.declared.entries.Word.TheVariants.{State, Schedule, A, E}
 use Rattle.lzk_sha_circuit.specs.Places.{Places, w_place, a_place, e_place, f_place}
 use Rattle.lzk_sha_circuit.specs.Products.{sizes, linear, or_list, chosen_list, most_list, worth_list, or_word_list, ch_word_list, maj_word_list}
-use Rattle.lzk_sha_circuit.specs.Layers.{input_count, word_entry, turned_entry, shifted_entry, wire_entry, or_entry, or_place_w, or_place_round, pass_row, pair_rows, schedule_pairs, round_pairs, inner_rows, carry_list, bit_row, w_row, first_list, a_row, e_row, last_word_of, f_row, digest_row, output_rows}
+use Rattle.lzk_sha_circuit.specs.Layers.{input_count, bits_entry, word_entry, turned_entry, shifted_entry, wire_entry, or_entry, or_place_w, or_place_round, pass_row, pair_rows, schedule_pairs, round_pairs, inner_rows, carry_list, bit_row, w_row, first_list, a_row, e_row, last_word_of, f_row, digest_row, output_rows}
 use Rattle.lzk_sha_circuit.proofs.Chunks.{length-range_chunks}
 
 module _ {X : Type 0} where
@@ -52,13 +52,13 @@ module _ {X : Type 0} (o : Ops X) (element : ℕ → X) (given : Places) where
   unfolding maj_word_list
   length-maj_word x y z u = length-range_chunks (λ i. most_list o (element (2 ^ i)) (x i) (y i) (z i) (u i)) 2 (λ i. refl) 0 32
 
-  length-carry : (place bits : ℕ) → length (carry_list o element given place bits) ≡ 32 + bits
+  length-carry : (place bits : ℕ) → length (carry_list o element place bits) ≡ 32 + bits
   length-carry place bits =
-      let p = worth_list o element (o.neg o.one) 32 (word_entry o element given (Bits place 32)) in
-      let q = worth_list o element (o.neg (element (2 ^ 32))) bits (word_entry o element given (Bits (place + 32) bits)) in
+      let p = worth_list o element (o.neg o.one) 32 (bits_entry o place 32) in
+      let q = worth_list o element (o.neg (element (2 ^ 32))) bits (bits_entry o (place + 32) bits) in
       let both = length-append p q in
-      let lp = length-worth (o.neg o.one) 32 (word_entry o element given (Bits place 32)) in
-      let lq = length-worth (o.neg (element (2 ^ 32))) bits (word_entry o element given (Bits (place + 32) bits)) in
+      let lp = length-worth (o.neg o.one) 32 (bits_entry o place 32) in
+      let lq = length-worth (o.neg (element (2 ^ 32))) bits (bits_entry o (place + 32) bits) in
       omega (arith, both, lp, lq)
 
   length-w_row : (t : ℕ) → length (w_row o element given t) ≡ 290
@@ -68,7 +68,7 @@ module _ {X : Type 0} (o : Ops X) (element : ℕ → X) (given : Places) where
       let l7 = worth_list o element o.one 32 (word_entry o element given (Schedule (t - 7))) in
       let l0 = or_word_list o element (or_entry o element given (or_place_w o element t + 32)) (shifted_entry o element given (Schedule (t - 15)) 3) in
       let l16 = worth_list o element o.one 32 (word_entry o element given (Schedule (t - 16))) in
-      let lc = carry_list o element given (w_place given t) 2 in
+      let lc = carry_list o element (w_place given t) 2 in
       let e1 = length-append l1 (l7 ++ (l0 ++ (l16 ++ lc))) in
       let e2 = length-append l7 (l0 ++ (l16 ++ lc)) in
       let e3 = length-append l0 (l16 ++ lc) in
@@ -103,7 +103,7 @@ module _ {X : Type 0} (o : Ops X) (element : ℕ → X) (given : Places) where
       let l0 = first_list o element given t in
       let l1 = or_word_list o element (or_entry o element given (or_place_round o element t + 32)) (turned_entry o element given (A (t + 3)) 22) in
       let l2 = maj_word_list o element (word_entry o element given (A (t + 3))) (word_entry o element given (A (t + 2))) (word_entry o element given (A (t + 1))) (or_entry o element given (or_place_round o element t + 64)) in
-      let lc = carry_list o element given (a_place given t) 3 in
+      let lc = carry_list o element (a_place given t) 3 in
       let e1 = length-append l0 (l1 ++ (l2 ++ lc)) in
       let e2 = length-append l1 (l2 ++ lc) in
       let e3 = length-append l2 lc in
@@ -118,7 +118,7 @@ module _ {X : Type 0} (o : Ops X) (element : ℕ → X) (given : Places) where
   length-e_row t =
       let l0 = worth_list o element o.one 32 (word_entry o element given (A t)) in
       let l1 = first_list o element given t in
-      let lc = carry_list o element given (e_place given t) 3 in
+      let lc = carry_list o element (e_place given t) 3 in
       let e1 = length-append l0 (l1 ++ lc) in
       let e2 = length-append l1 lc in
       let n0 = length-worth o.one 32 (word_entry o element given (A t)) in
@@ -131,7 +131,7 @@ module _ {X : Type 0} (o : Ops X) (element : ℕ → X) (given : Places) where
   length-f_row i =
       let l0 = worth_list o element o.one 32 (word_entry o element given (State i)) in
       let l1 = worth_list o element o.one 32 (word_entry o element given (last_word_of o element i)) in
-      let lc = carry_list o element given (f_place given i) 1 in
+      let lc = carry_list o element (f_place given i) 1 in
       let e0 = length-append l0 (l1 ++ lc) in
       let e1 = length-append l1 lc in
       let n0 = length-worth o.one 32 (word_entry o element given (State i)) in
@@ -142,9 +142,9 @@ module _ {X : Type 0} (o : Ops X) (element : ℕ → X) (given : Places) where
   length-digest_row : (i : ℕ) → length (digest_row o element given i) ≡ 33
   unfolding digest_row
   length-digest_row i =
-      let l1 = worth_list o element o.one 32 (word_entry o element given (Bits (f_place given i) 32)) in
+      let l1 = worth_list o element o.one 32 (bits_entry o (f_place given i) 32) in
       let e1 = length-append l1 (linear o (o.neg o.one) (wire_entry o (1 + i)) ∷ []) in
-      let n1 = length-worth o.one 32 (word_entry o element given (Bits (f_place given i) 32)) in
+      let n1 = length-worth o.one 32 (bits_entry o (f_place given i) 32) in
       omega (arith, e1, n1)
 
   length-bit_row : (j : ℕ) → length (bit_row o j) ≡ 2

@@ -22,7 +22,7 @@ use Rattle.lzk_sha_circuit.specs.declared.entries.Word.{Word}
 use Rattle.lzk_sha_circuit.specs.declared.entries.Word.TheVariants.{Schedule, A, E}
 use Rattle.lzk_sha_circuit.specs.Circuits.{SomeShaCircuit, SomeCompressionCircuit}
 use Rattle.lzk_sha_circuit.specs.Products.{AreWithin, products_value, or_list}
-use Rattle.lzk_sha_circuit.specs.Layers.{IsBuilt, Grows, IsWordOf, IsWhole, input_count, inner_count, turned_entry, pass_row, pair_rows, schedule_pairs, round_pairs, inner_rows, bit_row, w_row, a_row, e_row, f_row, digest_row, output_rows}
+use Rattle.lzk_sha_circuit.specs.Layers.{IsBuilt, Grows, IsWord, input_count, inner_count, turned_entry, pass_row, pair_rows, schedule_pairs, round_pairs, inner_rows, bit_row, w_row, a_row, e_row, f_row, digest_row, output_rows}
 use Rattle.lzk_sha_circuit.proofs.MessagePlaces.{message_placed}
 use Rattle.lzk_sha_circuit.proofs.CircuitLaws.{two_layers, layers_valid, layers_ones}
 use Rattle.lzk_sha_circuit.proofs.CircuitValues.{outputs_are}
@@ -91,26 +91,26 @@ module _ {X : Type 0} (o : Ops X) (r : RingLaws o) (f : FieldLaws o) (decide : Z
 
 -- ---- the rows of the two layers
 module _ {X : Type 0} (o : Ops X) (element : ℕ → X) (given : Places) (ok : IsPlaced given) where
-  pairs_within : (x : Word) (j : ℕ) (y : Word) (k : ℕ) → IsWordOf given x → IsWhole x → IsWordOf given y → IsWhole y → AreAllWithin (input_count given) (pair_rows o element given x j y k)
+  pairs_within : (x : Word) (j : ℕ) (y : Word) (k : ℕ) → IsWord x → IsWord y → AreAllWithin (input_count given) (pair_rows o element given x j y k)
   unfolding pair_rows
-  pairs_within x j y k hx wx hy wy =
+  pairs_within x j y k hx hy =
       all-each (input_count given) (λ i. or_list o element o.one (turned_entry o element given x j i) (turned_entry o element given y k i)) 32 0
-      (λ i le lt. or_within o element (input_count given) o.one (turned_entry o element given x j i) (turned_entry o element given y k i) (turned_within o element given ok x j i hx wx) (turned_within o element given ok y k i hy wy))
+      (λ i le lt. or_within o element (input_count given) o.one (turned_entry o element given x j i) (turned_entry o element given y k i) (turned_within o element given ok x j i hx) (turned_within o element given ok y k i hy))
 
   schedule_within : (t : ℕ) → 16 ≤ t → t < 64 → AreAllWithin (input_count given) (schedule_pairs o element given t)
   unfolding schedule_pairs
   schedule_within t le lt =
       all-append (input_count given) (pair_rows o element given (Schedule (t - 2)) 17 (Schedule (t - 2)) 19) (pair_rows o element given (Schedule (t - 15)) 7 (Schedule (t - 15)) 18)
-      (pairs_within (Schedule (t - 2)) 17 (Schedule (t - 2)) 19 (omega (arith, lt)) (λ i l. l) (omega (arith, lt)) (λ i l. l))
-      (pairs_within (Schedule (t - 15)) 7 (Schedule (t - 15)) 18 (omega (arith, lt)) (λ i l. l) (omega (arith, lt)) (λ i l. l))
+      (pairs_within (Schedule (t - 2)) 17 (Schedule (t - 2)) 19 (omega (arith, lt)) (omega (arith, lt)))
+      (pairs_within (Schedule (t - 15)) 7 (Schedule (t - 15)) 18 (omega (arith, lt)) (omega (arith, lt)))
 
   round_within : (t : ℕ) → t < 64 → AreAllWithin (input_count given) (round_pairs o element given t)
   unfolding round_pairs
   round_within t lt =
-      all-append (input_count given) (pair_rows o element given (E (t + 3)) 6 (E (t + 3)) 11) _ (pairs_within (E (t + 3)) 6 (E (t + 3)) 11 (omega (arith, lt)) (λ i l. l) (omega (arith, lt)) (λ i l. l))
+      all-append (input_count given) (pair_rows o element given (E (t + 3)) 6 (E (t + 3)) 11) _ (pairs_within (E (t + 3)) 6 (E (t + 3)) 11 (omega (arith, lt)) (omega (arith, lt)))
       (all-append (input_count given) (pair_rows o element given (A (t + 3)) 2 (A (t + 3)) 13) (pair_rows o element given (A (t + 3)) 0 (A (t + 2)) 0)
-      (pairs_within (A (t + 3)) 2 (A (t + 3)) 13 (omega (arith, lt)) (λ i l. l) (omega (arith, lt)) (λ i l. l))
-      (pairs_within (A (t + 3)) 0 (A (t + 2)) 0 (omega (arith, lt)) (λ i l. l) (omega (arith, lt)) (λ i l. l)))
+      (pairs_within (A (t + 3)) 2 (A (t + 3)) 13 (omega (arith, lt)) (omega (arith, lt)))
+      (pairs_within (A (t + 3)) 0 (A (t + 2)) 0 (omega (arith, lt)) (omega (arith, lt))))
 
   inner_within : AreAllWithin (input_count given) (inner_rows o element given)
   unfolding inner_rows

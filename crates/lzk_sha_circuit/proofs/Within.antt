@@ -11,10 +11,10 @@ use Rattle.lzk_sha_circuit.specs.declared.products.Entry.{Entry}
 use Rattle.lzk_sha_circuit.specs.declared.bit.Bit.{Bit}
 use Rattle.lzk_sha_circuit.specs.declared.bit.Bit.TheVariants.{Zero, One, Input}
 use Rattle.lzk_sha_circuit.specs.declared.entries.Word.{Word}
-use Rattle.lzk_sha_circuit.specs.declared.entries.Word.TheVariants.{State, Schedule, A, E, Bits}
+use Rattle.lzk_sha_circuit.specs.declared.entries.Word.TheVariants.{State, Schedule, A, E}
 use Rattle.lzk_sha_circuit.specs.Places.{Places, IsBitOf, IsPlaced, bit_of, w_place, a_place, e_place, f_place}
 use Rattle.lzk_sha_circuit.specs.Products.{AreWithin, linear, or_list, chosen_list, most_list, worth_list, or_word_list, ch_word_list, maj_word_list}
-use Rattle.lzk_sha_circuit.specs.Layers.{input_count, inner_count, IsWordOf, IsPlaceOf, IsWhole, constant_entry, bit_entry, bits_entry, word_entry, turned_entry, shifted_entry, or_entry, or_place_w, or_place_round, pair_rows, schedule_pairs, round_pairs, carry_list, bit_row, w_row, first_list, a_row, e_row, last_word_of, f_row, digest_row}
+use Rattle.lzk_sha_circuit.specs.Layers.{input_count, inner_count, IsWord, constant_entry, bit_entry, bits_entry, word_entry, turned_entry, shifted_entry, or_entry, or_place_w, or_place_round, pair_rows, schedule_pairs, round_pairs, carry_list, bit_row, w_row, first_list, a_row, e_row, last_word_of, f_row, digest_row}
 use Rattle.lzk_sha_circuit.proofs.RowLaws.{within-append}
 
 within_chunks : {X : Type 0} (width : ℕ) (f : ℕ → List (Product X)) (n a : ℕ) → ((i : ℕ) → a ≤ i → i < a + n → AreWithin width (f i)) → AreWithin width (flat_map f (range_with_len a n))
@@ -38,19 +38,18 @@ module _ {X : Type 0} (o : Ops X) (element : ℕ → X) where
   bit_within n One h = omega arith
   bit_within n (Input j) h = let lt = h j refl in omega (arith, lt)
 
-  pub word_within : (given : Places) → IsPlaced given → (w : Word) (i : ℕ) → IsWordOf given w → IsPlaceOf w i → (word_entry o element given w i).wire < input_count given
+  pub word_within : (given : Places) → IsPlaced given → (w : Word) (i : ℕ) → IsWord w → (word_entry o element given w i).wire < input_count given
   unfolding word_entry
-  word_within given ok (State k) i hw hi = bit_within given.inputs (bit_of given.state (32 * k + (31 - i))) (ok.state_within (32 * k + (31 - i)))
-  word_within given ok (Schedule t) i hw hi =
+  word_within given ok (State k) i hw = bit_within given.inputs (bit_of given.state (32 * k + (31 - i))) (ok.state_within (32 * k + (31 - i)))
+  word_within given ok (Schedule t) i hw =
       if_within (input_count given) (nat_lt t 16) (bit_entry o element (bit_of given.block (32 * t + (31 - i)))) (bits_entry o (w_place given t) 32 i)
       (λ b. bit_within given.inputs (bit_of given.block (32 * t + (31 - i))) (ok.block_within (32 * t + (31 - i)))) (λ b. let l = is_more t 16 b in omega (arith, l, hw))
-  word_within given ok (A s) i hw hi =
+  word_within given ok (A s) i hw =
       if_within (input_count given) (nat_lt s 4) (bit_entry o element (bit_of given.state (32 * (3 - s) + (31 - i)))) (bits_entry o (a_place given (s - 4)) 32 i)
       (λ b. bit_within given.inputs (bit_of given.state (32 * (3 - s) + (31 - i))) (ok.state_within (32 * (3 - s) + (31 - i)))) (λ b. let l = is_more s 4 b in omega (arith, l, hw))
-  word_within given ok (E s) i hw hi =
+  word_within given ok (E s) i hw =
       if_within (input_count given) (nat_lt s 4) (bit_entry o element (bit_of given.state (32 * (7 - s) + (31 - i)))) (bits_entry o (e_place given (s - 4)) 32 i)
       (λ b. bit_within given.inputs (bit_of given.state (32 * (7 - s) + (31 - i))) (ok.state_within (32 * (7 - s) + (31 - i)))) (λ b. let l = is_more s 4 b in omega (arith, l, hw))
-  word_within given ok (Bits place n) i hw hi = omega (arith, hw, hi)
 
   -- ---- formulas
   pub or_within : (width : ℕ) (s : X) (x y : Entry X) → x.wire < width → y.wire < width → AreWithin width (or_list o element s x y)
@@ -82,8 +81,8 @@ module _ {X : Type 0} (o : Ops X) (element : ℕ → X) where
     maj_word_within x y z u hx hy hz hu =
         within_chunks width (λ i. most_list o (element (2 ^ i)) (x i) (y i) (z i) (u i)) 32 0 (λ i le lt. most_within width (element (2 ^ i)) (x i) (y i) (z i) (u i) (hx i (omega arith)) (hy i (omega arith)) (hz i (omega arith)) (hu i (omega arith)))
 
-  pub turned_within : (given : Places) → IsPlaced given → (w : Word) (k i : ℕ) → IsWordOf given w → IsWhole w → (turned_entry o element given w k i).wire < input_count given
-  turned_within given ok w k i hw whole = word_within given ok w ((i + k) % 32) hw (whole ((i + k) % 32) (omega arith))
+  pub turned_within : (given : Places) → IsPlaced given → (w : Word) (k i : ℕ) → IsWord w → (turned_entry o element given w k i).wire < input_count given
+  turned_within given ok w k i hw = word_within given ok w ((i + k) % 32) hw
 
   -- ---- the rows of the outputs
   module _ (given : Places) (ok : IsPlaced given) where
@@ -93,28 +92,31 @@ module _ {X : Type 0} (o : Ops X) (element : ℕ → X) where
     some : 1 ≤ inner_count given
     some = omega arith
 
-    entries : (w : Word) → IsWordOf given w → IsWhole w → (i : ℕ) → i < 32 → (word_entry o element given w i).wire < inner_count given
-    entries w hw whole i lt = below_inner _ (word_within given ok w i hw (whole i lt))
+    entries : (w : Word) → IsWord w → (i : ℕ) → i < 32 → (word_entry o element given w i).wire < inner_count given
+    entries w hw i lt = below_inner _ (word_within given ok w i hw)
 
-    turned_entries : (w : Word) (k : ℕ) → IsWordOf given w → IsWhole w → (i : ℕ) → i < 32 → (turned_entry o element given w k i).wire < inner_count given
-    turned_entries w k hw whole i lt = below_inner _ (turned_within given ok w k i hw whole)
+    turned_entries : (w : Word) (k : ℕ) → IsWord w → (i : ℕ) → i < 32 → (turned_entry o element given w k i).wire < inner_count given
+    turned_entries w k hw i lt = below_inner _ (turned_within given ok w k i hw)
 
-    shifted_entries : (w : Word) (k : ℕ) → IsWordOf given w → IsWhole w → (i : ℕ) → i < 32 → (shifted_entry o element given w k i).wire < inner_count given
-    shifted_entries w k hw whole i lt =
+    shifted_entries : (w : Word) (k : ℕ) → IsWord w → (i : ℕ) → i < 32 → (shifted_entry o element given w k i).wire < inner_count given
+    shifted_entries w k hw i lt =
         if_within (inner_count given) (nat_lt (i + k) 32) (word_entry o element given w (i + k)) (constant_entry element 0)
-        (λ b. below_inner _ (word_within given ok w (i + k) hw (whole (i + k) (is_less (i + k) 32 b)))) (λ b. omega arith)
+        (λ b. below_inner _ (word_within given ok w (i + k) hw)) (λ b. omega arith)
 
     ors : (place : ℕ) → place + 32 ≤ 9216 → (i : ℕ) → i < 32 → (or_entry o element given place i).wire < inner_count given
     ors place le i lt = omega (arith, le, lt)
 
-    carry_within : (place bits : ℕ) → place + 32 + bits ≤ given.inputs + 6376 → AreWithin (inner_count given) (carry_list o element given place bits)
-    carry_within place bits le =
-        within-append (inner_count given) (worth_list o element (o.neg o.one) 32 (word_entry o element given (Bits place 32))) (worth_list o element (o.neg (element (2 ^ 32))) bits (word_entry o element given (Bits (place + 32) bits)))
-        (worth_within (inner_count given) (o.neg o.one) 32 (word_entry o element given (Bits place 32)) some (λ i lt. below_inner _ (word_within given ok (Bits place 32) i (omega arith) lt)))
-        (worth_within (inner_count given) (o.neg (element (2 ^ 32))) bits (word_entry o element given (Bits (place + 32) bits)) some (λ i lt. below_inner _ (word_within given ok (Bits (place + 32) bits) i (omega arith) lt)))
+    bits_within : (place n i : ℕ) → place + n ≤ given.inputs + 6376 → i < n → (bits_entry o place n i).wire < inner_count given
+    bits_within place n i le lt = omega (arith, le, lt)
 
-    word_worth : (w : Word) → IsWordOf given w → IsWhole w → AreWithin (inner_count given) (worth_list o element o.one 32 (word_entry o element given w))
-    word_worth w hw whole = worth_within (inner_count given) o.one 32 (word_entry o element given w) some (entries w hw whole)
+    carry_within : (place bits : ℕ) → place + 32 + bits ≤ given.inputs + 6376 → AreWithin (inner_count given) (carry_list o element place bits)
+    carry_within place bits le =
+        within-append (inner_count given) (worth_list o element (o.neg o.one) 32 (bits_entry o place 32)) (worth_list o element (o.neg (element (2 ^ 32))) bits (bits_entry o (place + 32) bits))
+        (worth_within (inner_count given) (o.neg o.one) 32 (bits_entry o place 32) some (λ i lt. bits_within place 32 i (omega (arith, le)) lt))
+        (worth_within (inner_count given) (o.neg (element (2 ^ 32))) bits (bits_entry o (place + 32) bits) some (λ i lt. bits_within (place + 32) bits i (omega (arith, le)) lt))
+
+    word_worth : (w : Word) → IsWord w → AreWithin (inner_count given) (worth_list o element o.one 32 (word_entry o element given w))
+    word_worth w hw = worth_within (inner_count given) o.one 32 (word_entry o element given w) some (entries w hw)
 
     pub bit_row_within : (j : ℕ) → j < given.inputs + 6376 → AreWithin (inner_count given) (bit_row o j)
     unfolding bit_row
@@ -124,54 +126,54 @@ module _ {X : Type 0} (o : Ops X) (element : ℕ → X) where
     unfolding w_row
     w_row_within t le lt =
         within-append (inner_count given) (or_word_list o element (or_entry o element given (or_place_w o element t)) (shifted_entry o element given (Schedule (t - 2)) 10)) _
-        (or_word_within (inner_count given) _ _ (ors (64 * (t - 16)) (omega arith)) (shifted_entries (Schedule (t - 2)) 10 (omega arith) (λ i l. l)))
-        (within-append (inner_count given) (worth_list o element o.one 32 (word_entry o element given (Schedule (t - 7)))) _ (word_worth (Schedule (t - 7)) (omega arith) (λ i l. l))
+        (or_word_within (inner_count given) _ _ (ors (64 * (t - 16)) (omega arith)) (shifted_entries (Schedule (t - 2)) 10 (omega arith)))
+        (within-append (inner_count given) (worth_list o element o.one 32 (word_entry o element given (Schedule (t - 7)))) _ (word_worth (Schedule (t - 7)) (omega arith))
         (within-append (inner_count given) (or_word_list o element (or_entry o element given (or_place_w o element t + 32)) (shifted_entry o element given (Schedule (t - 15)) 3)) _
-        (or_word_within (inner_count given) _ _ (ors (64 * (t - 16) + 32) (omega arith)) (shifted_entries (Schedule (t - 15)) 3 (omega arith) (λ i l. l)))
-        (within-append (inner_count given) (worth_list o element o.one 32 (word_entry o element given (Schedule (t - 16)))) _ (word_worth (Schedule (t - 16)) (omega arith) (λ i l. l))
+        (or_word_within (inner_count given) _ _ (ors (64 * (t - 16) + 32) (omega arith)) (shifted_entries (Schedule (t - 15)) 3 (omega arith)))
+        (within-append (inner_count given) (worth_list o element o.one 32 (word_entry o element given (Schedule (t - 16)))) _ (word_worth (Schedule (t - 16)) (omega arith))
         (carry_within (w_place given t) 2 (omega arith)))))
 
     first_within : (t : ℕ) → t < 64 → AreWithin (inner_count given) (first_list o element given t)
     unfolding first_list
     first_within t lt =
-        within-append (inner_count given) (worth_list o element o.one 32 (word_entry o element given (E t))) _ (word_worth (E t) (omega arith) (λ i l. l))
+        within-append (inner_count given) (worth_list o element o.one 32 (word_entry o element given (E t))) _ (word_worth (E t) (omega arith))
         (within-append (inner_count given) (or_word_list o element (or_entry o element given (or_place_round o element t)) (turned_entry o element given (E (t + 3)) 25)) _
-        (or_word_within (inner_count given) _ _ (ors (3072 + 96 * t) (omega arith)) (turned_entries (E (t + 3)) 25 (omega arith) (λ i l. l)))
+        (or_word_within (inner_count given) _ _ (ors (3072 + 96 * t) (omega arith)) (turned_entries (E (t + 3)) 25 (omega arith)))
         (within-append (inner_count given) (ch_word_list o element (word_entry o element given (E (t + 3))) (word_entry o element given (E (t + 2))) (word_entry o element given (E (t + 1)))) _
-        (ch_word_within (inner_count given) _ _ _ (entries (E (t + 3)) (omega arith) (λ i l. l)) (entries (E (t + 2)) (omega arith) (λ i l. l)) (entries (E (t + 1)) (omega arith) (λ i l. l)))
-        (within-append (inner_count given) (record { coef = element (slice_index round_constants t); a = 0; b = 0 } ∷ []) (worth_list o element o.one 32 (word_entry o element given (Schedule t))) (omega arith, omega arith, tt) (word_worth (Schedule t) lt (λ i l. l)))))
+        (ch_word_within (inner_count given) _ _ _ (entries (E (t + 3)) (omega arith)) (entries (E (t + 2)) (omega arith)) (entries (E (t + 1)) (omega arith)))
+        (within-append (inner_count given) (record { coef = element (slice_index round_constants t); a = 0; b = 0 } ∷ []) (worth_list o element o.one 32 (word_entry o element given (Schedule t))) (omega arith, omega arith, tt) (word_worth (Schedule t) lt))))
 
     pub a_row_within : (t : ℕ) → t < 64 → AreWithin (inner_count given) (a_row o element given t)
     unfolding a_row
     a_row_within t lt =
         within-append (inner_count given) (first_list o element given t) _ (first_within t lt)
         (within-append (inner_count given) (or_word_list o element (or_entry o element given (or_place_round o element t + 32)) (turned_entry o element given (A (t + 3)) 22)) _
-        (or_word_within (inner_count given) _ _ (ors (3072 + 96 * t + 32) (omega arith)) (turned_entries (A (t + 3)) 22 (omega arith) (λ i l. l)))
+        (or_word_within (inner_count given) _ _ (ors (3072 + 96 * t + 32) (omega arith)) (turned_entries (A (t + 3)) 22 (omega arith)))
         (within-append (inner_count given) (maj_word_list o element (word_entry o element given (A (t + 3))) (word_entry o element given (A (t + 2))) (word_entry o element given (A (t + 1))) (or_entry o element given (or_place_round o element t + 64))) _
-        (maj_word_within (inner_count given) _ _ _ _ (entries (A (t + 3)) (omega arith) (λ i l. l)) (entries (A (t + 2)) (omega arith) (λ i l. l)) (entries (A (t + 1)) (omega arith) (λ i l. l)) (ors (3072 + 96 * t + 64) (omega arith)))
+        (maj_word_within (inner_count given) _ _ _ _ (entries (A (t + 3)) (omega arith)) (entries (A (t + 2)) (omega arith)) (entries (A (t + 1)) (omega arith)) (ors (3072 + 96 * t + 64) (omega arith)))
         (carry_within (a_place given t) 3 (omega arith))))
 
     pub e_row_within : (t : ℕ) → t < 64 → AreWithin (inner_count given) (e_row o element given t)
     unfolding e_row
     e_row_within t lt =
-        within-append (inner_count given) (worth_list o element o.one 32 (word_entry o element given (A t))) _ (word_worth (A t) (omega arith) (λ i l. l))
+        within-append (inner_count given) (worth_list o element o.one 32 (word_entry o element given (A t))) _ (word_worth (A t) (omega arith))
         (within-append (inner_count given) (first_list o element given t) _ (first_within t lt) (carry_within (e_place given t) 3 (omega arith)))
 
-    last_is_word : (b : Bool) (i : ℕ) → i < 8 → (b ≡ false → 4 ≤ i) → IsWordOf given (if b then A (67 - i) else E (71 - i)) × IsWhole (if b then A (67 - i) else E (71 - i))
-    last_is_word true i lt high = (omega arith, λ j l. l)
-    last_is_word false i lt high = let l = high refl in (omega (arith, l), λ j m. m)
+    last_is_word : (b : Bool) (i : ℕ) → i < 8 → (b ≡ false → 4 ≤ i) → IsWord (if b then A (67 - i) else E (71 - i))
+    last_is_word true i lt high = omega arith
+    last_is_word false i lt high = let l = high refl in omega (arith, l)
 
     pub f_row_within : (i : ℕ) → i < 8 → AreWithin (inner_count given) (f_row o element given i)
     unfolding f_row
     f_row_within i lt =
         let last = last_is_word (nat_lt i 4) i lt (is_more i 4) in
-        within-append (inner_count given) (worth_list o element o.one 32 (word_entry o element given (State i))) _ (word_worth (State i) lt (λ j l. l))
-        (within-append (inner_count given) (worth_list o element o.one 32 (word_entry o element given (last_word_of o element i))) _ (word_worth (last_word_of o element i) last.0 last.1) (carry_within (f_place given i) 1 (omega arith)))
+        within-append (inner_count given) (worth_list o element o.one 32 (word_entry o element given (State i))) _ (word_worth (State i) lt)
+        (within-append (inner_count given) (worth_list o element o.one 32 (word_entry o element given (last_word_of o element i))) _ (word_worth (last_word_of o element i) last) (carry_within (f_place given i) 1 (omega arith)))
 
     pub digest_row_within : (i : ℕ) → i < 8 → AreWithin (inner_count given) (digest_row o element given i)
     unfolding digest_row
     digest_row_within i lt =
-        within-append (inner_count given) (worth_list o element o.one 32 (word_entry o element given (Bits (f_place given i) 32))) _ (word_worth (Bits (f_place given i) 32) (omega arith) (λ j l. l)) (omega arith, omega arith, tt)
+        within-append (inner_count given) (worth_list o element o.one 32 (bits_entry o (f_place given i) 32)) _ (worth_within (inner_count given) o.one 32 (bits_entry o (f_place given i) 32) some (λ j l. bits_within (f_place given i) 32 j (omega (arith, lt)) l)) (omega arith, omega arith, tt)
 
   -- ---- how many rows
   module _ (given : Places) where

@@ -37,11 +37,11 @@ zero_more m old new i le eo en =
     en ∙ ap (λ l. l ++ 0 ∷ []) eo ∙ append_assoc m (0x80 ∷ replicate (i - length m) 0) (0 ∷ [])
     ∙ ap (λ l. m ++ 0x80 ∷ l) (replicate_more (i - length m) 0 ∙ ap (λ n. replicate n 0) e)
 
-pub padded_is : (m block new bytes : List ℕ) (i count : ℕ) → length m ≤ 55 → i ≡ 55 → block ≡ m ++ 0x80 ∷ replicate (i - length m) 0 → new ≡ block ++ bytes
+pub padded_is : (m block new bytes : List ℕ) (i count : ℕ) → length m ≤ 503 → i ≡ length m + (119 - length m % 64) % 64 → block ≡ m ++ 0x80 ∷ replicate (i - length m) 0 → new ≡ block ++ bytes
     → bytes ≡ to_be_bytes w64 count → count ≡ 8 * length m → new ≡ padded_message m
 padded_is m block new bytes i count le ei eb en ey ec =
-    let zeros : i - length m ≡ (119 - length m % 64) % 64 = omega arith in
-    let size : count ≡ length m * 8 % 2 ^ 64 = omega arith in
+    let zeros : i - length m ≡ (119 - length m % 64) % 64 = omega (arith, ei) in
+    let size : count ≡ length m * 8 % 2 ^ 64 = omega (arith, le, ec) in
     en ∙ (λ j. eb j ++ ey j) ∙ append_assoc m (0x80 ∷ replicate (i - length m) 0) (to_be_bytes w64 count)
     ∙ (λ j. m ++ (0x80 ∷ replicate (zeros j) 0 ++ to_be_bytes w64 (size j)))
 

@@ -12,7 +12,9 @@ use Rattle.lzk_sha_circuit.specs.declared.products.Entry.{Entry}
 use Rattle.lzk_sha_circuit.specs.declared.bit.Bit.{Bit}
 use Rattle.lzk_sha_circuit.specs.declared.bit.Bit.TheVariants.{Zero, One, Input}
 use Rattle.lzk_sha_circuit.specs.declared.entries.Word.{Word}
-use Rattle.lzk_sha_circuit.specs.declared.entries.Word.TheVariants.{State, Schedule, A, E, Bits}
+use Rattle.lzk_sha_circuit.specs.declared.entries.Word.TheVariants.{State, Schedule, A, E}
+use Rattle.lzk_sha_circuit.specs.declared.entries.Move.{Move}
+use Rattle.lzk_sha_circuit.specs.declared.entries.Move.TheVariants.{Turned, Shifted}
 use Rattle.lzk_sha_circuit.specs.Places.{Places, total_count, bit_of, w_place, a_place, e_place, f_place}
 use Rattle.lzk_sha_circuit.specs.Products.{products_value, sizes, linear, bilinear, or_list, worth_list, or_word_list, ch_word_list, maj_word_list}
 
@@ -46,25 +48,22 @@ input_count given = given.inputs + 6385
 abbrev pub inner_count : Places → ℕ
 inner_count given = given.inputs + 15601
 
+-- which word of its kind it is, and how many there are of that kind
+abbrev pub word_number : Word → ℕ
+word_number (State k) = k
+word_number (Schedule t) = t
+word_number (A s) = s
+word_number (E s) = s
+
+abbrev pub word_count : Word → ℕ
+word_count (State k) = 8
+word_count (Schedule t) = 64
+word_count (A s) = 68
+word_count (E s) = 68
+
 -- one of the words of a compression
-abbrev pub IsWordOf : Places → Word → Type 0
-IsWordOf given (State k) = k < 8
-IsWordOf given (Schedule t) = t < 64
-IsWordOf given (A s) = s < 68
-IsWordOf given (E s) = s < 68
-IsWordOf given (Bits place n) = place + n ≤ total_count given
-
--- i is a place of the word
-abbrev pub IsPlaceOf : Word → ℕ → Type 0
-IsPlaceOf (State k) i = i < 32
-IsPlaceOf (Schedule t) i = i < 32
-IsPlaceOf (A s) i = i < 32
-IsPlaceOf (E s) i = i < 32
-IsPlaceOf (Bits place n) i = i < n
-
--- the word has the places below 32
-abbrev pub IsWhole : Word → Type 0
-IsWhole w = (i : ℕ) → i < 32 → IsPlaceOf w i
+abbrev pub IsWord : Word → Type 0
+IsWord w = word_number w < word_count w
 
 abbrev pub wire_entry : {X : Type 0} → Ops X → ℕ → Entry X
 wire_entry o k = record { factor = o.one; wire = k }
@@ -101,13 +100,17 @@ module _ {X : Type 0} (o : Ops X) (element : ℕ → X) where
   word_entry given (E s) i =
       if nat_lt s 4 then bit_entry (bit_of given.state (32 * (7 - s) + (31 - i))) else bits_entry o
       (e_place given (s - 4)) 32 i
-  word_entry given (Bits place n) i = bits_entry o place n i
 
   abbrev pub turned_entry : Places → Word → ℕ → ℕ → Entry X
   turned_entry given w k i = word_entry given w ((i + k) % 32)
 
   abbrev pub shifted_entry : Places → Word → ℕ → ℕ → Entry X
   shifted_entry given w k i = if nat_lt (i + k) 32 then word_entry given w (i + k) else constant_entry element 0
+
+  -- the same by either move
+  abbrev pub moved_entry : Places → Word → Move → ℕ → Entry X
+  moved_entry given w (Turned k) = turned_entry given w k
+  moved_entry given w (Shifted k) = shifted_entry given w k
 
   -- ---- the inner layer: the one and the inputs go on, and then exclusive ors of two entries of words
 
@@ -142,10 +145,11 @@ module _ {X : Type 0} (o : Ops X) (element : ℕ → X) where
 
   -- ---- the outputs
 
-  abbrev pub carry_list : Places → ℕ → ℕ → List (Product X)
-  carry_list given place bits =
-      worth_list o element (o.neg o.one) 32 (word_entry given (Bits place 32))
-      ++ worth_list o element (o.neg (element (2 ^ 32))) bits (word_entry given (Bits (place + 32) bits))
+  -- less the word that begins at a place, and 2 ^ 32 times the carry of so many bits behind it
+  abbrev pub carry_list : ℕ → ℕ → List (Product X)
+  carry_list place bits =
+      worth_list o element (o.neg o.one) 32 (bits_entry o place 32)
+      ++ worth_list o element (o.neg (element (2 ^ 32))) bits (bits_entry o (place + 32) bits)
 
   unfoldable pub w_row : Places → ℕ → List (Product X)
   w_row given t =
@@ -153,7 +157,7 @@ module _ {X : Type 0} (o : Ops X) (element : ℕ → X) where
       ++ (worth_list o element o.one 32 (word_entry given (Schedule (t - 7)))
       ++ (or_word_list o element (or_entry given (or_place_w t + 32)) (shifted_entry given (Schedule (t - 15)) 3)
       ++ (worth_list o element o.one 32 (word_entry given (Schedule (t - 16)))
-      ++ carry_list given (w_place given t) 2)))
+      ++ carry_list (w_place given t) 2)))
 
   -- E t-4 + Σ1(E t-1) + Ch(E t-1, E t-2, E t-3) + K t + W t
   unfoldable pub first_list : Places → ℕ → List (Product X)
@@ -171,12 +175,12 @@ module _ {X : Type 0} (o : Ops X) (element : ℕ → X) where
       (turned_entry given (A (t + 3)) 22)
       ++ (maj_word_list o element (word_entry given (A (t + 3))) (word_entry given (A (t + 2)))
       (word_entry given (A (t + 1))) (or_entry given (or_place_round t + 64))
-      ++ carry_list given (a_place given t) 3))
+      ++ carry_list (a_place given t) 3))
 
   unfoldable pub e_row : Places → ℕ → List (Product X)
   e_row given t =
       worth_list o element o.one 32 (word_entry given (A t))
-      ++ (first_list given t ++ carry_list given (e_place given t) 3)
+      ++ (first_list given t ++ carry_list (e_place given t) 3)
 
   abbrev pub last_word_of : ℕ → Word
   last_word_of i = if nat_lt i 4 then A (67 - i) else E (71 - i)
@@ -184,11 +188,11 @@ module _ {X : Type 0} (o : Ops X) (element : ℕ → X) where
   unfoldable pub f_row : Places → ℕ → List (Product X)
   f_row given i =
       worth_list o element o.one 32 (word_entry given (State i))
-      ++ (worth_list o element o.one 32 (word_entry given (last_word_of i)) ++ carry_list given (f_place given i) 1)
+      ++ (worth_list o element o.one 32 (word_entry given (last_word_of i)) ++ carry_list (f_place given i) 1)
 
   unfoldable pub digest_row : Places → ℕ → List (Product X)
   digest_row given i =
-      worth_list o element o.one 32 (word_entry given (Bits (f_place given i) 32))
+      worth_list o element o.one 32 (bits_entry o (f_place given i) 32)
       ++ linear o (o.neg o.one) (wire_entry o (1 + i)) ∷ []
 
   unfoldable pub output_rows : Places → List (List (Product X))

@@ -14,7 +14,7 @@ ghost use Rattle.lzk_sha_circuit.specs.Layers.{input_count};
 
 use crate::given::Given;
 use crate::inner::inner_terms;
-use crate::message::message_given;
+use crate::message::{ShortLength, message_given};
 use crate::outer::output_terms;
 use lzk_circuit::{Circuit, Layer, Terms};
 use lzk_goldilocks::Gold;
@@ -97,7 +97,7 @@ pub fn sha_circuit(alloc: Global, len: u32) -> Result<Circuit<Gold>, AllocError>
         → wires_of ops circuit.layers (inputs_of ops public private) ≡ sha_outputs ops of_number len public private) }
     ensures reduced { IfOk result (λ circuit. IsReduced ops circuit.layers) }
 {
-    let given = message_given(alloc, len)?;
+    let given = message_given(alloc, ShortLength { len })?;
     let circuit = compression_circuit(alloc, &given)?;
     Ok(circuit)
 }

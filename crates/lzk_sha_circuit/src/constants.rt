@@ -1,7 +1,7 @@
 //! The constants of FIPS 180-4.
 
-// The initial hash value, 5.3.3.
-pub(crate) const INITIAL_HASH: [u32; 8] = [
+/// The initial hash value, 5.3.3.
+pub const INITIAL_HASH: [u32; 8] = [
     0x6a09_e667,
     0xbb67_ae85,
     0x3c6e_f372,

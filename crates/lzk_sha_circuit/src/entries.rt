@@ -4,11 +4,12 @@ ghost use Rattle.std.specs.Prelude.{◌≡◌, ℕ, ◌+◌, ◌-◌, ◌*◌, �
 ghost use Rattle.lzk_sha_circuit.specs.Found.{places_of};
 ghost use Rattle.lzk_goldilocks.specs.Elements.{ops, of_number};
 ghost use Rattle.lzk_sha_circuit.specs.Places.{IsBitOf};
-ghost use Rattle.lzk_sha_circuit.specs.Layers.{IsWordOf, IsPlaceOf, IsWhole, wire_entry, bit_entry};
-ghost use Rattle.lzk_sha_circuit.specs.Layers.{bits_entry, word_entry, turned_entry, shifted_entry};
+ghost use Rattle.lzk_sha_circuit.specs.Layers.{wire_entry, bit_entry, bits_entry};
+ghost use Rattle.lzk_sha_circuit.specs.Layers.{word_entry, turned_entry, shifted_entry, moved_entry};
 
 use crate::bit::Bit;
 use crate::given::Given;
+use crate::placed::{Placed, Row};
 use crate::products::Entry;
 use lzk_field::Field;
 use lzk_goldilocks::Gold;
@@ -24,8 +25,15 @@ pub enum Word {
     A(u32),
     /// E (s - 4).
     E(u32),
-    /// So many private inputs from a place on.
-    Bits(u32, u32),
+}
+
+/// How a word's places move.
+#[derive(Clone, Copy)]
+pub enum Move {
+    /// Rotated right by so many.
+    Turned(u8),
+    /// Shifted right by so many.
+    Shifted(u8),
 }
 
 // The wire itself.
@@ -56,75 +64,80 @@ fn bit_entry(bit: Bit) -> Entry<Gold>
     }
 }
 
-// An entry of `count` private inputs from a place on.
-fn bits_entry(place: u32, count: u32, i: u32) -> Entry<Gold>
-    requires within { i < count }
-    requires few { place + count ≤ 8192 }
-    ensures { result ≡ bits_entry ops place count i }
+// An entry of private inputs in a row, the most significant of which stands first.
+pub fn bits_entry(row: Row, i: u32) -> Entry<Gold>
+    requires { i < row.count }
+    ensures { result ≡ bits_entry ops row.place row.count i }
 {
-    wire_entry(9 + place + (count - 1 - i))
+    wire_entry(9 + row.place + (row.count - 1 - i))
 }
 
 // An entry of a word.
 #[tactic(auto, unfolding(crate::specs::Layers::word_entry))]
-pub fn entry(given: &Given, word: Word, i: u32) -> Entry<Gold>
-    requires word { IsWordOf (places_of given.now) word }
-    requires place { i < 32 }
-    requires within { IsPlaceOf word i }
-    ensures { result ≡ word_entry ops of_number (places_of given.now) word i }
+pub fn entry(given: &Given, word: Placed, i: u32) -> Entry<Gold>
+    requires { i < 32 }
+    ensures { result ≡ word_entry ops of_number (places_of given.now) word.word i }
 {
-    match word {
+    match word.word {
         Word::State(k) => bit_entry(given.state_bit(32 * k + (31 - i))),
         Word::Schedule(t) => {
             if t < 16 {
                 bit_entry(given.block_bit(32 * t + (31 - i)))
             } else {
-                bits_entry(given.inputs + 34 * (t - 16), 32, i)
+                let place = given.inputs + 34 * (t - 16);
+                bits_entry(Row { place, count: 32 }, i)
             }
         }
         Word::A(s) => {
             if s < 4 {
                 bit_entry(given.state_bit(32 * (3 - s) + (31 - i)))
             } else {
-                bits_entry(given.inputs + 1632 + 70 * (s - 4), 32, i)
+                let place = given.inputs + 1632 + 70 * (s - 4);
+                bits_entry(Row { place, count: 32 }, i)
             }
         }
         Word::E(s) => {
             if s < 4 {
                 bit_entry(given.state_bit(32 * (7 - s) + (31 - i)))
             } else {
-                bits_entry(given.inputs + 1632 + 70 * (s - 4) + 35, 32, i)
+                let place = given.inputs + 1632 + 70 * (s - 4) + 35;
+                bits_entry(Row { place, count: 32 }, i)
             }
         }
-        Word::Bits(place, count) => bits_entry(place, count, i),
     }
 }
 
 // An entry of a word that is rotated right by `k` places.
-pub fn turned_entry(given: &Given, word: Word, k: u32, i: u32) -> Entry<Gold>
-    requires word { IsWordOf (places_of given.now) word }
-    requires whole { IsWhole word }
-    requires turn { k < 32 }
-    requires place { i < 32 }
-    ensures { result ≡ turned_entry ops of_number (places_of given.now) word k i }
+pub fn turned_entry(given: &Given, word: Placed, k: u8, i: u32) -> Entry<Gold>
+    requires { i < 32 }
+    ensures { result ≡ turned_entry ops of_number (places_of given.now) word.word k i }
 {
-    entry(given, word, (i + k) % 32)
+    entry(given, word, (i + u32::from(k)) % 32)
 }
 
 // An entry of a word that is shifted right by `k` places.
-pub fn shifted_entry(given: &Given, word: Word, k: u32, i: u32) -> Entry<Gold>
-    requires word { IsWordOf (places_of given.now) word }
-    requires whole { IsWhole word }
-    requires turn { k < 32 }
-    requires place { i < 32 }
-    ensures { result ≡ shifted_entry ops of_number (places_of given.now) word k i }
+fn shifted_entry(given: &Given, word: Placed, k: u8, i: u32) -> Entry<Gold>
+    requires { i < 32 }
+    ensures { result ≡ shifted_entry ops of_number (places_of given.now) word.word k i }
 {
-    if i + k < 32 {
-        entry(given, word, i + k)
+    let place = i + u32::from(k);
+    if place < 32 {
+        entry(given, word, place)
     } else {
         Entry {
             factor: Gold::zero(),
             wire: 0,
         }
+    }
+}
+
+// An entry of a word whose places move.
+pub fn moved_entry(given: &Given, word: Placed, by: Move, i: u32) -> Entry<Gold>
+    requires { i < 32 }
+    ensures { result ≡ moved_entry ops of_number (places_of given.now) word.word by i }
+{
+    match by {
+        Move::Turned(k) => turned_entry(given, word, k, i),
+        Move::Shifted(k) => shifted_entry(given, word, k, i),
     }
 }

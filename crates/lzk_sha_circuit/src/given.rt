@@ -1,6 +1,6 @@
 //! What a compression is given, and where its circuit finds it.
 
-ghost use Rattle.std.specs.Prelude.{◌≡◌, ◌<◌, ◌≤◌};
+ghost use Rattle.std.specs.Prelude.{◌≡◌, ◌<◌, ◌≤◌, length};
 ghost use Rattle.lzk_sha_circuit.specs.Places.{IsPlaced, IsBitOf, bit_of};
 
 use crate::bit::Bit;
@@ -19,30 +19,22 @@ pub struct Given {
     ghost placed: { IsPlaced (record { inputs = inputs; state = state.items; block = block.items }) },
 }
 
+// Bit `j` of a list.
+fn bit_at(bits: &[Bit], j: u32) -> Bit
+    requires { j < length bits.now }
+    ensures { result ≡ bit_of bits.now j }
+{
+    bits[j as usize]
+}
+
 impl Given {
-    // Bit `j` of the state, as it stands in the list.
-    fn state_at(&self, j: u32) -> Bit
-        requires { j < 256 }
-        ensures { result ≡ bit_of self.now.state.items j }
-    {
-        self.state[j as usize]
-    }
-
-    // Bit `j` of the block, as it stands in the list.
-    fn block_at(&self, j: u32) -> Bit
-        requires { j < 512 }
-        ensures { result ≡ bit_of self.now.block.items j }
-    {
-        self.block[j as usize]
-    }
-
     // Bit `j` of the state.
     pub(crate) fn state_bit(&self, j: u32) -> Bit
         requires { j < 256 }
         ensures bit { result ≡ bit_of self.now.state.items j }
         ensures within { IsBitOf 768 result }
     {
-        self.state_at(j)
+        bit_at(&self.state, j)
     }
 
     // Bit `j` of the block.
@@ -51,6 +43,6 @@ impl Given {
         ensures bit { result ≡ bit_of self.now.block.items j }
         ensures within { IsBitOf 768 result }
     {
-        self.block_at(j)
+        bit_at(&self.block, j)
     }
 }

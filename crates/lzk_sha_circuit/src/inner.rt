@@ -1,14 +1,16 @@
 //! The inner layer: the inputs go on, and exclusive ors of two entries of words stand behind them.
 
-ghost use Rattle.std.specs.Prelude.{◌≡◌, ℕ, ◌+◌, ◌-◌, ◌*◌, ◌<◌, ◌≤◌, map, IfOk, OnOk};
+ghost use Rattle.std.specs.Prelude.{◌≡◌, ℕ, ◌+◌, ◌-◌, ◌*◌, map, IfOk, OnOk};
 ghost use Rattle.std.specs.List.{range_with_len};
 ghost use Rattle.lzk_goldilocks.specs.Elements.{ops, of_number};
 ghost use Rattle.lzk_sha_circuit.specs.Found.{places_of};
-ghost use Rattle.lzk_sha_circuit.specs.Layers.{IsWordOf, IsWhole, IsBuilt, Grows, input_count, pass_row, pair_rows, schedule_pairs, round_pairs, inner_rows};
+ghost use Rattle.lzk_sha_circuit.specs.Layers.{IsBuilt, Grows, input_count, pass_row, pair_rows, schedule_pairs, round_pairs, inner_rows};
 
 use crate::entries::{Word, turned_entry};
 use crate::given::Given;
+use crate::placed::{Ors, Placed};
 use crate::products::{Product, push_or};
+use crate::rounds::{LaterRound, Round};
 use crate::rows::push_row;
 use lzk_circuit::Term;
 use lzk_field::Field;
@@ -35,20 +37,13 @@ fn push_inputs(alloc: Global, count: u32, terms: &mut Vec<Term<Gold>>) -> Result
 fn push_pairs(
     alloc: Global,
     given: &Given,
-    first: u32,
-    x: (Word, u32),
-    y: (Word, u32),
+    ors: Ors,
+    x: (Placed, u8),
+    y: (Placed, u8),
     terms: &mut Vec<Term<Gold>>,
 ) -> Result<(), AllocError>
-    requires first { first ≤ 65536 }
-    requires left { IsWordOf (places_of given.now) x.0 }
-    requires left_whole { IsWhole x.0 }
-    requires left_turn { x.1 < 32 }
-    requires right { IsWordOf (places_of given.now) y.0 }
-    requires right_whole { IsWhole y.0 }
-    requires right_turn { y.1 < 32 }
-    ensures { OnOk result (Grows ops (input_count (places_of given.now)) first terms.old.items
-        (pair_rows ops of_number (places_of given.now) x.0 x.1 y.0 y.1) terms.new.items) }
+    ensures { OnOk result (Grows ops (input_count (places_of given.now)) ors.first terms.old.items
+        (pair_rows ops of_number (places_of given.now) x.0.word x.1 y.0.word y.1) terms.new.items) }
 {
     for i in 0..32 {
         let mut products = Vec::new(alloc);
@@ -58,7 +53,7 @@ fn push_pairs(
             turned_entry(given, y.0, y.1, i),
             &mut products,
         )?;
-        push_row(alloc, first + i, &products, terms)?;
+        push_row(alloc, ors.first + i, &products, terms)?;
     }
     Ok(())
 }
@@ -67,19 +62,20 @@ fn push_pairs(
 fn push_schedule_pairs(
     alloc: Global,
     given: &Given,
-    t: u32,
+    round: LaterRound,
     terms: &mut Vec<Term<Gold>>,
 ) -> Result<(), AllocError>
-    requires low { 16 ≤ t }
-    requires high { t < 64 }
     ensures { OnOk result (Grows ops (input_count (places_of given.now))
-        (input_count (places_of given.now) + 64 * (t - 16)) terms.old.items
-        (schedule_pairs ops of_number (places_of given.now) t) terms.new.items) }
+        (input_count (places_of given.now) + 64 * (round.t - 16)) terms.old.items
+        (schedule_pairs ops of_number (places_of given.now) round.t) terms.new.items) }
 {
+    let t = round.t;
     let first = given.inputs + 6385 + 64 * (t - 16);
     let (two, fifteen) = (Word::Schedule(t - 2), Word::Schedule(t - 15));
-    push_pairs(alloc, given, first, (two, 17), (two, 19), terms)?;
-    push_pairs(alloc, given, first + 32, (fifteen, 7), (fifteen, 18), terms)?;
+    let (two, fifteen) = (Placed { word: two }, Placed { word: fifteen });
+    push_pairs(alloc, given, Ors { first }, (two, 17), (two, 19), terms)?;
+    let next = Ors { first: first + 32 };
+    push_pairs(alloc, given, next, (fifteen, 7), (fifteen, 18), terms)?;
     Ok(())
 }
 
@@ -87,19 +83,21 @@ fn push_schedule_pairs(
 fn push_round_pairs(
     alloc: Global,
     given: &Given,
-    t: u32,
+    round: Round,
     terms: &mut Vec<Term<Gold>>,
 ) -> Result<(), AllocError>
-    requires high { t < 64 }
     ensures { OnOk result (Grows ops (input_count (places_of given.now))
-        (input_count (places_of given.now) + 3072 + 96 * t) terms.old.items
-        (round_pairs ops of_number (places_of given.now) t) terms.new.items) }
+        (input_count (places_of given.now) + 3072 + 96 * round.t) terms.old.items
+        (round_pairs ops of_number (places_of given.now) round.t) terms.new.items) }
 {
+    let t = round.t;
     let first = given.inputs + 9457 + 96 * t;
     let (a, b, e) = (Word::A(t + 3), Word::A(t + 2), Word::E(t + 3));
-    push_pairs(alloc, given, first, (e, 6), (e, 11), terms)?;
-    push_pairs(alloc, given, first + 32, (a, 2), (a, 13), terms)?;
-    push_pairs(alloc, given, first + 64, (a, 0), (b, 0), terms)?;
+    let (a, b, e) = (Placed { word: a }, Placed { word: b }, Placed { word: e });
+    let (second, third) = (Ors { first: first + 32 }, Ors { first: first + 64 });
+    push_pairs(alloc, given, Ors { first }, (e, 6), (e, 11), terms)?;
+    push_pairs(alloc, given, second, (a, 2), (a, 13), terms)?;
+    push_pairs(alloc, given, third, (a, 0), (b, 0), terms)?;
     Ok(())
 }
 
@@ -111,10 +109,10 @@ pub fn inner_terms(alloc: Global, given: &Given) -> Result<Vec<Term<Gold>>, Allo
     let mut terms = Vec::new(alloc);
     push_inputs(alloc, given.inputs + 6385, &mut terms)?;
     for t in 16..64 {
-        push_schedule_pairs(alloc, given, t, &mut terms)?;
+        push_schedule_pairs(alloc, given, LaterRound { t }, &mut terms)?;
     }
     for round in 0..64 {
-        push_round_pairs(alloc, given, round, &mut terms)?;
+        push_round_pairs(alloc, given, Round { t: round }, &mut terms)?;
     }
     Ok(terms)
 }

@@ -27,8 +27,8 @@ pub struct ShaInputs {
     pub private: Vec<Gold>,
 }
 
-// Writes the bits of the message.
-fn write_message(message: &[u8], bits: &mut Vec<Gold>) -> Result<(), AllocError>
+/// Writes the bits of a message, each byte's most significant first.
+pub fn write_message(message: &[u8], bits: &mut Vec<Gold>) -> Result<(), AllocError>
     ensures { OnOk result (bits.new.items ≡ bits.old.items ++ flat_map (bit_list of_number 8) message.now) }
 {
     for byte in message {

@@ -11,7 +11,7 @@ pub returns : goal.returns
 unfolding round_pairs
 returns c =
     let given = places_of c.args.given.now in
-    let t = c.args.t in
+    let t = c.args.round.t in
     let w = input_count given in
     let first = given.inputs + 9457 + 96 * t in
     let e : first ≡ input_count given + 3072 + 96 * t = omega arith in

@@ -11,7 +11,7 @@ pub returns : goal.returns
 unfolding schedule_pairs
 returns c =
     let given = places_of c.args.given.now in
-    let t = c.args.t in
+    let t = c.args.round.t in
     let first = input_count given + 64 * (t - 16) in
     let p = pair_rows ops of_number given (Schedule (t - 2)) 17 (Schedule (t - 2)) 19 in
     let q = pair_rows ops of_number given (Schedule (t - 15)) 7 (Schedule (t - 15)) 18 in

@@ -6,8 +6,8 @@ use Rattle.lzk_sha_circuit.proofs.message.message_given.Goals as goal
 
 pub invariant_of-result : goal.invariant_of-result
 invariant_of-result c =
-    let len = c.args.len in
-    let few = c.requires in
+    let len = c.args.message.len in
+    let few = c.args.message.few in
     record {
       few = omega (arith, few);
       placed =

@@ -1,10 +1,9 @@
 use Rattle.std.proofs.Common.{◌≡◌, ◌+◌, ◌++◌, ◌∷◌, [], ◌∙◌, ap}
 use Rattle.lzk_goldilocks.specs.Elements.{ops, of_number}
 use Rattle.lzk_sha_circuit.specs.Found.{places_of}
-use Rattle.lzk_sha_circuit.specs.declared.entries.Word.TheVariants.{Bits}
 use Rattle.lzk_sha_circuit.specs.Places.{f_place}
 use Rattle.lzk_sha_circuit.specs.Products.{linear, worth_list}
-use Rattle.lzk_sha_circuit.specs.Layers.{wire_entry, word_entry, digest_row}
+use Rattle.lzk_sha_circuit.specs.Layers.{wire_entry, bits_entry, digest_row}
 use Rattle.lzk_sha_circuit.proofs.Written.{more_of, from_none}
 use Rattle.lzk_sha_circuit.proofs.outer.digest_products.Goals as goal
 
@@ -12,7 +11,7 @@ pub returns : goal.returns
 unfolding digest_row
 returns c =
     let given = places_of c.args.given.now in
-    let i = c.args.i in
+    let i = c.args.of.i in
     let minus : c.neg.result ≡ ops.neg ops.one = c.neg.ensures ∙ ap ops.neg c.one-2.ensures in
     let less : c.linear.result ≡ linear ops (ops.neg ops.one) (wire_entry ops (1 + i)) = c.linear.ensures ∙ (λ j. linear ops (minus j) (c.wire_entry.ensures j)) in
-    from_none c.new-products.result.items c.push.new.self.items ((worth_list ops of_number ops.one 32 (word_entry ops of_number given (Bits (f_place given i) 32)) ++ linear ops (ops.neg ops.one) (wire_entry ops (1 + i)) ∷ [])) c.new-products.ensures.items (more_of c.new-products.result.items c.push_worth.new.products.items c.push.new.self.items (worth_list ops of_number ops.one 32 (word_entry ops of_number given (Bits (f_place given i) 32))) (linear ops (ops.neg ops.one) (wire_entry ops (1 + i)) ∷ []) (c.in_ok-push_worth.ensures ∙ ap (λ x. c.new-products.result.items ++ worth_list ops of_number x 32 (word_entry ops of_number given (Bits (f_place given i) 32))) c.one.ensures) (c.in_ok-push.ensures.items ∙ (λ j. c.push_worth.new.products.items ++ less j ∷ [])))
+    from_none c.new-products.result.items c.push.new.self.items ((worth_list ops of_number ops.one 32 (bits_entry ops (f_place given i) 32) ++ linear ops (ops.neg ops.one) (wire_entry ops (1 + i)) ∷ [])) c.new-products.ensures.items (more_of c.new-products.result.items c.push_row_worth.new.products.items c.push.new.self.items (worth_list ops of_number ops.one 32 (bits_entry ops (f_place given i) 32)) (linear ops (ops.neg ops.one) (wire_entry ops (1 + i)) ∷ []) (c.in_ok-push_row_worth.ensures ∙ ap (λ x. c.new-products.result.items ++ worth_list ops of_number x 32 (bits_entry ops (f_place given i) 32)) c.one.ensures) (c.in_ok-push.ensures.items ∙ (λ j. c.push_row_worth.new.products.items ++ less j ∷ [])))

@@ -12,14 +12,14 @@ pub returns : goal.returns
 unfolding f_row
 returns c =
     let given = places_of c.args.given.now in
-    let i = c.args.i in
+    let i = c.args.of.i in
     let x = worth_list ops of_number ops.one 32 (word_entry ops of_number given (State i)) in
     let y = worth_list ops of_number ops.one 32 (word_entry ops of_number given (last_word_of ops of_number i)) in
-    let z = carry_list ops of_number given (f_place given i) 1 in
+    let z = carry_list ops of_number (f_place given i) 1 in
     let p0 = c.new-products.result.items in
     let p1 = c.push_worth.new.products.items in
     let p2 = c.push_worth-2.new.products.items in
     let p3 = c.push_carry.new.products.items in
     from_none p0 p3 (x ++ (y ++ z)) c.new-products.ensures.items
     (more_of p0 p1 p3 x (y ++ z) (c.in_ok-push_worth.ensures ∙ ap (λ v. p0 ++ worth_list ops of_number v 32 (word_entry ops of_number given (State i))) c.one.ensures)
-    (more_of p1 p2 p3 y z (c.in_ok-push_worth-2.ensures ∙ (λ j. p1 ++ worth_list ops of_number (c.one-2.ensures j) 32 (word_entry ops of_number given (c.last_word.ensures.value j)))) c.in_ok-push_carry.ensures))
+    (more_of p1 p2 p3 y z (c.in_ok-push_worth-2.ensures ∙ (λ j. p1 ++ worth_list ops of_number (c.one-2.ensures j) 32 (word_entry ops of_number given (c.last_word.ensures j)))) c.in_ok-push_carry.ensures))

@@ -10,7 +10,7 @@ use Rattle.lzk_sha_circuit.proofs.sums.push_ch.Goals as goal
 pub loop-i-preserved : goal.loop-i-preserved
 loop-i-preserved c =
     let a = c.args in
-    chunk_more (λ (i : ℕ). chosen_list ops (of_number (2 ^ i)) (word_entry ops of_number (places_of a.given.now) a.e i) (word_entry ops of_number (places_of a.given.now) a.f i) (word_entry ops of_number (places_of a.given.now) a.g i)) a.products.now.items c.loop-i.products.items c.push_chosen.new.products.items (chosen_list ops c.power.result c.entry-e.result c.entry-f.result c.entry-g.result) 0 c.loop-i.i c.loop-i.i c.loop-i.invariant c.in_ok-push_chosen.ensures
+    chunk_more (λ (i : ℕ). chosen_list ops (of_number (2 ^ i)) (word_entry ops of_number (places_of a.given.now) a.e.word i) (word_entry ops of_number (places_of a.given.now) a.f.word i) (word_entry ops of_number (places_of a.given.now) a.g.word i)) a.products.now.items c.loop-i.products.items c.push_chosen.new.products.items (chosen_list ops c.power.result c.entry-e.result c.entry-f.result c.entry-g.result) 0 c.loop-i.i c.loop-i.i c.loop-i.invariant c.in_ok-push_chosen.ensures
     (λ j. chosen_list ops (c.power.ensures j) (c.entry-e.ensures j) (c.entry-f.ensures j) (c.entry-g.ensures j)) (omega arith)
 
 pub returns : goal.returns
@@ -18,4 +18,4 @@ unfolding ch_word_list
 returns c =
     let a = c.args in
     let e : c.loop-i.i ≡ 32 = omega arith in
-    c.loop-i.invariant ∙ ap (λ n. a.products.now.items ++ flat_map (λ (i : ℕ). chosen_list ops (of_number (2 ^ i)) (word_entry ops of_number (places_of a.given.now) a.e i) (word_entry ops of_number (places_of a.given.now) a.f i) (word_entry ops of_number (places_of a.given.now) a.g i)) (range_with_len 0 n)) e
+    c.loop-i.invariant ∙ ap (λ n. a.products.now.items ++ flat_map (λ (i : ℕ). chosen_list ops (of_number (2 ^ i)) (word_entry ops of_number (places_of a.given.now) a.e.word i) (word_entry ops of_number (places_of a.given.now) a.f.word i) (word_entry ops of_number (places_of a.given.now) a.g.word i)) (range_with_len 0 n)) e

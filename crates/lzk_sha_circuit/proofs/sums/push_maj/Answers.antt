@@ -10,7 +10,7 @@ use Rattle.lzk_sha_circuit.proofs.sums.push_maj.Goals as goal
 pub loop-i-preserved : goal.loop-i-preserved
 loop-i-preserved c =
     let a = c.args in
-    chunk_more (λ (i : ℕ). most_list ops (of_number (2 ^ i)) (word_entry ops of_number (places_of a.given.now) a.x i) (word_entry ops of_number (places_of a.given.now) a.y i) (word_entry ops of_number (places_of a.given.now) a.z i) (wire_entry ops (a.first + i))) a.products.now.items c.loop-i.products.items c.push_most.new.products.items (most_list ops c.power.result c.entry-x.result c.entry-y.result c.entry-z.result c.wire_entry.result) 0 c.loop-i.i c.loop-i.i c.loop-i.invariant c.in_ok-push_most.ensures
+    chunk_more (λ (i : ℕ). most_list ops (of_number (2 ^ i)) (word_entry ops of_number (places_of a.given.now) a.x.word i) (word_entry ops of_number (places_of a.given.now) a.y.word i) (word_entry ops of_number (places_of a.given.now) a.z.word i) (wire_entry ops (a.ors.first + i))) a.products.now.items c.loop-i.products.items c.push_most.new.products.items (most_list ops c.power.result c.entry-x.result c.entry-y.result c.entry-z.result c.wire_entry.result) 0 c.loop-i.i c.loop-i.i c.loop-i.invariant c.in_ok-push_most.ensures
     (λ j. most_list ops (c.power.ensures j) (c.entry-x.ensures j) (c.entry-y.ensures j) (c.entry-z.ensures j) (c.wire_entry.ensures j)) (omega arith)
 
 pub returns : goal.returns
@@ -18,4 +18,4 @@ unfolding maj_word_list
 returns c =
     let a = c.args in
     let e : c.loop-i.i ≡ 32 = omega arith in
-    c.loop-i.invariant ∙ ap (λ n. a.products.now.items ++ flat_map (λ (i : ℕ). most_list ops (of_number (2 ^ i)) (word_entry ops of_number (places_of a.given.now) a.x i) (word_entry ops of_number (places_of a.given.now) a.y i) (word_entry ops of_number (places_of a.given.now) a.z i) (wire_entry ops (a.first + i))) (range_with_len 0 n)) e
+    c.loop-i.invariant ∙ ap (λ n. a.products.now.items ++ flat_map (λ (i : ℕ). most_list ops (of_number (2 ^ i)) (word_entry ops of_number (places_of a.given.now) a.x.word i) (word_entry ops of_number (places_of a.given.now) a.y.word i) (word_entry ops of_number (places_of a.given.now) a.z.word i) (wire_entry ops (a.ors.first + i))) (range_with_len 0 n)) e

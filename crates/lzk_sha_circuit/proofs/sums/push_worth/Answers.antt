@@ -10,12 +10,12 @@ use Rattle.lzk_sha_circuit.proofs.sums.push_worth.Goals as goal
 pub loop-i-preserved : goal.loop-i-preserved
 loop-i-preserved c =
     let a = c.args in
-    chunk_more (λ (i : ℕ). linear ops (ops.times a.scale (of_number (2 ^ i))) (word_entry ops of_number (places_of a.given.now) a.word i) ∷ []) a.products.now.items c.loop-i.products.items c.push.new.self.items (c.linear.result ∷ []) 0 c.loop-i.i c.loop-i.i c.loop-i.invariant c.in_ok-push.ensures.items
+    chunk_more (λ (i : ℕ). linear ops (ops.times a.scale (of_number (2 ^ i))) (word_entry ops of_number (places_of a.given.now) a.word.word i) ∷ []) a.products.now.items c.loop-i.products.items c.push.new.self.items (c.linear.result ∷ []) 0 c.loop-i.i c.loop-i.i c.loop-i.invariant c.in_ok-push.ensures.items
     (ap (λ p. p ∷ []) (c.linear.ensures ∙ (λ j. linear ops ((c.mul.ensures ∙ ap (ops.times a.scale) c.power.ensures) j) (c.entry.ensures j)))) (omega arith)
 
 pub returns : goal.returns
 unfolding worth_list
 returns c =
     let a = c.args in
-    let e : c.loop-i.i ≡ a.count = omega arith in
-    c.loop-i.invariant ∙ ap (λ n. a.products.now.items ++ flat_map (λ (i : ℕ). linear ops (ops.times a.scale (of_number (2 ^ i))) (word_entry ops of_number (places_of a.given.now) a.word i) ∷ []) (range_with_len 0 n)) e
+    let e : c.loop-i.i ≡ 32 = omega arith in
+    c.loop-i.invariant ∙ ap (λ n. a.products.now.items ++ flat_map (λ (i : ℕ). linear ops (ops.times a.scale (of_number (2 ^ i))) (word_entry ops of_number (places_of a.given.now) a.word.word i) ∷ []) (range_with_len 0 n)) e

@@ -7,4 +7,4 @@ use Rattle.lzk_sha_circuit.specs.Layers.{word_entry}
 use Rattle.lzk_sha_circuit.proofs.sums.push_worth.Given as goal
 
 abbrev pub invariant-loop-i : goal.invariant-loop-i
-invariant-loop-i l = l.products.items ≡ l.initial.products.items ++ flat_map (λ i. linear ops (ops.times l.scale (of_number (2 ^ i))) (word_entry ops of_number (places_of l.given) l.word i) ∷ []) (range_with_len 0 l.i)
+invariant-loop-i l = l.products.items ≡ l.initial.products.items ++ flat_map (λ i. linear ops (ops.times l.scale (of_number (2 ^ i))) (word_entry ops of_number (places_of l.given) l.word.word i) ∷ []) (range_with_len 0 l.i)

@@ -1,0 +1,10 @@
+use Rattle.std.proofs.Common.{◌≡◌, ◌+◌, ◌^◌, ◌++◌}
+use Rattle.std.specs.List.{range_with_len, flat_map}
+use Rattle.lzk_goldilocks.specs.Elements.{ops, of_number}
+use Rattle.lzk_sha_circuit.specs.Found.{places_of}
+use Rattle.lzk_sha_circuit.specs.Products.{or_list}
+use Rattle.lzk_sha_circuit.specs.Layers.{wire_entry, moved_entry}
+use Rattle.lzk_sha_circuit.proofs.sums.push_or_word.Given as goal
+
+abbrev pub invariant-loop-i : goal.invariant-loop-i
+invariant-loop-i l = l.products.items ≡ l.initial.products.items ++ flat_map (λ i. or_list ops of_number (of_number (2 ^ i)) (wire_entry ops (l.ors.first + i)) (moved_entry ops of_number (places_of l.given) l.word.word l.by i)) (range_with_len 0 l.i)
