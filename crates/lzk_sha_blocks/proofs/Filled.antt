@@ -15,14 +15,6 @@ use Rattle.lzk_sha_blocks.proofs.Steps.{is_state}
 use Rattle.lzk_sha_blocks.specs.Layout.{blocks}
 use Rattle.lzk_sha_blocks.specs.Witness.{state_of, block_of, block_added, digest_private}
 
-pub padded_is : (m block new bytes : List ℕ) (i count : ℕ) → length m ≤ 503 → i ≡ length m + (119 - length m % 64) % 64 → block ≡ m ++ 0x80 ∷ replicate (i - length m) 0 → new ≡ block ++ bytes
-    → bytes ≡ to_be_bytes w64 count → count ≡ 8 * length m → new ≡ padded_message m
-padded_is m block new bytes i count le ei eb en ey ec =
-    let zeros : i - length m ≡ (119 - length m % 64) % 64 = omega (arith, ei) in
-    let size : count ≡ length m * 8 % 2 ^ 64 = omega (arith, le, ec) in
-    en ∙ (λ j. eb j ++ ey j) ∙ append_assoc m (0x80 ∷ replicate (i - length m) 0) (to_be_bytes w64 count)
-    ∙ (λ j. m ++ (0x80 ∷ replicate (zeros j) 0 ++ to_be_bytes w64 (size j)))
-
 -- words are the numbers of their elements
 pub numbers_back : (words : List ℕ) → ((k : ℕ) → k < length words → slice_index words k < p) → map number (map of_number words) ≡ words
 numbers_back [] h = refl

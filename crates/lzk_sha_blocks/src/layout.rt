@@ -7,6 +7,16 @@ ghost use Rattle.lzk_sha_blocks.specs.Layout.{public_wire, state_wire, private_w
 
 use std::alloc::{AllocError, Global};
 
+/// A block of a message, by its number.
+#[derive(Clone, Copy)]
+pub(crate) struct Block {
+    /// How many bytes the message has.
+    pub len: u32,
+    pub i: u32,
+    pub ghost few: { len ≤ 503 },
+    pub ghost eighth: { i < 8 },
+}
+
 // How many blocks the message has.
 pub(crate) fn block_count(len: u32) -> u32
     requires { len ≤ 503 }
@@ -17,18 +27,16 @@ pub(crate) fn block_count(len: u32) -> u32
     (len + 72) / 64
 }
 
-// How many bytes of the message block `i` holds.
-pub(crate) fn held(len: u32, i: u32) -> u32
-    requires few { len ≤ 503 }
-    requires block { i < 8 }
-    ensures count { result ≡ held len i }
+// How many bytes of the message the block holds.
+pub(crate) fn held(block: Block) -> u32
+    ensures count { result ≡ held block.len block.i }
     ensures few { result ≤ 64 }
 {
-    let start = 64 * i;
-    if len <= start {
+    let start = 64 * block.i;
+    if block.len <= start {
         0
-    } else if len - start < 64 {
-        len - start
+    } else if block.len - start < 64 {
+        block.len - start
     } else {
         64
     }
@@ -45,15 +53,13 @@ pub(crate) fn state_count(i: u32) -> u32
     }
 }
 
-// Where word `k` of the state behind block `i` is.
-fn public_wire(len: u32, i: u32, k: u32) -> u32
-    requires few { len ≤ 503 }
-    requires block { i < 8 }
-    requires word { k < 8 }
-    ensures { result ≡ public_wire len i k }
+// Where word `k` of the state behind the block is.
+fn public_wire(block: Block, k: u32) -> u32
+    requires { k < 8 }
+    ensures { result ≡ public_wire block.len block.i k }
 {
-    if i + 1 < block_count(len) {
-        9 + (8 * len + 6384 * i) + 6376 + k
+    if block.i + 1 < block_count(block.len) {
+        9 + (8 * block.len + 6384 * block.i) + 6376 + k
     } else {
         1 + k
     }
@@ -69,14 +75,13 @@ fn state_wire(len: u32, i: u32, j: u32) -> u32
     9 + (8 * len + 6384 * i) + 6112 + 33 * (j / 32) + j % 32
 }
 
-// Where private input `j` of block `i` is.
-fn private_wire(len: u32, i: u32, j: u32) -> u32
-    requires few { len ≤ 503 }
-    requires block { i < 8 }
-    requires input { j < given_count len i + 6376 }
-    ensures { result ≡ private_wire len i j }
+// Where private input `j` of the block is.
+fn private_wire(block: Block, j: u32) -> u32
+    requires { j < given_count block.len block.i + 6376 }
+    ensures { result ≡ private_wire block.len block.i j }
 {
-    let own = 8 * held(len, i);
+    let Block { len, i } = block;
+    let own = 8 * held(block);
     let given = own + state_count(i);
     if j < own {
         9 + 512 * i + j
@@ -93,13 +98,14 @@ pub(crate) fn wires(alloc: Global, len: u32, i: u32) -> Result<Vec<u32>, AllocEr
     requires block { i < 8 }
     ensures { IfOk result (λ wires. wires.items ≡ public_wires len i ++ private_wires len i) }
 {
+    let block = Block { len, i };
     let mut wires = Vec::new(alloc);
     for k in 0..8 {
-        wires.push(public_wire(len, i, k))?;
+        wires.push(public_wire(block, k))?;
     }
-    let count = 8 * held(len, i) + state_count(i) + 6376;
+    let count = 8 * held(block) + state_count(i) + 6376;
     for j in 0..count {
-        wires.push(private_wire(len, i, j))?;
+        wires.push(private_wire(block, j))?;
     }
     Ok(wires)
 }
