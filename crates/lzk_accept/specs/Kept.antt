@@ -140,3 +140,15 @@ pub record AreRest {A : Type 0} (o : Ops A) (point : ℕ → A) (c : Wiring A) (
       → linear_coefficient o point c (coefficients o c s) public s messages i j ≡ o.zero
   pub inputs : (j : ℕ) → j < skip
       → linear_coefficient o point c (coefficients o c s) public s messages (depth c) j ≡ private_coefficient o c s j
+
+-- three tables of one length, for each layer of the circuit and for its inputs
+pub record AreTables {A : Type 0} (c : Wiring A) (one other weights : List A) : Type 0 where
+  pub room : (l : ℕ) → l < depth c + 1 → 2 ^ bits (width_at c l) ≤ length weights
+  pub first : length one ≡ length weights
+  pub second : length other ≡ length weights
+
+-- two tables of how the wires of layer l agree with its two points
+pub record AreTablesAt {A : Type 0} (o : Ops A) (c : Wiring A) (s : Script A) (l : ℕ) (one other : List A)
+    : Type 0 where
+  pub first : (g : ℕ) → g < width_at c l → entry o one g ≡ eq o g (point_a o s l)
+  pub second : (g : ℕ) → g < width_at c l → entry o other g ≡ eq o g (point_b o s l)

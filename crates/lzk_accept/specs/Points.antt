@@ -2,14 +2,13 @@
 use Rattle.std.specs.Prelude.{◌≡◌, ℕ}
 use Rattle.lzk_field.specs.Ring.{Ops}
 use Rattle.lzk_poly.specs.Extension.{others, lagrange}
-use Rattle.lzk_accept.specs.declared.points.ThreePoints.{ThreePoints}
 use Rattle.lzk_accept.specs.declared.points.Shares.{Shares}
 
--- the inverse of the product of each point's differences to the other two
-pub record AreInverses {A : Type 0} (o : Ops A) (point : ℕ → A) (inverses : ThreePoints A) : Type 0 where
-  pub first : inverses.first ≡ o.inverse (others o point 3 0 (point 0))
-  pub second : inverses.second ≡ o.inverse (others o point 3 1 (point 1))
-  pub third : inverses.third ≡ o.inverse (others o point 3 2 (point 2))
+-- these are the inverses of the product of each point's differences to the other two
+pub record AreInverses {A : Type 0} (o : Ops A) (point : ℕ → A) (a b c : A) : Type 0 where
+  pub first : a ≡ o.inverse (others o point 3 0 (point 0))
+  pub second : b ≡ o.inverse (others o point 3 1 (point 1))
+  pub third : c ≡ o.inverse (others o point 3 2 (point 2))
 
 -- Lagrange's polynomials of the three points, at t
 pub record AreShares {A : Type 0} (o : Ops A) (point : ℕ → A) (t : A) (shares : Shares A) : Type 0 where

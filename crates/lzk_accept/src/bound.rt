@@ -6,15 +6,14 @@ ghost use Rattle.lzk_mle.specs.Multilinear.{low_bit, agree, eq};
 ghost use Rattle.lzk_circuit.specs.Sums.{sum_list};
 ghost use Rattle.lzk_circuit.specs.declared.layer.Term as declared;
 ghost use Rattle.lzk_layout.specs.Places.{depth};
-ghost use Rattle.lzk_sumcheck.specs.Script.{HasShape};
 ghost use Rattle.lzk_sumcheck.specs.Coefficients.{coefficients, bound_at};
 ghost use Rattle.lzk_accept.specs.Bound.{counts, counts_at};
 
 use crate::claims::{first_point, layer_of, second_point};
-use lzk_circuit::{Circuit, Term, weight_of};
+use crate::exchange::Scripted;
+use lzk_circuit::{Term, weight_of};
 use lzk_field::Field;
 use lzk_mle::eq_table;
-use lzk_sumcheck::Script;
 
 // How bit 0 of a number agrees with an entry of a point.
 fn agree_of<F: Field>(number: u32, x: F) -> F
@@ -49,18 +48,25 @@ fn add_multiple<F: Field>(sums: &mut [F], by: F, list: &[F])
     }
 }
 
+// Two points of a layer's wires.
+#[derive(Drop)]
+struct Points<'a, F: Field> {
+    first: &'a [F],
+    second: &'a [F],
+    ghost few: { length first.now ≤ 17 },
+    ghost same: { length second.now ≡ length first.now },
+}
+
 // Sets the weight of each wire of a layer with claims at two points.
-fn set_weights<F: Field>(alpha: F, first: &[F], second: &[F], weights: &mut [F], room: &mut [F])
-    requires few { length first.now ≤ 17 }
-    requires points { length second.now ≡ length first.now }
-    requires weights { length weights.old ≡ 2 ^ length first.now }
-    requires room { length room.old ≡ 2 ^ length first.now }
+fn set_weights<F: Field>(alpha: F, points: &Points<'_, F>, weights: &mut [F], room: &mut [F])
+    requires weights { length weights.old ≡ 2 ^ length points.now.first.now }
+    requires room { length room.old ≡ 2 ^ length points.now.first.now }
     ensures length { length weights.new ≡ length weights.old }
     ensures weights { let o = F.ops in (g : ℕ) → g < length weights.new →
-        entry o weights.new g ≡ o.plus (eq o g first.now) (o.times alpha (eq o g second.now)) }
+        entry o weights.new g ≡ o.plus (eq o g points.now.first.now) (o.times alpha (eq o g points.now.second.now)) }
 {
-    eq_table(first, weights);
-    eq_table(second, room);
+    eq_table(points.first, weights);
+    eq_table(points.second, room);
     add_multiple(weights, alpha, room);
 }
 
@@ -96,49 +102,46 @@ fn sum_at<F: Field>(
     terms: &[Term<F>],
     alpha: F,
     beta: F,
-    first: &[F],
-    second: &[F],
+    points: &Points<'_, F>,
     ra: &[F],
     rb: &[F],
     room: &mut [F],
 ) -> F
-    requires few { length first.now ≤ 17 }
     requires few_below { length ra.now ≤ 17 }
-    requires points { length second.now ≡ length first.now }
     requires terms { (i : ℕ) (t : declared.Term F) → slice_get terms.now i ≡ Some t
-        → (t.g < 2 ^ length first.now) × (t.a < 2 ^ length ra.now) }
+        → (t.g < 2 ^ length points.now.first.now) × (t.a < 2 ^ length ra.now) }
     requires room { length room.old ≡ 262144 }
-    ensures value { result ≡ sum_list F.ops terms.now (counts_at F.ops alpha beta first.now second.now ra.now rb.now) }
+    ensures value { let p = points.now in
+        result ≡ sum_list F.ops terms.now (counts_at F.ops alpha beta p.first.now p.second.now ra.now rb.now) }
     ensures room { length room.new ≡ length room.old }
 {
+    let first = points.first;
     let size = 1 << first.len();
     let (weights, rest) = room.split_at_mut(size);
     let (other, _) = rest.split_at_mut(size);
-    set_weights(alpha, first, second, weights, other);
+    set_weights(alpha, points, weights, other);
     let (firsts, _) = rest.split_at_mut(1 << ra.len());
     eq_table(ra, firsts);
     sum_terms(terms, beta, weights, firsts, rb)
 }
 
 /// The weighted sum of layer `l`'s coefficients at its challenges. `room` has 262,144 places.
-pub(crate) fn bound_of<F: Field>(
-    circuit: &Circuit<F>,
-    script: &Script<F>,
-    l: u32,
-    room: &mut [F],
-) -> F
-    requires layer { l < depth circuit.now }
-    requires shape { HasShape circuit.now script.now }
+pub(crate) fn bound_of<F: Field>(scripted: &Scripted<'_, F>, l: u32, room: &mut [F]) -> F
+    requires layer { l < depth scripted.now.circuit.now }
     requires room { length room.old ≡ 262144 }
-    ensures value { result ≡ bound_at F.ops circuit.now (coefficients F.ops circuit.now script.now) script.now l }
+    ensures value { let c = scripted.now.circuit.now in let s = scripted.now.script.now in
+        result ≡ bound_at F.ops c (coefficients F.ops c s) s l }
     ensures room { length room.new ≡ length room.old }
 {
+    let circuit = scripted.circuit;
     circuit.valid_laws();
-    let layer = layer_of(circuit, script, l);
-    let first = first_point(circuit, script, l);
-    let second = second_point(circuit, script, l);
+    let layer = layer_of(scripted, l);
+    let points = Points {
+        first: first_point(scripted, l),
+        second: second_point(scripted, l),
+    };
     let ra = layer.ra.as_slice();
     let rb = layer.rb.as_slice();
     let terms = circuit.layer(l).terms.as_slice();
-    sum_at(terms, layer.alpha, layer.beta, first, second, ra, rb, room)
+    sum_at(terms, layer.alpha, layer.beta, &points, ra, rb, room)
 }

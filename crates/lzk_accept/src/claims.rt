@@ -3,11 +3,10 @@
 ghost use Rattle.std.specs.Prelude.{◌≡◌, ◌+◌, ◌<◌, ◌*◌, ◌≤◌, length};
 ghost use Rattle.lzk_circuit.specs.Bits.{bits};
 ghost use Rattle.lzk_layout.specs.Places.{depth, width_at, bits_under, round_count, places_of, AreWithin};
-ghost use Rattle.lzk_layout.specs.Sizes.{sent_counts, committed_count};
-ghost use Rattle.lzk_sumcheck.specs.Script.{layer_at, point_a, point_b, HasBits, HasShape};
-ghost use Rattle.lzk_accept.specs.Points.{AreInverses};
+ghost use Rattle.lzk_sumcheck.specs.Script.{layer_at, point_a, point_b, HasBits};
 ghost use Rattle.lzk_accept.specs.Residuals.{next_claim, padded, claim_a, claim_b, claim_after, product_at};
 
+use crate::exchange::{Scripted, Witnessed};
 use crate::points::ThreePoints;
 use lzk_circuit::Circuit;
 use lzk_field::Field;
@@ -23,55 +22,42 @@ fn nth_layer<F: Field>(script: &Script<F>, l: u32) -> &LayerScript<F>
 }
 
 /// What layer `l` draws.
-pub(crate) fn layer_of<'a, F: Field>(
-    circuit: &Circuit<F>,
-    script: &'a Script<F>,
-    l: u32,
-) -> &'a LayerScript<F>
-    requires layer { l < depth circuit.now }
-    requires shape { HasShape circuit.now script.now }
-    ensures layer { result.now ≡ layer_at F.ops script.now l }
-    ensures bits { HasBits (bits_under circuit.now l) result.now }
+pub(crate) fn layer_of<'a, F: Field>(scripted: &Scripted<'a, F>, l: u32) -> &'a LayerScript<F>
+    requires layer { l < depth scripted.now.circuit.now }
+    ensures layer { result.now ≡ layer_at F.ops scripted.now.script.now l }
+    ensures bits { HasBits (bits_under scripted.now.circuit.now l) result.now }
 {
-    circuit.valid_laws();
-    nth_layer(script, l)
+    scripted.circuit.valid_laws();
+    nth_layer(scripted.script, l)
 }
 
 /// The first point at which a claim on layer `l` stands, the input layer being the one after the last.
 #[tactic(auto, using(crate::proofs::ShapeLaws::point_a_length))]
-pub(crate) fn first_point<'a, F: Field>(
-    circuit: &Circuit<F>,
-    script: &'a Script<F>,
-    l: u32,
-) -> &'a [F]
-    requires layer { l ≤ depth circuit.now }
-    requires shape { HasShape circuit.now script.now }
-    ensures point { result.now ≡ point_a F.ops script.now l }
-    ensures length { length result.now ≡ bits (width_at circuit.now l) }
+pub(crate) fn first_point<'a, F: Field>(scripted: &Scripted<'a, F>, l: u32) -> &'a [F]
+    requires layer { l ≤ depth scripted.now.circuit.now }
+    ensures point { result.now ≡ point_a F.ops scripted.now.script.now l }
+    ensures length { length result.now ≡ bits (width_at scripted.now.circuit.now l) }
 {
     if l == 0 {
+        let script = scripted.script;
         script.out_point.as_slice()
     } else {
-        layer_of(circuit, script, l - 1).ra.as_slice()
+        layer_of(scripted, l - 1).ra.as_slice()
     }
 }
 
 /// The second one.
 #[tactic(auto, using(crate::proofs::ShapeLaws::point_b_length))]
-pub(crate) fn second_point<'a, F: Field>(
-    circuit: &Circuit<F>,
-    script: &'a Script<F>,
-    l: u32,
-) -> &'a [F]
-    requires layer { l ≤ depth circuit.now }
-    requires shape { HasShape circuit.now script.now }
-    ensures point { result.now ≡ point_b F.ops script.now l }
-    ensures length { length result.now ≡ bits (width_at circuit.now l) }
+pub(crate) fn second_point<'a, F: Field>(scripted: &Scripted<'a, F>, l: u32) -> &'a [F]
+    requires layer { l ≤ depth scripted.now.circuit.now }
+    ensures point { result.now ≡ point_b F.ops scripted.now.script.now l }
+    ensures length { length result.now ≡ bits (width_at scripted.now.circuit.now l) }
 {
     if l == 0 {
+        let script = scripted.script;
         script.out_point.as_slice()
     } else {
-        layer_of(circuit, script, l - 1).rb.as_slice()
+        layer_of(scripted, l - 1).rb.as_slice()
     }
 }
 
@@ -100,19 +86,22 @@ fn padded<F: Field>(messages: &[F], w: &[F], i: usize, j: usize) -> F
 }
 
 /// The two claims on layer `l`: zero on the outputs, and the padded factors of the layer above further down.
-pub(crate) fn claims_on<F: Field>(circuit: &Circuit<F>, messages: &[F], w: &[F], l: u32) -> (F, F)
-    requires layer { l ≤ depth circuit.now }
-    requires messages { length messages.now ≡ sent_counts circuit.now }
-    requires w { length w.now ≡ committed_count circuit.now }
-    ensures first { result.0 ≡ claim_a F.ops circuit.now messages.now w.now l }
-    ensures second { result.1 ≡ claim_b F.ops circuit.now messages.now w.now l }
+pub(crate) fn claims_on<F: Field>(witnessed: &Witnessed<'_, F>, l: u32) -> (F, F)
+    requires layer { l ≤ depth witnessed.now.exchange.scripted.circuit.now }
+    ensures first { result.0
+        ≡ claim_a F.ops witnessed.now.exchange.scripted.circuit.now witnessed.now.exchange.messages.now
+        witnessed.now.w.now l }
+    ensures second { result.1
+        ≡ claim_b F.ops witnessed.now.exchange.scripted.circuit.now witnessed.now.exchange.messages.now
+        witnessed.now.w.now l }
 {
     if l == 0 {
         return (F::zero(), F::zero());
     }
-    let above = places_at(circuit, l - 1);
+    let above = places_at(witnessed.exchange.scripted.circuit, l - 1);
     let sent = above.factors_sent as usize;
     let pads = above.factors as usize;
+    let (messages, w) = (witnessed.exchange.messages, witnessed.w);
     let first = padded(messages, w, sent, pads);
     let second = padded(messages, w, sent + 1, pads + 1);
     (first, second)
@@ -120,7 +109,7 @@ pub(crate) fn claims_on<F: Field>(circuit: &Circuit<F>, messages: &[F], w: &[F],
 
 // The claim after a round whose elements begin at place i, and its pads at place j.
 fn after_round<F: Field>(
-    points: ThreePoints<F>,
+    points: &ThreePoints<F>,
     messages: &[F],
     w: &[F],
     i: usize,
@@ -128,7 +117,6 @@ fn after_round<F: Field>(
     claim: F,
     challenge: F,
 ) -> F
-    requires points { AreInverses F.ops F.coding.element points }
     requires sent { i + 1 < length messages.now }
     requires pads { j + 1 < length w.now }
     ensures { let p = padded F.ops messages.now w.now in
@@ -140,45 +128,48 @@ fn after_round<F: Field>(
 }
 
 /// The claim of layer `l` after its rounds.
-pub(crate) fn after_rounds<F: Field>(
-    circuit: &Circuit<F>,
-    script: &Script<F>,
-    messages: &[F],
-    w: &[F],
-    l: u32,
-) -> F
-    requires layer { l < depth circuit.now }
-    requires shape { HasShape circuit.now script.now }
-    requires messages { length messages.now ≡ sent_counts circuit.now }
-    requires w { length w.now ≡ committed_count circuit.now }
+pub(crate) fn after_rounds<F: Field>(witnessed: &Witnessed<'_, F>, l: u32) -> F
+    requires layer { l < depth witnessed.now.exchange.scripted.circuit.now }
     ensures { result
-        ≡ claim_after F.ops F.coding.element circuit.now script.now messages.now w.now l (round_count circuit.now l) }
+        ≡ claim_after F.ops F.coding.element witnessed.now.exchange.scripted.circuit.now
+        witnessed.now.exchange.scripted.script.now witnessed.now.exchange.messages.now witnessed.now.w.now l
+        (round_count witnessed.now.exchange.scripted.circuit.now l) }
 {
-    let layer = layer_of(circuit, script, l);
+    let exchange = &witnessed.exchange;
+    let layer = layer_of(&exchange.scripted, l);
     let ra = layer.ra.as_slice();
     let rb = layer.rb.as_slice();
-    let places = places_at(circuit, l);
+    let places = places_at(exchange.scripted.circuit, l);
     let points = ThreePoints::new();
-    let (first, second) = claims_on(circuit, messages, w, l);
+    let (first, second) = claims_on(witnessed, l);
     let mut claim = first.add(layer.alpha.mul(second));
     for n in 0..places.bits as usize {
         let i = places.messages as usize + 4 * n;
         let j = places.pads as usize + 4 * n;
-        claim = after_round(points, messages, w, i, j, claim, ra[n]);
-        claim = after_round(points, messages, w, i + 2, j + 2, claim, rb[n]);
+        claim = after_round(&points, exchange.messages, witnessed.w, i, j, claim, ra[n]);
+        claim = after_round(
+            &points,
+            exchange.messages,
+            witnessed.w,
+            i + 2,
+            j + 2,
+            claim,
+            rb[n],
+        );
     }
     claim
 }
 
 /// What the two factors of layer `l` give with their pads, the third of the layer's last entries of `w` standing for
 /// the pads' product.
-pub(crate) fn product_of<F: Field>(circuit: &Circuit<F>, messages: &[F], w: &[F], l: u32) -> F
-    requires layer { l < depth circuit.now }
-    requires messages { length messages.now ≡ sent_counts circuit.now }
-    requires w { length w.now ≡ committed_count circuit.now }
-    ensures { result ≡ product_at F.ops circuit.now messages.now w.now l }
+pub(crate) fn product_of<F: Field>(witnessed: &Witnessed<'_, F>, l: u32) -> F
+    requires layer { l < depth witnessed.now.exchange.scripted.circuit.now }
+    ensures { result
+        ≡ product_at F.ops witnessed.now.exchange.scripted.circuit.now witnessed.now.exchange.messages.now
+        witnessed.now.w.now l }
 {
-    let places = places_at(circuit, l);
+    let places = places_at(witnessed.exchange.scripted.circuit, l);
+    let (messages, w) = (witnessed.exchange.messages, witnessed.w);
     let sent = places.factors_sent as usize;
     let pads = places.factors as usize;
     let (s0, s1) = (messages[sent], messages[sent + 1]);

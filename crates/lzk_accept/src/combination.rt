@@ -32,19 +32,28 @@ fn add_at<F: Field>(sums: &mut [F], k: usize, x: F)
     sums[k] = sums[k].add(x);
 }
 
+// A range of a list.
+#[derive(Drop)]
+struct Range<'a, F: Field> {
+    list: &'a [F],
+    start: usize,
+    end: usize,
+    ghost ordered: { start ≤ end },
+    ghost inside: { end ≤ length list.now },
+}
+
 // Adds the entries of a list's range, multiplied. The sums begin at entry `skip` of the list.
-fn add_range<F: Field>(sums: &mut [F], by: F, list: &[F], start: usize, end: usize, skip: usize)
-    requires skip { skip ≤ start }
-    requires start { start ≤ end }
-    requires list { end ≤ length list.now }
-    requires sums { end ≤ skip + length sums.old }
-    ensures { let o = F.ops in
+fn add_range<F: Field>(sums: &mut [F], by: F, range: &Range<'_, F>, skip: usize)
+    requires skip { skip ≤ range.now.start }
+    requires sums { range.now.end ≤ skip + length sums.old }
+    ensures { let o = F.ops in let r = range.now in
         (j : ℕ)
         → entry o sums.new j
-        ≡ o.plus (entry o sums.old j) (cond (nat_le start (skip + j) && nat_lt (skip + j) end)
-        (o.times by (entry o list.now (skip + j))) o.zero) }
+        ≡ o.plus (entry o sums.old j) (cond (nat_le r.start (skip + j) && nat_lt (skip + j) r.end)
+        (o.times by (entry o r.list.now (skip + j))) o.zero) }
 {
-    for j in start..end {
+    let list = range.list;
+    for j in range.start..range.end {
         sums[j - skip] = sums[j - skip].add(by.mul(list[j]));
     }
 }
@@ -58,68 +67,105 @@ fn larger(a: usize, b: usize) -> usize
     if a < b { b } else { a }
 }
 
+// A form with the coefficients of its own range, which reaches behind the first `skip` entries.
+#[derive(Drop)]
+struct Reaching<'a, F: Field> {
+    form: Form<F>,
+    own: &'a [F],
+    skip: usize,
+    ghost within: { IsWithin (length own.now) form },
+    ghost end: { skip ≤ form.end },
+    ghost above: { skip ≤ form.above },
+}
+
 // Adds a form's coefficients from entry `skip` on, multiplied.
-fn add_form<F: Field>(sums: &mut [F], by: F, form: Form<F>, own: &[F], skip: usize)
-    requires within { IsWithin (length own.now) form }
-    requires end { skip ≤ form.end }
-    requires above { skip ≤ form.above }
-    requires room { length own.now ≤ skip + length sums.old }
-    ensures { let o = F.ops in
+fn add_form<F: Field>(sums: &mut [F], by: F, reaching: &Reaching<'_, F>)
+    requires room { length reaching.now.own.now ≤ reaching.now.skip + length sums.old }
+    ensures { let o = F.ops in let r = reaching.now in
         (j : ℕ)
-        → entry o sums.new j ≡ o.plus (entry o sums.old j) (o.times by (coefficient_in o own.now form (skip + j))) }
+        → entry o sums.new j
+        ≡ o.plus (entry o sums.old j) (o.times by (coefficient_in o r.own.now r.form (r.skip + j))) }
 {
-    let start = larger(form.start as usize, skip);
-    add_range(sums, by, own, start, form.end as usize, skip);
+    let form = reaching.form;
+    let skip = reaching.skip;
+    let range = Range {
+        list: reaching.own,
+        start: larger(form.start as usize, skip),
+        end: form.end as usize,
+    };
+    add_range(sums, by, &range, skip);
     let above = form.above as usize - skip;
     add_at(sums, above, by.mul(form.first));
     add_at(sums, above + 1, by.mul(form.second));
 }
 
+// All forms with the coefficients of their own ranges, each of which reaches behind the first `skip` entries.
+#[derive(Drop)]
+struct Kept<'a, F: Field> {
+    forms: &'a [Form<F>],
+    own: &'a [F],
+    skip: usize,
+    ghost within: { (i : ℕ) → i < length forms.now → IsWithin (length own.now) (form_at F.ops forms.now i) },
+    ghost behind: { (i : ℕ) → i < length forms.now
+        → (skip ≤ (form_at F.ops forms.now i).end) × (skip ≤ (form_at F.ops forms.now i).above) },
+}
+
 // Sets the sums to those of the forms' coefficients from entry `skip` on, each form multiplied by its challenge. Gives
 // the same sum of their right sides.
-fn sum_forms<F: Field>(forms: &[Form<F>], own: &[F], lambda: &[F], skip: usize, sums: &mut [F]) -> F
-    requires count { length lambda.now ≡ length forms.now }
-    requires within { (i : ℕ) → i < length forms.now → IsWithin (length own.now) (form_at F.ops forms.now i) }
-    requires behind { (i : ℕ) → i < length forms.now
-        → (skip ≤ (form_at F.ops forms.now i).end) × (skip ≤ (form_at F.ops forms.now i).above) }
-    requires room { length own.now ≤ skip + length sums.old }
-    ensures entries { let o = F.ops in
+fn sum_forms<F: Field>(kept: &Kept<'_, F>, lambda: &[F], sums: &mut [F]) -> F
+    requires count { length lambda.now ≡ length kept.now.forms.now }
+    requires room { length kept.now.own.now ≤ kept.now.skip + length sums.old }
+    ensures entries { let o = F.ops in let k = kept.now in
         (j : ℕ)
         → entry o sums.new j
-        ≡ sum_below o (length forms.now)
-        (λ i. o.times (entry o lambda.now i) (coefficient_in o own.now (form_at o forms.now i) (skip + j))) }
-    ensures rights { let o = F.ops in
-        result ≡ sum_below o (length forms.now) (λ i. o.times (entry o lambda.now i) (form_at o forms.now i).right) }
+        ≡ sum_below o (length k.forms.now)
+        (λ i. o.times (entry o lambda.now i) (coefficient_in o k.own.now (form_at o k.forms.now i) (k.skip + j))) }
+    ensures rights { let o = F.ops in let forms = kept.now.forms.now in
+        result ≡ sum_below o (length forms) (λ i. o.times (entry o lambda.now i) (form_at o forms i).right) }
 {
     clear(sums);
+    let forms = kept.forms;
     let mut wanted = F::zero();
     for i in 0..forms.len() {
         let form = forms[i];
         let by = lambda[i];
-        add_form(sums, by, form, own, skip);
+        let reaching = Reaching {
+            form,
+            own: kept.own,
+            skip: kept.skip,
+        };
+        add_form(sums, by, &reaching);
         wanted = wanted.add(by.mul(form.right));
     }
     wanted
 }
 
+// The rows from row 3 + rows on, behind those that private inputs fill.
+#[derive(Drop)]
+struct Others<'a> {
+    params: &'a Params,
+    rows: u32,
+    ghost bounded: { AreBounded params.now },
+    ghost few: { rows ≤ params.now.nwrow },
+}
+
 // Adds a value's challenge at its copy's place, and takes it away at the value's own, which is one of the last three
-// before the form's end.
-// The table has the rows from row 3 + rows on.
-fn add_copy<F: Field>(params: &Params, m: u32, end: u32, x: F, rows: u32, table: &mut [F])
-    requires bounded { AreBounded params.now }
-    requires rows { rows ≤ params.now.nwrow }
-    requires copy { m < 3 * params.now.layers }
-    requires behind { rows * params.now.wr + 3 ≤ end }
-    requires within { end ≤ params.now.nw }
-    requires room { length table.old ≡ (params.now.nrow - 3 - rows) * params.now.wr }
+// before the form's end. The table has these rows.
+fn add_copy<F: Field>(others: &Others<'_>, m: u32, end: u32, x: F, table: &mut [F])
+    requires copy { m < 3 * others.now.params.now.layers }
+    requires behind { others.now.rows * others.now.params.now.wr + 3 ≤ end }
+    requires within { end ≤ others.now.params.now.nw }
+    requires room { length table.old ≡ (others.now.params.now.nrow - 3 - others.now.rows) * others.now.params.now.wr }
     ensures { let o = F.ops in
-        let p = params.now in
+        let p = others.now.params.now in
+        let rows = others.now.rows in
         (i s : ℕ) → s < p.wr
         → entry o table.new (i * p.wr + s)
         ≡ o.plus (o.plus (entry o table.old (i * p.wr + s))
         (cond (is_place (3 + (rows + i)) s (copy_place_of p m)) x o.zero))
         (cond (is_place (3 + (rows + i)) s (place_of p (end - 3 + m % 3))) (o.neg x) o.zero) }
 {
+    let (params, rows) = (others.params, others.rows);
     let width = params.wr as usize;
     let (row, position) = params.copy_place(m);
     let copy = (row - 3 - rows) as usize * width + position as usize;
@@ -130,17 +176,17 @@ fn add_copy<F: Field>(params: &Params, m: u32, end: u32, x: F, rows: u32, table:
 }
 
 // Adds the challenge of each value of the quadratic constraints at its copy's place, and takes it away at the value's
-// own. The table has the rows from row 3 + rows on.
-fn add_copies<F: Field>(params: &Params, forms: &[Form<F>], mu: &[F], rows: u32, table: &mut [F])
-    requires bounded { AreBounded params.now }
-    requires rows { rows ≤ params.now.nwrow }
-    requires count { params.now.layers ≤ length forms.now }
-    requires sources { (l : ℕ) → l < params.now.layers → (rows * params.now.wr + 3 ≤ (form_at F.ops forms.now l).end) ×
-        ((form_at F.ops forms.now l).end ≤ params.now.nw) }
-    requires mu { length mu.now ≡ 3 * params.now.layers }
-    requires room { length table.old ≡ (params.now.nrow - 3 - rows) * params.now.wr }
+// own. The table has these rows.
+fn add_copies<F: Field>(others: &Others<'_>, forms: &[Form<F>], mu: &[F], table: &mut [F])
+    requires count { others.now.params.now.layers ≤ length forms.now }
+    requires sources { let p = others.now.params.now in
+        (l : ℕ) → l < p.layers
+        → (others.now.rows * p.wr + 3 ≤ (form_at F.ops forms.now l).end) × ((form_at F.ops forms.now l).end ≤ p.nw) }
+    requires mu { length mu.now ≡ 3 * others.now.params.now.layers }
+    requires room { length table.old ≡ (others.now.params.now.nrow - 3 - others.now.rows) * others.now.params.now.wr }
     ensures { let o = F.ops in
-        let p = params.now in
+        let p = others.now.params.now in
+        let rows = others.now.rows in
         (i s : ℕ) → s < p.wr
         → entry o table.new (i * p.wr + s)
         ≡ minus o (o.plus (entry o table.old (i * p.wr + s))
@@ -148,9 +194,10 @@ fn add_copies<F: Field>(params: &Params, forms: &[Form<F>], mu: &[F], rows: u32,
         (sum_where o (3 * p.layers) (λ m. is_place (3 + (rows + i)) s (place_of p (source_in o forms.now m)))
         (entry o mu.now)) }
 {
+    let params = others.params;
     for m in 0..3 * params.layers {
         let end = forms[(m / 3) as usize].end;
-        add_copy(params, m, end, mu[m as usize], rows, table);
+        add_copy(others, m, end, mu[m as usize], table);
     }
 }
 
@@ -177,14 +224,14 @@ pub(crate) fn combine_from<F: Field>(
         result ≡ spec.wanted F.ops c (right F.ops forms.now) challenges.now }
 {
     let skip = rows as usize * params.wr as usize;
-    let wanted = sum_forms(
-        &forms.forms,
-        &forms.own,
-        challenges.lambda.as_slice(),
+    let kept = Kept {
+        forms: &forms.forms,
+        own: &forms.own,
         skip,
-        table,
-    );
-    add_copies(params, &forms.forms, challenges.mu.as_slice(), rows, table);
+    };
+    let wanted = sum_forms(&kept, challenges.lambda.as_slice(), table);
+    let others = Others { params, rows };
+    add_copies(&others, &forms.forms, challenges.mu.as_slice(), table);
     wanted
 }
 

@@ -14,6 +14,7 @@ ghost use Rattle.lzk_accept.specs.Kept.{private_coefficient, AreFormsOf, AreRest
 use crate::challenges::Challenges;
 use crate::claims::{first_point, second_point};
 use crate::combination::combine_from;
+use crate::exchange::{Exchange, Scripted};
 use crate::forms::Forms;
 use crate::linear::{rest_forms, rest_with_bounds};
 use lzk_circuit::{Circuit, bits_of, power_of};
@@ -99,38 +100,39 @@ fn set_place_factors<F: Field>(table: &[F], low: usize, factors: &mut [F])
     }
 }
 
-// The numbers that rows take: those from `first` on, and a row takes as many as there are of so many bits.
-#[derive(Clone, Copy)]
-struct Taken {
+// The numbers that rows take: those from `first` on, and a row takes as many as there are of so many bits. The point
+// has bits enough for all of them.
+#[derive(Drop)]
+struct Taken<'a, F: Field> {
+    r: &'a [F],
     first: usize,
     rows: usize,
     bits: u32,
+    ghost few: { length r.now ≤ 17 },
+    ghost within: { bits ≤ length r.now },
+    ghost numbers: { first + rows * 2 ^ bits ≤ 2 ^ length r.now },
 }
 
 // Sets two factors for each row and each position, whose products sum to a multiple of how the rows' numbers agree with
-// a point.
+// the point.
 fn set_point_factors<F: Field>(
-    r: &[F],
+    taken: &Taken<'_, F>,
     by: F,
-    taken: Taken,
     row_factors: &mut [F],
     place_factors: &mut [F],
     low: &mut [F],
     high: &mut [F],
 )
-    requires few { length r.now ≤ 17 }
-    requires bits { taken.bits ≤ length r.now }
-    requires numbers { taken.first + taken.rows * 2 ^ taken.bits ≤ 2 ^ length r.now }
-    requires low { 2 ^ length r.now ≤ length low.old }
-    requires high { 2 ^ length r.now ≤ length high.old }
-    requires row_factors { length row_factors.old ≡ 2 * taken.rows }
-    requires place_factors { length place_factors.old ≡ 2 * 2 ^ taken.bits }
-    ensures { let o = F.ops in (i s : ℕ) → i < taken.rows → s < 2 ^ taken.bits →
+    requires low { 2 ^ length taken.now.r.now ≤ length low.old }
+    requires high { 2 ^ length taken.now.r.now ≤ length high.old }
+    requires row_factors { length row_factors.old ≡ 2 * taken.now.rows }
+    requires place_factors { length place_factors.old ≡ 2 * 2 ^ taken.now.bits }
+    ensures { let o = F.ops in let t = taken.now in (i s : ℕ) → i < t.rows → s < 2 ^ t.bits →
         o.plus (o.times (entry o row_factors.new i) (entry o place_factors.new s))
-        (o.times (entry o row_factors.new (taken.rows + i)) (entry o place_factors.new (2 ^ taken.bits + s)))
-        ≡ o.times by (eq o (taken.first + (i * 2 ^ taken.bits + s)) r.now) }
+        (o.times (entry o row_factors.new (t.rows + i)) (entry o place_factors.new (2 ^ t.bits + s)))
+        ≡ o.times by (eq o (t.first + (i * 2 ^ t.bits + s)) t.r.now) }
 {
-    let (lows, highs) = r.split_at(taken.bits as usize);
+    let (lows, highs) = taken.r.split_at(taken.bits as usize);
     let width = power_of(taken.bits);
     let (low_table, _) = low.split_at_mut(width);
     eq_table(lows, low_table);
@@ -142,42 +144,43 @@ fn set_point_factors<F: Field>(
 
 // Sets the factors of both points: those of the first, and those of the second behind them.
 fn set_both_factors<F: Field>(
-    ra: &[F],
+    taken: &Taken<'_, F>,
     rb: &[F],
     by: F,
     gamma: F,
-    taken: Taken,
     row_factors: &mut [F],
     place_factors: &mut [F],
     low: &mut [F],
     high: &mut [F],
 )
-    requires few { length ra.now ≤ 17 }
-    requires points { length rb.now ≡ length ra.now }
-    requires bits { taken.bits ≤ length ra.now }
-    requires numbers { taken.first + taken.rows * 2 ^ taken.bits ≤ 2 ^ length ra.now }
-    requires low { 2 ^ length ra.now ≤ length low.old }
-    requires high { 2 ^ length ra.now ≤ length high.old }
-    requires row_factors { length row_factors.old ≡ 4 * taken.rows }
-    requires place_factors { length place_factors.old ≡ 4 * 2 ^ taken.bits }
-    ensures { let o = F.ops in
-        (i s : ℕ) → i < taken.rows → s < 2 ^ taken.bits
-        → let n = taken.first + (i * 2 ^ taken.bits + s) in
+    requires points { length rb.now ≡ length taken.now.r.now }
+    requires low { 2 ^ length taken.now.r.now ≤ length low.old }
+    requires high { 2 ^ length taken.now.r.now ≤ length high.old }
+    requires row_factors { length row_factors.old ≡ 4 * taken.now.rows }
+    requires place_factors { length place_factors.old ≡ 4 * 2 ^ taken.now.bits }
+    ensures { let o = F.ops in let t = taken.now in
+        (i s : ℕ) → i < t.rows → s < 2 ^ t.bits
+        → let n = t.first + (i * 2 ^ t.bits + s) in
         sum_below o 4 (λ k.
-        o.times (entry o row_factors.new (k * taken.rows + i))
-        (entry o place_factors.new (k * 2 ^ taken.bits + s)))
-        ≡ o.times by (o.plus (eq o n ra.now) (o.times gamma (eq o n rb.now))) }
+        o.times (entry o row_factors.new (k * t.rows + i))
+        (entry o place_factors.new (k * 2 ^ t.bits + s)))
+        ≡ o.times by (o.plus (eq o n t.r.now) (o.times gamma (eq o n rb.now))) }
 {
+    let other = Taken {
+        r: rb,
+        first: taken.first,
+        rows: taken.rows,
+        bits: taken.bits,
+    };
     let (rows_a, rows_b) = row_factors.split_at_mut(2 * taken.rows);
     let (places_a, places_b) = place_factors.split_at_mut(2 * power_of(taken.bits));
-    set_point_factors(ra, by, taken, rows_a, places_a, low, high);
-    set_point_factors(rb, by.mul(gamma), taken, rows_b, places_b, low, high);
+    set_point_factors(taken, by, rows_a, places_a, low, high);
+    set_point_factors(&other, by.mul(gamma), rows_b, places_b, low, high);
 }
 
 // Sets the factors of the rows that private inputs fill, if there are any. The forms lend room.
 fn set_private_factors<F: Field>(
-    circuit: &Circuit<F>,
-    script: &Script<F>,
+    scripted: &Scripted<'_, F>,
     by: F,
     bits: u32,
     rows: u32,
@@ -185,10 +188,9 @@ fn set_private_factors<F: Field>(
     place_factors: &mut [F],
     forms: &mut Forms<F>,
 )
-    requires shape { HasShape circuit.now script.now }
-    requires made { AreFormsOf F.ops circuit.now forms.old }
+    requires made { AreFormsOf F.ops scripted.now.circuit.now forms.old }
     requires few { bits ≤ 17 }
-    requires filled { rows * 2 ^ bits ≤ circuit.now.privates }
+    requires filled { rows * 2 ^ bits ≤ scripted.now.circuit.now.privates }
     requires row_factors { length row_factors.old ≡ 4 * rows }
     requires place_factors { length place_factors.old ≡ 4 * 2 ^ bits }
     ensures forms { forms.new ≡ forms.old }
@@ -196,23 +198,24 @@ fn set_private_factors<F: Field>(
         (i s : ℕ) → i < rows → s < 2 ^ bits
         → sum_below o 4
         (λ k. o.times (entry o row_factors.new (k * rows + i)) (entry o place_factors.new (k * 2 ^ bits + s)))
-        ≡ o.times by (private_coefficient o circuit.now script.now (i * 2 ^ bits + s)) }
+        ≡ o.times by (private_coefficient o scripted.now.circuit.now scripted.now.script.now (i * 2 ^ bits + s)) }
 {
     if rows == 0 {
         return;
     }
+    let (circuit, script) = (scripted.circuit, scripted.script);
     let depth = circuit.depth();
     let taken = Taken {
+        r: first_point(scripted, depth),
         first: 1 + circuit.publics() as usize,
         rows: rows as usize,
         bits,
     };
     set_both_factors(
-        first_point(circuit, script, depth),
-        second_point(circuit, script, depth),
+        &taken,
+        second_point(scripted, depth),
         by,
         script.gamma,
-        taken,
         row_factors,
         place_factors,
         &mut forms.first,
@@ -231,33 +234,34 @@ fn filled_inputs<F: Field>(circuit: &Circuit<F>, rows: u32) -> usize
 
 // Sets the factors and the table, where the forms are set but for what filled rows hold. Gives the sum that is wanted.
 fn fill<F: Field>(
-    circuit: &Circuit<F>,
-    script: &Script<F>,
+    scripted: &Scripted<'_, F>,
     challenges: &Challenges<F>,
     forms: &mut Forms<F>,
     factored: &mut Factored<F>,
 ) -> F
-    requires script { HasShape circuit.now script.now }
-    requires challenges { drawn.HasShape (params_of circuit.now) challenges.now }
-    requires forms { AreFormsOf F.ops circuit.now forms.old }
-    requires room { HasRoomFor circuit.now factored.old }
-    ensures forms { AreFormsOf F.ops circuit.now forms.new }
-    ensures room { HasRoomFor circuit.now factored.new }
+    requires challenges { drawn.HasShape (params_of scripted.now.circuit.now) challenges.now }
+    requires forms { AreFormsOf F.ops scripted.now.circuit.now forms.old }
+    requires room { HasRoomFor scripted.now.circuit.now factored.old }
+    ensures forms { AreFormsOf F.ops scripted.now.circuit.now forms.new }
+    ensures room { HasRoomFor scripted.now.circuit.now factored.new }
     ensures combined { let o = F.ops in
-        let p = params_of circuit.now in
+        let p = params_of scripted.now.circuit.now in
         (public messages : List F)
-        → AreRest o F.coding.element circuit.now public script.now messages (factored.old.rows * p.wr) forms.old.forms
-        forms.old.own
+        → AreRest o F.coding.element scripted.now.circuit.now public scripted.now.script.now messages
+        (factored.old.rows * p.wr) forms.old.forms forms.old.own
         → GivesCombined o p factored.new
-        (combined_of o F.coding.element circuit.now public script.now messages challenges.now) }
+        (combined_of o F.coding.element scripted.now.circuit.now public scripted.now.script.now messages
+        challenges.now) }
     ensures wanted { let o = F.ops in
-        let p = params_of circuit.now in
+        let p = params_of scripted.now.circuit.now in
         (public messages : List F)
-        → AreRest o F.coding.element circuit.now public script.now messages (factored.old.rows * p.wr) forms.old.forms
-        forms.old.own
-        → result ≡ wanted_of o F.coding.element circuit.now public script.now messages challenges.now }
+        → AreRest o F.coding.element scripted.now.circuit.now public scripted.now.script.now messages
+        (factored.old.rows * p.wr) forms.old.forms forms.old.own
+        → result
+        ≡ wanted_of o F.coding.element scripted.now.circuit.now public scripted.now.script.now messages
+        challenges.now }
 {
-    let params = Params::of(circuit);
+    let params = Params::of(scripted.circuit);
     let rows = factored.rows;
     let wanted = combine_from(
         &params,
@@ -266,13 +270,12 @@ fn fill<F: Field>(
         rows,
         factored.table.as_mut_slice(),
     );
-    let depth = circuit.depth();
+    let depth = scripted.circuit.depth();
     let lambda = challenges.lambda.as_slice();
     let by = entry_at(lambda, depth as usize);
     let bits = bits_of(params.wr);
     set_private_factors(
-        circuit,
-        script,
+        scripted,
         by,
         bits,
         rows,
@@ -293,11 +296,11 @@ fn fill<F: Field>(
 /// let mut factored = Factored::new(alloc, &circuit)?;
 /// let wanted = combine_factored(&circuit, public, &script, messages, &challenges, &mut forms, &mut factored);
 /// ```
-pub fn combine_factored<F: Field>(
-    circuit: &Circuit<F>,
-    public: &[F],
-    script: &Script<F>,
-    messages: &[F],
+pub fn combine_factored<'a, F: Field>(
+    circuit: &'a Circuit<F>,
+    public: &'a [F],
+    script: &'a Script<F>,
+    messages: &'a [F],
     challenges: &Challenges<F>,
     forms: &mut Forms<F>,
     factored: &mut Factored<F>,
@@ -316,16 +319,22 @@ pub fn combine_factored<F: Field>(
         ≡ wanted_of F.ops F.coding.element circuit.now public.now script.now messages.now challenges.now }
 {
     let skip = filled_inputs(circuit, factored.rows);
-    rest_forms(circuit, public, script, messages, skip, forms);
-    fill(circuit, script, challenges, forms, factored)
+    let exchange = Exchange {
+        scripted: Scripted { circuit, script },
+        public,
+        messages,
+    };
+    rest_forms(exchange, skip, forms);
+    let scripted = Scripted { circuit, script };
+    fill(&scripted, challenges, forms, factored)
 }
 
 /// The same where the layers' bound coefficients are given, as a prover's sumchecks leave them. No term is visited.
-pub fn combine_with_bounds<F: Field>(
-    circuit: &Circuit<F>,
-    public: &[F],
-    script: &Script<F>,
-    messages: &[F],
+pub fn combine_with_bounds<'a, F: Field>(
+    circuit: &'a Circuit<F>,
+    public: &'a [F],
+    script: &'a Script<F>,
+    messages: &'a [F],
     challenges: &Challenges<F>,
     bounds: &[F],
     forms: &mut Forms<F>,
@@ -346,6 +355,12 @@ pub fn combine_with_bounds<F: Field>(
         ≡ wanted_of F.ops F.coding.element circuit.now public.now script.now messages.now challenges.now }
 {
     let skip = filled_inputs(circuit, factored.rows);
-    rest_with_bounds(circuit, public, script, messages, bounds, skip, forms);
-    fill(circuit, script, challenges, forms, factored)
+    let exchange = Exchange {
+        scripted: Scripted { circuit, script },
+        public,
+        messages,
+    };
+    rest_with_bounds(exchange, bounds, skip, forms);
+    let scripted = Scripted { circuit, script };
+    fill(&scripted, challenges, forms, factored)
 }

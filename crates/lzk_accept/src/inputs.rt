@@ -5,15 +5,14 @@ ghost use Rattle.lzk_circuit.specs.Wires as wires;
 ghost use Rattle.lzk_field.specs.Sums.{minus};
 ghost use Rattle.lzk_mle.specs.Multilinear.{tilde};
 ghost use Rattle.lzk_layout.specs.Places.{depth};
-ghost use Rattle.lzk_layout.specs.Sizes.{committed_count};
-ghost use Rattle.lzk_sumcheck.specs.Script.{point_a, point_b, HasShape};
+ghost use Rattle.lzk_sumcheck.specs.Script.{point_a, point_b};
 ghost use Rattle.lzk_accept.specs.Residuals.{inputs_at};
 
 use crate::claims::{first_point, second_point};
-use lzk_circuit::{Circuit, set_inputs};
+use crate::exchange::Witnessed;
+use lzk_circuit::set_inputs;
 use lzk_field::Field;
 use lzk_mle::tilde;
-use lzk_sumcheck::Script;
 
 // The extension of values, in room that may be longer than it has to be.
 fn extension_of<F: Field>(values: &[F], r: &[F], room: &mut [F]) -> F
@@ -28,26 +27,25 @@ fn extension_of<F: Field>(values: &[F], r: &[F], room: &mut [F]) -> F
 
 /// The extension of the inputs at the two points at which claims on them stand, those at the second one times gamma.
 /// `room` has 262,144 places.
-pub(crate) fn inputs_of<F: Field>(
-    circuit: &Circuit<F>,
-    public: &[F],
-    script: &Script<F>,
-    w: &[F],
-    room: &mut [F],
-) -> F
-    requires public { length public.now ≡ circuit.now.publics }
-    requires shape { HasShape circuit.now script.now }
-    requires w { length w.now ≡ committed_count circuit.now }
+pub(crate) fn inputs_of<F: Field>(witnessed: &Witnessed<'_, F>, room: &mut [F]) -> F
     requires room { length room.old ≡ 262144 }
-    ensures value { let o = F.ops in let at = inputs_at o circuit.now public.now w.now in let l = depth circuit.now in
-        result ≡ o.plus (at (point_a o script.now l)) (o.times script.now.gamma (at (point_b o script.now l))) }
+    ensures value { let o = F.ops in
+        let e = witnessed.now.exchange in
+        let s = e.scripted.script.now in
+        let l = depth e.scripted.circuit.now in
+        let at = inputs_at o e.scripted.circuit.now e.public.now witnessed.now.w.now in
+        result ≡ o.plus (at (point_a o s l)) (o.times s.gamma (at (point_b o s l))) }
     ensures room { length room.new ≡ length room.old }
 {
-    let depth = circuit.depth();
-    let private = &w[..circuit.privates() as usize];
+    let exchange = &witnessed.exchange;
+    let scripted = &exchange.scripted;
+    let script = scripted.script;
+    let depth = scripted.circuit.depth();
+    let public = exchange.public;
+    let private = &witnessed.w[..scripted.circuit.privates() as usize];
     let (values, rest) = room.split_at_mut(1 + public.len() + private.len());
     set_inputs(public, private, values);
-    let first = extension_of(values, first_point(circuit, script, depth), rest);
-    let second = extension_of(values, second_point(circuit, script, depth), rest);
+    let first = extension_of(values, first_point(scripted, depth), rest);
+    let second = extension_of(values, second_point(scripted, depth), rest);
     first.add(script.gamma.mul(second))
 }

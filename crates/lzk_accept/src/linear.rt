@@ -10,12 +10,13 @@ ghost use Rattle.lzk_layout.specs.Sizes.{sent_counts, committed_count};
 ghost use Rattle.lzk_sumcheck.specs.Coefficients.{coefficients, bound_at, AreBounds};
 ghost use Rattle.lzk_sumcheck.specs.Script.{layer_at, point_a, point_b, HasShape};
 ghost use Rattle.lzk_accept.specs.Kept.{form_at, coefficient, right, above_a, above_b, below_top, IsPlacedAt, IsConstraint, AreFormsOf, AreRest, IsLastForm};
-ghost use Rattle.lzk_accept.specs.Points.{AreInverses};
 ghost use Rattle.lzk_accept.specs.Residuals.{linear_coefficient, right_side};
 
 use crate::claims::layer_of;
+use crate::exchange::{Exchange, Scripted};
 use crate::forms::{Form, Forms};
 use crate::points::ThreePoints;
+use crate::prepared::{Prepared, Turn};
 use crate::rounds::{Claim, claim_form};
 use crate::tables::{set_bounds, set_input_tables};
 use lzk_circuit::Circuit;
@@ -25,9 +26,9 @@ use lzk_sumcheck::{Script, entry_at};
 
 /// The two factors that a layer sends, or zeros where there is no layer.
 #[derive(Clone, Copy)]
-struct Factors<F> {
-    first: F,
-    second: F,
+pub(crate) struct Factors<F> {
+    pub(crate) first: F,
+    pub(crate) second: F,
 }
 
 // The two factors that are sent from place i on.
@@ -82,39 +83,32 @@ fn set_factors<F: Field>(own: &mut [F], k: usize, bound: F, factors: Factors<F>)
     own[k + 2] = bound.neg();
 }
 
-// The constraint of layer `l`, whose places these are. What stands elsewhere in `own` is left.
+// The constraint of the layer whose turn it is. What stands elsewhere in `own` is left.
 fn layer_form<F: Field>(
-    points: ThreePoints<F>,
-    circuit: &Circuit<F>,
-    script: &Script<F>,
-    messages: &[F],
-    l: u32,
-    places: LayerPlaces,
-    above: Factors<F>,
-    bound: F,
+    points: &ThreePoints<F>,
+    turn: &Turn<'_, '_, F>,
     old: Form<F>,
     own: &mut [F],
 ) -> Form<F>
-    requires points { AreInverses F.ops F.coding.element points }
-    requires layer { l < depth circuit.now }
-    requires shape { HasShape circuit.now script.now }
-    requires messages { length messages.now ≡ sent_counts circuit.now }
-    requires places { places ≡ places_of circuit.now l }
-    requires within { AreWithin circuit.now places }
-    requires first { above.first ≡ above_a F.ops circuit.now messages.now l }
-    requires second { above.second ≡ above_b F.ops circuit.now messages.now l }
-    requires bound { bound ≡ bound_at F.ops circuit.now (coefficients F.ops circuit.now script.now) script.now l }
-    requires form { IsPlacedAt circuit.now l old }
-    requires own { length own.old ≡ committed_count circuit.now }
+    requires form { IsPlacedAt turn.now.exchange.now.scripted.circuit.now turn.now.l old }
+    requires own { length own.old ≡ committed_count turn.now.exchange.now.scripted.circuit.now }
     ensures length { length own.new ≡ length own.old }
-    ensures before { (j : ℕ) → j < pads_at circuit.now l → entry F.ops own.new j ≡ entry F.ops own.old j }
-    ensures after { (j : ℕ) → pads_at circuit.now (l + 1) ≤ j → entry F.ops own.new j ≡ entry F.ops own.old j }
-    ensures placed { IsPlacedAt circuit.now l result }
-    ensures constraint { (public : List F)
-        → IsConstraint F.ops F.coding.element circuit.now (coefficients F.ops circuit.now script.now) public script.now
-        messages.now l own.new result }
+    ensures before { (j : ℕ) → j < pads_at turn.now.exchange.now.scripted.circuit.now turn.now.l
+        → entry F.ops own.new j ≡ entry F.ops own.old j }
+    ensures after { (j : ℕ) → pads_at turn.now.exchange.now.scripted.circuit.now (turn.now.l + 1) ≤ j
+        → entry F.ops own.new j ≡ entry F.ops own.old j }
+    ensures placed { IsPlacedAt turn.now.exchange.now.scripted.circuit.now turn.now.l result }
+    ensures constraint { let e = turn.now.exchange.now in
+        let c = e.scripted.circuit.now in
+        let s = e.scripted.script.now in
+        (public : List F)
+        → IsConstraint F.ops F.coding.element c (coefficients F.ops c s) public s e.messages.now turn.now.l own.new
+        result }
 {
-    let layer = layer_of(circuit, script, l);
+    let exchange = turn.exchange;
+    let places = turn.places;
+    let messages = exchange.messages;
+    let layer = layer_of(&exchange.scripted, turn.l);
     let alpha = layer.alpha;
     let claim = claim_form(
         points,
@@ -126,97 +120,92 @@ fn layer_form<F: Field>(
         places.pads as usize,
     );
     let factors = factors_from(messages, places.factors_sent as usize);
-    set_factors(own, places.factors as usize, bound, factors);
-    let first = below_top_of(claim.weight, l);
+    set_factors(own, places.factors as usize, turn.bound, factors);
+    let first = below_top_of(claim.weight, turn.l);
     Form {
         start: old.start,
         end: old.end,
         above: old.above,
         first,
         second: first.mul(alpha),
-        right: constant_of(claim, alpha, above, bound, factors).neg(),
+        right: constant_of(claim, alpha, turn.above, turn.bound, factors).neg(),
     }
 }
 
-// The two tables' entries at one place, joined.
-fn joined<F: Field>(k: usize, gamma: F, first: &[F], second: &[F]) -> F
-    requires first { k < length first.now }
-    requires second { k < length second.now }
-    ensures { let o = F.ops in result ≡ o.plus (entry o first.now k) (o.times gamma (entry o second.now k)) }
+// The two tables' entries at one place, joined: `gamma` counts the second.
+fn joined<F: Field>(prepared: &Prepared<'_, '_, '_, F>, k: usize) -> F
+    requires place { let c = prepared.now.exchange.scripted.circuit.now in k < width_at c (depth c) }
+    ensures { let o = F.ops in
+        let gamma = prepared.now.exchange.scripted.script.now.gamma in
+        result ≡ o.plus (entry o prepared.now.first.now k) (o.times gamma (entry o prepared.now.second.now k)) }
 {
-    first[k].add(gamma.mul(second[k]))
+    let script = prepared.exchange.scripted.script;
+    let gamma = script.gamma;
+    prepared.first[k].add(gamma.mul(prepared.second[k]))
 }
 
 // What the inputs' constraint has of one and the public inputs.
-fn public_part<F: Field>(public: &[F], gamma: F, first: &[F], second: &[F]) -> F
-    requires first { length public.now < length first.now }
-    requires second { length public.now < length second.now }
+fn public_part<F: Field>(prepared: &Prepared<'_, '_, '_, F>) -> F
     ensures { let o = F.ops in
+        let e = prepared.now.exchange in
+        let gamma = e.scripted.script.now.gamma in
         result
-        ≡ sum_below o (1 + length public.now) (λ k.
-        o.times (o.plus (entry o first.now k) (o.times gamma (entry o second.now k)))
-        (entry o (o.one ∷ public.now) k)) }
+        ≡ sum_below o (1 + length e.public.now) (λ k.
+        o.times (o.plus (entry o prepared.now.first.now k) (o.times gamma (entry o prepared.now.second.now k)))
+        (entry o (o.one ∷ e.public.now) k)) }
 {
-    let mut total = joined(0, gamma, first, second);
+    let public = prepared.exchange.public;
+    let mut total = joined(prepared, 0);
     for i in 0..public.len() {
-        total = total.add(joined(i + 1, gamma, first, second).mul(public[i]));
+        total = total.add(joined(prepared, i + 1).mul(public[i]));
     }
     total
 }
 
-// The coefficients of the inputs' constraint at the private inputs from number `skip` on. Their wires begin at number
-// `at`.
-fn set_privates<F: Field>(
-    own: &mut [F],
-    skip: usize,
-    count: usize,
-    at: usize,
-    gamma: F,
-    first: &[F],
-    second: &[F],
-)
-    requires skip { skip ≤ count }
-    requires room { count ≤ length own.old }
-    requires first { at + count ≤ length first.now }
-    requires second { at + count ≤ length second.now }
+// The coefficients of the inputs' constraint at the private inputs from number `skip` on.
+fn set_privates<F: Field>(prepared: &Prepared<'_, '_, '_, F>, own: &mut [F])
+    requires room { prepared.now.exchange.scripted.circuit.now.privates ≤ length own.old }
     ensures length { length own.new ≡ length own.old }
-    ensures entries { let o = F.ops in (k : ℕ) → skip ≤ k → k < count →
-        entry o own.new k ≡ o.plus (entry o first.now (at + k)) (o.times gamma (entry o second.now (at + k))) }
-    ensures after { (k : ℕ) → count ≤ k → entry F.ops own.new k ≡ entry F.ops own.old k }
+    ensures entries { let o = F.ops in
+        let c = prepared.now.exchange.scripted.circuit.now in
+        let gamma = prepared.now.exchange.scripted.script.now.gamma in
+        (k : ℕ) → prepared.now.skip ≤ k → k < c.privates
+        → entry o own.new k
+        ≡ o.plus (entry o prepared.now.first.now (1 + c.publics + k))
+        (o.times gamma (entry o prepared.now.second.now (1 + c.publics + k))) }
+    ensures after { (k : ℕ) → prepared.now.exchange.scripted.circuit.now.privates ≤ k
+        → entry F.ops own.new k ≡ entry F.ops own.old k }
 {
-    for k in skip..count {
-        own[k] = joined(at + k, gamma, first, second);
+    let exchange = &prepared.exchange;
+    let at = exchange.public.len() + 1;
+    let privates = exchange.scripted.circuit.privates() as usize;
+    for k in prepared.skip..privates {
+        own[k] = joined(prepared, at + k);
     }
 }
 
 // The constraint of the inputs, behind the last layer, without its coefficients at the first `skip` private inputs.
 // What stands elsewhere in `own` is left.
 fn last_form<F: Field>(
-    circuit: &Circuit<F>,
-    public: &[F],
-    gamma: F,
+    prepared: &Prepared<'_, '_, '_, F>,
     above: Factors<F>,
-    first: &[F],
-    second: &[F],
     old: Form<F>,
-    skip: usize,
     own: &mut [F],
 ) -> Form<F>
-    requires skip { skip ≤ circuit.now.privates }
-    requires public { length public.now ≡ circuit.now.publics }
-    requires first { 1 + circuit.now.publics + circuit.now.privates ≤ length first.now }
-    requires second { 1 + circuit.now.publics + circuit.now.privates ≤ length second.now }
-    requires form { IsPlacedAt circuit.now (depth circuit.now) old }
-    requires own { circuit.now.privates ≤ length own.old }
+    requires form { let c = prepared.now.exchange.scripted.circuit.now in IsPlacedAt c (depth c) old }
+    requires own { prepared.now.exchange.scripted.circuit.now.privates ≤ length own.old }
     ensures length { length own.new ≡ length own.old }
-    ensures after { (j : ℕ) → circuit.now.privates ≤ j → entry F.ops own.new j ≡ entry F.ops own.old j }
-    ensures placed { IsPlacedAt circuit.now (depth circuit.now) result }
-    ensures form { IsLastForm F.ops circuit.now public.now gamma above first.now second.now skip own.new result }
+    ensures after { (j : ℕ) → prepared.now.exchange.scripted.circuit.now.privates ≤ j
+        → entry F.ops own.new j ≡ entry F.ops own.old j }
+    ensures placed { let c = prepared.now.exchange.scripted.circuit.now in IsPlacedAt c (depth c) result }
+    ensures form { let e = prepared.now.exchange in
+        IsLastForm F.ops e.scripted.circuit.now e.public.now e.scripted.script.now.gamma above prepared.now.first.now
+        prepared.now.second.now prepared.now.skip own.new result }
 {
-    let at = public.len() + 1;
-    let privates = circuit.privates() as usize;
-    set_privates(own, skip, privates, at, gamma, first, second);
-    let known = public_part(public, gamma, first, second);
+    let script = prepared.exchange.scripted.script;
+    let gamma = script.gamma;
+    set_privates(prepared, own);
+    let known = public_part(prepared);
     Form {
         start: old.start,
         end: old.end,
@@ -245,28 +234,31 @@ fn set_form<F: Field>(forms: &mut [Form<F>], i: usize, form: Form<F>)
 
 // Sets the constraints of all layers. Gives the last layer's sent factors.
 fn fill_layers<F: Field>(
-    circuit: &Circuit<F>,
-    script: &Script<F>,
-    messages: &[F],
-    bounds: &[F],
+    prepared: &Prepared<'_, '_, '_, F>,
     forms: &mut [Form<F>],
     own: &mut [F],
 ) -> Factors<F>
-    requires shape { HasShape circuit.now script.now }
-    requires messages { length messages.now ≡ sent_counts circuit.now }
-    requires bounds { AreBounds F.ops circuit.now script.now bounds.now }
-    requires count { length forms.old ≡ depth circuit.now + 1 }
-    requires placed { (i : ℕ) → i < depth circuit.now + 1 → IsPlacedAt circuit.now i (form_at F.ops forms.old i) }
-    requires own { length own.old ≡ committed_count circuit.now }
+    requires count { length forms.old ≡ depth prepared.now.exchange.scripted.circuit.now + 1 }
+    requires placed { let c = prepared.now.exchange.scripted.circuit.now in
+        (i : ℕ) → i < depth c + 1 → IsPlacedAt c i (form_at F.ops forms.old i) }
+    requires own { length own.old ≡ committed_count prepared.now.exchange.scripted.circuit.now }
     ensures forms_length { length forms.new ≡ length forms.old }
     ensures own_length { length own.new ≡ length own.old }
-    ensures above_a { result.first ≡ above_a F.ops circuit.now messages.now (depth circuit.now) }
-    ensures above_b { result.second ≡ above_b F.ops circuit.now messages.now (depth circuit.now) }
-    ensures placed { (i : ℕ) → i < depth circuit.now + 1 → IsPlacedAt circuit.now i (form_at F.ops forms.new i) }
-    ensures constraints { (public : List F) (i : ℕ) → i < depth circuit.now
-        → IsConstraint F.ops F.coding.element circuit.now (coefficients F.ops circuit.now script.now) public script.now
-        messages.now i own.new (form_at F.ops forms.new i) }
+    ensures above_a { let e = prepared.now.exchange in let c = e.scripted.circuit.now in
+        result.first ≡ above_a F.ops c e.messages.now (depth c) }
+    ensures above_b { let e = prepared.now.exchange in let c = e.scripted.circuit.now in
+        result.second ≡ above_b F.ops c e.messages.now (depth c) }
+    ensures placed { let c = prepared.now.exchange.scripted.circuit.now in
+        (i : ℕ) → i < depth c + 1 → IsPlacedAt c i (form_at F.ops forms.new i) }
+    ensures constraints { let e = prepared.now.exchange in
+        let c = e.scripted.circuit.now in
+        let s = e.scripted.script.now in
+        (public : List F) (i : ℕ) → i < depth c
+        → IsConstraint F.ops F.coding.element c (coefficients F.ops c s) public s e.messages.now i own.new
+        (form_at F.ops forms.new i) }
 {
+    let exchange = &prepared.exchange;
+    let circuit = exchange.scripted.circuit;
     let depth = circuit.depth();
     let points = ThreePoints::new();
     let mut places = LayerPlaces::first(circuit);
@@ -275,153 +267,106 @@ fn fill_layers<F: Field>(
         second: F::zero(),
     };
     for l in 0..depth {
-        let bound = entry_at(bounds, l as usize);
+        let bound = entry_at(prepared.bounds, l as usize);
+        let turn = Turn {
+            exchange,
+            l,
+            places,
+            above,
+            bound,
+        };
         let old = form_of(forms, l as usize);
-        let form = layer_form(
-            points, circuit, script, messages, l, places, above, bound, old, own,
-        );
+        let form = layer_form(&points, &turn, old, own);
         set_form(forms, l as usize, form);
-        above = factors_from(messages, places.factors_sent as usize);
+        above = factors_from(exchange.messages, places.factors_sent as usize);
         places = places.next(circuit, l);
     }
     above
 }
 
-// Sets all constraints, but for the inputs' coefficients at the first `skip` private inputs, from the layers' bound
-// coefficients and the tables of the inputs' two points.
-fn fill_forms<F: Field>(
-    circuit: &Circuit<F>,
-    public: &[F],
-    script: &Script<F>,
-    messages: &[F],
-    bounds: &[F],
-    first: &[F],
-    second: &[F],
-    skip: usize,
-    forms: &mut [Form<F>],
-    own: &mut [F],
-)
-    requires skip { skip ≤ circuit.now.privates }
-    requires public { length public.now ≡ circuit.now.publics }
-    requires shape { HasShape circuit.now script.now }
-    requires messages { length messages.now ≡ sent_counts circuit.now }
-    requires bounds { AreBounds F.ops circuit.now script.now bounds.now }
-    requires first_room { width_at circuit.now (depth circuit.now) ≤ length first.now }
-    requires second_room { width_at circuit.now (depth circuit.now) ≤ length second.now }
-    requires first { let o = F.ops in (g : ℕ) → g < width_at circuit.now (depth circuit.now) →
-        entry o first.now g ≡ eq o g (point_a o script.now (depth circuit.now)) }
-    requires second { let o = F.ops in (g : ℕ) → g < width_at circuit.now (depth circuit.now) →
-        entry o second.now g ≡ eq o g (point_b o script.now (depth circuit.now)) }
-    requires count { length forms.old ≡ depth circuit.now + 1 }
-    requires placed { (i : ℕ) → i < depth circuit.now + 1 → IsPlacedAt circuit.now i (form_at F.ops forms.old i) }
-    requires own { length own.old ≡ committed_count circuit.now }
+// Sets all constraints, but for the inputs' coefficients at the first `skip` private inputs.
+fn fill_forms<F: Field>(prepared: &Prepared<'_, '_, '_, F>, forms: &mut [Form<F>], own: &mut [F])
+    requires count { length forms.old ≡ depth prepared.now.exchange.scripted.circuit.now + 1 }
+    requires placed { let c = prepared.now.exchange.scripted.circuit.now in
+        (i : ℕ) → i < depth c + 1 → IsPlacedAt c i (form_at F.ops forms.old i) }
+    requires own { length own.old ≡ committed_count prepared.now.exchange.scripted.circuit.now }
     ensures forms_length { length forms.new ≡ length forms.old }
     ensures own_length { length own.new ≡ length own.old }
-    ensures placed { (i : ℕ) → i < depth circuit.now + 1 → IsPlacedAt circuit.now i (form_at F.ops forms.new i) }
-    ensures rest { AreRest F.ops F.coding.element circuit.now public.now script.now messages.now skip forms.new
-        own.new }
+    ensures placed { let c = prepared.now.exchange.scripted.circuit.now in
+        (i : ℕ) → i < depth c + 1 → IsPlacedAt c i (form_at F.ops forms.new i) }
+    ensures rest { let e = prepared.now.exchange in
+        AreRest F.ops F.coding.element e.scripted.circuit.now e.public.now e.scripted.script.now e.messages.now
+        prepared.now.skip forms.new own.new }
 {
-    let above = fill_layers(circuit, script, messages, bounds, forms, own);
+    let above = fill_layers(prepared, forms, own);
+    let circuit = prepared.exchange.scripted.circuit;
     let depth = circuit.depth() as usize;
     let old = form_of(forms, depth);
-    let last = last_form(
-        circuit,
-        public,
-        script.gamma,
-        above,
-        first,
-        second,
-        old,
-        skip,
-        own,
-    );
+    let last = last_form(prepared, above, old, own);
     set_form(forms, depth, last);
 }
 
 /// Sets the forms to the linear constraints, but for the coefficients of the inputs' constraint at the first `skip`
 /// private inputs. They are how these inputs' wires agree with the inputs' two points, and no layer's constraint has
 /// them.
-pub(crate) fn rest_forms<F: Field>(
-    circuit: &Circuit<F>,
-    public: &[F],
-    script: &Script<F>,
-    messages: &[F],
-    skip: usize,
-    forms: &mut Forms<F>,
-)
-    requires skip { skip ≤ circuit.now.privates }
-    requires public { length public.now ≡ circuit.now.publics }
-    requires shape { HasShape circuit.now script.now }
-    requires messages { length messages.now ≡ sent_counts circuit.now }
-    requires made { AreFormsOf F.ops circuit.now forms.old }
-    ensures made { AreFormsOf F.ops circuit.now forms.new }
-    ensures rest { AreRest F.ops F.coding.element circuit.now public.now script.now messages.now skip forms.new.forms
-        forms.new.own }
+pub(crate) fn rest_forms<F: Field>(exchange: Exchange<'_, F>, skip: usize, forms: &mut Forms<F>)
+    requires skip { skip ≤ exchange.scripted.circuit.now.privates }
+    requires made { AreFormsOf F.ops exchange.scripted.circuit.now forms.old }
+    ensures made { AreFormsOf F.ops exchange.entry.scripted.circuit.now forms.new }
+    ensures rest { let e = exchange.entry in
+        AreRest F.ops F.coding.element e.scripted.circuit.now e.public.now e.scripted.script.now e.messages.now skip
+        forms.new.forms forms.new.own }
 {
     set_bounds(
-        circuit,
-        script,
+        &exchange.scripted,
         &mut forms.bounds,
         &mut forms.first,
         &mut forms.second,
         &mut forms.weights,
     );
-    fill_forms(
-        circuit,
-        public,
-        script,
-        messages,
-        &forms.bounds,
-        &forms.first,
-        &forms.second,
+    let prepared = Prepared {
+        exchange,
+        bounds: &forms.bounds,
+        first: &forms.first,
+        second: &forms.second,
         skip,
-        &mut forms.forms,
-        &mut forms.own,
-    );
+    };
+    fill_forms(&prepared, &mut forms.forms, &mut forms.own);
 }
 
 /// The same where the layers' bound coefficients are given. No term is visited.
 pub(crate) fn rest_with_bounds<F: Field>(
-    circuit: &Circuit<F>,
-    public: &[F],
-    script: &Script<F>,
-    messages: &[F],
+    exchange: Exchange<'_, F>,
     bounds: &[F],
     skip: usize,
     forms: &mut Forms<F>,
 )
-    requires skip { skip ≤ circuit.now.privates }
-    requires public { length public.now ≡ circuit.now.publics }
-    requires shape { HasShape circuit.now script.now }
-    requires messages { length messages.now ≡ sent_counts circuit.now }
-    requires bounds { AreBounds F.ops circuit.now script.now bounds.now }
-    requires made { AreFormsOf F.ops circuit.now forms.old }
-    ensures made { AreFormsOf F.ops circuit.now forms.new }
-    ensures rest { AreRest F.ops F.coding.element circuit.now public.now script.now messages.now skip forms.new.forms
-        forms.new.own }
+    requires skip { skip ≤ exchange.scripted.circuit.now.privates }
+    requires bounds { AreBounds F.ops exchange.scripted.circuit.now exchange.scripted.script.now bounds.now }
+    requires made { AreFormsOf F.ops exchange.scripted.circuit.now forms.old }
+    ensures made { AreFormsOf F.ops exchange.entry.scripted.circuit.now forms.new }
+    ensures rest { let e = exchange.entry in
+        AreRest F.ops F.coding.element e.scripted.circuit.now e.public.now e.scripted.script.now e.messages.now skip
+        forms.new.forms forms.new.own }
 {
-    set_input_tables(circuit, script, &mut forms.first, &mut forms.second);
-    fill_forms(
-        circuit,
-        public,
-        script,
-        messages,
+    set_input_tables(&exchange.scripted, &mut forms.first, &mut forms.second);
+    let prepared = Prepared {
+        exchange,
         bounds,
-        &forms.first,
-        &forms.second,
+        first: &forms.first,
+        second: &forms.second,
         skip,
-        &mut forms.forms,
-        &mut forms.own,
-    );
+    };
+    fill_forms(&prepared, &mut forms.forms, &mut forms.own);
 }
 
 /// Sets the forms to the coefficients and right sides of all linear constraints: what the sumchecks' residuals are less
 /// at a list of pads and private inputs. No memory is taken. It is the plain form beside `combine_factored`, for tests.
-pub fn linear_forms<F: Field>(
-    circuit: &Circuit<F>,
-    public: &[F],
-    script: &Script<F>,
-    messages: &[F],
+pub fn linear_forms<'a, F: Field>(
+    circuit: &'a Circuit<F>,
+    public: &'a [F],
+    script: &'a Script<F>,
+    messages: &'a [F],
     forms: &mut Forms<F>,
 )
     requires public { length public.now ≡ circuit.now.publics }
@@ -438,5 +383,10 @@ pub fn linear_forms<F: Field>(
         → right F.ops forms.new i
         ≡ right_side F.ops F.coding.element circuit.now q public.now script.now messages.now i }
 {
-    rest_forms(circuit, public, script, messages, 0, forms);
+    let exchange = Exchange {
+        scripted: Scripted { circuit, script },
+        public,
+        messages,
+    };
+    rest_forms(exchange, 0, forms);
 }

@@ -21,11 +21,12 @@ fn inverse_of<F: Field>(x: F) -> F
 
 /// For each of the first three points, the inverse of the product of its differences to the other two. They depend on
 /// the field alone, so rounds that are gone through together pay no inversion each.
-#[derive(Clone, Copy)]
-pub(crate) struct ThreePoints<F> {
+#[derive(Drop)]
+pub(crate) struct ThreePoints<F: Field> {
     pub(crate) first: F,
     pub(crate) second: F,
     pub(crate) third: F,
+    ghost are: { AreInverses F.ops F.coding.element first second third },
 }
 
 /// What the values at the three points count for in the polynomial's value at another: Lagrange's polynomials there.
@@ -46,9 +47,7 @@ fn apart<F: Field>(x: F, u: F, v: F) -> F
 }
 
 impl<F: Field> ThreePoints<F> {
-    pub(crate) fn new() -> ThreePoints<F>
-        ensures { AreInverses F.ops F.coding.element result }
-    {
+    pub(crate) fn new() -> ThreePoints<F> {
         let x0 = F::point(0);
         let x1 = F::point(1);
         let x2 = F::point(2);
@@ -60,8 +59,7 @@ impl<F: Field> ThreePoints<F> {
     }
 
     /// What the three values count for at `t`.
-    pub(crate) fn shares(self, t: F) -> Shares<F>
-        requires { AreInverses F.ops F.coding.element self }
+    pub(crate) fn shares(&self, t: F) -> Shares<F>
         ensures { AreShares F.ops F.coding.element t result }
     {
         let d0 = t.sub(F::point(0));
@@ -75,8 +73,7 @@ impl<F: Field> ThreePoints<F> {
     }
 
     /// The claim after a round.
-    pub(crate) fn next_claim(self, claim: F, p0: F, p2: F, t: F) -> F
-        requires { AreInverses F.ops F.coding.element self }
+    pub(crate) fn next_claim(&self, claim: F, p0: F, p2: F, t: F) -> F
         ensures { result ≡ next_claim F.ops F.coding.element claim p0 p2 t }
     {
         let shares = self.shares(t);

@@ -11,6 +11,7 @@ ghost use Rattle.lzk_accept.specs.Residuals.{linear_coefficient, right_side};
 
 use crate::bound::bound_of;
 use crate::claims::{after_rounds, claims_on, product_of};
+use crate::exchange::{Exchange, Scripted, Witnessed};
 use crate::inputs::inputs_of;
 use lzk_circuit::Circuit;
 use lzk_field::Field;
@@ -19,13 +20,13 @@ use lzk_sumcheck::Script;
 /// What is left of the claims when the pads and the private inputs are `w`: of layer `i`, or of the inputs where `i` is
 /// the number of layers. `room` has 262,144 places, and no memory is taken. It is the plain form beside
 /// `combine_factored`, for tests.
-pub fn residual<F: Field>(
-    circuit: &Circuit<F>,
-    public: &[F],
-    script: &Script<F>,
-    messages: &[F],
+pub fn residual<'a, F: Field>(
+    circuit: &'a Circuit<F>,
+    public: &'a [F],
+    script: &'a Script<F>,
+    messages: &'a [F],
     i: u32,
-    w: &[F],
+    w: &'a [F],
     room: &mut [F],
 ) -> F
     requires public { length public.now ≡ circuit.now.publics }
@@ -43,13 +44,19 @@ pub fn residual<F: Field>(
         (linear_coefficient F.ops F.coding.element circuit.now q public.now script.now messages.now i) }
     ensures room { length room.new ≡ length room.old }
 {
+    let exchange = Exchange {
+        scripted: Scripted { circuit, script },
+        public,
+        messages,
+    };
+    let witnessed = Witnessed { exchange, w };
     if i < circuit.depth() {
-        let claim = after_rounds(circuit, script, messages, w, i);
-        let bound = bound_of(circuit, script, i, room);
-        claim.sub(bound.mul(product_of(circuit, messages, w, i)))
+        let claim = after_rounds(&witnessed, i);
+        let bound = bound_of(&witnessed.exchange.scripted, i, room);
+        claim.sub(bound.mul(product_of(&witnessed, i)))
     } else {
-        let inputs = inputs_of(circuit, public, script, w, room);
-        let (first, second) = claims_on(circuit, messages, w, i);
+        let inputs = inputs_of(&witnessed, room);
+        let (first, second) = claims_on(&witnessed, i);
         inputs.sub(first).sub(script.gamma.mul(second))
     }
 }

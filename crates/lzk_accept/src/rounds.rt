@@ -3,7 +3,6 @@
 ghost use Rattle.std.specs.Prelude.{◌≡◌, ℕ, ◌+◌, ◌*◌, ◌<◌, ◌≤◌, length};
 ghost use Rattle.lzk_field.specs.Sums.{entry, minus, sum_below};
 ghost use Rattle.lzk_sumcheck.specs.Script.{HasBits};
-ghost use Rattle.lzk_accept.specs.Points.{AreInverses};
 ghost use Rattle.lzk_accept.specs.Walks.{through_rounds, challenge_of};
 
 use crate::points::{Shares, ThreePoints};
@@ -52,7 +51,7 @@ fn round_back<F: Field>(
 /// The claim after a layer's rounds, as a form of the claim before and of the pads, whose coefficients are written from
 /// place `at` on.
 pub(crate) fn claim_form<F: Field>(
-    points: ThreePoints<F>,
+    points: &ThreePoints<F>,
     layer: &LayerScript<F>,
     bits: usize,
     messages: &[F],
@@ -60,7 +59,6 @@ pub(crate) fn claim_form<F: Field>(
     own: &mut [F],
     at: usize,
 ) -> Claim<F>
-    requires points { AreInverses F.ops F.coding.element points }
     requires bits { HasBits bits layer.now }
     requires messages { sent + 4 * bits ≤ length messages.now }
     requires room { at + 4 * bits ≤ length own.old }

@@ -5,14 +5,13 @@ ghost use Rattle.lzk_field.specs.Sums.{entry, minus};
 ghost use Rattle.lzk_mle.specs.Multilinear.{eq};
 ghost use Rattle.lzk_circuit.specs.Bits.{bits};
 ghost use Rattle.lzk_layout.specs.Places.{depth, width_at};
-ghost use Rattle.lzk_sumcheck.specs.Script.{point_a, point_b, HasShape};
 ghost use Rattle.lzk_sumcheck.specs.Coefficients.{coefficients, bound_at, AreBounds};
+ghost use Rattle.lzk_accept.specs.Kept.{AreTables, AreTablesAt};
 
 use crate::claims::{first_point, layer_of, second_point};
-use crate::terms::sum_terms;
-use lzk_circuit::Circuit;
+use crate::exchange::Scripted;
+use crate::terms::{Weighed, sum_terms};
 use lzk_field::Field;
-use lzk_sumcheck::Script;
 
 // Moves each of the first `size` entries to twice its place, and puts x times it behind that. It goes from the last one
 // down, so that each is read before it is written over.
@@ -95,33 +94,25 @@ fn set_weights<F: Field>(width: usize, alpha: F, first: &[F], second: &[F], weig
 /// The weighted sum of layer `l`'s coefficients at its challenges. On the way the tables go from the layer's two points
 /// to those of the layer below.
 pub(crate) fn layer_bound<F: Field>(
-    circuit: &Circuit<F>,
-    script: &Script<F>,
+    scripted: &Scripted<'_, F>,
     l: u32,
     first: &mut [F],
     second: &mut [F],
     weights: &mut [F],
 ) -> F
-    requires layer { l < depth circuit.now }
-    requires shape { HasShape circuit.now script.now }
-    requires room { (k : ℕ) → k < depth circuit.now + 1 → 2 ^ bits (width_at circuit.now k) ≤ length weights.old }
-    requires first_room { length first.old ≡ length weights.old }
-    requires second_room { length second.old ≡ length weights.old }
-    requires first { let o = F.ops in
-        (g : ℕ) → g < width_at circuit.now l → entry o first.old g ≡ eq o g (point_a o script.now l) }
-    requires second { let o = F.ops in
-        (g : ℕ) → g < width_at circuit.now l → entry o second.old g ≡ eq o g (point_b o script.now l) }
+    requires layer { l < depth scripted.now.circuit.now }
+    requires tables { AreTables scripted.now.circuit.now first.old second.old weights.old }
+    requires at { AreTablesAt F.ops scripted.now.circuit.now scripted.now.script.now l first.old second.old }
     ensures weights_length { length weights.new ≡ length weights.old }
     ensures first_length { length first.new ≡ length first.old }
     ensures second_length { length second.new ≡ length second.old }
-    ensures first { let o = F.ops in
-        (g : ℕ) → g < width_at circuit.now (l + 1) → entry o first.new g ≡ eq o g (point_a o script.now (l + 1)) }
-    ensures second { let o = F.ops in
-        (g : ℕ) → g < width_at circuit.now (l + 1) → entry o second.new g ≡ eq o g (point_b o script.now (l + 1)) }
-    ensures value { result ≡ bound_at F.ops circuit.now (coefficients F.ops circuit.now script.now) script.now l }
+    ensures at { AreTablesAt F.ops scripted.now.circuit.now scripted.now.script.now (l + 1) first.new second.new }
+    ensures value { let c = scripted.now.circuit.now in let s = scripted.now.script.now in
+        result ≡ bound_at F.ops c (coefficients F.ops c s) s l }
 {
+    let circuit = scripted.circuit;
     circuit.valid_laws();
-    let layer = layer_of(circuit, script, l);
+    let layer = layer_of(scripted, l);
     set_weights(
         circuit.width(l) as usize,
         layer.alpha,
@@ -132,67 +123,62 @@ pub(crate) fn layer_bound<F: Field>(
     let below = circuit.width(l + 1) as usize;
     set_table(layer.ra.as_slice(), below, first);
     set_table(layer.rb.as_slice(), below, second);
-    sum_terms(
-        circuit.layer(l).terms.as_slice(),
-        layer.beta,
+    let weighed = Weighed {
+        terms: circuit.layer(l).terms.as_slice(),
         weights,
         first,
         second,
-    )
+    };
+    sum_terms(&weighed, layer.beta)
 }
 
 /// Sets the bound coefficients of all layers, for which their terms are gone over, and the tables to the inputs' two
 /// points.
 pub(crate) fn set_bounds<F: Field>(
-    circuit: &Circuit<F>,
-    script: &Script<F>,
+    scripted: &Scripted<'_, F>,
     bounds: &mut [F],
     first: &mut [F],
     second: &mut [F],
     weights: &mut [F],
 )
-    requires shape { HasShape circuit.now script.now }
-    requires count { length bounds.old ≡ depth circuit.now }
-    requires room { (k : ℕ) → k < depth circuit.now + 1 → 2 ^ bits (width_at circuit.now k) ≤ length weights.old }
-    requires first_room { length first.old ≡ length weights.old }
-    requires second_room { length second.old ≡ length weights.old }
+    requires count { length bounds.old ≡ depth scripted.now.circuit.now }
+    requires tables { AreTables scripted.now.circuit.now first.old second.old weights.old }
     ensures weights_length { length weights.new ≡ length weights.old }
     ensures first_length { length first.new ≡ length first.old }
     ensures second_length { length second.new ≡ length second.old }
     ensures bounds_length { length bounds.new ≡ length bounds.old }
-    ensures bounds { AreBounds F.ops circuit.now script.now bounds.new }
-    ensures first { let o = F.ops in (g : ℕ) → g < width_at circuit.now (depth circuit.now) →
-        entry o first.new g ≡ eq o g (point_a o script.now (depth circuit.now)) }
-    ensures second { let o = F.ops in (g : ℕ) → g < width_at circuit.now (depth circuit.now) →
-        entry o second.new g ≡ eq o g (point_b o script.now (depth circuit.now)) }
+    ensures bounds { AreBounds F.ops scripted.now.circuit.now scripted.now.script.now bounds.new }
+    ensures at { let c = scripted.now.circuit.now in
+        AreTablesAt F.ops c scripted.now.script.now (depth c) first.new second.new }
 {
+    let circuit = scripted.circuit;
+    let script = scripted.script;
+    let point = script.out_point.as_slice();
     let outputs = circuit.width(0) as usize;
-    set_table(script.out_point.as_slice(), outputs, first);
-    set_table(script.out_point.as_slice(), outputs, second);
+    set_table(point, outputs, first);
+    set_table(point, outputs, second);
     for l in 0..circuit.depth() {
-        bounds[l as usize] = layer_bound(circuit, script, l, first, second, weights);
+        bounds[l as usize] = layer_bound(scripted, l, first, second, weights);
     }
 }
 
 /// Sets the tables to the inputs' two points.
 pub(crate) fn set_input_tables<F: Field>(
-    circuit: &Circuit<F>,
-    script: &Script<F>,
+    scripted: &Scripted<'_, F>,
     first: &mut [F],
     second: &mut [F],
 )
-    requires shape { HasShape circuit.now script.now }
-    requires first_room { 2 ^ bits (width_at circuit.now (depth circuit.now)) ≤ length first.old }
-    requires second_room { 2 ^ bits (width_at circuit.now (depth circuit.now)) ≤ length second.old }
+    requires first_room { 2 ^ bits (width_at scripted.now.circuit.now (depth scripted.now.circuit.now))
+        ≤ length first.old }
+    requires second_room { 2 ^ bits (width_at scripted.now.circuit.now (depth scripted.now.circuit.now))
+        ≤ length second.old }
     ensures first_length { length first.new ≡ length first.old }
     ensures second_length { length second.new ≡ length second.old }
-    ensures first { let o = F.ops in (g : ℕ) → g < width_at circuit.now (depth circuit.now) →
-        entry o first.new g ≡ eq o g (point_a o script.now (depth circuit.now)) }
-    ensures second { let o = F.ops in (g : ℕ) → g < width_at circuit.now (depth circuit.now) →
-        entry o second.new g ≡ eq o g (point_b o script.now (depth circuit.now)) }
+    ensures at { let c = scripted.now.circuit.now in
+        AreTablesAt F.ops c scripted.now.script.now (depth c) first.new second.new }
 {
-    let depth = circuit.depth();
-    let inputs = circuit.width(depth) as usize;
-    set_table(first_point(circuit, script, depth), inputs, first);
-    set_table(second_point(circuit, script, depth), inputs, second);
+    let depth = scripted.circuit.depth();
+    let inputs = scripted.circuit.width(depth) as usize;
+    set_table(first_point(scripted, depth), inputs, first);
+    set_table(second_point(scripted, depth), inputs, second);
 }

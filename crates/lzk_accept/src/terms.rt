@@ -82,21 +82,27 @@ fn with_term<F: Field>(walk: Walk<F>, term: Term<F>, beta: F, first: &[F], secon
     }
 }
 
+/// Terms, with tables of what their three wires count.
+#[derive(Drop)]
+pub(crate) struct Weighed<'c, 't, F: Field> {
+    pub(crate) terms: &'c [Term<F>],
+    pub(crate) weights: &'t [F],
+    pub(crate) first: &'t [F],
+    pub(crate) second: &'t [F],
+    ghost some: { 0 < length weights.now },
+    ghost below: { 0 < length first.now },
+    ghost placed: { (i : ℕ) (t : declared.Term F) → slice_get terms.now i ≡ Some t
+        → (t.g < length weights.now) × (t.a < length first.now) × (t.b < length second.now) },
+}
+
 /// The sum over the terms of each coefficient, or beta for an assertion term, times its wires' entries of the three
 /// tables. As terms ascend by their wires, this takes at most two products a term, and two a wire.
-pub(crate) fn sum_terms<F: Field>(
-    terms: &[Term<F>],
-    beta: F,
-    weights: &[F],
-    first: &[F],
-    second: &[F],
-) -> F
-    requires some { 0 < length weights.now }
-    requires below { 0 < length first.now }
-    requires placed { (i : ℕ) (t : declared.Term F) → slice_get terms.now i ≡ Some t
-        → (t.g < length weights.now) × (t.a < length first.now) × (t.b < length second.now) }
-    ensures { result ≡ sum_list F.ops terms.now (counted F.ops beta weights.now first.now second.now) }
+pub(crate) fn sum_terms<F: Field>(weighed: &Weighed<'_, '_, F>, beta: F) -> F
+    ensures { let w = weighed.now in
+        result ≡ sum_list F.ops w.terms.now (counted F.ops beta w.weights.now w.first.now w.second.now) }
 {
+    let terms = weighed.terms;
+    let (weights, first, second) = (weighed.weights, weighed.first, weighed.second);
     let base = first[0];
     let mut walk = Walk {
         total: F::zero(),

@@ -14,33 +14,33 @@ use Rattle.lzk_accept.proofs.BoundLaws.{bound_sum, below_powers}
 use Rattle.lzk_accept.proofs.ShapeLaws.{few_bits, wires_is, terms_is}
 use Rattle.lzk_accept.proofs.bound.bound_of.Goals as goal
 
-pub sum_at-requires-clause-few : goal.sum_at-requires-clause-few
-sum_at-requires-clause-few g c κs within = omega (arith, c.first_point-first.ensures.length, few_bits g.F.Field.ops c.args.circuit.now c.args.l c.valid_laws.ensures)
+pub invariant_of-points-clause-few : goal.invariant_of-points-clause-few
+invariant_of-points-clause-few g c = omega (arith, c.first_point.ensures.length, few_bits g.F.Field.ops c.args.scripted.now.circuit.now c.args.l c.valid_laws.ensures)
 
 pub sum_at-requires-clause-few_below : goal.sum_at-requires-clause-few_below
 sum_at-requires-clause-few_below g c κs within =
-    omega (arith, ap length c.as_slice-ra.ensures, c.layer_of-layer.ensures.bits.ra, few_bits g.F.Field.ops c.args.circuit.now (c.args.l + 1) c.valid_laws.ensures)
+    omega (arith, ap length c.as_slice-ra.ensures, c.layer_of-layer.ensures.bits.ra, few_bits g.F.Field.ops c.args.scripted.now.circuit.now (c.args.l + 1) c.valid_laws.ensures)
 
-pub sum_at-requires-clause-points : goal.sum_at-requires-clause-points
-sum_at-requires-clause-points g c κs within = c.second_point-second.ensures.length ∙ sym c.first_point-first.ensures.length
+pub invariant_of-points-clause-same : goal.invariant_of-points-clause-same
+invariant_of-points-clause-same g c = c.second_point.ensures.length ∙ sym c.first_point.ensures.length
 
 pub sum_at-requires-clause-terms : goal.sum_at-requires-clause-terms
 sum_at-requires-clause-terms g c κs within =
     let o = g.F.Field.ops in
-    let w = c.args.circuit.now in
+    let w = c.args.scripted.now.circuit.now in
     let l = c.args.l in
     let layer = c.layer.result.now in
     let at = get_or_from_slice_get w.layers l layer layer c.layer.ensures in
     let distinct = subst (λ x. AreDistinct o x.wires (width_at w (l + 1)) x.terms) at (terms-distinct o w l layer (slice_get_within w.layers l layer c.layer.ensures) c.valid_laws.ensures) in
-    below_powers o layer.wires (width_at w (l + 1)) (length c.first_point-first.result.now) (length c.as_slice-ra.result.now) c.as_slice-terms.result.now
+    below_powers o layer.wires (width_at w (l + 1)) (length c.first_point.result.now) (length c.as_slice-ra.result.now) c.as_slice-terms.result.now
     (subst (λ ts. AreDistinct o layer.wires (width_at w (l + 1)) ts) (sym c.as_slice-terms.ensures) distinct)
-    (c.first_point-first.ensures.length ∙ ap bits (sym (wires_is w l layer c.layer.ensures))) (ap length c.as_slice-ra.ensures ∙ c.layer_of-layer.ensures.bits.ra)
+    (c.first_point.ensures.length ∙ ap bits (sym (wires_is w l layer c.layer.ensures))) (ap length c.as_slice-ra.ensures ∙ c.layer_of-layer.ensures.bits.ra)
 
 pub returns-clause-value : goal.returns-clause-value
 returns-clause-value g c =
     let o = g.F.Field.ops in
-    let w = c.args.circuit.now in
-    let s = c.args.script.now in
+    let w = c.args.scripted.now.circuit.now in
+    let s = c.args.scripted.now.script.now in
     let l = c.args.l in
     let layer = c.layer.result.now in
     let L = layer_at o s l in
@@ -51,14 +51,14 @@ returns-clause-value g c =
     let placed = subst (λ k. ArePlaced k (width_at w (l + 1)) None layer.terms) (wires_is w l layer c.layer.ensures) own in
     let ra = c.as_slice-ra.result.now in
     let rb = c.as_slice-rb.result.now in
-    let first = c.first_point-first.result.now in
-    let second = c.second_point-second.result.now in
+    let first = c.first_point.result.now in
+    let second = c.second_point.result.now in
     let beta = c.layer_of-layer.result.now.beta in
     c.sum_at.ensures.value
     ∙ ap (λ x. sum_list o ts (counts_at o x beta first second ra rb)) (ap (λ x. x.alpha) draws)
     ∙ ap (λ x. sum_list o ts (counts_at o L.alpha x first second ra rb)) (ap (λ x. x.beta) draws)
-    ∙ ap (λ x. sum_list o ts (counts_at o L.alpha L.beta x second ra rb)) c.first_point-first.ensures.point
-    ∙ ap (λ x. sum_list o ts (counts_at o L.alpha L.beta (point_a o s l) x ra rb)) c.second_point-second.ensures.point
+    ∙ ap (λ x. sum_list o ts (counts_at o L.alpha L.beta x second ra rb)) c.first_point.ensures.point
+    ∙ ap (λ x. sum_list o ts (counts_at o L.alpha L.beta (point_a o s l) x ra rb)) c.second_point.ensures.point
     ∙ ap (λ x. sum_list o ts (counts_at o L.alpha L.beta (point_a o s l) (point_b o s l) x rb)) (c.as_slice-ra.ensures ∙ ap (λ x. x.ra) draws)
     ∙ ap (λ x. sum_list o ts (counts_at o L.alpha L.beta (point_a o s l) (point_b o s l) L.ra x)) (c.as_slice-rb.ensures ∙ ap (λ x. x.rb) draws)
     ∙ bound_sum o g.F.Field.laws.ring w s l ts (c.as_slice-terms.ensures ∙ terms_is w l layer c.layer.ensures)

@@ -7,4 +7,4 @@ use Rattle.lzk_accept.proofs.claims.layer_of.Goals as goal
 pub returns-clause-bits : goal.returns-clause-bits
 returns-clause-bits g c =
     let a = c.args in
-    subst (HasBits (bits_under a.circuit.now a.l)) (sym c.nth_layer.ensures) (layer_shape g.F.Field.ops a.circuit.now a.script.now c.requires.shape a.l c.requires.layer)
+    subst (HasBits (bits_under a.scripted.now.circuit.now a.l)) (sym c.nth_layer.ensures) (layer_shape g.F.Field.ops a.scripted.now.circuit.now a.scripted.now.script.now c.args.scripted.now.shape a.l c.requires.layer)

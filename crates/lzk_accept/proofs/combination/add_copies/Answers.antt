@@ -29,12 +29,12 @@ add_copy-requires-clause-within g c κs within =
 pub loop-m-preserved : goal.loop-m-preserved
 loop-m-preserved g c i s h =
     let o = g.F.Field.ops in
-    let p = c.args.params.now in
+    let p = c.args.others.now.params.now in
     let m = c.loop-m.m in
     let mu = c.args.mu.now in
     let forms = c.args.forms.now in
     let k = i * p.wr + s in
-    let at = is_place (3 + (c.args.rows + i)) s in
+    let at = is_place (3 + (c.args.others.now.rows + i)) s in
     let here = at (copy_place_of p m) in
     let there = at (place_of p (source_in o forms m)) in
     let copies = sum_where o m (λ m. at (copy_place_of p m)) (entry o mu) in
@@ -53,10 +53,10 @@ loop-m-preserved g c i s h =
 pub returns : goal.returns
 returns g c i s h =
     let o = g.F.Field.ops in
-    let p = c.args.params.now in
+    let p = c.args.others.now.params.now in
     let mu = c.args.mu.now in
     let forms = c.args.forms.now in
     let all : c.loop-m.m ≡ 3 * p.layers = omega arith in
     c.loop-m.invariant i s h
-    ∙ ap (λ n. minus o (o.plus (entry o c.args.table.now (i * p.wr + s)) (sum_where o n (λ m. is_place (3 + (c.args.rows + i)) s (copy_place_of p m)) (entry o mu)))
-    (sum_where o n (λ m. is_place (3 + (c.args.rows + i)) s (place_of p (source_in o forms m))) (entry o mu))) all
+    ∙ ap (λ n. minus o (o.plus (entry o c.args.table.now (i * p.wr + s)) (sum_where o n (λ m. is_place (3 + (c.args.others.now.rows + i)) s (copy_place_of p m)) (entry o mu)))
+    (sum_where o n (λ m. is_place (3 + (c.args.others.now.rows + i)) s (place_of p (source_in o forms m))) (entry o mu))) all

@@ -9,8 +9,8 @@ use Rattle.lzk_accept.specs.Kept.{LinearForms, coefficient_in, form_at, source_i
 use Rattle.lzk_accept.proofs.CombinationLaws.{form_within, form_behind, source_end, list_fits_behind, rows_within, combined_is, wanted_is}
 use Rattle.lzk_accept.proofs.combination.combine_from.Goals as goal
 
-pub sum_forms-wanted-requires-clause-within : goal.sum_forms-wanted-requires-clause-within
-sum_forms-wanted-requires-clause-within g c κs within i h =
+pub invariant_of-kept-clause-within : goal.invariant_of-kept-clause-within
+invariant_of-kept-clause-within g c i h =
     let o = g.F.Field.ops in
     let f = c.args.forms.now in
     let w = c.requires.forms.circuit in
@@ -22,8 +22,8 @@ sum_forms-wanted-requires-clause-within g c κs within i h =
     let here = form_within o w f some are i (omega (arith, h, ap length forms, are.count)) in
     subst (λ n. IsWithin n (form_at o c.deref.result.now i)) size (subst (λ fs. IsWithin (committed_count w) (form_at o fs i)) (sym forms) here)
 
-pub sum_forms-wanted-requires-clause-behind : goal.sum_forms-wanted-requires-clause-behind
-sum_forms-wanted-requires-clause-behind g c κs within i h =
+pub invariant_of-kept-clause-behind : goal.invariant_of-kept-clause-behind
+invariant_of-kept-clause-behind g c i h =
     let o = g.F.Field.ops in
     let f = c.args.forms.now in
     let w = c.requires.forms.circuit in
@@ -42,8 +42,8 @@ sum_forms-wanted-requires-clause-room g c κs within =
     let nw = ap (λ (p : Params). p.nw) c.requires.forms.params in
     omega (arith, ap length own, c.requires.forms.forms.own, nw, list_fits_behind p c.args.rows c.requires.bounded, c.requires.room)
 
-pub add_copies-requires-clause-rows : goal.add_copies-requires-clause-rows
-add_copies-requires-clause-rows g c κs within =
+pub invariant_of-others-clause-few : goal.invariant_of-others-clause-few
+invariant_of-others-clause-few g c =
     let p = c.args.params.now in
     let w = c.requires.forms.circuit in
     let few = c.requires.rows w c.requires.forms.params c.requires.forms.forms in

@@ -16,7 +16,7 @@ use Rattle.lzk_accept.proofs.factored.fill.Goals as goal
 pub combine_from-wanted-requires-clause-rows : goal.combine_from-wanted-requires-clause-rows
 combine_from-wanted-requires-clause-rows g c κs within d e are =
     let o = g.F.Field.ops in
-    let w = c.args.circuit.now in
+    let w = c.args.scripted.now.circuit.now in
     let wr : c.of-params.result.wr ≡ (params_of w).wr = ap (λ (q : Params). q.wr) c.of-params.ensures.params in
     let product : c.args.factored.now.rows * c.of-params.result.wr ≡ c.args.factored.now.rows * (params_of w).wr = ap (λ n. c.args.factored.now.rows * n) wr in
     let count : c.args.factored.now.rows * (params_of w).wr ≡ w.privates / (params_of w).wr * (params_of w).wr = ap (λ n. n * (params_of w).wr) c.requires.room.rows in
@@ -25,7 +25,7 @@ combine_from-wanted-requires-clause-rows g c κs within d e are =
 
 pub set_private_factors-requires-clause-filled : goal.set_private_factors-requires-clause-filled
 set_private_factors-requires-clause-filled g c κs within =
-    let w = c.args.circuit.now in
+    let w = c.args.scripted.now.circuit.now in
     let wr : c.of-params.result.wr ≡ (params_of w).wr = ap (λ (q : Params). q.wr) c.of-params.ensures.params in
     let power : 2 ^ c.bits_of-bits.result ≡ (params_of w).wr = ap (λ n. 2 ^ n) (c.bits_of-bits.ensures.bits ∙ ap bits wr) ∙ width_power (committed_count w) in
     let product : c.args.factored.now.rows * 2 ^ c.bits_of-bits.result ≡ c.args.factored.now.rows * (params_of w).wr = ap (λ n. c.args.factored.now.rows * n) power in
@@ -34,7 +34,7 @@ set_private_factors-requires-clause-filled g c κs within =
 
 pub set_private_factors-requires-clause-place_factors : goal.set_private_factors-requires-clause-place_factors
 set_private_factors-requires-clause-place_factors g c κs within =
-    let w = c.args.circuit.now in
+    let w = c.args.scripted.now.circuit.now in
     let wr : c.of-params.result.wr ≡ (params_of w).wr = ap (λ (q : Params). q.wr) c.of-params.ensures.params in
     let power : 2 ^ c.bits_of-bits.result ≡ (params_of w).wr = ap (λ n. 2 ^ n) (c.bits_of-bits.ensures.bits ∙ ap bits wr) ∙ width_power (committed_count w) in
     ap length c.as_mut_slice-3.ensures.value ∙ c.requires.room.place_factors ∙ ap (λ n. 4 * n) (sym power)
@@ -43,10 +43,10 @@ pub returns-clause-combined : goal.returns-clause-combined
 returns-clause-combined g c public messages rest =
     let f = g.F.Field in
     let o = f.ops in
-    let w = c.args.circuit.now in
+    let w = c.args.scripted.now.circuit.now in
     let p = params_of w in
     let rows = c.args.factored.now.rows in
-    let script = c.args.script.now in
+    let script = c.args.scripted.now.script.now in
     let ch = c.args.challenges.now in
     let q = linear_coefficient o f.coding.element w (coefficients o w script) public script messages in
     let params = c.of-params.ensures.params in
@@ -85,8 +85,8 @@ pub returns-clause-wanted : goal.returns-clause-wanted
 returns-clause-wanted g c public messages rest =
     let f = g.F.Field in
     let o = f.ops in
-    let w = c.args.circuit.now in
-    let script = c.args.script.now in
+    let w = c.args.scripted.now.circuit.now in
+    let script = c.args.scripted.now.script.now in
     let q = coefficients o w script in
     c.combine_from-wanted.ensures.wanted w c.of-params.ensures.params c.requires.forms
     ∙ same_wanted o f.laws.ring w c.args.challenges.now (right o c.args.forms.now) (right_side o f.coding.element w q public script messages) rest.rights

@@ -8,37 +8,37 @@ use Rattle.lzk_accept.proofs.ShapeLaws.{input_bits}
 use Rattle.lzk_accept.proofs.FactorLaws.{bits_within}
 use Rattle.lzk_accept.proofs.factored.set_private_factors.Goals as goal
 
-pub set_both_factors-requires-clause-few : goal.set_both_factors-requires-clause-few
-set_both_factors-requires-clause-few g c κs within =
+pub invariant_of-taken-clause-few : goal.invariant_of-taken-clause-few
+invariant_of-taken-clause-few g c =
     let d = c.depth-depth in
     let n = length c.first_point.result.now in
-    let few = input_bits g.F.Field.ops c.args.circuit.now d.result n d.ensures.valid d.ensures.depth c.first_point.ensures.length in
+    let few = input_bits g.F.Field.ops c.args.scripted.now.circuit.now d.result n d.ensures.valid d.ensures.depth c.first_point.ensures.length in
     few.few
 
-pub set_both_factors-requires-clause-bits : goal.set_both_factors-requires-clause-bits
-set_both_factors-requires-clause-bits g c κs within =
+pub invariant_of-taken-clause-within : goal.invariant_of-taken-clause-within
+invariant_of-taken-clause-within g c =
     let d = c.depth-depth in
     let n = length c.first_point.result.now in
-    let few = input_bits g.F.Field.ops c.args.circuit.now d.result n d.ensures.valid d.ensures.depth c.first_point.ensures.length in
-    bits_within c.args.bits n c.args.rows c.args.circuit.now.privates (omega (arith, c.if-rows-eq0.false)) c.requires.filled (omega (arith, few.enough))
+    let few = input_bits g.F.Field.ops c.args.scripted.now.circuit.now d.result n d.ensures.valid d.ensures.depth c.first_point.ensures.length in
+    bits_within c.args.bits n c.args.rows c.args.scripted.now.circuit.now.privates (omega (arith, c.if-rows-eq0.false)) c.requires.filled (omega (arith, few.enough))
 
-pub set_both_factors-requires-clause-numbers : goal.set_both_factors-requires-clause-numbers
-set_both_factors-requires-clause-numbers g c κs within =
+pub invariant_of-taken-clause-numbers : goal.invariant_of-taken-clause-numbers
+invariant_of-taken-clause-numbers g c =
     let d = c.depth-depth in
     let n = length c.first_point.result.now in
-    let few = input_bits g.F.Field.ops c.args.circuit.now d.result n d.ensures.valid d.ensures.depth c.first_point.ensures.length in
+    let few = input_bits g.F.Field.ops c.args.scripted.now.circuit.now d.result n d.ensures.valid d.ensures.depth c.first_point.ensures.length in
     omega (arith, few.enough, c.requires.filled, c.publics.ensures)
 
 pub set_both_factors-requires-clause-low : goal.set_both_factors-requires-clause-low
 set_both_factors-requires-clause-low g c κs within =
-    let w = c.args.circuit.now in
+    let w = c.args.scripted.now.circuit.now in
     let room : length c.forms.inside.weights.items ≡ c.args.forms.now.room = ap (λ (x : LinearForms g.row.F.Denot). x.room) c.forms.view_is in
     let power : 2 ^ length c.first_point.result.now ≡ 2 ^ bits (width_at w (depth w)) = ap (λ n. 2 ^ n) (c.first_point.ensures.length ∙ ap (λ l. bits (width_at w l)) c.depth-depth.ensures.depth) in
     omega (arith, power, c.requires.made.room (depth w) (omega arith), room, c.forms.invariant.0, ap length c.deref_mut.ensures.value)
 
 pub set_both_factors-requires-clause-high : goal.set_both_factors-requires-clause-high
 set_both_factors-requires-clause-high g c κs within =
-    let w = c.args.circuit.now in
+    let w = c.args.scripted.now.circuit.now in
     let room : length c.forms.inside.weights.items ≡ c.args.forms.now.room = ap (λ (x : LinearForms g.row.F.Denot). x.room) c.forms.view_is in
     let power : 2 ^ length c.first_point.result.now ≡ 2 ^ bits (width_at w (depth w)) = ap (λ n. 2 ^ n) (c.first_point.ensures.length ∙ ap (λ l. bits (width_at w l)) c.depth-depth.ensures.depth) in
     omega (arith, power, c.requires.made.room (depth w) (omega arith), room, c.forms.invariant.1, ap length c.deref_mut-2.ensures.value)
@@ -46,8 +46,8 @@ set_both_factors-requires-clause-high g c κs within =
 pub returns-clause-products : goal.returns-clause-products
 returns-clause-products g c i s hi hs =
     let o = g.F.Field.ops in
-    let w = c.args.circuit.now in
-    let script = c.args.script.now in
+    let w = c.args.scripted.now.circuit.now in
+    let script = c.args.scripted.now.script.now in
     let by = c.args.by in
     let n = i * 2 ^ c.args.bits + s in
     let ra : c.first_point.result.now ≡ point_a o script (depth w) = c.first_point.ensures.point ∙ ap (point_a o script) c.depth-depth.ensures.depth in

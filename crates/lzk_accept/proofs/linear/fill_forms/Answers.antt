@@ -10,16 +10,10 @@ use Rattle.lzk_accept.proofs.ShapeLaws.{width_last}
 use Rattle.lzk_accept.proofs.WholeLaws.{whole_of, whole_is, whole_last, rest_is}
 use Rattle.lzk_accept.proofs.linear.fill_forms.Goals as goal
 
-pub last_form-last-requires-clause-first : goal.last_form-last-requires-clause-first
-last_form-last-requires-clause-first g c κs within = omega (arith, width_last c.args.circuit.now, c.requires.first_room)
-
-pub last_form-last-requires-clause-second : goal.last_form-last-requires-clause-second
-last_form-last-requires-clause-second g c κs within = omega (arith, width_last c.args.circuit.now, c.requires.second_room)
-
 pub last_form-last-requires-clause-form : goal.last_form-last-requires-clause-form
 last_form-last-requires-clause-form g c κs within =
     let o = g.F.Field.ops in
-    let w = c.args.circuit.now in
+    let w = c.args.prepared.now.exchange.scripted.circuit.now in
     subst (IsPlacedAt w (depth w)) (sym (c.form_of-old.ensures ∙ ap (form_at o c.fill_layers-above.new.forms) c.depth-depth.ensures.depth)) (c.fill_layers-above.ensures.placed (depth w) (omega arith))
 
 pub last_form-last-requires-clause-own : goal.last_form-last-requires-clause-own
@@ -28,7 +22,7 @@ last_form-last-requires-clause-own g c κs within = omega (arith, c.fill_layers-
 pub returns-clause-placed : goal.returns-clause-placed
 returns-clause-placed g c i k =
     let o = g.F.Field.ops in
-    let w = c.args.circuit.now in
+    let w = c.args.prepared.now.exchange.scripted.circuit.now in
     let forms = c.fill_layers-above.new.forms in
     let form = c.last_form-last.result in
     let inside : depth w < length forms = omega (arith, c.fill_layers-above.ensures.forms_length, c.requires.count) in
@@ -39,31 +33,31 @@ pub returns-clause-rest : goal.returns-clause-rest
 returns-clause-rest g c =
     let f = g.F.Field in
     let o = f.ops in
-    let w = c.args.circuit.now in
-    let s = c.args.script.now in
-    let ms = c.args.messages.now in
-    let public = c.args.public.now in
+    let w = c.args.prepared.now.exchange.scripted.circuit.now in
+    let s = c.args.prepared.now.exchange.scripted.script.now in
+    let ms = c.args.prepared.now.exchange.messages.now in
+    let public = c.args.prepared.now.exchange.public.now in
     let q = coefficients o w s in
     let layers = c.fill_layers-above in
     let forms = layers.new.forms in
     let form = c.last_form-last.result in
     let own = c.last_form-last.new.own in
-    let skip = c.args.skip in
-    let first = c.args.first.now in
-    let second = c.args.second.now in
+    let skip = c.args.prepared.now.skip in
+    let first = c.args.prepared.now.first.now in
+    let second = c.args.prepared.now.second.now in
     let whole = whole_of o w s skip own in
-    let is = whole_is o w s skip own (omega (arith, c.requires.skip)) in
+    let is = whole_is o w s skip own (omega (arith, c.args.prepared.now.few)) in
     let inside : depth w < length forms = omega (arith, layers.ensures.forms_length, c.requires.count) in
     let put = c.set_form.ensures ∙ ap (λ n. slice_set forms n form) c.depth-depth.ensures.depth in
     let at = c.last_form-last.ensures.placed in
     let wide = width_last w in
-    rest_is o f.laws.ring f.coding.element w public s ms skip c.set_form.new.forms own c.requires.skip (returns-clause-placed g c)
+    rest_is o f.laws.ring f.coding.element w public s ms skip c.set_form.new.forms own c.args.prepared.now.few (returns-clause-placed g c)
     (λ i k. subst (λ fs. IsConstraint o f.coding.element w q public s ms i whole (form_at o fs i)) (sym put)
     (constraints_more o f.laws.ring f.coding.element w q public s ms (depth w) layers.new.own whole forms form inside (omega arith) (λ i m. layers.ensures.placed i (omega arith))
-    (λ i m j a b. is.after j (omega (arith, start_after w i m, c.requires.skip)) (omega (arith, end_is w i m, pads_within w i m)) ∙ c.last_form-last.ensures.after j (omega (arith, start_after w i m)))
-    (last_is o f.laws.ring f.coding.element w q public s ms layers.result first second whole form c.depth-depth.ensures.valid.some c.requires.public layers.ensures.above_a layers.ensures.above_b
-    (λ j b. c.requires.first j (omega (arith, wide))) (λ j b. c.requires.second j (omega (arith, wide)))
+    (λ i m j a b. is.after j (omega (arith, start_after w i m, c.args.prepared.now.few)) (omega (arith, end_is w i m, pads_within w i m)) ∙ c.last_form-last.ensures.after j (omega (arith, start_after w i m)))
+    (last_is o f.laws.ring f.coding.element w q public s ms layers.result first second whole form c.depth-depth.ensures.valid.some c.args.prepared.now.exchange.publics layers.ensures.above_a layers.ensures.above_b
+    (λ j b. c.args.prepared.now.at.first j (omega (arith, wide))) (λ j b. c.args.prepared.now.at.second j (omega (arith, wide)))
     (at.start ∙ last_start w (depth w) (omega arith)) (at.end ∙ last_end w (depth w) (omega arith)) at.above
     (whole_last o w s public layers.result first second skip own whole form is
-    (λ j b. c.requires.first j (omega (arith, wide))) (λ j b. c.requires.second j (omega (arith, wide))) c.last_form-last.ensures.form))
+    (λ j b. c.args.prepared.now.at.first j (omega (arith, wide))) (λ j b. c.args.prepared.now.at.second j (omega (arith, wide))) c.last_form-last.ensures.form))
     (layers.ensures.constraints public) i k))

@@ -12,7 +12,7 @@ use Rattle.lzk_accept.proofs.linear.fill_layers.Goals as goal
 pub loop-l-init : goal.loop-l-init
 loop-l-init g c =
     let o = g.F.Field.ops in
-    let w = c.args.circuit.now in
+    let w = c.args.prepared.now.exchange.scripted.circuit.now in
     record {
       forms_length = refl;
       own_length = refl;
@@ -24,15 +24,15 @@ loop-l-init g c =
       constraints = λ public i h. absurd (omega (arith, h));
     }
 
-pub layer_form-form-requires-clause-bound : goal.layer_form-form-requires-clause-bound
-layer_form-form-requires-clause-bound g c κs within =
+pub invariant_of-turn-clause-bounded : goal.invariant_of-turn-clause-bounded
+invariant_of-turn-clause-bounded g c =
     let l = c.loop-l.l in
-    let h : l < depth c.args.circuit.now = omega (arith, c.depth-depth.ensures.depth, c.loop-l-test.true, c.loop-l.auto.l-end) in
-    c.entry_at-bound.ensures ∙ c.requires.bounds.each l h
+    let h : l < depth c.args.prepared.now.exchange.scripted.circuit.now = omega (arith, c.depth-depth.ensures.depth, c.loop-l-test.true, c.loop-l.auto.l-end) in
+    c.entry_at-bound.ensures ∙ c.args.prepared.now.are.each l h
 
 pub layer_form-form-requires-clause-form : goal.layer_form-form-requires-clause-form
 layer_form-form-requires-clause-form g c κs within =
-    let w = c.args.circuit.now in
+    let w = c.args.prepared.now.exchange.scripted.circuit.now in
     let l = c.loop-l.l in
     let h : l < depth w = omega (arith, c.depth-depth.ensures.depth, c.loop-l-test.true, c.loop-l.auto.l-end) in
     subst (IsPlacedAt w l) (sym c.form_of-old.ensures) (c.loop-l.invariant.placed l (omega arith))
@@ -41,9 +41,9 @@ pub loop-l-preserved : goal.loop-l-preserved
 loop-l-preserved g c =
     let f = g.F.Field in
     let o = f.ops in
-    let w = c.args.circuit.now in
-    let s = c.args.script.now in
-    let ms = c.args.messages.now in
+    let w = c.args.prepared.now.exchange.scripted.circuit.now in
+    let s = c.args.prepared.now.exchange.scripted.script.now in
+    let ms = c.args.prepared.now.exchange.messages.now in
     let q = coefficients o w s in
     let l = c.loop-l.l in
     let h : l < depth w = omega (arith, c.depth-depth.ensures.depth, c.loop-l-test.true, c.loop-l.auto.l-end) in

@@ -16,34 +16,34 @@ use Rattle.lzk_accept.proofs.linear.layer_form.Goals as goal
 pub claim_form-claim-requires-clause-bits : goal.claim_form-claim-requires-clause-bits
 claim_form-claim-requires-clause-bits g c κs within =
     let o = g.F.Field.ops in
-    let w = c.args.circuit.now in
-    let bits : bits_under w c.args.l ≡ c.args.places.bits = sym (ap (λ (p : LayerPlaces). p.bits) c.requires.places) in
-    subst (λ k. HasBits k c.layer_of-layer.result.now) bits (subst (HasBits (bits_under w c.args.l)) (sym c.layer_of-layer.ensures.layer) (layer_shape o w c.args.script.now c.requires.shape c.args.l c.requires.layer))
+    let w = c.args.turn.now.exchange.now.scripted.circuit.now in
+    let bits : bits_under w c.args.turn.now.l ≡ c.args.turn.now.places.bits = sym (ap (λ (p : LayerPlaces). p.bits) c.args.turn.now.placed) in
+    subst (λ k. HasBits k c.layer_of-layer.result.now) bits (subst (HasBits (bits_under w c.args.turn.now.l)) (sym c.layer_of-layer.ensures.layer) (layer_shape o w c.args.turn.now.exchange.now.scripted.script.now c.args.turn.now.exchange.now.scripted.shape c.args.turn.now.l c.args.turn.now.inside))
 
 pub returns-clause-after : goal.returns-clause-after
 returns-clause-after g c j h =
-    let w = c.args.circuit.now in
-    let next = pads_next w c.args.l c.requires.layer in
-    let pads : c.args.places.pads ≡ pads_at w c.args.l = ap (λ (p : LayerPlaces). p.pads) c.requires.places in
-    let factors : c.args.places.factors ≡ factors_at w c.args.l = ap (λ (p : LayerPlaces). p.factors) c.requires.places in
-    let bits : c.args.places.bits ≡ bits_under w c.args.l = ap (λ (p : LayerPlaces). p.bits) c.requires.places in
+    let w = c.args.turn.now.exchange.now.scripted.circuit.now in
+    let next = pads_next w c.args.turn.now.l c.args.turn.now.inside in
+    let pads : c.args.turn.now.places.pads ≡ pads_at w c.args.turn.now.l = ap (λ (p : LayerPlaces). p.pads) c.args.turn.now.placed in
+    let factors : c.args.turn.now.places.factors ≡ factors_at w c.args.turn.now.l = ap (λ (p : LayerPlaces). p.factors) c.args.turn.now.placed in
+    let bits : c.args.turn.now.places.bits ≡ bits_under w c.args.turn.now.l = ap (λ (p : LayerPlaces). p.bits) c.args.turn.now.placed in
     c.set_factors.ensures.after j (omega (arith, next)) ∙ c.claim_form-claim.ensures.after j (omega (arith, next))
 
 pub returns-clause-constraint : goal.returns-clause-constraint
 returns-clause-constraint g c public =
     let f = g.F.Field in
     let o = f.ops in
-    let w = c.args.circuit.now in
-    let s = c.args.script.now in
-    let ms = c.args.messages.now in
-    let l = c.args.l in
+    let w = c.args.turn.now.exchange.now.scripted.circuit.now in
+    let s = c.args.turn.now.exchange.now.scripted.script.now in
+    let ms = c.args.turn.now.exchange.now.messages.now in
+    let l = c.args.turn.now.l in
     let q = coefficients o w s in
-    let places = c.args.places in
-    let pads : places.pads ≡ pads_at w l = ap (λ (p : LayerPlaces). p.pads) c.requires.places in
-    let factors : places.factors ≡ factors_at w l = ap (λ (p : LayerPlaces). p.factors) c.requires.places in
-    let bits : places.bits ≡ bits_under w l = ap (λ (p : LayerPlaces). p.bits) c.requires.places in
-    let sent : places.messages ≡ sent_at w l = ap (λ (p : LayerPlaces). p.messages) c.requires.places in
-    let factors_sent : places.factors_sent ≡ factors_sent_at w l = ap (λ (p : LayerPlaces). p.factors_sent) c.requires.places in
+    let places = c.args.turn.now.places in
+    let pads : places.pads ≡ pads_at w l = ap (λ (p : LayerPlaces). p.pads) c.args.turn.now.placed in
+    let factors : places.factors ≡ factors_at w l = ap (λ (p : LayerPlaces). p.factors) c.args.turn.now.placed in
+    let bits : places.bits ≡ bits_under w l = ap (λ (p : LayerPlaces). p.bits) c.args.turn.now.placed in
+    let sent : places.messages ≡ sent_at w l = ap (λ (p : LayerPlaces). p.messages) c.args.turn.now.placed in
+    let factors_sent : places.factors_sent ≡ factors_sent_at w l = ap (λ (p : LayerPlaces). p.factors_sent) c.args.turn.now.placed in
     let layer = c.layer_of-layer.result.now in
     let il : layer ≡ layer_at o s l = c.layer_of-layer.ensures.layer in
     let claim = c.claim_form-claim.result in
@@ -54,10 +54,10 @@ returns-clause-constraint g c public =
     let alpha : layer.alpha ≡ (layer_at o s l).alpha = ap (λ x. x.alpha) il in
     let four : 4 * places.bits ≡ 2 * round_count w l = omega arith in
     let two : 2 * places.bits ≡ round_count w l = omega arith in
-    layer_is o f.laws.ring f.coding.element w q public s ms l claim c.args.bound own _ c.requires.layer c.requires.bound
+    layer_is o f.laws.ring f.coding.element w q public s ms l claim c.args.turn.now.bound own _ c.args.turn.now.inside c.args.turn.now.bounded
     (record {
-      start = c.requires.form.start ∙ start_is w l c.requires.layer;
-      end = c.requires.form.end ∙ end_is w l c.requires.layer;
+      start = c.requires.form.start ∙ start_is w l c.args.turn.now.inside;
+      end = c.requires.form.end ∙ end_is w l c.args.turn.now.inside;
       above = c.requires.form.above;
       rounds = λ pad x.
           ap (λ y. through_rounds o f.coding.element (challenge_of o y) (λ k. entry o ms (sent_at w l + k)) pad x (round_count w l)) (sym il)
@@ -69,15 +69,15 @@ returns-clause-constraint g c public =
           ∙ ap (o.plus (o.plus claim.constant (o.times claim.weight x)))
           (sum-ext o f.laws.ring (2 * round_count w l) (λ k. o.times (entry o mid (pads_at w l + k)) (pad k)) (λ k. o.times (entry o own (pads_at w l + k)) (pad k))
           (λ k h. ap (λ y. o.times y (pad k)) (sym (c.set_factors.ensures.before (pads_at w l + k) (omega arith)))));
-      d0 = ap (entry o own) (sym factors) ∙ c.set_factors.ensures.d0 ∙ ap (λ x. o.neg (o.times c.args.bound x)) s1;
-      d1 = ap (λ k. entry o own (k + 1)) (sym factors) ∙ c.set_factors.ensures.d1 ∙ ap (λ x. o.neg (o.times c.args.bound x)) s0;
+      d0 = ap (entry o own) (sym factors) ∙ c.set_factors.ensures.d0 ∙ ap (λ x. o.neg (o.times c.args.turn.now.bound x)) s1;
+      d1 = ap (λ k. entry o own (k + 1)) (sym factors) ∙ c.set_factors.ensures.d1 ∙ ap (λ x. o.neg (o.times c.args.turn.now.bound x)) s0;
       e = ap (λ k. entry o own (k + 2)) (sym factors) ∙ c.set_factors.ensures.e;
       first = c.below_top_of-first.ensures;
       second = c.mul.ensures ∙ ap (o.times c.below_top_of-first.result) alpha;
       right = c.neg.ensures ∙ ap o.neg (c.constant_of.ensures
-          ∙ ap (λ x. minus o (o.plus claim.constant (o.times claim.weight (o.plus x (o.times layer.alpha c.args.above.second)))) (o.times c.args.bound (o.times c.factors_from-factors.result.first c.factors_from-factors.result.second))) c.requires.first
-          ∙ ap (λ x. minus o (o.plus claim.constant (o.times claim.weight (o.plus (above_a o w ms l) (o.times layer.alpha x)))) (o.times c.args.bound (o.times c.factors_from-factors.result.first c.factors_from-factors.result.second))) c.requires.second
-          ∙ ap (λ x. minus o (o.plus claim.constant (o.times claim.weight (o.plus (above_a o w ms l) (o.times x (above_b o w ms l))))) (o.times c.args.bound (o.times c.factors_from-factors.result.first c.factors_from-factors.result.second))) alpha
-          ∙ ap (λ x. minus o (o.plus claim.constant (o.times claim.weight (o.plus (above_a o w ms l) (o.times (layer_at o s l).alpha (above_b o w ms l))))) (o.times c.args.bound (o.times x c.factors_from-factors.result.second))) s0
-          ∙ ap (λ x. minus o (o.plus claim.constant (o.times claim.weight (o.plus (above_a o w ms l) (o.times (layer_at o s l).alpha (above_b o w ms l))))) (o.times c.args.bound (o.times (entry o ms (factors_sent_at w l)) x))) s1);
+          ∙ ap (λ x. minus o (o.plus claim.constant (o.times claim.weight (o.plus x (o.times layer.alpha c.args.turn.now.above.second)))) (o.times c.args.turn.now.bound (o.times c.factors_from-factors.result.first c.factors_from-factors.result.second))) c.args.turn.now.above_first
+          ∙ ap (λ x. minus o (o.plus claim.constant (o.times claim.weight (o.plus (above_a o w ms l) (o.times layer.alpha x)))) (o.times c.args.turn.now.bound (o.times c.factors_from-factors.result.first c.factors_from-factors.result.second))) c.args.turn.now.above_second
+          ∙ ap (λ x. minus o (o.plus claim.constant (o.times claim.weight (o.plus (above_a o w ms l) (o.times x (above_b o w ms l))))) (o.times c.args.turn.now.bound (o.times c.factors_from-factors.result.first c.factors_from-factors.result.second))) alpha
+          ∙ ap (λ x. minus o (o.plus claim.constant (o.times claim.weight (o.plus (above_a o w ms l) (o.times (layer_at o s l).alpha (above_b o w ms l))))) (o.times c.args.turn.now.bound (o.times x c.factors_from-factors.result.second))) s0
+          ∙ ap (λ x. minus o (o.plus claim.constant (o.times claim.weight (o.plus (above_a o w ms l) (o.times (layer_at o s l).alpha (above_b o w ms l))))) (o.times c.args.turn.now.bound (o.times (entry o ms (factors_sent_at w l)) x))) s1);
     })

@@ -6,61 +6,54 @@ use Rattle.lzk_mle.specs.Multilinear.{eq}
 use Rattle.lzk_circuit.proofs.BitLaws.{bits_enough}
 use Rattle.lzk_layout.specs.Places.{depth, width_at}
 use Rattle.lzk_sumcheck.specs.Script.{point_a, point_b}
-use Rattle.lzk_accept.specs.Kept.{LinearForms, form_at, AreRest, IsPlacedAt}
+use Rattle.lzk_accept.specs.Kept.{LinearForms, form_at, AreRest, AreTablesAt, IsPlacedAt}
 use Rattle.lzk_accept.proofs.linear.rest_with_bounds.Goals as goal
 
 pub set_input_tables-requires-clause-first_room : goal.set_input_tables-requires-clause-first_room
 set_input_tables-requires-clause-first_room g c κs within =
-    let w = c.args.circuit.now in
+    let w = c.args.exchange.scripted.circuit.now in
     let room : length c.forms.inside.weights.items ≡ c.args.forms.now.room = ap (λ (x : LinearForms g.row.F.Denot). x.room) c.forms.view_is in
     omega (arith, c.requires.made.room (depth w) (omega arith), room, c.forms.invariant.0, ap length c.deref_mut.ensures.value)
 
 pub set_input_tables-requires-clause-second_room : goal.set_input_tables-requires-clause-second_room
 set_input_tables-requires-clause-second_room g c κs within =
-    let w = c.args.circuit.now in
+    let w = c.args.exchange.scripted.circuit.now in
     let room : length c.forms.inside.weights.items ≡ c.args.forms.now.room = ap (λ (x : LinearForms g.row.F.Denot). x.room) c.forms.view_is in
     omega (arith, c.requires.made.room (depth w) (omega arith), room, c.forms.invariant.1, ap length c.deref_mut-2.ensures.value)
 
-pub fill_forms-requires-clause-first_room : goal.fill_forms-requires-clause-first_room
-fill_forms-requires-clause-first_room g c κs within =
-    let w = c.args.circuit.now in
+pub invariant_of-prepared-clause-first_room : goal.invariant_of-prepared-clause-first_room
+invariant_of-prepared-clause-first_room g c =
+    let w = c.args.exchange.scripted.circuit.now in
     let inside = c.forms.inside in
     let nf : length c.set_input_tables.new.first ≡ inside.first.len = omega (arith, c.set_input_tables.ensures.first_length, ap length c.deref_mut.ensures.value, inside.first.ok.0) in
     let room : length inside.weights.items ≡ c.args.forms.now.room = ap (λ (x : LinearForms g.row.F.Denot). x.room) c.forms.view_is in
     let table = ap length (c.deref.ensures.value ∙ with_items_is inside.first c.set_input_tables.new.first nf) in
     omega (arith, table, c.set_input_tables.ensures.first_length, ap length c.deref_mut.ensures.value, c.forms.invariant.0, room, c.requires.made.room (depth w) (omega arith), bits_enough (width_at w (depth w)))
 
-pub fill_forms-requires-clause-second_room : goal.fill_forms-requires-clause-second_room
-fill_forms-requires-clause-second_room g c κs within =
-    let w = c.args.circuit.now in
+pub invariant_of-prepared-clause-second_room : goal.invariant_of-prepared-clause-second_room
+invariant_of-prepared-clause-second_room g c =
+    let w = c.args.exchange.scripted.circuit.now in
     let inside = c.forms.inside in
     let ns : length c.set_input_tables.new.second ≡ inside.second.len = omega (arith, c.set_input_tables.ensures.second_length, ap length c.deref_mut-2.ensures.value, inside.second.ok.0) in
     let room : length inside.weights.items ≡ c.args.forms.now.room = ap (λ (x : LinearForms g.row.F.Denot). x.room) c.forms.view_is in
     let table = ap length (c.deref-2.ensures.value ∙ with_items_is inside.second c.set_input_tables.new.second ns) in
     omega (arith, table, c.set_input_tables.ensures.second_length, ap length c.deref_mut-2.ensures.value, c.forms.invariant.1, room, c.requires.made.room (depth w) (omega arith), bits_enough (width_at w (depth w)))
 
-pub fill_forms-requires-clause-first : goal.fill_forms-requires-clause-first
-fill_forms-requires-clause-first g c κs within =
-    let o = g.F.Field.ops in
-    let w = c.args.circuit.now in
+pub invariant_of-prepared-clause-at : goal.invariant_of-prepared-clause-at
+invariant_of-prepared-clause-at g c =
+    let w = c.args.exchange.scripted.circuit.now in
+    let s = c.args.exchange.scripted.script.now in
     let inside = c.forms.inside in
-    let nf : length c.set_input_tables.new.first ≡ inside.first.len = omega (arith, c.set_input_tables.ensures.first_length, ap length c.deref_mut.ensures.value, inside.first.ok.0) in
-    subst (λ xs. (k : ℕ) → k < width_at w (depth w) → entry o xs k ≡ eq o k (point_a o c.args.script.now (depth w)))
-    (sym (c.deref.ensures.value ∙ with_items_is inside.first c.set_input_tables.new.first nf)) c.set_input_tables.ensures.first
-
-pub fill_forms-requires-clause-second : goal.fill_forms-requires-clause-second
-fill_forms-requires-clause-second g c κs within =
-    let o = g.F.Field.ops in
-    let w = c.args.circuit.now in
-    let inside = c.forms.inside in
-    let ns : length c.set_input_tables.new.second ≡ inside.second.len = omega (arith, c.set_input_tables.ensures.second_length, ap length c.deref_mut-2.ensures.value, inside.second.ok.0) in
-    subst (λ xs. (k : ℕ) → k < width_at w (depth w) → entry o xs k ≡ eq o k (point_b o c.args.script.now (depth w)))
-    (sym (c.deref-2.ensures.value ∙ with_items_is inside.second c.set_input_tables.new.second ns)) c.set_input_tables.ensures.second
+    let tables = c.set_input_tables.new in
+    let nf : length tables.first ≡ inside.first.len = omega (arith, c.set_input_tables.ensures.first_length, ap length c.deref_mut.ensures.value, inside.first.ok.0) in
+    let ns : length tables.second ≡ inside.second.len = omega (arith, c.set_input_tables.ensures.second_length, ap length c.deref_mut-2.ensures.value, inside.second.ok.0) in
+    subst (λ xs. AreTablesAt g.F.Field.ops w s (depth w) xs c.deref-2.result.now) (sym (c.deref.ensures.value ∙ with_items_is inside.first tables.first nf))
+    (subst (AreTablesAt g.F.Field.ops w s (depth w) tables.first) (sym (c.deref-2.ensures.value ∙ with_items_is inside.second tables.second ns)) c.set_input_tables.ensures.at)
 
 pub returns-clause-made : goal.returns-clause-made
 returns-clause-made g c =
     let o = g.F.Field.ops in
-    let w = c.args.circuit.now in
+    let w = c.args.exchange.scripted.circuit.now in
     let inside = c.forms.inside in
     let e = c.fill_forms.ensures in
     let nf : length c.fill_forms.new.forms ≡ inside.forms.len = omega (arith, c.fill_forms.ensures.forms_length, ap length c.deref_mut-3.ensures.value, inside.forms.ok.0) in
@@ -83,6 +76,6 @@ returns-clause-rest g c =
     let own = c.fill_forms.new.own in
     let nf : length c.fill_forms.new.forms ≡ inside.forms.len = omega (arith, c.fill_forms.ensures.forms_length, ap length c.deref_mut-3.ensures.value, inside.forms.ok.0) in
     let no : length c.fill_forms.new.own ≡ inside.own.len = omega (arith, c.fill_forms.ensures.own_length, ap length c.deref_mut-4.ensures.value, inside.own.ok.0) in
-    let rest = AreRest f.ops f.coding.element c.args.circuit.now c.args.public.now c.args.script.now c.args.messages.now c.args.skip in
+    let rest = AreRest f.ops f.coding.element c.args.exchange.scripted.circuit.now c.args.exchange.public.now c.args.exchange.scripted.script.now c.args.exchange.messages.now c.args.skip in
     subst (λ fs. rest fs (with_items inside.own own).items) (sym (with_items_is inside.forms forms nf))
     (subst (rest forms) (sym (with_items_is inside.own own no)) c.fill_forms.ensures.rest)

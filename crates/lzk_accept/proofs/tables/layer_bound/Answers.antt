@@ -13,90 +13,85 @@ use Rattle.lzk_accept.proofs.tables.layer_bound.Goals as goal
 
 pub set_weights-requires-clause-first : goal.set_weights-requires-clause-first
 set_weights-requires-clause-first g c κs within =
-    omega (arith, c.width.ensures, bits_enough (width_at c.args.circuit.now c.args.l), c.requires.room c.args.l (omega (arith, c.requires.layer)), c.requires.first_room)
+    omega (arith, c.width.ensures, bits_enough (width_at c.args.scripted.now.circuit.now c.args.l), c.requires.tables.room c.args.l (omega (arith, c.requires.layer)), c.requires.tables.first)
 
 pub set_weights-requires-clause-second : goal.set_weights-requires-clause-second
 set_weights-requires-clause-second g c κs within =
-    omega (arith, c.width.ensures, bits_enough (width_at c.args.circuit.now c.args.l), c.requires.room c.args.l (omega (arith, c.requires.layer)), c.requires.second_room)
+    omega (arith, c.width.ensures, bits_enough (width_at c.args.scripted.now.circuit.now c.args.l), c.requires.tables.room c.args.l (omega (arith, c.requires.layer)), c.requires.tables.second)
 
 pub set_weights-requires-clause-room : goal.set_weights-requires-clause-room
 set_weights-requires-clause-room g c κs within =
-    omega (arith, c.width.ensures, bits_enough (width_at c.args.circuit.now c.args.l), c.requires.room c.args.l (omega (arith, c.requires.layer)))
+    omega (arith, c.width.ensures, bits_enough (width_at c.args.scripted.now.circuit.now c.args.l), c.requires.tables.room c.args.l (omega (arith, c.requires.layer)))
 
 pub set_table-requires-clause-width : goal.set_table-requires-clause-width
 set_table-requires-clause-width g c κs within =
     let o = g.F.Field.ops in
-    let w = c.args.circuit.now in
-    let e : length c.as_slice.result.now ≡ bits_under w c.args.l = ap length (c.as_slice.ensures ∙ ap (λ x. x.ra) c.layer_of-layer.ensures.layer) ∙ (layer_shape o w c.args.script.now c.requires.shape c.args.l c.requires.layer).ra in
+    let w = c.args.scripted.now.circuit.now in
+    let e : length c.as_slice.result.now ≡ bits_under w c.args.l = ap length (c.as_slice.ensures ∙ ap (λ x. x.ra) c.layer_of-layer.ensures.layer) ∙ (layer_shape o w c.args.scripted.now.script.now c.args.scripted.now.shape c.args.l c.requires.layer).ra in
     omega (arith, ap (λ n. 2 ^ n) e, c.width-below.ensures, bits_enough (width_at w (c.args.l + 1)))
 
 pub set_table-requires-clause-room : goal.set_table-requires-clause-room
 set_table-requires-clause-room g c κs within =
     let o = g.F.Field.ops in
-    let w = c.args.circuit.now in
-    let e : length c.as_slice.result.now ≡ bits_under w c.args.l = ap length (c.as_slice.ensures ∙ ap (λ x. x.ra) c.layer_of-layer.ensures.layer) ∙ (layer_shape o w c.args.script.now c.requires.shape c.args.l c.requires.layer).ra in
-    omega (arith, ap (λ n. 2 ^ n) e, c.requires.room (c.args.l + 1) (omega (arith, c.requires.layer)), c.requires.first_room)
+    let w = c.args.scripted.now.circuit.now in
+    let e : length c.as_slice.result.now ≡ bits_under w c.args.l = ap length (c.as_slice.ensures ∙ ap (λ x. x.ra) c.layer_of-layer.ensures.layer) ∙ (layer_shape o w c.args.scripted.now.script.now c.args.scripted.now.shape c.args.l c.requires.layer).ra in
+    omega (arith, ap (λ n. 2 ^ n) e, c.requires.tables.room (c.args.l + 1) (omega (arith, c.requires.layer)), c.requires.tables.first)
 
 pub set_table-requires-2-clause-width : goal.set_table-requires-2-clause-width
 set_table-requires-2-clause-width g c κs within =
     let o = g.F.Field.ops in
-    let w = c.args.circuit.now in
-    let e : length c.as_slice-2.result.now ≡ bits_under w c.args.l = ap length (c.as_slice-2.ensures ∙ ap (λ x. x.rb) c.layer_of-layer.ensures.layer) ∙ (layer_shape o w c.args.script.now c.requires.shape c.args.l c.requires.layer).rb in
+    let w = c.args.scripted.now.circuit.now in
+    let e : length c.as_slice-2.result.now ≡ bits_under w c.args.l = ap length (c.as_slice-2.ensures ∙ ap (λ x. x.rb) c.layer_of-layer.ensures.layer) ∙ (layer_shape o w c.args.scripted.now.script.now c.args.scripted.now.shape c.args.l c.requires.layer).rb in
     omega (arith, ap (λ n. 2 ^ n) e, c.width-below.ensures, bits_enough (width_at w (c.args.l + 1)))
 
 pub set_table-requires-2-clause-room : goal.set_table-requires-2-clause-room
 set_table-requires-2-clause-room g c κs within =
     let o = g.F.Field.ops in
-    let w = c.args.circuit.now in
-    let e : length c.as_slice-2.result.now ≡ bits_under w c.args.l = ap length (c.as_slice-2.ensures ∙ ap (λ x. x.rb) c.layer_of-layer.ensures.layer) ∙ (layer_shape o w c.args.script.now c.requires.shape c.args.l c.requires.layer).rb in
-    omega (arith, ap (λ n. 2 ^ n) e, c.requires.room (c.args.l + 1) (omega (arith, c.requires.layer)), c.requires.second_room)
+    let w = c.args.scripted.now.circuit.now in
+    let e : length c.as_slice-2.result.now ≡ bits_under w c.args.l = ap length (c.as_slice-2.ensures ∙ ap (λ x. x.rb) c.layer_of-layer.ensures.layer) ∙ (layer_shape o w c.args.scripted.now.script.now c.args.scripted.now.shape c.args.l c.requires.layer).rb in
+    omega (arith, ap (λ n. 2 ^ n) e, c.requires.tables.room (c.args.l + 1) (omega (arith, c.requires.layer)), c.requires.tables.second)
 
-pub sum_terms-requires-clause-some : goal.sum_terms-requires-clause-some
-sum_terms-requires-clause-some g c κs within =
-    let w = c.args.circuit.now in
-    omega (arith, c.set_weights.ensures.length, some_layer g.F.Field.ops w c.args.l c.layer.result.now c.valid_laws.ensures c.layer.ensures, bits_enough (width_at w c.args.l), c.requires.room c.args.l (omega (arith, c.requires.layer)))
+pub invariant_of-weighed-clause-some : goal.invariant_of-weighed-clause-some
+invariant_of-weighed-clause-some g c =
+    let w = c.args.scripted.now.circuit.now in
+    omega (arith, c.set_weights.ensures.length, some_layer g.F.Field.ops w c.args.l c.layer.result.now c.valid_laws.ensures c.layer.ensures, bits_enough (width_at w c.args.l), c.requires.tables.room c.args.l (omega (arith, c.requires.layer)))
 
-pub sum_terms-requires-clause-below : goal.sum_terms-requires-clause-below
-sum_terms-requires-clause-below g c κs within =
-    let w = c.args.circuit.now in
-    omega (arith, c.set_table.ensures.length, c.requires.first_room, some_layer g.F.Field.ops w c.args.l c.layer.result.now c.valid_laws.ensures c.layer.ensures, bits_enough (width_at w c.args.l), c.requires.room c.args.l (omega (arith, c.requires.layer)))
+pub invariant_of-weighed-clause-below : goal.invariant_of-weighed-clause-below
+invariant_of-weighed-clause-below g c =
+    let w = c.args.scripted.now.circuit.now in
+    omega (arith, c.set_table.ensures.length, c.requires.tables.first, some_layer g.F.Field.ops w c.args.l c.layer.result.now c.valid_laws.ensures c.layer.ensures, bits_enough (width_at w c.args.l), c.requires.tables.room c.args.l (omega (arith, c.requires.layer)))
 
-pub sum_terms-requires-clause-placed : goal.sum_terms-requires-clause-placed
-sum_terms-requires-clause-placed g c κs within = λ i t is.
+pub invariant_of-weighed-clause-placed : goal.invariant_of-weighed-clause-placed
+invariant_of-weighed-clause-placed g c = λ i t is.
     let o = g.F.Field.ops in
-    let w = c.args.circuit.now in
+    let w = c.args.scripted.now.circuit.now in
     let l = c.args.l in
     let layer = c.layer.result.now in
     let below = distinct_within o (width_at w l) (width_at w (l + 1)) layer.terms (layer_distinct o g.F.Field.laws.ring w l layer c.valid_laws.ensures c.layer.ensures) i t
     (ap (λ ts. slice_get ts i) (sym c.as_slice-3.ensures) ∙ is) in
-    let here : width_at w l ≤ length c.set_weights.new.weights = omega (arith, c.set_weights.ensures.length, bits_enough (width_at w l), c.requires.room l (omega (arith, c.requires.layer))) in
-    let one : width_at w (l + 1) ≤ length c.set_table.new.table = omega (arith, c.set_table.ensures.length, bits_enough (width_at w (l + 1)), c.requires.room (l + 1) (omega (arith, c.requires.layer)), c.requires.first_room) in
-    let two : width_at w (l + 1) ≤ length c.set_table-2.new.table = omega (arith, c.set_table-2.ensures.length, bits_enough (width_at w (l + 1)), c.requires.room (l + 1) (omega (arith, c.requires.layer)), c.requires.second_room) in
+    let here : width_at w l ≤ length c.set_weights.new.weights = omega (arith, c.set_weights.ensures.length, bits_enough (width_at w l), c.requires.tables.room l (omega (arith, c.requires.layer))) in
+    let one : width_at w (l + 1) ≤ length c.set_table.new.table = omega (arith, c.set_table.ensures.length, bits_enough (width_at w (l + 1)), c.requires.tables.room (l + 1) (omega (arith, c.requires.layer)), c.requires.tables.first) in
+    let two : width_at w (l + 1) ≤ length c.set_table-2.new.table = omega (arith, c.set_table-2.ensures.length, bits_enough (width_at w (l + 1)), c.requires.tables.room (l + 1) (omega (arith, c.requires.layer)), c.requires.tables.second) in
     (omega (arith, below.0), omega (arith, below.1), omega (arith, below.2))
 
-pub returns-clause-first : goal.returns-clause-first
-returns-clause-first g c k h =
+pub returns-clause-at : goal.returns-clause-at
+returns-clause-at g c =
     let o = g.F.Field.ops in
-    let w = c.args.circuit.now in
-    let s = c.args.script.now in
+    let w = c.args.scripted.now.circuit.now in
+    let s = c.args.scripted.now.script.now in
     let l = c.args.l in
     let is = c.as_slice.ensures ∙ ap (λ x. x.ra) c.layer_of-layer.ensures.layer in
-    c.set_table.ensures.entries k (omega (arith, h, c.width-below.ensures)) ∙ ap (eq o k) is ∙ (let next : suc l ≡ l + 1 = omega arith in ap (λ n. eq o k (point_a o s n)) next)
-
-pub returns-clause-second : goal.returns-clause-second
-returns-clause-second g c k h =
-    let o = g.F.Field.ops in
-    let w = c.args.circuit.now in
-    let s = c.args.script.now in
-    let l = c.args.l in
-    let is = c.as_slice-2.ensures ∙ ap (λ x. x.rb) c.layer_of-layer.ensures.layer in
-    c.set_table-2.ensures.entries k (omega (arith, h, c.width-below.ensures)) ∙ ap (eq o k) is ∙ (let next : suc l ≡ l + 1 = omega arith in ap (λ n. eq o k (point_b o s n)) next)
+    let is_b = c.as_slice-2.ensures ∙ ap (λ x. x.rb) c.layer_of-layer.ensures.layer in
+    record {
+      first = λ k h. c.set_table.ensures.entries k (omega (arith, h, c.width-below.ensures)) ∙ ap (eq o k) is ∙ (let next : suc l ≡ l + 1 = omega arith in ap (λ n. eq o k (point_a o s n)) next);
+      second = λ k h. c.set_table-2.ensures.entries k (omega (arith, h, c.width-below.ensures)) ∙ ap (eq o k) is_b ∙ (let next : suc l ≡ l + 1 = omega arith in ap (λ n. eq o k (point_b o s n)) next);
+    }
 
 pub returns-clause-value : goal.returns-clause-value
 returns-clause-value g c =
     let o = g.F.Field.ops in
-    let w = c.args.circuit.now in
-    let s = c.args.script.now in
+    let w = c.args.scripted.now.circuit.now in
+    let s = c.args.scripted.now.script.now in
     let l = c.args.l in
     let layer = c.layer.result.now in
     let weights = c.set_weights.new.weights in
@@ -108,8 +103,8 @@ returns-clause-value g c =
     ∙ ap (λ x. sum_list o layer.terms (counted o x.beta weights first second)) c.layer_of-layer.ensures.layer
     ∙ bound_by_tables o g.F.Field.laws.ring w s l layer weights first second c.valid_laws.ensures c.layer.ensures
     (λ k h. c.set_weights.ensures.entries k (omega (arith, h, c.width.ensures))
-    ∙ ap (λ x. o.plus x (o.times c.layer_of-layer.result.now.alpha (entry o c.args.second.now k))) (c.requires.first k h)
-    ∙ ap (λ x. o.plus (eq o k (point_a o s l)) (o.times c.layer_of-layer.result.now.alpha x)) (c.requires.second k h)
+    ∙ ap (λ x. o.plus x (o.times c.layer_of-layer.result.now.alpha (entry o c.args.second.now k))) (c.requires.at.first k h)
+    ∙ ap (λ x. o.plus (eq o k (point_a o s l)) (o.times c.layer_of-layer.result.now.alpha x)) (c.requires.at.second k h)
     ∙ ap (λ x. o.plus (eq o k (point_a o s l)) (o.times x.alpha (eq o k (point_b o s l)))) c.layer_of-layer.ensures.layer)
     (λ k h. c.set_table.ensures.entries k (omega (arith, h, c.width-below.ensures)) ∙ ap (eq o k) ia)
     (λ k h. c.set_table-2.ensures.entries k (omega (arith, h, c.width-below.ensures)) ∙ ap (eq o k) ib)

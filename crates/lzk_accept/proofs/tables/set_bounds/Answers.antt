@@ -1,4 +1,4 @@
-use Rattle.std.proofs.Common.{◌≡◌, ℕ, ◌^◌, ◌<◌, length, refl, ap, ◌∙◌, subst, arith}
+use Rattle.std.proofs.Common.{◌≡◌, ℕ, ◌^◌, ◌<◌, length, refl, sym, ap, ◌∙◌, subst, arith}
 use Rattle.std.proofs.lemmas.List.{length-set}
 use Rattle.lzk_field.specs.Sums.{entry}
 use Rattle.lzk_mle.specs.Multilinear.{eq}
@@ -6,20 +6,46 @@ use Rattle.lzk_circuit.proofs.BitLaws.{bits_enough}
 use Rattle.lzk_layout.specs.Places.{depth, width_at, output_bits}
 use Rattle.lzk_sumcheck.specs.Coefficients.{coefficients, bound_at}
 use Rattle.lzk_sumcheck.specs.Script.{point_a, point_b}
+use Rattle.lzk_accept.specs.Kept.{AreTablesAt}
 use Rattle.lzk_accept.proofs.TableLaws.{bounds_more}
 use Rattle.lzk_accept.proofs.tables.set_bounds.Goals as goal
 
 pub set_table-requires-clause-width : goal.set_table-requires-clause-width
 set_table-requires-clause-width g c κs within =
-    let w = c.args.circuit.now in
-    let e : length c.as_slice.result.now ≡ output_bits w = ap length c.as_slice.ensures ∙ c.requires.shape.out_point in
+    let w = c.args.scripted.now.circuit.now in
+    let e : length c.as_slice-point.result.now ≡ output_bits w = ap length c.as_slice-point.ensures ∙ c.args.scripted.now.shape.out_point in
     omega (arith, ap (λ n. 2 ^ n) e, c.width-outputs.ensures, bits_enough (width_at w 0))
 
 pub set_table-requires-2-clause-width : goal.set_table-requires-2-clause-width
 set_table-requires-2-clause-width g c κs within =
-    let w = c.args.circuit.now in
-    let e : length c.as_slice-2.result.now ≡ output_bits w = ap length c.as_slice-2.ensures ∙ c.requires.shape.out_point in
+    let w = c.args.scripted.now.circuit.now in
+    let e : length c.as_slice-point.result.now ≡ output_bits w = ap length c.as_slice-point.ensures ∙ c.args.scripted.now.shape.out_point in
     omega (arith, ap (λ n. 2 ^ n) e, c.width-outputs.ensures, bits_enough (width_at w 0))
+
+pub set_table-requires-clause-room : goal.set_table-requires-clause-room
+set_table-requires-clause-room g c κs within =
+    let w = c.args.scripted.now.circuit.now in
+    let e : length c.as_slice-point.result.now ≡ output_bits w = ap length c.as_slice-point.ensures ∙ c.args.scripted.now.shape.out_point in
+    omega (arith, ap (λ n. 2 ^ n) e, c.requires.tables.room 0 (omega arith), c.requires.tables.first)
+
+pub set_table-requires-2-clause-room : goal.set_table-requires-2-clause-room
+set_table-requires-2-clause-room g c κs within =
+    let w = c.args.scripted.now.circuit.now in
+    let e : length c.as_slice-point.result.now ≡ output_bits w = ap length c.as_slice-point.ensures ∙ c.args.scripted.now.shape.out_point in
+    omega (arith, ap (λ n. 2 ^ n) e, c.requires.tables.room 0 (omega arith), c.requires.tables.second)
+
+pub layer_bound-requires-clause-tables : goal.layer_bound-requires-clause-tables
+layer_bound-requires-clause-tables g c κs within =
+    let inv = c.loop-l.invariant in
+    record {
+      room = λ k h. omega (arith, c.requires.tables.room k h, inv.weights_length);
+      first = inv.first_length ∙ c.requires.tables.first ∙ sym inv.weights_length;
+      second = inv.second_length ∙ c.requires.tables.second ∙ sym inv.weights_length;
+    }
+
+pub layer_bound-requires-clause-at : goal.layer_bound-requires-clause-at
+layer_bound-requires-clause-at g c κs within =
+    record { first = c.loop-l.invariant.first; second = c.loop-l.invariant.second }
 
 pub loop-l-init : goal.loop-l-init
 loop-l-init g c =
@@ -30,15 +56,15 @@ loop-l-init g c =
       second_length = c.set_table-2.ensures.length;
       weights_length = refl;
       each = λ i h. absurd (omega (arith, h));
-      first = λ k h. c.set_table.ensures.entries k (omega (arith, h, c.width-outputs.ensures)) ∙ ap (eq o k) c.as_slice.ensures;
-      second = λ k h. c.set_table-2.ensures.entries k (omega (arith, h, c.width-outputs.ensures)) ∙ ap (eq o k) c.as_slice-2.ensures;
+      first = λ k h. c.set_table.ensures.entries k (omega (arith, h, c.width-outputs.ensures)) ∙ ap (eq o k) c.as_slice-point.ensures;
+      second = λ k h. c.set_table-2.ensures.entries k (omega (arith, h, c.width-outputs.ensures)) ∙ ap (eq o k) c.as_slice-point.ensures;
     }
 
 pub loop-l-preserved : goal.loop-l-preserved
 loop-l-preserved g c =
     let o = g.F.Field.ops in
-    let w = c.args.circuit.now in
-    let s = c.args.script.now in
+    let w = c.args.scripted.now.circuit.now in
+    let s = c.args.scripted.now.script.now in
     let l = c.loop-l.l in
     let h : l < depth w = omega (arith, c.depth-l-end.ensures.depth, c.loop-l-test.true, c.loop-l.auto.l-end) in
     let inv = c.loop-l.invariant in
@@ -49,25 +75,19 @@ loop-l-preserved g c =
       second_length = e.second_length ∙ inv.second_length;
       weights_length = e.weights_length ∙ inv.weights_length;
       each = bounds_more o (bound_at o w (coefficients o w s) s) c.loop-l.bounds l c.layer_bound.result (omega (arith, inv.bounds_length, c.requires.count, h)) inv.each e.value;
-      first = e.first;
-      second = e.second;
+      first = e.at.first;
+      second = e.at.second;
     }
 
 pub returns-clause-bounds : goal.returns-clause-bounds
 returns-clause-bounds g c =
-    let all : c.loop-l.l ≡ depth c.args.circuit.now = omega (arith, c.depth-l-end.ensures.depth, c.loop-l-test.false, c.loop-l.auto.l-end) in
+    let all : c.loop-l.l ≡ depth c.args.scripted.now.circuit.now = omega (arith, c.depth-l-end.ensures.depth, c.loop-l-test.false, c.loop-l.auto.l-end) in
     record { count = c.loop-l.invariant.bounds_length ∙ c.requires.count; each = λ i h. c.loop-l.invariant.each i (omega (arith, all, h)) }
 
-pub returns-clause-first : goal.returns-clause-first
-returns-clause-first g c =
+pub returns-clause-at : goal.returns-clause-at
+returns-clause-at g c =
     let o = g.F.Field.ops in
-    let w = c.args.circuit.now in
+    let w = c.args.scripted.now.circuit.now in
     let all : c.loop-l.l ≡ depth w = omega (arith, c.depth-l-end.ensures.depth, c.loop-l-test.false, c.loop-l.auto.l-end) in
-    subst (λ n. (k : ℕ) → k < width_at w n → entry o c.loop-l.first k ≡ eq o k (point_a o c.args.script.now n)) all c.loop-l.invariant.first
-
-pub returns-clause-second : goal.returns-clause-second
-returns-clause-second g c =
-    let o = g.F.Field.ops in
-    let w = c.args.circuit.now in
-    let all : c.loop-l.l ≡ depth w = omega (arith, c.depth-l-end.ensures.depth, c.loop-l-test.false, c.loop-l.auto.l-end) in
-    subst (λ n. (k : ℕ) → k < width_at w n → entry o c.loop-l.second k ≡ eq o k (point_b o c.args.script.now n)) all c.loop-l.invariant.second
+    subst (λ n. AreTablesAt o w c.args.scripted.now.script.now n c.loop-l.first c.loop-l.second) all
+    (record { first = c.loop-l.invariant.first; second = c.loop-l.invariant.second })

@@ -9,13 +9,14 @@ use Rattle.lzk_accept.proofs.tables.set_bounds.Given as goal
 abbrev pub invariant-loop-l : goal.invariant-loop-l
 invariant-loop-l g l =
     let o = g.F.Field.ops in
-    let w = l.circuit in
+    let w = l.scripted.circuit.now in
+    let s = l.scripted.script.now in
     record {
       bounds_length : length l.bounds ≡ length l.fn.bounds;
       first_length : length l.first ≡ length l.fn.first;
       second_length : length l.second ≡ length l.fn.second;
       weights_length : length l.weights ≡ length l.fn.weights;
-      each : (i : ℕ) → i < l.l → entry o l.bounds i ≡ bound_at o w (coefficients o w l.script) l.script i;
-      first : (k : ℕ) → k < width_at w l.l → entry o l.first k ≡ eq o k (point_a o l.script l.l);
-      second : (k : ℕ) → k < width_at w l.l → entry o l.second k ≡ eq o k (point_b o l.script l.l);
+      each : (i : ℕ) → i < l.l → entry o l.bounds i ≡ bound_at o w (coefficients o w s) s i;
+      first : (k : ℕ) → k < width_at w l.l → entry o l.first k ≡ eq o k (point_a o s l.l);
+      second : (k : ℕ) → k < width_at w l.l → entry o l.second k ≡ eq o k (point_b o s l.l);
     }

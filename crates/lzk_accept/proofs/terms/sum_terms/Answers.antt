@@ -11,35 +11,35 @@ use Rattle.lzk_accept.proofs.terms.sum_terms.Goals as goal
 pub loop-i-init : goal.loop-i-init
 loop-i-init g c =
     let o = g.F.Field.ops in
-    let first = c.args.first.now in
+    let first = c.args.weighed.now.first.now in
     record {
-      wire = c.requires.some;
-      sum = walk_starts o g.F.Field.laws.ring c.args.beta c.args.weights.now first c.args.second.now c.args.terms.now (entry o first 0)
+      wire = c.args.weighed.now.some;
+      sum = walk_starts o g.F.Field.laws.ring c.args.beta c.args.weighed.now.weights.now first c.args.weighed.now.second.now c.args.weighed.now.terms.now (entry o first 0)
           (record { total = c.zero.result; wire = 0; linear = c.zero-2.result; inner = c.zero-3.result }) c.zero.ensures c.zero-2.ensures c.zero-3.ensures;
     }
 
 pub with_term-walk-requires-clause-a : goal.with_term-walk-requires-clause-a
 with_term-walk-requires-clause-a g c κs within =
     let t = c.index-terms-i.result in
-    (c.requires.placed c.loop-i.i t (slice_get-get_or c.args.terms.now c.loop-i.i t c.loop-i-test.true ∙ ap Some (sym c.index-terms-i.is))).1
+    (c.args.weighed.now.placed c.loop-i.i t (slice_get-get_or c.args.weighed.now.terms.now c.loop-i.i t c.loop-i-test.true ∙ ap Some (sym c.index-terms-i.is))).1
 
 pub with_term-walk-requires-clause-b : goal.with_term-walk-requires-clause-b
 with_term-walk-requires-clause-b g c κs within =
     let t = c.index-terms-i.result in
-    (c.requires.placed c.loop-i.i t (slice_get-get_or c.args.terms.now c.loop-i.i t c.loop-i-test.true ∙ ap Some (sym c.index-terms-i.is))).2
+    (c.args.weighed.now.placed c.loop-i.i t (slice_get-get_or c.args.weighed.now.terms.now c.loop-i.i t c.loop-i-test.true ∙ ap Some (sym c.index-terms-i.is))).2
 
 pub loop-i-preserved : goal.loop-i-preserved
 loop-i-preserved g c =
     let o = g.F.Field.ops in
     let t = c.index-terms-i.result in
-    let ts = c.args.terms.now in
-    let weights = c.args.weights.now in
-    let first = c.args.first.now in
-    let second = c.args.second.now in
+    let ts = c.args.weighed.now.terms.now in
+    let weights = c.args.weighed.now.weights.now in
+    let first = c.args.weighed.now.first.now in
+    let second = c.args.weighed.now.second.now in
     let z = entry o first 0 in
-    let base : c.index-first-0.result ≡ z = c.index-first-0.is ∙ get_or_default first 0 c.index-first-0.result o.zero c.requires.below in
+    let base : c.index-first-0.result ≡ z = c.index-first-0.is ∙ get_or_default first 0 c.index-first-0.result o.zero c.args.weighed.now.below in
     let walk = c.loop-i.walk in
-    let placed = c.requires.placed c.loop-i.i t (slice_get-get_or ts c.loop-i.i t c.loop-i-test.true ∙ ap Some (sym c.index-terms-i.is)) in
+    let placed = c.args.weighed.now.placed c.loop-i.i t (slice_get-get_or ts c.loop-i.i t c.loop-i-test.true ∙ ap Some (sym c.index-terms-i.is)) in
     let there = subst (λ b. counted_so_far o weights b c.at_wire-there.result ≡ counted_so_far o weights b walk) base c.at_wire-there.ensures.sum in
     record {
       wire = subst (λ n. n < length weights) (sym c.with_term-walk.ensures.wire) placed.0;
@@ -51,9 +51,9 @@ loop-i-preserved g c =
 pub returns : goal.returns
 returns g c =
     let o = g.F.Field.ops in
-    let ts = c.args.terms.now in
-    let weights = c.args.weights.now in
-    let first = c.args.first.now in
-    let base : c.index-first-0.result ≡ entry o first 0 = c.index-first-0.is ∙ get_or_default first 0 c.index-first-0.result o.zero c.requires.below in
+    let ts = c.args.weighed.now.terms.now in
+    let weights = c.args.weighed.now.weights.now in
+    let first = c.args.weighed.now.first.now in
+    let base : c.index-first-0.result ≡ entry o first 0 = c.index-first-0.is ∙ get_or_default first 0 c.index-first-0.result o.zero c.args.weighed.now.below in
     c.summed.ensures ∙ ap (λ b. counted_so_far o weights b c.loop-i.walk) base
-    ∙ walk_ends o g.F.Field.laws.ring c.args.beta weights first c.args.second.now ts (counted_so_far o weights (entry o first 0) c.loop-i.walk) (sum_list o ts (counted o c.args.beta weights first c.args.second.now)) c.loop-i.i (omega arith) c.loop-i.invariant.sum
+    ∙ walk_ends o g.F.Field.laws.ring c.args.beta weights first c.args.weighed.now.second.now ts (counted_so_far o weights (entry o first 0) c.loop-i.walk) (sum_list o ts (counted o c.args.beta weights first c.args.weighed.now.second.now)) c.loop-i.i (omega arith) c.loop-i.invariant.sum

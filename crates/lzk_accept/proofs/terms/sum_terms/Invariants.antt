@@ -8,6 +8,6 @@ abbrev pub invariant-loop-i : goal.invariant-loop-i
 invariant-loop-i g l =
     let o = g.F.Field.ops in
     record {
-      wire : l.walk.wire < length l.weights;
-      sum : o.plus (counted_so_far o l.weights (entry o l.first 0) l.walk) (sum_list o (drop l.i l.terms) (counted o l.beta l.weights l.first l.second)) ≡ sum_list o l.terms (counted o l.beta l.weights l.first l.second);
+      wire : l.walk.wire < length l.weighed.weights.now;
+      sum : o.plus (counted_so_far o l.weighed.weights.now (entry o l.weighed.first.now 0) l.walk) (sum_list o (drop l.i l.weighed.terms.now) (counted o l.beta l.weighed.weights.now l.weighed.first.now l.weighed.second.now)) ≡ sum_list o l.weighed.terms.now (counted o l.beta l.weighed.weights.now l.weighed.first.now l.weighed.second.now);
     }
