@@ -1,12 +1,9 @@
-use Rattle.std.proofs.Common.{◌≡◌, ◌<◌, ℕ, length, sym, ap, ◌∙◌, subst, arith}
+use Rattle.std.proofs.Common.{◌≡◌, length, sym, ap, ◌∙◌, subst, arith}
 use Rattle.std.specs.Vec.{with_items}
 use Rattle.std.proofs.lemmas.List.{with_items_is}
-use Rattle.lzk_field.specs.Sums.{entry}
-use Rattle.lzk_mle.specs.Multilinear.{eq}
 use Rattle.lzk_circuit.proofs.BitLaws.{bits_enough}
 use Rattle.lzk_layout.specs.Places.{depth, width_at}
 use Rattle.lzk_sumcheck.specs.Coefficients.{AreBounds}
-use Rattle.lzk_sumcheck.specs.Script.{point_a, point_b}
 use Rattle.lzk_accept.specs.Kept.{LinearForms, form_at, AreRest, AreTablesAt, IsPlacedAt}
 use Rattle.lzk_accept.proofs.linear.rest_forms.Goals as goal
 

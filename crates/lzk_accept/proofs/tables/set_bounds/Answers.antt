@@ -1,11 +1,9 @@
-use Rattle.std.proofs.Common.{◌≡◌, ℕ, ◌^◌, ◌<◌, length, refl, sym, ap, ◌∙◌, subst, arith}
+use Rattle.std.proofs.Common.{◌≡◌, ◌^◌, ◌<◌, length, refl, sym, ap, ◌∙◌, subst, arith}
 use Rattle.std.proofs.lemmas.List.{length-set}
-use Rattle.lzk_field.specs.Sums.{entry}
 use Rattle.lzk_mle.specs.Multilinear.{eq}
 use Rattle.lzk_circuit.proofs.BitLaws.{bits_enough}
 use Rattle.lzk_layout.specs.Places.{depth, width_at, output_bits}
 use Rattle.lzk_sumcheck.specs.Coefficients.{coefficients, bound_at}
-use Rattle.lzk_sumcheck.specs.Script.{point_a, point_b}
 use Rattle.lzk_accept.specs.Kept.{AreTablesAt}
 use Rattle.lzk_accept.proofs.TableLaws.{bounds_more}
 use Rattle.lzk_accept.proofs.tables.set_bounds.Goals as goal
