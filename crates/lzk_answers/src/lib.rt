@@ -19,6 +19,7 @@ mod linear;
 mod low_degree;
 mod quadratic;
 mod rows;
+mod table;
 
 pub use laws::{answers_pass, changed_answers_fail, values_determine};
 pub use linear::{linear_by_factors_into, linear_into};

@@ -10,6 +10,7 @@ ghost use Rattle.lzk_answers.specs.Coefficients.{AreCoefficients, AreExtended, A
 ghost use Rattle.lzk_answers.specs.Rows.{IsTableOf};
 
 use crate::rows::{FACTORS, add_list, add_products, clear, multiply_list, row_of, set_list};
+use crate::table::{Extending, Table};
 use lzk_field::Field;
 use lzk_layout::{BLINDS, Params};
 use lzk_poly::RowExtend;
@@ -29,81 +30,80 @@ fn fill_row<F: Field>(coefficients: &[F], row: &mut [F])
 
 // The values from point BLOCK on of the polynomial of a row of coefficients. `values` is set to those before.
 fn extend_behind<F: Field, X: RowExtend<F>>(
-    params: &Params,
+    extending: &Extending<'_, F, X>,
     coefficients: &[F],
-    extender: &X,
     values: &mut [F],
     behind: &mut [F],
     room: &mut [F],
 )
-    requires bounded { AreBounded params.now }
-    requires coefficients { length coefficients.now ≡ params.now.wr }
-    requires reach { X.reach extender.now ≡ record { count = params.now.block; upto = params.now.dblock } }
-    requires values { length values.old ≡ params.now.block }
-    requires behind { length behind.old + params.now.block ≡ params.now.dblock }
-    requires room { X.rooms extender.now ≤ length room.old }
+    requires coefficients { length coefficients.now ≡ extending.now.table.params.now.wr }
+    requires values { length values.old ≡ extending.now.table.params.now.block }
+    requires behind { length behind.old + extending.now.table.params.now.block ≡ extending.now.table.params.now.dblock }
+    requires room { X.rooms extending.now.extender.now ≤ length room.old }
     ensures behind { length behind.new ≡ length behind.old }
     ensures room { length room.new ≡ length room.old }
-    ensures given { (list : List F) → AreCoefficients F.ops params.now (entry F.ops coefficients.now) list
+    ensures given { (list : List F)
+        → AreCoefficients F.ops extending.now.table.params.now (entry F.ops coefficients.now) list
         → values.new ≡ list }
-    ensures further { (list : List F) → AreCoefficients F.ops params.now (entry F.ops coefficients.now) list → (k : ℕ)
+    ensures further { (list : List F)
+        → AreCoefficients F.ops extending.now.table.params.now (entry F.ops coefficients.now) list → (k : ℕ)
         → k < length behind.old
-        → entry F.ops behind.new k ≡ extension F.ops F.coding.element list (params.now.block + k) }
+        → entry F.ops behind.new k ≡ extension F.ops F.coding.element list (extending.now.table.params.now.block + k) }
     ensures values { length values.new ≡ length values.old }
 {
     fill_row(coefficients, values);
+    let extender = extending.extender;
     let size = extender.room_len();
     extender.extend_row(values, behind, &mut room[..size]);
 }
 
 // The values at the first DBLOCK points of the polynomial of a row of coefficients.
 fn extend_coefficients<F: Field, X: RowExtend<F>>(
-    params: &Params,
+    extending: &Extending<'_, F, X>,
     coefficients: &[F],
-    extender: &X,
     row: &mut [F],
     room: &mut [F],
 )
-    requires bounded { AreBounded params.now }
-    requires coefficients { length coefficients.now ≡ params.now.wr }
-    requires reach { X.reach extender.now ≡ record { count = params.now.block; upto = params.now.dblock } }
-    requires row { length row.old ≡ params.now.dblock }
-    requires room { X.rooms extender.now ≤ length room.old }
+    requires coefficients { length coefficients.now ≡ extending.now.table.params.now.wr }
+    requires row { length row.old ≡ extending.now.table.params.now.dblock }
+    requires room { X.rooms extending.now.extender.now ≤ length room.old }
     ensures row { length row.new ≡ length row.old }
     ensures room { length room.new ≡ length room.old }
-    ensures values { (list : List F) → AreCoefficients F.ops params.now (entry F.ops coefficients.now) list → (k : ℕ)
-        → k < params.now.dblock
+    ensures values { (list : List F)
+        → AreCoefficients F.ops extending.now.table.params.now (entry F.ops coefficients.now) list → (k : ℕ)
+        → k < extending.now.table.params.now.dblock
         → entry F.ops row.new k ≡ extension F.ops F.coding.element list k }
 {
+    let params = extending.table.params;
     let (values, behind) = row.split_at_mut(params.block as usize);
-    extend_behind(params, coefficients, extender, values, behind, room);
+    extend_behind(extending, coefficients, values, behind, room);
 }
 
 // Adds, at each point, the value of a row of coefficients times what is given there. The first DBLOCK entries of
 // `room`, and then the extender's, are room.
 fn add_extended<F: Field, X: RowExtend<F>>(
-    params: &Params,
+    extending: &Extending<'_, F, X>,
     coefficients: &[F],
     values: &[F],
-    extender: &X,
     room: &mut [F],
     answer: &mut [F],
 )
-    requires bounded { AreBounded params.now }
-    requires coefficients { length coefficients.now ≡ params.now.wr }
-    requires given { length values.now ≡ params.now.dblock }
-    requires reach { X.reach extender.now ≡ record { count = params.now.block; upto = params.now.dblock } }
-    requires room { X.rooms extender.now + params.now.dblock ≤ length room.old }
-    requires answer { length answer.old ≡ params.now.dblock }
+    requires coefficients { length coefficients.now ≡ extending.now.table.params.now.wr }
+    requires given { length values.now ≡ extending.now.table.params.now.dblock }
+    requires room { X.rooms extending.now.extender.now + extending.now.table.params.now.dblock ≤ length room.old }
+    requires answer { length answer.old ≡ extending.now.table.params.now.dblock }
     ensures room { length room.new ≡ length room.old }
     ensures answer { length answer.new ≡ length answer.old }
     ensures values { let o = F.ops in
-        (list : List F) → AreCoefficients o params.now (entry o coefficients.now) list → (k : ℕ) → k < params.now.dblock
+        (list : List F)
+        → AreCoefficients o extending.now.table.params.now (entry o coefficients.now) list → (k : ℕ)
+        → k < extending.now.table.params.now.dblock
         → entry o answer.new k
         ≡ o.plus (entry o answer.old k) (o.times (extension o F.coding.element list k) (entry o values.now k)) }
 {
+    let params = extending.table.params;
     let (row, rest) = room.split_at_mut(params.dblock as usize);
-    extend_coefficients(params, coefficients, extender, row, rest);
+    extend_coefficients(extending, coefficients, row, rest);
     multiply_list(row, values);
     add_list(answer, row);
 }
@@ -111,31 +111,30 @@ fn add_extended<F: Field, X: RowExtend<F>>(
 // The values from point BLOCK on of the polynomials of the factors' rows of place factors, one row after another.
 // `values` is room, of BLOCK elements.
 fn extend_factors<F: Field, X: RowExtend<F>>(
-    params: &Params,
+    extending: &Extending<'_, F, X>,
     place_factors: &[F],
-    extender: &X,
     values: &mut [F],
     behind: &mut [F],
     room: &mut [F],
 )
-    requires bounded { AreBounded params.now }
-    requires place_factors { length place_factors.now ≡ 4 * params.now.wr }
-    requires reach { X.reach extender.now ≡ record { count = params.now.block; upto = params.now.dblock } }
-    requires values { length values.old ≡ params.now.block }
-    requires behind { length behind.old ≡ 4 * (params.now.dblock - params.now.block) }
-    requires room { X.rooms extender.now ≤ length room.old }
+    requires place_factors { length place_factors.now ≡ 4 * extending.now.table.params.now.wr }
+    requires values { length values.old ≡ extending.now.table.params.now.block }
+    requires behind { length behind.old
+        ≡ 4 * (extending.now.table.params.now.dblock - extending.now.table.params.now.block) }
+    requires room { X.rooms extending.now.extender.now ≤ length room.old }
     ensures values { length values.new ≡ length values.old }
     ensures behind { length behind.new ≡ length behind.old }
     ensures room { length room.new ≡ length room.old }
-    ensures further { AreExtended F.ops F.coding.element params.now place_factors.now behind.new }
+    ensures further { AreExtended F.ops F.coding.element extending.now.table.params.now place_factors.now behind.new }
 {
+    let params = extending.table.params;
     let wr = params.wr as usize;
     let size = (params.dblock - params.block) as usize;
     for f in 0..FACTORS {
         let places = row_of(place_factors, wr, f, wr);
         let (_, rest) = behind.split_at_mut(f * size);
         let (row, _) = rest.split_at_mut(size);
-        extend_behind(params, places, extender, values, row, room);
+        extend_behind(extending, places, values, row, room);
     }
 }
 
@@ -143,37 +142,36 @@ fn extend_factors<F: Field, X: RowExtend<F>>(
 // values of the row of place factors. These are zeros at the first points, then the place factors, and then those of
 // `behind`.
 fn add_factored<F: Field>(
-    params: &Params,
-    table: &[F],
-    width: usize,
+    table: &Table<'_, F>,
     rows: usize,
     row_factors: &[F],
     place_factors: &[F],
     behind: &[F],
     answer: &mut [F],
 )
-    requires bounded { AreBounded params.now }
-    requires table { params.now.nrow * width ≤ length table.now }
-    requires width { params.now.dblock ≤ width }
-    requires rows { rows ≤ params.now.nrow - 3 }
+    requires rows { rows ≤ table.now.params.now.nrow - 3 }
     requires row_factors { length row_factors.now ≡ 4 * rows }
-    requires place_factors { length place_factors.now ≡ 4 * params.now.wr }
-    requires behind { length behind.now ≡ 4 * (params.now.dblock - params.now.block) }
-    requires further { AreExtended F.ops F.coding.element params.now place_factors.now behind.now }
-    requires answer { length answer.old ≡ params.now.dblock }
+    requires place_factors { length place_factors.now ≡ 4 * table.now.params.now.wr }
+    requires behind { length behind.now ≡ 4 * (table.now.params.now.dblock - table.now.params.now.block) }
+    requires further { AreExtended F.ops F.coding.element table.now.params.now place_factors.now behind.now }
+    requires answer { length answer.old ≡ table.now.params.now.dblock }
     ensures answer { length answer.new ≡ length answer.old }
     ensures values { let o = F.ops in
-        (lists : ℕ → List F) → AreFactored o params.now rows 4 row_factors.now place_factors.now lists → (k : ℕ)
-        → k < params.now.dblock
+        (lists : ℕ → List F) → AreFactored o table.now.params.now rows 4 row_factors.now place_factors.now lists
+        → (k : ℕ)
+        → k < table.now.params.now.dblock
         → entry o answer.new k
         ≡ o.plus (entry o answer.old k) (sum_below o rows (λ i.
-        o.times (extension o F.coding.element (lists (3 + i)) k) (entry o table.now ((3 + i) * width + k)))) }
+        o.times (extension o F.coding.element (lists (3 + i)) k)
+        (entry o table.now.values.now ((3 + i) * table.now.width + k)))) }
 {
+    let params = table.params;
+    let (all, width) = (table.values, table.width);
     let block = params.block as usize;
     let (front, further) = answer.split_at_mut(block);
     let (_, elements) = front.split_at_mut(BLINDS);
     add_products(
-        table,
+        all,
         width,
         3,
         BLINDS,
@@ -182,43 +180,40 @@ fn add_factored<F: Field>(
         place_factors,
         elements,
     );
-    add_products(table, width, 3, block, rows, row_factors, behind, further);
+    add_products(all, width, 3, block, rows, row_factors, behind, further);
 }
 
 // Adds the products of the rows behind the first `m` behind row 2, and their coefficients.
 fn add_listed<F: Field, X: RowExtend<F>>(
-    params: &Params,
-    table: &[F],
-    width: usize,
+    extending: &Extending<'_, F, X>,
     m: usize,
     coefficients: &[F],
-    extender: &X,
     room: &mut [F],
     answer: &mut [F],
 )
-    requires bounded { AreBounded params.now }
-    requires table { params.now.nrow * width ≤ length table.now }
-    requires width { params.now.dblock ≤ width }
-    requires rows { m ≤ params.now.nrow - 3 }
-    requires coefficients { length coefficients.now ≡ (params.now.nrow - 3 - m) * params.now.wr }
-    requires reach { X.reach extender.now ≡ record { count = params.now.block; upto = params.now.dblock } }
-    requires room { X.rooms extender.now + params.now.dblock ≤ length room.old }
-    requires answer { length answer.old ≡ params.now.dblock }
+    requires rows { m ≤ extending.now.table.params.now.nrow - 3 }
+    requires coefficients { length coefficients.now
+        ≡ (extending.now.table.params.now.nrow - 3 - m) * extending.now.table.params.now.wr }
+    requires room { X.rooms extending.now.extender.now + extending.now.table.params.now.dblock ≤ length room.old }
+    requires answer { length answer.old ≡ extending.now.table.params.now.dblock }
     ensures room { length room.new ≡ length room.old }
     ensures answer { length answer.new ≡ length answer.old }
     ensures values { let o = F.ops in
-        (lists : ℕ → List F) → AreListed o params.now m coefficients.now lists → (k : ℕ) → k < params.now.dblock
+        (lists : ℕ → List F) → AreListed o extending.now.table.params.now m coefficients.now lists → (k : ℕ)
+        → k < extending.now.table.params.now.dblock
         → entry o answer.new k
-        ≡ o.plus (entry o answer.old k) (sum_below o (params.now.nrow - 3 - m) (λ t.
+        ≡ o.plus (entry o answer.old k) (sum_below o (extending.now.table.params.now.nrow - 3 - m) (λ t.
         o.times (extension o F.coding.element (lists (3 + (m + t))) k)
-        (entry o table.now ((3 + (m + t)) * width + k)))) }
+        (entry o extending.now.table.values.now ((3 + (m + t)) * extending.now.table.width + k)))) }
 {
+    let table = &extending.table;
+    let params = table.params;
     let wr = params.wr as usize;
     let size = params.dblock as usize;
     for t in 0..params.nrow as usize - 3 - m {
         let row = row_of(coefficients, wr, t, wr);
-        let values = row_of(table, width, 3 + (m + t), size);
-        add_extended(params, row, values, extender, room, answer);
+        let values = row_of(table.values, table.width, 3 + (m + t), size);
+        add_extended(extending, row, values, room, answer);
     }
 }
 
@@ -229,12 +224,12 @@ fn add_listed<F: Field, X: RowExtend<F>>(
 /// combined coefficients of each row from row 3 on, one an element of the row. The extender's and DBLOCK more elements
 /// of `room` are used. What they hold before and after has no meaning. No memory is taken. It is the plain form beside
 /// `linear_by_factors_into`, for tests.
-pub fn linear_into<F: Field, X: RowExtend<F>>(
-    params: &Params,
-    table: &[F],
+pub fn linear_into<'a, F: Field, X: RowExtend<F>>(
+    params: &'a Params,
+    table: &'a [F],
     width: usize,
     coefficients: &[F],
-    extender: &X,
+    extender: &'a X,
     room: &mut [F],
     answer: &mut [F],
 )
@@ -253,17 +248,16 @@ pub fn linear_into<F: Field, X: RowExtend<F>>(
         ≡ values_of F.ops F.coding.element params.now.dblock
         (linear_answer F.ops F.coding.element params.now all lists) }
 {
-    set_list(answer, row_of(table, width, 1, params.dblock as usize));
-    add_listed(
-        params,
-        table,
-        width,
-        0,
-        coefficients,
+    let extending = Extending {
+        table: Table {
+            params,
+            values: table,
+            width,
+        },
         extender,
-        room,
-        answer,
-    );
+    };
+    set_list(answer, row_of(table, width, 1, params.dblock as usize));
+    add_listed(&extending, 0, coefficients, room, answer);
 }
 
 /// The same where the coefficients of the first `rows` rows from row 3 on are sums of four products: these rows cost a
@@ -272,15 +266,15 @@ pub fn linear_into<F: Field, X: RowExtend<F>>(
 /// Factor f of row 3 + i is entry `f * rows + i` of `row_factors`, and factor f of position s is entry `f * WR + s` of
 /// `place_factors`. `coefficients` has the combined coefficients of the rows behind these. The extender's and twice
 /// DBLOCK elements of `room` are used.
-pub fn linear_by_factors_into<F: Field, X: RowExtend<F>>(
-    params: &Params,
-    table: &[F],
+pub fn linear_by_factors_into<'a, F: Field, X: RowExtend<F>>(
+    params: &'a Params,
+    table: &'a [F],
     width: usize,
     rows: usize,
     row_factors: &[F],
     place_factors: &[F],
     coefficients: &[F],
-    extender: &X,
+    extender: &'a X,
     room: &mut [F],
     answer: &mut [F],
 )
@@ -304,29 +298,26 @@ pub fn linear_by_factors_into<F: Field, X: RowExtend<F>>(
         ≡ values_of F.ops F.coding.element params.now.dblock
         (linear_answer F.ops F.coding.element params.now all lists) }
 {
+    let extending = Extending {
+        table: Table {
+            params,
+            values: table,
+            width,
+        },
+        extender,
+    };
     let size = FACTORS * (params.dblock - params.block) as usize;
     let (behind, rest) = room.split_at_mut(size);
     let (values, _) = answer.split_at_mut(params.block as usize);
-    extend_factors(params, place_factors, extender, values, behind, rest);
+    extend_factors(&extending, place_factors, values, behind, rest);
     set_list(answer, row_of(table, width, 1, params.dblock as usize));
     add_factored(
-        params,
-        table,
-        width,
+        &extending.table,
         rows,
         row_factors,
         place_factors,
         behind,
         answer,
     );
-    add_listed(
-        params,
-        table,
-        width,
-        rows,
-        coefficients,
-        extender,
-        room,
-        answer,
-    );
+    add_listed(&extending, rows, coefficients, room, answer);
 }

@@ -9,7 +9,7 @@ pub loop-f-preserved : goal.loop-f-preserved
 loop-f-preserved g c =
     let m = g.F.Field in
     let o = m.ops in
-    let p = c.args.params.now in
+    let p = c.args.extending.now.table.params.now in
     let l = c.loop-f in
     let f = l.f in
     let size = p.dblock - p.block in

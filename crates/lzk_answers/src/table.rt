@@ -1,0 +1,27 @@
+//! What answers are made from. The facts about the rows stand with them.
+
+ghost use Rattle.std.specs.Prelude.{◌≡◌, ◌*◌, ◌≤◌, length};
+ghost use Rattle.lzk_layout.specs.Sizes.{AreBounded};
+
+use lzk_field::Field;
+use lzk_layout::Params;
+use lzk_poly::RowExtend;
+
+/// A tableau's rows, one after another, with so many values each, at the first points.
+#[derive(Drop)]
+pub(crate) struct Table<'a, F: Field> {
+    pub(crate) params: &'a Params,
+    pub(crate) values: &'a [F],
+    pub(crate) width: usize,
+    ghost bounded: { AreBounded params.now },
+    ghost inside: { params.now.nrow * width ≤ length values.now },
+    ghost wide: { params.now.dblock ≤ width },
+}
+
+/// The same with what extends a row of coefficients.
+#[derive(Drop)]
+pub(crate) struct Extending<'a, F: Field, X: RowExtend<F>> {
+    pub(crate) table: Table<'a, F>,
+    pub(crate) extender: &'a X,
+    ghost reach: { X.reach extender.now ≡ record { count = table.params.now.block; upto = table.params.now.dblock } },
+}
