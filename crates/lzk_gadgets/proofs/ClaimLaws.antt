@@ -9,7 +9,7 @@ use Rattle.lzk_level.specs.Nodes.{Nodes, node_count, node_values, with_gate, gat
 use Rattle.lzk_level.proofs.MadeLaws.{grown-next, node-more}
 use Rattle.lzk_level.proofs.ValueLaws.{Fits, values-grown, value-next, public-value, private-value}
 use Rattle.lzk_reduce.specs.Renumbering.{at}
-use Rattle.lzk_gadgets.specs.Claims.{Claims, AreInputs, value, values, AreNodes, AreZero, AreAllZero, Holds, Keeps, Makes, Adds}
+use Rattle.lzk_gadgets.specs.Claims.{Claims, AreInputs, value, values, AreNodes, AreZero, AreAllZero, Holds, Keeps, Makes, Yields, Adds}
 
 pub nodes_more : (n m : ℕ) (ks : List ℕ) → n ≤ m → AreNodes n ks → AreNodes m ks
 nodes_more n m [] l h = tt
@@ -142,6 +142,28 @@ module _ {A : Type 0} (o : Ops A) where
     holds = λ p q i.
         let j = inputs_kept a s t p q m.keeps i in
         (λ h. (m.holds p q i).0 ((n.holds p q j).0 h), λ h. (n.holds p q j).1 ((m.holds p q i).1 h));
+  }
+
+  -- ---- several nodes
+  pub yields_then : (a b c : ℕ) (s t u : Claims A) (xs ys : List ℕ) → Yields o a s t xs → Yields o b t u ys → a + b ≤ c → Yields o c s u ys
+  yields_then a b c s t u xs ys m n le = record {
+    keeps = keeps_then a b c s t u m.keeps n.keeps le;
+    there = n.there;
+    count = n.count ∙ m.count;
+    holds = λ p q i.
+        let j = inputs_kept a s t p q m.keeps i in
+        (λ h. (m.holds p q i).0 ((n.holds p q j).0 h), λ h. (n.holds p q j).1 ((m.holds p q i).1 h));
+  }
+
+  pub yields_one : (a : ℕ) (s t : Claims A) (x : ℕ) (xs : List ℕ) → Makes o a s t x → AreNodes (node_count t.nodes) xs → Yields o a s t xs
+  yields_one a s t x xs m h = record { keeps = m.keeps; there = h; count = m.count; holds = m.holds }
+
+  pub yields_none : (s : Claims A) (xs : List ℕ) → AreNodes (node_count s.nodes) xs → Yields o 0 s s xs
+  yields_none s xs h = record {
+    keeps = record { publics = refl; privates = refl; more = omega arith; few = omega arith; same = λ p q i j m. refl };
+    there = h;
+    count = refl;
+    holds = λ p q i. (λ h. h, λ h. h);
   }
 
   -- what is claimed behind new nodes

@@ -58,6 +58,14 @@ pub record Makes {A : Type 0} (o : Ops A) (most : ℕ) (s t : Claims A) (node : 
   pub holds : (public private : List A) → AreInputs s public private →
       Holds o t public private ↔ Holds o s public private
 
+-- the same of several nodes
+pub record Yields {A : Type 0} (o : Ops A) (most : ℕ) (s t : Claims A) (nodes : List ℕ) : Type 0 where
+  pub keeps : Keeps o most s t
+  pub there : AreNodes (node_count t.nodes) nodes
+  pub count : length t.asserts ≡ length s.asserts
+  pub holds : (public private : List A) → AreInputs s public private →
+      Holds o t public private ↔ Holds o s public private
+
 -- t is s with at most so many nodes and exactly so many asserts more, and claims what s claims and this, neither more
 -- nor less
 pub record Adds {A : Type 0} (o : Ops A) (most asserts : ℕ) (s t : Claims A)

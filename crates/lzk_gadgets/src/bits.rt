@@ -1,6 +1,6 @@
 //! Equality, bits, choices.
 
-ghost use Rattle.std.specs.Prelude.{◌≡◌, ℕ, ◌+◌, ◌*◌, ◌<◌, ◌≤◌, List, length, IfOk};
+ghost use Rattle.std.specs.Prelude.{◌≡◌, ◌*◌, List, length, IfOk};
 ghost use Rattle.lzk_goldilocks.specs.Elements.{ops, of_number};
 ghost use Rattle.lzk_goldilocks.specs.declared.element.Gold.{Gold};
 ghost use Rattle.lzk_level.specs.Nodes.{node_count, IsNode};
@@ -16,7 +16,6 @@ use std::alloc::AllocError;
 impl Statement {
     /// One node less another.
     pub fn difference(&mut self, x: Node, y: Node) -> Result<Node, AllocError>
-        requires room { node_count self.old.nodes < 2147483648 }
         requires nodes { IsNode (node_count self.old.nodes) x × IsNode (node_count self.old.nodes) y }
         ensures makes { IfOk result (λ node. Makes ops 1 self.old self.new node) }
         ensures value { (public private : List Gold) → AreInputs self.old public private →
@@ -29,7 +28,6 @@ impl Statement {
 
     /// Claims that two nodes are equal.
     pub fn assert_equal(&mut self, x: Node, y: Node) -> Result<(), AllocError>
-        requires room { node_count self.old.nodes < 2147483648 }
         requires nodes { IsNode (node_count self.old.nodes) x × IsNode (node_count self.old.nodes) y }
         ensures { IfOk result (λ _. Adds ops 1 1 self.old self.new
             (λ public private. value ops self.old public private x ≡ value ops self.old public private y)) }
@@ -41,7 +39,6 @@ impl Statement {
 
     /// Claims that a node is 0 or 1.
     pub fn assert_bit(&mut self, x: Node) -> Result<(), AllocError>
-        requires room { node_count self.old.nodes + 2 ≤ 2147483648 }
         requires node { IsNode (node_count self.old.nodes) x }
         ensures { IfOk result (λ _. Adds ops 2 1 self.old self.new
             (λ public private. IsBit (value ops self.old public private x))) }
@@ -53,7 +50,6 @@ impl Statement {
 
     /// Claims that each node is 0 or 1.
     pub fn assert_bits(&mut self, xs: &[Node]) -> Result<(), AllocError>
-        requires room { node_count self.old.nodes + 2 * length xs.now ≤ 2147483648 }
         requires nodes { AreNodes (node_count self.old.nodes) xs.now }
         ensures { IfOk result (λ _. Adds ops (2 * length xs.now) (length xs.now) self.old self.new
             (λ public private. AreBits (values ops self.old public private xs.now))) }
@@ -68,7 +64,6 @@ impl Statement {
 
     /// `x` where the bit is 1, and `y` where it is 0: what it is elsewhere is not said.
     pub fn select(&mut self, bit: Node, x: Node, y: Node) -> Result<Node, AllocError>
-        requires room { node_count self.old.nodes + 3 ≤ 2147483648 }
         requires nodes { IsNode (node_count self.old.nodes) bit × IsNode (node_count self.old.nodes) x ×
             IsNode (node_count self.old.nodes) y }
         ensures makes { IfOk result (λ node. Makes ops 3 self.old self.new node) }

@@ -1,6 +1,6 @@
 //! Nodes that are not 0, nodes that differ, and nodes that are one of a list.
 
-ghost use Rattle.std.specs.Prelude.{◌≡◌, ℕ, ◌+◌, ◌*◌, ◌≤◌, List, length, IfOk};
+ghost use Rattle.std.specs.Prelude.{◌≡◌, ◌+◌, ◌*◌, List, length, IfOk};
 ghost use Rattle.lzk_goldilocks.specs.Elements.{ops};
 ghost use Rattle.lzk_goldilocks.specs.declared.element.Gold.{Gold};
 ghost use Rattle.lzk_level.specs.Nodes.{node_count, IsNode};
@@ -17,7 +17,6 @@ impl Statement {
     /// Claims that a node is not 0, and that another is its inverse: there is one exactly where it is not 0
     /// ([`crate::inverse_laws`]).
     pub fn assert_nonzero(&mut self, x: Node, inverse: Node) -> Result<(), AllocError>
-        requires room { node_count self.old.nodes + 3 ≤ 2147483648 }
         requires nodes { IsNode (node_count self.old.nodes) x × IsNode (node_count self.old.nodes) inverse }
         ensures { IfOk result (λ _. Adds ops 3 1 self.old self.new
             (λ public private.
@@ -32,7 +31,6 @@ impl Statement {
     /// Claims that two nodes differ, and that another is the inverse of their difference: there is one exactly where
     /// they differ.
     pub fn assert_different(&mut self, x: Node, y: Node, inverse: Node) -> Result<(), AllocError>
-        requires room { node_count self.old.nodes + 4 ≤ 2147483648 }
         requires nodes { IsNode (node_count self.old.nodes) x × IsNode (node_count self.old.nodes) y ×
             IsNode (node_count self.old.nodes) inverse }
         ensures { IfOk result (λ _. Adds ops 4 1 self.old self.new (λ public private.
@@ -46,7 +44,6 @@ impl Statement {
 
     // The product of a node's differences from these elements.
     fn distance(&mut self, x: Node, choices: &[Gold]) -> Result<Node, AllocError>
-        requires room { node_count self.old.nodes + 1 + 3 * length choices.now ≤ 2147483648 }
         requires node { IsNode (node_count self.old.nodes) x }
         ensures makes { IfOk result (λ node. Makes ops (1 + 3 * length choices.now) self.old self.new node) }
         ensures value { (public private : List Gold) → AreInputs self.old public private →
@@ -66,7 +63,6 @@ impl Statement {
 
     /// Claims that a node is one of these elements.
     pub fn assert_among(&mut self, x: Node, choices: &[Gold]) -> Result<(), AllocError>
-        requires room { node_count self.old.nodes + 1 + 3 * length choices.now ≤ 2147483648 }
         requires node { IsNode (node_count self.old.nodes) x }
         ensures { IfOk result (λ _. Adds ops (1 + 3 * length choices.now) 1 self.old self.new
             (λ public private. IsAmong (value ops self.old public private x) choices.now)) }

@@ -21,8 +21,9 @@ mod inverses;
 mod laws;
 mod numbers;
 mod statement;
+mod texts;
 mod witness;
 
-pub use laws::{gadget_laws, inverse_laws};
+pub use laws::{gadget_laws, inverse_laws, text_laws};
 pub use statement::Statement;
-pub use witness::spelling;
+pub use witness::{spelling, text_bits};

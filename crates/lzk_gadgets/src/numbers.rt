@@ -1,6 +1,6 @@
 //! Numbers by their bits, and order.
 
-ghost use Rattle.std.specs.Prelude.{◌≡◌, ℕ, ◌+◌, ◌-◌, ◌*◌, ◌<◌, ◌≤◌, ◌^◌, ◌↔◌, List, ◌∷◌, length, IfOk};
+ghost use Rattle.std.specs.Prelude.{◌≡◌, ◌+◌, ◌-◌, ◌*◌, ◌<◌, ◌≤◌, ◌^◌, ◌↔◌, List, ◌∷◌, length, IfOk};
 ghost use Rattle.lzk_goldilocks.specs.Elements.{ops};
 ghost use Rattle.lzk_goldilocks.specs.declared.element.Gold.{Gold};
 ghost use Rattle.lzk_level.specs.Nodes.{node_count};
@@ -16,7 +16,6 @@ use std::alloc::AllocError;
 impl Statement {
     /// What entries are worth, the first one the least: 1, 2, 4, and so on.
     pub fn worth(&mut self, xs: &[Node]) -> Result<Node, AllocError>
-        requires room { node_count self.old.nodes + 1 + length xs.now ≤ 2147483648 }
         requires nodes { AreNodes (node_count self.old.nodes) xs.now }
         ensures makes { IfOk result (λ node. Makes ops (1 + length xs.now) self.old self.new node) }
         ensures value { (public private : List Gold) → AreInputs self.old public private →
@@ -37,7 +36,6 @@ impl Statement {
     /// spelled in one way ([`crate::gadget_laws`]).
     pub fn assert_spelled(&mut self, x: Node, bits: &[Node]) -> Result<(), AllocError>
         requires few { length bits.now ≤ 63 }
-        requires room { node_count self.old.nodes + 2 + 3 * length bits.now ≤ 2147483648 }
         requires nodes { AreNodes (node_count self.old.nodes) (x ∷ bits.now) }
         ensures { IfOk result (λ _. Adds ops (2 + 3 * length bits.now) (1 + length bits.now) self.old self.new
             (λ public private.
@@ -53,7 +51,6 @@ impl Statement {
     /// difference.
     pub fn assert_at_most(&mut self, x: Node, y: Node, bits: &[Node]) -> Result<(), AllocError>
         requires few { length bits.now ≤ 62 }
-        requires room { node_count self.old.nodes + 3 + 3 * length bits.now ≤ 2147483648 }
         requires nodes { AreNodes (node_count self.old.nodes) (x ∷ y ∷ bits.now) }
         ensures keeps { IfOk result (λ _. Keeps ops (3 + 3 * length bits.now) self.old self.new) }
         ensures count { IfOk result (λ _. length self.new.asserts ≡ length self.old.asserts + (1 + length bits.now)) }

@@ -1,6 +1,6 @@
 //! Statements.
 
-ghost use Rattle.std.specs.Prelude.{◌≡◌, ℕ, ◌+◌, ◌<◌, ◌≤◌, ◌↔◌, List, [], length, IfOk, IfErr};
+ghost use Rattle.std.specs.Prelude.{◌≡◌, ◌<◌, ◌≤◌, ◌↔◌, List, [], length, IfOk, IfErr};
 ghost use Rattle.lzk_field.specs.Sums.{entry};
 ghost use Rattle.lzk_goldilocks.specs.Elements.{ops};
 ghost use Rattle.lzk_goldilocks.specs.declared.element.Gold.{Gold};
@@ -15,7 +15,8 @@ use lzk_level::{Builder, LevelError, Node};
 use std::alloc::{AllocError, Global};
 use std::marker::Model;
 
-/// Nodes over the Goldilocks field, some of which are asserted to be 0.
+/// Nodes over the Goldilocks field, some of which are asserted to be 0. It has at most 2^31 nodes: for more there is no
+/// memory.
 #[derive(Drop)]
 pub struct Statement {
     builder: Builder<Gold>,
@@ -34,6 +35,19 @@ impl Model for Statement {
     ghost invariant = { λ s. AreNodes (node_count s.builder) s.asserts.items };
 }
 
+// How many nodes a builder has at most.
+const MOST_NODES: u32 = 2_147_483_648;
+
+// One node more: past so many there is no memory.
+fn has_room(builder: &Builder<Gold>) -> Result<(), AllocError>
+    ensures { IfOk result (λ _. node_count builder.now < 2147483648) }
+{
+    if builder.len() == MOST_NODES {
+        return Err(AllocError);
+    }
+    Ok(())
+}
+
 impl Statement {
     /// A statement of so many inputs, which claims nothing.
     pub fn new(alloc: Global, publics: u32, privates: u32) -> Result<Statement, AllocError>
@@ -46,6 +60,13 @@ impl Statement {
             builder,
             asserts: Vec::new(alloc),
         })
+    }
+
+    /// A statement has at most 2^31 nodes: a law, for callers that see its value alone. Nothing is done.
+    pub fn room_laws(&self)
+        ensures { node_count self.now.nodes ≤ 2147483648 }
+    {
+        let _ = self.builder.len();
     }
 
     /// Public input `i`.
@@ -70,31 +91,30 @@ impl Statement {
 
     /// A node that is `c` on every input.
     pub fn constant(&mut self, c: Gold) -> Result<Node, AllocError>
-        requires room { node_count self.old.nodes < 2147483648 }
         ensures makes { IfOk result (λ node. Makes ops 1 self.old self.new node) }
         ensures value { (public private : List Gold) → AreInputs self.old public private →
             IfOk result (λ node. value ops self.new public private node ≡ c) }
     {
+        has_room(&self.builder)?;
         let node = self.builder.constant(c)?;
         Ok(node)
     }
 
     /// The product of two nodes.
     pub fn product(&mut self, x: Node, y: Node) -> Result<Node, AllocError>
-        requires room { node_count self.old.nodes < 2147483648 }
         requires nodes { IsNode (node_count self.old.nodes) x × IsNode (node_count self.old.nodes) y }
         ensures makes { IfOk result (λ node. Makes ops 1 self.old self.new node) }
         ensures value { (public private : List Gold) → AreInputs self.old public private →
             IfOk result (λ node. value ops self.new public private node ≡
             ops.times (value ops self.old public private x) (value ops self.old public private y)) }
     {
+        has_room(&self.builder)?;
         let node = self.builder.mul(x, y)?;
         Ok(node)
     }
 
     /// `a` times a node and `b` times another.
     pub fn weighted(&mut self, a: Gold, x: Node, b: Gold, y: Node) -> Result<Node, AllocError>
-        requires room { node_count self.old.nodes < 2147483648 }
         requires nodes { IsNode (node_count self.old.nodes) x × IsNode (node_count self.old.nodes) y }
         ensures makes { IfOk result (λ node. Makes ops 1 self.old self.new node) }
         ensures value { (public private : List Gold) → AreInputs self.old public private →
@@ -102,6 +122,7 @@ impl Statement {
             ops.plus (ops.times a (value ops self.old public private x))
             (ops.times b (value ops self.old public private y))) }
     {
+        has_room(&self.builder)?;
         let node = self.builder.combine(&[(a, x), (b, y)])?;
         Ok(node)
     }

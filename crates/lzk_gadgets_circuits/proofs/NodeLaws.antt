@@ -20,9 +20,9 @@ use Rattle.lzk_circuit.proofs.TermSums.{share}
 use Rattle.lzk_circuit.proofs.VersionLaws.{valid-one}
 use Rattle.lzk_reduce.specs.Renumbering.{at}
 use Rattle.lzk_level.specs.Nodes.{node_count, IsNode}
-use Rattle.lzk_gadgets.specs.Claims.{Claims, AreInputs, AreNodes, AreAllZero, value, values, Makes, Adds}
-use Rattle.lzk_gadgets.proofs.ClaimLaws.{nodes_more, node_at, inputs_kept, keeps_then, values_kept}
-use Rattle.lzk_gadgets_circuits.specs.Yields.{Yields, layer_nodes, output_count}
+use Rattle.lzk_gadgets.specs.Claims.{Claims, AreInputs, AreNodes, AreAllZero, value, values, Makes, Yields, Adds}
+use Rattle.lzk_gadgets.proofs.ClaimLaws.{nodes_more, node_at, inputs_kept, keeps_then, values_kept, yields_then, yields_one, yields_none}
+use Rattle.lzk_gadgets_circuits.specs.Counts.{layer_nodes, output_count}
 
 pub nodes_set : (n : ℕ) (ks : List ℕ) (i k : ℕ) → AreNodes n ks → IsNode n k → AreNodes n (slice_set ks i k)
 nodes_set n [] i k h one = tt
@@ -70,27 +70,6 @@ module _ {A : Type 0} (o : Ops A) where
   repeat-zero s p q z e (suc n) (suc k) = repeat-zero s p q z e n k
 
   -- ---- nodes behind nodes
-
-  pub yields_then : (a b c : ℕ) (s t u : Claims A) (xs ys : List ℕ) → Yields o a s t xs → Yields o b t u ys → a + b ≤ c → Yields o c s u ys
-  yields_then a b c s t u xs ys m n le = record {
-    keeps = keeps_then o a b c s t u m.keeps n.keeps le;
-    there = n.there;
-    count = n.count ∙ m.count;
-    holds = λ p q i.
-        let j = inputs_kept o a s t p q m.keeps i in
-        (λ h. (m.holds p q i).0 ((n.holds p q j).0 h), λ h. (n.holds p q j).1 ((m.holds p q i).1 h));
-  }
-
-  pub yields_one : (a : ℕ) (s t : Claims A) (x : ℕ) (xs : List ℕ) → Makes o a s t x → AreNodes (node_count t.nodes) xs → Yields o a s t xs
-  yields_one a s t x xs m h = record { keeps = m.keeps; there = h; count = m.count; holds = m.holds }
-
-  pub yields_none : (s : Claims A) (xs : List ℕ) → AreNodes (node_count s.nodes) xs → Yields o 0 s s xs
-  yields_none s xs h = record {
-    keeps = record { publics = refl; privates = refl; more = omega arith; few = omega arith; same = λ p q i j m. refl };
-    there = h;
-    count = refl;
-    holds = λ p q i. (λ h. h, λ h. h);
-  }
 
   pub yields_adds : (a b c k : ℕ) (s t u : Claims A) (xs : List ℕ) (D E : List A → List A → Type 0) → Yields o a s t xs → Adds o b k t u D → a + b ≤ c
       → ((p q : List A) → AreInputs s p q → D p q ↔ E p q) → Adds o c k s u E
@@ -215,17 +194,6 @@ module _ {A : Type 0} (o : Ops A) where
             v p q (inputs_kept o (layer_nodes (drop l layers)) s t p q h.yields.keeps a) ∙ ap (layer_values o layer) (h.are p q a)
             ∙ sym (ap (λ ls. wires_of o ls (values o s p q inputs)) all);
       }
-
-  -- what is left of the room
-  pub rest-nodes : (m l : ℕ) (layers : List (Layer A)) (layer : Layer A) → m + 1 ≡ l → drop m layers ≡ layer ∷ drop (m + 1) layers → layer_nodes (drop l layers) + (1 + 2 * length layer.terms) ≤ layer_nodes layers
-  rest-nodes m l layers layer back is =
-      let here = few m layers in
-      omega (arith, here, ap layer_nodes is, ap (λ k. layer_nodes (drop k layers)) back)
-    where
-      few : (k : ℕ) (layers : List (Layer A)) → layer_nodes (drop k layers) ≤ layer_nodes layers
-      few zero layers = omega arith
-      few (suc k) [] = omega arith
-      few (suc k) (layer ∷ layers) = omega (arith, few k layers)
 
 -- ---- a circuit of version 1 is satisfied where its outputs are 0
 

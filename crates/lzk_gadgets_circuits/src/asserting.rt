@@ -1,13 +1,13 @@
 //! Circuits as claims.
 
-ghost use Rattle.std.specs.Prelude.{◌≡◌, ℕ, ◌+◌, ◌≤◌, ◌∷◌, List, length, IfOk};
+ghost use Rattle.std.specs.Prelude.{◌≡◌, ◌+◌, ◌≤◌, ◌∷◌, List, length, IfOk};
 ghost use Rattle.lzk_goldilocks.specs.Elements.{ops, number};
 ghost use Rattle.lzk_goldilocks.specs.declared.element.Gold.{Gold};
 ghost use Rattle.lzk_circuit.specs.Checks.{IsSatisfied};
 ghost use Rattle.lzk_circuit.specs.Valid.{input_width, IsValid};
 ghost use Rattle.lzk_circuit.specs.Wires.{wires_of};
-ghost use Rattle.lzk_gadgets.specs.Claims.{AreInputs, AreNodes, AreAllZero, values, Adds};
-ghost use Rattle.lzk_gadgets_circuits.specs.Yields.{Yields, layer_nodes, output_count};
+ghost use Rattle.lzk_gadgets.specs.Claims.{AreInputs, AreNodes, AreAllZero, values, Yields, Adds};
+ghost use Rattle.lzk_gadgets_circuits.specs.Counts.{layer_nodes, output_count};
 ghost use Rattle.lzk_level.specs.Nodes.{node_count};
 
 use crate::layer::layer_nodes;
@@ -39,7 +39,6 @@ fn output_nodes(
     circuit: &Circuit<Gold>,
     inputs: Vec<Node>,
 ) -> Result<Vec<Node>, AllocError>
-    requires room { node_count s.old.nodes + layer_nodes circuit.now.layers ≤ 2147483648 }
     requires count { length inputs.items ≡ input_width circuit.now }
     requires nodes { AreNodes (node_count s.old.nodes) inputs.items }
     ensures yields { IfOk result (λ nodes. Yields ops (layer_nodes circuit.now.layers) s.old s.new nodes.items) }
@@ -68,7 +67,6 @@ pub fn assert_circuit(
 ) -> Result<(), AllocError>
     requires version { circuit.now.version ≡ 1 }
     requires count { length inputs.now ≡ circuit.now.publics + circuit.now.privates }
-    requires room { node_count s.old.nodes + 4194817 ≤ 2147483648 }
     requires nodes { AreNodes (node_count s.old.nodes) inputs.now }
     ensures adds { IfOk result (λ _. Adds ops 4194817 (output_count circuit.now) s.old s.new
         (λ public private. IsSatisfied ops number circuit.now.layers

@@ -19,13 +19,13 @@ pub fn public_nodes(
     start: u32,
     count: u32,
 ) -> Result<Vec<Node>, AllocError>
-    requires few { start + count ≤ 65535 }
-    requires there { start + count ≤ s.now.nodes.publics }
+    requires { start + count ≤ s.now.nodes.publics }
     ensures count { IfOk result (λ nodes. length nodes.items ≡ count) }
     ensures nodes { IfOk result (λ nodes. AreNodes (node_count s.now.nodes) nodes.items) }
     ensures each { (public private : List Gold) → AreInputs s.now public private → IfOk result (λ nodes.
         (k : ℕ) → k < count → value ops s.now public private (at nodes.items k) ≡ entry ops public (start + k)) }
 {
+    s.room_laws();
     let mut nodes = Vec::with_capacity(alloc, count as usize)?;
     for k in 0..count {
         let node = s.public(start + k);
@@ -41,13 +41,13 @@ pub fn private_nodes(
     start: u32,
     count: u32,
 ) -> Result<Vec<Node>, AllocError>
-    requires few { start + count ≤ 65536 }
-    requires there { start + count ≤ s.now.nodes.privates }
+    requires { start + count ≤ s.now.nodes.privates }
     ensures count { IfOk result (λ nodes. length nodes.items ≡ count) }
     ensures nodes { IfOk result (λ nodes. AreNodes (node_count s.now.nodes) nodes.items) }
     ensures each { (public private : List Gold) → AreInputs s.now public private → IfOk result (λ nodes.
         (k : ℕ) → k < count → value ops s.now public private (at nodes.items k) ≡ entry ops private (start + k)) }
 {
+    s.room_laws();
     let mut nodes = Vec::with_capacity(alloc, count as usize)?;
     for k in 0..count {
         let node = s.private(start + k);

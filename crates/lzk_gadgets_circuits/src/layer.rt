@@ -1,12 +1,11 @@
 //! The nodes of a layer.
 
-ghost use Rattle.std.specs.Prelude.{◌≡◌, ℕ, ◌+◌, ◌*◌, ◌<◌, ◌≤◌, None, List, length, replicate, slice_set, IfOk};
+ghost use Rattle.std.specs.Prelude.{◌≡◌, ◌+◌, ◌*◌, ◌<◌, None, List, length, replicate, slice_set, IfOk};
 ghost use Rattle.lzk_goldilocks.specs.Elements.{ops};
 ghost use Rattle.lzk_goldilocks.specs.declared.element.Gold.{Gold};
 ghost use Rattle.lzk_circuit.specs.Valid.{ArePlaced};
 ghost use Rattle.lzk_circuit.specs.Wires.{layer_values};
-ghost use Rattle.lzk_gadgets.specs.Claims.{AreInputs, AreNodes, value, values, Makes};
-ghost use Rattle.lzk_gadgets_circuits.specs.Yields.{Yields};
+ghost use Rattle.lzk_gadgets.specs.Claims.{AreInputs, AreNodes, value, values, Makes, Yields};
 ghost use Rattle.lzk_level.specs.Nodes.{node_count, IsNode};
 ghost use Rattle.lzk_reduce.specs.Renumbering.{at};
 
@@ -40,7 +39,6 @@ fn add_term(
     below: &[Node],
     sum: Node,
 ) -> Result<Node, AllocError>
-    requires room { node_count s.old.nodes + 2 ≤ 2147483648 }
     requires a { term.a < length below.now }
     requires b { term.b < length below.now }
     requires below { AreNodes (node_count s.old.nodes) below.now }
@@ -76,7 +74,6 @@ pub fn layer_nodes(
     layer: &Layer<Gold>,
     below: &[Node],
 ) -> Result<Vec<Node>, AllocError>
-    requires room { node_count s.old.nodes + 1 + 2 * length layer.now.terms ≤ 2147483648 }
     requires terms { ArePlaced layer.now.wires (length below.now) None layer.now.terms }
     requires nodes { AreNodes (node_count s.old.nodes) below.now }
     ensures yields { IfOk result (λ nodes. Yields ops (1 + 2 * length layer.now.terms) s.old s.new nodes.items) }

@@ -2,7 +2,8 @@
 
 use lzk_circuit::{Circuit, Values};
 use lzk_field::Field;
-use lzk_gadgets::{Statement, gadget_laws, inverse_laws, spelling};
+use lzk_gadgets::{Statement, gadget_laws, inverse_laws, spelling, text_bits, text_laws};
+use lzk_gadgets_circuits::private_nodes;
 use lzk_goldilocks::Gold;
 use lzk_level::LevelError;
 use std::alloc::{AllocError, Global};
@@ -36,6 +37,32 @@ fn listed(alloc: Global) -> Result<Circuit<Gold>, LevelError> {
     s.assert_among(x, &[Gold::of_word(3), Gold::of_word(5)])?;
     s.assert_nonzero(x, inverse)?;
     s.assert_different(x, y, of_difference)?;
+    s.finish()
+}
+
+// The bits of "zk", by Python's format(byte, "08b").
+const TEXT_BITS: [u128; 16] = [0, 1, 1, 1, 1, 0, 1, 0, 0, 1, 1, 0, 1, 0, 1, 1];
+
+// Those of "zj".
+const OTHER_BITS: [u128; 16] = [0, 1, 1, 1, 1, 0, 1, 0, 0, 1, 1, 0, 1, 0, 1, 0];
+
+// These are worth as much as those of "zk", but 3 is no bit.
+const NO_BITS: [u128; 16] = [0, 1, 1, 1, 1, 0, 1, 0, 0, 1, 1, 0, 1, 0, 0, 3];
+
+// Sixteen private bits spell "zk".
+fn spelled(alloc: Global) -> Result<Circuit<Gold>, LevelError> {
+    let mut s = Statement::new(alloc, 0, 16)?;
+    let bits = private_nodes(alloc, &s, 0, 16)?;
+    s.assert_text(alloc, &bits, b"zk")?;
+    s.finish()
+}
+
+// Eight by eight they are worth its two bytes.
+fn worth(alloc: Global) -> Result<Circuit<Gold>, LevelError> {
+    let mut s = Statement::new(alloc, 0, 16)?;
+    let bits = private_nodes(alloc, &s, 0, 16)?;
+    let bytes = s.bytes(alloc, &bits)?;
+    s.assert_values(&bytes, &[Gold::of_word(122), Gold::of_word(107)])?;
     s.finish()
 }
 
@@ -125,5 +152,33 @@ fn numbers_are_spelled(rt: HostRuntime) -> Result<(), Fail> {
         numbers.push(bit.number())?;
     }
     assert_eq!(rt; numbers.as_slice(), [0, 1, 1, 0].as_slice());
+    Ok(())
+}
+
+#[test]
+fn a_text_is_spelled_by_its_bits(rt: HostRuntime) -> Result<(), Fail> {
+    let alloc = rt.alloc();
+    text_laws();
+    let (Ok(text), Ok(bytes)) = (spelled(alloc), worth(alloc)) else {
+        assert!(rt; false);
+        return Ok(());
+    };
+    assert!(rt; holds(alloc, &text, &[], &TEXT_BITS)?);
+    assert!(rt; !holds(alloc, &text, &[], &OTHER_BITS)?);
+    assert!(rt; !holds(alloc, &text, &[], &NO_BITS)?);
+    assert!(rt; holds(alloc, &bytes, &[], &TEXT_BITS)?);
+    assert!(rt; holds(alloc, &bytes, &[], &NO_BITS)?);
+    assert!(rt; !holds(alloc, &bytes, &[], &OTHER_BITS)?);
+    Ok(())
+}
+
+#[test]
+fn a_text_has_its_bits(rt: HostRuntime) -> Result<(), Fail> {
+    let alloc = rt.alloc();
+    let mut numbers = Vec::new(alloc);
+    for bit in text_bits(alloc, b"zk")? {
+        numbers.push(bit.number())?;
+    }
+    assert_eq!(rt; numbers.as_slice(), TEXT_BITS.as_slice());
     Ok(())
 }

@@ -6,13 +6,10 @@ use Rattle.lzk_circuit.specs.Checks.{IsSatisfied}
 use Rattle.lzk_circuit.specs.Wires.{wires_of}
 use Rattle.lzk_level.specs.Nodes.{node_count}
 use Rattle.lzk_gadgets.specs.Claims.{AreNodes, AreAllZero, Adds, value, values}
-use Rattle.lzk_gadgets.proofs.ClaimLaws.{nodes_more, inputs_kept, values_kept}
-use Rattle.lzk_gadgets_circuits.specs.Yields.{layer_nodes, output_count}
-use Rattle.lzk_gadgets_circuits.proofs.NodeLaws.{yields_one, yields_then, yields_adds, zero-satisfied, few-nodes, few-outputs}
+use Rattle.lzk_gadgets.proofs.ClaimLaws.{nodes_more, inputs_kept, values_kept, yields_one, yields_then}
+use Rattle.lzk_gadgets_circuits.specs.Counts.{layer_nodes, output_count}
+use Rattle.lzk_gadgets_circuits.proofs.NodeLaws.{yields_adds, zero-satisfied, few-nodes, few-outputs}
 use Rattle.lzk_gadgets_circuits.proofs.asserting.assert_circuit.Goals as goal
-
-pub output_nodes-requires-clause-room : goal.output_nodes-requires-clause-room
-output_nodes-requires-clause-room c = omega (arith, c.in_ok-one.ensures.makes.keeps.few, c.requires.room, few-nodes ops c.args.circuit.now c.valid_laws.ensures)
 
 pub output_nodes-requires-clause-count : goal.output_nodes-requires-clause-count
 output_nodes-requires-clause-count c =

@@ -3,21 +3,13 @@ use Rattle.lzk_goldilocks.specs.Elements.{ops}
 use Rattle.lzk_circuit.specs.Valid.{input_width, under_of, ArePlaced}
 use Rattle.lzk_circuit.specs.Wires.{layer_values, wires_of}
 use Rattle.lzk_level.specs.Nodes.{node_count}
-use Rattle.lzk_gadgets.specs.Claims.{AreNodes, values}
-use Rattle.lzk_gadgets_circuits.specs.Yields.{Yields, layer_nodes}
-use Rattle.lzk_gadgets_circuits.proofs.NodeLaws.{count-outputs, layer-of, standing-starts, standing-adds, rest-nodes}
+use Rattle.lzk_gadgets.specs.Claims.{AreNodes, values, Yields}
+use Rattle.lzk_gadgets_circuits.specs.Counts.{layer_nodes}
+use Rattle.lzk_gadgets_circuits.proofs.NodeLaws.{count-outputs, layer-of, standing-starts, standing-adds}
 use Rattle.lzk_gadgets_circuits.proofs.asserting.output_nodes.Goals as goal
 
 pub loop-l-init : goal.loop-l-init
 loop-l-init c = standing-starts ops c.args.s.now (input_width c.args.circuit.now) c.depth-l.result c.args.circuit.now.layers c.args.inputs.items (omega (arith, c.depth-l.ensures.depth)) c.requires.count c.requires.nodes
-
-pub layer_nodes-requires-clause-room : goal.layer_nodes-requires-clause-room
-layer_nodes-requires-clause-room c =
-    let circuit = c.args.circuit.now in
-    let own = c.layer-layer.result.now in
-    let m = c.loop-l.l - 1 in
-    let is = layer-of ops circuit m own c.depth-l.ensures.valid c.layer-layer.ensures in
-    omega (arith, c.loop-l.invariant.yields.keeps.few, c.requires.room, rest-nodes ops m c.loop-l.l circuit.layers own (omega (arith, c.loop-l-test.true)) is.drops)
 
 pub layer_nodes-requires-clause-terms : goal.layer_nodes-requires-clause-terms
 layer_nodes-requires-clause-terms c =

@@ -7,17 +7,19 @@ use Rattle.lzk_gadgets.proofs.ClaimLaws.{node_at, inputs_kept, makes_then}
 use Rattle.lzk_gadgets_circuits.proofs.NodeLaws.{term-sum}
 use Rattle.lzk_gadgets_circuits.proofs.layer.add_term.Goals as goal
 
-pub product-requires-clause-nodes : goal.product-requires-clause-nodes
-product-requires-clause-nodes c =
+pub product-requires : goal.product-requires
+product-requires c =
     let n = node_count c.args.s.now.nodes in
     let below = c.args.below.now in
-    (subst (IsNode n) (sym c.node_of-a.ensures) (node_at n below c.requires.below c.args.term.a c.requires.a), subst (IsNode n) (sym c.node_of-b.ensures) (node_at n below c.requires.below c.args.term.b c.requires.b))
+    record {
+      nodes = (subst (IsNode n) (sym c.node_of-a.ensures) (node_at n below c.requires.below c.args.term.a c.requires.a), subst (IsNode n) (sym c.node_of-b.ensures) (node_at n below c.requires.below c.args.term.b c.requires.b));
+    }
 
-pub weighted-requires-clause-nodes : goal.weighted-requires-clause-nodes
-weighted-requires-clause-nodes c =
+pub weighted-requires : goal.weighted-requires
+weighted-requires c =
     let more = c.in_ok-product.ensures.makes.keeps.more in
     let m = c.requires.sum.1 in
-    (c.in_ok-product.ensures.makes.there, (c.requires.sum.0, omega (arith, more, m)))
+    record { nodes = (c.in_ok-product.ensures.makes.there, (c.requires.sum.0, omega (arith, more, m))) }
 
 pub returns-clause-makes : goal.returns-clause-makes
 returns-clause-makes c =

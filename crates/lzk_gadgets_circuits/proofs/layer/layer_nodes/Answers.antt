@@ -2,8 +2,8 @@ use Rattle.std.proofs.Common.{◌≡◌, ◌∙◌, ◌+◌, ◌*◌, sym, ap, s
 use Rattle.lzk_goldilocks.specs.Elements.{ops, ring}
 use Rattle.lzk_level.specs.Nodes.{node_count, IsNode}
 use Rattle.lzk_reduce.specs.Renumbering.{at}
+use Rattle.lzk_gadgets.specs.Claims.{Yields}
 use Rattle.lzk_gadgets.proofs.ClaimLaws.{node_at, nodes_more}
-use Rattle.lzk_gadgets_circuits.specs.Yields.{Yields}
 use Rattle.lzk_gadgets_circuits.proofs.NodeLaws.{summing-starts, summing-adds, summing-ends, placed-term}
 use Rattle.lzk_gadgets_circuits.proofs.layer.layer_nodes.Goals as goal
 
@@ -18,10 +18,6 @@ node_of-sum-requires c =
     let layer = c.args.layer.now in
     let one = placed-term layer.wires (length c.args.below.now) layer.terms c.as_slice-terms.result.now c.loop-i.i c.index-terms-i.result c.requires.terms c.as_slice-terms.ensures c.loop-i-test.true c.index-terms-i.is in
     omega (arith, one.g, c.loop-i.invariant.count, ap length c.deref.ensures.value)
-
-pub add_term-requires-clause-room : goal.add_term-requires-clause-room
-add_term-requires-clause-room c =
-    omega (arith, c.loop-i.invariant.yields.keeps.few, c.requires.room, c.loop-i-test.true, ap length c.as_slice-terms.ensures)
 
 pub add_term-requires-clause-a : goal.add_term-requires-clause-a
 add_term-requires-clause-a c =

@@ -8,8 +8,8 @@ use Rattle.lzk_gadgets.proofs.ClaimLaws.{nodes_more, inputs_kept, values_kept, a
 use Rattle.lzk_gadgets.proofs.SpelledLaws.{spelled_claim}
 use Rattle.lzk_gadgets.proofs.statement.Statement.assert_spelled.Goals as goal
 
-pub worth-requires-clause-nodes : goal.worth-requires-clause-nodes
-worth-requires-clause-nodes c = nodes_more (node_count c.args.self.now.nodes) (node_count c.assert_bits.new.self.nodes) c.args.bits.now c.in_ok-assert_bits.ensures.keeps.more c.requires.nodes.1
+pub worth-requires : goal.worth-requires
+worth-requires c = record { nodes = nodes_more (node_count c.args.self.now.nodes) (node_count c.assert_bits.new.self.nodes) c.args.bits.now c.in_ok-assert_bits.ensures.keeps.more c.requires.nodes.1 }
 
 pub returns : goal.returns
 returns c =
