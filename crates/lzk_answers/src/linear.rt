@@ -10,7 +10,7 @@ ghost use Rattle.lzk_answers.specs.Coefficients.{AreCoefficients, AreExtended, A
 ghost use Rattle.lzk_answers.specs.Rows.{IsTableOf};
 
 use crate::rows::{FACTORS, add_list, add_products, clear, multiply_list, row_of, set_list};
-use crate::table::{Extending, Table};
+use crate::table::{Extending, Factors, Given, Table};
 use lzk_field::Field;
 use lzk_layout::{BLINDS, Params};
 use lzk_poly::RowExtend;
@@ -30,28 +30,30 @@ fn fill_row<F: Field>(coefficients: &[F], row: &mut [F])
 
 // The values from point BLOCK on of the polynomial of a row of coefficients. `values` is set to those before.
 fn extend_behind<F: Field, X: RowExtend<F>>(
-    extending: &Extending<'_, F, X>,
-    coefficients: &[F],
+    given: &Given<'_, '_, '_, F, X>,
     values: &mut [F],
     behind: &mut [F],
     room: &mut [F],
 )
-    requires coefficients { length coefficients.now ≡ extending.now.table.params.now.wr }
-    requires values { length values.old ≡ extending.now.table.params.now.block }
-    requires behind { length behind.old + extending.now.table.params.now.block ≡ extending.now.table.params.now.dblock }
-    requires room { X.rooms extending.now.extender.now ≤ length room.old }
+    requires values { length values.old ≡ given.now.extending.now.table.params.now.block }
+    requires behind { length behind.old + given.now.extending.now.table.params.now.block
+        ≡ given.now.extending.now.table.params.now.dblock }
+    requires room { X.rooms given.now.extending.now.extender.now ≤ length room.old }
     ensures behind { length behind.new ≡ length behind.old }
     ensures room { length room.new ≡ length room.old }
     ensures given { (list : List F)
-        → AreCoefficients F.ops extending.now.table.params.now (entry F.ops coefficients.now) list
+        → AreCoefficients F.ops given.now.extending.now.table.params.now (entry F.ops given.now.coefficients.now) list
         → values.new ≡ list }
     ensures further { (list : List F)
-        → AreCoefficients F.ops extending.now.table.params.now (entry F.ops coefficients.now) list → (k : ℕ)
+        → AreCoefficients F.ops given.now.extending.now.table.params.now (entry F.ops given.now.coefficients.now) list
+        → (k : ℕ)
         → k < length behind.old
-        → entry F.ops behind.new k ≡ extension F.ops F.coding.element list (extending.now.table.params.now.block + k) }
+        → entry F.ops behind.new k
+        ≡ extension F.ops F.coding.element list (given.now.extending.now.table.params.now.block + k) }
     ensures values { length values.new ≡ length values.old }
 {
-    fill_row(coefficients, values);
+    fill_row(given.coefficients, values);
+    let extending = given.extending;
     let extender = extending.extender;
     let size = extender.room_len();
     extender.extend_row(values, behind, &mut room[..size]);
@@ -59,51 +61,51 @@ fn extend_behind<F: Field, X: RowExtend<F>>(
 
 // The values at the first DBLOCK points of the polynomial of a row of coefficients.
 fn extend_coefficients<F: Field, X: RowExtend<F>>(
-    extending: &Extending<'_, F, X>,
-    coefficients: &[F],
+    given: &Given<'_, '_, '_, F, X>,
     row: &mut [F],
     room: &mut [F],
 )
-    requires coefficients { length coefficients.now ≡ extending.now.table.params.now.wr }
-    requires row { length row.old ≡ extending.now.table.params.now.dblock }
-    requires room { X.rooms extending.now.extender.now ≤ length room.old }
+    requires row { length row.old ≡ given.now.extending.now.table.params.now.dblock }
+    requires room { X.rooms given.now.extending.now.extender.now ≤ length room.old }
     ensures row { length row.new ≡ length row.old }
     ensures room { length room.new ≡ length room.old }
     ensures values { (list : List F)
-        → AreCoefficients F.ops extending.now.table.params.now (entry F.ops coefficients.now) list → (k : ℕ)
-        → k < extending.now.table.params.now.dblock
+        → AreCoefficients F.ops given.now.extending.now.table.params.now (entry F.ops given.now.coefficients.now) list
+        → (k : ℕ)
+        → k < given.now.extending.now.table.params.now.dblock
         → entry F.ops row.new k ≡ extension F.ops F.coding.element list k }
 {
+    let extending = given.extending;
     let params = extending.table.params;
     let (values, behind) = row.split_at_mut(params.block as usize);
-    extend_behind(extending, coefficients, values, behind, room);
+    extend_behind(given, values, behind, room);
 }
 
 // Adds, at each point, the value of a row of coefficients times what is given there. The first DBLOCK entries of
 // `room`, and then the extender's, are room.
 fn add_extended<F: Field, X: RowExtend<F>>(
-    extending: &Extending<'_, F, X>,
-    coefficients: &[F],
+    given: &Given<'_, '_, '_, F, X>,
     values: &[F],
     room: &mut [F],
     answer: &mut [F],
 )
-    requires coefficients { length coefficients.now ≡ extending.now.table.params.now.wr }
-    requires given { length values.now ≡ extending.now.table.params.now.dblock }
-    requires room { X.rooms extending.now.extender.now + extending.now.table.params.now.dblock ≤ length room.old }
-    requires answer { length answer.old ≡ extending.now.table.params.now.dblock }
+    requires given { length values.now ≡ given.now.extending.now.table.params.now.dblock }
+    requires room { X.rooms given.now.extending.now.extender.now + given.now.extending.now.table.params.now.dblock
+        ≤ length room.old }
+    requires answer { length answer.old ≡ given.now.extending.now.table.params.now.dblock }
     ensures room { length room.new ≡ length room.old }
     ensures answer { length answer.new ≡ length answer.old }
     ensures values { let o = F.ops in
         (list : List F)
-        → AreCoefficients o extending.now.table.params.now (entry o coefficients.now) list → (k : ℕ)
-        → k < extending.now.table.params.now.dblock
+        → AreCoefficients o given.now.extending.now.table.params.now (entry o given.now.coefficients.now) list → (k : ℕ)
+        → k < given.now.extending.now.table.params.now.dblock
         → entry o answer.new k
         ≡ o.plus (entry o answer.old k) (o.times (extension o F.coding.element list k) (entry o values.now k)) }
 {
+    let extending = given.extending;
     let params = extending.table.params;
     let (row, rest) = room.split_at_mut(params.dblock as usize);
-    extend_coefficients(extending, coefficients, row, rest);
+    extend_coefficients(given, row, rest);
     multiply_list(row, values);
     add_list(answer, row);
 }
@@ -134,37 +136,41 @@ fn extend_factors<F: Field, X: RowExtend<F>>(
         let places = row_of(place_factors, wr, f, wr);
         let (_, rest) = behind.split_at_mut(f * size);
         let (row, _) = rest.split_at_mut(size);
-        extend_behind(extending, places, values, row, room);
+        let given = Given {
+            extending,
+            coefficients: places,
+        };
+        extend_behind(&given, values, row, room);
     }
 }
 
 // Adds the products of rows that are given by factors: for each factor, the sum of the rows' multiples, times the
 // values of the row of place factors. These are zeros at the first points, then the place factors, and then those of
 // `behind`.
-fn add_factored<F: Field>(
-    table: &Table<'_, F>,
-    rows: usize,
-    row_factors: &[F],
-    place_factors: &[F],
-    behind: &[F],
-    answer: &mut [F],
-)
-    requires rows { rows ≤ table.now.params.now.nrow - 3 }
-    requires row_factors { length row_factors.now ≡ 4 * rows }
-    requires place_factors { length place_factors.now ≡ 4 * table.now.params.now.wr }
-    requires behind { length behind.now ≡ 4 * (table.now.params.now.dblock - table.now.params.now.block) }
-    requires further { AreExtended F.ops F.coding.element table.now.params.now place_factors.now behind.now }
-    requires answer { length answer.old ≡ table.now.params.now.dblock }
+fn add_factored<F: Field>(factors: &Factors<'_, '_, '_, F>, behind: &[F], answer: &mut [F])
+    requires behind { length behind.now
+        ≡ 4 * (factors.now.table.now.params.now.dblock - factors.now.table.now.params.now.block) }
+    requires further { AreExtended F.ops F.coding.element factors.now.table.now.params.now
+        factors.now.place_factors.now behind.now }
+    requires answer { length answer.old ≡ factors.now.table.now.params.now.dblock }
     ensures answer { length answer.new ≡ length answer.old }
     ensures values { let o = F.ops in
-        (lists : ℕ → List F) → AreFactored o table.now.params.now rows 4 row_factors.now place_factors.now lists
+        (lists : ℕ → List F)
+        → AreFactored o factors.now.table.now.params.now factors.now.rows 4 factors.now.row_factors.now
+        factors.now.place_factors.now lists
         → (k : ℕ)
-        → k < table.now.params.now.dblock
+        → k < factors.now.table.now.params.now.dblock
         → entry o answer.new k
-        ≡ o.plus (entry o answer.old k) (sum_below o rows (λ i.
+        ≡ o.plus (entry o answer.old k) (sum_below o factors.now.rows (λ i.
         o.times (extension o F.coding.element (lists (3 + i)) k)
-        (entry o table.now.values.now ((3 + i) * table.now.width + k)))) }
+        (entry o factors.now.table.now.values.now ((3 + i) * factors.now.table.now.width + k)))) }
 {
+    let table = factors.table;
+    let (rows, row_factors, place_factors) = (
+        factors.rows,
+        factors.row_factors,
+        factors.place_factors,
+    );
     let params = table.params;
     let (all, width) = (table.values, table.width);
     let block = params.block as usize;
@@ -213,7 +219,11 @@ fn add_listed<F: Field, X: RowExtend<F>>(
     for t in 0..params.nrow as usize - 3 - m {
         let row = row_of(coefficients, wr, t, wr);
         let values = row_of(table.values, table.width, 3 + (m + t), size);
-        add_extended(extending, row, values, room, answer);
+        let given = Given {
+            extending,
+            coefficients: row,
+        };
+        add_extended(&given, values, room, answer);
     }
 }
 
@@ -271,8 +281,8 @@ pub fn linear_by_factors_into<'a, F: Field, X: RowExtend<F>>(
     table: &'a [F],
     width: usize,
     rows: usize,
-    row_factors: &[F],
-    place_factors: &[F],
+    row_factors: &'a [F],
+    place_factors: &'a [F],
     coefficients: &[F],
     extender: &'a X,
     room: &mut [F],
@@ -311,13 +321,12 @@ pub fn linear_by_factors_into<'a, F: Field, X: RowExtend<F>>(
     let (values, _) = answer.split_at_mut(params.block as usize);
     extend_factors(&extending, place_factors, values, behind, rest);
     set_list(answer, row_of(table, width, 1, params.dblock as usize));
-    add_factored(
-        &extending.table,
+    let factors = Factors {
+        table: &extending.table,
         rows,
         row_factors,
         place_factors,
-        behind,
-        answer,
-    );
+    };
+    add_factored(&factors, behind, answer);
     add_listed(&extending, rows, coefficients, room, answer);
 }

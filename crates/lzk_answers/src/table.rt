@@ -1,6 +1,6 @@
 //! What answers are made from. The facts about the rows stand with them.
 
-ghost use Rattle.std.specs.Prelude.{◌≡◌, ◌*◌, ◌≤◌, length};
+ghost use Rattle.std.specs.Prelude.{◌≡◌, ◌-◌, ◌*◌, ◌≤◌, length};
 ghost use Rattle.lzk_layout.specs.Sizes.{AreBounded};
 
 use lzk_field::Field;
@@ -24,4 +24,24 @@ pub(crate) struct Extending<'a, F: Field, X: RowExtend<F>> {
     pub(crate) table: Table<'a, F>,
     pub(crate) extender: &'a X,
     ghost reach: { X.reach extender.now ≡ record { count = table.params.now.block; upto = table.params.now.dblock } },
+}
+
+/// The same with one row of coefficients.
+#[derive(Drop)]
+pub(crate) struct Given<'e, 'a, 'r, F: Field, X: RowExtend<F>> {
+    pub(crate) extending: &'e Extending<'a, F, X>,
+    pub(crate) coefficients: &'r [F],
+    ghost count: { length coefficients.now ≡ extending.now.table.params.now.wr },
+}
+
+/// A table, and the factors of the coefficients of its first rows from row 3 on.
+#[derive(Drop)]
+pub(crate) struct Factors<'t, 'a, 'f, F: Field> {
+    pub(crate) table: &'t Table<'a, F>,
+    pub(crate) rows: usize,
+    pub(crate) row_factors: &'f [F],
+    pub(crate) place_factors: &'f [F],
+    ghost few: { rows ≤ table.now.params.now.nrow - 3 },
+    ghost by_row: { length row_factors.now ≡ 4 * rows },
+    ghost by_place: { length place_factors.now ≡ 4 * table.now.params.now.wr },
 }
