@@ -1,9 +1,7 @@
 -- What the loops that write a message's inputs add.
-use Rattle.std.specs.Prelude.{◌≡◌, ℕ, ◌+◌, ◌-◌, ◌*◌, ◌/◌, ◌%◌, ◌^◌, ◌<◌, ◌≤◌, List, [], ◌∷◌, ◌++◌, length, map, take, drop, replicate, slice_index}
+use Rattle.std.specs.Prelude.{◌≡◌, ℕ, ◌+◌, ◌-◌, ◌*◌, ◌^◌, ◌<◌, ◌≤◌, List, [], ◌∷◌, ◌++◌, length, map, take, drop, slice_index}
 use Rattle.std.specs.List.{range_with_len, flat_map}
-use Rattle.std.specs.Int.{w64, to_be_bytes}
-use Rattle.std.proofs.Common.{zero, suc, refl, sym, ap, ◌∙◌, arith, mod-eq_of_lt, append_assoc, append-nil, subst}
-use Rattle.sha2.specs.Sha256.{padded_message, compress, hash_after}
+use Rattle.std.proofs.Common.{suc, refl, sym, ap, ◌∙◌, arith, mod-eq_of_lt, append_assoc, append-nil, subst}
 use Rattle.lzk_goldilocks.specs.Elements.{ops, number, of_number}
 use Rattle.lzk_goldilocks.specs.declared.element.Gold.{Gold}
 use Rattle.lzk_field.specs.Sums.{entry}
@@ -13,7 +11,7 @@ use Rattle.lzk_sha_circuit.proofs.Written.{chunk_more}
 use Rattle.std.proofs.lemmas.List.{length-map, get_or-map}
 use Rattle.lzk_sha_blocks.proofs.Steps.{is_state}
 use Rattle.lzk_sha_blocks.specs.Layout.{blocks}
-use Rattle.lzk_sha_blocks.specs.Witness.{state_of, block_of, block_added, digest_private}
+use Rattle.lzk_sha_blocks.specs.Witness.{state_of, block_added, digest_private}
 
 -- words are the numbers of their elements
 pub numbers_back : (words : List ℕ) → ((k : ℕ) → k < length words → slice_index words k < p) → map number (map of_number words) ≡ words

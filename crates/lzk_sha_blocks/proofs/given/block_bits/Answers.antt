@@ -1,4 +1,4 @@
-use Rattle.std.proofs.Common.{◌≡◌, ℕ, ◌+◌, ◌∙◌, [], map, ap, refl, arith}
+use Rattle.std.proofs.Common.{◌≡◌, ◌∙◌, [], map, ap, arith}
 use Rattle.std.specs.List.{range_with_len}
 use Rattle.lzk_sha_circuit.proofs.Written.{entry_more}
 use Rattle.lzk_sha_blocks.specs.Layout.{block_bit, block_bits}

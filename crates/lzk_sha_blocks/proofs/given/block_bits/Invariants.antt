@@ -1,4 +1,4 @@
-use Rattle.std.proofs.Common.{◌≡◌, ℕ, ◌+◌, map}
+use Rattle.std.proofs.Common.{◌≡◌, map}
 use Rattle.std.specs.List.{range_with_len}
 use Rattle.lzk_sha_blocks.specs.Layout.{block_bit}
 use Rattle.lzk_sha_blocks.proofs.given.block_bits.Given as goal

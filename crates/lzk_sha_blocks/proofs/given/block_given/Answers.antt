@@ -1,6 +1,5 @@
-use Rattle.std.proofs.Common.{◌≡◌, ◌+◌, ◌*◌, ◌∙◌, ℕ, List, arith, sym, ap, subst}
-use Rattle.lzk_sha_circuit.specs.Places.{Places, IsPlaced}
-use Rattle.lzk_sha_blocks.specs.Layout.{block_places}
+use Rattle.std.proofs.Common.{arith, sym, subst}
+use Rattle.lzk_sha_circuit.specs.Places.{IsPlaced}
 use Rattle.lzk_sha_blocks.proofs.LayoutLaws.{block_placed, state_few, places_are}
 use Rattle.lzk_sha_blocks.proofs.given.block_given.Goals as goal
 

@@ -1,15 +1,15 @@
-use Rattle.std.proofs.Common.{◌≡◌, ℕ, suc, ◌+◌, ◌-◌, ◌*◌, ◌/◌, ◌≤◌, ◌∙◌, ◌++◌, [], List, length, map, take, drop, ap, sym, subst, refl, arith}
+use Rattle.std.proofs.Common.{◌≡◌, suc, ◌+◌, ◌-◌, ◌≤◌, ◌∙◌, ◌++◌, [], List, length, map, take, ap, sym, subst, arith}
 use Rattle.std.proofs.lemmas.List.{length-map}
 use Rattle.sha2.specs.Sha256.{compress, hash_after, initial_hash_256, padded_message}
 use Rattle.lzk_goldilocks.specs.Prime.{p}
 use Rattle.lzk_goldilocks.specs.Elements.{ops, number, of_number}
 use Rattle.lzk_goldilocks.specs.declared.element.Gold.{Gold}
-use Rattle.lzk_sha_circuit.specs.Digest.{AreBytes, HaveDigest, digest_words}
+use Rattle.lzk_sha_circuit.specs.Digest.{AreBytes, HaveDigest}
 use Rattle.lzk_sha_circuit.specs.Inputs.{compression_private}
 use Rattle.lzk_sha_circuit.proofs.Numbered.{gold_numbered}
 use Rattle.lzk_sha_blocks.specs.Hashed.{AreHashing}
 use Rattle.lzk_sha_blocks.specs.Layout.{blocks}
-use Rattle.lzk_sha_blocks.specs.Witness.{state_of, block_of, digest_private}
+use Rattle.lzk_sha_blocks.specs.Witness.{state_of, digest_private}
 use Rattle.lzk_sha_blocks.proofs.Filled.{front_none, front_more, front_all, small_words, words_back, block_slice}
 use Rattle.lzk_sha_blocks.proofs.Filling.{are_hashing, has_digest}
 use Rattle.lzk_sha_blocks.proofs.Steps.{is_state, next_state, digest_words_are, length-padded}
