@@ -10,47 +10,76 @@ ghost use Rattle.lzk_sha_path.specs.Climbs.{private_count, between, level_count,
 
 use crate::error::PathError;
 use crate::level::level_circuit;
-use crate::places::places_of;
+use crate::places::{Run, places_of};
 use lzk_beside::{Part, beside};
 use lzk_circuit::Circuit;
 use lzk_goldilocks::Gold;
 use std::alloc::Global;
 
-// The circuit of a level, and beside it that of the `above` levels above it.
+// The circuit of one level.
+#[derive(Clone, Copy)]
+struct Level<'a> {
+    circuit: &'a Circuit<Gold>,
+    ghost version: { circuit.now.version ≡ 1 },
+    ghost publics: { circuit.now.publics ≡ 16 },
+    ghost privates: { circuit.now.privates ≡ 6889 },
+}
+
+// The circuit of levels above another.
+#[derive(Clone, Copy)]
+struct LevelsAbove<'a> {
+    circuit: &'a Circuit<Gold>,
+    count: u32,
+    ghost some: { 1 ≤ count },
+    ghost few: { count < 6 },
+    ghost version: { circuit.now.version ≡ 1 },
+    ghost publics: { circuit.now.publics ≡ 16 },
+    ghost privates: { circuit.now.privates ≡ private_count count },
+}
+
+// The circuit of a level, and beside it that of the levels above it.
 fn with_levels(
     alloc: Global,
-    level: &Circuit<Gold>,
-    rest: &Circuit<Gold>,
-    above: u32,
+    level: &Level<'_>,
+    above: &LevelsAbove<'_>,
 ) -> Result<Circuit<Gold>, PathError>
-    requires some { 1 ≤ above }
-    requires few { above < 6 }
-    requires level_version { level.now.version ≡ 1 }
-    requires level_publics { level.now.publics ≡ 16 }
-    requires level_privates { level.now.privates ≡ 6889 }
-    requires rest_version { rest.now.version ≡ 1 }
-    requires rest_publics { rest.now.publics ≡ 16 }
-    requires rest_privates { rest.now.privates ≡ private_count above }
     ensures version { IfOk result (λ c. c.version ≡ 1) }
     ensures publics { IfOk result (λ c. c.publics ≡ 16) }
-    ensures privates { IfOk result (λ c. c.privates ≡ private_count (above + 1)) }
+    ensures privates { IfOk result (λ c. c.privates ≡ private_count (above.now.count + 1)) }
     ensures satisfied { (leaf root private : List Gold) → length leaf ≡ 8 → length root ≡ 8 →
-        length private ≡ private_count (above + 1) → IfOk result (λ c.
+        length private ≡ private_count (above.now.count + 1) → IfOk result (λ c.
         IsSatisfied ops number c.layers (inputs_of ops (leaf ++ root) private) ↔
-        (IsSatisfied ops number level.now.layers
+        (IsSatisfied ops number level.now.circuit.now.layers
         (inputs_of ops (leaf ++ between private) (take level_count private)) ×
-        IsSatisfied ops number rest.now.layers (inputs_of ops (between private ++ root) (drop 6897 private)))) }
-    ensures cause { IfErr result (IsPathCause (above + 1)) }
+        IsSatisfied ops number above.now.circuit.now.layers
+        (inputs_of ops (between private ++ root) (drop 6897 private)))) }
+    ensures cause { IfErr result (IsPathCause (above.now.count + 1)) }
 {
-    let more = 6897 * above - 8;
-    let lower = places_of(alloc, 1, 6906, 17, 6889)?;
+    let more = 6897 * above.count - 8;
+    let (leaf, between) = (
+        Run { start: 1, count: 8 },
+        Run {
+            start: 6906,
+            count: 8,
+        },
+    );
+    let private = Run {
+        start: 17,
+        count: 6889,
+    };
+    let lower = places_of(alloc, leaf, between, private)?;
     let first = Part {
-        circuit: level,
+        circuit: level.circuit,
         places: &lower,
     };
-    let upper = places_of(alloc, 6906, 9, 6914, more)?;
+    let root = Run { start: 9, count: 8 };
+    let private = Run {
+        start: 6914,
+        count: more,
+    };
+    let upper = places_of(alloc, between, root, private)?;
     let second = Part {
-        circuit: rest,
+        circuit: above.circuit,
         places: &upper,
     };
     match beside(alloc, 16, 6897 + more, &first, &second) {
@@ -81,8 +110,13 @@ pub fn path_circuit(alloc: Global, depth: u32) -> Result<Circuit<Gold>, PathErro
     }
     let level = level_circuit(alloc)?;
     let mut whole = level_circuit(alloc)?;
+    let lowest = Level { circuit: &level };
     for above in 1..depth {
-        let next = with_levels(alloc, &level, &whole, above)?;
+        let rest = LevelsAbove {
+            circuit: &whole,
+            count: above,
+        };
+        let next = with_levels(alloc, &lowest, &rest)?;
         whole = next;
     }
     Ok(whole)

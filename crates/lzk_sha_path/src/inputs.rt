@@ -1,8 +1,7 @@
 //! Inputs that satisfy the circuit.
 
-ghost use Rattle.std.specs.Prelude.{◌≡◌, ℕ, ◌^◌, ◌<◌, ◌≤◌, List, ◌∷◌, ◌++◌, length, map, IfOk, IfErr, OnOk};
-ghost use Rattle.lzk_field.specs.Sums.{entry};
-ghost use Rattle.lzk_goldilocks.specs.Elements.{ops, number, of_number};
+ghost use Rattle.std.specs.Prelude.{◌≡◌, ◌<◌, ◌∷◌, ◌++◌, length, map, IfOk, IfErr, OnOk};
+ghost use Rattle.lzk_goldilocks.specs.Elements.{of_number};
 ghost use Rattle.std.specs.Int.{bit_at};
 ghost use Rattle.sha2.specs.Sha256.{digest_bytes};
 ghost use Rattle.lzk_sha_circuit.specs.Compression.{IsState};
@@ -14,20 +13,8 @@ ghost use Rattle.lzk_sha_path.specs.Roots.{block_of, node_of, parent_of, root_of
 use crate::error::PathError;
 use lzk_field::Field;
 use lzk_goldilocks::Gold;
-use lzk_sha_circuit::{ShaInputs, compression_inputs};
+use lzk_sha_circuit::{INITIAL_HASH, ShaInputs, compression_inputs, numbers_of, state_from};
 use std::alloc::{AllocError, Global};
-
-// The initial hash value.
-const INITIAL_HASH: [u32; 8] = [
-    0x6a09_e667,
-    0xbb67_ae85,
-    0x3c6e_f372,
-    0xa54f_f53a,
-    0x510e_527f,
-    0x9b05_688c,
-    0x1f83_d9ab,
-    0x5be0_cd19,
-];
 
 /// Inputs of the circuit of a path.
 #[derive(Drop)]
@@ -76,17 +63,23 @@ fn block_bit(block: &[u8], j: usize) -> Gold
     bit(block[j / 8], 7 - (j % 8) as u32)
 }
 
+// Which child the node below is: the left one for 0.
+#[derive(Clone, Copy)]
+struct Side {
+    number: u32,
+    ghost two: { number < 2 },
+}
+
 // What the compression of a block is given.
-fn first_inputs(alloc: Global, block: &[u8], side: u32) -> Result<Vec<Gold>, AllocError>
-    requires long { length block.now ≡ 64 }
-    requires side { side < 2 }
-    ensures { IfOk result (λ given. given.items ≡ first_inputs block.now side) }
+fn first_inputs(alloc: Global, block: &[u8], side: Side) -> Result<Vec<Gold>, AllocError>
+    requires { length block.now ≡ 64 }
+    ensures { IfOk result (λ given. given.items ≡ first_inputs block.now side.number) }
 {
     let mut given = Vec::new(alloc);
     for j in 0..512 {
         given.push(block_bit(block, j))?;
     }
-    given.push(Gold::point(side))?;
+    given.push(Gold::point(side.number))?;
     Ok(given)
 }
 
@@ -101,13 +94,12 @@ fn pair_inputs(
     alloc: Global,
     left: [u32; 8],
     right: [u32; 8],
-    side: u32,
+    side: Side,
 ) -> Result<ShaInputs, AllocError>
-    requires { side < 2 }
     ensures above { IfOk result (λ inputs. inputs.public.items ≡ map of_number (node_of left right)) }
     ensures count { IfOk result (λ inputs. length inputs.private.items ≡ 6889) }
     ensures level { IfOk result (λ inputs.
-        IsLevel (map of_number (child side left right)) inputs.public.items inputs.private.items) }
+        IsLevel (map of_number (child side.number left right)) inputs.public.items inputs.private.items) }
 {
     node_laws(&left);
     node_laws(&right);
@@ -130,40 +122,10 @@ fn level_inputs(
         IsLevel (map of_number node) inputs.public.items inputs.private.items) }
 {
     if index.is_multiple_of(2) {
-        pair_inputs(alloc, node, sibling, 0)
+        pair_inputs(alloc, node, sibling, Side { number: 0 })
     } else {
-        pair_inputs(alloc, sibling, node, 1)
+        pair_inputs(alloc, sibling, node, Side { number: 1 })
     }
-}
-
-// A word that is an element.
-fn word(x: Gold) -> u32
-    requires { number x < 2 ^ 32 }
-    ensures { result ≡ number x }
-{
-    x.number() as u32
-}
-
-// The words of a node that are elements.
-fn numbers_of(alloc: Global, elements: &[Gold]) -> Result<Vec<u32>, AllocError>
-    requires { (k : ℕ) → k < length elements.now → number (entry ops elements.now k) < 2 ^ 32 }
-    ensures { IfOk result (λ words. words.items ≡ map number elements.now) }
-{
-    let mut words = Vec::new(alloc);
-    for i in 0..elements.len() {
-        words.push(word(elements[i]))?;
-    }
-    Ok(words)
-}
-
-// Eight words as a node.
-fn node_from(words: &[u32]) -> [u32; 8]
-    requires { length words.now ≡ 8 }
-    ensures { result ≡ words.now }
-{
-    [
-        words[0], words[1], words[2], words[3], words[4], words[5], words[6], words[7],
-    ]
 }
 
 // The inputs of a path that begins beside this node, and goes on beside others. The words are those of the root.
@@ -186,7 +148,7 @@ fn climb(
         return Ok(level);
     };
     let words = numbers_of(alloc, &level.public)?;
-    let above = node_from(&words);
+    let above = state_from(&words);
     let upper = climb(alloc, above, index / 2, *next, rest)?;
     let mut private = level.private;
     private.extend_from_slice(&level.public)?;

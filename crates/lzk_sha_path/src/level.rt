@@ -12,7 +12,7 @@ ghost use Rattle.lzk_sha_path.specs.Causes.{IsPathCause};
 ghost use Rattle.lzk_sha_path.specs.Levels.{AreChosen, IsLevel, block_bits, level_places, side};
 
 use crate::error::PathError;
-use crate::places::row;
+use crate::places::{Run, row};
 use crate::words::assert_words;
 use lzk_beside::{Part, beside};
 use lzk_circuit::Circuit;
@@ -91,13 +91,21 @@ pub(crate) fn level_circuit(alloc: Global) -> Result<Circuit<Gold>, PathError>
     ensures cause { IfErr result (IsPathCause 1) }
 {
     let statement = statement_circuit(alloc)?;
-    let front = row(alloc, 1, 529)?;
+    let seen = Run {
+        start: 1,
+        count: 529,
+    };
+    let front = row(alloc, seen)?;
     let first = Part {
         circuit: &statement,
         places: &front,
     };
     let block = block_circuit(alloc)?;
-    let behind = row(alloc, 9, 6897)?;
+    let seen = Run {
+        start: 9,
+        count: 6897,
+    };
+    let behind = row(alloc, seen)?;
     let second = Part {
         circuit: &block,
         places: &behind,

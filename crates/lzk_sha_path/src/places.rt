@@ -5,44 +5,47 @@ ghost use Rattle.std.specs.List.{range_with_len};
 
 use std::alloc::{AllocError, Global};
 
-// Appends so many places in a row.
-fn push_row(places: &mut Vec<u32>, start: u32, count: u32) -> Result<(), AllocError>
-    requires { start + count ≤ 131072 }
-    ensures { IfOk result (λ _. places.new.items ≡ places.old.items ++ range_with_len start count) }
+/// So many places in a row.
+#[derive(Clone, Copy)]
+pub(crate) struct Run {
+    pub start: u32,
+    pub count: u32,
+    pub ghost few: { start + count ≤ 131072 },
+}
+
+// Appends places in a row.
+fn push_row(places: &mut Vec<u32>, run: Run) -> Result<(), AllocError>
+    ensures { IfOk result (λ _. places.new.items ≡ places.old.items ++ range_with_len run.start run.count) }
 {
-    for k in 0..count {
-        places.push(start + k)?;
+    for k in 0..run.count {
+        places.push(run.start + k)?;
     }
     Ok(())
 }
 
-/// So many places in a row.
-pub(crate) fn row(alloc: Global, start: u32, count: u32) -> Result<Vec<u32>, AllocError>
-    requires { start + count ≤ 131072 }
-    ensures { IfOk result (λ places. places.items ≡ range_with_len start count) }
+/// Places in a row.
+pub(crate) fn row(alloc: Global, run: Run) -> Result<Vec<u32>, AllocError>
+    ensures { IfOk result (λ places. places.items ≡ range_with_len run.start run.count) }
 {
     let mut places = Vec::new(alloc);
-    push_row(&mut places, start, count)?;
+    push_row(&mut places, run)?;
     Ok(places)
 }
 
-/// The places of the words of two nodes, and of so many private inputs.
+/// The places of the words of two nodes, and behind them those of private inputs.
 pub(crate) fn places_of(
     alloc: Global,
-    leaf: u32,
-    root: u32,
-    private: u32,
-    count: u32,
+    leaf: Run,
+    root: Run,
+    private: Run,
 ) -> Result<Vec<u32>, AllocError>
-    requires leaf { leaf + 8 ≤ 131072 }
-    requires root { root + 8 ≤ 131072 }
-    requires private { private + count ≤ 131072 }
     ensures { IfOk result (λ places. places.items ≡
-        (range_with_len leaf 8 ++ range_with_len root 8) ++ range_with_len private count) }
+        (range_with_len leaf.start leaf.count ++ range_with_len root.start root.count) ++
+        range_with_len private.start private.count) }
 {
     let mut places = Vec::new(alloc);
-    push_row(&mut places, leaf, 8)?;
-    push_row(&mut places, root, 8)?;
-    push_row(&mut places, private, count)?;
+    push_row(&mut places, leaf)?;
+    push_row(&mut places, root)?;
+    push_row(&mut places, private)?;
     Ok(places)
 }

@@ -12,33 +12,33 @@ use Rattle.lzk_sha_path.proofs.circuit.with_levels.Goals as goal
 pub invariant_of-first : goal.invariant_of-first
 invariant_of-first c =
     let long = ap length (c.deref.ensures.value ∙ c.in_ok-lower.ensures) ∙ length-rows 1 6906 17 6889 in
-    record { version = c.requires.level_version; count = omega (arith, long, c.requires.level_publics, c.requires.level_privates) }
+    record { version = c.args.level.now.version; count = omega (arith, long, c.args.level.now.publics, c.args.level.now.privates) }
 
 pub invariant_of-second : goal.invariant_of-second
 invariant_of-second c =
-    let more = 6897 * c.args.above - 8 in
+    let more = 6897 * c.args.above.now.count - 8 in
     let long = ap length (c.deref-2.ensures.value ∙ c.in_ok-upper.ensures) ∙ length-rows 6906 9 6914 more in
-    record { version = c.requires.rest_version; count = omega (arith, long, c.requires.rest_publics, c.requires.rest_privates) }
+    record { version = c.args.above.now.version; count = omega (arith, long, c.args.above.now.publics, c.args.above.now.privates) }
 
 pub beside-requires-clause-first : goal.beside-requires-clause-first
 beside-requires-clause-first c κs =
-    let width = 1 + 16 + (6897 + (6897 * c.args.above - 8)) in
+    let width = 1 + 16 + (6897 + (6897 * c.args.above.now.count - 8)) in
     subst (AreNumbersBelow width) (sym (c.deref.ensures.value ∙ c.in_ok-lower.ensures))
     (rows_below width 1 6906 17 6889 (omega arith) (omega arith) (omega arith))
 
 pub beside-requires-clause-second : goal.beside-requires-clause-second
 beside-requires-clause-second c κs =
-    let more = 6897 * c.args.above - 8 in
+    let more = 6897 * c.args.above.now.count - 8 in
     let width = 1 + 16 + (6897 + more) in
     subst (AreNumbersBelow width) (sym (c.deref-2.ensures.value ∙ c.in_ok-upper.ensures))
     (rows_below width 6906 9 6914 more (omega arith) (omega arith) (omega arith))
 
 pub returns-in-Ok-clause-satisfied : goal.returns-in-Ok-clause-satisfied
 returns-in-Ok-clause-satisfied c = λ leaf root private ll lr lp.
-    let more = 6897 * c.args.above - 8 in
-    let some = c.requires.some in
-    let level = c.args.level.now in
-    let rest = c.args.rest.now in
+    let more = 6897 * c.args.above.now.count - 8 in
+    let some = c.args.above.now.some in
+    let level = c.args.level.now.circuit.now in
+    let rest = c.args.above.now.circuit.now in
     let whole = c.in-Ok.whole in
     let xs = inputs_of ops (leaf ++ root) private in
     let W = IsSatisfied ops number whole.layers xs in

@@ -14,8 +14,8 @@ numbers_of-requires t c =
     let s = c.args.sibling in
     small_elements (parent_of i n s) (parent_state i n s) c.deref.result.now (c.deref.ensures.value ∙ c.in_ok-level.ensures.above)
 
-pub node_from-above-requires : goal.node_from-above-requires
-node_from-above-requires t c =
+pub state_from-above-requires : goal.state_from-above-requires
+state_from-above-requires t c =
     let i = c.args.index in
     let n = c.args.node in
     let s = c.args.sibling in
@@ -27,8 +27,8 @@ returns-clause-root t c =
     let q = c.in_ok-level.level.private.items in
     let words = c.in_ok-level.level.public.items in
     root_made c.args.node c.args.index c.args.sibling c.in-Some.next.now c.args.others.now c.in-Some.rest.now c.in-Some.ensures.cases.0 words q c.in_ok-level.ensures.above
-    c.node_from-above.result c.in_ok-upper.upper.public.items
-    (c.node_from-above.ensures ∙ c.deref-2.ensures.value ∙ c.in_ok-words.ensures ∙ ap (map number) c.deref.ensures.value) c.in_ok-upper.ensures.root
+    c.state_from-above.result c.in_ok-upper.upper.public.items
+    (c.state_from-above.ensures ∙ c.deref-2.ensures.value ∙ c.in_ok-words.ensures ∙ ap (map number) c.deref.ensures.value) c.in_ok-upper.ensures.root
 
 pub returns-clause-climbing : goal.returns-clause-climbing
 returns-clause-climbing t c =
@@ -41,5 +41,5 @@ returns-clause-climbing t c =
     ∙ (λ i. (c.in_ok-extend_from_slice.ensures.items ∙ ap (λ l. q ++ l) c.deref-3.ensures.value) i ++ c.deref-4.ensures.value i) ∙ append_assoc q words r in
     subst (AreClimbing (suc (length c.args.others.now)) (map of_number c.args.node) root) (sym all)
     (climb_made c.args.node c.args.index c.args.sibling c.in-Some.next.now c.args.others.now c.in-Some.rest.now c.in-Some.ensures.cases.0 words q c.in_ok-level.ensures.above
-    c.node_from-above.result root r
-    (c.node_from-above.ensures ∙ c.deref-2.ensures.value ∙ c.in_ok-words.ensures ∙ ap (map number) c.deref.ensures.value) c.in_ok-level.ensures.count c.in_ok-level.ensures.level c.in_ok-upper.ensures.climbing)
+    c.state_from-above.result root r
+    (c.state_from-above.ensures ∙ c.deref-2.ensures.value ∙ c.in_ok-words.ensures ∙ ap (map number) c.deref.ensures.value) c.in_ok-level.ensures.count c.in_ok-level.ensures.level c.in_ok-upper.ensures.climbing)

@@ -4,4 +4,4 @@ use Rattle.lzk_sha_path.proofs.places.push_row.Goals as goal
 
 pub loop-k-preserved : goal.loop-k-preserved
 loop-k-preserved c =
-    row_more c.args.start c.loop-k.k c.args.places.now.items c.loop-k.places.items c.push.new.self.items (c.args.start + c.loop-k.k) c.loop-k.invariant c.in_ok-push.ensures.items refl
+    row_more c.args.run.start c.loop-k.k c.args.places.now.items c.loop-k.places.items c.push.new.self.items (c.args.run.start + c.loop-k.k) c.loop-k.invariant c.in_ok-push.ensures.items refl
