@@ -1,13 +1,13 @@
 //! A policy's circuit: the statement and its hashes, side by side.
 
-ghost use Rattle.std.specs.Prelude.{◌≡◌, ℕ, ◌+◌, ◌*◌, ◌≤◌, ◌<◌, ◌↔◌, List, ◌++◌, take, drop, length, IsTrue, IfOk, IfErr};
-ghost use Rattle.std.specs.List.{AllByRecursion, range_with_len};
+ghost use Rattle.std.specs.Prelude.{◌≡◌, ℕ, ◌+◌, ◌*◌, ◌≤◌, ◌↔◌, List, ◌++◌, take, drop, length, IsTrue, IfOk, IfErr};
+ghost use Rattle.std.specs.List.{AllByRecursion};
 ghost use Rattle.lzk_circuit.specs.Checks.{IsSatisfied};
 ghost use Rattle.lzk_circuit.specs.Wires.{inputs_of};
 ghost use Rattle.lzk_goldilocks.specs.Elements.{ops, of_number, number};
 ghost use Rattle.lzk_goldilocks.specs.declared.element.Gold.{Gold};
 ghost use Rattle.lzk_sha_circuit.specs.Outputs.{AreSatisfying};
-ghost use Rattle.lzk_policy.specs.Policies.{IsPolicy, IsShowOf, suits};
+ghost use Rattle.lzk_policy.specs.Policies.{IsShowOf, suits};
 ghost use Rattle.lzk_policy_circuit.specs.Layout as layout;
 ghost use Rattle.lzk_policy_circuit.specs.Meaning as meaning;
 ghost use Rattle.lzk_policy_circuit.specs.Meaning.{IsShown};
@@ -19,7 +19,7 @@ use crate::counts::{
     values_of,
 };
 use crate::error::PolicyCircuitError;
-use crate::places::{hash_places, row};
+use crate::places::{HashPlaces, hash_places, row};
 use crate::shows::assert_shows;
 use lzk_beside::{Part, beside};
 use lzk_circuit::Circuit;
@@ -30,36 +30,23 @@ use lzk_sha_circuit::sha_circuit;
 use std::alloc::Global;
 
 // The statement's circuit.
-fn stated_circuit(
-    alloc: Global,
-    policy: &Policy,
-    publics: u32,
-    stated: u32,
-) -> Result<Circuit<Gold>, PolicyCircuitError>
-    requires policy { IsPolicy policy.now }
-    requires publics { publics ≡ meaning.public_count policy.now }
-    requires stated { stated ≡ layout.stated_count policy.now }
-    requires few { stated ≤ 65536 }
-    requires small { publics ≤ 65535 }
+fn stated_circuit(alloc: Global, policy: &Policy) -> Result<Circuit<Gold>, PolicyCircuitError>
     ensures version { IfOk result (λ c. c.version ≡ 1) }
-    ensures publics { IfOk result (λ c. c.publics ≡ publics) }
-    ensures privates { IfOk result (λ c. c.privates ≡ stated) }
-    ensures satisfied { (public private : List Gold) → length public ≡ publics → length private ≡ stated →
+    ensures publics { IfOk result (λ c. c.publics ≡ meaning.public_count policy.now) }
+    ensures privates { IfOk result (λ c. c.privates ≡ layout.stated_count policy.now) }
+    ensures few { IfOk result (λ c. c.privates ≤ 5240) }
+    ensures satisfied { (public private : List Gold) → length public ≡ meaning.public_count policy.now →
+        length private ≡ layout.stated_count policy.now →
         IfOk result (λ c. IsSatisfied ops number c.layers (inputs_of ops public private) ↔
         AreStated private policy.now.fields policy.now.shows (drop 8 public) (drop (8 * policy.now.size) private)) }
     ensures cause { IfErr result IsPolicyCause }
 {
-    let mut s = Statement::new(alloc, publics, stated)?;
     let size = policy.size();
-    assert_shows(
-        alloc,
-        &mut s,
-        size,
-        policy.fields(),
-        policy.shows(),
-        8,
-        8 * size,
-    )?;
+    let (fields, shows) = (policy.fields(), policy.shows());
+    let publics = 8 + values_of(shows);
+    let stated = 8 * size + owns_of(fields, shows);
+    let mut s = Statement::new(alloc, publics, stated)?;
+    assert_shows(alloc, &mut s, size, fields, shows, 8, 8 * size)?;
     match s.finish() {
         Ok(circuit) => {
             circuit.valid_laws();
@@ -69,56 +56,39 @@ fn stated_circuit(
     }
 }
 
-// A circuit beside the hash of a message: the words of its digest are the public inputs from `words` on, its bits the
-// private inputs from `bits` on, and the rest those from `rest` on.
+// A circuit beside the hash of a message.
 fn with_hash(
     alloc: Global,
-    publics: u32,
-    privates: u32,
     circuit: &Circuit<Gold>,
-    len: u32,
-    words: u32,
-    bits: u32,
-    rest: u32,
+    hash: &HashPlaces,
 ) -> Result<Circuit<Gold>, PolicyCircuitError>
     requires version { circuit.now.version ≡ 1 }
-    requires inputs { circuit.now.publics ≡ publics }
-    requires some { circuit.now.privates ≤ privates }
-    requires publics { publics ≤ 65535 }
-    requires privates { privates ≤ 65536 }
-    requires len { len ≤ 55 }
-    requires words { words + 8 ≤ publics }
-    requires bits { bits + 8 * len ≤ privates }
-    requires rest { rest + 6376 ≤ privates }
+    requires publics { circuit.now.publics ≡ hash.now.publics }
+    requires privates { circuit.now.privates ≤ hash.now.privates }
     ensures version { IfOk result (λ c. c.version ≡ 1) }
-    ensures publics { IfOk result (λ c. c.publics ≡ publics) }
-    ensures privates { IfOk result (λ c. c.privates ≡ privates) }
-    ensures satisfied { (public private : List Gold) → length public ≡ publics → length private ≡ privates →
+    ensures publics { IfOk result (λ c. c.publics ≡ hash.now.publics) }
+    ensures privates { IfOk result (λ c. c.privates ≡ hash.now.privates) }
+    ensures satisfied { (public private : List Gold) → length public ≡ hash.now.publics →
+        length private ≡ hash.now.privates →
         IfOk result (λ c. IsSatisfied ops number c.layers (inputs_of ops public private) ↔
         (IsSatisfied ops number circuit.now.layers (inputs_of ops public (take circuit.now.privates private)) ×
-        AreSatisfying ops of_number len (take 8 (drop words public))
-        (take (8 * len) (drop bits private) ++ take 6376 (drop rest private)))) }
+        AreSatisfying ops of_number hash.now.len (take 8 (drop hash.now.words public))
+        (take (8 * hash.now.len) (drop hash.now.bits private) ++ take 6376 (drop hash.now.rest private)))) }
     ensures cause { IfErr result IsPolicyCause }
 {
-    let places = row(alloc, 1, publics + circuit.privates())?;
+    let places = row(alloc, 1, hash.publics + circuit.privates())?;
     let first = Part {
         circuit,
         places: &places,
     };
-    let hash = sha_circuit(alloc, len)?;
-    hash.valid_laws();
-    let hash_inputs = hash_places(
-        alloc,
-        1 + words,
-        1 + publics + bits,
-        8 * len,
-        1 + publics + rest,
-    )?;
+    let own = sha_circuit(alloc, hash.len)?;
+    own.valid_laws();
+    let hash_inputs = hash_places(alloc, hash)?;
     let second = Part {
-        circuit: &hash,
+        circuit: &own,
         places: &hash_inputs,
     };
-    match beside(alloc, publics, privates, &first, &second) {
+    match beside(alloc, hash.publics, hash.privates, &first, &second) {
         Ok(whole) => Ok(whole),
         Err(e) => Err(PolicyCircuitError::Beside(e)),
     }
@@ -135,8 +105,6 @@ fn with_claim(
     rest: u32,
 ) -> Result<Circuit<Gold>, PolicyCircuitError>
     requires version { circuit.version ≡ 1 }
-    requires publics { circuit.publics ≤ 65535 }
-    requires privates { circuit.privates ≤ 65536 }
     requires suits { IsTrue (suits field.now claim.now) }
     requires words { words + meaning.value_count claim.now ≤ circuit.publics }
     requires bits { bits + layout.own_of_claim field.now claim.now ≤ circuit.privates }
@@ -153,18 +121,16 @@ fn with_claim(
 {
     match claim {
         Claim::Pseudonym(_) => {
-            let (publics, privates) = (circuit.publics(), circuit.privates());
-            let len = 4 + field.size + 16;
-            with_hash(
-                alloc,
-                publics,
-                privates,
-                &circuit,
-                len,
-                words + 4,
+            circuit.valid_laws();
+            let hash = HashPlaces {
+                publics: circuit.publics(),
+                privates: circuit.privates(),
+                len: 4 + field.size + 16,
+                words: words + 4,
                 bits,
                 rest,
-            )
+            };
+            with_hash(alloc, &circuit, &hash)
         }
         _ => Ok(circuit),
     }
@@ -181,8 +147,6 @@ fn with_pseudonyms(
     rest: u32,
 ) -> Result<Circuit<Gold>, PolicyCircuitError>
     requires version { circuit.version ≡ 1 }
-    requires publics { circuit.publics ≤ 65535 }
-    requires privates { circuit.privates ≤ 65536 }
     requires shows { AllByRecursion (IsShowOf fields.now) shows.now }
     requires words { words + meaning.values_of shows.now ≤ circuit.publics }
     requires bits { bits + layout.owns_of fields.now shows.now ≤ circuit.privates }
@@ -200,6 +164,7 @@ fn with_pseudonyms(
     let Some((show, others)) = shows.split_first() else {
         return Ok(circuit);
     };
+    circuit.valid_laws();
     let field = field_of(fields, show);
     let next = words + value_count(&show.claim);
     let behind = bits + own_of_claim(field, &show.claim);
@@ -226,11 +191,18 @@ pub fn policy_circuit(alloc: Global, policy: &Policy) -> Result<Circuit<Gold>, P
 {
     let size = policy.size();
     let (fields, shows) = (policy.fields(), policy.shows());
-    let publics = 8 + values_of(shows);
-    let stated = 8 * size + owns_of(fields, shows);
-    let privates = padded(stated + (HASH_REST + rests_of(shows)));
-    let statement = stated_circuit(alloc, policy, publics, stated)?;
-    let record = with_hash(alloc, publics, privates, &statement, size, 0, 0, stated)?;
+    let statement = stated_circuit(alloc, policy)?;
+    statement.valid_laws();
+    let stated = statement.privates();
+    let hash = HashPlaces {
+        publics: statement.publics(),
+        privates: padded(stated + (HASH_REST + rests_of(shows))),
+        len: size,
+        words: 0,
+        bits: 0,
+        rest: stated,
+    };
+    let record = with_hash(alloc, &statement, &hash)?;
     with_pseudonyms(
         alloc,
         record,

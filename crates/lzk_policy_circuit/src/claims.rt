@@ -1,10 +1,9 @@
 //! What a statement asserts of the bits of a record and of a pseudonym's message.
 
-ghost use Rattle.std.specs.Prelude.{◌≡◌, ℕ, ◌+◌, ◌*◌, ◌≤◌, ◌<◌, List, drop, length, IfOk};
+ghost use Rattle.std.specs.Prelude.{◌≡◌, ◌+◌, ◌*◌, ◌≤◌, ◌<◌, drop, length, IfOk};
 ghost use Rattle.lzk_field.specs.Sums.{entry};
 ghost use Rattle.lzk_goldilocks.specs.Elements.{ops, of_number};
 ghost use Rattle.lzk_goldilocks.specs.declared.element.Gold.{Gold};
-ghost use Rattle.lzk_level.specs.Nodes.{node_count};
 ghost use Rattle.lzk_gadgets.specs.Claims.{Adds};
 ghost use Rattle.lzk_gadgets.specs.Inverses.{difference, IsAmong};
 ghost use Rattle.lzk_policy_circuit.specs.Met.{byte_worth, number_worth, AreSameBytes, IsLabelled, IsTagged, IsOrdered};
@@ -17,11 +16,8 @@ use std::alloc::{AllocError, Global};
 
 /// Claims that the number of some bytes is a public input.
 pub fn assert_number(s: &mut Statement, at: u32, size: u32, i: u32) -> Result<(), AllocError>
-    requires few { size ≤ 55 }
     requires there { at + 8 * size ≤ s.old.nodes.privates }
-    requires inputs { s.old.nodes.privates ≤ 65536 }
     requires value { i < s.old.nodes.publics }
-    requires room { node_count s.old.nodes + (2 + 10 * size) ≤ 2147483648 }
     ensures { IfOk result (λ _. Adds ops (2 + 10 * size) 1 s.old s.new
         (λ public private. number_worth private at size ≡ entry ops public i)) }
 {
@@ -41,16 +37,14 @@ pub fn assert_at_most(
     i: u32,
     own: u32,
 ) -> Result<(), AllocError>
-    requires few { size ≤ 55 }
     requires there { at + 8 * size ≤ s.old.nodes.privates }
     requires bits { own + 64 ≤ s.old.nodes.privates }
-    requires inputs { s.old.nodes.privates ≤ 65536 }
     requires value { i < s.old.nodes.publics }
-    requires room { node_count s.old.nodes + (198 + 10 * size) ≤ 2147483648 }
     ensures { IfOk result (λ _. Adds ops (198 + 10 * size) 66 s.old s.new
         (λ public private. IsOrdered (difference (entry ops public i) (number_worth private at size))
         (entry ops public i) (drop own private))) }
 {
+    s.room_laws();
     let x = number(s, at, size)?;
     let value = s.public(i);
     let above = s.difference(value, x)?;
@@ -69,16 +63,14 @@ pub fn assert_at_least(
     i: u32,
     own: u32,
 ) -> Result<(), AllocError>
-    requires few { size ≤ 55 }
     requires there { at + 8 * size ≤ s.old.nodes.privates }
     requires bits { own + 64 ≤ s.old.nodes.privates }
-    requires inputs { s.old.nodes.privates ≤ 65536 }
     requires value { i < s.old.nodes.publics }
-    requires room { node_count s.old.nodes + (198 + 10 * size) ≤ 2147483648 }
     ensures { IfOk result (λ _. Adds ops (198 + 10 * size) 66 s.old s.new
         (λ public private. IsOrdered (difference (number_worth private at size) (entry ops public i))
         (entry ops public i) (drop own private))) }
 {
+    s.room_laws();
     let x = number(s, at, size)?;
     let value = s.public(i);
     let above = s.difference(x, value)?;
@@ -95,10 +87,7 @@ pub fn assert_text(
     size: u32,
     choices: &[Gold],
 ) -> Result<(), AllocError>
-    requires few { size ≤ 55 }
     requires there { at + 8 * size ≤ s.old.nodes.privates }
-    requires inputs { s.old.nodes.privates ≤ 65536 }
-    requires room { node_count s.old.nodes + (2 + 10 * size + 3 * length choices.now) ≤ 2147483648 }
     ensures { IfOk result (λ _. Adds ops (2 + 10 * size + 3 * length choices.now) 1 s.old s.new
         (λ public private. IsAmong (number_worth private at size) choices.now)) }
 {
@@ -110,7 +99,6 @@ pub fn assert_text(
 // Claims that a byte is this one.
 fn assert_byte(s: &mut Statement, at: u32, constant: u8) -> Result<(), AllocError>
     requires there { at + 8 ≤ s.old.nodes.privates }
-    requires room { node_count s.old.nodes + 13 ≤ 2147483648 }
     ensures { IfOk result (λ _. Adds ops 13 1 s.old s.new
         (λ public private. byte_worth private at ≡ of_number constant)) }
 {
@@ -122,10 +110,9 @@ fn assert_byte(s: &mut Statement, at: u32, constant: u8) -> Result<(), AllocErro
 /// Claims that four bytes are the label.
 pub fn assert_label(s: &mut Statement, own: u32) -> Result<(), AllocError>
     requires there { own + 32 ≤ s.old.nodes.privates }
-    requires inputs { s.old.nodes.privates ≤ 65536 }
-    requires room { node_count s.old.nodes + 52 ≤ 2147483648 }
     ensures { IfOk result (λ _. Adds ops 52 4 s.old s.new (λ public private. IsLabelled (drop own private))) }
 {
+    s.room_laws();
     assert_byte(s, own, 76)?;
     assert_byte(s, own + 8, 90)?;
     assert_byte(s, own + 16, 80)?;
@@ -133,48 +120,32 @@ pub fn assert_label(s: &mut Statement, own: u32) -> Result<(), AllocError>
     Ok(())
 }
 
-// Claims that two bytes are the same.
-fn assert_same_byte(s: &mut Statement, at: u32, from: u32) -> Result<(), AllocError>
-    requires there { at + 8 ≤ s.old.nodes.privates }
-    requires other { from + 8 ≤ s.old.nodes.privates }
-    requires room { node_count s.old.nodes + 19 ≤ 2147483648 }
-    ensures { IfOk result (λ _. Adds ops 19 1 s.old s.new
-        (λ public private. byte_worth private at ≡ byte_worth private from)) }
-{
-    let x = byte(s, at)?;
-    let y = byte(s, from)?;
-    s.assert_equal(x, y)?;
-    Ok(())
-}
-
 /// Claims that some bytes are the same as others.
 pub fn assert_same(s: &mut Statement, at: u32, from: u32, size: u32) -> Result<(), AllocError>
-    requires few { size ≤ 55 }
     requires there { at + 8 * size ≤ s.old.nodes.privates }
     requires other { from + 8 * size ≤ s.old.nodes.privates }
-    requires inputs { s.old.nodes.privates ≤ 65536 }
-    requires room { node_count s.old.nodes + 19 * size ≤ 2147483648 }
     ensures { IfOk result (λ _. Adds ops (19 * size) size s.old s.new
         (λ public private. AreSameBytes private at private from size)) }
 {
     if size == 0 {
         return Ok(());
     }
+    s.room_laws();
     assert_same(s, at, from, size - 1)?;
-    assert_same_byte(s, at + 8 * (size - 1), from + 8 * (size - 1))?;
+    let x = byte(s, at + 8 * (size - 1))?;
+    let y = byte(s, from + 8 * (size - 1))?;
+    s.assert_equal(x, y)?;
     Ok(())
 }
 
 /// Claims that sixteen bytes are four public inputs, four bytes each.
 pub fn assert_tag(s: &mut Statement, at: u32, i: u32) -> Result<(), AllocError>
     requires there { at + 128 ≤ s.old.nodes.privates }
-    requires inputs { s.old.nodes.privates ≤ 65536 }
     requires values { i + 4 ≤ s.old.nodes.publics }
-    requires publics { s.old.nodes.publics ≤ 65535 }
-    requires room { node_count s.old.nodes + 168 ≤ 2147483648 }
     ensures { IfOk result (λ _. Adds ops 168 4 s.old s.new
         (λ public private. IsTagged private at (drop i public))) }
 {
+    s.room_laws();
     assert_number(s, at, 4, i)?;
     assert_number(s, at + 32, 4, i + 1)?;
     assert_number(s, at + 64, 4, i + 2)?;

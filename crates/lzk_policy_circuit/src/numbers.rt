@@ -17,11 +17,11 @@ use std::alloc::{AllocError, Global};
 /// The byte whose bits stand from private input `at` on, the highest first.
 pub fn byte(s: &mut Statement, at: u32) -> Result<Node, AllocError>
     requires there { at + 8 ≤ s.old.nodes.privates }
-    requires room { node_count s.old.nodes + 9 ≤ 2147483648 }
     ensures makes { IfOk result (λ node. Makes ops 9 s.old s.new node) }
     ensures value { (public private : List Gold) → AreInputs s.old public private →
         IfOk result (λ node. value ops s.new public private node ≡ byte_worth private at) }
 {
+    s.room_laws();
     let bits = [
         s.private(at + 7),
         s.private(at + 6),
@@ -38,10 +38,7 @@ pub fn byte(s: &mut Statement, at: u32) -> Result<Node, AllocError>
 
 /// The number of `size` bytes whose bits stand from private input `at` on.
 pub fn number(s: &mut Statement, at: u32, size: u32) -> Result<Node, AllocError>
-    requires few { size ≤ 55 }
     requires there { at + 8 * size ≤ s.old.nodes.privates }
-    requires inputs { s.old.nodes.privates ≤ 65536 }
-    requires room { node_count s.old.nodes + (1 + 10 * size) ≤ 2147483648 }
     ensures makes { IfOk result (λ node. Makes ops (1 + 10 * size) s.old s.new node) }
     ensures value { (public private : List Gold) → AreInputs s.old public private →
         IfOk result (λ node. value ops s.new public private node ≡ number_worth private at size) }
@@ -50,6 +47,7 @@ pub fn number(s: &mut Statement, at: u32, size: u32) -> Result<Node, AllocError>
         let zero = s.constant(Gold::zero())?;
         return Ok(zero);
     }
+    s.room_laws();
     let above = number(s, at, size - 1)?;
     let last = byte(s, at + 8 * (size - 1))?;
     let node = s.weighted(Gold::one(), last, Gold::of_word(256), above)?;
@@ -58,13 +56,13 @@ pub fn number(s: &mut Statement, at: u32, size: u32) -> Result<Node, AllocError>
 
 // So many private inputs from `at` on.
 fn bits_from(alloc: Global, s: &Statement, at: u32, count: u32) -> Result<Vec<Node>, AllocError>
-    requires there { at + count ≤ s.now.nodes.privates }
-    requires inputs { s.now.nodes.privates ≤ 65536 }
+    requires { at + count ≤ s.now.nodes.privates }
     ensures count { IfOk result (λ bits. length bits.items ≡ count) }
     ensures nodes { IfOk result (λ bits. AreNodes (node_count s.now.nodes) bits.items) }
     ensures values { (public private : List Gold) → AreInputs s.now public private →
         IfOk result (λ bits. values ops s.now public private bits.items ≡ take count (drop at private)) }
 {
+    s.room_laws();
     let mut bits = Vec::new(alloc);
     for k in 0..count {
         bits.push(s.private(at + k))?;
@@ -75,8 +73,6 @@ fn bits_from(alloc: Global, s: &Statement, at: u32, count: u32) -> Result<Vec<No
 /// Claims that a node is a number of 32 bits, which are the private inputs from `at` on, the lowest first.
 pub fn assert_word(alloc: Global, s: &mut Statement, x: Node, at: u32) -> Result<(), AllocError>
     requires there { at + 32 ≤ s.old.nodes.privates }
-    requires inputs { s.old.nodes.privates ≤ 65536 }
-    requires room { node_count s.old.nodes + 98 ≤ 2147483648 }
     requires node { IsNode (node_count s.old.nodes) x }
     ensures { IfOk result (λ _. Adds ops 98 33 s.old s.new
         (λ public private. Spells (value ops s.old public private x).n (take 32 (drop at private)))) }

@@ -1,10 +1,28 @@
 //! Where the inputs of the parts stand.
 
-ghost use Rattle.std.specs.Prelude.{◌≡◌, ℕ, ◌+◌, ◌≤◌, List, ◌++◌, length, IfOk, OnOk};
+ghost use Rattle.std.specs.Prelude.{◌≡◌, ◌+◌, ◌*◌, ◌≤◌, ◌++◌, IfOk};
 ghost use Rattle.std.specs.List.{range_with_len};
 ghost use Rattle.lzk_policy_circuit.specs.Places as spots;
 
 use std::alloc::{AllocError, Global};
+
+/// Where the inputs of a hash stand among so many public and private ones: the words of the digest from public input
+/// `words` on, the bits of a message of `len` bytes from private input `bits` on, and the rest from `rest` on.
+#[derive(Drop)]
+pub struct HashPlaces {
+    pub publics: u32,
+    pub privates: u32,
+    pub len: u32,
+    pub words: u32,
+    pub bits: u32,
+    pub rest: u32,
+    pub ghost few_publics: { publics ≤ 65535 },
+    pub ghost few_privates: { privates ≤ 65536 },
+    pub ghost short: { len ≤ 55 },
+    pub ghost words_stand: { words + 8 ≤ publics },
+    pub ghost bits_stand: { bits + 8 * len ≤ privates },
+    pub ghost rest_stands: { rest + 6376 ≤ privates },
+}
 
 // Appends so many places in a row.
 fn push_range(places: &mut Vec<u32>, start: u32, count: u32) -> Result<(), AllocError>
@@ -27,22 +45,14 @@ pub fn row(alloc: Global, start: u32, count: u32) -> Result<Vec<u32>, AllocError
     Ok(places)
 }
 
-/// The places of a hash: those of the digest's words, of so many bits of the message, and of the rest.
-pub fn hash_places(
-    alloc: Global,
-    words: u32,
-    bits: u32,
-    count: u32,
-    rest: u32,
-) -> Result<Vec<u32>, AllocError>
-    requires words { words + 8 ≤ 131072 }
-    requires bits { bits + count ≤ 131072 }
-    requires rest { rest + 6376 ≤ 131072 }
-    ensures { IfOk result (λ places. places.items ≡ spots.hash_places words bits count rest) }
+/// Their places in the input layer, which begins with the one.
+pub fn hash_places(alloc: Global, hash: &HashPlaces) -> Result<Vec<u32>, AllocError>
+    ensures { IfOk result (λ places. places.items ≡ spots.hash_places (1 + hash.now.words)
+        (1 + hash.now.publics + hash.now.bits) (8 * hash.now.len) (1 + hash.now.publics + hash.now.rest)) }
 {
     let mut places = Vec::new(alloc);
-    push_range(&mut places, words, 8)?;
-    push_range(&mut places, bits, count)?;
-    push_range(&mut places, rest, 6376)?;
+    push_range(&mut places, 1 + hash.words, 8)?;
+    push_range(&mut places, 1 + hash.publics + hash.bits, 8 * hash.len)?;
+    push_range(&mut places, 1 + hash.publics + hash.rest, 6376)?;
     Ok(places)
 }

@@ -1,10 +1,9 @@
 //! What a statement asserts of all that is shown.
 
-ghost use Rattle.std.specs.Prelude.{◌≡◌, ℕ, ◌+◌, ◌*◌, ◌≤◌, ◌<◌, IsTrue, Some, MatchOption, List, drop, map, length, slice_get, IfOk};
+ghost use Rattle.std.specs.Prelude.{◌≡◌, ◌+◌, ◌*◌, ◌≤◌, IsTrue, Some, drop, map, length, IfOk};
 ghost use Rattle.std.specs.List.{AllByRecursion};
 ghost use Rattle.lzk_goldilocks.specs.Elements.{ops, of_number};
 ghost use Rattle.lzk_goldilocks.specs.declared.element.Gold.{Gold};
-ghost use Rattle.lzk_level.specs.Nodes.{node_count};
 ghost use Rattle.lzk_gadgets.specs.Claims.{Adds};
 ghost use Rattle.lzk_policy.specs.Policies.{IsField, IsShowOf, suits};
 ghost use Rattle.lzk_policy_circuit.specs.Layout as layout;
@@ -43,13 +42,11 @@ fn assert_composed(
     requires few { field.now.place + field.now.size ≤ 55 }
     requires there { 8 * (field.now.place + field.now.size) ≤ s.old.nodes.privates }
     requires message { own + 8 * layout.message_size field.now ≤ s.old.nodes.privates }
-    requires inputs { s.old.nodes.privates ≤ 65536 }
     requires values { i + 12 ≤ s.old.nodes.publics }
-    requires publics { s.old.nodes.publics ≤ 65535 }
-    requires room { node_count s.old.nodes + 2000 ≤ 2147483648 }
     ensures { IfOk result (λ _. Adds ops 2000 (8 + field.now.size) s.old s.new
         (λ public private. IsComposed private field.now (drop i public) (drop own private))) }
 {
+    s.room_laws();
     assert_label(s, own)?;
     assert_same(s, 8 * field.place, own + 32, field.size)?;
     assert_tag(s, own + 32 + 8 * field.size, i)?;
@@ -69,10 +66,7 @@ fn assert_claim(
     requires suits { IsTrue (suits field.now claim.now) }
     requires there { 8 * (field.now.place + field.now.size) ≤ s.old.nodes.privates }
     requires bits { own + layout.own_of_claim field.now claim.now ≤ s.old.nodes.privates }
-    requires inputs { s.old.nodes.privates ≤ 65536 }
     requires values { i + meaning.value_count claim.now ≤ s.old.nodes.publics }
-    requires publics { s.old.nodes.publics ≤ 65535 }
-    requires room { node_count s.old.nodes + 2000 ≤ 2147483648 }
     ensures { IfOk result (λ _. Adds ops 2000 (layout.asserts_of_claim field.now claim.now) s.old s.new
         (λ public private. IsStated private field.now claim.now (drop i public) (drop own private))) }
 {
@@ -98,22 +92,19 @@ pub fn assert_shows(
     i: u32,
     own: u32,
 ) -> Result<(), AllocError>
-    requires few { length shows.now ≤ 8 }
     requires block { size ≤ 55 }
     requires fields { AllByRecursion (IsField size) fields.now }
     requires shows { AllByRecursion (IsShowOf fields.now) shows.now }
     requires there { 8 * size ≤ s.old.nodes.privates }
     requires bits { own + layout.owns_of fields.now shows.now ≤ s.old.nodes.privates }
-    requires inputs { s.old.nodes.privates ≤ 65536 }
     requires values { i + meaning.values_of shows.now ≤ s.old.nodes.publics }
-    requires publics { s.old.nodes.publics ≤ 65535 }
-    requires room { node_count s.old.nodes + 2000 * length shows.now ≤ 2147483648 }
     ensures { IfOk result (λ _. Adds ops (2000 * length shows.now) (layout.asserts_of fields.now shows.now) s.old s.new
         (λ public private. AreStated private fields.now shows.now (drop i public) (drop own private))) }
 {
     let Some((show, others)) = shows.split_first() else {
         return Ok(());
     };
+    s.room_laws();
     let field = field_of(fields, show);
     assert_claim(alloc, s, field, &show.claim, i, own)?;
     let next = i + value_count(&show.claim);

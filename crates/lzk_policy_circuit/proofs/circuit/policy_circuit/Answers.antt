@@ -6,9 +6,9 @@ use Rattle.lzk_goldilocks.specs.declared.element.Gold.{Gold}
 use Rattle.lzk_circuit.specs.Checks.{IsSatisfied}
 use Rattle.lzk_circuit.specs.Wires.{inputs_of}
 use Rattle.lzk_sha_circuit.specs.Outputs.{AreSatisfying}
-use Rattle.lzk_policy_circuit.specs.Meaning.{values_of, public_count}
-use Rattle.lzk_policy_circuit.specs.Layout.{owns_of, rests_of, stated_count, private_count, padded}
-use Rattle.lzk_policy_circuit.specs.Met.{AreStated, AreHashed, Satisfy}
+use Rattle.lzk_policy_circuit.specs.Meaning.{public_count}
+use Rattle.lzk_policy_circuit.specs.Layout.{rests_of, stated_count, private_count, padded}
+use Rattle.lzk_policy_circuit.specs.Met.{AreHashed, Satisfy}
 use Rattle.lzk_policy_circuit.proofs.Answering.{ok_all, ok_map, ok_both}
 use Rattle.lzk_policy_circuit.proofs.Joined.{then_iff, whole_satisfied, shown_exactly}
 use Rattle.lzk_policy_circuit.proofs.circuit.policy_circuit.Goals as goal
@@ -20,36 +20,34 @@ satisfied_by c public private np nq =
     let fields = c.fields-fields.ensures in
     let shows = c.shows-shows.ensures in
     let size = c.size-size.ensures.size in
-    let stated = 8 * c.size-size.result + c.owns_of.result in
-    let ep : 8 + c.values_of-publics.result ≡ public_count p = λ i. 8 + (c.values_of-publics.ensures.count ∙ (λ j. values_of (shows j))) i in
-    let es : stated ≡ stated_count p = λ i. 8 * size i + (c.owns_of.ensures.count ∙ (λ j. owns_of (fields j) (shows j))) i in
+    let stated = c.privates-stated.result in
+    let ep : c.publics.result ≡ public_count p = c.publics.ensures ∙ c.in_ok-statement.ensures.publics in
+    let es : stated ≡ stated_count p = c.privates-stated.ensures ∙ c.in_ok-statement.ensures.privates in
     let er : c.rests_of.result ≡ rests_of p.shows = c.rests_of.ensures.count ∙ (λ j. rests_of (shows j)) in
-    let eq : c.padded-privates.result ≡ private_count p = c.padded-privates.ensures.count ∙ (λ i. padded (es i + (6376 + er i))) in
+    let eq : c.padded.result ≡ private_count p = c.padded.ensures.count ∙ (λ i. padded (es i + (6376 + er i))) in
     let statement = c.in_ok-statement.statement in
     let record_ = c.in_ok-record.record in
     let xs = inputs_of ops public private in
     let B = IsSatisfied ops number record_.layers xs in
     let np_ = np ∙ sym ep in
     let nq_ = nq ∙ sym eq in
-    let long : length (take stated private) ≡ stated = length-take-le stated private (omega (arith, nq_, c.padded-privates.ensures.enough)) in
+    let N = stated_count p in
+    let long : length (take N private) ≡ N = length-take-le N private (omega (arith, nq_, es, c.padded.ensures.enough)) in
     let R = λ (n z s : ℕ). B ↔ (IsSatisfied ops number statement.layers (inputs_of ops public (take n private)) ×
     AreSatisfying ops of_number z (take 8 (drop 0 public)) (take (8 * z) (drop 0 private) ++ take 6376 (drop s private))) in
-    let r = subst (λ (T : Type 0). T) (λ i. R ((c.in_ok-statement.ensures.privates ∙ es) i) (size i) (es i)) (c.in_ok-record.ensures.satisfied public private np_ nq_) in
-    let s = subst (λ (n : ℕ). IsSatisfied ops number statement.layers (inputs_of ops public (take n private)) ↔ AreStated (take n private) p.fields p.shows (drop 8 public) (drop (8 * p.size) (take n private))) es
-    (c.in_ok-statement.ensures.satisfied public (take stated private) np_ long) in
-    let whole = whole_satisfied p (IsSatisfied ops number statement.layers (inputs_of ops public (take (stated_count p) private))) B public private r s in
+    let r = subst (λ (T : Type 0). T) (λ i. R (c.in_ok-statement.ensures.privates i) (size i) (es i)) (c.in_ok-record.ensures.satisfied public private np_ nq_) in
+    let s = c.in_ok-statement.ensures.satisfied public (take N private) np long in
+    let whole = whole_satisfied p (IsSatisfied ops number statement.layers (inputs_of ops public (take N private))) B public private r s in
     ok_map c.with_pseudonyms.result _ _ (c.with_pseudonyms.ensures.satisfied public private (np_ ∙ sym c.in_ok-record.ensures.publics) (nq_ ∙ sym c.in_ok-record.ensures.privates)) (λ w e.
     then_iff (subst (λ (T : Type 0). IsSatisfied ops number w.layers xs ↔ (B × T)) (λ i. AreHashed (fields i) (shows i) (drop 8 public) (drop (8 * size i) private) (drop (es i + 6376) private)) e) whole)
 
 private_counted : (c : goal.After-drop-statement-inside-2) → IfOk c.with_pseudonyms.result (λ w. w.privates ≡ private_count c.args.policy.now)
 private_counted c =
     let p = c.args.policy.now in
-    let fields = c.fields-fields.ensures in
     let shows = c.shows-shows.ensures in
-    let size = c.size-size.ensures.size in
-    let es : 8 * c.size-size.result + c.owns_of.result ≡ stated_count p = λ i. 8 * size i + (c.owns_of.ensures.count ∙ (λ j. owns_of (fields j) (shows j))) i in
+    let es : c.privates-stated.result ≡ stated_count p = c.privates-stated.ensures ∙ c.in_ok-statement.ensures.privates in
     let er : c.rests_of.result ≡ rests_of p.shows = c.rests_of.ensures.count ∙ (λ j. rests_of (shows j)) in
-    ok_map c.with_pseudonyms.result _ _ c.with_pseudonyms.ensures.privates (λ w e. e ∙ c.in_ok-record.ensures.privates ∙ c.padded-privates.ensures.count ∙ (λ i. padded (es i + (6376 + er i))))
+    ok_map c.with_pseudonyms.result _ _ c.with_pseudonyms.ensures.privates (λ w e. e ∙ c.in_ok-record.ensures.privates ∙ c.padded.ensures.count ∙ (λ i. padded (es i + (6376 + er i))))
 
 pub returns-clause-shown : goal.returns-clause-shown
 returns-clause-shown c = λ public np.

@@ -14,47 +14,51 @@ use Rattle.lzk_policy_circuit.proofs.circuit.with_hash.Goals as goal
 
 pub invariant_of-first : goal.invariant_of-first
 invariant_of-first c =
-    let n = c.args.publics + c.privates.result in
+    let n = c.args.hash.now.publics + c.privates.result in
     let long = ap length (c.deref.ensures.value ∙ c.in_ok-places.ensures) ∙ length-range_with_len 1 n in
-    record { version = c.requires.version; count = omega (arith, long, c.privates.ensures, c.requires.inputs) }
+    record { version = c.requires.version; count = omega (arith, long, c.privates.ensures, c.requires.publics) }
 
 pub invariant_of-second : goal.invariant_of-second
 invariant_of-second c =
+    let h = c.args.hash.now in
     let long = ap length (c.deref-2.ensures.value ∙ c.in_ok-hash_inputs.ensures)
-    ∙ hash_places_count (1 + c.args.words) (1 + c.args.publics + c.args.bits) (8 * c.args.len) (1 + c.args.publics + c.args.rest) in
+    ∙ hash_places_count (1 + h.words) (1 + h.publics + h.bits) (8 * h.len) (1 + h.publics + h.rest) in
     record {
-      version = c.in_ok-hash.ensures.version;
-      count = omega (arith, long, c.in_ok-hash.ensures.publics, c.in_ok-hash.ensures.privates);
+      version = c.in_ok-own.ensures.version;
+      count = omega (arith, long, c.in_ok-own.ensures.publics, c.in_ok-own.ensures.privates);
     }
 
 pub beside-requires-clause-first : goal.beside-requires-clause-first
 beside-requires-clause-first c κs =
-    let width = 1 + c.args.publics + c.args.privates in
-    let n = c.args.publics + c.privates.result in
+    let h = c.args.hash.now in
+    let width = 1 + h.publics + h.privates in
+    let n = h.publics + c.privates.result in
     subst (AreNumbersBelow width) (sym (c.deref.ensures.value ∙ c.in_ok-places.ensures))
-    (range_below width 1 n (omega (arith, c.privates.ensures, c.requires.some)))
+    (range_below width 1 n (omega (arith, c.privates.ensures, c.requires.privates)))
 
 pub beside-requires-clause-second : goal.beside-requires-clause-second
 beside-requires-clause-second c κs =
-    let width = 1 + c.args.publics + c.args.privates in
+    let h = c.args.hash.now in
+    let width = 1 + h.publics + h.privates in
     subst (AreNumbersBelow width) (sym (c.deref-2.ensures.value ∙ c.in_ok-hash_inputs.ensures))
-    (hash_places_below width (1 + c.args.words) (1 + c.args.publics + c.args.bits) (8 * c.args.len) (1 + c.args.publics + c.args.rest)
-    (omega (arith, c.requires.words)) (omega (arith, c.requires.bits)) (omega (arith, c.requires.rest)))
+    (hash_places_below width (1 + h.words) (1 + h.publics + h.bits) (8 * h.len) (1 + h.publics + h.rest)
+    (omega (arith, h.words_stand)) (omega (arith, h.bits_stand)) (omega (arith, h.rest_stands)))
 
 pub returns-in-Ok-clause-satisfied : goal.returns-in-Ok-clause-satisfied
 returns-in-Ok-clause-satisfied c = λ public private np nq.
+    let h = c.args.hash.now in
     let first = c.args.circuit.now in
-    let hash = c.in_ok-hash.hash in
+    let own = c.in_ok-own.own in
     let whole = c.in-Ok.whole in
     let xs = inputs_of ops public private in
     let row : c.deref.result.now ≡ range_with_len 1 (length public + first.privates) =
     c.deref.ensures.value ∙ c.in_ok-places.ensures ∙ (λ i. range_with_len 1 (sym np i + c.privates.ensures i)) in
-    let rows : c.deref-2.result.now ≡ hash_places (1 + c.args.words) (1 + length public + c.args.bits) (8 * c.args.len) (1 + length public + c.args.rest) =
+    let rows : c.deref-2.result.now ≡ hash_places (1 + h.words) (1 + length public + h.bits) (8 * h.len) (1 + length public + h.rest) =
     c.deref-2.ensures.value ∙ c.in_ok-hash_inputs.ensures
-    ∙ (λ i. hash_places (1 + c.args.words) (1 + sym np i + c.args.bits) (8 * c.args.len) (1 + sym np i + c.args.rest)) in
+    ∙ (λ i. hash_places (1 + h.words) (1 + sym np i + h.bits) (8 * h.len) (1 + sym np i + h.rest)) in
     let W = IsSatisfied ops number whole.layers xs in
     let both = c.in-Ok.ensures.satisfied public private np nq in
-    let one = subst (λ (l : List ℕ). W ↔ (IsSatisfied ops number first.layers (chosen ops l xs) × IsSatisfied ops number hash.layers (chosen ops c.deref-2.result.now xs))) row both in
-    let two = subst (λ (l : List ℕ). W ↔ (IsSatisfied ops number first.layers (chosen ops (range_with_len 1 (length public + first.privates)) xs) × IsSatisfied ops number hash.layers (chosen ops l xs))) rows one in
-    hash_satisfied first hash whole public private c.args.len c.args.words c.args.bits c.args.rest c.valid_laws.ensures c.in_ok-hash.ensures.version c.in_ok-hash.ensures.publics c.in_ok-hash.ensures.privates
-    c.in_ok-hash.ensures.outputs (np ∙ sym c.requires.inputs) (omega (arith, nq, c.requires.some)) (omega (arith, np, c.requires.words)) (omega (arith, nq, c.requires.bits)) (omega (arith, nq, c.requires.rest)) two
+    let one = subst (λ (l : List ℕ). W ↔ (IsSatisfied ops number first.layers (chosen ops l xs) × IsSatisfied ops number own.layers (chosen ops c.deref-2.result.now xs))) row both in
+    let two = subst (λ (l : List ℕ). W ↔ (IsSatisfied ops number first.layers (chosen ops (range_with_len 1 (length public + first.privates)) xs) × IsSatisfied ops number own.layers (chosen ops l xs))) rows one in
+    hash_satisfied first own whole public private h.len h.words h.bits h.rest c.valid_laws.ensures c.in_ok-own.ensures.version c.in_ok-own.ensures.publics c.in_ok-own.ensures.privates
+    c.in_ok-own.ensures.outputs (np ∙ sym c.requires.publics) (omega (arith, nq, c.requires.privates)) (omega (arith, np, h.words_stand)) (omega (arith, nq, h.bits_stand)) (omega (arith, nq, h.rest_stands)) two

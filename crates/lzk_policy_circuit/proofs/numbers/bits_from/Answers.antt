@@ -15,5 +15,5 @@ loop-k-preserved c =
     record {
       count = omega (arith, ap length e, length-append old (node ∷ []), c.loop-k.invariant.count);
       nodes = subst (AreNodes (node_count s.nodes)) (sym e) (nodes_push (node_count s.nodes) old node c.loop-k.invariant.nodes c.private.ensures.node);
-      values_are = λ p q a. bits_more s p q old c.push.new.self.items node c.args.at k e (c.loop-k.invariant.values_are p q a) (c.private.ensures.value p q a) (omega (arith, a.privates, c.requires.there));
+      values_are = λ p q a. bits_more s p q old c.push.new.self.items node c.args.at k e (c.loop-k.invariant.values_are p q a) (c.private.ensures.value p q a) (omega (arith, a.privates, c.requires));
     }
