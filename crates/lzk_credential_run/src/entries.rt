@@ -6,7 +6,8 @@ ghost use Rattle.lzk_expr.specs.Texts.{runs, is_plain};
 ghost use Rattle.lzk_credential_run.specs.Entries as texts;
 
 use lzk_expr::Name;
-use lzk_policy::{content, is_skipped, next_line, next_word, only_word};
+use lzk_expr::words::{content, next_line, next_word};
+use lzk_policy::{is_skipped, only_word};
 use std::alloc::{AllocFailed, Global};
 
 /// A line: a name, and the word that it stands for.

@@ -1,3 +1,4 @@
+pub mod Depths
 pub mod Placed
 pub mod Seen
 pub mod Under

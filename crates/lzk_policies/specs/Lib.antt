@@ -1,3 +1,4 @@
 pub mod Causes
+pub mod Depths
 pub mod Placed
 pub mod Rooted

@@ -6,7 +6,11 @@ ghost use Rattle.lzk_sha_circuit.specs.Compression.{IsState};
 ghost use Rattle.lzk_sha_circuit.specs.Digest.{digest_words};
 ghost use Rattle.lzk_sha_path.specs.Roots.{AreNodes};
 ghost use Rattle.lzk_policy.specs.Policies.{Contents};
-ghost use Rattle.lzk_policy_circuit.specs.Meaning.{public_count};
+ghost use Rattle.lzk_policy_circuit.specs.Layout as layout;
+ghost use Rattle.lzk_policy_circuit.specs.Meaning.{IsShown, public_count};
+ghost use Rattle.lzk_policy_circuit.specs.Met.{Satisfy};
+ghost use Rattle.lzk_policy_inputs.specs.Chosen.{public_of};
+ghost use Rattle.lzk_policy_inputs.specs.Filled.{private_of};
 ghost use Rattle.lzk_policy_inputs.specs.declared.value.Value as value;
 ghost use Rattle.lzk_policies.specs.Placed.{IsRootedRefusal, root_words, shown_numbers};
 ghost use Rattle.lzk_policies.specs.Rooted.{IsShownUnder, SatisfyUnder, private_count};
@@ -136,6 +140,28 @@ fn laid_out(
     let mut private = Vec::from_slice(alloc, shown.private())?;
     private.extend_from_slice(leaf)?;
     private.extend_from_slice(&path.private)?;
+    Ok(RootedInputs { public, private })
+}
+
+/// The inputs of the circuit of a record whose digest is shown.
+pub(crate) fn digest_inputs(
+    alloc: Global,
+    policy: &Policy,
+    bytes: &[u8],
+    values: &[Value],
+) -> Result<RootedInputs, RootedInputsError>
+    ensures public { IfOk result (λ i. i.public ≡ public_of policy.now bytes.now values.now) }
+    ensures private { IfOk result (λ i. i.private ≡ private_of policy.now bytes.now values.now) }
+    ensures shown { IfOk result (λ i. IsShown policy.now bytes.now i.public) }
+    ensures publics { IfOk result (λ i. length i.public ≡ public_count policy.now) }
+    ensures privates { IfOk result (λ i. length i.private ≡ layout.private_count policy.now) }
+    ensures satisfied { IfOk result (λ i. Satisfy policy.now i.public i.private) }
+    ensures refusal { (index depth : ℕ) →
+        IfErr result (IsRootedRefusal policy.now bytes.now values.now index depth) }
+{
+    let shown = policy_inputs(alloc, policy, bytes, values)?;
+    let public = Vec::from_slice(alloc, shown.public())?;
+    let private = Vec::from_slice(alloc, shown.private())?;
     Ok(RootedInputs { public, private })
 }
 

@@ -18,8 +18,10 @@ mod error;
 mod inputs;
 mod places;
 mod refusal;
+mod whole;
 
 pub use circuit::rooted_circuit;
 pub use error::RootedError;
 pub use inputs::{Place, RootedInputs, rooted_inputs};
 pub use refusal::RootedInputsError;
+pub use whole::{credential_circuit, credential_inputs};

@@ -17,6 +17,9 @@ pub enum RootedInputsError {
     /// The path has no inputs.
     #[error("{0}")]
     Path(PathError),
+    /// The policy says that there are more levels or fewer.
+    #[error("path has not as many levels as the policy says")]
+    Depth,
     /// The row of a leaf has two to the power of the levels' number.
     #[error("leaf is none of its row")]
     Index,

@@ -19,6 +19,7 @@ is_nothing = record {
   none = λ e. refl;
   fields = omega arith;
   few = omega arith;
+  levels = omega arith;
   shown = λ e. refl;
   shows = tt;
 }

@@ -1,6 +1,6 @@
 -- What lines say of a policy stays well formed.
 use Rattle.std.proofs.Common.{◌≡◌, ◌⊎◌, ℕ, ◌+◌, ◌<◌, ◌≤◌, Bool, true, false, not, List, [], ◌∷◌, ◌++◌, length, length-append, Option, Some, None, Result, Ok, Err, refl, sym, ap, subst, ◌∙◌, inl, inr, arith}
-use Rattle.std.specs.Prelude.{if◌then◌else◌, nat_lt, nat_le, ◌&&◌, IsTrue, slice_get, is_some}
+use Rattle.std.specs.Prelude.{if◌then◌else◌, nat_lt, nat_le, ◌&&◌, ◌||◌, IsTrue, slice_get, is_some}
 use Rattle.std.specs.List.{AllByRecursion}
 use Rattle.std.proofs.lemmas.Bool.{leb-true, ltb-true}
 use Rattle.lzk_policy.specs.declared.policy.RecordField.{RecordField}
@@ -12,7 +12,7 @@ use Rattle.lzk_policy.specs.declared.fault.PolicyKind.{PolicyKind}
 use Rattle.lzk_policy.specs.declared.fault.PolicyKind.TheVariants as faults
 use Rattle.lzk_policy.specs.declared.fault.PolicyFault.{PolicyFault}
 use Rattle.lzk_policy.specs.Lines.{line_of, is_skipped}
-use Rattle.lzk_policy.specs.Policies.{Contents, Partial, IsPartial, IsPolicy, IsField, IsShowOf, most_bytes, most_fields, most_shows, has_size, lies_within, suits, field_number, with_size, with_field, with_field_behind, with_new_field, with_digest, with_claim, with_number, with_show, with_said, with_line, with_bytes, at_line, whole_of}
+use Rattle.lzk_policy.specs.Policies.{Contents, Partial, IsPartial, IsPolicy, IsField, IsShowOf, most_bytes, most_fields, most_shows, most_levels, has_size, lies_within, suits, field_number, with_size, with_field, with_field_behind, with_new_field, with_digest, with_root, with_claim, with_number, with_show, with_said, with_line, with_bytes, at_line, whole_of}
 
 all_behind : {A : Type 0} (P : A → Type 0) (xs : List A) (x : A) → AllByRecursion P xs → P x → AllByRecursion P (xs ++ x ∷ [])
 all_behind P [] x h p = (p, tt)
@@ -72,6 +72,7 @@ size_kept p q n w h =
       none = λ e. absurd cc;
       fields = w.fields;
       few = w.few;
+      levels = w.levels;
       shown = w.shown;
       shows = w.shows;
     })
@@ -97,6 +98,7 @@ new_field_kept p q n f w size before h =
       none = λ e. absurd (let no : None ≡ Some n = sym e ∙ size in cc);
       fields = omega (arith, ltb-true (length p.fields) most_fields d.0, length-append p.fields (f ∷ []));
       few = w.few;
+      levels = w.levels;
       shown = λ e. shows;
       shows = all_empty (IsShowOf (p.fields ++ f ∷ [])) p.shows shows;
     })
@@ -115,13 +117,32 @@ field_kept p q f w h =
 digest_kept : (p q : Partial) → IsPartial p → with_digest p ≡ Ok q → IsPartial q
 unfolding with_digest
 digest_kept p q w h =
-    let next = record p { digest = true } in
+    let next = record p { digest = true; depth = 0 } in
     let a = passed (is_some p.size && not p.digest) faults.Order (Ok next) q h in
     subst IsPartial (ok_same next q (Ok next) a.1 refl) (record {
       some = w.some;
       none = w.none;
       fields = w.fields;
       few = w.few;
+      levels = omega arith;
+      shown = λ e. absurd cc;
+      shows = w.shows;
+    })
+
+root_kept : (p q : Partial) (n : ℕ) → IsPartial p → with_root p n ≡ Ok q → IsPartial q
+unfolding with_root
+root_kept p q n w h =
+    let next = record p { digest = true; depth = n } in
+    let last = if nat_le 1 n && nat_le n most_levels then Ok next else Err faults.Limit in
+    let a = refused (not (is_some p.size) || p.digest) faults.Order last q h in
+    let b = passed (nat_le 1 n && nat_le n most_levels) faults.Limit (Ok next) q a.1 in
+    let t = parts (nat_le 1 n) (nat_le n most_levels) b.0 in
+    subst IsPartial (ok_same next q (Ok next) b.1 refl) (record {
+      some = w.some;
+      none = w.none;
+      fields = w.fields;
+      few = w.few;
+      levels = leb-true n most_levels t.1;
       shown = λ e. absurd cc;
       shows = w.shows;
     })
@@ -141,6 +162,7 @@ claim_kept p q k (Some f) claim w behind at h =
       none = w.none;
       fields = w.fields;
       few = omega (arith, ltb-true (length p.shows) most_shows b.0, length-append p.shows (s ∷ []));
+      levels = w.levels;
       shown = λ e. absurd (let no : true ≡ false = sym behind ∙ e in cc);
       shows = all_behind (IsShowOf p.fields) p.shows s w.shows is;
     })
@@ -160,6 +182,7 @@ said_kept : (p q : Partial) (line : Line) → IsPartial p → with_said p line �
 said_kept p q (lines.Record n) w h = size_kept p q n w h
 said_kept p q (lines.Field f) w h = field_kept p q f w h
 said_kept p q lines.Digest w h = digest_kept p q w h
+said_kept p q (lines.Under n) w h = root_kept p q n w h
 said_kept p q (lines.Show name claim) w h = show_kept p q name claim w h
 
 line_kept : (p q : Partial) (o : Option Line) → IsPartial p → with_line p o ≡ Ok q → IsPartial q
@@ -181,7 +204,7 @@ bytes_kept n p q bytes w h = bytes_cases (is_skipped bytes) n p q (with_line p (
 
 -- ---- the whole
 
-pub is_policy : (p : Partial) (n : ℕ) → IsPartial p → p.size ≡ Some n → 1 ≤ length p.shows → IsPolicy (record { size = n; fields = p.fields; shows = p.shows })
+pub is_policy : (p : Partial) (n : ℕ) → IsPartial p → p.size ≡ Some n → 1 ≤ length p.shows → IsPolicy (record { size = n; depth = p.depth; fields = p.fields; shows = p.shows })
 is_policy p n w size some =
     let s = w.some n size in
-    record { some = s.0; block = s.1; fields = s.2; shown = some; few = w.few; shows = w.shows }
+    record { some = s.0; block = s.1; levels = w.levels; fields = s.2; shown = some; few = w.few; shows = w.shows }

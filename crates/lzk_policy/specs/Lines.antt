@@ -163,15 +163,26 @@ abbrev pub digest_line : List (List ℕ) → Option Line
 digest_line [] = Some lines.Digest
 digest_line words = None
 
+-- behind show under root: DEPTH
+unfoldable pub depth_line : List (List ℕ) → Option Line
+depth_line words = and_then (only_number words) (λ n. Some (lines.Under n))
+
 -- show NAME ..
 unfoldable pub claim_line : List ℕ → List (List ℕ) → Option Line
 claim_line name words = and_then (name_of name) (λ n. and_then (claim_of words) (λ c. Some (lines.Show n c)))
+
+-- behind show under: root DEPTH, or what is shown of a field of this name
+unfoldable pub under_line : List ℕ → List (List ℕ) → Option Line
+under_line name [] = None
+under_line name (root ∷ words) =
+    if is_word (codes "root") root then depth_line words else claim_line name (root ∷ words)
 
 unfoldable pub show_line : List (List ℕ) → Option Line
 show_line [] = None
 show_line (first ∷ words) =
     if is_word (codes "digest") first then digest_line words else
-    (if is_word (codes "pseudonym") first then pseudonym_line words else claim_line first words)
+    (if is_word (codes "pseudonym") first then pseudonym_line words else
+    (if is_word (codes "under") first then under_line first words else claim_line first words))
 
 -- ---- a line
 

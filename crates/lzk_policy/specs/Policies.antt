@@ -1,5 +1,5 @@
 -- Policies, and the texts that are some.
-use Rattle.std.specs.Prelude.{◌≡◌, ℕ, ◌+◌, ◌^◌, ◌≤◌, ◌<◌, nat_lt, nat_le, ◌==◌, ◌&&◌, Bool, true, false, not, IsTrue, List, [], ◌∷◌, ◌++◌, length, Option, Some, None, Result, Ok, Err, slice_get, is_some, if◌then◌else◌}
+use Rattle.std.specs.Prelude.{◌≡◌, ℕ, ◌+◌, ◌^◌, ◌≤◌, ◌<◌, nat_lt, nat_le, ◌==◌, ◌&&◌, ◌||◌, Bool, true, false, not, IsTrue, List, [], ◌∷◌, ◌++◌, length, Option, Some, None, Result, Ok, Err, slice_get, is_some, if◌then◌else◌}
 use Rattle.std.specs.Str.{bytes_eq}
 use Rattle.std.specs.List.{list_all, AllByRecursion}
 use Rattle.lzk_expr.specs.Texts.{lines}
@@ -21,9 +21,11 @@ use Rattle.lzk_policy.specs.declared.fault.LineError.TheVariants as errors
 use Rattle.lzk_policy.specs.declared.draft.Draft.{Draft}
 use Rattle.lzk_policy.specs.Lines.{line_of, is_skipped}
 
--- what a policy says: how many bytes a record has, where its fields stand, and what is shown of it beside its digest
+-- what a policy says: how many bytes a record has, how many levels the root that is shown stands above its digest
+-- (none, where the digest is shown), where its fields stand, and what else is shown of it
 pub record Contents : Type 0 where
   pub size : ℕ
+  pub depth : ℕ
   pub fields : List RecordField
   pub shows : List Show
 
@@ -33,6 +35,10 @@ most_bytes = 55
 
 abbrev pub most_fields : ℕ
 most_fields = 32
+
+-- how many levels there are at most between a digest and a root
+abbrev pub most_levels : ℕ
+most_levels = 6
 
 abbrev pub most_shows : ℕ
 most_shows = 8
@@ -97,6 +103,7 @@ IsShowOf fields s = (f : RecordField) × (slice_get fields s.field ≡ Some f) �
 pub record IsPolicy (p : Contents) : Type 0 where
   pub some : 1 ≤ p.size
   pub block : p.size ≤ most_bytes
+  pub levels : p.depth ≤ most_levels
   pub fields : AllByRecursion (IsField p.size) p.fields
   pub shown : 1 ≤ length p.shows
   pub few : length p.shows ≤ most_shows
@@ -104,16 +111,17 @@ pub record IsPolicy (p : Contents) : Type 0 where
 
 -- ---- a policy line by line
 
--- what the lines so far say: how many bytes a record has, if one said so, the fields, whether the digest is shown, and
--- what else is shown
+-- what the lines so far say: how many bytes a record has, if one said so, the fields, whether the digest is shown or a
+-- root, how many levels above it, and what else is shown
 pub record Partial : Type 0 where
   pub size : Option ℕ
   pub fields : List RecordField
   pub digest : Bool
+  pub depth : ℕ
   pub shows : List Show
 
 abbrev pub nothing : Partial
-nothing = record { size = None; fields = []; digest = false; shows = [] }
+nothing = record { size = None; fields = []; digest = false; depth = 0; shows = [] }
 
 -- what holds of what the lines so far say
 pub record IsPartial (p : Partial) : Type 0 where
@@ -121,6 +129,7 @@ pub record IsPartial (p : Partial) : Type 0 where
   pub none : p.size ≡ None → p.fields ≡ []
   pub fields : length p.fields ≤ most_fields
   pub few : length p.shows ≤ most_shows
+  pub levels : p.depth ≤ most_levels
   pub shown : p.digest ≡ false → p.shows ≡ []
   pub shows : AllByRecursion (IsShowOf p.fields) p.shows
 
@@ -157,7 +166,13 @@ with_field p f = if p.digest then Err faults.Order else with_field_behind p f p.
 -- the digest is shown first, and once
 unfoldable pub with_digest : Partial → Result Partial PolicyKind
 with_digest p =
-    if is_some p.size && not p.digest then Ok (record p { digest = true }) else Err faults.Order
+    if is_some p.size && not p.digest then Ok (record p { digest = true; depth = 0 }) else Err faults.Order
+
+-- or a root above it
+unfoldable pub with_root : Partial → ℕ → Result Partial PolicyKind
+with_root p n =
+    if not (is_some p.size) || p.digest then Err faults.Order else
+    (if nat_le 1 n && nat_le n most_levels then Ok (record p { digest = true; depth = n }) else Err faults.Limit)
 
 -- what is shown of the field with this number
 unfoldable pub with_claim : Partial → ℕ → Option RecordField → Claim → Result Partial PolicyKind
@@ -171,7 +186,7 @@ unfoldable pub with_number : Partial → Option ℕ → Claim → Result Partial
 with_number p None claim = Err faults.Unknown
 with_number p (Some k) claim = with_claim p k (slice_get p.fields k) claim
 
--- all else is shown behind the digest
+-- all else is shown behind it
 unfoldable pub with_show : Partial → List ℕ → Claim → Result Partial PolicyKind
 with_show p name claim = if p.digest then with_number p (field_number p.fields name) claim else Err faults.Order
 
@@ -179,6 +194,7 @@ abbrev pub with_said : Partial → Line → Result Partial PolicyKind
 with_said p (lines.Record n) = with_size p n
 with_said p (lines.Field f) = with_field p f
 with_said p lines.Digest = with_digest p
+with_said p (lines.Under n) = with_root p n
 with_said p (lines.Show name claim) = with_show p name claim
 
 unfoldable pub with_line : Partial → Option Line → Result Partial PolicyKind
@@ -193,11 +209,12 @@ at_line line (Err kind) = Err (record { line = line; kind = kind })
 unfoldable pub with_bytes : ℕ → Partial → List ℕ → Result Partial PolicyFault
 with_bytes line p bytes = if is_skipped bytes then Ok p else at_line line (with_line p (line_of bytes))
 
--- the whole: the digest and something else is shown
+-- the whole: the digest or a root, and something else, is shown
 unfoldable pub whole_of : ℕ → Partial → Option ℕ → Result Contents PolicyFault
 whole_of line p None = Err (record { line = line; kind = faults.Missing })
 whole_of line p (Some size) =
-    if p.digest && nat_le 1 (length p.shows) then Ok (record { size = size; fields = p.fields; shows = p.shows })
+    if p.digest && nat_le 1 (length p.shows)
+    then Ok (record { size = size; depth = p.depth; fields = p.fields; shows = p.shows })
     else Err (record { line = line; kind = faults.Missing })
 
 abbrev pub whole : ℕ → Partial → Result Contents PolicyFault
@@ -218,7 +235,13 @@ policy_of text = policy_from 1 nothing (lines text)
 -- ---- in memory
 
 abbrev pub partial_of : Draft → Partial
-partial_of d = record { size = d.size; fields = d.fields.items; digest = d.is_digest_shown; shows = d.shows.items }
+partial_of d = record {
+  size = d.size;
+  fields = d.fields.items;
+  digest = d.is_digest_shown;
+  depth = d.depth;
+  shows = d.shows.items;
+}
 
 -- the kind of a refusal, or memory ran out
 abbrev pub Refuses : {A : Type 0} → LineError → Result A PolicyKind → Type 0

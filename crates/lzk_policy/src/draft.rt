@@ -19,8 +19,10 @@ pub struct Draft {
     pub size: Option<u32>,
     /// The fields.
     pub fields: Vec<RecordField>,
-    /// Whether the digest is shown.
+    /// Whether the digest is shown, or a root above it.
     pub is_digest_shown: bool,
+    /// How many levels the root stands above the digest: none, where the digest is shown.
+    pub depth: u32,
     /// What else is shown.
     pub shows: Vec<Show>,
 }
@@ -30,6 +32,9 @@ const MOST_BYTES: u32 = 55;
 
 /// The most fields.
 const MOST_FIELDS: usize = 32;
+
+/// The most levels between the digest and a root.
+const MOST_LEVELS: u32 = 6;
 
 /// The most that is shown beside the digest.
 const MOST_SHOWS: usize = 8;
@@ -135,6 +140,7 @@ impl Draft {
             size: None,
             fields: Vec::new(alloc),
             is_digest_shown: false,
+            depth: 0,
             shows: Vec::new(alloc),
         }
     }
@@ -203,9 +209,27 @@ impl Draft {
     {
         if self.size.is_some() && !self.is_digest_shown {
             self.is_digest_shown = true;
+            self.depth = 0;
             return Ok(());
         }
         Err(LineError::Kind(PolicyKind::Order))
+    }
+
+    #[tactic(auto, unfolding(crate::specs::Policies::with_root))]
+    fn show_root(&mut self, depth: u32) -> Result<(), LineError>
+        ensures { MatchResult result
+            (λ _. policies.with_root (partial_of self.old) depth ≡ Ok (partial_of self.new))
+            (λ e. Refuses e (policies.with_root (partial_of self.old) depth)) }
+    {
+        if self.size.is_none() || self.is_digest_shown {
+            return Err(LineError::Kind(PolicyKind::Order));
+        }
+        if 1 <= depth && depth <= MOST_LEVELS {
+            self.is_digest_shown = true;
+            self.depth = depth;
+            return Ok(());
+        }
+        Err(LineError::Kind(PolicyKind::Limit))
     }
 
     #[tactic(auto, unfolding(crate::specs::Policies::with_number, crate::specs::Policies::with_claim))]
@@ -252,6 +276,7 @@ impl Draft {
             Line::Record(size) => self.set_size(size),
             Line::Field(field) => self.add_field(field),
             Line::Digest => self.show_digest(),
+            Line::Under(depth) => self.show_root(depth),
             Line::Show(name, claim) => self.add_show(name, claim),
         }
     }
@@ -298,7 +323,7 @@ impl Draft {
             }));
         };
         if self.is_digest_shown && 1 <= self.shows.len() {
-            return Ok(Policy::new(size, self.fields, self.shows));
+            return Ok(Policy::new(size, self.depth, self.fields, self.shows));
         }
         Err(PolicyError::Fault(PolicyFault {
             line: number,

@@ -10,7 +10,7 @@ use thiserror::Error;
 pub enum PolicyKind {
     /// The line is of no form that a line may have.
     Syntax,
-    /// The line stands in a wrong place: the record comes first, then fields, then the digest, then all else.
+    /// The line stands in a wrong place: the record comes first, then fields, then the digest or a root, then all else.
     Order,
     /// A field of this name stands before.
     Repeated,
@@ -22,9 +22,9 @@ pub enum PolicyKind {
     Unknown,
     /// What is shown does not suit the field.
     Claim,
-    /// There are too many fields, or too much is shown.
+    /// There are too many fields, or too much is shown, or a root has not one to six levels below it.
     Limit,
-    /// The text ends before a record, its digest and one thing more are there.
+    /// The text ends before a record, its digest or a root and one thing more are there.
     Missing,
 }
 

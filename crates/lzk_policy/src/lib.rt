@@ -24,4 +24,4 @@ pub use fault::{PolicyError, PolicyFault, PolicyKind};
 pub use number::number_at;
 pub use parsing::parse_policy;
 pub use policy::{Claim, FieldKind, Policy, RecordField, Show, TextList};
-pub use words::{content, is_skipped, next_line, next_word, only_word};
+pub use words::{is_skipped, only_word};

@@ -12,6 +12,8 @@ pub enum Line {
     Field(RecordField),
     /// Its digest is shown.
     Digest,
+    /// The root is shown that stands so many levels above its digest.
+    Under(u32),
     /// This is shown of the field with this name.
     Show(Name, Claim),
 }

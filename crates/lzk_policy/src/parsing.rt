@@ -7,7 +7,7 @@ ghost use Rattle.lzk_policy.specs.Policies as policies;
 use crate::draft::Draft;
 use crate::fault::{PolicyError, PolicyFault, PolicyKind};
 use crate::policy::Policy;
-use crate::words::next_line;
+use lzk_expr::words::next_line;
 use std::alloc::Global;
 
 /// The policy that a text is, or the first line that breaks a rule. docs/POLICY.md has the form.

@@ -90,10 +90,11 @@ pub struct Show {
     pub claim: Claim,
 }
 
-/// What a record is, and what is shown of it beside its digest.
+/// What a record is, and what is shown of it beside its digest or a root above it.
 #[derive(Drop)]
 pub struct Policy {
     size: u32,
+    depth: u32,
     fields: Vec<RecordField>,
     shows: Vec<Show>,
 }
@@ -103,22 +104,33 @@ impl Model for Policy {
 
     ghost Value = { Contents };
 
-    ghost view = { λ p. record { size = p.size; fields = p.fields.items; shows = p.shows.items } };
+    ghost view = { λ p.
+        record { size = p.size; depth = p.depth; fields = p.fields.items; shows = p.shows.items } };
 
-    ghost invariant = { λ p. IsPolicy (record { size = p.size; fields = p.fields.items; shows = p.shows.items }) };
+    ghost invariant = { λ p. IsPolicy
+        (record { size = p.size; depth = p.depth; fields = p.fields.items; shows = p.shows.items }) };
 }
 
 impl Policy {
     /// The policy of these parts.
-    pub fn new(size: u32, fields: Vec<RecordField>, shows: Vec<Show>) -> Policy
-        requires { IsPolicy (record { size = size; fields = fields.items; shows = shows.items }) }
-        ensures { result ≡ record { size = size; fields = fields.items; shows = shows.items } }
+    pub fn new(size: u32, depth: u32, fields: Vec<RecordField>, shows: Vec<Show>) -> Policy
+        requires { IsPolicy
+            (record { size = size; depth = depth; fields = fields.items; shows = shows.items }) }
+        ensures { result ≡ record { size = size; depth = depth; fields = fields.items; shows = shows.items } }
     {
         Policy {
             size,
+            depth,
             fields,
             shows,
         }
+    }
+
+    /// How many levels the root that is shown stands above the record's digest: none, where the digest is shown.
+    pub fn depth(&self) -> u32
+        ensures { result ≡ self.now.depth }
+    {
+        self.depth
     }
 
     /// How many bytes a record has.
@@ -136,7 +148,7 @@ impl Policy {
         &self.fields
     }
 
-    /// What is shown beside the digest.
+    /// What is shown beside the digest or the root.
     pub fn shows(&self) -> &[Show]
         ensures { result.now ≡ self.now.shows }
     {

@@ -8,8 +8,9 @@ ghost use Rattle.lzk_policy.specs.Lines as said;
 use crate::line::Line;
 use crate::number::number_at;
 use crate::policy::{Claim, FieldKind, RecordField, TextList};
-use crate::words::{content, next_word, only_word};
+use crate::words::only_word;
 use lzk_expr::Name;
+use lzk_expr::words::{content, next_word};
 use std::alloc::{AllocError, Global};
 
 /// The most bytes of a text.
@@ -293,6 +294,14 @@ fn digest_line(words: &[u8]) -> Option<Line>
     Some(Line::Digest)
 }
 
+#[tactic(auto, unfolding(crate::specs::Lines::depth_line))]
+fn depth_line(words: &[u8]) -> Option<Line>
+    ensures { result ≡ said.depth_line (runs is_plain words.now) }
+{
+    let depth = only_number(words)?;
+    Some(Line::Under(depth))
+}
+
 #[tactic(auto, unfolding(crate::specs::Lines::claim_line))]
 fn claim_line(alloc: Global, word: &[u8], words: &[u8]) -> Result<Option<Line>, AllocError>
     ensures { IfOk result (λ o. o ≡ said.claim_line word.now (runs is_plain words.now)) }
@@ -304,6 +313,19 @@ fn claim_line(alloc: Global, word: &[u8], words: &[u8]) -> Result<Option<Line>, 
         return Ok(None);
     };
     Ok(Some(Line::Show(name, claim)))
+}
+
+#[tactic(auto, unfolding(crate::specs::Lines::under_line))]
+fn under_line(alloc: Global, word: &[u8], words: &[u8]) -> Result<Option<Line>, AllocError>
+    ensures { IfOk result (λ o. o ≡ said.under_line word.now (runs is_plain words.now)) }
+{
+    let Some((root, rest)) = next_word(words) else {
+        return Ok(None);
+    };
+    if is_word("root", root) {
+        return Ok(depth_line(rest));
+    }
+    claim_line(alloc, word, words)
 }
 
 #[tactic(auto, unfolding(crate::specs::Lines::show_line))]
@@ -318,6 +340,9 @@ fn show_line(alloc: Global, words: &[u8]) -> Result<Option<Line>, AllocError>
     }
     if is_word("pseudonym", first) {
         return Ok(pseudonym_line(rest));
+    }
+    if is_word("under", first) {
+        return under_line(alloc, first, rest);
     }
     claim_line(alloc, first, rest)
 }

@@ -5,7 +5,10 @@ use crate::paths::{holds, public_inputs, push_words};
 use lzk_circuit::Circuit;
 use lzk_field::Field;
 use lzk_goldilocks::Gold;
-use lzk_policies::{Place, RootedInputs, RootedInputsError, rooted_circuit, rooted_inputs};
+use lzk_policies::{
+    Place, RootedInputs, RootedInputsError, credential_circuit, credential_inputs, rooted_circuit,
+    rooted_inputs,
+};
 use lzk_policy::parse_policy;
 use lzk_policy_inputs::{InputsError, Value};
 use lzk_sha_path::PathError;
@@ -13,6 +16,11 @@ use std::alloc::{AllocError, Global};
 use std::test::Fail;
 
 const POLICY: &[u8] = b"record 4\nfield day date at 0\nshow digest\nshow day as DAY\n";
+
+const UNDER: &[u8] = b"record 4\nfield day date at 0\nshow under root 2\nshow day as DAY\n";
+
+// The words that each of these texts has shown, and how many nodes stand beside the path.
+const TEXTS: [(&[u8], [u32; 8], usize); 2] = [(POLICY, DIGEST, 0), (UNDER, ROOT, 2)];
 
 const DAY: u32 = 20_100_304;
 
@@ -87,6 +95,40 @@ fn a_record_stands_under_its_root(rt: HostRuntime) -> Result<(), Fail> {
     assert!(rt; holds(alloc, &circuit, &public, private)?);
     assert!(rt; !holds(alloc, &circuit, &later, private)?);
     assert!(rt; !holds(alloc, &circuit, &other, private)?);
+    Ok(())
+}
+
+// A text says by itself whether the digest is shown or a root.
+#[test]
+fn a_text_has_its_circuit_and_inputs(rt: HostRuntime) -> Result<(), Fail> {
+    let alloc = rt.alloc();
+    for (text, words, depth) in TEXTS {
+        let Ok(policy) = parse_policy(alloc, text) else {
+            assert!(rt; false);
+            return Ok(());
+        };
+        let place = Place {
+            index: 2,
+            siblings: &SIBLINGS[0..depth],
+        };
+        let Ok(circuit) = credential_circuit(alloc, &policy) else {
+            assert!(rt; false);
+            return Ok(());
+        };
+        let Ok(inputs) = credential_inputs(
+            alloc,
+            &policy,
+            &DAY.to_be_bytes(),
+            &[Value::Own],
+            &place,
+        ) else {
+            assert!(rt; false);
+            return Ok(());
+        };
+        let public = shown(alloc, words, DAY)?;
+        assert!(rt; inputs.public() == public.as_slice());
+        assert!(rt; holds(alloc, &circuit, &public, inputs.private())?);
+    }
     Ok(())
 }
 

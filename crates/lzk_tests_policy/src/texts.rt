@@ -5,7 +5,7 @@ use std::alloc::Global;
 use std::test::Fail;
 
 // Texts with the first line that breaks a rule, and the rule.
-const REFUSED: [(&[u8], u32, PolicyKind); 26] = [
+const REFUSED: [(&[u8], u32, PolicyKind); 33] = [
     (b"", 2, PolicyKind::Missing),
     (b"record 47\n", 3, PolicyKind::Missing),
     (
@@ -72,11 +72,26 @@ const REFUSED: [(&[u8], u32, PolicyKind); 26] = [
         4,
         PolicyKind::Order,
     ),
+    (b"show under root 2\n", 1, PolicyKind::Order),
+    (
+        b"record 47\nshow digest\nshow under root 2\n",
+        3,
+        PolicyKind::Order,
+    ),
+    (b"record 47\nshow under root 0\n", 2, PolicyKind::Limit),
+    (b"record 47\nshow under root 7\n", 2, PolicyKind::Limit),
+    (b"record 47\nshow under root\n", 2, PolicyKind::Syntax),
+    (b"record 47\nshow under root two\n", 2, PolicyKind::Syntax),
+    (b"record 47\nshow under root 6", 3, PolicyKind::Missing),
 ];
 
 const WHOLE: &[u8] = b"record 47 # bytes\n\nfield birth date at 4\nfield country text 2 at 12\n\
     field secret bytes 16 at 15\nshow digest\nshow birth at most LATEST\nshow country one of NL BE\n\
     show pseudonym of secret for SERVICE";
+
+// A policy under a root, which shows a field that is called as the line of the root begins.
+const UNDER: &[u8] =
+    b"record 4\nfield under date at 0\nshow under root 6\nshow under at most LATEST\n";
 
 /// The policy of a text that is not too long for one.
 pub fn read(alloc: Global, text: &[u8]) -> Result<Policy, PolicyError> {
@@ -105,9 +120,21 @@ fn a_policy_is_read(rt: HostRuntime) -> Result<(), Fail> {
         return Ok(());
     };
     assert_eq!(rt; policy.size(), 47);
+    assert_eq!(rt; policy.depth(), 0);
     assert_eq!(rt; policy.fields().len(), 3);
     assert_eq!(rt; policy.shows().len(), 3);
     // "NL" is 78 * 256 + 76
     assert_eq!(rt; number_at(b"  NL", 2, 2), 20044);
+    Ok(())
+}
+
+#[test]
+fn a_root_is_read(rt: HostRuntime) -> Result<(), Fail> {
+    let Ok(policy) = read(rt.alloc(), UNDER) else {
+        assert!(rt; false);
+        return Ok(());
+    };
+    assert_eq!(rt; policy.depth(), 6);
+    assert_eq!(rt; policy.shows().len(), 1);
     Ok(())
 }
