@@ -11,12 +11,12 @@ use Rattle.lzk_credential_run.specs.Circuits.{CircuitRun, PutsCircuit}
 use Rattle.lzk_credential_run.specs.Digests.{DigestOf, DigestRun}
 use Rattle.lzk_credential_run.specs.Ends.{Says, NothingPut}
 use Rattle.lzk_credential_run.specs.Files.{policy_files, record_files}
-use Rattle.lzk_credential_run.specs.Given.{InputsRun, PutsOne}
+use Rattle.lzk_credential_run.specs.Given.{InputsRun, RootedRun, PutsOne}
 use Rattle.lzk_credential_run.specs.Lines.{digest_line, limit_line, put_line}
 use Rattle.lzk_credential_run.specs.Runs.{Works}
 use Rattle.lzk_credential_run.specs.Shown.{ShowRun, shown_lines}
-use Rattle.lzk_credential_run.specs.Words.{Command, Circuit, Digest, Inputs, Show}
-use Rattle.lzk_credential_run.proofs.InputEnds.{inputs_small}
+use Rattle.lzk_credential_run.specs.Words.{Command, Circuit, Digest, Inputs, Rooted, Show}
+use Rattle.lzk_credential_run.proofs.InputEnds.{inputs_small, rooted_small}
 use Rattle.lzk_credential_run.proofs.Steps.{IsSmall, says_small, puts_small, reads_small, concluded}
 
 puts_circuit_small : (policy circuit : List ℕ) (p : Contents) → IsSmall (PutsCircuit policy circuit p)
@@ -42,4 +42,6 @@ status_small (Some (Circuit policy circuit)) old new before after done status = 
 status_small (Some (Digest policy name)) old new before after done status = concluded (DigestRun policy name) NothingPut old new before after done status (digest_small policy name)
 status_small (Some (Inputs policy name values public private)) old new before after done status =
     concluded (InputsRun policy name values public private) (PutsOne public) old new before after done status (inputs_small policy name values public private)
+status_small (Some (Rooted policy name values path public private)) old new before after done status =
+    concluded (RootedRun policy name values path public private) (PutsOne public) old new before after done status (rooted_small policy name values path public private)
 status_small (Some (Show policy)) old new before after done status = concluded (ShowRun policy) NothingPut old new before after done status (show_small policy)

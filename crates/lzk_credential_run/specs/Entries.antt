@@ -40,14 +40,16 @@ abbrev pub if_read : {A B : Type 0} → Result A ValuesFault → (A → Result B
 if_read (Ok x) f = f x
 if_read (Err e) f = Err e
 
-unfoldable pub entries_from : ℕ → List Entry → List (List ℕ) → Result (List Entry) ValuesFault
-entries_from line have [] = Ok have
-entries_from line have (bytes ∷ others) =
-    if_read (with_line line have bytes) (λ more. entries_from (line + 1) more others)
+-- what the lines of a text from this number on say, line after line, behind what those before them said
+unfoldable pub lines_from :
+    {A : Type 0} → (ℕ → A → List ℕ → Result A ValuesFault) → ℕ → A → List (List ℕ) → Result A ValuesFault
+lines_from takes line have [] = Ok have
+lines_from takes line have (bytes ∷ others) =
+    if_read (takes line have bytes) (λ more. lines_from takes (line + 1) more others)
 
 -- the lines of a text, or its first fault
 unfoldable pub entries_of : List ℕ → Result (List Entry) ValuesFault
-entries_of text = entries_from 1 [] (lines text)
+entries_of text = lines_from with_line 1 [] (lines text)
 
 -- that fault, or memory ran out
 abbrev pub Fails : {A : Type 0} → ValuesError → Result A ValuesFault → Type 0

@@ -1,10 +1,12 @@
--- The formats of policies and records.
-use Rattle.std.specs.Prelude.{◌≡◌, ◌<◌, ℕ, List, length, Ok, Err}
+-- The formats of policies, records and paths.
+use Rattle.std.specs.Prelude.{◌≡◌, ◌≢◌, ◌<◌, ◌==◌, ℕ, Bool, true, false, not, List, length, Option, Some, None, Ok, Err}
 use Rattle.lzk_cmd_files.specs.Ends.{says}
 use Rattle.lzk_cmd_files.specs.Formats.{Format}
 use Rattle.lzk_policy.specs.declared.fault.PolicyFault.{PolicyFault}
 use Rattle.lzk_policy.specs.Policies.{Contents, policy_of}
-use Rattle.lzk_credential_run.specs.Lines.{policy_line, short_line}
+use Rattle.lzk_credential_run.specs.declared.entries.ValuesFault.{ValuesFault}
+use Rattle.lzk_credential_run.specs.Lines.{policy_line, kind_unfit_line, path_line, short_line}
+use Rattle.lzk_credential_run.specs.Paths.{Placed, path_of}
 
 abbrev pub policy_limit : ℕ
 policy_limit = 65536
@@ -16,6 +18,37 @@ policy_files = record {
   means = λ text policy. policy_of text ≡ Ok policy;
   breaks = λ text fault. policy_of text ≡ Err fault;
   refused = λ name fault. says 3 (policy_line name fault);
+}
+
+-- the policy shows a root
+abbrev pub is_rooted : Contents → Bool
+is_rooted p = not (p.depth == 0)
+
+-- the first broken line of a policy, or none where it shows a root and should not, or does not and should
+abbrev pub IsUnfit : Bool → List ℕ → Option PolicyFault → Type 0
+IsUnfit rooted text None = (p : Contents) × (policy_of text ≡ Ok p) × (is_rooted p ≢ rooted)
+IsUnfit rooted text (Some fault) = policy_of text ≡ Err fault
+
+abbrev pub unfit_line : Bool → List ℕ → Option PolicyFault → List ℕ
+unfit_line rooted name None = kind_unfit_line rooted name
+unfit_line rooted name (Some fault) = policy_line name fault
+
+-- policies that show a root, or those that show a digest
+abbrev pub kind_files : Bool → Format Contents (Option PolicyFault)
+kind_files rooted = record {
+  limit = policy_limit;
+  means = λ text policy. (policy_of text ≡ Ok policy) × (is_rooted policy ≡ rooted);
+  breaks = IsUnfit rooted;
+  refused = λ name unfit. says 3 (unfit_line rooted name unfit);
+}
+
+-- the path of a leaf to a root
+abbrev pub path_files : Format Placed ValuesFault
+path_files = record {
+  limit = 65536;
+  means = λ text x. path_of text ≡ Ok x;
+  breaks = λ text fault. path_of text ≡ Err fault;
+  refused = λ name fault. says 3 (path_line name fault);
 }
 
 -- records of so many bytes, with how many there are where they are too few

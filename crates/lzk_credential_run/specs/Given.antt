@@ -1,5 +1,5 @@
 -- What `inputs` does.
-use Rattle.std.specs.Prelude.{◌≡◌, ◌⊎◌, ℕ, List, [], ◌∷◌, ◌++◌, length, map, codes, slice_get, Option, Some, None, Result, Ok, Err}
+use Rattle.std.specs.Prelude.{◌≡◌, ◌⊎◌, ℕ, Bool, true, false, List, [], ◌∷◌, ◌++◌, length, map, take, drop, codes, slice_get, Option, Some, None, Result, Ok, Err}
 use Rattle.std.specs.Fmt.{decimal}
 use Rattle.lzk_goldilocks.specs.Elements.{number}
 use Rattle.lzk_outside.specs.Outside.{Files, Holds, Torn}
@@ -13,33 +13,27 @@ use Rattle.lzk_cmd_files.specs.Seen.{Seen, PutFailed}
 use Rattle.lzk_cmd_files.specs.Walks.{IsEnding}
 use Rattle.lzk_policy.specs.declared.policy.Show.{Show}
 use Rattle.lzk_policy.specs.Policies.{Contents}
-use Rattle.lzk_policy_circuit.specs.Layout.{private_count}
-use Rattle.lzk_policy_circuit.specs.Meaning.{IsShown}
-use Rattle.lzk_policy_circuit.specs.Met.{Satisfy}
 use Rattle.lzk_policy_inputs.specs.declared.value.Value.{Value}
 use Rattle.lzk_policy_inputs.specs.declared.error.InputsError.{InputsError}
 use Rattle.lzk_policy_inputs.specs.declared.error.InputsError.TheVariants as causes
 use Rattle.lzk_policy_inputs.specs.Both.{Inputs}
-use Rattle.lzk_policy_inputs.specs.Chosen.{public_of}
 use Rattle.lzk_policy_inputs.specs.Filled.{private_of}
-use Rattle.lzk_policy_inputs.specs.Refused.{IsRefused}
-use Rattle.lzk_credential_run.specs.declared.entries.ValuesKind.{ValuesKind}
-use Rattle.lzk_credential_run.specs.declared.entries.ValuesKind.TheVariants as kinds
+use Rattle.lzk_policies.specs.declared.refusal.RootedInputsError.{RootedInputsError}
+use Rattle.lzk_policies.specs.declared.refusal.RootedInputsError.TheVariants as refusals
+use Rattle.lzk_policies.specs.Depths.{IsShownBy, SatisfyAt, private_count}
+use Rattle.lzk_policies.specs.Placed.{IsRootedRefusal, root_words, shown_numbers}
+use Rattle.lzk_sha_path.specs.declared.error.PathError.{PathError}
+use Rattle.lzk_sha_path.specs.declared.error.PathError.TheVariants as paths
 use Rattle.lzk_credential_run.specs.declared.entries.ValuesFault.{ValuesFault}
 use Rattle.lzk_credential_run.specs.declared.entries.ValuesFault.TheVariants as faults
 use Rattle.lzk_credential_run.specs.Chosen.{values_of}
 use Rattle.lzk_credential_run.specs.Ends.{Way, Reads}
-use Rattle.lzk_credential_run.specs.Files.{policy_files, record_files}
-use Rattle.lzk_credential_run.specs.Lines.{kind_line, put_line}
+use Rattle.lzk_credential_run.specs.Files.{kind_files, path_files, record_files}
+use Rattle.lzk_credential_run.specs.Lines.{kind_line, values_kind_name, leaf_line, nodes_line, put_line}
+use Rattle.lzk_credential_run.specs.Paths.{Placed, alone}
 use Rattle.lzk_credential_run.specs.Shown.{shown_of}
 
 -- ---- lines
-
-abbrev pub values_kind_name : ValuesKind → List ℕ
-values_kind_name kinds.Syntax = codes "Syntax"
-values_kind_name kinds.Unknown = codes "Unknown"
-values_kind_name kinds.Repeated = codes "Repeated"
-values_kind_name kinds.Value = codes "Value"
 
 abbrev pub line_of : Contents → Option Show → List ℕ
 line_of p None = []
@@ -86,42 +80,65 @@ number_lines (n ∷ ns) = (decimal n ++ 10 ∷ []) ++ number_lines ns
 
 -- ---- inputs
 
--- the inputs of a policy's circuit for a record and values: all that is shown is true, and they satisfy the circuit
-pub record IsInputs (p : Contents) (m : List ℕ) (vs : List Value) (i : Inputs) : Type 0 where
-  pub public : i.public ≡ public_of p m vs
-  pub private : i.private ≡ private_of p m vs
-  pub shown : IsShown p m i.public
-  pub count : length i.private ≡ private_count p
-  pub satisfied : Satisfy p i.public i.private
+-- The inputs of a policy's circuit for a record, values and a leaf: all that is shown is true, and they satisfy the
+-- circuit. Where a digest is shown, the private ones are laid out in one way.
+pub record IsInputs (p : Contents) (m : List ℕ) (vs : List Value) (x : Placed) (i : Inputs) : Type 0 where
+  pub public : i.public ≡ root_words m x.leaf x.nodes ++ shown_numbers p m vs
+  pub private : p.depth ≡ 0 → i.private ≡ private_of p m vs
+  pub shown : IsShownBy p m (take 8 i.public) (drop 8 i.public)
+  pub count : length i.private ≡ private_count p.depth p
+  pub satisfied : SatisfyAt p.depth p (take 8 i.public) (drop 8 i.public) i.private
 
--- how a run ends that has no inputs for this cause
-abbrev pub IsNoInputs : Contents → InputsError → Ending → Type 0
-IsNoInputs p causes.Record e = IsEnding (says 3 unfit_line) e
-IsNoInputs p causes.Count e = IsEnding (says 3 unfit_line) e
-IsNoInputs p (causes.Kind place) e = IsEnding (says 3 unfit_line) e
-IsNoInputs p (causes.False place) e = IsEnding (says 3 (false_line p place)) e
-IsNoInputs p causes.OutOfMemory e = ⊥
+-- how a run ends whose record and values have no inputs for this cause
+abbrev pub IsUnmade : Contents → InputsError → Ending → Type 0
+IsUnmade p causes.Record e = IsEnding (says 3 unfit_line) e
+IsUnmade p causes.Count e = IsEnding (says 3 unfit_line) e
+IsUnmade p (causes.Kind place) e = IsEnding (says 3 unfit_line) e
+IsUnmade p (causes.False place) e = IsEnding (says 3 (false_line p place)) e
+IsUnmade p causes.OutOfMemory e = ⊥
 
--- the end, or for want of memory none
-abbrev pub IsUnfit : Halt → Type 0
-IsUnfit halts.Memory = Unit {0}
-IsUnfit (halts.End e) = IsEnding (says 3 unfit_line) e
+-- how a run ends whose path of so many nodes has none for this cause
+abbrev pub IsUnclimbed : List ℕ → ℕ → ℕ → PathError → Ending → Type 0
+IsUnclimbed path nodes depth paths.OutOfMemory e = ⊥
+IsUnclimbed path nodes depth cause e = IsEnding (says 3 (nodes_line path nodes depth)) e
 
-abbrev pub IsUntrue : Contents → ℕ → Halt → Type 0
-IsUntrue p place halts.Memory = Unit {0}
-IsUntrue p place (halts.End e) = IsEnding (says 3 (false_line p place)) e
+-- how a run ends that has no inputs for this cause, with a path of this name and of so many nodes
+abbrev pub IsNoInputs : List ℕ → Contents → ℕ → RootedInputsError → Ending → Type 0
+IsNoInputs path p nodes (refusals.Policy cause) e = IsUnmade p cause e
+IsNoInputs path p nodes (refusals.Path cause) e = IsUnclimbed path nodes p.depth cause e
+IsNoInputs path p nodes refusals.Depth e = IsEnding (says 3 (nodes_line path nodes p.depth)) e
+IsNoInputs path p nodes refusals.Index e = IsEnding (says 3 (leaf_line path)) e
+IsNoInputs path p nodes refusals.OutOfMemory e = ⊥
 
-abbrev pub IsHaltFor : Contents → InputsError → Halt → Type 0
-IsHaltFor p causes.Record h = IsUnfit h
-IsHaltFor p causes.Count h = IsUnfit h
-IsHaltFor p (causes.Kind place) h = IsUnfit h
-IsHaltFor p (causes.False place) h = IsUntrue p place h
-IsHaltFor p causes.OutOfMemory h = h ≡ halts.Memory
+-- the end with a line, or for want of memory none
+abbrev pub IsToldEnd : List ℕ → Halt → Type 0
+IsToldEnd text halts.Memory = Unit {0}
+IsToldEnd text (halts.End e) = IsEnding (says 3 text) e
 
-abbrev pub MakesInputs : Contents → List ℕ → List Value → Result Inputs Halt → Type 0
-MakesInputs p m vs (Ok i) = IsInputs p m vs i
-MakesInputs p m vs (Err halts.Memory) = Unit {0}
-MakesInputs p m vs (Err (halts.End e)) = (cause : InputsError) × IsRefused p m vs cause × IsNoInputs p cause e
+abbrev pub IsUnmadeFor : Contents → InputsError → Halt → Type 0
+IsUnmadeFor p causes.Record h = IsToldEnd unfit_line h
+IsUnmadeFor p causes.Count h = IsToldEnd unfit_line h
+IsUnmadeFor p (causes.Kind place) h = IsToldEnd unfit_line h
+IsUnmadeFor p (causes.False place) h = IsToldEnd (false_line p place) h
+IsUnmadeFor p causes.OutOfMemory h = h ≡ halts.Memory
+
+abbrev pub IsUnclimbedFor : List ℕ → ℕ → ℕ → PathError → Halt → Type 0
+IsUnclimbedFor path nodes depth paths.OutOfMemory h = h ≡ halts.Memory
+IsUnclimbedFor path nodes depth cause h = IsToldEnd (nodes_line path nodes depth) h
+
+abbrev pub IsHaltFor : List ℕ → Contents → ℕ → RootedInputsError → Halt → Type 0
+IsHaltFor path p nodes (refusals.Policy cause) h = IsUnmadeFor p cause h
+IsHaltFor path p nodes (refusals.Path cause) h = IsUnclimbedFor path nodes p.depth cause h
+IsHaltFor path p nodes refusals.Depth h = IsToldEnd (nodes_line path nodes p.depth) h
+IsHaltFor path p nodes refusals.Index h = IsToldEnd (leaf_line path) h
+IsHaltFor path p nodes refusals.OutOfMemory h = h ≡ halts.Memory
+
+abbrev pub MakesInputs : List ℕ → Contents → List ℕ → List Value → Placed → Result Inputs Halt → Type 0
+MakesInputs path p m vs x (Ok i) = IsInputs p m vs x i
+MakesInputs path p m vs x (Err halts.Memory) = Unit {0}
+MakesInputs path p m vs x (Err (halts.End e)) =
+    (cause : RootedInputsError)
+    × IsRootedRefusal p m vs x.leaf (length x.nodes) cause × IsNoInputs path p (length x.nodes) cause e
 
 -- ---- puts
 
@@ -141,18 +158,32 @@ PutsBoth public first private second old new e =
 abbrev pub PutsOne : List ℕ → Seen → Seen → Type 0
 PutsOne public old new = (new.files ≡ old.files) ⊎ ((bytes : List ℕ) × Holds old.files public bytes new.files)
 
--- the run has policy, record and values: it puts the inputs, or there are none
-abbrev pub PutsInputs : List ℕ → List ℕ → Contents → List ℕ → List Value → Way
-PutsInputs public private p m vs old new e =
-    ((cause : InputsError) × IsRefused p m vs cause × IsNoInputs p cause e × (new.files ≡ old.files))
-    ⊎ ((i : Inputs) × IsInputs p m vs i
+-- the run has policy, record, values and a leaf: it puts the inputs, or there are none
+abbrev pub PutsInputs : List ℕ → Placed → List ℕ → List ℕ → Contents → List ℕ → List Value → Way
+PutsInputs path x public private p m vs old new e =
+    ((cause : RootedInputsError)
+    × IsRootedRefusal p m vs x.leaf (length x.nodes) cause
+    × IsNoInputs path p (length x.nodes) cause e × (new.files ≡ old.files))
+    ⊎ ((i : Inputs) × IsInputs p m vs x i
     × PutsBoth public (number_lines (map number i.public)) private (number_lines (map number i.private)) old new e)
 
-abbrev pub WithRecord : List ℕ → List ℕ → List ℕ → Contents → List ℕ → Way
-WithRecord values public private p m = Reads (value_files p) values (PutsInputs public private p m)
+abbrev pub WithRecord : List ℕ → List ℕ → Placed → List ℕ → List ℕ → Contents → List ℕ → Way
+WithRecord values path x public private p m = Reads (value_files p) values (PutsInputs path x public private p m)
 
-abbrev pub WithPolicy : List ℕ → List ℕ → List ℕ → List ℕ → Contents → Way
-WithPolicy name values public private p = Reads (record_files p.size) name (WithRecord values public private p)
+abbrev pub WithPolicy : List ℕ → List ℕ → List ℕ → Placed → List ℕ → List ℕ → Contents → Way
+WithPolicy name values path x public private p =
+    Reads (record_files p.size) name (WithRecord values path x public private p)
 
+-- a digest is shown: there is no path
 abbrev pub InputsRun : List ℕ → List ℕ → List ℕ → List ℕ → List ℕ → Way
-InputsRun policy name values public private = Reads policy_files policy (WithPolicy name values public private)
+InputsRun policy name values public private =
+    Reads (kind_files false) policy (WithPolicy name values [] alone public private)
+
+abbrev pub WithPath : List ℕ → List ℕ → List ℕ → List ℕ → List ℕ → Contents → Way
+WithPath name values path public private p =
+    Reads path_files path (λ x. WithPolicy name values path x public private p)
+
+-- a root is shown: the path is read behind the policy
+abbrev pub RootedRun : List ℕ → List ℕ → List ℕ → List ℕ → List ℕ → List ℕ → Way
+RootedRun policy name values path public private =
+    Reads (kind_files true) policy (WithPath name values path public private)

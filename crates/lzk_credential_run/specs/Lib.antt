@@ -6,6 +6,7 @@ pub mod Entries
 pub mod Files
 pub mod Given
 pub mod Lines
+pub mod Paths
 pub mod Runs
 pub mod Shown
 pub mod Words

@@ -1,10 +1,14 @@
 -- The lines that a run prints beside those that `zk` prints.
-use Rattle.std.specs.Prelude.{ℕ, ◌-◌, nat_le, ◌==◌, ◌&&◌, Bool, not, List, [], ◌∷◌, ◌++◌, codes, drop, if◌then◌else◌}
+use Rattle.std.specs.Prelude.{ℕ, ◌-◌, nat_le, ◌==◌, ◌&&◌, Bool, true, false, not, List, [], ◌∷◌, ◌++◌, codes, drop, if◌then◌else◌}
 use Rattle.std.specs.Fmt.{decimal}
 use Rattle.std.specs.List.{flat_map}
 use Rattle.std.specs.Int.{w64, to_be_bytes}
 use Rattle.hex.specs.Hex.{encode_lower}
 use Rattle.lzk_cmd_files.specs.Lines.{line, text_line}
+use Rattle.lzk_credential_run.specs.declared.entries.ValuesKind.{ValuesKind}
+use Rattle.lzk_credential_run.specs.declared.entries.ValuesKind.TheVariants as rules
+use Rattle.lzk_credential_run.specs.declared.entries.ValuesFault.{ValuesFault}
+use Rattle.lzk_credential_run.specs.declared.entries.ValuesFault.TheVariants as faults
 use Rattle.lzk_policy.specs.declared.fault.PolicyKind.{PolicyKind}
 use Rattle.lzk_policy.specs.declared.fault.PolicyKind.TheVariants as kinds
 use Rattle.lzk_policy.specs.declared.fault.PolicyFault.{PolicyFault}
@@ -29,6 +33,36 @@ kind_line = text_line
 -- a text that is no policy
 abbrev pub policy_line : List ℕ → PolicyFault → List ℕ
 policy_line name fault = kind_line name fault.line (policy_kind_name fault.kind)
+
+-- a policy that shows a root and has no path, or shows a digest and has one
+abbrev pub kind_unfit_line : Bool → List ℕ → List ℕ
+kind_unfit_line true name = codes "refused: " ++ (name ++ line (codes " shows a digest, and there is a path"))
+kind_unfit_line false name = codes "refused: " ++ (name ++ line (codes " shows a root, and there is no path"))
+
+abbrev pub values_kind_name : ValuesKind → List ℕ
+values_kind_name rules.Syntax = codes "Syntax"
+values_kind_name rules.Unknown = codes "Unknown"
+values_kind_name rules.Repeated = codes "Repeated"
+values_kind_name rules.Value = codes "Value"
+
+-- a path that names no leaf
+abbrev pub leafless_line : List ℕ → List ℕ
+leafless_line name = codes "refused: " ++ (name ++ line (codes " has no leaf"))
+
+-- a text that is no path
+abbrev pub path_line : List ℕ → ValuesFault → List ℕ
+path_line name (faults.Line line kind) = kind_line name line (values_kind_name kind)
+path_line name (faults.Missing place) = leafless_line name
+
+-- a path that has not as many nodes as the policy says
+abbrev pub nodes_line : List ℕ → ℕ → ℕ → List ℕ
+nodes_line name nodes depth =
+    codes "refused: "
+    ++ (name ++ (codes " has " ++ (decimal nodes ++ (codes " nodes and not " ++ line (decimal depth)))))
+
+-- a path whose leaf is none of its row
+abbrev pub leaf_line : List ℕ → List ℕ
+leaf_line name = codes "refused: " ++ (name ++ line (codes ": its leaf is none of its row"))
 
 -- a policy whose circuit would pass a limit
 abbrev pub limit_line : List ℕ → List ℕ

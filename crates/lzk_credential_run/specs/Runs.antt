@@ -9,9 +9,9 @@ use Rattle.lzk_cmd_files.specs.Walks.{Concludes}
 use Rattle.lzk_credential_run.specs.Circuits.{CircuitRun}
 use Rattle.lzk_credential_run.specs.Digests.{DigestRun}
 use Rattle.lzk_credential_run.specs.Ends.{Says, NothingPut, Settles}
-use Rattle.lzk_credential_run.specs.Given.{InputsRun, PutsOne}
+use Rattle.lzk_credential_run.specs.Given.{InputsRun, RootedRun, PutsOne}
 use Rattle.lzk_credential_run.specs.Shown.{ShowRun}
-use Rattle.lzk_credential_run.specs.Words.{Command, Circuit, Digest, Inputs, Show, command_of}
+use Rattle.lzk_credential_run.specs.Words.{Command, Circuit, Digest, Inputs, Rooted, Show, command_of}
 
 -- words in memory as lists of bytes
 abbrev pub texts : List (String Global) → List (List ℕ)
@@ -24,6 +24,8 @@ Works (Some (Circuit policy circuit)) = Settles (CircuitRun policy circuit) Noth
 Works (Some (Digest policy name)) = Settles (DigestRun policy name) NothingPut
 Works (Some (Inputs policy name values public private)) =
     Settles (InputsRun policy name values public private) (PutsOne public)
+Works (Some (Rooted policy name values path public private)) =
+    Settles (RootedRun policy name values path public private) (PutsOne public)
 Works (Some (Show policy)) = Settles (ShowRun policy) NothingPut
 
 -- The words end so, and their end is printed: its status is answered, 5 after a failed write, and 6 for want of memory.

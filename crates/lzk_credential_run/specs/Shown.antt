@@ -1,5 +1,6 @@
 -- What `show` does: what a verifier learns, line by line.
-use Rattle.std.specs.Prelude.{ℕ, List, [], ◌∷◌, ◌++◌, codes, slice_get, Option, Some, None}
+use Rattle.std.specs.Prelude.{ℕ, ◌==◌, List, [], ◌∷◌, ◌++◌, codes, slice_get, Option, Some, None, if◌then◌else◌}
+use Rattle.std.specs.Fmt.{decimal}
 use Rattle.lzk_cmd_files.specs.Ends.{says}
 use Rattle.lzk_cmd_files.specs.Lines.{line}
 use Rattle.lzk_policy.specs.declared.policy.RecordField.{RecordField}
@@ -33,14 +34,22 @@ abbrev pub shown_of : Option RecordField → Claim → List ℕ
 shown_of None claim = []
 shown_of (Some f) claim = shown_claim f.name claim
 
--- all that is shown beside the digest
+-- all that is shown beside the digest or the root
 abbrev pub shown_from : List RecordField → List Show → List ℕ
 shown_from fields [] = []
 shown_from fields (s ∷ ss) = shown_of (slice_get fields s.field) s.claim ++ shown_from fields ss
 
+-- a root so many levels above the digest
+abbrev pub root_line : ℕ → List ℕ
+root_line depth = codes "a root, levels above the SHA-256 digest of the record: " ++ line (decimal depth)
+
+-- the digest, where there is no level, or a root
+abbrev pub head_line : ℕ → List ℕ
+head_line depth = if depth == 0 then line (codes "the SHA-256 digest of the record") else root_line depth
+
 -- all that is shown
 abbrev pub shown_lines : Contents → List ℕ
-shown_lines p = line (codes "the SHA-256 digest of the record") ++ shown_from p.fields p.shows
+shown_lines p = head_line p.depth ++ shown_from p.fields p.shows
 
 abbrev pub ShowRun : List ℕ → Way
 ShowRun policy = Reads policy_files policy (λ p. Says (says 0 (shown_lines p)))

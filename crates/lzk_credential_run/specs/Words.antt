@@ -12,6 +12,8 @@ pub data Command : Type 0 where
   Digest : List ℕ → List ℕ → Command
   -- the policy, the record and the values, and the two files of inputs that are put
   Inputs : List ℕ → List ℕ → List ℕ → List ℕ → List ℕ → Command
+  -- the same with the path of the record's digest to a root behind the values
+  Rooted : List ℕ → List ℕ → List ℕ → List ℕ → List ℕ → List ℕ → Command
   -- the policy
   Show : List ℕ → Command
 
@@ -27,6 +29,8 @@ named verb (policy ∷ []) = if bytes_eq verb (codes "show") then Some (Show pol
 named verb (policy ∷ other ∷ []) = pair_of verb policy other
 named verb (policy ∷ taken ∷ values ∷ public ∷ private ∷ []) =
     if bytes_eq verb (codes "inputs") then Some (Inputs policy taken values public private) else None
+named verb (policy ∷ taken ∷ values ∷ path ∷ public ∷ private ∷ []) =
+    if bytes_eq verb (codes "inputs") then Some (Rooted policy taken values path public private) else None
 named verb names = None
 
 -- the command of a list of words, if they are one
@@ -40,4 +44,6 @@ command_view (held.Circuit policy circuit) = Circuit policy.now circuit.now
 command_view (held.Digest policy taken) = Digest policy.now taken.now
 command_view (held.Inputs policy taken values public private) =
     Inputs policy.now taken.now values.now public.now private.now
+command_view (held.Rooted policy taken values path public private) =
+    Rooted policy.now taken.now values.now path.now public.now private.now
 command_view (held.Show policy) = Show policy.now

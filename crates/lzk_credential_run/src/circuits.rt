@@ -12,20 +12,31 @@ use lzk_circbytes::encode;
 use lzk_cmd_files::{Ending, Halt, put_file};
 use lzk_level::LevelError;
 use lzk_outside::Shelf;
+use lzk_policies::{RootedError, credential_circuit};
 use lzk_policy::Policy;
-use lzk_policy_circuit::{PolicyCircuitError, policy_circuit};
+use lzk_policy_circuit::PolicyCircuitError;
+use lzk_sha_path::PathError;
 use std::alloc::Global;
 
 // The file of a policy's circuit.
 fn circuit_file(alloc: Global, name: &str, policy: &Policy) -> Result<Vec<u8>, Halt>
     ensures { MakesFile name.now policy.now result }
 {
-    match policy_circuit(alloc, policy) {
+    match credential_circuit(alloc, policy) {
         Ok(circuit) => Ok(encode(alloc, &circuit)?),
         Err(
-            PolicyCircuitError::OutOfMemory
-            | PolicyCircuitError::Statement(LevelError::OutOfMemory)
-            | PolicyCircuitError::Beside(BesideError::OutOfMemory),
+            RootedError::OutOfMemory
+            | RootedError::Policy(
+                PolicyCircuitError::OutOfMemory
+                | PolicyCircuitError::Statement(LevelError::OutOfMemory)
+                | PolicyCircuitError::Beside(BesideError::OutOfMemory),
+            )
+            | RootedError::Path(
+                PathError::OutOfMemory
+                | PathError::Statement(LevelError::OutOfMemory)
+                | PathError::Beside(BesideError::OutOfMemory),
+            )
+            | RootedError::Beside(BesideError::OutOfMemory),
         ) => Err(Halt::Memory),
         Err(_) => {
             let text = lines::refuse_limit(alloc, name)?;

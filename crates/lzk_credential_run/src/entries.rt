@@ -18,20 +18,21 @@ pub struct Entry {
     pub word: Name,
 }
 
-/// The rule that a line breaks.
+/// The rule that a line of values or of a path breaks.
 #[derive(Clone, Copy, Debug, PartialEq, Eq)]
 pub enum ValuesKind {
-    /// The line is not a name and a word.
+    /// The line is not a name and a word, or that of a path no word alone.
     Syntax,
     /// Nothing that is shown has a value of this name.
     Unknown,
     /// The name stands on a later line too.
     Repeated,
-    /// The word is no value of what is shown.
+    /// The word is no value of what is shown, or in a path no number of a leaf or no node.
     Value,
 }
 
-/// Why a text gives no values: a line breaks a rule, or something shown has none, by its place from 0 on.
+/// Why a text gives no values or no path: a line breaks a rule, or something shown has no value, by its place from 0
+/// on; a path is at fault in its place 0 where it has no leaf.
 #[derive(Clone, Copy, Debug, PartialEq, Eq)]
 pub enum ValuesFault {
     Line(u32, ValuesKind),

@@ -1,16 +1,19 @@
 //! The command `inputs`.
 
-ghost use Rattle.std.specs.Prelude.{◌≡◌, ◌++◌, ◌≤◌, [], ◌∷◌, length, map, IfOk, OnOk, string_bytes};
+ghost use Rattle.std.specs.Prelude.{◌≡◌, ℕ, List, ◌++◌, ◌≤◌, [], ◌∷◌, length, map, IfOk, OnOk, string_bytes};
 ghost use Rattle.std.specs.Fmt.{decimal};
 ghost use Rattle.lzk_goldilocks.specs.Elements.{number};
 ghost use Rattle.lzk_cmd_files.specs.Seen.{seen};
 ghost use Rattle.lzk_cmd_files.specs.Walks.{Decodes, Gives, IsEnding, OnlyReads};
 ghost use Rattle.lzk_credential_run.specs.Ends.{Settles};
 ghost use Rattle.lzk_credential_run.specs.Given as given;
+ghost use Rattle.lzk_credential_run.specs.Lines.{leaf_line, nodes_line};
+ghost use Rattle.lzk_credential_run.specs.Paths.{alone, placed_of};
 
-use crate::entries::{ValuesError, ValuesFault, ValuesKind};
+use crate::entries::{ValuesError, ValuesFault};
 use crate::lines;
-use crate::policies::read_policy;
+use crate::paths::{Path, read_path};
+use crate::policies::read_kind;
 use crate::records::read_record;
 use crate::showing::push_show;
 use crate::values::read_values;
@@ -18,23 +21,21 @@ use lzk_cmd_files::{Ending, Halt, put_file, read_file};
 use lzk_field::Field;
 use lzk_goldilocks::Gold;
 use lzk_outside::Shelf;
+use lzk_policies::{Place, RootedInputs, RootedInputsError, credential_inputs};
 use lzk_policy::Policy;
-use lzk_policy_inputs::{InputsError, PolicyInputs, Value, policy_inputs};
+use lzk_policy_inputs::{InputsError, Value};
+use lzk_sha_path::PathError;
 use std::alloc::{AllocError, Global};
+
+/// The names of the two files that are put.
+#[derive(Clone, Copy)]
+pub struct Outputs<'a> {
+    pub public: &'a str,
+    pub private: &'a str,
+}
 
 /// The largest text of values that is read, in bytes.
 const VALUES_LIMIT: usize = 65_536;
-
-fn values_kind_name(kind: ValuesKind) -> &'static str
-    ensures { result.now ≡ given.values_kind_name kind }
-{
-    match kind {
-        ValuesKind::Syntax => "Syntax",
-        ValuesKind::Unknown => "Unknown",
-        ValuesKind::Repeated => "Repeated",
-        ValuesKind::Value => "Value",
-    }
-}
 
 // Appends the line of what is shown at a place.
 fn push_line_at(
@@ -67,9 +68,7 @@ fn refuse_values(
     ensures { IfOk result (λ s. string_bytes s ≡ given.values_line name.now policy.now fault) }
 {
     match fault {
-        ValuesFault::Line(line, kind) => {
-            lines::tell_line(alloc, name, line, values_kind_name(kind))
-        }
+        ValuesFault::Line(line, kind) => lines::refuse_line(alloc, name, line, kind),
         ValuesFault::Missing(place) => {
             let mut text = tell_no_value(alloc, name)?;
             push_line_at(alloc, &mut text, policy, place)?;
@@ -125,7 +124,7 @@ fn refuse_unfit(alloc: Global) -> Result<String, AllocError>
 
 // How a run ends whose record and values do not fit the policy.
 fn unfit(alloc: Global) -> Halt
-    ensures { given.IsUnfit result }
+    ensures { given.IsToldEnd given.unfit_line result }
 {
     match refuse_unfit(alloc) {
         Ok(text) => Halt::End(Ending { status: 3, text }),
@@ -135,7 +134,7 @@ fn unfit(alloc: Global) -> Halt
 
 // How a run ends for which something shown is not true.
 fn untrue(alloc: Global, policy: &Policy, place: u32) -> Halt
-    ensures { given.IsUntrue policy.now place result }
+    ensures { given.IsToldEnd (given.false_line policy.now place) result }
 {
     match refuse_false(alloc, policy, place) {
         Ok(text) => Halt::End(Ending { status: 3, text }),
@@ -143,9 +142,29 @@ fn untrue(alloc: Global, policy: &Policy, place: u32) -> Halt
     }
 }
 
-// How a run ends that has no inputs for this cause.
-fn halt_of(alloc: Global, policy: &Policy, error: InputsError) -> Halt
-    ensures { given.IsHaltFor policy.now error result }
+// How a run ends whose path has not as many nodes as the policy says.
+fn short_path(alloc: Global, name: &str, nodes: usize, depth: u32) -> Halt
+    ensures { given.IsToldEnd (nodes_line name.now nodes depth) result }
+{
+    match lines::refuse_nodes(alloc, name, nodes, depth) {
+        Ok(text) => Halt::End(Ending { status: 3, text }),
+        Err(_) => Halt::Memory,
+    }
+}
+
+// How a run ends whose leaf is none of its row.
+fn stray_leaf(alloc: Global, name: &str) -> Halt
+    ensures { given.IsToldEnd (leaf_line name.now) result }
+{
+    match lines::refuse_leaf(alloc, name) {
+        Ok(text) => Halt::End(Ending { status: 3, text }),
+        Err(_) => Halt::Memory,
+    }
+}
+
+// How a run ends whose record and values have no inputs for this cause.
+fn unmade(alloc: Global, policy: &Policy, error: InputsError) -> Halt
+    ensures { given.IsUnmadeFor policy.now error result }
 {
     match error {
         InputsError::OutOfMemory => Halt::Memory,
@@ -156,18 +175,57 @@ fn halt_of(alloc: Global, policy: &Policy, error: InputsError) -> Halt
     }
 }
 
-// The inputs of a record and values.
+// How a run ends whose path has no inputs for this cause.
+fn unclimbed(alloc: Global, name: &str, nodes: usize, depth: u32, error: PathError) -> Halt
+    ensures { given.IsUnclimbedFor name.now nodes depth error result }
+{
+    match error {
+        PathError::OutOfMemory => Halt::Memory,
+        PathError::Depth => short_path(alloc, name, nodes, depth),
+        PathError::Statement(_) => short_path(alloc, name, nodes, depth),
+        PathError::Beside(_) => short_path(alloc, name, nodes, depth),
+    }
+}
+
+// How a run ends that has no inputs for this cause.
+fn halt_of(
+    alloc: Global,
+    policy: &Policy,
+    name: &str,
+    path: &Path,
+    error: RootedInputsError,
+) -> Halt
+    ensures { given.IsHaltFor name.now policy.now (length path.now.nodes.items) error result }
+{
+    match error {
+        RootedInputsError::OutOfMemory => Halt::Memory,
+        RootedInputsError::Policy(cause) => unmade(alloc, policy, cause),
+        RootedInputsError::Path(cause) => {
+            unclimbed(alloc, name, path.nodes.len(), policy.depth(), cause)
+        }
+        RootedInputsError::Depth => short_path(alloc, name, path.nodes.len(), policy.depth()),
+        RootedInputsError::Index => stray_leaf(alloc, name),
+    }
+}
+
+// The inputs of a record, values and a leaf.
 fn inputs_of(
     alloc: Global,
     policy: &Policy,
     bytes: &[u8],
     values: &[Value],
-) -> Result<PolicyInputs, Halt>
-    ensures { given.MakesInputs policy.now bytes.now values.now result }
+    name: &str,
+    path: &Path,
+) -> Result<RootedInputs, Halt>
+    ensures { given.MakesInputs name.now policy.now bytes.now values.now (placed_of path.now) result }
 {
-    match policy_inputs(alloc, policy, bytes, values) {
+    let place = Place {
+        index: path.leaf,
+        siblings: &path.nodes,
+    };
+    match credential_inputs(alloc, policy, bytes, values, &place) {
         Ok(inputs) => Ok(inputs),
-        Err(error) => Err(halt_of(alloc, policy, error)),
+        Err(error) => Err(halt_of(alloc, policy, name, path, error)),
     }
 }
 
@@ -208,27 +266,29 @@ fn put_both<S: Shelf>(
     put_file(alloc, shelf, private, second, text)
 }
 
-// Puts the inputs of a record and values.
+// Puts the inputs of a record, values and a leaf.
 fn put_inputs<S: Shelf>(
     alloc: Global,
     policy: &Policy,
     bytes: &[u8],
     values: &[Value],
-    public: &str,
-    private: &str,
+    name: &str,
+    path: &Path,
+    outputs: &Outputs<'_>,
     shelf: &mut S,
 ) -> Result<Ending, Halt>
-    ensures { Settles (given.PutsInputs public.now private.now policy.now bytes.now values.now)
-        (given.PutsOne public.now) (seen S.Shelf shelf.old) (seen S.Shelf shelf.new) result }
+    ensures { Settles (given.PutsInputs name.now (placed_of path.now) outputs.now.public.now
+        outputs.now.private.now policy.now bytes.now values.now) (given.PutsOne outputs.now.public.now)
+        (seen S.Shelf shelf.old) (seen S.Shelf shelf.new) result }
 {
-    let inputs = inputs_of(alloc, policy, bytes, values)?;
+    let inputs = inputs_of(alloc, policy, bytes, values, name, path)?;
     let first = number_text(alloc, inputs.public())?;
     let second = number_text(alloc, inputs.private())?;
     put_both(
         alloc,
-        public,
+        outputs.public,
         first.as_bytes(),
-        private,
+        outputs.private,
         second.as_bytes(),
         shelf,
     )
@@ -240,48 +300,99 @@ fn with_record<S: Shelf>(
     policy: &Policy,
     bytes: &[u8],
     values: &str,
-    public: &str,
-    private: &str,
+    name: &str,
+    path: &Path,
+    outputs: &Outputs<'_>,
     shelf: &mut S,
 ) -> Result<Ending, Halt>
-    ensures { Settles (given.WithRecord values.now public.now private.now policy.now bytes.now)
-        (given.PutsOne public.now) (seen S.Shelf shelf.old) (seen S.Shelf shelf.new) result }
+    ensures { Settles (given.WithRecord values.now name.now (placed_of path.now) outputs.now.public.now
+        outputs.now.private.now policy.now bytes.now) (given.PutsOne outputs.now.public.now)
+        (seen S.Shelf shelf.old) (seen S.Shelf shelf.new) result }
 {
     let read = read_given(alloc, shelf, values, policy)?;
-    put_inputs(alloc, policy, bytes, &read, public, private, shelf)
+    put_inputs(alloc, policy, bytes, &read, name, path, outputs, shelf)
 }
 
 // The same with the record in a file.
 fn with_policy<S: Shelf>(
     alloc: Global,
     policy: &Policy,
-    name: &str,
+    record: &str,
     values: &str,
-    public: &str,
-    private: &str,
+    name: &str,
+    path: &Path,
+    outputs: &Outputs<'_>,
     shelf: &mut S,
 ) -> Result<Ending, Halt>
-    ensures { Settles (given.WithPolicy name.now values.now public.now private.now policy.now)
-        (given.PutsOne public.now) (seen S.Shelf shelf.old) (seen S.Shelf shelf.new) result }
+    ensures { Settles (given.WithPolicy record.now values.now name.now (placed_of path.now)
+        outputs.now.public.now outputs.now.private.now policy.now) (given.PutsOne outputs.now.public.now)
+        (seen S.Shelf shelf.old) (seen S.Shelf shelf.new) result }
 {
-    let read = read_record(alloc, shelf, name, policy)?;
-    with_record(alloc, policy, &read, values, public, private, shelf)
+    let read = read_record(alloc, shelf, record, policy)?;
+    with_record(alloc, policy, &read, values, name, path, outputs, shelf)
+}
+
+// The same with the path in a file.
+fn with_path<S: Shelf>(
+    alloc: Global,
+    policy: &Policy,
+    record: &str,
+    values: &str,
+    name: &str,
+    outputs: &Outputs<'_>,
+    shelf: &mut S,
+) -> Result<Ending, Halt>
+    ensures { Settles (given.WithPath record.now values.now name.now outputs.now.public.now
+        outputs.now.private.now policy.now) (given.PutsOne outputs.now.public.now)
+        (seen S.Shelf shelf.old) (seen S.Shelf shelf.new) result }
+{
+    let read = read_path(alloc, shelf, name)?;
+    with_policy(alloc, policy, record, values, name, &read, outputs, shelf)
+}
+
+// A leaf under no root.
+fn alone(alloc: Global) -> Path
+    ensures { placed_of result ≡ alone }
+{
+    Path {
+        leaf: 0,
+        nodes: Vec::new(alloc),
+    }
 }
 
 /// Puts the public and the private inputs of a policy's circuit for a record and values, or names the first thing shown
-/// that is not true.
+/// that is not true. The policy shows a digest.
 pub fn inputs<S: Shelf>(
     alloc: Global,
     policy: &str,
-    name: &str,
+    record: &str,
     values: &str,
-    public: &str,
-    private: &str,
+    outputs: &Outputs<'_>,
     shelf: &mut S,
 ) -> Result<Ending, Halt>
-    ensures { Settles (given.InputsRun policy.now name.now values.now public.now private.now)
-        (given.PutsOne public.now) (seen S.Shelf shelf.old) (seen S.Shelf shelf.new) result }
+    ensures { Settles (given.InputsRun policy.now record.now values.now outputs.now.public.now
+        outputs.now.private.now) (given.PutsOne outputs.now.public.now)
+        (seen S.Shelf shelf.old) (seen S.Shelf shelf.new) result }
 {
-    let read = read_policy(alloc, shelf, policy)?;
-    with_policy(alloc, &read, name, values, public, private, shelf)
+    let read = read_kind(alloc, shelf, policy, false)?;
+    let path = alone(alloc);
+    with_policy(alloc, &read, record, values, "", &path, outputs, shelf)
+}
+
+/// The same for a policy that shows a root, with the path of the record's digest to it.
+pub fn rooted<S: Shelf>(
+    alloc: Global,
+    policy: &str,
+    record: &str,
+    values: &str,
+    path: &str,
+    outputs: &Outputs<'_>,
+    shelf: &mut S,
+) -> Result<Ending, Halt>
+    ensures { Settles (given.RootedRun policy.now record.now values.now path.now outputs.now.public.now
+        outputs.now.private.now) (given.PutsOne outputs.now.public.now)
+        (seen S.Shelf shelf.old) (seen S.Shelf shelf.new) result }
+{
+    let read = read_kind(alloc, shelf, policy, true)?;
+    with_path(alloc, &read, record, values, path, outputs, shelf)
 }

@@ -1,9 +1,10 @@
-//! What the program `zk-credential` does: the circuit of a policy, the digest of a record, and what a
-//! verifier learns.
+//! What the program `zk-credential` does: the circuit of a policy, the digest of a record, the inputs that show it, and
+//! what a verifier learns. PATH is there where the policy shows a root.
 //!
 //! ```text
 //! zk-credential circuit POLICY CIRCUIT
 //! zk-credential digest POLICY RECORD
+//! zk-credential inputs POLICY RECORD VALUES [PATH] PUBLIC PRIVATE
 //! zk-credential show POLICY
 //! ```
 //!
@@ -20,6 +21,7 @@ mod digests;
 mod entries;
 mod inputs;
 mod lines;
+mod paths;
 mod policies;
 mod records;
 mod running;

@@ -3,6 +3,7 @@
 ghost use Rattle.std.specs.Prelude.{◌≡◌, ◌++◌, ◌≤◌, IfOk, OnOk, string_bytes};
 ghost use Rattle.lzk_credential_run.specs.Lines as lines;
 
+use crate::entries::{ValuesFault, ValuesKind};
 use lzk_policy::{PolicyFault, PolicyKind};
 use std::alloc::{AllocError, Global};
 
@@ -34,6 +35,74 @@ pub fn refuse_policy(alloc: Global, name: &str, fault: PolicyFault) -> Result<St
     ensures { IfOk result (λ s. string_bytes s ≡ lines.policy_line name.now fault) }
 {
     tell_line(alloc, name, fault.line, policy_kind_name(fault.kind))
+}
+
+/// The line that refuses a policy that shows a root where there is no path, or a digest where there is one.
+pub fn refuse_kind(alloc: Global, name: &str, rooted: bool) -> Result<String, AllocError>
+    ensures { IfOk result (λ s. string_bytes s ≡ lines.kind_unfit_line rooted name.now) }
+{
+    if rooted {
+        return format!(in alloc; "refused: {name} shows a digest, and there is a path\n");
+    }
+    format!(in alloc; "refused: {name} shows a root, and there is no path\n")
+}
+
+fn values_kind_name(kind: ValuesKind) -> &'static str
+    ensures { result.now ≡ lines.values_kind_name kind }
+{
+    match kind {
+        ValuesKind::Syntax => "Syntax",
+        ValuesKind::Unknown => "Unknown",
+        ValuesKind::Repeated => "Repeated",
+        ValuesKind::Value => "Value",
+    }
+}
+
+/// The line of a rule that a line of values or of a path breaks.
+pub fn refuse_line(
+    alloc: Global,
+    name: &str,
+    line: u32,
+    kind: ValuesKind,
+) -> Result<String, AllocError>
+    ensures { IfOk result (λ s. string_bytes s ≡ lines.kind_line name.now line (lines.values_kind_name kind)) }
+{
+    tell_line(alloc, name, line, values_kind_name(kind))
+}
+
+fn refuse_leafless(alloc: Global, name: &str) -> Result<String, AllocError>
+    ensures { IfOk result (λ s. string_bytes s ≡ lines.leafless_line name.now) }
+{
+    format!(in alloc; "refused: {name} has no leaf\n")
+}
+
+/// The line that refuses a text that is no path.
+pub fn refuse_path(alloc: Global, name: &str, fault: ValuesFault) -> Result<String, AllocError>
+    ensures { IfOk result (λ s. string_bytes s ≡ lines.path_line name.now fault) }
+{
+    match fault {
+        ValuesFault::Line(line, kind) => refuse_line(alloc, name, line, kind),
+        ValuesFault::Missing(_) => refuse_leafless(alloc, name),
+    }
+}
+
+/// The line that refuses a path that has not as many nodes as the policy says.
+pub fn refuse_nodes(
+    alloc: Global,
+    name: &str,
+    nodes: usize,
+    depth: u32,
+) -> Result<String, AllocError>
+    ensures { IfOk result (λ s. string_bytes s ≡ lines.nodes_line name.now nodes depth) }
+{
+    format!(in alloc; "refused: {name} has {nodes} nodes and not {depth}\n")
+}
+
+/// The line that refuses a path whose leaf is none of its row.
+pub fn refuse_leaf(alloc: Global, name: &str) -> Result<String, AllocError>
+    ensures { IfOk result (λ s. string_bytes s ≡ lines.leaf_line name.now) }
+{
+    format!(in alloc; "refused: {name}: its leaf is none of its row\n")
 }
 
 /// The line that refuses a policy whose circuit would pass a limit.

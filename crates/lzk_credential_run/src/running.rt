@@ -9,7 +9,7 @@ ghost use Rattle.lzk_credential_run.specs.Words.{command_of};
 
 use crate::circuits::circuit;
 use crate::digests::digest;
-use crate::inputs::inputs;
+use crate::inputs::{Outputs, inputs, rooted};
 use crate::showing::show;
 use crate::words::{Command, parse_words};
 use lzk_cmd_files::{Ending, Halt, print_ending};
@@ -45,7 +45,32 @@ fn work<S: Shelf>(alloc: Global, words: &[String], shelf: &mut S) -> Result<Endi
                 public,
                 private,
             },
-        ) => inputs(alloc, policy, record, values, public, private, shelf),
+        ) => inputs(
+            alloc,
+            policy,
+            record,
+            values,
+            &Outputs { public, private },
+            shelf,
+        ),
+        Some(
+            Command::Rooted {
+                policy,
+                record,
+                values,
+                path,
+                public,
+                private,
+            },
+        ) => rooted(
+            alloc,
+            policy,
+            record,
+            values,
+            path,
+            &Outputs { public, private },
+            shelf,
+        ),
         Some(Command::Show { policy }) => show(alloc, policy, shelf),
     }
 }

@@ -90,7 +90,7 @@ pub fn push_show(
     }
 }
 
-// Appends the lines of all that is shown beside the digest.
+// Appends the lines of all that is shown beside the digest or the root.
 fn push_shows(
     alloc: Global,
     text: &mut String,
@@ -107,11 +107,21 @@ fn push_shows(
     push_shows(alloc, text, fields, others)
 }
 
+// The line of the digest, or of a root so many levels above it.
+fn head_line(alloc: Global, depth: u32) -> Result<String, AllocError>
+    ensures { IfOk result (λ s. string_bytes s ≡ shown.head_line depth) }
+{
+    if depth == 0 {
+        return "the SHA-256 digest of the record\n".to_string(alloc);
+    }
+    format!(in alloc; "a root, levels above the SHA-256 digest of the record: {depth}\n")
+}
+
 // The lines of all that is shown.
 fn shown_text(alloc: Global, policy: &Policy) -> Result<String, AllocError>
     ensures { IfOk result (λ s. string_bytes s ≡ shown.shown_lines policy.now) }
 {
-    let mut text = "the SHA-256 digest of the record\n".to_string(alloc)?;
+    let mut text = head_line(alloc, policy.depth())?;
     push_shows(alloc, &mut text, policy.fields(), policy.shows())?;
     Ok(text)
 }

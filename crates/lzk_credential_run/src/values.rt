@@ -19,9 +19,9 @@ fn is_digit(b: u8) -> bool
     48 <= b && b <= 57
 }
 
-// The number that digits make behind those that made `have`.
+/// The number that digits make behind those that made `have`.
 #[tactic(auto, unfolding(crate::specs::Chosen::number_from))]
-fn number_from(have: u64, bytes: &[u8]) -> Option<u64>
+pub(crate) fn number_from(have: u64, bytes: &[u8]) -> Option<u64>
     requires { have < 10000000000 }
     ensures { result ≡ chosen.number_from have bytes.now }
 {

@@ -22,6 +22,14 @@ pub enum Command<'a> {
         public: &'a str,
         private: &'a str,
     },
+    Rooted {
+        policy: &'a str,
+        record: &'a str,
+        values: &'a str,
+        path: &'a str,
+        public: &'a str,
+        private: &'a str,
+    },
     Show {
         policy: &'a str,
     },
@@ -66,6 +74,19 @@ fn named<'a>(verb: &str, names: &'a [String]) -> Option<Command<'a>>
                     policy: policy.as_str(),
                     record: record.as_str(),
                     values: values.as_str(),
+                    public: public.as_str(),
+                    private: private.as_str(),
+                });
+            }
+            None
+        }
+        [policy, record, values, path, public, private] => {
+            if verb == "inputs" {
+                return Some(Command::Rooted {
+                    policy: policy.as_str(),
+                    record: record.as_str(),
+                    values: values.as_str(),
+                    path: path.as_str(),
                     public: public.as_str(),
                     private: private.as_str(),
                 });

@@ -1,13 +1,13 @@
 //! Runs, with what they answer and print.
 
-use crate::files::{FILES, PRIVATE_DIGEST, PUBLIC};
+use crate::files::{FILES, PRIVATE_DIGEST, PUBLIC, ROOT_PRIVATE_DIGEST, ROOT_PUBLIC};
 use lzk_credential_run::run;
 use lzk_outside::{MemShelf, MemSink};
 use sha2::{Digest, Sha256};
 use std::alloc::{AllocError, Global};
 use std::test::Fail;
 
-const RUNS: [(&str, u8, &str); 24] = [
+const RUNS: [(&str, u8, &str); 42] = [
     (
         "show p",
         0,
@@ -101,6 +101,85 @@ const RUNS: [(&str, u8, &str); 24] = [
         3,
         "not true: until is at least TODAY\n",
     ),
+    (
+        "show u",
+        0,
+        "a root, levels above the SHA-256 digest of the record: 3\nbirth is at most LATEST\n\
+        until is at least TODAY\ncountry is COUNTRY\ncountry is one of BE NL\na pseudonym of secret for SERVICE\n",
+    ),
+    (
+        "digest u r",
+        0,
+        "e3f95c6ff6ffb48e2c78b7f46343b1f01d40ea42156f2566910b95cc985c47e5\n",
+    ),
+    ("circuit u c", 0, "put\n"),
+    ("inputs u r v t x y", 0, "put\n"),
+    (
+        "inputs u r v x y",
+        3,
+        "refused: u shows a root, and there is no path\n",
+    ),
+    (
+        "inputs p r v t x y",
+        3,
+        "refused: p shows a digest, and there is a path\n",
+    ),
+    (
+        "inputs p_place r v t x y",
+        3,
+        "refused: p_place at line 2: Place\n",
+    ),
+    ("inputs u r v q x y", 3, "refused: q is missing\n"),
+    (
+        "inputs u r v t_none x y",
+        3,
+        "refused: t_none has no leaf\n",
+    ),
+    (
+        "inputs u r v t_two_words x y",
+        3,
+        "refused: t_two_words at line 1: Syntax\n",
+    ),
+    (
+        "inputs u r v t_leaf x y",
+        3,
+        "refused: t_leaf at line 2: Value\n",
+    ),
+    (
+        "inputs u r v t_hex x y",
+        3,
+        "refused: t_hex at line 1: Value\n",
+    ),
+    (
+        "inputs u r v t_name x y",
+        3,
+        "refused: t_name at line 1: Value\n",
+    ),
+    (
+        "inputs u r v t_node x y",
+        3,
+        "refused: t_node at line 2: Value\n",
+    ),
+    (
+        "inputs u r v t_few x y",
+        3,
+        "refused: t_few has 0 nodes and not 3\n",
+    ),
+    (
+        "inputs u r v t_two x y",
+        3,
+        "refused: t_two has 2 nodes and not 3\n",
+    ),
+    (
+        "inputs u r v t_row x y",
+        3,
+        "refused: t_row: its leaf is none of its row\n",
+    ),
+    (
+        "inputs u r v_young t x y",
+        3,
+        "not true: birth is at most LATEST\n",
+    ),
 ];
 
 fn shelf_of(alloc: Global, failing: Vec<u64>) -> Result<MemShelf, AllocError> {
@@ -137,13 +216,17 @@ fn runs_end_as_listed(rt: HostRuntime) -> Result<(), Fail> {
 #[test]
 fn inputs_are_those_of_another_implementation(rt: HostRuntime) -> Result<(), Fail> {
     let alloc = rt.alloc();
-    for words in ["inputs p r v x y", "inputs p r v_own x y"] {
+    for (words, public, digest) in [
+        ("inputs p r v x y", PUBLIC, PRIVATE_DIGEST),
+        ("inputs p r v_own x y", PUBLIC, PRIVATE_DIGEST),
+        ("inputs u r v t x y", ROOT_PUBLIC, ROOT_PRIVATE_DIGEST),
+    ] {
         let mut shelf = shelf_of(alloc, Vec::new(alloc))?;
         ran(alloc, words, &mut shelf)?;
-        assert!(rt; shelf.get("x") == Some(PUBLIC));
+        assert!(rt; shelf.get("x") == Some(public));
         let private = shelf.get("y").unwrap_or(b"");
         let digits = hex::encode(alloc, &Sha256::digest(private))?;
-        assert!(rt; digits.as_str() == PRIVATE_DIGEST);
+        assert!(rt; digits.as_str() == digest);
     }
     Ok(())
 }
@@ -159,6 +242,8 @@ fn faults_are_told(rt: HostRuntime) -> Result<(), Fail> {
         ("inputs p r v x y", 4, 4),
         ("inputs p r v x y", 6, 5),
         ("inputs p r v x y", 7, 5),
+        ("inputs u r v t x y", 2, 4),
+        ("inputs u r v t x y", 8, 5),
     ] {
         let mut failing = Vec::new(alloc);
         failing.push(call)?;

@@ -1,7 +1,9 @@
-use Rattle.std.proofs.Common.{inl}
+use Rattle.std.proofs.Common.{false, [], inl, subst}
 use Rattle.lzk_cmd_files.specs.Seen.{seen}
-use Rattle.lzk_credential_run.specs.Files.{policy_files}
+use Rattle.lzk_credential_run.specs.Ends.{Settles}
+use Rattle.lzk_credential_run.specs.Files.{kind_files}
 use Rattle.lzk_credential_run.specs.Given.{WithPolicy, PutsOne}
+use Rattle.lzk_credential_run.specs.Paths.{Placed, alone}
 use Rattle.lzk_credential_run.proofs.InputEnds.{policy_later, one_later}
 use Rattle.lzk_credential_run.proofs.Steps.{ended, goes_on}
 use Rattle.lzk_credential_run.proofs.inputs.inputs.Goals as goal
@@ -9,14 +11,15 @@ use Rattle.lzk_credential_run.proofs.inputs.inputs.Goals as goal
 pub returns-in_err-read : goal.returns-in_err-read
 returns-in_err-read g c =
     let reads = c.in_err-read.ensures.reads in
-    ended policy_files c.args.policy.now (WithPolicy c.args.name.now c.args.values.now c.args.public.now c.args.private.now) (λ p. p) (PutsOne c.args.public.now) (seen g.S.Shelf c.args.shelf.now) (seen g.S.Shelf c.read_policy.new.shelf) c.in_err-read.field-0.0 _
+    ended (kind_files false) c.args.policy.now (WithPolicy c.args.record.now c.args.values.now [] alone c.args.outputs.now.public.now c.args.outputs.now.private.now) (λ p. p) (PutsOne c.args.outputs.now.public.now) (seen g.S.Shelf c.args.shelf.now) (seen g.S.Shelf c.read_kind.new.shelf) c.in_err-read.field-0.0 _
     (inl reads.files) reads c.in_err-read.ensures.gives c.from_residual.ensures.1
 
 pub returns : goal.returns
 returns g c =
     let old = seen g.S.Shelf c.args.shelf.now in
-    let mid = seen g.S.Shelf c.read_policy.new.shelf in
+    let mid = seen g.S.Shelf c.read_kind.new.shelf in
     let new = seen g.S.Shelf c.with_policy.new.shelf in
     let reads = c.in_ok-read.ensures.reads in
-    goes_on policy_files c.args.policy.now (WithPolicy c.args.name.now c.args.values.now c.args.public.now c.args.private.now) (λ p. p) (PutsOne c.args.public.now) old mid new c.in_ok-read.read c.with_policy.result reads c.in_ok-read.ensures.gives
-    (policy_later c.args.public.now c.args.private.now c.args.name.now c.args.values.now c.in_ok-read.read) (one_later c.args.public.now old mid new reads) c.with_policy.ensures
+    goes_on (kind_files false) c.args.policy.now (WithPolicy c.args.record.now c.args.values.now [] alone c.args.outputs.now.public.now c.args.outputs.now.private.now) (λ p. p) (PutsOne c.args.outputs.now.public.now) old mid new c.in_ok-read.read c.with_policy.result reads c.in_ok-read.ensures.gives
+    (policy_later [] alone c.args.outputs.now.public.now c.args.outputs.now.private.now c.args.record.now c.args.values.now c.in_ok-read.read) (one_later c.args.outputs.now.public.now old mid new reads)
+    (subst (λ (x : Placed). Settles (WithPolicy c.args.record.now c.args.values.now [] x c.args.outputs.now.public.now c.args.outputs.now.private.now c.in_ok-read.read) (PutsOne c.args.outputs.now.public.now) mid new c.with_policy.result) c.alone-path.ensures c.with_policy.ensures)

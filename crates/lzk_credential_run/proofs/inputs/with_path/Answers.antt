@@ -1,0 +1,23 @@
+use Rattle.std.proofs.Common.{inl}
+use Rattle.lzk_cmd_files.specs.Seen.{seen}
+use Rattle.lzk_credential_run.specs.Files.{path_files}
+use Rattle.lzk_credential_run.specs.Given.{WithPolicy, PutsOne}
+use Rattle.lzk_credential_run.specs.Paths.{placed_of}
+use Rattle.lzk_credential_run.proofs.InputEnds.{policy_later, one_later}
+use Rattle.lzk_credential_run.proofs.Steps.{ended, goes_on}
+use Rattle.lzk_credential_run.proofs.inputs.with_path.Goals as goal
+
+pub returns-in_err-read : goal.returns-in_err-read
+returns-in_err-read g c =
+    let reads = c.in_err-read.ensures.reads in
+    ended path_files c.args.name.now (λ x. WithPolicy c.args.record.now c.args.values.now c.args.name.now x c.args.outputs.now.public.now c.args.outputs.now.private.now c.args.policy.now) placed_of (PutsOne c.args.outputs.now.public.now) (seen g.S.Shelf c.args.shelf.now) (seen g.S.Shelf c.read_path.new.shelf) c.in_err-read.field-0.0 _
+    (inl reads.files) reads c.in_err-read.ensures.gives c.from_residual.ensures.1
+
+pub returns : goal.returns
+returns g c =
+    let old = seen g.S.Shelf c.args.shelf.now in
+    let mid = seen g.S.Shelf c.read_path.new.shelf in
+    let new = seen g.S.Shelf c.with_policy.new.shelf in
+    let reads = c.in_ok-read.ensures.reads in
+    goes_on path_files c.args.name.now (λ x. WithPolicy c.args.record.now c.args.values.now c.args.name.now x c.args.outputs.now.public.now c.args.outputs.now.private.now c.args.policy.now) placed_of (PutsOne c.args.outputs.now.public.now) old mid new c.in_ok-read.read c.with_policy.result reads c.in_ok-read.ensures.gives
+    (policy_later c.args.name.now (placed_of c.in_ok-read.read) c.args.outputs.now.public.now c.args.outputs.now.private.now c.args.record.now c.args.values.now c.args.policy.now) (one_later c.args.outputs.now.public.now old mid new reads) c.with_policy.ensures
