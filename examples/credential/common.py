@@ -1,7 +1,7 @@
 """What issuer, wallet and service share: the lines of a policy, digests, and the programs.
 
 A policy's lines are those of docs/POLICY.md. A record is its bytes; the bytes that no field names are a salt, fresh for
-each record. The issuer signs the record's SHA-256 digest. ZK and ZK_CREDENTIAL name the programs.
+each record. The issuer signs the record's SHA-256 digest, or the root of a tree with many digests as leaves. ZK and ZK_CREDENTIAL name the programs.
 """
 
 import contextlib
@@ -13,6 +13,7 @@ import subprocess
 import tempfile
 
 SIGNED = b"LZK1 record "
+SIGNED_ROOT = b"LZK1 root "
 
 
 class Refused(Exception):
@@ -69,7 +70,8 @@ def number_of(kind, value):
 
 
 def public_numbers(policy, digest_shown, values, pseudonym):
-    """The public inputs as docs/POLICY.md has them, of values by their names. A service's is a tag in hexadecimal digits."""
+    """The public inputs as docs/POLICY.md has them, of values by their names, behind the words of the digest or of the root. A
+    service's is a tag in hexadecimal digits."""
     fields, numbers = fields_of(policy), words_of(digest_shown)
     for words in lines_of(policy):
         match words:
@@ -78,6 +80,14 @@ def public_numbers(policy, digest_shown, values, pseudonym):
             case ["show", "pseudonym", "of", _, "for", value]:
                 numbers += words_of(bytes.fromhex(values[value])) + words_of(pseudonym)
     return numbers
+
+
+def depth_of(policy):
+    """How many levels the root that a policy shows stands above the digest: none, where the digest is shown."""
+    for words in lines_of(policy):
+        if words[:3] == ["show", "under", "root"] and len(words) == 4:
+            return int(words[3])
+    return 0
 
 
 def tag_names(policy):
@@ -92,6 +102,16 @@ def pseudonym_of(policy, record, tag):
             _, place, size = fields_of(policy)[words[3]]
             return digest(b"LZP1" + record[place : place + size] + tag)
     return None
+
+
+def is_signed(public_key, message, signature):
+    with tempfile.TemporaryDirectory() as folder:
+        paths = [os.path.join(folder, name) for name in ("message", "signature")]
+        for path, data in zip(paths, (message, signature)):
+            with open(path, "wb") as file:
+                file.write(data)
+        words = ["openssl", "pkeyutl", "-verify", "-rawin", "-pubin", "-inkey", public_key, "-sigfile", paths[1], "-in", paths[0]]
+        return subprocess.run(words, stdout=subprocess.DEVNULL, stderr=subprocess.DEVNULL, check=False).returncode == 0
 
 
 @contextlib.contextmanager

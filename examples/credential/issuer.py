@@ -3,8 +3,10 @@
 
     issuer.py key FOLDER
     issuer.py issue FOLDER POLICY PERSON WALLET COUNT
+    issuer.py publish FOLDER POLICY ROOT PERSON WALLET [PERSON WALLET ..]
 
-PERSON is a file of TOML or JSON with the value of each date and text that POLICY has as a field.
+PERSON is a file of TOML or JSON with the value of each date and text that POLICY has as a field. `publish` makes one record
+for each person, and the tree of which their digests are leaves: ROOT is the file of its signed root, which is for everybody.
 """
 
 import json
@@ -15,6 +17,7 @@ import sys
 import tempfile
 
 import common as C
+import tree
 
 
 def make_key(folder):
@@ -59,24 +62,60 @@ def record(policy, values):
     return bytes(made)
 
 
-def issue(folder, policy_file, person_file, wallet, count):
-    os.makedirs(wallet, mode=0o700)
-    with open(policy_file, encoding="utf-8") as file:
-        policy = file.read()
+def read_policy(path):
+    with open(path, encoding="utf-8") as file:
+        return file.read()
+
+
+def values_of(policy, person_file):
+    """The bytes of each field of a person."""
     person = read_person(person_file)
     # Secrets are chosen here, so the issuer knows them: docs/CREDENTIALS.md says what follows from that.
-    values = {
+    return {
         name: secrets.token_bytes(size) if kind == "bytes" else bytes_of(person[name], kind, size)
         for name, (kind, _, size) in C.fields_of(policy).items()
     }
+
+
+def give(wallet, policy, records):
+    """A wallet with these records."""
+    os.makedirs(wallet, mode=0o700)
+    C.write(os.path.join(wallet, "records.json"), json.dumps(records).encode())
+    C.write(os.path.join(wallet, "layout.txt"), policy.encode())
+
+
+def issue(folder, policy_file, person_file, wallet, count):
+    policy = read_policy(policy_file)
+    values = values_of(policy, person_file)
     records = []
     for _ in range(count):
         made = record(policy, values)
         signature = sign(os.path.join(folder, "key.pem"), C.SIGNED + C.digest(made))
         records.append({"record": made.hex(), "signature": signature.hex()})
-    C.write(os.path.join(wallet, "records.json"), json.dumps(records).encode())
-    C.write(os.path.join(wallet, "layout.txt"), policy.encode())
+    give(wallet, policy, records)
     print(f"{count} records")
+
+
+def publish(folder, policy_file, root_file, *people):
+    """One record for each person, at a place that is drawn. Leaves that are left over are random: they hide nobody."""
+    policy = read_policy(policy_file)
+    pairs = list(zip(people[::2], people[1::2]))
+    leaves = [secrets.token_bytes(32) for _ in range(2 ** C.depth_of(policy))]
+    if len(pairs) > len(leaves):
+        raise ValueError("more people than leaves")
+    places = secrets.SystemRandom().sample(range(len(leaves)), len(pairs))
+    made = [record(policy, values_of(policy, person)) for person, _ in pairs]
+    for place, one in zip(places, made):
+        leaves[place] = C.digest(one)
+    rows = tree.rows_of(leaves)
+    root = rows[-1][0]
+    for (_, wallet), place, one in zip(pairs, places, made):
+        path = [node.hex() for node in tree.path_of(rows, place)]
+        give(wallet, policy, [{"record": one.hex(), "root": root.hex(), "leaf": place, "path": path}])
+    signature = sign(os.path.join(folder, "key.pem"), C.SIGNED_ROOT + root)
+    with open(root_file, "w", encoding="utf-8") as file:
+        json.dump({"root": root.hex(), "signature": signature.hex()}, file)
+    print(f"a root over {len(leaves)} leaves, {len(pairs)} of them records")
 
 
 def main():
@@ -85,6 +124,8 @@ def main():
         make_key(words[1])
     elif len(words) == 6 and words[0] == "issue":
         issue(*words[1:5], int(words[5]))
+    elif len(words) > 5 and len(words) % 2 == 0 and words[0] == "publish":
+        publish(*words[1:])
     else:
         print(__doc__)
         return 2

@@ -37,6 +37,12 @@ issue() {
     call issuer issue "$1" "$here/policy.txt" "$here/$2" "$3" "$4"
 }
 
+# A wallet with the record of one and the path of another.
+mix() {
+    mkdir "$4" && cp "$3/layout.txt" "$4/" &&
+        python3 -c 'import json, sys; one, other = (json.load(open(f"{name}/records.json"))[0] for name in (sys.argv[1], sys.argv[3])); other[sys.argv[2]] = one[sys.argv[2]]; json.dump([other], open(f"{sys.argv[4]}/records.json", "w"))' "$@"
+}
+
 tell what a verifier learns
 "$ZK_CREDENTIAL" show "$here/policy.txt"
 tell records
@@ -104,3 +110,34 @@ check club q11 a11
 ask bar bar.example policy.txt q12
 call wallet ann bar.example q12 a12
 check bar q12 a12
+tell under a root, by which issuer and service together do not know who it was
+"$ZK_CREDENTIAL" show "$here/under.txt"
+call issuer publish issuer "$here/under.txt" root "$here/ann.toml" ann8 "$here/bob.json" bob8 "$here/eve.toml" eve8
+call service trust inn issuer/public.pem root
+ask inn inn.example under.txt q16
+call wallet ann8 inn.example q16 a16
+check inn q16 a16
+tell the same person again, and somebody too young
+ask inn inn.example under.txt q17
+call wallet ann8 inn.example q17 a17
+check inn q17 a17
+ask inn inn.example under.txt q18
+call wallet bob8 inn.example q18 a18
+call wallet bob8 inn.example q18 a18 anyway
+tell a root that the service does not trust, and one that it is told is the issuer\'s
+call issuer publish forger "$here/under.txt" root2 "$here/ann.toml" mallory8
+call wallet mallory8 inn.example q18 a18
+check inn q18 a18
+call service trust inn issuer/public.pem root2
+tell a record of another tree by the path of a leaf under the root
+mix mallory8 record ann8 thief
+ask inn inn.example under.txt q19
+call wallet thief inn.example q19 a19
+call wallet thief inn.example q19 a19 anyway
+tell the path of another leaf
+mix ann8 record eve8 stray
+call wallet stray inn.example q19 a19
+call wallet stray inn.example q19 a19 anyway
+tell a service that asks for the digest of a record under a root
+ask spy spy.example policy.txt q20
+call wallet ann8 spy.example q20 a20

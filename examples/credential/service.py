@@ -2,17 +2,16 @@
 """The service: makes a request with a fresh nonce, and checks the answer. Every public number is its own.
 
     service.py request FOLDER SERVICE POLICY REQUEST LATEST TODAY
+    service.py trust FOLDER ISSUER_KEY ROOT
     service.py check FOLDER ISSUER_KEY REQUEST ANSWER
 
-FOLDER keeps the sessions that are open, the digests and pseudonyms that were seen, and the circuits.
+FOLDER keeps the sessions that are open, the roots that it trusts, the digests and pseudonyms that were seen, and the circuits.
 """
 
 import json
 import os
 import secrets
-import subprocess
 import sys
-import tempfile
 
 import common as C
 from common import Refused
@@ -61,14 +60,15 @@ def opened(folder, nonce):
     return request
 
 
-def is_signed(public_key, message, signature):
-    with tempfile.TemporaryDirectory() as folder:
-        paths = [os.path.join(folder, name) for name in ("message", "signature")]
-        for path, data in zip(paths, (message, signature)):
-            with open(path, "wb") as file:
-                file.write(data)
-        words = ["openssl", "pkeyutl", "-verify", "-rawin", "-pubin", "-inkey", public_key, "-sigfile", paths[1], "-in", paths[0]]
-        return subprocess.run(words, stdout=subprocess.DEVNULL, stderr=subprocess.DEVNULL, check=False).returncode == 0
+def trust(folder, issuer_key, root_file):
+    """Takes a root that the issuer signed for one of those under which a record may be shown."""
+    with open(root_file, encoding="utf-8") as file:
+        found = json.load(file)
+    root = bytes.fromhex(found["root"])
+    if not C.is_signed(issuer_key, C.SIGNED_ROOT + root, bytes.fromhex(found["signature"])):
+        raise Refused("the issuer did not sign this root")
+    os.makedirs(folder, exist_ok=True)
+    remember(folder, "roots", root.hex())
 
 
 def is_proved(folder, request, digest, pseudonym, proof):
@@ -81,23 +81,47 @@ def is_proved(folder, request, digest, pseudonym, proof):
     return C.run("ZK", "verify", *words) == (0, "accepted\n")
 
 
-def check(folder, issuer_key, nonce, answer):
-    request = opened(folder, nonce)
-    digest = bytes.fromhex(answer["digest"])
-    pseudonym = bytes.fromhex(answer["pseudonym"]) if C.tag_names(request["policy"]) else None
-    if len(digest) != 32 or (pseudonym is not None and len(pseudonym) != 32):
-        raise Refused("a digest has 32 bytes")
-    if not is_signed(issuer_key, C.SIGNED + digest, bytes.fromhex(answer["signature"])):
+def check_root(folder, root):
+    if root.hex() not in seen(folder, "roots"):
+        raise Refused("this service trusts no such root")
+
+
+def check_digest(folder, issuer_key, digest, signature):
+    if not C.is_signed(issuer_key, C.SIGNED + digest, signature):
         raise Refused("the issuer did not sign this record")
     if digest.hex() in seen(folder, "digests"):
         raise Refused("this record was shown before")
-    if not is_proved(folder, request, digest, pseudonym, bytes.fromhex(answer["proof"])):
+
+
+def check(folder, issuer_key, nonce, answer):
+    request = opened(folder, nonce)
+    rooted = C.depth_of(request["policy"]) > 0
+    shown = bytes.fromhex(answer["root" if rooted else "digest"])
+    pseudonym = bytes.fromhex(answer["pseudonym"]) if C.tag_names(request["policy"]) else None
+    if len(shown) != 32 or (pseudonym is not None and len(pseudonym) != 32):
+        raise Refused("a digest has 32 bytes")
+    if rooted:
+        check_root(folder, shown)
+    else:
+        check_digest(folder, issuer_key, shown, bytes.fromhex(answer["signature"]))
+    if not is_proved(folder, request, shown, pseudonym, bytes.fromhex(answer["proof"])):
         raise Refused("the proof does not hold for this session")
-    remember(folder, "digests", digest.hex())
+    if not rooted:
+        remember(folder, "digests", shown.hex())
+    # Under a root the pseudonym alone tells whether a person was here.
     if pseudonym is not None:
         if pseudonym.hex() in seen(folder, "pseudonyms"):
             raise Refused("this person was here before")
         remember(folder, "pseudonyms", pseudonym.hex())
+
+
+def check_answer(folder, issuer_key, request_file, answer_file):
+    with open(request_file, encoding="utf-8") as file:
+        nonce = json.load(file)["nonce"]
+    with open(answer_file, encoding="utf-8") as file:
+        answer = json.load(file)
+    with C.alone(folder):
+        check(folder, issuer_key, nonce, answer)
 
 
 def main():
@@ -105,24 +129,22 @@ def main():
     if len(words) == 7 and words[0] == "request":
         ask(*words[1:])
         return 0
-    if len(words) != 5 or words[0] != "check":
+    if not (len(words) == 5 and words[0] == "check" or len(words) == 4 and words[0] == "trust"):
         print(__doc__)
         return 2
-    _, folder, issuer_key, request_file, answer_file = words
-    with open(request_file, encoding="utf-8") as file:
-        nonce = json.load(file)["nonce"]
-    with open(answer_file, encoding="utf-8") as file:
-        answer = json.load(file)
     try:
-        with C.alone(folder):
-            check(folder, issuer_key, nonce, answer)
+        if words[0] == "trust":
+            trust(*words[1:])
+            print("trusted")
+        else:
+            check_answer(*words[1:])
+            print("let in")
     except Refused as refused:
         print(f"refused: {refused}")
         return 1
     except (KeyError, TypeError, ValueError):
         print("refused: the answer has not its form")
         return 1
-    print("let in")
     return 0
 
 

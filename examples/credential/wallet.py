@@ -4,7 +4,8 @@
     wallet.py WALLET SERVICE REQUEST ANSWER [anyway] [again]
 
 SERVICE is whom the wallet is connected to, by its own channel, and not what the request says. With `anyway` it tries to
-prove what is not true, with `again` it shows a record once more: what a dishonest one would try.
+prove what is not true, with `again` it shows a record once more: what a dishonest one would try. A record under a root shows
+no digest, so it is shown as often as it is asked for.
 """
 
 import json
@@ -30,11 +31,11 @@ class Records:
                 self.shown = int(file.read())
 
     def next(self, again):
-        """A record that was not shown, or the last one once more, and its signature."""
+        """A record that was not shown, or the last one once more, with its signature."""
         place = self.shown - 1 if again else self.shown
         if place >= len(self.records):
             raise Refused("no record is left")
-        return bytes.fromhex(self.records[place]["record"]), self.records[place]["signature"]
+        return self.records[place]
 
     def mark(self):
         """Counts the next one as shown, before it is: a wallet that is cut off then loses a record, and shows none twice."""
@@ -67,9 +68,24 @@ def lie(public, values, told):
     C.write(public, "".join(changed.get(number, number) + "\n" for number in numbers).encode())
 
 
-def make_inputs(paths, values, anyway):
+def path_text(entry):
+    return "".join(f"{word}\n" for word in [entry["leaf"], *entry["path"]]).encode()
+
+
+def claim_root(public, root, anyway):
+    """Compares the root that the inputs are for with that of the wallet, which a dishonest one claims anyway."""
+    with open(public, encoding="utf-8") as file:
+        numbers = file.read().split()
+    claimed = [str(word) for word in C.words_of(bytes.fromhex(root))]
+    if numbers[:8] != claimed:
+        if not anyway:
+            raise Refused("the record is no leaf under the root")
+        C.write(public, "".join(f"{number}\n" for number in claimed + numbers[8:]).encode())
+
+
+def make_inputs(paths, names, values, anyway):
     """The two files of inputs, or why there are none."""
-    words = [paths[name] for name in ("policy", "record", "values", "public", "private")]
+    words = [paths[name] for name in names]
     C.write(paths["values"], text_of(values))
     status, said = C.run("ZK_CREDENTIAL", "inputs", *words)
     if status and anyway:
@@ -82,15 +98,20 @@ def make_inputs(paths, values, anyway):
         raise Refused(said.strip())
 
 
-def prove(wallet, request, service, record, anyway):
+def prove(wallet, request, service, entry, anyway):
     """The proof. Files with private numbers are in memory, and go at the end."""
     circuit = C.circuit_of(wallet, request["policy"])
+    rooted = C.depth_of(request["policy"]) > 0
+    names = ["policy", "record", "values"] + ["path"] * rooted + ["public", "private"]
     with C.private_folder() as folder:
-        names = ("policy", "record", "values", "public", "private", "proof")
-        paths = {name: os.path.join(folder, name) for name in names}
+        paths = {name: os.path.join(folder, name) for name in [*names, "proof"]}
         C.write(paths["policy"], request["policy"].encode())
-        C.write(paths["record"], record)
-        make_inputs(paths, values_of(request, service), anyway)
+        C.write(paths["record"], bytes.fromhex(entry["record"]))
+        if rooted:
+            C.write(paths["path"], path_text(entry))
+        make_inputs(paths, names, values_of(request, service), anyway)
+        if rooted:
+            claim_root(paths["public"], entry["root"], anyway)
         words = [circuit, paths["public"], paths["private"], paths["proof"]]
         words += [f"seed={secrets.token_hex(32)}", f"session={C.session_of(service, request['nonce'])}"]
         status, said = C.run("ZK", "prove", *words)
@@ -105,13 +126,23 @@ def answer(wallet, service, request, anyway, again):
         raise Refused("the request is another service's")
     # A service says what is to be shown, and never where a field stands: else it could ask for a secret by another name.
     with open(os.path.join(wallet, "layout.txt"), encoding="utf-8") as file:
-        if C.layout_of(request["policy"]) != C.layout_of(file.read()):
-            raise Refused("the request has other fields than the records")
+        layout = file.read()
+    if C.layout_of(request["policy"]) != C.layout_of(layout):
+        raise Refused("the request has other fields than the records")
+    # Nor what it learns of whom: a record under a root never shows its digest.
+    if C.depth_of(request["policy"]) != C.depth_of(layout):
+        raise Refused("the request shows a digest for a root, or a root for a digest")
     records = Records(wallet)
-    record, signature = records.next(again)
-    proof = prove(wallet, request, service, record, anyway)
-    records.mark()
-    found = {"digest": C.digest(record).hex(), "signature": signature, "proof": proof.hex()}
+    rooted = C.depth_of(layout) > 0
+    entry = records.records[0] if rooted else records.next(again)
+    proof = prove(wallet, request, service, entry, anyway)
+    found = {"proof": proof.hex()}
+    record = bytes.fromhex(entry["record"])
+    if rooted:
+        found["root"] = entry["root"]
+    else:
+        records.mark()
+        found.update(digest=C.digest(record).hex(), signature=entry["signature"])
     pseudonym = C.pseudonym_of(request["policy"], record, C.tag_of(service))
     if pseudonym:
         found["pseudonym"] = pseudonym.hex()

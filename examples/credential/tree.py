@@ -1,0 +1,65 @@
+"""Trees of SHA-256 nodes, as docs/POLICY.md has them under a root: a node is one compression of its two children, the left
+one first, from the initial hash value, and there is no padding. Plain Python, so nothing but hashlib's digests is trusted."""
+
+import math
+
+
+def primes(count):
+    """The first prime numbers."""
+    found = []
+    candidate = 2
+    while len(found) < count:
+        if all(candidate % prime for prime in found):
+            found.append(candidate)
+        candidate += 1
+    return found
+
+
+def cube_root(number):
+    """The largest whole number whose cube is at most this one."""
+    low, high = 0, 1 << 64
+    while low + 1 < high:
+        middle = (low + high) // 2
+        low, high = (middle, high) if middle**3 <= number else (low, middle)
+    return low
+
+
+WORD = 0xFFFFFFFF
+# The first 32 bits behind the point of square roots and of cube roots of primes (FIPS 180-4).
+INITIAL = [math.isqrt(prime << 64) & WORD for prime in primes(8)]
+ROUND = [cube_root(prime << 96) & WORD for prime in primes(64)]
+
+
+def turned(word, by):
+    return (word >> by | word << (32 - by)) & WORD
+
+
+def compressed(block):
+    """The state behind one block of 64 bytes, as 32 bytes."""
+    words = [int.from_bytes(block[at : at + 4], "big") for at in range(0, 64, 4)]
+    for _ in range(48):
+        second, last = words[-15], words[-2]
+        low = turned(second, 7) ^ turned(second, 18) ^ second >> 3
+        high = turned(last, 17) ^ turned(last, 19) ^ last >> 10
+        words.append((words[-16] + low + words[-7] + high) & WORD)
+    a, b, c, d, e, f, g, h = INITIAL
+    for number, word in zip(ROUND, words):
+        first = h + (turned(e, 6) ^ turned(e, 11) ^ turned(e, 25)) + (e & f ^ ~e & g) + number + word
+        other = (turned(a, 2) ^ turned(a, 13) ^ turned(a, 22)) + (a & b ^ a & c ^ b & c)
+        a, b, c, d, e, f, g, h = (first + other) & WORD, a, b, c, (d + first) & WORD, e, f, g
+    state = [(left + right) & WORD for left, right in zip(INITIAL, (a, b, c, d, e, f, g, h))]
+    return b"".join(word.to_bytes(4, "big") for word in state)
+
+
+def rows_of(leaves):
+    """The rows of a tree, the leaves first and the root alone last. There are two to some power of leaves."""
+    rows = [list(leaves)]
+    while len(rows[-1]) > 1:
+        row = rows[-1]
+        rows.append([compressed(row[at] + row[at + 1]) for at in range(0, len(row), 2)])
+    return rows
+
+
+def path_of(rows, leaf):
+    """The nodes beside the path from a leaf to the root, the lowest first."""
+    return [row[(leaf >> level) ^ 1] for level, row in enumerate(rows[:-1])]
