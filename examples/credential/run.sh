@@ -117,7 +117,7 @@ call service trust inn issuer/public.pem root
 ask inn inn.example under.txt q16
 call wallet ann8 inn.example q16 a16
 check inn q16 a16
-tell the same person again, and somebody too young
+tell the same person again, whom nobody knows again, and somebody too young
 ask inn inn.example under.txt q17
 call wallet ann8 inn.example q17 a17
 check inn q17 a17
@@ -138,6 +138,10 @@ tell the path of another leaf
 mix ann8 record eve8 stray
 call wallet stray inn.example q19 a19
 call wallet stray inn.example q19 a19 anyway
-tell a service that asks for the digest of a record under a root
-ask spy spy.example policy.txt q20
+tell a service that asks for the digest of a record under a root, or for a pseudonym
+sed 's/^show under root 3$/show digest/' "$here/under.txt" > by-digest.txt
+call service request spy spy.example by-digest.txt q20 20081129 20261129
 call wallet ann8 spy.example q20 a20
+{ cat "$here/under.txt" && printf '%s\n' 'field secret bytes 16 at 15' 'show pseudonym of secret for SERVICE'; } > by-name.txt
+call service request spy spy.example by-name.txt q21 20081129 20261129
+call wallet ann8 spy.example q21 a21

@@ -108,7 +108,7 @@ def check(folder, issuer_key, nonce, answer):
         raise Refused("the proof does not hold for this session")
     if not rooted:
         remember(folder, "digests", shown.hex())
-    # Under a root the pseudonym alone tells whether a person was here.
+    # Under a root the pseudonym alone would tell whether a person was here.
     if pseudonym is not None:
         if pseudonym.hex() in seen(folder, "pseudonyms"):
             raise Refused("this person was here before")
