@@ -288,7 +288,7 @@ module _ (have : HaveFiles) (files : Files) (stop : Stop) where
       let satisfied = have.demo_inputs n some c is.version_is file.valid (is.publics ∙ demo_publics n) (is.privates ∙ demo_privates n) is.outputs in
       let made = have.gold_file c [] (demo_public gold.ops n) (demo_private gold.ops n) (words_of (seeded_word seed)) file.valid counts (λ i. mod-lt (seeded_word seed i) (pow_pos 128)) in
       let accepted = have.gold_accepted c [] (demo_public gold.ops n) (demo_private gold.ops n) (words_of (seeded_word seed)) made.0 file.valid counts satisfied made.1 in
-      (demo_end n c made.0, (c, made.0, record { compiled = compiled_of (demo_tree n) (Gold c) is; file = made.1; accepted = accepted }, refl))
+      (demo_end n c made.0, (c, made.0, record { compiled = is; file = made.1; accepted = accepted }, refl))
   some_demo n seed some (Gf c, bytes, is, file) = absurd (fields_apart is.field_is)
 
   some_shacircuit : (len : ℕ) (circuit : List ℕ) → len ≤ 55 → (end : End) × ShaCircuitRun len circuit files stop end
