@@ -13,10 +13,11 @@ ghost use Rattle.lzk_cmd_files.specs.Seen.{seen};
 ghost use Rattle.lzk_cmd_verify.specs.Verified.{gold_coding};
 ghost use Rattle.lzk_cmd_files.specs.Walks.{IsEnding, Moves, WalksToPut};
 
+use crate::circuits::read_shared;
 use crate::proving::{Task, prove_inputs};
 use lzk_circbytes::AnyCircuit;
 use lzk_circuit::Circuit;
-use lzk_cmd_files::{Ending, Halt, Means, lines, read_held};
+use lzk_cmd_files::{Ending, Halt, Means, lines};
 use lzk_cmd_words::{HashWords, message_bytes, seed_bytes, session_bytes, workers_of};
 use lzk_field::Gate;
 use lzk_goldilocks::Gold;
@@ -117,7 +118,8 @@ pub fn sha256<R: Threads + Sync, S: Shelf, G: Gate>(
 {
     let session = session_bytes(means.alloc, order.session)?;
     let message = message_bytes(means.alloc, order.message)?;
-    let held = read_held(means.alloc, shelf, order.circuit)?;
+    let workers = workers_of(order.workers);
+    let held = read_shared(means, workers, shelf, order.circuit)?;
     let digest = Sha256::digest(message.as_slice());
     let task = Task {
         id: held.id,
@@ -125,7 +127,7 @@ pub fn sha256<R: Threads + Sync, S: Shelf, G: Gate>(
         digest: Some(&digest),
         session: &session,
         seed: seed_bytes(order.seed),
-        workers: workers_of(order.workers),
+        workers,
     };
     hash_any(means, order.circuit, &held.circuit, &message, &task, shelf)
 }

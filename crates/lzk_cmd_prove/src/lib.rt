@@ -7,6 +7,7 @@
 //! ```
 #![tactic(auto)]
 
+mod circuits;
 mod demos;
 mod hashing;
 mod proving;

@@ -10,10 +10,11 @@ ghost use Rattle.lzk_cmd_files.specs.Seen.{seen};
 ghost use Rattle.lzk_cmd_words.specs.Digits.{session_of};
 ghost use Rattle.lzk_cmd_files.specs.Walks.{IsEnding, Moves, WalksToPut};
 
+use crate::circuits::read_shared;
 use lzk_afft::Transform;
 use lzk_circbytes::AnyCircuit;
 use lzk_circuit::Circuit;
-use lzk_cmd_files::{Ending, Halt, Means, lines, put_file, read_elements, read_held};
+use lzk_cmd_files::{Ending, Halt, Means, lines, put_file, read_elements};
 use lzk_cmd_words::{ProveWords, seed_bytes, session_bytes, workers_of};
 use lzk_complete::proof_laws;
 use lzk_field::{Field, Gate, Seeded};
@@ -181,14 +182,15 @@ pub fn prove<R: Threads + Sync, S: Shelf, G: Gate>(
     ensures moves { Moves (seen S.Shelf shelf.old) (seen S.Shelf shelf.new) }
 {
     let session = session_bytes(means.alloc, order.session)?;
-    let held = read_held(means.alloc, shelf, order.circuit)?;
+    let workers = workers_of(order.workers);
+    let held = read_shared(means, workers, shelf, order.circuit)?;
     let task = Task {
         id: held.id,
         proof: order.proof,
         digest: None,
         session: &session,
         seed: seed_bytes(order.seed),
-        workers: workers_of(order.workers),
+        workers,
     };
     prove_any(
         means,

@@ -21,7 +21,7 @@ pub returns-in_err-held-clause-walks : goal.returns-in_err-held-clause-walks
 unfolding HashRun
 returns-in_err-held-clause-walks g c =
     let order = c.args.order.now in
-    ends circuit_files (λ (held : Held). held.circuit) order.circuit.now 0 (next order.circuit.now (message_of order.message.now) order.proof.now (session_of (option_copied order.session)) (seed_of order.seed.now)) (Unit {0}) (seen g.S.Shelf c.args.shelf.now) (seen g.S.Shelf c.read_held.new.shelf) c.in_err-held.field-0.0 _
+    ends circuit_files (λ (held : Held). held.circuit) order.circuit.now 0 (next order.circuit.now (message_of order.message.now) order.proof.now (session_of (option_copied order.session)) (seed_of order.seed.now)) (Unit {0}) (seen g.S.Shelf c.args.shelf.now) (seen g.S.Shelf c.read_shared.new.shelf) c.in_err-held.field-0.0 _
     (laws.circuits.quiet order.circuit.now) c.in_err-held.ensures.reads c.in_err-held.ensures.gives c.from_residual-in_err-held.ensures.1
 
 pub returns-clause-walks : goal.returns-clause-walks
@@ -29,7 +29,7 @@ unfolding HashRun
 returns-clause-walks g c =
     let order = c.args.order.now in
     let name = order.circuit.now in
-    let mid = seen g.S.Shelf c.read_held.new.shelf in
+    let mid = seen g.S.Shelf c.read_shared.new.shelf in
     let end = seen g.S.Shelf c.hash_any.new.shelf in
     let held = c.in_ok-held.held in
     let session = session_of (option_copied order.session) in

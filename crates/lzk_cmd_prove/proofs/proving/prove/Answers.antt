@@ -21,14 +21,14 @@ pub returns-in_err-held-clause-walks : goal.returns-in_err-held-clause-walks
 unfolding ProveRun
 returns-in_err-held-clause-walks g c =
     let order = c.args.order.now in
-    ends circuit_files (λ (held : Held). held.circuit) order.circuit.now 0 (next order.public.now order.private.now order.proof.now (session_of (option_copied order.session)) (seed_of order.seed.now)) (Unit {0}) (seen g.S.Shelf c.args.shelf.now) (seen g.S.Shelf c.read_held.new.shelf) c.in_err-held.field-0.0 _
+    ends circuit_files (λ (held : Held). held.circuit) order.circuit.now 0 (next order.public.now order.private.now order.proof.now (session_of (option_copied order.session)) (seed_of order.seed.now)) (Unit {0}) (seen g.S.Shelf c.args.shelf.now) (seen g.S.Shelf c.read_shared.new.shelf) c.in_err-held.field-0.0 _
     (laws.circuits.quiet order.circuit.now) c.in_err-held.ensures.reads c.in_err-held.ensures.gives c.from_residual-in_err-held.ensures.1
 
 pub returns-clause-walks : goal.returns-clause-walks
 unfolding ProveRun
 returns-clause-walks g c =
     let order = c.args.order.now in
-    let mid = seen g.S.Shelf c.read_held.new.shelf in
+    let mid = seen g.S.Shelf c.read_shared.new.shelf in
     let end = seen g.S.Shelf c.prove_any.new.shelf in
     let session : c.deref.result.now ≡ session_of (option_copied order.session) = c.deref.ensures.value ∙ c.in_ok-session.ensures in
     let seed : c.seed_bytes.result ≡ seed_of order.seed.now = c.seed_bytes.ensures in
