@@ -2,6 +2,7 @@
 
 use lzk_circbytes::{AnyCircuit, ByteKind, DecodeError, decode, encode};
 use lzk_circuit::{Circuit, CircuitFault, CircuitKind, Layer, Term, Terms, Values};
+use lzk_expr::NumberKind;
 use lzk_field::Field;
 use lzk_goldilocks::Gold;
 use std::alloc::{AllocError, Global};
@@ -57,6 +58,13 @@ fn an_upgraded_circuit_has_its_file(rt: HostRuntime) -> Result<(), Fail> {
     }
     assert!(rt; again);
     Ok(())
+}
+
+#[test]
+fn rules_have_their_numbers(rt: HostRuntime) {
+    assert_eq!(rt; ByteKind::Truncated.number(), 1);
+    assert_eq!(rt; ByteKind::Assertion.number(), 10);
+    assert_eq!(rt; NumberKind::TooMany.number(), 4);
 }
 
 #[test]
