@@ -9,31 +9,17 @@
 //! ```
 #![tactic(auto)]
 
-ghost use Rattle.std.specs.Prelude.{◌≡◌, ◌≤◌, IfOk, IsErr};
+ghost use Rattle.std.specs.Prelude.{◌≤◌, IfOk};
 ghost use Rattle.std.specs.Process.{exit_status};
 
 use lzk_cmd::run;
 use lzk_field::Open;
-use lzk_outside::{DiskShelf, StdoutSink};
+use lzk_outside::{DiskShelf, StdoutSink, ended, words_after_name};
 use std::alloc::AllocError;
+use std::io;
 use std::marker::Sync;
 use std::process::ExitCode;
 use std::thread::Threads;
-use std::{env, io};
-
-// The words after the program's name.
-fn words(rt: &HostRuntime) -> io::Result<Vec<String>> {
-    let mut words = Vec::new(rt.alloc());
-    let mut first = true;
-    for word in env::args(rt)? {
-        if first {
-            first = false;
-        } else {
-            words.push(word)?;
-        }
-    }
-    Ok(words)
-}
 
 // The answer of `run` to these words.
 fn start<T: Threads + Sync>(
@@ -48,14 +34,6 @@ fn start<T: Threads + Sync>(
     Ok(run(threads, rt.alloc(), words, &mut shelf, &mut out, &Open))
 }
 
-// What a program ends with: the status that `run` answered, or 6 where there was no memory to call it.
-fn ended(answer: Result<u8, AllocError>) -> ExitCode
-    ensures answered { IfOk answer (λ status. exit_status result ≡ status) }
-    ensures memory { IsErr answer → exit_status result ≡ 6 }
-{
-    ExitCode::from(answer.unwrap_or(6))
-}
-
 /// Runs these words, and gives the status.
 pub fn run_words<T: Threads + Sync>(rt: &HostRuntime, threads: &T, words: &[String]) -> ExitCode
     ensures status { exit_status result ≤ 6 }
@@ -68,7 +46,7 @@ pub fn run_words<T: Threads + Sync>(rt: &HostRuntime, threads: &T, words: &[Stri
 pub fn run_program<T: Threads + Sync>(rt: &HostRuntime, threads: &T) -> ExitCode
     ensures status { exit_status result ≤ 6 }
 {
-    match words(rt) {
+    match words_after_name(rt) {
         Ok(words) => run_words(rt, threads, &words),
         Err(e) if e.kind() == io::ErrorKind::OutOfMemory => ended(Err(AllocError)),
         Err(_) => run_words(rt, threads, &[]),

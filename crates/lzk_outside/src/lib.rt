@@ -7,8 +7,8 @@
 //!
 //! `MemShelf` and `MemSink` keep all in memory, tell their contents, and fail at the calls that are
 //! numbered when they are made. `DiskShelf` and `StdoutSink` are files of the system and standard
-//! output, and tell nothing of contents. This layer is the project's own: no outside document
-//! describes it.
+//! output, and tell nothing of contents. `words_after_name` and `ended` are how a program begins and
+//! ends. This layer is the project's own: no outside document describes it.
 //!
 //! ```text
 //! let mut shelf = MemShelf::new(alloc, Vec::new(alloc), None);
@@ -22,6 +22,7 @@
 
 mod memory;
 mod outside;
+mod program;
 #[cfg(test)]
 mod puts_tests;
 mod putting;
@@ -31,4 +32,5 @@ mod tests;
 
 pub use memory::{MemShelf, MemSink};
 pub use outside::{PutFault, Shelf, ShelfFault, Sink, SinkFault};
+pub use program::{ended, words_after_name};
 pub use real::{DiskShelf, StdoutSink};

@@ -1,0 +1,34 @@
+//! How a program begins and ends: its words, and what it answers.
+
+ghost use Rattle.std.specs.Prelude.{◌≡◌, IfOk, IsErr};
+ghost use Rattle.std.specs.Process.{exit_status};
+
+use std::alloc::AllocError;
+use std::process::ExitCode;
+use std::{env, io};
+
+/// The words after the program's name.
+///
+/// # Errors
+///
+/// Of kind `OutOfMemory` where the memory for them is not given; of another kind where a word is no text.
+pub fn words_after_name(rt: &HostRuntime) -> io::Result<Vec<String>> {
+    let mut words = Vec::new(rt.alloc());
+    let mut first = true;
+    for word in env::args(rt)? {
+        if first {
+            first = false;
+        } else {
+            words.push(word)?;
+        }
+    }
+    Ok(words)
+}
+
+/// What a program ends with: the status that its run answered, or 6 where there was no memory to call it.
+pub fn ended(answer: Result<u8, AllocError>) -> ExitCode
+    ensures answered { IfOk answer (λ status. exit_status result ≡ status) }
+    ensures memory { IsErr answer → exit_status result ≡ 6 }
+{
+    ExitCode::from(answer.unwrap_or(6))
+}
