@@ -1,49 +1,28 @@
 //! The command `upgrade`.
 
 ghost use Rattle.std.specs.Prelude.{◌≡◌, length, IfOk, string_bytes};
-ghost use Rattle.lzk_circbytes.specs.Files.{CircuitBytes, IsFile};
-ghost use Rattle.lzk_circbytes.specs.Numbered.{shape};
+ghost use Rattle.lzk_circbytes.specs.Files.{CircuitBytes};
 ghost use Rattle.lzk_cmd_files.specs.Lines.{upgraded_line};
 ghost use Rattle.lzk_cmd_files.specs.Seen.{seen};
 ghost use Rattle.lzk_cmd_files.specs.Walks.{Moves, WalksToPut};
-ghost use Rattle.lzk_level.specs.Upgraded.{in_version_2, upgraded_any};
+ghost use Rattle.lzk_level.specs.Upgraded.{upgraded_any};
 ghost use Rattle.lzk_cmd_circuits.specs.Upgraded.{PutsUpgraded, UpgradeRun};
 
-use lzk_circbytes::{AnyCircuit, encode};
-use lzk_circuit::Circuit;
+use lzk_circbytes::AnyCircuit;
 use lzk_cmd_files::{Ending, Halt, Means, lines, put_file, read_circuit};
-use lzk_field::{Field, Gate};
+use lzk_field::Gate;
+use lzk_level::upgraded_file;
 use lzk_outside::Shelf;
 use std::alloc::{AllocError, Global};
 use std::marker::Sync;
 use std::thread::Threads;
-
-// The file of the circuit in version 2. It owns the circuit, so that no exit behind it drops one.
-fn bytes_over<F: Field>(alloc: Global, circuit: Circuit<F>) -> Result<Vec<u8>, AllocError>
-    ensures { IfOk result (λ bytes.
-        IsFile F.ops F.coding.number (shape F.coding.id F.coding.bytes F.coding.size) (in_version_2 circuit)
-        bytes.items) }
-{
-    let circuit = circuit.upgraded();
-    encode(alloc, &circuit)
-}
-
-// The same over either field.
-fn bytes_of(alloc: Global, circuit: AnyCircuit) -> Result<Vec<u8>, AllocError>
-    ensures { IfOk result (λ bytes. CircuitBytes (upgraded_any circuit) bytes.items) }
-{
-    match circuit {
-        AnyCircuit::Gold(c) => bytes_over(alloc, c),
-        AnyCircuit::Gf(c) => bytes_over(alloc, c),
-    }
-}
 
 // The file of the circuit in version 2, and the line that tells of it under this name.
 fn upgraded(alloc: Global, circuit: AnyCircuit, name: &str) -> Result<(Vec<u8>, String), AllocError>
     ensures file { IfOk result (λ made. CircuitBytes (upgraded_any circuit) made.0.items) }
     ensures text { IfOk result (λ made. string_bytes made.1 ≡ upgraded_line name.now (length made.0.items)) }
 {
-    let bytes = bytes_of(alloc, circuit)?;
+    let bytes = upgraded_file(alloc, circuit)?;
     let text = lines::tell_upgraded(alloc, name, bytes.len())?;
     Ok((bytes, text))
 }

@@ -35,6 +35,7 @@ mod rows;
 mod stack;
 mod sums;
 mod theorems;
+mod upgrading;
 
 pub use builder::Builder;
 pub use compiler::{compile, compile_owned};
@@ -42,3 +43,4 @@ pub use compiler_v2::{compile_owned_v2, compile_v2};
 pub use fault::{LevelError, LevelFault};
 pub use node::{Gate, Node, Parts};
 pub use theorems::compile_laws;
+pub use upgrading::upgraded_file;
