@@ -16,12 +16,6 @@ use Rattle.lzk_cmd_files.specs.Lines.{byte_line, byte_kind_name, text_line, numb
 abbrev pub circuit_limit : ℕ
 circuit_limit = 67108864
 
-abbrev pub text_limit : ℕ
-text_limit = 4194304
-
-abbrev pub proof_limit : ℕ
-proof_limit = 2097152
-
 -- circuit files, with the offset and the kind of a fault
 abbrev pub circuit_files : Format AnyCircuit (ℕ × ByteKind)
 circuit_files = record {
@@ -30,6 +24,9 @@ circuit_files = record {
   breaks = λ bytes fault. CircuitFaultAt bytes fault.0 fault.1;
   refused = λ name fault. says 3 (byte_line name fault.0 (byte_kind_name fault.1));
 }
+
+abbrev pub text_limit : ℕ
+text_limit = 4194304
 
 -- files of so many numbers of a field
 abbrev pub number_files : {A : Type 0} → ℕ → (A → ℕ) → ℕ → Format (List A) NumberFault
@@ -48,6 +45,9 @@ source_files = record {
   breaks = IsSourceFault;
   refused = λ name fault. says 3 (text_line name fault.line (source_kind_name fault.kind));
 }
+
+abbrev pub proof_limit : ℕ
+proof_limit = 2097152
 
 -- files of proofs, which are taken as they are: no contents are refused
 abbrev pub proof_files : Format (List ℕ) ⊥

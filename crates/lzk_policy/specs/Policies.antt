@@ -29,28 +29,11 @@ pub record Contents : Type 0 where
   pub fields : List RecordField
   pub shows : List Show
 
+-- ---- what may stand in a policy
+
 -- a record is one block of SHA-256
 abbrev pub most_bytes : ℕ
 most_bytes = 55
-
-abbrev pub most_fields : ℕ
-most_fields = 32
-
--- how many levels there are at most between a digest and a root
-abbrev pub most_levels : ℕ
-most_levels = 6
-
-abbrev pub most_shows : ℕ
-most_shows = 8
-
--- the bytes of a pseudonym's label, and those of a service's tag
-abbrev pub label_size : ℕ
-label_size = 4
-
-abbrev pub tag_size : ℕ
-tag_size = 16
-
--- ---- what may stand in a policy
 
 -- a date has four bytes, a text one to seven, other bytes one or more
 abbrev pub has_size : FieldKind → ℕ → Bool
@@ -81,6 +64,13 @@ is_bytes kinds.Text = false
 abbrev pub are_small : List ℕ → Bool
 are_small numbers = list_all (λ n. nat_lt n (2 ^ 56)) numbers
 
+-- the bytes of a pseudonym's label, and those of a service's tag
+abbrev pub label_size : ℕ
+label_size = 4
+
+abbrev pub tag_size : ℕ
+tag_size = 16
+
 -- A date is compared, a date or a text is told, a text is one of some of its size, and a pseudonym is made of bytes
 -- that are one block together with label and tag.
 abbrev pub suits : RecordField → Claim → Bool
@@ -98,6 +88,13 @@ IsField size f = IsTrue (has_size f.kind f.size) × IsTrue (lies_within size f)
 -- what is shown suits a field of the policy
 abbrev pub IsShowOf : List RecordField → Show → Type 0
 IsShowOf fields s = (f : RecordField) × (slice_get fields s.field ≡ Some f) × IsTrue (suits f s.claim)
+
+-- how many levels there are at most between a digest and a root
+abbrev pub most_levels : ℕ
+most_levels = 6
+
+abbrev pub most_shows : ℕ
+most_shows = 8
 
 -- what holds of each policy
 pub record IsPolicy (p : Contents) : Type 0 where
@@ -122,6 +119,9 @@ pub record Partial : Type 0 where
 
 abbrev pub nothing : Partial
 nothing = record { size = None; fields = []; digest = false; depth = 0; shows = [] }
+
+abbrev pub most_fields : ℕ
+most_fields = 32
 
 -- what holds of what the lines so far say
 pub record IsPartial (p : Partial) : Type 0 where
