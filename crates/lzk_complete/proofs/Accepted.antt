@@ -24,13 +24,17 @@ complete o e r vanish pass = λ c session public private word bytes valid counts
     let right = are_right o e c session public private word q r valid counts unchanged f.is vanish satisfied pass in
     let all : AllHold o e c session public bytes = record {
       proof = q;
-      format = f.written;
-      circuit_id = f.is.id;
-      path_count = path_count o e c private word b js q many drawn f.is.opened.nonces f.is.opened.columns f.is.opened.path;
-      root = root_found o e c private word b js q many drawn f.is.opened.nonces f.is.opened.columns f.is.opened.path f.is.root;
-      low_degree = right.low_degree answers.low_degree;
-      linear_sum = right.linear_sum q answers.linear;
-      linear = right.linear answers.linear;
-      quadratic = right.quadratic (record { head = answers.quad_head; tail = answers.quad_tail });
+      opens = record {
+        format = f.written;
+        circuit_id = f.is.id;
+        path_count = path_count o e c private word b js q many drawn f.is.opened.nonces f.is.opened.columns f.is.opened.path;
+        root = root_found o e c private word b js q many drawn f.is.opened.nonces f.is.opened.columns f.is.opened.path f.is.root;
+      };
+      sum = right.linear_sum q answers.linear;
+      columns = record {
+        low_degree = right.low_degree answers.low_degree;
+        linear = right.linear answers.linear;
+        quadratic = right.quadratic (record { head = answers.quad_head; tail = answers.quad_tail });
+      };
     } in
     (accepts_exactly o e c session public bytes).1 all

@@ -49,11 +49,15 @@ any_inputs {A} o e r pass = λ c session public private word bytes valid counts 
     let lengths : (i : ℕ) → i < p.nrow - 3 → length (lists (3 + i)) ≡ p.block = λ i h. let row = pass.combined c coefficient t.challenges (3 + i) in row.count in
     record {
       proof = q;
-      format = f.written;
-      circuit_id = f.is.id;
-      path_count = path_count o e c private word b t.columns q many drawn f.is.opened.nonces f.is.opened.columns f.is.opened.path;
-      root = root_found o e c private word b t.columns q many drawn f.is.opened.nonces f.is.opened.columns f.is.opened.path f.is.root;
-      low_degree = pass.low_degree p rows q t.columns t.challenges.u b are opened f.is.answers.low_degree;
-      linear = pass.linear p rows q t.columns lists b are opened lengths f.is.answers.linear;
-      quadratic = pass.quadratic p rows q t.columns t.challenges.v b are opened zeros (record { head = f.is.answers.quad_head; tail = f.is.answers.quad_tail });
+      opens = record {
+        format = f.written;
+        circuit_id = f.is.id;
+        path_count = path_count o e c private word b t.columns q many drawn f.is.opened.nonces f.is.opened.columns f.is.opened.path;
+        root = root_found o e c private word b t.columns q many drawn f.is.opened.nonces f.is.opened.columns f.is.opened.path f.is.root;
+      };
+      columns = record {
+        low_degree = pass.low_degree p rows q t.columns t.challenges.u b are opened f.is.answers.low_degree;
+        linear = pass.linear p rows q t.columns lists b are opened lengths f.is.answers.linear;
+        quadratic = pass.quadratic p rows q t.columns t.challenges.v b are opened zeros (record { head = f.is.answers.quad_head; tail = f.is.answers.quad_tail });
+      };
     }

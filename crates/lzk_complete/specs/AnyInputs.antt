@@ -5,27 +5,15 @@ use Rattle.lzk_field.specs.Coding.{Coding}
 use Rattle.lzk_field.specs.Ring.{Ops}
 use Rattle.lzk_circuit.specs.Valid.{Wiring, IsValid}
 use Rattle.lzk_layout.specs.declared.proof.Proof.{Proof}
-use Rattle.lzk_layout.specs.Proofs.{ProofBytes}
-use Rattle.lzk_layout.specs.Sizes.{params_of}
-use Rattle.lzk_accept.specs.Checks.{AtEach}
 use Rattle.lzk_complete.specs.Proving.{HaveCounts, IsProofFile}
-use Rattle.lzk_verify.specs.Checks.{HasCircuitId, HasPathCount, HasRoot}
-use Rattle.lzk_verify.specs.Verdict.{LowDegreeAt, LinearAt, QuadraticAt, given}
+use Rattle.lzk_verify.specs.Verdict.{OpensFile, PassesColumns}
 
 -- all conditions hold but that the linear answer's values have the wanted sum
 pub record AllButSum {A : Type 0} (o : Ops A) (e : Coding A) (c : Wiring A) (session : List ℕ) (public : List A)
     (bytes : List ℕ) : Type 0 where
   pub proof : Proof A
-  pub format : ProofBytes e.bytes e.number (params_of c) proof bytes
-  pub circuit_id : HasCircuitId e c proof
-  pub path_count : HasPathCount (params_of c) proof (given o e c session public proof).columns
-  pub root : HasRoot o e (params_of c) proof (given o e c session public proof).columns
-  pub low_degree : AtEach (given o e c session public proof).columns
-      (LowDegreeAt o e c (params_of c) public proof (given o e c session public proof))
-  pub linear : AtEach (given o e c session public proof).columns
-      (LinearAt o e c (params_of c) public proof (given o e c session public proof))
-  pub quadratic : AtEach (given o e c session public proof).columns
-      (QuadraticAt o e c (params_of c) public proof (given o e c session public proof))
+  pub opens : OpensFile o e c session public bytes proof
+  pub columns : PassesColumns o e c session public proof
 
 -- The file of the proof of any inputs meets them.
 abbrev pub AnyInputs : {A : Type 0} → Ops A → Coding A → Type 0

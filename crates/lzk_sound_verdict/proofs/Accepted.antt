@@ -30,36 +30,28 @@ module _ {A : Type 0} (o : Ops A) (e : Coding A) (c : Wiring A) (session : List 
       let drawn = are_drawn all.proof in
       record {
         proof = all.proof;
-        read = all.format;
-        id = all.circuit_id;
-        path = all.path_count;
-        root = all.root;
+        opens = all.opens;
         columns = drawn;
         passes = record {
-          messages = all.format.lengths.messages;
-          ldt = all.format.lengths.ldt;
-          dot = all.format.lengths.dot;
-          quad_head = all.format.lengths.quad_head;
-          quad_tail = all.format.lengths.quad_tail;
-          opened = all.format.lengths.columns ∙ ap (λ (k : ℕ). k * (params_of c).nrow) (sym drawn.count);
-          low_degree = all.low_degree;
-          linear_sum = all.linear_sum;
-          linear = all.linear;
-          quadratic = all.quadratic;
+          messages = all.opens.format.lengths.messages;
+          ldt = all.opens.format.lengths.ldt;
+          dot = all.opens.format.lengths.dot;
+          quad_head = all.opens.format.lengths.quad_head;
+          quad_tail = all.opens.format.lengths.quad_tail;
+          opened = all.opens.format.lengths.columns ∙ ap (λ (k : ℕ). k * (params_of c).nrow) (sym drawn.count);
+          low_degree = all.columns.low_degree;
+          linear_sum = all.sum;
+          linear = all.columns.linear;
+          quadratic = all.columns.quadratic;
         };
       }
 
   holding : (bytes : List ℕ) → PassesByTape o e c session public bytes → AllHold o e c session public bytes
   holding bytes is = record {
     proof = is.proof;
-    format = is.read;
-    circuit_id = is.id;
-    path_count = is.path;
-    root = is.root;
-    low_degree = is.passes.low_degree;
-    linear_sum = is.passes.linear_sum;
-    linear = is.passes.linear;
-    quadratic = is.passes.quadratic;
+    opens = is.opens;
+    sum = is.passes.linear_sum;
+    columns = record { low_degree = is.passes.low_degree; linear = is.passes.linear; quadratic = is.passes.quadratic };
   }
 
 pub accepted_passes : {A : Type 0} (o : Ops A) (e : Coding A) → AcceptedPasses o e

@@ -4,12 +4,10 @@ use Rattle.lzk_field.specs.Coding.{Coding}
 use Rattle.lzk_field.specs.Ring.{Ops}
 use Rattle.lzk_circuit.specs.Valid.{Wiring, IsValid}
 use Rattle.lzk_layout.specs.declared.proof.Proof.{Proof}
-use Rattle.lzk_layout.specs.Proofs.{ProofBytes}
 use Rattle.lzk_layout.specs.Sizes.{params_of}
 use Rattle.lzk_accept.specs.Challenges.{Transcript}
 use Rattle.lzk_verify.specs.declared.verdict.Verdict.TheVariants.{Accepted}
-use Rattle.lzk_verify.specs.Checks.{HasCircuitId, HasPathCount, HasRoot}
-use Rattle.lzk_verify.specs.Verdict.{IsVerdict, given}
+use Rattle.lzk_verify.specs.Verdict.{IsVerdict, OpensFile, given}
 use Rattle.lzk_sound.specs.Passing.{Passes}
 
 module _ {A : Type 0} (o : Ops A) (e : Coding A) (c : Wiring A) (session : List ℕ) (public : List A)
@@ -30,10 +28,7 @@ module _ {A : Type 0} (o : Ops A) (e : Coding A) (c : Wiring A) (session : List 
 pub record PassesByTape {A : Type 0} (o : Ops A) (e : Coding A) (c : Wiring A) (session : List ℕ) (public : List A)
     (bytes : List ℕ) : Type 0 where
   pub proof : Proof A
-  pub read : ProofBytes e.bytes e.number (params_of c) proof bytes
-  pub id : HasCircuitId e c proof
-  pub path : HasPathCount (params_of c) proof (given o e c session public proof).columns
-  pub root : HasRoot o e (params_of c) proof (given o e c session public proof).columns
+  pub opens : OpensFile o e c session public bytes proof
   pub columns : AreDrawn o e c session public proof
   pub passes : Passes o e c public (given o e c session public proof).script
       (given o e c session public proof).challenges

@@ -22,8 +22,8 @@ module _ {A : Type 0} (o : Ops A) (e : Coding A) (c : Wiring A) (session : List 
   unfolding IsVerdict IsJudged
   all_accepted a = inr (record {
     proof = a.proof;
-    read = a.format;
-    judged = inr (a.circuit_id, inr (a.path_count, inr (a.root, inr (a.low_degree, inr (a.linear_sum, inr (a.linear, inr (a.quadratic, refl)))))));
+    read = a.opens.format;
+    judged = inr (a.opens.circuit_id, inr (a.opens.path_count, inr (a.opens.root, inr (a.columns.low_degree, inr (a.sum, inr (a.columns.linear, inr (a.columns.quadratic, refl)))))));
   })
 
   accepted_all : IsVerdict o e c session public bytes Accepted → AllHold o e c session public bytes
@@ -39,14 +39,9 @@ module _ {A : Type 0} (o : Ops A) (e : Coding A) (c : Wiring A) (session : List 
       let r8 = holds_at _ _ _ _ (λ i h. cc) r7.1 in
       record {
         proof = p.proof;
-        format = p.read;
-        circuit_id = r2.0;
-        path_count = r3.0;
-        root = r4.0;
-        low_degree = r5.0;
-        linear_sum = r6.0;
-        linear = r7.0;
-        quadratic = r8.0;
+        opens = record { format = p.read; circuit_id = r2.0; path_count = r3.0; root = r4.0 };
+        sum = r6.0;
+        columns = record { low_degree = r5.0; linear = r7.0; quadratic = r8.0 };
       }
 
   pub accepts_exactly : AcceptsExactly o e c session public bytes

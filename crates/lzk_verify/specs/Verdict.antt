@@ -91,22 +91,32 @@ pub record HasProof {A : Type 0} (o : Ops A) (e : Coding A) (c : Wiring A) (sess
 unfoldable pub IsVerdict : {A : Type 0} → Ops A → Coding A → Wiring A → List ℕ → List A → List ℕ → Verdict A → Type 0
 IsVerdict o e c session public bytes v = HasFault e c bytes v ⊎ HasProof o e c session public bytes v
 
--- All checks hold: what acceptance means.
-pub record AllHold {A : Type 0} (o : Ops A) (e : Coding A) (c : Wiring A) (session : List ℕ) (public : List A)
-    (bytes : List ℕ) : Type 0 where
-  pub proof : Proof A
+-- the bytes are the file of this proof, over this circuit, with the digests and the root that its opened columns give
+pub record OpensFile {A : Type 0} (o : Ops A) (e : Coding A) (c : Wiring A) (session : List ℕ) (public : List A)
+    (bytes : List ℕ) (proof : Proof A) : Type 0 where
   pub format : ProofBytes e.bytes e.number (params_of c) proof bytes
   pub circuit_id : HasCircuitId e c proof
   pub path_count : HasPathCount (params_of c) proof (given o e c session public proof).columns
   pub root : HasRoot o e (params_of c) proof (given o e c session public proof).columns
+
+-- at each opened column the three answers are what the rows give
+pub record PassesColumns {A : Type 0} (o : Ops A) (e : Coding A) (c : Wiring A) (session : List ℕ) (public : List A)
+    (proof : Proof A) : Type 0 where
   pub low_degree : AtEach (given o e c session public proof).columns
       (LowDegreeAt o e c (params_of c) public proof (given o e c session public proof))
-  pub linear_sum : HasLinearSum o (params_of c) proof
-      (wanted_sum o e c (params_of c) public proof (given o e c session public proof))
   pub linear : AtEach (given o e c session public proof).columns
       (LinearAt o e c (params_of c) public proof (given o e c session public proof))
   pub quadratic : AtEach (given o e c session public proof).columns
       (QuadraticAt o e c (params_of c) public proof (given o e c session public proof))
+
+-- All checks hold: what acceptance means.
+pub record AllHold {A : Type 0} (o : Ops A) (e : Coding A) (c : Wiring A) (session : List ℕ) (public : List A)
+    (bytes : List ℕ) : Type 0 where
+  pub proof : Proof A
+  pub opens : OpensFile o e c session public bytes proof
+  pub sum : HasLinearSum o (params_of c) proof
+      (wanted_sum o e c (params_of c) public proof (given o e c session public proof))
+  pub columns : PassesColumns o e c session public proof
 
 -- this verdict alone is that on the bytes
 abbrev pub IsOnlyVerdict : {A : Type 0} → Ops A → Coding A → Wiring A → List ℕ → List A → List ℕ → Verdict A → Type 0
