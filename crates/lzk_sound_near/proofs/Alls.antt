@@ -159,8 +159,8 @@ module _ {A : Type 0} (o : Ops A) (r : RingLaws o) (f : FieldLaws o) (same : (x 
             absurd (omega (arith, h, left, up, add-mul a 1 T, some_lists))
 
 pub combinations_rare : {A : Type 0} (o : Ops A) → RingLaws o → FieldLaws o → ((x y : A) → Dec (x ≡ y)) → CombinationsAreRare o
-combinations_rare o r f same at n end e m constant rows wins ds apart small far only distinct every many =
-    all_rare o r f same ds distinct every at n end e apart small m constant rows wins only far many
+combinations_rare o r f same at n end e m constant rows wins ds test distinct every many =
+    all_rare o r f same ds distinct every at n end e test.apart test.few m constant rows wins test.only test.far many
 
 -- whether two elements are the same
 pub same_elements : {A : Type 0} {o : Ops A} {size : ℕ} {number_of : A → ℕ} {element : ℕ → A} {bytes : ℕ} → NumberLaws o size number_of element bytes → (x y : A) → Dec (x ≡ y)

@@ -92,4 +92,4 @@ module _ {A : Type 0} (o : Ops A) (r : RingLaws o) (f : FieldLaws o) (at : ℕ �
       omega (arith, all, right, left)
 
 pub mixes_rare : {A : Type 0} (o : Ops A) → RingLaws o → FieldLaws o → MixesAreRare o
-mixes_rare o r f = λ at n end e m constant rows wins ds apart small far only distinct. rare o r f at n end e apart small ds distinct m constant rows wins far (λ ws is won never. never (only ws is won))
+mixes_rare o r f = λ at n end e m constant rows wins ds test distinct. rare o r f at n end e test.apart test.few ds distinct m constant rows wins test.far (λ ws is won never. never (test.only ws is won))

@@ -32,16 +32,21 @@ FarUnlessBad {A} o =
     → AreClose o at n end e 1 (λ i. mixed o constant rows weight m) → ⊥
 
 -- The words stand before the weights are drawn, and are not close together. The test says yes only to weights by
--- which the combination is close. Of all lists of m weights from a list without repetition, its share is at most m
--- times e + 1 over the list's length.
+-- which the combination is close.
+pub record IsFarTest {A : Type 0} (o : Ops A) (at : ℕ → A) (n end e m : ℕ) (constant : ℕ → A) (rows : ℕ → ℕ → A)
+    (wins : List A → Bool) : Type 0 where
+  pub apart : AreApart at end
+  pub few : 3 * e + n ≤ end
+  pub far : AreClose o at n end e (m + 1) (headed constant rows) → ⊥
+  pub only : (ws : List A) → length ws ≡ m → wins ws ≡ true
+      → AreClose o at n end e 1 (λ i. mixed o constant rows (entry o ws) m)
+
+-- Of all lists of m weights from a list without repetition, the share of such a test is at most m times e + 1 over the
+-- list's length.
 abbrev pub MixesAreRare : {A : Type 0} → Ops A → Type 0
 MixesAreRare {A} o =
     (at : ℕ → A) (n end e m : ℕ) (constant : ℕ → A) (rows : ℕ → ℕ → A) (wins : List A → Bool) (ds : List A)
-    → AreApart at end → 3 * e + n ≤ end
-    → (AreClose o at n end e (m + 1) (headed constant rows) → ⊥)
-    → ((ws : List A) → length ws ≡ m → wins ws ≡ true
-    → AreClose o at n end e 1 (λ i. mixed o constant rows (entry o ws) m))
-    → AreDistinct ds
+    → IsFarTest o at n end e m constant rows wins → AreDistinct ds
     → count wins (draws_from ds m) * length ds ≤ m * (e + 1) * length ds ^ m
 
 -- The same for weights from a list of all elements, of which there are more than m times e + 1: the share is at most
@@ -50,11 +55,7 @@ MixesAreRare {A} o =
 abbrev pub CombinationsAreRare : {A : Type 0} → Ops A → Type 0
 CombinationsAreRare {A} o =
     (at : ℕ → A) (n end e m : ℕ) (constant : ℕ → A) (rows : ℕ → ℕ → A) (wins : List A → Bool) (ds : List A)
-    → AreApart at end → 3 * e + n ≤ end
-    → (AreClose o at n end e (m + 1) (headed constant rows) → ⊥)
-    → ((ws : List A) → length ws ≡ m → wins ws ≡ true
-    → AreClose o at n end e 1 (λ i. mixed o constant rows (entry o ws) m))
-    → AreDistinct ds → HasAll ds → m * (e + 1) < length ds
+    → IsFarTest o at n end e m constant rows wins → AreDistinct ds → HasAll ds → m * (e + 1) < length ds
     → count wins (draws_from ds m) * length ds ≤ (e + 2) * length ds ^ m
 
 -- A word that is not close to a codeword has the values of a given polynomial at fewer than all but e of the columns.
