@@ -31,17 +31,23 @@ rest_of_claim (claims.AtLeast value) = 0
 rest_of_claim (claims.Equal value) = 0
 rest_of_claim (claims.OneOf texts) = 0
 
+-- a count that goes with what is shown of a field, and of all that is shown
+abbrev pub count_of : (RecordField → Claim → ℕ) → Option RecordField → Claim → ℕ
+count_of each None claim = 0
+count_of each (Some f) claim = each f claim
+
+abbrev pub total_of : (RecordField → Claim → ℕ) → List RecordField → List Show → ℕ
+total_of each fields [] = 0
+total_of each fields (s ∷ ss) = count_of each (slice_get fields s.field) s.claim + total_of each fields ss
+
 abbrev pub own_of : Option RecordField → Claim → ℕ
-own_of None claim = 0
-own_of (Some f) claim = own_of_claim f claim
+own_of = count_of own_of_claim
 
 abbrev pub own_count : List RecordField → Show → ℕ
 own_count fields s = own_of (slice_get fields s.field) s.claim
 
--- the same of all that is shown
 abbrev pub owns_of : List RecordField → List Show → ℕ
-owns_of fields [] = 0
-owns_of fields (s ∷ ss) = own_count fields s + owns_of fields ss
+owns_of = total_of own_of_claim
 
 abbrev pub rests_of : List Show → ℕ
 rests_of [] = 0
@@ -76,12 +82,7 @@ asserts_of_claim f (claims.OneOf texts) = 1
 asserts_of_claim f (claims.Pseudonym value) = 8 + f.size
 
 abbrev pub asserts_of_field : Option RecordField → Claim → ℕ
-asserts_of_field None claim = 0
-asserts_of_field (Some f) claim = asserts_of_claim f claim
-
-abbrev pub assert_count : List RecordField → Show → ℕ
-assert_count fields s = asserts_of_field (slice_get fields s.field) s.claim
+asserts_of_field = count_of asserts_of_claim
 
 abbrev pub asserts_of : List RecordField → List Show → ℕ
-asserts_of fields [] = 0
-asserts_of fields (s ∷ ss) = assert_count fields s + asserts_of fields ss
+asserts_of = total_of asserts_of_claim

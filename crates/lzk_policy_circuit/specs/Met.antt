@@ -11,6 +11,8 @@ use Rattle.lzk_policy.specs.declared.policy.Claim.{Claim}
 use Rattle.lzk_policy.specs.declared.policy.Claim.TheVariants as claims
 use Rattle.lzk_policy.specs.declared.policy.Show.{Show}
 use Rattle.lzk_policy.specs.Policies.{Contents}
+use Rattle.lzk_policy_circuit.specs.declared.claims.Side.{Side}
+use Rattle.lzk_policy_circuit.specs.declared.claims.Side.TheVariants as sides
 use Rattle.lzk_policy_circuit.specs.Meaning.{label, value_count}
 use Rattle.lzk_policy_circuit.specs.Layout.{hash_rest, message_size, own_count, rest_of_claim, stated_count}
 
@@ -58,6 +60,11 @@ pub record IsComposed (bits : List Gold) (f : RecordField) (values own : List Go
 pub record IsOrdered (less : Gold) (value : Gold) (own : List Gold) : Type 0 where
   pub difference_is : Spells less.n (take 32 own)
   pub value_is : Spells value.n (take 32 (drop 32 own))
+
+-- by how much the greater of a number and a public number passes the other
+abbrev pub gap_of : Side → Gold → Gold → Gold
+gap_of sides.AtMost number value = difference value number
+gap_of sides.AtLeast number value = difference number value
 
 abbrev pub field_worth : List Gold → RecordField → Gold
 field_worth bits f = number_worth bits (8 * f.place) f.size

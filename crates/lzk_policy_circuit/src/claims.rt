@@ -1,17 +1,19 @@
 //! What a statement asserts of the bits of a record and of a pseudonym's message.
 
-ghost use Rattle.std.specs.Prelude.{◌≡◌, ◌+◌, ◌*◌, ◌≤◌, ◌<◌, drop, length, IfOk};
+ghost use Rattle.std.specs.Prelude.{◌≡◌, ◌+◌, ◌*◌, ◌≤◌, ◌<◌, List, drop, length, IfOk};
 ghost use Rattle.lzk_field.specs.Sums.{entry};
 ghost use Rattle.lzk_goldilocks.specs.Elements.{ops, of_number};
 ghost use Rattle.lzk_goldilocks.specs.declared.element.Gold.{Gold};
-ghost use Rattle.lzk_gadgets.specs.Claims.{Adds};
-ghost use Rattle.lzk_gadgets.specs.Inverses.{difference, IsAmong};
-ghost use Rattle.lzk_policy_circuit.specs.Met.{byte_worth, number_worth, AreSameBytes, IsLabelled, IsTagged, IsOrdered};
+ghost use Rattle.lzk_gadgets.specs.Claims.{Adds, AreInputs, Makes, value};
+ghost use Rattle.lzk_gadgets.specs.Inverses.{IsAmong};
+ghost use Rattle.lzk_level.specs.Nodes.{IsNode, node_count};
+ghost use Rattle.lzk_policy_circuit.specs.Met.{byte_worth, gap_of, number_worth, AreSameBytes, IsLabelled, IsTagged, IsOrdered};
 
 use crate::numbers::{assert_word, byte, number};
 use lzk_field::Field;
 use lzk_gadgets::Statement;
 use lzk_goldilocks::Gold;
+use lzk_level::Node;
 use std::alloc::{AllocError, Global};
 
 /// Claims that the number of some bytes is a public input.
@@ -27,39 +29,37 @@ pub fn assert_number(s: &mut Statement, at: u32, size: u32, i: u32) -> Result<()
     Ok(())
 }
 
-/// Claims that the number of some bytes is at most a public input: by the bits of the difference, and those of the
-/// public input.
-pub fn assert_at_most(
-    alloc: Global,
-    s: &mut Statement,
-    at: u32,
-    size: u32,
-    i: u32,
-    own: u32,
-) -> Result<(), AllocError>
-    requires there { at + 8 * size ≤ s.old.nodes.privates }
-    requires bits { own + 64 ≤ s.old.nodes.privates }
-    requires value { i < s.old.nodes.publics }
-    ensures { IfOk result (λ _. Adds ops (198 + 10 * size) 66 s.old s.new
-        (λ public private. IsOrdered (difference (entry ops public i) (number_worth private at size))
-        (entry ops public i) (drop own private))) }
-{
-    s.room_laws();
-    let x = number(s, at, size)?;
-    let value = s.public(i);
-    let above = s.difference(value, x)?;
-    assert_word(alloc, s, above, own)?;
-    let value = s.public(i);
-    assert_word(alloc, s, value, own + 32)?;
-    Ok(())
+/// On which side of a public input a number is.
+#[derive(Clone, Copy)]
+pub enum Side {
+    /// It is at most the public input.
+    AtMost,
+    /// It is at least the public input.
+    AtLeast,
 }
 
-/// Claims that the number of some bytes is at least a public input, in the same way.
-pub fn assert_at_least(
+// By how much the greater of the two passes the other.
+fn gap(s: &mut Statement, x: Node, side: Side, y: Node) -> Result<Node, AllocError>
+    requires nodes { IsNode (node_count s.old.nodes) x × IsNode (node_count s.old.nodes) y }
+    ensures makes { IfOk result (λ node. Makes ops 1 s.old s.new node) }
+    ensures value { (public private : List Gold) → AreInputs s.old public private →
+        IfOk result (λ node. value ops s.new public private node ≡
+        gap_of side (value ops s.old public private x) (value ops s.old public private y)) }
+{
+    match side {
+        Side::AtMost => s.difference(y, x),
+        Side::AtLeast => s.difference(x, y),
+    }
+}
+
+/// Claims that the number of some bytes is on this side of a public input: by the bits of the difference, and those of
+/// the public input.
+pub fn assert_side(
     alloc: Global,
     s: &mut Statement,
     at: u32,
     size: u32,
+    side: Side,
     i: u32,
     own: u32,
 ) -> Result<(), AllocError>
@@ -67,13 +67,13 @@ pub fn assert_at_least(
     requires bits { own + 64 ≤ s.old.nodes.privates }
     requires value { i < s.old.nodes.publics }
     ensures { IfOk result (λ _. Adds ops (198 + 10 * size) 66 s.old s.new
-        (λ public private. IsOrdered (difference (number_worth private at size) (entry ops public i))
+        (λ public private. IsOrdered (gap_of side (number_worth private at size) (entry ops public i))
         (entry ops public i) (drop own private))) }
 {
     s.room_laws();
     let x = number(s, at, size)?;
     let value = s.public(i);
-    let above = s.difference(x, value)?;
+    let above = gap(s, x, side, value)?;
     assert_word(alloc, s, above, own)?;
     let value = s.public(i);
     assert_word(alloc, s, value, own + 32)?;

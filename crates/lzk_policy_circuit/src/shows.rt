@@ -11,8 +11,7 @@ ghost use Rattle.lzk_policy_circuit.specs.Meaning as meaning;
 ghost use Rattle.lzk_policy_circuit.specs.Met.{IsComposed, IsStated, AreStated};
 
 use crate::claims::{
-    assert_at_least, assert_at_most, assert_label, assert_number, assert_same, assert_tag,
-    assert_text,
+    Side, assert_label, assert_number, assert_same, assert_side, assert_tag, assert_text,
 };
 use crate::counts::{field_of, own_of_claim, value_count};
 use lzk_field::Field;
@@ -71,8 +70,8 @@ fn assert_claim(
         (λ public private. IsStated private field.now claim.now (drop i public) (drop own private))) }
 {
     match claim {
-        Claim::AtMost(_) => assert_at_most(alloc, s, 8 * field.place, field.size, i, own),
-        Claim::AtLeast(_) => assert_at_least(alloc, s, 8 * field.place, field.size, i, own),
+        Claim::AtMost(_) => assert_side(alloc, s, 8 * field.place, field.size, Side::AtMost, i, own),
+        Claim::AtLeast(_) => assert_side(alloc, s, 8 * field.place, field.size, Side::AtLeast, i, own),
         Claim::Equal(_) => assert_number(s, 8 * field.place, field.size, i),
         Claim::OneOf(texts) => {
             let choices = elements_of(alloc, texts)?;

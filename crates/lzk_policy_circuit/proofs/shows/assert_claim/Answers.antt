@@ -6,14 +6,14 @@ use Rattle.lzk_policy_circuit.proofs.shows.assert_claim.Goals as goal
 pub returns-in-AtMost : goal.returns-in-AtMost
 returns-in-AtMost c =
     let small : c.args.field.now.size ≤ 55 = omega arith in
-    ok_map c.assert_at_most.result _ _ c.assert_at_most.ensures (λ x d.
-    claim_most c.args.field.now c.args.claim.now c.args.s.now c.assert_at_most.new.s c.args.i c.args.own small c.in-AtMost.field-0 c.in-AtMost.is d)
+    ok_map c.assert_side.result _ _ c.assert_side.ensures (λ x d.
+    claim_most c.args.field.now c.args.claim.now c.args.s.now c.assert_side.new.s c.args.i c.args.own small c.in-AtMost.field-0 c.in-AtMost.is d)
 
 pub returns-in-AtLeast : goal.returns-in-AtLeast
 returns-in-AtLeast c =
     let small : c.args.field.now.size ≤ 55 = omega arith in
-    ok_map c.assert_at_least.result _ _ c.assert_at_least.ensures (λ x d.
-    claim_least c.args.field.now c.args.claim.now c.args.s.now c.assert_at_least.new.s c.args.i c.args.own small c.in-AtLeast.field-0 c.in-AtLeast.is d)
+    ok_map c.assert_side-2.result _ _ c.assert_side-2.ensures (λ x d.
+    claim_least c.args.field.now c.args.claim.now c.args.s.now c.assert_side-2.new.s c.args.i c.args.own small c.in-AtLeast.field-0 c.in-AtLeast.is d)
 
 pub returns-in-Equal : goal.returns-in-Equal
 returns-in-Equal c =
