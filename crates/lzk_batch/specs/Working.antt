@@ -6,11 +6,13 @@ use Rattle.lzk_batch.specs.declared.job.Judged.{Judged}
 use Rattle.lzk_batch.specs.Passes.{TicketsState, PassState, IsOf, IsOpen}
 use Rattle.lzk_batch.specs.Batch.{IsJobFit, IsJudged, numbers_of, HasDrawnMore, AllZip₃}
 
--- passes may be lent for these jobs
-pub record AreReady (batch : List AnyCircuit) (list : List Job) (tickets : TicketsState)
-    (passes : List PassState) : Type 0 where
-  pub fit : All (IsJobFit batch) list
-  pub dealt : tickets.jobs ≡ length list
+-- a pass may be lent: it is of these tickets, and has not drawn past their jobs
+pub record IsReady (tickets : TicketsState) (pass : PassState) : Type 0 where
+  pub of : IsOf tickets pass
+  pub still : IsOpen tickets pass
+
+-- so may these passes
+pub record AreReady (tickets : TicketsState) (passes : List PassState) : Type 0 where
   pub of : All (IsOf tickets) passes
   pub still : All (IsOpen tickets) passes
 

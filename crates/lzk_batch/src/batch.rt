@@ -7,7 +7,7 @@ ghost use Rattle.lzk_circbytes.specs.Files.{id_of_any};
 ghost use Rattle.lzk_batch.specs.Tickets.{most_jobs, most_workers};
 ghost use Rattle.lzk_batch.specs.Passes.{IsOf, IsOpen, AreAll};
 ghost use Rattle.lzk_batch.specs.Batch.{IsJobFit, IsJudged, HaveVerdicts, DrawsOn, AreJobsDrawn, HasDrawnOneLate, AllZip₃};
-ghost use Rattle.lzk_batch.specs.Working.{AreReady, HasWorked, HaveWorked};
+ghost use Rattle.lzk_batch.specs.Working.{AreReady, HasWorked, HaveWorked, IsReady};
 
 use crate::desks::Desks;
 use crate::job::{AnyVerdict, Job, Judged};
@@ -18,24 +18,34 @@ use lzk_field::Gate;
 use std::alloc::{AllocError, Global};
 use std::thread::{Threads, join_mut};
 
+// What all workers see: the circuits with their ids, jobs that fit them, and tickets for as many.
+#[derive(Drop)]
+struct Batch<'a> {
+    circuits: &'a [AnyCircuit],
+    ids: &'a [[u8; 32]],
+    jobs: &'a [Job],
+    tickets: &'a Tickets,
+    ghost of_circuits: { ids.now ≡ map id_of_any circuits.now },
+    ghost fit: { All (IsJobFit circuits.now) jobs.now },
+    ghost dealt: { tickets.now.jobs ≡ length jobs.now },
+}
+
 // Verifies the jobs whose numbers are drawn, until none is.
 fn work(
     alloc: Global,
+    batch: &Batch<'_>,
     desks: &mut Desks<'_>,
-    jobs: &[Job],
-    tickets: &Tickets,
     pass: &mut Pass,
 ) -> Result<Vec<Judged>, AllocError>
-    requires fit { All (IsJobFit desks.old) jobs.now }
-    requires dealt { tickets.now.jobs ≡ length jobs.now }
-    requires of { IsOf tickets.now pass.old }
-    requires open { IsOpen tickets.now pass.old }
-    ensures worked { IfOk result (λ judged. HasWorked desks.old jobs.now pass.old pass.new judged.items) }
+    requires desks { desks.old ≡ batch.now.circuits.now }
+    requires ready { IsReady batch.now.tickets.now pass.old }
+    ensures worked { IfOk result
+        (λ judged. HasWorked batch.now.circuits.now batch.now.jobs.now pass.old pass.new judged.items) }
     ensures draws { DrawsOn pass.old pass.new }
 {
     let mut judged = Vec::new(alloc);
-    while let Some(number) = tickets.draw(pass) {
-        let verdict = desks.judge(alloc, &jobs[number as usize])?;
+    while let Some(number) = batch.tickets.draw(pass) {
+        let verdict = desks.judge(alloc, &batch.jobs[number as usize])?;
         judged.push(Judged {
             job: number,
             verdict,
@@ -44,28 +54,15 @@ fn work(
     Ok(judged)
 }
 
-// What all workers see.
-#[derive(Drop)]
-struct Batch<'a> {
-    circuits: &'a [AnyCircuit],
-    ids: &'a [[u8; 32]],
-    jobs: &'a [Job],
-    tickets: &'a Tickets,
-}
-
 // Verifies with one pass, and with desks of its own.
 fn work_alone(alloc: Global, batch: &Batch<'_>, pass: &mut Pass) -> Result<Vec<Judged>, AllocError>
-    requires ids { batch.now.ids.now ≡ map id_of_any batch.now.circuits.now }
-    requires fit { All (IsJobFit batch.now.circuits.now) batch.now.jobs.now }
-    requires dealt { batch.now.tickets.now.jobs ≡ length batch.now.jobs.now }
-    requires of { IsOf batch.now.tickets.now pass.old }
-    requires open { IsOpen batch.now.tickets.now pass.old }
+    requires ready { IsReady batch.now.tickets.now pass.old }
     ensures worked { IfOk result
         (λ judged. HasWorked batch.now.circuits.now batch.now.jobs.now pass.old pass.new judged.items) }
     ensures draws { DrawsOn pass.old pass.new }
 {
     let mut desks = Desks::new(batch.circuits, batch.ids);
-    let judged = work(alloc, &mut desks, batch.jobs, batch.tickets, pass);
+    let judged = work(alloc, batch, &mut desks, pass);
     drop(desks);
     judged
 }
@@ -76,11 +73,7 @@ fn one_list(
     batch: &Batch<'_>,
     pass: &mut Pass,
 ) -> Result<Vec<Vec<Judged>>, AllocError>
-    requires ids { batch.now.ids.now ≡ map id_of_any batch.now.circuits.now }
-    requires fit { All (IsJobFit batch.now.circuits.now) batch.now.jobs.now }
-    requires dealt { batch.now.tickets.now.jobs ≡ length batch.now.jobs.now }
-    requires of { IsOf batch.now.tickets.now pass.old }
-    requires open { IsOpen batch.now.tickets.now pass.old }
+    requires ready { IsReady batch.now.tickets.now pass.old }
     ensures worked { IfOk result (λ lists.
         HaveWorked batch.now.circuits.now batch.now.jobs.now (pass.old ∷ []) (pass.new ∷ [])
         (map (λ list. list.items) lists.items)) }
@@ -103,8 +96,7 @@ fn share_out<R: Threads + Sync, G: Gate>(
     of: usize,
     passes: &mut [Pass],
 ) -> Result<Vec<Vec<Judged>>, AllocError>
-    requires ids { batch.now.ids.now ≡ map id_of_any batch.now.circuits.now }
-    requires ready { AreReady batch.now.circuits.now batch.now.jobs.now batch.now.tickets.now passes.old }
+    requires ready { AreReady batch.now.tickets.now passes.old }
     requires some { 1 ≤ length passes.old }
     requires few { first + length passes.old ≤ most_workers }
     ensures worked { IfOk result (λ lists.
@@ -124,8 +116,7 @@ fn share_out<R: Threads + Sync, G: Gate>(
     let (front, back) = passes.split_at_mut(half);
     let mut front_lists = ||
         requires { IsSync R.row × IsSync G.row × (1 ≤ length front.now) × (first + length front.now ≤ most_workers) ×
-            (batch.now.ids.now ≡ map id_of_any batch.now.circuits.now) ×
-            AreReady batch.now.circuits.now batch.now.jobs.now batch.now.tickets.now front.now }
+            AreReady batch.now.tickets.now front.now }
         ensures worked { IfOk result (λ lists.
             HaveWorked batch.entry.now.circuits.now batch.entry.now.jobs.now front.entry.now front.exit.now
             (map (λ list. list.items) lists.items)) }
@@ -133,8 +124,7 @@ fn share_out<R: Threads + Sync, G: Gate>(
     { share_out(rt, alloc, batch, gate, first, of, front) };
     let mut back_lists = ||
         requires { IsSync R.row × IsSync G.row × (1 ≤ length back.now) × (next + length back.now ≤ most_workers) ×
-            (batch.now.ids.now ≡ map id_of_any batch.now.circuits.now) ×
-            AreReady batch.now.circuits.now batch.now.jobs.now batch.now.tickets.now back.now }
+            AreReady batch.now.tickets.now back.now }
         ensures worked { IfOk result (λ lists.
             HaveWorked batch.entry.now.circuits.now batch.entry.now.jobs.now back.entry.now back.exit.now
             (map (λ list. list.items) lists.items)) }
@@ -211,38 +201,9 @@ pub fn verify_batch<R: Threads + Sync, G: Gate>(
     ensures all { AreAll tickets.now passes.old → AreAll tickets.now passes.new }
 {
     let ids = ids_of(alloc, circuits)?;
-    verify_with_ids(rt, alloc, circuits, &ids, jobs, tickets, passes, gate)
-}
-
-// The same for circuits whose ids are known.
-fn verify_with_ids<R: Threads + Sync, G: Gate>(
-    rt: &R,
-    alloc: Global,
-    circuits: &[AnyCircuit],
-    ids: &[[u8; 32]],
-    jobs: &[Job],
-    tickets: &Tickets,
-    passes: &mut [Pass],
-    gate: &G,
-) -> Result<Vec<Vec<Judged>>, AllocError>
-    requires ids { ids.now ≡ map id_of_any circuits.now }
-    requires fit { All (IsJobFit circuits.now) jobs.now }
-    requires dealt { tickets.now.jobs ≡ length jobs.now }
-    requires of { All (IsOf tickets.now) passes.old }
-    requires open { All (IsOpen tickets.now) passes.old }
-    requires some { 1 ≤ length passes.old }
-    requires few { length passes.old ≤ most_workers }
-    ensures jobs { IfOk result (λ lists.
-        AllZip₃ (AreJobsDrawn (length jobs.now)) passes.old passes.new (map (λ list. list.items) lists.items)) }
-    ensures verdicts { IfOk result
-        (λ lists. All (λ list. All (IsJudged circuits.now jobs.now) list.items) lists.items) }
-    ensures late { IfOk result (λ _. All (HasDrawnOneLate (length jobs.now)) passes.new) }
-    ensures draws { AllZip DrawsOn passes.old passes.new }
-    ensures all { AreAll tickets.now passes.old → AreAll tickets.now passes.new }
-{
     let batch = Batch {
         circuits,
-        ids,
+        ids: &ids,
         jobs,
         tickets,
     };
@@ -296,6 +257,19 @@ pub fn verify_all_with_ids<R: Threads + Sync, G: Gate>(
     ensures { IfOk result (λ verdicts. HaveVerdicts circuits.now jobs.now verdicts.items) }
 {
     let (tickets, mut passes) = Tickets::deal(alloc, jobs.len() as u32, workers)?;
-    let lists = verify_with_ids(rt, alloc, circuits, ids, jobs, &tickets, &mut passes, gate)?;
+    let lists = share_out(
+        rt,
+        alloc,
+        &Batch {
+            circuits,
+            ids,
+            jobs,
+            tickets: &tickets,
+        },
+        gate,
+        0,
+        workers,
+        &mut passes,
+    )?;
     gather_verdicts(alloc, tickets, passes, &lists)
 }

@@ -6,15 +6,15 @@ use Rattle.lzk_batch.proofs.batch.verify_all_with_ids.Goals as goal
 
 pub gather_verdicts-requires-clause-drawn : goal.gather_verdicts-requires-clause-drawn
 gather_verdicts-requires-clause-drawn g c =
-    let new = c.verify_with_ids.new.passes in
+    let new = c.share_out.new.passes in
     let back = passes_back c.in_ok-tickets.passes.len new c.in_ok-tickets.passes.items (omega arith) in
     let jobs = c.in_ok-tickets.tickets.jobs in
-    let drawn = gathered_jobs jobs (length c.args.jobs.now) c.in_ok-tickets.passes.items c.deref_mut.result.now new c.in_ok-lists.lists.items c.deref.result.now c.in_ok-tickets.ensures.jobs c.deref_mut.ensures.value c.deref.ensures.value c.in_ok-tickets.ensures.fresh c.in_ok-lists.ensures.jobs in
+    let drawn = gathered_jobs jobs (length c.args.jobs.now) c.in_ok-tickets.passes.items c.deref_mut.result.now new c.in_ok-lists.lists.items c.deref.result.now c.in_ok-tickets.ensures.jobs c.deref_mut.ensures.value c.deref.ensures.value c.in_ok-tickets.ensures.fresh (returned_jobs c.args.circuits.now c.args.jobs.now c.deref_mut.result.now new c.share_out.result c.share_out.ensures.worked) in
     subst (λ ps. AllZip (AreAllJobsDrawn jobs) ps (map (λ l. l.items) c.deref.result.now)) (sym back) drawn
 
 pub gather_verdicts-requires-clause-late : goal.gather_verdicts-requires-clause-late
 gather_verdicts-requires-clause-late g c =
-    let new = c.verify_with_ids.new.passes in
+    let new = c.share_out.new.passes in
     let back = passes_back c.in_ok-tickets.passes.len new c.in_ok-tickets.passes.items (omega arith) in
     let late : All (HasDrawnOneLate c.in_ok-tickets.tickets.jobs) new = subst (λ n. All (HasDrawnOneLate n) new) (sym c.in_ok-tickets.ensures.jobs) c.in_ok-lists.ensures.late in
     subst (All (HasDrawnOneLate c.in_ok-tickets.tickets.jobs)) (sym back) late
