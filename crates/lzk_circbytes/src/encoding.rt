@@ -13,7 +13,7 @@ ghost use Rattle.lzk_circbytes.specs.Files.{IsFile, CircuitBytes, circuit_id, id
 ghost use Rattle.lzk_circbytes.specs.declared.any.AnyCircuit.{AnyCircuit};
 
 use crate::reading::constants_part;
-use crate::slots::{SLOTS, free_slots, places, slot_of};
+use crate::slots::{Constants, SLOTS, free_slots, places, slot_of};
 use crate::writing::{push_constants, push_layer, push_word};
 use lzk_circuit::{Circuit, Term};
 use lzk_field::Field;
@@ -55,6 +55,10 @@ fn push_coefficients<F: Field>(
 fn coefs_of<F: Field>(alloc: Global, circuit: &Circuit<F>) -> Result<Vec<u128>, AllocError>
     ensures numbers { IfOk result (λ numbers.
         numbers.items ≡ coefs_of circuit.now.version (constants_of (numbered F.coding.number circuit.now))) }
+    ensures rising { IfOk result (λ numbers. IsStrictlyIncreasing numbers.items) }
+    ensures few { IfOk result (λ numbers. length numbers.items ≤ 2097153) }
+    ensures fit { IfOk result (λ numbers.
+        CanWriteLayers numbers.items (map (numbered_layer F.coding.number) circuit.now.layers)) }
     ensures valid { IsValid F.ops circuit.now }
 {
     let mut numbers = Vec::new(alloc);
@@ -91,23 +95,37 @@ fn push_head<F: Field>(
     Ok(())
 }
 
+/// All that stands before the layers, where these are the numbers of the circuit's coefficients.
+fn head_of<F: Field>(
+    alloc: Global,
+    coefs: &[u128],
+    circuit: &Circuit<F>,
+) -> Result<Vec<u8>, AllocError>
+    requires { coefs.now ≡ coefs_of circuit.now.version (constants_of (numbered F.coding.number circuit.now)) }
+    ensures { IfOk result (λ bytes. bytes.items ≡ head_bytes (shape F.coding.id F.coding.bytes F.coding.size)
+        (numbered F.coding.number circuit.now) (constants_of (numbered F.coding.number circuit.now))) }
+{
+    circuit.valid_laws();
+    let mut out = Vec::new(alloc);
+    push_head(&mut out, constants_part(circuit.version(), coefs), circuit)?;
+    Ok(out)
+}
+
 /// The layers, from the inputs up.
 fn push_layers<F: Field>(
     out: &mut Vec<u8>,
-    constants: &[u128],
-    places: &[u32],
+    constants: &Constants<'_>,
     circuit: &Circuit<F>,
 ) -> Result<(), AllocError>
-    requires rising { IsStrictlyIncreasing constants.now }
-    requires few { length constants.now ≤ 2097153 }
-    requires fit { CanWriteLayers constants.now (map (numbered_layer F.coding.number) circuit.now.layers) }
+    requires { CanWriteLayers constants.now.numbers.now (map (numbered_layer F.coding.number) circuit.now.layers) }
     ensures { OnOk result (out.new.items
         ≡ out.old.items
-        ++ layers_bytes constants.now 0 (reverse (map (numbered_layer F.coding.number) circuit.now.layers))) }
+        ++ layers_bytes constants.now.numbers.now 0
+        (reverse (map (numbered_layer F.coding.number) circuit.now.layers))) }
 {
     let depth = circuit.depth();
     for i in 0..depth {
-        push_layer(out, constants, places, circuit.layer(depth - 1 - i))?;
+        push_layer(out, constants, circuit.layer(depth - 1 - i))?;
     }
     Ok(())
 }
@@ -120,10 +138,13 @@ pub fn encode<F: Field>(alloc: Global, circuit: &Circuit<F>) -> Result<Vec<u8>, 
         bytes.items ≡ file_of (shape F.coding.id F.coding.bytes F.coding.size) (numbered F.coding.number circuit.now)) }
 {
     let coefs = coefs_of(alloc, circuit)?;
-    let mut out = Vec::new(alloc);
-    push_head(&mut out, constants_part(circuit.version(), &coefs), circuit)?;
+    let mut out = head_of(alloc, &coefs, circuit)?;
     let places = places(alloc, &coefs)?;
-    push_layers(&mut out, &coefs, &places, circuit)?;
+    let constants = Constants {
+        numbers: &coefs,
+        places: &places,
+    };
+    push_layers(&mut out, &constants, circuit)?;
     Ok(out)
 }
 
@@ -131,22 +152,20 @@ pub fn encode<F: Field>(alloc: Global, circuit: &Circuit<F>) -> Result<Vec<u8>, 
 fn absorb_layers<F: Field>(
     hasher: &mut Sha256,
     room: Vec<u8>,
-    constants: &[u128],
-    places: &[u32],
+    constants: &Constants<'_>,
     circuit: &Circuit<F>,
 ) -> Result<(), AllocError>
-    requires rising { IsStrictlyIncreasing constants.now }
-    requires few { length constants.now ≤ 2097153 }
-    requires fit { CanWriteLayers constants.now (map (numbered_layer F.coding.number) circuit.now.layers) }
+    requires { CanWriteLayers constants.now.numbers.now (map (numbered_layer F.coding.number) circuit.now.layers) }
     ensures { (m : List ℕ) → Holds256 hasher.old m
         → OnOk result (Holds256 hasher.new
-        (m ++ layers_bytes constants.now 0 (reverse (map (numbered_layer F.coding.number) circuit.now.layers)))) }
+        (m ++ layers_bytes constants.now.numbers.now 0
+        (reverse (map (numbered_layer F.coding.number) circuit.now.layers)))) }
 {
     let mut piece = room;
     let depth = circuit.depth();
     for i in 0..depth {
         piece.clear();
-        push_layer(&mut piece, constants, places, circuit.layer(depth - 1 - i))?;
+        push_layer(&mut piece, constants, circuit.layer(depth - 1 - i))?;
         hasher.update(piece.as_slice());
     }
     Ok(())
@@ -158,16 +177,15 @@ pub fn id<F: Field>(alloc: Global, circuit: &Circuit<F>) -> Result<[u8; 32], All
         digest ≡ circuit_id (shape F.coding.id F.coding.bytes F.coding.size) (numbered F.coding.number circuit.now)) }
 {
     let coefs = coefs_of(alloc, circuit)?;
-    let mut piece = Vec::new(alloc);
-    push_head(
-        &mut piece,
-        constants_part(circuit.version(), &coefs),
-        circuit,
-    )?;
+    let piece = head_of(alloc, &coefs, circuit)?;
     let mut hasher = Sha256::new();
     hasher.update(piece.as_slice());
     let places = places(alloc, &coefs)?;
-    absorb_layers(&mut hasher, piece, &coefs, &places, circuit)?;
+    let constants = Constants {
+        numbers: &coefs,
+        places: &places,
+    };
+    absorb_layers(&mut hasher, piece, &constants, circuit)?;
     Ok(hasher.finalize())
 }
 

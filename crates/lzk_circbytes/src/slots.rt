@@ -1,8 +1,7 @@
 //! Tables by which a number that is met again needs no search.
 
-ghost use Rattle.std.specs.Prelude.{◌≡◌, ◌≤◌, ◌<◌, length, All, List, ℕ};
+ghost use Rattle.std.specs.Prelude.{◌≤◌, ◌<◌, length, All, List, ℕ};
 ghost use Rattle.std.specs.List.Sorted.{IsStrictlyIncreasing};
-ghost use Rattle.lzk_circbytes.specs.Spelling.{index_of};
 ghost use Rattle.lzk_circbytes.specs.Recent.{WasMet};
 
 use std::alloc::{AllocError, Global};
@@ -35,16 +34,13 @@ pub fn free_slots() -> [u128; SLOTS]
     [0; SLOTS]
 }
 
-fn searched(constants: &[u128], n: u128) -> u32
-    requires rising { IsStrictlyIncreasing constants.now }
-    requires few { length constants.now ≤ 2097153 }
-    requires found { index_of constants.now n < length constants.now }
-    ensures { result ≡ index_of constants.now n }
-{
-    match constants.binary_search(&n) {
-        Ok(k) => k as u32,
-        Err(_) => unreachable!(),
-    }
+/// The numbers of a circuit's coefficients, each above the one before it, with [`places`] of them.
+#[derive(Clone, Copy)]
+pub struct Constants<'a> {
+    pub numbers: &'a [u128],
+    pub places: &'a [u32],
+    pub ghost rising: { IsStrictlyIncreasing numbers.now },
+    pub ghost few: { length numbers.now ≤ 2097153 },
 }
 
 /// Where the constants stand, each at the slot of its number. Of those that share a slot the last has it.
@@ -61,19 +57,32 @@ pub fn places(alloc: Global, constants: &[u128]) -> Result<Vec<u32>, AllocError>
     Ok(places)
 }
 
-/// Where a number stands among the constants. What `places` says is tried first.
-pub fn place_of(constants: &[u128], places: &[u32], n: u128) -> u32
-    requires rising { IsStrictlyIncreasing constants.now }
-    requires few { length constants.now ≤ 2097153 }
-    requires found { index_of constants.now n < length constants.now }
-    ensures { result ≡ index_of constants.now n }
-{
-    let slot = slot_among(places.len(), n);
-    if slot < places.len() {
-        let k = places[slot];
-        if (k as usize) < constants.len() && constants[k as usize] == n {
-            return k;
+impl<'a> Constants<'a> {
+    ghost use Rattle.std.specs.Prelude.{◌≡◌, ◌<◌, length};
+    ghost use Rattle.lzk_circbytes.specs.Spelling.{index_of};
+
+    fn searched(&self, n: u128) -> u32
+        requires found { index_of self.now.numbers.now n < length self.now.numbers.now }
+        ensures { result ≡ index_of self.now.numbers.now n }
+    {
+        match self.numbers.binary_search(&n) {
+            Ok(k) => k as u32,
+            Err(_) => unreachable!(),
         }
     }
-    searched(constants, n)
+
+    /// Where a number stands among the constants. What `places` says is tried first.
+    pub fn place_of(&self, n: u128) -> u32
+        requires found { index_of self.now.numbers.now n < length self.now.numbers.now }
+        ensures { result ≡ index_of self.now.numbers.now n }
+    {
+        let slot = slot_among(self.places.len(), n);
+        if slot < self.places.len() {
+            let k = self.places[slot];
+            if (k as usize) < self.numbers.len() && self.numbers[k as usize] == n {
+                return k;
+            }
+        }
+        self.searched(n)
+    }
 }

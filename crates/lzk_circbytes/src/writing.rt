@@ -2,7 +2,6 @@
 
 ghost use Rattle.std.specs.Prelude.{◌≡◌, ◌≤◌, ◌<◌, ◌^◌, ◌+◌, ◌-◌, ◌++◌, length, map, vec_len, vec_capacity, OnOk, IfOk};
 ghost use Rattle.std.specs.Int.{w32, to_le_bytes};
-ghost use Rattle.std.specs.List.Sorted.{IsStrictlyIncreasing};
 ghost use Rattle.lzk_field.specs.Bytes.{bytes_of};
 ghost use Rattle.lzk_circbytes.specs.Numbered.{shape, numbered_term, numbered_layer};
 ghost use Rattle.lzk_circbytes.specs.Reading.{as_before};
@@ -10,7 +9,7 @@ ghost use Rattle.lzk_circbytes.specs.Spelling.{spells, septets, varint, index_of
 ghost use Rattle.lzk_circbytes.specs.Fits.{CanWriteAll};
 ghost use Rattle.lzk_circbytes.specs.Answers.{under};
 
-use crate::slots::place_of;
+use crate::slots::Constants;
 use lzk_circuit::{Layer, Term};
 use lzk_field::Field;
 use std::alloc::AllocError;
@@ -91,21 +90,18 @@ pub fn push_constants<F: Field>(out: &mut Vec<u8>, constants: &[u128]) -> Result
 /// Writes a term behind one of wire `before`.
 fn push_term<F: Field>(
     out: &mut Vec<u8>,
-    constants: &[u128],
-    places: &[u32],
+    constants: &Constants<'_>,
     before: u32,
     term: Term<F>,
 ) -> Result<(), AllocError>
-    requires rising { IsStrictlyIncreasing constants.now }
-    requires few { length constants.now ≤ 2097153 }
-    requires found { index_of constants.now (F.coding.number term.coef) < length constants.now }
+    requires found { index_of constants.now.numbers.now (F.coding.number term.coef) < length constants.now.numbers.now }
     requires g { before ≤ term.g }
     requires a { term.a ≤ term.b }
     ensures { OnOk result (out.new.items
         ≡ (((out.old.items ++ varint (term.g - before)) ++ varint term.a) ++ varint (term.b - term.a))
-        ++ varint (index_of constants.now (F.coding.number term.coef))) }
+        ++ varint (index_of constants.now.numbers.now (F.coding.number term.coef))) }
 {
-    let at = place_of(constants, places, term.coef.number());
+    let at = constants.place_of(term.coef.number());
     out.reserve(MOST_OF_TERM)?;
     put_varint(out, term.g - before);
     put_varint(out, term.a);
@@ -116,20 +112,18 @@ fn push_term<F: Field>(
 
 fn push_terms<F: Field>(
     out: &mut Vec<u8>,
-    constants: &[u128],
-    places: &[u32],
+    constants: &Constants<'_>,
     terms: &[Term<F>],
 ) -> Result<(), AllocError>
-    requires rising { IsStrictlyIncreasing constants.now }
-    requires few { length constants.now ≤ 2097153 }
-    requires fit { CanWriteAll constants.now (map (numbered_term F.coding.number) terms.now) }
+    requires fit { CanWriteAll constants.now.numbers.now (map (numbered_term F.coding.number) terms.now) }
     ensures { OnOk result (out.new.items
         ≡ out.old.items
-        ++ spells as_before (term_bytes constants.now) None (map (numbered_term F.coding.number) terms.now)) }
+        ++ spells as_before (term_bytes constants.now.numbers.now) None
+        (map (numbered_term F.coding.number) terms.now)) }
 {
     let mut before = 0;
     for t in terms {
-        push_term(out, constants, places, before, *t)?;
+        push_term(out, constants, before, *t)?;
         before = t.g;
     }
     Ok(())
@@ -139,19 +133,17 @@ fn push_terms<F: Field>(
 #[tactic(auto, unfolding(crate::specs::Spelling::layer_bytes))]
 pub fn push_layer<F: Field>(
     out: &mut Vec<u8>,
-    constants: &[u128],
-    places: &[u32],
+    constants: &Constants<'_>,
     layer: &Layer<F>,
 ) -> Result<(), AllocError>
-    requires rising { IsStrictlyIncreasing constants.now }
-    requires few { length constants.now ≤ 2097153 }
-    requires fit { CanWriteAll constants.now (map (numbered_term F.coding.number) layer.now.terms) }
+    requires fit { CanWriteAll constants.now.numbers.now (map (numbered_term F.coding.number) layer.now.terms) }
     requires terms { length layer.now.terms < 2 ^ 32 }
     ensures { OnOk result (out.new.items
-        ≡ out.old.items ++ layer_bytes constants.now (under 0 0 0) (numbered_layer F.coding.number layer.now)) }
+        ≡ out.old.items
+        ++ layer_bytes constants.now.numbers.now (under 0 0 0) (numbered_layer F.coding.number layer.now)) }
 {
     let terms = layer.terms.as_slice();
     push_word(out, layer.wires)?;
     push_word(out, terms.len() as u32)?;
-    push_terms(out, constants, places, terms)
+    push_terms(out, constants, terms)
 }

@@ -11,18 +11,18 @@ use Rattle.lzk_circbytes.proofs.encoding.absorb_layers.Goals as goal
 
 pub push_layer-requires-clause-fit : goal.push_layer-requires-clause-fit
 push_layer-requires-clause-fit g c =
-    λ κs outlives. (can_write_at g.F.Field.coding.number c.args.constants.now c.args.circuit.now.layers (c.depth-depth.result - 1 - c.loop-i.i) c.layer.result.now c.requires.fit c.layer.ensures).0
+    λ κs outlives. (can_write_at g.F.Field.coding.number c.args.constants.now.numbers.now c.args.circuit.now.layers (c.depth-depth.result - 1 - c.loop-i.i) c.layer.result.now c.requires c.layer.ensures).0
 
 pub push_layer-requires-clause-terms : goal.push_layer-requires-clause-terms
 push_layer-requires-clause-terms g c =
-    λ κs outlives. (can_write_at g.F.Field.coding.number c.args.constants.now c.args.circuit.now.layers (c.depth-depth.result - 1 - c.loop-i.i) c.layer.result.now c.requires.fit c.layer.ensures).1
+    λ κs outlives. (can_write_at g.F.Field.coding.number c.args.constants.now.numbers.now c.args.circuit.now.layers (c.depth-depth.result - 1 - c.loop-i.i) c.layer.result.now c.requires c.layer.ensures).1
 
 pub loop-i-preserved : goal.loop-i-preserved
 loop-i-preserved g c =
     let number = g.F.Field.coding.number in
     let layers = c.args.circuit.now.layers in
     let ls = reverse (map (numbered_layer number) layers) in
-    let cs = c.args.constants.now in
+    let cs = c.args.constants.now.numbers.now in
     let i = c.loop-i.i in
     let layer = c.layer.result.now in
     let in_range : i < length layers = omega (arith, c.loop-i-test.true, c.depth-depth.ensures.depth) in
@@ -37,4 +37,4 @@ returns g c =
     let layers = c.args.circuit.now.layers in
     let ls = reverse (map (numbered_layer number) layers) in
     let past : length ls ≤ c.loop-i.i = omega (arith, c.loop-i-test.false, c.depth-depth.ensures.depth, length-map layers (numbered_layer number), length-reverse (map (numbered_layer number) layers)) in
-    absorb_ends Holds256 c.args.constants.now c.args.hasher.now c.loop-i.hasher c.loop-i.i ls past c.loop-i.invariant
+    absorb_ends Holds256 c.args.constants.now.numbers.now c.args.hasher.now c.loop-i.hasher c.loop-i.i ls past c.loop-i.invariant

@@ -1,11 +1,13 @@
-use Rattle.std.proofs.Common.{◌++◌, subst, arith, map, List}
+use Rattle.std.proofs.Common.{◌++◌, ◌≤◌, ℕ, ap, sym, subst, arith, map, length, List}
+use Rattle.std.specs.List.Sorted.{IsStrictlyIncreasing}
 use Rattle.std.proofs.lemmas.List.{drop_all}
 use Rattle.lzk_circuit.specs.declared.layer.Layer.{Layer}
 use Rattle.lzk_circbytes.specs.Numbered.{numbered_term, numbered_layer, coefficients, coefs_of}
+use Rattle.lzk_circbytes.specs.Fits.{CanWriteLayers}
 use Rattle.lzk_circbytes.specs.Recent.{HaveSame}
 use Rattle.lzk_circbytes.proofs.Recent.{same_end}
 use Rattle.lzk_circbytes.proofs.Written.{coefficients_go_on}
-use Rattle.lzk_circbytes.proofs.OneFile.{coefs_made, coefficients_some}
+use Rattle.lzk_circbytes.proofs.OneFile.{can_write_layers, coefs_made, coefficients_some, constants_rise, few_coefs}
 use Rattle.lzk_circbytes.proofs.encoding.coefs_of.Goals as goal
 
 pub loop-l-preserved : goal.loop-l-preserved
@@ -28,3 +30,18 @@ returns-clause-numbers g c =
     let all = coefs_of c.args.circuit.now.version ks in
     let same : HaveSame c.loop-l.numbers.items all = same_end c.loop-l.numbers.items all (subst (λ (ls : List (Layer _)). HaveSame (c.loop-l.numbers.items ++ coefficients (map (numbered_layer F.coding.number) ls)) all) none c.loop-l.invariant.same) in
     coefs_made c.args.circuit.now.version ks c.loop-l.numbers.items c.sort_unstable.new.self.items c.dedup.new.self.items (coefficients_some F.ops F.coding.size F.coding.number F.coding.element F.coding.bytes F.laws F.coding.id c.args.circuit.now c.depth-l-end.ensures.valid) same c.sort_unstable.ensures.permutation c.sort_unstable.ensures.sorted c.dedup.ensures.filtered
+
+pub returns-clause-rising : goal.returns-clause-rising
+returns-clause-rising g c =
+    let F = g.F.Field in
+    subst IsStrictlyIncreasing (sym (returns-clause-numbers g c)) (constants_rise F.ops F.coding.size F.coding.number F.coding.element F.coding.bytes F.laws F.coding.id c.args.circuit.now)
+
+pub returns-clause-few : goal.returns-clause-few
+returns-clause-few g c =
+    let F = g.F.Field in
+    omega (arith, few_coefs F.ops F.coding.size F.coding.number F.coding.element F.coding.bytes F.laws F.coding.id c.args.circuit.now c.depth-l-end.ensures.valid, ap length (returns-clause-numbers g c))
+
+pub returns-clause-fit : goal.returns-clause-fit
+returns-clause-fit g c =
+    let F = g.F.Field in
+    subst (λ (cs : List ℕ). CanWriteLayers cs (map (numbered_layer F.coding.number) c.args.circuit.now.layers)) (sym (returns-clause-numbers g c)) (can_write_layers F.ops F.coding.size F.coding.number F.coding.element F.coding.bytes F.laws F.coding.id c.args.circuit.now c.depth-l-end.ensures.valid)

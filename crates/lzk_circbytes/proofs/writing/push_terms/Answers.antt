@@ -7,7 +7,7 @@ use Rattle.lzk_circbytes.proofs.writing.push_terms.Goals as goal
 pub loop-t-preserved : goal.loop-t-preserved
 loop-t-preserved g c =
     let view = numbered_term g.F.Field.coding.number in
-    let cs = c.args.constants.now in
+    let cs = c.args.constants.now.numbers.now in
     let ts = c.args.terms.now in
     let i = c.loop-t.t-index in
     let t = c.t-item.result in
@@ -20,5 +20,5 @@ pub returns : goal.returns
 returns g c =
     let view = numbered_term g.F.Field.coding.number in
     let none = drop_all c.loop-t.t-index c.args.terms.now c.loop-t-test.false in
-    terms_end c.args.constants.now c.loop-t.before c.loop-t.out.items c.args.out.now.items (map view c.args.terms.now)
-    (subst (λ (us : List _). TermsLeft c.args.constants.now c.loop-t.before (map view us) c.loop-t.out.items c.args.out.now.items (map view c.args.terms.now)) none c.loop-t.invariant)
+    terms_end c.args.constants.now.numbers.now c.loop-t.before c.loop-t.out.items c.args.out.now.items (map view c.args.terms.now)
+    (subst (λ (us : List _). TermsLeft c.args.constants.now.numbers.now c.loop-t.before (map view us) c.loop-t.out.items c.args.out.now.items (map view c.args.terms.now)) none c.loop-t.invariant)
