@@ -19,6 +19,7 @@ mod opening;
 mod plain;
 mod replaying;
 mod script;
+mod sum_point;
 
 pub use draws::{draw_all, draw_beta, replay_round, write_pair};
 pub use entries::entry_at;

@@ -7,25 +7,25 @@ ghost use Rattle.lzk_circuit.specs.Valid.{ArePlaced, HaveWidths};
 ghost use Rattle.lzk_circuit.specs.Wires.{layer_coefficient, weighed_term};
 ghost use Rattle.lzk_layout.specs.Places.{depth, bits_under, width_at};
 ghost use Rattle.lzk_sumcheck.specs.Layers.{layer_of_terms, weighted_layer};
-ghost use Rattle.lzk_sumcheck.specs.Points.{point};
+ghost use Rattle.lzk_sumcheck.specs.SumPoints.{point_of};
 ghost use Rattle.lzk_sumcheck.specs.Rounds as rounds;
 ghost use Rattle.lzk_sumcheck.specs.Rounds.{every_other, bound_coefficient};
 
+use crate::sum_point::SumPoint;
 use lzk_circuit::{Circuit, Term, Values, bits_of, weight_of};
 use lzk_field::Field;
 
-// Variable j of the point: one that is bound, or t, or a bit of z.
-fn variable<F: Field>(bits: usize, bound: &[F], t: F, z: u64, j: usize) -> F
-    requires few { bits ≤ 17 }
-    requires free { length bound.now < 2 * bits }
-    requires place { j < 2 * bits }
-    ensures { result ≡ entry F.ops (point F.ops bits bound.now t z) j }
+// Variable j of the point.
+fn variable<F: Field>(on: &SumPoint<'_, F>, j: usize) -> F
+    requires { j < 2 * on.now.bits }
+    ensures { result ≡ entry F.ops (point_of F.ops on.now) j }
 {
+    let bound = on.bound;
     if j < bound.len() {
         bound[j]
     } else if j == bound.len() {
-        t
-    } else if (z >> (j - bound.len() - 1)) % 2 == 0 {
+        on.t
+    } else if (on.z >> (j - bound.len() - 1)) % 2 == 0 {
         F::zero()
     } else {
         F::one()
@@ -33,16 +33,14 @@ fn variable<F: Field>(bits: usize, bound: &[F], t: F, z: u64, j: usize) -> F
 }
 
 // The variable for bit j of a, or for that of b.
-fn variable_of<F: Field>(bits: usize, bound: &[F], t: F, z: u64, a: bool, j: usize) -> F
-    requires few { bits ≤ 17 }
-    requires free { length bound.now < 2 * bits }
-    requires place { j < bits }
-    ensures { result ≡ entry F.ops (every_other a (point F.ops bits bound.now t z)) j }
+fn variable_of<F: Field>(on: &SumPoint<'_, F>, a: bool, j: usize) -> F
+    requires { j < on.now.bits }
+    ensures { result ≡ entry F.ops (every_other a (point_of F.ops on.now)) j }
 {
     if a {
-        variable(bits, bound, t, z, 2 * j)
+        variable(on, 2 * j)
     } else {
-        variable(bits, bound, t, z, 2 * j + 1)
+        variable(on, 2 * j + 1)
     }
 }
 
@@ -54,15 +52,13 @@ pub fn agreement<F: Field>(number: u32, x: F) -> F
 }
 
 // How a number agrees with the variables for the bits of a, or of b.
-fn eq_part<F: Field>(bits: usize, bound: &[F], t: F, z: u64, a: bool, number: u32) -> F
-    requires few { bits ≤ 17 }
-    requires free { length bound.now < 2 * bits }
-    ensures { result ≡ eq F.ops number (every_other a (point F.ops bits bound.now t z)) }
+fn eq_part<F: Field>(on: &SumPoint<'_, F>, a: bool, number: u32) -> F
+    ensures { result ≡ eq F.ops number (every_other a (point_of F.ops on.now)) }
 {
     let mut rest = number;
     let mut product = F::one();
-    for j in 0..bits {
-        let x = variable_of(bits, bound, t, z, a, j);
+    for j in 0..on.bits {
+        let x = variable_of(on, a, j);
         product = product.mul(agreement(rest, x));
         rest /= 2;
     }
@@ -70,40 +66,28 @@ fn eq_part<F: Field>(bits: usize, bound: &[F], t: F, z: u64, a: bool, number: u3
 }
 
 // The values' extension at these variables.
-fn tilde_part<F: Field>(values: &[F], bits: usize, bound: &[F], t: F, z: u64, a: bool) -> F
-    requires few { bits ≤ 17 }
-    requires free { length bound.now < 2 * bits }
-    requires size { length values.now ≤ 131072 }
-    ensures { result ≡ tilde F.ops values.now (every_other a (point F.ops bits bound.now t z)) }
+fn tilde_part<F: Field>(values: &[F], on: &SumPoint<'_, F>, a: bool) -> F
+    requires { length values.now ≤ 131072 }
+    ensures { result ≡ tilde F.ops values.now (every_other a (point_of F.ops on.now)) }
 {
     let mut total = F::zero();
     for i in 0..values.len() {
-        total = total.add(eq_part(bits, bound, t, z, a, i as u32).mul(values[i]));
+        total = total.add(eq_part(on, a, i as u32).mul(values[i]));
     }
     total
 }
 
 // What a term counts for at the point: its coefficient times its wire's weight and how its two wires below agree.
-fn term_part<F: Field>(
-    term: Term<F>,
-    beta: F,
-    weights: &[F],
-    bits: usize,
-    bound: &[F],
-    t: F,
-    z: u64,
-) -> F
-    requires few { bits ≤ 17 }
-    requires free { length bound.now < 2 * bits }
-    requires wire { term.g < length weights.now }
+fn term_part<F: Field>(term: Term<F>, beta: F, weights: &[F], on: &SumPoint<'_, F>) -> F
+    requires { term.g < length weights.now }
     ensures { let o = F.ops in
-        let x = point o bits bound.now t z in
+        let x = point_of o on.now in
         result
         ≡ o.times (o.times (o.times (entry o weights.now term.g) (weighed_term o beta term).coef)
         (eq o term.a (every_other true x))) (eq o term.b (every_other false x)) }
 {
-    let first = eq_part(bits, bound, t, z, true, term.a);
-    let second = eq_part(bits, bound, t, z, false, term.b);
+    let first = eq_part(on, true, term.a);
+    let second = eq_part(on, false, term.b);
     weights[term.g as usize]
         .mul(weight_of(term.coef, beta))
         .mul(first)
@@ -116,23 +100,18 @@ fn coefficient_part<F: Field>(
     beta: F,
     weights: &[F],
     width: usize,
-    bits: usize,
-    bound: &[F],
-    t: F,
-    z: u64,
+    on: &SumPoint<'_, F>,
 ) -> F
-    requires few { bits ≤ 17 }
-    requires free { length bound.now < 2 * bits }
-    requires terms { ArePlaced (length weights.now) width None terms.now }
+    requires { ArePlaced (length weights.now) width None terms.now }
     ensures { let o = F.ops in
-        let x = point o bits bound.now t z in
+        let x = point_of o on.now in
         result
         ≡ bound_coefficient o (layer_coefficient o terms.now beta) weights.now width (every_other true x)
         (every_other false x) }
 {
     let mut total = F::zero();
     for i in 0..terms.len() {
-        total = total.add(term_part(terms[i], beta, weights, bits, bound, t, z));
+        total = total.add(term_part(terms[i], beta, weights, on));
     }
     total
 }
@@ -156,9 +135,10 @@ fn plain_sum<F: Field>(
 {
     let mut total = F::zero();
     for z in 0..(1u64 << (2 * bits - bound.len() - 1)) {
-        let coefficient = coefficient_part(terms, beta, weights, values.len(), bits, bound, t, z);
-        let first = tilde_part(values, bits, bound, t, z, true);
-        let second = tilde_part(values, bits, bound, t, z, false);
+        let on = SumPoint { bits, bound, t, z };
+        let coefficient = coefficient_part(terms, beta, weights, values.len(), &on);
+        let first = tilde_part(values, &on, true);
+        let second = tilde_part(values, &on, false);
         total = total.add(coefficient.mul(first).mul(second));
     }
     total

@@ -4,10 +4,10 @@ use Rattle.lzk_sumcheck.proofs.plain.variable.Goals as goal
 
 pub returns-then-z-j-eq0 : goal.returns-then-z-j-eq0
 returns-then-z-j-eq0 g c =
-    let n : c.args.j ≢ length c.args.bound.now = c.if-j-bound-2.false in
-    c.zero.ensures ∙ point-zero g.F.Field.ops c.args.bits c.args.bound.now c.args.t c.args.z c.args.j (omega arith) (omega arith) c.if-z-j-eq0.true
+    let n : c.args.j ≢ length c.args.on.now.bound.now = c.if-j-bound-2.false in
+    c.zero.ensures ∙ point-zero g.F.Field.ops c.args.on.now.bits c.args.on.now.bound.now c.args.on.now.t c.args.on.now.z c.args.j (omega arith) (omega arith) c.if-z-j-eq0.true
 
 pub returns-else-z-j-eq0 : goal.returns-else-z-j-eq0
 returns-else-z-j-eq0 g c =
-    let n : c.args.j ≢ length c.args.bound.now = c.if-j-bound-2.false in
-    c.one.ensures ∙ point-one g.F.Field.ops c.args.bits c.args.bound.now c.args.t c.args.z c.args.j (omega arith) (omega arith) c.if-z-j-eq0.false
+    let n : c.args.j ≢ length c.args.on.now.bound.now = c.if-j-bound-2.false in
+    c.one.ensures ∙ point-one g.F.Field.ops c.args.on.now.bits c.args.on.now.bound.now c.args.on.now.t c.args.on.now.z c.args.j (omega arith) (omega arith) c.if-z-j-eq0.false
