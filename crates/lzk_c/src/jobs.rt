@@ -86,7 +86,7 @@ fn explain_over<F: Field>(alloc: Global, circuit: &Circuit<F>, id: [u8; 32], job
     }
 }
 
-// The same over either field.
+// `explain_over` over either field.
 fn explain_any(alloc: Global, circuit: &AnyCircuit, bytes: &[u8], jobs: &mut [Job<'_>])
     requires { spec.IsRead circuit.now bytes.now }
     ensures { AllZip (IsExplainedOf circuit.now) jobs.old jobs.new }

@@ -64,7 +64,7 @@ fn evaluate_over<F: Field>(
     }
 }
 
-// The same over either field.
+// `evaluate_over` over either field.
 fn evaluate_any(
     alloc: Global,
     circuit: &AnyCircuit,

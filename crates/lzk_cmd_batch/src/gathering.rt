@@ -59,7 +59,7 @@ fn read_over<S: Shelf, F: Field>(
     Ok((job, taken))
 }
 
-// The same over either field.
+// `read_over` over either field.
 fn read_any<S: Shelf>(
     alloc: Global,
     shelf: &mut S,

@@ -78,7 +78,7 @@ pub fn file_over<F: Field>(
     Ok((bytes, text))
 }
 
-// The same over either field.
+// `file_over` over either field.
 fn file_of(alloc: Global, circuit: &AnyCircuit, name: &str) -> Result<(Vec<u8>, String), AllocError>
     ensures file { IfOk result (λ made. CircuitBytes circuit.now made.0.items) }
     ensures text { IfOk result

@@ -74,34 +74,34 @@ fn evaluate<F: Field>(
 fn eval_over<S: Shelf, F: Field>(
     alloc: Global,
     circuit: &Circuit<F>,
-    public: &str,
-    private: &str,
+    public_file: &str,
+    private_file: &str,
     shelf: &mut S,
 ) -> Result<Ending, Halt>
-    ensures walks { Walks (EvalOver F.ops F.coding.size F.coding.number circuit.now public.now private.now) 1
+    ensures walks { Walks (EvalOver F.ops F.coding.size F.coding.number circuit.now public_file.now private_file.now) 1
         (seen S.Shelf shelf.old) (seen S.Shelf shelf.new) result }
     ensures reads { OnlyReads (seen S.Shelf shelf.old) (seen S.Shelf shelf.new) }
 {
-    let publics = read_elements::<S, F>(alloc, shelf, public, circuit.publics())?;
-    let privates = read_elements::<S, F>(alloc, shelf, private, circuit.privates())?;
+    let publics = read_elements::<S, F>(alloc, shelf, public_file, circuit.publics())?;
+    let privates = read_elements::<S, F>(alloc, shelf, private_file, circuit.privates())?;
     evaluate(alloc, circuit, &publics, &privates)
 }
 
-// The same over either field.
+// `eval_over` over either field.
 fn eval_any<S: Shelf>(
     alloc: Global,
     circuit: &AnyCircuit,
-    public: &str,
-    private: &str,
+    public_file: &str,
+    private_file: &str,
     shelf: &mut S,
 ) -> Result<Ending, Halt>
-    ensures walks { Walks (EvalAny circuit.now public.now private.now) 1 (seen S.Shelf shelf.old)
+    ensures walks { Walks (EvalAny circuit.now public_file.now private_file.now) 1 (seen S.Shelf shelf.old)
         (seen S.Shelf shelf.new) result }
     ensures reads { OnlyReads (seen S.Shelf shelf.old) (seen S.Shelf shelf.new) }
 {
     match circuit {
-        AnyCircuit::Gold(c) => eval_over(alloc, c, public, private, shelf),
-        AnyCircuit::Gf(c) => eval_over(alloc, c, public, private, shelf),
+        AnyCircuit::Gold(c) => eval_over(alloc, c, public_file, private_file, shelf),
+        AnyCircuit::Gf(c) => eval_over(alloc, c, public_file, private_file, shelf),
     }
 }
 
@@ -109,14 +109,14 @@ fn eval_any<S: Shelf>(
 pub fn eval<R: Threads + Sync, S: Shelf, G: Gate>(
     means: &Means<'_, R, G>,
     circuit: &str,
-    public: &str,
-    private: &str,
+    public_file: &str,
+    private_file: &str,
     shelf: &mut S,
 ) -> Result<Ending, Halt>
-    ensures walks { Walks (EvalRun circuit.now public.now private.now) 0 (seen S.Shelf shelf.old)
+    ensures walks { Walks (EvalRun circuit.now public_file.now private_file.now) 0 (seen S.Shelf shelf.old)
         (seen S.Shelf shelf.new) result }
     ensures reads { OnlyReads (seen S.Shelf shelf.old) (seen S.Shelf shelf.new) }
 {
     let held = read_circuit(means.alloc, shelf, circuit)?;
-    eval_any(means.alloc, &held, public, private, shelf)
+    eval_any(means.alloc, &held, public_file, private_file, shelf)
 }

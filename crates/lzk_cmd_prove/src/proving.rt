@@ -126,45 +126,59 @@ pub fn prove_inputs<F: Field, X: RowExtend<F>, R: Threads + Sync, S: Shelf, G: G
 fn prove_over<F: Field, X: RowExtend<F>, R: Threads + Sync, S: Shelf, G: Gate>(
     means: &Means<'_, R, G>,
     circuit: &Circuit<F>,
-    public: &str,
-    private: &str,
+    public_file: &str,
+    private_file: &str,
     task: &Task<'_>,
     shelf: &mut S,
 ) -> Result<Ending, Halt>
     requires id { task.now.id ≡ id_of F.coding circuit.now }
     requires digest { option_copied task.now.digest ≡ None }
     ensures walks { WalksToPut (ProveOver F.ops F.coding circuit.now
-        public.now private.now task.now.proof.now task.now.session.now task.now.seed) 1
+        public_file.now private_file.now task.now.proof.now task.now.session.now task.now.seed) 1
         (seen S.Shelf shelf.old) (seen S.Shelf shelf.new) result }
     ensures moves { Moves (seen S.Shelf shelf.old) (seen S.Shelf shelf.new) }
 {
-    let publics = read_elements::<S, F>(means.alloc, shelf, public, circuit.publics())?;
-    let privates = read_elements::<S, F>(means.alloc, shelf, private, circuit.privates())?;
+    let publics = read_elements::<S, F>(means.alloc, shelf, public_file, circuit.publics())?;
+    let privates = read_elements::<S, F>(means.alloc, shelf, private_file, circuit.privates())?;
     prove_inputs::<F, X, R, S, G>(means, circuit, &publics, &privates, task, shelf)
 }
 
-// The same over either field.
+// `prove_over` over either field.
 fn prove_any<R: Threads + Sync, S: Shelf, G: Gate>(
     means: &Means<'_, R, G>,
     circuit: &AnyCircuit,
-    public: &str,
-    private: &str,
+    public_file: &str,
+    private_file: &str,
     task: &Task<'_>,
     shelf: &mut S,
 ) -> Result<Ending, Halt>
     requires id { task.now.id ≡ id_of_any circuit.now }
     requires digest { option_copied task.now.digest ≡ None }
     ensures walks { WalksToPut
-        (ProveAny circuit.now public.now private.now task.now.proof.now task.now.session.now task.now.seed) 1
+        (ProveAny circuit.now public_file.now private_file.now task.now.proof.now task.now.session.now task.now.seed) 1
         (seen S.Shelf shelf.old) (seen S.Shelf shelf.new) result }
     ensures moves { Moves (seen S.Shelf shelf.old) (seen S.Shelf shelf.new) }
 {
     match circuit {
         AnyCircuit::Gold(c) => {
-            prove_over::<Gold, NttExtender<Gold>, R, S, G>(means, c, public, private, task, shelf)
+            prove_over::<Gold, NttExtender<Gold>, R, S, G>(
+                means,
+                c,
+                public_file,
+                private_file,
+                task,
+                shelf,
+            )
         }
         AnyCircuit::Gf(c) => {
-            prove_over::<Gf128, Transform, R, S, G>(means, c, public, private, task, shelf)
+            prove_over::<Gf128, Transform, R, S, G>(
+                means,
+                c,
+                public_file,
+                private_file,
+                task,
+                shelf,
+            )
         }
     }
 }

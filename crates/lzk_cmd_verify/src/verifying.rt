@@ -91,40 +91,40 @@ fn verify_over<S: Shelf, F: Field>(
     alloc: Global,
     circuit: &Circuit<F>,
     id: [u8; 32],
-    public: &str,
+    public_file: &str,
     proof: &str,
     session: &[u8],
     shelf: &mut S,
 ) -> Result<Ending, Halt>
     requires id { id ≡ id_of F.coding circuit.now }
     requires session { length session.now ≤ 64 }
-    ensures walks { Walks (VerifyOver F.ops F.coding circuit.now public.now proof.now session.now) 1
+    ensures walks { Walks (VerifyOver F.ops F.coding circuit.now public_file.now proof.now session.now) 1
         (seen S.Shelf shelf.old) (seen S.Shelf shelf.new) result }
     ensures reads { OnlyReads (seen S.Shelf shelf.old) (seen S.Shelf shelf.new) }
 {
-    let publics = read_elements::<S, F>(alloc, shelf, public, circuit.publics())?;
+    let publics = read_elements::<S, F>(alloc, shelf, public_file, circuit.publics())?;
     judge_file(alloc, circuit, id, session, &publics, proof, shelf)
 }
 
-// The same over either field.
+// `verify_over` over either field.
 fn verify_any<S: Shelf>(
     alloc: Global,
     circuit: &AnyCircuit,
     id: [u8; 32],
-    public: &str,
+    public_file: &str,
     proof: &str,
     session: &[u8],
     shelf: &mut S,
 ) -> Result<Ending, Halt>
     requires id { id ≡ id_of_any circuit.now }
     requires session { length session.now ≤ 64 }
-    ensures walks { Walks (VerifyAny circuit.now public.now proof.now session.now) 1 (seen S.Shelf shelf.old)
+    ensures walks { Walks (VerifyAny circuit.now public_file.now proof.now session.now) 1 (seen S.Shelf shelf.old)
         (seen S.Shelf shelf.new) result }
     ensures reads { OnlyReads (seen S.Shelf shelf.old) (seen S.Shelf shelf.new) }
 {
     match circuit {
-        AnyCircuit::Gold(c) => verify_over(alloc, c, id, public, proof, session, shelf),
-        AnyCircuit::Gf(c) => verify_over(alloc, c, id, public, proof, session, shelf),
+        AnyCircuit::Gold(c) => verify_over(alloc, c, id, public_file, proof, session, shelf),
+        AnyCircuit::Gf(c) => verify_over(alloc, c, id, public_file, proof, session, shelf),
     }
 }
 
@@ -132,13 +132,13 @@ fn verify_any<S: Shelf>(
 pub fn verify<R: Threads + Sync, S: Shelf, G: Gate>(
     means: &Means<'_, R, G>,
     circuit: &str,
-    public: &str,
+    public_file: &str,
     proof: &str,
     session: Option<&[u8]>,
     shelf: &mut S,
 ) -> Result<Ending, Halt>
     requires session { length (session_of (option_copied session)) ≤ 64 }
-    ensures walks { Walks (VerifyRun circuit.now public.now proof.now (option_copied session.entry)) 0
+    ensures walks { Walks (VerifyRun circuit.now public_file.now proof.now (option_copied session.entry)) 0
         (seen S.Shelf shelf.old) (seen S.Shelf shelf.new) result }
     ensures reads { OnlyReads (seen S.Shelf shelf.old) (seen S.Shelf shelf.new) }
 {
@@ -148,7 +148,7 @@ pub fn verify<R: Threads + Sync, S: Shelf, G: Gate>(
         means.alloc,
         &held.circuit,
         held.id,
-        public,
+        public_file,
         proof,
         &session,
         shelf,

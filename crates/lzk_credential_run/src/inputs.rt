@@ -249,21 +249,22 @@ fn number_text(alloc: Global, elements: &[Gold]) -> Result<String, AllocError>
 // Puts one file and then another.
 fn put_both<S: Shelf>(
     alloc: Global,
-    public: &str,
+    public_file: &str,
     first: &[u8],
-    private: &str,
+    private_file: &str,
     second: &[u8],
     shelf: &mut S,
 ) -> Result<Ending, Halt>
-    ensures { Settles (given.PutsBoth public.now first.now private.now second.now) (given.PutsOne public.now)
+    ensures { Settles (given.PutsBoth public_file.now first.now private_file.now second.now)
+        (given.PutsOne public_file.now)
         (seen S.Shelf shelf.old) (seen S.Shelf shelf.new) result }
 {
     let text = lines::tell_put(alloc)?;
-    let done = put_file(alloc, shelf, public, first, String::new(alloc))?;
+    let done = put_file(alloc, shelf, public_file, first, String::new(alloc))?;
     if done.status != 0 {
         return Ok(done);
     }
-    put_file(alloc, shelf, private, second, text)
+    put_file(alloc, shelf, private_file, second, text)
 }
 
 // Puts the inputs of a record, values and a leaf.

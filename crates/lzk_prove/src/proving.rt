@@ -119,7 +119,7 @@ fn prove_over<R: Hands, F: Field, X: RowExtend<F>>(
     }
 }
 
-// The same over either field.
+// `prove_over` over either field.
 fn prove_any<R: Hands>(
     rt: &R,
     alloc: Global,

@@ -16,9 +16,9 @@ next public private files stop end c = EvalAny c public private files stop end
 pub returns-in_err-held-clause-walks : goal.returns-in_err-held-clause-walks
 unfolding EvalRun
 returns-in_err-held-clause-walks g c =
-    ends circuit_files (λ x. x) c.args.circuit.now 0 (next c.args.public.now c.args.private.now) ⊥ (seen g.S.Shelf c.args.shelf.now) (seen g.S.Shelf c.read_circuit.new.shelf) c.in_err-held.field-0.0 _ (laws.circuits.quiet c.args.circuit.now) c.in_err-held.ensures.reads c.in_err-held.ensures.gives c.from_residual.ensures.1
+    ends circuit_files (λ x. x) c.args.circuit.now 0 (next c.args.public_file.now c.args.private_file.now) ⊥ (seen g.S.Shelf c.args.shelf.now) (seen g.S.Shelf c.read_circuit.new.shelf) c.in_err-held.field-0.0 _ (laws.circuits.quiet c.args.circuit.now) c.in_err-held.ensures.reads c.in_err-held.ensures.gives c.from_residual.ensures.1
 
 pub returns-clause-walks : goal.returns-clause-walks
 unfolding EvalRun
 returns-clause-walks g c =
-    then circuit_files (λ x. x) c.args.circuit.now 0 (next c.args.public.now c.args.private.now) ⊥ (seen g.S.Shelf c.args.shelf.now) (seen g.S.Shelf c.read_circuit.new.shelf) (seen g.S.Shelf c.eval_any.new.shelf) c.in_ok-held.held c.eval_any.result c.in_ok-held.ensures.reads c.in_ok-held.ensures.gives c.eval_any.ensures.walks
+    then circuit_files (λ x. x) c.args.circuit.now 0 (next c.args.public_file.now c.args.private_file.now) ⊥ (seen g.S.Shelf c.args.shelf.now) (seen g.S.Shelf c.read_circuit.new.shelf) (seen g.S.Shelf c.eval_any.new.shelf) c.in_ok-held.held c.eval_any.result c.in_ok-held.ensures.reads c.in_ok-held.ensures.gives c.eval_any.ensures.walks

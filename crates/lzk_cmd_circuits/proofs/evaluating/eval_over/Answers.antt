@@ -13,7 +13,7 @@ unfolding EvalOver
 returns-in_err-publics-clause-walks g c =
     let circuit = c.args.circuit.now in
     let end = seen g.S.Shelf c.read_elements.new.shelf in
-    no_publics g.F.Field.coding.size g.F.Field.coding.number circuit.publics circuit.privates c.args.public.now c.args.private.now (WithInputs g.F.Field.ops g.F.Field.coding.number circuit) ⊥ (seen g.S.Shelf c.args.shelf.now) end end end c.publics.result circuit.privates c.publics.ensures refl
+    no_publics g.F.Field.coding.size g.F.Field.coding.number circuit.publics circuit.privates c.args.public_file.now c.args.private_file.now (WithInputs g.F.Field.ops g.F.Field.coding.number circuit) ⊥ (seen g.S.Shelf c.args.shelf.now) end end end c.publics.result circuit.privates c.publics.ensures refl
     c.in_err-publics.field-0.0 _ c.in_err-publics.ensures.reads c.in_err-publics.ensures.gives c.from_residual.ensures.1
 
 pub returns-in_err-privates-clause-walks : goal.returns-in_err-privates-clause-walks
@@ -21,7 +21,7 @@ unfolding EvalOver
 returns-in_err-privates-clause-walks g c =
     let circuit = c.args.circuit.now in
     let end = seen g.S.Shelf c.read_elements-2.new.shelf in
-    no_privates g.F.Field.coding.size g.F.Field.coding.number circuit.publics circuit.privates c.args.public.now c.args.private.now (WithInputs g.F.Field.ops g.F.Field.coding.number circuit) ⊥ (seen g.S.Shelf c.args.shelf.now) (seen g.S.Shelf c.read_elements.new.shelf) end end c.publics.result c.privates.result c.publics.ensures c.privates.ensures
+    no_privates g.F.Field.coding.size g.F.Field.coding.number circuit.publics circuit.privates c.args.public_file.now c.args.private_file.now (WithInputs g.F.Field.ops g.F.Field.coding.number circuit) ⊥ (seen g.S.Shelf c.args.shelf.now) (seen g.S.Shelf c.read_elements.new.shelf) end end c.publics.result c.privates.result c.publics.ensures c.privates.ensures
     c.in_ok-publics.publics c.in_err-privates.field-0.0 _ c.in_ok-publics.ensures.reads c.in_ok-publics.ensures.gives c.in_err-privates.ensures.reads c.in_err-privates.ensures.gives c.from_residual-in_err-privates.ensures.1
 
 pub returns-clause-walks : goal.returns-clause-walks
@@ -34,6 +34,6 @@ returns-clause-walks g c =
     let end = seen g.S.Shelf c.read_elements-2.new.shelf in
     let first = subst (λ (xs : List _). Evaluates o g.F.Field.coding.number (checks_of o g.F.Field.coding.number circuit.layers (inputs_of o xs c.deref-2.result.now)) c.evaluate.result) c.deref.ensures.value c.evaluate.ensures in
     let both = subst (λ (ys : List _). Evaluates o g.F.Field.coding.number (checks_of o g.F.Field.coding.number circuit.layers (inputs_of o publics.items ys)) c.evaluate.result) c.deref-2.ensures.value first in
-    with_inputs g.F.Field.coding.size g.F.Field.coding.number circuit.publics circuit.privates c.args.public.now c.args.private.now (WithInputs o g.F.Field.coding.number circuit) ⊥ (seen g.S.Shelf c.args.shelf.now) (seen g.S.Shelf c.read_elements.new.shelf) end end c.publics.result c.privates.result c.publics.ensures c.privates.ensures
+    with_inputs g.F.Field.coding.size g.F.Field.coding.number circuit.publics circuit.privates c.args.public_file.now c.args.private_file.now (WithInputs o g.F.Field.coding.number circuit) ⊥ (seen g.S.Shelf c.args.shelf.now) (seen g.S.Shelf c.read_elements.new.shelf) end end c.publics.result c.privates.result c.publics.ensures c.privates.ensures
     publics privates c.evaluate.result c.in_ok-publics.ensures.reads c.in_ok-publics.ensures.gives c.in_ok-privates.ensures.reads c.in_ok-privates.ensures.gives
     (evaluates o g.F.Field.coding.number circuit publics.items privates.items end c.evaluate.result both)

@@ -20,7 +20,7 @@ next public proof session files stop end c = VerifyAny c public proof session fi
 pub returns-in_err-held-clause-walks : goal.returns-in_err-held-clause-walks
 unfolding VerifyRun
 returns-in_err-held-clause-walks g c =
-    ends circuit_files (λ (held : Held). held.circuit) c.args.circuit.now 0 (next c.args.public.now c.args.proof.now (session_of (option_copied c.args.session))) ⊥ (seen g.S.Shelf c.args.shelf.now) (seen g.S.Shelf c.read_held.new.shelf) c.in_err-held.field-0.0 _
+    ends circuit_files (λ (held : Held). held.circuit) c.args.circuit.now 0 (next c.args.public_file.now c.args.proof.now (session_of (option_copied c.args.session))) ⊥ (seen g.S.Shelf c.args.shelf.now) (seen g.S.Shelf c.read_held.new.shelf) c.in_err-held.field-0.0 _
     (laws.circuits.quiet c.args.circuit.now) c.in_err-held.ensures.reads c.in_err-held.ensures.gives c.from_residual-in_err-held.ensures.1
 
 pub returns-clause-walks : goal.returns-clause-walks
@@ -29,6 +29,6 @@ returns-clause-walks g c =
     let mid = seen g.S.Shelf c.read_held.new.shelf in
     let end = seen g.S.Shelf c.verify_any.new.shelf in
     let session : c.deref.result.now ≡ session_of (option_copied c.args.session) = c.deref.ensures.value ∙ c.in_ok-session.ensures in
-    then circuit_files (λ (held : Held). held.circuit) c.args.circuit.now 0 (next c.args.public.now c.args.proof.now (session_of (option_copied c.args.session))) ⊥ (seen g.S.Shelf c.args.shelf.now) mid end c.in_ok-held.held c.verify_any.result
+    then circuit_files (λ (held : Held). held.circuit) c.args.circuit.now 0 (next c.args.public_file.now c.args.proof.now (session_of (option_copied c.args.session))) ⊥ (seen g.S.Shelf c.args.shelf.now) mid end c.in_ok-held.held c.verify_any.result
     c.in_ok-held.ensures.reads c.in_ok-held.ensures.gives
-    (subst (λ s. Walks (VerifyAny c.in_ok-held.held.circuit c.args.public.now c.args.proof.now s) 1 mid end c.verify_any.result) session c.verify_any.ensures.walks)
+    (subst (λ s. Walks (VerifyAny c.in_ok-held.held.circuit c.args.public_file.now c.args.proof.now s) 1 mid end c.verify_any.result) session c.verify_any.ensures.walks)

@@ -9,7 +9,7 @@ pub returns-in_err-publics-clause-walks : goal.returns-in_err-publics-clause-wal
 returns-in_err-publics-clause-walks g c =
     let e = g.F.Field.coding in
     let end = seen g.S.Shelf c.read_elements.new.shelf in
-    no_publics g.F.Field.ops e c.args.circuit.now c.args.public.now c.args.proof.now c.args.session.now (seen g.S.Shelf c.args.shelf.now) end end c.publics.result c.in_err-publics.field-0.0 _ c.publics.ensures
+    no_publics g.F.Field.ops e c.args.circuit.now c.args.public_file.now c.args.proof.now c.args.session.now (seen g.S.Shelf c.args.shelf.now) end end c.publics.result c.in_err-publics.field-0.0 _ c.publics.ensures
     c.in_err-publics.ensures.reads c.in_err-publics.ensures.gives c.from_residual.ensures.1
 
 pub returns-clause-walks : goal.returns-clause-walks
@@ -18,6 +18,6 @@ returns-clause-walks g c =
     let e = g.F.Field.coding in
     let mid = seen g.S.Shelf c.read_elements.new.shelf in
     let end = seen g.S.Shelf c.judge_file.new.shelf in
-    with_publics o e c.args.circuit.now c.args.public.now c.args.proof.now c.args.session.now (seen g.S.Shelf c.args.shelf.now) mid end c.publics.result c.in_ok-publics.publics c.judge_file.result
+    with_publics o e c.args.circuit.now c.args.public_file.now c.args.proof.now c.args.session.now (seen g.S.Shelf c.args.shelf.now) mid end c.publics.result c.in_ok-publics.publics c.judge_file.result
     c.publics.ensures c.in_ok-publics.ensures.reads c.in_ok-publics.ensures.gives
     (subst (λ (xs : List _). Walks (JudgesFile o e c.args.circuit.now c.args.session.now xs c.args.proof.now) 2 mid end c.judge_file.result) c.deref.ensures.value c.judge_file.ensures.walks)
