@@ -6,7 +6,7 @@ ghost use Rattle.lzk_policies.specs.declared.error.RootedError.TheVariants.{OutO
 use lzk_beside::BesideError;
 use lzk_policy_circuit::PolicyCircuitError;
 use lzk_sha_path::PathError;
-use std::alloc::{AllocError, AllocFailed};
+use std::alloc::AllocError;
 use thiserror::Error;
 
 /// Why there is no circuit of a record under a root.
@@ -33,14 +33,6 @@ impl From<AllocError> for RootedError {
     ghost from_gives = { λ _ e. e ≡ OutOfMemory };
 
     fn from(_e: AllocError) -> RootedError {
-        RootedError::OutOfMemory
-    }
-}
-
-impl<T: Drop> From<AllocFailed<T>> for RootedError {
-    ghost from_gives = { λ _ e. e ≡ OutOfMemory };
-
-    fn from(_e: AllocFailed<T>) -> RootedError {
         RootedError::OutOfMemory
     }
 }

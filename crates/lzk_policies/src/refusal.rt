@@ -5,7 +5,7 @@ ghost use Rattle.lzk_policies.specs.declared.refusal.RootedInputsError.TheVarian
 
 use lzk_policy_inputs::InputsError;
 use lzk_sha_path::PathError;
-use std::alloc::{AllocError, AllocFailed};
+use std::alloc::AllocError;
 use thiserror::Error;
 
 /// Why a record, values and a place under a root give no inputs.
@@ -32,14 +32,6 @@ impl From<AllocError> for RootedInputsError {
     ghost from_gives = { λ _ e. e ≡ OutOfMemory };
 
     fn from(_e: AllocError) -> RootedInputsError {
-        RootedInputsError::OutOfMemory
-    }
-}
-
-impl<T: Drop> From<AllocFailed<T>> for RootedInputsError {
-    ghost from_gives = { λ _ e. e ≡ OutOfMemory };
-
-    fn from(_e: AllocFailed<T>) -> RootedInputsError {
         RootedInputsError::OutOfMemory
     }
 }

@@ -4,7 +4,7 @@ ghost use Rattle.std.specs.Prelude.{◌≡◌};
 
 use lzk_beside::BesideError;
 use lzk_level::LevelError;
-use std::alloc::{AllocError, AllocFailed};
+use std::alloc::AllocError;
 use thiserror::Error;
 
 /// Why a policy gives no circuit: a limit that the whole would pass, or want of memory.
@@ -27,16 +27,6 @@ impl From<AllocError> for PolicyCircuitError {
     ghost from_gives = { λ _ e. e ≡ OutOfMemory };
 
     fn from(_e: AllocError) -> PolicyCircuitError {
-        PolicyCircuitError::OutOfMemory
-    }
-}
-
-impl<T: Drop> From<AllocFailed<T>> for PolicyCircuitError {
-    ghost use Rattle.lzk_policy_circuit.specs.declared.error.PolicyCircuitError.TheVariants.{OutOfMemory};
-
-    ghost from_gives = { λ _ e. e ≡ OutOfMemory };
-
-    fn from(_e: AllocFailed<T>) -> PolicyCircuitError {
         PolicyCircuitError::OutOfMemory
     }
 }

@@ -3,7 +3,7 @@
 ghost use Rattle.std.specs.Prelude.{◌≡◌};
 ghost use Rattle.lzk_policy_inputs.specs.declared.error.InputsError.TheVariants.{OutOfMemory};
 
-use std::alloc::{AllocError, AllocFailed};
+use std::alloc::AllocError;
 use thiserror::Error;
 
 /// Why a record and values give no inputs. Places of what is shown beside the digest are counted from 0.
@@ -30,14 +30,6 @@ impl From<AllocError> for InputsError {
     ghost from_gives = { λ _ e. e ≡ OutOfMemory };
 
     fn from(_e: AllocError) -> InputsError {
-        InputsError::OutOfMemory
-    }
-}
-
-impl<T: Drop> From<AllocFailed<T>> for InputsError {
-    ghost from_gives = { λ _ e. e ≡ OutOfMemory };
-
-    fn from(_e: AllocFailed<T>) -> InputsError {
         InputsError::OutOfMemory
     }
 }

@@ -4,7 +4,7 @@ ghost use Rattle.std.specs.Prelude.{◌≡◌};
 ghost use Rattle.lzk_sha_blocks.specs.declared.error.DigestError.TheVariants.{Beside, OutOfMemory};
 
 use lzk_beside::BesideError;
-use std::alloc::{AllocError, AllocFailed};
+use std::alloc::AllocError;
 use thiserror::Error;
 
 /// Why there is no circuit for messages of so many bytes.
@@ -25,14 +25,6 @@ impl From<AllocError> for DigestError {
     ghost from_gives = { λ _ e. e ≡ OutOfMemory };
 
     fn from(_e: AllocError) -> DigestError {
-        DigestError::OutOfMemory
-    }
-}
-
-impl<T: Drop> From<AllocFailed<T>> for DigestError {
-    ghost from_gives = { λ _ e. e ≡ OutOfMemory };
-
-    fn from(_e: AllocFailed<T>) -> DigestError {
         DigestError::OutOfMemory
     }
 }

@@ -5,7 +5,7 @@ ghost use Rattle.lzk_sha_path.specs.declared.error.PathError.TheVariants.{OutOfM
 
 use lzk_beside::BesideError;
 use lzk_level::LevelError;
-use std::alloc::{AllocError, AllocFailed};
+use std::alloc::AllocError;
 use thiserror::Error;
 
 /// Why there is no circuit of a path, or no inputs.
@@ -29,14 +29,6 @@ impl From<AllocError> for PathError {
     ghost from_gives = { λ _ e. e ≡ OutOfMemory };
 
     fn from(_e: AllocError) -> PathError {
-        PathError::OutOfMemory
-    }
-}
-
-impl<T: Drop> From<AllocFailed<T>> for PathError {
-    ghost from_gives = { λ _ e. e ≡ OutOfMemory };
-
-    fn from(_e: AllocFailed<T>) -> PathError {
         PathError::OutOfMemory
     }
 }

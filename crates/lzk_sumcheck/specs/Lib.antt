@@ -8,6 +8,5 @@ pub mod Rounds
 pub mod Script
 pub mod Sending
 pub mod States
-pub mod SumPoints
 pub mod Versions
 pub mod Weights

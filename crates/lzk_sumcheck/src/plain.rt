@@ -7,7 +7,7 @@ ghost use Rattle.lzk_circuit.specs.Valid.{ArePlaced, HaveWidths};
 ghost use Rattle.lzk_circuit.specs.Wires.{layer_coefficient, weighed_term};
 ghost use Rattle.lzk_layout.specs.Places.{depth, bits_under, width_at};
 ghost use Rattle.lzk_sumcheck.specs.Layers.{layer_of_terms, weighted_layer};
-ghost use Rattle.lzk_sumcheck.specs.SumPoints.{point_of};
+ghost use Rattle.lzk_sumcheck.specs.Points.{point};
 ghost use Rattle.lzk_sumcheck.specs.Rounds as rounds;
 ghost use Rattle.lzk_sumcheck.specs.Rounds.{every_other, bound_coefficient};
 
@@ -18,7 +18,7 @@ use lzk_field::Field;
 // Variable j of the point.
 fn variable<F: Field>(on: &SumPoint<'_, F>, j: usize) -> F
     requires { j < 2 * on.now.bits }
-    ensures { result ≡ entry F.ops (point_of F.ops on.now) j }
+    ensures { result ≡ entry F.ops (point F.ops on.now.bits on.now.bound.now on.now.t on.now.z) j }
 {
     let bound = on.bound;
     if j < bound.len() {
@@ -35,7 +35,7 @@ fn variable<F: Field>(on: &SumPoint<'_, F>, j: usize) -> F
 // The variable for bit j of a, or for that of b.
 fn variable_of<F: Field>(on: &SumPoint<'_, F>, a: bool, j: usize) -> F
     requires { j < on.now.bits }
-    ensures { result ≡ entry F.ops (every_other a (point_of F.ops on.now)) j }
+    ensures { result ≡ entry F.ops (every_other a (point F.ops on.now.bits on.now.bound.now on.now.t on.now.z)) j }
 {
     if a {
         variable(on, 2 * j)
@@ -53,7 +53,7 @@ pub fn agreement<F: Field>(number: u32, x: F) -> F
 
 // How a number agrees with the variables for the bits of a, or of b.
 fn eq_part<F: Field>(on: &SumPoint<'_, F>, a: bool, number: u32) -> F
-    ensures { result ≡ eq F.ops number (every_other a (point_of F.ops on.now)) }
+    ensures { result ≡ eq F.ops number (every_other a (point F.ops on.now.bits on.now.bound.now on.now.t on.now.z)) }
 {
     let mut rest = number;
     let mut product = F::one();
@@ -68,7 +68,7 @@ fn eq_part<F: Field>(on: &SumPoint<'_, F>, a: bool, number: u32) -> F
 // The values' extension at these variables.
 fn tilde_part<F: Field>(values: &[F], on: &SumPoint<'_, F>, a: bool) -> F
     requires { length values.now ≤ 131072 }
-    ensures { result ≡ tilde F.ops values.now (every_other a (point_of F.ops on.now)) }
+    ensures { result ≡ tilde F.ops values.now (every_other a (point F.ops on.now.bits on.now.bound.now on.now.t on.now.z)) }
 {
     let mut total = F::zero();
     for i in 0..values.len() {
@@ -81,7 +81,7 @@ fn tilde_part<F: Field>(values: &[F], on: &SumPoint<'_, F>, a: bool) -> F
 fn term_part<F: Field>(term: Term<F>, beta: F, weights: &[F], on: &SumPoint<'_, F>) -> F
     requires { term.g < length weights.now }
     ensures { let o = F.ops in
-        let x = point_of o on.now in
+        let x = point o on.now.bits on.now.bound.now on.now.t on.now.z in
         result
         ≡ o.times (o.times (o.times (entry o weights.now term.g) (weighed_term o beta term).coef)
         (eq o term.a (every_other true x))) (eq o term.b (every_other false x)) }
@@ -104,7 +104,7 @@ fn coefficient_part<F: Field>(
 ) -> F
     requires { ArePlaced (length weights.now) width None terms.now }
     ensures { let o = F.ops in
-        let x = point_of o on.now in
+        let x = point o on.now.bits on.now.bound.now on.now.t on.now.z in
         result
         ≡ bound_coefficient o (layer_coefficient o terms.now beta) weights.now width (every_other true x)
         (every_other false x) }

@@ -4,13 +4,13 @@ use Rattle.std.proofs.lemmas.List.{drop_more, drop_all}
 use Rattle.lzk_circuit.specs.Sums.{sum_list}
 use Rattle.lzk_circuit.specs.Wires.{AreDistinct}
 use Rattle.lzk_circuit.proofs.OrderLaws.{placed-distinct}
-use Rattle.lzk_sumcheck.specs.SumPoints.{point_of}
+use Rattle.lzk_sumcheck.specs.Points.{point}
 use Rattle.lzk_sumcheck.specs.Rounds.{every_other}
 use Rattle.lzk_sumcheck.proofs.PointLaws.{term_value, terms-sum, terms_drop, list-step}
 use Rattle.lzk_sumcheck.proofs.plain.coefficient_part.Goals as goal
 
-pub term_part-requires-clause-wire : goal.term_part-requires-clause-wire
-term_part-requires-clause-wire g c κs within =
+pub term_part-requires-after_bounds : goal.term_part-requires-after_bounds
+term_part-requires-after_bounds g c =
     let o = g.F.Field.ops in
     let ts = c.args.terms.now in
     let i = c.loop-i.i in
@@ -26,7 +26,7 @@ loop-i-preserved g c =
     let ts = c.args.terms.now in
     let i = c.loop-i.i in
     let t = c.index-terms-i.result in
-    let x = point_of o c.args.on.now in
+    let x = point o c.args.on.now.bits c.args.on.now.bound.now c.args.on.now.t c.args.on.now.z in
     let f = term_value o m.laws.ring c.args.beta c.args.weights.now (every_other true x) (every_other false x) in
     let front = drop_more ts i t c.loop-i-test.true ∙ ap (λ x. x ∷ drop (i + 1) ts) (sym c.index-terms-i.is) in
     list-step o m.laws.ring ts (drop (i + 1) ts) t i f c.loop-i.total c.add-total.result c.term_part.result (sum_list o ts f) front c.term_part.ensures
@@ -37,7 +37,7 @@ returns g c =
     let m = g.F.Field in
     let o = m.ops in
     let ts = c.args.terms.now in
-    let x = point_of o c.args.on.now in
+    let x = point o c.args.on.now.bits c.args.on.now.bound.now c.args.on.now.t c.args.on.now.z in
     let f = term_value o m.laws.ring c.args.beta c.args.weights.now (every_other true x) (every_other false x) in
     sym (m.laws.ring.plus_zero c.loop-i.total)
     ∙ sym (ap (λ xs. o.plus c.loop-i.total (sum_list o xs f)) (drop_all c.loop-i.i ts c.loop-i-test.false))
