@@ -1,5 +1,5 @@
 -- The polynomial through given values, and its values at further points.
-use Rattle.std.specs.Prelude.{◌≡◌, ℕ, ◌<◌, List, length, cond}
+use Rattle.std.specs.Prelude.{◌≡◌, ℕ, ◌+◌, ◌<◌, ◌≤◌, List, length, cond}
 use Rattle.std.proofs.Common.{eqb}
 use Rattle.lzk_field.specs.Ring.{Ops}
 use Rattle.lzk_field.specs.Sums.{sum_below, product_below, minus, entry}
@@ -38,3 +38,7 @@ extension o point values j =
 pub record Reach : Type 0 where
   pub count : ℕ
   pub upto : ℕ
+
+-- so many points from one on are further points that are reached
+abbrev pub AreFurther : Reach → ℕ → ℕ → Type 0
+AreFurther reach from n = (reach.count ≤ from) × (from + n ≤ reach.upto)

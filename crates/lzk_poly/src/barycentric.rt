@@ -4,9 +4,9 @@ ghost use Rattle.std.specs.Prelude.{◌≡◌, ◌+◌, ◌≤◌, ◌↔◌, le
 ghost use Rattle.lzk_poly.specs.Extension.{Reach};
 ghost use Rattle.lzk_poly.specs.Weights.{IsEven, IsInverseTable, IsPassed, IsWeights};
 
-use crate::factors::{inverse_table, inverted_products, running_products};
+use crate::factors::{Products, inverse_table, inverted_products, running_products};
 use crate::spacing::Spacing;
-use crate::tables;
+use crate::tables::Points;
 use lzk_field::Field;
 use std::alloc::{AllocError, Global};
 use std::marker::Model;
@@ -71,9 +71,18 @@ impl<F: Field> Weights<F> {
         let size = spacing.size(upto);
         let running = running_products(alloc, size)?;
         let inverted = inverted_products(alloc, size, &running)?;
-        let weights = tables::weights(alloc, n, upto, spacing, &running, &inverted)?;
-        let passed = tables::passed_products(alloc, n, upto, spacing, &running, &inverted)?;
-        let inverses = inverse_table(alloc, size, &running, &inverted)?;
+        let points = Points {
+            upto,
+            spacing,
+            products: Products {
+                size,
+                running: &running,
+                inverted: &inverted,
+            },
+        };
+        let weights = points.weights(alloc, n)?;
+        let passed = points.passed_products(alloc, n)?;
+        let inverses = inverse_table(alloc, &points.products)?;
         Ok(Weights {
             weights,
             passed,

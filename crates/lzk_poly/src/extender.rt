@@ -2,7 +2,7 @@
 
 ghost use Rattle.std.specs.Prelude.{◌≡◌, ◌≢◌, ◌+◌, ℕ, List, ◌<◌, ◌≤◌, length, IfOk};
 ghost use Rattle.lzk_field.specs.Sums.{entry};
-ghost use Rattle.lzk_poly.specs.Extension.{IsExtension, IsInterpolated, Reach, extension};
+ghost use Rattle.lzk_poly.specs.Extension.{AreFurther, IsExtension, IsInterpolated, Reach, extension};
 ghost use Rattle.lzk_poly.specs.Weights.{parts, quotient_sum};
 
 use crate::barycentric::Weights;
@@ -23,11 +23,14 @@ pub struct Extender<F: Field> {
 }
 
 impl<F: Field> Model for Extender<F> {
+    ghost use Rattle.std.specs.Prelude.{◌≤◌};
     ghost use Rattle.lzk_poly.specs.Extension.{Reach};
 
     ghost Value = { Reach };
 
     ghost view = { λ e. e.weights };
+
+    ghost invariant = { λ e. (e.weights.count ≤ e.weights.upto) × (e.weights.upto ≤ 65536) };
 }
 
 impl<F: Field> Extender<F> {
@@ -89,7 +92,6 @@ impl<F: Field> Extender<F> {
     // The sum of what each value adds at `x`.
     fn sum_at(&self, values: &[F], x: F) -> F
         requires fits { length values.now ≡ self.now.count }
-        requires limit { length values.now ≤ 65536 }
         requires apart { (i : ℕ) → i < length values.now → x ≢ F.coding.element i }
         ensures { result ≡ parts F.ops F.coding.element values.now (length values.now) x }
     {
@@ -122,8 +124,7 @@ impl<F: Field> Extender<F> {
     // times weights.
     fn extend_from(&self, values: &[F], from: u32, out: &mut [F])
         requires fits { length values.now ≡ self.now.count }
-        requires after { self.now.count ≤ from }
-        requires reached { from + length out.old ≤ self.now.upto }
+        requires further { AreFurther self.now from (length out.old) }
         requires limit { self.now.upto ≤ 65536 }
         ensures { (k : ℕ) → k < length out.new
             → entry F.ops out.new k ≡ extension F.ops F.coding.element values.now (from + k) }
@@ -145,9 +146,7 @@ impl<F: Field> Extender<F> {
     // The values at points `from` and on, with room for some values times weights.
     fn extend_in(&self, values: &[F], from: u32, out: &mut [F], room: &mut [F])
         requires fits { length values.now ≡ self.now.count }
-        requires after { self.now.count ≤ from }
-        requires reached { from + length out.old ≤ self.now.upto }
-        requires limit { self.now.upto ≤ 65536 }
+        requires further { AreFurther self.now from (length out.old) }
         requires room { 1 ≤ length room.old }
         ensures { (k : ℕ) → k < length out.new
             → entry F.ops out.new k ≡ extension F.ops F.coding.element values.now (from + k) }
@@ -163,9 +162,7 @@ impl<F: Field> Extender<F> {
     // At points `from` and on, the sum of what each value adds.
     fn sum_parts(&self, values: &[F], from: u32, out: &mut [F], room: &mut [F])
         requires fits { length values.now ≡ self.now.count }
-        requires after { self.now.count ≤ from }
-        requires reached { from + length out.old ≤ self.now.upto }
-        requires limit { self.now.upto ≤ 65536 }
+        requires further { AreFurther self.now from (length out.old) }
         requires room { 1 ≤ length room.old }
         ensures { (k : ℕ) → k < length out.new → entry F.ops out.new k ≡
             parts F.ops F.coding.element values.now (length values.now) (F.coding.element (from + k)) }
@@ -186,9 +183,7 @@ impl<F: Field> Extender<F> {
     fn add_parts(&self, values: &[F], start: usize, from: u32, out: &mut [F], block: &mut [F])
         requires fits { length values.now ≡ self.now.count }
         requires within { start + length block.old ≤ length values.now }
-        requires after { self.now.count ≤ from }
-        requires reached { from + length out.old ≤ self.now.upto }
-        requires limit { self.now.upto ≤ 65536 }
+        requires further { AreFurther self.now from (length out.old) }
         ensures { (k : ℕ) → k < length out.new → (let x = F.coding.element (from + k) in
             entry F.ops out.old k ≡ parts F.ops F.coding.element values.now start x →
             entry F.ops out.new k ≡ parts F.ops F.coding.element values.now (start + length block.old) x) }
@@ -208,9 +203,7 @@ impl<F: Field> Extender<F> {
     fn quotients(&self, block: &[F], end: u32, j: u32) -> F
         requires enough { length block.now ≤ end }
         requires within { end ≤ self.now.count }
-        requires after { self.now.count ≤ j }
-        requires reached { j < self.now.upto }
-        requires limit { self.now.upto ≤ 65536 }
+        requires further { AreFurther self.now j 1 }
         ensures { result ≡ quotient_sum F.ops F.coding.element block.now end (F.coding.element j) }
     {
         let inverses = self.weights.inverses();

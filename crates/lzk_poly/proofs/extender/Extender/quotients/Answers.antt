@@ -1,4 +1,4 @@
-use Rattle.std.proofs.Common.{rules, ◌≡◌, ◌∙◌, arith, sym}
+use Rattle.std.proofs.Common.{rules, ◌≡◌, ◌≤◌, ◌∙◌, arith, sym}
 use Rattle.lzk_field.proofs.Numbering.{points_apart}
 use Rattle.lzk_poly.proofs.Blocks.{steps_are_quotients}
 use Rattle.lzk_poly.proofs.extender.Extender.quotients.Goals as goal
@@ -15,4 +15,6 @@ returns-then-is_even g c =
 
 pub by_numbers-requires-clause-apart : goal.by_numbers-requires-clause-apart
 by_numbers-requires-clause-apart g c κs within =
+    let ended : c.args.self.now.upto ≡ c.self.inside.weights.upto = search rules in
+    let limit : c.args.self.now.upto ≤ 65536 = omega (arith, ended, c.self.invariant.1) in
     λ i h e. points_apart g.F.Field.laws 65536 (omega arith) i c.args.j (omega arith) (omega arith) (sym e ∙ c.point.ensures)
