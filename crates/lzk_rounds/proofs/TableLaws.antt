@@ -1,8 +1,10 @@
 -- Tables of which the front is in use.
 use Rattle.std.specs.Prelude.{◌≡◌, ℕ, ◌+◌, ◌*◌, ◌/◌, ◌%◌, ◌^◌, ◌≤◌, Bool, true, false, not, List, length, take, ◌++◌, Vec}
 use Rattle.std.specs.Vec.{with_items}
-use Rattle.std.proofs.Common.{refl, sym, ap, ◌∙◌, arith, subst}
+use Rattle.std.proofs.Common.{refl, sym, ap, ◌∙◌, arith, subst, inl, inr}
+use Rattle.std.proofs.lemmas.Bool.{cases_lt}
 use Rattle.std.proofs.lemmas.List.{length-append, take-append-le, with_items_is}
+use Rattle.std.proofs.lemmas.Nat.{pow_below}
 use Rattle.std.proofs.Math.Seq.{take-append_seam}
 use Rattle.lzk_field.specs.Ring.{Ops, RingLaws}
 use Rattle.lzk_rounds.specs.declared.curve.RoundSums.{RoundSums}
@@ -44,6 +46,14 @@ whole-written v whole new is same = with_items_is v new (omega (arith, same, ap 
 
 pub whole-size : {X Z : Type 0} (v : Vec X Z) (whole new : List X) → whole ≡ v.items → length new ≡ length whole → length (with_items v new).items ≡ length v.items
 whole-size v whole new is same = ap length (whole-written v whole new is same) ∙ same ∙ ap length is
+
+-- numbers of so many bits that a table has room for
+pub few-bits : (n k : ℕ) → 2 ^ n ≤ 2 ^ k → n ≤ k
+few-bits n k fits =
+    elim (cases_lt k n) [
+      | inl more ↦ absurd (omega (arith, pow_below k n more, fits))
+      | inr few ↦ few
+    ]
 
 -- how many are left, in either case
 pub few-left : (b : Bool) (n m : ℕ) → (b ≡ true → n ≡ m) → (b ≡ false → n ≡ m / 2 + m % 2) → n ≤ m

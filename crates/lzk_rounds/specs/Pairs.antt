@@ -1,5 +1,7 @@
 -- Coefficients that are kept as a list of pairs of numbers.
 use Rattle.std.specs.Prelude.{ℕ, ◌<◌, ◌/◌, ◌+◌, ◌*◌, ◌==◌, cond, List, [], ◌∷◌}
+use Rattle.std.specs.Coded.{Unit-prop, le_prop}
+use mathlib.Core.HLevel.{×₃_prop}
 use Rattle.lzk_field.specs.Ring.{Ops}
 use Rattle.lzk_field.specs.Sums.{minus, entry}
 use Rattle.lzk_circuit.specs.declared.layer.Term.{Term}
@@ -19,6 +21,11 @@ bind_pair o x p = record { a = p.b; b = p.a / 2; coef = o.times p.coef (agree o 
 abbrev pub ArePairs : {A : Type 0} → ℕ → ℕ → List (Pair A) → Type 0
 ArePairs n m [] = Unit {0}
 ArePairs n m (p ∷ ps) = (p.a < n) × (p.b < m) × ArePairs n m ps
+
+-- there is one proof of it at most
+pub ArePairs-prop : {A : Type 0} (n m : ℕ) (ps : List (Pair A)) → IsProp (ArePairs n m ps)
+ArePairs-prop n m [] = Unit-prop
+ArePairs-prop n m (p ∷ ps) = ×₃_prop le_prop le_prop (ArePairs-prop n m ps)
 
 -- the table with its first variable bound
 abbrev pub bound_entry : {A : Type 0} → Ops A → A → List A → ℕ → A

@@ -92,18 +92,7 @@ fn places_of(alloc: Global, list: &[u64]) -> Result<Vec<u32>, AllocError>
 }
 
 impl Order {
-    ghost use Rattle.std.specs.Prelude.{◌≡◌, ◌≤◌, length, IfOk};
-    ghost use Rattle.lzk_rounds.specs.Orders.{IsOrderOf};
-
-    /// The order of these terms, whose numbers are kept no longer than they are sorted by.
-    fn of<F: Field>(alloc: Global, terms: &[Term<F>]) -> Result<Order, AllocError>
-        requires few { length terms.now ≤ 2097152 }
-        ensures { IfOk result (λ order. IsOrderOf terms.now order) }
-    {
-        let sorted = sorted_places(alloc, terms)?;
-        let list = places_of(alloc, &sorted)?;
-        Ok(Order { list })
-    }
+    ghost use Rattle.std.specs.Prelude.{◌≡◌};
 
     /// The places.
     pub fn as_slice(&self) -> &[u32]
@@ -113,13 +102,15 @@ impl Order {
     }
 }
 
-// The order of the terms of layer `l`.
+// The order of the terms of layer `l`, whose numbers are kept no longer than they are sorted by.
 fn order_at<F: Field>(alloc: Global, circuit: &Circuit<F>, l: u32) -> Result<Order, AllocError>
     requires { l < depth circuit.now }
     ensures { IfOk result (λ order. IsOrderOf (terms_at circuit.now l) order) }
 {
     circuit.valid_laws();
-    Order::of(alloc, circuit.layer(l).terms.as_slice())
+    let sorted = sorted_places(alloc, circuit.layer(l).terms.as_slice())?;
+    let list = places_of(alloc, &sorted)?;
+    Ok(Order { list })
 }
 
 /// The order of each layer's terms.

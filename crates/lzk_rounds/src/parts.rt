@@ -2,54 +2,32 @@
 
 ghost use Rattle.std.specs.Prelude.{◌≡◌, ℕ, ◌+◌, ◌-◌, ◌*◌, ◌/◌, ◌<◌, ◌≤◌, min, length};
 ghost use Rattle.lzk_field.specs.Sums.{sum_below};
-ghost use Rattle.lzk_rounds.specs.Parts.{AreMatching, AreSums, BeginsWithSums, sums_in};
+ghost use Rattle.lzk_rounds.specs.Parts.{AreSums, BeginsWithSums, sums_in};
 ghost use Rattle.lzk_rounds.specs.Rows.{round_at, row_at};
 
 use crate::arithmetic::sum_of;
 use crate::curve::{RoundSums, round_sums};
-use crate::pairs::Pair;
 use crate::rows::{set_rows, set_rows_from};
+use crate::summed::Summed;
 use lzk_field::Field;
-
-/// What a round is summed over: pairs, coefficients of wire 0 and two tables.
-#[derive(Drop)]
-pub struct Summed<'a, F: Field> {
-    pub of_a: bool,
-    pub scale: F,
-    pub linear: &'a [F],
-    pub first: &'a [F],
-    pub second: &'a [F],
-    pub pairs: &'a [Pair<F>],
-}
 
 /// How many sums stand before the rows of a part.
 pub const SUMS: usize = 3;
 
 /// Sets all rows, and sums the round.
 pub fn sum_whole<F: Field>(round: &Summed<F>, rows: &mut [F]) -> RoundSums<F>
-    requires matching { AreMatching round.now.of_a round.now.pairs.now round.now.linear.now round.now.first.now
-        round.now.second.now }
-    requires rows { length round.now.first.now ≤ length rows.old }
+    requires { length round.now.first.now ≤ length rows.old }
     ensures { let r = round.now in
         AreSums F.ops (row_at F.ops r.of_a r.pairs.now r.scale r.linear.now r.second.now) r.first.now result }
 {
     let (rows, _) = rows.split_at_mut(round.first.len());
-    set_rows(
-        round.of_a,
-        round.pairs,
-        round.scale,
-        round.linear,
-        round.second,
-        rows,
-    );
+    set_rows(round, rows);
     round_sums(rows, round.first)
 }
 
 /// Sums part `k` of a round: at most `each` times two places. Its sums are put first, and behind them its rows are
 /// written over.
 pub fn sum_part<F: Field>(round: &Summed<F>, k: usize, each: usize, part: &mut [F])
-    requires matching { AreMatching round.now.of_a round.now.pairs.now round.now.linear.now round.now.first.now
-        round.now.second.now }
     requires some { 1 ≤ each }
     requires begin { 2 * (k * each) < length round.now.first.now }
     requires part { length part.old ≡ 3 + min (2 * each) (length round.now.first.now - 2 * (k * each)) }
@@ -60,15 +38,7 @@ pub fn sum_part<F: Field>(round: &Summed<F>, k: usize, each: usize, part: &mut [
     let (sums, rows) = part.split_at_mut(SUMS);
     let from = 2 * (k * each);
     let upto = from + rows.len();
-    set_rows_from(
-        round.of_a,
-        round.pairs,
-        round.scale,
-        round.linear,
-        round.second,
-        from,
-        rows,
-    );
+    set_rows_from(round, from, rows);
     let total = round_sums(rows, &round.first[from..upto]);
     sums[0] = total.all;
     sums[1] = total.even;

@@ -1,12 +1,13 @@
 //! What a state's coefficients come to with the second table: a sum for each number of the first.
 
-ghost use Rattle.std.specs.Prelude.{◌≡◌, ℕ, ◌+◌, ◌<◌, ◌≤◌, ◌==◌, cond, Bool, true, false, length};
+ghost use Rattle.std.specs.Prelude.{◌≡◌, ℕ, ◌+◌, ◌<◌, ◌≤◌, ◌==◌, cond, length};
 ghost use Rattle.lzk_field.specs.Sums.{entry};
 ghost use Rattle.lzk_rounds.specs.Pairs.{ArePairs};
 ghost use Rattle.lzk_rounds.specs.Rows.{pairs_row, linear_row, row_at};
 
 use crate::arithmetic::{plus_product, product_of};
 use crate::pairs::Pair;
+use crate::summed::Summed;
 use lzk_field::Field;
 use lzk_sumcheck::entry_at;
 
@@ -29,19 +30,22 @@ fn set_multiples<F: Field>(factor: F, list: &[F], rows: &mut [F])
     }
 }
 
-// Sets each row to what the coefficients of wire 0 come to: all stand in its row, or one in each.
-fn set_linear<F: Field>(of_a: bool, scale: F, linear: &[F], second: &[F], rows: &mut [F])
+// Sets the rows from number `from` on to what the coefficients of wire 0 come to: all stand in row 0, or one in each.
+fn set_linear<F: Field>(round: &Summed<F>, from: usize, rows: &mut [F])
     requires some { 1 ≤ length rows.old }
-    requires second { 1 ≤ length second.now }
-    requires for_a { of_a ≡ true → length linear.now ≡ length second.now }
-    requires for_b { of_a ≡ false → length linear.now ≡ length rows.old }
-    ensures { let o = F.ops in (i : ℕ) → entry o rows.new i ≡ linear_row o of_a scale linear.now second.now i }
+    requires within { from + length rows.old ≤ length round.now.first.now }
+    ensures { let o = F.ops in let r = round.now in
+        (i : ℕ) → i < length rows.old
+        → entry o rows.new i ≡ linear_row o r.of_a r.scale r.linear.now r.second.now (from + i) }
 {
-    if of_a {
+    if round.of_a {
         set_zeros(rows);
-        rows[0] = scale.mul(F::dot(linear, second));
+        if from == 0 {
+            rows[0] = round.scale.mul(F::dot(round.linear, round.second));
+        }
     } else {
-        set_multiples(scale.mul(second[0]), linear, rows);
+        let factor = round.scale.mul(round.second[0]);
+        set_multiples(factor, &round.linear[from..from + rows.len()], rows);
     }
 }
 
@@ -70,49 +74,13 @@ fn add_pairs<F: Field>(pairs: &[Pair<F>], second: &[F], rows: &mut [F])
 }
 
 /// Sets the rows.
-pub fn set_rows<F: Field>(
-    of_a: bool,
-    pairs: &[Pair<F>],
-    scale: F,
-    linear: &[F],
-    second: &[F],
-    rows: &mut [F],
-)
-    requires some { 1 ≤ length rows.old }
-    requires second { 1 ≤ length second.now }
-    requires for_a { of_a ≡ true → length linear.now ≡ length second.now }
-    requires for_b { of_a ≡ false → length linear.now ≡ length rows.old }
-    requires pairs { ArePairs (length rows.old) (length second.now) pairs.now }
-    ensures { let o = F.ops in (i : ℕ) → entry o rows.new i ≡ row_at o of_a pairs.now scale linear.now second.now i }
+pub fn set_rows<F: Field>(round: &Summed<F>, rows: &mut [F])
+    requires { length rows.old ≡ length round.now.first.now }
+    ensures { let o = F.ops in let r = round.now in
+        (i : ℕ) → entry o rows.new i ≡ row_at o r.of_a r.pairs.now r.scale r.linear.now r.second.now i }
 {
-    set_linear(of_a, scale, linear, second, rows);
-    add_pairs(pairs, second, rows);
-}
-
-// Sets the rows from number `from` on to what the coefficients of wire 0 come to.
-fn set_linear_from<F: Field>(
-    of_a: bool,
-    scale: F,
-    linear: &[F],
-    second: &[F],
-    from: usize,
-    rows: &mut [F],
-)
-    requires some { 1 ≤ length rows.old }
-    requires second { 1 ≤ length second.now }
-    requires for_a { of_a ≡ true → length linear.now ≡ length second.now }
-    requires for_b { of_a ≡ false → from + length rows.old ≤ length linear.now }
-    ensures { let o = F.ops in
-        (i : ℕ) → i < length rows.old → entry o rows.new i ≡ linear_row o of_a scale linear.now second.now (from + i) }
-{
-    if of_a {
-        set_zeros(rows);
-        if from == 0 {
-            rows[0] = scale.mul(F::dot(linear, second));
-        }
-    } else {
-        set_multiples(scale.mul(second[0]), &linear[from..from + rows.len()], rows);
-    }
+    set_linear(round, 0, rows);
+    add_pairs(round.pairs, round.second, rows);
 }
 
 // Adds to its row what a pair comes to, where that is one of the rows from number `from` on.
@@ -143,24 +111,13 @@ fn add_pairs_from<F: Field>(pairs: &[Pair<F>], second: &[F], from: usize, rows: 
 }
 
 /// Sets the rows from number `from` on.
-pub fn set_rows_from<F: Field>(
-    of_a: bool,
-    pairs: &[Pair<F>],
-    scale: F,
-    linear: &[F],
-    second: &[F],
-    from: usize,
-    rows: &mut [F],
-)
+pub fn set_rows_from<F: Field>(round: &Summed<F>, from: usize, rows: &mut [F])
     requires some { 1 ≤ length rows.old }
-    requires second { 1 ≤ length second.now }
-    requires for_a { of_a ≡ true → length linear.now ≡ length second.now }
-    requires for_b { of_a ≡ false → from + length rows.old ≤ length linear.now }
-    requires pairs { (n : ℕ) × ArePairs n (length second.now) pairs.now }
-    ensures { let o = F.ops in
+    requires within { from + length rows.old ≤ length round.now.first.now }
+    ensures { let o = F.ops in let r = round.now in
         (i : ℕ) → i < length rows.old
-        → entry o rows.new i ≡ row_at o of_a pairs.now scale linear.now second.now (from + i) }
+        → entry o rows.new i ≡ row_at o r.of_a r.pairs.now r.scale r.linear.now r.second.now (from + i) }
 {
-    set_linear_from(of_a, scale, linear, second, from, rows);
-    add_pairs_from(pairs, second, from, rows);
+    set_linear(round, from, rows);
+    add_pairs_from(round.pairs, round.second, from, rows);
 }

@@ -125,7 +125,6 @@ impl<F: Field> Tables<F> {
 
     /// Makes the tables those of how numbers agree with two points.
     pub fn set_points(&mut self, ra: &[F], rb: &[F])
-        requires few { length ra.now ≤ 17 }
         requires same { length rb.now ≡ length ra.now }
         requires room { 2 ^ length ra.now ≤ self.old.room.places }
         ensures room { self.new.room ≡ self.old.room }
@@ -134,9 +133,9 @@ impl<F: Field> Tables<F> {
         ensures first { let o = F.ops in (i : ℕ) → i < 2 ^ length ra.now → entry o self.new.first i ≡ eq o i ra.now }
         ensures second { let o = F.ops in (i : ℕ) → i < 2 ^ length ra.now → entry o self.new.second i ≡ eq o i rb.now }
     {
-        let size = power_of(ra.len() as u32);
         set_table(ra, &mut self.first);
         set_table(rb, &mut self.second);
+        let size = power_of(ra.len() as u32);
         self.pair_count = 0;
         self.linear_count = size;
         self.first_count = size;

@@ -6,18 +6,8 @@ use Rattle.lzk_rounds.specs.Rows.{row_at, round_at}
 use Rattle.lzk_rounds.proofs.PartLaws.{three-put, row-past, part-entries, part-sum}
 use Rattle.lzk_rounds.proofs.parts.sum_part.Goals as goal
 
-pub set_rows_from-requires-clause-second : goal.set_rows_from-requires-clause-second
-set_rows_from-requires-clause-second g c κs within = c.requires.matching.second
-
-pub set_rows_from-requires-clause-for_a : goal.set_rows_from-requires-clause-for_a
-set_rows_from-requires-clause-for_a g c κs within = c.requires.matching.for_a
-
-pub set_rows_from-requires-clause-for_b : goal.set_rows_from-requires-clause-for_b
-set_rows_from-requires-clause-for_b g c κs within = λ is.
-    omega (arith, c.requires.matching.for_b is, c.requires.begin, c.requires.part, c.split_at_mut-sums.ensures.back_len)
-
-pub set_rows_from-requires-clause-pairs : goal.set_rows_from-requires-clause-pairs
-set_rows_from-requires-clause-pairs g c κs within = (length c.args.round.now.first.now, c.requires.matching.pairs)
+pub set_rows_from-requires-clause-within : goal.set_rows_from-requires-clause-within
+set_rows_from-requires-clause-within g c κs within = omega (arith, c.requires.begin, c.requires.part, c.split_at_mut-sums.ensures.back_len)
 
 pub returns : goal.returns
 returns g c =
@@ -46,7 +36,7 @@ returns g c =
           ∙ c.round_sums-total.ensures each fits t
           ∙ part-sum o r begin each row first rows part t
           (part-entries o r begin each n row rows size (λ i h. c.set_rows_from.ensures i (omega (arith, h, c.set_rows_from.auto.rows)))
-          (λ i past. row-past o r a.of_a n (length a.second.now) a.pairs.now a.scale a.linear.now a.second.now i c.requires.matching.pairs c.requires.matching.first c.requires.matching.for_b past))
+          (λ i past. row-past o r a.of_a n (length a.second.now) a.pairs.now a.scale a.linear.now a.second.now i a.matching.pairs a.matching.first a.matching.for_b past))
           (part-entries o r begin each n (entry o first) part width (λ i h. get_or-take long (drop (2 * begin) first) i o.zero (omega (arith, h, width, own)) ∙ get_or-drop (2 * begin) first i o.zero)
           (λ i past. get_or_past first i o.zero past));
     }

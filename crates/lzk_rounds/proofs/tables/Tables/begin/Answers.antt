@@ -62,6 +62,7 @@ invariant_of-self g c =
         linear_places = omega (arith, lq, lf, room.linear_places);
         second_places = omega (arith, lh, lf, room.second_places);
         rows_places = omega (arith, lf, room.rows_places);
+        few = omega (arith, lf, room.few);
       },
       record {
         first = omega (arith, a, c.table_size-size.ensures.some);

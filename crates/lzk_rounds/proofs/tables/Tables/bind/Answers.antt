@@ -55,6 +55,7 @@ invariant_of-self g c =
         linear_places = omega (arith, sl, ap length x, room.linear_places, room.second_places);
         second_places = omega (arith, ap length y, st, ap length x, room.second_places);
         rows_places = omega (arith, ap length x, room.rows_places, room.second_places);
+        few = omega (arith, ap length x, room.second_places, room.few);
       },
       matching-same (not i.of_a) (take bp.result bp.new.pairs) _ (take bl.result.1 bl.new.linear) _ s0 _ f1 _ tp tl (ap (take i.second_count) x) tt1 new,
     )
