@@ -6,13 +6,16 @@ use Rattle.lzk_batch.specs.declared.job.Judged.{Judged}
 use Rattle.lzk_batch.specs.Passes.{TicketsState, PassState, IsOf, IsOpen}
 use Rattle.lzk_batch.specs.Batch.{IsJobFit, IsJudged, numbers_of, HasDrawnMore, AllZip₃}
 
--- a pass may be lent: it is of these tickets, and has not drawn past their jobs
-pub record IsReady (tickets : TicketsState) (pass : PassState) : Type 0 where
+-- a pass may be lent for these jobs: it is of these tickets, and has not drawn past them
+pub record IsReady (batch : List AnyCircuit) (list : List Job) (tickets : TicketsState) (pass : PassState) : Type 0 where
+  pub fit : All (IsJobFit batch) list
   pub of : IsOf tickets pass
   pub still : IsOpen tickets pass
 
 -- so may these passes
-pub record AreReady (tickets : TicketsState) (passes : List PassState) : Type 0 where
+pub record AreReady (batch : List AnyCircuit) (list : List Job) (tickets : TicketsState)
+    (passes : List PassState) : Type 0 where
+  pub fit : All (IsJobFit batch) list
   pub of : All (IsOf tickets) passes
   pub still : All (IsOpen tickets) passes
 

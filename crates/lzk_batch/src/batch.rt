@@ -18,7 +18,7 @@ use lzk_field::Gate;
 use std::alloc::{AllocError, Global};
 use std::thread::{Threads, join_mut};
 
-// What all workers see: the circuits with their ids, jobs that fit them, and tickets for as many.
+// What all workers see: the circuits with their ids, the jobs, and tickets for as many.
 #[derive(Drop)]
 struct Batch<'a> {
     circuits: &'a [AnyCircuit],
@@ -26,7 +26,6 @@ struct Batch<'a> {
     jobs: &'a [Job],
     tickets: &'a Tickets,
     ghost of_circuits: { ids.now ≡ map id_of_any circuits.now },
-    ghost fit: { All (IsJobFit circuits.now) jobs.now },
     ghost dealt: { tickets.now.jobs ≡ length jobs.now },
 }
 
@@ -38,7 +37,7 @@ fn work(
     pass: &mut Pass,
 ) -> Result<Vec<Judged>, AllocError>
     requires desks { desks.old ≡ batch.now.circuits.now }
-    requires ready { IsReady batch.now.tickets.now pass.old }
+    requires ready { IsReady batch.now.circuits.now batch.now.jobs.now batch.now.tickets.now pass.old }
     ensures worked { IfOk result
         (λ judged. HasWorked batch.now.circuits.now batch.now.jobs.now pass.old pass.new judged.items) }
     ensures draws { DrawsOn pass.old pass.new }
@@ -56,7 +55,7 @@ fn work(
 
 // Verifies with one pass, and with desks of its own.
 fn work_alone(alloc: Global, batch: &Batch<'_>, pass: &mut Pass) -> Result<Vec<Judged>, AllocError>
-    requires ready { IsReady batch.now.tickets.now pass.old }
+    requires ready { IsReady batch.now.circuits.now batch.now.jobs.now batch.now.tickets.now pass.old }
     ensures worked { IfOk result
         (λ judged. HasWorked batch.now.circuits.now batch.now.jobs.now pass.old pass.new judged.items) }
     ensures draws { DrawsOn pass.old pass.new }
@@ -73,7 +72,7 @@ fn one_list(
     batch: &Batch<'_>,
     pass: &mut Pass,
 ) -> Result<Vec<Vec<Judged>>, AllocError>
-    requires ready { IsReady batch.now.tickets.now pass.old }
+    requires ready { IsReady batch.now.circuits.now batch.now.jobs.now batch.now.tickets.now pass.old }
     ensures worked { IfOk result (λ lists.
         HaveWorked batch.now.circuits.now batch.now.jobs.now (pass.old ∷ []) (pass.new ∷ [])
         (map (λ list. list.items) lists.items)) }
@@ -96,7 +95,7 @@ fn share_out<R: Threads + Sync, G: Gate>(
     of: usize,
     passes: &mut [Pass],
 ) -> Result<Vec<Vec<Judged>>, AllocError>
-    requires ready { AreReady batch.now.tickets.now passes.old }
+    requires ready { AreReady batch.now.circuits.now batch.now.jobs.now batch.now.tickets.now passes.old }
     requires some { 1 ≤ length passes.old }
     requires few { first + length passes.old ≤ most_workers }
     ensures worked { IfOk result (λ lists.
@@ -116,7 +115,7 @@ fn share_out<R: Threads + Sync, G: Gate>(
     let (front, back) = passes.split_at_mut(half);
     let mut front_lists = ||
         requires { IsSync R.row × IsSync G.row × (1 ≤ length front.now) × (first + length front.now ≤ most_workers) ×
-            AreReady batch.now.tickets.now front.now }
+            AreReady batch.now.circuits.now batch.now.jobs.now batch.now.tickets.now front.now }
         ensures worked { IfOk result (λ lists.
             HaveWorked batch.entry.now.circuits.now batch.entry.now.jobs.now front.entry.now front.exit.now
             (map (λ list. list.items) lists.items)) }
@@ -124,7 +123,7 @@ fn share_out<R: Threads + Sync, G: Gate>(
     { share_out(rt, alloc, batch, gate, first, of, front) };
     let mut back_lists = ||
         requires { IsSync R.row × IsSync G.row × (1 ≤ length back.now) × (next + length back.now ≤ most_workers) ×
-            AreReady batch.now.tickets.now back.now }
+            AreReady batch.now.circuits.now batch.now.jobs.now batch.now.tickets.now back.now }
         ensures worked { IfOk result (λ lists.
             HaveWorked batch.entry.now.circuits.now batch.entry.now.jobs.now back.entry.now back.exit.now
             (map (λ list. list.items) lists.items)) }

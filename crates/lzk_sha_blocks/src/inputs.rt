@@ -9,8 +9,9 @@ ghost use Rattle.lzk_sha_blocks.specs.Hashed.{AreHashing};
 ghost use Rattle.lzk_sha_blocks.specs.Witness.{digest_private};
 
 use lzk_goldilocks::Gold;
+use lzk_lanes::INITIAL_HASH;
 use lzk_sha_circuit::{
-    INITIAL_HASH, ShaInputs, compression_inputs, numbers_of, padded, state_from, write_message,
+    ShaInputs, compression_inputs, numbers_of, padded, state_from, write_message,
 };
 use std::alloc::{AllocError, Global};
 

@@ -12,10 +12,10 @@ ghost use Rattle.lzk_sha_circuit.specs.Inputs.{next_total, bit_list, schedule_li
 ghost use Rattle.lzk_sha_circuit.specs.Inputs.{compression_private, sha_private};
 
 use crate::bits::{write_bits, write_sum};
-use crate::constants::{INITIAL_HASH, ROUND_CONSTANTS};
 use crate::words::{big_sigma0, big_sigma1, ch, maj, padded, small_sigma0, small_sigma1, word_at};
 use lzk_field::Field;
 use lzk_goldilocks::Gold;
+use lzk_lanes::{INITIAL_HASH, ROUND_CONSTANTS};
 use std::alloc::{AllocError, Global};
 
 /// Inputs of the circuit.

@@ -15,7 +15,6 @@
 mod bit;
 mod bits;
 mod circuit;
-mod constants;
 mod entries;
 mod given;
 mod inner;
@@ -33,7 +32,6 @@ mod words;
 
 pub use bit::{Bit, constant};
 pub use circuit::{compression_circuit, sha_circuit};
-pub use constants::INITIAL_HASH;
 pub use given::Given;
 pub use inputs::{ShaInputs, compression_inputs, sha_inputs, write_message};
 pub use laws::{circuit_laws, compression_laws, digest_laws};

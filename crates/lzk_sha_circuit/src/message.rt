@@ -7,8 +7,8 @@ ghost use Rattle.lzk_sha_circuit.specs.Found.{places_of};
 ghost use Rattle.lzk_sha_circuit.specs.Places.{bit_constant, message_bit, message_block, initial_state, message_places};
 
 use crate::bit::{Bit, constant};
-use crate::constants::INITIAL_HASH;
 use crate::given::Given;
+use lzk_lanes::INITIAL_HASH;
 use std::alloc::{AllocError, Global};
 
 /// The length of a message that one block holds.

@@ -6,7 +6,6 @@ ghost use Rattle.lzk_sha_circuit.specs.Found.{places_of};
 ghost use Rattle.lzk_sha_circuit.specs.Layers.{IsBuilt, inner_count, last_word_of, bit_row, w_row};
 ghost use Rattle.lzk_sha_circuit.specs.Layers.{first_list, a_row, e_row, f_row, digest_row, output_rows};
 
-use crate::constants::ROUND_CONSTANTS;
 use crate::entries::{Move, Word, wire_entry};
 use crate::given::Given;
 use crate::placed::{Carried, Ors, Placed, Row};
@@ -17,6 +16,7 @@ use crate::sums::{push_carry, push_ch, push_maj, push_or_word, push_row_worth, p
 use lzk_circuit::Term;
 use lzk_field::Field;
 use lzk_goldilocks::Gold;
+use lzk_lanes::ROUND_CONSTANTS;
 use std::alloc::{AllocError, Global};
 
 // A number, as a product of the one with itself.

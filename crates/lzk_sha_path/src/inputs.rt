@@ -13,7 +13,8 @@ ghost use Rattle.lzk_sha_path.specs.Roots.{block_of, node_of, parent_of, root_of
 use crate::error::PathError;
 use lzk_field::Field;
 use lzk_goldilocks::Gold;
-use lzk_sha_circuit::{INITIAL_HASH, ShaInputs, compression_inputs, numbers_of, state_from};
+use lzk_lanes::INITIAL_HASH;
+use lzk_sha_circuit::{ShaInputs, compression_inputs, numbers_of, state_from};
 use std::alloc::{AllocError, Global};
 
 /// Inputs of the circuit of a path.

@@ -10,7 +10,7 @@ use Rattle.lzk_sumcheck.proofs.PointLaws.{term_value, terms-sum, terms_drop, lis
 use Rattle.lzk_sumcheck.proofs.plain.coefficient_part.Goals as goal
 
 pub term_part-requires-after_bounds : goal.term_part-requires-after_bounds
-term_part-requires-after_bounds g c =
+term_part-requires-after_bounds g c = λ κs within.
     let o = g.F.Field.ops in
     let ts = c.args.terms.now in
     let i = c.loop-i.i in
