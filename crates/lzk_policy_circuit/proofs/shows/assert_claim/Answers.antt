@@ -12,8 +12,8 @@ returns-in-AtMost c =
 pub returns-in-AtLeast : goal.returns-in-AtLeast
 returns-in-AtLeast c =
     let small : c.args.field.now.size ≤ 55 = omega arith in
-    ok_map c.assert_side-2.result _ _ c.assert_side-2.ensures (λ x d.
-    claim_least c.args.field.now c.args.claim.now c.args.s.now c.assert_side-2.new.s c.args.i c.args.own small c.in-AtLeast.field-0 c.in-AtLeast.is d)
+    ok_map c.assert_side-in-AtLeast.result _ _ c.assert_side-in-AtLeast.ensures (λ x d.
+    claim_least c.args.field.now c.args.claim.now c.args.s.now c.assert_side-in-AtLeast.new.s c.args.i c.args.own small c.in-AtLeast.field-0 c.in-AtLeast.is d)
 
 pub returns-in-Equal : goal.returns-in-Equal
 returns-in-Equal c =
