@@ -16,5 +16,6 @@ pub struct Summed<'a, F: Field> {
     pub first: &'a [F],
     pub second: &'a [F],
     pub pairs: &'a [Pair<F>],
-    pub ghost matching: { AreMatching of_a pairs.now linear.now first.now second.now } by { Prim.hlevel (props, ArePairs-prop) },
+    pub ghost matching: { AreMatching of_a pairs.now linear.now
+        first.now second.now } by { Prim.hlevel (props, ArePairs-prop) },
 }
