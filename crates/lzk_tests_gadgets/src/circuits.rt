@@ -1,41 +1,21 @@
 //! Circuits within statements.
 
-use lzk_circuit::{Circuit, Layer, Term, Terms, Values};
+use lzk_circuit::Circuit;
 use lzk_field::Field;
 use lzk_gadgets::Statement;
 use lzk_gadgets_circuits::{assert_circuit, private_nodes, public_nodes};
 use lzk_goldilocks::Gold;
 use lzk_level::LevelError;
-use std::alloc::{AllocError, Global};
+use lzk_tests_shared::{TermRow, circuit_of, is_satisfied};
+use std::alloc::Global;
 use std::test::Fail;
 
-// Satisfied where the public input is the square of the private one.
-fn square(alloc: Global) -> Result<Option<Circuit<Gold>>, AllocError> {
-    let one = Gold::one();
-    let mut terms = Vec::new(alloc);
-    terms.push(Term {
-        g: 0,
-        a: 0,
-        b: 1,
-        coef: one.neg(),
-    })?;
-    terms.push(Term {
-        g: 0,
-        a: 2,
-        b: 2,
-        coef: one,
-    })?;
-    let mut layers = Vec::new(alloc);
-    layers.push(Layer {
-        wires: 1,
-        terms: Terms::new(terms),
-    })?;
-    Ok(Circuit::of_layers(1, 1, layers).ok())
-}
+// Satisfied where the public input is the square of the private one; p - 1 stands for the negative of one.
+const SQUARE: [TermRow; 2] = [(0, 0, 0, 1, 0xffff_ffff_0000_0000), (0, 0, 2, 2, 1)];
 
 // The second private number is the square of the first, and the public one that of the second.
 fn squares(alloc: Global) -> Result<Option<Circuit<Gold>>, LevelError> {
-    let Some(square) = square(alloc)? else {
+    let Some(square) = circuit_of(alloc, 1, 1, 1, &[1], &SQUARE)? else {
         return Ok(None);
     };
     if square.version() != 1 || square.publics() != 1 || square.privates() != 1 {
@@ -53,21 +33,6 @@ fn squares(alloc: Global) -> Result<Option<Circuit<Gold>>, LevelError> {
     Ok(Some(s.finish()?))
 }
 
-// Whether a circuit is satisfied by these numbers.
-fn holds(
-    alloc: Global,
-    circuit: &Circuit<Gold>,
-    public: &[Gold],
-    private: &[Gold],
-) -> Result<bool, AllocError> {
-    if public.len() != circuit.publics() as usize || private.len() != circuit.privates() as usize {
-        return Ok(false);
-    }
-    let mut values = Values::new(alloc, circuit)?;
-    circuit.eval(public, private, &mut values);
-    Ok(values.first_nonzero().is_none())
-}
-
 #[test]
 fn squares_are_claimed(rt: HostRuntime) -> Result<(), Fail> {
     let alloc = rt.alloc();
@@ -81,8 +46,8 @@ fn squares_are_claimed(rt: HostRuntime) -> Result<(), Fail> {
         Gold::of_word(81),
         Gold::of_word(80),
     ];
-    assert!(rt; holds(alloc, &circuit, &numbers[2..3], &numbers[0..2])?);
-    assert!(rt; !holds(alloc, &circuit, &numbers[3..4], &numbers[0..2])?);
-    assert!(rt; !holds(alloc, &circuit, &numbers[2..3], &numbers[1..3])?);
+    assert!(rt; is_satisfied(alloc, &circuit, &numbers[2..3], &numbers[0..2])?);
+    assert!(rt; !is_satisfied(alloc, &circuit, &numbers[3..4], &numbers[0..2])?);
+    assert!(rt; !is_satisfied(alloc, &circuit, &numbers[2..3], &numbers[1..3])?);
     Ok(())
 }

@@ -1,11 +1,12 @@
 //! Small statements, and which numbers satisfy them.
 
-use lzk_circuit::{Circuit, Values};
+use lzk_circuit::Circuit;
 use lzk_field::Field;
 use lzk_gadgets::{Statement, gadget_laws, inverse_laws, spelling, text_bits, text_laws};
 use lzk_gadgets_circuits::private_nodes;
 use lzk_goldilocks::Gold;
 use lzk_level::LevelError;
+use lzk_tests_shared::{elements, is_satisfied};
 use std::alloc::{AllocError, Global};
 use std::test::Fail;
 
@@ -73,20 +74,9 @@ fn holds(
     public: &[u128],
     private: &[u128],
 ) -> Result<bool, AllocError> {
-    let mut left = Vec::new(alloc);
-    for number in public {
-        left.push(Gold::of_word(*number))?;
-    }
-    let mut right = Vec::new(alloc);
-    for number in private {
-        right.push(Gold::of_word(*number))?;
-    }
-    if left.len() != circuit.publics() as usize || right.len() != circuit.privates() as usize {
-        return Ok(false);
-    }
-    let mut values = Values::new(alloc, circuit)?;
-    circuit.eval(&left, &right, &mut values);
-    Ok(values.first_nonzero().is_none())
+    let left = elements(alloc, public)?;
+    let right = elements(alloc, private)?;
+    is_satisfied(alloc, circuit, &left, &right)
 }
 
 #[test]

@@ -1,5 +1,5 @@
-//! Tests of `lzk_beside`, `lzk_gadgets` and `lzk_gadgets_circuits`: circuits side by side with values of an independent
-//! implementation, and gadgets at numbers on both sides of what they claim.
+//! Tests of `lzk_beside`, `lzk_gadgets`, `lzk_gadgets_circuits`, `lzk_sha_blocks` and `lzk_sha_path`: circuits side by side, hashes
+//! and paths with values of an independent implementation, and gadgets at numbers on both sides of what they claim.
 //!
 //! They stand above what they test, so that those crates are proved once and not again with their tests.
 #![tactic(auto)]
@@ -10,5 +10,9 @@ mod circuits;
 mod gadgets;
 #[cfg(test)]
 mod hashes;
+#[cfg(test)]
+mod path_inputs;
+#[cfg(test)]
+mod paths;
 #[cfg(test)]
 mod side_by_side;

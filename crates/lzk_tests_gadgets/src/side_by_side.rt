@@ -4,38 +4,26 @@ ghost use Rattle.std.specs.Prelude.{◌<◌, ◌↔◌, IfSome, IsTrue, EachInde
 ghost use Rattle.lzk_reduce.specs.Renumbering.{AreNumbersBelow};
 
 use lzk_beside::{AnyPart, BesideError, Part, beside, beside_any};
-use lzk_circuit::{Circuit, Layer, Term, Terms, Values};
+use lzk_circuit::{Circuit, Values};
 use lzk_field::Field;
 use lzk_gf128::Gf128;
 use lzk_goldilocks::Gold;
+use lzk_tests_shared::{MIXED, TermRow, circuit_of, elements};
 use std::alloc::{AllocError, Global};
 use std::test::Fail;
 
-// Layer, wire, the two wires below, and the coefficient.
-type Row = (u32, u32, u32, u32, u128);
-
-// Three layers over 2 public and 2 private inputs.
-const DEEP: [Row; 15] = [
-    (0, 0, 2, 3, 1),
-    (0, 1, 0, 2, 1),
-    (0, 2, 0, 1, 1),
-    (0, 3, 2, 3, 1),
-    (1, 0, 0, 0, 1),
-    (1, 1, 0, 2, 1),
-    (1, 2, 3, 4, 1),
-    (1, 3, 0, 1, 5),
-    (1, 3, 0, 4, 2),
-    (2, 0, 0, 0, 1),
-    (2, 1, 0, 1, 1),
-    (2, 2, 0, 2, 1),
-    (2, 3, 0, 4, 1),
-    (2, 4, 0, 0, 7),
-    (2, 4, 0, 3, 3),
+// One layer over 1 public and 3 private inputs. The first two terms have opposite coefficients: p - 5 stands for the
+// negative of five. They go out where both inputs are one.
+const GOLD_FLAT: [TermRow; 5] = [
+    (0, 0, 0, 2, 5),
+    (0, 0, 0, 3, 0xffff_fffe_ffff_fffc),
+    (0, 0, 1, 2, 3),
+    (0, 1, 0, 1, 2),
+    (0, 1, 4, 4, 1),
 ];
 
-// One layer over 1 public and 3 private inputs. The first two terms have opposite coefficients: the second one is
-// made negative below. They go out where both inputs are one.
-const FLAT: [Row; 5] = [
+// The same over GF(2^128), where five is its own negative.
+const GF_FLAT: [TermRow; 5] = [
     (0, 0, 0, 2, 5),
     (0, 0, 0, 3, 5),
     (0, 0, 1, 2, 3),
@@ -53,7 +41,7 @@ const PUBLIC: [u128; 2] = [7, 11];
 const PRIVATE: [u128; 3] = [13, 17, 19];
 
 // Two layers of version 2 over 1 public and 2 private inputs. A wire that is named above and an output are asserted.
-const ASSERTING: [Row; 7] = [
+const ASSERTING: [TermRow; 7] = [
     (0, 0, 0, 1, 1),
     (0, 1, 1, 2, 1),
     (0, 2, 3, 3, 0),
@@ -70,11 +58,11 @@ const OTHER_PLACES: [u32; 3] = [5, 5, 0];
 // The outputs that an independent implementation gives for the parts over these inputs.
 const GOLD_DEEP: [u128; 4] = [81_984, 448, 13, 81_984];
 
-const GOLD_FLAT: [u128; 2] = [357, 15];
+const GOLD_FLAT_OUTPUTS: [u128; 2] = [357, 15];
 
 const GF_DEEP: [u128; 4] = [9_762, 158, 13, 9_762];
 
-const GF_FLAT: [u128; 2] = [153, 15];
+const GF_FLAT_OUTPUTS: [u128; 2] = [153, 15];
 
 // The outputs and then the asserted product, over the first places and over the others.
 const GOLD_ASSERTING: [u128; 4] = [119, 0, 484, 77];
@@ -85,47 +73,12 @@ const GF_ASSERTING: [u128; 4] = [119, 0, 276, 49];
 
 const GF_OTHER: [u128; 4] = [261, 0, 4, 19];
 
-fn layer_of<F: Field>(
-    alloc: Global,
-    rows: &[Row],
-    l: u32,
-    wires: u32,
-) -> Result<Layer<F>, AllocError> {
-    let mut terms = Vec::new(alloc);
-    for row in rows {
-        let coef = F::of_word(row.4);
-        let coef = if row.3 == 3 && row.4 == 5 {
-            coef.neg()
-        } else {
-            coef
-        };
-        if row.0 == l {
-            terms.push(Term {
-                g: row.1,
-                a: row.2,
-                b: row.3,
-                coef,
-            })?;
-        }
-    }
-    Ok(Layer {
-        wires,
-        terms: Terms::new(terms),
-    })
-}
-
 fn deep<F: Field>(alloc: Global) -> Result<Option<Circuit<F>>, AllocError> {
-    let mut layers = Vec::new(alloc);
-    layers.push(layer_of(alloc, &DEEP, 0, 4)?)?;
-    layers.push(layer_of(alloc, &DEEP, 1, 4)?)?;
-    layers.push(layer_of(alloc, &DEEP, 2, 5)?)?;
-    Ok(Circuit::of_layers(2, 2, layers).ok())
+    circuit_of(alloc, 1, 2, 2, &[4, 4, 5], &MIXED)
 }
 
-fn flat<F: Field>(alloc: Global) -> Result<Option<Circuit<F>>, AllocError> {
-    let mut layers = Vec::new(alloc);
-    layers.push(layer_of(alloc, &FLAT, 0, 2)?)?;
-    Ok(Circuit::of_layers(1, 3, layers).ok())
+fn asserting<F: Field>(alloc: Global) -> Result<Option<Circuit<F>>, AllocError> {
+    circuit_of(alloc, 2, 1, 2, &[3, 4], &ASSERTING)
 }
 
 // Whether the outputs of a circuit over these inputs are these numbers, the first list's first.
@@ -135,14 +88,8 @@ fn has_outputs<F: Field>(
     first: &[u128],
     second: &[u128],
 ) -> Result<bool, AllocError> {
-    let mut public = Vec::new(alloc);
-    for number in &PUBLIC {
-        public.push(F::of_word(*number))?;
-    }
-    let mut private = Vec::new(alloc);
-    for number in &PRIVATE {
-        private.push(F::of_word(*number))?;
-    }
+    let public = elements(alloc, &PUBLIC)?;
+    let private = elements(alloc, &PRIVATE)?;
     if public.len() != circuit.publics() as usize || private.len() != circuit.privates() as usize {
         return Ok(false);
     }
@@ -160,10 +107,12 @@ fn has_outputs<F: Field>(
 // Whether both orders of the two parts have these outputs.
 fn both_orders<F: Field>(
     alloc: Global,
+    flat_rows: &[TermRow],
     deep_outputs: &[u128],
     flat_outputs: &[u128],
 ) -> Result<bool, BesideError> {
-    let (Some(deep), Some(flat)) = (deep::<F>(alloc)?, flat::<F>(alloc)?) else {
+    let flat = circuit_of::<F>(alloc, 1, 1, 3, &[2], flat_rows)?;
+    let (Some(deep), Some(flat)) = (deep::<F>(alloc)?, flat) else {
         return Ok(false);
     };
     let Some(deep) = part_of(&deep, &DEEP_PLACES) else {
@@ -179,13 +128,6 @@ fn both_orders<F: Field>(
             && has_outputs(alloc, &one, deep_outputs, flat_outputs)?
             && has_outputs(alloc, &other, flat_outputs, deep_outputs)?,
     )
-}
-
-fn asserting<F: Field>(alloc: Global) -> Result<Option<Circuit<F>>, AllocError> {
-    let mut layers = Vec::new(alloc);
-    layers.push(layer_of(alloc, &ASSERTING, 0, 3)?)?;
-    layers.push(layer_of(alloc, &ASSERTING, 1, 4)?)?;
-    Ok(Circuit::of_version(2, 1, 2, layers).ok())
 }
 
 // Whether an asserting circuit beside a deeper one, and beside itself over other inputs, has these checks: the outputs
@@ -253,8 +195,10 @@ fn any_part_of<'a, F: Field>(circuit: &'a Circuit<F>, places: &'a [u32]) -> Opti
 #[test]
 fn outputs_are_those_of_the_parts(rt: HostRuntime) -> Result<(), Fail> {
     let alloc = rt.alloc();
-    assert!(rt; matches!(both_orders::<Gold>(alloc, &GOLD_DEEP, &GOLD_FLAT), Ok(true)));
-    assert!(rt; matches!(both_orders::<Gf128>(alloc, &GF_DEEP, &GF_FLAT), Ok(true)));
+    let gold = both_orders::<Gold>(alloc, &GOLD_FLAT, &GOLD_DEEP, &GOLD_FLAT_OUTPUTS);
+    let gf = both_orders::<Gf128>(alloc, &GF_FLAT, &GF_DEEP, &GF_FLAT_OUTPUTS);
+    assert!(rt; matches!(gold, Ok(true)));
+    assert!(rt; matches!(gf, Ok(true)));
     Ok(())
 }
 

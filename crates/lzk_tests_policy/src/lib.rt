@@ -1,12 +1,20 @@
-//! Tests of `lzk_policy` and `lzk_policy_circuit`: which lines are refused and why, and which inputs satisfy a circuit,
-//! with inputs of an independent implementation.
+//! Tests of `lzk_policy`, `lzk_policy_circuit`, `lzk_policy_inputs`, `lzk_policies` and `lzk_credential_run`: which lines of a text are
+//! refused and why, which inputs records have and which satisfy a circuit, records under a root, and what `zk-credential`
+//! prints, answers and puts, over a shelf and a sink in memory. Inputs, digests and what is true of a record are those of an
+//! independent implementation.
 //!
 //! They stand above what they test, so that those crates are proved once and not again with their tests.
 #![tactic(auto)]
 
 #[cfg(test)]
-mod circuits;
+mod files;
 #[cfg(test)]
 mod inputs;
+#[cfg(test)]
+mod rooted;
+#[cfg(test)]
+mod rows;
+#[cfg(test)]
+mod runs;
 #[cfg(test)]
 mod texts;

@@ -1,88 +1,79 @@
 //! Texts that are policies, and texts that are none.
 
+use lzk_policy::PolicyKind::{
+    Claim, Limit, Missing, Order, Place, Repeated, Size, Syntax, Unknown,
+};
 use lzk_policy::{Policy, PolicyError, PolicyFault, PolicyKind, number_at, parse_policy};
 use std::alloc::Global;
 use std::test::Fail;
 
 // Texts with the first line that breaks a rule, and the rule.
 const REFUSED: [(&[u8], u32, PolicyKind); 33] = [
-    (b"", 2, PolicyKind::Missing),
-    (b"record 47\n", 3, PolicyKind::Missing),
-    (
-        b"record 47\nfield a date at 0\nshow digest",
-        4,
-        PolicyKind::Missing,
-    ),
-    (b"record\n", 1, PolicyKind::Syntax),
-    (b"record 4 7\n", 1, PolicyKind::Syntax),
-    (b"record 0x2f\n", 1, PolicyKind::Syntax),
-    (b"record 1000\n", 1, PolicyKind::Syntax),
-    (b"\n# a record\n record 56 # bytes", 3, PolicyKind::Size),
-    (b"record 0\n", 1, PolicyKind::Size),
-    (b"record 47\nrecord 47\n", 2, PolicyKind::Order),
-    (b"field a date at 0\n", 1, PolicyKind::Order),
-    (b"record 47\nfield a date 4\n", 2, PolicyKind::Syntax),
-    (b"record 47\nfield a day at 0\n", 2, PolicyKind::Syntax),
+    (b"", 2, Missing),
+    (b"record 47\n", 3, Missing),
+    (b"record 47\nfield a date at 0\nshow digest", 4, Missing),
+    (b"record\n", 1, Syntax),
+    (b"record 4 7\n", 1, Syntax),
+    (b"record 0x2f\n", 1, Syntax),
+    (b"record 1000\n", 1, Syntax),
+    (b"\n# a record\n record 56 # bytes", 3, Size),
+    (b"record 0\n", 1, Size),
+    (b"record 47\nrecord 47\n", 2, Order),
+    (b"field a date at 0\n", 1, Order),
+    (b"record 47\nfield a date 4\n", 2, Syntax),
+    (b"record 47\nfield a day at 0\n", 2, Syntax),
     (
         b"record 47\nfield abcdefghijklmnopqrstuvwxyz0123456 date at 0\n",
         2,
-        PolicyKind::Syntax,
+        Syntax,
     ),
-    (b"record 47\nfield a date at 44\n", 2, PolicyKind::Place),
-    (b"record 47\nfield a text 8 at 0\n", 2, PolicyKind::Size),
-    (b"record 47\nfield a bytes 0 at 0\n", 2, PolicyKind::Size),
+    (b"record 47\nfield a date at 44\n", 2, Place),
+    (b"record 47\nfield a text 8 at 0\n", 2, Size),
+    (b"record 47\nfield a bytes 0 at 0\n", 2, Size),
     (
         b"record 47\nfield a date at 0\nfield a text 2 at 4\n",
         3,
-        PolicyKind::Repeated,
+        Repeated,
     ),
-    (b"record 47\nshow a at most D\n", 2, PolicyKind::Order),
-    (
-        b"record 47\nshow digest\nshow a at most D\n",
-        3,
-        PolicyKind::Unknown,
-    ),
+    (b"record 47\nshow a at most D\n", 2, Order),
+    (b"record 47\nshow digest\nshow a at most D\n", 3, Unknown),
     (
         b"record 47\nfield a text 2 at 0\nshow digest\nshow a at most D\n",
         4,
-        PolicyKind::Claim,
+        Claim,
     ),
     (
         b"record 47\nfield a text 2 at 0\nshow digest\nshow a one of NL B\n",
         4,
-        PolicyKind::Syntax,
+        Syntax,
     ),
     (
         b"record 47\nfield a text 3 at 0\nshow digest\nshow a one of NL BE\n",
         4,
-        PolicyKind::Claim,
+        Claim,
     ),
     (
         b"record 47\nfield a bytes 36 at 0\nshow digest\nshow pseudonym of a for S\n",
         4,
-        PolicyKind::Claim,
+        Claim,
     ),
     (
         b"record 47\nfield a date at 0\nshow digest\nfield b date at 4\n",
         4,
-        PolicyKind::Order,
+        Order,
     ),
     (
         b"record 47\nfield a date at 0\nshow digest\nshow digest\n",
         4,
-        PolicyKind::Order,
+        Order,
     ),
-    (b"show under root 2\n", 1, PolicyKind::Order),
-    (
-        b"record 47\nshow digest\nshow under root 2\n",
-        3,
-        PolicyKind::Order,
-    ),
-    (b"record 47\nshow under root 0\n", 2, PolicyKind::Limit),
-    (b"record 47\nshow under root 7\n", 2, PolicyKind::Limit),
-    (b"record 47\nshow under root\n", 2, PolicyKind::Syntax),
-    (b"record 47\nshow under root two\n", 2, PolicyKind::Syntax),
-    (b"record 47\nshow under root 6", 3, PolicyKind::Missing),
+    (b"show under root 2\n", 1, Order),
+    (b"record 47\nshow digest\nshow under root 2\n", 3, Order),
+    (b"record 47\nshow under root 0\n", 2, Limit),
+    (b"record 47\nshow under root 7\n", 2, Limit),
+    (b"record 47\nshow under root\n", 2, Syntax),
+    (b"record 47\nshow under root two\n", 2, Syntax),
+    (b"record 47\nshow under root 6", 3, Missing),
 ];
 
 const WHOLE: &[u8] = b"record 47 # bytes\n\nfield birth date at 4\nfield country text 2 at 12\n\

@@ -1,15 +1,6 @@
 //! Files that runs read.
 
-/// A policy with each kind of line.
-pub const POLICY: &[u8] = b"record 47\nfield birth date at 4\nfield until date at 8\n\
-    field country text 2 at 12\nfield secret bytes 16 at 15\nshow digest\nshow birth at most LATEST\n\
-    show until at least TODAY\nshow country as COUNTRY\nshow country one of BE NL\n\
-    show pseudonym of secret for SERVICE\n";
-
-/// Born on 1999-04-11, holds until 2030-12-31, of NL.
-pub const RECORD: &[u8] =
-    b"LZK1\x01\x31\x07\x8b\x01\x35\xc5\xafNL\x01\x00\x01\x02\x03\x04\x05\x06\x07\
-    \x08\x09\x0a\x0b\x0c\x0d\x0e\x0fdefghijklmnopqrs";
+use crate::rows::{HOLLAND, POLICY};
 
 /// Values with which all that is shown is true of the record.
 pub const VALUES: &[u8] = b"# chosen\nTODAY 20261129 # now\nCOUNTRY NL\n\n\
@@ -52,7 +43,7 @@ const NODE: &[u8] = b"f59e1a9a0b5b4e6ebdcaafa66df2981ad9eb8ec1cdc1ec336559dab894
 /// All files, by their names.
 pub const FILES: [(&str, &[u8]); 31] = [
     ("p", POLICY),
-    ("r", RECORD),
+    ("r", HOLLAND),
     ("v", VALUES),
     ("u", UNDER),
     ("t", PATH),

@@ -1,7 +1,6 @@
 //! A policy's circuit for a record whose digest is a leaf under a root.
 
-use crate::inputs::SIBLINGS;
-use crate::paths::{holds, public_inputs, push_words};
+use crate::texts::read;
 use lzk_circuit::Circuit;
 use lzk_field::Field;
 use lzk_goldilocks::Gold;
@@ -9,9 +8,9 @@ use lzk_policies::{
     Place, RootedInputs, RootedInputsError, credential_circuit, credential_inputs, rooted_circuit,
     rooted_inputs,
 };
-use lzk_policy::parse_policy;
 use lzk_policy_inputs::{InputsError, Value};
 use lzk_sha_path::PathError;
+use lzk_tests_shared::{is_satisfied, word_elements, words};
 use std::alloc::{AllocError, Global};
 use std::test::Fail;
 
@@ -20,37 +19,29 @@ const POLICY: &[u8] = b"record 4\nfield day date at 0\nshow digest\nshow day as 
 const UNDER: &[u8] = b"record 4\nfield day date at 0\nshow under root 2\nshow day as DAY\n";
 
 // The words that each of these texts has shown, and how many nodes stand beside the path.
-const TEXTS: [(&[u8], [u32; 8], usize); 2] = [(POLICY, DIGEST, 0), (UNDER, ROOT, 2)];
+const TEXTS: [(&[u8], &str, usize); 2] = [(POLICY, DIGEST, 0), (UNDER, ROOT, 2)];
+
+// The digests of "sibling 0" and "sibling 1".
+const SIBLINGS: [&str; 2] = [
+    "f59e1a9a0b5b4e6ebdcaafa66df2981ad9eb8ec1cdc1ec336559dab8947dc27b",
+    "5de4d950a6b2113fb869b5da895d0eaf7d7d67f52fa723bfbf55c8bf05df96ae",
+];
 
 const DAY: u32 = 20_100_304;
 
-// The words of the record's digest, by an independent implementation of SHA-256.
-const DIGEST: [u32; 8] = [
-    0xf8b1_82f6,
-    0xb103_0e8b,
-    0x6e35_95bc,
-    0xd067_e975,
-    0xf917_4ae9,
-    0x01a0_6e76,
-    0xe132_45f6,
-    0x5502_1c86,
-];
+// The record's digest, by an independent implementation of SHA-256.
+const DIGEST: &str = "f8b182f6b1030e8b6e3595bcd067e975f9174ae901a06e76e13245f655021c86";
 
 // The root above it as leaf 2, by the same.
-const ROOT: [u32; 8] = [
-    0xa501_33b4,
-    0x93ea_1916,
-    0x9f4a_abc8,
-    0x136a_55bf,
-    0xbe8f_f355,
-    0x7a34_3ce8,
-    0xc746_0883,
-    0x13ac_5cdb,
-];
+const ROOT: &str = "a50133b493ea19169f4aabc8136a55bfbe8ff3557a343ce8c746088313ac5cdb";
 
 fn circuit_of(alloc: Global, depth: u32) -> Option<Circuit<Gold>> {
-    let policy = parse_policy(alloc, POLICY).ok()?;
+    let policy = read(alloc, POLICY).ok()?;
     rooted_circuit(alloc, &policy, depth).ok()
+}
+
+fn siblings() -> [[u32; 8]; 2] {
+    [words(SIBLINGS[0]), words(SIBLINGS[1])]
 }
 
 // The inputs of the record of the day, which is told with this value, at this place beside so many nodes.
@@ -60,18 +51,18 @@ fn inputs_of(
     index: u32,
     depth: usize,
 ) -> Option<Result<RootedInputs, RootedInputsError>> {
-    let policy = parse_policy(alloc, POLICY).ok()?;
+    let policy = read(alloc, POLICY).ok()?;
+    let siblings = siblings();
     let place = Place {
         index,
-        siblings: SIBLINGS.get(0..depth)?,
+        siblings: siblings.get(0..depth)?,
     };
     Some(rooted_inputs(alloc, &policy, &DAY.to_be_bytes(), &[value], &place))
 }
 
-// The words of a root, and the day.
-fn shown(alloc: Global, root: [u32; 8], day: u32) -> Result<Vec<Gold>, AllocError> {
-    let mut public = Vec::new(alloc);
-    push_words(&mut public, root)?;
+// The words of a digest or a root, and the day.
+fn shown(alloc: Global, root: &str, day: u32) -> Result<Vec<Gold>, AllocError> {
+    let mut public = word_elements(alloc, &[root])?;
     public.push(Gold::of_word(u128::from(day)))?;
     Ok(public)
 }
@@ -92,9 +83,9 @@ fn a_record_stands_under_its_root(rt: HostRuntime) -> Result<(), Fail> {
     let other = shown(alloc, DIGEST, DAY)?;
     let private = inputs.private();
     assert!(rt; inputs.public() == public.as_slice());
-    assert!(rt; holds(alloc, &circuit, &public, private)?);
-    assert!(rt; !holds(alloc, &circuit, &later, private)?);
-    assert!(rt; !holds(alloc, &circuit, &other, private)?);
+    assert!(rt; is_satisfied(alloc, &circuit, &public, private)?);
+    assert!(rt; !is_satisfied(alloc, &circuit, &later, private)?);
+    assert!(rt; !is_satisfied(alloc, &circuit, &other, private)?);
     Ok(())
 }
 
@@ -102,14 +93,15 @@ fn a_record_stands_under_its_root(rt: HostRuntime) -> Result<(), Fail> {
 #[test]
 fn a_text_has_its_circuit_and_inputs(rt: HostRuntime) -> Result<(), Fail> {
     let alloc = rt.alloc();
-    for (text, words, depth) in TEXTS {
-        let Ok(policy) = parse_policy(alloc, text) else {
+    let siblings = siblings();
+    for (text, root, depth) in TEXTS {
+        let Ok(policy) = read(alloc, text) else {
             assert!(rt; false);
             return Ok(());
         };
         let place = Place {
             index: 2,
-            siblings: &SIBLINGS[0..depth],
+            siblings: &siblings[0..depth],
         };
         let Ok(circuit) = credential_circuit(alloc, &policy) else {
             assert!(rt; false);
@@ -125,9 +117,9 @@ fn a_text_has_its_circuit_and_inputs(rt: HostRuntime) -> Result<(), Fail> {
             assert!(rt; false);
             return Ok(());
         };
-        let public = shown(alloc, words, DAY)?;
+        let public = shown(alloc, root, DAY)?;
         assert!(rt; inputs.public() == public.as_slice());
-        assert!(rt; holds(alloc, &circuit, &public, inputs.private())?);
+        assert!(rt; is_satisfied(alloc, &circuit, &public, inputs.private())?);
     }
     Ok(())
 }

@@ -1,74 +1,20 @@
 //! Nodes, and the private inputs of a path of one level, made by an independent implementation of SHA-256.
 
 /// The digest of "record".
-pub const LEAF: [u32; 8] = [
-    0x70ce_871f,
-    0x8a3d_3fb4,
-    0x49bc_3c3a,
-    0xce65_47ce,
-    0xf02d_fc74,
-    0xffe4_8d91,
-    0x2532_a724,
-    0xbfdb_e5b9,
-];
+pub const LEAF: &str = "70ce871f8a3d3fb449bc3c3ace6547cef02dfc74ffe48d912532a724bfdbe5b9";
 
 /// The digests of "sibling 0" to "sibling 2".
-pub const SIBLINGS: [[u32; 8]; 3] = [
-    [
-        0xf59e_1a9a,
-        0x0b5b_4e6e,
-        0xbdca_afa6,
-        0x6df2_981a,
-        0xd9eb_8ec1,
-        0xcdc1_ec33,
-        0x6559_dab8,
-        0x947d_c27b,
-    ],
-    [
-        0x5de4_d950,
-        0xa6b2_113f,
-        0xb869_b5da,
-        0x895d_0eaf,
-        0x7d7d_67f5,
-        0x2fa7_23bf,
-        0xbf55_c8bf,
-        0x05df_96ae,
-    ],
-    [
-        0x8e25_5b79,
-        0x80df_97cd,
-        0xf21b_2a2d,
-        0x10b9_9df2,
-        0xd100_33ed,
-        0x650c_49e7,
-        0xba8a_c06a,
-        0xf16a_d55b,
-    ],
+pub const SIBLINGS: [&str; 3] = [
+    "f59e1a9a0b5b4e6ebdcaafa66df2981ad9eb8ec1cdc1ec336559dab8947dc27b",
+    "5de4d950a6b2113fb869b5da895d0eaf7d7d67f52fa723bfbf55c8bf05df96ae",
+    "8e255b7980df97cdf21b2a2d10b99df2d10033ed650c49e7ba8ac06af16ad55b",
 ];
 
 /// The root of one level above leaf 1.
-pub const LOW_ROOT: [u32; 8] = [
-    0xfb43_d98c,
-    0x9b57_8952,
-    0x9b7f_1b29,
-    0x1e87_5415,
-    0xff18_4a52,
-    0x6d4b_6e51,
-    0xd748_cab7,
-    0xf5ea_ff54,
-];
+pub const LOW_ROOT: &str = "fb43d98c9b5789529b7f1b291e875415ff184a526d4b6e51d748cab7f5eaff54";
 
 /// The root of three levels above leaf 5.
-pub const ROOT: [u32; 8] = [
-    0xd84d_a306,
-    0x2aa9_1c01,
-    0x0a1e_7f1e,
-    0x0821_6f71,
-    0x7b75_7ef3,
-    0xbe1f_b090,
-    0xeb67_e80c,
-    0x0d3c_8511,
-];
+pub const ROOT: &str = "d84da3062aa91c010a1e7f1e08216f717b757ef3be1fb090eb67e80c0d3c8511";
 
 /// How many private inputs one level has.
 pub const PRIVATE_COUNT: usize = 6889;

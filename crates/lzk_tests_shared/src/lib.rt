@@ -1,0 +1,11 @@
+//! What tests of several crates share: circuits of tables and whether inputs satisfy them, hexadecimal digits, and a gate
+//! in which two workers meet. Tests alone stand on it.
+#![tactic(auto)]
+
+mod circuits;
+mod digits;
+mod meeting;
+
+pub use circuits::{MIXED, SQUARE_FILE, TermRow, circuit_of, elements, is_satisfied};
+pub use digits::{bits, digest, word_elements, words};
+pub use meeting::Meeting;
