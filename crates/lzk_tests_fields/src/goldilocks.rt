@@ -6,11 +6,10 @@ ghost use Rattle.std.specs.Prelude.{◌≡◌, length};
 
 use lzk_field::Field;
 use lzk_goldilocks::{Gold, root_of_unity};
-use std::alloc::{AllocError, Global};
 use std::test::Fail;
 use vectors::{
-    BYTES, DOTS, INVERSES, LEFT, NEGATIVES, NO_ELEMENTS, NUMBERS, OVER_WORD, PRODUCTS, RIGHT,
-    ROOTS, SUMS, WORDS,
+    BYTES, DOTS, FACTORS, INVERSES, NEGATIVES, NO_ELEMENTS, NUMBERS, OVER_WORD, PRODUCTS, ROOTS,
+    SUMS, WORDS,
 };
 
 fn of<F: Field>(n: u64) -> F {
@@ -133,14 +132,6 @@ fn element_at<F: Field>(rows: &[[u8; 8]]) -> Option<usize>
     None
 }
 
-fn elements<F: Field>(numbers: &[u64], alloc: Global) -> Result<Vec<F>, AllocError> {
-    let mut list = Vec::new(alloc);
-    for &n in numbers {
-        list.push(of(n))?;
-    }
-    Ok(list)
-}
-
 fn wrong_dot<F: Field>(left: &[F], right: &[F], rows: &[(usize, u64)]) -> Option<usize> {
     for i in 0..rows.len() {
         let (n, sum) = rows[i];
@@ -187,8 +178,11 @@ fn numbers_and_bytes_are_those_of_elements(rt: HostRuntime) {
 
 #[test]
 fn dot_is_the_sum_of_the_products(rt: HostRuntime) -> Result<(), Fail> {
-    let left = elements::<Gold>(&LEFT, rt.alloc())?;
-    let right = elements(&RIGHT, rt.alloc())?;
+    let (mut left, mut right) = (Vec::new(rt.alloc()), Vec::new(rt.alloc()));
+    for (x, y) in FACTORS {
+        left.push(of::<Gold>(x))?;
+        right.push(of::<Gold>(y))?;
+    }
     assert_eq!(rt; wrong_dot(&left, &right, &DOTS), None);
     Ok(())
 }
