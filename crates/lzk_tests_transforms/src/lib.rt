@@ -7,3 +7,5 @@
 mod additive;
 #[cfg(test)]
 mod number_theoretic;
+#[cfg(test)]
+mod rows;
