@@ -1,5 +1,5 @@
 -- The discrete Fourier transform over a field, bit-reversed order, and cyclic convolution.
-use Rattle.std.specs.Prelude.{◌≡◌, ℕ, ◌+◌, ◌-◌, ◌*◌, ◌%◌, ◌^◌, ◌<◌, List, cond}
+use Rattle.std.specs.Prelude.{◌≡◌, ℕ, ◌+◌, ◌-◌, ◌*◌, ◌%◌, ◌^◌, ◌<◌, ◌≤◌, List, length, cond}
 use Rattle.std.proofs.Common.{zero, suc, ltb}
 use Rattle.lzk_field.specs.Ring.{Ops}
 use Rattle.lzk_field.specs.Sums.{sum_below, power, entry}
@@ -44,6 +44,10 @@ abbrev pub AreTwiddles : {A : Type 0} → Ops A → ℕ → A → List A → Typ
 AreTwiddles o zero w ts = w ≡ w
 AreTwiddles o (suc k) w ts =
     ((i : ℕ) → i < 2 ^ k → entry o ts (2 ^ k + i) ≡ power o w i) × AreTwiddles o k (o.times w w) ts
+
+-- as many values as a transform of so many levels has, and no fewer twiddle factors
+abbrev pub HasLevels : {A : Type 0} → ℕ → List A → List A → Type 0
+HasLevels bits values twiddles = (length values ≡ 2 ^ bits) × (length values ≤ length twiddles)
 
 -- one doubled so many times, which is what a backward transform of so many levels multiplies by
 abbrev pub doubled : {A : Type 0} → Ops A → ℕ → A

@@ -5,12 +5,27 @@ ghost use Rattle.std.specs.Prelude.{◌≡◌, ℕ, ◌+◌, ◌-◌, ◌*◌, �
 ghost use Rattle.lzk_field.specs.Sums.{entry};
 ghost use Rattle.lzk_poly.specs.Extension.{extension};
 ghost use Rattle.lzk_poly.specs.Weights.{IsPassed, IsWeights};
-ghost use Rattle.lzk_ntt.specs.Kernels.{convolutions, weighted, AreSpectra, IsReady};
+ghost use Rattle.lzk_ntt.specs.Kernels.{convolutions, weighted, AreSpectra};
+ghost use Rattle.lzk_ntt.specs.Lists.{HaveOneLength};
 ghost use Rattle.lzk_ntt.specs.Transform.{spectrum, IsRoot};
 
 use crate::kernels::Kernels;
 use crate::prepared::{Factor, Prepared};
 use lzk_field::Field;
+
+/// A row's values, with what it is extended by.
+#[derive(Drop)]
+pub struct Row<'a, F: Factor> {
+    pub kernels: &'a Kernels<F>,
+    /// The weights of the values' points.
+    pub weights: &'a [F],
+    /// At each further point, the product of its differences from the values' points.
+    pub passed: &'a [F],
+    pub values: &'a [F],
+    pub ghost weighted: { IsWeights F.ops F.coding.element kernels.now.plan.count weights.now },
+    pub ghost passes: { IsPassed F.ops F.coding.element kernels.now.plan.count kernels.now.plan.upto passed.now },
+    pub ghost count: { length values.now ≡ kernels.now.plan.count },
+}
 
 // The values times their weights, behind so many zeros and before zeros to the end.
 fn weigh<F: Field>(values: &[F], weights: &[F], skip: usize, out: &mut [F])
@@ -33,59 +48,42 @@ fn weigh<F: Field>(values: &[F], weights: &[F], skip: usize, out: &mut [F])
 }
 
 // The transform of a block's values times their weights. A block that is short stands at the end of its places.
-fn transform_block<F: Factor>(
-    kernels: &Kernels<F>,
-    weights: &[F],
-    values: &[F],
-    v: usize,
-    out: &mut [F],
-)
-    requires ready { IsReady F.ops F.coding.element kernels.now.transform kernels.now.plan kernels.now.spectra.items }
-    requires weights { IsWeights F.ops F.coding.element kernels.now.plan.count weights.now }
-    requires values { length values.now ≡ kernels.now.plan.count }
-    requires block { v < kernels.now.plan.blocks }
-    requires out { length out.old ≡ 2 ^ kernels.now.transform.bits }
-    ensures { let d = kernels.now.transform in
+fn transform_block<F: Factor>(row: &Row<'_, F>, v: usize, out: &mut [F])
+    requires block { v < row.now.kernels.now.plan.blocks }
+    requires out { length out.old ≡ 2 ^ row.now.kernels.now.transform.bits }
+    ensures { let r = row.now in let d = r.kernels.now.transform in
         (j : ℕ) → j < length out.new
         → entry F.ops out.new j
-        ≡ spectrum F.ops d.bits d.root (weighted F.ops kernels.now.plan values.now weights.now v) j }
+        ≡ spectrum F.ops d.bits d.root (weighted F.ops r.kernels.now.plan r.values.now r.weights.now v) j }
 {
-    let plan = kernels.plan;
+    let plan = row.kernels.plan;
     let start = v * plan.block;
     let end = (start + plan.block).min(plan.count);
     let skip = plan.block - (end - start);
-    weigh(&values[start..end], &weights[start..end], skip, out);
-    kernels.transform.forward(out);
+    weigh(&row.values[start..end], &row.weights[start..end], skip, out);
+    row.kernels.transform.forward(out);
 }
 
 // The transforms of the blocks from one on, one after the other.
-fn transform_blocks<F: Factor>(
-    kernels: &Kernels<F>,
-    weights: &[F],
-    values: &[F],
-    from: usize,
-    spectra: &mut [F],
-)
-    requires ready { IsReady F.ops F.coding.element kernels.now.transform kernels.now.plan kernels.now.spectra.items }
-    requires weights { IsWeights F.ops F.coding.element kernels.now.plan.count weights.now }
-    requires values { length values.now ≡ kernels.now.plan.count }
-    requires order { from ≤ kernels.now.plan.blocks }
-    requires spectra { length spectra.old ≡ (kernels.now.plan.blocks - from) * 2 ^ kernels.now.transform.bits }
-    ensures { AreSpectra F.ops kernels.now.transform kernels.now.plan values.now weights.now from spectra.new }
+fn transform_blocks<F: Factor>(row: &Row<'_, F>, from: usize, spectra: &mut [F])
+    requires order { from ≤ row.now.kernels.now.plan.blocks }
+    requires spectra { let kernels = row.now.kernels.now in
+        length spectra.old ≡ (kernels.plan.blocks - from) * 2 ^ kernels.transform.bits }
+    ensures { let r = row.now in let kernels = r.kernels.now in
+        AreSpectra F.ops kernels.transform kernels.plan r.values.now r.weights.now from spectra.new }
 {
-    let plan = kernels.plan;
-    if from == plan.blocks {
+    let kernels = row.kernels;
+    if from == kernels.plan.blocks {
         return;
     }
     let (first, rest) = spectra.split_at_mut(kernels.transform.size());
-    transform_block(kernels, weights, values, from, first);
-    transform_blocks(kernels, weights, values, from + 1, rest);
+    transform_block(row, from, first);
+    transform_blocks(row, from + 1, rest);
 }
 
 // Sets entries to the products of those at their place and the factors.
 fn set_multiples<F: Factor>(list: &[F], factors: &[Prepared<F>], out: &mut [F])
-    requires list { length list.now ≡ length out.old }
-    requires factors { length factors.now ≡ length out.old }
+    requires lengths { HaveOneLength out.old list.now factors.now }
     ensures { (j : ℕ) → j < length out.new
         → entry F.ops out.new j ≡ F.ops.times (entry F.ops list.now j) (entry F.ops factors.now j) }
 {
@@ -96,8 +94,7 @@ fn set_multiples<F: Factor>(list: &[F], factors: &[Prepared<F>], out: &mut [F])
 
 // Adds the products of the entries at their place and the factors.
 fn add_multiples<F: Factor>(list: &[F], factors: &[Prepared<F>], out: &mut [F])
-    requires list { length list.now ≡ length out.old }
-    requires factors { length factors.now ≡ length out.old }
+    requires lengths { HaveOneLength out.old list.now factors.now }
     ensures { (j : ℕ) → j < length out.new → entry F.ops out.new j ≡
         F.ops.plus (entry F.ops out.old j) (F.ops.times (entry F.ops list.now j) (entry F.ops factors.now j)) }
 {
@@ -109,7 +106,6 @@ fn add_multiples<F: Factor>(list: &[F], factors: &[Prepared<F>], out: &mut [F])
 // The sums over the blocks of the products of their transforms and their kernels for a piece: the transform of
 // the sum of the convolutions.
 fn sum_products<F: Factor>(kernels: &Kernels<F>, p: usize, spectra: &[F], out: &mut [F])
-    requires ready { IsReady F.ops F.coding.element kernels.now.transform kernels.now.plan kernels.now.spectra.items }
     requires piece { p < kernels.now.plan.pieces }
     requires spectra { length spectra.now ≡ kernels.now.plan.blocks * 2 ^ kernels.now.transform.bits }
     requires out { length out.old ≡ 2 ^ kernels.now.transform.bits }
@@ -143,7 +139,6 @@ fn set_products<F: Field>(
     list: &[F],
     first: usize,
 )
-    requires order { at ≤ to }
     requires within { to ≤ length out.old }
     requires factors { to ≤ length factors.now }
     requires enough { first + (to - at) ≤ length list.now }
@@ -158,32 +153,22 @@ fn set_products<F: Field>(
 
 /// Writes the values at the points from that of the last given value on: the barycentric sums, times the
 /// products of differences.
-pub fn extend_by<F: Factor>(
-    kernels: &Kernels<F>,
-    weights: &[F],
-    passed: &[F],
-    values: &[F],
-    spectra: &mut [F],
-    convolved: &mut [F],
-    out: &mut [F],
-)
-    requires ready { IsReady F.ops F.coding.element kernels.now.transform kernels.now.plan kernels.now.spectra.items }
-    requires weights { IsWeights F.ops F.coding.element kernels.now.plan.count weights.now }
-    requires passed { IsPassed F.ops F.coding.element kernels.now.plan.count kernels.now.plan.upto passed.now }
-    requires values { length values.now ≡ kernels.now.plan.count }
-    requires out { length out.old + kernels.now.plan.count ≡ kernels.now.plan.upto }
-    requires spectra { length spectra.old ≡ kernels.now.plan.blocks * 2 ^ kernels.now.transform.bits }
-    requires convolved { length convolved.old ≡ 2 ^ kernels.now.transform.bits }
-    ensures { (k : ℕ) → k < length out.new
-        → entry F.ops out.new k ≡ extension F.ops F.coding.element values.now (kernels.now.plan.count + k) }
+pub fn extend_by<F: Factor>(row: &Row<'_, F>, spectra: &mut [F], convolved: &mut [F], out: &mut [F])
+    requires out { let plan = row.now.kernels.now.plan in length out.old + plan.count ≡ plan.upto }
+    requires spectra { let kernels = row.now.kernels.now in
+        length spectra.old ≡ kernels.plan.blocks * 2 ^ kernels.transform.bits }
+    requires convolved { length convolved.old ≡ 2 ^ row.now.kernels.now.transform.bits }
+    ensures { (k : ℕ) → k < length out.new → entry F.ops out.new k ≡
+        extension F.ops F.coding.element row.now.values.now (row.now.kernels.now.plan.count + k) }
 {
+    let kernels = row.kernels;
     let plan = kernels.plan;
-    transform_blocks(kernels, weights, values, 0, spectra);
+    transform_blocks(row, 0, spectra);
     for p in 0..plan.pieces {
         sum_products(kernels, p, spectra, convolved);
         kernels.transform.backward(convolved);
         let at = p * plan.piece;
         let to = (at + plan.piece).min(out.len());
-        set_products(out, at, to, passed, convolved, plan.block - 1);
+        set_products(out, at, to, row.passed, convolved, plan.block - 1);
     }
 }

@@ -2,14 +2,14 @@
 
 ghost use Rattle.std.specs.Prelude.{◌≡◌, ℕ, ◌<◌, length};
 ghost use Rattle.lzk_field.specs.Sums.{entry, minus};
+ghost use Rattle.lzk_ntt.specs.Lists.{HaveOneLength};
 
 use crate::prepared::{Factor, Prepared};
 
 /// The butterflies of a forward level, of Gentleman and Sande: the sum of the entries at one place of both
 /// halves, and their difference times the twiddle factor.
 pub fn forward_butterflies<F: Factor>(low: &mut [F], high: &mut [F], twiddles: &[Prepared<F>])
-    requires halves { length high.old ≡ length low.old }
-    requires twiddles { length twiddles.now ≡ length low.old }
+    requires lengths { HaveOneLength low.old high.old twiddles.now }
     ensures sums { (i : ℕ) → i < length low.new
         → entry F.ops low.new i ≡ F.ops.plus (entry F.ops low.old i) (entry F.ops high.old i) }
     ensures twiddled { (i : ℕ) → i < length high.new → entry F.ops high.new i ≡
@@ -25,8 +25,7 @@ pub fn forward_butterflies<F: Factor>(low: &mut [F], high: &mut [F], twiddles: &
 /// The butterflies of a backward level, of Cooley and Tukey: the upper entry times the twiddle factor is
 /// added to the lower one, and taken from it.
 pub fn backward_butterflies<F: Factor>(low: &mut [F], high: &mut [F], twiddles: &[Prepared<F>])
-    requires halves { length high.old ≡ length low.old }
-    requires twiddles { length twiddles.now ≡ length low.old }
+    requires lengths { HaveOneLength low.old high.old twiddles.now }
     ensures sums { (i : ℕ) → i < length low.new → entry F.ops low.new i ≡
         F.ops.plus (entry F.ops low.old i) (F.ops.times (entry F.ops high.old i) (entry F.ops twiddles.now i)) }
     ensures differences { (i : ℕ) → i < length high.new → entry F.ops high.new i ≡

@@ -4,8 +4,9 @@ ghost use Rattle.std.specs.Prelude.{◌≡◌, ◌≢◌, ◌+◌, ◌^◌, ℕ,
 ghost use Rattle.lzk_field.specs.Sums.{entry};
 ghost use Rattle.lzk_poly.specs.Extension.{Reach, extension};
 ghost use Rattle.lzk_poly.specs.Weights.{IsEven};
+ghost use Rattle.lzk_ntt.specs.Kernels.{IsPlan};
 
-use crate::blocks::extend_by;
+use crate::blocks::{Row, extend_by};
 use crate::kernels::{Kernels, kernel_spectra};
 use crate::plan::Plan;
 use crate::prepared::Factor;
@@ -30,38 +31,30 @@ pub struct NttExtender<F: Factor> {
 impl<F: Factor> Model for NttExtender<F> {
     ghost use Rattle.std.specs.Prelude.{◌≡◌, ◌+◌, ◌*◌, ◌^◌};
     ghost use Rattle.lzk_poly.specs.Extension.{Reach};
-    ghost use Rattle.lzk_ntt.specs.Kernels.{Convolver, IsReady};
+    ghost use Rattle.lzk_ntt.specs.Kernels.{Convolver};
 
     ghost Value = { Convolver };
 
     ghost view = { λ e.
         record { reach = e.weights; room = (e.kernels.plan.blocks + 1) * 2 ^ e.kernels.transform.bits } };
 
-    ghost invariant = { λ e. (e.kernels.plan.count ≡ e.weights.count) × (e.kernels.plan.upto ≡ e.weights.upto) ×
-        IsReady F.ops F.coding.element e.kernels.transform e.kernels.plan e.kernels.spectra.items };
+    ghost invariant = { λ e. (e.kernels.plan.count ≡ e.weights.count) × (e.kernels.plan.upto ≡ e.weights.upto) };
 }
 
 impl<F: Factor> NttExtender<F> {
-    /// What extends rows of `n` values by these transforms, `block` values at a time.
-    pub(crate) fn with_transform(
+    /// What extends rows that are cut up so by these transforms.
+    pub(crate) fn with_plan(
         alloc: Global,
-        n: u32,
-        upto: u32,
-        block: usize,
+        plan: Plan,
         transform: Transform<F>,
     ) -> Result<NttExtender<F>, AllocError>
-        requires some { 1 ≤ n }
-        requires order { n ≤ upto }
-        requires limit { upto ≤ 65536 }
-        requires block { 1 ≤ block }
-        requires fits { block ≤ 2 ^ transform.bits }
-        requires even { IsEven F.ops F.coding.element upto }
+        requires plan { IsPlan plan transform.bits }
+        requires even { IsEven F.ops F.coding.element plan.upto }
         requires two { F.ops.plus F.ops.one F.ops.one ≢ F.ops.zero }
-        ensures { IfOk result (λ e. e.reach ≡ record { count = n; upto = upto }) }
+        ensures { IfOk result (λ e. e.reach ≡ record { count = plan.count; upto = plan.upto }) }
     {
-        let plan = Plan::new(n, upto, block, transform.bits());
-        let weights = Weights::new(alloc, n, upto)?;
-        let inverses = &weights.inverses()[..upto as usize];
+        let weights = Weights::new(alloc, plan.count as u32, plan.upto as u32)?;
+        let inverses = &weights.inverses()[..plan.upto];
         let spectra = kernel_spectra(alloc, &transform, inverses, plan)?;
         let kernels = Kernels {
             transform,
@@ -88,14 +81,12 @@ impl<F: Factor> NttExtender<F> {
     {
         let spectra = self.kernels.plan.blocks * self.kernels.transform.size();
         let (spectra, convolved) = room.split_at_mut(spectra);
-        extend_by(
-            &self.kernels,
-            self.weights.weights(),
-            self.weights.passed(),
+        let row = Row {
+            kernels: &self.kernels,
+            weights: self.weights.weights(),
+            passed: self.weights.passed(),
             values,
-            spectra,
-            convolved,
-            out,
-        );
+        };
+        extend_by(&row, spectra, convolved, out);
     }
 }

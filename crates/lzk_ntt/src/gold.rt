@@ -6,6 +6,7 @@ ghost use Rattle.lzk_goldilocks.specs.Word.{word};
 ghost use Rattle.lzk_ntt.specs.Transform.{IsRoot};
 
 use crate::extender::NttExtender;
+use crate::plan::Plan;
 use crate::prepared::Factor;
 use crate::transform::Transform;
 use lzk_field::Field;
@@ -77,7 +78,7 @@ impl RowExtend<Gold> for NttExtender<Gold> {
         let block = block_for(n);
         let bits = bits_for(block);
         let transform = Transform::new(alloc, bits, root_of(bits))?;
-        NttExtender::with_transform(alloc, n, upto, block, transform)
+        NttExtender::with_plan(alloc, Plan::new(n, upto, block, bits), transform)
     }
 
     fn room_len(&self) -> usize {

@@ -1,8 +1,8 @@
 //! The transforms by halves, in place: each level's butterflies, and the transforms of both halves.
 
-ghost use Rattle.std.specs.Prelude.{◌≡◌, ℕ, ◌^◌, ◌<◌, ◌≤◌, length};
+ghost use Rattle.std.specs.Prelude.{◌≡◌, ℕ, ◌<◌, ◌≤◌, length};
 ghost use Rattle.lzk_field.specs.Sums.{entry};
-ghost use Rattle.lzk_ntt.specs.Transform.{spectrum, doubled, AreTwiddles, IsRoot};
+ghost use Rattle.lzk_ntt.specs.Transform.{spectrum, doubled, AreTwiddles, HasLevels, IsRoot};
 
 use crate::butterflies::{
     backward_butterflies, backward_four, butterfly, forward_butterflies, forward_four,
@@ -13,8 +13,7 @@ use crate::prepared::{Factor, Prepared};
 ///
 /// `twiddles` has the powers of the root from the middle on, before them those of its square, and so on.
 pub fn forward<F: Factor>(values: &mut [F], twiddles: &[Prepared<F>], bits: u32)
-    requires whole { length values.old ≡ 2 ^ bits }
-    requires twiddles { length values.old ≤ length twiddles.now }
+    requires levels { HasLevels bits values.old twiddles.now }
     ensures { (w : F) → IsRoot F.ops bits w → AreTwiddles F.ops bits w twiddles.now → (j : ℕ) → j < length values.new →
         entry F.ops values.new j ≡ spectrum F.ops bits w (λ i. entry F.ops values.old i) j }
 {
@@ -35,8 +34,7 @@ pub fn forward<F: Factor>(values: &mut [F], twiddles: &[Prepared<F>], bits: u32)
 
 // The same of at most four values, the recursion's end.
 fn forward_small<F: Factor>(values: &mut [F], twiddles: &[Prepared<F>], bits: u32)
-    requires whole { length values.old ≡ 2 ^ bits }
-    requires twiddles { length values.old ≤ length twiddles.now }
+    requires levels { HasLevels bits values.old twiddles.now }
     requires few { bits ≤ 2 }
     ensures { (w : F) → IsRoot F.ops bits w → AreTwiddles F.ops bits w twiddles.now → (j : ℕ) → j < length values.new →
         entry F.ops values.new j ≡ spectrum F.ops bits w (λ i. entry F.ops values.old i) j }
@@ -52,8 +50,7 @@ fn forward_small<F: Factor>(values: &mut [F], twiddles: &[Prepared<F>], bits: u3
 
 // The same of eight values, with no call for each level.
 fn forward_eight<F: Factor>(values: &mut [F], twiddles: &[Prepared<F>])
-    requires whole { length values.old ≡ 8 }
-    requires twiddles { 8 ≤ length twiddles.now }
+    requires levels { HasLevels 3 values.old twiddles.now }
     ensures { (w : F) → IsRoot F.ops 3 w → AreTwiddles F.ops 3 w twiddles.now → (j : ℕ) → j < length values.new →
         entry F.ops values.new j ≡ spectrum F.ops 3 w (λ i. entry F.ops values.old i) j }
 {
@@ -67,8 +64,7 @@ fn forward_eight<F: Factor>(values: &mut [F], twiddles: &[Prepared<F>])
 /// The backward transform of values in bit-reversed order, in place. It is not divided by the number of the
 /// entries: each entry comes back doubled once for each level. `twiddles` has the powers of the inverse root.
 pub fn backward<F: Factor>(values: &mut [F], twiddles: &[Prepared<F>], bits: u32)
-    requires whole { length values.old ≡ 2 ^ bits }
-    requires twiddles { length values.old ≤ length twiddles.now }
+    requires levels { HasLevels bits values.old twiddles.now }
     ensures { (w v : F) → (x : ℕ → F) → IsRoot F.ops bits w → F.ops.times w v ≡ F.ops.one
         → AreTwiddles F.ops bits v twiddles.now
         → ((j : ℕ) → j < length values.old → entry F.ops values.old j ≡ spectrum F.ops bits w x j) → (i : ℕ)
@@ -92,8 +88,7 @@ pub fn backward<F: Factor>(values: &mut [F], twiddles: &[Prepared<F>], bits: u32
 
 // The same of at most four values, the recursion's end.
 fn backward_small<F: Factor>(values: &mut [F], twiddles: &[Prepared<F>], bits: u32)
-    requires whole { length values.old ≡ 2 ^ bits }
-    requires twiddles { length values.old ≤ length twiddles.now }
+    requires levels { HasLevels bits values.old twiddles.now }
     requires few { bits ≤ 2 }
     ensures { (w v : F) → (x : ℕ → F) → IsRoot F.ops bits w → F.ops.times w v ≡ F.ops.one
         → AreTwiddles F.ops bits v twiddles.now
@@ -112,8 +107,7 @@ fn backward_small<F: Factor>(values: &mut [F], twiddles: &[Prepared<F>], bits: u
 
 // The same of eight values, with no call for each level.
 fn backward_eight<F: Factor>(values: &mut [F], twiddles: &[Prepared<F>])
-    requires whole { length values.old ≡ 8 }
-    requires twiddles { 8 ≤ length twiddles.now }
+    requires levels { HasLevels 3 values.old twiddles.now }
     ensures { (w v : F) → (x : ℕ → F) → IsRoot F.ops 3 w → F.ops.times w v ≡ F.ops.one
         → AreTwiddles F.ops 3 v twiddles.now
         → ((j : ℕ) → j < length values.old → entry F.ops values.old j ≡ spectrum F.ops 3 w x j) → (i : ℕ)

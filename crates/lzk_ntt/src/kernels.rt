@@ -3,7 +3,7 @@
 ghost use Rattle.std.specs.Prelude.{◌≡◌, ◌≢◌, ℕ, ◌+◌, ◌^◌, ◌<◌, ◌≤◌, length, IfOk};
 ghost use Rattle.lzk_field.specs.Sums.{entry};
 ghost use Rattle.lzk_poly.specs.Weights.{IsInverseTable};
-ghost use Rattle.lzk_ntt.specs.Kernels.{kernel_entry, AreKernels, IsPlan};
+ghost use Rattle.lzk_ntt.specs.Kernels.{kernel_entry, AreKernels, IsPlan, IsReady};
 ghost use Rattle.lzk_ntt.specs.Transform.{doubled, spectrum};
 
 use crate::plan::Plan;
@@ -19,6 +19,7 @@ pub struct Kernels<F: Factor> {
     pub plan: Plan,
     /// The transformed kernels of each block and each piece, one after the other.
     pub spectra: Vec<Prepared<F>>,
+    pub ghost ready: { IsReady F.ops F.coding.element transform plan spectra.items },
 }
 
 // The inverse of the backward transform's factor.

@@ -2,6 +2,7 @@
 
 ghost use Rattle.std.specs.Prelude.{◌≡◌, ◌≢◌, ℕ, ◌^◌, ◌<◌, ◌≤◌, length, IfOk};
 ghost use Rattle.lzk_field.specs.Sums.{entry};
+ghost use Rattle.lzk_ntt.specs.Lists.{HaveOneLength};
 ghost use Rattle.lzk_ntt.specs.Transform.{cyclic_convolution, spectrum, doubled, AreTwiddles, IsPrincipal, IsRoot, Order};
 
 use crate::halves::{backward, forward};
@@ -38,8 +39,7 @@ fn twiddle_factors<F: Factor>(
 
 // The products of the entries at one place.
 fn multiply<F: Field>(left: &[F], right: &[F], out: &mut [F])
-    requires left { length left.now ≡ length out.old }
-    requires right { length right.now ≡ length out.old }
+    requires lengths { HaveOneLength out.old left.now right.now }
     ensures { (j : ℕ) → j < length out.new
         → entry F.ops out.new j ≡ F.ops.times (entry F.ops left.now j) (entry F.ops right.now j) }
 {

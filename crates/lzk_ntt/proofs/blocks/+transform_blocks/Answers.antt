@@ -4,7 +4,8 @@ use Rattle.lzk_ntt.proofs.blocks.+transform_blocks.Goals as goal
 
 pub returns : goal.returns
 returns g t c =
-    let d = c.args.kernels.now.transform in
-    spectra_joined g.F.Field.ops d c.args.kernels.now.plan c.args.values.now c.args.weights.now c.args.from c.transform_block.new.out c.transform_blocks.new.spectra
+    let row = c.args.row.now in
+    let d = row.kernels.now.transform in
+    spectra_joined g.F.Field.ops d row.kernels.now.plan row.values.now row.weights.now c.args.from c.transform_block.new.out c.transform_blocks.new.spectra
     (omega (arith, c.transform_block.auto.out, c.split_at_mut-first.ensures.front_len, c.size.ensures.value))
     c.transform_block.ensures c.transform_blocks.ensures

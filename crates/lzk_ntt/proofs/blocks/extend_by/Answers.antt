@@ -14,13 +14,15 @@ loop-p-preserved g c =
     let m = g.F.Field in
     let o = m.ops in
     let r = m.laws.ring in
-    let d = c.args.kernels.now.transform in
+    let row = c.args.row.now in
+    let ready = row.kernels.now.ready in
+    let d = row.kernels.now.transform in
     let n = 2 ^ d.bits in
-    let plan = c.args.kernels.now.plan in
-    let planned = c.requires.ready.planned in
-    let values = c.args.values.now in
-    let ws = c.args.weights.now in
-    let products = c.args.passed.now in
+    let plan = row.kernels.now.plan in
+    let planned = ready.planned in
+    let values = row.values.now in
+    let ws = row.weights.now in
+    let products = row.passed.now in
     let p = c.loop-p.p in
     let at = p * plan.piece in
     let list = c.backward.new.values in
@@ -44,19 +46,19 @@ loop-p-preserved g c =
           let small : y < plan.piece = omega (arith, below, next) in
           let reached : k < length c.loop-p.out = omega (arith, inside, c.set_products.auto.out) in
           let limit : from_of plan p + y < plan.upto = omega (arith, there, reached, whole) in
-          let full : min (plan.blocks * plan.block) plan.count ≡ length values = omega (arith, planned.blocks.all, c.requires.values) in
-          let within : k < length products = omega (arith, c.requires.passed.0, reached, whole) in
+          let full : min (plan.blocks * plan.block) plan.count ≡ length values = omega (arith, planned.blocks.all, row.count) in
+          let within : k < length products = omega (arith, row.passes.0, reached, whole) in
           let sum : entry o list (first + y) ≡ parts o m.coding.element values (length values) x =
           conv (first + y) (omega (arith, small, planned.room, planned.some))
           ∙ blocks_add o r m.laws.field m.coding.element plan values x (doubled o d.bits) (λ v. convolution o m.coding.element d plan values ws p v (first + y)) planned.blocks
-          (λ v h. block_adds o r m.laws.field m.coding.element d plan values ws p v y planned h begins small limit c.requires.values c.requires.ready.even c.requires.weights c.requires.ready.inverse_size
+          (λ v h. block_adds o r m.laws.field m.coding.element d plan values ws p v y planned h begins small limit row.count ready.even row.weighted ready.inverse_size
           ∙ ap (λ z. sum_below o (end_of plan v - v * plan.block) (λ i. part o m.coding.element values (v * plan.block + i) (m.coding.element z))) there)
           plan.blocks (omega arith)
           ∙ ap (λ z. parts o m.coding.element values z x) full in
           let product : entry o products k ≡ passed o m.coding.element (length values) x =
-          c.requires.passed.1 k within ∙ ap (λ z. passed o m.coding.element z x) (sym c.requires.values) in
+          row.passes.1 k within ∙ ap (λ z. passed o m.coding.element z x) (sym row.count) in
           c.set_products.ensures.inside k (omega arith) (omega (arith, c.min-to.ensures, below, next, reached))
           ∙ ap (λ u. o.times u (entry o products k)) sum
           ∙ ap (o.times (parts o m.coding.element values (length values) x)) product
-          ∙ parts_extension m.laws values j (omega (arith, c.requires.values)) (omega (arith, reached, whole, planned.limit))
+          ∙ parts_extension m.laws values j (omega (arith, row.count)) (omega (arith, reached, whole, planned.limit))
     ]

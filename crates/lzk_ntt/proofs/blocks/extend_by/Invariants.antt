@@ -5,4 +5,4 @@ use Rattle.lzk_ntt.proofs.blocks.extend_by.Given as goal
 
 abbrev pub invariant-loop-p : goal.invariant-loop-p
 invariant-loop-p g l =
-    let m = g.F.Field in (k : ℕ) → k < l.p * l.plan.piece → k < length l.out → entry m.ops l.out k ≡ extension m.ops m.coding.element l.fn.values (l.fn.kernels.plan.count + k)
+    let m = g.F.Field in (k : ℕ) → k < l.p * l.plan.piece → k < length l.out → entry m.ops l.out k ≡ extension m.ops m.coding.element l.fn.row.values.now (l.fn.row.kernels.now.plan.count + k)

@@ -10,12 +10,13 @@ use Rattle.lzk_ntt.proofs.blocks.transform_block.Goals as goal
 pub returns : goal.returns
 returns g c =
     let o = g.F.Field.ops in
-    let d = c.args.kernels.now.transform in
-    let plan = c.args.kernels.now.plan in
-    let planned = c.requires.ready.planned in
+    let row = c.args.row.now in
+    let d = row.kernels.now.transform in
+    let plan = row.kernels.now.plan in
+    let planned = row.kernels.now.ready.planned in
     let v = c.args.v in
-    let values = c.args.values.now in
-    let ws = c.args.weights.now in
+    let values = row.values.now in
+    let ws = row.weights.now in
     let s = v * plan.block in
     let e = end_of plan v in
     let skip = skip_of plan v in
@@ -25,7 +26,7 @@ returns g c =
     let some : s < e = omega (arith, begins, planned.some) in
     let short : e - s ≤ plan.block = omega arith in
     let skipped : plan.block - (c.min-end.result - s) ≡ skip = ap (λ k. plan.block - (k - s)) ended in
-    let long : length (take (c.min-end.result - s) (drop s values)) ≡ e - s = length_part values s (c.min-end.result - s) (omega (arith, ended, begins, some, c.requires.values)) ∙ ap (λ k. k - s) ended in
+    let long : length (take (c.min-end.result - s) (drop s values)) ≡ e - s = length_part values s (c.min-end.result - s) (omega (arith, ended, begins, some, row.count)) ∙ ap (λ k. k - s) ended in
     let size : length out ≡ 2 ^ d.bits = omega (arith, c.weigh.auto.out, c.requires.out) in
     λ j h.
     c.forward.ensures j h

@@ -1,16 +1,30 @@
 use Rattle.std.proofs.Common.{◌≡◌, ◌+◌, ◌-◌, ◌/◌, length, ap, ◌∙◌, arith}
 use Rattle.lzk_field.specs.Sums.{entry, minus}
 use Rattle.lzk_ntt.proofs.Levels.{halves, entry-part, entry-front, entry-back, level_up}
+use Rattle.lzk_ntt.proofs.Pieces.{length_part}
 use Rattle.lzk_ntt.proofs.halves.+backward.Goals as goal
 
-pub backward-requires-clause-whole : goal.backward-requires-clause-whole
-backward-requires-clause-whole g t c κs within = let half = halves c.args.bits (length c.args.values.now) c.requires.whole (omega arith) in omega (arith, half.1, c.split_at_mut-low.ensures.front_len)
+pub backward-requires-clause-levels : goal.backward-requires-clause-levels
+backward-requires-clause-levels g t c κs within =
+    let half = halves c.args.bits (length c.args.values.now) c.requires.levels.0 (omega arith) in (
+      omega (arith, half.1, c.split_at_mut-low.ensures.front_len),
+      omega (arith, c.requires.levels.1, c.split_at_mut-low.ensures.front_len),
+    )
 
-pub backward-requires-2-clause-whole : goal.backward-requires-2-clause-whole
-backward-requires-2-clause-whole g t c κs within = let half = halves c.args.bits (length c.args.values.now) c.requires.whole (omega arith) in omega (arith, half.1, half.2, c.split_at_mut-low.ensures.back_len)
+pub backward-requires-2-clause-levels : goal.backward-requires-2-clause-levels
+backward-requires-2-clause-levels g t c κs within =
+    let half = halves c.args.bits (length c.args.values.now) c.requires.levels.0 (omega arith) in (
+      omega (arith, half.1, half.2, c.split_at_mut-low.ensures.back_len),
+      omega (arith, c.requires.levels.1, c.split_at_mut-low.ensures.back_len),
+    )
 
-pub backward_butterflies-requires-clause-halves : goal.backward_butterflies-requires-clause-halves
-backward_butterflies-requires-clause-halves g t c κs within = let half = halves c.args.bits (length c.args.values.now) c.requires.whole (omega arith) in omega (arith, half.2, c.split_at_mut-low.ensures.front_len, c.split_at_mut-low.ensures.back_len)
+pub backward_butterflies-requires-clause-lengths : goal.backward_butterflies-requires-clause-lengths
+backward_butterflies-requires-clause-lengths g t c κs within =
+    let h = length c.args.values.now / 2 in
+    let half = halves c.args.bits (length c.args.values.now) c.requires.levels.0 (omega arith) in (
+      omega (arith, half.2, c.split_at_mut-low.ensures.front_len, c.split_at_mut-low.ensures.back_len),
+      omega (arith, length_part c.args.twiddles.now h (h + h - h) (omega (arith, half.2, c.requires.levels.1)), c.split_at_mut-low.ensures.front_len),
+    )
 
 pub returns : goal.returns
 returns g t c =
@@ -20,7 +34,7 @@ returns g t c =
     let bits = c.args.bits in
     let size = length values in
     let h = size / 2 in
-    let parts = halves bits size c.requires.whole (omega arith) in
+    let parts = halves bits size c.requires.levels.0 (omega arith) in
     let front : length c.split_at_mut-low.result.0.now ≡ h = omega (arith, c.split_at_mut-low.ensures.front_len) in
     let back : length c.split_at_mut-low.result.1.now ≡ h = omega (arith, parts.2, c.split_at_mut-low.ensures.back_len) in
     λ w v x root inverse twiddles known.

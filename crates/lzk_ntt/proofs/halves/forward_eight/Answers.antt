@@ -3,7 +3,14 @@ use Rattle.std.proofs.lemmas.List.{get_or_default}
 use Rattle.lzk_field.specs.Sums.{entry, minus}
 use Rattle.lzk_ntt.proofs.Levels.{entry-part, entry-front, entry-back, level_down}
 use Rattle.lzk_ntt.proofs.Lowest.{forward_four}
+use Rattle.lzk_ntt.proofs.Pieces.{length_part}
 use Rattle.lzk_ntt.proofs.halves.forward_eight.Goals as goal
+
+pub forward_butterflies-requires-clause-lengths : goal.forward_butterflies-requires-clause-lengths
+forward_butterflies-requires-clause-lengths g c κs within = (
+  omega (arith, c.requires.levels.0, c.split_at_mut-low.ensures.front_len, c.split_at_mut-low.ensures.back_len),
+  omega (arith, length_part c.args.twiddles.now 4 4 (omega (arith, c.requires.levels.0, c.requires.levels.1)), c.split_at_mut-low.ensures.front_len),
+)
 
 pub returns : goal.returns
 returns g c =
@@ -14,9 +21,9 @@ returns g c =
     let low = c.forward_butterflies.new.low in
     let high = c.forward_butterflies.new.high in
     let turn = c.index-twiddles-3.result in
-    let is : turn ≡ entry o ts 3 = c.index-twiddles-3.is ∙ get_or_default ts 3 turn o.zero (omega (arith, c.requires.twiddles)) in
+    let is : turn ≡ entry o ts 3 = c.index-twiddles-3.is ∙ get_or_default ts 3 turn o.zero (omega (arith, c.requires.levels.0, c.requires.levels.1)) in
     let front : length c.split_at_mut-low.result.0.now ≡ 4 = c.split_at_mut-low.ensures.front_len in
-    let back : length c.split_at_mut-low.result.1.now ≡ 4 = omega (arith, c.requires.whole, c.split_at_mut-low.ensures.back_len) in
+    let back : length c.split_at_mut-low.result.1.now ≡ 4 = omega (arith, c.requires.levels.0, c.split_at_mut-low.ensures.back_len) in
     let low_at : (i : ℕ) → i < 4 → entry o c.split_at_mut-low.result.0.now i ≡ entry o values i = λ i l. entry-front o values c.split_at_mut-low.result.0.now 4 i c.split_at_mut-low.ensures.front l in
     let high_at : (i : ℕ) → entry o c.split_at_mut-low.result.1.now i ≡ entry o values (4 + i) = λ i. entry-back o values c.split_at_mut-low.result.1.now 4 i c.split_at_mut-low.ensures.back in
     λ w root twiddles.
