@@ -7,7 +7,8 @@ use Rattle.lzk_batch.specs.Passes.{TicketsState, PassState, IsOf, IsOpen}
 use Rattle.lzk_batch.specs.Batch.{IsJobFit, IsJudged, numbers_of, HasDrawnMore, AllZip₃}
 
 -- a pass may be lent for these jobs: it is of these tickets, and has not drawn past them
-pub record IsReady (batch : List AnyCircuit) (list : List Job) (tickets : TicketsState) (pass : PassState) : Type 0 where
+pub record IsReady (batch : List AnyCircuit) (list : List Job) (tickets : TicketsState)
+    (pass : PassState) : Type 0 where
   pub fit : All (IsJobFit batch) list
   pub of : IsOf tickets pass
   pub still : IsOpen tickets pass

@@ -68,7 +68,8 @@ fn eq_part<F: Field>(on: &SumPoint<'_, F>, a: bool, number: u32) -> F
 // The values' extension at these variables.
 fn tilde_part<F: Field>(values: &[F], on: &SumPoint<'_, F>, a: bool) -> F
     requires { length values.now ≤ 131072 }
-    ensures { result ≡ tilde F.ops values.now (every_other a (point F.ops on.now.bits on.now.bound.now on.now.t on.now.z)) }
+    ensures { result ≡ tilde F.ops values.now
+        (every_other a (point F.ops on.now.bits on.now.bound.now on.now.t on.now.z)) }
 {
     let mut total = F::zero();
     for i in 0..values.len() {
