@@ -23,7 +23,7 @@ use Rattle.lzk_policy.specs.declared.policy.Claim.TheVariants as claims
 use Rattle.lzk_policy.specs.Policies.{Contents, IsPolicy, IsShowOf, suits, is_bytes}
 use Rattle.lzk_policy_circuit.specs.Meaning.{value_count, public_count, IsShown}
 use Rattle.lzk_policy_circuit.specs.Layout as layout
-use Rattle.lzk_policy_circuit.specs.Layout.{message_size, own_of, own_of_claim, own_count, owns_of, stated_count, rest_of_claim, asserts_of, asserts_of_claim, asserts_of_field, assert_count}
+use Rattle.lzk_policy_circuit.specs.Layout.{message_size, own_of, own_of_claim, own_count, owns_of, stated_count, rest_of_claim, asserts_of, asserts_of_claim, asserts_of_field}
 use Rattle.lzk_policy_circuit.specs.Met.{AreStated, IsHashed, AreHashed, Satisfy}
 use Rattle.lzk_policy_circuit.specs.Places.{hash_places}
 use Rattle.lzk_policy_circuit.proofs.Adding.{Stated}
