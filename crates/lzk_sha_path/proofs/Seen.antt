@@ -28,7 +28,7 @@ row_below width a n l k lk =
     let inside : k < n = omega (arith, length-range_with_len a n, lk) in
     subst (λ (x : ℕ). x < width) (sym (get_or-range_with_len a n k 0 inside)) (omega (arith, inside, l))
 
-both_below : (width : ℕ) (xs ys : List ℕ) → AreNumbersBelow width xs → AreNumbersBelow width ys → AreNumbersBelow width (xs ++ ys)
+pub both_below : (width : ℕ) (xs ys : List ℕ) → AreNumbersBelow width xs → AreNumbersBelow width ys → AreNumbersBelow width (xs ++ ys)
 both_below width xs ys hx hy k l =
     elim (cases_lt k (length xs)) [
       | inl less ↦ subst (λ (n : ℕ). n < width) (sym (get_or_append_left xs ys 0 k less)) (hx k less)

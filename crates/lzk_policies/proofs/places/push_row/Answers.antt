@@ -1,5 +1,5 @@
 use Rattle.std.proofs.Common.{◌+◌, refl}
-use Rattle.lzk_policies.proofs.Seen.{row_more}
+use Rattle.lzk_sha_path.proofs.Seen.{row_more}
 use Rattle.lzk_policies.proofs.places.push_row.Goals as goal
 
 pub loop-k-preserved : goal.loop-k-preserved
