@@ -1,11 +1,16 @@
 -- The combined coefficients of rows that hold private inputs alone, by few factors, and those of the other rows.
-use Rattle.std.specs.Prelude.{◌≡◌, ℕ, ◌+◌, ◌-◌, ◌*◌, ◌/◌, ◌<◌, length}
+use Rattle.std.specs.Prelude.{◌≡◌, ℕ, ◌+◌, ◌-◌, ◌*◌, ◌/◌, ◌<◌, List, length}
 use Rattle.lzk_field.specs.Ring.{Ops}
 use Rattle.lzk_field.specs.Sums.{sum_below, entry}
 use Rattle.lzk_circuit.specs.Valid.{Wiring}
 use Rattle.lzk_layout.specs.declared.params.Params.{Params}
 use Rattle.lzk_layout.specs.Sizes.{params_of}
 use Rattle.lzk_accept.specs.declared.factored.Factored.{Factored}
+
+-- so many lists of a factor for each row, one after the other, and as many of one for each position
+pub record AreFactorLists {A : Type 0} (lists rows positions : ℕ) (row_factors place_factors : List A) : Type 0 where
+  pub of_rows : length row_factors ≡ lists * rows
+  pub of_places : length place_factors ≡ lists * positions
 
 -- lists as long as a circuit needs them: private inputs alone stand in as many rows as they fill
 pub record HasRoomFor {A : Type 0} (c : Wiring A) (f : Factored A) : Type 0 where

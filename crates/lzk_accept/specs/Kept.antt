@@ -57,6 +57,13 @@ pub record IsPlacedAt {A : Type 0} (c : Wiring A) (i : ℕ) (form : Form A) : Ty
   pub end : form.end ≡ own_end c i
   pub above : form.above ≡ factors_at c (i - 1)
 
+-- forms for each layer of the circuit and for its inputs, each in its place, over as many entries as are committed to
+pub record ArePlaced {A : Type 0} (o : Ops A) (c : Wiring A) (forms : List (Form A)) (coefficients : List A)
+    : Type 0 where
+  pub count : length forms ≡ depth c + 1
+  pub own : length coefficients ≡ committed_count c
+  pub places : (i : ℕ) → i < depth c + 1 → IsPlacedAt c i (form_at o forms i)
+
 -- forms for each layer of the circuit and for its inputs, with tables for the widest layer
 pub record AreFormsOf {A : Type 0} (o : Ops A) (c : Wiring A) (f : LinearForms A) : Type 0 where
   pub count : length f.forms ≡ depth c + 1
@@ -140,6 +147,11 @@ pub record AreRest {A : Type 0} (o : Ops A) (point : ℕ → A) (c : Wiring A) (
       → linear_coefficient o point c (coefficients o c s) public s messages i j ≡ o.zero
   pub inputs : (j : ℕ) → j < skip
       → linear_coefficient o point c (coefficients o c s) public s messages (depth c) j ≡ private_coefficient o c s j
+
+-- two tables with room for so many entries each
+pub record HaveRoom {A : Type 0} (size : ℕ) (one other : List A) : Type 0 where
+  pub first : size ≤ length one
+  pub second : size ≤ length other
 
 -- three tables of one length, for each layer of the circuit and for its inputs
 pub record AreTables {A : Type 0} (c : Wiring A) (one other weights : List A) : Type 0 where

@@ -9,7 +9,7 @@ ghost use Rattle.lzk_layout.specs.Places.{depth};
 ghost use Rattle.lzk_sumcheck.specs.Coefficients.{coefficients, bound_at};
 ghost use Rattle.lzk_accept.specs.Bound.{counts, counts_at};
 
-use crate::claims::{first_point, layer_of, second_point};
+use crate::claims::{layer_of, points_on};
 use crate::exchange::Scripted;
 use lzk_circuit::{Term, weight_of};
 use lzk_field::Field;
@@ -136,10 +136,8 @@ pub(crate) fn bound_of<F: Field>(scripted: &Scripted<'_, F>, l: u32, room: &mut 
     let circuit = scripted.circuit;
     circuit.valid_laws();
     let layer = layer_of(scripted, l);
-    let points = Points {
-        first: first_point(scripted, l),
-        second: second_point(scripted, l),
-    };
+    let (first, second) = points_on(scripted, l);
+    let points = Points { first, second };
     let ra = layer.ra.as_slice();
     let rb = layer.rb.as_slice();
     let terms = circuit.layer(l).terms.as_slice();

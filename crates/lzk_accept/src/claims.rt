@@ -31,34 +31,22 @@ pub(crate) fn layer_of<'a, F: Field>(scripted: &Scripted<'a, F>, l: u32) -> &'a 
     nth_layer(scripted.script, l)
 }
 
-/// The first point at which a claim on layer `l` stands, the input layer being the one after the last.
-#[tactic(auto, using(crate::proofs::ShapeLaws::point_a_length))]
-pub(crate) fn first_point<'a, F: Field>(scripted: &Scripted<'a, F>, l: u32) -> &'a [F]
+/// The two points at which claims on layer `l` stand, the input layer being the one after the last.
+#[tactic(auto, using(crate::proofs::ShapeLaws::point_a_length, crate::proofs::ShapeLaws::point_b_length))]
+pub(crate) fn points_on<'a, F: Field>(scripted: &Scripted<'a, F>, l: u32) -> (&'a [F], &'a [F])
     requires layer { l ≤ depth scripted.now.circuit.now }
-    ensures point { result.now ≡ point_a F.ops scripted.now.script.now l }
-    ensures length { length result.now ≡ bits (width_at scripted.now.circuit.now l) }
+    ensures first { result.0.now ≡ point_a F.ops scripted.now.script.now l }
+    ensures second { result.1.now ≡ point_b F.ops scripted.now.script.now l }
+    ensures first_length { length result.0.now ≡ bits (width_at scripted.now.circuit.now l) }
+    ensures second_length { length result.1.now ≡ bits (width_at scripted.now.circuit.now l) }
 {
     if l == 0 {
         let script = scripted.script;
-        script.out_point.as_slice()
-    } else {
-        layer_of(scripted, l - 1).ra.as_slice()
+        let point = script.out_point.as_slice();
+        return (point, point);
     }
-}
-
-/// The second one.
-#[tactic(auto, using(crate::proofs::ShapeLaws::point_b_length))]
-pub(crate) fn second_point<'a, F: Field>(scripted: &Scripted<'a, F>, l: u32) -> &'a [F]
-    requires layer { l ≤ depth scripted.now.circuit.now }
-    ensures point { result.now ≡ point_b F.ops scripted.now.script.now l }
-    ensures length { length result.now ≡ bits (width_at scripted.now.circuit.now l) }
-{
-    if l == 0 {
-        let script = scripted.script;
-        script.out_point.as_slice()
-    } else {
-        layer_of(scripted, l - 1).rb.as_slice()
-    }
+    let layer = layer_of(scripted, l - 1);
+    (layer.ra.as_slice(), layer.rb.as_slice())
 }
 
 /// The places of layer `l`.

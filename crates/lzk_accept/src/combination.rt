@@ -32,27 +32,28 @@ fn add_at<F: Field>(sums: &mut [F], k: usize, x: F)
     sums[k] = sums[k].add(x);
 }
 
-// A range of a list.
+// A range of a list, behind its first `skip` entries.
 #[derive(Drop)]
 struct Range<'a, F: Field> {
     list: &'a [F],
     start: usize,
     end: usize,
+    skip: usize,
     ghost ordered: { start ≤ end },
     ghost inside: { end ≤ length list.now },
+    ghost behind: { skip ≤ start },
 }
 
-// Adds the entries of a list's range, multiplied. The sums begin at entry `skip` of the list.
-fn add_range<F: Field>(sums: &mut [F], by: F, range: &Range<'_, F>, skip: usize)
-    requires skip { skip ≤ range.now.start }
-    requires sums { range.now.end ≤ skip + length sums.old }
+// Adds the entries of a list's range, multiplied. The sums begin at the first entry that is not skipped.
+fn add_range<F: Field>(sums: &mut [F], by: F, range: &Range<'_, F>)
+    requires { range.now.end ≤ range.now.skip + length sums.old }
     ensures { let o = F.ops in let r = range.now in
         (j : ℕ)
         → entry o sums.new j
-        ≡ o.plus (entry o sums.old j) (cond (nat_le r.start (skip + j) && nat_lt (skip + j) r.end)
-        (o.times by (entry o r.list.now (skip + j))) o.zero) }
+        ≡ o.plus (entry o sums.old j) (cond (nat_le r.start (r.skip + j) && nat_lt (r.skip + j) r.end)
+        (o.times by (entry o r.list.now (r.skip + j))) o.zero) }
 {
-    let list = range.list;
+    let (list, skip) = (range.list, range.skip);
     for j in range.start..range.end {
         sums[j - skip] = sums[j - skip].add(by.mul(list[j]));
     }
@@ -92,19 +93,23 @@ fn add_form<F: Field>(sums: &mut [F], by: F, reaching: &Reaching<'_, F>)
         list: reaching.own,
         start: larger(form.start as usize, skip),
         end: form.end as usize,
+        skip,
     };
-    add_range(sums, by, &range, skip);
+    add_range(sums, by, &range);
     let above = form.above as usize - skip;
     add_at(sums, above, by.mul(form.first));
     add_at(sums, above + 1, by.mul(form.second));
 }
 
-// All forms with the coefficients of their own ranges, each of which reaches behind the first `skip` entries.
+// All forms with the coefficients of their own ranges, each of which reaches behind the first `skip` entries, and with
+// a challenge for each.
 #[derive(Drop)]
 struct Kept<'a, F: Field> {
     forms: &'a [Form<F>],
     own: &'a [F],
+    lambda: &'a [F],
     skip: usize,
+    ghost drawn: { length lambda.now ≡ length forms.now },
     ghost within: { (i : ℕ) → i < length forms.now → IsWithin (length own.now) (form_at F.ops forms.now i) },
     ghost behind: { (i : ℕ) → i < length forms.now
         → (skip ≤ (form_at F.ops forms.now i).end) × (skip ≤ (form_at F.ops forms.now i).above) },
@@ -112,19 +117,20 @@ struct Kept<'a, F: Field> {
 
 // Sets the sums to those of the forms' coefficients from entry `skip` on, each form multiplied by its challenge. Gives
 // the same sum of their right sides.
-fn sum_forms<F: Field>(kept: &Kept<'_, F>, lambda: &[F], sums: &mut [F]) -> F
-    requires count { length lambda.now ≡ length kept.now.forms.now }
+fn sum_forms<F: Field>(kept: &Kept<'_, F>, sums: &mut [F]) -> F
     requires room { length kept.now.own.now ≤ kept.now.skip + length sums.old }
     ensures entries { let o = F.ops in let k = kept.now in
         (j : ℕ)
         → entry o sums.new j
         ≡ sum_below o (length k.forms.now)
-        (λ i. o.times (entry o lambda.now i) (coefficient_in o k.own.now (form_at o k.forms.now i) (k.skip + j))) }
-    ensures rights { let o = F.ops in let forms = kept.now.forms.now in
-        result ≡ sum_below o (length forms) (λ i. o.times (entry o lambda.now i) (form_at o forms i).right) }
+        (λ i. o.times (entry o k.lambda.now i) (coefficient_in o k.own.now (form_at o k.forms.now i) (k.skip + j))) }
+    ensures rights { let o = F.ops in let k = kept.now in
+        result
+        ≡ sum_below o (length k.forms.now)
+        (λ i. o.times (entry o k.lambda.now i) (form_at o k.forms.now i).right) }
 {
     clear(sums);
-    let forms = kept.forms;
+    let (forms, lambda) = (kept.forms, kept.lambda);
     let mut wanted = F::zero();
     for i in 0..forms.len() {
         let form = forms[i];
@@ -140,64 +146,68 @@ fn sum_forms<F: Field>(kept: &Kept<'_, F>, lambda: &[F], sums: &mut [F]) -> F
     wanted
 }
 
-// The rows from row 3 + rows on, behind those that private inputs fill.
+// The values of the quadratic constraints: where each stands, which is one of the last three entries before its
+// layer's form ends, and its challenge. The rows are those from row 3 + rows on, behind those that private inputs fill.
 #[derive(Drop)]
-struct Others<'a> {
+struct Copies<'a, F: Field> {
     params: &'a Params,
     rows: u32,
+    forms: &'a [Form<F>],
+    mu: &'a [F],
     ghost bounded: { AreBounded params.now },
     ghost few: { rows ≤ params.now.nwrow },
+    ghost count: { params.now.layers ≤ length forms.now },
+    ghost sources: { let p = params.now in
+        (l : ℕ) → l < p.layers
+        → (rows * p.wr + 3 ≤ (form_at F.ops forms.now l).end) × ((form_at F.ops forms.now l).end ≤ p.nw) },
+    ghost drawn: { length mu.now ≡ 3 * params.now.layers },
 }
 
-// Adds a value's challenge at its copy's place, and takes it away at the value's own, which is one of the last three
-// before the form's end. The table has these rows.
-fn add_copy<F: Field>(others: &Others<'_>, m: u32, end: u32, x: F, table: &mut [F])
-    requires copy { m < 3 * others.now.params.now.layers }
-    requires behind { others.now.rows * others.now.params.now.wr + 3 ≤ end }
-    requires within { end ≤ others.now.params.now.nw }
-    requires room { length table.old ≡ (others.now.params.now.nrow - 3 - others.now.rows) * others.now.params.now.wr }
+// Adds a value's challenge at its copy's place, and takes it away at the value's own. The table has these rows.
+fn add_copy<F: Field>(copies: &Copies<'_, F>, m: u32, table: &mut [F])
+    requires copy { m < 3 * copies.now.params.now.layers }
+    requires room { length table.old ≡ (copies.now.params.now.nrow - 3 - copies.now.rows) * copies.now.params.now.wr }
     ensures { let o = F.ops in
-        let p = others.now.params.now in
-        let rows = others.now.rows in
+        let p = copies.now.params.now in
+        let rows = copies.now.rows in
+        let x = entry o copies.now.mu.now m in
         (i s : ℕ) → s < p.wr
         → entry o table.new (i * p.wr + s)
         ≡ o.plus (o.plus (entry o table.old (i * p.wr + s))
         (cond (is_place (3 + (rows + i)) s (copy_place_of p m)) x o.zero))
-        (cond (is_place (3 + (rows + i)) s (place_of p (end - 3 + m % 3))) (o.neg x) o.zero) }
+        (cond (is_place (3 + (rows + i)) s (place_of p (source_in o copies.now.forms.now m))) (o.neg x) o.zero) }
 {
-    let (params, rows) = (others.params, others.rows);
+    let (params, rows) = (copies.params, copies.rows);
+    let (forms, mu) = (copies.forms, copies.mu);
     let width = params.wr as usize;
     let (row, position) = params.copy_place(m);
     let copy = (row - 3 - rows) as usize * width + position as usize;
+    let x = mu[m as usize];
     add_at(table, copy, x);
-    let source = end - 3 + m % 3;
+    let form = forms[(m / 3) as usize];
+    let source = form.end - 3 + m % 3;
     let skip = rows as usize * width;
     add_at(table, source as usize - skip, x.neg());
 }
 
 // Adds the challenge of each value of the quadratic constraints at its copy's place, and takes it away at the value's
 // own. The table has these rows.
-fn add_copies<F: Field>(others: &Others<'_>, forms: &[Form<F>], mu: &[F], table: &mut [F])
-    requires count { others.now.params.now.layers ≤ length forms.now }
-    requires sources { let p = others.now.params.now in
-        (l : ℕ) → l < p.layers
-        → (others.now.rows * p.wr + 3 ≤ (form_at F.ops forms.now l).end) × ((form_at F.ops forms.now l).end ≤ p.nw) }
-    requires mu { length mu.now ≡ 3 * others.now.params.now.layers }
-    requires room { length table.old ≡ (others.now.params.now.nrow - 3 - others.now.rows) * others.now.params.now.wr }
+fn add_copies<F: Field>(copies: &Copies<'_, F>, table: &mut [F])
+    requires { length table.old ≡ (copies.now.params.now.nrow - 3 - copies.now.rows) * copies.now.params.now.wr }
     ensures { let o = F.ops in
-        let p = others.now.params.now in
-        let rows = others.now.rows in
+        let p = copies.now.params.now in
+        let rows = copies.now.rows in
+        let mu = copies.now.mu.now in
+        let forms = copies.now.forms.now in
         (i s : ℕ) → s < p.wr
         → entry o table.new (i * p.wr + s)
         ≡ minus o (o.plus (entry o table.old (i * p.wr + s))
-        (sum_where o (3 * p.layers) (λ m. is_place (3 + (rows + i)) s (copy_place_of p m)) (entry o mu.now)))
-        (sum_where o (3 * p.layers) (λ m. is_place (3 + (rows + i)) s (place_of p (source_in o forms.now m)))
-        (entry o mu.now)) }
+        (sum_where o (3 * p.layers) (λ m. is_place (3 + (rows + i)) s (copy_place_of p m)) (entry o mu)))
+        (sum_where o (3 * p.layers) (λ m. is_place (3 + (rows + i)) s (place_of p (source_in o forms m))) (entry o mu)) }
 {
-    let params = others.params;
+    let params = copies.params;
     for m in 0..3 * params.layers {
-        let end = forms[(m / 3) as usize].end;
-        add_copy(others, m, end, mu[m as usize], table);
+        add_copy(copies, m, table);
     }
 }
 
@@ -227,11 +237,17 @@ pub(crate) fn combine_from<F: Field>(
     let kept = Kept {
         forms: &forms.forms,
         own: &forms.own,
+        lambda: challenges.lambda.as_slice(),
         skip,
     };
-    let wanted = sum_forms(&kept, challenges.lambda.as_slice(), table);
-    let others = Others { params, rows };
-    add_copies(&others, &forms.forms, challenges.mu.as_slice(), table);
+    let wanted = sum_forms(&kept, table);
+    let copies = Copies {
+        params,
+        rows,
+        forms: &forms.forms,
+        mu: challenges.mu.as_slice(),
+    };
+    add_copies(&copies, table);
     wanted
 }
 

@@ -8,11 +8,11 @@ ghost use Rattle.lzk_sumcheck.specs.Coefficients.{AreBounds};
 ghost use Rattle.lzk_sumcheck.specs.Script.{HasShape};
 ghost use Rattle.lzk_accept.specs.Challenges as drawn;
 ghost use Rattle.lzk_accept.specs.Checks.{combined_of, wanted_of};
-ghost use Rattle.lzk_accept.specs.Factored.{HasRoomFor, GivesCombined};
-ghost use Rattle.lzk_accept.specs.Kept.{private_coefficient, AreFormsOf, AreRest};
+ghost use Rattle.lzk_accept.specs.Factored.{AreFactorLists, HasRoomFor, GivesCombined};
+ghost use Rattle.lzk_accept.specs.Kept.{private_coefficient, AreFormsOf, AreRest, HaveRoom};
 
 use crate::challenges::Challenges;
-use crate::claims::{first_point, second_point};
+use crate::claims::points_on;
 use crate::combination::combine_from;
 use crate::exchange::{Exchange, Scripted};
 use crate::forms::Forms;
@@ -79,7 +79,6 @@ fn set_row_factors<F: Field>(table: &[F], by: F, high: usize, rows: usize, facto
 // with the table's first entries behind them.
 fn set_place_factors<F: Field>(table: &[F], low: usize, factors: &mut [F])
     requires low { low ≤ length table.now }
-    requires few { length table.now ≤ 131072 }
     requires room { length factors.old ≡ 2 * length table.now }
     ensures here { let o = F.ops in
         (s : ℕ) → s < length table.now → entry o factors.new s ≡ entry o table.now (low + s) }
@@ -100,8 +99,8 @@ fn set_place_factors<F: Field>(table: &[F], low: usize, factors: &mut [F])
     }
 }
 
-// The numbers that rows take: those from `first` on, and a row takes as many as there are of so many bits. The point
-// has bits enough for all of them.
+// The numbers that rows take: those from `first` on, and a row takes as many as there are of so many bits. A point has
+// bits enough for all of them.
 #[derive(Drop)]
 struct Taken<'a, F: Field> {
     r: &'a [F],
@@ -123,10 +122,8 @@ fn set_point_factors<F: Field>(
     low: &mut [F],
     high: &mut [F],
 )
-    requires low { 2 ^ length taken.now.r.now ≤ length low.old }
-    requires high { 2 ^ length taken.now.r.now ≤ length high.old }
-    requires row_factors { length row_factors.old ≡ 2 * taken.now.rows }
-    requires place_factors { length place_factors.old ≡ 2 * 2 ^ taken.now.bits }
+    requires room { HaveRoom (2 ^ length taken.now.r.now) low.old high.old }
+    requires factors { AreFactorLists 2 taken.now.rows (2 ^ taken.now.bits) row_factors.old place_factors.old }
     ensures { let o = F.ops in let t = taken.now in (i s : ℕ) → i < t.rows → s < 2 ^ t.bits →
         o.plus (o.times (entry o row_factors.new i) (entry o place_factors.new s))
         (o.times (entry o row_factors.new (t.rows + i)) (entry o place_factors.new (2 ^ t.bits + s)))
@@ -142,32 +139,37 @@ fn set_point_factors<F: Field>(
     set_place_factors(low_table, taken.first % width, place_factors);
 }
 
+// The same numbers with two points, of which gamma counts the second.
+#[derive(Drop)]
+struct TakenTwice<'a, F: Field> {
+    taken: Taken<'a, F>,
+    second: &'a [F],
+    gamma: F,
+    ghost same: { length second.now ≡ length taken.r.now },
+}
+
 // Sets the factors of both points: those of the first, and those of the second behind them.
 fn set_both_factors<F: Field>(
-    taken: &Taken<'_, F>,
-    rb: &[F],
+    twice: &TakenTwice<'_, F>,
     by: F,
-    gamma: F,
     row_factors: &mut [F],
     place_factors: &mut [F],
     low: &mut [F],
     high: &mut [F],
 )
-    requires points { length rb.now ≡ length taken.now.r.now }
-    requires low { 2 ^ length taken.now.r.now ≤ length low.old }
-    requires high { 2 ^ length taken.now.r.now ≤ length high.old }
-    requires row_factors { length row_factors.old ≡ 4 * taken.now.rows }
-    requires place_factors { length place_factors.old ≡ 4 * 2 ^ taken.now.bits }
-    ensures { let o = F.ops in let t = taken.now in
+    requires room { HaveRoom (2 ^ length twice.now.taken.r.now) low.old high.old }
+    requires factors { AreFactorLists 4 twice.now.taken.rows (2 ^ twice.now.taken.bits) row_factors.old place_factors.old }
+    ensures { let o = F.ops in let t = twice.now.taken in
         (i s : ℕ) → i < t.rows → s < 2 ^ t.bits
         → let n = t.first + (i * 2 ^ t.bits + s) in
         sum_below o 4 (λ k.
         o.times (entry o row_factors.new (k * t.rows + i))
         (entry o place_factors.new (k * 2 ^ t.bits + s)))
-        ≡ o.times by (o.plus (eq o n t.r.now) (o.times gamma (eq o n rb.now))) }
+        ≡ o.times by (o.plus (eq o n t.r.now) (o.times twice.now.gamma (eq o n twice.now.second.now))) }
 {
+    let taken = &twice.taken;
     let other = Taken {
-        r: rb,
+        r: twice.second,
         first: taken.first,
         rows: taken.rows,
         bits: taken.bits,
@@ -175,7 +177,7 @@ fn set_both_factors<F: Field>(
     let (rows_a, rows_b) = row_factors.split_at_mut(2 * taken.rows);
     let (places_a, places_b) = place_factors.split_at_mut(2 * power_of(taken.bits));
     set_point_factors(taken, by, rows_a, places_a, low, high);
-    set_point_factors(&other, by.mul(gamma), rows_b, places_b, low, high);
+    set_point_factors(&other, by.mul(twice.gamma), rows_b, places_b, low, high);
 }
 
 // Sets the factors of the rows that private inputs fill, if there are any. The forms lend room.
@@ -189,10 +191,8 @@ fn set_private_factors<F: Field>(
     forms: &mut Forms<F>,
 )
     requires made { AreFormsOf F.ops scripted.now.circuit.now forms.old }
-    requires few { bits ≤ 17 }
     requires filled { rows * 2 ^ bits ≤ scripted.now.circuit.now.privates }
-    requires row_factors { length row_factors.old ≡ 4 * rows }
-    requires place_factors { length place_factors.old ≡ 4 * 2 ^ bits }
+    requires factors { AreFactorLists 4 rows (2 ^ bits) row_factors.old place_factors.old }
     ensures forms { forms.new ≡ forms.old }
     ensures products { let o = F.ops in
         (i s : ℕ) → i < rows → s < 2 ^ bits
@@ -205,17 +205,21 @@ fn set_private_factors<F: Field>(
     }
     let (circuit, script) = (scripted.circuit, scripted.script);
     let depth = circuit.depth();
+    let (r, second) = points_on(scripted, depth);
     let taken = Taken {
-        r: first_point(scripted, depth),
+        r,
         first: 1 + circuit.publics() as usize,
         rows: rows as usize,
         bits,
     };
+    let twice = TakenTwice {
+        taken,
+        second,
+        gamma: script.gamma,
+    };
     set_both_factors(
-        &taken,
-        second_point(scripted, depth),
+        &twice,
         by,
-        script.gamma,
         row_factors,
         place_factors,
         &mut forms.first,

@@ -8,7 +8,7 @@ ghost use Rattle.lzk_layout.specs.Places.{depth};
 ghost use Rattle.lzk_sumcheck.specs.Script.{point_a, point_b};
 ghost use Rattle.lzk_accept.specs.Residuals.{inputs_at};
 
-use crate::claims::{first_point, second_point};
+use crate::claims::points_on;
 use crate::exchange::Witnessed;
 use lzk_circuit::set_inputs;
 use lzk_field::Field;
@@ -45,7 +45,8 @@ pub(crate) fn inputs_of<F: Field>(witnessed: &Witnessed<'_, F>, room: &mut [F]) 
     let private = &witnessed.w[..scripted.circuit.privates() as usize];
     let (values, rest) = room.split_at_mut(1 + public.len() + private.len());
     set_inputs(public, private, values);
-    let first = extension_of(values, first_point(scripted, depth), rest);
-    let second = extension_of(values, second_point(scripted, depth), rest);
+    let (a, b) = points_on(scripted, depth);
+    let first = extension_of(values, a, rest);
+    let second = extension_of(values, b, rest);
     first.add(script.gamma.mul(second))
 }

@@ -9,7 +9,7 @@ ghost use Rattle.lzk_layout.specs.Places.{depth, width_at, pads_at, factors_at, 
 ghost use Rattle.lzk_layout.specs.Sizes.{sent_counts, committed_count};
 ghost use Rattle.lzk_sumcheck.specs.Coefficients.{coefficients, bound_at, AreBounds};
 ghost use Rattle.lzk_sumcheck.specs.Script.{layer_at, point_a, point_b, HasShape};
-ghost use Rattle.lzk_accept.specs.Kept.{form_at, coefficient, right, above_a, above_b, below_top, IsPlacedAt, IsConstraint, AreFormsOf, AreRest, IsLastForm};
+ghost use Rattle.lzk_accept.specs.Kept.{form_at, coefficient, right, above_a, above_b, below_top, IsPlacedAt, ArePlaced, IsConstraint, AreFormsOf, AreRest, IsLastForm};
 ghost use Rattle.lzk_accept.specs.Residuals.{linear_coefficient, right_side};
 
 use crate::claims::layer_of;
@@ -31,12 +31,14 @@ pub(crate) struct Factors<F> {
     pub(crate) second: F,
 }
 
-// The two factors that are sent from place i on.
-fn factors_from<F: Field>(messages: &[F], i: usize) -> Factors<F>
-    requires { i + 1 < length messages.now }
-    ensures first { result.first ≡ entry F.ops messages.now i }
-    ensures second { result.second ≡ entry F.ops messages.now (i + 1) }
+// The two factors that the layer whose turn it is sends.
+fn factors_of<F: Field>(turn: &Turn<'_, '_, F>) -> Factors<F>
+    ensures first { result.first ≡ entry F.ops turn.now.exchange.now.messages.now turn.now.places.factors_sent }
+    ensures second { result.second
+        ≡ entry F.ops turn.now.exchange.now.messages.now (turn.now.places.factors_sent + 1) }
 {
+    let messages = turn.exchange.messages;
+    let i = turn.places.factors_sent as usize;
     Factors {
         first: messages[i],
         second: messages[i + 1],
@@ -84,14 +86,8 @@ fn set_factors<F: Field>(own: &mut [F], k: usize, bound: F, factors: Factors<F>)
 }
 
 // The constraint of the layer whose turn it is. What stands elsewhere in `own` is left.
-fn layer_form<F: Field>(
-    points: &ThreePoints<F>,
-    turn: &Turn<'_, '_, F>,
-    old: Form<F>,
-    own: &mut [F],
-) -> Form<F>
-    requires form { IsPlacedAt turn.now.exchange.now.scripted.circuit.now turn.now.l old }
-    requires own { length own.old ≡ committed_count turn.now.exchange.now.scripted.circuit.now }
+fn layer_form<F: Field>(points: &ThreePoints<F>, turn: &Turn<'_, '_, F>, own: &mut [F]) -> Form<F>
+    requires { length own.old ≡ committed_count turn.now.exchange.now.scripted.circuit.now }
     ensures length { length own.new ≡ length own.old }
     ensures before { (j : ℕ) → j < pads_at turn.now.exchange.now.scripted.circuit.now turn.now.l
         → entry F.ops own.new j ≡ entry F.ops own.old j }
@@ -119,13 +115,13 @@ fn layer_form<F: Field>(
         own,
         places.pads as usize,
     );
-    let factors = factors_from(messages, places.factors_sent as usize);
+    let factors = factors_of(turn);
     set_factors(own, places.factors as usize, turn.bound, factors);
     let first = below_top_of(claim.weight, turn.l);
     Form {
-        start: old.start,
-        end: old.end,
-        above: old.above,
+        start: turn.form.start,
+        end: turn.form.end,
+        above: turn.form.above,
         first,
         second: first.mul(alpha),
         right: constant_of(claim, alpha, turn.above, turn.bound, factors).neg(),
@@ -238,18 +234,14 @@ fn fill_layers<F: Field>(
     forms: &mut [Form<F>],
     own: &mut [F],
 ) -> Factors<F>
-    requires count { length forms.old ≡ depth prepared.now.exchange.scripted.circuit.now + 1 }
-    requires placed { let c = prepared.now.exchange.scripted.circuit.now in
-        (i : ℕ) → i < depth c + 1 → IsPlacedAt c i (form_at F.ops forms.old i) }
-    requires own { length own.old ≡ committed_count prepared.now.exchange.scripted.circuit.now }
+    requires placed { ArePlaced F.ops prepared.now.exchange.scripted.circuit.now forms.old own.old }
     ensures forms_length { length forms.new ≡ length forms.old }
     ensures own_length { length own.new ≡ length own.old }
     ensures above_a { let e = prepared.now.exchange in let c = e.scripted.circuit.now in
         result.first ≡ above_a F.ops c e.messages.now (depth c) }
     ensures above_b { let e = prepared.now.exchange in let c = e.scripted.circuit.now in
         result.second ≡ above_b F.ops c e.messages.now (depth c) }
-    ensures placed { let c = prepared.now.exchange.scripted.circuit.now in
-        (i : ℕ) → i < depth c + 1 → IsPlacedAt c i (form_at F.ops forms.new i) }
+    ensures placed { ArePlaced F.ops prepared.now.exchange.scripted.circuit.now forms.new own.new }
     ensures constraints { let e = prepared.now.exchange in
         let c = e.scripted.circuit.now in
         let s = e.scripted.script.now in
@@ -272,13 +264,13 @@ fn fill_layers<F: Field>(
             exchange,
             l,
             places,
+            form: form_of(forms, l as usize),
             above,
             bound,
         };
-        let old = form_of(forms, l as usize);
-        let form = layer_form(&points, &turn, old, own);
+        let form = layer_form(&points, &turn, own);
         set_form(forms, l as usize, form);
-        above = factors_from(exchange.messages, places.factors_sent as usize);
+        above = factors_of(&turn);
         places = places.next(circuit, l);
     }
     above
@@ -286,14 +278,10 @@ fn fill_layers<F: Field>(
 
 // Sets all constraints, but for the inputs' coefficients at the first `skip` private inputs.
 fn fill_forms<F: Field>(prepared: &Prepared<'_, '_, '_, F>, forms: &mut [Form<F>], own: &mut [F])
-    requires count { length forms.old ≡ depth prepared.now.exchange.scripted.circuit.now + 1 }
-    requires placed { let c = prepared.now.exchange.scripted.circuit.now in
-        (i : ℕ) → i < depth c + 1 → IsPlacedAt c i (form_at F.ops forms.old i) }
-    requires own { length own.old ≡ committed_count prepared.now.exchange.scripted.circuit.now }
+    requires placed { ArePlaced F.ops prepared.now.exchange.scripted.circuit.now forms.old own.old }
     ensures forms_length { length forms.new ≡ length forms.old }
     ensures own_length { length own.new ≡ length own.old }
-    ensures placed { let c = prepared.now.exchange.scripted.circuit.now in
-        (i : ℕ) → i < depth c + 1 → IsPlacedAt c i (form_at F.ops forms.new i) }
+    ensures placed { ArePlaced F.ops prepared.now.exchange.scripted.circuit.now forms.new own.new }
     ensures rest { let e = prepared.now.exchange in
         AreRest F.ops F.coding.element e.scripted.circuit.now e.public.now e.scripted.script.now e.messages.now
         prepared.now.skip forms.new own.new }

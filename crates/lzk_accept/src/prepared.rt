@@ -3,9 +3,10 @@
 ghost use Rattle.std.specs.Prelude.{◌≡◌, ◌<◌, ◌≤◌, length};
 ghost use Rattle.lzk_layout.specs.Places.{depth, width_at, places_of, AreWithin};
 ghost use Rattle.lzk_sumcheck.specs.Coefficients.{coefficients, bound_at, AreBounds};
-ghost use Rattle.lzk_accept.specs.Kept.{above_a, above_b, AreTablesAt};
+ghost use Rattle.lzk_accept.specs.Kept.{above_a, above_b, AreTablesAt, IsPlacedAt};
 
 use crate::exchange::Exchange;
+use crate::forms::Form;
 use crate::linear::Factors;
 use lzk_field::Field;
 use lzk_layout::LayerPlaces;
@@ -27,17 +28,20 @@ pub(crate) struct Prepared<'e, 'b, 't, F: Field> {
     ghost few: { skip ≤ exchange.scripted.circuit.now.privates },
 }
 
-/// A layer in its turn: its number and places, the factors that the layer above sends, and its bound coefficient.
+/// A layer in its turn: its number and places, a form in its place, the factors that the layer above sends, and its
+/// bound coefficient.
 #[derive(Drop)]
 pub(crate) struct Turn<'p, 'e, F: Field> {
     pub(crate) exchange: &'p Exchange<'e, F>,
     pub(crate) l: u32,
     pub(crate) places: LayerPlaces,
+    pub(crate) form: Form<F>,
     pub(crate) above: Factors<F>,
     pub(crate) bound: F,
     ghost inside: { l < depth exchange.now.scripted.circuit.now },
     ghost placed: { places ≡ places_of exchange.now.scripted.circuit.now l },
     ghost within: { AreWithin exchange.now.scripted.circuit.now places },
+    ghost form_placed: { IsPlacedAt exchange.now.scripted.circuit.now l form },
     ghost above_first: { above.first ≡ above_a F.ops exchange.now.scripted.circuit.now exchange.now.messages.now l },
     ghost above_second: { above.second ≡ above_b F.ops exchange.now.scripted.circuit.now exchange.now.messages.now l },
     ghost bounded: { let c = exchange.now.scripted.circuit.now in let s = exchange.now.scripted.script.now in

@@ -6,9 +6,9 @@ ghost use Rattle.lzk_mle.specs.Multilinear.{eq};
 ghost use Rattle.lzk_circuit.specs.Bits.{bits};
 ghost use Rattle.lzk_layout.specs.Places.{depth, width_at};
 ghost use Rattle.lzk_sumcheck.specs.Coefficients.{coefficients, bound_at, AreBounds};
-ghost use Rattle.lzk_accept.specs.Kept.{AreTables, AreTablesAt};
+ghost use Rattle.lzk_accept.specs.Kept.{AreTables, AreTablesAt, HaveRoom};
 
-use crate::claims::{first_point, layer_of, second_point};
+use crate::claims::{layer_of, points_on};
 use crate::exchange::Scripted;
 use crate::terms::{Weighed, sum_terms};
 use lzk_field::Field;
@@ -78,8 +78,7 @@ pub(crate) fn set_table<F: Field>(r: &[F], width: usize, table: &mut [F])
 
 // Sets the weight of each wire of a layer.
 fn set_weights<F: Field>(width: usize, alpha: F, first: &[F], second: &[F], weights: &mut [F])
-    requires first { width ≤ length first.now }
-    requires second { width ≤ length second.now }
+    requires tables { HaveRoom width first.now second.now }
     requires room { width ≤ length weights.old }
     ensures length { length weights.new ≡ length weights.old }
     ensures entries { let o = F.ops in
@@ -168,10 +167,8 @@ pub(crate) fn set_input_tables<F: Field>(
     first: &mut [F],
     second: &mut [F],
 )
-    requires first_room { 2 ^ bits (width_at scripted.now.circuit.now (depth scripted.now.circuit.now))
-        ≤ length first.old }
-    requires second_room { 2 ^ bits (width_at scripted.now.circuit.now (depth scripted.now.circuit.now))
-        ≤ length second.old }
+    requires room { let c = scripted.now.circuit.now in
+        HaveRoom (2 ^ bits (width_at c (depth c))) first.old second.old }
     ensures first_length { length first.new ≡ length first.old }
     ensures second_length { length second.new ≡ length second.old }
     ensures at { let c = scripted.now.circuit.now in
@@ -179,6 +176,7 @@ pub(crate) fn set_input_tables<F: Field>(
 {
     let depth = scripted.circuit.depth();
     let inputs = scripted.circuit.width(depth) as usize;
-    set_table(first_point(scripted, depth), inputs, first);
-    set_table(second_point(scripted, depth), inputs, second);
+    let (a, b) = points_on(scripted, depth);
+    set_table(a, inputs, first);
+    set_table(b, inputs, second);
 }

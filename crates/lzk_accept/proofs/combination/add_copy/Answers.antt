@@ -1,25 +1,40 @@
-use Rattle.std.proofs.Common.{◌≡◌, ℕ, ◌+◌, ◌-◌, ◌*◌, ◌%◌, ◌≤◌, ◌==◌, cond, ap, sym, ◌∙◌, arith}
+use Rattle.std.proofs.Common.{◌≡◌, ℕ, ◌+◌, ◌-◌, ◌*◌, ◌/◌, ◌%◌, ◌≤◌, ◌<◌, ◌==◌, cond, length, ap, sym, ◌∙◌, arith}
+use Rattle.std.proofs.lemmas.List.{get_or_default}
 use Rattle.lzk_field.specs.Sums.{entry}
 use Rattle.lzk_layout.specs.Sizes.{place_of}
 use Rattle.lzk_layout.specs.Places.{copy_place_of}
 use Rattle.lzk_accept.specs.Combination.{is_place}
+use Rattle.lzk_accept.specs.Kept.{source_in}
 use Rattle.lzk_accept.proofs.CombinationLaws.{copy_number, source_number, list_fits_behind}
 use Rattle.lzk_accept.proofs.combination.add_copy.Goals as goal
 
 pub add_at-requires-2-after_bounds : goal.add_at-requires-2-after_bounds
 add_at-requires-2-after_bounds g c κs within =
-    let p = c.args.others.now.params.now in
-    omega (arith, c.requires.behind, c.requires.within, list_fits_behind p c.args.others.now.rows c.args.others.now.bounded, c.requires.room, c.add_at.auto.sums)
+    let o = g.F.Field.ops in
+    let copies = c.args.copies.now in
+    let p = copies.params.now in
+    let m = c.args.m in
+    let inside : m / 3 < length copies.forms.now = omega (arith, c.requires.copy, copies.count) in
+    let is = get_or_default copies.forms.now (m / 3) c.index-forms-m.result (record { start = 0; end = 0; above = 0; first = o.zero; second = o.zero; right = o.zero }) inside in
+    let ends = c.index-forms-m.is ∙ is in
+    let source = copies.sources (m / 3) (omega (arith, c.requires.copy)) in
+    omega (arith, ap (λ x. x.end) ends, source.0, source.1, list_fits_behind p copies.rows copies.bounded, c.requires.room, c.add_at.auto.sums)
 
 pub returns : goal.returns
 returns g c i s h =
     let o = g.F.Field.ops in
-    let p = c.args.others.now.params.now in
+    let copies = c.args.copies.now in
+    let p = copies.params.now in
     let m = c.args.m in
-    let x = c.args.x in
-    let rows = c.args.others.now.rows in
+    let rows = copies.rows in
+    let forms = copies.forms.now in
     let k = i * p.wr + s in
-    let source = c.args.end - 3 + m % 3 in
+    let x = c.index-mu-m.result in
+    let drawn : x ≡ entry o copies.mu.now m = c.index-mu-m.is ∙ get_or_default copies.mu.now m x o.zero (omega (arith, copies.drawn, c.requires.copy)) in
+    let inside : m / 3 < length forms = omega (arith, c.requires.copy, copies.count) in
+    let is = get_or_default forms (m / 3) c.index-forms-m.result (record { start = 0; end = 0; above = 0; first = o.zero; second = o.zero; right = o.zero }) inside in
+    let ends = c.index-forms-m.is ∙ is in
+    let source = source_in o forms m in
     let here = is_place (3 + (rows + i)) s (copy_place_of p m) in
     let there = is_place (3 + (rows + i)) s (place_of p source) in
     let old = entry o c.args.table.now k in
@@ -28,8 +43,9 @@ returns g c i s h =
     let position = c.copy_place-row.result.1 in
     let place = c.copy_place-row.ensures.place in
     let copy : (k == (row - 3 - rows) * p.wr + position) ≡ here =
-    sym (copy_number p.wr rows row position i s (omega (arith, ap (λ (q : ℕ × ℕ). q.0) place, c.args.others.now.few)) c.copy_place-row.ensures.position h) ∙ ap (is_place (3 + (rows + i)) s) place in
-    let low : rows * p.wr ≤ source = omega (arith, c.requires.behind) in
-    let own : (k == source - rows * p.wr) ≡ there = sym (source_number p rows source i s low h) in
-    c.add_at-2.ensures k ∙ ap (λ b. o.plus middle (cond b c.neg.result o.zero)) own ∙ ap (λ y. o.plus middle (cond there y o.zero)) c.neg.ensures
-    ∙ ap (λ y. o.plus y (cond there (o.neg x) o.zero)) (c.add_at.ensures k ∙ ap (λ b. o.plus old (cond b x o.zero)) copy)
+    sym (copy_number p.wr rows row position i s (omega (arith, ap (λ (q : ℕ × ℕ). q.0) place, copies.few)) c.copy_place-row.ensures.position h) ∙ ap (is_place (3 + (rows + i)) s) place in
+    let low : rows * p.wr ≤ source = omega (arith, (copies.sources (m / 3) (omega (arith, c.requires.copy))).0) in
+    let own : (k == c.index-forms-m.result.end - 3 + m % 3 - rows * p.wr) ≡ there = ap (λ y. k == y.end - 3 + m % 3 - rows * p.wr) ends ∙ sym (source_number p rows source i s low h) in
+    c.add_at-2.ensures k ∙ ap (λ b. o.plus middle (cond b c.neg.result o.zero)) own ∙ ap (λ y. o.plus middle (cond there y o.zero)) (c.neg.ensures ∙ ap o.neg drawn)
+    ∙ ap (λ y. o.plus y (cond there (o.neg (entry o copies.mu.now m)) o.zero))
+    (c.add_at.ensures k ∙ ap (λ b. o.plus old (cond b x o.zero)) copy ∙ ap (λ y. o.plus old (cond here y o.zero)) drawn)

@@ -6,7 +6,7 @@ abbrev pub invariant-loop-j : goal.invariant-loop-j
 invariant-loop-j g l =
     let o = g.F.Field.ops in
     record {
-      done : (k : ℕ) → l.range.start ≤ l.skip + k → l.skip + k < l.j → entry o l.sums k ≡ o.plus (entry o l.fn.sums k) (o.times l.by (entry o l.range.list.now (l.skip + k)));
-      before : (k : ℕ) → l.skip + k < l.range.start → entry o l.sums k ≡ entry o l.fn.sums k;
-      rest : (k : ℕ) → l.j ≤ l.skip + k → entry o l.sums k ≡ entry o l.fn.sums k;
+      done : (k : ℕ) → l.range.start ≤ l.range.skip + k → l.range.skip + k < l.j → entry o l.sums k ≡ o.plus (entry o l.fn.sums k) (o.times l.by (entry o l.range.list.now (l.range.skip + k)));
+      before : (k : ℕ) → l.range.skip + k < l.range.start → entry o l.sums k ≡ entry o l.fn.sums k;
+      rest : (k : ℕ) → l.j ≤ l.range.skip + k → entry o l.sums k ≡ entry o l.fn.sums k;
     }

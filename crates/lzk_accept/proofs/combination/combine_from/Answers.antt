@@ -42,16 +42,16 @@ sum_forms-wanted-requires-clause-room g c κs within =
     let nw = ap (λ (p : Params). p.nw) c.requires.forms.params in
     omega (arith, ap length own, c.requires.forms.forms.own, nw, list_fits_behind p c.args.rows c.requires.bounded, c.requires.room)
 
-pub invariant_of-others-clause-few : goal.invariant_of-others-clause-few
-invariant_of-others-clause-few g c =
+pub invariant_of-copies-clause-few : goal.invariant_of-copies-clause-few
+invariant_of-copies-clause-few g c =
     let p = c.args.params.now in
     let w = c.requires.forms.circuit in
     let few = c.requires.rows w c.requires.forms.params c.requires.forms.forms in
     let nw = ap (λ (p : Params). p.nw) c.requires.forms.params in
     rows_within p c.args.rows c.requires.bounded (omega (arith, few, nw))
 
-pub add_copies-requires-clause-sources : goal.add_copies-requires-clause-sources
-add_copies-requires-clause-sources g c κs within l h =
+pub invariant_of-copies-clause-sources : goal.invariant_of-copies-clause-sources
+invariant_of-copies-clause-sources g c l h =
     let o = g.F.Field.ops in
     let f = c.args.forms.now in
     let w = c.requires.forms.circuit in

@@ -36,9 +36,9 @@ loop-i-preserved g c =
     let by = c.index-lambda-i.result in
     let own = c.args.kept.now.own.now in
     let forms = c.args.kept.now.forms.now in
-    let lambda = c.args.lambda.now in
+    let lambda = c.args.kept.now.lambda.now in
     let is = c.index-forms-i.is ∙ get_or_default forms i form (record { start = 0; end = 0; above = 0; first = o.zero; second = o.zero; right = o.zero }) (omega arith) in
-    let by_is = c.index-lambda-i.is ∙ get_or_default lambda i by o.zero (omega (arith, c.requires.count)) in
+    let by_is = c.index-lambda-i.is ∙ get_or_default lambda i by o.zero (omega (arith, c.args.kept.now.drawn)) in
     let coefficients : ℕ → ℕ → _ = λ k l. o.times (entry o lambda l) (coefficient_in o own (form_at o forms l) (c.args.kept.now.skip + k)) in
     let rights : ℕ → _ = λ l. o.times (entry o lambda l) (form_at o forms l).right in
     rw add-one (record {
@@ -55,4 +55,4 @@ pub returns-clause-entries : goal.returns-clause-entries
 returns-clause-entries g c j =
     let o = g.F.Field.ops in
     let all : c.loop-i.i ≡ length c.args.kept.now.forms.now = omega arith in
-    c.loop-i.invariant.entries j ∙ ap (λ n. sum_below o n (λ i. o.times (entry o c.args.lambda.now i) (coefficient_in o c.args.kept.now.own.now (form_at o c.args.kept.now.forms.now i) (c.args.kept.now.skip + j)))) all
+    c.loop-i.invariant.entries j ∙ ap (λ n. sum_below o n (λ i. o.times (entry o c.args.kept.now.lambda.now i) (coefficient_in o c.args.kept.now.own.now (form_at o c.args.kept.now.forms.now i) (c.args.kept.now.skip + j)))) all

@@ -32,12 +32,15 @@ set_private_factors-requires-clause-filled g c κs within =
     let count : c.args.factored.now.rows * (params_of w).wr ≡ w.privates / (params_of w).wr * (params_of w).wr = ap (λ n. n * (params_of w).wr) c.requires.room.rows in
     omega (arith, product, count, filled w.privates (params_of w).wr)
 
-pub set_private_factors-requires-clause-place_factors : goal.set_private_factors-requires-clause-place_factors
-set_private_factors-requires-clause-place_factors g c κs within =
+pub set_private_factors-requires-clause-factors : goal.set_private_factors-requires-clause-factors
+set_private_factors-requires-clause-factors g c κs within =
     let w = c.args.scripted.now.circuit.now in
     let wr : c.of-params.result.wr ≡ (params_of w).wr = ap (λ (q : Params). q.wr) c.of-params.ensures.params in
     let power : 2 ^ c.bits_of-bits.result ≡ (params_of w).wr = ap (λ n. 2 ^ n) (c.bits_of-bits.ensures.bits ∙ ap bits wr) ∙ width_power (committed_count w) in
-    ap length c.as_mut_slice-3.ensures.value ∙ c.requires.room.place_factors ∙ ap (λ n. 4 * n) (sym power)
+    record {
+      of_rows = ap length c.as_mut_slice-2.ensures.value ∙ c.requires.room.row_factors;
+      of_places = ap length c.as_mut_slice-3.ensures.value ∙ c.requires.room.place_factors ∙ ap (λ n. 4 * n) (sym power);
+    }
 
 pub returns-clause-combined : goal.returns-clause-combined
 returns-clause-combined g c public messages rest =

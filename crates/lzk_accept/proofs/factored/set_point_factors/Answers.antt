@@ -10,21 +10,24 @@ use Rattle.lzk_accept.proofs.ShapeLaws.{power_small}
 use Rattle.lzk_accept.proofs.factored.set_point_factors.Goals as goal
 
 pub split_at_mut-low_table-requires : goal.split_at_mut-low_table-requires
-split_at_mut-low_table-requires g c = omega (arith, c.power_of-width.ensures, pow_mono {i = c.args.taken.now.bits} {j = length c.args.taken.now.r.now} c.args.taken.now.within, c.requires.low)
+split_at_mut-low_table-requires g c = omega (arith, c.power_of-width.ensures, pow_mono {i = c.args.taken.now.bits} {j = length c.args.taken.now.r.now} c.args.taken.now.within, c.requires.room.first)
 
 pub split_at_mut-high_table-requires : goal.split_at_mut-high_table-requires
 split_at_mut-high_table-requires g c =
     let highs = c.split_at.result.1.now in
-    omega (arith, c.power_of.ensures, pow_mono {i = length highs} {j = length c.args.taken.now.r.now} (omega (arith, c.split_at.ensures.back_len)), c.requires.high)
+    omega (arith, c.power_of.ensures, pow_mono {i = length highs} {j = length c.args.taken.now.r.now} (omega (arith, c.split_at.ensures.back_len)), c.requires.room.second)
 
 pub set_row_factors-requires-clause-few : goal.set_row_factors-requires-clause-few
 set_row_factors-requires-clause-few g c κs within =
     let w = c.power_of-width.result in
     omega (arith, div-le_self c.args.taken.now.first w, c.args.taken.now.numbers, power_small (length c.args.taken.now.r.now) c.args.taken.now.few)
 
-pub set_place_factors-requires-clause-few : goal.set_place_factors-requires-clause-few
-set_place_factors-requires-clause-few g c κs within =
-    omega (arith, c.eq_table.ensures.length, c.split_at_mut-low_table.ensures.front_len, c.power_of-width.ensures, power_small c.args.taken.now.bits (omega (arith, c.args.taken.now.within, c.args.taken.now.few)))
+pub set_row_factors-requires-clause-room : goal.set_row_factors-requires-clause-room
+set_row_factors-requires-clause-room g c κs within = c.requires.factors.of_rows
+
+pub set_place_factors-requires-clause-room : goal.set_place_factors-requires-clause-room
+set_place_factors-requires-clause-room g c κs within =
+    omega (arith, c.eq_table.ensures.length, c.split_at_mut-low_table.ensures.front_len, c.power_of-width.ensures, c.requires.factors.of_places)
 
 pub returns : goal.returns
 returns g c i s hi hs =

@@ -11,37 +11,34 @@ use Rattle.lzk_accept.proofs.factored.set_private_factors.Goals as goal
 pub invariant_of-taken-clause-few : goal.invariant_of-taken-clause-few
 invariant_of-taken-clause-few g c =
     let d = c.depth-depth in
-    let n = length c.first_point.result.now in
-    let few = input_bits g.F.Field.ops c.args.scripted.now.circuit.now d.result n d.ensures.valid d.ensures.depth c.first_point.ensures.length in
+    let n = length c.points_on.result.0.now in
+    let few = input_bits g.F.Field.ops c.args.scripted.now.circuit.now d.result n d.ensures.valid d.ensures.depth c.points_on.ensures.first_length in
     few.few
 
 pub invariant_of-taken-clause-within : goal.invariant_of-taken-clause-within
 invariant_of-taken-clause-within g c =
     let d = c.depth-depth in
-    let n = length c.first_point.result.now in
-    let few = input_bits g.F.Field.ops c.args.scripted.now.circuit.now d.result n d.ensures.valid d.ensures.depth c.first_point.ensures.length in
+    let n = length c.points_on.result.0.now in
+    let few = input_bits g.F.Field.ops c.args.scripted.now.circuit.now d.result n d.ensures.valid d.ensures.depth c.points_on.ensures.first_length in
     bits_within c.args.bits n c.args.rows c.args.scripted.now.circuit.now.privates (omega (arith, c.if-rows-eq0.false)) c.requires.filled (omega (arith, few.enough))
 
 pub invariant_of-taken-clause-numbers : goal.invariant_of-taken-clause-numbers
 invariant_of-taken-clause-numbers g c =
     let d = c.depth-depth in
-    let n = length c.first_point.result.now in
-    let few = input_bits g.F.Field.ops c.args.scripted.now.circuit.now d.result n d.ensures.valid d.ensures.depth c.first_point.ensures.length in
+    let n = length c.points_on.result.0.now in
+    let few = input_bits g.F.Field.ops c.args.scripted.now.circuit.now d.result n d.ensures.valid d.ensures.depth c.points_on.ensures.first_length in
     omega (arith, few.enough, c.requires.filled, c.publics.ensures)
 
-pub set_both_factors-requires-clause-low : goal.set_both_factors-requires-clause-low
-set_both_factors-requires-clause-low g c κs within =
+pub set_both_factors-requires-clause-room : goal.set_both_factors-requires-clause-room
+set_both_factors-requires-clause-room g c κs within =
     let w = c.args.scripted.now.circuit.now in
     let room : length c.forms.inside.weights.items ≡ c.args.forms.now.room = ap (λ (x : LinearForms g.row.F.Denot). x.room) c.forms.view_is in
-    let power : 2 ^ length c.first_point.result.now ≡ 2 ^ bits (width_at w (depth w)) = ap (λ n. 2 ^ n) (c.first_point.ensures.length ∙ ap (λ l. bits (width_at w l)) c.depth-depth.ensures.depth) in
-    omega (arith, power, c.requires.made.room (depth w) (omega arith), room, c.forms.invariant.0, ap length c.deref_mut.ensures.value)
-
-pub set_both_factors-requires-clause-high : goal.set_both_factors-requires-clause-high
-set_both_factors-requires-clause-high g c κs within =
-    let w = c.args.scripted.now.circuit.now in
-    let room : length c.forms.inside.weights.items ≡ c.args.forms.now.room = ap (λ (x : LinearForms g.row.F.Denot). x.room) c.forms.view_is in
-    let power : 2 ^ length c.first_point.result.now ≡ 2 ^ bits (width_at w (depth w)) = ap (λ n. 2 ^ n) (c.first_point.ensures.length ∙ ap (λ l. bits (width_at w l)) c.depth-depth.ensures.depth) in
-    omega (arith, power, c.requires.made.room (depth w) (omega arith), room, c.forms.invariant.1, ap length c.deref_mut-2.ensures.value)
+    let power : 2 ^ length c.points_on.result.0.now ≡ 2 ^ bits (width_at w (depth w)) = ap (λ n. 2 ^ n) (c.points_on.ensures.first_length ∙ ap (λ l. bits (width_at w l)) c.depth-depth.ensures.depth) in
+    let widest = c.requires.made.room (depth w) (omega arith) in
+    record {
+      first = omega (arith, power, widest, room, c.forms.invariant.0, ap length c.deref_mut.ensures.value);
+      second = omega (arith, power, widest, room, c.forms.invariant.1, ap length c.deref_mut-2.ensures.value);
+    }
 
 pub returns-clause-products : goal.returns-clause-products
 returns-clause-products g c i s hi hs =
@@ -50,10 +47,10 @@ returns-clause-products g c i s hi hs =
     let script = c.args.scripted.now.script.now in
     let by = c.args.by in
     let n = i * 2 ^ c.args.bits + s in
-    let ra : c.first_point.result.now ≡ point_a o script (depth w) = c.first_point.ensures.point ∙ ap (point_a o script) c.depth-depth.ensures.depth in
-    let rb : c.second_point.result.now ≡ point_b o script (depth w) = c.second_point.ensures.point ∙ ap (point_b o script) c.depth-depth.ensures.depth in
+    let ra : c.points_on.result.0.now ≡ point_a o script (depth w) = c.points_on.ensures.first ∙ ap (point_a o script) c.depth-depth.ensures.depth in
+    let rb : c.points_on.result.1.now ≡ point_b o script (depth w) = c.points_on.ensures.second ∙ ap (point_b o script) c.depth-depth.ensures.depth in
     let first : 1 + c.publics.result ≡ 1 + w.publics = ap (λ k. 1 + k) c.publics.ensures in
     c.set_both_factors.ensures i s hi hs
-    ∙ ap (λ k. o.times by (o.plus (eq o (k + n) c.first_point.result.now) (o.times script.gamma (eq o (k + n) c.second_point.result.now)))) first
-    ∙ ap (λ r. o.times by (o.plus (eq o (1 + w.publics + n) r) (o.times script.gamma (eq o (1 + w.publics + n) c.second_point.result.now)))) ra
+    ∙ ap (λ k. o.times by (o.plus (eq o (k + n) c.points_on.result.0.now) (o.times script.gamma (eq o (k + n) c.points_on.result.1.now)))) first
+    ∙ ap (λ r. o.times by (o.plus (eq o (1 + w.publics + n) r) (o.times script.gamma (eq o (1 + w.publics + n) c.points_on.result.1.now)))) ra
     ∙ ap (λ r. o.times by (o.plus (eq o (1 + w.publics + n) (point_a o script (depth w))) (o.times script.gamma (eq o (1 + w.publics + n) r)))) rb

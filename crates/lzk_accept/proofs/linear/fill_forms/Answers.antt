@@ -1,3 +1,4 @@
+use Rattle.std.proofs.lemmas.List.{length-set}
 use Rattle.std.proofs.Common.{◌<◌, length, sym, ap, ◌∙◌, subst, arith}
 use Rattle.std.specs.Prelude.{slice_set}
 use Rattle.lzk_layout.specs.Places.{depth}
@@ -14,20 +15,25 @@ pub last_form-last-requires-clause-form : goal.last_form-last-requires-clause-fo
 last_form-last-requires-clause-form g c κs within =
     let o = g.F.Field.ops in
     let w = c.args.prepared.now.exchange.scripted.circuit.now in
-    subst (IsPlacedAt w (depth w)) (sym (c.form_of-old.ensures ∙ ap (form_at o c.fill_layers-above.new.forms) c.depth-depth.ensures.depth)) (c.fill_layers-above.ensures.placed (depth w) (omega arith))
+    subst (IsPlacedAt w (depth w)) (sym (c.form_of-old.ensures ∙ ap (form_at o c.fill_layers-above.new.forms) c.depth-depth.ensures.depth)) (c.fill_layers-above.ensures.placed.places (depth w) (omega arith))
 
 pub last_form-last-requires-clause-own : goal.last_form-last-requires-clause-own
-last_form-last-requires-clause-own g c κs within = omega (arith, c.fill_layers-above.ensures.own_length, c.requires.own)
+last_form-last-requires-clause-own g c κs within = omega (arith, c.fill_layers-above.ensures.placed.own)
 
 pub returns-clause-placed : goal.returns-clause-placed
-returns-clause-placed g c i k =
+returns-clause-placed g c =
     let o = g.F.Field.ops in
     let w = c.args.prepared.now.exchange.scripted.circuit.now in
     let forms = c.fill_layers-above.new.forms in
     let form = c.last_form-last.result in
-    let inside : depth w < length forms = omega (arith, c.fill_layers-above.ensures.forms_length, c.requires.count) in
+    let before = c.fill_layers-above.ensures.placed in
+    let inside : depth w < length forms = omega (arith, before.count) in
     let put = c.set_form.ensures ∙ ap (λ n. slice_set forms n form) c.depth-depth.ensures.depth in
-    subst (λ fs. IsPlacedAt w i (form_at o fs i)) (sym put) (placed_set w o (depth w) forms form inside c.last_form-last.ensures.placed i (c.fill_layers-above.ensures.placed i k))
+    record {
+      count = ap length put ∙ length-set forms (depth w) form ∙ before.count;
+      own = c.last_form-last.ensures.length ∙ before.own;
+      places = λ i k. subst (λ fs. IsPlacedAt w i (form_at o fs i)) (sym put) (placed_set w o (depth w) forms form inside c.last_form-last.ensures.placed i (before.places i k));
+    }
 
 pub returns-clause-rest : goal.returns-clause-rest
 returns-clause-rest g c =
@@ -47,13 +53,13 @@ returns-clause-rest g c =
     let second = c.args.prepared.now.second.now in
     let whole = whole_of o w s skip own in
     let is = whole_is o w s skip own (omega (arith, c.args.prepared.now.few)) in
-    let inside : depth w < length forms = omega (arith, layers.ensures.forms_length, c.requires.count) in
+    let inside : depth w < length forms = omega (arith, layers.ensures.placed.count) in
     let put = c.set_form.ensures ∙ ap (λ n. slice_set forms n form) c.depth-depth.ensures.depth in
     let at = c.last_form-last.ensures.placed in
     let wide = width_last w in
-    rest_is o f.laws.ring f.coding.element w public s ms skip c.set_form.new.forms own c.args.prepared.now.few (returns-clause-placed g c)
+    rest_is o f.laws.ring f.coding.element w public s ms skip c.set_form.new.forms own c.args.prepared.now.few (returns-clause-placed g c).places
     (λ i k. subst (λ fs. IsConstraint o f.coding.element w q public s ms i whole (form_at o fs i)) (sym put)
-    (constraints_more o f.laws.ring f.coding.element w q public s ms (depth w) layers.new.own whole forms form inside (omega arith) (λ i m. layers.ensures.placed i (omega arith))
+    (constraints_more o f.laws.ring f.coding.element w q public s ms (depth w) layers.new.own whole forms form inside (omega arith) (λ i m. layers.ensures.placed.places i (omega arith))
     (λ i m j a b. is.after j (omega (arith, start_after w i m, c.args.prepared.now.few)) (omega (arith, end_is w i m, pads_within w i m)) ∙ c.last_form-last.ensures.after j (omega (arith, start_after w i m)))
     (last_is o f.laws.ring f.coding.element w q public s ms layers.result first second whole form c.depth-depth.ensures.valid.some c.args.prepared.now.exchange.publics layers.ensures.above_a layers.ensures.above_b
     (λ j b. c.args.prepared.now.at.first j (omega (arith, wide))) (λ j b. c.args.prepared.now.at.second j (omega (arith, wide)))

@@ -20,7 +20,7 @@ loop-l-init g c =
       within = λ h. c.first-places.ensures.within;
       above_a = c.zero.ensures;
       above_b = c.zero-2.ensures;
-      placed = c.requires.placed;
+      placed = c.requires.placed.places;
       constraints = λ public i h. absurd (omega (arith, h));
     }
 
@@ -30,12 +30,12 @@ invariant_of-turn-clause-bounded g c =
     let h : l < depth c.args.prepared.now.exchange.scripted.circuit.now = omega (arith, c.depth-depth.ensures.depth, c.loop-l-test.true, c.loop-l.auto.l-end) in
     c.entry_at-bound.ensures ∙ c.args.prepared.now.are.each l h
 
-pub layer_form-form-requires-clause-form : goal.layer_form-form-requires-clause-form
-layer_form-form-requires-clause-form g c κs within =
+pub invariant_of-turn-clause-form_placed : goal.invariant_of-turn-clause-form_placed
+invariant_of-turn-clause-form_placed g c =
     let w = c.args.prepared.now.exchange.scripted.circuit.now in
     let l = c.loop-l.l in
     let h : l < depth w = omega (arith, c.depth-depth.ensures.depth, c.loop-l-test.true, c.loop-l.auto.l-end) in
-    subst (IsPlacedAt w l) (sym c.form_of-old.ensures) (c.loop-l.invariant.placed l (omega arith))
+    subst (IsPlacedAt w l) (sym c.form_of.ensures) (c.loop-l.invariant.placed l (omega arith))
 
 pub loop-l-preserved : goal.loop-l-preserved
 loop-l-preserved g c =
@@ -51,7 +51,7 @@ loop-l-preserved g c =
     let forms = c.loop-l.forms in
     let form = c.layer_form-form.result in
     let own = c.layer_form-form.new.own in
-    let inside : l < length forms = omega (arith, inv.forms_length, c.requires.count) in
+    let inside : l < length forms = omega (arith, inv.forms_length, c.requires.placed.count) in
     let sent : c.loop-l.places.factors_sent ≡ factors_sent_at w l = ap (λ (p : LayerPlaces). p.factors_sent) inv.places in
     let next : suc l ≡ l + 1 = omega arith in
     record {
@@ -59,11 +59,16 @@ loop-l-preserved g c =
       own_length = c.layer_form-form.ensures.length ∙ inv.own_length;
       places = c.next-places.ensures.places;
       within = c.next-places.ensures.within;
-      above_a = c.factors_from-above.ensures.first ∙ ap (entry o ms) sent ∙ ap (above_a o w ms) next;
-      above_b = c.factors_from-above.ensures.second ∙ ap (λ k. entry o ms (k + 1)) sent ∙ ap (above_b o w ms) next;
+      above_a = c.factors_of-above.ensures.first ∙ ap (entry o ms) sent ∙ ap (above_a o w ms) next;
+      above_b = c.factors_of-above.ensures.second ∙ ap (λ k. entry o ms (k + 1)) sent ∙ ap (above_b o w ms) next;
       placed = λ i k. subst (λ fs. IsPlacedAt w i (form_at o fs i)) (sym c.set_form.ensures) (placed_set w o l forms form inside c.layer_form-form.ensures.placed i (inv.placed i k));
       constraints = λ public i k. subst (λ fs. IsConstraint o f.coding.element w q public s ms i own (form_at o fs i)) (sym c.set_form.ensures)
           (constraints_more o f.laws.ring f.coding.element w q public s ms l c.loop-l.own own forms form inside (omega arith) (λ i m. inv.placed i (omega arith))
           (λ i m j a b. c.layer_form-form.ensures.before j (omega (arith, end_before w i l m (omega arith))))
           (c.layer_form-form.ensures.constraint public) (inv.constraints public) i k);
     }
+
+pub returns-clause-placed : goal.returns-clause-placed
+returns-clause-placed g c =
+    let inv = c.loop-l.invariant in
+    record { count = inv.forms_length ∙ c.requires.placed.count; own = inv.own_length ∙ c.requires.placed.own; places = inv.placed }

@@ -49,16 +49,16 @@ returns-clause-constraint g c public =
     let claim = c.claim_form-claim.result in
     let mid = c.claim_form-claim.new.own in
     let own = c.set_factors.new.own in
-    let s0 : c.factors_from-factors.result.first ≡ entry o ms (factors_sent_at w l) = c.factors_from-factors.ensures.first ∙ ap (entry o ms) factors_sent in
-    let s1 : c.factors_from-factors.result.second ≡ entry o ms (factors_sent_at w l + 1) = c.factors_from-factors.ensures.second ∙ ap (λ k. entry o ms (k + 1)) factors_sent in
+    let s0 : c.factors_of-factors.result.first ≡ entry o ms (factors_sent_at w l) = c.factors_of-factors.ensures.first ∙ ap (entry o ms) factors_sent in
+    let s1 : c.factors_of-factors.result.second ≡ entry o ms (factors_sent_at w l + 1) = c.factors_of-factors.ensures.second ∙ ap (λ k. entry o ms (k + 1)) factors_sent in
     let alpha : layer.alpha ≡ (layer_at o s l).alpha = ap (λ x. x.alpha) il in
     let four : 4 * places.bits ≡ 2 * round_count w l = omega arith in
     let two : 2 * places.bits ≡ round_count w l = omega arith in
     layer_is o f.laws.ring f.coding.element w q public s ms l claim c.args.turn.now.bound own _ c.args.turn.now.inside c.args.turn.now.bounded
     (record {
-      start = c.requires.form.start ∙ start_is w l c.args.turn.now.inside;
-      end = c.requires.form.end ∙ end_is w l c.args.turn.now.inside;
-      above = c.requires.form.above;
+      start = c.args.turn.now.form_placed.start ∙ start_is w l c.args.turn.now.inside;
+      end = c.args.turn.now.form_placed.end ∙ end_is w l c.args.turn.now.inside;
+      above = c.args.turn.now.form_placed.above;
       rounds = λ pad x.
           ap (λ y. through_rounds o f.coding.element (challenge_of o y) (λ k. entry o ms (sent_at w l + k)) pad x (round_count w l)) (sym il)
           ∙ ap (λ i. through_rounds o f.coding.element (challenge_of o layer) (λ k. entry o ms (i + k)) pad x (round_count w l)) (sym sent)
@@ -75,9 +75,9 @@ returns-clause-constraint g c public =
       first = c.below_top_of-first.ensures;
       second = c.mul.ensures ∙ ap (o.times c.below_top_of-first.result) alpha;
       right = c.neg.ensures ∙ ap o.neg (c.constant_of.ensures
-          ∙ ap (λ x. minus o (o.plus claim.constant (o.times claim.weight (o.plus x (o.times layer.alpha c.args.turn.now.above.second)))) (o.times c.args.turn.now.bound (o.times c.factors_from-factors.result.first c.factors_from-factors.result.second))) c.args.turn.now.above_first
-          ∙ ap (λ x. minus o (o.plus claim.constant (o.times claim.weight (o.plus (above_a o w ms l) (o.times layer.alpha x)))) (o.times c.args.turn.now.bound (o.times c.factors_from-factors.result.first c.factors_from-factors.result.second))) c.args.turn.now.above_second
-          ∙ ap (λ x. minus o (o.plus claim.constant (o.times claim.weight (o.plus (above_a o w ms l) (o.times x (above_b o w ms l))))) (o.times c.args.turn.now.bound (o.times c.factors_from-factors.result.first c.factors_from-factors.result.second))) alpha
-          ∙ ap (λ x. minus o (o.plus claim.constant (o.times claim.weight (o.plus (above_a o w ms l) (o.times (layer_at o s l).alpha (above_b o w ms l))))) (o.times c.args.turn.now.bound (o.times x c.factors_from-factors.result.second))) s0
+          ∙ ap (λ x. minus o (o.plus claim.constant (o.times claim.weight (o.plus x (o.times layer.alpha c.args.turn.now.above.second)))) (o.times c.args.turn.now.bound (o.times c.factors_of-factors.result.first c.factors_of-factors.result.second))) c.args.turn.now.above_first
+          ∙ ap (λ x. minus o (o.plus claim.constant (o.times claim.weight (o.plus (above_a o w ms l) (o.times layer.alpha x)))) (o.times c.args.turn.now.bound (o.times c.factors_of-factors.result.first c.factors_of-factors.result.second))) c.args.turn.now.above_second
+          ∙ ap (λ x. minus o (o.plus claim.constant (o.times claim.weight (o.plus (above_a o w ms l) (o.times x (above_b o w ms l))))) (o.times c.args.turn.now.bound (o.times c.factors_of-factors.result.first c.factors_of-factors.result.second))) alpha
+          ∙ ap (λ x. minus o (o.plus claim.constant (o.times claim.weight (o.plus (above_a o w ms l) (o.times (layer_at o s l).alpha (above_b o w ms l))))) (o.times c.args.turn.now.bound (o.times x c.factors_of-factors.result.second))) s0
           ∙ ap (λ x. minus o (o.plus claim.constant (o.times claim.weight (o.plus (above_a o w ms l) (o.times (layer_at o s l).alpha (above_b o w ms l))))) (o.times c.args.turn.now.bound (o.times (entry o ms (factors_sent_at w l)) x))) s1);
     })

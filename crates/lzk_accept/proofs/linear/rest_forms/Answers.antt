@@ -4,7 +4,7 @@ use Rattle.std.proofs.lemmas.List.{with_items_is}
 use Rattle.lzk_circuit.proofs.BitLaws.{bits_enough}
 use Rattle.lzk_layout.specs.Places.{depth, width_at}
 use Rattle.lzk_sumcheck.specs.Coefficients.{AreBounds}
-use Rattle.lzk_accept.specs.Kept.{LinearForms, form_at, AreRest, AreTablesAt, IsPlacedAt}
+use Rattle.lzk_accept.specs.Kept.{LinearForms, AreRest, AreTablesAt, ArePlaced}
 use Rattle.lzk_accept.proofs.linear.rest_forms.Goals as goal
 
 pub set_bounds-requires-clause-count : goal.set_bounds-requires-clause-count
@@ -56,12 +56,21 @@ invariant_of-prepared-clause-at g c =
     subst (λ xs. AreTablesAt g.F.Field.ops w s (depth w) xs c.deref-3.result.now) (sym (c.deref-2.ensures.value ∙ with_items_is inside.first tables.first nf))
     (subst (AreTablesAt g.F.Field.ops w s (depth w) tables.first) (sym (c.deref-3.ensures.value ∙ with_items_is inside.second tables.second ns)) c.set_bounds.ensures.at)
 
+pub fill_forms-requires-clause-placed : goal.fill_forms-requires-clause-placed
+fill_forms-requires-clause-placed g c κs within =
+    let o = g.F.Field.ops in
+    let w = c.args.exchange.scripted.circuit.now in
+    let made = c.requires.made in
+    let placed : ArePlaced o w c.args.forms.now.forms c.args.forms.now.own = record { count = made.count; own = made.own; places = made.places } in
+    let forms = c.deref_mut-5.ensures.value ∙ ap (λ (x : LinearForms g.row.F.Denot). x.forms) c.forms.view_is in
+    let own = c.deref_mut-6.ensures.value ∙ ap (λ (x : LinearForms g.row.F.Denot). x.own) c.forms.view_is in
+    subst (λ fs. ArePlaced o w fs c.deref_mut-6.result.now) (sym forms) (subst (ArePlaced o w c.args.forms.now.forms) (sym own) placed)
+
 pub returns-clause-made : goal.returns-clause-made
 returns-clause-made g c =
     let o = g.F.Field.ops in
     let w = c.args.exchange.scripted.circuit.now in
     let inside = c.forms.inside in
-    let e = c.fill_forms.ensures in
     let nf : length c.fill_forms.new.forms ≡ inside.forms.len = omega (arith, c.fill_forms.ensures.forms_length, ap length c.deref_mut-5.ensures.value, inside.forms.ok.0) in
     let no : length c.fill_forms.new.own ≡ inside.own.len = omega (arith, c.fill_forms.ensures.own_length, ap length c.deref_mut-6.ensures.value, inside.own.ok.0) in
     let ef = with_items_is inside.forms c.fill_forms.new.forms nf in
@@ -69,10 +78,11 @@ returns-clause-made g c =
     let nw : length c.set_bounds.new.weights ≡ inside.weights.len = omega (arith, c.set_bounds.ensures.weights_length, ap length c.deref_mut-4.ensures.value, inside.weights.ok.0) in
     let room : length (with_items inside.weights c.set_bounds.new.weights).items ≡ c.args.forms.now.room =
     ap length (with_items_is inside.weights c.set_bounds.new.weights nw) ∙ c.set_bounds.ensures.weights_length ∙ ap length c.deref_mut-4.ensures.value ∙ ap (λ (x : LinearForms g.row.F.Denot). x.room) c.forms.view_is in
+    let placed = subst (λ fs. ArePlaced o w fs (with_items inside.own c.fill_forms.new.own).items) (sym ef) (subst (ArePlaced o w c.fill_forms.new.forms) (sym eo) c.fill_forms.ensures.placed) in
     record {
-      count = ap length ef ∙ e.forms_length ∙ ap length c.deref_mut-5.ensures.value ∙ ap (λ (x : LinearForms g.row.F.Denot). length x.forms) c.forms.view_is ∙ c.requires.made.count;
-      own = ap length eo ∙ e.own_length ∙ ap length c.deref_mut-6.ensures.value ∙ ap (λ (x : LinearForms g.row.F.Denot). length x.own) c.forms.view_is ∙ c.requires.made.own;
-      places = λ i h. subst (λ fs. IsPlacedAt w i (form_at o fs i)) (sym ef) (e.placed i h);
+      count = placed.count;
+      own = placed.own;
+      places = placed.places;
       room = λ l h. omega (arith, c.requires.made.room l h, room);
     }
 

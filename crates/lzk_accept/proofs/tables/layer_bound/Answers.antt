@@ -11,13 +11,12 @@ use Rattle.lzk_accept.proofs.ShapeLaws.{layer_shape}
 use Rattle.lzk_accept.proofs.TermWalks.{bound_by_tables, layer_distinct, distinct_within, some_layer}
 use Rattle.lzk_accept.proofs.tables.layer_bound.Goals as goal
 
-pub set_weights-requires-clause-first : goal.set_weights-requires-clause-first
-set_weights-requires-clause-first g c κs within =
-    omega (arith, c.width.ensures, bits_enough (width_at c.args.scripted.now.circuit.now c.args.l), c.requires.tables.room c.args.l (omega (arith, c.requires.layer)), c.requires.tables.first)
-
-pub set_weights-requires-clause-second : goal.set_weights-requires-clause-second
-set_weights-requires-clause-second g c κs within =
-    omega (arith, c.width.ensures, bits_enough (width_at c.args.scripted.now.circuit.now c.args.l), c.requires.tables.room c.args.l (omega (arith, c.requires.layer)), c.requires.tables.second)
+pub set_weights-requires-clause-tables : goal.set_weights-requires-clause-tables
+set_weights-requires-clause-tables g c κs within =
+    let w = c.args.scripted.now.circuit.now in
+    let fits : c.width.result ≤ length c.args.weights.now =
+    omega (arith, c.width.ensures, bits_enough (width_at w c.args.l), c.requires.tables.room c.args.l (omega (arith, c.requires.layer))) in
+    record { first = omega (arith, fits, c.requires.tables.first); second = omega (arith, fits, c.requires.tables.second) }
 
 pub set_weights-requires-clause-room : goal.set_weights-requires-clause-room
 set_weights-requires-clause-room g c κs within =
