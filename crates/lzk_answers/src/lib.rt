@@ -25,3 +25,4 @@ pub use laws::{answers_pass, changed_answers_fail, values_determine};
 pub use linear::{linear_by_factors_into, linear_into};
 pub use low_degree::low_degree_into;
 pub use quadratic::quadratic_into;
+pub use table::Combined;

@@ -10,7 +10,7 @@ ghost use Rattle.lzk_answers.specs.Coefficients.{AreCoefficients, AreExtended, A
 ghost use Rattle.lzk_answers.specs.Rows.{IsTableOf};
 
 use crate::rows::{FACTORS, add_list, add_products, clear, multiply_list, row_of, set_list};
-use crate::table::{Extending, Factors, Given, Table};
+use crate::table::{Combined, Extending, Factors, Given, Listed, Table};
 use lzk_field::Field;
 use lzk_layout::{BLINDS, Params};
 use lzk_poly::RowExtend;
@@ -165,53 +165,36 @@ fn add_factored<F: Field>(factors: &Factors<'_, '_, '_, F>, behind: &[F], answer
         o.times (extension o F.coding.element (lists (3 + i)) k)
         (entry o factors.now.table.now.values.now ((3 + i) * factors.now.table.now.width + k)))) }
 {
-    let table = factors.table;
-    let (rows, row_factors, place_factors) = (
-        factors.rows,
-        factors.row_factors,
-        factors.place_factors,
-    );
-    let params = table.params;
-    let (all, width) = (table.values, table.width);
-    let block = params.block as usize;
+    let block = factors.table.params.block as usize;
     let (front, further) = answer.split_at_mut(block);
     let (_, elements) = front.split_at_mut(BLINDS);
-    add_products(
-        all,
-        width,
-        3,
-        BLINDS,
-        rows,
-        row_factors,
-        place_factors,
-        elements,
-    );
-    add_products(all, width, 3, block, rows, row_factors, behind, further);
+    add_products(factors, BLINDS, factors.place_factors, elements);
+    add_products(factors, block, behind, further);
 }
 
-// Adds the products of the rows behind the first `m` behind row 2, and their coefficients.
+// Adds the products of the rows whose coefficients are listed, and these.
 fn add_listed<F: Field, X: RowExtend<F>>(
-    extending: &Extending<'_, F, X>,
-    m: usize,
-    coefficients: &[F],
+    listed: &Listed<'_, '_, '_, F, X>,
     room: &mut [F],
     answer: &mut [F],
 )
-    requires rows { m ≤ extending.now.table.params.now.nrow - 3 }
-    requires coefficients { length coefficients.now
-        ≡ (extending.now.table.params.now.nrow - 3 - m) * extending.now.table.params.now.wr }
-    requires room { X.rooms extending.now.extender.now + extending.now.table.params.now.dblock ≤ length room.old }
-    requires answer { length answer.old ≡ extending.now.table.params.now.dblock }
+    requires room { let e = listed.now.extending.now in
+        X.rooms e.extender.now + e.table.params.now.dblock ≤ length room.old }
+    requires answer { length answer.old ≡ listed.now.extending.now.table.params.now.dblock }
     ensures room { length room.new ≡ length room.old }
     ensures answer { length answer.new ≡ length answer.old }
     ensures values { let o = F.ops in
-        (lists : ℕ → List F) → AreListed o extending.now.table.params.now m coefficients.now lists → (k : ℕ)
-        → k < extending.now.table.params.now.dblock
+        let t = listed.now.extending.now.table in
+        let p = t.params.now in
+        let m = listed.now.rows in
+        (lists : ℕ → List F) → AreListed o p m listed.now.coefficients.now lists → (k : ℕ) → k < p.dblock
         → entry o answer.new k
-        ≡ o.plus (entry o answer.old k) (sum_below o (extending.now.table.params.now.nrow - 3 - m) (λ t.
-        o.times (extension o F.coding.element (lists (3 + (m + t))) k)
-        (entry o extending.now.table.values.now ((3 + (m + t)) * extending.now.table.width + k)))) }
+        ≡ o.plus (entry o answer.old k) (sum_below o (p.nrow - 3 - m) (λ i.
+        o.times (extension o F.coding.element (lists (3 + (m + i))) k)
+        (entry o t.values.now ((3 + (m + i)) * t.width + k)))) }
 {
+    let extending = listed.extending;
+    let (m, coefficients) = (listed.rows, listed.coefficients);
     let table = &extending.table;
     let params = table.params;
     let wr = params.wr as usize;
@@ -267,47 +250,43 @@ pub fn linear_into<'a, F: Field, X: RowExtend<F>>(
         extender,
     };
     set_list(answer, row_of(table, width, 1, params.dblock as usize));
-    add_listed(&extending, 0, coefficients, room, answer);
+    let listed = Listed {
+        extending: &extending,
+        rows: 0,
+        coefficients,
+    };
+    add_listed(&listed, room, answer);
 }
 
-/// The same where the coefficients of the first `rows` rows from row 3 on are sums of four products: these rows cost a
-/// sum of their multiples and a product of two rows for each of the four, and no product of every row.
-///
-/// Factor f of row 3 + i is entry `f * rows + i` of `row_factors`, and factor f of position s is entry `f * WR + s` of
-/// `place_factors`. `coefficients` has the combined coefficients of the rows behind these. The extender's and twice
+/// The same where the coefficients of the first rows from row 3 on are sums of four products: these rows cost a sum of
+/// their multiples and a product of two rows for each of the four, and no product of every row. The extender's and twice
 /// DBLOCK elements of `room` are used.
 pub fn linear_by_factors_into<'a, F: Field, X: RowExtend<F>>(
-    params: &'a Params,
+    combined: &Combined<'a, F>,
     table: &'a [F],
     width: usize,
-    rows: usize,
-    row_factors: &'a [F],
-    place_factors: &'a [F],
-    coefficients: &[F],
     extender: &'a X,
     room: &mut [F],
     answer: &mut [F],
 )
-    requires bounded { AreBounded params.now }
-    requires table { params.now.nrow * width ≤ length table.now }
-    requires width { params.now.dblock ≤ width }
-    requires rows { rows ≤ params.now.nrow - 3 }
-    requires row_factors { length row_factors.now ≡ 4 * rows }
-    requires place_factors { length place_factors.now ≡ 4 * params.now.wr }
-    requires coefficients { length coefficients.now ≡ (params.now.nrow - 3 - rows) * params.now.wr }
-    requires reach { X.reach extender.now ≡ record { count = params.now.block; upto = params.now.dblock } }
-    requires room { X.rooms extender.now + 2 * params.now.dblock ≤ length room.old }
-    requires answer { length answer.old ≡ params.now.dblock }
+    requires table { combined.now.params.now.nrow * width ≤ length table.now }
+    requires width { combined.now.params.now.dblock ≤ width }
+    requires reach { let p = combined.now.params.now in
+        X.reach extender.now ≡ record { count = p.block; upto = p.dblock } }
+    requires room { X.rooms extender.now + 2 * combined.now.params.now.dblock ≤ length room.old }
+    requires answer { length answer.old ≡ combined.now.params.now.dblock }
     ensures room { length room.new ≡ length room.old }
     ensures answer { length answer.new ≡ length answer.old }
-    ensures values { (all : List (List F)) (lists : ℕ → List F) → length all ≡ params.now.nrow
+    ensures values { let c = combined.now in
+        let p = c.params.now in
+        (all : List (List F)) (lists : ℕ → List F) → length all ≡ p.nrow
         → IsTableOf F.ops F.coding.element width all table.now
-        → AreFactored F.ops params.now rows 4 row_factors.now place_factors.now lists
-        → AreListed F.ops params.now rows coefficients.now lists
+        → AreFactored F.ops p c.rows 4 c.row_factors.now c.place_factors.now lists
+        → AreListed F.ops p c.rows c.listed.now lists
         → answer.new
-        ≡ values_of F.ops F.coding.element params.now.dblock
-        (linear_answer F.ops F.coding.element params.now all lists) }
+        ≡ values_of F.ops F.coding.element p.dblock (linear_answer F.ops F.coding.element p all lists) }
 {
+    let params = combined.params;
     let extending = Extending {
         table: Table {
             params,
@@ -319,14 +298,19 @@ pub fn linear_by_factors_into<'a, F: Field, X: RowExtend<F>>(
     let size = FACTORS * (params.dblock - params.block) as usize;
     let (behind, rest) = room.split_at_mut(size);
     let (values, _) = answer.split_at_mut(params.block as usize);
-    extend_factors(&extending, place_factors, values, behind, rest);
+    extend_factors(&extending, combined.place_factors, values, behind, rest);
     set_list(answer, row_of(table, width, 1, params.dblock as usize));
     let factors = Factors {
         table: &extending.table,
-        rows,
-        row_factors,
-        place_factors,
+        rows: combined.rows,
+        row_factors: combined.row_factors,
+        place_factors: combined.place_factors,
     };
     add_factored(&factors, behind, answer);
-    add_listed(&extending, rows, coefficients, room, answer);
+    let listed = Listed {
+        extending: &extending,
+        rows: combined.rows,
+        coefficients: combined.listed,
+    };
+    add_listed(&listed, room, answer);
 }

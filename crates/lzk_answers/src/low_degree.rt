@@ -6,7 +6,7 @@ ghost use Rattle.lzk_layout.specs.Sizes.{AreBounded};
 ghost use Rattle.lzk_answers.specs.Answers.{low_degree_answer};
 ghost use Rattle.lzk_answers.specs.Rows.{IsTableOf};
 
-use crate::rows::{add_rows, row_of, set_list};
+use crate::rows::{ScaledRows, add_rows, row_of, set_list};
 use lzk_field::Field;
 use lzk_layout::Params;
 
@@ -38,5 +38,11 @@ pub fn low_degree_into<F: Field>(
         (low_degree_answer F.ops F.coding.element params.now rows u.now) }
 {
     set_list(answer, row_of(table, width, 0, params.block as usize));
-    add_rows(table, width, 3, u, room, answer);
+    let rows = ScaledRows {
+        table,
+        width,
+        first: 3,
+        factors: u,
+    };
+    add_rows(&rows, room, answer);
 }

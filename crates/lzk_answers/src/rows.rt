@@ -3,6 +3,7 @@
 ghost use Rattle.std.specs.Prelude.{◌≡◌, ℕ, ◌+◌, ◌*◌, ◌<◌, ◌≤◌, length};
 ghost use Rattle.lzk_field.specs.Sums.{entry, sum_below};
 
+use crate::table::Factors;
 use lzk_field::Field;
 use lzk_layout::MOST_ROWS;
 
@@ -87,56 +88,56 @@ fn gather<F: Field>(table: &[F], width: usize, first: usize, k: usize, column: &
     }
 }
 
-// Adds to each entry a sum of multiples of some rows' values, from row `first` on. Each sum is reduced once.
-fn add_group<F: Field>(
-    table: &[F],
-    width: usize,
-    first: usize,
-    factors: &[F],
-    column: &mut [F],
-    out: &mut [F],
-)
-    requires inside { (first + length factors.now) * width ≤ length table.now }
-    requires short { length out.old ≤ width }
-    requires column { length column.old ≡ length factors.now }
+// Some rows of a table, from row `first` on, with a factor for each.
+#[derive(Drop)]
+pub(crate) struct ScaledRows<'a, F: Field> {
+    pub(crate) table: &'a [F],
+    pub(crate) width: usize,
+    pub(crate) first: usize,
+    pub(crate) factors: &'a [F],
+    ghost inside: { (first + length factors.now) * width ≤ length table.now },
+    ghost few: { first + length factors.now ≤ 265 },
+}
+
+// Adds to each entry a sum of multiples of some rows' values. Each sum is reduced once.
+fn add_group<F: Field>(rows: &ScaledRows<'_, F>, column: &mut [F], out: &mut [F])
+    requires short { length out.old ≤ rows.now.width }
+    requires column { length column.old ≡ length rows.now.factors.now }
     ensures length { length out.new ≡ length out.old }
-    ensures sums { let o = F.ops in (k : ℕ) → k < length out.old →
-        entry o out.new k ≡ o.plus (entry o out.old k) (sum_below o (length factors.now)
-        (λ i. o.times (entry o factors.now i) (entry o table.now ((first + i) * width + k)))) }
+    ensures sums { let o = F.ops in let r = rows.now in (k : ℕ) → k < length out.old →
+        entry o out.new k ≡ o.plus (entry o out.old k) (sum_below o (length r.factors.now)
+        (λ i. o.times (entry o r.factors.now i) (entry o r.table.now ((r.first + i) * r.width + k)))) }
 {
+    let (table, width, first, factors) = (rows.table, rows.width, rows.first, rows.factors);
     for k in 0..out.len() {
         gather(table, width, first, k, column);
         out[k] = out[k].add(F::dot(factors, column));
     }
 }
 
-// Adds to each entry the sum of multiples of rows' values, from row `first` on. `column` is room, of GROUP elements or
-// more.
-pub(crate) fn add_rows<F: Field>(
-    table: &[F],
-    width: usize,
-    first: usize,
-    factors: &[F],
-    column: &mut [F],
-    out: &mut [F],
-)
-    requires inside { (first + length factors.now) * width ≤ length table.now }
-    requires few { first + length factors.now ≤ 265 }
-    requires short { length out.old ≤ width }
+// Adds to each entry the sum of multiples of rows' values. `column` is room, of GROUP elements or more.
+pub(crate) fn add_rows<F: Field>(rows: &ScaledRows<'_, F>, column: &mut [F], out: &mut [F])
+    requires short { length out.old ≤ rows.now.width }
     requires column { 32 ≤ length column.old }
     ensures column { length column.new ≡ length column.old }
     ensures length { length out.new ≡ length out.old }
-    ensures sums { let o = F.ops in (k : ℕ) → k < length out.old →
-        entry o out.new k ≡ o.plus (entry o out.old k) (sum_below o (length factors.now)
-        (λ i. o.times (entry o factors.now i) (entry o table.now ((first + i) * width + k)))) }
+    ensures sums { let o = F.ops in let r = rows.now in (k : ℕ) → k < length out.old →
+        entry o out.new k ≡ o.plus (entry o out.old k) (sum_below o (length r.factors.now)
+        (λ i. o.times (entry o r.factors.now i) (entry o r.table.now ((r.first + i) * r.width + k)))) }
 {
+    let factors = rows.factors;
     let mut start = 0;
     while start < factors.len() {
         let rest = factors.len() - start;
         let size = rest.min(GROUP);
-        let group = part_of(factors, start, size);
+        let group = ScaledRows {
+            table: rows.table,
+            width: rows.width,
+            first: rows.first + start,
+            factors: part_of(factors, start, size),
+        };
         let room = &mut column[..size];
-        add_group(table, width, first + start, group, room, out);
+        add_group(&group, room, out);
         start += size;
     }
 }
@@ -162,37 +163,33 @@ fn factored_at<F: Field>(factors: &[F], column: &[F], values: &[F], size: usize,
 }
 
 // Adds, at each point from point `from` on, what is given there for each of four factors times the sum of the factor's
-// multiples of rows' values, from row `first` on. A column is gathered once for all factors.
+// multiples of rows' values, from row 3 on. A column is gathered once for all factors.
 pub(crate) fn add_products<F: Field>(
-    table: &[F],
-    width: usize,
-    first: usize,
+    factors: &Factors<'_, '_, '_, F>,
     from: usize,
-    rows: usize,
-    factors: &[F],
     values: &[F],
     out: &mut [F],
 )
-    requires inside { (first + rows) * width ≤ length table.now }
-    requires few { first + rows ≤ 265 }
-    requires factors { length factors.now ≡ 4 * rows }
     requires values { length values.now ≡ 4 * length out.old }
-    requires long { 265 ≤ length table.now }
-    requires short { from + length out.old ≤ width }
+    requires short { from + length out.old ≤ factors.now.table.now.width }
     ensures length { length out.new ≡ length out.old }
     ensures sums { let o = F.ops in
+        let t = factors.now.table.now in
+        let rows = factors.now.rows in
         (k : ℕ) → k < length out.old
         → entry o out.new k
         ≡ o.plus (entry o out.old k) (sum_below o 4 (λ f.
         o.times (entry o values.now (f * length out.old + k)) (sum_below o rows (λ i.
-        o.times (entry o factors.now (f * rows + i))
-        (entry o table.now ((first + i) * width + (from + k))))))) }
+        o.times (entry o factors.now.row_factors.now (f * rows + i))
+        (entry o t.values.now ((3 + i) * t.width + (from + k))))))) }
 {
+    let (table, width) = (factors.table.values, factors.table.width);
+    let row_factors = factors.row_factors;
     let mut room = [F::zero(); MOST_ROWS];
-    let (column, _) = room.split_at_mut(rows);
+    let (column, _) = room.split_at_mut(factors.rows);
     let size = out.len();
     for k in 0..size {
-        gather(table, width, first, from + k, column);
-        out[k] = out[k].add(factored_at(factors, column, values, size, k));
+        gather(table, width, 3, from + k, column);
+        out[k] = out[k].add(factored_at(row_factors, column, values, size, k));
     }
 }

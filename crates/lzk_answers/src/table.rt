@@ -34,6 +34,37 @@ pub(crate) struct Given<'e, 'a, 'r, F: Field, X: RowExtend<F>> {
     ghost count: { length coefficients.now ≡ extending.now.table.params.now.wr },
 }
 
+/// The same with the coefficients of the rows behind the first `rows` ones from row 3 on, row by row.
+#[derive(Drop)]
+pub(crate) struct Listed<'e, 'a, 'l, F: Field, X: RowExtend<F>> {
+    pub(crate) extending: &'e Extending<'a, F, X>,
+    pub(crate) rows: usize,
+    pub(crate) coefficients: &'l [F],
+    ghost few: { rows ≤ extending.now.table.params.now.nrow - 3 },
+    ghost count: { let p = extending.now.table.params.now in
+        length coefficients.now ≡ (p.nrow - 3 - rows) * p.wr },
+}
+
+/// The combined coefficients of each row from row 3 on. Those of the first `rows` rows are sums of four products.
+#[derive(Drop)]
+pub struct Combined<'a, F: Field> {
+    /// What says how many rows and positions there are.
+    pub params: &'a Params,
+    /// How many rows have their coefficients by factors.
+    pub rows: usize,
+    /// Factor f of row 3 + i is entry `f * rows + i`.
+    pub row_factors: &'a [F],
+    /// Factor f of position s is entry `f * WR + s`.
+    pub place_factors: &'a [F],
+    /// The coefficients of the rows behind these, row by row.
+    pub listed: &'a [F],
+    ghost bounded: { AreBounded params.now },
+    ghost few: { rows ≤ params.now.nrow - 3 },
+    ghost by_row: { length row_factors.now ≡ 4 * rows },
+    ghost by_place: { length place_factors.now ≡ 4 * params.now.wr },
+    ghost count: { length listed.now ≡ (params.now.nrow - 3 - rows) * params.now.wr },
+}
+
 /// A table, and the factors of the coefficients of its first rows from row 3 on.
 #[derive(Drop)]
 pub(crate) struct Factors<'t, 'a, 'f, F: Field> {

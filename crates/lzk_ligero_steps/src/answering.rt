@@ -15,7 +15,7 @@ ghost use Rattle.lzk_ligero_steps.specs.Rooms.{IsRoomFor, coefficient_reach};
 use crate::room::Room;
 use crate::statement::Statement;
 use lzk_accept::{Challenges, Factored, combine_with_bounds};
-use lzk_answers::{linear_by_factors_into, low_degree_into, quadratic_into};
+use lzk_answers::{Combined, linear_by_factors_into, low_degree_into, quadratic_into};
 use lzk_field::Field;
 use lzk_layout::{BLINDS, Elements};
 use lzk_poly::RowExtend;
@@ -139,14 +139,17 @@ fn answer_by_factors<F: Field, X: RowExtend<F>>(
         ≡ values_of F.ops F.coding.element statement.now.params.now.dblock
         (linear_answer F.ops F.coding.element statement.now.params.now rows lists) }
 {
+    let combined = Combined {
+        params: statement.params,
+        rows: factored.rows as usize,
+        row_factors: factored.row_factors.as_slice(),
+        place_factors: factored.place_factors.as_slice(),
+        listed: factored.table.as_slice(),
+    };
     linear_by_factors_into(
-        statement.params,
+        &combined,
         table,
         statement.params.ncol as usize,
-        factored.rows as usize,
-        factored.row_factors.as_slice(),
-        factored.place_factors.as_slice(),
-        factored.table.as_slice(),
         extender,
         room.as_mut_slice(),
         answer.as_mut_slice(),

@@ -8,14 +8,14 @@ pub loop-t-preserved : goal.loop-t-preserved
 loop-t-preserved g c =
     let f = g.F.Field in
     let o = f.ops in
-    let p = c.args.extending.now.table.params.now in
-    let m = c.args.m in
+    let p = c.args.listed.now.extending.now.table.params.now in
+    let m = c.args.listed.now.rows in
     let t = c.loop-t.t in (
       omega arith,
       omega arith,
       λ lists are k h.
           let E : ℕ → g.row.F.Denot = λ t. extension o f.coding.element (lists (3 + (m + t))) k in
-          let here : ℕ → g.row.F.Denot = λ t. cell o c.args.extending.now.table.width c.args.extending.now.table.values.now (3 + (m + t)) k in
+          let here : ℕ → g.row.F.Denot = λ t. cell o c.args.listed.now.extending.now.table.width c.args.listed.now.extending.now.table.values.now (3 + (m + t)) k in
           let is = are t (omega arith) in
           let sum = sum_below o t (λ t. o.times (E t) (here t)) in
           let old = entry o c.args.answer.now k in
@@ -30,8 +30,8 @@ pub returns-clause-values : goal.returns-clause-values
 returns-clause-values g c lists are k h =
     let f = g.F.Field in
     let o = f.ops in
-    let p = c.args.extending.now.table.params.now in
-    let m = c.args.m in
+    let p = c.args.listed.now.extending.now.table.params.now in
+    let m = c.args.listed.now.rows in
     let done : c.loop-t.t ≡ p.nrow - 3 - m = omega arith in
     c.loop-t.invariant.2 lists are k h
-    ∙ ap (λ (n : ℕ). o.plus (entry o c.args.answer.now k) (sum_below o n (λ t. o.times (extension o f.coding.element (lists (3 + (m + t))) k) (cell o c.args.extending.now.table.width c.args.extending.now.table.values.now (3 + (m + t)) k)))) done
+    ∙ ap (λ (n : ℕ). o.plus (entry o c.args.answer.now k) (sum_below o n (λ t. o.times (extension o f.coding.element (lists (3 + (m + t))) k) (cell o c.args.listed.now.extending.now.table.width c.args.listed.now.extending.now.table.values.now (3 + (m + t)) k)))) done

@@ -8,15 +8,15 @@ pub returns-clause-values : goal.returns-clause-values
 returns-clause-values g c all lists count is factored listed =
     let m = g.F.Field in
     let o = m.ops in
-    let p = c.args.params.now in
-    let b = c.requires.bounded in
+    let p = c.args.combined.now.params.now in
+    let b = c.args.combined.now.bounded in
     let table = c.args.table.now in
     let width = c.args.width in
     let size : length c.add_listed.new.answer ≡ p.dblock = omega arith in
     linear_made o m.laws.ring m.coding.element p all width table c.add_listed.new.answer is count lists (omega (arith, b.rows)) c.requires.width size
     (λ k h.
     let f : ℕ → g.row.F.Denot = λ i. o.times (extension o m.coding.element (lists (3 + i)) k) (cell o width table (3 + i) k) in
-    rows_joined o m.laws.ring c.args.rows (p.nrow - 3) f (cell o width table 1 k) (entry o c.set_list.new.list k) (entry o c.add_factored.new.answer k) (entry o c.add_listed.new.answer k) (omega (arith, c.requires.rows))
+    rows_joined o m.laws.ring c.args.combined.now.rows (p.nrow - 3) f (cell o width table 1 k) (entry o c.set_list.new.list k) (entry o c.add_factored.new.answer k) (entry o c.add_listed.new.answer k) (omega (arith, c.args.combined.now.few))
     (ap (λ values. entry o values k) c.set_list.ensures ∙ c.row_of.ensures.values k h)
     (c.add_factored.ensures.values lists factored k h)
     (c.add_listed.ensures.values lists listed k h))
