@@ -11,7 +11,7 @@ use Rattle.lzk_field.proofs.RingBasics.{zero_plus}
 use Rattle.lzk_field.proofs.Solve.{var, ◌⊞◌, ◌⊟◌, ◌⊠◌, solve}
 use Rattle.lzk_field.proofs.EntryLaws.{entries_joined}
 use Rattle.lzk_afft.specs.Basis.{basis_polynomial, basis_sum}
-use Rattle.lzk_afft.specs.Blocks.{IsBlock}
+use Rattle.lzk_afft.specs.Blocks.{HasFactors, IsBlock}
 use Rattle.lzk_afft.proofs.Subspaces.{double}
 use Rattle.lzk_afft.proofs.Splits.{lower, upper, value_low, value_high, block_low, block_high, basis_sum-ext}
 
@@ -32,6 +32,18 @@ within_low node size half whole e h = let same : (node + 1) * (half + half) ≤ 
 
 pub within_high : (node size half whole : ℕ) → size ≡ half + half → (node + 1) * size ≤ 2 * whole → (2 * node + 1 + 1) * half ≤ 2 * whole
 within_high node size half whole e h = let same : (node + 1) * (half + half) ≤ 2 * whole = subst (λ (n : ℕ). (node + 1) * n ≤ 2 * whole) e h in omega arith
+
+module _ {A : Type 0} (bits node : ℕ) (values half twiddles : List A) (h : HasFactors bits node values twiddles) (more : 0 < bits) where
+  -- what a block has, its halves have
+  pub low_factors : length half ≡ length values / 2 → HasFactors (bits - 1) (2 * node) half twiddles
+  low_factors e =
+      let parts = halves bits (length values) h.0 more in
+      (omega (arith, parts.1, e), within_low node (length values) (length half) (length twiddles) (omega (arith, parts.2, e)) h.1, h.2)
+
+  pub high_factors : length half ≡ length values - length values / 2 → HasFactors (bits - 1) (2 * node + 1) half twiddles
+  high_factors e =
+      let parts = halves bits (length values) h.0 more in
+      (omega (arith, parts.1, parts.2, e), within_high node (length values) (length half) (length twiddles) (omega (arith, parts.2, e)) h.1, h.2)
 
 module _ {A : Type 0} (o : Ops A) where
   pub entry-front : (xs front : List A) (n k : ℕ) → front ≡ take n xs → k < n → entry o front k ≡ entry o xs k

@@ -12,7 +12,7 @@ use Rattle.lzk_field.proofs.EntryLaws.{entries_joined}
 use Rattle.lzk_poly.specs.Products.{IsBinary}
 use Rattle.lzk_field.proofs.Numbering.{zero_element}
 use Rattle.lzk_afft.specs.Basis.{basis_sum, AreCoefficients}
-use Rattle.lzk_afft.specs.Blocks.{AreTwiddles, IsBlock, IsLeastPower}
+use Rattle.lzk_afft.specs.Blocks.{AreTwiddles, HasFactors, IsBlock, IsLeastPower}
 use Rattle.lzk_afft.proofs.Splits.{basis_sum-ext, basis_sum-cut, positive}
 use Rattle.lzk_afft.proofs.TwiddleLaws.{sub_block}
 
@@ -73,11 +73,19 @@ pub least_power : (n bits : ℕ) → n ≤ 2 ^ bits → ((b : ℕ) → n ≤ 2 ^
 least_power n bits enough least = record { bits = bits; power = refl; enough = enough; least = λ b h. pow_mono {i = bits} {j = b} (least b h) }
 
 -- the first block, and its node as the code computes it
-pub first_room : (bits depth size : ℕ) → bits ≤ depth → depth ≤ 16 → size ≡ 2 ^ bits → (1 * 2 ^ (depth - bits) % 18446744073709551616 + 1) * size ≤ 2 * 2 ^ depth
+first_room : (bits depth size : ℕ) → bits ≤ depth → depth ≤ 16 → size ≡ 2 ^ bits → (1 * 2 ^ (depth - bits) % 18446744073709551616 + 1) * size ≤ 2 * 2 ^ depth
 first_room bits depth size order few e =
     let power : 1 * 2 ^ (depth - bits) % 18446744073709551616 ≡ 2 ^ (depth - bits) = one_shl (depth - bits) 64 (omega arith) in
     let none : 2 ^ (depth - bits) + 0 + 1 ≡ 1 * 2 ^ (depth - bits) % 18446744073709551616 + 1 = omega (arith, power) in
     subst (λ (n : ℕ). n * size ≤ 2 * 2 ^ depth) none (node_room bits depth 0 size order e (positive (depth - bits)))
+
+-- a list of all twiddle factors is not too long
+pub full_few : {A : Type 0} (depth : ℕ) (twiddles : List A) → depth ≤ 16 → length twiddles ≡ 2 ^ depth → length twiddles ≤ 65536
+full_few depth twiddles few full = let most : 2 ^ depth ≤ 2 ^ 16 = pow_mono {i = depth} {j = 16} few in omega (arith, most, full)
+
+pub first_factors : {A : Type 0} (bits depth : ℕ) (room twiddles : List A) → bits ≤ depth → depth ≤ 16 → length room ≡ 2 ^ bits → length twiddles ≡ 2 ^ depth
+    → HasFactors bits (1 * 2 ^ (depth - bits) % 18446744073709551616) room twiddles
+first_factors bits depth room twiddles order few whole full = (whole, omega (arith, full, first_room bits depth (length room) order few whole), full_few depth twiddles few full)
 
 module _ {A : Type 0} {o : Ops A} {size : ℕ} {number_of : A → ℕ} {element : ℕ → A} {bytes : ℕ} (laws : Laws o size number_of element bytes) where
   pub first_block : (bits depth : ℕ) (twiddles : List A) → bits ≤ depth → depth ≤ 16 → IsBlock o element depth 0 1 twiddles → IsBlock o element bits 0 (1 * 2 ^ (depth - bits) % 18446744073709551616) twiddles

@@ -24,6 +24,15 @@ pub record IsBlock {A : Type 0} (o : Ops A) (point : ℕ → A) (b at node : ℕ
   pub aligned : IsAligned o point b at
   pub are_twiddles : AreTwiddles o point b at node twiddles
 
+-- the values of a block of so many bits, and a list with the twiddle factors of its node and of all nodes below it
+abbrev pub HasFactors : {A : Type 0} → ℕ → ℕ → List A → List A → Type 0
+HasFactors bits node values twiddles =
+    (length values ≡ 2 ^ bits) × ((node + 1) * length values ≤ 2 * length twiddles) × (length twiddles ≤ 65536)
+
+-- the first 2 ^ depth points, of at most 65,536, are a linear subspace over the field of two elements
+abbrev pub IsSubspace : {A : Type 0} → Ops A → (ℕ → A) → ℕ → Type 0
+IsSubspace o point depth = (depth ≤ 16) × IsBinary o point depth
+
 -- From a level on, the twiddle factors of the blocks of each level, from the place on that is the number of its blocks.
 abbrev pub AreLevelTwiddles : {A : Type 0} → Ops A → (ℕ → A) → ℕ → ℕ → List A → Type 0
 AreLevelTwiddles o point from depth twiddles =
@@ -33,6 +42,10 @@ AreLevelTwiddles o point from depth twiddles =
 -- the images under the subspace polynomial of the points with one bit, which the other points are sums of
 abbrev pub AreImages : {A : Type 0} → Ops A → (ℕ → A) → ℕ → List A → Type 0
 AreImages o point b images = (i : ℕ) → i < length images → entry o images i ≡ vanishing o point b (point (2 ^ i))
+
+-- the same, with the image of point 2 ^ b, which the polynomial is normalized by
+abbrev pub HasImages : {A : Type 0} → Ops A → (ℕ → A) → ℕ → List A → Type 0
+HasImages o point b images = (b < length images) × AreImages o point b images
 
 -- the least power of two that is not below n
 pub record IsLeastPower (n size : ℕ) : Type 0 where

@@ -3,7 +3,7 @@
 ghost use Rattle.std.specs.Prelude.{◌≡◌, ℕ, ◌+◌, ◌*◌, ◌^◌, ◌<◌, ◌≤◌, length};
 ghost use Rattle.lzk_field.specs.Sums.{entry};
 ghost use Rattle.lzk_afft.specs.Basis.{basis_sum};
-ghost use Rattle.lzk_afft.specs.Blocks.{IsBlock};
+ghost use Rattle.lzk_afft.specs.Blocks.{HasFactors, IsBlock};
 
 use crate::butterflies::{
     add_entries, add_multiples, backward_butterflies, forward_butterflies, subtract_multiples,
@@ -13,9 +13,7 @@ use lzk_field::Field;
 /// From the coefficients of a polynomial to its values at the points of a block: an additive fast Fourier
 /// transform in the novel polynomial basis.
 pub fn forward<F: Field>(values: &mut [F], twiddles: &[F], bits: u32, node: usize)
-    requires whole { length values.old ≡ 2 ^ bits }
-    requires twiddles { (node + 1) * length values.old ≤ 2 * length twiddles.now }
-    requires limit { length twiddles.now ≤ 65536 }
+    requires factors { HasFactors bits node values.old twiddles.now }
     ensures { (at : ℕ) → IsBlock F.ops F.coding.element bits at node twiddles.now → (j : ℕ) → j < length values.new
         → entry F.ops values.new j
         ≡ basis_sum F.ops F.coding.element (entry F.ops values.old) (2 ^ bits) (F.coding.element (at + j)) }
@@ -36,10 +34,8 @@ pub fn forward<F: Field>(values: &mut [F], twiddles: &[F], bits: u32, node: usiz
 ///
 /// With as many values as points it undoes `forward`.
 pub fn backward<F: Field>(values: &mut [F], twiddles: &[F], bits: u32, node: usize, known: usize)
-    requires whole { length values.old ≡ 2 ^ bits }
+    requires factors { HasFactors bits node values.old twiddles.now }
     requires known { known ≤ length values.old }
-    requires twiddles { (node + 1) * length values.old ≤ 2 * length twiddles.now }
-    requires limit { length twiddles.now ≤ 65536 }
     ensures values { (at : ℕ) → IsBlock F.ops F.coding.element bits at node twiddles.now → (j : ℕ) → j < known
         → basis_sum F.ops F.coding.element (entry F.ops values.new) (2 ^ bits) (F.coding.element (at + j))
         ≡ entry F.ops values.old j }

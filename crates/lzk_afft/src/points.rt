@@ -3,7 +3,7 @@
 ghost use Rattle.std.specs.Prelude.{◌≡◌, ℕ, ◌+◌, ◌-◌, ◌*◌, ◌^◌, ◌<◌, ◌≤◌, length};
 ghost use Rattle.lzk_field.specs.Sums.{entry};
 ghost use Rattle.lzk_afft.specs.Basis.{basis_sum};
-ghost use Rattle.lzk_afft.specs.Blocks.{IsBlock};
+ghost use Rattle.lzk_afft.specs.Blocks.{HasFactors, IsBlock};
 
 use crate::blocks::{backward, forward};
 use crate::butterflies::{backward_butterflies, forward_butterflies};
@@ -12,9 +12,7 @@ use lzk_field::Field;
 /// The coefficients of the polynomial through the values at the first points, and zeros after them.
 pub fn interpolate<F: Field>(values: &[F], twiddles: &[F], bits: u32, node: usize, room: &mut [F])
     requires fits { length values.now ≤ length room.old }
-    requires whole { length room.old ≡ 2 ^ bits }
-    requires twiddles { (node + 1) * length room.old ≤ 2 * length twiddles.now }
-    requires limit { length twiddles.now ≤ 65536 }
+    requires factors { HasFactors bits node room.old twiddles.now }
     ensures meets { IsBlock F.ops F.coding.element bits 0 node twiddles.now → (j : ℕ) → j < length values.now
         → basis_sum F.ops F.coding.element (entry F.ops room.new) (2 ^ bits) (F.coding.element j)
         ≡ entry F.ops values.now j }
@@ -42,7 +40,6 @@ pub fn evaluate<F: Field>(
 )
     requires whole { length room.old ≡ 2 ^ bits }
     requires order { bits ≤ depth }
-    requires few { depth ≤ 16 }
     requires twiddles { length twiddles.now ≡ 2 ^ depth }
     requires reached { from + length out.old ≤ 2 ^ depth }
     requires block { IsBlock F.ops F.coding.element depth 0 1 twiddles.now }
@@ -73,10 +70,8 @@ fn evaluate_block<F: Field>(
     skip: usize,
     out: &mut [F],
 )
-    requires whole { length room.old ≡ 2 ^ bits }
+    requires factors { HasFactors bits node room.old twiddles.now }
     requires inside { skip + length out.old ≤ length room.old }
-    requires twiddles { (node + 1) * length room.old ≤ 2 * length twiddles.now }
-    requires limit { length twiddles.now ≤ 65536 }
     ensures values { (at : ℕ) → IsBlock F.ops F.coding.element bits at node twiddles.now → (k : ℕ) → k < length out.new
         → entry F.ops out.new k
         ≡ basis_sum F.ops F.coding.element (entry F.ops room.old) (2 ^ bits) (F.coding.element (at + (skip + k))) }

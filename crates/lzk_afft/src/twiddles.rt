@@ -4,7 +4,7 @@ ghost use Rattle.std.specs.Prelude.{◌≡◌, ◌≢◌, ℕ, ◌+◌, ◌-◌,
 ghost use Rattle.lzk_field.specs.Sums.{entry};
 ghost use Rattle.lzk_poly.specs.Products.{IsBinary};
 ghost use Rattle.lzk_afft.specs.Basis.{normalized, vanishing};
-ghost use Rattle.lzk_afft.specs.Blocks.{AreTwiddles, AreLevelTwiddles, AreImages};
+ghost use Rattle.lzk_afft.specs.Blocks.{AreTwiddles, AreLevelTwiddles, AreImages, HasImages, IsSubspace};
 
 use lzk_field::Field;
 use std::alloc::{AllocError, Global};
@@ -12,8 +12,7 @@ use std::alloc::{AllocError, Global};
 /// The twiddle factors of the block of the first 2^depth points and of all its halves, the largest block's
 /// first.
 pub fn twiddle_factors<F: Field>(alloc: Global, depth: u32) -> Result<Vec<F>, AllocError>
-    requires few { depth ≤ 16 }
-    requires binary { IsBinary F.ops F.coding.element depth }
+    requires subspace { IsSubspace F.ops F.coding.element depth }
     ensures { IfOk result (λ v. (length v.items ≡ 2 ^ depth) × AreTwiddles F.ops F.coding.element depth 0 1 v.items) }
 {
     let mut images = vec![in alloc; F::zero(); depth as usize]?;
@@ -42,12 +41,11 @@ fn fill_levels<F: Field>(
     depth: u32,
     from: u32,
 )
-    requires few { depth ≤ 16 }
+    requires subspace { IsSubspace F.ops F.coding.element depth }
     requires order { from ≤ depth }
     requires whole { length twiddles.old ≡ 2 ^ (depth - from) }
     requires images { length images.old ≡ depth }
     requires scaled { length scaled.old ≡ depth }
-    requires binary { IsBinary F.ops F.coding.element depth }
     requires are_images { AreImages F.ops F.coding.element from images.old }
     ensures { AreLevelTwiddles F.ops F.coding.element from depth twiddles.new }
 {
@@ -67,9 +65,8 @@ fn fill_levels<F: Field>(
 // point 2^from.
 fn normalize<F: Field>(images: &[F], scaled: &mut [F], from: u32)
     requires few { length images.now ≤ 16 }
-    requires order { from < length images.now }
+    requires images { HasImages F.ops F.coding.element from images.now }
     requires scaled { length scaled.old ≡ length images.now }
-    requires are_images { AreImages F.ops F.coding.element from images.now }
     ensures { (i : ℕ) → i + from + 1 < length images.now → entry F.ops scaled.new i ≡
         normalized F.ops F.coding.element from (F.coding.element (2 ^ (i + (from + 1)))) }
 {
@@ -114,9 +111,8 @@ fn shifted<F: Field>(low: &[F], by: F, high: &mut [F])
 
 // The images under the next subspace polynomial, S(t) * (S(t) + S(point 2^from)).
 fn next_images<F: Field>(images: &mut [F], from: u32)
-    requires order { from < length images.old }
+    requires images { HasImages F.ops F.coding.element from images.old }
     requires binary { IsBinary F.ops F.coding.element (from + 1) }
-    requires are_images { AreImages F.ops F.coding.element from images.old }
     ensures { AreImages F.ops F.coding.element (from + 1) images.new }
 {
     let here = images[from as usize];

@@ -1,7 +1,7 @@
 use Rattle.std.proofs.Common.{◌≡◌, ℕ, ◌+◌, ◌-◌, ◌/◌, ◌^◌, ◌<◌, length, sym, ap, ◌∙◌, arith}
 use Rattle.std.proofs.lemmas.List.{get_or_default}
 use Rattle.lzk_field.specs.Sums.{entry}
-use Rattle.lzk_afft.proofs.Levels.{halves, node_within, within_low, within_high, entry-front, entry-back, level_down, single}
+use Rattle.lzk_afft.proofs.Levels.{halves, node_within, low_factors, high_factors, entry-front, entry-back, level_down, single}
 use Rattle.lzk_afft.proofs.Splits.{positive}
 use Rattle.lzk_afft.proofs.blocks.+forward.Goals as goal
 
@@ -9,42 +9,30 @@ pub returns-then-bits-eq0 : goal.returns-then-bits-eq0
 returns-then-bits-eq0 g t c =
     let o = g.F.Field.ops in
     let values = c.args.values.now in
-    let one : length values ≡ 1 = c.requires.whole ∙ ap (λ n. 2 ^ n) c.if-bits-eq0.true in
+    let one : length values ≡ 1 = c.requires.factors.0 ∙ ap (λ n. 2 ^ n) c.if-bits-eq0.true in
     λ at block j h. let first : j ≡ 0 = omega (arith, one) in
     ap (entry o values) first ∙ sym (single g.F.Field.laws c.args.bits (entry o values) (g.F.Field.coding.element (at + j)) c.if-bits-eq0.true)
 
 pub offset_bounds-twiddles-node : goal.offset_bounds-twiddles-node
 offset_bounds-twiddles-node g t c =
     let size = length c.args.values.now in
-    let half = halves c.args.bits size c.requires.whole (omega arith) in
-    let l = node_within c.args.node size (length c.args.twiddles.now) (omega (arith, half.1, half.2, positive (c.args.bits - 1))) c.requires.twiddles in omega (arith, l)
+    let half = halves c.args.bits size c.requires.factors.0 (omega arith) in
+    let l = node_within c.args.node size (length c.args.twiddles.now) (omega (arith, half.1, half.2, positive (c.args.bits - 1))) c.requires.factors.1 in omega (arith, l)
 
 pub bounds-twiddles-node : goal.bounds-twiddles-node
 bounds-twiddles-node g t c =
     let size = length c.args.values.now in
-    let half = halves c.args.bits size c.requires.whole (omega arith) in
-    node_within c.args.node size (length c.args.twiddles.now) (omega (arith, half.1, half.2, positive (c.args.bits - 1))) c.requires.twiddles
+    let half = halves c.args.bits size c.requires.factors.0 (omega arith) in
+    node_within c.args.node size (length c.args.twiddles.now) (omega (arith, half.1, half.2, positive (c.args.bits - 1))) c.requires.factors.1
 
 pub forward_butterflies-requires-clause-halves : goal.forward_butterflies-requires-clause-halves
-forward_butterflies-requires-clause-halves g t c κs within = let half = halves c.args.bits (length c.args.values.now) c.requires.whole (omega arith) in omega (arith, half.2, c.split_at_mut-low.ensures.front_len, c.split_at_mut-low.ensures.back_len)
+forward_butterflies-requires-clause-halves g t c κs within = let half = halves c.args.bits (length c.args.values.now) c.requires.factors.0 (omega arith) in omega (arith, half.2, c.split_at_mut-low.ensures.front_len, c.split_at_mut-low.ensures.back_len)
 
-pub forward-requires-clause-whole : goal.forward-requires-clause-whole
-forward-requires-clause-whole g t c κs within = let half = halves c.args.bits (length c.args.values.now) c.requires.whole (omega arith) in omega (arith, half.1, c.split_at_mut-low.ensures.front_len)
+pub forward-requires-clause-factors : goal.forward-requires-clause-factors
+forward-requires-clause-factors g t c κs within = low_factors c.args.bits c.args.node c.args.values.now c.forward_butterflies.new.low c.args.twiddles.now c.requires.factors (omega arith) (omega (arith, c.split_at_mut-low.ensures.front_len))
 
-pub forward-requires-clause-twiddles : goal.forward-requires-clause-twiddles
-forward-requires-clause-twiddles g t c κs within =
-    let size = length c.args.values.now in
-    let half = halves c.args.bits size c.requires.whole (omega arith) in
-    within_low c.args.node size (length c.forward_butterflies.new.low) (length c.args.twiddles.now) (omega (arith, half.2, c.split_at_mut-low.ensures.front_len)) c.requires.twiddles
-
-pub forward-requires-2-clause-whole : goal.forward-requires-2-clause-whole
-forward-requires-2-clause-whole g t c κs within = let half = halves c.args.bits (length c.args.values.now) c.requires.whole (omega arith) in omega (arith, half.1, half.2, c.split_at_mut-low.ensures.back_len)
-
-pub forward-requires-2-clause-twiddles : goal.forward-requires-2-clause-twiddles
-forward-requires-2-clause-twiddles g t c κs within =
-    let size = length c.args.values.now in
-    let half = halves c.args.bits size c.requires.whole (omega arith) in
-    within_high c.args.node size (length c.forward_butterflies.new.high) (length c.args.twiddles.now) (omega (arith, half.2, c.split_at_mut-low.ensures.back_len)) c.requires.twiddles
+pub forward-requires-2-clause-factors : goal.forward-requires-2-clause-factors
+forward-requires-2-clause-factors g t c κs within = high_factors c.args.bits c.args.node c.args.values.now c.forward_butterflies.new.high c.args.twiddles.now c.requires.factors (omega arith) (omega (arith, c.split_at_mut-low.ensures.back_len))
 
 pub returns : goal.returns
 returns g t c =
@@ -52,11 +40,11 @@ returns g t c =
     let values = c.args.values.now in
     let size = length values in
     let h = size / 2 in
-    let parts = halves c.args.bits size c.requires.whole (omega arith) in
+    let parts = halves c.args.bits size c.requires.factors.0 (omega arith) in
     let old_low = c.split_at_mut-low.result.0.now in
     let old_high = c.split_at_mut-low.result.1.now in
     let twiddle = c.index-twiddles-node.result in
-    let node_in : c.args.node < length c.args.twiddles.now = node_within c.args.node size (length c.args.twiddles.now) (omega (arith, parts.1, parts.2, positive (c.args.bits - 1))) c.requires.twiddles in
+    let node_in : c.args.node < length c.args.twiddles.now = node_within c.args.node size (length c.args.twiddles.now) (omega (arith, parts.1, parts.2, positive (c.args.bits - 1))) c.requires.factors.1 in
     let front : length old_low ≡ h = omega (arith, c.split_at_mut-low.ensures.front_len) in
     let back : length old_high ≡ h = omega (arith, parts.2, c.split_at_mut-low.ensures.back_len) in
     let low_at : (i : ℕ) → i < h → entry o old_low i ≡ entry o values i = λ i l. entry-front o values old_low h i c.split_at_mut-low.ensures.front l in

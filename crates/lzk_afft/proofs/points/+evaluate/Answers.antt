@@ -5,20 +5,22 @@ use Rattle.lzk_field.specs.Sums.{entry}
 use Rattle.lzk_field.proofs.EntryLaws.{entries_joined}
 use Rattle.lzk_afft.specs.Basis.{basis_sum}
 use Rattle.lzk_afft.specs.Blocks.{IsBlock}
-use Rattle.lzk_afft.proofs.Rooms.{block_within, node_room, block_at}
+use Rattle.lzk_afft.proofs.Rooms.{block_within, node_room, block_at, full_few}
 use Rattle.lzk_afft.proofs.Splits.{basis_sum-ext}
 use Rattle.lzk_afft.proofs.points.+evaluate.Goals as goal
 
-pub evaluate_block-requires-clause-twiddles : goal.evaluate_block-requires-clause-twiddles
-evaluate_block-requires-clause-twiddles g t c κs within =
+pub evaluate_block-requires-clause-factors : goal.evaluate_block-requires-clause-factors
+evaluate_block-requires-clause-factors g t c κs within =
     let size = length c.args.room.now in
     let bits = c.args.bits in
     let depth = c.args.depth in
     let some : 0 < length c.args.out.now = search rules in
     let block : c.args.from / size < 2 ^ (depth - bits) = block_within bits depth c.args.from size c.requires.order c.requires.whole (omega (arith, c.requires.reached)) in
     let room = node_room bits depth (c.args.from / size) size c.requires.order c.requires.whole block in
-    let power : 1 * 2 ^ (depth - bits) % 18446744073709551616 ≡ 2 ^ (depth - bits) = one_shl (depth - bits) 64 (omega (arith, c.requires.few)) in
-    subst (λ (n : ℕ). (n + c.args.from / size + 1) * size ≤ 2 * length c.args.twiddles.now) (sym power) (omega (arith, room, c.requires.twiddles))
+    let power : 1 * 2 ^ (depth - bits) % 18446744073709551616 ≡ 2 ^ (depth - bits) = one_shl (depth - bits) 64 (omega (arith, c.requires.block.few)) in
+    let reached : (1 * 2 ^ (depth - bits) % 18446744073709551616 + c.args.from / size + 1) * size ≤ 2 * length c.args.twiddles.now =
+    subst (λ (n : ℕ). (n + c.args.from / size + 1) * size ≤ 2 * length c.args.twiddles.now) (sym power) (omega (arith, room, c.requires.twiddles)) in
+    (c.requires.whole, reached, full_few depth c.args.twiddles.now c.requires.block.few c.requires.twiddles)
 
 pub returns-clause-values : goal.returns-clause-values
 returns-clause-values g t c =
@@ -33,7 +35,7 @@ returns-clause-values g t c =
     let index = from / size in
     let some : 0 < length c.args.out.now = search rules in
     let block : index < 2 ^ (depth - bits) = block_within bits depth from size c.requires.order c.requires.whole (omega (arith, c.requires.reached)) in
-    let power : 1 * 2 ^ (depth - bits) % 18446744073709551616 ≡ 2 ^ (depth - bits) = one_shl (depth - bits) 64 (omega (arith, c.requires.few)) in
+    let power : 1 * 2 ^ (depth - bits) % 18446744073709551616 ≡ 2 ^ (depth - bits) = one_shl (depth - bits) 64 (omega (arith, c.requires.block.few)) in
     let here : IsBlock o element bits (index * 2 ^ bits) (1 * 2 ^ (depth - bits) % 18446744073709551616 + index) c.args.twiddles.now =
     subst (λ (n : ℕ). IsBlock o element bits (index * 2 ^ bits) (n + index) c.args.twiddles.now) (sym power) (block_at laws bits depth index c.args.twiddles.now c.requires.order c.requires.block block) in
     let start : index * size ≤ from = div-mul-le_self from size in
@@ -49,18 +51,4 @@ returns-clause-values g t c =
     ∙ ap (λ n. basis_sum o element (entry o room) (2 ^ bits) (element n)) (omega (arith, c.evaluate_block.auto.out, c.split_at_mut-first.ensures.front_len)))
 
 pub returns-clause-same : goal.returns-clause-same
-returns-clause-same g t c =
-    let o = g.F.Field.ops in
-    let laws = g.F.Field.laws in
-    let element = g.F.Field.coding.element in
-    let size = length c.args.room.now in
-    let bits = c.args.bits in
-    let depth = c.args.depth in
-    let from = c.args.from in
-    let index = from / size in
-    let some : 0 < length c.args.out.now = search rules in
-    let block : index < 2 ^ (depth - bits) = block_within bits depth from size c.requires.order c.requires.whole (omega (arith, c.requires.reached)) in
-    let power : 1 * 2 ^ (depth - bits) % 18446744073709551616 ≡ 2 ^ (depth - bits) = one_shl (depth - bits) 64 (omega (arith, c.requires.few)) in
-    let here : IsBlock o element bits (index * 2 ^ bits) (1 * 2 ^ (depth - bits) % 18446744073709551616 + index) c.args.twiddles.now =
-    subst (λ (n : ℕ). IsBlock o element bits (index * 2 ^ bits) (n + index) c.args.twiddles.now) (sym power) (block_at laws bits depth index c.args.twiddles.now c.requires.order c.requires.block block) in
-    λ k h. c.evaluate.ensures.same k h ∙ c.evaluate_block.ensures.same k (omega (arith, h, c.evaluate.auto.room))
+returns-clause-same g t c = λ k h. c.evaluate.ensures.same k h ∙ c.evaluate_block.ensures.same k (omega (arith, h, c.evaluate.auto.room))

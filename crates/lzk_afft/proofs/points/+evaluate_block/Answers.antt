@@ -1,90 +1,42 @@
-use Rattle.std.proofs.Common.{rules, ◌≡◌, ℕ, ◌+◌, ◌-◌, ◌/◌, ◌<◌, ◌^◌, length, ap, ◌∙◌, arith}
+use Rattle.std.proofs.Common.{rules, ◌≡◌, ℕ, ◌+◌, ◌-◌, ◌/◌, ◌<◌, ◌^◌, List, length, sym, ap, ◌∙◌, arith, subst}
 use Rattle.std.proofs.lemmas.List.{get_or_default}
 use Rattle.lzk_field.specs.Sums.{entry}
 use Rattle.lzk_field.proofs.EntryLaws.{entries_joined}
 use Rattle.lzk_afft.specs.Basis.{basis_sum}
-use Rattle.lzk_afft.proofs.Levels.{halves, node_within, within_low, within_high, entry-front, entry-back, level_at_low, level_at_high}
+use Rattle.lzk_afft.specs.Blocks.{HasFactors}
+use Rattle.lzk_afft.proofs.Levels.{halves, node_within, low_factors, high_factors, entry-front, entry-back, level_at_low, level_at_high}
 use Rattle.lzk_afft.proofs.Rooms.{several, restored}
 use Rattle.lzk_afft.proofs.Splits.{positive}
 use Rattle.lzk_afft.proofs.points.+evaluate_block.Goals as goal
 
+pub forward-requires-clause-factors : goal.forward-requires-clause-factors
+forward-requires-clause-factors g t c κs within = subst (λ (xs : List g.row.F.Denot). HasFactors c.args.bits c.args.node xs c.args.twiddles.now) (sym c.copy_from_slice.ensures.after) c.requires.factors
+
 pub forward_butterflies-requires-clause-halves : goal.forward_butterflies-requires-clause-halves
 forward_butterflies-requires-clause-halves g t c κs within =
-    let o = g.F.Field.ops in
-    let room = c.args.room.now in
-    let size = length room in
-    let h = size / 2 in
     let some : 0 < length c.args.out.now = search rules in
-    let more : 0 < c.args.bits = several c.args.bits size (length c.args.out.now) c.requires.whole some (omega (arith, c.requires.inside)) c.if-out-room.false in
-    let parts = halves c.args.bits size c.requires.whole more in
-    let fl = c.split_at_mut-low.ensures.front_len in
-    let bl = c.split_at_mut-low.ensures.back_len in
-    omega (arith, parts.2, fl, bl)
+    let more : 0 < c.args.bits = several c.args.bits (length c.args.room.now) (length c.args.out.now) c.requires.factors.0 some (omega (arith, c.requires.inside)) c.if-out-room.false in
+    let parts = halves c.args.bits (length c.args.room.now) c.requires.factors.0 more in
+    omega (arith, parts.2, c.split_at_mut-low.ensures.front_len, c.split_at_mut-low.ensures.back_len)
 
-pub evaluate_block-requires-clause-whole : goal.evaluate_block-requires-clause-whole
-evaluate_block-requires-clause-whole g t c κs within =
-    let o = g.F.Field.ops in
-    let room = c.args.room.now in
-    let size = length room in
-    let h = size / 2 in
+pub evaluate_block-requires-clause-factors : goal.evaluate_block-requires-clause-factors
+evaluate_block-requires-clause-factors g t c κs within =
     let some : 0 < length c.args.out.now = search rules in
-    let more : 0 < c.args.bits = several c.args.bits size (length c.args.out.now) c.requires.whole some (omega (arith, c.requires.inside)) c.if-out-room.false in
-    let parts = halves c.args.bits size c.requires.whole more in
-    let fl = c.split_at_mut-low.ensures.front_len in
-    let bl = c.split_at_mut-low.ensures.back_len in
-    omega (arith, parts.1, fl)
+    let more : 0 < c.args.bits = several c.args.bits (length c.args.room.now) (length c.args.out.now) c.requires.factors.0 some (omega (arith, c.requires.inside)) c.if-out-room.false in
+    low_factors c.args.bits c.args.node c.args.room.now c.forward_butterflies.new.low c.args.twiddles.now c.requires.factors more (omega (arith, c.split_at_mut-low.ensures.front_len))
 
-pub evaluate_block-requires-clause-twiddles : goal.evaluate_block-requires-clause-twiddles
-evaluate_block-requires-clause-twiddles g t c κs within =
-    let o = g.F.Field.ops in
-    let room = c.args.room.now in
-    let size = length room in
-    let h = size / 2 in
+pub evaluate_block-requires-2-clause-factors : goal.evaluate_block-requires-2-clause-factors
+evaluate_block-requires-2-clause-factors g t c κs within =
     let some : 0 < length c.args.out.now = search rules in
-    let more : 0 < c.args.bits = several c.args.bits size (length c.args.out.now) c.requires.whole some (omega (arith, c.requires.inside)) c.if-out-room.false in
-    let parts = halves c.args.bits size c.requires.whole more in
-    let fl = c.split_at_mut-low.ensures.front_len in
-    let bl = c.split_at_mut-low.ensures.back_len in
-    within_low c.args.node size (length c.forward_butterflies.new.low) (length c.args.twiddles.now) (omega (arith, parts.2, fl)) c.requires.twiddles
-
-pub evaluate_block-requires-2-clause-whole : goal.evaluate_block-requires-2-clause-whole
-evaluate_block-requires-2-clause-whole g t c κs within =
-    let o = g.F.Field.ops in
-    let room = c.args.room.now in
-    let size = length room in
-    let h = size / 2 in
-    let some : 0 < length c.args.out.now = search rules in
-    let more : 0 < c.args.bits = several c.args.bits size (length c.args.out.now) c.requires.whole some (omega (arith, c.requires.inside)) c.if-out-room.false in
-    let parts = halves c.args.bits size c.requires.whole more in
-    let fl = c.split_at_mut-low.ensures.front_len in
-    let bl = c.split_at_mut-low.ensures.back_len in
-    omega (arith, parts.1, parts.2, bl)
-
-pub evaluate_block-requires-2-clause-twiddles : goal.evaluate_block-requires-2-clause-twiddles
-evaluate_block-requires-2-clause-twiddles g t c κs within =
-    let o = g.F.Field.ops in
-    let room = c.args.room.now in
-    let size = length room in
-    let h = size / 2 in
-    let some : 0 < length c.args.out.now = search rules in
-    let more : 0 < c.args.bits = several c.args.bits size (length c.args.out.now) c.requires.whole some (omega (arith, c.requires.inside)) c.if-out-room.false in
-    let parts = halves c.args.bits size c.requires.whole more in
-    let fl = c.split_at_mut-low.ensures.front_len in
-    let bl = c.split_at_mut-low.ensures.back_len in
-    within_high c.args.node size (length c.forward_butterflies.new.high) (length c.args.twiddles.now) (omega (arith, parts.2, bl)) c.requires.twiddles
+    let more : 0 < c.args.bits = several c.args.bits (length c.args.room.now) (length c.args.out.now) c.requires.factors.0 some (omega (arith, c.requires.inside)) c.if-out-room.false in
+    high_factors c.args.bits c.args.node c.args.room.now c.forward_butterflies.new.high c.args.twiddles.now c.requires.factors more (omega (arith, c.split_at_mut-low.ensures.back_len))
 
 pub backward_butterflies-requires-clause-halves : goal.backward_butterflies-requires-clause-halves
 backward_butterflies-requires-clause-halves g t c κs within =
-    let o = g.F.Field.ops in
-    let room = c.args.room.now in
-    let size = length room in
-    let h = size / 2 in
     let some : 0 < length c.args.out.now = search rules in
-    let more : 0 < c.args.bits = several c.args.bits size (length c.args.out.now) c.requires.whole some (omega (arith, c.requires.inside)) c.if-out-room.false in
-    let parts = halves c.args.bits size c.requires.whole more in
-    let fl = c.split_at_mut-low.ensures.front_len in
-    let bl = c.split_at_mut-low.ensures.back_len in
-    omega (arith, parts.2, fl, bl)
+    let more : 0 < c.args.bits = several c.args.bits (length c.args.room.now) (length c.args.out.now) c.requires.factors.0 some (omega (arith, c.requires.inside)) c.if-out-room.false in
+    let parts = halves c.args.bits (length c.args.room.now) c.requires.factors.0 more in
+    omega (arith, parts.2, c.split_at_mut-low.ensures.front_len, c.split_at_mut-low.ensures.back_len)
 
 pub returns-clause-same : goal.returns-clause-same
 returns-clause-same g t c =
@@ -93,8 +45,8 @@ returns-clause-same g t c =
     let size = length room in
     let h = size / 2 in
     let some : 0 < length c.args.out.now = search rules in
-    let more : 0 < c.args.bits = several c.args.bits size (length c.args.out.now) c.requires.whole some (omega (arith, c.requires.inside)) c.if-out-room.false in
-    let parts = halves c.args.bits size c.requires.whole more in
+    let more : 0 < c.args.bits = several c.args.bits size (length c.args.out.now) c.requires.factors.0 some (omega (arith, c.requires.inside)) c.if-out-room.false in
+    let parts = halves c.args.bits size c.requires.factors.0 more in
     let fl = c.split_at_mut-low.ensures.front_len in
     let bl = c.split_at_mut-low.ensures.back_len in
     let old_low = c.split_at_mut-low.result.0.now in
@@ -120,8 +72,8 @@ returns-clause-values g t c =
     let size = length room in
     let h = size / 2 in
     let some : 0 < length c.args.out.now = search rules in
-    let more : 0 < c.args.bits = several c.args.bits size (length c.args.out.now) c.requires.whole some (omega (arith, c.requires.inside)) c.if-out-room.false in
-    let parts = halves c.args.bits size c.requires.whole more in
+    let more : 0 < c.args.bits = several c.args.bits size (length c.args.out.now) c.requires.factors.0 some (omega (arith, c.requires.inside)) c.if-out-room.false in
+    let parts = halves c.args.bits size c.requires.factors.0 more in
     let fl = c.split_at_mut-low.ensures.front_len in
     let bl = c.split_at_mut-low.ensures.back_len in
     let old_low = c.split_at_mut-low.result.0.now in
@@ -132,7 +84,7 @@ returns-clause-values g t c =
     let front : length old_low ≡ h = omega (arith, fl) in
     let back : length old_high ≡ h = omega (arith, parts.2, bl) in
     let twiddles = c.args.twiddles.now in
-    let node_in : c.args.node < length twiddles = node_within c.args.node size (length twiddles) (omega (arith, parts.1, parts.2, positive (c.args.bits - 1))) c.requires.twiddles in
+    let node_in : c.args.node < length twiddles = node_within c.args.node size (length twiddles) (omega (arith, parts.1, parts.2, positive (c.args.bits - 1))) c.requires.factors.1 in
     let is : twiddle ≡ entry o twiddles c.args.node = c.index-twiddles-node.is ∙ get_or_default twiddles c.args.node twiddle o.zero node_in in
     let element = g.F.Field.coding.element in
     λ at block.

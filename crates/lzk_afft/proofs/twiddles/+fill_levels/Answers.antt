@@ -9,6 +9,12 @@ use Rattle.lzk_afft.proofs.Subspaces.{normalized_zero}
 use Rattle.lzk_afft.proofs.TwiddleLaws.{levels_joined, normalized-bits}
 use Rattle.lzk_afft.proofs.twiddles.+fill_levels.Goals as goal
 
+pub normalize-requires-clause-images : goal.normalize-requires-clause-images
+normalize-requires-clause-images g t c κs within = (omega arith, c.requires.are_images)
+
+pub next_images-requires-clause-images : goal.next_images-requires-clause-images
+next_images-requires-clause-images g t c κs within = (omega arith, c.requires.are_images)
+
 pub fill_sums-requires-clause-whole : goal.fill_sums-requires-clause-whole
 fill_sums-requires-clause-whole g t c κs within =
     let rest = c.args.depth - c.args.from - 1 in
@@ -47,6 +53,6 @@ returns g t c =
     c.fill_levels.ensures
     (λ n l. c.fill_sums.ensures h
     (ap (λ m. normalized o point from (point m)) start ∙ normalized_zero o r point from 0 (positive from))
-    (λ i k p q. normalized-bits o r point depth from i k first c.requires.binary (omega (arith, short)) q)
+    (λ i k p q. normalized-bits o r point depth from i k first c.requires.subspace.1 (omega (arith, short)) q)
     (λ i p. get_or-take rest scaled i o.zero (omega (arith, short)) ∙ c.normalize.ensures i (omega (arith, short, c.requires.images)) ∙ ap (λ m. normalized o point from (point m)) (pow-add 2 i (from + 1)))
     n (omega (arith, back)))

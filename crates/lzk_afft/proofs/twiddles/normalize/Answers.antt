@@ -12,8 +12,8 @@ unreachable-requires g c =
     let from = c.args.from in
     let images = c.args.images.now in
     let here = c.index-images-first.result in
-    let is : here ≡ vanishing o point from (point (2 ^ from)) = c.index-images-first.is ∙ get_or_default images from here o.zero c.requires.order ∙ c.requires.are_images from c.requires.order in
-    vanishing_nonzero g.F.Field.laws from (omega (arith, c.requires.few, c.requires.order)) (sym is ∙ c.in-None.ensures)
+    let is : here ≡ vanishing o point from (point (2 ^ from)) = c.index-images-first.is ∙ get_or_default images from here o.zero c.requires.images.0 ∙ c.requires.images.1 from c.requires.images.0 in
+    vanishing_nonzero g.F.Field.laws from (omega (arith, c.requires.few, c.requires.images.0)) (sym is ∙ c.in-None.ensures)
 
 pub returns : goal.returns
 unfolding normalized
@@ -23,10 +23,10 @@ returns g c =
     let from = c.args.from in
     let images = c.args.images.now in
     let here = c.index-images-first.result in
-    let is : here ≡ vanishing o point from (point (2 ^ from)) = c.index-images-first.is ∙ get_or_default images from here o.zero c.requires.order ∙ c.requires.are_images from c.requires.order in
+    let is : here ≡ vanishing o point from (point (2 ^ from)) = c.index-images-first.is ∙ get_or_default images from here o.zero c.requires.images.0 ∙ c.requires.images.1 from c.requires.images.0 in
     let inverse : c.in-Some.inverse ≡ o.inverse (vanishing o point from (point (2 ^ from))) = c.in-Some.ensures.1 ∙ ap o.inverse is in
     λ i h.
     let place : from + 1 + i ≡ i + (from + 1) = omega arith in
     c.loop-i.invariant i (omega arith)
-    ∙ ap (λ v. o.times v c.in-Some.inverse) (ap (entry o images) place ∙ c.requires.are_images (i + (from + 1)) (omega arith))
+    ∙ ap (λ v. o.times v c.in-Some.inverse) (ap (entry o images) place ∙ c.requires.images.1 (i + (from + 1)) (omega arith))
     ∙ ap (o.times (vanishing o point from (point (2 ^ (i + (from + 1)))))) inverse

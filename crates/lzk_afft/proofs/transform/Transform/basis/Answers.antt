@@ -4,22 +4,17 @@ use Rattle.lzk_gf128.specs.Elements.{of_number, ops, laws}
 use Rattle.lzk_afft.specs.Basis.{AreCoefficients}
 use Rattle.lzk_afft.specs.Blocks.{IsReady}
 use Rattle.lzk_afft.proofs.Binary.{binary}
-use Rattle.lzk_afft.proofs.Rooms.{first_room}
+use Rattle.lzk_afft.proofs.Rooms.{first_factors}
 use Rattle.lzk_afft.proofs.RowLaws.{row_coefficients}
 use Rattle.lzk_afft.proofs.Uniqueness.{only_coefficients, coefficients_through}
 use Rattle.lzk_afft.proofs.transform.Transform.basis.Goals as goal
 
-pub interpolate-requires-clause-whole : goal.interpolate-requires-clause-whole
-interpolate-requires-clause-whole c κs =
-    let room : 2 ^ c.self.inside.bits ≡ c.args.self.now.room = search rules in
-    c.requires.room ∙ sym room
-
-pub interpolate-requires-clause-twiddles : goal.interpolate-requires-clause-twiddles
-interpolate-requires-clause-twiddles c κs =
+pub interpolate-requires-clause-factors : goal.interpolate-requires-clause-factors
+interpolate-requires-clause-factors c κs =
     let inv = c.self.invariant in
     let room : 2 ^ c.self.inside.bits ≡ c.args.self.now.room = search rules in
     let full : length c.deref.result.now ≡ 2 ^ c.self.inside.depth = search rules in
-    omega (arith, full, first_room c.self.inside.bits c.self.inside.depth (length c.args.room.now) inv.smaller inv.few (c.requires.room ∙ sym room))
+    first_factors c.self.inside.bits c.self.inside.depth c.args.room.now c.deref.result.now inv.smaller inv.few (c.requires.room ∙ sym room) full
 
 pub returns-clause-meets : goal.returns-clause-meets
 returns-clause-meets c =

@@ -5,8 +5,8 @@ use Rattle.lzk_afft.proofs.Binary.{binary}
 use Rattle.lzk_afft.proofs.Rooms.{least_power, whole_block}
 use Rattle.lzk_afft.proofs.transform.Transform.new.Goals as goal
 
-pub twiddle_factors-requires-clause-binary : goal.twiddle_factors-requires-clause-binary
-twiddle_factors-requires-clause-binary c κs = binary c.bits_below-depth.result c.bits_below-depth.ensures.few
+pub twiddle_factors-requires-clause-subspace : goal.twiddle_factors-requires-clause-subspace
+twiddle_factors-requires-clause-subspace c κs = (c.bits_below-depth.ensures.few, binary c.bits_below-depth.result c.bits_below-depth.ensures.few)
 
 pub returns-in_err-twiddles-clause-one : goal.returns-in_err-twiddles-clause-one
 returns-in_err-twiddles-clause-one c = points_interpolated laws
