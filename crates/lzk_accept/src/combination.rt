@@ -203,7 +203,8 @@ fn add_copies<F: Field>(copies: &Copies<'_, F>, table: &mut [F])
         → entry o table.new (i * p.wr + s)
         ≡ minus o (o.plus (entry o table.old (i * p.wr + s))
         (sum_where o (3 * p.layers) (λ m. is_place (3 + (rows + i)) s (copy_place_of p m)) (entry o mu)))
-        (sum_where o (3 * p.layers) (λ m. is_place (3 + (rows + i)) s (place_of p (source_in o forms m))) (entry o mu)) }
+        (sum_where o (3 * p.layers) (λ m. is_place (3 + (rows + i)) s (place_of p (source_in o forms m)))
+        (entry o mu)) }
 {
     let params = copies.params;
     for m in 0..3 * params.layers {

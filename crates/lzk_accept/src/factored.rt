@@ -158,7 +158,8 @@ fn set_both_factors<F: Field>(
     high: &mut [F],
 )
     requires room { HaveRoom (2 ^ length twice.now.taken.r.now) low.old high.old }
-    requires factors { AreFactorLists 4 twice.now.taken.rows (2 ^ twice.now.taken.bits) row_factors.old place_factors.old }
+    requires factors { AreFactorLists 4 twice.now.taken.rows (2 ^ twice.now.taken.bits)
+        row_factors.old place_factors.old }
     ensures { let o = F.ops in let t = twice.now.taken in
         (i s : ℕ) → i < t.rows → s < 2 ^ t.bits
         → let n = t.first + (i * 2 ^ t.bits + s) in

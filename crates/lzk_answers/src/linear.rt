@@ -259,8 +259,8 @@ pub fn linear_into<'a, F: Field, X: RowExtend<F>>(
 }
 
 /// The same where the coefficients of the first rows from row 3 on are sums of four products: these rows cost a sum of
-/// their multiples and a product of two rows for each of the four, and no product of every row. The extender's and twice
-/// DBLOCK elements of `room` are used.
+/// their multiples and a product of two rows for each of the four, and no product of every row. The extender's and
+/// twice DBLOCK elements of `room` are used.
 pub fn linear_by_factors_into<'a, F: Field, X: RowExtend<F>>(
     combined: &Combined<'a, F>,
     table: &'a [F],
