@@ -3,7 +3,7 @@
 ghost use Rattle.std.specs.Prelude.{◌≡◌};
 ghost use Rattle.lzk_expr.specs.declared.source_fault.SourceError.TheVariants.{OutOfMemory};
 
-use std::alloc::{AllocError, AllocFailed};
+use std::alloc::AllocError;
 use thiserror::Error;
 
 /// The rule that a statement line breaks, by the profile in docs/FORMATS.md.
@@ -53,14 +53,6 @@ impl From<AllocError> for SourceError {
     ghost from_gives = { λ _ e. e ≡ OutOfMemory };
 
     fn from(_e: AllocError) -> SourceError {
-        SourceError::OutOfMemory
-    }
-}
-
-impl<T: Drop> From<AllocFailed<T>> for SourceError {
-    ghost from_gives = { λ _ e. e ≡ OutOfMemory };
-
-    fn from(_e: AllocFailed<T>) -> SourceError {
         SourceError::OutOfMemory
     }
 }
