@@ -34,10 +34,15 @@ module _ {A : Type 0} where
       let same : layer.wires ≡ first.wires = cc in
       marks-as (λ k. ((k == 0) || names marks ts k) || false) first.wires below (count ∙ same) (λ k l. is k (omega (arith, l, same)) ∙ sym (or-false ((k == 0) || names marks ts k)))
 
-  pub marks-last : (inputs : ℕ) (marks : List Bool) (ts : List (Term A)) (layers : List (Layer A)) (below : List Bool) → None ≡ slice_get layers 0 → length below ≡ inputs
-      → ((k : ℕ) → k < inputs → is_marked below k ≡ true) → below ≡ marks_of_under inputs marks ts [] layers
-  marks-last inputs marks ts [] below e count is = marks-as (λ k. true) inputs below count is
-  marks-last inputs marks ts (first ∷ rest) below e count is = cc
+  pub marks-last : (inputs : ℕ) (marks : List Bool) (ts : List (Term A)) (ws : List ℕ) (layers : List (Layer A)) (below : List Bool) → None ≡ slice_get layers 0 → length below ≡ inputs
+      → ((k : ℕ) → k < inputs → is_marked below k ≡ true) → below ≡ marks_of_under inputs marks ts ws layers
+  marks-last inputs marks ts ws [] below e count is = marks-as (λ k. true) inputs below count is
+  marks-last inputs marks ts ws (first ∷ rest) below e count is = cc
+
+  -- the first of layers is the one below
+  pub first-width : (inputs : ℕ) (layers : List (Layer A)) (layer : Layer A) → Some layer ≡ slice_get layers 0 → layer.wires ≡ (under_of inputs layers).width
+  first-width inputs [] layer e = cc
+  first-width inputs (first ∷ rest) layer e = cc
 
   -- with those that are asserted
   pub marks-more : (inputs : ℕ) (marks : List Bool) (ts : List (Term A)) (ws : List ℕ) (layers : List (Layer A)) (below more : List Bool) → below ≡ marks_of_under inputs marks ts [] layers → length more ≡ length below

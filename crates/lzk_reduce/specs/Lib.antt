@@ -9,5 +9,6 @@ pub mod Used
 pub mod SomeReduced
 pub mod Targets
 pub mod Asserting
+pub mod Reducible
 pub mod Attached
 pub use Rattle.lzk_circuit.specs

@@ -7,6 +7,7 @@ ghost use Rattle.lzk_reduce.specs.Reduced.{HaveOnes, output_count};
 ghost use Rattle.lzk_reduce.specs.Targets.{targets_at, AreAllTerms, AreTargets, target_count};
 
 use crate::reduce::reduced_with;
+use crate::reducible::Reducible;
 use crate::targets::Targets;
 use lzk_circuit::{Layer, Term, Terms};
 use lzk_field::Field;
@@ -80,6 +81,11 @@ pub fn asserting<F: Field>(
     if layers.len() == 1 {
         return attached(alloc, layers, targets);
     }
-    let (kept, moved) = reduced_with(alloc, inputs, layers, targets)?;
+    let given = Reducible {
+        inputs,
+        layers,
+        targets,
+    };
+    let (kept, moved) = reduced_with(alloc, &given)?;
     attached(alloc, &kept, &moved)
 }

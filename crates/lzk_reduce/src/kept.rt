@@ -116,18 +116,6 @@ fn are_same<F: Field>(own: &[Term<F>], row: &[Term<F>]) -> bool
     true
 }
 
-// Where a kept wire's terms begin and end.
-fn ends_of<F: Field>(kept: &KeptWires<F>, wire: u32) -> (usize, usize)
-    requires table { IsTable kept.now }
-    requires wire { wire < kept.now.count }
-    ensures start { result.0 ≡ at kept.now.starts.items wire }
-    ensures end { result.1 ≡ at kept.now.starts.items (wire + 1) }
-    ensures order { result.0 ≤ result.1 }
-    ensures within { result.1 ≤ length kept.now.terms.items }
-{
-    (kept.starts[wire as usize], kept.starts[wire as usize + 1])
-}
-
 // The terms of a kept wire.
 fn terms_of<F: Field>(kept: &KeptWires<F>, wire: u32) -> &[Term<F>]
     requires table { IsTable kept.now }
@@ -135,7 +123,8 @@ fn terms_of<F: Field>(kept: &KeptWires<F>, wire: u32) -> &[Term<F>]
     ensures { result.now ≡ take (at kept.now.starts.items (wire + 1) - at kept.now.starts.items wire)
         (drop (at kept.now.starts.items wire) kept.now.terms.items) }
 {
-    let (start, end) = ends_of(kept, wire);
+    let start = kept.starts[wire as usize];
+    let end = kept.starts[wire as usize + 1];
     &kept.terms[start..end]
 }
 

@@ -1,14 +1,15 @@
 //! Wires that nothing uses go, from the outputs down.
 
-ghost use Rattle.std.specs.Prelude.{◌≡◌, ℕ, ◌<◌, ◌≤◌, ◌^◌, None, true, [], length, map, IfOk};
-ghost use Rattle.lzk_circuit.specs.Valid.{AreTerms, AreLayers, under_of};
-ghost use Rattle.lzk_reduce.specs.Marks.{is_marked, marked_before};
-ghost use Rattle.lzk_reduce.specs.Targets.{targets_at, AreBelow, AreTargets};
-ghost use Rattle.lzk_reduce.specs.Used.{numbered_term, used_terms, marks_of_under};
+ghost use Rattle.std.specs.Prelude.{◌≡◌, ℕ, ◌<◌, ◌^◌, None, true, length, map, IfOk};
+ghost use Rattle.lzk_circuit.specs.Valid.{AreTerms, under_of};
+ghost use Rattle.lzk_reduce.specs.Marks.{is_marked, marked_before, AreMarkedPlaces};
+ghost use Rattle.lzk_reduce.specs.Targets.{targets_at, AreBelow};
+ghost use Rattle.lzk_reduce.specs.Used.{used_terms, marks_of_under};
 ghost use Rattle.lzk_reduce.specs.Reduced.{HaveOnes, AreInnerDifferent};
 ghost use Rattle.lzk_reduce.specs.Asserting.{IsForm, AreUsedWith, AreAllUsedWith};
 
 use crate::marks::{marked_places, marks_below};
+use crate::reducible::Reducible;
 use crate::targets::{Targets, mark_targets, moved_targets};
 use lzk_circuit::{Layer, Term, Terms};
 use lzk_field::Field;
@@ -26,24 +27,8 @@ fn all_marked(alloc: Global, count: u32) -> Result<Vec<bool>, AllocError>
     Ok(marks)
 }
 
-// Marks for the wires below terms: those of the first of these layers, or of the inputs.
-fn marks_under<F: Field>(
-    alloc: Global,
-    inputs: u32,
-    terms: &[Term<F>],
-    marks: &[bool],
-    layers: &[Layer<F>],
-) -> Result<Vec<bool>, AllocError>
-    requires terms { AreTerms F.ops (length marks.now) (under_of inputs layers.now).width None terms.now }
-    ensures { IfOk result (λ below. below.items ≡ marks_of_under inputs marks.now terms.now [] layers.now) }
-{
-    let Some(layer) = layers.first() else {
-        return all_marked(alloc, inputs);
-    };
-    marks_below(alloc, terms, marks, layer.wires)
-}
-
-// Marks for the wires below layer `l`: those that its terms name, and those that it asserts.
+// Marks for the wires below layer `l`, that is of the first of these layers: those that its terms name, and
+// those that it asserts. All inputs are marked.
 fn marks_with<F: Field>(
     alloc: Global,
     inputs: u32,
@@ -58,9 +43,37 @@ fn marks_with<F: Field>(
     ensures { IfOk result
         (λ below. below.items ≡ marks_of_under inputs marks.now terms.now (targets_at targets.now l) layers.now) }
 {
-    let mut below = marks_under(alloc, inputs, terms, marks, layers)?;
+    let Some(layer) = layers.first() else {
+        return all_marked(alloc, inputs);
+    };
+    let mut below = marks_below(alloc, terms, marks, layer.wires)?;
     mark_targets(&mut below, targets, l);
     Ok(below)
+}
+
+// Which wires of a layer stay.
+#[derive(Drop)]
+struct Marked {
+    marks: Vec<bool>,
+    // Each wire's number among the marked ones.
+    places: Vec<u32>,
+    // How many are marked.
+    count: u32,
+    ghost placed: { AreMarkedPlaces marks.items places.items },
+    ghost counted: { count ≡ marked_before marks.items (length marks.items) },
+}
+
+// The marked wires with their numbers.
+fn with_places(alloc: Global, marks: Vec<bool>) -> Result<Marked, AllocError>
+    requires { length marks.items < 2 ^ 32 }
+    ensures { IfOk result (λ marked. marked.marks ≡ marks) }
+{
+    let (places, count) = marked_places(alloc, &marks)?;
+    Ok(Marked {
+        marks,
+        places,
+        count,
+    })
 }
 
 // What layer `l` asserts, among the marked wires below.
@@ -68,57 +81,41 @@ fn pruned_targets(
     alloc: Global,
     targets: &[Targets],
     l: usize,
-    below: &[bool],
+    below: &Marked,
 ) -> Result<Targets, AllocError>
-    requires few { length below.now < 2 ^ 32 }
-    requires targets { AreBelow (length below.now) (targets_at targets.now l) }
-    ensures { IfOk result (λ moved. moved ≡ map (marked_before below.now) (targets_at targets.now l)) }
+    requires { AreBelow (length below.now.marks.items) (targets_at targets.now l) }
+    ensures { IfOk result (λ moved. moved ≡ map (marked_before below.now.marks.items) (targets_at targets.now l)) }
 {
-    if targets.len() <= l {
-        return Ok(Targets::new(Vec::new(alloc)));
-    }
-    let (places, _) = marked_places(alloc, below)?;
-    moved_targets(alloc, targets, l, &places)
-}
-
-// A term whose wires have these numbers.
-fn numbered<F: Field>(term: Term<F>, above: &[u32], below: &[u32]) -> Term<F>
-    requires wire { term.g < length above.now }
-    requires first { term.a < length below.now }
-    requires second { term.b < length below.now }
-    ensures { result ≡ numbered_term above.now below.now term }
-{
-    Term {
-        g: above[term.g as usize],
-        a: below[term.a as usize],
-        b: below[term.b as usize],
-        coef: term.coef,
-    }
+    moved_targets(alloc, targets, l, &below.places)
 }
 
 // The marked wires of a layer, over the marked ones below.
 fn pruned_layer<F: Field>(
     alloc: Global,
     terms: &[Term<F>],
-    marks: &[bool],
-    below: &[bool],
+    above: &Marked,
+    below: &Marked,
 ) -> Result<Layer<F>, AllocError>
-    requires few { length marks.now < 2 ^ 32 }
-    requires few_below { length below.now < 2 ^ 32 }
-    requires terms { AreTerms F.ops (length marks.now) (length below.now) None terms.now }
-    ensures wires { IfOk result (λ layer. layer.wires ≡ marked_before marks.now (length marks.now)) }
-    ensures terms { IfOk result (λ layer. layer.terms ≡ used_terms marks.now below.now terms.now) }
+    requires { AreTerms F.ops (length above.now.marks.items) (length below.now.marks.items) None terms.now }
+    ensures wires { IfOk result
+        (λ layer. layer.wires ≡ marked_before above.now.marks.items (length above.now.marks.items)) }
+    ensures terms { IfOk result
+        (λ layer. layer.terms ≡ used_terms above.now.marks.items below.now.marks.items terms.now) }
 {
-    let (above_places, wires) = marked_places(alloc, marks)?;
-    let (below_places, _) = marked_places(alloc, below)?;
     let mut kept = Vec::with_capacity(alloc, terms.len())?;
     for i in 0..terms.len() {
-        if marks[terms[i].g as usize] {
-            kept.push(numbered(terms[i], &above_places, &below_places))?;
+        let term = terms[i];
+        if above.marks[term.g as usize] {
+            kept.push(Term {
+                g: above.places[term.g as usize],
+                a: below.places[term.a as usize],
+                b: below.places[term.b as usize],
+                coef: term.coef,
+            })?;
         }
     }
     Ok(Layer {
-        wires,
+        wires: above.count,
         terms: Terms::new(kept),
     })
 }
@@ -154,19 +151,12 @@ fn is_used<F: Field>(
 }
 
 /// Whether each wire of an inner layer, other than wire 0, is named by a term above, or asserted there.
-pub fn are_used<F: Field>(
-    alloc: Global,
-    inputs: u32,
-    layers: &[Layer<F>],
-    targets: &[Targets],
-) -> Result<bool, AllocError>
-    requires some { 1 ≤ length layers.now }
-    requires layers { AreLayers F.ops inputs layers.now }
-    requires targets { AreTargets inputs targets.now layers.now }
-    ensures { IfOk result (λ used. used ≡ true → AreAllUsedWith targets.now layers.now) }
+pub fn are_used<F: Field>(alloc: Global, given: &Reducible<'_, F>) -> Result<bool, AllocError>
+    ensures { IfOk result (λ used. used ≡ true → AreAllUsedWith given.now.targets.now given.now.layers.now) }
 {
+    let layers = given.layers;
     for l in 1..layers.len() {
-        if !is_used(alloc, &layers[l - 1], &layers[l], targets, l - 1)? {
+        if !is_used(alloc, &layers[l - 1], &layers[l], given.targets, l - 1)? {
             return Ok(false);
         }
     }
@@ -177,28 +167,37 @@ pub fn are_used<F: Field>(
 /// not asserted there, and what they assert.
 pub fn pruned<F: Field>(
     alloc: Global,
-    inputs: u32,
-    layers: &[Layer<F>],
-    targets: &[Targets],
+    given: &Reducible<'_, F>,
 ) -> Result<(Vec<Layer<F>>, Vec<Targets>), AllocError>
-    requires some { 1 ≤ length layers.now }
-    requires layers { AreLayers F.ops inputs layers.now }
-    requires ones { HaveOnes F.ops layers.now }
-    requires targets { AreTargets inputs targets.now layers.now }
-    ensures form { IfOk result (λ kept. IsForm F.ops inputs targets.now layers.now kept.1.items kept.0.items) }
+    ensures form { IfOk result (λ kept.
+        IsForm F.ops given.now.inputs given.now.targets.now given.now.layers.now kept.1.items kept.0.items) }
     ensures ones { IfOk result (λ kept. HaveOnes F.ops kept.0.items) }
     ensures used { IfOk result (λ kept. AreAllUsedWith kept.1.items kept.0.items) }
-    ensures different { AreInnerDifferent layers.now → IfOk result (λ kept. AreInnerDifferent kept.0.items) }
+    ensures different { AreInnerDifferent given.now.layers.now
+        → IfOk result (λ kept. AreInnerDifferent kept.0.items) }
 {
-    let mut marks = all_marked(alloc, layers[0].wires)?;
+    let inputs = given.inputs;
+    let layers = given.layers;
+    let targets = given.targets;
+    let all = all_marked(alloc, layers[0].wires)?;
+    let mut above = with_places(alloc, all)?;
     let mut kept = Vec::new(alloc);
     let mut moved = Vec::new(alloc);
     for l in 0..layers.len() {
         let terms = layers[l].terms.as_slice();
-        let below = marks_with(alloc, inputs, terms, &marks, &layers[l + 1..], targets, l)?;
-        kept.push(pruned_layer(alloc, terms, &marks, &below)?)?;
+        let marks = marks_with(
+            alloc,
+            inputs,
+            terms,
+            &above.marks,
+            &layers[l + 1..],
+            targets,
+            l,
+        )?;
+        let below = with_places(alloc, marks)?;
+        kept.push(pruned_layer(alloc, terms, &above, &below)?)?;
         moved.push(pruned_targets(alloc, targets, l, &below)?)?;
-        marks = below;
+        above = below;
     }
     Ok((kept, moved))
 }

@@ -7,6 +7,7 @@ ghost use Rattle.lzk_reduce.specs.Targets.{AreTargets};
 ghost use Rattle.lzk_reduce.specs.Asserting.{IsForm, IsReducedWith};
 
 use crate::prune::{are_used, pruned};
+use crate::reducible::Reducible;
 use crate::share::shared;
 use crate::targets::Targets;
 use lzk_circuit::Layer;
@@ -16,22 +17,22 @@ use std::alloc::{AllocError, Global};
 // The reduced form of layers. Where sharing leaves wires that nothing uses, they go.
 fn reduced_by_sharing<F: Field>(
     alloc: Global,
-    inputs: u32,
-    layers: &[Layer<F>],
-    targets: &[Targets],
+    given: &Reducible<'_, F>,
 ) -> Result<(Vec<Layer<F>>, Vec<Targets>), AllocError>
-    requires some { 1 ≤ length layers.now }
-    requires layers { AreLayers F.ops inputs layers.now }
-    requires ones { HaveOnes F.ops layers.now }
-    requires targets { AreTargets inputs targets.now layers.now }
-    ensures form { IfOk result (λ kept. IsForm F.ops inputs targets.now layers.now kept.1.items kept.0.items) }
+    ensures form { IfOk result (λ kept.
+        IsForm F.ops given.now.inputs given.now.targets.now given.now.layers.now kept.1.items kept.0.items) }
     ensures reduced { IfOk result (λ kept. IsReducedWith F.ops kept.1.items kept.0.items) }
 {
-    let (different, moved) = shared(alloc, inputs, layers, targets)?;
-    if are_used(alloc, inputs, &different, &moved)? {
+    let (different, moved) = shared(alloc, given)?;
+    let left = Reducible {
+        inputs: given.inputs,
+        layers: &different,
+        targets: &moved,
+    };
+    if are_used(alloc, &left)? {
         return Ok((different, moved));
     }
-    pruned(alloc, inputs, &different, &moved)
+    pruned(alloc, &left)
 }
 
 /// The same outputs and the same asserted values by fewer wires: in no inner layer do two wires have the same
@@ -39,22 +40,22 @@ fn reduced_by_sharing<F: Field>(
 /// goes first, so that no work is done for it, and again where sharing left more.
 pub fn reduced_with<F: Field>(
     alloc: Global,
-    inputs: u32,
-    layers: &[Layer<F>],
-    targets: &[Targets],
+    given: &Reducible<'_, F>,
 ) -> Result<(Vec<Layer<F>>, Vec<Targets>), AllocError>
-    requires some { 1 ≤ length layers.now }
-    requires layers { AreLayers F.ops inputs layers.now }
-    requires ones { HaveOnes F.ops layers.now }
-    requires targets { AreTargets inputs targets.now layers.now }
-    ensures form { IfOk result (λ kept. IsForm F.ops inputs targets.now layers.now kept.1.items kept.0.items) }
+    ensures form { IfOk result (λ kept.
+        IsForm F.ops given.now.inputs given.now.targets.now given.now.layers.now kept.1.items kept.0.items) }
     ensures reduced { IfOk result (λ kept. IsReducedWith F.ops kept.1.items kept.0.items) }
 {
-    if are_used(alloc, inputs, layers, targets)? {
-        return reduced_by_sharing(alloc, inputs, layers, targets);
+    if are_used(alloc, given)? {
+        return reduced_by_sharing(alloc, given);
     }
-    let (used, moved) = pruned(alloc, inputs, layers, targets)?;
-    reduced_by_sharing(alloc, inputs, &used, &moved)
+    let (used, moved) = pruned(alloc, given)?;
+    let left = Reducible {
+        inputs: given.inputs,
+        layers: &used,
+        targets: &moved,
+    };
+    reduced_by_sharing(alloc, &left)
 }
 
 /// The same for layers that assert nothing.
@@ -73,6 +74,11 @@ pub fn reduced<F: Field>(
     ensures reduced { IfOk result (λ kept. IsReduced F.ops kept.items) }
 {
     let none = Vec::new(alloc);
-    let (kept, _) = reduced_with(alloc, inputs, layers, &none)?;
+    let given = Reducible {
+        inputs,
+        layers,
+        targets: &none,
+    };
+    let (kept, _) = reduced_with(alloc, &given)?;
     Ok(kept)
 }

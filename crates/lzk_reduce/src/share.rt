@@ -9,6 +9,7 @@ ghost use Rattle.lzk_reduce.specs.Targets.{AreTargets};
 ghost use Rattle.lzk_reduce.specs.Asserting.{IsForm};
 
 use crate::kept::{none_kept, wire_of};
+use crate::reducible::Reducible;
 use crate::renumber::{moved_layer, wire_row};
 use crate::targets::{Targets, moved_targets};
 use lzk_circuit::{Layer, Terms};
@@ -72,19 +73,16 @@ fn numbers_below(alloc: Global, count: u32) -> Result<Vec<u32>, AllocError>
 /// first of equal wires stands for all; the outputs stay.
 pub fn shared<F: Field>(
     alloc: Global,
-    inputs: u32,
-    layers: &[Layer<F>],
-    targets: &[Targets],
+    given: &Reducible<'_, F>,
 ) -> Result<(Vec<Layer<F>>, Vec<Targets>), AllocError>
-    requires some { 1 ≤ length layers.now }
-    requires layers { AreLayers F.ops inputs layers.now }
-    requires ones { HaveOnes F.ops layers.now }
-    requires targets { AreTargets inputs targets.now layers.now }
-    ensures form { IfOk result (λ kept. IsForm F.ops inputs targets.now layers.now kept.1.items kept.0.items) }
+    ensures form { IfOk result (λ kept.
+        IsForm F.ops given.now.inputs given.now.targets.now given.now.layers.now kept.1.items kept.0.items) }
     ensures ones { IfOk result (λ kept. HaveOnes F.ops kept.0.items) }
     ensures different { IfOk result (λ kept. AreInnerDifferent kept.0.items) }
 {
-    let mut numbers = numbers_below(alloc, inputs)?;
+    let layers = given.layers;
+    let targets = given.targets;
+    let mut numbers = numbers_below(alloc, given.inputs)?;
     let mut kept = Vec::new(alloc);
     let mut moved = Vec::new(alloc);
     for l in (1..layers.len()).rev() {

@@ -10,5 +10,5 @@ pub returns : goal.returns
 returns c =
     let ws = targets_at c.args.targets.now c.args.l in
     let below = c.args.below.now in
-    IfOk-weaker c.moved_targets.result (λ moved. moved ≡ map (at c.deref.result.now) ws) (λ moved. moved ≡ map (marked_before below) ws)
-    (λ moved e. e ∙ ap (λ ns. map (at ns) ws) c.deref.ensures.value ∙ places-moved below c.in_ok-places.places.items ws c.in_ok-places.ensures.places c.requires.targets) c.moved_targets.ensures
+    IfOk-weaker c.moved_targets.result (λ moved. moved ≡ map (at c.deref.result.now) ws) (λ moved. moved ≡ map (marked_before below.marks.items) ws)
+    (λ moved e. e ∙ ap (λ ns. map (at ns) ws) c.deref.ensures.value ∙ places-moved below.marks.items below.places.items ws below.placed c.requires) c.moved_targets.ensures

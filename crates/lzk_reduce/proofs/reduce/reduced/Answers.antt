@@ -5,10 +5,17 @@ use Rattle.lzk_reduce.proofs.FormLaws.{reduced-alone}
 use Rattle.lzk_reduce.proofs.TargetLaws.{no-targets}
 use Rattle.lzk_reduce.proofs.reduce.reduced.Goals as goal
 
-pub reduced_with-requires-clause-targets : goal.reduced_with-requires-clause-targets
-reduced_with-requires-clause-targets g c κs within =
+pub invariant_of-given : goal.invariant_of-given
+invariant_of-given g c =
     let layers = c.args.layers.now in
-    subst (λ ws. AreTargets c.args.inputs ws layers) (sym (c.deref.ensures.value ∙ c.new-none.ensures.items)) (no-targets c.args.inputs layers)
+    record {
+      are = record {
+        some = c.requires.some;
+        valid = c.requires.layers;
+        ones = c.requires.ones;
+        targets = subst (λ ws. AreTargets c.args.inputs ws layers) (sym (c.deref.ensures.value ∙ c.new-none.ensures.items)) (no-targets c.args.inputs layers);
+      };
+    }
 
 pub returns-clause-reduced : goal.returns-clause-reduced
 returns-clause-reduced g c =

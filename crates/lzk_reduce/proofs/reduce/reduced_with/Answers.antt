@@ -7,9 +7,9 @@ use Rattle.lzk_reduce.proofs.reduce.reduced_with.Goals as goal
 pub returns-clause-form : goal.returns-clause-form
 returns-clause-form g c =
     let o = g.F.Field.ops in
-    let inputs = c.args.inputs in
-    let ws = c.args.targets.now in
-    let layers = c.args.layers.now in
+    let inputs = c.args.given.now.inputs in
+    let ws = c.args.given.now.targets.now in
+    let layers = c.args.given.now.layers.now in
     let moved = c.in_ok-used.moved.items in
     let used = c.in_ok-used.used.items in
     IfOk-weaker c.reduced_by_sharing-2.result (λ all. IsForm o inputs c.deref-2.result.now c.deref.result.now all.1.items all.0.items) (λ all. IsForm o inputs ws layers all.1.items all.0.items)
