@@ -7,35 +7,14 @@ use lzk_field::Field;
 use lzk_gf128::Gf128;
 use lzk_goldilocks::Gold;
 use lzk_level::{Builder, LevelError, LevelFault, Node};
+use lzk_tests_shared::{MIXED, TermRow};
 use std::alloc::Global;
 use std::test::Fail;
 
-// Layer, wire, the two wires below, and the coefficient's number.
-type Row = (u32, u32, u32, u32, u128);
-
 // p - 1 stands for the negative of one.
-const GOLD_SQUARE: [Row; 2] = [(0, 0, 0, 1, 0xffff_ffff_0000_0000), (0, 0, 2, 2, 1)];
+const GOLD_SQUARE: [TermRow; 2] = [(0, 0, 0, 1, 0xffff_ffff_0000_0000), (0, 0, 2, 2, 1)];
 
-const GF_SQUARE: [Row; 2] = [(0, 0, 0, 1, 1), (0, 0, 2, 2, 1)];
-
-// The same over both fields.
-const MIXED: [Row; 15] = [
-    (0, 0, 2, 3, 1),
-    (0, 1, 0, 2, 1),
-    (0, 2, 0, 1, 1),
-    (0, 3, 2, 3, 1),
-    (1, 0, 0, 0, 1),
-    (1, 1, 0, 2, 1),
-    (1, 2, 3, 4, 1),
-    (1, 3, 0, 1, 5),
-    (1, 3, 0, 4, 2),
-    (2, 0, 0, 0, 1),
-    (2, 1, 0, 1, 1),
-    (2, 2, 0, 2, 1),
-    (2, 3, 0, 4, 1),
-    (2, 4, 0, 0, 7),
-    (2, 4, 0, 3, 3),
-];
+const GF_SQUARE: [TermRow; 2] = [(0, 0, 0, 1, 1), (0, 0, 2, 2, 1)];
 
 // x * x - y
 fn square<F: Field>(alloc: Global) -> Result<Circuit<F>, LevelError> {
@@ -71,7 +50,7 @@ fn mixed<F: Field>(alloc: Global) -> Result<Circuit<F>, LevelError> {
 }
 
 // The first row that is not the circuit's term in this order, or where the circuit has more terms.
-fn wrong_term<F: Field>(circuit: &Circuit<F>, rows: &[Row]) -> Option<usize> {
+fn wrong_term<F: Field>(circuit: &Circuit<F>, rows: &[TermRow]) -> Option<usize> {
     let mut next = 0;
     for l in 0..circuit.depth() {
         for term in circuit.layer(l).terms.as_slice() {
