@@ -3,10 +3,10 @@
 use crate::jobs::{Batch, are_fit, fill_with_three};
 use lzk_batch::{AnyVerdict, Judged, Tickets, verify_batch};
 use lzk_field::{Gate, Open};
+use lzk_tests_shared::Meeting;
 use lzk_verify::Verdict;
 use std::alloc::Global;
 use std::marker::Sync;
-use std::sync::atomic::{AtomicU64, Ordering};
 use std::thread::Threads;
 
 const WANTED: [AnyVerdict; 3] = [
@@ -102,41 +102,6 @@ fn seen_of_three<R: Threads + Sync, G: Gate>(
     found
 }
 
-// A gate in which two workers look for each other.
-#[derive(Drop)]
-struct Meeting {
-    first: AtomicU64,
-    second: AtomicU64,
-    first_saw: AtomicU64,
-    second_saw: AtomicU64,
-}
-
-// Sets the worker's own flag, and looks for the other's.
-fn meet(own: &AtomicU64, other: &AtomicU64, saw: &AtomicU64) {
-    own.store(1, Ordering::SeqCst);
-    for _ in 0..100_000_000u64 {
-        if other.load(Ordering::SeqCst) == 1 {
-            saw.store(1, Ordering::SeqCst);
-            return;
-        }
-        std::hint::spin_loop();
-    }
-}
-
-// One worker alone would look in vain.
-impl Gate for Meeting {
-    fn enter(&self, worker: usize, of: usize) {
-        if of != 2 {
-            return;
-        }
-        if worker == 0 {
-            meet(&self.first, &self.second, &self.first_saw);
-        } else {
-            meet(&self.second, &self.first, &self.second_saw);
-        }
-    }
-}
-
 #[test]
 fn two_passes_share_three_jobs(rt: HostRuntime) {
     let found = seen_of_three(&rt, rt.alloc(), 3, 2, &Open);
@@ -145,17 +110,7 @@ fn two_passes_share_three_jobs(rt: HostRuntime) {
 
 #[test]
 fn two_verifiers_meet(rt: HostRuntime) {
-    let gate = Meeting {
-        first: AtomicU64::new(0),
-        second: AtomicU64::new(0),
-        first_saw: AtomicU64::new(0),
-        second_saw: AtomicU64::new(0),
-    };
+    let gate = Meeting::new();
     let found = seen_of_three(&rt, rt.alloc(), 2, 2, &gate);
-    let first_saw = gate.first_saw.load(Ordering::SeqCst);
-    let second_saw = gate.second_saw.load(Ordering::SeqCst);
-    assert_eq!(rt;
-        (found, first_saw, second_saw),
-        (Some(([1, 1, 0], 2, 4)), 1, 1)
-    );
+    assert_eq!(rt; (found, gate.have_met()), (Some(([1, 1, 0], 2, 4)), true));
 }

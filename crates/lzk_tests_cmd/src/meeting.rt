@@ -1,70 +1,16 @@
 //! Two workers that wait for each other.
 
 use crate::runs::status_of;
-use lzk_field::Gate;
 use lzk_outside::MemShelf;
+use lzk_tests_shared::{Meeting, SQUARE_FILE};
 use std::alloc::{AllocError, Global};
 use std::marker::Sync;
-use std::sync::atomic::{AtomicU64, Ordering};
 use std::test::Fail;
 use std::thread::Threads;
 
-// A gate in which two workers look for each other.
-#[derive(Drop)]
-struct Meeting {
-    first: AtomicU64,
-    second: AtomicU64,
-    first_saw: AtomicU64,
-    second_saw: AtomicU64,
-}
-
-// Sets the worker's own flag, and looks for the other's.
-fn meet(own: &AtomicU64, other: &AtomicU64, saw: &AtomicU64) {
-    own.store(1, Ordering::SeqCst);
-    for _ in 0..100_000_000u64 {
-        if other.load(Ordering::SeqCst) == 1 {
-            saw.store(1, Ordering::SeqCst);
-            return;
-        }
-        std::hint::spin_loop();
-    }
-}
-
-impl Gate for Meeting {
-    fn enter(&self, worker: usize, of: usize) {
-        if of != 2 {
-            return;
-        }
-        if worker == 0 {
-            meet(&self.first, &self.second, &self.first_saw);
-        } else {
-            meet(&self.second, &self.first, &self.second_saw);
-        }
-    }
-}
-
-impl Meeting {
-    fn new() -> Meeting {
-        Meeting {
-            first: AtomicU64::new(0),
-            second: AtomicU64::new(0),
-            first_saw: AtomicU64::new(0),
-            second_saw: AtomicU64::new(0),
-        }
-    }
-}
-
-// The file of the circuit x * x = y over Goldilocks.
-const SQUARE: [u8; 53] = [
-    0x4c, 0x5a, 0x43, 0x31, 0x01, 0x01, 0x00, 0x00, 0x00, 0x01, 0x00, 0x00, 0x00, 0x01, 0x00, 0x00,
-    0x00, 0x02, 0x00, 0x00, 0x00, 0x01, 0x00, 0x00, 0x00, 0x00, 0x00, 0x00, 0x00, 0x00, 0x00, 0x00,
-    0x00, 0xff, 0xff, 0xff, 0xff, 0x01, 0x00, 0x00, 0x00, 0x02, 0x00, 0x00, 0x00, 0x00, 0x00, 0x01,
-    0x01, 0x00, 0x02, 0x00, 0x00,
-];
-
 // Puts a circuit, its inputs and a list of two jobs on an empty shelf.
 fn fill(shelf: &mut MemShelf) -> Result<(), AllocError> {
-    shelf.add("c", &SQUARE)?;
+    shelf.add("c", &SQUARE_FILE)?;
     shelf.add("y", b"9")?;
     shelf.add("x", b"3")?;
     shelf.add("l", b"c y w\nc y w")?;
@@ -83,11 +29,7 @@ fn first_wrong<R: Threads + Sync>(
         let (words, is_asked) = rows[i];
         let gate = Meeting::new();
         let status = status_of(rt, alloc, words, shelf, &gate)?;
-        let both = gate
-            .first_saw
-            .load(Ordering::SeqCst)
-            .saturating_add(gate.second_saw.load(Ordering::SeqCst));
-        if status != 0 || is_asked && both != 2 {
+        if status != 0 || is_asked && !gate.have_met() {
             return Ok(Some(i));
         }
     }
