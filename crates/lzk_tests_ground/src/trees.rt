@@ -12,6 +12,7 @@ use lzk_field::Field;
 use lzk_gf128::Gf128;
 use lzk_goldilocks::Gold;
 use lzk_merkle::{Tree, leaf, needed, root_of};
+use lzk_tests_shared::digest;
 use sha2::{Digest, Sha256};
 use std::alloc::{AllocError, Global};
 use std::test::Fail;
@@ -114,19 +115,20 @@ fn is_path(
     n: u32,
     opened: &[u32],
     count: usize,
-    path: &[u8; 32],
-    root: &[u8; 32],
+    path: &str,
+    root: &str,
     alloc: Global,
 ) -> Result<bool, AllocError>
     requires most { n ≤ 65536 }
     requires opened { AreOpened n opened.now }
 {
+    let root = digest(root);
     let (digests, found) = path_and_root(n, opened, alloc)?;
     Ok(
         digests.len() == count
-            && digest_of_all(digests.as_slice()) == *path
-            && found == *root
-            && leads_to(n, opened, digests.as_slice(), root, alloc)?,
+            && digest_of_all(digests.as_slice()) == digest(path)
+            && found == root
+            && leads_to(n, opened, digests.as_slice(), &root, alloc)?,
     )
 }
 
@@ -146,11 +148,19 @@ fn path_and_root(
 fn wrong_tree(alloc: Global) -> Result<Option<usize>, AllocError> {
     for i in 0..TREES.len() {
         let (n, opened, count, path, root) = TREES[i];
-        if n > 65536 || !are_opened(n, opened) || !is_path(n, opened, count, &path, &root, alloc)? {
+        if n > 65536 || !are_opened(n, opened) || !is_path(n, opened, count, path, root, alloc)? {
             return Ok(Some(i));
         }
     }
     Ok(None)
+}
+
+fn digests_of(texts: &[&str], alloc: Global) -> Result<Vec<[u8; 32]>, AllocError> {
+    let mut list = Vec::new(alloc);
+    for digits in texts {
+        list.push(digest(digits))?;
+    }
+    Ok(list)
 }
 
 fn wrong_root(alloc: Global) -> Result<Option<usize>, AllocError> {
@@ -159,7 +169,9 @@ fn wrong_root(alloc: Global) -> Result<Option<usize>, AllocError> {
         if n > 65536 || !are_opened(n, opened) {
             return Ok(Some(i));
         }
-        if root_from(n, opened, leaves, digests, alloc)? != Some(root) {
+        let leaves = digests_of(leaves, alloc)?;
+        let path = digests_of(digests, alloc)?;
+        if root_from(n, opened, &leaves, &path, alloc)? != Some(digest(root)) {
             return Ok(Some(i));
         }
     }
@@ -184,12 +196,12 @@ fn wide_opened(alloc: Global) -> Result<Vec<u32>, AllocError> {
 
 fn is_wide_path(opened: &[u32], alloc: Global) -> Result<bool, AllocError> {
     let (count, path, root) = WIDE;
-    Ok(are_opened(768, opened) && is_path(768, opened, count, &path, &root, alloc)?)
+    Ok(are_opened(768, opened) && is_path(768, opened, count, path, root, alloc)?)
 }
 
 fn is_longest_path(alloc: Global) -> Result<bool, AllocError> {
     let (count, path, root) = MOST;
-    Ok(are_opened(65536, &MOST_OPENED) && is_path(65536, &MOST_OPENED, count, &path, &root, alloc)?)
+    Ok(are_opened(65536, &MOST_OPENED) && is_path(65536, &MOST_OPENED, count, path, root, alloc)?)
 }
 
 #[test]
@@ -219,9 +231,9 @@ fn long_leaf_of<F: Field>(alloc: Global) -> Result<[u8; 32], AllocError> {
 
 #[test]
 fn leaves_are_digests_of_nonce_and_column(rt: HostRuntime) -> Result<(), Fail> {
-    assert!(rt; leaf_of::<Gold>(&COLUMN, rt.alloc())? == GOLD_LEAF);
-    assert!(rt; leaf_of::<Gf128>(&COLUMN, rt.alloc())? == GF128_LEAF);
-    assert!(rt; long_leaf_of::<Gold>(rt.alloc())? == LONG_GOLD_LEAF);
-    assert!(rt; long_leaf_of::<Gf128>(rt.alloc())? == LONG_GF128_LEAF);
+    assert!(rt; leaf_of::<Gold>(&COLUMN, rt.alloc())? == digest(GOLD_LEAF));
+    assert!(rt; leaf_of::<Gf128>(&COLUMN, rt.alloc())? == digest(GF128_LEAF));
+    assert!(rt; long_leaf_of::<Gold>(rt.alloc())? == digest(LONG_GOLD_LEAF));
+    assert!(rt; long_leaf_of::<Gf128>(rt.alloc())? == digest(LONG_GF128_LEAF));
     Ok(())
 }
