@@ -7,10 +7,10 @@ ghost use Rattle.lzk_field.specs.Sums.{entry};
 ghost use Rattle.lzk_reduce.specs.Renumbering.{AreNumbersBelow, AreCopies};
 ghost use Rattle.lzk_beside.specs.Asserts.{AreLone, HasLone};
 
-use crate::row::{end_of, set_row};
+use crate::row::set_row;
 use lzk_circuit::{Layer, Term, Terms};
 use lzk_field::Field;
-use lzk_reduce::{append, single};
+use lzk_reduce::{append, end_of, single};
 use std::alloc::{AllocError, Global};
 
 /// A layer of so many wires, each with the value of the wire below that has its number. Wire 0 below is the one.

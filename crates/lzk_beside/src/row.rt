@@ -1,29 +1,13 @@
 //! The terms of one wire over other numbers of the wires below.
 
-ghost use Rattle.std.specs.Prelude.{◌≡◌, ◌≢◌, ℕ, ◌+◌, ◌<◌, ◌≤◌, None, List, [], ◌∷◌, length, IfOk};
-ghost use Rattle.lzk_circuit.specs.Valid.{AreTerms};
-ghost use Rattle.lzk_reduce.specs.Renumbering.{at, AreOver, AreNumbersBelow, AreCopies, terms_before};
+ghost use Rattle.std.specs.Prelude.{◌≡◌, ◌≢◌, ℕ, ◌<◌, ◌≤◌, List, [], ◌∷◌, length, IfOk};
+ghost use Rattle.lzk_reduce.specs.Renumbering.{at, AreOver, AreNumbersBelow, AreCopies};
 ghost use Rattle.lzk_reduce.specs.Rows.{IsRow, row_value, ordered};
 
 use lzk_circuit::Term;
 use lzk_field::Field;
 use lzk_reduce::add_term;
 use std::alloc::AllocError;
-
-/// Where the terms of wire `g` end, which begin at `start`.
-pub fn end_of<F: Field>(terms: &[Term<F>], start: usize, g: u32) -> usize
-    requires start { start ≡ terms_before g terms.now }
-    ensures end { (wires width : ℕ) → AreTerms F.ops wires width None terms.now → result ≡
-        terms_before (g + 1) terms.now }
-    ensures after { start ≤ result }
-    ensures within { result ≤ length terms.now }
-{
-    let mut end = start;
-    while end < terms.len() && terms[end].g == g {
-        end += 1;
-    }
-    end
-}
 
 // The numbers of the two wires that a term names.
 fn numbers_of<F: Field>(term: Term<F>, numbers: &[u32]) -> (u32, u32)
