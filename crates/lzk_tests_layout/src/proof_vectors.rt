@@ -6,12 +6,6 @@ pub type Shape<'a> = (u32, u32, &'a [u32], u32);
 /// A circuit's shape, its parameters in their order, the digests of a proof of it, and that proof's length.
 pub type Facts<'a> = (Shape<'a>, [u32; 11], u32, u64);
 
-// Where 12 elements are committed to, of one layer.
-const OF_SQUARE: [u32; 11] = [12, 64, 192, 383, 768, 1151, 1, 1, 7, 10, 1];
-
-// Where 43 are, of three layers.
-const OF_THREE: [u32; 11] = [43, 64, 192, 383, 768, 1151, 1, 1, 7, 38, 3];
-
 /// Circuits over the field of the numbers below 2^64 - 2^32 + 1.
 pub const GOLD_FACTS: [Facts<'static>; 19] = [
     // credential
@@ -113,9 +107,19 @@ pub const GOLD_FACTS: [Facts<'static>; 19] = [
         27176,
     ),
     // square
-    ((1, 1, &[1], 0), OF_SQUARE, 239, 26216),
+    (
+        (1, 1, &[1], 0),
+        [12, 64, 192, 383, 768, 1151, 1, 1, 7, 10, 1],
+        239,
+        26216,
+    ),
     // square-large
-    ((1, 1, &[1], 0), OF_SQUARE, 257, 26792),
+    (
+        (1, 1, &[1], 0),
+        [12, 64, 192, 383, 768, 1151, 1, 1, 7, 10, 1],
+        257,
+        26792,
+    ),
     // v2-inner-assert
     (
         (1, 1, &[1, 5, 5], 0),
@@ -124,17 +128,37 @@ pub const GOLD_FACTS: [Facts<'static>; 19] = [
         26760,
     ),
     // v2-random
-    ((1, 2, &[4, 6, 5], 0), OF_THREE, 260, 27112),
+    (
+        (1, 2, &[4, 6, 5], 0),
+        [43, 64, 192, 383, 768, 1151, 1, 1, 7, 38, 3],
+        260,
+        27112,
+    ),
     // v2-square
-    ((1, 1, &[1], 0), OF_SQUARE, 263, 26984),
+    (
+        (1, 1, &[1], 0),
+        [12, 64, 192, 383, 768, 1151, 1, 1, 7, 10, 1],
+        263,
+        26984,
+    ),
 ];
 
 /// Circuits over the field of 2^128 elements.
 pub const GF_FACTS: [Facts<'static>; 3] = [
     // gf-square
-    ((1, 1, &[1], 0), OF_SQUARE, 259, 41256),
+    (
+        (1, 1, &[1], 0),
+        [12, 64, 192, 383, 768, 1151, 1, 1, 7, 10, 1],
+        259,
+        41256,
+    ),
     // gf-two-layers
-    ((1, 2, &[2, 5, 7], 0), OF_THREE, 258, 41672),
+    (
+        (1, 2, &[2, 5, 7], 0),
+        [43, 64, 192, 383, 768, 1151, 1, 1, 7, 38, 3],
+        258,
+        41672,
+    ),
     // v2-gf-random
     (
         (2, 4, &[4, 5], 0),
