@@ -20,6 +20,7 @@ pub mod TakingColumns
 pub mod TakingElements
 pub mod TakingFirst
 pub mod TakingOpened
+pub mod TakingOther
 pub mod TakingSent
 pub mod Verdicts
 pub mod WholeFields

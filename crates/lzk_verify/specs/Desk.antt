@@ -1,5 +1,5 @@
 -- What a desk keeps between verdicts, and what the checks of the answers are handed.
-use Rattle.std.specs.Prelude.{◌≡◌, ℕ, ◌<◌, ◌≤◌, ◌-◌, ◌+◌, ◌*◌, Bool, true, false, cond, nat_lt, List, [], length, take, Option, Some, None}
+use Rattle.std.specs.Prelude.{◌≡◌, ℕ, ◌<◌, ◌≤◌, ◌-◌, ◌+◌, ◌*◌, Bool, true, false, cond, nat_lt, List, [], ◌∷◌, ◌++◌, length, take, Option, Some, None}
 use Rattle.lzk_field.specs.Coding.{Coding}
 use Rattle.lzk_field.specs.Ring.{Ops}
 use Rattle.lzk_field.specs.Sums.{entry, sum_below}
@@ -177,6 +177,12 @@ abbrev pub IsKeptOf : {A : Type 0} → Ops A → Coding A → Wiring A → Param
     → Type 0
 IsKeptOf o e c p session public fields k =
     IsKept o e c p session public fields (kept_of o e c p (length fields) (digests_in p fields) [] k)
+
+-- a field more behind so many is kept
+abbrev pub IsKeptNext : {A : Type 0} → Ops A → Coding A → Wiring A → Params → ℕ → List ℕ → Intake A → Intake A → Type 0
+IsKeptNext o e c p n field k next =
+    (session : List ℕ) (public : List _) (fields : List (List ℕ)) → length fields ≡ n
+    → IsKeptOf o e c p session public fields k → IsKeptOf o e c p session public (fields ++ field ∷ []) next
 
 -- what a desk holds
 unfoldable pub held_of : {A : Type 0} → Ops A → Coding A → Wiring A → Params → Bool → CursorPlace → Intake A

@@ -8,8 +8,9 @@ ghost use Rattle.lzk_accept.specs.Kept.{AreFormsOf};
 ghost use Rattle.lzk_verify.specs.Columns.{IsLowDegreeIn, IsLinearIn, IsQuadraticIn};
 ghost use Rattle.lzk_verify.specs.Desk.{AreRooms, AreWeightedRows, HasRoom, weighted_answers};
 ghost use Rattle.lzk_verify.specs.Extending.{weighted};
-ghost use Rattle.lzk_verify.specs.Kept.{messages_in, sent_count};
+ghost use Rattle.lzk_verify.specs.Kept.{messages_in};
 
+use crate::column::Column;
 use crate::combining::combine_constraints;
 use crate::drawing::Drawn;
 use crate::extending::{last_factor, set_inverses};
@@ -17,11 +18,10 @@ use crate::linear::is_linear_at;
 use crate::low_degree::is_low_degree_at;
 use crate::quadratic::is_quadratic_at;
 use crate::room::Room;
-use crate::sent::messages_of;
+use crate::sent::{Sent, messages_of};
 use crate::weighted::weigh_rows;
 use lzk_accept::Challenges;
 use lzk_field::Field;
-use lzk_layout::Plan;
 
 /// Which answers are right at a column.
 #[derive(Clone, Copy)]
@@ -34,34 +34,31 @@ pub(crate) struct RightAnswers {
 impl<F: Field> Room<F> {
     /// Computes what the columns are checked with, once all that a proof sends before them is there. Gives the sum that
     /// the linear answer should have.
-    pub(crate) fn prepare(
-        &mut self,
-        plan: &Plan<'_, F>,
-        public: &[F],
-        sent: &[F],
-        drawn: &Drawn<F>,
-    ) -> F
-        requires public { length public.now ≡ plan.now.circuit.now.publics }
-        requires sent { length sent.now ≡ sent_count plan.now.params }
-        requires drawn { HasRoom plan.now.circuit.now plan.now.params drawn.now }
-        requires rooms { AreRooms plan.now.params self.old }
-        requires forms { AreFormsOf F.ops plan.now.circuit.now self.old.forms }
-        requires factors { HasRoomFor plan.now.circuit.now self.old.combined }
-        ensures rooms { AreRooms plan.now.params self.new }
-        ensures forms { AreFormsOf F.ops plan.now.circuit.now self.new.forms }
-        ensures factors { HasRoomFor plan.now.circuit.now self.new.combined }
-        ensures rows { AreWeightedRows F.ops F.coding.element plan.now.params self.new.combined (combined_row_of F.ops
-            F.coding.element plan.now.circuit.now public.now drawn.now.script (messages_in plan.now.params sent.now)
+    pub(crate) fn prepare(&mut self, sent: &Sent<'_, '_, F>, public: &[F], drawn: &Drawn<F>) -> F
+        requires public { length public.now ≡ sent.now.plan.now.circuit.now.publics }
+        requires drawn { HasRoom sent.now.plan.now.circuit.now sent.now.plan.now.params drawn.now }
+        requires rooms { AreRooms sent.now.plan.now.params self.old }
+        requires forms { AreFormsOf F.ops sent.now.plan.now.circuit.now self.old.forms }
+        requires factors { HasRoomFor sent.now.plan.now.circuit.now self.old.combined }
+        ensures rooms { AreRooms sent.now.plan.now.params self.new }
+        ensures forms { AreFormsOf F.ops sent.now.plan.now.circuit.now self.new.forms }
+        ensures factors { HasRoomFor sent.now.plan.now.circuit.now self.new.combined }
+        ensures rows { let plan = sent.now.plan.now in
+            AreWeightedRows F.ops F.coding.element plan.params self.new.combined (combined_row_of F.ops F.coding.element
+            plan.circuit.now public.now drawn.now.script (messages_in plan.params sent.now.elements.now)
             drawn.now.challenges) }
-        ensures wanted { result
-            ≡ wanted_of F.ops F.coding.element plan.now.circuit.now public.now drawn.now.script
-            (messages_in plan.now.params sent.now) drawn.now.challenges }
-        ensures answers { self.new.answers ≡ weighted_answers F.ops F.coding.element plan.now.params sent.now }
+        ensures wanted { let plan = sent.now.plan.now in
+            result
+            ≡ wanted_of F.ops F.coding.element plan.circuit.now public.now drawn.now.script
+            (messages_in plan.params sent.now.elements.now) drawn.now.challenges }
+        ensures answers { self.new.answers
+            ≡ weighted_answers F.ops F.coding.element sent.now.plan.now.params sent.now.elements.now }
     {
+        let plan = sent.plan;
         let wanted = combine_constraints(
             plan,
             public,
-            messages_of(plan, sent),
+            messages_of(sent),
             drawn,
             &mut self.linear.forms,
             &mut self.linear.combined,
@@ -69,34 +66,33 @@ impl<F: Field> Room<F> {
         weigh_rows(plan, &self.weights.rows, &mut self.linear.combined);
         self.answered
             .answers
-            .set(plan, &self.weights.rows, &self.weights.products, sent);
+            .set(sent, &self.weights.rows, &self.weights.products);
         wanted
     }
 
     /// Which answers are right at this column.
     pub(crate) fn check_column(
         &mut self,
-        plan: &Plan<'_, F>,
         index: u32,
-        column: &[F],
+        column: &Column<'_, '_, F>,
         challenges: &Challenges<F>,
     ) -> RightAnswers
-        requires rooms { AreRooms plan.now.params self.old }
-        requires index { index < plan.now.params.mcol }
-        requires column { length column.now ≡ plan.now.params.nrow }
-        requires challenges { HasShape plan.now.params challenges.now }
-        ensures low_degree { let p = plan.now.params in (values : List F) →
+        requires rooms { AreRooms column.now.plan.now.params self.old }
+        requires index { index < column.now.plan.now.params.mcol }
+        requires challenges { HasShape column.now.plan.now.params challenges.now }
+        ensures low_degree { let p = column.now.plan.now.params in (values : List F) →
             self.old.answers.ldt ≡ weighted F.ops F.coding.element values → (IsTrue result.low_degree ↔
-            IsLowDegreeIn F.ops F.coding.element p column.now (p.dblock + index) values challenges.now.u) }
-        ensures linear { let p = plan.now.params in (values : List F) (lists : ℕ → List F) →
+            IsLowDegreeIn F.ops F.coding.element p column.now.elements.now (p.dblock + index) values challenges.now.u) }
+        ensures linear { let p = column.now.plan.now.params in (values : List F) (lists : ℕ → List F) →
             self.old.answers.dot ≡ weighted F.ops F.coding.element values →
             AreWeightedRows F.ops F.coding.element p self.old.combined lists → (IsTrue result.linear ↔
-            IsLinearIn F.ops F.coding.element p column.now (p.dblock + index) values lists) }
-        ensures quadratic { let p = plan.now.params in (values : List F) →
+            IsLinearIn F.ops F.coding.element p column.now.elements.now (p.dblock + index) values lists) }
+        ensures quadratic { let p = column.now.plan.now.params in (values : List F) →
             self.old.answers.quadratic ≡ weighted F.ops F.coding.element values → (IsTrue result.quadratic ↔
-            IsQuadraticIn F.ops F.coding.element p column.now (p.dblock + index) values challenges.now.v) }
+            IsQuadraticIn F.ops F.coding.element p column.now.elements.now (p.dblock + index) values challenges.now.v) }
         ensures room { self.new ≡ self.old }
     {
+        let plan = column.plan;
         let point = plan.params.dblock + index;
         set_inverses(&self.weights.products, point, &mut self.answered.inverses);
         let row_last = last_factor(&self.weights.rows, point);
@@ -104,7 +100,6 @@ impl<F: Field> Room<F> {
         let inverses = self.answered.inverses.as_slice();
         let row = &inverses[..plan.params.block as usize];
         let low_degree = is_low_degree_at(
-            plan,
             &self.answered.answers.ldt,
             column,
             challenges.u.as_slice(),
@@ -112,7 +107,6 @@ impl<F: Field> Room<F> {
             row_last,
         );
         let linear = is_linear_at(
-            plan,
             &self.answered.answers.dot,
             column,
             &self.linear.combined,
@@ -121,7 +115,6 @@ impl<F: Field> Room<F> {
             last,
         );
         let quadratic = is_quadratic_at(
-            plan,
             &self.answered.answers.quadratic,
             column,
             challenges.v.as_slice(),

@@ -6,13 +6,13 @@ ghost use Rattle.lzk_transcript.specs.Columns.{opened};
 ghost use Rattle.lzk_layout.specs.Sizes.{params_of};
 ghost use Rattle.lzk_sumcheck.specs.Draws.{with_array};
 ghost use Rattle.lzk_verify.specs.Desk.{HasRoom};
-ghost use Rattle.lzk_verify.specs.Kept.{sent_count, ldt_in, dot_in, head_in, tail_in, whole_transcript};
+ghost use Rattle.lzk_verify.specs.Kept.{ldt_in, dot_in, head_in, tail_in, whole_transcript};
 
-use crate::sent::{dot_of, head_of, ldt_of, messages_of, tail_of};
+use crate::sent::{Sent, dot_of, head_of, ldt_of, messages_of, tail_of};
 use lzk_accept::{Challenges, draw_challenges};
 use lzk_circuit::Circuit;
 use lzk_field::Field;
-use lzk_layout::{OPENED, Params, Plan};
+use lzk_layout::{OPENED, Params};
 use lzk_sumcheck::{Script, draw_opened, replay};
 use lzk_transcript::Tape;
 use std::alloc::{AllocError, Global};
@@ -35,23 +35,23 @@ impl<F> Model for Drawn<F> {
 }
 
 // Writes the answers, and draws the columns that are opened.
-fn draw_columns<F: Field>(plan: &Plan<'_, F>, tape: &mut Tape, sent: &[F], columns: &mut [u32])
-    requires sent { length sent.now ≡ sent_count plan.now.params }
+fn draw_columns<F: Field>(sent: &Sent<'_, '_, F>, tape: &mut Tape, columns: &mut [u32])
     requires room { length columns.old ≡ 128 }
     ensures columns { let e = F.coding in
+        let p = sent.now.plan.now.params in
+        let all = sent.now.elements.now in
         columns.new
-        ≡ opened plan.now.params.mcol 128 (with_array e (tail_in plan.now.params sent.now) (with_array e
-        (head_in plan.now.params sent.now) (with_array e (dot_in plan.now.params sent.now)
-        (with_array e (ldt_in plan.now.params sent.now) tape.old)))) }
-    ensures opened { AreOpened plan.now.params.mcol columns.new }
+        ≡ opened p.mcol 128 (with_array e (tail_in p all) (with_array e (head_in p all)
+        (with_array e (dot_in p all) (with_array e (ldt_in p all) tape.old)))) }
+    ensures opened { AreOpened sent.now.plan.now.params.mcol columns.new }
     ensures room { length columns.new ≡ 128 }
 {
-    let low_degree = ldt_of(plan, sent);
-    let linear = dot_of(plan, sent);
-    let head = head_of(plan, sent);
-    let tail = tail_of(plan, sent);
+    let low_degree = ldt_of(sent);
+    let linear = dot_of(sent);
+    let head = head_of(sent);
+    let tail = tail_of(sent);
     draw_opened(
-        plan.params.mcol,
+        sent.plan.params.mcol,
         low_degree,
         linear,
         head,
@@ -99,22 +99,18 @@ impl<F: Field> Drawn<F> {
     /// Runs the tape, to which session, circuit's id and public inputs are written, with what a proof sends. No memory
     /// is taken.
     #[tactic(auto, unfolding(crate::specs::Kept::whole_transcript))]
-    pub(crate) fn draw(&mut self, plan: &Plan<'_, F>, tape: &mut Tape, root: &[u8; 32], sent: &[F])
-        requires sent { length sent.now ≡ sent_count plan.now.params }
-        requires room { HasRoom plan.now.circuit.now plan.now.params self.old }
-        ensures drawn { self.new
-            ≡ whole_transcript F.ops F.coding plan.now.circuit.now plan.now.params tape.old root.now sent.now }
-        ensures room { HasRoom plan.now.circuit.now plan.now.params self.new }
-        ensures opened { AreOpened plan.now.params.mcol self.new.columns }
+    pub(crate) fn draw(&mut self, sent: &Sent<'_, '_, F>, tape: &mut Tape, root: &[u8; 32])
+        requires room { HasRoom sent.now.plan.now.circuit.now sent.now.plan.now.params self.old }
+        ensures drawn { let plan = sent.now.plan.now in
+            self.new
+            ≡ whole_transcript F.ops F.coding plan.circuit.now plan.params tape.old root.now sent.now.elements.now }
+        ensures room { HasRoom sent.now.plan.now.circuit.now sent.now.plan.now.params self.new }
+        ensures opened { AreOpened sent.now.plan.now.params.mcol self.new.columns }
     {
+        let plan = sent.plan;
         tape.bytes(root);
-        replay(
-            plan.circuit,
-            tape,
-            messages_of(plan, sent),
-            &mut self.script,
-        );
+        replay(plan.circuit, tape, messages_of(sent), &mut self.script);
         draw_challenges(&plan.params, tape, &mut self.challenges);
-        draw_columns(plan, tape, sent, &mut self.columns);
+        draw_columns(sent, tape, &mut self.columns);
     }
 }

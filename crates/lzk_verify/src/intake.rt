@@ -1,6 +1,6 @@
 //! What is kept of a proof that is read field by field.
 
-ghost use Rattle.std.specs.Prelude.{◌≡◌, ℕ, ◌+◌, ◌<◌, ◌≤◌, true, false, None, List, [], ◌∷◌, ◌++◌, length, take, slice_set, slice_index, IfOk};
+ghost use Rattle.std.specs.Prelude.{◌≡◌, ℕ, ◌+◌, ◌<◌, ◌≤◌, true, false, None, List, [], length, take, slice_set, slice_index, IfOk};
 ghost use Rattle.lzk_field.specs.Bytes.{number_from};
 ghost use Rattle.lzk_merkle.specs.Leaf.{leaf_of};
 ghost use Rattle.lzk_circuit.specs.Valid.{Wiring};
@@ -14,14 +14,15 @@ ghost use Rattle.lzk_accept.specs.Kept.{AreFormsOf};
 ghost use Rattle.lzk_circbytes.specs.Files.{id_of};
 ghost use Rattle.lzk_verify.specs.Columns.{IsLowDegreeIn, IsLinearIn, IsQuadraticIn, values_of};
 ghost use Rattle.lzk_verify.specs.Desk as spec;
-ghost use Rattle.lzk_verify.specs.Desk.{AreRooms, AreLists, AreReady, AreWeightedRows, IsSound, IsNoted, IsKeptOf, kept_of, weighted_answers};
+ghost use Rattle.lzk_verify.specs.Desk.{AreRooms, AreLists, AreReady, AreWeightedRows, IsSound, IsNoted, IsKeptNext, kept_of, weighted_answers};
 ghost use Rattle.lzk_verify.specs.Kept as fields;
 ghost use Rattle.lzk_verify.specs.Kept.{ldt_in, dot_in, head_in, tail_in, place_of, whole_transcript, IsKept};
 
+use crate::column::Column;
 use crate::drawing::Drawn;
 use crate::leaves::Leaves;
 use crate::room::{Room, zero_digests};
-use crate::sent::{place_of, sent_count};
+use crate::sent::{Sent, place_of, sent_count};
 use lzk_circuit::zeros;
 use lzk_field::Field;
 use lzk_layout::{BLINDS, MOST_DIGESTS, Params, Plan, ProofPart};
@@ -204,9 +205,12 @@ impl<F: Field> Intake<F> {
         ensures given { self.new.drawn ≡ whole_transcript F.ops F.coding plan.now.circuit.now plan.now.params
             self.old.tape self.old.root self.old.sent.items }
     {
-        self.drawn
-            .draw(plan, &mut self.tape, &self.root, &self.sent);
-        self.wanted = room.prepare(plan, &self.public, &self.sent, &self.drawn);
+        let sent = Sent {
+            plan,
+            elements: &self.sent,
+        };
+        self.drawn.draw(&sent, &mut self.tape, &self.root);
+        self.wanted = room.prepare(&sent, &self.public, &self.drawn);
         self.is_drawn = true;
     }
 
@@ -239,10 +243,13 @@ impl<F: Field> Intake<F> {
             self.old.drawn.challenges.v) index }
         ensures room { room.new ≡ room.old }
     {
-        let column = self.column.as_slice();
+        let column = Column {
+            plan,
+            elements: &self.column,
+        };
         let index = self.drawn.column(k);
-        self.leaves.set(k, &self.nonce, column);
-        let right = room.check_column(plan, index, column, &self.drawn.challenges);
+        self.leaves.set(k, &self.nonce, column.elements);
+        let right = room.check_column(index, &column, &self.drawn.challenges);
         self.failing = Failing {
             low_degree: least(self.failing.low_degree, right.low_degree, index),
             linear: least(self.failing.linear, right.linear, index),
@@ -257,11 +264,8 @@ impl<F: Field> Intake<F> {
         requires element { number_from (take F.coding.bytes block.now) < F.coding.size }
         requires sound { IsSound F.ops F.coding.element plan.now.circuit.now plan.now.params self.old room.old }
         ensures sound { IsSound F.ops F.coding.element plan.now.circuit.now plan.now.params self.new room.new }
-        ensures kept { let field = take F.coding.bytes block.now in
-            (session : List ℕ) (public : List F) (fields : List (List ℕ)) → length fields ≡ 3 + place
-            → IsKeptOf F.ops F.coding plan.now.circuit.now plan.now.params session public fields self.old
-            → IsKeptOf F.ops F.coding plan.now.circuit.now plan.now.params session public
-            (fields ++ field ∷ []) self.new }
+        ensures kept { IsKeptNext F.ops F.coding plan.now.circuit.now plan.now.params (3 + place)
+            (take F.coding.bytes block.now) self.old self.new }
     {
         self.sent[place] = element_of(block);
         self.is_drawn = false;
@@ -283,11 +287,8 @@ impl<F: Field> Intake<F> {
         requires whole { IsWholeField (shape F.coding.bytes F.coding.size) plan.now.params part block.now width }
         requires sound { IsSound F.ops F.coding.element plan.now.circuit.now plan.now.params self.old room.old }
         ensures sound { IsSound F.ops F.coding.element plan.now.circuit.now plan.now.params self.new room.new }
-        ensures kept { (session : List ℕ) (public : List F) (fields : List (List ℕ))
-            → length fields ≡ number_of plan.now.params part
-            → IsKeptOf F.ops F.coding plan.now.circuit.now plan.now.params session public fields self.old
-            → IsKeptOf F.ops F.coding plan.now.circuit.now plan.now.params session public
-            (fields ++ take width block.now ∷ []) self.new }
+        ensures kept { IsKeptNext F.ops F.coding plan.now.circuit.now plan.now.params
+            (number_of plan.now.params part) (take width block.now) self.old self.new }
     {
         match part {
             ProofPart::Magic => {}
@@ -322,11 +323,8 @@ impl<F: Field> Intake<F> {
         requires whole { IsWholeField (shape F.coding.bytes F.coding.size) plan.now.params part block.now width }
         requires sound { IsSound F.ops F.coding.element plan.now.circuit.now plan.now.params self.old room.old }
         ensures sound { IsSound F.ops F.coding.element plan.now.circuit.now plan.now.params self.new room.new }
-        ensures kept { (session : List ℕ) (public : List F) (fields : List (List ℕ))
-            → length fields ≡ number_of plan.now.params part
-            → IsKeptOf F.ops F.coding plan.now.circuit.now plan.now.params session public fields self.old
-            → IsKeptOf F.ops F.coding plan.now.circuit.now plan.now.params session public
-            (fields ++ take width block.now ∷ []) self.new }
+        ensures kept { IsKeptNext F.ops F.coding plan.now.circuit.now plan.now.params
+            (number_of plan.now.params part) (take width block.now) self.old self.new }
     {
         match place_of(plan, part) {
             Some(place) => self.take_sent(plan, place, block, room),

@@ -7,7 +7,7 @@ ghost use Rattle.lzk_verify.specs.Desk.{AreLists, AreFoundAnswers, IsFound};
 use crate::intake::Intake;
 use crate::low_degree::check_linear_sum;
 use crate::opening::{check_circuit_id, check_path_count};
-use crate::sent::dot_of;
+use crate::sent::{Sent, dot_of};
 use crate::verdict::Verdict;
 use lzk_field::Field;
 use lzk_layout::Plan;
@@ -21,7 +21,11 @@ fn judge_answers<F: Field>(plan: &Plan<'_, F>, intake: &Intake<F>) -> Verdict<F>
         return Verdict::LowDegree { column };
     }
     let wanted = intake.wanted;
-    if let Some(found) = check_linear_sum(plan, dot_of(plan, &intake.sent), wanted) {
+    let sent = Sent {
+        plan,
+        elements: &intake.sent,
+    };
+    if let Some(found) = check_linear_sum(plan, dot_of(&sent), wanted) {
         return Verdict::LinearSum { found, wanted };
     }
     if let Some(column) = intake.failing.linear {

@@ -5,6 +5,7 @@
 #![tactic(auto)]
 
 mod checking;
+mod column;
 mod combining;
 mod desk;
 mod drawing;

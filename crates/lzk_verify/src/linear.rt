@@ -3,33 +3,32 @@
 ghost use Rattle.std.specs.Prelude.{◌≡◌, ℕ, ◌+◌, ◌-◌, ◌*◌, ◌<◌, ◌≤◌, ◌↔◌, IsTrue, List, length, take};
 ghost use Rattle.lzk_field.specs.Sums.{entry, sum_below};
 ghost use Rattle.lzk_poly.specs.Extension.{extension};
+ghost use Rattle.lzk_accept.specs.Factored.{AreFactorLists};
 ghost use Rattle.lzk_verify.specs.Columns.{IsLinearIn};
 ghost use Rattle.lzk_verify.specs.Desk.{HasFactors, AreWeightedRows};
 ghost use Rattle.lzk_verify.specs.Extending.{Extends, row_sum, weighted};
 
+use crate::column::Column;
 use crate::extending::extend_to;
 use lzk_accept::Factored;
 use lzk_field::Field;
-use lzk_layout::{BLINDS, Plan};
+use lzk_layout::BLINDS;
 
 /// How many products a coefficient is the sum of, where rows are given by factors.
 pub(crate) const FACTORS: usize = 4;
 
 // The sum of a row's products with these factors.
 fn row_dot<F: Field>(table: &[F], i: usize, factors: &[F]) -> F
-    requires few { i < 265 }
-    requires width { length factors.now ≤ 512 }
     requires inside { (i + 1) * length factors.now ≤ length table.now }
     ensures { result ≡ row_sum F.ops table.now factors.now i }
 {
     let width = factors.len();
-    F::dot(&table[i * width..(i + 1) * width], factors)
+    let start = i * width;
+    F::dot(&table[start..start + width], factors)
 }
 
 // The sum, over these elements of a column, of the element times its row's products with the factors.
 fn sum_rows<F: Field>(elements: &[F], table: &[F], factors: &[F]) -> F
-    requires most { length elements.now ≤ 265 }
-    requires width { length factors.now ≤ 512 }
     requires table { length table.now ≡ length elements.now * length factors.now }
     ensures { let o = F.ops in
         result
@@ -51,10 +50,7 @@ fn sum_factored<F: Field>(
     place_factors: &[F],
     factors: &[F],
 ) -> F
-    requires most { length elements.now ≤ 265 }
-    requires width { length factors.now ≤ 512 }
-    requires row_factors { length row_factors.now ≡ 4 * length elements.now }
-    requires place_factors { length place_factors.now ≡ 4 * length factors.now }
+    requires { AreFactorLists 4 (length elements.now) (length factors.now) row_factors.now place_factors.now }
     ensures { let o = F.ops in
         result
         ≡ sum_below o 4
@@ -70,10 +66,7 @@ fn sum_factored<F: Field>(
 
 // The same, with no product where there are no such rows.
 fn sum_private<F: Field>(elements: &[F], row_factors: &[F], place_factors: &[F], factors: &[F]) -> F
-    requires most { length elements.now ≤ 265 }
-    requires width { length factors.now ≤ 512 }
-    requires row_factors { length row_factors.now ≡ 4 * length elements.now }
-    requires place_factors { length place_factors.now ≡ 4 * length factors.now }
+    requires { AreFactorLists 4 (length elements.now) (length factors.now) row_factors.now place_factors.now }
     ensures { let o = F.ops in
         result
         ≡ sum_below o 4
@@ -88,55 +81,56 @@ fn sum_private<F: Field>(elements: &[F], row_factors: &[F], place_factors: &[F],
 // The sum, over the rows from row 3 on, of the extension of the combined coefficients' row times a column's element.
 // What gives the coefficients gives each times its weight.
 fn linear_sum<F: Field>(
-    plan: &Plan<'_, F>,
-    column: &[F],
+    column: &Column<'_, '_, F>,
     combined: &Factored<F>,
     inverses: &[F],
     last: F,
 ) -> F
-    requires column { length column.now ≡ plan.now.params.nrow }
-    requires combined { HasFactors plan.now.params combined.now }
-    requires inverses { length inverses.now ≡ plan.now.params.block }
-    ensures { (point : ℕ) (lists : ℕ → List F) → Extends F.ops F.coding.element point inverses.now last
-        → AreWeightedRows F.ops F.coding.element plan.now.params combined.now lists
+    requires combined { HasFactors column.now.plan.now.params combined.now }
+    requires inverses { length inverses.now ≡ column.now.plan.now.params.block }
+    ensures { let o = F.ops in
+        let p = column.now.plan.now.params in
+        (point : ℕ) (lists : ℕ → List F) → Extends o F.coding.element point inverses.now last
+        → AreWeightedRows o F.coding.element p combined.now lists
         → result
-        ≡ sum_below F.ops (plan.now.params.nrow - 3) (λ i.
-        F.ops.times (extension F.ops F.coding.element (lists (3 + i)) point) (entry F.ops column.now (3 + i))) }
+        ≡ sum_below o (p.nrow - 3) (λ i.
+        o.times (extension o F.coding.element (lists (3 + i)) point) (entry o column.now.elements.now (3 + i))) }
 {
+    let elements = column.elements;
     let behind = 3 + combined.rows as usize;
     let back = &inverses[BLINDS..];
     let private = sum_private(
-        &column[3..behind],
+        &elements[3..behind],
         combined.row_factors.as_slice(),
         combined.place_factors.as_slice(),
         back,
     );
-    let others = sum_rows(&column[behind..], combined.table.as_slice(), back);
+    let others = sum_rows(&elements[behind..], combined.table.as_slice(), back);
     private.add(others).mul(last)
 }
 
 /// Whether the linear answer, whose weighted values these are, is right at the inverses' point, of a column. The last
 /// factor of the values of a row comes first, and that of the values of a product of two rows behind it.
 pub(crate) fn is_linear_at<F: Field>(
-    plan: &Plan<'_, F>,
     dot: &[F],
-    column: &[F],
+    column: &Column<'_, '_, F>,
     combined: &Factored<F>,
     inverses: &[F],
     row_last: F,
     last: F,
 ) -> bool
-    requires dot { length dot.now ≡ plan.now.params.dblock }
-    requires column { length column.now ≡ plan.now.params.nrow }
-    requires combined { HasFactors plan.now.params combined.now }
-    requires inverses { length inverses.now ≡ plan.now.params.dblock }
-    ensures { (point : ℕ) (values : List F) (lists : ℕ → List F) → dot.now ≡ weighted F.ops F.coding.element values
-        → Extends F.ops F.coding.element point (take plan.now.params.block inverses.now) row_last
+    requires dot { length dot.now ≡ column.now.plan.now.params.dblock }
+    requires combined { HasFactors column.now.plan.now.params combined.now }
+    requires inverses { length inverses.now ≡ column.now.plan.now.params.dblock }
+    ensures { let p = column.now.plan.now.params in
+        (point : ℕ) (values : List F) (lists : ℕ → List F) → dot.now ≡ weighted F.ops F.coding.element values
+        → Extends F.ops F.coding.element point (take p.block inverses.now) row_last
         → Extends F.ops F.coding.element point inverses.now last
-        → AreWeightedRows F.ops F.coding.element plan.now.params combined.now lists
-        → (IsTrue result ↔ IsLinearIn F.ops F.coding.element plan.now.params column.now point values lists) }
+        → AreWeightedRows F.ops F.coding.element p combined.now lists
+        → (IsTrue result ↔ IsLinearIn F.ops F.coding.element p column.now.elements.now point values lists) }
 {
-    let row = &inverses[..plan.params.block as usize];
-    let sum = linear_sum(plan, column, combined, row, row_last);
-    extend_to(dot, inverses, last, column[1].add(sum))
+    let elements = column.elements;
+    let row = &inverses[..column.plan.params.block as usize];
+    let sum = linear_sum(column, combined, row, row_last);
+    extend_to(dot, inverses, last, elements[1].add(sum))
 }

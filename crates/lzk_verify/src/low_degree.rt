@@ -6,39 +6,41 @@ ghost use Rattle.lzk_verify.specs.Columns.{IsLowDegreeIn};
 ghost use Rattle.lzk_verify.specs.Desk.{IsChecked};
 ghost use Rattle.lzk_verify.specs.Extending.{Extends, weighted};
 
+use crate::column::Column;
 use crate::extending::extend_to;
 use lzk_field::Field;
 use lzk_layout::{BLINDS, Plan};
 
 // The sum of each u times an element of a column from row 3 on, and of its first element.
-fn low_degree_sum<F: Field>(plan: &Plan<'_, F>, column: &[F], u: &[F]) -> F
-    requires column { length column.now ≡ plan.now.params.nrow }
-    requires u { length u.now ≡ plan.now.params.nrow - 3 }
-    ensures { result
-        ≡ F.ops.plus (entry F.ops column.now 0) (sum_below F.ops (plan.now.params.nrow - 3)
-        (λ i. F.ops.times (entry F.ops u.now i) (entry F.ops column.now (3 + i)))) }
+fn low_degree_sum<F: Field>(column: &Column<'_, '_, F>, u: &[F]) -> F
+    requires u { length u.now ≡ column.now.plan.now.params.nrow - 3 }
+    ensures { let o = F.ops in
+        let elements = column.now.elements.now in
+        result
+        ≡ o.plus (entry o elements 0) (sum_below o (column.now.plan.now.params.nrow - 3)
+        (λ i. o.times (entry o u.now i) (entry o elements (3 + i)))) }
 {
-    column[0].add(F::dot(u, &column[3..]))
+    let elements = column.elements;
+    elements[0].add(F::dot(u, &elements[3..]))
 }
 
 /// Whether the low degree answer, whose weighted values these are, is right at the inverses' point, of a column.
 pub(crate) fn is_low_degree_at<F: Field>(
-    plan: &Plan<'_, F>,
     ldt: &[F],
-    column: &[F],
+    column: &Column<'_, '_, F>,
     u: &[F],
     inverses: &[F],
     last: F,
 ) -> bool
-    requires ldt { length ldt.now ≡ plan.now.params.block }
-    requires column { length column.now ≡ plan.now.params.nrow }
-    requires u { length u.now ≡ plan.now.params.nrow - 3 }
-    requires inverses { length inverses.now ≡ plan.now.params.block }
+    requires ldt { length ldt.now ≡ column.now.plan.now.params.block }
+    requires u { length u.now ≡ column.now.plan.now.params.nrow - 3 }
+    requires inverses { length inverses.now ≡ column.now.plan.now.params.block }
     ensures { (point : ℕ) (values : List F) → ldt.now ≡ weighted F.ops F.coding.element values
         → Extends F.ops F.coding.element point inverses.now last
-        → (IsTrue result ↔ IsLowDegreeIn F.ops F.coding.element plan.now.params column.now point values u.now) }
+        → (IsTrue result ↔ IsLowDegreeIn F.ops F.coding.element column.now.plan.now.params column.now.elements.now point
+        values u.now) }
 {
-    extend_to(ldt, inverses, last, low_degree_sum(plan, column, u))
+    extend_to(ldt, inverses, last, low_degree_sum(column, u))
 }
 
 // The sum of the linear answer's values at the points of a row's elements.

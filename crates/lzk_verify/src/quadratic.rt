@@ -4,11 +4,13 @@ ghost use Rattle.std.specs.Prelude.{◌≡◌, ℕ, ◌+◌, ◌-◌, ◌*◌, �
 ghost use Rattle.lzk_field.specs.Sums.{entry, sum_below, minus};
 ghost use Rattle.lzk_verify.specs.Columns.{IsQuadraticIn, in_triple, values_of};
 ghost use Rattle.lzk_verify.specs.Extending.{Extends, weighted};
+ghost use Rattle.lzk_verify.specs.Kept.{head_in, tail_in};
 
+use crate::column::Column;
 use crate::extending::extend_to;
 use crate::lists::clear;
+use crate::sent::{Sent, head_of, tail_of};
 use lzk_field::Field;
-use lzk_layout::Plan;
 
 // Zeros between the first values and the last ones.
 fn fill_between<F: Field>(first: &[F], last: &[F], values: &mut [F])
@@ -24,14 +26,14 @@ fn fill_between<F: Field>(first: &[F], last: &[F], values: &mut [F])
 }
 
 /// All values of the quadratic answer, of its first ones and its last.
-pub(crate) fn fill_quadratic<F: Field>(plan: &Plan<'_, F>, head: &[F], tail: &[F], values: &mut [F])
-    requires head { length head.now ≡ 128 }
-    requires tail { length tail.now ≡ plan.now.params.dblock - plan.now.params.block }
-    requires room { length values.old ≡ plan.now.params.dblock }
-    ensures values { values.new ≡ values_of F.ops plan.now.params head.now tail.now }
-    ensures room { length values.new ≡ plan.now.params.dblock }
+pub(crate) fn fill_quadratic<F: Field>(sent: &Sent<'_, '_, F>, values: &mut [F])
+    requires room { length values.old ≡ sent.now.plan.now.params.dblock }
+    ensures values { let p = sent.now.plan.now.params in
+        let all = sent.now.elements.now in
+        values.new ≡ values_of F.ops p (head_in p all) (tail_in p all) }
+    ensures room { length values.new ≡ sent.now.plan.now.params.dblock }
 {
-    fill_between(head, tail, values);
+    fill_between(head_of(sent), tail_of(sent), values);
 }
 
 // The product of the first two elements less the third, of a column's triple that begins at this row.
@@ -45,38 +47,40 @@ fn triple_at<F: Field>(column: &[F], row: usize) -> F
 }
 
 // The sum of each v times what a column's triple gives, and of its third element.
-fn quadratic_sum<F: Field>(plan: &Plan<'_, F>, column: &[F], v: &[F]) -> F
-    requires column { length column.now ≡ plan.now.params.nrow }
-    requires v { length v.now ≡ plan.now.params.ntriple }
-    ensures { result
-        ≡ F.ops.plus (entry F.ops column.now 2) (sum_below F.ops plan.now.params.ntriple (λ i.
-        F.ops.times (entry F.ops v.now i) (minus F.ops (F.ops.times (in_triple F.ops plan.now.params column.now i 0)
-        (in_triple F.ops plan.now.params column.now i 1)) (in_triple F.ops plan.now.params column.now i 2)))) }
+fn quadratic_sum<F: Field>(column: &Column<'_, '_, F>, v: &[F]) -> F
+    requires v { length v.now ≡ column.now.plan.now.params.ntriple }
+    ensures { let o = F.ops in
+        let p = column.now.plan.now.params in
+        let elements = column.now.elements.now in
+        let at = in_triple o p elements in
+        result
+        ≡ o.plus (entry o elements 2)
+        (sum_below o p.ntriple (λ i. o.times (entry o v.now i) (minus o (o.times (at i 0) (at i 1)) (at i 2)))) }
 {
-    let first = 3 + plan.params.nwrow as usize;
+    let elements = column.elements;
+    let first = 3 + column.plan.params.nwrow as usize;
     let mut sum = F::zero();
     for i in 0..v.len() {
-        sum = sum.add(v[i].mul(triple_at(column, first + 3 * i)));
+        sum = sum.add(v[i].mul(triple_at(elements, first + 3 * i)));
     }
-    column[2].add(sum)
+    elements[2].add(sum)
 }
 
 /// Whether the quadratic answer, whose weighted values these are, is right at the inverses' point, of a column.
 pub(crate) fn is_quadratic_at<F: Field>(
-    plan: &Plan<'_, F>,
     quadratic: &[F],
-    column: &[F],
+    column: &Column<'_, '_, F>,
     v: &[F],
     inverses: &[F],
     last: F,
 ) -> bool
-    requires quadratic { length quadratic.now ≡ plan.now.params.dblock }
-    requires column { length column.now ≡ plan.now.params.nrow }
-    requires v { length v.now ≡ plan.now.params.ntriple }
-    requires inverses { length inverses.now ≡ plan.now.params.dblock }
+    requires quadratic { length quadratic.now ≡ column.now.plan.now.params.dblock }
+    requires v { length v.now ≡ column.now.plan.now.params.ntriple }
+    requires inverses { length inverses.now ≡ column.now.plan.now.params.dblock }
     ensures { (point : ℕ) (values : List F) → quadratic.now ≡ weighted F.ops F.coding.element values
         → Extends F.ops F.coding.element point inverses.now last
-        → (IsTrue result ↔ IsQuadraticIn F.ops F.coding.element plan.now.params column.now point values v.now) }
+        → (IsTrue result ↔ IsQuadraticIn F.ops F.coding.element column.now.plan.now.params column.now.elements.now point
+        values v.now) }
 {
-    extend_to(quadratic, inverses, last, quadratic_sum(plan, column, v))
+    extend_to(quadratic, inverses, last, quadratic_sum(column, v))
 }

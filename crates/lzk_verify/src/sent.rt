@@ -63,47 +63,50 @@ pub(crate) fn place_of<F: Field>(plan: &Plan<'_, F>, part: ProofPart) -> Option<
     }
 }
 
+/// All elements that a proof sends before its columns are drawn.
+#[derive(Drop)]
+pub(crate) struct Sent<'s, 'c, F: Field> {
+    pub(crate) plan: &'s Plan<'c, F>,
+    pub(crate) elements: &'s [F],
+    ghost all: { length elements.now ≡ sent_count plan.now.params },
+}
+
 /// What the sumchecks send.
-pub(crate) fn messages_of<'a, F: Field>(plan: &Plan<'_, F>, sent: &'a [F]) -> &'a [F]
-    requires all { length sent.now ≡ sent_count plan.now.params }
-    ensures value { result.now ≡ messages_in plan.now.params sent.now }
-    ensures length { length result.now ≡ plan.now.params.nsum }
+pub(crate) fn messages_of<'s, F: Field>(sent: &Sent<'s, '_, F>) -> &'s [F]
+    ensures value { result.now ≡ messages_in sent.now.plan.now.params sent.now.elements.now }
+    ensures length { length result.now ≡ sent.now.plan.now.params.nsum }
 {
-    &sent[..ldt_start(plan)]
+    &sent.elements[..ldt_start(sent.plan)]
 }
 
 /// The low degree answer.
-pub(crate) fn ldt_of<'a, F: Field>(plan: &Plan<'_, F>, sent: &'a [F]) -> &'a [F]
-    requires all { length sent.now ≡ sent_count plan.now.params }
-    ensures value { result.now ≡ ldt_in plan.now.params sent.now }
-    ensures length { length result.now ≡ plan.now.params.block }
+pub(crate) fn ldt_of<'s, F: Field>(sent: &Sent<'s, '_, F>) -> &'s [F]
+    ensures value { result.now ≡ ldt_in sent.now.plan.now.params sent.now.elements.now }
+    ensures length { length result.now ≡ sent.now.plan.now.params.block }
 {
-    &sent[ldt_start(plan)..dot_start(plan)]
+    &sent.elements[ldt_start(sent.plan)..dot_start(sent.plan)]
 }
 
 /// The linear answer.
-pub(crate) fn dot_of<'a, F: Field>(plan: &Plan<'_, F>, sent: &'a [F]) -> &'a [F]
-    requires all { length sent.now ≡ sent_count plan.now.params }
-    ensures value { result.now ≡ dot_in plan.now.params sent.now }
-    ensures length { length result.now ≡ plan.now.params.dblock }
+pub(crate) fn dot_of<'s, F: Field>(sent: &Sent<'s, '_, F>) -> &'s [F]
+    ensures value { result.now ≡ dot_in sent.now.plan.now.params sent.now.elements.now }
+    ensures length { length result.now ≡ sent.now.plan.now.params.dblock }
 {
-    &sent[dot_start(plan)..head_start(plan)]
+    &sent.elements[dot_start(sent.plan)..head_start(sent.plan)]
 }
 
 /// The quadratic answer's first values.
-pub(crate) fn head_of<'a, F: Field>(plan: &Plan<'_, F>, sent: &'a [F]) -> &'a [F]
-    requires all { length sent.now ≡ sent_count plan.now.params }
-    ensures value { result.now ≡ head_in plan.now.params sent.now }
+pub(crate) fn head_of<'s, F: Field>(sent: &Sent<'s, '_, F>) -> &'s [F]
+    ensures value { result.now ≡ head_in sent.now.plan.now.params sent.now.elements.now }
     ensures length { length result.now ≡ 128 }
 {
-    &sent[head_start(plan)..tail_start(plan)]
+    &sent.elements[head_start(sent.plan)..tail_start(sent.plan)]
 }
 
 /// Its last ones.
-pub(crate) fn tail_of<'a, F: Field>(plan: &Plan<'_, F>, sent: &'a [F]) -> &'a [F]
-    requires all { length sent.now ≡ sent_count plan.now.params }
-    ensures value { result.now ≡ tail_in plan.now.params sent.now }
-    ensures length { length result.now ≡ plan.now.params.dblock - plan.now.params.block }
+pub(crate) fn tail_of<'s, F: Field>(sent: &Sent<'s, '_, F>) -> &'s [F]
+    ensures value { result.now ≡ tail_in sent.now.plan.now.params sent.now.elements.now }
+    ensures length { length result.now ≡ sent.now.plan.now.params.dblock - sent.now.plan.now.params.block }
 {
-    &sent[tail_start(plan)..]
+    &sent.elements[tail_start(sent.plan)..]
 }

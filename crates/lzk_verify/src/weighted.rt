@@ -7,11 +7,10 @@ ghost use Rattle.lzk_accept.specs.Factored.{HasRoomFor};
 ghost use Rattle.lzk_verify.specs.Desk as spec;
 ghost use Rattle.lzk_verify.specs.Desk.{AreAnswers, AreRows, AreWeightedRows, HasFactors};
 ghost use Rattle.lzk_verify.specs.Extending.{weight, weighted};
-ghost use Rattle.lzk_verify.specs.Kept.{sent_count};
 
 use crate::linear::FACTORS;
 use crate::quadratic::fill_quadratic;
-use crate::sent::{dot_of, head_of, ldt_of, tail_of};
+use crate::sent::{Sent, dot_of, ldt_of};
 use lzk_accept::Factored;
 use lzk_circuit::zeros;
 use lzk_field::Field;
@@ -89,33 +88,23 @@ impl<F: Field> Weighted<F> {
 
     /// Sets the answers among the elements that a proof sends. `rows` are the weights of the values of a row, and
     /// `products` those of a product of two rows.
-    pub(crate) fn set(
-        &mut self,
-        plan: &Plan<'_, F>,
-        rows: &Weights<F>,
-        products: &Weights<F>,
-        sent: &[F],
-    )
-        requires room { AreAnswers plan.now.params self.old }
-        requires rows { rows.now ≡ spec.rows plan.now.params }
-        requires products { products.now ≡ spec.products plan.now.params }
-        requires sent { length sent.now ≡ sent_count plan.now.params }
-        ensures { self.new ≡ spec.weighted_answers F.ops F.coding.element plan.now.params sent.now }
+    pub(crate) fn set(&mut self, sent: &Sent<'_, '_, F>, rows: &Weights<F>, products: &Weights<F>)
+        requires room { AreAnswers sent.now.plan.now.params self.old }
+        requires rows { rows.now ≡ spec.rows sent.now.plan.now.params }
+        requires products { products.now ≡ spec.products sent.now.plan.now.params }
+        ensures { self.new
+            ≡ spec.weighted_answers F.ops F.coding.element sent.now.plan.now.params sent.now.elements.now }
     {
-        set_weighted(rows, ldt_of(plan, sent), &mut self.ldt);
-        set_weighted(products, dot_of(plan, sent), &mut self.dot);
-        let head = head_of(plan, sent);
-        let tail = tail_of(plan, sent);
-        fill_quadratic(plan, head, tail, &mut self.quadratic);
+        set_weighted(rows, ldt_of(sent), &mut self.ldt);
+        set_weighted(products, dot_of(sent), &mut self.dot);
+        fill_quadratic(sent, &mut self.quadratic);
         weigh(products, &mut self.quadratic);
     }
 }
 
 // Each entry of each row of a table, times its weight.
 fn weigh_table<F: Field>(own: &[F], count: usize, table: &mut [F])
-    requires few { count ≤ 265 }
-    requires width { length own.now ≤ 512 }
-    requires room { length table.old ≡ count * length own.now }
+    requires { length table.old ≡ count * length own.now }
     ensures length { length table.new ≡ length table.old }
     ensures each { let o = F.ops in
         (i s : ℕ) → i < count → s < length own.now

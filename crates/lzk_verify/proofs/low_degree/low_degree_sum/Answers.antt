@@ -7,8 +7,8 @@ use Rattle.lzk_verify.proofs.low_degree.low_degree_sum.Goals as goal
 pub returns : goal.returns
 returns g c =
     let o = g.F.Field.ops in
-    let column = c.args.column.now in
-    let first : c.index-column-0.result ≡ entry o column 0 =
-    c.index-column-0.is ∙ get_or_default column 0 c.index-column-0.result o.zero (omega (arith, c.requires.column, c.args.plan.now.bounded.rows)) in
+    let column = c.args.column.now.elements.now in
+    let first : c.index-elements-0.result ≡ entry o column 0 =
+    c.index-elements-0.is ∙ get_or_default column 0 c.index-elements-0.result o.zero (omega (arith, c.args.column.now.whole, c.args.column.now.plan.now.bounded.rows)) in
     c.add.ensures ∙ ap (λ w. o.plus w c.dot.result) first
     ∙ ap (o.plus (entry o column 0)) (c.dot.ensures ∙ ap (dot_product o c.args.u.now) (take_all (length column - 3) (drop 3 column) (omega (arith, length-drop 3 column))) ∙ dot_behind o g.F.Field.laws.ring c.args.u.now column 3 _ (entry o column) c.requires.u (λ i h. refl))

@@ -6,4 +6,4 @@ use Rattle.lzk_verify.proofs.quadratic.quadratic_sum.Given as goal
 abbrev pub invariant-loop-i : goal.invariant-loop-i
 invariant-loop-i g l =
     let o = g.F.Field.ops in
-    l.sum ≡ sum_below o l.i (λ i. o.times (entry o l.v i) (minus o (o.times (in_triple o l.fn.plan.params l.column i 0) (in_triple o l.fn.plan.params l.column i 1)) (in_triple o l.fn.plan.params l.column i 2)))
+    l.sum ≡ sum_below o l.i (λ i. o.times (entry o l.v i) (minus o (o.times (in_triple o l.fn.column.plan.now.params l.fn.column.elements.now i 0) (in_triple o l.fn.column.plan.now.params l.fn.column.elements.now i 1)) (in_triple o l.fn.column.plan.now.params l.fn.column.elements.now i 2)))

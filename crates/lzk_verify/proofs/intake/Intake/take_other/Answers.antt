@@ -3,168 +3,120 @@ use Rattle.std.specs.Prelude.{slice_set, take, ◌++◌, ◌∷◌}
 use Rattle.lzk_field.specs.Bytes.{number_from}
 use Rattle.std.proofs.lemmas.List.{length_push}
 use Rattle.lzk_layout.specs.Fields.{shape}
-use Rattle.lzk_layout.specs.Fronts.{digests_in, IsWholeField}
-use Rattle.lzk_layout.specs.Parts.{number_of}
+use Rattle.lzk_layout.specs.Fronts.{IsWholeField}
 use Rattle.lzk_verify.specs.declared.intake.Intake.{Intake}
 use Rattle.lzk_verify.proofs.FieldSteps.{earlier, newest}
-use Rattle.lzk_verify.proofs.Stored.{kept_stored, stored_kept}
+use Rattle.lzk_verify.proofs.Stored.{stored_kept}
 use Rattle.lzk_verify.proofs.TakingColumns.{stored_nonce, stored_element, stored_checked, stored_count, stored_digest}
 use Rattle.lzk_verify.proofs.SentPlaces.{field_all, field_element, element_small}
 use Rattle.lzk_verify.proofs.TakingFirst.{stored_first}
+use Rattle.lzk_verify.proofs.TakingOther.{taken}
 use Rattle.lzk_verify.proofs.intake.Intake.take_other.Goals as goal
 
 pub returns-in-Magic-clause-kept : goal.returns-in-Magic-clause-kept
 returns-in-Magic-clause-kept g c = λ session public fields number h.
     let f = g.F.Field in
-    let e = f.coding in
     let w = c.args.plan.now.circuit.now in
     let p = c.args.plan.now.params in
     let k = c.args.self.now in
-    let s = kept_stored f.ops e w p session public fields k [] (digests_in p fields) h in
-    let b = c.args.plan.now.bounded in
-    let lists = c.requires.sound.lists in
-    let at = number ∙ ap (λ x. number_of p x) c.in-Magic.is in
+    let t = taken f.ops f.coding w p session public fields k c.args.block.now c.args.width _ _ c.in-Magic.is number c.requires.whole h in
     let field = take c.args.width c.args.block.now in
-    let whole = subst (λ x. IsWholeField (shape f.coding.bytes f.coding.size) p x c.args.block.now c.args.width) c.in-Magic.is c.requires.whole in
-    let has = whole.has in
-    stored_kept f.ops e w p session public (fields ++ field ∷ []) k []
-    (stored_first f.ops e w p session public fields field k k s (record { public = refl; tape = λ x. refl; failing = refl; count = refl; digests = refl }) (omega (arith, at)) refl
-    (λ x. absurd (omega (arith, x, at, length_push fields field))) (λ x. absurd (omega (arith, x, at, length_push fields field))))
+    stored_kept f.ops f.coding w p session public (fields ++ field ∷ []) k []
+    (stored_first f.ops f.coding w p session public fields field k k t.stored (record { public = refl; tape = λ x. refl; failing = refl; count = refl; digests = refl }) (omega (arith, t.at)) refl
+    (λ x. absurd (omega (arith, x, t.at, length_push fields field))) (λ x. absurd (omega (arith, x, t.at, length_push fields field))))
 
 pub returns-in-Id-clause-kept : goal.returns-in-Id-clause-kept
 returns-in-Id-clause-kept g c = λ session public fields number h.
     let f = g.F.Field in
-    let e = f.coding in
     let w = c.args.plan.now.circuit.now in
     let p = c.args.plan.now.params in
     let k = c.args.self.now in
-    let s = kept_stored f.ops e w p session public fields k [] (digests_in p fields) h in
-    let b = c.args.plan.now.bounded in
-    let lists = c.requires.sound.lists in
-    let at = number ∙ ap (λ x. number_of p x) c.in-Id.is in
+    let t = taken f.ops f.coding w p session public fields k c.args.block.now c.args.width _ _ c.in-Id.is number c.requires.whole h in
     let field = take c.args.width c.args.block.now in
-    let whole = subst (λ x. IsWholeField (shape f.coding.bytes f.coding.size) p x c.args.block.now c.args.width) c.in-Id.is c.requires.whole in
-    let has = whole.has in
-    stored_kept f.ops e w p session public (fields ++ field ∷ []) (record k { id = c.args.block.now }) []
-    (stored_first f.ops e w p session public fields field k (record k { id = c.args.block.now }) s (record { public = refl; tape = λ x. refl; failing = refl; count = refl; digests = refl }) (omega (arith, at)) refl
-    (λ x. sym (newest fields field 1 at ∙ field_all f.coding.bytes f.coding.size c.args.width c.args.block.now (omega arith) whole.passes))
-    (λ x. absurd (omega (arith, x, at, length_push fields field))))
+    stored_kept f.ops f.coding w p session public (fields ++ field ∷ []) (record k { id = c.args.block.now }) []
+    (stored_first f.ops f.coding w p session public fields field k (record k { id = c.args.block.now }) t.stored (record { public = refl; tape = λ x. refl; failing = refl; count = refl; digests = refl }) (omega (arith, t.at)) refl
+    (λ x. sym (newest fields field 1 t.at ∙ field_all f.coding.bytes f.coding.size c.args.width c.args.block.now (omega arith) t.whole.passes))
+    (λ x. absurd (omega (arith, x, t.at, length_push fields field))))
 
 pub returns-in-Root-clause-kept : goal.returns-in-Root-clause-kept
 returns-in-Root-clause-kept g c = λ session public fields number h.
     let f = g.F.Field in
-    let e = f.coding in
     let w = c.args.plan.now.circuit.now in
     let p = c.args.plan.now.params in
     let k = c.args.self.now in
-    let s = kept_stored f.ops e w p session public fields k [] (digests_in p fields) h in
-    let b = c.args.plan.now.bounded in
-    let lists = c.requires.sound.lists in
-    let at = number ∙ ap (λ x. number_of p x) c.in-Root.is in
+    let t = taken f.ops f.coding w p session public fields k c.args.block.now c.args.width _ _ c.in-Root.is number c.requires.whole h in
     let field = take c.args.width c.args.block.now in
-    let whole = subst (λ x. IsWholeField (shape f.coding.bytes f.coding.size) p x c.args.block.now c.args.width) c.in-Root.is c.requires.whole in
-    let has = whole.has in
-    stored_kept f.ops e w p session public (fields ++ field ∷ []) (record k { root = c.args.block.now }) []
-    (stored_first f.ops e w p session public fields field k (record k { root = c.args.block.now }) s (record { public = refl; tape = λ x. refl; failing = refl; count = refl; digests = refl }) (omega (arith, at)) refl
-    (λ x. s.id_is (omega (arith, at)) ∙ sym (earlier fields field 1 (omega (arith, at))))
-    (λ x. sym (newest fields field 2 at ∙ field_all f.coding.bytes f.coding.size c.args.width c.args.block.now (omega arith) whole.passes)))
+    stored_kept f.ops f.coding w p session public (fields ++ field ∷ []) (record k { root = c.args.block.now }) []
+    (stored_first f.ops f.coding w p session public fields field k (record k { root = c.args.block.now }) t.stored (record { public = refl; tape = λ x. refl; failing = refl; count = refl; digests = refl }) (omega (arith, t.at)) refl
+    (λ x. t.stored.id_is (omega (arith, t.at)) ∙ sym (earlier fields field 1 (omega (arith, t.at))))
+    (λ x. sym (newest fields field 2 t.at ∙ field_all f.coding.bytes f.coding.size c.args.width c.args.block.now (omega arith) t.whole.passes)))
 
 pub returns-in-Nonce-clause-kept : goal.returns-in-Nonce-clause-kept
 returns-in-Nonce-clause-kept g c = λ session public fields number h.
     let f = g.F.Field in
-    let e = f.coding in
     let w = c.args.plan.now.circuit.now in
     let p = c.args.plan.now.params in
     let k = c.args.self.now in
-    let s = kept_stored f.ops e w p session public fields k [] (digests_in p fields) h in
-    let b = c.args.plan.now.bounded in
-    let lists = c.requires.sound.lists in
-    let at = number ∙ ap (λ x. number_of p x) c.in-Nonce.is in
+    let t = taken f.ops f.coding w p session public fields k c.args.block.now c.args.width _ _ c.in-Nonce.is number c.requires.whole h in
     let field = take c.args.width c.args.block.now in
-    let whole = subst (λ x. IsWholeField (shape f.coding.bytes f.coding.size) p x c.args.block.now c.args.width) c.in-Nonce.is c.requires.whole in
-    let has = whole.has in
-    stored_kept f.ops e w p session public (fields ++ field ∷ []) _ []
-    (stored_nonce f.ops e w p session public fields field (omega (arith, b.rows)) k (record k { nonce = c.args.block.now }) s (record { public = refl; is_drawn = refl; id = refl; root = refl; sent = refl; drawn = refl }) lists c.in-Nonce.field-0 at has
-    (sym (field_all f.coding.bytes f.coding.size c.args.width c.args.block.now (omega arith) whole.passes)) refl refl refl refl)
+    stored_kept f.ops f.coding w p session public (fields ++ field ∷ []) _ []
+    (stored_nonce f.ops f.coding w p session public fields field (omega (arith, c.args.plan.now.bounded.rows)) k (record k { nonce = c.args.block.now }) t.stored (record { public = refl; is_drawn = refl; id = refl; root = refl; sent = refl; drawn = refl }) c.requires.sound.lists c.in-Nonce.field-0 t.at t.whole.has
+    (sym (field_all f.coding.bytes f.coding.size c.args.width c.args.block.now (omega arith) t.whole.passes)) refl refl refl refl)
 
 pub returns-else-i-plan-clause-kept : goal.returns-else-i-plan-clause-kept
 returns-else-i-plan-clause-kept g c = λ session public fields number h.
     let f = g.F.Field in
-    let e = f.coding in
     let w = c.args.plan.now.circuit.now in
     let p = c.args.plan.now.params in
     let k = c.args.self.now in
-    let s = kept_stored f.ops e w p session public fields k [] (digests_in p fields) h in
-    let b = c.args.plan.now.bounded in
-    let lists = c.requires.sound.lists in
-    let at = number ∙ ap (λ x. number_of p x) c.in-Column.is in
+    let t = taken f.ops f.coding w p session public fields k c.args.block.now c.args.width _ _ c.in-Column.is number c.requires.whole h in
     let field = take c.args.width c.args.block.now in
-    let whole = subst (λ x. IsWholeField (shape f.coding.bytes f.coding.size) p x c.args.block.now c.args.width) c.in-Column.is c.requires.whole in
-    let has = whole.has in
     let j = c.in-Column.k in
     let i = c.in-Column.i in
-    stored_kept f.ops e w p session public (fields ++ field ∷ []) _ []
-    (stored_element f.ops e w p session public fields field (omega (arith, b.rows)) k _ s (record { public = refl; is_drawn = refl; id = refl; root = refl; sent = refl; drawn = refl }) lists j i c.element_of.result at has.0 has.1
-    (c.element_of.ensures ∙ ap (λ x. e.element (number_from x)) (sym (field_element f.coding.bytes f.coding.size c.args.width c.args.block.now whole.passes)))
-    (omega (arith, has.1)) refl refl refl refl refl refl)
+    stored_kept f.ops f.coding w p session public (fields ++ field ∷ []) _ []
+    (stored_element f.ops f.coding w p session public fields field (omega (arith, c.args.plan.now.bounded.rows)) k _ t.stored (record { public = refl; is_drawn = refl; id = refl; root = refl; sent = refl; drawn = refl }) c.requires.sound.lists j i c.element_of.result t.at t.whole.has.0 t.whole.has.1
+    (c.element_of.ensures ∙ ap (λ x. f.coding.element (number_from x)) (sym (field_element f.coding.bytes f.coding.size c.args.width c.args.block.now t.whole.passes)))
+    (omega (arith, t.whole.has.1)) refl refl refl refl refl refl)
 
 pub returns-then-i-plan-clause-kept : goal.returns-then-i-plan-clause-kept
 returns-then-i-plan-clause-kept g c = λ session public fields number h.
     let f = g.F.Field in
-    let e = f.coding in
     let w = c.args.plan.now.circuit.now in
     let p = c.args.plan.now.params in
     let k = c.args.self.now in
-    let s = kept_stored f.ops e w p session public fields k [] (digests_in p fields) h in
-    let b = c.args.plan.now.bounded in
-    let lists = c.requires.sound.lists in
-    let at = number ∙ ap (λ x. number_of p x) c.in-Column.is in
+    let t = taken f.ops f.coding w p session public fields k c.args.block.now c.args.width _ _ c.in-Column.is number c.requires.whole h in
     let field = take c.args.width c.args.block.now in
-    let whole = subst (λ x. IsWholeField (shape f.coding.bytes f.coding.size) p x c.args.block.now c.args.width) c.in-Column.is c.requires.whole in
-    let has = whole.has in
     let j = c.in-Column.k in
     let i = c.in-Column.i in
-    stored_kept f.ops e w p session public (fields ++ field ∷ []) _ []
-    (stored_checked f.ops e w p session public fields field (omega (arith, b.rows)) k c.check.new.self s (record { public = ap (λ (x : Intake g.row.F.Denot). x.public.items) c.check.ensures.others; is_drawn = ap (λ (x : Intake g.row.F.Denot). x.is_drawn) c.check.ensures.others; id = ap (λ (x : Intake g.row.F.Denot). x.id) c.check.ensures.others; root = ap (λ (x : Intake g.row.F.Denot). x.root) c.check.ensures.others; sent = ap (λ (x : Intake g.row.F.Denot). x.sent.items) c.check.ensures.others; drawn = ap (λ (x : Intake g.row.F.Denot). x.drawn) c.check.ensures.others }) lists j i c.element_of.result at has.0 has.1
-    (c.element_of.ensures ∙ ap (λ x. e.element (number_from x)) (sym (field_element f.coding.bytes f.coding.size c.args.width c.args.block.now whole.passes)))
+    stored_kept f.ops f.coding w p session public (fields ++ field ∷ []) _ []
+    (stored_checked f.ops f.coding w p session public fields field (omega (arith, c.args.plan.now.bounded.rows)) k c.check.new.self t.stored (record { public = ap (λ (x : Intake g.row.F.Denot). x.public.items) c.check.ensures.others; is_drawn = ap (λ (x : Intake g.row.F.Denot). x.is_drawn) c.check.ensures.others; id = ap (λ (x : Intake g.row.F.Denot). x.id) c.check.ensures.others; root = ap (λ (x : Intake g.row.F.Denot). x.root) c.check.ensures.others; sent = ap (λ (x : Intake g.row.F.Denot). x.sent.items) c.check.ensures.others; drawn = ap (λ (x : Intake g.row.F.Denot). x.drawn) c.check.ensures.others }) c.requires.sound.lists j i c.element_of.result t.at t.whole.has.0 t.whole.has.1
+    (c.element_of.ensures ∙ ap (λ x. f.coding.element (number_from x)) (sym (field_element f.coding.bytes f.coding.size c.args.width c.args.block.now t.whole.passes)))
     (omega arith) _ refl c.args.room.now c.requires.sound.ready c.check.ensures.leaf c.check.ensures.low_degree c.check.ensures.linear c.check.ensures.quadratic
     (ap (λ (x : Intake g.row.F.Denot). x.count) c.check.ensures.others) (ap (λ (x : Intake g.row.F.Denot). x.digests.items) c.check.ensures.others))
 
 pub returns-in-Count-clause-kept : goal.returns-in-Count-clause-kept
 returns-in-Count-clause-kept g c = λ session public fields number h.
     let f = g.F.Field in
-    let e = f.coding in
     let w = c.args.plan.now.circuit.now in
     let p = c.args.plan.now.params in
     let k = c.args.self.now in
-    let s = kept_stored f.ops e w p session public fields k [] (digests_in p fields) h in
-    let b = c.args.plan.now.bounded in
-    let lists = c.requires.sound.lists in
-    let at = number ∙ ap (λ x. number_of p x) c.in-Count.is in
+    let t = taken f.ops f.coding w p session public fields k c.args.block.now c.args.width _ _ c.in-Count.is number c.requires.whole h in
     let field = take c.args.width c.args.block.now in
-    let whole = subst (λ x. IsWholeField (shape f.coding.bytes f.coding.size) p x c.args.block.now c.args.width) c.in-Count.is c.requires.whole in
-    let has = whole.has in
-    stored_kept f.ops e w p session public (fields ++ field ∷ []) k []
-    (stored_count f.ops e w p session public fields field (omega (arith, b.rows)) k k s (record { public = refl; is_drawn = refl; id = refl; root = refl; sent = refl; drawn = refl }) lists (omega (arith, at)) at refl refl refl refl)
+    stored_kept f.ops f.coding w p session public (fields ++ field ∷ []) k []
+    (stored_count f.ops f.coding w p session public fields field (omega (arith, c.args.plan.now.bounded.rows)) k k t.stored (record { public = refl; is_drawn = refl; id = refl; root = refl; sent = refl; drawn = refl }) c.requires.sound.lists (omega (arith, t.at)) t.at refl refl refl refl)
 
 pub returns-in-Digest-clause-kept : goal.returns-in-Digest-clause-kept
 returns-in-Digest-clause-kept g c = λ session public fields number h.
     let f = g.F.Field in
-    let e = f.coding in
     let w = c.args.plan.now.circuit.now in
     let p = c.args.plan.now.params in
     let k = c.args.self.now in
-    let s = kept_stored f.ops e w p session public fields k [] (digests_in p fields) h in
-    let b = c.args.plan.now.bounded in
-    let lists = c.requires.sound.lists in
-    let at = number ∙ ap (λ x. number_of p x) c.in-Digest.is in
+    let t = taken f.ops f.coding w p session public fields k c.args.block.now c.args.width _ _ c.in-Digest.is number c.requires.whole h in
     let field = take c.args.width c.args.block.now in
-    let whole = subst (λ x. IsWholeField (shape f.coding.bytes f.coding.size) p x c.args.block.now c.args.width) c.in-Digest.is c.requires.whole in
-    let has = whole.has in
     let i = c.in-Digest.i in
-    let same = sym (field_all f.coding.bytes f.coding.size c.args.width c.args.block.now (omega arith) whole.passes) in
-    stored_kept f.ops e w p session public (fields ++ field ∷ []) _ []
-    (stored_digest f.ops e w p session public fields field (omega (arith, b.rows)) k _ s (record { public = refl; is_drawn = refl; id = refl; root = refl; sent = refl; drawn = refl }) lists (omega (arith, at)) i at has refl refl refl (ap (λ x. slice_set k.digests.items i x) same))
+    let same = sym (field_all f.coding.bytes f.coding.size c.args.width c.args.block.now (omega arith) t.whole.passes) in
+    stored_kept f.ops f.coding w p session public (fields ++ field ∷ []) _ []
+    (stored_digest f.ops f.coding w p session public fields field (omega (arith, c.args.plan.now.bounded.rows)) k _ t.stored (record { public = refl; is_drawn = refl; id = refl; root = refl; sent = refl; drawn = refl }) c.requires.sound.lists (omega (arith, t.at)) i t.at t.whole.has refl refl refl (ap (λ x. slice_set k.digests.items i x) same))
 
 pub element_of-requires-after_bounds : goal.element_of-requires-after_bounds
 element_of-requires-after_bounds g c κs within =
