@@ -1,5 +1,6 @@
 -- Rounds that are sent, one in front of the others.
-use Rattle.std.specs.Prelude.{◌≡◌, ℕ, ◌<◌, ◌≤◌, ◌+◌, ◌*◌, ◌-◌, ◌^◌, List, [], ◌∷◌, ◌++◌, length, drop, take}
+use Rattle.std.specs.Prelude.{◌≡◌, ℕ, ◌<◌, ◌≤◌, ◌+◌, ◌*◌, ◌-◌, ◌^◌, List, [], ◌∷◌, ◌++◌, length, drop, take, map, None, true}
+use Rattle.std.specs.List.{range_with_len}
 use Rattle.std.proofs.Common.{zero, suc, sym, ap, ◌∙◌, arith, subst}
 use Rattle.std.proofs.lemmas.List.{get_or_append_left, get_or-append_right, get_or-drop, length-drop, take_all}
 use Rattle.lzk_field.specs.Coding.{Coding}
@@ -8,9 +9,20 @@ use Rattle.lzk_field.specs.Sums.{entry, minus, sum_below}
 use Rattle.lzk_transcript.specs.Tape.{TapeState, drawn, after_draw}
 use Rattle.lzk_mle.specs.Multilinear.{tilde}
 use Rattle.lzk_mle.proofs.TableLaws.{extension-one}
-use Rattle.lzk_sumcheck.specs.Script.{with_pair}
+use Rattle.lzk_circuit.specs.declared.layer.Term.{Term}
+use Rattle.lzk_circuit.specs.Valid.{ArePlaced}
+use Rattle.lzk_circuit.specs.Wires.{weighed}
+use Rattle.lzk_rounds.specs.Pairs.{first_pair, spread}
+use Rattle.lzk_rounds.specs.Rows.{IsKept, counted}
+use Rattle.lzk_rounds.specs.Tables.{KeptTables, AreKept}
+use Rattle.lzk_rounds.proofs.KeptLaws.{first-kept}
+use Rattle.lzk_rounds.proofs.LayerSends.{drawn-front}
+use Rattle.lzk_sumcheck.specs.Layers.{layer_of_terms}
+use Rattle.lzk_sumcheck.specs.Script.{with_pair, round_challenge}
 use Rattle.lzk_sumcheck.specs.Sending.{after_sent, drawn_sent, AreSent}
 use Rattle.lzk_sumcheck.specs.States.{State, bind_state, after, total}
+use Rattle.lzk_sumcheck.proofs.SentLaws.{drawn-is}
+use Rattle.lzk_sumcheck.proofs.SumcheckLaws.{state_of}
 
 module _ {A : Type 0} (o : Ops A) (e : Coding A) where
   -- the challenges behind a first pair
@@ -29,6 +41,12 @@ module _ {A : Type 0} (o : Ops A) (e : Coding A) where
   after-step (a ∷ []) later m n t s two is es = absurd (omega arith)
   after-step (a ∷ b ∷ c ∷ now) later m n t s two is es = absurd (omega arith)
   after-step (a ∷ b ∷ []) later m n t s two is es = ap (λ k. after_sent o e (a ∷ b ∷ later) k t) is ∙ ap (after_sent o e later n) (sym es)
+
+  -- the challenges of a layer's rounds, which stand in front of its factors
+  pub all-drawn : (rounds factors : List A) (n k : ℕ) (t : TapeState) → n ≡ 2 * k → length rounds ≡ 2 * (2 * k)
+      → drawn_sent o e rounds n t ≡ map (round_challenge o e (rounds ++ factors) 0 t) (range_with_len 0 (2 * k))
+  all-drawn rounds factors n k t both size =
+      ap (λ v. drawn_sent o e rounds v t) both ∙ sym (drawn-front o e rounds factors (2 * k) t size) ∙ drawn-is o e (rounds ++ factors) (2 * k) t
 
 module _ {A : Type 0} (o : Ops A) where
   -- one of the two elements of each round
@@ -71,6 +89,18 @@ module _ {A : Type 0} (o : Ops A) (r : RingLaws o) where
   pub tilde-last : (table xs : List A) → length xs ≡ 0 → 1 ≤ length table → length table ≤ 2 ^ length xs → entry o table 0 ≡ tilde o table xs
   tilde-last table [] none some fits = tilde-one table (omega (arith, fits))
   tilde-last table (x ∷ xs) none some fits = absurd (omega arith)
+
+  -- the tables that a layer begins with keep its state
+  pub begun-kept : (terms : List (Term A)) (beta : A) (weights values : List A) (t : KeptTables A) (k i j : ℕ) → ArePlaced (length weights) (length values) None terms
+      → t.of_a ≡ true → t.scale ≡ o.one → ((n : ℕ) → entry o t.first n ≡ entry o values n) → ((n : ℕ) → entry o t.second n ≡ entry o values n)
+      → ((a b : ℕ) → counted o t.pairs t.linear a b ≡ spread o (map (first_pair o weights) (weighed o beta terms)) a b)
+      → i ≡ k → j ≡ k → AreKept o i j (state_of o (layer_of_terms o terms beta weights values k)) t
+  begun-kept terms beta weights values t k i j placed a scale first second sums ei ej =
+      let st = state_of o (layer_of_terms o terms beta weights values k) in
+      let kept = first-kept o r terms beta weights values t.first t.second t.linear t.pairs k placed first second sums in
+      let scaled = subst (λ x. IsKept o k k st true t.pairs x t.linear t.first t.second) (sym scale) kept in
+      let begun = subst (λ x. IsKept o k k st x t.pairs t.scale t.linear t.first t.second) (sym a) scaled in
+      subst (λ n. AreKept o n j st t) (sym ei) (subst (λ n. AreKept o k n st t) (sym ej) begun)
 
 -- what stands behind the first two, as a slice to the end
 pub rest-whole : {X : Type 0} (xs : List X) → take (length xs - 2) (drop 2 xs) ≡ drop 2 xs

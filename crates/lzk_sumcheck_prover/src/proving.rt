@@ -15,7 +15,7 @@ ghost use Rattle.lzk_sumcheck.specs.Coefficients.{terms_at, AreBounds};
 ghost use Rattle.lzk_sumcheck.specs.Draws.{draws};
 ghost use Rattle.lzk_sumcheck.specs.Layers.{layer_of_terms};
 ghost use Rattle.lzk_sumcheck.specs.Messages.{IsLayerSent, AreMessages};
-ghost use Rattle.lzk_rounds.specs.Orders.{AreOrders, IsOrderOf};
+ghost use Rattle.lzk_rounds.specs.Orders.{IsOrderOf};
 ghost use Rattle.lzk_rounds.specs.Room.{IsRoomOf};
 ghost use Rattle.lzk_sumcheck.specs.Rounds.{bound_coefficient};
 ghost use Rattle.lzk_sumcheck.specs.Script as spec;
@@ -23,8 +23,9 @@ ghost use Rattle.lzk_sumcheck.specs.Script.{with_pair, after_first, after_rounds
 ghost use Rattle.lzk_sumcheck.specs.Script.{after_layer, layer_scripts, after_layers, after_script, HasBits, HasShape};
 ghost use Rattle.lzk_sumcheck.specs.Sending.{AreRoundsSent};
 ghost use Rattle.lzk_sumcheck.specs.Weights.{weighted};
+ghost use Rattle.lzk_sumcheck_prover.specs.Scripts.{HaveBits};
 
-use crate::layer::send_layer;
+use crate::layer::{PaddedLayer, send_layer};
 use lzk_circuit::{Circuit, Values};
 use lzk_crew::Crew;
 use lzk_field::{Field, Open};
@@ -37,63 +38,56 @@ use lzk_transcript::Tape;
 // A layer: alpha and beta are drawn, and the rounds and the factors are sent; gives what the coefficients come to. The
 // tables are those of the layer's two points, and then those of the layer below; `weights` has a place for each wire.
 fn prove_layer<R: Hands, F: Field, G>(
-    crew: &Crew<R, G>,
+    layer: &PaddedLayer<R, F, G>,
     tape: &mut Tape,
     version: u8,
-    of: &LayerTerms<F>,
-    layer: &mut LayerScript<F>,
+    script: &mut LayerScript<F>,
     tables: &mut Tables<F>,
     weights: &mut [F],
-    pads: &[F],
     sent: &mut [F],
 ) -> F
-    requires bits { length layer.old.rb ≡ length layer.old.ra }
-    requires few { length layer.old.ra ≤ 17 }
-    requires terms { ArePlaced (length weights.old) (length of.now.values.now) None of.now.terms.now }
-    requires order { IsOrderOf of.now.terms.now of.now.order.now }
-    requires fits { length of.now.values.now ≤ 2 ^ length layer.old.ra }
+    requires bits { HasBits layer.now.bits script.old }
+    requires terms { ArePlaced (length weights.old) (length layer.now.of.values.now) None layer.now.of.terms.now }
+    requires order { IsOrderOf layer.now.of.terms.now layer.now.of.order.now }
     requires first { length weights.old ≤ length tables.old.first }
     requires second { length weights.old ≤ length tables.old.second }
-    requires places { 2 ^ length layer.old.ra ≤ tables.old.room.places }
-    requires pairs { length of.now.terms.now ≤ tables.old.room.pairs }
-    requires pads { length pads.now ≡ 4 * length layer.old.ra + 2 }
-    requires room { length sent.old ≡ 4 * length layer.old.ra + 2 }
+    requires places { 2 ^ layer.now.bits ≤ tables.old.room.places }
+    requires pairs { length layer.now.of.terms.now ≤ tables.old.room.pairs }
+    requires room { length sent.old ≡ 4 * layer.now.bits + 2 }
     ensures room { tables.new.room ≡ tables.old.room }
-    ensures script { layer.new ≡ layer_script F.ops F.coding sent.new version 0 (length layer.old.ra) tape.old }
-    ensures after { tape.new ≡ after_layer F.ops F.coding sent.new version 0 (length layer.old.ra) tape.old }
-    ensures rounds { let o = F.ops in let n = length layer.old.ra in
-        let w = weighted o layer.new.alpha tables.old.first tables.old.second (length weights.old) in
-        AreRoundsSent o F.coding.element (layer_of_terms o of.now.terms.now layer.new.beta w of.now.values.now n)
-        (map (round_challenge o F.coding sent.new 0 (after_first version tape.old)) (range_with_len 0 (2 * n)))
-        pads.now sent.new }
-    ensures factor_a { let o = F.ops in entry o sent.new (4 * length layer.old.ra)
-        ≡ minus o (tilde o of.now.values.now layer.new.ra) (entry o pads.now (4 * length layer.old.ra)) }
-    ensures factor_b { let o = F.ops in entry o sent.new (4 * length layer.old.ra + 1)
-        ≡ minus o (tilde o of.now.values.now layer.new.rb) (entry o pads.now (4 * length layer.old.ra + 1)) }
-    ensures bound { let w = weighted F.ops layer.new.alpha tables.old.first tables.old.second (length weights.old) in
-        result ≡ bound_coefficient F.ops (layer_coefficient F.ops of.now.terms.now layer.new.beta) w
-        (length of.now.values.now) layer.new.ra layer.new.rb }
-    ensures first_length { length tables.new.first ≡ 2 ^ length layer.old.ra }
-    ensures second_length { length tables.new.second ≡ 2 ^ length layer.old.ra }
-    ensures first { (i : ℕ) → i < 2 ^ length layer.old.ra → entry F.ops tables.new.first i ≡ eq F.ops i layer.new.ra }
-    ensures second { (i : ℕ) → i < 2 ^ length layer.old.ra → entry F.ops tables.new.second i ≡ eq F.ops i layer.new.rb }
+    ensures script { script.new ≡ layer_script F.ops F.coding sent.new version 0 layer.now.bits tape.old }
+    ensures after { tape.new ≡ after_layer F.ops F.coding sent.new version 0 layer.now.bits tape.old }
+    ensures rounds { let o = F.ops in let k = layer.now in
+        let w = weighted o script.new.alpha tables.old.first tables.old.second (length weights.old) in
+        AreRoundsSent o F.coding.element (layer_of_terms o k.of.terms.now script.new.beta w k.of.values.now k.bits)
+        (map (round_challenge o F.coding sent.new 0 (after_first version tape.old)) (range_with_len 0 (2 * k.bits)))
+        k.pads.now sent.new }
+    ensures factor_a { let o = F.ops in let k = layer.now in entry o sent.new (4 * k.bits)
+        ≡ minus o (tilde o k.of.values.now script.new.ra) (entry o k.pads.now (4 * k.bits)) }
+    ensures factor_b { let o = F.ops in let k = layer.now in entry o sent.new (4 * k.bits + 1)
+        ≡ minus o (tilde o k.of.values.now script.new.rb) (entry o k.pads.now (4 * k.bits + 1)) }
+    ensures bound { let w = weighted F.ops script.new.alpha tables.old.first tables.old.second (length weights.old) in
+        result ≡ bound_coefficient F.ops (layer_coefficient F.ops layer.now.of.terms.now script.new.beta) w
+        (length layer.now.of.values.now) script.new.ra script.new.rb }
+    ensures first_length { length tables.new.first ≡ 2 ^ layer.now.bits }
+    ensures second_length { length tables.new.second ≡ 2 ^ layer.now.bits }
+    ensures first { (i : ℕ) → i < 2 ^ layer.now.bits → entry F.ops tables.new.first i ≡ eq F.ops i script.new.ra }
+    ensures second { (i : ℕ) → i < 2 ^ layer.now.bits → entry F.ops tables.new.second i ≡ eq F.ops i script.new.rb }
 {
-    layer.alpha = tape.draw();
-    layer.beta = draw_beta(version, tape);
-    tables.weigh(layer.alpha, weights);
+    script.alpha = tape.draw();
+    script.beta = draw_beta(version, tape);
+    tables.weigh(script.alpha, weights);
     let bound = send_layer(
-        crew,
+        layer,
         tape,
-        of,
-        layer.beta,
+        script.beta,
         weights,
         tables,
-        pads,
         sent,
-        layer.ra.as_mut_slice(),
-        layer.rb.as_mut_slice(),
+        script.ra.as_mut_slice(),
+        script.rb.as_mut_slice(),
     );
-    tables.set_points(layer.ra.as_slice(), layer.rb.as_slice());
+    tables.set_points(script.ra.as_slice(), script.rb.as_slice());
     bound
 }
 
@@ -116,12 +110,18 @@ struct Assigned<'a, F: Field> {
     ghost count: { length pads.now ≡ sent_counts circuit.now },
 }
 
+// What is given to all layers: who sums their rounds, what is assigned, and orders of their terms.
+#[derive(Drop)]
+struct Given<'p, 'c, 'a, R, F: Field, G> {
+    crew: &'p Crew<'c, R, G>,
+    on: &'p Assigned<'a, F>,
+    orders: &'p [Order],
+}
+
 // Draws the outputs' point, and goes through all layers, the outputs' first.
 fn prove_list<R: Hands, F: Field, G>(
-    crew: &Crew<R, G>,
-    on: &Assigned<F>,
+    given: &Given<R, F, G>,
     tape: &mut Tape,
-    orders: &[Order],
     tables: &mut Tables<F>,
     weights: &mut [F],
     bounds: &mut [F],
@@ -129,51 +129,56 @@ fn prove_list<R: Hands, F: Field, G>(
     point: &mut [F],
     layers: &mut [LayerScript<F>],
 )
-    requires messages { length messages.old ≡ sent_counts on.now.circuit.now }
-    requires point { length point.old ≡ output_bits on.now.circuit.now }
-    requires depth { length layers.old ≡ depth on.now.circuit.now }
-    requires bits { (l : ℕ) (layer : declared.LayerScript F) → slice_get layers.old l ≡ Some layer →
-        HasBits (bits_under on.now.circuit.now l) layer }
-    requires orders { AreOrders on.now.circuit.now orders.now }
-    requires pairs { let c = on.now.circuit.now in
-        (l : ℕ) → l < depth c → length (terms_at c l) ≤ tables.old.room.pairs }
-    requires places { let c = on.now.circuit.now in
-        (l : ℕ) → l < depth c + 1 → 2 ^ bits (width_at c l) ≤ tables.old.room.places }
+    requires messages { length messages.old ≡ sent_counts given.now.on.now.circuit.now }
+    requires point { length point.old ≡ output_bits given.now.on.now.circuit.now }
+    requires layers { HaveBits given.now.on.now.circuit.now layers.old }
+    requires room { IsRoomOf given.now.on.now.circuit.now (record {
+      orders = given.now.orders.now;
+      pairs = tables.old.room.pairs;
+      places = tables.old.room.places;
+      bounds = bounds.old;
+    }) }
     requires weights { tables.old.room.places ≡ length weights.old }
-    requires bounds { length bounds.old ≡ depth on.now.circuit.now }
     ensures room { tables.new.room ≡ tables.old.room }
-    ensures point { point.new ≡ draws F.coding 0 (output_bits on.now.circuit.now) tape.old }
-    ensures scripts { let c = on.now.circuit.now in
+    ensures point { point.new ≡ draws F.coding 0 (output_bits given.now.on.now.circuit.now) tape.old }
+    ensures scripts { let c = given.now.on.now.circuit.now in
         layers.new ≡ layer_scripts F.ops F.coding messages.new c (after_draws (output_bits c) tape.old) }
-    ensures after { let c = on.now.circuit.now in
+    ensures after { let c = given.now.on.now.circuit.now in
         tape.new ≡ after_layers F.ops F.coding messages.new c (depth c) (after_draws (output_bits c) tape.old) }
-    ensures sent { let c = on.now.circuit.now in
-        (l : ℕ) → l < depth c → IsLayerSent F.ops F.coding.element c
-        (spec.script F.ops F.coding messages.new c tape.old) on.now.values.now.wires on.now.pads.now messages.new l }
-    ensures bounds { let c = on.now.circuit.now in
+    ensures sent { let c = given.now.on.now.circuit.now in
+        (l : ℕ) → l < depth c
+        → IsLayerSent F.ops F.coding.element c (spec.script F.ops F.coding messages.new c tape.old)
+        given.now.on.now.values.now.wires given.now.on.now.pads.now messages.new l }
+    ensures bounds { let c = given.now.on.now.circuit.now in
         AreBounds F.ops c (spec.script F.ops F.coding messages.new c tape.old) bounds.new }
 {
+    let on = given.on;
     let circuit = on.circuit;
     let (depth, version) = (circuit.depth(), circuit.version());
     draw_all(tape, point);
     tables.set_points(point, point);
     let mut places = LayerPlaces::first(circuit);
     for l in 0..depth {
-        let layer = &mut layers[l as usize];
         let begin = places.messages as usize;
-        let count = 4 * places.bits as usize + 2;
+        let bits = places.bits as usize;
+        let count = 4 * bits + 2;
         let (_, later) = messages.split_at_mut(begin);
         let (sent, _) = later.split_at_mut(count);
         let (wires, _) = weights.split_at_mut(circuit.width(l) as usize);
         let of = LayerTerms {
             terms: circuit.layer(l).terms.as_slice(),
-            order: orders[l as usize].as_slice(),
+            order: given.orders[l as usize].as_slice(),
             values: on.values.layer(l + 1),
         };
-        let pads = part(on.pads, begin, count);
-        bounds[l as usize] = prove_layer(
-            crew, tape, version, &of, layer, tables, wires, pads, sent,
-        );
+        let (crew, pads) = (given.crew, part(on.pads, begin, count));
+        let layer = PaddedLayer {
+            crew,
+            of,
+            bits,
+            pads,
+        };
+        let script = &mut layers[l as usize];
+        bounds[l as usize] = prove_layer(&layer, tape, version, script, tables, wires, sent);
         places = places.next(circuit, l);
     }
 }
@@ -191,9 +196,7 @@ fn prove_scripts<R: Hands, F: Field, G>(
     requires made { IsRoomOf on.now.circuit.now room.old }
     requires messages { length messages.old ≡ sent_counts on.now.circuit.now }
     requires point { length point.old ≡ output_bits on.now.circuit.now }
-    requires depth { length layers.old ≡ depth on.now.circuit.now }
-    requires bits { (l : ℕ) (layer : declared.LayerScript F) → slice_get layers.old l ≡ Some layer →
-        HasBits (bits_under on.now.circuit.now l) layer }
+    requires layers { HaveBits on.now.circuit.now layers.old }
     ensures made { IsRoomOf on.now.circuit.now room.new }
     ensures point { point.new ≡ draws F.coding 0 (output_bits on.now.circuit.now) tape.old }
     ensures scripts { let c = on.now.circuit.now in
@@ -207,11 +210,14 @@ fn prove_scripts<R: Hands, F: Field, G>(
     ensures bounds { let c = on.now.circuit.now in
         AreBounds F.ops c (spec.script F.ops F.coding messages.new c tape.old) room.new.bounds }
 {
-    prove_list(
+    let given = Given {
         crew,
         on,
+        orders: &room.orders,
+    };
+    prove_list(
+        &given,
         tape,
-        &room.orders,
         &mut room.tables,
         &mut room.weights,
         &mut room.bounds,

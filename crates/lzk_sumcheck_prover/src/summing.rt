@@ -2,7 +2,7 @@
 
 ghost use Rattle.std.specs.Prelude.{◌≡◌, ℕ, ◌+◌, ◌-◌, ◌*◌, ◌/◌, ◌^◌, ◌<◌, ◌≤◌, min, length};
 ghost use Rattle.lzk_sumcheck.specs.States.{State, bind_state, total};
-ghost use Rattle.lzk_rounds.specs.Parts.{AreMatching, AreSums, BeginsWithSums};
+ghost use Rattle.lzk_rounds.specs.Parts.{AreSums, BeginsWithSums};
 ghost use Rattle.lzk_rounds.specs.Rows.{round_at, row_at};
 ghost use Rattle.lzk_rounds.specs.Tables.{AreKept};
 
@@ -41,8 +41,6 @@ fn sum_in_parts<R: Hands, F: Field>(
 ) -> RoundSums<F>
     requires some { 1 ≤ parts }
     requires few { parts ≤ 64 }
-    requires matching { AreMatching round.now.of_a round.now.pairs.now round.now.linear.now round.now.first.now
-        round.now.second.now }
     requires rows { length round.now.first.now + 3 * 64 ≤ length rows.old }
     ensures { let r = round.now in
         AreSums F.ops (row_at F.ops r.of_a r.pairs.now r.scale r.linear.now r.second.now) r.first.now result }
@@ -52,9 +50,7 @@ fn sum_in_parts<R: Hands, F: Field>(
     let size = SUMS + 2 * each;
     let (used, _) = rows.split_at_mut(round.first.len() + SUMS * count);
     let one = |start: usize, part: &mut [F]|
-        requires { AreMatching round.now.of_a round.now.pairs.now round.now.linear.now round.now.first.now
-            round.now.second.now
-            × (0 < size)
+        requires { (0 < size)
             × (1 ≤ each)
             × (2 * (start / size * each) < length round.now.first.now)
             × (length part.now ≡ 3 + min (2 * each) (length round.now.first.now - 2 * (start / size * each))) }
@@ -75,9 +71,7 @@ pub(crate) fn sum_round<R: Hands, F: Field, G>(
     round: &Summed<F>,
     rows: &mut [F],
 ) -> RoundSums<F>
-    requires matching { AreMatching round.now.of_a round.now.pairs.now round.now.linear.now round.now.first.now
-        round.now.second.now }
-    requires rows { length round.now.first.now + 3 * 64 ≤ length rows.old }
+    requires { length round.now.first.now + 3 * 64 ≤ length rows.old }
     ensures { let r = round.now in
         AreSums F.ops (row_at F.ops r.of_a r.pairs.now r.scale r.linear.now r.second.now) r.first.now result }
 {

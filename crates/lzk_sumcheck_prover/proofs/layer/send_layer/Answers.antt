@@ -1,5 +1,5 @@
 use Rattle.std.proofs.Common.{◌≡◌, ◌+◌, ◌*◌, ◌^◌, ◌<◌, length, ap, sym, ◌∙◌, ◌++◌, arith, subst}
-use Rattle.std.specs.Prelude.{slice_set, true}
+use Rattle.std.specs.Prelude.{slice_set}
 use Rattle.std.proofs.lemmas.List.{get_or_default}
 use Rattle.std.proofs.lemmas.Nat.{pow_pos}
 use Rattle.lzk_field.specs.Sums.{minus}
@@ -7,15 +7,13 @@ use Rattle.lzk_mle.specs.Multilinear.{tilde}
 use Rattle.lzk_circuit.specs.Wires.{layer_coefficient}
 use Rattle.lzk_sumcheck.specs.Layers.{layer_of_terms}
 use Rattle.lzk_sumcheck.specs.Rounds.{of_a, of_b, bound_coefficient}
-use Rattle.lzk_rounds.specs.Rows.{IsKept}
 use Rattle.lzk_sumcheck.specs.Script.{with_pair, round_challenge}
 use Rattle.lzk_sumcheck.specs.Sending.{after_sent, drawn_sent, AreRoundsSent}
-use Rattle.lzk_rounds.specs.Tables.{AreKept}
-use Rattle.lzk_rounds.proofs.KeptLaws.{first-kept}
-use Rattle.lzk_rounds.proofs.LayerSends.{drawn-front, after-front, pair-behind, rounds-sent, tilde-padded, first-behind, second-behind}
+use Rattle.lzk_rounds.proofs.LayerSends.{after-front, pair-behind, rounds-sent, tilde-padded, first-behind, second-behind}
 use Rattle.lzk_sumcheck.proofs.ProvingLaws.{times-less}
-use Rattle.lzk_sumcheck.proofs.SentLaws.{after-is, drawn-is, length-drawn, evens, odds}
+use Rattle.lzk_sumcheck.proofs.SentLaws.{after-is, length-drawn, evens, odds}
 use Rattle.lzk_sumcheck.proofs.SumcheckLaws.{state_of, bound-is}
+use Rattle.lzk_sumcheck_prover.proofs.SendLaws.{all-drawn, begun-kept}
 use Rattle.lzk_sumcheck_prover.proofs.layer.send_layer.Goals as goal
 
 pub offset_bounds-1 : goal.offset_bounds-1
@@ -26,131 +24,61 @@ offset_bounds-1 g c =
 pub send_rounds-last-requires-clause-first_fits : goal.send_rounds-last-requires-clause-first_fits
 send_rounds-last-requires-clause-first_fits g c κs within =
     let k = length c.args.ra.now in
-    c.begin.ensures.first_least (2 ^ k) (omega (arith, pow_pos k)) c.requires.fits
+    let same : 2 ^ k ≡ 2 ^ c.args.layer.now.bits = ap (λ n. 2 ^ n) c.requires.a in
+    c.begin.ensures.first_least (2 ^ k) (omega (arith, pow_pos k)) (omega (arith, c.args.layer.now.fits, same))
 
 pub send_rounds-last-requires-clause-second_fits : goal.send_rounds-last-requires-clause-second_fits
 send_rounds-last-requires-clause-second_fits g c κs within =
     let k = length c.args.rb.now in
-    let same : 2 ^ k ≡ 2 ^ length c.args.ra.now = ap (λ n. 2 ^ n) c.requires.bits in
-    c.begin.ensures.second_least (2 ^ k) (omega (arith, pow_pos k)) (omega (arith, c.requires.fits, same))
+    let same : 2 ^ k ≡ 2 ^ c.args.layer.now.bits = ap (λ n. 2 ^ n) c.requires.b in
+    c.begin.ensures.second_least (2 ^ k) (omega (arith, pow_pos k)) (omega (arith, c.args.layer.now.fits, same))
 
-pub returns-clause-ra : goal.returns-clause-ra
-returns-clause-ra g c =
-    let m = g.F.Field in
-    let e = m.coding in
-    let k = length c.args.ra.now in
-    let both : k + length c.args.rb.now ≡ 2 * k = omega (arith, c.requires.bits) in
-    let rounds = c.send_rounds-last.new.sent in
-    let factors = slice_set (slice_set c.split_at_mut-rounds.result.1.now 0 c.sub.result) 1 c.sub-2.result in
-    let size : length rounds ≡ 2 * (2 * k) = omega (arith, c.send_rounds-last.auto.sent, c.split_at_mut-rounds.ensures.front_len) in
-    c.send_rounds-last.ensures.ra ∙ ap (λ v. of_a (drawn_sent m.ops e rounds v c.args.tape.now)) both ∙ sym (ap of_a (drawn-front m.ops e rounds factors (2 * k) c.args.tape.now size))
-    ∙ ap of_a (drawn-is m.ops e (rounds ++ factors) (2 * k) c.args.tape.now) ∙ evens m.ops (round_challenge m.ops e (rounds ++ factors) 0 c.args.tape.now) k
-
-pub returns-clause-rb : goal.returns-clause-rb
-returns-clause-rb g c =
-    let m = g.F.Field in
-    let e = m.coding in
-    let k = length c.args.ra.now in
-    let both : k + length c.args.rb.now ≡ 2 * k = omega (arith, c.requires.bits) in
-    let rounds = c.send_rounds-last.new.sent in
-    let factors = slice_set (slice_set c.split_at_mut-rounds.result.1.now 0 c.sub.result) 1 c.sub-2.result in
-    let size : length rounds ≡ 2 * (2 * k) = omega (arith, c.send_rounds-last.auto.sent, c.split_at_mut-rounds.ensures.front_len) in
-    c.send_rounds-last.ensures.rb ∙ ap (λ v. of_b (drawn_sent m.ops e rounds v c.args.tape.now)) both ∙ sym (ap of_b (drawn-front m.ops e rounds factors (2 * k) c.args.tape.now size))
-    ∙ ap of_b (drawn-is m.ops e (rounds ++ factors) (2 * k) c.args.tape.now) ∙ odds m.ops (round_challenge m.ops e (rounds ++ factors) 0 c.args.tape.now) k
-
-pub returns-clause-after : goal.returns-clause-after
-returns-clause-after g c =
-    let m = g.F.Field in
-    let o = m.ops in
-    let e = m.coding in
-    let k = length c.args.ra.now in
-    let both : k + length c.args.rb.now ≡ 2 * k = omega (arith, c.requires.bits) in
-    let rounds = c.send_rounds-last.new.sent in
-    let factors = slice_set (slice_set c.split_at_mut-rounds.result.1.now 0 c.sub.result) 1 c.sub-2.result in
-    let size : length rounds ≡ 2 * (2 * k) = omega (arith, c.send_rounds-last.auto.sent, c.split_at_mut-rounds.ensures.front_len) in
-    let front : length rounds ≡ 4 * k = omega (arith, size) in
-    let behind = c.send_rounds-last.ensures.after ∙ ap (λ v. after_sent o e rounds v c.args.tape.now) both ∙ sym (after-front o e rounds factors (2 * k) c.args.tape.now size) in
-    c.write_pair.ensures ∙ ap (with_pair o e factors 0) behind ∙ sym (pair-behind o e rounds factors (4 * k) (after_sent o e (rounds ++ factors) (2 * k) c.args.tape.now) front)
-    ∙ ap (with_pair o e (rounds ++ factors) (4 * k)) (after-is o e (rounds ++ factors) (2 * k) c.args.tape.now)
-
-pub returns-clause-rounds : goal.returns-clause-rounds
-returns-clause-rounds g c =
+pub returns : goal.returns
+returns g c =
     let m = g.F.Field in
     let o = m.ops in
     let r = m.laws.ring in
     let e = m.coding in
     let a = c.args in
-    let k = length a.ra.now in
-    let n = k + length a.rb.now in
-    let both : n ≡ 2 * k = omega (arith, c.requires.bits) in
-    let twice : 4 * k ≡ 2 * n = omega (arith, c.requires.bits) in
+    let req = c.requires in
+    let k = a.layer.now.bits in
+    let vs = a.layer.now.of.values.now in
+    let ts = a.layer.now.of.terms.now in
+    let pads = a.layer.now.pads.now in
+    let last = c.send_rounds-last.ensures in
+    let ra = c.send_rounds-last.new.ra in
+    let rb = c.send_rounds-last.new.rb in
     let rounds = c.send_rounds-last.new.sent in
-    let factors = slice_set (slice_set c.split_at_mut-rounds.result.1.now 0 c.sub.result) 1 c.sub-2.result in
-    let size : length rounds ≡ 2 * (2 * k) = omega (arith, c.send_rounds-last.auto.sent, c.split_at_mut-rounds.ensures.front_len) in
-    let front : length rounds ≡ 4 * k = omega (arith, size) in
-    let s = layer_of_terms o a.of.now.terms.now a.beta a.weights.now a.of.now.values.now k in
-    let t = c.begin.new.self in
-    let kept = first-kept o r a.of.now.terms.now a.beta a.weights.now a.of.now.values.now t.first t.second t.linear t.pairs k
-    c.requires.terms c.begin.ensures.first c.begin.ensures.second c.begin.ensures.sums in
-    let scaled = subst (λ x. IsKept o k k (state_of o s) true t.pairs x t.linear t.first t.second) (sym c.begin.ensures.scale) kept in
-    let begun = subst (λ x. IsKept o k k (state_of o s) x t.pairs t.scale t.linear t.first t.second) (sym c.begin.ensures.of_a) scaled in
-    let equal : k ≡ length a.rb.now = omega (arith, c.requires.bits) in
-    let sent = c.send_rounds-last.ensures.sent (state_of o s)
-    (subst (λ n. AreKept o k n (state_of o s) t) equal begun) in
-    let drawn = ap (λ v. drawn_sent o e rounds v a.tape.now) both ∙ sym (drawn-front o e rounds factors (2 * k) a.tape.now size) ∙ drawn-is o e (rounds ++ factors) (2 * k) a.tape.now in
-    subst (λ cs. AreRoundsSent o m.coding.element s cs a.pads.now (rounds ++ factors)) drawn
-    (rounds-sent o r m.coding.element s (drawn_sent o e rounds n a.tape.now) a.pads.now rounds factors (4 * k) n c.requires.fits both twice front sent)
-
-pub returns-clause-factor_a : goal.returns-clause-factor_a
-returns-clause-factor_a g c =
-    let m = g.F.Field in
-    let o = m.ops in
-    let a = c.args in
-    let k = length a.ra.now in
-    let rounds = c.send_rounds-last.new.sent in
+    let behind = c.split_at_mut-rounds.result.1.now in
+    let factors = slice_set (slice_set behind 0 c.sub.result) 1 c.sub-2.result in
+    let n = length a.ra.now + length a.rb.now in
+    let both : n ≡ 2 * k = omega (arith, req.a, req.b) in
     let front : length rounds ≡ 4 * k = omega (arith, c.send_rounds-last.auto.sent, c.split_at_mut-rounds.ensures.front_len) in
-    let two : length c.split_at_mut-rounds.result.1.now ≡ 2 = omega (arith, c.split_at_mut-rounds.ensures.back_len, c.requires.room) in
-    let value = c.send_rounds-last.ensures.factor_a
-    ∙ tilde-padded o m.laws.ring c.begin.new.self.first a.of.now.values.now c.send_rounds-last.new.ra c.begin.ensures.first_fits c.begin.ensures.first in
-    let pad = c.index-pads-count.is ∙ get_or_default a.pads.now (4 * k) c.index-pads-count.result o.zero (omega (arith, c.requires.pads)) in
-    first-behind o rounds c.split_at_mut-rounds.result.1.now (4 * k) c.sub.result c.sub-2.result front two
-    ∙ c.sub.ensures ∙ ap (λ w. minus o w c.index-pads-count.result) value ∙ ap (minus o (tilde o a.of.now.values.now c.send_rounds-last.new.ra)) pad
-
-pub returns-clause-factor_b : goal.returns-clause-factor_b
-returns-clause-factor_b g c =
-    let m = g.F.Field in
-    let o = m.ops in
-    let a = c.args in
-    let k = length a.ra.now in
-    let rounds = c.send_rounds-last.new.sent in
-    let front : length rounds ≡ 4 * k = omega (arith, c.send_rounds-last.auto.sent, c.split_at_mut-rounds.ensures.front_len) in
-    let two : length c.split_at_mut-rounds.result.1.now ≡ 2 = omega (arith, c.split_at_mut-rounds.ensures.back_len, c.requires.room) in
-    let value = c.send_rounds-last.ensures.factor_b
-    ∙ tilde-padded o m.laws.ring c.begin.new.self.second a.of.now.values.now c.send_rounds-last.new.rb c.begin.ensures.second_fits c.begin.ensures.second in
-    let pad = c.index-pads-count-2.is ∙ get_or_default a.pads.now (4 * k + 1) c.index-pads-count-2.result o.zero (omega (arith, c.requires.pads)) in
-    second-behind o rounds c.split_at_mut-rounds.result.1.now (4 * k) c.sub.result c.sub-2.result front two
-    ∙ c.sub-2.ensures ∙ ap (λ w. minus o w c.index-pads-count-2.result) value ∙ ap (minus o (tilde o a.of.now.values.now c.send_rounds-last.new.rb)) pad
-
-pub returns-clause-bound : goal.returns-clause-bound
-returns-clause-bound g c =
-    let m = g.F.Field in
-    let o = m.ops in
-    let r = m.laws.ring in
-    let e = m.coding in
-    let a = c.args in
-    let k = length a.ra.now in
-    let n = k + length a.rb.now in
-    let both : n ≡ 2 * k = omega (arith, c.requires.bits) in
-    let s = layer_of_terms o a.of.now.terms.now a.beta a.weights.now a.of.now.values.now k in
+    let size : length rounds ≡ 2 * (2 * k) = omega (arith, front) in
+    let two : length behind ≡ 2 = omega (arith, c.split_at_mut-rounds.ensures.back_len, req.room) in
+    let drawn = drawn_sent o e rounds n a.tape.now in
+    let drawn_is = all-drawn o e rounds factors n k a.tape.now both size in
+    let s = layer_of_terms o ts a.beta a.weights.now vs k in
     let t = c.begin.new.self in
-    let kept = first-kept o r a.of.now.terms.now a.beta a.weights.now a.of.now.values.now t.first t.second t.linear t.pairs k
-    c.requires.terms c.begin.ensures.first c.begin.ensures.second c.begin.ensures.sums in
-    let scaled = subst (λ x. IsKept o k k (state_of o s) true t.pairs x t.linear t.first t.second) (sym c.begin.ensures.scale) kept in
-    let begun = subst (λ x. IsKept o k k (state_of o s) x t.pairs t.scale t.linear t.first t.second) (sym c.begin.ensures.of_a) scaled in
-    let equal : k ≡ length a.rb.now = omega (arith, c.requires.bits) in
-    let drawn = drawn_sent o e c.send_rounds-last.new.sent n a.tape.now in
-    c.send_rounds-last.ensures.bound (state_of o s)
-    (subst (λ j. AreKept o k j (state_of o s) t) equal begun)
-    ∙ bound-is o r s drawn c.requires.fits (length-drawn o e c.send_rounds-last.new.sent n a.tape.now ∙ both)
-    ∙ ap (λ xs. bound_coefficient o (layer_coefficient o a.of.now.terms.now a.beta) a.weights.now (length a.of.now.values.now) xs (of_b drawn)) (sym c.send_rounds-last.ensures.ra)
-    ∙ ap (bound_coefficient o (layer_coefficient o a.of.now.terms.now a.beta) a.weights.now (length a.of.now.values.now) c.send_rounds-last.new.ra) (sym c.send_rounds-last.ensures.rb)
+    let begun = begun-kept o r ts a.beta a.weights.now vs t k (length a.ra.now) (length a.rb.now) req.terms
+    c.begin.ensures.of_a c.begin.ensures.scale c.begin.ensures.first c.begin.ensures.second c.begin.ensures.sums req.a req.b in
+    record {
+      room = last.room ∙ c.begin.ensures.room;
+      ra = last.ra ∙ ap of_a drawn_is ∙ evens o (round_challenge o e (rounds ++ factors) 0 a.tape.now) k;
+      rb = last.rb ∙ ap of_b drawn_is ∙ odds o (round_challenge o e (rounds ++ factors) 0 a.tape.now) k;
+      after = c.write_pair.ensures
+          ∙ ap (with_pair o e factors 0) (last.after ∙ ap (λ v. after_sent o e rounds v a.tape.now) both ∙ sym (after-front o e rounds factors (2 * k) a.tape.now size))
+          ∙ sym (pair-behind o e rounds factors (4 * k) (after_sent o e (rounds ++ factors) (2 * k) a.tape.now) front)
+          ∙ ap (with_pair o e (rounds ++ factors) (4 * k)) (after-is o e (rounds ++ factors) (2 * k) a.tape.now);
+      rounds = subst (λ cs. AreRoundsSent o e.element s cs pads (rounds ++ factors)) drawn_is
+          (rounds-sent o r e.element s drawn pads rounds factors (4 * k) n a.layer.now.fits both (omega (arith, both)) front (last.sent (state_of o s) begun));
+      factor_a = first-behind o rounds behind (4 * k) c.sub.result c.sub-2.result front two
+          ∙ c.sub.ensures ∙ ap (λ w. minus o w c.index-pads-count.result) (last.factor_a ∙ tilde-padded o r t.first vs ra c.begin.ensures.first_fits c.begin.ensures.first)
+          ∙ ap (minus o (tilde o vs ra)) (c.index-pads-count.is ∙ get_or_default pads (4 * k) c.index-pads-count.result o.zero (omega (arith, a.layer.now.count)));
+      factor_b = second-behind o rounds behind (4 * k) c.sub.result c.sub-2.result front two
+          ∙ c.sub-2.ensures ∙ ap (λ w. minus o w c.index-pads-count-2.result) (last.factor_b ∙ tilde-padded o r t.second vs rb c.begin.ensures.second_fits c.begin.ensures.second)
+          ∙ ap (minus o (tilde o vs rb)) (c.index-pads-count-2.is ∙ get_or_default pads (4 * k + 1) c.index-pads-count-2.result o.zero (omega (arith, a.layer.now.count)));
+      bound = last.bound (state_of o s) begun ∙ bound-is o r s drawn a.layer.now.fits (length-drawn o e rounds n a.tape.now ∙ both)
+          ∙ ap (λ xs. bound_coefficient o (layer_coefficient o ts a.beta) a.weights.now (length vs) xs (of_b drawn)) (sym last.ra)
+          ∙ ap (bound_coefficient o (layer_coefficient o ts a.beta) a.weights.now (length vs) ra) (sym last.rb);
+    }

@@ -1,5 +1,4 @@
 use Rattle.std.proofs.Common.{◌≡◌, length, sym, ap, ◌∙◌, arith, subst}
-use Rattle.std.specs.Prelude.{slice_get}
 use Rattle.std.specs.Vec.{with_items}
 use Rattle.std.proofs.lemmas.List.{with_items_is}
 use Rattle.lzk_sumcheck.specs.Coefficients.{AreBounds}
@@ -7,27 +6,25 @@ use Rattle.lzk_rounds.specs.Orders.{AreOrders}
 use Rattle.lzk_rounds.specs.Room.{RoundsRoom}
 use Rattle.lzk_sumcheck.specs.Script as spec
 use Rattle.lzk_rounds.specs.Tables.{TableRoom}
+use Rattle.lzk_sumcheck_prover.specs.Scripts.{HaveBits}
 use Rattle.lzk_sumcheck_prover.proofs.proving.prove_scripts.Goals as goal
 
-pub prove_list-requires-clause-bits : goal.prove_list-requires-clause-bits
-prove_list-requires-clause-bits g c κs within = λ l layer is. c.requires.bits l layer (ap (λ xs. slice_get xs l) (sym (c.deref_mut-3.ensures.value ∙ c.layers.view_is)) ∙ is)
+pub prove_list-requires-clause-layers : goal.prove_list-requires-clause-layers
+prove_list-requires-clause-layers g c κs within = subst (HaveBits c.args.on.now.circuit.now) (sym (c.deref_mut-3.ensures.value ∙ c.layers.view_is)) c.requires.layers
 
-pub prove_list-requires-clause-orders : goal.prove_list-requires-clause-orders
-prove_list-requires-clause-orders g c κs within =
-    subst (AreOrders c.args.on.now.circuit.now) (sym (c.deref.ensures.value ∙ ap (λ (x : RoundsRoom _). x.orders) c.room.view_is))
-    c.requires.made.orders
-
-pub prove_list-requires-clause-pairs : goal.prove_list-requires-clause-pairs
-prove_list-requires-clause-pairs g c κs within = λ l h. omega (arith, c.requires.made.pairs l h, ap (λ (x : RoundsRoom _). x.pairs) c.room.view_is)
-
-pub prove_list-requires-clause-places : goal.prove_list-requires-clause-places
-prove_list-requires-clause-places g c κs within = λ l h. omega (arith, c.requires.made.places l h, ap (λ (x : RoundsRoom _). x.places) c.room.view_is, c.room.invariant)
+pub prove_list-requires-clause-room : goal.prove_list-requires-clause-room
+prove_list-requires-clause-room g c κs within =
+    let w = c.args.on.now.circuit.now in
+    let made = c.requires.made in
+    record {
+      orders = subst (AreOrders w) (sym (c.deref.ensures.value ∙ ap (λ (x : RoundsRoom _). x.orders) c.room.view_is)) made.orders;
+      pairs = λ l h. omega (arith, made.pairs l h, ap (λ (x : RoundsRoom _). x.pairs) c.room.view_is);
+      places = λ l h. omega (arith, made.places l h, ap (λ (x : RoundsRoom _). x.places) c.room.view_is, c.room.invariant);
+      bounds = ap length (c.deref_mut-2.ensures.value ∙ ap (λ (x : RoundsRoom _). x.bounds) c.room.view_is) ∙ made.bounds;
+    }
 
 pub prove_list-requires-clause-weights : goal.prove_list-requires-clause-weights
 prove_list-requires-clause-weights g c κs within = c.room.invariant ∙ sym (ap length c.deref_mut.ensures.value)
-
-pub prove_list-requires-clause-bounds : goal.prove_list-requires-clause-bounds
-prove_list-requires-clause-bounds g c κs within = ap length (c.deref_mut-2.ensures.value ∙ ap (λ (x : RoundsRoom _). x.bounds) c.room.view_is) ∙ c.requires.made.bounds
 
 pub invariant_of-room : goal.invariant_of-room
 invariant_of-room g c =

@@ -12,7 +12,7 @@ pub overflow_add-round : goal.overflow_add-round
 overflow_add-round g c =
     let n = length c.args.round.now.first.now in
     let each = c.div_ceil-each.result in
-    let share = shared n c.args.parts c.div_ceil.result each c.requires.matching.first c.requires.some c.div_ceil.ensures c.div_ceil-each.ensures in
+    let share = shared n c.args.parts c.div_ceil.result each c.args.round.now.matching.first c.requires.some c.div_ceil.ensures c.div_ceil-each.ensures in
     let few = few_chunks n (2 * each) share.0 c.args.parts share.1 in
     omega (arith, few, c.div_ceil-count.ensures, c.requires.few, c.requires.rows)
 
@@ -20,7 +20,7 @@ pub split_at_mut-used-requires : goal.split_at_mut-used-requires
 split_at_mut-used-requires g c =
     let n = length c.args.round.now.first.now in
     let each = c.div_ceil-each.result in
-    let share = shared n c.args.parts c.div_ceil.result each c.requires.matching.first c.requires.some c.div_ceil.ensures c.div_ceil-each.ensures in
+    let share = shared n c.args.parts c.div_ceil.result each c.args.round.now.matching.first c.requires.some c.div_ceil.ensures c.div_ceil-each.ensures in
     let few = few_chunks n (2 * each) share.0 c.args.parts share.1 in
     omega (arith, few, c.div_ceil-count.ensures, c.requires.few, c.requires.rows)
 
@@ -30,19 +30,19 @@ for_each_chunk_mut-requires-clause-accepts g c κs within =
     let each = c.div_ceil-each.result in
     let size = 3 + 2 * each in
     let req = c.requires in
-    let share = shared n c.args.parts c.div_ceil.result each req.matching.first req.some c.div_ceil.ensures c.div_ceil-each.ensures in
+    let share = shared n c.args.parts c.div_ceil.result each c.args.round.now.matching.first req.some c.div_ceil.ensures c.div_ceil-each.ensures in
     let long : length c.split_at_mut-used.result.0.now ≡ n + 3 * div_ceil n (2 * each) = c.split_at_mut-used.ensures.front_len ∙ ap (λ q. n + 3 * q) c.div_ceil-count.ensures in
     λ start part is.
     let begins : start < n + 3 * div_ceil n (2 * each) = omega (arith, is.in_bounds, is.nonempty, long) in
     let k = cut n (2 * each) share.0 start (length part.now) is.start_is_multiple begins (is.len ∙ ap (λ q. min size (q - start)) long) in
     let at = twice (start / size) each in
-    ((req.matching, omega arith, omega (arith, share.0), omega (arith, k.0, at), k.1 ∙ ap (λ q. 3 + min (2 * each) (n - q)) at), search rules)
+    ((omega arith, omega (arith, share.0), omega (arith, k.0, at), k.1 ∙ ap (λ q. 3 + min (2 * each) (n - q)) at), search rules)
 
 pub add_parts-requires-after_bounds : goal.add_parts-requires-after_bounds
 add_parts-requires-after_bounds g c κs within = λ k h.
     let n = length c.args.round.now.first.now in
     let each = c.div_ceil-each.result in
-    let share = shared n c.args.parts c.div_ceil.result each c.requires.matching.first c.requires.some c.div_ceil.ensures c.div_ceil-each.ensures in
+    let share = shared n c.args.parts c.div_ceil.result each c.args.round.now.matching.first c.requires.some c.div_ceil.ensures c.div_ceil-each.ensures in
     let long : length c.split_at_mut-used.result.0.now ≡ n + 3 * div_ceil n (2 * each) = c.split_at_mut-used.ensures.front_len ∙ ap (λ q. n + 3 * q) c.div_ceil-count.ensures in
     omega (arith, begins_used n (2 * each) share.0 k (omega (arith, h, c.div_ceil-count.ensures)), long, c.for_each_chunk_mut.auto.s)
 
@@ -59,7 +59,7 @@ returns g c =
     let row = row_at o a.of_a a.pairs.now a.scale a.linear.now a.second.now in
     let xs = c.split_at_mut-used.result.0.now in
     let ys = c.for_each_chunk_mut.new.s in
-    let share = shared n c.args.parts c.div_ceil.result each c.requires.matching.first c.requires.some c.div_ceil.ensures c.div_ceil-each.ensures in
+    let share = shared n c.args.parts c.div_ceil.result each c.args.round.now.matching.first c.requires.some c.div_ceil.ensures c.div_ceil-each.ensures in
     let long : length xs ≡ n + 3 * div_ceil n (2 * each) = c.split_at_mut-used.ensures.front_len ∙ ap (λ q. n + 3 * q) c.div_ceil-count.ensures in
     let all : n ≤ 2 * (count * each) = omega (arith, chunks_enough n (2 * each) share.0, ap (λ q. q * (2 * each)) c.div_ceil-count.ensures, twice count each) in
     record {
