@@ -152,25 +152,22 @@ fn prove_list<R: Hands, F: Field, G>(
     ensures bounds { let c = given.now.on.now.circuit.now in
         AreBounds F.ops c (spec.script F.ops F.coding messages.new c tape.old) bounds.new }
 {
-    let on = given.on;
-    let circuit = on.circuit;
+    let (on, circuit) = (given.on, given.on.circuit);
     let (depth, version) = (circuit.depth(), circuit.version());
     draw_all(tape, point);
     tables.set_points(point, point);
     let mut places = LayerPlaces::first(circuit);
     for l in 0..depth {
-        let begin = places.messages as usize;
-        let bits = places.bits as usize;
-        let count = 4 * bits + 2;
+        let (begin, bits) = (places.messages as usize, places.bits as usize);
         let (_, later) = messages.split_at_mut(begin);
-        let (sent, _) = later.split_at_mut(count);
+        let (sent, _) = later.split_at_mut(4 * bits + 2);
         let (wires, _) = weights.split_at_mut(circuit.width(l) as usize);
         let of = LayerTerms {
             terms: circuit.layer(l).terms.as_slice(),
             order: given.orders[l as usize].as_slice(),
             values: on.values.layer(l + 1),
         };
-        let (crew, pads) = (given.crew, part(on.pads, begin, count));
+        let (crew, pads) = (given.crew, part(on.pads, begin, 4 * bits + 2));
         let layer = PaddedLayer {
             crew,
             of,
