@@ -41,17 +41,11 @@ fn finished(alloc: Global) -> Result<Circuit<Gold>, LevelError> {
     let mut builder = Builder::new(alloc, 1, 1)?;
     let (y, x) = (builder.public(0), builder.private(0));
     let square = builder.mul(x, x)?;
-    let mut parts = Vec::new(alloc);
-    parts.push((Gold::one(), square))?;
-    parts.push((Gold::one().neg(), x))?;
-    let first = builder.combine(&parts)?;
+    let first = builder.combine(&[(Gold::one(), square), (Gold::one().neg(), x)])?;
     let again = builder.mul(x, x)?;
     let cube = builder.mul(again, x)?;
     let fourth = builder.mul(cube, x)?;
-    let mut parts = Vec::new(alloc);
-    parts.push((Gold::one(), fourth))?;
-    parts.push((Gold::one().neg(), y))?;
-    let second = builder.combine(&parts)?;
+    let second = builder.combine(&[(Gold::one(), fourth), (Gold::one().neg(), y)])?;
     builder.finish_v2(&[first, second])
 }
 
