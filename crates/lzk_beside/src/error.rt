@@ -4,7 +4,7 @@ ghost use Rattle.std.specs.Prelude.{◌≡◌};
 ghost use Rattle.lzk_beside.specs.declared.error.BesideError.TheVariants.{OutOfMemory};
 
 use lzk_circuit::CircuitFault;
-use std::alloc::AllocError;
+use std::alloc::{AllocError, AllocFailed};
 use thiserror::Error;
 
 /// Why two parts give no circuit: a limit that the whole would pass, or want of memory.
@@ -22,6 +22,14 @@ impl From<AllocError> for BesideError {
     ghost from_gives = { λ _ e. e ≡ OutOfMemory };
 
     fn from(_e: AllocError) -> BesideError {
+        BesideError::OutOfMemory
+    }
+}
+
+impl<T: Drop> From<AllocFailed<T>> for BesideError {
+    ghost from_gives = { λ _ e. e ≡ OutOfMemory };
+
+    fn from(_e: AllocFailed<T>) -> BesideError {
         BesideError::OutOfMemory
     }
 }

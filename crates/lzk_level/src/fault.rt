@@ -3,7 +3,7 @@
 ghost use Rattle.std.specs.Prelude.{◌≡◌};
 ghost use Rattle.lzk_level.specs.declared.fault.LevelError.TheVariants.{OutOfMemory};
 
-use std::alloc::AllocError;
+use std::alloc::{AllocError, AllocFailed};
 use thiserror::Error;
 
 /// The first limit that a circuit would pass, with the number that passes it: layers over 512, wires of
@@ -33,6 +33,14 @@ impl From<AllocError> for LevelError {
     ghost from_gives = { λ _ e. e ≡ OutOfMemory };
 
     fn from(_e: AllocError) -> LevelError {
+        LevelError::OutOfMemory
+    }
+}
+
+impl<T: Drop> From<AllocFailed<T>> for LevelError {
+    ghost from_gives = { λ _ e. e ≡ OutOfMemory };
+
+    fn from(_e: AllocFailed<T>) -> LevelError {
         LevelError::OutOfMemory
     }
 }
