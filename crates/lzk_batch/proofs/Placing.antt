@@ -13,7 +13,7 @@ use Rattle.lzk_circbytes.specs.declared.any.AnyCircuit.{AnyCircuit}
 use Rattle.lzk_batch.specs.declared.job.Job.{Job}
 use Rattle.lzk_batch.specs.declared.job.Judged.{Judged}
 use Rattle.lzk_batch.specs.declared.job.AnyVerdict.{AnyVerdict}
-use Rattle.lzk_batch.specs.Passes.{TicketsState, PassState, IsOf, HasDrawnNothing, AreAll, shares_of}
+use Rattle.lzk_batch.specs.Passes.{TicketsState, PassState, IsOf, IsOpen, HasDrawnNothing, AreAll, shares_of}
 use Rattle.lzk_batch.specs.Batch.{IsJudged, HasVerdict, HaveVerdicts, HasVerdictIn, judged_as, AreJobsDrawn, AreAllJobsDrawn, DrawsOn, AllZip₃}
 
 -- ---- one more place
@@ -59,6 +59,13 @@ module _ (batch : List AnyCircuit) (list : List Job) (lists : List (Vec Judged G
   have_verdicts (Err e) jobs dealt all count found = tt
 
 -- ---- passes that were lent
+
+-- passes that have drawn nothing have not drawn past the jobs
+pub fresh_open : (tickets : TicketsState) (passes : List PassState) → All HasDrawnNothing passes → All (IsOpen tickets) passes
+fresh_open tickets [] h = All-nil (IsOpen tickets)
+fresh_open tickets (p ∷ ps) h =
+    All-cons (IsOpen tickets) p ps (subst (All (λ n. n < tickets.jobs)) (sym (All-head HasDrawnNothing p ps h)) (All-nil (λ n. n < tickets.jobs)))
+    (fresh_open tickets ps (All-tail HasDrawnNothing p ps h))
 
 -- all passes of the tickets are all of them still
 pub still_all : (tickets : TicketsState) (old new : List PassState) → AllZip DrawsOn old new → AreAll tickets old → AreAll tickets new

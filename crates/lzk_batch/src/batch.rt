@@ -42,9 +42,10 @@ fn work(
         (λ judged. HasWorked batch.now.circuits.now batch.now.jobs.now pass.old pass.new judged.items) }
     ensures draws { DrawsOn pass.old pass.new }
 {
+    let jobs = batch.jobs;
     let mut judged = Vec::new(alloc);
     while let Some(number) = batch.tickets.draw(pass) {
-        let verdict = desks.judge(alloc, &batch.jobs[number as usize])?;
+        let verdict = desks.judge(alloc, &jobs[number as usize])?;
         judged.push(Judged {
             job: number,
             verdict,
