@@ -16,7 +16,11 @@ use Rattle.lzk_level.specs.declared.fault.LevelFault.TheVariants.{Layers, LayerW
 abbrev pub told : ℕ → Outcome
 told answer = record {
   answer = answer;
-  kind = 0; line = 0; check = 0; offset = 0; count = 0;
+  kind = 0;
+  line = 0;
+  check = 0;
+  offset = 0;
+  count = 0;
   value = replicate 16 0;
 }
 

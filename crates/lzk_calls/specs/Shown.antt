@@ -19,7 +19,12 @@ refused answer kind offset = record {
   answer = answer;
   kind = kind;
   offset = offset;
-  field = 0; version = 0; publics = 0; privates = 0; layers = 0; checks = 0;
+  field = 0;
+  version = 0;
+  publics = 0;
+  privates = 0;
+  layers = 0;
+  checks = 0;
   id = replicate 32 0;
 }
 

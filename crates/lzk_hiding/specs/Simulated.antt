@@ -126,6 +126,9 @@ module _ {A : Type 0} (o : Ops A) (e : Coding A) (c : Wiring A) (public : List A
     unfoldable pub simulated : Proof A
     simulated = record (zero_proof o p) {
       messages = free_messages;
-      ldt = free_ldt; dot = free_dot; quad_head = free_head; quad_tail = free_tail;
+      ldt = free_ldt;
+      dot = free_dot;
+      quad_head = free_head;
+      quad_tail = free_tail;
       columns = free_columns;
     }

@@ -70,8 +70,24 @@ fn assert_claim(
         (λ public private. IsStated private field.now claim.now (drop i public) (drop own private))) }
 {
     match claim {
-        Claim::AtMost(_) => assert_side(alloc, s, 8 * field.place, field.size, Side::AtMost, i, own),
-        Claim::AtLeast(_) => assert_side(alloc, s, 8 * field.place, field.size, Side::AtLeast, i, own),
+        Claim::AtMost(_) => assert_side(
+            alloc,
+            s,
+            8 * field.place,
+            field.size,
+            Side::AtMost,
+            i,
+            own,
+        ),
+        Claim::AtLeast(_) => assert_side(
+            alloc,
+            s,
+            8 * field.place,
+            field.size,
+            Side::AtLeast,
+            i,
+            own,
+        ),
         Claim::Equal(_) => assert_number(s, 8 * field.place, field.size, i),
         Claim::OneOf(texts) => {
             let choices = elements_of(alloc, texts)?;

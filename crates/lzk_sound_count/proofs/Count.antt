@@ -118,22 +118,27 @@ module _ {A : Type 0} (o : Ops A) (e : Coding A) (laws : Laws o e.size e.number 
       backs_few ds bad n1 (nu + nv) K
       (λ x lx. fronts_few ds (λ t. bad (x ++ t)) nu nv K
       (combinations_rare o laws.ring laws.field (same_elements laws.numbers) (place o e.element p strategy.table) p.block p.mcol p.block nu (strategy.table 0)
-      (tested o e.element p strategy.table) (front ds (λ t. bad (x ++ t)) nu nv K) ds (record { apart = columns_apart laws p strategy.table b; few = omega (arith, b.mcol); far = far; only = λ u lu is.
-      let found = behind ds (λ t. bad (x ++ t)) nu nv K u is in
-      let v = found.0 in
-      let draws = x ++ (u ++ v) in
-      let facts = known_of draws (whole_long x u v lx lu found.1.0) found.1.1 in
-      let ldt = strategy.ldt draws in
-      record {
-        outside = flip (here o e laws c b public strategy draws);
-        code = λ i. through o e.element ldt;
-        few = facts.few;
-        short = λ i h. omega (arith, length-through o e.element ldt, facts.passed.ldt);
-        agree = λ i j h l out.
-            let passes = low_here o e laws c b public strategy draws j (flip_false (here o e laws c b public strategy draws) j out) in
-            sym (eval-through o laws.ring e.element ldt (e.element (p.dblock + j)) ∙ passes
-            ∙ ap (λ ws. o.plus (strategy.table 0 j) (sum_below o nu (λ i. o.times (entry o ws i) (strategy.table (3 + i) j)))) (u_part x u v lx lu));
-      } }) distinct every few_rows))
+      (tested o e.element p strategy.table) (front ds (λ t. bad (x ++ t)) nu nv K) ds (record {
+        apart = columns_apart laws p strategy.table b;
+        few = omega (arith, b.mcol);
+        far = far;
+        only = λ u lu is.
+            let found = behind ds (λ t. bad (x ++ t)) nu nv K u is in
+            let v = found.0 in
+            let draws = x ++ (u ++ v) in
+            let facts = known_of draws (whole_long x u v lx lu found.1.0) found.1.1 in
+            let ldt = strategy.ldt draws in
+            record {
+              outside = flip (here o e laws c b public strategy draws);
+              code = λ i. through o e.element ldt;
+              few = facts.few;
+              short = λ i h. omega (arith, length-through o e.element ldt, facts.passed.ldt);
+              agree = λ i j h l out.
+                  let passes = low_here o e laws c b public strategy draws j (flip_false (here o e laws c b public strategy draws) j out) in
+                  sym (eval-through o laws.ring e.element ldt (e.element (p.dblock + j)) ∙ passes
+                  ∙ ap (λ ws. o.plus (strategy.table 0 j) (sum_below o nu (λ i. o.times (entry o ws i) (strategy.table (3 + i) j)))) (u_part x u v lx lu));
+            };
+      }) distinct every few_rows))
 
   -- ---- a table that is near codewords
 
