@@ -21,7 +21,10 @@ fn square<F: Field>(alloc: Global) -> Result<Circuit<F>, LevelError> {
     let mut builder = Builder::new(alloc, 1, 1)?;
     let (y, x) = (builder.public(0), builder.private(0));
     let product = builder.mul(x, x)?;
-    let difference = builder.combine(&[(F::one(), product), (F::one().neg(), y)])?;
+    let mut parts = Vec::new(alloc);
+    parts.push((F::one(), product))?;
+    parts.push((F::one().neg(), y))?;
+    let difference = builder.combine(&parts)?;
     builder.finish(&[difference])
 }
 
@@ -31,14 +34,17 @@ fn mixed<F: Field>(alloc: Global) -> Result<Circuit<F>, LevelError> {
     let (first, second) = (builder.public(0), builder.public(1));
     let (left, right) = (builder.private(0), builder.private(1));
     let seven = builder.constant(F::of_word(7))?;
-    let sum = builder.combine(&[(F::of_word(3), left), (F::one(), seven)])?;
+    let mut parts = Vec::new(alloc);
+    parts.push((F::of_word(3), left))?;
+    parts.push((F::one(), seven))?;
+    let sum = builder.combine(&parts)?;
     let product = builder.mul(sum, right)?;
-    let rest = builder.combine(&[
-        (F::one(), product),
-        (F::of_word(5), first),
-        (F::of_word(2), sum),
-        (F::one().neg(), product),
-    ])?;
+    let mut parts = Vec::new(alloc);
+    parts.push((F::one(), product))?;
+    parts.push((F::of_word(5), first))?;
+    parts.push((F::of_word(2), sum))?;
+    parts.push((F::one().neg(), product))?;
+    let rest = builder.combine(&parts)?;
     let top = builder.mul(rest, product)?;
     builder.finish(&[top, product, second, top])
 }
