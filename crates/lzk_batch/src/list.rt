@@ -97,14 +97,19 @@ fn take_line(
             kind: ListKind::Limit,
         }));
     }
-    match read_line(alloc, bytes)? {
-        Some(entry) => entries.push(entry)?,
-        None => return Err(ListError::Fault(ListFault {
+    let Ok(read) = read_line(alloc, bytes) else {
+        return Err(ListError::OutOfMemory);
+    };
+    let Some(entry) = read else {
+        return Err(ListError::Fault(ListFault {
             line,
             kind: ListKind::Syntax,
-        })),
+        }));
+    };
+    match entries.push(entry) {
+        Ok(()) => Ok(()),
+        Err(_) => Err(ListError::OutOfMemory),
     }
-    Ok(())
 }
 
 /// The jobs of a list, as docs/FORMATS.md has it. The text has at most 65,536 bytes.

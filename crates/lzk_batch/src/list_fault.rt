@@ -1,9 +1,5 @@
 //! Why a text is no list of jobs.
 
-ghost use Rattle.std.specs.Prelude.{◌≡◌};
-ghost use Rattle.lzk_batch.specs.declared.list_fault.ListError.TheVariants.{OutOfMemory};
-
-use std::alloc::{AllocError, AllocFailed};
 use thiserror::Error;
 
 /// The rule that a line breaks.
@@ -31,20 +27,4 @@ pub enum ListError {
     /// There was no memory for the jobs.
     #[error("out of memory")]
     OutOfMemory,
-}
-
-impl From<AllocError> for ListError {
-    ghost from_gives = { λ _ e. e ≡ OutOfMemory };
-
-    fn from(_e: AllocError) -> ListError {
-        ListError::OutOfMemory
-    }
-}
-
-impl<T: Drop> From<AllocFailed<T>> for ListError {
-    ghost from_gives = { λ _ e. e ≡ OutOfMemory };
-
-    fn from(_e: AllocFailed<T>) -> ListError {
-        ListError::OutOfMemory
-    }
 }

@@ -3,4 +3,5 @@ pub mod CheckLaws
 pub mod JoinLaws
 pub mod LayerLaws
 pub mod LevelLaws
+pub mod PlaceLaws
 pub mod RowLaws

@@ -96,7 +96,9 @@ pub fn beside<F: Field>(
         circuit: second.circuit,
         places: second.places,
     };
-    let layers = joined_layers(alloc, &left, &right, depth)?;
+    let Ok(layers) = joined_layers(alloc, &left, &right, depth) else {
+        return Err(BesideError::OutOfMemory);
+    };
     match Circuit::of_layers(publics, privates, layers) {
         Ok(circuit) => Ok(circuit),
         Err(fault) => Err(BesideError::Fault(fault)),
@@ -133,7 +135,9 @@ pub fn beside_any<F: Field>(
     ensures cause { IfErr result (IsCause first.now.circuit.now second.now.circuit.now) }
 {
     let depth = first.circuit.depth().max(second.circuit.depth());
-    let layers = joined_layers(alloc, first, second, depth)?;
+    let Ok(layers) = joined_layers(alloc, first, second, depth) else {
+        return Err(BesideError::OutOfMemory);
+    };
     match Circuit::of_version(2, publics, privates, layers) {
         Ok(circuit) => Ok(circuit),
         Err(fault) => Err(BesideError::Fault(fault)),

@@ -1,5 +1,5 @@
 -- What is written of a circuit's file.
-use Rattle.std.specs.Prelude.{◌≡◌, ◌⊎◌, ℕ, List, length, replicate}
+use Rattle.std.specs.Prelude.{◌≡◌, ◌⊎◌, ℕ, List, [], length, replicate}
 use Rattle.sha2.specs.Sha256.{sha256}
 use Rattle.lzk_circbytes.specs.Files.{CircuitBytes}
 use Rattle.lzk_circbytes.specs.declared.any.AnyCircuit.{AnyCircuit}
@@ -14,25 +14,6 @@ use Rattle.lzk_calls.specs.declared.refusal.Refusal.TheVariants.{NoCircuit}
 use Rattle.lzk_calls.specs.Inputs.{IsUnread}
 use Rattle.lzk_circbytes.specs.Kinds.{rule_number}
 
-abbrev pub refused : ℕ → ℕ → ℕ → Info
-refused answer kind offset = record {
-  answer = answer;
-  kind = kind;
-  offset = offset;
-  field = 0;
-  version = 0;
-  publics = 0;
-  privates = 0;
-  layers = 0;
-  checks = 0;
-  id = replicate 32 0;
-}
-
--- a file is refused for a rule that it breaks, or for want of memory
-abbrev pub refusal_info : Refusal → Info
-refusal_info (NoCircuit fault) = refused 3 (rule_number fault.kind) fault.offset
-refusal_info other = refused 6 0 0
-
 abbrev pub info_over : {A : Type 0} → (A → ℕ) → ℕ → List ℕ → Wiring A → Info
 info_over number field id c = record {
   answer = 0;
@@ -46,6 +27,17 @@ info_over number field id c = record {
   checks = check_count number c.layers;
   id = id;
 }
+
+-- of no circuit: its field, its id and its counts are zeros
+abbrev pub info_of_none : Info
+info_of_none =
+    info_over gold.number 0 (replicate 32 0) (record { version = 0; publics = 0; privates = 0; layers = [] })
+
+-- a file is refused for a rule that it breaks, or for want of memory
+abbrev pub refusal_info : Refusal → Info
+refusal_info (NoCircuit fault) =
+    record info_of_none { answer = 3; kind = rule_number fault.kind; offset = fault.offset }
+refusal_info other = record info_of_none { answer = 6 }
 
 abbrev pub info_any : List ℕ → AnyCircuit → Info
 info_any id (Gold c) = info_over gold.number 1 id c

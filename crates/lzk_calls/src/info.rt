@@ -38,14 +38,14 @@ pub struct Info {
     pub id: [u8; 32],
 }
 
-// What is written of a refusal.
-fn refused(answer: u32, kind: u32, offset: u64) -> Info
-    ensures { result ≡ spec.refused answer kind offset }
+// What is written of no circuit.
+fn info_of_none() -> Info
+    ensures { result ≡ spec.info_of_none }
 {
     Info {
-        answer,
-        kind,
-        offset,
+        answer: 0,
+        kind: 0,
+        offset: 0,
         field: 0,
         version: 0,
         publics: 0,
@@ -56,12 +56,21 @@ fn refused(answer: u32, kind: u32, offset: u64) -> Info
     }
 }
 
+// What is written of a refusal.
 fn refusal_info(refusal: Refusal) -> Info
     ensures { result ≡ spec.refusal_info refusal }
 {
     match refusal {
-        Refusal::NoCircuit(fault) => refused(3, fault.kind.number(), fault.offset),
-        _ => refused(6, 0, 0),
+        Refusal::NoCircuit(fault) => Info {
+            answer: 3,
+            kind: fault.kind.number(),
+            offset: fault.offset,
+            ..info_of_none()
+        },
+        _ => Info {
+            answer: 6,
+            ..info_of_none()
+        },
     }
 }
 

@@ -54,11 +54,14 @@ abbrev pub path_line : List ℕ → ValuesFault → List ℕ
 path_line name (faults.Line line kind) = kind_line name line (values_kind_name kind)
 path_line name (faults.Missing place) = leafless_line name
 
--- a path that has not as many nodes as the policy says
+-- a file that has so many of these things and not as many as the policy says
+abbrev pub count_line : List ℕ → ℕ → List ℕ → ℕ → List ℕ
+count_line name count things wanted =
+    codes "refused: " ++ (name ++ (codes " has " ++ (decimal count
+    ++ (codes " " ++ (things ++ (codes " and not " ++ line (decimal wanted)))))))
+
 abbrev pub nodes_line : List ℕ → ℕ → ℕ → List ℕ
-nodes_line name nodes depth =
-    codes "refused: "
-    ++ (name ++ (codes " has " ++ (decimal nodes ++ (codes " nodes and not " ++ line (decimal depth)))))
+nodes_line name nodes depth = count_line name nodes (codes "nodes") depth
 
 -- a path whose leaf is none of its row
 abbrev pub leaf_line : List ℕ → List ℕ
@@ -70,9 +73,7 @@ limit_line name = codes "refused: " ++ (name ++ line (codes ": its circuit would
 
 -- a record that has too few bytes
 abbrev pub short_line : List ℕ → ℕ → ℕ → List ℕ
-short_line name bytes size =
-    codes "refused: "
-    ++ (name ++ (codes " has " ++ (decimal bytes ++ (codes " bytes and not " ++ line (decimal size)))))
+short_line name bytes size = count_line name bytes (codes "bytes") size
 
 -- ---- what is done
 

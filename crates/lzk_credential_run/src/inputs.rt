@@ -146,7 +146,7 @@ fn untrue(alloc: Global, policy: &Policy, place: u32) -> Halt
 fn short_path(alloc: Global, name: &str, nodes: usize, depth: u32) -> Halt
     ensures { given.IsToldEnd (nodes_line name.now nodes depth) result }
 {
-    match lines::refuse_nodes(alloc, name, nodes, depth) {
+    match lines::refuse_count(alloc, name, nodes, "nodes", depth) {
         Ok(text) => Halt::End(Ending { status: 3, text }),
         Err(_) => Halt::Memory,
     }

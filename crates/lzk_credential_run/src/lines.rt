@@ -86,16 +86,17 @@ pub fn refuse_path(alloc: Global, name: &str, fault: ValuesFault) -> Result<Stri
     }
 }
 
-/// The line that refuses a path that has not as many nodes as the policy says.
-pub fn refuse_nodes(
+/// The line that refuses a file that has so many nodes, or bytes, and not as many as the policy says.
+pub fn refuse_count(
     alloc: Global,
     name: &str,
-    nodes: usize,
-    depth: u32,
+    count: usize,
+    things: &str,
+    wanted: u32,
 ) -> Result<String, AllocError>
-    ensures { IfOk result (λ s. string_bytes s ≡ lines.nodes_line name.now nodes depth) }
+    ensures { IfOk result (λ s. string_bytes s ≡ lines.count_line name.now count things.now wanted) }
 {
-    format!(in alloc; "refused: {name} has {nodes} nodes and not {depth}\n")
+    format!(in alloc; "refused: {name} has {count} {things} and not {wanted}\n")
 }
 
 /// The line that refuses a path whose leaf is none of its row.
@@ -110,18 +111,6 @@ pub fn refuse_limit(alloc: Global, name: &str) -> Result<String, AllocError>
     ensures { IfOk result (λ s. string_bytes s ≡ lines.limit_line name.now) }
 {
     format!(in alloc; "refused: {name}: its circuit would pass a limit\n")
-}
-
-/// The line that refuses a record that has too few bytes.
-pub fn refuse_short(
-    alloc: Global,
-    name: &str,
-    bytes: usize,
-    size: u32,
-) -> Result<String, AllocError>
-    ensures { IfOk result (λ s. string_bytes s ≡ lines.short_line name.now bytes size) }
-{
-    format!(in alloc; "refused: {name} has {bytes} bytes and not {size}\n")
 }
 
 /// The line that tells that all is put.

@@ -19,7 +19,7 @@ fn record_of(alloc: Global, name: &str, bytes: Vec<u8>, size: u32) -> Result<Vec
     if bytes.len() == size as usize {
         return Ok(bytes);
     }
-    let text = lines::refuse_short(alloc, name, bytes.len(), size)?;
+    let text = lines::refuse_count(alloc, name, bytes.len(), "bytes", size)?;
     Err(Halt::End(Ending { status: 3, text }))
 }
 

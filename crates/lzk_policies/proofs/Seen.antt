@@ -9,7 +9,7 @@ use Rattle.lzk_field.specs.Sums.{entry}
 use Rattle.lzk_circuit.specs.Wires.{inputs_of}
 use Rattle.lzk_reduce.specs.Renumbering.{AreNumbersBelow}
 use Rattle.lzk_beside.specs.Chosen.{chosen}
-use Rattle.lzk_sha_path.proofs.Seen.{both_below, row_below}
+use Rattle.lzk_beside.proofs.PlaceLaws.{both_below, row_below}
 
 -- ---- rows of places
 pub rows_below : (width a b m c n : ℕ) → a + 8 ≤ width → b + m ≤ width → c + n ≤ width → AreNumbersBelow width ((range_with_len a 8 ++ range_with_len b m) ++ range_with_len c n)

@@ -49,12 +49,16 @@ fn joined(
 {
     let (first_privates, second_privates) = (shown.privates(), path.privates());
     let digest = 9 + more + first_privates;
-    let lower = places_of(alloc, digest, 9, more, 9 + more, first_privates)?;
+    let Ok(lower) = places_of(alloc, digest, 9, more, 9 + more, first_privates) else {
+        return Err(RootedError::OutOfMemory);
+    };
     let first = Part {
         circuit: shown,
         places: &lower,
     };
-    let upper = places_of(alloc, digest, 1, 8, digest + 8, second_privates)?;
+    let Ok(upper) = places_of(alloc, digest, 1, 8, digest + 8, second_privates) else {
+        return Err(RootedError::OutOfMemory);
+    };
     let second = Part {
         circuit: path,
         places: &upper,

@@ -1,12 +1,11 @@
 //! Why a policy and a depth give no circuit.
 
 ghost use Rattle.std.specs.Prelude.{◌≡◌};
-ghost use Rattle.lzk_policies.specs.declared.error.RootedError.TheVariants.{OutOfMemory, Path, Policy};
+ghost use Rattle.lzk_policies.specs.declared.error.RootedError.TheVariants.{Path, Policy};
 
 use lzk_beside::BesideError;
 use lzk_policy_circuit::PolicyCircuitError;
 use lzk_sha_path::PathError;
-use std::alloc::AllocError;
 use thiserror::Error;
 
 /// Why there is no circuit of a record under a root.
@@ -27,14 +26,6 @@ pub enum RootedError {
     /// There was no memory.
     #[error("out of memory")]
     OutOfMemory,
-}
-
-impl From<AllocError> for RootedError {
-    ghost from_gives = { λ _ e. e ≡ OutOfMemory };
-
-    fn from(_e: AllocError) -> RootedError {
-        RootedError::OutOfMemory
-    }
 }
 
 impl From<PolicyCircuitError> for RootedError {

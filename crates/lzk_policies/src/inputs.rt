@@ -143,6 +143,16 @@ fn laid_out(
     Ok(RootedInputs { public, private })
 }
 
+// The same inputs, in memory of their own.
+fn copied(alloc: Global, shown: &PolicyInputs) -> Result<RootedInputs, AllocError>
+    ensures public { IfOk result (λ i. i.public ≡ shown.now.public) }
+    ensures private { IfOk result (λ i. i.private ≡ shown.now.private) }
+{
+    let public = Vec::from_slice(alloc, shown.public())?;
+    let private = Vec::from_slice(alloc, shown.private())?;
+    Ok(RootedInputs { public, private })
+}
+
 /// The inputs of the circuit of a record whose digest is shown.
 pub(crate) fn digest_inputs(
     alloc: Global,
@@ -160,9 +170,10 @@ pub(crate) fn digest_inputs(
         IfErr result (IsRootedRefusal policy.now bytes.now values.now index depth) }
 {
     let shown = policy_inputs(alloc, policy, bytes, values)?;
-    let public = Vec::from_slice(alloc, shown.public())?;
-    let private = Vec::from_slice(alloc, shown.private())?;
-    Ok(RootedInputs { public, private })
+    match copied(alloc, &shown) {
+        Ok(inputs) => Ok(inputs),
+        Err(_) => Err(RootedInputsError::OutOfMemory),
+    }
 }
 
 /// The inputs of the circuit of a record under a root ([`crate::rooted_circuit`], with as many levels as there are
@@ -195,6 +206,8 @@ pub fn rooted_inputs(
     word_laws(&leaf);
     let shown = policy_inputs(alloc, policy, bytes, values)?;
     let path = path_inputs(alloc, leaf, place.index, place.siblings)?;
-    let inputs = laid_out(alloc, &shown, &path)?;
-    Ok(inputs)
+    match laid_out(alloc, &shown, &path) {
+        Ok(inputs) => Ok(inputs),
+        Err(_) => Err(RootedInputsError::OutOfMemory),
+    }
 }

@@ -1,11 +1,10 @@
 //! Why a record has no inputs under a root.
 
 ghost use Rattle.std.specs.Prelude.{◌≡◌};
-ghost use Rattle.lzk_policies.specs.declared.refusal.RootedInputsError.TheVariants.{OutOfMemory, Path, Policy};
+ghost use Rattle.lzk_policies.specs.declared.refusal.RootedInputsError.TheVariants.{Path, Policy};
 
 use lzk_policy_inputs::InputsError;
 use lzk_sha_path::PathError;
-use std::alloc::AllocError;
 use thiserror::Error;
 
 /// Why a record, values and a place under a root give no inputs.
@@ -26,14 +25,6 @@ pub enum RootedInputsError {
     /// There was no memory.
     #[error("out of memory")]
     OutOfMemory,
-}
-
-impl From<AllocError> for RootedInputsError {
-    ghost from_gives = { λ _ e. e ≡ OutOfMemory };
-
-    fn from(_e: AllocError) -> RootedInputsError {
-        RootedInputsError::OutOfMemory
-    }
 }
 
 impl From<InputsError> for RootedInputsError {

@@ -178,8 +178,10 @@ impl Draft {
             return Err(LineError::Kind(PolicyKind::Place));
         }
         if self.fields.len() < MOST_FIELDS {
-            self.fields.push(field)?;
-            return Ok(());
+            return match self.fields.push(field) {
+                Ok(()) => Ok(()),
+                Err(_) => Err(LineError::OutOfMemory),
+            };
         }
         Err(LineError::Kind(PolicyKind::Limit))
     }
@@ -243,8 +245,10 @@ impl Draft {
             return Err(LineError::Kind(PolicyKind::Claim));
         }
         if self.shows.len() < MOST_SHOWS {
-            self.shows.push(Show { field, claim })?;
-            return Ok(());
+            return match self.shows.push(Show { field, claim }) {
+                Ok(()) => Ok(()),
+                Err(_) => Err(LineError::OutOfMemory),
+            };
         }
         Err(LineError::Kind(PolicyKind::Limit))
     }
@@ -292,7 +296,10 @@ impl Draft {
         if is_skipped(line) {
             return Ok(());
         }
-        let Some(said) = read_line(alloc, line)? else {
+        let Ok(read) = read_line(alloc, line) else {
+            return Err(PolicyError::OutOfMemory);
+        };
+        let Some(said) = read else {
             return Err(PolicyError::Fault(PolicyFault {
                 line: number,
                 kind: PolicyKind::Syntax,

@@ -1,8 +1,5 @@
 //! Why a text is no policy.
 
-ghost use Rattle.std.specs.Prelude.{◌≡◌};
-
-use std::alloc::{AllocError, AllocFailed};
 use thiserror::Error;
 
 /// The rule that a line breaks.
@@ -46,49 +43,9 @@ pub enum PolicyError {
     OutOfMemory,
 }
 
-impl From<AllocError> for PolicyError {
-    ghost use Rattle.lzk_policy.specs.declared.fault.PolicyError.TheVariants.{OutOfMemory};
-
-    ghost from_gives = { λ _ e. e ≡ OutOfMemory };
-
-    fn from(_e: AllocError) -> PolicyError {
-        PolicyError::OutOfMemory
-    }
-}
-
-impl<T: Drop> From<AllocFailed<T>> for PolicyError {
-    ghost use Rattle.lzk_policy.specs.declared.fault.PolicyError.TheVariants.{OutOfMemory};
-
-    ghost from_gives = { λ _ e. e ≡ OutOfMemory };
-
-    fn from(_e: AllocFailed<T>) -> PolicyError {
-        PolicyError::OutOfMemory
-    }
-}
-
 /// Why a line adds nothing: the rule that it breaks, or want of memory.
 #[derive(Debug, Drop)]
 pub enum LineError {
     Kind(PolicyKind),
     OutOfMemory,
-}
-
-impl From<AllocError> for LineError {
-    ghost use Rattle.lzk_policy.specs.declared.fault.LineError.TheVariants.{OutOfMemory};
-
-    ghost from_gives = { λ _ e. e ≡ OutOfMemory };
-
-    fn from(_e: AllocError) -> LineError {
-        LineError::OutOfMemory
-    }
-}
-
-impl<T: Drop> From<AllocFailed<T>> for LineError {
-    ghost use Rattle.lzk_policy.specs.declared.fault.LineError.TheVariants.{OutOfMemory};
-
-    ghost from_gives = { λ _ e. e ≡ OutOfMemory };
-
-    fn from(_e: AllocFailed<T>) -> LineError {
-        LineError::OutOfMemory
-    }
 }

@@ -1,9 +1,8 @@
 -- What parts of the circuit see of the whole's inputs.
-use Rattle.std.proofs.Common.{◌≡◌, ℕ, ◌+◌, ◌-◌, ◌<◌, ◌≤◌, List, [], ◌∷◌, ◌++◌, length, take, drop, map, zero, suc, refl, sym, ap, subst, ◌∙◌, arith, inl, inr, ext_get_or, get_or-take, get_or-append-add, append_assoc, length-append, length-drop, None}
+use Rattle.std.proofs.Common.{◌≡◌, ℕ, ◌+◌, ◌-◌, ◌<◌, ◌≤◌, List, [], ◌∷◌, ◌++◌, length, take, drop, map, zero, suc, refl, sym, ap, ◌∙◌, arith, ext_get_or, get_or-take, get_or-append-add, append_assoc, length-append, length-drop, None}
 use Rattle.std.specs.List.{range_with_len}
-use Rattle.std.proofs.lemmas.Bool.{cases_lt}
 use Rattle.std.proofs.lemmas.List.{get_or_append_left, length-take-le, get_or-drop, map-append}
-use Rattle.std.proofs.lemmas.List.FromFn.{length-map-range_with_len, get_or-map-range_with_len, length-range_with_len, get_or-range_with_len}
+use Rattle.std.proofs.lemmas.List.FromFn.{length-map-range_with_len, get_or-map-range_with_len, length-range_with_len}
 use Rattle.std.proofs.Math.Seq.{take-append-add}
 use Rattle.lzk_field.specs.Ring.{Ops, Laws}
 use Rattle.lzk_field.specs.Sums.{entry}
@@ -15,30 +14,15 @@ use Rattle.lzk_circuit.proofs.VersionLaws.{valid-one}
 use Rattle.lzk_gadgets.specs.Claims.{AreAllZero}
 use Rattle.lzk_reduce.specs.Renumbering.{at, AreNumbersBelow}
 use Rattle.lzk_beside.specs.Chosen.{chosen}
+use Rattle.lzk_beside.proofs.PlaceLaws.{row_below, both_below}
 use Rattle.lzk_policy_circuit.specs.Places.{hash_places}
 
 -- ---- places
 
-pub range_below : (width a n : ℕ) → a + n ≤ width → AreNumbersBelow width (range_with_len a n)
-range_below width a n l k lk =
-    let inside : k < n = omega (arith, length-range_with_len a n, lk) in
-    subst (λ (x : ℕ). x < width) (sym (get_or-range_with_len a n k 0 inside)) (omega (arith, inside, l))
-
-pub both_below : (width : ℕ) (xs ys : List ℕ) → AreNumbersBelow width xs → AreNumbersBelow width ys → AreNumbersBelow width (xs ++ ys)
-both_below width xs ys hx hy k l =
-    elim (cases_lt k (length xs)) [
-      | inl less ↦ subst (λ (n : ℕ). n < width) (sym (get_or_append_left xs ys 0 k less)) (hx k less)
-      | inr more ↦
-          let there : length xs + (k - length xs) ≡ k = omega (arith, more) in
-          let inside : k - length xs < length ys = omega (arith, length-append xs ys, l, more) in
-          let is : at (xs ++ ys) k ≡ at ys (k - length xs) = ap (at (xs ++ ys)) (sym there) ∙ get_or-append-add xs ys (k - length xs) 0 in
-          subst (λ (n : ℕ). n < width) (sym is) (hy (k - length xs) inside)
-    ]
-
 pub hash_places_below : (width words bits count rest : ℕ) → words + 8 ≤ width → bits + count ≤ width → rest + 6376 ≤ width → AreNumbersBelow width (hash_places words bits count rest)
 hash_places_below width words bits count rest a b c =
     both_below width (range_with_len words 8 ++ range_with_len bits count) (range_with_len rest 6376)
-    (both_below width (range_with_len words 8) (range_with_len bits count) (range_below width words 8 a) (range_below width bits count b)) (range_below width rest 6376 c)
+    (both_below width (range_with_len words 8) (range_with_len bits count) (row_below width words 8 a) (row_below width bits count b)) (row_below width rest 6376 c)
 
 pub hash_places_count : (words bits count rest : ℕ) → length (hash_places words bits count rest) ≡ 8 + (count + 6376)
 hash_places_count words bits count rest =

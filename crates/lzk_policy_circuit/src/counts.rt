@@ -51,11 +51,8 @@ pub fn rest_of_claim(claim: &Claim) -> u32
     ensures few { result ≤ 6376 }
 {
     match claim {
-        Claim::AtMost(_) => 0,
-        Claim::AtLeast(_) => 0,
-        Claim::Equal(_) => 0,
-        Claim::OneOf(_) => 0,
         Claim::Pseudonym(_) => HASH_REST,
+        _ => 0,
     }
 }
 

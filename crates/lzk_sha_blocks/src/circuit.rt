@@ -63,8 +63,12 @@ fn with_block(
         × IsBlockSatisfied ops of_number len inputs i)) }
     ensures cause { IfErr result (λ e. e ≡ TooLong → ⊥) }
 {
-    let next = block_circuit(alloc, len, i)?;
-    let places = wires(alloc, len, i)?;
+    let Ok(next) = block_circuit(alloc, len, i) else {
+        return Err(DigestError::OutOfMemory);
+    };
+    let Ok(places) = wires(alloc, len, i) else {
+        return Err(DigestError::OutOfMemory);
+    };
     let first = Part {
         circuit: before,
         places: seen,
@@ -73,14 +77,16 @@ fn with_block(
         circuit: &next,
         places: &places,
     };
-    let circuit = beside(
+    match beside(
         alloc,
         8,
         8 * len + 6384 * block_count(len) - 8,
         &first,
         &second,
-    )?;
-    Ok(circuit)
+    ) {
+        Ok(circuit) => Ok(circuit),
+        Err(e) => Err(DigestError::Beside(e)),
+    }
 }
 
 /// The circuit for messages of `len` bytes, at most 503.
@@ -100,13 +106,19 @@ pub fn digest_circuit(alloc: Global, len: u32) -> Result<Circuit<Gold>, DigestEr
     if len > 503 {
         return Err(DigestError::TooLong);
     }
-    let first = block_circuit(alloc, len, 0)?;
+    let Ok(first) = block_circuit(alloc, len, 0) else {
+        return Err(DigestError::OutOfMemory);
+    };
     if len < 56 {
         return Ok(first);
     }
     let blocks = block_count(len);
-    let seen = wires(alloc, len, 0)?;
-    let all = all_wires(alloc, 8 * len + 6384 * blocks)?;
+    let Ok(seen) = wires(alloc, len, 0) else {
+        return Err(DigestError::OutOfMemory);
+    };
+    let Ok(all) = all_wires(alloc, 8 * len + 6384 * blocks) else {
+        return Err(DigestError::OutOfMemory);
+    };
     let mut whole = with_block(alloc, len, 1, &first, &seen)?;
     for i in 2..blocks {
         let next = with_block(alloc, len, i, &whole, &all)?;

@@ -1,10 +1,6 @@
 //! Why a message has no circuit.
 
-ghost use Rattle.std.specs.Prelude.{◌≡◌};
-ghost use Rattle.lzk_sha_blocks.specs.declared.error.DigestError.TheVariants.{Beside, OutOfMemory};
-
 use lzk_beside::BesideError;
-use std::alloc::AllocError;
 use thiserror::Error;
 
 /// Why there is no circuit for messages of so many bytes.
@@ -19,20 +15,4 @@ pub enum DigestError {
     /// There was no memory for the circuit.
     #[error("out of memory")]
     OutOfMemory,
-}
-
-impl From<AllocError> for DigestError {
-    ghost from_gives = { λ _ e. e ≡ OutOfMemory };
-
-    fn from(_e: AllocError) -> DigestError {
-        DigestError::OutOfMemory
-    }
-}
-
-impl From<BesideError> for DigestError {
-    ghost from_gives = { λ error e. e ≡ Beside error };
-
-    fn from(error: BesideError) -> DigestError {
-        DigestError::Beside(error)
-    }
 }

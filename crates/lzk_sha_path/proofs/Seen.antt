@@ -1,15 +1,15 @@
 -- What the parts of a path see of the whole's inputs.
-use Rattle.std.proofs.Common.{◌≡◌, ℕ, ◌+◌, ◌-◌, ◌<◌, ◌≤◌, List, [], ◌∷◌, ◌++◌, length, take, drop, map, suc, refl, sym, ap, subst, ◌∙◌, arith, inl, inr, ext_get_or, get_or-take, get_or-append-add, append_assoc, length-append, length-drop}
+use Rattle.std.proofs.Common.{◌≡◌, ℕ, ◌+◌, ◌-◌, ◌<◌, ◌≤◌, List, [], ◌∷◌, ◌++◌, length, take, drop, map, suc, refl, sym, ap, ◌∙◌, arith, ext_get_or, get_or-take, append_assoc, length-append, length-drop}
 use Rattle.std.specs.List.{range_with_len}
-use Rattle.std.proofs.lemmas.Bool.{cases_lt}
-use Rattle.std.proofs.lemmas.List.{get_or_append_left, length-take-le, get_or-drop, map-append, take_all}
-use Rattle.std.proofs.lemmas.List.FromFn.{length-map-range_with_len, get_or-map-range_with_len, length-range_with_len, get_or-range_with_len, map-range_with_len_more}
+use Rattle.std.proofs.lemmas.List.{length-take-le, get_or-drop, map-append, take_all}
+use Rattle.std.proofs.lemmas.List.FromFn.{length-map-range_with_len, get_or-map-range_with_len, length-range_with_len, map-range_with_len_more}
 use Rattle.std.proofs.Math.Seq.{take-append-add, drop-append-add, take-append_seam}
 use Rattle.lzk_field.specs.Ring.{Ops}
 use Rattle.lzk_field.specs.Sums.{entry}
 use Rattle.lzk_circuit.specs.Wires.{inputs_of}
 use Rattle.lzk_reduce.specs.Renumbering.{at, AreNumbersBelow}
 use Rattle.lzk_beside.specs.Chosen.{chosen}
+use Rattle.lzk_beside.proofs.PlaceLaws.{row_below, both_below}
 
 -- ---- rows of places
 map_same : (xs : List ℕ) → map (λ x. x) xs ≡ xs
@@ -22,22 +22,6 @@ row_more a k before old new next eo en e =
     let more : range_with_len a (k + 1) ≡ range_with_len a k ++ (a + k) ∷ [] =
     sym (map_same (range_with_len a (k + 1))) ∙ map-range_with_len_more (λ x. x) a k (a + k) refl ∙ ap (λ l. l ++ (a + k) ∷ []) (map_same (range_with_len a k)) in
     en ∙ (λ i. eo i ++ e i ∷ []) ∙ append_assoc before (range_with_len a k) ((a + k) ∷ []) ∙ ap (λ l. before ++ l) (sym more)
-
-pub row_below : (width a n : ℕ) → a + n ≤ width → AreNumbersBelow width (range_with_len a n)
-row_below width a n l k lk =
-    let inside : k < n = omega (arith, length-range_with_len a n, lk) in
-    subst (λ (x : ℕ). x < width) (sym (get_or-range_with_len a n k 0 inside)) (omega (arith, inside, l))
-
-pub both_below : (width : ℕ) (xs ys : List ℕ) → AreNumbersBelow width xs → AreNumbersBelow width ys → AreNumbersBelow width (xs ++ ys)
-both_below width xs ys hx hy k l =
-    elim (cases_lt k (length xs)) [
-      | inl less ↦ subst (λ (n : ℕ). n < width) (sym (get_or_append_left xs ys 0 k less)) (hx k less)
-      | inr more ↦
-          let there : length xs + (k - length xs) ≡ k = omega (arith, more) in
-          let inside : k - length xs < length ys = omega (arith, length-append xs ys, l, more) in
-          let is : at (xs ++ ys) k ≡ at ys (k - length xs) = ap (at (xs ++ ys)) (sym there) ∙ get_or-append-add xs ys (k - length xs) 0 in
-          subst (λ (n : ℕ). n < width) (sym is) (hy (k - length xs) inside)
-    ]
 
 pub rows_below : (width a b c n : ℕ) → a + 8 ≤ width → b + 8 ≤ width → c + n ≤ width → AreNumbersBelow width ((range_with_len a 8 ++ range_with_len b 8) ++ range_with_len c n)
 rows_below width a b c n la lb lc =

@@ -160,14 +160,15 @@ fn climb(
     })
 }
 
-// The words of a node as elements.
-fn elements_of(alloc: Global, node: [u32; 8]) -> Result<Vec<Gold>, AllocError>
-    ensures { IfOk result (λ words. words.items ≡ map of_number node) }
+// The words of a leaf as elements, and behind them those of a root.
+fn with_root(alloc: Global, leaf: [u32; 8], root: &[Gold]) -> Result<Vec<Gold>, AllocError>
+    ensures { IfOk result (λ words. words.items ≡ map of_number leaf ++ root.now) }
 {
     let mut words = Vec::new(alloc);
-    for word in node {
+    for word in leaf {
         words.push(Gold::of_word(u128::from(word)))?;
     }
+    words.extend_from_slice(root)?;
     Ok(words)
 }
 
@@ -195,8 +196,7 @@ pub fn path_inputs(
         return Err(PathError::Depth);
     }
     let path = climb(alloc, leaf, index, *first, others)?;
-    let mut public = elements_of(alloc, leaf)?;
-    public.extend_from_slice(&path.public)?;
+    let public = with_root(alloc, leaf, &path.public)?;
     Ok(PathInputs {
         public,
         private: path.private,

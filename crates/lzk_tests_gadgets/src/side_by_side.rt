@@ -3,7 +3,7 @@
 ghost use Rattle.std.specs.Prelude.{◌<◌, ◌↔◌, IfSome, IsTrue, EachIndex, slice_index};
 ghost use Rattle.lzk_reduce.specs.Renumbering.{AreNumbersBelow};
 
-use lzk_beside::{AnyPart, BesideError, Part, beside, beside_any};
+use lzk_beside::{AnyPart, Part, beside, beside_any};
 use lzk_circuit::{Circuit, Values};
 use lzk_field::Field;
 use lzk_gf128::Gf128;
@@ -110,7 +110,7 @@ fn both_orders<F: Field>(
     flat_rows: &[TermRow],
     deep_outputs: &[u128],
     flat_outputs: &[u128],
-) -> Result<bool, BesideError> {
+) -> Result<bool, Fail> {
     let flat = circuit_of::<F>(alloc, 1, 1, 3, &[2], flat_rows)?;
     let (Some(deep), Some(flat)) = (deep::<F>(alloc)?, flat) else {
         return Ok(false);
@@ -137,7 +137,7 @@ fn has_asserts<F: Field>(
     deep_outputs: &[u128],
     one: &[u128; 4],
     other: &[u128; 4],
-) -> Result<bool, BesideError> {
+) -> Result<bool, Fail> {
     let (Some(deep), Some(one_part)) = (deep::<F>(alloc)?, asserting::<F>(alloc)?) else {
         return Ok(false);
     };
@@ -195,27 +195,15 @@ fn any_part_of<'a, F: Field>(circuit: &'a Circuit<F>, places: &'a [u32]) -> Opti
 #[test]
 fn outputs_are_those_of_the_parts(rt: HostRuntime) -> Result<(), Fail> {
     let alloc = rt.alloc();
-    let gold = both_orders::<Gold>(alloc, &GOLD_FLAT, &GOLD_DEEP, &GOLD_FLAT_OUTPUTS);
-    let gf = both_orders::<Gf128>(alloc, &GF_FLAT, &GF_DEEP, &GF_FLAT_OUTPUTS);
-    assert!(rt; matches!(gold, Ok(true)));
-    assert!(rt; matches!(gf, Ok(true)));
+    assert!(rt; both_orders::<Gold>(alloc, &GOLD_FLAT, &GOLD_DEEP, &GOLD_FLAT_OUTPUTS)?);
+    assert!(rt; both_orders::<Gf128>(alloc, &GF_FLAT, &GF_DEEP, &GF_FLAT_OUTPUTS)?);
     Ok(())
 }
 
 #[test]
 fn asserts_are_those_of_the_parts(rt: HostRuntime) -> Result<(), Fail> {
     let alloc = rt.alloc();
-    assert!(rt;
-        matches!(
-            has_asserts::<Gold>(alloc, &GOLD_DEEP, &GOLD_ASSERTING, &GOLD_OTHER),
-            Ok(true)
-        )
-    );
-    assert!(rt;
-        matches!(
-            has_asserts::<Gf128>(alloc, &GF_DEEP, &GF_ASSERTING, &GF_OTHER),
-            Ok(true)
-        )
-    );
+    assert!(rt; has_asserts::<Gold>(alloc, &GOLD_DEEP, &GOLD_ASSERTING, &GOLD_OTHER)?);
+    assert!(rt; has_asserts::<Gf128>(alloc, &GF_DEEP, &GF_ASSERTING, &GF_OTHER)?);
     Ok(())
 }

@@ -18,54 +18,54 @@ returns-in_err-check_place-clause-refusal c =
     if_err c.from_residual.result _ (IsRootedRefusal p m vs n depth) c.from_residual.ensures.1
     (λ e g. subst (IsRootedRefusal p m vs n depth) (sym g) (c.in_err-check_place.ensures.refusal p m vs))
 
-pub returns-clause-public : goal.returns-clause-public
-returns-clause-public c =
+pub returns-in-Ok-clause-public : goal.returns-in-Ok-clause-public
+returns-in-Ok-clause-public c =
     let siblings = c.args.place.now.siblings.now in
     let n = c.args.place.now.index in
     let leaf = subst IsState c.digest_words-leaf.ensures c.word_laws.ensures in
     let upper = c.in_ok-path.ensures.public ∙ ap (λ (l : List ℕ). map of_number l ++ map of_number (root_of l n siblings)) c.digest_words-leaf.ensures in
     public_is c.args.policy.now c.args.bytes.now c.args.values.now n siblings leaf
-    c.in_ok-shown.shown.public c.in_ok-path.path.public.items c.in_ok-inputs.inputs.public c.in_ok-shown.ensures.public upper c.in_ok-inputs.ensures.public
+    c.in_ok-shown.shown.public c.in_ok-path.path.public.items c.in-Ok.inputs.public c.in_ok-shown.ensures.public upper c.in-Ok.ensures.public
 
-pub returns-clause-shown : goal.returns-clause-shown
-returns-clause-shown c =
+pub returns-in-Ok-clause-shown : goal.returns-in-Ok-clause-shown
+returns-in-Ok-clause-shown c =
     let siblings = c.args.place.now.siblings.now in
     let n = c.args.place.now.index in
     let leaf = subst IsState c.digest_words-leaf.ensures c.word_laws.ensures in
     let upper = c.in_ok-path.ensures.public ∙ ap (λ (l : List ℕ). map of_number l ++ map of_number (root_of l n siblings)) c.digest_words-leaf.ensures in
     is_shown c.args.policy.now c.args.bytes.now c.args.values.now n siblings leaf
-    c.in_ok-shown.shown.public c.in_ok-path.path.public.items c.in_ok-inputs.inputs.public c.in_ok-shown.ensures.public upper c.in_ok-inputs.ensures.public
+    c.in_ok-shown.shown.public c.in_ok-path.path.public.items c.in-Ok.inputs.public c.in_ok-shown.ensures.public upper c.in-Ok.ensures.public
     c.in_ok-shown.ensures.shown c.node_laws.ensures c.in_ok-check_place.ensures.within
 
-pub returns-clause-publics : goal.returns-clause-publics
-returns-clause-publics c =
+pub returns-in-Ok-clause-publics : goal.returns-in-Ok-clause-publics
+returns-in-Ok-clause-publics c =
     let siblings = c.args.place.now.siblings.now in
     let n = c.args.place.now.index in
     let leaf = subst IsState c.digest_words-leaf.ensures c.word_laws.ensures in
     let upper = c.in_ok-path.ensures.public ∙ ap (λ (l : List ℕ). map of_number l ++ map of_number (root_of l n siblings)) c.digest_words-leaf.ensures in
     publics_are c.args.policy.now c.args.bytes.now c.args.values.now n siblings leaf
-    c.in_ok-shown.shown.public c.in_ok-path.path.public.items c.in_ok-inputs.inputs.public c.in_ok-shown.ensures.public upper c.in_ok-inputs.ensures.public
+    c.in_ok-shown.shown.public c.in_ok-path.path.public.items c.in-Ok.inputs.public c.in_ok-shown.ensures.public upper c.in-Ok.ensures.public
     c.in_ok-shown.ensures.publics
 
-pub returns-clause-privates : goal.returns-clause-privates
-returns-clause-privates c =
+pub returns-in-Ok-clause-privates : goal.returns-in-Ok-clause-privates
+returns-in-Ok-clause-privates c =
     let siblings = c.args.place.now.siblings.now in
     let n = c.args.place.now.index in
     let leaf = subst IsState c.digest_words-leaf.ensures c.word_laws.ensures in
     let upper = c.in_ok-path.ensures.public ∙ ap (λ (l : List ℕ). map of_number l ++ map of_number (root_of l n siblings)) c.digest_words-leaf.ensures in
     privates_are c.args.policy.now c.args.bytes.now c.args.values.now n siblings leaf
-    c.in_ok-shown.shown.public c.in_ok-path.path.public.items c.in_ok-inputs.inputs.public c.in_ok-shown.ensures.public upper c.in_ok-inputs.ensures.public
-    c.in_ok-shown.shown.private c.in_ok-path.path.private.items c.in_ok-inputs.inputs.private c.in_ok-shown.ensures.privates c.in_ok-inputs.ensures.private
+    c.in_ok-shown.shown.public c.in_ok-path.path.public.items c.in-Ok.inputs.public c.in_ok-shown.ensures.public upper c.in-Ok.ensures.public
+    c.in_ok-shown.shown.private c.in_ok-path.path.private.items c.in-Ok.inputs.private c.in_ok-shown.ensures.privates c.in-Ok.ensures.private
     c.in_ok-path.ensures.private
 
-pub returns-clause-satisfied : goal.returns-clause-satisfied
-returns-clause-satisfied c =
+pub returns-in-Ok-clause-satisfied : goal.returns-in-Ok-clause-satisfied
+returns-in-Ok-clause-satisfied c =
     let siblings = c.args.place.now.siblings.now in
     let n = c.args.place.now.index in
     let leaf = subst IsState c.digest_words-leaf.ensures c.word_laws.ensures in
     let upper = c.in_ok-path.ensures.public ∙ ap (λ (l : List ℕ). map of_number l ++ map of_number (root_of l n siblings)) c.digest_words-leaf.ensures in
     let climbing = subst (λ (l : List ℕ). AreClimbing (length siblings) (map of_number l) (map of_number (root_of l n siblings)) c.in_ok-path.path.private.items) c.digest_words-leaf.ensures c.in_ok-path.ensures.satisfying in
     satisfy c.args.policy.now c.args.bytes.now c.args.values.now n siblings leaf
-    c.in_ok-shown.shown.public c.in_ok-path.path.public.items c.in_ok-inputs.inputs.public c.in_ok-shown.ensures.public upper c.in_ok-inputs.ensures.public
-    c.in_ok-shown.shown.private c.in_ok-path.path.private.items c.in_ok-inputs.inputs.private c.in_ok-shown.ensures.privates c.in_ok-inputs.ensures.private
+    c.in_ok-shown.shown.public c.in_ok-path.path.public.items c.in-Ok.inputs.public c.in_ok-shown.ensures.public upper c.in-Ok.ensures.public
+    c.in_ok-shown.shown.private c.in_ok-path.path.private.items c.in-Ok.inputs.private c.in_ok-shown.ensures.privates c.in-Ok.ensures.private
     c.in_ok-shown.ensures.satisfied climbing

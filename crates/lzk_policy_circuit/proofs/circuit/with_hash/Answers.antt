@@ -8,7 +8,8 @@ use Rattle.lzk_circuit.specs.Wires.{inputs_of}
 use Rattle.lzk_reduce.specs.Renumbering.{AreNumbersBelow}
 use Rattle.lzk_beside.specs.Chosen.{chosen}
 use Rattle.lzk_policy_circuit.specs.Places.{hash_places}
-use Rattle.lzk_policy_circuit.proofs.Parts.{range_below, hash_places_below, hash_places_count}
+use Rattle.lzk_beside.proofs.PlaceLaws.{row_below}
+use Rattle.lzk_policy_circuit.proofs.Parts.{hash_places_below, hash_places_count}
 use Rattle.lzk_policy_circuit.proofs.Joined.{hash_satisfied}
 use Rattle.lzk_policy_circuit.proofs.circuit.with_hash.Goals as goal
 
@@ -34,7 +35,7 @@ beside-requires-clause-first c κs =
     let width = 1 + h.publics + h.privates in
     let n = h.publics + c.privates.result in
     subst (AreNumbersBelow width) (sym (c.deref.ensures.value ∙ c.in_ok-places.ensures))
-    (range_below width 1 n (omega (arith, c.privates.ensures, c.requires.privates)))
+    (row_below width 1 n (omega (arith, c.privates.ensures, c.requires.privates)))
 
 pub beside-requires-clause-second : goal.beside-requires-clause-second
 beside-requires-clause-second c κs =

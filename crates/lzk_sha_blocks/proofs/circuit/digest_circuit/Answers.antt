@@ -21,37 +21,37 @@ returns-then-len-lt56-clause-satisfied c public private short long =
     let small = c.if-len-lt56.true in
     let few : len ≤ 55 = omega (arith, small) in
     let count : private_count len ≡ given_count len 0 + 6376 = omega (arith, few) in
-    both_ways (IsSatisfied ops number c.in_ok-first.first.layers (inputs_of ops public private)) (AreCompressing ops of_number (block_places len 0) public private) (AreHashing ops of_number len public private)
-    (c.in_ok-first.ensures.satisfied public private short (long ∙ count)) (only_block ops len few public private short long of_number)
+    both_ways (IsSatisfied ops number c.in-Ok.first.layers (inputs_of ops public private)) (AreCompressing ops of_number (block_places len 0) public private) (AreHashing ops of_number len public private)
+    (c.in-Ok.ensures.satisfied public private short (long ∙ count)) (only_block ops len few public private short long of_number)
 
 pub with_block-requires-clause-count : goal.with_block-requires-clause-count
 with_block-requires-clause-count c =
-    let made = c.in_ok-first.ensures in
+    let made = c.in-Ok.ensures in
     let p = made.publics in
     let q = made.privates in
-    let long = ap length (c.deref.ensures.value ∙ c.in_ok-seen.ensures) ∙ length-wires c.args.len 0 in
+    let long = ap length (c.deref.ensures.value ∙ c.in-Ok-wires.ensures) ∙ length-wires c.args.len 0 in
     omega (arith, long, p, q)
 
 pub with_block-requires-clause-below : goal.with_block-requires-clause-below
 with_block-requires-clause-below c =
     let some : 0 < blocks c.args.len = omega arith in
-    subst (AreNumbersBelow (9 + private_count c.args.len)) (sym (c.deref.ensures.value ∙ c.in_ok-seen.ensures)) (wires_below c.args.len 0 some)
+    subst (AreNumbersBelow (9 + private_count c.args.len)) (sym (c.deref.ensures.value ∙ c.in-Ok-wires.ensures)) (wires_below c.args.len 0 some)
 
 pub loop-i-init : goal.loop-i-init
 loop-i-init c =
     let len = c.args.len in
     let made = c.in_ok-whole.ensures in
-    let first = c.in_ok-first.first in
+    let first = c.in-Ok.first in
     record {
       version = made.version;
       publics = made.publics;
       privates = made.privates;
       satisfied = λ public private short long.
           let inputs = inputs_of ops public private in
-          let seen = ap (λ (ws : List ℕ). chosen ops ws inputs) (c.deref.ensures.value ∙ c.in_ok-seen.ensures) ∙ seen_is ops len 0 inputs in
+          let seen = ap (λ (ws : List ℕ). chosen ops ws inputs) (c.deref.ensures.value ∙ c.in-Ok-wires.ensures) ∙ seen_is ops len 0 inputs in
           let own =
           subst (λ (xs : List Gold). IsSatisfied ops number first.layers xs ↔ IsBlockSatisfied ops of_number len inputs 0) (sym seen)
-          (c.in_ok-first.ensures.satisfied (block_public ops len inputs 0) (block_private ops len inputs 0) (length-seen_public ops len 0 inputs) (length-seen_private ops len 0 inputs)) in
+          (c.in-Ok.ensures.satisfied (block_public ops len inputs 0) (block_private ops len inputs 0) (length-seen_public ops len 0 inputs) (length-seen_private ops len 0 inputs)) in
           let before = IsSatisfied ops number first.layers (chosen ops c.deref.result.now inputs) in
           joined (IsSatisfied ops number c.in_ok-whole.whole.layers inputs) before (IsBlockSatisfied ops of_number len inputs 1) (AreBlocksSatisfied ops of_number len inputs 1) (AreBlocksSatisfied ops of_number len inputs 2)
           (made.satisfied public private short long)
@@ -63,7 +63,7 @@ pub with_block-requires-in-loop-i-clause-count : goal.with_block-requires-in-loo
 with_block-requires-in-loop-i-clause-count c =
     let len = c.args.len in
     let n = 8 * len + 6384 * c.block_count-blocks.result in
-    let long = ap length (c.deref-in-loop-i.ensures.value ∙ c.in_ok-all.ensures) ∙ length-range_with_len 1 n in
+    let long = ap length (c.deref-in-loop-i.ensures.value ∙ c.in-Ok-all_wires.ensures) ∙ length-range_with_len 1 n in
     let p = c.loop-i.invariant.publics in
     let q = c.loop-i.invariant.privates in
     let count = c.block_count-blocks.ensures.count in
@@ -77,7 +77,7 @@ with_block-requires-in-loop-i-clause-below c =
     let count = c.block_count-blocks.ensures.count in
     let some = c.block_count-blocks.ensures.some in
     let width : 1 + n ≡ 9 + private_count len = omega (arith, count, some) in
-    subst (λ (ws : List ℕ). AreNumbersBelow (9 + private_count len) ws) (sym (c.deref-in-loop-i.ensures.value ∙ c.in_ok-all.ensures))
+    subst (λ (ws : List ℕ). AreNumbersBelow (9 + private_count len) ws) (sym (c.deref-in-loop-i.ensures.value ∙ c.in-Ok-all_wires.ensures))
     (subst (λ w. AreNumbersBelow w (range_with_len 1 n)) width (all_below n))
 
 pub loop-i-preserved : goal.loop-i-preserved
@@ -95,7 +95,7 @@ loop-i-preserved c =
       privates = made.privates;
       satisfied = λ public private short long.
           let inputs = inputs_of ops public private in
-          let same = ap (λ (ws : List ℕ). chosen ops ws inputs) (c.deref-in-loop-i.ensures.value ∙ c.in_ok-all.ensures) ∙ all_seen ops public private n (omega (arith, short, long, count, some)) in
+          let same = ap (λ (ws : List ℕ). chosen ops ws inputs) (c.deref-in-loop-i.ensures.value ∙ c.in-Ok-all_wires.ensures) ∙ all_seen ops public private n (omega (arith, short, long, count, some)) in
           joined (IsSatisfied ops number c.in_ok-next.next.layers inputs) (IsSatisfied ops number whole.layers (chosen ops c.deref-in-loop-i.result.now inputs)) (IsBlockSatisfied ops of_number len inputs i)
           (AreBlocksSatisfied ops of_number len inputs i) (AreBlocksSatisfied ops of_number len inputs (i + 1))
           (made.satisfied public private short long)

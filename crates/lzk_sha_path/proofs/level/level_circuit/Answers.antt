@@ -8,7 +8,8 @@ use Rattle.lzk_circuit.specs.Wires.{inputs_of}
 use Rattle.lzk_reduce.specs.Renumbering.{AreNumbersBelow}
 use Rattle.lzk_beside.specs.Chosen.{chosen}
 use Rattle.lzk_sha_path.proofs.LevelLaws.{level_exactly}
-use Rattle.lzk_sha_path.proofs.Seen.{row_below, front_seen, root_seen, words_length}
+use Rattle.lzk_beside.proofs.PlaceLaws.{row_below}
+use Rattle.lzk_sha_path.proofs.Seen.{front_seen, root_seen, words_length}
 use Rattle.lzk_sha_path.proofs.level.level_circuit.Goals as goal
 
 pub invariant_of-first : goal.invariant_of-first
