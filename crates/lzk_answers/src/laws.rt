@@ -7,13 +7,13 @@ ghost use Rattle.lzk_answers.specs.Laws.{QuadraticFails, SumsChange};
 use lzk_field::Field;
 
 /// A polynomial that is not zero has fewer zeros than coefficients.
-pub fn values_determine<F: Field>()
+pub fn value_laws<F: Field>()
     ensures zeros { NoFurtherZero F.ops }
 {}
 
 /// The answers of rows are right at every opened column. Where the rows stand for a list that satisfies its
 /// constraints, the quadratic answer has its zeros, and the linear answer the wanted sum.
-pub fn answers_pass<F: Field>()
+pub fn answers_laws<F: Field>()
     ensures columns { ColumnsOpen F.ops F.coding.element }
     ensures low_degree { LowDegreePasses F.ops F.coding.element }
     ensures linear { LinearPasses F.ops F.coding.element }
@@ -25,7 +25,7 @@ pub fn answers_pass<F: Field>()
 
 /// An answer of rows with one value changed is wrong at every opened column, and the linear answer's sum changes by as
 /// much.
-pub fn changed_answers_fail<F: Field>()
+pub fn changed_answers_laws<F: Field>()
     ensures low_degree { LowDegreeFails F.ops F.coding.element }
     ensures linear { LinearFails F.ops F.coding.element }
     ensures quadratic { QuadraticFails F.ops F.coding.element }

@@ -21,7 +21,7 @@ mod quadratic;
 mod rows;
 mod table;
 
-pub use laws::{answers_pass, changed_answers_fail, values_determine};
+pub use laws::{answers_laws, changed_answers_laws, value_laws};
 pub use linear::{linear_by_factors_into, linear_into};
 pub use low_degree::low_degree_into;
 pub use quadratic::quadratic_into;

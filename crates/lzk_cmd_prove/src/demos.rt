@@ -18,7 +18,7 @@ use lzk_circuit::Circuit;
 use lzk_cmd_files::{Ending, Halt, Means, lines};
 use lzk_cmd_verify::verdict_on;
 use lzk_cmd_words::{number_up_to, seed_bytes, workers_of};
-use lzk_complete::proofs_accepted;
+use lzk_complete::accepted_laws;
 use lzk_demo::{DemoInputs, demo_circuit, demo_inputs};
 use lzk_field::{Field, Gate, Seeded};
 use lzk_goldilocks::Gold;
@@ -121,7 +121,7 @@ fn prove_demo<R: Threads + Sync, G: Gate>(
         HasVerdict ops gold_coding circuit.now inputs.now.public.items inputs.now.private.items by.seed len
         Verdict.Accepted) }
 {
-    proofs_accepted::<Gold>();
+    accepted_laws::<Gold>();
     circuit.valid_laws();
     let (len, verdict) = prove_and_verify::<Gold, NttExtender<Gold>, R, G>(
         means,

@@ -2,7 +2,7 @@
 
 ghost use Rattle.lzk_cmd_runs.specs.Laws.{RunLaws};
 
-use lzk_complete::{proof_laws, proofs_accepted};
+use lzk_complete::{accepted_laws, proof_laws};
 use lzk_demo::demo_laws;
 use lzk_gf128::Gf128;
 use lzk_goldilocks::Gold;
@@ -14,8 +14,8 @@ pub fn run_laws()
 {
     proof_laws::<Gold>();
     proof_laws::<Gf128>();
-    proofs_accepted::<Gold>();
-    proofs_accepted::<Gf128>();
+    accepted_laws::<Gold>();
+    accepted_laws::<Gf128>();
     demo_laws();
     circuit_laws();
 }

@@ -5,8 +5,8 @@ ghost use Rattle.lzk_complete.specs.Complete.{Complete};
 ghost use Rattle.lzk_complete.specs.Proving.{OneFile, SomeFile, FilesFit};
 ghost use Rattle.lzk_complete.specs.Refused.{ChangedRefused};
 
-use crate::residuals::residuals_vanish;
-use lzk_answers::{answers_pass, changed_answers_fail};
+use crate::residuals::residual_laws;
+use lzk_answers::{answers_laws, changed_answers_laws};
 use lzk_field::Field;
 
 /// Laws of the definition of a proof: there is one file at most, valid circuits and inputs of their counts have one,
@@ -18,27 +18,27 @@ pub fn proof_laws<F: Field>()
 {}
 
 /// The file of the proof of satisfying inputs is accepted. The body only calls what the proof stands on.
-pub fn proofs_accepted<F: Field>()
+pub fn accepted_laws<F: Field>()
     ensures accepted { Complete F.ops F.coding }
 {
-    residuals_vanish::<F>();
-    answers_pass::<F>();
+    residual_laws::<F>();
+    answers_laws::<F>();
 }
 
 /// Where one value of an answer is changed before the columns are drawn, the check of that answer alone refuses the
 /// file. The body only calls what the proof stands on.
-pub fn changed_proofs_refused<F: Field>()
+pub fn refused_laws<F: Field>()
     ensures refused { ChangedRefused F.ops F.coding }
 {
-    residuals_vanish::<F>();
-    answers_pass::<F>();
-    changed_answers_fail::<F>();
+    residual_laws::<F>();
+    answers_laws::<F>();
+    changed_answers_laws::<F>();
 }
 
 /// The file of the proof of any inputs, satisfying or not, meets all conditions but that on the linear answer's sum.
 /// The body only calls what the proof stands on.
-pub fn proofs_checked<F: Field>()
+pub fn checked_laws<F: Field>()
     ensures checked { AnyInputs F.ops F.coding }
 {
-    answers_pass::<F>();
+    answers_laws::<F>();
 }

@@ -17,5 +17,5 @@ mod laws;
 mod residuals;
 
 pub use answer::Answer;
-pub use laws::{changed_proofs_refused, proof_laws, proofs_accepted, proofs_checked};
-pub use residuals::residuals_vanish;
+pub use laws::{accepted_laws, checked_laws, proof_laws, refused_laws};
+pub use residuals::residual_laws;

@@ -5,6 +5,6 @@ ghost use Rattle.lzk_complete.specs.Residuals.{ResidualsVanish};
 use lzk_field::Field;
 
 /// For satisfying inputs every residual of the committed list is 0. The body does nothing.
-pub fn residuals_vanish<F: Field>()
+pub fn residual_laws<F: Field>()
     ensures vanish { ResidualsVanish F.ops F.coding }
 {}

@@ -160,9 +160,8 @@ pub(crate) fn write_proof<R: Hands, F: Field, W: Words, X: RowExtend<F>, G: Gate
     committed: &mut Committed<F>,
     answering: &mut Answering<F>,
 ) -> usize
-    requires reaching { let s = statement.now in let x = extenders.now in
-        AreReaching s.params.now (X.reach x.short) (X.reach x.long) (X.rooms x.short) (X.rooms x.long)
-        committed.old.tableau.room }
+    requires reaching { let x = extenders.now in AreReaching statement.now.params.now
+        (X.reach x.short) (X.reach x.long) (X.rooms x.short) (X.rooms x.long) committed.old.tableau.room }
     requires reach { X.reach extenders.now.coefficients ≡ coefficient_reach statement.now.params.now }
     requires change { IsChangeOf statement.now.params.now change }
     requires committed { let s = statement.now in
@@ -178,8 +177,8 @@ pub(crate) fn write_proof<R: Hands, F: Field, W: Words, X: RowExtend<F>, G: Gate
     ensures answering { let s = statement.now in
         IsAnsweringFor F.ops F.coding s.circuit.now s.params.now (X.rooms extenders.now.coefficients) answering.new }
 {
-    let tableau = &mut committed.tableau;
-    let tree = &mut committed.tree;
+    let params = statement.params;
+    let (tableau, tree) = (&mut committed.tableau, &mut committed.tree);
     let sent = &mut answering.sent;
     let inputs = Inputs {
         circuit: statement.circuit,
@@ -203,17 +202,12 @@ pub(crate) fn write_proof<R: Hands, F: Field, W: Words, X: RowExtend<F>, G: Gate
     open_columns(
         tableau,
         words,
-        statement.params.nrow as usize,
+        params.nrow as usize,
         &sent.columns,
         &mut sent.proof.nonces,
         &mut sent.proof.columns,
     );
-    open_path(
-        tree,
-        statement.params.mcol,
-        &sent.columns,
-        &mut sent.proof.path,
-    );
+    open_path(tree, params.mcol, &sent.columns, &mut sent.proof.path);
     statement.circuit.valid_laws();
-    write_file(statement.params, &sent.proof, &mut answering.bytes)
+    write_file(params, &sent.proof, &mut answering.bytes)
 }

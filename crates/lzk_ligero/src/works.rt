@@ -20,7 +20,7 @@ use crate::changing::Change;
 use crate::proving::write_proof;
 use lzk_circbytes::id;
 use lzk_circuit::Circuit;
-use lzk_complete::{Answer, changed_proofs_refused, proofs_accepted, proofs_checked};
+use lzk_complete::{Answer, accepted_laws, checked_laws, refused_laws};
 use lzk_crew::Crew;
 use lzk_field::{Field, Gate, Words};
 use lzk_hands::Hands;
@@ -147,7 +147,7 @@ impl<'c, F: Field, X: RowExtend<F>> WorksOver<'c, F, X> {
             (words_of (W.at words.now)) result.now }
         ensures checked { AllButSum F.ops F.coding self.old session.now public.now result.now }
     {
-        proofs_checked::<F>();
+        checked_laws::<F>();
         self.circuit.valid_laws();
         self.parts.evaluate(self.circuit, public, private);
         let crew = Crew { rt, gate, workers };
@@ -193,7 +193,7 @@ impl<'c, F: Field, X: RowExtend<F>> WorksOver<'c, F, X> {
             → by ≢ F.ops.zero
             → IsRefused F.ops F.coding self.old session.now public.now answer place by result.now }
     {
-        changed_proofs_refused::<F>();
+        refused_laws::<F>();
         self.circuit.valid_laws();
         self.parts.evaluate(self.circuit, public, private);
         let crew = Crew { rt, gate, workers };
@@ -245,7 +245,7 @@ impl<'c, F: Field, X: RowExtend<F>> WorksOver<'c, F, X> {
         if let Some(output) = self.parts.evaluate(self.circuit, public, private) {
             return Err(self.parts.fault(output));
         }
-        proofs_accepted::<F>();
+        accepted_laws::<F>();
         self.circuit.valid_laws();
         let crew = Crew { rt, gate, workers };
         let len = write(

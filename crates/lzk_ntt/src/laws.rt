@@ -10,7 +10,7 @@ use lzk_field::Field;
 /// transform, and the inverse transform of the products of two transforms' values is the cyclic convolution.
 ///
 /// The number of the entries must have an inverse in the field.
-pub fn convolution_theorem<F: Field>()
+pub fn convolution_laws<F: Field>()
     ensures undone { (n : ℕ) → (w v : F) → IsPrincipal F.ops n w → F.ops.times w v ≡ F.ops.one
         → F.ops.times (sum_below F.ops n (λ j. F.ops.one)) (F.ops.inverse (sum_below F.ops n (λ j. F.ops.one)))
         ≡ F.ops.one

@@ -34,6 +34,6 @@ mod transform;
 
 pub use extender::NttExtender;
 pub use gold::root_of;
-pub use laws::convolution_theorem;
+pub use laws::convolution_laws;
 pub use prepared::{Factor, Prepared};
 pub use transform::Transform;

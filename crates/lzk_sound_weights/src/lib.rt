@@ -7,4 +7,4 @@
 
 mod laws;
 
-pub use laws::weights_counted;
+pub use laws::weights_laws;

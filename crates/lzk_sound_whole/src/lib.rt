@@ -6,4 +6,4 @@
 
 mod laws;
 
-pub use laws::whole_counted;
+pub use laws::whole_laws;

@@ -16,4 +16,4 @@ unreachable-requires g c =
     let first = subst (λ (xs : List Gold). HasVerdict ops gold_coding circuit xs c.deref-2.result.now seed len verdict) c.deref.ensures.value c.in_ok-len.ensures in
     let both = subst (λ (ys : List Gold). HasVerdict ops gold_coding circuit inputs.public.items ys seed len verdict) c.deref-2.ensures.value first in
     c.in_default.not-Accepted
-    (demo_verdict c.proofs_accepted.ensures.accepted circuit c.valid_laws.ensures inputs.public.items inputs.private.items (c.requires.publics, c.requires.privates) c.requires.satisfied seed len verdict both)
+    (demo_verdict c.accepted_laws.ensures.accepted circuit c.valid_laws.ensures inputs.public.items inputs.private.items (c.requires.publics, c.requires.privates) c.requires.satisfied seed len verdict both)

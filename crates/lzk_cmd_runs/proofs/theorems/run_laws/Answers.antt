@@ -12,12 +12,12 @@ returns c =
         gold_fits = c.proof_laws.ensures.fit;
         gf_file = c.proof_laws-2.ensures.some;
         gf_fits = c.proof_laws-2.ensures.fit;
-        gold_accepted = c.proofs_accepted.ensures.accepted;
+        gold_accepted = c.accepted_laws.ensures.accepted;
         demo_inputs = c.demo_laws.ensures.satisfied;
         demo_circuit = c.demo_laws.ensures.circuit;
         sha_circuit = c.circuit_laws.ensures.some;
       });
-      honest = proved_is_accepted c.proofs_accepted.ensures.accepted c.proofs_accepted-2.ensures.accepted;
-      hashed = hashed_is_accepted c.proofs_accepted.ensures.accepted c.proofs_accepted-2.ensures.accepted;
+      honest = proved_is_accepted c.accepted_laws.ensures.accepted c.accepted_laws-2.ensures.accepted;
+      hashed = hashed_is_accepted c.accepted_laws.ensures.accepted c.accepted_laws-2.ensures.accepted;
       satisfied = hashes_satisfied c.circuit_laws.ensures.satisfied;
     }

@@ -20,6 +20,6 @@ returns g c =
       record {
         same = tt;
         file = file;
-        checked = c.proofs_checked.ensures.checked c.args.self.now session public private word (take c.write-len.result c.deref.result.now) valid (c.requires.public, c.requires.private) file;
+        checked = c.checked_laws.ensures.checked c.args.self.now session public private word (take c.write-len.result c.deref.result.now) valid (c.requires.public, c.requires.private) file;
       },
     )

@@ -23,7 +23,7 @@ returns g c =
       record {
         same = tt;
         file = file;
-        refused = λ satisfied some. c.changed_proofs_refused.ensures.refused c.args.self.now session public private word which n by (take c.write-len.result c.deref.result.now)
+        refused = λ satisfied some. c.refused_laws.ensures.refused c.args.self.now session public private word which n by (take c.write-len.result c.deref.result.now)
             valid (c.requires.public, c.requires.private) satisfied c.requires.place some file;
       },
     )

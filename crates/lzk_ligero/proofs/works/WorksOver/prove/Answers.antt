@@ -42,6 +42,6 @@ returns g c =
       record {
         same = tt;
         proved = (satisfied, file);
-        accepted = c.proofs_accepted.ensures.accepted c.args.self.now session public private word (take c.write-len.result c.deref.result.now) valid (c.requires.public, c.requires.private) satisfied file;
+        accepted = c.accepted_laws.ensures.accepted c.args.self.now session public private word (take c.write-len.result c.deref.result.now) valid (c.requires.public, c.requires.private) satisfied file;
       },
     )

@@ -1,6 +1,6 @@
 use Rattle.std.proofs.Common.{arith}
 use Rattle.lzk_answers.proofs.ChangedLaws.{zero_nowhere_else}
-use Rattle.lzk_answers.proofs.laws.values_determine.Goals as goal
+use Rattle.lzk_answers.proofs.laws.value_laws.Goals as goal
 
 pub returns : goal.returns
 returns g c = record {

@@ -1,7 +1,7 @@
 use Rattle.lzk_answers.proofs.PassLaws.{low_degree_passes, linear_passes, quadratic_passes}
 use Rattle.lzk_answers.proofs.RowLaws.{columns_open}
 use Rattle.lzk_answers.proofs.StandLaws.{combined_rows, linear_sum_stands, zeros_stand}
-use Rattle.lzk_answers.proofs.laws.answers_pass.Goals as goal
+use Rattle.lzk_answers.proofs.laws.answers_laws.Goals as goal
 
 pub returns-clause-columns : goal.returns-clause-columns
 returns-clause-columns g c = columns_open g.F.Field.ops g.F.Field.coding.element

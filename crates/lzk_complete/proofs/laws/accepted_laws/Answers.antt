@@ -1,12 +1,12 @@
 use Rattle.lzk_complete.proofs.Accepted.{complete}
-use Rattle.lzk_complete.proofs.laws.proofs_accepted.Goals as goal
+use Rattle.lzk_complete.proofs.laws.accepted_laws.Goals as goal
 
 pub returns : goal.returns
 returns g c =
     let f = g.F.Field in
-    let pass = c.answers_pass.ensures in
+    let pass = c.answers_laws.ensures in
     record {
-      accepted = complete f.ops f.coding f.laws.ring c.residuals_vanish.ensures.vanish (record {
+      accepted = complete f.ops f.coding f.laws.ring c.residual_laws.ensures.vanish (record {
         columns = pass.columns;
         low_degree = pass.low_degree;
         linear = pass.linear;

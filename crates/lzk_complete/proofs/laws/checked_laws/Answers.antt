@@ -1,10 +1,10 @@
 use Rattle.lzk_complete.proofs.AnyChecked.{any_inputs}
-use Rattle.lzk_complete.proofs.laws.proofs_checked.Goals as goal
+use Rattle.lzk_complete.proofs.laws.checked_laws.Goals as goal
 
 pub returns : goal.returns
 returns g c =
     let f = g.F.Field in
-    let pass = c.answers_pass.ensures in
+    let pass = c.answers_laws.ensures in
     record {
       checked = any_inputs f.ops f.coding f.laws.ring (record {
         columns = pass.columns;

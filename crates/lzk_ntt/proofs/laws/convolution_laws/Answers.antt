@@ -1,5 +1,5 @@
 use Rattle.lzk_ntt.proofs.Principal.{conv, inverse-undoes}
-use Rattle.lzk_ntt.proofs.laws.convolution_theorem.Goals as goal
+use Rattle.lzk_ntt.proofs.laws.convolution_laws.Goals as goal
 
 pub returns-clause-undone : goal.returns-clause-undone
 returns-clause-undone g c = λ n w v is inverse ones x t h. inverse-undoes g.F.Field.ops g.F.Field.laws.ring n w v is inverse x t ones h

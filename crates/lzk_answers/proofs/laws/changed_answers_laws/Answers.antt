@@ -1,5 +1,5 @@
 use Rattle.lzk_answers.proofs.PassLaws.{low_degree_fails, linear_fails, quadratic_fails, sums_change}
-use Rattle.lzk_answers.proofs.laws.changed_answers_fail.Goals as goal
+use Rattle.lzk_answers.proofs.laws.changed_answers_laws.Goals as goal
 
 pub returns-clause-low_degree : goal.returns-clause-low_degree
 returns-clause-low_degree g c = low_degree_fails g.F.Field.laws

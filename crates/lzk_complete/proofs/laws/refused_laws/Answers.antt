@@ -1,13 +1,13 @@
 use Rattle.lzk_complete.proofs.Refused.{changed_refused}
-use Rattle.lzk_complete.proofs.laws.changed_proofs_refused.Goals as goal
+use Rattle.lzk_complete.proofs.laws.refused_laws.Goals as goal
 
 pub returns : goal.returns
 returns g c =
     let f = g.F.Field in
-    let pass = c.answers_pass.ensures in
-    let fail = c.changed_answers_fail.ensures in
+    let pass = c.answers_laws.ensures in
+    let fail = c.changed_answers_laws.ensures in
     record {
-      refused = changed_refused f.ops f.coding f.laws.ring c.residuals_vanish.ensures.vanish
+      refused = changed_refused f.ops f.coding f.laws.ring c.residual_laws.ensures.vanish
           (record {
             columns = pass.columns;
             low_degree = pass.low_degree;
