@@ -245,7 +245,7 @@ module _ {A : Type 0} (o : Ops A) (e : Coding A) (r : RingLaws o) (c : Wiring A)
 
     show_same : ShowSame proof (simulated o e c public s ch columns free)
     unfolding simulated
-    show_same = record { messages = messages_same; ldt = ldt_same; dot = dot_same; quad_head = head_same; quad_tail = tail_same; columns = columns_same }
+    show_same = record { messages = messages_same; ldt = ldt_same; dot = dot_same; quads = (head_same, tail_same); columns = columns_same }
 
   -- ---- and no others
 
@@ -300,8 +300,8 @@ module _ {A : Type 0} (o : Ops A) (e : Coding A) (r : RingLaws o) (c : Wiring A)
         (λ x h. rest_ldt x h ∙ part_is proof.ldt (ldt_free p) p.block x same.ldt h)
         (λ x h. rest_dot_low x h ∙ dot_entry x (omega (arith, h, b.block, b.dblock)) ∙ dot_low o e r c public s ch columns b are free x h)
         (λ x h d. rest_dot_high x h d ∙ dot_entry x d ∙ dot_high o e r c public s ch columns b are free x h)
-        (λ x h. rest_head x h ∙ part_is proof.quad_head (head_free p) 128 x same.quad_head h)
-        (λ x h. rest_tail x h ∙ part_is proof.quad_tail (tail_free p) (p.dblock - p.block) x same.quad_tail h)
+        (λ x h. rest_head x h ∙ part_is proof.quad_head (head_free p) 128 x same.quads.0 h)
+        (λ x h. rest_tail x h ∙ part_is proof.quad_tail (tail_free p) (p.dblock - p.block) x same.quads.1 h)
         free_rows
 
   list : List A

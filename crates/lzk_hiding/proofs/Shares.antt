@@ -27,8 +27,8 @@ shown_passes {A} o e c public s ch columns proof made same pass =
     ap (λ x. record proof { messages = x }) same.messages
     ∙ ap (λ x. record proof { messages = made.messages; ldt = x }) same.ldt
     ∙ ap (λ x. record proof { messages = made.messages; ldt = made.ldt; dot = x }) same.dot
-    ∙ ap (λ x. record proof { messages = made.messages; ldt = made.ldt; dot = made.dot; quad_head = x }) same.quad_head
-    ∙ ap (λ x. record proof { messages = made.messages; ldt = made.ldt; dot = made.dot; quad_head = made.quad_head; quad_tail = x }) same.quad_tail
+    ∙ ap (λ x. record proof { messages = made.messages; ldt = made.ldt; dot = made.dot; quad_head = x }) same.quads.0
+    ∙ ap (λ x. record proof { messages = made.messages; ldt = made.ldt; dot = made.dot; quad_head = made.quad_head; quad_tail = x }) same.quads.1
     ∙ ap (λ x. record proof { messages = made.messages; ldt = made.ldt; dot = made.dot; quad_head = made.quad_head; quad_tail = made.quad_tail; columns = x }) same.columns in
     let of_put : Passes o e c public s ch columns put = record {
       messages = pass.messages;

@@ -82,8 +82,7 @@ pub record ShowSame {A : Type 0} (first second : Proof A) : Type 0 where
   pub messages : first.messages ≡ second.messages
   pub ldt : first.ldt ≡ second.ldt
   pub dot : first.dot ≡ second.dot
-  pub quad_head : first.quad_head ≡ second.quad_head
-  pub quad_tail : first.quad_tail ≡ second.quad_tail
+  pub quads : (first.quad_head ≡ second.quad_head) × (first.quad_tail ≡ second.quad_tail)
   pub columns : first.columns ≡ second.columns
 
 -- And to one thing at most.
