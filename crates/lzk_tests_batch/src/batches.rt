@@ -1,4 +1,5 @@
-//! Batches of three jobs, of which the second is rejected. The verdicts wanted are those of an independent implementation.
+//! Batches of three jobs, of which the second is rejected. The verdicts wanted are those of an independent
+//! implementation.
 
 use crate::jobs::{Batch, are_fit, fill_with_three};
 use lzk_batch::{AnyVerdict, Judged, Tickets, verify_batch};
@@ -32,8 +33,8 @@ fn times_wanted(lists: &[Vec<Judged>]) -> [u8; 3] {
     times
 }
 
-// What the first jobs of the batch give with fresh passes: how often each job stands in the lists with the verdict wanted, how many lists
-// there are, and the first number that was not drawn.
+// What the first jobs of the batch give with fresh passes: how often each job stands in the lists with the verdict
+// wanted, how many lists there are, and the first number that was not drawn.
 fn seen<R: Threads + Sync, G: Gate>(
     rt: &R,
     alloc: Global,

@@ -17,8 +17,8 @@ fn fill(shelf: &mut MemShelf) -> Result<(), AllocError> {
     Ok(())
 }
 
-// Plays each of these runs, with a gate of its own. The status and whether two workers met, for the first that ended otherwise or was
-// asked for a meeting and had none.
+// Plays each of these runs, with a gate of its own. The status and whether two workers met, for the first that ended
+// otherwise or was asked for a meeting and had none.
 fn first_wrong<R: Threads + Sync>(
     rt: &R,
     alloc: Global,

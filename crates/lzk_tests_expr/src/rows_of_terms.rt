@@ -30,7 +30,8 @@ fn row_of<F: Field>(alloc: Global) -> Result<Vec<Entry>, AllocError> {
     entries(alloc, &terms)
 }
 
-// 3 + 2 x y + (1 + 8) x, and y y, which is taken away again: a term at the end, one between others, more of a term, and a term that goes.
+// 3 + 2 x y + (1 + 8) x, and y y, which is taken away again: a term at the end, one between others, more of a term,
+// and a term that goes.
 fn row_by_terms<F: Field>(alloc: Global) -> Result<Vec<Entry>, AllocError> {
     let mut row = Vec::new(alloc);
     add_term(&mut row, F::of_word(3), 0, 0)?;

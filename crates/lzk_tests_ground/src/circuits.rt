@@ -7,8 +7,8 @@ use lzk_goldilocks::Gold;
 use std::alloc::{AllocError, Global};
 use std::test::Fail;
 
-// Numbers of public and of private inputs, so many layers, the wires of each, its terms' g, a, b and coefficients, and the fault's kind,
-// layer and place.
+// Numbers of public and of private inputs, so many layers, the wires of each, its terms' g, a, b and coefficients,
+// and the fault's kind, layer and place.
 type Row = (
     u32,
     u32,

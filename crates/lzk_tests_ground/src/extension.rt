@@ -12,70 +12,121 @@ use std::alloc::{AllocError, Global};
 use std::test::Fail;
 
 // So many values, then the end of the points, then the value at Point(3) of the polynomial whose
-// coefficients are the extension.
-type Row = (u32, u32, u128);
+// coefficients are the extension: over Goldilocks, and over the binary field.
+type Row = (u32, u32, u128, u128);
 
-const GOLD_ROWS: [Row; 10] = [
-    (1, 9, 0x32b6_a3fc_9577_b520),
-    (2, 9, 0x86f5_18f8_7c70_62c9),
-    (3, 8, 0x9b0e_24a7_eac8_07e2),
-    (5, 5, 0),
-    (5, 16, 0x5d26_4f05_4c0d_3d9b),
-    (64, 128, 0xfa5a_ebee_f2e8_514f),
-    (64, 200, 0xfa92_4d5b_7b02_09db),
-    (100, 256, 0x4dc5_b77e_c63b_d27e),
-    (100, 300, 0x9696_7df4_28b4_d171),
-    (192, 1151, 0xada1_a421_da4d_58e6),
+const ROWS: [Row; 10] = [
+    (
+        1,
+        9,
+        0x32b6_a3fc_9577_b520,
+        0x1bbc_dcbf_a53e_0af9_ce60_302e_76e4_3ced,
+    ),
+    (
+        2,
+        9,
+        0x86f5_18f8_7c70_62c9,
+        0xa72b_075b_205b_f96e_3903_e4b9_76f3_bcaf,
+    ),
+    (
+        3,
+        8,
+        0x9b0e_24a7_eac8_07e2,
+        0x8683_3ada_addf_76e8_5d83_9dea_5491_0205,
+    ),
+    (5, 5, 0, 0),
+    (
+        5,
+        16,
+        0x5d26_4f05_4c0d_3d9b,
+        0xef74_b37c_7454_338d_a3fe_4b91_cc58_9ceb,
+    ),
+    (
+        64,
+        128,
+        0xfa5a_ebee_f2e8_514f,
+        0xb383_6057_4a51_ceb2_bf83_df13_579e_a07d,
+    ),
+    (
+        64,
+        200,
+        0xfa92_4d5b_7b02_09db,
+        0x2165_1bed_50f8_c096_8f44_addd_be8a_6d85,
+    ),
+    (
+        100,
+        256,
+        0x4dc5_b77e_c63b_d27e,
+        0x860e_c32b_bfdb_4ce2_6176_a928_8ffa_3fa3,
+    ),
+    (
+        100,
+        300,
+        0x9696_7df4_28b4_d171,
+        0xf202_4bbd_2924_dcc5_fa66_293c_3743_cf69,
+    ),
+    (
+        192,
+        1151,
+        0xada1_a421_da4d_58e6,
+        0x83b6_41ca_ecd3_e93d_344e_3baa_2c2a_d8a4,
+    ),
 ];
 
-const GF_ROWS: [Row; 10] = [
-    (1, 9, 0x1bbc_dcbf_a53e_0af9_ce60_302e_76e4_3ced),
-    (2, 9, 0xa72b_075b_205b_f96e_3903_e4b9_76f3_bcaf),
-    (3, 8, 0x8683_3ada_addf_76e8_5d83_9dea_5491_0205),
-    (5, 5, 0),
-    (5, 16, 0xef74_b37c_7454_338d_a3fe_4b91_cc58_9ceb),
-    (64, 128, 0xb383_6057_4a51_ceb2_bf83_df13_579e_a07d),
-    (64, 200, 0x2165_1bed_50f8_c096_8f44_addd_be8a_6d85),
-    (100, 256, 0x860e_c32b_bfdb_4ce2_6176_a928_8ffa_3fa3),
-    (100, 300, 0xf202_4bbd_2924_dcc5_fa66_293c_3743_cf69),
-    (192, 1151, 0x83b6_41ca_ecd3_e93d_344e_3baa_2c2a_d8a4),
+// The number of a point, and the value there of the polynomial through 192 values, over both fields.
+type Place = (u32, u128, u128);
+
+const PLACES: [Place; 5] = [
+    (
+        0,
+        0x72e7_3c75_3f6b_d266,
+        0x9e37_79b9_7f4a_7c15_f39c_c060_5ced_c835,
+    ),
+    (
+        191,
+        0x9cf6_54c1_0375_2bd6,
+        0x1db0_b4cd_f4a7_3046_a84f_247b_15cd_10ea,
+    ),
+    (
+        192,
+        0x9a65_2d20_fc5d_23c4,
+        0xb2e2_14b5_3629_8f28_74a0_8e6b_0b93_aa95,
+    ),
+    (
+        197,
+        0xb884_c7f3_e894_09b5,
+        0x1f68_761d_c6d0_0be4_8cb8_5393_7a95_fe8f,
+    ),
+    (
+        1150,
+        0xc780_e733_4709_62a1,
+        0xf6fd_27b1_ec9b_0495_d9f4_67a6_7855_b177,
+    ),
 ];
 
-// The number of a point, and the value there of the polynomial through 192 values.
-type Place = (u32, u128);
+// A number of coefficients, an element's number, and the polynomial's value there over both fields.
+type Value = (u32, u128, u128, u128);
 
-const GOLD_PLACES: [Place; 5] = [
-    (0, 0x72e7_3c75_3f6b_d266),
-    (191, 0x9cf6_54c1_0375_2bd6),
-    (192, 0x9a65_2d20_fc5d_23c4),
-    (197, 0xb884_c7f3_e894_09b5),
-    (1150, 0xc780_e733_4709_62a1),
-];
-
-const GF_PLACES: [Place; 5] = [
-    (0, 0x9e37_79b9_7f4a_7c15_f39c_c060_5ced_c835),
-    (191, 0x1db0_b4cd_f4a7_3046_a84f_247b_15cd_10ea),
-    (192, 0xb2e2_14b5_3629_8f28_74a0_8e6b_0b93_aa95),
-    (197, 0x1f68_761d_c6d0_0be4_8cb8_5393_7a95_fe8f),
-    (1150, 0xf6fd_27b1_ec9b_0495_d9f4_67a6_7855_b177),
-];
-
-// The value at the element with this number of the polynomial with so many coefficients.
-const GOLD_VALUES: [(u32, u128, u128); 3] = [
-    (0, 7, 0),
-    (5, 7, 0x8fac_a89f_1e6b_9d3a),
-    (3, 0xffff_ffff_ffff_fffb, 0xb0f0_a844_6af2_4d8d),
-];
-
-const GF_VALUES: [(u32, u128, u128); 3] = [
-    (0, 7, 0),
-    (5, 7, 0x69a3_7910_9bf9_92eb_1712_4eb2_2669_f238),
+const VALUES: [Value; 3] = [
+    (0, 7, 0, 0),
+    (
+        5,
+        7,
+        0x8fac_a89f_1e6b_9d3a,
+        0x69a3_7910_9bf9_92eb_1712_4eb2_2669_f238,
+    ),
     (
         3,
         0xffff_ffff_ffff_fffb,
+        0xb0f0_a844_6af2_4d8d,
         0x302b_6f27_2533_c42f_112b_cca8_387c_0ce3,
     ),
 ];
+
+// What is expected over this field.
+fn over<F: Field>(gold: u128, gf: u128) -> u128 {
+    if F::ID == Gold::ID { gold } else { gf }
+}
 
 // The values at the points up to the extender's end. None where it does not extend so many values.
 fn extended_by<F: Field>(
@@ -118,10 +169,10 @@ fn number_of_row<F: Field>(n: u32, upto: u32, alloc: Global) -> Result<Option<u1
     Ok(value_at_three(extended(&values, upto, alloc)?))
 }
 
-fn wrong_row<F: Field>(rows: &[Row], alloc: Global) -> Result<Option<usize>, AllocError> {
-    for i in 0..rows.len() {
-        let (n, upto, wanted) = rows[i];
-        if number_of_row::<F>(n, upto, alloc)? != Some(wanted) {
+fn wrong_row<F: Field>(alloc: Global) -> Result<Option<usize>, AllocError> {
+    for i in 0..ROWS.len() {
+        let (n, upto, gold, gf) = ROWS[i];
+        if number_of_row::<F>(n, upto, alloc)? != Some(over::<F>(gold, gf)) {
             return Ok(Some(i));
         }
     }
@@ -136,20 +187,20 @@ fn number_at<F: Field>(extender: &Extender<F>, values: &[F], j: u32) -> Option<u
     Some(extender.extend_at(values, j).number())
 }
 
-fn wrong_number<F: Field>(extender: &Extender<F>, values: &[F], places: &[Place]) -> Option<usize> {
-    for i in 0..places.len() {
-        let (j, wanted) = places[i];
-        if number_at(extender, values, j) != Some(wanted) {
+fn wrong_number<F: Field>(extender: &Extender<F>, values: &[F]) -> Option<usize> {
+    for i in 0..PLACES.len() {
+        let (j, gold, gf) = PLACES[i];
+        if number_at(extender, values, j) != Some(over::<F>(gold, gf)) {
             return Some(i);
         }
     }
     None
 }
 
-fn wrong_place<F: Field>(places: &[Place], alloc: Global) -> Result<Option<usize>, AllocError> {
+fn wrong_place<F: Field>(alloc: Global) -> Result<Option<usize>, AllocError> {
     let values = mixed::<F>(192, 1, alloc)?;
     let extender = Extender::new(alloc, 192, 1151)?;
-    Ok(wrong_number(&extender, &values, places))
+    Ok(wrong_number(&extender, &values))
 }
 
 fn value_of<F: Field>(n: u32, t: u128, alloc: Global) -> Result<u128, AllocError> {
@@ -157,13 +208,10 @@ fn value_of<F: Field>(n: u32, t: u128, alloc: Global) -> Result<u128, AllocError
     Ok(eval(&coeffs, F::of_word(t)).number())
 }
 
-fn wrong_value<F: Field>(
-    rows: &[(u32, u128, u128)],
-    alloc: Global,
-) -> Result<Option<usize>, AllocError> {
-    for i in 0..rows.len() {
-        let (n, t, wanted) = rows[i];
-        if value_of::<F>(n, t, alloc)? != wanted {
+fn wrong_value<F: Field>(alloc: Global) -> Result<Option<usize>, AllocError> {
+    for i in 0..VALUES.len() {
+        let (n, t, gold, gf) = VALUES[i];
+        if value_of::<F>(n, t, alloc)? != over::<F>(gold, gf) {
             return Ok(Some(i));
         }
     }
@@ -171,16 +219,11 @@ fn wrong_value<F: Field>(
 }
 
 // Whether no row, place and value is wrong.
-fn are_right<F: Field>(
-    rows: &[Row],
-    places: &[Place],
-    values: &[(u32, u128, u128)],
-    alloc: Global,
-) -> Result<bool, AllocError> {
+fn are_right<F: Field>(alloc: Global) -> Result<bool, AllocError> {
     Ok(
-        wrong_row::<F>(rows, alloc)?.is_none()
-            && wrong_place::<F>(places, alloc)?.is_none()
-            && wrong_value::<F>(values, alloc)?.is_none(),
+        wrong_row::<F>(alloc)?.is_none()
+            && wrong_place::<F>(alloc)?.is_none()
+            && wrong_value::<F>(alloc)?.is_none(),
     )
 }
 
@@ -207,7 +250,7 @@ fn squares_and_a_line_go_on(rt: HostRuntime) -> Result<(), Fail> {
 #[test]
 fn values_are_those_of_the_definition(rt: HostRuntime) -> Result<(), Fail> {
     let alloc = rt.alloc();
-    assert!(rt; are_right::<Gold>(&GOLD_ROWS, &GOLD_PLACES, &GOLD_VALUES, alloc)?);
-    assert!(rt; are_right::<Gf128>(&GF_ROWS, &GF_PLACES, &GF_VALUES, alloc)?);
+    assert!(rt; are_right::<Gold>(alloc)?);
+    assert!(rt; are_right::<Gf128>(alloc)?);
     Ok(())
 }

@@ -112,8 +112,8 @@ fn is_bound<F: Field>(
     are_elements(&table, wanted, alloc)
 }
 
-// Coordinates and the table of all agreements with them; values, coordinates and the extension; a table, what its lower variable
-// is bound to, and what it is then.
+// Coordinates and the table of all agreements with them; values, coordinates and the extension; a table, what its
+// lower variable is bound to, and what it is then.
 type Tables = &'static [(&'static [u128], &'static [u128])];
 
 type Extensions = &'static [(&'static [u128], &'static [u128], u128)];

@@ -1,8 +1,8 @@
 //! Expected values, computed apart from this crate by a plain program over Python's hashlib.
 
-// The number of leaves, the opened ones, how many digests the path has, SHA-256 of these digests one after another, and the
-// root. Leaf j is 32 bytes j. The paths are nodes 4, 3; node 2; nodes 5, 3; none; none; nodes 13, 10, 7, 4; nodes 12, 10;
-// nodes 25, 19, 17, 13, 7, 5; nodes 20, 17, 13, 11, 9, 7.
+// The number of leaves, the opened ones, how many digests the path has, SHA-256 of these digests one after another,
+// and the root. Leaf j is 32 bytes j. The paths are nodes 4, 3; node 2; nodes 5, 3; none; none; nodes 13, 10, 7, 4;
+// nodes 12, 10; nodes 25, 19, 17, 13, 7, 5; nodes 20, 17, 13, 11, 9, 7.
 pub const TREES: [(u32, &[u32], usize, &str, &str); 9] = [
     (
         4,

@@ -110,7 +110,8 @@ fn path_of(tree: &Tree, n: u32, opened: &[u32], alloc: Global) -> Result<Vec<[u8
     Ok(digests)
 }
 
-// Whether the path of these leaves has so many digests, with this SHA-256, and both the tree and the path have this root.
+// Whether the path of these leaves has so many digests, with this SHA-256, and both the tree and the path have this
+// root.
 fn is_path(
     n: u32,
     opened: &[u32],

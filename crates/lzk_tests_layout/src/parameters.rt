@@ -1,4 +1,5 @@
-//! Parameters of circuits, as an independent implementation has them. They hang on widths alone, so the circuits here have no terms.
+//! Parameters of circuits, as an independent implementation has them. They hang on widths alone, so the circuits here
+//! have no terms.
 
 use crate::proof_vectors::{Facts, GF_FACTS, GOLD_FACTS, Shape};
 use lzk_circuit::{Circuit, Layer, Terms};

@@ -1,5 +1,5 @@
-//! Where each layer's elements and pads stand, and the copies of the factors, as an independent implementation has them; and
-//! digests that are written into a path's room.
+//! Where each layer's elements and pads stand, and the copies of the factors, as an independent implementation has
+//! them; and digests that are written into a path's room.
 
 ghost use Rattle.std.specs.Prelude.{◌≡◌};
 

@@ -24,6 +24,14 @@ fn is_sent(params: &Params, answer: Answer, place: u32) -> bool
     }
 }
 
+// The digest of these halves.
+fn digest_of(first: u128, last: u128) -> [u8; 32] {
+    let mut digest = [0; 32];
+    digest[..16].copy_from_slice(&first.to_be_bytes());
+    digest[16..].copy_from_slice(&last.to_be_bytes());
+    digest
+}
+
 // Whether the proof with this change has its digest, where the value is one that is sent.
 fn is_changed<R: Threads + Sync, F: Field, X: RowExtend<F>>(
     rt: &R,
@@ -40,7 +48,7 @@ fn is_changed<R: Threads + Sync, F: Field, X: RowExtend<F>>(
     requires private { length private.now ≡ works.old.privates }
     ensures circuit { works.new ≡ works.old }
 {
-    let (answer, place) = (change.answer, change.place);
+    let (answer, place, first, last) = *change;
     if !is_sent(params, answer, place) {
         return false;
     }
@@ -58,7 +66,7 @@ fn is_changed<R: Threads + Sync, F: Field, X: RowExtend<F>>(
         place,
         F::one(),
     );
-    Sha256::digest(bytes) == change.digest
+    Sha256::digest(bytes) == digest_of(first, last)
 }
 
 /// How many of the changed proofs are written.

@@ -2,7 +2,7 @@
 
 ghost use Rattle.std.specs.Prelude.{◌≡◌};
 
-use crate::seen::{Unseen, seen};
+use crate::seen::{Method, Unseen, seen};
 use crate::vectors::{OF_ZEROS, SQUARE};
 use crate::writing::answered;
 use lzk_circbytes::{AnyCircuit, decode};
@@ -21,7 +21,7 @@ use std::thread::Threads;
 #[test]
 fn two_workers_meet(rt: HostRuntime) -> Result<(), Fail> {
     let gate = Meeting::new();
-    let by = seen(&rt, rt.alloc(), &SQUARE, &gate)?.by_workers;
+    let by = seen(&rt, rt.alloc(), &SQUARE, Method::Transform, &gate)?.by_workers;
     let digests = [by.one, by.two, by.five, by.seven, by.sixty_four];
     assert_eq!(rt; (digests, gate.have_met()), ([SQUARE.digest; 5], true));
     Ok(())
@@ -70,12 +70,13 @@ impl Gate for Counting {
 #[test]
 fn each_chunk_is_entered_once(rt: HostRuntime) -> Result<(), Fail> {
     let gate = Counting::new();
-    let by = seen(&rt, rt.alloc(), &SQUARE, &gate)?.by_workers;
+    let by = seen(&rt, rt.alloc(), &SQUARE, Method::Transform, &gate)?.by_workers;
     assert_eq!(rt; (by.five, gate.counts()), (SQUARE.digest, [1; 4]));
     Ok(())
 }
 
-// Zeros. Who draws the first word of the first column's nonce looks for whoever draws the last word of the last one's, and the other way.
+// Zeros. Who draws the first word of the first column's nonce looks for whoever draws the last word of the last
+// one's, and the other way.
 #[derive(Drop)]
 struct MeetingWords {
     meeting: Meeting,

@@ -1,13 +1,13 @@
 //! Proofs byte for byte, by several numbers of workers and by one prover in turn.
 
-use crate::seen::{seen, seen_by_sums};
+use crate::seen::{Method, seen};
 use crate::vectors::{BIT, GF_SQUARE, MINUS_ONE, OF_ONES, OF_ZEROS, SQUARE, UNSATISFIED};
 use lzk_field::Open;
 use std::test::Fail;
 
 #[test]
 fn a_prover_is_used_again_and_again(rt: HostRuntime) -> Result<(), Fail> {
-    let written = seen(&rt, rt.alloc(), &SQUARE, &Open)?;
+    let written = seen(&rt, rt.alloc(), &SQUARE, Method::Transform, &Open)?;
     let of_four = written.of_four;
     let attempted = (of_four, written.changed);
     let answered = [
@@ -23,8 +23,8 @@ fn a_prover_is_used_again_and_again(rt: HostRuntime) -> Result<(), Fail> {
 
 #[test]
 fn both_extenders_write_the_same(rt: HostRuntime) -> Result<(), Fail> {
-    let by = seen(&rt, rt.alloc(), &GF_SQUARE, &Open)?.by_workers;
-    let sums = seen_by_sums(&rt, rt.alloc(), &GF_SQUARE, &Open)?.by_workers;
+    let by = seen(&rt, rt.alloc(), &GF_SQUARE, Method::Transform, &Open)?.by_workers;
+    let sums = seen(&rt, rt.alloc(), &GF_SQUARE, Method::Sums, &Open)?.by_workers;
     let digests = [
         by.one,
         by.two,
@@ -41,8 +41,8 @@ fn both_extenders_write_the_same(rt: HostRuntime) -> Result<(), Fail> {
 fn an_assertion_of_an_inner_layer_is_proved(rt: HostRuntime) -> Result<(), Fail> {
     let mut broken = BIT;
     broken.private = MINUS_ONE;
-    let written = seen(&rt, rt.alloc(), &BIT, &Open)?;
-    let unproved = seen(&rt, rt.alloc(), &broken, &Open)?;
+    let written = seen(&rt, rt.alloc(), &BIT, Method::Transform, &Open)?;
+    let unproved = seen(&rt, rt.alloc(), &broken, Method::Transform, &Open)?;
     let answered = [written.proved, written.refused, unproved.proved];
     let wanted = [Ok(BIT.digest), Err((0, 255)), Err((1, 2))];
     let seven = written.by_workers.seven;

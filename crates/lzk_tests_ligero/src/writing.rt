@@ -44,6 +44,14 @@ pub struct ByWorkers {
     pub sixty_four: [u8; 32],
 }
 
+/// The inputs of a statement, and those with a private input of 4.
+#[derive(Clone, Copy)]
+pub struct Inputs<'a, F> {
+    pub public: &'a [F],
+    pub private: &'a [F],
+    pub four: &'a [F],
+}
+
 // No random words, so that each is 0, and as many of the greatest as a proof of the square uses.
 #[derive(Drop)]
 struct Extremes {
@@ -139,20 +147,19 @@ fn write_all<R: Threads + Sync, F: Field, X: RowExtend<F>, G: Gate>(
     works: &mut WorksOver<'_, F, X>,
     params: &Params,
     case: &Case,
-    public: &[F],
-    private: &[F],
-    four: &[F],
+    inputs: &Inputs<'_, F>,
     extremes: &Extremes,
     gate: &G,
 ) -> Written
     requires params { params.now ≡ params_of works.old }
     requires session { length case.now.session.now ≤ 64 }
-    requires public { length public.now ≡ works.old.publics }
-    requires private { length private.now ≡ works.old.privates }
-    requires four { length four.now ≡ works.old.privates }
+    requires public { length inputs.now.public.now ≡ works.old.publics }
+    requires private { length inputs.now.private.now ≡ works.old.privates }
+    requires four { length inputs.now.four.now ≡ works.old.privates }
 {
     let words = Seeded::new(case.seed);
     let session = case.session;
+    let (public, private, four) = (inputs.public, inputs.private, inputs.four);
     let (none, greatest) = (&extremes.none, &extremes.greatest);
     Written {
         by_workers: by_workers(rt, works, case, public, private, gate),
@@ -171,22 +178,18 @@ fn written_of<R: Threads + Sync, F: Field, X: RowExtend<F>, G: Gate>(
     alloc: Global,
     circuit: &Circuit<F>,
     case: &Case,
-    public: &[F],
-    private: &[F],
-    four: &[F],
+    inputs: &Inputs<'_, F>,
     extremes: &Extremes,
     gate: &G,
 ) -> Result<Written, AllocError>
     requires session { length case.now.session.now ≤ 64 }
-    requires public { length public.now ≡ circuit.now.publics }
-    requires private { length private.now ≡ circuit.now.privates }
-    requires four { length four.now ≡ circuit.now.privates }
+    requires public { length inputs.now.public.now ≡ circuit.now.publics }
+    requires private { length inputs.now.private.now ≡ circuit.now.privates }
+    requires four { length inputs.now.four.now ≡ circuit.now.privates }
 {
     let params = Params::of(circuit);
     let mut works = WorksOver::<F, X>::new(alloc, circuit)?;
-    let written = write_all(
-        rt, &mut works, &params, case, public, private, four, extremes, gate,
-    );
+    let written = write_all(rt, &mut works, &params, case, inputs, extremes, gate);
     drop(works);
     Ok(written)
 }
@@ -197,20 +200,16 @@ pub fn written_over<R: Threads + Sync, F: Field, X: RowExtend<F>, G: Gate>(
     alloc: Global,
     circuit: &Circuit<F>,
     case: &Case,
-    public: &[F],
-    private: &[F],
-    four: &[F],
+    inputs: &Inputs<'_, F>,
     gate: &G,
 ) -> Result<Written, AllocError>
     requires session { length case.now.session.now ≤ 64 }
-    requires public { length public.now ≡ circuit.now.publics }
-    requires private { length private.now ≡ circuit.now.privates }
-    requires four { length four.now ≡ circuit.now.privates }
+    requires public { length inputs.now.public.now ≡ circuit.now.publics }
+    requires private { length inputs.now.private.now ≡ circuit.now.privates }
+    requires four { length inputs.now.four.now ≡ circuit.now.privates }
 {
     let extremes = extreme_words(alloc)?;
-    let written = written_of::<R, F, X, G>(
-        rt, alloc, circuit, case, public, private, four, &extremes, gate,
-    );
+    let written = written_of::<R, F, X, G>(rt, alloc, circuit, case, inputs, &extremes, gate);
     drop(extremes);
     written
 }

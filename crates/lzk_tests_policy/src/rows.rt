@@ -85,8 +85,8 @@ pub const ACCEPTED: [Accepted; 3] = [
     },
 ];
 
-/// Changes of a public number of the first accepted row after which no private inputs serve: the digest, dates that are a
-/// day too early or too late, another country, another service, another pseudonym.
+/// Changes of a public number of the first accepted row after which no private inputs serve: the digest, dates that
+/// are a day too early or too late, another country, another service, another pseudonym.
 pub const CHANGED: [(usize, u128); 8] = [
     (0, 1),
     (7, 0),
@@ -120,9 +120,9 @@ const OTHER_SIZE: &str = "record has another size";
 
 const OTHER_COUNT: &str = "not as many values as are shown";
 
-/// Rows with no inputs: the record, a value at its place among those of the first accepted row, how many values there are,
-/// of which a sixth is the record's own, and what is said. A day too early or too late, another country, values of other
-/// kinds; of two faults the first.
+/// Rows with no inputs: the record, a value at its place among those of the first accepted row, how many values there
+/// are, of which a sixth is the record's own, and what is said. A day too early or too late, another country, values
+/// of other kinds; of two faults the first.
 pub const REFUSED: [(&[u8], usize, Value, usize, &str); 15] = [
     (HOLLAND, 0, Number(19_990_410), 5, UNTRUE_0),
     (HOLLAND, 0, Number(4_294_967_296), 5, UNTRUE_0),

@@ -1,4 +1,5 @@
-//! The program `zk`, run where inputs do not satisfy a circuit; and before that, over words that end with each other status.
+//! The program `zk`, run where inputs do not satisfy a circuit; and before that, over words that end with each other
+//! status.
 #![tactic(auto)]
 
 use lzk_main::{run_program, run_words};

@@ -9,7 +9,8 @@ use std::alloc::{AllocError, Global};
 use std::marker::Sync;
 use std::thread::Threads;
 
-/// A run: files, words, what fails, and the status, text and put that are expected. A text of None is not compared as a whole; each of
+/// A run: files, words, what fails, and the status, text and put that are expected. A text of None is not compared as
+/// a whole; each of
 /// `parts` stands in it.
 #[derive(Drop)]
 pub struct Case {
@@ -23,7 +24,8 @@ pub struct Case {
     pub put: Option<Put>,
 }
 
-/// The calls of the shelf and the writes of the sink that fail, how much a failing put leaves, and how much one write takes.
+/// The calls of the shelf and the writes of the sink that fail, how much a failing put leaves, and how much one write
+/// takes.
 #[derive(Drop)]
 pub struct Failing {
     pub calls: Vec<u64>,
@@ -97,7 +99,8 @@ fn is_stored(files: &[Stored], name: &str) -> bool {
     files.iter().any(|file| file.name.as_str() == name)
 }
 
-/// Whether each file that stood there before the run stands there as it was, and no other word names a file, but for one name.
+/// Whether each file that stood there before the run stands there as it was, and no other word names a file, but for
+/// one name.
 pub fn are_kept(case: &Case, shelf: &MemShelf, but: &str) -> bool {
     for file in &case.files {
         if file.name.as_str() != but && shelf.get(&file.name) != Some(file.bytes.as_slice()) {

@@ -101,7 +101,8 @@ fn bears_shelf_faults<T: Threads + Sync>(
     Ok(false)
 }
 
-// The run over a sink that takes so many bytes in one write, of which this write fails: the status is 5, and what was taken is a front of the text.
+// The run over a sink that takes so many bytes in one write, of which this write fails: the status is 5, and what was
+// taken is a front of the text.
 fn with_sink_fault<T: Threads + Sync>(
     threads: &T,
     alloc: Global,
@@ -148,8 +149,8 @@ fn bears_sink_faults<T: Threads + Sync>(
     Ok(false)
 }
 
-/// Whether each call of the shelf, and each write of the sink, may fail in turn, and the run ends as the fault says. `put` is what it
-/// puts where nothing fails.
+/// Whether each call of the shelf, and each write of the sink, may fail in turn, and the run ends as the fault says.
+/// `put` is what it puts where nothing fails.
 pub fn bears<T: Threads + Sync>(
     threads: &T,
     alloc: Global,

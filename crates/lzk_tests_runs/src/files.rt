@@ -46,7 +46,8 @@ fn overwrite(bytes: &mut [u8], offset: usize, new: &[u8], adds: bool) {
     }
 }
 
-/// Changes a file: `set:OFFSET:HEX`, `xor:OFFSET:HEX`, `cut:LENGTH`, `append:HEX` or `repeat:TIMES:HEX`, which appends so often.
+/// Changes a file: `set:OFFSET:HEX`, `xor:OFFSET:HEX`, `cut:LENGTH`, `append:HEX` or `repeat:TIMES:HEX`, which
+/// appends so often.
 pub fn change(alloc: Global, bytes: &mut Vec<u8>, edit: &str) -> Result<(), AllocError> {
     let (kind, rest) = edit.split_once(':').unwrap_or((edit, ""));
     let (number, digits) = rest.split_once(':').unwrap_or((rest, rest));

@@ -1,7 +1,7 @@
 //! Runs of `zk` over files in memory, each beside what an independent implementation prints, answers and puts.
 //!
-//! The file `runs.txt` lists them, as docs/TESTING.md says. A line is printed for each run that went otherwise, and at the end how many
-//! runs there were, how many went as expected, and how many of these by faults and in pieces too.
+//! The file `runs.txt` lists them, as docs/TESTING.md says. A line is printed for each run that went otherwise, and
+//! at the end how many runs there were, how many went as expected, and how many of these by faults and in pieces too.
 #![tactic(auto)]
 
 mod case;

@@ -13,8 +13,8 @@ use std::thread::Threads;
 // The lines that end a run.
 const ENDS: [&str; 4] = ["end", "then", "faults", "feeds"];
 
-/// How many runs there were, how many went as expected, how many of these by each fault too and fed in pieces too, and the labels of those
-/// that did not.
+/// How many runs there were, how many went as expected, how many of these by each fault too and fed in pieces too,
+/// and the labels of those that did not.
 #[derive(Drop)]
 pub struct Tally {
     pub runs: u32,

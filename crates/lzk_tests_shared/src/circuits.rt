@@ -7,8 +7,8 @@ use std::alloc::{AllocError, Global};
 /// A term: its layer and wire, the two wires below, and the coefficient's number.
 pub type TermRow = (u32, u32, u32, u32, u128);
 
-/// Three layers of 4, 4 and 5 wires over 2 public and 2 private inputs, as an independent implementation makes them of the
-/// nodes in lzk_tests_circuits.
+/// Three layers of 4, 4 and 5 wires over 2 public and 2 private inputs, as an independent implementation makes them
+/// of the nodes in lzk_tests_circuits.
 pub const MIXED: [TermRow; 15] = [
     (0, 0, 2, 3, 1),
     (0, 1, 0, 2, 1),
@@ -61,8 +61,8 @@ fn terms_of<F: Field>(alloc: Global, rows: &[TermRow], l: usize) -> Result<Terms
     Ok(Terms::new(terms))
 }
 
-/// The circuit of version 1 or 2 whose layers have so many wires, the outputs' first, and these terms. None where there is
-/// none.
+/// The circuit of version 1 or 2 whose layers have so many wires, the outputs' first, and these terms. None where
+/// there is none.
 pub fn circuit_of<F: Field>(
     alloc: Global,
     version: u8,

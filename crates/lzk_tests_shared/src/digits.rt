@@ -11,7 +11,8 @@ fn digit_value(digit: u8) -> u32 {
     }
 }
 
-/// The first bits of hexadecimal digits, four in each, of which the first is worth most: so many, or as many as there are.
+/// The first bits of hexadecimal digits, four in each, of which the first is worth most: so many, or as many as there
+/// are.
 pub fn bits<F: Field>(alloc: Global, digits: &str, count: usize) -> Result<Vec<F>, AllocError> {
     let mut list = Vec::new(alloc);
     for digit in digits.as_bytes() {

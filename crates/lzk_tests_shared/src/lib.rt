@@ -1,5 +1,5 @@
-//! What tests of several crates share: circuits of tables and whether inputs satisfy them, hexadecimal digits, and a gate
-//! in which two workers meet. Tests alone stand on it.
+//! What tests of several crates share: circuits of tables and whether inputs satisfy them, hexadecimal digits, and a
+//! gate in which two workers meet. Tests alone stand on it.
 #![tactic(auto)]
 
 mod circuits;

@@ -2,8 +2,9 @@
 
 use crate::shared::Shape;
 
-/// A circuit; the wanted sum, and the sum of the combined coefficients in order, each times the next power of the element with
-/// number 3, over the field of the numbers below 2^64 - 2^32 + 1; and the same two over the field of 2^128 elements.
+/// A circuit; the wanted sum, and the sum of the combined coefficients in order, each times the next power of the
+/// element with number 3, over the field of the numbers below 2^64 - 2^32 + 1; and the same two over the field of
+/// 2^128 elements.
 pub type Combined = (Shape<'static>, [u128; 2], [u128; 2]);
 
 pub const COMBINED: [Combined; 10] = [

@@ -8,7 +8,8 @@ use lzk_sumcheck::{draw_opened, public_tape};
 use std::alloc::{AllocError, Global};
 use std::test::Fail;
 
-// The first draw behind session, id and public inputs; six columns of 200 behind four parts of answers; and the draw behind these.
+// The first draw behind session, id and public inputs; six columns of 200 behind four parts of answers; and the draw
+// behind these.
 type Row = (u128, [u32; 6], u128);
 
 const GOLD: Row = (

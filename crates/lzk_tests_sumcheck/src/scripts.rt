@@ -1,4 +1,5 @@
-//! What a circuit of version 2 draws, number by number, as an independent implementation draws it for the same messages.
+//! What a circuit of version 2 draws, number by number, as an independent implementation draws it for the same
+//! messages.
 
 use crate::combined_vectors::ASSERTING;
 use crate::shared::{asserting_circuit_of, draw, undrawn};

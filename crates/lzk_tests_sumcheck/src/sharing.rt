@@ -19,7 +19,8 @@ use std::test::Fail;
 use std::thread::Threads;
 use std::time::CpuClock;
 
-// One wire of no terms over 40,000 inputs: what costs are the tables of the inputs, of which the first four rounds are worth two workers.
+// One wire of no terms over 40,000 inputs: what costs are the tables of the inputs, of which the first four rounds
+// are worth two workers.
 const WIDE: Shape<'static> = (0, 39_999, &[(1, &[])]);
 
 // Processor time: of the calling thread, and of the process's other threads, those that have ended too.
@@ -45,8 +46,8 @@ impl Spent {
         }
     }
 
-    // Whether others did a part of the work. Of two workers the other spends some third of what the caller's thread does, which does
-    // more than sum; threads that are started for nothing spend about a hundredth.
+    // Whether others did a part of the work. Of two workers the other spends some third of what the caller's thread
+    // does, which does more than sum; threads that are started for nothing spend about a hundredth.
     fn is_shared(self) -> bool {
         self.others > self.own / 16
     }
@@ -144,8 +145,8 @@ fn are_shared<R: Threads + Sync + CpuClock>(
     Ok(Some([by_one, by_two]))
 }
 
-// Nothing of a caller's sees who sums, so the processor time of the caller's thread is set against that of the whole process. Where one
-// worker sums all, the other threads spend next to nothing, on a busy machine too.
+// Nothing of a caller's sees who sums, so the processor time of the caller's thread is set against that of the whole
+// process. Where one worker sums all, the other threads spend next to nothing, on a busy machine too.
 #[test]
 fn two_workers_sum(rt: HostRuntime) -> Result<(), Fail> {
     let circuit = circuit_of::<Gf128>(WIDE, rt.alloc())?;

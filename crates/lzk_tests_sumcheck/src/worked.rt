@@ -1,5 +1,5 @@
-//! The circuit of `x * x = y` with what is sent and drawn set by hand. Its residuals and what is combined of its constraints were worked
-//! out by hand.
+//! The circuit of `x * x = y` with what is sent and drawn set by hand. Its residuals and what is combined of its
+//! constraints were worked out by hand.
 
 ghost use Rattle.std.specs.Prelude.{◌≡◌, ◌<◌, ◌+◌, ◌-◌, ◌*◌, length, IfOk, IfSome};
 ghost use Rattle.lzk_layout.specs.Sizes.{sent_counts, committed_count, params_of};
@@ -21,7 +21,8 @@ use std::test::Fail;
 // Minus 54 and minus 6.
 const RESIDUALS: [u128; 2] = [0xfffffffeffffffcb, 0xfffffffefffffffb];
 
-// Row, position and number of what is not 0 among the combined coefficients: 20, 1, minus 1 twice, minus 128, minus 28, minus 6, and 100.
+// Row, position and number of what is not 0 among the combined coefficients: 20, 1, minus 1 twice, minus 128, minus
+// 28, minus 6, and 100.
 const STANDING: [(usize, usize, u128); 8] = [
     (3, 0, 20),
     (3, 3, 1),

@@ -9,8 +9,8 @@ use std::alloc::{AllocError, Global};
 /// How many values a row begins with, and the end of its points.
 pub type Row = (u32, u32);
 
-// The rows of proofs: blocks of 192, 256, 384 and 640 values, and rows of twice as many less one. Then short ones, and long ones, one of
-// them to the most points.
+// The rows of proofs: blocks of 192, 256, 384 and 640 values, and rows of twice as many less one. Then short ones,
+// and long ones, one of them to the most points.
 const ROWS: [Row; 16] = [
     (192, 1151),
     (383, 1151),
