@@ -35,7 +35,7 @@ pub struct Outputs<'a> {
 }
 
 /// The largest text of values that is read, in bytes.
-const VALUES_LIMIT: usize = 65_536;
+const MOST_VALUES: usize = 65_536;
 
 // Appends the line of what is shown at a place.
 fn push_line_at(
@@ -103,7 +103,7 @@ fn read_given<S: Shelf>(
         (seen S.Shelf shelf.new) name.now result }
     ensures reads { OnlyReads (seen S.Shelf shelf.old) (seen S.Shelf shelf.new) }
 {
-    let text = read_file(alloc, shelf, name, VALUES_LIMIT)?;
+    let text = read_file(alloc, shelf, name, MOST_VALUES)?;
     values_in(alloc, name, policy, &text)
 }
 

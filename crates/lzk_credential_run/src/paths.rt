@@ -19,7 +19,7 @@ use lzk_policy::{is_skipped, only_word};
 use std::alloc::Global;
 
 /// The largest text of a path that is read, in bytes.
-const PATH_LIMIT: usize = 65_536;
+const MOST_PATH: usize = 65_536;
 
 /// Where a leaf stands, and the nodes beside its path, the lowest first.
 #[derive(Drop)]
@@ -179,6 +179,6 @@ pub fn read_path<S: Shelf>(alloc: Global, shelf: &mut S, name: &str) -> Result<P
         name.now result }
     ensures reads { OnlyReads (seen S.Shelf shelf.old) (seen S.Shelf shelf.new) }
 {
-    let text = read_file(alloc, shelf, name, PATH_LIMIT)?;
+    let text = read_file(alloc, shelf, name, MOST_PATH)?;
     path_in(alloc, name, &text)
 }

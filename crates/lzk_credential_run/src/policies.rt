@@ -12,7 +12,7 @@ use lzk_policy::{Policy, PolicyError, parse_policy};
 use std::alloc::Global;
 
 /// The largest policy that is read, in bytes.
-const POLICY_LIMIT: usize = 65_536;
+const MOST_POLICY: usize = 65_536;
 
 // The policy of this text.
 fn policy_of(alloc: Global, name: &str, text: &[u8]) -> Result<Policy, Halt>
@@ -68,7 +68,7 @@ pub fn read_kind<S: Shelf>(
         name.now result }
     ensures reads { OnlyReads (seen S.Shelf shelf.old) (seen S.Shelf shelf.new) }
 {
-    let text = read_file(alloc, shelf, name, POLICY_LIMIT)?;
+    let text = read_file(alloc, shelf, name, MOST_POLICY)?;
     kind_of(alloc, name, &text, rooted)
 }
 
@@ -77,6 +77,6 @@ pub fn read_policy<S: Shelf>(alloc: Global, shelf: &mut S, name: &str) -> Result
     ensures gives { Gives policy_files (λ p. p) (seen S.Shelf shelf.old) (seen S.Shelf shelf.new) name.now result }
     ensures reads { OnlyReads (seen S.Shelf shelf.old) (seen S.Shelf shelf.new) }
 {
-    let text = read_file(alloc, shelf, name, POLICY_LIMIT)?;
+    let text = read_file(alloc, shelf, name, MOST_POLICY)?;
     policy_of(alloc, name, &text)
 }
