@@ -56,7 +56,9 @@
 //!     requires private { length private.now ≡ circuit.now.privates }
 //! {
 //!     let mut prover = GoldProver::new(rt.alloc(), circuit)?;
-//!     prove_by(rt, &mut prover, session, public, private, seed)
+//!     let proof = prove_by(rt, &mut prover, session, public, private, seed);
+//!     drop(prover);
+//!     proof
 //! }
 //! ```
 //!

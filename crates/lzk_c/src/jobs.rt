@@ -81,7 +81,10 @@ fn explain_over<F: Field>(alloc: Global, circuit: &Circuit<F>, id: [u8; 32], job
     ensures { AllZip (IsExplainedOver F.ops F.coding circuit.now) jobs.old jobs.new }
 {
     match Desk::with_id(alloc, circuit, id) {
-        Ok(mut desk) => explain_each(alloc, circuit, &mut desk, jobs),
+        Ok(mut desk) => {
+            explain_each(alloc, circuit, &mut desk, jobs);
+            drop(desk);
+        }
         Err(_) => refuse_each(Refusal::OutOfMemory, jobs),
     }
 }

@@ -71,7 +71,11 @@ fn verify_over<F: Field>(
         Err(refusal) => return Err(refusal),
     };
     match Desk::with_id(alloc, circuit, id) {
-        Ok(mut desk) => { Ok(numbered(verdict_on(&mut desk, session, &publics, pieces))) }
+        Ok(mut desk) => {
+            let verdict = verdict_on(&mut desk, session, &publics, pieces);
+            drop(desk);
+            Ok(numbered(verdict))
+        }
         Err(_) => Err(Refusal::OutOfMemory),
     }
 }

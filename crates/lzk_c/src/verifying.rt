@@ -96,7 +96,11 @@ fn verify_over<F: Field>(
     ensures { SaysOver F.ops F.coding circuit.now public.now session.now proof.now result }
 {
     match Desk::with_id(alloc, circuit, id) {
-        Ok(mut desk) => verify_at(alloc, circuit, &mut desk, public, session, proof),
+        Ok(mut desk) => {
+            let told = verify_at(alloc, circuit, &mut desk, public, session, proof);
+            drop(desk);
+            told
+        }
         Err(_) => Err(Refusal::OutOfMemory),
     }
 }

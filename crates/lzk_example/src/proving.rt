@@ -40,5 +40,7 @@ pub fn prove_numbers<R: Threads + Sync + AllocGlobal>(
     requires private { length private.now ≡ circuit.now.privates }
 {
     let mut prover = GoldProver::new(rt.alloc(), circuit)?;
-    prove_by(rt, &mut prover, session, public, private, seed)
+    let proof = prove_by(rt, &mut prover, session, public, private, seed);
+    drop(prover);
+    proof
 }

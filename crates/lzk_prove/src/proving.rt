@@ -84,7 +84,11 @@ fn prove_inputs<R: Hands, F: Field, X: RowExtend<F>>(
         privates.now }
 {
     match WorksOver::<F, X>::with_id(alloc, circuit, id) {
-        Ok(mut works) => put_proof(rt, circuit, &mut works, publics, privates, with, room),
+        Ok(mut works) => {
+            let told = put_proof(rt, circuit, &mut works, publics, privates, with, room);
+            drop(works);
+            told
+        }
         Err(_) => Err(Refusal::OutOfMemory),
     }
 }

@@ -77,7 +77,9 @@ fn are_told_over<F: Field>(
         return Ok(false);
     };
     let mut desk = Desk::new(alloc, circuit)?;
-    Ok(are_told(&mut desk, session, &public, bytes))
+    let told = are_told(&mut desk, session, &public, bytes);
+    drop(desk);
+    Ok(told)
 }
 
 // The file that a word of the run names; no bytes where there is none.
