@@ -82,10 +82,11 @@ impl<F: Field> Answering<F> {
         requires id { id ≡ id_of F.coding plan.now.circuit.now }
         ensures { IfOk result (IsAnsweringFor F.ops F.coding plan.now.circuit.now plan.now.params room) }
     {
+        // What is made last is dropped at no exit.
         Ok(Answering {
-            room: Room::new(alloc, plan, room)?,
-            sent: Sent::new(alloc, plan, id)?,
             bytes: file_room::<F>(alloc, &plan.params)?,
+            sent: Sent::new(alloc, plan, id)?,
+            room: Room::new(alloc, plan, room)?,
         })
     }
 }

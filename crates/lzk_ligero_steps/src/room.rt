@@ -61,12 +61,13 @@ impl<F: Field> Room<F> {
         let Some(len) = sums_len(&plan.params, extender_room) else {
             return Err(AllocError);
         };
+        // What is made last is dropped at no exit.
         Ok(Room {
-            rounds: Rounds::new(alloc, plan.circuit)?,
-            forms: Forms::new(alloc, plan.circuit)?,
-            factored: Factored::new(alloc, plan.circuit)?,
             sums: Elements::zeros(alloc, len)?,
             values: Elements::zeros(alloc, plan.params.dblock as usize)?,
+            factored: Factored::new(alloc, plan.circuit)?,
+            forms: Forms::new(alloc, plan.circuit)?,
+            rounds: Rounds::new(alloc, plan.circuit)?,
         })
     }
 }
@@ -78,12 +79,15 @@ impl<F: Field> Sent<F> {
         requires id { id ≡ id_of F.coding plan.now.circuit.now }
         ensures { IfOk result (λ sent. IsSentFor F.coding plan.now.circuit.now plan.now.params sent) }
     {
+        // What is made last is dropped at no exit.
+        let script = Script::new(alloc, plan.circuit)?;
+        let challenges = Challenges::new(alloc, &plan.params)?;
         let mut proof = Proof::new(alloc, &plan.params)?;
         proof.id = id;
         Ok(Sent {
             proof,
-            script: Script::new(alloc, plan.circuit)?,
-            challenges: Challenges::new(alloc, &plan.params)?,
+            script,
+            challenges,
             columns: [0; OPENED],
         })
     }

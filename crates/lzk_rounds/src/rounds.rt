@@ -69,11 +69,12 @@ impl<F: Field> Rounds<F> {
         ensures made { IfOk result (λ room. IsRoomOf circuit.now room) }
     {
         let size = power_of(most_bits(circuit));
+        // What is made last is dropped at no exit.
         Ok(Rounds {
-            orders: orders_of(alloc, circuit)?,
-            tables: Tables::new(alloc, most_terms(circuit), size)?,
             weights: zeros(alloc, size)?,
             bounds: zeros(alloc, circuit.depth() as usize)?,
+            orders: orders_of(alloc, circuit)?,
+            tables: Tables::new(alloc, most_terms(circuit), size)?,
         })
     }
 

@@ -64,8 +64,8 @@ impl<F: Field> LinearRoom<F> {
         ensures forms { IfOk result (λ room. AreFormsOf F.ops circuit.now room.forms) }
         ensures factors { IfOk result (λ room. HasRoomFor circuit.now room.combined) }
     {
-        let forms = Forms::new(alloc, circuit)?;
         let combined = Factored::new(alloc, circuit)?;
+        let forms = Forms::new(alloc, circuit)?;
         Ok(LinearRoom { forms, combined })
     }
 }
@@ -84,8 +84,8 @@ impl<F: Field> AnswerRoom<F> {
         ensures answers { IfOk result (λ room. AreAnswers plan.now.params room.answers) }
         ensures inverses { IfOk result (λ room. length room.inverses.items ≡ plan.now.params.dblock) }
     {
-        let answers = Weighted::new(alloc, plan)?;
         let inverses = zeros(alloc, plan.params.dblock as usize)?;
+        let answers = Weighted::new(alloc, plan)?;
         Ok(AnswerRoom { answers, inverses })
     }
 }
@@ -117,10 +117,11 @@ impl<F: Field> Room<F> {
         ensures forms { IfOk result (λ room. AreFormsOf F.ops plan.now.circuit.now room.forms) }
         ensures factors { IfOk result (λ room. HasRoomFor plan.now.circuit.now room.combined) }
     {
-        let linear = LinearRoom::new(alloc, plan.circuit)?;
-        let answered = AnswerRoom::new(alloc, plan)?;
+        // What is made last is dropped at no exit.
         let nodes = zero_digests(alloc, 2 * plan.params.mcol as usize)?;
+        let answered = AnswerRoom::new(alloc, plan)?;
         let weights = BothWeights::new(alloc, plan)?;
+        let linear = LinearRoom::new(alloc, plan.circuit)?;
         Ok(Room {
             linear,
             answered,

@@ -7,7 +7,7 @@ returns g c =
       id = c.requires.id;
       lengths = search rules;
       path = search rules;
-      script = c.in_ok-new.ensures.shape;
-      challenges = c.in_ok-new-2.ensures.shape;
+      script = c.in_ok-script.ensures.shape;
+      challenges = c.in_ok-challenges.ensures.shape;
       columns = search rules;
     }
