@@ -2,16 +2,22 @@
 //!
 //! The file `runs.txt` lists them, as docs/TESTING.md says. A line is printed for each run that went otherwise, and
 //! at the end how many runs there were, how many went as expected, and how many of these by faults and in pieces too.
+//! Behind that it is `zk` itself, over words that end with each status, and at last over its own, where inputs do not
+//! satisfy a circuit: `main` reads real files, and ends with what `run` answers.
 #![tactic(auto)]
 
 mod case;
 mod faults;
 mod feeding;
 mod files;
+mod program;
 mod script;
 
+use crate::program::end_as_listed;
 use crate::script::{Tally, played};
+use lzk_main::run_program;
 use std::marker::Sync;
+use std::process::ExitCode;
 use std::rt::Files;
 use std::thread::Threads;
 
@@ -21,8 +27,9 @@ fn tally<R: Files + AllocGlobal, T: Threads + Sync>(rt: &R, threads: &T) -> anyh
     played(rt, threads, &text)
 }
 
-fn main(rt: HostRuntime) -> anyhow::Result<()> {
-    let tally = tally(&rt, &rt)?;
+// Prints what the list of runs gives.
+fn tell<R: Files + Print + AllocGlobal, T: Threads + Sync>(rt: &R, threads: &T) -> anyhow::Result<()> {
+    let tally = tally(rt, threads)?;
     for line in &tally.wrong {
         println!(rt; "{line}")?;
     }
@@ -31,4 +38,11 @@ fn main(rt: HostRuntime) -> anyhow::Result<()> {
         tally.runs, tally.right, tally.faulty, tally.fed
     )?;
     Ok(())
+}
+
+fn main(rt: HostRuntime) -> ExitCode {
+    if tell(&rt, &rt).is_err() || !end_as_listed(&rt, &rt) {
+        return ExitCode::from(9);
+    }
+    run_program(&rt, &rt)
 }

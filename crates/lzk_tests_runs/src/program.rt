@@ -1,14 +1,11 @@
-//! The program `zk`, run where inputs do not satisfy a circuit; and before that, over words that end with each other
-//! status.
-#![tactic(auto)]
+//! Runs of the program itself, over real files and standard output: words, and the status that they end with.
 
-use lzk_main::{run_program, run_words};
+use lzk_main::run_words;
 use std::alloc::AllocError;
 use std::marker::Sync;
 use std::process::ExitCode;
 use std::thread::Threads;
 
-// Words, and the status that they end with.
 const RUNS: [(&str, u8); 5] = [
     ("show sq.lzc", 0),
     ("nothing", 2),
@@ -31,11 +28,12 @@ fn end_with<T: Threads + Sync>(
     Ok(run_words(rt, threads, &words) == ExitCode::from(status))
 }
 
-fn main(rt: HostRuntime) -> ExitCode {
+/// Whether all end as listed.
+pub fn end_as_listed<T: Threads + Sync>(rt: &HostRuntime, threads: &T) -> bool {
     for (text, status) in RUNS {
-        if !matches!(end_with(&rt, &rt, text, status), Ok(true)) {
-            return ExitCode::from(9);
+        if !matches!(end_with(rt, threads, text, status), Ok(true)) {
+            return false;
         }
     }
-    run_program(&rt, &rt)
+    true
 }
