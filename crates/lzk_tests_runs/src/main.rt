@@ -28,7 +28,10 @@ fn tally<R: Files + AllocGlobal, T: Threads + Sync>(rt: &R, threads: &T) -> anyh
 }
 
 // Prints what the list of runs gives.
-fn tell<R: Files + Print + AllocGlobal, T: Threads + Sync>(rt: &R, threads: &T) -> anyhow::Result<()> {
+fn tell<R: Files + Print + AllocGlobal, T: Threads + Sync>(
+    rt: &R,
+    threads: &T,
+) -> anyhow::Result<()> {
     let tally = tally(rt, threads)?;
     for line in &tally.wrong {
         println!(rt; "{line}")?;
