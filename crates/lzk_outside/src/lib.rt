@@ -23,12 +23,8 @@
 mod memory;
 mod outside;
 mod program;
-#[cfg(test)]
-mod puts_tests;
 mod putting;
 mod real;
-#[cfg(test)]
-mod tests;
 
 pub use memory::{MemShelf, MemSink};
 pub use outside::{PutFault, Shelf, ShelfFault, Sink, SinkFault};

@@ -1,6 +1,6 @@
 //! That each call succeeds where there is memory, and what no clause can say: files of the system
 //! and standard output. Each trait is called through its bound.
-use crate::{
+use lzk_outside::{
     DiskShelf, MemShelf, MemSink, PutFault, Shelf, ShelfFault, Sink, SinkFault, StdoutSink,
 };
 use std::alloc::{AllocError, Global};

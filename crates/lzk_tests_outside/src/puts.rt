@@ -1,6 +1,6 @@
 //! What a put leaves of the files beside it, of permissions, of links and of other names of the file: no clause can say
 //! it.
-use crate::{DiskShelf, Shelf};
+use lzk_outside::{DiskShelf, Shelf};
 use std::os::unix::fs::{PermissionsExt, symlink};
 use std::test::Fail;
 use std::{fs, io};
