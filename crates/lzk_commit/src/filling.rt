@@ -105,16 +105,12 @@ pub(crate) fn fill<R: Hands, F: Field, W: Words, X: RowExtend<F>, G: Gate>(
     ensures made { IsTableOf inputs.now.circuit.now tableau.new }
     ensures room { tableau.new.room ≡ tableau.old.room }
 {
-    let crew = Crew {
-        rt: crew.rt,
-        gate: crew.gate,
-        workers: set_rooms(
-            &tableau.params,
-            tableau.room,
-            crew.workers,
-            &mut tableau.table,
-        ),
-    };
+    set_rooms(
+        &tableau.params,
+        tableau.room,
+        crew.workers,
+        &mut tableau.table,
+    );
     let plan = Plan {
         circuit: inputs.circuit,
         params: tableau.params,
@@ -125,7 +121,7 @@ pub(crate) fn fill<R: Hands, F: Field, W: Words, X: RowExtend<F>, G: Gate>(
         words: inputs.words,
     };
     fill_table(
-        &crew,
+        crew,
         &filling,
         extending,
         tableau.room,
