@@ -1,4 +1,5 @@
 -- What is drawn from the tape behind the sumchecks' draws, and all that the tape gives to a proof.
+use Rattle.lzk_profile.specs.Profile.{opened_count}
 use Rattle.std.specs.Prelude.{◌≡◌, ℕ, ◌+◌, ◌-◌, ◌*◌, List, length, replicate}
 use Rattle.lzk_field.specs.Coding.{Coding}
 use Rattle.lzk_field.specs.Ring.{Ops}
@@ -54,7 +55,7 @@ with_answers e proof t =
 
 -- the columns that are opened, drawn behind the answers
 abbrev pub columns : {A : Type 0} → Coding A → Params → Proof A → TapeState → List ℕ
-columns e p proof t = opened p.mcol 128 (with_answers e proof t)
+columns e p proof t = opened p.mcol opened_count (with_answers e proof t)
 
 -- all that the tape gives to a proof
 pub record Transcript (A : Type 0) : Type 0 where

@@ -1,4 +1,5 @@
 -- What is checked of a proof's answers, each condition on the proof that was read and on what the tape gives to it.
+use Rattle.lzk_profile.specs.Profile.{opened_count}
 use Rattle.std.specs.Prelude.{◌≡◌, ℕ, ◌+◌, ◌-◌, ◌*◌, ◌<◌, List, ◌++◌, length, take, drop, replicate, slice_index}
 use Rattle.lzk_field.specs.Ring.{Ops}
 use Rattle.lzk_field.specs.Sums.{sum_below, minus, entry}
@@ -53,7 +54,7 @@ module _ {A : Type 0} (o : Ops A) (p : Params) (proof : Proof A) where
 
   -- the sum of the linear answer's values at the points of a row's elements
   abbrev pub found_sum : A
-  found_sum = sum_below o (p.block - 128) (λ i. entry o proof.dot (128 + i))
+  found_sum = sum_below o (p.block - opened_count) (λ i. entry o proof.dot (opened_count + i))
 
   -- it is the sum that is wanted
   abbrev pub HasLinearSum : A → Type 0
@@ -61,7 +62,7 @@ module _ {A : Type 0} (o : Ops A) (p : Params) (proof : Proof A) where
 
   -- all values of the quadratic answer: the first ones, zeros at the points of a row's elements, and the last ones
   abbrev pub quadratic_values : List A
-  quadratic_values = proof.quad_head ++ replicate (p.block - 128) o.zero ++ proof.quad_tail
+  quadratic_values = proof.quad_head ++ replicate (p.block - opened_count) o.zero ++ proof.quad_tail
 
   module _ (point : ℕ → A) (columns : List ℕ) where
     -- the number of the point at which the k-th opened column stands

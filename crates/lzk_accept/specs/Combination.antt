@@ -1,4 +1,5 @@
 -- The constraints combined: a coefficient for each place of the rows, and the sum that is wanted.
+use Rattle.lzk_profile.specs.Profile.{opened_count}
 use Rattle.std.specs.Prelude.{ℕ, ◌+◌, ◌*◌, ◌==◌, ◌&&◌, Bool, cond, List, ◌++◌, map, replicate}
 use Rattle.std.specs.List.{range_with_len}
 use Rattle.lzk_field.specs.Ring.{Ops}
@@ -40,7 +41,7 @@ module _ {A : Type 0} (o : Ops A) (c : Wiring A) (coefficient : ℕ → ℕ → 
 
   -- the values of a row of coefficients: 128 zeros, and the combined coefficients
   unfoldable pub combined_row : ℕ → List A
-  combined_row row = replicate 128 o.zero ++ map (combined row) (range_with_len 0 (params_of c).wr)
+  combined_row row = replicate opened_count o.zero ++ map (combined row) (range_with_len 0 (params_of c).wr)
 
 -- the sum of lambda i times the right side of constraint i, for any right sides
 unfoldable pub wanted : {A : Type 0} → Ops A → Wiring A → (ℕ → A) → Challenges A → A

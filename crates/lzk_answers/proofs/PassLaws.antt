@@ -1,4 +1,5 @@
 -- The answers of rows are right at every opened column, and those with a value changed are not.
+use Rattle.lzk_profile.specs.Profile.{opened_count}
 use Rattle.std.specs.Prelude.{◌≡◌, ◌≢◌, ℕ, ◌+◌, ◌-◌, ◌*◌, ◌<◌, ◌≤◌, List, ◌++◌, length, replicate, take, slice_index}
 use Rattle.std.proofs.Common.{suc, sym, ap, ◌∙◌, arith, inl, inr}
 use Rattle.std.proofs.lemmas.List.{length-set, get_or-set_other}
@@ -74,10 +75,10 @@ module _ {A : Type 0} {o : Ops A} {size : ℕ} {number_of : A → ℕ} {element 
   -- what is sent of a quadratic answer, with zeros between, is all of it
   sent_is : (p : Params) (proof : Proof A) (values : List A) → AreBounded p → length values ≡ p.dblock → HaveZeros o element p values → IsSent p values proof → checks.quadratic_values o p proof ≡ values
   sent_is p proof values b many zeros sent =
-      let middle = replicate (p.block - 128) o.zero in
-      ap (λ x. x ++ middle ++ proof.quad_tail) sent.head ∙ ap (λ x. take 128 values ++ middle ++ x) sent.tail
-      ∙ with_zeros o values 128 p.block (omega (arith, b.block)) (omega (arith, many, b.block, b.dblock))
-      (λ i low high. let z : i ≡ 128 + (i - 128) = omega arith in ap (entry o values) z ∙ zeros (i - 128) (omega (arith, low, high, b.block)))
+      let middle = replicate (p.block - opened_count) o.zero in
+      ap (λ x. x ++ middle ++ proof.quad_tail) sent.head ∙ ap (λ x. take opened_count values ++ middle ++ x) sent.tail
+      ∙ with_zeros o values opened_count p.block (omega (arith, b.block)) (omega (arith, many, b.block, b.dblock))
+      (λ i low high. let z : i ≡ opened_count + (i - opened_count) = omega arith in ap (entry o values) z ∙ zeros (i - opened_count) (omega (arith, low, high, b.block)))
 
   pub low_degree_passes : LowDegreePasses o element
   low_degree_passes p rows proof columns u b are opened is k h = ap (λ values. extension o element values (point_of o p proof element columns k)) is ∙ low_degree_met p rows proof columns b are opened k h u
@@ -116,13 +117,13 @@ module _ {A : Type 0} {o : Ops A} {size : ℕ} {number_of : A → ℕ} {element 
       let y = quadratic_of o element p rows v in
       let many = length-values_of o element p.dblock (quadratic_answer o element p rows v) in
       let long = length-set y n (o.plus (entry o y n) by) in
-      let away : (s : ℕ) → s < p.wr → 128 + s ≢ n = λ s q. elim outside [ inl l ↦ omega (arith, l) | inr l ↦ omega (arith, l, q, b.block) ] in
+      let away : (s : ℕ) → s < p.wr → opened_count + s ≢ n = λ s q. elim outside [ inl l ↦ omega (arith, l) | inr l ↦ omega (arith, l, q, b.block) ] in
       differs p b columns inside k h y (checks.quadratic_values o p proof) n by _ (omega (arith, many)) (omega (arith, many, place)) some (quadratic_met p rows proof columns b are opened k h v)
-      (sent_is p proof (changed o y n by) b (long ∙ many) (λ s q. get_or-set_other y n (128 + s) (o.plus (entry o y n) by) o.zero (away s q) ∙ zeros s q) sent)
+      (sent_is p proof (changed o y n by) b (long ∙ many) (λ s q. get_or-set_other y n (opened_count + s) (o.plus (entry o y n) by) o.zero (away s q) ∙ zeros s q) sent)
 
   pub sums_change : SumsChange o element
   sums_change p before after n by place is = (
-    λ low high. ap (λ values. sum_below o (p.block - 128) (λ i. entry o values (128 + i))) is ∙ middle-changed o laws.ring before.dot n by place 128 (p.block - 128) low (omega (arith, low, high)),
-    λ outside. ap (λ values. sum_below o (p.block - 128) (λ i. entry o values (128 + i))) is
-        ∙ middle-same o laws.ring before.dot n by place 128 (p.block - 128) (λ s q. elim outside [ inl l ↦ omega (arith, l) | inr l ↦ omega (arith, l, q) ]),
+    λ low high. ap (λ values. sum_below o (p.block - opened_count) (λ i. entry o values (opened_count + i))) is ∙ middle-changed o laws.ring before.dot n by place opened_count (p.block - opened_count) low (omega (arith, low, high)),
+    λ outside. ap (λ values. sum_below o (p.block - opened_count) (λ i. entry o values (opened_count + i))) is
+        ∙ middle-same o laws.ring before.dot n by place opened_count (p.block - opened_count) (λ s q. elim outside [ inl l ↦ omega (arith, l) | inr l ↦ omega (arith, l, q) ]),
   )

@@ -1,4 +1,5 @@
 -- Rows that stand for a list that satisfies its constraints: the quadratic answer's zeros, and the linear answer's sum.
+use Rattle.lzk_profile.specs.Profile.{opened_count}
 use Rattle.std.specs.Prelude.{◌≡◌, ℕ, ◌+◌, ◌-◌, ◌*◌, ◌/◌, ◌%◌, ◌<◌, ◌≤◌, List, length}
 use Rattle.std.proofs.Common.{sym, ap, ◌∙◌, arith}
 use Rattle.std.proofs.lemmas.Grind.{div_ceil_times}
@@ -83,14 +84,14 @@ module _ {A : Type 0} {o : Ops A} {size : ℕ} {number_of : A → ℕ} {element 
         ]
 
     -- the value of a triple's row at the point of a row's element
-    triple_value : (t s which : ℕ) → t < p.ntriple → s < p.wr → which < 3 → extension o element (row rows (3 + p.nwrow + 3 * t + which)) (128 + s) ≡ standing o rows (3 + p.nwrow + 3 * t + which) s
+    triple_value : (t s which : ℕ) → t < p.ntriple → s < p.wr → which < 3 → extension o element (row rows (3 + p.nwrow + 3 * t + which)) (opened_count + s) ≡ standing o rows (3 + p.nwrow + 3 * t + which) s
     triple_value t s which g h d =
         let many = in_triple o element p rows b are t which g d in
-        row_value (3 + p.nwrow + 3 * t + which) (128 + s) (omega (arith, many, h, b.block)) (omega (arith, many, b.block, b.dblock))
+        row_value (3 + p.nwrow + 3 * t + which) (opened_count + s) (omega (arith, many, h, b.block)) (omega (arith, many, b.block, b.dblock))
 
-    zeros_there : (v : List A) (s : ℕ) → s < p.wr → entry o (quadratic_of o element p rows v) (128 + s) ≡ o.zero
+    zeros_there : (v : List A) (s : ℕ) → s < p.wr → entry o (quadratic_of o element p rows v) (opened_count + s) ≡ o.zero
     zeros_there v s h =
-        let k = 128 + s in
+        let k = opened_count + s in
         let R : ℕ → A = λ i. extension o element (row rows i) k in
         let T : ℕ → A = λ t. triple_at o laws.ring element p rows t (element k) in
         let E : ℕ → ℕ → A = λ t which. standing o rows (3 + p.nwrow + 3 * t + which) s in
@@ -136,14 +137,14 @@ module _ {A : Type 0} {o : Ops A} {size : ℕ} {number_of : A → ℕ} {element 
       abbrev lists : ℕ → List A
       lists = combined_row o c coefficient ch
 
-      coefficient_value : (i s : ℕ) → s < p.wr → extension o element (lists i) (128 + s) ≡ combined o c coefficient ch i s
+      coefficient_value : (i s : ℕ) → s < p.wr → extension o element (lists i) (opened_count + s) ≡ combined o c coefficient ch i s
       coefficient_value i s h =
           let is : AreCoefficients o p (combined o c coefficient ch i) (lists i) = combined_rows o element c coefficient ch i in
-          extension-given o laws.ring laws.field element (lists i) (apart laws p b (length (lists i)) (omega (arith, is.count, b.columns, b.dblock, b.block))) (128 + s) (omega (arith, is.count, h, b.block)) ∙ is.back s h
+          extension-given o laws.ring laws.field element (lists i) (apart laws p b (length (lists i)) (omega (arith, is.count, b.columns, b.dblock, b.block))) (opened_count + s) (omega (arith, is.count, h, b.block)) ∙ is.back s h
 
-      linear_there : (s : ℕ) → s < p.wr → entry o (linear_of o element p rows lists) (128 + s) ≡ o.plus (standing o rows 1 s) (sum_below o (p.nrow - 3) (λ i. o.times (combined o c coefficient ch (3 + i) s) (standing o rows (3 + i) s)))
+      linear_there : (s : ℕ) → s < p.wr → entry o (linear_of o element p rows lists) (opened_count + s) ≡ o.plus (standing o rows 1 s) (sum_below o (p.nrow - 3) (λ i. o.times (combined o c coefficient ch (3 + i) s) (standing o rows (3 + i) s)))
       linear_there s h =
-          let k = 128 + s in
+          let k = opened_count + s in
           let n = p.nrow - 3 in
           let R : ℕ → A = λ i. extension o element (row rows i) k in
           let C : ℕ → A = λ i. extension o element (lists i) k in
@@ -155,13 +156,13 @@ module _ {A : Type 0} {o : Ops A} {size : ℕ} {number_of : A → ℕ} {element 
           ap (λ x. o.times x (R (3 + i))) (coefficient_value (3 + i) s h)
           ∙ ap (o.times (combined o c coefficient ch (3 + i) s)) (row_value (3 + i) k (omega (arith, are.others i q, h, b.block)) (omega (arith, are.others i q, b.block, b.dblock)))))
 
-      linear_total : sum_below o (p.block - 128) (λ s. entry o (linear_of o element p rows lists) (128 + s)) ≡ wanted o c right ch
+      linear_total : sum_below o (p.block - opened_count) (λ s. entry o (linear_of o element p rows lists) (opened_count + s)) ≡ wanted o c right ch
       linear_total =
           let n = p.nrow - 3 in
-          let f : ℕ → A = λ s. entry o (linear_of o element p rows lists) (128 + s) in
+          let f : ℕ → A = λ s. entry o (linear_of o element p rows lists) (opened_count + s) in
           let first : ℕ → A = standing o rows 1 in
           let rest : ℕ → A = λ s. sum_below o n (λ i. o.times (combined o c coefficient ch (3 + i) s) (standing o rows (3 + i) s)) in
-          let width : p.block - 128 ≡ p.wr = omega (arith, b.block) in
+          let width : p.block - opened_count ≡ p.wr = omega (arith, b.block) in
           ap (λ (k : ℕ). sum_below o k f) width
           ∙ sum-ext o laws.ring p.wr f (λ s. o.plus (first s) (rest s)) linear_there
           ∙ sum-plus o laws.ring p.wr first rest
@@ -173,4 +174,4 @@ zeros_stand laws c coefficient right w rows v b are satisfies stands = zeros_the
 
 pub linear_sum_stands : {A : Type 0} {o : Ops A} {size : ℕ} {number_of : A → ℕ} {element : ℕ → A} {bytes : ℕ} (laws : Laws o size number_of element bytes) → LinearSumStands o element
 linear_sum_stands {o = o} laws c coefficient right ch w rows proof b are satisfies stands is =
-    ap (λ values. sum_below o ((params_of c).block - 128) (λ i. entry o values (128 + i))) is ∙ linear_total laws c rows b are coefficient right w satisfies stands ch
+    ap (λ values. sum_below o ((params_of c).block - opened_count) (λ i. entry o values (opened_count + i))) is ∙ linear_total laws c rows b are coefficient right w satisfies stands ch

@@ -1,4 +1,5 @@
 -- Answers that are made from a table of the rows' values.
+use Rattle.lzk_profile.specs.Profile.{opened_count}
 use Rattle.std.specs.Prelude.{◌≡◌, ◌≢◌, ℕ, ◌+◌, ◌-◌, ◌*◌, ◌<◌, ◌≤◌, List, [], ◌∷◌, ◌++◌, length, map, replicate, take, drop}
 use Rattle.std.specs.List.{range_with_len}
 use Rattle.std.proofs.Common.{suc, refl, sym, ap, ◌∙◌, arith, mul-le-mul_right}
@@ -103,32 +104,32 @@ module _ {A : Type 0} (o : Ops A) where
       ∙ get_or-append-add (replicate head o.zero) (map a (range_with_len 0 m)) s o.zero
       ∙ get_or-map-range_with_len a 0 m s s o.zero h (omega arith)
 
-  pub are_coefficients : (p : Params) (a : ℕ → A) → p.block ≡ 128 + p.wr → AreCoefficients o p a (coefficient_list 128 p.wr a)
+  pub are_coefficients : (p : Params) (a : ℕ → A) → p.block ≡ opened_count + p.wr → AreCoefficients o p a (coefficient_list opened_count p.wr a)
   are_coefficients p a size = record {
-    count = length-coefficient_list 128 p.wr a ∙ sym size;
-    front = front-coefficient_list 128 p.wr a;
-    back = back-coefficient_list 128 p.wr a;
+    count = length-coefficient_list opened_count p.wr a ∙ sym size;
+    front = front-coefficient_list opened_count p.wr a;
+    back = back-coefficient_list opened_count p.wr a;
   }
 
   -- there is one such row
-  pub coefficients_are : (p : Params) (a : ℕ → A) (list row : List A) → p.block ≡ 128 + p.wr → AreCoefficients o p a list → length row ≡ p.block
-      → ((s : ℕ) → s < 128 → entry o row s ≡ o.zero) → ((s : ℕ) → s < p.wr → entry o row (128 + s) ≡ a s) → row ≡ list
+  pub coefficients_are : (p : Params) (a : ℕ → A) (list row : List A) → p.block ≡ opened_count + p.wr → AreCoefficients o p a list → length row ≡ p.block
+      → ((s : ℕ) → s < opened_count → entry o row s ≡ o.zero) → ((s : ℕ) → s < p.wr → entry o row (opened_count + s) ≡ a s) → row ≡ list
   coefficients_are p a list row size are many front back =
       ext_get_or o.zero row list (many ∙ sym are.count)
-      (λ k h. elim (dec_lt k 128) [
+      (λ k h. elim (dec_lt k opened_count) [
         | yes l ↦ front k l ∙ sym (are.front k l)
         | no l ↦
-            let s = k - 128 in
-            let e : k ≡ 128 + s = omega arith in
+            let s = k - opened_count in
+            let e : k ≡ opened_count + s = omega arith in
             let b : s < p.wr = omega (arith, h, many, size) in
             ap (entry o row) e ∙ back s b ∙ sym (ap (entry o list) e ∙ are.back s b)
       ])
 
 -- the row of factor f's place factors
 abbrev pub place_row : {A : Type 0} → Ops A → Params → List A → ℕ → List A
-place_row o p place_factors f = coefficient_list o 128 p.wr (λ s. entry o place_factors (f * p.wr + s))
+place_row o p place_factors f = coefficient_list o opened_count p.wr (λ s. entry o place_factors (f * p.wr + s))
 
-module _ {A : Type 0} (o : Ops A) (r : RingLaws o) (point : ℕ → A) (p : Params) (m count : ℕ) (row_factors place_factors : List A) (fits : p.block ≡ 128 + p.wr) where
+module _ {A : Type 0} (o : Ops A) (r : RingLaws o) (point : ℕ → A) (p : Params) (m count : ℕ) (row_factors place_factors : List A) (fits : p.block ≡ opened_count + p.wr) where
   abbrev places : ℕ → List A
   places = place_row o p place_factors
 
@@ -140,20 +141,20 @@ module _ {A : Type 0} (o : Ops A) (r : RingLaws o) (point : ℕ → A) (p : Para
       → extension o point (lists (3 + i)) k ≡ sum_below o count (λ f. o.times (row_factor f i) (extension o point (places f) k))
   extension-factored lists are i h k =
       let list = lists (3 + i) in
-      let sized : (f : ℕ) → length (places f) ≡ 128 + p.wr = λ f. length-coefficient_list o 128 p.wr (λ s. entry o place_factors (f * p.wr + s)) in
+      let sized : (f : ℕ) → length (places f) ≡ opened_count + p.wr = λ f. length-coefficient_list o opened_count p.wr (λ s. entry o place_factors (f * p.wr + s)) in
       extension-sum o r point count (λ f. row_factor f i) places list (λ f q. sized f ∙ sym fits ∙ sym (are i h).count)
-      (λ s q. elim (dec_lt s 128) [
+      (λ s q. elim (dec_lt s opened_count) [
         | yes l ↦
             (are i h).front s l
-            ∙ sym (sum-ext o r count (λ f. o.times (row_factor f i) (entry o (places f) s)) (λ f. o.times (row_factor f i) o.zero) (λ f z. ap (o.times (row_factor f i)) (front-coefficient_list o 128 p.wr (λ s. entry o place_factors (f * p.wr + s)) s l))
+            ∙ sym (sum-ext o r count (λ f. o.times (row_factor f i) (entry o (places f) s)) (λ f. o.times (row_factor f i) o.zero) (λ f z. ap (o.times (row_factor f i)) (front-coefficient_list o opened_count p.wr (λ s. entry o place_factors (f * p.wr + s)) s l))
             ∙ sum-times_right o r count o.zero (λ f. row_factor f i) ∙ times_zero o r (sum_below o count (λ f. row_factor f i)))
         | no l ↦
-            let d = s - 128 in
-            let e : s ≡ 128 + d = omega arith in
+            let d = s - opened_count in
+            let e : s ≡ opened_count + d = omega arith in
             let b : d < p.wr = omega (arith, q, (are i h).count, fits) in
             ap (entry o list) e ∙ (are i h).back d b
             ∙ sum-ext o r count (λ f. o.times (row_factor f i) (entry o place_factors (f * p.wr + d))) (λ f. o.times (row_factor f i) (entry o (places f) s))
-            (λ f z. ap (o.times (row_factor f i)) (sym (ap (entry o (places f)) e ∙ back-coefficient_list o 128 p.wr (λ s. entry o place_factors (f * p.wr + s)) d b)))
+            (λ f z. ap (o.times (row_factor f i)) (sym (ap (entry o (places f)) e ∙ back-coefficient_list o opened_count p.wr (λ s. entry o place_factors (f * p.wr + s)) d b)))
       ]) k
 
   -- so that the products of rows are those of the factors' rows and sums of the rows' multiples

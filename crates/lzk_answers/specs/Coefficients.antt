@@ -1,4 +1,5 @@
 -- Rows of coefficients, and how they are given.
+use Rattle.lzk_profile.specs.Profile.{opened_count}
 use Rattle.std.specs.Prelude.{◌≡◌, ℕ, ◌+◌, ◌-◌, ◌*◌, ◌<◌, List, length}
 use Rattle.lzk_field.specs.Ring.{Ops}
 use Rattle.lzk_field.specs.Sums.{sum_below, entry}
@@ -8,8 +9,8 @@ use Rattle.lzk_layout.specs.declared.params.Params.{Params}
 -- zeros at the first 128 points, and a s at the s-th point of a row's elements
 pub record AreCoefficients {A : Type 0} (o : Ops A) (p : Params) (a : ℕ → A) (values : List A) : Type 0 where
   pub count : length values ≡ p.block
-  pub front : (s : ℕ) → s < 128 → entry o values s ≡ o.zero
-  pub back : (s : ℕ) → s < p.wr → entry o values (128 + s) ≡ a s
+  pub front : (s : ℕ) → s < opened_count → entry o values s ≡ o.zero
+  pub back : (s : ℕ) → s < p.wr → entry o values (opened_count + s) ≡ a s
 
 -- behind the first m of the rows behind row 2, the coefficients are those of a table, row by row
 abbrev pub AreListed : {A : Type 0} → Ops A → Params → ℕ → List A → (ℕ → List A) → Type 0

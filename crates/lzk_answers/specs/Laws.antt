@@ -1,4 +1,5 @@
 -- What holds of the answers of rows, and of answers that were changed.
+use Rattle.lzk_profile.specs.Profile.{opened_count}
 use Rattle.std.specs.Prelude.{◌≡◌, ◌≢◌, ◌⊎◌, ℕ, ◌+◌, ◌-◌, ◌<◌, ◌≤◌, List, length, slice_index}
 use Rattle.lzk_field.specs.Ring.{Ops}
 use Rattle.lzk_field.specs.Sums.{entry}
@@ -37,7 +38,7 @@ module _ {A : Type 0} (o : Ops A) (point : ℕ → A) where
 
   -- zeros at the points of a row's elements
   abbrev pub HaveZeros : Params → List A → Type 0
-  HaveZeros p values = (s : ℕ) → s < p.wr → entry o values (128 + s) ≡ o.zero
+  HaveZeros p values = (s : ℕ) → s < p.wr → entry o values (opened_count + s) ≡ o.zero
 
   -- ---- answers of rows
 
@@ -122,7 +123,7 @@ module _ {A : Type 0} (o : Ops A) (point : ℕ → A) where
   QuadraticFails =
       (p : Params) (rows : List (List A)) (proof : Proof A) (columns : List ℕ) (v : List A) (n : ℕ) (by : A)
       → AreBounded p → AreRows p rows → AreOpened o point p rows proof columns → AreColumns p columns
-      → HaveZeros p (quadratic_of p rows v) → by ≢ o.zero → (n < 128) ⊎ (p.block ≤ n) → n < p.dblock
+      → HaveZeros p (quadratic_of p rows v) → by ≢ o.zero → (n < opened_count) ⊎ (p.block ≤ n) → n < p.dblock
       → IsSent p (changed o (quadratic_of p rows v) n by) proof
       → AtEach columns (λ k. IsQuadratic o p proof point columns v k → ⊥)
 
@@ -132,5 +133,5 @@ module _ {A : Type 0} (o : Ops A) (point : ℕ → A) where
   SumsChange =
       (p : Params) (before after : Proof A) (n : ℕ) (by : A) → n < length before.dot
       → after.dot ≡ changed o before.dot n by
-      → (128 ≤ n → n < p.block → found_sum o p after ≡ o.plus (found_sum o p before) by)
-      × ((n < 128) ⊎ (p.block ≤ n) → found_sum o p after ≡ found_sum o p before)
+      → (opened_count ≤ n → n < p.block → found_sum o p after ≡ o.plus (found_sum o p before) by)
+      × ((n < opened_count) ⊎ (p.block ≤ n) → found_sum o p after ≡ found_sum o p before)

@@ -1,4 +1,5 @@
 -- What the answers of rows have to be, and rows that stand for a list that satisfies its constraints.
+use Rattle.lzk_profile.specs.Profile.{opened_count}
 use Rattle.std.specs.Prelude.{◌≡◌, ℕ, ◌+◌, ◌*◌, ◌<◌, ◌≤◌, List, length, take, drop}
 use Rattle.lzk_field.specs.Ring.{Ops}
 use Rattle.lzk_field.specs.Sums.{sum_below, entry}
@@ -19,7 +20,7 @@ pub record AreOpened {A : Type 0} (o : Ops A) (point : ℕ → A) (p : Params) (
 
 -- the proof has these two parts of a quadratic answer
 pub record IsSent {A : Type 0} (p : Params) (answer : List A) (proof : Proof A) : Type 0 where
-  pub head : proof.quad_head ≡ take 128 answer
+  pub head : proof.quad_head ≡ take opened_count answer
   pub tail : proof.quad_tail ≡ drop p.block answer
 
 -- A list at which linear constraints hold, and which has in each layer the product of the two factors' pads.
@@ -32,7 +33,7 @@ pub record Satisfies {A : Type 0} (o : Ops A) (c : Wiring A) (coefficient : ℕ 
 
 -- the element of a row at position s
 abbrev pub element : {A : Type 0} → Ops A → List (List A) → ℕ → ℕ → A
-element o rows i s = entry o (row rows i) (128 + s)
+element o rows i s = entry o (row rows i) (opened_count + s)
 
 -- The rows have each entry of the list at its place, and the copies at theirs, zeros in the triples behind the last
 -- layer's, elements with the sum zero in row 1, and zeros in row 2.

@@ -1,5 +1,6 @@
 //! The linear answer.
 
+ghost use Rattle.lzk_profile.specs.Profile.{opened_count};
 ghost use Rattle.std.specs.Prelude.{◌≡◌, ℕ, ◌+◌, ◌-◌, ◌*◌, ◌<◌, ◌≤◌, List, length};
 ghost use Rattle.lzk_field.specs.Sums.{entry, sum_below};
 ghost use Rattle.lzk_poly.specs.Extension.{extension};
@@ -17,11 +18,11 @@ use lzk_poly::RowExtend;
 
 // Zeros, and then these coefficients.
 fn fill_row<F: Field>(coefficients: &[F], row: &mut [F])
-    requires { length row.old ≡ 128 + length coefficients.now }
+    requires { length row.old ≡ opened_count + length coefficients.now }
     ensures length { length row.new ≡ length row.old }
-    ensures front { (s : ℕ) → s < 128 → entry F.ops row.new s ≡ F.ops.zero }
+    ensures front { (s : ℕ) → s < opened_count → entry F.ops row.new s ≡ F.ops.zero }
     ensures back { (s : ℕ) → s < length coefficients.now
-        → entry F.ops row.new (128 + s) ≡ entry F.ops coefficients.now s }
+        → entry F.ops row.new (opened_count + s) ≡ entry F.ops coefficients.now s }
 {
     let (head, tail) = row.split_at_mut(BLINDS);
     clear(head);

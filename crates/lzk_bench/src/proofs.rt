@@ -1,5 +1,6 @@
 //! A large proof that is read and written, and proofs of an independent implementation that are written as they were read.
 
+ghost use Rattle.lzk_profile.specs.Profile.{most_digests};
 ghost use Rattle.std.specs.Prelude.{◌≡◌, ◌≤◌, length, IfOk};
 ghost use Rattle.lzk_layout.specs.Sizes.{AreParams, proof_length};
 ghost use Rattle.lzk_layout.specs.Proofs.{HasLengths};
@@ -62,8 +63,8 @@ fn fill<F: Field>(elements: &mut Elements<F>, seed: u64)
 }
 
 fn fill_path(path: &mut Path)
-    requires { 1536 ≤ path.old.room }
-    ensures few { length path.new.digests ≤ 1536 }
+    requires { most_digests ≤ path.old.room }
+    ensures few { length path.new.digests ≤ most_digests }
     ensures room { path.new.room ≡ path.old.room }
 {
     path.clear();
@@ -76,8 +77,8 @@ fn fill_path(path: &mut Path)
 fn large_proof<F: Field>(alloc: Global, params: &Params) -> Result<Proof<F>, AllocError>
     requires { AreParams F.ops params.now }
     ensures lengths { IfOk result (λ p. HasLengths params.now p) }
-    ensures few { IfOk result (λ p. length p.path.digests ≤ 1536) }
-    ensures room { IfOk result (λ p. 1536 ≤ p.path.room) }
+    ensures few { IfOk result (λ p. length p.path.digests ≤ most_digests) }
+    ensures room { IfOk result (λ p. most_digests ≤ p.path.room) }
 {
     let mut proof = Proof::<F>::new(alloc, params)?;
     fill(&mut proof.messages, 1);
@@ -94,7 +95,7 @@ fn large_proof<F: Field>(alloc: Global, params: &Params) -> Result<Proof<F>, All
 fn file<F: Field>(alloc: Global, params: &Params, proof: &Proof<F>) -> Result<Vec<u8>, AllocError>
     requires params { AreParams F.ops params.now }
     requires lengths { HasLengths params.now proof.now }
-    requires few { length proof.now.path.digests ≤ 1536 }
+    requires few { length proof.now.path.digests ≤ most_digests }
     ensures { IfOk result (λ bytes. length bytes.items ≡ proof_length F.coding.bytes params.now (length proof.now.path.digests)) }
 {
     let digests = proof.path.len() as u32;
@@ -108,7 +109,7 @@ fn file<F: Field>(alloc: Global, params: &Params, proof: &Proof<F>) -> Result<Ve
 fn read_often<F: Field>(params: &Params, bytes: &mut [u8], proof: &mut Proof<F>, times: u32) -> u128
     requires params { AreParams F.ops params.now }
     requires lengths { HasLengths params.now proof.old }
-    requires room { 1536 ≤ proof.old.path.room }
+    requires room { most_digests ≤ proof.old.path.room }
 {
     let mut total = 0u128;
     for k in 0..times {
@@ -131,7 +132,7 @@ fn write_often<F: Field>(
 ) -> u128
     requires params { AreParams F.ops params.now }
     requires lengths { HasLengths params.now proof.old }
-    requires few { length proof.old.path.digests ≤ 1536 }
+    requires few { length proof.old.path.digests ≤ most_digests }
     requires room { length bytes.old ≡ proof_length F.coding.bytes params.now (length proof.old.path.digests) }
 {
     let mut total = 0u128;
@@ -190,7 +191,7 @@ fn is_file<F: Field>(
 ) -> Result<bool, AllocError>
     requires params { AreParams F.ops params.now }
     requires lengths { HasLengths params.now proof.now }
-    requires few { length proof.now.path.digests ≤ 1536 }
+    requires few { length proof.now.path.digests ≤ most_digests }
 {
     let written = file(alloc, params, proof)?;
     Ok(written.as_slice() == bytes)
@@ -205,7 +206,7 @@ fn is_written_in<F: Field>(
 ) -> Result<bool, AllocError>
     requires params { AreParams F.ops params.now }
     requires lengths { HasLengths params.now proof.old }
-    requires room { 1536 ≤ proof.old.path.room }
+    requires room { most_digests ≤ proof.old.path.room }
 {
     match decode_proof(params, bytes, proof) {
         Ok(()) => is_file(alloc, params, proof, bytes),

@@ -1,5 +1,6 @@
 //! What the tape draws for proofs of an independent implementation, and their constraints combined.
 
+ghost use Rattle.lzk_profile.specs.Profile.{most_digests};
 ghost use Rattle.std.specs.Prelude.{◌≡◌, ◌≤◌, ◌-◌, ◌*◌, length, IfOk};
 ghost use Rattle.lzk_layout.specs.Sizes.{AreBounded, params_of, sent_counts};
 ghost use Rattle.lzk_layout.specs.Proofs.{HasLengths};
@@ -200,7 +201,7 @@ fn sums_in<F: Field>(
     drawn: &mut Drawn<F>,
 ) -> Option<Sums<F>>
     requires lengths { HasLengths (params_of circuit.now) read.old }
-    requires room { 1536 ≤ read.old.path.room }
+    requires room { most_digests ≤ read.old.path.room }
     requires script { HasShape circuit.now drawn.old.script }
     requires challenges { accept.HasShape (params_of circuit.now) drawn.old.challenges }
     requires forms { AreFormsOf F.ops circuit.now drawn.old.forms }

@@ -1,4 +1,5 @@
 -- A circuit, a session, inputs and random words have one file of a proof at most.
+use Rattle.lzk_profile.specs.Profile.{opened_count}
 use Rattle.std.specs.Prelude.{◌≡◌, ℕ, List, map, take, drop}
 use Rattle.std.specs.List.{flat_map}
 use Rattle.std.proofs.Common.{sym, ap, ◌∙◌, subst}
@@ -61,7 +62,7 @@ module _ {A : Type 0} (o : Ops A) (e : Coding A) (c : Wiring A) (session : List 
       let lines : linear q.messages (given o e c session public private word q).script (given o e c session public private word q).challenges ≡ linear r.messages (given o e c session public private word r).script (given o e c session public private word r).challenges =
       (λ i. linear (messages i) (scripts i) (challenges i)) in
       let dots : q.dot ≡ r.dot = f.answers.linear ∙ lines ∙ sym g.answers.linear in
-      let heads : q.quad_head ≡ r.quad_head = f.answers.quad_head ∙ ap (λ ch. take 128 (quadratic ch)) challenges ∙ sym g.answers.quad_head in
+      let heads : q.quad_head ≡ r.quad_head = f.answers.quad_head ∙ ap (λ ch. take opened_count (quadratic ch)) challenges ∙ sym g.answers.quad_head in
       let tails : q.quad_tail ≡ r.quad_tail = f.answers.quad_tail ∙ ap (λ ch. drop p.block (quadratic ch)) challenges ∙ sym g.answers.quad_tail in
       let same = given-all q r roots messages ldts dots heads tails in
       record {

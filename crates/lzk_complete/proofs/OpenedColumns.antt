@@ -1,4 +1,5 @@
 -- The opened columns with their nonces, and the path, lead to the root of all columns.
+use Rattle.lzk_profile.specs.Profile.{opened_count}
 use Rattle.std.specs.Prelude.{◌≡◌, ℕ, ◌+◌, ◌*◌, ◌<◌, ◌≤◌, List, [], ◌∷◌, ◌++◌, length, map, take, drop, slice_index, slice_index_or}
 use Rattle.std.specs.List.{range_with_len, flat_map}
 use Rattle.std.proofs.Common.{zero, suc, refl, sym, ap, ◌∙◌, arith}
@@ -45,23 +46,23 @@ by_places g (j ∷ js) a h same =
 
 -- ---- the columns that are drawn for a proof
 
-are_opened : (mcol : ℕ) (t : TapeState) → 128 ≤ mcol → AreOpened mcol (opened mcol 128 t)
+are_opened : (mcol : ℕ) (t : TapeState) → opened_count ≤ mcol → AreOpened mcol (opened mcol opened_count t)
 are_opened mcol t enough = record {
-  ascending = λ i j h k. opened-ascends mcol 128 t i j h k;
-  below = λ k h. opened-below mcol 128 t k h;
-  some = omega (arith, length-opened mcol 128 t enough);
+  ascending = λ i j h k. opened-ascends mcol opened_count t i j h k;
+  below = λ k h. opened-below mcol opened_count t k h;
+  some = omega (arith, length-opened mcol opened_count t enough);
 }
 
 module _ {A : Type 0} (o : Ops A) (e : Coding A) (c : Wiring A) (b : AreBounded (params_of c)) (session id : List ℕ) (public : List A) (proof : Proof A) where
   abbrev drawn : List ℕ
   drawn = (transcript o e c session id public proof).columns
 
-  enough : 128 ≤ (params_of c).mcol
+  enough : opened_count ≤ (params_of c).mcol
   enough = omega (arith, b.mcol, b.block)
 
-  pub length_drawn : length drawn ≡ 128
+  pub length_drawn : length drawn ≡ opened_count
   unfolding transcript
-  length_drawn = length-opened (params_of c).mcol 128 _ enough
+  length_drawn = length-opened (params_of c).mcol opened_count _ enough
 
   pub drawn_opened : AreOpened (params_of c).mcol drawn
   unfolding transcript
@@ -86,9 +87,9 @@ module _ {A : Type 0} (o : Ops A) (e : Coding A) (c : Wiring A) (private : List 
   unfolding column
   length_column j = length-map (tableau o e c private word) _ ∙ length_rows o e c private word b
 
-  module _ (js : List ℕ) (proof : Proof A) (many : length js ≡ 128) (are : AreOpened p.mcol js) where
+  module _ (js : List ℕ) (proof : Proof A) (many : length js ≡ opened_count) (are : AreOpened p.mcol js) where
     -- each opened column with its nonce has the leaf of its number
-    leaf_is : (k : ℕ) → k < 128 → leaf_of e.bytes e.number (slice_index_or (map nonce_at js) k []) (take p.nrow (drop (k * p.nrow) (flat_map columns_at js))) ≡ slice_index_or all (slice_index js k) []
+    leaf_is : (k : ℕ) → k < opened_count → leaf_of e.bytes e.number (slice_index_or (map nonce_at js) k []) (take p.nrow (drop (k * p.nrow) (flat_map columns_at js))) ≡ slice_index_or all (slice_index js k) []
     unfolding leaves
     leaf_is k h =
         let j = slice_index js k in
@@ -103,7 +104,7 @@ module _ {A : Type 0} (o : Ops A) (e : Coding A) (c : Wiring A) (private : List 
       pub path_count : HasPathCount p proof js
       path_count = ap length path ∙ length-map (path_nodes p.mcol js) (tree_node p.mcol all)
 
-      leaf_found : (k : ℕ) → k < 128 → leaf_at o e p proof k ≡ slice_index_or all (slice_index js k) []
+      leaf_found : (k : ℕ) → k < opened_count → leaf_at o e p proof k ≡ slice_index_or all (slice_index js k) []
       leaf_found k h =
           ap (λ ns. leaf_of e.bytes e.number (slice_index_or ns k []) (take p.nrow (drop (k * p.nrow) proof.columns))) nonces
           ∙ ap (λ xs. leaf_of e.bytes e.number (slice_index_or (map nonce_at js) k []) (take p.nrow (drop (k * p.nrow) xs))) columns
@@ -113,7 +114,7 @@ module _ {A : Type 0} (o : Ops A) (e : Coding A) (c : Wiring A) (private : List 
       pub root_found : proof.root ≡ tree_node p.mcol all 1 → HasRoot o e p proof js
       root_found is =
           let h : ℕ → List ℕ = leaf_at o e p proof in
-          let same : map h (range_with_len 0 128) ≡ opened_leaves all js =
+          let same : map h (range_with_len 0 opened_count) ≡ opened_leaves all js =
           ap (λ n. map h (range_with_len 0 n)) (sym many)
           ∙ by_places (λ j. slice_index_or all j []) js 0 h (λ k q. let z : 0 + k ≡ k = omega arith in ap h z ∙ leaf_found k (omega (arith, q, many))) in
           ap (λ ls. root_of p.mcol js ls proof.path.digests) same

@@ -1,4 +1,5 @@
 -- The file of the proof of satisfying inputs is refused where one value of an answer was changed before the columns were drawn.
+use Rattle.lzk_profile.specs.Profile.{opened_count}
 use Rattle.std.specs.Prelude.{◌≡◌, ◌≢◌, ◌⊎◌, ℕ, ◌<◌, ◌≤◌, cond, nat_lt, List, length, slice_index}
 use Rattle.std.proofs.Common.{refl, sym, ap, ◌∙◌, arith, inl, inr}
 use Rattle.std.proofs.lemmas.Bool.{lt-ltb, le-ltb}
@@ -115,16 +116,16 @@ module _ {A : Type 0} (o : Ops A) (e : Coding A) (r : RingLaws o) (c : Wiring A)
     long : n < length before.dot
     long = omega (arith, place, length-values_of o e.element p.dblock (linear_answer o e.element p rows (combined_row_of o e.element c public t.script q.messages t.challenges)))
 
-    sum_rises : 128 ≤ n → n < p.block → found_sum o p q ≡ o.plus wanted by
+    sum_rises : opened_count ≤ n → n < p.block → found_sum o p q ≡ o.plus wanted by
     sum_rises low high = (fail.sums p before q n by long is.linear).0 low high ∙ ap (λ x. o.plus x by) (right.linear_sum before refl)
 
-    sum_stays : (n < 128) ⊎ (p.block ≤ n) → found_sum o p q ≡ wanted
+    sum_stays : (n < opened_count) ⊎ (p.block ≤ n) → found_sum o p q ≡ wanted
     sum_stays outside = (fail.sums p before q n by long is.linear).1 outside ∙ right.linear_sum before refl
 
     linear_fails : AtEach t.columns (λ k. ¬ AnswerAt o e c public q t answer.Dot k)
     linear_fails = fail.linear p rows q t.columns (combined_row_of o e.element c public t.script q.messages t.challenges) n by b right.long right.columns drawn.below right.lengths some place is.linear
 
-    verdict_between : 128 ≤ n → n < p.block → AreAnswersJudged o e c p public q t (refusal o e c public q t answer.Dot n by)
+    verdict_between : opened_count ≤ n → n < p.block → AreAnswersJudged o e c p public q t (refusal o e c public q t answer.Dot n by)
     unfolding refusal
     verdict_between low high =
         let found = sum_rises low high in
@@ -132,11 +133,11 @@ module _ {A : Type 0} (o : Ops A) (e : Coding A) (r : RingLaws o) (c : Wiring A)
           right.low_degree is.low_degree,
           inl (
             (λ h. adds o r wanted by some (sym found ∙ h)),
-            chosen_between (Linear first) (LinearSum (o.plus wanted by) wanted) n 128 p.block low high ∙ ap (λ x. LinearSum x wanted) (sym found),
+            chosen_between (Linear first) (LinearSum (o.plus wanted by) wanted) n opened_count p.block low high ∙ ap (λ x. LinearSum x wanted) (sym found),
           ),
         )
 
-    verdict_outside : (n < 128) ⊎ (p.block ≤ n) → AreAnswersJudged o e c p public q t (refusal o e c public q t answer.Dot n by)
+    verdict_outside : (n < opened_count) ⊎ (p.block ≤ n) → AreAnswersJudged o e c p public q t (refusal o e c public q t answer.Dot n by)
     unfolding refusal
     verdict_outside outside =
         inr (
@@ -147,7 +148,7 @@ module _ {A : Type 0} (o : Ops A) (e : Coding A) (r : RingLaws o) (c : Wiring A)
               first,
               (
                 fails_first t.columns (AnswerAt o e c public q t answer.Dot) one linear_fails,
-                chosen_outside (Linear first) (LinearSum (o.plus wanted by) wanted) n 128 p.block outside (omega (arith, b.block)),
+                chosen_outside (Linear first) (LinearSum (o.plus wanted by) wanted) n opened_count p.block outside (omega (arith, b.block)),
               ),
             ),
           ),
@@ -155,7 +156,7 @@ module _ {A : Type 0} (o : Ops A) (e : Coding A) (r : RingLaws o) (c : Wiring A)
 
     linear_judged : Judged answer.Dot
     linear_judged = record {
-      verdict = elim (dec_lt n 128) [
+      verdict = elim (dec_lt n opened_count) [
         | yes l ↦ verdict_outside (inl l)
         | no l ↦ elim (dec_lt n p.block) [
           | yes h ↦ verdict_between (omega (arith, l)) h

@@ -1,4 +1,5 @@
 -- A valid circuit, a session, inputs and random words have a proof, and the proof has a file.
+use Rattle.lzk_profile.specs.Profile.{opened_count, most_digests}
 use Rattle.std.specs.Prelude.{◌≡◌, ℕ, ◌+◌, ◌-◌, ◌*◌, ◌^◌, ◌<◌, ◌≤◌, List, [], ◌∷◌, length, map, take, drop, slice_index, slice_index_or}
 use Rattle.std.specs.List.{flat_map}
 use Rattle.std.proofs.Common.{refl, ap, ◌∙◌, arith}
@@ -59,7 +60,7 @@ module _ {A : Type 0} (o : Ops A) (e : Coding A) (c : Wiring A) (session : List 
 
   -- what is committed to and sent, with nothing answered
   unfoldable begun : Proof A
-  begun = record { id = id_of e c; root = root; messages = sent; ldt = []; dot = []; quad_head = []; quad_tail = []; nonces = []; columns = []; path = record { digests = []; room = 1536 } }
+  begun = record { id = id_of e c; root = root; messages = sent; ldt = []; dot = []; quad_head = []; quad_tail = []; nonces = []; columns = []; path = record { digests = []; room = most_digests } }
 
   -- the values of the answers
   unfoldable ldt : List A
@@ -73,7 +74,7 @@ module _ {A : Type 0} (o : Ops A) (e : Coding A) (c : Wiring A) (session : List 
 
   -- the proof with its answers, and nothing opened
   unfoldable answered : Proof A
-  answered = record { id = id_of e c; root = root; messages = sent; ldt = ldt; dot = dot; quad_head = take 128 quad; quad_tail = drop p.block quad; nonces = []; columns = []; path = record { digests = []; room = 1536 } }
+  answered = record { id = id_of e c; root = root; messages = sent; ldt = ldt; dot = dot; quad_head = take opened_count quad; quad_tail = drop p.block quad; nonces = []; columns = []; path = record { digests = []; room = most_digests } }
 
   abbrev js : List ℕ
   js = (tape_of answered).columns
@@ -92,11 +93,11 @@ module _ {A : Type 0} (o : Ops A) (e : Coding A) (c : Wiring A) (session : List 
     messages = sent;
     ldt = ldt;
     dot = dot;
-    quad_head = take 128 quad;
+    quad_head = take opened_count quad;
     quad_tail = drop p.block quad;
     nonces = map nonce_at js;
     columns = flat_map column_at js;
-    path = record { digests = map (tree_node p.mcol all) (path_nodes p.mcol js); room = 1536 };
+    path = record { digests = map (tree_node p.mcol all) (path_nodes p.mcol js); room = most_digests };
   }
 
   -- what is opened has no part in what the tape gives
@@ -123,13 +124,13 @@ module _ {A : Type 0} (o : Ops A) (e : Coding A) (c : Wiring A) (session : List 
   -- ---- its lengths
 
   module _ (b : AreBounded p) where
-    many : length js ≡ 128
+    many : length js ≡ opened_count
     unfolding transcript
-    many = length-opened p.mcol 128 _ (omega (arith, b.mcol, b.block))
+    many = length-opened p.mcol opened_count _ (omega (arith, b.mcol, b.block))
 
     below : (k : ℕ) → k < length js → slice_index js k < p.mcol
     unfolding transcript
-    below k h = opened-below p.mcol 128 _ k h
+    below k h = opened-below p.mcol opened_count _ k h
 
     length_ldt : length ldt ≡ p.block
     unfolding ldt
@@ -165,10 +166,10 @@ module _ {A : Type 0} (o : Ops A) (e : Coding A) (c : Wiring A) (session : List 
     length_digest : (i : ℕ) → 1 ≤ i → i < 2 * p.mcol → length (tree_node p.mcol all i) ≡ 32
     length_digest i low high = length_tree_node p.mcol all i length_leaf low high
 
-    few : length (map (tree_node p.mcol all) (path_nodes p.mcol js)) ≤ 1536
+    few : length (map (tree_node p.mcol all) (path_nodes p.mcol js)) ≤ most_digests
     few =
         let p12 : 2 ^ 12 ≡ 4096 = refl in
-        let most : length js * 12 ≡ 1536 = ap (λ (n : ℕ). n * 12) many in
+        let most : length js * 12 ≡ most_digests = ap (λ (n : ℕ). n * 12) many in
         omega (arith, length-map (path_nodes p.mcol js) (tree_node p.mcol all), most, needed_few p.mcol 12 js (omega (arith, p12, b.mcol, b.block, b.wr)) below)
 
     nonces_are : AreDigests (map nonce_at js)
@@ -190,7 +191,7 @@ module _ {A : Type 0} (o : Ops A) (e : Coding A) (c : Wiring A) (session : List 
       messages = sent_are.count;
       ldt = length_ldt;
       dot = length_dot;
-      quad_head = length-take-le 128 quad (omega (arith, length_quad, b.block, b.dblock));
+      quad_head = length-take-le opened_count quad (omega (arith, length_quad, b.block, b.dblock));
       quad_tail = length-drop p.block quad ∙ omega (arith, length_quad);
       nonces = length-map js nonce_at ∙ many;
       columns = length_blocks column_at p.nrow js length_column ∙ ap (λ (n : ℕ). n * p.nrow) many;

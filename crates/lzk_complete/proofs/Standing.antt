@@ -1,4 +1,5 @@
 -- The rows of a tableau have the parameters' lengths, and stand for its committed list.
+use Rattle.lzk_profile.specs.Profile.{opened_count}
 use Rattle.std.specs.Prelude.{◌≡◌, ◌≢◌, ℕ, ◌+◌, ◌-◌, ◌*◌, ◌/◌, ◌%◌, ◌<◌, ◌≤◌, cond, nat_lt, List, [], ◌++◌, length, map, replicate}
 use Rattle.std.specs.List.{range_with_len}
 use Rattle.std.proofs.Common.{suc, refl, ap, ◌∙◌, arith}
@@ -45,16 +46,16 @@ module _ {A : Type 0} (o : Ops A) (e : Coding A) (c : Wiring A) (private : List 
   length_row1 = length-set (randoms o e word (row1_words p) p.dblock) (p.block - 1) _ ∙ length_randoms (row1_words p) p.dblock
 
   abbrev front2 : List A
-  front2 = randoms o e word (row2_words p) 128
+  front2 = randoms o e word (row2_words p) opened_count
 
   abbrev middle2 : List A
-  middle2 = replicate (p.block - 128) o.zero
+  middle2 = replicate (p.block - opened_count) o.zero
 
   length_row2 : length (row rows 2) ≡ p.dblock
   unfolding tableau
   length_row2 =
       length-append (front2 ++ middle2) (randoms o e word (row2_words p + p.block) (p.dblock - p.block))
-      ∙ omega (arith, length-append front2 middle2, length_randoms (row2_words p) 128, length-replicate (p.block - 128) o.zero, length_randoms (row2_words p + p.block) (p.dblock - p.block), b.block, b.dblock)
+      ∙ omega (arith, length-append front2 middle2, length_randoms (row2_words p) opened_count, length-replicate (p.block - opened_count) o.zero, length_randoms (row2_words p + p.block) (p.dblock - p.block), b.block, b.dblock)
 
   -- a row from row 3 on
   row_is : (i : ℕ) → i < p.nrow - 3 → row rows (3 + i) ≡ row_at o e c private word (3 + i)
@@ -64,14 +65,14 @@ module _ {A : Type 0} (o : Ops A) (e : Coding A) (c : Wiring A) (private : List 
       ap (row rows) z ∙ get_or-map-range_with_len (row_at o e c private word) 3 (p.nrow - 3) i (3 + i) [] h refl
 
   abbrev front : ℕ → List A
-  front w = randoms o e word (rows_words p + 128 * (w - 3)) 128
+  front w = randoms o e word (rows_words p + opened_count * (w - 3)) opened_count
 
   length_row : (i : ℕ) → i < p.nrow - 3 → length (row rows (3 + i)) ≡ p.block
   length_row i h =
       let w = 3 + i in
       ap length (row_is i h)
       ∙ length-append (front w) (map (element_at o e c private word w) (range_with_len 0 p.wr))
-      ∙ omega (arith, length_randoms (rows_words p + 128 * (w - 3)) 128, length-map-range_with_len (element_at o e c private word w) 0 p.wr, b.block)
+      ∙ omega (arith, length_randoms (rows_words p + opened_count * (w - 3)) opened_count, length-map-range_with_len (element_at o e c private word w) 0 p.wr, b.block)
 
   pub rows_are : AreRows p rows
   rows_are = record { count = length_rows; first = length_row0; second = length_row1; third = length_row2; others = length_row }
@@ -83,8 +84,8 @@ module _ {A : Type 0} (o : Ops A) (e : Coding A) (c : Wiring A) (private : List 
   in_row i s h q =
       let w = 3 + i in
       let elements = map (element_at o e c private word w) (range_with_len 0 p.wr) in
-      let y : 128 + s ≡ length (front w) + s = omega (arith, length_randoms (rows_words p + 128 * (w - 3)) 128) in
-      ap (λ xs. entry o xs (128 + s)) (row_is i h)
+      let y : opened_count + s ≡ length (front w) + s = omega (arith, length_randoms (rows_words p + opened_count * (w - 3)) opened_count) in
+      ap (λ xs. entry o xs (opened_count + s)) (row_is i h)
       ∙ ap (entry o (front w ++ elements)) y
       ∙ get_or-append-add (front w) elements s o.zero
       ∙ get_or-map-range_with_len (element_at o e c private word w) 0 p.wr s s o.zero q (omega arith)
@@ -150,10 +151,10 @@ module _ {A : Type 0} (o : Ops A) (e : Coding A) (c : Wiring A) (private : List 
   third_stands : (s : ℕ) → s < p.wr → standing o rows 2 s ≡ o.zero
   unfolding tableau
   third_stands s h =
-      let y : 128 + s ≡ length front2 + s = omega (arith, length_randoms (row2_words p) 128) in
-      get_or_append_left (front2 ++ middle2) (randoms o e word (row2_words p + p.block) (p.dblock - p.block)) o.zero (128 + s)
-      (omega (arith, h, length-append front2 middle2, length_randoms (row2_words p) 128, length-replicate (p.block - 128) o.zero, b.block))
-      ∙ ap (entry o (front2 ++ middle2)) y ∙ get_or-append-add front2 middle2 s o.zero ∙ get_or-replicate (p.block - 128) s o.zero o.zero (omega (arith, h, b.block))
+      let y : opened_count + s ≡ length front2 + s = omega (arith, length_randoms (row2_words p) opened_count) in
+      get_or_append_left (front2 ++ middle2) (randoms o e word (row2_words p + p.block) (p.dblock - p.block)) o.zero (opened_count + s)
+      (omega (arith, h, length-append front2 middle2, length_randoms (row2_words p) opened_count, length-replicate (p.block - opened_count) o.zero, b.block))
+      ∙ ap (entry o (front2 ++ middle2)) y ∙ get_or-append-add front2 middle2 s o.zero ∙ get_or-replicate (p.block - opened_count) s o.zero o.zero (omega (arith, h, b.block))
 
   -- row 1's values there have the sum zero
   second_stands : RingLaws o → sum_below o p.wr (standing o rows 1) ≡ o.zero
@@ -161,20 +162,20 @@ module _ {A : Type 0} (o : Ops A) (e : Coding A) (c : Wiring A) (private : List 
   second_stands r =
       let n = p.wr - 1 in
       let first = row1_words p in
-      let g : ℕ → A = λ i. random o e word (first + 128 + i) in
+      let g : ℕ → A = λ i. random o e word (first + opened_count + i) in
       let values = randoms o e word first p.dblock in
-      let v = o.neg (sum_below o (p.block - 1 - 128) g) in
+      let v = o.neg (sum_below o (p.block - 1 - opened_count) g) in
       let one_more : p.wr ≡ suc n = omega (arith, some) in
-      let last : 128 + n ≡ p.block - 1 = omega (arith, some, b.block) in
-      let less : p.block - 1 - 128 ≡ n = omega (arith, b.block) in
+      let last : opened_count + n ≡ p.block - 1 = omega (arith, some, b.block) in
+      let less : p.block - 1 - opened_count ≡ n = omega (arith, b.block) in
       let f : ℕ → A = standing o rows 1 in
       ap (λ (k : ℕ). sum_below o k f) one_more
       ∙ ap (λ x. o.plus x (f n))
       (sum-ext o r n f g
       (λ s h.
-      let away : 128 + s ≢ p.block - 1 = omega (arith, h, last) in
-      get_or-set_other values (p.block - 1) (128 + s) v o.zero away
-      ∙ get_or-map-range_with_len (random o e word) first p.dblock (128 + s) (first + 128 + s) o.zero (omega (arith, h, b.block, b.dblock)) (omega arith)))
+      let away : opened_count + s ≢ p.block - 1 = omega (arith, h, last) in
+      get_or-set_other values (p.block - 1) (opened_count + s) v o.zero away
+      ∙ get_or-map-range_with_len (random o e word) first p.dblock (opened_count + s) (first + opened_count + s) o.zero (omega (arith, h, b.block, b.dblock)) (omega arith)))
       ∙ ap (o.plus (sum_below o n g))
       (ap (entry o (row rows 1)) last ∙ get_or-set_same values (p.block - 1) v o.zero (omega (arith, length_randoms first p.dblock, some, b.block, b.dblock)) ∙ ap (λ (k : ℕ). o.neg (sum_below o k g)) less)
       ∙ r.plus_neg (sum_below o n g)

@@ -1,4 +1,5 @@
 -- A proof's answers, by what the tape gave.
+use Rattle.lzk_profile.specs.Profile.{opened_count}
 use Rattle.std.specs.Prelude.{◌≡◌, ℕ, List, take, drop}
 use Rattle.lzk_field.specs.Ring.{Ops}
 use Rattle.lzk_poly.specs.Through.{values_of}
@@ -31,5 +32,5 @@ answers_of o point c p public s messages ch rows = record {
 pub record AreSent {A : Type 0} (p : Params) (answers : Answers A) (proof : Proof A) : Type 0 where
   pub low_degree : proof.ldt ≡ answers.low_degree
   pub linear : proof.dot ≡ answers.linear
-  pub quad_head : proof.quad_head ≡ take 128 answers.quadratic
+  pub quad_head : proof.quad_head ≡ take opened_count answers.quadratic
   pub quad_tail : proof.quad_tail ≡ drop p.block answers.quadratic

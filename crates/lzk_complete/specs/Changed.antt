@@ -1,4 +1,5 @@
 -- Changes of a proof's answers.
+use Rattle.lzk_profile.specs.Profile.{opened_count}
 use Rattle.std.specs.Prelude.{ℕ, ◌<◌, ◌≤◌, ◌⊎◌}
 use Rattle.lzk_field.specs.Ring.{Ops}
 use Rattle.lzk_layout.specs.declared.params.Params.{Params}
@@ -21,4 +22,4 @@ with_added o Quad n by answers = record answers { quadratic = changed o answers.
 abbrev pub IsSentPlace : Params → Answer → ℕ → Type 0
 IsSentPlace p LowDegree n = n < p.block
 IsSentPlace p Dot n = n < p.dblock
-IsSentPlace p Quad n = (n < p.dblock) × ((n < 128) ⊎ (p.block ≤ n))
+IsSentPlace p Quad n = (n < p.dblock) × ((n < opened_count) ⊎ (p.block ≤ n))

@@ -1,5 +1,6 @@
 -- Changed proofs: what is written for satisfying inputs, where one value of an answer was changed before the columns
 -- were drawn, is refused.
+use Rattle.lzk_profile.specs.Profile.{opened_count}
 use Rattle.std.specs.Prelude.{◌≢◌, ℕ, cond, nat_lt, List, slice_index}
 use Rattle.lzk_field.specs.Coding.{Coding}
 use Rattle.lzk_field.specs.Ring.{Ops}
@@ -35,7 +36,7 @@ module _ {A : Type 0} (o : Ops A) (e : Coding A) (c : Wiring A) (public : List A
     refusal answer.Dot n by =
         let wanted = wanted_sum o e c (params_of c) public proof t in
         let wrong = Linear (slice_index t.columns 0) in
-        cond (nat_lt n 128) wrong (cond (nat_lt n (params_of c).block) (LinearSum (o.plus wanted by) wanted) wrong)
+        cond (nat_lt n opened_count) wrong (cond (nat_lt n (params_of c).block) (LinearSum (o.plus wanted by) wanted) wrong)
     refusal answer.Quad n by = Quadratic (slice_index t.columns 0)
 
 -- The bytes are the file of a proof, and have this verdict. At no opened column does the check of the changed answer

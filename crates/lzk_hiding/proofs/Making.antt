@@ -1,4 +1,5 @@
 -- A simulator makes all that passes, by one list of free elements each.
+use Rattle.lzk_profile.specs.Profile.{opened_count}
 use Rattle.std.specs.Prelude.{◌≡◌, ℕ, ◌+◌, ◌-◌, ◌*◌, ◌/◌, ◌%◌, ◌<◌, ◌≤◌, cond, nat_lt, List, ◌++◌, length, map, replicate}
 use Rattle.std.specs.List.{range_with_len}
 use Rattle.std.proofs.Common.{zero, suc, sym, ap, ◌∙◌, arith, subst}
@@ -39,7 +40,7 @@ module _ {A : Type 0} (o : Ops A) (e : Coding A) (r : RingLaws o) (c : Wiring A)
   skip x = cond (nat_lt x (p.block - 1)) x (x + 1)
 
   abbrev after_tail : ℕ → A
-  after_tail i = cond (nat_lt i (rows_free p)) (entry o proof.quad_tail (i - tail_free p)) (at_row o p proof ((i - rows_free p) % 128) (3 + (i - rows_free p) / 128))
+  after_tail i = cond (nat_lt i (rows_free p)) (entry o proof.quad_tail (i - tail_free p)) (at_row o p proof ((i - rows_free p) % opened_count) (3 + (i - rows_free p) / opened_count))
 
   abbrev after_head : ℕ → A
   after_head i = cond (nat_lt i (tail_free p)) (entry o proof.quad_head (i - head_free p)) (after_tail i)
@@ -88,7 +89,7 @@ module _ {A : Type 0} (o : Ops A) (e : Coding A) (r : RingLaws o) (c : Wiring A)
   past_dot : (i : ℕ) → head_free p ≤ i → rest i ≡ after_head i
   past_dot i h = past_ldt i (omega (arith, h)) ∙ ap (λ y. cond y (entry o proof.dot (skip (i - dot_free p))) (after_head i)) (le-ltb i (head_free p) h)
 
-  rest_head : (x : ℕ) → x < 128 → rest (head_free p + x) ≡ entry o proof.quad_head x
+  rest_head : (x : ℕ) → x < opened_count → rest (head_free p + x) ≡ entry o proof.quad_head x
   rest_head x h =
       let i = head_free p + x in
       let z : i - head_free p ≡ x = omega arith in
@@ -102,17 +103,17 @@ module _ {A : Type 0} (o : Ops A) (e : Coding A) (r : RingLaws o) (c : Wiring A)
       let i = tail_free p + x in
       let z : i - tail_free p ≡ x = omega arith in
       past_head i (omega arith)
-      ∙ ap (λ y. cond y (entry o proof.quad_tail (i - tail_free p)) (at_row o p proof ((i - rows_free p) % 128) (3 + (i - rows_free p) / 128))) (lt-ltb i (rows_free p) (omega (arith, h)))
+      ∙ ap (λ y. cond y (entry o proof.quad_tail (i - tail_free p)) (at_row o p proof ((i - rows_free p) % opened_count) (3 + (i - rows_free p) / opened_count))) (lt-ltb i (rows_free p) (omega (arith, h)))
       ∙ ap (entry o proof.quad_tail) z
 
-  rest_rows : (i k : ℕ) → k < 128 → rest (rows_free p + 128 * i + k) ≡ at_row o p proof k (3 + i)
+  rest_rows : (i k : ℕ) → k < opened_count → rest (rows_free p + opened_count * i + k) ≡ at_row o p proof k (3 + i)
   rest_rows i k h =
-      let n = rows_free p + 128 * i + k in
-      let place : (n - rows_free p) % 128 ≡ k = omega (arith, h) in
-      let row : 3 + (n - rows_free p) / 128 ≡ 3 + i = omega (arith, h) in
+      let n = rows_free p + opened_count * i + k in
+      let place : (n - rows_free p) % opened_count ≡ k = omega (arith, h) in
+      let row : 3 + (n - rows_free p) / opened_count ≡ 3 + i = omega (arith, h) in
       past_head n (omega arith)
-      ∙ ap (λ y. cond y (entry o proof.quad_tail (n - tail_free p)) (at_row o p proof ((n - rows_free p) % 128) (3 + (n - rows_free p) / 128))) (le-ltb n (rows_free p) (omega arith))
-      ∙ ap (λ (k : ℕ). at_row o p proof k (3 + (n - rows_free p) / 128)) place ∙ ap (at_row o p proof k) row
+      ∙ ap (λ y. cond y (entry o proof.quad_tail (n - tail_free p)) (at_row o p proof ((n - rows_free p) % opened_count) (3 + (n - rows_free p) / opened_count))) (le-ltb n (rows_free p) (omega arith))
+      ∙ ap (λ (k : ℕ). at_row o p proof k (3 + (n - rows_free p) / opened_count)) place ∙ ap (at_row o p proof k) row
 
   -- ---- with these it shows the same
 
@@ -147,7 +148,7 @@ module _ {A : Type 0} (o : Ops A) (e : Coding A) (r : RingLaws o) (c : Wiring A)
     ldt_same = part_same proof.ldt (ldt_free p) p.block pass.ldt (omega arith) rest_ldt
 
     head_same : proof.quad_head ≡ free_head o e c public s ch columns free
-    head_same = part_same proof.quad_head (head_free p) 128 pass.quad_head (omega arith) rest_head
+    head_same = part_same proof.quad_head (head_free p) opened_count pass.quad_head (omega arith) rest_head
 
     tail_same : proof.quad_tail ≡ free_tail o e c public s ch columns free
     tail_same = part_same proof.quad_tail (tail_free p) (p.dblock - p.block) pass.quad_tail (omega arith) rest_tail
@@ -155,14 +156,14 @@ module _ {A : Type 0} (o : Ops A) (e : Coding A) (r : RingLaws o) (c : Wiring A)
     last_is : entry o proof.dot (p.block - 1) ≡ last_dot o e c public s ch columns free
     last_is =
         let n = p.wr - 1 in
-        let f : ℕ → A = λ k. entry o proof.dot (128 + k) in
-        let g : ℕ → A = λ k. free (dot_free p + (128 + k)) in
+        let f : ℕ → A = λ k. entry o proof.dot (opened_count + k) in
+        let g : ℕ → A = λ k. free (dot_free p + (opened_count + k)) in
         let W = wanted_of o e.element c public s proof.messages ch in
-        let one_more : suc n ≡ p.block - 128 = omega (arith, b.block, b.wide) in
-        let last : p.block - 1 ≡ 128 + n = omega (arith, b.wide, b.block) in
+        let one_more : suc n ≡ p.block - opened_count = omega (arith, b.block, b.wide) in
+        let last : p.block - 1 ≡ opened_count + n = omega (arith, b.wide, b.block) in
         let sum : W ≡ o.plus (f n) (sum_below o n f) = sym pass.linear_sum ∙ ap (λ (m : ℕ). sum_below o m f) (sym one_more) ∙ r.plus_comm _ _ in
         ap (entry o proof.dot) last ∙ less o r W (f n) (sum_below o n f) sum
-        ∙ ap (minus o W) (sum-ext o r n f g (λ k h. sym (is (dot_free p + (128 + k)) (omega (arith, h, b.block, b.dblock)) ∙ rest_dot_low (128 + k) (omega (arith, h, last)))))
+        ∙ ap (minus o W) (sum-ext o r n f g (λ k h. sym (is (dot_free p + (opened_count + k)) (omega (arith, h, b.block, b.dblock)) ∙ rest_dot_low (opened_count + k) (omega (arith, h, last)))))
         ∙ ap (λ m. minus o (wanted_of o e.element c public s m ch) (sum_below o n g)) messages_same
 
     dot_is : (x : ℕ) → x < p.dblock → entry o proof.dot x ≡ dot_at o e c public s ch columns free x
@@ -185,15 +186,15 @@ module _ {A : Type 0} (o : Ops A) (e : Coding A) (r : RingLaws o) (c : Wiring A)
 
     quads_same : quadratic_values o p proof ≡ free_quads o e c public s ch columns free
     quads_same =
-        ap (λ xs. xs ++ replicate (p.block - 128) o.zero ++ proof.quad_tail) head_same
-        ∙ ap (λ xs. free_head o e c public s ch columns free ++ replicate (p.block - 128) o.zero ++ xs) tail_same
+        ap (λ xs. xs ++ replicate (p.block - opened_count) o.zero ++ proof.quad_tail) head_same
+        ∙ ap (λ xs. free_head o e c public s ch columns free ++ replicate (p.block - opened_count) o.zero ++ xs) tail_same
 
-    behind_same : (k i : ℕ) → k < 128 → 3 ≤ i → i < p.nrow → at_row o p proof k i ≡ B k i
+    behind_same : (k i : ℕ) → k < opened_count → 3 ≤ i → i < p.nrow → at_row o p proof k i ≡ B k i
     behind_same k i h d q =
         let z : 3 + (i - 3) ≡ i = omega (arith, d) in
-        ap (at_row o p proof k) (sym z) ∙ sym (is (rows_free p + 128 * (i - 3) + k) (omega (arith, h, d, q)) ∙ rest_rows (i - 3) k h)
+        ap (at_row o p proof k) (sym z) ∙ sym (is (rows_free p + opened_count * (i - 3) + k) (omega (arith, h, d, q)) ∙ rest_rows (i - 3) k h)
 
-    cell_same : (k i : ℕ) → k < 128 → i < p.nrow → at_row o p proof k i ≡ C k i
+    cell_same : (k i : ℕ) → k < opened_count → i < p.nrow → at_row o p proof k i ≡ C k i
     cell_same k zero h d =
         let R : ℕ → A = at_row o p proof k in
         let S = sum_below o (p.nrow - 3) (λ i. o.times (entry o ch.u i) (R (3 + i))) in
@@ -238,7 +239,7 @@ module _ {A : Type 0} (o : Ops A) (e : Coding A) (r : RingLaws o) (c : Wiring A)
         let some : 0 < p.nrow = omega (arith, b.rows) in
         let z : k * p.nrow + i ≡ m = div-add-mod' m p.nrow in
         let low : k < length columns = (div-lt_iff_lt-mul {k = p.nrow} {x = m} {y = length columns} some).1 (omega (arith, h, pass.opened)) in
-        let few : k < 128 = omega (arith, low, are.count) in
+        let few : k < opened_count = omega (arith, low, are.count) in
         let inside : i < p.nrow = mod-lt m (omega (arith, b.rows)) in
         subst (λ (m : ℕ). entry o proof.columns m ≡ entry o (free_columns o e c public s ch columns free) m) z
         (cell_same k i few inside ∙ sym (column_cell o e r c public s ch columns b are free k i few inside)))
@@ -251,8 +252,8 @@ module _ {A : Type 0} (o : Ops A) (e : Coding A) (r : RingLaws o) (c : Wiring A)
 
   -- all places of free elements
   each_free : (Q : ℕ → Type 0) → ((i : ℕ) → i < p.nsum → Q i) → ((x : ℕ) → x < p.block → Q (ldt_free p + x)) → ((x : ℕ) → x < p.block - 1 → Q (dot_free p + x))
-      → ((x : ℕ) → p.block ≤ x → x < p.dblock → Q (dot_free p + (x - 1))) → ((x : ℕ) → x < 128 → Q (head_free p + x)) → ((x : ℕ) → x < p.dblock - p.block → Q (tail_free p + x))
-      → ((i k : ℕ) → i < p.nrow - 3 → k < 128 → Q (rows_free p + 128 * i + k)) → (i : ℕ) → i < free_count p → Q i
+      → ((x : ℕ) → p.block ≤ x → x < p.dblock → Q (dot_free p + (x - 1))) → ((x : ℕ) → x < opened_count → Q (head_free p + x)) → ((x : ℕ) → x < p.dblock - p.block → Q (tail_free p + x))
+      → ((i k : ℕ) → i < p.nrow - 3 → k < opened_count → Q (rows_free p + opened_count * i + k)) → (i : ℕ) → i < free_count p → Q i
   each_free Q a f low high g t w i h =
       elim (dec_lt i (ldt_free p)) [
         | yes l ↦ a i l
@@ -269,8 +270,8 @@ module _ {A : Type 0} (o : Ops A) (e : Coding A) (r : RingLaws o) (c : Wiring A)
                 | yes v ↦ let z : tail_free p + (i - tail_free p) ≡ i = omega (arith, u) in subst Q z (t (i - tail_free p) (omega (arith, u, v)))
                 | no v ↦
                     let x = i - rows_free p in
-                    let z : rows_free p + 128 * (x / 128) + x % 128 ≡ i = omega (arith, v) in
-                    subst Q z (w (x / 128) (x % 128) (omega (arith, h, v)) (omega arith))
+                    let z : rows_free p + opened_count * (x / opened_count) + x % opened_count ≡ i = omega (arith, v) in
+                    subst Q z (w (x / opened_count) (x % opened_count) (omega (arith, h, v)) (omega arith))
               ]
             ]
           ]
@@ -285,11 +286,11 @@ module _ {A : Type 0} (o : Ops A) (e : Coding A) (r : RingLaws o) (c : Wiring A)
     unfolding simulated
     dot_entry x h = ap (λ ys. entry o ys x) same.dot ∙ get_or-map-range_with_len (dot_at o e c public s ch columns free) 0 p.dblock x x o.zero h (omega arith)
 
-    free_rows : (i k : ℕ) → i < p.nrow - 3 → k < 128 → rest (rows_free p + 128 * i + k) ≡ free (rows_free p + 128 * i + k)
+    free_rows : (i k : ℕ) → i < p.nrow - 3 → k < opened_count → rest (rows_free p + opened_count * i + k) ≡ free (rows_free p + opened_count * i + k)
     unfolding simulated
     free_rows i k h d =
         let z : 3 + i ≡ suc (suc (suc i)) = omega arith in
-        let y : rows_free p + 128 * (suc (suc (suc i)) - 3) + k ≡ rows_free p + 128 * i + k = omega arith in
+        let y : rows_free p + opened_count * (suc (suc (suc i)) - 3) + k ≡ rows_free p + opened_count * i + k = omega arith in
         rest_rows i k d ∙ ap (at_row o p proof k) z ∙ ap (λ ys. entry o ys (k * p.nrow + suc (suc (suc i)))) same.columns
         ∙ column_cell o e r c public s ch columns b are free k (suc (suc (suc i))) d (omega (arith, h)) ∙ ap free y
 
@@ -300,7 +301,7 @@ module _ {A : Type 0} (o : Ops A) (e : Coding A) (r : RingLaws o) (c : Wiring A)
         (λ x h. rest_ldt x h ∙ part_is proof.ldt (ldt_free p) p.block x same.ldt h)
         (λ x h. rest_dot_low x h ∙ dot_entry x (omega (arith, h, b.block, b.dblock)) ∙ dot_low o e r c public s ch columns b are free x h)
         (λ x h d. rest_dot_high x h d ∙ dot_entry x d ∙ dot_high o e r c public s ch columns b are free x h)
-        (λ x h. rest_head x h ∙ part_is proof.quad_head (head_free p) 128 x same.quads.0 h)
+        (λ x h. rest_head x h ∙ part_is proof.quad_head (head_free p) opened_count x same.quads.0 h)
         (λ x h. rest_tail x h ∙ part_is proof.quad_tail (tail_free p) (p.dblock - p.block) x same.quads.1 h)
         free_rows
 

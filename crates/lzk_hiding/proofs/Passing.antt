@@ -1,4 +1,5 @@
 -- What is seen of satisfying inputs passes.
+use Rattle.lzk_profile.specs.Profile.{opened_count}
 use Rattle.std.specs.Prelude.{◌≡◌, ℕ, ◌+◌, ◌-◌, ◌*◌, ◌<◌, List, length}
 use Rattle.std.proofs.Common.{ap, ◌∙◌, arith}
 use Rattle.std.proofs.lemmas.List.{length-take-le, length-drop, length-map}
@@ -64,7 +65,7 @@ module _ {A : Type 0} (o : Ops A) (e : Coding A) (laws : Laws o e.size e.number 
         messages = seen.count;
         ldt = ap length seen.answers.low_degree ∙ length-values_of o e.element p.block (low_degree_answer o e.element p rows ch.u);
         dot = ap length seen.answers.linear ∙ length-values_of o e.element p.dblock (linear_answer o e.element p rows lists);
-        quad_head = ap length seen.answers.quad_head ∙ length-take-le 128 (quadratic_of o e.element p rows ch.v) (omega (arith, quads, b.block, b.dblock));
+        quad_head = ap length seen.answers.quad_head ∙ length-take-le opened_count (quadratic_of o e.element p rows ch.v) (omega (arith, quads, b.block, b.dblock));
         quad_tail = ap length seen.answers.quad_tail ∙ omega (arith, length-drop p.block (quadratic_of o e.element p rows ch.v), quads);
         opened = long_columns;
         low_degree = low_degree_passes laws p rows proof columns ch.u b are opens seen.answers.low_degree;

@@ -1,4 +1,5 @@
 -- What a simulator makes passes, and it makes all that passes by one list of free elements each.
+use Rattle.lzk_profile.specs.Profile.{opened_count}
 use Rattle.std.specs.Prelude.{◌≡◌, ℕ, ◌+◌, ◌-◌, ◌*◌, ◌<◌, ◌≤◌, cond, nat_lt, List, length, map, slice_index, [], ◌∷◌}
 use Rattle.std.specs.List.{range_with_len}
 use Rattle.std.proofs.Common.{suc, refl, sym, ap, ◌∙◌, arith, subst}
@@ -54,13 +55,13 @@ module _ {A : Type 0} (o : Ops A) (e : Coding A) (r : RingLaws o) (c : Wiring A)
     length_cells : (k : ℕ) → length (map (C k) (range_with_len 0 p.nrow)) ≡ p.nrow
     length_cells k = length-map-range_with_len (C k) 0 p.nrow
 
-    length_columns : length all_columns ≡ 128 * p.nrow
-    length_columns = length-flat_map (λ k. map (C k) (range_with_len 0 p.nrow)) p.nrow (range_with_len 0 128) length_cells ∙ ap (λ (n : ℕ). n * p.nrow) (length-range_with_len 0 128)
+    length_columns : length all_columns ≡ opened_count * p.nrow
+    length_columns = length-flat_map (λ k. map (C k) (range_with_len 0 p.nrow)) p.nrow (range_with_len 0 opened_count) length_cells ∙ ap (λ (n : ℕ). n * p.nrow) (length-range_with_len 0 opened_count)
 
-    pub column_cell : (k i : ℕ) → k < 128 → i < p.nrow → entry o all_columns (k * p.nrow + i) ≡ C k i
+    pub column_cell : (k i : ℕ) → k < opened_count → i < p.nrow → entry o all_columns (k * p.nrow + i) ≡ C k i
     column_cell k i h d =
-        let at : slice_index (range_with_len 0 128) k ≡ k = get_or-range_with_len 0 128 k 0 h ∙ omega arith in
-        entry_of_flat o (λ k. map (C k) (range_with_len 0 p.nrow)) p.nrow (range_with_len 0 128) k i length_cells (omega (arith, h, length-range_with_len 0 128)) d
+        let at : slice_index (range_with_len 0 opened_count) k ≡ k = get_or-range_with_len 0 opened_count k 0 h ∙ omega arith in
+        entry_of_flat o (λ k. map (C k) (range_with_len 0 p.nrow)) p.nrow (range_with_len 0 opened_count) k i length_cells (omega (arith, h, length-range_with_len 0 opened_count)) d
         ∙ ap (λ (j : ℕ). entry o (map (C j) (range_with_len 0 p.nrow)) i) at
         ∙ get_or-map-range_with_len (C k) 0 p.nrow i i o.zero d (omega arith)
 
@@ -83,31 +84,31 @@ module _ {A : Type 0} (o : Ops A) (e : Coding A) (r : RingLaws o) (c : Wiring A)
 
     -- ---- it passes
 
-    sum_wanted : sum_below o (p.block - 128) (λ k. entry o dots (128 + k)) ≡ wanted_of o e.element c public s M ch
+    sum_wanted : sum_below o (p.block - opened_count) (λ k. entry o dots (opened_count + k)) ≡ wanted_of o e.element c public s M ch
     sum_wanted =
         let n = p.wr - 1 in
-        let f : ℕ → A = λ k. entry o dots (128 + k) in
-        let g : ℕ → A = λ k. free (dot_free p + (128 + k)) in
+        let f : ℕ → A = λ k. entry o dots (opened_count + k) in
+        let g : ℕ → A = λ k. free (dot_free p + (opened_count + k)) in
         let W = wanted_of o e.element c public s M ch in
-        let one_more : p.block - 128 ≡ suc n = omega (arith, b.block, b.wide) in
-        let last : 128 + n ≡ p.block - 1 = omega (arith, b.wide, b.block) in
+        let one_more : p.block - opened_count ≡ suc n = omega (arith, b.block, b.wide) in
+        let last : opened_count + n ≡ p.block - 1 = omega (arith, b.wide, b.block) in
         ap (λ (m : ℕ). sum_below o m f) one_more
-        ∙ ap (λ x. o.plus x (f n)) (sum-ext o r n f g (λ k h. dot_entry (128 + k) (omega (arith, h, b.block, b.dblock)) ∙ dot_low (128 + k) (omega (arith, h, last))))
-        ∙ ap (o.plus (sum_below o n g)) (dot_entry (128 + n) (omega (arith, last, b.block, b.dblock)) ∙ ap D last ∙ dot_last)
+        ∙ ap (λ x. o.plus x (f n)) (sum-ext o r n f g (λ k h. dot_entry (opened_count + k) (omega (arith, h, b.block, b.dblock)) ∙ dot_low (opened_count + k) (omega (arith, h, last))))
+        ∙ ap (o.plus (sum_below o n g)) (dot_entry (opened_count + n) (omega (arith, last, b.block, b.dblock)) ∙ ap D last ∙ dot_last)
         ∙ solve o r (sum_below o n g ∷ W ∷ []) (var 0 ⊞ (var 1 ⊟ var 0)) (var 1) refl
 
-    behind_is : (k i : ℕ) → k < 128 → 3 ≤ i → i < p.nrow → entry o all_columns (k * p.nrow + i) ≡ B k i
+    behind_is : (k i : ℕ) → k < opened_count → 3 ≤ i → i < p.nrow → entry o all_columns (k * p.nrow + i) ≡ B k i
     behind_is k i h d q =
         let z : suc (suc (suc (i - 3))) ≡ i = omega (arith, d) in
         subst (λ (m : ℕ). entry o all_columns (k * p.nrow + m) ≡ B k m) z (column_cell k (suc (suc (suc (i - 3)))) h (omega (arith, d, q)))
 
-    row_zero : (k : ℕ) → k < 128 → entry o all_columns (k * p.nrow + 0) ≡ C k 0
+    row_zero : (k : ℕ) → k < opened_count → entry o all_columns (k * p.nrow + 0) ≡ C k 0
     row_zero k h = column_cell k 0 h (omega (arith, b.rows))
 
-    row_one : (k : ℕ) → k < 128 → entry o all_columns (k * p.nrow + 1) ≡ C k 1
+    row_one : (k : ℕ) → k < opened_count → entry o all_columns (k * p.nrow + 1) ≡ C k 1
     row_one k h = column_cell k 1 h (omega (arith, b.rows))
 
-    row_two : (k : ℕ) → k < 128 → entry o all_columns (k * p.nrow + 2) ≡ C k 2
+    row_two : (k : ℕ) → k < opened_count → entry o all_columns (k * p.nrow + 2) ≡ C k 2
     row_two k h = column_cell k 2 h (omega (arith, b.rows))
 
     pub makes_passing : Passes o e c public s ch columns made
@@ -116,25 +117,25 @@ module _ {A : Type 0} (o : Ops A) (e : Coding A) (r : RingLaws o) (c : Wiring A)
       messages = length-map-range_with_len free 0 p.nsum;
       ldt = length-map-range_with_len (λ x. free (ldt_free p + x)) 0 p.block;
       dot = length-map-range_with_len D 0 p.dblock;
-      quad_head = length-map-range_with_len (λ x. free (head_free p + x)) 0 128;
+      quad_head = length-map-range_with_len (λ x. free (head_free p + x)) 0 opened_count;
       quad_tail = length-map-range_with_len (λ x. free (tail_free p + x)) 0 (p.dblock - p.block);
       opened = length_columns ∙ ap (λ (n : ℕ). n * p.nrow) (sym are.count);
       low_degree = λ k h.
-          let few : k < 128 = omega (arith, h, are.count) in
+          let few : k < opened_count = omega (arith, h, are.count) in
           let here : ℕ → A = λ i. entry o all_columns (k * p.nrow + i) in
           more o r (extension o e.element (free_ldt o e c public s ch columns free) (point_at o e c public s ch columns k)) (here 0) (sum_below o (p.nrow - 3) (λ i. o.times (entry o ch.u i) (here (3 + i))))
           (row_zero k few ∙ ap (minus o _) (sym (sum-ext o r (p.nrow - 3) (λ i. o.times (entry o ch.u i) (here (3 + i))) (λ i. o.times (entry o ch.u i) (B k (3 + i)))
           (λ i q. ap (o.times (entry o ch.u i)) (behind_is k (3 + i) few (omega arith) (omega (arith, q)))))));
       linear_sum = sum_wanted;
       linear = λ k h.
-          let few : k < 128 = omega (arith, h, are.count) in
+          let few : k < opened_count = omega (arith, h, are.count) in
           let here : ℕ → A = λ i. entry o all_columns (k * p.nrow + i) in
           let a : ℕ → A = λ i. extension o e.element (combined_row_of o e.element c public s M ch (3 + i)) (point_at o e c public s ch columns k) in
           more o r (extension o e.element dots (point_at o e c public s ch columns k)) (here 1) (sum_below o (p.nrow - 3) (λ i. o.times (a i) (here (3 + i))))
           (row_one k few ∙ ap (minus o _) (sym (sum-ext o r (p.nrow - 3) (λ i. o.times (a i) (here (3 + i))) (λ i. o.times (a i) (B k (3 + i)))
           (λ i q. ap (o.times (a i)) (behind_is k (3 + i) few (omega arith) (omega (arith, q)))))));
       quadratic = λ k h.
-          let few : k < 128 = omega (arith, h, are.count) in
+          let few : k < opened_count = omega (arith, h, are.count) in
           let here : ℕ → A = λ i. entry o all_columns (k * p.nrow + i) in
           let I : ℕ → ℕ → A = λ t which. here (3 + p.nwrow + 3 * t + which) in
           let T : ℕ → A = λ t. let first = 3 + p.nwrow + 3 * t in minus o (o.times (B k first) (B k (first + 1))) (B k (first + 2)) in

@@ -1,4 +1,5 @@
 -- Random elements lead to what passes where they are those of its solution.
+use Rattle.lzk_profile.specs.Profile.{opened_count}
 use Rattle.std.specs.Prelude.{◌≡◌, ◌≢◌, ℕ, ◌+◌, ◌-◌, ◌*◌, ◌/◌, ◌%◌, ◌<◌, ◌≤◌, List, [], ◌++◌, length, replicate, take, drop, slice_index}
 use Rattle.std.specs.List.{flat_map}
 use Rattle.std.proofs.Common.{zero, suc, refl, sym, ap, ◌∙◌, arith, subst}
@@ -104,16 +105,16 @@ module _ {A : Type 0} (o : Ops A) (e : Coding A) (laws : Laws o e.size e.number 
       let F = full o e c public private s ch columns proof (3 + i) in
       ext_get_or o.zero (row rows (3 + i)) F (are.others i h ∙ sym (length_filled o e laws p b columns case.opened D S))
       (λ k d.
-      elim (dec_lt k 128) [
+      elim (dec_lt k opened_count) [
         | yes l ↦
-            entry_head o e c private word b i k h l ∙ is (rows_words p + 128 * i + k) (omega (arith, h, l)) ∙ value_head o e c public private s ch columns proof idle b i k l
+            entry_head o e c private word b i k h l ∙ is (rows_words p + opened_count * i + k) (omega (arith, h, l)) ∙ value_head o e c public private s ch columns proof idle b i k l
             ∙ sym (filled_head o e laws p b columns case.opened D S k l)
         | no l ↦
-            let z : 128 + (k - 128) ≡ k = omega (arith, l) in
-            let g : k - 128 < p.wr = omega (arith, l, d, are.others i h, b.block) in
+            let z : opened_count + (k - opened_count) ≡ k = omega (arith, l) in
+            let g : k - opened_count < p.wr = omega (arith, l, d, are.others i h, b.block) in
             subst (λ (m : ℕ). entry o (row rows (3 + i)) m ≡ entry o F m) z
-            (entry_data o e c private word b i (k - 128) h g ∙ element_same o e c private word (pad_word o e c public private s ch columns proof) words_same (3 + i) (k - 128)
-            ∙ sym (filled_data o e laws p b columns case.opened D S (k - 128) g))
+            (entry_data o e c private word b i (k - opened_count) h g ∙ element_same o e c private word (pad_word o e c public private s ch columns proof) words_same (3 + i) (k - opened_count)
+            ∙ sym (filled_data o e laws p b columns case.opened D S (k - opened_count) g))
       ])
 
   abbrev low : ℕ → A
@@ -145,37 +146,37 @@ module _ {A : Type 0} (o : Ops A) (e : Coding A) (laws : Laws o e.size e.number 
 
   -- the sum of row 1 at the points of a row's elements determines the one value
   abbrev N : ℕ
-  N = p.block - 128
+  N = p.block - opened_count
 
   width : N ≡ p.wr
   width = omega (arith, b.block)
 
   abbrev f1 : ℕ → A
-  f1 k = entry o (row rows 1) (128 + k)
+  f1 k = entry o (row rows 1) (opened_count + k)
 
   abbrev l1 : ℕ → A
-  l1 k = linear (128 + k)
+  l1 k = linear (opened_count + k)
 
   parts_wanted : sum_below o N l1 ≡ wanted_of o e.element c public s proof.messages ch
   parts_wanted =
       let dots = linear_of o e.element p rows L in
       let honest : Proof A = record proof { dot = dots } in
       let sum = linear_sum_stands laws c (coefficient_of o e.element c public s proof.messages) (right_of o e.element c public s proof.messages) ch (committed o e c private word) rows honest b are sat stands refl in
-      let each : (k : ℕ) → k < N → entry o dots (128 + k) ≡ o.plus (f1 k) (l1 k) =
+      let each : (k : ℕ) → k < N → entry o dots (opened_count + k) ≡ o.plus (f1 k) (l1 k) =
       λ k h.
-      let d : 128 + k < p.dblock = omega (arith, h, b.block, b.dblock) in
-      entry-values_of o e.element p.dblock (linear_answer o e.element p rows L) (128 + k) d ∙ linear_value o e laws c public private s ch columns proof word b filled_so (128 + k)
-      ∙ ap (λ x. o.plus x (l1 k)) (given1 o e laws c public private s ch columns proof word b (128 + k) d) in
+      let d : opened_count + k < p.dblock = omega (arith, h, b.block, b.dblock) in
+      entry-values_of o e.element p.dblock (linear_answer o e.element p rows L) (opened_count + k) d ∙ linear_value o e laws c public private s ch columns proof word b filled_so (opened_count + k)
+      ∙ ap (λ x. o.plus x (l1 k)) (given1 o e laws c public private s ch columns proof word b (opened_count + k) d) in
       sym (zero_plus o laws.ring (sum_below o N l1))
       ∙ ap (λ x. o.plus x (sum_below o N l1)) (sym (ap (λ (n : ℕ). sum_below o n f1) width ∙ stands.second))
       ∙ sym (sum-plus o laws.ring N f1 l1)
-      ∙ sym (sum-ext o laws.ring N (λ k. entry o dots (128 + k)) (λ k. o.plus (f1 k) (l1 k)) each)
+      ∙ sym (sum-ext o laws.ring N (λ k. entry o dots (opened_count + k)) (λ k. o.plus (f1 k) (l1 k)) each)
       ∙ sum
 
-  blind_sum : sum_below o p.wr (λ k. B1 (128 + k)) ≡ o.zero
+  blind_sum : sum_below o p.wr (λ k. B1 (opened_count + k)) ≡ o.zero
   blind_sum =
-      let d : ℕ → A = λ k. entry o proof.dot (128 + k) in
-      ap (λ (n : ℕ). sum_below o n (λ k. B1 (128 + k))) (sym width)
+      let d : ℕ → A = λ k. entry o proof.dot (opened_count + k) in
+      ap (λ (n : ℕ). sum_below o n (λ k. B1 (opened_count + k))) (sym width)
       ∙ sum-minus o laws.ring N d l1
       ∙ ap (λ x. minus o x (sum_below o N l1)) pass.linear_sum
       ∙ ap (minus o (wanted_of o e.element c public s proof.messages ch)) parts_wanted
@@ -184,11 +185,11 @@ module _ {A : Type 0} (o : Ops A) (e : Coding A) (laws : Laws o e.size e.number 
   row1_last : entry o (row rows 1) (p.block - 1) ≡ B1 (p.block - 1)
   row1_last =
       let n = p.wr - 1 in
-      let g : ℕ → A = λ k. B1 (128 + k) in
+      let g : ℕ → A = λ k. B1 (opened_count + k) in
       let one_more : suc n ≡ p.wr = omega (arith, b.wide) in
-      let last : 128 + n ≡ p.block - 1 = omega (arith, b.wide, b.block) in
+      let last : opened_count + n ≡ p.block - 1 = omega (arith, b.wide, b.block) in
       let same : sum_below o n f1 ≡ sum_below o n g =
-      sum-ext o laws.ring n f1 g (λ k h. row1_most (128 + k) (omega (arith, h, b.block, b.dblock)) (λ at. absurd (omega (arith, at, h, last)))) in
+      sum-ext o laws.ring n f1 g (λ k h. row1_most (opened_count + k) (omega (arith, h, b.block, b.dblock)) (λ at. absurd (omega (arith, at, h, last)))) in
       subst (λ (x : ℕ). entry o (row rows 1) x ≡ B1 x) last
       (plus_cancel o laws.ring (sum_below o n f1) (f1 n) (g n)
       (ap (λ (m : ℕ). sum_below o m f1) one_more ∙ stands.second ∙ sym blind_sum ∙ ap (λ (m : ℕ). sum_below o m g) (sym one_more) ∙ ap (λ x. o.plus x (g n)) (sym same)))
@@ -211,26 +212,26 @@ module _ {A : Type 0} (o : Ops A) (e : Coding A) (laws : Laws o e.size e.number 
   zeros =
       zeros_stand laws c (coefficient_of o e.element c public s proof.messages) (right_of o e.element c public s proof.messages) (committed o e c private word) rows ch.v b are sat stands
 
-  row2_middle : (k : ℕ) → k < p.wr → Y 2 (128 + k) ≡ B2 (128 + k)
+  row2_middle : (k : ℕ) → k < p.wr → Y 2 (opened_count + k) ≡ B2 (opened_count + k)
   row2_middle k h =
-      let x = 128 + k in
+      let x = opened_count + k in
       let d : x < p.dblock = omega (arith, h, b.block, b.dblock) in
       let here : Y 2 x ≡ o.zero = given2 o e laws c public private s ch columns proof word b x d ∙ stands.third k h in
       let nothing : quadratic x ≡ o.zero =
       sym (zero_plus o laws.ring (quadratic x)) ∙ ap (λ y. o.plus y (quadratic x)) (sym here) ∙ sym (quadratic_value o e laws c public private s ch columns proof word b filled_so x)
       ∙ sym (entry-values_of o e.element p.dblock (quadratic_answer o e.element p rows ch.v) x d) ∙ zeros k h in
-      here ∙ sym (ap (minus o (entry o quads x)) nothing ∙ ap (λ y. minus o y o.zero) (middle_entry o N proof.quad_head proof.quad_tail 128 k pass.quad_head (omega (arith, h, width))) ∙ laws.ring.plus_neg o.zero)
+      here ∙ sym (ap (minus o (entry o quads x)) nothing ∙ ap (λ y. minus o y o.zero) (middle_entry o N proof.quad_head proof.quad_tail opened_count k pass.quad_head (omega (arith, h, width))) ∙ laws.ring.plus_neg o.zero)
 
   row2_is : (x : ℕ) → x < p.dblock → Y 2 x ≡ B2 x
   row2_is x h =
-      elim (dec_lt x 128) [
+      elim (dec_lt x opened_count) [
         | yes l ↦
             given2 o e laws c public private s ch columns proof word b x h ∙ entry_row2_front o e c private word b x l ∙ is (row2_words p + x) (omega (arith, h))
             ∙ value_row2_front o e c public private s ch columns proof idle b x l
         | no l ↦ elim (dec_lt x p.block) [
           | yes g ↦
-              let z : 128 + (x - 128) ≡ x = omega (arith, l) in
-              subst (λ (x : ℕ). Y 2 x ≡ B2 x) z (row2_middle (x - 128) (omega (arith, l, g, b.block)))
+              let z : opened_count + (x - opened_count) ≡ x = omega (arith, l) in
+              subst (λ (x : ℕ). Y 2 x ≡ B2 x) z (row2_middle (x - opened_count) (omega (arith, l, g, b.block)))
           | no g ↦
               given2 o e laws c public private s ch columns proof word b x h ∙ entry_row2_back o e c private word b x (omega (arith, g)) h ∙ is (row2_words p + x) (omega (arith, h))
               ∙ value_row2_back o e c public private s ch columns proof idle b x (omega (arith, g)) h
@@ -255,10 +256,10 @@ module _ {A : Type 0} (o : Ops A) (e : Coding A) (laws : Laws o e.size e.number 
       (omega (arith, length-append (proof.quad_head ++ replicate N o.zero) proof.quad_tail, both, pass.quad_tail, b.block, b.dblock))
       (λ x h. more o laws.ring (entry o quads x) (Y 2 x) (quadratic x) (row2_is x h) ∙ sym (quadratic_value o e laws c public private s ch columns proof word b filled_so x))
 
-  head_is : proof.quad_head ≡ take 128 (quadratic_of o e.element p rows ch.v)
+  head_is : proof.quad_head ≡ take opened_count (quadratic_of o e.element p rows ch.v)
   head_is =
-      sym (take-append-le 128 (proof.quad_head ++ replicate N o.zero) proof.quad_tail (omega (arith, both, b.block)) ∙ take_at proof.quad_head (replicate N o.zero) 128 pass.quad_head)
-      ∙ ap (take 128) quads_are
+      sym (take-append-le opened_count (proof.quad_head ++ replicate N o.zero) proof.quad_tail (omega (arith, both, b.block)) ∙ take_at proof.quad_head (replicate N o.zero) opened_count pass.quad_head)
+      ∙ ap (take opened_count) quads_are
 
   tail_is : proof.quad_tail ≡ drop p.block (quadratic_of o e.element p rows ch.v)
   tail_is = sym (drop_at (proof.quad_head ++ replicate N o.zero) proof.quad_tail p.block both) ∙ ap (drop p.block) quads_are
@@ -271,13 +272,13 @@ module _ {A : Type 0} (o : Ops A) (e : Coding A) (laws : Laws o e.size e.number 
   Z : ℕ → ℕ → A
   Z = X o e c public private s ch columns proof
 
-  behind : (k i : ℕ) → k < 128 → i < p.nrow → 3 ≤ i → X o e c public private s ch columns proof i (at k) ≡ at_row o p proof k i
+  behind : (k i : ℕ) → k < opened_count → i < p.nrow → 3 ≤ i → X o e c public private s ch columns proof i (at k) ≡ at_row o p proof k i
   behind k i h d g = filled_opens o e laws p b columns case.opened (own o e c public private s ch columns proof i) (shown o e c public private s ch columns proof i) k h
 
   lengths : (i : ℕ) → i < p.nrow - 3 → length (L (3 + i)) ≡ p.block
   lengths i h = let row = combined_rows o e.element c (coefficient_of o e.element c public s proof.messages) ch (3 + i) in row.count
 
-  first_opens : (k : ℕ) → k < 128 → Y 0 (at k) ≡ at_row o p proof k 0
+  first_opens : (k : ℕ) → k < opened_count → Y 0 (at k) ≡ at_row o p proof k 0
   first_opens k h =
       let j = at k in
       let S = sum_below o (p.nrow - 3) (λ i. o.times (entry o ch.u i) (at_row o p proof k (3 + i))) in
@@ -290,7 +291,7 @@ module _ {A : Type 0} (o : Ops A) (e : Coding A) (laws : Laws o e.size e.number 
       ∙ low_value o e laws c public private s ch columns proof word b filled_so j ∙ ap (o.plus (Y 0 j)) same in
       less o laws.ring sent (Y 0 j) S mine ∙ sym (less o laws.ring sent (at_row o p proof k 0) S (pass.low_degree k (omega (arith, h, case.opened.count))))
 
-  second_opens : (k : ℕ) → k < 128 → Y 1 (at k) ≡ at_row o p proof k 1
+  second_opens : (k : ℕ) → k < opened_count → Y 1 (at k) ≡ at_row o p proof k 1
   second_opens k h =
       let j = at k in
       let a : ℕ → A = λ i. extension o e.element (L (3 + i)) j in
@@ -304,7 +305,7 @@ module _ {A : Type 0} (o : Ops A) (e : Coding A) (laws : Laws o e.size e.number 
       ∙ linear_value o e laws c public private s ch columns proof word b filled_so j ∙ ap (o.plus (Y 1 j)) same in
       less o laws.ring sent (Y 1 j) S mine ∙ sym (less o laws.ring sent (at_row o p proof k 1) S (pass.linear k (omega (arith, h, case.opened.count))))
 
-  third_opens : (k : ℕ) → k < 128 → Y 2 (at k) ≡ at_row o p proof k 2
+  third_opens : (k : ℕ) → k < opened_count → Y 2 (at k) ≡ at_row o p proof k 2
   third_opens k h =
       let j = at k in
       let G : ℕ → A = λ i. X o e c public private s ch columns proof i j in
@@ -327,7 +328,7 @@ module _ {A : Type 0} (o : Ops A) (e : Coding A) (laws : Laws o e.size e.number 
       ∙ quadratic_value o e laws c public private s ch columns proof word b filled_so j ∙ ap (o.plus (Y 2 j)) same in
       less o laws.ring sent (Y 2 j) S mine ∙ sym (less o laws.ring sent (at_row o p proof k 2) S (pass.quadratic k (omega (arith, h, case.opened.count))))
 
-  opens : (k i : ℕ) → k < 128 → i < p.nrow → Y i (at k) ≡ at_row o p proof k i
+  opens : (k i : ℕ) → k < opened_count → i < p.nrow → Y i (at k) ≡ at_row o p proof k i
   opens k zero h d = first_opens k h
   opens k (suc zero) h d = second_opens k h
   opens k (suc (suc zero)) h d = third_opens k h
@@ -353,7 +354,7 @@ module _ {A : Type 0} (o : Ops A) (e : Coding A) (laws : Laws o e.size e.number 
       let some : 0 < p.nrow = omega (arith, b.rows) in
       let z : k * p.nrow + i ≡ m = div-add-mod' m p.nrow in
       let low : k < length columns = (div-lt_iff_lt-mul {k = p.nrow} {x = m} {y = length columns} some).1 (omega (arith, h, pass.opened)) in
-      let few : k < 128 = omega (arith, low, case.opened.count) in
+      let few : k < opened_count = omega (arith, low, case.opened.count) in
       let inside : i < p.nrow = mod-lt m (omega (arith, b.rows)) in
       subst (λ (m : ℕ). entry o proof.columns m ≡ entry o (flat_map (column o e c private word) columns) m) z
       (sym (opens k i few inside) ∙ sym (column_entry (slice_index columns k) i inside) ∙ sym (entry_of_flat o (column o e c private word) p.nrow columns k i length_column low inside)))

@@ -1,4 +1,5 @@
 -- What passes by a programmed tape is completed to an accepted proof.
+use Rattle.lzk_profile.specs.Profile.{opened_count}
 use Rattle.std.specs.Prelude.{◌≡◌, ℕ, ◌+◌, ◌*◌, ◌<◌, ◌≤◌, ◌==◌, nat_lt, Bool, true, false, cond, List, [], ◌∷◌, ◌++◌, length, map, take, drop, slice_index, slice_index_or}
 use Rattle.std.specs.List.{range_with_len, flat_map}
 use Rattle.std.proofs.Common.{zero, suc, inr, refl, sym, ap, ◌∙◌, arith}
@@ -37,7 +38,7 @@ by_places g (j ∷ js) a h same =
     ∙ ap (λ ys. g j ∷ ys) (by_places g js (a + 1) h (λ k b. let y : (a + 1) + k ≡ a + suc k = omega arith in ap h y ∙ same (suc k) (omega (arith, b))))
 
 module _ {A : Type 0} (o : Ops A) (e : Coding A) (c : Wiring A) (public : List A) (t : Transcript A) (view : Proof A) (nonces : List (List ℕ)) (others : ℕ → List ℕ)
-    (are : AreOpened (params_of c).mcol t.columns) (many : length t.columns ≡ 128) (passes : Passes o e c public t.script t.challenges t.columns view) where
+    (are : AreOpened (params_of c).mcol t.columns) (many : length t.columns ≡ opened_count) (passes : Passes o e c public t.script t.challenges t.columns view) where
   abbrev p : Params
   p = params_of c
 
@@ -50,7 +51,7 @@ module _ {A : Type 0} (o : Ops A) (e : Coding A) (c : Wiring A) (public : List A
   abbrev whole : Proof A
   whole = completed o e c js view nonces others
 
-  leaf_is : (k : ℕ) → k < 128 → leaf_at o e p whole k ≡ slice_index_or all (slice_index js k) []
+  leaf_is : (k : ℕ) → k < opened_count → leaf_at o e p whole k ≡ slice_index_or all (slice_index js k) []
   leaf_is k h =
       let j = slice_index js k in
       let inside : k < length js = omega (arith, h, many) in
@@ -63,7 +64,7 @@ module _ {A : Type 0} (o : Ops A) (e : Coding A) (c : Wiring A) (public : List A
   root_is : HasRoot o e p whole js
   root_is =
       let h : ℕ → List ℕ = leaf_at o e p whole in
-      let same : map h (range_with_len 0 128) ≡ opened_leaves all js =
+      let same : map h (range_with_len 0 opened_count) ≡ opened_leaves all js =
       ap (λ n. map h (range_with_len 0 n)) (sym many)
       ∙ by_places (λ j. slice_index_or all j []) js 0 h (λ k q. let z : 0 + k ≡ k = omega arith in ap h z ∙ leaf_is k (omega (arith, q, many))) in
       ap (λ ls. root_of p.mcol js ls (map (tree_node p.mcol all) (path_nodes p.mcol js))) same ∙ same_root p.mcol js all are

@@ -1,4 +1,5 @@
 -- What a prover sends and opens, by its random elements and for any challenges, and what of it a verifier checks.
+use Rattle.lzk_profile.specs.Profile.{opened_count}
 use Rattle.std.specs.Prelude.{◌≡◌, ◌≢◌, ℕ, ◌+◌, ◌-◌, ◌<◌, List, length, slice_index}
 use Rattle.std.specs.List.{flat_map}
 use Rattle.std.proofs.Common.{zero, suc}
@@ -35,7 +36,7 @@ idle_count p = 1 + p.wr
 -- the number of the k-th of these
 abbrev pub idle_at : Params → ℕ → ℕ
 idle_at p zero = row1_words p + (p.block - 1)
-idle_at p (suc k) = row2_words p + (128 + k)
+idle_at p (suc k) = row2_words p + (opened_count + k)
 
 -- ---- views
 
@@ -54,6 +55,6 @@ module _ {A : Type 0} (o : Ops A) (e : Coding A) (c : Wiring A) (public : List A
 
 -- 128 columns of the tree, of which no two are the same
 pub record AreColumns (p : Params) (columns : List ℕ) : Type 0 where
-  pub count : length columns ≡ 128
-  pub inside : (k : ℕ) → k < 128 → slice_index columns k < p.mcol
-  pub apart : (j k : ℕ) → j < k → k < 128 → slice_index columns j ≢ slice_index columns k
+  pub count : length columns ≡ opened_count
+  pub inside : (k : ℕ) → k < opened_count → slice_index columns k < p.mcol
+  pub apart : (j k : ℕ) → j < k → k < opened_count → slice_index columns j ≢ slice_index columns k

@@ -1,4 +1,5 @@
 -- What is seen without any private inputs: a simulator, which knows the public inputs and the challenges alone.
+use Rattle.lzk_profile.specs.Profile.{opened_count}
 use Rattle.std.specs.Prelude.{ℕ, ◌+◌, ◌-◌, ◌*◌, cond, nat_lt, List, ◌++◌, map, replicate, slice_index}
 use Rattle.std.specs.List.{range_with_len, flat_map}
 use Rattle.std.proofs.Common.{zero, suc}
@@ -30,7 +31,7 @@ head_free p = dot_free p + (p.dblock - 1)
 
 -- those of its last part
 abbrev pub tail_free : Params → ℕ
-tail_free p = head_free p + 128
+tail_free p = head_free p + opened_count
 
 -- those of the opened columns, from row 3 on
 abbrev pub rows_free : Params → ℕ
@@ -38,7 +39,7 @@ rows_free p = tail_free p + (p.dblock - p.block)
 
 -- how many elements a simulator chooses
 abbrev pub free_count : Params → ℕ
-free_count p = rows_free p + 128 * (p.nrow - 3)
+free_count p = rows_free p + opened_count * (p.nrow - 3)
 
 module _ {A : Type 0} (o : Ops A) (e : Coding A) (c : Wiring A) (public : List A) (s : Script A) (ch : Challenges A)
     (columns : List ℕ) where
@@ -84,7 +85,7 @@ module _ {A : Type 0} (o : Ops A) (e : Coding A) (c : Wiring A) (public : List A
     -- the one value of the linear answer that is not free: it makes the sum that is wanted
     abbrev pub last_dot : A
     last_dot = minus o (wanted_of o e.element c public s free_messages ch)
-        (sum_below o (p.wr - 1) (λ k. free (dot_free p + (128 + k))))
+        (sum_below o (p.wr - 1) (λ k. free (dot_free p + (opened_count + k))))
 
     -- the values of the linear answer: the last that its sum counts is the one that is not free
     abbrev pub dot_at : ℕ → A
@@ -97,7 +98,7 @@ module _ {A : Type 0} (o : Ops A) (e : Coding A) (c : Wiring A) (public : List A
 
     -- the first values of the quadratic answer: all free
     abbrev pub free_head : List A
-    free_head = map (λ x. free (head_free p + x)) (range_with_len 0 128)
+    free_head = map (λ x. free (head_free p + x)) (range_with_len 0 opened_count)
 
     -- the last values of the quadratic answer: all free
     abbrev pub free_tail : List A
@@ -105,11 +106,11 @@ module _ {A : Type 0} (o : Ops A) (e : Coding A) (c : Wiring A) (public : List A
 
     -- the whole quadratic answer, with zeros where the elements stand
     abbrev pub free_quads : List A
-    free_quads = free_head ++ replicate (p.block - 128) o.zero ++ free_tail
+    free_quads = free_head ++ replicate (p.block - opened_count) o.zero ++ free_tail
 
     -- what row r has at the k-th opened column
     abbrev pub free_behind : ℕ → ℕ → A
-    free_behind k r = free (rows_free p + 128 * (r - 3) + k)
+    free_behind k r = free (rows_free p + opened_count * (r - 3) + k)
 
     -- what row r has at the k-th opened column, for each row
     abbrev pub cell : ℕ → ℕ → A
@@ -120,7 +121,7 @@ module _ {A : Type 0} (o : Ops A) (e : Coding A) (c : Wiring A) (public : List A
 
     -- the opened columns, one after the other
     abbrev pub free_columns : List A
-    free_columns = flat_map (λ k. map (cell k) (range_with_len 0 p.nrow)) (range_with_len 0 128)
+    free_columns = flat_map (λ k. map (cell k) (range_with_len 0 p.nrow)) (range_with_len 0 opened_count)
 
     -- what is seen; the other parts of the proof are zeros
     unfoldable pub simulated : Proof A

@@ -1,4 +1,5 @@
 -- Proofs as a simulator completes them: what is seen, nonces, and a digest for each column that is not opened.
+use Rattle.lzk_profile.specs.Profile.{opened_count, most_digests}
 use Rattle.std.specs.Prelude.{◌≡◌, ℕ, nat_lt, cond, List, [], length, map, slice_index_or}
 use Rattle.std.specs.List.{range_with_len}
 use Rattle.lzk_field.specs.Coding.{Coding}
@@ -39,7 +40,7 @@ module _ {A : Type 0} (o : Ops A) (e : Coding A) (c : Wiring A) (columns : List 
     path = record {
       digests = map (tree_node (params_of c).mcol all_digests)
           (path_nodes (params_of c).mcol columns);
-      room = 1536;
+      room = most_digests;
     };
   }
 
@@ -50,7 +51,7 @@ abbrev pub ProgrammedAccepted : {A : Type 0} → Ops A → Coding A → Type 0
 ProgrammedAccepted {A} o e =
     (c : Wiring A) (public : List A) (t : Transcript A) (view : Proof A) (nonces : List (List ℕ)) (others : ℕ → List ℕ)
     → IsValid o c
-    → AreOpened (params_of c).mcol t.columns → length t.columns ≡ 128
+    → AreOpened (params_of c).mcol t.columns → length t.columns ≡ opened_count
     → Passes o e c public t.script t.challenges t.columns view
     → IsJudged o e c (params_of c) public (completed o e c t.columns view nonces others) t Accepted
 

@@ -1,4 +1,5 @@
 -- Cursors that were pushed bytes, before and after one more.
+use Rattle.lzk_profile.specs.Profile.{most_digests}
 use Rattle.std.proofs.Common.{◌≡◌, ℕ, ◌+◌, ◌-◌, ◌<◌, ◌≤◌, List, [], ◌∷◌, ◌++◌, length, take, Option, Some, None, Result, Ok, Err, refl, sym, ap, subst, ◌∙◌, arith, inl, inr}
 use Rattle.std.specs.Prelude.{◌↔◌, unwrap_or, slice_set}
 use Rattle.std.proofs.lemmas.Bool.{cases_lt}
@@ -104,7 +105,7 @@ whole_field s old new byte few some sound (Field part block n) t =
     let is_f : take n block ≡ rest ++ byte ∷ [] =
     ap (take n) t.block_is ∙ ap (λ (k : ℕ). take k (slice_set old.block old.held byte)) (t.number ∙ sym t.long) ∙ held_more old.block old.held byte less sound.zeros in
     record {
-      has = more_parts old.params (unwrap_or old.digests 0) 1536 part sound.few (parts_stand old.params (unwrap_or old.digests 0) old.fields part (sym sound.part ∙ t.is)).1;
+      has = more_parts old.params (unwrap_or old.digests 0) most_digests part sound.few (parts_stand old.params (unwrap_or old.digests 0) old.fields part (sym sound.part ∙ t.is)).1;
       passes = record {
         long = omega (arith, ap length is_f, length-append rest (byte ∷ []), rest_long old.block old.held byte less sound.zeros, t.long);
         right = t.passes;

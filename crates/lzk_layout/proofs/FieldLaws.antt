@@ -1,4 +1,5 @@
 -- Fields that were read stand in the bytes, what stands there is read, and lists of fields are read one after the other.
+use Rattle.lzk_profile.specs.Profile.{most_digests}
 use Rattle.std.proofs.Common.{◌≡◌, ℕ, suc, ◌+◌, ◌<◌, ◌≤◌, ◌-◌, replicate, Bool, true, false, cond, ltb, List, [], ◌∷◌, ◌++◌, length, take, drop, Option, Some, None, Result, Ok, Err, refl, sym, ap, subst, ◌∙◌, append_assoc, arith, inl, inr}
 use Rattle.std.specs.Int.{w32, to_le_bytes, from_le_bytes}
 use Rattle.std.proofs.lemmas.Nat.{from_le_bytes-to_le_bytes_4}
@@ -179,7 +180,7 @@ is_done_same shape s n i whole fs rest le h =
 
 -- ---- the path
 
-pub path_read : (shape : Shape) (bytes after rest : List ℕ) (n : ℕ) (digests : List (List ℕ)) → n ≤ 1536 → field_at shape count bytes ≡ Ok (to_le_bytes w32 n, after)
+pub path_read : (shape : Shape) (bytes after rest : List ℕ) (n : ℕ) (digests : List (List ℕ)) → n ≤ most_digests → field_at shape count bytes ≡ Ok (to_le_bytes w32 n, after)
     → fields_at shape (replicate n plain) after ≡ Ok (digests, rest) → path_at shape bytes ≡ Ok (to_le_bytes w32 n ∷ digests, rest)
 unfolding path_at
 path_read shape bytes after rest n digests few e f =
@@ -190,14 +191,14 @@ pub count_stops : (shape : Shape) (bytes : List ℕ) (d : Stop) → field_at sha
 unfolding path_at
 count_stops shape bytes d e = rw e refl
 
-pub path_stops : (shape : Shape) (bytes after : List ℕ) (n : ℕ) (d : Stop) → n ≤ 1536 → field_at shape count bytes ≡ Ok (to_le_bytes w32 n, after)
+pub path_stops : (shape : Shape) (bytes after : List ℕ) (n : ℕ) (d : Stop) → n ≤ most_digests → field_at shape count bytes ≡ Ok (to_le_bytes w32 n, after)
     → fields_at shape (replicate n plain) after ≡ Err d → path_at shape bytes ≡ Err d
 unfolding path_at
 path_stops shape bytes after n d few e f =
     let back : from_le_bytes w32 (to_le_bytes w32 n) ≡ n = from_le_bytes-to_le_bytes_4 n (omega arith) in
     rw (e, back, f) refl
 
-pub path_done : (s : Shape) (bytes after rest : List ℕ) (n k : ℕ) (digests : List (List ℕ)) → n ≤ 1536 → n ≤ k → k ≤ n → length digests ≡ k → field_at s count bytes ≡ Ok (to_le_bytes w32 n, after)
+pub path_done : (s : Shape) (bytes after rest : List ℕ) (n k : ℕ) (digests : List (List ℕ)) → n ≤ most_digests → n ≤ k → k ≤ n → length digests ≡ k → field_at s count bytes ≡ Ok (to_le_bytes w32 n, after)
     → fields_at s (replicate n plain) after ≡ behind digests (fields_at s (replicate (n - k) plain) rest) → path_at s bytes ≡ Ok (to_le_bytes w32 (length digests) ∷ digests, rest)
 path_done s bytes after rest n k digests few le ge long e h =
     let same : n ≡ length digests = omega arith in

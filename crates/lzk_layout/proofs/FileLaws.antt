@@ -1,4 +1,5 @@
 -- The bytes of a proof's file, from the first on.
+use Rattle.lzk_profile.specs.Profile.{opened_count}
 use Rattle.std.specs.Prelude.{◌≡◌, ℕ, ◌+◌, ◌-◌, ◌*◌, ◌<◌, ◌≤◌, List, [], ◌∷◌, ◌++◌, length, map, take, drop}
 use Rattle.std.specs.Int.{w32, to_le_bytes}
 use Rattle.std.proofs.Common.{refl, sym, ap, ◌∙◌, arith, append_assoc, get_or}
@@ -49,17 +50,17 @@ next_end at i each end stop e f = grind (arith, e, f)
 pub next_rest : (i rows before after all : ℕ) → before + i * rows ≡ all → after + rows ≡ before → after + (i + 1) * rows ≡ all
 next_rest i rows before after all e f = grind (arith, e, f)
 
-sums : (w a b c d r k x y z : ℕ) → x ≡ 68 + w * (a + b + c + 128 + d) → y ≡ x + 128 * (32 + w * r) → z ≡ y + 4 + 32 * k
-    → z ≡ 4 + 32 + 32 + w * a + w * b + w * c + w * 128 + w * d + 128 * (32 + w * r) + 4 + 32 * k
+sums : (w a b c d r k x y z : ℕ) → x ≡ 68 + w * (a + b + c + opened_count + d) → y ≡ x + opened_count * (32 + w * r) → z ≡ y + 4 + 32 * k
+    → z ≡ 4 + 32 + 32 + w * a + w * b + w * c + w * opened_count + w * d + opened_count * (32 + w * r) + 4 + 32 * k
 sums w a b c d r k x y z e f g = grind (arith, e, f, g)
 
 -- where the path ends, the file ends
-pub file_end : {A : Type 0} (width digests answers opened end n : ℕ) (p : Params) (proof : Proof A) → HasLengths p proof → n ≡ 128
+pub file_end : {A : Type 0} (width digests answers opened end n : ℕ) (p : Params) (proof : Proof A) → HasLengths p proof → n ≡ opened_count
     → answers ≡ 68 + width * (length proof.messages + length proof.ldt + length proof.dot + length proof.quad_head + length proof.quad_tail)
     → opened ≡ answers + n * (32 + width * p.nrow) → end ≡ opened + 4 + 32 * digests → end ≡ proof_length width p digests
 file_end width digests answers opened end n p proof h is a o e =
-    let total : length proof.messages + length proof.ldt + length proof.dot + length proof.quad_head + length proof.quad_tail ≡ p.nsum + p.block + p.dblock + 128 + (p.dblock - p.block) =
+    let total : length proof.messages + length proof.ldt + length proof.dot + length proof.quad_head + length proof.quad_tail ≡ p.nsum + p.block + p.dblock + opened_count + (p.dblock - p.block) =
     omega (arith, h.messages, h.ldt, h.dot, h.quad_head, h.quad_tail) in
-    let elements : answers ≡ 68 + width * (p.nsum + p.block + p.dblock + 128 + (p.dblock - p.block)) = a ∙ ap (λ (x : ℕ). 68 + width * x) total in
-    let columns : opened ≡ answers + 128 * (32 + width * p.nrow) = o ∙ ap (λ (x : ℕ). answers + x * (32 + width * p.nrow)) is in
+    let elements : answers ≡ 68 + width * (p.nsum + p.block + p.dblock + opened_count + (p.dblock - p.block)) = a ∙ ap (λ (x : ℕ). 68 + width * x) total in
+    let columns : opened ≡ answers + opened_count * (32 + width * p.nrow) = o ∙ ap (λ (x : ℕ). answers + x * (32 + width * p.nrow)) is in
     sums width p.nsum p.block p.dblock (p.dblock - p.block) p.nrow digests answers opened end elements columns e

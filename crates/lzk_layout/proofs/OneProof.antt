@@ -1,4 +1,5 @@
 -- A proof's file is read as its fields, which are one proof's; and what was read is the file.
+use Rattle.lzk_profile.specs.Profile.{most_digests}
 use Rattle.std.proofs.Common.{◌≡◌, ℕ, zero, suc, ◌+◌, ◌-◌, ◌*◌, ◌≤◌, replicate, eqb, ltb, leb, true, List, [], ◌∷◌, ◌++◌, length, map, take, drop, Ok, Err, refl, sym, ap, subst, ◌∙◌, append_assoc, arith}
 use Rattle.std.specs.Int.{w32, to_le_bytes, from_le_bytes}
 use Rattle.std.proofs.lemmas.Bool.{lt-ltb, le-leb, eqb-true}
@@ -34,11 +35,11 @@ plain_passes : (s : Shape) (f : List ℕ) → length f ≡ 32 → IsField s plai
 unfolding wrong
 plain_passes s f e = record { long = e; right = refl }
 
-pub count_passes : (s : Shape) (n : ℕ) → n ≤ 1536 → IsField s count (to_le_bytes w32 n)
+pub count_passes : (s : Shape) (n : ℕ) → n ≤ most_digests → IsField s count (to_le_bytes w32 n)
 unfolding wrong
 count_passes s n few =
     let back : from_le_bytes w32 (to_le_bytes w32 n) ≡ n = from_le_bytes-to_le_bytes_4 n (omega arith) in
-    let small : leb (from_le_bytes w32 (to_le_bytes w32 n)) 1536 ≡ true = le-leb _ _ (omega arith) in
+    let small : leb (from_le_bytes w32 (to_le_bytes w32 n)) most_digests ≡ true = le-leb _ _ (omega arith) in
     record { long = refl; right = rw small refl }
 
 pub digests_pass : (s : Shape) (ds : List (List ℕ)) → AreDigests ds → AreFields s (replicate (length ds) plain) ds

@@ -1,4 +1,5 @@
 -- Which field of a proof's file is which part of the proof.
+use Rattle.lzk_profile.specs.Profile.{opened_count}
 use Rattle.std.proofs.Common.{◌≡◌, ℕ, zero, suc, ◌+◌, ◌-◌, ◌*◌, ◌<◌, List, [], ◌∷◌, ◌++◌, length, map, take, drop, Option, Some, None, refl, sym, ap, subst, ◌∙◌, arith, inl, inr}
 use Rattle.std.specs.Prelude.{slice_get, option_map}
 use Rattle.std.specs.List.{range_with_len, flat_map}
@@ -102,15 +103,15 @@ module _ {A : Type 0} (bytes : ℕ) (number : A → ℕ) (p : Params) (q : Proof
       let one = same_count (Column a) rows (take rows cs) (front_count rows n cs wide) in
       omega (arith, others, one, length-append (each (Column a) rows) (flat_map (column_parts rows) (range_with_len (a + 1) n)), length-append (map field (take rows cs)) (opened_fields field rows ns (drop rows cs)))
 
-  opened_alike : HasLengths p q → Alike P (opened_parts p.nrow 128) (opened_fields field p.nrow q.nonces q.columns)
+  opened_alike : HasLengths p q → Alike P (opened_parts p.nrow opened_count) (opened_fields field p.nrow q.nonces q.columns)
   unfolding opened_parts
   opened_alike h =
-      columns_alike 0 128 q.nonces q.columns h.nonces h.columns
+      columns_alike 0 opened_count q.nonces q.columns h.nonces h.columns
       (λ k. ap (slice_get q.nonces) (let e : k ≡ 0 + k = omega arith in e)) (λ k. ap (slice_get q.columns) (let e : k ≡ 0 * p.nrow + k = omega arith in e))
 
-  opened_counted : HasLengths p q → length (opened_parts p.nrow 128) ≡ length (opened_fields field p.nrow q.nonces q.columns)
+  opened_counted : HasLengths p q → length (opened_parts p.nrow opened_count) ≡ length (opened_fields field p.nrow q.nonces q.columns)
   unfolding opened_parts
-  opened_counted h = columns_counted 0 128 q.nonces q.columns h.nonces h.columns
+  opened_counted h = columns_counted 0 opened_count q.nonces q.columns h.nonces h.columns
 
   path_alike : Alike P (path_parts (length q.path.digests)) (to_le_bytes w32 (length q.path.digests) ∷ q.path.digests)
   path_alike =
@@ -128,13 +129,13 @@ module _ {A : Type 0} (bytes : ℕ) (number : A → ℕ) (p : Params) (q : Proof
   elements_then_alike part n list xs fs e h more = alike_then P (each part n) xs (map field list) fs (same_count part n list e) (elements_alike part n list h) more
 
   answers_alike : HasLengths p q
-      → Alike P (element_parts p (opened_parts p.nrow 128 ++ xs0))
+      → Alike P (element_parts p (opened_parts p.nrow opened_count ++ xs0))
       (map field q.messages ++ (map field q.ldt ++ (map field q.dot ++ (map field q.quad_head ++ (map field q.quad_tail ++ (opened_fields field p.nrow q.nonces q.columns ++ fs0))))))
   unfolding element_parts
   answers_alike h =
-      let xs1 : List ProofPart = opened_parts p.nrow 128 ++ xs0 in
+      let xs1 : List ProofPart = opened_parts p.nrow opened_count ++ xs0 in
       let xs2 : List ProofPart = each QuadTail (p.dblock - p.block) ++ xs1 in
-      let xs3 : List ProofPart = each QuadHead 128 ++ xs2 in
+      let xs3 : List ProofPart = each QuadHead opened_count ++ xs2 in
       let xs4 : List ProofPart = each Dot p.dblock ++ xs3 in
       let xs5 : List ProofPart = each Ldt p.block ++ xs4 in
       let fs1 : List (List ℕ) = opened_fields field p.nrow q.nonces q.columns ++ fs0 in
@@ -142,17 +143,17 @@ module _ {A : Type 0} (bytes : ℕ) (number : A → ℕ) (p : Params) (q : Proof
       let fs3 : List (List ℕ) = map field q.quad_head ++ fs2 in
       let fs4 : List (List ℕ) = map field q.dot ++ fs3 in
       let fs5 : List (List ℕ) = map field q.ldt ++ fs4 in
-      let opened : Alike P xs1 fs1 = alike_then P (opened_parts p.nrow 128) xs0 (opened_fields field p.nrow q.nonces q.columns) fs0 (opened_counted h) (opened_alike h) path_alike in
+      let opened : Alike P xs1 fs1 = alike_then P (opened_parts p.nrow opened_count) xs0 (opened_fields field p.nrow q.nonces q.columns) fs0 (opened_counted h) (opened_alike h) path_alike in
       elements_then_alike Message p.nsum q.messages xs5 fs5 h.messages (λ k f e. e)
       (elements_then_alike Ldt p.block q.ldt xs4 fs4 h.ldt (λ k f e. e)
       (elements_then_alike Dot p.dblock q.dot xs3 fs3 h.dot (λ k f e. e)
-      (elements_then_alike QuadHead 128 q.quad_head xs2 fs2 h.quad_head (λ k f e. e)
+      (elements_then_alike QuadHead opened_count q.quad_head xs2 fs2 h.quad_head (λ k f e. e)
       (elements_then_alike QuadTail (p.dblock - p.block) q.quad_tail xs1 fs1 h.quad_tail (λ k f e. e) opened))))
 
   all_alike : HasLengths p q → Alike P (parts p (length q.path.digests)) (fields_of field p.nrow q)
   unfolding parts
   all_alike h =
-      let xs : List ProofPart = element_parts p (opened_parts p.nrow 128 ++ xs0) in
+      let xs : List ProofPart = element_parts p (opened_parts p.nrow opened_count ++ xs0) in
       let fs : List (List ℕ) =
       map field q.messages ++ (map field q.ldt ++ (map field q.dot ++ (map field q.quad_head ++ (map field q.quad_tail ++ (opened_fields field p.nrow q.nonces q.columns ++ fs0))))) in
       alike_one P Magic (76 ∷ 90 ∷ 80 ∷ 49 ∷ []) (Id ∷ Root ∷ xs) (q.id ∷ q.root ∷ fs) refl (alike_one P Id q.id (Root ∷ xs) (q.root ∷ fs) refl (alike_one P Root q.root xs fs refl (answers_alike h)))

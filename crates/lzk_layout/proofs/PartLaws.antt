@@ -1,4 +1,5 @@
 -- Which part stands where among the parts of a proof's file.
+use Rattle.lzk_profile.specs.Profile.{opened_count}
 use Rattle.std.proofs.Common.{◌≡◌, ℕ, zero, suc, ◌+◌, ◌-◌, ◌*◌, ◌<◌, ◌≤◌, List, [], ◌∷◌, ◌++◌, length, map, Option, Some, None, refl, sym, ap, subst, ◌∙◌, append_assoc, arith, inl, inr}
 use Rattle.std.specs.Prelude.{slice_get}
 use Rattle.std.specs.List.{range_with_len, flat_map}
@@ -96,7 +97,7 @@ module _ (p : Params) (others : List ProofPart) (k : ℕ) where
   from_tail = each QuadTail (p.dblock - p.block) ++ others
 
   abbrev from_head : List ProofPart
-  from_head = each QuadHead 128 ++ from_tail
+  from_head = each QuadHead opened_count ++ from_tail
 
   abbrev from_dot : List ProofPart
   from_dot = each Dot p.dblock ++ from_head
@@ -124,21 +125,21 @@ module _ (p : Params) (others : List ProofPart) (k : ℕ) where
   past_dot : p.nsum ≤ k → p.block ≤ k - p.nsum → p.dblock ≤ k - p.nsum - p.block → slice_get (element_parts p others) k ≡ slice_get from_head (k - p.nsum - p.block - p.dblock)
   past_dot a b d = past_ldt a b ∙ each_behind Dot p.dblock from_head (k - p.nsum - p.block) d
 
-  pub head_at : p.nsum ≤ k → p.block ≤ k - p.nsum → p.dblock ≤ k - p.nsum - p.block → k - p.nsum - p.block - p.dblock < 128
+  pub head_at : p.nsum ≤ k → p.block ≤ k - p.nsum → p.dblock ≤ k - p.nsum - p.block → k - p.nsum - p.block - p.dblock < opened_count
       → slice_get (element_parts p others) k ≡ Some (QuadHead (k - p.nsum - p.block - p.dblock))
-  head_at a b d lt = past_dot a b d ∙ each_front QuadHead 128 from_tail (k - p.nsum - p.block - p.dblock) lt
+  head_at a b d lt = past_dot a b d ∙ each_front QuadHead opened_count from_tail (k - p.nsum - p.block - p.dblock) lt
 
-  past_head : p.nsum ≤ k → p.block ≤ k - p.nsum → p.dblock ≤ k - p.nsum - p.block → 128 ≤ k - p.nsum - p.block - p.dblock
-      → slice_get (element_parts p others) k ≡ slice_get from_tail (k - p.nsum - p.block - p.dblock - 128)
-  past_head a b d e = past_dot a b d ∙ each_behind QuadHead 128 from_tail (k - p.nsum - p.block - p.dblock) e
+  past_head : p.nsum ≤ k → p.block ≤ k - p.nsum → p.dblock ≤ k - p.nsum - p.block → opened_count ≤ k - p.nsum - p.block - p.dblock
+      → slice_get (element_parts p others) k ≡ slice_get from_tail (k - p.nsum - p.block - p.dblock - opened_count)
+  past_head a b d e = past_dot a b d ∙ each_behind QuadHead opened_count from_tail (k - p.nsum - p.block - p.dblock) e
 
-  pub tail_at : p.nsum ≤ k → p.block ≤ k - p.nsum → p.dblock ≤ k - p.nsum - p.block → 128 ≤ k - p.nsum - p.block - p.dblock → k - p.nsum - p.block - p.dblock - 128 < p.dblock - p.block
-      → slice_get (element_parts p others) k ≡ Some (QuadTail (k - p.nsum - p.block - p.dblock - 128))
-  tail_at a b d e lt = past_head a b d e ∙ each_front QuadTail (p.dblock - p.block) others (k - p.nsum - p.block - p.dblock - 128) lt
+  pub tail_at : p.nsum ≤ k → p.block ≤ k - p.nsum → p.dblock ≤ k - p.nsum - p.block → opened_count ≤ k - p.nsum - p.block - p.dblock → k - p.nsum - p.block - p.dblock - opened_count < p.dblock - p.block
+      → slice_get (element_parts p others) k ≡ Some (QuadTail (k - p.nsum - p.block - p.dblock - opened_count))
+  tail_at a b d e lt = past_head a b d e ∙ each_front QuadTail (p.dblock - p.block) others (k - p.nsum - p.block - p.dblock - opened_count) lt
 
-  pub past_elements : p.nsum ≤ k → p.block ≤ k - p.nsum → p.dblock ≤ k - p.nsum - p.block → 128 ≤ k - p.nsum - p.block - p.dblock → p.dblock - p.block ≤ k - p.nsum - p.block - p.dblock - 128
-      → slice_get (element_parts p others) k ≡ slice_get others (k - p.nsum - p.block - p.dblock - 128 - (p.dblock - p.block))
-  past_elements a b d e f = past_head a b d e ∙ each_behind QuadTail (p.dblock - p.block) others (k - p.nsum - p.block - p.dblock - 128) f
+  pub past_elements : p.nsum ≤ k → p.block ≤ k - p.nsum → p.dblock ≤ k - p.nsum - p.block → opened_count ≤ k - p.nsum - p.block - p.dblock → p.dblock - p.block ≤ k - p.nsum - p.block - p.dblock - opened_count
+      → slice_get (element_parts p others) k ≡ slice_get others (k - p.nsum - p.block - p.dblock - opened_count - (p.dblock - p.block))
+  past_elements a b d e f = past_head a b d e ∙ each_behind QuadTail (p.dblock - p.block) others (k - p.nsum - p.block - p.dblock - opened_count) f
 
 -- ---- each part stands at its number
 
@@ -216,25 +217,25 @@ path_stands p digests (suc k) part e =
           absurd cc
     ]
 
-opened_stand : (p : Params) (digests k : ℕ) (part : ProofPart) → slice_get (opened_parts p.nrow 128 ++ path_parts digests) k ≡ Some part → Stands p digests (before_opened p + k) part
+opened_stand : (p : Params) (digests k : ℕ) (part : ProofPart) → slice_get (opened_parts p.nrow opened_count ++ path_parts digests) k ≡ Some part → Stands p digests (before_opened p + k) part
 unfolding opened_parts
 opened_stand p digests k part e =
-    columns_stand p.nrow 0 128 (path_parts digests) (λ j x. Stands p digests (before_opened p + j) x)
+    columns_stand p.nrow 0 opened_count (path_parts digests) (λ j x. Stands p digests (before_opened p + j) x)
     (λ c lt. (ap (λ (i : ℕ). before_opened p + i * (1 + p.nrow)) (let z : c ≡ 0 + c = omega arith in z), omega arith))
     (λ c r lt less. (at c r, (omega arith, less)))
-    (λ j x f. subst (λ (i : ℕ). Stands p digests i x) (let z : before_count p + j ≡ before_opened p + (128 * (1 + p.nrow) + j) = omega arith in z) (path_stands p digests j x f))
+    (λ j x f. subst (λ (i : ℕ). Stands p digests i x) (let z : before_count p + j ≡ before_opened p + (opened_count * (1 + p.nrow) + j) = omega arith in z) (path_stands p digests j x f))
     k part e
   where
     at : (c r : ℕ) → before_opened p + (c * (1 + p.nrow) + 1 + r) ≡ before_opened p + (0 + c) * (1 + p.nrow) + 1 + r
     at c r = let same : 0 + c ≡ c = omega arith in rw same (omega arith)
 
-elements_stand : (p : Params) (digests k : ℕ) (part : ProofPart) → slice_get (element_parts p (opened_parts p.nrow 128 ++ path_parts digests)) k ≡ Some part → Stands p digests (3 + k) part
+elements_stand : (p : Params) (digests k : ℕ) (part : ProofPart) → slice_get (element_parts p (opened_parts p.nrow opened_count ++ path_parts digests)) k ≡ Some part → Stands p digests (3 + k) part
 unfolding element_parts
 elements_stand p digests =
     each_stand Message p.nsum _ (λ k x. Stands p digests (3 + k) x) (λ i lt. (omega arith, lt)) (λ j x e. subst (λ (k : ℕ). Stands p digests k x) (omega arith)
     (each_stand Ldt p.block _ (λ k x. Stands p digests (before_ldt p + k) x) (λ i lt. (omega arith, lt)) (λ j x e. subst (λ (k : ℕ). Stands p digests k x) (omega arith)
     (each_stand Dot p.dblock _ (λ k x. Stands p digests (before_dot p + k) x) (λ i lt. (omega arith, lt)) (λ j x e. subst (λ (k : ℕ). Stands p digests k x) (omega arith)
-    (each_stand QuadHead 128 _ (λ k x. Stands p digests (before_head p + k) x) (λ i lt. (omega arith, lt)) (λ j x e. subst (λ (k : ℕ). Stands p digests k x) (omega arith)
+    (each_stand QuadHead opened_count _ (λ k x. Stands p digests (before_head p + k) x) (λ i lt. (omega arith, lt)) (λ j x e. subst (λ (k : ℕ). Stands p digests k x) (omega arith)
     (each_stand QuadTail (p.dblock - p.block) _ (λ k x. Stands p digests (before_tail p + k) x) (λ i lt. (omega arith, lt)) (λ j x e. subst (λ (k : ℕ). Stands p digests k x) (omega arith)
     (opened_stand p digests j x e)) j x e)) j x e)) j x e)) j x e))
 

@@ -1,4 +1,5 @@
 -- The parts of a proof's file have the sorts that its fields are read as.
+use Rattle.lzk_profile.specs.Profile.{opened_count}
 use Rattle.std.proofs.Common.{◌≡◌, ℕ, zero, suc, ◌+◌, ◌-◌, ◌*◌, ◌<◌, ◌≤◌, List, [], ◌∷◌, ◌++◌, length, map, take, replicate, Some, refl, sym, ap, ◌∙◌, append_assoc, arith, inl, inr}
 use Rattle.std.specs.Prelude.{slice_get, option_map}
 use Rattle.std.specs.List.{range_with_len, flat_map}
@@ -46,13 +47,13 @@ opened_then rows n others sorts e =
 
 elements_then : (p : Params) (others : List ProofPart) (sorts : List Sort) → map sort_of others ≡ sorts
     → map sort_of (element_parts p others)
-    ≡ replicate p.nsum element ++ (replicate p.block element ++ (replicate p.dblock element ++ (replicate 128 element ++ (replicate (p.dblock - p.block) element ++ sorts))))
+    ≡ replicate p.nsum element ++ (replicate p.block element ++ (replicate p.dblock element ++ (replicate opened_count element ++ (replicate (p.dblock - p.block) element ++ sorts))))
 unfolding element_parts
 elements_then p others sorts e =
     each_then Message element (λ i. refl) p.nsum _ _
     (each_then Ldt element (λ i. refl) p.block _ _
     (each_then Dot element (λ i. refl) p.dblock _ _
-    (each_then QuadHead element (λ i. refl) 128 _ _
+    (each_then QuadHead element (λ i. refl) opened_count _ _
     (each_then QuadTail element (λ i. refl) (p.dblock - p.block) others sorts e))))
 
 -- five lists and a sixth in front of the rest
@@ -67,8 +68,8 @@ unfolding parts sorts_of
 sorts_are_parts p n =
     let path : map sort_of (path_parts n) ≡ count ∷ replicate n plain = ap (λ (xs : List Sort). count ∷ xs) (map-each Digest plain (λ i. refl) n) in
     ap (λ (xs : List Sort). magic ∷ plain ∷ plain ∷ xs)
-    (elements_then p (opened_parts p.nrow 128 ++ path_parts n) (opened_sorts p.nrow 128 ++ (count ∷ replicate n plain)) (opened_then p.nrow 128 (path_parts n) (count ∷ replicate n plain) path)
-    ∙ regroup (replicate p.nsum element) (replicate p.block element) (replicate p.dblock element) (replicate 128 element) (replicate (p.dblock - p.block) element) (opened_sorts p.nrow 128) (count ∷ replicate n plain))
+    (elements_then p (opened_parts p.nrow opened_count ++ path_parts n) (opened_sorts p.nrow opened_count ++ (count ∷ replicate n plain)) (opened_then p.nrow opened_count (path_parts n) (count ∷ replicate n plain) path)
+    ∙ regroup (replicate p.nsum element) (replicate p.block element) (replicate p.dblock element) (replicate opened_count element) (replicate (p.dblock - p.block) element) (opened_sorts p.nrow opened_count) (count ∷ replicate n plain))
     ∙ count_first p n
 
 -- ---- how many
@@ -87,9 +88,9 @@ length-sorts_of p =
     let a = replicate p.nsum element in
     let b = replicate p.block element in
     let c = replicate p.dblock element in
-    let d = replicate 128 element in
+    let d = replicate opened_count element in
     let e = replicate (p.dblock - p.block) element in
-    let o = opened_sorts p.nrow 128 in
+    let o = opened_sorts p.nrow opened_count in
     omega (
       arith,
       length-append (a ++ (b ++ (c ++ (d ++ e)))) o,
@@ -100,9 +101,9 @@ length-sorts_of p =
       length-replicate p.nsum element,
       length-replicate p.block element,
       length-replicate p.dblock element,
-      length-replicate 128 element,
+      length-replicate opened_count element,
       length-replicate (p.dblock - p.block) element,
-      length-opened_sorts p.nrow 128,
+      length-opened_sorts p.nrow opened_count,
     )
 
 pub length-count_sorts : (p : Params) → length (count_sorts p) ≡ before_count p + 1
@@ -135,7 +136,7 @@ sort_behind p n j = get_behind (count_sorts p) (replicate n plain) (before_count
 -- ---- parts before the number of digests
 
 abbrev first_parts : Params → List ProofPart
-first_parts p = Magic ∷ Id ∷ Root ∷ element_parts p (opened_parts p.nrow 128)
+first_parts p = Magic ∷ Id ∷ Root ∷ element_parts p (opened_parts p.nrow opened_count)
 
 elements_apart : (p : Params) (xs ys : List ProofPart) → element_parts p (xs ++ ys) ≡ element_parts p xs ++ ys
 unfolding element_parts
@@ -143,7 +144,7 @@ elements_apart p xs ys = sym (simp append_assoc)
 
 parts_apart : (p : Params) (n : ℕ) → parts p n ≡ first_parts p ++ path_parts n
 unfolding parts
-parts_apart p n = ap (λ (xs : List ProofPart). Magic ∷ Id ∷ Root ∷ xs) (elements_apart p (opened_parts p.nrow 128) (path_parts n))
+parts_apart p n = ap (λ (xs : List ProofPart). Magic ∷ Id ∷ Root ∷ xs) (elements_apart p (opened_parts p.nrow opened_count) (path_parts n))
 
 length-first : (p : Params) → length (first_parts p) ≡ before_count p
 length-first p =

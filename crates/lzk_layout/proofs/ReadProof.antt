@@ -1,4 +1,5 @@
 -- Bytes that are read without a fault are some proof's file.
+use Rattle.lzk_profile.specs.Profile.{opened_count, most_digests}
 use Rattle.std.specs.Prelude.{◌≡◌, ℕ, ◌+◌, ◌-◌, ◌*◌, ◌<◌, ◌≤◌, ◌==◌, ◌&&◌, Bool, true, false, cond, List, [], ◌∷◌, ◌++◌, length, map, drop, replicate, Option, Some, None, Result, Ok, Err, slice_index_or}
 use Rattle.std.proofs.Common.{zero, suc, refl, sym, ap, subst, ◌∙◌, arith}
 use Rattle.std.specs.Int.{w32, to_le_bytes, from_le_bytes}
@@ -98,7 +99,7 @@ digests_are s (suc n) (d ∷ ds) h =
 record PathRead (bytes : List ℕ) (fs : List (List ℕ)) : Type 0 where
   digests : List (List ℕ)
   are : fs ≡ to_le_bytes w32 (length digests) ∷ digests
-  few : length digests ≤ 1536
+  few : length digests ≤ most_digests
   long : AreDigests digests
 
 path_is : (s : Shape) (bytes : List ℕ) (x : List (List ℕ) × List ℕ) → Small bytes → path_at s bytes ≡ Ok x → PathRead bytes x.0
@@ -111,7 +112,7 @@ path_is s bytes x small e =
     let made : List (List ℕ) × List ℕ = (n.0 ∷ ds.0, ds.1) in
     let n_small : Small n.0 = (all_parts (λ b. b < 256) n.0 n.1 (subst Small one.0 small)).0 in
     let back : to_le_bytes w32 (length ds.0) ≡ n.0 = le_bytes_4 n.0 (length ds.0) one.1.long (small_at n.0 n_small) others.0 in
-    let fits : from_le_bytes w32 n.0 ≤ 1536 = leb-true (from_le_bytes w32 n.0) 1536 (none_true _ _ one.1.right) in
+    let fits : from_le_bytes w32 n.0 ≤ most_digests = leb-true (from_le_bytes w32 n.0) most_digests (none_true _ _ one.1.right) in
     record {
       digests = ds.0;
       are = sym (ap (λ (y : List (List ℕ) × List ℕ). y.0) (done_is made x end)) ∙ ap (λ f. f ∷ ds.0) (sym back);
@@ -209,16 +210,16 @@ module _ {A : Type 0} (o : Ops A) (size : ℕ) (number : A → ℕ) (element_of 
   joined p file (m ∷ []) path source h small read e = absurd h.1
   joined p file (m ∷ id ∷ []) path source h small read e = absurd h.1.1
   joined p file (m ∷ id ∷ root ∷ fs) path source h small read e =
-      let opened = opened_sorts p.nrow 128 in
+      let opened = opened_sorts p.nrow opened_count in
       let tail = replicate (p.dblock - p.block) element in
-      let all = parted s (replicate p.nsum element ++ (replicate p.block element ++ (replicate p.dblock element ++ (replicate 128 element ++ tail)))) opened fs h.1.1.1 in
+      let all = parted s (replicate p.nsum element ++ (replicate p.block element ++ (replicate p.dblock element ++ (replicate opened_count element ++ tail)))) opened fs h.1.1.1 in
       let smalls = all_parts Small all.first all.rest (subst AllSmall all.are small.1.1.1) in
-      let r1 = elements_then p.nsum (replicate p.block element ++ (replicate p.dblock element ++ (replicate 128 element ++ tail))) all.first all.first_are smalls.0 in
-      let r2 = elements_then p.block (replicate p.dblock element ++ (replicate 128 element ++ tail)) r1.rest r1.rest_are r1.small in
-      let r3 = elements_then p.dblock (replicate 128 element ++ tail) r2.rest r2.rest_are r2.small in
-      let r4 = elements_then 128 tail r3.rest r3.rest_are r3.small in
+      let r1 = elements_then p.nsum (replicate p.block element ++ (replicate p.dblock element ++ (replicate opened_count element ++ tail))) all.first all.first_are smalls.0 in
+      let r2 = elements_then p.block (replicate p.dblock element ++ (replicate opened_count element ++ tail)) r1.rest r1.rest_are r1.small in
+      let r3 = elements_then p.dblock (replicate opened_count element ++ tail) r2.rest r2.rest_are r2.small in
+      let r4 = elements_then opened_count tail r3.rest r3.rest_are r3.small in
       let r5 = elements_back (p.dblock - p.block) r4.rest r4.rest_are r4.small in
-      let columns = opened_back p.nrow 128 all.rest all.rest_are smalls.1 in
+      let columns = opened_back p.nrow opened_count all.rest all.rest_are smalls.1 in
       let q : Proof A = record {
         id = id;
         root = root;
@@ -229,7 +230,7 @@ module _ {A : Type 0} (o : Ops A) (size : ℕ) (number : A → ℕ) (element_of 
         quad_tail = r5.list;
         nonces = columns.nonces;
         columns = columns.columns;
-        path = record { digests = read.digests; room = 1536 };
+        path = record { digests = read.digests; room = most_digests };
       } in
       let front : List (List ℕ) = (76 ∷ 90 ∷ 80 ∷ 49 ∷ []) ∷ id ∷ root ∷ [] in
       let answers_are : answer_fields field q ≡ all.first =

@@ -1,4 +1,5 @@
 -- What a sound reading becomes.
+use Rattle.lzk_profile.specs.Profile.{most_digests}
 use Rattle.std.proofs.Common.{◌≡◌, ◌≢◌, ◌⊎◌, ℕ, suc, ◌+◌, ◌-◌, ◌*◌, ◌<◌, ◌≤◌, Bool, true, false, cond, nat_le, List, [], ◌∷◌, ◌++◌, length, take, replicate, Option, Some, None, MatchOption, refl, sym, ap, subst, ◌∙◌, append_assoc, arith, inl, inr}
 use Rattle.std.specs.Prelude.{slice_get, slice_set, option_map, unwrap_or}
 use Rattle.std.specs.List.{sum_by}
@@ -36,17 +37,17 @@ places_few s (x ∷ xs) few =
     let others = places_few s xs few in
     omega (arith, one, others, sum_by-cons (part_width s) x xs)
 
-count_few : (p : Params) → AreBounded p → before_count p ≤ 80000
+count_few : (p : Params) → AreBounded p → before_count p ≤ 200000
 count_few p b = omega (arith, b.block, b.dblock, b.wr, b.nrow, b.nsum)
 
 module _ (s : Shape) (r : Reading) (part : ProofPart) (sound : IsSound s r) (few : s.bytes ≤ 32) (next : r.part ≡ Some part) where
   within : r.fields < length (known_parts r.params r.digests)
   within = slice_get_within (known_parts r.params r.digests) r.fields part (sym sound.part ∙ next)
 
-  pub fields_few : r.fields ≤ 90000
+  pub fields_few : r.fields ≤ 220000
   fields_few = omega (arith, within, length-parts r.params (unwrap_or r.digests 0), count_few r.params sound.bounded, sound.few)
 
-  pub offset_few : r.offset ≤ 2880000
+  pub offset_few : r.offset ≤ 7040000
   offset_few =
       let all = places_few s (take r.fields (known_parts r.params r.digests)) few in
       omega (arith, all, sound.offset, length-take r.fields (known_parts r.params r.digests), fields_few)
@@ -147,21 +148,21 @@ none_held : (s : Shape) (o : Option ProofPart) → 1 ≤ s.bytes → MatchOption
 none_held s None some = refl
 none_held s (Some part) some = width_some s (sort_of part) some
 
-few_count : (s : Shape) (f : List ℕ) → wrong s count f ≡ None → from_le_bytes w32 f ≤ 1536
+few_count : (s : Shape) (f : List ℕ) → wrong s count f ≡ None → from_le_bytes w32 f ≤ most_digests
 unfolding wrong
-few_count s f e = leb-true (from_le_bytes w32 f) 1536 (none_true (nat_le (from_le_bytes w32 f) 1536) e)
+few_count s f e = leb-true (from_le_bytes w32 f) most_digests (none_true (nat_le (from_le_bytes w32 f) most_digests) e)
   where
     none_true : (b : Bool) → ◌≡◌ {A = Option ProofKind} (cond b None (Some kinds.PathLimit)) None → b ≡ true
     none_true true h = refl
     none_true false h = absurd cc
 
-digests_few : (s : Shape) (digests : Option ℕ) (part : ProofPart) (f : List ℕ) → unwrap_or digests 0 ≤ 1536 → wrong s (sort_of part) f ≡ None → unwrap_or (digests_after digests part f) 0 ≤ 1536
+digests_few : (s : Shape) (digests : Option ℕ) (part : ProofPart) (f : List ℕ) → unwrap_or digests 0 ≤ most_digests → wrong s (sort_of part) f ≡ None → unwrap_or (digests_after digests part f) 0 ≤ most_digests
 digests_few s digests part f few e =
     elim (is_known digests f part) [
       | inl same ↦
           let passes : wrong s count f ≡ None = sym (ap (λ (x : ProofPart). wrong s (sort_of x) f) same) ∙ e in
-          subst (λ (x : ProofPart). unwrap_or (digests_after digests x f) 0 ≤ 1536) (sym same) (few_count s f passes)
-      | inr other ↦ subst (λ (d : Option ℕ). unwrap_or d 0 ≤ 1536) (sym other.1) few
+          subst (λ (x : ProofPart). unwrap_or (digests_after digests x f) 0 ≤ most_digests) (sym same) (few_count s f passes)
+      | inr other ↦ subst (λ (d : Option ℕ). unwrap_or d 0 ≤ most_digests) (sym other.1) few
     ]
 
 module _ (s : Shape) (old new : Reading) (byte : ℕ) (sound : IsSound s old) (few : s.bytes ≤ 32) (some : 1 ≤ s.bytes) where

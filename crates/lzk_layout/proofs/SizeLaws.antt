@@ -1,4 +1,5 @@
 -- What the limits on circuits leave of their parameters.
+use Rattle.lzk_profile.specs.Profile.{opened_count, most_elements, most_digests}
 use Rattle.std.specs.Prelude.{◌≡◌, ℕ, ◌+◌, ◌*◌, ◌/◌, ◌%◌, ◌<◌, ◌≤◌, ◌++◌, List, [], ◌∷◌, length, map, drop, take}
 use Rattle.std.proofs.Common.{zero, suc, refl, sym, ap, ◌∙◌, arith, inl, inr, subst, get_or}
 use Rattle.std.specs.Int.{div_ceil}
@@ -111,9 +112,9 @@ are_bounded o p h = subst (λ (q : Params). AreBounded q) (sym h.are) (params_bo
 
 -- ---- a file's length
 
-pub file_fits : (width elements rows digests : ℕ) → width ≤ 16 → elements ≤ 38526 → rows ≤ 265 → digests ≤ 1536
-    → 72 + width * elements + 128 * (32 + width * rows) + 32 * digests ≤ 2097152
-file_fits width elements rows digests w e r d = omega (arith, mul-le width elements 16 38526 w e, mul-le width rows 16 265 w r)
+pub file_fits : (width elements rows digests : ℕ) → width ≤ 16 → elements ≤ most_elements → rows ≤ 265 → digests ≤ most_digests
+    → 72 + width * elements + opened_count * (32 + width * rows) + 32 * digests ≤ 2097152
+file_fits width elements rows digests w e r d = omega (arith, mul-le width elements 16 most_elements w e, mul-le width rows 16 265 w r)
 
 -- ---- places
 

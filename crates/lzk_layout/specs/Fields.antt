@@ -1,4 +1,5 @@
 -- The fields of a proof's file, read from left to right, with the first check that fails.
+use Rattle.lzk_profile.specs.Profile.{opened_count, most_digests}
 use Rattle.std.specs.Prelude.{◌≡◌, ℕ, zero, suc, ◌-◌, ◌≤◌, List, [], ◌∷◌, ◌++◌, length, take, drop, replicate, Option, Some, None, Result, Ok, Err, nat_lt, nat_le, ◌==◌, ◌&&◌, Bool, false, if◌then◌else◌}
 use Rattle.std.specs.Int.{w32, from_le_bytes}
 use Rattle.lzk_field.specs.Bytes.{number_from}
@@ -39,7 +40,7 @@ unfoldable pub wrong : Shape → Sort → List ℕ → Option ProofKind
 wrong shape magic field = if is_magic field then None else Some kinds.Magic
 wrong shape plain field = None
 wrong shape element field = if nat_lt (number_from field) shape.size then None else Some kinds.Element
-wrong shape count field = if nat_le (from_le_bytes w32 field) 1536 then None else Some kinds.PathLimit
+wrong shape count field = if nat_le (from_le_bytes w32 field) most_digests then None else Some kinds.PathLimit
 
 infixl 10 ◌>>=◌
 abbrev pub ◌>>=◌ : {A B : Type 0} → Result A Stop → (A → Result B Stop) → Result B Stop
@@ -89,7 +90,7 @@ answer_sorts messages ldt dot quad_head quad_tail =
 -- the sorts of the fields before the number of digests
 unfoldable pub sorts_of : Params → List Sort
 sorts_of p =
-    magic ∷ plain ∷ plain ∷ (answer_sorts p.nsum p.block p.dblock 128 (p.dblock - p.block) ++ opened_sorts p.nrow 128)
+    magic ∷ plain ∷ plain ∷ (answer_sorts p.nsum p.block p.dblock opened_count (p.dblock - p.block) ++ opened_sorts p.nrow opened_count)
 
 -- all of the bytes as a proof's fields
 unfoldable pub proof_at : Shape → Params → List ℕ → Result (List (List ℕ)) Stop

@@ -1,4 +1,5 @@
 -- The front of a proof's file that was read: its whole fields, and the bytes of the next.
+use Rattle.lzk_profile.specs.Profile.{most_digests}
 use Rattle.std.specs.Prelude.{◌≡◌, ◌≢◌, ℕ, ◌+◌, ◌-◌, ◌*◌, ◌<◌, List, [], ◌∷◌, ◌++◌, length, map, take, drop, replicate, Option, Some, None, option_map, unwrap_or, slice_get, slice_index_or}
 use Rattle.std.specs.Int.{w32, to_le_bytes, from_le_bytes}
 use Rattle.lzk_layout.specs.declared.params.Params.{Params}
@@ -63,7 +64,7 @@ pub record EndsNone (s : Shape) (p : Params) (bytes : List ℕ) (byte : ℕ) : T
 
 -- a field of these parameters that passes: its part is one that a file has, and its bytes are the first n of the block
 pub record IsWholeField (s : Shape) (p : Params) (part : ProofPart) (block : List ℕ) (n : ℕ) : Type 0 where
-  pub has : HasPart p 1536 part
+  pub has : HasPart p most_digests part
   pub passes : IsField s (sort_of part) (take n block)
 
 -- what holds of a field, where the step ends one

@@ -1,4 +1,5 @@
 -- The parts of a proof's file, in order.
+use Rattle.lzk_profile.specs.Profile.{opened_count}
 use Rattle.std.specs.Prelude.{ℕ, ◌+◌, ◌-◌, ◌*◌, ◌<◌, List, ◌∷◌, ◌++◌, map, take}
 use Rattle.std.specs.List.{range_with_len, flat_map, sum_by}
 use Rattle.lzk_layout.specs.declared.params.Params.{Params}
@@ -46,11 +47,11 @@ path_parts digests = Count ∷ each Digest digests
 unfoldable pub element_parts : Params → List ProofPart → List ProofPart
 element_parts p others =
     each Message p.nsum ++ (each Ldt p.block
-    ++ (each Dot p.dblock ++ (each QuadHead 128 ++ (each QuadTail (p.dblock - p.block) ++ others))))
+    ++ (each Dot p.dblock ++ (each QuadHead opened_count ++ (each QuadTail (p.dblock - p.block) ++ others))))
 
 -- the parts of a file of so many digests
 unfoldable pub parts : Params → ℕ → List ProofPart
-parts p digests = Magic ∷ Id ∷ Root ∷ element_parts p (opened_parts p.nrow 128 ++ path_parts digests)
+parts p digests = Magic ∷ Id ∷ Root ∷ element_parts p (opened_parts p.nrow opened_count ++ path_parts digests)
 
 -- where the field of number k begins
 abbrev pub field_place : Shape → Params → ℕ → ℕ → ℕ
@@ -68,14 +69,14 @@ abbrev pub before_head : Params → ℕ
 before_head p = before_dot p + p.dblock
 
 abbrev pub before_tail : Params → ℕ
-before_tail p = before_head p + 128
+before_tail p = before_head p + opened_count
 
 abbrev pub before_opened : Params → ℕ
 before_opened p = before_tail p + (p.dblock - p.block)
 
 -- how many fields stand before the number of digests: to each of 128 columns a nonce and its elements come last
 abbrev pub before_count : Params → ℕ
-before_count p = before_opened p + 128 * (1 + p.nrow)
+before_count p = before_opened p + opened_count * (1 + p.nrow)
 
 -- the number of a part's field, from 0
 abbrev pub number_of : Params → ProofPart → ℕ
@@ -97,9 +98,9 @@ abbrev pub HasPart : Params → ℕ → ProofPart → Type 0
 HasPart p digests (Message i) = i < p.nsum
 HasPart p digests (Ldt i) = i < p.block
 HasPart p digests (Dot i) = i < p.dblock
-HasPart p digests (QuadHead i) = i < 128
+HasPart p digests (QuadHead i) = i < opened_count
 HasPart p digests (QuadTail i) = i < p.dblock - p.block
-HasPart p digests (Nonce k) = k < 128
-HasPart p digests (Column k i) = (k < 128) × (i < p.nrow)
+HasPart p digests (Nonce k) = k < opened_count
+HasPart p digests (Column k i) = (k < opened_count) × (i < p.nrow)
 HasPart p digests (Digest i) = i < digests
 HasPart p digests _ = Unit {0}

@@ -1,4 +1,5 @@
 -- Proofs, and the bytes of their files.
+use Rattle.lzk_profile.specs.Profile.{opened_count, most_digests}
 use Rattle.std.specs.Prelude.{◌≡◌, ℕ, ◌-◌, ◌*◌, ◌<◌, ◌≤◌, List, [], ◌∷◌, ◌++◌, length, map, take, drop, replicate, slice_index_or}
 use Rattle.std.specs.Int.{w32, to_le_bytes}
 use Rattle.lzk_field.specs.Ring.{Ops}
@@ -45,17 +46,17 @@ pub record HasLengths {A : Type 0} (p : Params) (proof : Proof A) : Type 0 where
   pub messages : length proof.messages ≡ p.nsum
   pub ldt : length proof.ldt ≡ p.block
   pub dot : length proof.dot ≡ p.dblock
-  pub quad_head : length proof.quad_head ≡ 128
+  pub quad_head : length proof.quad_head ≡ opened_count
   pub quad_tail : length proof.quad_tail ≡ p.dblock - p.block
-  pub nonces : length proof.nonces ≡ 128
-  pub columns : length proof.columns ≡ 128 * p.nrow
+  pub nonces : length proof.nonces ≡ opened_count
+  pub columns : length proof.columns ≡ opened_count * p.nrow
 
 -- The bytes are the file of a proof, for elements of so many bytes: its fields in order, with the parameters' lengths
 -- and at most 1,536 digests.
 pub record ProofBytes {A : Type 0} (bytes : ℕ) (number : A → ℕ) (p : Params) (proof : Proof A)
     (file : List ℕ) : Type 0 where
   pub lengths : HasLengths p proof
-  pub few : length proof.path.digests ≤ 1536
+  pub few : length proof.path.digests ≤ most_digests
   pub id : length proof.id ≡ 32
   pub root : length proof.root ≡ 32
   pub nonces : AreDigests proof.nonces
@@ -73,9 +74,9 @@ zero_proof o p = record {
   messages = replicate p.nsum o.zero;
   ldt = replicate p.block o.zero;
   dot = replicate p.dblock o.zero;
-  quad_head = replicate 128 o.zero;
+  quad_head = replicate opened_count o.zero;
   quad_tail = replicate (p.dblock - p.block) o.zero;
-  nonces = replicate 128 zero_digest;
-  columns = replicate (128 * p.nrow) o.zero;
-  path = record { digests = []; room = 1536 };
+  nonces = replicate opened_count zero_digest;
+  columns = replicate (opened_count * p.nrow) o.zero;
+  path = record { digests = []; room = most_digests };
 }

@@ -1,4 +1,5 @@
 -- One byte of a proof's file, as a cursor takes it.
+use Rattle.lzk_profile.specs.Profile.{most_digests}
 use Rattle.std.specs.Prelude.{◌≡◌, ℕ, ◌+◌, ◌-◌, ◌<◌, ◌≤◌, List, ◌++◌, take, replicate, slice_set, Option, Some, None, MatchOption, unwrap_or, slice_get}
 use Rattle.std.specs.Int.{w32, from_le_bytes}
 use Rattle.lzk_layout.specs.declared.part.ProofPart.{ProofPart}
@@ -26,7 +27,7 @@ state_of fault r = record { params = r.params; place = place_of fault r }
 -- what a reading keeps fits together: the part and the place of the field that is read, and its bytes in front of zeros
 pub record IsSound (s : Shape) (r : Reading) : Type 0 where
   pub bounded : AreBounded r.params
-  pub few : unwrap_or r.digests 0 ≤ 1536
+  pub few : unwrap_or r.digests 0 ≤ most_digests
   pub part : r.part ≡ slice_get (known_parts r.params r.digests) r.fields
   pub offset : r.offset ≡ field_place s r.params (unwrap_or r.digests 0) r.fields
   pub held : MatchOption r.part (r.held ≡ 0) (λ part. r.held < part_width s part)

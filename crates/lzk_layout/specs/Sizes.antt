@@ -1,5 +1,6 @@
 -- The parameters of a circuit: how long its committed list is, how it is laid out in rows, and how long a proof's file
 -- is.
+use Rattle.lzk_profile.specs.Profile.{opened_count, most_points}
 use Rattle.std.specs.Prelude.{◌≡◌, ℕ, ◌+◌, ◌-◌, ◌*◌, ◌/◌, ◌%◌, ◌^◌, ◌≤◌, nat_le, List, [], ◌∷◌, length, drop}
 use Rattle.std.specs.Int.{div_ceil}
 use Rattle.std.specs.List.{sum, sum_by}
@@ -37,7 +38,7 @@ committed_count c = c.privates + sum_by pad_count (under_widths c)
 abbrev pub sizes : ℕ → ℕ → ℕ → Params
 sizes nw nsum layers =
     let wr = row_width nw in
-    let block = 128 + wr in
+    let block = opened_count + wr in
     let dblock = 2 * block - 1 in
     let mcol = 4 * block in
     let nwrow = div_ceil nw wr in
@@ -70,10 +71,10 @@ pub record AreBounded (p : Params) : Type 0 where
   pub nw : p.nw ≤ 101888
   pub wide : 64 ≤ p.wr
   pub wr : p.wr ≤ 512
-  pub block : p.block ≡ 128 + p.wr
+  pub block : p.block ≡ opened_count + p.wr
   pub dblock : p.dblock ≡ 2 * p.block - 1
   pub mcol : p.mcol ≡ 4 * p.block
-  pub ncol : p.ncol ≤ 3839
+  pub ncol : p.ncol ≤ most_points
   pub nrow : p.nrow ≤ 265
   pub nsum : p.nsum ≤ 35840
   pub some : 1 ≤ p.layers
@@ -93,8 +94,8 @@ place_of p j = (3 + j / p.wr, j % p.wr)
 -- and last values, the opened columns with their nonces, the number of digests, and the digests
 abbrev pub regions : ℕ → Params → ℕ → List ℕ
 regions bytes p digests =
-    4 ∷ 32 ∷ 32 ∷ bytes * p.nsum ∷ bytes * p.block ∷ bytes * p.dblock ∷ bytes * 128 ∷ bytes * (p.dblock - p.block)
-    ∷ 128 * (32 + bytes * p.nrow) ∷ 4 ∷ 32 * digests ∷ []
+    4 ∷ 32 ∷ 32 ∷ bytes * p.nsum ∷ bytes * p.block ∷ bytes * p.dblock ∷ bytes * opened_count ∷ bytes * (p.dblock - p.block)
+    ∷ opened_count * (32 + bytes * p.nrow) ∷ 4 ∷ 32 * digests ∷ []
 
 abbrev pub proof_length : ℕ → Params → ℕ → ℕ
 proof_length bytes p digests = sum (regions bytes p digests)

@@ -1,5 +1,6 @@
 //! The proof whose file the bytes are.
 
+ghost use Rattle.lzk_profile.specs.Profile.{most_digests};
 ghost use Rattle.std.specs.Prelude.{◌≡◌, ℕ, ◌≤◌, ◌*◌, ◌++◌, [], ◌∷◌, length, map, replicate, OnOk, OnErr, IfErr, is_ok};
 ghost use Rattle.lzk_layout.specs.Sizes.{AreParams, proof_length};
 ghost use Rattle.lzk_layout.specs.Proofs.{element_field, opened_fields, fields_of, AreDigests, HasLengths, ProofBytes};
@@ -85,10 +86,10 @@ fn answers_into<'a, F: Field>(proof: &mut Proof<F>, bytes: &'a [u8]) -> Result<&
 // The whole file.
 fn file_into<F: Field>(params: &Params, bytes: &[u8], proof: &mut Proof<F>) -> Result<(), Stop>
     requires lengths { HasLengths params.now proof.old }
-    requires room { 1536 ≤ proof.old.path.room }
+    requires room { most_digests ≤ proof.old.path.room }
     ensures read { Gives (λ _. fields_of (element_field F.coding.bytes F.coding.number) params.now.nrow proof.new)
         result (proof_at (shape F.coding.bytes F.coding.size) params.now bytes.now) }
-    ensures few { OnOk result (length proof.new.path.digests ≤ 1536) }
+    ensures few { OnOk result (length proof.new.path.digests ≤ most_digests) }
     ensures id { OnOk result (length proof.new.id ≡ 32) }
     ensures root { OnOk result (length proof.new.root ≡ 32) }
     ensures nonces { OnOk result (AreDigests proof.new.nonces) }
@@ -117,7 +118,7 @@ pub fn decode_proof<F: Field>(
 ) -> Result<(), ProofFault>
     requires params { AreParams F.ops params.now }
     requires lengths { HasLengths params.now proof.old }
-    requires room { 1536 ≤ proof.old.path.room }
+    requires room { most_digests ≤ proof.old.path.room }
     ensures proof { OnOk result (ProofBytes F.coding.bytes F.coding.number params.now proof.new bytes.now) }
     ensures length { OnOk result
         (length bytes.now ≡ proof_length F.coding.bytes params.now (length proof.new.path.digests)) }

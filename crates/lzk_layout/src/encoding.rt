@@ -1,5 +1,6 @@
 //! Writing a proof's file.
 
+ghost use Rattle.lzk_profile.specs.Profile.{most_digests};
 ghost use Rattle.std.specs.Prelude.{◌≡◌, ◌+◌, ◌*◌, ◌≤◌, ◌++◌, [], ◌∷◌, length, map, take};
 ghost use Rattle.std.specs.Int.{w32, to_le_bytes};
 ghost use Rattle.lzk_layout.specs.Sizes.{AreParams, proof_length};
@@ -125,7 +126,7 @@ fn put_answers<F: Field>(out: &mut [u8], at: usize, proof: &Proof<F>) -> usize
 
 // The path behind its count.
 fn put_path<F: Field>(out: &mut [u8], at: usize, proof: &Proof<F>) -> usize
-    requires few { length proof.now.path.digests ≤ 1536 }
+    requires few { length proof.now.path.digests ≤ most_digests }
     requires room { at + 4 + 32 * length proof.now.path.digests ≤ length out.old }
     ensures end { result ≡ at + 4 + 32 * length proof.now.path.digests }
     ensures length { length out.new ≡ length out.old }
@@ -142,7 +143,7 @@ fn put_path<F: Field>(out: &mut [u8], at: usize, proof: &Proof<F>) -> usize
 pub fn encode_proof<F: Field>(params: &Params, proof: &Proof<F>, out: &mut [u8])
     requires params { AreParams F.ops params.now }
     requires lengths { HasLengths params.now proof.now }
-    requires few { length proof.now.path.digests ≤ 1536 }
+    requires few { length proof.now.path.digests ≤ most_digests }
     requires room { length out.old ≡ proof_length F.coding.bytes params.now (length proof.now.path.digests) }
     ensures file { ProofBytes F.coding.bytes F.coding.number params.now proof.now out.new }
     ensures one_file { OneFile F.coding.bytes F.coding.number params.now }

@@ -1,5 +1,6 @@
 //! The parameters of a circuit.
 
+ghost use Rattle.lzk_profile.specs.Profile.{most_digests};
 ghost use Rattle.std.specs.Prelude.{◌≡◌, ◌<◌, ◌≤◌, ◌+◌, ◌*◌};
 ghost use Rattle.lzk_layout.specs.Sizes.{row_width, sent_counts, committed_count, params_of, AreParams, AreBounded, place_of, proof_length};
 ghost use Rattle.lzk_layout.specs.Places.{copy_place_of};
@@ -131,7 +132,7 @@ impl Params {
 pub fn proof_len<F: Field>(params: &Params, digests: u32) -> u64
     requires { AreParams F.ops params.now }
     ensures length { result ≡ proof_length F.coding.bytes params.now digests }
-    ensures fits { digests ≤ 1536 → result ≤ 2097152 }
+    ensures fits { digests ≤ most_digests → result ≤ 2097152 }
 {
     let elements = params.nsum
         + params.block

@@ -1,5 +1,6 @@
 //! The parts of a proof's file.
 
+ghost use Rattle.lzk_profile.specs.Profile.{opened_count};
 ghost use Rattle.std.specs.Prelude.{◌≡◌, ◌≤◌, ◌++◌, slice_get};
 ghost use Rattle.lzk_layout.specs.Sizes.{AreBounded};
 ghost use Rattle.lzk_layout.specs.Fields.{shape};
@@ -54,7 +55,7 @@ fn path_part(digests: u32, k: u32) -> Option<ProofPart>
 // The part of number `k` from the first opened column on.
 fn opened_part(rows: u32, digests: u32, k: u32) -> Option<ProofPart>
     requires { rows ≤ 265 }
-    ensures { result ≡ slice_get (opened_parts rows 128 ++ path_parts digests) k }
+    ensures { result ≡ slice_get (opened_parts rows opened_count ++ path_parts digests) k }
 {
     let each = 1 + rows;
     let column = k / each;
@@ -70,7 +71,7 @@ fn opened_part(rows: u32, digests: u32, k: u32) -> Option<ProofPart>
 // The part of number `k` from the first element sent on.
 fn element_part(params: &Params, digests: u32, k: u32) -> Option<ProofPart>
     requires { AreBounded params.now }
-    ensures { result ≡ slice_get (element_parts params.now (opened_parts params.now.nrow 128 ++ path_parts digests)) k }
+    ensures { result ≡ slice_get (element_parts params.now (opened_parts params.now.nrow opened_count ++ path_parts digests)) k }
 {
     if k < params.nsum {
         return Some(ProofPart::Message(k));

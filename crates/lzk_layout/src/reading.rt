@@ -1,5 +1,6 @@
 //! Reading the fields of a proof's file.
 
+ghost use Rattle.lzk_profile.specs.Profile.{most_digests};
 ghost use Rattle.std.specs.Prelude.{◌≡◌, ℕ, ◌+◌, ◌*◌, ◌≤◌, ◌++◌, [], ◌∷◌, length, map, replicate, IfOk, OnOk};
 ghost use Rattle.std.specs.Int.{w32, to_le_bytes};
 ghost use Rattle.lzk_layout.specs.Proofs.{element_field, opened_fields, AreDigests};
@@ -108,7 +109,7 @@ pub fn opened_into<'a, F: Field>(
 fn count_of(bytes: &[u8]) -> Result<(usize, &[u8]), Stop>
     ensures read { (shape : Shape)
         → Gives (λ x. (to_le_bytes w32 x.0, x.1.now)) result (field_at shape count bytes.now) }
-    ensures few { IfOk result (λ x. x.0 ≤ 1536) }
+    ensures few { IfOk result (λ x. x.0 ≤ most_digests) }
 {
     if bytes.len() < 4 {
         return Err(stop(ProofKind::Truncated, bytes));
@@ -124,12 +125,12 @@ fn count_of(bytes: &[u8]) -> Result<(usize, &[u8]), Stop>
 /// The path behind its count, in place of the digests there.
 #[tactic(auto, unfolding(crate::specs::Fields::path_at))]
 pub fn path_into<'a>(path: &mut Path, bytes: &'a [u8]) -> Result<&'a [u8], Stop>
-    requires { 1536 ≤ path.old.room }
+    requires { most_digests ≤ path.old.room }
     ensures room { path.new.room ≡ path.old.room }
     ensures read { (shape : Shape)
         → Gives (λ rest. (to_le_bytes w32 (length path.new.digests) ∷ path.new.digests, rest.now)) result
         (path_at shape bytes.now) }
-    ensures few { OnOk result (length path.new.digests ≤ 1536) }
+    ensures few { OnOk result (length path.new.digests ≤ most_digests) }
     ensures digests { OnOk result (AreDigests path.new.digests) }
 {
     let (number, after) = count_of(bytes)?;

@@ -1,5 +1,6 @@
 //! Changes of answers.
 
+ghost use Rattle.lzk_profile.specs.Profile.{opened_count};
 ghost use Rattle.std.specs.Prelude.{◌≡◌, ◌-◌, ◌<◌, List, length, take, drop};
 ghost use Rattle.lzk_layout.specs.Proofs.{HasLengths};
 ghost use Rattle.lzk_layout.specs.Sizes.{AreBounded};
@@ -44,12 +45,12 @@ fn add_to_quadratic<F: Field>(
 )
     requires bounded { AreBounded params.now }
     requires place { IsSentPlace params.now Quad place }
-    requires head { length head.old ≡ 128 }
+    requires head { length head.old ≡ opened_count }
     requires tail { length tail.old ≡ params.now.dblock - params.now.block }
-    ensures head_length { length head.new ≡ 128 }
+    ensures head_length { length head.new ≡ opened_count }
     ensures tail_length { length tail.new ≡ params.now.dblock - params.now.block }
-    ensures head { (values : List F) → head.old ≡ take 128 values
-        → head.new ≡ take 128 (changed F.ops values place by) }
+    ensures head { (values : List F) → head.old ≡ take opened_count values
+        → head.new ≡ take opened_count (changed F.ops values place by) }
     ensures tail { (values : List F) → tail.old ≡ drop params.now.block values
         → tail.new ≡ drop params.now.block (changed F.ops values place by) }
 {

@@ -1,4 +1,5 @@
 -- What a prover holds beside its circuit.
+use Rattle.lzk_profile.specs.Profile.{most_digests}
 use Rattle.std.specs.Prelude.{◌≡◌, ℕ, length}
 use Rattle.lzk_field.specs.Coding.{Coding}
 use Rattle.lzk_field.specs.Ring.{Ops}
@@ -32,7 +33,7 @@ pub record IsAnsweringFor {A : Type 0} (o : Ops A) (e : Coding A) (c : Wiring A)
     (k : Answering A) : Type 0 where
   pub room : IsRoomFor o c p extender_room k.room
   pub sent : IsSentFor e c p k.sent
-  pub bytes : length k.bytes.items ≡ proof_length e.bytes p 1536
+  pub bytes : length k.bytes.items ≡ proof_length e.bytes p most_digests
 
 -- the parts of a prover over this circuit, where what extends rows has these reaches and takes so many elements of room
 pub record ArePartsFor {A X : Type 0} (o : Ops A) (e : Coding A) (reach : X → Reach) (rooms : X → ℕ) (c : Wiring A)
@@ -49,4 +50,4 @@ pub record ArePartsFor {A X : Type 0} (o : Ops A) (e : Coding A) (reach : X → 
   pub leaves : length p.committed.tree.leaves ≡ p.params.mcol
   pub room : IsRoomFor o c p.params (rooms p.extenders.coefficients) p.answering.room
   pub sent : IsSentFor e c p.params p.answering.sent
-  pub bytes : length p.answering.bytes.items ≡ proof_length e.bytes p.params 1536
+  pub bytes : length p.answering.bytes.items ≡ proof_length e.bytes p.params most_digests

@@ -1,4 +1,5 @@
 -- What a prover keeps between proofs.
+use Rattle.lzk_profile.specs.Profile.{opened_count, most_digests}
 use Rattle.std.specs.Prelude.{◌≡◌, ◌≤◌, ◌+◌, ◌*◌, ℕ, length}
 use Rattle.lzk_field.specs.Coding.{Coding}
 use Rattle.lzk_field.specs.Ring.{Ops}
@@ -32,7 +33,7 @@ pub record IsRoomFor {A : Type 0} (o : Ops A) (c : Wiring A) (p : Params) (exten
 pub record IsSentFor {A : Type 0} (e : Coding A) (c : Wiring A) (p : Params) (s : Sent A) : Type 0 where
   pub id : s.proof.id ≡ id_of e c
   pub lengths : HasLengths p s.proof
-  pub path : 1536 ≤ s.proof.path.room
+  pub path : most_digests ≤ s.proof.path.room
   pub script : sumcheck.HasShape c s.script
   pub challenges : accept.HasShape p s.challenges
-  pub columns : length s.columns ≡ 128
+  pub columns : length s.columns ≡ opened_count

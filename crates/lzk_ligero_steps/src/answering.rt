@@ -1,5 +1,6 @@
 //! The answers.
 
+ghost use Rattle.lzk_profile.specs.Profile.{opened_count};
 ghost use Rattle.std.specs.Prelude.{◌≡◌, ℕ, ◌+◌, ◌-◌, ◌*◌, ◌≤◌, List, length, take, drop};
 ghost use Rattle.lzk_poly.specs.Through.{values_of};
 ghost use Rattle.lzk_layout.specs.Sizes.{sent_counts};
@@ -59,11 +60,11 @@ fn set_ends<F: Field>(
     tail: &mut Elements<F>,
 )
     requires all { length all.now ≡ statement.now.params.now.dblock }
-    requires head { length head.old ≡ 128 }
+    requires head { length head.old ≡ opened_count }
     requires tail { length tail.old ≡ statement.now.params.now.dblock - statement.now.params.now.block }
-    ensures head_length { length head.new ≡ 128 }
+    ensures head_length { length head.new ≡ opened_count }
     ensures tail_length { length tail.new ≡ statement.now.params.now.dblock - statement.now.params.now.block }
-    ensures head { head.new ≡ take 128 all.now }
+    ensures head { head.new ≡ take opened_count all.now }
     ensures tail { tail.new ≡ drop statement.now.params.now.block all.now }
 {
     let (front, _) = all.split_at(BLINDS);
@@ -84,15 +85,15 @@ pub fn answer_quadratic<F: Field>(
     requires table { length table.now ≡ statement.now.params.now.nrow * statement.now.params.now.ncol }
     requires v { length v.now ≡ statement.now.params.now.ntriple }
     requires room { length values.old ≡ statement.now.params.now.dblock }
-    requires head { length head.old ≡ 128 }
+    requires head { length head.old ≡ opened_count }
     requires tail { length tail.old ≡ statement.now.params.now.dblock - statement.now.params.now.block }
     ensures room { length values.new ≡ statement.now.params.now.dblock }
-    ensures head_length { length head.new ≡ 128 }
+    ensures head_length { length head.new ≡ opened_count }
     ensures tail_length { length tail.new ≡ statement.now.params.now.dblock - statement.now.params.now.block }
     ensures head { (rows : List (List F)) → length rows ≡ statement.now.params.now.nrow
         → IsTableOf F.ops F.coding.element statement.now.params.now.ncol rows table.now
         → head.new
-        ≡ take 128 (values_of F.ops F.coding.element statement.now.params.now.dblock
+        ≡ take opened_count (values_of F.ops F.coding.element statement.now.params.now.dblock
         (quadratic_answer F.ops F.coding.element statement.now.params.now rows v.now)) }
     ensures tail { (rows : List (List F)) → length rows ≡ statement.now.params.now.nrow
         → IsTableOf F.ops F.coding.element statement.now.params.now.ncol rows table.now

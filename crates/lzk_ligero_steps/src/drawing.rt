@@ -1,5 +1,6 @@
 //! What is written to the tape, and what the tape gives.
 
+ghost use Rattle.lzk_profile.specs.Profile.{opened_count};
 ghost use Rattle.std.specs.Prelude.{◌≡◌, length};
 ghost use Rattle.lzk_merkle.specs.Nodes.{AreOpened};
 ghost use Rattle.lzk_layout.specs.Sizes.{AreBounded};
@@ -28,10 +29,10 @@ pub fn draw_columns<F: Field>(
     columns: &mut [u32],
 )
     requires bounded { AreBounded params.now }
-    requires room { length columns.old ≡ 128 }
+    requires room { length columns.old ≡ opened_count }
     ensures columns { columns.new ≡ spec.columns F.coding params.now proof.now tape.old }
     ensures opened { AreOpened params.now.mcol columns.new }
-    ensures room { length columns.new ≡ 128 }
+    ensures room { length columns.new ≡ opened_count }
 {
     let low_degree = proof.ldt.as_slice();
     let linear = proof.dot.as_slice();

@@ -1,5 +1,6 @@
 //! The opened columns, and the path from them to the root.
 
+ghost use Rattle.lzk_profile.specs.Profile.{opened_count, most_digests};
 ghost use Rattle.std.specs.Prelude.{◌≡◌, ◌*◌, ◌≤◌, ◌<◌, ℕ, List, length, map, slice_index};
 ghost use Rattle.std.specs.List.{flat_map};
 ghost use Rattle.lzk_circuit.specs.Valid.{Wiring};
@@ -117,10 +118,10 @@ pub fn open_path(tree: &Tree, mcol: u32, columns: &[u32], path: &mut Path)
     requires leaves { length tree.now.leaves ≡ mcol }
     requires few { mcol ≤ 4096 }
     requires opened { AreOpened mcol columns.now }
-    requires count { length columns.now ≡ 128 }
-    requires room { 1536 ≤ path.old.room }
+    requires count { length columns.now ≡ opened_count }
+    requires room { most_digests ≤ path.old.room }
     ensures digests { path.new.digests ≡ map (tree_node mcol tree.now.leaves) (path_nodes mcol columns.now) }
-    ensures few { length path.new.digests ≤ 1536 }
+    ensures few { length path.new.digests ≤ most_digests }
     ensures room { path.new.room ≡ path.old.room }
 {
     clear_path(path, needed(mcol, columns) as usize);

@@ -1,5 +1,6 @@
 //! What a prover keeps.
 
+ghost use Rattle.lzk_profile.specs.Profile.{most_digests};
 ghost use Rattle.std.specs.Prelude.{◌≡◌, ◌+◌, ◌*◌, length, IfOk, IfSome};
 ghost use Rattle.lzk_circbytes.specs.Files.{id_of};
 ghost use Rattle.lzk_layout.specs.Sizes.{AreBounded, AreParams, proof_length};
@@ -96,7 +97,7 @@ impl<F: Field> Sent<F> {
 /// Room for the longest file of a proof with these parameters.
 pub fn file_room<F: Field>(alloc: Global, params: &Params) -> Result<Vec<u8>, AllocError>
     requires { AreParams F.ops params.now }
-    ensures { IfOk result (λ bytes. length bytes.items ≡ proof_length F.coding.bytes params.now 1536) }
+    ensures { IfOk result (λ bytes. length bytes.items ≡ proof_length F.coding.bytes params.now most_digests) }
 {
     let mut bytes = Vec::new(alloc);
     bytes.resize(proof_len::<F>(params, MOST_DIGESTS as u32) as usize, 0)?;

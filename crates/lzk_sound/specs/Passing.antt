@@ -1,4 +1,5 @@
 -- What a verifier checks of a proof beside its file, its id and its tree: for any draws and columns.
+use Rattle.lzk_profile.specs.Profile.{opened_count}
 use Rattle.std.specs.Prelude.{◌≡◌, ℕ, ◌-◌, ◌*◌, List, length}
 use Rattle.lzk_field.specs.Coding.{Coding}
 use Rattle.lzk_field.specs.Ring.{Ops}
@@ -17,7 +18,7 @@ module _ {A : Type 0} (o : Ops A) (e : Coding A) (c : Wiring A) (public : List A
     pub messages : length proof.messages ≡ (params_of c).nsum
     pub ldt : length proof.ldt ≡ (params_of c).block
     pub dot : length proof.dot ≡ (params_of c).dblock
-    pub quad_head : length proof.quad_head ≡ 128
+    pub quad_head : length proof.quad_head ≡ opened_count
     pub quad_tail : length proof.quad_tail ≡ (params_of c).dblock - (params_of c).block
     pub opened : length proof.columns ≡ length columns * (params_of c).nrow
     pub low_degree : AtEach columns (IsLowDegree o (params_of c) proof e.element columns ch.u)

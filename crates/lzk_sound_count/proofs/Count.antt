@@ -1,4 +1,5 @@
 -- The one count: a false statement passes by few of all lists of draws and sets of columns.
+use Rattle.lzk_profile.specs.Profile.{opened_count}
 use Rattle.std.specs.Prelude.{◌≡◌, ℕ, ◌+◌, ◌-◌, ◌*◌, ◌^◌, ◌<◌, ◌≤◌, ◌&&◌, cond, nat_lt, Bool, true, false, List, [], ◌++◌, length, take, drop, replicate}
 use Rattle.std.specs.List.{range_with_len}
 use Rattle.std.proofs.Common.{zero, suc, refl, sym, ap, ◌∙◌, arith, subst, add-mul, mul_assoc, mul_comm, mul-le-mul_right, zero-mul, take_at, drop_at, length-append}
@@ -107,7 +108,7 @@ module _ {A : Type 0} (o : Ops A) (e : Coding A) (laws : Laws o e.size e.number 
 
   few_rows : nu * (p.block + 1) < N
   few_rows =
-      let most : nu * (p.block + 1) ≤ 262 * 641 = product_most nu (p.block + 1) 262 641 (omega (arith, b.nrow)) (omega (arith, b.block, b.wr)) in
+      let most : nu * (p.block + 1) ≤ 262 * (opened_count + 513) = product_most nu (p.block + 1) 262 (opened_count + 513) (omega (arith, b.nrow)) (omega (arith, b.block, b.wr)) in
       omega (arith, most, large)
 
   -- ---- a table that is far from codewords
@@ -174,8 +175,8 @@ module _ {A : Type 0} (o : Ops A) (e : Coding A) (laws : Laws o e.size e.number 
     quads_long draws facts =
         let head = strategy.quad_head draws in
         let tail = strategy.quad_tail draws in
-        let middle = replicate (p.block - 128) o.zero in
-        omega (arith, length-append (head ++ middle) tail, length-append head middle, length-replicate (p.block - 128) o.zero, facts.passed.quad_head, facts.passed.quad_tail, b.block, b.dblock)
+        let middle = replicate (p.block - opened_count) o.zero in
+        omega (arith, length-append (head ++ middle) tail, length-append head middle, length-replicate (p.block - opened_count) o.zero, facts.passed.quad_head, facts.passed.quad_tail, b.block, b.dblock)
 
     close_of : (draws : List A) → length draws ≡ whole_count c → rest draws ≡ true → Close
     close_of draws long is =
@@ -374,17 +375,17 @@ module _ {A : Type 0} (o : Ops A) (e : Coding A) (laws : Laws o e.size e.number 
       near_less : p.block + (most c outputs + 19) ≤ bad_count c
       near_less = omega arith
 
-  pub count_whole : count_pairs wins (draws_from ds (whole_count c)) (sets_of 128 (range_with_len 0 p.mcol)) * N
-      ≤ (bad_count c * choose p.mcol 128 + N * choose (3 * p.block - 1) 128) * N ^ whole_count c
+  pub count_whole : count_pairs wins (draws_from ds (whole_count c)) (sets_of opened_count (range_with_len 0 p.mcol)) * N
+      ≤ (bad_count c * choose p.mcol opened_count + N * choose (3 * p.block - 1) opened_count) * N ^ whole_count c
   count_whole =
       let all = draws_from ds (whole_count c) in
-      let S = sets_of 128 (range_with_len 0 p.mcol) in
-      let C = choose (3 * p.block - 1) 128 in
-      let M = choose p.mcol 128 in
+      let S = sets_of opened_count (range_with_len 0 p.mcol) in
+      let C = choose (3 * p.block - 1) opened_count in
+      let M = choose p.mcol opened_count in
       let T = N ^ whole_count c in
       let q = count bad all in
       let pairs = pairs_few wins bad S C all (all_of (λ r. length r ≡ whole_count c) (λ r. bad r ≡ false → count (wins r) S ≤ C) (λ r long is. few_sets o e laws c b public strategy wins cheat r is) all (all_long ds (whole_count c))) in
-      let many : length S ≡ M = sets_counted 128 (range_with_len 0 p.mcol) ∙ ap (λ (k : ℕ). choose k 128) (length-range_with_len 0 p.mcol) in
+      let many : length S ≡ M = sets_counted opened_count (range_with_len 0 p.mcol) ∙ ap (λ (k : ℕ). choose k opened_count) (length-range_with_len 0 p.mcol) in
       final (count_pairs wins all S) q (length S) (length all) C M T (bad_count c) pairs many (length-draws ds (whole_count c)) bad_few
     where
       final : (x q s l C M T B : ℕ) → x ≤ q * s + l * C → s ≡ M → l ≡ T → q * N ≤ B * T → x * N ≤ (B * M + N * C) * T
@@ -401,7 +402,7 @@ pub false_rare : {A : Type 0} (o : Ops A) (e : Coding A) → Laws o e.size e.num
 false_rare o e laws = λ c public strategy wins cheat large.
     let all = elements_all e laws.numbers in
     let ds = all_elements e in
-    let C = choose (3 * (params_of c).block - 1) 128 in
-    let M = choose (params_of c).mcol 128 in
-    subst (λ (n : ℕ). count_pairs wins (draws_from ds (whole_count c)) (sets_of 128 (range_with_len 0 (params_of c).mcol)) * n ≤ (bad_count c * M + n * C) * n ^ whole_count c) all.count
+    let C = choose (3 * (params_of c).block - 1) opened_count in
+    let M = choose (params_of c).mcol opened_count in
+    subst (λ (n : ℕ). count_pairs wins (draws_from ds (whole_count c)) (sets_of opened_count (range_with_len 0 (params_of c).mcol)) * n ≤ (bad_count c * M + n * C) * n ^ whole_count c) all.count
     (count_whole o e laws c public strategy wins ds cheat all.distinct all.every (omega (arith, large, all.count)) (params_bounded o c cheat.valid))

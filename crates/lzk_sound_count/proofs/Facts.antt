@@ -1,4 +1,5 @@
 -- What is known of draws by which too many sets of columns pass.
+use Rattle.lzk_profile.specs.Profile.{opened_count}
 use Rattle.std.specs.Prelude.{◌≡◌, ℕ, ◌+◌, ◌-◌, ◌*◌, ◌<◌, ◌≤◌, ◌&&◌, nat_lt, Bool, true, false, List, [], ◌∷◌, ◌++◌, length, map, take, drop}
 use Rattle.std.specs.List.{AllByRecursion, range_with_len}
 use Rattle.std.proofs.Common.{zero, suc, refl, sym, ap, ◌∙◌, arith, eqb, take_at, drop_at}
@@ -51,7 +52,7 @@ module _ {A : Type 0} (c : Wiring A) (x t : List A) (long : length x ≡ draw_co
 -- what is known where too many sets pass
 pub record AreTooMany {A : Type 0} (o : Ops A) (e : Coding A) (laws : Laws o e.size e.number e.element e.bytes) (c : Wiring A) (b : AreBounded (params_of c)) (public : List A) (strategy : Strategy A) (draws : List A) : Type 0 where
   pub columns : List ℕ
-  pub size : length columns ≡ 128
+  pub size : length columns ≡ opened_count
   pub passed : IsPassed o e c public strategy draws columns
   pub few : count (flip (here o e laws c b public strategy draws)) (range_with_len 0 (params_of c).mcol) ≤ (params_of c).block
 
@@ -63,10 +64,10 @@ module _ {A : Type 0} (o : Ops A) (e : Coding A) (laws : Laws o e.size e.number 
   all_columns = range_with_len 0 p.mcol
 
   abbrev pub sets : List (List ℕ)
-  sets = sets_of 128 all_columns
+  sets = sets_of opened_count all_columns
 
   abbrev pub most_sets : ℕ
-  most_sets = choose (3 * p.block - 1) 128
+  most_sets = choose (3 * p.block - 1) opened_count
 
   -- more sets pass than three quarters of the columns have
   abbrev pub too_many : List A → Bool
@@ -81,19 +82,19 @@ module _ {A : Type 0} (o : Ops A) (e : Coding A) (laws : Laws o e.size e.number 
   pub known : (draws : List A) → length draws ≡ whole_count c → too_many draws ≡ true → AreTooMany o e laws c b public strategy draws
   known draws long many =
       let more : most_sets < count (wins draws) sets = ltb-true most_sets (count (wins draws) sets) many in
-      let one = found (λ s. length s ≡ 128) (wins draws) sets (sets_long 128 all_columns) (omega (arith, more)) in
+      let one = found (λ s. length s ≡ opened_count) (wins draws) sets (sets_long opened_count all_columns) (omega (arith, more)) in
       let H : ℕ → Bool = here o e laws c b public strategy draws in
-      let W : List ℕ → Bool = λ s. wins draws s && eqb (length s) 128 in
+      let W : List ℕ → Bool = λ s. wins draws s && eqb (length s) opened_count in
       let same : count (wins draws) sets ≤ count W sets =
-      count_more (wins draws) W sets (all_of (λ s. length s ≡ 128) (λ s. wins draws s ≡ true → W s ≡ true) (λ s size won. both_true (wins draws s) (eqb (length s) 128) won (eq-eqb (length s) 128 size)) sets (sets_long 128 all_columns)) in
-      let least = sets_few H 128 all_columns W (λ s won. each_here o e laws c b public strategy draws s
-      (cheat.only draws s long (eqb-true (length s) 128 (right_true (wins draws s) (eqb (length s) 128) won)) (left_true (wins draws s) (eqb (length s) 128) won))) in
+      count_more (wins draws) W sets (all_of (λ s. length s ≡ opened_count) (λ s. wins draws s ≡ true → W s ≡ true) (λ s size won. both_true (wins draws s) (eqb (length s) opened_count) won (eq-eqb (length s) opened_count size)) sets (sets_long opened_count all_columns)) in
+      let least = sets_few H opened_count all_columns W (λ s won. each_here o e laws c b public strategy draws s
+      (cheat.only draws s long (eqb-true (length s) opened_count (right_true (wins draws s) (eqb (length s) opened_count) won)) (left_true (wins draws s) (eqb (length s) opened_count) won))) in
       record {
         columns = one.0;
         size = one.1.0;
         passed = cheat.only draws one.0 long one.1.0 one.1.1;
         few = elim (dec_lt (count H all_columns) (3 * p.block)) [
-          | yes less ↦ (let up = choose-mono (count H all_columns) (3 * p.block - 1) 128 (omega (arith, less)) in absurd (omega (arith, more, same, least, up)))
+          | yes less ↦ (let up = choose-mono (count H all_columns) (3 * p.block - 1) opened_count (omega (arith, less)) in absurd (omega (arith, more, same, least, up)))
           | no enough ↦ omega (arith, enough, flip_counts H all_columns, length-range_with_len 0 p.mcol, b.mcol)
         ];
       }
@@ -111,7 +112,7 @@ module _ {A : Type 0} (o : Ops A) (e : Coding A) (laws : Laws o e.size e.number 
       right_true false y q = absurd (false≢true q)
 
 -- the lengths of a proof that passes
-pub lengths_of : {A : Type 0} (o : Ops A) (e : Coding A) (c : Wiring A) (public : List A) (strategy : Strategy A) (draws : List A) (columns : List ℕ) → length columns ≡ 128
+pub lengths_of : {A : Type 0} (o : Ops A) (e : Coding A) (c : Wiring A) (public : List A) (strategy : Strategy A) (draws : List A) (columns : List ℕ) → length columns ≡ opened_count
     → IsPassed o e c public strategy draws columns → HasLengths (params_of c) (shown o c strategy draws columns)
 lengths_of o e c public strategy draws columns size passed = record {
   messages = passed.messages;
@@ -119,6 +120,6 @@ lengths_of o e c public strategy draws columns size passed = record {
   dot = passed.dot;
   quad_head = passed.quad_head;
   quad_tail = passed.quad_tail;
-  nonces = length-replicate 128 zero_digest;
+  nonces = length-replicate opened_count zero_digest;
   columns = passed.opened ∙ ap (λ (k : ℕ). k * (params_of c).nrow) size;
 }

@@ -1,4 +1,5 @@
 -- The count, evaluated.
+use Rattle.lzk_profile.specs.Profile.{opened_count}
 use Rattle.std.specs.Prelude.{◌≡◌, ℕ, ◌+◌, ◌-◌, ◌*◌, ◌^◌, ◌<◌, ◌≤◌, length}
 use Rattle.std.specs.List.{range_with_len}
 use Rattle.std.proofs.Common.{zero, suc, refl, sym, ap, ◌∙◌, arith, subst, add-mul, mul_assoc, mul_comm, mul-le-mul_right, zero-mul}
@@ -30,8 +31,8 @@ use Rattle.lzk_sound_count.proofs.Elements.{elements_all}
 
 -- ---- computed
 
-longest_rows : falling 1919 128 * (3 * 2 ^ 53) ≤ falling 2560 128
-longest_rows = leb-true (falling 1919 128 * (3 * 2 ^ 53)) (falling 2560 128) refl
+longest_rows : falling (3 * (opened_count + 512) - 1) opened_count * (3 * 2 ^ 53) ≤ falling (4 * (opened_count + 512)) opened_count
+longest_rows = leb-true (falling (3 * (opened_count + 512) - 1) opened_count * (3 * 2 ^ 53)) (falling (4 * (opened_count + 512)) opened_count) refl
 
 -- ---- sets of columns
 
@@ -43,7 +44,7 @@ pub columns_miss : {A : Type 0} (o : Ops A) → ColumnsMissRarely o
 columns_miss o c valid =
     let b = params_bounded o c valid in
     let B = (params_of c).block in
-    from_longest (3 * 2 ^ 53) 128 (3 * B - 1) (params_of c).mcol (640 - B) 1919 2560 (omega (arith, b.mcol)) (omega (arith, b.block))
+    from_longest (3 * 2 ^ 53) opened_count (3 * B - 1) (params_of c).mcol ((opened_count + 512) - B) (3 * (opened_count + 512) - 1) (4 * (opened_count + 512)) (omega (arith, b.mcol)) (omega (arith, b.block))
     (omega (arith, b.block, b.wr)) (omega (arith, b.block, b.wr, b.mcol)) longest_rows
 
 -- ---- bad elements
@@ -137,12 +138,12 @@ gf128_miss = leb-true (2 ^ 54 * 3) (3 * 2 ^ 53 * 2) refl
 module _ {A : Type 0} (o : Ops A) (e : Coding A) (laws : Laws o e.size e.number e.element e.bytes) where
   shares : (limit by elements k a d : ℕ) → limit * 2 ^ by * k ≤ a * elements → 2 ^ by * k ≤ 3 * 2 ^ 53 * d → a + d ≤ k → 2 ^ 18 ≤ elements → 0 < k → PassesByOneIn o e limit by elements
   shares limit by elements k a d bad miss all large parts c public strategy wins cheat few many =
-      let S = sets_of 128 (range_with_len 0 (params_of c).mcol) in
+      let S = sets_of opened_count (range_with_len 0 (params_of c).mcol) in
       let ds = all_elements e in
       let D = draws_from ds (whole_count c) in
-      let M = choose (params_of c).mcol 128 in
-      let C = choose (3 * (params_of c).block - 1) 128 in
-      let sets : length S ≡ M = sets_counted 128 (range_with_len 0 (params_of c).mcol) ∙ ap (λ (j : ℕ). choose j 128) (length-range_with_len 0 (params_of c).mcol) in
+      let M = choose (params_of c).mcol opened_count in
+      let C = choose (3 * (params_of c).block - 1) opened_count in
+      let sets : length S ≡ M = sets_counted opened_count (range_with_len 0 (params_of c).mcol) ∙ ap (λ (j : ℕ). choose j opened_count) (length-range_with_len 0 (params_of c).mcol) in
       let draws : length D ≡ e.size ^ whole_count c = length-draws ds (whole_count c) ∙ ap (λ (j : ℕ). j ^ whole_count c) (elements_all e laws.numbers).count in
       let some : 0 < elements = positive (2 ^ 18) elements one_at_least large in
       let rare = one_in (count_pairs wins D S) e.size (e.size ^ whole_count c) M (bad_count c) C (2 ^ by) k a d limit elements (false_rare o e laws c public strategy wins cheat (omega (arith, large, many))) few many bad

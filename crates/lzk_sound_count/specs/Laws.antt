@@ -1,4 +1,5 @@
 -- How seldom a false statement passes, whatever a prover does.
+use Rattle.lzk_profile.specs.Profile.{opened_count}
 use Rattle.std.specs.Prelude.{◌≡◌, ℕ, ◌+◌, ◌-◌, ◌*◌, ◌^◌, ◌≤◌, Bool, true, List, length, map}
 use Rattle.std.specs.List.{range_with_len}
 use Rattle.lzk_field.specs.Coding.{Coding}
@@ -28,7 +29,7 @@ pub record IsCheat {A : Type 0} (o : Ops A) (e : Coding A) (c : Wiring A) (publi
   pub publics : length public ≡ c.publics
   pub wrong : IsFalse o e c public
   pub prover : IsProver o c strategy.messages
-  pub only : (draws : List A) (columns : List ℕ) → length draws ≡ whole_count c → length columns ≡ 128
+  pub only : (draws : List A) (columns : List ℕ) → length draws ≡ whole_count c → length columns ≡ opened_count
       → wins draws columns ≡ true
       → IsPassed o e c public strategy draws columns
 
@@ -48,9 +49,9 @@ abbrev pub FalseIsRare : {A : Type 0} → Ops A → Coding A → Type 0
 FalseIsRare {A} o e =
     (c : Wiring A) (public : List A) (strategy : Strategy A) (wins : List A → List ℕ → Bool)
     → IsCheat o e c public strategy wins → 2 ^ 18 ≤ e.size
-    → count_pairs wins (draws_from (all_elements e) (whole_count c)) (sets_of 128 (range_with_len 0 (params_of c).mcol))
+    → count_pairs wins (draws_from (all_elements e) (whole_count c)) (sets_of opened_count (range_with_len 0 (params_of c).mcol))
     * e.size
-    ≤ (bad_count c * choose (params_of c).mcol 128 + e.size * choose (3 * (params_of c).block - 1) 128)
+    ≤ (bad_count c * choose (params_of c).mcol opened_count + e.size * choose (3 * (params_of c).block - 1) opened_count)
     * e.size ^ whole_count c
 
 -- a list that has everything once, and is so long

@@ -1,4 +1,5 @@
 -- The count, evaluated for the profile: for every circuit, over the two fields.
+use Rattle.lzk_profile.specs.Profile.{opened_count}
 use Rattle.std.specs.Prelude.{ℕ, ◌-◌, ◌*◌, ◌^◌, ◌≤◌, Bool, List, length}
 use Rattle.std.specs.List.{range_with_len}
 use Rattle.lzk_field.specs.Coding.{Coding}
@@ -14,7 +15,7 @@ use Rattle.lzk_sound_count.specs.Laws.{IsCheat, bad_count, all_elements}
 abbrev pub ColumnsMissRarely : {A : Type 0} → Ops A → Type 0
 ColumnsMissRarely {A} o =
     (c : Wiring A) → IsValid o c
-    → choose (3 * (params_of c).block - 1) 128 * (3 * 2 ^ 53) ≤ choose (params_of c).mcol 128
+    → choose (3 * (params_of c).block - 1) opened_count * (3 * 2 ^ 53) ≤ choose (params_of c).mcol opened_count
 
 -- No valid circuit has more than so many bad elements, of all draws and weights together.
 abbrev pub BadAreBounded : {A : Type 0} → Ops A → Type 0
@@ -27,6 +28,6 @@ PassesByOneIn {A} o e bad by elements =
     (c : Wiring A) (public : List A) (strategy : Strategy A) (wins : List A → List ℕ → Bool)
     → IsCheat o e c public strategy wins → bad_count c ≤ bad
     → elements ≤ e.size
-    → count_pairs wins (draws_from (all_elements e) (whole_count c)) (sets_of 128 (range_with_len 0 (params_of c).mcol))
+    → count_pairs wins (draws_from (all_elements e) (whole_count c)) (sets_of opened_count (range_with_len 0 (params_of c).mcol))
     * 2 ^ by
-    ≤ length (draws_from (all_elements e) (whole_count c)) * length (sets_of 128 (range_with_len 0 (params_of c).mcol))
+    ≤ length (draws_from (all_elements e) (whole_count c)) * length (sets_of opened_count (range_with_len 0 (params_of c).mcol))

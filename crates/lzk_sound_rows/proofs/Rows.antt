@@ -1,4 +1,5 @@
 -- Rows whose answers pass hold a list that satisfies the constraints, unless some draw is bad.
+use Rattle.lzk_profile.specs.Profile.{opened_count}
 use Rattle.std.specs.Prelude.{◌≡◌, ℕ, ◌+◌, ◌-◌, ◌*◌, ◌/◌, ◌%◌, ◌<◌, ◌≤◌, List, [], ◌∷◌, ◌++◌, length, replicate, slice_index}
 use Rattle.std.proofs.Common.{refl, sym, ap, ◌∙◌, arith}
 use Rattle.std.proofs.lemmas.Grind.{div_ceil_times}
@@ -107,8 +108,8 @@ module _ {A : Type 0} (o : Ops A) (e : Coding A) (laws : Laws o e.size e.number 
 
   pub quad_length : length sent_quads ≡ p.dblock
   quad_length =
-      let middle = replicate (p.block - 128) o.zero in
-      omega (arith, length-append (proof.quad_head ++ middle) proof.quad_tail, length-append proof.quad_head middle, length-replicate (p.block - 128) o.zero, lengths.quad_head, lengths.quad_tail, b.block, b.dblock)
+      let middle = replicate (p.block - opened_count) o.zero in
+      omega (arith, length-append (proof.quad_head ++ middle) proof.quad_tail, length-append proof.quad_head middle, length-replicate (p.block - opened_count) o.zero, lengths.quad_head, lengths.quad_tail, b.block, b.dblock)
 
   quad_is : AtEach columns (IsQuadratic o p proof e.element columns ch.v) → NoneBad o c rows coefficient right ch e.element proof columns → sent_quads ≡ quads
   quad_is quadratic none =
@@ -143,14 +144,14 @@ module _ {A : Type 0} (o : Ops A) (e : Coding A) (laws : Laws o e.size e.number 
 
   -- ---- the linear answer's sum
 
-  coefficient_value : (i s : ℕ) → s < p.wr → extension o e.element (lists i) (128 + s) ≡ combined o c coefficient ch i s
+  coefficient_value : (i s : ℕ) → s < p.wr → extension o e.element (lists i) (opened_count + s) ≡ combined o c coefficient ch i s
   coefficient_value i s h =
       let is : AreCoefficients o p (combined o c coefficient ch i) (lists i) = combined_rows o e.element c coefficient ch i in
-      extension-given o laws.ring laws.field e.element (lists i) (apart laws p b (length (lists i)) (omega (arith, is.count, b.columns, b.dblock, b.block))) (128 + s) (omega (arith, is.count, h, b.block)) ∙ is.back s h
+      extension-given o laws.ring laws.field e.element (lists i) (apart laws p b (length (lists i)) (omega (arith, is.count, b.columns, b.dblock, b.block))) (opened_count + s) (omega (arith, is.count, h, b.block)) ∙ is.back s h
 
-  linear_there : (s : ℕ) → s < p.wr → entry o dots (128 + s) ≡ o.plus (E 1 s) (sum_below o (p.nrow - 3) (λ i. o.times (combined o c coefficient ch (3 + i) s) (E (3 + i) s)))
+  linear_there : (s : ℕ) → s < p.wr → entry o dots (opened_count + s) ≡ o.plus (E 1 s) (sum_below o (p.nrow - 3) (λ i. o.times (combined o c coefficient ch (3 + i) s) (E (3 + i) s)))
   linear_there s h =
-      let k = 128 + s in
+      let k = opened_count + s in
       let n = p.nrow - 3 in
       let R : ℕ → A = λ i. extension o e.element (row rows i) k in
       let C : ℕ → A = λ i. extension o e.element (lists i) k in
@@ -172,16 +173,16 @@ module _ {A : Type 0} (o : Ops A) (e : Coding A) (laws : Laws o e.size e.number 
       let r = laws.ring in
       let n = p.nrow - 3 in
       let L = depth c + 1 in
-      let f : ℕ → A = λ s. entry o dots (128 + s) in
+      let f : ℕ → A = λ s. entry o dots (opened_count + s) in
       let rest : ℕ → A = λ s. sum_below o n (λ i. o.times (combined o c coefficient ch (3 + i) s) (E (3 + i) s)) in
-      let width : p.block - 128 ≡ p.wr = omega (arith, b.block) in
+      let width : p.block - opened_count ≡ p.wr = omega (arith, b.block) in
       let lambda : ℕ → A = entry o ch.lambda in
       let copies = sum_below o (3 * depth c) (λ k. o.times (entry o ch.mu k) (copy_gap o c rows k)) in
       let lines = sum_below o L (λ l. o.times (lambda l) (line l)) in
       let rights = sum_below o L (λ l. o.times (lambda l) (right l)) in
       let second = second_sum o c rows in
       let whole : o.plus second (o.plus lines copies) ≡ rights =
-      sym (ap (λ values. sum_below o (p.block - 128) (λ i. entry o values (128 + i))) is
+      sym (ap (λ values. sum_below o (p.block - opened_count) (λ i. entry o values (opened_count + i))) is
       ∙ ap (λ (k : ℕ). sum_below o k f) width
       ∙ sum-ext o r p.wr f (λ s. o.plus (E 1 s) (rest s)) linear_there
       ∙ sum-plus o r p.wr (E 1) rest
@@ -197,14 +198,14 @@ module _ {A : Type 0} (o : Ops A) (e : Coding A) (laws : Laws o e.size e.number 
 
   -- ---- the quadratic answer's zeros
 
-  triple_value : (t s which : ℕ) → t < p.ntriple → s < p.wr → which < 3 → extension o e.element (row rows (3 + p.nwrow + 3 * t + which)) (128 + s) ≡ E (3 + p.nwrow + 3 * t + which) s
+  triple_value : (t s which : ℕ) → t < p.ntriple → s < p.wr → which < 3 → extension o e.element (row rows (3 + p.nwrow + 3 * t + which)) (opened_count + s) ≡ E (3 + p.nwrow + 3 * t + which) s
   triple_value t s which g h d =
       let many = in_triple o e.element p rows b are t which g d in
-      row_value (3 + p.nwrow + 3 * t + which) (128 + s) (omega (arith, many, h, b.block)) (omega (arith, many, b.block, b.dblock))
+      row_value (3 + p.nwrow + 3 * t + which) (opened_count + s) (omega (arith, many, h, b.block)) (omega (arith, many, b.block, b.dblock))
 
   pub quadratic_total : sent_quads ≡ quads → (s : ℕ) → s < p.wr → combination o (E 2 s) (product_gap o c rows s) (entry o ch.v) p.ntriple ≡ o.zero
   quadratic_total is s h =
-      let k = 128 + s in
+      let k = opened_count + s in
       let v = entry o ch.v in
       let R : ℕ → A = λ i. extension o e.element (row rows i) k in
       let T : ℕ → A = λ t. triple_at o laws.ring e.element p rows t (e.element k) in
@@ -221,7 +222,7 @@ module _ {A : Type 0} (o : Ops A) (e : Coding A) (laws : Laws o e.size e.number 
       (ap (λ x. minus o (o.times x (R (first + 1))) (R (first + 2))) (ap R y ∙ triple_value t s 0 g h (omega arith))
       ∙ ap (λ x. minus o (o.times (F t 0) x) (R (first + 2))) (triple_value t s 1 g h (omega arith))
       ∙ ap (minus o (o.times (F t 0) (F t 1))) (triple_value t s 2 g h (omega arith))))) in
-      sym there ∙ ap (λ xs. entry o xs k) (sym is) ∙ middle_entry o (p.block - 128) proof.quad_head proof.quad_tail 128 s lengths.quad_head (omega (arith, h, b.block))
+      sym there ∙ ap (λ xs. entry o xs k) (sym is) ∙ middle_entry o (p.block - opened_count) proof.quad_head proof.quad_tail opened_count s lengths.quad_head (omega (arith, h, b.block))
 
   -- ---- all together
 

@@ -1,4 +1,5 @@
 -- Acceptance is passing by the draws of the proof's own tape.
+use Rattle.lzk_profile.specs.Profile.{opened_count}
 use Rattle.std.specs.Prelude.{ℕ, ◌*◌, ◌≤◌, List}
 use Rattle.std.proofs.Common.{sym, ap, ◌∙◌, arith}
 use Rattle.lzk_field.specs.Coding.{Coding}
@@ -14,15 +15,15 @@ use Rattle.lzk_verify.proofs.Acceptance.{accepts_exactly}
 use Rattle.lzk_sound_verdict.specs.Sound.{AreDrawn, PassesByTape, AcceptedPasses}
 
 module _ {A : Type 0} (o : Ops A) (e : Coding A) (c : Wiring A) (session : List ℕ) (public : List A) (b : AreBounded (params_of c)) where
-  enough : 128 ≤ (params_of c).mcol
+  enough : opened_count ≤ (params_of c).mcol
   enough = omega (arith, b.mcol, b.block)
 
   are_drawn : (proof : Proof A) → AreDrawn o e c session public proof
   unfolding transcript
   are_drawn proof = record {
-    count = length-opened (params_of c).mcol 128 _ enough;
-    below = λ k h. opened-below (params_of c).mcol 128 _ k h;
-    ascending = λ i j l h. opened-ascends (params_of c).mcol 128 _ i j l h;
+    count = length-opened (params_of c).mcol opened_count _ enough;
+    below = λ k h. opened-below (params_of c).mcol opened_count _ k h;
+    ascending = λ i j l h. opened-ascends (params_of c).mcol opened_count _ i j l h;
   }
 
   passing : (bytes : List ℕ) → AllHold o e c session public bytes → PassesByTape o e c session public bytes

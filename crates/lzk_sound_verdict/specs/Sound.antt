@@ -1,4 +1,5 @@
 -- What acceptance is: a file of a proof whose answers pass for the draws of its own tape.
+use Rattle.lzk_profile.specs.Profile.{opened_count}
 use Rattle.std.specs.Prelude.{◌≡◌, ℕ, ◌<◌, List, length, slice_index}
 use Rattle.lzk_field.specs.Coding.{Coding}
 use Rattle.lzk_field.specs.Ring.{Ops}
@@ -18,7 +19,7 @@ module _ {A : Type 0} (o : Ops A) (e : Coding A) (c : Wiring A) (session : List 
 
   -- 128 columns are opened, ascending
   pub record AreDrawn : Type 0 where
-    pub count : length drawn.columns ≡ 128
+    pub count : length drawn.columns ≡ opened_count
     pub below : (k : ℕ) → k < length drawn.columns → slice_index drawn.columns k < (params_of c).mcol
     pub ascending : (i j : ℕ) → i < j → j < length drawn.columns
         → slice_index drawn.columns i < slice_index drawn.columns j

@@ -1,5 +1,6 @@
 -- A worked instance. The circuit has one layer with one wire, which is the one, so that its output is never 0. The prover commits to a table that is far
 -- from codewords and sends zeros, and wins by draws of zeros.
+use Rattle.lzk_profile.specs.Profile.{opened_count}
 use Rattle.std.specs.Prelude.{[], ◌∷◌}
 use Rattle.std.specs.List.{range_with_len}
 use Rattle.std.proofs.Common.{refl, sym, ap, ◌∙◌, arith}
@@ -34,8 +35,8 @@ module _ {A : Type 0} (o : Ops A) (e : Coding A) (laws : Laws o e.size e.number 
           only = λ draws columns long many seen. zeros_passed o e laws c b public table masks draws (zeros_seen o e laws draws seen) columns;
         },
         (
-          some_sets 128 (params_of c).mcol (omega (arith, b.mcol, b.block)),
-          pairs_with_zeros o e laws (draws_from (all_elements e) (whole_count c)) (sets_of 128 (range_with_len 0 (params_of c).mcol)) (some_draws o e laws (all_elements e) (whole_count c) (zero_is_in o e laws)),
+          some_sets opened_count (params_of c).mcol (omega (arith, b.mcol, b.block)),
+          pairs_with_zeros o e laws (draws_from (all_elements e) (whole_count c)) (sets_of opened_count (range_with_len 0 (params_of c).mcol)) (some_draws o e laws (all_elements e) (whole_count c) (zero_is_in o e laws)),
         ),
       )
 

@@ -1,4 +1,5 @@
 -- Zeros pass by draws of zeros.
+use Rattle.lzk_profile.specs.Profile.{opened_count}
 use Rattle.std.specs.Prelude.{◌≡◌, ℕ, ◌+◌, ◌-◌, ◌*◌, ◌<◌, List, [], ◌∷◌, ◌++◌, length, flat_map, take, drop, replicate, slice_index}
 use Rattle.std.proofs.Common.{zero, suc, refl, sym, ap, ◌∙◌, arith, length-append}
 use Rattle.std.proofs.lemmas.List.{get_or_append_left, get_or-append-add, length-replicate}
@@ -78,8 +79,8 @@ module _ {A : Type 0} (o : Ops A) (e : Coding A) (laws : Laws o e.size e.number 
 
   quads_zero : AllZero o (quadratic_values o p proof)
   quads_zero =
-      zeros_append o (replicate 128 o.zero) (replicate (p.block - 128) o.zero ++ replicate (p.dblock - p.block) o.zero) (zeros_replicate o 128)
-      (zeros_append o (replicate (p.block - 128) o.zero) (replicate (p.dblock - p.block) o.zero) (zeros_replicate o (p.block - 128)) (zeros_replicate o (p.dblock - p.block)))
+      zeros_append o (replicate opened_count o.zero) (replicate (p.block - opened_count) o.zero ++ replicate (p.dblock - p.block) o.zero) (zeros_replicate o opened_count)
+      (zeros_append o (replicate (p.block - opened_count) o.zero) (replicate (p.dblock - p.block) o.zero) (zeros_replicate o (p.block - opened_count)) (zeros_replicate o (p.dblock - p.block)))
 
   pub zeros_passed : IsPassed o e c public (zeros_sent o c table) draws columns
   zeros_passed =
@@ -89,7 +90,7 @@ module _ {A : Type 0} (o : Ops A) (e : Coding A) (laws : Laws o e.size e.number 
         messages = length-replicate p.nsum o.zero;
         ldt = length-replicate p.block o.zero;
         dot = length-replicate p.dblock o.zero;
-        quad_head = length-replicate 128 o.zero;
+        quad_head = length-replicate opened_count o.zero;
         quad_tail = length-replicate (p.dblock - p.block) o.zero;
         opened = length_of_flat (column_of o c (zeros_sent o c table)) p.nrow columns (λ j. length-map-range_with_len (λ i. table i j) 0 p.nrow);
         low_degree = λ k h.
@@ -97,7 +98,7 @@ module _ {A : Type 0} (o : Ops A) (e : Coding A) (laws : Laws o e.size e.number 
             zero_extension o laws.ring e.element (replicate p.block o.zero) (p.dblock + slice_index columns k) (zeros_replicate o p.block)
             ∙ sym (zero_both o laws.ring (at_row o p proof k 0) (sum_below o (p.nrow - 3) f) (mask_zero k 0 h (omega arith))
             (zero_sum o laws.ring (p.nrow - 3) f (λ i. zero_product o laws.ring (entry o ch.u i) (at_row o p proof k (3 + i)) (u_zeros i))));
-        linear_sum = zero_sum o laws.ring (p.block - 128) (λ i. entry o proof.dot (128 + i)) (λ i. zeros_replicate o p.dblock (128 + i))
+        linear_sum = zero_sum o laws.ring (p.block - opened_count) (λ i. entry o proof.dot (opened_count + i)) (λ i. zeros_replicate o p.dblock (opened_count + i))
             ∙ sym (zero_wanted o laws.ring c coefficient ch lambda_zeros mu_zeros (right_of o e.element c public script proof.messages));
         linear = λ k h.
             let at = p.dblock + slice_index columns k in

@@ -1,4 +1,5 @@
 -- Lists of zeros, and what comes of them.
+use Rattle.lzk_profile.specs.Profile.{opened_count}
 use Rattle.std.specs.Prelude.{◌≡◌, ℕ, ◌+◌, ◌*◌, Bool, true, false, cond, List, [], ◌∷◌, ◌++◌, length, map, take, drop, replicate}
 use Rattle.std.specs.List.{range_with_len}
 use Rattle.std.proofs.Common.{zero, suc, refl, ap, ◌∙◌}
@@ -87,7 +88,7 @@ module _ {A : Type 0} (o : Ops A) (r : RingLaws o) where
     pub zero_row : (row : ℕ) → AllZero o (combined_row o c coefficient ch row)
     unfolding combined_row
     zero_row row =
-        zeros_append o (replicate 128 o.zero) (map (combined o c coefficient ch row) (range_with_len 0 (params_of c).wr)) (zeros_replicate o 128)
+        zeros_append o (replicate opened_count o.zero) (map (combined o c coefficient ch row) (range_with_len 0 (params_of c).wr)) (zeros_replicate o opened_count)
         (zeros_map o (combined o c coefficient ch row) (range_with_len 0 (params_of c).wr) (zero_combined row))
 
     pub zero_wanted : (right : ℕ → A) → wanted o c right ch ≡ o.zero

@@ -1,4 +1,5 @@
 -- What passes by draws of zeros, so that what is counted of all provers is not nothing.
+use Rattle.lzk_profile.specs.Profile.{opened_count}
 use Rattle.std.specs.Prelude.{◌≡◌, ℕ, ◌<◌, ◌≤◌, Bool, List, length}
 use Rattle.std.specs.List.{range_with_len}
 use Rattle.lzk_field.specs.Coding.{Coding}
@@ -14,7 +15,7 @@ use Rattle.lzk_sound_worked.specs.Zeros.{zeros_sent, zero_draws, half_table, Has
 
 -- all sets of 128 columns
 abbrev pub column_sets : {A : Type 0} → Wiring A → List (List ℕ)
-column_sets c = sets_of 128 (range_with_len 0 (params_of c).mcol)
+column_sets c = sets_of opened_count (range_with_len 0 (params_of c).mcol)
 
 -- to how many pairs of a list of draws and a set of columns a test says yes, as `FalseIsRare` counts
 abbrev pub yes_count : {A : Type 0} → Coding A → Wiring A → (List A → List ℕ → Bool) → ℕ

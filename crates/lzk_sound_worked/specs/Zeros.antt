@@ -1,4 +1,5 @@
 -- A prover who sends zeros, and a table for him that is far from codewords.
+use Rattle.lzk_profile.specs.Profile.{opened_count}
 use Rattle.std.specs.Prelude.{◌≡◌, ℕ, ◌-◌, ◌*◌, ◌<◌, ◌==◌, ◌&&◌, nat_lt, cond, Bool, true, List, [], ◌∷◌, replicate}
 use Rattle.lzk_field.specs.Coding.{Coding}
 use Rattle.lzk_field.specs.Ring.{Ops}
@@ -14,7 +15,7 @@ module _ {A : Type 0} (o : Ops A) (c : Wiring A) where
     messages = λ draws. replicate (params_of c).nsum o.zero;
     ldt = λ draws. replicate (params_of c).block o.zero;
     dot = λ draws. replicate (params_of c).dblock o.zero;
-    quad_head = λ draws. replicate 128 o.zero;
+    quad_head = λ draws. replicate opened_count o.zero;
     quad_tail = λ draws. replicate ((params_of c).dblock - (params_of c).block) o.zero;
   }
 

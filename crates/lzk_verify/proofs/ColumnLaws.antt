@@ -1,4 +1,5 @@
 -- Sums over the elements of a column and over the values of rows.
+use Rattle.lzk_profile.specs.Profile.{opened_count}
 use Rattle.std.specs.Prelude.{◌≡◌, ℕ, ◌+◌, ◌-◌, ◌*◌, ◌<◌, ◌≤◌, List, length, take, drop}
 use Rattle.std.proofs.Common.{sym, ap, ◌∙◌, arith}
 use Rattle.std.proofs.lemmas.List.{get_or-drop, get_or-take}
@@ -80,16 +81,16 @@ module _ {A : Type 0} (o : Ops A) where
   pub rows_long : (element : ℕ → A) (p : Params) (f : Factored A) (lists : ℕ → List A) → AreWeightedRows o element p f lists → (i : ℕ) → length (lists i) ≡ p.block
   rows_long element p f lists are i = sym (length_weighted o element (lists i)) ∙ are.lengths i
 
-  module _ (r : RingLaws o) (element : ℕ → A) (p : Params) (point : ℕ) (column factors : List A) (last : A) (f : Factored A) (lists : ℕ → List A) (are : AreWeightedRows o element p f lists) (block : p.block ≡ 128 + p.wr) (few : f.rows ≤ p.nrow - 3) (size : length factors ≡ p.block) (long : (i : ℕ) → length (lists i) ≡ p.block) (extends : Extends o element point factors last) where
+  module _ (r : RingLaws o) (element : ℕ → A) (p : Params) (point : ℕ) (column factors : List A) (last : A) (f : Factored A) (lists : ℕ → List A) (are : AreWeightedRows o element p f lists) (block : p.block ≡ opened_count + p.wr) (few : f.rows ≤ p.nrow - 3) (size : length factors ≡ p.block) (long : (i : ℕ) → length (lists i) ≡ p.block) (extends : Extends o element point factors last) where
     abbrev weighted_row : ℕ → List A
     weighted_row i = weighted o element (lists i)
 
     abbrev back : ℕ → A
-    back s = entry o factors (128 + s)
+    back s = entry o factors (opened_count + s)
 
     -- the sum over the places of a row's elements
     abbrev behind : ℕ → A
-    behind i = sum_below o p.wr (λ s. o.times (entry o (weighted_row (3 + i)) (128 + s)) (back s))
+    behind i = sum_below o p.wr (λ s. o.times (entry o (weighted_row (3 + i)) (opened_count + s)) (back s))
 
     abbrev place_sum : ℕ → A
     place_sum k = sum_below o p.wr (λ s. o.times (entry o f.place_factors (k * p.wr + s)) (back s))
@@ -100,18 +101,18 @@ module _ {A : Type 0} (o : Ops A) where
     extended : (i : ℕ) → extension o element (lists (3 + i)) point ≡ o.times (behind i) last
     extended i =
         let xs = weighted_row (3 + i) in
-        let wide : length xs ≡ 128 + p.wr = are.lengths (3 + i) ∙ block in
+        let wide : length xs ≡ opened_count + p.wr = are.lengths (3 + i) ∙ block in
         sym (extends (lists (3 + i)) (long (3 + i) ∙ sym size))
-        ∙ ap (λ z. o.times z last) (ap (λ n. sum_below o n (λ s. o.times (entry o xs s) (entry o factors s))) wide ∙ sum_behind r 128 p.wr (entry o xs) (entry o factors) (are.front (3 + i)))
+        ∙ ap (λ z. o.times z last) (ap (λ n. sum_below o n (λ s. o.times (entry o xs s) (entry o factors s))) wide ∙ sum_behind r opened_count p.wr (entry o xs) (entry o factors) (are.front (3 + i)))
 
     private_behind : (i : ℕ) → i < f.rows → behind i ≡ sum_below o 4 (λ k. o.times (entry o f.row_factors (k * f.rows + i)) (place_sum k))
     private_behind i h =
-        sum-ext o r p.wr (λ s. o.times (entry o (weighted_row (3 + i)) (128 + s)) (back s)) (λ s. o.times (by_factors o p.wr f i s) (back s)) (λ s q. ap (λ z. o.times z (back s)) (sym (are.back.private_rows i s h q)))
+        sum-ext o r p.wr (λ s. o.times (entry o (weighted_row (3 + i)) (opened_count + s)) (back s)) (λ s. o.times (by_factors o p.wr f i s) (back s)) (λ s q. ap (λ z. o.times z (back s)) (sym (are.back.private_rows i s h q)))
         ∙ factored_sum r 4 p.wr (λ k. entry o f.row_factors (k * f.rows + i)) back (λ k s. entry o f.place_factors (k * p.wr + s))
 
     other_behind : (i : ℕ) → i < p.nrow - 3 - f.rows → behind (f.rows + i) ≡ table_sum i
     other_behind i h =
-        sum-ext o r p.wr (λ s. o.times (entry o (weighted_row (3 + (f.rows + i))) (128 + s)) (back s)) (λ s. o.times (entry o f.table (i * p.wr + s)) (back s)) (λ s q. ap (λ z. o.times z (back s)) (sym (are.back.other_rows i s h q)))
+        sum-ext o r p.wr (λ s. o.times (entry o (weighted_row (3 + (f.rows + i))) (opened_count + s)) (back s)) (λ s. o.times (entry o f.table (i * p.wr + s)) (back s)) (λ s q. ap (λ z. o.times z (back s)) (sym (are.back.other_rows i s h q)))
 
     -- What the rows add at a point, by factors and over a table, is the sum of the rows' extensions times the elements.
     pub linear_sums : o.times (o.plus (sum_below o 4 (λ k. o.times (sum_below o f.rows (λ i. o.times (entry o f.row_factors (k * f.rows + i)) (entry o column (3 + i)))) (place_sum k)))

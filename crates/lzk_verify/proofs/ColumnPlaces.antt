@@ -1,4 +1,5 @@
 -- How many opened columns are whole, and how many fields of the next, by how many fields are whole.
+use Rattle.lzk_profile.specs.Profile.{opened_count}
 use Rattle.std.specs.Prelude.{◌≡◌, refl, ℕ, ◌+◌, ◌-◌, ◌*◌, ◌/◌, ◌%◌, ◌<◌, ◌≤◌, min, cond, nat_lt, Bool, true, false}
 use Rattle.std.proofs.Common.{ap, ◌∙◌, arith}
 use Rattle.std.proofs.lemmas.Nat.{div-mul-add, mod-mul-add, mul-add-lt, le-div}
@@ -16,7 +17,7 @@ past a b = omega arith
 module _ (p : Params) where
   -- before the opened columns there are none
   pub none_whole : (n : ℕ) → n ≤ before_opened p → whole_columns p n ≡ 0
-  none_whole n h = ap (λ m. min 128 (m / (1 + p.nrow))) (omega (arith, h)) ∙ ap (min 128) (div-mul-add 0 (1 + p.nrow) 0 (omega arith))
+  none_whole n h = ap (λ m. min opened_count (m / (1 + p.nrow))) (omega (arith, h)) ∙ ap (min opened_count) (div-mul-add 0 (1 + p.nrow) 0 (omega arith))
 
   pub none_begun : (n : ℕ) → n ≤ before_opened p → column_fields p n ≡ 0
   none_begun n h =
@@ -27,22 +28,22 @@ module _ (p : Params) where
   behind k i = ap (λ m. m - before_opened p) (omega arith) ∙ past (before_opened p) (k * (1 + p.nrow) + i)
 
   -- within column k, of which i fields are whole
-  pub whole_within : (k i : ℕ) → k < 128 → i < 1 + p.nrow → whole_columns p (column_place p k + i) ≡ k
+  pub whole_within : (k i : ℕ) → k < opened_count → i < 1 + p.nrow → whole_columns p (column_place p k + i) ≡ k
   whole_within k i below inside =
-      ap (λ m. min 128 (m / (1 + p.nrow))) (behind k i) ∙ ap (min 128) (div-mul-add k (1 + p.nrow) i inside) ∙ omega (arith, below)
+      ap (λ m. min opened_count (m / (1 + p.nrow))) (behind k i) ∙ ap (min opened_count) (div-mul-add k (1 + p.nrow) i inside) ∙ omega (arith, below)
 
-  before_end : (k i : ℕ) → k < 128 → i < 1 + p.nrow → nat_lt (column_place p k + i) (before_count p) ≡ true
-  before_end k i below inside = let h : k * (1 + p.nrow) + i < (1 + p.nrow) * 128 = mul-add-lt k (1 + p.nrow) i 128 below inside in grind arith
+  before_end : (k i : ℕ) → k < opened_count → i < 1 + p.nrow → nat_lt (column_place p k + i) (before_count p) ≡ true
+  before_end k i below inside = let h : k * (1 + p.nrow) + i < (1 + p.nrow) * opened_count = mul-add-lt k (1 + p.nrow) i opened_count below inside in grind arith
 
-  pub fields_within : (k i : ℕ) → k < 128 → i < 1 + p.nrow → column_fields p (column_place p k + i) ≡ i
+  pub fields_within : (k i : ℕ) → k < opened_count → i < 1 + p.nrow → column_fields p (column_place p k + i) ≡ i
   fields_within k i below inside =
       ap (λ b. cond b ((column_place p k + i - before_opened p) % (1 + p.nrow)) 0) (before_end k i below inside)
       ∙ ap (λ m. m % (1 + p.nrow)) (behind k i) ∙ mod-mul-add k (1 + p.nrow) i inside
 
   -- behind them all are whole
-  pub all_whole : (n : ℕ) → before_count p ≤ n → whole_columns p n ≡ 128
+  pub all_whole : (n : ℕ) → before_count p ≤ n → whole_columns p n ≡ opened_count
   all_whole n h =
-      let m : 128 ≤ (n - before_opened p) / (1 + p.nrow) = le-div 128 (n - before_opened p) (1 + p.nrow) (omega arith) (omega (arith, h)) in omega (arith, m)
+      let m : opened_count ≤ (n - before_opened p) / (1 + p.nrow) = le-div opened_count (n - before_opened p) (1 + p.nrow) (omega arith) (omega (arith, h)) in omega (arith, m)
 
   pub none_open : (n : ℕ) → before_count p ≤ n → column_fields p n ≡ 0
   none_open n h = let b : nat_lt n (before_count p) ≡ false = grind arith in ap (λ b. cond b ((n - before_opened p) % (1 + p.nrow)) 0) b

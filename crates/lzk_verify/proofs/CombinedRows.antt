@@ -1,4 +1,5 @@
 -- Rows of combined coefficients, from factors and a table that give them.
+use Rattle.lzk_profile.specs.Profile.{opened_count}
 use Rattle.std.specs.Prelude.{◌≡◌, ℕ, ◌+◌, ◌*◌, ◌/◌, ◌<◌, List, length, map, replicate}
 use Rattle.std.specs.List.{range_with_len}
 use Rattle.std.proofs.Common.{sym, ap, subst, ◌∙◌, arith}
@@ -20,7 +21,7 @@ use Rattle.lzk_verify.specs.Desk.{AreRows, HasFactors}
 module _ {A : Type 0} (o : Ops A) (c : Wiring A) (ch : Challenges A) where
   module _ (f : ℕ → ℕ → A) where
     abbrev row_front : List A
-    row_front = replicate 128 o.zero
+    row_front = replicate opened_count o.zero
 
     abbrev row_back : ℕ → List A
     row_back row = map (combined o c f ch row) (range_with_len 0 (params_of c).wr)
@@ -30,13 +31,13 @@ module _ {A : Type 0} (o : Ops A) (c : Wiring A) (ch : Challenges A) where
 
     length_row : (row : ℕ) → length (combined_row o c f ch row) ≡ (params_of c).block
     unfolding combined_row
-    length_row row = length-append row_front (row_back row) ∙ ap (λ n. 128 + n) (length_back row)
+    length_row row = length-append row_front (row_back row) ∙ ap (λ n. opened_count + n) (length_back row)
 
-    row_front_is : (row s : ℕ) → s < 128 → entry o (combined_row o c f ch row) s ≡ o.zero
+    row_front_is : (row s : ℕ) → s < opened_count → entry o (combined_row o c f ch row) s ≡ o.zero
     unfolding combined_row
-    row_front_is row s h = get_or_append_left row_front (row_back row) o.zero s h ∙ get_or-replicate 128 s o.zero o.zero h
+    row_front_is row s h = get_or_append_left row_front (row_back row) o.zero s h ∙ get_or-replicate opened_count s o.zero o.zero h
 
-    row_back_is : (row s : ℕ) → s < (params_of c).wr → entry o (combined_row o c f ch row) (128 + s) ≡ combined o c f ch row s
+    row_back_is : (row s : ℕ) → s < (params_of c).wr → entry o (combined_row o c f ch row) (opened_count + s) ≡ combined o c f ch row s
     unfolding combined_row
     row_back_is row s h =
         get_or-append-add row_front (row_back row) s o.zero

@@ -1,4 +1,5 @@
 -- The verdict of what an intake keeps of all fields of a proof is that on the proof.
+use Rattle.lzk_profile.specs.Profile.{opened_count}
 use Rattle.std.specs.Prelude.{◌≡◌, ℕ, ◌+◌, ◌-◌, Option, Some, None, List, ◌++◌, length, take, drop}
 use Rattle.std.proofs.Common.{sym, ap, ◌∙◌, inl, inr, arith}
 use Rattle.std.proofs.lemmas.List.{length-append, append_assoc, take_at, drop_at, take_all}
@@ -61,7 +62,7 @@ module _ {A : Type 0} (p : Params) (q : Proof A) (lengths : HasLengths p q) wher
   front_3 : length ((m ++ l) ++ d) ≡ p.nsum + p.block + p.dblock
   front_3 = length-append (m ++ l) d ∙ (λ i. front_2 i + lengths.dot i)
 
-  front_4 : length (((m ++ l) ++ d) ++ h) ≡ p.nsum + p.block + p.dblock + 128
+  front_4 : length (((m ++ l) ++ d) ++ h) ≡ p.nsum + p.block + p.dblock + opened_count
   front_4 = length-append ((m ++ l) ++ d) h ∙ (λ i. front_3 i + lengths.quad_head i)
 
   turn_2 : sent_of q ≡ (m ++ l) ++ (d ++ (h ++ t))
@@ -77,11 +78,11 @@ module _ {A : Type 0} (p : Params) (q : Proof A) (lengths : HasLengths p q) wher
   dot_part = ap (dot_in p) turn_2 ∙ slice_at (m ++ l) d (h ++ t) (p.nsum + p.block) p.dblock front_2 lengths.dot
 
   pub head_part : head_in p (sent_of q) ≡ h
-  head_part = ap (head_in p) turn_3 ∙ slice_at ((m ++ l) ++ d) h t (p.nsum + p.block + p.dblock) 128 front_3 lengths.quad_head
+  head_part = ap (head_in p) turn_3 ∙ slice_at ((m ++ l) ++ d) h t (p.nsum + p.block + p.dblock) opened_count front_3 lengths.quad_head
 
   pub tail_part : tail_in p (sent_of q) ≡ t
   tail_part =
-      ap (tail_in p) turn_4 ∙ ap (take (p.dblock - p.block)) (drop_at (((m ++ l) ++ d) ++ h) t (p.nsum + p.block + p.dblock + 128) front_4)
+      ap (tail_in p) turn_4 ∙ ap (take (p.dblock - p.block)) (drop_at (((m ++ l) ++ d) ++ h) t (p.nsum + p.block + p.dblock + opened_count) front_4)
       ∙ take_all (p.dblock - p.block) t (omega (arith, lengths.quad_tail))
 
 -- an intake keeps of this proof what it is judged by
@@ -141,5 +142,5 @@ transcript_is o e c session public q lengths =
     (λ i. record {
       script = script o e (m i) c start;
       challenges = challenges e p (after_script o e (m i) c start);
-      columns = opened p.mcol 128 (with_array e (t i) (with_array e (h i) (with_array e (d i) (with_array e (l i) (after_draws (challenge_count p) (after_script o e (m i) c start))))));
+      columns = opened p.mcol opened_count (with_array e (t i) (with_array e (h i) (with_array e (d i) (with_array e (l i) (after_draws (challenge_count p) (after_script o e (m i) c start))))));
     })

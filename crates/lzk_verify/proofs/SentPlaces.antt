@@ -1,4 +1,5 @@
 -- Where the elements stand that are sent before the columns, and what a field's block says of them.
+use Rattle.lzk_profile.specs.Profile.{opened_count, most_digests}
 use Rattle.std.specs.Prelude.{◌≡◌, refl, ℕ, ◌+◌, ◌<◌, Some, None, List, length, take}
 use Rattle.std.proofs.Common.{sym, ap, subst, ◌∙◌, arith}
 use Rattle.std.proofs.lemmas.List.{length-take, take_min, take_all}
@@ -38,7 +39,7 @@ sent_number p (Message i) k is = let e : i ≡ k = cc in omega (arith, e)
 sent_number p (Ldt i) k is = let e : p.nsum + i ≡ k = cc in omega (arith, e)
 sent_number p (Dot i) k is = let e : p.nsum + p.block + i ≡ k = cc in omega (arith, e)
 sent_number p (QuadHead i) k is = let e : p.nsum + p.block + p.dblock + i ≡ k = cc in omega (arith, e)
-sent_number p (QuadTail i) k is = let e : p.nsum + p.block + p.dblock + 128 + i ≡ k = cc in omega (arith, e)
+sent_number p (QuadTail i) k is = let e : p.nsum + p.block + p.dblock + opened_count + i ≡ k = cc in omega (arith, e)
 sent_number p Magic k is = absurd (let t : None ≡ Some k = is in cc)
 sent_number p Id k is = absurd (let t : None ≡ Some k = is in cc)
 sent_number p Root k is = absurd (let t : None ≡ Some k = is in cc)
@@ -63,13 +64,13 @@ sent_sort p Count k is = absurd (let t : None ≡ Some k = is in cc)
 sent_sort p (Digest i) k is = absurd (let t : None ≡ Some k = is in cc)
 
 -- and stands among them
-pub sent_inside : (p : Params) (part : ProofPart) (k : ℕ) → AreBounded p → HasPart p 1536 part
+pub sent_inside : (p : Params) (part : ProofPart) (k : ℕ) → AreBounded p → HasPart p most_digests part
     → place_of p part ≡ Some k → k < sent_count p
 sent_inside p (Message i) k b has is = let e : i ≡ k = cc in omega (arith, e, has)
 sent_inside p (Ldt i) k b has is = let e : p.nsum + i ≡ k = cc in omega (arith, e, has)
 sent_inside p (Dot i) k b has is = let e : p.nsum + p.block + i ≡ k = cc in omega (arith, e, has)
 sent_inside p (QuadHead i) k b has is = let e : p.nsum + p.block + p.dblock + i ≡ k = cc in omega (arith, e, has)
-sent_inside p (QuadTail i) k b has is = let e : p.nsum + p.block + p.dblock + 128 + i ≡ k = cc in omega (arith, e, has)
+sent_inside p (QuadTail i) k b has is = let e : p.nsum + p.block + p.dblock + opened_count + i ≡ k = cc in omega (arith, e, has)
 sent_inside p Magic k b has is = absurd (let t : None ≡ Some k = is in cc)
 sent_inside p Id k b has is = absurd (let t : None ≡ Some k = is in cc)
 sent_inside p Root k b has is = absurd (let t : None ≡ Some k = is in cc)

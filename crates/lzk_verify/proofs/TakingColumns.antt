@@ -1,4 +1,5 @@
 -- The fields of an opened column are taken, and those of the path.
+use Rattle.lzk_profile.specs.Profile.{opened_count, most_digests}
 use Rattle.std.specs.Prelude.{◌≡◌, refl, ℕ, ◌+◌, ◌-◌, ◌*◌, ◌<◌, ◌≤◌, true, cond, nat_le, nat_lt, Option, List, [], ◌∷◌, ◌++◌, length, map, take, drop, slice_index_or, slice_set}
 use Rattle.std.proofs.Common.{sym, ap, subst, ◌∙◌, arith}
 use native.Mathlib.Decide.{dec_lt}
@@ -24,7 +25,7 @@ use Rattle.lzk_verify.proofs.LeastLaws.{least_more}
 use Rattle.lzk_verify.proofs.Stored.{IsStored}
 use Rattle.lzk_verify.proofs.TakingOpened.{IsLate, reads, low, linear, quadratic, moves, sent_stays, given_stays, stored_within, stored_column}
 
-module _ (p : Params) (n j i : ℕ) (number : n ≡ column_place p j + i) (below : j < 128) where
+module _ (p : Params) (n j i : ℕ) (number : n ≡ column_place p j + i) (below : j < opened_count) where
   -- so many columns are whole, and so many fields of the next
   whole_here : i < 1 + p.nrow → whole_columns p n ≡ j
   whole_here h = ap (whole_columns p) number ∙ whole_within p j i below h
@@ -36,22 +37,22 @@ module _ (p : Params) (n j i : ℕ) (number : n ≡ column_place p j + i) (below
   whole_next : i ≡ 1 + p.nrow → whole_columns p n ≡ j + 1
   whole_next h =
       let more : n ≡ column_place p (j + 1) + 0 = omega (arith, number, h) in
-      elim (dec_lt (j + 1) 128) [
+      elim (dec_lt (j + 1) opened_count) [
         | yes l ↦ ap (whole_columns p) more ∙ whole_within p (j + 1) 0 l (omega arith)
-        | no l ↦ let last : j + 1 ≡ 128 = omega (arith, below) in let e : n ≡ before_count p = more ∙ ap (λ m. before_opened p + m * (1 + p.nrow) + 0) last ∙ omega arith in all_whole p n (omega (arith, e)) ∙ sym last
+        | no l ↦ let last : j + 1 ≡ opened_count = omega (arith, below) in let e : n ≡ before_count p = more ∙ ap (λ m. before_opened p + m * (1 + p.nrow) + 0) last ∙ omega arith in all_whole p n (omega (arith, e)) ∙ sym last
       ]
 
   fields_next : i ≡ 1 + p.nrow → column_fields p n ≡ 0
   fields_next h =
       let more : n ≡ column_place p (j + 1) + 0 = omega (arith, number, h) in
-      elim (dec_lt (j + 1) 128) [
+      elim (dec_lt (j + 1) opened_count) [
         | yes l ↦ ap (column_fields p) more ∙ fields_within p (j + 1) 0 l (omega arith)
-        | no l ↦ let last : j + 1 ≡ 128 = omega (arith, below) in let e : n ≡ before_count p = more ∙ ap (λ m. before_opened p + m * (1 + p.nrow) + 0) last ∙ omega arith in none_open p n (omega (arith, e))
+        | no l ↦ let last : j + 1 ≡ opened_count = omega (arith, below) in let e : n ≡ before_count p = more ∙ ap (λ m. before_opened p + m * (1 + p.nrow) + 0) last ∙ omega arith in none_open p n (omega (arith, e))
       ]
 
 -- fields of the opened columns stand before the number of digests
-column_inside : (p : Params) (j i n : ℕ) → n ≡ column_place p j + i → j < 128 → i < 1 + p.nrow → n ≤ before_count p
-column_inside p j i n number below inside = let h : j * (1 + p.nrow) + i < (1 + p.nrow) * 128 = mul-add-lt j (1 + p.nrow) i 128 below inside in omega (arith, h, number)
+column_inside : (p : Params) (j i n : ℕ) → n ≡ column_place p j + i → j < opened_count → i < 1 + p.nrow → n ≤ before_count p
+column_inside p j i n number below inside = let h : j * (1 + p.nrow) + i < (1 + p.nrow) * opened_count = mul-add-lt j (1 + p.nrow) i opened_count below inside in omega (arith, h, number)
 
 module _ {A : Type 0} (o : Ops A) (e : Coding A) (c : Wiring A) (p : Params) (session : List ℕ) (public : List A) (fields : List (List ℕ)) (f : List ℕ) (some : 1 ≤ p.nrow)
     (k l : Intake A) (s : IsStored o e c p session public fields k) (same : IsLate k l) (lists : AreLists p k) where
@@ -79,7 +80,7 @@ module _ {A : Type 0} (o : Ops A) (e : Coding A) (c : Wiring A) (p : Params) (se
   not_reading none = (λ t. take (none t - 1) l.column.items) ∙ (λ t. cond (nat_lt 0 (sym none t)) (column_read e p longer (whole_columns p (length longer))) [])
 
   -- The nonce of opened column j is taken.
-  pub stored_nonce : (j : ℕ) → length fields ≡ column_place p j → j < 128 → l.nonce ≡ f → l.leaves.items ≡ k.leaves.items → l.failing ≡ k.failing → l.count ≡ k.count → l.digests.items ≡ k.digests.items
+  pub stored_nonce : (j : ℕ) → length fields ≡ column_place p j → j < opened_count → l.nonce ≡ f → l.leaves.items ≡ k.leaves.items → l.failing ≡ k.failing → l.count ≡ k.count → l.digests.items ≡ k.digests.items
       → IsStored o e c p session public longer l
   stored_nonce j number below nonce leaves failing count digests =
       let late : before_opened p ≤ length fields = omega (arith, number) in
@@ -96,7 +97,7 @@ module _ {A : Type 0} (o : Ops A) (e : Coding A) (c : Wiring A) (p : Params) (se
       (reading 0 j now_fields now_whole (sym none))
       (no_digests few count digests)
 
-  module _ (j i : ℕ) (x : A) (number : length fields ≡ column_place p j + 1 + i) (below : j < 128) (inside : i < p.nrow) (is : x ≡ e.element (number_from f)) where
+  module _ (j i : ℕ) (x : A) (number : length fields ≡ column_place p j + 1 + i) (below : j < opened_count) (inside : i < p.nrow) (is : x ≡ e.element (number_from f)) where
     is_late : before_opened p ≤ length fields
     is_late = omega (arith, number)
 
@@ -165,7 +166,7 @@ module _ {A : Type 0} (o : Ops A) (e : Coding A) (c : Wiring A) (p : Params) (se
       abbrev given_columns : List ℕ
       given_columns = (given_of o e c p session public fields).columns
 
-      given_long : length given_columns ≡ 128
+      given_long : length given_columns ≡ opened_count
       given_long = ap (λ (z : Transcript A). length z.columns) (sym drawn) ∙ lists.columns
 
       abbrev were : List ℕ
@@ -247,7 +248,7 @@ module _ {A : Type 0} (o : Ops A) (e : Coding A) (c : Wiring A) (p : Params) (se
     stored_count number leaves failing count digests = stored_behind leaves failing (no_digests (omega (arith, number)) count digests)
 
     -- Digest i is taken.
-    pub stored_digest : (i : ℕ) → length fields ≡ before_count p + 1 + i → i < 1536 → l.leaves.items ≡ k.leaves.items → l.failing ≡ k.failing → l.count ≡ i + 1 → l.digests.items ≡ slice_set k.digests.items i f
+    pub stored_digest : (i : ℕ) → length fields ≡ before_count p + 1 + i → i < most_digests → l.leaves.items ≡ k.leaves.items → l.failing ≡ k.failing → l.count ≡ i + 1 → l.digests.items ≡ slice_set k.digests.items i f
         → IsStored o e c p session public longer l
     stored_digest i number inside leaves failing count digests =
         let were : length (drop (before_count p + 1) fields) ≡ i = length-drop (before_count p + 1) fields ∙ omega (arith, number) in

@@ -1,4 +1,5 @@
 -- How long weighted answers are.
+use Rattle.lzk_profile.specs.Profile.{opened_count}
 use Rattle.std.specs.Prelude.{◌≡◌, ℕ, ◌+◌, ◌-◌, List, ◌++◌, length, drop, replicate}
 use Rattle.std.proofs.Common.{◌∙◌, arith}
 use Rattle.std.proofs.lemmas.List.{length-append, length-replicate, length-take-le, length-drop}
@@ -17,16 +18,16 @@ module _ {A : Type 0} (o : Ops A) (element : ℕ → A) (p : Params) (bounded : 
   long_dot : length (dot_in p sent) ≡ p.dblock
   long_dot = length-take-le p.dblock (drop (p.nsum + p.block) sent) (omega (arith, length-drop (p.nsum + p.block) sent, size))
 
-  long_head : length (head_in p sent) ≡ 128
-  long_head = length-take-le 128 (drop (p.nsum + p.block + p.dblock) sent) (omega (arith, length-drop (p.nsum + p.block + p.dblock) sent, size))
+  long_head : length (head_in p sent) ≡ opened_count
+  long_head = length-take-le opened_count (drop (p.nsum + p.block + p.dblock) sent) (omega (arith, length-drop (p.nsum + p.block + p.dblock) sent, size))
 
   long_tail : length (tail_in p sent) ≡ p.dblock - p.block
-  long_tail = length-take-le (p.dblock - p.block) (drop (p.nsum + p.block + p.dblock + 128) sent) (omega (arith, length-drop (p.nsum + p.block + p.dblock + 128) sent, size))
+  long_tail = length-take-le (p.dblock - p.block) (drop (p.nsum + p.block + p.dblock + opened_count) sent) (omega (arith, length-drop (p.nsum + p.block + p.dblock + opened_count) sent, size))
 
   long_values : length (values_of o p (head_in p sent) (tail_in p sent)) ≡ p.dblock
   long_values =
-      let zeros = replicate (p.block - 128) o.zero in
-      length-append (head_in p sent ++ zeros) (tail_in p sent) ∙ omega (arith, length-append (head_in p sent) zeros, length-replicate (p.block - 128) o.zero, long_head, long_tail, bounded.block, bounded.dblock, bounded.wide)
+      let zeros = replicate (p.block - opened_count) o.zero in
+      length-append (head_in p sent ++ zeros) (tail_in p sent) ∙ omega (arith, length-append (head_in p sent) zeros, length-replicate (p.block - opened_count) o.zero, long_head, long_tail, bounded.block, bounded.dblock, bounded.wide)
 
   -- they are as long as the parameters say
   pub answers_long : AreAnswers p (weighted_answers o element p sent)

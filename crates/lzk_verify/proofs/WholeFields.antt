@@ -1,4 +1,5 @@
 -- What the fields of a proof's file say is the proof.
+use Rattle.lzk_profile.specs.Profile.{opened_count}
 use Rattle.std.specs.Prelude.{◌≡◌, refl, ℕ, ◌+◌, ◌-◌, ◌*◌, ◌<◌, ◌≤◌, List, [], ◌∷◌, ◌++◌, length, map, take, drop, slice_index_or}
 use Rattle.std.specs.Int.{w32, to_le_bytes}
 use Rattle.std.proofs.Common.{zero, suc, sym, ap, ◌∙◌, arith}
@@ -127,23 +128,23 @@ module _ {A : Type 0} (o : Ops A) (e : Coding A) (p : Params) (laws : Laws o e.s
         ∙ drop_at (map field (sent_of q)) (opened ++ path) (sent_count p) mapped_long
 
     -- opened column k is read as it is sent
-    column_begins : (k : ℕ) → k < 128 → BeginsWith (drop (column_place p k) fields) (slice_index_or q.nonces k []) (map field (column o p q k))
+    column_begins : (k : ℕ) → k < opened_count → BeginsWith (drop (column_place p k) fields) (slice_index_or q.nonces k []) (map field (column o p q k))
     column_begins k h =
-        let b = opened_from field p.nrow 128 k q.nonces q.columns path lengths.nonces lengths.columns h in
+        let b = opened_from field p.nrow opened_count k q.nonces q.columns path lengths.nonces lengths.columns h in
         record { behind = b.behind; are = sym (drop-drop (k * (1 + p.nrow)) (before_opened p) fields) ∙ ap (drop (k * (1 + p.nrow))) behind_sent ∙ b.are }
 
-    pub nonce_is : (k : ℕ) → k < 128 → nonce_read p fields k ≡ slice_index_or q.nonces k []
+    pub nonce_is : (k : ℕ) → k < opened_count → nonce_read p fields k ≡ slice_index_or q.nonces k []
     nonce_is k h =
         let at : column_place p k ≡ column_place p k + 0 = omega arith in
         ap (λ j. slice_index_or fields j []) at ∙ sym (get_or-drop (column_place p k) fields 0 []) ∙ ap (λ xs. slice_index_or xs 0 []) (column_begins k h).are
 
-    column_long : (k : ℕ) → k < 128 → length (column o p q k) ≡ p.nrow
+    column_long : (k : ℕ) → k < opened_count → length (column o p q k) ≡ p.nrow
     column_long k h =
-        let w : (k + 1) * p.nrow ≤ 128 * p.nrow = mul-le (k + 1) p.nrow 128 p.nrow (omega (arith, h)) (omega arith) in
+        let w : (k + 1) * p.nrow ≤ opened_count * p.nrow = mul-le (k + 1) p.nrow opened_count p.nrow (omega (arith, h)) (omega arith) in
         let one : (k + 1) * p.nrow ≡ k * p.nrow + p.nrow = omega arith in
         length-take p.nrow (drop (k * p.nrow) q.columns) ∙ omega (arith, length-drop (k * p.nrow) q.columns, lengths.columns, w, one)
 
-    pub column_is : (k : ℕ) → k < 128 → column_read e p fields k ≡ column o p q k
+    pub column_is : (k : ℕ) → k < opened_count → column_read e p fields k ≡ column o p q k
     column_is k h =
         let b = column_begins k h in
         let own : List (List ℕ) = map field (column o p q k) in
@@ -151,13 +152,13 @@ module _ {A : Type 0} (o : Ops A) (e : Coding A) (p : Params) (laws : Laws o e.s
         ∙ ap (map read) (take_at own b.behind p.nrow (length-map (column o p q k) field ∙ column_long k h))
         ∙ reads_back (column o p q k)
 
-    pub leaf_is : (k : ℕ) → k < 128 → leaf_read e p fields k ≡ leaf_at o e p q k
+    pub leaf_is : (k : ℕ) → k < opened_count → leaf_read e p fields k ≡ leaf_at o e p q k
     leaf_is k h = λ i. leaf_of e.bytes e.number (nonce_is k h i) (column_is k h i)
 
     behind_opened : drop (before_count p) fields ≡ path
     behind_opened =
-        sym (drop-drop (128 * (1 + p.nrow)) (before_opened p) fields) ∙ ap (drop (128 * (1 + p.nrow))) behind_sent
-        ∙ opened_end field p.nrow 128 q.nonces q.columns path lengths.nonces lengths.columns
+        sym (drop-drop (opened_count * (1 + p.nrow)) (before_opened p) fields) ∙ ap (drop (opened_count * (1 + p.nrow))) behind_sent
+        ∙ opened_end field p.nrow opened_count q.nonces q.columns path lengths.nonces lengths.columns
 
     pub digests_are : digests_read p fields ≡ q.path.digests
     digests_are = sym (drop-drop 1 (before_count p) fields) ∙ ap (drop 1) behind_opened

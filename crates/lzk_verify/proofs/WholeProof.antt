@@ -1,4 +1,5 @@
 -- What is kept of all fields of a proof is that by which it is judged.
+use Rattle.lzk_profile.specs.Profile.{opened_count}
 use Rattle.std.specs.Prelude.{◌≡◌, ℕ, ◌+◌, ◌-◌, ◌*◌, ◌<◌, ◌≤◌, cond, true, Option, List, [], length, map, take, drop, slice_index_or}
 use Rattle.std.specs.List.{range_with_len}
 use Rattle.std.proofs.Common.{sym, ap, subst, ◌∙◌, arith}
@@ -78,7 +79,7 @@ module _ {A : Type 0} (o : Ops A) (e : Coding A) (c : Wiring A) (p : Params) (ar
   all_drawn : has_answers p (length fields) ≡ true
   all_drawn = let h : before_opened p ≤ length fields = omega (arith, all_whole o e p laws q is.lengths) in grind arith
 
-  all_columns : whole_columns p (length fields) ≡ 128
+  all_columns : whole_columns p (length fields) ≡ opened_count
   all_columns = places.all_whole p (length fields) (omega (arith, all_whole o e p laws q is.lengths))
 
   sent_are : sent_read e p fields ≡ sent_of q
@@ -105,11 +106,11 @@ module _ {A : Type 0} (o : Ops A) (e : Coding A) (c : Wiring A) (p : Params) (ar
 
     kept_leaves : k.leaves.items ≡ leaves_of o e p q
     kept_leaves =
-        sym (take_all 128 k.leaves.items (omega (arith, lists.leaves)))
+        sym (take_all opened_count k.leaves.items (omega (arith, lists.leaves)))
         ∙ (λ i. take (sym all_columns i) k.leaves.items)
         ∙ s.leaves_are
         ∙ (λ i. map (leaf_read e p fields) (range_with_len 0 (all_columns i)))
-        ∙ map_same (leaf_read e p fields) (leaf_at o e p q) [] 128 (leaf_is o e p laws q is.lengths)
+        ∙ map_same (leaf_read e p fields) (leaf_at o e p q) [] opened_count (leaf_is o e p laws q is.lengths)
 
     kept_path : take k.count k.digests.items ≡ q.path.digests
     kept_path = s.digests_are ∙ digests_are o e p laws q is.lengths
@@ -119,20 +120,20 @@ module _ {A : Type 0} (o : Ops A) (e : Coding A) (c : Wiring A) (p : Params) (ar
         let n : length (take k.count k.digests.items) ≡ length q.path.digests = ap length kept_path in
         omega (arith, sym n, length-take k.count k.digests.items, lists.digests, lists.few)
 
-    columns_long : length t.columns ≡ 128
+    columns_long : length t.columns ≡ opened_count
     columns_long = ap (λ (x : Transcript A). length x.columns) (sym drawn_is) ∙ lists.columns
 
     -- all opened columns are whole
     columns_are : columns_of o e c p session public fields ≡ t.columns
     columns_are =
-        (λ i. take (all_columns i) (given_is i).columns) ∙ take_all 128 t.columns (omega (arith, columns_long))
+        (λ i. take (all_columns i) (given_is i).columns) ∙ take_all opened_count t.columns (omega (arith, columns_long))
 
     -- what a check reads of a column is what the proof sends
-    reads_are : (j : ℕ) → j < 128 → reads o e c p session public fields j ≡ (column o p q j, (t, sent_of q))
+    reads_are : (j : ℕ) → j < opened_count → reads o e c p session public fields j ≡ (column o p q j, (t, sent_of q))
     reads_are j h = λ i. (column_is o e p laws q is.lengths j h i, (given_is i, sent_are i))
 
     -- the least that fails a check of what is read fails that of what the proof sends
-    least_is : (R : ℕ → List A × (Transcript A × List A) → Type 0) (P : ℕ → Type 0) → ((j : ℕ) → j < 128 → R j (column o p q j, (t, sent_of q)) → P j) → ((j : ℕ) → j < 128 → P j → R j (column o p q j, (t, sent_of q)))
+    least_is : (R : ℕ → List A × (Transcript A × List A) → Type 0) (P : ℕ → Type 0) → ((j : ℕ) → j < opened_count → R j (column o p q j, (t, sent_of q)) → P j) → ((j : ℕ) → j < opened_count → P j → R j (column o p q j, (t, sent_of q)))
         → (x : Option ℕ) → IsLeastFailing (columns_of o e c p session public fields) (λ j. R j (reads o e c p session public fields j)) x → IsLeastFailing t.columns P x
     least_is R P to from x h =
         least_same t.columns (λ j. R j (reads o e c p session public fields j)) P

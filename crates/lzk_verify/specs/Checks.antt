@@ -1,4 +1,5 @@
 -- What is checked of a proof beside its answers: the circuit's id, how many digests its path has, and its root.
+use Rattle.lzk_profile.specs.Profile.{opened_count}
 use Rattle.std.specs.Prelude.{◌≡◌, ℕ, List, [], length, map, slice_index_or}
 use Rattle.std.specs.List.{range_with_len}
 use Rattle.lzk_field.specs.Coding.{Coding}
@@ -29,7 +30,7 @@ leaf_at o e p proof k = leaf_of e.bytes e.number (slice_index_or proof.nonces k 
 
 -- the digests of the opened columns
 abbrev pub leaves_of : {A : Type 0} → Ops A → Coding A → Params → Proof A → List (List ℕ)
-leaves_of o e p proof = map (leaf_at o e p proof) (range_with_len 0 128)
+leaves_of o e p proof = map (leaf_at o e p proof) (range_with_len 0 opened_count)
 
 -- the root that the opened columns and the path lead to
 abbrev pub found_root : {A : Type 0} → Ops A → Coding A → Params → Proof A → List ℕ → List ℕ

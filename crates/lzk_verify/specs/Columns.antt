@@ -1,4 +1,5 @@
 -- What is checked of the answers at one opened column, of its elements alone.
+use Rattle.lzk_profile.specs.Profile.{opened_count}
 use Rattle.std.specs.Prelude.{◌≡◌, ℕ, ◌+◌, ◌-◌, ◌*◌, List, ◌++◌, replicate}
 use Rattle.lzk_field.specs.Ring.{Ops}
 use Rattle.lzk_field.specs.Sums.{sum_below, minus, entry}
@@ -7,7 +8,7 @@ use Rattle.lzk_layout.specs.declared.params.Params.{Params}
 
 -- all values of the quadratic answer: the first ones, zeros at the points of a row's elements, and the last ones
 abbrev pub values_of : {A : Type 0} → Ops A → Params → List A → List A → List A
-values_of o p head tail = head ++ replicate (p.block - 128) o.zero ++ tail
+values_of o p head tail = head ++ replicate (p.block - opened_count) o.zero ++ tail
 
 -- the element of a column in one of the three rows of triple number i
 abbrev pub in_triple : {A : Type 0} → Ops A → Params → List A → ℕ → ℕ → A

@@ -1,4 +1,5 @@
 -- What a desk keeps between verdicts, and what the checks of the answers are handed.
+use Rattle.lzk_profile.specs.Profile.{opened_count, most_digests}
 use Rattle.std.specs.Prelude.{◌≡◌, ℕ, ◌<◌, ◌≤◌, ◌-◌, ◌+◌, ◌*◌, Bool, true, false, cond, nat_lt, List, [], ◌∷◌, ◌++◌, length, take, Option, Some, None}
 use Rattle.lzk_field.specs.Coding.{Coding}
 use Rattle.lzk_field.specs.Ring.{Ops}
@@ -37,7 +38,7 @@ IsChecked Check kept (Some x) = (¬ Check) × (x ≡ kept)
 pub record HasRoom {A : Type 0} (c : Wiring A) (p : Params) (t : Transcript A) : Type 0 where
   pub script : sumcheck.HasShape c t.script
   pub challenges : accept.HasShape p t.challenges
-  pub columns : length t.columns ≡ 128
+  pub columns : length t.columns ≡ opened_count
 
 -- the weights that extend a row's values, and those that extend the values of a product of two rows, to all points
 abbrev pub rows : Params → Reach
@@ -56,8 +57,8 @@ pub record HasFactors {A : Type 0} (p : Params) (f : Factored A) : Type 0 where
 -- the combined coefficients that factors and a table give are those of these rows
 pub record AreRows {A : Type 0} (o : Ops A) (p : Params) (f : Factored A) (rows : ℕ → List A) : Type 0 where
   pub lengths : (i : ℕ) → length (rows i) ≡ p.block
-  pub front : (i s : ℕ) → s < 128 → entry o (rows i) s ≡ o.zero
-  pub back : GivesCombined o p f (λ i s. entry o (rows i) (128 + s))
+  pub front : (i s : ℕ) → s < opened_count → entry o (rows i) s ≡ o.zero
+  pub back : GivesCombined o p f (λ i s. entry o (rows i) (opened_count + s))
 
 -- they give each coefficient of these rows times the weight of its place
 abbrev pub AreWeightedRows : {A : Type 0} → Ops A → (ℕ → A) → Params → Factored A → (ℕ → List A) → Type 0
@@ -106,13 +107,13 @@ pub record AreRooms {A : Type 0} (p : Params) (r : Rooms A) : Type 0 where
 pub record AreLists {A : Type 0} (p : Params) (k : Intake A) : Type 0 where
   pub sent : length k.sent.items ≡ sent_count p
   pub challenges : accept.HasShape p k.drawn.challenges
-  pub columns : length k.drawn.columns ≡ 128
+  pub columns : length k.drawn.columns ≡ opened_count
   pub opened : AreOpened p.mcol k.drawn.columns
   pub column : length k.column.items ≡ p.nrow
-  pub leaves : length k.leaves.items ≡ 128
+  pub leaves : length k.leaves.items ≡ opened_count
   pub rows : k.leaves.rows ≡ p.nrow
-  pub digests : length k.digests.items ≡ 1536
-  pub few : k.count ≤ 1536
+  pub digests : length k.digests.items ≡ most_digests
+  pub few : k.count ≤ most_digests
 
 -- what the opened columns are checked with is that of what was drawn
 pub record AreReady {A : Type 0} (o : Ops A) (element : ℕ → A) (c : Wiring A) (p : Params) (k : Intake A)
@@ -206,7 +207,7 @@ OrElse (Some x) failed next = failed x
 
 -- the sum of the linear answer's values at the points of a row's elements
 abbrev pub sum_of : {A : Type 0} → Ops A → Params → List A → A
-sum_of o p dot = sum_below o (p.block - 128) (λ i. entry o dot (128 + i))
+sum_of o p dot = sum_below o (p.block - opened_count) (λ i. entry o dot (opened_count + i))
 
 -- the first check of the answers that fails, of what an intake keeps of all fields
 abbrev pub AreFoundAnswers : {A : Type 0} → Ops A → Params → Intake A → Verdict A → Type 0

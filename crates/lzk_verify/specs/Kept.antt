@@ -1,4 +1,5 @@
 -- What a verifier that is fed bytes keeps of those that it was fed.
+use Rattle.lzk_profile.specs.Profile.{opened_count}
 use Rattle.std.specs.Prelude.{◌≡◌, ℕ, ◌+◌, ◌-◌, ◌*◌, ◌/◌, ◌%◌, ◌==◌, Bool, nat_le, nat_lt, min, cond, Option, Some, None, is_some, List, [], length, map, take, drop, slice_index_or}
 use Rattle.std.specs.List.{filter, range_with_len}
 use Rattle.lzk_field.specs.Bytes.{number_from}
@@ -34,7 +35,7 @@ use Rattle.lzk_verify.specs.Columns.{values_of, IsLowDegreeIn, IsLinearIn, IsQua
 
 -- how many they are
 abbrev pub sent_count : Params → ℕ
-sent_count p = p.nsum + p.block + p.dblock + 128 + (p.dblock - p.block)
+sent_count p = p.nsum + p.block + p.dblock + opened_count + (p.dblock - p.block)
 
 -- where each of them stands among all, and none of the other parts of a file
 abbrev pub place_of : Params → ProofPart → Option ℕ
@@ -42,7 +43,7 @@ place_of p (Message i) = Some i
 place_of p (Ldt i) = Some (p.nsum + i)
 place_of p (Dot i) = Some (p.nsum + p.block + i)
 place_of p (QuadHead i) = Some (p.nsum + p.block + p.dblock + i)
-place_of p (QuadTail i) = Some (p.nsum + p.block + p.dblock + 128 + i)
+place_of p (QuadTail i) = Some (p.nsum + p.block + p.dblock + opened_count + i)
 place_of p Magic = None
 place_of p Id = None
 place_of p Root = None
@@ -66,11 +67,11 @@ module _ {A : Type 0} (p : Params) (sent : List A) where
 
   -- the quadratic answer's first values
   abbrev pub head_in : List A
-  head_in = take 128 (drop (p.nsum + p.block + p.dblock) sent)
+  head_in = take opened_count (drop (p.nsum + p.block + p.dblock) sent)
 
   -- and its last ones
   abbrev pub tail_in : List A
-  tail_in = take (p.dblock - p.block) (drop (p.nsum + p.block + p.dblock + 128) sent)
+  tail_in = take (p.dblock - p.block) (drop (p.nsum + p.block + p.dblock + opened_count) sent)
 
 -- ---- what the fields that are whole say
 
@@ -84,7 +85,7 @@ column_place p k = before_opened p + k * (1 + p.nrow)
 
 -- of so many fields, how many opened columns are whole
 abbrev pub whole_columns : Params → ℕ → ℕ
-whole_columns p n = min 128 ((n - before_opened p) / (1 + p.nrow))
+whole_columns p n = min opened_count ((n - before_opened p) / (1 + p.nrow))
 
 -- how many fields of the opened column are whole that is being read
 abbrev pub column_fields : Params → ℕ → ℕ
@@ -194,7 +195,7 @@ module _ {A : Type 0} (o : Ops A) (e : Coding A) (c : Wiring A) (p : Params) (st
   -- the tape behind the challenges, with the answers that are whole written
   abbrev pub with_answers : TapeState → TapeState
   with_answers t =
-      with_whole e (p.dblock - p.block) (tail_in p sent) (with_whole e 128 (head_in p sent)
+      with_whole e (p.dblock - p.block) (tail_in p sent) (with_whole e opened_count (head_in p sent)
       (with_whole e p.dblock (dot_in p sent) (with_whole e p.block (ldt_in p sent) t)))
 
   -- the tape behind gamma, once the elements of the sumchecks are whole
@@ -212,7 +213,7 @@ module _ {A : Type 0} (o : Ops A) (e : Coding A) (c : Wiring A) (p : Params) (st
   whole_transcript = record {
     script = script o e (messages_in p sent) c (with_bytes root start);
     challenges = challenges e p behind_script;
-    columns = opened p.mcol 128 behind_answers;
+    columns = opened p.mcol opened_count behind_answers;
   }
 
   module _ (n : ℕ) where

@@ -1,5 +1,6 @@
 //! What the tape gives to a proof.
 
+ghost use Rattle.lzk_profile.specs.Profile.{opened_count};
 ghost use Rattle.std.specs.Prelude.{◌≡◌, ◌<◌, ◌≤◌, length, slice_index, IfOk};
 ghost use Rattle.lzk_merkle.specs.Nodes.{AreOpened};
 ghost use Rattle.lzk_transcript.specs.Columns.{opened};
@@ -36,15 +37,15 @@ impl<F> Model for Drawn<F> {
 
 // Writes the answers, and draws the columns that are opened.
 fn draw_columns<F: Field>(sent: &Sent<'_, '_, F>, tape: &mut Tape, columns: &mut [u32])
-    requires room { length columns.old ≡ 128 }
+    requires room { length columns.old ≡ opened_count }
     ensures columns { let e = F.coding in
         let p = sent.now.plan.now.params in
         let all = sent.now.elements.now in
         columns.new
-        ≡ opened p.mcol 128 (with_array e (tail_in p all) (with_array e (head_in p all)
+        ≡ opened p.mcol opened_count (with_array e (tail_in p all) (with_array e (head_in p all)
         (with_array e (dot_in p all) (with_array e (ldt_in p all) tape.old)))) }
     ensures opened { AreOpened sent.now.plan.now.params.mcol columns.new }
-    ensures room { length columns.new ≡ 128 }
+    ensures room { length columns.new ≡ opened_count }
 {
     let low_degree = ldt_of(sent);
     let linear = dot_of(sent);
@@ -63,8 +64,8 @@ fn draw_columns<F: Field>(sent: &Sent<'_, '_, F>, tape: &mut Tape, columns: &mut
 
 // As many columns, from the first on.
 fn first_columns(alloc: Global) -> Result<Vec<u32>, AllocError>
-    ensures count { IfOk result (λ list. length list.items ≡ 128) }
-    ensures opened { IfOk result (λ list. AreOpened 128 list.items) }
+    ensures count { IfOk result (λ list. length list.items ≡ opened_count) }
+    ensures opened { IfOk result (λ list. AreOpened opened_count list.items) }
 {
     let mut columns = Vec::new(alloc);
     columns.resize(OPENED, 0)?;

@@ -1,5 +1,6 @@
 //! What is kept of a proof that is read field by field.
 
+ghost use Rattle.lzk_profile.specs.Profile.{opened_count, most_digests};
 ghost use Rattle.std.specs.Prelude.{◌≡◌, ℕ, ◌+◌, ◌<◌, ◌≤◌, true, false, None, List, [], length, take, slice_set, slice_index, IfOk};
 ghost use Rattle.lzk_field.specs.Bytes.{number_from};
 ghost use Rattle.lzk_merkle.specs.Leaf.{leaf_of};
@@ -130,9 +131,9 @@ struct DigestLists<F: Field> {
 
 impl<F: Field> DigestLists<F> {
     fn new(alloc: Global, plan: &Plan<'_, F>) -> Result<DigestLists<F>, AllocError>
-        ensures leaves { IfOk result (λ lists. length lists.leaves.items ≡ 128) }
+        ensures leaves { IfOk result (λ lists. length lists.leaves.items ≡ opened_count) }
         ensures rows { IfOk result (λ lists. lists.leaves.rows ≡ plan.now.params.nrow) }
-        ensures path { IfOk result (λ lists. length lists.path.items ≡ 1536) }
+        ensures path { IfOk result (λ lists. length lists.path.items ≡ most_digests) }
     {
         let leaves = Leaves::new(alloc, plan)?;
         let path = zero_digests(alloc, MOST_DIGESTS)?;
@@ -218,7 +219,7 @@ impl<F: Field> Intake<F> {
     fn check(&mut self, plan: &Plan<'_, F>, k: usize, room: &mut Room<F>)
         requires lists { AreLists plan.now.params self.old }
         requires rooms { AreRooms plan.now.params room.old }
-        requires inside { k < 128 }
+        requires inside { k < opened_count }
         ensures others { self.new ≡ record self.old { leaves = self.new.leaves; failing = self.new.failing } }
         ensures leaf { self.new.leaves.items
             ≡ slice_set self.old.leaves.items k

@@ -1,5 +1,6 @@
 //! The leaves of the opened columns, which are hashed four at a time.
 
+ghost use Rattle.lzk_profile.specs.Profile.{opened_count};
 ghost use Rattle.std.specs.Prelude.{◌≡◌, ◌+◌, ◌*◌, ◌<◌, cond, length, slice_set, IfOk};
 ghost use Rattle.lzk_merkle.specs.Leaf.{leaf_of};
 ghost use Rattle.lzk_merkle.specs.Nodes as tree;
@@ -164,7 +165,7 @@ fn make_waiting<F: Field>(waiting: usize, columns: &ThreeColumns<F>, made: &mut 
 impl<F: Field> Leaves<F> {
     /// Room for the leaves of the opened columns.
     pub(crate) fn new(alloc: Global, plan: &Plan<'_, F>) -> Result<Leaves<F>, AllocError>
-        ensures items { IfOk result (λ leaves. length leaves.items ≡ 128) }
+        ensures items { IfOk result (λ leaves. length leaves.items ≡ opened_count) }
         ensures rows { IfOk result (λ leaves. leaves.rows ≡ plan.now.params.nrow) }
     {
         let columns = ThreeColumns::new(alloc, plan.params.nrow as usize)?;

@@ -1,5 +1,6 @@
 //! The check of the low degree answer at an opened column, and the sum of the linear answer's values.
 
+ghost use Rattle.lzk_profile.specs.Profile.{opened_count};
 ghost use Rattle.std.specs.Prelude.{◌≡◌, ℕ, ◌+◌, ◌-◌, ◌<◌, ◌≤◌, ◌↔◌, IsTrue, List, length};
 ghost use Rattle.lzk_field.specs.Sums.{entry, sum_below};
 ghost use Rattle.lzk_verify.specs.Columns.{IsLowDegreeIn};
@@ -46,7 +47,7 @@ pub(crate) fn is_low_degree_at<F: Field>(
 // The sum of the linear answer's values at the points of a row's elements.
 fn found_sum<F: Field>(plan: &Plan<'_, F>, values: &[F]) -> F
     requires lengths { length values.now ≡ plan.now.params.dblock }
-    ensures { result ≡ sum_below F.ops (plan.now.params.block - 128) (λ i. entry F.ops values.now (128 + i)) }
+    ensures { result ≡ sum_below F.ops (plan.now.params.block - opened_count) (λ i. entry F.ops values.now (opened_count + i)) }
 {
     let mut sum = F::zero();
     for s in 0..plan.params.wr as usize {
@@ -58,7 +59,7 @@ fn found_sum<F: Field>(plan: &Plan<'_, F>, values: &[F]) -> F
 /// The sum of these values, where it is not the one that is wanted.
 pub(crate) fn check_linear_sum<F: Field>(plan: &Plan<'_, F>, dot: &[F], wanted: F) -> Option<F>
     requires lengths { length dot.now ≡ plan.now.params.dblock }
-    ensures { let found = sum_below F.ops (plan.now.params.block - 128) (λ i. entry F.ops dot.now (128 + i)) in
+    ensures { let found = sum_below F.ops (plan.now.params.block - opened_count) (λ i. entry F.ops dot.now (opened_count + i)) in
         IsChecked (found ≡ wanted) found result }
 {
     let found = found_sum(plan, dot);

@@ -1,5 +1,6 @@
 //! The elements that a proof sends before its columns are drawn, in the order of its file.
 
+ghost use Rattle.lzk_profile.specs.Profile.{opened_count, most_digests};
 ghost use Rattle.std.specs.Prelude.{◌≡◌, ◌+◌, ◌-◌, length};
 ghost use Rattle.lzk_layout.specs.Parts.{HasPart};
 ghost use Rattle.lzk_verify.specs.Kept as spec;
@@ -42,7 +43,7 @@ fn head_start<F: Field>(plan: &Plan<'_, F>) -> usize
 
 /// Where its last ones begin.
 fn tail_start<F: Field>(plan: &Plan<'_, F>) -> usize
-    ensures { result ≡ plan.now.params.nsum + plan.now.params.block + plan.now.params.dblock + 128 }
+    ensures { result ≡ plan.now.params.nsum + plan.now.params.block + plan.now.params.dblock + opened_count }
 {
     head_start(plan) + BLINDS
 }
@@ -50,7 +51,7 @@ fn tail_start<F: Field>(plan: &Plan<'_, F>) -> usize
 /// Where an element that a proof sends before its columns stands among all of these. None of a part that is no such
 /// element.
 pub(crate) fn place_of<F: Field>(plan: &Plan<'_, F>, part: ProofPart) -> Option<usize>
-    requires { HasPart plan.now.params 1536 part }
+    requires { HasPart plan.now.params most_digests part }
     ensures { result ≡ spec.place_of plan.now.params part }
 {
     match part {
@@ -98,7 +99,7 @@ pub(crate) fn dot_of<'s, F: Field>(sent: &Sent<'s, '_, F>) -> &'s [F]
 /// The quadratic answer's first values.
 pub(crate) fn head_of<'s, F: Field>(sent: &Sent<'s, '_, F>) -> &'s [F]
     ensures value { result.now ≡ head_in sent.now.plan.now.params sent.now.elements.now }
-    ensures length { length result.now ≡ 128 }
+    ensures length { length result.now ≡ opened_count }
 {
     &sent.elements[head_start(sent.plan)..tail_start(sent.plan)]
 }

@@ -1,3 +1,4 @@
+use Rattle.lzk_profile.specs.Profile.{opened_count}
 use Rattle.std.specs.Prelude.{◌≡◌, ℕ, ◌+◌, ◌-◌, ◌*◌, ◌<◌, List, length, take, drop}
 use Rattle.std.proofs.Common.{refl, ap, subst, ◌∙◌, arith}
 use Rattle.std.proofs.lemmas.List.{length-take-le, length-drop}
@@ -18,10 +19,10 @@ returns-clause-rows g c = λ lists are.
     let block = c.args.plan.now.bounded.block in
     let ws = c.weights.result.now in
     let count : c.args.rows.now.count ≡ p.block = ap (λ (r : Reach). r.count) c.requires.rows in
-    let long : length ws ≡ 128 + p.wr = c.weights.ensures.0 ∙ count ∙ block in
-    let own : List g.row.F.Denot = take (length ws - 128) (drop 128 ws) in
-    let wide : length own ≡ p.wr = length-take-le (length ws - 128) (drop 128 ws) (omega (arith, length-drop 128 ws)) ∙ omega (arith, long) in
-    let at : (s : ℕ) → s < p.wr → entry o own s ≡ entry o ws (128 + s) = λ s h. part_entry o ws (length ws - 128) 128 s (omega (arith, h, long)) in
+    let long : length ws ≡ opened_count + p.wr = c.weights.ensures.0 ∙ count ∙ block in
+    let own : List g.row.F.Denot = take (length ws - opened_count) (drop opened_count ws) in
+    let wide : length own ≡ p.wr = length-take-le (length ws - opened_count) (drop opened_count ws) (omega (arith, length-drop opened_count ws)) ∙ omega (arith, long) in
+    let at : (s : ℕ) → s < p.wr → entry o own s ≡ entry o ws (opened_count + s) = λ s h. part_entry o ws (length ws - opened_count) opened_count s (omega (arith, h, long)) in
     let places = c.weigh_table.new.table in
     let table = c.weigh_table-2.new.table in
     let set_places = refill_whole (length old.place_factors) old.place_factors places (c.weigh_table.ensures.length ∙ ap length c.as_mut_slice.ensures.value) in
