@@ -7,7 +7,7 @@ use Rattle.std.proofs.Math.Nat.{pow-succ'}
 use Rattle.lzk_circuit.specs.declared.layer.Term.{Term}
 use Rattle.lzk_circuit.specs.declared.layer.Layer.{Layer}
 use Rattle.lzk_circuit.specs.Valid.{Under, Wiring, above_inputs, above_layer}
-use Rattle.lzk_goldilocks.specs.Prime.{p}
+use Rattle.lzk_goldilocks.specs.Prime.{p, element_bytes, field_byte}
 use Rattle.lzk_goldilocks.specs.Elements as gold
 use Rattle.lzk_gf128.specs.Elements as gf
 use Rattle.lzk_circbytes.specs.declared.any.AnyCircuit.TheVariants.{Gold, Gf}
@@ -104,7 +104,7 @@ wiring_few shape c cs narrow fits =
 
 pub files_fit : FilesFit
 files_fit (Gold c) bytes f =
-    let few = wiring_few goldilocks (numbered (λ x. x.n) c) f.constants (omega arith) (fits_from_file gold.ops p (λ x. x.n) gold.of_number 8 gold.laws 1 c bytes f) in
+    let few = wiring_few goldilocks (numbered (λ x. x.n) c) f.constants (omega arith) (fits_from_file gold.ops p (λ x. x.n) gold.of_number element_bytes gold.laws field_byte c bytes f) in
     omega (arith, few, ap length f.bytes_are)
 files_fit (Gf c) bytes f =
     let few = wiring_few gf128 (numbered (λ x. x.n) c) f.constants (omega arith) (fits_from_file gf.ops (2 ^ 128) (λ x. x.n) gf.of_number 16 gf.laws 2 c bytes f) in

@@ -3,7 +3,7 @@ use Rattle.std.proofs.Common.{◌≡◌, ◌⊎◌, inl, inr, ℕ, ◌+◌, ◌-
 use Rattle.std.proofs.lemmas.Bool.{le-ltb, eqb-true, and_parts}
 use Rattle.lzk_circuit.specs.Valid.{Wiring}
 use Rattle.sha2.specs.Sha256.{sha256}
-use Rattle.lzk_goldilocks.specs.Prime.{p}
+use Rattle.lzk_goldilocks.specs.Prime.{p, element_bytes, field_byte}
 use Rattle.lzk_goldilocks.specs.Elements as gold
 use Rattle.lzk_gf128.specs.Elements as gf
 use Rattle.lzk_circbytes.specs.declared.any.AnyCircuit.{AnyCircuit}
@@ -37,7 +37,7 @@ behind_magic version is rest = elim is [
 pub circuit_read : (c : AnyCircuit) (bytes : List ℕ) → CircuitBytes c bytes → circuit_at bytes ≡ Ok (numbers_of c)
 circuit_read (Gold c) bytes f =
     ap circuit_at f.bytes_are ∙ behind_magic c.version f.valid.version (1 ∷ tail_bytes goldilocks (numbered (λ x. x.n) c) f.constants)
-    ∙ ap (λ (r : Result (Wiring ℕ) Stop). r >>= λ w. Ok (1, w)) (wiring_read gold.ops p (λ x. x.n) gold.of_number 8 gold.laws 1 c bytes f)
+    ∙ ap (λ (r : Result (Wiring ℕ) Stop). r >>= λ w. Ok (1, w)) (wiring_read gold.ops p (λ x. x.n) gold.of_number element_bytes gold.laws field_byte c bytes f)
 circuit_read (Gf c) bytes f =
     ap circuit_at f.bytes_are ∙ behind_magic c.version f.valid.version (2 ∷ tail_bytes gf128 (numbered (λ x. x.n) c) f.constants)
     ∙ ap (λ (r : Result (Wiring ℕ) Stop). r >>= λ w. Ok (2, w)) (wiring_read gf.ops (2 ^ 128) (λ x. x.n) gf.of_number 16 gf.laws 2 c bytes f)
@@ -49,7 +49,7 @@ same_done : (x y : ℕ × Wiring ℕ) → done x ≡ done y → x ≡ y
 same_done x y e = cc
 
 same_circuit : (c d : AnyCircuit) → numbers_of c ≡ numbers_of d → c ≡ d
-same_circuit (Gold c) (Gold d) e = ap Gold (same_numbers gold.ops p (λ x. x.n) gold.of_number 8 gold.laws 1 c d (ap (λ (x : ℕ × Wiring ℕ). x.1) e))
+same_circuit (Gold c) (Gold d) e = ap Gold (same_numbers gold.ops p (λ x. x.n) gold.of_number element_bytes gold.laws field_byte c d (ap (λ (x : ℕ × Wiring ℕ). x.1) e))
 same_circuit (Gold c) (Gf d) e = absurd (let n : 1 ≡ 2 = ap (λ (x : ℕ × Wiring ℕ). x.0) e in omega (arith, n))
 same_circuit (Gf c) (Gold d) e = absurd (let n : 2 ≡ 1 = ap (λ (x : ℕ × Wiring ℕ). x.0) e in omega (arith, n))
 same_circuit (Gf c) (Gf d) e = ap Gf (same_numbers gf.ops (2 ^ 128) (λ x. x.n) gf.of_number 16 gf.laws 2 c d (ap (λ (x : ℕ × Wiring ℕ). x.1) e))
@@ -59,12 +59,12 @@ one_circuit bytes c d f g = same_circuit c d (same_done (numbers_of c) (numbers_
 
 -- SHA-256 of a circuit's file is its id
 pub file_gives_id : (c : AnyCircuit) (bytes : List ℕ) → CircuitBytes c bytes → sha256 bytes ≡ id_of_any c
-file_gives_id (Gold c) bytes f = ap sha256 (file_is gold.ops p (λ x. x.n) gold.of_number 8 gold.laws 1 c bytes f)
+file_gives_id (Gold c) bytes f = ap sha256 (file_is gold.ops p (λ x. x.n) gold.of_number element_bytes gold.laws field_byte c bytes f)
 file_gives_id (Gf c) bytes f = ap sha256 (file_is gf.ops (2 ^ 128) (λ x. x.n) gf.of_number 16 gf.laws 2 c bytes f)
 
 pub one_file : OneFile
 one_file (Gold c) xs ys f g =
-    file_is gold.ops p (λ x. x.n) gold.of_number 8 gold.laws 1 c xs f ∙ sym (file_is gold.ops p (λ x. x.n) gold.of_number 8 gold.laws 1 c ys g)
+    file_is gold.ops p (λ x. x.n) gold.of_number element_bytes gold.laws field_byte c xs f ∙ sym (file_is gold.ops p (λ x. x.n) gold.of_number element_bytes gold.laws field_byte c ys g)
 one_file (Gf c) xs ys f g =
     file_is gf.ops (2 ^ 128) (λ x. x.n) gf.of_number 16 gf.laws 2 c xs f ∙ sym (file_is gf.ops (2 ^ 128) (λ x. x.n) gf.of_number 16 gf.laws 2 c ys g)
 
@@ -166,7 +166,7 @@ circuit_bytes_from_read (Gold c) bytes fits valid e =
     let read = f.gold_read refl in
     let same : b.version ≡ c.version = read_version goldilocks b.version f.rest w behind read in
     subst (λ (t : List ℕ). IsFile gold.ops (λ x. x.n) goldilocks c t) (sym (is ∙ ap (λ (v : ℕ). 76 ∷ 90 ∷ 67 ∷ (48 + v) ∷ 1 ∷ f.rest) same))
-    (file_from_read gold.ops p (λ x. x.n) gold.of_number 8 gold.laws 1 c f.rest behind valid (subst (λ (v : ℕ). wiring_at goldilocks v f.rest ≡ Ok w) same read))
+    (file_from_read gold.ops p (λ x. x.n) gold.of_number element_bytes gold.laws field_byte c f.rest behind valid (subst (λ (v : ℕ). wiring_at goldilocks v f.rest ≡ Ok w) same read))
 circuit_bytes_from_read (Gf c) bytes fits valid e =
     let w = numbered (λ x. x.n) c in
     let b = begins bytes (2, w) e in

@@ -5,7 +5,7 @@ use Rattle.sha2.specs.Sha256.{sha256}
 use Rattle.lzk_field.specs.Coding.{Coding}
 use Rattle.lzk_field.specs.Ring.{Ops}
 use Rattle.lzk_circuit.specs.Valid.{Wiring, IsValid}
-use Rattle.lzk_goldilocks.specs.Prime.{p}
+use Rattle.lzk_goldilocks.specs.Prime.{p, element_bytes, field_byte}
 use Rattle.lzk_goldilocks.specs.Elements as gold
 use Rattle.lzk_gf128.specs.Elements as gf
 use Rattle.lzk_circbytes.specs.declared.any.AnyCircuit.{AnyCircuit}
@@ -27,7 +27,7 @@ pub record IsFile {A : Type 0} (o : Ops A) (number : A → ℕ) (shape : Shape) 
   pub bytes_are : bytes ≡ file_bytes shape (numbered number c) constants
 
 abbrev pub goldilocks : Shape
-goldilocks = shape 1 8 p
+goldilocks = shape field_byte element_bytes p
 
 abbrev pub gf128 : Shape
 gf128 = shape 2 16 (2 ^ 128)

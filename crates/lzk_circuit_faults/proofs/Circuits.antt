@@ -8,7 +8,7 @@ use Rattle.lzk_field.specs.Ring.{Ops, Laws}
 use Rattle.lzk_circuit.specs.declared.layer.Term.{Term}
 use Rattle.lzk_circuit.specs.declared.layer.Layer.{Layer}
 use Rattle.lzk_circuit.specs.Valid.{Under, above_inputs, above_layer, Wiring, wiring_of, IsValid}
-use Rattle.lzk_goldilocks.specs.Prime.{p}
+use Rattle.lzk_goldilocks.specs.Prime.{p, element_bytes, field_byte}
 use Rattle.lzk_goldilocks.specs.Elements as gold
 use Rattle.lzk_gf128.specs.Elements as gf
 use Rattle.lzk_circbytes.specs.declared.any.AnyCircuit.{AnyCircuit}
@@ -108,7 +108,7 @@ field_some version is (id ∷ rest) fits x e =
     by_bool (eqb id 1) (λ one.
     let there : field_at version (id ∷ rest) ≡ (wiring_at goldilocks version rest >>= λ w. Ok (1, w)) = rw one refl in
     let r = bind_ok (wiring_at goldilocks version rest) (λ w. Ok (1, w)) x (sym there ∙ e) in
-    let c = some_wiring gold.ops p (λ g. g.n) gold.of_number 8 gold.laws 1 version rest r.0 is behind r.1 in
+    let c = some_wiring gold.ops p (λ g. g.n) gold.of_number element_bytes gold.laws field_byte version rest r.0 is behind r.1 in
     (Gold c.0, c.1, there ∙ ap (λ (y : Result (Wiring ℕ) Stop). y >>= λ w. Ok (1, w)) r.1 ∙ ap (λ (w : Wiring ℕ). Ok (1, w)) (sym c.2))) (λ other.
     by_bool (eqb id 2) (λ two.
     let there : field_at version (id ∷ rest) ≡ (wiring_at gf128 version rest >>= λ w. Ok (2, w)) = rw (other, two) refl in

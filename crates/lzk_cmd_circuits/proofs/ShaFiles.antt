@@ -10,7 +10,7 @@ use Rattle.lzk_circbytes.proofs.Sizes.{files_fit}
 use Rattle.lzk_circuit.specs.Valid.{Wiring}
 use Rattle.lzk_goldilocks.specs.declared.element.Gold.{Gold as GoldElement}
 use Rattle.lzk_goldilocks.specs.Elements as gold
-use Rattle.lzk_goldilocks.specs.Prime.{p}
+use Rattle.lzk_goldilocks.specs.Prime.{p, element_bytes, field_byte}
 use Rattle.lzk_outside.specs.Outside.{Files}
 use Rattle.lzk_sha_circuit.specs.Circuits.{IsShaCircuit}
 use Rattle.lzk_cmd_files.specs.declared.ending.Ending.{Ending}
@@ -32,7 +32,7 @@ no_memory tail k old r is = handed_on (WalksToPut tail k old old) r halts.Memory
 -- ---- the circuit is put
 
 -- the file of a circuit for messages of so many bytes, and the line that tells of it
-pub sha_filed : {E : Type 0} (len : ℕ) (name : List ℕ) (c : Wiring GoldElement) (r : Result (Vec ℕ Global × String Global) E) → IsShaCircuit len c → IfOk r (λ made. IsFile gold.ops gold.number (shape 1 8 p) c made.0.items)
+pub sha_filed : {E : Type 0} (len : ℕ) (name : List ℕ) (c : Wiring GoldElement) (r : Result (Vec ℕ Global × String Global) E) → IsShaCircuit len c → IfOk r (λ made. IsFile gold.ops gold.number (shape field_byte element_bytes p) c made.0.items)
     → IfOk r (λ made. string_bytes made.1 ≡ compiled_line name (length c.layers) (term_count c.layers) (length made.0.items)) → IfOk r (λ made. IsShaFile len name made.0.items (string_bytes made.1))
 sha_filed len name c (Ok made) is file text = record { made = c; is = is; file = file; text_is = text }
 sha_filed len name c (Err e) is file text = tt

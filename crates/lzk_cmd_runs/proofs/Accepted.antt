@@ -20,7 +20,7 @@ use Rattle.lzk_field.specs.Coding.{Coding}
 use Rattle.lzk_field.specs.Ring.{Ops}
 use Rattle.lzk_field.specs.Words.{seeded_word}
 use Rattle.lzk_goldilocks.specs.Elements as gold
-use Rattle.lzk_goldilocks.specs.Prime.{p}
+use Rattle.lzk_goldilocks.specs.Prime.{p, element_bytes}
 use Rattle.lzk_goldilocks.specs.declared.element.Gold.{Gold as GoldElement}
 use Rattle.lzk_gf128.specs.Elements as gf
 use Rattle.lzk_complete.specs.Complete.{Complete}
@@ -157,7 +157,7 @@ sha_checks c len valid fits (inr (version, outputs)) = λ public private publics
     let many : c.privates ≡ private_count len = eqb-true c.privates (private_count len) counts.1 in
     let inputs = inputs_of gold.ops public private in
     let count : length inputs ≡ input_width c = inputs-count gold.ops public private ∙ omega (arith, publics, privates, few, many) in
-    one-checks gold.ops p gold.number gold.of_number 8 gold.laws (input_width c) c.layers inputs count valid.some (valid-one gold.ops c version valid) ∙ outputs public private publics privates
+    one-checks gold.ops p gold.number gold.of_number element_bytes gold.laws (input_width c) c.layers inputs count valid.some (valid-one gold.ops c version valid) ∙ outputs public private publics privates
 
 satisfies : MessagesSatisfy → (c : Wiring GoldElement) (message : List ℕ) → length message ≤ 55 → AreBytes message → HasShaChecks (length message) c → (proof session seed : List ℕ) (stop : Stop) (end : End) → ProvesHash c message proof session seed stop end → end.status ≡ 1 → ⊥
 satisfies all c message few bytes is proof session seed stop end (None, first, (xs, file, fits, same)) one = put_status stop proof xs _ (sym (ap (λ (x : End). x.status) same) ∙ one)

@@ -24,7 +24,7 @@ use Rattle.lzk_expr.proofs.EveryText.{some_reading}
 use Rattle.lzk_field.specs.Coding.{Coding}
 use Rattle.lzk_field.specs.Ring.{Ops, Laws}
 use Rattle.lzk_field.specs.Words.{seeded_word}
-use Rattle.lzk_goldilocks.specs.Prime.{p}
+use Rattle.lzk_goldilocks.specs.Prime.{p, element_bytes, field_byte}
 use Rattle.lzk_goldilocks.specs.Elements as gold
 use Rattle.lzk_gf128.specs.Elements as gf
 use Rattle.lzk_level.specs.declared.fault.LevelFault.{LevelFault}
@@ -77,7 +77,7 @@ some_as Two source formed kept = some_circuit_v2 source formed kept
 some_upgraded : (c : AnyCircuit) (bytes : List ℕ) → CircuitBytes c bytes → (file : List ℕ) × CircuitBytes (upgraded_any c) file
 some_upgraded (Gold c) bytes is =
     let made = wiring_of 2 c.publics c.privates c.layers in
-    (file_of (shape 1 8 p) (numbered gold.number made), file_of-IsFile gold.ops p gold.number gold.of_number 8 gold.laws 1 made (upgraded-valid gold.ops c is.valid))
+    (file_of (shape field_byte element_bytes p) (numbered gold.number made), file_of-IsFile gold.ops p gold.number gold.of_number element_bytes gold.laws field_byte made (upgraded-valid gold.ops c is.valid))
 some_upgraded (Gf c) bytes is =
     let made = wiring_of 2 c.publics c.privates c.layers in
     (file_of (shape 2 16 (2 ^ 128)) (numbered gf.number made), file_of-IsFile gf.ops (2 ^ 128) gf.number gf.of_number 16 gf.laws 2 made (upgraded-valid gf.ops c is.valid))
@@ -149,7 +149,7 @@ module _ {A : Type 0} (o : Ops A) (number : A → ℕ) (element : ℕ → A) (si
       some_evaluation (checks_of o number c.layers (inputs_of o publics privates))))
 
 some_eval : (c : AnyCircuit) (public private : List ℕ) (files : Files) (stop : Stop) → (end : End) × EvalAny c public private files stop end
-some_eval (Gold c) public private files stop = some_over gold.ops gold.number gold.of_number p 8 gold.laws c public private files stop
+some_eval (Gold c) public private files stop = some_over gold.ops gold.number gold.of_number p element_bytes gold.laws c public private files stop
 some_eval (Gf c) public private files stop = some_over gf.ops gf.number gf.of_number (2 ^ 128) 16 gf.laws c public private files stop
 
 -- a proof has a verdict, where its file is bytes
@@ -295,8 +295,8 @@ module _ (have : HaveFiles) (files : Files) (stop : Stop) where
   unfolding ShaCircuitRun
   some_shacircuit len circuit few =
       let (c, is, valid) = have.sha_circuit len few in
-      let bytes = file_of (shape 1 8 p) (numbered gold.number c) in
-      let file : CircuitBytes (Gold c) bytes = file_of-IsFile gold.ops p gold.number gold.of_number 8 gold.laws 1 c valid in
+      let bytes = file_of (shape field_byte element_bytes p) (numbered gold.number c) in
+      let file : CircuitBytes (Gold c) bytes = file_of-IsFile gold.ops p gold.number gold.of_number element_bytes gold.laws field_byte c valid in
       (puts stop circuit bytes (compiled_text circuit (Gold c) (length bytes)), (c, bytes, is, file, files_fit (Gold c) bytes file, refl))
 
   some_hash : (bytes : List ℕ) (any : AnyCircuit) → CircuitBytes any bytes → (circuit message proof session seed : List ℕ) → (end : End) × HashAny circuit any message proof session seed stop end

@@ -23,7 +23,7 @@ use Rattle.lzk_expr.specs.declared.fault.NumberFault.{NumberFault}
 use Rattle.lzk_expr.specs.Numbers.{NumberText, IsNumberFault, numbers_of}
 use Rattle.lzk_expr.proofs.Laws.{text_take}
 use Rattle.lzk_field.specs.Ring.{Ops, Laws}
-use Rattle.lzk_goldilocks.specs.Prime.{p}
+use Rattle.lzk_goldilocks.specs.Prime.{p, element_bytes, field_byte}
 use Rattle.lzk_goldilocks.specs.Elements as gold
 use Rattle.lzk_gf128.specs.Elements as gf
 
@@ -112,7 +112,7 @@ field_read version id rest x e = one (eqb id 1) (eqb id 2) refl refl e
 
 circuit_of : (version : ℕ) → (version ≡ 1) ⊎ (version ≡ 2) → (id : ℕ) (rest : List ℕ) → IsBytes rest → IsRead version id rest → (c : AnyCircuit) × CircuitBytes c (76 ∷ 90 ∷ 67 ∷ (48 + version) ∷ id ∷ rest)
 circuit_of version known id rest fits (inl (w, is, e)) =
-    let made = some_file gold.ops p (λ x. x.n) gold.of_number 8 gold.laws 1 version known rest w fits e in
+    let made = some_file gold.ops p (λ x. x.n) gold.of_number element_bytes gold.laws field_byte version known rest w fits e in
     (Gold made.0, subst (λ n. IsFile gold.ops (λ x. x.n) goldilocks made.0 (76 ∷ 90 ∷ 67 ∷ (48 + version) ∷ n ∷ rest)) (sym is) made.1)
 circuit_of version known id rest fits (inr (w, is, e)) =
     let made = some_file gf.ops (2 ^ 128) (λ x. x.n) gf.of_number 16 gf.laws 2 version known rest w fits e in

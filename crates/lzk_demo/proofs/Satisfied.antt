@@ -2,7 +2,7 @@
 use Rattle.std.proofs.Common.{◌≡◌, ℕ, zero, suc, ◌≤◌, List, [], ◌∷◌, None, get_or, refl, sym, ◌∙◌, arith, subst, true}
 use Rattle.std.specs.Prelude.{length}
 use Rattle.std.proofs.lemmas.List.{length-map}
-use Rattle.lzk_goldilocks.specs.Prime.{p}
+use Rattle.lzk_goldilocks.specs.Prime.{p, element_bytes}
 use Rattle.lzk_goldilocks.specs.Elements.{ops, number, of_number, laws}
 use Rattle.lzk_goldilocks.specs.declared.element.Gold.{Gold}
 use Rattle.lzk_circuit.specs.Valid.{Wiring, input_width}
@@ -23,5 +23,5 @@ demo_satisfied n some c one valid publics privates h =
     let values = h (demo_public ops n) (demo_private ops n) (sym publics) (long ∙ sym privates) ∙ gold_value n some in
     let inputs = inputs_of ops (demo_public ops n) (demo_private ops n) in
     let count : length inputs ≡ input_width c = inputs-count ops (demo_public ops n) (demo_private ops n) ∙ omega (arith, publics, privates, long) in
-    let checks = one-checks ops p number of_number 8 laws (input_width c) c.layers inputs count valid.some (valid-one ops c one valid) in
+    let checks = one-checks ops p number of_number element_bytes laws (input_width c) c.layers inputs count valid.some (valid-one ops c one valid) in
     subst (λ (l : List Gold). IsFirstNonzero ops l None) (sym (checks ∙ values)) (λ g lt. one_zero g)

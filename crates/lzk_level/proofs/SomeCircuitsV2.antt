@@ -3,7 +3,7 @@ use Rattle.std.specs.Prelude.{◌≡◌, ℕ, ◌+◌, ◌*◌, ◌^◌, ◌<◌
 use Rattle.std.proofs.Common.{inr, refl, sym, ap, ◌∙◌, arith, subst}
 use Rattle.std.proofs.Math.ListN.{replicate}
 use Rattle.lzk_field.specs.Ring.{Ops, Laws}
-use Rattle.lzk_goldilocks.specs.Prime.{p}
+use Rattle.lzk_goldilocks.specs.Prime.{p, element_bytes, field_byte}
 use Rattle.lzk_goldilocks.specs.Elements as gold
 use Rattle.lzk_gf128.specs.Elements as gf
 use Rattle.lzk_circuit.specs.Checks.{checks_of, check_count}
@@ -133,11 +133,11 @@ has_circuit_v2 source good fits = over source.field_is refl fits
     over : (f : FieldId) → source.field_is ≡ f → limit_in_v2 f source.statements ≡ None → HasSomeCircuitV2 source
     over Goldilocks e limit =
         let ss = source.statements in
-        let (c, is) = made gold.ops p gold.number gold.of_number 8 gold.laws ss good limit in (
+        let (c, is) = made gold.ops p gold.number gold.of_number element_bytes gold.laws ss good limit in (
           Gold c,
-          file_of (shape 1 8 p) (numbered gold.number c),
+          file_of (shape field_byte element_bytes p) (numbered gold.number c),
           record { version_is = is.version; field_is = sym e; publics = is.publics; privates = is.privates; layers = is.layers ∙ ap (λ g. layers_in g ss) (sym e); checks = (is.count, is.checks); outputs = is.outputs; reduced = is.reduced },
-          file_of-IsFile gold.ops p gold.number gold.of_number 8 gold.laws 1 c is.valid,
+          file_of-IsFile gold.ops p gold.number gold.of_number element_bytes gold.laws field_byte c is.valid,
         )
     over Gf2_128 e limit =
         let ss = source.statements in

@@ -32,7 +32,7 @@ impl Factor for Gold {
     ghost scale = { word };
 
     fn scaled(self) -> Gold {
-        self.mul(Gold::of_word(1 << 64))
+        self.times_word()
     }
 
     fn mul_over_scale(self, other: Gold) -> Gold {

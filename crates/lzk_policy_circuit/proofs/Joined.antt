@@ -4,7 +4,7 @@ use Rattle.std.specs.Prelude.{◌↔◌, MatchOption, slice_get, IsTrue, Bool, t
 use Rattle.std.proofs.lemmas.Bool.{leb-true}
 use Rattle.std.specs.List.{AllByRecursion, range_with_len}
 use Rattle.std.proofs.lemmas.List.{length-take-le, drop-take}
-use Rattle.lzk_goldilocks.specs.Prime.{p}
+use Rattle.lzk_goldilocks.specs.Prime.{p, element_bytes}
 use Rattle.lzk_goldilocks.specs.Elements.{ops, of_number, number, laws}
 use Rattle.lzk_goldilocks.specs.declared.element.Gold.{Gold}
 use Rattle.std.proofs.Math.Seq.{take-length}
@@ -49,7 +49,7 @@ pub stated_satisfied : (c : Wiring Gold) (old new : Stated) (public private : Li
     → IsSatisfied ops number c.layers (inputs_of ops public private) ↔ C
 stated_satisfied c old new public private C valid one np nq outs claims before =
     let xs = inputs_of ops public private in
-    let checks = own_checks ops p number of_number 8 laws c xs valid one (width_of c public private np nq) in
+    let checks = own_checks ops p number of_number element_bytes laws c xs valid one (width_of c public private np nq) in
     let zeros : IsSatisfied ops number c.layers xs ↔ AreAllZero ops (wires_of ops c.layers xs) = (
       λ h. all_zero_forward ops (wires_of ops c.layers xs) (subst (λ (l : List Gold). IsFirstNonzero ops l None) checks h),
       λ h. subst (λ (l : List Gold). IsFirstNonzero ops l None) (sym checks) (all_zero_backward ops (wires_of ops c.layers xs) h),
@@ -99,7 +99,7 @@ hash_satisfied first hash whole public private len words bits rest valid one np 
     let front = chosen_front ops public private first.privates lq in
     let there = chosen_hash ops public private words bits (8 * len) rest lw lb lr in
     let checks : checks_of ops number hash.layers (inputs_of ops a b) ≡ sha_outputs ops of_number len a b =
-    own_checks ops p number of_number 8 laws hash (inputs_of ops a b) valid one (width_of hash a b (la ∙ sym np) (lb_ ∙ sym nq)) ∙ outs a b la lb_ in
+    own_checks ops p number of_number element_bytes laws hash (inputs_of ops a b) valid one (width_of hash a b (la ∙ sym np) (lb_ ∙ sym nq)) ∙ outs a b la lb_ in
     let F = λ (xs : List Gold). IsSatisfied ops number first.layers xs in
     let H = λ (xs : List Gold). IsSatisfied ops number hash.layers xs in
     let Z = λ (xs : List Gold). IsFirstNonzero ops xs None in (

@@ -4,7 +4,7 @@ use Rattle.std.specs.List.{range_with_len, flat_map}
 use Rattle.std.proofs.Common.{zero, suc, refl, ap, ap₂, ◌∙◌, arith, subst, length-append}
 use Rattle.std.proofs.lemmas.List.{length-map}
 use Rattle.lzk_field.specs.Ring.{Ops, RingLaws, FieldLaws}
-use Rattle.lzk_goldilocks.specs.Prime.{p}
+use Rattle.lzk_goldilocks.specs.Prime.{p, element_bytes}
 use Rattle.lzk_goldilocks.specs.Elements as gold
 use Rattle.lzk_goldilocks.specs.declared.element.Gold.{Gold}
 use Rattle.lzk_circuit.specs.declared.layer.Layer.{Layer}
@@ -152,7 +152,7 @@ some_compression given ok =
     let (t0, outer) = some_built o gold.ring gold.field decide (inner_count given) (output_rows o element given) (output_within o element given ok) in
     let (t1, inner) = some_built o gold.ring gold.field decide (input_count given) (inner_rows o element given) (inner_within o element given ok) in
     let layers = two_layers given t0 t1 in
-    let (kept, is) = some_reduced o p (λ (x : Gold). x.n) element 8 gold.laws (input_count given) layers (omega arith) (layers_valid o element given ok t0 t1 outer inner) (layers_ones o element given ok t0 t1 outer inner) in
+    let (kept, is) = some_reduced o p (λ (x : Gold). x.n) element element_bytes gold.laws (input_count given) layers (omega arith) (layers_valid o element given ok t0 t1 outer inner) (layers_ones o element given ok t0 t1 outer inner) in
     let two = is.count in (
       wiring 8 (total_count given) kept,
       record {

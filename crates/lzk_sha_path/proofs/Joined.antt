@@ -1,7 +1,7 @@
 -- What satisfies the circuit of a statement.
 use Rattle.std.proofs.Common.{◌≡◌, List, [], ◌∷◌, length, zero, suc, sym, subst, arith, None, length-append}
 use Rattle.std.specs.Prelude.{◌↔◌}
-use Rattle.lzk_goldilocks.specs.Prime.{p}
+use Rattle.lzk_goldilocks.specs.Prime.{p, element_bytes}
 use Rattle.lzk_goldilocks.specs.Elements.{ops, of_number, number, laws}
 use Rattle.lzk_goldilocks.specs.declared.element.Gold.{Gold}
 use Rattle.lzk_circuit.specs.Checks.{checks_of, IsSatisfied}
@@ -30,7 +30,7 @@ pub claim_satisfied : (c : Wiring Gold) (old new : Claims Gold) (public private 
 claim_satisfied c old new public private C valid one np nq outs claims before =
     let xs = inputs_of ops public private in
     let checks : checks_of ops number c.layers xs ≡ wires_of ops c.layers xs =
-    one-checks ops p number of_number 8 laws (input_width c) c.layers xs (width_of c public private np nq) valid.some (valid-one ops c one valid) in
+    one-checks ops p number of_number element_bytes laws (input_width c) c.layers xs (width_of c public private np nq) valid.some (valid-one ops c one valid) in
     let zeros : IsSatisfied ops number c.layers xs ↔ AreAllZero ops (wires_of ops c.layers xs) = (
       λ h. all_zero_forward (wires_of ops c.layers xs) (subst (λ (l : List Gold). IsFirstNonzero ops l None) checks h),
       λ h. subst (λ (l : List Gold). IsFirstNonzero ops l None) (sym checks) (all_zero_backward (wires_of ops c.layers xs) h),

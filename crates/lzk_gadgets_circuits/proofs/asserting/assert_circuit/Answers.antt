@@ -1,7 +1,7 @@
 use Rattle.std.proofs.Common.{◌≡◌, ◌∙◌, ◌∷◌, [], ◌++◌, ◌+◌, sym, ap, subst, arith, length}
 use Rattle.std.proofs.lemmas.List.{length-map}
 use Rattle.lzk_goldilocks.specs.Elements.{ops, number, of_number, laws}
-use Rattle.lzk_goldilocks.specs.Prime.{p}
+use Rattle.lzk_goldilocks.specs.Prime.{p, element_bytes}
 use Rattle.lzk_circuit.specs.Checks.{IsSatisfied}
 use Rattle.lzk_circuit.specs.Wires.{wires_of}
 use Rattle.lzk_level.specs.Nodes.{node_count}
@@ -55,7 +55,7 @@ returns-clause-adds c =
     let b = inputs_kept ops 1 s t i j m.keeps a in
     let first : value ops t i j one ≡ ops.one = c.in_ok-one.ensures.value i j a ∙ c.one.ensures in
     let rest : values ops t i j inputs ≡ values ops s i j inputs = values_kept ops 1 s t i j inputs m.keeps a c.requires.nodes in
-    zero-satisfied ops p number of_number 8 laws circuit (values ops u i j zeros) (ops.one ∷ values ops s i j inputs) found.valid c.requires.version
+    zero-satisfied ops p number of_number element_bytes laws circuit (values ops u i j zeros) (ops.one ∷ values ops s i j inputs) found.valid c.requires.version
     (omega (arith, length-map inputs (value ops s i j), c.requires.count))
     (ap (values ops u i j) c.deref.ensures.value ∙ found.values i j b ∙ ap (λ ks. wires_of ops circuit.layers (values ops t i j ks)) below
     ∙ ap (λ x. wires_of ops circuit.layers (x ∷ values ops t i j inputs)) first ∙ ap (λ xs. wires_of ops circuit.layers (ops.one ∷ xs)) rest)))

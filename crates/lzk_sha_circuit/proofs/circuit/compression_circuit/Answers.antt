@@ -6,7 +6,7 @@ use Rattle.lzk_circuit.proofs.CheckLaws.{one-checks}
 use Rattle.lzk_circuit.proofs.VersionLaws.{valid-one}
 use Rattle.lzk_reduce.specs.Reduced.{HaveOnes, IsReduced}
 use Rattle.lzk_goldilocks.specs.Elements.{ops, number, of_number, laws}
-use Rattle.lzk_goldilocks.specs.Prime.{p}
+use Rattle.lzk_goldilocks.specs.Prime.{p, element_bytes}
 use Rattle.lzk_goldilocks.specs.declared.element.Gold.{Gold}
 use Rattle.lzk_sha_circuit.specs.Found.{places_of}
 use Rattle.lzk_sha_circuit.specs.Outputs.{AreCompressing}
@@ -63,7 +63,7 @@ returns c =
           let p8 = ap (λ (w : Wiring Gold). w.publics) made in
           let pn = ap (λ (w : Wiring Gold). w.privates) made in
           let width : length inputs ≡ input_width wiring = omega (arith, both, hp, hq, p8, pn) in
-          let checks = one-checks ops p number of_number 8 laws (input_width wiring) wiring.layers inputs width valid.some (valid-one ops wiring (ap (λ (w : Wiring Gold). w.version) made) valid) in
+          let checks = one-checks ops p number of_number element_bytes laws (input_width wiring) wiring.layers inputs width valid.some (valid-one ops wiring (ap (λ (w : Wiring Gold). w.version) made) valid) in
           subst (λ (xs : List Gold). IsFirstNonzero ops xs None ↔ AreCompressing ops of_number given public private) (sym (checks ∙ outputs public private hp hq)) (λ z. z, λ z. z);
       reduced = subst (λ (w : Wiring Gold). IsReduced ops w.layers) (sym made) c.in_ok-kept.ensures.reduced;
     }
