@@ -1,4 +1,5 @@
-//! A large proof that is read and written, and proofs of an independent implementation that are written as they were read.
+//! A large proof that is read and written, and proofs of an independent implementation that are written as they were
+//! read.
 
 ghost use Rattle.lzk_profile.specs.Profile.{most_digests};
 ghost use Rattle.std.specs.Prelude.{◌≡◌, ◌≤◌, length, IfOk};
@@ -96,7 +97,8 @@ fn file<F: Field>(alloc: Global, params: &Params, proof: &Proof<F>) -> Result<Ve
     requires params { AreParams F.ops params.now }
     requires lengths { HasLengths params.now proof.now }
     requires few { length proof.now.path.digests ≤ most_digests }
-    ensures { IfOk result (λ bytes. length bytes.items ≡ proof_length F.coding.bytes params.now (length proof.now.path.digests)) }
+    ensures { IfOk result
+        (λ bytes. length bytes.items ≡ proof_length F.coding.bytes params.now (length proof.now.path.digests)) }
 {
     let digests = proof.path.len() as u32;
     let mut bytes = Vec::new(alloc);

@@ -20,8 +20,8 @@ use std::alloc::{AllocError, Global};
 use std::fs;
 use std::rt::Files;
 
-/// The proofs that lie where the program runs, each with the numbers of its draws, and of its combined constraints, joined to
-/// one element, by that implementation.
+/// The proofs that lie where the program runs, each with the numbers of its draws, and of its combined constraints,
+/// joined to one element, by that implementation.
 const JOINED: [(&str, u128, u128); 18] = [
     ("credential", 0xb0d83abd35767908, 0x94b2d3f8ee365cc4),
     ("cube", 0xfb5f4a294617d9a6, 0xd33f9cf8bb1e8d7b),
@@ -116,7 +116,8 @@ pub fn undrawn<F: Field>(alloc: Global, circuit: &Circuit<F>) -> Result<Drawn<F>
     ensures script { IfOk result (λ drawn. HasShape circuit.now drawn.script) }
     ensures challenges { IfOk result (λ drawn. accept.HasShape (params_of circuit.now) drawn.challenges) }
     ensures forms { IfOk result (λ drawn. AreFormsOf F.ops circuit.now drawn.forms) }
-    ensures coefficients { let p = params_of circuit.now in IfOk result (λ drawn. length drawn.coefficients ≡ (p.nrow - 3) * p.wr) }
+    ensures coefficients { let p = params_of circuit.now in
+        IfOk result (λ drawn. length drawn.coefficients ≡ (p.nrow - 3) * p.wr) }
 {
     let coefficients = rows_for(&Params::of(circuit), alloc)?;
     let challenges = Challenges::new(alloc, &Params::of(circuit))?;

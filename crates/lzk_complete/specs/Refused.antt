@@ -36,7 +36,8 @@ module _ {A : Type 0} (o : Ops A) (e : Coding A) (c : Wiring A) (public : List A
     refusal answer.Dot n by =
         let wanted = wanted_sum o e c (params_of c) public proof t in
         let wrong = Linear (slice_index t.columns 0) in
-        cond (nat_lt n opened_count) wrong (cond (nat_lt n (params_of c).block) (LinearSum (o.plus wanted by) wanted) wrong)
+        cond (nat_lt n opened_count) wrong
+        (cond (nat_lt n (params_of c).block) (LinearSum (o.plus wanted by) wanted) wrong)
     refusal answer.Quad n by = Quadratic (slice_index t.columns 0)
 
 -- The bytes are the file of a proof, and have this verdict. At no opened column does the check of the changed answer

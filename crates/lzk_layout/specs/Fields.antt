@@ -90,7 +90,8 @@ answer_sorts messages ldt dot quad_head quad_tail =
 -- the sorts of the fields before the number of digests
 unfoldable pub sorts_of : Params → List Sort
 sorts_of p =
-    magic ∷ plain ∷ plain ∷ (answer_sorts p.nsum p.block p.dblock opened_count (p.dblock - p.block) ++ opened_sorts p.nrow opened_count)
+    magic ∷ plain ∷ plain
+    ∷ (answer_sorts p.nsum p.block p.dblock opened_count (p.dblock - p.block) ++ opened_sorts p.nrow opened_count)
 
 -- all of the bytes as a proof's fields
 unfoldable pub proof_at : Shape → Params → List ℕ → Result (List (List ℕ)) Stop

@@ -94,8 +94,8 @@ place_of p j = (3 + j / p.wr, j % p.wr)
 -- and last values, the opened columns with their nonces, the number of digests, and the digests
 abbrev pub regions : ℕ → Params → ℕ → List ℕ
 regions bytes p digests =
-    4 ∷ 32 ∷ 32 ∷ bytes * p.nsum ∷ bytes * p.block ∷ bytes * p.dblock ∷ bytes * opened_count ∷ bytes * (p.dblock - p.block)
-    ∷ opened_count * (32 + bytes * p.nrow) ∷ 4 ∷ 32 * digests ∷ []
+    4 ∷ 32 ∷ 32 ∷ bytes * p.nsum ∷ bytes * p.block ∷ bytes * p.dblock ∷ bytes * opened_count
+    ∷ bytes * (p.dblock - p.block) ∷ opened_count * (32 + bytes * p.nrow) ∷ 4 ∷ 32 * digests ∷ []
 
 abbrev pub proof_length : ℕ → Params → ℕ → ℕ
 proof_length bytes p digests = sum (regions bytes p digests)

@@ -71,7 +71,8 @@ fn opened_part(rows: u32, digests: u32, k: u32) -> Option<ProofPart>
 // The part of number `k` from the first element sent on.
 fn element_part(params: &Params, digests: u32, k: u32) -> Option<ProofPart>
     requires { AreBounded params.now }
-    ensures { result ≡ slice_get (element_parts params.now (opened_parts params.now.nrow opened_count ++ path_parts digests)) k }
+    ensures { result
+        ≡ slice_get (element_parts params.now (opened_parts params.now.nrow opened_count ++ path_parts digests)) k }
 {
     if k < params.nsum {
         return Some(ProofPart::Message(k));

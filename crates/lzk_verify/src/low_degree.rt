@@ -47,7 +47,8 @@ pub(crate) fn is_low_degree_at<F: Field>(
 // The sum of the linear answer's values at the points of a row's elements.
 fn found_sum<F: Field>(plan: &Plan<'_, F>, values: &[F]) -> F
     requires lengths { length values.now ≡ plan.now.params.dblock }
-    ensures { result ≡ sum_below F.ops (plan.now.params.block - opened_count) (λ i. entry F.ops values.now (opened_count + i)) }
+    ensures { result
+        ≡ sum_below F.ops (plan.now.params.block - opened_count) (λ i. entry F.ops values.now (opened_count + i)) }
 {
     let mut sum = F::zero();
     for s in 0..plan.params.wr as usize {
@@ -59,7 +60,8 @@ fn found_sum<F: Field>(plan: &Plan<'_, F>, values: &[F]) -> F
 /// The sum of these values, where it is not the one that is wanted.
 pub(crate) fn check_linear_sum<F: Field>(plan: &Plan<'_, F>, dot: &[F], wanted: F) -> Option<F>
     requires lengths { length dot.now ≡ plan.now.params.dblock }
-    ensures { let found = sum_below F.ops (plan.now.params.block - opened_count) (λ i. entry F.ops dot.now (opened_count + i)) in
+    ensures { let found = sum_below F.ops (plan.now.params.block - opened_count)
+        (λ i. entry F.ops dot.now (opened_count + i)) in
         IsChecked (found ≡ wanted) found result }
 {
     let found = found_sum(plan, dot);
