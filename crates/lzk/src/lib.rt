@@ -57,7 +57,7 @@
 //! {
 //!     let mut prover = GoldProver::new(rt.alloc(), circuit)?;
 //!     let proof = prove_by(rt, &mut prover, session, public, private, seed);
-//!     drop(prover);
+//!     prover.close();
 //!     proof
 //! }
 //! ```

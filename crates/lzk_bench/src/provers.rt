@@ -59,7 +59,7 @@ fn prove_anew<R: Threads + Sync, F: Field, X: RowExtend<F>>(
 {
     let mut works = WorksOver::<F, X>::new(alloc, circuit)?;
     let sum = prove_often(rt, &mut works, public, private, times);
-    drop(works);
+    works.close();
     Ok(sum)
 }
 
@@ -148,7 +148,7 @@ fn verified<F: Field>(
     };
     let mut desk = Desk::new(alloc, circuit)?;
     let count = accepted(&mut desk, &public, &inputs.proof, is_fed, times);
-    drop(desk);
+    desk.close();
     Ok(count)
 }
 

@@ -83,7 +83,7 @@ fn explain_over<F: Field>(alloc: Global, circuit: &Circuit<F>, id: [u8; 32], job
     match Desk::with_id(alloc, circuit, id) {
         Ok(mut desk) => {
             explain_each(alloc, circuit, &mut desk, jobs);
-            drop(desk);
+            desk.close();
         }
         Err(_) => refuse_each(Refusal::OutOfMemory, jobs),
     }

@@ -73,7 +73,7 @@ fn verify_over<F: Field>(
     match Desk::with_id(alloc, circuit, id) {
         Ok(mut desk) => {
             let verdict = verdict_on(&mut desk, session, &publics, pieces);
-            drop(desk);
+            desk.close();
             Ok(numbered(verdict))
         }
         Err(_) => Err(Refusal::OutOfMemory),

@@ -98,7 +98,7 @@ fn verify_over<F: Field>(
     match Desk::with_id(alloc, circuit, id) {
         Ok(mut desk) => {
             let told = verify_at(alloc, circuit, &mut desk, public, session, proof);
-            drop(desk);
+            desk.close();
             told
         }
         Err(_) => Err(Refusal::OutOfMemory),

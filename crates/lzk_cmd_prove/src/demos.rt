@@ -102,7 +102,7 @@ fn prove_and_verify<F: Field, X: RowExtend<F>, R: Threads + Sync, G: Gate>(
     let id = id(means.alloc, circuit)?;
     let mut works = WorksOver::<F, X>::with_id(means.alloc, circuit, id)?;
     let judged = judge_own_proof(means, circuit, id, &mut works, publics, privates, by);
-    drop(works);
+    works.close();
     judged
 }
 

@@ -118,7 +118,7 @@ pub fn prove_inputs<F: Field, X: RowExtend<F>, R: Threads + Sync, S: Shelf, G: G
     let ending = put_proof::<F, X, R, S, G>(
         means, circuit, &mut works, publics, privates, task, shelf,
     );
-    drop(works);
+    works.close();
     ending
 }
 

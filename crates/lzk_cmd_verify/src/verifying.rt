@@ -63,7 +63,7 @@ fn judge_file<S: Shelf, F: Field>(
 {
     let mut desk = Desk::with_id(alloc, circuit, id)?;
     let ending = judge_by(alloc, &mut desk, session, publics, proof, shelf);
-    drop(desk);
+    desk.close();
     ending
 }
 
@@ -82,7 +82,7 @@ pub fn verdict_on<F: Field>(
 {
     let mut desk = Desk::with_id(alloc, circuit, id)?;
     let verdict = desk.verify(b"", publics, bytes);
-    drop(desk);
+    desk.close();
     Ok(verdict)
 }
 

@@ -51,7 +51,7 @@ fn two_verdicts(
     let mut verifier = Verifier::new(alloc, circuit)?;
     let whole = verify_whole(&mut verifier, SESSION, public, proof);
     let fed = verify_fed(&mut verifier, SESSION, public, proof);
-    drop(verifier);
+    verifier.close();
     Ok((whole, fed))
 }
 

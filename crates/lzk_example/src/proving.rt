@@ -41,6 +41,6 @@ pub fn prove_numbers<R: Threads + Sync + AllocGlobal>(
 {
     let mut prover = GoldProver::new(rt.alloc(), circuit)?;
     let proof = prove_by(rt, &mut prover, session, public, private, seed);
-    drop(prover);
+    prover.close();
     proof
 }

@@ -124,6 +124,12 @@ impl<'c, F: Field, X: RowExtend<F>> WorksOver<'c, F, X> {
         Ok(WorksOver { circuit, parts })
     }
 
+    /// Gives the prover's memory back, as dropping it does. A caller who ends a prover so owes no proof of how its parts
+    /// end.
+    pub fn close(self) {
+        drop(self);
+    }
+
     /// The bytes of the proof's file, whether the inputs satisfy the circuit or not. It is there for tests, and does
     /// what
     /// `prove` does for inputs that satisfy it. No memory is taken.

@@ -86,7 +86,7 @@ fn prove_inputs<R: Hands, F: Field, X: RowExtend<F>>(
     match WorksOver::<F, X>::with_id(alloc, circuit, id) {
         Ok(mut works) => {
             let told = put_proof(rt, circuit, &mut works, publics, privates, with, room);
-            drop(works);
+            works.close();
             told
         }
         Err(_) => Err(Refusal::OutOfMemory),

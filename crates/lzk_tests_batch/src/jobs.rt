@@ -63,7 +63,7 @@ fn proof_over<R: Threads + Sync>(
 {
     let mut works = WorksOver::<Gold, NttExtender<Gold>>::new(alloc, circuit)?;
     let proof = written(rt, alloc, &mut works, public, private);
-    drop(works);
+    works.close();
     proof
 }
 

@@ -114,7 +114,7 @@ fn proved_by_two<R: Threads + Sync, W: Words>(
     let private = [Gold::of_word(SQUARE.private)];
     let mut works = WorksOver::<Gold, NttExtender<Gold>>::new(alloc, circuit)?;
     let proved = answered(rt, &mut works, b"", &public, &private, words, 2);
-    drop(works);
+    works.close();
     Ok(proved)
 }
 

@@ -190,7 +190,7 @@ fn written_of<R: Threads + Sync, F: Field, X: RowExtend<F>, G: Gate>(
     let params = Params::of(circuit);
     let mut works = WorksOver::<F, X>::new(alloc, circuit)?;
     let written = write_all(rt, &mut works, &params, case, inputs, extremes, gate);
-    drop(works);
+    works.close();
     Ok(written)
 }
 

@@ -78,7 +78,7 @@ fn are_told_over<F: Field>(
     };
     let mut desk = Desk::new(alloc, circuit)?;
     let told = are_told(&mut desk, session, &public, bytes);
-    drop(desk);
+    desk.close();
     Ok(told)
 }
 

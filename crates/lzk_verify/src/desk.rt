@@ -101,6 +101,11 @@ impl<'c, F: Field> Desk<'c, F> {
         })
     }
 
+    /// Gives the desk's memory back, as dropping it does. A caller who ends a desk so owes no proof of how its parts end.
+    pub fn close(self) {
+        drop(self);
+    }
+
     /// Begins to read a file. What was fed before is given up.
     pub fn open(&mut self, session: &[u8], public: &[F])
         requires session { length session.now ≤ 64 }
