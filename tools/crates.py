@@ -206,7 +206,7 @@ def order():
     for path, text in ((MAP, map_text(page, layers, crates)), (LIST, list_text(layers, crates))):
         with open(os.path.join(TOP, path), "w", encoding="utf-8") as file:
             file.write(text)
-    print("\n".join([*said, f"{len(crates)} crates in {len(layers)} layers"]))
+    print("\n".join([*said, f"{len(crates)} crates in {len(layers)} layers; the figure of them is drawn by tools/figures.py --draw"]))
 
 
 def main(words):
