@@ -9,7 +9,7 @@
 //!
 //! ```text
 //! low_degree_into(&params, &table, width, &u, &mut room, &mut low_degree);
-//! linear_into(&params, &table, width, &combined, &extender, &mut room, &mut linear);
+//! linear_by_factors_into(&combined, &table, width, &extender, &mut room, &mut linear);
 //! quadratic_into(&params, &table, width, &v, &mut quadratic);
 //! ```
 #![tactic(auto)]
@@ -22,7 +22,7 @@ mod rows;
 mod table;
 
 pub use laws::{answers_laws, changed_answers_laws, value_laws};
-pub use linear::{linear_by_factors_into, linear_into};
+pub use linear::linear_by_factors_into;
 pub use low_degree::low_degree_into;
 pub use quadratic::quadratic_into;
 pub use table::Combined;

@@ -1,11 +1,10 @@
 //! The linear answer.
 
 ghost use Rattle.lzk_profile.specs.Profile.{opened_count};
-ghost use Rattle.std.specs.Prelude.{◌≡◌, ℕ, ◌+◌, ◌-◌, ◌*◌, ◌<◌, ◌≤◌, List, length};
+ghost use Rattle.std.specs.Prelude.{◌≡◌, ℕ, ◌+◌, ◌*◌, ◌<◌, ◌≤◌, List, length};
 ghost use Rattle.lzk_field.specs.Sums.{entry, sum_below};
 ghost use Rattle.lzk_poly.specs.Extension.{extension};
 ghost use Rattle.lzk_poly.specs.Through.{values_of};
-ghost use Rattle.lzk_layout.specs.Sizes.{AreBounded};
 ghost use Rattle.lzk_answers.specs.Answers.{linear_answer};
 ghost use Rattle.lzk_answers.specs.Coefficients.{AreCoefficients, AreExtended, AreFactored, AreListed};
 ghost use Rattle.lzk_answers.specs.Rows.{IsTableOf};
@@ -13,7 +12,7 @@ ghost use Rattle.lzk_answers.specs.Rows.{IsTableOf};
 use crate::rows::{FACTORS, add_list, add_products, clear, multiply_list, row_of, set_list};
 use crate::table::{Combined, Extending, Factors, Given, Listed, Table};
 use lzk_field::Field;
-use lzk_layout::{BLINDS, Params};
+use lzk_layout::BLINDS;
 use lzk_poly::RowExtend;
 
 // Zeros, and then these coefficients.
@@ -214,54 +213,10 @@ fn add_listed<F: Field, X: RowExtend<F>>(
 /// Sets `answer`, of DBLOCK values, to the values of the linear answer: row 1, and each row from row 3 on times the
 /// polynomial of its combined coefficients.
 ///
-/// `table` has the rows one after another, with `width` values each, at the first points, and `coefficients` the
-/// combined coefficients of each row from row 3 on, one an element of the row. The extender's and DBLOCK more elements
-/// of `room` are used. What they hold before and after has no meaning. No memory is taken. It is the plain form beside
-/// `linear_by_factors_into`, for tests.
-pub fn linear_into<'a, F: Field, X: RowExtend<F>>(
-    params: &'a Params,
-    table: &'a [F],
-    width: usize,
-    coefficients: &[F],
-    extender: &'a X,
-    room: &mut [F],
-    answer: &mut [F],
-)
-    requires bounded { AreBounded params.now }
-    requires table { params.now.nrow * width ≤ length table.now }
-    requires width { params.now.dblock ≤ width }
-    requires coefficients { length coefficients.now ≡ (params.now.nrow - 3) * params.now.wr }
-    requires reach { X.reach extender.now ≡ record { count = params.now.block; upto = params.now.dblock } }
-    requires room { X.rooms extender.now + params.now.dblock ≤ length room.old }
-    requires answer { length answer.old ≡ params.now.dblock }
-    ensures room { length room.new ≡ length room.old }
-    ensures answer { length answer.new ≡ length answer.old }
-    ensures values { (all : List (List F)) (lists : ℕ → List F) → length all ≡ params.now.nrow
-        → IsTableOf F.ops F.coding.element width all table.now → AreListed F.ops params.now 0 coefficients.now lists
-        → answer.new
-        ≡ values_of F.ops F.coding.element params.now.dblock
-        (linear_answer F.ops F.coding.element params.now all lists) }
-{
-    let extending = Extending {
-        table: Table {
-            params,
-            values: table,
-            width,
-        },
-        extender,
-    };
-    set_list(answer, row_of(table, width, 1, params.dblock as usize));
-    let listed = Listed {
-        extending: &extending,
-        rows: 0,
-        coefficients,
-    };
-    add_listed(&listed, room, answer);
-}
-
-/// The same where the coefficients of the first rows from row 3 on are sums of four products: these rows cost a sum of
-/// their multiples and a product of two rows for each of the four, and no product of every row. The extender's and
-/// twice DBLOCK elements of `room` are used.
+/// `table` has the rows one after another, with `width` values each, at the first points. The coefficients of the first
+/// rows from row 3 on are sums of four products: these rows cost a sum of their multiples and a product of two rows for
+/// each of the four, and no product of every row. Those of the others are listed. The extender's and twice DBLOCK
+/// elements of `room` are used. What they hold before and after has no meaning. No memory is taken.
 pub fn linear_by_factors_into<'a, F: Field, X: RowExtend<F>>(
     combined: &Combined<'a, F>,
     table: &'a [F],

@@ -10,3 +10,4 @@ pub mod Paths
 pub mod Runs
 pub mod Shown
 pub mod Words
+pub mod Status

@@ -14,6 +14,8 @@
 //! ```text
 //! let status = run(alloc, &words, &mut shelf, &mut out);
 //! ```
+//!
+//! and a program's `main` hands its runtime over, as `run_program(&rt)`.
 #![tactic(auto)]
 
 mod circuits;
@@ -23,6 +25,7 @@ mod inputs;
 mod lines;
 mod paths;
 mod policies;
+mod program;
 mod records;
 mod running;
 mod showing;
@@ -30,4 +33,5 @@ mod texts;
 mod values;
 mod words;
 
+pub use program::{run_program, run_words};
 pub use running::run;

@@ -11,6 +11,8 @@
 
 ghost use Rattle.std.specs.Prelude.{◌≤◌, IfOk};
 ghost use Rattle.std.specs.Process.{exit_status};
+ghost use Rattle.lzk_cmd_runs.specs.Sights.{texts};
+ghost use Rattle.lzk_main.specs.Status.{IsAnswered, IsEndedBy};
 
 use lzk_cmd::run;
 use lzk_field::Open;
@@ -27,7 +29,8 @@ fn start<T: Threads + Sync>(
     threads: &T,
     words: &[String],
 ) -> Result<u8, AllocError>
-    ensures { IfOk result (λ status. status ≤ 6) }
+    ensures answered { IfOk result (IsAnswered (texts words.now)) }
+    ensures few { IfOk result (λ status. status ≤ 6) }
 {
     let mut shelf = DiskShelf::new(rt.clone()?, rt.alloc());
     let mut out = StdoutSink::new(rt.clone()?, rt.alloc());
@@ -36,6 +39,7 @@ fn start<T: Threads + Sync>(
 
 /// Runs these words, and gives the status.
 pub fn run_words<T: Threads + Sync>(rt: &HostRuntime, threads: &T, words: &[String]) -> ExitCode
+    ensures ended { IsEndedBy (texts words.now) (exit_status result) }
     ensures status { exit_status result ≤ 6 }
 {
     ended(start(rt, threads, words))

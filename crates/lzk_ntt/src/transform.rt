@@ -2,8 +2,7 @@
 
 ghost use Rattle.std.specs.Prelude.{◌≡◌, ◌≢◌, ℕ, ◌^◌, ◌<◌, ◌≤◌, length, IfOk};
 ghost use Rattle.lzk_field.specs.Sums.{entry};
-ghost use Rattle.lzk_ntt.specs.Lists.{HaveOneLength};
-ghost use Rattle.lzk_ntt.specs.Transform.{cyclic_convolution, spectrum, doubled, AreTwiddles, IsPrincipal, IsRoot, Order};
+ghost use Rattle.lzk_ntt.specs.Transform.{spectrum, doubled, AreTwiddles, IsPrincipal, IsRoot, Order};
 
 use crate::halves::{backward, forward};
 use crate::prepared::{Factor, Prepared};
@@ -35,17 +34,6 @@ fn twiddle_factors<F: Factor>(
         list[k] = list[2 * k];
     }
     Ok(list)
-}
-
-// The products of the entries at one place.
-fn multiply<F: Field>(left: &[F], right: &[F], out: &mut [F])
-    requires lengths { HaveOneLength out.old left.now right.now }
-    ensures { (j : ℕ) → j < length out.new
-        → entry F.ops out.new j ≡ F.ops.times (entry F.ops left.now j) (entry F.ops right.now j) }
-{
-    for j in 0..out.len() {
-        out[j] = left[j].mul(right[j]);
-    }
 }
 
 /// The number-theoretic transforms of 2^bits entries by one root, with their twiddle factors, which are
@@ -124,24 +112,6 @@ impl<F: Factor> Transform<F> {
             → entry F.ops values.new i ≡ F.ops.times (doubled F.ops self.now.bits) (x i) }
     {
         backward(values, &self.inverse_twiddles, self.bits);
-    }
-
-    /// The cyclic convolution of the lists whose forward transforms are `left` and `right`. As after
-    /// `backward`, each entry is doubled as many times as the order has bits.
-    pub fn convolve(&self, left: &[F], right: &[F], out: &mut [F])
-        requires left { length left.now ≡ 2 ^ self.now.bits }
-        requires right { length right.now ≡ 2 ^ self.now.bits }
-        requires out { length out.old ≡ 2 ^ self.now.bits }
-        ensures { (x y : ℕ → F)
-            → ((j : ℕ) → j < length left.now → entry F.ops left.now j ≡ spectrum F.ops self.now.bits self.now.root x j)
-            → ((j : ℕ) → j < length right.now
-            → entry F.ops right.now j ≡ spectrum F.ops self.now.bits self.now.root y j)
-            → (t : ℕ) → t < length out.new
-            → entry F.ops out.new t
-            ≡ F.ops.times (doubled F.ops self.now.bits) (cyclic_convolution F.ops (2 ^ self.now.bits) x y t) }
-    {
-        multiply(left, right, out);
-        self.backward(out);
     }
 
     /// How many entries it transforms.

@@ -46,8 +46,8 @@ fn squares_are_claimed(rt: HostRuntime) -> Result<(), Fail> {
         Gold::of_word(81),
         Gold::of_word(80),
     ];
-    assert!(rt; is_satisfied(alloc, &circuit, &numbers[2..3], &numbers[0..2])?);
-    assert!(rt; !is_satisfied(alloc, &circuit, &numbers[3..4], &numbers[0..2])?);
-    assert!(rt; !is_satisfied(alloc, &circuit, &numbers[2..3], &numbers[1..3])?);
+    assert!(rt; is_satisfied(alloc, &circuit, &numbers[2..3], &numbers[0..2]) == Ok(true));
+    assert!(rt; is_satisfied(alloc, &circuit, &numbers[3..4], &numbers[0..2]) == Ok(false));
+    assert!(rt; is_satisfied(alloc, &circuit, &numbers[2..3], &numbers[1..3]) == Ok(false));
     Ok(())
 }

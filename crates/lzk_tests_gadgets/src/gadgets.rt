@@ -67,6 +67,9 @@ fn worth(alloc: Global) -> Result<Circuit<Gold>, LevelError> {
     s.finish()
 }
 
+// Public numbers, private ones, and whether they satisfy a circuit.
+type Row<'a> = (&'a [u128], &'a [u128], bool);
+
 // Whether a circuit is satisfied by these numbers, the public ones first.
 fn holds(
     alloc: Global,
@@ -79,6 +82,21 @@ fn holds(
     is_satisfied(alloc, circuit, &left, &right)
 }
 
+// The first row that says otherwise than the circuit, if there is one.
+fn wrong_row(
+    alloc: Global,
+    circuit: &Circuit<Gold>,
+    rows: &[Row<'_>],
+) -> Result<Option<usize>, AllocError> {
+    for i in 0..rows.len() {
+        let (public, private, wanted) = rows[i];
+        if holds(alloc, circuit, public, private)? != wanted {
+            return Ok(Some(i));
+        }
+    }
+    Ok(None)
+}
+
 #[test]
 fn order_is_shown_by_bits(rt: HostRuntime) -> Result<(), Fail> {
     let alloc = rt.alloc();
@@ -87,14 +105,17 @@ fn order_is_shown_by_bits(rt: HostRuntime) -> Result<(), Fail> {
         assert!(rt; false);
         return Ok(());
     };
-    // 5 at most 11, by the bits of 6
-    assert!(rt; holds(alloc, &circuit, &[5, 11], &[0, 1, 1, 0])?);
-    assert!(rt; holds(alloc, &circuit, &[7, 7], &[0, 0, 0, 0])?);
-    // other bits; no bits that spell 6; the wrong order; sixteen apart
-    assert!(rt; !holds(alloc, &circuit, &[5, 11], &[1, 1, 1, 0])?);
-    assert!(rt; !holds(alloc, &circuit, &[5, 11], &[2, 0, 1, 0])?);
-    assert!(rt; !holds(alloc, &circuit, &[11, 5], &[0, 1, 1, 0])?);
-    assert!(rt; !holds(alloc, &circuit, &[0, 16], &[0, 0, 0, 0])?);
+    let rows: [Row<'_>; 6] = [
+        // 5 at most 11, by the bits of 6
+        (&[5, 11], &[0, 1, 1, 0], true),
+        (&[7, 7], &[0, 0, 0, 0], true),
+        // other bits; no bits that spell 6; the wrong order; sixteen apart
+        (&[5, 11], &[1, 1, 1, 0], false),
+        (&[5, 11], &[2, 0, 1, 0], false),
+        (&[11, 5], &[0, 1, 1, 0], false),
+        (&[0, 16], &[0, 0, 0, 0], false),
+    ];
+    assert!(rt; wrong_row(alloc, &circuit, &rows) == Ok(None));
     Ok(())
 }
 
@@ -105,11 +126,14 @@ fn a_bit_chooses(rt: HostRuntime) -> Result<(), Fail> {
         assert!(rt; false);
         return Ok(());
     };
-    assert!(rt; holds(alloc, &circuit, &[3, 3, 4], &[1])?);
-    assert!(rt; holds(alloc, &circuit, &[4, 3, 4], &[0])?);
-    assert!(rt; !holds(alloc, &circuit, &[4, 3, 4], &[1])?);
-    // 2 * 3 - 1 * 4 is 2, but 2 is no bit
-    assert!(rt; !holds(alloc, &circuit, &[2, 3, 4], &[2])?);
+    let rows: [Row<'_>; 4] = [
+        (&[3, 3, 4], &[1], true),
+        (&[4, 3, 4], &[0], true),
+        (&[4, 3, 4], &[1], false),
+        // 2 * 3 - 1 * 4 is 2, but 2 is no bit
+        (&[2, 3, 4], &[2], false),
+    ];
+    assert!(rt; wrong_row(alloc, &circuit, &rows) == Ok(None));
     Ok(())
 }
 
@@ -125,12 +149,15 @@ fn listed_numbers_differ_by_inverses(rt: HostRuntime) -> Result<(), Fail> {
     let third = 12_297_829_379_609_722_881;
     let fifth = 14_757_395_255_531_667_457;
     let half = 9_223_372_034_707_292_161;
-    assert!(rt; holds(alloc, &circuit, &[3, 1], &[third, half])?);
-    assert!(rt; holds(alloc, &circuit, &[5, 3], &[fifth, half])?);
-    // no inverse; another number; the same number
-    assert!(rt; !holds(alloc, &circuit, &[3, 1], &[fifth, half])?);
-    assert!(rt; !holds(alloc, &circuit, &[1, 3], &[1, half])?);
-    assert!(rt; !holds(alloc, &circuit, &[3, 3], &[third, half])?);
+    let rows: [Row<'_>; 5] = [
+        (&[3, 1], &[third, half], true),
+        (&[5, 3], &[fifth, half], true),
+        // no inverse; another number; the same number
+        (&[3, 1], &[fifth, half], false),
+        (&[1, 3], &[1, half], false),
+        (&[3, 3], &[third, half], false),
+    ];
+    assert!(rt; wrong_row(alloc, &circuit, &rows) == Ok(None));
     Ok(())
 }
 
@@ -149,16 +176,32 @@ fn numbers_are_spelled(rt: HostRuntime) -> Result<(), Fail> {
 fn a_text_is_spelled_by_its_bits(rt: HostRuntime) -> Result<(), Fail> {
     let alloc = rt.alloc();
     text_laws();
-    let (Ok(text), Ok(bytes)) = (spelled(alloc), worth(alloc)) else {
+    let Ok(text) = spelled(alloc) else {
         assert!(rt; false);
         return Ok(());
     };
-    assert!(rt; holds(alloc, &text, &[], &TEXT_BITS)?);
-    assert!(rt; !holds(alloc, &text, &[], &OTHER_BITS)?);
-    assert!(rt; !holds(alloc, &text, &[], &NO_BITS)?);
-    assert!(rt; holds(alloc, &bytes, &[], &TEXT_BITS)?);
-    assert!(rt; holds(alloc, &bytes, &[], &NO_BITS)?);
-    assert!(rt; !holds(alloc, &bytes, &[], &OTHER_BITS)?);
+    let rows: [Row<'_>; 3] = [
+        (&[], &TEXT_BITS, true),
+        (&[], &OTHER_BITS, false),
+        (&[], &NO_BITS, false),
+    ];
+    assert!(rt; wrong_row(alloc, &text, &rows) == Ok(None));
+    Ok(())
+}
+
+#[test]
+fn a_text_is_worth_its_bytes(rt: HostRuntime) -> Result<(), Fail> {
+    let alloc = rt.alloc();
+    let Ok(bytes) = worth(alloc) else {
+        assert!(rt; false);
+        return Ok(());
+    };
+    let rows: [Row<'_>; 3] = [
+        (&[], &TEXT_BITS, true),
+        (&[], &NO_BITS, true),
+        (&[], &OTHER_BITS, false),
+    ];
+    assert!(rt; wrong_row(alloc, &bytes, &rows) == Ok(None));
     Ok(())
 }
 

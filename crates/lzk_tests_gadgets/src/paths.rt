@@ -27,9 +27,9 @@ fn one_level_leads_to_its_root(rt: HostRuntime) -> Result<(), Fail> {
     let private = bits(alloc, PRIVATE, PRIVATE_COUNT)?;
     assert!(rt; inputs.public.as_slice() == public.as_slice());
     assert!(rt; inputs.private.as_slice() == private.as_slice());
-    assert!(rt; is_satisfied(alloc, &circuit, &public, &private)?);
-    assert!(rt; !is_satisfied(alloc, &circuit, &other, &private)?);
-    assert!(rt; !is_satisfied(alloc, &circuit, &turned, &private)?);
+    assert!(rt; is_satisfied(alloc, &circuit, &public, &private) == Ok(true));
+    assert!(rt; is_satisfied(alloc, &circuit, &other, &private) == Ok(false));
+    assert!(rt; is_satisfied(alloc, &circuit, &turned, &private) == Ok(false));
     Ok(())
 }
 
@@ -47,7 +47,7 @@ fn three_levels_lead_to_theirs(rt: HostRuntime) -> Result<(), Fail> {
     };
     let public = word_elements(alloc, &[LEAF, ROOT])?;
     assert!(rt; inputs.public.as_slice() == public.as_slice());
-    assert!(rt; is_satisfied(alloc, &circuit, &public, &inputs.private)?);
+    assert!(rt; is_satisfied(alloc, &circuit, &public, &inputs.private) == Ok(true));
     Ok(())
 }
 
