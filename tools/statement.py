@@ -17,7 +17,7 @@ NUMBER = re.compile(r"[0-9]+|0x[0-9a-fA-F]+")
 NO_COMPARISON = "there is no comparison: docs/LANGUAGE.md says how bits and inverses do it"
 HINTS = {
     "^": "a power is a product: x*x",
-    ",": "names are parted by blanks",
+    ",": "names are separated by blanks",
     ";": "a line has one statement",
     "/": "there is no division: a private inverse i with x*i = 1 does it",
     "!": NO_COMPARISON,
@@ -250,7 +250,7 @@ class Statement:
         if token is None or token.text not in FIELDS:
             raise line.fault("Syntax", token, "the fields are: " + ", ".join(FIELDS))
         if line.next() is not None:
-            raise line.fault("Syntax", line.next(), "nothing stands behind the field's name")
+            raise line.fault("Syntax", line.next(), "nothing stands after the field's name")
         if self.field is not None:
             raise line.fault("Twice", line.tokens[0], "the field is named once")
         self.field = token.text
@@ -290,7 +290,7 @@ class Statement:
         line.want("=", "wanted =")
         value = line.sum("")
         if line.next() is not None:
-            raise line.fault("Syntax", line.next(), "nothing stands behind the value of a let")
+            raise line.fault("Syntax", line.next(), "nothing stands after the value of a let")
         if name.text in self.lines:
             raise line.fault("Twice", name, self.declared(name.text, line.number))
         self.check_parts(line)
@@ -302,7 +302,7 @@ class Statement:
         line.want("=", "wanted = and the right side")
         right = line.sum("")
         if line.next() is not None:
-            raise line.fault("Syntax", line.next(), "an equation has one =" if line.is_next("=") else "nothing stands behind the right side")
+            raise line.fault("Syntax", line.next(), "an equation has one =" if line.is_next("=") else "nothing stands after the right side")
         self.check_parts(line)
         self.asserts.append(Assert(line.number, left, right, text.decode("latin-1").strip()))
 
@@ -325,7 +325,7 @@ def expression_of(text):
             raise line.fault("Character", token, "no expression has this byte")
     expression = line.sum("")
     if line.next() is not None:
-        raise line.fault("Syntax", line.next(), "nothing stands behind an expression")
+        raise line.fault("Syntax", line.next(), "nothing stands after an expression")
     return expression, [token.text for token in line.names]
 
 
@@ -443,6 +443,17 @@ def check_order(statement, version):
     return numbers
 
 
+def no_number(word, size):
+    """Why a word is no number of a number file."""
+    wanted = "a number is decimal digits, or 0x and hexadecimal digits"
+    if re.fullmatch(r"-[0-9]{1,40}", word):
+        instead = size - int(word[1:]) if size == Gold.size else int(word[1:])
+        return f"{wanted}: write {instead} for {word}" if 0 <= instead < size else wanted
+    if word.startswith("0X"):
+        return f"{wanted}, with a small x"
+    return wanted + (": blanks and line ends separate numbers, and no commas" if "," in word else "")
+
+
 def read_numbers(text, wanted, size):
     """The numbers of a number file, or a Fault."""
     numbers, lines = [], text.split(b"\n")
@@ -450,7 +461,7 @@ def read_numbers(text, wanted, size):
         for found in re.finditer(rb"[^ \t\r]+", whole.split(b"#", 1)[0]):
             word = found[0].decode("latin-1")
             if not NUMBER.fullmatch(word):
-                raise Fault("Syntax", line, found.start(), len(word), "a number is decimal digits, or 0x and hexadecimal digits")
+                raise Fault("Syntax", line, found.start(), len(word), no_number(word, size))
             if len(numbers) == wanted:
                 count = sum(len(re.findall(rb"[^ \t\r]+", other.split(b"#", 1)[0])) for other in lines)
                 raise Fault("TooMany", line, found.start(), len(word), f"the circuit takes {wanted} of these, and the file has {count}")
@@ -464,7 +475,8 @@ def read_numbers(text, wanted, size):
 
 def show(name, text, fault):
     """The lines that tell of a fault: the place, the line, and a mark below it."""
-    line = text.split(b"\n")[fault.line - 1][:4000]
+    lines = text.split(b"\n")
+    line = lines[fault.line - 1][:4000] if fault.line <= len(lines) else b""
     if not line.strip():
         return [f"{name}, line {fault.line}: {fault.wanted}"]
     shown = line.decode("utf-8", "replace").replace("\r", "")
