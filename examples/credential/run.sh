@@ -26,7 +26,7 @@ tell() {
 
 # Adults on a day of 2026.
 ask() {
-    call service request "$1" "$2" "$here/$3" "$4" 20081129 20261129
+    call service request "$1" "$2" "$here/$3" "$4" LATEST=20081129 TODAY=20261129
 }
 
 check() {
@@ -47,7 +47,7 @@ tell what a verifier learns
 "$ZK_CREDENTIAL" show "$here/policy.txt"
 tell records
 call issuer key issuer
-issue issuer ann.toml ann 8
+issue issuer ann.toml ann 10
 issue issuer bob.json bob 3
 issue issuer eve.toml eve 3
 tell an adult
@@ -84,11 +84,11 @@ call wallet ann evil.example q7 a7
 check shop q6 a7
 tell a service that asks for a secret by another name
 sed 's/text 2 at 12/text 2 at 15/' "$here/plain.txt" >spy.txt
-call service request spy spy.example spy.txt q8 20081129 20261129
+call service request spy spy.example spy.txt q8 LATEST=20081129 TODAY=20261129
 call wallet ann spy.example q8 a8
 tell a service that gives the tag of another, by a name of its own and by a value of two lines
 sed 's/for SERVICE/for MEMBER/' "$here/policy.txt" >tag.txt
-call service request spy spy.example tag.txt q13 20081129 20261129
+call service request spy spy.example tag.txt q13 LATEST=20081129 TODAY=20261129
 sed "s/\"MEMBER\": \"[0-9a-f]*\"/\"MEMBER\": \"00112233445566778899aabbccddeeff\"/" q13 >q14
 call wallet ann spy.example q14 a14
 check spy q13 a14
@@ -110,6 +110,29 @@ check club q11 a11
 ask bar bar.example policy.txt q12
 call wallet ann bar.example q12 a12
 check bar q12 a12
+tell a service that asks for a field itself, which the wallet tells if its user says so
+sed 's/^show country one of NL BE$/show country as COUNTRY/' "$here/plain.txt" >told.txt
+call service request post post.example told.txt q22 LATEST=20081129 TODAY=20261129
+call wallet ann post.example q22 a22 </dev/null
+call wallet ann post.example q22 a22 tell=country
+check post q22 a22
+tell the same, where the wallet tells another country
+call service request post post.example told.txt q23 LATEST=20081129 TODAY=20261129
+call wallet ann post.example q23 a23 tell=country
+sed 's/"COUNTRY": "4e4c"/"COUNTRY": "4245"/' a23 >a24
+check post q23 a24
+tell files that have not their form
+ask post post.example plain.txt q24
+echo '{' >a25
+check post q24 a25
+check post q24 a23
+call wallet ann post.example a25 a26
+call service request post post.example "$here/plain.txt" q25 LATEST=2008-11-29
+call service request post post.example "$here/plain.txt" q25 LATEST=20081129
+echo 'birth = 1999-04-12' >short.toml
+call issuer issue issuer "$here/policy.txt" short.toml new 1
+call issuer issue issuer "$here/policy.txt" "$here/ann.toml" ann 1
+call issuer key issuer
 tell under a root, by which issuer and service together do not know who it was
 "$ZK_CREDENTIAL" show "$here/under.txt"
 call issuer publish issuer "$here/under.txt" root "$here/ann.toml" ann8 "$here/bob.json" bob8 "$here/eve.toml" eve8
@@ -129,6 +152,13 @@ call issuer publish forger "$here/under.txt" root2 "$here/ann.toml" mallory8
 call wallet mallory8 inn.example q18 a18
 check inn q18 a18
 call service trust inn issuer/public.pem root2
+tell a root that the service trusts by another key than the one it checks with, and a root of another depth
+call service trust annex forger/public.pem root2
+ask annex annex.example under.txt q26
+call wallet mallory8 annex.example q26 a26
+check annex q26 a26
+sed 's/"levels": 3/"levels": 4/' root >root4
+call service trust inn issuer/public.pem root4
 tell a record of another tree by the path of a leaf under the root
 mix mallory8 record ann8 thief
 ask inn inn.example under.txt q19
@@ -140,8 +170,8 @@ call wallet stray inn.example q19 a19
 call wallet stray inn.example q19 a19 anyway
 tell a service that asks for the digest of a record under a root, or for a pseudonym
 sed 's/^show under root 3$/show digest/' "$here/under.txt" > by-digest.txt
-call service request spy spy.example by-digest.txt q20 20081129 20261129
+call service request spy spy.example by-digest.txt q20 LATEST=20081129 TODAY=20261129
 call wallet ann8 spy.example q20 a20
-{ cat "$here/under.txt" && printf '%s\n' 'field secret bytes 16 at 15' 'show pseudonym of secret for SERVICE'; } > by-name.txt
-call service request spy spy.example by-name.txt q21 20081129 20261129
+sed -e '/^show under root/i field secret bytes 16 at 15' -e '$a show pseudonym of secret for SERVICE' "$here/under.txt" > by-name.txt
+call service request spy spy.example by-name.txt q21 LATEST=20081129 TODAY=20261129
 call wallet ann8 spy.example q21 a21
