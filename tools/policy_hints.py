@@ -38,7 +38,6 @@ FORMS = {
     "as": "show NAME as VALUE",
     "one": "show NAME one of TEXT ..",
     "pseudonym": "show pseudonym of NAME for VALUE",
-    "claim": "show NAME at most VALUE, at least VALUE, as VALUE, or one of TEXT ..",
     "show": "show digest, show under root DEPTH, show NAME .., or show pseudonym of NAME for VALUE",
 }
 
@@ -88,7 +87,7 @@ class Line:
     def syntax(self, word, wanted, form):
         found = f", and found {readable(word.text)}" if word else ""
         more = quotes_told(word) if word and word.has_quotes() else ""
-        return self.fault("Syntax", word, f"wanted {wanted}{found}. The form is: {form}{more}")
+        return self.fault("Syntax", word, f"wanted {wanted}{found}{'. The form is: ' + form if form else ''}{more}")
 
     def next(self):
         return self.words[self.at] if self.at < len(self.words) else None
@@ -229,7 +228,7 @@ class Policy:
         self.add_show(line, first, name, "pseudonym", value)
 
     def take_claim(self, line, first, name):
-        way = line.take("at most, at least, as or one of after the field's name", FORMS["claim"], lambda word: word.text in ("at", "as", "one"))
+        way = line.take("at most, at least, as or one of after the field's name", None, lambda word: word.text in ("at", "as", "one"))
         form = FORMS[way.text]
         if way.text == "one":
             line.literal(form, "of")

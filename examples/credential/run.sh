@@ -133,7 +133,7 @@ echo 'birth = 1999-04-12' >short.toml
 call issuer issue issuer "$here/policy.txt" short.toml new 1
 call issuer issue issuer "$here/policy.txt" "$here/ann.toml" ann 1
 call issuer key issuer
-tell under a root, by which issuer and service together do not know who it was
+tell 'under a root, by which issuer and service together do not know who it was'
 "$ZK_CREDENTIAL" show "$here/under.txt"
 call issuer publish issuer "$here/under.txt" root "$here/ann.toml" ann8 "$here/bob.json" bob8 "$here/eve.toml" eve8
 call service trust inn issuer/public.pem root
