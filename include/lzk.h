@@ -8,9 +8,10 @@
    A pointer may be NULL where the number beside it is 0, as an empty std::vector gives it; elsewhere NULL is refused, by LZK_NULL. The
    caller owes three things: each other pointer leads to as many bytes as are said beside it; nothing writes to these bytes during the
    call; and what is written lies apart from them, and is the call's alone until it returns. Memory is taken by malloc, and given back by
-   free, and set to zero before that; lzk_eval and lzk_prove set to zero what they left of the stack, too. lzk_prove wants some 65 KiB of it.
+   free, and set to zero before that; lzk_eval and lzk_prove set to zero what they left of the stack, too. They want some 130 KiB of it.
 
-   Link with liblzk.a or liblzk.so, which `./build library` makes. docs/EMBEDDING.md has examples, costs, and what is not offered. */
+   Link with liblzk.a or liblzk.so, which `./build library` makes. lzk_text.h has a text for each answer. docs/EMBEDDING.md has examples, costs,
+   and what is not offered. */
 
 #ifndef LZK_H
 #define LZK_H
@@ -58,7 +59,9 @@ enum lzk_answer {
   /* There is no such version of circuits. */
   LZK_NO_VERSION = 11,
   /* A pointer is NULL that may not be. Nothing was done. */
-  LZK_NULL = 12
+  LZK_NULL = 12,
+  /* Of lzk_random_seed: the system gave no random numbers. */
+  LZK_NO_RANDOM = 13
 };
 
 /* The checks of a proof, in their order: docs/PROTOCOL.md, section 9. */
@@ -79,7 +82,7 @@ enum lzk_proof_kind {
   LZK_PROOF_MAGIC = 2,      /* they do not begin with LZP1 */
   LZK_PROOF_ELEMENT = 3,    /* a number is not below the field's size */
   LZK_PROOF_PATH_LIMIT = 4, /* the path has more than 1,536 digests */
-  LZK_PROOF_TRAILING = 5    /* bytes are left behind the last field */
+  LZK_PROOF_TRAILING = 5    /* bytes are left after the last field */
 };
 
 /* Which rule a circuit's file breaks (LZK_NO_CIRCUIT). */
@@ -92,7 +95,7 @@ enum lzk_circuit_kind {
   LZK_CIRCUIT_ORDER = 6,    /* a term does not come after the one before it */
   LZK_CIRCUIT_RANGE = 7,    /* a wire, or the number of a constant, is out of range */
   LZK_CIRCUIT_CONSTANT = 8, /* a constant is zero, too large, not above the one before, or used by no term */
-  LZK_CIRCUIT_TRAILING = 9, /* bytes are left behind the last term */
+  LZK_CIRCUIT_TRAILING = 9, /* bytes are left after the last term */
   LZK_CIRCUIT_ASSERTION = 10 /* an assertion term is not the only one of its wire */
 };
 
@@ -128,8 +131,8 @@ enum lzk_limit_kind {
 #define LZK_MOST_PROOF 2097152
 #define LZK_MOST_CIRCUIT 67108864
 
-/* What came of lzk_compile, lzk_sha_circuit, lzk_upgrade, lzk_eval or lzk_prove. A field that the answer does not speak of is 0. Where several causes stand together, the
-   first of these is told: LZK_NULL, LZK_NO_VERSION, LZK_NO_CIRCUIT, LZK_TOO_LONG, LZK_NO_NUMBERS, LZK_NO_PRIVATES, LZK_NO_SOURCE, LZK_OVER_LIMIT,
+/* What came of lzk_compile, lzk_sha_circuit, lzk_upgrade, lzk_eval or lzk_prove. A field that the answer does not speak of is 0. Where several
+   causes stand together, the first of these is given: LZK_NULL, LZK_NO_VERSION, LZK_NO_CIRCUIT, LZK_TOO_LONG, LZK_NO_NUMBERS, LZK_NO_PRIVATES, LZK_NO_SOURCE, LZK_OVER_LIMIT,
    LZK_UNSATISFIED, LZK_NO_ROOM. */
 typedef struct lzk_outcome {
   uint32_t answer;   /* enum lzk_answer */
@@ -190,7 +193,7 @@ uint32_t lzk_version(void);
 /* Verifies a proof.
 
      circuit         a circuit's file, as `zk compile` writes it
-     public_numbers  a text: numbers in decimal digits, or hexadecimal behind 0x, parted by blanks or line feeds; `#` begins a comment
+     public_numbers  a text: numbers in decimal digits, or hexadecimal after 0x, separated by blanks or line feeds; `#` begins a comment
      session         bytes that prover and verifier agreed on, 64 at most. They are the bytes themselves, where `zk` takes their hexadecimal
                      digits: what is session=6e6f6e6365 there is "nonce" with 5 here
      proof           a proof's file, as `zk prove` writes it
@@ -260,8 +263,12 @@ uint32_t lzk_circuit_info(const uint8_t *circuit, size_t circuit_len, lzk_info *
 uint32_t lzk_eval(const uint8_t *circuit, size_t circuit_len, const uint8_t *public_numbers, size_t public_numbers_len,
                   const uint8_t *private_numbers, size_t private_numbers_len, lzk_outcome *outcome);
 
+/* Fills a seed with 32 bytes of the system's random numbers, by getrandom. Gives LZK_DONE, LZK_NULL, or LZK_NO_RANDOM: the seed is all zero then,
+   and is none. */
+uint32_t lzk_random_seed(uint8_t seed[32]);
+
 /* Proves, and puts the proof's file in front of room; LZK_MOST_PROOF bytes are always enough. The seed is 32 bytes that nobody else can guess,
-   new for each proof: who knows it knows the private numbers. The bytes are those of `zk prove` with this seed: they are the one proof that the
+   as lzk_random_seed gives them, new for each proof: who knows it knows the private numbers. A seed at NULL is refused. The bytes are those of `zk prove` with this seed: they are the one proof that the
    seed gives, and it is accepted. The caller's thread does all the work. Gives what lzk_eval gives, or LZK_NO_ROOM. Clear your own copies of
    seed and private numbers. */
 uint32_t lzk_prove(const uint8_t *circuit, size_t circuit_len, const uint8_t *public_numbers, size_t public_numbers_len,

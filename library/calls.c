@@ -5,6 +5,10 @@
 #include "lzk.h"
 #include <stdlib.h>
 #include <string.h>
+#include <sys/random.h>
+
+/* How many bytes of the stack are set to zero after a call with secrets. */
+enum { CLEARED = 128 << 10 };
 
 /* Some bytes of a caller: a pointer and their number. */
 #define IN(name) const uint8_t *name, size_t name##_len
@@ -129,22 +133,20 @@ uint32_t lzk_circuit_info(IN(circuit), lzk_info *info) {
   return lzk_proved_circuit_info(GIVEN(circuit), info);
 }
 
-/* Set to zero what a call with secrets left of the stack: they lie where its frames were. Measured, evaluating takes some 9 KiB, and proving 50
-   over Goldilocks and 60 over GF(2^128). */
-static __attribute__((noinline)) void clear_after_eval(void) {
-  uint8_t below[12 << 10];
-  explicit_bzero(below, sizeof below);
-}
-
-static __attribute__((noinline)) void clear_after_prove(void) {
-  uint8_t below[60 << 10];
-  explicit_bzero(below, sizeof below);
+/* Sets to zero what a call with secrets left of the stack: they lie where its frames were. Evaluating calls itself for each layer. Measured over the
+   deepest circuits that the limits allow, it goes 41 KiB down over Goldilocks and 82 over GF(2^128), and proving 52 and 100. The rest is for other
+   compilers. examples/embed/test/made.c looks at all of it. */
+static __attribute__((noinline)) void clear_stack(void) {
+  /* By no call, whose own frame would lie below. */
+  volatile uint64_t below[CLEARED / 8];
+  for (size_t at = 0; at < CLEARED / 8; at++) below[at] = 0;
+  (void)below[0];
 }
 
 uint32_t lzk_eval(IN(circuit), IN(numbers), IN(privates), lzk_outcome *outcome) {
   if (IS_NULL(circuit) || IS_NULL(numbers) || IS_NULL(privates) || !outcome) return null_outcome(outcome);
   lzk_proved_eval(GIVEN(circuit), GIVEN(numbers), GIVEN(privates), outcome);
-  clear_after_eval();
+  clear_stack();
   return outcome->answer;
 }
 
@@ -154,12 +156,21 @@ uint32_t lzk_prove(IN(circuit), IN(numbers), IN(privates), IN(session), const ui
   /* Pointers alone: no secret is copied here. */
   const given all = {{GIVEN(circuit)}, {GIVEN(numbers)}, {GIVEN(privates)}, {GIVEN(session)}, seed};
   lzk_proved_prove(&all, room ? room : none, room_len, outcome);
-  clear_after_prove();
+  clear_stack();
   return outcome->answer;
 }
 
-/* ---- The desk. What is fed behind so many bytes changes no report. A file that breaks no rule of the format is as long as the proof that a
-   prover makes for the circuit, but for its path, which has 1,536 digests at most: 49,152 bytes. What is longer has a byte behind its end, or
+uint32_t lzk_random_seed(uint8_t seed[32]) {
+  if (!seed) return LZK_NULL;
+  /* Up to 256 bytes come whole, or none: a signal may end the wait for the first ones of a machine that starts. */
+  for (int tries = 0; tries < 1000; tries++)
+    if (getrandom(seed, 32, 0) == 32) return LZK_DONE;
+  explicit_bzero(seed, 32);
+  return LZK_NO_RANDOM;
+}
+
+/* ---- The desk. What is fed after so many bytes changes no report. A file that breaks no rule of the format is as long as the proof that a
+   prover makes for the circuit, but for its path, which has 1,536 digests at most: 49,152 bytes. What is longer has a byte after its end, or
    breaks a rule before. */
 enum { MOST_FED = LZK_MOST_PROOF + 65536 };
 
@@ -169,6 +180,12 @@ struct lzk_desk {
   uint8_t *proof;
   size_t proof_len, room;
 };
+
+/* Sets a block to zero, and gives it back. */
+static void give(uint8_t *block, size_t len) {
+  if (block) explicit_bzero(block, len);
+  free(block);
+}
 
 uint32_t lzk_desk_open(lzk_desk **desk, IN(circuit), IN(numbers), IN(session)) {
   lzk_desk *made;
@@ -198,8 +215,10 @@ uint32_t lzk_desk_feed(lzk_desk *desk, IN(bytes)) {
   if (!wanted) return LZK_DONE;
   if (desk->room - desk->proof_len < wanted) {
     size_t room = desk->room * 2 > desk->proof_len + wanted ? desk->room * 2 : desk->proof_len + wanted;
-    uint8_t *more = realloc(desk->proof, room);
+    uint8_t *more = malloc(room);
     if (!more) return LZK_NO_MEMORY;
+    if (desk->proof_len) memcpy(more, desk->proof, desk->proof_len);
+    give(desk->proof, desk->room);
     desk->proof = more, desk->room = room;
   }
   memcpy(desk->proof + desk->proof_len, bytes, wanted);
@@ -219,7 +238,7 @@ uint32_t lzk_desk_end(lzk_desk *desk, lzk_report *report) {
 
 void lzk_desk_free(lzk_desk *desk) {
   if (!desk) return;
-  free(desk->proof);
-  free(desk->given);
-  free(desk);
+  give(desk->proof, desk->room);
+  give(desk->given, desk->circuit_len + desk->numbers_len + desk->session_len);
+  give((uint8_t *)desk, sizeof *desk);
 }

@@ -3,7 +3,7 @@
 >>> import lzk
 >>> circuit = lzk.compile("field goldilocks\\npublic y\\nprivate x\\nassert x*x = y\\n")
 >>> proof = lzk.prove(circuit, public=[9], private=[3], session=b"nonce")
->>> lzk.verify(circuit, public=[9], proof=proof, session=b"nonce")
+>>> lzk.verify(circuit, public=[9], session=b"nonce", proof=proof)
 
 `verify` gives nothing, and raises `Rejected` where a check fails. The circuit is the statement: take it from your own store, and never from
 who sends the proof.
@@ -16,10 +16,10 @@ keeps copies of what it was handed: private numbers and seeds stay in its memory
 
 from ._calls import Field, Info, Verdict, library_version
 from ._errors import Error, NoCircuit, NoMemory, NoNumbers, NoSource, OverLimit, Rejected, TooLong, Unsatisfied
-from ._lzk import Desk, circuit_info, compile, evaluate, explain, explain_each, explain_pieces, prove, sha_circuit, upgrade, verify
+from ._lzk import Desk, Job, circuit_info, compile, evaluate, explain, explain_each, explain_pieces, prove, sha_circuit, upgrade, verify
 
 __all__ = [
-    "Desk", "Error", "Field", "Info", "NoCircuit", "NoMemory", "NoNumbers", "NoSource", "OverLimit", "Rejected", "TooLong", "Unsatisfied",
+    "Desk", "Error", "Field", "Info", "Job", "NoCircuit", "NoMemory", "NoNumbers", "NoSource", "OverLimit", "Rejected", "TooLong", "Unsatisfied",
     "Verdict", "circuit_info", "compile", "evaluate", "explain", "explain_each", "explain_pieces", "library_version", "prove",
     "sha_circuit", "upgrade", "verify",
 ]  # fmt: skip

@@ -31,8 +31,9 @@ from __future__ import annotations
 import io
 import os
 import re
+import secrets
+import stat
 import sys
-import tempfile
 from concurrent.futures import ThreadPoolExecutor
 from typing import Callable, Dict, List, Optional, Tuple
 
@@ -90,7 +91,7 @@ class Files:
 
     def publics(self, name: str, circuit: bytes) -> bytes:
         data = self.read(name, MOST_TEXT)
-        refusing(name, lambda: lzk.explain(circuit, data, b""))
+        refusing(name, lambda: lzk.explain(circuit, data, proof=b""))
         return data
 
 
@@ -106,18 +107,37 @@ def refusing(name: str, call: Callable[[], object]) -> None:
         raise Ended(f"refused: {name}: {error.limit} {error.count} over {LIMITS[error.limit]}", 3) from None
 
 
+def is_put_in_place(name: str) -> bool:
+    """Whether a name, or a link on its way, leads to what is no file: a device, a pipe, or one of the process's own files."""
+    for _ in range(40):
+        if name.startswith(("/dev/", "/proc/")):
+            return True
+        if not os.path.islink(name):
+            break
+        name = os.path.join(os.path.dirname(name), os.readlink(name))
+    return os.path.exists(name) and not os.path.isfile(name)
+
+
 def put(name: str, data: bytes) -> None:
-    """Writes a file in one piece: beside its place first."""
-    place = os.path.realpath(name)
+    """Writes a file in one piece: beside its place first, with the permission bits that the old one had, or as the umask says."""
     try:
-        handle, new = tempfile.mkstemp(dir=os.path.dirname(place), prefix=".lzk-")
-        try:
-            with os.fdopen(handle, "wb") as file:
+        if is_put_in_place(name):
+            with open(name, "wb") as file:
                 file.write(data)
-            os.chmod(new, 0o644)
+            return
+        mode = stat.S_IMODE(os.stat(name).st_mode) if os.path.exists(name) else None
+        place = os.path.realpath(name)
+        new = f"{place}.{secrets.token_hex(8)}.part"
+        try:
+            # As narrow as it can be until it has the old one's bits.
+            with os.fdopen(os.open(new, os.O_WRONLY | os.O_CREAT | os.O_EXCL, 0o666 if mode is None else 0o600), "wb") as file:
+                file.write(data)
+            if mode is not None:
+                os.chmod(new, mode & 0o777)
             os.replace(new, place)
         except BaseException:
-            os.unlink(new)
+            if os.path.lexists(new):
+                os.unlink(new)
             raise
     except (OSError, ValueError):
         raise Ended(f"fault: writing {name}", 5) from None
@@ -186,7 +206,7 @@ def demo(names: List[str], keys: Dict[str, str]) -> Tuple[List[str], int]:
     circuit = lzk.compile(_statements.parity_source(count))
     public, private = _statements.parity_inputs(count)
     proof = lzk.prove(circuit, public, private, seed=seed_of(keys))
-    verdict = lzk.explain(circuit, public, proof)
+    verdict = lzk.explain(circuit, public, proof=proof)
     return [f"demo {count}: layers {lzk.circuit_info(circuit).layers}, proof {len(proof)} bytes, {verdict}"], int(not verdict)
 
 
@@ -214,8 +234,13 @@ def read_job(files: Files, names: List[str], session: str) -> Tuple[bytes, bytes
     return circuit, files.publics(names[1], circuit), files.read(names[2], MOST_PROOF), bytes.fromhex(session)
 
 
+def judged(job: Tuple[bytes, bytes, bytes, bytes]) -> lzk.Verdict:
+    circuit, public, proof, session = job
+    return lzk.explain(circuit, public, session=session, proof=proof)
+
+
 def verify(names: List[str], keys: Dict[str, str]) -> Tuple[List[str], int]:
-    verdict = lzk.explain(*read_job(Files(), names, keys.get("session", "")))
+    verdict = judged(read_job(Files(), names, keys.get("session", "")))
     return [str(verdict)], int(not verdict)
 
 
@@ -242,7 +267,7 @@ def batch(names: List[str], keys: Dict[str, str]) -> Tuple[List[str], int]:
     files = Files(MOST_OF_A_LIST)
     jobs = [read_job(files, *job) for job in read_list(names[0])]
     with ThreadPoolExecutor(int(keys.get("workers", "1"))) as pool:
-        verdicts = list(pool.map(lambda job: lzk.explain(*job), jobs))
+        verdicts = list(pool.map(judged, jobs))
     accepted = sum(map(bool, verdicts))
     lines = [f"{number}: {verdict}" for number, verdict in enumerate(verdicts, 1)]
     return [*lines, f"batch: {accepted} accepted, {len(jobs) - accepted} rejected"], int(accepted < len(jobs))

@@ -102,9 +102,14 @@ class Verdict:
 
 def _found() -> Optional[str]:
     """The library: LZK_LIBRARY, the one in this package, the one of a checkout's build, or the one that is installed."""
+    named = os.environ.get("LZK_LIBRARY")
+    if named is not None:
+        if not os.path.isfile(named):
+            raise ImportError(f"LZK_LIBRARY names {named!r}, and there is no such file: name liblzk.so by its path, or unset it")
+        return named
     here = os.path.dirname(os.path.abspath(__file__))
-    for path in (os.environ.get("LZK_LIBRARY"), os.path.join(here, "liblzk.so"), os.path.join(here, "..", "..", ".build", "liblzk.so")):
-        if path and os.path.exists(path):
+    for path in (os.path.join(here, "liblzk.so"), os.path.join(here, "..", "..", ".build", "liblzk.so")):
+        if os.path.exists(path):
             return path
     return ctypes.util.find_library("lzk")
 
@@ -113,9 +118,13 @@ def _load() -> ctypes.CDLL:
     path = _found()
     if path is None:
         raise ImportError("liblzk.so is missing: make it by ./build library, install it, or name it by LZK_LIBRARY")
-    calls = ctypes.CDLL(path)
-    if calls.lzk_version() != VERSION:
-        raise ImportError(f"{path} is of another version")
+    try:
+        calls = ctypes.CDLL(path)
+        found = int(calls.lzk_version())
+    except (AttributeError, OSError) as error:
+        raise ImportError(f"{path} is no library of lzk: {error}") from None
+    if found != VERSION:
+        raise ImportError(f"{path} is of version {found >> 16}.{found & 65535}, and this package needs {VERSION >> 16}.{VERSION & 65535}")
     parts = {"b": (TEXT, SIZE), "s": (TEXT,), "r": (ctypes.c_char_p, SIZE), "p": (ctypes.c_void_p,), "u": (U32,), "n": (SIZE,)}
     shapes = {
         "lzk_explain": "bbbbp", "lzk_explain_pieces": "bbbpnp", "lzk_explain_each": "bpn", "lzk_compile": "ubrp", "lzk_circuit_info": "bp",

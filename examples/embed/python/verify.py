@@ -18,7 +18,7 @@ if len(sys.argv) < 4:
     sys.exit(__doc__)
 circuit, public = read(sys.argv[1]), read(sys.argv[2])
 with ThreadPoolExecutor(4) as pool:
-    verdicts = list(pool.map(lambda name: lzk.explain(circuit, public, read(name)), sys.argv[3:]))
+    verdicts = list(pool.map(lambda name: lzk.explain(circuit, public, proof=read(name)), sys.argv[3:]))
 for verdict in verdicts:
     print(verdict)
 sys.exit(not all(verdicts))

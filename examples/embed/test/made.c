@@ -9,8 +9,9 @@
 #include <stdlib.h>
 #include <string.h>
 
-static long refused_at, requests, frees, unclean;
-static int is_watched;
+static long refused_at, requests, frees, unclean, reallocs;
+/* What is looked at of a block that is given back: nothing; of one of library/heap.c as many bytes as it says in front; the whole block. */
+static enum { NOTHING, BEHIND_HEAD, WHOLE } is_watched;
 
 void *__real_malloc(size_t size);
 void *__real_calloc(size_t count, size_t size);
@@ -18,19 +19,28 @@ void *__real_realloc(void *old, size_t size);
 void __real_free(void *block);
 
 static int is_refused(void) { return refused_at > 0 && ++requests == refused_at; }
-void *__wrap_malloc(size_t size) { return is_refused() ? NULL : __real_malloc(size); }
+/* Where whole blocks are looked at, what malloc leaves in them is no fault of the library's. */
+void *__wrap_malloc(size_t size) {
+  void *block = is_refused() ? NULL : __real_malloc(size);
+  if (block && is_watched == WHOLE) memset(block, 0, malloc_usable_size(block));
+  return block;
+}
 void *__wrap_calloc(size_t count, size_t size) { return is_refused() ? NULL : __real_calloc(count, size); }
-void *__wrap_realloc(void *old, size_t size) { return is_refused() ? NULL : __real_realloc(old, size); }
-/* While it watches: nothing but zeros stands behind the first 16 bytes of a block that is given back. */
+void *__wrap_realloc(void *old, size_t size) {
+  reallocs++;
+  return is_refused() ? NULL : __real_realloc(old, size);
+}
+/* While it watches: nothing but zeros stands in a block that is given back. */
 void __wrap_free(void *block) {
   if (block && is_watched) {
-    size_t size;
+    size_t size, from = is_watched == WHOLE ? 0 : 16;
     memcpy(&size, block, sizeof size);
     frees++;
+    if (is_watched == WHOLE) size = malloc_usable_size(block);
     if (size > malloc_usable_size(block)) unclean++;
     else
       for (size_t at = 0; at < size; at++)
-        if (((uint8_t *)block)[16 + at]) {
+        if (((uint8_t *)block)[from + at]) {
           unclean++;
           break;
         }
@@ -107,11 +117,32 @@ static long refuse_desk(size_t len, size_t proof_len) {
   return -1;
 }
 
+/* The stack below a call is painted before it, and looked at after it: a byte there is as it was painted, or zero. */
+enum { PAINTED = 200 << 10, PAINT = 0xa5, NEAR = 512 };
+
+static __attribute__((noinline)) void paint(void) {
+  volatile uint8_t below[PAINTED];
+  for (size_t at = 0; at < PAINTED; at++) below[at] = PAINT;
+  (void)below[0];
+}
+
+/* How many bytes below the stack are neither; and in *depth how far down the call went. */
+static __attribute__((noinline)) long left_below(long *depth) {
+  const volatile uint8_t *here = __builtin_frame_address(0);
+  long found = 0;
+  *depth = 0;
+  for (const volatile uint8_t *at = here - PAINTED + 4096; at < here - NEAR; at++) {
+    if (*at != PAINT && !*depth) *depth = here - at;
+    found += *at != PAINT && *at != 0;
+  }
+  return found;
+}
+
 /* Whether some bytes stand in the memory below the stack that a call used. */
 static __attribute__((noinline)) int stands_below(const uint8_t *what, size_t len) {
   const volatile uint8_t *here = __builtin_frame_address(0);
   int found = 0;
-  for (const volatile uint8_t *at = here - 65536; at < here - 512 - len; at++) {
+  for (const volatile uint8_t *at = here - PAINTED + 4096; at < here - NEAR - len; at++) {
     size_t k = 0;
     while (k < len && at[k] == what[k]) k++;
     found += k == len;
@@ -119,16 +150,64 @@ static __attribute__((noinline)) int stands_below(const uint8_t *what, size_t le
   return found;
 }
 
-/* Whether neither the seed nor a private number of 8 bytes is left in the stack by calls that are handed them, over both fields. */
-static int are_cleared(size_t len) {
-  static const char equal[] = "field goldilocks\npublic y\nprivate x\nassert x = y\n", number[] = "0x1122334455667788";
-  static const uint8_t bytes[8] = {0x88, 0x77, 0x66, 0x55, 0x44, 0x33, 0x22, 0x11};
-  static lzk_outcome made, found;
-  int cleared = lzk_compile(1, T(equal), other, sizeof other, &made) == LZK_DONE;
-  cleared &= lzk_eval(other, made.count, T(number), T(number), &found) == LZK_DONE && !stands_below(bytes, 8);
-  cleared &= lzk_prove(other, made.count, T(number), T(number), T(""), seed, proof, sizeof proof, &found) == LZK_DONE;
-  cleared &= !stands_below(bytes, 8) && !stands_below(seed, 32);
-  return cleared & (prove(len, 1, proof, sizeof proof, &found) == LZK_DONE) & !stands_below(seed, 32);
+/* A private number of 8 bytes, as a text and as it lies in memory. */
+static const char number[] = "0x1122334455667788 0";
+static const uint8_t number_bytes[8] = {0x88, 0x77, 0x66, 0x55, 0x44, 0x33, 0x22, 0x11};
+
+/* A statement of so many layers over a field, which is true where the second number is 0. */
+static size_t deep_circuit(const char *field, int layers) {
+  static char source[1 << 16];
+  static lzk_outcome made;
+  size_t len = (size_t)sprintf(source, "field %s\nprivate x0\nprivate z\n", field);
+  for (int k = 1; k < layers; k++) len += (size_t)sprintf(source + len, "let x%d = x%d*x%d\n", k, k - 1, k - 1);
+  len += (size_t)sprintf(source + len, "assert x%d*z = 0\n", layers - 1);
+  return lzk_compile(1, (const uint8_t *)source, len, other, sizeof other, &made) == LZK_DONE ? made.count : 0;
+}
+
+/* Whether nothing of lzk_eval and lzk_prove is left in the stack: for each field, of one layer and of as many as the limits allow. */
+static int are_cleared(void) {
+  static const char *fields[] = {"goldilocks", "gf2_128"};
+  static const int layers[] = {1, 100, 512};
+  static lzk_outcome found;
+  int cleared = 1;
+  for (int which = 0; which < 6; which++) {
+    const size_t len = deep_circuit(fields[which / 3], layers[which % 3]);
+    long evaluated, proved, left;
+    cleared &= len > 0;
+    paint();
+    cleared &= lzk_eval(other, len, T(""), T(number), &found) == LZK_DONE;
+    left = left_below(&evaluated);
+    cleared &= !left && !stands_below(number_bytes, 8);
+    paint();
+    cleared &= lzk_prove(other, len, T(""), T(number), T(""), seed, proof, sizeof proof, &found) == LZK_DONE;
+    left += left_below(&proved);
+    cleared &= !left && !stands_below(number_bytes, 8) && !stands_below(seed, 32);
+    printf("stack of %s, %d layers: %ld and %ld KiB down, %ld bytes left\n", fields[which / 3], layers[which % 3], (evaluated + 1023) >> 10,
+           (proved + 1023) >> 10, left);
+  }
+  return cleared;
+}
+
+/* Whether all that a desk gives back is zero, while it grows too, and whether nothing is moved by realloc, which may leave a copy. */
+static int is_desk_cleared(size_t len, size_t proof_len) {
+  lzk_desk *desk;
+  lzk_report report;
+  frees = unclean = reallocs = 0, is_watched = WHOLE;
+  int right = lzk_desk_open(&desk, circuit, len, T("1"), T("nonce")) == LZK_DONE;
+  for (size_t at = 0; at < proof_len; at += 997) right &= lzk_desk_feed(desk, proof + at, proof_len - at < 997 ? proof_len - at : 997) == LZK_DONE;
+  is_watched = 0;
+  right &= lzk_desk_end(desk, &report) == LZK_ACCEPTED;
+  is_watched = WHOLE;
+  lzk_desk_free(desk);
+  is_watched = 0;
+  return right && frees > 3 && !unclean && !reallocs;
+}
+
+/* Whether seeds are given, other ones each time, and NULL is none. */
+static int are_seeds_given(void) {
+  uint8_t one[34] = {0}, two[34] = {0}, none[34] = {0};
+  int right = lzk_random_seed(one + 1) == LZK_DONE && lzk_random_seed(two + 1) == LZK_DONE && memcmp(one, two, 34) && memcmp(one, none, 34);
+  return right && !one[0] && !one[33] && lzk_random_seed(NULL) == LZK_NULL;
 }
 
 int main(int count, char **words) {
@@ -199,19 +278,21 @@ int main(int count, char **words) {
   for (long i = 0; i < 4; i++) pthread_join(threads[i], NULL);
   told("4 threads with a stack of 256 KiB prove side by side", places[0][2] + places[1][2] + places[2][2] + places[3][2] == 0);
 
-  told("want of memory is told by lzk_eval", refuse_each(len, "eval") > 5);
-  told("want of memory is told by lzk_compile", refuse_each(len, "compile") > 5);
-  told("want of memory is told by lzk_upgrade", refuse_each(len, "upgrade") > 1);
-  told("want of memory is told by lzk_circuit_info", refuse_each(len, "info") > 1);
-  told("want of memory is told by lzk_prove, and the room is as it was", refuse_each(len, "prove") > 20);
-  told("want of memory is told by a desk, which goes on", refuse_desk(len, proof_len) > 20);
+  told("out of memory is told by lzk_eval", refuse_each(len, "eval") > 5);
+  told("out of memory is told by lzk_compile", refuse_each(len, "compile") > 5);
+  told("out of memory is told by lzk_upgrade", refuse_each(len, "upgrade") > 1);
+  told("out of memory is told by lzk_circuit_info", refuse_each(len, "info") > 1);
+  told("out of memory is told by lzk_prove, and the room is as it was", refuse_each(len, "prove") > 20);
+  told("out of memory is told by a desk, which goes on", refuse_desk(len, proof_len) > 20);
 
-  is_watched = 1;
+  is_watched = BEHIND_HEAD;
   lzk_eval(circuit, len, T(publics[1]), T(privates[1]), &found);
   lzk_compile(1, T(sources[1]), other, sizeof other, &found);
   prove(len, 1, other, sizeof other, &found);
   is_watched = 0;
   told("every block that a call gives back is zero", frees > 50 && unclean == 0);
-  if (count < 3) told("no seed and no private number is left in the stack", are_cleared(len));
+  told("every block that a desk gives back is zero", is_desk_cleared(len, proof_len));
+  told("seeds are given by the system", are_seeds_given());
+  if (count < 3) told("nothing is left in the stack, at any depth", are_cleared());
   return wrong > 0;
 }

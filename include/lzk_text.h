@@ -1,0 +1,198 @@
+/* Texts for what the calls of lzk.h answer: what is wrong, where, and mostly what to do. Made by library/make-texts: edit library/texts.txt.
+
+     char text[LZK_MOST_TEXT];
+     if (lzk_prove(.., &found)) fprintf(stderr, "prove: %s\n", lzk_text(&found, text, sizeof text));
+
+   prints  prove: private numbers at line 1: Syntax: a word is no number; write decimal digits, or hexadecimal ones after 0x, with no sign */
+
+#ifndef LZK_TEXT_H
+#define LZK_TEXT_H
+
+#include "lzk.h"
+#include <stdio.h>
+
+#ifdef __cplusplus
+extern "C" {
+#endif
+
+/* No text is longer, with the 0 after it. */
+#define LZK_MOST_TEXT 320
+
+/* A name as `zk` prints it, and what it means. */
+typedef struct lzk_meaning {
+  const char *name, *text;
+} lzk_meaning;
+
+static const lzk_meaning lzk_answer_texts[] = {
+  {"Done", "done"},
+  {"Rejected", "a check of the proof fails; refuse it"},
+  {"TooLong", "a session has more than 64 bytes, a text more than 4,194,304, or a message for sha_circuit more than 55; shorten it, a session by its SHA-256"},
+  {"NoCircuit", "the bytes are no circuit's file; compile the statement again, or look at your store"},
+  {"NoNumbers", "the text has not exactly the circuit's public numbers, each below the field's size"},
+  {"NoSource", "the text is no source"},
+  {"NoMemory", "out of memory; nothing is known, so call again"},
+  {"NoRoom", "the room is too small; call again with room for as many bytes as count says"},
+  {"Unsatisfied", "the numbers do not satisfy the circuit; look at the assert that the check is of"},
+  {"NoPrivates", "the text has not exactly the circuit's private numbers, each below the field's size"},
+  {"OverLimit", "the source's circuit would pass a limit"},
+  {"NoVersion", "there is no such version of circuits; take 1 or 2"},
+  {"Null", "a pointer is NULL that may not be; NULL is empty only beside a length of 0"},
+  {"NoRandom", "the system gave no random numbers; nothing was proved"},
+};
+
+static const lzk_meaning lzk_circuit_texts[] = {
+  {"", ""},
+  {"Truncated", "the bytes end inside the file; a part is missing"},
+  {"Magic", "the bytes begin with neither LZC1 nor LZC2; is this another file, a proof or a source?"},
+  {"FieldId", "the field's byte is neither 1 nor 2"},
+  {"Limit", "a count, or a running total, is over its limit"},
+  {"Varint", "a number is not in its shortest form, or is 2^32 or more"},
+  {"Order", "a term does not come after the one before it"},
+  {"Range", "a wire, or the number of a constant, is out of range"},
+  {"Constant", "a constant is zero, too large, not above the one before, or used by no term"},
+  {"Trailing", "bytes are left after the last term"},
+  {"Assertion", "an assertion term is not the only one of its wire"},
+};
+
+static const lzk_meaning lzk_number_texts[] = {
+  {"", ""},
+  {"Syntax", "a word is no number; write decimal digits, or hexadecimal ones after 0x, with no sign"},
+  {"TooLarge", "a number is not below the field's size"},
+  {"TooFew", "the text ends before as many numbers as the circuit has"},
+  {"TooMany", "there are more numbers than the circuit has"},
+};
+
+static const lzk_meaning lzk_source_texts[] = {
+  {"", ""},
+  {"Character", "a byte is neither a blank nor of a token"},
+  {"Syntax", "the line has not the form of the grammar"},
+  {"Keyword", "the first word is no keyword; a line begins with field, public, private, let or assert"},
+  {"Unknown", "a name was not declared on an earlier line"},
+  {"Twice", "a name is declared again, or there is a second `field` line"},
+  {"TooLarge", "a number is not below the field's size"},
+  {"NoField", "the first statement is no `field` line; begin with `field goldilocks` or `field gf2_128`"},
+  {"NoAssert", "there is no assert"},
+  {"Limit", "a name is too long, too many parentheses are open, or there are too many inputs or asserts"},
+};
+
+static const lzk_meaning lzk_limit_texts[] = {
+  {"", ""},
+  {"Layers", "512 layers"},
+  {"LayerWires", "131,072 wires of a layer"},
+  {"Terms", "2,097,152 terms"},
+};
+
+static const lzk_meaning lzk_proof_texts[] = {
+  {"", ""},
+  {"Truncated", "the bytes end inside the field at this byte; a part is missing"},
+  {"Magic", "the bytes do not begin with LZP1; is this another file?"},
+  {"Element", "a number is not below the field's size"},
+  {"PathLimit", "the path has more than 1,536 digests"},
+  {"Trailing", "bytes are left after the last field"},
+};
+
+static const lzk_meaning lzk_check_texts[] = {
+  {"", ""},
+  {"Format", "the bytes are no proof's file for this circuit"},
+  {"CircuitId", "the proof is for another circuit"},
+  {"PathCount", "mostly the session or the public numbers are not the prover's"},
+  {"Root", "the session or the public numbers are not the prover's, or the bytes were changed"},
+  {"LowDegree", "the bytes were changed, or the prover cheats"},
+  {"LinearSum", "the bytes were changed, or the prover cheats"},
+  {"Linear", "the bytes were changed, or the prover cheats"},
+  {"Quadratic", "the bytes were changed, or the prover cheats"},
+};
+
+/* The names and texts of this rule of an answer; of an answer that has no rules, or another number, its own. */
+static inline const lzk_meaning *lzk_meaning_of(uint32_t answer, uint32_t kind) {
+#define LZK_ROW(table, number) ((number) < sizeof(table) / sizeof(table)[0] ? &(table)[number] : &(table)[0])
+  switch (answer) {
+  case LZK_NO_CIRCUIT: return LZK_ROW(lzk_circuit_texts, kind);
+  case LZK_NO_NUMBERS:
+  case LZK_NO_PRIVATES: return LZK_ROW(lzk_number_texts, kind);
+  case LZK_NO_SOURCE: return LZK_ROW(lzk_source_texts, kind);
+  case LZK_OVER_LIMIT: return LZK_ROW(lzk_limit_texts, kind);
+  default: return LZK_ROW(lzk_answer_texts, answer);
+  }
+}
+
+/* What a check of a proof means, from 1. */
+static inline const lzk_meaning *lzk_check_meaning(uint32_t check) { return LZK_ROW(lzk_check_texts, check); }
+
+/* Which rule a proof's file breaks, from 1. */
+static inline const lzk_meaning *lzk_proof_meaning(uint32_t kind) { return LZK_ROW(lzk_proof_texts, kind); }
+
+/* A number, the lowest byte first, in decimal digits: 40 bytes are always enough. Gives where they begin. */
+static inline const char *lzk_digits(const uint8_t *number, char *room) {
+  uint8_t left[16];
+  char *at = room + 39;
+  int some = 1;
+  for (int i = 0; i < 16; i++) left[i] = number[i];
+  *at = 0;
+  while (some) {
+    unsigned rest = 0;
+    some = 0;
+    for (int i = 15; i >= 0; i--) {
+      rest = rest << 8 | left[i];
+      left[i] = (uint8_t)(rest / 10), rest %= 10;
+      some |= left[i];
+    }
+    *--at = (char)('0' + rest);
+  }
+  return at;
+}
+
+/* Writes what an outcome says into a room, and gives it: one line, with no line feed. */
+static inline char *lzk_text(const lzk_outcome *found, char *room, size_t len) {
+  const lzk_meaning *means = lzk_meaning_of(found->answer, found->kind);
+  const unsigned long long count = found->count, offset = found->offset;
+  char digits[40];
+  switch (found->answer) {
+  case LZK_NO_CIRCUIT: snprintf(room, len, "circuit at byte %llu: %s: %s", offset, means->name, means->text); break;
+  case LZK_NO_NUMBERS: snprintf(room, len, "public numbers at line %u: %s: %s", found->line, means->name, means->text); break;
+  case LZK_NO_PRIVATES: snprintf(room, len, "private numbers at line %u: %s: %s", found->line, means->name, means->text); break;
+  case LZK_NO_SOURCE: snprintf(room, len, "source at line %u: %s: %s", found->line, means->name, means->text); break;
+  case LZK_NO_ROOM: snprintf(room, len, "%s: %llu", means->text, count); break;
+  case LZK_OVER_LIMIT: snprintf(room, len, "%s: the source's circuit would need %llu, over the limit of %s", means->name, count, means->text); break;
+  case LZK_UNSATISFIED: snprintf(room, len, "check %u is %s, and has to be 0: %s", found->check, lzk_digits(found->value, digits), means->text); break;
+  default: snprintf(room, len, "%s: %s", means->name, means->text);
+  }
+  return room;
+}
+
+/* 32 bytes in 64 hexadecimal digits. */
+static inline const char *lzk_hex(const uint8_t *bytes, char *room) {
+  for (int i = 0; i < 32; i++) snprintf(room + 2 * i, 3, "%02x", bytes[i]);
+  return room;
+}
+
+/* Writes what a report says into a room, and gives it: of a verdict the line that `zk verify` prints, else that of lzk_text. */
+static inline char *lzk_report_text(const lzk_report *found, char *room, size_t len) {
+  char one[65], other[40];
+  lzk_outcome same = {0, 0, 0, 0, 0, 0, {0}};
+  switch (found->answer == LZK_REJECTED ? found->check : 0) {
+  case LZK_FORMAT: snprintf(room, len, "rejected: format at byte %llu: %s", (unsigned long long)found->offset, lzk_proof_meaning(found->kind)->name); return room;
+  case LZK_CIRCUIT_ID: snprintf(room, len, "rejected: circuit id %s", lzk_hex(found->found_digest, one)); return room;
+  case LZK_PATH_COUNT: snprintf(room, len, "rejected: path count %u, needed %u", found->found_count, found->needed_count); return room;
+  case LZK_ROOT: snprintf(room, len, "rejected: root %s", lzk_hex(found->found_digest, one)); return room;
+  case LZK_LOW_DEGREE: snprintf(room, len, "rejected: low degree at column %u", found->column); return room;
+  case LZK_LINEAR_SUM:
+    snprintf(room, len, "rejected: linear sum %s, wanted %s", lzk_digits(found->found_sum, one), lzk_digits(found->wanted_sum, other));
+    return room;
+  case LZK_LINEAR: snprintf(room, len, "rejected: linear at column %u", found->column); return room;
+  case LZK_QUADRATIC: snprintf(room, len, "rejected: quadratic at column %u", found->column); return room;
+  default: break;
+  }
+  if (found->answer == LZK_ACCEPTED) {
+    snprintf(room, len, "accepted");
+    return room;
+  }
+  same.answer = found->answer, same.kind = found->kind, same.line = found->line, same.offset = found->offset;
+  return lzk_text(&same, room, len);
+}
+
+#undef LZK_ROW
+#ifdef __cplusplus
+}
+#endif
+#endif
