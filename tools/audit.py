@@ -18,6 +18,26 @@ from crates import TOP, text_of  # noqa: E402
 PAGE = "docs/AUDIT.md"
 # Where the contracts of the headline stand.
 CONTRACTS = ("lzk_cmd/src/top.rt", "lzk_verify/src/desk.rt", "lzk_verify/src/laws.rt", "lzk_ligero/src/works.rt", "lzk_complete/src/laws.rt")
+# What these files cite for other functions, for invariants, for proofs or for claims outside the headline. A file that is
+# reached and stands neither here nor in the table is a fault of the page.
+LEFT_OUT = {
+    "lzk_accept": "Factored Kept",
+    "lzk_circuit": "Faults",
+    "lzk_cmd_files": "Walks",
+    "lzk_cmd_runs": "Made RunSteps",
+    "lzk_cmd_words": "Digits",
+    "lzk_complete": "Refused",
+    "lzk_gf128": "Inverse Linear Table",
+    "lzk_goldilocks": "Pigeonhole Powers Primality",
+    "lzk_layout": "Cursors",
+    "lzk_level": "Levels Upgraded",
+    "lzk_ligero": "Changes Lending",
+    "lzk_ligero_steps": "Parts Rooms",
+    "lzk_reduce": "Rows Targets",
+    "lzk_rounds": "Orders Room",
+    "lzk_tableau": "Filled Table",
+    "lzk_verify": "Desk Extending",
+}
 ROW = re.compile(r"^(\|[^|]*)\| `(\w+)` \| ([\w, ]+) \| ([\d,]+) \|$", re.MULTILINE)
 SUM = re.compile(r"\*\*([\d,]+) files of ([\d,]+) lines\*\*")
 
@@ -69,7 +89,10 @@ def counted(page):
 
 def faults():
     page, there = text_of(PAGE), reached()
-    found = [
+    listed = {path for _, crate, names, _ in ROW.findall(page) for path in paths_of(crate, names)}
+    aside = {path for crate, names in LEFT_OUT.items() for path in paths_of(crate, ", ".join(names.split()))}
+    found = [f"{path} is cited by a contract of the headline: a row of the table, or a name in LEFT_OUT of tools/audit.py" for path in sorted(there - listed - aside)]
+    found += [
         f"{path} is not there, or no contract of the headline cites it"
         for _, crate, names, _ in ROW.findall(page)
         for path in paths_of(crate, names)

@@ -30,6 +30,8 @@ class Crate:
         head, _, lower = line.partition(":")
         self.line = line
         self.name, *self.words = head.split()
+        if not re.fullmatch(r"[\w-]+", self.name):
+            sys.exit(f"{LIST}: this is no crate's line: {line}")
         self.all = lower.split()
         self.lower = []
 
