@@ -87,7 +87,7 @@ class Line:
     def syntax(self, word, wanted, form):
         found = f", and found {readable(word.text)}" if word else ""
         more = quotes_told(word) if word and word.has_quotes() else ""
-        return self.fault("Syntax", word, f"wanted {wanted}{found}{'. The form is: ' + form if form else ''}{more}")
+        return self.fault("Syntax", word, f"wanted {wanted}{found}{'; the form is: ' + form if form else ''}{more}")
 
     def next(self):
         return self.words[self.at] if self.at < len(self.words) else None
@@ -114,7 +114,7 @@ class Line:
 
 
 def quotes_told(word):
-    return f". Quotes are part of a word here: {readable(word.text)} is {len(word.text)} bytes, and no text can have a blank"
+    return f"; quotes are part of a word here: {readable(word.text)} has {len(word.text)} bytes, and no text can have a blank"
 
 
 class Field:
