@@ -1,14 +1,17 @@
 // Longfellow ZK for C++17: include/lzk.h with strings of bytes, exceptions and a desk that frees itself.
 //
 //   auto circuit = lzk::compile("field goldilocks\npublic y\nprivate x\nassert x*x = y\n");
-//   auto proof = lzk::prove(circuit, "9", "3", "nonce", seed);
+//   auto proof = lzk::prove(circuit, "9", "3", "nonce");
 //   if (lzk::verify(circuit, "9", "nonce", proof)) ..
+//
+// What is refused is thrown as lzk::error, whose what() says what is wrong, where, and mostly what to do.
 //
 // The circuit is the statement: take it from your own store, and never from who sends the proof.
 #ifndef LZK_HPP
 #define LZK_HPP
 
 #include "lzk.h"
+#include "lzk_text.h"
 #include <array>
 #include <memory>
 #include <new>
@@ -22,31 +25,31 @@ using bytes = std::string;       // any bytes
 using view = std::string_view;   // the same, of somebody else
 using seed_bytes = std::array<uint8_t, 32>;
 
-// Why there is no answer. Want of memory is std::bad_alloc.
+// What an outcome says, in the words of lzk_text.h.
+inline std::string text(const lzk_outcome &found) {
+  char room[LZK_MOST_TEXT];
+  return lzk_text(&found, room, sizeof room);
+}
+
+// Why there is no answer. Out of memory is std::bad_alloc.
 class error : public std::runtime_error {
 public:
-  explicit error(const lzk_outcome &found) : std::runtime_error(name(found.answer)), outcome(found) {}
+  explicit error(const lzk_outcome &found) : std::runtime_error(text(found)), outcome(found) {}
   lzk_outcome outcome; // of a circuit or public numbers that a verifier refuses: answer, kind, line and offset
 
-  static const char *name(uint32_t answer) {
-    switch (answer) {
-    case LZK_TOO_LONG: return "lzk: a session, a text or a message is too long";
-    case LZK_NO_CIRCUIT: return "lzk: no circuit's file";
-    case LZK_NO_NUMBERS: return "lzk: not the circuit's public numbers";
-    case LZK_NO_SOURCE: return "lzk: no source";
-    case LZK_UNSATISFIED: return "lzk: the numbers do not satisfy the circuit";
-    case LZK_NO_PRIVATES: return "lzk: not the circuit's private numbers";
-    case LZK_OVER_LIMIT: return "lzk: the circuit would pass a limit";
-    case LZK_NO_VERSION: return "lzk: no such version";
-    default: return "lzk: NULL";
-    }
-  }
+  // The name of what is wrong, as `zk` prints it: Magic, TooFew, ..
+  const char *name() const { return lzk_meaning_of(outcome.answer, outcome.kind)->name; }
 };
 
 // What was found of a proof. It is true where the proof is accepted.
 struct [[nodiscard]] verdict {
   lzk_report report;
   explicit operator bool() const { return report.answer == LZK_ACCEPTED; }
+  // The line that `zk verify` prints.
+  std::string text() const {
+    char room[LZK_MOST_TEXT];
+    return lzk_report_text(&report, room, sizeof room);
+  }
 };
 
 namespace detail {
@@ -112,6 +115,13 @@ inline void evaluate(view circuit, view public_numbers, view private_numbers) {
   detail::check(found);
 }
 
+// 32 bytes of the system's random numbers: a seed for one proof.
+inline seed_bytes random_seed() {
+  seed_bytes seed;
+  detail::check(lzk_random_seed(seed.data()));
+  return seed;
+}
+
 // The seed is 32 bytes that nobody else can guess, new for each proof.
 inline bytes prove(view circuit, view public_numbers, view private_numbers, view session, const seed_bytes &seed) {
   bytes room(LZK_MOST_PROOF, '\0');
@@ -121,6 +131,17 @@ inline bytes prove(view circuit, view public_numbers, view private_numbers, view
   detail::check(found);
   room.resize(found.count);
   return room;
+}
+
+// The same by a seed of the system's, which is cleared.
+inline bytes prove(view circuit, view public_numbers, view private_numbers, view session = {}) {
+  struct cleared {
+    seed_bytes seed = random_seed();
+    ~cleared() {
+      for (volatile uint8_t *at = seed.data(); at != seed.data() + seed.size(); at++) *at = 0;
+    }
+  } const held;
+  return prove(circuit, public_numbers, private_numbers, session, held.seed);
 }
 
 inline verdict verify(view circuit, view public_numbers, view session, view proof) {

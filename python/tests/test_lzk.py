@@ -7,6 +7,7 @@ import subprocess
 import sys
 import tempfile
 import threading
+import tty
 import unittest
 
 sys.path.insert(0, os.environ.get("LZK_PACKAGE") or os.path.join(os.path.dirname(os.path.abspath(__file__)), ".."))
@@ -360,8 +361,14 @@ class Puts(unittest.TestCase):
             self.assertTrue(stat.S_ISFIFO(self.mode(name)))
 
     def test_a_device_stays_one(self):
-        self.assertEqual(self.run_words("compile", self.path("s.txt"), "/dev/null").returncode, 0)
-        self.assertTrue(stat.S_ISCHR(os.stat("/dev/null").st_mode))
+        # A terminal of the test's own: code that replaces what it writes can do no harm there.
+        ours, theirs = os.openpty()
+        tty.setraw(theirs)
+        self.assertEqual(self.run_words("compile", self.path("s.txt"), os.ttyname(theirs)).returncode, 0)
+        self.assertEqual(os.read(ours, 4096), lzk.compile(SQUARE))
+        self.assertTrue(stat.S_ISCHR(os.stat(os.ttyname(theirs)).st_mode))
+        os.close(ours)
+        os.close(theirs)
         ended = self.run_words("compile", self.path("s.txt"), "/dev/stdout")
         self.assertEqual(ended.returncode, 0)
         self.assertTrue(ended.stdout.startswith(lzk.compile(SQUARE)))

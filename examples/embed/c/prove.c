@@ -1,7 +1,7 @@
 /* Compiles a statement, proves it and verifies the proof:  prove SOURCE PUBLIC PRIVATE
    The last two are numbers in words, as "9" and "3". Ends with the answer's number. */
 #define _DEFAULT_SOURCE
-#include "lzk.h"
+#include "lzk_text.h"
 #include <stdio.h>
 #include <stdlib.h>
 #include <string.h>
@@ -9,7 +9,8 @@
 static const uint8_t *at(const char *text) { return (const uint8_t *)text; }
 
 static int fail(const char *what, const lzk_outcome *found) {
-  printf("%s: answer %u, kind %u, line %u, check %u\n", what, found->answer, found->kind, found->line, found->check);
+  char text[LZK_MOST_TEXT];
+  printf("%s: %s\n", what, lzk_text(found, text, sizeof text));
   return (int)found->answer;
 }
 
@@ -37,7 +38,7 @@ int main(int count, char **words) {
   lzk_circuit_info(circuit, circuit_len, &info);
   printf("circuit: %zu bytes, %u public, %u private, %u layers, %u checks\n", circuit_len, info.publics, info.privates, info.layers, info.checks);
 
-  if (read_file("/dev/urandom", seed, 32) != 32) return 64;
+  if (lzk_random_seed(seed)) return LZK_NO_RANDOM;
   uint32_t answer = lzk_prove(circuit, circuit_len, at(words[2]), strlen(words[2]), at(words[3]), strlen(words[3]), at("nonce"), 5, seed, proof,
                               sizeof proof, &found);
   explicit_bzero(seed, sizeof seed);

@@ -3,7 +3,7 @@
    the number of the check that fails. Port 0 is any that is free; the port is printed first. The circuit is compiled here: a service takes it
    from its own store, never from who proves. */
 #define _DEFAULT_SOURCE
-#include "lzk.h"
+#include "lzk_text.h"
 #include <arpa/inet.h>
 #include <stdio.h>
 #include <stdlib.h>

@@ -2,12 +2,11 @@
    The service sends a nonce of 32 bytes, which is the session. The private number comes on standard input, so that it stands in no list of
    processes. Prints what the service answers, and ends with 1 unless that is "accepted". */
 #define _DEFAULT_SOURCE
-#include "lzk.h"
+#include "lzk_text.h"
 #include <arpa/inet.h>
 #include <stdio.h>
 #include <stdlib.h>
 #include <string.h>
-#include <sys/random.h>
 #include <sys/socket.h>
 #include <unistd.h>
 
@@ -28,7 +27,7 @@ static int connected(int port) {
 int main(int count, char **words) {
   static uint8_t circuit[4096], proof[LZK_MOST_PROOF];
   uint8_t secret[256], nonce[32], seed[32];
-  char answer[256] = "";
+  char answer[256] = "", text[LZK_MOST_TEXT];
   lzk_outcome made, found;
   if (count != 3) return fprintf(stderr, "wallet PORT PUBLIC < PRIVATE\n"), 64;
   const uint8_t *numbers = (const uint8_t *)words[2];
@@ -36,12 +35,12 @@ int main(int count, char **words) {
 
   int service = connected(atoi(words[1]));
   if (service < 0 || recv(service, nonce, 32, MSG_WAITALL) != 32) return fail("service");
-  if (getrandom(seed, 32, 0) != 32) return fail("seed");
+  if (lzk_random_seed(seed)) return fail("seed");
   size_t secret_len = fread(secret, 1, sizeof secret, stdin);
   lzk_prove(circuit, made.count, numbers, strlen(words[2]), secret, secret_len, nonce, 32, seed, proof, sizeof proof, &found);
   explicit_bzero(secret, sizeof secret);
   explicit_bzero(seed, sizeof seed);
-  if (found.answer) return printf("answer %u, check %u\n", found.answer, found.check), 1;
+  if (found.answer) return printf("%s\n", lzk_text(&found, text, sizeof text)), 1;
 
   for (size_t from = 0; from < found.count;) {
     ssize_t sent = send(service, proof + from, found.count - from, MSG_NOSIGNAL);

@@ -12,11 +12,11 @@ fn main() -> Result<(), Box<dyn Error>> {
         public.as_bytes(),
         private.as_bytes(),
         b"nonce",
-        &lzk::fresh_seed()?,
+        None,
     )?;
-    match lzk::verify(&circuit, public.as_bytes(), b"nonce", &proof)? {
-        lzk::Verdict::Accepted => println!("accepted"),
-        verdict => println!("rejected: {verdict:?}"),
-    }
+    println!(
+        "{}",
+        lzk::verify(&circuit, public.as_bytes(), b"nonce", &proof)?
+    );
     Ok(())
 }

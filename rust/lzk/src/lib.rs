@@ -3,8 +3,7 @@
 //! ```
 //! # fn main() -> Result<(), lzk::Error> {
 //! let circuit = lzk::compile("field goldilocks\npublic y\nprivate x\nassert x*x = y\n", lzk::Version::One)?;
-//! let seed = lzk::fresh_seed().expect("the system's random numbers");
-//! let proof = lzk::prove(&circuit, &lzk::text(&[9]), &lzk::text(&[3]), b"nonce", &seed)?;
+//! let proof = lzk::prove(&circuit, &lzk::text(&[9]), &lzk::text(&[3]), b"nonce", None)?;
 //! assert!(lzk::verify(&circuit, &lzk::text(&[9]), b"nonce", &proof)?.is_accepted());
 //! # Ok(())
 //! # }
@@ -15,9 +14,9 @@
 #![warn(missing_docs)]
 
 use std::fmt;
-use std::io::{self, Read};
 
 mod raw;
+mod texts;
 
 /// No proof's file has more bytes.
 pub const MOST_PROOF: usize = 2_097_152;
@@ -31,7 +30,7 @@ pub enum Version {
     Two = 2,
 }
 
-/// Why there is no answer. Numbers of rules are those of include/lzk.h.
+/// Why there is no answer. Its text says what is wrong, where, and mostly what to do. Numbers of rules are those of include/lzk.h.
 #[derive(Clone, Copy, Debug, PartialEq, Eq)]
 #[non_exhaustive]
 pub enum Error {
@@ -83,24 +82,66 @@ pub enum Error {
     NoMemory,
     /// The library is of another version.
     OtherVersion,
+    /// The system gave no random numbers for a seed.
+    NoRandom,
 }
 
+// The name and the text of a row of a table; of a number that it has not, its first.
+fn row(table: &[(&'static str, &'static str)], number: u32) -> (&'static str, &'static str) {
+    *table.get(number as usize).unwrap_or(&table[0])
+}
+
+impl Error {
+    /// The name of what is wrong, as `zk` prints it: `Magic`, `TooFew`, `Unknown`, ..
+    #[must_use]
+    pub fn name(&self) -> &'static str {
+        self.meaning().0
+    }
+
+    // The name, and what it means.
+    fn meaning(&self) -> (&'static str, &'static str) {
+        match *self {
+            Error::NoCircuit { rule, .. } => row(&texts::CIRCUIT, rule),
+            Error::NoPublics { rule, .. } | Error::NoPrivates { rule, .. } => {
+                row(&texts::NUMBER, rule)
+            }
+            Error::NoSource { rule, .. } => row(&texts::SOURCE, rule),
+            Error::OverLimit { limit, .. } => row(&texts::LIMIT, limit),
+            Error::TooLong => texts::ANSWER[2],
+            Error::NoMemory => texts::ANSWER[6],
+            Error::Unsatisfied { .. } => texts::ANSWER[8],
+            Error::NoRandom => texts::ANSWER[13],
+            Error::OtherVersion => (
+                "OtherVersion",
+                "the library is of another version than this crate",
+            ),
+        }
+    }
+}
+
+/// The words of include/lzk_text.h.
 impl fmt::Display for Error {
     fn fmt(&self, f: &mut fmt::Formatter<'_>) -> fmt::Result {
+        let (name, text) = self.meaning();
         match self {
-            Error::TooLong => write!(f, "a session, a text or a message is too long"),
-            Error::NoCircuit { rule, offset } => write!(f, "circuit at byte {offset}: rule {rule}"),
-            Error::NoPublics { rule, line } => {
-                write!(f, "public numbers at line {line}: rule {rule}")
+            Error::NoCircuit { offset, .. } => {
+                write!(f, "circuit at byte {offset}: {name}: {text}")
             }
-            Error::NoPrivates { rule, line } => {
-                write!(f, "private numbers at line {line}: rule {rule}")
+            Error::NoPublics { line, .. } => {
+                write!(f, "public numbers at line {line}: {name}: {text}")
             }
-            Error::NoSource { rule, line } => write!(f, "source at line {line}: rule {rule}"),
-            Error::OverLimit { limit, count } => write!(f, "limit {limit} is passed by {count}"),
-            Error::Unsatisfied { check, value } => write!(f, "check {check} is {value}"),
-            Error::NoMemory => write!(f, "no memory"),
-            Error::OtherVersion => write!(f, "the library is of another version"),
+            Error::NoPrivates { line, .. } => {
+                write!(f, "private numbers at line {line}: {name}: {text}")
+            }
+            Error::NoSource { line, .. } => write!(f, "source at line {line}: {name}: {text}"),
+            Error::OverLimit { count, .. } => write!(
+                f,
+                "{name}: the source's circuit would need {count}, over the limit of {text}"
+            ),
+            Error::Unsatisfied { check, value } => {
+                write!(f, "check {check} is {value}, and has to be 0: {text}")
+            }
+            _ => write!(f, "{name}: {text}"),
         }
     }
 }
@@ -151,6 +192,51 @@ impl Verdict {
     #[must_use]
     pub fn is_accepted(&self) -> bool {
         *self == Verdict::Accepted
+    }
+
+    /// What it mostly means that this check fails; nothing where all hold.
+    #[must_use]
+    pub fn meaning(&self) -> &'static str {
+        let check = match self {
+            Verdict::Accepted => 0,
+            Verdict::Format { .. } => 1,
+            Verdict::CircuitId(_) => 2,
+            Verdict::PathCount { .. } => 3,
+            Verdict::Root(_) => 4,
+            Verdict::LowDegree(_) => 5,
+            Verdict::LinearSum { .. } => 6,
+            Verdict::Linear(_) => 7,
+            Verdict::Quadratic(_) => 8,
+        };
+        row(&texts::CHECK, check).1
+    }
+}
+
+fn hex(bytes: &[u8; 32]) -> String {
+    bytes.iter().map(|byte| format!("{byte:02x}")).collect()
+}
+
+/// The line that `zk verify` prints.
+impl fmt::Display for Verdict {
+    fn fmt(&self, f: &mut fmt::Formatter<'_>) -> fmt::Result {
+        match self {
+            Verdict::Accepted => write!(f, "accepted"),
+            Verdict::Format { rule, offset } => {
+                let name = row(&texts::PROOF, *rule).0;
+                write!(f, "rejected: format at byte {offset}: {name}")
+            }
+            Verdict::CircuitId(id) => write!(f, "rejected: circuit id {}", hex(id)),
+            Verdict::PathCount { found, needed } => {
+                write!(f, "rejected: path count {found}, needed {needed}")
+            }
+            Verdict::Root(root) => write!(f, "rejected: root {}", hex(root)),
+            Verdict::LowDegree(column) => write!(f, "rejected: low degree at column {column}"),
+            Verdict::LinearSum { found, wanted } => {
+                write!(f, "rejected: linear sum {found}, wanted {wanted}")
+            }
+            Verdict::Linear(column) => write!(f, "rejected: linear at column {column}"),
+            Verdict::Quadratic(column) => write!(f, "rejected: quadratic at column {column}"),
+        }
     }
 }
 
@@ -264,11 +350,15 @@ pub fn text(numbers: &[u128]) -> Vec<u8> {
 ///
 /// # Errors
 ///
-/// The system gives none.
-pub fn fresh_seed() -> io::Result<[u8; 32]> {
+/// `NoRandom`: the system gives none.
+pub fn fresh_seed() -> Result<[u8; 32], Error> {
+    version_fits()?;
     let mut seed = [0; 32];
-    std::fs::File::open("/dev/urandom")?.read_exact(&mut seed)?;
-    Ok(seed)
+    // The call writes 32 bytes.
+    match unsafe { raw::lzk_random_seed(seed.as_mut_ptr()) } {
+        0 => Ok(seed),
+        _ => Err(Error::NoRandom),
+    }
 }
 
 // What a call puts into a room, which is made as large as it asks for.
@@ -384,20 +474,29 @@ pub fn evaluate(circuit: &[u8], public: &[u8], private: &[u8]) -> Result<(), Err
 }
 
 /// The proof that the numbers of two texts satisfy a circuit. The seed is 32 bytes that nobody else can guess, new for each proof:
-/// who knows it knows the private numbers. The same seed gives the same bytes. The caller's thread does all the work. The library clears the
-/// memory that it takes, and the stack that it used; clear your own copies of seed and private numbers.
+/// who knows it knows the private numbers. `None` takes one of the system; `&seed` is taken as it is, and the same seed gives the same bytes. The
+/// caller's thread does all the work. The library clears the memory that it takes, and the stack that it used; clear your own copies of seed
+/// and private numbers.
 ///
 /// # Errors
 ///
-/// As `evaluate`.
-pub fn prove(
+/// As `evaluate`; `NoRandom` where there is no seed.
+pub fn prove<'a>(
     circuit: &[u8],
     public: &[u8],
     private: &[u8],
     session: &[u8],
-    seed: &[u8; 32],
+    seed: impl Into<Option<&'a [u8; 32]>>,
 ) -> Result<Vec<u8>, Error> {
     version_fits()?;
+    let fresh;
+    let seed = match seed.into() {
+        Some(seed) => seed,
+        None => {
+            fresh = fresh_seed()?;
+            &fresh
+        }
+    };
     let (mut room, mut found) = (vec![0; MOST_PROOF], raw::Outcome::default());
     unsafe {
         raw::lzk_prove(
@@ -454,7 +553,7 @@ pub fn verify(
 /// ```
 /// # fn main() -> Result<(), lzk::Error> {
 /// # let circuit = lzk::compile("field goldilocks\npublic y\nprivate x\nassert x*x = y\n", lzk::Version::One)?;
-/// # let proof = lzk::prove(&circuit, b"9", b"3", b"nonce", &[7; 32])?;
+/// # let proof = lzk::prove(&circuit, b"9", b"3", b"nonce", None)?;
 /// let mut desk = lzk::Desk::open(&circuit, b"9", b"nonce")?;
 /// for piece in proof.chunks(1000) {
 ///     desk.feed(piece)?;

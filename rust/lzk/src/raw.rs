@@ -50,6 +50,7 @@ pub struct Desk {
 
 extern "C" {
     pub fn lzk_version() -> u32;
+    pub fn lzk_random_seed(seed: *mut u8) -> u32;
     pub fn lzk_explain(
         c: *const u8,
         cn: usize,

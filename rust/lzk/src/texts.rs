@@ -1,0 +1,81 @@
+//! What each answer, rule and check is called, and means. Made by library/make-texts: edit library/texts.txt.
+#[rustfmt::skip]
+pub const ANSWER: [(&str, &str); 14] = [
+    ("Done", "done"),
+    ("Rejected", "a check of the proof fails; refuse it"),
+    ("TooLong", "a session has more than 64 bytes, a text more than 4,194,304, or a message for sha_circuit more than 55; shorten it, a session by its SHA-256"),
+    ("NoCircuit", "the bytes are no circuit's file; compile the statement again, or look at your store"),
+    ("NoNumbers", "the text has not exactly the circuit's public numbers, each below the field's size"),
+    ("NoSource", "the text is no source"),
+    ("NoMemory", "out of memory; nothing is known, so call again"),
+    ("NoRoom", "the room is too small; call again with room for as many bytes as count says"),
+    ("Unsatisfied", "the numbers do not satisfy the circuit; look at the assert that the check is of"),
+    ("NoPrivates", "the text has not exactly the circuit's private numbers, each below the field's size"),
+    ("OverLimit", "the source's circuit would pass a limit"),
+    ("NoVersion", "there is no such version of circuits; take 1 or 2"),
+    ("Null", "a pointer is NULL that may not be; NULL is empty only beside a length of 0"),
+    ("NoRandom", "the system gave no random numbers; nothing was proved"),
+];
+#[rustfmt::skip]
+pub const CIRCUIT: [(&str, &str); 11] = [
+    ("", ""),
+    ("Truncated", "the bytes end inside the file; a part is missing"),
+    ("Magic", "the bytes begin with neither LZC1 nor LZC2; is this another file, a proof or a source?"),
+    ("FieldId", "the field's byte is neither 1 nor 2"),
+    ("Limit", "a count, or a running total, is over its limit"),
+    ("Varint", "a number is not in its shortest form, or is 2^32 or more"),
+    ("Order", "a term does not come after the one before it"),
+    ("Range", "a wire, or the number of a constant, is out of range"),
+    ("Constant", "a constant is zero, too large, not above the one before, or used by no term"),
+    ("Trailing", "bytes are left after the last term"),
+    ("Assertion", "an assertion term is not the only one of its wire"),
+];
+#[rustfmt::skip]
+pub const NUMBER: [(&str, &str); 5] = [
+    ("", ""),
+    ("Syntax", "a word is no number; write decimal digits, or hexadecimal ones after 0x, with no sign"),
+    ("TooLarge", "a number is not below the field's size"),
+    ("TooFew", "the text ends before as many numbers as the circuit has"),
+    ("TooMany", "there are more numbers than the circuit has"),
+];
+#[rustfmt::skip]
+pub const SOURCE: [(&str, &str); 10] = [
+    ("", ""),
+    ("Character", "a byte is neither a blank nor of a token"),
+    ("Syntax", "the line has not the form of the grammar"),
+    ("Keyword", "the first word is no keyword; a line begins with field, public, private, let or assert"),
+    ("Unknown", "a name was not declared on an earlier line"),
+    ("Twice", "a name is declared again, or there is a second `field` line"),
+    ("TooLarge", "a number is not below the field's size"),
+    ("NoField", "the first statement is no `field` line; begin with `field goldilocks` or `field gf2_128`"),
+    ("NoAssert", "there is no assert"),
+    ("Limit", "a name is too long, too many parentheses are open, or there are too many inputs or asserts"),
+];
+#[rustfmt::skip]
+pub const LIMIT: [(&str, &str); 4] = [
+    ("", ""),
+    ("Layers", "512 layers"),
+    ("LayerWires", "131,072 wires of a layer"),
+    ("Terms", "2,097,152 terms"),
+];
+#[rustfmt::skip]
+pub const PROOF: [(&str, &str); 6] = [
+    ("", ""),
+    ("Truncated", "the bytes end inside the field at this byte; a part is missing"),
+    ("Magic", "the bytes do not begin with LZP1; is this another file?"),
+    ("Element", "a number is not below the field's size"),
+    ("PathLimit", "the path has more than 1,536 digests"),
+    ("Trailing", "bytes are left after the last field"),
+];
+#[rustfmt::skip]
+pub const CHECK: [(&str, &str); 9] = [
+    ("", ""),
+    ("Format", "the bytes are no proof's file for this circuit"),
+    ("CircuitId", "the proof is for another circuit"),
+    ("PathCount", "mostly the session or the public numbers are not the prover's"),
+    ("Root", "the session or the public numbers are not the prover's, or the bytes were changed"),
+    ("LowDegree", "the bytes were changed, or the prover cheats"),
+    ("LinearSum", "the bytes were changed, or the prover cheats"),
+    ("Linear", "the bytes were changed, or the prover cheats"),
+    ("Quadratic", "the bytes were changed, or the prover cheats"),
+];
