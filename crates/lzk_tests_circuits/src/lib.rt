@@ -1,15 +1,9 @@
-//! Tests of `lzk_level` and `lzk_demo`: the circuits of builders, the demo's source, and circuits of version 2 with
-//! their files, their checks, and those of nodes and sources. Those of sources of version 1, and their files, stand
-//! in `lzk_tests_runs`.
-//!
-//! They stand above what they test, so that those crates are proved once and not again with their tests.
+//! Tests of sources, circuits and their files, and of where things stand in a proof.
 #![tactic(auto)]
 
 #[cfg(test)]
-mod asserts;
+mod circuits;
 #[cfg(test)]
-mod builders;
+mod expr;
 #[cfg(test)]
-mod demo;
-#[cfg(test)]
-mod files;
+mod layout;

@@ -1,10 +1,7 @@
-//! Tests of `run`, over a shelf and a sink in memory: what no list of runs can show. The lists stand in
-//! `lzk_tests_runs`.
+//! Tests of commands, and of what they read and put.
 #![tactic(auto)]
 
 #[cfg(test)]
-mod chained;
+mod cmd;
 #[cfg(test)]
-mod meeting;
-#[cfg(test)]
-mod runs;
+mod outside;
