@@ -16,7 +16,7 @@ use Rattle.lzk_accept.specs.declared.challenges.Challenges.{Challenges}
 use Rattle.lzk_tableau.specs.Tableau.{random}
 use Rattle.lzk_hiding.specs.Counting.{HasExactly}
 use Rattle.lzk_hiding.specs.Laws.{IsCase, LeadsTo, SeenEquallyOften}
-use Rattle.lzk_sound.specs.Passing.{Passes}
+use Rattle.lzk_soundness.specs.Sumchecks.Passing.{Passes}
 use Rattle.lzk_hiding.specs.Seen.{random_count, words_for, idle_count, idle_at}
 use Rattle.lzk_hiding.proofs.Numbers.{digit, number_for, number_below, digit_number, digits_apart}
 use Rattle.lzk_hiding.proofs.Only.{all_are}

@@ -25,7 +25,7 @@ use Rattle.lzk_accept.specs.Checks as checks
 use Rattle.lzk_accept.specs.Checks.{at_row, combined_row_of, wanted_of, quadratic_values}
 use Rattle.lzk_hiding.specs.Counting.{HasExactly}
 use Rattle.lzk_hiding.specs.Laws.{ShowSame, Makes, SimulatedOnce}
-use Rattle.lzk_sound.specs.Passing.{Passes}
+use Rattle.lzk_soundness.specs.Sumchecks.Passing.{Passes}
 use Rattle.lzk_hiding.specs.Seen.{AreColumns}
 use Rattle.lzk_hiding.specs.Simulated.{ldt_free, dot_free, head_free, tail_free, rows_free, free_count, point_at, free_messages, free_ldt, last_dot, dot_at, free_dot, free_head, free_tail, free_quads, free_behind, cell, free_columns, simulated}
 use Rattle.lzk_hiding.proofs.Joint.{less}

@@ -23,7 +23,7 @@ use Rattle.lzk_answers.proofs.RowLaws.{columns_open}
 use Rattle.lzk_answers.proofs.StandLaws.{combined_rows, zeros_stand, linear_sum_stands}
 use Rattle.lzk_tableau.specs.Tableau.{committed, tableau, column}
 use Rattle.lzk_complete.proofs.Standing.{length_rows, rows_are, rows_stand}
-use Rattle.lzk_sound.specs.Passing.{Passes}
+use Rattle.lzk_soundness.specs.Sumchecks.Passing.{Passes}
 use Rattle.lzk_hiding.specs.Seen.{IsSeen}
 use Rattle.lzk_hiding.specs.Laws.{IsCase, SeenPasses, ProofsAreSeen}
 use Rattle.lzk_hiding.proofs.Satisfying.{satisfies}

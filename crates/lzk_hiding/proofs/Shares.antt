@@ -9,7 +9,7 @@ use Rattle.lzk_layout.specs.Sizes.{params_of}
 use Rattle.lzk_sumcheck.specs.declared.script.Script.{Script}
 use Rattle.lzk_accept.specs.declared.challenges.Challenges.{Challenges}
 use Rattle.lzk_hiding.specs.Laws.{ShowSame, Hides}
-use Rattle.lzk_sound.specs.Passing.{Passes}
+use Rattle.lzk_soundness.specs.Sumchecks.Passing.{Passes}
 use Rattle.lzk_hiding.specs.Seen.{random_count, idle_count, words_for}
 use Rattle.lzk_hiding.specs.Simulated.{free_count}
 use Rattle.lzk_hiding.proofs.Cases.{counts_agree}

@@ -20,7 +20,7 @@ use Rattle.lzk_sumcheck.specs.declared.script.Script.{Script}
 use Rattle.lzk_accept.specs.declared.challenges.Challenges.{Challenges}
 use Rattle.lzk_accept.specs.Checks.{combined_row_of, wanted_of}
 use Rattle.lzk_hiding.specs.Laws.{SimulatedPasses}
-use Rattle.lzk_sound.specs.Passing.{Passes}
+use Rattle.lzk_soundness.specs.Sumchecks.Passing.{Passes}
 use Rattle.lzk_hiding.specs.Seen.{AreColumns}
 use Rattle.lzk_hiding.specs.Simulated.{ldt_free, dot_free, head_free, tail_free, point_at, free_messages, free_ldt, last_dot, dot_at, free_dot, free_quads, free_behind, cell, free_columns, simulated}
 use Rattle.lzk_hiding.proofs.Joint.{more}

@@ -37,7 +37,7 @@ use Rattle.lzk_answers.proofs.RowLaws.{low_degree_short, linear_short, quadratic
 use Rattle.lzk_answers.proofs.StandLaws.{combined_rows, zeros_stand, linear_sum_stands}
 use Rattle.lzk_tableau.specs.Tableau.{random, randoms, committed, tableau, column, row1_words, row2_words, rows_words}
 use Rattle.lzk_complete.proofs.Standing.{length_rows, rows_are, rows_stand}
-use Rattle.lzk_sound.specs.Passing.{Passes}
+use Rattle.lzk_soundness.specs.Sumchecks.Passing.{Passes}
 use Rattle.lzk_hiding.specs.Seen.{random_count, IsSeen}
 use Rattle.lzk_hiding.specs.Laws.{IsCase}
 use Rattle.lzk_hiding.proofs.Entries.{entry_row0, entry_row1, entry_row2_front, entry_row2_back, entry_head, entry_data, element_same}

@@ -18,7 +18,7 @@ use Rattle.lzk_layout.specs.declared.proof.Proof.{Proof}
 use Rattle.lzk_layout.specs.Sizes.{params_of}
 use Rattle.lzk_accept.specs.Challenges.{Transcript}
 use Rattle.lzk_accept.specs.Checks.{column}
-use Rattle.lzk_sound.specs.Passing.{Passes}
+use Rattle.lzk_soundness.specs.Sumchecks.Passing.{Passes}
 use Rattle.lzk_layout.proofs.SizeLaws.{params_bounded}
 use Rattle.lzk_tableau.specs.Tableau as prover
 use Rattle.lzk_complete.specs.Proving.{IsProofOf, given}

@@ -1,5 +1,0 @@
-mod Counts
-mod Example
-mod FarTables
-mod Passing
-mod Zeros

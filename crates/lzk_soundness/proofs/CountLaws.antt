@@ -1,0 +1,12 @@
+pub mod Bound
+pub mod Count
+pub mod Elements
+pub mod Facts
+pub mod Fronts
+pub mod Made
+pub mod Masks
+pub mod Near
+pub mod Numbers
+pub mod Read
+pub mod Rows
+pub mod Sent

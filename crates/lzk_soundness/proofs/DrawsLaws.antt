@@ -1,0 +1,10 @@
+pub mod Alike
+pub mod Deciding
+pub mod Example
+pub mod FewDraws
+pub mod Forgers
+pub mod Looking
+pub mod Most
+pub mod Places
+pub mod Unions
+pub mod Versions

@@ -1,0 +1,52 @@
+-- How seldom a forger with so many questions names a run that passes.
+use Rattle.lzk_profile.specs.Profile.{opened_count}
+use Rattle.std.specs.Prelude.{◌≡◌, ℕ, ◌+◌, ◌-◌, ◌*◌, ◌^◌, ◌<◌, ◌≤◌, Bool, true, List, length}
+use Rattle.lzk_field.specs.Coding.{Coding}
+use Rattle.lzk_field.specs.Ring.{Ops}
+use Rattle.lzk_soundness.specs.Chance.Draws.{count, draws_from}
+use Rattle.lzk_soundness.specs.Chance.Sets.{choose}
+use Rattle.lzk_circuit.specs.Valid.{Wiring, IsValid}
+use Rattle.lzk_layout.specs.Sizes.{params_of}
+use Rattle.lzk_soundness.specs.Oracle.Oracle.{IsOracle, asked}
+use Rattle.lzk_soundness.specs.Rounds.Steps.{most_draws}
+use Rattle.lzk_soundness.specs.Forger.Questions.{Question, Reply, TellsApart, all_replies, no_reply, Run, IsForged}
+
+-- A forger of proofs for a valid circuit. He asks an oracle so many questions, each chosen by the answers before, and
+-- then a test says yes only where he can name a run that passes and of which he asked all that its tape asks, though
+-- its table does not encode private inputs that satisfy the circuit.
+pub record IsForger {A : Type 0} (o : Ops A) (e : Coding A) (c : Wiring A) (code : Question A → ℕ) (questions tries : ℕ)
+    (ask : List (Reply A) → ℕ) (wins : List (Reply A) → Bool) : Type 0 where
+  pub valid : IsValid o c
+  pub apart : TellsApart c code
+  pub inside : (before : List (Reply A)) → ask before < questions
+  pub only : (oracle : List (Reply A)) → IsOracle (all_replies e c) questions oracle → wins oracle ≡ true
+      → (run : Run A) × IsForged o e c code oracle (asked no_reply ask oracle tries) run
+
+-- One in `by` bounds the share of bad answers at each step: at most three elements are bad for each draw behind the
+-- root or in the sumchecks, and BLOCK + 2 weights, over the number of elements; and of all sets of columns those among
+-- three quarters of them, but for one.
+pub record AreShares {A : Type 0} (e : Coding A) (c : Wiring A) (by : ℕ) : Type 0 where
+  pub draws : 3 * most_draws c * by ≤ e.size
+  pub weights : ((params_of c).block + 2) * by ≤ e.size
+  pub columns : choose (3 * (params_of c).block - 1) opened_count * by ≤ choose (params_of c).mcol opened_count
+
+-- Then he wins by at most one oracle in `by` for each question.
+abbrev pub ForgersAreRare : {A : Type 0} → Ops A → Coding A → Type 0
+ForgersAreRare {A} o e =
+    (c : Wiring A) (code : Question A → ℕ) (questions tries by : ℕ) (ask : List (Reply A) → ℕ)
+    (wins : List (Reply A) → Bool)
+    → IsForger o e c code questions tries ask wins → AreShares e c by → 2 ^ 18 ≤ e.size
+    → count wins (draws_from (all_replies e c) questions) * by ≤ tries * length (all_replies e c) ^ questions
+
+-- For every valid circuit, over a field of 2^64 - 2^32 + 1 elements at least, it is one in 3 * 2^53.
+abbrev pub SharesAreSmall : {A : Type 0} → Ops A → Coding A → Type 0
+SharesAreSmall {A} o e = (c : Wiring A) → IsValid o c → 18446744069414584321 ≤ e.size → AreShares e c (3 * 2 ^ 53)
+
+-- So he wins by at most one oracle in 3 * 2^53 for each question.
+abbrev pub ForgersByTries : {A : Type 0} → Ops A → Coding A → Type 0
+ForgersByTries {A} o e =
+    (c : Wiring A) (code : Question A → ℕ) (questions tries : ℕ) (ask : List (Reply A) → ℕ)
+    (wins : List (Reply A) → Bool)
+    → IsForger o e c code questions tries ask wins → 18446744069414584321 ≤ e.size
+    → count wins (draws_from (all_replies e c) questions) * (3 * 2 ^ 53)
+    ≤ tries * length (all_replies e c) ^ questions
