@@ -1,5 +1,6 @@
 //! Laws of the definitions, as contracts of functions that do nothing.
 
+ghost use Rattle.lzk_hiding.specs.Honest.{HonestPass};
 ghost use Rattle.lzk_hiding.specs.Laws.{
   CountsAgree,
   DrawsAreCases,
@@ -67,4 +68,10 @@ pub fn word_laws<F: Field>()
 pub fn tape_laws<F: Field>()
     ensures completed { ProofsAreCompleted F.ops F.coding }
     ensures programmed { ProgrammedAccepted F.ops F.coding }
+{}
+
+/// An honest prover is one of the strategies that soundness counts: for every valid circuit, satisfying inputs and random
+/// words it passes by all draws and all sets of columns, and its inputs are what its table encodes.
+pub fn honest_laws<F: Field>()
+    ensures { HonestPass F.ops F.coding }
 {}

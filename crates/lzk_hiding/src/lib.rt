@@ -9,4 +9,4 @@
 
 mod laws;
 
-pub use laws::{hiding_laws, seen_laws, simulator_laws, tape_laws, word_laws};
+pub use laws::{hiding_laws, honest_laws, seen_laws, simulator_laws, tape_laws, word_laws};

@@ -87,7 +87,7 @@ module _ {A : Type 0} (o : Ops A) (c : Wiring A) where
     abbrev t : Script A
     t = script_of o c ys
 
-    point_a_same : (l : ℕ) → l ≤ depth c → AgreeBelow o (drawn_at c l) xs ys → point_a o s l ≡ point_a o t l
+    pub point_a_same : (l : ℕ) → l ≤ depth c → AgreeBelow o (drawn_at c l) xs ys → point_a o s l ≡ point_a o t l
     point_a_same zero h agree = map-same (λ j. entry o xs j) (λ j. entry o ys j) 0 (output_bits c) (λ i k. agree i (omega (arith, k)))
     point_a_same (suc l) h agree =
         let D = drawn_at c l + firsts c in
@@ -95,7 +95,7 @@ module _ {A : Type 0} (o : Ops A) (c : Wiring A) where
         ∙ map-same (λ j. entry o xs (D + 2 * j)) (λ j. entry o ys (D + 2 * j)) 0 (bits_under c l) (λ i k. agree (D + 2 * i) (omega (arith, k)))
         ∙ sym (ap (λ (x : LayerScript A). x.ra) (layer_is ys l h))
 
-    point_b_same : (l : ℕ) → l ≤ depth c → AgreeBelow o (drawn_at c l) xs ys → point_b o s l ≡ point_b o t l
+    pub point_b_same : (l : ℕ) → l ≤ depth c → AgreeBelow o (drawn_at c l) xs ys → point_b o s l ≡ point_b o t l
     point_b_same zero h agree = point_a_same zero h agree
     point_b_same (suc l) h agree =
         let D = drawn_at c l + firsts c in
@@ -118,9 +118,26 @@ module _ {A : Type 0} (o : Ops A) (c : Wiring A) where
     challenge_same : (l n : ℕ) → l < depth c → n < round_count c l → AgreeBelow o (drawn_at c l + firsts c + suc n) xs ys → challenge_at o s l n ≡ challenge_at o t l n
     challenge_same l n h b agree = challenge_is xs l n h b ∙ agree (drawn_at c l + firsts c + n) (omega arith) ∙ sym (challenge_is ys l n h b)
 
-    firsts_same : (l n : ℕ) → l < depth c → n ≤ round_count c l → AgreeBelow o (drawn_at c l + firsts c + n) xs ys → first_challenges o s l n ≡ first_challenges o t l n
+    pub firsts_same : (l n : ℕ) → l < depth c → n ≤ round_count c l → AgreeBelow o (drawn_at c l + firsts c + n) xs ys → first_challenges o s l n ≡ first_challenges o t l n
     firsts_same l n h b agree =
         map-same (challenge_at o s l) (challenge_at o t l) 0 n (λ i k. challenge_same l i h (omega (arith, k, b)) (λ j q. agree j (omega (arith, q, k))))
+
+    pub layered_same : (values : List (List A)) (l : ℕ) → l < depth c → AgreeBelow o (drawn_at c l + firsts c) xs ys → 1 ≤ firsts c → layered_at o c s values l ≡ layered_at o c t values l
+    unfolding coefficients
+    layered_same values l h agree some =
+        let make : A → A → List A → List A → Layered A =
+        λ beta alpha p q. record {
+          coefficient = layer_coefficient o (terms_at c l) beta;
+          weights = map (λ g. o.plus (eq o g p) (o.times alpha (eq o g q))) (range_with_len 0 (width_at c l));
+          values = list_at values (l + 1);
+          bits = bits_under c l;
+        } in
+        let below : AgreeBelow o (drawn_at c l) xs ys = λ k i. agree k (omega (arith, i)) in
+        let low : l ≤ depth c = omega (arith, h) in
+        ap (λ beta. make beta (layer_at o s l).alpha (point_a o s l) (point_b o s l)) (beta_same l h agree)
+        ∙ ap (λ alpha. make (layer_at o t l).beta alpha (point_a o s l) (point_b o s l)) (alpha_same l h (λ k i. agree k (omega (arith, i, some))))
+        ∙ ap (λ p. make (layer_at o t l).beta (layer_at o t l).alpha p (point_b o s l)) (point_a_same l low below)
+        ∙ ap (make (layer_at o t l).beta (layer_at o t l).alpha (point_a o t l)) (point_b_same l low below)
 
   module _ (w m n : List A) where
     claim_a_same : (l : ℕ) → l ≤ depth c → AgreeBelow o (sent_at c l) m n → claim_a o c m w l ≡ claim_a o c n w l
@@ -193,23 +210,6 @@ module _ {A : Type 0} (o : Ops A) (c : Wiring A) where
         (subst (λ p. F alpha' p q a b) (point_a_same xs ys l low below)
         (subst (λ alpha. F alpha p q a b) (alpha_same xs ys l h agree) bad))))
 
-    layered_same : l < depth c → AgreeBelow o (drawn_at c l + firsts c) xs ys → 1 ≤ firsts c → layered_at o c S (values_in o c public w) l ≡ layered_at o c T (values_in o c public w) l
-    unfolding coefficients
-    layered_same h agree some =
-        let make : A → A → List A → List A → Layered A =
-        λ beta alpha p q. record {
-          coefficient = layer_coefficient o (terms_at c l) beta;
-          weights = map (λ g. o.plus (eq o g p) (o.times alpha (eq o g q))) (range_with_len 0 (width_at c l));
-          values = list_at (values_in o c public w) (l + 1);
-          bits = bits_under c l;
-        } in
-        let below : AgreeBelow o (drawn_at c l) xs ys = λ k i. agree k (omega (arith, i)) in
-        let low : l ≤ depth c = omega (arith, h) in
-        ap (λ beta. make beta (layer_at o S l).alpha (point_a o S l) (point_b o S l)) (beta_same xs ys l h agree)
-        ∙ ap (λ alpha. make (layer_at o T l).beta alpha (point_a o S l) (point_b o S l)) (alpha_same xs ys l h (λ k i. agree k (omega (arith, i, some))))
-        ∙ ap (λ p. make (layer_at o T l).beta (layer_at o T l).alpha p (point_b o S l)) (point_a_same xs ys l low below)
-        ∙ ap (make (layer_at o T l).beta (layer_at o T l).alpha (point_a o T l)) (point_b_same xs ys l low below)
-
     claim_after_same : (k : ℕ) → l < depth c → k ≤ round_count c l → 1 ≤ firsts c → AgreeBelow o (drawn_at c l + firsts c + k) xs ys → AgreeBelow o (sent_at c l + 2 * k) m n
         → claim_after o point c S m w l k ≡ claim_after o point c T n w l k
     unfolding claim_after
@@ -245,7 +245,7 @@ module _ {A : Type 0} (o : Ops A) (c : Wiring A) where
         (subst (λ y. F L' r' K' y (entry o m (i + 1))) (sent i (omega arith))
         (subst (λ K. F L' r' K (entry o m i) (entry o m (i + 1))) (claim_after_same k h (omega (arith, b)) some agree (λ u v. sent u (omega (arith, v))))
         (subst (λ r. F L' r K (entry o m i) (entry o m (i + 1))) (firsts_same xs ys l k h (omega (arith, b)) agree)
-        (subst (λ L. F L r K (entry o m i) (entry o m (i + 1))) (layered_same h (λ u v. agree u (omega (arith, v))) some) bad))))
+        (subst (λ L. F L r K (entry o m i) (entry o m (i + 1))) (layered_same xs ys (values_in o c public w) l h (λ u v. agree u (omega (arith, v))) some) bad))))
 
     -- a coordinate of the outputs' point, for any table
     pub coordinate_alike : (values : List A) (j : ℕ) (x : A) → j ≤ output_bits c → AgreeBelow o j xs ys → IsBadBinding o values (take j S.out_point) x → IsBadBinding o values (take j T.out_point) x
