@@ -17,3 +17,4 @@ pub mod RoundsLaws
 pub mod LigeroLaws
 pub mod ForgedLaws
 pub mod ForgerLaws
+pub mod StrongLaws

@@ -17,3 +17,4 @@ pub mod Rounds
 pub mod Ligero
 pub mod Forged
 pub mod Forger
+pub mod Strong

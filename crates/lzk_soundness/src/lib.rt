@@ -9,7 +9,8 @@
 //! - `near`, `tables`: rows that are not;
 //! - `extract`, `count`: the inputs that a table encodes, and the one count; `drawn`, `verdict`: the tape's draws, and
 //!   acceptance, in its words; `worked`: that it is of something;
-//! - `oracle`, `trees`, `rounds`, `ligero`, `forger`, `forged`: one who tries often, against a random oracle.
+//! - `oracle`, `trees`, `rounds`, `ligero`, `forger`, `forged`: one who tries often, against a random oracle;
+//! - `strong`: the numbers of a profile with more columns over a larger field.
 //!
 //! The protocol is Ligero (CCS 2017) under sumchecks over layers (Goldwasser, Kalai and Rothblum 2008), as
 //! docs/PROTOCOL.md has it. What a reader takes is `count_laws::<F>()`, of any field `F`: its clause `know` says that
@@ -29,6 +30,7 @@ mod near;
 mod oracle;
 mod rounds;
 mod rows;
+mod strong;
 mod sumchecks;
 mod tables;
 mod trees;
@@ -49,6 +51,7 @@ pub use near::{line_laws, mix_laws};
 pub use oracle::query_laws;
 pub use rounds::round_laws;
 pub use rows::{bad_weights_laws, rows_laws};
+pub use strong::strong_number_laws;
 pub use sumchecks::{bad_draws_laws, sound_laws};
 pub use tables::table_laws;
 pub use trees::tree_laws;
