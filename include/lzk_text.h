@@ -103,9 +103,11 @@ static const lzk_meaning lzk_check_texts[] = {
   {"Quadratic", "the bytes were changed, or the prover cheats"},
 };
 
-/* The names and texts of this rule of an answer; of an answer that has no rules, or another number, its own. */
+static const lzk_meaning lzk_no_meaning = {"Unknown", "there is no text for this number; is the library newer than this header?"};
+
+/* The name and text of this rule of an answer; of an answer that has no rules, its own. */
 static inline const lzk_meaning *lzk_meaning_of(uint32_t answer, uint32_t kind) {
-#define LZK_ROW(table, number) ((number) < sizeof(table) / sizeof(table)[0] ? &(table)[number] : &(table)[0])
+#define LZK_ROW(table, number) ((number) < sizeof(table) / sizeof(table)[0] ? &(table)[number] : &lzk_no_meaning)
   switch (answer) {
   case LZK_NO_CIRCUIT: return LZK_ROW(lzk_circuit_texts, kind);
   case LZK_NO_NUMBERS:

@@ -86,9 +86,13 @@ pub enum Error {
     NoRandom,
 }
 
-// The name and the text of a row of a table; of a number that it has not, its first.
+// The name and the text of a row of a table.
 fn row(table: &[(&'static str, &'static str)], number: u32) -> (&'static str, &'static str) {
-    *table.get(number as usize).unwrap_or(&table[0])
+    let none = (
+        "Unknown",
+        "there is no text for this number; is the library newer than this crate?",
+    );
+    *table.get(number as usize).unwrap_or(&none)
 }
 
 impl Error {
