@@ -1,7 +1,7 @@
 //! The linear answer.
 
 ghost use Rattle.lzk_profile.specs.Profile.{opened_count};
-ghost use Rattle.std.specs.Prelude.{◌≡◌, ℕ, ◌+◌, ◌*◌, ◌<◌, ◌≤◌, List, length};
+ghost use Rattle.std.specs.Prelude.{◌≡◌, ℕ, ◌+◌, ◌-◌, ◌*◌, ◌<◌, ◌≤◌, List, length};
 ghost use Rattle.lzk_field.specs.Sums.{entry, sum_below};
 ghost use Rattle.lzk_poly.specs.Extension.{extension};
 ghost use Rattle.lzk_poly.specs.Through.{values_of};
