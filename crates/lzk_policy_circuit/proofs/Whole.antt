@@ -1,15 +1,17 @@
 -- A policy's circuit is satisfied by some private inputs exactly where there is a record.
-use Rattle.std.proofs.Common.{◌≡◌, ℕ, ◌+◌, ◌*◌, ◌^◌, ◌<◌, ◌≤◌, List, [], ◌∷◌, ◌++◌, length, take, drop, map, zero, suc, refl, sym, ap, subst, ◌∙◌, arith, Option, Some, append_assoc, append-nil, length-append, length-drop}
+use Rattle.std.proofs.Common.{◌≡◌, ℕ, ◌+◌, ◌*◌, ◌/◌, ◌%◌, ◌^◌, ◌<◌, ◌≤◌, List, [], ◌∷◌, ◌++◌, length, take, drop, map, zero, suc, refl, sym, ap, subst, ◌∙◌, arith, Option, Some, append_assoc, append-nil, length-append, length-drop, slice_index, ext_get_or, get_or-take}
 use Rattle.std.specs.Prelude.{◌-◌, nat_lt, max, replicate, if◌then◌else◌, IsTrue, Bool, true, false, ◌&&◌, ◌==◌, not, nat_le, MatchOption, slice_get}
 use Rattle.std.specs.List.{AllByRecursion}
 use Rattle.std.proofs.lemmas.Bool.{leb-true, eqb-true}
 use Rattle.std.proofs.Math.Nat.{pow-le-pow_right, le-max_left}
-use Rattle.std.proofs.lemmas.List.{length-take-le, length-replicate}
+use Rattle.std.specs.Int.{bit_at}
+use Rattle.std.proofs.lemmas.List.{length-map, length-take-le, length-replicate, get_or-map}
+use Rattle.std.proofs.lemmas.List.FromFn.{length-map-range_with_len, get_or-map-range_with_len}
 use Rattle.lzk_field.specs.Sums.{entry}
 use Rattle.lzk_goldilocks.specs.Elements.{ops, of_number}
 use Rattle.lzk_goldilocks.specs.declared.element.Gold.{Gold}
 use Rattle.lzk_gadgets.specs.Inverses.{difference, IsAmong}
-use Rattle.lzk_sha_circuit.specs.Digest.{AreBytes, digest_words}
+use Rattle.lzk_sha_circuit.specs.Digest.{AreBytes, digest_words, message_bits}
 use Rattle.lzk_sha_circuit.specs.Outputs.{AreSatisfying}
 use Rattle.lzk_policy.specs.declared.policy.FieldKind.{FieldKind}
 use Rattle.lzk_policy.specs.declared.policy.FieldKind.TheVariants as kinds
@@ -20,6 +22,7 @@ use Rattle.lzk_policy.specs.declared.policy.Show.{Show}
 use Rattle.lzk_policy.specs.Policies.{Contents, IsPolicy, IsField, IsShowOf, has_size, suits, are_small, is_date, is_text, is_bytes}
 use Rattle.lzk_policy_circuit.specs.Meaning.{field_number, value_count, values_of, pseudonym_message, IsTrueOf, AreTrueOf, IsShown, public_count}
 use Rattle.lzk_policy_circuit.specs.Layout.{hash_rest, message_size, own_of, own_of_claim, rest_of_claim, own_count, owns_of, rests_of, stated_count, needed_count, private_count, padded}
+use Rattle.lzk_policy_circuit.specs.Held.{RecordsAreHeld}
 use Rattle.lzk_policy_circuit.specs.Met.{field_worth, number_worth, IsOrdered, IsStated, AreStated, IsHashed, AreHashed, Satisfy}
 use Rattle.lzk_policy_circuit.proofs.Lists.{drop_front, take_front, drop_twice}
 use Rattle.lzk_policy_circuit.proofs.Bytes.{AreBitsOf, number_is, number_below}
@@ -293,9 +296,9 @@ pub padded_most : (n : ℕ) → n ≤ padded n
 unfolding padded
 padded_most n = padded_at n (nat_lt n 9000)
 
-pub satisfied_forward : (c : Contents) → IsPolicy c → (public private : List Gold) → length public ≡ public_count c → length private ≡ private_count c → Satisfy c public private
-    → (m : List ℕ) × IsShown c m public
-satisfied_forward c w public private np nq h =
+-- the record stands in the private inputs
+pub satisfied_held : RecordsAreHeld
+satisfied_held c public private w np nq h =
     let n = 8 * c.size in
     let s = stated_count c in
     let own = take s private in
@@ -306,15 +309,33 @@ satisfied_forward c w public private np nq h =
     let d = spelt c.size (take 8 public) own (take hash_rest (drop s private)) w.block eight (omega (arith, long)) rest h.hashed in
     let m = d.message in
     let fields = subst (λ (k : ℕ). AllByRecursion (IsField k) c.fields) (sym d.size_is) w.fields in
-    let twice : rests_of c.shows ≤ length (drop (s + hash_rest) private) = omega (arith, length-drop (s + hash_rest) private, enough) in (
-      m,
-      record {
+    let twice : rests_of c.shows ≤ length (drop (s + hash_rest) private) = omega (arith, length-drop (s + hash_rest) private, enough) in
+    let f = λ (j : ℕ). bit_at (slice_index m (j / 8)) (7 - j % 8) in
+    let count : length (message_bits m) ≡ 8 * length m = length-map-range_with_len f 0 (8 * length m) in
+    let taken : length (take n private) ≡ n = length-take-le n private (omega (arith, enough)) in
+    record {
+      m = m;
+      shown = record {
         bytes = record { size_is = d.size_is; bytes_are = d.bytes_are };
         digest = d.digest_is;
         lines = shows_forward m d.bytes_are c.fields fields c.shows w.shows own (drop 8 public) (drop n own) (drop (s + hash_rest) private) d.bits_are
             (omega (arith, length-drop 8 public, np)) (omega (arith, length-drop n own, long)) (omega (arith, twice)) h.stated h.pseudonyms;
-      },
-    )
+      };
+      bits = ext_get_or ops.zero (take n private) (map of_number (message_bits m)) (taken ∙ omega (arith, length-map (message_bits m) of_number, count, d.size_is))
+          (λ i q.
+          let l : i < n = omega (arith, q, taken) in
+          let inside : i < 8 * length m = omega (arith, l, d.size_is) in
+          let first : 0 + i ≡ i = omega arith in
+          get_or-take n private i ops.zero l
+          ∙ sym (get_or-take s private i ops.zero (omega (arith, l)))
+          ∙ sym (ap (entry ops own) first)
+          ∙ d.bits_are.bits i inside
+          ∙ sym (get_or-map of_number (message_bits m) i 0 ops.zero (omega (arith, count, inside)) ∙ ap of_number (get_or-map-range_with_len f 0 (8 * length m) i i 0 inside (omega arith))));
+    }
+
+pub satisfied_forward : (c : Contents) → IsPolicy c → (public private : List Gold) → length public ≡ public_count c → length private ≡ private_count c → Satisfy c public private
+    → (m : List ℕ) × IsShown c m public
+satisfied_forward c w public private np nq h = let r = satisfied_held c public private w np nq h in (r.m, r.shown)
 
 pub satisfied_backward : (c : Contents) → IsPolicy c → (m : List ℕ) (public : List Gold) → IsShown c m public
     → (private : List Gold) × (length private ≡ private_count c) × Satisfy c public private

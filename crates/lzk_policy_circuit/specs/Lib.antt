@@ -1,4 +1,5 @@
 pub mod Causes
+pub mod Held
 pub mod Layout
 pub mod Meaning
 pub mod Met

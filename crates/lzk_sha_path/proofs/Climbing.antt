@@ -166,7 +166,7 @@ length-lower private n e = length-take-le 6889 private (omega (arith, e))
 pub length-upper : (private : List Gold) (n : ℕ) → length private ≡ private_count (suc (suc n)) → length (drop 6897 private) ≡ private_count (suc n)
 length-upper private n e = omega (arith, length-drop 6897 private, e)
 
-climb_forward : (n : ℕ) (leaf root private : List Gold) → 1 ≤ n → length leaf ≡ 8 → length root ≡ 8 → length private ≡ private_count n → AreClimbing n leaf root private → IsClimb n leaf root
+pub climb_forward : (n : ℕ) (leaf root private : List Gold) → 1 ≤ n → length leaf ≡ 8 → length root ≡ 8 → length private ≡ private_count n → AreClimbing n leaf root private → IsClimb n leaf root
 climb_forward zero leaf root private some ll lr lp h = absurd (omega (arith, some))
 climb_forward (suc zero) leaf root private some ll lr lp h = first_climb leaf root (level_forward leaf root private ll lr lp h)
 climb_forward (suc (suc n)) leaf root private some ll lr lp h =
