@@ -70,8 +70,8 @@ pub fn tape_laws<F: Field>()
     ensures programmed { ProgrammedAccepted F.ops F.coding }
 {}
 
-/// An honest prover is one of the strategies that soundness counts: for every valid circuit, satisfying inputs and random
-/// words it passes by all draws and all sets of columns, and its inputs are what its table encodes.
+/// An honest prover is one of the strategies that soundness counts: for every valid circuit, satisfying inputs and
+/// random words it passes by all draws and all sets of columns, and its inputs are what its table encodes.
 pub fn honest_laws<F: Field>()
     ensures { HonestPass F.ops F.coding }
 {}

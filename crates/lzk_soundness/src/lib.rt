@@ -41,7 +41,7 @@ mod worked;
 
 pub use chance::{counting_laws, root_laws, set_laws};
 pub use count::{count_laws, number_laws, width_laws};
-pub use drawn::drawn_laws;
+pub use drawn::{drawn_laws, pick_laws};
 pub use draws::forger_laws;
 pub use extract::extract_laws;
 pub use forged::forged_laws;

@@ -5,7 +5,14 @@
 //! any list that is committed to, any sent elements and any draws. The rounds are those of the sumcheck (Lund, Fortnow,
 //! Karloff and Nisan 1992) over layers (Goldwasser, Kalai and Rothblum 2008).
 
-ghost use Rattle.lzk_soundness.specs.Sumchecks.Laws.{BetasAreFew, BindingsAreFew, JoinsAreFew, RoundsAreFew, SatisfiedUnlessBad, ShownUnlessBad};
+ghost use Rattle.lzk_soundness.specs.Sumchecks.Laws.{
+  BetasAreFew,
+  BindingsAreFew,
+  JoinsAreFew,
+  RoundsAreFew,
+  SatisfiedUnlessBad,
+  ShownUnlessBad,
+};
 
 use lzk_field::Field;
 

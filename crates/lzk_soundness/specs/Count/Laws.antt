@@ -63,7 +63,8 @@ bad_count c = (params_of c).block + most c outputs + 19
 abbrev pub SaysYesRarely : {A : Type 0} → Coding A → Wiring A → (List A → List ℕ → Bool) → Type 0
 SaysYesRarely e c wins =
     count_pairs wins (draws_from (all_elements e) (whole_count c)) (column_sets c) * e.size
-    ≤ (bad_count c * choose (params_of c).mcol opened_count + e.size * choose (3 * (params_of c).block - 1) opened_count)
+    ≤ (bad_count c * choose (params_of c).mcol opened_count
+    + e.size * choose (3 * (params_of c).block - 1) opened_count)
     * e.size ^ whole_count c
 
 -- Knowledge soundness, by extraction from the table alone: whoever passes more often, of elements of which there are

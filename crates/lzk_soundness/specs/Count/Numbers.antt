@@ -23,8 +23,8 @@ ColumnsMissOnceIn {A} o width by =
     (c : Wiring A) → IsValid o c → (params_of c).wr ≤ width
     → choose (3 * (params_of c).block - 1) opened_count * by ≤ choose (params_of c).mcol opened_count
 
--- No valid circuit whose rows have at most `width` elements has more than so many bad elements, of all draws and weights
--- together. No row has more than 512.
+-- No valid circuit whose rows have at most `width` elements has more than so many bad elements, of all draws and
+-- weights together.
 abbrev pub BadAreBounded : {A : Type 0} → Ops A → ℕ → ℕ → Type 0
 BadAreBounded {A} o width most = (c : Wiring A) → IsValid o c → (params_of c).wr ≤ width → bad_count c ≤ most
 
@@ -42,8 +42,8 @@ SaysYesOnceIn e c wins by =
 abbrev pub SaysYesByOneIn : {A : Type 0} → Coding A → Wiring A → (List A → List ℕ → Bool) → ℕ → Type 0
 SaysYesByOneIn e c wins by = SaysYesOnceIn e c wins (2 ^ by)
 
--- By no more than one in `by` of all pairs passes whoever has not committed to private inputs that satisfy, for circuits
--- whose rows have at most `width` elements, over a field of so many elements at least.
+-- By no more than one in `by` of all pairs passes whoever has not committed to private inputs that satisfy, for
+-- circuits whose rows have at most `width` elements, over a field of so many elements at least.
 abbrev pub BluffsPassOnceIn : {A : Type 0} → Ops A → Coding A → ℕ → ℕ → ℕ → Type 0
 BluffsPassOnceIn {A} o e width by elements =
     (c : Wiring A) (public : List A) (strategy : Strategy A) (wins : List A → List ℕ → Bool)

@@ -25,7 +25,8 @@ module _ {A : Type 0} (o : Ops A) (e : Coding A) (messages : List A) (c : Wiring
   abbrev pub drawn_in : ℕ → TapeState → List A
   drawn_in l t =
       e.element (drawn t) ∷ (cond (c.version == 2) (e.element (drawn (after_draw t)) ∷ []) []
-      ++ map (round_challenge o e messages (sent_at c l) (after_first c.version t)) (range_with_len 0 (round_count c l)))
+      ++ map (round_challenge o e messages (sent_at c l) (after_first c.version t))
+      (range_with_len 0 (round_count c l)))
 
   -- the outputs' point, and what the first layers draw
   abbrev pub drawn_before : TapeState → ℕ → List A

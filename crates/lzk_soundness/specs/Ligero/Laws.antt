@@ -22,7 +22,8 @@ abbrev pub ColumnsAreFew : {A : Type 0} → Ops A → Coding A → Type 0
 ColumnsAreFew {A} o e =
     (c : Wiring A) (public : List A) (strategy : Strategy A) (draws : List A) (test : List ℕ → Bool) → IsValid o c
     → (IsPassedOften o e c public strategy draws → ⊥)
-    → ((columns : List ℕ) → length columns ≡ opened_count → test columns ≡ true → IsPassed o e c public strategy draws columns)
+    → ((columns : List ℕ) → length columns ≡ opened_count → test columns ≡ true
+    → IsPassed o e c public strategy draws columns)
     → count test (column_sets c) * (3 * 2 ^ 53) ≤ length (column_sets c)
 
 module _ {A : Type 0} (o : Ops A) (e : Coding A) (c : Wiring A) (public : List A) (table : ℕ → ℕ → A) where

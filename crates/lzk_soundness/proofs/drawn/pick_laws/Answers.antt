@@ -1,0 +1,11 @@
+use Rattle.lzk_soundness.proofs.DrawnLaws.Picks.{tapes_pick, picks_even, bias_small}
+use Rattle.lzk_soundness.proofs.drawn.pick_laws.Goals as goal
+
+pub returns-clause-tape : goal.returns-clause-tape
+returns-clause-tape g c = tapes_pick
+
+pub returns-clause-even : goal.returns-clause-even
+returns-clause-even g c = picks_even
+
+pub returns-clause-bias : goal.returns-clause-bias
+returns-clause-bias g c = bias_small g.F.Field.ops
