@@ -124,8 +124,8 @@ impl<'c, F: Field, X: RowExtend<F>> WorksOver<'c, F, X> {
         Ok(WorksOver { circuit, parts })
     }
 
-    /// Gives the prover's memory back, as dropping it does. A caller who ends a prover so owes no proof of how its parts
-    /// end.
+    /// Gives the prover's memory back, as dropping it does. A caller who ends a prover so owes no proof of how its
+    /// parts end.
     pub fn close(self) {
         drop(self);
     }

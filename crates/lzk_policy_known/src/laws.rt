@@ -11,7 +11,7 @@ pub fn known_laws()
     ensures few { RecordlessPassByOneIn 1024 53 }
 {}
 
-/// The same of any policy, whether it shows a record's digest or a root above it.
+/// For any policy, whether it shows a record's digest or a root above it.
 pub fn rooted_laws()
     ensures held { RecordsUnderAreHeld }
     ensures holds { PassersHoldShown }

@@ -101,7 +101,8 @@ impl<'c, F: Field> Desk<'c, F> {
         })
     }
 
-    /// Gives the desk's memory back, as dropping it does. A caller who ends a desk so owes no proof of how its parts end.
+    /// Gives the desk's memory back, as dropping it does. A caller who ends a desk so owes no proof of how its parts
+    /// end.
     pub fn close(self) {
         drop(self);
     }
