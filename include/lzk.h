@@ -1,6 +1,6 @@
 /* Longfellow ZK (profile LZK1) for C and for all that calls C: compile statements, prove them, verify proofs.
 
-   A call is handed bytes, writes what it makes into room of the caller's, and is told what came of it. It starts no thread and no process,
+   A call is handed bytes, writes what it makes into room of the caller's, and gives an answer. It starts no thread and no process,
    reads no file and prints nothing, and may be made from any number of threads at once. Between calls nothing is kept but a desk, from
    lzk_desk_open to lzk_desk_free. No bytes that it is handed are wrong: for any there is an answer, and it is one of those below. Which it
    is follows from the bytes alone, but for LZK_NO_MEMORY, which may come at any time.
@@ -244,15 +244,15 @@ void lzk_desk_free(lzk_desk *desk);
 
 /* ---- Statements and proofs */
 
-/* Compiles a source's text (docs/LANGUAGE.md) to a circuit's file of version 1 or 2, in front of room. Gives LZK_DONE, LZK_NO_VERSION,
+/* Compiles a source's text (docs/LANGUAGE.md) to a circuit's file of version 1 or 2, which is put at the start of room. Gives LZK_DONE, LZK_NO_VERSION,
    LZK_TOO_LONG, LZK_NO_SOURCE, LZK_OVER_LIMIT, LZK_NO_MEMORY or LZK_NO_ROOM: call again with room for outcome->count bytes. */
 uint32_t lzk_compile(uint32_t version, const uint8_t *source, size_t source_len, uint8_t *room, size_t room_len, lzk_outcome *outcome);
 
-/* Makes the circuit of SHA-256 for messages of so many bytes, 0 to 55 (docs/FORMATS.md, section 14), and puts its file in front of room. Gives
+/* Makes the circuit of SHA-256 for messages of so many bytes, 0 to 55 (docs/FORMATS.md, section 14), and puts its file at the start of room. Gives
    LZK_DONE, LZK_TOO_LONG, LZK_NO_MEMORY or LZK_NO_ROOM. */
 uint32_t lzk_sha_circuit(uint32_t message_len, uint8_t *room, size_t room_len, lzk_outcome *outcome);
 
-/* Puts a circuit's file of version 2 in front of room. Gives LZK_DONE, LZK_NO_CIRCUIT, LZK_NO_MEMORY or LZK_NO_ROOM. */
+/* Puts a circuit's file of version 2 at the start of room. Gives LZK_DONE, LZK_NO_CIRCUIT, LZK_NO_MEMORY or LZK_NO_ROOM. */
 uint32_t lzk_upgrade(const uint8_t *circuit, size_t circuit_len, uint8_t *room, size_t room_len, lzk_outcome *outcome);
 
 /* Writes what a circuit's file holds. Gives LZK_DONE, LZK_NO_CIRCUIT or LZK_NO_MEMORY. */
@@ -267,7 +267,7 @@ uint32_t lzk_eval(const uint8_t *circuit, size_t circuit_len, const uint8_t *pub
    and is none. */
 uint32_t lzk_random_seed(uint8_t seed[32]);
 
-/* Proves, and puts the proof's file in front of room; LZK_MOST_PROOF bytes are always enough. The seed is 32 bytes that nobody else can guess,
+/* Proves, and puts the proof's file at the start of room; LZK_MOST_PROOF bytes are always enough. The seed is 32 bytes that nobody else can guess,
    as lzk_random_seed gives them, new for each proof: who knows it knows the private numbers. A seed at NULL is refused. The bytes are those of `zk prove` with this seed: they are the one proof that the
    seed gives, and it is accepted. The caller's thread does all the work. Gives what lzk_eval gives, or LZK_NO_ROOM. Clear your own copies of
    seed and private numbers. */

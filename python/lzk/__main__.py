@@ -166,7 +166,7 @@ def show(names: List[str], keys: Dict[str, str]) -> Tuple[List[str], int]:
 
 
 def read_inputs(names: List[str]) -> Tuple[bytes, bytes, bytes]:
-    """A circuit and two texts of numbers; private ones that are refused are told by the call that takes them."""
+    """A circuit and two texts of numbers; what is wrong with private ones is said by the call that takes them."""
     files = Files()
     circuit = files.circuit(names[0])
     return circuit, files.publics(names[1], circuit), files.read(names[2], MOST_TEXT)

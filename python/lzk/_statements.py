@@ -39,7 +39,7 @@ def _turned(word: int, by: int) -> int:
 
 
 def _root_digits(power: int, count: int) -> List[int]:
-    """The first 32 bits behind the point of the roots of the first primes (FIPS 180-4, 4.2.2 and 5.3.3)."""
+    """The first 32 bits after the point of the roots of the first primes (FIPS 180-4, 4.2.2 and 5.3.3)."""
     primes = [n for n in range(2, 400) if all(n % d for d in range(2, n))][:count]
     found = []
     for prime in primes:
