@@ -131,9 +131,9 @@ enum lzk_limit_kind {
 #define LZK_MOST_PROOF 2097152
 #define LZK_MOST_CIRCUIT 67108864
 
-/* What came of lzk_compile, lzk_sha_circuit, lzk_upgrade, lzk_eval or lzk_prove. A field that the answer does not speak of is 0. Where several
-   causes stand together, the first of these is given: LZK_NULL, LZK_NO_VERSION, LZK_NO_CIRCUIT, LZK_TOO_LONG, LZK_NO_NUMBERS, LZK_NO_PRIVATES, LZK_NO_SOURCE, LZK_OVER_LIMIT,
-   LZK_UNSATISFIED, LZK_NO_ROOM. */
+/* What came of lzk_compile, lzk_sha_circuit, lzk_upgrade, lzk_eval or lzk_prove. A field that the answer does not speak
+   of is 0. Where several causes stand together, the first of these is given: LZK_NULL, LZK_NO_VERSION, LZK_NO_CIRCUIT,
+   LZK_TOO_LONG, LZK_NO_NUMBERS, LZK_NO_PRIVATES, LZK_NO_SOURCE, LZK_OVER_LIMIT, LZK_UNSATISFIED, LZK_NO_ROOM. */
 typedef struct lzk_outcome {
   uint32_t answer;   /* enum lzk_answer */
   uint32_t kind;     /* of LZK_NO_CIRCUIT, LZK_NO_NUMBERS, LZK_NO_PRIVATES, LZK_NO_SOURCE, LZK_OVER_LIMIT */
@@ -212,7 +212,8 @@ uint32_t lzk_explain(const uint8_t *circuit, size_t circuit_len,
                      const uint8_t *proof, size_t proof_len,
                      lzk_report *report);
 
-/* The same for a proof that lies in count pieces, one after another, as they came over a network. They are read where they lie. */
+/* The same for a proof that lies in count pieces, one after another, as they came over a network. They are read where
+   they lie. */
 uint32_t lzk_explain_pieces(const uint8_t *circuit, size_t circuit_len,
                             const uint8_t *public_numbers, size_t public_numbers_len,
                             const uint8_t *session, size_t session_len,
@@ -244,33 +245,36 @@ void lzk_desk_free(lzk_desk *desk);
 
 /* ---- Statements and proofs */
 
-/* Compiles a source's text (docs/LANGUAGE.md) to a circuit's file of version 1 or 2, which is put at the start of room. Gives LZK_DONE, LZK_NO_VERSION,
-   LZK_TOO_LONG, LZK_NO_SOURCE, LZK_OVER_LIMIT, LZK_NO_MEMORY or LZK_NO_ROOM: call again with room for outcome->count bytes. */
+/* Compiles a source's text (docs/LANGUAGE.md) to a circuit's file of version 1 or 2, which is put at the start of room.
+   Gives LZK_DONE, LZK_NO_VERSION, LZK_TOO_LONG, LZK_NO_SOURCE, LZK_OVER_LIMIT, LZK_NO_MEMORY or LZK_NO_ROOM: call again
+   with room for outcome->count bytes. */
 uint32_t lzk_compile(uint32_t version, const uint8_t *source, size_t source_len, uint8_t *room, size_t room_len, lzk_outcome *outcome);
 
-/* Makes the circuit of SHA-256 for messages of so many bytes, 0 to 55 (docs/FORMATS.md, section 14), and puts its file at the start of room. Gives
-   LZK_DONE, LZK_TOO_LONG, LZK_NO_MEMORY or LZK_NO_ROOM. */
+/* Makes the circuit of SHA-256 for messages of so many bytes, 0 to 55 (docs/FORMATS.md, section 14), and puts its file
+   at the start of room. Gives LZK_DONE, LZK_TOO_LONG, LZK_NO_MEMORY or LZK_NO_ROOM. */
 uint32_t lzk_sha_circuit(uint32_t message_len, uint8_t *room, size_t room_len, lzk_outcome *outcome);
 
-/* Puts a circuit's file of version 2 at the start of room. Gives LZK_DONE, LZK_NO_CIRCUIT, LZK_NO_MEMORY or LZK_NO_ROOM. */
+/* Puts a circuit's file of version 2 at the start of room. Gives LZK_DONE, LZK_NO_CIRCUIT, LZK_NO_MEMORY or
+   LZK_NO_ROOM. */
 uint32_t lzk_upgrade(const uint8_t *circuit, size_t circuit_len, uint8_t *room, size_t room_len, lzk_outcome *outcome);
 
 /* Writes what a circuit's file holds. Gives LZK_DONE, LZK_NO_CIRCUIT or LZK_NO_MEMORY. */
 uint32_t lzk_circuit_info(const uint8_t *circuit, size_t circuit_len, lzk_info *info);
 
-/* Evaluates a circuit on two texts of numbers. Gives LZK_DONE where all checks are 0, LZK_UNSATISFIED, LZK_NO_CIRCUIT, LZK_TOO_LONG,
-   LZK_NO_NUMBERS, LZK_NO_PRIVATES or LZK_NO_MEMORY. */
+/* Evaluates a circuit on two texts of numbers. Gives LZK_DONE where all checks are 0, LZK_UNSATISFIED, LZK_NO_CIRCUIT,
+   LZK_TOO_LONG, LZK_NO_NUMBERS, LZK_NO_PRIVATES or LZK_NO_MEMORY. */
 uint32_t lzk_eval(const uint8_t *circuit, size_t circuit_len, const uint8_t *public_numbers, size_t public_numbers_len,
                   const uint8_t *private_numbers, size_t private_numbers_len, lzk_outcome *outcome);
 
-/* Fills a seed with 32 bytes of the system's random numbers, by getrandom. Gives LZK_DONE, LZK_NULL, or LZK_NO_RANDOM: the seed is all zero then,
-   and is none. */
+/* Fills a seed with 32 bytes of the system's random numbers, by getrandom. Gives LZK_DONE, LZK_NULL, or LZK_NO_RANDOM:
+   the seed is all zero then, and is none. */
 uint32_t lzk_random_seed(uint8_t seed[32]);
 
-/* Proves, and puts the proof's file at the start of room; LZK_MOST_PROOF bytes are always enough. The seed is 32 bytes that nobody else can guess,
-   as lzk_random_seed gives them, new for each proof: who knows it knows the private numbers. A seed at NULL is refused. The bytes are those of `zk prove` with this seed: they are the one proof that the
-   seed gives, and it is accepted. The caller's thread does all the work. Gives what lzk_eval gives, or LZK_NO_ROOM. Clear your own copies of
-   seed and private numbers. */
+/* Proves, and puts the proof's file at the start of room; LZK_MOST_PROOF bytes are always enough. The seed is 32 bytes
+   that nobody else can guess, as lzk_random_seed gives them, new for each proof: who knows it knows the private
+   numbers. A seed at NULL is refused. The bytes are those of `zk prove` with this seed: they are the one proof that the
+   seed gives, and it is accepted. The caller's thread does all the work. Gives what lzk_eval gives, or LZK_NO_ROOM.
+   Clear your own copies of seed and private numbers. */
 uint32_t lzk_prove(const uint8_t *circuit, size_t circuit_len, const uint8_t *public_numbers, size_t public_numbers_len,
                    const uint8_t *private_numbers, size_t private_numbers_len, const uint8_t *session, size_t session_len,
                    const uint8_t seed[32], uint8_t *room, size_t room_len, lzk_outcome *outcome);
