@@ -7,8 +7,10 @@
 #include <string.h>
 #include <sys/random.h>
 
-/* How many bytes of the stack are set to zero after a call with secrets. */
-enum { CLEARED = 128 << 10 };
+/* How many bytes of the stack are set to zero after a call with secrets: evaluating calls itself for each layer. Measured over 512 layers, the most
+   that a circuit may have, it goes 41 KiB down over Goldilocks and 82 over GF(2^128), and 2 over one layer; proving 52 and 100, and 41 and 59
+   over one layer. The rest is for other compilers. examples/embed/test/made.c looks at all of it. */
+enum { OF_A_LAYER = 208, TO_EVAL = 16 << 10, TO_PROVE = 72 << 10, TO_PROVE_DEEP = 40 << 10, MOST_LAYERS = 512 };
 
 /* Some bytes of a caller: a pointer and their number. */
 #define IN(name) const uint8_t *name, size_t name##_len
@@ -133,30 +135,38 @@ uint32_t lzk_circuit_info(IN(circuit), lzk_info *info) {
   return lzk_proved_circuit_info(GIVEN(circuit), info);
 }
 
-/* Sets to zero what a call with secrets left of the stack: they lie where its frames were. Evaluating calls itself for each layer. Measured over the
-   deepest circuits that the limits allow, it goes 41 KiB down over Goldilocks and 82 over GF(2^128), and proving 52 and 100. The rest is for other
-   compilers. examples/embed/test/made.c looks at all of it. */
-static __attribute__((noinline)) void clear_stack(void) {
+/* How many layers a circuit's file says that it has (docs/FORMATS.md): what has none of them is refused before any secret is read. */
+static size_t layers_of(IN(circuit)) {
+  size_t layers;
+  if (circuit_len < 17) return 0;
+  layers = circuit[13] | (size_t)circuit[14] << 8 | (size_t)circuit[15] << 16 | (size_t)circuit[16] << 24;
+  return layers < MOST_LAYERS ? layers : MOST_LAYERS;
+}
+
+/* Sets to zero what a call with secrets left of the stack: it lies where its frames were. */
+static __attribute__((noinline)) void clear_stack(size_t size) {
   /* By no call, whose own frame would lie below. */
-  volatile uint64_t below[CLEARED / 8];
-  for (size_t at = 0; at < CLEARED / 8; at++) below[at] = 0;
+  volatile uint64_t below[size / 8];
+  for (size_t at = 0; at < size / 8; at++) below[at] = 0;
   (void)below[0];
 }
 
 uint32_t lzk_eval(IN(circuit), IN(numbers), IN(privates), lzk_outcome *outcome) {
   if (IS_NULL(circuit) || IS_NULL(numbers) || IS_NULL(privates) || !outcome) return null_outcome(outcome);
   lzk_proved_eval(GIVEN(circuit), GIVEN(numbers), GIVEN(privates), outcome);
-  clear_stack();
+  clear_stack(TO_EVAL + OF_A_LAYER * layers_of(circuit, circuit_len));
   return outcome->answer;
 }
 
 uint32_t lzk_prove(IN(circuit), IN(numbers), IN(privates), IN(session), const uint8_t seed[32], uint8_t *room, size_t room_len, lzk_outcome *outcome) {
   uint8_t none[1];
+  size_t deep;
   if (IS_NULL(circuit) || IS_NULL(numbers) || IS_NULL(privates) || IS_NULL(session) || !seed || IS_NULL(room) || !outcome) return null_outcome(outcome);
   /* Pointers alone: no secret is copied here. */
   const given all = {{GIVEN(circuit)}, {GIVEN(numbers)}, {GIVEN(privates)}, {GIVEN(session)}, seed};
   lzk_proved_prove(&all, room ? room : none, room_len, outcome);
-  clear_stack();
+  deep = TO_PROVE_DEEP + OF_A_LAYER * layers_of(circuit, circuit_len);
+  clear_stack(deep > TO_PROVE ? deep : TO_PROVE);
   return outcome->answer;
 }
 

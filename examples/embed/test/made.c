@@ -164,26 +164,44 @@ static size_t deep_circuit(const char *field, int layers) {
   return lzk_compile(1, (const uint8_t *)source, len, other, sizeof other, &made) == LZK_DONE ? made.count : 0;
 }
 
-/* Whether nothing of lzk_eval and lzk_prove is left in the stack: for each field, of one layer and of as many as the limits allow. */
+/* A statement of one layer and many inputs, which is true where the last number is 0; and their text. */
+enum { WIDE = 5000 };
+static char wide_numbers[24 * WIDE];
+
+static size_t wide_circuit(const char *field) {
+  static char source[48 * WIDE];
+  static lzk_outcome made;
+  size_t len = (size_t)sprintf(source, "field %s\nprivate z\n", field), at = (size_t)sprintf(wide_numbers, "0");
+  for (int k = 0; k < WIDE; k++) {
+    len += (size_t)sprintf(source + len, "private x%d\nassert x%d*z = 0\n", k, k);
+    at += (size_t)sprintf(wide_numbers + at, " 0x1122334455667788");
+  }
+  return lzk_compile(1, (const uint8_t *)source, len, other, sizeof other, &made) == LZK_DONE ? made.count : 0;
+}
+
+/* Whether nothing of lzk_eval and lzk_prove is left in the stack: for each field, of one layer and of as many as the limits allow, and of many
+   inputs. */
 static int are_cleared(void) {
   static const char *fields[] = {"goldilocks", "gf2_128"};
-  static const int layers[] = {1, 100, 512};
+  static const int layers[] = {1, 100, 512, 0};
   static lzk_outcome found;
   int cleared = 1;
-  for (int which = 0; which < 6; which++) {
-    const size_t len = deep_circuit(fields[which / 3], layers[which % 3]);
+  for (int which = 0; which < 8; which++) {
+    const int deep = layers[which % 4];
+    const size_t len = deep ? deep_circuit(fields[which / 4], deep) : wide_circuit(fields[which / 4]);
+    const char *numbers = deep ? number : wide_numbers;
     long evaluated, proved, left;
     cleared &= len > 0;
     paint();
-    cleared &= lzk_eval(other, len, T(""), T(number), &found) == LZK_DONE;
+    cleared &= lzk_eval(other, len, T(""), T(numbers), &found) == LZK_DONE;
     left = left_below(&evaluated);
     cleared &= !left && !stands_below(number_bytes, 8);
     paint();
-    cleared &= lzk_prove(other, len, T(""), T(number), T(""), seed, proof, sizeof proof, &found) == LZK_DONE;
+    cleared &= lzk_prove(other, len, T(""), T(numbers), T(""), seed, proof, sizeof proof, &found) == LZK_DONE;
     left += left_below(&proved);
     cleared &= !left && !stands_below(number_bytes, 8) && !stands_below(seed, 32);
-    printf("stack of %s, %d layers: %ld and %ld KiB down, %ld bytes left\n", fields[which / 3], layers[which % 3], (evaluated + 1023) >> 10,
-           (proved + 1023) >> 10, left);
+    printf("stack of %s, %d layers%s: %ld and %ld KiB down, %ld bytes left\n", fields[which / 4], deep ? deep : 1, deep ? "" : ", wide",
+           (evaluated + 1023) >> 10, (proved + 1023) >> 10, left);
   }
   return cleared;
 }
