@@ -1,18 +1,20 @@
 /* Longfellow ZK (profile LZK1) for C and for all that calls C: compile statements, prove them, verify proofs.
 
-   A call is handed bytes, writes what it makes into room of the caller's, and gives an answer. It starts no thread and no process,
-   reads no file and prints nothing, and may be made from any number of threads at once. Between calls nothing is kept but a desk, from
-   lzk_desk_open to lzk_desk_free. No bytes that it is handed are wrong: for any there is an answer, and it is one of those below. Which it
-   is follows from the bytes alone, but for LZK_NO_MEMORY, which may come at any time.
+   A call is handed bytes, writes what it makes into room of the caller's, and gives an answer. It starts no thread
+   and no process, reads no file and prints nothing, and may be made from any number of threads at once. Between
+   calls nothing is kept but a desk, from lzk_desk_open to lzk_desk_free. No bytes that it is handed are wrong: for
+   any there is an answer, and it is one of those below. Which it is follows from the bytes alone, but for
+   LZK_NO_MEMORY, which may come at any time.
 
-   A pointer may be NULL where the number beside it is 0, as an empty std::vector gives it; elsewhere NULL is refused, by LZK_NULL. The
-   caller owes three things: each other pointer leads to as many bytes as are said beside it; nothing writes to these bytes during the
-   call; and what is written lies apart from them, and is the call's alone until it returns. Memory is taken by malloc, and given back by
-   free, and set to zero before that; lzk_eval and lzk_prove set to zero what they left of the stack, too. lzk_prove takes 75 KiB of it, and up to 150
-   over more than 150 layers; lzk_eval 20 KiB, and 208 bytes a layer; the other calls less than 20 KiB.
+   A pointer may be NULL where the number beside it is 0, as an empty std::vector gives it; elsewhere NULL is
+   refused, by LZK_NULL. The caller owes three things: each other pointer leads to as many bytes as are said beside
+   it; nothing writes to these bytes during the call; and what is written lies apart from them, and is the call's
+   alone until it returns. Memory is taken by malloc, and given back by free, and set to zero before that; lzk_eval
+   and lzk_prove set to zero what they left of the stack, too. lzk_prove takes 75 KiB of it, and up to 150 over more
+   than 150 layers; lzk_eval 20 KiB, and 208 bytes a layer; the other calls less than 20 KiB.
 
-   Link with liblzk.a or liblzk.so, which `./build library` makes. lzk_text.h has a text for each answer. docs/EMBEDDING.md has examples, costs,
-   and what is not offered. */
+   Link with liblzk.a or liblzk.so, which `./build library` makes. lzk_text.h has a text for each answer.
+   docs/EMBEDDING.md has examples, costs, and what is not offered. */
 
 #ifndef LZK_H
 #define LZK_H
@@ -53,7 +55,8 @@ enum lzk_answer {
   LZK_NO_ROOM = 7,
   /* The numbers do not satisfy the circuit: check is the first that is not 0, and value is its value. */
   LZK_UNSATISFIED = 8,
-  /* The text has not exactly the circuit's private numbers, each below the field's size: kind (LZK_NUMBER_..), line. */
+  /* The text has not exactly the circuit's private numbers, each below the field's size: kind (LZK_NUMBER_..),
+     line. */
   LZK_NO_PRIVATES = 9,
   /* The source's circuit would pass a limit: kind (LZK_LIMIT_..), count. */
   LZK_OVER_LIMIT = 10,
@@ -132,9 +135,10 @@ enum lzk_limit_kind {
 #define LZK_MOST_PROOF 2097152
 #define LZK_MOST_CIRCUIT 67108864
 
-/* What came of lzk_compile, lzk_sha_circuit, lzk_upgrade, lzk_eval or lzk_prove. A field that the answer does not speak
-   of is 0. Where several causes stand together, the first of these is given: LZK_NULL, LZK_NO_VERSION, LZK_NO_CIRCUIT,
-   LZK_TOO_LONG, LZK_NO_NUMBERS, LZK_NO_PRIVATES, LZK_NO_SOURCE, LZK_OVER_LIMIT, LZK_UNSATISFIED, LZK_NO_ROOM. */
+/* What came of lzk_compile, lzk_sha_circuit, lzk_upgrade, lzk_eval or lzk_prove. A field that the answer does not
+   speak of is 0. Where several causes stand together, the first of these is given: LZK_NULL, LZK_NO_VERSION,
+   LZK_NO_CIRCUIT, LZK_TOO_LONG, LZK_NO_NUMBERS, LZK_NO_PRIVATES, LZK_NO_SOURCE, LZK_OVER_LIMIT, LZK_UNSATISFIED,
+   LZK_NO_ROOM. */
 typedef struct lzk_outcome {
   uint32_t answer;   /* enum lzk_answer */
   uint32_t kind;     /* of LZK_NO_CIRCUIT, LZK_NO_NUMBERS, LZK_NO_PRIVATES, LZK_NO_SOURCE, LZK_OVER_LIMIT */
@@ -221,14 +225,15 @@ uint32_t lzk_explain_pieces(const uint8_t *circuit, size_t circuit_len,
                             const lzk_bytes *pieces, size_t count,
                             lzk_report *report);
 
-/* Verifies count proofs over one circuit, whose file is read once, one after another, and writes the report of each. */
+/* Verifies count proofs over one circuit, whose file is read once, one after another, and writes the report of
+   each. */
 void lzk_explain_each(const uint8_t *circuit, size_t circuit_len, lzk_job *jobs, size_t count);
 
 /* ---- A proof that is fed while it arrives.
 
-   A desk keeps a copy of the circuit, of the numbers, of the session and of at most 2,162,688 bytes of the proof, whatever is fed: no more can
-   matter. lzk_desk_end writes the report of lzk_explain on all bytes that were fed, and the desk is ready for the next proof. One
-   thread at a time may use a desk. */
+   A desk keeps a copy of the circuit, of the numbers, of the session and of at most 2,162,688 bytes of the proof,
+   whatever is fed: no more can matter. lzk_desk_end writes the report of lzk_explain on all bytes that were fed,
+   and the desk is ready for the next proof. One thread at a time may use a desk. */
 typedef struct lzk_desk lzk_desk;
 
 /* Makes a desk, and sets *desk to it; or to NULL, and gives LZK_TOO_LONG, LZK_NO_MEMORY or LZK_NULL. */
@@ -246,9 +251,9 @@ void lzk_desk_free(lzk_desk *desk);
 
 /* ---- Statements and proofs */
 
-/* Compiles a source's text (docs/LANGUAGE.md) to a circuit's file of version 1 or 2, which is put at the start of room.
-   Gives LZK_DONE, LZK_NO_VERSION, LZK_TOO_LONG, LZK_NO_SOURCE, LZK_OVER_LIMIT, LZK_NO_MEMORY or LZK_NO_ROOM: call again
-   with room for outcome->count bytes. */
+/* Compiles a source's text (docs/LANGUAGE.md) to a circuit's file of version 1 or 2, which is put at the start of
+   room. Gives LZK_DONE, LZK_NO_VERSION, LZK_TOO_LONG, LZK_NO_SOURCE, LZK_OVER_LIMIT, LZK_NO_MEMORY or LZK_NO_ROOM:
+   call again with room for outcome->count bytes. */
 uint32_t lzk_compile(uint32_t version, const uint8_t *source, size_t source_len, uint8_t *room, size_t room_len, lzk_outcome *outcome);
 
 /* Makes the circuit of SHA-256 for messages of so many bytes, 0 to 55 (docs/FORMATS.md, section 14), and puts its file
@@ -271,11 +276,11 @@ uint32_t lzk_eval(const uint8_t *circuit, size_t circuit_len, const uint8_t *pub
    the seed is all zero then, and is none. */
 uint32_t lzk_random_seed(uint8_t seed[32]);
 
-/* Proves, and puts the proof's file at the start of room; LZK_MOST_PROOF bytes are always enough. The seed is 32 bytes
-   that nobody else can guess, as lzk_random_seed gives them, new for each proof: who knows it knows the private
-   numbers. A seed at NULL is refused. The bytes are those of `zk prove` with this seed: they are the one proof that the
-   seed gives, and it is accepted. The caller's thread does all the work. Gives what lzk_eval gives, or LZK_NO_ROOM.
-   Clear your own copies of seed and private numbers. */
+/* Proves, and puts the proof's file at the start of room; LZK_MOST_PROOF bytes are always enough. The seed is 32
+   bytes that nobody else can guess, as lzk_random_seed gives them, new for each proof: who knows it knows the
+   private numbers. A seed at NULL is refused. The bytes are those of `zk prove` with this seed: they are the one
+   proof that the seed gives, and it is accepted. The caller's thread does all the work. Gives what lzk_eval gives,
+   or LZK_NO_ROOM. Clear your own copies of seed and private numbers. */
 uint32_t lzk_prove(const uint8_t *circuit, size_t circuit_len, const uint8_t *public_numbers, size_t public_numbers_len,
                    const uint8_t *private_numbers, size_t private_numbers_len, const uint8_t *session, size_t session_len,
                    const uint8_t seed[32], uint8_t *room, size_t room_len, lzk_outcome *outcome);

@@ -1,15 +1,16 @@
-/* The library's calls as include/lzk.h declares them: each refuses NULL, and makes the call of crates/lzk_c, crates/lzk_c_calls or crates/lzk_c_prove,
-   whose name ./build-library changes from lzk_NAME to lzk_proved_NAME. And the desk, which keeps what it is fed and makes one call at its
-   end. Nobody proves this file: it is tested. */
+/* The library's calls as include/lzk.h declares them: each refuses NULL, and makes the call of crates/lzk_c,
+   crates/lzk_c_calls or crates/lzk_c_prove, whose name ./build-library changes from lzk_NAME to lzk_proved_NAME.
+   And the desk, which keeps what it is fed and makes one call at its end. Nobody proves this file: it is tested. */
 #define _DEFAULT_SOURCE
 #include "lzk.h"
 #include <stdlib.h>
 #include <string.h>
 #include <sys/random.h>
 
-/* How many bytes of the stack are set to zero after a call with secrets: evaluating calls itself for each layer. Measured over 512 layers, the most
-   that a circuit may have, it goes 41 KiB down over Goldilocks and 82 over GF(2^128), and 2 over one layer; proving 52 and 100, and 41 and 59
-   over one layer. The rest is for other compilers. examples/embed/test/made.c looks at all of it. */
+/* How many bytes of the stack are set to zero after a call with secrets: evaluating calls itself for each layer.
+   Measured over 512 layers, the most that a circuit may have, it goes 41 KiB down over Goldilocks and 82 over
+   GF(2^128), and 2 over one layer; proving 52 and 100, and 41 and 59 over one layer. The rest is for other
+   compilers. examples/embed/test/made.c looks at all of it. */
 enum { OF_A_LAYER = 208, TO_EVAL = 16 << 10, TO_PROVE = 72 << 10, TO_PROVE_DEEP = 40 << 10, MOST_LAYERS = 512 };
 
 /* Some bytes of a caller: a pointer and their number. */
@@ -135,7 +136,8 @@ uint32_t lzk_circuit_info(IN(circuit), lzk_info *info) {
   return lzk_proved_circuit_info(GIVEN(circuit), info);
 }
 
-/* How many layers a circuit's file says that it has (docs/FORMATS.md): what has none of them is refused before any secret is read. */
+/* How many layers a circuit's file says that it has (docs/FORMATS.md): what has none of them is refused before any
+   secret is read. */
 static size_t layers_of(IN(circuit)) {
   size_t layers;
   if (circuit_len < 17) return 0;
@@ -179,9 +181,9 @@ uint32_t lzk_random_seed(uint8_t seed[32]) {
   return LZK_NO_RANDOM;
 }
 
-/* ---- The desk. What is fed after so many bytes changes no report. A file that breaks no rule of the format is as long as the proof that a
-   prover makes for the circuit, but for its path, which has 1,536 digests at most: 49,152 bytes. What is longer has a byte after its end, or
-   breaks a rule before. */
+/* ---- The desk. What is fed after so many bytes changes no report. A file that breaks no rule of the format is as
+   long as the proof that a prover makes for the circuit, but for its path, which has 1,536 digests at most: 49,152
+   bytes. What is longer has a byte after its end, or breaks a rule before. */
 enum { MOST_FED = LZK_MOST_PROOF + 65536 };
 
 struct lzk_desk {

@@ -1,6 +1,7 @@
-/* The memory of the library: the three functions that the kit's liblibc_c.a has, over malloc and free. Each block is set to zero before it is
-   given back, so that no private number of lzk_eval is left in memory that the program uses again. In front of a block its size is kept, in 16
-   bytes, so that a block has malloc's alignment. rattle_realloc never leaves a copy behind: it takes a new block. */
+/* The memory of the library: the three functions that the kit's liblibc_c.a has, over malloc and free. Each block
+   is set to zero before it is given back, so that no private number of lzk_eval is left in memory that the program
+   uses again. In front of a block its size is kept, in 16 bytes, so that a block has malloc's alignment.
+   rattle_realloc never leaves a copy behind: it takes a new block. */
 #define _DEFAULT_SOURCE
 #include <stdint.h>
 #include <stdlib.h>

@@ -1,7 +1,7 @@
-/* Verifies proofs while they arrive:  service PORT PUBLIC COUNT
-   For each of COUNT connections it sends a fresh nonce of 32 bytes, which is the session, feeds a desk what comes, and answers "accepted", or with
-   the number of the check that fails. Port 0 is any that is free; the port is printed first. The circuit is compiled here: a service takes it
-   from its own store, never from who proves. */
+/* Verifies proofs while they arrive:  service PORT PUBLIC COUNT For each of COUNT connections it sends a fresh
+   nonce of 32 bytes, which is the session, feeds a desk what comes, and answers "accepted", or with the number of
+   the check that fails. Port 0 is any that is free; the port is printed first. The circuit is compiled here: a
+   service takes it from its own store, never from who proves. */
 #define _DEFAULT_SOURCE
 #include "lzk_text.h"
 #include <arpa/inet.h>
@@ -31,7 +31,8 @@ static int listening(int port) {
   return server;
 }
 
-/* Feeds a desk what comes, at most one byte more than a proof can have, and writes the report. Whether all went well. */
+/* Feeds a desk what comes, at most one byte more than a proof can have, and writes the report. Whether all went
+   well. */
 static int judge(lzk_desk *desk, int wallet, lzk_report *report) {
   static uint8_t piece[65536];
   size_t left = LZK_MOST_PROOF + 1;

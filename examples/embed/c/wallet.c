@@ -1,6 +1,7 @@
-/* Proves that it knows a number whose square is public, and sends the proof to a service:  wallet PORT PUBLIC < PRIVATE
-   The service sends a nonce of 32 bytes, which is the session. The private number comes on standard input, so that it stands in no list of
-   processes. Prints what the service answers, and ends with 1 unless that is "accepted". */
+/* Proves that it knows a number whose square is public, and sends the proof to a service:  wallet PORT PUBLIC <
+   PRIVATE The service sends a nonce of 32 bytes, which is the session. The private number comes on standard input,
+   so that it stands in no list of processes. Prints what the service answers, and ends with 1 unless that is
+   "accepted". */
 #define _DEFAULT_SOURCE
 #include "lzk_text.h"
 #include <arpa/inet.h>

@@ -1,7 +1,7 @@
-/* Tests of the library:  calls CIRCUIT PUBLIC PROOF TIMES
-   All calls agree with each other on a proof, on it damaged at many places, cut, with another session and other numbers, and with texts
-   and circuits that are none; 4 threads make TIMES calls each and agree; each request for memory is refused in turn. Prints a line for
-   each, and ends with 1 where one is wrong. Linked with --wrap for malloc and realloc. */
+/* Tests of the library:  calls CIRCUIT PUBLIC PROOF TIMES All calls agree with each other on a proof, on it damaged
+   at many places, cut, with another session and other numbers, and with texts and circuits that are none; 4 threads
+   make TIMES calls each and agree; each request for memory is refused in turn. Prints a line for each, and ends
+   with 1 where one is wrong. Linked with --wrap for malloc and realloc. */
 #include "lzk.h"
 #include <pthread.h>
 #include <stdio.h>
@@ -115,7 +115,8 @@ static void report_by(int call, lzk_report found[2]) {
   if (call == 2) lzk_explain_each(circuit.start, circuit.len, jobs, 2), found[0] = jobs[0].report, found[1] = jobs[1].report;
 }
 
-/* Refuses each request of a call in turn. A report then says want of memory and nothing else, or is as ever; and the next call is as ever. */
+/* Refuses each request of a call in turn. A report then says want of memory and nothing else, or is as ever; and
+   the next call is as ever. */
 static int refuse_each(int call, const char *name) {
   const lzk_report as_ever = {0}, no_memory = {.answer = LZK_NO_MEMORY};
   long without = 0;

@@ -1,6 +1,5 @@
-/* What a call costs:  cost CIRCUIT PUBLIC PROOF TIMES
-   Prints the processor time of one lzk_verify, best of five rounds of TIMES, and of one proof of lzk_explain_each over TIMES jobs. Ends with
-   1 where a proof is not accepted. */
+/* What a call costs:  cost CIRCUIT PUBLIC PROOF TIMES Prints the processor time of one lzk_verify, best of five
+   rounds of TIMES, and of one proof of lzk_explain_each over TIMES jobs. Ends with 1 where a proof is not accepted. */
 #include "lzk.h"
 #include <stdio.h>
 #include <stdlib.h>

@@ -1,5 +1,5 @@
-/* Tests of the calls that make something, and of the desk:  made [TIMES [WATCHED]]
-   Linked with --wrap for malloc, calloc, realloc and free. Each of 4 threads proves TIMES times (20). With WATCHED the stack is not looked at,
+/* Tests of the calls that make something, and of the desk:  made [TIMES [WATCHED]] Linked with --wrap for malloc,
+   calloc, realloc and free. Each of 4 threads proves TIMES times (20). With WATCHED the stack is not looked at,
    which valgrind forbids. Prints a line for each test, and ends with 1 where one is wrong. */
 #define _DEFAULT_SOURCE
 #include "lzk.h"
@@ -10,7 +10,8 @@
 #include <string.h>
 
 static long refused_at, requests, frees, unclean, reallocs;
-/* What is looked at of a block that is given back: nothing; of one of library/heap.c as many bytes as it says in front; the whole block. */
+/* What is looked at of a block that is given back: nothing; of one of library/heap.c as many bytes as it says in
+   front; the whole block. */
 static enum { NOTHING, BEHIND_HEAD, WHOLE } is_watched;
 
 void *__real_malloc(size_t size);
@@ -79,7 +80,8 @@ static void *prove_often(void *arg) {
   return NULL;
 }
 
-/* A call with each request for memory refused in turn, until none is. How many were refused; or -1 where an answer was wrong. */
+/* A call with each request for memory refused in turn, until none is. How many were refused; or -1 where an answer
+   was wrong. */
 static long refuse_each(size_t len, const char *which) {
   static uint8_t room[LZK_MOST_PROOF];
   lzk_outcome found;
@@ -179,8 +181,8 @@ static size_t wide_circuit(const char *field) {
   return lzk_compile(1, (const uint8_t *)source, len, other, sizeof other, &made) == LZK_DONE ? made.count : 0;
 }
 
-/* Whether nothing of lzk_eval and lzk_prove is left in the stack: for each field, of one layer and of as many as the limits allow, and of many
-   inputs. */
+/* Whether nothing of lzk_eval and lzk_prove is left in the stack: for each field, of one layer and of as many as
+   the limits allow, and of many inputs. */
 static int are_cleared(void) {
   static const char *fields[] = {"goldilocks", "gf2_128"};
   static const int layers[] = {1, 100, 512, 0};
@@ -206,7 +208,8 @@ static int are_cleared(void) {
   return cleared;
 }
 
-/* Whether all that a desk gives back is zero, while it grows too, and whether nothing is moved by realloc, which may leave a copy. */
+/* Whether all that a desk gives back is zero, while it grows too, and whether nothing is moved by realloc, which
+   may leave a copy. */
 static int is_desk_cleared(size_t len, size_t proof_len) {
   lzk_desk *desk;
   lzk_report report;

@@ -1,5 +1,5 @@
-/* Proves and verifies:  prover CIRCUIT PUBLIC PRIVATE SESSION SEED PROOF
-   SESSION and SEED are hexadecimal digits, and a dot is no session. Writes the proof where it is accepted whole and by a desk that is fed pieces, and
+/* Proves and verifies:  prover CIRCUIT PUBLIC PRIVATE SESSION SEED PROOF SESSION and SEED are hexadecimal digits,
+   and a dot is no session. Writes the proof where it is accepted whole and by a desk that is fed pieces, and
    rejected for another session. Ends with the answer's number, or with 65 where a verdict is another. */
 #include "lzk_text.h"
 #include <stdio.h>

@@ -1,5 +1,5 @@
-/* Mistakes of a program in C, and the text that each gets: what is wrong, where, and mostly what to do. Prints a line for each that gets another, and ends
-   with 1 where there is one. */
+/* Mistakes of a program in C, and the text that each gets: what is wrong, where, and mostly what to do. Prints a
+   line for each that gets another, and ends with 1 where there is one. */
 #include "lzk_text.h"
 #include <stdio.h>
 #include <string.h>

@@ -9,8 +9,8 @@
 //! # }
 //! ```
 //!
-//! The circuit is the statement: take it from your own store, and never from who sends the proof. The code of the calls is proved
-//! (docs/EMBEDDING.md); this crate only hands them slices.
+//! The circuit is the statement: take it from your own store, and never from who sends the proof. The code of the
+//! calls is proved (docs/EMBEDDING.md); this crate only hands them slices.
 #![warn(missing_docs)]
 
 use std::fmt;
@@ -30,7 +30,8 @@ pub enum Version {
     Two = 2,
 }
 
-/// Why there is no answer. Its text says what is wrong, where, and mostly what to do. Numbers of rules are those of include/lzk.h.
+/// Why there is no answer. Its text says what is wrong, where, and mostly what to do. Numbers of rules are those of
+/// include/lzk.h.
 #[derive(Clone, Copy, Debug, PartialEq, Eq)]
 #[non_exhaustive]
 pub enum Error {
@@ -477,10 +478,10 @@ pub fn evaluate(circuit: &[u8], public: &[u8], private: &[u8]) -> Result<(), Err
     done(&found).map(|_| ())
 }
 
-/// The proof that the numbers of two texts satisfy a circuit. The seed is 32 bytes that nobody else can guess, new for each proof:
-/// who knows it knows the private numbers. `None` takes one of the system; `&seed` is taken as it is, and the same seed gives the same bytes. The
-/// caller's thread does all the work. The library clears the memory that it takes, and the stack that it used; clear your own copies of seed
-/// and private numbers.
+/// The proof that the numbers of two texts satisfy a circuit. The seed is 32 bytes that nobody else can guess, new for
+/// each proof: who knows it knows the private numbers. `None` takes one of the system; `&seed` is taken as it is, and
+/// the same seed gives the same bytes. The caller's thread does all the work. The library clears the memory that it
+/// takes, and the stack that it used; clear your own copies of seed and private numbers.
 ///
 /// # Errors
 ///
