@@ -1,7 +1,7 @@
 """Makes the wheel: the package `lzk` with the library that `./build library` made. LZK_LIBRARY names another one.
 
-A backend as PEP 517 and PEP 660 ask for, in place of setuptools, so that `pip install ./python` needs no network. The wheel is
-for Linux on the processor that the library is for.
+A backend as PEP 517 and PEP 660 ask for, in place of setuptools, so that `pip install ./python` needs no network. The
+wheel is for Linux on the processor that the library is for.
 """
 
 import base64

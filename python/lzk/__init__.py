@@ -5,11 +5,12 @@
 >>> proof = lzk.prove(circuit, public=[9], private=[3], session=b"nonce")
 >>> lzk.verify(circuit, public=[9], session=b"nonce", proof=proof)
 
-`verify` gives nothing, and raises `Rejected` where a check fails. The circuit is the statement: take it from your own store, and never from
-who sends the proof.
+`verify` gives nothing, and raises `Rejected` where a check fails. The circuit is the statement: take it from your own
+store, and never from who sends the proof.
 
-The calls are those of liblzk, whose code is proved (docs/EMBEDDING.md), and leave Python's lock, so threads work side by side. Python
-keeps copies of what it was handed: private numbers and seeds stay in its memory until they are overwritten. The library keeps none.
+The calls are those of liblzk, whose code is proved (docs/EMBEDDING.md), and leave Python's lock, so threads work side
+by side. Python keeps copies of what it was handed: private numbers and seeds stay in its memory until they are
+overwritten. The library keeps none.
 
 `python3 -m lzk help` has the commands of `zk`, in this process.
 """

@@ -22,8 +22,9 @@
   sha256 CIRCUIT PROOF message=HEX [seed=HEX] [session=HEX] [workers=N]
       writes a proof of knowing a message with this digest
 
-A NAME is the path of a file. Texts and statuses are those of `zk`, but for lines that the library has no numbers for: of each layer, of each
-check, of terms. A seed among the words can be seen by other programs: leave it out. Proofs are made in one thread for every N.
+A NAME is the path of a file. Texts and statuses are those of `zk`, but for lines that the library has no numbers for:
+of each layer, of each check, of terms. A seed among the words can be seen by other programs: leave it out. Proofs are
+made in one thread for every N.
 """
 
 from __future__ import annotations

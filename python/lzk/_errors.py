@@ -1,4 +1,5 @@
-"""What may go wrong, a class for each kind. Each text says what, where, and mostly what to do: the words are those of include/lzk_text.h."""
+"""What may go wrong, a class for each kind. Each text says what, where, and mostly what to do: the words are those of
+include/lzk_text.h."""
 
 from __future__ import annotations
 
