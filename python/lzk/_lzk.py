@@ -58,7 +58,8 @@ def _text(what: str, numbers: Numbers) -> bytes:
         return _bytes(what, numbers)
     # Says what is wrong and not the number: it may be private. A dict and a set have no order of their own.
     if isinstance(numbers, (dict, set, frozenset)) or not isinstance(numbers, Iterable):
-        raise TypeError(f"{what} is {type(numbers).__name__}, and a list of integers, or the text of a number file, is expected")
+        wanted = "a list of integers, or the text of a number file, is expected"
+        raise TypeError(f"{what} is {type(numbers).__name__}, and {wanted}")
     return b"".join(b"%d\n" % _integer(f"{what}[{place}]", number) for place, number in enumerate(numbers))
 
 
@@ -83,8 +84,8 @@ class _Given:
 
     def too_long(self) -> str:
         """Which part is too long, and how long it is."""
-        for name, most in (("session", MOST_SESSION), ("source", MOST_TEXT), ("public", MOST_TEXT), ("private", MOST_TEXT)):
-            size = len(getattr(self, name))
+        for name in ("session", "source", "public", "private"):
+            size, most = len(getattr(self, name)), MOST_SESSION if name == "session" else MOST_TEXT
             if size > most:
                 return f"{name} has {size} bytes, and at most {most} are taken"
         return _errors.answer_text(2)
@@ -168,7 +169,8 @@ def compile(source: Union[str, bytes], version: int = 1) -> bytes:
     if _integer("version", version) not in (1, 2):
         raise ValueError(f"version is {version}, and a circuit's version is 1 or 2")
     text = source.encode() if isinstance(source, str) else _bytes("source", source)
-    return _made(_Given(source=text), lambda room, size, outcome: CALLS.lzk_compile(version, *passed(text), room, size, outcome))
+    parts = passed(text)
+    return _made(_Given(source=text), lambda room, size, outcome: CALLS.lzk_compile(version, *parts, room, size, outcome))
 
 
 def sha_circuit(message_length: int) -> bytes:
@@ -198,21 +200,31 @@ def evaluate(circuit: bytes, public: Numbers, private: Numbers) -> None:
 
     Raises NoCircuit, NoNumbers, TooLong, NoMemory too.
     """
-    given, outcome = _Given(_bytes("circuit", circuit), _text("public", public), _text("private", private)), _calls.Outcome()
+    given = _Given(_bytes("circuit", circuit), _text("public", public), _text("private", private))
+    outcome = _calls.Outcome()
     CALLS.lzk_eval(*passed(given.circuit, given.public, given.private), ctypes.byref(outcome))
     _refuse(outcome, given)
 
 
-def prove(circuit: bytes, public: Numbers, private: Numbers, session: bytes = b"", seed: Optional[bytes] = None) -> bytes:
+def prove(
+    circuit: bytes,
+    public: Numbers,
+    private: Numbers,
+    session: bytes = b"",
+    seed: Optional[bytes] = None,
+) -> bytes:
     """The proof that the numbers satisfy the circuit.
 
-    The seed is 32 bytes that nobody else can guess, new for each proof: who knows it knows the private numbers. Leave it out, and the
-    system's random numbers give it (os.urandom). The same seed gives the same bytes. Raises what `evaluate` raises.
+    The seed is 32 bytes that nobody else can guess, new for each proof: who knows it knows the private numbers. Leave
+    it out, and the system's random numbers give it (os.urandom). The same seed gives the same bytes. Raises what
+    `evaluate` raises.
     """
     chosen = secrets.token_bytes(SEED_BYTES) if seed is None else _bytes("seed", seed)
     if len(chosen) != SEED_BYTES:
-        raise ValueError(f"seed has {len(chosen)} bytes, and {SEED_BYTES} are expected; leave it out, and the system gives one")
-    given = _Given(_bytes("circuit", circuit), _text("public", public), _text("private", private), _bytes("session", session))
+        hint = "leave it out, and the system gives one"
+        raise ValueError(f"seed has {len(chosen)} bytes, and {SEED_BYTES} are expected; {hint}")
+    numbers = _text("public", public), _text("private", private)
+    given = _Given(_bytes("circuit", circuit), *numbers, _bytes("session", session))
     room, outcome = ctypes.create_string_buffer(_calls.MOST_PROOF), _calls.Outcome()
     parts = passed(given.circuit, given.public, given.private, given.session)
     CALLS.lzk_prove(*parts, chosen, room, _calls.MOST_PROOF, ctypes.byref(outcome))
@@ -221,25 +233,35 @@ def prove(circuit: bytes, public: Numbers, private: Numbers, session: bytes = b"
 
 
 def _asked(call: str, what: str, old: Tuple[object, ...], session: object, proof: object) -> Tuple[object, object]:
-    """Session and proof of a call that is handed them by name. Until the next version it takes a proof, and maybe a session, after the
-    public numbers too: every other call has the session first, so that order would change in silence."""
+    """Session and proof of a call that is handed them by name. Until the next version it takes a proof, and maybe a
+    session, after the public numbers too: every other call has the session first, so that order would change in
+    silence."""
     if not old:
         if proof is None:
             raise TypeError(f"{call}() needs {what}=")
         return session, proof
     if len(old) > 2 or proof is not None or (len(old) == 2 and session != b""):
         raise TypeError(f"{call}() takes circuit and public, and then session= and {what}= by name")
-    warnings.warn(f"{call}(): hand {what}= and session= by name; the next version takes no other order", DeprecationWarning, stacklevel=3)
+    text = f"{call}(): hand {what}= and session= by name; the next version takes no other order"
+    warnings.warn(text, DeprecationWarning, stacklevel=3)
     return (old[1] if len(old) == 2 else session), old[0]
 
 
+def _given(circuit: object, public: Numbers, session: object) -> _Given:
+    """What a verifier's call is handed but for the proof."""
+    return _Given(_bytes("circuit", circuit), _text("public", public), session=_bytes("session", session))
+
+
 def _explained(circuit: bytes, public: Numbers, session: object, proof: object) -> Verdict:
-    report, given = _calls.Report(), _Given(_bytes("circuit", circuit), _text("public", public), session=_bytes("session", session))
-    CALLS.lzk_explain(*passed(given.circuit, given.public, given.session, _bytes("proof", proof)), ctypes.byref(report))
+    report, given = _calls.Report(), _given(circuit, public, session)
+    parts = passed(given.circuit, given.public, given.session, _bytes("proof", proof))
+    CALLS.lzk_explain(*parts, ctypes.byref(report))
     return verdict_of(report, given)
 
 
-def explain(circuit: bytes, public: Numbers, *old: bytes, session: bytes = b"", proof: Optional[bytes] = None) -> Verdict:
+def explain(
+    circuit: bytes, public: Numbers, *old: bytes, session: bytes = b"", proof: Optional[bytes] = None
+) -> Verdict:
     """The verdict on a proof, which is true where it is accepted. Raises NoCircuit, NoNumbers, TooLong, NoMemory."""
     return _explained(circuit, public, *_asked("explain", "proof", old, session, proof))
 
@@ -251,15 +273,18 @@ def verify(circuit: bytes, public: Numbers, *old: bytes, session: bytes = b"", p
         raise _errors.Rejected(verdict)
 
 
-def explain_pieces(circuit: bytes, public: Numbers, *old: object, session: bytes = b"", pieces: Optional[Sequence[bytes]] = None) -> Verdict:
+def explain_pieces(
+    circuit: bytes, public: Numbers, *old: object, session: bytes = b"", pieces: Optional[Sequence[bytes]] = None
+) -> Verdict:
     """The same of a proof that lies in pieces, one after another."""
     called, parts = _asked("explain_pieces", "pieces", old, session, pieces)
     if isinstance(parts, (bytes, bytearray, memoryview)) or not isinstance(parts, Iterable):
         raise TypeError(f"pieces is {type(parts).__name__}, and a list of bytes is expected")
     each = [_bytes(f"pieces[{place}]", piece) for place, piece in enumerate(parts)]
-    report, given = _calls.Report(), _Given(_bytes("circuit", circuit), _text("public", public), session=_bytes("session", called))
+    report, given = _calls.Report(), _given(circuit, public, called)
     list_of = (_calls.Bytes * len(each))(*(_calls.Bytes(piece, len(piece)) for piece in each))
-    CALLS.lzk_explain_pieces(*passed(given.circuit, given.public, given.session), list_of, len(each), ctypes.byref(report))
+    parts = passed(given.circuit, given.public, given.session)
+    CALLS.lzk_explain_pieces(*parts, list_of, len(each), ctypes.byref(report))
     return verdict_of(report, given)
 
 
@@ -268,10 +293,11 @@ def _job_of(place: int, job: object) -> Tuple[bytes, bytes, bytes]:
     if not isinstance(job, Job):
         if not isinstance(job, tuple) or len(job) != 3:
             raise TypeError(f"jobs[{place}] is {type(job).__name__}, and lzk.Job(public, session, proof) is expected")
-        warnings.warn("explain_each(): make each job by lzk.Job; the next version takes no plain tuple", DeprecationWarning, stacklevel=3)
+        text = "explain_each(): make each job by lzk.Job; the next version takes no plain tuple"
+        warnings.warn(text, DeprecationWarning, stacklevel=3)
         job = Job(job[0], job[2], job[1])
-    what = f"jobs[{place}]"
-    return _text(what + ".public", job.public), _bytes(what + ".session", job.session), _bytes(what + ".proof", job.proof)
+    at = f"jobs[{place}]"
+    return _text(at + ".public", job.public), _bytes(at + ".session", job.session), _bytes(at + ".proof", job.proof)
 
 
 def explain_each(circuit: bytes, jobs: Iterable[Job]) -> List[Union[Verdict, _errors.Error]]:
@@ -280,7 +306,8 @@ def explain_each(circuit: bytes, jobs: Iterable[Job]) -> List[Union[Verdict, _er
     In place of a verdict stands the error of a job that has none.
     """
     file, given = _bytes("circuit", circuit), [_job_of(place, job) for place, job in enumerate(jobs)]
-    list_of = (_calls.Job * len(given))(*(_calls.Job(*(_calls.Bytes(part, len(part)) for part in job)) for job in given))
+    raw = [_calls.Job(*(_calls.Bytes(part, len(part)) for part in job)) for job in given]
+    list_of = (_calls.Job * len(raw))(*raw)
     CALLS.lzk_explain_each(*passed(file), list_of, len(given))
     found: List[Union[Verdict, _errors.Error]] = []
     for job, (public, session, _) in zip(list_of, given):
@@ -302,7 +329,7 @@ class Desk:
 
     def __init__(self, circuit: bytes, public: Numbers, session: bytes = b"") -> None:
         self._desk, self._alone = ctypes.c_void_p(), threading.Lock()
-        self._given = _Given(_bytes("circuit", circuit), _text("public", public), session=_bytes("session", session))
+        self._given = _given(circuit, public, session)
         parts = passed(self._given.circuit, self._given.public, self._given.session)
         _refuse(_calls.Outcome(answer=CALLS.lzk_desk_open(ctypes.byref(self._desk), *parts)), self._given)
 
@@ -314,7 +341,10 @@ class Desk:
         _refuse(_calls.Outcome(answer=answer), self._given)
 
     def explain(self) -> Verdict:
-        """The verdict on all that was fed. The desk is ready for the next proof. Raises NoCircuit, NoNumbers, NoMemory."""
+        """The verdict on all that was fed. The desk is ready for the next proof.
+
+        Raises NoCircuit, NoNumbers, NoMemory.
+        """
         report = _calls.Report()
         with self._alone:
             CALLS.lzk_desk_end(self._live(), ctypes.byref(report))
@@ -340,7 +370,12 @@ class Desk:
     def __enter__(self) -> "Desk":
         return self
 
-    def __exit__(self, kind: Optional[Type[BaseException]], error: Optional[BaseException], trace: Optional[TracebackType]) -> None:
+    def __exit__(
+        self,
+        kind: Optional[Type[BaseException]],
+        error: Optional[BaseException],
+        trace: Optional[TracebackType],
+    ) -> None:
         self.close()
 
     def __del__(self) -> None:
