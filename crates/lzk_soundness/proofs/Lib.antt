@@ -10,6 +10,7 @@ pub mod ExtractLaws
 pub mod CountLaws
 pub mod DrawnLaws
 pub mod VerdictLaws
+pub mod BindingLaws
 pub mod WorkedLaws
 pub mod TreesLaws
 pub mod OracleLaws

@@ -10,6 +10,7 @@ pub mod Extract
 pub mod Count
 pub mod Drawn
 pub mod Verdict
+pub mod Binding
 pub mod Worked
 pub mod Trees
 pub mod Oracle

@@ -9,6 +9,7 @@
 //! - `near`, `tables`: rows that are not;
 //! - `extract`, `count`: the inputs that a table encodes, and the one count; `drawn`, `verdict`: the tape's draws, and
 //!   acceptance, in its words; `worked`: that it is of something;
+//! - `binding`: two openings under one root agree, or two strings with one digest are found;
 //! - `oracle`, `trees`, `rounds`, `ligero`, `forger`, `forged`: one who tries often, against a random oracle;
 //! - `strong`: the numbers of a profile with more columns over a larger field.
 //!
@@ -18,6 +19,7 @@
 //! numbers.
 #![tactic(auto)]
 
+mod binding;
 mod chance;
 mod count;
 mod drawn;
@@ -39,6 +41,7 @@ mod weights;
 mod whole;
 mod worked;
 
+pub use binding::binding_laws;
 pub use chance::{counting_laws, root_laws, set_laws};
 pub use count::{count_laws, number_laws, width_laws};
 pub use drawn::{drawn_laws, pick_laws};

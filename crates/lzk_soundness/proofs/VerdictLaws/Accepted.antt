@@ -18,7 +18,7 @@ module _ {A : Type 0} (o : Ops A) (e : Coding A) (c : Wiring A) (session : List 
   enough : opened_count ≤ (params_of c).mcol
   enough = omega (arith, b.mcol, b.block)
 
-  are_drawn : (proof : Proof A) → AreDrawn o e c session public proof
+  pub are_drawn : (proof : Proof A) → AreDrawn o e c session public proof
   unfolding transcript
   are_drawn proof = record {
     count = length-opened (params_of c).mcol opened_count _ enough;
