@@ -17,7 +17,7 @@ use Rattle.lzk_policy_inputs.specs.declared.value.Value.{Value}
 use Rattle.lzk_policy_inputs.specs.Both.{Inputs}
 use Rattle.lzk_policies.specs.declared.refusal.RootedInputsError.{RootedInputsError}
 use Rattle.lzk_policies.specs.declared.refusal.RootedInputsError.TheVariants as refusals
-use Rattle.lzk_policies.specs.Placed.{IsRootedRefusal}
+use Rattle.lzk_policies.specs.Placed.{IsCredentialRefusal}
 use Rattle.lzk_sha_path.specs.declared.error.PathError.{PathError}
 use Rattle.lzk_sha_path.specs.declared.error.PathError.TheVariants as paths
 use Rattle.lzk_credential_run.specs.declared.entries.ValuesFault.{ValuesFault}
@@ -95,7 +95,7 @@ module _ (path : List ℕ) (x : Placed) (p : Contents) (m : List ℕ) (vs : List
   halted_for nodes refusals.OutOfMemory e h = absurd cc
 
   -- there are no inputs for this cause
-  pub halted : (cause : RootedInputsError) (h : Halt) → IsRootedRefusal p m vs x.leaf (length x.nodes) cause → IsHaltFor path p (length x.nodes) cause h → MakesInputs path p m vs x (Err h)
+  pub halted : (cause : RootedInputsError) (h : Halt) → IsCredentialRefusal p m vs x.leaf (length x.nodes) cause → IsHaltFor path p (length x.nodes) cause h → MakesInputs path p m vs x (Err h)
   halted cause halts.Memory refused is = tt
   halted cause (halts.End e) refused is = (cause, refused, halted_for (length x.nodes) cause e is)
 

@@ -20,7 +20,7 @@ use Rattle.lzk_policy_circuit.specs.Meaning.{public_count, values_of}
 use Rattle.lzk_sha_path.specs.declared.error.PathError.TheVariants as paths
 use Rattle.lzk_policies.specs.declared.error.RootedError.{RootedError}
 use Rattle.lzk_policies.specs.declared.error.RootedError.TheVariants as roots
-use Rattle.lzk_policies.specs.Causes.{IsRootedCause}
+use Rattle.lzk_policies.specs.Causes.{IsCredentialCause}
 use Rattle.lzk_policies.specs.Depths.{IsShownBy, SatisfyAt, private_count}
 use Rattle.lzk_credential_run.specs.Ends.{Way, Says, Reads, PutsFile}
 use Rattle.lzk_credential_run.specs.Files.{policy_files}
@@ -62,7 +62,7 @@ IsLimit p (roots.Path (paths.Beside besides.OutOfMemory)) = ⊥
 IsLimit p (roots.Path paths.OutOfMemory) = ⊥
 IsLimit p (roots.Beside besides.OutOfMemory) = ⊥
 IsLimit p roots.OutOfMemory = ⊥
-IsLimit p cause = IsRootedCause p p.depth cause
+IsLimit p cause = IsCredentialCause p cause
 
 -- such a file, or the end of a run whose policy's circuit would pass a limit
 abbrev pub MakesFile : List ℕ → Contents → Result (Vec ℕ Global) Halt → Type 0

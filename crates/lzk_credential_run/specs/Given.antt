@@ -21,7 +21,7 @@ use Rattle.lzk_policy_inputs.specs.Filled.{private_of}
 use Rattle.lzk_policies.specs.declared.refusal.RootedInputsError.{RootedInputsError}
 use Rattle.lzk_policies.specs.declared.refusal.RootedInputsError.TheVariants as refusals
 use Rattle.lzk_policies.specs.Depths.{IsShownBy, SatisfyAt, private_count}
-use Rattle.lzk_policies.specs.Placed.{IsRootedRefusal, root_words, shown_numbers}
+use Rattle.lzk_policies.specs.Placed.{IsCredentialRefusal, root_words, shown_numbers}
 use Rattle.lzk_sha_path.specs.declared.error.PathError.{PathError}
 use Rattle.lzk_sha_path.specs.declared.error.PathError.TheVariants as paths
 use Rattle.lzk_credential_run.specs.declared.entries.ValuesFault.{ValuesFault}
@@ -138,7 +138,7 @@ MakesInputs path p m vs x (Ok i) = IsInputs p m vs x i
 MakesInputs path p m vs x (Err halts.Memory) = Unit {0}
 MakesInputs path p m vs x (Err (halts.End e)) =
     (cause : RootedInputsError)
-    × IsRootedRefusal p m vs x.leaf (length x.nodes) cause × IsNoInputs path p (length x.nodes) cause e
+    × IsCredentialRefusal p m vs x.leaf (length x.nodes) cause × IsNoInputs path p (length x.nodes) cause e
 
 -- ---- puts
 
@@ -162,7 +162,7 @@ PutsOne public old new = (new.files ≡ old.files) ⊎ ((bytes : List ℕ) × Ho
 abbrev pub PutsInputs : List ℕ → Placed → List ℕ → List ℕ → Contents → List ℕ → List Value → Way
 PutsInputs path x public private p m vs old new e =
     ((cause : RootedInputsError)
-    × IsRootedRefusal p m vs x.leaf (length x.nodes) cause
+    × IsCredentialRefusal p m vs x.leaf (length x.nodes) cause
     × IsNoInputs path p (length x.nodes) cause e × (new.files ≡ old.files))
     ⊎ ((i : Inputs) × IsInputs p m vs x i
     × PutsBoth public (number_lines (map number i.public)) private (number_lines (map number i.private)) old new e)

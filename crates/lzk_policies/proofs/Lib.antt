@@ -2,3 +2,4 @@ pub mod Depths
 pub mod Placed
 pub mod Seen
 pub mod Under
+mod Refusing

@@ -1,5 +1,5 @@
 -- When a policy and a depth give no circuit.
-use Rattle.std.specs.Prelude.{ℕ, ◌<◌}
+use Rattle.std.specs.Prelude.{ℕ, ◌<◌, ◌≤◌}
 use Rattle.lzk_beside.specs.Levels.{IsCause}
 use Rattle.lzk_circuit.specs.Valid.{Wiring}
 use Rattle.lzk_goldilocks.specs.declared.element.Gold.{Gold}
@@ -18,3 +18,12 @@ IsRootedCause p depth (Path e) = IsPathCause depth e
 IsRootedCause p depth Privates = 65536 < private_count p depth
 IsRootedCause p depth (Beside e) = (first : Wiring Gold) × (second : Wiring Gold) × IsCause first second e
 IsRootedCause p depth OutOfMemory = Unit {0}
+
+-- the same of a policy by what it shows: of a path, and of what stands side by side, only where it says levels
+abbrev pub IsCredentialCause : Contents → RootedError → Type 0
+IsCredentialCause p (Policy e) = IsPolicyCause e
+IsCredentialCause p (Path e) = (1 ≤ p.depth) × IsPathCause p.depth e
+IsCredentialCause p Privates = (1 ≤ p.depth) × (65536 < private_count p p.depth)
+IsCredentialCause p (Beside e) =
+    (1 ≤ p.depth) × ((first : Wiring Gold) × (second : Wiring Gold) × IsCause first second e)
+IsCredentialCause p OutOfMemory = Unit {0}

@@ -12,7 +12,7 @@ ghost use Rattle.lzk_policy_circuit.specs.Met.{Satisfy};
 ghost use Rattle.lzk_policy_inputs.specs.Chosen.{public_of};
 ghost use Rattle.lzk_policy_inputs.specs.Filled.{private_of};
 ghost use Rattle.lzk_policy_inputs.specs.declared.value.Value as value;
-ghost use Rattle.lzk_policies.specs.Placed.{IsRootedRefusal, root_words, shown_numbers};
+ghost use Rattle.lzk_policies.specs.Placed.{IsDigestRefusal, IsRootedRefusal, root_words, shown_numbers};
 ghost use Rattle.lzk_policies.specs.Rooted.{IsShownUnder, SatisfyUnder, private_count};
 
 use crate::refusal::RootedInputsError;
@@ -166,8 +166,7 @@ pub(crate) fn digest_inputs(
     ensures publics { IfOk result (λ i. length i.public ≡ public_count policy.now) }
     ensures privates { IfOk result (λ i. length i.private ≡ layout.private_count policy.now) }
     ensures satisfied { IfOk result (λ i. Satisfy policy.now i.public i.private) }
-    ensures refusal { (index depth : ℕ) →
-        IfErr result (IsRootedRefusal policy.now bytes.now values.now index depth) }
+    ensures refusal { IfErr result (IsDigestRefusal policy.now bytes.now values.now) }
 {
     let shown = policy_inputs(alloc, policy, bytes, values)?;
     match copied(alloc, &shown) {

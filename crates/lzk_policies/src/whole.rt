@@ -7,8 +7,8 @@ ghost use Rattle.lzk_goldilocks.specs.Elements.{ops, number};
 ghost use Rattle.lzk_goldilocks.specs.declared.element.Gold.{Gold};
 ghost use Rattle.lzk_policy_circuit.specs.Meaning.{public_count, values_of};
 ghost use Rattle.lzk_policy_inputs.specs.Filled.{private_of};
-ghost use Rattle.lzk_policies.specs.Causes.{IsRootedCause};
-ghost use Rattle.lzk_policies.specs.Placed.{IsRootedRefusal, root_words, shown_numbers};
+ghost use Rattle.lzk_policies.specs.Causes.{IsCredentialCause};
+ghost use Rattle.lzk_policies.specs.Placed.{IsCredentialRefusal, root_words, shown_numbers};
 ghost use Rattle.lzk_policies.specs.Depths.{IsShownBy, SatisfyAt, private_count};
 
 use crate::circuit::rooted_circuit;
@@ -36,7 +36,7 @@ pub fn credential_circuit(alloc: Global, policy: &Policy) -> Result<Circuit<Gold
         length values ≡ values_of policy.now.shows → length private ≡ private_count policy.now.depth policy.now →
         IfOk result (λ c. IsSatisfied ops number c.layers (inputs_of ops (words ++ values) private) ↔
         SatisfyAt policy.now.depth policy.now words values private) }
-    ensures cause { IfErr result (IsRootedCause policy.now policy.now.depth) }
+    ensures cause { IfErr result (IsCredentialCause policy.now) }
 {
     let depth = policy.depth();
     if depth == 0 {
@@ -66,7 +66,7 @@ pub fn credential_inputs(
     ensures privates { IfOk result (λ i. length i.private ≡ private_count policy.now.depth policy.now) }
     ensures satisfied { IfOk result (λ i.
         SatisfyAt policy.now.depth policy.now (take 8 i.public) (drop 8 i.public) i.private) }
-    ensures refusal { IfErr result (IsRootedRefusal policy.now bytes.now values.now
+    ensures refusal { IfErr result (IsCredentialRefusal policy.now bytes.now values.now
         place.now.index (length place.now.siblings.now)) }
 {
     let depth = policy.depth();

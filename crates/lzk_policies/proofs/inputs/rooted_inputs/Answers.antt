@@ -18,6 +18,16 @@ returns-in_err-check_place-clause-refusal c =
     if_err c.from_residual.result _ (IsRootedRefusal p m vs n depth) c.from_residual.ensures.1
     (λ e g. subst (IsRootedRefusal p m vs n depth) (sym g) (c.in_err-check_place.ensures.refusal p m vs))
 
+pub returns-in_err-shown-clause-refusal : goal.returns-in_err-shown-clause-refusal
+returns-in_err-shown-clause-refusal c =
+    let p = c.args.policy.now in
+    let m = c.args.bytes.now in
+    let vs = c.args.values.now in
+    let n = c.args.place.now.index in
+    let depth = length c.args.place.now.siblings.now in
+    if_err c.from_residual-in_err-shown.result _ (IsRootedRefusal p m vs n depth) c.from_residual-in_err-shown.ensures.1
+    (λ e g. subst (IsRootedRefusal p m vs n depth) (sym g) (c.in_ok-check_place.ensures.within, c.in_err-shown.ensures.refusal))
+
 pub returns-in-Ok-clause-public : goal.returns-in-Ok-clause-public
 returns-in-Ok-clause-public c =
     let siblings = c.args.place.now.siblings.now in

@@ -1,5 +1,6 @@
-use Rattle.std.proofs.Common.{sym, subst, length}
-use Rattle.lzk_policies.specs.Placed.{IsRootedRefusal}
+use Rattle.std.proofs.Common.{◌≡◌, arith, sym, subst, length}
+use Rattle.lzk_policies.specs.Placed.{IsCredentialRefusal}
+use Rattle.lzk_policies.proofs.Refusing.{refused_alone}
 use Rattle.lzk_policies.proofs.Under.{if_err}
 use Rattle.lzk_policies.proofs.whole.credential_inputs.Goals as goal
 
@@ -10,5 +11,7 @@ returns-in_err-inputs-clause-refusal c =
     let vs = c.args.values.now in
     let n = c.args.place.now.index in
     let depth = length c.args.place.now.siblings.now in
-    if_err c.from_residual.result _ (IsRootedRefusal p m vs n depth) c.from_residual.ensures.1
-    (λ e g. subst (IsRootedRefusal p m vs n depth) (sym g) (c.in_err-inputs.ensures.refusal n depth))
+    let same : depth ≡ p.depth = omega (arith, c.if-place-depth.false, c.depth-depth.ensures) in
+    let none : depth ≡ 0 = omega (arith, same, c.depth-depth.ensures, c.if-depth-eq0.true) in
+    if_err c.from_residual.result _ (IsCredentialRefusal p m vs n depth) c.from_residual.ensures.1
+    (λ e g. subst (IsCredentialRefusal p m vs n depth) (sym g) (refused_alone p m vs n depth same _ none c.in_err-inputs.ensures.refusal))
