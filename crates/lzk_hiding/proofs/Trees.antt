@@ -1,21 +1,25 @@
 -- What passes by a programmed tape is completed to an accepted proof.
-use Rattle.lzk_profile.specs.Profile.{opened_count}
-use Rattle.std.specs.Prelude.{◌≡◌, ℕ, ◌+◌, ◌*◌, ◌<◌, ◌≤◌, ◌==◌, nat_lt, Bool, true, false, cond, List, [], ◌∷◌, ◌++◌, length, map, take, drop, slice_index, slice_index_or}
+use Rattle.lzk_profile.specs.Profile.{opened_count, most_digests}
+use Rattle.std.specs.Prelude.{◌≡◌, ℕ, ◌+◌, ◌*◌, ◌^◌, ◌<◌, ◌≤◌, ◌==◌, nat_lt, Bool, true, false, cond, List, [], ◌∷◌, ◌++◌, length, map, take, drop, slice_index, slice_index_or}
 use Rattle.std.specs.List.{range_with_len, flat_map}
 use Rattle.std.proofs.Common.{zero, suc, inr, refl, sym, ap, ◌∙◌, arith}
 use Rattle.std.proofs.lemmas.Bool.{lt-ltb, ltb-true, eqb-true}
 use Rattle.std.proofs.lemmas.List.{length-map, get_or-map, take_at}
 use Rattle.std.proofs.lemmas.List.FromFn.{get_or-map-range_with_len}
+use Rattle.sha2.proofs.Facts256.{length-sha256}
 use Rattle.lzk_field.specs.Coding.{Coding}
 use Rattle.lzk_field.specs.Ring.{Ops}
 use Rattle.lzk_merkle.specs.Leaf.{leaf_of}
 use Rattle.lzk_merkle.specs.Nodes.{AreOpened, place_of, path_nodes, tree_node, opened_leaves, root_of}
 use Rattle.lzk_merkle.proofs.Law.{same_root}
+use Rattle.lzk_merkle.proofs.PathLength.{needed_few}
+use Rattle.lzk_merkle.proofs.TreeDigests.{path_node, length_tree_node}
 use Rattle.lzk_merkle.proofs.Values.{place_of-at}
 use Rattle.lzk_circuit.specs.Valid.{Wiring, IsValid}
 use Rattle.lzk_layout.specs.declared.params.Params.{Params}
 use Rattle.lzk_layout.specs.declared.proof.Proof.{Proof}
-use Rattle.lzk_layout.specs.Sizes.{params_of}
+use Rattle.lzk_layout.specs.Proofs.{flat, fields_of, element_field, AreDigests, ProofBytes}
+use Rattle.lzk_layout.specs.Sizes.{AreBounded, params_of}
 use Rattle.lzk_accept.specs.Challenges.{Transcript}
 use Rattle.lzk_accept.specs.Checks.{column}
 use Rattle.lzk_soundness.specs.Sumchecks.Passing.{Passes}
@@ -27,7 +31,7 @@ use Rattle.lzk_complete.proofs.Standing.{length_rows}
 use Rattle.lzk_verify.specs.Checks.{leaf_at, HasRoot}
 use Rattle.lzk_verify.specs.declared.verdict.Verdict.TheVariants.{Accepted}
 use Rattle.lzk_verify.specs.Verdict.{IsJudged}
-use Rattle.lzk_hiding.specs.Tree.{digest_of, all_digests, completed, ProgrammedAccepted, ProofsAreCompleted}
+use Rattle.lzk_hiding.specs.Tree.{digest_of, all_digests, completed, ProgrammedAccepted, ProgrammedFiles, ProofsAreCompleted}
 
 -- a list by its places
 by_places : {Y : Type 0} (g : ℕ → Y) (js : List ℕ) (a : ℕ) (h : ℕ → Y) → ((k : ℕ) → k < length js → h (a + k) ≡ g (slice_index js k)) → map h (range_with_len a (length js)) ≡ map g js
@@ -75,6 +79,81 @@ module _ {A : Type 0} (o : Ops A) (e : Coding A) (c : Wiring A) (public : List A
 
 pub programmed_accepted : {A : Type 0} (o : Ops A) (e : Coding A) → ProgrammedAccepted o e
 programmed_accepted o e c public t view nonces others valid are many passes = judged o e c public t view nonces others are many passes
+
+-- ---- its file
+
+module _ {A : Type 0} (o : Ops A) (e : Coding A) (c : Wiring A) (public : List A) (t : Transcript A) (view : Proof A) (nonces : List (List ℕ)) (others : ℕ → List ℕ) (b : AreBounded (params_of c))
+    (are : AreOpened (params_of c).mcol t.columns) (many : length t.columns ≡ opened_count) (passes : Passes o e c public t.script t.challenges t.columns view)
+    (count : length nonces ≡ opened_count) (nonces_are : AreDigests nonces) (others_are : (j : ℕ) → j < (params_of c).mcol → length (others j) ≡ 32) where
+  abbrev P : Params
+  P = params_of c
+
+  abbrev J : List ℕ
+  J = t.columns
+
+  abbrev D : List (List ℕ)
+  D = all_digests o e c J view nonces others
+
+  length_leaf : (j : ℕ) → j < P.mcol → length (slice_index_or D j []) ≡ 32
+  unfolding leaf_of
+  length_leaf j h =
+      ap length (get_or-map-range_with_len (digest_of o e c J view nonces others) 0 P.mcol j j [] h (omega arith)) ∙ go (nat_lt (place_of j J) (length J))
+    where
+      go : (s : Bool) → length (cond s (leaf_of e.bytes e.number (slice_index_or nonces (place_of j J) []) (column o P view (place_of j J))) (others j)) ≡ 32
+      go true = length-sha256 _
+      go false = others_are j h
+
+  length_digest : (i : ℕ) → 1 ≤ i → i < 2 * P.mcol → length (tree_node P.mcol D i) ≡ 32
+  length_digest i low high = length_tree_node P.mcol D i length_leaf low high
+
+  few : length (map (tree_node P.mcol D) (path_nodes P.mcol J)) ≤ most_digests
+  few =
+      let p12 : 2 ^ 12 ≡ 4096 = refl in
+      let most : length J * 12 ≡ most_digests = ap (λ (n : ℕ). n * 12) many in
+      omega (arith, length-map (path_nodes P.mcol J) (tree_node P.mcol D), most, needed_few P.mcol 12 J (omega (arith, p12, b.mcol, b.block, b.wr)) are.below)
+
+  path_is : AreDigests (map (tree_node P.mcol D) (path_nodes P.mcol J))
+  path_is k h =
+      let nodes = path_nodes P.mcol J in
+      let inside : k < length nodes = omega (arith, h, length-map nodes (tree_node P.mcol D)) in
+      let node = path_node P.mcol J k inside in
+      ap length (get_or-map (tree_node P.mcol D) nodes k 0 [] inside) ∙ length_digest (slice_index nodes k) (omega (arith, node.0)) node.1
+
+  abbrev made : Proof A
+  made = completed o e c J view nonces others
+
+  abbrev file : List ℕ
+  file = flat (fields_of (element_field e.bytes e.number) P.nrow made)
+
+  has_file : ProofBytes e.bytes e.number P made file
+  has_file = record {
+    lengths = record {
+      messages = passes.messages;
+      ldt = passes.ldt;
+      dot = passes.dot;
+      quad_head = passes.quad_head;
+      quad_tail = passes.quad_tail;
+      nonces = count;
+      columns = passes.opened ∙ ap (λ (n : ℕ). n * P.nrow) many;
+    };
+    few = few;
+    id = length-sha256 _;
+    root = length_digest 1 (omega arith) (omega (arith, b.mcol, b.block));
+    nonces = nonces_are;
+    path = path_is;
+    are = refl;
+  }
+
+pub programmed_files : {A : Type 0} (o : Ops A) (e : Coding A) → ProgrammedFiles o e
+programmed_files o e c public t view nonces others valid are many passes count nonces_are others_are =
+    let b = params_bounded o c valid in
+    let P = params_of c in (
+      flat (fields_of (element_field e.bytes e.number) P.nrow (completed o e c t.columns view nonces others)),
+      (
+        has_file o e c public t view nonces others b are many passes count nonces_are others_are,
+        programmed_accepted o e c public t view nonces others valid are many passes,
+      ),
+    )
 
 -- ---- the tree of a prover
 

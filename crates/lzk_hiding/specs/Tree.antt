@@ -1,6 +1,6 @@
 -- Proofs as a simulator completes them: what is seen, nonces, and a digest for each column that is not opened.
 use Rattle.lzk_profile.specs.Profile.{opened_count, most_digests}
-use Rattle.std.specs.Prelude.{◌≡◌, ℕ, nat_lt, cond, List, [], length, map, slice_index_or}
+use Rattle.std.specs.Prelude.{◌≡◌, ℕ, ◌<◌, nat_lt, cond, List, [], length, map, slice_index_or}
 use Rattle.std.specs.List.{range_with_len}
 use Rattle.lzk_field.specs.Coding.{Coding}
 use Rattle.lzk_field.specs.Ring.{Ops}
@@ -9,6 +9,7 @@ use Rattle.lzk_merkle.specs.Nodes.{AreOpened, place_of, path_nodes, tree_node}
 use Rattle.lzk_circuit.specs.Valid.{Wiring, IsValid}
 use Rattle.lzk_circbytes.specs.Files.{id_of}
 use Rattle.lzk_layout.specs.declared.proof.Proof.{Proof}
+use Rattle.lzk_layout.specs.Proofs.{AreDigests, ProofBytes}
 use Rattle.lzk_layout.specs.Sizes.{params_of}
 use Rattle.lzk_accept.specs.Challenges.{Transcript}
 use Rattle.lzk_accept.specs.Checks.{column}
@@ -54,6 +55,20 @@ ProgrammedAccepted {A} o e =
     → AreOpened (params_of c).mcol t.columns → length t.columns ≡ opened_count
     → Passes o e c public t.script t.challenges t.columns view
     → IsJudged o e c (params_of c) public (completed o e c t.columns view nonces others) t Accepted
+
+-- With nonces and digests of 32 bytes it has a file: so the file of a proof that a simulator makes is one on which the
+-- verdict by such a tape is Accepted.
+abbrev pub ProgrammedFiles : {A : Type 0} → Ops A → Coding A → Type 0
+ProgrammedFiles {A} o e =
+    (c : Wiring A) (public : List A) (t : Transcript A) (view : Proof A) (nonces : List (List ℕ)) (others : ℕ → List ℕ)
+    → IsValid o c
+    → AreOpened (params_of c).mcol t.columns → length t.columns ≡ opened_count
+    → Passes o e c public t.script t.challenges t.columns view
+    → length nonces ≡ opened_count → AreDigests nonces
+    → ((j : ℕ) → j < (params_of c).mcol → length (others j) ≡ 32)
+    → (bytes : List ℕ)
+    × (ProofBytes e.bytes e.number (params_of c) (completed o e c t.columns view nonces others) bytes
+    × IsJudged o e c (params_of c) public (completed o e c t.columns view nonces others) t Accepted)
 
 -- The tree of a prover's proof is so completed, by the digests of its other columns. So root and path are a function
 -- of what is seen, the nonces and these digests, and where others are put in their place the rest of the proof stays.

@@ -18,7 +18,7 @@ ghost use Rattle.lzk_hiding.specs.Laws.{
   SomeSeen,
   WordsCounted,
 };
-ghost use Rattle.lzk_hiding.specs.Tree.{ProgrammedAccepted, ProofsAreCompleted};
+ghost use Rattle.lzk_hiding.specs.Tree.{ProgrammedAccepted, ProgrammedFiles, ProofsAreCompleted};
 ghost use Rattle.lzk_hiding.specs.Words.{IsSmall, RandomAreFew};
 
 use lzk_field::Field;
@@ -64,10 +64,11 @@ pub fn word_laws<F: Field>()
 
 /// Root and path of a prover's proof are made of what is seen, the nonces and the digests of the other columns. By a
 /// programmed tape, which gives draws that were fixed before, what passes is so completed to a proof with the verdict
-/// Accepted, by any nonces and any such digests.
+/// Accepted, by any nonces and any such digests. Of nonces and digests of 32 bytes it has a file.
 pub fn tape_laws<F: Field>()
     ensures completed { ProofsAreCompleted F.ops F.coding }
     ensures programmed { ProgrammedAccepted F.ops F.coding }
+    ensures files { ProgrammedFiles F.ops F.coding }
 {}
 
 /// An honest prover is one of the strategies that soundness counts: for every valid circuit, satisfying inputs and
