@@ -36,15 +36,15 @@ class Crate:
         self.lower = []
 
 
-def text_of(path, top=TOP):
-    path = os.path.join(top, path)
+def text_of(path, top=None):
+    path = os.path.join(top or TOP, path)
     if not os.path.exists(path):
         return ""
     with open(path, encoding="utf-8") as file:
         return file.read()
 
 
-def read(top=TOP):
+def read(top=None):
     """The crates of a repository by name, in the order of its crates.txt. `lower` has the repository's own ones."""
     bare = [line.split("#")[0].strip() for line in text_of(LIST, top).splitlines()]
     crates = {crate.name: crate for crate in map(Crate, filter(None, bare))}
