@@ -6,8 +6,8 @@ ghost use Rattle.lzk_soundness.specs.Binding.Openings.{ColumnsBind, ColumnsTellA
 use lzk_field::Field;
 
 /// Where two openings under one root differ at a common leaf a collision is found above it; so with opened columns, and
-/// with two files that open under one root, whatever their sessions and public inputs are. Different columns are different
-/// strings.
+/// with two files that open under one root, whatever their sessions and public inputs are. Different columns are
+/// different strings.
 pub fn binding_laws<F: Field>()
     ensures leaves { LeavesBind }
     ensures columns { ColumnsBind F.ops F.coding }

@@ -40,7 +40,8 @@ use Rattle.lzk_soundness.specs.Forger.Questions.{Start, Question, Reply, IsForme
 use Rattle.lzk_soundness.specs.Forger.Questions.Question.{sent, answered}
 use Rattle.lzk_soundness.specs.Forger.Laws.{AreShares}
 use Rattle.lzk_soundness.proofs.ForgerLaws.Replies.{both_parts, count-replies, length-replies, pairs_by, pairs_front, some_is, counted_is}
-use Rattle.lzk_soundness.proofs.ForgerLaws.Wrong.{Case, IsLeftOpen, ByHeld, ByChoice, WrongQ, IsWrong, own_reply, other_reply, draws_same, all_same, asked_formed, taken_all}
+use Rattle.lzk_soundness.specs.Forger.Wrong.{Case, IsLeftOpen, ByHeld, ByChoice, WrongQ, IsWrong}
+use Rattle.lzk_soundness.proofs.ForgerLaws.Wrong.{own_reply, other_reply, draws_same, all_same, asked_formed, taken_all}
 
 -- ---- numbers
 

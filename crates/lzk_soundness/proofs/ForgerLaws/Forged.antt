@@ -7,7 +7,7 @@ use Rattle.lzk_field.specs.Coding.{Coding}
 use Rattle.lzk_field.specs.Ring.{Ops, Laws}
 use Rattle.lzk_soundness.specs.Chance.Draws.{count, draws_from}
 use Rattle.lzk_soundness.specs.Chance.Few.{IsIn}
-use Rattle.lzk_circuit.specs.Valid.{Wiring}
+use Rattle.lzk_circuit.specs.Valid.{Wiring, IsValid}
 use Rattle.lzk_layout.specs.Sizes.{params_of}
 use Rattle.lzk_layout.specs.Places.{depth}
 use Rattle.lzk_soundness.specs.Sumchecks.Claims.{Vanish}
@@ -26,14 +26,15 @@ use Rattle.lzk_soundness.specs.Ligero.States.{sends, IsPassedOften}
 use Rattle.lzk_soundness.specs.Ligero.Laws.{Held}
 use Rattle.lzk_soundness.specs.Ligero.Laws.Held.{nothing, list}
 use Rattle.lzk_soundness.proofs.LigeroLaws.Weights.{weights_few}
-use Rattle.lzk_soundness.specs.Forger.Questions.{Start, Question, Reply, IsFormed, all_replies, no_reply, rows_of, asked_at, drawn_by, script_draws, all_draws, Run, IsForged}
+use Rattle.lzk_soundness.specs.Forger.Questions.{Start, Question, Reply, IsFormed, TellsApart, all_replies, no_reply, rows_of, asked_at, drawn_by, script_draws, all_draws, Run, IsForged}
 use Rattle.lzk_soundness.specs.Forger.Questions.Question.{sent, answered}
-use Rattle.lzk_soundness.specs.Forger.Laws.{IsForger, AreShares}
+use Rattle.lzk_soundness.specs.Forger.Laws.{IsForger, AreShares, AreDoomed}
 use Rattle.lzk_soundness.proofs.ForgerLaws.Chosen.{choose_all, in_range, found_in, is_found}
 use Rattle.lzk_soundness.proofs.ForgerLaws.Few.{few_wrong}
 use Rattle.lzk_soundness.proofs.ForgerLaws.Replies.{same_reply, same_start}
 use Rattle.lzk_soundness.proofs.ForgerLaws.Shares.{shares_small}
-use Rattle.lzk_soundness.proofs.ForgerLaws.Wrong.{IsUnknowing, Case, IsLeftOpen, ByHeld, ByChoice, WrongQ, IsWrong, asked_formed, all_sent, taken_all}
+use Rattle.lzk_soundness.specs.Forger.Wrong.{IsUnknowing, Case, IsLeftOpen, ByHeld, ByChoice, WrongQ, IsWrong}
+use Rattle.lzk_soundness.proofs.ForgerLaws.Wrong.{asked_formed, all_sent, taken_all}
 
 asked_inside : {X : Type 0} (none : X) (questions : ℕ) (ask : List X → ℕ) (oracle : List X) → ((before : List X) → ask before < questions) → (k : ℕ) → AllByRecursion (λ n. n < questions) (asked none ask oracle k)
 asked_inside none questions ask oracle inside zero = tt
@@ -43,14 +44,14 @@ abbrev start_of : {A : Type 0} → Question A → Start A
 start_of (sent start step elements) = start
 start_of (answered start messages answers) = start
 
-module _ {A : Type 0} (o : Ops A) (e : Coding A) (laws : Laws o e.size e.number e.element e.bytes) (c : Wiring A) (code : Question A → ℕ) (questions tries by : ℕ) (ask : List (Reply A) → ℕ) (wins : List (Reply A) → Bool) (forger : IsForger o e c code questions tries ask wins) (shares : AreShares e c by) (large : 2 ^ 18 ≤ e.size) where
+module _ {A : Type 0} (o : Ops A) (e : Coding A) (laws : Laws o e.size e.number e.element e.bytes) (c : Wiring A) (code : Question A → ℕ) (questions by : ℕ) (valid : IsValid o c) (apart : TellsApart c code) (shares : AreShares e c by) (large : 2 ^ 18 ≤ e.size) where
   abbrev Sought : ℕ → Type 0
   Sought n = (q : Question A) × (IsFormed c q × (code q ≡ n))
 
   case_there : (start : Start A) → (Case o e c code start → ⊥) → ⊥
   case_there start not =
       let never : IsUnknowing o e c code start → ⊥ =
-      λ f. weights_few o e laws c start.public (rows_of o c start) forger.valid f.0 f.1 large (λ held. not (inl (f.0, held))) in
+      λ f. weights_few o e laws c start.public (rows_of o c start) valid f.0 f.1 large (λ held. not (inl (f.0, held))) in
       not (inr never)
 
   module _ (D : AllByRecursion (λ n. Dec (Sought n)) (range_with_len 0 questions)) where
@@ -64,16 +65,14 @@ module _ {A : Type 0} (o : Ops A) (e : Coding A) (laws : Laws o e.size e.number 
     unfolding starts
     there q formed h =
         is_found Sought (λ n p. start_of p.0) (start_of q) (range_with_len 0 questions) D (code q) (in_range (code q) 0 questions (omega arith) (omega (arith, h))) (q, (formed, refl))
-        (λ p. ap start_of (forger.apart p.0 q p.1.0 formed p.1.1))
+        (λ p. ap start_of (apart p.0 q p.1.0 formed p.1.1))
 
     module _ (chosen : (start : Start A) → Case o e c code start ⊎ E start) where
       abbrev Wrong : List (Reply A) → ℕ → Type 0
       Wrong = IsWrong o e c code E chosen
 
-      module _ (oracle : List (Reply A)) (run : Run A) (f : IsForged o e c code oracle (asked no_reply ask oracle tries) run) (good : AllByRecursion (λ n. Wrong oracle n → ⊥) (asked no_reply ask oracle tries)) where
-        abbrev numbers : List ℕ
-        numbers = asked no_reply ask oracle tries
-
+      module _ (oracle : List (Reply A)) (numbers : List ℕ) (run : Run A) (low : AllByRecursion (λ n. n < questions) numbers) (f : IsForged o e c code oracle numbers run)
+          (good : AllByRecursion (λ n. Wrong oracle n → ⊥) numbers) where
         abbrev start : Start A
         start = run.start
 
@@ -111,12 +110,12 @@ module _ {A : Type 0} (o : Ops A) (e : Coding A) (laws : Laws o e.size e.number 
           where
             none_bad : (step : Step) → IsBadAnswer o c start.public w target e.element (script_draws o c code oracle start m) m step → ⊥
             none_bad step b =
-                let there : IsStep c step = subst (IsStep c) b.there (step_is c (draw_at c b.place) (draw_is c b.place forger.valid.some b.inside).0) in
+                let there : IsStep c step = subst (IsStep c) b.there (step_is c (draw_at c b.place) (draw_is c b.place valid.some b.inside).0) in
                 steps step there (inl (bad_front o c start.public w target e.element (λ s elements. drawn_by o c code oracle start m s elements) m step b))
 
             stays : Vanish o c start.public w e.element (script_of o c (script_draws o c code oracle start m)) m → ⊥
             stays vanish =
-                caught_without o e laws c start.public w target (script_draws o c code oracle start m) m forger.valid f.publics size products is wrong
+                caught_without o e laws c start.public w target (script_draws o c code oracle start m) m valid f.publics size products is wrong
                 (length_of_draws o c (λ step. drawn_by o c code oracle start m step (take (sent_before c step) m))) none_bad vanish
 
         by_choice : (choice : Case o e c code start ⊎ E start) → ((step : Step) → IsStep c step → ByChoice o e c code start step (take (sent_before c step) m) oracle (E start) choice → ⊥) → ⊥
@@ -124,24 +123,33 @@ module _ {A : Type 0} (o : Ops A) (e : Coding A) (laws : Laws o e.size e.number 
         by_choice (inl (inr knowing)) steps = knowing (f.publics, f.unknowing)
         by_choice (inr nowhere) steps =
             let inside : code (asked_at o c code oracle start m (head 0)) < questions =
-            one_in (λ n. n < questions) (code (asked_at o c code oracle start m (head 0))) numbers (asked_inside no_reply questions ask oracle forger.inside tries) (f.steps (head 0) (omega arith)) in
+            one_in (λ n. n < questions) (code (asked_at o c code oracle start m (head 0))) numbers low (f.steps (head 0) (omega arith)) in
             nowhere (there (asked_at o c code oracle start m (head 0)) (formed_at (head 0) (omega arith)) inside)
 
         caught : ⊥
         caught = by_choice (chosen start) (λ step is wrong. right (asked_at o c code oracle start m step) (formed_at step is) (f.steps step is) wrong)
 
-      with_choice : count wins (draws_from (all_replies e c) questions) * by ≤ tries * length (all_replies e c) ^ questions
-      with_choice =
-          queries_few (same_reply (same_elements laws.numbers)) no_reply (all_replies e c) questions by Wrong
-          (λ oracle n test size h only. few_wrong o e laws c code forger.valid forger.apart large by shares oracle n (omega (arith, size, h)) test E chosen only)
-          tries ask wins forger.inside
-          (λ oracle is won good. (let forged = forger.only oracle is won in caught oracle forged.0 forged.1 good))
+      doomed : AreDoomed o e c code questions by Wrong
+      doomed = record {
+        few = λ oracle n test size h only. few_wrong o e laws c code valid apart large by shares oracle n (omega (arith, size, h)) test E chosen only;
+        caught = λ oracle numbers run low f good. caught oracle numbers run low f good;
+      }
 
-  pub forgers_rare : count wins (draws_from (all_replies e c) questions) * by ≤ tries * length (all_replies e c) ^ questions
-  forgers_rare =
-      stable_at_most (count wins (draws_from (all_replies e c) questions) * by) (tries * length (all_replies e c) ^ questions)
-      (λ not. decide_all Sought (range_with_len 0 questions)
-      (λ D. choose_all (same_start (same_elements laws.numbers)) (Case o e c code) (starts D) case_there (λ chosen. not (with_choice D chosen))))
+  -- there is not none
+  pub steps_few : ((starts : List (Start A)) (chosen : (start : Start A) → Case o e c code start ⊎ (IsIn start starts → ⊥)) → AreDoomed o e c code questions by (IsWrong o e c code (λ start. IsIn start starts → ⊥) chosen) → ⊥) → ⊥
+  steps_few not =
+      decide_all Sought (range_with_len 0 questions)
+      (λ D. choose_all (same_start (same_elements laws.numbers)) (Case o e c code) (starts D) case_there (λ chosen. not (starts D) chosen (doomed D chosen)))
+
+pub forgers_rare : {A : Type 0} (o : Ops A) (e : Coding A) (laws : Laws o e.size e.number e.element e.bytes) (c : Wiring A) (code : Question A → ℕ) (questions tries by : ℕ) (ask : List (Reply A) → ℕ) (wins : List (Reply A) → Bool)
+    → IsForger o e c code questions tries ask wins → AreShares e c by → 2 ^ 18 ≤ e.size
+    → count wins (draws_from (all_replies e c) questions) * by ≤ tries * length (all_replies e c) ^ questions
+forgers_rare o e laws c code questions tries by ask wins forger shares large =
+    stable_at_most (count wins (draws_from (all_replies e c) questions) * by) (tries * length (all_replies e c) ^ questions)
+    (λ not. steps_few o e laws c code questions by forger.valid forger.apart shares large
+    (λ starts chosen is. not (queries_few (same_reply (same_elements laws.numbers)) no_reply (all_replies e c) questions by (IsWrong o e c code (λ start. IsIn start starts → ⊥) chosen) is.few tries ask wins forger.inside
+    (λ oracle whole won good.
+    (let forged = forger.only oracle whole won in is.caught oracle (asked no_reply ask oracle tries) forged.0 (asked_inside no_reply questions ask oracle forger.inside tries) forged.1 good)))))
 
 many_elements : (n size : ℕ) → size ≤ n → 2 ^ 18 ≤ size → 2 ^ 18 ≤ n
 many_elements n size h l = omega (arith, h, l)

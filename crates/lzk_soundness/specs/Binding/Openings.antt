@@ -31,8 +31,8 @@ module _ (n : ℕ) where
   abbrev pub string_of : Opening → ℕ → List ℕ
   string_of a i = node_of a (2 * i) ++ node_of a (2 * i + 1)
 
-  -- The strings of the lowest node above node i at which two openings have one digest; those of the node k + 1 levels up
-  -- where there is none below it.
+  -- The strings of the lowest node above node i at which two openings have one digest; those of the node k + 1 levels
+  -- up where there is none below it.
   abbrev pub clash : ℕ → Opening → Opening → ℕ → List ℕ × List ℕ
   clash zero a b i = (string_of a (i / 2), string_of b (i / 2))
   clash (suc k) a b i =
@@ -92,7 +92,8 @@ ColumnsBind {A} o e =
     → slice_index columns k ≡ slice_index others l → column_string o e p x k ≢ column_string o e p y l
     → IsCollision (column_clash o e p x y columns others k l)
 
--- So with two files that open under one root, as accepted ones do, of one circuit and of any sessions and public inputs.
+-- So with two files that open under one root, as accepted ones do, of one circuit and of any sessions and public
+-- inputs.
 abbrev pub FilesBind : {A : Type 0} → Ops A → Coding A → Type 0
 FilesBind {A} o e =
     (c : Wiring A) (session other : List ℕ) (public publics : List A) (file another : List ℕ) (x y : Proof A)
