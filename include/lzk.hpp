@@ -31,6 +31,11 @@ inline std::string text(const lzk_outcome &found) {
   return lzk_text(&found, room, sizeof room);
 }
 
+inline std::string text(const lzk_info &found) {
+  char room[LZK_MOST_TEXT];
+  return lzk_info_text(&found, room, sizeof room);
+}
+
 // Why there is no answer. Out of memory is std::bad_alloc.
 class error : public std::runtime_error {
 public:

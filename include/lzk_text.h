@@ -193,6 +193,18 @@ static inline char *lzk_report_text(const lzk_report *found, char *room, size_t 
   return lzk_text(&same, room, len);
 }
 
+/* Writes what an info says into a room, and gives it: one line with all of it, or that of lzk_text. */
+static inline char *lzk_info_text(const lzk_info *found, char *room, size_t len) {
+  lzk_outcome same = {0, 0, 0, 0, 0, 0, {0}};
+  char id[65];
+  same.answer = found->answer, same.kind = found->kind, same.offset = found->offset;
+  if (found->answer != LZK_DONE) return lzk_text(&same, room, len);
+  snprintf(room, len, "field %s, version %u, public %u, private %u, layers %u, checks %u, id %s",
+           found->field == 1 ? "goldilocks" : "gf2_128", found->version, found->publics, found->privates, found->layers,
+           found->checks, lzk_hex(found->id, id));
+  return room;
+}
+
 #undef LZK_ROW
 #ifdef __cplusplus
 }

@@ -61,6 +61,11 @@ class Info:
     checks: int
     id: bytes
 
+    def __str__(self) -> str:
+        """One line with all of it."""
+        counts = f"public {self.publics}, private {self.privates}, layers {self.layers}, checks {self.checks}"
+        return f"field {self.field.name.lower()}, version {self.version}, {counts}, id {self.id.hex()}"
+
 
 @dataclass(frozen=True)
 class Verdict:

@@ -27,6 +27,8 @@ class Statements(unittest.TestCase):
         import hashlib
 
         self.assertEqual(info.id, hashlib.sha256(circuit).digest())
+        counts = "field goldilocks, version 1, public 1, private 1, layers 1, checks 1"
+        self.assertEqual(str(info), f"{counts}, id {info.id.hex()}")
         self.assertEqual(lzk.circuit_info(lzk.compile(SQUARE, version=2)).version, 2)
         self.assertEqual(lzk.circuit_info(lzk.compile("field gf2_128\npublic y\nprivate x\nassert x*x = y\n")).field, lzk.Field.GF2_128)
 

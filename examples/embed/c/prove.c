@@ -36,7 +36,8 @@ int main(int count, char **words) {
   if (lzk_compile(1, source, source_len, circuit, sizeof circuit, &found)) return fail("compile", &found);
   size_t circuit_len = found.count;
   lzk_circuit_info(circuit, circuit_len, &info);
-  printf("circuit: %zu bytes, %u public, %u private, %u layers, %u checks\n", circuit_len, info.publics, info.privates, info.layers, info.checks);
+  printf("circuit: %zu bytes, %u public, %u private, %u layers, %u checks\n", circuit_len, info.publics, info.privates,
+         info.layers, info.checks);
 
   if (lzk_random_seed(seed)) return LZK_NO_RANDOM;
   uint32_t answer = lzk_prove(circuit, circuit_len, at(words[2]), strlen(words[2]), at(words[3]), strlen(words[3]), at("nonce"), 5, seed, proof,

@@ -47,6 +47,7 @@ static void explained(const uint8_t *file, size_t size, const char *numbers, con
 int main(void) {
   static const char source[] = "field goldilocks\npublic y\nprivate x\nassert x*x = y\n";
   lzk_outcome found;
+  lzk_info info;
   char text[LZK_MOST_TEXT], little[9];
   made(compiled(3, source), "NoVersion: there is no such version of circuits; take 1 or 2");
   made(compiled(1, "assert 1 = 1\n"), "source at line 1: NoField: the first statement is no `field` line; begin with `field goldilocks` or `field gf2_128`");
@@ -75,6 +76,11 @@ int main(void) {
   made(found, "circuit at byte 0: Magic: the bytes begin with neither LZC1 nor LZC2; is this another file, a proof or a source?");
   lzk_upgrade(circuit, len - 1, second, 9, &found);
   made(found, "circuit at byte *");
+
+  lzk_circuit_info(circuit, len, &info);
+  expect(lzk_info_text(&info, text, sizeof text), "field goldilocks, version 1, public 1, private 1, layers 1, checks 1, id *");
+  lzk_circuit_info(proof, proof_len, &info);
+  expect(lzk_info_text(&info, text, sizeof text), "circuit at byte 0: Magic: *");
 
   explained(circuit, len, "9", "nonce", proof, proof_len, "accepted");
   explained(circuit, len, "9", "other", proof, proof_len, "rejected: path count *");

@@ -273,6 +273,20 @@ pub struct Info {
     pub id: [u8; 32],
 }
 
+/// One line with all of it.
+impl fmt::Display for Info {
+    fn fmt(&self, f: &mut fmt::Formatter<'_>) -> fmt::Result {
+        let field = match self.field {
+            Field::Goldilocks => "goldilocks",
+            Field::Gf2_128 => "gf2_128",
+        };
+        write!(f, "field {field}, version {}, ", self.version)?;
+        write!(f, "public {}, private {}, ", self.publics, self.privates)?;
+        write!(f, "layers {}, checks {}, ", self.layers, self.checks)?;
+        write!(f, "id {}", hex(&self.id))
+    }
+}
+
 fn version_fits() -> Result<(), Error> {
     // No pointer is handed over.
     if unsafe { raw::lzk_version() } == 2 {

@@ -11,6 +11,10 @@ fn proves_and_verifies() -> Result<(), Error> {
     for version in [Version::One, Version::Two] {
         let circuit = compile(SQUARE, version)?;
         assert_eq!(circuit_info(&circuit)?.version, version as u32);
+        assert!(circuit_info(&circuit)?.to_string().starts_with(&format!(
+            "field goldilocks, version {}, public 1, private 1, layers 1, checks 1, id ",
+            version as u32
+        )));
         evaluate(&circuit, b"9", b"3")?;
         let proof = prove(&circuit, &text(&[9]), &text(&[3]), b"nonce", &SEED)?;
         assert_eq!(verify(&circuit, b"9", b"nonce", &proof)?, Verdict::Accepted);
