@@ -1,6 +1,6 @@
 //! The draws of a proof's own tape, as one of the lists that `count` counts; and how evenly words pick columns.
 
-ghost use Rattle.lzk_soundness.specs.Drawn.Picks.{BiasIsSmall, PicksAreEven, TapesPick};
+ghost use Rattle.lzk_soundness.specs.Drawn.Picks.{BiasIsSmall, PicksAreEven, SetsAreEven, SetsArePicked, TapesPick};
 ghost use Rattle.lzk_soundness.specs.Drawn.Tape.{DrawsAreCounted, PassingIsCounted};
 
 use lzk_field::Field;
@@ -13,9 +13,11 @@ pub fn drawn_laws<F: Field>()
 {}
 
 /// A tape picks columns by words: any different columns, in any order, are picked by equally many lists of words of 128
-/// bits, but for one part in 2^108. Each set has as many orders, so this holds of sets.
+/// bits, but for one part in 2^108, and so is each set of them.
 pub fn pick_laws<F: Field>()
     ensures tape { TapesPick }
     ensures even { PicksAreEven }
+    ensures picked { SetsArePicked }
+    ensures sets { SetsAreEven }
     ensures bias { BiasIsSmall F.ops }
 {}

@@ -19,7 +19,7 @@ use Rattle.lzk_soundness.specs.Chance.Few.{AreDistinct}
 use Rattle.lzk_soundness.proofs.ChanceLaws.Counting.{count-most, count-append, count-map}
 use Rattle.lzk_soundness.proofs.ChanceLaws.Sets.{count-none, four}
 use Rattle.lzk_soundness.proofs.ChanceLaws.Splitting.{count-ext}
-use Rattle.lzk_soundness.specs.Drawn.Picks.{picked_by, onto, TapesPick, are_same, least_words, most_words, picking_count, PicksAreEven, BiasIsSmall}
+use Rattle.lzk_soundness.specs.Drawn.Picks.{picked_by, onto, TapesPick, are_same, least_words, most_words, picking_count, all_in, orders, set_count, PicksAreEven, SetsArePicked, SetsAreEven, BiasIsSmall}
 
 -- ---- counting in a range
 
@@ -178,6 +178,19 @@ module _ (L : ℕ) (some : 0 < L) (P : ℕ → Bool) where
   fewer : (r : ℕ) → r ≤ L → f r ≤ f L
   fewer r h = let z : r + (L - r) ≡ L = omega (arith, h) in omega (arith, range_split T 0 r (L - r), ap f z)
 
+  -- of C places in L each has as many numbers
+  places_count : (n C : ℕ) → count P (range_with_len 0 L) ≡ C → (C * (n / L) ≤ f n) × (f n ≤ C * (n / L + 1))
+  places_count n C once =
+      let q = n / L in
+      let r = n % L in
+      let parts : r + q * L ≡ n = omega (arith, div-add-mod' n L) in
+      let is : f n ≡ f r + q * f L = ap f (sym parts) ∙ many r q in
+      let one : f L ≡ C = block ∙ once in
+      let all : q * f L ≡ C * q = ap (λ (x : ℕ). q * x) one ∙ mul_comm q C in
+      let up : C * (q + 1) ≡ C * q + C = mul_comm C (q + 1) ∙ omega (arith, add-mul q 1 C, mul_comm q C) in
+      let few : f r ≤ f L = fewer r (omega (arith, mod-lt n some)) in
+      (omega (arith, is, all), omega (arith, is, all, few, one, up))
+
   -- a place that one in L numbers has
   pub place_count : (n : ℕ) → count P (range_with_len 0 L) ≡ 1 → (n / L ≤ f n) × (f n ≤ n / L + 1)
   place_count n once =
@@ -259,6 +272,203 @@ picks_even = λ mcol n columns distinct below.
     let z : mcol - 0 ≡ mcol = omega arith in (
       subst (λ (m : ℕ). least_words n m (length columns) ≤ picking_count mcol n columns) z both.0,
       subst (λ (m : ℕ). picking_count mcol n columns ≤ most_words n m (length columns)) z both.1,
+    ))
+
+-- ---- sets
+
+count_sub : (p q : ℕ → Bool) (xs : List ℕ) → ((x : ℕ) → p x ≡ true → q x ≡ true) → count q xs ≡ count p xs + count (λ x. not (p x) && q x) xs
+count_sub p q [] inside = refl
+count_sub p q (x ∷ xs) inside = omega (arith, one (p x) refl, count_sub p q xs inside)
+  where
+    one : (b : Bool) → p x ≡ b → cond {A = ℕ} (q x) 1 0 ≡ cond {A = ℕ} b 1 0 + cond {A = ℕ} (not b && q x) 1 0
+    one true is = ap (λ (b : Bool). cond {A = ℕ} b 1 0) (inside x is) ∙ omega arith
+    one false is = omega arith
+
+none_passes : (t : ℕ → Bool) (a k x : ℕ) → count t (range_with_len a k) ≡ 0 → a ≤ x → x < a + k → t x ≡ false
+none_passes t a zero x none l h = absurd (omega (arith, l, h))
+none_passes t a (suc k) x none l h = elim (dec_lt a x) [
+  | yes more ↦ none_passes t (a + 1) k x (omega (arith, none)) (omega (arith, more)) (omega (arith, h))
+  | no same ↦ let z : a ≡ x = omega (arith, l, same) in subst (λ (y : ℕ). t y ≡ false) z (here (t a) refl none)
+]
+  where
+    here : (b : Bool) → t a ≡ b → cond {A = ℕ} b 1 0 + count t (range_with_len (a + 1) k) ≡ 0 → t a ≡ false
+    here true is sum = absurd (omega (arith, sum))
+    here false is sum = is
+
+has_all_in : (s xs : List ℕ) → all_in s xs ≡ true → (x : ℕ) → has x xs ≡ true → has x s ≡ true
+has_all_in s [] all x is = absurd (false≢true is)
+has_all_in s (y ∷ ys) all x is = go (nat_eq y x) refl is (has y s) refl all (λ rest. has_all_in s ys rest x)
+  where
+    go : (b : Bool) → nat_eq y x ≡ b → (b || has x ys) ≡ true → (h : Bool) → has y s ≡ h → (h && all_in s ys) ≡ true → (all_in s ys ≡ true → has x ys ≡ true → has x s ≡ true) → has x s ≡ true
+    go b same there false is_y both rest = absurd (false≢true both)
+    go true same there true is_y both rest = subst (λ (z : ℕ). has z s ≡ true) (eqb-true y x same) is_y
+    go false same there true is_y both rest = rest both there
+
+all_in_by : (s xs : List ℕ) → ((x : ℕ) → has x xs ≡ true → has x s ≡ true) → all_in s xs ≡ true
+all_in_by s [] inside = refl
+all_in_by s (y ∷ ys) inside =
+    ap (λ b. b && all_in s ys) (inside y (ap (λ b. b || has y ys) (eq-eqb y y refl)))
+    ∙ all_in_by s ys (λ x is. inside x (either (nat_eq y x) (has x ys) is))
+  where
+    either : (b c : Bool) → c ≡ true → (b || c) ≡ true
+    either true c is = refl
+    either false c is = is
+
+below_has : (mcol : ℕ) (xs : List ℕ) → AllByRecursion (λ c. c < mcol) xs → (x : ℕ) → has x xs ≡ true → x < mcol
+below_has mcol [] below x is = absurd (false≢true is)
+below_has mcol (y ∷ ys) below x is = go (nat_eq y x) refl is (below_has mcol ys below.1 x)
+  where
+    go : (b : Bool) → nat_eq y x ≡ b → (b || has x ys) ≡ true → (has x ys ≡ true → x < mcol) → x < mcol
+    go true same there rest = let z : y ≡ x = eqb-true y x same in omega (arith, z, below.0)
+    go false same there rest = rest there
+
+-- what is left passes the test
+numbers_pass : (low n : ℕ) (test : ℕ → Bool) (i : ℕ) → i < length (numbers_from low n test) → (test (slice_index (numbers_from low n test) i) ≡ true) × (slice_index (numbers_from low n test) i < low + n)
+unfolding numbers_from
+numbers_pass low zero test i h = absurd (omega (arith, h))
+numbers_pass low (suc n) test i h = go (test low) refl i h (numbers_pass (suc low) n test)
+  where
+    N : List ℕ
+    N = numbers_from (suc low) n test
+
+    go : (b : Bool) → test low ≡ b → (i : ℕ) → i < length (cond b (low ∷ numbers_from (suc low) n test) (numbers_from (suc low) n test))
+        → ((i : ℕ) → i < length (numbers_from (suc low) n test) → (test (slice_index (numbers_from (suc low) n test) i) ≡ true) × (slice_index (numbers_from (suc low) n test) i < suc low + n))
+        → (test (slice_index (cond b (low ∷ numbers_from (suc low) n test) (numbers_from (suc low) n test)) i) ≡ true) × (slice_index (cond b (low ∷ numbers_from (suc low) n test) (numbers_from (suc low) n test)) i < low + suc n)
+    go true is zero h rest = (is, omega arith)
+    go true is (suc i) h rest = let one = rest i (omega (arith, h)) in (one.0, omega (arith, one.1))
+    go false is i h rest = let one = rest i h in (one.0, omega (arith, one.1))
+
+-- the picks are different columns of which none was picked before
+record ArePicked (mcol : ℕ) (before xs : List ℕ) (k : ℕ) : Type 0 where
+  pub count : length xs ≡ k
+  pub distinct : AreDistinct xs
+  pub below : AllByRecursion (λ c. c < mcol) xs
+  pub new : AllByRecursion (λ c. has c before ≡ false) xs
+
+not_true : (b : Bool) → not b ≡ true → b ≡ false
+not_true true is = absurd (false≢true is)
+not_true false is = refl
+
+apart_of : (c : ℕ) (before xs : List ℕ) → AllByRecursion (λ y. has y (c ∷ before) ≡ false) xs → AllByRecursion (λ y. c ≢ y) xs × AllByRecursion (λ y. has y before ≡ false) xs
+apart_of c before [] all = (tt, tt)
+apart_of c before (y ∷ ys) all =
+    let rest = apart_of c before ys all.1 in
+    let one = go (nat_eq c y) refl all.0 in ((one.0, rest.0), (one.1, rest.1))
+  where
+    go : (b : Bool) → nat_eq c y ≡ b → (b || has y before) ≡ false → (c ≢ y) × (has y before ≡ false)
+    go true is free = absurd (false≢true (sym free))
+    go false is free = (λ e. false≢true (sym is ∙ eq-eqb c y e), free)
+
+picked_are : (mcol : ℕ) (before ws : List ℕ) → AreDistinct before → AllByRecursion (λ c. c < mcol) before → length before + length ws ≤ mcol → ArePicked mcol before (picked_by mcol before ws) (length ws)
+picked_are mcol before [] distinct below room = record { count = refl; distinct = tt; below = tt; new = tt }
+picked_are mcol before (w ∷ ws) distinct below room =
+    let L = mcol - length before in
+    let left = left_columns mcol before in
+    let some : 0 < L = omega (arith, room) in
+    let inside : w % L < length left = omega (arith, mod-lt w some, left_long mcol before distinct below) in
+    let one = numbers_pass 0 mcol (λ x. not (has x before)) (w % L) inside in
+    let c = slice_index left (w % L) in
+    let free : has c before ≡ false = not_true (has c before) one.0 in
+    let low : c < mcol = omega (arith, one.1) in
+    let rest = picked_are mcol (c ∷ before) ws (not_has c before free, distinct) (low, below) (omega (arith, room)) in
+    let apart = apart_of c before (picked_by mcol (c ∷ before) ws) rest.new in
+    record { count = ap suc rest.count; distinct = (apart.0, rest.distinct); below = (low, rest.below); new = (free, apart.1) }
+
+pub sets_picked : SetsArePicked
+sets_picked = λ mcol columns ws distinct below long room.
+    (let xs = picked_by mcol [] ws in
+    let are = picked_are mcol [] ws tt tt (omega (arith, long, room)) in (
+      λ all x h.
+          (let inside : (y : ℕ) → has y xs ≡ true → has y columns ≡ true = has_all_in columns xs all in
+          let sub = count_sub (λ y. has y xs) (λ y. has y columns) (range_with_len 0 mcol) inside in
+          let mine = count_has mcol xs are.distinct are.below in
+          let whole = count_has mcol columns distinct below in
+          let rest : count (λ y. not (has y xs) && has y columns) (range_with_len 0 mcol) ≡ 0 = omega (arith, sub, mine, whole, are.count, long) in
+          let none = none_passes (λ y. not (has y xs) && has y columns) 0 mcol x rest (omega arith) (omega (arith, h)) in
+          same (has x xs) (has x columns) (has x xs) refl (has x columns) refl none (inside x)),
+      λ equal. all_in_by columns xs (λ x is. sym (equal x (below_has mcol xs are.below x is)) ∙ is),
+    ))
+  where
+    same : (x y b : Bool) → x ≡ b → (d : Bool) → y ≡ d → (not x && y) ≡ false → (x ≡ true → y ≡ true) → x ≡ y
+    same x y true is d other none up = is ∙ sym (up is)
+    same x y false is true other none up = absurd (false≢true (sym none ∙ ap (λ z. not z && y) is ∙ other))
+    same x y false is false other none up = is ∙ sym other
+
+-- how many of the columns that are left stand in a set of which some are picked
+left_in : (mcol : ℕ) (before s : List ℕ) → AreDistinct before → AllByRecursion (λ c. c < mcol) before → AreDistinct s → AllByRecursion (λ c. c < mcol) s → all_in s before ≡ true
+    → count (λ x. has x s) (left_columns mcol before) + length before ≡ length s
+left_in mcol before s distinct below apart inside all =
+    let sub = count_sub (λ y. has y before) (λ y. has y s) (range_with_len 0 mcol) (has_all_in s before all) in
+    omega (arith, numbers_count (λ x. has x s) (λ x. not (has x before)) 0 mcol, sub, count_has mcol before distinct below, count_has mcol s apart inside)
+
+bounded_pairs : (P : ℕ → Bool) (T : List ℕ → Bool) (R : List (List ℕ)) (lo hi : ℕ)
+    → ((w : ℕ) → P w ≡ true → (lo ≤ count (λ r. T (w ∷ r)) R) × (count (λ r. T (w ∷ r)) R ≤ hi)) → ((w : ℕ) → P w ≡ false → count (λ r. T (w ∷ r)) R ≡ 0) → (ds : List ℕ)
+    → (count P ds * lo ≤ count T (flat_map (λ d. map (λ rest. d ∷ rest) R) ds)) × (count T (flat_map (λ d. map (λ rest. d ∷ rest) R) ds) ≤ count P ds * hi)
+bounded_pairs P T R lo hi in_set not_in [] = (omega (arith, zero-mul lo), omega (arith, zero-mul hi))
+bounded_pairs P T R lo hi in_set not_in (d ∷ ds) =
+    let rest = bounded_pairs P T R lo hi in_set not_in ds in
+    let front = count-append T (map (λ rest. d ∷ rest) R) (flat_map (λ d. map (λ rest. d ∷ rest) R) ds) in
+    let first = count-map (λ rest. d ∷ rest) T R in
+    let one = go (P d) refl in
+    (omega (arith, front, first, one.0, rest.0, add-mul (cond {A = ℕ} (P d) 1 0) (count P ds) lo), omega (arith, front, first, one.1, rest.1, add-mul (cond {A = ℕ} (P d) 1 0) (count P ds) hi))
+  where
+    go : (b : Bool) → P d ≡ b → (cond {A = ℕ} b 1 0 * lo ≤ count (λ r. T (d ∷ r)) R) × (count (λ r. T (d ∷ r)) R ≤ cond {A = ℕ} b 1 0 * hi)
+    go true is = let both = in_set d is in (omega (arith, both.0), omega (arith, both.1))
+    go false is = let none = not_in d is in (omega (arith, none, zero-mul lo), omega (arith, none, zero-mul hi))
+
+module _ (mcol n : ℕ) (s : List ℕ) (apart : AreDistinct s) (inside : AllByRecursion (λ c. c < mcol) s) where
+  abbrev S : List ℕ → ℕ → ℕ
+  S before k = count (λ ws. all_in s (picked_by mcol before ws)) (draws_from (range_with_len 0 n) k)
+
+  sets_from : (k : ℕ) (before : List ℕ) → AreDistinct before → AllByRecursion (λ c. c < mcol) before → all_in s before ≡ true → k + length before ≡ length s
+      → (orders k * least_words n (mcol - length before) k ≤ S before k) × (S before k ≤ orders k * most_words n (mcol - length before) k)
+  sets_from zero before distinct below all long = (omega arith, omega arith)
+  sets_from (suc k) before distinct below all long =
+      let L = mcol - length before in
+      let left = left_columns mcol before in
+      let pick : ℕ → ℕ = λ w. slice_index left (w % L) in
+      let P : ℕ → Bool = λ w. has (pick w) s in
+      let R = draws_from (range_with_len 0 n) k in
+      let T : List ℕ → Bool = λ ws. all_in s (picked_by mcol before ws) in
+      let ds = range_with_len 0 n in
+      let size = left_long mcol before distinct below in
+      let there : count (λ x. has x s) left ≡ suc k = omega (arith, left_in mcol before s distinct below apart inside all, long) in
+      let some : 0 < L = omega (arith, size, there, count-most (λ x. has x s) left) in
+      let once : count (λ r. has (slice_index left r) s) (range_with_len 0 L) ≡ suc k =
+      ap (λ (j : ℕ). count (λ r. has (slice_index left r) s) (range_with_len 0 j)) (sym size) ∙ index_count (λ x. has x s) left ∙ there in
+      let many_picks = places_count L some (λ r. has (slice_index left r) s) n (suc k) once in
+      let lo = orders k * least_words n (L - 1) k in
+      let hi = orders k * most_words n (L - 1) k in
+      let z : mcol - suc (length before) ≡ L - 1 = omega arith in
+      let deeper : (w : ℕ) → P w ≡ true → (lo ≤ S (pick w ∷ before) k) × (S (pick w ∷ before) k ≤ hi) =
+      λ w is.
+      (let at : w % L < length left = omega (arith, mod-lt w some, size) in
+      let one = numbers_pass 0 mcol (λ x. not (has x before)) (w % L) at in
+      let free : has (pick w) before ≡ false = not_true (has (pick w) before) one.0 in
+      let low : pick w < mcol = omega (arith, one.1) in
+      let rest = sets_from k (pick w ∷ before) (not_has (pick w) before free, distinct) (low, below) (ap (λ b. b && all_in s before) is ∙ all) (omega (arith, long)) in
+      (subst (λ (m : ℕ). orders k * least_words n m k ≤ S (pick w ∷ before) k) z rest.0, subst (λ (m : ℕ). S (pick w ∷ before) k ≤ orders k * most_words n m k) z rest.1)) in
+      let in_set : (w : ℕ) → P w ≡ true → (lo ≤ count (λ r. T (w ∷ r)) R) × (count (λ r. T (w ∷ r)) R ≤ hi) =
+      λ w is.
+      (let equal : count (λ r. T (w ∷ r)) R ≡ S (pick w ∷ before) k =
+      count-ext (λ r. has (pick w) s && all_in s (picked_by mcol (pick w ∷ before) r)) (λ r. all_in s (picked_by mcol (pick w ∷ before) r)) R (λ r. ap (λ b. b && all_in s (picked_by mcol (pick w ∷ before) r)) is) in
+      let both = deeper w is in (omega (arith, equal, both.0), omega (arith, equal, both.1))) in
+      let not_in : (w : ℕ) → P w ≡ false → count (λ r. T (w ∷ r)) R ≡ 0 =
+      λ w is. count-none (λ r. T (w ∷ r)) R (λ r won. false≢true (sym (ap (λ b. b && all_in s (picked_by mcol (pick w ∷ before) r)) is) ∙ won)) in
+      let pairs = bounded_pairs P T R lo hi in_set not_in ds in
+      let X = count P ds in
+      let q = n / L in
+      let low_end : suc k * q * lo ≤ X * lo = mul-le-mul_right lo many_picks.0 in
+      let high_end : X * hi ≤ suc k * (q + 1) * hi = mul-le-mul_right hi many_picks.1 in
+      (omega (arith, pairs.0, low_end, four (suc k) q (orders k) (least_words n (L - 1) k)), omega (arith, pairs.1, high_end, four (suc k) (q + 1) (orders k) (most_words n (L - 1) k)))
+
+pub sets_even : SetsAreEven
+sets_even = λ mcol n columns distinct below.
+    (let whole : length columns + 0 ≡ length columns = omega arith in
+    let both = sets_from mcol n columns distinct below (length columns) [] tt tt refl whole in
+    let z : mcol - 0 ≡ mcol = omega arith in (
+      subst (λ (m : ℕ). orders (length columns) * least_words n m (length columns) ≤ set_count mcol n columns) z both.0,
+      subst (λ (m : ℕ). set_count mcol n columns ≤ orders (length columns) * most_words n m (length columns)) z both.1,
     ))
 
 -- ---- a tape's picks

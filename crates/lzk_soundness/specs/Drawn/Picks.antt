@@ -1,11 +1,11 @@
 -- The columns that words pick, and how evenly they are picked.
 use Rattle.lzk_profile.specs.Profile.{opened_count}
-use Rattle.std.specs.Prelude.{◌≡◌, ℕ, ◌+◌, ◌-◌, ◌*◌, ◌/◌, ◌%◌, ◌^◌, ◌<◌, ◌≤◌, ◌&&◌, nat_eq, Bool, true, false, List, [], ◌∷◌, length, map, slice_index}
+use Rattle.std.specs.Prelude.{◌≡◌, ◌↔◌, ℕ, ◌+◌, ◌-◌, ◌*◌, ◌/◌, ◌%◌, ◌^◌, ◌<◌, ◌≤◌, ◌&&◌, nat_eq, Bool, true, false, List, [], ◌∷◌, length, map, slice_index}
 use Rattle.std.specs.List.{AllByRecursion, range_with_len}
 use Rattle.std.proofs.Common.{zero, suc}
 use Rattle.lzk_field.specs.Ring.{Ops}
 use Rattle.lzk_transcript.specs.Tape.{TapeState}
-use Rattle.lzk_transcript.specs.Columns.{draw_at, left_columns, picks}
+use Rattle.lzk_transcript.specs.Columns.{draw_at, has, left_columns, picks}
 use Rattle.lzk_circuit.specs.Valid.{Wiring, IsValid}
 use Rattle.lzk_layout.specs.Sizes.{params_of}
 use Rattle.lzk_soundness.specs.Chance.Draws.{count, draws_from}
@@ -56,6 +56,34 @@ abbrev pub PicksAreEven : Type 0
 PicksAreEven = (mcol n : ℕ) (columns : List ℕ) → AreDistinct columns → AllByRecursion (λ c. c < mcol) columns
     → (least_words n mcol (length columns) ≤ picking_count mcol n columns)
     × (picking_count mcol n columns ≤ most_words n mcol (length columns))
+
+-- all entries of a list stand in another
+abbrev pub all_in : List ℕ → List ℕ → Bool
+all_in columns [] = true
+all_in columns (x ∷ xs) = has x columns && all_in columns xs
+
+-- how many orders k things have
+abbrev pub orders : ℕ → ℕ
+orders zero = 1
+orders (suc k) = suc k * orders k
+
+-- As many words as a set has columns pick it where each pick is in it.
+abbrev pub SetsArePicked : Type 0
+SetsArePicked = (mcol : ℕ) (columns ws : List ℕ) → AreDistinct columns → AllByRecursion (λ c. c < mcol) columns
+    → length ws ≡ length columns → length columns ≤ mcol
+    → (all_in columns (picked_by mcol [] ws) ≡ true)
+    ↔ ((x : ℕ) → x < mcol → has x (picked_by mcol [] ws) ≡ has x columns)
+
+-- how many lists of words below n pick this set of columns
+abbrev pub set_count : ℕ → ℕ → List ℕ → ℕ
+set_count mcol n columns =
+    count (λ ws. all_in columns (picked_by mcol [] ws)) (draws_from (range_with_len 0 n) (length columns))
+
+-- So each set of columns is picked by so many lists of words: those of each of its orders.
+abbrev pub SetsAreEven : Type 0
+SetsAreEven = (mcol n : ℕ) (columns : List ℕ) → AreDistinct columns → AllByRecursion (λ c. c < mcol) columns
+    → (orders (length columns) * least_words n mcol (length columns) ≤ set_count mcol n columns)
+    × (set_count mcol n columns ≤ orders (length columns) * most_words n mcol (length columns))
 
 -- For 128 columns of a valid circuit and words of 128 bits these two numbers differ by at most one part in 2^108.
 abbrev pub BiasIsSmall : {A : Type 0} → Ops A → Type 0
