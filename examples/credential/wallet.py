@@ -24,8 +24,14 @@ class Records:
 
     def __init__(self, wallet):
         self.path = os.path.join(wallet, "shown")
-        self.records = json.loads(C.read_text(os.path.join(wallet, "records.json")))
-        self.shown = int(C.read_text(self.path)) if os.path.exists(self.path) else 0
+        try:
+            self.records = json.loads(C.read_text(os.path.join(wallet, "records.json")))
+            self.shown = int(C.read_text(self.path)) if os.path.exists(self.path) else 0
+            # Each has a record, and a signature or a root with its path.
+            for entry in self.records:
+                bytes.fromhex(entry["record"] + entry.get("root", "") + entry.get("signature", "") + "".join(entry.get("path", [])))
+        except C.MALFORMED:
+            raise Refused(f"a file of {wallet} has not its form: take it from a copy, or get new records") from None
 
     def next(self, again):
         """A record that was not shown, or the last one once more, with its signature."""
