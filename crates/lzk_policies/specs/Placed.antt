@@ -37,8 +37,8 @@ IsDigestRefusal p m vs Depth = ⊥
 IsDigestRefusal p m vs Index = ⊥
 IsDigestRefusal p m vs OutOfMemory = Unit {0}
 
--- The policy says another depth; or, where it says that there are levels, a place under a root is refused; or record and
--- values are. They are told in this order.
+-- The policy says another depth; or, where it says that there are levels, a place under a root is refused; or record
+-- and values are. They are told in this order.
 abbrev pub IsCredentialRefusal : Contents → List ℕ → List Value → ℕ → ℕ → RootedInputsError → Type 0
 IsCredentialRefusal p m vs index depth (Policy e) =
     (depth ≡ p.depth) × (1 ≤ depth → index < 2 ^ depth) × IsRefused p m vs e
