@@ -1,7 +1,7 @@
 -- Few weights open a table that encodes no satisfying inputs.
 use Rattle.lzk_profile.specs.Profile.{opened_count}
 use Rattle.std.specs.Prelude.{◌≡◌, ◌≢◌, ℕ, ◌+◌, ◌-◌, ◌*◌, ◌^◌, ◌<◌, ◌≤◌, cond, Bool, true, List, [], ◌++◌, length, take}
-use Rattle.std.proofs.Common.{inl, inr, sym, ap, ◌∙◌, arith, subst, mul-le-mul_right, take_at, length-append, append_assoc}
+use Rattle.std.proofs.Common.{inl, inr, sym, ap, ◌∙◌, arith, subst, mul-le-mul_right, mul_comm, take_at, length-append, append_assoc}
 use Rattle.std.proofs.lemmas.Bool.{lt-ltb, le-ltb}
 use Rattle.std.proofs.lemmas.List.FromFn.{get_or-map-range_with_len, length-map-range_with_len}
 use Rattle.lzk_field.specs.Coding.{Coding}
@@ -41,7 +41,6 @@ use Rattle.lzk_soundness.proofs.TablesLaws.Far.{columns_apart}
 use Rattle.lzk_soundness.specs.Count.Game.{row_count, weights_in}
 use Rattle.lzk_soundness.specs.Extract.Extraction.{all_elements, extracted}
 use Rattle.lzk_soundness.specs.Count.Laws.{Encodes}
-use Rattle.lzk_soundness.proofs.CountLaws.Count.{product_most}
 use Rattle.lzk_soundness.proofs.CountLaws.Elements.{elements_all}
 use Rattle.lzk_soundness.proofs.CountLaws.Facts.{AreTooMany, other_part}
 use Rattle.lzk_soundness.proofs.CountLaws.Fronts.{front, behind, fronts_few, backs_few}
@@ -54,6 +53,12 @@ use Rattle.lzk_soundness.specs.Ligero.Laws.Held.{nothing, list}
 use Rattle.lzk_soundness.proofs.LigeroLaws.Knowing.{known_of}
 use Rattle.lzk_soundness.proofs.LigeroLaws.Near.{Close, first, second, R, rest, by_gap, by_product, near_few, rest_few}
 use Rattle.lzk_soundness.proofs.LigeroLaws.Same.{plain, placed_same, copy_same, product_same}
+
+product_most : (a b c d : ℕ) → a ≤ c → b ≤ d → a * b ≤ c * d
+product_most a b c d h l =
+    let first : a * b ≤ c * b = mul-le-mul_right b h in
+    let second : b * c ≤ d * c = mul-le-mul_right c l in
+    omega (arith, first, second, mul_comm c b, mul_comm c d)
 
 -- ---- a table that is far from codewords
 
