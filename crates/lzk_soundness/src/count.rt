@@ -1,5 +1,11 @@
 ghost use Rattle.std.specs.Prelude.{◌*◌, ◌^◌};
-ghost use Rattle.lzk_soundness.specs.Count.Laws.{BluffsAreRare, ElementsAreAll, FalseIsRare, PassersKnow};
+ghost use Rattle.lzk_soundness.specs.Count.Laws.{
+  BluffsAreRare,
+  ElementsAreAll,
+  FalseIsRare,
+  PassersAreCounted,
+  PassersKnow,
+};
 ghost use Rattle.lzk_soundness.specs.Count.Numbers.{
   BadAreBounded,
   BluffsPassByOneIn,
@@ -19,6 +25,7 @@ pub fn count_laws<F: Field>()
     ensures bluffs { BluffsAreRare F.ops F.coding }
     ensures rare { FalseIsRare F.ops F.coding }
     ensures elements { ElementsAreAll F.coding }
+    ensures players { PassersAreCounted F.ops F.coding }
 {}
 
 /// The count for every circuit: at most 28,345 bad elements, and one set of columns in 3 * 2^53. So over the numbers

@@ -40,6 +40,16 @@ pub record IsPlayer {A : Type 0} (o : Ops A) (e : Coding A) (c : Wiring A) (publ
       → wins draws columns ≡ true
       → IsPassed o e c public strategy draws columns
 
+-- Each prover of such a circuit is one, with each test that says yes only where he passes: it may say yes to some draws
+-- and columns, and no to others.
+abbrev pub PassersAreCounted : {A : Type 0} → Ops A → Coding A → Type 0
+PassersAreCounted {A} o e =
+    (c : Wiring A) (public : List A) (strategy : Strategy A) (wins : List A → List ℕ → Bool)
+    → IsValid o c → length public ≡ c.publics → IsProver o c strategy.messages
+    → ((draws : List A) (columns : List ℕ) → length draws ≡ whole_count c → length columns ≡ opened_count
+    → wins draws columns ≡ true → IsPassed o e c public strategy draws columns)
+    → IsPlayer o e c public strategy wins
+
 -- one whose table does not encode private inputs that satisfy, whether or not there are any
 pub record IsBluff {A : Type 0} (o : Ops A) (e : Coding A) (c : Wiring A) (public : List A) (strategy : Strategy A)
     (wins : List A → List ℕ → Bool) : Type 0 where

@@ -13,3 +13,11 @@ returns-clause-rare g c = let m = g.F.Field in λ c public strategy wins cheat l
 
 pub returns-clause-elements : goal.returns-clause-elements
 returns-clause-elements g c = let m = g.F.Field in elements_all m.coding m.laws.numbers
+
+pub returns-clause-players : goal.returns-clause-players
+returns-clause-players g c = λ c public strategy wins valid publics prover only. record {
+  valid = valid;
+  publics = publics;
+  prover = prover;
+  only = only;
+}
