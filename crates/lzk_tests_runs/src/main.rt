@@ -2,8 +2,9 @@
 //!
 //! The file `runs.txt` lists them, as docs/TESTING.md says. A line is printed for each run that went otherwise, and
 //! at the end how many runs there were, how many went as expected, and how many of these by faults and in pieces too.
-//! After that it is `zk` and `zk-credential` themselves, over words that end with each status, and at last `zk` over its
-//! own words, where inputs do not satisfy a circuit: `main` reads real files, and ends with what `run` answers.
+//! After that it is `zk` and `zk-credential` themselves, over words that end with statuses 0 and 2 to 5, and at last
+//! `zk` over its own words, where inputs do not satisfy a circuit: `main` reads real files, and ends with what `run`
+//! answers.
 #![tactic(auto)]
 
 mod case;
