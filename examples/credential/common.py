@@ -236,8 +236,10 @@ def read_text(path):
 
 def run(program, *words, memory=None):
     """The status of a program, and what it prints. What it makes this user alone may read. Over files in memory, which are
-    secret, it says nothing of their lines on standard error."""
-    passed = {"pass_fds": tuple(memory.files.values()), "env": {**os.environ, "ZK_LINT": "0"}} if memory else {}
+    secret, it says nothing of their lines on standard error, and `show` is read again at each step."""
+    passed = {"pass_fds": tuple(memory.files.values())} if memory else {}
+    if memory or words[0] == "show":
+        passed["env"] = {**os.environ, "ZK_LINT": "0"}
     path = os.environ.get(program, PROGRAMS[program])
     ran = subprocess.run([path, *words], stdout=subprocess.PIPE, text=True, check=False, umask=0o077, **passed)
     return ran.returncode, ran.stdout
