@@ -5,3 +5,4 @@ pub mod Primality
 pub mod Elements
 pub mod Roots
 pub mod Word
+pub mod Drawn

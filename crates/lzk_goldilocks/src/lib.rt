@@ -17,6 +17,8 @@
 mod arithmetic;
 mod element;
 mod roots;
+mod words;
 
 pub use element::Gold;
 pub use roots::root_of_unity;
+pub use words::Drawn;
