@@ -1,4 +1,5 @@
 -- How far the elements of random words are from uniform.
+use Rattle.lzk_shares.specs.Shares.{most_random}
 use Rattle.std.specs.Prelude.{ℕ, ◌-◌, ◌*◌, ◌%◌, ◌^◌, ◌≤◌}
 use Rattle.lzk_field.specs.Ring.{Ops}
 use Rattle.lzk_circuit.specs.Valid.{Wiring, IsValid}
@@ -17,4 +18,4 @@ IsSmall size n times by = times * excess size n * 2 ^ by ≤ size * n
 
 -- no valid circuit has more random elements
 abbrev pub RandomAreFew : {A : Type 0} → Ops A → Type 0
-RandomAreFew {A} o = (c : Wiring A) → IsValid o c → random_count (params_of c) ≤ 72574
+RandomAreFew {A} o = (c : Wiring A) → IsValid o c → random_count (params_of c) ≤ most_random

@@ -1,5 +1,6 @@
 //! Laws of the definitions, as contracts of functions that do nothing.
 
+ghost use Rattle.lzk_shares.specs.Shares.{drawn_below, element_bias, most_random, prime_size, proof_bias};
 ghost use Rattle.lzk_hiding.specs.Honest.{HonestPass};
 ghost use Rattle.lzk_hiding.specs.Laws.{
   CountsAgree,
@@ -54,12 +55,13 @@ pub fn simulator_laws<F: Field>()
     ensures hides { Hides F.ops F.coding }
 {}
 
-/// A Goldilocks element of a random word is within 2^-96 of uniform, and all random elements of a proof together, of
-/// which no circuit has more than 72,574, within 2^-79. Over GF(2^128) each element has one word.
+/// An element of the prime field, drawn of random words, is within 2^-element_bias of uniform, and all random elements
+/// of a proof together, of which no circuit has more than most_random, within 2^-proof_bias: in LZK1 2^-96, 72,574 and
+/// 2^-79. Over GF(2^128) each element has one word.
 pub fn word_laws<F: Field>()
     ensures few { RandomAreFew F.ops }
-    ensures one { IsSmall 18446744069414584321 340282366920938463463374607431768211456 1 96 }
-    ensures all { IsSmall 18446744069414584321 340282366920938463463374607431768211456 72574 79 }
+    ensures one { IsSmall prime_size drawn_below 1 element_bias }
+    ensures all { IsSmall prime_size drawn_below most_random proof_bias }
 {}
 
 /// Root and path of a prover's proof are made of what is seen, the nonces and the digests of the other columns. By a

@@ -2,6 +2,7 @@
 use Rattle.std.specs.Prelude.{◌≡◌, ℕ, ◌+◌, ◌-◌, ◌^◌, ◌≤◌, Bool, List, length}
 use Rattle.std.proofs.Common.{refl, ◌∙◌}
 use Rattle.std.proofs.lemmas.Bool.{leb-true}
+use Rattle.lzk_shares.specs.Shares.{prime_size, most_bad, prime_share, few_share}
 use Rattle.lzk_goldilocks.specs.Elements.{ops, laws}
 use Rattle.lzk_goldilocks.specs.Prime.{p}
 use Rattle.lzk_goldilocks.specs.declared.element.Gold.{Gold}
@@ -17,14 +18,14 @@ use Rattle.lzk_soundness.specs.Count.Game.{Strategy}
 use Rattle.lzk_soundness.specs.Count.Laws.{Knows, IsPlayer}
 use Rattle.lzk_soundness.specs.Count.Numbers.{BluffsPassByOneIn}
 use Rattle.lzk_soundness.proofs.CountLaws.Count.{passers_know}
-use Rattle.lzk_soundness.proofs.CountLaws.Numbers.{goldilocks_share, goldilocks_few_share}
+use Rattle.lzk_soundness.proofs.CountLaws.Numbers.{prime_passes, few_passes}
 use Rattle.lzk_policy_known.specs.Known.{gold_coding, IsCircuitOf, PassersHoldRecords, RecordlessPassByOneIn}
 
 pub large : 2 ^ 18 ≤ p
 large = leb-true (2 ^ 18) p refl
 
-pub whole : 2 ^ 64 - 2 ^ 32 + 1 ≤ p
-whole = leb-true (2 ^ 64 - 2 ^ 32 + 1) p refl
+pub whole : prime_size ≤ p
+whole = leb-true prime_size p refl
 
 held_where_known : (policy : Contents) (c : Wiring Gold) (public : List Gold) (strategy : Strategy Gold) (wins : List Gold → List ℕ → Bool) → IsCircuitOf policy c → IsPlayer ops gold_coding c public strategy wins
     → Knows ops gold_coding c public strategy → HoldsRecord policy public (extracted ops gold_coding c strategy.table)
@@ -38,12 +39,12 @@ pub passers_hold : PassersHoldRecords
 passers_hold = λ policy c public strategy wins is player often.
     held_where_known policy c public strategy wins is player (passers_know ops gold_coding laws c public strategy wins player large often)
 
-recordless : (bad by : ℕ) → BluffsPassByOneIn ops gold_coding bad by (2 ^ 64 - 2 ^ 32 + 1) → RecordlessPassByOneIn bad by
+recordless : (bad by : ℕ) → BluffsPassByOneIn ops gold_coding bad by prime_size → RecordlessPassByOneIn bad by
 recordless bad by bluffs = λ policy c public strategy wins is player without few.
     bluffs c public strategy wins (record { player = player; unknowing = λ knows. without (held_where_known policy c public strategy wins is player knows) }) few whole
 
-pub any_share : RecordlessPassByOneIn 28345 49
-any_share = recordless 28345 49 (goldilocks_share ops gold_coding laws)
+pub any_bluffs : RecordlessPassByOneIn most_bad prime_share
+any_bluffs = recordless most_bad prime_share (prime_passes ops gold_coding laws)
 
-pub few_share : RecordlessPassByOneIn 1024 53
-few_share = recordless 1024 53 (goldilocks_few_share ops gold_coding laws)
+pub few_bluffs : RecordlessPassByOneIn 1024 few_share
+few_bluffs = recordless 1024 few_share (few_passes ops gold_coding laws)

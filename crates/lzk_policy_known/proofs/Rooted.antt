@@ -2,6 +2,7 @@
 use Rattle.std.specs.Prelude.{◌≡◌, ℕ, ◌+◌, ◌-◌, ◌*◌, ◌^◌, ◌<◌, ◌≤◌, Bool, List, ◌++◌, length, map, take, drop}
 use Rattle.std.proofs.Common.{zero, suc, refl, sym, ap, ◌∙◌, arith, subst, take-take, length-append, length-drop}
 use Rattle.std.proofs.lemmas.List.{length-take-le, take-append-drop}
+use Rattle.lzk_shares.specs.Shares.{prime_size, most_bad, prime_share, few_share}
 use Rattle.lzk_goldilocks.specs.Elements.{ops, of_number, laws}
 use Rattle.lzk_goldilocks.specs.declared.element.Gold.{Gold}
 use Rattle.lzk_circuit.specs.Valid.{Wiring}
@@ -24,7 +25,7 @@ use Rattle.lzk_soundness.specs.Count.Game.{Strategy}
 use Rattle.lzk_soundness.specs.Count.Laws.{Knows, IsPlayer}
 use Rattle.lzk_soundness.specs.Count.Numbers.{BluffsPassByOneIn}
 use Rattle.lzk_soundness.proofs.CountLaws.Count.{passers_know}
-use Rattle.lzk_soundness.proofs.CountLaws.Numbers.{goldilocks_share, goldilocks_few_share}
+use Rattle.lzk_soundness.proofs.CountLaws.Numbers.{prime_passes, few_passes}
 use Rattle.lzk_policy_known.specs.Known.{gold_coding}
 use Rattle.lzk_policy_known.specs.Rooted.{HoldsShown, RecordsUnderAreHeld, IsCredentialOf, PassersHoldShown, ShownlessPassByOneIn}
 use Rattle.lzk_policy_known.proofs.Known.{large, whole}
@@ -78,12 +79,12 @@ pub passers_hold_shown : PassersHoldShown
 passers_hold_shown = λ policy c public strategy wins is player often.
     held_where_known policy c public strategy wins is player (passers_know ops gold_coding laws c public strategy wins player large often)
 
-shownless : (bad by : ℕ) → BluffsPassByOneIn ops gold_coding bad by (2 ^ 64 - 2 ^ 32 + 1) → ShownlessPassByOneIn bad by
+shownless : (bad by : ℕ) → BluffsPassByOneIn ops gold_coding bad by prime_size → ShownlessPassByOneIn bad by
 shownless bad by bluffs = λ policy c public strategy wins is player without few.
     bluffs c public strategy wins (record { player = player; unknowing = λ knows. without (held_where_known policy c public strategy wins is player knows) }) few whole
 
-pub any_shown : ShownlessPassByOneIn 28345 49
-any_shown = shownless 28345 49 (goldilocks_share ops gold_coding laws)
+pub any_shown : ShownlessPassByOneIn most_bad prime_share
+any_shown = shownless most_bad prime_share (prime_passes ops gold_coding laws)
 
-pub few_shown : ShownlessPassByOneIn 1024 53
-few_shown = shownless 1024 53 (goldilocks_few_share ops gold_coding laws)
+pub few_shown : ShownlessPassByOneIn 1024 few_share
+few_shown = shownless 1024 few_share (few_passes ops gold_coding laws)

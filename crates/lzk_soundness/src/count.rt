@@ -1,4 +1,16 @@
-ghost use Rattle.std.specs.Prelude.{◌*◌, ◌^◌};
+ghost use Rattle.lzk_profile.specs.Profile.{most_row};
+ghost use Rattle.lzk_shares.specs.Shares.{
+  binary_share,
+  few_share,
+  long,
+  longest,
+  most_bad,
+  prime_share,
+  prime_size,
+  short,
+  shortest,
+};
+ghost use Rattle.std.specs.Prelude.{◌^◌};
 ghost use Rattle.lzk_soundness.specs.Count.Laws.{
   BluffsAreRare,
   ElementsAreAll,
@@ -9,11 +21,10 @@ ghost use Rattle.lzk_soundness.specs.Count.Laws.{
 ghost use Rattle.lzk_soundness.specs.Count.Numbers.{
   BadAreBounded,
   BluffsPassByOneIn,
-  BluffsPassOnceIn,
-  ColumnsMissOnceIn,
   ColumnsMissRarely,
   PassesByOneIn,
   RowsAreBounded,
+  SharesHold,
 };
 
 use lzk_field::Field;
@@ -28,38 +39,27 @@ pub fn count_laws<F: Field>()
     ensures players { PassersAreCounted F.ops F.coding }
 {}
 
-/// The count for every circuit: at most 28,345 bad elements, and one set of columns in 3 * 2^53. So over the numbers
-/// below 2^64 - 2^32 + 1 whoever has not committed to satisfying inputs passes by at most one in 2^49, and by one in
-/// 2^53 for circuits that have no more than 1,024 bad elements; over 2^128 elements by one in 2^54. So with a false
-/// statement.
+/// The count for every circuit, by the numbers of lzk_shares: how many elements are bad at most, and one in how many
+/// sets of columns misses. So over the prime field whoever has not committed to satisfying inputs passes by at most one
+/// in 2^prime_share, and by one in 2^few_share for circuits that have no more than 1,024 bad elements; over 2^128
+/// elements by one in 2^binary_share. So with a false statement. In LZK1 that is 28,345 and 3 * 2^53, and 49, 53 and 54.
 pub fn number_laws<F: Field>()
-    ensures bad { BadAreBounded F.ops 512 28345 }
-    ensures rows { RowsAreBounded F.ops 512 }
+    ensures bad { BadAreBounded F.ops most_row most_bad }
+    ensures rows { RowsAreBounded F.ops most_row }
     ensures columns { ColumnsMissRarely F.ops }
-    ensures goldilocks { BluffsPassByOneIn F.ops F.coding 28345 49 18446744069414584321 }
-    ensures goldilocks_few { BluffsPassByOneIn F.ops F.coding 1024 53 18446744069414584321 }
-    ensures gf128 { BluffsPassByOneIn F.ops F.coding 28345 54 340282366920938463463374607431768211456 }
-    ensures false_goldilocks { PassesByOneIn F.ops F.coding 28345 49 18446744069414584321 }
-    ensures false_goldilocks_few { PassesByOneIn F.ops F.coding 1024 53 18446744069414584321 }
-    ensures false_gf128 { PassesByOneIn F.ops F.coding 28345 54 340282366920938463463374607431768211456 }
+    ensures prime { BluffsPassByOneIn F.ops F.coding most_bad prime_share prime_size }
+    ensures prime_few { BluffsPassByOneIn F.ops F.coding 1024 few_share prime_size }
+    ensures gf128 { BluffsPassByOneIn F.ops F.coding most_bad binary_share (2 ^ 128) }
+    ensures false_prime { PassesByOneIn F.ops F.coding most_bad prime_share prime_size }
+    ensures false_prime_few { PassesByOneIn F.ops F.coding 1024 few_share prime_size }
+    ensures false_gf128 { PassesByOneIn F.ops F.coding most_bad binary_share (2 ^ 128) }
 {}
 
-/// The same by the width of a row, 64, 128, 256 or 512 elements: how many sets of columns are one that misses, how many
-/// elements are bad at most, and by one in how many pairs passes whoever has not committed to satisfying inputs.
+/// The same by the width of a row, in LZK1 64, 128, 256 or 512 elements: one in how many sets of columns misses, how
+/// many elements are bad at most, and by one in how many pairs passes whoever has not committed to satisfying inputs.
 pub fn width_laws<F: Field>()
-    ensures columns_64 { ColumnsMissOnceIn F.ops 64 (325 * 2 ^ 51) }
-    ensures columns_128 { ColumnsMissOnceIn F.ops 128 (393 * 2 ^ 49) }
-    ensures columns_256 { ColumnsMissOnceIn F.ops 256 (259 * 2 ^ 48) }
-    ensures columns_512 { ColumnsMissOnceIn F.ops 512 (449 * 2 ^ 46) }
-    ensures bad_64 { BadAreBounded F.ops 64 4325 }
-    ensures bad_128 { BadAreBounded F.ops 128 16677 }
-    ensures bad_256 { BadAreBounded F.ops 256 28089 }
-    ensures goldilocks_64 { BluffsPassOnceIn F.ops F.coding 64 (15 * 2 ^ 48) 18446744069414584321 }
-    ensures goldilocks_128 { BluffsPassOnceIn F.ops F.coding 128 (31 * 2 ^ 45) 18446744069414584321 }
-    ensures goldilocks_256 { BluffsPassOnceIn F.ops F.coding 256 (73 * 2 ^ 43) 18446744069414584321 }
-    ensures goldilocks_512 { BluffsPassOnceIn F.ops F.coding 512 (9 * 2 ^ 46) 18446744069414584321 }
-    ensures gf128_64 { BluffsPassOnceIn F.ops F.coding 64 (162 * 2 ^ 52) (2 ^ 128) }
-    ensures gf128_128 { BluffsPassOnceIn F.ops F.coding 128 (49 * 2 ^ 52) (2 ^ 128) }
-    ensures gf128_256 { BluffsPassOnceIn F.ops F.coding 256 (2 ^ 56) (2 ^ 128) }
-    ensures gf128_512 { BluffsPassOnceIn F.ops F.coding 512 (7 * 2 ^ 52) (2 ^ 128) }
+    ensures shortest { SharesHold F.ops F.coding shortest }
+    ensures short { SharesHold F.ops F.coding short }
+    ensures long { SharesHold F.ops F.coding long }
+    ensures longest { SharesHold F.ops F.coding longest }
 {}

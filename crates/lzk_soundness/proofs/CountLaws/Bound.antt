@@ -1,4 +1,5 @@
--- The degrees of all draws together, for any target: at most 18 more than for the outputs.
+-- The degrees of all draws together, for any target: at most one and a layer's bits more than for the outputs.
+use Rattle.lzk_profile.specs.Profile.{most_bits}
 use Rattle.std.specs.Prelude.{◌≡◌, ℕ, ◌+◌, ◌*◌, ◌<◌, ◌≤◌, ◌==◌, cond, Bool, true, false}
 use Rattle.std.proofs.Common.{zero, suc, refl, ap, ◌∙◌, arith}
 use Rattle.std.proofs.lemmas.Bool.{eqb-true, ne_eqb}
@@ -34,13 +35,13 @@ one_below (suc n) l most at v up few = go (l == at n) refl (one_below n l most a
     go false is rest = omega (arith, rest)
 
 module _ {A : Type 0} (o : Ops A) (c : Wiring A) (valid : IsValid o c) where
-  few_bits : (k : ℕ) → k < depth c → bits_under c k ≤ 17
+  few_bits : (k : ℕ) → k < depth c → bits_under c k ≤ most_bits
   few_bits k h = let w = within c o valid k h in w.bits
 
   abbrev plain : ℕ → ℕ
   plain k = firsts c + 4 * bits_under c k
 
-  asserted_most : (l : ℕ) → output_part c (assertions l) ≤ output_bits c → most c (assertions l) ≤ most c outputs + 18
+  asserted_most : (l : ℕ) → output_part c (assertions l) ≤ output_bits c → most c (assertions l) ≤ most c outputs + (most_bits + 1)
   asserted_most l part =
       let n = depth c in
       let x : ℕ → ℕ = λ k. cond (l == k) 1 0 in
@@ -48,13 +49,13 @@ module _ {A : Type 0} (o : Ops A) (c : Wiring A) (valid : IsValid o c) where
       let all : add_below n (layer_part c (assertions l)) ≡ add_below n plain + add_below n x + add_below n y =
       below_plus n (λ k. plain k + x k) y ∙ ap (λ (j : ℕ). j + add_below n y) (below_plus n plain x) in
       let one : add_below n x ≤ 1 = one_below n l 1 (λ k. k) (λ k. 1) (λ j k h. h) (λ k h. omega arith) in
-      let two : add_below n y ≤ 17 = one_below n l 17 suc (bits_under c) (λ j k h. omega (arith, h)) few_bits in
+      let two : add_below n y ≤ most_bits = one_below n l most_bits suc (bits_under c) (λ j k h. omega (arith, h)) few_bits in
       omega (arith, all, one, two, part, most_is c (assertions l), most_is c outputs)
 
   part_most : (l : ℕ) → output_part c (assertions l) ≤ output_bits c
   part_most zero = omega arith
   part_most (suc l) = omega arith
 
-  pub most_most : (target : Target) → most c target ≤ most c outputs + 18
+  pub most_most : (target : Target) → most c target ≤ most c outputs + (most_bits + 1)
   most_most outputs = omega arith
   most_most (assertions l) = asserted_most l (part_most l)

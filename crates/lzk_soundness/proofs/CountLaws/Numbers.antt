@@ -1,10 +1,11 @@
 -- The count, evaluated.
-use Rattle.lzk_profile.specs.Profile.{opened_count}
-use Rattle.std.specs.Prelude.{◌≡◌, ℕ, ◌+◌, ◌-◌, ◌*◌, ◌^◌, ◌<◌, ◌≤◌, Bool, List, length}
+use Rattle.lzk_profile.specs.Profile.{opened_count, row_factor, most_bits, most_row}
+use Rattle.lzk_shares.specs.Shares.{prime_size, sent_in_all, most_bad, column_share, prime_share, prime_parts, few_share, few_parts, binary_share, binary_parts, shortest, short, long, longest}
+use Rattle.std.specs.Prelude.{◌≡◌, ℕ, ◌+◌, ◌-◌, ◌*◌, ◌/◌, ◌^◌, ◌<◌, ◌≤◌, Bool, List, length}
 use Rattle.std.specs.List.{range_with_len}
-use Rattle.std.proofs.Common.{zero, suc, refl, sym, ap, ◌∙◌, arith, subst, add-mul, mul_assoc, mul_comm, mul-le-mul_right, zero-mul}
+use Rattle.std.proofs.Common.{zero, suc, refl, sym, ap, ◌∙◌, arith, inl, inr, subst, add-mul, mul_assoc, mul_comm, mul-le-mul_right, zero-mul}
 use Rattle.std.proofs.Math.Nat.{le_of_mul-le-mul_right}
-use Rattle.std.proofs.lemmas.Bool.{leb-true, ltb-true}
+use Rattle.std.proofs.lemmas.Bool.{cases_lt, leb-true, ltb-true}
 use Rattle.std.proofs.lemmas.Nat.{mul-le}
 use Rattle.std.proofs.lemmas.List.FromFn.{length-range_with_len}
 use Rattle.lzk_field.specs.Coding.{Coding}
@@ -24,7 +25,7 @@ use Rattle.lzk_soundness.proofs.DrawsLaws.Most.{most_is}
 use Rattle.lzk_soundness.specs.Extract.Extraction.{all_elements}
 use Rattle.lzk_soundness.specs.Count.Game.{Strategy, column_sets, whole_count}
 use Rattle.lzk_soundness.specs.Count.Laws.{IsBluff, bad_count}
-use Rattle.lzk_soundness.specs.Count.Numbers.{ColumnsMissRarely, ColumnsMissOnceIn, BadAreBounded, RowsAreBounded, SaysYesOnceIn, BluffsPassOnceIn, BluffsPassByOneIn, PassesByOneIn}
+use Rattle.lzk_soundness.specs.Count.Numbers.{ColumnsMissRarely, ColumnsMissOnceIn, BadAreBounded, RowsAreBounded, SaysYesOnceIn, BluffsPassOnceIn, BluffsPassByOneIn, PassesByOneIn, SharesHold}
 use Rattle.lzk_soundness.proofs.CountLaws.Count.{bluffs_rare, cheat_bluffs}
 use Rattle.lzk_soundness.proofs.CountLaws.Elements.{elements_all}
 use Rattle.lzk_soundness.proofs.CountLaws.Sent.{sent_few, sent_committed, draws_sent}
@@ -35,20 +36,20 @@ use Rattle.lzk_soundness.proofs.CountLaws.Sent.{sent_few, sent_committed, draws_
 abbrev Miss : ℕ → ℕ → Type 0
 Miss width by = falling (3 * (opened_count + width) - 1) opened_count * by ≤ falling (4 * (opened_count + width)) opened_count
 
-longest_rows : Miss 512 (3 * 2 ^ 53)
-longest_rows = leb-true (falling (3 * (opened_count + 512) - 1) opened_count * (3 * 2 ^ 53)) (falling (4 * (opened_count + 512)) opened_count) refl
+any_rows : Miss most_row column_share
+any_rows = leb-true (falling (3 * (opened_count + most_row) - 1) opened_count * column_share) (falling (4 * (opened_count + most_row)) opened_count) refl
 
-rows_64 : Miss 64 (325 * 2 ^ 51)
-rows_64 = leb-true (falling (3 * (opened_count + 64) - 1) opened_count * (325 * 2 ^ 51)) (falling (4 * (opened_count + 64)) opened_count) refl
+rows_shortest : Miss shortest.row shortest.missed
+rows_shortest = leb-true (falling (3 * (opened_count + shortest.row) - 1) opened_count * shortest.missed) (falling (4 * (opened_count + shortest.row)) opened_count) refl
 
-rows_128 : Miss 128 (393 * 2 ^ 49)
-rows_128 = leb-true (falling (3 * (opened_count + 128) - 1) opened_count * (393 * 2 ^ 49)) (falling (4 * (opened_count + 128)) opened_count) refl
+rows_short : Miss short.row short.missed
+rows_short = leb-true (falling (3 * (opened_count + short.row) - 1) opened_count * short.missed) (falling (4 * (opened_count + short.row)) opened_count) refl
 
-rows_256 : Miss 256 (259 * 2 ^ 48)
-rows_256 = leb-true (falling (3 * (opened_count + 256) - 1) opened_count * (259 * 2 ^ 48)) (falling (4 * (opened_count + 256)) opened_count) refl
+rows_long : Miss long.row long.missed
+rows_long = leb-true (falling (3 * (opened_count + long.row) - 1) opened_count * long.missed) (falling (4 * (opened_count + long.row)) opened_count) refl
 
-rows_512 : Miss 512 (449 * 2 ^ 46)
-rows_512 = leb-true (falling (3 * (opened_count + 512) - 1) opened_count * (449 * 2 ^ 46)) (falling (4 * (opened_count + 512)) opened_count) refl
+rows_longest : Miss longest.row longest.missed
+rows_longest = leb-true (falling (3 * (opened_count + longest.row) - 1) opened_count * longest.missed) (falling (4 * (opened_count + longest.row)) opened_count) refl
 
 -- ---- sets of columns
 
@@ -56,7 +57,7 @@ from_longest : (by k a b d m n : ℕ) → 4 * a ≤ 3 * b → k ≤ a → a + 3 
 from_longest by k a b d m n h l em en known =
     fewer_sets a b k by (share_at k by a b d h l (subst (λ (j : ℕ). falling j k * by ≤ falling (b + 4 * d) k) (sym em) (subst (λ (j : ℕ). falling m k * by ≤ falling j k) (sym en) known)))
 
-pub rows_bounded : {A : Type 0} (o : Ops A) → RowsAreBounded o 512
+pub rows_bounded : {A : Type 0} (o : Ops A) → RowsAreBounded o most_row
 rows_bounded o c valid = let b = params_bounded o c valid in b.wr
 
 -- the numbers are last, so that nothing looks into them
@@ -71,51 +72,46 @@ columns_within : {A : Type 0} (o : Ops A) (width by : ℕ) → Miss width by →
 columns_within o width by known = λ c valid fits. columns_from o width by c valid fits known
 
 pub columns_miss : {A : Type 0} (o : Ops A) → ColumnsMissRarely o
-columns_miss o c valid = columns_from o 512 (3 * 2 ^ 53) c valid (rows_bounded o c valid) longest_rows
-
-pub columns_64 : {A : Type 0} (o : Ops A) → ColumnsMissOnceIn o 64 (325 * 2 ^ 51)
-columns_64 o = columns_within o 64 (325 * 2 ^ 51) rows_64
-
-pub columns_128 : {A : Type 0} (o : Ops A) → ColumnsMissOnceIn o 128 (393 * 2 ^ 49)
-columns_128 o = columns_within o 128 (393 * 2 ^ 49) rows_128
-
-pub columns_256 : {A : Type 0} (o : Ops A) → ColumnsMissOnceIn o 256 (259 * 2 ^ 48)
-columns_256 o = columns_within o 256 (259 * 2 ^ 48) rows_256
-
-pub columns_512 : {A : Type 0} (o : Ops A) → ColumnsMissOnceIn o 512 (449 * 2 ^ 46)
-columns_512 o = columns_within o 512 (449 * 2 ^ 46) rows_512
+columns_miss o c valid = columns_from o most_row column_share c valid (rows_bounded o c valid) any_rows
 
 -- ---- bad elements
 
 module _ {A : Type 0} (o : Ops A) (c : Wiring A) (valid : IsValid o c) where
-  few_outputs : output_bits c ≤ 17
+  few_outputs : output_bits c ≤ most_bits
   few_outputs = bits_few (width_at c 0) (narrow o c 0 valid)
 
-  -- as many elements as a row has values, as the sumchecks send, and 37 more at most
-  bad_few : bad_count c ≤ (params_of c).block + sent_counts c + 37
+  -- as many elements as a row has values, as the sumchecks send, and 3 more and the bits of two layers at most
+  bad_few : bad_count c ≤ (params_of c).block + sent_counts c + (2 * most_bits + 3)
   bad_few = omega (arith, most_is c outputs, draws_sent o c valid, few_outputs)
 
-  -- where the committed list fits into so many rows of so many elements
-  bad_fits : (width : ℕ) → (params_of c).wr ≤ width → bad_count c ≤ opened_count + width + width * width + 37
-  bad_fits width fits =
+  -- where the committed list, so many times, fits into a square of so many elements
+  bad_fits : (width square : ℕ) → width * width ≤ row_factor * square → (params_of c).wr ≤ width → bad_count c ≤ opened_count + width + square + (2 * most_bits + 3)
+  bad_fits width square inside fits =
       let b = params_bounded o c valid in
-      let square : (params_of c).wr * (params_of c).wr ≤ width * width = mul-le (params_of c).wr (params_of c).wr width width fits fits in
-      omega (arith, bad_few, b.block, fits, b.square, square, sent_committed o c valid)
+      let all : (params_of c).wr * (params_of c).wr ≤ width * width = mul-le (params_of c).wr (params_of c).wr width width fits fits in
+      omega (arith, bad_few, b.block, fits, b.square, all, inside, sent_committed o c valid)
 
-  bad_most : (width : ℕ) → (params_of c).wr ≤ width → bad_count c ≤ opened_count + width + 27705
+  bad_most : (width : ℕ) → (params_of c).wr ≤ width → bad_count c ≤ opened_count + width + (sent_in_all + 2 * most_bits + 3)
   bad_most width fits = let b = params_bounded o c valid in omega (arith, bad_few, b.block, fits, sent_few o c valid)
 
-pub bad_64 : {A : Type 0} (o : Ops A) → BadAreBounded o 64 4325
-bad_64 o c valid fits = bad_fits o c valid 64 fits
+pub bad_shortest : {A : Type 0} (o : Ops A) → BadAreBounded o shortest.row shortest.bad
+bad_shortest o c valid fits = bad_fits o c valid shortest.row (shortest.row * shortest.row / row_factor) (omega arith) fits
 
-pub bad_128 : {A : Type 0} (o : Ops A) → BadAreBounded o 128 16677
-bad_128 o c valid fits = bad_fits o c valid 128 fits
+pub bad_short : {A : Type 0} (o : Ops A) → BadAreBounded o short.row short.bad
+bad_short o c valid fits =
+    elim (cases_lt short.row 256) [
+      | inl few ↦ let one = bad_fits o c valid short.row (short.row * short.row / row_factor) (omega arith) fits in omega (arith, one, few)
+      | inr le ↦ let one = bad_most o c valid short.row fits in omega (arith, one, le)
+    ]
 
-pub bad_256 : {A : Type 0} (o : Ops A) → BadAreBounded o 256 28089
-bad_256 o c valid fits = bad_most o c valid 256 fits
+pub bad_long : {A : Type 0} (o : Ops A) → BadAreBounded o long.row long.bad
+bad_long o c valid fits = bad_most o c valid long.row fits
 
-pub bad_512 : {A : Type 0} (o : Ops A) → BadAreBounded o 512 28345
-bad_512 o c valid fits = bad_most o c valid 512 fits
+pub bad_longest : {A : Type 0} (o : Ops A) → BadAreBounded o longest.row longest.bad
+bad_longest o c valid fits = bad_most o c valid longest.row fits
+
+pub bad_any : {A : Type 0} (o : Ops A) → BadAreBounded o most_row most_bad
+bad_any o c valid fits = bad_most o c valid most_row fits
 
 -- ---- together
 
@@ -151,20 +147,20 @@ one_in x N T M E C F k a d most q h few many bad miss all some parts =
     let nonzero : 1 * k ≤ N * k = mul-le-mul_right k (omega (arith, some, many)) in
     parts_of x N T M E C F k a d h (omega (arith, second, bad, third, mul_comm a q, mul_comm a N)) miss all (omega (arith, nonzero, parts))
 
-goldilocks_bad : 28345 * 2 ^ 49 * 16 ≤ 15 * (2 ^ 64 - 2 ^ 32 + 1)
-goldilocks_bad = leb-true (28345 * 2 ^ 49 * 16) (15 * (2 ^ 64 - 2 ^ 32 + 1)) refl
+prime_bad : most_bad * 2 ^ prime_share * 16 ≤ prime_parts * prime_size
+prime_bad = leb-true (most_bad * 2 ^ prime_share * 16) (prime_parts * prime_size) refl
 
-goldilocks_few_bad : 1024 * 2 ^ 53 * 8 ≤ 5 * (2 ^ 64 - 2 ^ 32 + 1)
-goldilocks_few_bad = leb-true (1024 * 2 ^ 53 * 8) (5 * (2 ^ 64 - 2 ^ 32 + 1)) refl
+few_bad : 1024 * 2 ^ few_share * 16 ≤ few_parts * prime_size
+few_bad = leb-true (1024 * 2 ^ few_share * 16) (few_parts * prime_size) refl
 
-gf128_bad : 28345 * 2 ^ 54 * 3 ≤ 1 * 2 ^ 128
-gf128_bad = leb-true (28345 * 2 ^ 54 * 3) (1 * 2 ^ 128) refl
+binary_bad : most_bad * 2 ^ binary_share * 16 ≤ binary_parts * 2 ^ 128
+binary_bad = leb-true (most_bad * 2 ^ binary_share * 16) (binary_parts * 2 ^ 128) refl
 
-large_goldilocks : 2 ^ 18 ≤ 2 ^ 64 - 2 ^ 32 + 1
-large_goldilocks = leb-true (2 ^ 18) (2 ^ 64 - 2 ^ 32 + 1) refl
+large_prime : 2 ^ 18 ≤ prime_size
+large_prime = leb-true (2 ^ 18) prime_size refl
 
-large_gf128 : 2 ^ 18 ≤ 2 ^ 128
-large_gf128 = leb-true (2 ^ 18) (2 ^ 128) refl
+large_binary : 2 ^ 18 ≤ 2 ^ 128
+large_binary = leb-true (2 ^ 18) (2 ^ 128) refl
 
 -- what is missed at most so often, is missed at most less often
 less_often : (C M F k d by : ℕ) → C * by ≤ M → F * k ≤ by * d → C * F * k ≤ d * M
@@ -173,14 +169,14 @@ less_often C M F k d by h l =
     let second : F * k * C ≤ by * d * C = mul-le-mul_right C l in
     omega (arith, first, second, mul_assoc C F k, mul_comm C (F * k), mul_assoc C by d, mul_comm C (by * d), mul_comm M d)
 
-goldilocks_miss : 2 ^ 49 * 16 ≤ 3 * 2 ^ 53 * 1
-goldilocks_miss = leb-true (2 ^ 49 * 16) (3 * 2 ^ 53 * 1) refl
+prime_miss : 2 ^ prime_share * 16 ≤ column_share * (16 - prime_parts)
+prime_miss = leb-true (2 ^ prime_share * 16) (column_share * (16 - prime_parts)) refl
 
-goldilocks_few_miss : 2 ^ 53 * 8 ≤ 3 * 2 ^ 53 * 3
-goldilocks_few_miss = leb-true (2 ^ 53 * 8) (3 * 2 ^ 53 * 3) refl
+few_miss : 2 ^ few_share * 16 ≤ column_share * (16 - few_parts)
+few_miss = leb-true (2 ^ few_share * 16) (column_share * (16 - few_parts)) refl
 
-gf128_miss : 2 ^ 54 * 3 ≤ 3 * 2 ^ 53 * 2
-gf128_miss = leb-true (2 ^ 54 * 3) (3 * 2 ^ 53 * 2) refl
+binary_miss : 2 ^ binary_share * 16 ≤ column_share * (16 - binary_parts)
+binary_miss = leb-true (2 ^ binary_share * 16) (column_share * (16 - binary_parts)) refl
 
 module _ {A : Type 0} (o : Ops A) (e : Coding A) (laws : Laws o e.size e.number e.element e.bytes) where
   positive : (x y : ℕ) → 0 < x → x ≤ y → 0 < y
@@ -206,9 +202,9 @@ module _ {A : Type 0} (o : Ops A) (e : Coding A) (laws : Laws o e.size e.number 
         (less_often C M by k d missed missing miss) all some parts in
         subst (λ (j : ℕ). count_pairs wins D S * by ≤ j * length S) (sym draws) (subst (λ (j : ℕ). count_pairs wins D S * by ≤ e.size ^ whole_count c * j) (sym sets) rare)
 
-  shares : (limit by elements k a d : ℕ) → limit * 2 ^ by * k ≤ a * elements → 2 ^ by * k ≤ 3 * 2 ^ 53 * d → a + d ≤ k → 2 ^ 18 ≤ elements → 0 < k → BluffsPassByOneIn o e limit by elements
+  shares : (limit by elements k a d : ℕ) → limit * 2 ^ by * k ≤ a * elements → 2 ^ by * k ≤ column_share * d → a + d ≤ k → 2 ^ 18 ≤ elements → 0 < k → BluffsPassByOneIn o e limit by elements
   shares limit by elements k a d bad miss all large parts c public strategy wins bluff few many =
-      by_parts limit (2 ^ by) (3 * 2 ^ 53) elements k a d bad miss all large parts c public strategy wins bluff few (columns_miss o c bluff.player.valid) many
+      by_parts limit (2 ^ by) column_share elements k a d bad miss all large parts c public strategy wins bluff few (columns_miss o c bluff.player.valid) many
 
   by_width : (width limit by missed elements k a d : ℕ) → BadAreBounded o width limit → ColumnsMissOnceIn o width missed
       → limit * by * k ≤ a * elements → by * k ≤ missed * d → a + d ≤ k → 2 ^ 18 ≤ elements → 0 < k → BluffsPassOnceIn o e width by elements
@@ -216,14 +212,14 @@ module _ {A : Type 0} (o : Ops A) (e : Coding A) (laws : Laws o e.size e.number 
       let valid = bluff.player.valid in
       by_parts limit by missed elements k a d bad miss all large parts c public strategy wins bluff (bounded c valid fits) (missing c valid fits) many
 
-  pub goldilocks_share : BluffsPassByOneIn o e 28345 49 (2 ^ 64 - 2 ^ 32 + 1)
-  goldilocks_share = shares 28345 49 (2 ^ 64 - 2 ^ 32 + 1) 16 15 1 goldilocks_bad goldilocks_miss (omega arith) large_goldilocks (omega arith)
+  pub prime_passes : BluffsPassByOneIn o e most_bad prime_share prime_size
+  prime_passes = shares most_bad prime_share prime_size 16 prime_parts (16 - prime_parts) prime_bad prime_miss (omega arith) large_prime (omega arith)
 
-  pub goldilocks_few_share : BluffsPassByOneIn o e 1024 53 (2 ^ 64 - 2 ^ 32 + 1)
-  goldilocks_few_share = shares 1024 53 (2 ^ 64 - 2 ^ 32 + 1) 8 5 3 goldilocks_few_bad goldilocks_few_miss (omega arith) large_goldilocks (omega arith)
+  pub few_passes : BluffsPassByOneIn o e 1024 few_share prime_size
+  few_passes = shares 1024 few_share prime_size 16 few_parts (16 - few_parts) few_bad few_miss (omega arith) large_prime (omega arith)
 
-  pub gf128_share : BluffsPassByOneIn o e 28345 54 (2 ^ 128)
-  gf128_share = shares 28345 54 (2 ^ 128) 3 1 2 gf128_bad gf128_miss (omega arith) large_gf128 (omega arith)
+  pub binary_passes : BluffsPassByOneIn o e most_bad binary_share (2 ^ 128)
+  binary_passes = shares most_bad binary_share (2 ^ 128) 16 binary_parts (16 - binary_parts) binary_bad binary_miss (omega arith) large_binary (omega arith)
 
   pub false_share : (limit by elements : ℕ) → BluffsPassByOneIn o e limit by elements → PassesByOneIn o e limit by elements
   false_share limit by elements bluffs c public strategy wins cheat few many =
@@ -231,45 +227,50 @@ module _ {A : Type 0} (o : Ops A) (e : Coding A) (laws : Laws o e.size e.number 
 
   -- ---- by the width of a row
 
-  abbrev P : ℕ
-  P = 2 ^ 64 - 2 ^ 32 + 1
+  pub shortest_holds : SharesHold o e shortest
+  shortest_holds = record {
+    columns = columns_within o shortest.row shortest.missed rows_shortest;
+    bad = λ c valid fits. bad_shortest o c valid fits;
+    prime =
+        by_width shortest.row shortest.bad shortest.prime shortest.missed prime_size 1000 shortest.prime_parts (1000 - shortest.prime_parts) (bad_shortest o) (columns_within o shortest.row shortest.missed rows_shortest)
+        (leb-true (shortest.bad * shortest.prime * 1000) (shortest.prime_parts * prime_size) refl) (leb-true (shortest.prime * 1000) (shortest.missed * (1000 - shortest.prime_parts)) refl) (omega arith) large_prime (omega arith);
+    binary =
+        by_width shortest.row shortest.bad shortest.binary shortest.missed (2 ^ 128) 1000 shortest.binary_parts (1000 - shortest.binary_parts) (bad_shortest o) (columns_within o shortest.row shortest.missed rows_shortest)
+        (leb-true (shortest.bad * shortest.binary * 1000) (shortest.binary_parts * 2 ^ 128) refl) (leb-true (shortest.binary * 1000) (shortest.missed * (1000 - shortest.binary_parts)) refl) (omega arith) large_binary (omega arith);
+  }
 
-  pub goldilocks_64 : BluffsPassOnceIn o e 64 (15 * 2 ^ 48) P
-  goldilocks_64 =
-      by_width 64 4325 (15 * 2 ^ 48) (325 * 2 ^ 51) P 1000 990 6 (bad_64 o) (columns_64 o) (leb-true (4325 * (15 * 2 ^ 48) * 1000) (990 * P) refl)
-      (leb-true (15 * 2 ^ 48 * 1000) (325 * 2 ^ 51 * 6) refl) (omega arith) large_goldilocks (omega arith)
+  pub short_holds : SharesHold o e short
+  short_holds = record {
+    columns = columns_within o short.row short.missed rows_short;
+    bad = λ c valid fits. bad_short o c valid fits;
+    prime =
+        by_width short.row short.bad short.prime short.missed prime_size 1000 short.prime_parts (1000 - short.prime_parts) (bad_short o) (columns_within o short.row short.missed rows_short)
+        (leb-true (short.bad * short.prime * 1000) (short.prime_parts * prime_size) refl) (leb-true (short.prime * 1000) (short.missed * (1000 - short.prime_parts)) refl) (omega arith) large_prime (omega arith);
+    binary =
+        by_width short.row short.bad short.binary short.missed (2 ^ 128) 1000 short.binary_parts (1000 - short.binary_parts) (bad_short o) (columns_within o short.row short.missed rows_short)
+        (leb-true (short.bad * short.binary * 1000) (short.binary_parts * 2 ^ 128) refl) (leb-true (short.binary * 1000) (short.missed * (1000 - short.binary_parts)) refl) (omega arith) large_binary (omega arith);
+  }
 
-  pub goldilocks_128 : BluffsPassOnceIn o e 128 (31 * 2 ^ 45) P
-  goldilocks_128 =
-      by_width 128 16677 (31 * 2 ^ 45) (393 * 2 ^ 49) P 1000 987 5 (bad_128 o) (columns_128 o) (leb-true (16677 * (31 * 2 ^ 45) * 1000) (987 * P) refl)
-      (leb-true (31 * 2 ^ 45 * 1000) (393 * 2 ^ 49 * 5) refl) (omega arith) large_goldilocks (omega arith)
+  pub long_holds : SharesHold o e long
+  long_holds = record {
+    columns = columns_within o long.row long.missed rows_long;
+    bad = λ c valid fits. bad_long o c valid fits;
+    prime =
+        by_width long.row long.bad long.prime long.missed prime_size 1000 long.prime_parts (1000 - long.prime_parts) (bad_long o) (columns_within o long.row long.missed rows_long)
+        (leb-true (long.bad * long.prime * 1000) (long.prime_parts * prime_size) refl) (leb-true (long.prime * 1000) (long.missed * (1000 - long.prime_parts)) refl) (omega arith) large_prime (omega arith);
+    binary =
+        by_width long.row long.bad long.binary long.missed (2 ^ 128) 1000 long.binary_parts (1000 - long.binary_parts) (bad_long o) (columns_within o long.row long.missed rows_long)
+        (leb-true (long.bad * long.binary * 1000) (long.binary_parts * 2 ^ 128) refl) (leb-true (long.binary * 1000) (long.missed * (1000 - long.binary_parts)) refl) (omega arith) large_binary (omega arith);
+  }
 
-  pub goldilocks_256 : BluffsPassOnceIn o e 256 (73 * 2 ^ 43) P
-  goldilocks_256 =
-      by_width 256 28089 (73 * 2 ^ 43) (259 * 2 ^ 48) P 1000 978 9 (bad_256 o) (columns_256 o) (leb-true (28089 * (73 * 2 ^ 43) * 1000) (978 * P) refl)
-      (leb-true (73 * 2 ^ 43 * 1000) (259 * 2 ^ 48 * 9) refl) (omega arith) large_goldilocks (omega arith)
-
-  pub goldilocks_512 : BluffsPassOnceIn o e 512 (9 * 2 ^ 46) P
-  goldilocks_512 =
-      by_width 512 28345 (9 * 2 ^ 46) (449 * 2 ^ 46) P 1000 974 21 (bad_512 o) (columns_512 o) (leb-true (28345 * (9 * 2 ^ 46) * 1000) (974 * P) refl)
-      (leb-true (9 * 2 ^ 46 * 1000) (449 * 2 ^ 46 * 21) refl) (omega arith) large_goldilocks (omega arith)
-
-  pub gf128_64 : BluffsPassOnceIn o e 64 (162 * 2 ^ 52) (2 ^ 128)
-  gf128_64 =
-      by_width 64 4325 (162 * 2 ^ 52) (325 * 2 ^ 51) (2 ^ 128) 1000 3 997 (bad_64 o) (columns_64 o) (leb-true (4325 * (162 * 2 ^ 52) * 1000) (3 * 2 ^ 128) refl)
-      (leb-true (162 * 2 ^ 52 * 1000) (325 * 2 ^ 51 * 997) refl) (omega arith) large_gf128 (omega arith)
-
-  pub gf128_128 : BluffsPassOnceIn o e 128 (49 * 2 ^ 52) (2 ^ 128)
-  gf128_128 =
-      by_width 128 16677 (49 * 2 ^ 52) (393 * 2 ^ 49) (2 ^ 128) 1000 2 998 (bad_128 o) (columns_128 o) (leb-true (16677 * (49 * 2 ^ 52) * 1000) (2 * 2 ^ 128) refl)
-      (leb-true (49 * 2 ^ 52 * 1000) (393 * 2 ^ 49 * 998) refl) (omega arith) large_gf128 (omega arith)
-
-  pub gf128_256 : BluffsPassOnceIn o e 256 (2 ^ 56) (2 ^ 128)
-  gf128_256 =
-      by_width 256 28089 (2 ^ 56) (259 * 2 ^ 48) (2 ^ 128) 1000 11 989 (bad_256 o) (columns_256 o) (leb-true (28089 * 2 ^ 56 * 1000) (11 * 2 ^ 128) refl)
-      (leb-true (2 ^ 56 * 1000) (259 * 2 ^ 48 * 989) refl) (omega arith) large_gf128 (omega arith)
-
-  pub gf128_512 : BluffsPassOnceIn o e 512 (7 * 2 ^ 52) (2 ^ 128)
-  gf128_512 =
-      by_width 512 28345 (7 * 2 ^ 52) (449 * 2 ^ 46) (2 ^ 128) 1000 2 998 (bad_512 o) (columns_512 o) (leb-true (28345 * (7 * 2 ^ 52) * 1000) (2 * 2 ^ 128) refl)
-      (leb-true (7 * 2 ^ 52 * 1000) (449 * 2 ^ 46 * 998) refl) (omega arith) large_gf128 (omega arith)
+  pub longest_holds : SharesHold o e longest
+  longest_holds = record {
+    columns = columns_within o longest.row longest.missed rows_longest;
+    bad = λ c valid fits. bad_longest o c valid fits;
+    prime =
+        by_width longest.row longest.bad longest.prime longest.missed prime_size 1000 longest.prime_parts (1000 - longest.prime_parts) (bad_longest o) (columns_within o longest.row longest.missed rows_longest)
+        (leb-true (longest.bad * longest.prime * 1000) (longest.prime_parts * prime_size) refl) (leb-true (longest.prime * 1000) (longest.missed * (1000 - longest.prime_parts)) refl) (omega arith) large_prime (omega arith);
+    binary =
+        by_width longest.row longest.bad longest.binary longest.missed (2 ^ 128) 1000 longest.binary_parts (1000 - longest.binary_parts) (bad_longest o) (columns_within o longest.row longest.missed rows_longest)
+        (leb-true (longest.bad * longest.binary * 1000) (longest.binary_parts * 2 ^ 128) refl) (leb-true (longest.binary * 1000) (longest.missed * (1000 - longest.binary_parts)) refl) (omega arith) large_binary (omega arith);
+  }

@@ -1,5 +1,6 @@
 -- Words pick columns evenly.
-use Rattle.lzk_profile.specs.Profile.{opened_count}
+use Rattle.lzk_profile.specs.Profile.{opened_count, most_row}
+use Rattle.lzk_shares.specs.Shares.{column_words, set_share}
 use Rattle.std.specs.Prelude.{◌≡◌, ◌≢◌, ℕ, ◌+◌, ◌-◌, ◌*◌, ◌/◌, ◌%◌, ◌^◌, ◌<◌, ◌≤◌, ◌&&◌, ◌||◌, not, nat_eq, cond, Bool, true, false, List, [], ◌∷◌, ◌++◌, length, map, flat_map, slice_index}
 use Rattle.std.specs.List.{AllByRecursion, range_with_len}
 use Rattle.std.proofs.Common.{zero, suc, refl, sym, ap, ◌∙◌, arith, subst, add-mul, suc-mul, zero-mul, mul_comm, mul_assoc, mul-le-mul_right, pow-suc}
@@ -535,16 +536,16 @@ bias_at X Y n most k L fits narrow room small some =
     let down : X * L ≤ X * most = mul-le X L X most (omega arith) narrow in
     bias_of (most_words n L k) (least_words n L k) (X ^ k) ((X + 1) ^ k) Y (close X n k L fits (omega (arith, down, room))) small some
 
-room_enough : 2 ^ 116 * (4 * (opened_count + 512)) ≤ 2 ^ 128
-room_enough = leb-true (2 ^ 116 * (4 * (opened_count + 512))) (2 ^ 128) refl
+room_enough : column_words * (4 * (opened_count + most_row)) ≤ 2 ^ 128
+room_enough = leb-true (column_words * (4 * (opened_count + most_row))) (2 ^ 128) refl
 
-small_enough : (2 ^ 116 + 1) ^ opened_count * 2 ^ 108 ≤ (2 ^ 116) ^ opened_count * (2 ^ 108 + 1)
-small_enough = leb-true ((2 ^ 116 + 1) ^ opened_count * 2 ^ 108) ((2 ^ 116) ^ opened_count * (2 ^ 108 + 1)) refl
+small_enough : (column_words + 1) ^ opened_count * set_share ≤ column_words ^ opened_count * (set_share + 1)
+small_enough = leb-true ((column_words + 1) ^ opened_count * set_share) (column_words ^ opened_count * (set_share + 1)) refl
 
-some_at_all : 0 < (2 ^ 116) ^ opened_count
-some_at_all = ltb-true 0 ((2 ^ 116) ^ opened_count) refl
+some_at_all : 0 < column_words ^ opened_count
+some_at_all = ltb-true 0 (column_words ^ opened_count) refl
 
 pub bias_small : {A : Type 0} (o : Ops A) → BiasIsSmall o
 bias_small o = λ c valid.
     (let b = params_bounded o c valid in
-    bias_at (2 ^ 116) (2 ^ 108) (2 ^ 128) (4 * (opened_count + 512)) opened_count (params_of c).mcol (omega (arith, b.mcol, b.block)) (omega (arith, b.mcol, b.block, b.wr)) room_enough small_enough some_at_all)
+    bias_at column_words set_share (2 ^ 128) (4 * (opened_count + most_row)) opened_count (params_of c).mcol (omega (arith, b.mcol, b.block)) (omega (arith, b.mcol, b.block, b.wr)) room_enough small_enough some_at_all)

@@ -1,4 +1,5 @@
 -- A forger names a run that passes by few oracles alone.
+use Rattle.lzk_shares.specs.Shares.{prime_size, column_share}
 use Rattle.std.specs.Prelude.{◌≡◌, ◌⊎◌, ℕ, ◌*◌, ◌^◌, ◌<◌, ◌≤◌, Bool, List, [], ◌∷◌, length, take}
 use Rattle.std.specs.List.{AllByRecursion, range_with_len}
 use Rattle.std.proofs.Common.{zero, suc, inl, inr, refl, sym, ap, ◌∙◌, arith, subst}
@@ -154,11 +155,11 @@ forgers_rare o e laws c code questions tries by ask wins forger shares large =
 many_elements : (n size : ℕ) → size ≤ n → 2 ^ 18 ≤ size → 2 ^ 18 ≤ n
 many_elements n size h l = omega (arith, h, l)
 
-enough_elements : 2 ^ 18 ≤ 18446744069414584321
-enough_elements = leb-true (2 ^ 18) 18446744069414584321 refl
+enough_elements : 2 ^ 18 ≤ prime_size
+enough_elements = leb-true (2 ^ 18) prime_size refl
 
 pub forgers_by_tries : {A : Type 0} (o : Ops A) (e : Coding A) (laws : Laws o e.size e.number e.element e.bytes) (c : Wiring A) (code : Question A → ℕ) (questions tries : ℕ) (ask : List (Reply A) → ℕ) (wins : List (Reply A) → Bool)
-    → IsForger o e c code questions tries ask wins → 18446744069414584321 ≤ e.size
-    → count wins (draws_from (all_replies e c) questions) * (3 * 2 ^ 53) ≤ tries * length (all_replies e c) ^ questions
+    → IsForger o e c code questions tries ask wins → prime_size ≤ e.size
+    → count wins (draws_from (all_replies e c) questions) * column_share ≤ tries * length (all_replies e c) ^ questions
 forgers_by_tries o e laws c code questions tries ask wins forger large =
-    forgers_rare o e laws c code questions tries (3 * 2 ^ 53) ask wins forger (shares_small o e c forger.valid large) (many_elements e.size 18446744069414584321 large enough_elements)
+    forgers_rare o e laws c code questions tries column_share ask wins forger (shares_small o e c forger.valid large) (many_elements e.size prime_size large enough_elements)

@@ -1,5 +1,5 @@
 -- How seldom whoever has not committed to satisfying inputs passes, whatever he does.
-use Rattle.lzk_profile.specs.Profile.{opened_count}
+use Rattle.lzk_profile.specs.Profile.{opened_count, most_bits}
 use Rattle.std.specs.Prelude.{◌≡◌, ℕ, ◌+◌, ◌-◌, ◌*◌, ◌^◌, ◌≤◌, Bool, true, List, length}
 use Rattle.lzk_field.specs.Coding.{Coding}
 use Rattle.lzk_field.specs.Ring.{Ops}
@@ -63,11 +63,12 @@ pub record IsCheat {A : Type 0} (o : Ops A) (e : Coding A) (c : Wiring A) (publi
   pub wrong : IsFalse o e c public
 
 -- how many elements may be bad, of all draws and weights together: as many as a row has values, for u, the degrees of
--- the sumchecks' draws, 18 more where an assertion is what fails, and one for lambda and mu
+-- the sumchecks' draws, one more and as many as a layer's bits where an assertion is what fails, and one for lambda and
+-- mu
 abbrev pub bad_count : {A : Type 0} → Wiring A → ℕ
-bad_count c = (params_of c).block + most c outputs + 19
+bad_count c = (params_of c).block + most c outputs + (most_bits + 2)
 
--- Of all pairs of a list of draws and of a set of 128 columns, the share to which a test says yes is at most
+-- Of all pairs of a list of draws and of a set of columns, the share to which a test says yes is at most
 -- `bad_count` over the number of elements, and the share of sets that lie among three quarters of the columns, but for
 -- one.
 abbrev pub SaysYesRarely : {A : Type 0} → Coding A → Wiring A → (List A → List ℕ → Bool) → Type 0

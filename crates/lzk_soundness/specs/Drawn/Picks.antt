@@ -1,4 +1,5 @@
 -- The columns that words pick, and how evenly they are picked.
+use Rattle.lzk_shares.specs.Shares.{set_share}
 use Rattle.lzk_profile.specs.Profile.{opened_count}
 use Rattle.std.specs.Prelude.{◌≡◌, ◌↔◌, ℕ, ◌+◌, ◌-◌, ◌*◌, ◌/◌, ◌%◌, ◌^◌, ◌<◌, ◌≤◌, ◌&&◌, nat_eq, Bool, true, false, List, [], ◌∷◌, length, map, slice_index}
 use Rattle.std.specs.List.{AllByRecursion, range_with_len}
@@ -85,8 +86,9 @@ SetsAreEven = (mcol n : ℕ) (columns : List ℕ) → AreDistinct columns → Al
     → (orders (length columns) * least_words n mcol (length columns) ≤ set_count mcol n columns)
     × (set_count mcol n columns ≤ orders (length columns) * most_words n mcol (length columns))
 
--- For 128 columns of a valid circuit and words of 128 bits these two numbers differ by at most one part in 2^108.
+-- For the opened columns of a valid circuit and words of 128 bits these two numbers differ by at most one part in
+-- set_share.
 abbrev pub BiasIsSmall : {A : Type 0} → Ops A → Type 0
 BiasIsSmall {A} o = (c : Wiring A) → IsValid o c
-    → most_words (2 ^ 128) (params_of c).mcol opened_count * 2 ^ 108
-    ≤ least_words (2 ^ 128) (params_of c).mcol opened_count * (2 ^ 108 + 1)
+    → most_words (2 ^ 128) (params_of c).mcol opened_count * set_share
+    ≤ least_words (2 ^ 128) (params_of c).mcol opened_count * (set_share + 1)

@@ -1,4 +1,5 @@
 -- How seldom a forger with so many questions names a run that passes.
+use Rattle.lzk_shares.specs.Shares.{prime_size, column_share}
 use Rattle.lzk_profile.specs.Profile.{opened_count}
 use Rattle.std.specs.Prelude.{◌≡◌, ◌⊎◌, ℕ, ◌+◌, ◌-◌, ◌*◌, ◌^◌, ◌<◌, ◌≤◌, Bool, true, List, length}
 use Rattle.std.specs.List.{AllByRecursion}
@@ -63,15 +64,15 @@ ForgersAreRare {A} o e =
     → IsForger o e c code questions tries ask wins → AreShares e c by → 2 ^ 18 ≤ e.size
     → count wins (draws_from (all_replies e c) questions) * by ≤ tries * length (all_replies e c) ^ questions
 
--- For every valid circuit, over a field of 2^64 - 2^32 + 1 elements at least, it is one in 3 * 2^53.
+-- For every valid circuit, over a field of prime_size elements at least, it is one in column_share.
 abbrev pub SharesAreSmall : {A : Type 0} → Ops A → Coding A → Type 0
-SharesAreSmall {A} o e = (c : Wiring A) → IsValid o c → 18446744069414584321 ≤ e.size → AreShares e c (3 * 2 ^ 53)
+SharesAreSmall {A} o e = (c : Wiring A) → IsValid o c → prime_size ≤ e.size → AreShares e c column_share
 
--- So he wins by at most one oracle in 3 * 2^53 for each question.
+-- So he wins by at most one oracle in column_share for each question.
 abbrev pub ForgersByTries : {A : Type 0} → Ops A → Coding A → Type 0
 ForgersByTries {A} o e =
     (c : Wiring A) (code : Question A → ℕ) (questions tries : ℕ) (ask : List (Reply A) → ℕ)
     (wins : List (Reply A) → Bool)
-    → IsForger o e c code questions tries ask wins → 18446744069414584321 ≤ e.size
-    → count wins (draws_from (all_replies e c) questions) * (3 * 2 ^ 53)
+    → IsForger o e c code questions tries ask wins → prime_size ≤ e.size
+    → count wins (draws_from (all_replies e c) questions) * column_share
     ≤ tries * length (all_replies e c) ^ questions
