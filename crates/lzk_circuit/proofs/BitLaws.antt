@@ -4,7 +4,7 @@ use Rattle.std.proofs.Common.{zero, suc, refl, sym, ap, arith, inl, inr, subst}
 use Rattle.std.proofs.Math.Nat.{two-pow-succ}
 use Rattle.std.proofs.lemmas.Bool.{cases_eq, cases_lt, le-leb, lt-leb, leb-true, leb-false}
 use Rattle.lzk_circuit.specs.Bits.{least_from, bits}
-use Rattle.lzk_circuit.specs.Limits.{most_wires}
+use Rattle.lzk_circuit.specs.Limits.{most_width, most_bits}
 
 -- the first step of the search, where the test of k answers b
 at_most : (test : ℕ → Bool) (n k m : ℕ) (b : Bool) → test k ≡ b → k ≤ m → test m ≡ true → (k + 1 ≤ m → least_from test n (k + 1) ≤ m) → cond b k (least_from test n (k + 1)) ≤ m
@@ -89,9 +89,9 @@ fall_more n k below lt j less =
       | inr le ↦ let e : j ≡ k = omega arith in rw e lt
     ]
 
-pub bits_few : (n : ℕ) → n ≤ most_wires → bits n ≤ 17
+pub bits_few : (n : ℕ) → n ≤ most_width → bits n ≤ most_bits
 unfolding bits
-bits_few n le = least_most (λ i. nat_le n (2 ^ i)) n 0 17 (omega arith) (le-leb n most_wires le)
+bits_few n le = least_most (λ i. nat_le n (2 ^ i)) n 0 most_bits (omega arith) (le-leb n (2 ^ most_bits) (omega (arith, le)))
 
 -- so many bits number n wires
 pub bits_enough : (n : ℕ) → n ≤ 2 ^ bits n

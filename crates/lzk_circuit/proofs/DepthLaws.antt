@@ -9,7 +9,7 @@ use Rattle.std.proofs.lemmas.List.FromFn.{length-map-range_with_len}
 use Rattle.lzk_field.specs.Ring.{Ops}
 use Rattle.lzk_circuit.specs.declared.layer.Layer.{Layer}
 use Rattle.lzk_circuit.specs.Wires.{coef, wire, layer_values, wires_of, all_values, inputs_of, list_at, AreLayerValues}
-use Rattle.lzk_circuit.specs.Limits.{most_wires}
+use Rattle.lzk_circuit.specs.Limits.{most_width}
 use Rattle.lzk_circuit.specs.Valid.{Wiring, input_width, under_of, ArePlaced, AreLayersPlaced, AreLayersOf, IsValid, widths, HaveWidths}
 
 -- what lists on the heap hold
@@ -53,11 +53,11 @@ module _ {A : Type 0} (o : Ops A) where
   next-values layers rest layer inputs out lists d front values is =
       ap (λ x. x ∷ items_of lists) (is ∙ ap (layer_values o layer) (first-list rest inputs lists d values)) ∙ ap (λ xs. wires_of o (layer ∷ rest) inputs ∷ xs) values ∙ sym (ap (λ ls. all_values o ls inputs) front)
 
-  layers-narrow : (version n : ℕ) (layers : List (Layer A)) → n ≤ most_wires → AreLayersOf o version n layers → AllByRecursion (λ m. m ≤ most_wires) (map (λ layer. layer.wires) layers ++ n ∷ [])
+  layers-narrow : (version n : ℕ) (layers : List (Layer A)) → n ≤ most_width → AreLayersOf o version n layers → AllByRecursion (λ m. m ≤ most_width) (map (λ layer. layer.wires) layers ++ n ∷ [])
   layers-narrow version n [] l h = (l, tt)
-  layers-narrow version n (layer ∷ layers) l h = let one = h.0 in (one.most, layers-narrow version n layers l h.1)
+  layers-narrow version n (layer ∷ layers) l h = let one = h.0 in (omega (arith, one.most), layers-narrow version n layers l h.1)
 
-  lists-narrow : (ns : List ℕ) (lists : List (Vec A Global)) → map length (items_of lists) ≡ ns → AllByRecursion (λ m. m ≤ most_wires) ns → AllByRecursion (λ list. length list.items ≤ most_wires) lists
+  lists-narrow : (ns : List ℕ) (lists : List (Vec A Global)) → map length (items_of lists) ≡ ns → AllByRecursion (λ m. m ≤ most_width) ns → AllByRecursion (λ list. length list.items ≤ most_width) lists
   lists-narrow ns [] e h = tt
   lists-narrow [] (v ∷ vs) e h = cc
   lists-narrow (n ∷ ns) (v ∷ vs) e h =
@@ -67,7 +67,7 @@ module _ {A : Type 0} (o : Ops A) where
       (omega arith, lists-narrow ns vs b h.1)
 
   -- no list for a valid circuit is longer than a layer may be wide
-  pub narrow : (c : Wiring A) (lists : List (Vec A Global)) → IsValid o c → HaveWidths c (items_of lists) → AllByRecursion (λ list. length list.items ≤ most_wires) lists
+  pub narrow : (c : Wiring A) (lists : List (Vec A Global)) → IsValid o c → HaveWidths c (items_of lists) → AllByRecursion (λ list. length list.items ≤ most_width) lists
   narrow c lists h e = lists-narrow (widths c) lists e (layers-narrow c.version (input_width c) c.layers (omega (arith, h.publics, h.privates)) h.layers)
 
   abbrev pub zero_lists : List ℕ → List (List A)

@@ -24,14 +24,14 @@ impl<F: Field> Model for Values<F> {
     ghost use Rattle.std.specs.Prelude.{map, length, ◌≤◌, ◌+◌};
     ghost use Rattle.std.specs.List.{AllByRecursion};
     ghost use Rattle.lzk_circuit.specs.Checks.{Valuation};
-    ghost use Rattle.lzk_circuit.specs.Limits.{most_wires, most_total};
+    ghost use Rattle.lzk_circuit.specs.Limits.{most_wires, most_total, most_width};
 
     ghost Value = { Valuation F };
 
     ghost view = { λ v. record { wires = map (λ list. list.items) v.lists.items; checks = v.checks.items } };
 
     ghost invariant = { λ v.
-        AllByRecursion (λ list. length list.items ≤ most_wires) v.lists.items
+        AllByRecursion (λ list. length list.items ≤ most_width) v.lists.items
         × (length v.checks.items ≤ most_wires + most_total) };
 }
 
