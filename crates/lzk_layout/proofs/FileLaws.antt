@@ -1,5 +1,5 @@
 -- The bytes of a proof's file, from the first on.
-use Rattle.lzk_profile.specs.Profile.{opened_count}
+use Rattle.lzk_profile.specs.Profile.{opened_count, file_letter}
 use Rattle.std.specs.Prelude.{◌≡◌, ℕ, ◌+◌, ◌-◌, ◌*◌, ◌<◌, ◌≤◌, List, [], ◌∷◌, ◌++◌, length, map, take, drop}
 use Rattle.std.specs.Int.{w32, to_le_bytes}
 use Rattle.std.proofs.Common.{refl, sym, ap, ◌∙◌, arith, append_assoc, get_or}
@@ -32,7 +32,7 @@ opened_step field rows nonces rest i before middle after all lt m a h =
 
 -- the parts of a file, written one after the other
 pub file_parts : {A : Type 0} (field : A → List ℕ) (rows : ℕ) (proof : Proof A) (head answers opened file : List ℕ)
-    → head ≡ (76 ∷ 90 ∷ 80 ∷ 49 ∷ []) ++ (proof.id ++ proof.root) → answers ≡ head ++ answers_bytes field proof
+    → head ≡ (76 ∷ file_letter ∷ 80 ∷ 49 ∷ []) ++ (proof.id ++ proof.root) → answers ≡ head ++ answers_bytes field proof
     → opened ≡ answers ++ flat (opened_fields field rows proof.nonces proof.columns)
     → file ≡ opened ++ (to_le_bytes w32 (length proof.path.digests) ++ flat proof.path.digests) → file ≡ flat (fields_of field rows proof)
 file_parts field rows proof head answers opened file h a o f =

@@ -1,4 +1,5 @@
 -- How long the file of a proof is.
+use Rattle.lzk_profile.specs.Profile.{file_letter}
 use Rattle.std.proofs.Common.{◌≡◌, ℕ, suc, ◌+◌, ◌*◌, List, [], ◌∷◌, ◌++◌, length, map, take, drop, refl, sym, ap, ◌∙◌, arith}
 use Rattle.std.specs.Int.{w32, to_le_bytes}
 use Rattle.std.proofs.lemmas.List.{length-append}
@@ -74,7 +75,7 @@ module _ {A : Type 0} (bytes : ℕ) (number : A → ℕ) where
       let opened = opened_fields field p.nrow q.nonces q.columns in
       let elements = length q.messages + length q.ldt + length q.dot + length q.quad_head + length q.quad_tail in
       let wide : length q.columns ≡ length q.nonces * p.nrow = f.lengths.columns ∙ ap (λ (n : ℕ). n * p.nrow) (sym f.lengths.nonces) in
-      let first : List (List ℕ) = (76 ∷ 90 ∷ 80 ∷ 49 ∷ []) ∷ q.id ∷ q.root ∷ [] in
+      let first : List (List ℕ) = (76 ∷ file_letter ∷ 80 ∷ 49 ∷ []) ∷ q.id ∷ q.root ∷ [] in
       let x : ℕ = 68 + bytes * elements in
       let y : ℕ = x + length q.nonces * (32 + bytes * p.nrow) in
       let head : length (flat first) ≡ 68 = omega (arith, length-append q.id (q.root ++ []), length-append q.root [], f.id, f.root) in

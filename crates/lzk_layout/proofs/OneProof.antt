@@ -1,5 +1,5 @@
 -- A proof's file is read as its fields, which are one proof's; and what was read is the file.
-use Rattle.lzk_profile.specs.Profile.{most_digests}
+use Rattle.lzk_profile.specs.Profile.{most_digests, file_letter}
 use Rattle.std.proofs.Common.{◌≡◌, ℕ, zero, suc, ◌+◌, ◌-◌, ◌*◌, ◌≤◌, replicate, eqb, ltb, leb, true, List, [], ◌∷◌, ◌++◌, length, map, take, drop, Ok, Err, refl, sym, ap, subst, ◌∙◌, append_assoc, arith}
 use Rattle.std.specs.Int.{w32, to_le_bytes, from_le_bytes}
 use Rattle.std.proofs.lemmas.Bool.{lt-ltb, le-leb, eqb-true}
@@ -27,7 +27,7 @@ AreFields-append s [] ts (f ∷ fs) gs h k = absurd h
 AreFields-append s (x ∷ ss) ts [] gs h k = absurd h
 AreFields-append s (x ∷ ss) ts (f ∷ fs) gs h k = (h.0, AreFields-append s ss ts fs gs h.1 k)
 
-magic_passes : (s : Shape) → IsField s magic (76 ∷ 90 ∷ 80 ∷ 49 ∷ [])
+magic_passes : (s : Shape) → IsField s magic (76 ∷ file_letter ∷ 80 ∷ 49 ∷ [])
 unfolding wrong
 magic_passes s = record { long = refl; right = refl }
 
@@ -141,7 +141,7 @@ module _ {A : Type 0} (o : Ops A) (size : ℕ) (number : A → ℕ) (element_of 
       (elements_pass (length q.quad_tail) q.quad_tail refl))))
 
   abbrev pub first_fields : ℕ → Proof A → List (List ℕ)
-  first_fields rows q = ((76 ∷ 90 ∷ 80 ∷ 49 ∷ []) ∷ q.id ∷ q.root ∷ []) ++ (answer_fields field q ++ opened_fields field rows q.nonces q.columns)
+  first_fields rows q = ((76 ∷ file_letter ∷ 80 ∷ 49 ∷ []) ∷ q.id ∷ q.root ∷ []) ++ (answer_fields field q ++ opened_fields field rows q.nonces q.columns)
 
   pub first_pass : (p : Params) (q : Proof A) → ProofBytes bytes number p q (flat (fields_of field p.nrow q)) → AreFields s (sorts_of p) (first_fields p.nrow q)
   first_pass p q f =

@@ -1,5 +1,5 @@
 -- Which field of a proof's file is which part of the proof.
-use Rattle.lzk_profile.specs.Profile.{opened_count}
+use Rattle.lzk_profile.specs.Profile.{opened_count, file_letter}
 use Rattle.std.proofs.Common.{◌≡◌, ℕ, zero, suc, ◌+◌, ◌-◌, ◌*◌, ◌<◌, List, [], ◌∷◌, ◌++◌, length, map, take, drop, Option, Some, None, refl, sym, ap, subst, ◌∙◌, arith, inl, inr}
 use Rattle.std.specs.Prelude.{slice_get, option_map}
 use Rattle.std.specs.List.{range_with_len, flat_map}
@@ -156,7 +156,7 @@ module _ {A : Type 0} (bytes : ℕ) (number : A → ℕ) (p : Params) (q : Proof
       let xs : List ProofPart = element_parts p (opened_parts p.nrow opened_count ++ xs0) in
       let fs : List (List ℕ) =
       map field q.messages ++ (map field q.ldt ++ (map field q.dot ++ (map field q.quad_head ++ (map field q.quad_tail ++ (opened_fields field p.nrow q.nonces q.columns ++ fs0))))) in
-      alike_one P Magic (76 ∷ 90 ∷ 80 ∷ 49 ∷ []) (Id ∷ Root ∷ xs) (q.id ∷ q.root ∷ fs) refl (alike_one P Id q.id (Root ∷ xs) (q.root ∷ fs) refl (alike_one P Root q.root xs fs refl (answers_alike h)))
+      alike_one P Magic (76 ∷ file_letter ∷ 80 ∷ 49 ∷ []) (Id ∷ Root ∷ xs) (q.id ∷ q.root ∷ fs) refl (alike_one P Id q.id (Root ∷ xs) (q.root ∷ fs) refl (alike_one P Root q.root xs fs refl (answers_alike h)))
 
 pub fields_are_parts : {A : Type 0} (bytes : ℕ) (number : A → ℕ) (p : Params) → FieldsAreParts bytes number p
 fields_are_parts bytes number p q file f k part field e h = all_alike bytes number p q f.lengths k part field e h

@@ -1,4 +1,5 @@
 -- The layers' places follow one another, and all are within the elements that are sent and committed to.
+use Rattle.lzk_profile.specs.Profile.{most_sent, most_committed}
 use Rattle.std.specs.Prelude.{◌≡◌, ℕ, ◌+◌, ◌*◌, ◌<◌, ◌≤◌}
 use Rattle.std.proofs.Common.{refl, sym, ap, ◌∙◌, arith}
 use Rattle.std.specs.List.{sum_by}
@@ -71,8 +72,8 @@ module _ {A : Type 0} (c : Wiring A) where
       ∙ begun_is (l + 1)
 
   -- where the next layer's elements begin, as numbers of 32 bits
-  pub few_sent_before : (o : Ops A) → IsValid o c → (l : ℕ) (places : LayerPlaces) → l < depth c → places ≡ places_of c l → places.factors_sent + 2 ≤ 35840
+  pub few_sent_before : (o : Ops A) → IsValid o c → (l : ℕ) (places : LayerPlaces) → l < depth c → places ≡ places_of c l → places.factors_sent + 2 ≤ most_sent
   few_sent_before o valid l places h e = rw e (omega (arith, sent_within l h, sent_few o c valid))
 
-  pub few_pads_before : (o : Ops A) → IsValid o c → (l : ℕ) (places : LayerPlaces) → l < depth c → places ≡ places_of c l → places.factors + 3 ≤ 101888
+  pub few_pads_before : (o : Ops A) → IsValid o c → (l : ℕ) (places : LayerPlaces) → l < depth c → places ≡ places_of c l → places.factors + 3 ≤ most_committed
   few_pads_before o valid l places h e = rw e (omega (arith, pads_within l h, committed_few o c valid))

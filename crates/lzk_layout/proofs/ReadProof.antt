@@ -1,5 +1,5 @@
 -- Bytes that are read without a fault are some proof's file.
-use Rattle.lzk_profile.specs.Profile.{opened_count, most_digests}
+use Rattle.lzk_profile.specs.Profile.{opened_count, most_digests, file_letter}
 use Rattle.std.specs.Prelude.{◌≡◌, ℕ, ◌+◌, ◌-◌, ◌*◌, ◌<◌, ◌≤◌, ◌==◌, ◌&&◌, Bool, true, false, cond, List, [], ◌∷◌, ◌++◌, length, map, drop, replicate, Option, Some, None, Result, Ok, Err, slice_index_or}
 use Rattle.std.proofs.Common.{zero, suc, refl, sym, ap, subst, ◌∙◌, arith}
 use Rattle.std.specs.Int.{w32, to_le_bytes, from_le_bytes}
@@ -69,18 +69,18 @@ parted s (x ∷ ss) ts (f ∷ fs) h =
 
 -- ---- fields that are no elements
 
-magic_is : (s : Shape) (f : List ℕ) → IsField s magic f → f ≡ 76 ∷ 90 ∷ 80 ∷ 49 ∷ []
+magic_is : (s : Shape) (f : List ℕ) → IsField s magic f → f ≡ 76 ∷ file_letter ∷ 80 ∷ 49 ∷ []
 unfolding wrong
 magic_is s [] h = let l = h.long in absurd (omega arith)
 magic_is s (a ∷ []) h = let l = h.long in absurd (omega arith)
 magic_is s (a ∷ b ∷ []) h = let l = h.long in absurd (omega arith)
 magic_is s (a ∷ b ∷ d ∷ []) h = let l = h.long in absurd (omega arith)
 magic_is s (a ∷ b ∷ d ∷ g ∷ []) h =
-    let all : ((a == 76) && ((b == 90) && ((d == 80) && (g == 49)))) ≡ true = none_true _ _ h.right in
-    let p = and_parts (a == 76) ((b == 90) && ((d == 80) && (g == 49))) all in
-    let q = and_parts (b == 90) ((d == 80) && (g == 49)) p.1 in
+    let all : ((a == 76) && ((b == file_letter) && ((d == 80) && (g == 49)))) ≡ true = none_true _ _ h.right in
+    let p = and_parts (a == 76) ((b == file_letter) && ((d == 80) && (g == 49))) all in
+    let q = and_parts (b == file_letter) ((d == 80) && (g == 49)) p.1 in
     let r = and_parts (d == 80) (g == 49) q.1 in
-    rw (eqb-true a 76 p.0, eqb-true b 90 q.0, eqb-true d 80 r.0, eqb-true g 49 r.1) refl
+    rw (eqb-true a 76 p.0, eqb-true b file_letter q.0, eqb-true d 80 r.0, eqb-true g 49 r.1) refl
 magic_is s (a ∷ b ∷ d ∷ g ∷ x ∷ xs) h = let l = h.long in absurd (omega arith)
 
 digests_are : (s : Shape) (n : ℕ) (ds : List (List ℕ)) → AreFields s (replicate n plain) ds → (length ds ≡ n) × AreDigests ds
@@ -232,7 +232,7 @@ module _ {A : Type 0} (o : Ops A) (size : ℕ) (number : A → ℕ) (element_of 
         columns = columns.columns;
         path = record { digests = read.digests; room = most_digests };
       } in
-      let front : List (List ℕ) = (76 ∷ 90 ∷ 80 ∷ 49 ∷ []) ∷ id ∷ root ∷ [] in
+      let front : List (List ℕ) = (76 ∷ file_letter ∷ 80 ∷ 49 ∷ []) ∷ id ∷ root ∷ [] in
       let answers_are : answer_fields field q ≡ all.first =
       ap (λ gs. map field r1.elements ++ (map field r2.elements ++ (map field r3.elements ++ (map field r4.elements ++ gs)))) r5.are
       ∙ ap (λ gs. map field r1.elements ++ (map field r2.elements ++ (map field r3.elements ++ gs))) r4.are

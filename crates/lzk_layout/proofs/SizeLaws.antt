@@ -1,5 +1,5 @@
 -- What the limits on circuits leave of their parameters.
-use Rattle.lzk_profile.specs.Profile.{opened_count, most_elements, most_digests}
+use Rattle.lzk_profile.specs.Profile.{opened_count, row_factor, most_width, most_bits, most_row, most_rows, most_sent, most_committed, most_elements, most_digests}
 use Rattle.std.specs.Prelude.{◌≡◌, ℕ, ◌+◌, ◌*◌, ◌/◌, ◌%◌, ◌<◌, ◌≤◌, ◌++◌, List, [], ◌∷◌, length, map, drop, take}
 use Rattle.std.proofs.Common.{zero, suc, refl, sym, ap, ◌∙◌, arith, inl, inr, subst, get_or}
 use Rattle.std.specs.Int.{div_ceil}
@@ -15,17 +15,17 @@ use Rattle.lzk_circuit.specs.Valid.{Wiring, input_width, AreLayersOf, IsValid, w
 use Rattle.lzk_layout.specs.declared.params.Params.{Params}
 use Rattle.lzk_layout.specs.Sizes.{row_width, under_widths, sent_count, pad_count, sent_counts, committed_count, sizes, params_of, AreParams, AreBounded}
 use Rattle.lzk_circuit.proofs.BitLaws.{bits_few}
-use Rattle.lzk_layout.proofs.Least.{width_64, width_128, width_256, width_512}
+use Rattle.lzk_layout.proofs.Least.{width_64, width_next}
 
 -- ---- widths
 
-narrow_from : {A : Type 0} (o : Ops A) (version n l : ℕ) (layers : List (Layer A)) → n ≤ 131072 → AreLayersOf o version n layers → get_or (map (λ layer. layer.wires) layers ++ n ∷ []) l 0 ≤ 131072
+narrow_from : {A : Type 0} (o : Ops A) (version n l : ℕ) (layers : List (Layer A)) → n ≤ most_width → AreLayersOf o version n layers → get_or (map (λ layer. layer.wires) layers ++ n ∷ []) l 0 ≤ most_width
 narrow_from o version n zero [] le h = le
 narrow_from o version n (suc l) [] le h = omega arith
-narrow_from o version n zero (layer ∷ layers) le h = let one = h.0 in one.most
+narrow_from o version n zero (layer ∷ layers) le h = let one = h.0 in omega (arith, one.most)
 narrow_from o version n (suc l) (layer ∷ layers) le h = narrow_from o version n l layers le h.1
 
-pub narrow : {A : Type 0} (o : Ops A) (c : Wiring A) (l : ℕ) → IsValid o c → get_or (widths c) l 0 ≤ 131072
+pub narrow : {A : Type 0} (o : Ops A) (c : Wiring A) (l : ℕ) → IsValid o c → get_or (widths c) l 0 ≤ most_width
 narrow o c l valid = narrow_from o c.version (input_width c) l c.layers (omega (arith, valid.publics, valid.privates)) valid.layers
 
 get_or_next : (xs : List ℕ) (l : ℕ) → get_or (drop 1 xs) l 0 ≡ get_or xs (l + 1) 0
@@ -41,21 +41,21 @@ under_count c =
 
 -- ---- counts
 
-few_in_all : (f : ℕ → ℕ) (most : ℕ) (ws : List ℕ) → ((w : ℕ) → w ≤ 131072 → f w ≤ most) → ((l : ℕ) → get_or ws l 0 ≤ 131072) → sum_by f ws ≤ most * length ws
+few_in_all : (f : ℕ → ℕ) (most : ℕ) (ws : List ℕ) → ((w : ℕ) → w ≤ most_width → f w ≤ most) → ((l : ℕ) → get_or ws l 0 ≤ most_width) → sum_by f ws ≤ most * length ws
 few_in_all f most [] each h = omega arith
 few_in_all f most (w ∷ ws) each h =
     let one = each w (h 0) in
     let others = few_in_all f most ws each (λ l. h (suc l)) in
     grind (arith, one, others, sum_by-cons f w ws)
 
-pub sent_few : {A : Type 0} (o : Ops A) (c : Wiring A) → IsValid o c → sent_counts c ≤ 35840
+pub sent_few : {A : Type 0} (o : Ops A) (c : Wiring A) → IsValid o c → sent_counts c ≤ most_sent
 sent_few o c valid =
-    let all = few_in_all sent_count 70 (under_widths c) (λ w le. omega (arith, bits_few w le)) (λ l. rw (under_is c l) (narrow o c (l + 1) valid)) in
+    let all = few_in_all sent_count (4 * most_bits + 2) (under_widths c) (λ w le. omega (arith, bits_few w le)) (λ l. rw (under_is c l) (narrow o c (l + 1) valid)) in
     omega (arith, all, under_count c, valid.depth)
 
-pub committed_few : {A : Type 0} (o : Ops A) (c : Wiring A) → IsValid o c → committed_count c ≤ 101888
+pub committed_few : {A : Type 0} (o : Ops A) (c : Wiring A) → IsValid o c → committed_count c ≤ most_committed
 committed_few o c valid =
-    let all = few_in_all pad_count 71 (under_widths c) (λ w le. omega (arith, bits_few w le)) (λ l. rw (under_is c l) (narrow o c (l + 1) valid)) in
+    let all = few_in_all pad_count (4 * most_bits + 3) (under_widths c) (λ w le. omega (arith, bits_few w le)) (λ l. rw (under_is c l) (narrow o c (l + 1) valid)) in
     omega (arith, all, under_count c, valid.depth, valid.privates)
 
 -- one more layer of the walk over them
@@ -67,42 +67,70 @@ counts_more f c l w lt is =
 
 -- ---- bounds
 
--- with rows of a known width
-with_width : (nw nsum layers wr : ℕ) → row_width nw ≡ wr → nw ≤ 101888 → nsum ≤ 35840 → 1 ≤ layers → layers ≤ 512 → 64 ≤ wr → wr ≤ 512 → nw ≤ wr * wr
-    → 3 + div_ceil nw wr + 3 * div_ceil layers wr ≤ 265 → AreBounded (sizes nw nsum layers)
-with_width nw nsum layers wr e few sent some most wide narrow square rows = record {
-  nw = few;
-  wide = omega arith;
-  wr = omega arith;
-  block = refl;
-  dblock = refl;
-  mcol = refl;
-  ncol = omega arith;
-  nrow = rw e rows;
-  nsum = sent;
-  some = some;
-  layers = most;
-  square = rw e square;
-  columns = refl;
-  nwrow = refl;
-  ntriple = refl;
-  rows = refl;
-}
+module _ (nw nsum layers : ℕ) (few : nw ≤ most_committed) (sent : nsum ≤ most_sent) (some : 1 ≤ layers) (most : layers ≤ 512) where
+  -- with rows of a known width
+  with_width : (wr : ℕ) → row_width nw ≡ wr → 64 ≤ wr → wr ≤ most_row → nw ≤ wr * wr → 3 + div_ceil nw wr + 3 * div_ceil layers wr ≤ most_rows → AreBounded (sizes nw nsum layers)
+  with_width wr e wide narrow square rows = record {
+    nw = few;
+    wide = omega arith;
+    wr = omega arith;
+    block = refl;
+    dblock = refl;
+    mcol = refl;
+    ncol = omega arith;
+    nrow = rw e rows;
+    nsum = sent;
+    some = some;
+    layers = most;
+    square = rw e square;
+    columns = refl;
+    nwrow = refl;
+    ntriple = refl;
+    rows = refl;
+  }
 
-pub bounded : (nw nsum layers : ℕ) → nw ≤ 101888 → nsum ≤ 35840 → 1 ≤ layers → layers ≤ 512 → AreBounded (sizes nw nsum layers)
-bounded nw nsum layers few sent some most =
-    elim (cases_lt 4096 nw) [
-      | inr le ↦ with_width nw nsum layers 64 (width_64 nw le) few sent some most (omega arith) (omega arith) (omega arith) (omega arith)
-      | inl lt ↦
-          elim (cases_lt 16384 nw) [
-            | inr le ↦ with_width nw nsum layers 128 (width_128 nw lt le) few sent some most (omega arith) (omega arith) (omega arith) (omega arith)
-            | inl lt' ↦
-                elim (cases_lt 65536 nw) [
-                  | inr le ↦ with_width nw nsum layers 256 (width_256 nw lt' le) few sent some most (omega arith) (omega arith) (omega arith) (omega arith)
-                  | inl lt'' ↦ with_width nw nsum layers 512 (width_512 nw lt'' (omega arith)) few sent some most (omega arith) (omega arith) (omega arith) (omega arith)
-                ]
-          ]
-    ]
+  -- with rows above a width, some of which no list is long enough for
+  above_1024 : 1048576 < row_factor * nw → AreBounded (sizes nw nsum layers)
+  above_1024 lt =
+      elim (cases_lt 4194304 (row_factor * nw)) [
+        | inr le ↦ with_width 2048 (width_next nw 10 11 refl (omega arith) (omega arith) lt le) (omega arith) (omega arith) (omega arith) (omega arith)
+        | inl lt' ↦ with_width 4096 (width_next nw 11 12 refl (omega arith) (omega arith) lt' (omega arith)) (omega arith) (omega arith) (omega arith) (omega arith)
+      ]
+
+  above_512 : 262144 < row_factor * nw → AreBounded (sizes nw nsum layers)
+  above_512 lt =
+      elim (cases_lt 1048576 (row_factor * nw)) [
+        | inr le ↦ with_width 1024 (width_next nw 9 10 refl (omega arith) (omega arith) lt le) (omega arith) (omega arith) (omega arith) (omega arith)
+        | inl lt' ↦ above_1024 lt'
+      ]
+
+  above_256 : 65536 < row_factor * nw → AreBounded (sizes nw nsum layers)
+  above_256 lt =
+      elim (cases_lt 262144 (row_factor * nw)) [
+        | inr le ↦ with_width 512 (width_next nw 8 9 refl (omega arith) (omega arith) lt le) (omega arith) (omega arith) (omega arith) (omega arith)
+        | inl lt' ↦ above_512 lt'
+      ]
+
+  above_128 : 16384 < row_factor * nw → AreBounded (sizes nw nsum layers)
+  above_128 lt =
+      elim (cases_lt 65536 (row_factor * nw)) [
+        | inr le ↦ with_width 256 (width_next nw 7 8 refl (omega arith) (omega arith) lt le) (omega arith) (omega arith) (omega arith) (omega arith)
+        | inl lt' ↦ above_256 lt'
+      ]
+
+  above_64 : 4096 < row_factor * nw → AreBounded (sizes nw nsum layers)
+  above_64 lt =
+      elim (cases_lt 16384 (row_factor * nw)) [
+        | inr le ↦ with_width 128 (width_next nw 6 7 refl (omega arith) (omega arith) lt le) (omega arith) (omega arith) (omega arith) (omega arith)
+        | inl lt' ↦ above_128 lt'
+      ]
+
+  pub bounded : AreBounded (sizes nw nsum layers)
+  bounded =
+      elim (cases_lt 4096 (row_factor * nw)) [
+        | inr le ↦ with_width 64 (width_64 nw le) (omega arith) (omega arith) (omega arith) (omega arith)
+        | inl lt ↦ above_64 lt
+      ]
 
 pub params_bounded : {A : Type 0} (o : Ops A) (c : Wiring A) → IsValid o c → AreBounded (params_of c)
 params_bounded o c valid = bounded (committed_count c) (sent_counts c) (length c.layers) (committed_few o c valid) (sent_few o c valid) valid.some valid.depth
@@ -112,9 +140,9 @@ are_bounded o p h = subst (λ (q : Params). AreBounded q) (sym h.are) (params_bo
 
 -- ---- a file's length
 
-pub file_fits : (width elements rows digests : ℕ) → width ≤ 16 → elements ≤ most_elements → rows ≤ 265 → digests ≤ most_digests
+pub file_fits : (width elements rows digests : ℕ) → width ≤ 16 → elements ≤ most_elements → rows ≤ most_rows → digests ≤ most_digests
     → 72 + width * elements + opened_count * (32 + width * rows) + 32 * digests ≤ 2097152
-file_fits width elements rows digests w e r d = omega (arith, mul-le width elements 16 most_elements w e, mul-le width rows 16 265 w r)
+file_fits width elements rows digests w e r d = omega (arith, mul-le width elements 16 most_elements w e, mul-le width rows 16 most_rows w r)
 
 -- ---- places
 

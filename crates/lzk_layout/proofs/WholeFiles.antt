@@ -1,4 +1,5 @@
 -- Whole files, read part by part.
+use Rattle.lzk_profile.specs.Profile.{file_letter}
 use Rattle.std.proofs.Common.{◌≡◌, ℕ, eqb, true, false, List, [], ◌∷◌, ◌++◌, length, Result, Ok, Err, refl, ap, ◌∙◌, append_assoc}
 use Rattle.std.specs.Int.{w32, to_le_bytes}
 use Rattle.lzk_layout.specs.declared.params.Params.{Params}
@@ -61,5 +62,5 @@ module _ {A : Type 0} (s : Shape) (p : Params) (q : Proof A) (lengths : HasLengt
 
 -- the fields of a file, part by part
 pub fields_are : {A : Type 0} (field : A → List ℕ) (rows : ℕ) (q : Proof A)
-    → (((76 ∷ 90 ∷ 80 ∷ 49 ∷ []) ∷ q.id ∷ q.root ∷ []) ++ (answer_fields field q ++ opened_fields field rows q.nonces q.columns)) ++ (to_le_bytes w32 (length q.path.digests) ∷ q.path.digests) ≡ fields_of field rows q
+    → (((76 ∷ file_letter ∷ 80 ∷ 49 ∷ []) ∷ q.id ∷ q.root ∷ []) ++ (answer_fields field q ++ opened_fields field rows q.nonces q.columns)) ++ (to_le_bytes w32 (length q.path.digests) ∷ q.path.digests) ≡ fields_of field rows q
 fields_are field rows q = simp append_assoc

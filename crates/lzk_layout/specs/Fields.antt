@@ -1,5 +1,5 @@
 -- The fields of a proof's file, read from left to right, with the first check that fails.
-use Rattle.lzk_profile.specs.Profile.{opened_count, most_digests}
+use Rattle.lzk_profile.specs.Profile.{opened_count, most_digests, file_letter}
 use Rattle.std.specs.Prelude.{◌≡◌, ℕ, zero, suc, ◌-◌, ◌≤◌, List, [], ◌∷◌, ◌++◌, length, take, drop, replicate, Option, Some, None, Result, Ok, Err, nat_lt, nat_le, ◌==◌, ◌&&◌, Bool, false, if◌then◌else◌}
 use Rattle.std.specs.Int.{w32, from_le_bytes}
 use Rattle.lzk_field.specs.Bytes.{number_from}
@@ -30,9 +30,9 @@ width shape plain = 32
 width shape element = shape.bytes
 width shape count = 4
 
--- `LZP1`
+-- the file's first word, `LZP1` in LZK1
 abbrev pub is_magic : List ℕ → Bool
-is_magic (a ∷ b ∷ c ∷ d ∷ []) = (a == 76) && ((b == 90) && ((c == 80) && (d == 49)))
+is_magic (a ∷ b ∷ c ∷ d ∷ []) = (a == 76) && ((b == file_letter) && ((c == 80) && (d == 49)))
 is_magic _ = false
 
 -- the check that a whole field fails, if it fails one

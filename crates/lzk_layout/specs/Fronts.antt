@@ -1,5 +1,5 @@
 -- The front of a proof's file that was read: its whole fields, and the bytes of the next.
-use Rattle.lzk_profile.specs.Profile.{most_digests}
+use Rattle.lzk_profile.specs.Profile.{most_digests, file_letter}
 use Rattle.std.specs.Prelude.{◌≡◌, ◌≢◌, ℕ, ◌+◌, ◌-◌, ◌*◌, ◌<◌, List, [], ◌∷◌, ◌++◌, length, map, take, drop, replicate, Option, Some, None, option_map, unwrap_or, slice_get, slice_index_or}
 use Rattle.std.specs.Int.{w32, to_le_bytes, from_le_bytes}
 use Rattle.lzk_layout.specs.declared.params.Params.{Params}
@@ -136,7 +136,7 @@ FrontIsFile bytes size number p =
 
 -- this field is that part of the proof, whose columns have so many elements
 abbrev pub IsPartOf : {A : Type 0} → (A → List ℕ) → ℕ → Proof A → ProofPart → List ℕ → Type 0
-IsPartOf field rows q Magic f = f ≡ 76 ∷ 90 ∷ 80 ∷ 49 ∷ []
+IsPartOf field rows q Magic f = f ≡ 76 ∷ file_letter ∷ 80 ∷ 49 ∷ []
 IsPartOf field rows q Id f = f ≡ q.id
 IsPartOf field rows q Root f = f ≡ q.root
 IsPartOf field rows q (Message i) f = option_map field (slice_get q.messages i) ≡ Some f

@@ -74,7 +74,7 @@ before_tail p = before_head p + opened_count
 abbrev pub before_opened : Params → ℕ
 before_opened p = before_tail p + (p.dblock - p.block)
 
--- how many fields stand before the number of digests: to each of 128 columns a nonce and its elements come last
+-- how many fields stand before the number of digests: to each opened column a nonce and its elements come last
 abbrev pub before_count : Params → ℕ
 before_count p = before_opened p + opened_count * (1 + p.nrow)
 

@@ -1,5 +1,6 @@
 -- Where the sent elements and the committed entries of each layer stand, and where the copies of the factors stand in
 -- the rows.
+use Rattle.lzk_profile.specs.Profile.{most_bits}
 use Rattle.std.specs.Prelude.{ℕ, ◌+◌, ◌*◌, ◌/◌, ◌%◌, ◌≤◌, length, take, slice_index_or}
 use Rattle.std.specs.List.{sum_by}
 use Rattle.lzk_circuit.specs.Bits.{bits}
@@ -79,6 +80,6 @@ places_of c l = record {
 -- a layer's two factors are among the elements that are sent, and their pads and the product among those that are
 -- committed to
 pub record AreWithin {A : Type 0} (c : Wiring A) (places : LayerPlaces) : Type 0 where
-  pub bits : places.bits ≤ 17
+  pub bits : places.bits ≤ most_bits
   pub sent : places.factors_sent + 2 ≤ sent_counts c
   pub committed : places.factors + 3 ≤ committed_count c

@@ -1,5 +1,5 @@
 -- Proofs, and the bytes of their files.
-use Rattle.lzk_profile.specs.Profile.{opened_count, most_digests}
+use Rattle.lzk_profile.specs.Profile.{opened_count, most_digests, file_letter}
 use Rattle.std.specs.Prelude.{◌≡◌, ℕ, ◌-◌, ◌*◌, ◌<◌, ◌≤◌, List, [], ◌∷◌, ◌++◌, length, map, take, drop, replicate, slice_index_or}
 use Rattle.std.specs.Int.{w32, to_le_bytes}
 use Rattle.lzk_field.specs.Ring.{Ops}
@@ -28,11 +28,11 @@ answers_bytes field proof =
     flat (map field proof.messages) ++ (flat (map field proof.ldt)
     ++ (flat (map field proof.dot) ++ (flat (map field proof.quad_head) ++ flat (map field proof.quad_tail))))
 
--- all fields of a proof's file: `LZP1`, the circuit's id, the root, the elements sent, the opened columns, and the path
--- behind its count
+-- all fields of a proof's file: its first word (`LZP1` in LZK1), the circuit's id, the root, the elements sent, the
+-- opened columns, and the path behind its count
 abbrev pub fields_of : {A : Type 0} → (A → List ℕ) → ℕ → Proof A → List (List ℕ)
 fields_of field rows proof =
-    (76 ∷ 90 ∷ 80 ∷ 49 ∷ []) ∷ proof.id ∷ proof.root ∷ (map field proof.messages ++ (map field proof.ldt
+    (76 ∷ file_letter ∷ 80 ∷ 49 ∷ []) ∷ proof.id ∷ proof.root ∷ (map field proof.messages ++ (map field proof.ldt
     ++ (map field proof.dot ++ (map field proof.quad_head ++ (map field proof.quad_tail
     ++ (opened_fields field rows proof.nonces proof.columns
     ++ (to_le_bytes w32 (length proof.path.digests) ∷ proof.path.digests)))))))
@@ -52,7 +52,7 @@ pub record HasLengths {A : Type 0} (p : Params) (proof : Proof A) : Type 0 where
   pub columns : length proof.columns ≡ opened_count * p.nrow
 
 -- The bytes are the file of a proof, for elements of so many bytes: its fields in order, with the parameters' lengths
--- and at most 1,536 digests.
+-- and no more digests than a path may have.
 pub record ProofBytes {A : Type 0} (bytes : ℕ) (number : A → ℕ) (p : Params) (proof : Proof A)
     (file : List ℕ) : Type 0 where
   pub lengths : HasLengths p proof
@@ -66,7 +66,7 @@ pub record ProofBytes {A : Type 0} (bytes : ℕ) (number : A → ℕ) (p : Param
 abbrev pub zero_digest : List ℕ
 zero_digest = replicate 32 0
 
--- all elements and bytes are zero, the path is empty, and there is room for 1,536 digests
+-- all elements and bytes are zero, the path is empty, and there is room for as many digests as a path may have
 abbrev pub zero_proof : {A : Type 0} → Ops A → Params → Proof A
 zero_proof o p = record {
   id = zero_digest;

@@ -1,6 +1,6 @@
 -- The parameters of a circuit: how long its committed list is, how it is laid out in rows, and how long a proof's file
 -- is.
-use Rattle.lzk_profile.specs.Profile.{opened_count, most_points}
+use Rattle.lzk_profile.specs.Profile.{opened_count, most_points, row_factor, most_committed, most_row, most_rows, most_sent}
 use Rattle.std.specs.Prelude.{◌≡◌, ℕ, ◌+◌, ◌-◌, ◌*◌, ◌/◌, ◌%◌, ◌^◌, ◌≤◌, nat_le, List, [], ◌∷◌, length, drop}
 use Rattle.std.specs.Int.{div_ceil}
 use Rattle.std.specs.List.{sum, sum_by}
@@ -10,9 +10,9 @@ use Rattle.lzk_circuit.specs.Limits.{most_layers}
 use Rattle.lzk_circuit.specs.Valid.{Wiring, IsValid, widths}
 use Rattle.lzk_layout.specs.declared.params.Params.{Params}
 
--- the least power of two, at least 64, whose square is no less than nw
+-- the least power of two, at least 64, whose square is no less than row_factor times nw
 unfoldable pub row_width : ℕ → ℕ
-row_width nw = 2 ^ least_from (λ k. nat_le nw (2 ^ k * 2 ^ k)) nw 6
+row_width nw = 2 ^ least_from (λ k. nat_le (row_factor * nw) (2 ^ k * 2 ^ k)) nw 6
 
 -- the widths of the layers that each layer stands on: from layer 1 on, and the input layer last
 abbrev pub under_widths : {A : Type 0} → Wiring A → List ℕ
@@ -68,15 +68,15 @@ pub record AreParams {A : Type 0} (o : Ops A) (p : Params) : Type 0 where
 
 -- how parameters hang together, and what the limits on circuits leave of them
 pub record AreBounded (p : Params) : Type 0 where
-  pub nw : p.nw ≤ 101888
+  pub nw : p.nw ≤ most_committed
   pub wide : 64 ≤ p.wr
-  pub wr : p.wr ≤ 512
+  pub wr : p.wr ≤ most_row
   pub block : p.block ≡ opened_count + p.wr
   pub dblock : p.dblock ≡ 2 * p.block - 1
   pub mcol : p.mcol ≡ 4 * p.block
   pub ncol : p.ncol ≤ most_points
-  pub nrow : p.nrow ≤ 265
-  pub nsum : p.nsum ≤ 35840
+  pub nrow : p.nrow ≤ most_rows
+  pub nsum : p.nsum ≤ most_sent
   pub some : 1 ≤ p.layers
   pub layers : p.layers ≤ most_layers
   pub square : p.nw ≤ p.wr * p.wr

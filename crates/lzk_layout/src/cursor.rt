@@ -19,6 +19,7 @@ use crate::limits::MOST_DIGESTS;
 use crate::params::Params;
 use crate::part::{ProofPart, part_of, width_of};
 use lzk_field::Field;
+use lzk_profile::FILE_LETTER;
 use std::marker::{Model, PhantomData};
 
 /// What a byte ends.
@@ -88,7 +89,7 @@ fn wrong_magic(field: &[u8]) -> Option<ProofKind>
     ensures { (s : Shape) → result ≡ wrong s magic field.now }
 {
     match field {
-        [b'L', b'Z', b'P', b'1'] => None,
+        [b'L', FILE_LETTER, b'P', b'1'] => None,
         _ => Some(ProofKind::Magic),
     }
 }

@@ -1,6 +1,6 @@
 //! The proof whose file the bytes are.
 
-ghost use Rattle.lzk_profile.specs.Profile.{most_digests};
+ghost use Rattle.lzk_profile.specs.Profile.{most_digests, file_letter};
 ghost use Rattle.std.specs.Prelude.{◌≡◌, ℕ, ◌≤◌, ◌*◌, ◌++◌, [], ◌∷◌, length, map, replicate, OnOk, OnErr, IfErr, is_ok};
 ghost use Rattle.lzk_layout.specs.Sizes.{AreParams, proof_length};
 ghost use Rattle.lzk_layout.specs.Proofs.{element_field, opened_fields, fields_of, AreDigests, HasLengths, ProofBytes};
@@ -19,7 +19,7 @@ use lzk_field::Field;
 // The magic, the circuit's id and the root.
 #[tactic(auto, unfolding(crate::specs::Fields::fields_at))]
 fn head_into<'a, F: Field>(proof: &mut Proof<F>, bytes: &'a [u8]) -> Result<&'a [u8], Stop>
-    ensures read { Gives (λ rest. ((76 ∷ 90 ∷ 80 ∷ 49 ∷ []) ∷ proof.new.id ∷ proof.new.root ∷ [], rest.now)) result
+    ensures read { Gives (λ rest. ((76 ∷ file_letter ∷ 80 ∷ 49 ∷ []) ∷ proof.new.id ∷ proof.new.root ∷ [], rest.now)) result
         (fields_at (shape F.coding.bytes F.coding.size) (magic ∷ plain ∷ plain ∷ []) bytes.now) }
     ensures id { OnOk result (length proof.new.id ≡ 32) }
     ensures root { OnOk result (length proof.new.root ≡ 32) }

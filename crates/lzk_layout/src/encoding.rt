@@ -1,6 +1,6 @@
 //! Writing a proof's file.
 
-ghost use Rattle.lzk_profile.specs.Profile.{most_digests};
+ghost use Rattle.lzk_profile.specs.Profile.{most_digests, file_letter};
 ghost use Rattle.std.specs.Prelude.{◌≡◌, ◌+◌, ◌*◌, ◌≤◌, ◌++◌, [], ◌∷◌, length, map, take};
 ghost use Rattle.std.specs.Int.{w32, to_le_bytes};
 ghost use Rattle.lzk_layout.specs.Sizes.{AreParams, proof_length};
@@ -10,6 +10,7 @@ ghost use Rattle.lzk_layout.specs.Files.{OneFile};
 use crate::params::Params;
 use crate::proof::Proof;
 use lzk_field::Field;
+use lzk_profile::FILE_LETTER;
 
 // The bytes from `at` on become these. Where they end.
 fn put(out: &mut [u8], at: usize, bytes: &[u8]) -> usize
@@ -96,11 +97,11 @@ fn put_head<F: Field>(out: &mut [u8], proof: &Proof<F>) -> usize
     requires { 68 ≤ length out.old }
     ensures end { result ≡ 68 }
     ensures length { length out.new ≡ length out.old }
-    ensures front { take result out.new ≡ (76 ∷ 90 ∷ 80 ∷ 49 ∷ []) ++ (proof.now.id ++ proof.now.root) }
+    ensures front { take result out.new ≡ (76 ∷ file_letter ∷ 80 ∷ 49 ∷ []) ++ (proof.now.id ++ proof.now.root) }
     ensures id { length proof.now.id ≡ 32 }
     ensures root { length proof.now.root ≡ 32 }
 {
-    let end = put(out, 0, b"LZP1");
+    let end = put(out, 0, &[b'L', FILE_LETTER, b'P', b'1']);
     let end = put(out, end, &proof.id);
     put(out, end, &proof.root)
 }

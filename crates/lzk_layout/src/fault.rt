@@ -5,11 +5,11 @@
 pub enum ProofKind {
     /// The bytes end before a field does.
     Truncated,
-    /// The file does not begin with `LZP1`.
+    /// The file does not begin with its first word, `LZP1` in LZK1.
     Magic,
     /// The number of an element is not below the field's size.
     Element,
-    /// The number of digests is above 1,536.
+    /// The number of digests is above the most that a path may have, 1,536 in LZK1.
     PathLimit,
     /// Bytes are left behind the last digest.
     Trailing,

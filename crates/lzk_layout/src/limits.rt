@@ -1,6 +1,3 @@
 //! What each proof has a fixed number of, and its limits.
 
-pub use lzk_profile::{BLINDS, MOST_DIGESTS, OPENED};
-
-/// Rows of a tableau, at most.
-pub const MOST_ROWS: usize = 265;
+pub use lzk_profile::{BLINDS, MOST_DIGESTS, MOST_ROWS, OPENED};

@@ -1,6 +1,6 @@
 //! The parameters of a circuit.
 
-ghost use Rattle.lzk_profile.specs.Profile.{most_digests};
+ghost use Rattle.lzk_profile.specs.Profile.{most_digests, most_committed, most_row, most_sent};
 ghost use Rattle.std.specs.Prelude.{◌≡◌, ◌<◌, ◌≤◌, ◌+◌, ◌*◌};
 ghost use Rattle.lzk_layout.specs.Sizes.{row_width, sent_counts, committed_count, params_of, AreParams, AreBounded, place_of, proof_length};
 ghost use Rattle.lzk_layout.specs.Places.{copy_place_of};
@@ -8,6 +8,7 @@ ghost use Rattle.lzk_layout.specs.Places.{copy_place_of};
 use crate::limits::{BLINDS, OPENED};
 use lzk_circuit::{Circuit, bits_of};
 use lzk_field::Field;
+use lzk_profile::ROW_FACTOR;
 
 /// The numbers and lengths that a circuit gives, those of 'Parameters and committed values' of the profile in
 /// docs/FORMATS.md.
@@ -17,7 +18,7 @@ pub struct Params {
     pub nw: u32,
     /// How many of them stand in a row.
     pub wr: u32,
-    /// How many values give a row's polynomial: 128 random ones, and the row's elements.
+    /// How many values give a row's polynomial: as many random ones as columns are opened, and the row's elements.
     pub block: u32,
     /// How many values give the product of two rows' polynomials.
     pub dblock: u32,
@@ -37,21 +38,28 @@ pub struct Params {
     pub layers: u32,
 }
 
-// The least power of two, at least 64, whose square is no less than `nw`.
+// The least power of two, at least 64, whose square is no less than `ROW_FACTOR` times `nw`.
 fn row_width_of(nw: u32) -> u32
-    requires { nw ≤ 101888 }
+    requires { nw ≤ most_committed }
     ensures width { result ≡ row_width nw }
     ensures wide { 64 ≤ result }
-    ensures narrow { result ≤ 512 }
+    ensures narrow { result ≤ most_row }
 {
-    if nw <= 64 * 64 {
+    let least = ROW_FACTOR * nw;
+    if least <= 64 * 64 {
         64
-    } else if nw <= 128 * 128 {
+    } else if least <= 128 * 128 {
         128
-    } else if nw <= 256 * 256 {
+    } else if least <= 256 * 256 {
         256
-    } else {
+    } else if least <= 512 * 512 {
         512
+    } else if least <= 1024 * 1024 {
+        1024
+    } else if least <= 2048 * 2048 {
+        2048
+    } else {
+        4096
     }
 }
 
@@ -59,8 +67,8 @@ fn row_width_of(nw: u32) -> u32
 fn counts_of<F: Field>(circuit: &Circuit<F>) -> (u32, u32)
     ensures sent { result.0 ≡ sent_counts circuit.now }
     ensures committed { result.1 ≡ committed_count circuit.now }
-    ensures few_sent { result.0 ≤ 35840 }
-    ensures few_committed { result.1 ≤ 101888 }
+    ensures few_sent { result.0 ≤ most_sent }
+    ensures few_committed { result.1 ≤ most_committed }
 {
     let mut sent: u32 = 0;
     let mut pads: u32 = 0;

@@ -1,6 +1,6 @@
 //! The parts of a proof's file.
 
-ghost use Rattle.lzk_profile.specs.Profile.{opened_count};
+ghost use Rattle.lzk_profile.specs.Profile.{opened_count, most_rows};
 ghost use Rattle.std.specs.Prelude.{◌≡◌, ◌≤◌, ◌++◌, slice_get};
 ghost use Rattle.lzk_layout.specs.Sizes.{AreBounded};
 ghost use Rattle.lzk_layout.specs.Fields.{shape};
@@ -13,7 +13,7 @@ use lzk_field::Field;
 /// What a field of a proof's file is. Elements and digests are numbered from 0, in the order of the file.
 #[derive(Clone, Copy, Debug, PartialEq, Eq)]
 pub enum ProofPart {
-    /// The four bytes `LZP1`.
+    /// The four bytes of the first word, `LZP1` in LZK1.
     Magic,
     /// The circuit's id.
     Id,
@@ -25,7 +25,7 @@ pub enum ProofPart {
     Ldt(u32),
     /// A value of the linear answer.
     Dot(u32),
-    /// One of the quadratic answer's first 128 values.
+    /// One of the quadratic answer's first values, as many as columns are opened.
     QuadHead(u32),
     /// One of the quadratic answer's last values.
     QuadTail(u32),
@@ -54,7 +54,7 @@ fn path_part(digests: u32, k: u32) -> Option<ProofPart>
 
 // The part of number `k` from the first opened column on.
 fn opened_part(rows: u32, digests: u32, k: u32) -> Option<ProofPart>
-    requires { rows ≤ 265 }
+    requires { rows ≤ most_rows }
     ensures { result ≡ slice_get (opened_parts rows opened_count ++ path_parts digests) k }
 {
     let each = 1 + rows;

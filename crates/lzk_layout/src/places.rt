@@ -1,5 +1,6 @@
 //! Where each layer's elements and pads stand.
 
+ghost use Rattle.lzk_profile.specs.Profile.{most_bits, most_sent, most_committed};
 ghost use Rattle.std.specs.Prelude.{◌≡◌, ℕ, ◌+◌, ◌<◌, ◌≤◌, length};
 ghost use Rattle.lzk_circuit.specs.Bits.{bits};
 ghost use Rattle.lzk_circuit.specs.Valid.{IsValid};
@@ -40,7 +41,7 @@ fn bits_below<F: Field>(circuit: &Circuit<F>, depth: u32, l: u32) -> u32
     requires depth { depth ≡ length circuit.now.layers }
     requires valid { IsValid F.ops circuit.now }
     ensures bits { result ≡ bits_under circuit.now l }
-    ensures few { result ≤ 17 }
+    ensures few { result ≤ most_bits }
 {
     if l < depth {
         bits_of(circuit.width(l + 1))
@@ -53,7 +54,7 @@ fn bits_below<F: Field>(circuit: &Circuit<F>, depth: u32, l: u32) -> u32
 pub fn layer_bits<F: Field>(circuit: &Circuit<F>, l: u32) -> u32
     requires layer { l ≤ depth circuit.now }
     ensures bits { result ≡ bits (width_at circuit.now l) }
-    ensures few { result ≤ 17 }
+    ensures few { result ≤ most_bits }
 {
     circuit.valid_laws();
     bits_of(circuit.width(l))
@@ -63,7 +64,7 @@ pub fn layer_bits<F: Field>(circuit: &Circuit<F>, l: u32) -> u32
 pub fn most_bits<F: Field>(circuit: &Circuit<F>) -> u32
     ensures most { (l : ℕ) → l < depth circuit.now + 1 → bits (width_at circuit.now l) ≤ result }
     ensures least { (n : ℕ) → ((l : ℕ) → l < depth circuit.now + 1 → bits (width_at circuit.now l) ≤ n) → result ≤ n }
-    ensures few { result ≤ 17 }
+    ensures few { result ≤ most_bits }
 {
     let mut most: u32 = 0;
     for l in 0..circuit.depth() + 1 {
@@ -78,9 +79,9 @@ pub fn most_bits<F: Field>(circuit: &Circuit<F>) -> u32
 impl LayerPlaces {
     // The places of a layer whose elements and pads begin here.
     fn from(bits: u32, messages: u32, pads: u32) -> LayerPlaces
-        requires bits { bits ≤ 17 }
-        requires messages { messages ≤ 35840 }
-        requires pads { pads ≤ 101888 }
+        requires bits { bits ≤ most_bits }
+        requires messages { messages ≤ most_sent }
+        requires pads { pads ≤ most_committed }
         ensures { result ≡ begun bits messages pads }
     {
         LayerPlaces {

@@ -23,7 +23,7 @@ pub struct Proof<F> {
     pub ldt: Elements<F>,
     /// The linear answer.
     pub dot: Elements<F>,
-    /// The quadratic answer's first 128 values.
+    /// The quadratic answer's first values, as many as columns are opened.
     pub quad_head: Elements<F>,
     /// The quadratic answer's last values, those behind the row's elements.
     pub quad_tail: Elements<F>,
@@ -44,7 +44,7 @@ fn zero_blocks(alloc: Global, count: usize) -> Result<Blocks, AllocError>
 }
 
 impl<F: Field> Proof<F> {
-    /// A proof of zeros for these parameters, with an empty path and room for 1,536 digests.
+    /// A proof of zeros for these parameters, with an empty path and room for as many digests as a path may have.
     pub fn new(alloc: Global, params: &Params) -> Result<Proof<F>, AllocError>
         requires { AreParams F.ops params.now }
         ensures zeros { IfOk result (λ proof. proof ≡ zero_proof F.ops params.now) }

@@ -1,6 +1,6 @@
 //! Reading the fields of a proof's file.
 
-ghost use Rattle.lzk_profile.specs.Profile.{most_digests};
+ghost use Rattle.lzk_profile.specs.Profile.{most_digests, file_letter};
 ghost use Rattle.std.specs.Prelude.{◌≡◌, ℕ, ◌+◌, ◌*◌, ◌≤◌, ◌++◌, [], ◌∷◌, length, map, replicate, IfOk, OnOk};
 ghost use Rattle.std.specs.Int.{w32, to_le_bytes};
 ghost use Rattle.lzk_layout.specs.Proofs.{element_field, opened_fields, AreDigests};
@@ -11,6 +11,7 @@ use crate::fault::{ProofKind, Stop};
 use crate::limits::MOST_DIGESTS;
 use crate::lists::Path;
 use lzk_field::Field;
+use lzk_profile::FILE_LETTER;
 
 /// The check of the field that begins these bytes failed.
 pub fn stop(kind: ProofKind, bytes: &[u8]) -> Stop
@@ -26,10 +27,10 @@ pub fn stop(kind: ProofKind, bytes: &[u8]) -> Stop
 #[tactic(auto, unfolding(crate::specs::Fields::field_at, crate::specs::Fields::wrong))]
 pub fn magic_of(bytes: &[u8]) -> Result<&[u8], Stop>
     ensures { (shape : Shape)
-        → Gives (λ rest. (76 ∷ 90 ∷ 80 ∷ 49 ∷ [], rest.now)) result (field_at shape magic bytes.now) }
+        → Gives (λ rest. (76 ∷ file_letter ∷ 80 ∷ 49 ∷ [], rest.now)) result (field_at shape magic bytes.now) }
 {
     match bytes {
-        [b'L', b'Z', b'P', b'1', rest @ ..] => Ok(rest),
+        [b'L', FILE_LETTER, b'P', b'1', rest @ ..] => Ok(rest),
         [_, _, _, _, ..] => Err(stop(ProofKind::Magic, bytes)),
         _ => Err(stop(ProofKind::Truncated, bytes)),
     }

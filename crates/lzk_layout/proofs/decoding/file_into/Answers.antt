@@ -1,3 +1,4 @@
+use Rattle.lzk_profile.specs.Profile.{file_letter}
 use Rattle.std.proofs.Common.{ℕ, List, ◌≡◌, ◌∷◌, [], length, Ok, Result, ap, sym, ◌∙◌}
 use Rattle.std.specs.Int.{w32, to_le_bytes}
 use Rattle.std.proofs.lemmas.Result.{err_from_is_err_and}
@@ -29,7 +30,7 @@ returns-in_err-rest-2-clause-read g c =
     let d = c.in_err-rest-2.field-0.0 in
     let q = c.head_into.new.proof in
     let lengths = c.head_into.ensures.lengths p c.requires.lengths in
-    let head = (76 ∷ 90 ∷ 80 ∷ 49 ∷ []) ∷ q.id ∷ q.root ∷ [] in
+    let head = (76 ∷ file_letter ∷ 80 ∷ 49 ∷ []) ∷ q.id ∷ q.root ∷ [] in
     rw (e.1, e.2) (answers_stop s p q lengths bytes head c.in_ok-rest.rest.now c.in_ok-rest.ensures.read d c.in_err-rest-2.ensures.read)
 
 pub returns-in_err-rest-3-clause-read : goal.returns-in_err-rest-3-clause-read
@@ -42,7 +43,7 @@ returns-in_err-rest-3-clause-read g c =
     let d = c.in_err-rest-3.field-0.0 in
     let q = c.head_into.new.proof in
     let lengths = c.head_into.ensures.lengths p c.requires.lengths in
-    let head = (76 ∷ 90 ∷ 80 ∷ 49 ∷ []) ∷ q.id ∷ q.root ∷ [] in
+    let head = (76 ∷ file_letter ∷ 80 ∷ 49 ∷ []) ∷ q.id ∷ q.root ∷ [] in
     let answered = c.answers_into.new.proof in
     let answers = answer_fields field answered in
     let count : length answered.nonces ≡ length q.nonces = ap (λ (r : Proof g.row.F.Denot). length r.nonces) c.answers_into.ensures.others in
@@ -59,7 +60,7 @@ returns-in_err-rest-4-clause-read g c =
     let d = c.in_err-rest-4.field-0.0 in
     let q = c.head_into.new.proof in
     let lengths = c.head_into.ensures.lengths p c.requires.lengths in
-    let head = (76 ∷ 90 ∷ 80 ∷ 49 ∷ []) ∷ q.id ∷ q.root ∷ [] in
+    let head = (76 ∷ file_letter ∷ 80 ∷ 49 ∷ []) ∷ q.id ∷ q.root ∷ [] in
     let answered = c.answers_into.new.proof in
     let answers = answer_fields field answered in
     let count : length answered.nonces ≡ length q.nonces = ap (λ (r : Proof g.row.F.Denot). length r.nonces) c.answers_into.ensures.others in
@@ -76,7 +77,7 @@ returns-then-not-is_empty-clause-read g c =
     let bytes = c.args.bytes.now in
     let q = c.head_into.new.proof in
     let lengths = c.head_into.ensures.lengths p c.requires.lengths in
-    let head = (76 ∷ 90 ∷ 80 ∷ 49 ∷ []) ∷ q.id ∷ q.root ∷ [] in
+    let head = (76 ∷ file_letter ∷ 80 ∷ 49 ∷ []) ∷ q.id ∷ q.root ∷ [] in
     let answered = c.answers_into.new.proof in
     let answers = answer_fields field answered in
     let count : length answered.nonces ≡ length q.nonces = ap (λ (r : Proof g.row.F.Denot). length r.nonces) c.answers_into.ensures.others in
@@ -96,8 +97,8 @@ returns-clause-read g c =
     let lengths = c.head_into.ensures.lengths p c.requires.lengths in
     let answered = c.answers_into.new.proof in
     let answers = answer_fields field answered in
-    let head = (76 ∷ 90 ∷ 80 ∷ 49 ∷ []) ∷ answered.id ∷ answered.root ∷ [] in
-    let head_of = λ (r : Proof g.row.F.Denot). let x : Result (List (List ℕ) × List ℕ) Stop = Ok ((76 ∷ 90 ∷ 80 ∷ 49 ∷ []) ∷ r.id ∷ r.root ∷ [], c.in_ok-rest.rest.now) in x in
+    let head = (76 ∷ file_letter ∷ 80 ∷ 49 ∷ []) ∷ answered.id ∷ answered.root ∷ [] in
+    let head_of = λ (r : Proof g.row.F.Denot). let x : Result (List (List ℕ) × List ℕ) Stop = Ok ((76 ∷ file_letter ∷ 80 ∷ 49 ∷ []) ∷ r.id ∷ r.root ∷ [], c.in_ok-rest.rest.now) in x in
     let head_read : fields_at s head_sorts bytes ≡ Ok (head, c.in_ok-rest.rest.now) = c.in_ok-rest.ensures.read ∙ sym (ap head_of c.answers_into.ensures.others) in
     let count : length answered.nonces ≡ length q.nonces = ap (λ (r : Proof g.row.F.Denot). length r.nonces) c.answers_into.ensures.others in
     let opened = opened_fields field p.nrow c.columns_into.new.nonces c.columns_into.new.columns in
