@@ -3,6 +3,7 @@ use Rattle.std.specs.Prelude.{◌≡◌, ℕ, ◌<◌, ◌≤◌, ◌+◌, ◌*�
 use Rattle.std.proofs.Common.{suc, refl, sym, ap, ◌∙◌, arith, inl, inr, lit<}
 use Rattle.std.proofs.lemmas.Bool.{cases_lt}
 use Rattle.std.proofs.lemmas.List.{length-take-le, length-append, get_or_append_left, get_or-append-add, get_or-take}
+use Rattle.lzk_profile.specs.Profile.{most_bits}
 use Rattle.lzk_field.proofs.Solve.{var, unit, ◌⊟◌, ◌⊠◌, solve}
 use Rattle.std.proofs.Math.Nat.{pow-succ', pow-le-pow_right}
 use Rattle.lzk_field.specs.Ring.{Ops, RingLaws}
@@ -40,7 +41,7 @@ module _ {A : Type 0} (o : Ops A) where
       let e : suc (length (take j xs)) ≤ length xs = omega (arith, length-take-le j xs (omega arith)) in
       omega (arith, pow-le-pow_right {n = 2} (lit< tt) e, pow-succ' 2 (length (take j xs)))
 
-  pub not_large : (n : ℕ) → n ≤ 17 → 2 ^ n ≤ 131072
+  pub not_large : (n : ℕ) → n ≤ most_bits → 2 ^ n ≤ 2 ^ most_bits
   not_large n l = pow-le-pow_right {n = 2} (lit< tt) l
 
 -- A table in two halves of which the second is x times what the first was, and the first is less the second.

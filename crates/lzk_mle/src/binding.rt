@@ -3,6 +3,7 @@
 ghost use Rattle.std.specs.Prelude.{◌≡◌, ℕ, ◌+◌, ◌*◌, ◌/◌, ◌%◌, ◌^◌, ◌<◌, ◌≤◌, List, ◌∷◌, length, take};
 ghost use Rattle.lzk_field.specs.Sums.{minus, entry};
 ghost use Rattle.lzk_mle.specs.Multilinear.{tilde, corner};
+ghost use Rattle.lzk_profile.specs.Profile.{most_bits};
 
 use lzk_field::Field;
 
@@ -56,7 +57,7 @@ fn fill<F: Field>(values: &[F], room: &mut [F])
 
 /// The extension of the values at `r`, those past their end being zero. `room` is written over.
 pub fn tilde<F: Field>(values: &[F], r: &[F], room: &mut [F]) -> F
-    requires few { length r.now ≤ 17 }
+    requires few { length r.now ≤ most_bits }
     requires fits { length values.now ≤ 2 ^ length r.now }
     requires room { length room.old ≡ 2 ^ length r.now }
     ensures value { result ≡ tilde F.ops values.now r.now }

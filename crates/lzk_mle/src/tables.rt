@@ -3,6 +3,7 @@
 ghost use Rattle.std.specs.Prelude.{◌≡◌, ℕ, ◌+◌, ◌*◌, ◌^◌, ◌<◌, ◌≤◌, length};
 ghost use Rattle.lzk_field.specs.Sums.{minus, entry};
 ghost use Rattle.lzk_mle.specs.Multilinear.{eq};
+ghost use Rattle.lzk_profile.specs.Profile.{most_bits};
 
 use lzk_field::Field;
 
@@ -49,7 +50,7 @@ fn double<F: Field>(table: &mut [F], size: usize, x: F)
 /// Sets each entry of the table to `eq` of its number and `r`: the product over the bits of the
 /// number, the least significant first, of `r[j]` for a one and of `1 - r[j]` for a zero.
 pub fn eq_table<F: Field>(r: &[F], out: &mut [F])
-    requires few { length r.now ≤ 17 }
+    requires few { length r.now ≤ most_bits }
     requires size { length out.old ≡ 2 ^ length r.now }
     ensures length { length out.new ≡ length out.old }
     ensures entries { let o = F.ops in (i : ℕ) → i < length out.new → entry o out.new i ≡ eq o i r.now }

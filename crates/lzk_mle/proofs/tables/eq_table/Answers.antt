@@ -1,5 +1,6 @@
-use Rattle.std.proofs.Common.{◌*◌, ◌<◌, ◌≤◌, length, take, ap, sym, ◌∙◌, subst, arith, rules, ◌∷◌, [], ◌++◌}
+use Rattle.std.proofs.Common.{◌*◌, ◌^◌, ◌<◌, ◌≤◌, length, take, ap, sym, ◌∙◌, subst, arith, rules, ◌∷◌, [], ◌++◌}
 use Rattle.std.proofs.lemmas.List.{take_more, get_or-set_same, length-set}
+use Rattle.lzk_profile.specs.Profile.{most_bits}
 use Rattle.lzk_mle.proofs.LoopStates.{IsEqTable, eq_table_first, eq_table_more, room_for, not_large}
 use Rattle.lzk_mle.proofs.tables.eq_table.Goals as goal
 
@@ -15,7 +16,7 @@ double-requires-after_bounds g c κs within =
 
 pub overflow_mul-size : goal.overflow_mul-size
 overflow_mul-size g c =
-    let b : c.loop-j.size * 2 ≤ 131072 = omega (arith, c.loop-j.invariant.size_is, room_for g.F.Field.ops c.args.r.now c.loop-j.j (omega arith), not_large g.F.Field.ops (length c.args.r.now) c.requires.few) in
+    let b : c.loop-j.size * 2 ≤ 2 ^ most_bits = omega (arith, c.loop-j.invariant.size_is, room_for g.F.Field.ops c.args.r.now c.loop-j.j (omega arith), not_large g.F.Field.ops (length c.args.r.now) c.requires.few) in
     omega arith
 
 pub loop-j-preserved : goal.loop-j-preserved
