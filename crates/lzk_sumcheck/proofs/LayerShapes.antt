@@ -1,4 +1,5 @@
 -- A circuit's layers by number: their terms, and how many values stand below them.
+use Rattle.lzk_profile.specs.Profile.{most_total}
 use Rattle.std.specs.Prelude.{◌≡◌, ℕ, ◌+◌, ◌<◌, ◌≤◌, ◌∷◌, List, [], length, map, slice_get, slice_index_or}
 use Rattle.std.proofs.Common.{sym, ap, ◌∙◌, arith, subst}
 use Rattle.std.proofs.lemmas.Option.{get_or_from_slice_get, slice_get_within}
@@ -45,7 +46,7 @@ module _ {A : Type 0} (c : Wiring A) (l : ℕ) (layer : Layer A) (is : slice_get
       ∙ sym (get_or-map (λ x. x.terms) c.layers l layer [] within)
 
   -- they are few
-  pub terms_few : (o : Ops A) → IsValid o c → length layer.terms ≤ 2097152
+  pub terms_few : (o : Ops A) → IsValid o c → length layer.terms ≤ most_total
   terms_few o valid =
       let here : layer ≡ slice_index_or c.layers l layer = sym (get_or_from_slice_get c.layers l layer layer is) in
       omega (arith, ap (λ (x : Layer A). length x.terms) here, (layer-at o c l layer (slice_get_within c.layers l layer is) valid).terms)

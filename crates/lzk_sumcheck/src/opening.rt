@@ -6,16 +6,17 @@ ghost use Rattle.lzk_sumcheck.specs.Draws.{with_array};
 ghost use Rattle.lzk_sumcheck.specs.Opening as spec;
 
 use lzk_field::Field;
+use lzk_profile::TAPE_LETTER;
 use lzk_transcript::Tape;
 
-/// The new tape with `lzk1`, the session, the circuit's id and the public inputs written (docs/PROTOCOL.md, section 1).
-/// The root of the tree of columns comes next.
+/// The new tape with its label (`lzk1` in LZK1), the session, the circuit's id and the public inputs written
+/// (docs/PROTOCOL.md, section 1). The root of the tree of columns comes next.
 #[tactic(auto, unfolding(crate::specs::Opening::public_tape))]
 pub fn public_tape<F: Field>(session: &[u8], id: &[u8; 32], public: &[F]) -> Tape
     ensures { result ≡ spec.public_tape F.coding session.now id.now public.now }
 {
     let mut tape = Tape::new();
-    tape.bytes(b"lzk1");
+    tape.bytes(&[b'l', b'z', TAPE_LETTER, b'1']);
     tape.bytes(session);
     tape.bytes(id);
     tape.array(public);

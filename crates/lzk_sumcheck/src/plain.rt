@@ -1,5 +1,6 @@
 //! A round's value by the plain sum, over all points of zeros and ones for the variables that are left.
 
+ghost use Rattle.lzk_profile.specs.Profile.{most_bits, most_width};
 ghost use Rattle.std.specs.Prelude.{◌≡◌, ◌*◌, ◌^◌, ◌<◌, ◌≤◌, Bool, true, false, None, length};
 ghost use Rattle.lzk_field.specs.Sums.{entry};
 ghost use Rattle.lzk_mle.specs.Multilinear.{low_bit, agree, eq, tilde};
@@ -67,7 +68,7 @@ fn eq_part<F: Field>(on: &SumPoint<'_, F>, a: bool, number: u32) -> F
 
 // The values' extension at these variables.
 fn tilde_part<F: Field>(values: &[F], on: &SumPoint<'_, F>, a: bool) -> F
-    requires { length values.now ≤ 131072 }
+    requires { length values.now ≤ most_width }
     ensures { result ≡ tilde F.ops values.now
         (every_other a (point F.ops on.now.bits on.now.bound.now on.now.t on.now.z)) }
 {
@@ -127,9 +128,9 @@ fn plain_sum<F: Field>(
     bound: &[F],
     t: F,
 ) -> F
-    requires few { bits ≤ 17 }
+    requires few { bits ≤ most_bits }
     requires free { length bound.now < 2 * bits }
-    requires size { length values.now ≤ 131072 }
+    requires size { length values.now ≤ most_width }
     requires terms { ArePlaced (length weights.now) (length values.now) None terms.now }
     ensures { let o = F.ops in
         result ≡ rounds.round o (layer_of_terms o terms.now beta weights.now values.now bits) bound.now t }

@@ -1,5 +1,6 @@
 //! The writes and draws of all sumchecks of a circuit.
 
+ghost use Rattle.lzk_profile.specs.Profile.{most_sent};
 ghost use Rattle.std.specs.Prelude.{◌≡◌, ℕ, ◌+◌, ◌*◌, ◌≤◌, length, slice_get, Some};
 ghost use Rattle.lzk_layout.specs.Places.{depth, bits_under};
 ghost use Rattle.lzk_layout.specs.Sizes.{sent_counts};
@@ -17,7 +18,7 @@ use lzk_transcript::Tape;
 /// How many elements the sumchecks of this circuit send: for each layer two in each round, and two factors.
 pub fn message_count<F: Field>(circuit: &Circuit<F>) -> u32
     ensures count { result ≡ sent_counts circuit.now }
-    ensures few { result ≤ 35840 }
+    ensures few { result ≤ most_sent }
 {
     Params::of(circuit).nsum
 }

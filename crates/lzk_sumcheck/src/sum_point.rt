@@ -1,5 +1,6 @@
 //! A point over which a round's value is summed.
 
+ghost use Rattle.lzk_profile.specs.Profile.{most_bits};
 ghost use Rattle.std.specs.Prelude.{◌*◌, ◌<◌, ◌≤◌, length};
 
 use lzk_field::Field;
@@ -12,6 +13,6 @@ pub struct SumPoint<'a, F: Field> {
     pub bound: &'a [F],
     pub t: F,
     pub z: u64,
-    pub ghost few: { bits ≤ 17 },
+    pub ghost few: { bits ≤ most_bits },
     pub ghost free: { length bound.now < 2 * bits },
 }
