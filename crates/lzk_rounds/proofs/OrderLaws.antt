@@ -1,4 +1,5 @@
 -- Lists in another order.
+use Rattle.lzk_profile.specs.Profile.{most_total}
 use Rattle.std.specs.Prelude.{◌≡◌, ℕ, ◌+◌, ◌%◌, ◌<◌, Bool, true, false, not, cond, Option, Some, None, List, [], ◌∷◌, ◌++◌, ◌-◌, length, map, slice_get, slice_index_or, slice_set}
 use Rattle.std.specs.List.{range_with_len, AllByRecursion, swap}
 use Rattle.std.specs.List.Sorted.{IsPermutation}
@@ -92,7 +93,7 @@ pub order_sorted : {A : Type 0} (ts : List (Term A)) (ps qs : List ℕ)
 order_sorted ts ps qs is h =
     IsPermutation-trans (range_with_len 0 (length ts)) (places ps) (places qs)
     (subst (IsPermutation (range_with_len 0 (length ts))) (sym is) (all_placed (is_linear ts) (length ts)))
-    (IsPermutation-map (λ w. w % 2097152) ps qs h)
+    (IsPermutation-map (λ w. w % most_total) ps qs h)
 
 -- as many places as entries, and each of an entry
 pub order_length : {X : Type 0} (xs : List X) (ks : List ℕ) → IsOrderOf xs ks → length ks ≡ length xs

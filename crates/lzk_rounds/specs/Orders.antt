@@ -1,4 +1,5 @@
 -- Orders of a layer's terms.
+use Rattle.lzk_profile.specs.Profile.{most_total}
 use Rattle.std.specs.Prelude.{◌≡◌, ℕ, ◌%◌, ◌<◌, List, [], map, length, slice_index_or}
 use Rattle.std.specs.List.{range_with_len}
 use Rattle.std.specs.List.Sorted.{IsPermutation}
@@ -6,10 +7,10 @@ use Rattle.lzk_circuit.specs.Valid.{Wiring}
 use Rattle.lzk_layout.specs.Places.{depth}
 use Rattle.lzk_sumcheck.specs.Coefficients.{terms_at}
 
--- places, without the numbers that they are ordered by and that stand above them in words: a layer has at most 2^21
--- terms
+-- places, without the numbers that they are ordered by and that stand above them in words: a layer has no more terms
+-- than all layers may have together, 2^21 in LZK1
 abbrev pub places : List ℕ → List ℕ
-places words = map (λ word. word % 2097152) words
+places words = map (λ word. word % most_total) words
 
 -- each place of a list stands there once
 abbrev pub IsOrderOf : {X : Type 0} → List X → List ℕ → Type 0

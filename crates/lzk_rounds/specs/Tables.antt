@@ -1,4 +1,5 @@
 -- The tables that a layer's rounds are summed over.
+use Rattle.lzk_profile.specs.Profile.{most_bits}
 use Rattle.std.specs.Prelude.{◌≡◌, ℕ, ◌+◌, ◌*◌, ◌^◌, ◌≤◌, Bool, List, length}
 use Rattle.lzk_field.specs.Ring.{Ops}
 use Rattle.lzk_rounds.specs.declared.pairs.Pair.{Pair}
@@ -25,7 +26,7 @@ abbrev pub AreKept : {A : Type 0} → Ops A → ℕ → ℕ → State A → Kept
 AreKept o j k st t = IsKept o j k st t.of_a t.pairs t.scale t.linear t.first t.second
 
 -- lists with so many entries in use, and rows for the longest of them: no table has more entries than there are numbers
--- of 17 bits
+-- of so many bits as number wires
 pub record AreRoomy {A : Type 0} (ps : List (Pair A)) (ls fs hs rs : List A)
     (pairs_used linear_used first_used second_used : ℕ) : Type 0 where
   pub pairs : pairs_used ≤ length ps
@@ -35,4 +36,4 @@ pub record AreRoomy {A : Type 0} (ps : List (Pair A)) (ls fs hs rs : List A)
   pub linear_places : length ls ≡ length fs
   pub second_places : length hs ≡ length fs
   pub rows_places : length rs ≡ length fs + 3 * 64
-  pub few : length fs ≤ 2 ^ 17
+  pub few : length fs ≤ 2 ^ most_bits

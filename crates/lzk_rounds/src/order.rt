@@ -1,6 +1,7 @@
 //! An order of a layer's terms in which equal pairs of wires stand beside each other, and stay so as variables are
 //! bound.
 
+ghost use Rattle.lzk_profile.specs.Profile.{most_total};
 ghost use Rattle.std.specs.Prelude.{◌≡◌, ◌%◌, ◌<◌, ◌≤◌, IfOk, length};
 ghost use Rattle.std.specs.List.Sorted.{IsPermutation};
 ghost use Rattle.lzk_layout.specs.Places.{depth};
@@ -9,6 +10,7 @@ ghost use Rattle.lzk_rounds.specs.Orders.{places, IsOrderOf, AreOrders};
 
 use lzk_circuit::{Circuit, Term};
 use lzk_field::Field;
+use lzk_profile::MOST_IN_ALL;
 use std::alloc::{AllocError, Global};
 use std::marker::Model;
 
@@ -36,17 +38,18 @@ fn spaced(number: u32) -> u64 {
     (x | (x << 1)) & 0x5555_5555_5555_5555
 }
 
-// The bits of a and b in turn, so that those which are bound first count least: 34 bits.
+// The bits of a and b in turn, so that those which are bound first count least: two bits for
+// each that numbers the wires, 34 in LZK1.
 fn key_of<F: Field>(term: Term<F>) -> u64 {
     spaced(term.a) | (spaced(term.b) << 1)
 }
 
 // A term's number and, below it, the term's place in one word, by which it is sorted.
 fn word_of(key: u64, place: u32) -> u64
-    requires place { place < 2097152 }
-    ensures place { result % 2097152 ≡ place }
+    requires place { place < most_total }
+    ensures place { result % most_total ≡ place }
 {
-    (key % (1 << 43)) * 2_097_152 + place as u64
+    (key % (1 << 41)) * MOST_IN_ALL as u64 + place as u64
 }
 
 // Sorts a list from a place on.
@@ -61,7 +64,7 @@ fn sort_from(list: &mut [u64], start: usize)
 // The places of terms, each below the number that it is ordered by. Those with wire 0 stand in front, as they were, and
 // only the others are sorted.
 fn sorted_places<F: Field>(alloc: Global, terms: &[Term<F>]) -> Result<Vec<u64>, AllocError>
-    requires few { length terms.now ≤ 2097152 }
+    requires few { length terms.now ≤ most_total }
     ensures { IfOk result (λ list. IsOrderOf terms.now (places list.items)) }
 {
     let mut list = Vec::with_capacity(alloc, terms.len())?;
@@ -87,7 +90,7 @@ fn places_of(alloc: Global, list: &[u64]) -> Result<Vec<u32>, AllocError>
     ensures { IfOk result (λ v. v.items ≡ places list.now) }
 {
     list.iter()
-        .map(|word| (*word % 2_097_152) as u32)
+        .map(|word| (*word % MOST_IN_ALL as u64) as u32)
         .collect(alloc)
 }
 

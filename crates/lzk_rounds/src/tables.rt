@@ -1,5 +1,6 @@
 //! The tables of a layer's rounds, of which less is left from round to round.
 
+ghost use Rattle.lzk_profile.specs.Profile.{most_bits};
 ghost use Rattle.std.specs.Prelude.{◌≡◌, ℕ, ◌+◌, ◌/◌, ◌%◌, ◌^◌, ◌<◌, ◌≤◌, true, None, [], ◌∷◌, List, IfOk, length, map};
 ghost use Rattle.lzk_field.specs.Sums.{entry};
 ghost use Rattle.lzk_mle.specs.Multilinear.{eq, tilde};
@@ -104,7 +105,7 @@ impl<F: Field> Tables<F> {
     /// Room for so many pairs, and for tables of so many places. `Err` where there is no memory for it.
     pub fn new(alloc: Global, pairs: usize, places: usize) -> Result<Tables<F>, AllocError>
         requires some { 1 ≤ places }
-        requires few { places ≤ 131072 }
+        requires few { places ≤ 2 ^ most_bits }
         ensures pairs { IfOk result (λ tables. tables.room.pairs ≡ pairs) }
         ensures places { IfOk result (λ tables. tables.room.places ≡ places) }
     {

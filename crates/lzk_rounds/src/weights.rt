@@ -1,5 +1,6 @@
 //! Tables of how wires agree with a layer's points, and their weights.
 
+ghost use Rattle.lzk_profile.specs.Profile.{most_bits};
 ghost use Rattle.std.specs.Prelude.{◌≡◌, ℕ, ◌^◌, ◌<◌, ◌≤◌, length};
 ghost use Rattle.lzk_field.specs.Sums.{entry};
 ghost use Rattle.lzk_mle.specs.Multilinear.{eq};
@@ -12,7 +13,7 @@ use lzk_mle::eq_table;
 
 /// Sets the first entries of a table to how their numbers agree with a point.
 pub fn set_table<F: Field>(r: &[F], table: &mut [F])
-    requires few { length r.now ≤ 17 }
+    requires few { length r.now ≤ most_bits }
     requires room { 2 ^ length r.now ≤ length table.old }
     ensures { let o = F.ops in (i : ℕ) → i < 2 ^ length r.now → entry o table.new i ≡ eq o i r.now }
 {

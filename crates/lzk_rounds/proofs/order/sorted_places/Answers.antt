@@ -1,3 +1,4 @@
+use Rattle.lzk_profile.specs.Profile.{most_total}
 use Rattle.std.specs.Prelude.{not}
 use Rattle.std.specs.List.Sorted.{IsPermutation}
 use Rattle.std.proofs.Common.{◌≡◌, ℕ, ◌%◌, ◌<◌, ◌∷◌, ◌++◌, [], length, ap, sym, ◌∙◌, arith, subst}
@@ -16,7 +17,7 @@ loop-i-preserved g c =
     let here : i < length ts = c.loop-i-test.true in
     elim c.if-term-eq0.branch [
       | then-term-eq0+in_ok-push w ↦
-          ap (λ v. places v.items) w.list-is ∙ ap places w.in_ok-push.ensures.items ∙ map_push (λ x. x % 2097152) c.loop-i.list.items w.word_of.result
+          ap (λ v. places v.items) w.list-is ∙ ap places w.in_ok-push.ensures.items ∙ map_push (λ x. x % most_total) c.loop-i.list.items w.word_of.result
           ∙ ap (λ k. places c.loop-i.list.items ++ k ∷ []) w.word_of.ensures.place
           ∙ ap (λ xs. xs ++ i ∷ []) c.loop-i.invariant ∙ sym (place_passed (is_linear ts) i (linear_at ts i t here c.index-terms-i.is (omega (arith, w.if-term-eq0.true))))
       | else-term-eq0 w ↦
@@ -37,7 +38,7 @@ loop-j-preserved g c =
       | then-term-ne0+in_ok-push-2 w ↦
           record {
             long = omega (arith, inv.long, ap (λ v. length v.items) w.list-is, ap length w.in_ok-push-2.ensures.items, length-append c.loop-j.list.items (w.word_of-then-term-ne0.result ∷ []));
-            are = ap (λ v. places v.items) w.list-is ∙ ap places w.in_ok-push-2.ensures.items ∙ map_push (λ x. x % 2097152) c.loop-j.list.items w.word_of-then-term-ne0.result
+            are = ap (λ v. places v.items) w.list-is ∙ ap places w.in_ok-push-2.ensures.items ∙ map_push (λ x. x % most_total) c.loop-j.list.items w.word_of-then-term-ne0.result
                 ∙ ap (λ k. places c.loop-j.list.items ++ k ∷ []) w.word_of-then-term-ne0.ensures.place
                 ∙ ap (λ xs. xs ++ j ∷ []) inv.are ∙ append_assoc linear (places_where other j) (j ∷ [])
                 ∙ ap (λ xs. linear ++ xs) (sym (place_passed other j (ap not (other_at ts j t here c.index-terms-j.is (omega (arith, w.if-term-ne0.true))))));

@@ -1,3 +1,4 @@
+use Rattle.lzk_profile.specs.Profile.{most_bits}
 use Rattle.std.proofs.Common.{◌≡◌, ◌≤◌, ◌^◌, length, ap, sym, ◌∙◌, arith}
 use Rattle.std.proofs.Math.Pow.{pow_mono}
 use Rattle.std.proofs.lemmas.List.{length-replicate}
@@ -10,7 +11,7 @@ pub new-requires-clause-some : goal.new-requires-clause-some
 new-requires-clause-some g c κs within = omega (arith, c.power_of-size.ensures, pow_pos c.most_bits.result)
 
 pub new-requires-clause-few : goal.new-requires-clause-few
-new-requires-clause-few g c κs within = omega (arith, c.power_of-size.ensures, pow_mono {i = c.most_bits.result} {j = 17} c.most_bits.ensures.few)
+new-requires-clause-few g c κs within = omega (arith, c.power_of-size.ensures, pow_mono {i = c.most_bits.result} {j = most_bits} c.most_bits.ensures.few)
 
 pub invariant_of-result : goal.invariant_of-result
 invariant_of-result g c = c.in_ok-new.ensures.places ∙ sym (ap length c.in_ok-zeros.ensures ∙ length-replicate c.power_of-size.result g.F.Field.ops.zero)

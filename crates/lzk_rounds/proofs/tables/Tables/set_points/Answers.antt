@@ -1,3 +1,4 @@
+use Rattle.lzk_profile.specs.Profile.{most_bits}
 use Rattle.std.proofs.Common.{◌≡◌, ◌^◌, ◌≤◌, length, take, ap, ◌∙◌, arith}
 use Rattle.std.proofs.lemmas.List.{get_or-take, length-take-le, with_items_is}
 use Rattle.std.proofs.lemmas.Nat.{pow_pos}
@@ -8,22 +9,22 @@ use Rattle.lzk_rounds.proofs.tables.Tables.set_points.Goals as goal
 
 pub overflow_cast-ra : goal.overflow_cast-ra
 overflow_cast-ra g c =
-    let few = few-bits (length c.args.ra.now) 17 (omega (arith, c.requires.room, ap (λ v. v.room.places) c.self.view_is, c.self.invariant.0.few)) in
+    let few = few-bits (length c.args.ra.now) most_bits (omega (arith, c.requires.room, ap (λ v. v.room.places) c.self.view_is, c.self.invariant.0.few)) in
     omega (arith, few)
 
 pub power_of-size-requires : goal.power_of-size-requires
 power_of-size-requires g c =
-    let few = few-bits (length c.args.ra.now) 17 (omega (arith, c.requires.room, ap (λ v. v.room.places) c.self.view_is, c.self.invariant.0.few)) in
+    let few = few-bits (length c.args.ra.now) most_bits (omega (arith, c.requires.room, ap (λ v. v.room.places) c.self.view_is, c.self.invariant.0.few)) in
     omega (arith, few)
 
 pub set_table-requires-clause-few : goal.set_table-requires-clause-few
 set_table-requires-clause-few g c κs within =
-    let few = few-bits (length c.args.ra.now) 17 (omega (arith, c.requires.room, ap (λ v. v.room.places) c.self.view_is, c.self.invariant.0.few)) in
+    let few = few-bits (length c.args.ra.now) most_bits (omega (arith, c.requires.room, ap (λ v. v.room.places) c.self.view_is, c.self.invariant.0.few)) in
     omega (arith, few)
 
 pub set_table-requires-2-clause-few : goal.set_table-requires-2-clause-few
 set_table-requires-2-clause-few g c κs within =
-    let few = few-bits (length c.args.ra.now) 17 (omega (arith, c.requires.room, ap (λ v. v.room.places) c.self.view_is, c.self.invariant.0.few)) in
+    let few = few-bits (length c.args.ra.now) most_bits (omega (arith, c.requires.room, ap (λ v. v.room.places) c.self.view_is, c.self.invariant.0.few)) in
     omega (arith, few, c.requires.same)
 
 pub invariant_of-self : goal.invariant_of-self
