@@ -1,4 +1,5 @@
 -- The lengths of the points at which claims stand, and the layers of a circuit by number.
+use Rattle.lzk_profile.specs.Profile.{most_bits, most_width}
 use Rattle.std.specs.Prelude.{◌≡◌, ℕ, ◌<◌, ◌≤◌, ◌-◌, ◌^◌, ◌∷◌, [], length, map, slice_get, slice_index_or, Some}
 use Rattle.std.proofs.Common.{zero, suc, lit<, refl, sym, ap, ◌∙◌, arith, subst}
 use Rattle.std.proofs.Math.Nat.{pow-le-pow_right}
@@ -32,7 +33,7 @@ module _ {A : Type 0} (o : Ops A) (c : Wiring A) (s : Script A) (shape : HasShap
   point_b_length (suc l) h = (layer_shape l (omega arith)).rb ∙ ap (λ k. bits (width_at c k)) (omega arith)
 
 -- few bits number a layer's wires
-pub few_bits : {A : Type 0} (o : Ops A) (c : Wiring A) (l : ℕ) → IsValid o c → bits (width_at c l) ≤ 17
+pub few_bits : {A : Type 0} (o : Ops A) (c : Wiring A) (l : ℕ) → IsValid o c → bits (width_at c l) ≤ most_bits
 few_bits o c l valid = bits_few (width_at c l) (narrow o c l valid)
 
 module _ {A : Type 0} (c : Wiring A) (l : ℕ) (layer : Layer A) (is : slice_get c.layers l ≡ Some layer) where
@@ -60,20 +61,20 @@ width_last c =
     ∙ ap (λ k. slice_index_or (input_width c ∷ []) k 0) none
 
 -- tables over so few bits are small
-pub power_small : (n : ℕ) → n ≤ 17 → 2 ^ n ≤ 131072
+pub power_small : (n : ℕ) → n ≤ most_bits → 2 ^ n ≤ 2 ^ most_bits
 power_small n l = pow-le-pow_right {n = 2} (lit< tt) l
 
 -- the points at which claims on the inputs stand have few bits, and enough
 pub record AreInputBits {A : Type 0} (c : Wiring A) (n : ℕ) : Type 0 where
-  pub few : n ≤ 17
+  pub few : n ≤ most_bits
   pub enough : input_width c ≤ 2 ^ n
-  pub small : 2 ^ n ≤ 131072
-  pub narrow : input_width c ≤ 131072
+  pub small : 2 ^ n ≤ 2 ^ most_bits
+  pub narrow : input_width c ≤ most_width
 
 pub input_bits : {A : Type 0} (o : Ops A) (c : Wiring A) (d n : ℕ) → IsValid o c → d ≡ depth c → n ≡ bits (width_at c d) → AreInputBits c n
 input_bits o c d n valid ed en =
     let w : width_at c d ≡ input_width c = ap (width_at c) ed ∙ width_last c in
-    let few : n ≤ 17 = omega (arith, en, few_bits o c d valid) in
+    let few : n ≤ most_bits = omega (arith, en, few_bits o c d valid) in
     record {
       few = few;
       enough = subst (λ k. input_width c ≤ 2 ^ k) (sym en) (omega (arith, w, bits_enough (width_at c d)));

@@ -39,7 +39,7 @@ module _ {A : Type 0} (o : Ops A) (c : Wiring A) (coefficient : ℕ → ℕ → 
   unfoldable pub combined : ℕ → ℕ → A
   combined row s = minus o (o.plus (from_constraints row s) (from_copies row s)) (from_entries row s)
 
-  -- the values of a row of coefficients: 128 zeros, and the combined coefficients
+  -- the values of a row of coefficients: as many zeros as columns are opened, and the combined coefficients
   unfoldable pub combined_row : ℕ → List A
   combined_row row = replicate opened_count o.zero ++ map (combined row) (range_with_len 0 (params_of c).wr)
 

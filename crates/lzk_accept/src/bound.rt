@@ -1,6 +1,7 @@
 //! A layer's coefficients, summed at its challenges.
 
-ghost use Rattle.std.specs.Prelude.{◌≡◌, ℕ, ◌+◌, ◌^◌, ◌<◌, ◌≤◌, Some, length, slice_get};
+ghost use Rattle.lzk_profile.specs.Profile.{most_bits};
+ghost use Rattle.std.specs.Prelude.{◌≡◌, ℕ, ◌+◌, ◌*◌, ◌^◌, ◌<◌, ◌≤◌, Some, length, slice_get};
 ghost use Rattle.lzk_field.specs.Sums.{entry};
 ghost use Rattle.lzk_mle.specs.Multilinear.{low_bit, agree, eq};
 ghost use Rattle.lzk_circuit.specs.Sums.{sum_list};
@@ -53,7 +54,7 @@ fn add_multiple<F: Field>(sums: &mut [F], by: F, list: &[F])
 struct Points<'a, F: Field> {
     first: &'a [F],
     second: &'a [F],
-    ghost few: { length first.now ≤ 17 },
+    ghost few: { length first.now ≤ most_bits },
     ghost same: { length second.now ≡ length first.now },
 }
 
@@ -107,10 +108,10 @@ fn sum_at<F: Field>(
     rb: &[F],
     room: &mut [F],
 ) -> F
-    requires few_below { length ra.now ≤ 17 }
+    requires few_below { length ra.now ≤ most_bits }
     requires terms { (i : ℕ) (t : declared.Term F) → slice_get terms.now i ≡ Some t
         → (t.g < 2 ^ length points.now.first.now) × (t.a < 2 ^ length ra.now) }
-    requires room { length room.old ≡ 262144 }
+    requires room { length room.old ≡ 2 * 2 ^ most_bits }
     ensures value { let p = points.now in
         result ≡ sum_list F.ops terms.now (counts_at F.ops alpha beta p.first.now p.second.now ra.now rb.now) }
     ensures room { length room.new ≡ length room.old }
@@ -125,10 +126,11 @@ fn sum_at<F: Field>(
     sum_terms(terms, beta, weights, firsts, rb)
 }
 
-/// The weighted sum of layer `l`'s coefficients at its challenges. `room` has 262,144 places.
+/// The weighted sum of layer `l`'s coefficients at its challenges. `room` has 262,144 places in LZK1, twice as many as
+/// there are numbers of so many bits as number wires.
 pub(crate) fn bound_of<F: Field>(scripted: &Scripted<'_, F>, l: u32, room: &mut [F]) -> F
     requires layer { l < depth scripted.now.circuit.now }
-    requires room { length room.old ≡ 262144 }
+    requires room { length room.old ≡ 2 * 2 ^ most_bits }
     ensures value { let c = scripted.now.circuit.now in let s = scripted.now.script.now in
         result ≡ bound_at F.ops c (coefficients F.ops c s) s l }
     ensures room { length room.new ≡ length room.old }

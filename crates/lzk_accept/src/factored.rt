@@ -1,5 +1,6 @@
 //! The constraints, combined, with few factors for the rows that hold private inputs alone.
 
+ghost use Rattle.lzk_profile.specs.Profile.{most_bits};
 ghost use Rattle.std.specs.Prelude.{◌≡◌, ℕ, ◌+◌, ◌-◌, ◌*◌, ◌/◌, ◌<◌, ◌≤◌, ◌^◌, cond, nat_lt, List, length, IfOk};
 ghost use Rattle.lzk_field.specs.Sums.{entry, sum_below};
 ghost use Rattle.lzk_mle.specs.Multilinear.{eq};
@@ -62,7 +63,7 @@ impl<F: Field> Factored<F> {
 // Sets two factors for each row: the multiples of a table's entries from number `high` on, and those of the next
 // entries.
 fn set_row_factors<F: Field>(table: &[F], by: F, high: usize, rows: usize, factors: &mut [F])
-    requires few { high ≤ 131072 }
+    requires few { high ≤ 2 ^ most_bits }
     requires room { length factors.old ≡ 2 * rows }
     ensures here { let o = F.ops in
         (i : ℕ) → i < rows → entry o factors.new i ≡ o.times by (entry o table.now (high + i)) }
@@ -107,7 +108,7 @@ struct Taken<'a, F: Field> {
     first: usize,
     rows: usize,
     bits: u32,
-    ghost few: { length r.now ≤ 17 },
+    ghost few: { length r.now ≤ most_bits },
     ghost within: { bits ≤ length r.now },
     ghost numbers: { first + rows * 2 ^ bits ≤ 2 ^ length r.now },
 }

@@ -1,6 +1,7 @@
 //! What the inputs give behind the last layer.
 
-ghost use Rattle.std.specs.Prelude.{◌≡◌, ◌+◌, ◌^◌, ◌≤◌, length};
+ghost use Rattle.lzk_profile.specs.Profile.{most_bits};
+ghost use Rattle.std.specs.Prelude.{◌≡◌, ◌+◌, ◌*◌, ◌^◌, ◌≤◌, length};
 ghost use Rattle.lzk_circuit.specs.Wires as wires;
 ghost use Rattle.lzk_field.specs.Sums.{minus};
 ghost use Rattle.lzk_mle.specs.Multilinear.{tilde};
@@ -16,7 +17,7 @@ use lzk_mle::tilde;
 
 // The extension of values, in room that may be longer than it has to be.
 fn extension_of<F: Field>(values: &[F], r: &[F], room: &mut [F]) -> F
-    requires few { length r.now ≤ 17 }
+    requires few { length r.now ≤ most_bits }
     requires fits { length values.now ≤ 2 ^ length r.now }
     requires room { 2 ^ length r.now ≤ length room.old }
     ensures { result ≡ tilde F.ops values.now r.now }
@@ -26,9 +27,9 @@ fn extension_of<F: Field>(values: &[F], r: &[F], room: &mut [F]) -> F
 }
 
 /// The extension of the inputs at the two points at which claims on them stand, those at the second one times gamma.
-/// `room` has 262,144 places.
+/// `room` has 262,144 places in LZK1, twice as many as there are numbers of so many bits as number wires.
 pub(crate) fn inputs_of<F: Field>(witnessed: &Witnessed<'_, F>, room: &mut [F]) -> F
-    requires room { length room.old ≡ 262144 }
+    requires room { length room.old ≡ 2 * 2 ^ most_bits }
     ensures value { let o = F.ops in
         let e = witnessed.now.exchange in
         let s = e.scripted.script.now in

@@ -1,6 +1,7 @@
 //! Residuals.
 
-ghost use Rattle.std.specs.Prelude.{◌≡◌, ◌≤◌, length};
+ghost use Rattle.lzk_profile.specs.Profile.{most_bits};
+ghost use Rattle.std.specs.Prelude.{◌≡◌, ◌*◌, ◌^◌, ◌≤◌, length};
 ghost use Rattle.lzk_layout.specs.Places.{depth};
 ghost use Rattle.lzk_layout.specs.Sizes.{sent_counts, committed_count};
 ghost use Rattle.lzk_sumcheck.specs.Coefficients.{coefficients};
@@ -18,8 +19,8 @@ use lzk_field::Field;
 use lzk_sumcheck::Script;
 
 /// What is left of the claims when the pads and the private inputs are `w`: of layer `i`, or of the inputs where `i` is
-/// the number of layers. `room` has 262,144 places, and no memory is taken. It is the plain form beside
-/// `combine_factored`, for tests.
+/// the number of layers. `room` has 262,144 places in LZK1, twice as many as there are numbers of so many bits as number
+/// wires, and no memory is taken. It is the plain form beside `combine_factored`, for tests.
 pub fn residual<'a, F: Field>(
     circuit: &'a Circuit<F>,
     public: &'a [F],
@@ -34,7 +35,7 @@ pub fn residual<'a, F: Field>(
     requires messages { length messages.now ≡ sent_counts circuit.now }
     requires i { i ≤ depth circuit.now }
     requires w { length w.now ≡ committed_count circuit.now }
-    requires room { length room.old ≡ 262144 }
+    requires room { length room.old ≡ 2 * 2 ^ most_bits }
     ensures value { let q = coefficients F.ops circuit.now script.now in
         result ≡ spec.residual F.ops F.coding.element circuit.now q public.now script.now messages.now w.now i }
     ensures affine { let q = coefficients F.ops circuit.now script.now in
