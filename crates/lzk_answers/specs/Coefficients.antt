@@ -6,7 +6,7 @@ use Rattle.lzk_field.specs.Sums.{sum_below, entry}
 use Rattle.lzk_poly.specs.Extension.{extension}
 use Rattle.lzk_layout.specs.declared.params.Params.{Params}
 
--- zeros at the first 128 points, and a s at the s-th point of a row's elements
+-- zeros at as many points as columns are opened, and a s at the s-th point of a row's elements
 pub record AreCoefficients {A : Type 0} (o : Ops A) (p : Params) (a : ℕ → A) (values : List A) : Type 0 where
   pub count : length values ≡ p.block
   pub front : (s : ℕ) → s < opened_count → entry o values s ≡ o.zero

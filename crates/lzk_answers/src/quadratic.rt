@@ -1,5 +1,6 @@
 //! The quadratic answer.
 
+ghost use Rattle.lzk_profile.specs.Profile.{most_rows};
 ghost use Rattle.std.specs.Prelude.{◌≡◌, ℕ, ◌+◌, ◌*◌, ◌<◌, ◌≤◌, List, length};
 ghost use Rattle.lzk_field.specs.Sums.{entry, minus};
 ghost use Rattle.lzk_poly.specs.Through.{values_of};
@@ -42,7 +43,7 @@ fn add_multiple<F: Field>(answer: &mut [F], by: F, z: &[F])
 // Adds a multiple of the product of two rows less the next one, which are three from row `first` on.
 fn add_triple<F: Field>(table: &[F], width: usize, first: usize, by: F, answer: &mut [F])
     requires inside { (first + 3) * width ≤ length table.now }
-    requires few { first ≤ 262 }
+    requires few { first + 3 ≤ most_rows }
     requires short { length answer.old ≤ width }
     ensures length { length answer.new ≡ length answer.old }
     ensures entries { let o = F.ops in

@@ -1,5 +1,6 @@
 //! Rows of a table, and lists added up.
 
+ghost use Rattle.lzk_profile.specs.Profile.{most_rows};
 ghost use Rattle.std.specs.Prelude.{◌≡◌, ℕ, ◌+◌, ◌*◌, ◌<◌, ◌≤◌, length};
 ghost use Rattle.lzk_field.specs.Sums.{entry, sum_below};
 
@@ -96,7 +97,7 @@ pub(crate) struct ScaledRows<'a, F: Field> {
     pub(crate) first: usize,
     pub(crate) factors: &'a [F],
     ghost inside: { (first + length factors.now) * width ≤ length table.now },
-    ghost few: { first + length factors.now ≤ 265 },
+    ghost few: { first + length factors.now ≤ most_rows },
 }
 
 // Adds to each entry a sum of multiples of some rows' values. Each sum is reduced once.

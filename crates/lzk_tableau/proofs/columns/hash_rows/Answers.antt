@@ -1,3 +1,4 @@
+use Rattle.lzk_profile.specs.Profile.{most_rows}
 use Rattle.std.proofs.Common.{rules, ◌+◌, ◌*◌, ◌≤◌, arith, ◌∙◌, length-set}
 use Rattle.std.proofs.Math.Nat.{mul-le-mul_right}
 use Rattle.lzk_tableau.specs.Digests.{digest_at}
@@ -10,8 +11,8 @@ split_at_mut-room-requires g c =
     let w = g.F.Field.coding.bytes in
     let n = c.args.randomness.now.params.now.nrow in
     let few : w ≤ 16 = g.F.Field.laws.numbers.few_bytes in
-    let rows : n ≤ 265 = c.args.randomness.now.bounded.nrow in
-    let many : n * w ≤ 265 * w = mul-le-mul_right w rows in
+    let rows : n ≤ most_rows = c.args.randomness.now.bounded.nrow in
+    let many : n * w ≤ most_rows * w = mul-le-mul_right w rows in
     rw (c.BYTES.ensures ∙ g.F.Field.coded_bytes) (omega (arith, many, few))
 
 pub fours-preserved : goal.fours-preserved
