@@ -8,7 +8,7 @@ use Rattle.lzk_circbytes.specs.declared.any.AnyCircuit.TheVariants as circuits
 use Rattle.lzk_field.specs.Coding.{Coding, coding}
 use Rattle.lzk_goldilocks.specs.declared.element.Gold.{Gold}
 use Rattle.lzk_gf128.specs.declared.element.Gf128.{Gf128}
-use Rattle.lzk_goldilocks.specs.Prime.{p}
+use Rattle.lzk_goldilocks.specs.Prime.{p, element_bytes, field_byte}
 use Rattle.lzk_goldilocks.specs.Elements as gold
 use Rattle.lzk_gf128.specs.Elements as gf
 use Rattle.lzk_verify.specs.Verdict.{IsVerdict}
@@ -24,7 +24,7 @@ use Rattle.lzk_batch.specs.Passes.{PassState}
 
 -- how the elements of the two fields are numbered and written
 abbrev pub gold_coding : Coding Gold
-gold_coding = coding gold.of_number gold.number 8 p 1
+gold_coding = coding gold.of_number gold.number element_bytes p field_byte
 
 abbrev pub gf_coding : Coding Gf128
 gf_coding = coding gf.of_number gf.number 16 (2 ^ 128) 2

@@ -1,6 +1,6 @@
 -- A valid circuit, a session, inputs and random words have a proof, and the proof has a file.
 use Rattle.lzk_profile.specs.Profile.{opened_count, most_digests}
-use Rattle.std.specs.Prelude.{◌≡◌, ℕ, ◌+◌, ◌-◌, ◌*◌, ◌^◌, ◌<◌, ◌≤◌, List, [], ◌∷◌, length, map, take, drop, slice_index, slice_index_or}
+use Rattle.std.specs.Prelude.{◌≡◌, ℕ, ◌+◌, ◌-◌, ◌*◌, ◌/◌, ◌^◌, ◌<◌, ◌≤◌, List, [], ◌∷◌, length, map, take, drop, slice_index, slice_index_or}
 use Rattle.std.specs.List.{flat_map}
 use Rattle.std.proofs.Common.{refl, ap, ◌∙◌, arith}
 use Rattle.std.proofs.lemmas.List.{length-append, length-map, get_or-map, length-take-le, length-drop}
@@ -168,9 +168,10 @@ module _ {A : Type 0} (o : Ops A) (e : Coding A) (c : Wiring A) (session : List 
 
     few : length (map (tree_node p.mcol all) (path_nodes p.mcol js)) ≤ most_digests
     few =
-        let p12 : 2 ^ 12 ≡ 4096 = refl in
-        let most : length js * 12 ≡ most_digests = ap (λ (n : ℕ). n * 12) many in
-        omega (arith, length-map (path_nodes p.mcol js) (tree_node p.mcol all), most, needed_few p.mcol 12 js (omega (arith, p12, b.mcol, b.block, b.wr)) below)
+        let levels : ℕ = most_digests / opened_count in
+        let most : length js * levels ≡ most_digests = ap (λ (n : ℕ). n * levels) many in
+        let tall : p.mcol ≤ 2 ^ levels = omega (arith, b.mcol, b.block, b.wr) in
+        omega (arith, length-map (path_nodes p.mcol js) (tree_node p.mcol all), most, needed_few p.mcol levels js tall below)
 
     nonces_are : AreDigests (map nonce_at js)
     nonces_are k h = ap length (get_or-map nonce_at js k 0 [] (omega (arith, h, length-map js nonce_at))) ∙ length_nonce (slice_index js k)

@@ -27,8 +27,8 @@ answers_of o point c p public s messages ch rows = record {
   quadratic = values_of o point p.dblock (quadratic_answer o point p rows ch.v);
 }
 
--- A proof has them. Of the quadratic answer the first 128 values are sent, and those behind the points of the rows'
--- elements.
+-- A proof has them. Of the quadratic answer as many first values as columns are opened are sent, and those behind the
+-- points of the rows' elements.
 pub record AreSent {A : Type 0} (p : Params) (answers : Answers A) (proof : Proof A) : Type 0 where
   pub low_degree : proof.ldt ≡ answers.low_degree
   pub linear : proof.dot ≡ answers.linear

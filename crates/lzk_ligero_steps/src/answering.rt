@@ -52,7 +52,7 @@ pub fn answer_low_degree<F: Field>(
     );
 }
 
-// Copies the first 128 of these values, and those behind a row's elements.
+// Copies the first of these values, as many as columns are opened, and those behind a row's elements.
 fn set_ends<F: Field>(
     statement: &Statement<'_, F>,
     all: &[F],
@@ -73,7 +73,8 @@ fn set_ends<F: Field>(
     tail.as_mut_slice().copy_from_slice(back);
 }
 
-/// Sets the quadratic answer's first 128 values, and those behind the rows' elements. `values` is room for all of them.
+/// Sets the quadratic answer's first values, as many as columns are opened, and those behind the rows' elements.
+/// `values` is room for all of them.
 pub fn answer_quadratic<F: Field>(
     statement: &Statement<'_, F>,
     table: &[F],

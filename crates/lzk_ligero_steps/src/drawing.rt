@@ -12,7 +12,7 @@ use lzk_layout::{Params, Proof};
 use lzk_sumcheck::{draw_opened, public_tape};
 use lzk_transcript::Tape;
 
-/// The new tape with `lzk1`, the session, the circuit's id, the public inputs and the root written.
+/// The new tape with its label (`lzk1` in LZK1), the session, the circuit's id, the public inputs and the root written.
 pub fn open_tape<F: Field>(session: &[u8], id: &[u8; 32], public: &[F], root: &[u8; 32]) -> Tape
     ensures { result ≡ opening F.coding session.now id.now public.now root.now }
 {

@@ -1,7 +1,7 @@
 //! The opened columns, and the path from them to the root.
 
 ghost use Rattle.lzk_profile.specs.Profile.{opened_count, most_digests};
-ghost use Rattle.std.specs.Prelude.{◌≡◌, ◌*◌, ◌≤◌, ◌<◌, ℕ, List, length, map, slice_index};
+ghost use Rattle.std.specs.Prelude.{◌≡◌, ◌*◌, ◌/◌, ◌^◌, ◌≤◌, ◌<◌, ℕ, List, length, map, slice_index};
 ghost use Rattle.std.specs.List.{flat_map};
 ghost use Rattle.lzk_circuit.specs.Valid.{Wiring};
 ghost use Rattle.lzk_layout.specs.Sizes.{params_of};
@@ -116,7 +116,7 @@ fn write_path(tree: &Tree, columns: &[u32], path: &mut Path)
 pub fn open_path(tree: &Tree, mcol: u32, columns: &[u32], path: &mut Path)
     requires built { IsBuilt tree.now }
     requires leaves { length tree.now.leaves ≡ mcol }
-    requires few { mcol ≤ 4096 }
+    requires few { mcol ≤ 2 ^ (most_digests / opened_count) }
     requires opened { AreOpened mcol columns.now }
     requires count { length columns.now ≡ opened_count }
     requires room { most_digests ≤ path.old.room }
