@@ -6,6 +6,7 @@ use Rattle.std.proofs.lemmas.Bool.{and_parts}
 use Rattle.std.proofs.lemmas.Bool.Decides.{nat_tests}
 use Rattle.std.proofs.lemmas.List.{append-nil, length-map}
 use Rattle.std.proofs.lemmas.List.Folds.{list_all-append}
+use Rattle.lzk_profile.specs.Profile.{most_privates}
 use Rattle.lzk_expr.specs.declared.reader.Input.{Input}
 use Rattle.lzk_expr.specs.declared.reader.Input.TheVariants as inputs
 use Rattle.lzk_expr.specs.declared.tokens.Keyword.{Keyword}
@@ -136,7 +137,7 @@ is_input inputs.Private = is_private
 
 abbrev most : Input → ℕ
 most inputs.Public = 65535
-most inputs.Private = 65536
+most inputs.Private = most_privates
 
 input_fits : (input : Input) (f : FieldId) (ss : List Statement) (w : List ℕ) → NewName ss w → count_by (is_input input) ss + 1 ≤ most input → Fits f ss (input_statement input w)
 input_fits inputs.Public f ss w h k = (h, k)
@@ -304,7 +305,7 @@ grow b next (PublicLine w ws) k h =
 grow b next (PrivateLine w ws) k h =
     let f = field_there b.field_is k.field in
     let l = limits_at b.statements keys.Private (line_tokens (PrivateLine w ws)) k.limits in
-    let room = le_of (count_by is_private b.statements + (length (line_tokens (PrivateLine w ws)) - 1)) 65536 l.2 in
+    let room = le_of (count_by is_private b.statements + (length (line_tokens (PrivateLine w ws)) - 1)) most_privates l.2 in
     subst (λ (c : Before). Grown c.field_is c.statements) k.after_is
     (grown_more b.field_is f.0 b.statements (map DeclarePrivate (w ∷ ws)) f.1 h (built_inputs inputs.Private f.0 b.statements (w ∷ ws) k.new k.words l.0 (omega (arith, room, length-map ws token.Name))))
 grow b next (LetLine w s) k h =

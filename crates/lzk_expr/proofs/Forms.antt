@@ -5,6 +5,7 @@ use Rattle.std.specs.Str.{bytes_eq}
 use Rattle.std.specs.Prelude.{codes}
 use Rattle.std.proofs.lemmas.Bool.{and_parts}
 use Rattle.std.proofs.lemmas.List.Folds.{list_all-append}
+use Rattle.lzk_profile.specs.Profile.{field_word}
 use Rattle.lzk_expr.specs.declared.tokens.Keyword.TheVariants as keys
 use Rattle.lzk_expr.specs.declared.ast.FieldId.{FieldId}
 use Rattle.lzk_expr.specs.declared.ast.FieldId.TheVariants as fields
@@ -176,20 +177,20 @@ assert_at : (ts : List Token) → Parted ts → Formed (token.Key keys.Assert �
 assert_at ts (No all) = none _ (no_assert ts (inner_no_sums ts all))
 assert_at ts (At xs ys all e) = assert_by ts xs ys (sum_of xs) (sum_of ys) all e (sum_at xs (sum_of xs) refl) (sum_at ys (sum_of ys) refl)
 
-field_other : (w : List ℕ) (f : FieldId) → bytes_eq w (codes "goldilocks") ≡ false → bytes_eq w (codes "gf2_128") ≡ false → w ≡ field_name f → ⊥
-field_other w fields.Goldilocks e f h = let same : bytes_eq w (codes "goldilocks") ≡ true = bytes_same w (codes "goldilocks") h in absurd cc
+field_other : (w : List ℕ) (f : FieldId) → bytes_eq w field_word ≡ false → bytes_eq w (codes "gf2_128") ≡ false → w ≡ field_name f → ⊥
+field_other w fields.Goldilocks e f h = let same : bytes_eq w field_word ≡ true = bytes_same w field_word h in absurd cc
 field_other w fields.Gf2_128 e f h = let same : bytes_eq w (codes "gf2_128") ≡ true = bytes_same w (codes "gf2_128") h in absurd cc
 
-pub no_field_name : (w : List ℕ) (ts : List Token) → bytes_eq w (codes "goldilocks") ≡ false → bytes_eq w (codes "gf2_128") ≡ false → ts ≡ token.Name w ∷ [] → IsField ts None
+pub no_field_name : (w : List ℕ) (ts : List Token) → bytes_eq w field_word ≡ false → bytes_eq w (codes "gf2_128") ≡ false → ts ≡ token.Name w ∷ [] → IsField ts None
 no_field_name w ts e f h k same = field_other w k e f cc
 
-field_by : (w : List ℕ) (g h : Bool) → bytes_eq w (codes "goldilocks") ≡ g → bytes_eq w (codes "gf2_128") ≡ h → (o : Option FieldId) × IsField (token.Name w ∷ []) o
-field_by w true h e f = (Some fields.Goldilocks, ap (λ (v : List ℕ). token.Name v ∷ []) (same_bytes w (codes "goldilocks") e))
+field_by : (w : List ℕ) (g h : Bool) → bytes_eq w field_word ≡ g → bytes_eq w (codes "gf2_128") ≡ h → (o : Option FieldId) × IsField (token.Name w ∷ []) o
+field_by w true h e f = (Some fields.Goldilocks, ap (λ (v : List ℕ). token.Name v ∷ []) (same_bytes w field_word e))
 field_by w false true e f = (Some fields.Gf2_128, ap (λ (v : List ℕ). token.Name v ∷ []) (same_bytes w (codes "gf2_128") f))
 field_by w false false e f = (None, no_field_name w (token.Name w ∷ []) e f refl)
 
 field_at : (ts : List Token) → (o : Option FieldId) × IsField ts o
-field_at (token.Name w ∷ []) = field_by w (bytes_eq w (codes "goldilocks")) (bytes_eq w (codes "gf2_128")) refl refl
+field_at (token.Name w ∷ []) = field_by w (bytes_eq w field_word) (bytes_eq w (codes "gf2_128")) refl refl
 field_at ts = (None, λ f e. absurd cc)
 
 field_form : (ts : List Token) (o : Option FieldId) → IsField ts o → Formed (token.Key keys.Field ∷ ts)
@@ -247,7 +248,7 @@ sums_same s t e = let some : Some s ≡ Some t = sym (sum_again s) ∙ ap sum_of
 fields_same : (f g : FieldId) → field_name f ≡ field_name g → f ≡ g
 fields_same fields.Goldilocks fields.Goldilocks e = refl
 fields_same fields.Gf2_128 fields.Gf2_128 e = refl
-fields_same fields.Goldilocks fields.Gf2_128 e = let no : true ≡ false = ap (bytes_eq (codes "goldilocks")) e in absurd cc
+fields_same fields.Goldilocks fields.Gf2_128 e = let no : true ≡ false = ap (bytes_eq field_word) e in absurd cc
 fields_same fields.Gf2_128 fields.Goldilocks e = let no : true ≡ false = ap (bytes_eq (codes "gf2_128")) e in absurd cc
 
 lines_same : (a b : Line) → line_tokens a ≡ line_tokens b → a ≡ b

@@ -7,6 +7,7 @@ use Rattle.std.proofs.lemmas.Bool.Decides.{nat_tests}
 use Rattle.std.proofs.lemmas.List.{append-nil, take_all}
 use Rattle.std.proofs.lemmas.List.Folds.{list_all-append}
 use Rattle.std.proofs.Math.Numerals.{one-add}
+use Rattle.lzk_profile.specs.Profile.{most_privates}
 use Rattle.lzk_expr.specs.declared.tokens.Keyword.{Keyword}
 use Rattle.lzk_expr.specs.declared.tokens.Keyword.TheVariants as keys
 use Rattle.lzk_expr.specs.declared.source_fault.SourceKind.{SourceKind}
@@ -370,7 +371,7 @@ private_line f ss names w h =
       line = PrivateLine w [];
       characters = chars;
       tokens_are = ts;
-      read = all_kept f ss (codes "private " ++ w) (PrivateLine w []) keys.Private chars ts refl (and_both (nat_le (length w) 32) true h.0.short refl) refl (le_test (count_by is_private ss + 1) 65536 h.1) (new_one ss w h.0.new) refl refl;
+      read = all_kept f ss (codes "private " ++ w) (PrivateLine w []) keys.Private chars ts refl (and_both (nat_le (length w) 32) true h.0.short refl) refl (le_test (count_by is_private ss + 1) most_privates h.1) (new_one ss w h.0.new) refl refl;
       some = refl;
     }
 

@@ -1,6 +1,7 @@
 -- Sources that some text is: statements that fit behind each other, an assert among them.
 use Rattle.std.specs.Prelude.{◌≡◌, ℕ, ◌+◌, ◌≤◌, ◌<◌, Bool, true, false, List, [], ◌∷◌, ◌++◌, length, max, nat_le, nat_lt, count_by, Some, None}
 use Rattle.std.specs.List.{list_all, list_any}
+use Rattle.lzk_profile.specs.Profile.{most_privates}
 use Rattle.lzk_expr.specs.declared.ast.FieldId.{FieldId}
 use Rattle.lzk_expr.specs.declared.printing.Place.{Place}
 use Rattle.lzk_expr.specs.declared.printing.Place.TheVariants as place
@@ -97,7 +98,7 @@ pub record GoodExpr (f : FieldId) (ss : List Statement) (e : Expr) : Type 0 wher
 -- the statement may stand behind these
 abbrev pub Fits : FieldId → List Statement → Statement → Type 0
 Fits f ss (DeclarePublic w) = NewName ss w × (count_by is_public ss + 1 ≤ 65535)
-Fits f ss (DeclarePrivate w) = NewName ss w × (count_by is_private ss + 1 ≤ 65536)
+Fits f ss (DeclarePrivate w) = NewName ss w × (count_by is_private ss + 1 ≤ most_privates)
 Fits f ss (Define w e) = NewName ss w × GoodExpr f ss e
 Fits f ss (Assertion e d) = GoodExpr f ss e × GoodExpr f ss d × (count_by is_assertion ss < 131072)
 

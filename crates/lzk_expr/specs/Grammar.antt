@@ -1,5 +1,6 @@
 -- The grammar of a statement line: a tree for each way to write it, and its tokens.
 use Rattle.std.specs.Prelude.{◌≡◌, ℕ, List, [], ◌∷◌, ◌++◌, map, codes, Option, Some, None}
+use Rattle.lzk_profile.specs.Profile.{field_word}
 use Rattle.lzk_expr.specs.Tokens.{Token}
 use Rattle.lzk_expr.specs.Tokens as token
 use Rattle.lzk_expr.specs.declared.tokens.Keyword.TheVariants as keys
@@ -97,7 +98,7 @@ pub data Line : Type 0 where
   AssertLine : Sum → Sum → Line
 
 abbrev pub field_name : FieldId → List ℕ
-field_name fields.Goldilocks = codes "goldilocks"
+field_name fields.Goldilocks = field_word
 field_name fields.Gf2_128 = codes "gf2_128"
 
 abbrev pub line_tokens : Line → List Token

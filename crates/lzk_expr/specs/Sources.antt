@@ -7,6 +7,7 @@ use Rattle.lzk_expr.specs.Tokens as token
 use Rattle.lzk_expr.specs.declared.tokens.Keyword.{Keyword}
 use Rattle.lzk_expr.specs.declared.tokens.Keyword.TheVariants as keys
 use Rattle.std.specs.Str.{bytes_eq}
+use Rattle.lzk_profile.specs.Profile.{prime, most_privates}
 use Rattle.lzk_expr.specs.Grammar.{Line, FieldLine, PublicLine, PrivateLine, LetLine, AssertLine, IsForm, sum_names, sum_numbers}
 use Rattle.lzk_expr.specs.Trees.{Statement, SourceTree, is_public, is_private, is_assertion, name_of, line_means}
 use Rattle.lzk_expr.specs.declared.source_fault.SourceKind.{SourceKind}
@@ -50,7 +51,7 @@ is_shallow n (_ ∷ ts) = is_shallow n ts
 -- The counts of names and asserts keep their bounds. Each token behind public or private counts as a name.
 abbrev pub is_few : List Statement → Keyword → ℕ → Bool
 is_few ss keys.Public more = nat_le (count_by is_public ss + more) 65535
-is_few ss keys.Private more = nat_le (count_by is_private ss + more) 65536
+is_few ss keys.Private more = nat_le (count_by is_private ss + more) most_privates
 is_few ss keys.Assert more = nat_lt (count_by is_assertion ss) 131072
 is_few ss _ more = true
 
@@ -81,7 +82,7 @@ line_numbers (AssertLine s t) = sum_numbers s ++ sum_numbers t
 line_numbers _ = []
 
 abbrev pub field_size : FieldId → ℕ
-field_size fields.Goldilocks = 18446744069414584321
+field_size fields.Goldilocks = prime
 field_size fields.Gf2_128 = 340282366920938463463374607431768211456
 
 abbrev pub is_below : Option FieldId → ℕ → Bool

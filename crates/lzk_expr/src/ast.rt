@@ -2,10 +2,10 @@
 
 use std::marker::Model;
 
-/// The field of a source: the prime field of 2^64 - 2^32 + 1 elements, or the one of 2^128.
+/// The field of a source: the prime field, in LZK1 that of 2^64 - 2^32 + 1 elements, or the one of 2^128.
 #[derive(Clone, Copy, Debug, PartialEq, Eq)]
 pub enum FieldId {
-    /// Written `goldilocks`.
+    /// The prime field of the profile, which LZK1 writes `goldilocks`.
     Goldilocks,
     /// Written `gf2_128`.
     Gf2_128,

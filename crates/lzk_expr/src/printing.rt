@@ -11,6 +11,7 @@ ghost use Rattle.lzk_expr.specs.View.{expr_of, part_list, expr_list, statement_o
 
 use crate::ast::{Expr, FieldId, Part, Statement};
 use crate::source::Source;
+use lzk_profile::FIELD_WORD;
 use std::alloc::{AllocError, Global};
 
 // The names of inputs and lets, by their numbers.
@@ -270,7 +271,7 @@ fn field_name(field: FieldId) -> &'static [u8]
     ensures { result.now ≡ field_name field }
 {
     match field {
-        FieldId::Goldilocks => b"goldilocks",
+        FieldId::Goldilocks => FIELD_WORD.as_bytes(),
         FieldId::Gf2_128 => b"gf2_128",
     }
 }

@@ -3,6 +3,7 @@
 ghost use Rattle.std.specs.Prelude.{◌≡◌, ◌≤◌, ◌<◌, ◌+◌, ◌∷◌, [], length, is_some, true, false, None, Some};
 ghost use Rattle.std.specs.Prelude.{MatchOption, IfOk, OnOk, position, ◌==◌, ◌||◌, ◌^◌};
 ghost use Rattle.std.specs.List.{list_all};
+ghost use Rattle.lzk_profile.specs.Profile.{most_privates};
 ghost use Rattle.lzk_expr.specs.Tokens.{tokens, Key, Equals};
 ghost use Rattle.lzk_expr.specs.Sources.{first_keyword, keeps_limits, is_short, is_few, is_field, nothing_yet};
 ghost use Rattle.lzk_expr.specs.Readers.{before_of, IsReader, Binds, Declares, step_of, Takes, TakesLine, TakesAny};
@@ -19,6 +20,7 @@ use crate::source_fault::SourceKind;
 use crate::sums::{both, read_sum};
 use crate::tokens::{Keyword, Symbol, next_token};
 use crate::words::content;
+use lzk_profile::{FIELD_WORD, MOST_PRIVATES};
 use std::alloc::{AllocError, Global};
 
 // What was read so far: the field, the statements, the declared names, and how many there are of each.
@@ -61,7 +63,7 @@ fn field_of(bytes: &[u8]) -> Option<FieldId>
     if next_token(rest).is_some() {
         return None;
     }
-    if name == b"goldilocks".as_slice() {
+    if name == FIELD_WORD.as_bytes() {
         return Some(FieldId::Goldilocks);
     }
     if name == b"gf2_128".as_slice() {
@@ -188,7 +190,8 @@ impl<'a> Reader<'a> {
     {
         match keyword {
             Keyword::Public => self.publics as usize + token_count(rest) <= 65_535,
-            Keyword::Private => self.privates as usize + token_count(rest) <= 65_536,
+            Keyword::Private => self.privates as usize + token_count(rest)
+                <= MOST_PRIVATES as usize,
             Keyword::Assert => self.asserts < 131_072,
             _ => true,
         }
@@ -239,7 +242,7 @@ impl<'a> Reader<'a> {
         requires new { name_of (statements_of self.old.statements.items) name.now ≡ None }
         requires some { 1 ≤ length name.now }
         requires short { length name.now ≤ 32 }
-        requires room { input_count input self.old < 65536 }
+        requires room { input_count input self.old < most_privates }
         ensures declares { OnOk result (Declares self.old self.new (input_statement input name.now)) }
         ensures count { OnOk result (input_count input self.new ≡ input_count input self.old + 1) }
         ensures lets { OnOk result (self.new.lets ≡ self.old.lets) }
@@ -294,7 +297,7 @@ impl<'a> Reader<'a> {
     ) -> Result<Option<SourceKind>, AllocError>
         requires holds { IsReader self.old }
         requires short { list_all is_short (tokens bytes.now) ≡ true }
-        requires room { input_count input self.old + length (tokens bytes.now) ≤ 65536 }
+        requires room { input_count input self.old + length (tokens bytes.now) ≤ most_privates }
         ensures { IfOk result (λ broken. Takes self.old self.new (Key (key_of input) ∷ tokens bytes.now) broken) }
     {
         if next_token(bytes).is_none() {

@@ -14,6 +14,7 @@ use crate::ast::{Expr, FieldId};
 use crate::names::{Binding, Names};
 use crate::reads::{Step, nothing_read};
 use crate::tokens::{Symbol, next_token};
+use lzk_profile::PRIME;
 use std::alloc::{AllocError, Global};
 
 // An expression, whether its names are declared, and whether its numbers are below the field's size.
@@ -36,7 +37,7 @@ fn is_below(field: FieldId, n: u128) -> bool
     ensures { result ≡ nat_lt n (field_size field) }
 {
     match field {
-        FieldId::Goldilocks => n < 18446744069414584321,
+        FieldId::Goldilocks => n < PRIME,
         FieldId::Gf2_128 => true,
     }
 }
