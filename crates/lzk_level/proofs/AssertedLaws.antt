@@ -3,6 +3,7 @@ use Rattle.std.specs.Prelude.{◌≡◌, ℕ, ◌+◌, ◌-◌, ◌*◌, ◌<◌
 use Rattle.std.proofs.Common.{zero, suc, refl, sym, ap, ◌∙◌, arith, subst}
 use Rattle.std.proofs.Math.Nat.{suc-mul}
 use Rattle.std.proofs.lemmas.List.{length-append, length-map, length-reverse, map-append}
+use Rattle.lzk_profile.specs.Profile.{most_wires, most_total}
 use Rattle.lzk_field.specs.Ring.{Ops}
 use Rattle.lzk_field.specs.Sums.{entry}
 use Rattle.lzk_circuit.specs.declared.layer.Layer.{Layer}
@@ -28,7 +29,7 @@ use Rattle.lzk_level.specs.Stacking.{AreStacked}
 -- asserted nodes, and how many layers they need
 pub record Asserted {A : Type 0} (inputs : ℕ) (made : List (Gate A)) (depths last asserts : List ℕ) (count : ℕ) : Type 0 where
   pub some : 1 ≤ length asserts
-  pub few : length depths + length asserts ≤ 131072
+  pub few : length depths + length asserts ≤ most_wires
   pub nodes : (i : ℕ) → i < length asserts → at asserts i < length depths
   pub is : count ≡ greatest 1 (map (at depths) asserts)
   pub needed : (i : ℕ) → i < length asserts → min count (at depths (at asserts i) + 1) ≤ at last (at asserts i)
@@ -72,9 +73,9 @@ pub record Ready {A : Type 0} (o : Ops A) (inputs : ℕ) (ws : List (List ℕ)) 
   pub layers_are : 2 ≤ length layers → AreLayers o inputs layers
   pub targets : AreTargets inputs ws layers
   pub checks : 1 ≤ output_count layers + length (targets_at ws 0)
-  pub narrow_are : AreNarrowWith 131072 ws layers
-  pub few_wires : (under_of inputs layers).wires + target_count ws layers ≤ 2097152
-  pub few_terms : (under_of inputs layers).terms + target_count ws layers ≤ 2097152
+  pub narrow_are : AreNarrowWith most_wires ws layers
+  pub few_wires : (under_of inputs layers).wires + target_count ws layers ≤ most_total
+  pub few_terms : (under_of inputs layers).terms + target_count ws layers ≤ most_total
 
 module _ {A : Type 0} (o : Ops A) (inputs : ℕ) (made : List (Gate A)) (depths last asserts : List ℕ) where
   deep : (count : ℕ) → Asserted inputs made depths last asserts count → (i : ℕ) → i < length asserts → at depths (at asserts i) < suc count
@@ -96,7 +97,7 @@ module _ {A : Type 0} (o : Ops A) (inputs : ℕ) (made : List (Gate A)) (depths 
   some-checks (suc n) a = omega (arith, some-outputs (suc (suc n)) a (omega arith))
 
   few-wires : (layer : Layer A) (layers : List (Layer A)) (a : Asserted inputs made depths last asserts (suc (length layers))) → Built o inputs depths last asserts (suc (length layers)) a.limits.weights (layer ∷ layers)
-      → (under_of inputs (layer ∷ layers)).wires + target_count (targets_below depths last asserts (suc (length layers))) (layer ∷ layers) ≤ 2097152
+      → (under_of inputs (layer ∷ layers)).wires + target_count (targets_below depths last asserts (suc (length layers))) (layer ∷ layers) ≤ most_total
   few-wires layer layers a b =
       let n = length layers in
       let most = a.limits.most in
@@ -104,7 +105,7 @@ module _ {A : Type 0} (o : Ops A) (inputs : ℕ) (made : List (Gate A)) (depths 
       omega (arith, most, more, as-many (suc n) a, asserted-count depths last asserts (layer ∷ layers), b.widths.0, wires-few depths last inputs layers b.widths.1, suc-mul n (length depths))
 
   few-terms : (layer : Layer A) (layers : List (Layer A)) (a : Asserted inputs made depths last asserts (suc (length layers))) → Built o inputs depths last asserts (suc (length layers)) a.limits.weights (layer ∷ layers)
-      → (under_of inputs (layer ∷ layers)).terms + target_count (targets_below depths last asserts (suc (length layers))) (layer ∷ layers) ≤ 2097152
+      → (under_of inputs (layer ∷ layers)).terms + target_count (targets_below depths last asserts (suc (length layers))) (layer ∷ layers) ≤ most_total
   few-terms layer layers a b =
       let n = length layers in
       let most = a.limits.most in
@@ -120,7 +121,7 @@ module _ {A : Type 0} (o : Ops A) (inputs : ℕ) (made : List (Gate A)) (depths 
         layers_are = λ two. b.valid (some-outputs (suc n) a two);
         targets = are-targets depths last asserts (suc n) a.nodes a.needed inputs layer layers (omega arith) b.widths.1;
         checks = omega (arith, some-checks n a, b.widths.0, length-map own (place_in depths last n));
-        narrow_are = narrow depths last asserts inputs 131072 (length (of_depth depths (suc n) asserts)) layer layers a.few b.widths.0 (omega (arith, as-many (suc n) a)) b.widths.1;
+        narrow_are = narrow depths last asserts inputs most_wires (length (of_depth depths (suc n) asserts)) layer layers a.few b.widths.0 (omega (arith, as-many (suc n) a)) b.widths.1;
         few_wires = few-wires layer layers a b;
         few_terms = few-terms layer layers a b;
       }
@@ -215,7 +216,7 @@ module _ {A : Type 0} (o : Ops A) (inputs : ℕ) (made : List (Gate A)) (depths 
       let heavy = a.limits.are in
       let each = depth-each depths (λ k. (1 ≤ k) × (k < length depths)) count asserts given.nodes in
       let firsts : (i : ℕ) → i < length own → 1 ≤ at own i = λ i l. (each i l).0.0 in
-      let room : count * length depths + total weights + total (map (at weights) own) ≤ 2097152 = omega (arith, a.limits.most, mul-more count (length depths) (length asserts) some, depth-light depths weights count asserts) in
+      let room : count * length depths + total weights + total (map (at weights) own) ≤ most_total = omega (arith, a.limits.most, mul-more count (length depths) (length asserts) some, depth-light depths weights count asserts) in
       let long : length (reverse stacked) ≡ count = length-reverse stacked ∙ t.count_is in
       let b : Built o inputs depths last asserts count a.limits.weights (reverse stacked) = record { widths = t.widths; terms = t.terms weights heavy firsts room; few = t.few_terms weights heavy firsts room; valid = λ s. t.valid weights heavy s firsts room } in
       record {

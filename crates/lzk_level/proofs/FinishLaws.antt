@@ -3,6 +3,7 @@ use Rattle.std.specs.Prelude.{◌≡◌, ℕ, ◌+◌, ◌-◌, ◌<◌, ◌≤�
 use Rattle.std.proofs.Common.{zero, suc, inl, inr, sym, ap, ◌∙◌, arith, subst}
 use Rattle.std.proofs.lemmas.Bool.{cases_lt, lt-leb, le-leb}
 use Rattle.std.proofs.lemmas.List.{length-append, length-replicate}
+use Rattle.lzk_profile.specs.Profile.{most_privates, most_wires, most_total}
 use Rattle.lzk_field.specs.Ring.{Ops}
 use Rattle.lzk_circuit.specs.declared.layer.Layer.{Layer}
 use Rattle.lzk_circuit.proofs.VersionLaws.{one-valid}
@@ -20,15 +21,15 @@ use Rattle.lzk_level.proofs.AfterLaws.{after-length, after-front, depths-are, we
 -- no limit is passed
 pub record Within (layers wires terms : ℕ) : Type 0 where
   pub layers_most : layers ≤ 512
-  pub wires_most : wires ≤ 131072
-  pub terms_most : terms ≤ 2097152
+  pub wires_most : wires ≤ most_wires
+  pub terms_most : terms ≤ most_total
 
 pub within-limits : (layers wires terms : ℕ) → limit_fault layers wires terms ≡ None → Within layers wires terms
 within-limits layers wires terms e = elim (cases_lt 512 layers) [
   | inl l ↦ absurd (some_none (Layers layers) (sym (over_layers layers wires terms l) ∙ e))
-  | inr l ↦ elim (cases_lt 131072 wires) [
+  | inr l ↦ elim (cases_lt most_wires wires) [
     | inl m ↦ absurd (some_none (LayerWires wires) (sym (over_wires layers wires terms l m) ∙ e))
-    | inr m ↦ elim (cases_lt 2097152 terms) [
+    | inr m ↦ elim (cases_lt most_total terms) [
       | inl n ↦ absurd (some_none (Terms (min (2 ^ 64 - 1) terms)) (sym (over_terms layers wires terms l m n) ∙ e))
       | inr n ↦ record { layers_most = l; wires_most = m; terms_most = n }
     ]
@@ -39,18 +40,18 @@ within-limits layers wires terms e = elim (cases_lt 512 layers) [
     some_none f e = cc
 
     over_layers : (layers wires terms : ℕ) → 512 < layers → limit_fault layers wires terms ≡ Some (Layers layers)
-    over_layers layers wires terms l = ap (λ b. if b then (if nat_le wires 131072 then (if nat_le terms 2097152 then None else Some (Terms (min (2 ^ 64 - 1) terms))) else Some (LayerWires wires)) else Some (Layers layers)) (lt-leb layers 512 l)
+    over_layers layers wires terms l = ap (λ b. if b then (if nat_le wires most_wires then (if nat_le terms most_total then None else Some (Terms (min (2 ^ 64 - 1) terms))) else Some (LayerWires wires)) else Some (Layers layers)) (lt-leb layers 512 l)
 
-    over_wires : (layers wires terms : ℕ) → layers ≤ 512 → 131072 < wires → limit_fault layers wires terms ≡ Some (LayerWires wires)
+    over_wires : (layers wires terms : ℕ) → layers ≤ 512 → most_wires < wires → limit_fault layers wires terms ≡ Some (LayerWires wires)
     over_wires layers wires terms l m =
-        ap (λ b. if b then (if nat_le wires 131072 then (if nat_le terms 2097152 then None else Some (Terms (min (2 ^ 64 - 1) terms))) else Some (LayerWires wires)) else Some (Layers layers)) (le-leb layers 512 l)
-        ∙ ap (λ b. if b then (if nat_le terms 2097152 then None else Some (Terms (min (2 ^ 64 - 1) terms))) else Some (LayerWires wires)) (lt-leb wires 131072 m)
+        ap (λ b. if b then (if nat_le wires most_wires then (if nat_le terms most_total then None else Some (Terms (min (2 ^ 64 - 1) terms))) else Some (LayerWires wires)) else Some (Layers layers)) (le-leb layers 512 l)
+        ∙ ap (λ b. if b then (if nat_le terms most_total then None else Some (Terms (min (2 ^ 64 - 1) terms))) else Some (LayerWires wires)) (lt-leb wires most_wires m)
 
-    over_terms : (layers wires terms : ℕ) → layers ≤ 512 → wires ≤ 131072 → 2097152 < terms → limit_fault layers wires terms ≡ Some (Terms (min (2 ^ 64 - 1) terms))
+    over_terms : (layers wires terms : ℕ) → layers ≤ 512 → wires ≤ most_wires → most_total < terms → limit_fault layers wires terms ≡ Some (Terms (min (2 ^ 64 - 1) terms))
     over_terms layers wires terms l m n =
-        ap (λ b. if b then (if nat_le wires 131072 then (if nat_le terms 2097152 then None else Some (Terms (min (2 ^ 64 - 1) terms))) else Some (LayerWires wires)) else Some (Layers layers)) (le-leb layers 512 l)
-        ∙ ap (λ b. if b then (if nat_le terms 2097152 then None else Some (Terms (min (2 ^ 64 - 1) terms))) else Some (LayerWires wires)) (le-leb wires 131072 m)
-        ∙ ap (λ b. if b then None else Some (Terms (min (2 ^ 64 - 1) terms))) (lt-leb terms 2097152 n)
+        ap (λ b. if b then (if nat_le wires most_wires then (if nat_le terms most_total then None else Some (Terms (min (2 ^ 64 - 1) terms))) else Some (LayerWires wires)) else Some (Layers layers)) (le-leb layers 512 l)
+        ∙ ap (λ b. if b then (if nat_le terms most_total then None else Some (Terms (min (2 ^ 64 - 1) terms))) else Some (LayerWires wires)) (le-leb wires most_wires m)
+        ∙ ap (λ b. if b then None else Some (Terms (min (2 ^ 64 - 1) terms))) (lt-leb terms most_total n)
 
 pub greatest-some : (m : ℕ) (ns : List ℕ) → m ≤ greatest m ns
 greatest-some m [] = omega arith
@@ -75,7 +76,7 @@ module _ {A : Type 0} where
 
   -- nodes within the limit on wires are a graph
   pub is-graph : (inputs publics privates : ℕ) (made : List (Gate A)) (depths : List ℕ) → inputs ≡ 1 + (publics + privates) → depths ≡ node_depths (nodes_from publics privates made) → AreGates (publics + privates) made
-      → 1 + (publics + privates) + length made ≤ 131072 → IsGraph inputs made depths
+      → 1 + (publics + privates) + length made ≤ most_wires → IsGraph inputs made depths
   is-graph inputs publics privates made depths width e h few =
       let long : length depths ≡ 1 + (publics + privates) + length made = ap length e ∙ depths-long publics privates made in
       let before : publics + privates ≡ inputs - 1 = omega (arith, width) in
@@ -92,7 +93,7 @@ module _ {A : Type 0} where
   ready-weights publics privates made inputs e h = subst (λ n. AreWeights n made (node_weights (nodes_from publics privates made))) (sym e) (weights-are (publics + privates) made h)
 
 module _ {A : Type 0} (o : Ops A) where
-  pub valid-layers : (publics privates inputs : ℕ) (layers : List (Layer A)) → publics ≤ 65535 → privates ≤ 65536 → inputs ≡ 1 + (publics + privates) → 1 ≤ length layers → length layers ≤ 512 → AreLayers o inputs layers → IsValid o (wiring publics privates layers)
+  pub valid-layers : (publics privates inputs : ℕ) (layers : List (Layer A)) → publics ≤ 65535 → privates ≤ most_privates → inputs ≡ 1 + (publics + privates) → 1 ≤ length layers → length layers ≤ 512 → AreLayers o inputs layers → IsValid o (wiring publics privates layers)
   valid-layers publics privates inputs layers p q e some most h =
       let width : inputs ≡ 1 + publics + privates = omega (arith, e) in
       one-valid o publics privates layers p q some most (subst (λ n. AreLayers o n layers) width h)

@@ -4,6 +4,7 @@ use Rattle.std.specs.List.{list_any}
 use Rattle.std.specs.Str.{bytes_eq}
 use Rattle.std.proofs.Common.{zero, suc, refl, ap, ◌∙◌, arith}
 use Rattle.std.proofs.lemmas.List.Sums.{sum_by-cons}
+use Rattle.lzk_profile.specs.Profile.{most_privates}
 use Rattle.lzk_expr.specs.declared.ast.FieldId.{FieldId}
 use Rattle.lzk_expr.specs.Trees.{Expr, Number, PublicInput, PrivateInput, Named, Neg, Added, Multiplied, Parts, NoPart, part, Exprs, NoExpr, factor, Statement, DeclarePublic, DeclarePrivate, Define, Assertion, SourceTree, declared_from, is_public, is_private, is_assertion}
 use Rattle.lzk_expr.specs.Sources.{IsWellFormed}
@@ -117,7 +118,7 @@ room-public f ss (DeclarePrivate w) h e = absurd cc
 room-public f ss (Define w x) h e = absurd cc
 room-public f ss (Assertion x y) h e = absurd cc
 
-room-private : (f : FieldId) (ss : List Statement) (t : Statement) → Fits f ss t → is_private t ≡ true → count_by is_private ss + 1 ≤ 65536
+room-private : (f : FieldId) (ss : List Statement) (t : Statement) → Fits f ss t → is_private t ≡ true → count_by is_private ss + 1 ≤ most_privates
 room-private f ss (DeclarePublic w) h e = absurd cc
 room-private f ss (DeclarePrivate w) h e = h.1
 room-private f ss (Define w x) h e = absurd cc
@@ -143,7 +144,7 @@ compilable s h =
     let zero-assertion : count_by is_assertion [] ≡ 0 = refl in
     record {
       publics = omega (arith, built-count is_public 65535 f (room-public f) [] ss b.built (omega (arith, zero-public)), zero-public);
-      privates = omega (arith, built-count is_private 65536 f (room-private f) [] ss b.built (omega (arith, zero-private)), zero-private);
+      privates = omega (arith, built-count is_private most_privates f (room-private f) [] ss b.built (omega (arith, zero-private)), zero-private);
       some = some-assertion (count_by is_assertion ss) ss refl b.some;
       asserts = omega (arith, built-count is_assertion 131072 f (room-assertion f) [] ss b.built (omega (arith, zero-assertion)), zero-assertion);
       inputs = built-within f [] ss (count_by is_public ss) (count_by is_private ss) b.built (omega (arith, zero-public)) (omega (arith, zero-private));

@@ -2,6 +2,7 @@
 use Rattle.std.specs.Prelude.{◌≡◌, ℕ, ◌+◌, ◌-◌, ◌*◌, ◌^◌, ◌<◌, ◌≤◌, None, List, length, map, reverse, count_by, Ok}
 use Rattle.std.proofs.Common.{refl, sym, ap, ◌∙◌, arith, subst}
 use Rattle.std.proofs.lemmas.List.{length-reverse}
+use Rattle.lzk_profile.specs.Profile.{most_privates, most_wires}
 use Rattle.lzk_field.specs.Ring.{Ops, Laws}
 use Rattle.lzk_goldilocks.specs.Prime.{p, element_bytes, field_byte}
 use Rattle.lzk_goldilocks.specs.Elements as gold
@@ -43,7 +44,7 @@ module _ {A : Type 0} (o : Ops A) (size : ℕ) (number : A → ℕ) (element : �
     pub reduced : IsReduced o c.layers
     pub valid : IsValid o c
 
-  finished : (n : Nodes A) (outputs : List ℕ) → n.publics ≤ 65535 → n.privates ≤ 65536 → HasGates n → 1 ≤ length outputs → length outputs ≤ 131072 → ((i : ℕ) → i < length outputs → IsNode (node_count n) (at outputs i))
+  finished : (n : Nodes A) (outputs : List ℕ) → n.publics ≤ 65535 → n.privates ≤ most_privates → HasGates n → 1 ≤ length outputs → length outputs ≤ most_wires → ((i : ℕ) → i < length outputs → IsNode (node_count n) (at outputs i))
       → level_fault n outputs ≡ None → (c : Wiring A) × IsFinished n outputs c
   finished n outputs fewer few gates some most nodes fits =
       let inputs = 1 + (n.publics + n.privates) in

@@ -2,6 +2,7 @@
 use Rattle.std.specs.Prelude.{◌≡◌, ℕ, ◌+◌, ◌*◌, ◌^◌, ◌<◌, ◌≤◌, min, None, List, length, map, reverse, count_by}
 use Rattle.std.proofs.Common.{inr, refl, sym, ap, ◌∙◌, arith, subst}
 use Rattle.std.proofs.Math.ListN.{replicate}
+use Rattle.lzk_profile.specs.Profile.{most_privates}
 use Rattle.lzk_field.specs.Ring.{Ops, Laws}
 use Rattle.lzk_goldilocks.specs.Prime.{p, element_bytes, field_byte}
 use Rattle.lzk_goldilocks.specs.Elements as gold
@@ -47,7 +48,7 @@ module _ {A : Type 0} (o : Ops A) (size : ℕ) (number : A → ℕ) (element : �
     pub reduced : IsReducedAsserting o c.layers
     pub valid : IsValid o c
 
-  finished : (n : Nodes A) (asserts : List ℕ) → n.publics ≤ 65535 → n.privates ≤ 65536 → HasGates n → 1 ≤ length asserts → ((i : ℕ) → i < length asserts → IsNode (node_count n) (at asserts i))
+  finished : (n : Nodes A) (asserts : List ℕ) → n.publics ≤ 65535 → n.privates ≤ most_privates → HasGates n → 1 ≤ length asserts → ((i : ℕ) → i < length asserts → IsNode (node_count n) (at asserts i))
       → level_fault_v2 n asserts ≡ None → (c : Wiring A) × IsFinished n asserts c
   finished n asserts fewer few gates some nodes fits =
       let inputs = 1 + (n.publics + n.privates) in

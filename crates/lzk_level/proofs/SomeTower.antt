@@ -3,6 +3,7 @@ use Rattle.std.specs.Prelude.{◌≡◌, ℕ, ◌+◌, ◌-◌, ◌<◌, ◌≤�
 use Rattle.std.proofs.Common.{zero, suc, inl, inr, refl, ap, ◌∙◌, arith, subst, get_or}
 use Rattle.std.proofs.lemmas.Bool.{cases_Bool}
 use Rattle.std.proofs.lemmas.List.{length-append, length-map, length-replicate, get_or-replicate, take_all}
+use Rattle.lzk_profile.specs.Profile.{most_wires}
 use Rattle.lzk_field.specs.Ring.{Ops, RingLaws, FieldLaws}
 use Rattle.lzk_circuit.specs.declared.layer.Term.{Term}
 use Rattle.lzk_circuit.specs.declared.layer.Layer.{Layer}
@@ -96,7 +97,7 @@ module _ {A : Type 0} where
       }
 
 module _ {A : Type 0} (o : Ops A) (r : RingLaws o) (f : FieldLaws o) (decide : ZeroOrNot o) (made : List (Gate A)) (depths : List ℕ) (inputs : ℕ)
-    (first : 1 ≤ inputs) (gates : AreGates (inputs - 1) made) (d : AreDepths inputs made depths) (few : length depths ≤ 131072) where
+    (first : 1 ≤ inputs) (gates : AreGates (inputs - 1) made) (d : AreDepths inputs made depths) (few : length depths ≤ most_wires) where
   tower-to : (last : List ℕ) (level : ℕ) → AreLast inputs made depths last → level < at last 0 → (layers : List (Layer A)) × Tower o inputs made depths last level layers
   tower-to last zero w high = ([], tower-starts o inputs made depths last d w)
   tower-to last (suc n) w high =
@@ -115,7 +116,7 @@ module _ {A : Type 0} (o : Ops A) (r : RingLaws o) (f : FieldLaws o) (decide : Z
       )
 
   -- the layers for outputs
-  pub topped : (count : ℕ) (outputs : List ℕ) → 1 ≤ count → length outputs ≤ 131072 → ((i : ℕ) → i < length outputs → at outputs i < length depths) → ((i : ℕ) → i < length outputs → at depths (at outputs i) ≤ count)
+  pub topped : (count : ℕ) (outputs : List ℕ) → 1 ≤ count → length outputs ≤ most_wires → ((i : ℕ) → i < length outputs → at outputs i < length depths) → ((i : ℕ) → i < length outputs → at depths (at outputs i) ≤ count)
       → (layers : List (Layer A)) × AreStacked o inputs made depths (replicate (length depths) count) count outputs layers
   topped count outputs some most nodes deep =
       let last = replicate (length depths) count in

@@ -6,6 +6,7 @@ use Rattle.std.proofs.lemmas.Bool.{cases_lt, le-leb, lt-leb, cases_Bool}
 use Rattle.std.proofs.lemmas.List.{length-map, length-append, ext_get_or, take_more, take_all, reverse-append, length-reverse}
 use Rattle.std.proofs.lemmas.List.FromFn.{length-map-range_with_len, get_or-map-range_with_len}
 use Rattle.std.proofs.Math.Nat.{suc-mul}
+use Rattle.lzk_profile.specs.Profile.{most_wires, most_total}
 use Rattle.lzk_field.specs.Ring.{Ops}
 use Rattle.lzk_field.specs.Sums.{entry}
 use Rattle.lzk_circuit.specs.declared.layer.Term.{Term}
@@ -167,7 +168,7 @@ module _ {A : Type 0} (o : Ops A) where
   -- the layers of the levels up to one, the last layer first
   pub record Tower (inputs : ℕ) (made : List (Gate A)) (depths last : List ℕ) (level : ℕ) (layers : List (Layer A)) : Type 0 where
     pub count : length layers ≡ level
-    pub sound : (weights : List ℕ) → AreWeights inputs made weights → level * length depths + total weights ≤ 2097152 → Sound inputs depths last level weights (reverse layers)
+    pub sound : (weights : List ℕ) → AreWeights inputs made weights → level * length depths + total weights ≤ most_total → Sound inputs depths last level weights (reverse layers)
     pub stands : (values ins : List A) → AreValues o inputs made values → Begins o inputs values ins → Stands o depths last level values (wires_of o (reverse layers) ins)
     pub ones : HaveOnesUnder o (reverse layers)
     pub widths : HaveWidths depths last inputs (reverse layers)
@@ -199,7 +200,7 @@ module _ {A : Type 0} (o : Ops A) where
             ∙ each k l d ∙ have k (omega (arith, l, long)) (wire-no-deeper depths last level k d) (omega (arith, wire-needed depths last level k d));
       }
 
-  pub tower-adds : (inputs : ℕ) (made : List (Gate A)) (depths last : List ℕ) (level : ℕ) (layers all : List (Layer A)) (layer : Layer A) (rows : List (List (Term A))) → 1 ≤ level → length depths ≤ 131072 → 1 ≤ inputs → level < at last 0 → AreDepths inputs made depths
+  pub tower-adds : (inputs : ℕ) (made : List (Gate A)) (depths last : List ℕ) (level : ℕ) (layers all : List (Layer A)) (layer : Layer A) (rows : List (List (Term A))) → 1 ≤ level → length depths ≤ most_wires → 1 ≤ inputs → level < at last 0 → AreDepths inputs made depths
       → all ≡ layers ++ layer ∷ [] → length rows ≡ length depths → AreRows o (width_of depths last (level - 1)) rows
       → ((values wires : List A) → AreValues o inputs made values → Stands o depths last (level - 1) values wires → HaveValues o depths last level values wires rows)
       → ((weights : List ℕ) → AreWeights inputs made weights → AreShort depths level weights rows)
@@ -248,7 +249,7 @@ module _ {A : Type 0} (o : Ops A) where
 
   -- with the outputs' layer on top
   pub tower-ends : (inputs : ℕ) (made : List (Gate A)) (depths last : List ℕ) (count : ℕ) (layers all : List (Layer A)) (layer : Layer A) (rows : List (List (Term A))) (outputs : List ℕ) → 1 ≤ count → 1 ≤ inputs → AreGates (inputs - 1) made → AreDepths inputs made depths
-      → all ≡ layers ++ layer ∷ [] → length rows ≡ length depths → AreRows o (width_of depths last (count - 1)) rows → layer.wires ≡ length outputs → length outputs ≤ 131072
+      → all ≡ layers ++ layer ∷ [] → length rows ≡ length depths → AreRows o (width_of depths last (count - 1)) rows → layer.wires ≡ length outputs → length outputs ≤ most_wires
       → ((values wires : List A) → AreValues o inputs made values → Stands o depths last (count - 1) values wires → HaveValues o depths last count values wires rows)
       → ((weights : List ℕ) → AreWeights inputs made weights → AreShort depths count weights rows)
       → ((width : ℕ) → AreRows o width rows → AreTerms o (length outputs) width None layer.terms)

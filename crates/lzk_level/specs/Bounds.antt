@@ -1,5 +1,6 @@
 -- How deep and how heavy nodes are, and when a circuit of them keeps the limits.
 use Rattle.std.specs.Prelude.{◌≡◌, ℕ, ◌+◌, ◌-◌, ◌*◌, ◌^◌, max, min, nat_le, length, if◌then◌else◌, List, [], ◌∷◌, map, replicate, Option, Some, None}
+use Rattle.lzk_profile.specs.Profile.{most_wires, most_total}
 use Rattle.lzk_level.specs.declared.node.Gate.{Gate}
 use Rattle.lzk_level.specs.declared.node.Gate.TheVariants.{Constant, Combine, Mul}
 use Rattle.lzk_level.specs.declared.fault.LevelFault.{LevelFault}
@@ -60,8 +61,8 @@ term_bound n outputs =
 abbrev pub limit_fault : ℕ → ℕ → ℕ → Option LevelFault
 limit_fault layers wires terms =
     if nat_le layers 512 then
-    if nat_le wires 131072 then
-    if nat_le terms 2097152 then None else Some (Terms (min (2 ^ 64 - 1) terms))
+    if nat_le wires most_wires then
+    if nat_le terms most_total then None else Some (Terms (min (2 ^ 64 - 1) terms))
     else Some (LayerWires wires)
     else Some (Layers layers)
 

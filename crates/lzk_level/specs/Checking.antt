@@ -2,6 +2,7 @@
 use Rattle.std.specs.Prelude.{◌≡◌, ℕ, ◌+◌, ◌-◌, ◌*◌, ◌<◌, ◌≤◌, ◌==◌, nat_lt, List, [], ◌∷◌, ◌++◌, length, map, take, count_by}
 use Rattle.std.proofs.Common.{zero, suc}
 use Rattle.std.specs.List.{filter}
+use Rattle.lzk_profile.specs.Profile.{most_wires, most_total}
 use Rattle.lzk_field.specs.Ring.{Ops}
 use Rattle.lzk_field.specs.Sums.{entry}
 use Rattle.lzk_circuit.specs.declared.layer.Layer.{Layer}
@@ -60,13 +61,13 @@ pub record KeepLimits {A : Type 0} (inputs : ℕ) (made : List (Gate A)) (depths
     (count : ℕ) : Type 0 where
   pub weights : List ℕ
   pub are : AreWeights inputs made weights
-  pub most : count * (length depths + length asserts) + total weights + total (map (at weights) asserts) ≤ 2097152
+  pub most : count * (length depths + length asserts) + total weights + total (map (at weights) asserts) ≤ most_total
 
 -- asserted nodes over these gates, the layers that they need, and that they keep the limits
 pub record AreAsserts {A : Type 0} (inputs : ℕ) (made : List (Gate A)) (depths asserts : List ℕ)
     (count : ℕ) : Type 0 where
   pub graph : IsGraph inputs made depths
-  pub few : length depths + length asserts ≤ 131072
+  pub few : length depths + length asserts ≤ most_wires
   pub some : 1 ≤ length asserts
   pub nodes : (i : ℕ) → i < length asserts → (1 ≤ at asserts i) × (at asserts i < length depths)
   pub is : count ≡ greatest 1 (map (at depths) asserts)

@@ -1,5 +1,6 @@
 -- What a compiled circuit has to do with its source.
 use Rattle.std.specs.Prelude.{◌≡◌, ℕ, ◌+◌, ◌≤◌, ◌<◌, List, length, map, count_by, Option}
+use Rattle.lzk_profile.specs.Profile.{most_privates}
 use Rattle.lzk_field.specs.Ring.{Ops}
 use Rattle.lzk_goldilocks.specs.Elements as gold
 use Rattle.lzk_gf128.specs.Elements as gf
@@ -134,8 +135,8 @@ source_limit_v2 s = limit_in_v2 s.field_is s.statements
 -- what every source keeps: its counts, that its inputs are declared, and that it has few nodes
 pub record IsCompilable (ss : List Statement) : Type 0 where
   pub publics : count_by is_public ss ≤ 65535
-  pub privates : count_by is_private ss ≤ 65536
+  pub privates : count_by is_private ss ≤ most_privates
   pub some : 1 ≤ count_by is_assertion ss
   pub asserts : count_by is_assertion ss ≤ 131072
   pub inputs : AreStatementsWithin (count_by is_public ss) (count_by is_private ss) ss
-  pub room : 131071 + statements_size ss ≤ 2147483648
+  pub room : 65535 + most_privates + statements_size ss ≤ 2147483648

@@ -2,6 +2,7 @@
 use Rattle.std.specs.Prelude.{◌≡◌, ℕ, ◌+◌, ◌-◌, ◌<◌, ◌≤◌, nat_le, nat_lt, ◌&&◌, Bool, true, cond, List, [], ◌∷◌, length, slice_index_or}
 use Rattle.std.proofs.Common.{zero, suc}
 use Rattle.std.specs.Coded.{×_prop, Unit-prop, le_prop}
+use Rattle.lzk_profile.specs.Profile.{most_wires}
 use Rattle.lzk_field.specs.Ring.{Ops}
 use Rattle.lzk_field.specs.Sums.{entry}
 use Rattle.lzk_circuit.specs.declared.layer.Layer.{Layer}
@@ -95,7 +96,7 @@ pub record AreLast {A : Type 0} (inputs : ℕ) (made : List (Gate A)) (depths la
 -- those before
 pub record IsGraph {A : Type 0} (inputs : ℕ) (made : List (Gate A)) (depths : List ℕ) : Type 0 where
   pub one : 1 ≤ inputs
-  pub few : length depths ≤ 131072
+  pub few : length depths ≤ most_wires
   pub gates : AreGates (inputs - 1) made
   pub depths_are : AreDepths inputs made depths
 

@@ -1,5 +1,6 @@
 -- Layers that stand one above the other: what is asked of their outputs, and what they are.
 use Rattle.std.specs.Prelude.{◌≡◌, ℕ, ◌+◌, ◌-◌, ◌*◌, ◌<◌, ◌≤◌, true, None, List, length, map, reverse}
+use Rattle.lzk_profile.specs.Profile.{most_wires, most_total}
 use Rattle.lzk_field.specs.Ring.{Ops}
 use Rattle.lzk_field.specs.Sums.{entry}
 use Rattle.lzk_circuit.specs.declared.layer.Layer.{Layer}
@@ -52,7 +53,7 @@ pub record IsOutputLayer {A : Type 0} (o : Ops A) (rows : List (List (Term A))) 
 -- nodes of a graph that so many levels reach
 pub record AreOutputs (depths outputs : List ℕ) (count : ℕ) : Type 0 where
   pub some : 1 ≤ count
-  pub few : length outputs ≤ 131072
+  pub few : length outputs ≤ most_wires
   pub nodes : (i : ℕ) → i < length outputs → at outputs i < length depths
   pub deep : (i : ℕ) → i < length outputs → at depths (at outputs i) ≤ count
 
@@ -67,7 +68,7 @@ pub record AreStacked {A : Type 0} (o : Ops A) (inputs : ℕ) (made : List (Gate
   pub count_is : length layers ≡ count
   pub valid : (weights : List ℕ) → AreWeights inputs made weights → 1 ≤ length outputs
       → ((i : ℕ) → i < length outputs → 1 ≤ at outputs i)
-      → count * length depths + total weights + total (map (at weights) outputs) ≤ 2097152
+      → count * length depths + total weights + total (map (at weights) outputs) ≤ most_total
       → AreLayers o inputs (reverse layers)
   pub values : (values ins : List A) → AreValues o inputs made values → Begins o inputs values ins
       → wires_of o (reverse layers) ins ≡ map (entry o values) outputs
@@ -76,11 +77,11 @@ pub record AreStacked {A : Type 0} (o : Ops A) (inputs : ℕ) (made : List (Gate
   pub stand : (values ins : List A) → AreValues o inputs made values → Begins o inputs values ins
       → StandBelow o depths last values ins (reverse layers)
   pub terms : (weights : List ℕ) → AreWeights inputs made weights → ((i : ℕ) → i < length outputs → 1 ≤ at outputs i)
-      → count * length depths + total weights + total (map (at weights) outputs) ≤ 2097152
+      → count * length depths + total weights + total (map (at weights) outputs) ≤ most_total
       → AreAllTerms o inputs (reverse layers)
   pub few_terms : (weights : List ℕ) → AreWeights inputs made weights
       → ((i : ℕ) → i < length outputs → 1 ≤ at outputs i)
-      → count * length depths + total weights + total (map (at weights) outputs) ≤ 2097152
+      → count * length depths + total weights + total (map (at weights) outputs) ≤ most_total
       → (under_of inputs (reverse layers)).terms
       ≤ count * length depths + total weights + total (map (at weights) outputs)
 

@@ -2,6 +2,7 @@
 //! layer above its own, with no copies up to the outputs.
 
 ghost use Rattle.std.specs.Prelude.{◌≡◌, ℕ, ◌+◌, ◌<◌, ◌≤◌, None, length, IfOk, IfErr};
+ghost use Rattle.lzk_profile.specs.Profile.{most_privates, most_wires};
 ghost use Rattle.lzk_circuit.specs.Checks.{check_count};
 ghost use Rattle.lzk_circuit.specs.Valid.{AreLayersOf, wiring_of};
 ghost use Rattle.lzk_reduce.specs.Attached.{IsReducedAsserting};
@@ -82,7 +83,7 @@ fn all_targets<F>(
 
 fn circuit_of<F: Field>(publics: u32, privates: u32, layers: Vec<Layer<F>>) -> Circuit<F>
     requires publics { publics ≤ 65535 }
-    requires privates { privates ≤ 65536 }
+    requires privates { privates ≤ most_privates }
     requires some { 1 ≤ length layers.items }
     requires most { length layers.items ≤ 512 }
     requires layers { AreLayersOf F.ops 2 (1 + publics + privates) layers.items }
@@ -124,7 +125,7 @@ fn asserting_layers<F: Field>(
 // The reduced circuit whose checks are those of these nodes.
 fn laid_out<F: Field>(builder: &Builder<F>, asserts: &[Node]) -> Result<Circuit<F>, LevelError>
     requires some { 1 ≤ length asserts.now }
-    requires asserts { length asserts.now ≤ 131072 }
+    requires asserts { length asserts.now ≤ most_wires }
     requires nodes { (i : ℕ) → i < length asserts.now → IsNode (node_count builder.now) (at asserts.now i) }
     ensures version { IfOk result (λ c. c.version ≡ 2) }
     ensures publics { IfOk result (λ c. c.publics ≡ builder.now.publics) }
@@ -157,7 +158,7 @@ impl<F: Field> Builder<F> {
     /// that assert. The builder is consumed, and dropped where a limit is passed.
     pub fn finish_v2(self, asserts: &[Node]) -> Result<Circuit<F>, LevelError>
         requires some { 1 ≤ length asserts.now }
-        requires few { length asserts.now ≤ 131072 }
+        requires few { length asserts.now ≤ most_wires }
         requires nodes { (i : ℕ) → i < length asserts.now → IsNode (node_count self) (at asserts.now i) }
         ensures version { IfOk result (λ c. c.version ≡ 2) }
         ensures publics { IfOk result (λ c. c.publics ≡ self.publics) }

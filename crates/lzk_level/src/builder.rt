@@ -1,6 +1,7 @@
 //! Builders.
 
 ghost use Rattle.std.specs.Prelude.{◌≡◌, ◌+◌, ◌<◌, ◌≤◌, length, IfOk, OnErr, [], ◌++◌, ◌∷◌};
+ghost use Rattle.lzk_profile.specs.Profile.{most_privates};
 ghost use Rattle.lzk_level.specs.Nodes.{node_count, with_gate, IsNode, IsGate, ArePartsOf};
 ghost use Rattle.lzk_level.specs.declared.node.Gate.TheVariants.{Constant, Combine, Mul};
 
@@ -20,6 +21,7 @@ pub struct Builder<F: Field> {
 
 impl<F: Field> Model for Builder<F> {
     ghost use Rattle.std.specs.Prelude.{◌+◌, ◌≤◌, length};
+    ghost use Rattle.lzk_profile.specs.Profile.{most_privates};
     ghost use Rattle.lzk_level.specs.Nodes.{Nodes, AreGates};
 
     ghost Value = { Nodes F };
@@ -28,7 +30,7 @@ impl<F: Field> Model for Builder<F> {
 
     ghost invariant = { λ b.
         (b.publics ≤ 65535)
-        × (b.privates ≤ 65536)
+        × (b.privates ≤ most_privates)
         × (b.publics + b.privates + length b.made.items ≤ 2147483648)
         × AreGates (b.publics + b.privates) b.made.items };
 }
@@ -37,7 +39,7 @@ impl<F: Field> Builder<F> {
     /// A builder of so many inputs, and no further node.
     pub fn new(alloc: Global, publics: u32, privates: u32) -> Result<Builder<F>, AllocError>
         requires publics { publics ≤ 65535 }
-        requires privates { privates ≤ 65536 }
+        requires privates { privates ≤ most_privates }
         ensures inputs { IfOk result (λ b. b ≡ record { publics = publics; privates = privates; made = [] }) }
     {
         Ok(Builder {

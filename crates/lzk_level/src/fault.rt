@@ -6,15 +6,16 @@ ghost use Rattle.lzk_level.specs.declared.fault.LevelError.TheVariants.{OutOfMem
 use std::alloc::{AllocError, AllocFailed};
 use thiserror::Error;
 
-/// The first limit that a circuit would pass, with the number that passes it: layers over 512, wires of
-/// a layer over 131,072, terms over 2,097,152 (the last value of u64 where there are more).
+/// The first limit that a circuit would pass, with the number that passes it: layers over 512, wires of a layer over
+/// the profile's limit, 131,072 in LZK1, or terms over the profile's, 2,097,152 in LZK1 (the last value of u64 where
+/// there are more).
 #[derive(Clone, Copy, Debug, PartialEq, Eq)]
 pub enum LevelFault {
     /// So many layers, more than 512.
     Layers(u64),
-    /// A bound on the wires of a layer, above 131,072.
+    /// A bound on the wires of a layer, above what the profile allows.
     LayerWires(u64),
-    /// A bound on the terms, above 2,097,152; the last value of u64 where it is more than that.
+    /// A bound on the terms, above what the profile allows; the last value of u64 where it is more than that.
     Terms(u64),
 }
 

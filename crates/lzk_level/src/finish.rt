@@ -1,6 +1,7 @@
 //! Circuits of nodes.
 
 ghost use Rattle.std.specs.Prelude.{◌≡◌, ℕ, ◌+◌, ◌<◌, ◌≤◌, None, length, IfOk, IfErr};
+ghost use Rattle.lzk_profile.specs.Profile.{most_privates, most_wires};
 ghost use Rattle.lzk_circuit.specs.Valid.{AreLayers, wiring};
 ghost use Rattle.lzk_reduce.specs.Reduced.{IsReduced};
 ghost use Rattle.lzk_level.specs.Nodes.{IsNode, node_count};
@@ -80,7 +81,7 @@ pub fn measured<F: Field>(
     outputs: &[Node],
     further: u32,
 ) -> Result<(Vec<u32>, u32), LevelError>
-    requires further { further ≤ 131072 }
+    requires further { further ≤ most_wires }
     requires nodes { (i : ℕ) → i < length outputs.now → IsNode (node_count builder.now) (at outputs.now i) }
     ensures depths { IfOk result (λ sizes. sizes.0.items ≡ node_depths builder.now) }
     ensures count { IfOk result (λ sizes. sizes.1 ≡ layer_count builder.now outputs.now) }
@@ -98,7 +99,7 @@ pub fn measured<F: Field>(
 
 fn circuit_of<F: Field>(publics: u32, privates: u32, layers: Vec<Layer<F>>) -> Circuit<F>
     requires publics { publics ≤ 65535 }
-    requires privates { privates ≤ 65536 }
+    requires privates { privates ≤ most_privates }
     requires some { 1 ≤ length layers.items }
     requires most { length layers.items ≤ 512 }
     requires layers { AreLayers F.ops (1 + publics + privates) layers.items }
@@ -113,7 +114,7 @@ fn circuit_of<F: Field>(publics: u32, privates: u32, layers: Vec<Layer<F>>) -> C
 // The reduced circuit whose outputs are these nodes.
 fn laid_out<F: Field>(builder: &Builder<F>, outputs: &[Node]) -> Result<Circuit<F>, LevelError>
     requires some { 1 ≤ length outputs.now }
-    requires outputs { length outputs.now ≤ 131072 }
+    requires outputs { length outputs.now ≤ most_wires }
     requires nodes { (i : ℕ) → i < length outputs.now → IsNode (node_count builder.now) (at outputs.now i) }
     ensures version { IfOk result (λ c. c.version ≡ 1) }
     ensures publics { IfOk result (λ c. c.publics ≡ builder.now.publics) }
@@ -145,7 +146,7 @@ impl<F: Field> Builder<F> {
     /// and dropped where a limit is passed.
     pub fn finish(self, outputs: &[Node]) -> Result<Circuit<F>, LevelError>
         requires some { 1 ≤ length outputs.now }
-        requires few { length outputs.now ≤ 131072 }
+        requires few { length outputs.now ≤ most_wires }
         requires nodes { (i : ℕ) → i < length outputs.now → IsNode (node_count self) (at outputs.now i) }
         ensures version { IfOk result (λ c. c.version ≡ 1) }
         ensures publics { IfOk result (λ c. c.publics ≡ self.publics) }

@@ -1,6 +1,7 @@
 //! Depths, weights and limits.
 
 ghost use Rattle.std.specs.Prelude.{◌≡◌, ℕ, ◌+◌, ◌-◌, ◌*◌, ◌^◌, ◌<◌, ◌≤◌, max, min, List, [], ◌∷◌, length, map, replicate, IfOk, MatchResult, None, Some};
+ghost use Rattle.lzk_profile.specs.Profile.{most_wires};
 ghost use Rattle.lzk_level.specs.Nodes.{ArePartsOf, IsGate, AreGates, after};
 ghost use Rattle.lzk_reduce.specs.Renumbering.{at};
 ghost use Rattle.lzk_level.specs.Bounds.{at_parts, greatest, total, gate_depth, gate_weight, limit_fault};
@@ -158,7 +159,7 @@ pub fn check_limits(
     outputs: &[Node],
     further: u32,
 ) -> Result<u32, LevelFault>
-    requires few { length depths.now + further ≤ 2147614721 }
+    requires few { length depths.now + further ≤ 2147483649 + most_wires }
     requires same { length weights.now ≡ length depths.now }
     requires nodes { (i : ℕ) → i < length outputs.now → at outputs.now i < length depths.now }
     ensures { (all : List ℕ) → weights.now ≡ map (min (2 ^ 64 - 1)) all

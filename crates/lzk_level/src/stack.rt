@@ -1,6 +1,7 @@
 //! Layers from rows.
 
 ghost use Rattle.std.specs.Prelude.{◌≡◌, ℕ, ◌<◌, ◌≤◌, length, IfOk};
+ghost use Rattle.lzk_profile.specs.Profile.{most_wires};
 ghost use Rattle.lzk_reduce.specs.Renumbering.{at};
 ghost use Rattle.lzk_reduce.specs.Reduced.{HasOne};
 ghost use Rattle.lzk_level.specs.Levels.{ArePlaces, StartsWithOne};
@@ -61,7 +62,7 @@ pub fn output_layer<F: Field>(
     outputs: &[Node],
 ) -> Result<Layer<F>, AllocError>
     requires nodes { (i : ℕ) → i < length outputs.now → at outputs.now i < length rows.now }
-    requires few { length outputs.now ≤ 131072 }
+    requires few { length outputs.now ≤ most_wires }
     ensures layer { IfOk result (IsOutputLayer F.ops rows.now outputs.now) }
 {
     let mut terms = Vec::new(alloc);

@@ -1,5 +1,6 @@
 use Rattle.std.proofs.Common.{◌≡◌, ◌∙◌, ap, sym, subst, ◌+◌, ◌*◌, ◌≤◌, length, map, arith, reverse}
 use Rattle.std.proofs.lemmas.List.{length-reverse}
+use Rattle.lzk_profile.specs.Profile.{most_total}
 use Rattle.lzk_circuit.specs.Valid.{AreLayers}
 use Rattle.lzk_circuit.specs.Wires.{inputs_of, wires_of}
 use Rattle.lzk_level.specs.Levels.{IsGraph}
@@ -65,7 +66,7 @@ reduced-requires-clause-layers g c κs within =
     let weights = ready-weights p q n.made inputs width gates in
     let long : length c.deref-2.result.now ≡ wire_bound n = ap length is ∙ depths-long p q n.made ∙ omega arith in
     let product : c.in_ok-depths.count * length c.deref-2.result.now ≡ layer_count n outputs * wire_bound n = ap (λ k. k * length c.deref-2.result.now) e.count ∙ ap (λ k. layer_count n outputs * k) long in
-    let few : c.in_ok-depths.count * length c.deref-2.result.now + total (node_weights n) + total (map (at (node_weights n)) outputs) ≤ 2097152 = omega (arith, product, w.terms_most) in
+    let few : c.in_ok-depths.count * length c.deref-2.result.now + total (node_weights n) + total (map (at (node_weights n)) outputs) ≤ most_total = omega (arith, product, w.terms_most) in
     subst (AreLayers o inputs) (sym (c.deref-3.ensures.value ∙ c.reverse.ensures.items)) (stack.are.valid (node_weights n) weights c.requires.some (λ i l. (c.requires.nodes i l).0) few)
 
 pub circuit_of-requires-clause-some : goal.circuit_of-requires-clause-some
