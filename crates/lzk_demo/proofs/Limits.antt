@@ -5,6 +5,7 @@ use Rattle.std.proofs.lemmas.Bool.Decides.{nat_tests}
 use Rattle.std.proofs.lemmas.List.{get_or-replicate}
 use Rattle.std.proofs.lemmas.List.Sums.{sum_by-cons, sum_by-append}
 use Rattle.std.proofs.lemmas.Nat.{mul-le}
+use Rattle.lzk_profile.specs.Profile.{most_wires, most_total}
 use Rattle.lzk_field.specs.Ring.{Ops}
 use Rattle.lzk_goldilocks.specs.Elements.{of_number}
 use Rattle.lzk_goldilocks.specs.Elements as gold
@@ -230,8 +231,8 @@ module _ {A : Type 0} (o : Ops A) (element : ℕ → A) (all : ℕ) where
   pub demo_layers : 1 ≤ all → IsDemoDepth all (layer_count (nodes_of o element (demo_statements all)).nodes (nodes_of o element (demo_statements all)).outputs)
   demo_layers some = (height all all, height_is all all (omega arith), (demo_sized some).layers)
 
-  within : (l w t : ℕ) → l ≤ 512 → w ≤ 131072 → t ≤ 2097152 → limit_fault l w t ≡ None
-  within l w t a b c = rw (le_test l 512 a, le_test w 131072 b, le_test t 2097152 c) refl
+  within : (l w t : ℕ) → l ≤ 512 → w ≤ most_wires → t ≤ most_total → limit_fault l w t ≡ None
+  within l w t a b c = rw (le_test l 512 a, le_test w most_wires b, le_test t most_total c) refl
     where
       le_test : (m n : ℕ) → m ≤ n → nat_le m n ≡ true
       le_test m n h = grind (arith, nat_tests)

@@ -15,7 +15,7 @@ use lzk_goldilocks::Gold;
 use lzk_level::{LevelError, compile_owned};
 use std::alloc::{AllocError, Global};
 
-// The circuit over Goldilocks that a circuit is.
+// The circuit over the prime field that a circuit is.
 fn gold(circuit: AnyCircuit) -> Circuit<Gold>
     requires { field_of circuit ≡ Goldilocks }
     ensures { circuit ≡ AnyCircuit.Gold result }

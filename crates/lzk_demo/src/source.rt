@@ -9,7 +9,7 @@ use crate::building::push_all;
 use lzk_expr::{FieldId, Source};
 use std::alloc::{AllocError, Global};
 
-/// The source over Goldilocks with `n` private inputs. `Err` where there is no memory for it.
+/// The source over the prime field with `n` private inputs. `Err` where there is no memory for it.
 ///
 /// A circuit of it keeps all limits. It has as many layers as the logarithm of `n` to base 2, rounded up, and one where
 /// `n` is 1.
