@@ -7,8 +7,14 @@ import os
 import re
 import stat
 
+from profiles import PROFILES, STRONG
+
 HEAD_BYTES = 4096
-MAGICS = {b"LZC1": "a circuit", b"LZC2": "a circuit", b"LZP1": "a proof"}
+MAGICS = {}
+for profile in PROFILES:
+    of = " of the strong profile" if profile is STRONG else ""
+    MAGICS.update(dict.fromkeys(profile.circuit_magics(), f"a circuit{of}"))
+    MAGICS[profile.proof_magic()] = f"a proof{of}"
 
 
 def head_of(path):
@@ -42,7 +48,7 @@ def kind_of(path):
     words = words_in(head)
     if not words:
         return None
-    if words[0] == b"field" and words[1:2] in ([b"goldilocks"], [b"gf2_128"]):
+    if words[0] == b"field" and words[1:2] in ([b"goldilocks"], [b"prime128"], [b"gf2_128"]):
         return "a statement"
     if words[0] == b"record" and len(words) > 1 and words[1].isdigit():
         return "a policy"

@@ -36,7 +36,7 @@ import re
 import stat
 import sys
 
-from statement import FIELDS, Fault, expression_of, value_of
+from statement import FIELDS, Fault, Prime, expression_of, value_of
 
 TABLES = ("bits", "inverses", "bytes", "days")
 
@@ -143,7 +143,7 @@ class Values:
         number = self.number(group, value)
         if number >> count:
             size = self.field.size
-            small = f": it is -{size - number}" if self.field is FIELDS["goldilocks"] and size - number < 2**32 else ""
+            small = f": it is -{size - number}" if self.field is Prime and size - number < 2**32 else ""
             raise Refused(f"{group} needs more than the {count} bits that the source declares{small}")
         return number >> i & 1
 

@@ -20,10 +20,11 @@ import subprocess
 import sys
 
 from files import kind_of, told_of_input, told_of_output
-from statement import FIELDS, KINDS, Fault, Statement, check_order, names_in, occurrences, read_numbers, show, sides_of, terms_of
+from profiles import PROFILE, STRONG
+from statement import FIELDS, KINDS, Fault, Prime, Statement, check_order, names_in, occurrences, read_numbers, show, sides_of, terms_of
 
 BUILT = os.path.join(os.path.dirname(os.path.dirname(os.path.realpath(__file__))), ".build")
-KNOWN, PROGRAM = os.path.join(BUILT, "sources"), os.path.join(BUILT, "zk")
+KNOWN, PROGRAM = os.path.join(BUILT, "sources"), os.path.join(BUILT, "zk-strong" if PROFILE is STRONG else "zk")
 MOST_BYTES = {"statement": 1 << 18, "numbers": 1 << 22, "circuit": 1 << 26, "proof": 1 << 21}
 MOST_LINES = 10
 MOST_STATEMENTS = 16
@@ -107,7 +108,7 @@ def told_of(statement, name):
 
 def signed(value, field):
     """A value, and that it is a small negative one."""
-    return f"{value} (-{field.size - value})" if field is FIELDS["goldilocks"] and value > field.size - 2**32 else str(value)
+    return f"{value} (-{field.size - value})" if field is Prime and value > field.size - 2**32 else str(value)
 
 
 def told_of_numbers(statement, name, version, public, private):
@@ -140,10 +141,10 @@ class Circuit:
 
     def __init__(self, path):
         data = read(path, "circuit")
-        fields = {1: "goldilocks", 2: "gf2_128"}
-        if data[:4] not in (b"LZC1", b"LZC2") or len(data) < 13 or data[4] not in fields:
+        fields, versions = PROFILE.fields(), PROFILE.circuit_magics()
+        if data[:4] not in versions or len(data) < 13 or data[4] not in fields:
             raise Silent
-        self.version, self.field = data[3] - ord("0"), fields[data[4]]
+        self.version, (self.field, _, self.element) = versions[data[:4]], fields[data[4]]
         self.counts = {"public": int.from_bytes(data[5:9], "little"), "private": int.from_bytes(data[9:13], "little")}
         self.id, self.path = hashlib.sha256(data).hexdigest(), os.path.realpath(path)
 
@@ -259,13 +260,10 @@ def sizes_of(circuit_name, circuit):
         raise Silent
     below = [rounds_of(width) for width in [*wires[1:], 1 + circuit.counts["public"] + circuit.counts["private"]]]
     sent, listed = sum(4 * k + 2 for k in below), circuit.counts["private"] + sum(4 * k + 3 for k in below)
-    row = 64
-    while row * row < listed:
-        row *= 2
-    block = 128 + row
+    opened, block, element = PROFILE.opened, PROFILE.block(listed), circuit.element
+    row = block - opened
     rows = 3 + -(-listed // row) + 3 * -(-len(wires) // row)
-    element = 8 if circuit.field == "goldilocks" else 16
-    return 68 + element * (sent + block + 2 * block - 1 + 128 + block - 1) + 128 * (32 + element * rows)
+    return 68 + element * (sent + block + 2 * block - 1 + opened + block - 1) + opened * (32 + element * rows)
 
 
 def told_of_length(proof_name, proof, head):
@@ -284,7 +282,7 @@ def told_of_length(proof_name, proof, head):
 def told_of_proof(circuit_name, proof_name):
     """Why a proof may have been rejected. Bytes 4 to 35 of its file are the circuit's id."""
     circuit, proof = Circuit(circuit_name), read(proof_name, "proof")
-    if proof[:4] != b"LZP1":
+    if proof[:4] != PROFILE.proof_magic():
         return with_order("verify", [f"{proof_name} is {kind_of(proof_name) or 'no proof'}, and a proof is wanted here"])
     if len(proof) >= 36 and proof[4:36].hex() != circuit.id:
         return told_of_other(circuit_name, circuit, proof_name, proof[4:36].hex())

@@ -16,10 +16,11 @@ import stat
 import sys
 
 from files import told_of_input, told_of_output
+from profiles import PROFILE
 from statement import Fault, show
 
 # The limits of docs/POLICY.md.
-MOST_BYTES, MOST_FIELDS, MOST_SHOWS, MOST_TEXTS, MOST_TEXT, MOST_LEVELS = 55, 32, 8, 16, 7, 6
+MOST_BYTES, MOST_FIELDS, MOST_SHOWS, MOST_TEXTS, MOST_TEXT, MOST_LEVELS = 55, 32, 8, 16, 7, PROFILE.most_levels
 MOST_NAME, MOST_PSEUDONYM, MOST_FILE = 32, 35, 65_536
 # A circuit has room for so many hashes: the record's, one for each level of a root, one for each pseudonym.
 MOST_HASHES = 8

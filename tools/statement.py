@@ -6,9 +6,11 @@ was wanted there, which the program does not print.
 
 import re
 
+from profiles import PROFILE
+
 KEYWORDS = ("field", "public", "private", "let", "assert")
 KINDS = ("public", "private")
-MOST = {"public": 65_535, "private": 65_536, "assert": 131_072}
+MOST = {"public": 65_535, "private": PROFILE.most_privates, "assert": 131_072}
 NAME_BYTES, PARENTHESES = 32, 64
 WORDS = re.compile(rb"[A-Za-z0-9_]+|[-+*()=]|[^ \t\r]")
 NUMBER = re.compile(r"[0-9]+|0x[0-9a-fA-F]+")
@@ -26,10 +28,10 @@ HINTS = {
 }
 
 
-class Gold:
-    """Arithmetic modulo p = 2^64 - 2^32 + 1."""
+class Prime:
+    """Arithmetic modulo the profile's prime."""
 
-    size = 2**64 - 2**32 + 1
+    size = PROFILE.size
 
     @classmethod
     def add(cls, a, b):
@@ -82,7 +84,7 @@ class Gf128:
         return found
 
 
-FIELDS = {"goldilocks": Gold, "gf2_128": Gf128}
+FIELDS = {PROFILE.word: Prime, "gf2_128": Gf128}
 
 
 class Fault(Exception):
@@ -213,7 +215,7 @@ class Statement:
             if tokens:
                 self.read(Line(tokens, number, len(bare.rstrip(b" \t\r"))), bare)
         if self.field is None:
-            raise Fault("NoField", len(lines), 0, 1, "a statement begins with: field goldilocks")
+            raise Fault("NoField", len(lines), 0, 1, "a statement begins with: field " + PROFILE.word)
         if not self.asserts:
             raise Fault("NoAssert", len(lines), 0, 1, "a statement asserts something: assert LEFT = RIGHT")
 
@@ -231,7 +233,7 @@ class Statement:
         if first.text not in KEYWORDS:
             raise line.fault("Keyword", first, "a line begins with one of: " + ", ".join(KEYWORDS))
         if self.field is None and first.text != "field":
-            raise line.fault("NoField", first, "a statement begins with: field goldilocks")
+            raise line.fault("NoField", first, "a statement begins with: field " + PROFILE.word)
         for token in line.tokens:
             if token.is_name() and len(token.text) > NAME_BYTES:
                 raise line.fault("Limit", token, f"a name has at most {NAME_BYTES} bytes")
@@ -447,7 +449,7 @@ def no_number(word, size):
     """Why a word is no number of a number file."""
     wanted = "a number is decimal digits, or 0x and hexadecimal digits"
     if re.fullmatch(r"-[0-9]{1,40}", word):
-        instead = size - int(word[1:]) if size == Gold.size else int(word[1:])
+        instead = size - int(word[1:]) if size == Prime.size else int(word[1:])
         return f"{wanted}: write {instead} for {word}" if 0 <= instead < size else wanted
     if word.startswith("0X"):
         return f"{wanted}, with a small x"
