@@ -9,6 +9,7 @@ ghost use Rattle.lzk_reduce.specs.Renumbering.{AreNumbersBelow};
 ghost use Rattle.lzk_beside.specs.Asserts.{AreAssertsZero};
 ghost use Rattle.lzk_beside.specs.Chosen.{chosen, chosen_outputs, chosen_checks};
 ghost use Rattle.lzk_beside.specs.Levels.{AreLevels, MayHaveParts, IsSizedBeside, level_count, IsCause};
+ghost use Rattle.lzk_circuit.specs.Limits.{most_publics, most_privates};
 
 use crate::error::BesideError;
 use crate::level::{input_numbers, joined_layer, numbers_from};
@@ -63,8 +64,8 @@ pub fn beside<F: Field>(
     first: &Part<F>,
     second: &Part<F>,
 ) -> Result<Circuit<F>, BesideError>
-    requires publics { publics ≤ 65535 }
-    requires privates { privates ≤ 65536 }
+    requires publics { publics ≤ most_publics }
+    requires privates { privates ≤ most_privates }
     requires first { AreNumbersBelow (1 + publics + privates) first.now.places.now }
     requires second { AreNumbersBelow (1 + publics + privates) second.now.places.now }
     ensures version { IfOk result (λ c. c.version ≡ 1) }
@@ -115,8 +116,8 @@ pub fn beside_any<F: Field>(
     first: &AnyPart<F>,
     second: &AnyPart<F>,
 ) -> Result<Circuit<F>, BesideError>
-    requires publics { publics ≤ 65535 }
-    requires privates { privates ≤ 65536 }
+    requires publics { publics ≤ most_publics }
+    requires privates { privates ≤ most_privates }
     requires first { AreNumbersBelow (1 + publics + privates) first.now.places.now }
     requires second { AreNumbersBelow (1 + publics + privates) second.now.places.now }
     ensures version { IfOk result (λ c. c.version ≡ 2) }

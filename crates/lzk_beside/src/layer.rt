@@ -1,11 +1,12 @@
 //! Layers over other numbers of the wires below, and layers of copies.
 
-ghost use Rattle.std.specs.Prelude.{◌≡◌, ℕ, ◌+◌, ◌<◌, ◌≤◌, Bool, true, None, List, length, IfOk};
+ghost use Rattle.std.specs.Prelude.{◌≡◌, ℕ, ◌+◌, ◌*◌, ◌<◌, ◌≤◌, Bool, true, None, List, length, IfOk};
 ghost use Rattle.lzk_circuit.specs.Valid.{AreTerms};
 ghost use Rattle.lzk_circuit.specs.Wires.{coef, wire};
 ghost use Rattle.lzk_field.specs.Sums.{entry};
 ghost use Rattle.lzk_reduce.specs.Renumbering.{AreNumbersBelow, AreCopies};
 ghost use Rattle.lzk_beside.specs.Asserts.{AreLone, HasLone};
+ghost use Rattle.lzk_circuit.specs.Limits.{most_width};
 
 use crate::row::set_row;
 use lzk_circuit::{Layer, Term, Terms};
@@ -40,7 +41,7 @@ pub fn add_layer<F: Field>(
     layer: &Layer<F>,
     numbers: &[u32],
 ) -> Result<(), AllocError>
-    requires room { start + layer.now.wires ≤ 262144 }
+    requires room { start + layer.now.wires ≤ 2 * most_width }
     requires terms { AreTerms F.ops layer.now.wires (length numbers.now) None layer.now.terms }
     ensures terms { (width : ℕ) → AreNumbersBelow width numbers.now → AreTerms F.ops start width None terms.old.items →
         IfOk result (λ _. AreTerms F.ops (start + layer.now.wires) width None terms.new.items) }

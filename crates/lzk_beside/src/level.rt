@@ -1,6 +1,6 @@
 //! The levels of two circuits side by side.
 
-ghost use Rattle.std.specs.Prelude.{◌≡◌, ℕ, ◌+◌, ◌<◌, ◌≤◌, ◌++◌, ◌||◌, ◌∷◌, ◌^◌, Bool, None, List, length, drop, IfOk};
+ghost use Rattle.std.specs.Prelude.{◌≡◌, ℕ, ◌+◌, ◌*◌, ◌<◌, ◌≤◌, ◌++◌, ◌||◌, ◌∷◌, ◌^◌, Bool, None, List, length, drop, IfOk};
 ghost use Rattle.lzk_circuit.specs.Checks.{asserted};
 ghost use Rattle.lzk_circuit.specs.Valid.{ArePlaced, AreTerms, MayEachStand, IsValid, input_width};
 ghost use Rattle.lzk_circuit.specs.Wires.{coef, wire, wires_of, layer_values};
@@ -9,6 +9,7 @@ ghost use Rattle.lzk_beside.specs.Asserts.{AreLone, first_sum, first_asserted, f
 ghost use Rattle.lzk_beside.specs.Levels.{level_wires, level_terms, AreJoinedValues};
 ghost use Rattle.lzk_reduce.specs.Marks.{is_marked};
 ghost use Rattle.lzk_reduce.specs.Renumbering.{at, AreNumbersBelow, AreCopies};
+ghost use Rattle.lzk_circuit.specs.Limits.{most_width};
 
 use crate::asserts::{cleared, mark_asserted, unmarked, weighed};
 use crate::layer::{add_layer, copies};
@@ -18,7 +19,7 @@ use std::alloc::{AllocError, Global};
 
 /// So many numbers, from `start` on.
 pub fn numbers_from(alloc: Global, start: u32, count: u32) -> Result<Vec<u32>, AllocError>
-    requires { start + count ≤ 262144 }
+    requires { start + count ≤ 2 * most_width }
     ensures count { IfOk result (λ numbers. length numbers.items ≡ count) }
     ensures each { (k : ℕ) → k < count → IfOk result (λ numbers. at numbers.items k ≡ start + k) }
 {
@@ -49,10 +50,10 @@ fn add_level<F: Field>(
     l: u32,
     numbers: &[u32],
 ) -> Result<u32, AllocError>
-    requires few { start ≤ 131072 }
+    requires few { start ≤ most_width }
     requires numbers { length numbers.now ≡ level_wires circuit.now (l + 1) }
     ensures count { IfOk result (λ count. count ≡ level_wires circuit.now l) }
-    ensures most { IfOk result (λ count. count ≤ 131072) }
+    ensures most { IfOk result (λ count. count ≤ most_width) }
     ensures terms { (width : ℕ) → AreNumbersBelow width numbers.now → AreTerms F.ops start width None terms.old.items →
         IfOk result (λ _. AreTerms F.ops (start + level_wires circuit.now l) width None terms.new.items) }
     ensures before { (below : List F) (i : ℕ) → i < start →
@@ -114,7 +115,7 @@ fn joined_marks<F: Field>(
 ) -> Result<Vec<bool>, AllocError>
     requires split { split ≡ level_wires first.now l }
     requires more { more ≡ level_wires second.now l }
-    requires few { split + more ≤ 262144 }
+    requires few { split + more ≤ 2 * most_width }
     ensures count { IfOk result (λ marks. length marks.items ≡ split + more) }
     ensures left { (g : ℕ) → g < split → IfOk result (λ marks. is_marked marks.items g ≡
         first_asserted F.coding.number (drop l first.now.layers) g) }
@@ -141,7 +142,7 @@ pub fn joined_layer<F: Field>(
     requires right { length right.now ≡ level_wires second.now (l + 1) }
     ensures wires { IfOk result (λ level. level.0.wires ≡ level_wires first.now l + level_wires second.now l) }
     ensures split { IfOk result (λ level. level.1 ≡ level_wires first.now l) }
-    ensures most { IfOk result (λ level. level.0.wires ≤ 262144) }
+    ensures most { IfOk result (λ level. level.0.wires ≤ 2 * most_width) }
     ensures terms { (width : ℕ) → AreNumbersBelow width left.now → AreNumbersBelow width right.now →
         IfOk result (λ level. ArePlaced level.0.wires width None level.0.terms) }
     ensures coefs { (version width : ℕ) → AreNumbersBelow width left.now → AreNumbersBelow width right.now →

@@ -3,6 +3,7 @@ use Rattle.std.proofs.Common.{◌≡◌, ℕ, zero, suc, ◌+◌, ◌*◌, ◌<�
 use Rattle.std.specs.Prelude.{replicate, slice_index}
 use Rattle.std.specs.List.Sorted.{IsStrictlyIncreasing}
 use Rattle.std.proofs.lemmas.List.{get_or-replicate, length-drop, nil_from_length, take_all, append-nil}
+use Rattle.lzk_circuit.specs.Limits.{most_publics, most_privates, most_layers, most_total}
 use Rattle.lzk_field.specs.Bytes.{bytes_of}
 use Rattle.lzk_field.proofs.ByteForms.{length-bytes_of}
 use Rattle.lzk_circuit.specs.declared.layer.Layer.{Layer}
@@ -139,8 +140,8 @@ zeros_few version cs = go (eqb version 2)
     go true = omega arith
     go false = omega arith
 
-pub wiring_done : (shape : Shape) (version publics privates depth count : ℕ) (bytes r1 r2 r3 r4 : List ℕ) (layers : List (Layer ℕ)) → limited_at 0 65535 bytes ≡ Ok (publics, r1) → limited_at 0 65536 r1 ≡ Ok (privates, r2) → limited_at 1 512 r2 ≡ Ok (depth, r3)
-    → limited_at 0 2097152 r3 ≡ Ok (count, r4) → body_at shape version (1 + publics + privates) depth count r4 ≡ Ok layers → wiring_at shape version bytes ≡ Ok (wiring_of version publics privates (reverse layers))
+pub wiring_done : (shape : Shape) (version publics privates depth count : ℕ) (bytes r1 r2 r3 r4 : List ℕ) (layers : List (Layer ℕ)) → limited_at 0 most_publics bytes ≡ Ok (publics, r1) → limited_at 0 most_privates r1 ≡ Ok (privates, r2) → limited_at 1 most_layers r2 ≡ Ok (depth, r3)
+    → limited_at 0 most_total r3 ≡ Ok (count, r4) → body_at shape version (1 + publics + privates) depth count r4 ≡ Ok layers → wiring_at shape version bytes ≡ Ok (wiring_of version publics privates (reverse layers))
 unfolding wiring_at
 wiring_done shape version publics privates depth count bytes r1 r2 r3 r4 layers e1 e2 e3 e4 e5 = rw (e1, e2, e3, e4, e5) refl
 

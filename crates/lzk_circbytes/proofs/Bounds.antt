@@ -1,6 +1,9 @@
 -- A fault leaves no more bytes than there were.
 use Rattle.std.proofs.Common.{◌≡◌, ℕ, zero, suc, ◌+◌, ◌-◌, ◌*◌, ◌≤◌, Bool, true, false, cond, ltb, leb, eqb, ◌&&◌, List, [], ◌∷◌, length, take, drop, Option, Some, None, Result, Ok, Err, subst, arith, length-drop, slice_index}
 use Rattle.std.specs.Int.{w32, from_le_bytes}
+use Rattle.lzk_profile.specs.Profile.{file_letter}
+use Rattle.lzk_goldilocks.specs.Prime.{field_byte}
+use Rattle.lzk_circuit.specs.Limits.{most_publics, most_privates, most_layers, most_wires, most_total}
 use Rattle.lzk_field.specs.Bytes.{number_from}
 use Rattle.lzk_circuit.specs.declared.layer.Term.{Term}
 use Rattle.lzk_circuit.specs.declared.layer.Layer.{Layer}
@@ -106,9 +109,9 @@ layer_stays : (coefs : List ℕ) (under : Under) (bytes : List ℕ) (n : ℕ) �
 unfolding layer_at
 layer_stays coefs under bytes n h =
     stays_then n (word_at bytes) _ (word_stays bytes n h) (λ wires hw.
-    must_stays n (leb 1 wires.0 && (leb wires.0 131072 && leb (under.wires + wires.0) 2097152)) kinds.Limit bytes _ h
+    must_stays n (leb 1 wires.0 && (leb wires.0 most_wires && leb (under.wires + wires.0) most_total)) kinds.Limit bytes _ h
     (stays_then n (word_at wires.1) _ (word_stays wires.1 n hw) (λ count hc.
-    must_stays n (leb (under.terms + count.0) 2097152) kinds.Limit wires.1 _ hw
+    must_stays n (leb (under.terms + count.0) most_total) kinds.Limit wires.1 _ hw
     (stays_then n (terms_at coefs wires.0 under.width count.0 count.1) _ (many_stays as_before (term_at coefs wires.0 under.width) (term_stays coefs wires.0 under.width) count.0 None count.1 n hc) (λ ts ht. ht)))))
 
 unused_ends : (width : ℕ) (layers : List (Layer ℕ)) (cs bytes : List ℕ) (n : ℕ) → length bytes ≤ n → Ends n (all_used (unused_from width layers cs bytes))
@@ -130,17 +133,17 @@ body_ends shape version inputs depth count bytes n h =
 wiring_ends : (shape : Shape) (version : ℕ) (bytes : List ℕ) (n : ℕ) → length bytes ≤ n → Ends n (wiring_at shape version bytes)
 unfolding wiring_at
 wiring_ends shape version bytes n h =
-    ends_then n (limited_at 0 65535 bytes) _ (limited_stays 0 65535 bytes n h) (λ publics h1.
-    ends_then n (limited_at 0 65536 publics.1) _ (limited_stays 0 65536 publics.1 n h1) (λ privates h2.
-    ends_then n (limited_at 1 512 privates.1) _ (limited_stays 1 512 privates.1 n h2) (λ depth h3.
-    ends_then n (limited_at 0 2097152 depth.1) _ (limited_stays 0 2097152 depth.1 n h3) (λ count h4.
+    ends_then n (limited_at 0 most_publics bytes) _ (limited_stays 0 most_publics bytes n h) (λ publics h1.
+    ends_then n (limited_at 0 most_privates publics.1) _ (limited_stays 0 most_privates publics.1 n h1) (λ privates h2.
+    ends_then n (limited_at 1 most_layers privates.1) _ (limited_stays 1 most_layers privates.1 n h2) (λ depth h3.
+    ends_then n (limited_at 0 most_total depth.1) _ (limited_stays 0 most_total depth.1 n h3) (λ count h4.
     ends_with n (body_at shape version (1 + publics.0 + privates.0) depth.0 count.0 count.1) _ (body_ends shape version (1 + publics.0 + privates.0) depth.0 count.0 count.1 n h4) (λ layers. tt)))))
 
 field_ends : (version : ℕ) (bytes : List ℕ) (n : ℕ) → length bytes ≤ n → Ends n (field_at version bytes)
 field_ends version [] n h = h
 field_ends version (id ∷ bytes) n h =
     let le : length bytes ≤ n = omega (arith, h) in
-    ends_if n (eqb id 1) _ _ (ends_with n (wiring_at goldilocks version bytes) _ (wiring_ends goldilocks version bytes n le) (λ c. tt))
+    ends_if n (eqb id field_byte) _ _ (ends_with n (wiring_at goldilocks version bytes) _ (wiring_ends goldilocks version bytes n le) (λ c. tt))
     (ends_if n (eqb id 2) _ (stops kinds.FieldId (id ∷ bytes)) (ends_with n (wiring_at gf128 version bytes) _ (wiring_ends gf128 version bytes n le) (λ c. tt)) h)
 
 pub circuit_ends : (bytes : List ℕ) → Ends (length bytes) (circuit_at bytes)
@@ -148,8 +151,8 @@ unfolding circuit_at
 circuit_ends bytes =
     let all : length bytes ≤ length bytes = omega arith in
     ends_if (length bytes) (ltb (length bytes) 4) (stops kinds.Truncated bytes) _ all
-    (ends_if (length bytes) (begins_with (76 ∷ 90 ∷ 67 ∷ 49 ∷ []) bytes) (field_at 1 (drop 4 bytes)) _ (field_ends 1 (drop 4 bytes) (length bytes) (dropped 4 (length bytes) bytes all))
-    (ends_if (length bytes) (begins_with (76 ∷ 90 ∷ 67 ∷ 50 ∷ []) bytes) (field_at 2 (drop 4 bytes)) (stops kinds.Magic bytes) (field_ends 2 (drop 4 bytes) (length bytes) (dropped 4 (length bytes) bytes all)) all))
+    (ends_if (length bytes) (begins_with (76 ∷ file_letter ∷ 67 ∷ 49 ∷ []) bytes) (field_at 1 (drop 4 bytes)) _ (field_ends 1 (drop 4 bytes) (length bytes) (dropped 4 (length bytes) bytes all))
+    (ends_if (length bytes) (begins_with (76 ∷ file_letter ∷ 67 ∷ 50 ∷ []) bytes) (field_at 2 (drop 4 bytes)) (stops kinds.Magic bytes) (field_ends 2 (drop 4 bytes) (length bytes) (dropped 4 (length bytes) bytes all)) all))
 
 pub fault_within : (bytes : List ℕ) (e : Stop) → circuit_at bytes ≡ Err e → e.left ≤ length bytes
 fault_within bytes e h = subst (λ (r : Result _ Stop). Ends (length bytes) r) h (circuit_ends bytes)

@@ -5,6 +5,8 @@ use Rattle.std.specs.Int.{w32, to_le_bytes}
 use Rattle.std.specs.List.{list_any, AllByRecursion}
 use Rattle.std.proofs.lemmas.Bool.{eqb-true, eq-eqb, or_left, or_right, or_cases}
 use Rattle.std.proofs.lemmas.List.{length-reverse, length-map, reverse-reverse}
+use Rattle.lzk_profile.specs.Profile.{file_letter}
+use Rattle.lzk_circuit.specs.Limits.{most_total}
 use Rattle.lzk_field.specs.Ring.{Ops, Laws}
 use Rattle.lzk_circuit.specs.declared.layer.Term.{Term}
 use Rattle.lzk_circuit.specs.declared.layer.Layer.{Layer}
@@ -47,7 +49,7 @@ coefs_without version cs n some = go (eqb version 2)
     go true h = elim (or_cases (eqb n 0) (list_any (eqb n) cs) h) [ inl same ↦ absurd (omega (arith, some, eqb-true n 0 same)) | inr later ↦ later ]
     go false h = h
 
-top_terms : {A : Type 0} (o : Ops A) (version inputs : ℕ) (layers : List (Layer A)) → AreLayersOf o version inputs layers → (under_of inputs layers).terms ≤ 2097152
+top_terms : {A : Type 0} (o : Ops A) (version inputs : ℕ) (layers : List (Layer A)) → AreLayersOf o version inputs layers → (under_of inputs layers).terms ≤ most_total
 top_terms o version inputs [] h = lit≤ tt
 top_terms o version inputs (layer ∷ layers) h = h.0.terms
 
@@ -119,7 +121,7 @@ module _ {A : Type 0} (o : Ops A) (size : ℕ) (number : A → ℕ) (element : �
 
   -- ---- a file fits
 
-  pub few_constants : (c : Wiring A) → IsValid o c → length (constants_of (numbered number c)) ≤ 2097152
+  pub few_constants : (c : Wiring A) → IsValid o c → length (constants_of (numbered number c)) ≤ most_total
   few_constants c valid =
       let ls = (numbered number c).layers in
       omega (arith, length-ascending (nonzero (coefficients ls)), nonzero_length (coefficients ls), length-coefficients (input_width c) ls, ap (λ (u : Under). u.terms) (under_same o number size element bytes laws.numbers c.version (input_width c) c.layers), top_terms o c.version (input_width c) c.layers valid.layers)
@@ -176,7 +178,7 @@ module _ {A : Type 0} (o : Ops A) (size : ℕ) (number : A → ℕ) (element : �
   }
 
   pub file_from_fits : (c : Wiring A) (cs rest : List ℕ) → IsValid o c → FitsWiring here c.version c.publics c.privates (reverse (numbered number c).layers) cs → rest ≡ tail_bytes here (numbered number c) cs
-      → IsFile o number here c (76 ∷ 90 ∷ 67 ∷ (48 + c.version) ∷ id ∷ rest)
+      → IsFile o number here c (76 ∷ file_letter ∷ 67 ∷ (48 + c.version) ∷ id ∷ rest)
   file_from_fits c cs rest valid fits e =
       let ls = (numbered number c).layers in
       let up = Above-constants here 0 cs fits.rising in
@@ -193,11 +195,11 @@ module _ {A : Type 0} (o : Ops A) (size : ℕ) (number : A → ℕ) (element : �
               Contains-from_Has cs n (coefs_without c.version cs n has.0
               (layers_in (coefs_of c.version cs) (above_inputs (1 + c.publics + c.privates)) (reverse ls) fits.each n (is_coefficient-reverse ls n ∙ sym (has-coefficients ls n) ∙ has.1)))),
         );
-        bytes_are = ap (λ (t : List ℕ). 76 ∷ 90 ∷ 67 ∷ (48 + c.version) ∷ id ∷ t) e;
+        bytes_are = ap (λ (t : List ℕ). 76 ∷ file_letter ∷ 67 ∷ (48 + c.version) ∷ id ∷ t) e;
       }
 
   -- what was read is a circuit's file
-  pub file_from_read : (c : Wiring A) (rest : List ℕ) → IsBytes rest → IsValid o c → wiring_at here c.version rest ≡ Ok (numbered number c) → IsFile o number here c (76 ∷ 90 ∷ 67 ∷ (48 + c.version) ∷ id ∷ rest)
+  pub file_from_read : (c : Wiring A) (rest : List ℕ) → IsBytes rest → IsValid o c → wiring_at here c.version rest ≡ Ok (numbered number c) → IsFile o number here c (76 ∷ file_letter ∷ 67 ∷ (48 + c.version) ∷ id ∷ rest)
   file_from_read c rest fits valid e =
       let w = numbered number c in
       let s = wiring_take here c.version rest w fits e in

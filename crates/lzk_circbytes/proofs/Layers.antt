@@ -2,6 +2,7 @@
 use Rattle.std.proofs.Common.{◌≡◌, ℕ, zero, suc, ◌+◌, ◌-◌, ◌^◌, ◌<◌, ◌≤◌, Bool, true, false, cond, leb, eqb, ◌&&◌, List, [], ◌∷◌, ◌++◌, length, Option, None, Ok, refl, sym, ap, subst, ◌∙◌, arith, slice_index, append_assoc}
 use Rattle.std.specs.Int.{w32, to_le_bytes}
 use Rattle.std.proofs.lemmas.Bool.{ne_eqb, eqb-true, eq-eqb, le-leb, leb-true, and_parts}
+use Rattle.lzk_circuit.specs.Limits.{most_wires, most_total}
 use Rattle.lzk_circbytes.specs.declared.fault.ByteKind.TheVariants.{Order, Limit, Assertion}
 use Rattle.lzk_circuit.specs.declared.layer.Term.{Term}
 use Rattle.lzk_circuit.specs.declared.layer.Layer.{Layer}
@@ -130,17 +131,17 @@ pub layer_take : (coefs : List ℕ) → AreIndexed coefs → (under : Under) (by
 unfolding layer_at layer_bytes
 layer_take coefs rising under bytes x fits e =
     from (word_at bytes) _ x e (λ wires at_wires then_1.
-    from (must (leb 1 wires.0 && (leb wires.0 131072 && leb (under.wires + wires.0) 2097152)) Limit bytes) _ x then_1 (λ o at_o then_count.
+    from (must (leb 1 wires.0 && (leb wires.0 most_wires && leb (under.wires + wires.0) most_total)) Limit bytes) _ x then_1 (λ o at_o then_count.
     from (word_at wires.1) _ x then_count (λ count at_count then_2.
-    from (must (leb (under.terms + count.0) 2097152) Limit wires.1) _ x then_2 (λ p at_p then_terms.
+    from (must (leb (under.terms + count.0) most_total) Limit wires.1) _ x then_2 (λ p at_p then_terms.
     from (terms_at coefs wires.0 under.width count.0 count.1) _ x then_terms (λ terms at_terms end.
     let tw = word_take bytes wires fits at_wires in
     let tc = word_take wires.1 count tw.0.rest_fits at_count in
     let tt = many_takes as_before (term_at coefs wires.0 under.width) (term_bytes coefs) (FitsTerm coefs wires.0 under.width) (term_take coefs wires.0 under.width rising) count.0 None count.1 terms tc.0.rest_fits at_terms in
-    let limits = must_ok (leb 1 wires.0 && (leb wires.0 131072 && leb (under.wires + wires.0) 2097152)) Limit bytes o at_o in
-    let l1 = and_parts (leb 1 wires.0) (leb wires.0 131072 && leb (under.wires + wires.0) 2097152) limits in
-    let l2 = and_parts (leb wires.0 131072) (leb (under.wires + wires.0) 2097152) l1.1 in
-    let l3 = must_ok (leb (under.terms + count.0) 2097152) Limit wires.1 p at_p in
+    let limits = must_ok (leb 1 wires.0 && (leb wires.0 most_wires && leb (under.wires + wires.0) most_total)) Limit bytes o at_o in
+    let l1 = and_parts (leb 1 wires.0) (leb wires.0 most_wires && leb (under.wires + wires.0) most_total) limits in
+    let l2 = and_parts (leb wires.0 most_wires) (leb (under.wires + wires.0) most_total) l1.1 in
+    let l3 = must_ok (leb (under.terms + count.0) most_total) Limit wires.1 p at_p in
     let made : Layer ℕ × List ℕ = (record { wires = wires.0; terms = terms.0 }, terms.1) in
     let whole : Takes bytes (layer_bytes coefs under made.0) terms.1 =
     Takes-then bytes (to_le_bytes w32 wires.0) wires.1 (to_le_bytes w32 (length terms.0) ++ spells as_before (term_bytes coefs) None terms.0) terms.1 tw.0
@@ -148,9 +149,9 @@ layer_take coefs rising under bytes x fits e =
     (subst (λ (n : ℕ). Takes wires.1 (to_le_bytes w32 n) count.1) (sym tt.1) tc.0) tt.0) in
     let good : FitsLayer coefs under made.0 = record {
       some = leb-true 1 wires.0 l1.0;
-      wires = leb-true wires.0 131072 l2.0;
-      all_wires = leb-true (under.wires + wires.0) 2097152 l2.1;
-      all_terms = omega (arith, tt.1, leb-true (under.terms + count.0) 2097152 l3);
+      wires = leb-true wires.0 most_wires l2.0;
+      all_wires = leb-true (under.wires + wires.0) most_total l2.1;
+      all_terms = omega (arith, tt.1, leb-true (under.terms + count.0) most_total l3);
       terms = tt.2;
     } in
     subst (λ (y : Layer ℕ × List ℕ). Takes bytes (layer_bytes coefs under y.0) y.1 × FitsLayer coefs under y.0) (ok_is made x end) (whole, good))))))
@@ -165,4 +166,4 @@ layer_again coefs few under l rest narrow fits =
     let rc = word_again (length l.terms) (vt ++ rest) (omega (arith, fits.all_terms)) in
     let room : Room coefs l.wires under.width = record { for_g = omega (arith, fits.wires); for_ab = narrow; for_coef = few } in
     let rt = many_again as_before (term_at coefs l.wires under.width) (term_bytes coefs) (FitsTerm coefs l.wires under.width) (term_again coefs l.wires under.width room) l.terms None rest fits.terms in
-    ap (layer_at coefs under) regrouped ∙ rw (rw1, le-leb 1 l.wires fits.some, le-leb l.wires 131072 fits.wires, le-leb (under.wires + l.wires) 2097152 fits.all_wires, rc, le-leb (under.terms + length l.terms) 2097152 fits.all_terms, rt) refl
+    ap (layer_at coefs under) regrouped ∙ rw (rw1, le-leb 1 l.wires fits.some, le-leb l.wires most_wires fits.wires, le-leb (under.wires + l.wires) most_total fits.all_wires, rc, le-leb (under.terms + length l.terms) most_total fits.all_terms, rt) refl

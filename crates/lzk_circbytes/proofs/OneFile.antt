@@ -12,6 +12,8 @@ use Rattle.std.proofs.lemmas.List.Filters.{dedup_is}
 use Rattle.std.proofs.lemmas.List.Kept.{Contains-dedup_nat, Contains-from_dedup}
 use Rattle.std.proofs.lemmas.List.Sorted.{Contains-permutation, IsPermutation-sym}
 use Rattle.std.proofs.lemmas.Map.Keys.{IsStrictlyIncreasing-dedup}
+use Rattle.lzk_circuit.specs.Limits.{most_total}
+use Rattle.lzk_profile.specs.Profile.{file_letter}
 use Rattle.lzk_field.specs.Ring.{Ops, Laws}
 use Rattle.lzk_circuit.specs.declared.layer.Term.{Term}
 use Rattle.lzk_circuit.specs.declared.layer.Layer.{Layer}
@@ -83,7 +85,7 @@ can_write cs wires below before [] h = tt
 can_write cs wires below before (t ∷ ts) h = (record { rising = h.0.rising; a = h.0.a; number = h.0.number }, can_write cs wires below (Some t) ts h.1)
 
 -- the parts before the layers, one after the other
-pub head_assembled : (s : Shape) (w : Wiring ℕ) (cs o o0 o1 o2 o3 o4 o5 o6 o7 : List ℕ) → o0 ≡ o ++ 76 ∷ 90 ∷ 67 ∷ [] → o1 ≡ o0 ++ (48 + w.version) ∷ [] → o2 ≡ o1 ++ s.id ∷ [] → o3 ≡ o2 ++ to_le_bytes w32 w.publics → o4 ≡ o3 ++ to_le_bytes w32 w.privates
+pub head_assembled : (s : Shape) (w : Wiring ℕ) (cs o o0 o1 o2 o3 o4 o5 o6 o7 : List ℕ) → o0 ≡ o ++ 76 ∷ file_letter ∷ 67 ∷ [] → o1 ≡ o0 ++ (48 + w.version) ∷ [] → o2 ≡ o1 ++ s.id ∷ [] → o3 ≡ o2 ++ to_le_bytes w32 w.publics → o4 ≡ o3 ++ to_le_bytes w32 w.privates
     → o5 ≡ o4 ++ to_le_bytes w32 (length w.layers) → o6 ≡ o5 ++ to_le_bytes w32 (length cs) → o7 ≡ o6 ++ constants_bytes s cs → o7 ≡ o ++ head_bytes s w cs
 head_assembled s w cs o o0 o1 o2 o3 o4 o5 o6 o7 e0 e1 e2 e3 e4 e5 e6 e7 =
     let a = to_le_bytes w32 w.publics in
@@ -91,9 +93,9 @@ head_assembled s w cs o o0 o1 o2 o3 o4 o5 o6 o7 e0 e1 e2 e3 e4 e5 e6 e7 =
     let c = to_le_bytes w32 (length w.layers) in
     let d = to_le_bytes w32 (length cs) in
     let k = constants_bytes s cs in
-    let whole : o7 ≡ ((((((o ++ 76 ∷ 90 ∷ 67 ∷ (48 + w.version) ∷ []) ++ s.id ∷ []) ++ a) ++ b) ++ c) ++ d) ++ k =
-    e7 ∙ ap (λ (x : List ℕ). x ++ k) (e6 ∙ ap (λ (x : List ℕ). x ++ d) (e5 ∙ ap (λ (x : List ℕ). x ++ c) (e4 ∙ ap (λ (x : List ℕ). x ++ b) (e3 ∙ ap (λ (x : List ℕ). x ++ a) (e2 ∙ ap (λ (x : List ℕ). x ++ s.id ∷ []) (e1 ∙ ap (λ (x : List ℕ). x ++ (48 + w.version) ∷ []) e0 ∙ append_assoc o (76 ∷ 90 ∷ 67 ∷ []) ((48 + w.version) ∷ []))))))) in
-    whole ∙ regroup o (76 ∷ 90 ∷ 67 ∷ (48 + w.version) ∷ []) (s.id ∷ []) a b c d k
+    let whole : o7 ≡ ((((((o ++ 76 ∷ file_letter ∷ 67 ∷ (48 + w.version) ∷ []) ++ s.id ∷ []) ++ a) ++ b) ++ c) ++ d) ++ k =
+    e7 ∙ ap (λ (x : List ℕ). x ++ k) (e6 ∙ ap (λ (x : List ℕ). x ++ d) (e5 ∙ ap (λ (x : List ℕ). x ++ c) (e4 ∙ ap (λ (x : List ℕ). x ++ b) (e3 ∙ ap (λ (x : List ℕ). x ++ a) (e2 ∙ ap (λ (x : List ℕ). x ++ s.id ∷ []) (e1 ∙ ap (λ (x : List ℕ). x ++ (48 + w.version) ∷ []) e0 ∙ append_assoc o (76 ∷ file_letter ∷ 67 ∷ []) ((48 + w.version) ∷ []))))))) in
+    whole ∙ regroup o (76 ∷ file_letter ∷ 67 ∷ (48 + w.version) ∷ []) (s.id ∷ []) a b c d k
   where
     regroup : (o' m' i' a' b' c' d' k' : List ℕ) → ((((((o' ++ m') ++ i') ++ a') ++ b') ++ c') ++ d') ++ k' ≡ o' ++ (m' ++ (i' ++ (a' ++ (b' ++ (c' ++ (d' ++ k'))))))
     regroup o' m' i' a' b' c' d' k' = simp append_assoc
@@ -101,7 +103,7 @@ head_assembled s w cs o o0 o1 o2 o3 o4 o5 o6 o7 e0 e1 e2 e3 e4 e5 e6 e7 =
 -- a file is what stands before the layers, and the layers
 pub file_parts : (s : Shape) (w : Wiring ℕ) (cs : List ℕ) → head_bytes s w cs ++ layers_bytes (coefs_of w.version cs) 0 (reverse w.layers) ≡ file_bytes s w cs
 file_parts s w cs =
-    let m : List ℕ = 76 ∷ 90 ∷ 67 ∷ (48 + w.version) ∷ s.id ∷ [] in
+    let m : List ℕ = 76 ∷ file_letter ∷ 67 ∷ (48 + w.version) ∷ s.id ∷ [] in
     let a = to_le_bytes w32 w.publics in
     let b = to_le_bytes w32 w.privates in
     let c = to_le_bytes w32 (length w.layers) in
@@ -144,10 +146,10 @@ module _ {A : Type 0} (o : Ops A) (size : ℕ) (number : A → ℕ) (element : �
   pub constants_rise : (c : Wiring A) → IsStrictlyIncreasing (coefs_of c.version (constants_of (numbered number c)))
   constants_rise c = coefs_rise c.version (constants_of (numbered number c)) (constants_above c)
 
-  pub few : (c : Wiring A) → IsValid o c → length (constants_of (numbered number c)) ≤ 2097152
+  pub few : (c : Wiring A) → IsValid o c → length (constants_of (numbered number c)) ≤ most_total
   few c valid = few_constants o size number element bytes laws id c valid
 
-  pub few_coefs : (c : Wiring A) → IsValid o c → length (coefs_of c.version (constants_of (numbered number c))) ≤ 2097153
+  pub few_coefs : (c : Wiring A) → IsValid o c → length (coefs_of c.version (constants_of (numbered number c))) ≤ most_total + 1
   few_coefs c valid = omega (arith, few c valid, coefs_few c.version (constants_of (numbered number c)))
 
   -- the one file of a valid circuit is its file

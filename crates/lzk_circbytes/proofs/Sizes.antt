@@ -4,6 +4,7 @@ use Rattle.std.specs.Int.{w32, to_le_bytes}
 use Rattle.std.proofs.lemmas.Bool.{le-ltb, lt-ltb, cases_lt}
 use Rattle.std.proofs.lemmas.Nat.{mul-le}
 use Rattle.std.proofs.Math.Nat.{pow-succ'}
+use Rattle.lzk_circuit.specs.Limits.{most_layers, most_wires, most_total, most_width}
 use Rattle.lzk_circuit.specs.declared.layer.Term.{Term}
 use Rattle.lzk_circuit.specs.declared.layer.Layer.{Layer}
 use Rattle.lzk_circuit.specs.Valid.{Under, Wiring, above_inputs, above_layer}
@@ -15,7 +16,7 @@ use Rattle.lzk_circbytes.specs.Numbered.{Shape, numbered, coefs_of}
 use Rattle.lzk_circbytes.specs.Reading.{wire_before, as_before}
 use Rattle.lzk_circbytes.specs.Spelling.{spells, septets, varint, index_of, term_bytes, layer_bytes, layers_bytes, constants_bytes, file_bytes}
 use Rattle.lzk_circbytes.specs.Fits.{FitAlong, FitsTerm, FitsLayer, FitsWiring}
-use Rattle.lzk_circbytes.specs.Files.{goldilocks, gf128, FilesFit}
+use Rattle.lzk_circbytes.specs.Files.{goldilocks, gf128, most_file, FilesFit}
 use Rattle.lzk_circbytes.proofs.Bodies.{length-constants}
 use Rattle.lzk_circbytes.proofs.FileLaws.{fits_from_file}
 use Rattle.lzk_circbytes.proofs.Wirings.{coefs_few}
@@ -43,7 +44,7 @@ varint_few n h = septets_few 5 3 n (omega arith) (omega (arith, h))
 varint_some : (n : ℕ) → n < 268435456 → length (varint n) ≤ 4
 varint_some n h = septets_few 5 4 n (omega arith) (omega (arith, h))
 
-term_few : (cs : List ℕ) (wires below : ℕ) (before : Option (Term ℕ)) (t : Term ℕ) → wires ≤ 131072 → below ≤ 131072 → length cs ≤ 2097153 → FitsTerm cs wires below before t → length (term_bytes cs before t) ≤ 13
+term_few : (cs : List ℕ) (wires below : ℕ) (before : Option (Term ℕ)) (t : Term ℕ) → wires ≤ most_wires → below ≤ most_width → length cs ≤ most_total + 1 → FitsTerm cs wires below before t → length (term_bytes cs before t) ≤ 13
 unfolding term_bytes
 term_few cs wires below before t hw hb hc fits =
     let vg = varint (t.g - wire_before before) in
@@ -56,39 +57,39 @@ term_few cs wires below before t hw hb hc fits =
     let k : length vk ≤ 4 = varint_some _ (omega (arith, fits.number, hc)) in
     omega (arith, g, a, b, k, length-append vg (va ++ (vb ++ vk)), length-append va (vb ++ vk), length-append vb vk)
 
-terms_few : (cs : List ℕ) (wires below : ℕ) → wires ≤ 131072 → below ≤ 131072 → length cs ≤ 2097153
+terms_few : (cs : List ℕ) (wires below : ℕ) → wires ≤ most_wires → below ≤ most_width → length cs ≤ most_total + 1
     → (ts : List (Term ℕ)) (before : Option (Term ℕ)) → FitAlong as_before (FitsTerm cs wires below) before ts → length (spells as_before (term_bytes cs) before ts) ≤ 13 * length ts
 unfolding spells
 terms_few cs wires below hw hb hc [] before fits = omega arith
 terms_few cs wires below hw hb hc (t ∷ ts) before fits =
     omega (arith, term_few cs wires below before t hw hb hc fits.0, terms_few cs wires below hw hb hc ts (as_before before t) fits.1, length-append (term_bytes cs before t) (spells as_before (term_bytes cs) (as_before before t) ts))
 
-layer_few : (cs : List ℕ) (under : Under) (l : Layer ℕ) → under.width ≤ 131072 → length cs ≤ 2097153 → FitsLayer cs under l → length (layer_bytes cs under l) ≤ 8 + 13 * length l.terms
+layer_few : (cs : List ℕ) (under : Under) (l : Layer ℕ) → under.width ≤ most_width → length cs ≤ most_total + 1 → FitsLayer cs under l → length (layer_bytes cs under l) ≤ 8 + 13 * length l.terms
 unfolding layer_bytes
 layer_few cs under l hu hc fits =
     let terms = spells as_before (term_bytes cs) None l.terms in
     let count = to_le_bytes w32 (length l.terms) in
     omega (arith, terms_few cs l.wires under.width fits.wires hu hc l.terms None fits.terms, length-append (to_le_bytes w32 l.wires) (count ++ terms), length-append count terms)
 
-layers_few : (cs : List ℕ) → length cs ≤ 2097153 → (ls : List (Layer ℕ)) (under : Under) → under.width ≤ 131072 → under.terms ≤ 2097152 → FitAlong above_layer (FitsLayer cs) under ls
-    → length (spells above_layer (layer_bytes cs) under ls) + 13 * under.terms ≤ 8 * length ls + 13 * 2097152
+layers_few : (cs : List ℕ) → length cs ≤ most_total + 1 → (ls : List (Layer ℕ)) (under : Under) → under.width ≤ most_width → under.terms ≤ most_total → FitAlong above_layer (FitsLayer cs) under ls
+    → length (spells above_layer (layer_bytes cs) under ls) + 13 * under.terms ≤ 8 * length ls + 13 * most_total
 unfolding spells
 layers_few cs hc [] under hu ht fits = omega (arith, ht)
 layers_few cs hc (l ∷ ls) under hu ht fits =
-    omega (arith, layer_few cs under l hu hc fits.0, layers_few cs hc ls (above_layer under l) fits.0.wires fits.0.all_terms fits.1, length-append (layer_bytes cs under l) (spells above_layer (layer_bytes cs) (above_layer under l) ls))
+    omega (arith, layer_few cs under l hu hc fits.0, layers_few cs hc ls (above_layer under l) (omega (arith, fits.0.wires)) fits.0.all_terms fits.1, length-append (layer_bytes cs under l) (spells above_layer (layer_bytes cs) (above_layer under l) ls))
 
-wiring_few : (shape : Shape) (c : Wiring ℕ) (cs : List ℕ) → shape.bytes ≤ 16 → FitsWiring shape c.version c.publics c.privates (reverse c.layers) cs → length (file_bytes shape c cs) ≤ 67108864
+wiring_few : (shape : Shape) (c : Wiring ℕ) (cs : List ℕ) → shape.bytes ≤ 16 → FitsWiring shape c.version c.publics c.privates (reverse c.layers) cs → length (file_bytes shape c cs) ≤ most_file
 unfolding constants_bytes
 wiring_few shape c cs narrow fits =
     let inputs = 1 + c.publics + c.privates in
     let ls = layers_bytes (coefs_of c.version cs) inputs (reverse c.layers) in
     let ks = constants_bytes shape cs in
     let w : ℕ → List ℕ = λ n. to_le_bytes w32 n in
-    let few : length cs ≤ 2097152 = fits.few_constants in
+    let few : length cs ≤ most_total = fits.few_constants in
     let constants : length ks ≡ length cs * shape.bytes = length-constants shape 0 cs in
-    let most : length cs * shape.bytes ≤ 2097152 * 16 = mul-le (length cs) shape.bytes 2097152 16 few narrow in
+    let most : length cs * shape.bytes ≤ most_total * 16 = mul-le (length cs) shape.bytes most_total 16 few narrow in
     let layers = layers_few (coefs_of c.version cs) (omega (arith, few, coefs_few c.version cs)) (reverse c.layers) (above_inputs inputs) (omega (arith, fits.few_publics, fits.few_privates)) (omega arith) fits.each in
-    let depth : length (reverse c.layers) ≤ 512 = fits.depth in
+    let depth : length (reverse c.layers) ≤ most_layers = fits.depth in
     omega (
       arith,
       constants,

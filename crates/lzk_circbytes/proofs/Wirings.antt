@@ -4,6 +4,7 @@ use Rattle.std.specs.Int.{w32, to_le_bytes}
 use Rattle.std.specs.List.{list_any}
 use Rattle.std.proofs.lemmas.Bool.{le-leb, leb-true, and_parts, eqb-true, eq-eqb, cond-true, or_left, or_right}
 use Rattle.std.proofs.lemmas.List.{append-nil, nil_from_length}
+use Rattle.lzk_circuit.specs.Limits.{most_publics, most_privates, most_layers, most_total}
 use Rattle.lzk_circuit.specs.declared.layer.Layer.{Layer}
 use Rattle.lzk_circuit.specs.Valid.{Under, above_inputs, above_layer, Wiring, wiring_of}
 use Rattle.lzk_circbytes.specs.declared.fault.ByteKind.TheVariants.{Trailing}
@@ -102,15 +103,15 @@ five a b c d e r1 r2 r3 r4 bytes t1 t2 t3 t4 last =
 pub wiring_take : (shape : Shape) (version : ℕ) (bytes : List ℕ) (w : Wiring ℕ) → IsBytes bytes → wiring_at shape version bytes ≡ Ok w → Spelled shape version bytes w
 unfolding wiring_at
 wiring_take shape version bytes w fits e =
-    from (limited_at 0 65535 bytes) _ w e (λ publics at_publics e1.
-    from (limited_at 0 65536 publics.1) _ w e1 (λ privates at_privates e2.
-    from (limited_at 1 512 privates.1) _ w e2 (λ depth at_depth e3.
-    from (limited_at 0 2097152 depth.1) _ w e3 (λ count at_count e4.
+    from (limited_at 0 most_publics bytes) _ w e (λ publics at_publics e1.
+    from (limited_at 0 most_privates publics.1) _ w e1 (λ privates at_privates e2.
+    from (limited_at 1 most_layers privates.1) _ w e2 (λ depth at_depth e3.
+    from (limited_at 0 most_total depth.1) _ w e3 (λ count at_count e4.
     from (body_at shape version (1 + publics.0 + privates.0) depth.0 count.0 count.1) _ w e4 (λ layers at_layers end.
-    let t1 = limited_take 0 65535 bytes publics fits at_publics in
-    let t2 = limited_take 0 65536 publics.1 privates t1.0.rest_fits at_privates in
-    let t3 = limited_take 1 512 privates.1 depth t2.0.rest_fits at_depth in
-    let t4 = limited_take 0 2097152 depth.1 count t3.0.rest_fits at_count in
+    let t1 = limited_take 0 most_publics bytes publics fits at_publics in
+    let t2 = limited_take 0 most_privates publics.1 privates t1.0.rest_fits at_privates in
+    let t3 = limited_take 1 most_layers privates.1 depth t2.0.rest_fits at_depth in
+    let t4 = limited_take 0 most_total depth.1 count t3.0.rest_fits at_count in
     let body = body_take shape version (1 + publics.0 + privates.0) depth.0 count.0 count.1 layers t4.0.rest_fits at_layers in
     let t3' : Takes privates.1 (to_le_bytes w32 (length layers)) depth.1 = subst (λ (n : ℕ). Takes privates.1 (to_le_bytes w32 n) depth.1) (sym body.many) t3.0 in
     let t4' : Takes depth.1 (to_le_bytes w32 (length body.cs)) count.1 = subst (λ (n : ℕ). Takes depth.1 (to_le_bytes w32 n) count.1) (sym body.few) t4.0 in
@@ -168,10 +169,10 @@ wiring_again shape room version publics privates layers cs fits =
     let w4 : List ℕ = to_le_bytes w32 (length cs) ++ (vc ++ vl) in
     let w3 : List ℕ = to_le_bytes w32 (length layers) ++ w4 in
     let w2 : List ℕ = to_le_bytes w32 privates ++ w3 in
-    let r1 = limited_again 0 65535 publics w2 (lit< tt) (omega arith) fits.few_publics in
-    let r2 = limited_again 0 65536 privates w3 (lit< tt) (omega arith) fits.few_privates in
-    let r3 = limited_again 1 512 (length layers) w4 (lit< tt) fits.some fits.depth in
-    let r4 = limited_again 0 2097152 (length cs) (vc ++ vl) (lit< tt) (omega arith) fits.few_constants in
+    let r1 = limited_again 0 most_publics publics w2 (lit< tt) (omega arith) fits.few_publics in
+    let r2 = limited_again 0 most_privates privates w3 (lit< tt) (omega arith) fits.few_privates in
+    let r3 = limited_again 1 most_layers (length layers) w4 (lit< tt) fits.some fits.depth in
+    let r4 = limited_again 0 most_total (length cs) (vc ++ vl) (lit< tt) (omega arith) fits.few_constants in
     let r5 = constants_again shape room cs vl fits.rising in
     let slim = narrow ks layers under (omega (arith, fits.few_publics, fits.few_privates)) fits.each in
     let few : length ks ≤ 2 ^ 32 = omega (arith, fits.few_constants, coefs_few version cs) in

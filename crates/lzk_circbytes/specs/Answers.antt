@@ -1,5 +1,6 @@
 -- What the calls of this crate answer.
 use Rattle.std.specs.Prelude.{◌≡◌, ℕ, ◌<◌, ◌||◌, Bool, false, List, [], ◌∷◌, length, drop, Option, Some, None, Result, Ok, Err, slice_index, slice_index_or, if◌then◌else◌}
+use Rattle.lzk_goldilocks.specs.Prime.{field_byte}
 use Rattle.lzk_circuit.specs.Valid.{Under, Wiring, IsValid}
 use Rattle.lzk_goldilocks.specs.Elements as gold
 use Rattle.lzk_gf128.specs.Elements as gf
@@ -25,7 +26,7 @@ IsNoCircuit bytes refused.OutOfMemory = Unit {0}
 
 -- the field's byte and the numbers of a circuit
 abbrev pub numbers_of : AnyCircuit → ℕ × Wiring ℕ
-numbers_of (Gold c) = (1, numbered gold.number c)
+numbers_of (Gold c) = (field_byte, numbered gold.number c)
 numbers_of (Gf c) = (2, numbered gf.number c)
 
 -- the circuit is valid

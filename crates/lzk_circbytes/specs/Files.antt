@@ -1,7 +1,9 @@
 -- Circuit files: which bytes are a circuit's, and the first check that bytes fail.
-use Rattle.std.specs.Prelude.{◌≡◌, ◌↔◌, ℕ, ◌-◌, ◌^◌, ◌≤◌, List, [], ◌∷◌, length, drop, Result, Ok, Err, Contains, nat_lt, ◌==◌, ◌&&◌, Bool, true, false, if◌then◌else◌}
+use Rattle.std.specs.Prelude.{◌≡◌, ◌↔◌, ℕ, ◌-◌, ◌*◌, ◌^◌, ◌≤◌, List, [], ◌∷◌, length, drop, Result, Ok, Err, Contains, nat_lt, ◌==◌, ◌&&◌, Bool, true, false, if◌then◌else◌}
 use Rattle.std.specs.List.Sorted.{IsStrictlyIncreasing}
 use Rattle.sha2.specs.Sha256.{sha256}
+use Rattle.lzk_profile.specs.Profile.{file_letter}
+use Rattle.lzk_circuit.specs.Limits.{most_total}
 use Rattle.lzk_field.specs.Coding.{Coding}
 use Rattle.lzk_field.specs.Ring.{Ops}
 use Rattle.lzk_circuit.specs.Valid.{Wiring, IsValid}
@@ -61,19 +63,19 @@ begins_with (a ∷ rest) (b ∷ bytes) = (a == b) && begins_with rest bytes
 abbrev pub field_at : ℕ → List ℕ → Result (ℕ × Wiring ℕ) Stop
 field_at version [] = stops Truncated []
 field_at version (id ∷ bytes) =
-    if id == 1 then (do
+    if id == field_byte then (do
       c ← wiring_at goldilocks version bytes
-      Ok (1, c)) else
+      Ok (field_byte, c)) else
     (if id == 2 then (do
       c ← wiring_at gf128 version bytes
       Ok (2, c)) else stops FieldId (id ∷ bytes))
 
--- a whole file: `LZC1` or `LZC2` and the rest
+-- a whole file: `LZC1` or `LZC2`, with the profile's letter, and the rest
 unfoldable pub circuit_at : List ℕ → Result (ℕ × Wiring ℕ) Stop
 circuit_at bytes =
     if nat_lt (length bytes) 4 then stops Truncated bytes else
-    (if begins_with (76 ∷ 90 ∷ 67 ∷ 49 ∷ []) bytes then field_at 1 (drop 4 bytes) else
-    (if begins_with (76 ∷ 90 ∷ 67 ∷ 50 ∷ []) bytes then field_at 2 (drop 4 bytes) else stops Magic bytes))
+    (if begins_with (76 ∷ file_letter ∷ 67 ∷ 49 ∷ []) bytes then field_at 1 (drop 4 bytes) else
+    (if begins_with (76 ∷ file_letter ∷ 67 ∷ 50 ∷ []) bytes then field_at 2 (drop 4 bytes) else stops Magic bytes))
 
 -- The bytes are no circuit's file. The fields before offset are whole and pass their checks, and kind is the first
 -- check that the field there fails; or all pass, and the constant there is the first that no term uses, or a byte is
@@ -104,6 +106,10 @@ NoFault =
     (c : AnyCircuit) (bytes : List ℕ) (offset : ℕ) (kind : ByteKind) → CircuitBytes c bytes
     → ¬ CircuitFaultAt bytes offset kind
 
--- no circuit's file has more than 2^26 bytes
+-- how many bytes a circuit's file has at most, in LZK1 2^26
+abbrev pub most_file : ℕ
+most_file = 32 * most_total
+
+-- no circuit's file has more
 abbrev pub FilesFit : Type 0
-FilesFit = (c : AnyCircuit) (bytes : List ℕ) → CircuitBytes c bytes → length bytes ≤ 67108864
+FilesFit = (c : AnyCircuit) (bytes : List ℕ) → CircuitBytes c bytes → length bytes ≤ most_file

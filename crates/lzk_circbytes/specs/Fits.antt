@@ -2,6 +2,8 @@
 use Rattle.std.specs.Prelude.{◌≡◌, ℕ, ◌+◌, ◌^◌, ◌<◌, ◌≤◌, List, [], ◌∷◌, ◌++◌, length, Option, None, true, IsTrue, nat_eq}
 use Rattle.std.specs.Int.{w32, to_le_bytes}
 use Rattle.std.specs.List.{list_any}
+use Rattle.lzk_profile.specs.Profile.{file_letter}
+use Rattle.lzk_circuit.specs.Limits.{most_publics, most_privates, most_layers, most_wires, most_total}
 use Rattle.lzk_circuit.specs.declared.layer.Term.{Term}
 use Rattle.lzk_circuit.specs.declared.layer.Layer.{Layer}
 use Rattle.lzk_circuit.specs.Valid.{Under, above_inputs, above_layer, Wiring}
@@ -26,9 +28,9 @@ pub record FitsTerm (coefs : List ℕ) (wires below : ℕ) (before : Option (Ter
 
 pub record FitsLayer (coefs : List ℕ) (under : Under) (l : Layer ℕ) : Type 0 where
   pub some : 1 ≤ l.wires
-  pub wires : l.wires ≤ 131072
-  pub all_wires : under.wires + l.wires ≤ 2097152
-  pub all_terms : under.terms + length l.terms ≤ 2097152
+  pub wires : l.wires ≤ most_wires
+  pub all_wires : under.wires + l.wires ≤ most_total
+  pub all_terms : under.terms + length l.terms ≤ most_total
   pub terms : FitAlong as_before (FitsTerm coefs l.wires under.width) None l.terms
 
 pub record FitsConstant (shape : Shape) (before c : ℕ) : Type 0 where
@@ -42,11 +44,11 @@ AreConstants shape before cs = FitAlong as_last (FitsConstant shape) before cs
 -- what stands behind the field's byte, with these constants and with the layers from the inputs up
 pub record FitsWiring (shape : Shape) (version publics privates : ℕ) (layers : List (Layer ℕ))
     (cs : List ℕ) : Type 0 where
-  pub few_publics : publics ≤ 65535
-  pub few_privates : privates ≤ 65536
+  pub few_publics : publics ≤ most_publics
+  pub few_privates : privates ≤ most_privates
   pub some : 1 ≤ length layers
-  pub depth : length layers ≤ 512
-  pub few_constants : length cs ≤ 2097152
+  pub depth : length layers ≤ most_layers
+  pub few_constants : length cs ≤ most_total
   pub rising : AreConstants shape 0 cs
   pub each : FitAlong above_layer (FitsLayer (coefs_of version cs)) (above_inputs (1 + publics + privates)) layers
   -- each constant is a coefficient
@@ -70,5 +72,5 @@ CanWriteLayers coefs (layer ∷ layers) =
 -- all that stands before the layers
 abbrev pub head_bytes : Shape → Wiring ℕ → List ℕ → List ℕ
 head_bytes shape c cs =
-    76 ∷ 90 ∷ 67 ∷ (48 + c.version) ∷ shape.id ∷ (to_le_bytes w32 c.publics ++ (to_le_bytes w32 c.privates
+    76 ∷ file_letter ∷ 67 ∷ (48 + c.version) ∷ shape.id ∷ (to_le_bytes w32 c.publics ++ (to_le_bytes w32 c.privates
     ++ (to_le_bytes w32 (length c.layers) ++ (to_le_bytes w32 (length cs) ++ constants_bytes shape cs))))

@@ -1,6 +1,7 @@
 -- Reading from left to right, with the first check that fails.
 use Rattle.std.specs.Prelude.{ℕ, zero, suc, ◌+◌, ◌*◌, ◌-◌, ◌^◌, List, [], ◌∷◌, length, take, drop, reverse, slice_index, Option, Some, None, Result, Ok, Err, nat_lt, nat_le, ◌==◌, ◌&&◌, ◌||◌, Bool, true, if◌then◌else◌}
 use Rattle.std.specs.Int.{w32, from_le_bytes}
+use Rattle.lzk_circuit.specs.Limits.{most_publics, most_privates, most_layers, most_wires, most_total}
 use Rattle.lzk_field.specs.Bytes.{number_from}
 use Rattle.lzk_circuit.specs.declared.layer.Term.{Term}
 use Rattle.lzk_circuit.specs.declared.layer.Layer.{Layer}
@@ -115,9 +116,9 @@ terms_at coefs wires below count bytes = many as_before (term_at coefs wires bel
 unfoldable pub layer_at : List ℕ → Under → List ℕ → Result (Layer ℕ × List ℕ) Stop
 layer_at coefs under bytes = do
   wires ← word_at bytes
-  _ ← must (nat_le 1 wires.0 && (nat_le wires.0 131072 && nat_le (under.wires + wires.0) 2097152)) Limit bytes
+  _ ← must (nat_le 1 wires.0 && (nat_le wires.0 most_wires && nat_le (under.wires + wires.0) most_total)) Limit bytes
   count ← word_at wires.1
-  _ ← must (nat_le (under.terms + count.0) 2097152) Limit wires.1
+  _ ← must (nat_le (under.terms + count.0) most_total) Limit wires.1
   terms ← terms_at coefs wires.0 under.width count.0 count.1
   Ok (record { wires = wires.0; terms = terms.0 }, terms.1)
 
@@ -147,9 +148,9 @@ body_at shape version inputs depth count bytes = do
 -- what stands behind the field's byte, in a file of this version
 unfoldable pub wiring_at : Shape → ℕ → List ℕ → Result (Wiring ℕ) Stop
 wiring_at shape version bytes = do
-  publics ← limited_at 0 65535 bytes
-  privates ← limited_at 0 65536 publics.1
-  depth ← limited_at 1 512 privates.1
-  count ← limited_at 0 2097152 depth.1
+  publics ← limited_at 0 most_publics bytes
+  privates ← limited_at 0 most_privates publics.1
+  depth ← limited_at 1 most_layers privates.1
+  count ← limited_at 0 most_total depth.1
   layers ← body_at shape version (1 + publics.0 + privates.0) depth.0 count.0 count.1
   Ok (wiring_of version publics.0 privates.0 (reverse layers))

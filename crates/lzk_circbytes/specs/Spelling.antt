@@ -1,6 +1,7 @@
 -- The one spelling of each circuit.
 use Rattle.std.specs.Prelude.{ℕ, zero, suc, ◌+◌, ◌-◌, ◌/◌, ◌%◌, List, [], ◌∷◌, ◌++◌, length, reverse, Option, None, nat_lt, nat_eq, if◌then◌else◌}
 use Rattle.std.specs.Int.{w32, to_le_bytes}
+use Rattle.lzk_profile.specs.Profile.{file_letter}
 use Rattle.lzk_field.specs.Bytes.{bytes_of}
 use Rattle.lzk_circuit.specs.declared.layer.Term.{Term}
 use Rattle.lzk_circuit.specs.declared.layer.Layer.{Layer}
@@ -50,9 +51,10 @@ tail_bytes shape c cs =
     ++ (to_le_bytes w32 (length cs) ++ (constants_bytes shape cs
     ++ layers_bytes (coefs_of c.version cs) (1 + c.publics + c.privates) (reverse c.layers)))))
 
--- `LZC1` or `LZC2`, the field's byte and the rest, with these constants
+-- the letters `LZC1` or `LZC2`, of which the second is the profile's, the field's byte and the rest, with these
+-- constants
 abbrev pub file_bytes : Shape → Wiring ℕ → List ℕ → List ℕ
-file_bytes shape c cs = 76 ∷ 90 ∷ 67 ∷ (48 + c.version) ∷ shape.id ∷ tail_bytes shape c cs
+file_bytes shape c cs = 76 ∷ file_letter ∷ 67 ∷ (48 + c.version) ∷ shape.id ∷ tail_bytes shape c cs
 
 -- the one file of a circuit
 abbrev pub file_of : Shape → Wiring ℕ → List ℕ

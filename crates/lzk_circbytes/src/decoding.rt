@@ -6,6 +6,7 @@ ghost use Rattle.lzk_circbytes.specs.Numbered.{shape, numbered, numbered_layer};
 ghost use Rattle.lzk_circbytes.specs.Reading.{body_at, wiring_at};
 ghost use Rattle.lzk_circbytes.specs.Files.{CircuitBytes, field_at, circuit_at, OneCircuit, OneFile, OneFault, NoFault, FilesFit};
 ghost use Rattle.lzk_circbytes.specs.Answers.{Gives, IsFirstFault, IsNoCircuit, numbers_of, IsValidCircuit};
+ghost use Rattle.lzk_circuit.specs.Limits.{most_total};
 
 use crate::any::AnyCircuit;
 use crate::fault::{ByteFault, ByteKind, DecodeError, ReadError};
@@ -16,6 +17,7 @@ use lzk_circuit::{Circuit, Layer, MOST_IN_ALL, MOST_LAYERS, MOST_PRIVATES, MOST_
 use lzk_field::Field;
 use lzk_gf128::Gf128;
 use lzk_goldilocks::Gold;
+use lzk_profile::FILE_LETTER;
 use std::alloc::Global;
 
 /// The layers, from the inputs up, behind the counts.
@@ -28,7 +30,7 @@ fn body_of<F: Field>(
     count: u32,
     bytes: &[u8],
 ) -> Result<Vec<Layer<F>>, ReadError>
-    requires { count ≤ 2097152 }
+    requires { count ≤ most_total }
     ensures { Gives (λ layers. map (numbered_layer F.coding.number) layers.items) result
         (body_at (shape F.coding.id F.coding.bytes F.coding.size) version inputs depth count bytes.now) }
 {
@@ -68,8 +70,12 @@ fn any_of(alloc: Global, version: u8, bytes: &[u8]) -> Result<AnyCircuit, ReadEr
 {
     match bytes {
         [] => Err(stop(ByteKind::Truncated, bytes)),
-        [1, rest @ ..] => Ok(AnyCircuit::Gold(circuit_of::<Gold>(alloc, version, rest)?)),
-        [2, rest @ ..] => Ok(AnyCircuit::Gf(circuit_of::<Gf128>(alloc, version, rest)?)),
+        [id, rest @ ..] if *id == Gold::ID => {
+            Ok(AnyCircuit::Gold(circuit_of::<Gold>(alloc, version, rest)?))
+        }
+        [id, rest @ ..] if *id == Gf128::ID => {
+            Ok(AnyCircuit::Gf(circuit_of::<Gf128>(alloc, version, rest)?))
+        }
         _ => Err(stop(ByteKind::FieldId, bytes)),
     }
 }
@@ -84,8 +90,8 @@ fn file_of(alloc: Global, bytes: &[u8]) -> Result<AnyCircuit, ReadError>
         return Err(stop(ByteKind::Truncated, bytes));
     }
     match bytes {
-        [b'L', b'Z', b'C', b'1', rest @ ..] => any_of(alloc, 1, rest),
-        [b'L', b'Z', b'C', b'2', rest @ ..] => any_of(alloc, 2, rest),
+        [b'L', FILE_LETTER, b'C', b'1', rest @ ..] => any_of(alloc, 1, rest),
+        [b'L', FILE_LETTER, b'C', b'2', rest @ ..] => any_of(alloc, 2, rest),
         _ => Err(stop(ByteKind::Magic, bytes)),
     }
 }

@@ -1,6 +1,6 @@
 //! The file of a circuit, and its id.
 
-ghost use Rattle.std.specs.Prelude.{◌≡◌, ◌≤◌, ◌++◌, ◌∷◌, [], length, map, reverse, All, List, ℕ, IfOk, OnOk};
+ghost use Rattle.std.specs.Prelude.{◌≡◌, ◌≤◌, ◌+◌, ◌++◌, ◌∷◌, [], length, map, reverse, All, List, ℕ, IfOk, OnOk};
 ghost use Rattle.std.specs.List.Sorted.{IsStrictlyIncreasing};
 ghost use Rattle.sha2.specs.Sha256.{sha256};
 ghost use Rattle.sha2.specs.Hashers.{Holds256};
@@ -11,12 +11,14 @@ ghost use Rattle.lzk_circbytes.specs.Fits.{CanWriteLayers, head_bytes};
 ghost use Rattle.lzk_circbytes.specs.Recent.{WasMet, HaveSame};
 ghost use Rattle.lzk_circbytes.specs.Files.{IsFile, CircuitBytes, circuit_id, id_of_any};
 ghost use Rattle.lzk_circbytes.specs.declared.any.AnyCircuit.{AnyCircuit};
+ghost use Rattle.lzk_circuit.specs.Limits.{most_total};
 
 use crate::reading::constants_part;
 use crate::slots::{Constants, SLOTS, free_slots, places, slot_of};
 use crate::writing::{push_constants, push_layer, push_word};
 use lzk_circuit::{Circuit, Term};
 use lzk_field::Field;
+use lzk_profile::FILE_LETTER;
 use sha2::{Digest, Sha256};
 use std::alloc::{AllocError, Global};
 
@@ -56,7 +58,7 @@ fn coefs_of<F: Field>(alloc: Global, circuit: &Circuit<F>) -> Result<Vec<u128>, 
     ensures numbers { IfOk result (λ numbers.
         numbers.items ≡ coefs_of circuit.now.version (constants_of (numbered F.coding.number circuit.now))) }
     ensures rising { IfOk result (λ numbers. IsStrictlyIncreasing numbers.items) }
-    ensures few { IfOk result (λ numbers. length numbers.items ≤ 2097153) }
+    ensures few { IfOk result (λ numbers. length numbers.items ≤ most_total + 1) }
     ensures fit { IfOk result (λ numbers.
         CanWriteLayers numbers.items (map (numbered_layer F.coding.number) circuit.now.layers)) }
     ensures valid { IsValid F.ops circuit.now }
@@ -80,11 +82,11 @@ fn push_head<F: Field>(
     constants: &[u128],
     circuit: &Circuit<F>,
 ) -> Result<(), AllocError>
-    requires { length constants.now ≤ 2097152 }
+    requires { length constants.now ≤ most_total }
     ensures { OnOk result (out.new.items ≡ out.old.items ++ head_bytes (shape F.coding.id F.coding.bytes F.coding.size)
         (numbered F.coding.number circuit.now) constants.now) }
 {
-    out.extend_from_slice(b"LZC")?;
+    out.extend_from_slice(&[b'L', FILE_LETTER, b'C'])?;
     out.push(48 + circuit.version())?;
     out.push(F::ID)?;
     push_word(out, circuit.publics())?;

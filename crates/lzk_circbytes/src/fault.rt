@@ -11,9 +11,9 @@ use thiserror::Error;
 pub enum ByteKind {
     /// The bytes end inside the field.
     Truncated,
-    /// The file does not begin with `LZC1` or `LZC2`.
+    /// The file does not begin with `LZC1` or `LZC2`, of which the second letter is the profile's.
     Magic,
-    /// The byte of the field is neither 1 nor 2.
+    /// The byte of the field is that of neither field.
     FieldId,
     /// A count, or a running total, is over its limit.
     Limit,

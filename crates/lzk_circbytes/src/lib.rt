@@ -1,7 +1,7 @@
 //! Circuit files: the bytes of a layered circuit, read and written, and a circuit's id.
 //!
 //! The layout is that of the profile in docs/FORMATS.md, for the circuits of draft-google-cfrg-libzk:
-//! `LZC1`, the field's byte, counts, the constants ascending, then each layer from the inputs up with
+//! `LZC1` (the second letter is the profile's), the field's byte, counts, the constants ascending, then each layer from the inputs up with
 //! its terms as varints. A circuit has one file, and its id is SHA-256 of it (FIPS 180-4). A caller
 //! writes
 //!

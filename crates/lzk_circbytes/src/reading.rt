@@ -9,6 +9,7 @@ ghost use Rattle.lzk_circbytes.specs.Reading.{word_at, septets_at, varint_at, st
 ghost use Rattle.lzk_circbytes.specs.Reading.{constants_at, stands_behind, wire_before, term_at, terms_at, layer_at};
 ghost use Rattle.lzk_circbytes.specs.Reading.{layers_at, all_used};
 ghost use Rattle.lzk_circbytes.specs.Answers.{Gives, Marks, unmarked_from, under};
+ghost use Rattle.lzk_circuit.specs.Limits.{most_total};
 
 use crate::fault::{ByteKind, ReadError};
 use lzk_circuit::{Layer, MOST_IN_ALL, MOST_WIRES, Term, Terms};
@@ -302,12 +303,12 @@ fn layer_of<'a, F: Field>(
     requires few { length constants.now < 2 ^ 32 }
     requires rising { IsStrictlyIncreasing (map F.coding.number constants.now) }
     requires flags { length used.old ≡ length constants.now }
-    requires wires { below.wires ≤ 2097152 }
-    requires terms { below.terms ≤ 2097152 }
+    requires wires { below.wires ≤ most_total }
+    requires terms { below.terms ≤ most_total }
     ensures value { Gives (λ x. (numbered_layer F.coding.number x.0, x.1.now)) result
         (layer_at (map F.coding.number constants.now) (under below.width below.wires below.terms) bytes.now) }
-    ensures wires { IfOk result (λ x. below.wires + x.0.wires ≤ 2097152) }
-    ensures terms { IfOk result (λ x. below.terms + length x.0.terms ≤ 2097152) }
+    ensures wires { IfOk result (λ x. below.wires + x.0.wires ≤ most_total) }
+    ensures terms { IfOk result (λ x. below.terms + length x.0.terms ≤ most_total) }
     ensures used { IfOk result (λ x.
         Marks (map F.coding.number constants.now) (is_in_terms (map (numbered_term F.coding.number) x.0.terms)) used.old
         used.new) }

@@ -1,8 +1,9 @@
 //! Tables by which a number that is met again needs no search.
 
-ghost use Rattle.std.specs.Prelude.{◌≤◌, ◌<◌, length, All, List, ℕ};
+ghost use Rattle.std.specs.Prelude.{◌+◌, ◌≤◌, ◌<◌, length, All, List, ℕ};
 ghost use Rattle.std.specs.List.Sorted.{IsStrictlyIncreasing};
 ghost use Rattle.lzk_circbytes.specs.Recent.{WasMet};
+ghost use Rattle.lzk_circuit.specs.Limits.{most_total};
 
 use std::alloc::{AllocError, Global};
 
@@ -22,7 +23,7 @@ pub fn slot_of(n: u128) -> usize
     (product_of(n) >> 55) as usize
 }
 
-/// The slot of a number in a table of so many, which are at most 2^22.
+/// The slot of a number in a table of so many.
 fn slot_among(count: usize, n: u128) -> usize {
     ((product_of(n) >> 42) as usize).wrapping_mul(count) >> 22
 }
@@ -40,12 +41,12 @@ pub struct Constants<'a> {
     pub numbers: &'a [u128],
     pub places: &'a [u32],
     pub ghost rising: { IsStrictlyIncreasing numbers.now },
-    pub ghost few: { length numbers.now ≤ 2097153 },
+    pub ghost few: { length numbers.now ≤ most_total + 1 },
 }
 
 /// Where the constants stand, each at the slot of its number. Of those that share a slot the last has it.
 pub fn places(alloc: Global, constants: &[u128]) -> Result<Vec<u32>, AllocError>
-    requires { length constants.now ≤ 2097153 }
+    requires { length constants.now ≤ most_total + 1 }
 {
     let mut places = vec![in alloc; 0; 2 * constants.len()]?;
     for k in 0..constants.len() {

@@ -4,6 +4,7 @@ use Rattle.std.specs.Prelude.{reverse}
 use Rattle.std.proofs.Math.Nat.{mod-eq_of_lt}
 use Rattle.std.specs.List.{list_any}
 use Rattle.std.proofs.lemmas.Bool.{eqb-true, or_cases}
+use Rattle.lzk_profile.specs.Profile.{file_letter}
 use Rattle.lzk_field.specs.Ring.{Ops, Laws}
 use Rattle.lzk_circuit.specs.declared.layer.Term.{Term}
 use Rattle.lzk_circuit.specs.declared.layer.Layer.{Layer}
@@ -105,11 +106,11 @@ field_some : (version : ℕ) → (version ≡ 1) ⊎ (version ≡ 2) → (bytes 
 field_some version is [] fits x e = absurd cc
 field_some version is (id ∷ rest) fits x e =
     let behind : IsBytes rest = IsBytes-rest id rest fits in
-    by_bool (eqb id 1) (λ one.
-    let there : field_at version (id ∷ rest) ≡ (wiring_at goldilocks version rest >>= λ w. Ok (1, w)) = rw one refl in
-    let r = bind_ok (wiring_at goldilocks version rest) (λ w. Ok (1, w)) x (sym there ∙ e) in
+    by_bool (eqb id field_byte) (λ one.
+    let there : field_at version (id ∷ rest) ≡ (wiring_at goldilocks version rest >>= λ w. Ok (field_byte, w)) = rw one refl in
+    let r = bind_ok (wiring_at goldilocks version rest) (λ w. Ok (field_byte, w)) x (sym there ∙ e) in
     let c = some_wiring gold.ops p (λ g. g.n) gold.of_number element_bytes gold.laws field_byte version rest r.0 is behind r.1 in
-    (Gold c.0, c.1, there ∙ ap (λ (y : Result (Wiring ℕ) Stop). y >>= λ w. Ok (1, w)) r.1 ∙ ap (λ (w : Wiring ℕ). Ok (1, w)) (sym c.2))) (λ other.
+    (Gold c.0, c.1, there ∙ ap (λ (y : Result (Wiring ℕ) Stop). y >>= λ w. Ok (field_byte, w)) r.1 ∙ ap (λ (w : Wiring ℕ). Ok (field_byte, w)) (sym c.2))) (λ other.
     by_bool (eqb id 2) (λ two.
     let there : field_at version (id ∷ rest) ≡ (wiring_at gf128 version rest >>= λ w. Ok (2, w)) = rw (other, two) refl in
     let r = bind_ok (wiring_at gf128 version rest) (λ w. Ok (2, w)) x (sym there ∙ e) in
@@ -123,11 +124,11 @@ file_some bytes fits x e =
     let behind : IsBytes (drop 4 bytes) = IsBytes-drop 4 bytes fits in
     by_bool (ltb (length bytes) 4) (λ short.
     absurd (no_stop (circuit_at bytes) x (record { left = length bytes; kind = Truncated }) e (rw short refl))) (λ long.
-    by_bool (begins_with (76 ∷ 90 ∷ 67 ∷ 49 ∷ []) bytes) (λ one.
+    by_bool (begins_with (76 ∷ file_letter ∷ 67 ∷ 49 ∷ []) bytes) (λ one.
     let there : circuit_at bytes ≡ field_at 1 (drop 4 bytes) = rw (long, one) refl in
     let r = field_some 1 (inl refl) (drop 4 bytes) behind x (sym there ∙ e) in
     (r.0, r.1, there ∙ r.2)) (λ other.
-    by_bool (begins_with (76 ∷ 90 ∷ 67 ∷ 50 ∷ []) bytes) (λ two.
+    by_bool (begins_with (76 ∷ file_letter ∷ 67 ∷ 50 ∷ []) bytes) (λ two.
     let there : circuit_at bytes ≡ field_at 2 (drop 4 bytes) = rw (long, other, two) refl in
     let r = field_some 2 (inr refl) (drop 4 bytes) behind x (sym there ∙ e) in
     (r.0, r.1, there ∙ r.2)) (λ neither.

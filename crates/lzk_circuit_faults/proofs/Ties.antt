@@ -4,6 +4,9 @@ use Rattle.std.specs.Prelude.{nat_le, reverse, slice_index}
 use Rattle.std.specs.Int.{w32, from_le_bytes}
 use Rattle.std.proofs.lemmas.Bool.{le-ltb, eqb-true, eqb-false, ne_eqb}
 use Rattle.std.proofs.lemmas.List.{length-drop}
+use Rattle.lzk_profile.specs.Profile.{file_letter}
+use Rattle.lzk_goldilocks.specs.Prime.{field_byte}
+use Rattle.lzk_circuit.specs.Limits.{most_publics, most_privates, most_layers, most_wires, most_total}
 use Rattle.lzk_field.specs.Bytes.{number_from}
 use Rattle.lzk_circuit.specs.declared.layer.Term.{Term}
 use Rattle.lzk_circuit.specs.declared.layer.Layer.{Layer}
@@ -106,9 +109,9 @@ module _ (total : ℕ) where
         let n : ℕ = from_le_bytes w32 (take 4 later) in
         let made : List (Term ℕ) → Layer ℕ = λ terms. record { wires = w; terms = terms } in
         by_bool (ltb (length bytes) 4) (λ e. rw e refl) (λ e.
-        by_bool (nat_le 1 w && (nat_le w 131072 && nat_le (under.wires + w) 2097152)) (λ h.
+        by_bool (nat_le 1 w && (nat_le w most_wires && nat_le (under.wires + w) most_total)) (λ h.
         by_bool (ltb (length later) 4) (λ f. rw (e, h, f) refl) (λ f.
-        by_bool (nat_le (under.terms + n) 2097152)
+        by_bool (nat_le (under.terms + n) most_total)
         (λ i. rw (e, h, f, i) (
         items_read as_before (term_fields coefs w under.width) (term_at coefs w under.width) (λ s. term_reads coefs w under.width s) n None (λ terms. k (made terms)) (drop 4 later)
         ∙ mapped (terms_at coefs w under.width n (drop 4 later)) made k
@@ -178,13 +181,13 @@ module _ (total : ℕ) where
         body_at shape version (1 + publics + privates) depth count.0 count.1 >>= λ layers. Ok (wiring_of version publics privates (reverse layers))
 
     abbrev count_at : ℕ → ℕ → ℕ × List ℕ → Result (Wiring ℕ) Stop
-    count_at publics privates depth = limited_at 0 2097152 depth.1 >>= end_at publics privates depth.0
+    count_at publics privates depth = limited_at 0 most_total depth.1 >>= end_at publics privates depth.0
 
     abbrev depth_at : ℕ → ℕ × List ℕ → Result (Wiring ℕ) Stop
-    depth_at publics privates = limited_at 1 512 privates.1 >>= count_at publics privates.0
+    depth_at publics privates = limited_at 1 most_layers privates.1 >>= count_at publics privates.0
 
     abbrev privates_at : ℕ × List ℕ → Result (Wiring ℕ) Stop
-    privates_at publics = limited_at 0 65536 publics.1 >>= depth_at publics.0
+    privates_at publics = limited_at 0 most_privates publics.1 >>= depth_at publics.0
 
     counts_same : (bytes : List ℕ) → length bytes ≡ total - 5 → run total (counts_fields shape version) bytes ≡ void (wiring_at shape version bytes)
     unfolding counts_fields wiring_at
@@ -194,13 +197,13 @@ module _ (total : ℕ) where
         let d : List ℕ = drop 4 c in
         let e : List ℕ = drop 4 d in
         let left : length e ≡ total - 21 = omega (arith, long, length-drop 4 bytes, length-drop 4 b, length-drop 4 c, length-drop 4 d) in
-        let depths : ℕ → ℕ → ℕ → Fields = λ publics privates depth. count_field 0 2097152 (λ count. body_fields shape version (1 + publics + privates) depth count) in
-        let privates_then : ℕ → ℕ → Fields = λ publics privates. count_field 1 512 (depths publics privates) in
-        let publics_then : ℕ → Fields = λ publics. count_field 0 65536 (privates_then publics) in
-        count_then 0 65535 publics_then privates_at bytes (λ publics.
-        count_then 0 65536 (privates_then publics) (depth_at publics) b (λ privates.
-        count_then 1 512 (depths publics privates) (count_at publics privates) c (λ depth.
-        count_then 0 2097152 (λ count. body_fields shape version (1 + publics + privates) depth count) (end_at publics privates depth) d (λ count.
+        let depths : ℕ → ℕ → ℕ → Fields = λ publics privates depth. count_field 0 most_total (λ count. body_fields shape version (1 + publics + privates) depth count) in
+        let privates_then : ℕ → ℕ → Fields = λ publics privates. count_field 1 most_layers (depths publics privates) in
+        let publics_then : ℕ → Fields = λ publics. count_field 0 most_privates (privates_then publics) in
+        count_then 0 most_publics publics_then privates_at bytes (λ publics.
+        count_then 0 most_privates (privates_then publics) (depth_at publics) b (λ privates.
+        count_then 1 most_layers (depths publics privates) (count_at publics privates) c (λ depth.
+        count_then 0 most_total (λ count. body_fields shape version (1 + publics + privates) depth count) (end_at publics privates depth) d (λ count.
         body_same shape version (1 + publics + privates) depth count e left
         ∙ mapped_void (body_at shape version (1 + publics + privates) depth count e) (λ layers. wiring_of version publics privates (reverse layers))))))
 
@@ -210,11 +213,11 @@ module _ (total : ℕ) where
   other_number m n e = ne_eqb n m (λ same. eqb-false m n e (sym same))
 
   module _ (version : ℕ) (rest : List ℕ) (long : length rest ≡ total - 5) where
-    field_one : run total (field_fields version) (1 ∷ rest) ≡ void (field_at version (1 ∷ rest))
+    field_one : run total (field_fields version) (field_byte ∷ rest) ≡ void (field_at version (field_byte ∷ rest))
     unfolding run field_fields
     field_one =
-        let some : ltb (length (1 ∷ rest)) 1 ≡ false = le-ltb (length (1 ∷ rest)) 1 (omega arith) in
-        rw some (counts_same goldilocks version rest long ∙ mapped_void (wiring_at goldilocks version rest) (λ c. (1, c)))
+        let some : ltb (length (field_byte ∷ rest)) 1 ≡ false = le-ltb (length (field_byte ∷ rest)) 1 (omega arith) in
+        rw some (counts_same goldilocks version rest long ∙ mapped_void (wiring_at goldilocks version rest) (λ c. (field_byte, c)))
 
     field_two : run total (field_fields version) (2 ∷ rest) ≡ void (field_at version (2 ∷ rest))
     unfolding run field_fields
@@ -222,11 +225,11 @@ module _ (total : ℕ) where
         let some : ltb (length (2 ∷ rest)) 1 ≡ false = le-ltb (length (2 ∷ rest)) 1 (omega arith) in
         rw some (counts_same gf128 version rest long ∙ mapped_void (wiring_at gf128 version rest) (λ c. (2, c)))
 
-    no_field : (id : ℕ) → eqb id 1 ≡ false → eqb id 2 ≡ false → run total (field_fields version) (id ∷ rest) ≡ void (field_at version (id ∷ rest))
+    no_field : (id : ℕ) → eqb id field_byte ≡ false → eqb id 2 ≡ false → run total (field_fields version) (id ∷ rest) ≡ void (field_at version (id ∷ rest))
     unfolding run field_fields
     no_field id one two =
         let some : ltb (length (id ∷ rest)) 1 ≡ false = le-ltb (length (id ∷ rest)) 1 (omega arith) in
-        rw (some, one, two, other_number id 1 one, other_number id 2 two) refl
+        rw (some, one, two, other_number id field_byte one, other_number id 2 two) refl
 
   no_byte : (version : ℕ) → run total (field_fields version) [] ≡ void (field_at version [])
   unfolding run field_fields
@@ -237,7 +240,7 @@ module _ (total : ℕ) where
   field_same version (id ∷ rest) long =
       let left : length rest ≡ total - 5 = omega (arith, long) in
       let Same : ℕ → Type 0 = λ i. run total (field_fields version) (i ∷ rest) ≡ void (field_at version (i ∷ rest)) in
-      by_bool (eqb id 1) (λ e. subst Same (sym (eqb-true id 1 e)) (field_one version rest left)) (λ e.
+      by_bool (eqb id field_byte) (λ e. subst Same (sym (eqb-true id field_byte e)) (field_one version rest left)) (λ e.
       by_bool (eqb id 2) (λ f. subst Same (sym (eqb-true id 2 f)) (field_two version rest left)) (λ f. no_field version rest left id e f))
 
   begins_take : (xs bytes : List ℕ) → begins_with xs (take (length xs) bytes) ≡ begins_with xs bytes
@@ -249,9 +252,9 @@ module _ (total : ℕ) where
   unfolding run file_fields circuit_at
   file_same bytes long =
       let left : length (drop 4 bytes) ≡ total - 4 = omega (arith, length-drop 4 bytes, long) in
-      let first = begins_take (76 ∷ 90 ∷ 67 ∷ 49 ∷ []) bytes in
-      let second = begins_take (76 ∷ 90 ∷ 67 ∷ 50 ∷ []) bytes in
+      let first = begins_take (76 ∷ file_letter ∷ 67 ∷ 49 ∷ []) bytes in
+      let second = begins_take (76 ∷ file_letter ∷ 67 ∷ 50 ∷ []) bytes in
       by_bool (ltb (length bytes) 4) (λ e. rw e refl) (λ e.
-      by_bool (begins_with (76 ∷ 90 ∷ 67 ∷ 49 ∷ []) bytes) (λ f. rw (e, f, first ∙ f) (field_same 1 (drop 4 bytes) left)) (λ f.
-      by_bool (begins_with (76 ∷ 90 ∷ 67 ∷ 50 ∷ []) bytes) (λ g. rw (e, f, first ∙ f, g, second ∙ g) (field_same 2 (drop 4 bytes) left))
+      by_bool (begins_with (76 ∷ file_letter ∷ 67 ∷ 49 ∷ []) bytes) (λ f. rw (e, f, first ∙ f) (field_same 1 (drop 4 bytes) left)) (λ f.
+      by_bool (begins_with (76 ∷ file_letter ∷ 67 ∷ 50 ∷ []) bytes) (λ g. rw (e, f, first ∙ f, g, second ∙ g) (field_same 2 (drop 4 bytes) left))
       (λ g. rw (e, f, first ∙ f, g, second ∙ g) refl)))

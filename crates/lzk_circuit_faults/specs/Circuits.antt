@@ -1,6 +1,9 @@
 -- The fields of a circuit's file, in order, each with its checks.
 use Rattle.std.specs.Prelude.{ℕ, ◌+◌, List, [], ◌∷◌, length, slice_index, Option, Some, None, Bool, nat_lt, nat_le, ◌&&◌, ◌||◌, if◌then◌else◌}
 use Rattle.std.specs.Int.{w32, from_le_bytes}
+use Rattle.lzk_profile.specs.Profile.{file_letter}
+use Rattle.lzk_goldilocks.specs.Prime.{field_byte}
+use Rattle.lzk_circuit.specs.Limits.{most_publics, most_privates, most_layers, most_wires, most_total}
 use Rattle.lzk_field.specs.Bytes.{number_from}
 use Rattle.lzk_circuit.specs.declared.layer.Term.{Term}
 use Rattle.lzk_circuit.specs.declared.layer.Layer.{Layer}
@@ -52,13 +55,13 @@ term_fields coefs wires below before next =
 
 -- whether a layer may have so many wires, with the running total
 abbrev pub may_have : Under → ℕ → Bool
-may_have under wires = nat_le 1 wires && (nat_le wires 131072 && nat_le (under.wires + wires) 2097152)
+may_have under wires = nat_le 1 wires && (nat_le wires most_wires && nat_le (under.wires + wires) most_total)
 
 -- A layer on those under it: its wires and its number of terms, with the running totals in their limits, and its terms.
 unfoldable pub layer_fields : List ℕ → Under → (Layer ℕ → Fields) → Fields
 layer_fields coefs under next =
     field 4 (λ f. must_be (may_have under (from_le_bytes w32 f)) kinds.Limit) (λ f.
-    field 4 (λ h. must_be (nat_le (under.terms + from_le_bytes w32 h) 2097152) kinds.Limit) (λ h.
+    field 4 (λ h. must_be (nat_le (under.terms + from_le_bytes w32 h) most_total) kinds.Limit) (λ h.
     items as_before (term_fields coefs (from_le_bytes w32 f) under.width) (from_le_bytes w32 h) None (λ terms.
     next (record { wires = from_le_bytes w32 f; terms = terms }))))
 
@@ -78,25 +81,25 @@ body_fields shape version inputs depth count =
 -- what stands behind the field's byte: four counts and the rest
 unfoldable pub counts_fields : Shape → ℕ → Fields
 counts_fields shape version =
-    count_field 0 65535 (λ publics.
-    count_field 0 65536 (λ privates.
-    count_field 1 512 (λ depth.
-    count_field 0 2097152 (λ count.
+    count_field 0 most_publics (λ publics.
+    count_field 0 most_privates (λ privates.
+    count_field 1 most_layers (λ depth.
+    count_field 0 most_total (λ count.
     body_fields shape version (1 + publics + privates) depth count))))
 
--- the field's byte, which is 1 or 2, and the rest
+-- the field's byte, which is that of one of the two, and the rest
 unfoldable pub field_fields : ℕ → Fields
 field_fields version =
-    field 1 (λ f. must_be (begins_with (1 ∷ []) f || begins_with (2 ∷ []) f) kinds.FieldId) (λ f.
-    counts_fields (if begins_with (1 ∷ []) f then goldilocks else gf128) version)
+    field 1 (λ f. must_be (begins_with (field_byte ∷ []) f || begins_with (2 ∷ []) f) kinds.FieldId) (λ f.
+    counts_fields (if begins_with (field_byte ∷ []) f then goldilocks else gf128) version)
 
--- `LZC1`
+-- `LZC1`, with the profile's letter
 abbrev pub magic_1 : List ℕ
-magic_1 = 76 ∷ 90 ∷ 67 ∷ 49 ∷ []
+magic_1 = 76 ∷ file_letter ∷ 67 ∷ 49 ∷ []
 
--- `LZC2`
+-- `LZC2`, with the profile's letter
 abbrev pub magic_2 : List ℕ
-magic_2 = 76 ∷ 90 ∷ 67 ∷ 50 ∷ []
+magic_2 = 76 ∷ file_letter ∷ 67 ∷ 50 ∷ []
 
 -- the magic of one of the two versions, and the rest
 unfoldable pub file_fields : Fields

@@ -1,6 +1,7 @@
 -- Layers with their assertion wires are what they are to be.
 use Rattle.std.specs.Prelude.{◌≡◌, ℕ, ◌+◌, ◌≤◌, List, [], ◌∷◌, ◌++◌, length}
 use Rattle.std.proofs.Common.{refl, sym, ap₂, ◌∙◌, arith, subst}
+use Rattle.lzk_circuit.specs.Limits.{most_wires, most_total}
 use Rattle.lzk_field.specs.Ring.{Ops, Laws}
 use Rattle.lzk_circuit.specs.declared.layer.Layer.{Layer}
 use Rattle.lzk_circuit.specs.Valid.{under_of, AreLayers}
@@ -19,8 +20,8 @@ module _ {A : Type 0} (o : Ops A) (size : ℕ) (number : A → ℕ) (element : �
   first-wires ws (layer ∷ layers) many = refl
 
   -- a single layer
-  pub single-form : (inputs : ℕ) (ws : List (List ℕ)) (layers : List (Layer A)) → length layers ≡ 1 → 1 ≤ inputs → AreAllTerms o inputs layers → HaveOnes o layers → AreTargets inputs ws layers → AreNarrowWith 131072 ws layers
-      → 1 ≤ output_count layers + length (targets_at ws 0) → (under_of inputs layers).wires + target_count ws layers ≤ 2097152 → (under_of inputs layers).terms + target_count ws layers ≤ 2097152
+  pub single-form : (inputs : ℕ) (ws : List (List ℕ)) (layers : List (Layer A)) → length layers ≡ 1 → 1 ≤ inputs → AreAllTerms o inputs layers → HaveOnes o layers → AreTargets inputs ws layers → AreNarrowWith most_wires ws layers
+      → 1 ≤ output_count layers + length (targets_at ws 0) → (under_of inputs layers).wires + target_count ws layers ≤ most_total → (under_of inputs layers).terms + target_count ws layers ≤ most_total
       → IsAssertingForm o number inputs ws layers (attached_layers o ws layers)
   single-form inputs ws layers single first terms ones t narrow some wires all =
       let many : 1 ≤ length layers = omega (arith, single) in
@@ -43,8 +44,8 @@ module _ {A : Type 0} (o : Ops A) (size : ℕ) (number : A → ℕ) (element : �
   reduced-ones ws (layer ∷ layers) h = ones-under layer ws layers h
 
   -- reduced layers
-  pub reduced-form : (inputs : ℕ) (ws : List (List ℕ)) (layers : List (Layer A)) (moved : List (List ℕ)) (kept : List (Layer A)) → 1 ≤ length layers → 1 ≤ inputs → AreNarrowWith 131072 ws layers
-      → 1 ≤ output_count layers + length (targets_at ws 0) → (under_of inputs layers).wires + target_count ws layers ≤ 2097152 → (under_of inputs layers).terms + target_count ws layers ≤ 2097152
+  pub reduced-form : (inputs : ℕ) (ws : List (List ℕ)) (layers : List (Layer A)) (moved : List (List ℕ)) (kept : List (Layer A)) → 1 ≤ length layers → 1 ≤ inputs → AreNarrowWith most_wires ws layers
+      → 1 ≤ output_count layers + length (targets_at ws 0) → (under_of inputs layers).wires + target_count ws layers ≤ most_total → (under_of inputs layers).terms + target_count ws layers ≤ most_total
       → IsForm o inputs ws layers moved kept → IsReducedWith o moved kept → IsAssertingForm o number inputs ws layers (attached_layers o moved kept)
   reduced-form inputs ws layers moved kept many first narrow some wires all f reduced =
       let ones = reduced-ones moved kept reduced in
@@ -53,7 +54,7 @@ module _ {A : Type 0} (o : Ops A) (size : ℕ) (number : A → ℕ) (element : �
       let same = same-count moved ws kept layers f.count f.as_many in
       record {
         count = layers-count o moved kept ∙ f.count;
-        valid = attached-layers o inputs moved kept more terms (λ two. f.valid) f.targets (still-narrow 131072 moved ws kept layers f.count f.fewer f.as_many narrow) (omega (arith, some, f.outputs, same-first moved ws layers many f.as_many))
+        valid = attached-layers o inputs moved kept more terms (λ two. f.valid) f.targets (still-narrow most_wires moved ws kept layers f.count f.fewer f.as_many narrow) (omega (arith, some, f.outputs, same-first moved ws layers many f.as_many))
             (omega (arith, wires, few-wires inputs kept layers f.fewer, same)) (omega (arith, all, few-terms inputs kept layers f.fewer, same));
         checks_count = attached-count o size number element bytes laws inputs moved kept terms ∙ omega (arith, f.outputs, same);
         first_count = first-wires moved kept more ∙ omega (arith, f.outputs, same-first moved ws layers many f.as_many);
@@ -65,7 +66,7 @@ module _ {A : Type 0} (o : Ops A) (size : ℕ) (number : A → ℕ) (element : �
 
   -- some layers are it
   pub some_asserting : (inputs : ℕ) (ws : List (List ℕ)) (layers : List (Layer A)) → 1 ≤ length layers → 1 ≤ inputs → AreAllTerms o inputs layers → (2 ≤ length layers → AreLayers o inputs layers) → HaveOnes o layers → AreTargets inputs ws layers
-      → AreNarrowWith 131072 ws layers → 1 ≤ output_count layers + length (targets_at ws 0) → (under_of inputs layers).wires + target_count ws layers ≤ 2097152 → (under_of inputs layers).terms + target_count ws layers ≤ 2097152
+      → AreNarrowWith most_wires ws layers → 1 ≤ output_count layers + length (targets_at ws 0) → (under_of inputs layers).wires + target_count ws layers ≤ most_total → (under_of inputs layers).terms + target_count ws layers ≤ most_total
       → (all : List (Layer A)) × IsAssertingForm o number inputs ws layers all
   some_asserting inputs ws [] many first terms valid ones t narrow some wires all = absurd (omega (arith, many))
   some_asserting inputs ws (layer ∷ []) many first terms valid ones t narrow some wires all =

@@ -6,6 +6,7 @@ use Rattle.std.proofs.Math.ListN.{replicate}
 use Rattle.std.proofs.lemmas.Bool.{cases_lt, eq-eqb, ne_eqb}
 use Rattle.std.proofs.lemmas.List.{length-append, length-map, append-nil, ext_get_or, get_or-map, get_or_append_left, get_or-append_right, append_assoc}
 use Rattle.std.proofs.lemmas.List.FromFn.{length-map-range_with_len, get_or-map-range_with_len}
+use Rattle.lzk_circuit.specs.Limits.{most_wires, most_total}
 use Rattle.lzk_field.specs.Ring.{Ops, Laws}
 use Rattle.lzk_field.specs.Sums.{entry}
 use Rattle.lzk_field.proofs.RingBasics.{zero_plus, one_times}
@@ -71,8 +72,8 @@ module _ {A : Type 0} where
       subst (λ xs. (get_or layers l d).wires + length xs ≤ most) (sym (behind-at ws l)) (narrow-at most (behind ws) layers l d (omega (arith, within)) n.1)
 
   -- a layer of version 2
-  placed-layer : (o : Ops A) (inputs : ℕ) (ws : List (List ℕ)) (layer : Layer A) (layers : List (Layer A)) → AreAllTerms o inputs (layer ∷ layers) → AreTargets inputs ws (layer ∷ layers) → AreNarrowWith 131072 ws (layer ∷ layers)
-      → 1 ≤ layer.wires + length (targets_at ws 0) → (under_of inputs (layer ∷ layers)).wires + target_count ws (layer ∷ layers) ≤ 2097152 → (under_of inputs (layer ∷ layers)).terms + target_count ws (layer ∷ layers) ≤ 2097152
+  placed-layer : (o : Ops A) (inputs : ℕ) (ws : List (List ℕ)) (layer : Layer A) (layers : List (Layer A)) → AreAllTerms o inputs (layer ∷ layers) → AreTargets inputs ws (layer ∷ layers) → AreNarrowWith most_wires ws (layer ∷ layers)
+      → 1 ≤ layer.wires + length (targets_at ws 0) → (under_of inputs (layer ∷ layers)).wires + target_count ws (layer ∷ layers) ≤ most_total → (under_of inputs (layer ∷ layers)).terms + target_count ws (layer ∷ layers) ≤ most_total
       → IsLayerOf o 2 (under_of inputs (attached_layers o (behind ws) layers)) (attached o layer (targets_at ws 0))
   placed-layer o inputs ws layer layers terms t narrow some wires all =
       let own = targets_at ws 0 in
@@ -90,8 +91,8 @@ module _ {A : Type 0} where
         coefs = attached-stand o layer own (under_of inputs low).width each;
       }
 
-  placed-under : (o : Ops A) (inputs : ℕ) (ws : List (List ℕ)) (layers : List (Layer A)) → AreLayers o inputs layers → AreTargets inputs ws layers → AreNarrowWith 131072 ws layers
-      → (under_of inputs layers).wires + target_count ws layers ≤ 2097152 → (under_of inputs layers).terms + target_count ws layers ≤ 2097152 → AreLayersOf o 2 inputs (attached_layers o ws layers)
+  placed-under : (o : Ops A) (inputs : ℕ) (ws : List (List ℕ)) (layers : List (Layer A)) → AreLayers o inputs layers → AreTargets inputs ws layers → AreNarrowWith most_wires ws layers
+      → (under_of inputs layers).wires + target_count ws layers ≤ most_total → (under_of inputs layers).terms + target_count ws layers ≤ most_total → AreLayersOf o 2 inputs (attached_layers o ws layers)
   placed-under o inputs ws [] h t narrow wires all = tt
   placed-under o inputs ws (layer ∷ layers) h t narrow wires all =
       let one = h.0 in (
@@ -99,8 +100,8 @@ module _ {A : Type 0} where
         placed-under o inputs (behind ws) layers h.1 t.1 narrow.1 (omega (arith, wires)) (omega (arith, all)),
       )
 
-  pub attached-layers : (o : Ops A) (inputs : ℕ) (ws : List (List ℕ)) (layers : List (Layer A)) → 1 ≤ length layers → AreAllTerms o inputs layers → (2 ≤ length layers → AreLayers o inputs layers) → AreTargets inputs ws layers → AreNarrowWith 131072 ws layers
-      → 1 ≤ output_count layers + length (targets_at ws 0) → (under_of inputs layers).wires + target_count ws layers ≤ 2097152 → (under_of inputs layers).terms + target_count ws layers ≤ 2097152
+  pub attached-layers : (o : Ops A) (inputs : ℕ) (ws : List (List ℕ)) (layers : List (Layer A)) → 1 ≤ length layers → AreAllTerms o inputs layers → (2 ≤ length layers → AreLayers o inputs layers) → AreTargets inputs ws layers → AreNarrowWith most_wires ws layers
+      → 1 ≤ output_count layers + length (targets_at ws 0) → (under_of inputs layers).wires + target_count ws layers ≤ most_total → (under_of inputs layers).terms + target_count ws layers ≤ most_total
       → AreLayersOf o 2 inputs (attached_layers o ws layers)
   attached-layers o inputs ws [] many terms h t narrow some wires all = absurd (omega (arith, many))
   attached-layers o inputs ws (layer ∷ []) many terms h t narrow some wires all = (placed-layer o inputs ws layer [] terms t narrow some wires all, tt)

@@ -5,6 +5,7 @@ use Rattle.std.proofs.Common.{inl, inr, refl, sym, ap, ◌∙◌, arith, subst, 
 use Rattle.std.proofs.lemmas.Bool.{cases_lt}
 use Rattle.std.proofs.lemmas.List.{drop_more, drop_all, reverse-append, ext_get_or, length-map}
 use Rattle.std.proofs.lemmas.List.FromFn.{length-map-range_with_len, get_or-map-range_with_len}
+use Rattle.lzk_circuit.specs.Limits.{most_wires}
 use Rattle.lzk_field.specs.Ring.{Ops}
 use Rattle.lzk_field.specs.Sums.{entry}
 use Rattle.lzk_circuit.specs.declared.layer.Layer.{Layer}
@@ -211,7 +212,7 @@ module _ {A : Type 0} (o : Ops A) where
 
   -- a layer may be shared, which stands before those that are
   pub layer-before : (inputs : ℕ) (ws : List (List ℕ)) (layers : List (Layer A)) (i : ℕ) (moved : List (List ℕ)) (kept : List (Layer A)) (numbers : List ℕ) (layer : Layer A) → 1 < i → i ≤ length layers → layer ≡ get_or layers (i - 1) layer
-      → AreLayers o inputs layers → SharedFrom inputs ws layers i moved kept numbers → (1 ≤ layer.wires) × (layer.wires ≤ 131072) × AreTerms o layer.wires (length numbers) None layer.terms
+      → AreLayers o inputs layers → SharedFrom inputs ws layers i moved kept numbers → (1 ≤ layer.wires) × (layer.wires ≤ most_wires) × AreTerms o layer.wires (length numbers) None layer.terms
   layer-before inputs ws layers i moved kept numbers layer some l e valid s =
       let is = layer-at inputs layers (i - 1) layer (omega (arith, some, l)) e valid in
       let next : i - 1 + 1 ≡ i = omega (arith, some) in

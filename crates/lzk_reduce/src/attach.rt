@@ -5,6 +5,7 @@ ghost use Rattle.lzk_circuit.specs.Valid.{AreLayers, under_of};
 ghost use Rattle.lzk_reduce.specs.Attached.{attached, attached_layers, AreNarrowWith, IsAssertingForm};
 ghost use Rattle.lzk_reduce.specs.Reduced.{HaveOnes, output_count};
 ghost use Rattle.lzk_reduce.specs.Targets.{targets_at, AreAllTerms, AreTargets, target_count};
+ghost use Rattle.lzk_circuit.specs.Limits.{most_wires, most_total};
 
 use crate::reduce::reduced_with;
 use crate::reducible::Reducible;
@@ -47,7 +48,7 @@ fn attached<F: Field>(
     targets: &[Targets],
 ) -> Result<Vec<Layer<F>>, AllocError>
     requires lists { length targets.now ≡ length layers.now }
-    requires few { AreNarrowWith 131072 targets.now layers.now }
+    requires few { AreNarrowWith most_wires targets.now layers.now }
     ensures { IfOk result (λ all. all.items ≡ attached_layers F.ops targets.now layers.now) }
 {
     let mut all = Vec::with_capacity(alloc, layers.len())?;
@@ -73,9 +74,9 @@ pub fn asserting<F: Field>(
     requires targets { AreTargets inputs targets.now layers.now }
     requires lists { length targets.now ≡ length layers.now }
     requires checks { 1 ≤ output_count layers.now + length (targets_at targets.now 0) }
-    requires narrow { AreNarrowWith 131072 targets.now layers.now }
-    requires few_wires { (under_of inputs layers.now).wires + target_count targets.now layers.now ≤ 2097152 }
-    requires few_terms { (under_of inputs layers.now).terms + target_count targets.now layers.now ≤ 2097152 }
+    requires narrow { AreNarrowWith most_wires targets.now layers.now }
+    requires few_wires { (under_of inputs layers.now).wires + target_count targets.now layers.now ≤ most_total }
+    requires few_terms { (under_of inputs layers.now).terms + target_count targets.now layers.now ≤ most_total }
     ensures { IfOk result (λ all. IsAssertingForm F.ops F.coding.number inputs targets.now layers.now all.items) }
 {
     if layers.len() == 1 {

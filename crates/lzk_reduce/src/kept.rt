@@ -5,6 +5,7 @@ ghost use Rattle.lzk_reduce.specs.Rows.{IsRow, placed};
 ghost use Rattle.lzk_reduce.specs.Renumbering.{at, of_wire};
 ghost use Rattle.lzk_reduce.specs.Kept.{IsKept, IsTable, place_of, places_of, slot_of, link_at};
 ghost use Rattle.lzk_reduce.specs.Hash.{mixed, hash_from};
+ghost use Rattle.lzk_circuit.specs.Limits.{most_wires};
 
 use crate::rows::append;
 use lzk_circuit::Term;
@@ -156,7 +157,7 @@ fn add_wire<F: Field>(
     row: &[Term<F>],
     slot: usize,
 ) -> Result<u32, AllocError>
-    requires few { kept.now.count < 131072 }
+    requires few { kept.now.count < most_wires }
     requires table { IsTable kept.now }
     requires slot { slot ≡ slot_of (length kept.now.heads.items) (map (place_of F.coding.number) row.now) }
     requires within { slot < length kept.now.heads.items }
@@ -184,7 +185,7 @@ fn add_wire<F: Field>(
 
 /// The kept wire with this row: an earlier one, or a new one.
 pub fn wire_of<F: Field>(kept: &mut KeptWires<F>, row: &[Term<F>]) -> Result<u32, AllocError>
-    requires few { kept.now.count < 131072 }
+    requires few { kept.now.count < most_wires }
     requires table { IsTable kept.now }
     ensures table { IfOk result (λ _. IsTable kept.new) }
     ensures kept { (width : ℕ) → IsKept F.ops F.coding.number width kept.old → IsRow F.ops width row.now →

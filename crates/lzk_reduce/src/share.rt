@@ -7,6 +7,7 @@ ghost use Rattle.lzk_reduce.specs.Renumbering.{at, AreNumbersBelow, AreCopies};
 ghost use Rattle.lzk_reduce.specs.Reduced.{HasOne, HaveOnes, AreDifferent, AreInnerDifferent};
 ghost use Rattle.lzk_reduce.specs.Targets.{AreTargets};
 ghost use Rattle.lzk_reduce.specs.Asserting.{IsForm};
+ghost use Rattle.lzk_circuit.specs.Limits.{most_wires};
 
 use crate::kept::{none_kept, wire_of};
 use crate::reducible::Reducible;
@@ -24,7 +25,7 @@ fn shared_layer<F: Field>(
 ) -> Result<(Layer<F>, Vec<u32>), AllocError>
     requires terms { AreTerms F.ops layer.now.wires (length numbers.now) None layer.now.terms }
     requires some { 1 ≤ layer.now.wires }
-    requires most { layer.now.wires ≤ 131072 }
+    requires most { layer.now.wires ≤ most_wires }
     ensures count { IfOk result (λ shared. length shared.1.items ≡ layer.now.wires) }
     ensures below { IfOk result (λ shared. AreNumbersBelow shared.0.wires shared.1.items) }
     ensures first { IfOk result (λ shared. at shared.1.items 0 ≡ 0) }

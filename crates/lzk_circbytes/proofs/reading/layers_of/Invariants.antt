@@ -1,4 +1,5 @@
 use Rattle.std.proofs.Common.{◌≡◌, ◌≤◌, ◌-◌, map, length}
+use Rattle.lzk_circuit.specs.Limits.{most_total}
 use Rattle.lzk_circuit.specs.Valid.{above_layer}
 use Rattle.lzk_circbytes.specs.Numbered.{numbered_layer, is_coefficient}
 use Rattle.lzk_circbytes.specs.Reading.{many, layer_at, layers_at}
@@ -10,8 +11,8 @@ abbrev pub invariant-loop : goal.invariant-loop
 invariant-loop g l =
     let number = g.F.Field.coding.number in
     record {
-      wires : l.below.wires ≤ 2097152;
-      terms : l.below.terms ≤ 2097152;
+      wires : l.below.wires ≤ most_total;
+      terms : l.below.terms ≤ most_total;
       flags : length l.used ≡ length l.constants;
       used : Marks (map number l.constants) (is_coefficient (map (numbered_layer number) l.layers.items)) l.fn.used l.used;
       read : with_front (map (numbered_layer number) l.layers.items) (many above_layer (layer_at (map number l.constants)) (l.count - l.counter) (under l.below.width l.below.wires l.below.terms) l.rest)

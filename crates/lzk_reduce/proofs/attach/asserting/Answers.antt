@@ -1,5 +1,6 @@
 use Rattle.std.proofs.Common.{◌≡◌, ◌∙◌, ap, sym, subst}
 use Rattle.std.proofs.lemmas.Result.{IfOk-weaker}
+use Rattle.lzk_circuit.specs.Limits.{most_wires}
 use Rattle.lzk_reduce.specs.Attached.{attached_layers, AreNarrowWith, IsAssertingForm}
 use Rattle.lzk_reduce.proofs.AssertedForm.{single-form, reduced-form}
 use Rattle.lzk_reduce.proofs.FormLaws.{still-narrow}
@@ -21,8 +22,8 @@ attached-requires-2-clause-few g c κs within =
     let f = c.in_ok-kept.ensures.form in
     let moved = c.in_ok-kept.moved.items in
     let kept = c.in_ok-kept.kept.items in
-    subst (λ ms. AreNarrowWith 131072 ms c.deref.result.now) (sym c.deref-2.ensures.value)
-    (subst (AreNarrowWith 131072 moved) (sym c.deref.ensures.value) (still-narrow 131072 moved c.args.targets.now kept c.args.layers.now f.count f.fewer f.as_many c.requires.narrow))
+    subst (λ ms. AreNarrowWith most_wires ms c.deref.result.now) (sym c.deref-2.ensures.value)
+    (subst (AreNarrowWith most_wires moved) (sym c.deref.ensures.value) (still-narrow most_wires moved c.args.targets.now kept c.args.layers.now f.count f.fewer f.as_many c.requires.narrow))
 
 pub returns : goal.returns
 returns g c =
