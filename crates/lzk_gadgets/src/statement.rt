@@ -8,6 +8,7 @@ ghost use Rattle.lzk_level.specs.Bounds.{IsLevelError};
 ghost use Rattle.lzk_level.specs.Nodes.{node_count, nodes_from, IsNode};
 ghost use Rattle.lzk_circuit.specs.Wires.{inputs_of, wires_of};
 ghost use Rattle.lzk_gadgets.specs.Claims.{AreInputs, AreAllZero, Holds, value, Makes, Adds};
+ghost use Rattle.lzk_circuit.specs.Limits.{most_privates, most_publics, most_wires};
 
 use lzk_circuit::Circuit;
 use lzk_goldilocks::Gold;
@@ -51,8 +52,8 @@ fn has_room(builder: &Builder<Gold>) -> Result<(), AllocError>
 impl Statement {
     /// A statement of so many inputs, which claims nothing.
     pub fn new(alloc: Global, publics: u32, privates: u32) -> Result<Statement, AllocError>
-        requires publics { publics ≤ 65535 }
-        requires privates { privates ≤ 65536 }
+        requires publics { publics ≤ most_publics }
+        requires privates { privates ≤ most_privates }
         ensures { IfOk result (λ s. s ≡ record { nodes = nodes_from publics privates []; asserts = [] }) }
     {
         let builder = Builder::new(alloc, publics, privates)?;
@@ -141,7 +142,7 @@ impl Statement {
     /// assert or more. A fault is the first limit of circuits that its nodes pass.
     pub fn finish(self) -> Result<Circuit<Gold>, LevelError>
         requires some { 1 ≤ length self.asserts }
-        requires few { length self.asserts ≤ 131072 }
+        requires few { length self.asserts ≤ most_wires }
         ensures version { IfOk result (λ c. c.version ≡ 1) }
         ensures publics { IfOk result (λ c. c.publics ≡ self.nodes.publics) }
         ensures privates { IfOk result (λ c. c.privates ≡ self.nodes.privates) }

@@ -3,6 +3,7 @@ use Rattle.std.specs.Prelude.{◌≡◌, ℕ, zero, suc, ◌+◌, ◌*◌, ◌<�
 use Rattle.std.proofs.Common.{refl, sym, ap, ◌∙◌, arith, subst, get_or}
 use Rattle.std.proofs.lemmas.List.{length-map, length-replicate, length-set, map-set, get_or-map, drop_more, drop_all}
 use Rattle.std.proofs.lemmas.Option.{slice_get_within, get_or_from_slice_get}
+use Rattle.lzk_circuit.specs.Limits.{most_wires}
 use Rattle.lzk_field.specs.Ring.{Ops, RingLaws, Laws}
 use Rattle.lzk_field.specs.Sums.{entry}
 use Rattle.lzk_field.proofs.RingBasics.{one_times}
@@ -22,7 +23,7 @@ use Rattle.lzk_reduce.specs.Renumbering.{at}
 use Rattle.lzk_level.specs.Nodes.{node_count, IsNode}
 use Rattle.lzk_gadgets.specs.Claims.{Claims, AreInputs, AreNodes, AreAllZero, value, values, Makes, Yields, Adds}
 use Rattle.lzk_gadgets.proofs.ClaimLaws.{nodes_more, node_at, inputs_kept, keeps_then, values_kept, yields_then, yields_one, yields_none}
-use Rattle.lzk_gadgets_circuits.specs.Counts.{layer_nodes, output_count}
+use Rattle.lzk_gadgets_circuits.specs.Counts.{layer_nodes, output_count, most_nodes}
 
 pub nodes_set : (n : ℕ) (ks : List ℕ) (i k : ℕ) → AreNodes n ks → IsNode n k → AreNodes n (slice_set ks i k)
 nodes_set n [] i k h one = tt
@@ -210,7 +211,7 @@ module _ {A : Type 0} (o : Ops A) where
   count-nodes n [] = refl
   count-nodes n (layer ∷ layers) = omega (arith, count-nodes n layers)
 
-  pub few-nodes : (c : Wiring A) → IsValid o c → layer_nodes c.layers ≤ 4194816
+  pub few-nodes : (c : Wiring A) → IsValid o c → 1 + layer_nodes c.layers ≤ most_nodes
   few-nodes c valid = omega (arith, count-nodes (input_width c) c.layers, valid.depth, asserted-most (λ x. 0) o c.version (input_width c) c.layers valid.layers)
 
   pub count-outputs : (c : Wiring A) → (under_of (input_width c) c.layers).width ≡ output_count c
@@ -220,11 +221,11 @@ module _ {A : Type 0} (o : Ops A) where
       go [] = refl
       go (layer ∷ layers) = refl
 
-  pub few-outputs : (c : Wiring A) → IsValid o c → (1 ≤ output_count c) × (output_count c ≤ 131072)
+  pub few-outputs : (c : Wiring A) → IsValid o c → (1 ≤ output_count c) × (output_count c ≤ most_wires)
   few-outputs c valid =
       let both = go c.layers valid.some valid.layers in
       (omega (arith, both.0, count-outputs c), omega (arith, both.1, count-outputs c))
     where
-      go : (layers : List (Layer A)) → 1 ≤ length layers → AreLayersOf o c.version (input_width c) layers → (1 ≤ (under_of (input_width c) layers).width) × ((under_of (input_width c) layers).width ≤ 131072)
+      go : (layers : List (Layer A)) → 1 ≤ length layers → AreLayersOf o c.version (input_width c) layers → (1 ≤ (under_of (input_width c) layers).width) × ((under_of (input_width c) layers).width ≤ most_wires)
       go [] some h = absurd (omega (arith, some))
       go (layer ∷ layers) some h = let one = h.0 in (one.some, omega (arith, one.most))

@@ -7,8 +7,9 @@ ghost use Rattle.lzk_circuit.specs.Checks.{IsSatisfied};
 ghost use Rattle.lzk_circuit.specs.Valid.{input_width, IsValid};
 ghost use Rattle.lzk_circuit.specs.Wires.{wires_of};
 ghost use Rattle.lzk_gadgets.specs.Claims.{AreInputs, AreNodes, AreAllZero, values, Yields, Adds};
-ghost use Rattle.lzk_gadgets_circuits.specs.Counts.{layer_nodes, output_count};
+ghost use Rattle.lzk_gadgets_circuits.specs.Counts.{layer_nodes, output_count, most_nodes};
 ghost use Rattle.lzk_level.specs.Nodes.{node_count};
+ghost use Rattle.lzk_circuit.specs.Limits.{most_wires};
 
 use crate::layer::layer_nodes;
 use lzk_circuit::Circuit;
@@ -58,7 +59,7 @@ fn output_nodes(
 }
 
 /// Claims that a circuit of version 1 is satisfied with these nodes for its inputs, the public ones first. It is made
-/// of at most 4,194,817 nodes.
+/// of few nodes, in LZK1 at most 4,194,817.
 pub fn assert_circuit(
     alloc: Global,
     s: &mut Statement,
@@ -68,11 +69,11 @@ pub fn assert_circuit(
     requires version { circuit.now.version ≡ 1 }
     requires count { length inputs.now ≡ circuit.now.publics + circuit.now.privates }
     requires nodes { AreNodes (node_count s.old.nodes) inputs.now }
-    ensures adds { IfOk result (λ _. Adds ops 4194817 (output_count circuit.now) s.old s.new
+    ensures adds { IfOk result (λ _. Adds ops most_nodes (output_count circuit.now) s.old s.new
         (λ public private. IsSatisfied ops number circuit.now.layers
         (ops.one ∷ values ops s.old public private inputs.now))) }
     ensures some { IfOk result (λ _. 1 ≤ output_count circuit.now) }
-    ensures few { IfOk result (λ _. output_count circuit.now ≤ 131072) }
+    ensures few { IfOk result (λ _. output_count circuit.now ≤ most_wires) }
 {
     circuit.valid_laws();
     let one = s.constant(Gold::one())?;

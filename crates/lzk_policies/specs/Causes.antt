@@ -1,5 +1,6 @@
 -- When a policy and a depth give no circuit.
 use Rattle.std.specs.Prelude.{ℕ, ◌<◌, ◌≤◌}
+use Rattle.lzk_circuit.specs.Limits.{most_privates}
 use Rattle.lzk_beside.specs.Levels.{IsCause}
 use Rattle.lzk_circuit.specs.Valid.{Wiring}
 use Rattle.lzk_goldilocks.specs.declared.element.Gold.{Gold}
@@ -15,7 +16,7 @@ use Rattle.lzk_policies.specs.declared.error.RootedError.TheVariants.{Policy, Pa
 abbrev pub IsRootedCause : Contents → ℕ → RootedError → Type 0
 IsRootedCause p depth (Policy e) = IsPolicyCause e
 IsRootedCause p depth (Path e) = IsPathCause depth e
-IsRootedCause p depth Privates = 65536 < private_count p depth
+IsRootedCause p depth Privates = most_privates < private_count p depth
 IsRootedCause p depth (Beside e) = (first : Wiring Gold) × (second : Wiring Gold) × IsCause first second e
 IsRootedCause p depth OutOfMemory = Unit {0}
 
@@ -23,7 +24,7 @@ IsRootedCause p depth OutOfMemory = Unit {0}
 abbrev pub IsCredentialCause : Contents → RootedError → Type 0
 IsCredentialCause p (Policy e) = IsPolicyCause e
 IsCredentialCause p (Path e) = (1 ≤ p.depth) × IsPathCause p.depth e
-IsCredentialCause p Privates = (1 ≤ p.depth) × (65536 < private_count p p.depth)
+IsCredentialCause p Privates = (1 ≤ p.depth) × (most_privates < private_count p p.depth)
 IsCredentialCause p (Beside e) =
     (1 ≤ p.depth) × ((first : Wiring Gold) × (second : Wiring Gold) × IsCause first second e)
 IsCredentialCause p OutOfMemory = Unit {0}

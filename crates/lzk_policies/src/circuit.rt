@@ -9,11 +9,12 @@ ghost use Rattle.lzk_policy.specs.Policies.{Contents};
 ghost use Rattle.lzk_policy_circuit.specs.Meaning.{public_count, values_of};
 ghost use Rattle.lzk_policies.specs.Causes.{IsRootedCause};
 ghost use Rattle.lzk_policies.specs.Rooted.{IsShownUnder, SatisfyUnder, private_count};
+ghost use Rattle.lzk_circuit.specs.Limits.{most_privates, most_publics};
 
 use crate::error::RootedError;
 use crate::places::places_of;
 use lzk_beside::{Part, beside};
-use lzk_circuit::Circuit;
+use lzk_circuit::{Circuit, MOST_PRIVATES};
 use lzk_goldilocks::Gold;
 use lzk_policy::Policy;
 use lzk_policy_circuit::policy_circuit;
@@ -28,12 +29,12 @@ fn joined(
     path: &Circuit<Gold>,
     more: u32,
 ) -> Result<Circuit<Gold>, RootedError>
-    requires more { more ≤ 65527 }
+    requires more { more + 8 ≤ most_publics }
     requires shown_version { shown.now.version ≡ 1 }
     requires shown_publics { shown.now.publics ≡ 8 + more }
     requires path_version { path.now.version ≡ 1 }
     requires path_publics { path.now.publics ≡ 16 }
-    requires privates { shown.now.privates + 8 + path.now.privates ≤ 65536 }
+    requires privates { shown.now.privates + 8 + path.now.privates ≤ most_privates }
     ensures version { IfOk result (λ c. c.version ≡ 1) }
     ensures publics { IfOk result (λ c. c.publics ≡ 8 + more) }
     ensures privates { IfOk result (λ c. c.privates ≡ shown.now.privates + 8 + path.now.privates) }
@@ -97,7 +98,7 @@ pub fn rooted_circuit(
 {
     let shown = policy_circuit(alloc, policy)?;
     let path = path_circuit(alloc, depth)?;
-    if shown.privates() + 8 + path.privates() > 65536 {
+    if shown.privates() + 8 + path.privates() > MOST_PRIVATES {
         return Err(RootedError::Privates);
     }
     let more = shown.publics() - 8;

@@ -4,6 +4,7 @@ ghost use Rattle.std.specs.Prelude.{◌≡◌};
 ghost use Rattle.lzk_policies.specs.declared.error.RootedError.TheVariants.{Path, Policy};
 
 use lzk_beside::BesideError;
+use lzk_circuit::MOST_PRIVATES;
 use lzk_policy_circuit::PolicyCircuitError;
 use lzk_sha_path::PathError;
 use thiserror::Error;
@@ -17,8 +18,8 @@ pub enum RootedError {
     /// The path has no circuit.
     #[error("{0}")]
     Path(PathError),
-    /// A circuit has at most 65,536 private inputs.
-    #[error("more than 65536 private inputs")]
+    /// A circuit has at most [`MOST_PRIVATES`] private inputs.
+    #[error("more than {most} private inputs", most = MOST_PRIVATES)]
     Privates,
     /// The two do not stand beside one another.
     #[error("{0}")]

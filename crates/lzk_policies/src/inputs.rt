@@ -19,6 +19,7 @@ use crate::refusal::RootedInputsError;
 use lzk_goldilocks::Gold;
 use lzk_policy::Policy;
 use lzk_policy_inputs::{PolicyInputs, Value, policy_inputs};
+use lzk_profile::MOST_LEVELS;
 use lzk_sha_path::{PathError, PathInputs, path_inputs};
 use sha2::{Digest, Sha256};
 use std::alloc::{AllocError, Global};
@@ -29,7 +30,7 @@ use std::marker::Model;
 pub struct Place<'a> {
     /// The leaf's number in its row, counted from 0.
     pub index: u32,
-    /// The nodes beside the path from the leaf to the root, the lowest first: one to six.
+    /// The nodes beside the path from the leaf to the root, the lowest first: one to [`MOST_LEVELS`].
     pub siblings: &'a [[u32; 8]],
 }
 
@@ -106,14 +107,14 @@ fn node_laws(nodes: &[[u32; 8]])
     node_laws(others);
 }
 
-// Whether the path has one to six levels, and the leaf's number is one of its row.
+// Whether the path has one level to MOST_LEVELS, and the leaf's number is one of its row.
 fn check_place(place: &Place<'_>) -> Result<(), RootedInputsError>
     ensures within { IfOk result (λ _. place.now.index < 2 ^ length place.now.siblings.now) }
     ensures refusal { (p : Contents) (m : List ℕ) (vs : List value.Value) →
         IfErr result (IsRootedRefusal p m vs place.now.index (length place.now.siblings.now)) }
 {
     let depth = place.siblings.len();
-    if depth == 0 || depth > 6 {
+    if depth == 0 || depth > MOST_LEVELS as usize {
         return Err(RootedInputsError::Path(PathError::Depth));
     }
     if place.index >= 1 << depth {

@@ -2,6 +2,7 @@
 use Rattle.std.specs.Prelude.{◌≡◌, ℕ, ◌+◌, ◌^◌, ◌≤◌, ◌<◌, nat_lt, nat_le, ◌==◌, ◌&&◌, ◌||◌, Bool, true, false, not, IsTrue, List, [], ◌∷◌, ◌++◌, length, Option, Some, None, Result, Ok, Err, slice_get, is_some, if◌then◌else◌}
 use Rattle.std.specs.Str.{bytes_eq}
 use Rattle.std.specs.List.{list_all, AllByRecursion}
+use Rattle.lzk_profile.specs.Profile.{most_levels}
 use Rattle.lzk_expr.specs.Texts.{lines}
 use Rattle.lzk_policy.specs.declared.policy.FieldKind.{FieldKind}
 use Rattle.lzk_policy.specs.declared.policy.FieldKind.TheVariants as kinds
@@ -88,10 +89,6 @@ IsField size f = IsTrue (has_size f.kind f.size) × IsTrue (lies_within size f)
 -- what is shown suits a field of the policy
 abbrev pub IsShowOf : List RecordField → Show → Type 0
 IsShowOf fields s = (f : RecordField) × (slice_get fields s.field ≡ Some f) × IsTrue (suits f s.claim)
-
--- how many levels there are at most between a digest and a root
-abbrev pub most_levels : ℕ
-most_levels = 6
 
 abbrev pub most_shows : ℕ
 most_shows = 8

@@ -10,6 +10,7 @@ use crate::policy::{Claim, FieldKind, Policy, RecordField, Show};
 use crate::reading::read_line;
 use crate::words::is_skipped;
 use lzk_expr::Name;
+use lzk_profile::MOST_LEVELS;
 use std::alloc::Global;
 
 /// What the lines so far say.
@@ -32,9 +33,6 @@ const MOST_BYTES: u32 = 55;
 
 /// The most fields.
 const MOST_FIELDS: usize = 32;
-
-/// The most levels between the digest and a root.
-const MOST_LEVELS: u32 = 6;
 
 /// The most that is shown beside the digest.
 const MOST_SHOWS: usize = 8;

@@ -19,7 +19,7 @@ pub enum PolicyKind {
     Unknown,
     /// What is shown does not suit the field.
     Claim,
-    /// There are too many fields, or too much is shown, or a root has not one to six levels below it.
+    /// There are too many fields, or too much is shown, or a root has no level below it or too many.
     Limit,
     /// The text ends before a record, its digest or a root and one thing more are there.
     Missing,

@@ -5,6 +5,7 @@ ghost use Rattle.std.specs.List.{AllByRecursion};
 ghost use Rattle.lzk_policy.specs.Policies.{IsShowOf, suits};
 ghost use Rattle.lzk_policy_circuit.specs.Layout as layout;
 ghost use Rattle.lzk_policy_circuit.specs.Meaning as meaning;
+ghost use Rattle.lzk_circuit.specs.Limits.{most_privates};
 
 use lzk_policy::{Claim, Policy, RecordField, Show};
 
@@ -70,7 +71,7 @@ pub fn field_of<'a>(fields: &'a [RecordField], show: &Show) -> &'a RecordField
 pub fn padded(needed: u32) -> u32
     ensures count { result ≡ layout.padded needed }
     ensures enough { needed ≤ result }
-    ensures few { needed ≤ 65536 → result ≤ 65536 }
+    ensures few { needed ≤ most_privates → result ≤ most_privates }
 {
     if needed < IDLE_FROM {
         needed

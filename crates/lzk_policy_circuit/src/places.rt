@@ -3,6 +3,7 @@
 ghost use Rattle.std.specs.Prelude.{◌≡◌, ◌+◌, ◌*◌, ◌≤◌, ◌++◌, IfOk};
 ghost use Rattle.std.specs.List.{range_with_len};
 ghost use Rattle.lzk_policy_circuit.specs.Places as spots;
+ghost use Rattle.lzk_circuit.specs.Limits.{most_publics, most_privates, most_width};
 
 use std::alloc::{AllocError, Global};
 
@@ -16,8 +17,8 @@ pub struct HashPlaces {
     pub words: u32,
     pub bits: u32,
     pub rest: u32,
-    pub ghost few_publics: { publics ≤ 65535 },
-    pub ghost few_privates: { privates ≤ 65536 },
+    pub ghost few_publics: { publics ≤ most_publics },
+    pub ghost few_privates: { privates ≤ most_privates },
     pub ghost short: { len ≤ 55 },
     pub ghost words_stand: { words + 8 ≤ publics },
     pub ghost bits_stand: { bits + 8 * len ≤ privates },
@@ -26,7 +27,7 @@ pub struct HashPlaces {
 
 // Appends so many places in a row.
 fn push_range(places: &mut Vec<u32>, start: u32, count: u32) -> Result<(), AllocError>
-    requires { start + count ≤ 262144 }
+    requires { start + count ≤ 2 * most_width }
     ensures { IfOk result (λ _. places.new.items ≡ places.old.items ++ range_with_len start count) }
 {
     for k in 0..count {
@@ -37,7 +38,7 @@ fn push_range(places: &mut Vec<u32>, start: u32, count: u32) -> Result<(), Alloc
 
 /// So many places in a row.
 pub fn row(alloc: Global, start: u32, count: u32) -> Result<Vec<u32>, AllocError>
-    requires { start + count ≤ 262144 }
+    requires { start + count ≤ 2 * most_width }
     ensures { IfOk result (λ places. places.items ≡ range_with_len start count) }
 {
     let mut places = Vec::new(alloc);

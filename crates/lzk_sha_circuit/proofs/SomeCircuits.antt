@@ -148,7 +148,7 @@ pub some_compression : SomeCompressionCircuit
 some_compression given ok =
     let o = gold.ops in
     let element = gold.of_number in
-    let decide = zero_or_not o p (λ (x : Gold). x.n) element 8 gold.numbers in
+    let decide = zero_or_not o p (λ (x : Gold). x.n) element element_bytes gold.numbers in
     let (t0, outer) = some_built o gold.ring gold.field decide (inner_count given) (output_rows o element given) (output_within o element given ok) in
     let (t1, inner) = some_built o gold.ring gold.field decide (input_count given) (inner_rows o element given) (inner_within o element given ok) in
     let layers = two_layers given t0 t1 in

@@ -11,6 +11,7 @@ ghost use Rattle.lzk_sha_circuit.specs.Places.{private_count, total_count};
 ghost use Rattle.lzk_sha_circuit.specs.Found.{places_of};
 ghost use Rattle.lzk_sha_circuit.specs.Outputs.{AreCompressing, compression_outputs, sha_outputs};
 ghost use Rattle.lzk_sha_circuit.specs.Layers.{input_count};
+ghost use Rattle.lzk_circuit.specs.Limits.{most_privates, most_layers};
 
 use crate::given::Given;
 use crate::inner::inner_terms;
@@ -45,9 +46,9 @@ fn layers_of(alloc: Global, given: &Given) -> Result<Vec<Layer<Gold>>, AllocErro
 }
 
 fn circuit_of(privates: u32, layers: Vec<Layer<Gold>>) -> Circuit<Gold>
-    requires privates { privates ≤ 65536 }
+    requires privates { privates ≤ most_privates }
     requires some { 1 ≤ length layers.items }
-    requires most { length layers.items ≤ 512 }
+    requires most { length layers.items ≤ most_layers }
     requires layers { AreLayers ops (1 + 8 + privates) layers.items }
     ensures circuit { result ≡ wiring 8 privates layers.items }
     ensures valid { IsValid ops result }

@@ -7,6 +7,7 @@ ghost use Rattle.lzk_goldilocks.specs.Elements.{ops, number};
 ghost use Rattle.lzk_goldilocks.specs.declared.element.Gold.{Gold};
 ghost use Rattle.lzk_sha_path.specs.Causes.{IsPathCause};
 ghost use Rattle.lzk_sha_path.specs.Climbs.{private_count, between, level_count, AreClimbing, IsClimb};
+ghost use Rattle.lzk_profile.specs.Profile.{most_levels};
 
 use crate::error::PathError;
 use crate::level::level_circuit;
@@ -14,6 +15,7 @@ use crate::places::{Run, places_of};
 use lzk_beside::{Part, beside};
 use lzk_circuit::Circuit;
 use lzk_goldilocks::Gold;
+use lzk_profile::MOST_LEVELS;
 use std::alloc::Global;
 
 // The circuit of one level.
@@ -31,7 +33,7 @@ struct LevelsAbove<'a> {
     circuit: &'a Circuit<Gold>,
     count: u32,
     ghost some: { 1 ≤ count },
-    ghost few: { count < 6 },
+    ghost few: { count < most_levels },
     ghost version: { circuit.now.version ≡ 1 },
     ghost publics: { circuit.now.publics ≡ 16 },
     ghost privates: { circuit.now.privates ≡ private_count count },
@@ -88,8 +90,8 @@ fn with_levels(
     }
 }
 
-/// The circuit of a path of one to six levels. Its public inputs are the eight words of a leaf, and the eight words of
-/// a root.
+/// The circuit of a path of one level to [`MOST_LEVELS`]. Its public inputs are the eight words of a leaf, and the eight
+/// words of a root.
 pub fn path_circuit(alloc: Global, depth: u32) -> Result<Circuit<Gold>, PathError>
     ensures version { IfOk result (λ c. c.version ≡ 1) }
     ensures publics { IfOk result (λ c. c.publics ≡ 16) }
@@ -102,10 +104,10 @@ pub fn path_circuit(alloc: Global, depth: u32) -> Result<Circuit<Gold>, PathErro
         IfOk result (λ c. IsSatisfied ops number c.layers (inputs_of ops (leaf ++ root) private) ↔
         AreClimbing depth leaf root private) }
     ensures some { IfOk result (λ _. 1 ≤ depth) }
-    ensures few { IfOk result (λ _. depth ≤ 6) }
+    ensures few { IfOk result (λ _. depth ≤ most_levels) }
     ensures cause { IfErr result (IsPathCause depth) }
 {
-    if depth == 0 || depth > 6 {
+    if depth == 0 || depth > MOST_LEVELS {
         return Err(PathError::Depth);
     }
     let level = level_circuit(alloc)?;

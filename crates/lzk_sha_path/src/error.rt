@@ -5,14 +5,15 @@ ghost use Rattle.lzk_sha_path.specs.declared.error.PathError.TheVariants.{OutOfM
 
 use lzk_beside::BesideError;
 use lzk_level::LevelError;
+use lzk_profile::MOST_LEVELS;
 use std::alloc::AllocError;
 use thiserror::Error;
 
 /// Why there is no circuit of a path, or no inputs.
 #[derive(Debug, Drop, Error)]
 pub enum PathError {
-    /// A path has one to six levels.
-    #[error("path has not one to six levels")]
+    /// A path has one level to [`MOST_LEVELS`].
+    #[error("path has not one to {most} levels", most = MOST_LEVELS)]
     Depth,
     /// The statement of a level would pass a limit of circuits.
     #[error("{0}")]

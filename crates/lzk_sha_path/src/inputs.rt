@@ -14,6 +14,7 @@ use crate::error::PathError;
 use lzk_field::Field;
 use lzk_goldilocks::Gold;
 use lzk_lanes::INITIAL_HASH;
+use lzk_profile::MOST_LEVELS;
 use lzk_sha_circuit::{ShaInputs, compression_inputs, numbers_of, state_from};
 use std::alloc::{AllocError, Global};
 
@@ -172,7 +173,7 @@ fn with_root(alloc: Global, leaf: [u32; 8], root: &[Gold]) -> Result<Vec<Gold>, 
     Ok(words)
 }
 
-/// The inputs of a path from the leaf of this number, beside one to six nodes, the lowest first.
+/// The inputs of a path from the leaf of this number, beside one node to [`MOST_LEVELS`], the lowest first.
 ///
 /// They satisfy the circuit of as many levels ([`crate::path_circuit`]).
 pub fn path_inputs(
@@ -192,7 +193,7 @@ pub fn path_inputs(
     let Some((first, others)) = siblings.split_first() else {
         return Err(PathError::Depth);
     };
-    if siblings.len() > 6 {
+    if siblings.len() > MOST_LEVELS as usize {
         return Err(PathError::Depth);
     }
     let path = climb(alloc, leaf, index, *first, others)?;

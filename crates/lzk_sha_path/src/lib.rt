@@ -1,4 +1,4 @@
-//! A leaf under a root of a tree of SHA-256 nodes (FIPS 180-4), as a circuit over the Goldilocks field.
+//! A leaf under a root of a tree of SHA-256 nodes (FIPS 180-4), as a circuit over the prime field.
 //!
 //! A node is the state that one compression, from the initial hash value, of the 64 bytes of its two children gives.
 //! Leaf and root are public; the nodes beside the path and the leaf's number stay private. A caller writes

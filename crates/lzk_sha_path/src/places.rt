@@ -2,6 +2,7 @@
 
 ghost use Rattle.std.specs.Prelude.{◌≡◌, ◌+◌, ◌≤◌, ◌++◌, IfOk};
 ghost use Rattle.std.specs.List.{range_with_len};
+ghost use Rattle.lzk_circuit.specs.Limits.{most_width};
 
 use std::alloc::{AllocError, Global};
 
@@ -10,7 +11,7 @@ use std::alloc::{AllocError, Global};
 pub(crate) struct Run {
     pub start: u32,
     pub count: u32,
-    pub ghost few: { start + count ≤ 131072 },
+    pub ghost few: { start + count ≤ most_width },
 }
 
 // Appends places in a row.

@@ -7,6 +7,7 @@ ghost use Rattle.lzk_goldilocks.specs.declared.element.Gold.{Gold};
 ghost use Rattle.lzk_level.specs.Nodes.{node_count};
 ghost use Rattle.lzk_gadgets.specs.Claims.{AreInputs, Holds, Keeps, Makes, value};
 ghost use Rattle.lzk_sha_path.specs.Levels.{bits_worth, chosen_word, side};
+ghost use Rattle.lzk_circuit.specs.Limits.{most_privates};
 
 use lzk_field::Field;
 use lzk_gadgets::Statement;
@@ -18,7 +19,7 @@ use std::alloc::AllocError;
 fn number(s: &mut Statement, at: u32, count: u32) -> Result<Node, AllocError>
     requires few { count ≤ 32 }
     requires there { at + count ≤ s.old.nodes.privates }
-    requires inputs { s.old.nodes.privates ≤ 65536 }
+    requires inputs { s.old.nodes.privates ≤ most_privates }
     requires room { node_count s.old.nodes + (1 + count) ≤ 2147483648 }
     ensures makes { IfOk result (λ node. Makes ops (1 + count) s.old s.new node) }
     ensures value { (public private : List Gold) → AreInputs s.old public private →

@@ -7,7 +7,7 @@ use Rattle.lzk_circuit.specs.Wires.{wires_of}
 use Rattle.lzk_level.specs.Nodes.{node_count}
 use Rattle.lzk_gadgets.specs.Claims.{AreNodes, AreAllZero, Adds, value, values}
 use Rattle.lzk_gadgets.proofs.ClaimLaws.{nodes_more, inputs_kept, values_kept, yields_one, yields_then}
-use Rattle.lzk_gadgets_circuits.specs.Counts.{layer_nodes, output_count}
+use Rattle.lzk_gadgets_circuits.specs.Counts.{layer_nodes, output_count, most_nodes}
 use Rattle.lzk_gadgets_circuits.proofs.NodeLaws.{yields_adds, zero-satisfied, few-nodes, few-outputs}
 use Rattle.lzk_gadgets_circuits.proofs.asserting.assert_circuit.Goals as goal
 
@@ -48,8 +48,8 @@ returns-clause-adds c =
     c.in_ok-extend_from_slice.ensures.items ∙ ap (λ ks. ks ++ inputs) (c.in_ok-push.ensures.items ∙ ap (λ ks. ks ++ one ∷ []) c.new-below.ensures.items) in
     let count : length zeros ≡ output_count circuit = ap length c.deref.ensures.value ∙ found.count in
     let y = yields_then ops 1 (layer_nodes circuit.layers) (1 + layer_nodes circuit.layers) s t u (one ∷ []) outputs (yields_one ops 1 s t one (one ∷ []) m (m.there, tt)) found.yields (omega arith) in
-    subst (λ n. Adds ops 4194817 n s c.assert_zeros.new.s (λ i j. IsSatisfied ops number circuit.layers (ops.one ∷ values ops s i j inputs))) count
-    (yields_adds ops (1 + layer_nodes circuit.layers) 0 4194817 (length zeros) s u c.assert_zeros.new.s outputs
+    subst (λ n. Adds ops most_nodes n s c.assert_zeros.new.s (λ i j. IsSatisfied ops number circuit.layers (ops.one ∷ values ops s i j inputs))) count
+    (yields_adds ops (1 + layer_nodes circuit.layers) 0 most_nodes (length zeros) s u c.assert_zeros.new.s outputs
     (λ i j. AreAllZero ops (values ops u i j zeros)) (λ i j. IsSatisfied ops number circuit.layers (ops.one ∷ values ops s i j inputs)) y c.in_ok-assert_zeros.ensures (omega (arith, few-nodes ops circuit c.valid_laws.ensures))
     (λ i j a.
     let b = inputs_kept ops 1 s t i j m.keeps a in
