@@ -2,7 +2,7 @@
 use Rattle.std.specs.Prelude.{◌≡◌, ℕ, List, map}
 use Rattle.lzk_circbytes.specs.declared.any.AnyCircuit.{AnyCircuit}
 use Rattle.lzk_circbytes.specs.declared.fault.ByteKind.{ByteKind}
-use Rattle.lzk_circbytes.specs.Files.{CircuitBytes, CircuitFaultAt}
+use Rattle.lzk_circbytes.specs.Files.{CircuitBytes, CircuitFaultAt, most_file}
 use Rattle.lzk_expr.specs.declared.fault.NumberFault.{NumberFault}
 use Rattle.lzk_expr.specs.Numbers.{NumberText, IsNumberFault}
 use Rattle.lzk_expr.specs.declared.source_fault.SourceFault.{SourceFault}
@@ -14,7 +14,7 @@ use Rattle.lzk_cmd_files.specs.Formats.{Format}
 use Rattle.lzk_cmd_files.specs.Lines.{byte_line, byte_kind_name, text_line, number_kind_name, source_kind_name, level_line}
 
 abbrev pub circuit_limit : ℕ
-circuit_limit = 67108864
+circuit_limit = most_file
 
 -- circuit files, with the offset and the kind of a fault
 abbrev pub circuit_files : Format AnyCircuit (ℕ × ByteKind)

@@ -2,6 +2,7 @@
 use Rattle.std.specs.Prelude.{ℕ, ◌==◌, List, [], ◌∷◌, ◌++◌, Option, Some, None, cond, codes}
 use Rattle.std.specs.Fmt.{decimal}
 use Rattle.hex.specs.Hex.{encode_lower}
+use Rattle.lzk_profile.specs.Profile.{most_wires, most_total}
 use Rattle.lzk_circbytes.specs.declared.fault.ByteKind.{ByteKind}
 use Rattle.lzk_circbytes.specs.declared.fault.ByteKind.TheVariants as bytes
 use Rattle.lzk_expr.specs.declared.fault.NumberKind.{NumberKind}
@@ -72,8 +73,8 @@ limit_line name kind count limit =
 
 abbrev pub level_line : List ℕ → LevelFault → List ℕ
 level_line name (Layers count) = limit_line name (codes "Layers") count 512
-level_line name (LayerWires count) = limit_line name (codes "LayerWires") count 131072
-level_line name (Terms count) = limit_line name (codes "Terms") count 2097152
+level_line name (LayerWires count) = limit_line name (codes "LayerWires") count most_wires
+level_line name (Terms count) = limit_line name (codes "Terms") count most_total
 
 abbrev pub writing_line : List ℕ → List ℕ
 writing_line name = line (codes "fault: writing " ++ name)

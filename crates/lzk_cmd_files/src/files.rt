@@ -7,11 +7,12 @@ ghost use Rattle.lzk_cmd_files.specs.Walks.{GivesBytes, IsEndingOf, IsHaltOf, Mo
 use crate::ending::{Ending, Halt};
 use crate::lines;
 use crate::load::{LoadFault, load};
+use lzk_circuit::MOST_IN_ALL;
 use lzk_outside::{PutFault, Shelf};
 use std::alloc::{AllocError, Global};
 
-/// The largest circuit file that is read, in bytes.
-pub const MOST_CIRCUIT: usize = 67_108_864;
+/// The largest circuit file that is read, in bytes: no circuit's file has more. In LZK1 it is 2^26.
+pub const MOST_CIRCUIT: usize = 32 * MOST_IN_ALL as usize;
 
 /// The largest number or source file that is read, in bytes.
 pub const MOST_TEXT: usize = 4_194_304;
