@@ -1,5 +1,6 @@
 -- What `eval` and `show` do.
 use Rattle.std.specs.Prelude.{◌≡◌, ◌^◌, ℕ, ◌+◌, List, [], ◌∷◌, ◌++◌, length, map, codes, Option, Some, None}
+use Rattle.lzk_profile.specs.Profile.{field_word}
 use Rattle.lzk_circbytes.specs.declared.any.AnyCircuit.{AnyCircuit}
 use Rattle.lzk_circbytes.specs.declared.any.AnyCircuit.TheVariants.{Gold, Gf}
 use Rattle.lzk_circbytes.specs.Files.{circuit_id, goldilocks, gf128}
@@ -60,7 +61,7 @@ abbrev pub shown : {A : Type 0} → List ℕ → List ℕ → Wiring A → List 
 shown field id c = counts_lines field c.version id c.publics c.privates (length c.layers) ++ layer_lines 0 c.layers
 
 abbrev pub shown_any : AnyCircuit → List ℕ
-shown_any (Gold c) = shown (codes "goldilocks") (circuit_id goldilocks (numbered gold.number c)) c
+shown_any (Gold c) = shown field_word (circuit_id goldilocks (numbered gold.number c)) c
 shown_any (Gf c) = shown (codes "gf2_128") (circuit_id gf128 (numbered gf.number c)) c
 
 unfoldable pub ShowRun : List ℕ → Files → Stop → End → Type 0

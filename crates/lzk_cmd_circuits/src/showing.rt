@@ -13,6 +13,7 @@ use lzk_circuit::Circuit;
 use lzk_cmd_files::{Ending, Halt, Means, lines, read_held};
 use lzk_field::{Field, Gate};
 use lzk_outside::Shelf;
+use lzk_profile::FIELD_WORD;
 use std::alloc::{AllocError, Global};
 use std::marker::Sync;
 use std::thread::Threads;
@@ -73,7 +74,7 @@ fn ending_of(alloc: Global, circuit: &AnyCircuit, id: &[u8; 32]) -> Result<Endin
     ensures { IfOk result (IsEnding (says 0 (shown_any circuit.now))) }
 {
     match circuit {
-        AnyCircuit::Gold(c) => ending(alloc, c, id, "goldilocks"),
+        AnyCircuit::Gold(c) => ending(alloc, c, id, FIELD_WORD),
         AnyCircuit::Gf(c) => ending(alloc, c, id, "gf2_128"),
     }
 }

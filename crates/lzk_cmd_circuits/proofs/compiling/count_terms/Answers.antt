@@ -4,7 +4,7 @@ use Rattle.lzk_cmd_circuits.proofs.compiling.count_terms.Goals as goal
 
 pub overflow_add-count : goal.overflow_add-count
 overflow_add-count g c =
-    let fits : c.loop-l.count + length c.as_slice.result.now ≤ 2097152 =
+    let fits : c.loop-l.count + length c.as_slice.result.now ≤ most_total =
     count_fits g.F.Field.ops c.args.circuit.now c.layer.result.now c.loop-l.l c.loop-l.count (length c.as_slice.result.now) c.depth-l-end.ensures.valid c.layer.ensures (ap length c.as_slice.ensures) c.loop-l.invariant in
     omega (arith, fits)
 
