@@ -14,7 +14,7 @@ use Rattle.lzk_circuit.specs.Valid.{Wiring}
 use Rattle.lzk_expr.specs.Numbers.{NumberText, IsNumberFault}
 use Rattle.lzk_field.specs.Coding.{Coding, coding}
 use Rattle.lzk_field.specs.Ring.{Ops}
-use Rattle.lzk_goldilocks.specs.Prime.{p}
+use Rattle.lzk_goldilocks.specs.Prime.{p, element_bytes, field_byte}
 use Rattle.lzk_goldilocks.specs.Elements as gold
 use Rattle.lzk_gf128.specs.Elements as gf
 use Rattle.lzk_verify.specs.declared.verdict.Verdict.{Verdict}
@@ -66,7 +66,7 @@ SaysOver o e c public session proof (Ok found) = AreShort public session × Judg
 SaysOver o e c public session proof (Err refusal) = Refuses e c public session refusal
 
 abbrev pub SaysOf : AnyCircuit → List ℕ → List ℕ → List ℕ → Result (Verdict ℕ) Refusal → Type 0
-SaysOf (Gold c) = SaysOver gold.ops (coding gold.of_number gold.number 8 p 1) c
+SaysOf (Gold c) = SaysOver gold.ops (coding gold.of_number gold.number element_bytes p field_byte) c
 SaysOf (Gf c) = SaysOver gf.ops (coding gf.of_number gf.number 16 (2 ^ 128) 2) c
 
 -- why a file gives no circuit

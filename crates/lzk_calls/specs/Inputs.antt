@@ -6,7 +6,7 @@ use Rattle.lzk_expr.specs.Numbers.{NumberText, IsNumberFault}
 use Rattle.lzk_field.specs.Coding.{Coding, coding}
 use Rattle.lzk_goldilocks.specs.declared.element.Gold.{Gold as GoldElement}
 use Rattle.lzk_gf128.specs.declared.element.Gf128.{Gf128}
-use Rattle.lzk_goldilocks.specs.Prime.{p}
+use Rattle.lzk_goldilocks.specs.Prime.{p, element_bytes, field_byte}
 use Rattle.lzk_goldilocks.specs.Elements as gold
 use Rattle.lzk_gf128.specs.Elements as gf
 use Rattle.lzk_calls.specs.declared.refusal.Refusal.{Refusal}
@@ -18,7 +18,7 @@ abbrev pub most_session : ℕ
 most_session = 64
 
 abbrev pub gold_coding : Coding GoldElement
-gold_coding = coding gold.of_number gold.number 8 p 1
+gold_coding = coding gold.of_number gold.number element_bytes p field_byte
 
 abbrev pub gf_coding : Coding Gf128
 gf_coding = coding gf.of_number gf.number 16 (2 ^ 128) 2

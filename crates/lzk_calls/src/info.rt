@@ -22,7 +22,7 @@ pub struct Info {
     pub kind: u32,
     /// The byte where it breaks it.
     pub offset: u64,
-    /// 1 for Goldilocks, 2 for GF(2^128).
+    /// 1 for the prime field, 2 for GF(2^128).
     pub field: u32,
     /// 1 or 2.
     pub version: u32,

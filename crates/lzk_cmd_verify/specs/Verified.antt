@@ -7,7 +7,7 @@ use Rattle.lzk_field.specs.Coding.{Coding, coding}
 use Rattle.lzk_field.specs.Ring.{Ops}
 use Rattle.lzk_goldilocks.specs.declared.element.Gold.{Gold as GoldElement}
 use Rattle.lzk_gf128.specs.declared.element.Gf128.{Gf128}
-use Rattle.lzk_goldilocks.specs.Prime.{p}
+use Rattle.lzk_goldilocks.specs.Prime.{p, element_bytes, field_byte}
 use Rattle.lzk_goldilocks.specs.Elements as gold
 use Rattle.lzk_gf128.specs.Elements as gf
 use Rattle.lzk_outside.specs.Outside.{Files}
@@ -54,7 +54,7 @@ VerifyOver o e c public proof session files stop end =
 
 -- how the elements of the two fields are numbered and written
 abbrev pub gold_coding : Coding GoldElement
-gold_coding = coding gold.of_number gold.number 8 p 1
+gold_coding = coding gold.of_number gold.number element_bytes p field_byte
 
 abbrev pub gf_coding : Coding Gf128
 gf_coding = coding gf.of_number gf.number 16 (2 ^ 128) 2
