@@ -1,7 +1,8 @@
 -- The path of a leaf to a root as a text: the leaf's number in its row, and the nodes beside the path.
-use Rattle.std.specs.Prelude.{ℕ, nat_lt, List, [], ◌∷◌, ◌++◌, Option, Some, None, Result, Ok, Err, if◌then◌else◌}
+use Rattle.std.specs.Prelude.{ℕ, ◌^◌, nat_lt, List, [], ◌∷◌, ◌++◌, Option, Some, None, Result, Ok, Err, if◌then◌else◌}
 use Rattle.hex.specs.Hex.{decode_sized}
 use Rattle.sha2.specs.Sha256.{word_at}
+use Rattle.lzk_profile.specs.Profile.{most_levels}
 use Rattle.lzk_expr.specs.Texts.{lines, content, runs, is_plain}
 use Rattle.lzk_policy.specs.Lines.{and_then, only, is_skipped}
 use Rattle.lzk_credential_run.specs.declared.entries.ValuesFault.{ValuesFault}
@@ -35,9 +36,9 @@ partial_of d = record { leaf = d.leaf; nodes = d.nodes.items }
 abbrev pub placed_of : path.Path → Placed
 placed_of p = record { leaf = p.leaf; nodes = p.nodes.items }
 
--- a row has at most 64 leaves
+-- a row has at most 2 ^ most_levels leaves, in LZK1 64
 abbrev pub in_row : ℕ → Option ℕ
-in_row n = if nat_lt n 64 then Some n else None
+in_row n = if nat_lt n (2 ^ most_levels) then Some n else None
 
 unfoldable pub leaf_of : List ℕ → Option ℕ
 leaf_of word = and_then (number_from 0 word) in_row

@@ -16,10 +16,14 @@ use lzk_cmd_files::{Ending, Halt, read_file};
 use lzk_expr::words::{content, next_line};
 use lzk_outside::Shelf;
 use lzk_policy::{is_skipped, only_word};
+use lzk_profile::MOST_LEVELS;
 use std::alloc::Global;
 
 /// The largest text of a path that is read, in bytes.
 const MOST_PATH: usize = 65_536;
+
+/// How many leaves a row has, at most: in LZK1 64.
+const MOST_LEAVES: u64 = 1 << MOST_LEVELS;
 
 /// Where a leaf stands, and the nodes beside its path, the lowest first.
 #[derive(Drop)]
@@ -41,7 +45,7 @@ fn leaf_of(word: &[u8]) -> Option<u32>
     ensures { result ≡ said.leaf_of word.now }
 {
     let number = number_from(0, word)?;
-    if number < 64 {
+    if number < MOST_LEAVES {
         return Some(number as u32);
     }
     None
