@@ -16,7 +16,7 @@ use Rattle.lzk_cmd_files.specs.declared.ending.Halt.TheVariants as halts
 use Rattle.lzk_cmd_files.specs.Ends.{End, Stop, says}
 use Rattle.lzk_cmd_runs.specs.Hashed.{ProvesHash, HashAny, digest_inputs, is_for}
 use Rattle.lzk_cmd_files.specs.Lines.{unfit_line}
-use Rattle.lzk_cmd_runs.specs.Proved.{Proves}
+use Rattle.lzk_cmd_runs.specs.Proved.{Proves, gold_word}
 use Rattle.lzk_cmd_files.specs.Seen.{Seen}
 use Rattle.lzk_cmd_verify.specs.Verified.{gold_coding}
 use Rattle.lzk_cmd_files.specs.Walks.{IsEnding, Settled, Settles, WalksToPut}
@@ -38,11 +38,11 @@ sooner tail k m p old new r le h = go r h
 
 -- ---- the proof is put
 pub hash_proved : (c : Wiring GoldElement) (message proof session seed : List ℕ) (digest : Option (List ℕ)) (publics privates : List GoldElement) (old new : Seen) (r : Result Ending Halt) → digest ≡ Some (sha256 message) → publics ≡ digest_inputs message
-    → privates ≡ sha_private gold.of_number message → WalksToPut (λ files. Proves gold.ops gold_coding c proof digest session seed publics privates) 3 old new r → WalksToPut (λ files. ProvesHash c message proof session seed) 1 old new r
+    → privates ≡ sha_private gold.of_number message → WalksToPut (λ files. Proves gold.ops gold_coding c proof digest session (gold_word seed) publics privates) 3 old new r → WalksToPut (λ files. ProvesHash c message proof session seed) 1 old new r
 hash_proved c message proof session seed digest publics privates old new r told words bits h =
-    let first = subst (λ (d : Option (List ℕ)). WalksToPut (λ files. Proves gold.ops gold_coding c proof d session seed publics privates) 3 old new r) told h in
-    let both = subst (λ (xs : List GoldElement). WalksToPut (λ files. Proves gold.ops gold_coding c proof (Some (sha256 message)) session seed xs privates) 3 old new r) words first in
-    let all = subst (λ (ys : List GoldElement). WalksToPut (λ files. Proves gold.ops gold_coding c proof (Some (sha256 message)) session seed (digest_inputs message) ys) 3 old new r) bits both in
+    let first = subst (λ (d : Option (List ℕ)). WalksToPut (λ files. Proves gold.ops gold_coding c proof d session (gold_word seed) publics privates) 3 old new r) told h in
+    let both = subst (λ (xs : List GoldElement). WalksToPut (λ files. Proves gold.ops gold_coding c proof (Some (sha256 message)) session (gold_word seed) xs privates) 3 old new r) words first in
+    let all = subst (λ (ys : List GoldElement). WalksToPut (λ files. Proves gold.ops gold_coding c proof (Some (sha256 message)) session (gold_word seed) (digest_inputs message) ys) 3 old new r) bits both in
     sooner (λ files. ProvesHash c message proof session seed) 1 3 (Unit {0}) old new r (lit≤ tt) all
 
 -- ---- a circuit that is not for the message

@@ -8,11 +8,13 @@ ghost use Rattle.lzk_demo.specs.Demo.{demo_private, demo_public, demo_tree};
 ghost use Rattle.lzk_goldilocks.specs.Elements.{number, ops};
 ghost use Rattle.lzk_level.specs.SomeCircuit.{IsCircuitOf};
 ghost use Rattle.lzk_cmd_runs.specs.Demo.{HasVerdict};
+ghost use Rattle.lzk_cmd_runs.specs.Proved.{gold_word};
 ghost use Rattle.lzk_cmd_words.specs.Keys.{is_number, number_of};
 ghost use Rattle.lzk_cmd_words.specs.Digits.{seed_of};
 ghost use Rattle.lzk_cmd_verify.specs.Verified.{gold_coding};
 ghost use Rattle.lzk_cmd_runs.specs.RunSteps.{TellsDemo};
 
+use crate::proving::gold_words;
 use lzk_circbytes::{AnyCircuit, id};
 use lzk_circuit::Circuit;
 use lzk_cmd_files::{Ending, Halt, Means, lines};
@@ -20,8 +22,8 @@ use lzk_cmd_verify::verdict_on;
 use lzk_cmd_words::{number_up_to, seed_bytes, workers_of};
 use lzk_complete::accepted_laws;
 use lzk_demo::{DemoInputs, demo_circuit, demo_inputs};
-use lzk_field::{Field, Gate, Seeded};
-use lzk_goldilocks::Gold;
+use lzk_field::{Field, Gate, Seeded, Words};
+use lzk_goldilocks::{Drawn, Gold};
 use lzk_ligero::WorksOver;
 use lzk_ntt::NttExtender;
 use lzk_poly::RowExtend;
@@ -30,7 +32,7 @@ use std::alloc::AllocError;
 use std::marker::Sync;
 use std::thread::Threads;
 
-// What the demo's proof is made with: random words by a seed, and workers.
+// What the demo's proof is made with: the seed of the random words, and workers.
 #[derive(Clone, Copy)]
 struct Made {
     seed: [u8; 32],
@@ -54,14 +56,15 @@ fn count_of(digits: &str) -> u32
 
 // Proves for inputs that satisfy a circuit with a prover for it, and verifies the proof. How many bytes it has, and the
 // verdict.
-fn judge_own_proof<F: Field, X: RowExtend<F>, R: Threads + Sync, G: Gate>(
+fn judge_own_proof<F: Field, X: RowExtend<F>, W: Words, R: Threads + Sync, G: Gate>(
     means: &Means<'_, R, G>,
     circuit: &Circuit<F>,
     id: [u8; 32],
     works: &mut WorksOver<'_, F, X>,
     publics: &[F],
     privates: &[F],
-    by: Made,
+    words: &W,
+    workers: usize,
 ) -> Result<(usize, Verdict<F>), AllocError>
     requires id { id ≡ id_of F.coding circuit.now }
     requires works { works.old ≡ circuit.now }
@@ -69,13 +72,12 @@ fn judge_own_proof<F: Field, X: RowExtend<F>, R: Threads + Sync, G: Gate>(
     requires privates { length privates.now ≡ circuit.now.privates }
     requires satisfied { IsSatisfied F.ops F.coding.number circuit.now.layers
         (inputs_of F.ops publics.now privates.now) }
+    requires some { 1 ≤ workers }
+    requires few { workers ≤ 64 }
     ensures { IfOk result (λ made. HasVerdict F.ops F.coding circuit.now
-        publics.now privates.now by.seed made.0 made.1) }
+        publics.now privates.now (W.at words.now) made.0 made.1) }
 {
-    let words = Seeded::new(by.seed);
-    match works.prove(
-        means.rt, b"", publics, privates, &words, by.workers, means.gate,
-    ) {
+    match works.prove(means.rt, b"", publics, privates, words, workers, means.gate) {
         Ok(bytes) => {
             let verdict = verdict_on(means.alloc, circuit, id, publics, bytes)?;
             Ok((bytes.len(), verdict))
@@ -85,23 +87,28 @@ fn judge_own_proof<F: Field, X: RowExtend<F>, R: Threads + Sync, G: Gate>(
 }
 
 // The same with a prover of its own, which one exit drops.
-fn prove_and_verify<F: Field, X: RowExtend<F>, R: Threads + Sync, G: Gate>(
+fn prove_and_verify<F: Field, X: RowExtend<F>, W: Words, R: Threads + Sync, G: Gate>(
     means: &Means<'_, R, G>,
     circuit: &Circuit<F>,
     publics: &[F],
     privates: &[F],
-    by: Made,
+    words: &W,
+    workers: usize,
 ) -> Result<(usize, Verdict<F>), AllocError>
     requires publics { length publics.now ≡ circuit.now.publics }
     requires privates { length privates.now ≡ circuit.now.privates }
     requires satisfied { IsSatisfied F.ops F.coding.number circuit.now.layers
         (inputs_of F.ops publics.now privates.now) }
+    requires some { 1 ≤ workers }
+    requires few { workers ≤ 64 }
     ensures { IfOk result (λ made. HasVerdict F.ops F.coding circuit.now
-        publics.now privates.now by.seed made.0 made.1) }
+        publics.now privates.now (W.at words.now) made.0 made.1) }
 {
     let id = id(means.alloc, circuit)?;
     let mut works = WorksOver::<F, X>::with_id(means.alloc, circuit, id)?;
-    let judged = judge_own_proof(means, circuit, id, &mut works, publics, privates, by);
+    let judged = judge_own_proof(
+        means, circuit, id, &mut works, publics, privates, words, workers,
+    );
     works.close();
     judged
 }
@@ -118,17 +125,18 @@ fn prove_demo<R: Threads + Sync, G: Gate>(
     requires satisfied { IsSatisfied ops number circuit.now.layers
         (inputs_of ops inputs.now.public.items inputs.now.private.items) }
     ensures { IfOk result (λ len.
-        HasVerdict ops gold_coding circuit.now inputs.now.public.items inputs.now.private.items by.seed len
-        Verdict.Accepted) }
+        HasVerdict ops gold_coding circuit.now inputs.now.public.items inputs.now.private.items
+        (gold_word by.seed) len Verdict.Accepted) }
 {
     accepted_laws::<Gold>();
     circuit.valid_laws();
-    let (len, verdict) = prove_and_verify::<Gold, NttExtender<Gold>, R, G>(
+    let (len, verdict) = prove_and_verify::<Gold, NttExtender<Gold>, Drawn<Seeded>, R, G>(
         means,
         circuit,
         &inputs.public,
         &inputs.private,
-        by,
+        &gold_words(by.seed),
+        by.workers,
     )?;
     match verdict {
         Verdict::Accepted => Ok(len),
@@ -149,7 +157,8 @@ fn prove_own_inputs<R: Threads + Sync, G: Gate>(
     requires satisfied { IsSatisfied ops number circuit.now.layers
         (inputs_of ops (demo_public ops n) (demo_private ops n)) }
     ensures { IfOk result (λ len.
-        HasVerdict ops gold_coding circuit.now (demo_public ops n) (demo_private ops n) by.seed len Verdict.Accepted) }
+        HasVerdict ops gold_coding circuit.now (demo_public ops n) (demo_private ops n) (gold_word by.seed) len
+        Verdict.Accepted) }
 {
     let inputs = demo_inputs(means.alloc, n)?;
     let len = prove_demo(means, circuit, &inputs, by);

@@ -14,13 +14,13 @@ ghost use Rattle.lzk_cmd_verify.specs.Verified.{gold_coding};
 ghost use Rattle.lzk_cmd_files.specs.Walks.{IsEnding, Moves, WalksToPut};
 
 use crate::circuits::read_shared;
-use crate::proving::{Task, prove_inputs};
+use crate::proving::{Task, gold_words, prove_inputs};
 use lzk_circbytes::AnyCircuit;
 use lzk_circuit::Circuit;
 use lzk_cmd_files::{Ending, Halt, Means, lines};
 use lzk_cmd_words::{HashWords, message_bytes, seed_bytes, session_bytes, workers_of};
-use lzk_field::Gate;
-use lzk_goldilocks::Gold;
+use lzk_field::{Gate, Seeded};
+use lzk_goldilocks::{Drawn, Gold};
 use lzk_ntt::NttExtender;
 use lzk_outside::Shelf;
 use lzk_sha_circuit::sha_inputs;
@@ -64,11 +64,12 @@ fn prove_hash<R: Threads + Sync, S: Shelf, G: Gate>(
     ensures moves { Moves (seen S.Shelf shelf.old) (seen S.Shelf shelf.new) }
 {
     let inputs = sha_inputs(means.alloc, message)?;
-    prove_inputs::<Gold, NttExtender<Gold>, R, S, G>(
+    prove_inputs::<Gold, NttExtender<Gold>, Drawn<Seeded>, R, S, G>(
         means,
         circuit,
         &inputs.public,
         &inputs.private,
+        &gold_words(task.seed),
         task,
         shelf,
     )

@@ -17,9 +17,9 @@ use lzk_circuit::Circuit;
 use lzk_cmd_files::{Ending, Halt, Means, lines, put_file, read_elements};
 use lzk_cmd_words::{ProveWords, seed_bytes, session_bytes, workers_of};
 use lzk_complete::proof_laws;
-use lzk_field::{Field, Gate, Seeded};
+use lzk_field::{Field, Gate, Seeded, Words};
 use lzk_gf128::Gf128;
-use lzk_goldilocks::Gold;
+use lzk_goldilocks::{Drawn, Gold};
 use lzk_ligero::{Unsatisfied, WorksOver};
 use lzk_ntt::NttExtender;
 use lzk_outside::Shelf;
@@ -43,6 +43,15 @@ pub struct Task<'a> {
     pub ghost few: { workers ≤ 64 },
 }
 
+/// The random words of a seed over the prime field.
+pub fn gold_words(seed: [u8; 32]) -> Drawn<Seeded>
+    ensures { result.words ≡ seed }
+{
+    Drawn {
+        words: Seeded::new(seed),
+    }
+}
+
 // How a run ends that has this check.
 fn unsatisfied<F: Field>(alloc: Global, first: Unsatisfied<&F>) -> Result<Ending, AllocError>
     ensures { IfOk result (IsEnding (nonzero_end F.coding.number (first.entry.output, first.entry.value.now))) }
@@ -61,12 +70,13 @@ fn proofs_fit<F: Field>(circuit: &Circuit<F>)
 }
 
 // Proves with a prover for the circuit, and puts the proof once it is whole.
-fn put_proof<F: Field, X: RowExtend<F>, R: Threads + Sync, S: Shelf, G: Gate>(
+fn put_proof<F: Field, X: RowExtend<F>, W: Words, R: Threads + Sync, S: Shelf, G: Gate>(
     means: &Means<'_, R, G>,
     circuit: &Circuit<F>,
     works: &mut WorksOver<'_, F, X>,
     publics: &[F],
     privates: &[F],
+    words: &W,
     task: &Task<'_>,
     shelf: &mut S,
 ) -> Result<Ending, Halt>
@@ -75,17 +85,16 @@ fn put_proof<F: Field, X: RowExtend<F>, R: Threads + Sync, S: Shelf, G: Gate>(
     requires privates { length privates.now ≡ circuit.now.privates }
     ensures walks { WalksToPut (λ files.
         Proves F.ops F.coding circuit.now task.now.proof.now (option_copied task.now.digest) task.now.session.now
-        task.now.seed publics.now privates.now) 3 (seen S.Shelf shelf.old) (seen S.Shelf shelf.new) result }
+        (W.at words.now) publics.now privates.now) 3 (seen S.Shelf shelf.old) (seen S.Shelf shelf.new) result }
     ensures moves { Moves (seen S.Shelf shelf.old) (seen S.Shelf shelf.new) }
 {
     proofs_fit(circuit);
-    let words = Seeded::new(task.seed);
     match works.prove(
         means.rt,
         task.session,
         publics,
         privates,
-        &words,
+        words,
         task.workers,
         means.gate,
     ) {
@@ -97,12 +106,13 @@ fn put_proof<F: Field, X: RowExtend<F>, R: Threads + Sync, S: Shelf, G: Gate>(
     }
 }
 
-/// Proves for a circuit and its inputs.
-pub fn prove_inputs<F: Field, X: RowExtend<F>, R: Threads + Sync, S: Shelf, G: Gate>(
+/// Proves for a circuit and its inputs, with these random words.
+pub fn prove_inputs<F: Field, X: RowExtend<F>, W: Words, R: Threads + Sync, S: Shelf, G: Gate>(
     means: &Means<'_, R, G>,
     circuit: &Circuit<F>,
     publics: &[F],
     privates: &[F],
+    words: &W,
     task: &Task<'_>,
     shelf: &mut S,
 ) -> Result<Ending, Halt>
@@ -111,36 +121,37 @@ pub fn prove_inputs<F: Field, X: RowExtend<F>, R: Threads + Sync, S: Shelf, G: G
     requires id { task.now.id ≡ id_of F.coding circuit.now }
     ensures walks { WalksToPut (λ files.
         Proves F.ops F.coding circuit.now task.now.proof.now (option_copied task.now.digest) task.now.session.now
-        task.now.seed publics.now privates.now) 3 (seen S.Shelf shelf.old) (seen S.Shelf shelf.new) result }
+        (W.at words.now) publics.now privates.now) 3 (seen S.Shelf shelf.old) (seen S.Shelf shelf.new) result }
     ensures moves { Moves (seen S.Shelf shelf.old) (seen S.Shelf shelf.new) }
 {
     let mut works = WorksOver::<F, X>::with_id(means.alloc, circuit, task.id)?;
-    let ending = put_proof::<F, X, R, S, G>(
-        means, circuit, &mut works, publics, privates, task, shelf,
+    let ending = put_proof::<F, X, W, R, S, G>(
+        means, circuit, &mut works, publics, privates, words, task, shelf,
     );
     works.close();
     ending
 }
 
 // Proves for a circuit, on two number files.
-fn prove_over<F: Field, X: RowExtend<F>, R: Threads + Sync, S: Shelf, G: Gate>(
+fn prove_over<F: Field, X: RowExtend<F>, W: Words, R: Threads + Sync, S: Shelf, G: Gate>(
     means: &Means<'_, R, G>,
     circuit: &Circuit<F>,
     public_file: &str,
     private_file: &str,
+    words: &W,
     task: &Task<'_>,
     shelf: &mut S,
 ) -> Result<Ending, Halt>
     requires id { task.now.id ≡ id_of F.coding circuit.now }
     requires digest { option_copied task.now.digest ≡ None }
     ensures walks { WalksToPut (ProveOver F.ops F.coding circuit.now
-        public_file.now private_file.now task.now.proof.now task.now.session.now task.now.seed) 1
+        public_file.now private_file.now task.now.proof.now task.now.session.now (W.at words.now)) 1
         (seen S.Shelf shelf.old) (seen S.Shelf shelf.new) result }
     ensures moves { Moves (seen S.Shelf shelf.old) (seen S.Shelf shelf.new) }
 {
     let publics = read_elements::<S, F>(means.alloc, shelf, public_file, circuit.publics())?;
     let privates = read_elements::<S, F>(means.alloc, shelf, private_file, circuit.privates())?;
-    prove_inputs::<F, X, R, S, G>(means, circuit, &publics, &privates, task, shelf)
+    prove_inputs::<F, X, W, R, S, G>(means, circuit, &publics, &privates, words, task, shelf)
 }
 
 // `prove_over` over either field.
@@ -160,26 +171,24 @@ fn prove_any<R: Threads + Sync, S: Shelf, G: Gate>(
     ensures moves { Moves (seen S.Shelf shelf.old) (seen S.Shelf shelf.new) }
 {
     match circuit {
-        AnyCircuit::Gold(c) => {
-            prove_over::<Gold, NttExtender<Gold>, R, S, G>(
-                means,
-                c,
-                public_file,
-                private_file,
-                task,
-                shelf,
-            )
-        }
-        AnyCircuit::Gf(c) => {
-            prove_over::<Gf128, Transform, R, S, G>(
-                means,
-                c,
-                public_file,
-                private_file,
-                task,
-                shelf,
-            )
-        }
+        AnyCircuit::Gold(c) => prove_over::<Gold, NttExtender<Gold>, Drawn<Seeded>, R, S, G>(
+            means,
+            c,
+            public_file,
+            private_file,
+            &gold_words(task.seed),
+            task,
+            shelf,
+        ),
+        AnyCircuit::Gf(c) => prove_over::<Gf128, Transform, Seeded, R, S, G>(
+            means,
+            c,
+            public_file,
+            private_file,
+            &Seeded::new(task.seed),
+            task,
+            shelf,
+        ),
     }
 }
 

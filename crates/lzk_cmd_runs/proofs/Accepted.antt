@@ -18,7 +18,6 @@ use Rattle.lzk_circuit.proofs.DepthLaws.{inputs-count}
 use Rattle.lzk_circuit.proofs.VersionLaws.{valid-one}
 use Rattle.lzk_field.specs.Coding.{Coding}
 use Rattle.lzk_field.specs.Ring.{Ops}
-use Rattle.lzk_field.specs.Words.{seeded_word}
 use Rattle.lzk_goldilocks.specs.Elements as gold
 use Rattle.lzk_goldilocks.specs.Prime.{p, element_bytes}
 use Rattle.lzk_goldilocks.specs.declared.element.Gold.{Gold as GoldElement}
@@ -39,7 +38,7 @@ use Rattle.lzk_cmd_files.specs.Formats.{Format, HasFile, Has, AtBytes, At}
 use Rattle.lzk_cmd_runs.specs.Hashed.{HashAny, HashRun, ProvesHash, digest_inputs, is_for}
 use Rattle.lzk_cmd_words.specs.Digits.{message_of, seed_of, decoded_or_none, session_of}
 use Rattle.lzk_cmd_files.specs.Lines.{larger_line, reading_line, unfit_line}
-use Rattle.lzk_cmd_runs.specs.Proved.{Proves, ProveOver, ProveAny, ProveRun}
+use Rattle.lzk_cmd_runs.specs.Proved.{Proves, ProveOver, ProveAny, ProveRun, gold_word, gf_word}
 use Rattle.lzk_cmd_runs.specs.Run.{CommandRun}
 use Rattle.lzk_cmd_verify.specs.Verified.{gold_coding, gf_coding}
 use Rattle.lzk_cmd_words.specs.Words.{Prove, Sha256}
@@ -80,14 +79,14 @@ module _ (files : Files) (stop : Stop) (end : End) (few : end.status ≤ 1) wher
       go false None is h = not_done (missing_file name) 1 refl h
       go false (Some bytes) is h = fits bytes is (nat_lt format.limit (length bytes)) refl h
 
-  module _ {A : Type 0} (o : Ops A) (e : Coding A) (complete : Complete o e) (c : Wiring A) (valid : IsValid o c) (done : end.status ≡ 0) (proof session seed : List ℕ) where
-    proves_accepted : (digest : Option (List ℕ)) (publics privates : List A) → HaveCounts c publics privates → Proves o e c proof digest session seed publics privates stop end
+  module _ {A : Type 0} (o : Ops A) (e : Coding A) (complete : Complete o e) (c : Wiring A) (valid : IsValid o c) (done : end.status ≡ 0) (proof session : List ℕ) (word : ℕ → ℕ) where
+    proves_accepted : (digest : Option (List ℕ)) (publics privates : List A) → HaveCounts c publics privates → Proves o e c proof digest session word publics privates stop end
         → (bytes : List ℕ) × (end.put ≡ Some (proof, bytes)) × IsVerdict o e c session publics bytes Accepted
     proves_accepted digest publics privates counts (None, satisfied, (bytes, file, fits, is)) =
-        (bytes, ap (λ (x : End). x.put) is ∙ put_is stop proof bytes _, complete c session publics privates (words_of (seeded_word seed)) bytes valid counts satisfied file)
+        (bytes, ap (λ (x : End). x.put) is ∙ put_is stop proof bytes _, complete c session publics privates (words_of word) bytes valid counts satisfied file)
     proves_accepted digest publics privates counts (Some found, first, is) = let e : 0 ≡ 1 = sym done ∙ ap (λ (x : End). x.status) is in absurd (omega (arith, e))
 
-    accepted_over : (public private : List ℕ) → ProveOver o e c public private proof session seed files stop end → PutsAccepted o e c public proof session files end
+    accepted_over : (public private : List ℕ) → ProveOver o e c public private proof session word files stop end → PutsAccepted o e c public proof session files end
     unfolding ProveOver
     accepted_over public private h =
         let first = was_read (number_files e.size e.number c.publics) 1 public _ (λ fault. refl) h in
@@ -102,8 +101,8 @@ at_most e = omega (arith, e)
 module _ (gold_accepted : Complete gold.ops gold_coding) (gf_accepted : Complete gf.ops gf_coding) where
   accepted_any : (files : Files) (stop : Stop) (end : End) → end.status ≡ 0 → (c : AnyCircuit) (bytes : List ℕ) → CircuitBytes c bytes → (public private proof session seed : List ℕ) → ProveAny c public private proof session seed files stop end
       → PutsAcceptedAny c public proof session files end
-  accepted_any files stop end done (Gold c) bytes is public private proof session seed = accepted_over files stop end (at_most done) gold.ops gold_coding gold_accepted c is.valid done proof session seed public private
-  accepted_any files stop end done (Gf c) bytes is public private proof session seed = accepted_over files stop end (at_most done) gf.ops gf_coding gf_accepted c is.valid done proof session seed public private
+  accepted_any files stop end done (Gold c) bytes is public private proof session seed = accepted_over files stop end (at_most done) gold.ops gold_coding gold_accepted c is.valid done proof session (gold_word seed) public private
+  accepted_any files stop end done (Gf c) bytes is public private proof session seed = accepted_over files stop end (at_most done) gf.ops gf_coding gf_accepted c is.valid done proof session (gf_word seed) public private
 
   pub proved_is_accepted : ProvedIsAccepted
   unfolding ProveRun
@@ -123,7 +122,7 @@ module _ (gold_accepted : Complete gold.ops gold_coding) (gf_accepted : Complete
     where
       go : (b : Bool) → is_for (length message) c ≡ b → MatchBool b (ProvesHash c message proof session seed stop end) (end ≡ says 3 (unfit_line circuit (length message))) → HashAccepted files circuit message proof session end (Gold c)
       go true fits h =
-          let put = proves_accepted files stop end (at_most done) gold.ops gold_coding gold_accepted c is.valid done proof session seed (Some (sha256 message)) (digest_inputs message) (sha_private gold.of_number message) (hash_counts message c fits) h in
+          let put = proves_accepted files stop end (at_most done) gold.ops gold_coding gold_accepted c is.valid done proof session (gold_word seed) (Some (sha256 message)) (digest_inputs message) (sha_private gold.of_number message) (hash_counts message c fits) h in
           (c, put.0, refl, put.1, put.2)
       go false fits h = not_done files stop end (at_most done) (says 3 (unfit_line circuit (length message))) 1 refl h
   hash_accepted files stop end done (Gf c) bytes is circuit message proof session seed h = not_done files stop end (at_most done) (says 3 (unfit_line circuit (length message))) 1 refl h

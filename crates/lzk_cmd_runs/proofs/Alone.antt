@@ -19,7 +19,6 @@ use Rattle.lzk_goldilocks.specs.Prime.{p}
 use Rattle.lzk_goldilocks.specs.Elements as gold
 use Rattle.lzk_gf128.specs.Elements as gf
 use Rattle.lzk_complete.specs.Proving.{OneFile, words_of}
-use Rattle.lzk_field.specs.Words.{seeded_word}
 use Rattle.lzk_layout.specs.Fields.{shape}
 use Rattle.lzk_layout.specs.Sizes.{params_of}
 use Rattle.lzk_layout.proofs.Faults.{one_fault}
@@ -41,7 +40,7 @@ use Rattle.lzk_cmd_words.specs.Digits.{message_of, seed_of, session_of}
 use Rattle.lzk_cmd_words.specs.Keys.{number_of}
 use Rattle.lzk_cmd_files.specs.Lines.{larger_line, reading_line, told_line, unfit_line, upgraded_line}
 use Rattle.lzk_cmd_runs.specs.OneEnd.{PutAlike, DemoAlike, AreOne, OneEnd}
-use Rattle.lzk_cmd_runs.specs.Proved.{PutsProof, Proves, ProveOver, ProveAny, ProveRun, nonzero_end}
+use Rattle.lzk_cmd_runs.specs.Proved.{PutsProof, Proves, ProveOver, ProveAny, ProveRun, nonzero_end, gold_word, gf_word}
 use Rattle.lzk_cmd_circuits.specs.Evaluated.{Evaluated, EvalOver, EvalAny, EvalRun, ShowRun, verdict, output_lines}
 use Rattle.lzk_cmd_runs.specs.Run.{CommandRun}
 use Rattle.lzk_cmd_verify.specs.Verified.{Judged, VerifyOver, VerifyAny, VerifyRun, verdict_end, gold_coding, gf_coding}
@@ -123,22 +122,22 @@ module _ {A : Type 0} (o : Ops A) (e : Coding A) (laws : Laws o e.size e.number 
       one_judged session publics bytes a b))
 
   -- where there is one file of a proof
-  module _ (files : Files) (stop : Stop) (a b : End) (one : OneFile o e) (proof : List ℕ) (digest : Option (List ℕ)) (session seed : List ℕ) where
-    one_proves : (publics privates : List A) → Proves o e c proof digest session seed publics privates stop a → Proves o e c proof digest session seed publics privates stop b → a ≡ b
-    one_proves publics privates (f, is, h) (g, js, k) = go f h (subst (λ (first : Option (ℕ × A)). MatchOption first (PutsProof o e c proof digest session seed publics privates stop b) (λ found. b ≡ nonzero_end e.number found)) (one_first o _ g f js is) k)
+  module _ (files : Files) (stop : Stop) (a b : End) (one : OneFile o e) (proof : List ℕ) (digest : Option (List ℕ)) (session : List ℕ) (word : ℕ → ℕ) where
+    one_proves : (publics privates : List A) → Proves o e c proof digest session word publics privates stop a → Proves o e c proof digest session word publics privates stop b → a ≡ b
+    one_proves publics privates (f, is, h) (g, js, k) = go f h (subst (λ (first : Option (ℕ × A)). MatchOption first (PutsProof o e c proof digest session word publics privates stop b) (λ found. b ≡ nonzero_end e.number found)) (one_first o _ g f js is) k)
       where
-        go : (first : Option (ℕ × A)) → MatchOption first (PutsProof o e c proof digest session seed publics privates stop a) (λ found. a ≡ nonzero_end e.number found)
-            → MatchOption first (PutsProof o e c proof digest session seed publics privates stop b) (λ found. b ≡ nonzero_end e.number found) → a ≡ b
+        go : (first : Option (ℕ × A)) → MatchOption first (PutsProof o e c proof digest session word publics privates stop a) (λ found. a ≡ nonzero_end e.number found)
+            → MatchOption first (PutsProof o e c proof digest session word publics privates stop b) (λ found. b ≡ nonzero_end e.number found) → a ≡ b
         go None (xs, file, fits, h) (ys, other, also, k) =
-            h ∙ ap (λ bytes. puts stop proof bytes (told_line proof digest (length bytes))) (one c session publics privates (words_of (seeded_word seed)) xs ys file other) ∙ sym k
+            h ∙ ap (λ bytes. puts stop proof bytes (told_line proof digest (length bytes))) (one c session publics privates (words_of word) xs ys file other) ∙ sym k
         go (Some found) h k = h ∙ sym k
 
-  one_prove_over : (files : Files) (stop : Stop) (a b : End) → OneFile o e → (proof session seed public private : List ℕ) → ProveOver o e c public private proof session seed files stop a → ProveOver o e c public private proof session seed files stop b → a ≡ b
+  one_prove_over : (files : Files) (stop : Stop) (a b : End) → OneFile o e → (proof session : List ℕ) (word : ℕ → ℕ) (public private : List ℕ) → ProveOver o e c public private proof session word files stop a → ProveOver o e c public private proof session word files stop b → a ≡ b
   unfolding ProveOver
-  one_prove_over files stop a b one proof session seed public private =
+  one_prove_over files stop a b one proof session word public private =
       one_step files stop a b (a ≡ b) (λ e. e) (number_files e.size e.number c.publics) (formats.numbers e.size e.number numbers_apart c.publics) 1 public _ _ (λ publics.
       one_step files stop a b (a ≡ b) (λ e. e) (number_files e.size e.number c.privates) (formats.numbers e.size e.number numbers_apart c.privates) 2 private _ _ (λ privates.
-      one_proves files stop a b one proof None session seed publics privates))
+      one_proves files stop a b one proof None session word publics privates))
 
 one_verify_any : (c : AnyCircuit) (public proof session : List ℕ) (files : Files) (stop : Stop) (a b : End) → VerifyAny c public proof session files stop a → VerifyAny c public proof session files stop b → a ≡ b
 one_verify_any (Gold c) public proof session files stop a b h k = one_verify_over gold.ops gold_coding gold.laws c public proof session files stop a b h k
@@ -147,15 +146,15 @@ one_verify_any (Gf c) public proof session files stop a b h k = one_verify_over 
 -- what is known of the two fields' proofs
 module _ (gold_file : OneFile gold.ops gold_coding) (gf_file : OneFile gf.ops gf_coding) where
   one_prove_any : (c : AnyCircuit) (public private proof session seed : List ℕ) (files : Files) (stop : Stop) (a b : End) → ProveAny c public private proof session seed files stop a → ProveAny c public private proof session seed files stop b → a ≡ b
-  one_prove_any (Gold c) public private proof session seed files stop a b h k = one_prove_over gold.ops gold_coding gold.laws c files stop a b gold_file proof session seed public private h k
-  one_prove_any (Gf c) public private proof session seed files stop a b h k = one_prove_over gf.ops gf_coding gf.laws c files stop a b gf_file proof session seed public private h k
+  one_prove_any (Gold c) public private proof session seed files stop a b h k = one_prove_over gold.ops gold_coding gold.laws c files stop a b gold_file proof session (gold_word seed) public private h k
+  one_prove_any (Gf c) public private proof session seed files stop a b h k = one_prove_over gf.ops gf_coding gf.laws c files stop a b gf_file proof session (gf_word seed) public private h k
 
 -- a hash over a circuit
 one_hash : OneFile gold.ops gold_coding → (any : AnyCircuit) (circuit message proof session seed : List ℕ) (files : Files) (stop : Stop) (a b : End) → HashAny circuit any message proof session seed stop a → HashAny circuit any message proof session seed stop b → a ≡ b
 one_hash one (Gold c) circuit message proof session seed files stop a b h k = go (is_for (length message) c) h k
   where
     go : (fits : Bool) → MatchBool fits (ProvesHash c message proof session seed stop a) (a ≡ says 3 (unfit_line circuit (length message))) → MatchBool fits (ProvesHash c message proof session seed stop b) (b ≡ says 3 (unfit_line circuit (length message))) → a ≡ b
-    go true h k = one_proves gold.ops gold_coding gold.laws c files stop a b one proof (Some (sha256 message)) session seed (digest_inputs message) (sha_private gold.of_number message) h k
+    go true h k = one_proves gold.ops gold_coding gold.laws c files stop a b one proof (Some (sha256 message)) session (gold_word seed) (digest_inputs message) (sha_private gold.of_number message) h k
     go false h k = h ∙ sym k
 one_hash one (Gf c) circuit message proof session seed files stop a b h k = h ∙ sym k
 

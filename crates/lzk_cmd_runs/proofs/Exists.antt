@@ -23,7 +23,6 @@ use Rattle.lzk_expr.specs.declared.source_fault.SourceFault.{SourceFault}
 use Rattle.lzk_expr.proofs.EveryText.{some_reading}
 use Rattle.lzk_field.specs.Coding.{Coding}
 use Rattle.lzk_field.specs.Ring.{Ops, Laws}
-use Rattle.lzk_field.specs.Words.{seeded_word}
 use Rattle.lzk_goldilocks.specs.Prime.{p, element_bytes, field_byte}
 use Rattle.lzk_goldilocks.specs.Elements as gold
 use Rattle.lzk_gf128.specs.Elements as gf
@@ -48,7 +47,7 @@ use Rattle.lzk_cmd_circuits.specs.Upgraded.{UpgradeRun, PutsUpgraded}
 use Rattle.lzk_cmd_runs.specs.Hashed.{ProvesHash, HashAny, HashRun, digest_inputs, is_for}
 use Rattle.lzk_cmd_words.specs.Digits.{message_of, seed_of, session_of}
 use Rattle.lzk_cmd_files.specs.Lines.{larger_line, reading_line, told_line, unfit_line, upgraded_line}
-use Rattle.lzk_cmd_runs.specs.Proved.{PutsProof, Proves, ProveOver, ProveAny, ProveRun, nonzero_end}
+use Rattle.lzk_cmd_runs.specs.Proved.{PutsProof, Proves, ProveOver, ProveAny, ProveRun, nonzero_end, gold_word, gf_word}
 use Rattle.lzk_cmd_circuits.specs.Evaluated.{Evaluated, EvalOver, EvalAny, EvalRun, ShowRun, verdict, output_lines, shown_any}
 use Rattle.lzk_cmd_runs.specs.Run.{CommandRun}
 use Rattle.lzk_cmd_runs.specs.SomeEnd.{AreBytes, SomeEnd}
@@ -204,23 +203,23 @@ module _ (files : Files) (stop : Stop) (good : AreBytes files) (next : End → A
   some_job (Gf c) job k taken = some_job_over gf.ops gf_coding gf.laws GfRead (λ read one h. h) c job k taken
 
 -- inputs have a proof or a first check that is not 0, where valid circuits have a proof's file
-module _ {A : Type 0} (o : Ops A) (e : Coding A) (laws : Laws o e.size e.number e.element e.bytes) (some : SomeFile o e) (fit : FilesFit o e) (c : Wiring A) (valid : IsValid o c) (proof session seed : List ℕ) (files : Files) (stop : Stop) where
-  some_proves : (digest : Option (List ℕ)) (publics privates : List A) → HaveCounts c publics privates → (end : End) × Proves o e c proof digest session seed publics privates stop end
+module _ {A : Type 0} (o : Ops A) (e : Coding A) (laws : Laws o e.size e.number e.element e.bytes) (some : SomeFile o e) (fit : FilesFit o e) (c : Wiring A) (valid : IsValid o c) (proof session : List ℕ) (words : ℕ → ℕ) (files : Files) (stop : Stop) where
+  some_proves : (digest : Option (List ℕ)) (publics privates : List A) → HaveCounts c publics privates → (end : End) × Proves o e c proof digest session words publics privates stop end
   some_proves digest publics privates counts = go (some_first o e.number e.element e.size e.bytes laws (checks_of o e.number c.layers (inputs_of o publics privates)))
     where
       word : ℕ → ℕ
-      word = words_of (seeded_word seed)
+      word = words_of words
 
-      found : (first : Option (ℕ × A)) → (end : End) × MatchOption first (PutsProof o e c proof digest session seed publics privates stop end) (λ found. end ≡ nonzero_end e.number found)
+      found : (first : Option (ℕ × A)) → (end : End) × MatchOption first (PutsProof o e c proof digest session words publics privates stop end) (λ found. end ≡ nonzero_end e.number found)
       found None =
-          let file = some c session publics privates word valid counts (λ i. mod-lt (seeded_word seed i) (pow_pos 128)) in
+          let file = some c session publics privates word valid counts (λ i. mod-lt (words i) (pow_pos 128)) in
           (puts stop proof file.0 (told_line proof digest (length file.0)), (file.0, file.1, fit c session publics privates word file.0 valid file.1, refl))
       found (Some first) = (nonzero_end e.number first, refl)
 
-      go : (first : Option (ℕ × A)) × IsFirstNonzero o (checks_of o e.number c.layers (inputs_of o publics privates)) first → (end : End) × Proves o e c proof digest session seed publics privates stop end
+      go : (first : Option (ℕ × A)) × IsFirstNonzero o (checks_of o e.number c.layers (inputs_of o publics privates)) first → (end : End) × Proves o e c proof digest session words publics privates stop end
       go (first, is) = let behind = found first in (behind.0, (first, is, behind.1))
 
-  some_prove_over : (public private : List ℕ) → (end : End) × ProveOver o e c public private proof session seed files stop end
+  some_prove_over : (public private : List ℕ) → (end : End) × ProveOver o e c public private proof session words files stop end
   unfolding ProveOver
   some_prove_over public private =
       some_with files stop 1 public (number_files e.size e.number c.publics) (λ text has. numbers_total o e.size e.number e.element e.bytes laws 0 c.publics text) _ (λ text publics means.
@@ -239,8 +238,8 @@ pub record HaveFiles : Type 0 where
   pub demo_circuit : (n : ℕ) → 1 ≤ n → n ≤ 16384 → HasSomeCircuit (demo_tree n)
 
 some_prove : HaveFiles → (bytes : List ℕ) (c : AnyCircuit) → CircuitBytes c bytes → (public private proof session seed : List ℕ) (files : Files) (stop : Stop) → (end : End) × ProveAny c public private proof session seed files stop end
-some_prove have bytes (Gold c) is public private proof session seed files stop = some_prove_over gold.ops gold_coding gold.laws have.gold_file have.gold_fits c is.valid proof session seed files stop public private
-some_prove have bytes (Gf c) is public private proof session seed files stop = some_prove_over gf.ops gf_coding gf.laws have.gf_file have.gf_fits c is.valid proof session seed files stop public private
+some_prove have bytes (Gold c) is public private proof session seed files stop = some_prove_over gold.ops gold_coding gold.laws have.gold_file have.gold_fits c is.valid proof session (gold_word seed) files stop public private
+some_prove have bytes (Gf c) is public private proof session seed files stop = some_prove_over gf.ops gf_coding gf.laws have.gf_file have.gf_fits c is.valid proof session (gf_word seed) files stop public private
 
 module _ (have : HaveFiles) (files : Files) (stop : Stop) where
   circuits_there : AreBytes files → (name bytes : List ℕ) → HasFile (files name) circuit_files.limit bytes → ((c : AnyCircuit) × circuit_files.means bytes c) ⊎ ((fault : _) × circuit_files.breaks bytes fault)
@@ -286,8 +285,8 @@ module _ (have : HaveFiles) (files : Files) (stop : Stop) where
   some_demo n seed some (Gold c, bytes, is, file) =
       let counts : HaveCounts c (demo_public gold.ops n) (demo_private gold.ops n) = (sym (is.publics ∙ demo_publics n), length_private gold.ops n ∙ sym (is.privates ∙ demo_privates n)) in
       let satisfied = have.demo_inputs n some c is.version_is file.valid (is.publics ∙ demo_publics n) (is.privates ∙ demo_privates n) is.outputs in
-      let made = have.gold_file c [] (demo_public gold.ops n) (demo_private gold.ops n) (words_of (seeded_word seed)) file.valid counts (λ i. mod-lt (seeded_word seed i) (pow_pos 128)) in
-      let accepted = have.gold_accepted c [] (demo_public gold.ops n) (demo_private gold.ops n) (words_of (seeded_word seed)) made.0 file.valid counts satisfied made.1 in
+      let made = have.gold_file c [] (demo_public gold.ops n) (demo_private gold.ops n) (words_of (gold_word seed)) file.valid counts (λ i. mod-lt (gold_word seed i) (pow_pos 128)) in
+      let accepted = have.gold_accepted c [] (demo_public gold.ops n) (demo_private gold.ops n) (words_of (gold_word seed)) made.0 file.valid counts satisfied made.1 in
       (demo_end n c made.0, (c, made.0, record { compiled = is; file = made.1; accepted = accepted }, refl))
   some_demo n seed some (Gf c, bytes, is, file) = absurd (fields_apart is.field_is)
 
@@ -303,7 +302,7 @@ module _ (have : HaveFiles) (files : Files) (stop : Stop) where
   some_hash bytes (Gold c) is circuit message proof session seed = go (is_for (length message) c) refl
     where
       go : (fits : Bool) → is_for (length message) c ≡ fits → (end : End) × MatchBool fits (ProvesHash c message proof session seed stop end) (end ≡ says 3 (unfit_line circuit (length message)))
-      go true fits = some_proves gold.ops gold_coding gold.laws have.gold_file have.gold_fits c is.valid proof session seed files stop (Some (sha256 message)) (digest_inputs message) (sha_private gold.of_number message) (hash_counts message c fits)
+      go true fits = some_proves gold.ops gold_coding gold.laws have.gold_file have.gold_fits c is.valid proof session (gold_word seed) files stop (Some (sha256 message)) (digest_inputs message) (sha_private gold.of_number message) (hash_counts message c fits)
       go false fits = (says 3 (unfit_line circuit (length message)), refl)
   some_hash bytes (Gf c) is circuit message proof session seed = (says 3 (unfit_line circuit (length message)), refl)
 

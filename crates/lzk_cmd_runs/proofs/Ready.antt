@@ -30,7 +30,7 @@ use Rattle.lzk_cmd_circuits.specs.Upgraded.{UpgradeRun}
 use Rattle.lzk_cmd_runs.specs.Hashed.{ProvesHash, HashAny, HashRun, digest_inputs}
 use Rattle.lzk_cmd_words.specs.Digits.{message_of, seed_of, session_of}
 use Rattle.lzk_cmd_runs.specs.Outcome.{Answers, Outcome}
-use Rattle.lzk_cmd_runs.specs.Proved.{PutsProof, Proves, ProveOver, ProveAny, ProveRun, nonzero_end}
+use Rattle.lzk_cmd_runs.specs.Proved.{PutsProof, Proves, ProveOver, ProveAny, ProveRun, nonzero_end, gold_word, gf_word}
 use Rattle.lzk_cmd_circuits.specs.Evaluated.{EvalOver, EvalAny, EvalRun, ShowRun, verdict}
 use Rattle.lzk_cmd_runs.specs.Run.{CommandRun, RunOf}
 use Rattle.lzk_cmd_runs.specs.Sights.{Before, After}
@@ -171,24 +171,24 @@ batch_run_done files list end has h =
     let few : 0 + sum_by (job_size files) has.jobs ≤ total_limit = omega (arith, has.few) in
     jobs_done files has.jobs 1 0 [] end has.each few (ready list_files lists.lawful files list 0 end has.jobs _ has.has h)
 
-proves_done : {A : Type 0} (o : Ops A) (e : Coding A) (c : Wiring A) (proof : List ℕ) (digest : Option (List ℕ)) (session seed : List ℕ) (publics privates : List A) (end : End) → Proves o e c proof digest session seed publics privates Nowhere end → Done end
-proves_done {A} o e c proof digest session seed publics privates end (first, is, h) = go first h
+proves_done : {A : Type 0} (o : Ops A) (e : Coding A) (c : Wiring A) (proof : List ℕ) (digest : Option (List ℕ)) (session : List ℕ) (word : ℕ → ℕ) (publics privates : List A) (end : End) → Proves o e c proof digest session word publics privates Nowhere end → Done end
+proves_done {A} o e c proof digest session word publics privates end (first, is, h) = go first h
   where
-    go : (first : Option (ℕ × A)) → MatchOption first (PutsProof o e c proof digest session seed publics privates Nowhere end) (λ found. end ≡ nonzero_end e.number found) → Done end
+    go : (first : Option (ℕ × A)) → MatchOption first (PutsProof o e c proof digest session word publics privates Nowhere end) (λ found. end ≡ nonzero_end e.number found) → Done end
     go None (bytes, file, fits, same) = subst Done (sym same) (inl refl)
     go (Some found) same = subst Done (sym same) (inr refl)
 
-prove_over_done : {A : Type 0} (o : Ops A) (e : Coding A) (c : Wiring A) (public private proof session seed : List ℕ) (files : Files) (end : End) → HasInputs e.size files c public private
-    → ProveOver o e c public private proof session seed files Nowhere end → Done end
+prove_over_done : {A : Type 0} (o : Ops A) (e : Coding A) (c : Wiring A) (public private proof session : List ℕ) (word : ℕ → ℕ) (files : Files) (end : End) → HasInputs e.size files c public private
+    → ProveOver o e c public private proof session word files Nowhere end → Done end
 unfolding ProveOver
-prove_over_done o e c public private proof session seed files end has h =
+prove_over_done o e c public private proof session word files end has h =
     let first = numbers_ready e.size e.number files public c.publics 1 end _ has.0 h in
     let second = numbers_ready e.size e.number files private c.privates 2 end _ has.1 first.1 in
-    proves_done o e c proof None session seed first.0 second.0 end second.1
+    proves_done o e c proof None session word first.0 second.0 end second.1
 
 prove_any_done : (c : AnyCircuit) (public private proof session seed : List ℕ) (files : Files) (end : End) → HasInputsOf c files public private → ProveAny c public private proof session seed files Nowhere end → Done end
-prove_any_done (Gold c) public private proof session seed files end has h = prove_over_done gold.ops gold_coding c public private proof session seed files end has h
-prove_any_done (Gf c) public private proof session seed files end has h = prove_over_done gf.ops gf_coding c public private proof session seed files end has h
+prove_any_done (Gold c) public private proof session seed files end has h = prove_over_done gold.ops gold_coding c public private proof session (gold_word seed) files end has h
+prove_any_done (Gf c) public private proof session seed files end has h = prove_over_done gf.ops gf_coding c public private proof session (gf_word seed) files end has h
 
 ready_done : (files : Files) (command : Command) (end : End) → IsReady files command → CommandRun command files Nowhere end → Done end
 unfolding EvalRun CompileRun UpgradeRun ShowRun ProveRun VerifyRun DemoRun ShaCircuitRun HashRun
@@ -211,7 +211,7 @@ ready_done files (Sha256 circuit proof message seed session) end has h =
     let found : HashAny circuit (Gold has.0) (message_of message) proof (session_of session) (seed_of seed) Nowhere end = ready circuit_files laws.circuits files circuit 0 end (Gold has.0) _ has.1 h in
     let proved : ProvesHash has.0 (message_of message) proof (session_of session) (seed_of seed) Nowhere end = rw has.2 at found in
     let m = message_of message in
-    proves_done gold.ops gold_coding has.0 proof (Some (sha256 m)) (session_of session) (seed_of seed) (digest_inputs m) (sha_private gold.of_number m) end proved
+    proves_done gold.ops gold_coding has.0 proof (Some (sha256 m)) (session_of session) (gold_word (seed_of seed)) (digest_inputs m) (sha_private gold.of_number m) end proved
 
 pub run_command : (words : List (List ℕ)) (files : Files) (command : Command) (end : End) → command_of words ≡ Some command → RunOf words files Nowhere end → CommandRun command files Nowhere end
 run_command words files command end e h = rw e at h

@@ -2,6 +2,7 @@
 use Rattle.std.proofs.Common.{◌≡◌, ◌⊎◌, ℕ, ◌+◌, ◌<◌, ◌-◌, ◌^◌, Bool, true, false, cond, ltb, eqb, ◌&&◌, List, [], ◌∷◌, length, map, reverse, Option, None, Result, Ok, Err, inl, inr, refl, sym, ap, subst, ◌∙◌, arith, mod-eq_of_lt}
 use Rattle.std.specs.List.{AllByRecursion, list_any}
 use Rattle.std.proofs.lemmas.Bool.{eqb-true, and_parts, or_cases}
+use Rattle.lzk_profile.specs.Profile.{file_letter}
 use Rattle.lzk_circbytes.specs.declared.any.AnyCircuit.{AnyCircuit}
 use Rattle.lzk_circbytes.specs.declared.any.AnyCircuit.TheVariants.{Gold, Gf}
 use Rattle.lzk_circbytes.specs.declared.fault.ByteKind.{ByteKind}
@@ -73,7 +74,7 @@ module _ {A : Type 0} (o : Ops A) (size : ℕ) (number : A → ℕ) (element : �
   here = shape id bytes size
 
   -- what is read is a circuit's
-  pub some_file : (version : ℕ) → (version ≡ 1) ⊎ (version ≡ 2) → (rest : List ℕ) (w : Wiring ℕ) → IsBytes rest → wiring_at here version rest ≡ Ok w → (c : Wiring A) × IsFile o number here c (76 ∷ 90 ∷ 67 ∷ (48 + version) ∷ id ∷ rest)
+  pub some_file : (version : ℕ) → (version ≡ 1) ⊎ (version ≡ 2) → (rest : List ℕ) (w : Wiring ℕ) → IsBytes rest → wiring_at here version rest ≡ Ok w → (c : Wiring A) × IsFile o number here c (76 ∷ file_letter ∷ 67 ∷ (48 + version) ∷ id ∷ rest)
   some_file version known rest w fits e =
       let s = wiring_take here version rest w fits e in
       let layers = map of_layer s.layers in
@@ -100,33 +101,33 @@ module _ {A : Type 0} (o : Ops A) (size : ℕ) (number : A → ℕ) (element : �
 
 -- the field's byte, and the circuit of this version behind it
 abbrev IsRead : ℕ → ℕ → List ℕ → Type 0
-IsRead version id rest = ((w : Wiring ℕ) × (id ≡ 1) × (wiring_at goldilocks version rest ≡ Ok w)) ⊎ ((w : Wiring ℕ) × (id ≡ 2) × (wiring_at gf128 version rest ≡ Ok w))
+IsRead version id rest = ((w : Wiring ℕ) × (id ≡ field_byte) × (wiring_at goldilocks version rest ≡ Ok w)) ⊎ ((w : Wiring ℕ) × (id ≡ 2) × (wiring_at gf128 version rest ≡ Ok w))
 
 field_read : (version id : ℕ) (rest : List ℕ) (x : ℕ × Wiring ℕ) → field_at version (id ∷ rest) ≡ Ok x → IsRead version id rest
-field_read version id rest x e = one (eqb id 1) (eqb id 2) refl refl e
+field_read version id rest x e = one (eqb id field_byte) (eqb id 2) refl refl e
   where
-    one : (p q : Bool) → eqb id 1 ≡ p → eqb id 2 ≡ q → cond p (wiring_at goldilocks version rest >>= λ w. Ok (1, w)) (cond q (wiring_at gf128 version rest >>= λ w. Ok (2, w)) (stops FieldId (id ∷ rest))) ≡ Ok x → IsRead version id rest
-    one true q ep eq h = from (wiring_at goldilocks version rest) _ x h (λ w read end. inl (w, eqb-true id 1 ep, read))
+    one : (p q : Bool) → eqb id field_byte ≡ p → eqb id 2 ≡ q → cond p (wiring_at goldilocks version rest >>= λ w. Ok (field_byte, w)) (cond q (wiring_at gf128 version rest >>= λ w. Ok (2, w)) (stops FieldId (id ∷ rest))) ≡ Ok x → IsRead version id rest
+    one true q ep eq h = from (wiring_at goldilocks version rest) _ x h (λ w read end. inl (w, eqb-true id field_byte ep, read))
     one false true ep eq h = from (wiring_at gf128 version rest) _ x h (λ w read end. inr (w, eqb-true id 2 eq, read))
     one false false ep eq h = absurd cc
 
-circuit_of : (version : ℕ) → (version ≡ 1) ⊎ (version ≡ 2) → (id : ℕ) (rest : List ℕ) → IsBytes rest → IsRead version id rest → (c : AnyCircuit) × CircuitBytes c (76 ∷ 90 ∷ 67 ∷ (48 + version) ∷ id ∷ rest)
+circuit_of : (version : ℕ) → (version ≡ 1) ⊎ (version ≡ 2) → (id : ℕ) (rest : List ℕ) → IsBytes rest → IsRead version id rest → (c : AnyCircuit) × CircuitBytes c (76 ∷ file_letter ∷ 67 ∷ (48 + version) ∷ id ∷ rest)
 circuit_of version known id rest fits (inl (w, is, e)) =
     let made = some_file gold.ops p (λ x. x.n) gold.of_number element_bytes gold.laws field_byte version known rest w fits e in
-    (Gold made.0, subst (λ n. IsFile gold.ops (λ x. x.n) goldilocks made.0 (76 ∷ 90 ∷ 67 ∷ (48 + version) ∷ n ∷ rest)) (sym is) made.1)
+    (Gold made.0, subst (λ n. IsFile gold.ops (λ x. x.n) goldilocks made.0 (76 ∷ file_letter ∷ 67 ∷ (48 + version) ∷ n ∷ rest)) (sym is) made.1)
 circuit_of version known id rest fits (inr (w, is, e)) =
     let made = some_file gf.ops (2 ^ 128) (λ x. x.n) gf.of_number 16 gf.laws 2 version known rest w fits e in
-    (Gf made.0, subst (λ n. IsFile gf.ops (λ x. x.n) gf128 made.0 (76 ∷ 90 ∷ 67 ∷ (48 + version) ∷ n ∷ rest)) (sym is) made.1)
+    (Gf made.0, subst (λ n. IsFile gf.ops (λ x. x.n) gf128 made.0 (76 ∷ file_letter ∷ 67 ∷ (48 + version) ∷ n ∷ rest)) (sym is) made.1)
 
 found : (bytes : List ℕ) (x : ℕ × Wiring ℕ) → IsBytes bytes → circuit_at bytes ≡ Ok x → (c : AnyCircuit) × CircuitBytes c bytes
 found bytes x fits e = let b = begins bytes x e in go b.version b.known b.rest b.is b.read
   where
-    behind : (magic id : ℕ) (rest : List ℕ) → bytes ≡ 76 ∷ 90 ∷ 67 ∷ magic ∷ id ∷ rest → IsBytes rest
+    behind : (magic id : ℕ) (rest : List ℕ) → bytes ≡ 76 ∷ file_letter ∷ 67 ∷ magic ∷ id ∷ rest → IsBytes rest
     behind magic id rest is =
-        let w : IsBytes (76 ∷ 90 ∷ 67 ∷ magic ∷ id ∷ rest) = subst IsBytes is fits in
-        IsBytes-rest id rest (IsBytes-rest magic (id ∷ rest) (IsBytes-rest 67 (magic ∷ id ∷ rest) (IsBytes-rest 90 (67 ∷ magic ∷ id ∷ rest) (IsBytes-rest 76 (90 ∷ 67 ∷ magic ∷ id ∷ rest) w))))
+        let w : IsBytes (76 ∷ file_letter ∷ 67 ∷ magic ∷ id ∷ rest) = subst IsBytes is fits in
+        IsBytes-rest id rest (IsBytes-rest magic (id ∷ rest) (IsBytes-rest 67 (magic ∷ id ∷ rest) (IsBytes-rest file_letter (67 ∷ magic ∷ id ∷ rest) (IsBytes-rest 76 (file_letter ∷ 67 ∷ magic ∷ id ∷ rest) w))))
 
-    go : (version : ℕ) → (version ≡ 1) ⊎ (version ≡ 2) → (rest : List ℕ) → bytes ≡ 76 ∷ 90 ∷ 67 ∷ (48 + version) ∷ rest → field_at version rest ≡ Ok x → (c : AnyCircuit) × CircuitBytes c bytes
+    go : (version : ℕ) → (version ≡ 1) ⊎ (version ≡ 2) → (rest : List ℕ) → bytes ≡ 76 ∷ file_letter ∷ 67 ∷ (48 + version) ∷ rest → field_at version rest ≡ Ok x → (c : AnyCircuit) × CircuitBytes c bytes
     go version known [] is read = absurd cc
     go version known (id ∷ rest) is read =
         let c = circuit_of version known id rest (behind (48 + version) id rest is) (field_read version id rest x read) in

@@ -5,7 +5,6 @@ use Rattle.lzk_circuit.specs.Valid.{Wiring}
 use Rattle.lzk_demo.specs.Demo.{demo_tree, demo_public, demo_private}
 use Rattle.lzk_field.specs.Coding.{Coding}
 use Rattle.lzk_field.specs.Ring.{Ops}
-use Rattle.lzk_field.specs.Words.{seeded_word}
 use Rattle.lzk_goldilocks.specs.declared.element.Gold.{Gold as GoldElement}
 use Rattle.lzk_goldilocks.specs.Elements as gold
 use Rattle.lzk_complete.specs.Proving.{IsProofFile, words_of}
@@ -16,6 +15,7 @@ use Rattle.lzk_verify.specs.Verdict.{IsVerdict, IsOnlyVerdict}
 use Rattle.lzk_level.specs.SomeCircuit.{IsCircuitOf}
 use Rattle.lzk_cmd_files.specs.Ends.{End, says, Stop}
 use Rattle.lzk_cmd_files.specs.Lines.{demo_line}
+use Rattle.lzk_cmd_runs.specs.Proved.{gold_word}
 use Rattle.lzk_cmd_verify.specs.Verified.{gold_coding}
 
 -- a circuit of the demo's source with n private inputs, the file of its one proof for the empty session and the seed's
@@ -23,16 +23,16 @@ use Rattle.lzk_cmd_verify.specs.Verified.{gold_coding}
 pub record IsDemo (n : ℕ) (seed : List ℕ) (c : Wiring GoldElement) (bytes : List ℕ) : Type 0 where
   pub compiled : IsCircuitOf (demo_tree n) (Gold c)
   pub file : IsProofFile gold.ops gold_coding c [] (demo_public gold.ops n) (demo_private gold.ops n)
-      (words_of (seeded_word seed)) bytes
+      (words_of (gold_word seed)) bytes
   pub accepted : IsVerdict gold.ops gold_coding c [] (demo_public gold.ops n) bytes Accepted
 
--- a proof of so many bytes of these inputs of a circuit, for the empty session and the seed's words, and this one
+-- a proof of so many bytes of these inputs of a circuit, for the empty session and these random words, and this one
 -- verdict on it
-pub record HasVerdict {A : Type 0} (o : Ops A) (e : Coding A) (c : Wiring A) (publics privates : List A) (seed : List ℕ)
+pub record HasVerdict {A : Type 0} (o : Ops A) (e : Coding A) (c : Wiring A) (publics privates : List A) (word : ℕ → ℕ)
     (len : ℕ) (verdict : Verdict A) : Type 0 where
   pub bytes : List ℕ
   pub long : length bytes ≡ len
-  pub file : IsProofFile o e c [] publics privates (words_of (seeded_word seed)) bytes
+  pub file : IsProofFile o e c [] publics privates (words_of word) bytes
   pub is : IsVerdict o e c [] publics bytes verdict
   pub only : IsOnlyVerdict o e c [] publics bytes verdict
 

@@ -14,7 +14,7 @@ use Rattle.lzk_cmd_files.specs.Decoded.{circuit_files}
 use Rattle.lzk_cmd_files.specs.Ends.{End, says, Stop}
 use Rattle.lzk_cmd_files.specs.Formats.{At}
 use Rattle.lzk_cmd_files.specs.Lines.{unfit_line}
-use Rattle.lzk_cmd_runs.specs.Proved.{Proves}
+use Rattle.lzk_cmd_runs.specs.Proved.{Proves, gold_word}
 use Rattle.lzk_cmd_words.specs.Digits.{message_of, seed_of, session_of}
 use Rattle.lzk_cmd_verify.specs.Verified.{gold_coding}
 
@@ -30,7 +30,7 @@ is_for len c = (c.publics == 8) && (c.privates == private_count len)
 -- the digest
 abbrev pub ProvesHash : Wiring GoldElement → List ℕ → List ℕ → List ℕ → List ℕ → Stop → End → Type 0
 ProvesHash c message proof session seed =
-    Proves gold.ops gold_coding c proof (Some (sha256 message)) session seed (digest_inputs message)
+    Proves gold.ops gold_coding c proof (Some (sha256 message)) session (gold_word seed) (digest_inputs message)
     (sha_private gold.of_number message)
 
 -- the walk has a circuit under a name: it proves for the message, or refuses a circuit of other counts or another field

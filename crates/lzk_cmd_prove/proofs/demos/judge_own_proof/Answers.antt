@@ -2,7 +2,6 @@ use Rattle.std.proofs.Common.{ℕ, List, [], Some, refl, subst}
 use Rattle.lzk_circuit.specs.Checks.{checks_of}
 use Rattle.lzk_circuit.specs.Valid.{Wiring}
 use Rattle.lzk_circuit.specs.Wires.{inputs_of, IsFirstNonzero}
-use Rattle.lzk_field.specs.Words.{seeded_word}
 use Rattle.lzk_complete.specs.Proving.{IsProofFile, words_of}
 use Rattle.lzk_cmd_runs.proofs.DemoCounts.{none_nonzero}
 use Rattle.lzk_cmd_prove.proofs.demos.judge_own_proof.Goals as goal
@@ -22,11 +21,10 @@ returns g c =
     let publics = c.args.publics.now in
     let privates = c.args.privates.now in
     let bytes = c.in-Ok.bytes.now in
-    let seeded = subst (λ (s : List ℕ). IsProofFile o e c.args.works.now [] publics privates (words_of (seeded_word s)) bytes) c.new-words.ensures c.in-Ok.ensures.proved.1 in
     record {
       bytes = bytes;
       long = refl;
-      file = subst (λ (w : Wiring _). IsProofFile o e w [] publics privates (words_of (seeded_word c.args.by.seed)) bytes) c.requires.works seeded;
+      file = subst (λ (w : Wiring _). IsProofFile o e w [] publics privates (words_of (g.W.Words.at c.args.words.now)) bytes) c.requires.works c.in-Ok.ensures.proved.1;
       is = c.in_ok-verdict-in-Ok.ensures.verdict;
       only = c.in_ok-verdict-in-Ok.ensures.one;
     }

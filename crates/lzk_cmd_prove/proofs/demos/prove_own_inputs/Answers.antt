@@ -5,6 +5,7 @@ use Rattle.lzk_goldilocks.specs.declared.element.Gold.{Gold as GoldElement}
 use Rattle.lzk_demo.specs.Demo.{demo_private}
 use Rattle.lzk_verify.specs.declared.verdict.Verdict.TheVariants.{Accepted}
 use Rattle.lzk_cmd_runs.specs.Demo.{HasVerdict}
+use Rattle.lzk_cmd_runs.specs.Proved.{gold_word}
 use Rattle.lzk_cmd_verify.specs.Verified.{gold_coding}
 use Rattle.lzk_cmd_runs.proofs.DemoCounts.{length_private}
 use Rattle.lzk_cmd_prove.proofs.demos.prove_own_inputs.Goals as goal
@@ -17,5 +18,5 @@ returns g c =
     let circuit = c.args.circuit.now in
     let inputs = c.in_ok-inputs.inputs in
     let len = c.prove_demo-len.result in
-    subst (λ (ps : List GoldElement). IfOk len (λ n. HasVerdict ops gold_coding circuit ps (demo_private ops c.args.n) c.args.by.seed n Accepted)) c.in_ok-inputs.ensures.public
-    (subst (λ (qs : List GoldElement). IfOk len (λ n. HasVerdict ops gold_coding circuit inputs.public.items qs c.args.by.seed n Accepted)) c.in_ok-inputs.ensures.private c.prove_demo-len.ensures)
+    subst (λ (ps : List GoldElement). IfOk len (λ n. HasVerdict ops gold_coding circuit ps (demo_private ops c.args.n) (gold_word c.args.by.seed) n Accepted)) c.in_ok-inputs.ensures.public
+    (subst (λ (qs : List GoldElement). IfOk len (λ n. HasVerdict ops gold_coding circuit inputs.public.items qs (gold_word c.args.by.seed) n Accepted)) c.in_ok-inputs.ensures.private c.prove_demo-len.ensures)

@@ -13,7 +13,7 @@ returns-in_err-publics-clause-walks g c =
     let circuit = c.args.circuit.now in
     let task = c.args.task.now in
     let end = seen g.S.Shelf c.read_elements.new.shelf in
-    no_publics e.size e.number circuit.publics circuit.privates c.args.public_file.now c.args.private_file.now (WithInputs g.F.Field.ops e circuit task.proof.now None task.session.now task.seed) (Unit {0}) (seen g.S.Shelf c.args.shelf.now) end end end c.publics.result circuit.privates c.publics.ensures refl
+    no_publics e.size e.number circuit.publics circuit.privates c.args.public_file.now c.args.private_file.now (WithInputs g.F.Field.ops e circuit task.proof.now None task.session.now (g.W.Words.at c.args.words.now)) (Unit {0}) (seen g.S.Shelf c.args.shelf.now) end end end c.publics.result circuit.privates c.publics.ensures refl
     c.in_err-publics.field-0.0 _ c.in_err-publics.ensures.reads c.in_err-publics.ensures.gives c.from_residual.ensures.1
 
 pub returns-in_err-privates-clause-walks : goal.returns-in_err-privates-clause-walks
@@ -23,7 +23,7 @@ returns-in_err-privates-clause-walks g c =
     let circuit = c.args.circuit.now in
     let task = c.args.task.now in
     let end = seen g.S.Shelf c.read_elements-2.new.shelf in
-    no_privates e.size e.number circuit.publics circuit.privates c.args.public_file.now c.args.private_file.now (WithInputs g.F.Field.ops e circuit task.proof.now None task.session.now task.seed) (Unit {0}) (seen g.S.Shelf c.args.shelf.now) (seen g.S.Shelf c.read_elements.new.shelf) end end c.publics.result c.privates.result c.publics.ensures c.privates.ensures
+    no_privates e.size e.number circuit.publics circuit.privates c.args.public_file.now c.args.private_file.now (WithInputs g.F.Field.ops e circuit task.proof.now None task.session.now (g.W.Words.at c.args.words.now)) (Unit {0}) (seen g.S.Shelf c.args.shelf.now) (seen g.S.Shelf c.read_elements.new.shelf) end end c.publics.result c.privates.result c.publics.ensures c.privates.ensures
     c.in_ok-publics.publics c.in_err-privates.field-0.0 _ c.in_ok-publics.ensures.reads c.in_ok-publics.ensures.gives c.in_err-privates.ensures.reads c.in_err-privates.ensures.gives c.from_residual-in_err-privates.ensures.1
 
 pub returns-clause-walks : goal.returns-clause-walks
@@ -37,8 +37,8 @@ returns-clause-walks g c =
     let privates = c.in_ok-privates.privates in
     let late = seen g.S.Shelf c.read_elements-2.new.shelf in
     let end = seen g.S.Shelf c.prove_inputs.new.shelf in
-    let plain = subst (λ (d : Option (List ℕ)). WalksToPut (WithInputs o e circuit task.proof.now d task.session.now task.seed c.deref.result.now c.deref-2.result.now) 3 late end c.prove_inputs.result) c.requires.digest c.prove_inputs.ensures.walks in
-    let first = subst (λ (xs : List _). WalksToPut (WithInputs o e circuit task.proof.now None task.session.now task.seed xs c.deref-2.result.now) 3 late end c.prove_inputs.result) c.deref.ensures.value plain in
-    let both = subst (λ (ys : List _). WalksToPut (WithInputs o e circuit task.proof.now None task.session.now task.seed publics.items ys) 3 late end c.prove_inputs.result) c.deref-2.ensures.value first in
-    with_inputs e.size e.number circuit.publics circuit.privates c.args.public_file.now c.args.private_file.now (WithInputs o e circuit task.proof.now None task.session.now task.seed) (Unit {0}) (seen g.S.Shelf c.args.shelf.now) (seen g.S.Shelf c.read_elements.new.shelf) late end c.publics.result c.privates.result c.publics.ensures c.privates.ensures
+    let plain = subst (λ (d : Option (List ℕ)). WalksToPut (WithInputs o e circuit task.proof.now d task.session.now (g.W.Words.at c.args.words.now) c.deref.result.now c.deref-2.result.now) 3 late end c.prove_inputs.result) c.requires.digest c.prove_inputs.ensures.walks in
+    let first = subst (λ (xs : List _). WalksToPut (WithInputs o e circuit task.proof.now None task.session.now (g.W.Words.at c.args.words.now) xs c.deref-2.result.now) 3 late end c.prove_inputs.result) c.deref.ensures.value plain in
+    let both = subst (λ (ys : List _). WalksToPut (WithInputs o e circuit task.proof.now None task.session.now (g.W.Words.at c.args.words.now) publics.items ys) 3 late end c.prove_inputs.result) c.deref-2.ensures.value first in
+    with_inputs e.size e.number circuit.publics circuit.privates c.args.public_file.now c.args.private_file.now (WithInputs o e circuit task.proof.now None task.session.now (g.W.Words.at c.args.words.now)) (Unit {0}) (seen g.S.Shelf c.args.shelf.now) (seen g.S.Shelf c.read_elements.new.shelf) late end c.publics.result c.privates.result c.publics.ensures c.privates.ensures
     publics privates c.prove_inputs.result c.in_ok-publics.ensures.reads c.in_ok-publics.ensures.gives c.in_ok-privates.ensures.reads c.in_ok-privates.ensures.gives both

@@ -3,7 +3,6 @@ use Rattle.std.specs.Option.{option_copied}
 use Rattle.lzk_circuit.specs.Checks.{checks_of}
 use Rattle.lzk_circuit.specs.Valid.{Wiring}
 use Rattle.lzk_circuit.specs.Wires.{inputs_of, IsFirstNonzero}
-use Rattle.lzk_field.specs.Words.{seeded_word}
 use Rattle.lzk_complete.specs.Proving.{IsProofFile, words_of}
 use Rattle.lzk_cmd_files.specs.Seen.{seen}
 use Rattle.lzk_cmd_files.specs.declared.ending.Halt.TheVariants as halts
@@ -17,11 +16,11 @@ returns-in_ok-text-in-Ok-clause-walks g c =
     let circuit = c.args.circuit.now in
     let task = c.args.task.now in
     let bytes = c.in-Ok.bytes.now in
-    let word = words_of (seeded_word task.seed) in
+    let random = g.W.Words.at c.args.words.now in
+    let word = words_of random in
     let first = subst (λ (w : Wiring _). IsFirstNonzero o (checks_of o e.number w.layers (inputs_of o c.args.publics.now c.args.privates.now)) None) c.requires.works c.in-Ok.ensures.proved.0 in
-    let seeded = subst (λ (s : List ℕ). IsProofFile o e c.args.works.now task.session.now c.args.publics.now c.args.privates.now (words_of (seeded_word s)) bytes) c.new-words.ensures c.in-Ok.ensures.proved.1 in
-    let file = subst (λ (w : Wiring _). IsProofFile o e w task.session.now c.args.publics.now c.args.privates.now word bytes) c.requires.works seeded in
-    puts_proof o e circuit task.proof.now (option_copied task.digest) task.session.now task.seed c.args.publics.now c.args.privates.now (seen g.S.Shelf c.args.shelf.now) (seen g.S.Shelf c.put_file.new.shelf) bytes _ c.put_file.result first file
+    let file = subst (λ (w : Wiring _). IsProofFile o e w task.session.now c.args.publics.now c.args.privates.now word bytes) c.requires.works c.in-Ok.ensures.proved.1 in
+    puts_proof o e circuit task.proof.now (option_copied task.digest) task.session.now random c.args.publics.now c.args.privates.now (seen g.S.Shelf c.args.shelf.now) (seen g.S.Shelf c.put_file.new.shelf) bytes _ c.put_file.result first file
     (c.proofs_fit.ensures task.session.now c.args.publics.now c.args.privates.now word bytes file) c.in_ok-text-in-Ok.ensures c.put_file.ensures.puts
 
 pub returns-in_ok-unsatisfied-in-Err-clause-walks : goal.returns-in_ok-unsatisfied-in-Err-clause-walks
@@ -31,16 +30,16 @@ returns-in_ok-unsatisfied-in-Err-clause-walks g c =
     let task = c.args.task.now in
     let first = c.in-Err.first in
     let is = subst (λ (w : Wiring _). IsFirstNonzero o (checks_of o e.number w.layers (inputs_of o c.args.publics.now c.args.privates.now)) (Some (first.output, first.value.now))) c.requires.works c.in-Err.ensures.proved in
-    tells_first o e c.args.circuit.now task.proof.now (option_copied task.digest) task.session.now task.seed c.args.publics.now c.args.privates.now (seen g.S.Shelf c.args.shelf.now) (first.output, first.value.now) c.in_ok-unsatisfied-in-Err.field-0 is c.in_ok-unsatisfied-in-Err.ensures
+    tells_first o e c.args.circuit.now task.proof.now (option_copied task.digest) task.session.now (g.W.Words.at c.args.words.now) c.args.publics.now c.args.privates.now (seen g.S.Shelf c.args.shelf.now) (first.output, first.value.now) c.in_ok-unsatisfied-in-Err.field-0 is c.in_ok-unsatisfied-in-Err.ensures
 
 pub returns-in_err-text-in-Ok-clause-walks : goal.returns-in_err-text-in-Ok-clause-walks
 returns-in_err-text-in-Ok-clause-walks g c =
     let e = g.F.Field.coding in
     let task = c.args.task.now in
-    no_memory g.F.Field.ops e c.args.circuit.now task.proof.now (option_copied task.digest) task.session.now task.seed c.args.publics.now c.args.privates.now (seen g.S.Shelf c.args.shelf.now) halts.Memory _ refl c.from_residual.ensures.1
+    no_memory g.F.Field.ops e c.args.circuit.now task.proof.now (option_copied task.digest) task.session.now (g.W.Words.at c.args.words.now) c.args.publics.now c.args.privates.now (seen g.S.Shelf c.args.shelf.now) halts.Memory _ refl c.from_residual.ensures.1
 
 pub returns-in_err-unsatisfied-in-Err-clause-walks : goal.returns-in_err-unsatisfied-in-Err-clause-walks
 returns-in_err-unsatisfied-in-Err-clause-walks g c =
     let e = g.F.Field.coding in
     let task = c.args.task.now in
-    no_memory g.F.Field.ops e c.args.circuit.now task.proof.now (option_copied task.digest) task.session.now task.seed c.args.publics.now c.args.privates.now (seen g.S.Shelf c.args.shelf.now) halts.Memory _ refl c.from_residual-in_err-unsatisfied-in-Err.ensures.1
+    no_memory g.F.Field.ops e c.args.circuit.now task.proof.now (option_copied task.digest) task.session.now (g.W.Words.at c.args.words.now) c.args.publics.now c.args.privates.now (seen g.S.Shelf c.args.shelf.now) halts.Memory _ refl c.from_residual-in_err-unsatisfied-in-Err.ensures.1
