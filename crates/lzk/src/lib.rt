@@ -152,14 +152,15 @@ pub use lzk_expr::{NumberError, Source, SourceError, parse, read_numbers};
 pub use lzk_field::{Field, Gate, Open, Seeded, Words};
 pub use lzk_gadgets::Statement;
 pub use lzk_gf128::Gf128;
-pub use lzk_goldilocks::Gold;
+pub use lzk_goldilocks::{Drawn, Gold};
 pub use lzk_level::{LevelError, Node, compile, compile_v2};
 pub use lzk_ligero::Unsatisfied;
 use lzk_ligero::WorksOver;
 use lzk_ntt::NttExtender;
 pub use lzk_verify::{Desk as Verifier, Verdict};
 
-/// A prover over a circuit over Goldilocks, with the fastest extension of rows.
+/// A prover over a circuit over the prime field, with the fastest extension of rows. Its random words are to be those of
+/// [`Drawn`], which in LZK1 are the words of its source as they are.
 pub type GoldProver<'c> = WorksOver<'c, Gold, NttExtender<Gold>>;
 
 /// A prover over a circuit over GF(2^128), with the fastest extension of rows.

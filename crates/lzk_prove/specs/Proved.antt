@@ -9,6 +9,7 @@ use Rattle.lzk_circuit.specs.Wires.{inputs_of, IsFirstNonzero}
 use Rattle.lzk_field.specs.Coding.{Coding}
 use Rattle.lzk_field.specs.Ring.{Ops}
 use Rattle.lzk_field.specs.Words.{seeded_word}
+use Rattle.lzk_goldilocks.specs.Drawn.{drawn}
 use Rattle.lzk_goldilocks.specs.Elements as gold
 use Rattle.lzk_gf128.specs.Elements as gf
 use Rattle.lzk_complete.specs.Proving.{IsProofFile, words_of}
@@ -20,11 +21,11 @@ use Rattle.lzk_calls.specs.Inputs.{AreInputs, LacksInputs, IsUnread, gold_coding
 use Rattle.lzk_calls.specs.Room.{Puts}
 
 module _ {A : Type 0} (o : Ops A) (e : Coding A) (c : Wiring A)
-    (session seed : List ℕ) (old new : List ℕ) (told : Result ℕ Refusal) where
-  -- the one proof of these inputs with the seed's words is put, and the verdict on it is that it is accepted
+    (session : List ℕ) (word : ℕ → ℕ) (old new : List ℕ) (told : Result ℕ Refusal) where
+  -- the one proof of these inputs with these random words is put, and the verdict on it is that it is accepted
   abbrev pub PutsProof : List A → List A → Type 0
   PutsProof publics privates =
-      (bytes : List ℕ) × IsProofFile o e c session publics privates (words_of (seeded_word seed)) bytes
+      (bytes : List ℕ) × IsProofFile o e c session publics privates (words_of word) bytes
       × IsVerdict o e c session publics bytes Accepted × Puts bytes old new told
 
   -- that, where all checks are 0; and otherwise the first that is not is told, and the room is as it was
@@ -42,8 +43,8 @@ module _ {A : Type 0} (o : Ops A) (e : Coding A) (c : Wiring A)
       × AreInputs e c session public private publics privates × ProvesInputs publics privates)
 
 abbrev pub ProvesOf : AnyCircuit → List ℕ → List ℕ → List ℕ → List ℕ → Result ℕ Refusal → List ℕ → List ℕ → Type 0
-ProvesOf (Gold c) = ProvesOver gold.ops gold_coding c
-ProvesOf (Gf c) = ProvesOver gf.ops gf_coding c
+ProvesOf (Gold c) session seed = ProvesOver gold.ops gold_coding c session (drawn (seeded_word seed))
+ProvesOf (Gf c) session seed = ProvesOver gf.ops gf_coding c session (seeded_word seed)
 
 -- what is told of a circuit's file, two texts, a session and a seed, and becomes of a room
 abbrev pub Proves : List ℕ → List ℕ → List ℕ → List ℕ → List ℕ → List ℕ → List ℕ → Result ℕ Refusal → Type 0

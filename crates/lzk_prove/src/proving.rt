@@ -9,9 +9,9 @@ use lzk_afft::Transform;
 use lzk_calls::{Refusal, circuit_of, inputs_of, put};
 use lzk_circbytes::{AnyCircuit, id_of_file};
 use lzk_circuit::Circuit;
-use lzk_field::{Field, Open, Seeded};
+use lzk_field::{Field, Open, Seeded, Words};
 use lzk_gf128::Gf128;
-use lzk_goldilocks::Gold;
+use lzk_goldilocks::{Drawn, Gold};
 use lzk_hands::Hands;
 use lzk_ligero::WorksOver;
 use lzk_ntt::NttExtender;
@@ -31,13 +31,23 @@ pub struct With<'a> {
     pub ghost few: { workers ≤ 64 },
 }
 
+// The random words of a seed over the prime field.
+fn gold_words(seed: [u8; 32]) -> Drawn<Seeded>
+    ensures { result.words ≡ seed }
+{
+    Drawn {
+        words: Seeded::new(seed),
+    }
+}
+
 // Proves with a prover for the circuit, and puts the proof into a room.
-fn put_proof<R: Hands, F: Field, X: RowExtend<F>>(
+fn put_proof<R: Hands, F: Field, X: RowExtend<F>, W: Words>(
     rt: &R,
     circuit: &Circuit<F>,
     works: &mut WorksOver<'_, F, X>,
     publics: &[F],
     privates: &[F],
+    words: &W,
     with: &With<'_>,
     room: &mut [u8],
 ) -> Result<u64, Refusal>
@@ -46,15 +56,15 @@ fn put_proof<R: Hands, F: Field, X: RowExtend<F>>(
     requires privates { length privates.now ≡ circuit.now.privates }
     requires session { length with.now.session.now ≤ 64 }
     ensures { let w = with.now in
-        ProvesInputs F.ops F.coding circuit.now w.session.now w.seed room.old room.new result publics.now privates.now }
+        ProvesInputs F.ops F.coding circuit.now w.session.now (W.at words.now) room.old room.new result publics.now
+        privates.now }
 {
-    let words = Seeded::new(with.seed);
     match works.prove(
         rt,
         with.session,
         publics,
         privates,
-        &words,
+        words,
         with.workers,
         &Open,
     ) {
@@ -64,13 +74,14 @@ fn put_proof<R: Hands, F: Field, X: RowExtend<F>>(
 }
 
 // The same, with a prover of its own.
-fn prove_inputs<R: Hands, F: Field, X: RowExtend<F>>(
+fn prove_inputs<R: Hands, F: Field, X: RowExtend<F>, W: Words>(
     rt: &R,
     alloc: Global,
     circuit: &Circuit<F>,
     id: [u8; 32],
     publics: &[F],
     privates: &[F],
+    words: &W,
     with: &With<'_>,
     room: &mut [u8],
 ) -> Result<u64, Refusal>
@@ -80,12 +91,14 @@ fn prove_inputs<R: Hands, F: Field, X: RowExtend<F>>(
     requires session { length with.now.session.now ≤ 64 }
     ensures { let w = with.now in
         ((result ≡ Err OutOfMemory) × (room.new ≡ room.old))
-        ⊎ ProvesInputs F.ops F.coding circuit.now w.session.now w.seed room.old room.new result publics.now
+        ⊎ ProvesInputs F.ops F.coding circuit.now w.session.now (W.at words.now) room.old room.new result publics.now
         privates.now }
 {
     match WorksOver::<F, X>::with_id(alloc, circuit, id) {
         Ok(mut works) => {
-            let told = put_proof(rt, circuit, &mut works, publics, privates, with, room);
+            let told = put_proof(
+                rt, circuit, &mut works, publics, privates, words, with, room,
+            );
             works.close();
             told
         }
@@ -94,28 +107,31 @@ fn prove_inputs<R: Hands, F: Field, X: RowExtend<F>>(
 }
 
 // The same, on two texts.
-fn prove_over<R: Hands, F: Field, X: RowExtend<F>>(
+fn prove_over<R: Hands, F: Field, X: RowExtend<F>, W: Words>(
     rt: &R,
     alloc: Global,
     circuit: &Circuit<F>,
     id: [u8; 32],
     public: &[u8],
     private: &[u8],
+    words: &W,
     with: &With<'_>,
     room: &mut [u8],
 ) -> Result<u64, Refusal>
     requires id { id ≡ id_of F.coding circuit.now }
     ensures { let w = with.now in
-        ProvesOver F.ops F.coding circuit.now w.session.now w.seed room.old room.new result public.now private.now }
+        ProvesOver F.ops F.coding circuit.now w.session.now (W.at words.now) room.old room.new result public.now
+        private.now }
 {
     match inputs_of(alloc, circuit, with.session, public, private) {
-        Ok(inputs) => prove_inputs::<R, F, X>(
+        Ok(inputs) => prove_inputs::<R, F, X, W>(
             rt,
             alloc,
             circuit,
             id,
             &inputs.publics,
             &inputs.privates,
+            words,
             with,
             room,
         ),
@@ -139,11 +155,27 @@ fn prove_any<R: Hands>(
 {
     let id = id_of_file(bytes);
     match circuit {
-        AnyCircuit::Gold(c) => prove_over::<R, Gold, NttExtender<Gold>>(
-            rt, alloc, c, id, public, private, with, room,
+        AnyCircuit::Gold(c) => prove_over::<R, Gold, NttExtender<Gold>, Drawn<Seeded>>(
+            rt,
+            alloc,
+            c,
+            id,
+            public,
+            private,
+            &gold_words(with.seed),
+            with,
+            room,
         ),
-        AnyCircuit::Gf(c) => prove_over::<R, Gf128, Transform>(
-            rt, alloc, c, id, public, private, with, room,
+        AnyCircuit::Gf(c) => prove_over::<R, Gf128, Transform, Seeded>(
+            rt,
+            alloc,
+            c,
+            id,
+            public,
+            private,
+            &Seeded::new(with.seed),
+            with,
+            room,
         ),
     }
 }

@@ -2,7 +2,6 @@ use Rattle.std.proofs.Common.{ℕ, List, None, Some, Err, ap, refl, subst}
 use Rattle.lzk_circuit.specs.Checks.{checks_of}
 use Rattle.lzk_circuit.specs.Valid.{Wiring}
 use Rattle.lzk_circuit.specs.Wires.{inputs_of, IsFirstNonzero}
-use Rattle.lzk_field.specs.Words.{seeded_word}
 use Rattle.lzk_complete.specs.Proving.{IsProofFile, words_of}
 use Rattle.lzk_verify.specs.Verdict.{IsVerdict}
 use Rattle.lzk_verify.specs.declared.verdict.Verdict.TheVariants.{Accepted}
@@ -18,8 +17,7 @@ returns-in-Ok g c =
     let privates = c.args.privates.now in
     let bytes = c.in-Ok.bytes.now in
     let first = subst (λ (w : Wiring _). IsFirstNonzero o (checks_of o e.number w.layers (inputs_of o publics privates)) None) c.requires.works c.in-Ok.ensures.proved.0 in
-    let seeded = subst (λ (s : List ℕ). IsProofFile o e c.args.works.now session publics privates (words_of (seeded_word s)) bytes) c.new-words.ensures c.in-Ok.ensures.proved.1 in
-    let file = subst (λ (w : Wiring _). IsProofFile o e w session publics privates (words_of (seeded_word c.args.with.now.seed)) bytes) c.requires.works seeded in
+    let file = subst (λ (w : Wiring _). IsProofFile o e w session publics privates (words_of (g.W.Words.at c.args.words.now)) bytes) c.requires.works c.in-Ok.ensures.proved.1 in
     let accepted = subst (λ (w : Wiring _). IsVerdict o e w session publics bytes Accepted) c.requires.works c.in-Ok.ensures.accepted in
     (None, first, (bytes, file, accepted, c.put.ensures))
 
