@@ -1,6 +1,6 @@
 //! Statements made of gadgets, each with the theorem that what it asserts holds exactly where what it claims is true.
 //!
-//! A [`Statement`] holds nodes over the Goldilocks field and asserts that some are 0. A gadget adds nodes and asserts.
+//! A [`Statement`] holds nodes over the prime field and asserts that some are 0. A gadget adds nodes and asserts.
 //! Its contract says, for all inputs, that all asserts hold behind the call exactly where they held before it and the
 //! gadget's claim is true: so a gadget neither lets through what is false nor forbids what is true. This follows no
 //! standard. A caller writes, for two public numbers of which the first is at most the second,

@@ -16,7 +16,7 @@ use lzk_level::{Builder, LevelError, Node};
 use std::alloc::{AllocError, Global};
 use std::marker::Model;
 
-/// Nodes over the Goldilocks field, some of which are asserted to be 0. It has at most 2^31 nodes: for more there is no
+/// Nodes over the prime field, some of which are asserted to be 0. It has at most 2^31 nodes: for more there is no
 /// memory.
 #[derive(Drop)]
 pub struct Statement {

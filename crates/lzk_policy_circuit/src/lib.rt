@@ -3,7 +3,7 @@
 //!
 //! A policy (`lzk_policy`) says what a record is and what is shown of it; docs/POLICY.md has its lines, and which
 //! public and private inputs the circuit has. It is a statement of gadgets (`lzk_gadgets`) beside the circuit of
-//! SHA-256 for the record and for each pseudonym (`lzk_sha_circuit`, `lzk_beside`), over the Goldilocks field alone,
+//! SHA-256 for the record and for each pseudonym (`lzk_sha_circuit`, `lzk_beside`), over the prime field alone,
 //! since that is the field of the circuit of SHA-256. This follows no standard. A caller writes
 //!
 //! ```text

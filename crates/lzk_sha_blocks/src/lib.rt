@@ -1,4 +1,4 @@
-//! SHA-256 (FIPS 180-4) of messages of many blocks as a circuit over the Goldilocks field, for messages of 0 to 503
+//! SHA-256 (FIPS 180-4) of messages of many blocks as a circuit over the prime field, for messages of 0 to 503
 //! bytes.
 //!
 //! The circuits of the blocks' compressions stand side by side, each from the state behind the one before it. The

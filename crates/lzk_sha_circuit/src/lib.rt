@@ -1,4 +1,4 @@
-//! One block of SHA-256 (FIPS 180-4) as equations over the Goldilocks field, for messages of 0 to 55 bytes.
+//! One block of SHA-256 (FIPS 180-4) as equations over the prime field, for messages of 0 to 55 bytes.
 //!
 //! Every word of schedule, rounds and digest is there in bits, as private inputs, and the public inputs are the
 //! words of the digest. The equations are the outputs of `specs/Outputs.antt`, each of which is to be 0. A caller

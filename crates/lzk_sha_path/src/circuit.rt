@@ -90,8 +90,8 @@ fn with_levels(
     }
 }
 
-/// The circuit of a path of one level to [`MOST_LEVELS`]. Its public inputs are the eight words of a leaf, and the eight
-/// words of a root.
+/// The circuit of a path of one level to [`MOST_LEVELS`]. Its public inputs are the eight words of a leaf, and the
+/// eight words of a root.
 pub fn path_circuit(alloc: Global, depth: u32) -> Result<Circuit<Gold>, PathError>
     ensures version { IfOk result (λ c. c.version ≡ 1) }
     ensures publics { IfOk result (λ c. c.publics ≡ 16) }
