@@ -83,17 +83,17 @@ enum lzk_check {
 /* Which rule a proof's file breaks (check 1). */
 enum lzk_proof_kind {
   LZK_PROOF_TRUNCATED = 1,  /* the bytes end inside the field at offset */
-  LZK_PROOF_MAGIC = 2,      /* they do not begin with LZP1 */
+  LZK_PROOF_MAGIC = 2,      /* they do not begin with LZP1, or LSP1 in the strong profile */
   LZK_PROOF_ELEMENT = 3,    /* a number is not below the field's size */
-  LZK_PROOF_PATH_LIMIT = 4, /* the path has more than 1,536 digests */
+  LZK_PROOF_PATH_LIMIT = 4, /* the path has more than 1,536 digests, or 3,960 in the strong profile */
   LZK_PROOF_TRAILING = 5    /* bytes are left after the last field */
 };
 
 /* Which rule a circuit's file breaks (LZK_NO_CIRCUIT). */
 enum lzk_circuit_kind {
   LZK_CIRCUIT_TRUNCATED = 1,
-  LZK_CIRCUIT_MAGIC = 2,    /* the file begins with neither LZC1 nor LZC2 */
-  LZK_CIRCUIT_FIELD = 3,    /* the field's byte is neither 1 nor 2 */
+  LZK_CIRCUIT_MAGIC = 2,    /* the file begins with neither LZC1 nor LZC2, or in the strong profile LSC1 nor LSC2 */
+  LZK_CIRCUIT_FIELD = 3,    /* the field's byte is none of the profile's */
   LZK_CIRCUIT_LIMIT = 4,    /* a count, or a running total, is over its limit */
   LZK_CIRCUIT_VARINT = 5,   /* a number is not in its shortest form, or is 2^32 or more */
   LZK_CIRCUIT_ORDER = 6,    /* a term does not come after the one before it */
@@ -154,7 +154,7 @@ typedef struct lzk_info {
   uint32_t answer;   /* enum lzk_answer */
   uint32_t kind;     /* enum lzk_circuit_kind */
   uint64_t offset;
-  uint32_t field;    /* 1: Goldilocks, 2: GF(2^128) */
+  uint32_t field;    /* 1: Goldilocks, 2: GF(2^128), 3: the strong profile's prime field */
   uint32_t version;  /* 1 or 2 */
   uint32_t publics;  /* how many public numbers */
   uint32_t privates; /* how many private numbers */

@@ -200,8 +200,8 @@ static inline char *lzk_info_text(const lzk_info *found, char *room, size_t len)
   same.answer = found->answer, same.kind = found->kind, same.offset = found->offset;
   if (found->answer != LZK_DONE) return lzk_text(&same, room, len);
   snprintf(room, len, "field %s, version %u, public %u, private %u, layers %u, checks %u, id %s",
-           found->field == 1 ? "goldilocks" : "gf2_128", found->version, found->publics, found->privates, found->layers,
-           found->checks, lzk_hex(found->id, id));
+           found->field == 1 ? "goldilocks" : found->field == 2 ? "gf2_128" : "prime128", found->version, found->publics,
+           found->privates, found->layers, found->checks, lzk_hex(found->id, id));
   return room;
 }
 

@@ -161,7 +161,7 @@ def made_line(name: str, circuit: bytes) -> str:
 
 def show(names: List[str], keys: Dict[str, str]) -> Tuple[List[str], int]:
     info = lzk.circuit_info(Files().circuit(names[0]))
-    lines = [f"field {'goldilocks' if info.field == lzk.Field.GOLDILOCKS else 'gf2_128'}"]
+    lines = [f"field {info.field.name.lower()}"]
     lines += ["version 2"] if info.version == 2 else []
     return [*lines, f"id {info.id.hex()}", f"public {info.publics}", f"private {info.privates}", f"layers {info.layers}"], 0
 
@@ -220,7 +220,7 @@ def shacircuit(names: List[str], keys: Dict[str, str]) -> Tuple[List[str], int]:
 def sha256(names: List[str], keys: Dict[str, str]) -> Tuple[List[str], int]:
     circuit, message = Files().circuit(names[0]), bytes.fromhex(keys["message"])
     info, (public, private) = lzk.circuit_info(circuit), _statements.sha_inputs(message)
-    if (info.field, info.publics, info.privates) != (lzk.Field.GOLDILOCKS, len(public), len(private)):
+    if info.field == lzk.Field.GF2_128 or (info.publics, info.privates) != (len(public), len(private)):
         raise Ended(f"refused: {names[0]} is not for {len(message)} bytes", 3)
     try:
         made = lzk.prove(circuit, public, private, bytes.fromhex(keys.get("session", "")), seed_of(keys))

@@ -47,6 +47,7 @@ class Field(enum.IntEnum):
 
     GOLDILOCKS = 1
     GF2_128 = 2
+    PRIME128 = 3  # of the strong profile, whose library is named by LZK_LIBRARY
 
 
 @dataclass(frozen=True)

@@ -18,7 +18,7 @@ Numbers = Union[Iterable[int], str, bytes]
 """Numbers of the field: integers, or the text of a number file."""
 
 MOST_SESSION, MOST_TEXT, SEED_BYTES = 64, 4_194_304, 32
-SIZES = {Field.GOLDILOCKS: 2**64 - 2**32 + 1, Field.GF2_128: 2**128}
+SIZES = {Field.GOLDILOCKS: 2**64 - 2**32 + 1, Field.GF2_128: 2**128, Field.PRIME128: 2**128 - 2**54 + 1}
 
 
 class Job(NamedTuple):

@@ -252,6 +252,8 @@ pub enum Field {
     Goldilocks,
     /// Polynomials modulo x^128 + x^7 + x^2 + x + 1.
     Gf2_128,
+    /// The numbers below 2^128 - 2^54 + 1, of the strong profile's library.
+    Prime128,
 }
 
 /// What a circuit's file holds.
@@ -279,6 +281,7 @@ impl fmt::Display for Info {
         let field = match self.field {
             Field::Goldilocks => "goldilocks",
             Field::Gf2_128 => "gf2_128",
+            Field::Prime128 => "prime128",
         };
         write!(f, "field {field}, version {}, ", self.version)?;
         write!(f, "public {}, private {}, ", self.publics, self.privates)?;
@@ -450,10 +453,10 @@ pub fn circuit_info(circuit: &[u8]) -> Result<Info, Error> {
     unsafe { raw::lzk_circuit_info(circuit.as_ptr(), circuit.len(), &mut found) };
     match found.answer {
         0 => Ok(Info {
-            field: if found.field == 1 {
-                Field::Goldilocks
-            } else {
-                Field::Gf2_128
+            field: match found.field {
+                1 => Field::Goldilocks,
+                3 => Field::Prime128,
+                _ => Field::Gf2_128,
             },
             version: found.version,
             publics: found.publics,
