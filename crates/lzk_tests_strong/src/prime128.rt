@@ -43,6 +43,9 @@ const PRODUCTS: [(u128, u128, u128); 7] = [
     ),
 ];
 
+// The sum of these products.
+const SUM_OF_PRODUCTS: u128 = 0x5b64_3535_f53e_bd61_79c9_0e2c_779c_e607;
+
 // Two numbers, their sum and their difference.
 const SUMS: [(u128, u128, u128, u128); 5] = [
     (
@@ -203,6 +206,16 @@ fn products_sums_and_inverses(rt: HostRuntime) {
 }
 
 #[test]
+fn sums_of_products(rt: HostRuntime) {
+    let left = PRODUCTS.map(|row| Prime128::of_word(row.0));
+    let right = PRODUCTS.map(|row| Prime128::of_word(row.1));
+    assert_eq!(rt; Prime128::dot(&left, &right).number(), SUM_OF_PRODUCTS);
+    // Five products of nearly 2^256 each pass it four times.
+    let greatest = [Prime128::of_word(GREATEST); 5];
+    assert_eq!(rt; Prime128::dot(&greatest, &greatest).number(), 5);
+}
+
+#[test]
 fn numbers_words_and_bytes(rt: HostRuntime) {
     assert_eq!(rt; wrong_word(), None);
     for n in NO_ELEMENTS {
@@ -237,6 +250,9 @@ fn two_words_stand_for_a_number(rt: HostRuntime) -> Result<(), Fail> {
             },
         };
         assert_eq!(rt; words.word(0), number);
+        let mut filled = [1, 1];
+        words.fill(0, &mut filled);
+        assert_eq!(rt; filled, [number, 0]);
         drop(words);
     }
     Ok(())
