@@ -438,10 +438,11 @@ def run_digest(files: Files, name: bytes, record: bytes) -> Ran:
 
 
 def put(files: Files, puts: Sequence[Tuple[bytes, Union[Numbers, bytes]]]) -> Ran:
-    """What is written until a name cannot be: one that is a folder, or in a folder that is not there."""
+    """What is written until a name cannot be: one of a folder, or of no file in a folder that is not there."""
     done: Dict[bytes, Union[Numbers, bytes]] = {}
     for name, content in puts:
-        if files.get(name, b"") is None or (b"/" in name and files.get(name.rsplit(b"/", 1)[0], b"") is not None):
+        is_nowhere = name not in files and b"/" in name and files.get(name.rsplit(b"/", 1)[0], b"") is not None
+        if is_nowhere or files.get(name, b"") is None:
             return Ran(UNWRITTEN, (b"fault: writing %s\n" % name,), done)
         done[name] = content
     return Ran(DONE, (b"put\n",), done)
