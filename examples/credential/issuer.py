@@ -138,22 +138,19 @@ def issue(folder, policy_file, person_file, wallet, count):
 
 
 def publish(folder, policy_file, root_file, *people):
-    """One record for each person, at a place that is drawn. Leaves that are left over are random: they hide nobody."""
+    """One record for each person, at a place that is drawn. Places that are left over hide nobody."""
     policy = C.check_policy(policy_file)
     depth, pairs = C.depth_of(policy), list(zip(people[::2], people[1::2]))
     if depth == 0:
         raise Refused(f"{policy_file} shows a digest: a root is for a policy with show under root DEPTH")
-    leaves = [secrets.token_bytes(32) for _ in range(2**depth)]
-    if len(pairs) > len(leaves):
-        raise Refused(f"{len(pairs)} people, and {len(leaves)} leaves")
+    if len(pairs) > 2**depth:
+        raise Refused(f"{len(pairs)} people, and {2**depth} leaves")
     for _, wallet in pairs:
         if os.path.lexists(wallet):
             raise Refused(f"{wallet} is there already, and nothing is written over: name another folder")
-    places = secrets.SystemRandom().sample(range(len(leaves)), len(pairs))
+    places = secrets.SystemRandom().sample(range(2**depth), len(pairs))
     made = [record(policy, values_of(policy, person)) for person, _ in pairs]
-    for place, one in zip(places, made):
-        leaves[place] = C.digest(one)
-    rows = tree.rows_of(leaves)
+    rows = tree.rows_of({place: C.digest(one) for place, one in zip(places, made)}, depth)
     root = rows[-1][0]
     signature = sign(os.path.join(folder, "key.pem"), C.signed_root(depth, root))
     for (_, wallet), place, one in zip(pairs, places, made):
@@ -161,7 +158,7 @@ def publish(folder, policy_file, root_file, *people):
         give(wallet, policy, [{"record": one.hex(), "root": root.hex(), "leaf": place, "path": path}])
     with open(root_file, "w", encoding="utf-8") as file:
         json.dump({"root": root.hex(), "levels": depth, "signature": signature.hex()}, file)
-    print(f"a root over {len(leaves)} leaves, {len(pairs)} of them records")
+    print(f"a root over {2**depth:,} leaves, {len(pairs)} of them records")
 
 
 def main(words):

@@ -1,11 +1,14 @@
 #!/bin/sh
-# An issuer, wallets and services: who is let in, and what is refused. Needs Python 3.11, and openssl with Ed25519.
+# An issuer, wallets and services: who is let in, and what is refused. Needs Python 3.11, and openssl with Ed25519. The
+# records under a root are shown by the strong profile, those by a digest by the other one.
 here=$(cd "$(dirname "$0")" && pwd)
 # shellcheck source=examples/common.sh
 . "$here/../common.sh"
 # shellcheck disable=SC2154
-export ZK="$zk"
-export ZK_CREDENTIAL="${ZK_CREDENTIAL:-$(cd "$here/../.." && pwd)/zk-credential}"
+top=$(cd "$here/../.." && pwd)
+zk_credential=${ZK_CREDENTIAL:-$top/zk-credential}
+export ZK="${ZK_STRONG:-$top/zk-strong}"
+export ZK_CREDENTIAL="${ZK_CREDENTIAL_STRONG:-$top/zk-credential-strong}"
 export PYTHONDONTWRITEBYTECODE=1
 
 # Runs one of the three programs.
@@ -43,10 +46,53 @@ mix() {
         python3 -c 'import json, sys; one, other = (json.load(open(f"{name}/records.json"))[0] for name in (sys.argv[1], sys.argv[3])); other[sys.argv[2]] = one[sys.argv[2]]; json.dump([other], open(f"{sys.argv[4]}/records.json", "w"))' "$@"
 }
 
-tell what a verifier learns
-"$ZK_CREDENTIAL" show "$here/policy.txt"
-tell records
+tell what a verifier learns of a record under a root: issuer and service together do not know whose it is
+"$ZK_CREDENTIAL" show "$here/under.txt"
 call issuer key issuer
+call issuer key forger
+call issuer publish issuer "$here/under.txt" root "$here/ann.toml" ann_rooted "$here/bob.json" bob_rooted "$here/eve.toml" eve_rooted
+call service trust inn issuer/public.pem root
+ask inn inn.example under.txt q16
+call wallet ann_rooted inn.example q16 a16
+check inn q16 a16
+tell the same person again, whom nobody knows again, and somebody too young
+ask inn inn.example under.txt q17
+call wallet ann_rooted inn.example q17 a17
+check inn q17 a17
+ask inn inn.example under.txt q18
+call wallet bob_rooted inn.example q18 a18
+call wallet bob_rooted inn.example q18 a18 anyway
+tell a root that the service does not trust, and one that it is told is the issuer\'s
+call issuer publish forger "$here/under.txt" root2 "$here/ann.toml" mallory_rooted
+call wallet mallory_rooted inn.example q18 a18
+check inn q18 a18
+call service trust inn issuer/public.pem root2
+tell a root that the service trusts by another key than the one it checks with, and a root of another depth
+call service trust annex forger/public.pem root2
+ask annex annex.example under.txt q26
+call wallet mallory_rooted annex.example q26 a26
+check annex q26 a26
+sed 's/"levels": 16/"levels": 17/' root >root17
+call service trust inn issuer/public.pem root17
+tell a record of another tree by the path of a leaf under the root
+mix mallory_rooted record ann_rooted thief
+ask inn inn.example under.txt q19
+call wallet thief inn.example q19 a19
+call wallet thief inn.example q19 a19 anyway
+tell the path of another leaf
+mix ann_rooted record eve_rooted stray
+call wallet stray inn.example q19 a19
+call wallet stray inn.example q19 a19 anyway
+tell a service that asks for the digest of a record under a root, or for a pseudonym
+sed 's/^show under root 16$/show digest/' "$here/under.txt" > by-digest.txt
+call service request spy spy.example by-digest.txt q20 LATEST=20081129 TODAY=20261129
+call wallet ann_rooted spy.example q20 a20
+sed -e '/^show under root/i field secret bytes 16 at 15' -e '$a show pseudonym of secret for SERVICE' "$here/under.txt" > by-name.txt
+call service request spy spy.example by-name.txt q21 LATEST=20081129 TODAY=20261129
+call wallet ann_rooted spy.example q21 a21
+tell what a verifier learns of a record by its digest
+export ZK="$zk" ZK_CREDENTIAL="$zk_credential"
+"$ZK_CREDENTIAL" show "$here/policy.txt"
 issue issuer ann.toml ann 10
 issue issuer bob.json bob 3
 issue issuer eve.toml eve 3
@@ -95,7 +141,6 @@ check spy q13 a14
 sed 's/"20261129"/"20261129\\nMEMBER 00112233445566778899aabbccddeeff"/' q13 >q15
 call wallet ann spy.example q15 a15
 tell a record of an issuer of its own
-call issuer key forger
 issue forger ann.toml mallory 1
 ask shop shop.example plain.txt q9
 call wallet mallory shop.example q9 a9
@@ -133,45 +178,3 @@ echo 'birth = 1999-04-12' >short.toml
 call issuer issue issuer "$here/policy.txt" short.toml new 1
 call issuer issue issuer "$here/policy.txt" "$here/ann.toml" ann 1
 call issuer key issuer
-tell 'under a root, by which issuer and service together do not know who it was'
-"$ZK_CREDENTIAL" show "$here/under.txt"
-call issuer publish issuer "$here/under.txt" root "$here/ann.toml" ann8 "$here/bob.json" bob8 "$here/eve.toml" eve8
-call service trust inn issuer/public.pem root
-ask inn inn.example under.txt q16
-call wallet ann8 inn.example q16 a16
-check inn q16 a16
-tell the same person again, whom nobody knows again, and somebody too young
-ask inn inn.example under.txt q17
-call wallet ann8 inn.example q17 a17
-check inn q17 a17
-ask inn inn.example under.txt q18
-call wallet bob8 inn.example q18 a18
-call wallet bob8 inn.example q18 a18 anyway
-tell a root that the service does not trust, and one that it is told is the issuer\'s
-call issuer publish forger "$here/under.txt" root2 "$here/ann.toml" mallory8
-call wallet mallory8 inn.example q18 a18
-check inn q18 a18
-call service trust inn issuer/public.pem root2
-tell a root that the service trusts by another key than the one it checks with, and a root of another depth
-call service trust annex forger/public.pem root2
-ask annex annex.example under.txt q26
-call wallet mallory8 annex.example q26 a26
-check annex q26 a26
-sed 's/"levels": 3/"levels": 4/' root >root4
-call service trust inn issuer/public.pem root4
-tell a record of another tree by the path of a leaf under the root
-mix mallory8 record ann8 thief
-ask inn inn.example under.txt q19
-call wallet thief inn.example q19 a19
-call wallet thief inn.example q19 a19 anyway
-tell the path of another leaf
-mix ann8 record eve8 stray
-call wallet stray inn.example q19 a19
-call wallet stray inn.example q19 a19 anyway
-tell a service that asks for the digest of a record under a root, or for a pseudonym
-sed 's/^show under root 3$/show digest/' "$here/under.txt" > by-digest.txt
-call service request spy spy.example by-digest.txt q20 LATEST=20081129 TODAY=20261129
-call wallet ann8 spy.example q20 a20
-sed -e '/^show under root/i field secret bytes 16 at 15' -e '$a show pseudonym of secret for SERVICE' "$here/under.txt" > by-name.txt
-call service request spy spy.example by-name.txt q21 LATEST=20081129 TODAY=20261129
-call wallet ann8 spy.example q21 a21

@@ -2,6 +2,7 @@
 one first, from the initial hash value, and there is no padding. Plain Python, so nothing but hashlib's digests is trusted."""
 
 import math
+import secrets
 
 
 def primes(count):
@@ -51,12 +52,15 @@ def compressed(block):
     return b"".join(word.to_bytes(4, "big") for word in state)
 
 
-def rows_of(leaves):
-    """The rows of a tree, the leaves first and the root alone last. There are two to some power of leaves."""
-    rows = [list(leaves)]
-    while len(rows[-1]) > 1:
+def rows_of(leaves, depth):
+    """The rows of a tree with these leaves at their places, the leaves first and the root alone last. What stands beside them and
+    over none of them is random: nobody can tell it from a node over records. So a tree of a million leaves takes no time."""
+    rows = [dict(leaves)]
+    for _ in range(depth):
         row = rows[-1]
-        rows.append([compressed(row[at] + row[at + 1]) for at in range(0, len(row), 2)])
+        for beside in [place ^ 1 for place in row]:
+            row.setdefault(beside, secrets.token_bytes(32))
+        rows.append({place // 2: compressed(row[place] + row[place + 1]) for place in row if place % 2 == 0})
     return rows
 
 
