@@ -2,7 +2,7 @@
 use Rattle.std.specs.Prelude.{◌≡◌, ℕ, ◌+◌, ◌-◌, ◌^◌, ◌≤◌, Bool, List, length}
 use Rattle.std.proofs.Common.{refl, ◌∙◌}
 use Rattle.std.proofs.lemmas.Bool.{leb-true}
-use Rattle.lzk_shares.specs.Shares.{prime_size, most_bad, prime_share, few_share}
+use Rattle.lzk_shares.specs.Shares.{prime_size, most_bad, prime_share, few_share, least_size}
 use Rattle.lzk_goldilocks.specs.Elements.{ops, laws}
 use Rattle.lzk_goldilocks.specs.Prime.{p}
 use Rattle.lzk_goldilocks.specs.declared.element.Gold.{Gold}
@@ -21,8 +21,8 @@ use Rattle.lzk_soundness.proofs.CountLaws.Count.{passers_know}
 use Rattle.lzk_soundness.proofs.CountLaws.Numbers.{prime_passes, few_passes}
 use Rattle.lzk_policy_known.specs.Known.{gold_coding, IsCircuitOf, PassersHoldRecords, RecordlessPassByOneIn}
 
-pub large : 2 ^ 18 ≤ p
-large = leb-true (2 ^ 18) p refl
+pub large : least_size ≤ p
+large = leb-true least_size p refl
 
 pub whole : prime_size ≤ p
 whole = leb-true prime_size p refl

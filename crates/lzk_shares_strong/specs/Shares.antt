@@ -5,6 +5,10 @@ use Rattle.std.specs.Prelude.{ℕ, ◌*◌, ◌^◌}
 abbrev pub prime_size : ℕ
 prime_size = 340282366920938463463356593033258729473
 
+-- The laws are of fields with so many elements at least: more than a table of rows can hide at once.
+abbrev pub least_size : ℕ
+least_size = 2 ^ 20
+
 -- How many elements the sumchecks of a valid circuit send at most, where all its wires together are counted: 50 for
 -- each layer, and one for each 1,024 wires.
 abbrev pub sent_in_all : ℕ

@@ -10,3 +10,4 @@ pub mod Numbers
 pub mod Read
 pub mod Rows
 pub mod Sent
+pub mod Squares

@@ -1,4 +1,5 @@
 -- The one count: by few of all lists of draws and sets of columns passes whoever has not committed to satisfying inputs.
+use Rattle.lzk_shares.specs.Shares.{least_size}
 use Rattle.lzk_profile.specs.Profile.{opened_count}
 use Rattle.std.specs.Prelude.{◌≡◌, ℕ, ◌+◌, ◌-◌, ◌*◌, ◌^◌, ◌<◌, ◌≤◌, Bool, true, false, List, ◌++◌, length, slice_index_or}
 use Rattle.std.specs.List.{range_with_len}
@@ -53,7 +54,7 @@ join_parts x Q N S R most B split few =
     let back : R * (B * S) ≡ B * (R * S) = sym (mul_assoc R B S) ∙ ap (λ (k : ℕ). k * S) (mul_comm R B) ∙ mul_assoc B R S in
     omega (arith, split, turned, up, mul_assoc most R S, back, add-mul most B (R * S))
 
-module _ {A : Type 0} (o : Ops A) (e : Coding A) (laws : Laws o e.size e.number e.element e.bytes) (c : Wiring A) (public : List A) (strategy : Strategy A) (wins : List A → List ℕ → Bool) (bluff : IsBluff o e c public strategy wins) (large : 2 ^ 18 ≤ e.size) (b : AreBounded (params_of c)) where
+module _ {A : Type 0} (o : Ops A) (e : Coding A) (laws : Laws o e.size e.number e.element e.bytes) (c : Wiring A) (public : List A) (strategy : Strategy A) (wins : List A → List ℕ → Bool) (bluff : IsBluff o e c public strategy wins) (large : least_size ≤ e.size) (b : AreBounded (params_of c)) where
   abbrev p : Params
   p = params_of c
 

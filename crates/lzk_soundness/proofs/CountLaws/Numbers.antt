@@ -1,6 +1,6 @@
 -- The count, evaluated.
 use Rattle.lzk_profile.specs.Profile.{opened_count, row_factor, most_bits, most_row}
-use Rattle.lzk_shares.specs.Shares.{prime_size, sent_in_all, most_bad, column_share, prime_share, prime_parts, few_share, few_parts, binary_share, binary_parts, shortest, short, long, longest}
+use Rattle.lzk_shares.specs.Shares.{prime_size, sent_in_all, most_bad, column_share, prime_share, prime_parts, few_share, few_parts, binary_share, binary_parts, shortest, short, long, longest, least_size}
 use Rattle.std.specs.Prelude.{◌≡◌, ℕ, ◌+◌, ◌-◌, ◌*◌, ◌/◌, ◌^◌, ◌<◌, ◌≤◌, Bool, List, length}
 use Rattle.std.specs.List.{range_with_len}
 use Rattle.std.proofs.Common.{zero, suc, refl, sym, ap, ◌∙◌, arith, inl, inr, subst, add-mul, mul_assoc, mul_comm, mul-le-mul_right, zero-mul}
@@ -16,7 +16,7 @@ use Rattle.lzk_soundness.proofs.ChanceLaws.Counting.{length-draws}
 use Rattle.lzk_soundness.proofs.ChanceLaws.Sets.{fewer_sets, share_at, sets_counted, four}
 use Rattle.lzk_circuit.specs.Valid.{Wiring, IsValid}
 use Rattle.lzk_circuit.proofs.BitLaws.{bits_few}
-use Rattle.lzk_layout.specs.Sizes.{params_of, sent_counts}
+use Rattle.lzk_layout.specs.Sizes.{params_of, sent_counts, committed_count}
 use Rattle.lzk_layout.specs.Places.{output_bits, width_at}
 use Rattle.lzk_layout.proofs.SizeLaws.{narrow, params_bounded}
 use Rattle.lzk_soundness.specs.Draws.Game.Target.{outputs}
@@ -28,6 +28,7 @@ use Rattle.lzk_soundness.specs.Count.Laws.{IsBluff, bad_count}
 use Rattle.lzk_soundness.specs.Count.Numbers.{ColumnsMissRarely, ColumnsMissOnceIn, BadAreBounded, RowsAreBounded, SaysYesOnceIn, BluffsPassOnceIn, BluffsPassByOneIn, PassesByOneIn, SharesHold}
 use Rattle.lzk_soundness.proofs.CountLaws.Count.{bluffs_rare, cheat_bluffs}
 use Rattle.lzk_soundness.proofs.CountLaws.Elements.{elements_all}
+use Rattle.lzk_soundness.proofs.CountLaws.Squares.{square_fits}
 use Rattle.lzk_soundness.proofs.CountLaws.Sent.{sent_few, sent_committed, draws_sent}
 
 -- ---- computed
@@ -89,7 +90,8 @@ module _ {A : Type 0} (o : Ops A) (c : Wiring A) (valid : IsValid o c) where
   bad_fits width square inside fits =
       let b = params_bounded o c valid in
       let all : (params_of c).wr * (params_of c).wr ≤ width * width = mul-le (params_of c).wr (params_of c).wr width width fits fits in
-      omega (arith, bad_few, b.block, fits, b.square, all, inside, sent_committed o c valid)
+      let listed : row_factor * committed_count c ≤ (params_of c).wr * (params_of c).wr = square_fits (committed_count c) b.nw in
+      omega (arith, bad_few, b.block, fits, listed, all, inside, sent_committed o c valid)
 
   bad_most : (width : ℕ) → (params_of c).wr ≤ width → bad_count c ≤ opened_count + width + (sent_in_all + 2 * most_bits + 3)
   bad_most width fits = let b = params_bounded o c valid in omega (arith, bad_few, b.block, fits, sent_few o c valid)
@@ -156,11 +158,11 @@ few_bad = leb-true (1024 * 2 ^ few_share * 16) (few_parts * prime_size) refl
 binary_bad : most_bad * 2 ^ binary_share * 16 ≤ binary_parts * 2 ^ 128
 binary_bad = leb-true (most_bad * 2 ^ binary_share * 16) (binary_parts * 2 ^ 128) refl
 
-large_prime : 2 ^ 18 ≤ prime_size
-large_prime = leb-true (2 ^ 18) prime_size refl
+large_prime : least_size ≤ prime_size
+large_prime = leb-true least_size prime_size refl
 
-large_binary : 2 ^ 18 ≤ 2 ^ 128
-large_binary = leb-true (2 ^ 18) (2 ^ 128) refl
+large_binary : least_size ≤ 2 ^ 128
+large_binary = leb-true least_size (2 ^ 128) refl
 
 -- what is missed at most so often, is missed at most less often
 less_often : (C M F k d by : ℕ) → C * by ≤ M → F * k ≤ by * d → C * F * k ≤ d * M
@@ -182,11 +184,11 @@ module _ {A : Type 0} (o : Ops A) (e : Coding A) (laws : Laws o e.size e.number 
   positive : (x y : ℕ) → 0 < x → x ≤ y → 0 < y
   positive x y h l = omega (arith, h, l)
 
-  one_at_least : 0 < 2 ^ 18
-  one_at_least = ltb-true 0 (2 ^ 18) refl
+  one_at_least : 0 < least_size
+  one_at_least = ltb-true 0 least_size refl
 
   -- in k parts of the whole: of `limit` bad elements one in `by` is a at most, and of columns of which one in `missed` is missed, d
-  module _ (limit by missed elements k a d : ℕ) (bad : limit * by * k ≤ a * elements) (miss : by * k ≤ missed * d) (all : a + d ≤ k) (large : 2 ^ 18 ≤ elements) (parts : 0 < k) where
+  module _ (limit by missed elements k a d : ℕ) (bad : limit * by * k ≤ a * elements) (miss : by * k ≤ missed * d) (all : a + d ≤ k) (large : least_size ≤ elements) (parts : 0 < k) where
     by_parts : (c : Wiring A) (public : List A) (strategy : Strategy A) (wins : List A → List ℕ → Bool) → IsBluff o e c public strategy wins → bad_count c ≤ limit
         → choose (3 * (params_of c).block - 1) opened_count * missed ≤ choose (params_of c).mcol opened_count → elements ≤ e.size → SaysYesOnceIn e c wins by
     by_parts c public strategy wins bluff few missing many =
@@ -197,17 +199,17 @@ module _ {A : Type 0} (o : Ops A) (e : Coding A) (laws : Laws o e.size e.number 
         let C = choose (3 * (params_of c).block - 1) opened_count in
         let sets : length S ≡ M = sets_counted opened_count (range_with_len 0 (params_of c).mcol) ∙ ap (λ (j : ℕ). choose j opened_count) (length-range_with_len 0 (params_of c).mcol) in
         let draws : length D ≡ e.size ^ whole_count c = length-draws ds (whole_count c) ∙ ap (λ (j : ℕ). j ^ whole_count c) (elements_all e laws.numbers).count in
-        let some : 0 < elements = positive (2 ^ 18) elements one_at_least large in
+        let some : 0 < elements = positive least_size elements one_at_least large in
         let rare = one_in (count_pairs wins D S) e.size (e.size ^ whole_count c) M (bad_count c) C by k a d limit elements (bluffs_rare o e laws c public strategy wins bluff (omega (arith, large, many))) few many bad
         (less_often C M by k d missed missing miss) all some parts in
         subst (λ (j : ℕ). count_pairs wins D S * by ≤ j * length S) (sym draws) (subst (λ (j : ℕ). count_pairs wins D S * by ≤ e.size ^ whole_count c * j) (sym sets) rare)
 
-  shares : (limit by elements k a d : ℕ) → limit * 2 ^ by * k ≤ a * elements → 2 ^ by * k ≤ column_share * d → a + d ≤ k → 2 ^ 18 ≤ elements → 0 < k → BluffsPassByOneIn o e limit by elements
+  shares : (limit by elements k a d : ℕ) → limit * 2 ^ by * k ≤ a * elements → 2 ^ by * k ≤ column_share * d → a + d ≤ k → least_size ≤ elements → 0 < k → BluffsPassByOneIn o e limit by elements
   shares limit by elements k a d bad miss all large parts c public strategy wins bluff few many =
       by_parts limit (2 ^ by) column_share elements k a d bad miss all large parts c public strategy wins bluff few (columns_miss o c bluff.player.valid) many
 
   by_width : (width limit by missed elements k a d : ℕ) → BadAreBounded o width limit → ColumnsMissOnceIn o width missed
-      → limit * by * k ≤ a * elements → by * k ≤ missed * d → a + d ≤ k → 2 ^ 18 ≤ elements → 0 < k → BluffsPassOnceIn o e width by elements
+      → limit * by * k ≤ a * elements → by * k ≤ missed * d → a + d ≤ k → least_size ≤ elements → 0 < k → BluffsPassOnceIn o e width by elements
   by_width width limit by missed elements k a d bounded missing bad miss all large parts c public strategy wins bluff fits many =
       let valid = bluff.player.valid in
       by_parts limit by missed elements k a d bad miss all large parts c public strategy wins bluff (bounded c valid fits) (missing c valid fits) many

@@ -52,7 +52,7 @@ sent_below : {A : Type 0} (o : Ops A) (version n : ℕ) (layers : List (Layer A)
 sent_below o version n [] le are = let one = sum_by-cons sent_count n [] in omega (arith, one, bits_few n le)
 sent_below o version n (layer ∷ layers) le are =
     let here = are.0 in
-    omega (arith, sum_by-cons sent_count layer.wires (wires_of layers ++ n ∷ []), sent_each layer.wires here.most, sent_below o version n layers le are.1)
+    omega (arith, sum_by-cons sent_count layer.wires (wires_of layers ++ n ∷ []), sent_each layer.wires (omega (arith, here.most)), sent_below o version n layers le are.1)
 
 sent_under : {A : Type 0} (o : Ops A) (version n : ℕ) (layers : List (Layer A)) → 1 ≤ length layers → length layers ≤ 512 → n ≤ most_width → AreLayersOf o version n layers
     → sum_by sent_count (drop 1 (wires_of layers ++ n ∷ [])) ≤ sent_in_all

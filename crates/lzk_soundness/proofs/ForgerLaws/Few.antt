@@ -1,4 +1,5 @@
 -- Of the answers to a question few make it wrong.
+use Rattle.lzk_shares.specs.Shares.{least_size}
 use Rattle.std.specs.Prelude.{◌≡◌, ◌⊎◌, ℕ, ◌+◌, ◌*◌, ◌^◌, ◌<◌, ◌≤◌, ◌&&◌, cond, nat_lt, Bool, true, false, List, [], ◌∷◌, ◌++◌, length, take, drop}
 use Rattle.std.proofs.Common.{inl, inr, refl, sym, ap, ◌∙◌, arith, subst, add-mul, mul_assoc, mul_comm, mul-le-mul_right, le_of_mul-le-mul_right, zero-mul, take_at, length-take}
 use Rattle.std.proofs.lemmas.Bool.{ltb-true, ltb-false, le-ltb}
@@ -54,8 +55,8 @@ as_share x K by N T few share some =
     let right : K * T * by ≡ K * by * T = mul_assoc K T by ∙ ap (λ (j : ℕ). K * j) (mul_comm T by) ∙ sym (mul_assoc K by T) in
     le_of_mul-le-mul_right {m = x * by} {n = T} {k = N} (omega (arith, up, whole, left, right, mul_comm N T)) some
 
-positive : (N : ℕ) → 2 ^ 18 ≤ N → 0 < N
-positive N h = at_least N (2 ^ 18) (ltb-true 0 (2 ^ 18) refl) h
+positive : (N : ℕ) → least_size ≤ N → 0 < N
+positive N h = at_least N least_size (ltb-true 0 least_size refl) h
   where
     at_least : (n k : ℕ) → 0 < k → k ≤ n → 0 < n
     at_least n k some le = omega (arith, some, le)
@@ -82,7 +83,7 @@ pick_no : {P Y : Type 0} (d : Dec P) (x y : Y) → (P → ⊥) → pick d x y �
 pick_no (yes p) x y never = absurd (never p)
 pick_no (no n) x y never = refl
 
-module _ {A : Type 0} (o : Ops A) (e : Coding A) (laws : Laws o e.size e.number e.element e.bytes) (c : Wiring A) (code : Question A → ℕ) (valid : IsValid o c) (apart : TellsApart c code) (large : 2 ^ 18 ≤ e.size) (by : ℕ) (shares : AreShares e c by) (oracle : List (Reply A)) (n : ℕ) (inside : n < length oracle) (test : Reply A → Bool) where
+module _ {A : Type 0} (o : Ops A) (e : Coding A) (laws : Laws o e.size e.number e.element e.bytes) (c : Wiring A) (code : Question A → ℕ) (valid : IsValid o c) (apart : TellsApart c code) (large : least_size ≤ e.size) (by : ℕ) (shares : AreShares e c by) (oracle : List (Reply A)) (n : ℕ) (inside : n < length oracle) (test : Reply A → Bool) where
   abbrev ds : List A
   ds = all_elements e
 

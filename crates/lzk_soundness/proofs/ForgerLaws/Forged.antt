@@ -1,5 +1,5 @@
 -- A forger names a run that passes by few oracles alone.
-use Rattle.lzk_shares.specs.Shares.{prime_size, column_share}
+use Rattle.lzk_shares.specs.Shares.{prime_size, column_share, least_size}
 use Rattle.std.specs.Prelude.{◌≡◌, ◌⊎◌, ℕ, ◌*◌, ◌^◌, ◌<◌, ◌≤◌, Bool, List, [], ◌∷◌, length, take}
 use Rattle.std.specs.List.{AllByRecursion, range_with_len}
 use Rattle.std.proofs.Common.{zero, suc, inl, inr, refl, sym, ap, ◌∙◌, arith, subst}
@@ -45,7 +45,7 @@ abbrev start_of : {A : Type 0} → Question A → Start A
 start_of (sent start step elements) = start
 start_of (answered start messages answers) = start
 
-module _ {A : Type 0} (o : Ops A) (e : Coding A) (laws : Laws o e.size e.number e.element e.bytes) (c : Wiring A) (code : Question A → ℕ) (questions by : ℕ) (valid : IsValid o c) (apart : TellsApart c code) (shares : AreShares e c by) (large : 2 ^ 18 ≤ e.size) where
+module _ {A : Type 0} (o : Ops A) (e : Coding A) (laws : Laws o e.size e.number e.element e.bytes) (c : Wiring A) (code : Question A → ℕ) (questions by : ℕ) (valid : IsValid o c) (apart : TellsApart c code) (shares : AreShares e c by) (large : least_size ≤ e.size) where
   abbrev Sought : ℕ → Type 0
   Sought n = (q : Question A) × (IsFormed c q × (code q ≡ n))
 
@@ -143,7 +143,7 @@ module _ {A : Type 0} (o : Ops A) (e : Coding A) (laws : Laws o e.size e.number 
       (λ D. choose_all (same_start (same_elements laws.numbers)) (Case o e c code) (starts D) case_there (λ chosen. not (starts D) chosen (doomed D chosen)))
 
 pub forgers_rare : {A : Type 0} (o : Ops A) (e : Coding A) (laws : Laws o e.size e.number e.element e.bytes) (c : Wiring A) (code : Question A → ℕ) (questions tries by : ℕ) (ask : List (Reply A) → ℕ) (wins : List (Reply A) → Bool)
-    → IsForger o e c code questions tries ask wins → AreShares e c by → 2 ^ 18 ≤ e.size
+    → IsForger o e c code questions tries ask wins → AreShares e c by → least_size ≤ e.size
     → count wins (draws_from (all_replies e c) questions) * by ≤ tries * length (all_replies e c) ^ questions
 forgers_rare o e laws c code questions tries by ask wins forger shares large =
     stable_at_most (count wins (draws_from (all_replies e c) questions) * by) (tries * length (all_replies e c) ^ questions)
@@ -152,11 +152,11 @@ forgers_rare o e laws c code questions tries by ask wins forger shares large =
     (λ oracle whole won good.
     (let forged = forger.only oracle whole won in is.caught oracle (asked no_reply ask oracle tries) forged.0 (asked_inside no_reply questions ask oracle forger.inside tries) forged.1 good)))))
 
-many_elements : (n size : ℕ) → size ≤ n → 2 ^ 18 ≤ size → 2 ^ 18 ≤ n
+many_elements : (n size : ℕ) → size ≤ n → least_size ≤ size → least_size ≤ n
 many_elements n size h l = omega (arith, h, l)
 
-enough_elements : 2 ^ 18 ≤ prime_size
-enough_elements = leb-true (2 ^ 18) prime_size refl
+enough_elements : least_size ≤ prime_size
+enough_elements = leb-true least_size prime_size refl
 
 pub forgers_by_tries : {A : Type 0} (o : Ops A) (e : Coding A) (laws : Laws o e.size e.number e.element e.bytes) (c : Wiring A) (code : Question A → ℕ) (questions tries : ℕ) (ask : List (Reply A) → ℕ) (wins : List (Reply A) → Bool)
     → IsForger o e c code questions tries ask wins → prime_size ≤ e.size

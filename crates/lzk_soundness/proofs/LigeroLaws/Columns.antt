@@ -1,4 +1,5 @@
 -- What is not let through often is let through by few sets of columns.
+use Rattle.lzk_shares.specs.Shares.{column_share}
 use Rattle.lzk_profile.specs.Profile.{opened_count}
 use Rattle.std.specs.Prelude.{◌≡◌, ℕ, ◌-◌, ◌*◌, ◌^◌, ◌<◌, ◌≤◌, Bool, true, List, length}
 use Rattle.std.specs.List.{range_with_len}
@@ -46,5 +47,5 @@ columns_by o e c public strategy draws test by miss not only =
 pub columns_few : {A : Type 0} (o : Ops A) (e : Coding A) (c : Wiring A) (public : List A) (strategy : Strategy A) (draws : List A) (test : List ℕ → Bool) → IsValid o c
     → (IsPassedOften o e c public strategy draws → ⊥)
     → ((columns : List ℕ) → length columns ≡ opened_count → test columns ≡ true → IsPassed o e c public strategy draws columns)
-    → count test (column_sets c) * (3 * 2 ^ 53) ≤ length (column_sets c)
-columns_few o e c public strategy draws test valid not only = columns_by o e c public strategy draws test (3 * 2 ^ 53) (columns_miss o c valid) not only
+    → count test (column_sets c) * column_share ≤ length (column_sets c)
+columns_few o e c public strategy draws test valid not only = columns_by o e c public strategy draws test column_share (columns_miss o c valid) not only

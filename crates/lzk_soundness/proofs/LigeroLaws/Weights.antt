@@ -1,5 +1,6 @@
 -- Few weights open a table that encodes no satisfying inputs.
-use Rattle.lzk_profile.specs.Profile.{opened_count}
+use Rattle.lzk_shares.specs.Shares.{least_size}
+use Rattle.lzk_profile.specs.Profile.{opened_count, most_row, most_rows}
 use Rattle.std.specs.Prelude.{◌≡◌, ◌≢◌, ℕ, ◌+◌, ◌-◌, ◌*◌, ◌^◌, ◌<◌, ◌≤◌, cond, Bool, true, List, [], ◌++◌, length, take}
 use Rattle.std.proofs.Common.{inl, inr, sym, ap, ◌∙◌, arith, subst, mul-le-mul_right, mul_comm, take_at, length-append, append_assoc}
 use Rattle.std.proofs.lemmas.Bool.{lt-ltb, le-ltb}
@@ -62,7 +63,7 @@ product_most a b c d h l =
 
 -- ---- a table that is far from codewords
 
-module _ {A : Type 0} (o : Ops A) (e : Coding A) (laws : Laws o e.size e.number e.element e.bytes) (c : Wiring A) (b : AreBounded (params_of c)) (public : List A) (table : ℕ → ℕ → A) (messages r : List A) (lr : length r ≡ draw_count c) (ds : List A) (distinct : AreDistinct ds) (every : HasAll ds) (large : 2 ^ 18 ≤ length ds) (T : List A → Bool) (known : (ws : List A) → length ws ≡ all_weights c → T ws ≡ true → (a : Answers A) × AreTooMany o e laws c b public (sends table messages a) (r ++ ws)) (far : IsNear o e.element (params_of c) table (params_of c).block → ⊥) where
+module _ {A : Type 0} (o : Ops A) (e : Coding A) (laws : Laws o e.size e.number e.element e.bytes) (c : Wiring A) (b : AreBounded (params_of c)) (public : List A) (table : ℕ → ℕ → A) (messages r : List A) (lr : length r ≡ draw_count c) (ds : List A) (distinct : AreDistinct ds) (every : HasAll ds) (large : least_size ≤ length ds) (T : List A → Bool) (known : (ws : List A) → length ws ≡ all_weights c → T ws ≡ true → (a : Answers A) × AreTooMany o e laws c b public (sends table messages a) (r ++ ws)) (far : IsNear o e.element (params_of c) table (params_of c).block → ⊥) where
   abbrev p : Params
   p = params_of c
 
@@ -74,7 +75,7 @@ module _ {A : Type 0} (o : Ops A) (e : Coding A) (laws : Laws o e.size e.number 
 
   few_rows : nu * (p.block + 1) < length ds
   few_rows =
-      let most : nu * (p.block + 1) ≤ 262 * (opened_count + 513) = product_most nu (p.block + 1) 262 (opened_count + 513) (omega (arith, b.nrow)) (omega (arith, b.block, b.wr)) in
+      let most : nu * (p.block + 1) ≤ (most_rows - 3) * (opened_count + (most_row + 1)) = product_most nu (p.block + 1) (most_rows - 3) (opened_count + (most_row + 1)) (omega (arith, b.nrow)) (omega (arith, b.block, b.wr)) in
       omega (arith, most, large)
 
   far_few : count T (draws_from ds (all_weights c)) * length ds ≤ (p.block + 2) * length ds ^ all_weights c
@@ -111,7 +112,7 @@ module _ {A : Type 0} (o : Ops A) (e : Coding A) (laws : Laws o e.size e.number 
 
 -- ---- all tables
 
-module _ {A : Type 0} (o : Ops A) (e : Coding A) (laws : Laws o e.size e.number e.element e.bytes) (c : Wiring A) (public : List A) (table : ℕ → ℕ → A) (valid : IsValid o c) (publics : length public ≡ c.publics) (unknowing : Encodes o e c public table → ⊥) (large : 2 ^ 18 ≤ e.size) (not : Held o e c public table → ⊥) where
+module _ {A : Type 0} (o : Ops A) (e : Coding A) (laws : Laws o e.size e.number e.element e.bytes) (c : Wiring A) (public : List A) (table : ℕ → ℕ → A) (valid : IsValid o c) (publics : length public ≡ c.publics) (unknowing : Encodes o e c public table → ⊥) (large : least_size ≤ e.size) (not : Held o e c public table → ⊥) where
   abbrev q : Params
   q = params_of c
 

@@ -1,4 +1,5 @@
 -- How seldom whoever has not committed to satisfying inputs passes, whatever he does.
+use Rattle.lzk_shares.specs.Shares.{least_size}
 use Rattle.lzk_profile.specs.Profile.{opened_count, most_bits}
 use Rattle.std.specs.Prelude.{◌≡◌, ℕ, ◌+◌, ◌-◌, ◌*◌, ◌^◌, ◌≤◌, Bool, true, List, length}
 use Rattle.lzk_field.specs.Coding.{Coding}
@@ -83,20 +84,20 @@ SaysYesRarely e c wins =
 abbrev pub PassersKnow : {A : Type 0} → Ops A → Coding A → Type 0
 PassersKnow {A} o e =
     (c : Wiring A) (public : List A) (strategy : Strategy A) (wins : List A → List ℕ → Bool)
-    → IsPlayer o e c public strategy wins → 2 ^ 18 ≤ e.size → (SaysYesRarely e c wins → ⊥)
+    → IsPlayer o e c public strategy wins → least_size ≤ e.size → (SaysYesRarely e c wins → ⊥)
     → Knows o e c public strategy
 
 -- The same as a count: whoever has not passes by no more.
 abbrev pub BluffsAreRare : {A : Type 0} → Ops A → Coding A → Type 0
 BluffsAreRare {A} o e =
     (c : Wiring A) (public : List A) (strategy : Strategy A) (wins : List A → List ℕ → Bool)
-    → IsBluff o e c public strategy wins → 2 ^ 18 ≤ e.size → SaysYesRarely e c wins
+    → IsBluff o e c public strategy wins → least_size ≤ e.size → SaysYesRarely e c wins
 
 -- So with a false statement, of which nobody has private inputs.
 abbrev pub FalseIsRare : {A : Type 0} → Ops A → Coding A → Type 0
 FalseIsRare {A} o e =
     (c : Wiring A) (public : List A) (strategy : Strategy A) (wins : List A → List ℕ → Bool)
-    → IsCheat o e c public strategy wins → 2 ^ 18 ≤ e.size → SaysYesRarely e c wins
+    → IsCheat o e c public strategy wins → least_size ≤ e.size → SaysYesRarely e c wins
 
 -- a list that has everything once, and is so long
 pub record AreAll {A : Type 0} (size : ℕ) (ds : List A) : Type 0 where

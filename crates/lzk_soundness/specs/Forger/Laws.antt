@@ -1,5 +1,5 @@
 -- How seldom a forger with so many questions names a run that passes.
-use Rattle.lzk_shares.specs.Shares.{prime_size, column_share}
+use Rattle.lzk_shares.specs.Shares.{prime_size, column_share, least_size}
 use Rattle.lzk_profile.specs.Profile.{opened_count}
 use Rattle.std.specs.Prelude.{◌≡◌, ◌⊎◌, ℕ, ◌+◌, ◌-◌, ◌*◌, ◌^◌, ◌<◌, ◌≤◌, Bool, true, List, length}
 use Rattle.std.specs.List.{AllByRecursion}
@@ -51,7 +51,7 @@ pub record AreDoomed {A : Type 0} (o : Ops A) (e : Coding A) (c : Wiring A) (cod
 abbrev pub StepsAreFew : {A : Type 0} → Ops A → Coding A → Type 0
 StepsAreFew {A} o e =
     (c : Wiring A) (code : Question A → ℕ) (questions by : ℕ) → IsValid o c → TellsApart c code → AreShares e c by
-    → 2 ^ 18 ≤ e.size
+    → least_size ≤ e.size
     → ((starts : List (Start A)) (chosen : (start : Start A) → Case o e c code start ⊎ (IsIn start starts → ⊥))
     → AreDoomed o e c code questions by (IsWrong o e c code (λ start. IsIn start starts → ⊥) chosen) → ⊥)
     → ⊥
@@ -61,7 +61,7 @@ abbrev pub ForgersAreRare : {A : Type 0} → Ops A → Coding A → Type 0
 ForgersAreRare {A} o e =
     (c : Wiring A) (code : Question A → ℕ) (questions tries by : ℕ) (ask : List (Reply A) → ℕ)
     (wins : List (Reply A) → Bool)
-    → IsForger o e c code questions tries ask wins → AreShares e c by → 2 ^ 18 ≤ e.size
+    → IsForger o e c code questions tries ask wins → AreShares e c by → least_size ≤ e.size
     → count wins (draws_from (all_replies e c) questions) * by ≤ tries * length (all_replies e c) ^ questions
 
 -- For every valid circuit, over a field of prime_size elements at least, it is one in column_share.

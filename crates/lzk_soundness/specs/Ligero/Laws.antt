@@ -1,4 +1,5 @@
 -- How few sets of columns let others on than many do, and how few weights a table that encodes no satisfying inputs.
+use Rattle.lzk_shares.specs.Shares.{least_size, column_share}
 use Rattle.lzk_profile.specs.Profile.{opened_count}
 use Rattle.std.specs.Prelude.{◌≡◌, ℕ, ◌+◌, ◌*◌, ◌^◌, ◌≤◌, Bool, true, List, ◌++◌, length}
 use Rattle.lzk_field.specs.Coding.{Coding}
@@ -17,14 +18,14 @@ use Rattle.lzk_soundness.specs.Extract.Extraction.{all_elements}
 use Rattle.lzk_soundness.specs.Count.Laws.{Encodes}
 use Rattle.lzk_soundness.specs.Ligero.States.{all_weights, IsPassedOften, IsOpen}
 
--- What is not let through often is let through by one set of columns in 3 * 2^53 at most.
+-- What is not let through often is let through by one set of columns in column_share at most.
 abbrev pub ColumnsAreFew : {A : Type 0} → Ops A → Coding A → Type 0
 ColumnsAreFew {A} o e =
     (c : Wiring A) (public : List A) (strategy : Strategy A) (draws : List A) (test : List ℕ → Bool) → IsValid o c
     → (IsPassedOften o e c public strategy draws → ⊥)
     → ((columns : List ℕ) → length columns ≡ opened_count → test columns ≡ true
     → IsPassed o e c public strategy draws columns)
-    → count test (column_sets c) * (3 * 2 ^ 53) ≤ length (column_sets c)
+    → count test (column_sets c) * column_share ≤ length (column_sets c)
 
 module _ {A : Type 0} (o : Ops A) (e : Coding A) (c : Wiring A) (public : List A) (table : ℕ → ℕ → A) where
   -- A test says yes only to weights behind which there are answers that are let through often, for these draws of the
@@ -56,5 +57,5 @@ module _ {A : Type 0} (o : Ops A) (e : Coding A) (c : Wiring A) (public : List A
 abbrev pub WeightsAreFew : {A : Type 0} → Ops A → Coding A → Type 0
 WeightsAreFew {A} o e =
     (c : Wiring A) (public : List A) (table : ℕ → ℕ → A) → IsValid o c → length public ≡ c.publics
-    → (Encodes o e c public table → ⊥) → 2 ^ 18 ≤ e.size
+    → (Encodes o e c public table → ⊥) → least_size ≤ e.size
     → (Held o e c public table → ⊥) → ⊥
