@@ -80,7 +80,7 @@ SaysYesRarely e c wins =
     * e.size ^ whole_count c
 
 -- Knowledge soundness, by extraction from the table alone: whoever passes more often, of elements of which there are
--- 2^18 at least, has committed to private inputs that satisfy the circuit.
+-- least_size at least, has committed to private inputs that satisfy the circuit.
 abbrev pub PassersKnow : {A : Type 0} → Ops A → Coding A → Type 0
 PassersKnow {A} o e =
     (c : Wiring A) (public : List A) (strategy : Strategy A) (wins : List A → List ℕ → Bool)
