@@ -1,6 +1,5 @@
 use Rattle.lzk_profile.specs.Profile.{most_total}
 use Rattle.std.proofs.Common.{◌+◌, ◌≤◌, length, ap, refl, arith}
-use Rattle.lzk_profile.specs.Profile.{most_total}
 use Rattle.lzk_cmd_circuits.proofs.Terms.{one_more_count, count_fits}
 use Rattle.lzk_cmd_circuits.proofs.compiling.count_terms.Goals as goal
 
