@@ -2,7 +2,7 @@
 use Rattle.std.specs.Prelude.{◌≡◌, ℕ, ◌≤◌, Bool, List, length}
 use Rattle.lzk_field.specs.Coding.{Coding, coding}
 use Rattle.lzk_goldilocks.specs.Elements.{ops, number, of_number}
-use Rattle.lzk_goldilocks.specs.Prime.{p}
+use Rattle.lzk_goldilocks.specs.Prime.{p, element_bytes, field_byte}
 use Rattle.lzk_goldilocks.specs.declared.element.Gold.{Gold}
 use Rattle.lzk_circuit.specs.Valid.{Wiring}
 use Rattle.lzk_circuit.specs.Wires.{inputs_of}
@@ -19,7 +19,7 @@ use Rattle.lzk_soundness.specs.Count.Numbers.{SaysYesByOneIn}
 
 -- how the elements of the field of policies' circuits are numbered
 abbrev pub gold_coding : Coding Gold
-gold_coding = coding of_number number 8 p 1
+gold_coding = coding of_number number element_bytes p field_byte
 
 -- a circuit of the policy, as far as the clauses of `policy_circuit` say
 pub record IsCircuitOf (policy : Contents) (c : Wiring Gold) : Type 0 where
