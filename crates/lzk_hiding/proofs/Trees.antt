@@ -1,9 +1,9 @@
 -- What passes by a programmed tape is completed to an accepted proof.
-use Rattle.lzk_profile.specs.Profile.{opened_count, most_digests}
-use Rattle.std.specs.Prelude.{◌≡◌, ℕ, ◌+◌, ◌*◌, ◌^◌, ◌<◌, ◌≤◌, ◌==◌, nat_lt, Bool, true, false, cond, List, [], ◌∷◌, ◌++◌, length, map, take, drop, slice_index, slice_index_or}
+use Rattle.lzk_profile.specs.Profile.{opened_count, most_row, most_digests}
+use Rattle.std.specs.Prelude.{◌≡◌, ℕ, ◌+◌, ◌*◌, ◌/◌, ◌^◌, ◌<◌, ◌≤◌, ◌==◌, nat_lt, Bool, true, false, cond, List, [], ◌∷◌, ◌++◌, length, map, take, drop, slice_index, slice_index_or}
 use Rattle.std.specs.List.{range_with_len, flat_map}
 use Rattle.std.proofs.Common.{zero, suc, inr, refl, sym, ap, ◌∙◌, arith}
-use Rattle.std.proofs.lemmas.Bool.{lt-ltb, ltb-true, eqb-true}
+use Rattle.std.proofs.lemmas.Bool.{leb-true, lt-ltb, ltb-true, eqb-true}
 use Rattle.std.proofs.lemmas.List.{length-map, get_or-map, take_at}
 use Rattle.std.proofs.lemmas.List.FromFn.{get_or-map-range_with_len}
 use Rattle.sha2.proofs.Facts256.{length-sha256}
@@ -108,9 +108,10 @@ module _ {A : Type 0} (o : Ops A) (e : Coding A) (c : Wiring A) (public : List A
 
   few : length (map (tree_node P.mcol D) (path_nodes P.mcol J)) ≤ most_digests
   few =
-      let p12 : 2 ^ 12 ≡ 4096 = refl in
-      let most : length J * 12 ≡ most_digests = ap (λ (n : ℕ). n * 12) many in
-      omega (arith, length-map (path_nodes P.mcol J) (tree_node P.mcol D), most, needed_few P.mcol 12 J (omega (arith, p12, b.mcol, b.block, b.wr)) are.below)
+      let levels : ℕ = most_digests / opened_count in
+      let power : 4 * (opened_count + most_row) ≤ 2 ^ levels = leb-true (4 * (opened_count + most_row)) (2 ^ levels) refl in
+      let most : length J * levels ≡ most_digests = ap (λ (n : ℕ). n * levels) many in
+      omega (arith, length-map (path_nodes P.mcol J) (tree_node P.mcol D), most, needed_few P.mcol levels J (omega (arith, power, b.mcol, b.block, b.wr)) are.below)
 
   path_is : AreDigests (map (tree_node P.mcol D) (path_nodes P.mcol J))
   path_is k h =
