@@ -1,6 +1,10 @@
-use Rattle.std.proofs.Common.{◌∙◌}
+use Rattle.std.proofs.Common.{ℕ, List, subst, ◌∙◌}
 use Rattle.std.specs.Option.{option_copied}
+use Rattle.lzk_goldilocks.specs.Elements.{ops}
 use Rattle.lzk_cmd_runs.specs.Hashed.{ProvesHash}
+use Rattle.lzk_cmd_runs.specs.Proved.{Proves, gold_word}
+use Rattle.lzk_cmd_verify.specs.Verified.{gold_coding}
+use Rattle.lzk_cmd_files.specs.Walks.{WalksToPut}
 use Rattle.lzk_cmd_files.specs.Seen.{seen}
 use Rattle.lzk_cmd_prove.proofs.Hashes.{hash_proved}
 use Rattle.lzk_cmd_circuits.proofs.ShaFiles.{no_memory}
@@ -13,6 +17,13 @@ returns-in_err-inputs-clause-walks g c =
 
 pub returns-clause-walks : goal.returns-clause-walks
 returns-clause-walks g c =
+    let circuit = c.args.circuit.now in
     let task = c.args.task.now in
-    hash_proved c.args.circuit.now c.args.message.now task.proof.now task.session.now task.seed (option_copied task.digest) c.deref.result.now c.deref-2.result.now (seen g.S.Shelf c.args.shelf.now) (seen g.S.Shelf c.prove_inputs.new.shelf) c.prove_inputs.result
-    c.requires.digest (c.deref.ensures.value ∙ c.in_ok-inputs.ensures.digest.words) (c.deref-2.ensures.value ∙ c.in_ok-inputs.ensures.exact) c.prove_inputs.ensures.walks
+    let digest = option_copied task.digest in
+    let publics = c.deref.result.now in
+    let privates = c.deref-2.result.now in
+    let old = seen g.S.Shelf c.args.shelf.now in
+    let new = seen g.S.Shelf c.prove_inputs.new.shelf in
+    let put = subst (λ (seed : List ℕ). WalksToPut (λ files. Proves ops gold_coding circuit task.proof.now digest task.session.now (gold_word seed) publics privates) 3 old new c.prove_inputs.result) c.gold_words.ensures c.prove_inputs.ensures.walks in
+    hash_proved circuit c.args.message.now task.proof.now task.session.now task.seed digest publics privates old new c.prove_inputs.result
+    c.requires.digest (c.deref.ensures.value ∙ c.in_ok-inputs.ensures.digest.words) (c.deref-2.ensures.value ∙ c.in_ok-inputs.ensures.exact) put

@@ -1,4 +1,4 @@
-use Rattle.std.proofs.Common.{ℕ, List, Some, None, refl, subst}
+use Rattle.std.proofs.Common.{Some, None, refl, subst}
 use Rattle.std.specs.Option.{option_copied}
 use Rattle.lzk_circuit.specs.Checks.{checks_of}
 use Rattle.lzk_circuit.specs.Valid.{Wiring}
