@@ -1,4 +1,4 @@
--- Goldilocks: one and one are not zero, and its points are even.
+-- The prime field: one and one are not zero, and its points are even.
 use Rattle.std.specs.Prelude.{◌≡◌, ◌≢◌, ℕ}
 use Rattle.std.proofs.Common.{sym, ap, arith}
 use Rattle.std.proofs.Math.Nat.{mod-add-mod}

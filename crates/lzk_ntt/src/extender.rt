@@ -16,7 +16,7 @@ use std::alloc::{AllocError, Global};
 use std::marker::Model;
 
 /// What extends rows of `count` values to the points with numbers below `upto`, by number-theoretic
-/// transforms. Over Goldilocks it is made by `RowExtend::make`.
+/// transforms. Over the prime field it is made by `RowExtend::make`.
 ///
 /// The weights, and the transforms of the kernels, are computed once. A row takes one forward transform for
 /// each block of its values, and for each piece of the further points a pointwise product for each block, whose

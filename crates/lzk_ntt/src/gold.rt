@@ -1,4 +1,4 @@
-//! What extends rows over Goldilocks, which has roots of one of order 2^32.
+//! What extends rows over the prime field, which has roots of one of order 2^32.
 
 ghost use Rattle.std.specs.Prelude.{◌*◌, ◌^◌, ◌≤◌};
 ghost use Rattle.lzk_goldilocks.specs.Elements.{ops};

@@ -1,4 +1,4 @@
-//! Number-theoretic transforms, and rows over Goldilocks extended by them.
+//! Number-theoretic transforms, and rows over the prime field extended by them.
 //!
 //! A number-theoretic transform is the discrete Fourier transform over a finite field with a root of one
 //! whose order is a power of two (Pollard, 1971). The forward transform is decimated in frequency, by the
@@ -8,7 +8,7 @@
 //!
 //! Rows are extended by convolution, as in Google's longfellow-zk, the implementation of
 //! draft-google-cfrg-libzk. Lagrange's formula in its barycentric form asks, at each further point, for the
-//! sum of each value times its weight over the difference from its point. Goldilocks' points are evenly
+//! sum of each value times its weight over the difference from its point. That field's points are evenly
 //! spaced, so that the inverse of a difference depends on the difference of the numbers alone: the sums are
 //! the convolution of weighted values and the list of inverses. With n values, up to 2,048, and m further
 //! points that takes O((n + m) log n) products, where the sums themselves take n m. A caller writes
