@@ -14,9 +14,10 @@ const RUNS: [(&str, u8); 5] = [
     ("upgrade sq.lzc missing/new.lzc", 5),
 ];
 
-// Words of `zk-credential`.
-const CREDENTIAL_RUNS: [(&str, u8); 5] = [
+// Words of `zk-credential`. Standard input is a pipe, of a text that is longer than two reads.
+const CREDENTIAL_RUNS: [(&str, u8); 6] = [
     ("show policy.txt", 0),
+    ("show /dev/stdin", 0),
     ("nothing", 2),
     ("show missing.txt", 3),
     ("show .", 4),

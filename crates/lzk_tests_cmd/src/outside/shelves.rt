@@ -127,8 +127,8 @@ fn memory_takes_writes(rt: HostRuntime) -> Result<(), Fail> {
 
 const DISK: &str = "lzk_outside_disk_test";
 
-// Read in order and past the end, then on in order again, and from the front again.
-const HELLO: [(&str, u64, Given); 8] = [
+// Read in order and past the end, then on in order again, and from the front again, twice in turn.
+const HELLO: [(&str, u64, Given); 9] = [
     (DISK, 0, (Ok(4), *b"hell")),
     (DISK, 3, (Ok(2), *b"lo\0\0")),
     (DISK, 5, END),
@@ -136,6 +136,7 @@ const HELLO: [(&str, u64, Given); 8] = [
     (DISK, 0, (Ok(4), *b"hell")),
     (DISK, 4, (Ok(1), *b"o\0\0\0")),
     (DISK, 5, END),
+    (DISK, 0, (Ok(4), *b"hell")),
     (DISK, 0, (Ok(4), *b"hell")),
 ];
 

@@ -61,6 +61,16 @@ fn two_blocks_have_their_digest(rt: HostRuntime) -> Result<(), Fail> {
 }
 
 #[test]
+fn eight_blocks_fit(rt: HostRuntime) -> Result<(), Fail> {
+    let Ok(circuit) = digest_circuit(rt.alloc(), 503) else {
+        assert!(rt; false);
+        return Ok(());
+    };
+    assert_eq!(rt; (circuit.publics(), circuit.privates()), (8, 8 * 503 + 6384 * 8 - 8));
+    Ok(())
+}
+
+#[test]
 fn nine_blocks_do_not_fit(rt: HostRuntime) -> Result<(), Fail> {
     let alloc = rt.alloc();
     assert!(rt; matches!(digest_circuit(alloc, 504), Err(DigestError::TooLong)));
