@@ -159,8 +159,8 @@ use lzk_ligero::WorksOver;
 use lzk_ntt::NttExtender;
 pub use lzk_verify::{Desk as Verifier, Verdict};
 
-/// A prover over a circuit over the prime field, with the fastest extension of rows. Its random words are to be those of
-/// [`Drawn`], which in LZK1 are the words of its source as they are.
+/// A prover over a circuit over the prime field, with the fastest extension of rows. Its random words are to be those
+/// of [`Drawn`], which in LZK1 are the words of its source as they are.
 pub type GoldProver<'c> = WorksOver<'c, Gold, NttExtender<Gold>>;
 
 /// A prover over a circuit over GF(2^128), with the fastest extension of rows.

@@ -31,6 +31,14 @@ pub struct With<'a> {
     pub ghost few: { workers ≤ 64 },
 }
 
+// A circuit, and the id of its file.
+#[derive(Drop)]
+struct Named<'a, F: Field> {
+    circuit: &'a Circuit<F>,
+    id: [u8; 32],
+    ghost own: { id ≡ id_of F.coding circuit.now },
+}
+
 // The random words of a seed over the prime field.
 fn gold_words(seed: [u8; 32]) -> Drawn<Seeded>
     ensures { result.words ≡ seed }
@@ -77,27 +85,32 @@ fn put_proof<R: Hands, F: Field, X: RowExtend<F>, W: Words>(
 fn prove_inputs<R: Hands, F: Field, X: RowExtend<F>, W: Words>(
     rt: &R,
     alloc: Global,
-    circuit: &Circuit<F>,
-    id: [u8; 32],
+    named: &Named<'_, F>,
     publics: &[F],
     privates: &[F],
     words: &W,
     with: &With<'_>,
     room: &mut [u8],
 ) -> Result<u64, Refusal>
-    requires id { id ≡ id_of F.coding circuit.now }
-    requires publics { length publics.now ≡ circuit.now.publics }
-    requires privates { length privates.now ≡ circuit.now.privates }
+    requires publics { length publics.now ≡ named.now.circuit.now.publics }
+    requires privates { length privates.now ≡ named.now.circuit.now.privates }
     requires session { length with.now.session.now ≤ 64 }
     ensures { let w = with.now in
         ((result ≡ Err OutOfMemory) × (room.new ≡ room.old))
-        ⊎ ProvesInputs F.ops F.coding circuit.now w.session.now (W.at words.now) room.old room.new result publics.now
-        privates.now }
+        ⊎ ProvesInputs F.ops F.coding named.now.circuit.now w.session.now (W.at words.now) room.old room.new result
+        publics.now privates.now }
 {
-    match WorksOver::<F, X>::with_id(alloc, circuit, id) {
+    match WorksOver::<F, X>::with_id(alloc, named.circuit, named.id) {
         Ok(mut works) => {
             let told = put_proof(
-                rt, circuit, &mut works, publics, privates, words, with, room,
+                rt,
+                named.circuit,
+                &mut works,
+                publics,
+                privates,
+                words,
+                with,
+                room,
             );
             works.close();
             told
@@ -110,25 +123,22 @@ fn prove_inputs<R: Hands, F: Field, X: RowExtend<F>, W: Words>(
 fn prove_over<R: Hands, F: Field, X: RowExtend<F>, W: Words>(
     rt: &R,
     alloc: Global,
-    circuit: &Circuit<F>,
-    id: [u8; 32],
+    named: &Named<'_, F>,
     public: &[u8],
     private: &[u8],
     words: &W,
     with: &With<'_>,
     room: &mut [u8],
 ) -> Result<u64, Refusal>
-    requires id { id ≡ id_of F.coding circuit.now }
     ensures { let w = with.now in
-        ProvesOver F.ops F.coding circuit.now w.session.now (W.at words.now) room.old room.new result public.now
-        private.now }
+        ProvesOver F.ops F.coding named.now.circuit.now w.session.now (W.at words.now) room.old room.new result
+        public.now private.now }
 {
-    match inputs_of(alloc, circuit, with.session, public, private) {
+    match inputs_of(alloc, named.circuit, with.session, public, private) {
         Ok(inputs) => prove_inputs::<R, F, X, W>(
             rt,
             alloc,
-            circuit,
-            id,
+            named,
             &inputs.publics,
             &inputs.privates,
             words,
@@ -158,8 +168,7 @@ fn prove_any<R: Hands>(
         AnyCircuit::Gold(c) => prove_over::<R, Gold, NttExtender<Gold>, Drawn<Seeded>>(
             rt,
             alloc,
-            c,
-            id,
+            &Named { circuit: c, id },
             public,
             private,
             &gold_words(with.seed),
@@ -169,8 +178,7 @@ fn prove_any<R: Hands>(
         AnyCircuit::Gf(c) => prove_over::<R, Gf128, Transform, Seeded>(
             rt,
             alloc,
-            c,
-            id,
+            &Named { circuit: c, id },
             public,
             private,
             &Seeded::new(with.seed),

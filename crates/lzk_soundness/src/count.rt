@@ -42,7 +42,7 @@ pub fn count_laws<F: Field>()
 /// The count for every circuit, by the numbers of lzk_shares: how many elements are bad at most, and one in how many
 /// sets of columns misses. So over the prime field whoever has not committed to satisfying inputs passes by at most one
 /// in 2^prime_share, and by one in 2^few_share for circuits that have no more than 1,024 bad elements; over 2^128
-/// elements by one in 2^binary_share. So with a false statement. In LZK1 that is 28,345 and 3 * 2^53, and 49, 53 and 54.
+/// elements by one in 2^binary_share. So with a false statement. In LZK1 that is 28,345 and 3 * 2^53; 49, 53 and 54.
 pub fn number_laws<F: Field>()
     ensures bad { BadAreBounded F.ops most_row most_bad }
     ensures rows { RowsAreBounded F.ops most_row }
