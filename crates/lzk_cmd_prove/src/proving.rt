@@ -44,7 +44,7 @@ pub struct Task<'a> {
 }
 
 /// The random words of a seed over the prime field.
-pub fn gold_words(seed: [u8; 32]) -> Drawn<Seeded>
+pub(crate) fn gold_words(seed: [u8; 32]) -> Drawn<Seeded>
     ensures { result.words ≡ seed }
 {
     Drawn {
