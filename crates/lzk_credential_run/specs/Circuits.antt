@@ -1,5 +1,5 @@
 -- What `circuit` does.
-use Rattle.std.specs.Prelude.{◌≡◌, ◌⊎◌, ℕ, ◌↔◌, List, ◌++◌, length, Vec, Result, Ok, Err}
+use Rattle.std.specs.Prelude.{◌≡◌, ◌≤◌, ◌⊎◌, ℕ, ◌↔◌, List, ◌++◌, length, Vec, Result, Ok, Err}
 use Rattle.std.specs.declared.alloc.Global.{Global}
 use Rattle.lzk_goldilocks.specs.Elements.{ops, number}
 use Rattle.lzk_goldilocks.specs.declared.element.Gold.{Gold}
@@ -21,6 +21,7 @@ use Rattle.lzk_sha_path.specs.declared.error.PathError.TheVariants as paths
 use Rattle.lzk_policies.specs.declared.error.RootedError.{RootedError}
 use Rattle.lzk_policies.specs.declared.error.RootedError.TheVariants as roots
 use Rattle.lzk_policies.specs.Causes.{IsCredentialCause}
+use Rattle.lzk_policies.specs.Hashes.{hash_count, most_hashes}
 use Rattle.lzk_policies.specs.Depths.{IsShownBy, SatisfyAt, private_count}
 use Rattle.lzk_credential_run.specs.Ends.{Way, Says, Reads, PutsFile}
 use Rattle.lzk_credential_run.specs.Files.{policy_files}
@@ -46,6 +47,7 @@ IsSatisfiedBy c p =
 -- the bytes are the file of a circuit that shows what a policy says
 pub record IsPolicyFile (p : Contents) (bytes : List ℕ) : Type 0 where
   pub circuit : Wiring Gold
+  pub few : hash_count p ≤ most_hashes
   pub publics : circuit.publics ≡ public_count p
   pub privates : circuit.privates ≡ private_count p.depth p
   pub shows : Shows circuit p

@@ -1,5 +1,5 @@
 -- The two kinds of policies.
-use Rattle.std.proofs.Common.{◌≡◌, ℕ, zero, suc, ◌+◌, ◌<◌, List, ◌++◌, length, map, refl, sym, subst, ◌∙◌, arith}
+use Rattle.std.proofs.Common.{◌≡◌, ℕ, zero, suc, ◌<◌, List, ◌++◌, length, map, refl, sym, subst, ◌∙◌, arith}
 use Rattle.std.specs.Prelude.{◌↔◌}
 use Rattle.lzk_goldilocks.specs.Elements.{of_number}
 use Rattle.lzk_goldilocks.specs.declared.element.Gold.{Gold}

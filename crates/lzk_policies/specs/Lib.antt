@@ -1,4 +1,5 @@
 pub mod Causes
 pub mod Depths
+pub mod Hashes
 pub mod Placed
 pub mod Rooted

@@ -3,6 +3,7 @@
 ghost use Rattle.std.specs.Prelude.{◌≡◌};
 ghost use Rattle.lzk_policies.specs.declared.error.RootedError.TheVariants.{Path, Policy};
 
+use crate::hashes::MOST_HASHES;
 use lzk_beside::BesideError;
 use lzk_circuit::MOST_PRIVATES;
 use lzk_policy_circuit::PolicyCircuitError;
@@ -18,6 +19,9 @@ pub enum RootedError {
     /// The path has no circuit.
     #[error("{0}")]
     Path(PathError),
+    /// There are more hashes than a circuit has room for: the record's, one for each level and one for each pseudonym.
+    #[error("more than {most} hashes", most = MOST_HASHES)]
+    Hashes,
     /// A circuit has at most [`MOST_PRIVATES`] private inputs.
     #[error("more than {most} private inputs", most = MOST_PRIVATES)]
     Privates,

@@ -15,6 +15,7 @@
 
 mod circuit;
 mod error;
+mod hashes;
 mod inputs;
 mod places;
 mod refusal;

@@ -1,6 +1,6 @@
 //! The circuit of a policy and its inputs, whichever it shows: the digest of a record, or a root above it.
 
-ghost use Rattle.std.specs.Prelude.{◌≡◌, ℕ, ◌↔◌, List, ◌++◌, take, drop, length, IfOk, IfErr};
+ghost use Rattle.std.specs.Prelude.{◌≡◌, ◌≤◌, ℕ, ◌↔◌, List, ◌++◌, take, drop, length, IfOk, IfErr};
 ghost use Rattle.lzk_circuit.specs.Checks.{IsSatisfied};
 ghost use Rattle.lzk_circuit.specs.Wires.{inputs_of};
 ghost use Rattle.lzk_goldilocks.specs.Elements.{ops, number};
@@ -8,11 +8,13 @@ ghost use Rattle.lzk_goldilocks.specs.declared.element.Gold.{Gold};
 ghost use Rattle.lzk_policy_circuit.specs.Meaning.{public_count, values_of};
 ghost use Rattle.lzk_policy_inputs.specs.Filled.{private_of};
 ghost use Rattle.lzk_policies.specs.Causes.{IsCredentialCause};
+ghost use Rattle.lzk_policies.specs.Hashes.{hash_count, most_hashes};
 ghost use Rattle.lzk_policies.specs.Placed.{IsCredentialRefusal, root_words, shown_numbers};
 ghost use Rattle.lzk_policies.specs.Depths.{IsShownBy, SatisfyAt, private_count};
 
 use crate::circuit::rooted_circuit;
 use crate::error::RootedError;
+use crate::hashes::{MOST_HASHES, hash_count};
 use crate::inputs::{Place, RootedInputs, digest_inputs, rooted_inputs};
 use crate::refusal::RootedInputsError;
 use lzk_circuit::Circuit;
@@ -22,7 +24,7 @@ use lzk_policy_circuit::policy_circuit;
 use lzk_policy_inputs::Value;
 use std::alloc::Global;
 
-/// The circuit of a policy. Its first eight public inputs are the words of the digest or of the root, as the policy
+/// The circuit of a policy, which has as many hashes as a circuit has room for. Its first eight public inputs are the words of the digest or of the root, as the policy
 /// says, and the others the numbers that go with what is shown.
 pub fn credential_circuit(alloc: Global, policy: &Policy) -> Result<Circuit<Gold>, RootedError>
     ensures version { IfOk result (λ c. c.version ≡ 1) }
@@ -36,8 +38,12 @@ pub fn credential_circuit(alloc: Global, policy: &Policy) -> Result<Circuit<Gold
         length values ≡ values_of policy.now.shows → length private ≡ private_count policy.now.depth policy.now →
         IfOk result (λ c. IsSatisfied ops number c.layers (inputs_of ops (words ++ values) private) ↔
         SatisfyAt policy.now.depth policy.now words values private) }
+    ensures few { IfOk result (λ _. hash_count policy.now ≤ most_hashes) }
     ensures cause { IfErr result (IsCredentialCause policy.now) }
 {
+    if hash_count(policy) > MOST_HASHES {
+        return Err(RootedError::Hashes);
+    }
     let depth = policy.depth();
     if depth == 0 {
         let circuit = policy_circuit(alloc, policy)?;

@@ -7,7 +7,7 @@ use sha2::{Digest, Sha256};
 use std::alloc::{AllocError, Global};
 use std::test::Fail;
 
-const RUNS: [(&str, u8, &str); 42] = [
+const RUNS: [(&str, u8, &str); 45] = [
     (
         "show p",
         0,
@@ -113,6 +113,17 @@ const RUNS: [(&str, u8, &str); 42] = [
         "e3f95c6ff6ffb48e2c78b7f46343b1f01d40ea42156f2566910b95cc985c47e5\n",
     ),
     ("circuit u c", 0, "put\n"),
+    ("circuit u_eight c", 0, "put\n"),
+    (
+        "circuit u_nine c",
+        3,
+        "refused: u_nine: its circuit would pass a limit\n",
+    ),
+    (
+        "show u_nine",
+        0,
+        "a root, levels above the SHA-256 digest of the record: 6\na pseudonym of b for S\na pseudonym of b for T\n",
+    ),
     ("inputs u r v t x y", 0, "put\n"),
     (
         "inputs u r v x y",

@@ -1,0 +1,44 @@
+//! How many hashes a policy's circuit has.
+
+ghost use Rattle.std.specs.Prelude.{◌≡◌, ◌≤◌, length};
+ghost use Rattle.lzk_policies.specs.Hashes as hashes;
+
+use lzk_policy::{Claim, Policy, Show};
+use lzk_profile::MOST_WIRES;
+
+/// The most wires that a hash has in the layer over the inputs.
+const HASH_WIRES: u32 = 16_008;
+
+/// The most that a circuit has room for: eight in LZK1.
+pub(crate) const MOST_HASHES: u32 = MOST_WIRES / HASH_WIRES;
+
+fn hashes_of_claim(claim: &Claim) -> u32
+    ensures count { result ≡ hashes.hashes_of_claim claim.now }
+    ensures few { result ≤ 1 }
+{
+    match claim {
+        Claim::Pseudonym(_) => 1,
+        _ => 0,
+    }
+}
+
+// One for each pseudonym.
+fn hashes_of(shows: &[Show]) -> u32
+    requires { length shows.now ≤ 8 }
+    ensures count { result ≡ hashes.hashes_of shows.now }
+    ensures few { result ≤ length shows.now }
+{
+    let Some((show, others)) = shows.split_first() else {
+        return 0;
+    };
+    hashes_of_claim(&show.claim) + hashes_of(others)
+}
+
+/// The record's, one for each level and one for each pseudonym.
+pub(crate) fn hash_count(policy: &Policy) -> u32
+    ensures { result ≡ hashes.hash_count policy.now }
+{
+    // That there are few levels and shows is learnt where the size is read.
+    let _size = policy.size();
+    1 + policy.depth() + hashes_of(policy.shows())
+}
