@@ -25,8 +25,8 @@ shown_numbers p m vs = joined (numbers_of m) p.fields p.shows vs
 abbrev pub IsRootedRefusal : Contents → List ℕ → List Value → ℕ → ℕ → RootedInputsError → Type 0
 IsRootedRefusal p m vs index depth (Policy e) = (index < 2 ^ depth) × IsRefused p m vs e
 IsRootedRefusal p m vs index depth (Path e) = IsInputCause depth e
-IsRootedRefusal p m vs index depth Depth = depth ≢ p.depth
-IsRootedRefusal p m vs index depth Index = 2 ^ depth ≤ index
+IsRootedRefusal p m vs index depth Depth = ⊥
+IsRootedRefusal p m vs index depth Index = (1 ≤ depth) × (2 ^ depth ≤ index)
 IsRootedRefusal p m vs index depth OutOfMemory = Unit {0}
 
 -- where a digest is shown, record and values are refused, or memory ran out
