@@ -44,13 +44,12 @@ fn end_without<T: Threads + Sync>(
 }
 
 /// Whether both programs end with 0, with 6 without memory, and with 0 again.
-pub fn end_with_six<T: Threads + Sync>(
-    rt: &HostRuntime,
-    threads: &T,
-) -> Result<bool, AllocError> {
+pub fn end_with_six<T: Threads + Sync>(rt: &HostRuntime, threads: &T) -> Result<bool, AllocError> {
     let zk = words_of(rt.alloc(), "show sq.lzc")?;
     let credential = words_of(rt.alloc(), "show policy.txt")?;
-    Ok(end_with(rt, threads, &zk, &credential, 0)
-        && end_without(rt, threads, &zk, &credential)
-        && end_with(rt, threads, &zk, &credential, 0))
+    Ok(
+        end_with(rt, threads, &zk, &credential, 0)
+            && end_without(rt, threads, &zk, &credential)
+            && end_with(rt, threads, &zk, &credential, 0),
+    )
 }

@@ -66,7 +66,10 @@ fn eight_blocks_fit(rt: HostRuntime) -> Result<(), Fail> {
         assert!(rt; false);
         return Ok(());
     };
-    assert_eq!(rt; (circuit.publics(), circuit.privates()), (8, 8 * 503 + 6384 * 8 - 8));
+    assert_eq!(rt;
+        (circuit.publics(), circuit.privates()),
+        (8, 8 * 503 + 6384 * 8 - 8)
+    );
     Ok(())
 }
 

@@ -39,9 +39,11 @@ pub const ROOT_PRIVATE_DIGEST: &str =
     "37cf5d77d02943b02c62cffe7981ffdc54d3ab7bd7ea90d0dfd785ed2204afab";
 
 // Six levels, a pseudonym and the record: eight hashes, and no more have room.
-const EIGHT: &[u8] = b"record 55\nfield b bytes 35 at 20\nshow under root 6\nshow pseudonym of b for S\n";
+const EIGHT: &[u8] =
+    b"record 55\nfield b bytes 35 at 20\nshow under root 6\nshow pseudonym of b for S\n";
 
-const NINE: &[u8] = b"record 1\nfield b bytes 1 at 0\nshow under root 6\nshow pseudonym of b for S\n\
+const NINE: &[u8] =
+    b"record 1\nfield b bytes 1 at 0\nshow under root 6\nshow pseudonym of b for S\n\
     show pseudonym of b for T\n";
 
 const NODE: &[u8] = b"f59e1a9a0b5b4e6ebdcaafa66df2981ad9eb8ec1cdc1ec336559dab8947dc27b";
