@@ -75,7 +75,7 @@ def policy(r: random.Random) -> List[List[bytes]]:
         long = [] if field.kind == b"date" else [digits(r, field.size)]
         lines.append([b"field", field.name, field.kind, *long, b"at", digits(r, field.place)])
     is_root = r.random() < 0.4
-    lines.append([b"show", b"under", b"root", digits(r, r.randint(1, 6))] if is_root else [b"show", b"digest"])
+    lines.append([b"show", b"under", b"root", digits(r, r.randint(1, model.MOST_LEVELS))] if is_root else [b"show", b"digest"])
     for nth in range(r.choice((1, 2, 3, 4, 5, 8))):
         more = (claim(r, known, nth) or claim(r, known, nth)) if known else None
         if more:
@@ -285,7 +285,7 @@ def path(r: random.Random, levels: int) -> List[List[bytes]]:
 
 
 def change_leaf(r: random.Random, lines: List[List[bytes]]) -> None:
-    lines[0] = [digits(r, r.choice((0, 1, 2, 3, 4, 8, 16, 32, 63, 64, 65, 2**64)))]
+    lines[0] = [digits(r, r.choice((0, 1, 2, 3, 4, 8, 16, 32, 63, 64, 65, 2**20 - 1, 2**20, 2**64)))]
 
 
 def change_node(r: random.Random, lines: List[List[bytes]]) -> None:

@@ -6,9 +6,14 @@ Where the page leaves open which of several lines is printed, an end has all of 
 from __future__ import annotations
 
 import hashlib
+import os
 from typing import Dict, List, NamedTuple, Optional, Sequence, Tuple, Union
 
 MOST_TEXT = 65_536
+# The numbers in which the profiles differ: levels, hashes of a circuit, the prime and its word.
+IS_STRONG = os.environ.get("LZK_PROFILE") == "strong"
+MOST_LEVELS, MOST_HASHES = (20, 16) if IS_STRONG else (6, 8)
+PRIME, PRIME_WORD = (2**128 - 2**54 + 1, b"prime128") if IS_STRONG else (2**64 - 2**32 + 1, b"goldilocks")
 DONE, WORDS, REFUSED, UNREAD, UNWRITTEN = 0, 2, 3, 4, 5
 # The rules in the order of the page's table, which is the likeliest order of looking at them.
 KINDS = (b"Syntax", b"Order", b"Repeated", b"Size", b"Place", b"Unknown", b"Claim", b"Limit")
@@ -180,7 +185,7 @@ class Reading:
         return broken
 
     def show(self, is_root: bool, levels: int) -> Dict[bytes, bool]:
-        broken = {b"Order": self.size is None or self.levels is not None, b"Limit": is_root and not 1 <= levels <= 6}
+        broken = {b"Order": self.size is None or self.levels is not None, b"Limit": is_root and not 1 <= levels <= MOST_LEVELS}
         self.levels = levels
         return broken
 
@@ -279,7 +284,7 @@ def read_place(name: bytes, text: bytes) -> Place:
     for nth, (at, words) in enumerate(lines):
         if len(words) > 1:
             raise at_line(name, at, b"Syntax")
-        is_right = is_hex(words[0], 64) if nth else is_digits(words[0]) and int(words[0]) < 64
+        is_right = is_hex(words[0], 64) if nth else is_digits(words[0]) and int(words[0]) < 2**MOST_LEVELS
         if not is_right:
             raise at_line(name, at, b"Value")
     if not lines:
@@ -449,7 +454,7 @@ def put(files: Files, puts: Sequence[Tuple[bytes, Union[Numbers, bytes]]]) -> Ra
 
 
 def run_circuit(files: Files, name: bytes, circuit: bytes) -> Ran:
-    if hashes(read_policy(files, name)) > 8:
+    if hashes(read_policy(files, name)) > MOST_HASHES:
         raise End(REFUSED, b"refused: %s: its circuit would pass a limit\n" % name)
     return put(files, [(circuit, b"")])
 
