@@ -25,7 +25,7 @@ from statement import FIELDS, KINDS, Fault, Prime, Statement, check_order, names
 
 BUILT = os.path.join(os.path.dirname(os.path.dirname(os.path.realpath(__file__))), ".build")
 KNOWN, PROGRAM = os.path.join(BUILT, "sources"), os.path.join(BUILT, "zk-strong" if PROFILE is STRONG else "zk")
-MOST_BYTES = {"statement": 1 << 18, "numbers": 1 << 22, "circuit": 1 << 26, "proof": 1 << 21}
+MOST_BYTES = {"statement": 1 << 18, "numbers": 1 << 22, "circuit": PROFILE.most_circuit, "proof": 1 << 21}
 MOST_LINES = 10
 MOST_STATEMENTS = 16
 

@@ -23,7 +23,7 @@ from statement import Fault, show
 MOST_BYTES, MOST_FIELDS, MOST_SHOWS, MOST_TEXTS, MOST_TEXT, MOST_LEVELS = 55, 32, 8, 16, 7, PROFILE.most_levels
 MOST_NAME, MOST_PSEUDONYM, MOST_FILE = 32, 35, 65_536
 # A circuit has room for so many hashes: the record's, one for each level of a root, one for each pseudonym.
-MOST_HASHES = 8
+MOST_HASHES = PROFILE.most_hashes
 SALT = 16
 QUOTES = "\"'\u201c\u201d\u2018\u2019`"
 

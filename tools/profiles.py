@@ -9,7 +9,11 @@ from dataclasses import dataclass
 
 @dataclass(frozen=True)
 class Profile:
-    """The letter in files' first bytes; the prime field's word in a source, size, bytes of an element and byte in a circuit; columns, rows and limits."""
+    """The letter in files' first bytes; the prime field's word in a source, size, bytes of an element and byte in a circuit; columns, rows and limits.
+
+    The limits are the bits that number a layer's wires, private inputs, levels under a root, hashes of a policy and bytes of a circuit's file.
+    """
+
 
     letter: bytes
     word: str
@@ -22,6 +26,8 @@ class Profile:
     most_bits: int
     most_privates: int
     most_levels: int
+    most_hashes: int
+    most_circuit: int
 
     def circuit_magics(self):
         """The first bytes of a circuit's file, and its version."""
@@ -42,8 +48,8 @@ class Profile:
         return self.opened + row
 
 
-LZK1 = Profile(b"Z", "goldilocks", "Goldilocks", 2**64 - 2**32 + 1, 8, 1, 128, 1, 17, 65_536, 6)
-STRONG = Profile(b"S", "prime128", "the numbers below 2^128 - 2^54 + 1", 2**128 - 2**54 + 1, 16, 3, 264, 16, 19, 262_144, 20)
+LZK1 = Profile(b"Z", "goldilocks", "Goldilocks", 2**64 - 2**32 + 1, 8, 1, 128, 1, 17, 65_536, 6, 8, 1 << 26)
+STRONG = Profile(b"S", "prime128", "the numbers below 2^128 - 2^54 + 1", 2**128 - 2**54 + 1, 16, 3, 264, 16, 19, 262_144, 20, 16, 1 << 28)
 PROFILES = (LZK1, STRONG)
 PROFILE = STRONG if os.environ.get("ZK_PROFILE") == "strong" else LZK1
 

@@ -11,7 +11,7 @@ from typing import Dict, List, NamedTuple, Optional, Sequence, Tuple, Union
 
 MOST_TEXT = 65_536
 # The numbers in which the profiles differ: levels, hashes of a circuit, the prime and its word.
-IS_STRONG = os.environ.get("LZK_PROFILE") == "strong"
+IS_STRONG = os.environ.get("ZK_PROFILE") == "strong"
 MOST_LEVELS, MOST_HASHES = (20, 16) if IS_STRONG else (6, 8)
 PRIME, PRIME_WORD = (2**128 - 2**54 + 1, b"prime128") if IS_STRONG else (2**64 - 2**32 + 1, b"goldilocks")
 DONE, WORDS, REFUSED, UNREAD, UNWRITTEN = 0, 2, 3, 4, 5
