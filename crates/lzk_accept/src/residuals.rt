@@ -19,8 +19,8 @@ use lzk_field::Field;
 use lzk_sumcheck::Script;
 
 /// What is left of the claims when the pads and the private inputs are `w`: of layer `i`, or of the inputs where `i` is
-/// the number of layers. `room` has 262,144 places in LZK1, twice as many as there are numbers of so many bits as number
-/// wires, and no memory is taken. It is the plain form beside `combine_factored`, for tests.
+/// the number of layers. `room` has 262,144 places in LZK1, twice as many as there are numbers of so many bits as
+/// number wires, and no memory is taken. It is the plain form beside `combine_factored`, for tests.
 pub fn residual<'a, F: Field>(
     circuit: &'a Circuit<F>,
     public: &'a [F],

@@ -1,8 +1,8 @@
 //! Circuit files: the bytes of a layered circuit, read and written, and a circuit's id.
 //!
 //! The layout is that of the profile in docs/FORMATS.md, for the circuits of draft-google-cfrg-libzk:
-//! `LZC1` (the second letter is the profile's), the field's byte, counts, the constants ascending, then each layer from the inputs up with
-//! its terms as varints. A circuit has one file, and its id is SHA-256 of it (FIPS 180-4). A caller
+//! `LZC1` (the second letter is the profile's), the field's byte, counts, the constants ascending, then each layer from
+//! the inputs up with its terms as varints. A circuit has one file, and its id is SHA-256 of it (FIPS 180-4). A caller
 //! writes
 //!
 //! ```text

@@ -19,7 +19,8 @@ use lzk_field::Field;
 // The magic, the circuit's id and the root.
 #[tactic(auto, unfolding(crate::specs::Fields::fields_at))]
 fn head_into<'a, F: Field>(proof: &mut Proof<F>, bytes: &'a [u8]) -> Result<&'a [u8], Stop>
-    ensures read { Gives (λ rest. ((76 ∷ file_letter ∷ 80 ∷ 49 ∷ []) ∷ proof.new.id ∷ proof.new.root ∷ [], rest.now)) result
+    ensures read { Gives
+        (λ rest. ((76 ∷ file_letter ∷ 80 ∷ 49 ∷ []) ∷ proof.new.id ∷ proof.new.root ∷ [], rest.now)) result
         (fields_at (shape F.coding.bytes F.coding.size) (magic ∷ plain ∷ plain ∷ []) bytes.now) }
     ensures id { OnOk result (length proof.new.id ≡ 32) }
     ensures root { OnOk result (length proof.new.root ≡ 32) }

@@ -24,8 +24,8 @@ use lzk_policy_circuit::policy_circuit;
 use lzk_policy_inputs::Value;
 use std::alloc::Global;
 
-/// The circuit of a policy, which has as many hashes as a circuit has room for. Its first eight public inputs are the words of the digest or of the root, as the policy
-/// says, and the others the numbers that go with what is shown.
+/// The circuit of a policy, which has as many hashes as a circuit has room for. Its first eight public inputs are the
+/// words of the digest or of the root, as the policy says, and the others the numbers that go with what is shown.
 pub fn credential_circuit(alloc: Global, policy: &Policy) -> Result<Circuit<Gold>, RootedError>
     ensures version { IfOk result (λ c. c.version ≡ 1) }
     ensures publics { IfOk result (λ c. c.publics ≡ public_count policy.now) }
