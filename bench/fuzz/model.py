@@ -319,6 +319,8 @@ def roots_of_primes(power: int, count: int) -> List[int]:
 
 
 FIRST, ADDED = roots_of_primes(2, 8), roots_of_primes(3, 64)
+# The initial hash value of SHA-224, from which nodes of a tree are made.
+NODE = [0xC1059ED8, 0x367CD507, 0x3070DD17, 0xF70E5939, 0xFFC00B31, 0x68581511, 0x64F98FA7, 0xBEFA4FA4]
 
 
 def turned(word: int, *by: int) -> int:
@@ -337,8 +339,8 @@ def words_of(text: bytes) -> List[int]:
     return [int.from_bytes(text[at : at + 4], "big") for at in range(0, len(text), 4)]
 
 
-def compress(block: bytes) -> Tuple[bytes, List[int]]:
-    """The state after one block from the first hash value, and the inputs of section 14 of FORMATS but for the message."""
+def compress(block: bytes, start: Sequence[int]) -> Tuple[bytes, List[int]]:
+    """The state after one block from this one, and the inputs of section 14 of FORMATS but for the message."""
     made: List[int] = []
 
     def add(count: int, *parts: int) -> int:
@@ -349,18 +351,21 @@ def compress(block: bytes) -> Tuple[bytes, List[int]]:
     for t in range(16, 64):
         small = turned(w[t - 2], 17, 19) ^ w[t - 2] >> 10, turned(w[t - 15], 7, 18) ^ w[t - 15] >> 3
         w.append(add(2, small[0], w[t - 7], small[1], w[t - 16]))
-    a, b, c, d, e, f, g, h = FIRST
+    a, b, c, d, e, f, g, h = start
     for t in range(64):
         first = [h, turned(e, 6, 11, 25), e & f ^ ~e % 2**32 & g, ADDED[t], w[t]]
         above = add(3, *first, turned(a, 2, 13, 22), a & b ^ a & c ^ b & c)
         a, b, c, d, e, f, g, h = above, a, b, c, add(3, d, *first), e, f, g
-    state = [add(1, old, new) for old, new in zip(FIRST, (a, b, c, d, e, f, g, h))]
+    state = [add(1, old, new) for old, new in zip(start, (a, b, c, d, e, f, g, h))]
     return b"".join(word.to_bytes(4, "big") for word in state), made
 
 
+def padded(message: bytes) -> bytes:
+    return message + b"\x80" + bytes(55 - len(message)) + (8 * len(message)).to_bytes(8, "big")
+
+
 def hashed(message: bytes) -> List[int]:
-    padded = message + b"\x80" + bytes(55 - len(message)) + (8 * len(message)).to_bytes(8, "big")
-    digest, made = compress(padded)
+    digest, made = compress(padded(message), FIRST)
     assert digest == hashlib.sha256(message).digest()
     return made
 
@@ -372,8 +377,8 @@ def message_of(claim: Claim, record: bytes, tag: bytes) -> bytes:
     return b"LZP1" + bytes_of(claim.field, record) + tag
 
 
-def climb(record: bytes, place: Place) -> Tuple[bytes, List[int]]:
-    """The root above a record by its place, and the private inputs of the path."""
+def climb(record: bytes, place: Place, lowest: Sequence[int] = NODE) -> Tuple[bytes, List[int]]:
+    """The root above a record by its place, and the private inputs of the path; the lowest node may be made from another state."""
     node, at = hashlib.sha256(record).digest(), place.leaf
     made = words_of(node)
     for nth, beside in enumerate(place.nodes):
@@ -381,14 +386,16 @@ def climb(record: bytes, place: Place) -> Tuple[bytes, List[int]]:
         if nth:
             made += words_of(node)
         made += bits(int.from_bytes(left + right, "big"), 512) + [at % 2]
-        node, more = compress(left + right)
+        node, more = compress(left + right, NODE if nth else lowest)
         made, at = made + more, at // 2
     return node, made
 
 
-def inputs(policy: Policy, record: bytes, values: Sequence[Union[int, bytes, None]], place: Place) -> Tuple[List[int], Numbers]:
+def inputs(
+    policy: Policy, record: bytes, values: Sequence[Union[int, bytes, None]], place: Place, lowest: Sequence[int] = NODE
+) -> Tuple[List[int], Numbers]:
     """The public and private inputs for a record, true or not: a difference below 0 is taken modulo 2^32."""
-    root, path = climb(record, place)
+    root, path = climb(record, place, lowest)
     public, stated, made = words_of(root), bits(int.from_bytes(record, "big"), 8 * len(record)), hashed(record)
     for claim, value in zip(policy.claims, values):
         if isinstance(value, bytes):

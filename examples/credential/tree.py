@@ -1,5 +1,6 @@
 """Trees of SHA-256 nodes, as docs/POLICY.md has them under a root: a node is one compression of its two children, the left
-one first, from the initial hash value, and there is no padding. Plain Python, so nothing but hashlib's digests is trusted."""
+one first, from the initial hash value of SHA-224, and there is no padding. Digests of records begin from that of SHA-256, so
+that no record is taken for two nodes. Plain Python, so nothing but hashlib's digests is trusted."""
 
 import math
 import secrets
@@ -26,8 +27,9 @@ def cube_root(number):
 
 
 WORD = 0xFFFFFFFF
-# The first 32 bits behind the point of square roots and of cube roots of primes (FIPS 180-4).
-INITIAL = [math.isqrt(prime << 64) & WORD for prime in primes(8)]
+# Of the 9th to 16th prime the second 32 bits behind the point of square roots, which is the initial hash value of SHA-224;
+# of 64 primes the first 32 bits behind that of cube roots (FIPS 180-4, 5.3.2 and 4.2.2).
+INITIAL = [math.isqrt(prime << 128) & WORD for prime in primes(16)[8:]]
 ROUND = [cube_root(prime << 96) & WORD for prime in primes(64)]
 
 

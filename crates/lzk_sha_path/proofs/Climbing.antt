@@ -9,14 +9,13 @@ use Rattle.lzk_circuit.specs.Checks.{IsSatisfied}
 use Rattle.lzk_circuit.specs.Wires.{inputs_of}
 use Rattle.lzk_goldilocks.specs.Elements.{ops, number, of_number}
 use Rattle.lzk_goldilocks.specs.declared.element.Gold.{Gold}
-use Rattle.sha2.specs.Sha256.{initial_hash_256}
 use Rattle.lzk_sha_circuit.specs.Compression.{IsState}
 use Rattle.lzk_sha_circuit.proofs.Compressed.{length-compress}
 use Rattle.lzk_sha_circuit.proofs.Messages.{compress_below}
 use Rattle.lzk_sha_circuit.proofs.Numbered.{gold_numbered}
 use Rattle.lzk_sha_path.specs.Climbs.{private_count, between, AreClimbing, IsClimb}
 use Rattle.lzk_sha_path.specs.Levels.{IsLevel}
-use Rattle.lzk_sha_path.specs.Roots.{block_of, node_of, parent_of, root_of, AreNodes}
+use Rattle.lzk_sha_path.specs.Roots.{block_of, node_state, node_of, parent_of, root_of, AreNodes}
 use Rattle.lzk_sha_path.proofs.LevelLaws.{Step, level_forward, level_backward}
 
 -- ---- nodes
@@ -33,10 +32,10 @@ same_state h k hh hk e =
     gold_numbered.same (slice_index h i) (slice_index k i) (omega (arith, x)) (omega (arith, y))
     (sym (get_or-map of_number h i 0 ops.zero lt) ∙ ap (λ (l : List Gold). slice_index_or l i ops.zero) e ∙ get_or-map of_number k i 0 ops.zero inside))
 
-node_state : (left right : List ℕ) → IsState (node_of left right)
-node_state left right =
-    let eight = length-compress initial_hash_256 (block_of left right) in
-    record { eight = eight; words = λ k lt. compress_below initial_hash_256 (block_of left right) k (omega (arith, eight, lt)) }
+pub node_is : (left right : List ℕ) → IsState (node_of left right)
+node_is left right =
+    let eight = length-compress node_state (block_of left right) in
+    record { eight = eight; words = λ k lt. compress_below node_state (block_of left right) k (omega (arith, eight, lt)) }
 
 either_state : (b : Bool) (x y : List ℕ) → IsState x → IsState y → IsState (if b then x else y)
 either_state true x y hx hy = hx
@@ -44,7 +43,7 @@ either_state false x y hx hy = hy
 
 pub parent_state : (index : ℕ) (node sibling : List ℕ) → IsState (parent_of index node sibling)
 parent_state index node sibling =
-    either_state (nat_lt (index % 2) 1) (node_of node sibling) (node_of sibling node) (node_state node sibling) (node_state sibling node)
+    either_state (nat_lt (index % 2) 1) (node_of node sibling) (node_of sibling node) (node_is node sibling) (node_is sibling node)
 
 pub parent_same : (i j : ℕ) (node sibling : List ℕ) → i % 2 ≡ j % 2 → parent_of i node sibling ≡ parent_of j node sibling
 parent_same i j node sibling e = ap (λ m. if nat_lt m 1 then node_of node sibling else node_of sibling node) e

@@ -7,7 +7,7 @@ use Rattle.std.proofs.lemmas.Bool.{cases_lt}
 use Rattle.std.proofs.lemmas.List.{length-map, get_or-map, get_or_past, get_or_append_left}
 use Rattle.std.proofs.lemmas.List.FromFn.{length-map-range_with_len, get_or-map-range_with_len}
 use Rattle.std.proofs.lemmas.Nat.Bits.{bit_at-lt}
-use Rattle.sha2.specs.Sha256.{initial_hash_256, compress, word_at}
+use Rattle.sha2.specs.Sha256.{compress, word_at}
 use Rattle.lzk_field.specs.Sums.{entry}
 use Rattle.lzk_goldilocks.specs.Prime.{p}
 use Rattle.lzk_goldilocks.specs.Elements.{ops, of_number}
@@ -16,17 +16,17 @@ use Rattle.lzk_sha_circuit.specs.declared.bit.Bit.{Bit}
 use Rattle.lzk_sha_circuit.specs.declared.bit.Bit.TheVariants.{Zero, Input}
 use Rattle.lzk_sha_circuit.specs.Compression.{IsState, IsBlock, Finds, AreBits}
 use Rattle.lzk_sha_circuit.specs.Outputs.{AreCompressing}
-use Rattle.lzk_sha_circuit.specs.Places.{Places, IsPlaced, IsBitOf, bit_of, bit_value, initial_state, block_bit, bits_from, w_place}
+use Rattle.lzk_sha_circuit.specs.Places.{Places, IsPlaced, IsBitOf, bit_of, bit_value, block_bit, bits_from, w_place}
 use Rattle.lzk_sha_circuit.proofs.Block.{held_block, message_bytes}
 use Rattle.lzk_sha_circuit.proofs.Compressed.{found_is_compressed, satisfied_is_compression}
 use Rattle.lzk_sha_circuit.proofs.Exactly.{satisfied_exactly}
 use Rattle.lzk_sha_circuit.proofs.Found.{found_is, are_bits, each_bit}
-use Rattle.lzk_sha_circuit.proofs.MessagePlaces.{initial_value, initial_within, input_within, zero_within, length-initial_state}
+use Rattle.lzk_sha_circuit.proofs.MessagePlaces.{input_within, zero_within}
 use Rattle.lzk_sha_circuit.proofs.Numbered.{gold_numbered}
 use Rattle.lzk_sha_circuit.proofs.Soundness.{spelled, length-spelled, spelled_bytes, spelled_bit}
-use Rattle.lzk_sha_circuit.proofs.WordSums.{initial_below}
-use Rattle.lzk_sha_path.specs.Levels.{bits_worth, side, chosen_word, AreChosen, block_number, first_inputs, block_bits, level_places, IsLevel}
-use Rattle.lzk_sha_path.specs.Roots.{block_of, node_of, parent_of, child}
+use Rattle.lzk_sha_path.specs.Levels.{bits_worth, side, chosen_word, AreChosen, block_number, first_inputs, block_bits, node_bits, level_places, IsLevel}
+use Rattle.lzk_sha_path.specs.Roots.{block_of, node_state, node_of, parent_of, child}
+use Rattle.lzk_sha_path.proofs.NodeBits.{node_number, length-node_bits, node_within, node_value, state_below}
 use Rattle.lzk_sha_path.proofs.Worth.{word_worth, worth_same}
 use Rattle.lzk_sha_path.proofs.Blocks.{is_block, left_word, right_word, words_from, words_from_at, length-words_from, word_below, words_state, block_is}
 
@@ -48,16 +48,16 @@ block_within j = elim (cases_lt j 512) [
 pub placed : IsPlaced level_places
 placed = record {
   few = omega arith;
-  state_bits = length-initial_state;
+  state_bits = length-node_bits;
   block_bits = length-block_bits;
-  state_within = initial_within 513;
+  state_within = node_within 513;
   block_within = block_within;
 }
 
 abbrev pub the_places : List Bit → List Bit → Places
 the_places state block = record { inputs = 513; state = state; block = block }
 
-pub places_are : (state block : List Bit) → state ≡ initial_state → block ≡ block_bits → the_places state block ≡ level_places
+pub places_are : (state block : List Bit) → state ≡ node_bits → block ≡ block_bits → the_places state block ≡ level_places
 places_are state block e f i = the_places (e i) (f i)
 
 -- ---- where the private inputs begin with the bits of a block
@@ -65,14 +65,14 @@ module _ (private : List Gold) (block : List ℕ) (is : IsBlock block) (bits : (
   block_value : (j : ℕ) → j < 512 → block_bit of_number level_places (entry ops private) j ≡ of_number (block_number block j)
   block_value j lt = ap (bit_value of_number (entry ops private)) (block_bit_at j lt) ∙ bits j lt
 
-  pub finds : Finds ops of_number level_places private initial_hash_256 block
+  pub finds : Finds ops of_number level_places private node_state block
   finds =
       let long = is.long in
       let b = length-block_bits in
       record {
-        is_state = record { eight = refl; words = λ k lt. initial_below k };
+        is_state = record { eight = refl; words = λ k lt. state_below k lt };
         is_block = is;
-        found_state = found_is ops of_number private initial_state (32 * length initial_hash_256) (λ j. bit_at (slice_index initial_hash_256 (j / 32)) (31 - j % 32)) length-initial_state (λ j inside. initial_value of_number (entry ops private) j inside);
+        found_state = found_is ops of_number private node_bits (32 * length node_state) node_number length-node_bits (λ j inside. node_value of_number (entry ops private) j inside);
         found_block = found_is ops of_number private block_bits (8 * length block) (block_number block) (omega (arith, b, long)) (λ j inside. block_value j (omega (arith, long, inside)));
       }
 
@@ -112,7 +112,7 @@ pub record Step (node above : List Gold) : Type 0 where
   pub node_is : node ≡ map of_number low
   pub above_is : above ≡ map of_number (parent_of turn low sibling)
 
-by_side : (node above : List Gold) (block : List ℕ) → IsBlock block → (d : ℕ) → d < 2 → node ≡ map of_number (words_from block (8 * d)) → above ≡ map of_number (compress initial_hash_256 block) → Step node above
+by_side : (node above : List Gold) (block : List ℕ) → IsBlock block → (d : ℕ) → d < 2 → node ≡ map of_number (words_from block (8 * d)) → above ≡ map of_number (compress node_state block) → Step node above
 by_side node above block is zero small en ea = record {
   low = words_from block 0;
   sibling = words_from block 8;
@@ -121,7 +121,7 @@ by_side node above block is zero small en ea = record {
   is_sibling = words_state block is.bytes 8;
   small = small;
   node_is = en;
-  above_is = ea ∙ ap (λ b. map of_number (compress initial_hash_256 b)) (sym (block_is block is));
+  above_is = ea ∙ ap (λ b. map of_number (compress node_state b)) (sym (block_is block is));
 }
 by_side node above block is (suc zero) small en ea = record {
   low = words_from block 8;
@@ -131,7 +131,7 @@ by_side node above block is (suc zero) small en ea = record {
   is_sibling = words_state block is.bytes 0;
   small = small;
   node_is = en;
-  above_is = ea ∙ ap (λ b. map of_number (compress initial_hash_256 b)) (sym (block_is block is));
+  above_is = ea ∙ ap (λ b. map of_number (compress node_state b)) (sym (block_is block is));
 }
 by_side node above block is (suc (suc d)) small en ea = absurd (omega (arith, small))
 
@@ -157,7 +157,7 @@ level_forward node above private ln short long h =
     let block = spelled of_number 64 (entry ops private) bit in
     let is : IsBlock block = record { long = length-spelled of_number 64 (entry ops private) bit; bytes = spelled_bytes of_number 64 (entry ops private) bit } in
     let bits : (j : ℕ) → j < 512 → entry ops private j ≡ of_number (block_number block j) = λ j lt. spelled_bit of_number 64 (entry ops private) bit j lt in
-    let made = found_is_compressed ops of_number p gold_numbered (omega arith) level_places above private initial_hash_256 block placed short h.compressed (finds private block is bits) in
+    let made = found_is_compressed ops of_number p gold_numbered (omega arith) level_places above private node_state block placed short h.compressed (finds private block is bits) in
     let d = side private in
     let small : d < 2 = side_small node above private short long h.compressed in
     by_side node above block is d small
@@ -235,7 +235,7 @@ module _ (left right : List ℕ) (d : ℕ) (small : d < 2) where
             (d, small, ap (entry ops (given_of left right d)) e ∙ given_turn)
       ])
 
-  pub given_finds : Finds ops of_number level_places (given_of left right d) initial_hash_256 (block_of left right)
+  pub given_finds : Finds ops of_number level_places (given_of left right d) node_state (block_of left right)
   given_finds = finds (given_of left right d) (block_of left right) (is_block left right) given_bit
 
   pub given_begins : (further : List Gold) → Begins left right d (given_of left right d ++ further)
@@ -251,7 +251,7 @@ completed : (node above : List Gold) (left right : List ℕ) (d : ℕ) → IsSta
 completed node above left right d hl hr small short en ea =
     let g = given_of left right d in
     let more = (satisfied_exactly ops of_number p gold_numbered (omega arith) level_places above g placed short (length-given left right d small)).1
-    (given_bits left right d small, (initial_hash_256, block_of left right, given_finds left right d small, ea)) in (
+    (given_bits left right d small, (node_state, block_of left right, given_finds left right d small, ea)) in (
       g ++ more.0,
       omega (arith, length-append g more.0, length-given left right d small, more.1),
       is_level node above (g ++ more.0) left right d hl hr small (given_begins left right d small more.0) en more.2,

@@ -2,6 +2,8 @@ pub mod Seen
 pub mod Joined
 pub mod Worth
 pub mod Blocks
+pub mod NodeBits
 pub mod LevelLaws
 pub mod Climbing
 pub mod Made
+pub mod Trees

@@ -2,7 +2,7 @@
 use Rattle.std.proofs.Common.{◌≡◌, ℕ, ◌+◌, ◌/◌, ◌^◌, ◌<◌, List, [], ◌∷◌, ◌++◌, length, map, suc, refl, sym, ap, subst, ◌∙◌, arith, slice_index, append_assoc, length-append, mod-eq_of_lt}
 use Rattle.std.specs.Int.{w32, to_be_bytes}
 use Rattle.std.proofs.lemmas.List.{length-map, get_or-map}
-use Rattle.sha2.specs.Sha256.{initial_hash_256, digest_bytes}
+use Rattle.sha2.specs.Sha256.{digest_bytes}
 use Rattle.lzk_field.specs.Sums.{entry}
 use Rattle.lzk_goldilocks.specs.Prime.{p}
 use Rattle.lzk_goldilocks.specs.Elements.{ops, number, of_number}
@@ -13,7 +13,7 @@ use Rattle.lzk_sha_circuit.specs.Outputs.{AreCompressing}
 use Rattle.lzk_sha_circuit.proofs.Lookups.{length-compression_private}
 use Rattle.lzk_sha_path.specs.Climbs.{private_count, AreClimbing}
 use Rattle.lzk_sha_path.specs.Levels.{level_places, IsLevel}
-use Rattle.lzk_sha_path.specs.Roots.{block_of, parent_of, root_of, child}
+use Rattle.lzk_sha_path.specs.Roots.{block_of, node_state, parent_of, root_of, child}
 use Rattle.lzk_sha_path.proofs.Climbing.{joined_climb, parent_state}
 use Rattle.lzk_sha_path.proofs.LevelLaws.{Begins, is_level, given_of, given_begins, length-given}
 
@@ -31,18 +31,18 @@ unfolding compression_private
 behind_given first state block = refl
 
 module _ (left right : List ℕ) (d : ℕ) (hl : IsState left) (hr : IsState right) (small : d < 2) (public private : List Gold)
-    (made : private ≡ compression_private of_number (given_of left right d) initial_hash_256 (block_of left right)) where
+    (made : private ≡ compression_private of_number (given_of left right d) node_state (block_of left right)) where
   pub level_counted : length private ≡ 6889
   level_counted =
       ap length made
-      ∙ (let all = length-compression_private of_number (given_of left right d) initial_hash_256 (block_of left right) ops.zero in
+      ∙ (let all = length-compression_private of_number (given_of left right d) node_state (block_of left right) ops.zero in
       let first = length-given left right d small in
       omega (arith, all, first))
 
   pub level_made : AreCompressing ops of_number level_places public private → IsLevel (map of_number (child d left right)) public private
   level_made zeros =
-      let rest = compression_private of_number [] initial_hash_256 (block_of left right) in
-      let is = made ∙ behind_given (given_of left right d) initial_hash_256 (block_of left right) in
+      let rest = compression_private of_number [] node_state (block_of left right) in
+      let is = made ∙ behind_given (given_of left right d) node_state (block_of left right) in
       let begins = subst (λ (l : List Gold). Begins left right d l) (sym is) (given_begins left right d small rest) in
       is_level (map of_number (child d left right)) public private left right d hl hr small begins refl zeros
 

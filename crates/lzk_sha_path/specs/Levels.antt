@@ -9,7 +9,8 @@ use Rattle.lzk_goldilocks.specs.declared.element.Gold.{Gold}
 use Rattle.lzk_sha_circuit.specs.declared.bit.Bit.{Bit}
 use Rattle.lzk_sha_circuit.specs.declared.bit.Bit.TheVariants.{Input}
 use Rattle.lzk_sha_circuit.specs.Outputs.{AreCompressing}
-use Rattle.lzk_sha_circuit.specs.Places.{Places, initial_state}
+use Rattle.lzk_sha_circuit.specs.Places.{Places, bit_constant}
+use Rattle.lzk_sha_path.specs.Roots.{node_state}
 
 -- what n entries from a place on are worth as the bits of a number, the most significant first
 unfoldable pub bits_worth : List Gold → ℕ → ℕ → Gold
@@ -29,12 +30,16 @@ chosen_word private i = bits_worth private (256 * side private + 32 * i) 32
 abbrev pub AreChosen : List Gold → List Gold → Type 0
 AreChosen words private = (i : ℕ) → i < 8 → entry ops words i ≡ chosen_word private i
 
--- the compression finds the initial hash value, and a block whose bits stand first
+-- the bits of the state from which nodes are made, as constants, each word's most significant first
+unfoldable pub node_bits : List Bit
+node_bits = map (λ j. bit_constant (bit_at (slice_index node_state (j / 32)) (31 - j % 32))) (range_with_len 0 256)
+
+-- the compression finds this state, and a block whose bits stand first
 unfoldable pub block_bits : List Bit
 block_bits = map Input (range_with_len 0 512)
 
 abbrev pub level_places : Places
-level_places = record { inputs = 513; state = initial_state; block = block_bits }
+level_places = record { inputs = 513; state = node_bits; block = block_bits }
 
 -- the words of a node, and of the node above it
 pub record IsLevel (node above private : List Gold) : Type 0 where

@@ -2,3 +2,4 @@ pub mod Causes
 pub mod Climbs
 pub mod Levels
 pub mod Roots
+pub mod Trees

@@ -1,15 +1,19 @@
 -- Trees of SHA-256 nodes (FIPS 180-4). A node is a state: eight words of 32 bits.
 use Rattle.std.specs.Prelude.{ℕ, zero, suc, ◌/◌, ◌%◌, nat_lt, if◌then◌else◌, List, [], ◌∷◌, ◌++◌}
-use Rattle.sha2.specs.Sha256.{initial_hash_256, digest_bytes, compress}
+use Rattle.sha2.specs.Sha256.{initial_hash_224, digest_bytes, compress}
 use Rattle.lzk_sha_circuit.specs.Compression.{IsState}
 
 -- the block that two nodes are: their bytes, the left one's first
 abbrev pub block_of : List ℕ → List ℕ → List ℕ
 block_of left right = digest_bytes left 8 ++ digest_bytes right 8
 
--- the node above two nodes: the state behind this one block, from the initial hash value
+-- the state from which nodes are made: the initial hash value of SHA-224 (5.3.2), from which no SHA-256 digest is
+abbrev pub node_state : List ℕ
+node_state = initial_hash_224
+
+-- the node above two nodes: the state behind this one block
 abbrev pub node_of : List ℕ → List ℕ → List ℕ
-node_of left right = compress initial_hash_256 (block_of left right)
+node_of left right = compress node_state (block_of left right)
 
 -- the node above the node of this number in its row and the one beside it: a node of even number is the left one
 abbrev pub parent_of : ℕ → List ℕ → List ℕ → List ℕ

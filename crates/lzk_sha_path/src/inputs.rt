@@ -11,9 +11,9 @@ ghost use Rattle.lzk_sha_path.specs.Levels.{block_number, first_inputs, IsLevel}
 ghost use Rattle.lzk_sha_path.specs.Roots.{block_of, node_of, parent_of, root_of, child};
 
 use crate::error::PathError;
+use crate::nodes::NODE_STATE;
 use lzk_field::Field;
 use lzk_goldilocks::Gold;
-use lzk_lanes::INITIAL_HASH;
 use lzk_profile::MOST_LEVELS;
 use lzk_sha_circuit::{ShaInputs, compression_inputs, numbers_of, state_from};
 use std::alloc::{AllocError, Global};
@@ -107,7 +107,7 @@ fn pair_inputs(
     node_laws(&right);
     let block = block_of(alloc, left, right)?;
     let given = first_inputs(alloc, &block, side)?;
-    let inputs = compression_inputs(alloc, given, INITIAL_HASH, &block)?;
+    let inputs = compression_inputs(alloc, given, NODE_STATE, &block)?;
     Ok(inputs)
 }
 

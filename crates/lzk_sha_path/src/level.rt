@@ -9,16 +9,17 @@ ghost use Rattle.lzk_goldilocks.specs.declared.element.Gold.{Gold};
 ghost use Rattle.lzk_sha_circuit.specs.Found.{places_of};
 ghost use Rattle.lzk_sha_circuit.specs.Outputs.{AreCompressing};
 ghost use Rattle.lzk_sha_path.specs.Causes.{IsPathCause};
-ghost use Rattle.lzk_sha_path.specs.Levels.{AreChosen, IsLevel, block_bits, level_places, side};
+ghost use Rattle.lzk_sha_path.specs.Levels.{AreChosen, IsLevel, block_bits, level_places, node_bits, side};
 
 use crate::error::PathError;
+use crate::nodes::NODE_STATE;
 use crate::places::{Run, row};
 use crate::words::assert_words;
 use lzk_beside::{Part, beside};
 use lzk_circuit::Circuit;
 use lzk_gadgets::Statement;
 use lzk_goldilocks::Gold;
-use lzk_sha_circuit::{Bit, Given, compression_circuit, initial_state};
+use lzk_sha_circuit::{Bit, Given, compression_circuit, constant};
 use std::alloc::{AllocError, Global};
 
 // The circuit of the statement.
@@ -41,6 +42,17 @@ fn statement_circuit(alloc: Global) -> Result<Circuit<Gold>, PathError>
     }
 }
 
+// The bits of the state from which nodes are made.
+fn node_bits(alloc: Global) -> Result<Vec<Bit>, AllocError>
+    ensures { IfOk result (λ bits. bits.items ≡ node_bits) }
+{
+    let mut bits = Vec::with_capacity(alloc, 256)?;
+    for j in 0..256 {
+        bits.push(constant(NODE_STATE[j as usize / 32], 31 - j % 32))?;
+    }
+    Ok(bits)
+}
+
 // The bits of the block, which are private inputs.
 fn block_bits(alloc: Global) -> Result<Vec<Bit>, AllocError>
     ensures { IfOk result (λ bits. bits.items ≡ block_bits) }
@@ -56,7 +68,7 @@ fn block_bits(alloc: Global) -> Result<Vec<Bit>, AllocError>
 fn level_given(alloc: Global) -> Result<Given, AllocError>
     ensures { IfOk result (λ given. places_of given ≡ level_places) }
 {
-    let state = initial_state(alloc)?;
+    let state = node_bits(alloc)?;
     let block = block_bits(alloc)?;
     Ok(Given {
         inputs: 513,

@@ -30,13 +30,13 @@ pub const PATH: &[u8] =
 
 /// The public inputs under the root: its words, and the same numbers behind them.
 pub const ROOT_PUBLIC: &[u8] =
-    b"898568450\n3442492272\n4217370187\n1453261075\n208032858\n55968351\n3574427254\n\
-    193080831\n20081129\n20261129\n20044\n4298598\n1532196596\n3925205934\n3909409906\n3635009805\n2522574092\n\
+    b"1257166307\n2906903105\n2954760325\n373529483\n2446289664\n2332730431\n983464652\n\
+    692397526\n20081129\n20261129\n20044\n4298598\n1532196596\n3925205934\n3909409906\n3635009805\n2522574092\n\
     414419444\n4009862973\n3610553314\n3732274161\n1109350892\n403422487\n";
 
 /// The SHA-256 digest of the file of private inputs under the root.
 pub const ROOT_PRIVATE_DIGEST: &str =
-    "37cf5d77d02943b02c62cffe7981ffdc54d3ab7bd7ea90d0dfd785ed2204afab";
+    "7d54f6377ff7b760fe792f1e56f41ab6189f1c75abb1d97b763d55fa77eec290";
 
 // Six levels, a pseudonym and the record: eight hashes, and no more have room.
 const EIGHT: &[u8] =

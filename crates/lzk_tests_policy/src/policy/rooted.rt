@@ -33,7 +33,7 @@ const DAY: u32 = 20_100_304;
 const DIGEST: &str = "f8b182f6b1030e8b6e3595bcd067e975f9174ae901a06e76e13245f655021c86";
 
 // The root above it as leaf 2, by the same.
-const ROOT: &str = "a50133b493ea19169f4aabc8136a55bfbe8ff3557a343ce8c746088313ac5cdb";
+const ROOT: &str = "5c5fa531e57109fd94c6c82d1f320cb380fb08e92cef0f9953302f976c416ae6";
 
 fn circuit_of(alloc: Global, depth: u32) -> Option<Circuit<Gold>> {
     let policy = read(alloc, POLICY).ok()?;
