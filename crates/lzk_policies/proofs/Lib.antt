@@ -3,3 +3,4 @@ pub mod Placed
 pub mod Seen
 pub mod Under
 mod Refusing
+mod Issued

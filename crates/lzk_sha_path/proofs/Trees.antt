@@ -17,7 +17,7 @@ use Rattle.lzk_sha_circuit.proofs.Compressed.{length-compress}
 use Rattle.lzk_sha_circuit.proofs.Messages.{compress_below, digest_words_are}
 use Rattle.lzk_sha_path.specs.Climbs.{IsClimb}
 use Rattle.lzk_sha_path.specs.Roots.{block_of, node_state, node_of, parent_of, root_of, AreNodes}
-use Rattle.lzk_sha_path.specs.Trees.{IsRecord, Compressed, behind, of_record, of_nodes, of_pair, way_up, way_of, IsCollision, Collide, RecordsAreLeaves, IsIssued, OnlyIssuedLead, OnlyIssuedClimb}
+use Rattle.lzk_sha_path.specs.Trees.{IsRecord, Compressed, state_after, of_record, of_nodes, of_pair, way_up, way_of, IsCollision, Collide, RecordsAreLeaves, IsIssued, OnlyIssuedLead, OnlyIssuedClimb}
 use Rattle.lzk_sha_path.proofs.Blocks.{left_word, right_word}
 use Rattle.lzk_sha_path.proofs.Climbing.{same_state, parent_state}
 
@@ -65,19 +65,19 @@ both_longer : (first second : Compressed) (way others : List Compressed) → Col
 both_longer first second way others c = (c.0, c.1, later_of first c.0 way c.2, later_of second c.1 others c.3, c.4)
 
 -- what stands first on two ways and is compressed to one state is the same, or a collision
-first_same : (one other : Compressed) (way others : List Compressed) → behind one ≡ behind other → (one ≡ other) ⊎ Collide (one ∷ way) (other ∷ others)
+first_same : (one other : Compressed) (way others : List Compressed) → state_after one ≡ state_after other → (one ≡ other) ⊎ Collide (one ∷ way) (other ∷ others)
 first_same one other way others e = elim (either one other) [
   | inl same ↦ inl same
   | inr differ ↦ inr (one, other, first_of one way, first_of other others, record { differ = differ; same = e })
 ]
 
 -- ---- pairs of nodes
-choice_behind : (b : Bool) (left right : List ℕ) → behind (if b then of_nodes left right else of_nodes right left) ≡ (if b then node_of left right else node_of right left)
-choice_behind true left right = refl
-choice_behind false left right = refl
+choice_after : (b : Bool) (left right : List ℕ) → state_after (if b then of_nodes left right else of_nodes right left) ≡ (if b then node_of left right else node_of right left)
+choice_after true left right = refl
+choice_after false left right = refl
 
-pair_behind : (index : ℕ) (node sibling : List ℕ) → behind (of_pair index node sibling) ≡ parent_of index node sibling
-pair_behind index node sibling = choice_behind (nat_lt (index % 2) 1) node sibling
+pair_after : (index : ℕ) (node sibling : List ℕ) → state_after (of_pair index node sibling) ≡ parent_of index node sibling
+pair_after index node sibling = choice_after (nat_lt (index % 2) 1) node sibling
 
 choice_state : (b : Bool) (left right : List ℕ) → Compressed.state (if b then of_nodes left right else of_nodes right left) ≡ node_state
 choice_state true left right = refl
@@ -160,14 +160,14 @@ together a b i j (s ∷ ss) (t ∷ ts) ha hb hs ht l p e =
     let others = way_up (parent_of j b t) (j / 2) ts in
     elim (together (parent_of i a s) (parent_of j b t) (i / 2) (j / 2) ss ts (parent_state i a s) (parent_state j b t) hs.1 ht.1 (omega (arith, l)) h.1 e) [
       | inr c ↦ inr (both_longer one other way others c)
-      | inl same ↦ elim (first_same one other way others (pair_behind i a s ∙ same ∙ sym (pair_behind j b t))) [
+      | inl same ↦ elim (first_same one other way others (pair_after i a s ∙ same ∙ sym (pair_after j b t))) [
         | inr c ↦ inr c
         | inl pair ↦ inl (pairs_same i j a s b t ha hs.0 hb ht.0 (sym h.0) pair)
       ]
     ]
 
 -- a record, and something else whose way is as long or longer
-under : (k : ℕ) (one other : Compressed) (a b : List ℕ) (i j : ℕ) (ss ts : List (List ℕ)) → one.state ≡ initial_hash_256 → behind one ≡ a → behind other ≡ b
+under : (k : ℕ) (one other : Compressed) (a b : List ℕ) (i j : ℕ) (ss ts : List (List ℕ)) → one.state ≡ initial_hash_256 → state_after one ≡ a → state_after other ≡ b
     → IsState a → IsState b → AreNodes ss → AreNodes ts → length ts ≡ k + length ss → j / 2 ^ k % 2 ^ length ss ≡ i % 2 ^ length ss → root_of a i ss ≡ root_of b j ts
     → ((k ≡ 0) × (one ≡ other)) ⊎ Collide (one ∷ way_up a i ss) (other ∷ way_up b j ts)
 under zero one other a b i j ss ts es ea eb ha hb hs ht l p e =
@@ -183,7 +183,7 @@ under (suc k) one other a b i j ss [] es ea eb ha hb hs ht l p e = absurd (omega
 under (suc k) one other a b i j ss (t ∷ ts) es ea eb ha hb hs ht l p e =
     let next = of_pair j b t in
     let way = one ∷ way_up a i ss in
-    elim (under k one next a (parent_of j b t) i (j / 2) ss ts es ea (pair_behind j b t) ha (parent_state j b t) hs ht.1 (omega (arith, l)) (ap (λ n. n % 2 ^ length ss) (half_of j k) ∙ p) e) [
+    elim (under k one next a (parent_of j b t) i (j / 2) ss ts es ea (pair_after j b t) ha (parent_state j b t) hs ht.1 (omega (arith, l)) (ap (λ n. n % 2 ^ length ss) (half_of j k) ∙ p) e) [
       | inr c ↦ inr (longer other way (next ∷ way_up (parent_of j b t) (j / 2) ts) c)
       | inl s ↦ absurd (states_differ (sym es ∙ ap (λ (c : Compressed). c.state) s.1 ∙ pair_state j b t))
     ]

@@ -18,9 +18,9 @@ pub record Compressed : Type 0 where
   pub state : List ℕ
   pub block : List ℕ
 
--- the state behind it
-abbrev pub behind : Compressed → List ℕ
-behind c = compress c.state c.block
+-- the state after it
+abbrev pub state_after : Compressed → List ℕ
+state_after c = compress c.state c.block
 
 -- a record: its padded block, from the initial hash value of SHA-256
 abbrev pub of_record : List ℕ → Compressed
@@ -44,10 +44,10 @@ way_up node index (sibling ∷ siblings) =
 abbrev pub way_of : List ℕ → ℕ → List (List ℕ) → List Compressed
 way_of m index siblings = of_record m ∷ way_up (digest_words m) index siblings
 
--- what differs and has one state behind it
+-- two different ones with one state after both
 pub record IsCollision (one other : Compressed) : Type 0 where
   pub differ : one ≢ other
-  pub same : behind one ≡ behind other
+  pub same : state_after one ≡ state_after other
 
 -- something on a way and something on another one are a collision
 abbrev pub Collide : List Compressed → List Compressed → Type 0

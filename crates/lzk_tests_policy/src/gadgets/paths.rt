@@ -1,6 +1,8 @@
 //! A path's circuit at inputs of a leaf.
 
-use crate::gadgets::path_inputs::{LEAF, LOW_ROOT, PRIVATE, PRIVATE_COUNT, ROOT, SIBLINGS};
+use crate::gadgets::path_inputs::{
+    LEAF, LOW_ROOT, PRIVATE, PRIVATE_COUNT, RECORD_DIGEST, RECORD_HALF, RECORD_NODE, ROOT, SIBLINGS,
+};
 use lzk_sha_path::{PathError, path_circuit, path_inputs};
 use lzk_tests_shared::{bits, is_satisfied, word_elements, words};
 use std::test::Fail;
@@ -30,6 +32,21 @@ fn one_level_leads_to_its_root(rt: HostRuntime) -> Result<(), Fail> {
     assert!(rt; is_satisfied(alloc, &circuit, &public, &private) == Ok(true));
     assert!(rt; is_satisfied(alloc, &circuit, &other, &private) == Ok(false));
     assert!(rt; is_satisfied(alloc, &circuit, &turned, &private) == Ok(false));
+    Ok(())
+}
+
+// The padded block of a record is no block of two nodes: the halves do not lead to the record's digest.
+#[test]
+fn a_record_is_not_two_nodes(rt: HostRuntime) -> Result<(), Fail> {
+    let alloc = rt.alloc();
+    let Ok(inputs) = path_inputs(alloc, words(LEAF), 0, &[words(RECORD_HALF)]) else {
+        assert!(rt; false);
+        return Ok(());
+    };
+    let node = word_elements(alloc, &[LEAF, RECORD_NODE])?;
+    let digest = word_elements(alloc, &[LEAF, RECORD_DIGEST])?;
+    assert!(rt; inputs.public.as_slice() == node.as_slice());
+    assert!(rt; inputs.public.as_slice() != digest.as_slice());
     Ok(())
 }
 
