@@ -1,43 +1,56 @@
 -- The formats of policies, records and paths.
-use Rattle.std.specs.Prelude.{◌≡◌, ◌≢◌, ◌<◌, ◌==◌, ℕ, Bool, true, false, not, List, length, Option, Some, None, Ok, Err}
+use Rattle.std.specs.Prelude.{◌≡◌, ◌≢◌, ◌<◌, ◌≤◌, ◌==◌, ℕ, Bool, true, false, not, List, length, Option, Some, None, Ok, Err}
 use Rattle.lzk_cmd_files.specs.Ends.{says}
 use Rattle.lzk_cmd_files.specs.Formats.{Format}
-use Rattle.lzk_policy.specs.declared.fault.PolicyFault.{PolicyFault}
 use Rattle.lzk_policy.specs.Policies.{Contents, policy_of}
+use Rattle.lzk_policies.specs.Hashes.{hash_count, most_hashes}
 use Rattle.lzk_credential_run.specs.declared.entries.ValuesFault.{ValuesFault}
-use Rattle.lzk_credential_run.specs.Lines.{policy_line, kind_unfit_line, path_line, short_line}
+use Rattle.lzk_credential_run.specs.declared.policies.PolicyRefusal.{PolicyRefusal}
+use Rattle.lzk_credential_run.specs.declared.policies.PolicyRefusal.TheVariants.{Line, Hashes}
+use Rattle.lzk_credential_run.specs.Lines.{policy_line, limit_line, kind_unfit_line, path_line, short_line}
 use Rattle.lzk_credential_run.specs.Paths.{Placed, path_of}
 
 abbrev pub policy_limit : ℕ
 policy_limit = 65536
 
--- policies, with their first broken line
-abbrev pub policy_files : Format Contents PolicyFault
+-- the first broken line of a policy; or there are more hashes than a circuit has room for
+abbrev pub IsRefused : List ℕ → PolicyRefusal → Type 0
+IsRefused text (Line fault) = policy_of text ≡ Err fault
+IsRefused text Hashes = (p : Contents) × (policy_of text ≡ Ok p) × (most_hashes < hash_count p)
+
+abbrev pub refusal_line : List ℕ → PolicyRefusal → List ℕ
+refusal_line name (Line fault) = policy_line name fault
+refusal_line name Hashes = limit_line name
+
+-- policies for whose hashes a circuit has room
+abbrev pub policy_files : Format Contents PolicyRefusal
 policy_files = record {
   limit = policy_limit;
-  means = λ text policy. policy_of text ≡ Ok policy;
-  breaks = λ text fault. policy_of text ≡ Err fault;
-  refused = λ name fault. says 3 (policy_line name fault);
+  means = λ text policy. (policy_of text ≡ Ok policy) × (hash_count policy ≤ most_hashes);
+  breaks = IsRefused;
+  refused = λ name refusal. says 3 (refusal_line name refusal);
 }
 
 -- the policy shows a root
 abbrev pub is_rooted : Contents → Bool
 is_rooted p = not (p.depth == 0)
 
--- the first broken line of a policy, or none where it shows a root and should not, or does not and should
-abbrev pub IsUnfit : Bool → List ℕ → Option PolicyFault → Type 0
-IsUnfit rooted text None = (p : Contents) × (policy_of text ≡ Ok p) × (is_rooted p ≢ rooted)
-IsUnfit rooted text (Some fault) = policy_of text ≡ Err fault
+-- why a text is no policy, or nothing where it is one that shows a root and should not, or does not and should
+abbrev pub IsUnfit : Bool → List ℕ → Option PolicyRefusal → Type 0
+IsUnfit rooted text None =
+    (p : Contents) × (policy_of text ≡ Ok p) × (hash_count p ≤ most_hashes) × (is_rooted p ≢ rooted)
+IsUnfit rooted text (Some refusal) = IsRefused text refusal
 
-abbrev pub unfit_line : Bool → List ℕ → Option PolicyFault → List ℕ
+abbrev pub unfit_line : Bool → List ℕ → Option PolicyRefusal → List ℕ
 unfit_line rooted name None = kind_unfit_line rooted name
-unfit_line rooted name (Some fault) = policy_line name fault
+unfit_line rooted name (Some refusal) = refusal_line name refusal
 
 -- policies that show a root, or those that show a digest
-abbrev pub kind_files : Bool → Format Contents (Option PolicyFault)
+abbrev pub kind_files : Bool → Format Contents (Option PolicyRefusal)
 kind_files rooted = record {
   limit = policy_limit;
-  means = λ text policy. (policy_of text ≡ Ok policy) × (is_rooted policy ≡ rooted);
+  means = λ text policy.
+      (policy_of text ≡ Ok policy) × (hash_count policy ≤ most_hashes) × (is_rooted policy ≡ rooted);
   breaks = IsUnfit rooted;
   refused = λ name unfit. says 3 (unfit_line rooted name unfit);
 }

@@ -1,32 +1,56 @@
 //! The policy in a file, or the end of the run.
 
-ghost use Rattle.std.specs.Prelude.{◌≡◌, ◌≤◌, length};
+ghost use Rattle.std.specs.Prelude.{◌≡◌, ◌≤◌, length, IfOk, string_bytes};
 ghost use Rattle.lzk_cmd_files.specs.Seen.{seen};
 ghost use Rattle.lzk_cmd_files.specs.Walks.{Decodes, Gives, OnlyReads};
-ghost use Rattle.lzk_credential_run.specs.Files.{is_rooted, kind_files, policy_files};
+ghost use Rattle.lzk_credential_run.specs.Files.{is_rooted, kind_files, policy_files, refusal_line};
 
 use crate::lines;
 use lzk_cmd_files::{Ending, Halt, read_file};
 use lzk_outside::Shelf;
-use lzk_policy::{Policy, PolicyError, parse_policy};
-use std::alloc::Global;
+use lzk_policies::has_room;
+use lzk_policy::{Policy, PolicyError, PolicyFault, parse_policy};
+use std::alloc::{AllocError, Global};
 
 /// The largest policy that is read, in bytes.
 const MOST_POLICY: usize = 65_536;
+
+/// Why a text is no policy of a command.
+#[derive(Clone, Copy)]
+pub enum PolicyRefusal {
+    /// A line breaks a rule.
+    Line(PolicyFault),
+    /// There are more hashes than a circuit has room for.
+    Hashes,
+}
+
+// The line that refuses a policy.
+fn refuse(alloc: Global, name: &str, refusal: PolicyRefusal) -> Result<String, AllocError>
+    ensures { IfOk result (λ s. string_bytes s ≡ refusal_line name.now refusal) }
+{
+    match refusal {
+        PolicyRefusal::Line(fault) => lines::refuse_policy(alloc, name, fault),
+        PolicyRefusal::Hashes => lines::refuse_limit(alloc, name),
+    }
+}
 
 // The policy of this text.
 fn policy_of(alloc: Global, name: &str, text: &[u8]) -> Result<Policy, Halt>
     requires { length text.now ≤ 65536 }
     ensures { Decodes policy_files (λ p. p) name.now text.now result }
 {
-    match parse_policy(alloc, text) {
-        Ok(policy) => Ok(policy),
-        Err(PolicyError::OutOfMemory) => Err(Halt::Memory),
-        Err(PolicyError::Fault(fault)) => {
-            let text = lines::refuse_policy(alloc, name, fault)?;
-            Err(Halt::End(Ending { status: 3, text }))
+    let refusal = match parse_policy(alloc, text) {
+        Ok(policy) => {
+            if has_room(&policy) {
+                return Ok(policy);
+            }
+            PolicyRefusal::Hashes
         }
-    }
+        Err(PolicyError::OutOfMemory) => return Err(Halt::Memory),
+        Err(PolicyError::Fault(fault)) => PolicyRefusal::Line(fault),
+    };
+    let text = refuse(alloc, name, refusal)?;
+    Err(Halt::End(Ending { status: 3, text }))
 }
 
 // Whether a policy shows a root.
@@ -41,20 +65,12 @@ fn kind_of(alloc: Global, name: &str, text: &[u8], rooted: bool) -> Result<Polic
     requires { length text.now ≤ 65536 }
     ensures { Decodes (kind_files rooted) (λ p. p) name.now text.now result }
 {
-    match parse_policy(alloc, text) {
-        Ok(policy) => {
-            if is_rooted(&policy) == rooted {
-                return Ok(policy);
-            }
-            let text = lines::refuse_kind(alloc, name, rooted)?;
-            Err(Halt::End(Ending { status: 3, text }))
-        }
-        Err(PolicyError::OutOfMemory) => Err(Halt::Memory),
-        Err(PolicyError::Fault(fault)) => {
-            let text = lines::refuse_policy(alloc, name, fault)?;
-            Err(Halt::End(Ending { status: 3, text }))
-        }
+    let policy = policy_of(alloc, name, text)?;
+    if is_rooted(&policy) == rooted {
+        return Ok(policy);
     }
+    let text = lines::refuse_kind(alloc, name, rooted)?;
+    Err(Halt::End(Ending { status: 3, text }))
 }
 
 /// The policy in a file, which shows a root or does not.

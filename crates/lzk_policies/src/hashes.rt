@@ -1,6 +1,6 @@
 //! How many hashes a policy's circuit has.
 
-ghost use Rattle.std.specs.Prelude.{◌≡◌, ◌≤◌, length};
+ghost use Rattle.std.specs.Prelude.{◌≡◌, ◌≤◌, nat_le, length};
 ghost use Rattle.lzk_policies.specs.Hashes as hashes;
 
 use lzk_policy::{Claim, Policy, Show};
@@ -34,11 +34,18 @@ fn hashes_of(shows: &[Show]) -> u32
     hashes_of_claim(&show.claim) + hashes_of(others)
 }
 
-/// The record's, one for each level and one for each pseudonym.
-pub(crate) fn hash_count(policy: &Policy) -> u32
+// The record's, one for each level and one for each pseudonym.
+fn hash_count(policy: &Policy) -> u32
     ensures { result ≡ hashes.hash_count policy.now }
 {
     // That there are few levels and shows is learnt where the size is read.
     let _size = policy.size();
     1 + policy.depth() + hashes_of(policy.shows())
+}
+
+/// Whether a circuit has room for the policy's hashes: the record's, one for each level and one for each pseudonym.
+pub fn has_room(policy: &Policy) -> bool
+    ensures { result ≡ nat_le (hashes.hash_count policy.now) hashes.most_hashes }
+{
+    hash_count(policy) <= MOST_HASHES
 }

@@ -24,6 +24,7 @@ mod whole;
 
 pub use circuit::rooted_circuit;
 pub use error::RootedError;
+pub use hashes::has_room;
 pub use inputs::{Place, RootedInputs, rooted_inputs};
 pub use laws::issued_laws;
 pub use refusal::RootedInputsError;

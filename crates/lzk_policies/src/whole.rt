@@ -14,7 +14,7 @@ ghost use Rattle.lzk_policies.specs.Depths.{IsShownBy, SatisfyAt, private_count}
 
 use crate::circuit::rooted_circuit;
 use crate::error::RootedError;
-use crate::hashes::{MOST_HASHES, hash_count};
+use crate::hashes::has_room;
 use crate::inputs::{Place, RootedInputs, digest_inputs, rooted_inputs};
 use crate::refusal::RootedInputsError;
 use lzk_circuit::Circuit;
@@ -41,7 +41,7 @@ pub fn credential_circuit(alloc: Global, policy: &Policy) -> Result<Circuit<Gold
     ensures few { IfOk result (λ _. hash_count policy.now ≤ most_hashes) }
     ensures cause { IfErr result (IsCredentialCause policy.now) }
 {
-    if hash_count(policy) > MOST_HASHES {
+    if !has_room(policy) {
         return Err(RootedError::Hashes);
     }
     let depth = policy.depth();
