@@ -49,7 +49,7 @@ class Profile:
 
 
 LZK1 = Profile(b"Z", "goldilocks", "Goldilocks", 2**64 - 2**32 + 1, 8, 1, 128, 1, 17, 65_536, 6, 8, 1 << 26)
-STRONG = Profile(b"S", "prime128", "the numbers below 2^128 - 2^54 + 1", 2**128 - 2**54 + 1, 16, 3, 264, 16, 19, 262_144, 20, 16, 1 << 28)
+STRONG = Profile(b"S", "prime128", "the numbers below 2^128 - 2^54 + 1", 2**128 - 2**54 + 1, 16, 3, 264, 16, 19, 262_144, 20, 32, 1 << 28)
 PROFILES = (LZK1, STRONG)
 PROFILE = STRONG if os.environ.get("ZK_PROFILE") == "strong" else LZK1
 

@@ -12,7 +12,7 @@ from typing import Dict, List, NamedTuple, Optional, Sequence, Tuple, Union
 MOST_TEXT = 65_536
 # The numbers in which the profiles differ: levels, hashes of a circuit, the prime and its word.
 IS_STRONG = os.environ.get("ZK_PROFILE") == "strong"
-MOST_LEVELS, MOST_HASHES = (20, 16) if IS_STRONG else (6, 8)
+MOST_LEVELS, MOST_HASHES = (20, 32) if IS_STRONG else (6, 8)
 PRIME, PRIME_WORD = (2**128 - 2**54 + 1, b"prime128") if IS_STRONG else (2**64 - 2**32 + 1, b"goldilocks")
 DONE, WORDS, REFUSED, UNREAD, UNWRITTEN = 0, 2, 3, 4, 5
 # The rules in the order of the page's table, which is the likeliest order of looking at them.
@@ -429,7 +429,10 @@ def read(files: Files, name: bytes, most: int) -> bytes:
 
 
 def read_policy(files: Files, name: bytes) -> Policy:
-    return parse(name, read(files, name, MOST_TEXT))
+    policy = parse(name, read(files, name, MOST_TEXT))
+    if hashes(policy) > MOST_HASHES:
+        raise End(REFUSED, b"refused: %s: its circuit would pass a limit\n" % name)
+    return policy
 
 
 def read_record(files: Files, name: bytes, policy: Policy) -> bytes:
@@ -461,8 +464,7 @@ def put(files: Files, puts: Sequence[Tuple[bytes, Union[Numbers, bytes]]]) -> Ra
 
 
 def run_circuit(files: Files, name: bytes, circuit: bytes) -> Ran:
-    if hashes(read_policy(files, name)) > MOST_HASHES:
-        raise End(REFUSED, b"refused: %s: its circuit would pass a limit\n" % name)
+    read_policy(files, name)
     return put(files, [(circuit, b"")])
 
 
