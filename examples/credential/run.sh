@@ -72,8 +72,8 @@ call service trust annex forger/public.pem root2
 ask annex annex.example under.txt q26
 call wallet mallory_rooted annex.example q26 a26
 check annex q26 a26
-sed 's/"levels": 14/"levels": 15/' root >root15
-call service trust inn issuer/public.pem root15
+sed 's/"levels": 16/"levels": 17/' root >root17
+call service trust inn issuer/public.pem root17
 tell a record of another tree by the path of a leaf under the root
 mix mallory_rooted record ann_rooted thief
 ask inn inn.example under.txt q19
@@ -84,7 +84,7 @@ mix ann_rooted record eve_rooted stray
 call wallet stray inn.example q19 a19
 call wallet stray inn.example q19 a19 anyway
 tell a service that asks for the digest of a record under a root, or for a pseudonym
-sed 's/^show under root 14$/show digest/' "$here/under.txt" > by-digest.txt
+sed 's/^show under root 16$/show digest/' "$here/under.txt" > by-digest.txt
 call service request spy spy.example by-digest.txt q20 LATEST=20081129 TODAY=20261129
 call wallet ann_rooted spy.example q20 a20
 sed -e '/^show under root/i field secret bytes 16 at 15' -e '$a show pseudonym of secret for SERVICE' "$here/under.txt" > by-name.txt
