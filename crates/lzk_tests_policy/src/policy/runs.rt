@@ -7,7 +7,7 @@ use sha2::{Digest, Sha256};
 use std::alloc::{AllocError, Global};
 use std::test::Fail;
 
-const RUNS: [(&str, u8, &str); 45] = [
+const RUNS: [(&str, u8, &str); 47] = [
     (
         "show p",
         0,
@@ -121,8 +121,18 @@ const RUNS: [(&str, u8, &str); 45] = [
     ),
     (
         "show u_nine",
-        0,
-        "a root, levels above the SHA-256 digest of the record: 6\na pseudonym of b for S\na pseudonym of b for T\n",
+        3,
+        "refused: u_nine: its circuit would pass a limit\n",
+    ),
+    (
+        "digest u_nine r",
+        3,
+        "refused: u_nine: its circuit would pass a limit\n",
+    ),
+    (
+        "inputs u_nine r v x y",
+        3,
+        "refused: u_nine: its circuit would pass a limit\n",
     ),
     ("inputs u r v t x y", 0, "put\n"),
     (
