@@ -74,7 +74,7 @@ fn kind_of(alloc: Global, name: &str, text: &[u8], rooted: bool) -> Result<Polic
 }
 
 /// The policy in a file, which shows a root or does not.
-pub fn read_kind<S: Shelf>(
+pub(crate) fn read_kind<S: Shelf>(
     alloc: Global,
     shelf: &mut S,
     name: &str,
@@ -89,7 +89,11 @@ pub fn read_kind<S: Shelf>(
 }
 
 /// The policy in a file.
-pub fn read_policy<S: Shelf>(alloc: Global, shelf: &mut S, name: &str) -> Result<Policy, Halt>
+pub(crate) fn read_policy<S: Shelf>(
+    alloc: Global,
+    shelf: &mut S,
+    name: &str,
+) -> Result<Policy, Halt>
     ensures gives { Gives policy_files (λ p. p) (seen S.Shelf shelf.old) (seen S.Shelf shelf.new) name.now result }
     ensures reads { OnlyReads (seen S.Shelf shelf.old) (seen S.Shelf shelf.new) }
 {
