@@ -1,5 +1,5 @@
 -- What is shown under a root is of a record that was issued there.
-use Rattle.std.proofs.Common.{length, arith}
+use Rattle.std.proofs.Common.{arith}
 use Rattle.lzk_sha_path.specs.Trees.{IsRecord}
 use Rattle.lzk_sha_path.proofs.Trees.{climb}
 use Rattle.lzk_policies.specs.Issued.{OnlyIssuedAreShown}

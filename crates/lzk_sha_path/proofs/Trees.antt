@@ -1,5 +1,5 @@
 -- Two ways to one root: they stay together from the root down, or collide.
-use Rattle.std.proofs.Common.{◌≡◌, ℕ, ◌+◌, ◌-◌, ◌*◌, ◌/◌, ◌%◌, ◌^◌, ◌<◌, ◌≤◌, List, [], ◌∷◌, ◌++◌, length, map, take, zero, suc, refl, sym, ap, subst, ◌∙◌, arith, inl, inr, slice_index, mod-lt, ext_get_or, length-append, get_or-append-add}
+use Rattle.std.proofs.Common.{◌≡◌, ℕ, ◌+◌, ◌-◌, ◌*◌, ◌/◌, ◌%◌, ◌^◌, ◌<◌, ◌≤◌, List, [], ◌∷◌, length, map, take, zero, suc, refl, sym, ap, subst, ◌∙◌, arith, inl, inr, slice_index, mod-lt, ext_get_or, get_or-append-add}
 use Rattle.std.specs.Prelude.{◌≢◌, ◌⊎◌, Bool, true, false, if◌then◌else◌, nat_lt, replicate}
 use Rattle.std.specs.Int.{w64, to_be_bytes}
 use Rattle.std.specs.List.{Contains}
@@ -7,17 +7,16 @@ use Rattle.std.proofs.Math.Arith.{mod-mul}
 use Rattle.std.proofs.Math.Nat.{pow-suc, div-div-eq-div-mul, div-one, mul_comm, mul-div_cancel, mul-lt-mul_of_pos_right, mod-eq_of_lt}
 use Rattle.std.proofs.Math.Seq.{take-append_seam}
 use Rattle.std.proofs.lemmas.Bool.{cases_eq, cases_lt}
-use Rattle.std.proofs.lemmas.List.{length-replicate, get_or_append_left}
+use Rattle.std.proofs.lemmas.List.{length-replicate}
 use Rattle.std.proofs.lemmas.Nat.{pow_pos, pow-add}
-use Rattle.sha2.specs.Sha256.{initial_hash_256, padded_message, padding, compress, word_at}
+use Rattle.sha2.specs.Sha256.{initial_hash_256, padded_message, padding, word_at}
 use Rattle.lzk_goldilocks.specs.Elements.{of_number}
 use Rattle.lzk_sha_circuit.specs.Compression.{IsState}
 use Rattle.lzk_sha_circuit.specs.Digest.{digest_words}
 use Rattle.lzk_sha_circuit.proofs.Compressed.{length-compress}
 use Rattle.lzk_sha_circuit.proofs.Messages.{compress_below, digest_words_are}
-use Rattle.lzk_sha_path.specs.Climbs.{IsClimb}
 use Rattle.lzk_sha_path.specs.Roots.{block_of, node_state, node_of, parent_of, root_of, AreNodes}
-use Rattle.lzk_sha_path.specs.Trees.{IsRecord, Compressed, state_after, of_record, of_nodes, of_pair, way_up, way_of, IsCollision, Collide, RecordsAreLeaves, IsIssued, OnlyIssuedLead, OnlyIssuedClimb}
+use Rattle.lzk_sha_path.specs.Trees.{Compressed, state_after, of_record, of_nodes, of_pair, way_up, way_of, Collide, RecordsAreLeaves, OnlyIssuedLead, OnlyIssuedClimb}
 use Rattle.lzk_sha_path.proofs.Blocks.{left_word, right_word}
 use Rattle.lzk_sha_path.proofs.Climbing.{same_state, parent_state}
 

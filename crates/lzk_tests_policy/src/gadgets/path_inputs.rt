@@ -18,6 +18,7 @@ pub const ROOT: &str = "f310ccf015ad7aa24c9cf3e67eeacd0dcb4409d47362374f60ba16b0
 
 /// The second half of the padded block of a record whose first half is the leaf, and the record's digest.
 pub const RECORD_HALF: &str = "69732069737375656420746f206120686f6c6465722e2e8000000000000001b8";
+
 pub const RECORD_DIGEST: &str = "c5faa88058e763af75252fe60a6485a6b828ede78e4dc9175fc820b879fa81b5";
 
 /// The node above these halves, which is another.
