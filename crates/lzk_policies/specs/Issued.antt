@@ -6,8 +6,8 @@ use Rattle.lzk_policy.specs.Policies.{Contents, IsPolicy}
 use Rattle.lzk_sha_path.specs.Trees.{IsIssued, Collide, way_of}
 use Rattle.lzk_policies.specs.Rooted.{IsShownUnder}
 
--- What is shown under a root over a row of records, by a policy of however many levels, is of the one that was issued at
--- its leaf, or its way to the root collides with that of one that was issued.
+-- What is shown under a root over a row of records, by a policy of however many levels, is of the one that was issued
+-- at its leaf, or its way to the root collides with that of one that was issued.
 abbrev pub OnlyIssuedAreShown : Type 0
 OnlyIssuedAreShown =
     (p : Contents) (depth levels : ℕ) (root : List ℕ) (leaf : ℕ → List ℕ) (beside : ℕ → List (List ℕ)) (m : List ℕ)
