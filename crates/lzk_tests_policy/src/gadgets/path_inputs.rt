@@ -16,9 +16,10 @@ pub const LOW_ROOT: &str = "894fc27a35a609fbb28821a99c4f4559cb4b675c6f954b4c5ab0
 /// The root of three levels above leaf 5.
 pub const ROOT: &str = "f310ccf015ad7aa24c9cf3e67eeacd0dcb4409d47362374f60ba16b08c16b0db";
 
-/// The second half of the padded block of a record whose first half is the leaf, and the record's digest.
+/// The second half of the padded block of a record whose first half is the leaf.
 pub const RECORD_HALF: &str = "69732069737375656420746f206120686f6c6465722e2e8000000000000001b8";
 
+/// The record's digest.
 pub const RECORD_DIGEST: &str = "c5faa88058e763af75252fe60a6485a6b828ede78e4dc9175fc820b879fa81b5";
 
 /// The node above these halves, which is another.
