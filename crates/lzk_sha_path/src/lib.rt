@@ -1,8 +1,8 @@
 //! A leaf under a root of a tree of SHA-256 nodes (FIPS 180-4), as a circuit over the prime field.
 //!
-//! A node is the state that one compression, from the initial hash value of SHA-224, of the 64 bytes of its two children
-//! gives, so that no record is taken for two nodes ([`tree_laws`]). Leaf and root are public; the nodes beside the path
-//! and the leaf's number stay private. A caller writes
+//! A node is the state that one compression, from the initial hash value of SHA-224, of the 64 bytes of its two
+//! children gives, so that no record is taken for two nodes ([`tree_laws`]). Leaf and root are public; the nodes beside
+//! the path and the leaf's number stay private. A caller writes
 //!
 //! ```text
 //! let circuit = path_circuit(alloc, 4)?;
