@@ -7,6 +7,7 @@ use Rattle.lzk_circbytes.specs.declared.any.AnyCircuit.TheVariants.{Gold, Gf}
 use Rattle.lzk_circuit.specs.Checks.{check_count}
 use Rattle.lzk_circuit.specs.Valid.{Wiring}
 use Rattle.lzk_goldilocks.specs.Elements as gold
+use Rattle.lzk_goldilocks.specs.Prime.{field_byte}
 use Rattle.lzk_gf128.specs.Elements as gf
 use Rattle.lzk_calls.specs.declared.info.Info.{Info}
 use Rattle.lzk_calls.specs.declared.refusal.Refusal.{Refusal}
@@ -40,7 +41,7 @@ refusal_info (NoCircuit fault) =
 refusal_info other = record info_of_none { answer = 6 }
 
 abbrev pub info_any : List ℕ → AnyCircuit → Info
-info_any id (Gold c) = info_over gold.number 1 id c
+info_any id (Gold c) = info_over gold.number field_byte id c
 info_any id (Gf c) = info_over gf.number 2 id c
 
 -- what is written of a circuit's file: its id is SHA-256 of it

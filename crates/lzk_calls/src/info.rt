@@ -10,6 +10,7 @@ use crate::refusal::Refusal;
 use lzk_circbytes::{AnyCircuit, id_of_file};
 use lzk_circuit::Circuit;
 use lzk_field::Field;
+use lzk_goldilocks::Gold;
 use std::alloc::Global;
 
 /// What a circuit's file holds. Where it is refused, all but the answer, the rule and the byte is 0.
@@ -22,7 +23,7 @@ pub struct Info {
     pub kind: u32,
     /// The byte where it breaks it.
     pub offset: u64,
-    /// 1 for the prime field, 2 for GF(2^128).
+    /// The byte of the circuit's field in its file: 1 for Goldilocks, 2 for GF(2^128).
     pub field: u32,
     /// 1 or 2.
     pub version: u32,
@@ -95,7 +96,7 @@ fn info_any(circuit: &AnyCircuit, id: [u8; 32]) -> Info
     ensures { result ≡ spec.info_any id circuit.now }
 {
     match circuit {
-        AnyCircuit::Gold(c) => info_over(c, 1, id),
+        AnyCircuit::Gold(c) => info_over(c, u32::from(Gold::ID), id),
         AnyCircuit::Gf(c) => info_over(c, 2, id),
     }
 }
