@@ -50,7 +50,7 @@ int main(void) {
   lzk_info info;
   char text[LZK_MOST_TEXT], little[9];
   made(compiled(3, source), "NoVersion: there is no such version of circuits; take 1 or 2");
-  made(compiled(1, "assert 1 = 1\n"), "source at line 1: NoField: the first statement is no `field` line; begin with `field goldilocks` or `field gf2_128`");
+  made(compiled(1, "assert 1 = 1\n"), "source at line 1: NoField: the first statement is no `field` line; begin with `field goldilocks` (strong profile: `field prime128`) or `field gf2_128`");
   made(compiled(1, "field goldilocks\nassert z = 1\n"), "source at line 2: Unknown: a name was not declared on an earlier line");
   made(compiled(1, "field goldilocks\nprivate x\nprivate x\n"), "source at line 3: Twice: a name is declared again, or there is a second `field` line");
   made(compiled(1, "field goldilocks\nprivate x;\n"), "source at line 2: Character: a byte is neither a blank nor of a token");
@@ -73,7 +73,7 @@ int main(void) {
   lzk_prove(circuit, len, T("9"), T("3"), T("nonce"), seed, proof, sizeof proof, &found);
   proof_len = found.count;
   lzk_prove(proof, proof_len, T("9"), T("3"), T("nonce"), seed, second, 9, &found);
-  made(found, "circuit at byte 0: Magic: the bytes begin with neither LZC1 nor LZC2; is this another file, a proof or a source?");
+  made(found, "circuit at byte 0: Magic: the bytes begin with neither LZC1 nor LZC2 (strong profile: LSC1, LSC2); is this another file, a proof or a source?");
   lzk_upgrade(circuit, len - 1, second, 9, &found);
   made(found, "circuit at byte *");
 

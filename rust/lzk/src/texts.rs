@@ -20,8 +20,8 @@ pub const ANSWER: [(&str, &str); 14] = [
 pub const CIRCUIT: [(&str, &str); 11] = [
     ("", ""),
     ("Truncated", "the bytes end inside the file; a part is missing"),
-    ("Magic", "the bytes begin with neither LZC1 nor LZC2; is this another file, a proof or a source?"),
-    ("FieldId", "the field's byte is neither 1 nor 2"),
+    ("Magic", "the bytes begin with neither LZC1 nor LZC2 (strong profile: LSC1, LSC2); is this another file, a proof or a source?"),
+    ("FieldId", "the field's byte is none of this profile's"),
     ("Limit", "a count, or a running total, is over its limit"),
     ("Varint", "a number is not in its shortest form, or is 2^32 or more"),
     ("Order", "a term does not come after the one before it"),
@@ -47,7 +47,7 @@ pub const SOURCE: [(&str, &str); 10] = [
     ("Unknown", "a name was not declared on an earlier line"),
     ("Twice", "a name is declared again, or there is a second `field` line"),
     ("TooLarge", "a number is not below the field's size"),
-    ("NoField", "the first statement is no `field` line; begin with `field goldilocks` or `field gf2_128`"),
+    ("NoField", "the first statement is no `field` line; begin with `field goldilocks` (strong profile: `field prime128`) or `field gf2_128`"),
     ("NoAssert", "there is no assert"),
     ("Limit", "a name is too long, too many parentheses are open, or there are too many inputs or asserts"),
 ];
@@ -62,9 +62,9 @@ pub const LIMIT: [(&str, &str); 4] = [
 pub const PROOF: [(&str, &str); 6] = [
     ("", ""),
     ("Truncated", "the bytes end inside the field at this byte; a part is missing"),
-    ("Magic", "the bytes do not begin with LZP1; is this another file?"),
+    ("Magic", "the bytes do not begin with LZP1 (strong profile: LSP1); is this another file?"),
     ("Element", "a number is not below the field's size"),
-    ("PathLimit", "the path has more than 1,536 digests"),
+    ("PathLimit", "the path has more than 1,536 digests (strong profile: 3,960)"),
     ("Trailing", "bytes are left after the last field"),
 ];
 #[rustfmt::skip]
