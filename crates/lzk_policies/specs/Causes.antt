@@ -16,7 +16,7 @@ use Rattle.lzk_policies.specs.declared.error.RootedError.TheVariants.{Hashes, Po
 -- or memory ran out
 abbrev pub IsRootedCause : Contents → ℕ → RootedError → Type 0
 IsRootedCause p depth Hashes = ⊥
-IsRootedCause p depth (Policy e) = IsPolicyCause e
+IsRootedCause p depth (Policy e) = IsPolicyCause p e
 IsRootedCause p depth (Path e) = IsPathCause depth e
 IsRootedCause p depth Privates = most_privates < private_count p depth
 IsRootedCause p depth (Beside e) = (first : Wiring Gold) × (second : Wiring Gold) × IsCause first second e
@@ -26,7 +26,7 @@ IsRootedCause p depth OutOfMemory = Unit {0}
 -- only where it says levels
 abbrev pub IsCredentialCause : Contents → RootedError → Type 0
 IsCredentialCause p Hashes = most_hashes < hash_count p
-IsCredentialCause p (Policy e) = IsPolicyCause e
+IsCredentialCause p (Policy e) = IsPolicyCause p e
 IsCredentialCause p (Path e) = (1 ≤ p.depth) × IsPathCause p.depth e
 IsCredentialCause p Privates = (1 ≤ p.depth) × (most_privates < private_count p p.depth)
 IsCredentialCause p (Beside e) =

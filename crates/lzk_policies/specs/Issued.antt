@@ -3,11 +3,11 @@ use Rattle.std.specs.Prelude.{◌≡◌, ℕ, ◌^◌, ◌<◌, ◌⊎◌, List,
 use Rattle.lzk_goldilocks.specs.Elements.{of_number}
 use Rattle.lzk_goldilocks.specs.declared.element.Gold.{Gold}
 use Rattle.lzk_policy.specs.Policies.{Contents, IsPolicy}
-use Rattle.lzk_sha_path.specs.Trees.{IsIssued, Collide, way_of}
+use Rattle.lzk_sha_path.specs.Trees.{IsIssued, Break, way_of}
 use Rattle.lzk_policies.specs.Rooted.{IsShownUnder}
 
 -- What is shown under a root over a row of records, by a policy of however many levels, is of the one that was issued
--- at its leaf, or its way to the root collides with that of one that was issued.
+-- at its leaf, or its way to the root collides with that of one that was issued, or one of these two leads to nodes.
 abbrev pub OnlyIssuedAreShown : Type 0
 OnlyIssuedAreShown =
     (p : Contents) (depth levels : ℕ) (root : List ℕ) (leaf : ℕ → List ℕ) (beside : ℕ → List (List ℕ)) (m : List ℕ)
@@ -16,4 +16,4 @@ OnlyIssuedAreShown =
     → ((levels ≡ depth) × (m ≡ leaf s.leaf.index))
     ⊎ ((i : ℕ)
     × (i < 2 ^ depth)
-    × Collide (way_of m s.leaf.index s.leaf.siblings) (way_of (leaf i) i (beside i)))
+    × Break m (way_of m s.leaf.index s.leaf.siblings) (leaf i) (way_of (leaf i) i (beside i)))

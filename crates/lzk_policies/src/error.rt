@@ -19,7 +19,8 @@ pub enum RootedError {
     /// The path has no circuit.
     #[error("{0}")]
     Path(PathError),
-    /// There are more hashes than a circuit has room for: the record's, one for each level and one for each pseudonym.
+    /// There are more hashes than a circuit has room for: one for each block of the record, one for each level, one for
+    /// each pseudonym and one more where the secret is sealed.
     #[error("more than {most} hashes", most = MOST_HASHES)]
     Hashes,
     /// A circuit has at most [`MOST_PRIVATES`] private inputs.

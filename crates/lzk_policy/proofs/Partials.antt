@@ -13,7 +13,7 @@ use Rattle.lzk_policy.specs.declared.fault.PolicyKind.{PolicyKind}
 use Rattle.lzk_policy.specs.declared.fault.PolicyKind.TheVariants as faults
 use Rattle.lzk_policy.specs.declared.fault.PolicyFault.{PolicyFault}
 use Rattle.lzk_policy.specs.Lines.{line_of, is_skipped}
-use Rattle.lzk_policy.specs.Policies.{Contents, Partial, IsPartial, IsPolicy, IsField, IsShowOf, most_bytes, most_fields, most_shows, has_size, lies_within, suits, field_number, with_size, with_field, with_field_behind, with_new_field, with_digest, with_root, with_claim, with_number, with_show, with_said, with_line, with_bytes, at_line, whole_of}
+use Rattle.lzk_policy.specs.Policies.{Contents, Partial, IsPartial, IsPolicy, IsField, IsShowOf, most_bytes, most_fields, most_shows, has_size, lies_within, suits, claim_for, field_number, with_size, with_field, with_field_behind, with_new_field, with_digest, with_root, with_claim, with_number, with_show, with_said, with_line, with_bytes, at_line, whole_of}
 
 all_behind : {A : Type 0} (P : A → Type 0) (xs : List A) (x : A) → AllByRecursion P xs → P x → AllByRecursion P (xs ++ x ∷ [])
 all_behind P [] x h p = (p, tt)
@@ -151,7 +151,8 @@ root_kept p q n w h =
 claim_kept : (p q : Partial) (k : ℕ) (o : Option RecordField) (claim : Claim) → IsPartial p → p.digest ≡ true → slice_get p.fields k ≡ o → with_claim p k o claim ≡ Ok q → IsPartial q
 unfolding with_claim
 claim_kept p q k None claim w behind at h = absurd cc
-claim_kept p q k (Some f) claim w behind at h =
+claim_kept p q k (Some f) said w behind at h =
+    let claim = claim_for f.kind f.size said in
     let s : Show = record { field = k; claim = claim } in
     let next = record p { shows = p.shows ++ s ∷ [] } in
     let last = if nat_lt (length p.shows) most_shows then Ok next else Err faults.Limit in

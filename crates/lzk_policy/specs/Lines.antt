@@ -83,7 +83,8 @@ texts_of (word ∷ words) =
 unfoldable pub record_line : List (List ℕ) → Option Line
 record_line words = and_then (only_number words) (λ n. Some (lines.Record n))
 
--- ---- field NAME date at PLACE, field NAME text SIZE at PLACE, field NAME bytes SIZE at PLACE
+-- ---- field NAME date at PLACE, field NAME text SIZE at PLACE, field NAME bytes SIZE at PLACE,
+-- field NAME sealed at PLACE
 
 abbrev pub field_with : List ℕ → FieldKind → ℕ → ℕ → Line
 field_with name kind place size = lines.Field (record { name = name; kind = kind; place = place; size = size })
@@ -99,12 +100,14 @@ sized_line name kind [] = None
 sized_line name kind (size ∷ words) =
     and_then (number_of size) (λ n. and_then (place_of words) (λ p. Some (field_with name kind p n)))
 
--- a date has four bytes
+-- a date has four bytes, and a sealed secret the 32 of its digest
 unfoldable pub kind_line : List ℕ → List ℕ → List (List ℕ) → Option Line
 kind_line name kind words =
     if is_word (codes "date") kind then and_then (place_of words) (λ p. Some (field_with name kinds.Date p 4)) else
     (if is_word (codes "text") kind then sized_line name kinds.Text words else
-    (if is_word (codes "bytes") kind then sized_line name kinds.Bytes words else None))
+    (if is_word (codes "bytes") kind then sized_line name kinds.Bytes words else
+    (if is_word (codes "sealed") kind then and_then (place_of words) (λ p. Some (field_with name kinds.Sealed p 32))
+    else None)))
 
 -- KIND ..
 unfoldable pub named_line : List ℕ → List (List ℕ) → Option Line

@@ -32,15 +32,19 @@ pub record Contents : Type 0 where
 
 -- ---- what may stand in a policy
 
--- a record is one block of SHA-256
+-- a record is one block of SHA-256 or two, and a pseudonym's message one
 abbrev pub most_bytes : ℕ
-most_bytes = 55
+most_bytes = 119
 
--- a date has four bytes, a text one to seven, other bytes one or more
+abbrev pub most_message : ℕ
+most_message = 55
+
+-- a date has four bytes, a text one to 32, other bytes one or more, a sealed secret the 32 of its digest
 abbrev pub has_size : FieldKind → ℕ → Bool
 has_size kinds.Date size = size == 4
-has_size kinds.Text size = nat_le 1 size && nat_le size 7
+has_size kinds.Text size = nat_le 1 size && nat_le size 32
 has_size kinds.Bytes size = nat_le 1 size
+has_size kinds.Sealed size = size == 32
 
 -- the field's bytes are bytes of the record
 abbrev pub lies_within : ℕ → RecordField → Bool
@@ -50,16 +54,32 @@ abbrev pub is_date : FieldKind → Bool
 is_date kinds.Date = true
 is_date kinds.Text = false
 is_date kinds.Bytes = false
+is_date kinds.Sealed = false
 
 abbrev pub is_text : FieldKind → Bool
 is_text kinds.Text = true
 is_text kinds.Date = false
 is_text kinds.Bytes = false
+is_text kinds.Sealed = false
 
 abbrev pub is_bytes : FieldKind → Bool
 is_bytes kinds.Bytes = true
 is_bytes kinds.Date = false
 is_bytes kinds.Text = false
+is_bytes kinds.Sealed = false
+
+abbrev pub is_sealed : FieldKind → Bool
+is_sealed kinds.Sealed = true
+is_sealed kinds.Date = false
+is_sealed kinds.Text = false
+is_sealed kinds.Bytes = false
+
+-- a text whose bytes are one number, and one whose bytes are several
+abbrev pub is_short : RecordField → Bool
+is_short f = is_text f.kind && nat_le f.size 7
+
+abbrev pub is_long : RecordField → Bool
+is_long f = is_text f.kind && nat_lt 7 f.size
 
 -- each is the number of at most seven bytes
 abbrev pub are_small : List ℕ → Bool
@@ -73,14 +93,44 @@ abbrev pub tag_size : ℕ
 tag_size = 16
 
 -- A date is compared, a date or a text is told, a text is one of some of its size, and a pseudonym is made of bytes
--- that are one block together with label and tag.
+-- that are one block together with label and tag, or of the secret of a sealed field.
 abbrev pub suits : RecordField → Claim → Bool
 suits f (claims.AtMost value) = is_date f.kind
 suits f (claims.AtLeast value) = is_date f.kind
-suits f (claims.Equal value) = not (is_bytes f.kind)
+suits f (claims.Equal value) = is_date f.kind || is_short f
+suits f (claims.Spelled value) = is_long f
 suits f (claims.OneOf texts) =
-    is_text f.kind && (texts.size == f.size) && nat_le (length texts.numbers) 16 && are_small texts.numbers
-suits f (claims.Pseudonym value) = is_bytes f.kind && nat_le (label_size + f.size + tag_size) most_bytes
+    is_short f && (texts.size == f.size) && nat_le (length texts.numbers) 16 && are_small texts.numbers
+suits f (claims.Pseudonym value) = is_bytes f.kind && nat_le (label_size + f.size + tag_size) most_message
+suits f (claims.Sealed value) = is_sealed f.kind && (f.size == 32)
+
+-- what a line shows of a sealed field: a pseudonym is that of the secret
+abbrev pub sealed_claim : Claim → Claim
+sealed_claim (claims.AtMost value) = claims.AtMost value
+sealed_claim (claims.AtLeast value) = claims.AtLeast value
+sealed_claim (claims.Equal value) = claims.Equal value
+sealed_claim (claims.Spelled value) = claims.Spelled value
+sealed_claim (claims.OneOf texts) = claims.OneOf texts
+sealed_claim (claims.Pseudonym value) = claims.Sealed value
+sealed_claim (claims.Sealed value) = claims.Sealed value
+
+-- and of a text, which is short or is not: one that is not is spelled
+abbrev pub text_claim : Bool → Claim → Claim
+text_claim true claim = claim
+text_claim false (claims.AtMost value) = claims.AtMost value
+text_claim false (claims.AtLeast value) = claims.AtLeast value
+text_claim false (claims.Equal value) = claims.Spelled value
+text_claim false (claims.Spelled value) = claims.Spelled value
+text_claim false (claims.OneOf texts) = claims.OneOf texts
+text_claim false (claims.Pseudonym value) = claims.Pseudonym value
+text_claim false (claims.Sealed value) = claims.Sealed value
+
+-- what a line shows of a field of this kind and size
+abbrev pub claim_for : FieldKind → ℕ → Claim → Claim
+claim_for kinds.Date size claim = claim
+claim_for kinds.Text size claim = text_claim (nat_le size 7) claim
+claim_for kinds.Bytes size claim = claim
+claim_for kinds.Sealed size claim = sealed_claim claim
 
 -- a field of a record of so many bytes
 abbrev pub IsField : ℕ → RecordField → Type 0
@@ -172,12 +222,15 @@ with_root p n =
     (if nat_le 1 n && nat_le n most_levels then Ok (record p { digest = true; depth = n }) else Err faults.Limit)
 
 -- what is shown of the field with this number
-unfoldable pub with_claim : Partial → ℕ → Option RecordField → Claim → Result Partial PolicyKind
-with_claim p k None claim = Err faults.Unknown
-with_claim p k (Some f) claim =
+abbrev pub with_suited : Partial → ℕ → RecordField → Claim → Result Partial PolicyKind
+with_suited p k f claim =
     if not (suits f claim) then Err faults.Claim else
     (if nat_lt (length p.shows) most_shows
     then Ok (record p { shows = p.shows ++ record { field = k; claim = claim } ∷ [] }) else Err faults.Limit)
+
+unfoldable pub with_claim : Partial → ℕ → Option RecordField → Claim → Result Partial PolicyKind
+with_claim p k None claim = Err faults.Unknown
+with_claim p k (Some f) claim = with_suited p k f (claim_for f.kind f.size claim)
 
 unfoldable pub with_number : Partial → Option ℕ → Claim → Result Partial PolicyKind
 with_number p None claim = Err faults.Unknown

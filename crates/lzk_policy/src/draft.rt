@@ -28,14 +28,22 @@ pub struct Draft {
     pub shows: Vec<Show>,
 }
 
-/// The most bytes of a record: those of a block of SHA-256.
-const MOST_BYTES: u32 = 55;
+/// The most bytes of a record: those of two blocks of SHA-256.
+const MOST_BYTES: u32 = 119;
+
+/// The most bytes of a pseudonym's message: those of one block.
+const MOST_MESSAGE: u32 = 55;
 
 /// The most fields.
 const MOST_FIELDS: usize = 32;
 
 /// The most that is shown beside the digest.
 const MOST_SHOWS: usize = 8;
+
+/// The most bytes of a text, and of one whose bytes are one number.
+const MOST_TEXT: u32 = 32;
+
+const SHORT_TEXT: u32 = 7;
 
 /// The most texts of a line.
 const MOST_TEXTS: usize = 16;
@@ -73,13 +81,23 @@ fn is_bytes(kind: FieldKind) -> bool
     }
 }
 
+fn is_sealed(kind: FieldKind) -> bool
+    ensures { result ≡ policies.is_sealed kind }
+{
+    match kind {
+        FieldKind::Sealed => true,
+        _ => false,
+    }
+}
+
 fn has_size(kind: FieldKind, size: u32) -> bool
     ensures { result ≡ policies.has_size kind size }
 {
     match kind {
         FieldKind::Date => size == 4,
-        FieldKind::Text => 1 <= size && size <= 7,
+        FieldKind::Text => 1 <= size && size <= MOST_TEXT,
         FieldKind::Bytes => 1 <= size,
+        FieldKind::Sealed => size == 32,
     }
 }
 
@@ -96,20 +114,79 @@ fn are_small(numbers: &[u64]) -> bool
     numbers.iter().all(|n| *n < MOST_NUMBER)
 }
 
+fn is_short(field: &RecordField) -> bool
+    ensures { result ≡ policies.is_short field.now }
+{
+    is_text(field.kind) && field.size <= SHORT_TEXT
+}
+
+fn is_long(field: &RecordField) -> bool
+    ensures { result ≡ policies.is_long field.now }
+{
+    is_text(field.kind) && SHORT_TEXT < field.size
+}
+
 fn suits(field: &RecordField, claim: &Claim) -> bool
     ensures { result ≡ policies.suits field.now claim.now }
 {
     match claim {
         Claim::AtMost(_) => is_date(field.kind),
         Claim::AtLeast(_) => is_date(field.kind),
-        Claim::Equal(_) => !is_bytes(field.kind),
+        Claim::Equal(_) => is_date(field.kind) || is_short(field),
+        Claim::Spelled(_) => is_long(field),
         Claim::OneOf(texts) => {
-            is_text(field.kind)
+            is_short(field)
                 && texts.size() == field.size
                 && texts.numbers().len() <= MOST_TEXTS
                 && are_small(texts.numbers())
         }
-        Claim::Pseudonym(_) => is_bytes(field.kind) && field.size <= MOST_BYTES - LABEL_AND_TAG,
+        Claim::Pseudonym(_) => is_bytes(field.kind) && field.size <= MOST_MESSAGE - LABEL_AND_TAG,
+        Claim::Sealed(_) => is_sealed(field.kind) && field.size == 32,
+    }
+}
+
+// What is shown of a sealed field: a pseudonym is that of the secret.
+fn sealed_claim(claim: Claim) -> Claim
+    ensures { result ≡ policies.sealed_claim claim }
+{
+    match claim {
+        Claim::AtMost(value) => Claim::AtMost(value),
+        Claim::AtLeast(value) => Claim::AtLeast(value),
+        Claim::Equal(value) => Claim::Equal(value),
+        Claim::Spelled(value) => Claim::Spelled(value),
+        Claim::OneOf(texts) => Claim::OneOf(texts),
+        Claim::Pseudonym(value) => Claim::Sealed(value),
+        Claim::Sealed(value) => Claim::Sealed(value),
+    }
+}
+
+// What is shown of a text, which is short or is not: one that is not is spelled.
+fn text_claim(short: bool, claim: Claim) -> Claim
+    ensures { result ≡ policies.text_claim short claim }
+{
+    if short {
+        return claim;
+    }
+    match claim {
+        Claim::AtMost(value) => Claim::AtMost(value),
+        Claim::AtLeast(value) => Claim::AtLeast(value),
+        Claim::Equal(value) => Claim::Spelled(value),
+        Claim::Spelled(value) => Claim::Spelled(value),
+        Claim::OneOf(texts) => Claim::OneOf(texts),
+        Claim::Pseudonym(value) => Claim::Pseudonym(value),
+        Claim::Sealed(value) => Claim::Sealed(value),
+    }
+}
+
+// What is shown of a field of this kind and size.
+fn claim_for(kind: FieldKind, size: u32, claim: Claim) -> Claim
+    ensures { result ≡ policies.claim_for kind size claim }
+{
+    match kind {
+        FieldKind::Date => claim,
+        FieldKind::Text => text_claim(size <= SHORT_TEXT, claim),
+        FieldKind::Bytes => claim,
+        FieldKind::Sealed => sealed_claim(claim),
     }
 }
 
@@ -239,6 +316,8 @@ impl Draft {
             (λ _. policies.with_number (partial_of self.old) (Some field) claim ≡ Ok (partial_of self.new))
             (λ e. Refuses e (policies.with_number (partial_of self.old) (Some field) claim)) }
     {
+        let shown = &self.fields[field as usize];
+        let claim = claim_for(shown.kind, shown.size, claim);
         if !suits(&self.fields[field as usize], &claim) {
             return Err(LineError::Kind(PolicyKind::Claim));
         }

@@ -11,10 +11,12 @@ use std::marker::Model;
 pub enum FieldKind {
     /// A day as the number YYYYMMDD, in four bytes, the first worth most.
     Date,
-    /// One to seven bytes that are told or compared as a whole.
+    /// One to 32 bytes that are told as a whole; up to seven can be compared.
     Text,
     /// Bytes that are never shown.
     Bytes,
+    /// The SHA-256 digest of `LZS1` and a secret of 16 bytes, which the record's holder alone has.
+    Sealed,
 }
 
 /// A field of a record.
@@ -75,12 +77,16 @@ pub enum Claim {
     AtMost(Name),
     /// The date is no earlier than the value.
     AtLeast(Name),
-    /// The date or text is the value.
+    /// The date is the value, or the text of at most seven bytes.
     Equal(Name),
+    /// The text of more than seven bytes is the value.
+    Spelled(Name),
     /// The text is one of these.
     OneOf(TextList),
     /// Who holds the record is, for the service that the value stands for, this pseudonym.
     Pseudonym(Name),
+    /// So is this one, of the secret that the field seals.
+    Sealed(Name),
 }
 
 /// What is shown, and of which field, counted from 0.

@@ -174,6 +174,10 @@ fn kind_line(name: Name, kind: &[u8], words: &[u8]) -> Option<Line>
     if is_word("bytes", kind) {
         return sized_line(name, FieldKind::Bytes, words);
     }
+    if is_word("sealed", kind) {
+        let place = place_of(words)?;
+        return Some(field_with(name, FieldKind::Sealed, place, 32));
+    }
     None
 }
 

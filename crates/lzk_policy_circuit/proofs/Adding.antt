@@ -15,10 +15,10 @@ use Rattle.lzk_policy.specs.declared.policy.Show.{Show}
 use Rattle.lzk_policy.specs.declared.policy.Claim.{Claim}
 use Rattle.lzk_policy.specs.declared.policy.Claim.TheVariants as claims
 use Rattle.lzk_policy.specs.Texts.{Texts}
-use Rattle.lzk_policy.specs.Policies.{suits, is_text, are_small}
-use Rattle.lzk_policy_circuit.specs.Meaning.{value_count}
+use Rattle.lzk_policy.specs.Policies.{suits, is_short, are_small}
+use Rattle.lzk_policy_circuit.specs.Meaning.{value_count, piece_start, piece_size}
 use Rattle.lzk_policy_circuit.specs.Layout.{own_of, own_of_claim, own_count, asserts_of_claim, asserts_of_field, asserts_of}
-use Rattle.lzk_policy_circuit.specs.Met.{byte_worth, number_worth, AreSameBytes, IsLabelled, IsTagged, IsComposed, IsOrdered, IsStated, AreStated}
+use Rattle.lzk_policy_circuit.specs.Met.{byte_worth, number_worth, AreSameBytes, IsLabelled, IsTagged, IsComposed, IsSealComposed, IsOrdered, IsStated, AreStated, IsPiece, IsSpelledBy}
 use Rattle.lzk_policy_circuit.proofs.Lists.{drop_twice}
 
 abbrev pub Stated : Type 0
@@ -152,6 +152,12 @@ adds_four a k s t u v w D E F G d e f g =
     (adds_both a a (2 * a) k k (2 * k) s t u D E d e (omega arith) (omega arith)) f (omega arith) (omega arith))
     g (omega arith) (omega arith)
 
+pub adds_five : (a k : ℕ) (s t u v w x : Stated) (D E F G H : Said) → Adds ops a k s t D → Adds ops a k t u E → Adds ops a k u v F → Adds ops a k v w G → Adds ops a k w x H
+    → Adds ops (5 * a) (5 * k) s x (λ p q. (((D p q × E p q) × F p q) × G p q) × H p q)
+adds_five a k s t u v w x D E F G H d e f g h =
+    adds_both (4 * a) a (5 * a) (4 * k) k (5 * k) s w x (λ p q. ((D p q × E p q) × F p q) × G p q) H
+    (adds_four a k s t u v w D E F G d e f g) h (omega arith) (omega arith)
+
 pub labelled : (q : List Gold) (own : ℕ)
     → ((((byte_worth q own ≡ of_number 76) × (byte_worth q (own + 8) ≡ of_number 90)) × (byte_worth q (own + 16) ≡ of_number 80)) × (byte_worth q (own + 24) ≡ of_number 49))
     ↔ IsLabelled (drop own q)
@@ -176,13 +182,26 @@ tagged p q at i =
       λ h. (((h.0 ∙ sym first, h.1 ∙ sym second), h.2 ∙ sym third), h.3 ∙ sym fourth),
     )
 
-tag_behind : (q values : List Gold) (own at : ℕ) → IsTagged q (own + at) values ↔ IsTagged (drop own q) at values
+pub tag_behind : (q values : List Gold) (own at : ℕ) → IsTagged q (own + at) values ↔ IsTagged (drop own q) at values
 tag_behind q values own at =
     let a = number_behind q own at 4 in
     let e = λ (k : ℕ). let turn : own + at + k ≡ own + (at + k) = omega arith in ap (λ n. number_worth q n 4) turn ∙ number_behind q own (at + k) 4 in (
       λ h. (sym a ∙ h.0, sym (e 32) ∙ h.1, sym (e 64) ∙ h.2, sym (e 96) ∙ h.3),
       λ h. (a ∙ h.0, e 32 ∙ h.1, e 64 ∙ h.2, e 96 ∙ h.3),
     )
+
+-- pieces of a text
+pub piece_added : (s u : Stated) (f : RecordField) (i k at size : ℕ) → at ≡ 8 * (f.place + piece_start f.size k) → size ≡ piece_size f.size k → size ≤ 7
+    → Adds ops (2 + 10 * size) 1 s u (λ p q. number_worth q at size ≡ entry ops p (i + k)) → Adds ops 72 1 s u (λ p q. IsPiece q f (drop i p) k)
+piece_added s u f i k at size ea es few d =
+    let D = λ (p q : List Gold). number_worth q at size ≡ entry ops p (i + k) in
+    adds_as 72 1 s u D (λ p q. IsPiece q f (drop i p) k) (adds_most (2 + 10 * size) 72 1 1 s u D d (omega (arith, few)) refl)
+    (λ p q a. same_by (number_worth q at size) (entry ops p (i + k)) (number_worth q (8 * (f.place + piece_start f.size k)) (piece_size f.size k)) (entry ops (drop i p) k)
+    (λ j. number_worth q (ea j) (es j)) (sym (get_or-drop i p k ops.zero)))
+
+pub pieces_told : (q values : List Gold) (f : RecordField)
+    → ((((IsPiece q f values 0 × IsPiece q f values 1) × IsPiece q f values 2) × IsPiece q f values 3) × IsPiece q f values 4) ↔ IsSpelledBy q f values
+pieces_told q values f = (λ h. (h.0.0.0.0, h.0.0.0.1, h.0.0.1, h.0.1, h.1), λ h. ((((h.0, h.1), h.2), h.3), h.4))
 
 pub composed : (q values : List Gold) (f : RecordField) (own at : ℕ) → at ≡ own + 32 + 8 * f.size
     → ((IsLabelled (drop own q) × AreSameBytes q (8 * f.place) q (own + 32) f.size) × IsTagged q at values) ↔ IsComposed q f values (drop own q)
@@ -257,13 +276,13 @@ bits_more s p q bits more node at k e before here lt =
 -- ---- what is shown of a field
 
 few_texts : (f : RecordField) (texts : Texts) → IsTrue (suits f (claims.OneOf texts)) → length texts.numbers ≤ 16
-few_texts f texts w = leb-true (length texts.numbers) 16 (third (is_text f.kind && (texts.size == f.size)) (nat_le (length texts.numbers) 16) (are_small texts.numbers) w) where
+few_texts f texts w = leb-true (length texts.numbers) 16 (third (is_short f && (texts.size == f.size)) (nat_le (length texts.numbers) 16) (are_small texts.numbers) w) where
   third : (a b c : Bool) → (a && b && c) ≡ true → b ≡ true
   third true true c h = refl
   third true false c h = absurd cc
   third false b c h = absurd cc
 
-module _ (f : RecordField) (claim : Claim) (s u : Stated) (i own : ℕ) (small : f.size ≤ 55) where
+module _ (f : RecordField) (claim : Claim) (s u : Stated) (i own : ℕ) (small : f.size ≤ 119) where
   abbrev pub IsClaimed : Type 0
   IsClaimed = Adds ops 2000 (asserts_of_claim f claim) s u (λ p q. IsStated q f claim (drop i p) (drop own q))
 
@@ -290,6 +309,9 @@ module _ (f : RecordField) (claim : Claim) (s u : Stated) (i own : ℕ) (small :
       claimed (claims.Equal v) e (adds_as 2000 1 s u D (λ p q. IsStated q f (claims.Equal v) (drop i p) (drop own q)) (adds_most (2 + 10 * f.size) 2000 1 1 s u D d (omega (arith, small)) refl)
       (λ p q k. by_entry (λ g. number_worth q (8 * f.place) f.size ≡ g) (entry ops p i) (entry ops (drop i p) 0) (first_entry p i)))
 
+  pub claim_spelled : (v : List ℕ) → claim ≡ claims.Spelled v → Adds ops 360 5 s u (λ p q. IsSpelledBy q f (drop i p)) → IsClaimed
+  claim_spelled v e d = claimed (claims.Spelled v) e (adds_most 360 2000 5 5 s u (λ p q. IsSpelledBy q f (drop i p)) d (omega arith) refl)
+
   pub claim_text : (texts : Texts) (cs : List Gold) → claim ≡ claims.OneOf texts → IsTrue (suits f claim) → cs ≡ map of_number texts.numbers
       → Adds ops (2 + 10 * f.size + 3 * length cs) 1 s u (λ p q. IsAmong (number_worth q (8 * f.place) f.size) cs) → IsClaimed
   claim_text texts cs e w ec d =
@@ -298,6 +320,9 @@ module _ (f : RecordField) (claim : Claim) (s u : Stated) (i own : ℕ) (small :
       let long : length cs ≡ length texts.numbers = ap length ec ∙ length-map texts.numbers of_number in
       claimed (claims.OneOf texts) e (adds_as 2000 1 s u D (λ p q. IsStated q f (claims.OneOf texts) (drop i p) (drop own q)) (adds_most (2 + 10 * f.size + 3 * length cs) 2000 1 1 s u D d (omega (arith, small, long, few)) refl)
       (λ p q k. among_by (number_worth q (8 * f.place) f.size) (number_worth q (8 * f.place) f.size) cs (map of_number texts.numbers) refl ec))
+
+  pub claim_sealed : (v : List ℕ) → claim ≡ claims.Sealed v → Adds ops 2000 36 s u (λ p q. IsSealComposed q f (drop i p) (drop own q)) → IsClaimed
+  claim_sealed v e d = claimed (claims.Sealed v) e d
 
   pub claim_pseudonym : (v : List ℕ) → claim ≡ claims.Pseudonym v → Adds ops 2000 (8 + f.size) s u (λ p q. IsComposed q f (drop i p) (drop own q)) → IsClaimed
   claim_pseudonym v e d = claimed (claims.Pseudonym v) e d

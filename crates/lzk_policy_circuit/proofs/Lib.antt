@@ -6,5 +6,7 @@ pub mod Pseudonyms
 pub mod Whole
 pub mod Parts
 pub mod Adding
+pub mod SealClaims
+pub mod Sealing
 pub mod Joined
 pub mod Answering

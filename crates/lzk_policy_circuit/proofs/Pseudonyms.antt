@@ -8,13 +8,13 @@ use Rattle.lzk_field.specs.Sums.{entry}
 use Rattle.lzk_goldilocks.specs.Elements.{ops, of_number}
 use Rattle.lzk_goldilocks.specs.declared.element.Gold.{Gold}
 use Rattle.lzk_sha_circuit.specs.Digest.{AreBytes, digest_words, message_bits}
-use Rattle.lzk_sha_circuit.specs.Inputs.{sha_private}
-use Rattle.lzk_sha_circuit.specs.Outputs.{AreSatisfying}
-use Rattle.lzk_sha_circuit.specs.Places.{private_count}
+use Rattle.lzk_sha_blocks.specs.Hashed.{AreHashing}
+use Rattle.lzk_sha_blocks.specs.Layout.{private_count}
+use Rattle.lzk_sha_blocks.specs.Witness.{digest_private}
 use Rattle.lzk_policy.specs.declared.policy.RecordField.{RecordField}
 use Rattle.lzk_policy.specs.Lines.{number_at}
 use Rattle.lzk_policy_circuit.specs.Meaning.{label, field_bytes, pseudonym_message, tag_words, AreBytesOf, IsPseudonym}
-use Rattle.lzk_policy_circuit.specs.Layout.{message_size}
+use Rattle.lzk_policy_circuit.specs.Layout.{message_size, rest_of_hash}
 use Rattle.lzk_policy_circuit.specs.Met.{byte_worth, number_worth, AreSameBytes, IsComposed}
 use Rattle.lzk_policy_circuit.proofs.Hashing.{spelled_message, private_digest, private_satisfies, private_long}
 use Rattle.lzk_policy_circuit.proofs.Bytes.{AreBitsOf, byte_is, number_is, same_byte, same_forward, same_backward}
@@ -30,7 +30,7 @@ pub record Spelt (len : ℕ) (public own : List Gold) : Type 0 where
   pub bits_are : AreBitsOf own 0 message
   pub digest_is : public ≡ map of_number (digest_words message)
 
-module _ (len : ℕ) (public own rest : List Gold) (few : len ≤ 55) (eight : length public ≡ 8) (long : 8 * len ≤ length own) (behind : length rest ≡ 6376) where
+module _ (len : ℕ) (public own rest : List Gold) (eight : length public ≡ 8) (long : 8 * len ≤ length own) (behind : length rest ≡ rest_of_hash len) where
   private_of : List Gold
   private_of = take (8 * len) own ++ rest
 
@@ -38,10 +38,10 @@ module _ (len : ℕ) (public own rest : List Gold) (few : len ≤ 55) (eight : l
   unfolding private_of
   long_private = omega (arith, length-append (take (8 * len) own) rest, length-take-le (8 * len) own long, behind)
 
-  pub spelt : AreSatisfying ops of_number len public (take (8 * len) own ++ rest) → Spelt len public own
+  pub spelt : AreHashing ops of_number len public (take (8 * len) own ++ rest) → Spelt len public own
   unfolding private_of
   spelt zeros =
-      let d = spelled_message len public private_of few eight long_private zeros in
+      let d = spelled_message len public private_of eight long_private zeros in
       let m = d.0 in
       record {
         message = m;
@@ -64,34 +64,34 @@ module _ (len : ℕ) (public own rest : List Gold) (few : len ≤ 55) (eight : l
             ∙ ap of_number (get_or-map-range_with_len f 0 (8 * length m) i i 0 l (omega arith))
 
 -- the inputs of a message
-module _ (m : List ℕ) (few : length m ≤ 55) (bytes : AreBytes m) where
+module _ (m : List ℕ) (bytes : AreBytes m) where
   pub message_front : List Gold
-  message_front = take (8 * length m) (sha_private of_number m)
+  message_front = take (8 * length m) (digest_private of_number m)
 
   pub message_rest : List Gold
-  message_rest = drop (8 * length m) (sha_private of_number m)
+  message_rest = drop (8 * length m) (digest_private of_number m)
 
-  long_private_of : length (sha_private of_number m) ≡ private_count (length m)
-  long_private_of = private_long m few bytes
+  long_private_of : length (digest_private of_number m) ≡ private_count (length m)
+  long_private_of = private_long m
 
   pub length-message_front : length message_front ≡ 8 * length m
   unfolding message_front
-  length-message_front = length-take-le (8 * length m) (sha_private of_number m) (omega (arith, long_private_of))
+  length-message_front = length-take-le (8 * length m) (digest_private of_number m) (omega (arith, long_private_of))
 
-  pub length-message_rest : length message_rest ≡ 6376
+  pub length-message_rest : length message_rest ≡ rest_of_hash (length m)
   unfolding message_rest
-  length-message_rest = omega (arith, length-drop (8 * length m) (sha_private of_number m), long_private_of)
+  length-message_rest = omega (arith, length-drop (8 * length m) (digest_private of_number m), long_private_of)
 
-  pub message_parts : message_front ++ message_rest ≡ sha_private of_number m
+  pub message_parts : message_front ++ message_rest ≡ digest_private of_number m
   unfolding message_front message_rest
-  message_parts = take-append-drop (8 * length m) (sha_private of_number m)
+  message_parts = take-append-drop (8 * length m) (digest_private of_number m)
 
-  own_bit : (i : ℕ) → i < 8 * length m → entry ops (sha_private of_number m) i ≡ of_number (bit_at (slice_index m (i / 8)) (7 - i % 8))
+  own_bit : (i : ℕ) → i < 8 * length m → entry ops (digest_private of_number m) i ≡ of_number (bit_at (slice_index m (i / 8)) (7 - i % 8))
   own_bit i l =
       let f = λ (j : ℕ). bit_at (slice_index m (j / 8)) (7 - j % 8) in
       let count : length (message_bits m) ≡ 8 * length m = length-map-range_with_len f 0 (8 * length m) in
-      sym (get_or-take (8 * length m) (sha_private of_number m) i ops.zero l)
-      ∙ ap (λ xs. get_or xs i ops.zero) (private_digest m few bytes).bits
+      sym (get_or-take (8 * length m) (digest_private of_number m) i ops.zero l)
+      ∙ ap (λ xs. get_or xs i ops.zero) (private_digest m bytes).bits
       ∙ get_or-map of_number (message_bits m) i 0 ops.zero (omega (arith, count, l))
       ∙ ap of_number (get_or-map-range_with_len f 0 (8 * length m) i i 0 l (omega arith))
 
@@ -102,12 +102,12 @@ module _ (m : List ℕ) (few : length m ≤ 55) (bytes : AreBytes m) where
     bits = λ i l.
         let first : 0 + i ≡ i = omega arith in
         ap (entry ops (message_front ++ more)) first
-        ∙ front_at ops.zero (8 * length m) i (sha_private of_number m) more (omega (arith, long_private_of)) l
+        ∙ front_at ops.zero (8 * length m) i (digest_private of_number m) more (omega (arith, long_private_of)) l
         ∙ own_bit i l;
   }
 
-  pub message_satisfies_parts : AreSatisfying ops of_number (length m) (map of_number (digest_words m)) (message_front ++ message_rest)
-  message_satisfies_parts = subst (λ (l : List Gold). AreSatisfying ops of_number (length m) (map of_number (digest_words m)) l) (sym message_parts) (private_satisfies m few bytes)
+  pub message_satisfies_parts : AreHashing ops of_number (length m) (map of_number (digest_words m)) (message_front ++ message_rest)
+  message_satisfies_parts = subst (λ (l : List Gold). AreHashing ops of_number (length m) (map of_number (digest_words m)) l) (sym message_parts) (private_satisfies m bytes)
 
 -- ---- messages of pseudonyms
 
@@ -117,7 +117,7 @@ number_behind n w place (suc k) =
     let at : n + (place + k) ≡ n + place + k = omega arith in
     (λ i. 256 * number_behind n w place k i + (get_or-drop n w (place + k) 0 ∙ ap (slice_index w) at) i)
 
-bytes_append : (xs ys : List ℕ) → AreBytes xs → AreBytes ys → AreBytes (xs ++ ys)
+pub bytes_append : (xs ys : List ℕ) → AreBytes xs → AreBytes ys → AreBytes (xs ++ ys)
 bytes_append xs ys hx hy k l =
     elim (cases_lt k (length xs)) [
       | inl less ↦ subst (λ (n : ℕ). n < 256) (sym (get_or_append_left xs ys 0 k less)) (hx k less)
@@ -133,21 +133,21 @@ bytes_take n xs le h k l =
     let inside : k < n = omega (arith, length-take-le n xs le, l) in
     subst (λ (b : ℕ). b < 256) (sym (get_or-take n xs k 0 inside)) (h k (omega (arith, inside, le)))
 
-bytes_drop : (n : ℕ) (xs : List ℕ) → AreBytes xs → AreBytes (drop n xs)
+pub bytes_drop : (n : ℕ) (xs : List ℕ) → AreBytes xs → AreBytes (drop n xs)
 bytes_drop n xs h k l =
     subst (λ (b : ℕ). b < 256) (sym (get_or-drop n xs k 0)) (h (n + k) (omega (arith, length-drop n xs, l)))
 
-four_of : (P : ℕ → Type 0) → P 0 → P 1 → P 2 → P 3 → (k : ℕ) → k < 4 → P k
+pub four_of : (P : ℕ → Type 0) → P 0 → P 1 → P 2 → P 3 → (k : ℕ) → k < 4 → P k
 four_of P a b c d zero l = a
 four_of P a b c d (suc zero) l = b
 four_of P a b c d (suc (suc zero)) l = c
 four_of P a b c d (suc (suc (suc zero))) l = d
 four_of P a b c d (suc (suc (suc (suc k)))) l = absurd (omega (arith, l))
 
-long_label : length label ≡ 4
+pub long_label : length label ≡ 4
 long_label = refl
 
-bytes_label : AreBytes label
+pub bytes_label : AreBytes label
 bytes_label k l = four_of (λ j. slice_index label j < 256) (omega arith) (omega arith) (omega arith) (omega arith) k (omega (arith, l, long_label))
 
 four_entries : (xs : List Gold) → 4 ≤ length xs → take 4 xs ≡ entry ops xs 0 ∷ entry ops xs 1 ∷ entry ops xs 2 ∷ entry ops xs 3 ∷ []

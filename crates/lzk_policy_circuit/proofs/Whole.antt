@@ -1,6 +1,6 @@
 -- A policy's circuit is satisfied by some private inputs exactly where there is a record.
 use Rattle.std.proofs.Common.{◌≡◌, ℕ, ◌+◌, ◌*◌, ◌/◌, ◌%◌, ◌^◌, ◌<◌, ◌≤◌, List, [], ◌∷◌, ◌++◌, length, take, drop, map, zero, suc, refl, sym, ap, subst, ◌∙◌, arith, Option, Some, append_assoc, append-nil, length-append, length-drop, slice_index, ext_get_or, get_or-take}
-use Rattle.std.specs.Prelude.{◌-◌, nat_lt, max, replicate, if◌then◌else◌, IsTrue, Bool, true, false, ◌&&◌, ◌==◌, not, nat_le, MatchOption, slice_get}
+use Rattle.std.specs.Prelude.{◌-◌, nat_lt, max, replicate, if◌then◌else◌, IsTrue, Bool, true, false, ◌&&◌, ◌||◌, ◌==◌, nat_le, MatchOption, slice_get}
 use Rattle.std.specs.List.{AllByRecursion}
 use Rattle.std.proofs.lemmas.Bool.{leb-true, eqb-true}
 use Rattle.std.proofs.Math.Nat.{pow-le-pow_right, le-max_left}
@@ -12,21 +12,22 @@ use Rattle.lzk_goldilocks.specs.Elements.{ops, of_number}
 use Rattle.lzk_goldilocks.specs.declared.element.Gold.{Gold}
 use Rattle.lzk_gadgets.specs.Inverses.{difference, IsAmong}
 use Rattle.lzk_sha_circuit.specs.Digest.{AreBytes, digest_words, message_bits}
-use Rattle.lzk_sha_circuit.specs.Outputs.{AreSatisfying}
+use Rattle.lzk_sha_blocks.specs.Hashed.{AreHashing}
 use Rattle.lzk_policy.specs.declared.policy.FieldKind.{FieldKind}
 use Rattle.lzk_policy.specs.declared.policy.FieldKind.TheVariants as kinds
 use Rattle.lzk_policy.specs.declared.policy.RecordField.{RecordField}
 use Rattle.lzk_policy.specs.declared.policy.Claim.{Claim}
 use Rattle.lzk_policy.specs.declared.policy.Claim.TheVariants as claims
 use Rattle.lzk_policy.specs.declared.policy.Show.{Show}
-use Rattle.lzk_policy.specs.Policies.{Contents, IsPolicy, IsField, IsShowOf, has_size, suits, are_small, is_date, is_text, is_bytes}
-use Rattle.lzk_policy_circuit.specs.Meaning.{field_number, value_count, values_of, pseudonym_message, IsTrueOf, AreTrueOf, IsShown, public_count}
-use Rattle.lzk_policy_circuit.specs.Layout.{hash_rest, message_size, own_of, own_of_claim, rest_of_claim, own_count, owns_of, rests_of, stated_count, needed_count, private_count, padded}
-use Rattle.lzk_policy_circuit.specs.Held.{RecordsAreHeld}
+use Rattle.lzk_policy.specs.Policies.{Contents, IsPolicy, IsField, IsShowOf, has_size, suits, are_small, is_date, is_text, is_short, is_bytes, is_sealed}
+use Rattle.lzk_policy_circuit.specs.Meaning.{field_number, value_count, values_of, pseudonym_message, seal_message, sealed_message, IsTrueOf, AreTrueOf, IsShown, public_count, piece_start, piece_size, piece_number, piece_numbers}
+use Rattle.lzk_policy_circuit.specs.Layout.{hash_rest, rest_of_hash, message_size, own_of, own_of_claim, rest_of_claim, own_count, owns_of, rests_of, stated_count, needed_count, private_count, padded}
+use Rattle.lzk_policy_circuit.specs.Held.{RecordsAreHeld, IsSecretHeld, AreSecretsHeld}
 use Rattle.lzk_policy_circuit.specs.Met.{field_worth, number_worth, IsOrdered, IsStated, AreStated, IsHashed, AreHashed, Satisfy}
 use Rattle.lzk_policy_circuit.proofs.Lists.{drop_front, take_front, drop_twice}
 use Rattle.lzk_policy_circuit.proofs.Bytes.{AreBitsOf, number_is, number_below}
 use Rattle.lzk_policy_circuit.proofs.Dates.{most_forward, least_forward, ordered, among_forward, among_backward, number_of_small, own_number}
+use Rattle.lzk_policy_circuit.proofs.Sealing.{bytes_seal, bytes_sealed, long_seal, long_sealed, long_words, sealed_forward, sealed_hashed, sealed_stated}
 use Rattle.lzk_policy_circuit.proofs.Pseudonyms.{spelt, message_front, message_rest, length-message_front, length-message_rest, message_bits_are, message_satisfies_parts, pseudonym_forward, pseudonym_backward, bytes_message, long_message}
 
 -- ---- what a policy says of fields
@@ -45,16 +46,21 @@ date_size : (k : FieldKind) (n : ℕ) → IsTrue (is_date k) → IsTrue (has_siz
 date_size kinds.Date n d h = equal n 4 h
 date_size kinds.Text n d h = absurd cc
 date_size kinds.Bytes n d h = absurd cc
+date_size kinds.Sealed n d h = absurd cc
 
-told_size : (k : FieldKind) (n : ℕ) → IsTrue (not (is_bytes k)) → IsTrue (has_size k n) → n ≤ 7
+told_size : (k : FieldKind) (n : ℕ) → IsTrue (is_date k || (is_text k && nat_le n 7)) → IsTrue (has_size k n) → n ≤ 7
 told_size kinds.Date n d h = omega (arith, equal n 4 h)
-told_size kinds.Text n d h = at_most n 7 (both (nat_le 1 n) (nat_le n 7) h).1
+told_size kinds.Text n d h = at_most n 7 d
 told_size kinds.Bytes n d h = absurd cc
+told_size kinds.Sealed n d h = absurd cc
 
-text_size : (k : FieldKind) (n : ℕ) → IsTrue (is_text k) → IsTrue (has_size k n) → n ≤ 7
-text_size kinds.Text n d h = at_most n 7 (both (nat_le 1 n) (nat_le n 7) h).1
-text_size kinds.Date n d h = absurd cc
-text_size kinds.Bytes n d h = absurd cc
+five_entries : (xs : List Gold) → 5 ≤ length xs → take 5 xs ≡ entry ops xs 0 ∷ entry ops xs 1 ∷ entry ops xs 2 ∷ entry ops xs 3 ∷ entry ops xs 4 ∷ []
+five_entries [] l = absurd (omega (arith, l))
+five_entries (a ∷ []) l = absurd (omega (arith, l))
+five_entries (a ∷ b ∷ []) l = absurd (omega (arith, l))
+five_entries (a ∷ b ∷ c ∷ []) l = absurd (omega (arith, l))
+five_entries (a ∷ b ∷ c ∷ d ∷ []) l = absurd (omega (arith, l))
+five_entries (a ∷ b ∷ c ∷ d ∷ e ∷ xs) l = refl
 
 power : (n k : ℕ) → n ≤ k → 256 ^ n ≤ 256 ^ k
 power n k l = pow-le-pow_right (omega arith) l
@@ -79,11 +85,21 @@ module _ (m : List ℕ) (bytes : AreBytes m) (f : RecordField) (is : IsField (le
       let zero_at : 8 * f.place ≡ 0 + 8 * f.place = omega arith in
       ap (λ a. number_worth bits a f.size) zero_at ∙ number_is bits 0 m h bytes f.place f.size within
 
+  piece_is : (bits : List Gold) → AreBitsOf bits 0 m → (k : ℕ) → number_worth bits (8 * (f.place + piece_start f.size k)) (piece_size f.size k) ≡ of_number (piece_number m f k)
+  piece_is bits h k =
+      let place = f.place + piece_start f.size k in
+      let size = piece_size f.size k in
+      let zero_at : 8 * place ≡ 0 + 8 * place = omega arith in
+      ap (λ a. number_worth bits a size) zero_at ∙ number_is bits 0 m h bytes place size (omega (arith, within))
+
   number_of_date : IsTrue (is_date f.kind) → (of_number (field_number m f)).n ≡ field_number m f
   number_of_date d = number_of_small (field_number m f) (omega (arith, small_date d))
 
   number_of_told : f.size ≤ 7 → (of_number (field_number m f)).n ≡ field_number m f
   number_of_told l = number_of_small (field_number m f) (omega (arith, small_text l))
+
+  within_seal : IsTrue (is_sealed f.kind && (f.size == 32)) → f.place + 32 ≤ length m
+  within_seal s = omega (arith, within, equal f.size 32 (both (is_sealed f.kind) (f.size == 32) s).1)
 
   -- ---- what is asserted is true
 
@@ -104,18 +120,34 @@ module _ (m : List ℕ) (bytes : AreBytes m) (f : RecordField) (is : IsField (le
       omega (arith, r, is_n)
   claim_forward (claims.Equal value) s bits public own rests h lp lo lr a b =
       ap (λ (x : Gold). x.n) (sym a ∙ worth_is bits h) ∙ number_of_told (told_size f.kind f.size s is.0)
+  claim_forward (claims.Spelled value) s bits public own rests h lp lo lr a b =
+      let one = λ (k : ℕ). piece_is bits h k in
+      five_entries public lp ∙ (λ i. (sym a.0 ∙ one 0) i ∷ (sym a.1 ∙ one 1) i ∷ (sym a.2 ∙ one 2) i ∷ (sym a.3 ∙ one 3) i ∷ (sym a.4 ∙ one 4) i ∷ [])
   claim_forward (claims.OneOf texts) s bits public own rests h lp lo lr a b =
-      let t = both (is_text f.kind && (texts.size == f.size) && nat_le (length texts.numbers) 16) (are_small texts.numbers) s in
-      let v = both (is_text f.kind && (texts.size == f.size)) (nat_le (length texts.numbers) 16) t.0 in
-      let u = both (is_text f.kind) (texts.size == f.size) v.0 in
-      among_forward (field_number m f) texts.numbers (small_text (text_size f.kind f.size u.0 is.0)) t.1
+      let t = both (is_short f && (texts.size == f.size) && nat_le (length texts.numbers) 16) (are_small texts.numbers) s in
+      let v = both (is_short f && (texts.size == f.size)) (nat_le (length texts.numbers) 16) t.0 in
+      let u = both (is_short f) (texts.size == f.size) v.0 in
+      among_forward (field_number m f) texts.numbers (small_text (at_most f.size 7 (both (is_text f.kind) (nat_le f.size 7) u.0).1)) t.1
       (subst (λ (x : Gold). IsAmong x (map of_number texts.numbers)) (worth_is bits h) a)
   claim_forward (claims.Pseudonym value) s bits public own rests h lp lo lr a b =
       let len = message_size f in
       let few : len ≤ 55 = at_most len 55 (both (is_bytes f.kind) (nat_le len 55) s).1 in
       let eight : length (take 8 (drop 4 public)) ≡ 8 = length-take-le 8 (drop 4 public) (omega (arith, length-drop 4 public, lp)) in
-      let w = spelt len (take 8 (drop 4 public)) own (take hash_rest rests) few eight lo (length-take-le hash_rest rests lr) b in
+      let w = spelt len (take 8 (drop 4 public)) own (take hash_rest rests) eight lo (length-take-le hash_rest rests lr ∙ omega (arith, few)) b in
       pseudonym_forward m f within bits own public h bytes (omega (arith, lp)) w.message w.size_is w.bytes_are w.bits_are a w.digest_is
+  claim_forward (claims.Sealed value) s bits public own rests h lp lo lr a b =
+      let held = sealed_forward m bytes f (within_seal s) bits h public own rests lp lo lr a b in
+      (held.secret, held.sealed)
+
+  secret_forward : (claim : Claim) → IsTrue (suits f claim) → (bits public own rests : List Gold) → AreBitsOf bits 0 m → value_count claim ≤ length public → own_of_claim f claim ≤ length own → rest_of_claim claim ≤ length rests
+      → IsStated bits f claim public own → IsHashed f claim public own rests → IsSecretHeld m f claim public own
+  secret_forward (claims.AtMost value) s bits public own rests h lp lo lr a b = tt
+  secret_forward (claims.AtLeast value) s bits public own rests h lp lo lr a b = tt
+  secret_forward (claims.Equal value) s bits public own rests h lp lo lr a b = tt
+  secret_forward (claims.Spelled value) s bits public own rests h lp lo lr a b = tt
+  secret_forward (claims.OneOf texts) s bits public own rests h lp lo lr a b = tt
+  secret_forward (claims.Pseudonym value) s bits public own rests h lp lo lr a b = tt
+  secret_forward (claims.Sealed value) s bits public own rests h lp lo lr a b = sealed_forward m bytes f (within_seal s) bits h public own rests lp lo lr a b
 
   -- ---- and what is true has inputs
 
@@ -163,6 +195,22 @@ module _ (m : List ℕ) (bytes : AreBytes m) (f : RecordField) (is : IsField (le
     stated = λ bits more h. worth_is bits h ∙ ap of_number (sym t) ∙ sym (own_number (entry ops public 0));
     hashed = λ more others. tt;
   }
+  claim_backward (claims.Spelled value) s public t =
+      let at = λ (j : ℕ) (l : j < 5). sym (get_or-take 5 public j ops.zero l) ∙ ap (λ xs. entry ops xs j) t in
+      record {
+        own = [];
+        rest = [];
+        own_size = refl;
+        rest_size = refl;
+        stated = λ bits more h. (
+          piece_is bits h 0 ∙ sym (at 0 (omega arith)),
+          piece_is bits h 1 ∙ sym (at 1 (omega arith)),
+          piece_is bits h 2 ∙ sym (at 2 (omega arith)),
+          piece_is bits h 3 ∙ sym (at 3 (omega arith)),
+          piece_is bits h 4 ∙ sym (at 4 (omega arith)),
+        );
+        hashed = λ more others. tt;
+      }
   claim_backward (claims.OneOf texts) s public t = record {
     own = [];
     rest = [];
@@ -177,24 +225,54 @@ module _ (m : List ℕ) (bytes : AreBytes m) (f : RecordField) (is : IsField (le
       let w = pseudonym_message m f t.tag in
       let long : length w ≡ len = long_message m f within t.tag t.is_tag bytes in
       let bw : AreBytes w = bytes_message m f within t.tag t.is_tag bytes in
-      let short : length w ≤ 55 = omega (arith, long, few) in
-      let own = message_front w short bw in
-      let rest = message_rest w short bw in
-      let long_own : length own ≡ 8 * len = length-message_front w short bw ∙ ap (λ n. 8 * n) long in
-      let long_rest : length rest ≡ hash_rest = length-message_rest w short bw in
+      let own = message_front w bw in
+      let rest = message_rest w bw in
+      let long_own : length own ≡ 8 * len = length-message_front w bw ∙ ap (λ n. 8 * n) long in
+      let long_rest : length rest ≡ hash_rest = length-message_rest w bw ∙ omega (arith, long, few) in
       record {
         own = own;
         rest = rest;
         own_size = long_own;
         rest_size = long_rest;
-        stated = λ bits more h. pseudonym_backward m f within t.tag t.is_tag bytes bits (own ++ more) public h (message_bits_are w short bw more) t.words;
+        stated = λ bits more h. pseudonym_backward m f within t.tag t.is_tag bytes bits (own ++ more) public h (message_bits_are w bw more) t.words;
         hashed = λ more others.
             let one : take (8 * len) (own ++ more) ≡ own = take_front (8 * len) own more (sym long_own) in
             let two : take hash_rest (rest ++ others) ≡ rest = take_front hash_rest rest others (sym long_rest) in
             let three : map of_number (digest_words w) ≡ take 8 (drop 4 public) = sym t.digest in
-            subst (λ (l : List Gold). AreSatisfying ops of_number len l (take (8 * len) (own ++ more) ++ take hash_rest (rest ++ others))) three
-            (subst (λ (k : ℕ). AreSatisfying ops of_number k (map of_number (digest_words w)) (take (8 * len) (own ++ more) ++ take hash_rest (rest ++ others))) long
-            (subst (λ (l : List Gold). AreSatisfying ops of_number (length w) (map of_number (digest_words w)) l) (λ i. sym one i ++ sym two i) (message_satisfies_parts w short bw)));
+            subst (λ (l : List Gold). AreHashing ops of_number len l (take (8 * len) (own ++ more) ++ take hash_rest (rest ++ others))) three
+            (subst (λ (k : ℕ). AreHashing ops of_number k (map of_number (digest_words w)) (take (8 * len) (own ++ more) ++ take hash_rest (rest ++ others))) long
+            (subst (λ (l : List Gold). AreHashing ops of_number (length w) (map of_number (digest_words w)) l) (λ i. sym one i ++ sym two i) (message_satisfies_parts w bw)));
+      }
+  claim_backward (claims.Sealed value) s public t =
+      let secret = t.0 in
+      let r = t.1 in
+      let w = seal_message secret in
+      let v = sealed_message secret r.tag in
+      let lw : length w ≡ 20 = long_seal secret r.is_secret in
+      let lv : length v ≡ 36 = long_sealed secret r.tag r.is_secret r.is_tag in
+      let bw : AreBytes w = bytes_seal secret r.is_secret in
+      let bv : AreBytes v = bytes_sealed secret r.tag r.is_secret r.is_tag in
+      let front = message_front w bw in
+      let first = message_rest w bw in
+      let second = message_front v bv in
+      let last = message_rest v bv in
+      let words = map of_number (digest_words w) in
+      let long_front : length front ≡ 160 = length-message_front w bw ∙ ap (λ n. 8 * n) lw in
+      let long_second : length second ≡ 288 = length-message_front v bv ∙ ap (λ n. 8 * n) lv in
+      let long_first : length first ≡ 6376 = length-message_rest w bw ∙ ap rest_of_hash lw in
+      let long_last : length last ≡ 6376 = length-message_rest v bv ∙ ap rest_of_hash lv in
+      let eight : length words ≡ 8 = length-map (digest_words w) of_number ∙ long_words w in
+      let one = subst (λ (n : ℕ). AreHashing ops of_number n words (front ++ first)) lw (message_satisfies_parts w bw) in
+      let two = subst (λ (n : ℕ). AreHashing ops of_number n (map of_number (digest_words v)) (second ++ last)) lv (message_satisfies_parts v bv) in
+      record {
+        own = (front ++ words) ++ second;
+        rest = first ++ last;
+        own_size = omega (arith, length-append (front ++ words) second, length-append front words, long_front, eight, long_second);
+        rest_size = omega (arith, length-append first last, long_first, long_last);
+        stated = λ bits more h.
+            sealed_stated m bytes f (within_seal s) bits h secret r.tag r.is_secret r.is_tag r.seal front words second long_front refl (message_bits_are w bw) (message_bits_are v bv) more public r.words;
+        hashed = λ more others.
+            sealed_hashed secret r.tag front words second long_front refl more public first last others long_first long_last long_second one two r.digest;
       }
 
 -- ---- all that is shown
@@ -230,6 +308,24 @@ module _ (m : List ℕ) (bytes : AreBytes m) (fields : List RecordField) (are : 
       let r = rest_of_claim s.claim in (
         put_field (slice_get fields s.field) f (λ g. IsTrueOf m g s.claim public) there first,
         shows_forward ss w.1 bits (drop n public) (drop k own) (drop r rests) h
+            (omega (arith, length-drop n public, lp)) (omega (arith, length-drop k own, lo)) (omega (arith, length-drop r rests, lr)) a.1 b.1,
+      )
+
+  secrets_forward : (ss : List Show) → AllByRecursion (IsShowOf fields) ss → (bits public own rests : List Gold) → AreBitsOf bits 0 m → values_of ss ≤ length public → owns_of fields ss ≤ length own → rests_of ss ≤ length rests
+      → AreStated bits fields ss public own → AreHashed fields ss public own rests → AreSecretsHeld m fields ss public own
+  secrets_forward [] w bits public own rests h lp lo lr a b = tt
+  secrets_forward (s ∷ ss) w bits public own rests h lp lo lr a b =
+      let f = w.0.0 in
+      let there = w.0.1 in
+      let size = slot_size fields s f there in
+      let first = secret_forward m bytes f (field_there (length m) fields s.field f are there) s.claim w.0.2 bits public own rests h (omega (arith, lp)) (omega (arith, lo, size)) (omega (arith, lr))
+      (at_field (slice_get fields s.field) f (λ g. IsStated bits g s.claim public own) there a.0)
+      (at_field (slice_get fields s.field) f (λ g. IsHashed g s.claim public own rests) there b.0) in
+      let n = value_count s.claim in
+      let k = own_count fields s in
+      let r = rest_of_claim s.claim in (
+        put_field (slice_get fields s.field) f (λ g. IsSecretHeld m g s.claim public own) there first,
+        secrets_forward ss w.1 bits (drop n public) (drop k own) (drop r rests) h
             (omega (arith, length-drop n public, lp)) (omega (arith, length-drop k own, lo)) (omega (arith, length-drop r rests, lr)) a.1 b.1,
       )
 
@@ -301,15 +397,16 @@ pub satisfied_held : RecordsAreHeld
 satisfied_held c public private w np nq h =
     let n = 8 * c.size in
     let s = stated_count c in
+    let k = rest_of_hash c.size in
     let own = take s private in
     let eight : length (take 8 public) ≡ 8 = length-take-le 8 public (omega (arith, np)) in
-    let enough : s + (hash_rest + rests_of c.shows) ≤ length private = subst (λ (k : ℕ). needed_count c ≤ k) (sym nq) (padded_most (needed_count c)) in
+    let enough : s + (k + rests_of c.shows) ≤ length private = subst (λ (j : ℕ). needed_count c ≤ j) (sym nq) (padded_most (needed_count c)) in
     let long : length own ≡ s = length-take-le s private (omega (arith, enough)) in
-    let rest : length (take hash_rest (drop s private)) ≡ 6376 = length-take-le hash_rest (drop s private) (omega (arith, length-drop s private, enough)) in
-    let d = spelt c.size (take 8 public) own (take hash_rest (drop s private)) w.block eight (omega (arith, long)) rest h.hashed in
+    let rest : length (take k (drop s private)) ≡ k = length-take-le k (drop s private) (omega (arith, length-drop s private, enough)) in
+    let d = spelt c.size (take 8 public) own (take k (drop s private)) eight (omega (arith, long)) rest h.hashed in
     let m = d.message in
-    let fields = subst (λ (k : ℕ). AllByRecursion (IsField k) c.fields) (sym d.size_is) w.fields in
-    let twice : rests_of c.shows ≤ length (drop (s + hash_rest) private) = omega (arith, length-drop (s + hash_rest) private, enough) in
+    let fields = subst (λ (j : ℕ). AllByRecursion (IsField j) c.fields) (sym d.size_is) w.fields in
+    let twice : rests_of c.shows ≤ length (drop (s + k) private) = omega (arith, length-drop (s + k) private, enough) in
     let f = λ (j : ℕ). bit_at (slice_index m (j / 8)) (7 - j % 8) in
     let count : length (message_bits m) ≡ 8 * length m = length-map-range_with_len f 0 (8 * length m) in
     let taken : length (take n private) ≡ n = length-take-le n private (omega (arith, enough)) in
@@ -318,9 +415,11 @@ satisfied_held c public private w np nq h =
       shown = record {
         bytes = record { size_is = d.size_is; bytes_are = d.bytes_are };
         digest = d.digest_is;
-        lines = shows_forward m d.bytes_are c.fields fields c.shows w.shows own (drop 8 public) (drop n own) (drop (s + hash_rest) private) d.bits_are
+        lines = shows_forward m d.bytes_are c.fields fields c.shows w.shows own (drop 8 public) (drop n own) (drop (s + k) private) d.bits_are
             (omega (arith, length-drop 8 public, np)) (omega (arith, length-drop n own, long)) (omega (arith, twice)) h.stated h.pseudonyms;
       };
+      secrets = secrets_forward m d.bytes_are c.fields fields c.shows w.shows own (drop 8 public) (drop n own) (drop (s + k) private) d.bits_are
+          (omega (arith, length-drop 8 public, np)) (omega (arith, length-drop n own, long)) (omega (arith, twice)) h.stated h.pseudonyms;
       bits = ext_get_or ops.zero (take n private) (map of_number (message_bits m)) (taken ∙ omega (arith, length-map (message_bits m) of_number, count, d.size_is))
           (λ i q.
           let l : i < n = omega (arith, q, taken) in
@@ -342,29 +441,29 @@ pub satisfied_backward : (c : Contents) → IsPolicy c → (m : List ℕ) (publi
 satisfied_backward c w m public h =
     let bytes = h.bytes.bytes_are in
     let size = h.bytes.size_is in
-    let short : length m ≤ 55 = omega (arith, size, w.block) in
     let n = 8 * c.size in
     let s = stated_count c in
-    let fields = subst (λ (k : ℕ). AllByRecursion (IsField k) c.fields) (sym size) w.fields in
+    let k = rest_of_hash c.size in
+    let fields = subst (λ (j : ℕ). AllByRecursion (IsField j) c.fields) (sym size) w.fields in
     let r = shows_backward m bytes c.fields fields c.shows w.shows (drop 8 public) h.lines in
-    let front = message_front m short bytes in
-    let rest = message_rest m short bytes in
+    let front = message_front m bytes in
+    let rest = message_rest m bytes in
     let stated = front ++ r.own in
     let idle : List Gold = replicate (private_count c - needed_count c) ops.zero in
     let others = r.rests ++ idle in
     let behind = rest ++ others in
     let private = stated ++ behind in
-    let long_front : length front ≡ n = length-message_front m short bytes ∙ ap (λ k. 8 * k) size in
-    let long_rest : length rest ≡ 6376 = length-message_rest m short bytes in
+    let long_front : length front ≡ n = length-message_front m bytes ∙ ap (λ j. 8 * j) size in
+    let long_rest : length rest ≡ rest_of_hash c.size = length-message_rest m bytes ∙ ap rest_of_hash size in
     let long_stated : length stated ≡ s = omega (arith, length-append front r.own, long_front, r.own_size) in
     let stated_at : take s private ≡ stated = take_front s stated behind (sym long_stated) in
     let behind_at : drop s private ≡ behind = drop_front s stated behind (sym long_stated) in
     let own_at : drop n (take s private) ≡ r.own ++ [] = ap (drop n) stated_at ∙ drop_front n front r.own (sym long_front) ∙ sym (append-nil r.own) in
     let front_at_ : take n (take s private) ≡ front = ap (take n) stated_at ∙ take_front n front r.own (sym long_front) in
-    let rest_at : take hash_rest (drop s private) ≡ rest = ap (take hash_rest) behind_at ∙ take_front hash_rest rest others (sym long_rest) in
-    let rests_at : drop (s + hash_rest) private ≡ others =
-    sym (drop_twice s hash_rest private) ∙ ap (drop hash_rest) behind_at ∙ drop_front hash_rest rest others (sym long_rest) in
-    let bits : AreBitsOf (take s private) 0 m = subst (λ (l : List Gold). AreBitsOf l 0 m) (sym stated_at) (message_bits_are m short bytes r.own) in
+    let rest_at : take k (drop s private) ≡ rest = ap (take k) behind_at ∙ take_front k rest others (sym long_rest) in
+    let rests_at : drop (s + k) private ≡ others =
+    sym (drop_twice s k private) ∙ ap (drop k) behind_at ∙ drop_front k rest others (sym long_rest) in
+    let bits : AreBitsOf (take s private) 0 m = subst (λ (l : List Gold). AreBitsOf l 0 m) (sym stated_at) (message_bits_are m bytes r.own) in
     let whole : length private ≡ private_count c = omega (
       arith,
       length-append stated behind,
@@ -381,11 +480,11 @@ satisfied_backward c w m public h =
       record {
         stated = subst (λ (l : List Gold). AreStated (take s private) c.fields c.shows (drop 8 public) l) (sym own_at) (r.stated (take s private) [] bits);
         hashed =
-            subst (λ (l : List Gold). AreSatisfying ops of_number c.size l (take n (take s private) ++ take hash_rest (drop s private))) (sym h.digest)
-            (subst (λ (k : ℕ). AreSatisfying ops of_number k (map of_number (digest_words m)) (take n (take s private) ++ take hash_rest (drop s private))) size
-            (subst (λ (l : List Gold). AreSatisfying ops of_number (length m) (map of_number (digest_words m)) l) (λ i. sym front_at_ i ++ sym rest_at i) (message_satisfies_parts m short bytes)));
+            subst (λ (l : List Gold). AreHashing ops of_number c.size l (take n (take s private) ++ take k (drop s private))) (sym h.digest)
+            (subst (λ (j : ℕ). AreHashing ops of_number j (map of_number (digest_words m)) (take n (take s private) ++ take k (drop s private))) size
+            (subst (λ (l : List Gold). AreHashing ops of_number (length m) (map of_number (digest_words m)) l) (λ i. sym front_at_ i ++ sym rest_at i) (message_satisfies_parts m bytes)));
         pseudonyms =
-            subst (λ (l : List Gold). AreHashed c.fields c.shows (drop 8 public) l (drop (s + hash_rest) private)) (sym own_at)
+            subst (λ (l : List Gold). AreHashed c.fields c.shows (drop 8 public) l (drop (s + k) private)) (sym own_at)
             (subst (λ (l : List Gold). AreHashed c.fields c.shows (drop 8 public) (r.own ++ []) l) (sym rests_at) (r.hashed [] idle));
       },
     )

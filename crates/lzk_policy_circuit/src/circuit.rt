@@ -6,27 +6,28 @@ ghost use Rattle.lzk_circuit.specs.Checks.{IsSatisfied};
 ghost use Rattle.lzk_circuit.specs.Wires.{inputs_of};
 ghost use Rattle.lzk_goldilocks.specs.Elements.{ops, of_number, number};
 ghost use Rattle.lzk_goldilocks.specs.declared.element.Gold.{Gold};
-ghost use Rattle.lzk_sha_circuit.specs.Outputs.{AreSatisfying};
+ghost use Rattle.lzk_sha_blocks.specs.Hashed.{AreHashing};
+ghost use Rattle.lzk_sha_blocks.specs.Layout as blocks;
 ghost use Rattle.lzk_policy.specs.Policies.{IsShowOf, suits};
 ghost use Rattle.lzk_policy_circuit.specs.Layout as layout;
 ghost use Rattle.lzk_policy_circuit.specs.Meaning as meaning;
 ghost use Rattle.lzk_policy_circuit.specs.Meaning.{IsShown};
-ghost use Rattle.lzk_policy_circuit.specs.Met.{AreStated, IsHashed, AreHashed, Satisfy};
-ghost use Rattle.lzk_policy_circuit.specs.Causes.{IsPolicyCause};
+ghost use Rattle.lzk_policy_circuit.specs.Met.{AreStated, IsHashed, AreHashed, AreSealHashed, Satisfy};
+ghost use Rattle.lzk_policy_circuit.specs.Causes.{IsPartCause, IsPolicyCause};
 
 use crate::counts::{
-    HASH_REST, field_of, own_of_claim, owns_of, padded, rest_of_claim, rests_of, value_count,
-    values_of,
+    HASH_REST, field_of, own_of_claim, owns_of, padded, rest_of_claim, rest_of_hash, rests_of,
+    value_count, values_of,
 };
 use crate::error::PolicyCircuitError;
 use crate::places::{HashPlaces, hash_places, row};
 use crate::shows::assert_shows;
 use lzk_beside::{Part, beside};
-use lzk_circuit::Circuit;
+use lzk_circuit::{Circuit, MOST_PRIVATES};
 use lzk_gadgets::Statement;
 use lzk_goldilocks::Gold;
 use lzk_policy::{Claim, Policy, RecordField, Show};
-use lzk_sha_circuit::sha_circuit;
+use lzk_sha_blocks::{DigestError, digest_circuit};
 use std::alloc::Global;
 
 // The statement's circuit.
@@ -34,12 +35,12 @@ fn stated_circuit(alloc: Global, policy: &Policy) -> Result<Circuit<Gold>, Polic
     ensures version { IfOk result (λ c. c.version ≡ 1) }
     ensures publics { IfOk result (λ c. c.publics ≡ meaning.public_count policy.now) }
     ensures privates { IfOk result (λ c. c.privates ≡ layout.stated_count policy.now) }
-    ensures few { IfOk result (λ c. c.privates ≤ 5240) }
+    ensures few { IfOk result (λ c. c.privates ≤ 5752) }
     ensures satisfied { (public private : List Gold) → length public ≡ meaning.public_count policy.now →
         length private ≡ layout.stated_count policy.now →
         IfOk result (λ c. IsSatisfied ops number c.layers (inputs_of ops public private) ↔
         AreStated private policy.now.fields policy.now.shows (drop 8 public) (drop (8 * policy.now.size) private)) }
-    ensures cause { IfErr result IsPolicyCause }
+    ensures cause { IfErr result IsPartCause }
 {
     let size = policy.size();
     let (fields, shows) = (policy.fields(), policy.shows());
@@ -53,6 +54,26 @@ fn stated_circuit(alloc: Global, policy: &Policy) -> Result<Circuit<Gold>, Polic
             Ok(circuit)
         }
         Err(e) => Err(PolicyCircuitError::Statement(e)),
+    }
+}
+
+// The circuit of the hash of so many bytes.
+fn hash_circuit(alloc: Global, len: u32) -> Result<Circuit<Gold>, PolicyCircuitError>
+    requires { len ≤ 119 }
+    ensures version { IfOk result (λ c. c.version ≡ 1) }
+    ensures publics { IfOk result (λ c. c.publics ≡ 8) }
+    ensures privates { IfOk result (λ c. c.privates ≡ blocks.private_count len) }
+    ensures satisfied { (public private : List Gold) → length public ≡ 8 →
+        length private ≡ blocks.private_count len →
+        IfOk result (λ c. IsSatisfied ops number c.layers (inputs_of ops public private) ↔
+        AreHashing ops of_number len public private) }
+    ensures cause { IfErr result IsPartCause }
+{
+    match digest_circuit(alloc, len) {
+        Ok(circuit) => Ok(circuit),
+        Err(DigestError::Beside(e)) => Err(PolicyCircuitError::Beside(e)),
+        Err(DigestError::OutOfMemory) => Err(PolicyCircuitError::OutOfMemory),
+        Err(DigestError::TooLong) => unreachable!(),
     }
 }
 
@@ -72,17 +93,17 @@ fn with_hash(
         length private ≡ hash.now.privates →
         IfOk result (λ c. IsSatisfied ops number c.layers (inputs_of ops public private) ↔
         (IsSatisfied ops number circuit.now.layers (inputs_of ops public (take circuit.now.privates private)) ×
-        AreSatisfying ops of_number hash.now.len (take 8 (drop hash.now.words public))
-        (take (8 * hash.now.len) (drop hash.now.bits private) ++ take 6376 (drop hash.now.rest private)))) }
-    ensures cause { IfErr result IsPolicyCause }
+        AreHashing ops of_number hash.now.len (take 8 (drop hash.now.words (public ++ private)))
+        (take (8 * hash.now.len) (drop hash.now.bits private) ++
+        take (layout.rest_of_hash hash.now.len) (drop hash.now.rest private)))) }
+    ensures cause { IfErr result IsPartCause }
 {
     let places = row(alloc, 1, hash.publics + circuit.privates())?;
     let first = Part {
         circuit,
         places: &places,
     };
-    let own = sha_circuit(alloc, hash.len)?;
-    own.valid_laws();
+    let own = hash_circuit(alloc, hash.len)?;
     let hash_inputs = hash_places(alloc, hash)?;
     let second = Part {
         circuit: &own,
@@ -94,7 +115,51 @@ fn with_hash(
     }
 }
 
-// A circuit beside the hash of a pseudonym, where what is shown is one.
+// A circuit beside the hash of a seal, whose digest is private, and that of a pseudonym of its secret.
+fn with_seal(
+    alloc: Global,
+    circuit: &Circuit<Gold>,
+    words: u32,
+    bits: u32,
+    rest: u32,
+) -> Result<Circuit<Gold>, PolicyCircuitError>
+    requires version { circuit.now.version ≡ 1 }
+    requires words { words + 12 ≤ circuit.now.publics }
+    requires bits { bits + 456 ≤ circuit.now.privates }
+    requires rest { rest + 12752 ≤ circuit.now.privates }
+    ensures version { IfOk result (λ c. c.version ≡ 1) }
+    ensures publics { IfOk result (λ c. c.publics ≡ circuit.now.publics) }
+    ensures privates { IfOk result (λ c. c.privates ≡ circuit.now.privates) }
+    ensures satisfied { (public private : List Gold) → length public ≡ circuit.now.publics →
+        length private ≡ circuit.now.privates →
+        IfOk result (λ c. IsSatisfied ops number c.layers (inputs_of ops public private) ↔
+        (IsSatisfied ops number circuit.now.layers (inputs_of ops public private) ×
+        AreSealHashed (drop words public) (drop bits private) (drop rest private))) }
+    ensures cause { IfErr result IsPartCause }
+{
+    circuit.valid_laws();
+    let (publics, privates) = (circuit.publics(), circuit.privates());
+    let seal = HashPlaces {
+        publics,
+        privates,
+        len: 20,
+        words: publics + bits + 160,
+        bits,
+        rest,
+    };
+    let first = with_hash(alloc, circuit, &seal)?;
+    let message = HashPlaces {
+        publics,
+        privates,
+        len: 36,
+        words: words + 4,
+        bits: bits + 168,
+        rest: rest + HASH_REST,
+    };
+    with_hash(alloc, &first, &message)
+}
+
+// A circuit beside the hashes of a pseudonym, where what is shown is one.
 fn with_claim(
     alloc: Global,
     circuit: Circuit<Gold>,
@@ -117,7 +182,7 @@ fn with_claim(
         IfOk result (λ c. IsSatisfied ops number c.layers (inputs_of ops public private) ↔
         (IsSatisfied ops number circuit.layers (inputs_of ops public private) ×
         IsHashed field.now claim.now (drop words public) (drop bits private) (drop rest private))) }
-    ensures cause { IfErr result IsPolicyCause }
+    ensures cause { IfErr result IsPartCause }
 {
     match claim {
         Claim::Pseudonym(_) => {
@@ -132,6 +197,7 @@ fn with_claim(
             };
             with_hash(alloc, &circuit, &hash)
         }
+        Claim::Sealed(_) => with_seal(alloc, &circuit, words, bits, rest),
         _ => Ok(circuit),
     }
 }
@@ -159,7 +225,7 @@ fn with_pseudonyms(
         IfOk result (λ c. IsSatisfied ops number c.layers (inputs_of ops public private) ↔
         (IsSatisfied ops number circuit.layers (inputs_of ops public private) ×
         AreHashed fields.now shows.now (drop words public) (drop bits private) (drop rest private))) }
-    ensures cause { IfErr result IsPolicyCause }
+    ensures cause { IfErr result IsPartCause }
 {
     let Some((show, others)) = shows.split_first() else {
         return Ok(circuit);
@@ -187,29 +253,26 @@ pub fn policy_circuit(alloc: Global, policy: &Policy) -> Result<Circuit<Gold>, P
         length private ≡ layout.private_count policy.now →
         IfOk result (λ c. IsSatisfied ops number c.layers (inputs_of ops public private) ↔
         Satisfy policy.now public private) }
-    ensures cause { IfErr result IsPolicyCause }
+    ensures cause { IfErr result (IsPolicyCause policy.now) }
 {
     let size = policy.size();
     let (fields, shows) = (policy.fields(), policy.shows());
     let statement = stated_circuit(alloc, policy)?;
     statement.valid_laws();
     let stated = statement.privates();
+    let rest = rest_of_hash(size);
+    let privates = padded(stated + (rest + rests_of(shows)));
+    if privates > MOST_PRIVATES {
+        return Err(PolicyCircuitError::Privates);
+    }
     let hash = HashPlaces {
         publics: statement.publics(),
-        privates: padded(stated + (HASH_REST + rests_of(shows))),
+        privates,
         len: size,
         words: 0,
         bits: 0,
         rest: stated,
     };
     let record = with_hash(alloc, &statement, &hash)?;
-    with_pseudonyms(
-        alloc,
-        record,
-        fields,
-        shows,
-        8,
-        8 * size,
-        stated + HASH_REST,
-    )
+    with_pseudonyms(alloc, record, fields, shows, 8, 8 * size, stated + rest)
 }

@@ -7,13 +7,15 @@ ghost use Rattle.lzk_goldilocks.specs.declared.element.Gold.{Gold};
 ghost use Rattle.lzk_gadgets.specs.Claims.{Adds, AreInputs, Makes, value};
 ghost use Rattle.lzk_gadgets.specs.Inverses.{IsAmong};
 ghost use Rattle.lzk_level.specs.Nodes.{IsNode, node_count};
-ghost use Rattle.lzk_policy_circuit.specs.Met.{byte_worth, gap_of, number_worth, AreSameBytes, IsLabelled, IsTagged, IsOrdered};
+ghost use Rattle.lzk_policy_circuit.specs.Met.{byte_worth, gap_of, number_worth, AreSameBytes, IsLabelled, IsTagged, IsOrdered, IsPiece, IsSpelledBy};
 
+use crate::counts::{piece_size, piece_start};
 use crate::numbers::{assert_word, byte, number};
 use lzk_field::Field;
 use lzk_gadgets::Statement;
 use lzk_goldilocks::Gold;
 use lzk_level::Node;
+use lzk_policy::RecordField;
 use std::alloc::{AllocError, Global};
 
 /// Claims that the number of some bytes is a public input.
@@ -26,6 +28,38 @@ pub fn assert_number(s: &mut Statement, at: u32, size: u32, i: u32) -> Result<()
     let x = number(s, at, size)?;
     let value = s.public(i);
     s.assert_equal(x, value)?;
+    Ok(())
+}
+
+// Claims that the number of piece `k` of a field is public input `i + k`.
+fn assert_piece(s: &mut Statement, field: &RecordField, k: u32, i: u32) -> Result<(), AllocError>
+    requires few { field.now.place + field.now.size ≤ 119 }
+    requires piece { k < 5 }
+    requires there { 8 * (field.now.place + field.now.size) ≤ s.old.nodes.privates }
+    requires value { i + k < s.old.nodes.publics }
+    ensures { IfOk result (λ _. Adds ops 72 1 s.old s.new
+        (λ public private. IsPiece private field.now (drop i public) k)) }
+{
+    s.room_laws();
+    let start = piece_start(field.size, k);
+    let size = piece_size(field.size, k);
+    assert_number(s, 8 * (field.place + start), size, i + k)
+}
+
+/// Claims that the numbers of the five pieces of a field are public inputs from `i` on.
+pub fn assert_pieces(s: &mut Statement, field: &RecordField, i: u32) -> Result<(), AllocError>
+    requires few { field.now.place + field.now.size ≤ 119 }
+    requires there { 8 * (field.now.place + field.now.size) ≤ s.old.nodes.privates }
+    requires values { i + 5 ≤ s.old.nodes.publics }
+    ensures { IfOk result (λ _. Adds ops 360 5 s.old s.new
+        (λ public private. IsSpelledBy private field.now (drop i public))) }
+{
+    s.room_laws();
+    assert_piece(s, field, 0, i)?;
+    assert_piece(s, field, 1, i)?;
+    assert_piece(s, field, 2, i)?;
+    assert_piece(s, field, 3, i)?;
+    assert_piece(s, field, 4, i)?;
     Ok(())
 }
 
@@ -96,8 +130,8 @@ pub fn assert_text(
     Ok(())
 }
 
-// Claims that a byte is this one.
-fn assert_byte(s: &mut Statement, at: u32, constant: u8) -> Result<(), AllocError>
+/// Claims that a byte is this one.
+pub(crate) fn assert_byte(s: &mut Statement, at: u32, constant: u8) -> Result<(), AllocError>
     requires there { at + 8 ≤ s.old.nodes.privates }
     ensures { IfOk result (λ _. Adds ops 13 1 s.old s.new
         (λ public private. byte_worth private at ≡ of_number constant)) }

@@ -1,6 +1,6 @@
 //! How many inputs go with what is shown.
 
-ghost use Rattle.std.specs.Prelude.{◌≡◌, ◌+◌, ◌*◌, ◌≤◌, IsTrue, Some, length, slice_get};
+ghost use Rattle.std.specs.Prelude.{◌≡◌, ◌+◌, ◌*◌, ◌<◌, ◌≤◌, IsTrue, Some, length, slice_get};
 ghost use Rattle.std.specs.List.{AllByRecursion};
 ghost use Rattle.lzk_policy.specs.Policies.{IsShowOf, suits};
 ghost use Rattle.lzk_policy_circuit.specs.Layout as layout;
@@ -9,13 +9,41 @@ ghost use Rattle.lzk_circuit.specs.Limits.{most_privates};
 
 use lzk_policy::{Claim, Policy, RecordField, Show};
 
-/// The private inputs of a hash beside the bits of its message.
+/// The private inputs of a hash of one block beside the bits of its message.
 pub const HASH_REST: u32 = 6376;
 
 /// From so many private inputs on idle ones make a proof shorter, up to so many in all.
 const IDLE_FROM: u32 = 9000;
 
 const IDLE_TO: u32 = 16_384;
+
+/// The private inputs of a hash of `len` bytes beside the bits of its message.
+pub fn rest_of_hash(len: u32) -> u32
+    requires { len ≤ 119 }
+    ensures count { result ≡ layout.rest_of_hash len }
+    ensures few { result ≤ 12760 }
+{
+    6384 * ((len + 72) / 64) - 8
+}
+
+/// Where piece `k` of a text begins.
+pub fn piece_start(size: u32, k: u32) -> u32
+    requires { k < 5 }
+    ensures start { result ≡ meaning.piece_start size k }
+    ensures within { result ≤ size }
+{
+    if size < 7 * k { size } else { 7 * k }
+}
+
+/// How many bytes it has.
+pub fn piece_size(size: u32, k: u32) -> u32
+    requires { k < 5 }
+    ensures size { result ≡ meaning.piece_size size k }
+    ensures few { result ≤ 7 }
+{
+    let left = size - piece_start(size, k);
+    if left < 7 { left } else { 7 }
+}
 
 /// How many public inputs go with what is shown.
 pub fn value_count(claim: &Claim) -> u32
@@ -26,8 +54,10 @@ pub fn value_count(claim: &Claim) -> u32
         Claim::AtMost(_) => 1,
         Claim::AtLeast(_) => 1,
         Claim::Equal(_) => 1,
+        Claim::Spelled(_) => 5,
         Claim::OneOf(_) => 0,
         Claim::Pseudonym(_) => 12,
+        Claim::Sealed(_) => 12,
     }
 }
 
@@ -41,18 +71,21 @@ pub fn own_of_claim(field: &RecordField, claim: &Claim) -> u32
         Claim::AtMost(_) => 64,
         Claim::AtLeast(_) => 64,
         Claim::Equal(_) => 0,
+        Claim::Spelled(_) => 0,
         Claim::OneOf(_) => 0,
         Claim::Pseudonym(_) => 8 * (4 + field.size + 16),
+        Claim::Sealed(_) => 456,
     }
 }
 
 /// And how many of a hash.
 pub fn rest_of_claim(claim: &Claim) -> u32
     ensures count { result ≡ layout.rest_of_claim claim.now }
-    ensures few { result ≤ 6376 }
+    ensures few { result ≤ 12752 }
 {
     match claim {
         Claim::Pseudonym(_) => HASH_REST,
+        Claim::Sealed(_) => 2 * HASH_REST,
         _ => 0,
     }
 }
@@ -110,7 +143,7 @@ pub fn owns_of(fields: &[RecordField], shows: &[Show]) -> u32
 pub fn rests_of(shows: &[Show]) -> u32
     requires { length shows.now ≤ 8 }
     ensures count { result ≡ layout.rests_of shows.now }
-    ensures few { result ≤ 6376 * length shows.now }
+    ensures few { result ≤ 12752 * length shows.now }
 {
     let Some((show, others)) = shows.split_first() else {
         return 0;
@@ -123,6 +156,6 @@ pub fn idle_count(policy: &Policy) -> u32
     ensures { result ≡ layout.idle_count policy.now }
 {
     let stated = 8 * policy.size() + owns_of(policy.fields(), policy.shows());
-    let needed = stated + (HASH_REST + rests_of(policy.shows()));
+    let needed = stated + (rest_of_hash(policy.size()) + rests_of(policy.shows()));
     padded(needed) - needed
 }

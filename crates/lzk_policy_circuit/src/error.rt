@@ -3,6 +3,7 @@
 ghost use Rattle.std.specs.Prelude.{◌≡◌};
 
 use lzk_beside::BesideError;
+use lzk_circuit::MOST_PRIVATES;
 use lzk_level::LevelError;
 use std::alloc::AllocError;
 use thiserror::Error;
@@ -16,6 +17,9 @@ pub enum PolicyCircuitError {
     /// The statement and the hashes side by side would.
     #[error("{0}")]
     Beside(BesideError),
+    /// A circuit has at most [`MOST_PRIVATES`] private inputs.
+    #[error("more than {most} private inputs", most = MOST_PRIVATES)]
+    Privates,
     /// There was no memory for the circuit.
     #[error("out of memory")]
     OutOfMemory,

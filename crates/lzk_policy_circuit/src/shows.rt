@@ -11,9 +11,11 @@ ghost use Rattle.lzk_policy_circuit.specs.Meaning as meaning;
 ghost use Rattle.lzk_policy_circuit.specs.Met.{IsComposed, IsStated, AreStated};
 
 use crate::claims::{
-    Side, assert_label, assert_number, assert_same, assert_side, assert_tag, assert_text,
+    Side, assert_label, assert_number, assert_pieces, assert_same, assert_side, assert_tag,
+    assert_text,
 };
 use crate::counts::{field_of, own_of_claim, value_count};
+use crate::seals::assert_sealed;
 use lzk_field::Field;
 use lzk_gadgets::Statement;
 use lzk_goldilocks::Gold;
@@ -38,7 +40,7 @@ fn assert_composed(
     i: u32,
     own: u32,
 ) -> Result<(), AllocError>
-    requires few { field.now.place + field.now.size ≤ 55 }
+    requires few { field.now.size ≤ 35 }
     requires there { 8 * (field.now.place + field.now.size) ≤ s.old.nodes.privates }
     requires message { own + 8 * layout.message_size field.now ≤ s.old.nodes.privates }
     requires values { i + 12 ≤ s.old.nodes.publics }
@@ -61,7 +63,7 @@ fn assert_claim(
     i: u32,
     own: u32,
 ) -> Result<(), AllocError>
-    requires few { field.now.place + field.now.size ≤ 55 }
+    requires few { field.now.place + field.now.size ≤ 119 }
     requires suits { IsTrue (suits field.now claim.now) }
     requires there { 8 * (field.now.place + field.now.size) ≤ s.old.nodes.privates }
     requires bits { own + layout.own_of_claim field.now claim.now ≤ s.old.nodes.privates }
@@ -89,11 +91,13 @@ fn assert_claim(
             own,
         ),
         Claim::Equal(_) => assert_number(s, 8 * field.place, field.size, i),
+        Claim::Spelled(_) => assert_pieces(s, field, i),
         Claim::OneOf(texts) => {
             let choices = elements_of(alloc, texts)?;
             assert_text(s, 8 * field.place, field.size, &choices)
         }
         Claim::Pseudonym(_) => assert_composed(s, field, i, own),
+        Claim::Sealed(_) => assert_sealed(s, field, i, own),
     }
 }
 
@@ -107,7 +111,7 @@ pub fn assert_shows(
     i: u32,
     own: u32,
 ) -> Result<(), AllocError>
-    requires block { size ≤ 55 }
+    requires few { size ≤ 119 }
     requires fields { AllByRecursion (IsField size) fields.now }
     requires shows { AllByRecursion (IsShowOf fields.now) shows.now }
     requires there { 8 * size ≤ s.old.nodes.privates }

@@ -1,4 +1,5 @@
 pub mod Bits
 pub mod Claims
+pub mod Pieces
 pub mod Shows
 pub mod Places

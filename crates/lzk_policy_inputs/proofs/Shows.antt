@@ -5,13 +5,13 @@ use Rattle.std.specs.List.{AllByRecursion}
 use Rattle.lzk_goldilocks.specs.Elements.{ops, of_number}
 use Rattle.lzk_goldilocks.specs.declared.element.Gold.{Gold}
 use Rattle.lzk_sha_circuit.specs.Digest.{AreBytes, digest_words}
-use Rattle.lzk_sha_circuit.specs.Outputs.{AreSatisfying}
+use Rattle.lzk_sha_blocks.specs.Hashed.{AreHashing}
 use Rattle.lzk_policy.specs.declared.policy.RecordField.{RecordField}
 use Rattle.lzk_policy.specs.declared.policy.Claim.{Claim}
 use Rattle.lzk_policy.specs.declared.policy.Show.{Show}
 use Rattle.lzk_policy.specs.Policies.{Contents, IsPolicy, IsField, IsShowOf}
 use Rattle.lzk_policy_circuit.specs.Meaning.{value_count, values_of, public_count, IsTrueOf, AreTrueOf, IsShown}
-use Rattle.lzk_policy_circuit.specs.Layout.{hash_rest, own_of_claim, rest_of_claim, own_count, owns_of, rests_of, stated_count, needed_count, private_count, idle_count}
+use Rattle.lzk_policy_circuit.specs.Layout.{rest_of_hash, own_of_claim, rest_of_claim, own_count, owns_of, rests_of, stated_count, needed_count, private_count, idle_count}
 use Rattle.lzk_policy_circuit.specs.Layout as layout
 use Rattle.lzk_policy_circuit.specs.Met.{IsStated, AreStated, IsHashed, AreHashed, Satisfy}
 use Rattle.lzk_policy_circuit.proofs.Lists.{drop_front, take_front, drop_twice}
@@ -20,7 +20,7 @@ use Rattle.lzk_policy_circuit.proofs.Whole.{padded_most}
 use Rattle.std.proofs.lemmas.List.{length-replicate}
 use Rattle.lzk_policy_inputs.specs.declared.value.Value.{Value}
 use Rattle.lzk_policy_inputs.specs.Chosen.{HasKind, numbers_of, of_field, joined, public_of}
-use Rattle.lzk_policy_inputs.specs.Refused.{AtPlace, AtAll, IsRight, IsRightBefore}
+use Rattle.lzk_policy_inputs.specs.Refused.{AtPlace, AtAll, IsRight, IsTrueWith, IsRightBefore}
 use Rattle.lzk_policy_inputs.specs.Filled.{front_of, rest_of, own_of, hashed_of, idle_of, meant_of, private_of}
 use Rattle.lzk_policy_inputs.proofs.Claims.{length-digest_words, length-front_of, length-rest_of, front_bits, front_satisfies, length-numbers_of, length-own_of, length-hashed_of, true_of, stated_of, hashes_of}
 
@@ -46,7 +46,7 @@ joined_is g fields s ss v vs f e = ap (λ o. of_field o (λ x. g x s.claim v) ++
 -- what is so at each place is so for all
 pub at_all : (m : List ℕ) (fields : List RecordField) (ss : List Show) (vs : List Value) → length vs ≡ length ss
     → ((k : ℕ) → k < length ss → AtPlace (λ f c v. HasKind c v) fields ss vs k)
-    → ((k : ℕ) → k < length ss → AtPlace (λ f c v. IsTrueOf m f c (numbers_of m f c v)) fields ss vs k)
+    → ((k : ℕ) → k < length ss → AtPlace (λ f c v. IsTrueWith m f c v) fields ss vs k)
     → AtAll (IsRight m) fields ss vs
 at_all m fields [] vs e h t = tt
 at_all m fields (s ∷ ss) [] e h t = absurd (omega (arith, e))
@@ -54,7 +54,7 @@ at_all m fields (s ∷ ss) (v ∷ vs) e h t = (
   both (slice_get fields s.field) (h 0 (omega arith)) (t 0 (omega arith)),
   at_all m fields ss vs (omega (arith, e)) (λ k l. h (suc k) (omega (arith, l))) (λ k l. t (suc k) (omega (arith, l))),
 ) where
-  both : (o : Option RecordField) → MatchOption o ⊥ (λ f. HasKind s.claim v) → MatchOption o ⊥ (λ f. IsTrueOf m f s.claim (numbers_of m f s.claim v)) → MatchOption o ⊥ (λ f. IsRight m f s.claim v)
+  both : (o : Option RecordField) → MatchOption o ⊥ (λ f. HasKind s.claim v) → MatchOption o ⊥ (λ f. IsTrueWith m f s.claim v) → MatchOption o ⊥ (λ f. IsRight m f s.claim v)
   both None a b = a
   both (Some f) a b = (a, b)
 
@@ -129,10 +129,10 @@ pub record IsWhole (p : Contents) (m : List ℕ) (vs : List Value) : Type 0 wher
 pub whole : (p : Contents) (m : List ℕ) (vs : List Value) → IsPolicy p → AreBytes m → IsRightBefore p m vs (length p.shows) → IsWhole p m vs
 whole p m vs w bytes right =
     let size = right.size in
-    let few : p.size ≤ 55 = w.block in
     let n = 8 * p.size in
     let s = stated_count p in
-    let fields = subst (λ (k : ℕ). AllByRecursion (IsField k) p.fields) (sym size) w.fields in
+    let k = rest_of_hash p.size in
+    let fields = subst (λ (j : ℕ). AllByRecursion (IsField j) p.fields) (sym size) w.fields in
     let all = at_all m p.fields p.shows vs right.count right.kinds right.truths in
     let public = public_of p m vs in
     let private = private_of p m vs in
@@ -150,18 +150,18 @@ whole p m vs w bytes right =
     let long_words : length words ≡ 8 = length-digest_words m in
     let words_at : take 8 public ≡ words = take_front 8 words numbers (sym long_words) in
     let numbers_at : drop 8 public ≡ numbers = drop_front 8 words numbers (sym long_words) in
-    let all_bits : AreBitsOf (front ++ own) 0 m = front_bits p.size m size few bytes own in
+    let all_bits : AreBitsOf (front ++ own) 0 m = front_bits p.size m size bytes own in
     let r = filled m bytes p.fields fields (front ++ own) all_bits p.shows w.shows vs all in
-    let long_front : length front ≡ n = length-front_of p.size m size few bytes in
-    let long_rest : length rest ≡ 6376 = length-rest_of p.size m size few bytes in
+    let long_front : length front ≡ n = length-front_of p.size m size bytes in
+    let long_rest : length rest ≡ k = length-rest_of p.size m size bytes in
     let long_stated : length stated ≡ s = omega (arith, length-append front own, long_front, r.own_size) in
     let stated_at : take s private ≡ stated = ap (take s) turn ∙ take_front s stated behind (sym long_stated) in
     let behind_at : drop s private ≡ behind = ap (drop s) turn ∙ drop_front s stated behind (sym long_stated) in
     let own_at : drop n (take s private) ≡ own = ap (drop n) stated_at ∙ drop_front n front own (sym long_front) in
     let front_at_ : take n (take s private) ≡ front = ap (take n) stated_at ∙ take_front n front own (sym long_front) in
-    let rest_at : take hash_rest (drop s private) ≡ rest = ap (take hash_rest) behind_at ∙ take_front hash_rest rest others (sym long_rest) in
-    let rests_at : drop (s + hash_rest) private ≡ others =
-    sym (drop_twice s hash_rest private) ∙ ap (drop hash_rest) behind_at ∙ drop_front hash_rest rest others (sym long_rest) in
+    let rest_at : take k (drop s private) ≡ rest = ap (take k) behind_at ∙ take_front k rest others (sym long_rest) in
+    let rests_at : drop (s + k) private ≡ others =
+    sym (drop_twice s k private) ∙ ap (drop k) behind_at ∙ drop_front k rest others (sym long_rest) in
     record {
       shown = record {
         bytes = record { size_is = size; bytes_are = bytes };
@@ -183,7 +183,7 @@ whole p m vs w bytes right =
       );
       satisfied = record {
         stated = subst (λ (T : Type 0). T) (λ i. AreStated (sym stated_at i) p.fields p.shows (sym numbers_at i) (sym own_at i)) r.stated;
-        hashed = subst (λ (T : Type 0). T) (λ i. AreSatisfying ops of_number p.size (sym words_at i) (sym front_at_ i ++ sym rest_at i)) (front_satisfies p.size m size few bytes);
+        hashed = subst (λ (T : Type 0). T) (λ i. AreHashing ops of_number p.size (sym words_at i) (sym front_at_ i ++ sym rest_at i)) (front_satisfies p.size m size bytes);
         pseudonyms = subst (λ (T : Type 0). T) (λ i. AreHashed p.fields p.shows (sym numbers_at i) (sym own_at i) (sym rests_at i)) (r.hashed idle);
       };
     }

@@ -7,17 +7,17 @@ ghost use Rattle.lzk_sha_circuit.specs.Digest.{digest_words};
 ghost use Rattle.lzk_policy.specs.Policies.{IsField, IsShowOf, suits};
 ghost use Rattle.lzk_policy_circuit.specs.Meaning as meaning;
 ghost use Rattle.lzk_policy_circuit.specs.Layout as layout;
-ghost use Rattle.lzk_policy_inputs.specs.Chosen.{numbers_of, joined};
+ghost use Rattle.lzk_policy_inputs.specs.Chosen.{numbers_of, pieces_of, joined};
 ghost use Rattle.lzk_policy_inputs.specs.Refused.{IsRight, AtAll};
 ghost use Rattle.lzk_policy_inputs.specs.Filled.{low_bits, order_bits, front_of, rest_of, own_of, hashed_of};
 
 use crate::check::field_of;
-use crate::value::{Value, chosen_number, own_number};
+use crate::value::{Value, chosen_number, chosen_piece, own_number};
 use lzk_field::Field;
 use lzk_gadgets::spelling;
 use lzk_goldilocks::Gold;
 use lzk_policy::{Claim, Policy, RecordField, Show, number_at};
-use lzk_sha_circuit::sha_inputs;
+use lzk_sha_blocks::digest_inputs;
 use std::alloc::{AllocError, Global};
 
 /// The inputs so far.
@@ -71,6 +71,27 @@ fn pseudonym_message(
     Ok(message)
 }
 
+// The message whose digest the bytes of a sealed field are.
+fn seal_message(alloc: Global, secret: &[u8; 16]) -> Result<Vec<u8>, AllocError>
+    ensures message { IfOk result (λ m. m.items ≡ meaning.seal_message secret.now) }
+    ensures size { IfOk result (λ m. length m.items ≡ 20) }
+{
+    let mut message = Vec::from_slice(alloc, b"LZS1")?;
+    message.extend_from_slice(secret)?;
+    Ok(message)
+}
+
+// The message whose digest is the pseudonym of a secret for the service with a tag.
+fn sealed_message(alloc: Global, secret: &[u8; 16], tag: &[u8; 16]) -> Result<Vec<u8>, AllocError>
+    ensures message { IfOk result (λ m. m.items ≡ meaning.sealed_message secret.now tag.now) }
+    ensures size { IfOk result (λ m. length m.items ≡ 36) }
+{
+    let mut message = Vec::from_slice(alloc, b"LZP1")?;
+    message.extend_from_slice(secret)?;
+    message.extend_from_slice(tag)?;
+    Ok(message)
+}
+
 impl Draft {
     /// No inputs.
     pub fn new(alloc: Global) -> Draft
@@ -95,6 +116,30 @@ impl Draft {
         Ok(())
     }
 
+    // Appends the numbers of a long text that is told.
+    fn append_pieces(
+        &mut self,
+        bytes: &[u8],
+        field: &RecordField,
+        value: &Value,
+    ) -> Result<(), AllocError>
+        requires few { length bytes.now ≤ 119 }
+        requires within { field.now.place + field.now.size ≤ length bytes.now }
+        ensures public { OnOk result (self.new.public.items
+            ≡ self.old.public.items ++ map of_number (pieces_of bytes.now field.now value.now)) }
+        ensures stated { self.new.stated.items ≡ self.old.stated.items }
+        ensures hashed { self.new.hashed.items ≡ self.old.hashed.items }
+    {
+        let pieces = [
+            Gold::of_word(u128::from(chosen_piece(bytes, field, value, 0))),
+            Gold::of_word(u128::from(chosen_piece(bytes, field, value, 1))),
+            Gold::of_word(u128::from(chosen_piece(bytes, field, value, 2))),
+            Gold::of_word(u128::from(chosen_piece(bytes, field, value, 3))),
+            Gold::of_word(u128::from(chosen_piece(bytes, field, value, 4))),
+        ];
+        self.public.extend_from_slice(&pieces)
+    }
+
     // Appends a date that is told, and the bits of a difference and of the date.
     fn append_order(
         &mut self,
@@ -116,7 +161,7 @@ impl Draft {
 
     /// Appends the words of a message's digest, the message's bits and the rest of its hash.
     pub fn append_hash(&mut self, alloc: Global, message: &[u8]) -> Result<(), AllocError>
-        requires { length message.now ≤ 55 }
+        requires { length message.now ≤ 119 }
         ensures public { OnOk result
             (self.new.public.items ≡ self.old.public.items ++ map of_number (digest_words message.now)) }
         ensures stated { OnOk result
@@ -124,7 +169,7 @@ impl Draft {
         ensures hashed { OnOk result
             (self.new.hashed.items ≡ self.old.hashed.items ++ rest_of (length message.now) message.now) }
     {
-        let inputs = sha_inputs(alloc, message)?;
+        let inputs = digest_inputs(alloc, message)?;
         let (front, rest) = inputs.private.split_at(8 * message.len());
         self.public.extend_from_slice(&inputs.public)?;
         self.stated.extend_from_slice(front)?;
@@ -155,6 +200,48 @@ impl Draft {
         Ok(())
     }
 
+    // Appends the bits of a seal's message, the words of its digest and the rest of its hash.
+    fn append_seal(&mut self, alloc: Global, secret: &[u8; 16]) -> Result<(), AllocError>
+        ensures public { self.new.public.items ≡ self.old.public.items }
+        ensures stated { OnOk result (self.new.stated.items ≡ self.old.stated.items
+            ++ (front_of 20 (meaning.seal_message secret.now)
+            ++ map of_number (digest_words (meaning.seal_message secret.now)))) }
+        ensures hashed { OnOk result (self.new.hashed.items
+            ≡ self.old.hashed.items ++ rest_of 20 (meaning.seal_message secret.now)) }
+    {
+        let message = seal_message(alloc, secret)?;
+        let inputs = digest_inputs(alloc, &message)?;
+        let (front, rest) = inputs.private.split_at(160);
+        self.stated.extend_from_slice(front)?;
+        self.stated.extend_from_slice(&inputs.public)?;
+        self.hashed.extend_from_slice(rest)
+    }
+
+    // Appends a service's tag, the pseudonym of a secret for it, and the seal of the secret.
+    fn append_sealed(
+        &mut self,
+        alloc: Global,
+        tag: &[u8; 16],
+        secret: &[u8; 16],
+    ) -> Result<(), AllocError>
+        ensures public { OnOk result (self.new.public.items ≡ self.old.public.items
+            ++ (map of_number (meaning.tag_words tag.now)
+            ++ map of_number (digest_words (meaning.sealed_message secret.now tag.now)))) }
+        ensures stated { OnOk result (self.new.stated.items ≡ self.old.stated.items
+            ++ ((front_of 20 (meaning.seal_message secret.now)
+            ++ map of_number (digest_words (meaning.seal_message secret.now)))
+            ++ front_of 36 (meaning.sealed_message secret.now tag.now))) }
+        ensures hashed { OnOk result (self.new.hashed.items ≡ self.old.hashed.items
+            ++ (rest_of 20 (meaning.seal_message secret.now)
+            ++ rest_of 36 (meaning.sealed_message secret.now tag.now))) }
+    {
+        let message = sealed_message(alloc, secret, tag)?;
+        self.append_seal(alloc, secret)?;
+        self.public.extend_from_slice(&tag_numbers(tag))?;
+        self.append_hash(alloc, &message)?;
+        Ok(())
+    }
+
     // Appends the inputs of what is shown of a field.
     fn append_claim(
         &mut self,
@@ -164,6 +251,7 @@ impl Draft {
         claim: &Claim,
         value: &Value,
     ) -> Result<(), AllocError>
+        requires few { length bytes.now ≤ 119 }
         requires field { IsField (length bytes.now) field.now }
         requires suits { IsTrue (suits field.now claim.now) }
         requires right { IsRight bytes.now field.now claim.now value.now }
@@ -184,9 +272,14 @@ impl Draft {
                 self.append_order(alloc, own_number(bytes, field) - number, number)
             }
             Claim::Equal(_) => self.append_number(chosen_number(bytes, field, value)),
+            Claim::Spelled(_) => self.append_pieces(bytes, field, value),
             Claim::OneOf(_) => Ok(()),
             Claim::Pseudonym(_) => match value {
                 Value::Tag(tag) => self.append_pseudonym(alloc, bytes, field, tag),
+                _ => Ok(()),
+            },
+            Claim::Sealed(_) => match value {
+                Value::Sealed(tag, secret) => self.append_sealed(alloc, tag, secret),
                 _ => Ok(()),
             },
         }
@@ -217,6 +310,8 @@ impl Draft {
         let Some((value, behind)) = values.split_first() else {
             return Ok(());
         };
+        // That a record has few bytes is learnt where the size is read.
+        let _size = policy.size();
         let field = field_of(policy, show);
         self.append_claim(alloc, bytes, field, &show.claim, value)?;
         self.append_shows(alloc, policy, bytes, others, behind)?;

@@ -2,24 +2,37 @@
 
 ghost use Rattle.std.specs.Prelude.{◌≡◌, ℕ, ◌<◌, ◌≤◌, ◌+◌, ◌↔◌, IsTrue, IfOk, IfErr, length, slice_get, Some};
 ghost use Rattle.lzk_policy.specs.Policies.{IsPolicy, IsField, IsShowOf, suits};
-ghost use Rattle.lzk_policy_circuit.specs.Meaning.{AreBytesOf, IsTrueOf};
-ghost use Rattle.lzk_policy_inputs.specs.Chosen.{HasKind, numbers_of};
-ghost use Rattle.lzk_policy_inputs.specs.Refused.{IsRightBefore, IsRefused};
+ghost use Rattle.lzk_policy_inputs.specs.Chosen.{HasKind};
+ghost use Rattle.lzk_policy_inputs.specs.Refused.{AreOwnPieces, IsTrueWith, IsRightBefore, IsRefused};
 
 use crate::error::InputsError;
-use crate::value::{Value, chosen_number, has_kind, own_number};
+use crate::seal::is_seal_of;
+use crate::value::{Value, chosen_number, has_kind, is_own_piece, own_number};
 use lzk_policy::{Claim, Policy, RecordField, Show};
 
 /// How many numbers there are of four bytes.
 const DATES: u64 = 1 << 32;
 
+// Whether a field's text is the one that is chosen.
+fn are_own_pieces(bytes: &[u8], field: &RecordField, value: &Value) -> bool
+    requires few { length bytes.now ≤ 119 }
+    requires within { field.now.place + field.now.size ≤ length bytes.now }
+    ensures { IsTrue result ↔ AreOwnPieces bytes.now field.now value.now }
+{
+    is_own_piece(bytes, field, value, 0)
+        && is_own_piece(bytes, field, value, 1)
+        && is_own_piece(bytes, field, value, 2)
+        && is_own_piece(bytes, field, value, 3)
+        && is_own_piece(bytes, field, value, 4)
+}
+
 /// Whether what is shown of a field is true of the record with its value.
 pub fn is_true(bytes: &[u8], field: &RecordField, claim: &Claim, value: &Value) -> bool
+    requires few { length bytes.now ≤ 119 }
     requires field { IsField (length bytes.now) field.now }
     requires suits { IsTrue (suits field.now claim.now) }
     requires kind { HasKind claim.now value.now }
-    ensures { IsTrue result ↔ IsTrueOf bytes.now field.now claim.now
-        (numbers_of bytes.now field.now claim.now value.now) }
+    ensures { IsTrue result ↔ IsTrueWith bytes.now field.now claim.now value.now }
 {
     match claim {
         Claim::AtMost(_) => {
@@ -28,8 +41,13 @@ pub fn is_true(bytes: &[u8], field: &RecordField, claim: &Claim, value: &Value) 
         }
         Claim::AtLeast(_) => chosen_number(bytes, field, value) <= own_number(bytes, field),
         Claim::Equal(_) => chosen_number(bytes, field, value) == own_number(bytes, field),
+        Claim::Spelled(_) => are_own_pieces(bytes, field, value),
         Claim::OneOf(texts) => texts.numbers().contains(&own_number(bytes, field)),
         Claim::Pseudonym(_) => true,
+        Claim::Sealed(_) => match value {
+            Value::Sealed(_, secret) => is_seal_of(bytes, field, secret),
+            _ => false,
+        },
     }
 }
 

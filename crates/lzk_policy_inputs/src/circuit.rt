@@ -17,7 +17,7 @@ pub fn satisfied_circuit(
     policy: &Policy,
 ) -> Result<Circuit<Gold>, PolicyCircuitError>
     ensures circuit { IfOk result (λ c. IsCircuitOf policy.now c) }
-    ensures cause { IfErr result IsPolicyCause }
+    ensures cause { IfErr result (IsPolicyCause policy.now) }
 {
     policy_circuit(alloc, policy)
 }

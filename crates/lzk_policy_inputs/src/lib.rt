@@ -18,6 +18,7 @@ mod check;
 mod circuit;
 mod error;
 mod inputs;
+mod seal;
 mod value;
 
 pub use circuit::satisfied_circuit;

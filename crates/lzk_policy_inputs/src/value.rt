@@ -1,14 +1,16 @@
 //! What goes with what is shown.
 
-ghost use Rattle.std.specs.Prelude.{◌≡◌, ◌≤◌, ◌+◌, ◌↔◌, IsTrue, length};
+ghost use Rattle.std.specs.Prelude.{◌≡◌, ◌<◌, ◌≤◌, ◌+◌, ◌↔◌, IsTrue, length};
 ghost use Rattle.lzk_policy_circuit.specs.Meaning as meaning;
 ghost use Rattle.lzk_policy_circuit.specs.Meaning.{AreBytesOf};
 ghost use Rattle.lzk_policy_inputs.specs.Chosen as chosen;
 ghost use Rattle.lzk_policy_inputs.specs.Chosen.{HasKind, IsNumber};
+ghost use Rattle.lzk_policy_inputs.specs.Refused.{IsOwnPiece};
 
 use lzk_field::Field;
 use lzk_goldilocks::Gold;
 use lzk_policy::{Claim, RecordField, number_at};
+use lzk_policy_circuit::{piece_size, piece_start};
 
 /// What goes with one thing that is shown.
 #[derive(Clone, Copy, Debug, PartialEq, Eq)]
@@ -17,6 +19,10 @@ pub enum Value {
     Number(u64),
     /// A service's tag.
     Tag([u8; 16]),
+    /// A service's tag, and the secret that a field seals.
+    Sealed([u8; 16], [u8; 16]),
+    /// The five numbers of a text of more than seven bytes that is told.
+    Spelled([u64; 5]),
     /// None is chosen: the record's own number is told, or a text is one of some.
     Own,
 }
@@ -28,11 +34,13 @@ fn is_number(value: &Value) -> bool
     match value {
         Value::Number(n) => Gold::of_number(u128::from(*n)).is_some(),
         Value::Tag(_) => false,
+        Value::Sealed(_, _) => false,
+        Value::Spelled(_) => false,
         Value::Own => false,
     }
 }
 
-// Whether bytes are a tag: sixteen are.
+// Whether bytes are a tag, or a secret: sixteen are.
 fn is_tag(bytes: &[u8]) -> bool
     ensures { IsTrue result ↔ AreBytesOf 16 bytes.now }
 {
@@ -47,9 +55,14 @@ pub fn has_kind(claim: &Claim, value: &Value) -> bool
         Claim::AtMost(_) => is_number(value),
         Claim::AtLeast(_) => is_number(value),
         Claim::Equal(_) => is_number(value) || matches!(value, Value::Own),
+        Claim::Spelled(_) => matches!(value, Value::Spelled(_) | Value::Own),
         Claim::OneOf(_) => matches!(value, Value::Own),
         Claim::Pseudonym(_) => match value {
             Value::Tag(tag) => is_tag(tag),
+            _ => false,
+        },
+        Claim::Sealed(_) => match value {
+            Value::Sealed(tag, secret) => is_tag(tag) && is_tag(secret),
             _ => false,
         },
     }
@@ -74,4 +87,38 @@ pub fn chosen_number(bytes: &[u8], field: &RecordField, value: &Value) -> u64
         Value::Number(n) => *n,
         _ => own_number(bytes, field),
     }
+}
+
+// The number of piece `k` of a field of the record.
+fn own_piece(bytes: &[u8], field: &RecordField, k: u32) -> u64
+    requires piece { k < 5 }
+    requires few { length bytes.now ≤ 119 }
+    requires within { field.now.place + field.now.size ≤ length bytes.now }
+    ensures { result ≡ meaning.piece_number bytes.now field.now k }
+{
+    let start = field.place + piece_start(field.size, k);
+    number_at(bytes, start, piece_size(field.size, k))
+}
+
+/// The number of piece `k` of the text that is chosen, or the record's own.
+pub fn chosen_piece(bytes: &[u8], field: &RecordField, value: &Value, k: u32) -> u64
+    requires piece { k < 5 }
+    requires few { length bytes.now ≤ 119 }
+    requires within { field.now.place + field.now.size ≤ length bytes.now }
+    ensures { result ≡ chosen.piece_of bytes.now field.now value.now k }
+{
+    match value {
+        Value::Spelled(numbers) => numbers[k as usize],
+        _ => own_piece(bytes, field, k),
+    }
+}
+
+/// Whether it is the record's own.
+pub fn is_own_piece(bytes: &[u8], field: &RecordField, value: &Value, k: u32) -> bool
+    requires piece { k < 5 }
+    requires few { length bytes.now ≤ 119 }
+    requires within { field.now.place + field.now.size ≤ length bytes.now }
+    ensures { IsTrue result ↔ IsOwnPiece bytes.now field.now value.now k }
+{
+    chosen_piece(bytes, field, value, k) == own_piece(bytes, field, k)
 }

@@ -11,14 +11,15 @@ use Rattle.lzk_circuit.specs.Checks.{IsSatisfied}
 use Rattle.lzk_goldilocks.specs.Elements as elements
 use Rattle.lzk_policy.specs.Policies.{Contents, IsPolicy}
 use Rattle.lzk_policy_circuit.specs.Layout as layout
-use Rattle.lzk_policy_circuit.specs.Layout.{needed_count}
+use Rattle.lzk_policy_circuit.specs.Held.{AreSecretsHeld}
+use Rattle.lzk_policy_circuit.specs.Layout.{needed_count, stated_count}
 use Rattle.lzk_policy_circuit.specs.Meaning.{values_of}
 use Rattle.lzk_policy_circuit.proofs.Whole.{satisfied_held, padded_most}
 use Rattle.lzk_sha_path.proofs.Climbing.{climb_forward}
 use Rattle.lzk_policies.specs.Rooted.{IsShownUnder}
 use Rattle.lzk_policies.specs.Depths.{SatisfyAt, private_count}
 use Rattle.lzk_policies.proofs.Depths.{shown_none, shown_some}
-use Rattle.lzk_policies.proofs.Under.{shown_under}
+use Rattle.lzk_policies.proofs.Under.{shown_under, words_behind}
 use Rattle.lzk_soundness.specs.Extract.Extraction.{extracted}
 use Rattle.lzk_soundness.proofs.ExtractLaws.Decoding.{extracted_count}
 use Rattle.lzk_soundness.specs.Count.Game.{Strategy}
@@ -34,6 +35,9 @@ use Rattle.lzk_policy_known.proofs.Known.{large, whole}
 bits_inside : (p : Contents) → 8 * p.size ≤ layout.private_count p
 bits_inside p = omega (arith, padded_most (needed_count p))
 
+stated_inside : (p : Contents) → stated_count p ≤ layout.private_count p
+stated_inside p = omega (arith, padded_most (needed_count p))
+
 pub under_held : RecordsUnderAreHeld
 under_held = λ p depth root values private w some lr lv lp h.
     let n = layout.private_count p in
@@ -45,13 +49,24 @@ under_held = λ p depth root values private w some lr lv lp h.
       m = r.m;
       shown = shown_under p depth root values digest eight r.m r.shown climb;
       bits = sym (take-take (8 * p.size) n private (bits_inside p)) ∙ r.bits;
+      secrets =
+          let own = take-take (stated_count p) n private (stated_inside p) in
+          let numbers = words_behind digest values eight in
+          subst (λ (T : Type 0). T) (λ i. AreSecretsHeld r.m p.fields p.shows (numbers i) (drop (8 * p.size) (own i))) r.secrets;
+      satisfied = h;
     }
 
 module _ (p : Contents) (words values private : List Gold) (w : IsPolicy p) (lw : length words ≡ 8) (lv : length values ≡ values_of p.shows) where
   held_none : p.depth ≡ 0 → length private ≡ layout.private_count p → SatisfyAt 0 p words values private → HoldsShown p words values private
   held_none none lp h =
       let r = satisfied_held p (words ++ values) private w (omega (arith, length-append words values, lw, lv)) lp h in
-      record { m = r.m; shown = shown_none p r.m words values none lw r.shown; bits = r.bits }
+      record {
+        m = r.m;
+        shown = shown_none p r.m words values none lw r.shown;
+        bits = r.bits;
+        secrets = subst (λ (l : List Gold). AreSecretsHeld r.m p.fields p.shows l (drop (8 * p.size) (take (stated_count p) private))) (words_behind words values lw) r.secrets;
+        satisfied = subst (λ (d : ℕ). SatisfyAt d p words values private) (sym none) h;
+      }
 
   held_at : (d : ℕ) → p.depth ≡ d → length private ≡ private_count d p → SatisfyAt d p words values private → HoldsShown p words values private
   held_at zero is lp h = held_none is lp h
@@ -61,6 +76,8 @@ module _ (p : Contents) (words values private : List Gold) (w : IsPolicy p) (lw 
         m = r.m;
         shown = shown_some p r.m words values (omega (arith, is)) (subst (λ (k : ℕ). IsShownUnder p k r.m words values) (sym is) r.shown);
         bits = r.bits;
+        secrets = r.secrets;
+        satisfied = subst (λ (d : ℕ). SatisfyAt d p words values private) (sym is) h;
       }
 
 held_where_known : (policy : Contents) (c : Wiring Gold) (public : List Gold) (strategy : Strategy Gold) (wins : List Gold → List ℕ → Bool) → IsCredentialOf policy c → IsPlayer ops gold_coding c public strategy wins

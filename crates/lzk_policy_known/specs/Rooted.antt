@@ -6,6 +6,8 @@ use Rattle.lzk_circuit.specs.Valid.{Wiring}
 use Rattle.lzk_circuit.specs.Wires.{inputs_of}
 use Rattle.lzk_circuit.specs.Checks.{IsSatisfied}
 use Rattle.lzk_policy.specs.Policies.{Contents, IsPolicy}
+use Rattle.lzk_policy_circuit.specs.Held.{AreSecretsHeld}
+use Rattle.lzk_policy_circuit.specs.Layout.{stated_count}
 use Rattle.lzk_policy_circuit.specs.Meaning.{public_count, values_of}
 use Rattle.lzk_sha_circuit.specs.Digest.{message_bits}
 use Rattle.lzk_policies.specs.Rooted.{IsShownUnder, SatisfyUnder}
@@ -18,11 +20,15 @@ use Rattle.lzk_soundness.specs.Count.Numbers.{SaysYesByOneIn}
 use Rattle.lzk_policy_known.specs.Known.{gold_coding}
 
 -- The private inputs begin with the bits of m, byte by byte, and m is a record whose digest is a leaf under the root,
--- of which all that is shown is true. The bits of two records are not the same, so it is the only one.
+-- of which all that is shown is true. The bits of two records are not the same, so it is the only one. Behind them
+-- stand those of the sealed secrets of which a pseudonym is shown. They satisfy the circuit, so that the bits of the
+-- nodes by which the digest leads to the root stand there too.
 pub record HoldsUnder (p : Contents) (depth : ℕ) (root values private : List Gold) : Type 0 where
   pub m : List ℕ
   pub shown : IsShownUnder p depth m root values
   pub bits : take (8 * p.size) private ≡ map of_number (message_bits m)
+  pub secrets : AreSecretsHeld m p.fields p.shows values (drop (8 * p.size) (take (stated_count p) private))
+  pub satisfied : SatisfyUnder p depth root values private
 
 -- private inputs that satisfy the circuit of a record under a root hold one
 abbrev pub RecordsUnderAreHeld : Type 0
@@ -36,6 +42,8 @@ pub record HoldsShown (p : Contents) (words values private : List Gold) : Type 0
   pub m : List ℕ
   pub shown : IsShownBy p m words values
   pub bits : take (8 * p.size) private ≡ map of_number (message_bits m)
+  pub secrets : AreSecretsHeld m p.fields p.shows values (drop (8 * p.size) (take (stated_count p) private))
+  pub satisfied : SatisfyAt p.depth p words values private
 
 -- a circuit of the policy, as far as the clauses of `credential_circuit` say
 pub record IsCredentialOf (policy : Contents) (c : Wiring Gold) : Type 0 where

@@ -11,7 +11,6 @@ ghost use Rattle.lzk_sha_circuit.specs.Outputs.{AreCompressing};
 ghost use Rattle.lzk_sha_blocks.specs.Layout.{blocks, private_count, given_count, block_places};
 ghost use Rattle.lzk_sha_blocks.specs.Hashed.{IsBlockSatisfied, AreHashing};
 ghost use Rattle.lzk_sha_blocks.specs.Causes.{IsCause};
-ghost use Rattle.lzk_sha_blocks.specs.declared.error.DigestError.TheVariants.{TooLong};
 
 use crate::error::DigestError;
 use crate::given::block_given;
@@ -48,6 +47,7 @@ fn with_block(
     seen: &[u32],
 ) -> Result<Circuit<Gold>, DigestError>
     requires few { len ≤ 503 }
+    requires long { 55 < len }
     requires block { i < blocks len }
     requires version { before.now.version ≡ 1 }
     requires count { length seen.now ≡ before.now.publics + before.now.privates }
@@ -61,7 +61,7 @@ fn with_block(
         IsSatisfied ops number circuit.layers inputs
         ↔ (IsSatisfied ops number before.now.layers (chosen ops seen.now inputs)
         × IsBlockSatisfied ops of_number len inputs i)) }
-    ensures cause { IfErr result (λ e. e ≡ TooLong → ⊥) }
+    ensures cause { IfErr result (IsCause len) }
 {
     let Ok(next) = block_circuit(alloc, len, i) else {
         return Err(DigestError::OutOfMemory);

@@ -6,6 +6,7 @@ ghost use Rattle.sha2.specs.Sha256.{compress};
 ghost use Rattle.lzk_sha_circuit.specs.Digest.{HaveDigest, digest_words};
 ghost use Rattle.lzk_sha_circuit.specs.Inputs.{compression_private};
 ghost use Rattle.lzk_sha_blocks.specs.Hashed.{AreHashing};
+ghost use Rattle.lzk_sha_blocks.specs.Layout.{private_count};
 ghost use Rattle.lzk_sha_blocks.specs.Witness.{digest_private};
 
 use lzk_goldilocks::Gold;
@@ -40,6 +41,7 @@ pub fn digest_inputs(alloc: Global, message: &[u8]) -> Result<ShaInputs, AllocEr
     requires { length message.now ≤ 503 }
     ensures public { IfOk result (λ inputs. inputs.public.items ≡ map of_number (digest_words message.now)) }
     ensures private { IfOk result (λ inputs. inputs.private.items ≡ digest_private of_number message.now) }
+    ensures privates { IfOk result (λ inputs. length inputs.private.items ≡ private_count (length message.now)) }
     ensures satisfying { IfOk result (λ inputs.
         AreHashing ops of_number (length message.now) inputs.public.items inputs.private.items) }
     ensures digest { IfOk result (λ inputs.

@@ -1,22 +1,24 @@
 -- Two ways to one root: they stay together from the root down, or collide.
-use Rattle.std.proofs.Common.{◌≡◌, ℕ, ◌+◌, ◌-◌, ◌*◌, ◌/◌, ◌%◌, ◌^◌, ◌<◌, ◌≤◌, List, [], ◌∷◌, length, map, take, zero, suc, refl, sym, ap, subst, ◌∙◌, arith, inl, inr, slice_index, mod-lt, ext_get_or, get_or-append-add}
+use Rattle.std.proofs.Common.{◌≡◌, ℕ, ◌+◌, ◌-◌, ◌*◌, ◌/◌, ◌%◌, ◌^◌, ◌<◌, ◌≤◌, List, [], ◌∷◌, ◌++◌, append_assoc, length, map, take, zero, suc, refl, sym, ap, subst, ◌∙◌, arith, inl, inr, slice_index, mod-lt, ext_get_or, get_or-append-add}
 use Rattle.std.specs.Prelude.{◌≢◌, ◌⊎◌, Bool, true, false, if◌then◌else◌, nat_lt, replicate}
 use Rattle.std.specs.Int.{w64, to_be_bytes}
-use Rattle.std.specs.List.{Contains}
+use Rattle.std.specs.List.{Contains, range_with_len}
 use Rattle.std.proofs.Math.Arith.{mod-mul}
 use Rattle.std.proofs.Math.Nat.{pow-suc, div-div-eq-div-mul, div-one, mul_comm, mul-div_cancel, mul-lt-mul_of_pos_right, mod-eq_of_lt}
 use Rattle.std.proofs.Math.Seq.{take-append_seam}
 use Rattle.std.proofs.lemmas.Bool.{cases_eq, cases_lt}
 use Rattle.std.proofs.lemmas.List.{length-replicate}
+use Rattle.std.proofs.lemmas.List.FromFn.{map-range_with_len_more}
 use Rattle.std.proofs.lemmas.Nat.{pow_pos, pow-add}
-use Rattle.sha2.specs.Sha256.{initial_hash_256, padded_message, padding, word_at}
+use Rattle.sha2.specs.Sha256.{initial_hash_256, padded_message, padding, word_at, hash_after}
 use Rattle.lzk_goldilocks.specs.Elements.{of_number}
 use Rattle.lzk_sha_circuit.specs.Compression.{IsState}
 use Rattle.lzk_sha_circuit.specs.Digest.{digest_words}
-use Rattle.lzk_sha_circuit.proofs.Compressed.{length-compress}
-use Rattle.lzk_sha_circuit.proofs.Messages.{compress_below, digest_words_are}
+use Rattle.lzk_sha_blocks.specs.Layout.{blocks}
+use Rattle.lzk_sha_blocks.specs.Witness as hashed
+use Rattle.lzk_sha_blocks.proofs.Steps.{is_state, next_state, digest_words_are, length-padded, block_at}
 use Rattle.lzk_sha_path.specs.Roots.{block_of, node_state, node_of, parent_of, root_of, AreNodes}
-use Rattle.lzk_sha_path.specs.Trees.{Compressed, state_after, of_record, of_nodes, of_pair, way_up, way_of, Collide, RecordsAreLeaves, OnlyIssuedLead, OnlyIssuedClimb}
+use Rattle.lzk_sha_path.specs.Trees.{Compressed, state_after, of_block, of_record, of_nodes, of_pair, way_up, way_of, Collide, LeadsToNodes, Break, RecordsAreLeaves, OnlyIssuedLead, OnlyIssuedClimb}
 use Rattle.lzk_sha_path.proofs.Blocks.{left_word, right_word}
 use Rattle.lzk_sha_path.proofs.Climbing.{same_state, parent_state}
 
@@ -118,11 +120,8 @@ pairs_same i j node sibling other beside hn hs ho hb side e =
     choices_same (nat_lt (i % 2) 1) node sibling other beside hn hs ho hb
     (e ∙ ap (λ m. if nat_lt m 1 then of_nodes other beside else of_nodes beside other) (sym side))
 
-digest_state : (m : List ℕ) → length m ≤ 55 → IsState (digest_words m)
-digest_state m short =
-    let eight = length-compress initial_hash_256 (padded_message m) in
-    subst IsState (sym (digest_words_are m short))
-    (record { eight = eight; words = λ k lt. compress_below initial_hash_256 (padded_message m) k (omega (arith, eight, lt)) })
+digest_state : (m : List ℕ) → IsState (digest_words m)
+digest_state m = subst IsState (sym (digest_words_are m)) (is_state m (blocks (length m)))
 
 root_state : (node : List ℕ) (index : ℕ) (siblings : List (List ℕ)) → IsState node → IsState (root_of node index siblings)
 root_state node index [] is = is
@@ -165,60 +164,176 @@ together a b i j (s ∷ ss) (t ∷ ts) ha hb hs ht l p e =
       ]
     ]
 
--- a record, and something else whose way is as long or longer
-under : (k : ℕ) (one other : Compressed) (a b : List ℕ) (i j : ℕ) (ss ts : List (List ℕ)) → one.state ≡ initial_hash_256 → state_after one ≡ a → state_after other ≡ b
+-- something, and something else whose way is as long or longer
+under : (k : ℕ) (one other : Compressed) (a b : List ℕ) (i j : ℕ) (ss ts : List (List ℕ)) → state_after one ≡ a → state_after other ≡ b
     → IsState a → IsState b → AreNodes ss → AreNodes ts → length ts ≡ k + length ss → j / 2 ^ k % 2 ^ length ss ≡ i % 2 ^ length ss → root_of a i ss ≡ root_of b j ts
-    → ((k ≡ 0) × (one ≡ other)) ⊎ Collide (one ∷ way_up a i ss) (other ∷ way_up b j ts)
-under zero one other a b i j ss ts es ea eb ha hb hs ht l p e =
+    → (((k ≡ 0) × (one ≡ other)) ⊎ (one.state ≡ node_state)) ⊎ Collide (one ∷ way_up a i ss) (other ∷ way_up b j ts)
+under zero one other a b i j ss ts ea eb ha hb hs ht l p e =
     let here : j / 2 ^ 0 ≡ j = div-one j in
     elim (together a b i j ss ts ha hb hs ht (omega (arith, l)) (ap (λ n. n % 2 ^ length ss) (sym here) ∙ p) e) [
       | inr c ↦ inr (both_longer one other (way_up a i ss) (way_up b j ts) c)
       | inl same ↦ elim (first_same one other (way_up a i ss) (way_up b j ts) (ea ∙ same ∙ sym eb)) [
-        | inl pair ↦ inl (refl, pair)
+        | inl pair ↦ inl (inl (refl, pair))
         | inr c ↦ inr c
       ]
     ]
-under (suc k) one other a b i j ss [] es ea eb ha hb hs ht l p e = absurd (omega (arith, l))
-under (suc k) one other a b i j ss (t ∷ ts) es ea eb ha hb hs ht l p e =
+under (suc k) one other a b i j ss [] ea eb ha hb hs ht l p e = absurd (omega (arith, l))
+under (suc k) one other a b i j ss (t ∷ ts) ea eb ha hb hs ht l p e =
     let next = of_pair j b t in
     let way = one ∷ way_up a i ss in
-    elim (under k one next a (parent_of j b t) i (j / 2) ss ts es ea (pair_after j b t) ha (parent_state j b t) hs ht.1 (omega (arith, l)) (ap (λ n. n % 2 ^ length ss) (half_of j k) ∙ p) e) [
+    elim (under k one next a (parent_of j b t) i (j / 2) ss ts ea (pair_after j b t) ha (parent_state j b t) hs ht.1 (omega (arith, l)) (ap (λ n. n % 2 ^ length ss) (half_of j k) ∙ p) e) [
       | inr c ↦ inr (longer other way (next ∷ way_up (parent_of j b t) (j / 2) ts) c)
-      | inl s ↦ absurd (states_differ (sym es ∙ ap (λ (c : Compressed). c.state) s.1 ∙ pair_state j b t))
+      | inl s ↦ elim s [
+        | inl pair ↦ inl (inr (ap (λ (c : Compressed). c.state) pair.1 ∙ pair_state j b t))
+        | inr nodes ↦ inl (inr nodes)
+      ]
     ]
 
+-- ---- records, block by block
+
+abbrev last_of : List ℕ → Compressed
+last_of m = of_block m (blocks (length m) - 1)
+
+abbrev before_last : List ℕ → List Compressed
+before_last m = map (of_block m) (range_with_len 0 (blocks (length m) - 1))
+
+record_parts : (m : List ℕ) → of_record m ≡ before_last m ++ last_of m ∷ []
+record_parts m =
+    let n = blocks (length m) - 1 in
+    let all : blocks (length m) ≡ n + 1 = omega arith in
+    ap (λ k. map (of_block m) (range_with_len 0 k)) all ∙ map-range_with_len_more (of_block m) 0 n n (omega arith)
+
+last_after : (m : List ℕ) → state_after (last_of m) ≡ digest_words m
+last_after m =
+    let n = blocks (length m) - 1 in
+    let all : suc n ≡ blocks (length m) = omega arith in
+    next_state m n ∙ ap (hashed.state_of m) all ∙ sym (digest_words_are m)
+
+state_first : (m : List ℕ) → hashed.state_of m 0 ≡ initial_hash_256
+unfolding hash_after
+state_first m = refl
+
+-- what collides behind the blocks before the last ones
+behind : (fronts way others : List Compressed) → Collide way others → Collide (fronts ++ way) others
+behind [] way others c = c
+behind (f ∷ fronts) way others c =
+    swapped others (f ∷ (fronts ++ way)) (longer f others (fronts ++ way) (swapped (fronts ++ way) others (behind fronts way others c)))
+
+ways_longer : (m other : List ℕ) (way others : List Compressed) → Collide (last_of m ∷ way) (last_of other ∷ others) → Collide (of_record m ++ way) (of_record other ++ others)
+ways_longer m other way others c =
+    let one : of_record m ++ way ≡ before_last m ++ (last_of m ∷ way) = ap (λ l. l ++ way) (record_parts m) ∙ append_assoc (before_last m) (last_of m ∷ []) way in
+    let two : of_record other ++ others ≡ before_last other ++ (last_of other ∷ others) = ap (λ l. l ++ others) (record_parts other) ∙ append_assoc (before_last other) (last_of other ∷ []) others in
+    let first = behind (before_last m) (last_of m ∷ way) (last_of other ∷ others) c in
+    let second = behind (before_last other) (last_of other ∷ others) (before_last m ++ (last_of m ∷ way)) (swapped (before_last m ++ (last_of m ∷ way)) (last_of other ∷ others) first) in
+    subst (λ (T : Type 0). T) (λ i. Collide (sym one i) (sym two i)) (swapped (before_last other ++ (last_of other ∷ others)) (before_last m ++ (last_of m ∷ way)) second)
+
 -- ---- padded records
-end_byte : (m : List ℕ) (k : ℕ) → length m ≤ 55 → slice_index (padded_message m) (56 + k) ≡ slice_index (to_be_bytes w64 (length m * 8 % 2 ^ 64)) k
-end_byte m k short =
+end_byte : (m : List ℕ) (k : ℕ) → k < 8 → slice_index (last_of m).block (56 + k) ≡ slice_index (to_be_bytes w64 (length m * 8 % 2 ^ 64)) k
+end_byte m k few =
     let n = length m in
+    let i = blocks n - 1 in
     let zeros : List ℕ = replicate ((119 - n % 64) % 64) 0 in
     let bytes = to_be_bytes w64 (n * 8 % 2 ^ 64) in
     let long : length zeros ≡ (119 - n % 64) % 64 = length-replicate {A = ℕ} ((119 - n % 64) % 64) 0 in
-    let here : 56 + k ≡ n + (suc (length zeros) + k) = omega (arith, long, short) in
-    ap (slice_index (padded_message m)) here ∙ get_or-append-add m (padding n) (suc (length zeros) + k) 0 ∙ get_or-append-add (0x80 ∷ zeros) bytes k 0
+    let here : 64 * i + (56 + k) ≡ n + (suc (length zeros) + k) = omega (arith, long) in
+    block_at m i (56 + k) (omega (arith, few)) ∙ ap (slice_index (padded_message m)) here
+    ∙ get_or-append-add m (padding n) (suc (length zeros) + k) 0 ∙ get_or-append-add (0x80 ∷ zeros) bytes k 0
 
-counts_same : (x y : ℕ) → x ≤ 55 → y ≤ 55 → slice_index (to_be_bytes w64 (x * 8 % 2 ^ 64)) 6 ≡ slice_index (to_be_bytes w64 (y * 8 % 2 ^ 64)) 6
+counts_same : (x y : ℕ) → x ≤ 119 → y ≤ 119 → slice_index (to_be_bytes w64 (x * 8 % 2 ^ 64)) 6 ≡ slice_index (to_be_bytes w64 (y * 8 % 2 ^ 64)) 6
     → slice_index (to_be_bytes w64 (x * 8 % 2 ^ 64)) 7 ≡ slice_index (to_be_bytes w64 (y * 8 % 2 ^ 64)) 7 → x ≡ y
 counts_same x y lx ly high low =
     let h : x * 8 % 2 ^ 64 / 256 % 256 ≡ y * 8 % 2 ^ 64 / 256 % 256 = high in
     let l : x * 8 % 2 ^ 64 % 256 ≡ y * 8 % 2 ^ 64 % 256 = low in
     omega (arith, lx, ly, h, l)
 
-messages_same : (m other : List ℕ) → length m ≤ 55 → length other ≤ 55 → padded_message m ≡ padded_message other → m ≡ other
-messages_same m other short small e =
-    let high = sym (end_byte m 6 short) ∙ ap (λ l. slice_index l 62) e ∙ end_byte other 6 small in
-    let low = sym (end_byte m 7 short) ∙ ap (λ l. slice_index l 63) e ∙ end_byte other 7 small in
-    let n : length m ≡ length other = counts_same (length m) (length other) short small high low in
-    sym (take-append_seam m (padding (length m))) ∙ (λ i. take (n i) (e i)) ∙ take-append_seam other (padding (length other))
+-- records whose last blocks are the same have one length
+lengths_same : (m other : List ℕ) → length m ≤ 119 → length other ≤ 119 → (last_of m).block ≡ (last_of other).block → length m ≡ length other
+lengths_same m other short small e =
+    let high = sym (end_byte m 6 (omega arith)) ∙ ap (λ l. slice_index l 62) e ∙ end_byte other 6 (omega arith) in
+    let low = sym (end_byte m 7 (omega arith)) ∙ ap (λ l. slice_index l 63) e ∙ end_byte other 7 (omega arith) in
+    counts_same (length m) (length other) short small high low
+
+-- and are one record where all their blocks are the same
+messages_same : (m other : List ℕ) → length m ≡ length other → ((i : ℕ) → i < blocks (length m) → hashed.block_of m i ≡ hashed.block_of other i) → m ≡ other
+messages_same m other n same =
+    let long = length-padded m in
+    let padded : padded_message m ≡ padded_message other = ext_get_or 0 (padded_message m) (padded_message other) (long ∙ ap (λ k. 64 * blocks k) n ∙ sym (length-padded other)) (λ j l.
+    let i = j / 64 in
+    let k = j % 64 in
+    let few : k < 64 = omega arith in
+    let there : 64 * i + k ≡ j = omega arith in
+    let inside : i < blocks (length m) = omega (arith, l, long) in
+    ap (slice_index (padded_message m)) (sym there) ∙ sym (block_at m i k few) ∙ ap (λ b. slice_index b k) (same i inside) ∙ block_at other i k few ∙ ap (slice_index (padded_message other)) there) in
+    sym (take-append_seam m (padding (length m))) ∙ (λ i. take (n i) (padded i)) ∙ take-append_seam other (padding (length other))
+
+-- a record's last block alone leads to no nodes
+last_leads : (m : List ℕ) → length m ≤ 119 → (last_of m).state ≡ node_state → LeadsToNodes m
+last_leads m short e = elim (cases_lt (length m) 56) [
+  | inl less ↦
+      let first : blocks (length m) - 1 ≡ 0 = omega (arith, less) in
+      absurd (states_differ (sym (state_first m) ∙ ap (hashed.state_of m) (sym first) ∙ e))
+  | inr more ↦
+      let second : suc 0 ≡ blocks (length m) - 1 = omega (arith, more, short) in
+      (more, next_state m 0 ∙ ap (hashed.state_of m) second ∙ e)
+]
+
+-- records with one last block are one record, or their first blocks collide
+last_same : (m other : List ℕ) (way others : List Compressed) → length m ≤ 119 → length other ≤ 119 → last_of m ≡ last_of other → (m ≡ other) ⊎ Collide (of_record m ++ way) (of_record other ++ others)
+last_same m other way others short small e =
+    let blocks_are : (last_of m).block ≡ (last_of other).block = ap (λ (c : Compressed). c.block) e in
+    let states_are : (last_of m).state ≡ (last_of other).state = ap (λ (c : Compressed). c.state) e in
+    let n = lengths_same m other short small blocks_are in
+    elim (cases_lt (length m) 56) [
+      | inl less ↦
+          let one : blocks (length m) - 1 ≡ 0 = omega (arith, less) in
+          let two : blocks (length other) - 1 ≡ 0 = omega (arith, less, n) in
+          let first : hashed.block_of m 0 ≡ hashed.block_of other 0 = ap (hashed.block_of m) (sym one) ∙ blocks_are ∙ ap (hashed.block_of other) two in
+          inl (messages_same m other n (λ i l. let is : i ≡ 0 = omega (arith, l, less) in ap (hashed.block_of m) is ∙ first ∙ ap (hashed.block_of other) (sym is)))
+      | inr more ↦
+          let one : blocks (length m) - 1 ≡ 1 = omega (arith, more, short) in
+          let two : blocks (length other) - 1 ≡ 1 = omega (arith, more, short, n) in
+          let second : hashed.block_of m 1 ≡ hashed.block_of other 1 = ap (hashed.block_of m) (sym one) ∙ blocks_are ∙ ap (hashed.block_of other) two in
+          let states : hashed.state_of m 1 ≡ hashed.state_of other 1 = ap (hashed.state_of m) (sym one) ∙ states_are ∙ ap (hashed.state_of other) two in
+          let whole : blocks (length m) ≡ 2 = omega (arith, more, short) in
+          let wholes : blocks (length other) ≡ 2 = omega (arith, more, short, n) in
+          let record_m : of_record m ++ way ≡ of_block m 0 ∷ (of_block m 1 ∷ way) = ap (λ k. map (of_block m) (range_with_len 0 k) ++ way) whole in
+          let record_other : of_record other ++ others ≡ of_block other 0 ∷ (of_block other 1 ∷ others) = ap (λ k. map (of_block other) (range_with_len 0 k) ++ others) wholes in
+          elim (first_same (of_block m 0) (of_block other 0) (of_block m 1 ∷ way) (of_block other 1 ∷ others) (next_state m 0 ∙ states ∙ sym (next_state other 0))) [
+            | inr c ↦ inr (subst (λ (T : Type 0). T) (λ i. Collide (sym record_m i) (sym record_other i)) c)
+            | inl same ↦
+                let first : hashed.block_of m 0 ≡ hashed.block_of other 0 = ap (λ (c : Compressed). c.block) same in
+                inl (messages_same m other n (λ i l. two_cases i (omega (arith, l, whole)) (λ j. hashed.block_of m j ≡ hashed.block_of other j) first second))
+          ]
+    ] where
+      two_cases : (i : ℕ) → i < 2 → (P : ℕ → Type 0) → P 0 → P 1 → P i
+      two_cases zero l P a b = a
+      two_cases (suc zero) l P a b = b
+      two_cases (suc (suc i)) l P a b = absurd (omega (arith, l))
 
 -- ---- the laws
 pub leaves : RecordsAreLeaves
 leaves m other i j k ss ts hm ho hs ht e l p =
-    elim (under k (of_record m) (of_record other) (digest_words m) (digest_words other) i j ss ts refl (sym (digest_words_are m hm.short)) (sym (digest_words_are other ho.short))
-    (digest_state m hm.short) (digest_state other ho.short) hs ht l p e) [
-      | inl s ↦ inl (s.0, messages_same m other hm.short ho.short (ap (λ (c : Compressed). c.block) s.1))
-      | inr c ↦ inr c
+    let way = way_up (digest_words m) i ss in
+    let others = way_up (digest_words other) j ts in
+    elim (under k (last_of m) (last_of other) (digest_words m) (digest_words other) i j ss ts (last_after m) (last_after other) (digest_state m) (digest_state other) hs ht l p e) [
+      | inr c ↦ inr (inl (ways_longer m other way others c))
+      | inl s ↦ elim s [
+        | inr nodes ↦ inr (inr (inl (last_leads m hm.short nodes)))
+        | inl pair ↦ elim (last_same m other way others hm.short ho.short pair.1) [
+          | inl same ↦ inl (pair.0, same)
+          | inr c ↦ inr (inl c)
+        ]
+      ]
     ]
+
+broken_swapped : (m other : List ℕ) (way others : List Compressed) → Break m way other others → Break other others m way
+broken_swapped m other way others b = elim b [
+  | inl c ↦ inl (swapped way others c)
+  | inr leads ↦ elim leads [
+    | inl one ↦ inr (inr one)
+    | inr two ↦ inr (inl two)
+  ]
+]
 
 above_within : (x n k : ℕ) → x < 2 ^ n → x * 2 ^ k < 2 ^ (k + n)
 above_within x n k lt =
@@ -252,17 +367,16 @@ lead depth root leaf beside m i ss is hm hs e = elim (cases_lt (length ss) depth
         | inl s ↦
             let here : number ≡ i % 2 ^ depth = ap (λ z. i / 2 ^ z % 2 ^ depth) s.0 ∙ ap (λ y. y % 2 ^ depth) (div-one i) in
             inl ((let z = s.0 in omega (arith, z, all)), sym s.1 ∙ ap leaf here)
-        | inr c ↦ inr (number, within, swapped (way_of (leaf number) number (beside number)) (way_of m i ss) c)
+        | inr c ↦ inr (number, within, broken_swapped (leaf number) m (way_of (leaf number) number (beside number)) (way_of m i ss) c)
       ]
 ]
 
 pub climb : OnlyIssuedClimb
 climb depth levels root leaf beside m is hm c =
     let top = root_of (digest_words m) c.index c.siblings in
-    let hd = digest_state m hm.short in
+    let hd = digest_state m in
     let some = pow_pos depth in
-    let low = is.records 0 some in
-    let hr : IsState root = subst IsState (is.under 0 some) (root_state (digest_words (leaf 0)) 0 (beside 0) (digest_state (leaf 0) low.short)) in
+    let hr : IsState root = subst IsState (is.under 0 some) (root_state (digest_words (leaf 0)) 0 (beside 0) (digest_state (leaf 0))) in
     let node : c.node ≡ digest_words m = same_state c.node (digest_words m) c.is_node hd (sym c.leaf_is) in
     let same : top ≡ root =
     same_state top root (root_state (digest_words m) c.index c.siblings hd) hr (ap (λ d. map of_number (root_of d c.index c.siblings)) (sym node) ∙ sym c.root_is) in

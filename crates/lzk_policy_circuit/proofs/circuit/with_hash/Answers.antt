@@ -8,6 +8,7 @@ use Rattle.lzk_circuit.specs.Wires.{inputs_of}
 use Rattle.lzk_reduce.specs.Renumbering.{AreNumbersBelow}
 use Rattle.lzk_beside.specs.Chosen.{chosen}
 use Rattle.lzk_policy_circuit.specs.Places.{hash_places}
+use Rattle.lzk_policy_circuit.specs.Layout.{rest_of_hash}
 use Rattle.lzk_beside.proofs.PlaceLaws.{row_below}
 use Rattle.lzk_policy_circuit.proofs.Parts.{hash_places_below, hash_places_count}
 use Rattle.lzk_policy_circuit.proofs.Joined.{hash_satisfied}
@@ -23,7 +24,7 @@ pub invariant_of-second : goal.invariant_of-second
 invariant_of-second c =
     let h = c.args.hash.now in
     let long = ap length (c.deref-2.ensures.value ∙ c.in_ok-hash_inputs.ensures)
-    ∙ hash_places_count (1 + h.words) (1 + h.publics + h.bits) (8 * h.len) (1 + h.publics + h.rest) in
+    ∙ hash_places_count (1 + h.words) (1 + h.publics + h.bits) (8 * h.len) (1 + h.publics + h.rest) (rest_of_hash h.len) in
     record {
       version = c.in_ok-own.ensures.version;
       count = omega (arith, long, c.in_ok-own.ensures.publics, c.in_ok-own.ensures.privates);
@@ -42,7 +43,7 @@ beside-requires-clause-second c κs =
     let h = c.args.hash.now in
     let width = 1 + h.publics + h.privates in
     subst (AreNumbersBelow width) (sym (c.deref-2.ensures.value ∙ c.in_ok-hash_inputs.ensures))
-    (hash_places_below width (1 + h.words) (1 + h.publics + h.bits) (8 * h.len) (1 + h.publics + h.rest)
+    (hash_places_below width (1 + h.words) (1 + h.publics + h.bits) (8 * h.len) (1 + h.publics + h.rest) (rest_of_hash h.len)
     (omega (arith, h.words_stand)) (omega (arith, h.bits_stand)) (omega (arith, h.rest_stands)))
 
 pub returns-in-Ok-clause-satisfied : goal.returns-in-Ok-clause-satisfied
@@ -54,12 +55,12 @@ returns-in-Ok-clause-satisfied c = λ public private np nq.
     let xs = inputs_of ops public private in
     let row : c.deref.result.now ≡ range_with_len 1 (length public + first.privates) =
     c.deref.ensures.value ∙ c.in_ok-places.ensures ∙ (λ i. range_with_len 1 (sym np i + c.privates.ensures i)) in
-    let rows : c.deref-2.result.now ≡ hash_places (1 + h.words) (1 + length public + h.bits) (8 * h.len) (1 + length public + h.rest) =
+    let rows : c.deref-2.result.now ≡ hash_places (1 + h.words) (1 + length public + h.bits) (8 * h.len) (1 + length public + h.rest) (rest_of_hash h.len) =
     c.deref-2.ensures.value ∙ c.in_ok-hash_inputs.ensures
-    ∙ (λ i. hash_places (1 + h.words) (1 + sym np i + h.bits) (8 * h.len) (1 + sym np i + h.rest)) in
+    ∙ (λ i. hash_places (1 + h.words) (1 + sym np i + h.bits) (8 * h.len) (1 + sym np i + h.rest) (rest_of_hash h.len)) in
     let W = IsSatisfied ops number whole.layers xs in
     let both = c.in-Ok.ensures.satisfied public private np nq in
     let one = subst (λ (l : List ℕ). W ↔ (IsSatisfied ops number first.layers (chosen ops l xs) × IsSatisfied ops number own.layers (chosen ops c.deref-2.result.now xs))) row both in
     let two = subst (λ (l : List ℕ). W ↔ (IsSatisfied ops number first.layers (chosen ops (range_with_len 1 (length public + first.privates)) xs) × IsSatisfied ops number own.layers (chosen ops l xs))) rows one in
-    hash_satisfied first own whole public private h.len h.words h.bits h.rest c.valid_laws.ensures c.in_ok-own.ensures.version c.in_ok-own.ensures.publics c.in_ok-own.ensures.privates
-    c.in_ok-own.ensures.outputs (np ∙ sym c.requires.publics) (omega (arith, nq, c.requires.privates)) (omega (arith, np, h.words_stand)) (omega (arith, nq, h.bits_stand)) (omega (arith, nq, h.rest_stands)) two
+    hash_satisfied first own whole public private h.len h.words h.bits h.rest
+    c.in_ok-own.ensures.satisfied (omega (arith, nq, c.requires.privates)) (omega (arith, np, nq, h.words_stand)) (omega (arith, nq, h.bits_stand)) (omega (arith, nq, h.rest_stands)) two

@@ -1,9 +1,9 @@
 use Rattle.std.proofs.Common.{◌≡◌, ◌<◌, ◌∙◌, length, refl, sym, ap, arith, Some, get_or}
 use Rattle.std.specs.Prelude.{slice_get}
 use Rattle.std.proofs.lemmas.Option.{slice_get_read, slice_get-get_or}
-use Rattle.lzk_policy_circuit.specs.Meaning.{IsTrueOf}
 use Rattle.lzk_policy_inputs.specs.declared.value.Value.TheVariants as values
-use Rattle.lzk_policy_inputs.specs.Chosen.{HasKind, numbers_of}
+use Rattle.lzk_policy_inputs.specs.Chosen.{HasKind}
+use Rattle.lzk_policy_inputs.specs.Refused.{IsTrueWith}
 use Rattle.lzk_policy_inputs.proofs.Places.{put_place, right_more}
 use Rattle.lzk_policy_inputs.proofs.check.check.Goals as goal
 
@@ -24,4 +24,4 @@ loop-place-preserved c =
     let there = c.field_of.ensures.there in
     right_more p m vs k c.loop-place.invariant
     (put_place (λ f c v. HasKind c v) p.fields p.shows vs k s v es ev f there (c.has_kind.ensures.0 c.if-not-has_kind.false))
-    (put_place (λ f c v. IsTrueOf m f c (numbers_of m f c v)) p.fields p.shows vs k s v es ev f there (c.is_true.ensures.0 c.if-not-is_true.false))
+    (put_place (λ f c v. IsTrueWith m f c v) p.fields p.shows vs k s v es ev f there (c.is_true.ensures.0 c.if-not-is_true.false))

@@ -11,7 +11,7 @@ use Rattle.lzk_sha_blocks.specs.Hashed.{AreHashing}
 use Rattle.lzk_sha_blocks.specs.Layout.{blocks}
 use Rattle.lzk_sha_blocks.specs.Witness.{state_of, digest_private}
 use Rattle.lzk_sha_blocks.proofs.Filled.{front_none, front_more, front_all, small_words, words_back, block_slice}
-use Rattle.lzk_sha_blocks.proofs.Filling.{are_hashing, has_digest}
+use Rattle.lzk_sha_blocks.proofs.Filling.{are_hashing, has_digest, length-digest_private}
 use Rattle.lzk_sha_blocks.proofs.Steps.{is_state, next_state, digest_words_are, length-padded}
 use Rattle.lzk_sha_blocks.proofs.inputs.digest_inputs.Goals as goal
 
@@ -70,6 +70,9 @@ returns-clause-private c =
     let long = length-padded m in
     let end : c.loop-i.i - 1 ≡ blocks (length m) - 1 = omega (arith, all, long) in
     c.loop-i.invariant.private ∙ front_all of_number m (c.loop-i.i - 1) end
+
+pub returns-clause-privates : goal.returns-clause-privates
+returns-clause-privates c = ap length (returns-clause-private c) ∙ length-digest_private of_number ops.zero c.args.message.now
 
 pub returns-clause-satisfying : goal.returns-clause-satisfying
 returns-clause-satisfying c =
