@@ -1,5 +1,6 @@
-//! Statements for programs in C, and in any language that calls C: compile, make a circuit of SHA-256, upgrade, show
-//! and evaluate.
+//! Statements and policies for programs in C, and in any language that calls C: compile, make a circuit of SHA-256,
+//! upgrade, show and evaluate; and what a policy shows, its circuit, the digest of a record, the numbers that show one,
+//! the text of what is shown, and its public numbers.
 //!
 //! `include/lzk.h` declares what is here. A caller hands in bytes and room for bytes, and is told what came of it.
 //! Nothing is kept between calls, no thread is started, no file is read, and nothing is printed. No call asks anything
@@ -14,10 +15,12 @@
 ghost use Rattle.std.specs.Prelude.{◌≡◌};
 ghost use Rattle.lzk_calls.specs.Exports.{Compiles, Evaluates, MakesHash, Upgrades};
 ghost use Rattle.lzk_calls.specs.Shown.{Shows};
+ghost use Rattle.lzk_policy_calls.specs.Exports as policies;
 
 use lzk_calls::{
     Info, Outcome, compile_text, evaluate, info_of, make_sha_circuit, outcome_of, upgrade,
 };
+use lzk_policy_calls::Given;
 use std::alloc::Global;
 
 /// Compiles a source's text to a circuit's file, in version 1 or 2, and puts it into a room.
@@ -93,6 +96,106 @@ pub extern "C" fn lzk_eval(
     ensures answer { result ≡ outcome.new.answer }
 {
     let told = outcome_of(evaluate(alloc, circuit, public, private));
+    *outcome = told;
+    told.answer
+}
+
+/// Puts the lines of what a policy shows into a room.
+#[unsafe(no_mangle)]
+pub extern "C" fn lzk_policy_show(
+    alloc: Global,
+    policy: &[u8],
+    room: &mut [u8],
+    outcome: &mut Outcome,
+) -> u32
+    ensures told { policies.Shows policy.now room.old room.new outcome.new }
+    ensures answer { result ≡ outcome.new.answer }
+{
+    let told = lzk_policy_calls::outcome_of(lzk_policy_calls::show(alloc, policy, room));
+    *outcome = told;
+    told.answer
+}
+
+/// Puts the file of a policy's circuit into a room.
+#[unsafe(no_mangle)]
+pub extern "C" fn lzk_policy_circuit(
+    alloc: Global,
+    policy: &[u8],
+    room: &mut [u8],
+    outcome: &mut Outcome,
+) -> u32
+    ensures told { policies.MakesCircuit policy.now room.old room.new outcome.new }
+    ensures answer { result ≡ outcome.new.answer }
+{
+    let told = lzk_policy_calls::outcome_of(lzk_policy_calls::circuit(alloc, policy, room));
+    *outcome = told;
+    told.answer
+}
+
+/// Puts the SHA-256 digest of a record of a policy's size into a room.
+#[unsafe(no_mangle)]
+pub extern "C" fn lzk_policy_digest(
+    alloc: Global,
+    policy: &[u8],
+    record: &[u8],
+    room: &mut [u8],
+    outcome: &mut Outcome,
+) -> u32
+    ensures told { policies.MakesDigest policy.now record.now room.old room.new outcome.new }
+    ensures answer { result ≡ outcome.new.answer }
+{
+    let told = lzk_policy_calls::outcome_of(lzk_policy_calls::digest(alloc, policy, record, room));
+    *outcome = told;
+    told.answer
+}
+
+/// Puts the texts of the public and of the private numbers that show a record into a room.
+#[unsafe(no_mangle)]
+pub extern "C" fn lzk_policy_inputs(
+    alloc: Global,
+    given: &Given<'_>,
+    room: &mut [u8],
+    outcome: &mut Outcome,
+) -> u32
+    ensures told { let g = given.now in policies.MakesInputs g.policy.now g.record.now g.values.now g.secret.now
+        g.path.now room.old room.new outcome.new }
+    ensures answer { result ≡ outcome.new.answer }
+{
+    let told = lzk_policy_calls::texts_outcome(lzk_policy_calls::inputs(alloc, given, room));
+    *outcome = told;
+    told.answer
+}
+
+/// Puts the text of what is shown of a record into a room.
+#[unsafe(no_mangle)]
+pub extern "C" fn lzk_policy_shown(
+    alloc: Global,
+    given: &Given<'_>,
+    room: &mut [u8],
+    outcome: &mut Outcome,
+) -> u32
+    ensures told { let g = given.now in policies.TellsShown g.policy.now g.record.now g.values.now g.secret.now
+        g.path.now room.old room.new outcome.new }
+    ensures answer { result ≡ outcome.new.answer }
+{
+    let told = lzk_policy_calls::outcome_of(lzk_policy_calls::shown(alloc, given, room));
+    *outcome = told;
+    told.answer
+}
+
+/// Puts the text of the public numbers of what was shown into a room.
+#[unsafe(no_mangle)]
+pub extern "C" fn lzk_policy_public(
+    alloc: Global,
+    policy: &[u8],
+    shown: &[u8],
+    room: &mut [u8],
+    outcome: &mut Outcome,
+) -> u32
+    ensures told { policies.MakesPublics policy.now shown.now room.old room.new outcome.new }
+    ensures answer { result ≡ outcome.new.answer }
+{
+    let told = lzk_policy_calls::outcome_of(lzk_policy_calls::publics(alloc, policy, shown, room));
     *outcome = told;
     told.answer
 }

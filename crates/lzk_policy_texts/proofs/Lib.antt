@@ -1,0 +1,4 @@
+pub mod Behind
+pub mod EntryLines
+pub mod EntryNames
+pub mod ToldCounts

@@ -1,0 +1,27 @@
+use Rattle.std.proofs.Common.{subst, [], Option, Bor, List, ℕ}
+use Rattle.std.proofs.lemmas.Result.{err_from_is_err_and}
+use Rattle.lzk_policy_texts.specs.Entries.{entries_of, with_line}
+use Rattle.lzk_policy_texts.proofs.EntryLines.{Left, left_first, left_next, left_stop, left_done}
+use Rattle.lzk_policy_texts.proofs.entries.read_entries.Goals as goal
+
+pub loop-left-init : goal.loop-left-init
+loop-left-init c = left_first with_line [] c.args.text c.new-found.result.items c.new-found.ensures.items
+
+pub returns-in_err-take_line : goal.returns-in_err-take_line
+unfolding entries_of
+returns-in_err-take_line c =
+    let p = err_from_is_err_and c.from_residual.result c.from_residual.ensures.1 in
+    let have = c.loop-left.found.items in
+    let left = subst (λ (o : Option (Bor (List ℕ))). Left with_line [] c.loop-left.line c.args.text.now o have) c.in-Some.is c.loop-left.invariant in
+    let fails = left_stop with_line [] c.loop-left.line c.args.text.now c.next_line.result.0.now have c.in-Some.behind c.next_line.result.1 c.in_err-take_line.field-0.0 c.next_line.ensures left c.in_err-take_line.ensures in
+    rw (p.1, p.2) fails
+
+pub loop-left-preserved : goal.loop-left-preserved
+loop-left-preserved c =
+    let have = c.loop-left.found.items in
+    let left = subst (λ (o : Option (Bor (List ℕ))). Left with_line [] c.loop-left.line c.args.text.now o have) c.in-Some.is c.loop-left.invariant in
+    left_next with_line [] c.loop-left.line c.args.text.now c.next_line.result.0.now have c.take_line.new.found.items c.in-Some.behind c.next_line.result.1 c.next_line.ensures left c.in_ok-take_line.ensures
+
+pub returns : goal.returns
+unfolding entries_of
+returns c = left_done with_line [] c.loop-left.line c.args.text.now c.loop-left.found.items (subst (λ (o : Option (Bor (List ℕ))). Left with_line [] c.loop-left.line c.args.text.now o c.loop-left.found.items) c.in_default.is c.loop-left.invariant)

@@ -1,0 +1,10 @@
+pub mod Bytes
+pub mod Numbers
+pub mod Shown
+pub mod Seals
+pub mod Entries
+pub mod Chosen
+pub mod Paths
+pub mod Told
+pub mod Inputs
+pub mod Circuits
