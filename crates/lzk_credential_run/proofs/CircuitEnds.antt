@@ -9,7 +9,8 @@ use Rattle.lzk_cmd_files.specs.Seen.{Seen}
 use Rattle.lzk_cmd_files.specs.Walks.{Puts}
 use Rattle.lzk_cmd_files.proofs.Steps.{handed_on}
 use Rattle.lzk_policy.specs.Policies.{Contents}
-use Rattle.lzk_credential_run.specs.Circuits.{IsPolicyFile, MakesFile, PutsCircuit}
+use Rattle.lzk_credential_run.specs.Circuits.{MakesFile, PutsCircuit}
+use Rattle.lzk_policy_texts.specs.Circuits.{IsPolicyFile}
 use Rattle.lzk_credential_run.specs.Ends.{NothingPut, Settles}
 use Rattle.lzk_credential_run.specs.Lines.{limit_line, put_line}
 use Rattle.lzk_credential_run.proofs.Steps.{IsLate, says_later, puts_later}

@@ -1,5 +1,5 @@
--- The ends of `inputs` behind its files.
-use Rattle.std.proofs.Common.{◌≡◌, ◌≤◌, ℕ, true, false, List, [], length, Option, Result, Ok, Err, inl, inr, refl, sym, subst, ◌∙◌, arith, map}
+-- The ends of inputs that are put.
+use Rattle.std.proofs.Common.{◌≡◌, ◌≤◌, ℕ, List, length, Option, Result, Ok, Err, inl, inr, sym, subst, ◌∙◌, arith, map}
 use Rattle.std.specs.Result.{IsErrAnd}
 use Rattle.lzk_goldilocks.specs.Elements.{number}
 use Rattle.lzk_outside.specs.Outside.{Files, Holds, Torn, Rose}
@@ -20,13 +20,13 @@ use Rattle.lzk_policies.specs.declared.refusal.RootedInputsError.TheVariants as 
 use Rattle.lzk_policies.specs.Placed.{IsCredentialRefusal}
 use Rattle.lzk_sha_path.specs.declared.error.PathError.{PathError}
 use Rattle.lzk_sha_path.specs.declared.error.PathError.TheVariants as paths
-use Rattle.lzk_credential_run.specs.declared.entries.ValuesFault.{ValuesFault}
+use Rattle.lzk_policy_texts.specs.declared.entries.ValuesFault.{ValuesFault}
 use Rattle.lzk_credential_run.specs.Ends.{Settles}
-use Rattle.lzk_credential_run.specs.Files.{kind_files, path_files, record_files}
-use Rattle.lzk_credential_run.specs.Given.{InputsRun, RootedRun, IsHaltFor, IsInputs, IsNoInputs, IsUnclimbed, IsUnclimbedFor, IsUnmade, IsUnmadeFor, MakesInputs, PutsLast, PutsBoth, PutsOne, PutsInputs, WithPath, WithRecord, WithPolicy, number_lines, value_files}
+use Rattle.lzk_credential_run.specs.Given.{IsHaltFor, IsNoInputs, IsUnclimbed, IsUnclimbedFor, IsUnmade, IsUnmadeFor, MakesInputs, PutsLast, PutsBoth, PutsOne, PutsInputs, value_files}
+use Rattle.lzk_policy_texts.specs.Numbers.{number_lines}
 use Rattle.lzk_credential_run.specs.Lines.{put_line}
-use Rattle.lzk_credential_run.specs.Paths.{Placed, alone}
-use Rattle.lzk_credential_run.proofs.Steps.{IsLate, IsSmall, reads_later, reads_small}
+use Rattle.lzk_policy_texts.specs.Paths.{Placed}
+use Rattle.lzk_credential_run.proofs.Steps.{IsLate, IsSmall}
 
 -- ---- since an earlier sight
 
@@ -40,21 +40,8 @@ both_later public bytes private second old mid new e first (inl (failed, torn, i
 both_later public bytes private second old mid new e first (inr (files, holds, last)) =
     inr (files, subst (λ (f : Option Files). Holds f public bytes files) first.files holds, last_later files private second old mid new e first last)
 
-module _ (path : List ℕ) (x : Placed) (public private : List ℕ) where
-  pub inputs_later : (p : Contents) (m : List ℕ) (vs : List Value) → IsLate (PutsInputs path x public private p m vs)
-  inputs_later p m vs old mid new e first (inl (cause, refused, refusal, same)) = inl (cause, refused, refusal, same ∙ first.files)
-  inputs_later p m vs old mid new e first (inr (i, is, both)) =
-      inr (i, is, both_later public (number_lines (map number i.public)) private (number_lines (map number i.private)) old mid new e first both)
-
-  pub record_later : (values : List ℕ) (p : Contents) (m : List ℕ) → IsLate (WithRecord values path x public private p m)
-  record_later values p m = reads_later (value_files p) values (PutsInputs path x public private p m) (inputs_later p m)
-
-  pub policy_later : (name values : List ℕ) (p : Contents) → IsLate (WithPolicy name values path x public private p)
-  policy_later name values p = reads_later (record_files p.size) name (WithRecord values path x public private p) (record_later values p)
-
-pub path_later : (name values path public private : List ℕ) (p : Contents) → IsLate (WithPath name values path public private p)
-path_later name values path public private p =
-    reads_later path_files path (λ x. WithPolicy name values path x public private p) (λ x. policy_later path x public private name values p)
+pub puts_inputs_later : (public private : List ℕ) (i : Inputs) → IsLate (PutsInputs public private i)
+puts_inputs_later public private i = both_later public (number_lines (map number i.public)) private (number_lines (map number i.private))
 
 pub one_later : (public : List ℕ) (old mid new : Seen) → OnlyReads old mid → PutsOne public mid new → PutsOne public old new
 one_later public old mid new first (inl same) = inl (same ∙ first.files)
@@ -66,14 +53,6 @@ pub no_memory : (way : Seen → Seen → Ending → Type 0) (public : List ℕ) 
 no_memory way public old new r same is = handed_on (Settles way (PutsOne public) old new) r halts.Memory is (inl same)
 
 module _ (path : List ℕ) (x : Placed) (p : Contents) (m : List ℕ) (vs : List Value) where
-  pub no_inputs : (public private : List ℕ) (old : Seen) (h : Halt) (r : Result Ending Halt) → MakesInputs path p m vs x (Err h) → IsErrAnd r (λ y. y ≡ h)
-      → Settles (PutsInputs path x public private p m vs) (PutsOne public) old old r
-  no_inputs public private old h r made is = handed_on (Settles (PutsInputs path x public private p m vs) (PutsOne public) old old) r h is (go h made)
-    where
-      go : (h : Halt) → MakesInputs path p m vs x (Err h) → Settles (PutsInputs path x public private p m vs) (PutsOne public) old old (Err h)
-      go halts.Memory made = inl refl
-      go (halts.End e) (cause, refused, refusal) = inl (cause, refused, refusal, refl)
-
   unmade_for : (cause : InputsError) (e : Ending) → IsUnmadeFor p cause (halts.End e) → IsUnmade p cause e
   unmade_for causes.Record e h = h
   unmade_for causes.Count e h = h
@@ -135,17 +114,11 @@ module _ (public first private second text : List ℕ) where
 
 -- ---- the inputs are put
 
-module _ (path : List ℕ) (x : Placed) (public private : List ℕ) (p : Contents) (m : List ℕ) (vs : List Value) where
-  pub both_put : (i : Inputs) (first second : List ℕ) (old new : Seen) (r : Result Ending Halt) → IsInputs p m vs x i
-      → first ≡ number_lines (map number i.public) → second ≡ number_lines (map number i.private) → Settles (PutsBoth public first private second) (PutsOne public) old new r
-      → Settles (PutsInputs path x public private p m vs) (PutsOne public) old new r
-  both_put i first second old new r is one two h =
-      go r (subst (λ (s : List ℕ). Settles (PutsBoth public (number_lines (map number i.public)) private s) (PutsOne public) old new r) two (subst (λ (f : List ℕ). Settles (PutsBoth public f private second) (PutsOne public) old new r) one h))
-    where
-      go : (r : Result Ending Halt) → Settles (PutsBoth public (number_lines (map number i.public)) private (number_lines (map number i.private))) (PutsOne public) old new r → Settles (PutsInputs path x public private p m vs) (PutsOne public) old new r
-      go (Ok e) h = inr (i, is, h)
-      go (Err halts.Memory) h = h
-      go (Err (halts.End e)) h = inr (i, is, h)
+pub inputs_put : (public private : List ℕ) (i : Inputs) (first second : List ℕ) (old new : Seen) (r : Result Ending Halt)
+    → first ≡ number_lines (map number i.public) → second ≡ number_lines (map number i.private) → Settles (PutsBoth public first private second) (PutsOne public) old new r
+    → Settles (PutsInputs public private i) (PutsOne public) old new r
+inputs_put public private i first second old new r one two h =
+    subst (λ (s : List ℕ). Settles (PutsBoth public (number_lines (map number i.public)) private s) (PutsOne public) old new r) two (subst (λ (f : List ℕ). Settles (PutsBoth public f private second) (PutsOne public) old new r) one h)
 
 -- ---- statuses
 
@@ -162,7 +135,7 @@ unclimbed_small path nodes depth (paths.Statement k) e h = let is = h.status in 
 unclimbed_small path nodes depth (paths.Beside k) e h = let is = h.status in omega (arith, is)
 unclimbed_small path nodes depth paths.OutOfMemory e h = absurd h
 
-none_small : (path : List ℕ) (p : Contents) (nodes : ℕ) (cause : RootedInputsError) (e : Ending) → IsNoInputs path p nodes cause e → e.status ≤ 5
+pub none_small : (path : List ℕ) (p : Contents) (nodes : ℕ) (cause : RootedInputsError) (e : Ending) → IsNoInputs path p nodes cause e → e.status ≤ 5
 none_small path p nodes (refusals.Policy cause) e h = unmade_small p cause e h
 none_small path p nodes (refusals.Path cause) e h = unclimbed_small path nodes p.depth cause e h
 none_small path p nodes refusals.Depth e h = let is = h.status in omega (arith, is)
@@ -174,23 +147,8 @@ both_small public first private second old new e (inl h) = let is = h.2.status i
 both_small public first private second old new e (inr (files, holds, inl h)) = let is = h.1.status in omega (arith, is)
 both_small public first private second old new e (inr (files, holds, inr h)) = let is = h.2.status in omega (arith, is)
 
-puts_inputs_small : (path : List ℕ) (x : Placed) (public private : List ℕ) (p : Contents) (m : List ℕ) (vs : List Value) → IsSmall (PutsInputs path x public private p m vs)
-puts_inputs_small path x public private p m vs old new e (inl (cause, refused, refusal, same)) = none_small path p (length x.nodes) cause e refusal
-puts_inputs_small path x public private p m vs old new e (inr (i, is, h)) = both_small public (number_lines (map number i.public)) private (number_lines (map number i.private)) old new e h
+pub puts_inputs_small : (public private : List ℕ) (i : Inputs) → IsSmall (PutsInputs public private i)
+puts_inputs_small public private i = both_small public (number_lines (map number i.public)) private (number_lines (map number i.private))
 
-values_small : (name : List ℕ) (p : Contents) (fault : ValuesFault) → ((value_files p).refused name fault).status ≤ 5
-values_small name p fault = omega arith
-
-policy_small : (name values path : List ℕ) (x : Placed) (public private : List ℕ) (p : Contents) → IsSmall (WithPolicy name values path x public private p)
-policy_small name values path x public private p =
-    reads_small (record_files p.size) name (WithRecord values path x public private p) (λ fault. omega arith) (λ m.
-    reads_small (value_files p) values (PutsInputs path x public private p m) (values_small values p) (puts_inputs_small path x public private p m))
-
-pub inputs_small : (policy name values public private : List ℕ) → IsSmall (InputsRun policy name values public private)
-inputs_small policy name values public private =
-    reads_small (kind_files false) policy (WithPolicy name values [] alone public private) (λ fault. omega arith) (policy_small name values [] alone public private)
-
-pub rooted_small : (policy name values path public private : List ℕ) → IsSmall (RootedRun policy name values path public private)
-rooted_small policy name values path public private =
-    reads_small (kind_files true) policy (WithPath name values path public private) (λ fault. omega arith) (λ p.
-    reads_small path_files path (λ x. WithPolicy name values path x public private p) (λ fault. omega arith) (λ x. policy_small name values path x public private p))
+pub values_small : (name : List ℕ) (p : Contents) (secret : List ℕ) (fault : ValuesFault) → ((value_files p secret).refused name fault).status ≤ 5
+values_small name p secret fault = omega arith

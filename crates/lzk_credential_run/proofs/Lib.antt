@@ -1,8 +1,10 @@
+pub mod Sessions
 pub mod Steps
 pub mod CircuitEnds
+pub mod Counts
 pub mod DigestEnds
 pub mod RunEnds
-pub mod Behind
-pub mod EntryLines
+pub mod HoldingEnds
 pub mod InputEnds
-pub mod EntryNames
+pub mod ProveEnds
+pub mod VerifyEnds

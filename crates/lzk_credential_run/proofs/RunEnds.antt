@@ -11,12 +11,17 @@ use Rattle.lzk_credential_run.specs.Circuits.{CircuitRun, PutsCircuit}
 use Rattle.lzk_credential_run.specs.Digests.{DigestOf, DigestRun}
 use Rattle.lzk_credential_run.specs.Ends.{Says, NothingPut}
 use Rattle.lzk_credential_run.specs.Files.{policy_files, record_files}
-use Rattle.lzk_credential_run.specs.Given.{InputsRun, RootedRun, PutsOne}
+use Rattle.lzk_credential_run.specs.Given.{PutsOne}
+use Rattle.lzk_credential_run.specs.Holding.{HoldingRun, Put, Prove}
 use Rattle.lzk_credential_run.specs.Lines.{digest_line, limit_line, put_line}
-use Rattle.lzk_credential_run.specs.Runs.{Works}
-use Rattle.lzk_credential_run.specs.Shown.{ShowRun, shown_lines}
-use Rattle.lzk_credential_run.specs.Words.{Command, Circuit, Digest, Inputs, Rooted, Show}
-use Rattle.lzk_credential_run.proofs.InputEnds.{inputs_small, rooted_small}
+use Rattle.lzk_credential_run.specs.Runs.{Works, order_for}
+use Rattle.lzk_credential_run.specs.Shown.{ShowRun}
+use Rattle.lzk_policy_texts.specs.Shown.{shown_lines}
+use Rattle.lzk_credential_run.specs.Verified.{VerifyRun}
+use Rattle.lzk_credential_run.specs.Words as words
+use Rattle.lzk_credential_run.specs.Words.{Command, Circuit, Digest, Inputs, Show, Verify}
+use Rattle.lzk_credential_run.proofs.HoldingEnds.{holding_small}
+use Rattle.lzk_credential_run.proofs.VerifyEnds.{verify_small}
 use Rattle.lzk_credential_run.proofs.Steps.{IsSmall, says_small, puts_small, reads_small, concluded}
 
 puts_circuit_small : (policy circuit : List ℕ) (p : Contents) → IsSmall (PutsCircuit policy circuit p)
@@ -40,8 +45,12 @@ pub status_small : (command : Option Command) (old new : Seen) (before after : S
 status_small None old new before after done status = concluded (Says refused_words) NothingPut old new before after done status (says_small refused_words (omega arith))
 status_small (Some (Circuit policy circuit)) old new before after done status = concluded (CircuitRun policy circuit) NothingPut old new before after done status (circuit_small policy circuit)
 status_small (Some (Digest policy name)) old new before after done status = concluded (DigestRun policy name) NothingPut old new before after done status (digest_small policy name)
-status_small (Some (Inputs policy name values public private)) old new before after done status =
-    concluded (InputsRun policy name values public private) (PutsOne public) old new before after done status (inputs_small policy name values public private)
-status_small (Some (Rooted policy name values path public private)) old new before after done status =
-    concluded (RootedRun policy name values path public private) (PutsOne public) old new before after done status (rooted_small policy name values path public private)
+status_small (Some (Inputs policy holding public private)) old new before after done status =
+    concluded (HoldingRun policy holding (Put public private)) (PutsOne public) old new before after done status (holding_small policy holding (Put public private))
+status_small (Some (words.Prove policy holding proof session)) old new before after done status =
+    let purpose = Prove (order_for policy proof session) in
+    concluded (HoldingRun policy holding purpose) NothingPut old new before after done status (holding_small policy holding purpose)
+status_small (Some (Verify policy shown proof session)) old new before after done status =
+    let order = order_for policy proof session in
+    concluded (VerifyRun shown order) NothingPut old new before after done status (verify_small shown order)
 status_small (Some (Show policy)) old new before after done status = concluded (ShowRun policy) NothingPut old new before after done status (show_small policy)

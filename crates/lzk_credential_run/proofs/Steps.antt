@@ -21,7 +21,7 @@ IsLate way = (old mid new : Seen) (e : Ending) → OnlyReads old mid → way mid
 pub says_later : (end : End) → IsLate (Says end)
 says_later end old mid new e first h = (h.0, h.1 ∙ first.files)
 
-told_later : (old mid : Seen) (P : Files → Type 0) → OnlyReads old mid → IfSome mid.files P → IfSome old.files P
+pub told_later : (old mid : Seen) (P : Files → Type 0) → OnlyReads old mid → IfSome mid.files P → IfSome old.files P
 told_later old mid P first h = subst (λ (f : Option Files). IfSome f P) first.files h
 
 unread_later : (limit : ℕ) (name : List ℕ) → IsLate (Unread limit name)

@@ -1,82 +1,27 @@
 -- What `circuit` does.
-use Rattle.std.specs.Prelude.{◌≡◌, ◌≤◌, ◌⊎◌, ℕ, ◌↔◌, List, ◌++◌, length, Vec, Result, Ok, Err}
+use Rattle.std.specs.Prelude.{◌⊎◌, ℕ, List, Vec, Result, Ok, Err}
 use Rattle.std.specs.declared.alloc.Global.{Global}
-use Rattle.lzk_goldilocks.specs.Elements.{ops, number}
-use Rattle.lzk_goldilocks.specs.declared.element.Gold.{Gold}
-use Rattle.lzk_circuit.specs.Checks.{IsSatisfied}
-use Rattle.lzk_circuit.specs.Valid.{Wiring}
-use Rattle.lzk_circuit.specs.Wires.{inputs_of}
-use Rattle.lzk_circbytes.specs.declared.any.AnyCircuit.TheVariants.{Gold as OverGold}
-use Rattle.lzk_circbytes.specs.Files.{CircuitBytes}
 use Rattle.lzk_cmd_files.specs.declared.ending.Halt.{Halt}
 use Rattle.lzk_cmd_files.specs.declared.ending.Halt.TheVariants as halts
 use Rattle.lzk_cmd_files.specs.Ends.{says}
 use Rattle.lzk_cmd_files.specs.Walks.{IsEnding}
-use Rattle.lzk_level.specs.declared.fault.LevelError.TheVariants as levels
-use Rattle.lzk_beside.specs.declared.error.BesideError.TheVariants as besides
 use Rattle.lzk_policy.specs.Policies.{Contents}
-use Rattle.lzk_policy_circuit.specs.declared.error.PolicyCircuitError.TheVariants as errors
-use Rattle.lzk_policy_circuit.specs.Meaning.{public_count, values_of}
-use Rattle.lzk_sha_path.specs.declared.error.PathError.TheVariants as paths
-use Rattle.lzk_policies.specs.declared.error.RootedError.{RootedError}
-use Rattle.lzk_policies.specs.declared.error.RootedError.TheVariants as roots
-use Rattle.lzk_policies.specs.Causes.{IsCredentialCause}
-use Rattle.lzk_policies.specs.Hashes.{hash_count, most_hashes}
-use Rattle.lzk_policies.specs.Depths.{IsShownBy, SatisfyAt, private_count}
+use Rattle.lzk_policy_texts.specs.Circuits.{IsPolicyFile, PassesLimit}
 use Rattle.lzk_credential_run.specs.Ends.{Way, Says, Reads, PutsFile}
 use Rattle.lzk_credential_run.specs.Files.{policy_files}
 use Rattle.lzk_credential_run.specs.Lines.{limit_line, put_line}
-
--- with these words and numbers, some private inputs satisfy the circuit exactly where there is a record whose digest or
--- root, as the policy says, the words are, and for which all that is shown is true with the numbers
-abbrev pub Shows : Wiring Gold → Contents → Type 0
-Shows c p =
-    (words values : List Gold) → length words ≡ 8 → length values ≡ values_of p.shows →
-    ((private : List Gold) × (length private ≡ c.privates) ×
-    IsSatisfied ops number c.layers (inputs_of ops (words ++ values) private))
-    ↔ ((m : List ℕ) × IsShownBy p m words values)
-
--- which inputs satisfy the circuit
-abbrev pub IsSatisfiedBy : Wiring Gold → Contents → Type 0
-IsSatisfiedBy c p =
-    (words values private : List Gold) → length words ≡ 8 → length values ≡ values_of p.shows →
-    length private ≡ private_count p.depth p →
-    IsSatisfied ops number c.layers (inputs_of ops (words ++ values) private)
-    ↔ SatisfyAt p.depth p words values private
-
--- the bytes are the file of a circuit that shows what a policy says
-pub record IsPolicyFile (p : Contents) (bytes : List ℕ) : Type 0 where
-  pub circuit : Wiring Gold
-  pub few : hash_count p ≤ most_hashes
-  pub publics : circuit.publics ≡ public_count p
-  pub privates : circuit.privates ≡ private_count p.depth p
-  pub shows : Shows circuit p
-  pub satisfied : IsSatisfiedBy circuit p
-  pub file : CircuitBytes (OverGold circuit) bytes
-
--- a limit of a policy's circuit, and not want of memory
-abbrev pub IsLimit : Contents → RootedError → Type 0
-IsLimit p (roots.Policy (errors.Statement levels.OutOfMemory)) = ⊥
-IsLimit p (roots.Policy (errors.Beside besides.OutOfMemory)) = ⊥
-IsLimit p (roots.Policy errors.OutOfMemory) = ⊥
-IsLimit p (roots.Path (paths.Statement levels.OutOfMemory)) = ⊥
-IsLimit p (roots.Path (paths.Beside besides.OutOfMemory)) = ⊥
-IsLimit p (roots.Path paths.OutOfMemory) = ⊥
-IsLimit p (roots.Beside besides.OutOfMemory) = ⊥
-IsLimit p roots.OutOfMemory = ⊥
-IsLimit p cause = IsCredentialCause p cause
 
 -- such a file, or the end of a run whose policy's circuit would pass a limit
 abbrev pub MakesFile : List ℕ → Contents → Result (Vec ℕ Global) Halt → Type 0
 MakesFile policy p (Ok v) = IsPolicyFile p v.items
 MakesFile policy p (Err halts.Memory) = Unit {0}
 MakesFile policy p (Err (halts.End e)) =
-    ((cause : RootedError) × IsLimit p cause) × IsEnding (says 3 (limit_line policy)) e
+    PassesLimit p × IsEnding (says 3 (limit_line policy)) e
 
 -- the run has a policy: it puts the file of a circuit of it, or the circuit would pass a limit
 abbrev pub PutsCircuit : List ℕ → List ℕ → Contents → Way
 PutsCircuit policy circuit p old new e =
-    (((cause : RootedError) × IsLimit p cause) × Says (says 3 (limit_line policy)) old new e)
+    (PassesLimit p × Says (says 3 (limit_line policy)) old new e)
     ⊎ ((bytes : List ℕ) × IsPolicyFile p bytes × PutsFile circuit bytes put_line old new e)
 
 abbrev pub CircuitRun : List ℕ → List ℕ → Way

@@ -1,14 +1,15 @@
 -- The formats of policies, records and paths.
-use Rattle.std.specs.Prelude.{◌≡◌, ◌≢◌, ◌<◌, ◌≤◌, ◌==◌, ℕ, Bool, not, List, length, Option, Some, None, Ok, Err}
+use Rattle.std.specs.Prelude.{◌≡◌, ◌≢◌, ◌<◌, ◌≤◌, ◌==◌, ◌+◌, ℕ, Bool, true, false, not, List, length, Ok, Err}
 use Rattle.lzk_cmd_files.specs.Ends.{says}
 use Rattle.lzk_cmd_files.specs.Formats.{Format}
 use Rattle.lzk_policy.specs.Policies.{Contents, policy_of}
 use Rattle.lzk_policies.specs.Hashes.{hash_count, most_hashes}
-use Rattle.lzk_credential_run.specs.declared.entries.ValuesFault.{ValuesFault}
+use Rattle.lzk_policy_texts.specs.declared.entries.ValuesFault.{ValuesFault}
 use Rattle.lzk_credential_run.specs.declared.policies.PolicyRefusal.{PolicyRefusal}
 use Rattle.lzk_credential_run.specs.declared.policies.PolicyRefusal.TheVariants.{Line, Hashes}
 use Rattle.lzk_credential_run.specs.Lines.{policy_line, limit_line, kind_unfit_line, path_line, short_line}
-use Rattle.lzk_credential_run.specs.Paths.{Placed, path_of}
+use Rattle.lzk_policy_texts.specs.Paths.{Placed, path_of}
+use Rattle.lzk_policy_texts.specs.Seals.{is_sealed}
 
 abbrev pub policy_limit : ℕ
 policy_limit = 65536
@@ -35,24 +36,39 @@ policy_files = record {
 abbrev pub is_rooted : Contents → Bool
 is_rooted p = not (p.depth == 0)
 
--- why a text is no policy, or nothing where it is one that shows a root and should not, or does not and should
-abbrev pub IsUnfit : Bool → List ℕ → Option PolicyRefusal → Type 0
-IsUnfit rooted text None =
-    (p : Contents) × (policy_of text ≡ Ok p) × (hash_count p ≤ most_hashes) × (is_rooted p ≢ rooted)
-IsUnfit rooted text (Some refusal) = IsRefused text refusal
+-- how many files stand beside the values: the secret, where a pseudonym is shown of a sealed one, and the path, where
+-- a root is shown
+abbrev pub one_if : Bool → ℕ
+one_if true = 1
+one_if false = 0
 
-abbrev pub unfit_line : Bool → List ℕ → Option PolicyRefusal → List ℕ
-unfit_line rooted name None = kind_unfit_line rooted name
-unfit_line rooted name (Some refusal) = refusal_line name refusal
+abbrev pub beside_count : Contents → ℕ
+beside_count p = one_if (is_sealed p) + one_if (is_rooted p)
 
--- policies that show a root, or those that show a digest
-abbrev pub kind_files : Bool → Format Contents (Option PolicyRefusal)
-kind_files rooted = record {
+-- why a text is no policy beside whose values so many files stand: it is refused, or other files should stand there,
+-- as it is sealed or is not
+pub data Unfit : Type 0 where
+  Refused : PolicyRefusal → Unfit
+  Amiss : Bool → Unfit
+
+abbrev pub IsUnfit : ℕ → List ℕ → Unfit → Type 0
+IsUnfit count text (Refused refusal) = IsRefused text refusal
+IsUnfit count text (Amiss sealed) =
+    (p : Contents) × (policy_of text ≡ Ok p) × (hash_count p ≤ most_hashes) × (is_sealed p ≡ sealed) ×
+    (beside_count p ≢ count)
+
+abbrev pub unfit_line : ℕ → List ℕ → Unfit → List ℕ
+unfit_line count name (Refused refusal) = refusal_line name refusal
+unfit_line count name (Amiss sealed) = kind_unfit_line count sealed name
+
+-- policies beside whose values so many files stand
+abbrev pub kind_files : ℕ → Format Contents Unfit
+kind_files count = record {
   limit = policy_limit;
   means = λ text policy.
-      (policy_of text ≡ Ok policy) × (hash_count policy ≤ most_hashes) × (is_rooted policy ≡ rooted);
-  breaks = IsUnfit rooted;
-  refused = λ name unfit. says 3 (unfit_line rooted name unfit);
+      (policy_of text ≡ Ok policy) × (hash_count policy ≤ most_hashes) × (beside_count policy ≡ count);
+  breaks = IsUnfit count;
+  refused = λ name unfit. says 3 (unfit_line count name unfit);
 }
 
 -- the path of a leaf to a root

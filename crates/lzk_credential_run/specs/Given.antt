@@ -1,6 +1,5 @@
--- What `inputs` does.
-use Rattle.std.specs.Prelude.{◌≡◌, ◌⊎◌, ℕ, Bool, true, false, List, [], ◌∷◌, ◌++◌, length, map, take, drop, codes, slice_get, Option, Some, None, Result, Ok, Err}
-use Rattle.std.specs.Fmt.{decimal}
+-- The inputs of a record and values, and how they are put.
+use Rattle.std.specs.Prelude.{◌≡◌, ◌⊎◌, ℕ, List, [], ◌++◌, length, map, codes, slice_get, Option, Some, None, Result, Ok, Err}
 use Rattle.lzk_goldilocks.specs.Elements.{number}
 use Rattle.lzk_outside.specs.Outside.{Files, Holds, Torn}
 use Rattle.lzk_cmd_files.specs.declared.ending.Ending.{Ending}
@@ -17,21 +16,20 @@ use Rattle.lzk_policy_inputs.specs.declared.value.Value.{Value}
 use Rattle.lzk_policy_inputs.specs.declared.error.InputsError.{InputsError}
 use Rattle.lzk_policy_inputs.specs.declared.error.InputsError.TheVariants as causes
 use Rattle.lzk_policy_inputs.specs.Both.{Inputs}
-use Rattle.lzk_policy_inputs.specs.Filled.{private_of}
 use Rattle.lzk_policies.specs.declared.refusal.RootedInputsError.{RootedInputsError}
 use Rattle.lzk_policies.specs.declared.refusal.RootedInputsError.TheVariants as refusals
-use Rattle.lzk_policies.specs.Depths.{IsShownBy, SatisfyAt, private_count}
-use Rattle.lzk_policies.specs.Placed.{IsCredentialRefusal, root_words, shown_numbers}
+use Rattle.lzk_policies.specs.Placed.{IsCredentialRefusal}
 use Rattle.lzk_sha_path.specs.declared.error.PathError.{PathError}
 use Rattle.lzk_sha_path.specs.declared.error.PathError.TheVariants as paths
-use Rattle.lzk_credential_run.specs.declared.entries.ValuesFault.{ValuesFault}
-use Rattle.lzk_credential_run.specs.declared.entries.ValuesFault.TheVariants as faults
-use Rattle.lzk_credential_run.specs.Chosen.{values_of}
-use Rattle.lzk_credential_run.specs.Ends.{Way, Reads}
-use Rattle.lzk_credential_run.specs.Files.{kind_files, path_files, record_files}
+use Rattle.lzk_policy_texts.specs.declared.entries.ValuesFault.{ValuesFault}
+use Rattle.lzk_policy_texts.specs.declared.entries.ValuesFault.TheVariants as faults
+use Rattle.lzk_policy_texts.specs.Chosen.{values_of}
+use Rattle.lzk_policy_texts.specs.Inputs.{IsInputs}
+use Rattle.lzk_policy_texts.specs.Numbers.{number_lines}
+use Rattle.lzk_credential_run.specs.Ends.{Way}
 use Rattle.lzk_credential_run.specs.Lines.{kind_line, values_kind_name, leaf_line, nodes_line, put_line}
-use Rattle.lzk_credential_run.specs.Paths.{Placed, alone}
-use Rattle.lzk_credential_run.specs.Shown.{shown_of}
+use Rattle.lzk_policy_texts.specs.Paths.{Placed}
+use Rattle.lzk_policy_texts.specs.Shown.{shown_of}
 
 -- ---- lines
 
@@ -64,30 +62,16 @@ unfit_line = line (codes "refused: record and values do not fit the policy")
 
 -- ---- files
 
--- the values of a policy
-abbrev pub value_files : Contents → Format (List Value) ValuesFault
-value_files p = record {
+-- the values of a policy, beside a secret
+abbrev pub value_files : Contents → List ℕ → Format (List Value) ValuesFault
+value_files p secret = record {
   limit = 65536;
-  means = λ text vs. values_of p text ≡ Ok vs;
-  breaks = λ text fault. values_of p text ≡ Err fault;
+  means = λ text vs. values_of p secret text ≡ Ok vs;
+  breaks = λ text fault. values_of p secret text ≡ Err fault;
   refused = λ name fault. says 3 (values_line name p fault);
 }
 
--- numbers in decimal digits, one a line
-abbrev pub number_lines : List ℕ → List ℕ
-number_lines [] = []
-number_lines (n ∷ ns) = (decimal n ++ 10 ∷ []) ++ number_lines ns
-
 -- ---- inputs
-
--- The inputs of a policy's circuit for a record, values and a leaf: all that is shown is true, and they satisfy the
--- circuit. Where a digest is shown, the private ones are laid out in one way.
-pub record IsInputs (p : Contents) (m : List ℕ) (vs : List Value) (x : Placed) (i : Inputs) : Type 0 where
-  pub public : i.public ≡ root_words m x.leaf x.nodes ++ shown_numbers p m vs
-  pub private : p.depth ≡ 0 → i.private ≡ private_of p m vs
-  pub shown : IsShownBy p m (take 8 i.public) (drop 8 i.public)
-  pub count : length i.private ≡ private_count p.depth p
-  pub satisfied : SatisfyAt p.depth p (take 8 i.public) (drop 8 i.public) i.private
 
 -- how a run ends whose record and values have no inputs for this cause
 abbrev pub IsUnmade : Contents → InputsError → Ending → Type 0
@@ -158,32 +142,7 @@ PutsBoth public first private second old new e =
 abbrev pub PutsOne : List ℕ → Seen → Seen → Type 0
 PutsOne public old new = (new.files ≡ old.files) ⊎ ((bytes : List ℕ) × Holds old.files public bytes new.files)
 
--- the run has policy, record, values and a leaf: it puts the inputs, or there are none
-abbrev pub PutsInputs : List ℕ → Placed → List ℕ → List ℕ → Contents → List ℕ → List Value → Way
-PutsInputs path x public private p m vs old new e =
-    ((cause : RootedInputsError)
-    × IsCredentialRefusal p m vs x.leaf (length x.nodes) cause
-    × IsNoInputs path p (length x.nodes) cause e × (new.files ≡ old.files))
-    ⊎ ((i : Inputs) × IsInputs p m vs x i
-    × PutsBoth public (number_lines (map number i.public)) private (number_lines (map number i.private)) old new e)
-
-abbrev pub WithRecord : List ℕ → List ℕ → Placed → List ℕ → List ℕ → Contents → List ℕ → Way
-WithRecord values path x public private p m = Reads (value_files p) values (PutsInputs path x public private p m)
-
-abbrev pub WithPolicy : List ℕ → List ℕ → List ℕ → Placed → List ℕ → List ℕ → Contents → Way
-WithPolicy name values path x public private p =
-    Reads (record_files p.size) name (WithRecord values path x public private p)
-
--- a digest is shown: there is no path
-abbrev pub InputsRun : List ℕ → List ℕ → List ℕ → List ℕ → List ℕ → Way
-InputsRun policy name values public private =
-    Reads (kind_files false) policy (WithPolicy name values [] alone public private)
-
-abbrev pub WithPath : List ℕ → List ℕ → List ℕ → List ℕ → List ℕ → Contents → Way
-WithPath name values path public private p =
-    Reads path_files path (λ x. WithPolicy name values path x public private p)
-
--- a root is shown: the path is read behind the policy
-abbrev pub RootedRun : List ℕ → List ℕ → List ℕ → List ℕ → List ℕ → List ℕ → Way
-RootedRun policy name values path public private =
-    Reads (kind_files true) policy (WithPath name values path public private)
+-- the inputs are put, a number a line
+abbrev pub PutsInputs : List ℕ → List ℕ → Inputs → Way
+PutsInputs public private i =
+    PutsBoth public (number_lines (map number i.public)) private (number_lines (map number i.private))

@@ -1,14 +1,14 @@
 -- The lines that a run prints beside those that `zk` prints.
-use Rattle.std.specs.Prelude.{ℕ, ◌-◌, nat_le, ◌==◌, ◌&&◌, Bool, true, false, not, List, [], ◌∷◌, ◌++◌, codes, drop, if◌then◌else◌}
+use Rattle.std.specs.Prelude.{ℕ, zero, suc, ◌-◌, nat_le, ◌==◌, ◌&&◌, Bool, true, false, not, List, [], ◌∷◌, ◌++◌, codes, drop, if◌then◌else◌}
 use Rattle.std.specs.Fmt.{decimal}
 use Rattle.std.specs.List.{flat_map}
 use Rattle.std.specs.Int.{w64, to_be_bytes}
 use Rattle.hex.specs.Hex.{encode_lower}
 use Rattle.lzk_cmd_files.specs.Lines.{line, text_line}
-use Rattle.lzk_credential_run.specs.declared.entries.ValuesKind.{ValuesKind}
-use Rattle.lzk_credential_run.specs.declared.entries.ValuesKind.TheVariants as rules
-use Rattle.lzk_credential_run.specs.declared.entries.ValuesFault.{ValuesFault}
-use Rattle.lzk_credential_run.specs.declared.entries.ValuesFault.TheVariants as faults
+use Rattle.lzk_policy_texts.specs.declared.entries.ValuesKind.{ValuesKind}
+use Rattle.lzk_policy_texts.specs.declared.entries.ValuesKind.TheVariants as rules
+use Rattle.lzk_policy_texts.specs.declared.entries.ValuesFault.{ValuesFault}
+use Rattle.lzk_policy_texts.specs.declared.entries.ValuesFault.TheVariants as faults
 use Rattle.lzk_policy.specs.declared.fault.PolicyKind.{PolicyKind}
 use Rattle.lzk_policy.specs.declared.fault.PolicyKind.TheVariants as kinds
 use Rattle.lzk_policy.specs.declared.fault.PolicyFault.{PolicyFault}
@@ -35,9 +35,26 @@ abbrev pub policy_line : List ℕ → PolicyFault → List ℕ
 policy_line name fault = kind_line name fault.line (policy_kind_name fault.kind)
 
 -- a policy that shows a root and has no path, or shows a digest and has one
-abbrev pub kind_unfit_line : Bool → List ℕ → List ℕ
-kind_unfit_line true name = codes "refused: " ++ (name ++ line (codes " shows a digest, and there is a path"))
-kind_unfit_line false name = codes "refused: " ++ (name ++ line (codes " shows a root, and there is no path"))
+abbrev pub path_unfit_line : Bool → List ℕ → List ℕ
+path_unfit_line true name = codes "refused: " ++ (name ++ line (codes " shows a digest, and there is a path"))
+path_unfit_line false name = codes "refused: " ++ (name ++ line (codes " shows a root, and there is no path"))
+
+-- a policy that has a sealed pseudonym and no secret, or a secret and none
+abbrev pub secret_unfit_line : Bool → List ℕ → List ℕ
+secret_unfit_line true name =
+    codes "refused: " ++ (name ++ line (codes " has no sealed pseudonym, and there is a secret"))
+secret_unfit_line false name =
+    codes "refused: " ++ (name ++ line (codes " has a sealed pseudonym, and there is no secret"))
+
+-- A policy that is sealed or is not, where so many files stand beside the values and one more or fewer should. The one
+-- of a sealed policy is its secret.
+abbrev pub kind_unfit_line : ℕ → Bool → List ℕ → List ℕ
+kind_unfit_line zero true name = secret_unfit_line false name
+kind_unfit_line zero false name = path_unfit_line false name
+kind_unfit_line (suc zero) true name = path_unfit_line false name
+kind_unfit_line (suc zero) false name = path_unfit_line true name
+kind_unfit_line (suc (suc n)) true name = path_unfit_line true name
+kind_unfit_line (suc (suc n)) false name = secret_unfit_line true name
 
 abbrev pub values_kind_name : ValuesKind → List ℕ
 values_kind_name rules.Syntax = codes "Syntax"

@@ -7,38 +7,21 @@ ghost use Rattle.lzk_credential_run.specs.Ends.{NothingPut, Settles};
 
 use crate::lines;
 use crate::policies::read_policy;
-use lzk_beside::BesideError;
 use lzk_circbytes::encode;
 use lzk_cmd_files::{Ending, Halt, put_file};
-use lzk_level::LevelError;
 use lzk_outside::Shelf;
-use lzk_policies::{RootedError, credential_circuit};
 use lzk_policy::Policy;
-use lzk_policy_circuit::PolicyCircuitError;
-use lzk_sha_path::PathError;
+use lzk_policy_texts::{PolicyProofError, circuit_of};
 use std::alloc::Global;
 
 // The file of a policy's circuit.
 fn circuit_file(alloc: Global, name: &str, policy: &Policy) -> Result<Vec<u8>, Halt>
     ensures { MakesFile name.now policy.now result }
 {
-    match credential_circuit(alloc, policy) {
+    match circuit_of(alloc, policy) {
         Ok(circuit) => Ok(encode(alloc, &circuit)?),
-        Err(
-            RootedError::OutOfMemory
-            | RootedError::Policy(
-                PolicyCircuitError::OutOfMemory
-                | PolicyCircuitError::Statement(LevelError::OutOfMemory)
-                | PolicyCircuitError::Beside(BesideError::OutOfMemory),
-            )
-            | RootedError::Path(
-                PathError::OutOfMemory
-                | PathError::Statement(LevelError::OutOfMemory)
-                | PathError::Beside(BesideError::OutOfMemory),
-            )
-            | RootedError::Beside(BesideError::OutOfMemory),
-        ) => Err(Halt::Memory),
-        Err(_) => {
+        Err(PolicyProofError::OutOfMemory) => Err(Halt::Memory),
+        Err(PolicyProofError::Limit) => {
             let text = lines::refuse_limit(alloc, name)?;
             Err(Halt::End(Ending { status: 3, text }))
         }
@@ -63,7 +46,7 @@ fn put_circuit<S: Shelf>(
 }
 
 /// Puts the file of the circuit of the policy in a file.
-pub fn circuit<S: Shelf>(
+pub(crate) fn circuit<S: Shelf>(
     alloc: Global,
     policy: &str,
     circuit: &str,

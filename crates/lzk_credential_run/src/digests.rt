@@ -32,7 +32,7 @@ fn digest_of<S: Shelf>(
 }
 
 /// Tells the digest of a record of a policy's size.
-pub fn digest<S: Shelf>(
+pub(crate) fn digest<S: Shelf>(
     alloc: Global,
     policy: &str,
     name: &str,

@@ -1,29 +1,20 @@
-//! The command `inputs`.
+//! The inputs of a record and values, and the files that they are put in.
 
 ghost use Rattle.std.specs.Prelude.{◌≡◌, ℕ, List, ◌++◌, ◌≤◌, [], ◌∷◌, length, map, IfOk, OnOk, string_bytes};
-ghost use Rattle.std.specs.Fmt.{decimal};
-ghost use Rattle.lzk_goldilocks.specs.Elements.{number};
 ghost use Rattle.lzk_cmd_files.specs.Seen.{seen};
 ghost use Rattle.lzk_cmd_files.specs.Walks.{Decodes, Gives, IsEnding, OnlyReads};
 ghost use Rattle.lzk_credential_run.specs.Ends.{Settles};
 ghost use Rattle.lzk_credential_run.specs.Given as given;
 ghost use Rattle.lzk_credential_run.specs.Lines.{leaf_line, nodes_line};
-ghost use Rattle.lzk_credential_run.specs.Paths.{alone, placed_of};
+ghost use Rattle.lzk_policy_texts.specs.Paths.{placed_of};
 
-use crate::entries::{ValuesError, ValuesFault};
 use crate::lines;
-use crate::paths::{Path, read_path};
-use crate::policies::read_kind;
-use crate::records::read_record;
-use crate::showing::push_show;
-use crate::values::read_values;
 use lzk_cmd_files::{Ending, Halt, put_file, read_file};
-use lzk_field::Field;
-use lzk_goldilocks::Gold;
 use lzk_outside::Shelf;
 use lzk_policies::{Place, RootedInputs, RootedInputsError, credential_inputs};
 use lzk_policy::Policy;
 use lzk_policy_inputs::{InputsError, Value};
+use lzk_policy_texts::{Path, ValuesError, ValuesFault, number_text, push_show, read_values};
 use lzk_sha_path::PathError;
 use std::alloc::{AllocError, Global};
 
@@ -52,7 +43,8 @@ fn push_line_at(
     }
 }
 
-fn tell_no_value(alloc: Global, name: &str) -> Result<String, AllocError>
+/// The front of the line that refuses a text without a value.
+pub(crate) fn tell_no_value(alloc: Global, name: &str) -> Result<String, AllocError>
     ensures { IfOk result (λ s. string_bytes s ≡ given.no_value_front name.now) }
 {
     format!(in alloc; "refused: {name} has no value: ")
@@ -77,12 +69,18 @@ fn refuse_values(
     }
 }
 
-// The values that a text gives.
-fn values_in(alloc: Global, name: &str, policy: &Policy, text: &[u8]) -> Result<Vec<Value>, Halt>
+// The values that a text gives, beside a secret.
+fn values_in(
+    alloc: Global,
+    name: &str,
+    policy: &Policy,
+    secret: &[u8],
+    text: &[u8],
+) -> Result<Vec<Value>, Halt>
     requires { length text.now ≤ 65536 }
-    ensures { Decodes (given.value_files policy.now) (λ v. v.items) name.now text.now result }
+    ensures { Decodes (given.value_files policy.now secret.now) (λ v. v.items) name.now text.now result }
 {
-    match read_values(alloc, policy, text) {
+    match read_values(alloc, policy, secret, text) {
         Ok(values) => Ok(values),
         Err(ValuesError::OutOfMemory) => Err(Halt::Memory),
         Err(ValuesError::Fault(fault)) => {
@@ -92,19 +90,20 @@ fn values_in(alloc: Global, name: &str, policy: &Policy, text: &[u8]) -> Result<
     }
 }
 
-// The values that a file gives.
-fn read_given<S: Shelf>(
+/// The values that a file gives, beside a secret.
+pub(crate) fn read_given<S: Shelf>(
     alloc: Global,
     shelf: &mut S,
     name: &str,
     policy: &Policy,
+    secret: &[u8],
 ) -> Result<Vec<Value>, Halt>
-    ensures gives { Gives (given.value_files policy.now) (λ v. v.items) (seen S.Shelf shelf.old)
+    ensures gives { Gives (given.value_files policy.now secret.now) (λ v. v.items) (seen S.Shelf shelf.old)
         (seen S.Shelf shelf.new) name.now result }
     ensures reads { OnlyReads (seen S.Shelf shelf.old) (seen S.Shelf shelf.new) }
 {
     let text = read_file(alloc, shelf, name, MOST_VALUES)?;
-    values_in(alloc, name, policy, &text)
+    values_in(alloc, name, policy, secret, &text)
 }
 
 // The line of something shown that is not true.
@@ -208,8 +207,8 @@ fn halt_of(
     }
 }
 
-// The inputs of a record, values and a leaf.
-fn inputs_of(
+/// The inputs of a record, values and a leaf.
+pub(crate) fn inputs_of(
     alloc: Global,
     policy: &Policy,
     bytes: &[u8],
@@ -227,23 +226,6 @@ fn inputs_of(
         Ok(inputs) => Ok(inputs),
         Err(error) => Err(halt_of(alloc, policy, name, path, error)),
     }
-}
-
-fn push_number(text: &mut String, number: u128) -> Result<(), AllocError>
-    ensures { OnOk result (string_bytes text.new ≡ string_bytes text.old ++ (decimal number ++ 10 ∷ [])) }
-{
-    write!(text, "{number}\n")
-}
-
-// Numbers in decimal digits, one a line.
-fn number_text(alloc: Global, elements: &[Gold]) -> Result<String, AllocError>
-    ensures { IfOk result (λ s. string_bytes s ≡ given.number_lines (map number elements.now)) }
-{
-    let mut text = String::new(alloc);
-    for element in elements {
-        push_number(&mut text, element.number())?;
-    }
-    Ok(text)
 }
 
 // Puts one file and then another.
@@ -267,22 +249,16 @@ fn put_both<S: Shelf>(
     put_file(alloc, shelf, private_file, second, text)
 }
 
-// Puts the inputs of a record, values and a leaf.
-fn put_inputs<S: Shelf>(
+/// Puts the public and the private inputs, a number a line.
+pub(crate) fn put_inputs<S: Shelf>(
     alloc: Global,
-    policy: &Policy,
-    bytes: &[u8],
-    values: &[Value],
-    name: &str,
-    path: &Path,
+    inputs: &RootedInputs,
     outputs: &Outputs<'_>,
     shelf: &mut S,
 ) -> Result<Ending, Halt>
-    ensures { Settles (given.PutsInputs name.now (placed_of path.now) outputs.now.public.now
-        outputs.now.private.now policy.now bytes.now values.now) (given.PutsOne outputs.now.public.now)
-        (seen S.Shelf shelf.old) (seen S.Shelf shelf.new) result }
+    ensures { Settles (given.PutsInputs outputs.now.public.now outputs.now.private.now inputs.now)
+        (given.PutsOne outputs.now.public.now) (seen S.Shelf shelf.old) (seen S.Shelf shelf.new) result }
 {
-    let inputs = inputs_of(alloc, policy, bytes, values, name, path)?;
     let first = number_text(alloc, inputs.public())?;
     let second = number_text(alloc, inputs.private())?;
     put_both(
@@ -293,107 +269,4 @@ fn put_inputs<S: Shelf>(
         second.as_bytes(),
         shelf,
     )
-}
-
-// The same with the values in a file.
-fn with_record<S: Shelf>(
-    alloc: Global,
-    policy: &Policy,
-    bytes: &[u8],
-    values: &str,
-    name: &str,
-    path: &Path,
-    outputs: &Outputs<'_>,
-    shelf: &mut S,
-) -> Result<Ending, Halt>
-    ensures { Settles (given.WithRecord values.now name.now (placed_of path.now) outputs.now.public.now
-        outputs.now.private.now policy.now bytes.now) (given.PutsOne outputs.now.public.now)
-        (seen S.Shelf shelf.old) (seen S.Shelf shelf.new) result }
-{
-    let read = read_given(alloc, shelf, values, policy)?;
-    put_inputs(alloc, policy, bytes, &read, name, path, outputs, shelf)
-}
-
-// The same with the record in a file.
-fn with_policy<S: Shelf>(
-    alloc: Global,
-    policy: &Policy,
-    record: &str,
-    values: &str,
-    name: &str,
-    path: &Path,
-    outputs: &Outputs<'_>,
-    shelf: &mut S,
-) -> Result<Ending, Halt>
-    ensures { Settles (given.WithPolicy record.now values.now name.now (placed_of path.now)
-        outputs.now.public.now outputs.now.private.now policy.now) (given.PutsOne outputs.now.public.now)
-        (seen S.Shelf shelf.old) (seen S.Shelf shelf.new) result }
-{
-    let read = read_record(alloc, shelf, record, policy)?;
-    with_record(alloc, policy, &read, values, name, path, outputs, shelf)
-}
-
-// The same with the path in a file.
-fn with_path<S: Shelf>(
-    alloc: Global,
-    policy: &Policy,
-    record: &str,
-    values: &str,
-    name: &str,
-    outputs: &Outputs<'_>,
-    shelf: &mut S,
-) -> Result<Ending, Halt>
-    ensures { Settles (given.WithPath record.now values.now name.now outputs.now.public.now
-        outputs.now.private.now policy.now) (given.PutsOne outputs.now.public.now)
-        (seen S.Shelf shelf.old) (seen S.Shelf shelf.new) result }
-{
-    let read = read_path(alloc, shelf, name)?;
-    with_policy(alloc, policy, record, values, name, &read, outputs, shelf)
-}
-
-// A leaf under no root.
-fn alone(alloc: Global) -> Path
-    ensures { placed_of result ≡ alone }
-{
-    Path {
-        leaf: 0,
-        nodes: Vec::new(alloc),
-    }
-}
-
-/// Puts the public and the private inputs of a policy's circuit for a record and values, or names the first thing shown
-/// that is not true. The policy shows a digest.
-pub fn inputs<S: Shelf>(
-    alloc: Global,
-    policy: &str,
-    record: &str,
-    values: &str,
-    outputs: &Outputs<'_>,
-    shelf: &mut S,
-) -> Result<Ending, Halt>
-    ensures { Settles (given.InputsRun policy.now record.now values.now outputs.now.public.now
-        outputs.now.private.now) (given.PutsOne outputs.now.public.now)
-        (seen S.Shelf shelf.old) (seen S.Shelf shelf.new) result }
-{
-    let read = read_kind(alloc, shelf, policy, false)?;
-    let path = alone(alloc);
-    with_policy(alloc, &read, record, values, "", &path, outputs, shelf)
-}
-
-/// The same for a policy that shows a root, with the path of the record's digest to it.
-pub fn rooted<S: Shelf>(
-    alloc: Global,
-    policy: &str,
-    record: &str,
-    values: &str,
-    path: &str,
-    outputs: &Outputs<'_>,
-    shelf: &mut S,
-) -> Result<Ending, Halt>
-    ensures { Settles (given.RootedRun policy.now record.now values.now path.now outputs.now.public.now
-        outputs.now.private.now) (given.PutsOne outputs.now.public.now)
-        (seen S.Shelf shelf.old) (seen S.Shelf shelf.new) result }
-{
-    let read = read_kind(alloc, shelf, policy, true)?;
-    with_path(alloc, &read, record, values, path, outputs, shelf)
 }

@@ -1,36 +1,41 @@
-//! What the program `zk-credential` does: the circuit of a policy, the digest of a record, the inputs that show it, and
-//! what a verifier learns. PATH is there where the policy shows a root.
+//! What the program `zk-credential` does: the circuit of a policy, the digest of a record, the inputs that show it, a
+//! proof of them, the verdict on one, and what a verifier learns. SECRET is there where the policy shows a pseudonym of
+//! a sealed one, and PATH where it shows a root.
 //!
 //! ```text
 //! zk-credential circuit POLICY CIRCUIT
 //! zk-credential digest POLICY RECORD
-//! zk-credential inputs POLICY RECORD VALUES [PATH] PUBLIC PRIVATE
+//! zk-credential inputs POLICY RECORD VALUES [SECRET] [PATH] PUBLIC PRIVATE
+//! zk-credential prove POLICY RECORD VALUES [SECRET] [PATH] PROOF session=HEX [workers=N]
 //! zk-credential show POLICY
+//! zk-credential verify POLICY SHOWN PROOF session=HEX
 //! ```
 //!
 //! docs/POLICY.md has policies, values and inputs. This follows no standard. `specs/Runs.antt` says what a run does
 //! over a shelf of files and a sink, whatever they are. A caller writes
 //!
 //! ```text
-//! let status = run(alloc, &words, &mut shelf, &mut out);
+//! let status = run(&rt, alloc, &words, &mut shelf, &mut out, &Open);
 //! ```
 //!
-//! and a program's `main` hands its runtime over, as `run_program(&rt)`.
+//! and a program's `main` hands its runtime over, as `run_program(&rt, &rt)`.
 #![tactic(auto)]
 
 mod circuits;
 mod digests;
-mod entries;
+mod holding;
 mod inputs;
+mod keys;
 mod lines;
+mod orders;
 mod paths;
 mod policies;
 mod program;
+mod proving;
 mod records;
 mod running;
 mod showing;
-mod texts;
-mod values;
+mod verifying;
 mod words;
 
 pub use program::{run_program, run_words};

@@ -3,8 +3,8 @@
 ghost use Rattle.std.specs.Prelude.{◌≡◌, ◌++◌, ◌≤◌, IfOk, OnOk, string_bytes};
 ghost use Rattle.lzk_credential_run.specs.Lines as lines;
 
-use crate::entries::{ValuesFault, ValuesKind};
 use lzk_policy::{PolicyFault, PolicyKind};
+use lzk_policy_texts::{ValuesFault, ValuesKind};
 use std::alloc::{AllocError, Global};
 
 fn policy_kind_name(kind: PolicyKind) -> &'static str
@@ -24,24 +24,64 @@ fn policy_kind_name(kind: PolicyKind) -> &'static str
 }
 
 /// The line of a rule that a line of a file breaks.
-pub fn tell_line(alloc: Global, name: &str, line: u32, kind: &str) -> Result<String, AllocError>
+pub(crate) fn tell_line(
+    alloc: Global,
+    name: &str,
+    line: u32,
+    kind: &str,
+) -> Result<String, AllocError>
     ensures { IfOk result (λ s. string_bytes s ≡ lines.kind_line name.now line kind.now) }
 {
     format!(in alloc; "refused: {name} at line {line}: {kind}\n")
 }
 
 /// The line that refuses a text that is no policy.
-pub fn refuse_policy(alloc: Global, name: &str, fault: PolicyFault) -> Result<String, AllocError>
+pub(crate) fn refuse_policy(
+    alloc: Global,
+    name: &str,
+    fault: PolicyFault,
+) -> Result<String, AllocError>
     ensures { IfOk result (λ s. string_bytes s ≡ lines.policy_line name.now fault) }
 {
     tell_line(alloc, name, fault.line, policy_kind_name(fault.kind))
 }
 
-/// The line that refuses a policy that shows a root where there is no path, or a digest where there is one.
-pub fn refuse_kind(alloc: Global, name: &str, rooted: bool) -> Result<String, AllocError>
-    ensures { IfOk result (λ s. string_bytes s ≡ lines.kind_unfit_line rooted name.now) }
+// The line that refuses a policy that has a sealed pseudonym where there is no secret, or none where there is one.
+fn refuse_secret(alloc: Global, name: &str, given: bool) -> Result<String, AllocError>
+    ensures { IfOk result (λ s. string_bytes s ≡ lines.secret_unfit_line given name.now) }
 {
-    if rooted {
+    if given {
+        return format!(in alloc;
+            "refused: {name} has no sealed pseudonym, and there is a secret\n"
+        );
+    }
+    format!(in alloc; "refused: {name} has a sealed pseudonym, and there is no secret\n")
+}
+
+/// The line that refuses a policy, sealed or not, beside whose values other files should stand than so many.
+pub(crate) fn refuse_kind(
+    alloc: Global,
+    name: &str,
+    count: u32,
+    sealed: bool,
+) -> Result<String, AllocError>
+    ensures { IfOk result (λ s. string_bytes s ≡ lines.kind_unfit_line count sealed name.now) }
+{
+    match (count, sealed) {
+        (0, true) => refuse_secret(alloc, name, false),
+        (0, false) => refuse_path_kind(alloc, name, false),
+        (1, true) => refuse_path_kind(alloc, name, false),
+        (1, false) => refuse_path_kind(alloc, name, true),
+        (_, true) => refuse_path_kind(alloc, name, true),
+        (_, false) => refuse_secret(alloc, name, true),
+    }
+}
+
+// The line that refuses a policy that shows a root where there is no path, or a digest where there is one.
+fn refuse_path_kind(alloc: Global, name: &str, given: bool) -> Result<String, AllocError>
+    ensures { IfOk result (λ s. string_bytes s ≡ lines.path_unfit_line given name.now) }
+{
+    if given {
         return format!(in alloc; "refused: {name} shows a digest, and there is a path\n");
     }
     format!(in alloc; "refused: {name} shows a root, and there is no path\n")
@@ -59,7 +99,7 @@ fn values_kind_name(kind: ValuesKind) -> &'static str
 }
 
 /// The line of a rule that a line of values or of a path breaks.
-pub fn refuse_line(
+pub(crate) fn refuse_line(
     alloc: Global,
     name: &str,
     line: u32,
@@ -77,7 +117,11 @@ fn refuse_leafless(alloc: Global, name: &str) -> Result<String, AllocError>
 }
 
 /// The line that refuses a text that is no path.
-pub fn refuse_path(alloc: Global, name: &str, fault: ValuesFault) -> Result<String, AllocError>
+pub(crate) fn refuse_path(
+    alloc: Global,
+    name: &str,
+    fault: ValuesFault,
+) -> Result<String, AllocError>
     ensures { IfOk result (λ s. string_bytes s ≡ lines.path_line name.now fault) }
 {
     match fault {
@@ -87,7 +131,7 @@ pub fn refuse_path(alloc: Global, name: &str, fault: ValuesFault) -> Result<Stri
 }
 
 /// The line that refuses a file that has so many nodes, or bytes, and not as many as the policy says.
-pub fn refuse_count(
+pub(crate) fn refuse_count(
     alloc: Global,
     name: &str,
     count: usize,
@@ -100,21 +144,21 @@ pub fn refuse_count(
 }
 
 /// The line that refuses a path whose leaf is none of its row.
-pub fn refuse_leaf(alloc: Global, name: &str) -> Result<String, AllocError>
+pub(crate) fn refuse_leaf(alloc: Global, name: &str) -> Result<String, AllocError>
     ensures { IfOk result (λ s. string_bytes s ≡ lines.leaf_line name.now) }
 {
     format!(in alloc; "refused: {name}: its leaf is none of its row\n")
 }
 
 /// The line that refuses a policy whose circuit would pass a limit.
-pub fn refuse_limit(alloc: Global, name: &str) -> Result<String, AllocError>
+pub(crate) fn refuse_limit(alloc: Global, name: &str) -> Result<String, AllocError>
     ensures { IfOk result (λ s. string_bytes s ≡ lines.limit_line name.now) }
 {
     format!(in alloc; "refused: {name}: its circuit would pass a limit\n")
 }
 
 /// The line that tells that all is put.
-pub fn tell_put(alloc: Global) -> Result<String, AllocError>
+pub(crate) fn tell_put(alloc: Global) -> Result<String, AllocError>
     ensures { IfOk result (λ s. string_bytes s ≡ lines.put_line) }
 {
     "put\n".to_string(alloc)
@@ -127,7 +171,7 @@ fn tell_digits(alloc: Global, digits: &str) -> Result<String, AllocError>
 }
 
 /// The line of a digest.
-pub fn tell_digest(alloc: Global, digest: &[u8]) -> Result<String, AllocError>
+pub(crate) fn tell_digest(alloc: Global, digest: &[u8]) -> Result<String, AllocError>
     ensures { IfOk result (λ s. string_bytes s ≡ lines.digest_line digest.now) }
 {
     let digits = hex::encode(alloc, digest)?;

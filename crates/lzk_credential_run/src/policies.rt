@@ -3,13 +3,20 @@
 ghost use Rattle.std.specs.Prelude.{◌≡◌, ◌≤◌, length, IfOk, string_bytes};
 ghost use Rattle.lzk_cmd_files.specs.Seen.{seen};
 ghost use Rattle.lzk_cmd_files.specs.Walks.{Decodes, Gives, OnlyReads};
-ghost use Rattle.lzk_credential_run.specs.Files.{is_rooted, kind_files, policy_files, refusal_line};
+ghost use Rattle.lzk_credential_run.specs.Files.{
+  beside_count,
+  is_rooted,
+  kind_files,
+  policy_files,
+  refusal_line,
+};
 
 use crate::lines;
 use lzk_cmd_files::{Ending, Halt, read_file};
 use lzk_outside::Shelf;
 use lzk_policies::has_room;
 use lzk_policy::{Policy, PolicyError, PolicyFault, parse_policy};
+use lzk_policy_texts::is_sealed;
 use std::alloc::{AllocError, Global};
 
 /// The largest policy that is read, in bytes.
@@ -60,32 +67,44 @@ fn is_rooted(policy: &Policy) -> bool
     policy.depth() != 0
 }
 
-// The policy of this text, which shows a root or does not.
-fn kind_of(alloc: Global, name: &str, text: &[u8], rooted: bool) -> Result<Policy, Halt>
+// How many files stand beside the values: the secret and the path, as the policy wants them.
+fn beside_count(policy: &Policy) -> u32
+    ensures { result ≡ beside_count policy.now }
+{
+    match (is_sealed(policy), is_rooted(policy)) {
+        (true, true) => 2,
+        (true, false) => 1,
+        (false, true) => 1,
+        (false, false) => 0,
+    }
+}
+
+// The policy of this text, beside whose values so many files stand.
+fn kind_of(alloc: Global, name: &str, text: &[u8], count: u32) -> Result<Policy, Halt>
     requires { length text.now ≤ 65536 }
-    ensures { Decodes (kind_files rooted) (λ p. p) name.now text.now result }
+    ensures { Decodes (kind_files count) (λ p. p) name.now text.now result }
 {
     let policy = policy_of(alloc, name, text)?;
-    if is_rooted(&policy) == rooted {
+    if beside_count(&policy) == count {
         return Ok(policy);
     }
-    let text = lines::refuse_kind(alloc, name, rooted)?;
+    let text = lines::refuse_kind(alloc, name, count, is_sealed(&policy))?;
     Err(Halt::End(Ending { status: 3, text }))
 }
 
-/// The policy in a file, which shows a root or does not.
+/// The policy in a file, beside whose values so many files stand.
 pub(crate) fn read_kind<S: Shelf>(
     alloc: Global,
     shelf: &mut S,
     name: &str,
-    rooted: bool,
+    count: u32,
 ) -> Result<Policy, Halt>
-    ensures gives { Gives (kind_files rooted) (λ p. p) (seen S.Shelf shelf.old) (seen S.Shelf shelf.new)
+    ensures gives { Gives (kind_files count) (λ p. p) (seen S.Shelf shelf.old) (seen S.Shelf shelf.new)
         name.now result }
     ensures reads { OnlyReads (seen S.Shelf shelf.old) (seen S.Shelf shelf.new) }
 {
     let text = read_file(alloc, shelf, name, MOST_POLICY)?;
-    kind_of(alloc, name, &text, rooted)
+    kind_of(alloc, name, &text, count)
 }
 
 /// The policy in a file.

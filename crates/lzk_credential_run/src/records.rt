@@ -23,8 +23,22 @@ fn record_of(alloc: Global, name: &str, bytes: Vec<u8>, size: u32) -> Result<Vec
     Err(Halt::End(Ending { status: 3, text }))
 }
 
+/// The secret in a file: 16 bytes.
+pub(crate) fn read_secret<S: Shelf>(
+    alloc: Global,
+    shelf: &mut S,
+    name: &str,
+) -> Result<Vec<u8>, Halt>
+    ensures gives { Gives (record_files 16) (λ v. v.items) (seen S.Shelf shelf.old)
+        (seen S.Shelf shelf.new) name.now result }
+    ensures reads { OnlyReads (seen S.Shelf shelf.old) (seen S.Shelf shelf.new) }
+{
+    let bytes = read_file(alloc, shelf, name, 16)?;
+    record_of(alloc, name, bytes, 16)
+}
+
 /// The record of a policy's size in a file.
-pub fn read_record<S: Shelf>(
+pub(crate) fn read_record<S: Shelf>(
     alloc: Global,
     shelf: &mut S,
     name: &str,

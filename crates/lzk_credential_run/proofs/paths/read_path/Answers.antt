@@ -1,7 +1,7 @@
 use Rattle.lzk_cmd_files.specs.Seen.{seen}
 use Rattle.lzk_cmd_files.proofs.Steps.{no_bytes, decoded}
 use Rattle.lzk_credential_run.specs.Files.{path_files}
-use Rattle.lzk_credential_run.specs.Paths.{placed_of}
+use Rattle.lzk_policy_texts.specs.Paths.{placed_of}
 use Rattle.lzk_credential_run.proofs.paths.read_path.Goals as goal
 
 pub returns-in_err-text-clause-gives : goal.returns-in_err-text-clause-gives

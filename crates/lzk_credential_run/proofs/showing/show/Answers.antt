@@ -3,7 +3,7 @@ use Rattle.lzk_cmd_files.specs.Ends.{says}
 use Rattle.lzk_cmd_files.specs.Seen.{seen}
 use Rattle.lzk_credential_run.specs.Ends.{NothingPut, Says}
 use Rattle.lzk_credential_run.specs.Files.{policy_files}
-use Rattle.lzk_credential_run.specs.Shown.{shown_lines}
+use Rattle.lzk_policy_texts.specs.Shown.{shown_lines}
 use Rattle.lzk_credential_run.proofs.Steps.{ended}
 use Rattle.lzk_credential_run.proofs.showing.show.Goals as goal
 

@@ -1,7 +1,0 @@
--- A text behind a text.
-use Rattle.std.proofs.Common.{◌≡◌, ℕ, List, ◌++◌, Result, Ok, Err, ap, ◌∙◌, append_assoc}
-use Rattle.std.specs.Prelude.{OnOk}
-
-pub behind : {A E : Type 0} (r : Result A E) (new mid old front rest : List ℕ) → mid ≡ old ++ front → OnOk r (new ≡ mid ++ rest) → OnOk r (new ≡ old ++ (front ++ rest))
-behind (Ok x) new mid old front rest is h = h ∙ ap (λ m. m ++ rest) is ∙ append_assoc old front rest
-behind (Err e) new mid old front rest is h = tt

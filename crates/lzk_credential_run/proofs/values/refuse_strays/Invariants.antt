@@ -1,6 +1,0 @@
-use Rattle.std.proofs.Common.{◌≡◌, drop}
-use Rattle.lzk_credential_run.specs.Chosen.{none_stray}
-use Rattle.lzk_credential_run.proofs.values.refuse_strays.Given as goal
-
-abbrev pub invariant-loop-entry : goal.invariant-loop-entry
-invariant-loop-entry l = none_stray l.shows (drop l.entry-index l.entries) ≡ none_stray l.shows l.entries
