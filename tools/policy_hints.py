@@ -4,8 +4,8 @@
 usage: policy_hints.py COMMAND WORDS..     the words of `zk-credential`, as they were given
 
 ./zk-credential calls it after a run that ended with 0, 3, 4 or 5: a policy may be right and still say something else than it seems to. It reads
-again the policy, the values and the path that the words name, and nothing else: of a record only its size, and of a path it shows no line,
-since both are private. It says nothing of a pipe. This is no part of the proved program, which prints and ends as ever. Ends with 0 where it found
+again the policy, the values and the path that the words name, and nothing else: of a record and of a secret only the size, and of a path it
+shows no line, since they are private. It says nothing of a pipe. This is no part of the proved program, which prints and ends as ever. Ends with 0 where it found
 nothing, and else with 1. ZK_LINT=0 silences it.
 """
 
@@ -20,11 +20,16 @@ from profiles import PROFILE
 from statement import Fault, show
 
 # The limits of docs/POLICY.md.
-MOST_BYTES, MOST_FIELDS, MOST_SHOWS, MOST_TEXTS, MOST_TEXT, MOST_LEVELS = 55, 32, 8, 16, 7, PROFILE.most_levels
+MOST_BYTES, MOST_FIELDS, MOST_SHOWS, MOST_TEXTS, MOST_TEXT, MOST_LEVELS = 119, 32, 8, 16, 32, PROFILE.most_levels
 MOST_NAME, MOST_PSEUDONYM, MOST_FILE = 32, 35, 65_536
-# A circuit has room for so many hashes: the record's, one for each level of a root, one for each pseudonym.
+# A text of a line has at most so many bytes, and a field of which one is told so.
+SHORT_TEXT = 7
+# A circuit has room for so many hashes: the record's, two if it has more than ONE_BLOCK bytes, one for each level of a root, one for each
+# pseudonym, two where it is sealed.
 MOST_HASHES = PROFILE.most_hashes
+ONE_BLOCK = 55
 SALT = 16
+SECRET, SEALED = 16, 32
 QUOTES = "\"'\u201c\u201d\u2018\u2019`"
 
 FORMS = {
@@ -32,7 +37,8 @@ FORMS = {
     "date": "field NAME date at PLACE",
     "text": "field NAME text SIZE at PLACE",
     "bytes": "field NAME bytes SIZE at PLACE",
-    "field": "field NAME date at PLACE, field NAME text SIZE at PLACE, or field NAME bytes SIZE at PLACE",
+    "sealed": "field NAME sealed at PLACE",
+    "field": "field NAME date at PLACE, field NAME text SIZE at PLACE, field NAME bytes SIZE at PLACE, or field NAME sealed at PLACE",
     "digest": "show digest",
     "under": "show under root DEPTH",
     "at": "show NAME at most VALUE, or show NAME at least VALUE",
@@ -134,6 +140,9 @@ class Show:
     def __init__(self, line, field, way, value, texts=()):
         self.line, self.field, self.way, self.value, self.texts = line, field, way, value, texts
 
+    def is_sealed(self):
+        return self.way == "pseudonym" and self.field.kind == "sealed"
+
     def text(self):
         """As `zk-credential show` prints it."""
         name = readable(self.field.name)
@@ -173,9 +182,9 @@ class Policy:
 
     def take_field(self, line, first):
         name = line.name("the field's name", FORMS["field"])
-        kind = line.take("date, text or bytes", FORMS["field"], lambda word: word.text in ("date", "text", "bytes"))
+        kind = line.take("date, text, bytes or sealed", FORMS["field"], lambda word: word.text in ("date", "text", "bytes", "sealed"))
         form, size = FORMS[kind.text], None
-        if kind.text != "date":
+        if kind.text not in ("date", "sealed"):
             size = line.number_word("how many bytes the field has", form)
         line.literal(form, "at")
         place = line.number_word("the place of the field's first byte, counted from 0", form)
@@ -189,7 +198,8 @@ class Policy:
             raise line.fault("Order", first, "the record line comes first: record SIZE")
         if name.text in self.fields:
             raise line.fault("Repeated", name, f"a field is named {readable(name.text)} already")
-        bytes_of, at = 4 if size is None else int(size.text), int(place.text)
+        fixed, at = SEALED if kind == "sealed" else 4, int(place.text)
+        bytes_of = fixed if size is None else int(size.text)
         if kind == "text" and not 1 <= bytes_of <= MOST_TEXT:
             raise line.fault("Size", size, f"a text has 1 to {MOST_TEXT} bytes: cut a longer one into several fields")
         if kind == "bytes" and bytes_of < 1:
@@ -241,8 +251,8 @@ class Policy:
 
     def texts_of(self, line):
         texts = [line.take("a text", FORMS["one"])]
-        if len(texts[0].text) > MOST_TEXT:
-            raise line.syntax(texts[0], f"a text of at most {MOST_TEXT} bytes", FORMS["one"])
+        if len(texts[0].text) > SHORT_TEXT:
+            raise line.syntax(texts[0], f"a text of at most {SHORT_TEXT} bytes", FORMS["one"])
         size = len(texts[0].text)
         while line.next() is not None:
             if len(texts) == MOST_TEXTS:
@@ -276,14 +286,15 @@ class Policy:
     def check_claim(self, line, name, shown):
         field = shown.field
         is_kind = {"at most": "date", "at least": "date", "one of": "text", "pseudonym": "bytes"}.get(shown.way, field.kind)
-        if field.kind != is_kind or shown.way == "as" and field.kind == "bytes":
-            told = "bytes are never shown" if shown.way == "as" else f"{shown.way} takes a field of {is_kind}"
+        is_kind = "sealed" if shown.way == "pseudonym" and field.kind == "sealed" else is_kind
+        if field.kind != is_kind or shown.way == "as" and field.kind in ("bytes", "sealed"):
+            told = f"{'bytes are' if field.kind == 'bytes' else 'a seal is'} never shown" if shown.way == "as" else f"{shown.way} takes a field of {is_kind}"
             raise line.fault("Claim", name, f"{told}, and {readable(name.text)} is one of {field.kind}")
         if shown.texts and len(shown.texts[0].text) != field.size:
             word = shown.texts[0]
             more = quotes_told(word) if word.has_quotes() else ""
             raise line.fault("Claim", word, f"{readable(name.text)} has {field.size} bytes, and this text {len(word.text)}{more}")
-        if shown.way == "pseudonym" and field.size > MOST_PSEUDONYM:
+        if shown.way == "pseudonym" and field.kind == "bytes" and field.size > MOST_PSEUDONYM:
             raise line.fault("Claim", name, f"a pseudonym is made of a field of at most {MOST_PSEUDONYM} bytes, and this one has {field.size}")
 
     # What is right, and not what it seems to be.
@@ -305,12 +316,17 @@ class Policy:
         if not self.shows:
             raise Fault("Missing", last, 0, 1, "the policy ends with nothing shown beside the digest or the root")
 
+    def is_sealed(self):
+        """Whether a pseudonym is shown of a sealed field."""
+        return any(shown.is_sealed() for shown in self.shows)
+
     def told_of_whole(self, name):
         """What is to be said of a policy as a whole."""
         lines = []
-        hashes = 1 + self.depth + sum(shown.way == "pseudonym" for shown in self.shows)
+        blocks, own = (1, "the record's") if self.size <= ONE_BLOCK else (2, "two for the record's two blocks")
+        hashes = blocks + self.depth + sum((shown.way == "pseudonym") + shown.is_sealed() for shown in self.shows)
         if hashes > MOST_HASHES:
-            told = f"a circuit has room for {MOST_HASHES} hashes: the record's, one for each level of the root and one for each pseudonym"
+            told = f"a circuit has room for {MOST_HASHES} hashes: {own}, one for each level of the root and one for each pseudonym, two if it is sealed"
             lines.append(f"{name}: {told}. This policy needs {hashes}")
         covered = {place for field in self.fields.values() for place in field.span()}
         if self.size - len(covered) < SALT:
@@ -367,8 +383,8 @@ def entries_of(text):
     return entries
 
 
-def told_of_values(policy, name, text):
-    """What is wrong with a text of values for a policy, in lines."""
+def told_of_values(policy, name, text, whole=False):
+    """What is wrong with a text of values for a policy, in lines; in a whole one the value after `as` stands too."""
     try:
         entries = entries_of(text)
         asked = [shown for shown in policy.shows if shown.value is not None]
@@ -378,16 +394,16 @@ def told_of_values(policy, name, text):
                 raise line.fault("Unknown", word, f"no show line has a value of this name; they have: {', '.join(names) or 'none'}")
         lines = []
         for shown in asked:
-            lines += told_of_value(shown, name, [entry for entry in entries if entry[1].text == shown.value.text])
+            lines += told_of_value(shown, name, [entry for entry in entries if entry[1].text == shown.value.text], whole)
         return list(dict.fromkeys(lines))
     except Fault as fault:
         return show(name, text, fault)
 
 
-def told_of_value(shown, name, entries):
+def told_of_value(shown, name, entries, whole):
     """What is to be said of the lines that have the value of something shown."""
     if not entries:
-        needs = [] if shown.way == "as" else [f"{name} lacks a line: {readable(shown.value.text)}, and then {wanted_of(shown)}"]
+        needs = [] if shown.way == "as" and not whole else [f"{name} lacks a line: {readable(shown.value.text)}, and then {wanted_of(shown)}"]
         return needs
     line, word, value = entries[0]
     if len(entries) > 1:
@@ -399,6 +415,29 @@ def told_of_value(shown, name, entries):
     if shown.way != "pseudonym" and shown.field.kind == "date" and not is_day(value.text):
         return [f"{name}, line {line.number}: {value.text} is no day of the calendar; it is compared as a number"]
     return []
+
+
+def told_of_shown(policy, name, text):
+    """What is wrong with a text of what a verifier was shown: the digest or the root, the pseudonyms, and then values."""
+    names = ["root" if policy.depth else "digest"] + ["pseudonym" for shown in policy.shows if shown.way == "pseudonym"]
+    lines = text.split(b"\n")
+    try:
+        for number, whole in enumerate(lines, 1):
+            words = words_of(whole)
+            if words and names:
+                line, form = Line(number, words, words[-1].column + len(words[-1].text)), f"{names[0]} HEX, with 64 hexadecimal digits"
+                line.literal(form, names[0])
+                word = line.take("64 hexadecimal digits", form)
+                line.end_here(form)
+                if re.fullmatch("[0-9a-fA-F]{64}", word.text) is None:
+                    raise line.fault("Value", word, "wanted 64 hexadecimal digits")
+                lines[number - 1] = b""
+                names.pop(0)
+    except Fault as fault:
+        return show(name, text, fault)
+    if names:
+        return [f"{name} lacks a line: {names[0]}, and then 64 hexadecimal digits"]
+    return told_of_values(policy, name, b"\n".join(lines), True)
 
 
 # ---- paths: no line of theirs is shown, since it says which leaf is the holder's
@@ -488,41 +527,64 @@ def told_of_input_unread(name):
     return told_of_input(name, "a record")
 
 
-def told_of_kind(policy, rooted, policy_name):
-    if policy.depth > 0 and not rooted:
-        return [f"{policy_name} says show under root {policy.depth}: name the path's file after the values"]
-    if policy.depth == 0 and rooted:
-        return [f"{policy_name} says show digest: it takes no path, so the words are POLICY RECORD VALUES PUBLIC PRIVATE"]
-    return []
+def told_of_secret(name):
+    """Whether a secret has its size. Its bytes are not read."""
+    told = told_of_input_unread(name)
+    if told or not os.path.isfile(name) or os.stat(name).st_size == SECRET:
+        return told
+    return [f"{name} has {os.stat(name).st_size} bytes, and a secret has {SECRET}"]
 
 
-def told_of_inputs(names):
-    """What is to be said of a run of `inputs`, of the first file that is at fault."""
-    rooted, path = len(names) == 6, None
+def told_of_kind(policy, count, policy_name, last):
+    """Whether so many files stand beside the values as the policy wants. The last words of the command are told."""
+    wanted = [word for word, is_there in (("SECRET", policy.is_sealed()), ("PATH", policy.depth > 0)) if is_there]
+    if len(wanted) == count:
+        return []
+    heads = {
+        "PATH": f"{policy_name} says show under root {policy.depth}: name the path's file after the values",
+        "SECRET": f"{policy_name} shows a pseudonym of a sealed field: name the secret's file after the values",
+    }
+    if len(wanted) > count:
+        return [heads[wanted[0] if count == 0 else wanted[-1]]]
+    form = " ".join(["POLICY RECORD VALUES", *wanted, last])
+    return [f"{policy_name} says {'show digest' if policy.depth == 0 else 'nothing sealed'}: it takes no {'path' if policy.depth == 0 else 'secret'}, so the words are {form}"]
+
+
+def told_of_inputs(names, puts):
+    """What is to be said of a run of `inputs` or `prove`, which puts so many files, of the first file that is at fault."""
+    beside, path = names[3:-puts], None
     policy_name, record, values = names[:3]
     policy, told = told_of_policy(policy_name)
     if policy is None:
         return told
-    wrong = told_of_kind(policy, rooted, policy_name)
-    if not wrong and rooted:
-        text, wrong = read(names[3], "a path", ("a list of numbers", "an empty file"))
-        path, wrong = (None, wrong) if text is None else path_of(names[3], text)
+    wrong = told_of_kind(policy, len(beside), policy_name, "PUBLIC PRIVATE" if puts == 2 else "PROOF session=HEX")
+    if not wrong and policy.is_sealed():
+        wrong = told_of_secret(beside[0])
+    if not wrong and policy.depth:
+        text, wrong = read(beside[-1], "a path", ("a list of numbers", "an empty file"))
+        path, wrong = (None, wrong) if text is None else path_of(beside[-1], text)
     wrong = wrong or told_of_record(policy, record)
     if not wrong:
         text, wrong = read(values, "a text of values", ("a list of numbers", "an empty file"))
         wrong = wrong or told_of_values(policy, values, text)
     if not wrong and path:
-        wrong = told_of_place(policy, names[3], *path)
-    return told + wrong + [line for output in names[-2:] for line in told_of_output(output)]
+        wrong = told_of_place(policy, beside[-1], *path)
+    return told + wrong + [line for output in names[-puts:] for line in told_of_output(output)]
 
 
 def told_of(command, names):
-    counts = {"circuit": (2,), "digest": (2,), "inputs": (5, 6), "show": (1,)}
+    counts = {"circuit": (2,), "digest": (2,), "inputs": (5, 6, 7), "prove": (4, 5, 6), "show": (1,), "verify": (3,)}
+    if command in ("prove", "verify"):
+        while names and names[-1].startswith(("session=", "workers=")):
+            names = names[:-1]
     if len(names) not in counts.get(command, ()):
         raise Silent
-    if command == "inputs":
-        return told_of_inputs(names)
+    if command in ("inputs", "prove"):
+        return told_of_inputs(names, 2 if command == "inputs" else 1)
     policy, told = told_of_policy(names[0])
+    if command == "verify" and policy:
+        text, wrong = read(names[1], "a text of what was shown", ("a list of numbers", "an empty file"))
+        return told + (wrong or told_of_shown(policy, names[1], text))
     if command == "circuit":
         return told + told_of_output(names[1])
     if command == "digest":

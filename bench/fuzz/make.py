@@ -12,6 +12,8 @@ TAKEN = (b"digest", b"pseudonym")  # names of fields that cannot be shown, but a
 VALUES = (b"LATEST", b"TODAY", b"SERVICE", b"CODE", b"20081129", b"A", b"as")
 ODD = bytes(byte for byte in range(256) if byte not in b"\t\n\r #")
 FOREVER = b"/dev/zero"
+FIXED = {b"date": 4, b"sealed": 32}  # the kinds of fields whose line has no size
+HIDDEN = (b"bytes", b"sealed")
 
 
 class Made(NamedTuple):
@@ -44,35 +46,37 @@ def date(r: random.Random) -> int:
 def fields(r: random.Random, size: int) -> List[model.Field]:
     made: Dict[bytes, model.Field] = {}
     for _ in range(r.choice((1, 2, 3, 4, 5, 6)) if r.random() < 0.95 else r.choice((0, 32, 33))):
-        kind = r.choice((b"date", b"text", b"bytes"))
-        long = 4 if kind == b"date" else r.randint(1, min(size, 7 if kind == b"text" else r.choice((16, 35, 35, 55))))
+        kind = r.choice((b"date", b"text", b"bytes", b"sealed") if size >= 32 else (b"date", b"text", b"bytes"))
+        long = FIXED.get(kind) or r.randint(1, min(size, r.choice((7, 7, 8, 14, 32) if kind == b"text" else (16, 35, 35, 55))))
         if long > size:
             kind, long = b"text", 1
-        known = name(r, NAMES + TAKEN if kind == b"bytes" or r.random() < 0.1 else NAMES)
+        known = name(r, NAMES + TAKEN if kind in HIDDEN or r.random() < 0.1 else NAMES)
         made[known] = model.Field(known, kind, long, r.choice((0, size - long, r.randint(0, size - long))))
     return list(made.values())
 
 
 def claim(r: random.Random, of: List[model.Field], nth: int) -> Optional[List[bytes]]:
     """A thing shown of a field that can be shown; else maybe none."""
-    field = r.choice([field for field in of if field.kind == b"bytes" or field.name not in TAKEN] or of)
+    field = r.choice([field for field in of if field.kind in HIDDEN or field.name not in TAKEN] or of)
     chosen = b"V%d" % nth if r.random() < 0.6 else name(r, VALUES)
-    if field.kind == b"bytes":
+    if field.kind in HIDDEN:
         return [b"pseudonym", b"of", field.name, b"for", chosen] if field.size <= 35 else None
     if r.random() < 0.25:
         return [field.name, b"as", chosen]
     if field.kind == b"date":
         return [field.name, b"at", r.choice((b"most", b"least")), chosen]
+    if field.size > 7:
+        return [field.name, b"as", chosen]
     texts = [word(r, field.size, field.size) for _ in range(r.choice((1, 2, 3, 16)))]
     return [field.name, b"one", b"of", *texts]
 
 
 def policy(r: random.Random) -> List[List[bytes]]:
-    size = r.choice((1, 4, 47, 55, r.randint(1, 55), r.randint(8, 55)))
+    size = r.choice((1, 4, 47, 55, 56, 64, 119, r.randint(1, 55), r.randint(8, 55), r.randint(56, 119)))
     known = fields(r, size)
     lines = [[b"record", digits(r, size)]]
     for field in known:
-        long = [] if field.kind == b"date" else [digits(r, field.size)]
+        long = [] if field.kind in FIXED else [digits(r, field.size)]
         lines.append([b"field", field.name, field.kind, *long, b"at", digits(r, field.place)])
     is_root = r.random() < 0.4
     lines.append([b"show", b"under", b"root", digits(r, r.randint(1, model.MOST_LEVELS))] if is_root else [b"show", b"digest"])
@@ -108,8 +112,8 @@ def text_of(r: random.Random, lines: List[List[bytes]]) -> bytes:
 
 def other_word(r: random.Random, old: bytes) -> bytes:
     near = (old + b"x", old[:-1] or b"x", old.upper(), b"0x" + old, b"+" + old, b"-1", b"1.0", b'"' + old, old + b"\x00", b"\xc2\xa0" + old)
-    keyword = r.choice(NAMES + TAKEN + (b"record", b"field", b"text", b"bytes", b"most", b"least", b"for", b"as"))
-    return r.choice(near + (keyword, word(r, 40), digits(r, r.choice((0, 1, 7, 8, 35, 36, 55, 56, 999, 1000, 2**32, 2**64)))))
+    keyword = r.choice(NAMES + TAKEN + (b"record", b"field", b"text", b"bytes", b"sealed", b"most", b"least", b"for", b"as"))
+    return r.choice(near + (keyword, word(r, 40), digits(r, r.choice((0, 1, 7, 8, 32, 33, 35, 36, 55, 56, 119, 120, 999, 1000, 2**32, 2**64)))))
 
 
 def change_word(r: random.Random, lines: List[List[bytes]]) -> None:
@@ -143,7 +147,7 @@ def change_number(r: random.Random, lines: List[List[bytes]]) -> None:
     if found:
         line, at = r.choice(found)
         old = int(line[at])
-        line[at] = digits(r, r.choice((0, old + 1, max(old - 1, 0), 7, 8, 35, 36, 55, 56, 999, 1000)))
+        line[at] = digits(r, r.choice((0, old + 1, max(old - 1, 0), 7, 8, 35, 36, 55, 56, 119, 120, 999, 1000)))
 
 
 def swap_lines(r: random.Random, lines: List[List[bytes]]) -> None:
@@ -184,11 +188,11 @@ def other_claim(r: random.Random, lines: List[List[bytes]]) -> None:
 
 def other_field(r: random.Random, lines: List[List[bytes]]) -> None:
     """A field that may break several rules at once, mostly where fields stand."""
-    kind, size = r.choice((b"date", b"text", b"bytes")), r.choice((0, 1, 4, 7, 8, 35, 36, 55, 56))
+    kind, size = r.choice((b"date", b"text", b"bytes", b"sealed")), r.choice((0, 1, 4, 7, 8, 32, 33, 35, 36, 55, 56, 119, 120))
     known = r.choice([line[1] for line in lines if len(line) > 1] + [name(r, NAMES)])
     end = max([number for line in lines if line[:1] == [b"record"] for number in [model.number(line[-1]) or 0]], default=47)
     place = r.choice((0, max(end - size, 0), max(end - size, 0) + 1, end, 999))
-    long = [] if kind == b"date" else [digits(r, size)]
+    long = [] if kind in FIXED else [digits(r, size)]
     fields_end = max([nth for nth, line in enumerate(lines) if line[:1] == [b"field"]], default=0) + 1
     at = r.choice((fields_end, fields_end, r.randint(0, len(lines))))
     lines.insert(at, [b"field", known, kind, *long, b"at", digits(r, place)])
@@ -226,11 +230,17 @@ def broken_text(r: random.Random, lines: List[List[bytes]], breakers: Tuple[Call
 # ---- records, values and paths of a policy
 
 
-def record(r: random.Random, of: model.Policy) -> bytes:
-    """A record that is mostly such that what is shown can be true."""
+def secret(r: random.Random) -> bytes:
+    return r.getrandbits(128).to_bytes(16, "big")
+
+
+def record(r: random.Random, of: model.Policy, mine: bytes) -> bytes:
+    """A record that is mostly such that what is shown can be true, and the seals are those of this secret."""
     made = bytearray(r.choice(ODD) if r.random() < 0.7 else r.randrange(256) for _ in range(of.size))
-    for shown in of.claims:
+    for shown in sorted(of.claims, key=model.is_sealed):
         at = shown.field.place
+        if model.is_sealed(shown) and r.random() < 0.97:
+            made[at : at + 32] = model.seal_of(mine)
         if shown.field.kind == b"date":
             made[at : at + 4] = date(r).to_bytes(4, "big")
         if shown.texts and r.random() < 0.97:
@@ -254,11 +264,12 @@ def value(r: random.Random, shown: model.Claim, of: bytes) -> bytes:
     return digits(r, max(number, 0))[-32:] if r.random() < 0.97 else digits(r, r.choice((2**32, 9_999_999_999, 10**10)))
 
 
-def values(r: random.Random, of: model.Policy, given: bytes) -> List[List[bytes]]:
+def values(r: random.Random, of: model.Policy, given: bytes, stated: float = 0.6) -> List[List[bytes]]:
+    """The lines of values; one after `as` is stated with this share."""
     lines: Dict[bytes, bytes] = {}
-    for shown in of.claims:
-        if shown.what != b"one of" and (shown.what != b"as" or r.random() < 0.6):
-            lines.setdefault(shown.value, value(r, shown, given))
+    for known in of.claims:
+        if known.what != b"one of" and (known.what != b"as" or r.random() < stated):
+            lines.setdefault(known.value, value(r, known, given))
     made = [[key, lines[key]] for key in lines]
     r.shuffle(made)
     return made
@@ -294,6 +305,28 @@ def change_node(r: random.Random, lines: List[List[bytes]]) -> None:
         line[0] = r.choice((line[0] + b"0", line[0][1:] or b"x", line[0][:-1] + b"g", b"0x" + line[0][2:]))
 
 
+def shown(r: random.Random, of: model.Policy, lines: List[List[bytes]]) -> List[List[bytes]]:
+    """The lines that a verifier is shown, with digests that are no one's; a value after `as` may be left out in these lines."""
+    form = r.choice((b"%064x", b"%064x", b"%064X"))
+    return [*([key, form % r.getrandbits(256)] for key in model.first_names(of)), *lines]
+
+
+def change_first(r: random.Random, lines: List[List[bytes]]) -> None:
+    """One of the first lines is another's, or not there, or has another word."""
+    at = r.choice((0, 0, min(1, len(lines) - 1)))
+    how = r.randrange(5)
+    if how == 0:
+        del lines[at]
+    elif how == 1:
+        lines.insert(at, list(lines[at]))
+    elif lines[at]:
+        old = lines[at][-1]
+        lines[at][-1] = r.choice((old + b"0", old[1:] or b"x", old[:-1] + b"g", b"0x" + old[2:], old[:32], 2 * old))
+        if how == 2:
+            lines[at][0] = r.choice((*TAKEN, b"root", b"Digest"))
+
+
+SHOWN_BREAKERS = (change_first, change_first, change_value, unknown_value, change_word, add_word, drop_word, again, drop_lines, swap_lines)
 PATH_BREAKERS = (change_leaf, change_leaf, change_node, change_word, add_word, drop_word, again, again, drop_lines, drop_lines, swap_lines)
 
 
@@ -312,16 +345,27 @@ def read_policy(text: bytes) -> Optional[model.Policy]:
         return None
 
 
+def proof(r: random.Random) -> bytes:
+    """Bytes that are no proof."""
+    most = bytes(model.MOST_PROOF + r.choice((0, 1, 5000))) if r.random() < 0.05 else b""
+    return most or r.choice((b"", word(r, 99), r.getrandbits(40_000).to_bytes(5_000, "big")))
+
+
 def files(r: random.Random, right: float) -> Tuple[model.Files, Optional[model.Policy]]:
-    """The four files of a case, each right with this share."""
+    """The files of a case, each right with this share, and a proof that is none."""
     text = broken_text(r, policy(r), BREAKERS, 1 - (1 - right) / 2)
     known = read_policy(text)
     of = known or model.Policy(47, r.choice((0, 3)), ())
-    given = record(r, of)
+    mine = secret(r)
+    given = record(r, of, mine)
     lines, place = values(r, of, given), path(r, of.levels)
-    made: model.Files = {b"policy": text, b"record": given}
+    told = shown(r, of, lines if r.random() < 0.2 else values(r, of, given, 1.0))
+    made: model.Files = {b"policy": text, b"record": given, b"secret": mine, b"proof": proof(r)}
     made[b"values"] = broken_text(r, lines, tuple(map(safe, VALUE_BREAKERS)), right)
     made[b"path"] = broken_text(r, place, tuple(map(safe, PATH_BREAKERS)), right)
+    made[b"shown"] = broken_text(r, told, tuple(map(safe, SHOWN_BREAKERS)), right)
+    if r.random() > right:
+        made[b"secret"] = r.choice((mine[:-1], mine + b"\0", b"", mine + bytes(5000), secret(r), mine.hex().encode()))
     if r.random() > right:
         made[b"record"] = r.choice((given[:-1], given + b"\0", b"", given + bytes(5000), word(r, len(given), len(given)), given))
     return made, known
@@ -352,9 +396,48 @@ def disturb(r: random.Random, case: Made) -> Made:
 
 
 def words(r: random.Random) -> List[bytes]:
-    names = (b"policy", b"record", b"values", b"path", b"public", b"private")
-    first = r.choice((b"show", b"digest", b"circuit", b"inputs", b"help", b"version", b"Show", b"prove", b"eval", b"", word(r, 9).replace(b"\0", b"")))
-    return [first, *(r.choice(names) for _ in range(r.randint(0, 8)))][r.random() < 0.05 :]
+    names = (b"policy", b"record", b"values", b"secret", b"path", b"public", b"private", b"shown", b"proof")
+    commands = (b"show", b"digest", b"circuit", b"inputs", b"prove", b"verify")
+    first = r.choice((*commands, b"help", b"version", b"Show", b"eval", b"", odd_word(r)))
+    return [first, *(r.choice(names) for _ in range(r.randint(0, 8))), *(keys(r, first) if r.random() < 0.3 else [])][r.random() < 0.05 :]
+
+
+def odd_word(r: random.Random) -> bytes:
+    return word(r, 9).replace(b"\0", b"")
+
+
+def session(r: random.Random) -> bytes:
+    """The digits of a session of up to 64 bytes, of either case."""
+    size = r.choice((0, 1, 16, 32, 32, 64))
+    return r.choice((b"%0*x", b"%0*X")) % (2 * size, r.getrandbits(8 * size)) if size else b""
+
+
+def other_key(r: random.Random) -> bytes:
+    """A word that is no key, or a key that is another command's or has a wrong value, or stands twice."""
+    value = session(r)
+    near = (value + b"0", b"0" * 130, b"0g", b"0x00", b"00 ", b"-1", b"+1", b"\xc2\xa0")
+    count = r.choice((b"0", b"65", b"", b"0000000001", b"000000001", b"+1", b"1x", b"0x1", b" 1", b"1", b"64", b"99999999999999999999"))
+    key = r.choice((b"seed=", b"message=", b"version=", b"Session=", b"session", b"session:", b"=", b""))
+    return r.choice((b"session=" + r.choice(near), b"workers=" + count, key + value, b"session=" + value, b"workers=2"))
+
+
+def keys(r: random.Random, command: bytes) -> List[bytes]:
+    """The keys of a command, mostly right, in any order."""
+    made = [b"session=" + session(r)]
+    if command == b"prove" and r.random() < 0.5:
+        made.append(b"workers=%s" % r.choice((b"1", b"1", b"2", b"04", b"000000001", b"64")))
+    r.shuffle(made)
+    if r.random() < 0.1:
+        at = r.randint(0, len(made))
+        made[at : at + r.randint(0, 1)] = [other_key(r)]
+    return made if r.random() < 0.98 else made[1:]
+
+
+def beside(r: random.Random, known: Optional[model.Policy]) -> List[bytes]:
+    """The files between the values and what is put: mostly those that the policy wants, else any."""
+    if known is None or r.random() < 0.08:
+        return r.choice(([], [b"secret"], [b"path"], [b"secret", b"path"], [b"path", b"secret"]))
+    return [b"secret"] * any(map(model.is_sealed, known.claims)) + [b"path"] * (known.levels > 0)
 
 
 def case(r: random.Random) -> Made:
@@ -371,10 +454,12 @@ def case(r: random.Random) -> Made:
         chosen = words(r)
         if chosen[:1] == [b"circuit"]:
             chosen = [b"circuit"]
+    elif how < 0.6:
+        chosen = [b"verify", b"policy", b"shown", b"proof", *keys(r, b"verify")]
+    elif how < 0.7:
+        chosen = [b"prove", b"policy", b"record", b"values", *beside(r, known), b"proof", *keys(r, b"prove")]
     else:
-        is_root = known.levels > 0 if known else r.random() < 0.5
-        with_path = [b"path"] if is_root != (r.random() < 0.03) else []
-        chosen = [b"inputs", b"policy", b"record", b"values", *with_path, b"public", b"private"]
+        chosen = [b"inputs", b"policy", b"record", b"values", *beside(r, known), b"public", b"private"]
     for name_put in (b"public", b"private"):
         if r.random() < 0.2:
             made[name_put] = word(r, 99)

@@ -7,19 +7,22 @@ from __future__ import annotations
 
 import hashlib
 import os
-from typing import Dict, List, NamedTuple, Optional, Sequence, Tuple, Union
+import re
+from typing import Dict, List, NamedTuple, Optional, Pattern, Sequence, Tuple, Union
 
-MOST_TEXT = 65_536
+MOST_TEXT, MOST_PROOF = 65_536, 2_097_152
 # The numbers in which the profiles differ: levels, hashes of a circuit, the prime and its word.
 IS_STRONG = os.environ.get("ZK_PROFILE") == "strong"
 MOST_LEVELS, MOST_HASHES = (20, 32) if IS_STRONG else (6, 8)
 PRIME, PRIME_WORD = (2**128 - 2**54 + 1, b"prime128") if IS_STRONG else (2**64 - 2**32 + 1, b"goldilocks")
-DONE, WORDS, REFUSED, UNREAD, UNWRITTEN = 0, 2, 3, 4, 5
+DONE, REJECTED, WORDS, REFUSED, UNREAD, UNWRITTEN = 0, 1, 2, 3, 4, 5
 # The rules in the order of the page's table, which is the likeliest order of looking at them.
 KINDS = (b"Syntax", b"Order", b"Repeated", b"Size", b"Place", b"Unknown", b"Claim", b"Limit")
 FOLDER = None  # what a name is that cannot be read or written
 Files = Dict[bytes, Optional[bytes]]  # by name: a file's bytes, or FOLDER; a name that is not there is missing
 Numbers = List[Optional[int]]  # None for an idle number, which may be any
+Text = Union[bytes, Pattern[bytes]]  # a line that is printed, or what it is like; a group is the size of what is put
+Value = Union[int, bytes, None]  # a number, a tag, or none
 
 
 class End(Exception):
@@ -55,10 +58,20 @@ class Place(NamedTuple):
     nodes: Tuple[bytes, ...]
 
 
+class Truth(NamedTuple):
+    """What is proved of: all that was read, and true."""
+
+    policy: Policy
+    record: bytes
+    values: List[Value]
+    place: Place
+    secret: bytes
+
+
 class Ran(NamedTuple):
     status: int
-    texts: Tuple[bytes, ...]
-    puts: Dict[bytes, Union[Numbers, bytes]]  # what is written: numbers, or a circuit (b"")
+    texts: Tuple[Text, ...]
+    puts: Dict[bytes, Union[Numbers, bytes]]  # what is written: numbers, or a circuit or a proof (b"")
 
 
 # ---- texts
@@ -108,8 +121,8 @@ def form_of(words: List[bytes]) -> Optional[tuple]:
 
 
 def field_form(rest: List[bytes]) -> Optional[tuple]:
-    if len(rest) == 4 and rest[1:3] == [b"date", b"at"]:
-        size: Optional[int] = 4
+    if len(rest) == 4 and rest[1] in (b"date", b"sealed") and rest[2] == b"at":
+        size: Optional[int] = 4 if rest[1] == b"date" else 32
     elif len(rest) == 5 and rest[1] in (b"text", b"bytes") and rest[3] == b"at":
         size = number(rest[2])
     else:
@@ -149,8 +162,8 @@ def suits(claim: Claim) -> bool:
     if claim.what == b"as":
         return field.kind in (b"date", b"text")
     if claim.what == b"one of":
-        return field.kind == b"text" and len(claim.texts[0]) == field.size
-    return field.kind == b"bytes" and field.size <= 35
+        return field.kind == b"text" and field.size <= 7 and len(claim.texts[0]) == field.size
+    return field.kind == b"sealed" or (field.kind == b"bytes" and field.size <= 35)
 
 
 class Reading:
@@ -169,7 +182,7 @@ class Reading:
         return [kind for kind in KINDS if broken.get(kind)]
 
     def record(self, size: int) -> Dict[bytes, bool]:
-        broken = {b"Order": self.size is not None, b"Size": not 1 <= size <= 55}
+        broken = {b"Order": self.size is not None, b"Size": not 1 <= size <= 119}
         self.size = self.size or size
         return broken
 
@@ -177,7 +190,7 @@ class Reading:
         broken = {
             b"Order": self.size is None or self.levels is not None,
             b"Repeated": field.name in self.fields,
-            b"Size": field.size == 0 or (field.kind == b"text" and field.size > 7),
+            b"Size": field.size == 0 or (field.kind == b"text" and field.size > 32),
             b"Place": self.size is not None and field.place + field.size > self.size,
             b"Limit": len(self.fields) == 32,
         }
@@ -228,8 +241,12 @@ def shown_first(policy: Policy) -> bytes:
     return root if policy.levels else b"the SHA-256 digest of the record"
 
 
+def is_sealed(claim: Claim) -> bool:
+    return claim.what == b"pseudonym" and claim.field.kind == b"sealed"
+
+
 def hashes(policy: Policy) -> int:
-    return 1 + policy.levels + sum(claim.what == b"pseudonym" for claim in policy.claims)
+    return blocks(policy.size) + policy.levels + sum((claim.what == b"pseudonym") + is_sealed(claim) for claim in policy.claims)
 
 
 # ---- values and paths
@@ -243,7 +260,15 @@ def own(field: Field, record: bytes) -> int:
     return int.from_bytes(bytes_of(field, record), "big")
 
 
-def value_of(claim: Claim, word: bytes) -> Union[int, bytes, None]:
+def pieces(field: Field, value: int) -> List[int]:
+    """The public numbers of a value: one, or of a long text five, of which each has seven of its bytes."""
+    if field.kind != b"text" or field.size <= 7:
+        return [value]
+    text = value.to_bytes(field.size, "big")
+    return [int.from_bytes(text[at : at + 7], "big") for at in range(0, 35, 7)]
+
+
+def value_of(claim: Claim, word: bytes) -> Value:
     """The number or the tag that a word says, if it is a value of what is shown."""
     if claim.what == b"pseudonym":
         return bytes.fromhex(word.decode()) if is_hex(word, 32) else None
@@ -252,17 +277,22 @@ def value_of(claim: Claim, word: bytes) -> Union[int, bytes, None]:
     return int(word) if is_digits(word) and len(word.lstrip(b"0")) <= 10 else None
 
 
-def read_values(name: bytes, text: bytes, policy: Policy, record: bytes) -> List[Union[int, bytes, None]]:
-    """A number or a tag for each thing that is shown, and None for `one of`."""
-    lines = lines_of(text)
+Lines = List[Tuple[int, List[bytes]]]
+
+
+def check_value_lines(name: bytes, lines: Lines) -> None:
     for at, words in lines:
         if len(words) != 2 or max(map(len, words)) > 32:
             raise at_line(name, at, b"Syntax")
+
+
+def values_of(name: bytes, lines: Lines, policy: Policy, record: bytes) -> List[Value]:
+    """A number or a tag for each thing that is shown, and None for `one of`."""
     wanted = {claim.value for claim in policy.claims if claim.what != b"one of"}
     for at, words in lines:
         if words[0] not in wanted:
             raise at_line(name, at, b"Unknown")
-    made: List[Union[int, bytes, None]] = []
+    made: List[Value] = []
     for claim in policy.claims:
         if claim.what == b"one of":
             made.append(None)
@@ -279,6 +309,36 @@ def read_values(name: bytes, text: bytes, policy: Policy, record: bytes) -> List
     return made
 
 
+def read_values(name: bytes, text: bytes, policy: Policy, record: bytes) -> List[Value]:
+    lines = lines_of(text)
+    check_value_lines(name, lines)
+    return values_of(name, lines, policy, record)
+
+
+def first_names(policy: Policy) -> List[bytes]:
+    """The names of the first lines of what was shown."""
+    pseudonyms = [claim.what for claim in policy.claims if claim.what == b"pseudonym"]
+    return [b"root" if policy.levels else b"digest", *pseudonyms]
+
+
+def check_shown(name: bytes, text: bytes, policy: Policy) -> None:
+    """What was shown: the first line at fault, a digest or root that is missing, the values, and then what is left out."""
+    lines, names = lines_of(text), first_names(policy)
+    for (at, words), known in zip(lines, names):
+        if len(words) != 2 or words[0] != known:
+            raise at_line(name, at, b"Syntax")
+        if not is_hex(words[1], 64):
+            raise at_line(name, at, b"Value")
+    check_value_lines(name, lines[len(names) :])
+    if not lines:
+        raise End(REFUSED, b"refused: %s has no value: %s\n" % (name, shown_first(policy)))
+    values_of(name, lines[len(names) :], policy, bytes(policy.size))
+    given = {words[0] for _, words in lines[len(names) :]}
+    left = [claim for claim in policy.claims if claim.what == b"as" and claim.value not in given]
+    if left:
+        raise End(REFUSED, b"refused: %s has no value: %s\n" % (name, shown(left[0])))
+
+
 def read_place(name: bytes, text: bytes) -> Place:
     lines = lines_of(text)
     for nth, (at, words) in enumerate(lines):
@@ -292,8 +352,14 @@ def read_place(name: bytes, text: bytes) -> Place:
     return Place(int(lines[0][1][0]), tuple(bytes.fromhex(words[0].decode()) for _, words in lines[1:]))
 
 
-def is_true(claim: Claim, value: Union[int, bytes, None], record: bytes) -> bool:
+def seal_of(secret: bytes) -> bytes:
+    return hashlib.sha256(b"LZS1" + secret).digest()
+
+
+def is_true(claim: Claim, value: Value, record: bytes, secret: bytes = b"") -> bool:
     mine = own(claim.field, record)
+    if is_sealed(claim):
+        return bytes_of(claim.field, record) == seal_of(secret)
     if claim.what == b"one of":
         return bytes_of(claim.field, record) in claim.texts
     if claim.what == b"pseudonym":
@@ -360,21 +426,32 @@ def compress(block: bytes, start: Sequence[int]) -> Tuple[bytes, List[int]]:
     return b"".join(word.to_bytes(4, "big") for word in state), made
 
 
+def blocks(size: int) -> int:
+    """How many blocks of SHA-256 a message of so many bytes has with its padding."""
+    return 1 if size <= 55 else 2
+
+
 def padded(message: bytes) -> bytes:
-    return message + b"\x80" + bytes(55 - len(message)) + (8 * len(message)).to_bytes(8, "big")
+    zeros = 64 * blocks(len(message)) - 9 - len(message)
+    return message + b"\x80" + bytes(zeros) + (8 * len(message)).to_bytes(8, "big")
 
 
 def hashed(message: bytes) -> List[int]:
-    digest, made = compress(padded(message), FIRST)
-    assert digest == hashlib.sha256(message).digest()
+    whole = padded(message)
+    state, made = compress(whole[:64], FIRST)
+    if whole[64:]:
+        made += words_of(state)
+        state, more = compress(whole[64:], words_of(state))
+        made = made + more
+    assert state == hashlib.sha256(message).digest()
     return made
 
 
 # ---- inputs
 
 
-def message_of(claim: Claim, record: bytes, tag: bytes) -> bytes:
-    return b"LZP1" + bytes_of(claim.field, record) + tag
+def message_of(claim: Claim, record: bytes, tag: bytes, secret: bytes) -> bytes:
+    return b"LZP1" + (secret if is_sealed(claim) else bytes_of(claim.field, record)) + tag
 
 
 def climb(record: bytes, place: Place, lowest: Sequence[int] = NODE) -> Tuple[bytes, List[int]]:
@@ -392,19 +469,28 @@ def climb(record: bytes, place: Place, lowest: Sequence[int] = NODE) -> Tuple[by
 
 
 def inputs(
-    policy: Policy, record: bytes, values: Sequence[Union[int, bytes, None]], place: Place, lowest: Sequence[int] = NODE
+    policy: Policy,
+    record: bytes,
+    values: Sequence[Value],
+    place: Place,
+    secret: bytes = b"",
+    lowest: Sequence[int] = NODE,
 ) -> Tuple[List[int], Numbers]:
     """The public and private inputs for a record, true or not: a difference below 0 is taken modulo 2^32."""
     root, path = climb(record, place, lowest)
     public, stated, made = words_of(root), bits(int.from_bytes(record, "big"), 8 * len(record)), hashed(record)
     for claim, value in zip(policy.claims, values):
         if isinstance(value, bytes):
-            message = message_of(claim, record, value)
+            if is_sealed(claim):
+                seal = b"LZS1" + secret
+                stated += bits(int.from_bytes(seal, "big"), 8 * len(seal)) + words_of(seal_of(secret))
+                made += hashed(seal)
+            message = message_of(claim, record, value, secret)
             public += words_of(value) + words_of(hashlib.sha256(message).digest())
             stated += bits(int.from_bytes(message, "big"), 8 * len(message))
             made += hashed(message)
         elif value is not None:
-            public.append(value)
+            public += pieces(claim.field, value)
             if claim.what != b"as":
                 apart = (value - own(claim.field, record)) * (1 if claim.what == b"most" else -1)
                 stated += bits(apart % 2**32, 32)[::-1] + bits(value % 2**32, 32)[::-1]
@@ -452,7 +538,7 @@ def run_digest(files: Files, name: bytes, record: bytes) -> Ran:
     return Ran(DONE, (hashlib.sha256(read_bytes).hexdigest().encode() + b"\n",), {})
 
 
-def put(files: Files, puts: Sequence[Tuple[bytes, Union[Numbers, bytes]]]) -> Ran:
+def put(files: Files, puts: Sequence[Tuple[bytes, Union[Numbers, bytes]]], told: Text = b"put\n") -> Ran:
     """What is written until a name cannot be: one of a folder, or of no file in a folder that is not there."""
     done: Dict[bytes, Union[Numbers, bytes]] = {}
     for name, content in puts:
@@ -460,7 +546,7 @@ def put(files: Files, puts: Sequence[Tuple[bytes, Union[Numbers, bytes]]]) -> Ra
         if is_nowhere or files.get(name, b"") is None:
             return Ran(UNWRITTEN, (b"fault: writing %s\n" % name,), done)
         done[name] = content
-    return Ran(DONE, (b"put\n",), done)
+    return Ran(DONE, (told,), done)
 
 
 def run_circuit(files: Files, name: bytes, circuit: bytes) -> Ran:
@@ -468,13 +554,28 @@ def run_circuit(files: Files, name: bytes, circuit: bytes) -> Ran:
     return put(files, [(circuit, b"")])
 
 
-def run_inputs(files: Files, name: bytes, record_name: bytes, values_name: bytes, *names: bytes) -> Ran:
-    policy, path_name, place = read_policy(files, name), names[0], Place(0, ())
-    if policy.levels and len(names) == 2:
-        raise End(REFUSED, b"refused: %s shows a root, and there is no path\n" % name)
-    if not policy.levels and len(names) == 3:
-        raise End(REFUSED, b"refused: %s shows a digest, and there is a path\n" % name)
-    if len(names) == 3:
+# By how many files stand beside the values, and whether the policy has a sealed pseudonym.
+BESIDE = {
+    (0, True): b"has a sealed pseudonym, and there is no secret",
+    (0, False): b"shows a root, and there is no path",
+    (1, True): b"shows a root, and there is no path",
+    (1, False): b"shows a digest, and there is a path",
+    (2, True): b"shows a digest, and there is a path",
+    (2, False): b"has no sealed pseudonym, and there is a secret",
+}
+
+
+def read_truth(files: Files, name: bytes, record_name: bytes, values_name: bytes, beside: Sequence[bytes]) -> Truth:
+    policy, place, secret = read_policy(files, name), Place(0, ()), b""
+    sealed = any(map(is_sealed, policy.claims))
+    if len(beside) != sealed + (policy.levels > 0):
+        raise End(REFUSED, b"refused: %s %s\n" % (name, BESIDE[len(beside), sealed]))
+    if sealed:
+        secret = read(files, beside[0], 16)
+        if len(secret) < 16:
+            raise End(REFUSED, b"refused: %s has %d bytes and not 16\n" % (beside[0], len(secret)))
+    path_name = beside[-1] if beside else b""
+    if policy.levels:
         place = read_place(path_name, read(files, path_name, MOST_TEXT))
     record = read_record(files, record_name, policy)
     values = read_values(values_name, read(files, values_name, MOST_TEXT), policy, record)
@@ -483,22 +584,65 @@ def run_inputs(files: Files, name: bytes, record_name: bytes, values_name: bytes
     if place.leaf >= 2**policy.levels:
         raise End(REFUSED, b"refused: %s: its leaf is none of its row\n" % path_name)
     for claim, value in zip(policy.claims, values):
-        if not is_true(claim, value, record):
+        if not is_true(claim, value, record, secret):
             raise End(REFUSED, b"not true: %s\n" % shown(claim))
-    public, private = inputs(policy, record, values, place)
+    return Truth(policy, record, values, place, secret)
+
+
+def run_inputs(files: Files, name: bytes, record_name: bytes, values_name: bytes, *names: bytes) -> Ran:
+    public, private = inputs(*read_truth(files, name, record_name, values_name, names[:-2]))
     return put(files, [(names[-2], [*public]), (names[-1], private)])
 
 
-RUNS = {(b"show", 1): run_show, (b"digest", 2): run_digest, (b"circuit", 2): run_circuit}
-RUNS.update({(b"inputs", 5): run_inputs, (b"inputs", 6): run_inputs})
+def run_prove(files: Files, name: bytes, record_name: bytes, values_name: bytes, *names: bytes) -> Ran:
+    read_truth(files, name, record_name, values_name, names[:-1])
+    return put(files, [(names[-1], b"")], re.compile(rb"proved %s: ([1-9][0-9]*) bytes\n" % re.escape(names[-1])))
+
+
+def run_verify(files: Files, name: bytes, shown_name: bytes, proof: bytes) -> Ran:
+    """The verdict on bytes that are no proof for what was shown; the model makes no proofs, and cannot tell that some are one."""
+    policy = read_policy(files, name)
+    check_shown(shown_name, read(files, shown_name, MOST_TEXT), policy)
+    read(files, proof, MOST_PROOF)
+    return Ran(REJECTED, (re.compile(rb"rejected: [^\n]+\n"),), {})
+
+
+RUNS = {(b"show", 1): run_show, (b"digest", 2): run_digest, (b"circuit", 2): run_circuit, (b"verify", 3): run_verify}
+RUNS.update({(b"inputs", count): run_inputs for count in (5, 6, 7)})
+RUNS.update({(b"prove", count): run_prove for count in (4, 5, 6)})
+KEYS = {b"prove": (b"session=", b"workers="), b"verify": (b"session=",)}
+
+
+def is_value_of_key(key: bytes, value: bytes) -> bool:
+    if key == b"session=":
+        return is_hex(value, len(value)) and len(value) % 2 == 0 and len(value) <= 128
+    return is_digits(value) and len(value) <= 9 and 1 <= int(value) <= 64
+
+
+def without_keys(words: Sequence[bytes]) -> Optional[List[bytes]]:
+    """The command and its names, if the keys behind them are right: those behind the three names of `verify`, which are taken as
+    they stand, and all at the end that look like one behind those of `prove`."""
+    if not words or words[0] not in KEYS:
+        return [*words]
+    count = 4 if words[0] == b"verify" else len(words)
+    while words[0] == b"prove" and words[count - 1].startswith(KEYS[b"prove"]):
+        count -= 1
+    keys = [word[:8] for word in words[count:]]
+    is_right = all(key in KEYS[words[0]] and is_value_of_key(key, word[8:]) for key, word in zip(keys, words[count:]))
+    return [*words[:count]] if is_right and len({*keys}) == len(keys) and b"session=" in keys else None
+
+
+def is_told(text: bytes, by: Text) -> bool:
+    return text == by if isinstance(by, bytes) else by.fullmatch(text) is not None
 
 
 def run(words: Sequence[bytes], files: Files) -> Ran:
     """The end of a run of these words, with the files that it puts."""
-    step = RUNS.get((words[0], len(words) - 1)) if words else None
-    if step is None or not all(words):
+    left = without_keys(words)
+    step = RUNS.get((left[0], len(left) - 1)) if left else None
+    if left is None or step is None or not all(words):
         return Ran(WORDS, (b"refused: words\n",), {})
     try:
-        return step(files, *words[1:])
+        return step(files, *left[1:])
     except End as end:
         return Ran(end.status, end.texts, {})

@@ -24,7 +24,7 @@ fn end_with<T: Threads + Sync>(
     status: u8,
 ) -> bool {
     lzk_main::run_words(rt, threads, zk) == ExitCode::from(status)
-        && lzk_credential_run::run_words(rt, credential) == ExitCode::from(status)
+        && lzk_credential_run::run_words(rt, threads, credential) == ExitCode::from(status)
 }
 
 // The same without memory, and status 6.

@@ -45,9 +45,14 @@ fn ends<T: Threads + Sync>(
 }
 
 // Whether words of `zk-credential` end with a status.
-fn credential_ends(rt: &HostRuntime, text: &str, status: u8) -> Result<bool, AllocError> {
+fn credential_ends<T: Threads + Sync>(
+    rt: &HostRuntime,
+    threads: &T,
+    text: &str,
+    status: u8,
+) -> Result<bool, AllocError> {
     let words = words_of(rt.alloc(), text)?;
-    Ok(lzk_credential_run::run_words(rt, &words) == ExitCode::from(status))
+    Ok(lzk_credential_run::run_words(rt, threads, &words) == ExitCode::from(status))
 }
 
 /// Whether all end as listed.
@@ -58,7 +63,7 @@ pub fn end_as_listed<T: Threads + Sync>(rt: &HostRuntime, threads: &T) -> bool {
         }
     }
     for (text, status) in CREDENTIAL_RUNS {
-        if credential_ends(rt, text, status) != Ok(true) {
+        if credential_ends(rt, threads, text, status) != Ok(true) {
             return false;
         }
     }

@@ -8,7 +8,7 @@ use std::alloc::Global;
 use std::test::Fail;
 
 // Texts with the first line that breaks a rule, and the rule.
-const REFUSED: [(&[u8], u32, PolicyKind); 33] = [
+const REFUSED: [(&[u8], u32, PolicyKind); 38] = [
     (b"", 2, Missing),
     (b"record 47\n", 3, Missing),
     (b"record 47\nfield a date at 0\nshow digest", 4, Missing),
@@ -16,7 +16,7 @@ const REFUSED: [(&[u8], u32, PolicyKind); 33] = [
     (b"record 4 7\n", 1, Syntax),
     (b"record 0x2f\n", 1, Syntax),
     (b"record 1000\n", 1, Syntax),
-    (b"\n# a record\n record 56 # bytes", 3, Size),
+    (b"\n# a record\n record 120 # bytes", 3, Size),
     (b"record 0\n", 1, Size),
     (b"record 47\nrecord 47\n", 2, Order),
     (b"field a date at 0\n", 1, Order),
@@ -28,7 +28,12 @@ const REFUSED: [(&[u8], u32, PolicyKind); 33] = [
         Syntax,
     ),
     (b"record 47\nfield a date at 44\n", 2, Place),
-    (b"record 47\nfield a text 8 at 0\n", 2, Size),
+    (b"record 47\nfield a text 33 at 0\n", 2, Size),
+    (
+        b"record 47\nfield a text 8 at 0\nshow digest\nshow a one of abcdefg\n",
+        4,
+        Claim,
+    ),
     (b"record 47\nfield a bytes 0 at 0\n", 2, Size),
     (
         b"record 47\nfield a date at 0\nfield a text 2 at 4\n",
@@ -54,6 +59,18 @@ const REFUSED: [(&[u8], u32, PolicyKind); 33] = [
     ),
     (
         b"record 47\nfield a bytes 36 at 0\nshow digest\nshow pseudonym of a for S\n",
+        4,
+        Claim,
+    ),
+    (b"record 48\nfield a sealed 32 at 0\n", 2, Syntax),
+    (b"record 48\nfield a sealed at 17\n", 2, Place),
+    (
+        b"record 48\nfield a sealed at 16\nshow digest\nshow a as A\n",
+        4,
+        Claim,
+    ),
+    (
+        b"record 48\nfield a sealed at 16\nshow digest\nshow a at most A\n",
         4,
         Claim,
     ),
