@@ -41,7 +41,7 @@ enum lzk_answer {
   LZK_DONE = 0,
   /* A check fails. lzk_explain says which. */
   LZK_REJECTED = 1,
-  /* The session has more than 64 bytes, or a text more than 4,194,304. */
+  /* The session has more than 64 bytes, or a text more than 4,194,304, or one of a policy more than 65,536. */
   LZK_TOO_LONG = 2,
   /* The bytes are no circuit's file. */
   LZK_NO_CIRCUIT = 3,
@@ -65,7 +65,33 @@ enum lzk_answer {
   /* A pointer is NULL that may not be. Nothing was done. */
   LZK_NULL = 12,
   /* Of lzk_random_seed: the system gave no random numbers. */
-  LZK_NO_RANDOM = 13
+  LZK_NO_RANDOM = 13,
+  /* The text is no policy: kind (LZK_POLICY_..), line. */
+  LZK_NO_POLICY = 14,
+  /* The policy's circuit would pass a limit: in LZK1 it has more than 8 hashes, in the strong profile more than 32. A
+     record of 56 bytes or more counts as two. */
+  LZK_POLICY_LIMIT = 15,
+  /* The secret has not as many bytes as count says: 16, or none where the policy shows nothing of a sealed field. */
+  LZK_NO_SECRET = 16,
+  /* The text is no path: kind (LZK_ENTRY_..), line; or line 0 and LZK_ENTRY_MISSING: it has no leaf. */
+  LZK_NO_PATH = 17,
+  /* The record has not as many bytes as count says. */
+  LZK_NO_RECORD = 18,
+  /* The text gives no values: kind (LZK_ENTRY_..), line; or check is the place of what is shown and has none. */
+  LZK_NO_VALUES = 19,
+  /* The path has not as many nodes as count says. */
+  LZK_NO_NODES = 20,
+  /* The leaf's number is none of its row. */
+  LZK_NO_LEAF = 21,
+  /* Something shown is not true of the record: check is its place. */
+  LZK_NOT_TRUE = 22,
+  /* Record and values do not fit the policy. */
+  LZK_UNFIT = 23,
+  /* The text does not say what was shown: kind (LZK_ENTRY_..), line; or check is the place of what it leaves out. */
+  LZK_NO_SHOWN = 24,
+  /* No text says what is shown: a text of the record has a blank, a line feed or #, or one name would stand for two
+     values. */
+  LZK_UNSAID = 25
 };
 
 /* The checks of a proof, in their order: docs/PROTOCOL.md, section 9. */
@@ -124,6 +150,28 @@ enum lzk_source_kind {
   LZK_SOURCE_LIMIT = 9      /* a name is too long, too many parentheses are open, or there are too many inputs or asserts */
 };
 
+/* Which rule a policy breaks (LZK_NO_POLICY): docs/POLICY.md. */
+enum lzk_policy_kind {
+  LZK_POLICY_SYNTAX = 1,   /* the line has none of the forms of a policy's lines */
+  LZK_POLICY_ORDER = 2,    /* it stands in the wrong place, or a second time */
+  LZK_POLICY_REPEATED = 3, /* a field has this name already */
+  LZK_POLICY_SIZE = 4,     /* a record, a field or a text has too few or too many bytes */
+  LZK_POLICY_PLACE = 5,    /* the field goes past the record's end */
+  LZK_POLICY_UNKNOWN = 6,  /* no field has the name */
+  LZK_POLICY_CLAIM = 7,    /* what is shown does not suit the field */
+  LZK_POLICY_COUNT = 8,    /* there are too many fields or things shown, or a root has too many levels or none */
+  LZK_POLICY_MISSING = 9   /* the text ends early */
+};
+
+/* Which rule a text of values, a path or a text of what was shown breaks (LZK_NO_VALUES, LZK_NO_PATH, LZK_NO_SHOWN). */
+enum lzk_entry_kind {
+  LZK_ENTRY_SYNTAX = 1,   /* the line is not a name and a word, or that of a path not one word */
+  LZK_ENTRY_UNKNOWN = 2,  /* nothing shown has a value of this name */
+  LZK_ENTRY_REPEATED = 3, /* the name stands on a later line too */
+  LZK_ENTRY_VALUE = 4,    /* the word is no such date, text, tag, digest, leaf or node */
+  LZK_ENTRY_MISSING = 5   /* something is left out; line is 0 */
+};
+
 /* Which limit a source's circuit would pass (LZK_OVER_LIMIT). */
 enum lzk_limit_kind {
   LZK_LIMIT_LAYERS = 1, /* 512 layers */
@@ -135,17 +183,20 @@ enum lzk_limit_kind {
 #define LZK_MOST_PROOF 2097152
 #define LZK_MOST_CIRCUIT 67108864
 
-/* What came of lzk_compile, lzk_sha_circuit, lzk_upgrade, lzk_eval or lzk_prove. A field that the answer does not
-   speak of is 0. Where several causes stand together, the first of these is given: LZK_NULL, LZK_NO_VERSION,
-   LZK_NO_CIRCUIT, LZK_TOO_LONG, LZK_NO_NUMBERS, LZK_NO_PRIVATES, LZK_NO_SOURCE, LZK_OVER_LIMIT, LZK_UNSATISFIED,
-   LZK_NO_ROOM. */
+/* What came of lzk_compile, lzk_sha_circuit, lzk_upgrade, lzk_eval, lzk_prove or a call for policies. A field that the
+   answer does not speak of is 0. Where several causes stand together, the first of these is given: LZK_NULL,
+   LZK_NO_VERSION, LZK_NO_CIRCUIT, LZK_TOO_LONG, LZK_NO_NUMBERS, LZK_NO_PRIVATES, LZK_NO_SOURCE, LZK_OVER_LIMIT,
+   LZK_UNSATISFIED, LZK_NO_ROOM. Of the calls for policies: LZK_NULL, LZK_TOO_LONG, and then in the order of their
+   numbers from LZK_NO_POLICY on, and last LZK_NO_ROOM. */
 typedef struct lzk_outcome {
   uint32_t answer;   /* enum lzk_answer */
-  uint32_t kind;     /* of LZK_NO_CIRCUIT, LZK_NO_NUMBERS, LZK_NO_PRIVATES, LZK_NO_SOURCE, LZK_OVER_LIMIT */
-  uint32_t line;     /* of LZK_NO_NUMBERS, LZK_NO_PRIVATES, LZK_NO_SOURCE: the line of the text, from 1 */
-  uint32_t check;    /* of LZK_UNSATISFIED */
-  uint64_t offset;   /* of LZK_NO_CIRCUIT */
-  uint64_t count;    /* of LZK_DONE: bytes written; of LZK_NO_ROOM: bytes to be written; of LZK_OVER_LIMIT */
+  uint32_t kind;     /* of LZK_NO_CIRCUIT, LZK_NO_NUMBERS, LZK_NO_PRIVATES, LZK_NO_SOURCE, LZK_OVER_LIMIT, LZK_NO_POLICY, .. */
+  uint32_t line;     /* of LZK_NO_NUMBERS, LZK_NO_PRIVATES, LZK_NO_SOURCE, LZK_NO_POLICY, ..: the line of the text, from 1 */
+  uint32_t check;    /* of LZK_UNSATISFIED; of LZK_NOT_TRUE and LZK_ENTRY_MISSING the place of what is shown: 0 for the
+                        line behind `show digest` or `show under root`, and that behind the last for digest or root */
+  uint64_t offset;   /* of LZK_NO_CIRCUIT; of lzk_policy_inputs where LZK_DONE: where the private numbers begin */
+  uint64_t count;    /* of LZK_DONE: bytes written; of LZK_NO_ROOM: bytes to be written; of LZK_OVER_LIMIT; of LZK_NO_SECRET,
+                        LZK_NO_RECORD and LZK_NO_NODES: how many are wanted */
   uint8_t value[16]; /* of LZK_UNSATISFIED: a number, the lowest byte first */
 } lzk_outcome;
 
@@ -284,6 +335,52 @@ uint32_t lzk_random_seed(uint8_t seed[32]);
 uint32_t lzk_prove(const uint8_t *circuit, size_t circuit_len, const uint8_t *public_numbers, size_t public_numbers_len,
                    const uint8_t *private_numbers, size_t private_numbers_len, const uint8_t *session, size_t session_len,
                    const uint8_t seed[32], uint8_t *room, size_t room_len, lzk_outcome *outcome);
+
+/* ---- Policies: docs/POLICY.md has the texts, each of 65,536 bytes at most.
+
+   Issuer, wallet and service each make the circuit of a policy themselves:
+
+     issuer   lzk_policy_digest
+     wallet   lzk_policy_circuit, lzk_policy_inputs, lzk_prove, lzk_policy_shown: sends the proof and the text of what is shown
+     service  lzk_policy_circuit, lzk_policy_public of a text of what was shown, lzk_explain; and looks at what it says
+
+   No call takes a text of what was shown apart. So a service decodes what it was sent, decides on these parts, and
+   writes the text itself, in one form: digest or root and pseudonyms in small digits, and its own values. Or it decides
+   on numbers: the first eight of lzk_policy_public are the words of the digest or the root, and the last eight of a
+   pseudonym's twelve are the pseudonym's. Never compare digits as they were sent: a list of what was seen that is kept
+   by them is passed by capitals.
+
+   Each of these calls may give LZK_NULL, LZK_TOO_LONG, LZK_NO_POLICY, LZK_POLICY_LIMIT, LZK_NO_MEMORY or LZK_NO_ROOM. */
+
+/* What is shown of a record, and what it takes. The secret is empty where the policy shows nothing of a sealed field,
+   and the path where it shows the digest; one of a leaf and no node is taken there too. */
+typedef struct lzk_policy_given {
+  lzk_bytes policy, record, values, secret, path;
+} lzk_policy_given;
+
+/* Puts the lines of what a verifier learns by a policy at the start of room, as `zk-credential show` prints them: the
+   digest or the root, and then each thing that is shown, from place 0 on. */
+uint32_t lzk_policy_show(const uint8_t *policy, size_t policy_len, uint8_t *room, size_t room_len, lzk_outcome *outcome);
+
+/* Puts the file of a policy's circuit at the start of room. */
+uint32_t lzk_policy_circuit(const uint8_t *policy, size_t policy_len, uint8_t *room, size_t room_len, lzk_outcome *outcome);
+
+/* Puts the SHA-256 digest of a record of the policy's size at the start of room: 32 bytes. May give LZK_NO_RECORD. */
+uint32_t lzk_policy_digest(const uint8_t *policy, size_t policy_len, const uint8_t *record, size_t record_len, uint8_t *room, size_t room_len,
+                           lzk_outcome *outcome);
+
+/* Puts two texts of numbers at the start of room, which satisfy the policy's circuit: the public ones, outcome->offset
+   bytes, and behind them the private ones. May give all answers from LZK_NO_SECRET to LZK_UNFIT. */
+uint32_t lzk_policy_inputs(const lzk_policy_given *given, uint8_t *room, size_t room_len, lzk_outcome *outcome);
+
+/* Puts the text of what is shown at the start of room: digest or root, pseudonyms and values. Its public numbers are
+   those of lzk_policy_inputs, and it says nothing else of the record. May give what that call gives, and LZK_UNSAID. */
+uint32_t lzk_policy_shown(const lzk_policy_given *given, uint8_t *room, size_t room_len, lzk_outcome *outcome);
+
+/* Puts the text of the public numbers that a text of what was shown says at the start of room (docs/POLICY.md has their
+   order). Texts that say the same have the same numbers. May give LZK_NO_SHOWN. */
+uint32_t lzk_policy_public(const uint8_t *policy, size_t policy_len, const uint8_t *shown, size_t shown_len, uint8_t *room, size_t room_len,
+                           lzk_outcome *outcome);
 
 #ifdef __cplusplus
 }

@@ -156,6 +156,88 @@ inline verdict verify(view circuit, view public_numbers, view session, view proo
   return detail::judged(report);
 }
 
+// What is shown of a record, and what it takes. The secret is empty where the policy shows nothing of a sealed field,
+// and the path where it shows the digest.
+struct given {
+  view record, values, secret = {}, path = {};
+};
+
+// The texts of the public and of the private numbers that show a record.
+struct inputs {
+  bytes public_numbers, private_numbers;
+};
+
+// What a holder sends: a proof, and the text of what is shown.
+struct shown {
+  bytes proof, text;
+};
+
+// A policy: what a record is, and what is shown of it. Its circuit is made once.
+//
+// Nothing here takes a text of what was shown apart. A service writes it itself from decoded parts, in one form, or
+// compares numbers: see lzk.h.
+//
+//   lzk::policy policy(text);
+//   auto made = policy.prove({record, "LATEST 20081129\n"}, "nonce");
+//   if (policy.verify(made.text, "nonce", made.proof)) ..
+class policy {
+public:
+  explicit policy(view text) : text_(text) {
+    lines_ = detail::made([&](uint8_t *room, size_t len, lzk_outcome *found) { return lzk_policy_show(detail::at(text_), text_.size(), room, len, found); });
+    circuit_ = detail::made([&](uint8_t *room, size_t len, lzk_outcome *found) { return lzk_policy_circuit(detail::at(text_), text_.size(), room, len, found); });
+  }
+
+  // What a verifier learns, line by line.
+  const bytes &lines() const { return lines_; }
+
+  const bytes &circuit() const { return circuit_; }
+
+  // The SHA-256 digest of a record of the policy's size.
+  bytes digest(view record) const {
+    return detail::made([&](uint8_t *room, size_t len, lzk_outcome *found) {
+      return lzk_policy_digest(detail::at(text_), text_.size(), detail::at(record), record.size(), room, len, found);
+    });
+  }
+
+  // The texts of the numbers that show a record. Of what is not true the error's outcome.check is the place.
+  lzk::inputs inputs(const lzk::given &what) const {
+    const lzk_policy_given all = raw(what);
+    uint64_t first = 0;
+    bytes both = detail::made([&](uint8_t *room, size_t len, lzk_outcome *found) {
+      const uint32_t answer = lzk_policy_inputs(&all, room, len, found);
+      first = found->offset;
+      return answer;
+    });
+    return {both.substr(0, first), both.substr(first)};
+  }
+
+  // A proof for a record, by a seed of the system's, and the text of what it shows.
+  lzk::shown prove(const lzk::given &what, view session) const {
+    const lzk_policy_given all = raw(what);
+    const lzk::inputs numbers = inputs(what);
+    bytes text = detail::made([&](uint8_t *room, size_t len, lzk_outcome *found) { return lzk_policy_shown(&all, room, len, found); });
+    return {lzk::prove(circuit_, numbers.public_numbers, numbers.private_numbers, session), text};
+  }
+
+  // The text of the public numbers of what was shown: the first eight are the words of the digest or the root. Compare
+  // them and not the text, in which one digest may be written in several ways.
+  bytes public_numbers(view text) const {
+    return detail::made([&](uint8_t *room, size_t len, lzk_outcome *found) {
+      return lzk_policy_public(detail::at(text_), text_.size(), detail::at(text), text.size(), room, len, found);
+    });
+  }
+
+  // The verdict on a proof of what was shown. Look at what the text says: whether you trust its digest or root, and
+  // whether the values are yours.
+  verdict verify(view text, view session, view proof) const { return lzk::verify(circuit_, public_numbers(text), session, proof); }
+
+private:
+  static lzk_bytes piece(view v) { return {detail::at(v), v.size()}; }
+  lzk_policy_given raw(const lzk::given &what) const { return {piece(text_), piece(what.record), piece(what.values), piece(what.secret), piece(what.path)}; }
+
+  bytes text_, lines_, circuit_;
+};
+
 // A verifier that is fed a proof while it arrives.
 class desk {
 public:

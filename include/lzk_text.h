@@ -26,7 +26,7 @@ typedef struct lzk_meaning {
 static const lzk_meaning lzk_answer_texts[] = {
   {"Done", "done"},
   {"Rejected", "a check of the proof fails; refuse it"},
-  {"TooLong", "a session has more than 64 bytes, a text more than 4,194,304, or a message for sha_circuit more than 55; shorten it, a session by its SHA-256"},
+  {"TooLong", "a session has more than 64 bytes, a text more than 4,194,304 (of a policy 65,536), or a message for sha_circuit more than 55; shorten it, a session by its SHA-256"},
   {"NoCircuit", "the bytes are no circuit's file; compile the statement again, or look at your store"},
   {"NoNumbers", "the text has not exactly the circuit's public numbers, each below the field's size"},
   {"NoSource", "the text is no source"},
@@ -38,6 +38,18 @@ static const lzk_meaning lzk_answer_texts[] = {
   {"NoVersion", "there is no such version of circuits; take 1 or 2"},
   {"Null", "a pointer is NULL that may not be; NULL is empty only beside a length of 0"},
   {"NoRandom", "the system gave no random numbers; nothing was proved"},
+  {"NoPolicy", "the text is no policy"},
+  {"PolicyLimit", "the policy's circuit would pass a limit, as 8 hashes (strong profile: 32), and a record of 56 bytes or more counts as two; show fewer pseudonyms, a root of fewer levels, or a record of at most 55 bytes"},
+  {"NoSecret", "the secret has not as many bytes as the policy wants"},
+  {"NoPath", "the text is no path"},
+  {"NoRecord", "the record has not as many bytes as the policy says"},
+  {"NoValues", "the text does not give the values that the policy wants"},
+  {"NoNodes", "the path has not as many nodes as the policy has levels"},
+  {"NoLeaf", "the leaf's number is none of its row; it is below 2 to the power of the levels"},
+  {"NotTrue", "something shown is not true of the record; nothing was made"},
+  {"Unfit", "record and values do not fit the policy"},
+  {"NoShown", "the text does not say what was shown"},
+  {"Unsaid", "no text says what is shown: a text of the record has a blank, a line feed or `#`, or one name would stand for two values"},
 };
 
 static const lzk_meaning lzk_circuit_texts[] = {
@@ -73,6 +85,28 @@ static const lzk_meaning lzk_source_texts[] = {
   {"NoField", "the first statement is no `field` line; begin with `field goldilocks` (strong profile: `field prime128`) or `field gf2_128`"},
   {"NoAssert", "there is no assert"},
   {"Limit", "a name is too long, too many parentheses are open, or there are too many inputs or asserts"},
+};
+
+static const lzk_meaning lzk_policy_texts[] = {
+  {"", ""},
+  {"Syntax", "the line has none of the forms of a policy's lines"},
+  {"Order", "the line stands in the wrong place, or a second time; the record comes first, then fields, then digest or root, then all else"},
+  {"Repeated", "a field has this name already"},
+  {"Size", "a record, a field or a text has too few or too many bytes"},
+  {"Place", "the field goes past the record's end"},
+  {"Unknown", "no field has the name"},
+  {"Claim", "what is shown does not suit the field"},
+  {"Limit", "there are too many fields or things shown, or a root has too many levels or none"},
+  {"Missing", "the text ends before a record, its digest or a root, and one thing shown are there"},
+};
+
+static const lzk_meaning lzk_entry_texts[] = {
+  {"", ""},
+  {"Syntax", "the line is not a name and a word, or that of a path not one word"},
+  {"Unknown", "nothing that is shown has a value of this name"},
+  {"Repeated", "the name stands on a later line too"},
+  {"Value", "the word is no such date, text, tag, digest, leaf or node"},
+  {"Missing", "something is left out"},
 };
 
 static const lzk_meaning lzk_limit_texts[] = {
@@ -114,6 +148,10 @@ static inline const lzk_meaning *lzk_meaning_of(uint32_t answer, uint32_t kind) 
   case LZK_NO_PRIVATES: return LZK_ROW(lzk_number_texts, kind);
   case LZK_NO_SOURCE: return LZK_ROW(lzk_source_texts, kind);
   case LZK_OVER_LIMIT: return LZK_ROW(lzk_limit_texts, kind);
+  case LZK_NO_POLICY: return LZK_ROW(lzk_policy_texts, kind);
+  case LZK_NO_PATH:
+  case LZK_NO_VALUES:
+  case LZK_NO_SHOWN: return LZK_ROW(lzk_entry_texts, kind);
   default: return LZK_ROW(lzk_answer_texts, answer);
   }
 }
@@ -144,6 +182,14 @@ static inline const char *lzk_digits(const uint8_t *number, char *room) {
   return at;
 }
 
+/* Writes what an answer about a line of a text says, or about what it leaves out: of a path the leaf, else something of what is shown. */
+static inline void lzk_entry_text(const lzk_outcome *found, const char *which, char *room, size_t len) {
+  const lzk_meaning *means = lzk_meaning_of(found->answer, found->kind);
+  if (found->kind == LZK_ENTRY_MISSING && found->answer == LZK_NO_PATH) snprintf(room, len, "%s: %s: it has no leaf", which, means->name);
+  else if (found->kind == LZK_ENTRY_MISSING) snprintf(room, len, "%s: %s: %s: place %u of what is shown", which, means->name, means->text, found->check);
+  else snprintf(room, len, "%s at line %u: %s: %s", which, found->line, means->name, means->text);
+}
+
 /* Writes what an outcome says into a room, and gives it: one line, with no line feed. */
 static inline char *lzk_text(const lzk_outcome *found, char *room, size_t len) {
   const lzk_meaning *means = lzk_meaning_of(found->answer, found->kind);
@@ -157,6 +203,14 @@ static inline char *lzk_text(const lzk_outcome *found, char *room, size_t len) {
   case LZK_NO_ROOM: snprintf(room, len, "%s: %llu", means->text, count); break;
   case LZK_OVER_LIMIT: snprintf(room, len, "%s: the source's circuit would need %llu, over the limit of %s", means->name, count, means->text); break;
   case LZK_UNSATISFIED: snprintf(room, len, "check %u is %s, and has to be 0: %s", found->check, lzk_digits(found->value, digits), means->text); break;
+  case LZK_NO_POLICY: snprintf(room, len, "policy at line %u: %s: %s", found->line, means->name, means->text); break;
+  case LZK_NO_PATH: lzk_entry_text(found, "path", room, len); break;
+  case LZK_NO_VALUES: lzk_entry_text(found, "values", room, len); break;
+  case LZK_NO_SHOWN: lzk_entry_text(found, "what was shown", room, len); break;
+  case LZK_NO_SECRET:
+  case LZK_NO_RECORD:
+  case LZK_NO_NODES: snprintf(room, len, "%s: %s: %llu", means->name, means->text, count); break;
+  case LZK_NOT_TRUE: snprintf(room, len, "%s: %s: place %u of what is shown", means->name, means->text, found->check); break;
   default: snprintf(room, len, "%s: %s", means->name, means->text);
   }
   return room;

@@ -11,7 +11,7 @@
    Measured over 512 layers, the most that a circuit may have, it goes 41 KiB down over Goldilocks and 82 over
    GF(2^128), and 2 over one layer; proving 52 and 100, and 41 and 59 over one layer. The rest is for other
    compilers. examples/embed/test/made.c looks at all of it. */
-enum { OF_A_LAYER = 208, TO_EVAL = 16 << 10, TO_PROVE = 72 << 10, TO_PROVE_DEEP = 40 << 10, MOST_LAYERS = 512 };
+enum { OF_A_LAYER = 208, TO_EVAL = 16 << 10, TO_PROVE = 72 << 10, TO_PROVE_DEEP = 40 << 10, TO_SHOW = 24 << 10, MOST_LAYERS = 512 };
 
 /* Some bytes of a caller: a pointer and their number. */
 #define IN(name) const uint8_t *name, size_t name##_len
@@ -40,6 +40,13 @@ typedef struct {
 } given;
 
 uint32_t lzk_proved_prove(const given *given, uint8_t *room, size_t room_len, lzk_outcome *outcome);
+
+uint32_t lzk_proved_policy_show(IN(policy), uint8_t *, size_t, lzk_outcome *);
+uint32_t lzk_proved_policy_circuit(IN(policy), uint8_t *, size_t, lzk_outcome *);
+uint32_t lzk_proved_policy_digest(IN(policy), IN(record), uint8_t *, size_t, lzk_outcome *);
+uint32_t lzk_proved_policy_inputs(const lzk_policy_given *, uint8_t *, size_t, lzk_outcome *);
+uint32_t lzk_proved_policy_shown(const lzk_policy_given *, uint8_t *, size_t, lzk_outcome *);
+uint32_t lzk_proved_policy_public(IN(policy), IN(shown), uint8_t *, size_t, lzk_outcome *);
 
 uint32_t lzk_version(void) { return lzk_proved_version(); }
 
@@ -170,6 +177,60 @@ uint32_t lzk_prove(IN(circuit), IN(numbers), IN(privates), IN(session), const ui
   deep = TO_PROVE_DEEP + OF_A_LAYER * layers_of(circuit, circuit_len);
   clear_stack(deep > TO_PROVE ? deep : TO_PROVE);
   return outcome->answer;
+}
+
+/* ---- Policies */
+
+uint32_t lzk_policy_show(IN(policy), uint8_t *room, size_t room_len, lzk_outcome *outcome) {
+  uint8_t none[1];
+  if (IS_NULL(policy) || IS_NULL(room) || !outcome) return null_outcome(outcome);
+  return lzk_proved_policy_show(GIVEN(policy), room ? room : none, room_len, outcome);
+}
+
+uint32_t lzk_policy_circuit(IN(policy), uint8_t *room, size_t room_len, lzk_outcome *outcome) {
+  uint8_t none[1];
+  if (IS_NULL(policy) || IS_NULL(room) || !outcome) return null_outcome(outcome);
+  return lzk_proved_policy_circuit(GIVEN(policy), room ? room : none, room_len, outcome);
+}
+
+uint32_t lzk_policy_digest(IN(policy), IN(record), uint8_t *room, size_t room_len, lzk_outcome *outcome) {
+  uint8_t none[1];
+  if (IS_NULL(policy) || IS_NULL(record) || IS_NULL(room) || !outcome) return null_outcome(outcome);
+  lzk_proved_policy_digest(GIVEN(policy), GIVEN(record), room ? room : none, room_len, outcome);
+  clear_stack(TO_SHOW);
+  return outcome->answer;
+}
+
+/* Whether some of the bytes that are given are at NULL. Empty ones at NULL are set to lie elsewhere, in a copy. */
+static int fill_given(lzk_policy_given *given) {
+  return fill(&given->policy) | fill(&given->record) | fill(&given->values) | fill(&given->secret) | fill(&given->path);
+}
+
+typedef uint32_t (*policy_call)(const lzk_policy_given *, uint8_t *, size_t, lzk_outcome *);
+
+static uint32_t with_given(policy_call call, const lzk_policy_given *given, uint8_t *room, size_t room_len, lzk_outcome *outcome) {
+  lzk_policy_given filled; /* pointers alone: no secret is copied here */
+  uint8_t none[1];
+  if (!given || IS_NULL(room) || !outcome) return null_outcome(outcome);
+  filled = *given;
+  if (fill_given(&filled)) return null_outcome(outcome);
+  call(&filled, room ? room : none, room_len, outcome);
+  clear_stack(TO_SHOW);
+  return outcome->answer;
+}
+
+uint32_t lzk_policy_inputs(const lzk_policy_given *given, uint8_t *room, size_t room_len, lzk_outcome *outcome) {
+  return with_given(lzk_proved_policy_inputs, given, room, room_len, outcome);
+}
+
+uint32_t lzk_policy_shown(const lzk_policy_given *given, uint8_t *room, size_t room_len, lzk_outcome *outcome) {
+  return with_given(lzk_proved_policy_shown, given, room, room_len, outcome);
+}
+
+uint32_t lzk_policy_public(IN(policy), IN(shown), uint8_t *room, size_t room_len, lzk_outcome *outcome) {
+  uint8_t none[1];
+  if (IS_NULL(policy) || IS_NULL(shown) || IS_NULL(room) || !outcome) return null_outcome(outcome);
+  return lzk_proved_policy_public(GIVEN(policy), GIVEN(shown), room ? room : none, room_len, outcome);
 }
 
 uint32_t lzk_random_seed(uint8_t seed[32]) {

@@ -12,16 +12,23 @@ The calls are those of liblzk, whose code is proved (docs/EMBEDDING.md), and lea
 by side. Python keeps copies of what it was handed: private numbers and seeds stay in its memory until they are
 overwritten. The library keeps none.
 
+`Policy` has the calls for policies: what is shown of a record, proved and verified (docs/POLICY.md).
+
 `python3 -m lzk help` has the commands of `zk`, in this process.
 """
 
 from ._calls import Field, Info, Verdict, library_version
-from ._errors import Error, NoCircuit, NoMemory, NoNumbers, NoSource, OverLimit, Rejected, TooLong, Unsatisfied
+from ._errors import (
+    Error, NoCircuit, NoLeaf, NoMemory, NoNodes, NoNumbers, NoPath, NoPolicy, NoRecord, NoSecret, NoShown, NoSource, NotTrue, NoValues, OverLimit,
+    PolicyLimit, Rejected, TooLong, Unsaid, Unsatisfied,
+)  # fmt: skip
 from ._lzk import Desk, Job, circuit_info, compile, evaluate, explain, explain_each, explain_pieces, prove, sha_circuit, upgrade, verify
+from ._policies import Inputs, Policy, Shown, Told, word
 
 __all__ = [
-    "Desk", "Error", "Field", "Info", "Job", "NoCircuit", "NoMemory", "NoNumbers", "NoSource", "OverLimit", "Rejected", "TooLong", "Unsatisfied",
-    "Verdict", "circuit_info", "compile", "evaluate", "explain", "explain_each", "explain_pieces", "library_version", "prove",
-    "sha_circuit", "upgrade", "verify",
+    "Desk", "Error", "Field", "Info", "Inputs", "Job", "NoCircuit", "NoLeaf", "NoMemory", "NoNodes", "NoNumbers", "NoPath", "NoPolicy", "NoRecord",
+    "NoSecret", "NoShown", "NoSource", "NoValues", "NotTrue", "OverLimit", "Policy", "PolicyLimit", "Rejected", "Shown", "Told", "TooLong", "Unsaid",
+    "Unsatisfied", "Verdict", "circuit_info", "compile", "evaluate", "explain", "explain_each", "explain_pieces", "library_version", "prove",
+    "sha_circuit", "upgrade", "verify", "word",
 ]  # fmt: skip
 __version__ = "0.2"

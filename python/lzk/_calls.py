@@ -42,6 +42,10 @@ class Job(ctypes.Structure):
     _fields_ = [("public_numbers", Bytes), ("session", Bytes), ("proof", Bytes), ("report", Report)]
 
 
+class PolicyGiven(ctypes.Structure):
+    _fields_ = [(name, Bytes) for name in ("policy", "record", "values", "secret", "path")]
+
+
 class Field(enum.IntEnum):
     """The field of a circuit."""
 
@@ -135,6 +139,8 @@ def _load() -> ctypes.CDLL:
     shapes = {
         "lzk_explain": "bbbbp", "lzk_explain_pieces": "bbbpnp", "lzk_explain_each": "bpn", "lzk_compile": "ubrp", "lzk_circuit_info": "bp",
         "lzk_sha_circuit": "urp", "lzk_upgrade": "brp",
+        "lzk_policy_show": "brp", "lzk_policy_circuit": "brp", "lzk_policy_digest": "bbrp", "lzk_policy_public": "bbrp", "lzk_policy_inputs": "prp",
+        "lzk_policy_shown": "prp",
         "lzk_eval": "bbbp", "lzk_prove": "bbbbsrp", "lzk_desk_open": "pbbb", "lzk_desk_feed": "pb", "lzk_desk_end": "pp", "lzk_desk_free": "p",
     }  # fmt: skip
     for name, shape in shapes.items():

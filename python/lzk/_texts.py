@@ -4,7 +4,7 @@
 ANSWER = (
     ("Done", "done"),
     ("Rejected", "a check of the proof fails; refuse it"),
-    ("TooLong", "a session has more than 64 bytes, a text more than 4,194,304, or a message for sha_circuit more than 55; shorten it, a session by its SHA-256"),
+    ("TooLong", "a session has more than 64 bytes, a text more than 4,194,304 (of a policy 65,536), or a message for sha_circuit more than 55; shorten it, a session by its SHA-256"),
     ("NoCircuit", "the bytes are no circuit's file; compile the statement again, or look at your store"),
     ("NoNumbers", "the text has not exactly the circuit's public numbers, each below the field's size"),
     ("NoSource", "the text is no source"),
@@ -16,6 +16,18 @@ ANSWER = (
     ("NoVersion", "there is no such version of circuits; take 1 or 2"),
     ("Null", "a pointer is NULL that may not be; NULL is empty only beside a length of 0"),
     ("NoRandom", "the system gave no random numbers; nothing was proved"),
+    ("NoPolicy", "the text is no policy"),
+    ("PolicyLimit", "the policy's circuit would pass a limit, as 8 hashes (strong profile: 32), and a record of 56 bytes or more counts as two; show fewer pseudonyms, a root of fewer levels, or a record of at most 55 bytes"),
+    ("NoSecret", "the secret has not as many bytes as the policy wants"),
+    ("NoPath", "the text is no path"),
+    ("NoRecord", "the record has not as many bytes as the policy says"),
+    ("NoValues", "the text does not give the values that the policy wants"),
+    ("NoNodes", "the path has not as many nodes as the policy has levels"),
+    ("NoLeaf", "the leaf's number is none of its row; it is below 2 to the power of the levels"),
+    ("NotTrue", "something shown is not true of the record; nothing was made"),
+    ("Unfit", "record and values do not fit the policy"),
+    ("NoShown", "the text does not say what was shown"),
+    ("Unsaid", "no text says what is shown: a text of the record has a blank, a line feed or `#`, or one name would stand for two values"),
 )
 CIRCUIT = (
     ("", ""),
@@ -48,6 +60,26 @@ SOURCE = (
     ("NoField", "the first statement is no `field` line; begin with `field goldilocks` (strong profile: `field prime128`) or `field gf2_128`"),
     ("NoAssert", "there is no assert"),
     ("Limit", "a name is too long, too many parentheses are open, or there are too many inputs or asserts"),
+)
+POLICY = (
+    ("", ""),
+    ("Syntax", "the line has none of the forms of a policy's lines"),
+    ("Order", "the line stands in the wrong place, or a second time; the record comes first, then fields, then digest or root, then all else"),
+    ("Repeated", "a field has this name already"),
+    ("Size", "a record, a field or a text has too few or too many bytes"),
+    ("Place", "the field goes past the record's end"),
+    ("Unknown", "no field has the name"),
+    ("Claim", "what is shown does not suit the field"),
+    ("Limit", "there are too many fields or things shown, or a root has too many levels or none"),
+    ("Missing", "the text ends before a record, its digest or a root, and one thing shown are there"),
+)
+ENTRY = (
+    ("", ""),
+    ("Syntax", "the line is not a name and a word, or that of a path not one word"),
+    ("Unknown", "nothing that is shown has a value of this name"),
+    ("Repeated", "the name stands on a later line too"),
+    ("Value", "the word is no such date, text, tag, digest, leaf or node"),
+    ("Missing", "something is left out"),
 )
 LIMIT = (
     ("", ""),

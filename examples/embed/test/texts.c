@@ -67,7 +67,7 @@ int main(void) {
   made(proved("9 9", "3", 0), "public numbers at line 1: TooMany: there are more numbers than the circuit has");
   made(proved("9", "\n-3", 0), "private numbers at line 2: Syntax: a word is no number; write decimal digits, or hexadecimal ones after 0x, with no sign");
   made(proved("18446744069414584321", "3", 0), "public numbers at line 1: TooLarge: a number is not below the field's size");
-  made(proved("9", "3", 65), "TooLong: a session has more than 64 bytes, a text more than 4,194,304, or a message for sha_circuit more than 55; shorten it, a session by its SHA-256");
+  made(proved("9", "3", 65), "TooLong: a session has more than 64 bytes, a text more than 4,194,304 (of a policy 65,536), or a message for sha_circuit more than 55; shorten it, a session by its SHA-256");
   lzk_prove(circuit, len, T("9"), T("3"), T("nonce"), NULL, proof, sizeof proof, &found);
   made(found, "Null: a pointer is NULL that may not be; NULL is empty only beside a length of 0");
   lzk_prove(circuit, len, T("9"), T("3"), T("nonce"), seed, proof, sizeof proof, &found);
@@ -96,7 +96,7 @@ int main(void) {
   made(found, "Unknown: there is no text for this number; is the library newer than this header?");
   found.answer = LZK_UNSATISFIED;
   made(found, "check 4294967295 is 340282366920938463463374607431768211455, and has to be 0: *");
-  for (uint32_t answer = 0; answer < 16; answer++)
+  for (uint32_t answer = 0; answer < 28; answer++)
     for (uint32_t kind = 0; kind < 16; kind++) {
       found.answer = answer, found.kind = kind;
       if (strlen(lzk_text(&found, text, sizeof text)) >= LZK_MOST_TEXT - 1) expect(text, "a text that is not cut off");

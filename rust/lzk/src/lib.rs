@@ -10,13 +10,16 @@
 //! ```
 //!
 //! The circuit is the statement: take it from your own store, and never from who sends the proof. The code of the
-//! calls is proved (docs/EMBEDDING.md); this crate only hands them slices.
+//! calls is proved (docs/EMBEDDING.md); this crate only hands them slices. [`Policy`] has the calls for policies.
 #![warn(missing_docs)]
 
 use std::fmt;
 
+mod policies;
 mod raw;
 mod texts;
+
+pub use policies::{Given, Inputs, Policy, PolicyError, Shown, Told};
 
 /// No proof's file has more bytes.
 pub const MOST_PROOF: usize = 2_097_152;
@@ -35,7 +38,7 @@ pub enum Version {
 #[derive(Clone, Copy, Debug, PartialEq, Eq)]
 #[non_exhaustive]
 pub enum Error {
-    /// A session has more than 64 bytes, or a text more than 4,194,304.
+    /// A session has more than 64 bytes, or a text more than 4,194,304, or one of a policy more than 65,536.
     TooLong,
     /// The bytes are no circuit's file.
     NoCircuit {
@@ -85,6 +88,8 @@ pub enum Error {
     OtherVersion,
     /// The system gave no random numbers for a seed.
     NoRandom,
+    /// Of a policy.
+    Policy(PolicyError),
 }
 
 // The name and the text of a row of a table.
@@ -116,6 +121,7 @@ impl Error {
             Error::NoMemory => texts::ANSWER[6],
             Error::Unsatisfied { .. } => texts::ANSWER[8],
             Error::NoRandom => texts::ANSWER[13],
+            Error::Policy(ref error) => error.meaning(),
             Error::OtherVersion => (
                 "OtherVersion",
                 "the library is of another version than this crate",
@@ -146,6 +152,7 @@ impl fmt::Display for Error {
             Error::Unsatisfied { check, value } => {
                 write!(f, "check {check} is {value}, and has to be 0: {text}")
             }
+            Error::Policy(error) => error.fmt(f),
             _ => write!(f, "{name}: {text}"),
         }
     }
@@ -319,7 +326,7 @@ fn done(found: &raw::Outcome) -> Result<usize, Error> {
             limit: rule,
             count: found.count,
         },
-        _ => Error::NoMemory,
+        _ => PolicyError::of(found).map_or(Error::NoMemory, Error::Policy),
     })
 }
 

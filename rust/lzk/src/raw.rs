@@ -44,6 +44,23 @@ pub struct Info {
 }
 
 #[repr(C)]
+#[derive(Clone, Copy)]
+pub struct Bytes {
+    pub start: *const u8,
+    pub len: usize,
+}
+
+#[repr(C)]
+#[derive(Clone, Copy)]
+pub struct PolicyGiven {
+    pub policy: Bytes,
+    pub record: Bytes,
+    pub values: Bytes,
+    pub secret: Bytes,
+    pub path: Bytes,
+}
+
+#[repr(C)]
 pub struct Desk {
     _opaque: [u8; 0],
 }
@@ -103,6 +120,50 @@ extern "C" {
         s: *const u8,
         sn: usize,
         seed: *const u8,
+        room: *mut u8,
+        room_len: usize,
+        outcome: *mut Outcome,
+    ) -> u32;
+    pub fn lzk_policy_show(
+        p: *const u8,
+        pn: usize,
+        room: *mut u8,
+        room_len: usize,
+        outcome: *mut Outcome,
+    ) -> u32;
+    pub fn lzk_policy_circuit(
+        p: *const u8,
+        pn: usize,
+        room: *mut u8,
+        room_len: usize,
+        outcome: *mut Outcome,
+    ) -> u32;
+    pub fn lzk_policy_digest(
+        p: *const u8,
+        pn: usize,
+        r: *const u8,
+        rn: usize,
+        room: *mut u8,
+        room_len: usize,
+        outcome: *mut Outcome,
+    ) -> u32;
+    pub fn lzk_policy_inputs(
+        given: *const PolicyGiven,
+        room: *mut u8,
+        room_len: usize,
+        outcome: *mut Outcome,
+    ) -> u32;
+    pub fn lzk_policy_shown(
+        given: *const PolicyGiven,
+        room: *mut u8,
+        room_len: usize,
+        outcome: *mut Outcome,
+    ) -> u32;
+    pub fn lzk_policy_public(
+        p: *const u8,
+        pn: usize,
+        s: *const u8,
+        sn: usize,
         room: *mut u8,
         room_len: usize,
         outcome: *mut Outcome,

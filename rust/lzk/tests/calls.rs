@@ -106,7 +106,7 @@ fn says_what_is_wrong() -> Result<(), Error> {
         (proved(b"9", b"4"), "check 0 is 7, and has to be 0: the numbers do not satisfy the circuit; look at the assert that the check is of"),
         (prove(&proof, b"9", b"3", b"", None), "circuit at byte 0: Magic: the bytes begin with neither LZC1 nor LZC2 (strong profile: LSC1, LSC2); is this another file, a proof or a source?"),
         (upgrade(&circuit[..9]), "circuit at byte 9: Truncated: the bytes end inside the file; a part is missing"),
-        (prove(&circuit, b"9", b"3", &[0; 65], None), "TooLong: a session has more than 64 bytes, a text more than 4,194,304, or a message for sha_circuit more than 55; shorten it, a session by its SHA-256"),
+        (prove(&circuit, b"9", b"3", &[0; 65], None), "TooLong: a session has more than 64 bytes, a text more than 4,194,304 (of a policy 65,536), or a message for sha_circuit more than 55; shorten it, a session by its SHA-256"),
         (source("assert 1 = 1\n"), "source at line 1: NoField: the first statement is no `field` line; begin with `field goldilocks` (strong profile: `field prime128`) or `field gf2_128`"),
         (source("field goldilocks\nprove x\n"), "source at line 2: Keyword: the first word is no keyword; a line begins with field, public, private, let or assert"),
         (source("field goldilocks\nassert z = 1\n"), "source at line 2: Unknown: a name was not declared on an earlier line"),
