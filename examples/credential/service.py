@@ -1,205 +1,288 @@
 #!/usr/bin/env python3
-"""The service: makes a request with a fresh nonce, and checks the answer. Every public number is its own, or one that it asks for.
+"""The service: asks by a page or by JSON, with a fresh nonce each time, and checks the answers.
 
-    service.py request FOLDER SERVICE POLICY REQUEST [NAME=VALUE ..]
-    service.py trust FOLDER ISSUER_KEY ROOT
-    service.py check FOLDER ISSUER_KEY REQUEST ANSWER
+    service.py trust FOLDER ISSUER_KEY ROOT [only]
+    service.py serve FOLDER ISSUER_KEY POLICY PORT [NAME=VALUE ..]
 
-A request has a value for each name after `at most` and `at least` in POLICY, as TODAY=20261129. A name after `as` may have
-one; without it the holder tells the record's own. The tags of pseudonyms are made of SERVICE.
-FOLDER keeps the sessions that are open, the roots that it trusts, the digests and pseudonyms that were seen, and the circuits.
+`trust` takes a root that the issuer signed, with `only` in the place of those that it trusted by this key. `serve`
+needs a value for each name after `at most` and `at least` in POLICY, as TODAY=20261129. A name after `as` may have one;
+without it the holder tells the record's own. The tags of pseudonyms are made of the service's name, which is the host
+and port that wallets connect to. FOLDER keeps the roots that it trusts, and the digests and pseudonyms that were seen.
+Every value is the service's own, or one that it asks for.
 """
+
+from __future__ import annotations
 
 import json
 import os
 import re
 import secrets
 import sys
+import threading
+from typing import Any, Callable, Dict, List, NamedTuple, Tuple
+from urllib.parse import urlencode
 
-import common as C
-from common import Refused
+import common  # first: it finds lzk
+import lzk
+import pages
+from common import Policy, Refused
 
-
-def path_of(folder, name):
-    return os.path.join(folder, name)
-
-
-def seen(folder, name):
-    path = path_of(folder, name)
-    return C.read_text(path).split() if os.path.exists(path) else []
-
-
-def remember(folder, name, word):
-    with open(path_of(folder, name), "a", encoding="utf-8") as file:
-        file.write(word + "\n")
-        file.flush()
-        os.fsync(file.fileno())
+MOST_OPEN = 10_000
+COOKIE = "HttpOnly; SameSite=Lax; Path=/in; Max-Age=600"
 
 
-def check_value(policy, name, value):
-    """Refuses a value that is none of what the policy shows by its name."""
-    fields, ways = C.fields_of(policy), [(field, way) for field, way, other in C.shows_of(policy) if other == name]
-    if not ways:
-        names = [other for _, way, other in C.shows_of(policy) if way != "pseudonym"]
-        raise Refused(f"the policy has no value {name}; it has {', '.join(dict.fromkeys(names)) or 'none'}")
-    for field, way in ways:
-        kind, _, size = fields[field]
-        if way == "pseudonym":
-            raise Refused(f"{name} is the service's tag, which is made of its name")
-        if kind == "date" and not re.fullmatch("[0-9]{1,10}", value):
-            raise Refused(f"{name} is a date as the number YYYYMMDD, and not {value}")
-        if kind == "text" and (len(value.encode()) != size or re.search(r"[ \t\r\n#]", value)):
-            raise Refused(f"{name} is a text of {size} bytes in one word, and not {value}")
+class Session(NamedTuple):
+    """A request that is open, and the browser for whose page it was made, where it was made for one."""
+
+    request: Dict[str, Any]
+    visit: str
 
 
-def values_of(policy, service, words):
-    """The values of a request: those that are given, and the tags."""
-    values = {}
+class Service:
+    def __init__(self, folder: str, name: str, issuer_key: str, policy: Policy, values: Dict[str, str]) -> None:
+        self.folder, self.name, self.issuer_key, self.policy = folder, name, issuer_key, policy
+        self.values = checked(policy, values)
+        self.open: Dict[str, Session] = {}
+        self.lock = threading.Lock()
+        os.makedirs(folder, 0o700, exist_ok=True)
+
+    def ask(self, visit: str = "") -> Dict[str, Any]:
+        """Opens a session. Of too many the oldest is closed."""
+        nonce = secrets.token_hex(16)
+        request = {"service": self.name, "policy": self.policy.text, "values": self.values, "nonce": nonce}
+        with self.lock:
+            while len(self.open) >= MOST_OPEN:
+                self.open.pop(next(iter(self.open)))
+            self.open[nonce] = Session(request, visit)
+        return request
+
+    def asked(self, nonce: str) -> Dict[str, Any]:
+        with self.lock:
+            if nonce not in self.open:
+                raise Refused("no such session is open")
+            return self.open[nonce].request
+
+    def answer(self, answer: Any) -> Tuple[List[str], str]:
+        """What the service learnt, and the browser that may know it. The session is over, whatever the answer is."""
+        try:
+            with self.lock:
+                session = self.open.pop(answer["nonce"], None)
+            if session is None:
+                raise Refused("no such session is open")
+            return self.judge(answer), session.visit
+        except common.MALFORMED:
+            raise Refused("the answer has not its form") from None
+
+    def judge(self, answer: Any) -> List[str]:
+        head, pseudonyms, told = answer["digest"], answer["pseudonyms"], dict(answer["told"])
+        # One form alone, so that what was seen is known again.
+        if not all(re.fullmatch(common.DIGEST, word) for word in (head, *pseudonyms)):
+            raise Refused("a digest has 64 digits, in lower case")
+        self.check_issuer(head, answer["signature"])
+        asked_for = {show.value for show in self.policy.told(self.values)}
+        if set(told) != asked_for or len(pseudonyms) != len(self.policy.tags()):
+            raise Refused("what is told is not what was asked for")
+        if not all(re.fullmatch(common.WORD, word) for word in told.values()):
+            raise Refused("what is told is no word")
+        # What was shown, as docs/POLICY.md has it. Of the wallet it takes only what the wallet alone can know.
+        values = {**self.values, **told, **{name: common.tag_of(self.name).hex() for name in self.policy.tags()}}
+        lines = [f"root {head}" if self.policy.depth else f"digest {head}"]
+        lines += [f"pseudonym {word}" for word in pseudonyms] + [f"{name} {word}" for name, word in values.items()]
+        shown = "".join(f"{line}\n" for line in lines)
+        try:
+            session = common.session_of(self.name, answer["nonce"])
+            self.policy.proofs.verify(shown, bytes.fromhex(answer["proof"]), session)
+        except (lzk.Rejected, lzk.NoShown):
+            raise Refused("the proof does not hold for this session") from None
+        # First what may be refused yet: who is remembered is let in.
+        learnt = self.policy.sentences(self.values, told)
+        self.remember([*pseudonyms] if self.policy.depth else [head, *pseudonyms])
+        return learnt
+
+    def check_issuer(self, head: str, signature: str) -> None:
+        if self.policy.depth:
+            if rooted(self.policy.depth, head) not in common.words_in(self.path(roots_of(self.issuer_key))):
+                raise Refused("this service trusts no such root")
+            return
+        signed = common.SIGNED_RECORD + bytes.fromhex(head)
+        if not common.is_signed(self.issuer_key, signed, bytes.fromhex(signature)):
+            raise Refused("the issuer did not sign this record")
+
+    def path(self, name: str) -> str:
+        return os.path.join(self.folder, name)
+
+    def remember(self, words: List[str]) -> None:
+        """Each digest and each pseudonym is for once. A pseudonym knows somebody again by whatever record."""
+        with common.alone(self.folder):
+            if not set(common.words_in(self.path("seen"))).isdisjoint(words):
+                raise Refused(f"this {'person was here' if self.policy.tags() else 'record was shown'} before")
+            common.add(self.path("seen"), words)
+
+
+def roots_of(issuer_key: str) -> str:
+    """The name of the list of an issuer's roots. A key is for one layout of records, so no other key's root will do."""
+    return "roots-" + common.digest(common.read_text(issuer_key).encode()).hex()
+
+
+def rooted(depth: int, root: str) -> str:
+    return f"{depth}-{root}"
+
+
+def checked(policy: Policy, values: Dict[str, str]) -> Dict[str, str]:
+    """Values of a request, each of which is what the policy shows by its name."""
+    names = {show.value for show in policy.shows if show.way in ("most", "least", "as")}
+    for show in policy.shows:
+        field = policy.fields[show.field]
+        if show.way in ("most", "least") and show.value not in values:
+            raise Refused(f"the policy compares with {show.value}: add {show.value}=YYYYMMDD")
+        value = values.get(show.value)
+        if show.way == "pseudonym" and value is not None:
+            raise Refused(f"{show.value} is the service's tag, which is made of its name")
+        if value is None:
+            continue
+        if field.kind == "date" and not re.fullmatch("[0-9]{1,10}", value):
+            raise Refused(f"{show.value} is a date as the number YYYYMMDD, and not {value}")
+        if field.kind == "text" and not (len(value.encode()) == field.size and re.fullmatch(common.WORD, value)):
+            raise Refused(f"{show.value} is a text of {field.size} bytes in one word, and not {value}")
+    for name in values.keys() - names:
+        raise Refused(f"the policy has no value {name}; it has {', '.join(sorted(names)) or 'none'}")
+    return values
+
+
+# ---- pages
+
+
+class Door(NamedTuple):
+    """What was learnt in a session, for the browser that has the word of the session's page."""
+
+    nonce: str
+    visit: str
+    learnt: List[str]
+
+
+class ServicePages(pages.Handler):
+    """A page that asks, and one that says what was learnt, to the browser alone that asked."""
+
+    service: Service
+    doors: Dict[str, Door]
+
+    def do_GET(self) -> None:
+        where, _, word = self.path[1:].partition("/")
+        if self.path == "/":
+            self.reply(self.front)
+        elif where == "ask":
+            self.reply(lambda: self.tell(lambda: self.service.asked(word) if word else self.service.ask()))
+        elif where == "in":
+            self.reply(lambda: self.enter(word))
+        else:
+            self.reply(lambda: self.page("There is no such page", status=404))
+
+    def do_POST(self) -> None:
+        if self.path == "/answer":
+            self.reply(lambda: self.tell(self.take))
+        else:
+            self.reply(lambda: self.page("There is no such page", status=404))
+
+    def tell(self, work: Callable[[], Dict[str, Any]]) -> None:
+        """JSON for a wallet: what it asked for, or why it is refused."""
+        try:
+            self.json(work())
+        except Refused as refused:
+            self.json({"refused": str(refused)}, 403)
+
+    def front(self) -> None:
+        """The word by which the browser is known again is drawn for each page, and never taken from a request: cookies
+        know no ports, so whatever else is at this host reads and writes them too."""
+        visit = secrets.token_hex(16)
+        request = self.service.ask(visit)
+        ask = urlencode({"ask": f"http://{self.service.name}/ask/{request['nonce']}"})
+        policy = self.service.policy
+        self.page(
+            "Please show a credential",
+            pages.listed("What is asked for", policy.sentences(self.service.values)),
+            pages.listed("What is not asked for", policy.not_told(), "no"),
+            f'<p><a class=button href="http://127.0.0.1:{pages.WALLET_PORT}/?{ask}">Open your wallet</a></p>',
+            "<p class=small>Your wallet reads the request itself, and shows nothing before you agree.</p>",
+            "<details class=small><summary>The policy to the letter</summary>",
+            f"<pre>{pages.lines_of(policy.text)}</pre></details>",
+            Set_Cookie=f"visit-{request['nonce']}={visit}; {COOKIE}",
+        )
+
+    def take(self) -> Dict[str, Any]:
+        """An answer, from a wallet. Who has a session's link may answer it; the browser that opened it is let in."""
+        try:
+            answer = json.loads(self.body())
+        except common.MALFORMED:
+            raise Refused("the answer has not its form") from None
+        learnt, visit = self.service.answer(answer)
+        door = secrets.token_hex(16)
+        while len(self.doors) >= MOST_OPEN:
+            self.doors.pop(next(iter(self.doors)))
+        self.doors[door] = Door(answer["nonce"], visit, learnt)
+        return {"learnt": learnt, "door": door}
+
+    def enter(self, word: str) -> None:
+        door = self.doors.get(word)
+        if door is None or not door.visit or f"visit-{door.nonce}={door.visit}" not in self.cookies():
+            raise Refused("no wallet has shown anything for this browser here")
+        self.page(
+            "You are in",
+            pages.listed(f"What {self.service.name} learnt", door.learnt),
+            pages.listed("What it was not told", self.service.policy.not_told(), "no"),
+            "<p class=small>It keeps pseudonyms and digests, so that each is let in once.</p>",
+        )
+
+
+def pages_of(service: Service) -> type:
+    return type("Pages", (ServicePages,), {"service": service, "doors": {}, "who": service.name})
+
+
+# ---- commands
+
+
+def trust(folder: str, issuer_key: str, root_file: str, *words: str) -> None:
+    """Takes a root that the issuer signed for one of those under which a record may be shown."""
+    found = common.read_json(root_file)
+    root, depth = bytes.fromhex(found["root"]), int(found["levels"])
+    if not common.is_signed(issuer_key, common.signed_root(depth, root), bytes.fromhex(found["signature"])):
+        raise Refused("the issuer did not sign this root")
+    os.makedirs(folder, 0o700, exist_ok=True)
+    if words:
+        common.write(os.path.join(folder, roots_of(issuer_key)), b"")
+    common.add(os.path.join(folder, roots_of(issuer_key)), [rooted(depth, root.hex())])
+    print("trusted")
+
+
+def values_of(words: Tuple[str, ...]) -> Dict[str, str]:
+    values: Dict[str, str] = {}
     for word in words:
         name, sign, value = word.partition("=")
         if not sign or name in values:
             raise Refused(f"{word}: wanted NAME=VALUE, once for each name")
-        check_value(policy, name, value)
         values[name] = value
-    for _, way, name in C.shows_of(policy):
-        if way in ("most", "least") and name not in values:
-            raise Refused(f"the policy compares with {name}: add {name}=YYYYMMDD")
-    return {**values, **{name: C.tag_of(service).hex() for name in C.tag_names(policy)}}
+    return values
 
 
-def ask(folder, service, policy_file, request_file, *words):
-    policy = C.check_policy(policy_file)
-    values = values_of(policy, service, words)
-    os.makedirs(folder, exist_ok=True)
-    C.circuit_of(folder, policy)
-    request = {"service": service, "policy": policy, "values": values, "nonce": secrets.token_hex(16)}
-    for path in (request_file, path_of(folder, "open-" + request["nonce"])):
-        with open(path, "w", encoding="utf-8") as file:
-            json.dump(request, file)
-    print("asked")
+def serve(folder: str, issuer_key: str, policy_file: str, port: str, *words: str) -> None:
+    policy, values = Policy(common.read_text(policy_file)), values_of(words)
+    with pages.serve(ServicePages, int(port)) as server:
+        server.RequestHandlerClass = pages_of(Service(folder, server.name, issuer_key, policy, values))
+        policy.proofs.circuit()  # takes seconds for many levels: wallets that connect wait until then
+        print(f"the service is at http://{server.name}/", flush=True)
+        server.serve_forever()
 
 
-def opened(folder, nonce):
-    """The request as this service made it. It takes one answer, right or wrong."""
-    if not re.fullmatch("[0-9a-f]{32}", nonce):
-        raise Refused("no such session is open")
-    path = path_of(folder, "open-" + nonce)
-    try:
-        request = json.loads(C.read_text(path))
-        os.remove(path)
-    except FileNotFoundError as error:
-        raise Refused("no such session is open") from error
-    return request
-
-
-def roots_of(issuer_key):
-    """The name of the list of an issuer's roots. A key is for one layout of records, so no root of another key will do."""
-    with open(issuer_key, "rb") as file:
-        return "roots-" + C.digest(file.read()).hex()
-
-
-def rooted(depth, root):
-    return f"{depth}-{root.hex()}"
-
-
-def trust(folder, issuer_key, root_file):
-    """Takes a root that the issuer signed for one of those under which a record may be shown."""
-    found = json.loads(C.read_text(root_file))
-    root, depth = bytes.fromhex(found["root"]), int(found["levels"])
-    if not C.is_signed(issuer_key, C.signed_root(depth, root), bytes.fromhex(found["signature"])):
-        raise Refused("the issuer did not sign this root")
-    os.makedirs(folder, exist_ok=True)
-    remember(folder, roots_of(issuer_key), rooted(depth, root))
-    print("trusted")
-
-
-def is_proved(folder, request, shown, told, pseudonym, proof):
-    numbers, proof_file = path_of(folder, "public.txt"), path_of(folder, "proof.lzp")
-    public = C.public_numbers(request["policy"], shown, request["values"], told, pseudonym)
-    C.write(numbers, "".join(f"{number}\n" for number in public).encode())
-    C.write(proof_file, proof)
-    session = C.session_of(request["service"], request["nonce"])
-    words = [C.circuit_of(folder, request["policy"]), numbers, proof_file, f"session={session}"]
-    return C.run("ZK", "verify", *words) == (0, "accepted\n")
-
-
-def check_root(folder, issuer_key, depth, root):
-    if rooted(depth, root) not in seen(folder, roots_of(issuer_key)):
-        raise Refused("this service trusts no such root")
-
-
-def check_digest(folder, issuer_key, digest, signature):
-    if not C.is_signed(issuer_key, C.SIGNED + digest, signature):
-        raise Refused("the issuer did not sign this record")
-    if digest.hex() in seen(folder, "digests"):
-        raise Refused("this record was shown before")
-
-
-def told_of(request, answer):
-    """The bytes that the holder tells of each field that is shown as it is, where the service chose no value."""
-    policy, told = request["policy"], {}
-    fields, names = C.fields_of(policy), C.told_names(policy, request["values"])
-    for field, way, name in C.shows_of(policy):
-        if way == "as" and name in names:
-            told[name] = bytes.fromhex(answer["told"][name])
-            if len(told[name]) != fields[field][2]:
-                raise Refused(f"what is told as {name} has another length than {field}")
-    return told
-
-
-def readable(kind, data):
-    """A field's bytes for a person: what is no letter, digit or sign of ASCII is shown by its number."""
-    if kind == "date":
-        return str(int.from_bytes(data, "big"))
-    return "".join(chr(byte) if 33 <= byte <= 126 and byte != 92 else f"\\x{byte:02x}" for byte in data)
-
-
-def check(folder, issuer_key, nonce, answered):
-    """What the holder told, where the answer is right. The session is over, whatever the answer is."""
-    request = opened(folder, nonce)
-    answer, policy = json.loads(answered), request["policy"]
-    depth = C.depth_of(policy)
-    shown = bytes.fromhex(answer["root" if depth else "digest"])
-    pseudonym = bytes.fromhex(answer["pseudonym"]) if C.tag_names(policy) else None
-    if len(shown) != 32 or (pseudonym is not None and len(pseudonym) != 32):
-        raise Refused("a digest has 32 bytes")
-    if depth:
-        check_root(folder, issuer_key, depth, shown)
-    else:
-        check_digest(folder, issuer_key, shown, bytes.fromhex(answer["signature"]))
-    told = told_of(request, answer)
-    if not is_proved(folder, request, shown, told, pseudonym, bytes.fromhex(answer["proof"])):
-        raise Refused("the proof does not hold for this session")
-    if not depth:
-        remember(folder, "digests", shown.hex())
-    # Under a root the pseudonym alone would tell whether a person was here.
-    if pseudonym is not None:
-        if pseudonym.hex() in seen(folder, "pseudonyms"):
-            raise Refused("this person was here before")
-        remember(folder, "pseudonyms", pseudonym.hex())
-    kinds = {name: C.fields_of(policy)[field][0] for field, _, name in C.shows_of(policy)}
-    return [f"{name} is {readable(kinds[name], data)}" for name, data in told.items()]
-
-
-def check_answer(folder, issuer_key, request_file, answer_file):
-    nonce = json.loads(C.read_text(request_file))["nonce"]
-    with open(answer_file, "rb") as file:
-        answered = file.read()
-    with C.alone(folder):
-        told = check(folder, issuer_key, nonce, answered)
-    print("\n".join(["let in", *told]))
-
-
-def main(words):
-    if len(words) >= 5 and words[0] == "request":
-        return C.ended(ask, words[1:], "nothing is asked: ", "the policy has not its form")
-    if len(words) == 5 and words[0] == "check":
-        return C.ended(check_answer, words[1:], "refused: ", "the answer has not its form")
-    if len(words) == 4 and words[0] == "trust":
-        return C.ended(trust, words[1:], "refused: ", "the root has not its form")
+def main(words: List[str]) -> int:
+    if words[:1] == ["trust"] and (len(words) == 4 or words[4:] == ["only"]):
+        return common.ended(trust, words[1:], "refused: ")
+    if words[:1] == ["serve"] and len(words) >= 5:
+        return common.ended(serve, words[1:], "nothing is asked: ")
     print(__doc__)
     return 2
 
 
 if __name__ == "__main__":
-    sys.exit(main(sys.argv[1:]))
+    try:
+        sys.exit(main(sys.argv[1:]))
+    except KeyboardInterrupt:
+        sys.exit(0)
