@@ -193,7 +193,7 @@ typedef struct lzk_outcome {
   uint32_t kind;     /* of LZK_NO_CIRCUIT, LZK_NO_NUMBERS, LZK_NO_PRIVATES, LZK_NO_SOURCE, LZK_OVER_LIMIT, LZK_NO_POLICY, .. */
   uint32_t line;     /* of LZK_NO_NUMBERS, LZK_NO_PRIVATES, LZK_NO_SOURCE, LZK_NO_POLICY, ..: the line of the text, from 1 */
   uint32_t check;    /* of LZK_UNSATISFIED; of LZK_NOT_TRUE and LZK_ENTRY_MISSING the place of what is shown: 0 for the
-                        line behind `show digest` or `show under root`, and that behind the last for digest or root */
+                        line after `show digest` or `show under root`, and that after the last for digest or root */
   uint64_t offset;   /* of LZK_NO_CIRCUIT; of lzk_policy_inputs where LZK_DONE: where the private numbers begin */
   uint64_t count;    /* of LZK_DONE: bytes written; of LZK_NO_ROOM: bytes to be written; of LZK_OVER_LIMIT; of LZK_NO_SECRET,
                         LZK_NO_RECORD and LZK_NO_NODES: how many are wanted */
@@ -370,7 +370,7 @@ uint32_t lzk_policy_digest(const uint8_t *policy, size_t policy_len, const uint8
                            lzk_outcome *outcome);
 
 /* Puts two texts of numbers at the start of room, which satisfy the policy's circuit: the public ones, outcome->offset
-   bytes, and behind them the private ones. May give all answers from LZK_NO_SECRET to LZK_UNFIT. */
+   bytes, and after them the private ones. May give all answers from LZK_NO_SECRET to LZK_UNFIT. */
 uint32_t lzk_policy_inputs(const lzk_policy_given *given, uint8_t *room, size_t room_len, lzk_outcome *outcome);
 
 /* Puts the text of what is shown at the start of room: digest or root, pseudonyms and values. Its public numbers are

@@ -244,7 +244,7 @@ def words_in(path: str) -> List[str]:
 @contextlib.contextmanager
 def alone(folder: str) -> Iterator[None]:
     """Runs over one folder follow one another, so that each knows what the one before has seen or shown."""
-    with open(os.path.join(folder, "lock"), "w", encoding="utf-8") as file:
+    with open(os.open(os.path.join(folder, "lock"), os.O_WRONLY | os.O_CREAT, 0o600), "wb") as file:
         fcntl.flock(file, fcntl.LOCK_EX)
         yield
 

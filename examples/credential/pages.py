@@ -61,7 +61,7 @@ HEADERS = {
 
 
 def plain(text: str) -> str:
-    """A line as HTML, with all but signs of ASCII by its number: else one could turn the letters behind it around."""
+    """A line as HTML, with all but signs of ASCII by its number: else one could turn the letters after it around."""
     return html.escape(common.escaped(text))
 
 

@@ -44,7 +44,7 @@ def turned(word: int, by: int) -> int:
 
 
 def compressed(block: bytes) -> bytes:
-    """The state behind one block of 64 bytes, as 32 bytes."""
+    """The state after one block of 64 bytes, as 32 bytes."""
     words = [int.from_bytes(block[at : at + 4], "big") for at in range(0, 64, 4)]
     for _ in range(48):
         second, last = words[-15], words[-2]

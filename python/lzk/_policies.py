@@ -231,7 +231,7 @@ class Policy:
         return _Given(_lzk._bytes("record", record), _values_text(values), sealed, _path_text(path))
 
     def _text_call(self, call: Callable[..., int], *others: bytes) -> _Call:
-        """A call with the policy's text, and others behind it."""
+        """A call with the policy's text, and others after it."""
         parts = _lzk.passed(self.text, *others)
         return lambda room, size, outcome: call(*parts, room, size, outcome)
 
@@ -252,7 +252,7 @@ class Policy:
             size = outcome.count
 
     def _line(self, place: int) -> str:
-        """The line of what is shown at a place, or of the digest or the root behind the last."""
+        """The line of what is shown at a place, or of the digest or the root after the last."""
         if place + 1 < len(self.lines):
             return self.lines[place + 1]
         return self.lines[0] if self.lines else ""

@@ -5,7 +5,7 @@ use std::collections::BTreeMap;
 use std::fmt;
 
 /// Why there is no answer of a policy. Numbers of rules are those of include/lzk.h. A place is that of the line of what
-/// is shown, from 0, behind that of the digest or the root.
+/// is shown, from 0, after that of the digest or the root.
 #[derive(Clone, Copy, Debug, PartialEq, Eq)]
 #[non_exhaustive]
 pub enum PolicyError {
@@ -64,7 +64,7 @@ pub enum PolicyError {
         rule: u32,
         /// The line, from 1; 0 where something is left out.
         line: u32,
-        /// The place of what is left out; that behind the last is of the digest or the root.
+        /// The place of what is left out; that after the last is of the digest or the root.
         place: u32,
     },
     /// No text says what is shown.
