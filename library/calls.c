@@ -1,5 +1,5 @@
-/* The library's calls as include/lzk.h declares them: each refuses NULL, and makes the call of crates/lzk_c,
-   crates/lzk_c_calls or crates/lzk_c_prove, whose name ./build-library changes from lzk_NAME to lzk_proved_NAME.
+/* The library's calls as include/lzk.h declares them: each refuses NULL, and makes the call of crates/lzk_c
+   or crates/lzk_c_prove, whose name ./build-library changes from lzk_NAME to lzk_proved_NAME.
    And the desk, which keeps what it is fed and makes one call at its end. Nobody proves this file: it is tested. */
 #define _DEFAULT_SOURCE
 #include "lzk.h"

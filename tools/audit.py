@@ -17,25 +17,25 @@ from crates import TOP, text_of  # noqa: E402
 
 PAGE = "docs/AUDIT.md"
 # Where the contracts of the headline stand.
-CONTRACTS = ("lzk_cmd/src/top.rt", "lzk_verify/src/desk.rt", "lzk_verify/src/laws.rt", "lzk_ligero/src/works.rt", "lzk_complete/src/laws.rt")
+CONTRACTS = ("lzk_cmd/src/top.rt", "lzk_verify/src/desk.rt", "lzk_verify/src/laws.rt", "lzk_ligero/src/works.rt", "lzk_ligero_proof/src/laws.rt")
 # What these files cite for other functions, for invariants, for proofs or for claims outside the headline. A file that is
 # reached and stands neither here nor in the table is a fault of the page.
 LEFT_OUT = {
     "lzk_accept": "Factored Kept",
     "lzk_circuit": "Faults",
+    "lzk_cmd": "Made RunSteps",
     "lzk_cmd_files": "Walks",
-    "lzk_cmd_runs": "Made RunSteps",
     "lzk_cmd_words": "Digits",
-    "lzk_complete": "Refused",
+    "lzk_ligero_proof": "Refused",
     "lzk_gf128": "Inverse Linear Table",
     "lzk_goldilocks": "Pigeonhole Powers Primality",
     "lzk_layout": "Cursors",
     "lzk_level": "Levels Upgraded",
     "lzk_ligero": "Changes Lending",
     "lzk_ligero_steps": "Parts Rooms",
-    "lzk_reduce": "Rows Targets",
-    "lzk_rounds": "Orders Room",
-    "lzk_tableau": "Filled Table",
+    "lzk_circuit_reduce": "Rows Targets",
+    "lzk_sumcheck_rounds": "Orders Room",
+    "lzk_ligero_tableau": "Filled Table",
     "lzk_verify": "Desk Extending",
 }
 ROW = re.compile(r"^(\|[^|]*)\| `(\w+)` \| ([\w, ]+) \| ([\d,]+) \|$", re.MULTILINE)

@@ -22,8 +22,6 @@ from statement import Fault, show
 # The limits of docs/POLICY.md.
 MOST_BYTES, MOST_FIELDS, MOST_SHOWS, MOST_TEXTS, MOST_TEXT, MOST_LEVELS = 119, 32, 8, 16, 32, PROFILE.most_levels
 MOST_NAME, MOST_PSEUDONYM, MOST_FILE = 32, 35, 65_536
-# A text of a line has at most so many bytes, and a field of which one is told so.
-SHORT_TEXT = 7
 # A circuit has room for so many hashes: the record's, two if it has more than ONE_BLOCK bytes, one for each level of a root, one for each
 # pseudonym, two where it is sealed.
 MOST_HASHES = PROFILE.most_hashes
@@ -251,8 +249,8 @@ class Policy:
 
     def texts_of(self, line):
         texts = [line.take("a text", FORMS["one"])]
-        if len(texts[0].text) > SHORT_TEXT:
-            raise line.syntax(texts[0], f"a text of at most {SHORT_TEXT} bytes", FORMS["one"])
+        if len(texts[0].text) > MOST_TEXT:
+            raise line.syntax(texts[0], f"a text of at most {MOST_TEXT} bytes", FORMS["one"])
         size = len(texts[0].text)
         while line.next() is not None:
             if len(texts) == MOST_TEXTS:

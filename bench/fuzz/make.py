@@ -65,10 +65,18 @@ def claim(r: random.Random, of: List[model.Field], nth: int) -> Optional[List[by
         return [field.name, b"as", chosen]
     if field.kind == b"date":
         return [field.name, b"at", r.choice((b"most", b"least")), chosen]
-    if field.size > 7:
+    if field.size > 7 and r.random() < 0.4:
         return [field.name, b"as", chosen]
     texts = [word(r, field.size, field.size) for _ in range(r.choice((1, 2, 3, 16)))]
+    if r.random() < 0.4:
+        texts = [near(r, texts[0]) for _ in texts]
     return [field.name, b"one", b"of", *texts]
+
+
+def near(r: random.Random, text: bytes) -> bytes:
+    """A text with one byte changed, if not to what it was."""
+    at = r.randrange(len(text))
+    return text[:at] + word(r, 1, 1) + text[at + 1 :]
 
 
 def policy(r: random.Random) -> List[List[bytes]]:
@@ -182,7 +190,7 @@ def other_claim(r: random.Random, lines: List[List[bytes]]) -> None:
     """A thing shown of a field that it may not suit, or that is not there."""
     names = [line[1] for line in lines if line[:1] == [b"field"] and len(line) > 1] + [b"nobody"]
     of, value = r.choice(names), r.choice(VALUES)
-    forms = ([of, b"as", value], [of, b"at", b"most", value], [b"pseudonym", b"of", of, b"for", value], [of, b"one", b"of", word(r, 8)])
+    forms = ([of, b"as", value], [of, b"at", b"most", value], [b"pseudonym", b"of", of, b"for", value], [of, b"one", b"of", word(r, r.choice((7, 8, 32, 33)))])
     lines.insert(r.choice((len(lines), r.randint(0, len(lines)))), [b"show", *r.choice(forms)])
 
 
@@ -244,7 +252,7 @@ def record(r: random.Random, of: model.Policy, mine: bytes) -> bytes:
         if shown.field.kind == b"date":
             made[at : at + 4] = date(r).to_bytes(4, "big")
         if shown.texts and r.random() < 0.97:
-            made[at : at + shown.field.size] = r.choice(shown.texts)
+            made[at : at + shown.field.size] = r.choice(shown.texts) if r.random() < 0.9 else near(r, r.choice(shown.texts))
     return bytes(made)
 
 

@@ -147,7 +147,7 @@ def show_form(rest: List[bytes]) -> Optional[tuple]:
     elif len(rest) == 3 and rest[1] == b"as":
         made = b"as", rest[0], rest[2], ()
     elif 4 <= len(rest) <= 19 and rest[1:3] == [b"one", b"of"]:
-        if len(rest[3]) > 7 or any(len(text) != len(rest[3]) for text in rest[3:]):
+        if len(rest[3]) > 32 or any(len(text) != len(rest[3]) for text in rest[3:]):
             return None
         made = b"one of", rest[0], b"", tuple(rest[3:])
     else:
@@ -162,7 +162,7 @@ def suits(claim: Claim) -> bool:
     if claim.what == b"as":
         return field.kind in (b"date", b"text")
     if claim.what == b"one of":
-        return field.kind == b"text" and field.size <= 7 and len(claim.texts[0]) == field.size
+        return field.kind == b"text" and len(claim.texts[0]) == field.size
     return field.kind == b"sealed" or (field.kind == b"bytes" and field.size <= 35)
 
 

@@ -136,8 +136,8 @@
 //! }
 //! ```
 //!
-//! A statement can also be made of gadgets, by [`Statement`], and of circuits that share inputs, by [`beside`], or by
-//! [`beside_any`] where they assert within their layers.
+//! A statement can also be made of gadgets, by [`Statement`], of small circuits among them, by [`assert_circuit`], and
+//! of circuits that share inputs, by [`beside`], or by [`beside_any`] where they assert within their layers.
 #![tactic(auto)]
 
 mod fit;
@@ -145,18 +145,18 @@ mod fit;
 pub use crate::fit::{are_fit, is_fit};
 use lzk_afft::Transform;
 pub use lzk_batch::{AnyVerdict, Job, JobOf, verify_all};
-pub use lzk_beside::{AnyPart, BesideError, Part, beside, beside_any};
 pub use lzk_circbytes::{AnyCircuit, DecodeError, decode, encode, id};
 pub use lzk_circuit::Circuit;
+pub use lzk_circuit_beside::{AnyPart, BesideError, Part, beside, beside_any};
 pub use lzk_expr::{NumberError, Source, SourceError, parse, read_numbers};
 pub use lzk_field::{Field, Gate, Open, Seeded, Words};
-pub use lzk_gadgets::Statement;
+pub use lzk_gadgets::{Statement, assert_circuit, private_nodes, public_nodes};
 pub use lzk_gf128::Gf128;
 pub use lzk_goldilocks::{Drawn, Gold};
 pub use lzk_level::{LevelError, Node, compile, compile_v2};
 pub use lzk_ligero::Unsatisfied;
 use lzk_ligero::WorksOver;
-use lzk_ntt::NttExtender;
+use lzk_poly_ntt::NttExtender;
 pub use lzk_verify::{Desk as Verifier, Verdict};
 
 /// A prover over a circuit over the prime field, with the fastest extension of rows. Its random words are to be those

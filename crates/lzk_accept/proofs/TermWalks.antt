@@ -13,7 +13,6 @@ use Rattle.lzk_circuit.specs.Valid.{Wiring, ArePlaced, IsValid}
 use Rattle.lzk_circuit.specs.Wires.{weighed_term, AreDistinct}
 use Rattle.lzk_sumcheck.proofs.LayerShapes.{terms-placed-at}
 use Rattle.lzk_circuit.proofs.OrderLaws.{placed-distinct}
-use Rattle.lzk_circuit.proofs.PlaceLaws.{layer-at}
 use Rattle.lzk_layout.specs.Places.{width_at}
 use Rattle.lzk_mle.specs.Multilinear.{eq}
 use Rattle.lzk_sumcheck.specs.declared.script.Script.{Script}
@@ -114,10 +113,3 @@ distinct_within o k n (u ∷ ts) h zero t e = subst (λ (x : Term _). (x.g < k) 
     some_is : {X : Type 0} (x y : X) → Some x ≡ Some y → x ≡ y
     some_is x y e = cc
 distinct_within o k n (u ∷ ts) h (suc i) t e = distinct_within o k n ts h.4 i t e
-
--- a layer has some wires
-pub some_layer : {A : Type 0} (o : Ops A) (c : Wiring A) (l : ℕ) (layer : Layer A) → IsValid o c → slice_get c.layers l ≡ Some layer → 1 ≤ width_at c l
-some_layer o c l layer valid is =
-    let here : layer ≡ slice_index_or c.layers l layer = sym (get_or_from_slice_get c.layers l layer layer is) in
-    let some = (layer-at o c l layer (slice_get_within c.layers l layer is) valid).some in
-    omega (arith, some, ap (λ (x : Layer _). x.wires) here, wires_is c l layer is)

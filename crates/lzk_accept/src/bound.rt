@@ -15,6 +15,7 @@ use crate::exchange::Scripted;
 use lzk_circuit::{Term, weight_of};
 use lzk_field::Field;
 use lzk_mle::eq_table;
+use lzk_sumcheck::entry_at;
 
 // How bit 0 of a number agrees with an entry of a point.
 fn agree_of<F: Field>(number: u32, x: F) -> F
@@ -38,14 +39,13 @@ fn eq_of<F: Field>(number: u32, r: &[F]) -> F
 
 // Adds to each entry of a list that of another, multiplied.
 fn add_multiple<F: Field>(sums: &mut [F], by: F, list: &[F])
-    requires { length list.now ≡ length sums.old }
     ensures length { length sums.new ≡ length sums.old }
     ensures entries { let o = F.ops in
         (i : ℕ) → i < length sums.old
         → entry o sums.new i ≡ o.plus (entry o sums.old i) (o.times by (entry o list.now i)) }
 {
     for i in 0..sums.len() {
-        sums[i] = sums[i].add(by.mul(list[i]));
+        sums[i] = sums[i].add(by.mul(entry_at(list, i)));
     }
 }
 
@@ -74,19 +74,15 @@ fn set_weights<F: Field>(alpha: F, points: &Points<'_, F>, weights: &mut [F], ro
 // What a term counts: its coefficient times its wire's weight and how its two wires below agree with the challenges,
 // the first by a table and the second by its bits.
 fn count_of<F: Field>(term: Term<F>, beta: F, weights: &[F], firsts: &[F], rb: &[F]) -> F
-    requires wire { term.g < length weights.now }
-    requires first { term.a < length firsts.now }
     ensures { result ≡ counts F.ops beta weights.now firsts.now rb.now term }
 {
-    let weight = weights[term.g as usize];
-    let first = firsts[term.a as usize];
+    let weight = entry_at(weights, term.g as usize);
+    let first = entry_at(firsts, term.a as usize);
     weight_of(term.coef, beta).mul(weight.mul(first).mul(eq_of(term.b, rb)))
 }
 
 // The sum of that over the terms.
 fn sum_terms<F: Field>(terms: &[Term<F>], beta: F, weights: &[F], firsts: &[F], rb: &[F]) -> F
-    requires { (i : ℕ) (t : declared.Term F) → slice_get terms.now i ≡ Some t
-        → (t.g < length weights.now) × (t.a < length firsts.now) }
     ensures { result ≡ sum_list F.ops terms.now (counts F.ops beta weights.now firsts.now rb.now) }
 {
     let mut sum = F::zero();
@@ -96,26 +92,30 @@ fn sum_terms<F: Field>(terms: &[Term<F>], beta: F, weights: &[F], firsts: &[F], 
     sum
 }
 
+// Terms between the wires of a layer, which has claims at two points, and those below, with a point for each of the two
+// wires of a term there.
+#[derive(Drop)]
+struct Between<'a, F: Field> {
+    terms: &'a [Term<F>],
+    points: Points<'a, F>,
+    ra: &'a [F],
+    rb: &'a [F],
+    ghost few: { length ra.now ≤ most_bits },
+    ghost placed: { (i : ℕ) (t : declared.Term F) → slice_get terms.now i ≡ Some t
+        → (t.g < 2 ^ length points.first.now) × (t.a < 2 ^ length ra.now) },
+}
+
 // The sum over the terms, of each coefficient times the weight of its wire, which has claims at two points, and times
 // how its two wires below agree with the challenges.
 #[tactic(auto, using(crate::proofs::ShapeLaws::power_small))]
-fn sum_at<F: Field>(
-    terms: &[Term<F>],
-    alpha: F,
-    beta: F,
-    points: &Points<'_, F>,
-    ra: &[F],
-    rb: &[F],
-    room: &mut [F],
-) -> F
-    requires few_below { length ra.now ≤ most_bits }
-    requires terms { (i : ℕ) (t : declared.Term F) → slice_get terms.now i ≡ Some t
-        → (t.g < 2 ^ length points.now.first.now) × (t.a < 2 ^ length ra.now) }
+fn sum_at<F: Field>(between: &Between<'_, F>, alpha: F, beta: F, room: &mut [F]) -> F
     requires room { length room.old ≡ 2 * 2 ^ most_bits }
-    ensures value { let p = points.now in
-        result ≡ sum_list F.ops terms.now (counts_at F.ops alpha beta p.first.now p.second.now ra.now rb.now) }
+    ensures value { let b = between.now in let p = b.points in
+        result ≡ sum_list F.ops b.terms.now (counts_at F.ops alpha beta p.first.now p.second.now b.ra.now b.rb.now) }
     ensures room { length room.new ≡ length room.old }
 {
+    let points = &between.points;
+    let ra = between.ra;
     let first = points.first;
     let size = 1 << first.len();
     let (weights, rest) = room.split_at_mut(size);
@@ -123,7 +123,7 @@ fn sum_at<F: Field>(
     set_weights(alpha, points, weights, other);
     let (firsts, _) = rest.split_at_mut(1 << ra.len());
     eq_table(ra, firsts);
-    sum_terms(terms, beta, weights, firsts, rb)
+    sum_terms(between.terms, beta, weights, firsts, between.rb)
 }
 
 /// The weighted sum of layer `l`'s coefficients at its challenges. `room` has 262,144 places in LZK1, twice as many as
@@ -140,8 +140,11 @@ pub(crate) fn bound_of<F: Field>(scripted: &Scripted<'_, F>, l: u32, room: &mut 
     let layer = layer_of(scripted, l);
     let (first, second) = points_on(scripted, l);
     let points = Points { first, second };
-    let ra = layer.ra.as_slice();
-    let rb = layer.rb.as_slice();
-    let terms = circuit.layer(l).terms.as_slice();
-    sum_at(terms, layer.alpha, layer.beta, &points, ra, rb, room)
+    let between = Between {
+        terms: circuit.layer(l).terms.as_slice(),
+        points,
+        ra: layer.ra.as_slice(),
+        rb: layer.rb.as_slice(),
+    };
+    sum_at(&between, layer.alpha, layer.beta, room)
 }

@@ -11,7 +11,7 @@ use crate::points::ThreePoints;
 use lzk_circuit::Circuit;
 use lzk_field::Field;
 use lzk_layout::LayerPlaces;
-use lzk_sumcheck::{LayerScript, Script};
+use lzk_sumcheck::{LayerScript, Script, entry_at};
 
 // The layer's draws, with nothing said of their lengths.
 fn nth_layer<F: Field>(script: &Script<F>, l: u32) -> &LayerScript<F>
@@ -66,11 +66,9 @@ pub(crate) fn places_at<F: Field>(circuit: &Circuit<F>, l: u32) -> LayerPlaces
 
 // A sent element with its pad.
 fn padded<F: Field>(messages: &[F], w: &[F], i: usize, j: usize) -> F
-    requires sent { i < length messages.now }
-    requires pad { j < length w.now }
     ensures { result ≡ padded F.ops messages.now w.now i j }
 {
-    messages[i].add(w[j])
+    entry_at(messages, i).add(entry_at(w, j))
 }
 
 /// The two claims on layer `l`: zero on the outputs, and the padded factors of the layer above further down.

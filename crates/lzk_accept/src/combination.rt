@@ -212,28 +212,38 @@ fn add_copies<F: Field>(copies: &Copies<'_, F>, table: &mut [F])
     }
 }
 
-/// Combines what all constraints have from row 3 + rows on, where the rows before hold private inputs alone. The table
-/// is set to the coefficients of these rows, row by row. Gives the sum that is wanted of all rows.
-pub(crate) fn combine_from<F: Field>(
-    params: &Params,
-    forms: &Forms<F>,
-    challenges: &Challenges<F>,
-    rows: u32,
-    table: &mut [F],
-) -> F
-    requires bounded { AreBounded params.now }
-    requires forms { AreFormsFor F.ops params.now forms.now }
-    requires shape { HasShape params.now challenges.now }
-    requires rows { (c : Wiring F) → params.now ≡ params_of c → AreFormsOf F.ops c forms.now
-        → rows * params.now.wr ≤ c.privates }
-    requires room { length table.old ≡ (params.now.nrow - 3 - rows) * params.now.wr }
-    ensures combined { (c : Wiring F) → params.now ≡ params_of c → AreFormsOf F.ops c forms.now → (i s : ℕ)
-        → i < params.now.nrow - 3 - rows → s < params.now.wr
-        → entry F.ops table.new (i * params.now.wr + s)
-        ≡ spec.combined F.ops c (coefficient F.ops forms.now) challenges.now (3 + (rows + i)) s }
-    ensures wanted { (c : Wiring F) → params.now ≡ params_of c → AreFormsOf F.ops c forms.now →
-        result ≡ spec.wanted F.ops c (right F.ops forms.now) challenges.now }
+/// The constraints of a circuit that has these parameters, with the challenges that combine them. The first `rows` rows
+/// from row 3 on hold private inputs alone.
+#[derive(Drop)]
+pub(crate) struct Combining<'a, F: Field> {
+    pub(crate) params: &'a Params,
+    pub(crate) forms: &'a Forms<F>,
+    pub(crate) challenges: &'a Challenges<F>,
+    pub(crate) rows: u32,
+    ghost bounded: { AreBounded params.now },
+    ghost drawn: { HasShape params.now challenges.now },
+    ghost filled: { (c : Wiring F) → params.now ≡ params_of c → AreFormsOf F.ops c forms.now
+        → rows * params.now.wr ≤ c.privates },
+}
+
+/// Combines what all constraints have from row 3 + rows on. The table is set to the coefficients of these rows, row by
+/// row. Gives the sum that is wanted of all rows.
+pub(crate) fn combine_from<F: Field>(combining: &Combining<'_, F>, table: &mut [F]) -> F
+    requires forms { AreFormsFor F.ops combining.now.params.now combining.now.forms.now }
+    requires room { let p = combining.now.params.now in length table.old ≡ (p.nrow - 3 - combining.now.rows) * p.wr }
+    ensures combined { let k = combining.now in let p = k.params.now in
+        (c : Wiring F) → p ≡ params_of c → AreFormsOf F.ops c k.forms.now → (i s : ℕ)
+        → i < p.nrow - 3 - k.rows → s < p.wr
+        → entry F.ops table.new (i * p.wr + s)
+        ≡ spec.combined F.ops c (coefficient F.ops k.forms.now) k.challenges.now (3 + (k.rows + i)) s }
+    ensures wanted { let k = combining.now in
+        (c : Wiring F) → k.params.now ≡ params_of c → AreFormsOf F.ops c k.forms.now →
+        result ≡ spec.wanted F.ops c (right F.ops k.forms.now) k.challenges.now }
 {
+    let params = combining.params;
+    let forms = combining.forms;
+    let challenges = combining.challenges;
+    let rows = combining.rows;
     let skip = rows as usize * params.wr as usize;
     let kept = Kept {
         forms: &forms.forms,
@@ -274,5 +284,11 @@ pub fn combine<F: Field>(
     ensures wanted { (c : Wiring F) → params.now ≡ params_of c → AreFormsOf F.ops c forms.now →
         result ≡ spec.wanted F.ops c (right F.ops forms.now) challenges.now }
 {
-    combine_from(params, forms, challenges, 0, a)
+    let combining = Combining {
+        params,
+        forms,
+        challenges,
+        rows: 0,
+    };
+    combine_from(&combining, a)
 }

@@ -17,7 +17,7 @@ pub(crate) struct Scripted<'a, F: Field> {
     ghost shape: { HasShape circuit.now script.now },
 }
 
-/// The same with the public inputs and with what is sent.
+/// A circuit and its script with the public inputs and with what is sent.
 #[derive(Drop)]
 pub(crate) struct Exchange<'a, F: Field> {
     pub(crate) scripted: Scripted<'a, F>,
@@ -27,7 +27,7 @@ pub(crate) struct Exchange<'a, F: Field> {
     ghost count: { length messages.now ≡ sent_counts scripted.circuit.now },
 }
 
-/// The same with a list of pads and private inputs.
+/// An exchange with a list of pads and private inputs.
 #[derive(Drop)]
 pub(crate) struct Witnessed<'a, F: Field> {
     pub(crate) exchange: Exchange<'a, F>,

@@ -14,7 +14,7 @@ ghost use Rattle.lzk_accept.specs.Kept.{private_coefficient, AreFormsOf, AreRest
 
 use crate::challenges::Challenges;
 use crate::claims::points_on;
-use crate::combination::combine_from;
+use crate::combination::{Combining, combine_from};
 use crate::exchange::{Exchange, Scripted};
 use crate::forms::Forms;
 use crate::linear::{rest_forms, rest_with_bounds};
@@ -140,7 +140,7 @@ fn set_point_factors<F: Field>(
     set_place_factors(low_table, taken.first % width, place_factors);
 }
 
-// The same numbers with two points, of which gamma counts the second.
+// Numbers that rows take, with two points, of which gamma counts the second.
 #[derive(Drop)]
 struct TakenTwice<'a, F: Field> {
     taken: Taken<'a, F>,
@@ -269,13 +269,13 @@ fn fill<F: Field>(
 {
     let params = Params::of(scripted.circuit);
     let rows = factored.rows;
-    let wanted = combine_from(
-        &params,
+    let combining = Combining {
+        params: &params,
         forms,
         challenges,
         rows,
-        factored.table.as_mut_slice(),
-    );
+    };
+    let wanted = combine_from(&combining, factored.table.as_mut_slice());
     let depth = scripted.circuit.depth();
     let lambda = challenges.lambda.as_slice();
     let by = entry_at(lambda, depth as usize);
@@ -335,7 +335,8 @@ pub fn combine_factored<'a, F: Field>(
     fill(&scripted, challenges, forms, factored)
 }
 
-/// The same where the layers' bound coefficients are given, as a prover's sumchecks leave them. No term is visited.
+/// Combines as `combine_factored` does, where the layers' bound coefficients are given, as a prover's sumchecks leave
+/// them. No term is visited.
 pub fn combine_with_bounds<'a, F: Field>(
     circuit: &'a Circuit<F>,
     public: &'a [F],

@@ -15,13 +15,21 @@ use lzk_circuit::set_inputs;
 use lzk_field::Field;
 use lzk_mle::tilde;
 
-// The extension of values, in room that may be longer than it has to be.
-fn extension_of<F: Field>(values: &[F], r: &[F], room: &mut [F]) -> F
-    requires few { length r.now ≤ most_bits }
-    requires fits { length values.now ≤ 2 ^ length r.now }
-    requires room { 2 ^ length r.now ≤ length room.old }
-    ensures { result ≡ tilde F.ops values.now r.now }
+// Values, and a point with bits enough to number them.
+#[derive(Drop)]
+struct Extended<'a, F: Field> {
+    values: &'a [F],
+    r: &'a [F],
+    ghost few: { length r.now ≤ most_bits },
+    ghost fits: { length values.now ≤ 2 ^ length r.now },
+}
+
+// The extension of the values at the point, in room that may be longer than it has to be.
+fn extension_of<F: Field>(extended: &Extended<'_, F>, room: &mut [F]) -> F
+    requires room { 2 ^ length extended.now.r.now ≤ length room.old }
+    ensures { result ≡ tilde F.ops extended.now.values.now extended.now.r.now }
 {
+    let (values, r) = (extended.values, extended.r);
     let (room, _) = room.split_at_mut(1 << r.len());
     tilde(values, r, room)
 }
@@ -47,7 +55,9 @@ pub(crate) fn inputs_of<F: Field>(witnessed: &Witnessed<'_, F>, room: &mut [F]) 
     let (values, rest) = room.split_at_mut(1 + public.len() + private.len());
     set_inputs(public, private, values);
     let (a, b) = points_on(scripted, depth);
-    let first = extension_of(values, a, rest);
-    let second = extension_of(values, b, rest);
+    let at_a = Extended { values, r: a };
+    let first = extension_of(&at_a, rest);
+    let at_b = Extended { values, r: b };
+    let second = extension_of(&at_b, rest);
     first.add(script.gamma.mul(second))
 }

@@ -5,7 +5,7 @@ ghost use Rattle.lzk_field.specs.Sums.{entry, sum_below, minus};
 ghost use Rattle.lzk_mle.specs.Multilinear.{eq};
 ghost use Rattle.lzk_circuit.specs.Bits.{bits};
 ghost use Rattle.lzk_circuit.specs.Valid.{IsValid};
-ghost use Rattle.lzk_layout.specs.Places.{depth, width_at, pads_at, factors_at, places_of, AreWithin};
+ghost use Rattle.lzk_layout.specs.Places.{depth, pads_at, factors_at, places_of, AreWithin};
 ghost use Rattle.lzk_layout.specs.Sizes.{sent_counts, committed_count};
 ghost use Rattle.lzk_sumcheck.specs.Coefficients.{coefficients, bound_at, AreBounds};
 ghost use Rattle.lzk_sumcheck.specs.Script.{layer_at, point_a, point_b, HasShape};
@@ -17,7 +17,7 @@ use crate::exchange::{Exchange, Scripted};
 use crate::forms::{Form, Forms};
 use crate::points::ThreePoints;
 use crate::prepared::{Prepared, Turn};
-use crate::rounds::{Claim, claim_form};
+use crate::rounds::{Claim, LayerRounds, claim_form};
 use crate::tables::{set_bounds, set_input_tables};
 use lzk_circuit::Circuit;
 use lzk_field::Field;
@@ -103,18 +103,15 @@ fn layer_form<F: Field>(points: &ThreePoints<F>, turn: &Turn<'_, '_, F>, own: &m
 {
     let exchange = turn.exchange;
     let places = turn.places;
-    let messages = exchange.messages;
     let layer = layer_of(&exchange.scripted, turn.l);
     let alpha = layer.alpha;
-    let claim = claim_form(
-        points,
+    let rounds = LayerRounds {
         layer,
-        places.bits as usize,
-        messages,
-        places.messages as usize,
-        own,
-        places.pads as usize,
-    );
+        bits: places.bits as usize,
+        messages: exchange.messages,
+        sent: places.messages as usize,
+    };
+    let claim = claim_form(points, &rounds, own, places.pads as usize);
     let factors = factors_of(turn);
     set_factors(own, places.factors as usize, turn.bound, factors);
     let first = below_top_of(claim.weight, turn.l);
@@ -130,14 +127,13 @@ fn layer_form<F: Field>(points: &ThreePoints<F>, turn: &Turn<'_, '_, F>, own: &m
 
 // The two tables' entries at one place, joined: `gamma` counts the second.
 fn joined<F: Field>(prepared: &Prepared<'_, '_, '_, F>, k: usize) -> F
-    requires place { let c = prepared.now.exchange.scripted.circuit.now in k < width_at c (depth c) }
     ensures { let o = F.ops in
         let gamma = prepared.now.exchange.scripted.script.now.gamma in
         result ≡ o.plus (entry o prepared.now.first.now k) (o.times gamma (entry o prepared.now.second.now k)) }
 {
     let script = prepared.exchange.scripted.script;
     let gamma = script.gamma;
-    prepared.first[k].add(gamma.mul(prepared.second[k]))
+    entry_at(prepared.first, k).add(gamma.mul(entry_at(prepared.second, k)))
 }
 
 // What the inputs' constraint has of one and the public inputs.
@@ -172,11 +168,11 @@ fn set_privates<F: Field>(prepared: &Prepared<'_, '_, '_, F>, own: &mut [F])
     ensures after { (k : ℕ) → prepared.now.exchange.scripted.circuit.now.privates ≤ k
         → entry F.ops own.new k ≡ entry F.ops own.old k }
 {
-    let exchange = &prepared.exchange;
-    let at = exchange.public.len() + 1;
-    let privates = exchange.scripted.circuit.privates() as usize;
+    let circuit = prepared.exchange.scripted.circuit;
+    let publics = circuit.publics() as usize;
+    let privates = circuit.privates() as usize;
     for k in prepared.skip..privates {
-        own[k] = joined(prepared, at + k);
+        own[k] = joined(prepared, 1 + publics + k);
     }
 }
 
@@ -322,7 +318,7 @@ pub(crate) fn rest_forms<F: Field>(exchange: Exchange<'_, F>, skip: usize, forms
     fill_forms(&prepared, &mut forms.forms, &mut forms.own);
 }
 
-/// The same where the layers' bound coefficients are given. No term is visited.
+/// Sets the forms as `rest_forms` does, where the layers' bound coefficients are given. No term is visited.
 pub(crate) fn rest_with_bounds<F: Field>(
     exchange: Exchange<'_, F>,
     bounds: &[F],

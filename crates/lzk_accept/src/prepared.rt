@@ -1,7 +1,7 @@
 //! What the linear constraints are set from.
 
-ghost use Rattle.std.specs.Prelude.{◌≡◌, ◌<◌, ◌≤◌, length};
-ghost use Rattle.lzk_layout.specs.Places.{depth, width_at, places_of, AreWithin};
+ghost use Rattle.std.specs.Prelude.{◌≡◌, ◌<◌, ◌≤◌};
+ghost use Rattle.lzk_layout.specs.Places.{depth, places_of, AreWithin};
 ghost use Rattle.lzk_sumcheck.specs.Coefficients.{coefficients, bound_at, AreBounds};
 ghost use Rattle.lzk_accept.specs.Kept.{above_a, above_b, AreTablesAt, IsPlacedAt};
 
@@ -21,8 +21,6 @@ pub(crate) struct Prepared<'e, 'b, 't, F: Field> {
     pub(crate) second: &'t [F],
     pub(crate) skip: usize,
     ghost are: { AreBounds F.ops exchange.scripted.circuit.now exchange.scripted.script.now bounds.now },
-    ghost first_room: { let c = exchange.scripted.circuit.now in width_at c (depth c) ≤ length first.now },
-    ghost second_room: { let c = exchange.scripted.circuit.now in width_at c (depth c) ≤ length second.now },
     ghost at: { let c = exchange.scripted.circuit.now in
         AreTablesAt F.ops c exchange.scripted.script.now (depth c) first.now second.now },
     ghost few: { skip ≤ exchange.scripted.circuit.now.privates },

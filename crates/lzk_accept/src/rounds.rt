@@ -48,30 +48,38 @@ fn round_back<F: Field>(
     }
 }
 
+/// What a layer draws for its rounds, two for each of so many bits, and what it sends in them, from place `sent` on.
+#[derive(Drop)]
+pub(crate) struct LayerRounds<'a, F: Field> {
+    pub(crate) layer: &'a LayerScript<F>,
+    pub(crate) bits: usize,
+    pub(crate) messages: &'a [F],
+    pub(crate) sent: usize,
+    ghost drawn: { HasBits bits layer.now },
+    ghost within: { sent + 4 * bits ≤ length messages.now },
+}
+
 /// The claim after a layer's rounds, as a form of the claim before and of the pads, whose coefficients are written from
 /// place `at` on.
 pub(crate) fn claim_form<F: Field>(
     points: &ThreePoints<F>,
-    layer: &LayerScript<F>,
-    bits: usize,
-    messages: &[F],
-    sent: usize,
+    rounds: &LayerRounds<'_, F>,
     own: &mut [F],
     at: usize,
 ) -> Claim<F>
-    requires bits { HasBits bits layer.now }
-    requires messages { sent + 4 * bits ≤ length messages.now }
-    requires room { at + 4 * bits ≤ length own.old }
+    requires room { at + 4 * rounds.now.bits ≤ length own.old }
     ensures length { length own.new ≡ length own.old }
     ensures before { (j : ℕ) → j < at → entry F.ops own.new j ≡ entry F.ops own.old j }
-    ensures after { (j : ℕ) → at + 4 * bits ≤ j → entry F.ops own.new j ≡ entry F.ops own.old j }
-    ensures form { let o = F.ops in
+    ensures after { (j : ℕ) → at + 4 * rounds.now.bits ≤ j → entry F.ops own.new j ≡ entry F.ops own.old j }
+    ensures form { let o = F.ops in let r = rounds.now in
         (pad : ℕ → F) (x : F)
-        → through_rounds o F.coding.element (challenge_of o layer.now) (λ k. entry o messages.now (sent + k)) pad x
-        (2 * bits)
+        → through_rounds o F.coding.element (challenge_of o r.layer.now) (λ k. entry o r.messages.now (r.sent + k)) pad
+        x (2 * r.bits)
         ≡ o.plus (o.plus result.constant (o.times result.weight x))
-        (sum_below o (4 * bits) (λ k. o.times (entry o own.new (at + k)) (pad k))) }
+        (sum_below o (4 * r.bits) (λ k. o.times (entry o own.new (at + k)) (pad k))) }
 {
+    let (layer, bits) = (rounds.layer, rounds.bits);
+    let (messages, sent) = (rounds.messages, rounds.sent);
     let ra = layer.ra.as_slice();
     let rb = layer.rb.as_slice();
     let mut claim = Claim {

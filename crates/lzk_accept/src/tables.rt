@@ -12,6 +12,7 @@ use crate::claims::{layer_of, points_on};
 use crate::exchange::Scripted;
 use crate::terms::{Weighed, sum_terms};
 use lzk_field::Field;
+use lzk_sumcheck::entry_at;
 
 // Moves each of the first `size` entries to twice its place, and puts x times it behind that. It goes from the last one
 // down, so that each is read before it is written over.
@@ -78,7 +79,6 @@ pub(crate) fn set_table<F: Field>(r: &[F], width: usize, table: &mut [F])
 
 // Sets the weight of each wire of a layer.
 fn set_weights<F: Field>(width: usize, alpha: F, first: &[F], second: &[F], weights: &mut [F])
-    requires tables { HaveRoom width first.now second.now }
     requires room { width ≤ length weights.old }
     ensures length { length weights.new ≡ length weights.old }
     ensures entries { let o = F.ops in
@@ -86,7 +86,7 @@ fn set_weights<F: Field>(width: usize, alpha: F, first: &[F], second: &[F], weig
         → entry o weights.new g ≡ o.plus (entry o first.now g) (o.times alpha (entry o second.now g)) }
 {
     for g in 0..width {
-        weights[g] = first[g].add(alpha.mul(second[g]));
+        weights[g] = entry_at(first, g).add(alpha.mul(entry_at(second, g)));
     }
 }
 

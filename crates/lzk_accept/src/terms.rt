@@ -8,6 +8,7 @@ ghost use Rattle.lzk_accept.specs.Walks.{counted, counted_so_far};
 
 use lzk_circuit::{Term, weight_of};
 use lzk_field::Field;
+use lzk_sumcheck::entry_at;
 
 // A sum over terms, of which those of the last wire are not weighted yet. The terms whose first wire is wire 0 are
 // summed without its entry.
@@ -28,17 +29,15 @@ fn scaled<F: Field>(coef: F, x: F) -> F
 
 // What the walk has summed, with the last wire's terms.
 fn summed<F: Field>(walk: Walk<F>, weights: &[F], base: F) -> F
-    requires wire { walk.wire < length weights.now }
     ensures { result ≡ counted_so_far F.ops weights.now base walk }
 {
-    let weight = weights[walk.wire as usize];
+    let weight = entry_at(weights, walk.wire as usize);
     let inner = walk.inner.add(base.mul(walk.linear));
     walk.total.add(weight.mul(inner))
 }
 
 // Goes on to a term's wire: what was summed for the wire before gets its weight. `base` is the entry of wire 0 below.
 fn at_wire<F: Field>(walk: Walk<F>, wire: u32, weights: &[F], base: F) -> Walk<F>
-    requires old { walk.wire < length weights.now }
     ensures wire { result.wire ≡ wire }
     ensures sum { counted_so_far F.ops weights.now base result ≡ counted_so_far F.ops weights.now base walk }
 {
@@ -89,8 +88,6 @@ pub(crate) struct Weighed<'c, 't, F: Field> {
     pub(crate) weights: &'t [F],
     pub(crate) first: &'t [F],
     pub(crate) second: &'t [F],
-    ghost some: { 0 < length weights.now },
-    ghost below: { 0 < length first.now },
     ghost placed: { (i : ℕ) (t : declared.Term F) → slice_get terms.now i ≡ Some t
         → (t.g < length weights.now) × (t.a < length first.now) × (t.b < length second.now) },
 }
@@ -103,7 +100,7 @@ pub(crate) fn sum_terms<F: Field>(weighed: &Weighed<'_, '_, F>, beta: F) -> F
 {
     let terms = weighed.terms;
     let (weights, first, second) = (weighed.weights, weighed.first, weighed.second);
-    let base = first[0];
+    let base = entry_at(first, 0);
     let mut walk = Walk {
         total: F::zero(),
         wire: 0,

@@ -8,7 +8,7 @@ use crate::words::{mixed, shifted, word_of, xor};
 
 /// The state's columns, each a word with the byte of row 0 lowest.
 #[derive(Clone, Copy)]
-pub struct Columns {
+pub(crate) struct Columns {
     pub first: u32,
     pub second: u32,
     pub third: u32,
@@ -119,7 +119,7 @@ fn rounds(words: &[u32; 60], block: [u8; 16]) -> Columns
 }
 
 /// The block under these key words.
-pub fn encrypt(words: &[u32; 60], block: [u8; 16]) -> [u8; 16]
+pub(crate) fn encrypt(words: &[u32; 60], block: [u8; 16]) -> [u8; 16]
     ensures { result ≡ cipher (map word_bytes words.now) block }
 {
     let s = rounds(words, block);

@@ -75,7 +75,7 @@ fn next_key_word(words: &[u32; 60], i: usize, before: u32) -> u32
 
 /// The 60 key words. The word before is kept at hand, so that no turn of the loop waits for memory.
 #[tactic(auto, unfolding(crate::specs::Aes::key_words))]
-pub fn key_schedule(key: &[u8; 32]) -> [u32; 60]
+pub(crate) fn key_schedule(key: &[u8; 32]) -> [u32; 60]
     ensures words { map word_bytes result ≡ key_words key.now 60 }
     ensures key { key_of result ≡ key.now }
 {

@@ -12,7 +12,7 @@ use lzk_field::Field;
 
 /// From the coefficients of a polynomial to its values at the points of a block: an additive fast Fourier
 /// transform in the novel polynomial basis.
-pub fn forward<F: Field>(values: &mut [F], twiddles: &[F], bits: u32, node: usize)
+pub(crate) fn forward<F: Field>(values: &mut [F], twiddles: &[F], bits: u32, node: usize)
     requires factors { HasFactors bits node values.old twiddles.now }
     ensures { (at : ℕ) → IsBlock F.ops F.coding.element bits at node twiddles.now → (j : ℕ) → j < length values.new
         → entry F.ops values.new j
@@ -33,7 +33,13 @@ pub fn forward<F: Field>(values: &mut [F], twiddles: &[F], bits: u32, node: usiz
 /// coefficients: a truncated backward transform.
 ///
 /// With as many values as points it undoes `forward`.
-pub fn backward<F: Field>(values: &mut [F], twiddles: &[F], bits: u32, node: usize, known: usize)
+pub(crate) fn backward<F: Field>(
+    values: &mut [F],
+    twiddles: &[F],
+    bits: u32,
+    node: usize,
+    known: usize,
+)
     requires factors { HasFactors bits node values.old twiddles.now }
     requires known { known ≤ length values.old }
     ensures values { (at : ℕ) → IsBlock F.ops F.coding.element bits at node twiddles.now → (j : ℕ) → j < known

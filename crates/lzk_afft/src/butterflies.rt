@@ -7,7 +7,7 @@ use lzk_field::Field;
 
 /// The butterflies of a forward level: the twiddle factor times the upper entry is added to the lower one, and
 /// the sum to the upper one.
-pub fn forward_butterflies<F: Field>(low: &mut [F], high: &mut [F], twiddle: F)
+pub(crate) fn forward_butterflies<F: Field>(low: &mut [F], high: &mut [F], twiddle: F)
     requires halves { length high.old ≡ length low.old }
     ensures lower { (i : ℕ) → i < length low.new
         → entry F.ops low.new i ≡ F.ops.plus (entry F.ops low.old i) (F.ops.times twiddle (entry F.ops high.old i)) }
@@ -25,7 +25,7 @@ pub fn forward_butterflies<F: Field>(low: &mut [F], high: &mut [F], twiddle: F)
 
 /// The butterflies of a backward level, which undo those of the forward one: the lower entry is taken from the
 /// upper one, and then the twiddle factor times the upper one from the lower.
-pub fn backward_butterflies<F: Field>(low: &mut [F], high: &mut [F], twiddle: F)
+pub(crate) fn backward_butterflies<F: Field>(low: &mut [F], high: &mut [F], twiddle: F)
     requires halves { length high.old ≡ length low.old }
     ensures upper { (i : ℕ) → i < length high.new
         → entry F.ops high.new i ≡ minus F.ops (entry F.ops high.old i) (entry F.ops low.old i) }
@@ -40,7 +40,7 @@ pub fn backward_butterflies<F: Field>(low: &mut [F], high: &mut [F], twiddle: F)
 }
 
 /// From place `from` on, adds the twiddle factor times the upper entries to the lower ones.
-pub fn add_multiples<F: Field>(low: &mut [F], high: &[F], twiddle: F, from: usize)
+pub(crate) fn add_multiples<F: Field>(low: &mut [F], high: &[F], twiddle: F, from: usize)
     requires halves { length high.now ≡ length low.old }
     ensures before { (i : ℕ) → i < from → entry F.ops low.new i ≡ entry F.ops low.old i }
     ensures after { (i : ℕ) → from ≤ i → i < length low.new →
@@ -52,7 +52,7 @@ pub fn add_multiples<F: Field>(low: &mut [F], high: &[F], twiddle: F, from: usiz
 }
 
 /// Takes the twiddle factor times the upper entries from the lower ones.
-pub fn subtract_multiples<F: Field>(low: &mut [F], high: &[F], twiddle: F)
+pub(crate) fn subtract_multiples<F: Field>(low: &mut [F], high: &[F], twiddle: F)
     requires halves { length high.now ≡ length low.old }
     ensures { (i : ℕ) → i < length low.new
         → entry F.ops low.new i ≡ minus F.ops (entry F.ops low.old i) (F.ops.times twiddle (entry F.ops high.now i)) }
@@ -63,7 +63,7 @@ pub fn subtract_multiples<F: Field>(low: &mut [F], high: &[F], twiddle: F)
 }
 
 /// From place `from` on, adds the lower entries to the upper ones.
-pub fn add_entries<F: Field>(high: &mut [F], low: &[F], from: usize)
+pub(crate) fn add_entries<F: Field>(high: &mut [F], low: &[F], from: usize)
     requires halves { length low.now ≡ length high.old }
     ensures before { (i : ℕ) → i < from → entry F.ops high.new i ≡ entry F.ops high.old i }
     ensures after { (i : ℕ) → from ≤ i → i < length high.new

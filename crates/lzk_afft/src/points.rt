@@ -10,7 +10,13 @@ use crate::butterflies::{backward_butterflies, forward_butterflies};
 use lzk_field::Field;
 
 /// The coefficients of the polynomial through the values at the first points, and zeros after them.
-pub fn interpolate<F: Field>(values: &[F], twiddles: &[F], bits: u32, node: usize, room: &mut [F])
+pub(crate) fn interpolate<F: Field>(
+    values: &[F],
+    twiddles: &[F],
+    bits: u32,
+    node: usize,
+    room: &mut [F],
+)
     requires fits { length values.now ≤ length room.old }
     requires factors { HasFactors bits node room.old twiddles.now }
     ensures meets { IsBlock F.ops F.coding.element bits 0 node twiddles.now → (j : ℕ) → j < length values.now
@@ -30,7 +36,7 @@ pub fn interpolate<F: Field>(values: &[F], twiddles: &[F], bits: u32, node: usiz
 
 /// Writes the values at points `from` and on of the polynomial whose coefficients are in `room`, which holds
 /// them again at the end. Whole blocks are transformed where they stand in `out`.
-pub fn evaluate<F: Field>(
+pub(crate) fn evaluate<F: Field>(
     room: &mut [F],
     twiddles: &[F],
     bits: u32,

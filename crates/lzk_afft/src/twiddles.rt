@@ -11,7 +11,7 @@ use std::alloc::{AllocError, Global};
 
 /// The twiddle factors of the block of the first 2^depth points and of all its halves, the largest block's
 /// first.
-pub fn twiddle_factors<F: Field>(alloc: Global, depth: u32) -> Result<Vec<F>, AllocError>
+pub(crate) fn twiddle_factors<F: Field>(alloc: Global, depth: u32) -> Result<Vec<F>, AllocError>
     requires subspace { IsSubspace F.ops F.coding.element depth }
     ensures { IfOk result (λ v. (length v.items ≡ 2 ^ depth) × AreTwiddles F.ops F.coding.element depth 0 1 v.items) }
 {

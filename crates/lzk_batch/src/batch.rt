@@ -67,7 +67,7 @@ fn work_alone(alloc: Global, batch: &Batch<'_>, pass: &mut Pass) -> Result<Vec<J
     judged
 }
 
-// The same, as a list of one list.
+// What one worker finds, as `work_alone` does, in a list of one list.
 fn one_list(
     alloc: Global,
     batch: &Batch<'_>,
@@ -235,7 +235,8 @@ pub fn verify_all<R: Threads + Sync, G: Gate>(
     verify_all_with_ids(rt, alloc, circuits, &ids, jobs, workers, gate)
 }
 
-/// The same for circuits whose ids are known, as SHA-256 of the files that they were read from: no circuit is written.
+/// As `verify_all`, for circuits whose ids are known, as SHA-256 of the files that they were read from: no circuit is
+/// written.
 ///
 /// # Errors
 ///

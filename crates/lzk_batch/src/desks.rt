@@ -90,7 +90,7 @@ fn judge_over<'c, F: Field>(
 
 /// The circuits of a batch and their ids, with the last desk over each field.
 #[derive(Drop)]
-pub struct Desks<'c> {
+pub(crate) struct Desks<'c> {
     circuits: &'c [AnyCircuit],
     ids: &'c [[u8; 32]],
     gold: Option<Kept<'c, Gold>>,

@@ -23,7 +23,7 @@ fn verdict_in(list: &[Judged], number: u32) -> Option<AnyVerdict>
     None
 }
 
-// The same, of several lists.
+// The verdict on the job with this number, if one of several lists has it.
 fn verdict_of(lists: &[Vec<Judged>], number: u32) -> Option<AnyVerdict>
     ensures some { IfSome result (HasVerdictIn lists.now number) }
     ensures none { IfNone result (All (λ list. All (λ judged. judged.job ≢ number) list.items) lists.now) }

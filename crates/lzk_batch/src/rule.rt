@@ -5,14 +5,14 @@ use std::collections::LinkedList;
 
 /// What a seat knows: the numbers that it drew, and how many more than one of them may be past all jobs. No value of it
 /// is made.
-pub struct View {
+pub(crate) struct View {
     pub drawn: LinkedList<u64>,
     pub spare: u64,
     pub is_spent: bool,
 }
 
 /// Each number is drawn once.
-pub struct Once;
+pub(crate) struct Once;
 
 impl TableRule<u8, View, ()> for Once {
     ghost use Rattle.std.specs.Prelude.{[], false};
@@ -24,7 +24,7 @@ impl TableRule<u8, View, ()> for Once {
 }
 
 /// A draw: the seat learns the number that the word was.
-pub struct Draws;
+pub(crate) struct Draws;
 
 impl Play<u8, View> for Draws {
     ghost use Rattle.std.specs.Prelude.{◌≡◌, ◌<◌, [], ◌∷◌, ◌++◌, All};
@@ -35,7 +35,7 @@ impl Play<u8, View> for Draws {
 }
 
 /// A seat gives a share to a new one, or takes in another with its shares.
-pub struct Shares;
+pub(crate) struct Shares;
 
 impl Split<View> for Shares {
     ghost use Rattle.std.specs.Prelude.{[], false, ◌-◌};

@@ -8,14 +8,14 @@ ghost use Rattle.lzk_batch.specs.Lists as lists;
 use lzk_expr::words::{is_blank, word_at, word_len};
 
 /// Whether a line has blanks alone.
-pub fn is_skipped(line: &[u8]) -> bool
+pub(crate) fn is_skipped(line: &[u8]) -> bool
     ensures { result ≡ lists.is_skipped line.now }
 {
     line.iter().all(|b| is_blank(*b))
 }
 
 /// The next word, and what is behind it.
-pub fn next_word(text: &str) -> Option<(&str, &str)>
+pub(crate) fn next_word(text: &str) -> Option<(&str, &str)>
     ensures { MatchOption result (runs is_plain text.now ≡ []) (λ x. IsRun is_plain text.now x.0.now x.1.now) }
 {
     match word_at(text.as_bytes()) {
@@ -29,7 +29,7 @@ pub fn next_word(text: &str) -> Option<(&str, &str)>
 }
 
 /// What stands behind a front, if the word has it.
-pub fn behind<'a>(front: &[u8], word: &'a [u8]) -> Option<&'a [u8]>
+pub(crate) fn behind<'a>(front: &[u8], word: &'a [u8]) -> Option<&'a [u8]>
     ensures { option_copied result ≡ lists.behind front.now word.now }
 {
     if front.len() <= word.len() && &word[..front.len()] == front {

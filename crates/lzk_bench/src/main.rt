@@ -20,7 +20,7 @@ mod trees;
 use lzk_afft::Transform;
 use lzk_gf128::Gf128;
 use lzk_goldilocks::Gold;
-use lzk_ntt::NttExtender;
+use lzk_poly_ntt::NttExtender;
 use std::alloc::{AllocError, Global};
 use std::env;
 use std::marker::Sync;

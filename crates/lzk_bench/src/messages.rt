@@ -4,7 +4,7 @@ ghost use Rattle.std.specs.Prelude.{◌≡◌, length, IfOk};
 ghost use Rattle.lzk_circuit.specs.Checks.{HasRoom};
 ghost use Rattle.lzk_circuit.specs.Valid.{HaveWidths};
 ghost use Rattle.lzk_layout.specs.Sizes.{sent_counts};
-ghost use Rattle.lzk_rounds.specs.Room.{IsRoomOf};
+ghost use Rattle.lzk_sumcheck_rounds.specs.Room.{IsRoomOf};
 ghost use Rattle.lzk_sumcheck.specs.Script.{HasShape};
 
 use crate::rows::first_values;

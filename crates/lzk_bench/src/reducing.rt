@@ -3,12 +3,12 @@
 ghost use Rattle.std.specs.Prelude.{◌≡◌, ◌≤◌, length, IfOk};
 ghost use Rattle.lzk_goldilocks.specs.Elements.{ops};
 ghost use Rattle.lzk_circuit.specs.Valid.{AreLayers};
-ghost use Rattle.lzk_reduce.specs.Reduced.{HaveOnes, IsReduced};
+ghost use Rattle.lzk_circuit_reduce.specs.Reduced.{HaveOnes, IsReduced};
 
 use crate::texts::parity_circuit;
 use lzk_circuit::{Circuit, Layer, Terms};
+use lzk_circuit_reduce::reduced;
 use lzk_goldilocks::Gold;
-use lzk_reduce::reduced;
 use std::alloc::{AllocError, Global};
 
 // Copies of a circuit's layers.

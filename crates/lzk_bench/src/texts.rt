@@ -2,7 +2,7 @@
 
 ghost use Rattle.std.specs.Prelude.{◌≡◌, ◌≤◌, length, IfOk, IfSome};
 ghost use Rattle.lzk_goldilocks.specs.Elements.{ops};
-ghost use Rattle.lzk_reduce.specs.Reduced.{IsReduced};
+ghost use Rattle.lzk_circuit_reduce.specs.Reduced.{IsReduced};
 
 use lzk_circbytes::AnyCircuit;
 use lzk_circuit::Circuit;

@@ -1,9 +1,10 @@
 //! The prover for programs in C, and in any language that calls C.
 //!
-//! A library for C may start no thread, and the prover's crates stand on `lzk_hands`, which starts them. So `lzk_prove`
-//! is proved here for all that may do a chunk's work, and `./build library` makes an export of it: `lzk_alone` stands
-//! in the place of `lzk_hands`, the caller's own thread in that of `rt`, and the crates above `lzk_hands`, this one
-//! last, are proved once more over that. `include/lzk.h` declares the export.
+//! A library for C may start no thread, and the prover's crates stand on `lzk_work_threads`, which starts them. So
+//! `lzk_prove` is proved here for all that may do a chunk's work, and `./build library` makes an export of it:
+//! `lzk_work_alone` stands in the place of `lzk_work_threads`, the caller's own thread in that of `rt`, and the
+//! crates above `lzk_work_threads`, this one last, are proved once more over that. `include/lzk.h` declares the
+//! export.
 //!
 //! ```text
 //! lzk_outcome found;
@@ -15,8 +16,8 @@ ghost use Rattle.std.specs.Prelude.{◌≡◌};
 ghost use Rattle.lzk_prove.specs.Exports.{Proves};
 
 use lzk_calls::{Outcome, outcome_of};
-use lzk_hands::Hands;
 use lzk_prove::{With, prove};
+use lzk_work_threads::Hands;
 use std::alloc::Global;
 
 /// What is proved, for which session, by which seed.

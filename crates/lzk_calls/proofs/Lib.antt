@@ -1,1 +1,3 @@
 pub mod Hashes
+mod Zips
+mod Explaining

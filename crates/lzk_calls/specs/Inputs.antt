@@ -34,6 +34,10 @@ abbrev pub AreShort : List ℕ → List ℕ → List ℕ → Type 0
 AreShort session public private =
     (length session ≤ most_session) × ((length public ≤ most_text) × (length private ≤ most_text))
 
+-- neither the session nor the text of public numbers is too long
+abbrev pub AreBothShort : List ℕ → List ℕ → Type 0
+AreBothShort session public = (length session ≤ most_session) × (length public ≤ most_text)
+
 -- these are the inputs of two texts, beside a session; nothing is too long
 pub record AreInputs {A : Type 0} (e : Coding A) (c : Wiring A) (session public private : List ℕ)
     (publics privates : List A) : Type 0 where
@@ -52,3 +56,11 @@ LacksInputs e c session public private (NoPrivates fault) =
     × ((publics : List ℕ) × NumberText e.size c.publics public publics × IsNumberFault e.size c.privates private fault)
 LacksInputs e c session public private OutOfMemory = Unit {0}
 LacksInputs e c session public private other = ⊥
+
+-- why a text beside a session gives no public numbers: the first cause; want of memory may come at any time
+abbrev pub LacksPublics : {A : Type 0} → Coding A → Wiring A → List ℕ → List ℕ → Refusal → Type 0
+LacksPublics e c session public TooLong = (most_session < length session) ⊎ (most_text < length public)
+LacksPublics e c session public (NoPublics fault) =
+    AreBothShort session public × IsNumberFault e.size c.publics public fault
+LacksPublics e c session public OutOfMemory = Unit {0}
+LacksPublics e c session public other = ⊥

@@ -6,7 +6,11 @@ pub mod Outcomes
 pub mod Shown
 pub mod Hashed
 pub mod Upgraded
+pub mod Verified
+pub mod Reports
+pub mod Explained
 pub mod Exports
+pub use Rattle.lzk_verify.specs as lzk_verify
 pub use Rattle.lzk_circbytes.specs as lzk_circbytes
 pub use Rattle.lzk_level.specs as lzk_level
 pub use Rattle.lzk_expr.specs as lzk_expr

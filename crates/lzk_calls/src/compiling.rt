@@ -16,7 +16,7 @@ use lzk_level::{LevelError, compile_owned, compile_owned_v2};
 use std::alloc::{AllocError, Global};
 
 /// The most bytes of a text.
-pub const MOST_TEXT: usize = 4_194_304;
+pub(crate) const MOST_TEXT: usize = 4_194_304;
 
 // The source of a text.
 fn source_of(alloc: Global, version: Version, text: &[u8]) -> Result<Source, Refusal>
@@ -89,7 +89,7 @@ fn compiled(alloc: Global, version: Version, text: &[u8]) -> Result<Vec<u8>, Ref
     }
 }
 
-// The same, put into a room.
+// Puts the file of a text's circuit into a room.
 fn compile_as(alloc: Global, version: Version, text: &[u8], room: &mut [u8]) -> Result<u64, Refusal>
     ensures { CompilesAs version text.now room.old room.new result }
 {

@@ -32,7 +32,7 @@ fn check<F: Field>(
     }
 }
 
-// The same, by room of its own.
+// The first check that is not 0, by room that this call makes.
 fn check_inputs<F: Field>(
     alloc: Global,
     circuit: &Circuit<F>,
@@ -49,7 +49,7 @@ fn check_inputs<F: Field>(
     }
 }
 
-// The same on two texts.
+// The first check that is not 0, of the inputs in two texts.
 fn evaluate_over<F: Field>(
     alloc: Global,
     circuit: &Circuit<F>,

@@ -1,9 +1,9 @@
 //! A circuit and its inputs, as they are read.
 
-ghost use Rattle.std.specs.Prelude.{◌≡◌, ◌≤◌, length, IfOk, IfErr, OnOk};
+ghost use Rattle.std.specs.Prelude.{◌≡◌, ◌≤◌, length, map, IfOk, IfErr, OnOk};
 ghost use Rattle.lzk_circbytes.specs.Files.{CircuitBytes};
 ghost use Rattle.lzk_expr.specs.Numbers.{NumberText, IsFirstFault};
-ghost use Rattle.lzk_calls.specs.Inputs.{AreInputs, IsUnread, LacksInputs};
+ghost use Rattle.lzk_calls.specs.Inputs.{AreInputs, IsUnread, LacksInputs, LacksPublics};
 
 use crate::compiling::MOST_TEXT;
 use crate::refusal::Refusal;
@@ -85,4 +85,28 @@ pub fn inputs_of<F: Field>(
         return Err(Refusal::TooLong);
     }
     read_inputs(alloc, circuit, session, public, private)
+}
+
+/// A circuit's public numbers, beside a session that is not too long.
+pub(crate) fn publics_of<F: Field>(
+    alloc: Global,
+    circuit: &Circuit<F>,
+    session: &[u8],
+    public: &[u8],
+) -> Result<Vec<F>, Refusal>
+    ensures numbers { IfOk result
+        (λ publics. NumberText F.coding.size circuit.now.publics public.now (map F.coding.number publics.items)) }
+    ensures count { IfOk result (λ publics. length publics.items ≡ circuit.now.publics) }
+    ensures short { OnOk result (length session.now ≤ 64) }
+    ensures text { OnOk result (length public.now ≤ 4194304) }
+    ensures refused { IfErr result (LacksPublics F.coding circuit.now session.now public.now) }
+{
+    if session.len() > MOST_SESSION || public.len() > MOST_TEXT {
+        return Err(Refusal::TooLong);
+    }
+    match read_numbers::<F>(alloc, public, circuit.publics()) {
+        Ok(publics) => Ok(publics),
+        Err(NumberError::Fault(fault)) => Err(Refusal::NoPublics(fault)),
+        Err(NumberError::OutOfMemory) => Err(Refusal::OutOfMemory),
+    }
 }

@@ -5,7 +5,7 @@ ghost use Rattle.lzk_calls.specs.Compiled.{IsNoVersion, IsVersion};
 
 /// A circuit's version.
 #[derive(Clone, Copy)]
-pub enum Version {
+pub(crate) enum Version {
     /// Each assert is an output.
     One,
     /// An assert is an assertion term where it stands.
@@ -13,7 +13,7 @@ pub enum Version {
 }
 
 /// The version with this number.
-pub fn version_of(number: u32) -> Option<Version>
+pub(crate) fn version_of(number: u32) -> Option<Version>
     ensures { MatchOption result (IsNoVersion number) (IsVersion number) }
 {
     match number {

@@ -1,6 +1,6 @@
 //! The circuit whose file the bytes are.
 
-ghost use Rattle.std.specs.Prelude.{◌≡◌, ◌⊎◌, ◌≤◌, map, reverse, IfOk, IfErr};
+ghost use Rattle.std.specs.Prelude.{◌≡◌, ◌≤◌, map, reverse, IfOk, IfErr};
 ghost use Rattle.lzk_circuit.specs.Valid.{IsValid, wiring};
 ghost use Rattle.lzk_circbytes.specs.Numbered.{shape, numbered, numbered_layer};
 ghost use Rattle.lzk_circbytes.specs.Reading.{body_at, wiring_at};
@@ -11,7 +11,7 @@ ghost use Rattle.lzk_circuit.specs.Limits.{most_total};
 use crate::any::AnyCircuit;
 use crate::fault::{ByteFault, ByteKind, DecodeError, ReadError};
 use crate::reading::{
-    check_used, coefs_of, constants_of, constants_part, layers_of, limited_of, stop,
+    Coefs, check_used, coefs_of, constants_of, constants_part, layers_of, limited_of, stop,
 };
 use lzk_circuit::{Circuit, Layer, MOST_IN_ALL, MOST_LAYERS, MOST_PRIVATES, MOST_PUBLICS};
 use lzk_field::Field;
@@ -37,7 +37,8 @@ fn body_of<F: Field>(
     let (constants, rest) = constants_of::<F>(alloc, count, bytes)?;
     let coefs = coefs_of(alloc, version, constants)?;
     let mut used = vec![in alloc; false; coefs.len()]?;
-    let (layers, rest) = layers_of(alloc, &coefs, inputs, depth, &mut used, rest)?;
+    let among = Coefs { list: &coefs };
+    let (layers, rest) = layers_of(alloc, &among, inputs, depth, &mut used, rest)?;
     check_used(constants_part(version, &used), F::BYTES, bytes)?;
     if !rest.is_empty() {
         return Err(stop(ByteKind::Trailing, rest));
@@ -45,27 +46,38 @@ fn body_of<F: Field>(
     Ok(layers)
 }
 
+/// A circuit's version: 1 or 2.
+#[derive(Clone, Copy)]
+struct Version {
+    number: u8,
+    ghost some: { 1 ≤ number },
+    ghost few: { number ≤ 2 },
+}
+
 /// The circuit behind the field's byte.
 #[tactic(auto, unfolding(crate::specs::Reading::wiring_at))]
-fn circuit_of<F: Field>(alloc: Global, version: u8, bytes: &[u8]) -> Result<Circuit<F>, ReadError>
-    requires { (version ≡ 1) ⊎ (version ≡ 2) }
+fn circuit_of<F: Field>(
+    alloc: Global,
+    version: Version,
+    bytes: &[u8],
+) -> Result<Circuit<F>, ReadError>
     ensures value { Gives (λ c. numbered F.coding.number c) result
-        (wiring_at (shape F.coding.id F.coding.bytes F.coding.size) version bytes.now) }
+        (wiring_at (shape F.coding.id F.coding.bytes F.coding.size) version.number bytes.now) }
     ensures valid { IfOk result (λ c. IsValid F.ops c) }
 {
     let (publics, rest) = limited_of(0, MOST_PUBLICS, bytes)?;
     let (privates, rest) = limited_of(0, MOST_PRIVATES, rest)?;
     let (depth, rest) = limited_of(1, MOST_LAYERS, rest)?;
     let (count, rest) = limited_of(0, MOST_IN_ALL, rest)?;
+    let version = version.number;
     let mut layers = body_of(alloc, version, 1 + publics + privates, depth, count, rest)?;
     layers.reverse();
     Ok(Circuit::of_valid(version, publics, privates, layers))
 }
 
 /// The circuit from the field's byte on.
-fn any_of(alloc: Global, version: u8, bytes: &[u8]) -> Result<AnyCircuit, ReadError>
-    requires { (version ≡ 1) ⊎ (version ≡ 2) }
-    ensures value { Gives numbers_of result (field_at version bytes.now) }
+fn any_of(alloc: Global, version: Version, bytes: &[u8]) -> Result<AnyCircuit, ReadError>
+    ensures value { Gives numbers_of result (field_at version.number bytes.now) }
     ensures valid { IfOk result IsValidCircuit }
 {
     match bytes {
@@ -90,8 +102,8 @@ fn file_of(alloc: Global, bytes: &[u8]) -> Result<AnyCircuit, ReadError>
         return Err(stop(ByteKind::Truncated, bytes));
     }
     match bytes {
-        [b'L', FILE_LETTER, b'C', b'1', rest @ ..] => any_of(alloc, 1, rest),
-        [b'L', FILE_LETTER, b'C', b'2', rest @ ..] => any_of(alloc, 2, rest),
+        [b'L', FILE_LETTER, b'C', b'1', rest @ ..] => any_of(alloc, Version { number: 1 }, rest),
+        [b'L', FILE_LETTER, b'C', b'2', rest @ ..] => any_of(alloc, Version { number: 2 }, rest),
         _ => Err(stop(ByteKind::Magic, bytes)),
     }
 }

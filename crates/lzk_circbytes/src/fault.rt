@@ -75,7 +75,7 @@ pub enum DecodeError {
 
 /// The first check that failed, with how many bytes are left from its field on.
 #[derive(Debug, Drop)]
-pub enum ReadError {
+pub(crate) enum ReadError {
     Stops(usize, ByteKind),
     OutOfMemory,
 }

@@ -22,7 +22,7 @@ const LEAST_TERM: usize = 4;
 const LEAST_LAYER: usize = 8;
 
 /// A check failed of the field that these bytes begin with.
-pub fn stop(kind: ByteKind, bytes: &[u8]) -> ReadError
+pub(crate) fn stop(kind: ByteKind, bytes: &[u8]) -> ReadError
     ensures { result ≡ ReadError.Stops (length bytes.now) kind }
 {
     ReadError::Stops(bytes.len(), kind)
@@ -42,7 +42,7 @@ fn word_of(bytes: &[u8]) -> Result<(u32, &[u8]), ReadError>
 
 /// A count from `low` to `high`.
 #[tactic(auto, unfolding(crate::specs::Reading::limited_at))]
-pub fn limited_of(low: u32, high: u32, bytes: &[u8]) -> Result<(u32, &[u8]), ReadError>
+pub(crate) fn limited_of(low: u32, high: u32, bytes: &[u8]) -> Result<(u32, &[u8]), ReadError>
     ensures value { Gives (λ x. (x.0, x.1.now)) result (limited_at low high bytes.now) }
     ensures bound { IfOk result (λ x. x.0 ≤ high) }
 {
@@ -141,7 +141,7 @@ fn constant_of<F: Field>(before: u128, bytes: &[u8]) -> Result<(F, &[u8]), ReadE
 }
 
 /// So many constants, ascending. Room is kept for no more than the bytes can hold.
-pub fn constants_of<F: Field>(
+pub(crate) fn constants_of<F: Field>(
     alloc: Global,
     count: u32,
     bytes: &[u8],
@@ -163,7 +163,7 @@ pub fn constants_of<F: Field>(
 }
 
 /// What the last numbers of terms count among: the constants, and in version 2 zero before them.
-pub fn coefs_of<F: Field>(
+pub(crate) fn coefs_of<F: Field>(
     alloc: Global,
     version: u8,
     constants: Vec<F>,
@@ -182,7 +182,7 @@ pub fn coefs_of<F: Field>(
 }
 
 /// The flags of the constants, behind that of zero in version 2.
-pub fn constants_part<X>(version: u8, list: &[X]) -> &[X]
+pub(crate) fn constants_part<X>(version: u8, list: &[X]) -> &[X]
     requires { zeros_of version ≤ length list.now }
     ensures { result.now ≡ drop (zeros_of version) list.now }
 {
@@ -218,22 +218,29 @@ fn is_apart<F: Field>(before: &Option<Term<F>>, term: &Term<F>) -> bool
     }
 }
 
+/// What the last numbers of terms count among, each above the one before it.
+#[derive(Drop)]
+pub(crate) struct Coefs<'a, F: Field> {
+    pub(crate) list: &'a [F],
+    ghost few: { length list.now < 2 ^ 32 },
+    ghost rising: { IsStrictlyIncreasing (map F.coding.number list.now) },
+}
+
 /// A term, and the number of its constant.
 #[tactic(auto, unfolding(crate::specs::Reading::term_at))]
 fn term_of<'a, F: Field>(
-    constants: &[F],
+    coefs: &Coefs<'_, F>,
     wires: u32,
     below: u32,
     before: &Option<Term<F>>,
     bytes: &'a [u8],
 ) -> Result<((Term<F>, u32), &'a [u8]), ReadError>
-    requires { length constants.now < 2 ^ 32 }
     ensures value { Gives (λ x. (numbered_term F.coding.number x.0.0, x.1.now)) result (term_at
-        (map F.coding.number constants.now) wires below (option_map (numbered_term F.coding.number) before.now)
+        (map F.coding.number coefs.now.list.now) wires below (option_map (numbered_term F.coding.number) before.now)
         bytes.now) }
-    ensures bound { IfOk result (λ x. x.0.1 < length constants.now) }
+    ensures bound { IfOk result (λ x. x.0.1 < length coefs.now.list.now) }
     ensures constant { IfOk result
-        (λ x. F.coding.number x.0.0.coef ≡ slice_index_or (map F.coding.number constants.now) x.0.1 0) }
+        (λ x. F.coding.number x.0.0.coef ≡ slice_index_or (map F.coding.number coefs.now.list.now) x.0.1 0) }
 {
     let (g, at_a) = step_of(wire_before(before), wires, bytes)?;
     let (a, at_b) = step_of(0, below, at_a)?;
@@ -241,8 +248,8 @@ fn term_of<'a, F: Field>(
     if !is_behind(before, g, a, b) {
         return Err(stop(ByteKind::Order, at_b));
     }
-    let (k, rest) = step_of(0, constants.len() as u32, at_coef)?;
-    let coef = constants[k as usize];
+    let (k, rest) = step_of(0, coefs.list.len() as u32, at_coef)?;
+    let coef = coefs.list[k as usize];
     let term = Term { g, a, b, coef };
     if !is_apart(before, &term) {
         return Err(stop(ByteKind::Assertion, at_coef));
@@ -251,31 +258,29 @@ fn term_of<'a, F: Field>(
 }
 
 /// So many terms of a layer. Marks the constants that they have.
-pub fn terms_of<'a, F: Field>(
+pub(crate) fn terms_of<'a, F: Field>(
     alloc: Global,
-    constants: &[F],
+    coefs: &Coefs<'_, F>,
     wires: u32,
     below: u32,
     count: u32,
     used: &mut [bool],
     bytes: &'a [u8],
 ) -> Result<(Vec<Term<F>>, &'a [u8]), ReadError>
-    requires few { length constants.now < 2 ^ 32 }
-    requires rising { IsStrictlyIncreasing (map F.coding.number constants.now) }
-    requires flags { length used.old ≡ length constants.now }
+    requires { length used.old ≡ length coefs.now.list.now }
     ensures value { Gives (λ x. (map (numbered_term F.coding.number) x.0.items, x.1.now)) result
-        (terms_at (map F.coding.number constants.now) wires below count bytes.now) }
+        (terms_at (map F.coding.number coefs.now.list.now) wires below count bytes.now) }
     ensures count { IfOk result (λ x. length x.0.items ≡ count) }
     ensures used { IfOk result (λ x.
-        Marks (map F.coding.number constants.now) (is_in_terms (map (numbered_term F.coding.number) x.0.items)) used.old
-        used.new) }
+        Marks (map F.coding.number coefs.now.list.now) (is_in_terms (map (numbered_term F.coding.number) x.0.items))
+        used.old used.new) }
 {
     let room = (count as usize).min(bytes.len() / LEAST_TERM);
     let mut terms = Vec::with_capacity(alloc, room)?;
     let mut before = None;
     let mut rest = bytes;
     for _ in 0..count {
-        let ((term, k), after) = term_of(constants, wires, below, &before, rest)?;
+        let ((term, k), after) = term_of(coefs, wires, below, &before, rest)?;
         used[k as usize] = true;
         terms.push(term)?;
         before = Some(term);
@@ -286,7 +291,7 @@ pub fn terms_of<'a, F: Field>(
 
 /// The layers that were read: the width of the uppermost, and how many wires and terms they have.
 #[derive(Clone, Copy)]
-pub struct Below {
+pub(crate) struct Below {
     pub width: u32,
     pub wires: u32,
     pub terms: u32,
@@ -295,23 +300,21 @@ pub struct Below {
 #[tactic(auto, unfolding(crate::specs::Reading::layer_at))]
 fn layer_of<'a, F: Field>(
     alloc: Global,
-    constants: &[F],
+    coefs: &Coefs<'_, F>,
     below: Below,
     used: &mut [bool],
     bytes: &'a [u8],
 ) -> Result<(Layer<F>, &'a [u8]), ReadError>
-    requires few { length constants.now < 2 ^ 32 }
-    requires rising { IsStrictlyIncreasing (map F.coding.number constants.now) }
-    requires flags { length used.old ≡ length constants.now }
+    requires flags { length used.old ≡ length coefs.now.list.now }
     requires wires { below.wires ≤ most_total }
     requires terms { below.terms ≤ most_total }
     ensures value { Gives (λ x. (numbered_layer F.coding.number x.0, x.1.now)) result
-        (layer_at (map F.coding.number constants.now) (under below.width below.wires below.terms) bytes.now) }
+        (layer_at (map F.coding.number coefs.now.list.now) (under below.width below.wires below.terms) bytes.now) }
     ensures wires { IfOk result (λ x. below.wires + x.0.wires ≤ most_total) }
     ensures terms { IfOk result (λ x. below.terms + length x.0.terms ≤ most_total) }
     ensures used { IfOk result (λ x.
-        Marks (map F.coding.number constants.now) (is_in_terms (map (numbered_term F.coding.number) x.0.terms)) used.old
-        used.new) }
+        Marks (map F.coding.number coefs.now.list.now) (is_in_terms (map (numbered_term F.coding.number) x.0.terms))
+        used.old used.new) }
 {
     let (wires, at_count) = word_of(bytes)?;
     if wires < 1 || wires > MOST_WIRES || wires > MOST_IN_ALL - below.wires {
@@ -321,27 +324,25 @@ fn layer_of<'a, F: Field>(
     if count > MOST_IN_ALL - below.terms {
         return Err(stop(ByteKind::Limit, at_count));
     }
-    let (terms, rest) = terms_of(alloc, constants, wires, below.width, count, used, rest)?;
+    let (terms, rest) = terms_of(alloc, coefs, wires, below.width, count, used, rest)?;
     let terms = Terms::new(terms);
     Ok((Layer { wires, terms }, rest))
 }
 
 /// So many layers, from the inputs up. Marks the constants that their terms have.
-pub fn layers_of<'a, F: Field>(
+pub(crate) fn layers_of<'a, F: Field>(
     alloc: Global,
-    constants: &[F],
+    coefs: &Coefs<'_, F>,
     inputs: u32,
     count: u32,
     used: &mut [bool],
     bytes: &'a [u8],
 ) -> Result<(Vec<Layer<F>>, &'a [u8]), ReadError>
-    requires few { length constants.now < 2 ^ 32 }
-    requires rising { IsStrictlyIncreasing (map F.coding.number constants.now) }
-    requires flags { length used.old ≡ length constants.now }
+    requires { length used.old ≡ length coefs.now.list.now }
     ensures value { Gives (λ x. (map (numbered_layer F.coding.number) x.0.items, x.1.now)) result
-        (layers_at (map F.coding.number constants.now) inputs count bytes.now) }
+        (layers_at (map F.coding.number coefs.now.list.now) inputs count bytes.now) }
     ensures used { IfOk result (λ x.
-        Marks (map F.coding.number constants.now) (is_coefficient (map (numbered_layer F.coding.number) x.0.items))
+        Marks (map F.coding.number coefs.now.list.now) (is_coefficient (map (numbered_layer F.coding.number) x.0.items))
         used.old used.new) }
 {
     let mut layers = Vec::with_capacity(alloc, (count as usize).min(bytes.len() / LEAST_LAYER))?;
@@ -352,7 +353,7 @@ pub fn layers_of<'a, F: Field>(
     };
     let mut rest = bytes;
     for _ in 0..count {
-        let (layer, after) = layer_of(alloc, constants, below, used, rest)?;
+        let (layer, after) = layer_of(alloc, coefs, below, used, rest)?;
         below = Below {
             width: layer.wires,
             wires: below.wires + layer.wires,
@@ -365,7 +366,7 @@ pub fn layers_of<'a, F: Field>(
 }
 
 /// That each constant is used. The bytes begin with the constants, of so many bytes each.
-pub fn check_used(used: &[bool], width: usize, bytes: &[u8]) -> Result<(), ReadError>
+pub(crate) fn check_used(used: &[bool], width: usize, bytes: &[u8]) -> Result<(), ReadError>
     requires { length used.now * width ≤ length bytes.now }
     ensures { Gives (λ u. tt) result (all_used (unmarked_from width used.now bytes.now)) }
 {

@@ -8,7 +8,7 @@ ghost use Rattle.lzk_circuit.specs.Limits.{most_total};
 use std::alloc::{AllocError, Global};
 
 /// How many slots the table of the numbers that were met has.
-pub const SLOTS: usize = 512;
+pub(crate) const SLOTS: usize = 512;
 
 /// A product whose highest bits keep apart numbers in a row, and powers of two.
 fn product_of(n: u128) -> u64 {
@@ -17,7 +17,7 @@ fn product_of(n: u128) -> u64 {
 }
 
 /// The slot of a number among those.
-pub fn slot_of(n: u128) -> usize
+pub(crate) fn slot_of(n: u128) -> usize
     ensures { result < 512 }
 {
     (product_of(n) >> 55) as usize
@@ -29,7 +29,7 @@ fn slot_among(count: usize, n: u128) -> usize {
 }
 
 /// A table of which no slot is taken.
-pub fn free_slots() -> [u128; SLOTS]
+pub(crate) fn free_slots() -> [u128; SLOTS]
     ensures { (numbers : List ℕ) → All (WasMet numbers) result }
 {
     [0; SLOTS]
@@ -37,7 +37,7 @@ pub fn free_slots() -> [u128; SLOTS]
 
 /// The numbers of a circuit's coefficients, each above the one before it, with [`places`] of them.
 #[derive(Clone, Copy)]
-pub struct Constants<'a> {
+pub(crate) struct Constants<'a> {
     pub numbers: &'a [u128],
     pub places: &'a [u32],
     pub ghost rising: { IsStrictlyIncreasing numbers.now },
@@ -45,7 +45,7 @@ pub struct Constants<'a> {
 }
 
 /// Where the constants stand, each at the slot of its number. Of those that share a slot the last has it.
-pub fn places(alloc: Global, constants: &[u128]) -> Result<Vec<u32>, AllocError>
+pub(crate) fn places(alloc: Global, constants: &[u128]) -> Result<Vec<u32>, AllocError>
     requires { length constants.now ≤ most_total + 1 }
 {
     let mut places = vec![in alloc; 0; 2 * constants.len()]?;
@@ -62,16 +62,6 @@ impl<'a> Constants<'a> {
     ghost use Rattle.std.specs.Prelude.{◌≡◌, ◌<◌, length};
     ghost use Rattle.lzk_circbytes.specs.Spelling.{index_of};
 
-    fn searched(&self, n: u128) -> u32
-        requires found { index_of self.now.numbers.now n < length self.now.numbers.now }
-        ensures { result ≡ index_of self.now.numbers.now n }
-    {
-        match self.numbers.binary_search(&n) {
-            Ok(k) => k as u32,
-            Err(_) => unreachable!(),
-        }
-    }
-
     /// Where a number stands among the constants. What `places` says is tried first.
     pub fn place_of(&self, n: u128) -> u32
         requires found { index_of self.now.numbers.now n < length self.now.numbers.now }
@@ -84,6 +74,9 @@ impl<'a> Constants<'a> {
                 return k;
             }
         }
-        self.searched(n)
+        match self.numbers.binary_search(&n) {
+            Ok(k) => k as u32,
+            Err(_) => unreachable!(),
+        }
     }
 }

@@ -15,7 +15,7 @@ use lzk_field::Field;
 use std::alloc::AllocError;
 
 /// A count in four bytes.
-pub fn push_word(out: &mut Vec<u8>, n: u32) -> Result<(), AllocError>
+pub(crate) fn push_word(out: &mut Vec<u8>, n: u32) -> Result<(), AllocError>
     ensures { OnOk result (out.new.items ≡ out.old.items ++ to_le_bytes w32 n) }
 {
     out.extend_from_slice(&n.to_le_bytes())
@@ -77,7 +77,10 @@ fn push_bytes(out: &mut Vec<u8>, count: usize, n: u128) -> Result<(), AllocError
 }
 
 /// The constants, by their numbers.
-pub fn push_constants<F: Field>(out: &mut Vec<u8>, constants: &[u128]) -> Result<(), AllocError>
+pub(crate) fn push_constants<F: Field>(
+    out: &mut Vec<u8>,
+    constants: &[u128],
+) -> Result<(), AllocError>
     ensures { OnOk result (out.new.items
         ≡ out.old.items ++ constants_bytes (shape F.coding.id F.coding.bytes F.coding.size) constants.now) }
 {
@@ -131,7 +134,7 @@ fn push_terms<F: Field>(
 
 /// A layer's counts and terms.
 #[tactic(auto, unfolding(crate::specs::Spelling::layer_bytes))]
-pub fn push_layer<F: Field>(
+pub(crate) fn push_layer<F: Field>(
     out: &mut Vec<u8>,
     constants: &Constants<'_>,
     layer: &Layer<F>,

@@ -147,7 +147,7 @@ fn set_checks<F: Field>(layers: &[Layer<F>], lists: &[Vec<F>], out: &mut [F])
     set_all_asserted(layers, lists, others);
 }
 
-// The same for a list on the heap.
+// Sets all checks, as `set_checks` does, in a list on the heap.
 pub(crate) fn set_check_list<F: Field>(layers: &[Layer<F>], lists: &Vec<Vec<F>>, out: &mut Vec<F>)
     requires lists { (inputs : List F) × AreLayersOf F.ops 2 (length inputs) layers.now ×
         (map (λ list. list.items) lists.now.items ≡ all_values F.ops layers.now inputs) }

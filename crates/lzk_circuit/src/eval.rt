@@ -44,7 +44,7 @@ fn eval_layer<F: Field>(terms: &[Term<F>], below: &[F], out: &mut [F])
     }
 }
 
-// The same for lists on the heap.
+// Sets each wire of a layer, as `eval_layer` does, in a list on the heap.
 fn eval_list<F: Field>(layer: &Layer<F>, below: &Vec<F>, out: &mut Vec<F>)
     requires terms { ArePlaced layer.now.wires (length below.now.items) None layer.now.terms }
     requires room { length out.old.items ≡ layer.now.wires }
@@ -86,7 +86,7 @@ fn eval_layers<F: Field>(layers: &[Layer<F>], public: &[F], private: &[F], lists
     eval_list(layer, &lists[0], out);
 }
 
-// The same for a list on the heap.
+// Sets the lists of all layers, as `eval_layers` does, in a list on the heap.
 pub(crate) fn eval_lists<F: Field>(
     layers: &[Layer<F>],
     public: &[F],

@@ -5,15 +5,16 @@ use Rattle.lzk_outside.specs.Outside.{Appends}
 use Rattle.lzk_cmd_files.specs.declared.ending.Ending.{Ending}
 use Rattle.lzk_cmd_files.specs.declared.ending.Halt.{Halt}
 use Rattle.lzk_cmd_files.specs.declared.ending.Halt.TheVariants as halts
-use Rattle.lzk_cmd_runs.specs.Accepted.{HasDemo, DemoIsAccepted}
-use Rattle.lzk_cmd_runs.specs.Demo.{DemoRun, demo_end}
+use Rattle.lzk_cmd.specs.Accepted.{HasDemo, DemoIsAccepted}
+use Rattle.lzk_cmd_prove.specs.Demo.{DemoRun, demo_end}
 use Rattle.lzk_cmd_words.specs.Keys.{number_of}
 use Rattle.lzk_cmd_words.specs.Digits.{seed_of}
 use Rattle.lzk_cmd_files.specs.Seen.{Seen, WriteFailed}
-use Rattle.lzk_cmd_runs.specs.Made.{ShaCircuitIsMade}
-use Rattle.lzk_cmd_runs.specs.Sights.{Before, After}
+use Rattle.lzk_cmd.specs.Made.{ShaCircuitIsMade}
+use Rattle.lzk_cmd.specs.Sights.{Before, After}
 use Rattle.lzk_cmd_files.specs.Walks.{EndsAtPut, Concludes, Prints, Walks}
-use Rattle.lzk_cmd_runs.specs.RunSteps.{OnUnread, TellsDemo, TellsUnread}
+use Rattle.lzk_cmd.specs.RunSteps.{OnUnread, TellsUnread}
+use Rattle.lzk_cmd_prove.specs.Demo.{TellsDemo}
 use Rattle.lzk_cmd_words.specs.Words.{Command, LeavesShelf, command_of}
 use Rattle.lzk_cmd_files.proofs.Sights.{where_told, no_step}
 use Rattle.lzk_cmd_files.proofs.Steps.{here}

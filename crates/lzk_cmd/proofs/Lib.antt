@@ -1,2 +1,9 @@
+pub mod HashCounts
+pub mod Accepted
+pub mod Alone
+pub mod Exists
+pub mod Promises
+pub mod Ready
+pub mod Total
 pub mod DemoRuns
 pub mod Works

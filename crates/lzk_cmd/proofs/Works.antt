@@ -5,10 +5,10 @@ use Rattle.lzk_cmd_files.specs.declared.ending.Ending.{Ending}
 use Rattle.lzk_cmd_files.specs.declared.ending.Halt.{Halt}
 use Rattle.lzk_cmd_files.specs.declared.ending.Halt.TheVariants as halts
 use Rattle.lzk_cmd_files.specs.Ends.{Nowhere, refused_words}
-use Rattle.lzk_cmd_runs.specs.Run.{CommandRun, RunOf}
+use Rattle.lzk_cmd.specs.Run.{CommandRun, RunOf}
 use Rattle.lzk_cmd_files.specs.Seen.{Seen}
 use Rattle.lzk_cmd_files.specs.Walks.{IsEnding, Settled, Settles}
-use Rattle.lzk_cmd_runs.specs.RunSteps.{Works}
+use Rattle.lzk_cmd.specs.RunSteps.{Works}
 use Rattle.lzk_cmd_words.specs.Words.{Command, PutsFile, command_of}
 use Rattle.lzk_cmd_files.proofs.Sights.{where_told, at_told}
 

@@ -6,8 +6,20 @@
 //! ```text
 //! let status = run(&rt, alloc, &words, &mut shelf, &mut out, &Open);
 //! ```
+//!
+//! [`run_program`] does it over real files and standard output. A program's `main` hands its runtime over:
+//!
+//! ```text
+//! fn main(rt: HostRuntime) -> ExitCode {
+//!     run_program(&rt, &rt)
+//! }
+//! ```
 #![tactic(auto)]
 
+mod laws;
+mod program;
 mod top;
 
+pub use laws::run_laws;
+pub use program::{run_program, run_words};
 pub use top::run;

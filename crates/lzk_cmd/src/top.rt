@@ -1,22 +1,22 @@
 //! The top call.
 
 ghost use Rattle.std.specs.Prelude.{◌≡◌, IfOk};
-ghost use Rattle.lzk_cmd_runs.specs.Accepted.{DemoIsAccepted};
+ghost use Rattle.lzk_cmd.specs.Accepted.{DemoIsAccepted};
 ghost use Rattle.lzk_cmd_files.specs.Ends.{refused_words};
-ghost use Rattle.lzk_cmd_runs.specs.Made.{ShaCircuitIsMade};
-ghost use Rattle.lzk_cmd_runs.specs.Laws.{RunLaws};
-ghost use Rattle.lzk_cmd_runs.specs.Promise.{Promise};
+ghost use Rattle.lzk_cmd.specs.Made.{ShaCircuitIsMade};
+ghost use Rattle.lzk_cmd.specs.Laws.{RunLaws};
+ghost use Rattle.lzk_cmd.specs.Promise.{Promise};
 ghost use Rattle.lzk_cmd_files.specs.Seen.{seen, seen_sink};
-ghost use Rattle.lzk_cmd_runs.specs.Sights.{before, after, texts};
-ghost use Rattle.lzk_cmd_files.specs.Walks.{Concludes, IsEnding, Moves, Quiet};
-ghost use Rattle.lzk_cmd_runs.specs.RunSteps.{TellsUnread, Works};
+ghost use Rattle.lzk_cmd.specs.Sights.{before, after, texts};
+ghost use Rattle.lzk_cmd_files.specs.Walks.{IsEnding, Moves};
+ghost use Rattle.lzk_cmd.specs.RunSteps.{TellsUnread, Works};
 ghost use Rattle.lzk_cmd_words.specs.Words.{LeavesShelf, command_of};
 
+use crate::laws::run_laws;
 use lzk_cmd_batch::batch;
 use lzk_cmd_circuits::{compile_source, eval, shacircuit, show, upgrade};
-use lzk_cmd_files::{Ending, Halt, Means, lines, print_ending};
+use lzk_cmd_files::{Ending, Halt, Means, conclude, lines};
 use lzk_cmd_prove::{demo, prove, sha256};
-use lzk_cmd_runs::run_laws;
 use lzk_cmd_verify::verify;
 use lzk_cmd_words::{Command, parse_words};
 use lzk_field::Gate;
@@ -81,18 +81,6 @@ fn work<R: Threads + Sync, S: Shelf, G: Gate>(
         ) => demo(means, count, seed, workers),
         Some(Command::ShaCircuit { count, circuit }) => shacircuit(means, count, circuit, shelf),
         Some(Command::Sha256(order)) => sha256(means, &order, shelf),
-    }
-}
-
-// Prints how a run ends, and answers its status: 5 after a failed write, 6 for want of memory.
-fn conclude<K: Sink>(out: &mut K, done: &Result<Ending, Halt>) -> u8
-    ensures concludes { Concludes (seen_sink K.Sink out.old) (seen_sink K.Sink out.new) done.now result }
-    ensures quiet { Quiet (seen_sink K.Sink out.old) (seen_sink K.Sink out.new) }
-{
-    match done {
-        Ok(ending) => print_ending(out, ending),
-        Err(Halt::End(ending)) => print_ending(out, ending),
-        Err(Halt::Memory) => 6,
     }
 }
 

@@ -18,13 +18,13 @@ use Rattle.lzk_cmd_files.specs.declared.ending.Ending.{Ending}
 use Rattle.lzk_cmd_files.specs.declared.ending.Halt.{Halt}
 use Rattle.lzk_cmd_files.specs.declared.ending.Halt.TheVariants as halts
 use Rattle.lzk_cmd_batch.specs.declared.gathering.Gathered.{Gathered}
-use Rattle.lzk_cmd_runs.specs.Batched.{JobsRun, BatchRun, list_files, rejected_of, batch_end}
+use Rattle.lzk_cmd_batch.specs.Batched.{JobsRun, BatchRun, list_files, rejected_of, batch_end}
 use Rattle.lzk_cmd_files.specs.Ends.{End, Stop, Nowhere}
 use Rattle.lzk_cmd_batch.specs.Gathered.{IsShort, HasReadAll, GivesJobs, TellsJobs}
 use Rattle.lzk_cmd_files.specs.Seen.{Seen}
 use Rattle.lzk_cmd_files.specs.Walks.{OnlyReads, Decodes, Gives, Settled, Walks}
 use Rattle.lzk_cmd_files.proofs.Causes.{IsQuiet}
-use Rattle.lzk_cmd_runs.proofs.Lists as lists
+use Rattle.lzk_cmd_batch.proofs.Lists as lists
 use Rattle.lzk_cmd_files.proofs.Sights.{where_told, at_told}
 use Rattle.lzk_cmd_files.proofs.Steps.{handed_on, here, ends, then}
 use Rattle.lzk_cmd_batch.proofs.Tells.{none_left}

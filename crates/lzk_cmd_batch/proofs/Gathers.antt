@@ -25,7 +25,7 @@ use Rattle.lzk_cmd_files.specs.declared.ending.Halt.{Halt}
 use Rattle.lzk_cmd_files.specs.declared.ending.Halt.TheVariants as halts
 use Rattle.lzk_cmd_batch.specs.declared.gathering.Gathered.{Gathered}
 use Rattle.lzk_cmd_batch.specs.declared.kept.Circuits.{Circuits}
-use Rattle.lzk_cmd_runs.specs.Batched.{JobRead, AnyRead, GoldRead, GfRead, among, total_limit, JobOver, JobAny, JobsRun}
+use Rattle.lzk_cmd_batch.specs.Batched.{JobRead, AnyRead, GoldRead, GfRead, among, total_limit, JobOver, JobAny, JobsRun}
 use Rattle.lzk_cmd_files.specs.Decoded.{circuit_files, number_files, proof_files}
 use Rattle.lzk_cmd_files.specs.Ends.{End, Stop, stops_at}
 use Rattle.lzk_cmd_files.specs.Formats.{Format, Has, At}
@@ -37,7 +37,7 @@ use Rattle.lzk_cmd_files.proofs.Causes.{cause_later}
 use Rattle.lzk_cmd_batch.proofs.Keeping.{each_more, each_by, front_stays}
 use Rattle.lzk_cmd_files.proofs.Laws as laws
 use Rattle.lzk_cmd_files.proofs.Laws.{numbers_quiet}
-use Rattle.lzk_cmd_runs.proofs.Lists.{among_quiet}
+use Rattle.lzk_cmd_batch.proofs.Lists.{among_quiet}
 use Rattle.lzk_cmd_files.proofs.Sights.{where_told, at_told, may_later, no_step, reads_then}
 use Rattle.lzk_cmd_files.proofs.Steps.{ends, then, handed_on}
 

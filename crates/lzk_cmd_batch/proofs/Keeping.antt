@@ -17,7 +17,7 @@ use Rattle.lzk_cmd_files.specs.declared.ending.Halt.{Halt}
 use Rattle.lzk_cmd_files.specs.declared.ending.Halt.TheVariants as halts
 use Rattle.lzk_cmd_batch.specs.declared.kept.CircuitFile.{CircuitFile}
 use Rattle.lzk_cmd_batch.specs.declared.kept.Circuits.{Circuits}
-use Rattle.lzk_cmd_runs.specs.Batched.{TooMany, Own, among, total_limit}
+use Rattle.lzk_cmd_batch.specs.Batched.{TooMany, Own, among, total_limit}
 use Rattle.lzk_cmd_files.specs.Decoded.{circuit_files, circuit_limit}
 use Rattle.lzk_cmd_files.specs.Formats.{Format, HasFile}
 use Rattle.lzk_cmd_batch.specs.Gathered.{Counts, IsKept, AreKept, IsPlaceOf, KeepsOn, HasCircuit, GivesLast, GivesPlace}

@@ -1,4 +1,5 @@
 pub mod Batches
 pub mod Gathers
 pub mod Keeping
+pub mod Lists
 pub mod Tells

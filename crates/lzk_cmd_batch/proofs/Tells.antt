@@ -17,7 +17,7 @@ use Rattle.lzk_circbytes.specs.declared.any.AnyCircuit.{AnyCircuit}
 use Rattle.lzk_circbytes.specs.declared.any.AnyCircuit.TheVariants.{Gold, Gf}
 use Rattle.lzk_goldilocks.specs.Elements as gold
 use Rattle.lzk_gf128.specs.Elements as gf
-use Rattle.lzk_cmd_runs.specs.Batched.{AnyRead, IsTold, AreTold, job_line, job_lines, batch_line, accepted_of, rejected_of, batch_end}
+use Rattle.lzk_cmd_batch.specs.Batched.{AnyRead, IsTold, AreTold, job_line, job_lines, batch_line, accepted_of, rejected_of, batch_end}
 use Rattle.lzk_cmd_files.specs.declared.ending.Ending.{Ending}
 use Rattle.lzk_cmd_batch.specs.declared.gathering.Gathered.{Gathered}
 use Rattle.lzk_cmd_files.specs.Ends.{End}

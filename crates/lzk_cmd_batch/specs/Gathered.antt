@@ -22,7 +22,7 @@ use Rattle.lzk_cmd_files.specs.declared.ending.Halt.TheVariants as halts
 use Rattle.lzk_cmd_batch.specs.declared.gathering.Gathered.{Gathered}
 use Rattle.lzk_cmd_batch.specs.declared.kept.CircuitFile.{CircuitFile}
 use Rattle.lzk_cmd_batch.specs.declared.kept.Circuits.{Circuits}
-use Rattle.lzk_cmd_runs.specs.Batched.{JobRead, AnyRead, GoldRead, GfRead, AreTold, among, total_limit, batch_end, JobOver, JobAny, JobsRun}
+use Rattle.lzk_cmd_batch.specs.Batched.{JobRead, AnyRead, GoldRead, GfRead, AreTold, among, total_limit, batch_end, JobOver, JobAny, JobsRun}
 use Rattle.lzk_cmd_files.specs.Decoded.{circuit_limit, circuit_files, number_files, proof_files}
 use Rattle.lzk_cmd_files.specs.Ends.{End as Ended, Stop, says, stops_at}
 use Rattle.lzk_cmd_files.specs.Formats.{HasFile, Has}

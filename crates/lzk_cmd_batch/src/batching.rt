@@ -3,7 +3,7 @@
 ghost use Rattle.std.specs.Prelude.{◌≡◌, ◌≤◌, All, length, map, IfOk};
 ghost use Rattle.lzk_circbytes.specs.Files.{id_of_any};
 ghost use Rattle.lzk_batch.specs.Lists.{entry_view};
-ghost use Rattle.lzk_cmd_runs.specs.Batched.{BatchRun, list_files};
+ghost use Rattle.lzk_cmd_batch.specs.Batched.{BatchRun, list_files};
 ghost use Rattle.lzk_cmd_batch.specs.Gathered.{AreHeld, IsShort, TellsJobs};
 ghost use Rattle.lzk_cmd_files.specs.Seen.{seen};
 ghost use Rattle.lzk_cmd_files.specs.Walks.{Decodes, Gives, OnlyReads, Walks};

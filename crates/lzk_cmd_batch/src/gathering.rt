@@ -3,7 +3,7 @@
 ghost use Rattle.std.specs.Prelude.{◌≡◌, ◌≤◌, ◌<◌, All, length, map, IfOk};
 ghost use Rattle.lzk_circbytes.specs.Files.{id_of_any};
 ghost use Rattle.lzk_batch.specs.Lists.{entry_view};
-ghost use Rattle.lzk_cmd_runs.specs.Batched.{total_limit};
+ghost use Rattle.lzk_cmd_batch.specs.Batched.{total_limit};
 ghost use Rattle.lzk_cmd_batch.specs.Gathered.{AreKept, GivesAny, GivesJob, GivesJobs, GivesOver, IsShort, KeepsOn};
 ghost use Rattle.lzk_cmd_files.specs.Seen.{seen};
 ghost use Rattle.lzk_cmd_files.specs.Walks.{OnlyReads};
@@ -20,7 +20,7 @@ use std::alloc::Global;
 
 /// Jobs, and the circuits that they share, with the circuits' ids.
 #[derive(Drop)]
-pub struct Gathered {
+pub(crate) struct Gathered {
     pub circuits: Vec<AnyCircuit>,
     pub ids: Vec<[u8; 32]>,
     pub jobs: Vec<Job>,
@@ -108,7 +108,7 @@ fn read_job<'a, S: Shelf>(
 }
 
 /// Reads the files of all jobs.
-pub fn read_jobs<S: Shelf>(
+pub(crate) fn read_jobs<S: Shelf>(
     alloc: Global,
     shelf: &mut S,
     entries: &[Entry],

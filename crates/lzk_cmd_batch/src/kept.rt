@@ -1,7 +1,7 @@
 //! The circuits of a batch, by the names of their files.
 
 ghost use Rattle.std.specs.Prelude.{◌≡◌, ◌≢◌, ◌≤◌, ◌<◌, ℕ, [], All, IfNone, IfOk, IfSome, map};
-ghost use Rattle.lzk_cmd_runs.specs.Batched.{total_limit};
+ghost use Rattle.lzk_cmd_batch.specs.Batched.{total_limit};
 ghost use Rattle.lzk_cmd_batch.specs.Gathered.{AreKept, GivesLast, GivesPlace, IsPlaceOf, KeepsOn};
 ghost use Rattle.lzk_cmd_files.specs.Seen.{seen};
 ghost use Rattle.lzk_cmd_files.specs.Walks.{OnlyReads};
@@ -14,7 +14,7 @@ use std::alloc::{AllocError, Global};
 
 /// A circuit's file that was read: its name, how many bytes it has, and SHA-256 of them, which is the circuit's id.
 #[derive(Clone, Copy)]
-pub struct CircuitFile<'a> {
+pub(crate) struct CircuitFile<'a> {
     pub name: &'a str,
     pub bytes: usize,
     pub id: [u8; 32],
@@ -22,7 +22,7 @@ pub struct CircuitFile<'a> {
 
 /// The circuits that were read, and the file of each, in the same order.
 #[derive(Drop)]
-pub struct Circuits<'a> {
+pub(crate) struct Circuits<'a> {
     pub files: Vec<CircuitFile<'a>>,
     pub all: Vec<AnyCircuit>,
 }
@@ -82,7 +82,7 @@ fn keep_circuit<'a, S: Shelf>(
 
 /// The place of the circuit of this file, which is read where it was not before, and how many bytes all files have with
 /// it.
-pub fn circuit_at<'a, S: Shelf>(
+pub(crate) fn circuit_at<'a, S: Shelf>(
     alloc: Global,
     shelf: &mut S,
     name: &'a str,
@@ -114,7 +114,7 @@ pub fn circuit_at<'a, S: Shelf>(
 }
 
 /// The ids of the circuits, in the order of their files.
-pub fn ids_of(alloc: Global, files: &[CircuitFile<'_>]) -> Result<Vec<[u8; 32]>, AllocError>
+pub(crate) fn ids_of(alloc: Global, files: &[CircuitFile<'_>]) -> Result<Vec<[u8; 32]>, AllocError>
     ensures { IfOk result (λ ids. ids.items ≡ map (λ file. file.id) files.now) }
 {
     let mut ids = Vec::with_capacity(alloc, files.len())?;

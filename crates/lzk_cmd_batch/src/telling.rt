@@ -1,7 +1,7 @@
 //! The lines of a batch.
 
 ghost use Rattle.std.specs.Prelude.{◌≡◌, ◌==◌, ◌++◌, ◌≤◌, IfOk, OnOk, cond, length, map, string_bytes};
-ghost use Rattle.lzk_cmd_runs.specs.Batched.{job_line, batch_line, batch_end, list_kind_name};
+ghost use Rattle.lzk_cmd_batch.specs.Batched.{job_line, batch_line, batch_end, list_kind_name};
 ghost use Rattle.lzk_cmd_batch.specs.Gathered.{any_end};
 ghost use Rattle.lzk_cmd_files.specs.Lines.{text_line};
 ghost use Rattle.lzk_cmd_files.specs.Walks.{IsEnding};
@@ -21,7 +21,7 @@ fn list_kind_name(kind: ListKind) -> &'static str
 }
 
 /// The line that refuses a list.
-pub fn refuse_list(alloc: Global, name: &str, fault: ListFault) -> Result<String, AllocError>
+pub(crate) fn refuse_list(alloc: Global, name: &str, fault: ListFault) -> Result<String, AllocError>
     ensures { IfOk result (λ s. string_bytes s ≡ text_line name.now fault.line (list_kind_name fault.kind)) }
 {
     let line = fault.line;
@@ -68,7 +68,7 @@ fn status_of(rejected: usize) -> u8
 }
 
 /// How a batch ends with these verdicts.
-pub fn tell_verdicts(alloc: Global, verdicts: &[AnyVerdict]) -> Result<Ending, AllocError>
+pub(crate) fn tell_verdicts(alloc: Global, verdicts: &[AnyVerdict]) -> Result<Ending, AllocError>
     requires { length verdicts.now ≤ 256 }
     ensures { IfOk result (IsEnding (batch_end (map any_end verdicts.now))) }
 {

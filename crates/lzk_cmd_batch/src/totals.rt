@@ -1,7 +1,7 @@
 //! Files that may have so many bytes together.
 
 ghost use Rattle.std.specs.Prelude.{◌≡◌, ◌≤◌, ◌<◌, ◌^◌, length, IfOk};
-ghost use Rattle.lzk_cmd_runs.specs.Batched.{among, total_limit};
+ghost use Rattle.lzk_cmd_batch.specs.Batched.{among, total_limit};
 ghost use Rattle.lzk_cmd_files.specs.Decoded.{number_files, proof_files};
 ghost use Rattle.lzk_cmd_batch.specs.Gathered.{Counts};
 ghost use Rattle.lzk_cmd_files.specs.Seen.{seen};
@@ -13,10 +13,10 @@ use lzk_outside::Shelf;
 use std::alloc::Global;
 
 /// How many bytes the files of all jobs of a batch may have together.
-pub const MOST_TOTAL: usize = 134_217_728;
+pub(crate) const MOST_TOTAL: usize = 134_217_728;
 
 /// How many bytes the files have with one more, or the end of the run.
-pub fn count_in(alloc: Global, name: &str, taken: usize, bytes: usize) -> Result<usize, Halt>
+pub(crate) fn count_in(alloc: Global, name: &str, taken: usize, bytes: usize) -> Result<usize, Halt>
     requires taken { taken ≤ total_limit }
     requires bytes { bytes < 2 ^ 32 }
     ensures { Counts taken name.now bytes result }
@@ -30,7 +30,7 @@ pub fn count_in(alloc: Global, name: &str, taken: usize, bytes: usize) -> Result
 }
 
 /// The elements in a file of exactly `count` numbers, and how many bytes all files have with it.
-pub fn read_publics<S: Shelf, F: Field>(
+pub(crate) fn read_publics<S: Shelf, F: Field>(
     alloc: Global,
     shelf: &mut S,
     name: &str,
@@ -50,7 +50,7 @@ pub fn read_publics<S: Shelf, F: Field>(
 }
 
 /// The bytes of a proof's file, and how many bytes all files have with it.
-pub fn read_proof<S: Shelf>(
+pub(crate) fn read_proof<S: Shelf>(
     alloc: Global,
     shelf: &mut S,
     name: &str,

@@ -61,7 +61,7 @@ fn count_terms<F: Field>(circuit: &Circuit<F>) -> usize
 }
 
 /// The file of a circuit over a field, and the line that tells of it under this name.
-pub fn file_over<F: Field>(
+pub(crate) fn file_over<F: Field>(
     alloc: Global,
     circuit: &Circuit<F>,
     name: &str,

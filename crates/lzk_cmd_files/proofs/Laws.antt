@@ -8,7 +8,7 @@ use Rattle.lzk_circbytes.proofs.Whole.{one_circuit, no_fault}
 use Rattle.lzk_circuit.specs.Valid.{Wiring}
 use Rattle.lzk_expr.specs.declared.fault.NumberFault.{NumberFault}
 use Rattle.lzk_expr.specs.Numbers.{NumberText, IsNumberFault}
-use Rattle.lzk_expr.proofs.Laws.{text_again}
+use Rattle.lzk_expr.proofs.NumberLaws.{text_again}
 use Rattle.lzk_expr.specs.declared.source_fault.SourceFault.{SourceFault}
 use Rattle.lzk_expr.specs.Sources.{SourceText, IsSourceFault}
 use Rattle.lzk_expr.specs.Trees.{SourceTree}

@@ -23,4 +23,4 @@ pub use files::{MOST_CIRCUIT, MOST_PROOF, MOST_TEXT, halt_of, put_file, read_fil
 pub use load::LoadFault;
 pub use means::Means;
 pub use numbers::{elements_of, read_elements};
-pub use print::print_ending;
+pub use print::conclude;

@@ -1,11 +1,11 @@
-//! Printing a whole text.
+//! Printing how a run ends.
 
 ghost use Rattle.std.specs.Prelude.{◌≡◌, ◌<◌, ℕ, take, string_bytes, OnOk, OnErr};
 ghost use Rattle.lzk_outside.specs.Outside.{Appends};
 ghost use Rattle.lzk_cmd_files.specs.Seen.{seen_sink, WriteFailed};
-ghost use Rattle.lzk_cmd_files.specs.Walks.{Quiet, Prints};
+ghost use Rattle.lzk_cmd_files.specs.Walks.{Concludes, Prints, Quiet};
 
-use crate::ending::Ending;
+use crate::ending::{Ending, Halt};
 use lzk_outside::{Sink, SinkFault};
 
 // Writes a text to its end, or a front of it.
@@ -22,8 +22,8 @@ fn print<K: Sink>(out: &mut K, text: &[u8]) -> Result<(), SinkFault>
     Ok(())
 }
 
-/// Prints how a run ends, and answers its status: 5 after a failed write, 6 for want of memory.
-pub fn print_ending<K: Sink>(out: &mut K, ending: &Ending) -> u8
+// Prints an ending, and answers its status: 5 after a failed write, 6 for want of memory.
+fn print_ending<K: Sink>(out: &mut K, ending: &Ending) -> u8
     ensures prints { Prints (seen_sink K.Sink out.old) (seen_sink K.Sink out.new) ending.now.status
         (string_bytes ending.now.text) result }
     ensures quiet { Quiet (seen_sink K.Sink out.old) (seen_sink K.Sink out.new) }
@@ -32,5 +32,18 @@ pub fn print_ending<K: Sink>(out: &mut K, ending: &Ending) -> u8
         Ok(()) => ending.status,
         Err(SinkFault::Failed) => 5,
         Err(SinkFault::OutOfMemory) => 6,
+    }
+}
+
+/// Prints how a run ends, and answers its status: 5 after a failed write, 6 for want of memory. Nothing is printed
+/// where the run itself wants memory.
+pub fn conclude<K: Sink>(out: &mut K, done: &Result<Ending, Halt>) -> u8
+    ensures concludes { Concludes (seen_sink K.Sink out.old) (seen_sink K.Sink out.new) done.now result }
+    ensures quiet { Quiet (seen_sink K.Sink out.old) (seen_sink K.Sink out.new) }
+{
+    match done {
+        Ok(ending) => print_ending(out, ending),
+        Err(Halt::End(ending)) => print_ending(out, ending),
+        Err(Halt::Memory) => 6,
     }
 }

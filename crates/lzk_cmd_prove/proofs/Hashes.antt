@@ -14,9 +14,9 @@ use Rattle.lzk_cmd_files.specs.declared.ending.Ending.{Ending}
 use Rattle.lzk_cmd_files.specs.declared.ending.Halt.{Halt}
 use Rattle.lzk_cmd_files.specs.declared.ending.Halt.TheVariants as halts
 use Rattle.lzk_cmd_files.specs.Ends.{End, Stop, says}
-use Rattle.lzk_cmd_runs.specs.Hashed.{ProvesHash, HashAny, digest_inputs, is_for}
+use Rattle.lzk_cmd_prove.specs.Hashed.{ProvesHash, HashAny, digest_inputs, is_for}
 use Rattle.lzk_cmd_files.specs.Lines.{unfit_line}
-use Rattle.lzk_cmd_runs.specs.Proved.{Proves, gold_word}
+use Rattle.lzk_cmd_prove.specs.Proved.{Proves, gold_word}
 use Rattle.lzk_cmd_files.specs.Seen.{Seen}
 use Rattle.lzk_cmd_verify.specs.Verified.{gold_coding}
 use Rattle.lzk_cmd_files.specs.Walks.{IsEnding, Settled, Settles, WalksToPut}

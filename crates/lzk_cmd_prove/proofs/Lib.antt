@@ -1,3 +1,4 @@
+pub mod DemoCounts
 pub mod Hashes
 pub mod Proves
 pub mod Told

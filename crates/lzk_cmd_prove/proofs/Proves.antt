@@ -6,7 +6,7 @@ use Rattle.lzk_circuit.specs.Valid.{Wiring}
 use Rattle.lzk_circuit.specs.Wires.{inputs_of, IsFirstNonzero}
 use Rattle.lzk_field.specs.Coding.{Coding}
 use Rattle.lzk_field.specs.Ring.{Ops}
-use Rattle.lzk_complete.specs.Proving.{IsProofFile, words_of}
+use Rattle.lzk_ligero_proof.specs.Proving.{IsProofFile, words_of}
 use Rattle.lzk_outside.specs.Outside.{Files}
 use Rattle.lzk_cmd_files.specs.declared.ending.Ending.{Ending}
 use Rattle.lzk_cmd_files.specs.declared.ending.Halt.{Halt}
@@ -14,7 +14,7 @@ use Rattle.lzk_cmd_files.specs.declared.ending.Halt.TheVariants as halts
 use Rattle.lzk_cmd_files.specs.Decoded.{proof_limit}
 use Rattle.lzk_cmd_files.specs.Ends.{End, Stop, puts}
 use Rattle.lzk_cmd_files.specs.Lines.{told_line}
-use Rattle.lzk_cmd_runs.specs.Proved.{Proves, nonzero_end}
+use Rattle.lzk_cmd_prove.specs.Proved.{Proves, nonzero_end}
 use Rattle.lzk_cmd_files.specs.Seen.{Seen}
 use Rattle.lzk_cmd_files.specs.Walks.{IsEnding, Puts, WalksToPut}
 use Rattle.lzk_cmd_files.proofs.Causes.{IsQuiet}

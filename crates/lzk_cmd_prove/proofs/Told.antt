@@ -4,24 +4,24 @@ use Rattle.lzk_circbytes.specs.declared.any.AnyCircuit.TheVariants.{Gold}
 use Rattle.lzk_circuit.specs.Checks.{IsSatisfied}
 use Rattle.lzk_circuit.specs.Valid.{Wiring, IsValid}
 use Rattle.lzk_circuit.specs.Wires.{inputs_of}
-use Rattle.lzk_complete.specs.Complete.{Complete}
+use Rattle.lzk_ligero_proof.specs.Complete.{Complete}
 use Rattle.lzk_demo.specs.Demo.{demo_tree, demo_public, demo_private}
 use Rattle.lzk_goldilocks.specs.Elements as gold
 use Rattle.lzk_goldilocks.specs.declared.element.Gold.{Gold as GoldElement}
-use Rattle.lzk_complete.specs.Proving.{HaveCounts, IsProofFile, words_of}
+use Rattle.lzk_ligero_proof.specs.Proving.{HaveCounts, IsProofFile, words_of}
 use Rattle.lzk_verify.specs.declared.verdict.Verdict.{Verdict}
 use Rattle.lzk_verify.specs.declared.verdict.Verdict.TheVariants.{Accepted}
 use Rattle.lzk_verify.specs.Verdict.{IsVerdict}
 use Rattle.lzk_cmd_files.specs.declared.ending.Ending.{Ending}
 use Rattle.lzk_cmd_files.specs.declared.ending.Halt.{Halt}
 use Rattle.lzk_level.specs.SomeCircuit.{IsCircuitOf}
-use Rattle.lzk_cmd_runs.specs.Demo.{IsDemo, HasVerdict}
-use Rattle.lzk_cmd_runs.specs.Proved.{gold_word}
+use Rattle.lzk_cmd_prove.specs.Demo.{IsDemo, HasVerdict}
+use Rattle.lzk_cmd_prove.specs.Proved.{gold_word}
 use Rattle.lzk_cmd_files.specs.Ends.{says}
 use Rattle.lzk_cmd_files.specs.Lines.{demo_line}
 use Rattle.lzk_cmd_verify.specs.Verified.{gold_coding}
 use Rattle.lzk_cmd_files.specs.Walks.{IsEnding}
-use Rattle.lzk_cmd_runs.specs.RunSteps.{TellsDemo}
+use Rattle.lzk_cmd_prove.specs.Demo.{TellsDemo}
 
 -- the verdict on the proof of inputs that satisfy a circuit
 pub demo_verdict : Complete gold.ops gold_coding → (c : Wiring GoldElement) → IsValid gold.ops c → (publics privates : List GoldElement) → HaveCounts c publics privates → IsSatisfied gold.ops gold.number c.layers (inputs_of gold.ops publics privates)

@@ -42,7 +42,7 @@ fn held_beside<R: Threads + Sync>(
 }
 
 /// The circuit in a file, and its id, which is hashed beside where there are workers and the file is worth one.
-pub fn read_shared<R: Threads + Sync, S: Shelf, G>(
+pub(crate) fn read_shared<R: Threads + Sync, S: Shelf, G>(
     means: &Means<'_, R, G>,
     workers: usize,
     shelf: &mut S,

@@ -6,7 +6,7 @@ ghost use Rattle.sha2.specs.Sha256.{sha256};
 ghost use Rattle.lzk_circbytes.specs.Files.{id_of, id_of_any};
 ghost use Rattle.lzk_sha_circuit.specs.Places.{private_count};
 ghost use Rattle.lzk_cmd_files.specs.Ends.{says};
-ghost use Rattle.lzk_cmd_runs.specs.Hashed.{HashAny, HashRun, ProvesHash, is_for};
+ghost use Rattle.lzk_cmd_prove.specs.Hashed.{HashAny, HashRun, ProvesHash, is_for};
 ghost use Rattle.lzk_cmd_words.specs.Digits.{message_of, session_of};
 ghost use Rattle.lzk_cmd_files.specs.Lines.{unfit_line};
 ghost use Rattle.lzk_cmd_files.specs.Seen.{seen};
@@ -14,15 +14,15 @@ ghost use Rattle.lzk_cmd_verify.specs.Verified.{gold_coding};
 ghost use Rattle.lzk_cmd_files.specs.Walks.{IsEnding, Moves, WalksToPut};
 
 use crate::circuits::read_shared;
-use crate::proving::{Task, gold_words, prove_inputs};
+use crate::proving::{Given, Task, gold_words, prove_inputs};
 use lzk_circbytes::AnyCircuit;
 use lzk_circuit::Circuit;
 use lzk_cmd_files::{Ending, Halt, Means, lines};
 use lzk_cmd_words::{HashWords, message_bytes, seed_bytes, session_bytes, workers_of};
 use lzk_field::{Gate, Seeded};
 use lzk_goldilocks::{Drawn, Gold};
-use lzk_ntt::NttExtender;
 use lzk_outside::Shelf;
+use lzk_poly_ntt::NttExtender;
 use lzk_sha_circuit::sha_inputs;
 use sha2::{Digest, Sha256};
 use std::alloc::{AllocError, Global};
@@ -64,11 +64,14 @@ fn prove_hash<R: Threads + Sync, S: Shelf, G: Gate>(
     ensures moves { Moves (seen S.Shelf shelf.old) (seen S.Shelf shelf.new) }
 {
     let inputs = sha_inputs(means.alloc, message)?;
+    let given = Given {
+        circuit,
+        publics: inputs.public.as_slice(),
+        privates: inputs.private.as_slice(),
+    };
     prove_inputs::<Gold, NttExtender<Gold>, Drawn<Seeded>, R, S, G>(
         means,
-        circuit,
-        &inputs.public,
-        &inputs.private,
+        &given,
         &gold_words(task.seed),
         task,
         shelf,

@@ -3,9 +3,9 @@
 ghost use Rattle.std.specs.Prelude.{◌≡◌, ◌≤◌, ℕ, List, None, length, IfOk};
 ghost use Rattle.std.specs.Option.{option_copied};
 ghost use Rattle.lzk_circbytes.specs.Files.{id_of, id_of_any};
-ghost use Rattle.lzk_complete.specs.Proving.{IsProofFile};
+ghost use Rattle.lzk_ligero_proof.specs.Proving.{IsProofFile};
 ghost use Rattle.lzk_cmd_files.specs.Decoded.{proof_limit};
-ghost use Rattle.lzk_cmd_runs.specs.Proved.{Proves, ProveOver, ProveAny, ProveRun, nonzero_end};
+ghost use Rattle.lzk_cmd_prove.specs.Proved.{Proves, ProveOver, ProveAny, ProveRun, nonzero_end};
 ghost use Rattle.lzk_cmd_files.specs.Seen.{seen};
 ghost use Rattle.lzk_cmd_words.specs.Digits.{session_of};
 ghost use Rattle.lzk_cmd_files.specs.Walks.{IsEnding, Moves, WalksToPut};
@@ -16,14 +16,14 @@ use lzk_circbytes::AnyCircuit;
 use lzk_circuit::Circuit;
 use lzk_cmd_files::{Ending, Halt, Means, lines, put_file, read_elements};
 use lzk_cmd_words::{ProveWords, seed_bytes, session_bytes, workers_of};
-use lzk_complete::proof_laws;
 use lzk_field::{Field, Gate, Seeded, Words};
 use lzk_gf128::Gf128;
 use lzk_goldilocks::{Drawn, Gold};
 use lzk_ligero::{Unsatisfied, WorksOver};
-use lzk_ntt::NttExtender;
+use lzk_ligero_proof::proof_laws;
 use lzk_outside::Shelf;
 use lzk_poly::RowExtend;
+use lzk_poly_ntt::NttExtender;
 use std::alloc::{AllocError, Global};
 use std::marker::Sync;
 use std::thread::Threads;
@@ -31,7 +31,7 @@ use std::thread::Threads;
 /// What a proof is made with beside its circuit and inputs: the circuit's id, the name of the proof's file, the digest
 /// that is told with it, its session, seed and workers.
 #[derive(Clone, Copy)]
-pub struct Task<'a> {
+pub(crate) struct Task<'a> {
     pub id: [u8; 32],
     pub proof: &'a str,
     pub digest: Option<&'a [u8]>,
@@ -69,31 +69,38 @@ fn proofs_fit<F: Field>(circuit: &Circuit<F>)
     circuit.valid_laws();
 }
 
+/// A circuit with inputs of it.
+#[derive(Drop)]
+pub(crate) struct Given<'a, F: Field> {
+    pub(crate) circuit: &'a Circuit<F>,
+    pub(crate) publics: &'a [F],
+    pub(crate) privates: &'a [F],
+    ghost publics_fit: { length publics.now ≡ circuit.now.publics },
+    ghost privates_fit: { length privates.now ≡ circuit.now.privates },
+}
+
 // Proves with a prover for the circuit, and puts the proof once it is whole.
 fn put_proof<F: Field, X: RowExtend<F>, W: Words, R: Threads + Sync, S: Shelf, G: Gate>(
     means: &Means<'_, R, G>,
-    circuit: &Circuit<F>,
+    given: &Given<'_, F>,
     works: &mut WorksOver<'_, F, X>,
-    publics: &[F],
-    privates: &[F],
     words: &W,
     task: &Task<'_>,
     shelf: &mut S,
 ) -> Result<Ending, Halt>
-    requires works { works.old ≡ circuit.now }
-    requires publics { length publics.now ≡ circuit.now.publics }
-    requires privates { length privates.now ≡ circuit.now.privates }
-    ensures walks { WalksToPut (λ files.
-        Proves F.ops F.coding circuit.now task.now.proof.now (option_copied task.now.digest) task.now.session.now
-        (W.at words.now) publics.now privates.now) 3 (seen S.Shelf shelf.old) (seen S.Shelf shelf.new) result }
+    requires works { works.old ≡ given.now.circuit.now }
+    ensures walks { let k = given.now in
+        WalksToPut (λ files.
+        Proves F.ops F.coding k.circuit.now task.now.proof.now (option_copied task.now.digest) task.now.session.now
+        (W.at words.now) k.publics.now k.privates.now) 3 (seen S.Shelf shelf.old) (seen S.Shelf shelf.new) result }
     ensures moves { Moves (seen S.Shelf shelf.old) (seen S.Shelf shelf.new) }
 {
-    proofs_fit(circuit);
+    proofs_fit(given.circuit);
     match works.prove(
         means.rt,
         task.session,
-        publics,
-        privates,
+        given.publics,
+        given.privates,
         words,
         task.workers,
         means.gate,
@@ -107,27 +114,29 @@ fn put_proof<F: Field, X: RowExtend<F>, W: Words, R: Threads + Sync, S: Shelf, G
 }
 
 /// Proves for a circuit and its inputs, with these random words.
-pub fn prove_inputs<F: Field, X: RowExtend<F>, W: Words, R: Threads + Sync, S: Shelf, G: Gate>(
+pub(crate) fn prove_inputs<
+    F: Field,
+    X: RowExtend<F>,
+    W: Words,
+    R: Threads + Sync,
+    S: Shelf,
+    G: Gate,
+>(
     means: &Means<'_, R, G>,
-    circuit: &Circuit<F>,
-    publics: &[F],
-    privates: &[F],
+    given: &Given<'_, F>,
     words: &W,
     task: &Task<'_>,
     shelf: &mut S,
 ) -> Result<Ending, Halt>
-    requires publics { length publics.now ≡ circuit.now.publics }
-    requires privates { length privates.now ≡ circuit.now.privates }
-    requires id { task.now.id ≡ id_of F.coding circuit.now }
-    ensures walks { WalksToPut (λ files.
-        Proves F.ops F.coding circuit.now task.now.proof.now (option_copied task.now.digest) task.now.session.now
-        (W.at words.now) publics.now privates.now) 3 (seen S.Shelf shelf.old) (seen S.Shelf shelf.new) result }
+    requires id { task.now.id ≡ id_of F.coding given.now.circuit.now }
+    ensures walks { let k = given.now in
+        WalksToPut (λ files.
+        Proves F.ops F.coding k.circuit.now task.now.proof.now (option_copied task.now.digest) task.now.session.now
+        (W.at words.now) k.publics.now k.privates.now) 3 (seen S.Shelf shelf.old) (seen S.Shelf shelf.new) result }
     ensures moves { Moves (seen S.Shelf shelf.old) (seen S.Shelf shelf.new) }
 {
-    let mut works = WorksOver::<F, X>::with_id(means.alloc, circuit, task.id)?;
-    let ending = put_proof::<F, X, W, R, S, G>(
-        means, circuit, &mut works, publics, privates, words, task, shelf,
-    );
+    let mut works = WorksOver::<F, X>::with_id(means.alloc, given.circuit, task.id)?;
+    let ending = put_proof::<F, X, W, R, S, G>(means, given, &mut works, words, task, shelf);
     works.close();
     ending
 }
@@ -151,7 +160,12 @@ fn prove_over<F: Field, X: RowExtend<F>, W: Words, R: Threads + Sync, S: Shelf, 
 {
     let publics = read_elements::<S, F>(means.alloc, shelf, public_file, circuit.publics())?;
     let privates = read_elements::<S, F>(means.alloc, shelf, private_file, circuit.privates())?;
-    prove_inputs::<F, X, W, R, S, G>(means, circuit, &publics, &privates, words, task, shelf)
+    let given = Given {
+        circuit,
+        publics: publics.as_slice(),
+        privates: privates.as_slice(),
+    };
+    prove_inputs::<F, X, W, R, S, G>(means, &given, words, task, shelf)
 }
 
 // `prove_over` over either field.

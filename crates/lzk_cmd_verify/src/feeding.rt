@@ -17,7 +17,7 @@ const PIECE: usize = 65_536;
 
 /// Feeds a desk all the bytes of a file, if they are no more than the limit, by reads into the buffer. Nothing is read
 /// past the limit but the rest of one read.
-pub fn feed_file<S: Shelf, F: Field>(
+pub(crate) fn feed_file<S: Shelf, F: Field>(
     shelf: &mut S,
     name: &str,
     limit: usize,
@@ -53,7 +53,7 @@ pub fn feed_file<S: Shelf, F: Field>(
 }
 
 /// Feeds a desk a proof's file, or ends the run.
-pub fn feed_proof<S: Shelf, F: Field>(
+pub(crate) fn feed_proof<S: Shelf, F: Field>(
     alloc: Global,
     shelf: &mut S,
     name: &str,

@@ -44,7 +44,7 @@ fn judge_by<S: Shelf, F: Field>(
     Ok(ending_of(alloc, &verdict)?)
 }
 
-// The same by a desk of its own, which one exit drops.
+// Tells the verdict on a proof's file by a desk that this function makes, which one exit drops.
 fn judge_file<S: Shelf, F: Field>(
     alloc: Global,
     circuit: &Circuit<F>,

@@ -11,7 +11,7 @@ use crate::table::{First, Row, Verb, may_stand, row_of, verb_of};
 
 /// A command's word, the names behind it, and the keys behind them.
 #[derive(Clone, Copy)]
-pub struct Request<'a> {
+pub(crate) struct Request<'a> {
     pub verb: Verb,
     pub names: &'a [String],
     pub keys: Keys<'a>,
@@ -92,7 +92,7 @@ fn behind_verb(verb: Verb, words: &[String]) -> Option<Request<'_>>
 }
 
 /// The command, names and keys of a list of words, if it is of the table.
-pub fn request_of(words: &[String]) -> Option<Request<'_>>
+pub(crate) fn request_of(words: &[String]) -> Option<Request<'_>>
     ensures { option_map request_view result ≡ texts.request_of (map (λ w. string_bytes w) words.now) }
 {
     match words {

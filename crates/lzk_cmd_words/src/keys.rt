@@ -1,13 +1,13 @@
 //! The keys behind the names.
 
-ghost use Rattle.std.specs.Prelude.{◌≡◌, ◌≤◌, map, string_bytes};
+ghost use Rattle.std.specs.Prelude.{◌≡◌, map, string_bytes};
 ghost use Rattle.std.specs.Option.{option_map, option_copied};
 ghost use Rattle.lzk_cmd_words.specs.Keys as texts;
 ghost use Rattle.lzk_cmd_words.specs.KeyViews.{keys_view};
 
 /// The keys that stand, each with what is behind its `=`.
 #[derive(Clone, Copy)]
-pub struct Keys<'a> {
+pub(crate) struct Keys<'a> {
     pub seed: Option<&'a [u8]>,
     pub session: Option<&'a [u8]>,
     pub workers: Option<&'a [u8]>,
@@ -15,8 +15,8 @@ pub struct Keys<'a> {
     pub version: Option<&'a [u8]>,
 }
 
-// What stands behind a front, if the word has it.
-fn behind<'a>(front: &[u8], word: &'a [u8]) -> Option<&'a [u8]>
+/// What stands behind a front, if the word has it.
+pub fn behind<'a>(front: &[u8], word: &'a [u8]) -> Option<&'a [u8]>
     ensures { option_copied result ≡ texts.behind front.now word.now }
 {
     if front.len() <= word.len() && &word[..front.len()] == front {
@@ -44,7 +44,8 @@ fn is_seed(text: &[u8]) -> bool
     text.len() == 64 && are_hex(text)
 }
 
-fn is_session(text: &[u8]) -> bool
+/// Whether a text is the digits of a session of at most 64 bytes, two for each byte.
+pub fn is_session(text: &[u8]) -> bool
     ensures { result ≡ texts.is_session text.now }
 {
     text.len() % 2 == 0 && text.len() <= 128 && are_hex(text)
@@ -64,22 +65,20 @@ fn is_version(text: &[u8]) -> bool
 
 /// The number of these digits, if it is no more than `most`.
 pub fn number_up_to(text: &[u8], most: u32) -> Option<u32>
-    requires { most ≤ 16384 }
     ensures { result ≡ texts.number_up_to most text.now }
 {
-    let mut number = 0u32;
+    let mut number = 0u64;
     for i in 0..text.len() {
-        number = 10 * number + text[i].saturating_sub(48) as u32;
-        if number > most {
+        number = 10 * number + u64::from(text[i].saturating_sub(48));
+        if number > u64::from(most) {
             return None;
         }
     }
-    Some(number)
+    Some(number as u32)
 }
 
 /// Whether a text is 1 to 9 digits of a number from 1 to `most`.
 pub fn is_number(text: &[u8], most: u32) -> bool
-    requires { most ≤ 16384 }
     ensures { result ≡ texts.is_number most text.now }
 {
     if text.is_empty() || text.len() > 9 || !are_digits(text) {
@@ -92,8 +91,7 @@ pub fn is_number(text: &[u8], most: u32) -> bool
 }
 
 /// Whether a text is 1 to 9 digits of a number up to `most`.
-pub fn is_count(text: &[u8], most: u32) -> bool
-    requires { most ≤ 16384 }
+pub(crate) fn is_count(text: &[u8], most: u32) -> bool
     ensures { result ≡ texts.is_count most text.now }
 {
     if text.is_empty() || text.len() > 9 || !are_digits(text) {
@@ -191,7 +189,7 @@ fn with_key<'a>(keys: Keys<'a>, word: &'a [u8]) -> Option<Keys<'a>>
 }
 
 /// The keys of these words, each of which is one key, and stands once.
-pub fn keys_of(words: &[String]) -> Option<Keys<'_>>
+pub(crate) fn keys_of(words: &[String]) -> Option<Keys<'_>>
     ensures { option_map keys_view result ≡ texts.keys_of (map (λ w. string_bytes w) words.now) }
 {
     let mut keys = Keys {

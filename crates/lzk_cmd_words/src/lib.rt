@@ -13,6 +13,6 @@ mod table;
 mod values;
 mod words;
 
-pub use keys::number_up_to;
+pub use keys::{behind, is_number, is_session, number_up_to};
 pub use values::{message_bytes, seed_bytes, session_bytes, workers_of};
 pub use words::{Command, HashWords, ProveWords, Version, parse_words};

@@ -5,7 +5,7 @@ ghost use Rattle.lzk_cmd_words.specs.Table as table;
 
 /// A command's word.
 #[derive(Clone, Copy)]
-pub enum Verb {
+pub(crate) enum Verb {
     Eval,
     Compile,
     Upgrade,
@@ -20,7 +20,7 @@ pub enum Verb {
 
 /// What the first name is: a file, the number of inputs of a demo, or the number of bytes of a message.
 #[derive(Clone, Copy)]
-pub enum First {
+pub(crate) enum First {
     File,
     Inputs,
     Bytes,
@@ -28,7 +28,7 @@ pub enum First {
 
 /// Whether a key may stand behind the names.
 #[derive(Clone, Copy)]
-pub enum Key {
+pub(crate) enum Key {
     Forbidden,
     Optional,
     Required,
@@ -36,7 +36,7 @@ pub enum Key {
 
 /// A row: how many names a command has, what the first is, and which keys stand behind them.
 #[derive(Clone, Copy)]
-pub struct Row {
+pub(crate) struct Row {
     pub names: usize,
     pub first: First,
     pub seed: Key,
@@ -47,7 +47,7 @@ pub struct Row {
 }
 
 /// The command of this word.
-pub fn verb_of(word: &str) -> Option<Verb>
+pub(crate) fn verb_of(word: &str) -> Option<Verb>
     ensures { result ≡ table.verb_of word.now }
 {
     if word == "eval" {
@@ -91,7 +91,7 @@ fn names(count: usize) -> Row
 }
 
 /// The row of a command.
-pub fn row_of(verb: Verb) -> Row
+pub(crate) fn row_of(verb: Verb) -> Row
     ensures { result ≡ table.row_of verb }
 {
     match verb {
@@ -137,7 +137,7 @@ pub fn row_of(verb: Verb) -> Row
 }
 
 /// Whether a key that stands, or does not, may do so.
-pub fn may_stand(stands: Key, there: bool) -> bool
+pub(crate) fn may_stand(stands: Key, there: bool) -> bool
     ensures { result ≡ table.may_stand stands there }
 {
     match stands {

@@ -10,7 +10,7 @@ use Rattle.lzk_cmd_files.proofs.Steps.{handed_on}
 use Rattle.lzk_policy.specs.Policies.{Contents}
 use Rattle.lzk_policy_inputs.specs.declared.value.Value.{Value}
 use Rattle.lzk_policy_inputs.specs.Both.{Inputs}
-use Rattle.lzk_credential_proof.specs.Proofs.{AreProvable}
+use Rattle.lzk_credential_run.specs.Proofs.{AreProvable}
 use Rattle.lzk_credential_run.specs.Ends.{Settles}
 use Rattle.lzk_credential_run.specs.Files.{kind_files, path_files, record_files}
 use Rattle.lzk_policy_texts.specs.Seals.{is_sealed}

@@ -1,3 +1,5 @@
+pub mod Drawn
+pub mod Satisfied
 pub mod Sessions
 pub mod Steps
 pub mod CircuitEnds

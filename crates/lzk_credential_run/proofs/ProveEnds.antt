@@ -12,8 +12,8 @@ use Rattle.lzk_cmd_files.proofs.Sights.{read_later, missed_later}
 use Rattle.lzk_cmd_files.proofs.Steps.{handed_on}
 use Rattle.lzk_policy.specs.Policies.{Contents}
 use Rattle.lzk_policy_inputs.specs.Both.{Inputs}
-use Rattle.lzk_credential_proof.specs.Proofs.{IsPolicyProof}
-use Rattle.lzk_credential_proof.specs.Seeds.{GivesSeed, IsSeed, SeedEnds}
+use Rattle.lzk_credential_run.specs.Proofs.{IsPolicyProof}
+use Rattle.lzk_credential_run.specs.Seeds.{GivesSeed, IsSeed, SeedEnds}
 use Rattle.lzk_credential_run.specs.Ends.{NothingPut, Settles, Way}
 use Rattle.lzk_credential_run.specs.Lines.{limit_line}
 use Rattle.lzk_credential_run.specs.Orders.{Order}

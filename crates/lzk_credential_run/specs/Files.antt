@@ -3,7 +3,7 @@ use Rattle.std.specs.Prelude.{◌≡◌, ◌≢◌, ◌<◌, ◌≤◌, ◌==◌
 use Rattle.lzk_cmd_files.specs.Ends.{says}
 use Rattle.lzk_cmd_files.specs.Formats.{Format}
 use Rattle.lzk_policy.specs.Policies.{Contents, policy_of}
-use Rattle.lzk_policies.specs.Hashes.{hash_count, most_hashes}
+use Rattle.lzk_policy_inputs.specs.Hashes.{hash_count, most_hashes}
 use Rattle.lzk_policy_texts.specs.declared.entries.ValuesFault.{ValuesFault}
 use Rattle.lzk_credential_run.specs.declared.policies.PolicyRefusal.{PolicyRefusal}
 use Rattle.lzk_credential_run.specs.declared.policies.PolicyRefusal.TheVariants.{Line, Hashes}

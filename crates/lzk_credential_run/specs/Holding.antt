@@ -4,8 +4,8 @@ use Rattle.lzk_cmd_files.specs.Seen.{Seen}
 use Rattle.lzk_policy.specs.Policies.{Contents}
 use Rattle.lzk_policy_inputs.specs.declared.value.Value.{Value}
 use Rattle.lzk_policy_inputs.specs.Both.{Inputs}
-use Rattle.lzk_policies.specs.declared.refusal.RootedInputsError.{RootedInputsError}
-use Rattle.lzk_policies.specs.Placed.{IsCredentialRefusal}
+use Rattle.lzk_policy_inputs.specs.declared.refusal.RootedInputsError.{RootedInputsError}
+use Rattle.lzk_policy_inputs.specs.Placed.{IsCredentialRefusal}
 use Rattle.lzk_credential_run.specs.declared.holding.Purpose as memory
 use Rattle.lzk_credential_run.specs.declared.holding.Purpose.TheVariants as made
 use Rattle.lzk_credential_run.specs.Ends.{Way, Reads, NothingPut}

@@ -7,8 +7,10 @@ pub mod Holding
 pub mod Keys
 pub mod Lines
 pub mod Orders
+pub mod Proofs
 pub mod Proved
 pub mod Runs
+pub mod Seeds
 pub mod Shown
 pub mod Told
 pub mod Verified

@@ -9,8 +9,8 @@ use Rattle.lzk_cmd_files.specs.Walks.{IsEnding}
 use Rattle.lzk_policy.specs.Policies.{Contents}
 use Rattle.lzk_policy_inputs.specs.Both.{Inputs}
 use Rattle.lzk_policy_texts.specs.Circuits.{PassesLimit}
-use Rattle.lzk_credential_proof.specs.Proofs.{IsPolicyProof}
-use Rattle.lzk_credential_proof.specs.Seeds.{IsSeed, SeedEnds}
+use Rattle.lzk_credential_run.specs.Proofs.{IsPolicyProof}
+use Rattle.lzk_credential_run.specs.Seeds.{IsSeed, SeedEnds}
 use Rattle.lzk_credential_run.specs.Ends.{Way, Says, PutsFile}
 use Rattle.lzk_credential_run.specs.Lines.{limit_line}
 use Rattle.lzk_credential_run.specs.Orders.{Order}

@@ -13,7 +13,7 @@ use Rattle.lzk_cmd_files.specs.Walks.{IsEnding}
 use Rattle.lzk_cmd_verify.specs.Verified.{verdict_end}
 use Rattle.lzk_policy.specs.Policies.{Contents}
 use Rattle.lzk_policy_texts.specs.Circuits.{PassesLimit}
-use Rattle.lzk_credential_proof.specs.Proofs.{IsPolicyVerdict}
+use Rattle.lzk_credential_run.specs.Proofs.{IsPolicyVerdict}
 use Rattle.lzk_policy_texts.specs.declared.entries.ValuesFault.{ValuesFault}
 use Rattle.lzk_credential_run.specs.Ends.{Way, Reads}
 use Rattle.lzk_credential_run.specs.Files.{policy_files}

@@ -2,7 +2,7 @@
 
 ghost use Rattle.std.specs.Prelude.{◌≡◌};
 ghost use Rattle.lzk_cmd_files.specs.Seen.{seen};
-ghost use Rattle.lzk_credential_proof.specs.Proofs.{AreProvable};
+ghost use Rattle.lzk_credential_run.specs.Proofs.{AreProvable};
 ghost use Rattle.lzk_credential_run.specs.Ends.{Settles};
 ghost use Rattle.lzk_policy_texts.specs.Seals.{is_sealed};
 ghost use Rattle.lzk_credential_run.specs.Holding as held;
@@ -18,17 +18,16 @@ use crate::proving::{Task, draw_proof};
 use crate::records::{read_record, read_secret};
 use lzk_cmd_files::{Ending, Halt, Means};
 use lzk_field::Gate;
-use lzk_hands::Hands;
 use lzk_outside::Shelf;
-use lzk_policies::RootedInputs;
 use lzk_policy::Policy;
-use lzk_policy_inputs::Value;
+use lzk_policy_inputs::{PolicyInputs, Value};
 use lzk_policy_texts::{Path, is_sealed};
+use lzk_work_threads::Hands;
 use std::alloc::Global;
 
 /// What inputs are made for: to be put in two files, or for a proof.
 #[derive(Clone, Copy)]
-pub enum Purpose<'a> {
+pub(crate) enum Purpose<'a> {
     Put(Outputs<'a>),
     Prove(Task<'a>),
 }
@@ -48,7 +47,7 @@ fn file_count(beside: &Beside<'_>) -> u32
 fn serve<R: Hands, S: Shelf, G: Gate>(
     means: &Means<'_, R, G>,
     policy: &Policy,
-    inputs: &RootedInputs,
+    inputs: &PolicyInputs,
     purpose: &Purpose<'_>,
     shelf: &mut S,
 ) -> Result<Ending, Halt>
@@ -62,22 +61,36 @@ fn serve<R: Hands, S: Shelf, G: Gate>(
     }
 }
 
+// A leaf that is shown: its path, the name of the path's file, if there is one, and what the inputs are made for.
+#[derive(Clone, Copy)]
+struct Showing<'a> {
+    name: &'a str,
+    path: &'a Path,
+    purpose: Purpose<'a>,
+}
+
 // Shows a record, values and a leaf.
 fn show_values<R: Hands, S: Shelf, G: Gate>(
     means: &Means<'_, R, G>,
     policy: &Policy,
     bytes: &[u8],
     values: &[Value],
-    name: &str,
-    path: &Path,
-    purpose: &Purpose<'_>,
+    showing: &Showing<'_>,
     shelf: &mut S,
 ) -> Result<Ending, Halt>
-    ensures { Settles (held.ShowsValues name.now (placed_of path.now) (purpose_of purpose.now) policy.now bytes.now
-        values.now) (Keeps (purpose_of purpose.now)) (seen S.Shelf shelf.old) (seen S.Shelf shelf.new) result }
+    ensures { Settles (held.ShowsValues showing.now.name.now (placed_of showing.now.path.now)
+        (purpose_of showing.now.purpose) policy.now bytes.now values.now) (Keeps (purpose_of showing.now.purpose))
+        (seen S.Shelf shelf.old) (seen S.Shelf shelf.new) result }
 {
-    let inputs = inputs_of(means.alloc, policy, bytes, values, name, path)?;
-    serve(means, policy, &inputs, purpose, shelf)
+    let inputs = inputs_of(
+        means.alloc,
+        policy,
+        bytes,
+        values,
+        showing.name,
+        showing.path,
+    )?;
+    serve(means, policy, &inputs, &showing.purpose, shelf)
 }
 
 // Shows a record and a leaf, with the values in a file.
@@ -86,16 +99,15 @@ fn show_record<R: Hands, S: Shelf, G: Gate>(
     policy: &Policy,
     bytes: &[u8],
     values: &str,
-    name: &str,
-    path: &Path,
-    purpose: &Purpose<'_>,
+    showing: &Showing<'_>,
     shelf: &mut S,
 ) -> Result<Ending, Halt>
-    ensures { Settles (held.ShowsRecord values.now name.now (placed_of path.now) (purpose_of purpose.now) policy.now
-        bytes.now) (Keeps (purpose_of purpose.now)) (seen S.Shelf shelf.old) (seen S.Shelf shelf.new) result }
+    ensures { Settles (held.ShowsRecord values.now showing.now.name.now (placed_of showing.now.path.now)
+        (purpose_of showing.now.purpose) policy.now bytes.now) (Keeps (purpose_of showing.now.purpose))
+        (seen S.Shelf shelf.old) (seen S.Shelf shelf.new) result }
 {
-    let read = read_given(means.alloc, shelf, values, policy, &path.secret)?;
-    show_values(means, policy, bytes, &read, name, path, purpose, shelf)
+    let read = read_given(means.alloc, shelf, values, policy, &showing.path.secret)?;
+    show_values(means, policy, bytes, &read, showing, shelf)
 }
 
 // Shows a leaf, with record and values in files.
@@ -112,16 +124,12 @@ fn show_placed<R: Hands, S: Shelf, G: Gate>(
         policy.now) (Keeps (purpose_of purpose.now)) (seen S.Shelf shelf.old) (seen S.Shelf shelf.new) result }
 {
     let read = read_record(means.alloc, shelf, holding.record, policy)?;
-    show_record(
-        means,
-        policy,
-        &read,
-        holding.values,
+    let showing = Showing {
         name,
         path,
-        purpose,
-        shelf,
-    )
+        purpose: *purpose,
+    };
+    show_record(means, policy, &read, holding.values, &showing, shelf)
 }
 
 // A leaf with a secret.

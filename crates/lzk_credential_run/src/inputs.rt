@@ -11,16 +11,17 @@ ghost use Rattle.lzk_policy_texts.specs.Paths.{placed_of};
 use crate::lines;
 use lzk_cmd_files::{Ending, Halt, put_file, read_file};
 use lzk_outside::Shelf;
-use lzk_policies::{Place, RootedInputs, RootedInputsError, credential_inputs};
 use lzk_policy::Policy;
-use lzk_policy_inputs::{InputsError, Value};
+use lzk_policy_inputs::{
+    InputsError, Place, PolicyInputs, RootedInputsError, Value, credential_inputs,
+};
 use lzk_policy_texts::{Path, ValuesError, ValuesFault, number_text, push_show, read_values};
 use lzk_sha_path::PathError;
 use std::alloc::{AllocError, Global};
 
 /// The names of the two files that are put.
 #[derive(Clone, Copy)]
-pub struct Outputs<'a> {
+pub(crate) struct Outputs<'a> {
     pub public: &'a str,
     pub private: &'a str,
 }
@@ -215,7 +216,7 @@ pub(crate) fn inputs_of(
     values: &[Value],
     name: &str,
     path: &Path,
-) -> Result<RootedInputs, Halt>
+) -> Result<PolicyInputs, Halt>
     ensures { given.MakesInputs name.now policy.now bytes.now values.now (placed_of path.now) result }
 {
     let place = Place {
@@ -252,7 +253,7 @@ fn put_both<S: Shelf>(
 /// Puts the public and the private inputs, a number a line.
 pub(crate) fn put_inputs<S: Shelf>(
     alloc: Global,
-    inputs: &RootedInputs,
+    inputs: &PolicyInputs,
     outputs: &Outputs<'_>,
     shelf: &mut S,
 ) -> Result<Ending, Halt>

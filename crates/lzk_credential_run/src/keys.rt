@@ -3,34 +3,22 @@
 ghost use Rattle.std.specs.Prelude.{◌≡◌, ◌≤◌, [], ◌∷◌, Some, length, map, string_bytes};
 ghost use Rattle.std.specs.Option.{option_copied, option_map};
 ghost use Rattle.lzk_cmd_words.specs.Digits.{session_of};
-ghost use Rattle.lzk_cmd_words.specs.Keys as texts;
 ghost use Rattle.lzk_credential_run.specs.Keys as keys;
 
-use lzk_cmd_words::number_up_to;
+use lzk_cmd_words::{behind, is_number, is_session};
 
 /// The digits of a session of at most 64 bytes.
 #[derive(Clone, Copy)]
-pub struct Session<'a> {
+pub(crate) struct Session<'a> {
     pub digits: &'a [u8],
     pub ghost short: { length (session_of (Some digits.now)) ≤ 64 },
 }
 
 /// A session, and the digits of a number of workers if they stand.
 #[derive(Clone, Copy)]
-pub struct Asked<'a> {
+pub(crate) struct Asked<'a> {
     pub session: Session<'a>,
     pub workers: Option<&'a [u8]>,
-}
-
-// What stands behind a front, if the word has it.
-fn behind<'a>(front: &[u8], word: &'a [u8]) -> Option<&'a [u8]>
-    ensures { option_copied result ≡ texts.behind front.now word.now }
-{
-    if front.len() <= word.len() && &word[..front.len()] == front {
-        Some(&word[front.len()..])
-    } else {
-        None
-    }
 }
 
 /// Whether a word begins as a key does.
@@ -38,36 +26,6 @@ pub(crate) fn is_key(word: &[u8]) -> bool
     ensures { result ≡ keys.is_key word.now }
 {
     behind(b"session=", word).is_some() || behind(b"workers=", word).is_some()
-}
-
-fn are_hex(text: &[u8]) -> bool
-    ensures { result ≡ texts.are_hex text.now }
-{
-    text.iter().all(|b| b.is_ascii_hexdigit())
-}
-
-fn is_session(text: &[u8]) -> bool
-    ensures { result ≡ texts.is_session text.now }
-{
-    text.len() % 2 == 0 && text.len() <= 128 && are_hex(text)
-}
-
-fn are_digits(text: &[u8]) -> bool
-    ensures { result ≡ texts.are_digits text.now }
-{
-    text.iter().all(|b| b.is_ascii_digit())
-}
-
-fn is_workers(text: &[u8]) -> bool
-    ensures { result ≡ texts.is_number 64 text.now }
-{
-    if text.is_empty() || text.len() > 9 || !are_digits(text) {
-        return false;
-    }
-    match number_up_to(text, 64) {
-        Some(number) => number != 0,
-        None => false,
-    }
 }
 
 /// The session that a word is.
@@ -87,7 +45,11 @@ fn workers_in(word: &[u8]) -> Option<&[u8]>
     ensures { option_copied result ≡ keys.workers_in word.now }
 {
     let text = behind(b"workers=", word)?;
-    if is_workers(text) { Some(text) } else { None }
+    if is_number(text, 64) {
+        Some(text)
+    } else {
+        None
+    }
 }
 
 // The session of a word, where another is a number of workers.

@@ -19,14 +19,25 @@
 //! ```
 //!
 //! and a program's `main` hands its runtime over, as `run_program(&rt, &rt)`.
+//!
+//! A proof for a policy, and the verdict on one, are made in memory: no circuit's file and no file of numbers is made.
+//!
+//! ```text
+//! let seed = read_seed(alloc, &mut shelf)?;
+//! let making = Making { session: &session, seed, workers: 1 };
+//! let proof = prove_policy(&means, &policy, &inputs, &making)?;
+//! let verdict = judge_policy(alloc, &policy, &session, inputs.public(), &proof)?;
+//! ```
 #![tactic(auto)]
 
 mod circuits;
 mod digests;
 mod holding;
 mod inputs;
+mod judging;
 mod keys;
 mod lines;
+mod making;
 mod orders;
 mod paths;
 mod policies;
@@ -34,9 +45,13 @@ mod program;
 mod proving;
 mod records;
 mod running;
+mod seeds;
 mod showing;
 mod verifying;
 mod words;
 
+pub use judging::judge_policy;
+pub use making::{Making, prove_policy};
 pub use program::{run_program, run_words};
 pub use running::run;
+pub use seeds::read_seed;

@@ -4,7 +4,7 @@ ghost use Rattle.std.specs.Prelude.{◌≤◌, length};
 
 /// The names of the policy, which refusals tell, and of the proof, and the session.
 #[derive(Clone, Copy)]
-pub struct Order<'a> {
+pub(crate) struct Order<'a> {
     pub policy: &'a str,
     pub proof: &'a str,
     pub session: &'a [u8],
@@ -13,7 +13,7 @@ pub struct Order<'a> {
 
 /// The names of the files beside the values: the secret and the path, as the policy wants them, the secret first.
 #[derive(Clone, Copy)]
-pub enum Beside<'a> {
+pub(crate) enum Beside<'a> {
     Nothing,
     One(&'a str),
     Two(&'a str, &'a str),
@@ -21,7 +21,7 @@ pub enum Beside<'a> {
 
 /// The names of a holder's files.
 #[derive(Clone, Copy)]
-pub struct Holding<'a> {
+pub(crate) struct Holding<'a> {
     pub record: &'a str,
     pub values: &'a str,
     pub beside: Beside<'a>,

@@ -14,8 +14,8 @@ ghost use Rattle.lzk_credential_run.specs.Files.{
 use crate::lines;
 use lzk_cmd_files::{Ending, Halt, read_file};
 use lzk_outside::Shelf;
-use lzk_policies::has_room;
 use lzk_policy::{Policy, PolicyError, PolicyFault, parse_policy};
+use lzk_policy_inputs::has_room;
 use lzk_policy_texts::is_sealed;
 use std::alloc::{AllocError, Global};
 
@@ -24,7 +24,7 @@ const MOST_POLICY: usize = 65_536;
 
 /// Why a text is no policy of a command.
 #[derive(Clone, Copy)]
-pub enum PolicyRefusal {
+pub(crate) enum PolicyRefusal {
     /// A line breaks a rule.
     Line(PolicyFault),
     /// There are more hashes than a circuit has room for.

@@ -2,25 +2,26 @@
 
 ghost use Rattle.std.specs.Prelude.{◌≤◌};
 ghost use Rattle.lzk_cmd_files.specs.Seen.{seen};
-ghost use Rattle.lzk_credential_proof.specs.Proofs.{AreProvable};
+ghost use Rattle.lzk_credential_run.specs.Proofs.{AreProvable};
 ghost use Rattle.lzk_credential_run.specs.Ends.{NothingPut, Settles};
 ghost use Rattle.lzk_credential_run.specs.Proved as proved;
 ghost use Rattle.lzk_credential_run.specs.Orders.{order_of};
 
 use crate::lines;
+use crate::making::{Making, prove_policy};
 use crate::orders::Order;
+use crate::seeds::read_seed;
 use lzk_cmd_files::{Ending, Halt, Means, lines as told, put_file};
-use lzk_credential_proof::{Making, prove_policy, read_seed};
 use lzk_field::Gate;
-use lzk_hands::Hands;
 use lzk_outside::Shelf;
-use lzk_policies::RootedInputs;
 use lzk_policy::Policy;
+use lzk_policy_inputs::PolicyInputs;
 use lzk_policy_texts::PolicyProofError;
+use lzk_work_threads::Hands;
 
 /// What a proof is made with beside policy and record: what it is bound to, and workers.
 #[derive(Clone, Copy)]
-pub struct Task<'a> {
+pub(crate) struct Task<'a> {
     pub order: Order<'a>,
     pub workers: usize,
     pub ghost some: { 1 ≤ workers },
@@ -31,7 +32,7 @@ pub struct Task<'a> {
 fn proof_of<R: Hands, G: Gate>(
     means: &Means<'_, R, G>,
     policy: &Policy,
-    inputs: &RootedInputs,
+    inputs: &PolicyInputs,
     seed: [u8; 32],
     task: &Task<'_>,
 ) -> Result<Vec<u8>, Halt>
@@ -57,7 +58,7 @@ fn proof_of<R: Hands, G: Gate>(
 fn put_proof<R: Hands, S: Shelf, G: Gate>(
     means: &Means<'_, R, G>,
     policy: &Policy,
-    inputs: &RootedInputs,
+    inputs: &PolicyInputs,
     seed: [u8; 32],
     task: &Task<'_>,
     shelf: &mut S,
@@ -75,7 +76,7 @@ fn put_proof<R: Hands, S: Shelf, G: Gate>(
 pub(crate) fn draw_proof<R: Hands, S: Shelf, G: Gate>(
     means: &Means<'_, R, G>,
     policy: &Policy,
-    inputs: &RootedInputs,
+    inputs: &PolicyInputs,
     task: &Task<'_>,
     shelf: &mut S,
 ) -> Result<Ending, Halt>

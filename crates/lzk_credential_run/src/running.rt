@@ -3,7 +3,7 @@
 ghost use Rattle.std.specs.Prelude.{◌≡◌, ◌≤◌, IfOk};
 ghost use Rattle.lzk_cmd_files.specs.Ends.{refused_words};
 ghost use Rattle.lzk_cmd_files.specs.Seen.{seen, seen_sink};
-ghost use Rattle.lzk_cmd_files.specs.Walks.{Concludes, IsEnding};
+ghost use Rattle.lzk_cmd_files.specs.Walks.{IsEnding};
 ghost use Rattle.lzk_credential_run.specs.Ends.{NothingPut, Settles};
 ghost use Rattle.lzk_credential_run.specs.Given.{PutsOne};
 ghost use Rattle.lzk_credential_run.specs.Holding.{HoldingRun, Prove, Put};
@@ -21,11 +21,11 @@ use crate::proving::Task;
 use crate::showing::show;
 use crate::verifying::verify;
 use crate::words::{Command, InputsWords, ProveWords, VerifyWords, parse_words};
-use lzk_cmd_files::{Ending, Halt, Means, print_ending};
+use lzk_cmd_files::{Ending, Halt, Means, conclude};
 use lzk_cmd_words::{session_bytes, workers_of};
 use lzk_field::Gate;
-use lzk_hands::Hands;
 use lzk_outside::{Shelf, Sink};
+use lzk_work_threads::Hands;
 use std::alloc::{AllocError, Global};
 
 // How a run ends whose words are no command.
@@ -129,17 +129,6 @@ fn work<R: Hands, S: Shelf, G: Gate>(
         Some(Command::Prove(order)) => prove_asked(means, &order, shelf),
         Some(Command::Show { policy }) => show(alloc, policy, shelf),
         Some(Command::Verify(order)) => verify_asked(alloc, &order, shelf),
-    }
-}
-
-// Prints how a run ends, and answers its status.
-fn conclude<K: Sink>(out: &mut K, done: &Result<Ending, Halt>) -> u8
-    ensures { Concludes (seen_sink K.Sink out.old) (seen_sink K.Sink out.new) done.now result }
-{
-    match done {
-        Ok(ending) => print_ending(out, ending),
-        Err(Halt::End(ending)) => print_ending(out, ending),
-        Err(Halt::Memory) => 6,
     }
 }
 

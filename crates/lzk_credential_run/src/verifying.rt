@@ -11,12 +11,12 @@ ghost use Rattle.lzk_credential_run.specs.Told as said;
 ghost use Rattle.lzk_credential_run.specs.Verified.{JudgesTo, ShownTo, VerifyRun, WithShown, shown_files};
 
 use crate::inputs::tell_no_value;
+use crate::judging::judge_policy;
 use crate::lines;
 use crate::orders::Order;
 use crate::policies::read_policy;
 use lzk_cmd_files::{Ending, Halt, MOST_PROOF, read_file};
 use lzk_cmd_verify::ending_of;
-use lzk_credential_proof::judge_policy;
 use lzk_goldilocks::Gold;
 use lzk_outside::Shelf;
 use lzk_policy::Policy;

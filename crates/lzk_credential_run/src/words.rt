@@ -10,7 +10,7 @@ use crate::orders::{Beside, Holding};
 
 /// The names of the files of `inputs`.
 #[derive(Clone, Copy)]
-pub struct InputsWords<'a> {
+pub(crate) struct InputsWords<'a> {
     pub policy: &'a str,
     pub holding: Holding<'a>,
     pub public: &'a str,
@@ -19,7 +19,7 @@ pub struct InputsWords<'a> {
 
 /// The names of the files of `prove`, and its keys.
 #[derive(Clone, Copy)]
-pub struct ProveWords<'a> {
+pub(crate) struct ProveWords<'a> {
     pub policy: &'a str,
     pub holding: Holding<'a>,
     pub proof: &'a str,
@@ -28,7 +28,7 @@ pub struct ProveWords<'a> {
 
 /// The names of the files of `verify`, and its session.
 #[derive(Clone, Copy)]
-pub struct VerifyWords<'a> {
+pub(crate) struct VerifyWords<'a> {
     pub policy: &'a str,
     pub shown: &'a str,
     pub proof: &'a str,
@@ -37,7 +37,7 @@ pub struct VerifyWords<'a> {
 
 /// A command, with the names of its files and its keys.
 #[derive(Clone, Copy)]
-pub enum Command<'a> {
+pub(crate) enum Command<'a> {
     Circuit { policy: &'a str, circuit: &'a str },
     Digest { policy: &'a str, record: &'a str },
     Inputs(InputsWords<'a>),

@@ -166,7 +166,11 @@ fn push_inputs(
 }
 
 /// Adds the statements of the source with `n` private inputs.
-pub fn push_all(alloc: Global, n: u32, statements: &mut Vec<Statement>) -> Result<(), AllocError>
+pub(crate) fn push_all(
+    alloc: Global,
+    n: u32,
+    statements: &mut Vec<Statement>,
+) -> Result<(), AllocError>
     requires some { 1 ≤ n }
     requires few { n ≤ 16384 }
     ensures { OnOk result

@@ -2,7 +2,7 @@
 
 /// An entry of the list that is paired, by its number from 0.
 #[derive(Clone, Copy, Debug, PartialEq, Eq)]
-pub enum Entry {
+pub(crate) enum Entry {
     /// A private input.
     Input(u32),
     /// A let name.

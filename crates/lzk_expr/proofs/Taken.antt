@@ -281,5 +281,7 @@ if_ok (Err e) P Q f h = h
 pub takes_none : (r : Reader) (line : List ℕ) → IsReader r → is_empty_line (content line) ≡ true → TakesAny r r line None
 takes_none r line h e = record { reads = subst (StepReads (before_of r) (content line) (Ok (before_of r))) (sym e) refl; holds = λ same. h; lets = omega arith }
 
-pub takes_some : (old new : Reader) (line : List ℕ) (broken : Option SourceKind) → is_empty_line (content line) ≡ false → TakesLine old new (content line) broken → TakesAny old new line broken
-takes_some old new line broken e t = record { reads = subst (StepReads (before_of old) (content line) (step_of broken (before_of new))) (sym e) t.reads; holds = t.holds; lets = t.lets }
+pub takes_some : (old new : Reader) (line bytes : List ℕ) (broken : Option SourceKind) → bytes ≡ content line → is_empty_line bytes ≡ false → TakesLine old new bytes broken → TakesAny old new line broken
+takes_some old new line bytes broken same e t =
+    let read : StepReads (before_of old) bytes (step_of broken (before_of new)) (is_empty_line bytes) = subst (StepReads (before_of old) bytes (step_of broken (before_of new))) (sym e) t.reads in
+    record { reads = subst (λ (l : List ℕ). StepReads (before_of old) l (step_of broken (before_of new)) (is_empty_line l)) same read; holds = t.holds; lets = t.lets }

@@ -7,10 +7,17 @@ ghost use Rattle.lzk_expr.specs.Readings.{Reads};
 
 /// What a word is: no number, a number from 2 ^ 128 on, or this one.
 #[derive(Clone, Copy)]
-pub enum Reading {
+pub(crate) enum Reading {
     NotNumber,
     Large,
     Number(u128),
+}
+
+// A base of numbers in text.
+#[derive(Clone, Copy)]
+struct Base {
+    number: u8,
+    ghost some: { 1 ≤ number },
 }
 
 fn digit(c: u8) -> u8
@@ -24,18 +31,16 @@ fn digit(c: u8) -> u8
     }
 }
 
-fn value(base: u8, digits: &[u8]) -> Reading
-    requires some { 1 ≤ base }
-    requires few { base ≤ 16 }
-    ensures { Reads result (value_in base 0 digits.now) }
+fn value(base: Base, digits: &[u8]) -> Reading
+    ensures { Reads result (value_in base.number 0 digits.now) }
 {
     let mut have = 0u128;
     for i in 0..digits.len() {
         let d = digit(digits[i]);
-        if d >= base {
+        if d >= base.number {
             return Reading::NotNumber;
         }
-        let Some(shifted) = have.checked_mul(base as u128) else {
+        let Some(shifted) = have.checked_mul(base.number as u128) else {
             let (_, after) = digits.split_at(i + 1);
             return large(base, after);
         };
@@ -48,16 +53,15 @@ fn value(base: u8, digits: &[u8]) -> Reading
     Reading::Number(have)
 }
 
-fn are_digits(base: u8, digits: &[u8]) -> bool
-    ensures { result ≡ list_all (λ c. nat_lt (digit_of c) base) digits.now }
+fn are_digits(base: Base, digits: &[u8]) -> bool
+    ensures { result ≡ list_all (λ c. nat_lt (digit_of c) base.number) digits.now }
 {
-    digits.iter().all(|c| digit(*c) < base)
+    digits.iter().all(|c| digit(*c) < base.number)
 }
 
 // What a number from 2 ^ 128 on reads as with these digits behind it.
-fn large(base: u8, digits: &[u8]) -> Reading
-    requires { 1 ≤ base }
-    ensures { (have : ℕ) → 2 ^ 128 ≤ have → Reads result (value_in base have digits.now) }
+fn large(base: Base, digits: &[u8]) -> Reading
+    ensures { (have : ℕ) → 2 ^ 128 ≤ have → Reads result (value_in base.number have digits.now) }
 {
     if are_digits(base, digits) {
         Reading::Large
@@ -68,14 +72,14 @@ fn large(base: u8, digits: &[u8]) -> Reading
 
 /// The number that a word is.
 #[tactic(auto, unfolding(crate::specs::Texts::number_of))]
-pub fn number(word: &[u8]) -> Reading
+pub(crate) fn number(word: &[u8]) -> Reading
     ensures { Reads result (number_of word.now) }
 {
     if word.len() > 2 && word[0] == b'0' && word[1] == b'x' {
-        return value(16, &word[2..]);
+        return value(Base { number: 16 }, &word[2..]);
     }
     if word.is_empty() {
         return Reading::NotNumber;
     }
-    value(10, word)
+    value(Base { number: 10 }, word)
 }

@@ -20,7 +20,7 @@ fn entry<F: Field>(list: &[F], i: u32) -> F
 
 // The value of an expression at these inputs, where these are the let names' values.
 #[cycle(value)]
-pub fn value<F: Field>(public: &[F], private: &[F], lets: &[F], expr: &Expr) -> F
+pub(crate) fn value<F: Field>(public: &[F], private: &[F], lets: &[F], expr: &Expr) -> F
     ensures { result ≡ value_of (given F.ops F.coding.element public.now private.now lets.now) (expr_of expr.now) }
 {
     match expr {
@@ -94,7 +94,7 @@ fn take_statement<F: Field>(
 }
 
 // Left minus right, for each assert in order.
-pub fn assert_values<F: Field>(
+pub(crate) fn assert_values<F: Field>(
     alloc: Global,
     public: &[F],
     private: &[F],

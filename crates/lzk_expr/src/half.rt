@@ -12,7 +12,7 @@ use std::mem;
 
 // The factors of a product so far. Most products have one, which needs no list.
 #[derive(Drop)]
-pub enum Factors {
+pub(crate) enum Factors {
     Nothing,
     One(Expr),
     Many(Vec<Expr>),
@@ -21,14 +21,14 @@ pub enum Factors {
 // The parts before, the sign of the product that is read, its factors so far, and whether a minus
 // stands before the next one.
 #[derive(Drop)]
-pub struct Half {
+pub(crate) struct Half {
     pub parts: Vec<Part>,
     pub minus: bool,
     pub factors: Factors,
     pub negated: bool,
 }
 
-pub fn empty(alloc: Global) -> Half
+pub(crate) fn empty(alloc: Global) -> Half
     ensures { half_of result ≡ empty }
 {
     Half {
@@ -90,7 +90,7 @@ fn signed(alloc: Global, minus: bool, expr: Expr) -> Result<Expr, AllocError>
 }
 
 // One more factor.
-pub fn take_atom(alloc: Global, half: &mut Half, atom: Expr) -> Result<(), AllocError>
+pub(crate) fn take_atom(alloc: Global, half: &mut Half, atom: Expr) -> Result<(), AllocError>
     ensures { OnOk result (half_of half.new ≡ with_atom (half_of half.old) (expr_of atom)) }
 {
     let atom = signed(alloc, half.negated, atom)?;
@@ -102,7 +102,7 @@ pub fn take_atom(alloc: Global, half: &mut Half, atom: Expr) -> Result<(), Alloc
 }
 
 // The product is a part; the next one has this sign.
-pub fn end_product(alloc: Global, half: &mut Half, minus: bool) -> Result<(), AllocError>
+pub(crate) fn end_product(alloc: Global, half: &mut Half, minus: bool) -> Result<(), AllocError>
     ensures { OnOk result (half_of half.new ≡ next_part (half_of half.old) minus) }
 {
     let factors = mem::replace(&mut half.factors, Factors::Nothing);
@@ -117,7 +117,7 @@ pub fn end_product(alloc: Global, half: &mut Half, minus: bool) -> Result<(), Al
 }
 
 // The sum that was read.
-pub fn ended(alloc: Global, half: Half) -> Result<Expr, AllocError>
+pub(crate) fn ended(alloc: Global, half: Half) -> Result<Expr, AllocError>
     ensures { IfOk result (λ e. expr_of e ≡ added (parts_of_half (half_of half))) }
 {
     let Half {

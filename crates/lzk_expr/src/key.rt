@@ -10,7 +10,7 @@ use std::hash::{Hash, Hasher};
 use std::marker::Model;
 
 #[derive(Drop)]
-pub struct Key<'a> {
+pub(crate) struct Key<'a> {
     bytes: &'a [u8],
 }
 

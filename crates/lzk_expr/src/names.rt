@@ -10,14 +10,14 @@ use std::collections::HashMap;
 
 // What a name stands for, by its number.
 #[derive(Clone, Copy)]
-pub enum Binding {
+pub(crate) enum Binding {
     Public(u32),
     Private(u32),
     Named(u32),
 }
 
 #[derive(Drop)]
-pub struct Names<'a> {
+pub(crate) struct Names<'a> {
     pub table: HashMap<Key<'a>, Binding>,
 }
 

@@ -7,6 +7,7 @@ ghost use Rattle.lzk_expr.specs.declared.fault.NumberError.TheVariants.{OutOfMem
 
 use crate::digits::{Reading, number};
 use crate::fault::{NumberError, NumberFault, NumberKind};
+use crate::text::Text;
 use crate::words::{content, next_line, next_word};
 use lzk_field::Field;
 use std::alloc::Global;
@@ -78,13 +79,13 @@ fn take_words<F: Field>(
 }
 
 // The numbers of the text, or its fault.
-fn numbers<F: Field>(alloc: Global, text: &[u8], count: u32) -> Result<Vec<F>, NumberError>
-    requires { length text.now ≤ 4194304 }
-    ensures { MatchResult result (λ v. numbers_of F.coding.size count text.now ≡ Ok (map F.coding.number v.items))
-        (λ e. Fails e (numbers_of F.coding.size count text.now)) }
+fn numbers<F: Field>(alloc: Global, text: &Text<'_>, count: u32) -> Result<Vec<F>, NumberError>
+    ensures { MatchResult result
+        (λ v. numbers_of F.coding.size count text.now.bytes.now ≡ Ok (map F.coding.number v.items))
+        (λ e. Fails e (numbers_of F.coding.size count text.now.bytes.now)) }
 {
     let mut found = Vec::new(alloc);
-    let mut left = Some(text);
+    let mut left = Some(text.bytes);
     let mut line = 1u32;
     while let Some(behind) = left {
         let (now, after) = next_line(behind);
@@ -110,5 +111,5 @@ pub fn read_numbers<F: Field>(alloc: Global, text: &[u8], count: u32) -> Result<
         MatchResult result (λ v. map F.coding.number v.items ≡ list) (λ e. e ≡ OutOfMemory) }
     ensures fault { IfErr result (IsFirstFault F.coding.size count text.now) }
 {
-    numbers(alloc, text, count)
+    numbers(alloc, &Text { bytes: text }, count)
 }

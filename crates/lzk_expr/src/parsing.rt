@@ -11,16 +11,17 @@ ghost use Rattle.lzk_expr.specs.declared.source_fault.SourceError.TheVariants.{O
 use crate::reader::Reader;
 use crate::source::Source;
 use crate::source_fault::{SourceError, SourceFault, SourceKind};
+use crate::text::Text;
 use crate::words::next_line;
 use std::alloc::Global;
 
 // The source that the text is, or its fault.
-fn source(alloc: Global, text: &[u8]) -> Result<Source, SourceError>
-    requires { length text.now ≤ 4194304 }
-    ensures { MatchResult result (λ s. SourceText text.now (tree_of s)) (IsFirstSourceFault text.now) }
+fn source(alloc: Global, text: &Text<'_>) -> Result<Source, SourceError>
+    ensures { MatchResult result (λ s. SourceText text.now.bytes.now (tree_of s))
+        (IsFirstSourceFault text.now.bytes.now) }
 {
     let mut reader = Reader::new(alloc);
-    let mut left = Some(text);
+    let mut left = Some(text.bytes);
     let mut line = 1u32;
     while let Some(behind) = left {
         let (now, after) = next_line(behind);
@@ -61,5 +62,5 @@ pub fn parse(alloc: Global, text: &[u8]) -> Result<Source, SourceError>
         MatchResult result (λ s. tree_of s ≡ source) (λ e. e ≡ OutOfMemory) }
     ensures fault { IfErr result (IsFirstSourceFault text.now) }
 {
-    source(alloc, text)
+    source(alloc, &Text { bytes: text })
 }

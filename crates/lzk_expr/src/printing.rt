@@ -16,7 +16,7 @@ use std::alloc::{AllocError, Global};
 
 // The names of inputs and lets, by their numbers.
 #[derive(Drop)]
-pub struct NameLists<'a> {
+pub(crate) struct NameLists<'a> {
     pub publics: Vec<&'a [u8]>,
     pub privates: Vec<&'a [u8]>,
     pub lets: Vec<&'a [u8]>,

@@ -6,14 +6,14 @@ ghost use Rattle.std.specs.List.{list_all};
 ghost use Rattle.lzk_profile.specs.Profile.{most_privates};
 ghost use Rattle.lzk_expr.specs.Tokens.{tokens, Key, Equals};
 ghost use Rattle.lzk_expr.specs.Sources.{first_keyword, keeps_limits, is_short, is_few, is_field, nothing_yet};
-ghost use Rattle.lzk_expr.specs.Readers.{before_of, IsReader, Binds, Declares, step_of, Takes, TakesLine, TakesAny};
+ghost use Rattle.lzk_expr.specs.Readers.{before_of, IsReader, Binds, Declares, step_of, Takes, TakesAny};
 ghost use Rattle.lzk_expr.specs.Readers.{IsField, is_name, is_inner, first_name, begins_equals, IsNamed, IsDefinition};
 ghost use Rattle.lzk_expr.specs.Readers.{IsNoDefinition, IsSplit, key_of, input_statement, input_count, keeps_bounds};
-ghost use Rattle.lzk_expr.specs.View.{statements_of, expr_of};
-ghost use Rattle.lzk_expr.specs.Trees.{DeclarePublic, DeclarePrivate, Define, Assertion, name_of};
+ghost use Rattle.lzk_expr.specs.View.{statements_of};
+ghost use Rattle.lzk_expr.specs.Trees.{DeclarePublic, DeclarePrivate, name_of};
 ghost use Rattle.lzk_expr.specs.declared.tokens.Keyword.TheVariants.{Field, Let, Assert};
 
-use crate::ast::{Expr, FieldId, Name, Statement};
+use crate::ast::{FieldId, Name, Statement};
 use crate::names::{Binding, Names};
 use crate::rules::{is_empty_line, scanned};
 use crate::source_fault::SourceKind;
@@ -25,7 +25,7 @@ use std::alloc::{AllocError, Global};
 
 // What was read so far: the field, the statements, the declared names, and how many there are of each.
 #[derive(Drop)]
-pub struct Reader<'a> {
+pub(crate) struct Reader<'a> {
     pub field: Option<FieldId>,
     pub statements: Vec<Statement>,
     pub names: Names<'a>,
@@ -35,9 +35,24 @@ pub struct Reader<'a> {
     pub asserts: u32,
 }
 
+// A name that may be declared.
+#[derive(Clone, Copy)]
+struct NewName<'a> {
+    bytes: &'a [u8],
+    ghost some: { 1 ≤ length bytes.now },
+    ghost short: { length bytes.now ≤ 32 },
+}
+
+// What is behind a keyword, with no name of more than 32 bytes.
+#[derive(Clone, Copy)]
+struct ShortNames<'a> {
+    bytes: &'a [u8],
+    ghost short: { list_all is_short (tokens bytes.now) ≡ true },
+}
+
 // The two kinds of inputs.
 #[derive(Clone, Copy)]
-pub enum Input {
+pub(crate) enum Input {
     Public,
     Private,
 }
@@ -237,95 +252,69 @@ impl<'a> Reader<'a> {
         Ok(())
     }
 
-    fn declare_input(&mut self, input: Input, name: &'a [u8]) -> Result<(), AllocError>
+    fn declare_input(&mut self, input: Input, name: &NewName<'a>) -> Result<(), AllocError>
         requires holds { IsReader self.old }
-        requires new { name_of (statements_of self.old.statements.items) name.now ≡ None }
-        requires some { 1 ≤ length name.now }
-        requires short { length name.now ≤ 32 }
+        requires new { name_of (statements_of self.old.statements.items) name.now.bytes.now ≡ None }
         requires room { input_count input self.old < most_privates }
-        ensures declares { OnOk result (Declares self.old self.new (input_statement input name.now)) }
+        ensures declares { OnOk result (Declares self.old self.new (input_statement input name.now.bytes.now)) }
         ensures count { OnOk result (input_count input self.new ≡ input_count input self.old + 1) }
         ensures lets { OnOk result (self.new.lets ≡ self.old.lets) }
     {
-        let declared = Name::new(name);
+        let declared = Name::new(name.bytes);
         match input {
             Input::Public => {
                 let binding = Binding::Public(self.publics);
-                self.bind(Statement::Public(declared), name, binding)?;
+                self.bind(Statement::Public(declared), name.bytes, binding)?;
                 self.publics += 1;
             }
             Input::Private => {
                 let binding = Binding::Private(self.privates);
-                self.bind(Statement::Private(declared), name, binding)?;
+                self.bind(Statement::Private(declared), name.bytes, binding)?;
                 self.privates += 1;
             }
         }
         Ok(())
     }
 
-    fn define(&mut self, name: &'a [u8], expr: Expr) -> Result<(), AllocError>
-        requires holds { IsReader self.old }
-        requires new { name_of (statements_of self.old.statements.items) name.now ≡ None }
-        requires some { 1 ≤ length name.now }
-        requires short { length name.now ≤ 32 }
-        requires room { self.old.lets + 1 < 2 ^ 32 }
-        ensures declares { OnOk result (Declares self.old self.new (Define name.now (expr_of expr))) }
-        ensures lets { OnOk result (self.new.lets ≡ self.old.lets + 1) }
-    {
-        let declared = Name::new(name);
-        let binding = Binding::Named(self.lets);
-        self.bind(Statement::Let(declared, expr), name, binding)?;
-        self.lets += 1;
-        Ok(())
-    }
-
-    fn assert(&mut self, left: Expr, right: Expr) -> Result<(), AllocError>
-        requires holds { IsReader self.old }
-        requires room { self.old.asserts < 131072 }
-        ensures declares { OnOk result (Declares self.old self.new (Assertion (expr_of left) (expr_of right))) }
-        ensures lets { OnOk result (self.new.lets ≡ self.old.lets) }
-    {
-        self.statements.push(Statement::Assert(left, right))?;
-        self.asserts += 1;
-        Ok(())
-    }
-
     fn take_inputs(
         &mut self,
         input: Input,
-        bytes: &'a [u8],
+        line: &ShortNames<'a>,
     ) -> Result<Option<SourceKind>, AllocError>
         requires holds { IsReader self.old }
-        requires short { list_all is_short (tokens bytes.now) ≡ true }
-        requires room { input_count input self.old + length (tokens bytes.now) ≤ most_privates }
-        ensures { IfOk result (λ broken. Takes self.old self.new (Key (key_of input) ∷ tokens bytes.now) broken) }
+        requires room { input_count input self.old + length (tokens line.now.bytes.now) ≤ most_privates }
+        ensures { IfOk result (λ broken.
+            Takes self.old self.new (Key (key_of input) ∷ tokens line.now.bytes.now) broken) }
     {
-        if next_token(bytes).is_none() {
+        if next_token(line.bytes).is_none() {
             return Ok(Some(SourceKind::Syntax));
         }
-        if !are_names(bytes) {
+        if !are_names(line.bytes) {
             return Ok(Some(SourceKind::Syntax));
         }
-        let mut rest = bytes;
+        let mut rest = line.bytes;
         while let Some((name, after)) = first_name(rest) {
             if self.names.find(name).is_some() {
                 return Ok(Some(SourceKind::Twice));
             }
-            self.declare_input(input, name)?;
+            self.declare_input(input, &NewName { bytes: name })?;
             rest = after;
         }
         Ok(None)
     }
 
-    fn take_let(&mut self, alloc: Global, bytes: &'a [u8]) -> Result<Option<SourceKind>, AllocError>
+    fn take_let(
+        &mut self,
+        alloc: Global,
+        line: &ShortNames<'a>,
+    ) -> Result<Option<SourceKind>, AllocError>
         requires holds { IsReader self.old }
         requires field { is_some self.old.field ≡ true }
-        requires short { list_all is_short (tokens bytes.now) ≡ true }
         requires room { self.old.lets + 1 < 2 ^ 32 }
-        ensures { IfOk result (λ broken. Takes self.old self.new (Key Let ∷ tokens bytes.now) broken) }
+        ensures { IfOk result (λ broken. Takes self.old self.new (Key Let ∷ tokens line.now.bytes.now) broken) }
     {
         let field = self.field.unwrap();
-        let Some((name, rest)) = definition(bytes) else {
+        let Some((name, rest)) = definition(line.bytes) else {
             return Ok(Some(SourceKind::Syntax));
         };
         let declared = self.names.find(name).is_some();
@@ -341,7 +330,10 @@ impl<'a> Reader<'a> {
         if !sum.below {
             return Ok(Some(SourceKind::TooLarge));
         }
-        self.define(name, sum.expr)?;
+        let defined = Name::new(name);
+        let binding = Binding::Named(self.lets);
+        self.bind(Statement::Let(defined, sum.expr), name, binding)?;
+        self.lets += 1;
         Ok(None)
     }
 
@@ -371,7 +363,9 @@ impl<'a> Reader<'a> {
         if !both(left.below, right.below) {
             return Ok(Some(SourceKind::TooLarge));
         }
-        self.assert(left.expr, right.expr)?;
+        self.statements
+            .push(Statement::Assert(left.expr, right.expr))?;
+        self.asserts += 1;
         Ok(None)
     }
 
@@ -387,25 +381,27 @@ impl<'a> Reader<'a> {
         requires room { self.old.lets + 1 < 2 ^ 32 }
         ensures { IfOk result (λ broken. Takes self.old self.new (Key keyword ∷ tokens bytes.now) broken) }
     {
+        let line = &ShortNames { bytes };
         match keyword {
             Keyword::Field => Ok(self.take_field(bytes)),
-            Keyword::Public => self.take_inputs(Input::Public, bytes),
-            Keyword::Private => self.take_inputs(Input::Private, bytes),
-            Keyword::Let => self.take_let(alloc, bytes),
+            Keyword::Public => self.take_inputs(Input::Public, line),
+            Keyword::Private => self.take_inputs(Input::Private, line),
+            Keyword::Let => self.take_let(alloc, line),
             Keyword::Assert => self.take_assert(alloc, bytes),
         }
     }
 
-    // Takes a statement line, or answers the first rule that it breaks.
-    fn take_line(
-        &mut self,
-        alloc: Global,
-        bytes: &'a [u8],
-    ) -> Result<Option<SourceKind>, AllocError>
+    // Takes a line of the text, or answers the first rule that it breaks. A line with nothing before its
+    // comment is skipped.
+    pub fn take(&mut self, alloc: Global, line: &'a [u8]) -> Result<Option<SourceKind>, AllocError>
         requires holds { IsReader self.old }
         requires room { self.old.lets + 1 < 2 ^ 32 }
-        ensures { IfOk result (λ broken. TakesLine self.old self.new bytes.now broken) }
+        ensures { IfOk result (λ broken. TakesAny self.old self.new line.now broken) }
     {
+        let bytes = content(line);
+        if is_empty_line(bytes) {
+            return Ok(None);
+        }
         let scan = scanned(bytes);
         if !scan.clean {
             return Ok(Some(SourceKind::Character));
@@ -420,19 +416,5 @@ impl<'a> Reader<'a> {
             return Ok(Some(SourceKind::Limit));
         }
         self.take_form(alloc, keyword, rest)
-    }
-
-    // Takes a line of the text, or answers the first rule that it breaks. A line with nothing before its
-    // comment is skipped.
-    pub fn take(&mut self, alloc: Global, line: &'a [u8]) -> Result<Option<SourceKind>, AllocError>
-        requires holds { IsReader self.old }
-        requires room { self.old.lets + 1 < 2 ^ 32 }
-        ensures { IfOk result (λ broken. TakesAny self.old self.new line.now broken) }
-    {
-        let bytes = content(line);
-        if is_empty_line(bytes) {
-            return Ok(None);
-        }
-        self.take_line(alloc, bytes)
     }
 }

@@ -12,7 +12,7 @@ use std::mem;
 
 // What a token adds.
 #[derive(Drop)]
-pub enum Step {
+pub(crate) enum Step {
     Operand(Expr),
     Plus,
     Minus,
@@ -25,13 +25,13 @@ pub enum Step {
 // What stands before each open parenthesis, the innermost last; what is read now; and whether a
 // product is there.
 #[derive(Drop)]
-pub struct Reads {
+pub(crate) struct Reads {
     pub outer: Vec<Half>,
     pub now: Half,
     pub ready: bool,
 }
 
-pub fn nothing_read(alloc: Global) -> Reads
+pub(crate) fn nothing_read(alloc: Global) -> Reads
     ensures { reads_of result ≡ nothing_read }
 {
     Reads {

@@ -1,6 +1,6 @@
 //! The rules of a line that need no form.
 
-ghost use Rattle.std.specs.Prelude.{◌≡◌, ℕ, List, ◌≤◌, ◌+◌, ◌∷◌, true, false, IfSome, MatchOption};
+ghost use Rattle.std.specs.Prelude.{◌≡◌, ℕ, List, ◌≤◌, ◌+◌, ◌∷◌, true, false, MatchOption};
 ghost use Rattle.lzk_expr.specs.Tokens.{tokens, token_of, word_token, sign_token, keeps_characters, is_empty_line, is_sign};
 ghost use Rattle.lzk_expr.specs.TokenReadings.{piece_of, is_clean, goes_plainly};
 ghost use Rattle.lzk_expr.specs.Readers.{keeps_bounds};
@@ -22,7 +22,7 @@ fn keeps_characters(line: &[u8]) -> bool
         .all(|b| in_word(*b) || is_blank(*b) || is_sign(*b))
 }
 
-pub fn is_empty_line(line: &[u8]) -> bool
+pub(crate) fn is_empty_line(line: &[u8]) -> bool
     ensures { result ≡ is_empty_line line.now }
 {
     line.iter().all(|b| is_blank(*b))
@@ -35,32 +35,46 @@ fn is_short_word(word: &[u8]) -> bool
     word.len() <= 32 || is_digit(word[0])
 }
 
-// How many parentheses are open behind a sign, where at most 64 are.
-fn behind_sign(depth: u32, sign: u8) -> Option<u32>
-    requires { depth ≤ 64 }
-    ensures within { IfSome result (λ n. n ≤ 64) }
-    ensures keeps { (behind : _) → MatchOption result (keeps_bounds depth (sign_token sign ∷ behind) ≡ false)
-        (λ n. keeps_bounds depth (sign_token sign ∷ behind) ≡ keeps_bounds n behind) }
+// How many parentheses are open, at most 64.
+#[derive(Clone, Copy)]
+struct Depth {
+    count: u32,
+    ghost within: { count ≤ 64 },
+}
+
+// The depth where none is open.
+fn unopened() -> Depth
+    ensures { result.count ≡ 0 }
+{
+    Depth { count: 0 }
+}
+
+// The depth behind a sign.
+fn behind_sign(depth: Depth, sign: u8) -> Option<Depth>
+    ensures { (behind : _) → MatchOption result (keeps_bounds depth.count (sign_token sign ∷ behind) ≡ false)
+        (λ next. keeps_bounds depth.count (sign_token sign ∷ behind) ≡ keeps_bounds next.count behind) }
 {
     match sign {
         b'(' => {
-            if depth >= 64 {
+            if depth.count >= 64 {
                 return None;
             }
-            Some(depth + 1)
+            Some(Depth {
+                count: depth.count + 1,
+            })
         }
-        b')' => Some(depth.saturating_sub(1)),
+        b')' => Some(Depth {
+            count: depth.count.saturating_sub(1),
+        }),
         _ => Some(depth),
     }
 }
 
-// The same behind a piece that is no name of more than 32 bytes.
-fn behind_piece(depth: u32, piece: Piece<'_>) -> Option<u32>
-    requires { depth ≤ 64 }
-    ensures within { IfSome result (λ n. n ≤ 64) }
-    ensures keeps { (behind : _)
-        → MatchOption result (keeps_bounds depth (token_of (piece_of piece.entry) ∷ behind) ≡ false)
-        (λ n. keeps_bounds depth (token_of (piece_of piece.entry) ∷ behind) ≡ keeps_bounds n behind) }
+// The depth behind a piece that is no name of more than 32 bytes.
+fn behind_piece(depth: Depth, piece: Piece<'_>) -> Option<Depth>
+    ensures { (behind : _)
+        → MatchOption result (keeps_bounds depth.count (token_of (piece_of piece.entry) ∷ behind) ≡ false)
+        (λ next. keeps_bounds depth.count (token_of (piece_of piece.entry) ∷ behind) ≡ keeps_bounds next.count behind) }
 {
     match piece {
         Piece::Word(word) => {
@@ -128,14 +142,14 @@ fn is_plain_line(line: &[u8]) -> bool
 // What a line keeps: whether each byte is a blank or of a token, and then whether its names have at most 32 bytes
 // and at most 64 parentheses are open at any place.
 #[derive(Clone, Copy)]
-pub struct Scan {
+pub(crate) struct Scan {
     pub clean: bool,
     pub bounded: bool,
 }
 
 // One pass over the line, and piece by piece where it is no plain one.
 #[tactic(auto, using(crate::proofs::Plain::scanning))]
-pub fn scanned(line: &[u8]) -> Scan
+pub(crate) fn scanned(line: &[u8]) -> Scan
     ensures clean { result.clean ≡ keeps_characters line.now }
     ensures bounded { result.clean ≡ true → result.bounded ≡ keeps_bounds 0 (tokens line.now) }
 {
@@ -145,7 +159,7 @@ pub fn scanned(line: &[u8]) -> Scan
             bounded: true,
         };
     }
-    let mut depth = 0u32;
+    let mut depth = unopened();
     let mut rest = line;
     while let Some((piece, after)) = next_piece(rest) {
         if !is_clean(piece) {

@@ -19,7 +19,7 @@ use std::alloc::{AllocError, Global};
 
 // An expression, whether its names are declared, and whether its numbers are below the field's size.
 #[derive(Drop)]
-pub struct Sum {
+pub(crate) struct Sum {
     pub expr: Expr,
     pub known: bool,
     pub below: bool,
@@ -85,14 +85,14 @@ fn added(field: FieldId, names: &Names<'_>, symbol: Symbol<'_>) -> Addition
     Addition { step, known, below }
 }
 
-pub fn both(x: bool, y: bool) -> bool
+pub(crate) fn both(x: bool, y: bool) -> bool
     ensures { result ≡ (x && y) }
 {
     x && y
 }
 
 // The expression that the bytes are, if they are one.
-pub fn read_sum(
+pub(crate) fn read_sum(
     alloc: Global,
     field: FieldId,
     names: &Names<'_>,

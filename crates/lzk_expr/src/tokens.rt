@@ -20,14 +20,14 @@ pub enum Keyword {
 
 /// A word, or a byte that is in no word and no blank.
 #[derive(Clone, Copy)]
-pub enum Piece<'a> {
+pub(crate) enum Piece<'a> {
     Word(&'a [u8]),
     Sign(u8),
 }
 
 /// A token as it is read.
 #[derive(Clone, Copy)]
-pub enum Symbol<'a> {
+pub(crate) enum Symbol<'a> {
     Number(u128),
     Large,
     Name(&'a [u8]),
@@ -42,13 +42,13 @@ pub enum Symbol<'a> {
     Other,
 }
 
-pub fn is_digit(b: u8) -> bool
+pub(crate) fn is_digit(b: u8) -> bool
     ensures { result ≡ is_digit b }
 {
     b'0' <= b && b <= b'9'
 }
 
-pub fn in_word(b: u8) -> bool
+pub(crate) fn in_word(b: u8) -> bool
     ensures { result ≡ in_word b }
 {
     b'A' <= b && b <= b'Z' || b'a' <= b && b <= b'z' || is_digit(b) || b == b'_'
@@ -73,7 +73,7 @@ fn word_len(bytes: &[u8]) -> usize
 }
 
 // The first piece, and what is behind it.
-pub fn next_piece(bytes: &[u8]) -> Option<(Piece<'_>, &[u8])>
+pub(crate) fn next_piece(bytes: &[u8]) -> Option<(Piece<'_>, &[u8])>
     ensures { MatchOption result (pieces bytes.now ≡ []) (λ x. IsPiece bytes.now (piece_of x.0) x.1.now) }
 {
     match word_at(bytes) {
@@ -139,7 +139,7 @@ fn sign_symbol(b: u8) -> Symbol<'static>
 }
 
 // The first token, and what is behind it.
-pub fn next_token(bytes: &[u8]) -> Option<(Symbol<'_>, &[u8])>
+pub(crate) fn next_token(bytes: &[u8]) -> Option<(Symbol<'_>, &[u8])>
     ensures { MatchOption result (tokens bytes.now ≡ []) (λ x. IsNext bytes.now x.0 x.1.now) }
 {
     match next_piece(bytes) {

@@ -8,7 +8,7 @@ use Rattle.lzk_level.specs.declared.node.Gate.{Gate}
 use Rattle.lzk_level.specs.Nodes.{Nodes, node_count, node_values, with_gate, gate_value, IsNode}
 use Rattle.lzk_level.proofs.MadeLaws.{grown-next, node-more}
 use Rattle.lzk_level.proofs.ValueLaws.{Fits, values-grown, value-next, public-value, private-value}
-use Rattle.lzk_reduce.specs.Renumbering.{at}
+use Rattle.lzk_circuit_reduce.specs.Renumbering.{at}
 use Rattle.lzk_gadgets.specs.Claims.{Claims, AreInputs, value, values, AreNodes, AreZero, AreAllZero, Holds, Keeps, Makes, Yields, Adds}
 
 pub nodes_more : (n m : ℕ) (ks : List ℕ) → n ≤ m → AreNodes n ks → AreNodes m ks

@@ -13,17 +13,29 @@
 //! let circuit = s.finish()?;
 //! ```
 //!
-//! and the prover of 5 and 11 has `spelling(alloc, 6, 4)?` for private inputs.
+//! and the prover of 5 and 11 has `spelling(alloc, 6, 4)?` for private inputs. A small circuit of version 1 becomes a
+//! gadget by [`assert_circuit`]: behind the call all asserts hold exactly where they held before it and the circuit is
+//! satisfied by the nodes' values. A caller writes
+//!
+//! ```text
+//! let inputs = [s.public(0), s.private(0)];
+//! assert_circuit(alloc, &mut s, &square, &inputs)?;
+//! ```
 #![tactic(auto)]
 
 mod bits;
+mod circuits;
+mod inputs;
 mod inverses;
 mod laws;
+mod layers;
 mod numbers;
 mod statement;
 mod texts;
 mod witness;
 
+pub use circuits::assert_circuit;
+pub use inputs::{private_nodes, public_nodes};
 pub use laws::{gadget_laws, inverse_laws, text_laws};
 pub use statement::Statement;
 pub use witness::{spelling, text_bits};

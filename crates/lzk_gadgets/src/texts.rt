@@ -30,7 +30,7 @@ impl Statement {
         Ok(node)
     }
 
-    /// The same eight by eight: where the nodes are the bits of a text, its bytes ([`crate::text_laws`]).
+    /// What nodes are worth eight by eight: where they are the bits of a text, its bytes ([`crate::text_laws`]).
     pub fn bytes(&mut self, alloc: Global, bits: &[Node]) -> Result<Vec<Node>, AllocError>
         requires nodes { AreNodes (node_count self.old.nodes) bits.now }
         ensures yields { IfOk result (λ nodes. Yields ops (9 * (length bits.now / 8)) self.old self.new nodes.items) }

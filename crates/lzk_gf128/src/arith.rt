@@ -116,7 +116,7 @@ fn over_128(n: u128) -> u128
 
 /// A polynomial below degree 256 in two words: a product, or a sum of products, before it is reduced.
 #[derive(Clone, Copy)]
-pub struct Wide {
+pub(crate) struct Wide {
     pub low: u128,
     pub high: u128,
 }
@@ -215,13 +215,13 @@ impl Wide {
 
 /// A product for a long sum. It is a call of its own, so that the sum does not take the product's registers.
 #[inline(never)]
-pub fn long_product(a: u128, b: u128) -> Wide
+pub(crate) fn long_product(a: u128, b: u128) -> Wide
     ensures { in_wide result ≡ product 128 a b }
 {
     Wide::product(a, b)
 }
 
-pub fn multiply(a: u128, b: u128) -> u128
+pub(crate) fn multiply(a: u128, b: u128) -> u128
     ensures { result ≡ product 128 a b }
 {
     Wide::product(a, b).reduced()
@@ -246,7 +246,7 @@ fn spread(n: u32) -> u64
 }
 
 // Squaring moves bit i to 2 * i: no cross terms are left. The upper half comes first, since its bits are folded.
-pub fn square(a: u128) -> u128
+pub(crate) fn square(a: u128) -> u128
     ensures { result ≡ product 128 a a }
 {
     let s = spread((a >> 96) as u32);
@@ -271,7 +271,7 @@ fn meet(upper: u128, n: u32, lower: u128) -> u128
 }
 
 // a^(2^128 - 2), by the powers 2^k - 1 for k up to 127
-pub fn invert(a: u128) -> u128
+pub(crate) fn invert(a: u128) -> u128
     ensures { result ≡ inverse a }
 {
     let most_2 = meet(a, 1, a);

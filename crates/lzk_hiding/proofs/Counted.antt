@@ -13,7 +13,7 @@ use Rattle.lzk_layout.specs.Sizes.{AreBounded, params_of}
 use Rattle.lzk_layout.proofs.SizeLaws.{params_bounded}
 use Rattle.lzk_sumcheck.specs.declared.script.Script.{Script}
 use Rattle.lzk_accept.specs.declared.challenges.Challenges.{Challenges}
-use Rattle.lzk_tableau.specs.Tableau.{random}
+use Rattle.lzk_ligero_tableau.specs.Tableau.{random}
 use Rattle.lzk_hiding.specs.Counting.{HasExactly}
 use Rattle.lzk_hiding.specs.Laws.{IsCase, LeadsTo, SeenEquallyOften}
 use Rattle.lzk_soundness.specs.Sumchecks.Passing.{Passes}

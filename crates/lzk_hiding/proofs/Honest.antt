@@ -25,10 +25,10 @@ use Rattle.lzk_sumcheck.specs.Messages.{layered_at, true_round, true_a, true_b}
 use Rattle.lzk_sumcheck.specs.Rounds.{round}
 use Rattle.lzk_sumcheck.specs.Script.{first_challenges, point_a, point_b}
 use Rattle.lzk_sumcheck.proofs.ProvingLaws.{sent-rises}
-use Rattle.lzk_tableau.specs.Tableau.{randoms, tableau, column}
-use Rattle.lzk_complete.specs.Answered.{Answers, answers_of}
-use Rattle.lzk_complete.specs.Proving.{HaveCounts}
-use Rattle.lzk_complete.proofs.Standing.{length_rows}
+use Rattle.lzk_ligero_tableau.specs.Tableau.{randoms, tableau, column}
+use Rattle.lzk_ligero_proof.specs.Answered.{Answers, answers_of}
+use Rattle.lzk_ligero_proof.specs.Proving.{HaveCounts}
+use Rattle.lzk_ligero_proof.proofs.Standing.{length_rows}
 use Rattle.lzk_soundness.specs.Chance.Few.{IsIn}
 use Rattle.lzk_soundness.specs.Chance.Sets.{sets_of}
 use Rattle.lzk_soundness.specs.Draws.Game.{AgreeBelow, IsProver}

@@ -14,15 +14,15 @@ use Rattle.lzk_layout.proofs.SizeLaws.{params_bounded}
 use Rattle.lzk_sumcheck.specs.declared.script.Script.{Script}
 use Rattle.lzk_accept.specs.declared.challenges.Challenges.{Challenges}
 use Rattle.lzk_accept.specs.Checks.{coefficient_of, right_of, combined_row_of}
-use Rattle.lzk_answers.specs.Answers.{low_degree_answer, linear_answer, quadratic_answer}
-use Rattle.lzk_answers.specs.Laws.{quadratic_of}
-use Rattle.lzk_answers.specs.Opened.{AreOpened, Stands}
-use Rattle.lzk_answers.specs.Rows.{AreRows}
-use Rattle.lzk_answers.proofs.PassLaws.{low_degree_passes, linear_passes, quadratic_passes}
-use Rattle.lzk_answers.proofs.RowLaws.{columns_open}
-use Rattle.lzk_answers.proofs.StandLaws.{combined_rows, zeros_stand, linear_sum_stands}
-use Rattle.lzk_tableau.specs.Tableau.{committed, tableau, column}
-use Rattle.lzk_complete.proofs.Standing.{length_rows, rows_are, rows_stand}
+use Rattle.lzk_ligero_answers.specs.Answers.{low_degree_answer, linear_answer, quadratic_answer}
+use Rattle.lzk_ligero_answers.specs.Laws.{quadratic_of}
+use Rattle.lzk_ligero_answers.specs.Opened.{AreOpened, Stands}
+use Rattle.lzk_ligero_answers.specs.Rows.{AreRows}
+use Rattle.lzk_ligero_answers.proofs.PassLaws.{low_degree_passes, linear_passes, quadratic_passes}
+use Rattle.lzk_ligero_answers.proofs.RowLaws.{columns_open}
+use Rattle.lzk_ligero_answers.proofs.StandLaws.{combined_rows, zeros_stand, linear_sum_stands}
+use Rattle.lzk_ligero_tableau.specs.Tableau.{committed, tableau, column}
+use Rattle.lzk_ligero_proof.proofs.Standing.{length_rows, rows_are, rows_stand}
 use Rattle.lzk_soundness.specs.Sumchecks.Passing.{Passes}
 use Rattle.lzk_hiding.specs.Seen.{IsSeen}
 use Rattle.lzk_hiding.specs.Laws.{IsCase, SeenPasses, ProofsAreSeen}

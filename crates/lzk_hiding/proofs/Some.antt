@@ -27,16 +27,16 @@ use Rattle.lzk_sumcheck.specs.Messages.{IsLayerSent}
 use Rattle.lzk_accept.specs.declared.challenges.Challenges.{Challenges}
 use Rattle.lzk_accept.specs.Checks as checks
 use Rattle.lzk_accept.specs.Checks.{at_row, coefficient_of, right_of, quadratic_values, wanted_of}
-use Rattle.lzk_answers.specs.Answers.{low_degree_answer, linear_answer, quadratic_answer}
-use Rattle.lzk_answers.specs.Laws.{HaveZeros, low_degree_of, linear_of, quadratic_of}
-use Rattle.lzk_answers.specs.Opened.{Satisfies, Stands}
-use Rattle.lzk_answers.specs.Rows.{row, AreRows}
-use Rattle.lzk_answers.proofs.AnswerLaws.{are_values}
-use Rattle.lzk_answers.proofs.PassLaws.{apart}
-use Rattle.lzk_answers.proofs.RowLaws.{low_degree_short, linear_short, quadratic_short}
-use Rattle.lzk_answers.proofs.StandLaws.{combined_rows, zeros_stand, linear_sum_stands}
-use Rattle.lzk_tableau.specs.Tableau.{random, randoms, committed, tableau, column, row1_words, row2_words, rows_words}
-use Rattle.lzk_complete.proofs.Standing.{length_rows, rows_are, rows_stand}
+use Rattle.lzk_ligero_answers.specs.Answers.{low_degree_answer, linear_answer, quadratic_answer}
+use Rattle.lzk_ligero_answers.specs.Laws.{HaveZeros, low_degree_of, linear_of, quadratic_of}
+use Rattle.lzk_ligero_answers.specs.Opened.{Satisfies, Stands}
+use Rattle.lzk_ligero_answers.specs.Rows.{row, AreRows}
+use Rattle.lzk_ligero_answers.proofs.AnswerLaws.{are_values}
+use Rattle.lzk_ligero_answers.proofs.PassLaws.{apart}
+use Rattle.lzk_ligero_answers.proofs.RowLaws.{low_degree_short, linear_short, quadratic_short}
+use Rattle.lzk_ligero_answers.proofs.StandLaws.{combined_rows, zeros_stand, linear_sum_stands}
+use Rattle.lzk_ligero_tableau.specs.Tableau.{random, randoms, committed, tableau, column, row1_words, row2_words, rows_words}
+use Rattle.lzk_ligero_proof.proofs.Standing.{length_rows, rows_are, rows_stand}
 use Rattle.lzk_soundness.specs.Sumchecks.Passing.{Passes}
 use Rattle.lzk_hiding.specs.Seen.{random_count, IsSeen}
 use Rattle.lzk_hiding.specs.Laws.{IsCase}

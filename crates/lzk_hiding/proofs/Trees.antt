@@ -24,10 +24,10 @@ use Rattle.lzk_accept.specs.Challenges.{Transcript}
 use Rattle.lzk_accept.specs.Checks.{column}
 use Rattle.lzk_soundness.specs.Sumchecks.Passing.{Passes}
 use Rattle.lzk_layout.proofs.SizeLaws.{params_bounded}
-use Rattle.lzk_tableau.specs.Tableau as prover
-use Rattle.lzk_complete.specs.Proving.{IsProofOf, given}
-use Rattle.lzk_complete.proofs.OpenedColumns.{block_is}
-use Rattle.lzk_complete.proofs.Standing.{length_rows}
+use Rattle.lzk_ligero_tableau.specs.Tableau as prover
+use Rattle.lzk_ligero_proof.specs.Proving.{IsProofOf, given}
+use Rattle.lzk_ligero_proof.proofs.OpenedColumns.{block_is}
+use Rattle.lzk_ligero_proof.proofs.Standing.{length_rows}
 use Rattle.lzk_verify.specs.Checks.{leaf_at, HasRoot}
 use Rattle.lzk_verify.specs.declared.verdict.Verdict.TheVariants.{Accepted}
 use Rattle.lzk_verify.specs.Verdict.{IsJudged}

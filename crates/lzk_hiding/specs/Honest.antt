@@ -5,8 +5,8 @@ use Rattle.lzk_field.specs.Ring.{Ops}
 use Rattle.lzk_circuit.specs.Valid.{Wiring, IsValid}
 use Rattle.lzk_circuit.specs.Wires.{inputs_of}
 use Rattle.lzk_circuit.specs.Checks.{IsSatisfied}
-use Rattle.lzk_tableau.specs.Tableau.{column}
-use Rattle.lzk_complete.specs.Proving.{HaveCounts}
+use Rattle.lzk_ligero_tableau.specs.Tableau.{column}
+use Rattle.lzk_ligero_proof.specs.Proving.{HaveCounts}
 use Rattle.lzk_soundness.specs.Chance.Few.{IsIn}
 use Rattle.lzk_soundness.specs.Draws.Game.{IsProver}
 use Rattle.lzk_soundness.specs.Draws.Schedule.{script_of}

@@ -12,7 +12,7 @@ use Rattle.lzk_layout.specs.Sizes.{params_of}
 use Rattle.lzk_sumcheck.specs.declared.script.Script.{Script}
 use Rattle.lzk_sumcheck.specs.Script.{HasShape}
 use Rattle.lzk_accept.specs.declared.challenges.Challenges.{Challenges}
-use Rattle.lzk_complete.specs.Proving.{HaveCounts, IsProofOf, given}
+use Rattle.lzk_ligero_proof.specs.Proving.{HaveCounts, IsProofOf, given}
 use Rattle.lzk_hiding.specs.Counting.{HasExactly, AreEquallyMany}
 use Rattle.lzk_soundness.specs.Sumchecks.Passing.{Passes}
 use Rattle.lzk_hiding.specs.Seen.{random_count, words_for, idle_count, IsSeen, AreColumns}

@@ -15,8 +15,8 @@ use Rattle.lzk_layout.specs.Places.{depth}
 use Rattle.lzk_sumcheck.specs.declared.script.Script.{Script}
 use Rattle.lzk_sumcheck.specs.Messages.{IsLayerSent}
 use Rattle.lzk_accept.specs.declared.challenges.Challenges.{Challenges}
-use Rattle.lzk_tableau.specs.Tableau.{randoms, tableau, column, row1_words, row2_words, nonce_words}
-use Rattle.lzk_complete.specs.Answered.{answers_of, AreSent}
+use Rattle.lzk_ligero_tableau.specs.Tableau.{randoms, tableau, column, row1_words, row2_words, nonce_words}
+use Rattle.lzk_ligero_proof.specs.Answered.{answers_of, AreSent}
 
 -- ---- random elements
 

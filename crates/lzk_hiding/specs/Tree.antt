@@ -16,8 +16,8 @@ use Rattle.lzk_accept.specs.Checks.{column}
 use Rattle.lzk_soundness.specs.Sumchecks.Passing.{Passes}
 use Rattle.lzk_verify.specs.declared.verdict.Verdict.TheVariants.{Accepted}
 use Rattle.lzk_verify.specs.Verdict.{IsJudged}
-use Rattle.lzk_tableau.specs.Tableau.{leaves}
-use Rattle.lzk_complete.specs.Proving.{IsProofOf, given}
+use Rattle.lzk_ligero_tableau.specs.Tableau.{leaves}
+use Rattle.lzk_ligero_proof.specs.Proving.{IsProofOf, given}
 
 module _ {A : Type 0} (o : Ops A) (e : Coding A) (c : Wiring A) (columns : List ℕ) (view : Proof A)
     (nonces : List (List ℕ)) (others : ℕ → List ℕ) where

@@ -98,7 +98,7 @@ fn element_part(params: &Params, digests: u32, k: u32) -> Option<ProofPart>
 }
 
 /// The part of the field of number `k`, in a file of so many digests. None behind the last.
-pub fn part_of(params: &Params, digests: u32, k: u32) -> Option<ProofPart>
+pub(crate) fn part_of(params: &Params, digests: u32, k: u32) -> Option<ProofPart>
     requires { AreBounded params.now }
     ensures { result ≡ slice_get (parts params.now digests) k }
 {
@@ -111,7 +111,7 @@ pub fn part_of(params: &Params, digests: u32, k: u32) -> Option<ProofPart>
 }
 
 /// How many bytes a part's field has.
-pub fn width_of<F: Field>(part: ProofPart) -> usize
+pub(crate) fn width_of<F: Field>(part: ProofPart) -> usize
     ensures width { result ≡ part_width (shape F.coding.bytes F.coding.size) part }
     ensures some { 1 ≤ result }
     ensures few { result ≤ 32 }

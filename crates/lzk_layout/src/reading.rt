@@ -14,7 +14,7 @@ use lzk_field::Field;
 use lzk_profile::FILE_LETTER;
 
 /// The check of the field that begins these bytes failed.
-pub fn stop(kind: ProofKind, bytes: &[u8]) -> Stop
+pub(crate) fn stop(kind: ProofKind, bytes: &[u8]) -> Stop
     ensures { result ≡ record { left = length bytes.now; kind = kind } }
 {
     Stop {
@@ -25,7 +25,7 @@ pub fn stop(kind: ProofKind, bytes: &[u8]) -> Stop
 
 /// What is behind the magic.
 #[tactic(auto, unfolding(crate::specs::Fields::field_at, crate::specs::Fields::wrong))]
-pub fn magic_of(bytes: &[u8]) -> Result<&[u8], Stop>
+pub(crate) fn magic_of(bytes: &[u8]) -> Result<&[u8], Stop>
     ensures { (shape : Shape)
         → Gives (λ rest. (76 ∷ file_letter ∷ 80 ∷ 49 ∷ [], rest.now)) result (field_at shape magic bytes.now) }
 {
@@ -39,7 +39,7 @@ pub fn magic_of(bytes: &[u8]) -> Result<&[u8], Stop>
 /// 32 bytes, and what is behind them.
 #[inline]
 #[tactic(auto, unfolding(crate::specs::Fields::field_at, crate::specs::Fields::wrong))]
-pub fn block_of(bytes: &[u8]) -> Result<(&[u8; 32], &[u8]), Stop>
+pub(crate) fn block_of(bytes: &[u8]) -> Result<(&[u8; 32], &[u8]), Stop>
     ensures read { (shape : Shape) → Gives (λ x. (x.0.now, x.1.now)) result (field_at shape plain bytes.now) }
     ensures length { IfOk result (λ x. length x.0.now ≡ 32) }
 {
@@ -67,7 +67,7 @@ fn element_of<F: Field>(bytes: &[u8]) -> Result<(F, &[u8]), Stop>
 }
 
 /// Elements in place of those of the list, and what is behind them.
-pub fn elements_into<'a, F: Field>(out: &mut [F], bytes: &'a [u8]) -> Result<&'a [u8], Stop>
+pub(crate) fn elements_into<'a, F: Field>(out: &mut [F], bytes: &'a [u8]) -> Result<&'a [u8], Stop>
     ensures { Gives (λ rest. (map (element_field F.coding.bytes F.coding.number) out.new, rest.now)) result
         (fields_at (shape F.coding.bytes F.coding.size) (replicate (length out.old) element) bytes.now) }
 {
@@ -81,7 +81,7 @@ pub fn elements_into<'a, F: Field>(out: &mut [F], bytes: &'a [u8]) -> Result<&'a
 }
 
 /// To each nonce its column of so many elements, in place of those there, and what is behind them.
-pub fn opened_into<'a, F: Field>(
+pub(crate) fn opened_into<'a, F: Field>(
     nonces: &mut [[u8; 32]],
     columns: &mut [F],
     rows: usize,
@@ -125,7 +125,7 @@ fn count_of(bytes: &[u8]) -> Result<(usize, &[u8]), Stop>
 
 /// The path behind its count, in place of the digests there.
 #[tactic(auto, unfolding(crate::specs::Fields::path_at))]
-pub fn path_into<'a>(path: &mut Path, bytes: &'a [u8]) -> Result<&'a [u8], Stop>
+pub(crate) fn path_into<'a>(path: &mut Path, bytes: &'a [u8]) -> Result<&'a [u8], Stop>
     requires { most_digests ≤ path.old.room }
     ensures room { path.new.room ≡ path.old.room }
     ensures read { (shape : Shape)

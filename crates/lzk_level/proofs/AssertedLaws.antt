@@ -10,10 +10,10 @@ use Rattle.lzk_circuit.specs.declared.layer.Layer.{Layer}
 use Rattle.lzk_circuit.specs.Checks.{checks_of, check_count}
 use Rattle.lzk_circuit.specs.Valid.{under_of, AreLayers}
 use Rattle.lzk_circuit.specs.Wires.{wires_of}
-use Rattle.lzk_reduce.specs.Attached.{AreNarrowWith, IsAssertingForm}
-use Rattle.lzk_reduce.specs.Reduced.{HaveOnes, output_count}
-use Rattle.lzk_reduce.specs.Renumbering.{at}
-use Rattle.lzk_reduce.specs.Targets.{targets_at, AreTargets, AreAllTerms, target_count, target_values}
+use Rattle.lzk_circuit_reduce.specs.Attached.{AreNarrowWith, IsAssertingForm}
+use Rattle.lzk_circuit_reduce.specs.Reduced.{HaveOnes, output_count}
+use Rattle.lzk_circuit_reduce.specs.Renumbering.{at}
+use Rattle.lzk_circuit_reduce.specs.Targets.{targets_at, AreTargets, AreAllTerms, target_count, target_values}
 use Rattle.lzk_level.specs.declared.node.Gate.{Gate}
 use Rattle.lzk_level.specs.Bounds.{greatest, total, node_depths, node_weights, layer_count, wire_bound, level_fault_v2}
 use Rattle.lzk_level.specs.Checking.{check_of, of_depth, by_depth, targets_below, KeepLimits, AreAsserts, AreAsserting}

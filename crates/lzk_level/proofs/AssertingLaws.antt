@@ -8,9 +8,9 @@ use Rattle.lzk_field.specs.Sums.{entry}
 use Rattle.lzk_circuit.specs.declared.layer.Layer.{Layer}
 use Rattle.lzk_circuit.specs.Valid.{under_of}
 use Rattle.lzk_circuit.specs.Wires.{wires_of}
-use Rattle.lzk_reduce.specs.Attached.{AreNarrowWith}
-use Rattle.lzk_reduce.specs.Renumbering.{at}
-use Rattle.lzk_reduce.specs.Targets.{AreBelow, AreTargets, target_values, target_count}
+use Rattle.lzk_circuit_reduce.specs.Attached.{AreNarrowWith}
+use Rattle.lzk_circuit_reduce.specs.Renumbering.{at}
+use Rattle.lzk_circuit_reduce.specs.Targets.{AreBelow, AreTargets, target_values, target_count}
 use Rattle.lzk_level.specs.Checking.{of_depth, by_depth, level_targets, targets_below}
 use Rattle.lzk_level.specs.Levels.{has_wire, place_in, width_of, Stands, StandFrom, HaveWidths}
 use Rattle.lzk_level.proofs.CheckingLaws.{depth-each, depth-few}

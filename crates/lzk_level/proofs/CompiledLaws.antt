@@ -3,21 +3,29 @@ use Rattle.std.specs.Prelude.{◌≡◌, ℕ, ◌<◌, None, List, length, map, 
 use Rattle.std.proofs.Common.{sym, ap, ap₂, ◌∙◌, subst, arith}
 use Rattle.lzk_field.specs.Ring.{Ops, RingLaws}
 use Rattle.lzk_field.specs.Sums.{entry}
-use Rattle.lzk_circuit.specs.Checks.{checks_of}
+use Rattle.lzk_goldilocks.specs.Elements as gold
+use Rattle.lzk_gf128.specs.Elements as gf
+use Rattle.lzk_circuit.specs.Checks.{checks_of, check_count}
 use Rattle.lzk_circuit.specs.Valid.{Wiring}
 use Rattle.lzk_circuit.specs.Wires.{inputs_of}
 use Rattle.lzk_expr.specs.SourceValues.{source_value}
-use Rattle.lzk_expr.specs.Trees.{Statement, is_public, is_private, is_assertion}
+use Rattle.lzk_circbytes.specs.declared.any.AnyCircuit.TheVariants.{Gold, Gf}
+use Rattle.lzk_expr.specs.Trees.{Statement, SourceTree, is_public, is_private, is_assertion}
+use Rattle.lzk_expr.specs.declared.ast.FieldId.TheVariants.{Goldilocks, Gf2_128}
 use Rattle.lzk_level.specs.declared.fault.LevelError.{LevelError}
 use Rattle.lzk_level.specs.declared.fault.LevelError.TheVariants.{Fault, OutOfMemory}
 use Rattle.lzk_level.specs.Nodes.{Nodes, node_count, IsNode, node_values}
-use Rattle.lzk_reduce.specs.Renumbering.{at}
-use Rattle.lzk_level.specs.Bounds.{level_fault, level_fault_v2, node_depths, IsFaultOf, IsLevelError}
-use Rattle.lzk_level.specs.Checking.{check_of, HasChecks}
+use Rattle.lzk_circuit_reduce.specs.Renumbering.{at}
+use Rattle.lzk_circuit_reduce.specs.Attached.{IsReducedAsserting}
+use Rattle.lzk_circuit_reduce.specs.Reduced.{IsReduced}
+use Rattle.lzk_level.specs.Bounds.{layer_count, level_fault, level_fault_v2, node_depths, IsFaultOf, IsLevelError}
+use Rattle.lzk_level.specs.Checking.{check_of, HasChecks, HasFewOutputs}
 use Rattle.lzk_level.specs.Meanings.{HasOutputs}
 use Rattle.lzk_level.specs.Compilable.{statements_size, AreNodes}
 use Rattle.lzk_level.specs.Compiling.{scope, inputs_alone, nodes_of}
-use Rattle.lzk_level.specs.Compiled.{HasValues, HasCheckedValues, limit_passed, limit_passed_v2, output_depths, IsCompilable}
+use Rattle.lzk_level.specs.Compiled.{HasValues, HasCheckedValues, limit_passed, limit_passed_v2, layers_in, output_depths, IsCompilable}
+use Rattle.lzk_level.specs.Finished.{AreBuilt, IsCircuitOver, IsCircuitOverV2}
+use Rattle.lzk_level.specs.SomeCircuit.{IsCircuitOf, IsCircuitOfV2}
 use Rattle.lzk_level.proofs.TowerLaws.{mapped-at}
 use Rattle.lzk_level.proofs.MadeLaws.{Grown}
 use Rattle.lzk_level.proofs.SourceLaws.{node-of, statements-grown, outputs-there, outputs-count, source-value}
@@ -71,6 +79,89 @@ module _ {A : Type 0} (o : Ops A) (element : ℕ → A) (ss : List Statement) wh
       ap₂ (λ (m : Nodes A) l. map (entry o (node_values o m public private)) l) is outputs ∙ source-value o r element public private ss (a ∙ p ∙ built-publics n is) (b ∙ q ∙ built-privates n is) good.inputs in
       ap (λ ds. entry o checks (check_of ds k)) (sym depths) ∙ h public private (a ∙ p) (b ∙ q) k within
       ∙ sym (mapped-at o (entry o (node_values o n public private)) ks k within) ∙ ap (λ xs. entry o xs k) values
+
+pub are-built : {A X E : Type 0} (o : Ops A) (element : ℕ → A) (ss : List Statement) → IsCompilable ss → (made : Result X E) (nodes : X → Nodes A) (outputs : X → List ℕ)
+    → IfOk made (λ m. nodes m ≡ (nodes_of o element ss).nodes) → IfOk made (λ m. outputs m ≡ (nodes_of o element ss).outputs) → IfOk made (λ m. AreBuilt o element ss (nodes m) (outputs m))
+are-built o element ss good (Err e) nodes outputs is are = tt
+are-built o element ss good (Ok m) nodes outputs is are = record { compilable = good; nodes = is; outputs_are = are }
+
+module _ {A : Type 0} (o : Ops A) (element : ℕ → A) (ss : List Statement) (r : RingLaws o) (n : Nodes A) (ks : List ℕ) (b : AreBuilt o element ss n ks) where
+  pub circuit-over : (circuit : Result (Wiring A) LevelError) → IfOk circuit (λ c. c.version ≡ 1) → IfOk circuit (λ c. c.publics ≡ n.publics) → IfOk circuit (λ c. c.privates ≡ n.privates)
+      → IfOk circuit (λ c. length c.layers ≡ layer_count n ks) → IfOk circuit (HasOutputs o n ks) → IfOk circuit (λ c. IsReduced o c.layers) → IfOk circuit (λ _. level_fault n ks ≡ None)
+      → IfOk circuit (IsCircuitOver o element ss)
+  circuit-over (Err e) version publics privates layers outputs reduced within = tt
+  circuit-over (Ok c) version publics privates layers outputs reduced within = record {
+    version_is = version;
+    publics = publics ∙ built-publics o element ss n b.nodes;
+    privates = privates ∙ built-privates o element ss n b.nodes;
+    layers = layers ∙ ap₂ (λ (m : Nodes A) l. layer_count m l) b.nodes b.outputs_are;
+    values = has-values o element ss r n ks (Ok c) b.nodes b.outputs_are b.compilable publics privates outputs;
+    reduced = reduced;
+    within = sym (ap₂ (λ (m : Nodes A) l. level_fault m l) b.nodes b.outputs_are) ∙ within;
+  }
+
+  pub circuit-over-v2 : (number : A → ℕ) (circuit : Result (Wiring A) LevelError) → IfOk circuit (λ c. c.version ≡ 2) → IfOk circuit (λ c. c.publics ≡ n.publics) → IfOk circuit (λ c. c.privates ≡ n.privates)
+      → IfOk circuit (λ c. length c.layers ≡ layer_count n ks) → IfOk circuit (λ c. check_count number c.layers ≡ length ks) → IfOk circuit (HasChecks o number n ks) → IfOk circuit (HasFewOutputs n ks)
+      → IfOk circuit (λ c. IsReducedAsserting o c.layers) → IfOk circuit (λ _. level_fault_v2 n ks ≡ None) → IfOk circuit (IsCircuitOverV2 o number element ss)
+  circuit-over-v2 number (Err e) version publics privates layers count checks outputs reduced within = tt
+  circuit-over-v2 number (Ok c) version publics privates layers count checks outputs reduced within = record {
+    version_is = version;
+    publics = publics ∙ built-publics o element ss n b.nodes;
+    privates = privates ∙ built-privates o element ss n b.nodes;
+    layers = layers ∙ ap₂ (λ (m : Nodes A) l. layer_count m l) b.nodes b.outputs_are;
+    count = count ∙ built-count o element ss ks b.outputs_are;
+    checks = checked-values o element ss r number n ks c b.nodes b.outputs_are b.compilable publics privates checks;
+    outputs = subst (λ l. HasFewOutputs (nodes_of o element ss).nodes l c) b.outputs_are (subst (λ (m : Nodes A). HasFewOutputs m ks c) b.nodes outputs);
+    reduced = reduced;
+    within = built-within-v2 o element ss n ks b.nodes b.outputs_are within;
+  }
+
+-- the circuit over the field that a source names
+pub gold-circuit : (s : SourceTree) (c : Wiring _) → Goldilocks ≡ s.field_is → IsCircuitOver gold.ops gold.of_number s.statements c → IsCircuitOf s (Gold c)
+gold-circuit s c is h = record {
+  version_is = h.version_is;
+  field_is = is;
+  publics = h.publics;
+  privates = h.privates;
+  layers = h.layers ∙ ap (λ f. layers_in f s.statements) is;
+  outputs = h.values;
+  reduced = h.reduced;
+}
+
+pub gf-circuit : (s : SourceTree) (c : Wiring _) → Gf2_128 ≡ s.field_is → IsCircuitOver gf.ops gf.of_number s.statements c → IsCircuitOf s (Gf c)
+gf-circuit s c is h = record {
+  version_is = h.version_is;
+  field_is = is;
+  publics = h.publics;
+  privates = h.privates;
+  layers = h.layers ∙ ap (λ f. layers_in f s.statements) is;
+  outputs = h.values;
+  reduced = h.reduced;
+}
+
+pub gold-circuit-v2 : (s : SourceTree) (c : Wiring _) → Goldilocks ≡ s.field_is → IsCircuitOverV2 gold.ops gold.number gold.of_number s.statements c → IsCircuitOfV2 s (Gold c)
+gold-circuit-v2 s c is h = record {
+  version_is = h.version_is;
+  field_is = is;
+  publics = h.publics;
+  privates = h.privates;
+  layers = h.layers ∙ ap (λ f. layers_in f s.statements) is;
+  checks = (h.count, h.checks);
+  outputs = h.outputs;
+  reduced = h.reduced;
+}
+
+pub gf-circuit-v2 : (s : SourceTree) (c : Wiring _) → Gf2_128 ≡ s.field_is → IsCircuitOverV2 gf.ops gf.number gf.of_number s.statements c → IsCircuitOfV2 s (Gf c)
+gf-circuit-v2 s c is h = record {
+  version_is = h.version_is;
+  field_is = is;
+  publics = h.publics;
+  privates = h.privates;
+  layers = h.layers ∙ ap (λ f. layers_in f s.statements) is;
+  checks = (h.count, h.checks);
+  outputs = h.outputs;
+  reduced = h.reduced;
+}
 
 -- an error that was handed on
 pub handed_on : {X : Type 0} (r : Result X LevelError) (P : LevelError → Type 0) (e : LevelError) → IsErrAnd r (λ d. d ≡ e) → P e → IfErr r P

@@ -6,11 +6,11 @@ use Rattle.std.proofs.lemmas.List.{length-append, length-replicate, map-append, 
 use Rattle.lzk_field.specs.Ring.{Ops}
 use Rattle.lzk_field.specs.Sums.{entry}
 use Rattle.lzk_circuit.specs.declared.layer.Term.{Term}
-use Rattle.lzk_reduce.specs.Renumbering.{at}
-use Rattle.lzk_reduce.specs.Rows.{IsRow, row_value}
+use Rattle.lzk_circuit_reduce.specs.Renumbering.{at}
+use Rattle.lzk_circuit_reduce.specs.Rows.{IsRow, row_value}
 use Rattle.lzk_level.specs.declared.node.Gate.{Gate}
 use Rattle.lzk_level.specs.Levels.{row_at, width_of, IsShort, StartsWithOne}
-use Rattle.lzk_level.specs.Stacking.{AreLevelRows}
+use Rattle.lzk_level.specs.Stacking.{AreLevelRows, ArePassedBy}
 use Rattle.lzk_level.specs.Spans.{piece, pieces, AreSpans}
 
 pub spans-filled : (n count : ℕ) (ss : List (ℕ × ℕ)) → AreSpans n ss → AreSpans n (ss ++ replicate count (0, 0))
@@ -127,3 +127,26 @@ module _ {A : Type 0} where
       let within : length rows ≤ n = omega (arith, top, w.within) in
       let passed : ArePassed depths last level (length rows) n = subst (ArePassed depths last level (length rows)) top w.passed in
       (filled-length rows new n within is, formed-filled o inputs made depths last level rows new n first high within passed is w.formed)
+
+  -- the walk goes on behind the nodes that are passed
+  pub walk-jumps : (o : Ops A) (inputs : ℕ) (made : List (Gate A)) (depths last : List ℕ) (level first : ℕ) (rows : List (List (Term A))) → length rows ≡ 1 → ArePassedBy last level first → AreLevelRows o inputs made depths last level rows
+      → Walked o inputs made depths last level first rows
+  walk-jumps o inputs made depths last level first rows one p formed = record {
+    within = omega (arith, one, p.some);
+    passed = λ j l m up. p.each j (omega (arith, l, one)) m;
+    formed = formed;
+  }
+
+pub passed-next : (last : List ℕ) (level k : ℕ) → k < length last → at last k < level → ArePassedBy last level k → ArePassedBy last level (k + 1)
+passed-next last level k l low p = record {
+  some = omega (arith, p.some);
+  most = omega (arith, l);
+  each = λ j one m. elim (cases_lt j k) [
+    | inl n ↦ p.each j one n
+    | inr n ↦ subst (λ i. at last i < level) (let e : k ≡ j = omega (arith, m, n) in e) low
+  ];
+}
+
+-- what a level has passed, the next one has
+pub passed-above : (last : List ℕ) (level next first : ℕ) → level ≤ next → ArePassedBy last level first → ArePassedBy last next first
+passed-above last level next first up p = record { some = p.some; most = p.most; each = λ j one m. omega (arith, up, p.each j one m) }

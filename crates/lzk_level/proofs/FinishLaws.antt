@@ -1,20 +1,20 @@
 -- From nodes within the limits to their circuit.
-use Rattle.std.specs.Prelude.{◌≡◌, ℕ, ◌+◌, ◌-◌, ◌<◌, ◌≤◌, min, ◌^◌, nat_le, if◌then◌else◌, Some, None, List, [], ◌∷◌, length, map, replicate}
-use Rattle.std.proofs.Common.{zero, suc, inl, inr, sym, ap, ◌∙◌, arith, subst}
+use Rattle.std.specs.Prelude.{◌≡◌, ℕ, ◌+◌, ◌-◌, ◌*◌, ◌<◌, ◌≤◌, min, ◌^◌, nat_le, if◌then◌else◌, Some, None, List, [], ◌∷◌, length, map, replicate}
+use Rattle.std.proofs.Common.{zero, suc, inl, inr, refl, sym, ap, ◌∙◌, arith, subst}
 use Rattle.std.proofs.lemmas.Bool.{cases_lt, lt-leb, le-leb}
 use Rattle.std.proofs.lemmas.List.{length-append, length-replicate}
 use Rattle.lzk_profile.specs.Profile.{most_privates, most_wires, most_total}
 use Rattle.lzk_field.specs.Ring.{Ops}
 use Rattle.lzk_circuit.specs.declared.layer.Layer.{Layer}
 use Rattle.lzk_circuit.proofs.VersionLaws.{one-valid}
-use Rattle.lzk_circuit.specs.Valid.{wiring, AreLayers, IsValid}
+use Rattle.lzk_circuit.specs.Valid.{wiring, wiring_of, AreLayers, AreLayersOf, IsValid}
 use Rattle.lzk_circuit.specs.Wires.{inputs_of}
 use Rattle.lzk_level.specs.declared.node.Gate.{Gate}
 use Rattle.lzk_level.specs.declared.fault.LevelFault.{LevelFault}
 use Rattle.lzk_level.specs.declared.fault.LevelFault.TheVariants.{Layers, LayerWires, Terms}
-use Rattle.lzk_level.specs.Nodes.{nodes_from, node_values, gate_value, after, AreGates}
-use Rattle.lzk_reduce.specs.Renumbering.{at}
-use Rattle.lzk_level.specs.Bounds.{greatest, gate_depth, gate_weight, node_depths, node_weights, limit_fault}
+use Rattle.lzk_level.specs.Nodes.{Nodes, nodes_from, node_values, gate_value, after, AreGates}
+use Rattle.lzk_circuit_reduce.specs.Renumbering.{at}
+use Rattle.lzk_level.specs.Bounds.{greatest, total, gate_depth, gate_weight, node_depths, node_weights, layer_count, wire_bound, limit_fault, level_fault_with}
 use Rattle.lzk_level.specs.Levels.{AreDepths, AreWeights, AreValues, Begins, IsGraph}
 use Rattle.lzk_level.proofs.AfterLaws.{after-length, after-front, depths-are, weights-are, values-are}
 
@@ -52,6 +52,12 @@ within-limits layers wires terms e = elim (cases_lt 512 layers) [
         ap (λ b. if b then (if nat_le wires most_wires then (if nat_le terms most_total then None else Some (Terms (min (2 ^ 64 - 1) terms))) else Some (LayerWires wires)) else Some (Layers layers)) (le-leb layers 512 l)
         ∙ ap (λ b. if b then (if nat_le terms most_total then None else Some (Terms (min (2 ^ 64 - 1) terms))) else Some (LayerWires wires)) (le-leb wires most_wires m)
         ∙ ap (λ b. if b then None else Some (Terms (min (2 ^ 64 - 1) terms))) (lt-leb terms most_total n)
+
+-- no more layers than are allowed
+pub layers-most : {A : Type 0} (further : ℕ) (n : Nodes A) (outputs : List ℕ) → level_fault_with further n outputs ≡ None → layer_count n outputs ≤ 512
+layers-most further n outputs fits =
+    let wires = wire_bound n + further in
+    (within-limits (layer_count n outputs) wires (layer_count n outputs * wires + total (node_weights n) + total (map (at (node_weights n)) outputs)) fits).layers_most
 
 pub greatest-some : (m : ℕ) (ns : List ℕ) → m ≤ greatest m ns
 greatest-some m [] = omega arith
@@ -97,6 +103,12 @@ module _ {A : Type 0} (o : Ops A) where
   valid-layers publics privates inputs layers p q e some most h =
       let width : inputs ≡ 1 + publics + privates = omega (arith, e) in
       one-valid o publics privates layers p q some most (subst (λ n. AreLayers o n layers) width h)
+
+  pub valid-layers-v2 : (publics privates inputs : ℕ) (layers : List (Layer A)) → publics ≤ 65535 → privates ≤ most_privates → inputs ≡ 1 + (publics + privates) → 1 ≤ length layers → length layers ≤ 512 → AreLayersOf o 2 inputs layers
+      → IsValid o (wiring_of 2 publics privates layers)
+  valid-layers-v2 publics privates inputs layers p q e some most h =
+      let width : inputs ≡ 1 + publics + privates = omega (arith, e) in
+      record { version = inr refl; publics = p; privates = q; some = some; depth = most; layers = subst (λ n. AreLayersOf o 2 n layers) width h }
 
   pub ready-values : (publics privates inputs : ℕ) (made : List (Gate A)) (public private : List A) → inputs ≡ 1 + (publics + privates) → AreGates (publics + privates) made → length public ≡ publics → length private ≡ privates
       → AreValues o inputs made (node_values o (nodes_from publics privates made) public private)

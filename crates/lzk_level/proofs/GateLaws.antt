@@ -1,5 +1,5 @@
 -- Lists of gates, and what each makes of those before it.
-use Rattle.std.specs.Prelude.{◌≡◌, ℕ, ◌+◌, ◌-◌, ◌^◌, ◌<◌, ◌≤◌, max, min, List, [], ◌∷◌, ◌++◌, length, map, take}
+use Rattle.std.specs.Prelude.{◌≡◌, ℕ, ◌+◌, ◌-◌, ◌^◌, ◌<◌, ◌≤◌, max, min, List, [], ◌∷◌, ◌++◌, length, map, replicate, take}
 use Rattle.std.proofs.Common.{zero, suc, inl, inr, refl, sym, ap, ◌∙◌, arith, subst, get_or}
 use Rattle.std.proofs.lemmas.Bool.{cases_lt}
 use Rattle.std.proofs.lemmas.List.{take_more, length-append, map-append, get_or_append_left}
@@ -7,7 +7,7 @@ use Rattle.std.proofs.Math.Seq.{get_or-append_seam}
 use Rattle.lzk_level.specs.declared.node.Gate.{Gate}
 use Rattle.lzk_level.specs.declared.node.Gate.TheVariants.{Constant, Combine, Mul}
 use Rattle.lzk_level.specs.Nodes.{IsNode, ArePartsOf, IsGate, AreGates, after}
-use Rattle.lzk_reduce.specs.Renumbering.{at}
+use Rattle.lzk_circuit_reduce.specs.Renumbering.{at}
 use Rattle.lzk_level.specs.Bounds.{at_parts, total, greatest, gate_depth, gate_weight}
 use Rattle.lzk_level.proofs.NodeLaws.{gate-at}
 
@@ -53,6 +53,10 @@ module _ {A X : Type 0} where
 abbrev pub cap : ℕ → ℕ
 cap n = min (2 ^ 64 - 1) n
 
+pub capped-ones : (n : ℕ) → map cap (replicate n 1) ≡ replicate n 1
+capped-ones zero = refl
+capped-ones (suc n) = let one : cap 1 ≡ 1 = omega arith in ap (λ k. k ∷ map cap (replicate n 1)) one ∙ ap (λ ks. 1 ∷ ks) (capped-ones n)
+
 pub cap-at : (ns : List ℕ) (k : ℕ) → at (map cap ns) k ≡ cap (at ns k)
 cap-at [] k = omega arith
 cap-at (n ∷ ns) zero = refl
@@ -92,6 +96,11 @@ module _ {A : Type 0} where
   gate-of inputs i n made g e l is h =
       let m : inputs + i ≡ n - 1 = omega (arith, e) in
       subst (λ k. IsGate k g) m (subst (IsGate (inputs + i)) (sym is) (gate-at inputs i made g h l))
+
+pub low-all : (ds : List ℕ) (n : ℕ) → ((k : ℕ) → k < length ds → at ds k < n) → (k : ℕ) → at ds k ≤ n
+low-all [] n f k = omega arith
+low-all (d ∷ ds) n f zero = omega (arith, f 0 (omega arith))
+low-all (d ∷ ds) n f (suc k) = low-all ds n (λ i l. f (suc i) (omega (arith, l))) k
 
 pub below-more : (ds : List ℕ) (d : ℕ) → ((k : ℕ) → k < length ds → at ds k < length ds) → d ≤ length ds → (k : ℕ) → k < length (ds ++ d ∷ []) → at (ds ++ d ∷ []) k < length (ds ++ d ∷ [])
 below-more ds d f l k m = elim (cases_lt k (length ds)) [

@@ -7,7 +7,7 @@ use Rattle.lzk_level.specs.declared.node.Gate.{Gate}
 use Rattle.lzk_level.specs.declared.node.Gate.TheVariants.{Constant, Combine, Mul}
 use Rattle.lzk_level.specs.Nodes.{ArePartsOf, IsGate, AreGates}
 use Rattle.lzk_level.proofs.NodeLaws.{gate-at}
-use Rattle.lzk_reduce.specs.Renumbering.{at}
+use Rattle.lzk_circuit_reduce.specs.Renumbering.{at}
 use Rattle.lzk_level.specs.Levels.{AreNeeded, ArePartsNeeded}
 
 -- no number is less than it was

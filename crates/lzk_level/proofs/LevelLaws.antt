@@ -2,7 +2,7 @@
 use Rattle.std.specs.Prelude.{◌≡◌, ℕ, ◌+◌, ◌<◌, ◌≤◌, nat_le, nat_lt, cond, true, false, Bool, List, [], ◌∷◌, ◌++◌, length}
 use Rattle.std.proofs.Common.{zero, suc, ◌⊎◌, inl, inr, sym, ap, ◌∙◌, arith, subst}
 use Rattle.std.proofs.lemmas.Bool.{cases_lt, leb-true, ltb-true, le-leb, lt-ltb, and_from, and_parts}
-use Rattle.lzk_reduce.specs.Renumbering.{at}
+use Rattle.lzk_circuit_reduce.specs.Renumbering.{at}
 use Rattle.lzk_circuit.specs.declared.layer.Term.{Term}
 use Rattle.lzk_level.specs.Levels.{has_wire, place_in, row_at}
 
@@ -42,9 +42,10 @@ pub place-below : (depths last : List ℕ) (level k n : ℕ) → k < n → has_w
 place-below depths last level k n l d = omega (arith, place-step depths last level k d, place-more depths last level (suc k) n l)
 
 -- one more place
-pub places-next : (f : ℕ → ℕ) (old new : List ℕ) (x k : ℕ) → at new k ≡ x → ((j : ℕ) → j < k → at new j ≡ at old j) → x ≡ f k → ((j : ℕ) → j < k → at old j ≡ f j) → (j : ℕ) → j < k + 1 → at new j ≡ f j
-places-next f old new x k here before is h j l = elim (cases_lt j k) [
-  | inl m ↦ before j m ∙ h j m
+pub places-next : (f : ℕ → ℕ) (there : ℕ → Bool) (old new : List ℕ) (x k : ℕ) → at new k ≡ x → ((j : ℕ) → j < k → at new j ≡ at old j) → x ≡ f k → ((j : ℕ) → j < k → there j ≡ true → at old j ≡ f j)
+    → (j : ℕ) → j < k + 1 → there j ≡ true → at new j ≡ f j
+places-next f there old new x k here before is h j l t = elim (cases_lt j k) [
+  | inl m ↦ before j m ∙ h j m t
   | inr m ↦ subst (λ i. at new i ≡ f i) (let e : k ≡ j = omega (arith, l, m) in e) (here ∙ is)
 ]
 

@@ -22,6 +22,7 @@ pub mod FormedSizes
 pub mod FormedLaws
 pub mod LastLaws
 pub mod FinishLaws
+pub mod NodeRowLaws
 pub mod SomeGateRow
 pub mod SomeLevelRows
 pub mod MadeGates

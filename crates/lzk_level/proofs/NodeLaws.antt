@@ -9,10 +9,11 @@ use Rattle.lzk_circuit.specs.declared.layer.Term.{Term}
 use Rattle.lzk_level.specs.declared.node.Gate.{Gate}
 use Rattle.lzk_level.specs.declared.node.Gate.TheVariants.{Constant, Combine, Mul}
 use Rattle.lzk_level.specs.Nodes.{combined, gate_value, ArePartsOf, IsGate, AreGates}
-use Rattle.lzk_reduce.specs.Renumbering.{at}
+use Rattle.lzk_circuit_reduce.specs.Renumbering.{at}
 use Rattle.lzk_level.specs.Bounds.{at_parts, total, greatest, gate_depth, gate_weight}
-use Rattle.lzk_reduce.specs.Rows.{row_value}
-use Rattle.lzk_level.specs.Levels.{width_of, ArePlaces, AreDepths, AreWeights, AreValues, AreShort, AreFactorsBelow, AreNeeded, ArePartsNeeded, AreLast, HaveValues, Stands, has_wire, placed_value}
+use Rattle.lzk_circuit_reduce.specs.Rows.{row_value}
+use Rattle.lzk_level.specs.Levels.{width_of, AreDepths, AreWeights, AreValues, AreShort, AreFactorsBelow, AreNeeded, ArePartsNeeded, AreLast, HaveValues, Stands, has_wire, placed_value}
+use Rattle.lzk_level.specs.Stacking.{AreWirePlaces}
 use Rattle.lzk_level.proofs.CombineLaws.{value-at, length-at}
 use Rattle.lzk_level.proofs.LevelLaws.{place-below, wire-there}
 
@@ -32,7 +33,7 @@ module _ {A : Type 0} where
   parts-depth depths (p ∷ ps) level h = (omega (arith, h), parts-depth depths ps level (omega (arith, h)))
 
   -- so many places, none at or behind the width
-  pub factors-below : (depths last below : List ℕ) (n level : ℕ) (gate : Gate A) → 1 ≤ level → n < length depths → IsGate n gate → gate_depth depths gate ≤ level → AreNeeded last level gate → ArePlaces depths last (level - 1) below → AreFactorsBelow (width_of depths last (level - 1)) below gate
+  pub factors-below : (depths last below : List ℕ) (n level : ℕ) (gate : Gate A) → 1 ≤ level → n < length depths → IsGate n gate → gate_depth depths gate ≤ level → AreNeeded last level gate → AreWirePlaces depths last (level - 1) below → AreFactorsBelow (width_of depths last (level - 1)) below gate
   factors-below depths last below n level (Constant c) some l h d need p = tt
   factors-below depths last below n level (Combine parts) some l h d need p = tt
   factors-below depths last below n level (Mul x y) some l h d need p =
@@ -40,8 +41,8 @@ module _ {A : Type 0} where
       let right = h.1 in
       let dx = wire-there depths last (level - 1) x (omega (arith, d)) (omega (arith, need.0, some)) in
       let dy = wire-there depths last (level - 1) y (omega (arith, d)) (omega (arith, need.1, some)) in (
-        subst (λ q. q < width_of depths last (level - 1)) (sym (p.1 x (omega (arith, l, left.1)))) (place-below depths last (level - 1) x (length depths) (omega (arith, l, left.1)) dx),
-        subst (λ q. q < width_of depths last (level - 1)) (sym (p.1 y (omega (arith, l, right.1)))) (place-below depths last (level - 1) y (length depths) (omega (arith, l, right.1)) dy),
+        subst (λ q. q < width_of depths last (level - 1)) (sym (p.1 x (omega (arith, l, left.1)) dx)) (place-below depths last (level - 1) x (length depths) (omega (arith, l, left.1)) dx),
+        subst (λ q. q < width_of depths last (level - 1)) (sym (p.1 y (omega (arith, l, right.1)) dy)) (place-below depths last (level - 1) y (length depths) (omega (arith, l, right.1)) dy),
       )
 
   lighter : (level : ℕ) (depths weights : List ℕ) (rows : List (List (Term A))) (ps : List (A × ℕ)) → AreShort depths level weights rows → ArePartsOf (length rows - 1) ps → total (at_parts (map length rows) ps) ≤ total (at_parts weights ps)
@@ -91,13 +92,13 @@ module _ {A : Type 0} (o : Ops A) (r : RingLaws o) where
 
   -- by the rows and wires below, a gate counts its value
   pub gate-counts : (depths last below : List ℕ) (level : ℕ) (values wires : List A) (rows : List (List (Term A))) (gate : Gate A) → 1 ≤ level → length rows ≤ length depths → HaveValues o depths last level values wires rows → Stands o depths last (level - 1) values wires
-      → ArePlaces depths last (level - 1) below → IsGate (length rows - 1) gate → gate_depth depths gate ≤ level → AreNeeded last level gate → placed_value o (map (row_value o wires) rows) below wires gate ≡ gate_value o values gate
+      → AreWirePlaces depths last (level - 1) below → IsGate (length rows - 1) gate → gate_depth depths gate ≤ level → AreNeeded last level gate → placed_value o (map (row_value o wires) rows) below wires gate ≡ gate_value o values gate
   gate-counts depths last below level values wires rows (Constant c) some l v s p h d need = refl
   gate-counts depths last below level values wires rows (Combine parts) some l v s p h d need = same-combined depths last level values wires rows parts v (parts-depth depths parts level d) need h.1
   gate-counts depths last below level values wires rows (Mul x y) some l v s p h d need =
       let left = h.0 in
       let right = h.1 in
-      let wire : (k : ℕ) → k < length depths → has_wire depths last (level - 1) k ≡ true → entry o wires (at below k) ≡ entry o values k = λ k lk dk. ap (entry o wires) (p.1 k lk) ∙ s.each k lk dk in
+      let wire : (k : ℕ) → k < length depths → has_wire depths last (level - 1) k ≡ true → entry o wires (at below k) ≡ entry o values k = λ k lk dk. ap (entry o wires) (p.1 k lk dk) ∙ s.each k lk dk in
       ap (λ w. o.times w (entry o wires (at below y))) (wire x (omega (arith, l, left.0, left.1)) (wire-there depths last (level - 1) x (omega (arith, d)) (omega (arith, need.0, some))))
       ∙ ap (o.times (entry o values x)) (wire y (omega (arith, l, right.0, right.1)) (wire-there depths last (level - 1) y (omega (arith, d)) (omega (arith, need.1, some))))
 

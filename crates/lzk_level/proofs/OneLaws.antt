@@ -3,11 +3,11 @@ use Rattle.std.specs.Prelude.{◌≡◌, ℕ, ◌<◌, ◌≤◌, true, false, L
 use Rattle.std.proofs.Common.{zero, suc, refl, sym, ap, ◌∙◌, arith, subst}
 use Rattle.lzk_field.specs.Ring.{Ops}
 use Rattle.lzk_circuit.specs.declared.layer.Term.{Term}
-use Rattle.lzk_reduce.specs.Rows.{placed, ordered}
-use Rattle.lzk_reduce.specs.Renumbering.{at, of_wire}
-use Rattle.lzk_reduce.specs.Reduced.{terms_of}
+use Rattle.lzk_circuit_reduce.specs.Rows.{placed, ordered}
+use Rattle.lzk_circuit_reduce.specs.Renumbering.{at, of_wire}
+use Rattle.lzk_circuit_reduce.specs.Reduced.{terms_of}
 use Rattle.lzk_level.specs.Levels.{place_in, row_at, lengths_in, StartsWithOne, has_wire}
-use Rattle.lzk_reduce.proofs.KeptLaws.{own-placed, own-before}
+use Rattle.lzk_circuit_reduce.proofs.KeptLaws.{own-placed, own-before}
 use Rattle.lzk_level.proofs.LevelLaws.{place-below, wire-there}
 use Rattle.std.proofs.lemmas.Bool.{true≢false}
 

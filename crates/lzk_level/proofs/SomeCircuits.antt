@@ -16,10 +16,10 @@ use Rattle.lzk_circbytes.proofs.OneFile.{file_of-IsFile}
 use Rattle.lzk_expr.specs.Trees.{Statement, SourceTree, is_public, is_private}
 use Rattle.lzk_expr.specs.declared.ast.FieldId.{FieldId}
 use Rattle.lzk_expr.specs.declared.ast.FieldId.TheVariants.{Goldilocks, Gf2_128}
-use Rattle.lzk_reduce.specs.Reduced.{IsReduced}
-use Rattle.lzk_reduce.specs.Renumbering.{at}
-use Rattle.lzk_reduce.proofs.EachReduced.{some_reduced}
-use Rattle.lzk_reduce.proofs.NormalLaws.{zero_or_not}
+use Rattle.lzk_circuit_reduce.specs.Reduced.{IsReduced}
+use Rattle.lzk_circuit_reduce.specs.Renumbering.{at}
+use Rattle.lzk_circuit_reduce.proofs.EachReduced.{some_reduced}
+use Rattle.lzk_circuit_reduce.proofs.NormalLaws.{zero_or_not}
 use Rattle.lzk_level.specs.Nodes.{Nodes, node_count, IsNode, AreGates, node_values}
 use Rattle.lzk_level.specs.Bounds.{node_depths, node_weights, layer_count, wire_bound, term_bound, level_fault}
 use Rattle.lzk_level.specs.Meanings.{HasOutputs}

@@ -17,10 +17,10 @@ use Rattle.lzk_circbytes.proofs.OneFile.{file_of-IsFile}
 use Rattle.lzk_expr.specs.Trees.{Statement, SourceTree, is_public, is_private}
 use Rattle.lzk_expr.specs.declared.ast.FieldId.{FieldId}
 use Rattle.lzk_expr.specs.declared.ast.FieldId.TheVariants.{Goldilocks, Gf2_128}
-use Rattle.lzk_reduce.specs.Attached.{IsReducedAsserting}
-use Rattle.lzk_reduce.specs.Renumbering.{at}
-use Rattle.lzk_reduce.proofs.AssertedForm.{some_asserting}
-use Rattle.lzk_reduce.proofs.NormalLaws.{zero_or_not}
+use Rattle.lzk_circuit_reduce.specs.Attached.{IsReducedAsserting}
+use Rattle.lzk_circuit_reduce.specs.Renumbering.{at}
+use Rattle.lzk_circuit_reduce.proofs.AssertedForm.{some_asserting}
+use Rattle.lzk_circuit_reduce.proofs.NormalLaws.{zero_or_not}
 use Rattle.lzk_level.specs.Nodes.{Nodes, node_count, IsNode, node_values}
 use Rattle.lzk_level.specs.Bounds.{node_depths, node_weights, layer_count, wire_bound, total, level_fault_v2}
 use Rattle.lzk_level.specs.Checking.{of_depth, targets_below, HasChecks, HasFewOutputs}

@@ -1,5 +1,5 @@
 -- Each level has its rows.
-use Rattle.std.specs.Prelude.{◌≡◌, ℕ, ◌-◌, ◌<◌, ◌≤◌, List, [], ◌∷◌, ◌++◌, length, map, true}
+use Rattle.std.specs.Prelude.{◌≡◌, ℕ, ◌-◌, ◌<◌, ◌≤◌, List, [], ◌∷◌, ◌++◌, length, map}
 use Rattle.std.specs.List.{range_with_len}
 use Rattle.std.proofs.Common.{zero, suc, inl, inr, refl, ap, ◌∙◌, arith, get_or}
 use Rattle.std.proofs.lemmas.Bool.{cases_lt}
@@ -8,16 +8,17 @@ use Rattle.std.proofs.lemmas.List.FromFn.{length-map-range_with_len, get_or-map-
 use Rattle.lzk_field.specs.Ring.{Ops, RingLaws, FieldLaws}
 use Rattle.lzk_field.specs.Sums.{entry}
 use Rattle.lzk_circuit.specs.declared.layer.Term.{Term}
-use Rattle.lzk_reduce.specs.Rows.{IsRow, row_value, term_value, ordered}
-use Rattle.lzk_reduce.specs.Renumbering.{at}
-use Rattle.lzk_reduce.proofs.NormalLaws.{ZeroOrNot, ordered-value}
-use Rattle.lzk_reduce.proofs.RowLaws.{row-of-one}
+use Rattle.lzk_circuit_reduce.specs.Rows.{IsRow, row_value, ordered}
+use Rattle.lzk_circuit_reduce.specs.Renumbering.{at}
+use Rattle.lzk_circuit_reduce.proofs.NormalLaws.{ZeroOrNot}
 use Rattle.lzk_level.specs.declared.node.Gate.{Gate}
 use Rattle.lzk_level.specs.declared.node.Gate.TheVariants.{Constant}
 use Rattle.lzk_level.specs.Nodes.{AreGates}
-use Rattle.lzk_level.specs.Levels.{place_in, width_of, ArePlaces, has_wire, StartsWithOne, AreDepths, AreLast, AreWeights, AreValues, AreRows, AreShort, IsShort, HaveValues, Stands}
-use Rattle.lzk_level.proofs.LevelLaws.{place-below, wire-there, row-more}
-use Rattle.lzk_level.proofs.NodeLaws.{gate-counts, copy-counts, first-one, heavy, gate-short, factors-below, gate-facts}
+use Rattle.lzk_level.specs.Levels.{place_in, width_of, ArePlaces, StartsWithOne, AreDepths, AreLast, AreWeights, AreValues, AreRows, AreShort, IsShort, HaveValues, Stands}
+use Rattle.lzk_level.specs.NodeRows.{IsNodeRow}
+use Rattle.lzk_level.specs.Stacking.{AreWirePlaces}
+use Rattle.lzk_level.proofs.LevelLaws.{row-more}
+use Rattle.lzk_level.proofs.NodeRowLaws.{copied, gated}
 use Rattle.lzk_level.proofs.OneLaws.{starts-with-one}
 use Rattle.lzk_level.proofs.SomeGateRow.{gate-row}
 
@@ -32,18 +33,16 @@ module _ {A : Type 0} (o : Ops A) (r : RingLaws o) (f : FieldLaws o) (decide : Z
       let f = place_in depths last (level - 1) in
       (length-map-range_with_len f 0 (length depths), λ k l. get_or-map-range_with_len f 0 (length depths) k k 0 l (omega arith))
 
-  -- what the row of the next node is
-  record IsNodeRow (rows : List (List (Term A))) (row : List (Term A)) : Type 0 where
-    pub terms : AreRows o (width_of depths last (level - 1)) rows → IsRow o (width_of depths last (level - 1)) row
-    pub value : (values wires : List A) → AreValues o inputs made values → Stands o depths last (level - 1) values wires → HaveValues o depths last level values wires rows
-        → at depths (length rows) ≤ level → level ≤ at last (length rows) → row_value o wires row ≡ entry o values (length rows)
-    pub short : (weights : List ℕ) → AreWeights inputs made weights → AreShort depths level weights rows → IsShort depths level weights (length rows) (length row)
-    pub one : length rows ≡ 0 → row ≡ ordered o.one 0 0 ∷ []
+  are_wires : AreWirePlaces depths last (level - 1) places
+  are_wires = (are_places.0, λ k l there. are_places.1 k l)
+
+  abbrev NodeRow : List (List (Term A)) → List (Term A) → Type 0
+  NodeRow rows row = IsNodeRow o inputs made depths last level rows row
 
   zero_depth : at depths 0 ≡ 0
   zero_depth = d.at_inputs 0 (omega (arith, first))
 
-  deeper : (rows : List (List (Term A))) → level < at depths (length rows) → IsNodeRow rows []
+  deeper : (rows : List (List (Term A))) → level < at depths (length rows) → NodeRow rows []
   deeper rows deep = record {
     terms = λ all. tt;
     value = λ values wires v s counted l need. absurd (omega (arith, deep, l));
@@ -52,7 +51,7 @@ module _ {A : Type 0} (o : Ops A) (r : RingLaws o) (f : FieldLaws o) (decide : Z
   }
 
   -- a node that no level from here on needs has none
-  unneeded : (rows : List (List (Term A))) → at last (length rows) < level → IsNodeRow rows []
+  unneeded : (rows : List (List (Term A))) → at last (length rows) < level → NodeRow rows []
   unneeded rows over = record {
     terms = λ all. tt;
     value = λ values wires v s counted l need. absurd (omega (arith, over, need));
@@ -60,60 +59,28 @@ module _ {A : Type 0} (o : Ops A) (r : RingLaws o) (f : FieldLaws o) (decide : Z
     one = λ none. absurd (omega (arith, ap (at last) none, most, over));
   }
 
-  first_wire : has_wire depths last (level - 1) 0 ≡ true
-  first_wire = wire-there depths last (level - 1) 0 (omega (arith, zero_depth)) (omega (arith, most, some))
-
-  -- a node that is less deep goes on from below
-  copied : (rows : List (List (Term A))) → length rows < length depths → at depths (length rows) < level → level ≤ at last (length rows) → IsNodeRow rows (ordered o.one 0 (place_in depths last (level - 1) (length rows)) ∷ [])
-  copied rows next deep need =
-      let k = length rows in
-      let p = place_in depths last (level - 1) k in
-      let low : 0 < width_of depths last (level - 1) = omega (arith, place-below depths last (level - 1) 0 (length depths) (omega (arith, next)) first_wire) in
-      let here : has_wire depths last (level - 1) k ≡ true = wire-there depths last (level - 1) k (omega (arith, deep)) (omega (arith, need, some)) in
-      let high : p < width_of depths last (level - 1) = place-below depths last (level - 1) k (length depths) next here in
-      record {
-        terms = λ all. row-of-one o (width_of depths last (level - 1)) (ordered o.one 0 p) refl (omega arith) (omega (arith, low, high)) f.one_not_zero;
-        value = λ values wires v s counted l needed.
-            let one = first-one o r inputs made depths last (level - 1) values wires first (omega (arith, most, some)) d v s in
-            r.plus_zero (term_value o wires (ordered o.one 0 p)) ∙ ordered-value o r decide wires o.one 0 p ∙ copy-counts o r wires p o.one (entry o values k) one refl (s.each k next here);
-        short = λ weights h short. ((λ less. omega arith), (λ behind. omega (arith, heavy inputs made weights k first h gates behind (omega (arith, next, d.count)))));
-        one = λ none. ap (λ n. ordered o.one 0 n ∷ []) (ap (place_in depths last (level - 1)) none);
-      }
+  goes-on : (rows : List (List (Term A))) → length rows < length depths → at depths (length rows) < level → level ≤ at last (length rows) → (row : List (Term A)) × NodeRow rows row
+  goes-on rows next less need =
+      let row = ordered o.one 0 (at places (length rows)) ∷ [] in (row, copied o r f made depths last inputs level some most first gates d w places are_wires rows row next less need refl)
 
   -- and one of this depth has the row of its gate
-  gated : (rows : List (List (Term A))) → length rows < length depths → at depths (length rows) ≤ level → level ≤ at depths (length rows) → level ≤ at last (length rows) → (row : List (Term A)) × IsNodeRow rows row
-  gated rows next up least need =
+  by-gate : (rows : List (List (Term A))) → length rows < length depths → at depths (length rows) ≤ level → level ≤ at depths (length rows) → level ≤ at last (length rows) → (row : List (Term A)) × NodeRow rows row
+  by-gate rows next up least need =
       let k = length rows in
       let behind : inputs ≤ k = elim (cases_lt k inputs) [ inl before ↦ absurd (omega (arith, d.at_inputs k before, some, least)) | inr after ↦ after ] in
       let i = k - inputs in
-      let li : i < length made = omega (arith, behind, next, d.count) in
       let gate = get_or made i (Constant o.zero) in
-      let is : gate ≡ get_or made i gate = get_or_default made i (Constant o.zero) gate li in
-      let facts = gate-facts o inputs made depths last level k gate first d w need gates some up least next is in
-      let (row, n) = gate-row o r decide places rows gate in (
-        row,
-        record {
-          terms = λ all.
-              n.terms (width_of depths last (level - 1)) (omega (arith, place-below depths last (level - 1) 0 (length depths) (omega (arith, next)) first_wire)) all
-              (factors-below depths last places (k - 1) level gate some (omega (arith, next)) facts.is_gate facts.depth facts.needed are_places) facts.is_gate;
-          value = λ values wires v s counted l needed.
-              n.value wires (first-one o r inputs made depths last (level - 1) values wires first (omega (arith, most, some)) d v s)
-              ∙ gate-counts o r depths last places level values wires rows gate some (omega (arith, next)) counted s are_places facts.is_gate facts.depth facts.needed ∙ facts.value values v;
-          short = λ weights h short.
-              let lighter = gate-short level depths weights rows gate short facts.is_gate in
-              ((λ less. absurd (omega (arith, less, least))), (λ some. omega (arith, n.short, lighter, facts.weight weights h)));
-          one = λ none. absurd (omega (arith, none, behind, first));
-        },
-      )
+      let is : gate ≡ get_or made i gate = get_or_default made i (Constant o.zero) gate (omega (arith, behind, next, d.count)) in
+      let (row, n) = gate-row o r decide places rows gate in (row, gated o r f made depths last inputs level some most first gates d w places are_wires rows gate row next up least need is n)
 
-  node-row : (rows : List (List (Term A))) → length rows < length depths → (row : List (Term A)) × IsNodeRow rows row
+  node-row : (rows : List (List (Term A))) → length rows < length depths → (row : List (Term A)) × NodeRow rows row
   node-row rows next = elim (cases_lt level (at depths (length rows))) [
     | inl deep ↦ ([], deeper rows deep)
     | inr up ↦ elim (cases_lt (at last (length rows)) level) [
       | inl over ↦ ([], unneeded rows over)
       | inr need ↦ elim (cases_lt (at depths (length rows)) level) [
-        | inl less ↦ (ordered o.one 0 (place_in depths last (level - 1) (length rows)) ∷ [], copied rows next less need)
-        | inr least ↦ gated rows next up least need
+        | inl less ↦ goes-on rows next less need
+        | inr least ↦ by-gate rows next up least need
       ]
     ]
   ]

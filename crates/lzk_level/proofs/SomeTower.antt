@@ -8,10 +8,10 @@ use Rattle.lzk_field.specs.Ring.{Ops, RingLaws, FieldLaws}
 use Rattle.lzk_circuit.specs.declared.layer.Term.{Term}
 use Rattle.lzk_circuit.specs.declared.layer.Layer.{Layer}
 use Rattle.lzk_circuit.specs.Valid.{AreTerms}
-use Rattle.lzk_reduce.specs.Rows.{placed}
-use Rattle.lzk_reduce.specs.Renumbering.{at}
-use Rattle.lzk_reduce.proofs.AppendLaws.{stacked-terms, stacked-before, stacked-added}
-use Rattle.lzk_reduce.proofs.NormalLaws.{ZeroOrNot}
+use Rattle.lzk_circuit_reduce.specs.Rows.{placed}
+use Rattle.lzk_circuit_reduce.specs.Renumbering.{at}
+use Rattle.lzk_circuit_reduce.proofs.AppendLaws.{stacked-terms, stacked-before, stacked-added}
+use Rattle.lzk_circuit_reduce.proofs.NormalLaws.{ZeroOrNot}
 use Rattle.lzk_level.specs.declared.node.Gate.{Gate}
 use Rattle.lzk_level.specs.declared.node.Gate.TheVariants.{Constant, Combine, Mul}
 use Rattle.lzk_level.specs.Nodes.{ArePartsOf, IsGate, AreGates}
@@ -52,16 +52,16 @@ module _ {A : Type 0} (o : Ops A) (r : RingLaws o) (rows : List (List (Term A)))
     pub terms : List (Term A)
     pub are : Outer o rows outputs g terms
 
-  outer-to : (outputs : List ℕ) → ((i : ℕ) → i < length outputs → at outputs i < length rows) → (g : ℕ) → g ≤ length outputs → OuterTerms outputs g
-  outer-to outputs there zero l = record { terms = []; are = outer-starts o rows outputs }
-  outer-to outputs there (suc g) l =
-      let i = outer-to outputs there g (omega (arith, l)) in
+  outer-to : (outputs : List ℕ) → (g : ℕ) → g ≤ length outputs → OuterTerms outputs g
+  outer-to outputs zero l = record { terms = []; are = outer-starts o rows outputs }
+  outer-to outputs (suc g) l =
+      let i = outer-to outputs g (omega (arith, l)) in
       let row = row_at rows (at outputs g) in
       let next : g + 1 ≡ suc g = omega arith in
       record {
         terms = i.terms ++ map (placed g) row;
         are = subst (λ n. Outer o rows outputs n (i.terms ++ map (placed g) row)) next
-            (outer-adds o rows outputs g i.terms (i.terms ++ map (placed g) row) row (omega (arith, l)) (there g (omega (arith, l))) refl (λ width h w. stacked-terms o g width i.terms row h w)
+            (outer-adds o rows outputs g i.terms (i.terms ++ map (placed g) row) row (omega (arith, l)) refl (λ width h w. stacked-terms o g width i.terms row h w)
             (λ below j m. stacked-before o r g j below i.terms row m) (λ below h w. stacked-added o r g below i.terms row h w) (length-append i.terms (map (placed g) row) ∙ ap (λ n. length i.terms + n) (length-map row (placed g))) i.are);
       }
 
@@ -124,7 +124,7 @@ module _ {A : Type 0} (o : Ops A) (r : RingLaws o) (f : FieldLaws o) (decide : Z
       let top : at last 0 ≡ count = at-flat (length depths) count 0 (omega (arith, first, d.count)) in
       let (layers, t) = tower-to last (count - 1) w (omega (arith, some, top)) in
       let (rows, are) = level-rows o r f decide made depths last inputs count some (omega (arith, top)) first gates d w in
-      let i = outer-to o r rows outputs (λ i l. omega (arith, nodes i l, are.count)) (length outputs) (omega arith) in
+      let i = outer-to o r rows outputs (length outputs) (omega arith) in
       let layer : Layer A = record { wires = length outputs; terms = i.terms } in (
         layers ++ layer ∷ [],
         tower-ends o inputs made depths last count layers (layers ++ layer ∷ []) layer rows outputs some first gates d refl are.count are.terms refl most are.value are.short

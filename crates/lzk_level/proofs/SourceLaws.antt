@@ -12,7 +12,7 @@ use Rattle.lzk_level.specs.declared.node.Gate.TheVariants as gate
 use Rattle.lzk_level.specs.declared.lets.Operand.{Operand}
 use Rattle.lzk_level.specs.declared.lets.Operand.TheVariants.{Constant, AtNode}
 use Rattle.lzk_level.specs.Nodes.{Nodes, node_count, IsNode, node_values}
-use Rattle.lzk_reduce.specs.Renumbering.{at}
+use Rattle.lzk_circuit_reduce.specs.Renumbering.{at}
 use Rattle.lzk_level.specs.Compilable.{IsWithin, size_of, AreStatementsWithin, statement_size, statements_size, AreNodes}
 use Rattle.lzk_level.specs.Compiling.{Scope, scope, with_lets, is_constant, constant, Made, made, made_assert, let_nodes, let_operand, statement_lets, statement_nodes, statement_outputs, statements_made, inputs_alone, nodes_of}
 use Rattle.lzk_level.proofs.MadeLaws.{Grown, grown-same, grown-then, grown-count, same-inputs, node-more, IsThere, made-grown, made-there}

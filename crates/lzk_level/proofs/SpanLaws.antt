@@ -1,5 +1,5 @@
 -- Rows that stand in one list of terms.
-use Rattle.std.specs.Prelude.{◌≡◌, ℕ, ◌+◌, ◌-◌, ◌<◌, ◌≤◌, List, [], ◌∷◌, ◌++◌, length, take, drop}
+use Rattle.std.specs.Prelude.{◌≡◌, ℕ, ◌+◌, ◌-◌, ◌≤◌, List, [], ◌∷◌, ◌++◌, length, take, drop}
 use Rattle.std.proofs.Common.{zero, suc, refl, ap, ◌∙◌, arith, get_or}
 use Rattle.std.proofs.lemmas.List.{length-append, length-drop, map-append, take-append-le, drop-append-le, take_all}
 use Rattle.std.proofs.Math.Seq.{drop-append_seam}
@@ -19,16 +19,16 @@ pub spans-wider : (m n : ℕ) (ss : List (ℕ × ℕ)) → m ≤ n → AreSpans 
 spans-wider m n [] l h = tt
 spans-wider m n (s ∷ ss) l h = ((h.0.0, omega (arith, h.0.1, l)), spans-wider m n ss l h.1)
 
-pub span-within : (n : ℕ) (ss : List (ℕ × ℕ)) (k : ℕ) (s d : ℕ × ℕ) → AreSpans n ss → k < length ss → s ≡ get_or ss k d → (s.0 ≤ s.1) × (s.1 ≤ n)
-span-within n [] k s d h l e = absurd (omega (arith, l))
-span-within n (t ∷ ss) zero s d h l e = (omega (arith, ap (λ x. x.0) e, ap (λ x. x.1) e, h.0.0), omega (arith, ap (λ x. x.1) e, h.0.1))
-span-within n (t ∷ ss) (suc k) s d h l e = span-within n ss k s d h.1 (omega (arith, l)) e
+pub span-within : (n : ℕ) (ss : List (ℕ × ℕ)) (k : ℕ) → AreSpans n ss → let s = get_or ss k (0, 0) in (s.0 ≤ s.1) × (s.1 ≤ n)
+span-within n [] k h = (omega arith, omega arith)
+span-within n (s ∷ ss) zero h = h.0
+span-within n (s ∷ ss) (suc k) h = span-within n ss k h.1
 
 module _ {A : Type 0} where
-  pub piece-at : (ts : List (Term A)) (ss : List (ℕ × ℕ)) (k : ℕ) (s : ℕ × ℕ) → k < length ss → s ≡ get_or ss k s → piece ts s ≡ row_at (pieces ts ss) k
-  piece-at ts [] k s l e = absurd (omega (arith, l))
-  piece-at ts (t ∷ ss) zero s l e = ap (piece ts) e
-  piece-at ts (t ∷ ss) (suc k) s l e = piece-at ts ss k s (omega (arith, l)) e
+  pub piece-at : (ts : List (Term A)) (ss : List (ℕ × ℕ)) (k : ℕ) → piece ts (get_or ss k (0, 0)) ≡ row_at (pieces ts ss) k
+  piece-at ts [] k = refl
+  piece-at ts (s ∷ ss) zero = refl
+  piece-at ts (s ∷ ss) (suc k) = piece-at ts ss k
 
   piece-kept : (ts us : List (Term A)) (s : ℕ × ℕ) → s.0 ≤ s.1 → s.1 ≤ length ts → piece (ts ++ us) s ≡ piece ts s
   piece-kept ts us s l m =

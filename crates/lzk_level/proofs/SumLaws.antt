@@ -5,8 +5,8 @@ use Rattle.std.proofs.lemmas.List.{take_more}
 use Rattle.lzk_field.specs.Ring.{Ops, RingLaws}
 use Rattle.lzk_circuit.specs.declared.layer.Term.{Term}
 use Rattle.lzk_circuit.specs.Valid.{AreTerms}
-use Rattle.lzk_reduce.specs.Rows.{row_value, term_value}
-use Rattle.lzk_reduce.proofs.RowLaws.{value-append}
+use Rattle.lzk_circuit_reduce.specs.Rows.{row_value, term_value}
+use Rattle.lzk_circuit_reduce.proofs.RowLaws.{value-append}
 use Rattle.lzk_level.specs.Bounds.{at_parts, total}
 use Rattle.lzk_level.specs.Nodes.{combined}
 use Rattle.lzk_level.specs.Levels.{row_at}

@@ -7,7 +7,7 @@ use Rattle.lzk_level.specs.declared.fault.LevelFault.{LevelFault}
 use Rattle.lzk_level.specs.declared.fault.LevelFault.TheVariants.{Layers, LayerWires, Terms}
 use Rattle.lzk_level.specs.declared.fault.LevelError.{LevelError}
 use Rattle.lzk_level.specs.declared.fault.LevelError.TheVariants.{Fault, OutOfMemory}
-use Rattle.lzk_reduce.specs.Renumbering.{at}
+use Rattle.lzk_circuit_reduce.specs.Renumbering.{at}
 use Rattle.lzk_level.specs.Nodes.{Nodes, input_count, node_count, after}
 
 -- the greatest of the numbers and m

@@ -9,9 +9,9 @@ use Rattle.lzk_circuit.specs.declared.layer.Layer.{Layer}
 use Rattle.lzk_circuit.specs.Checks.{checks_of, check_count}
 use Rattle.lzk_circuit.specs.Valid.{Wiring, AreLayersOf}
 use Rattle.lzk_circuit.specs.Wires.{inputs_of}
-use Rattle.lzk_reduce.specs.Attached.{IsReducedAsserting}
-use Rattle.lzk_reduce.specs.Reduced.{output_count}
-use Rattle.lzk_reduce.specs.Renumbering.{at}
+use Rattle.lzk_circuit_reduce.specs.Attached.{IsReducedAsserting}
+use Rattle.lzk_circuit_reduce.specs.Reduced.{output_count}
+use Rattle.lzk_circuit_reduce.specs.Renumbering.{at}
 use Rattle.lzk_level.specs.Bounds.{node_depths, layer_count, total, greatest}
 use Rattle.lzk_level.specs.Levels.{place_in, IsGraph, AreWeights, AreValues, Begins}
 use Rattle.lzk_level.specs.Nodes.{Nodes, node_values}

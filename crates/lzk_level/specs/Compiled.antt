@@ -8,9 +8,9 @@ use Rattle.lzk_circuit.specs.Valid.{Wiring}
 use Rattle.lzk_circuit.specs.Checks.{checks_of, check_count}
 use Rattle.lzk_circuit.specs.Wires.{inputs_of, wires_of}
 use Rattle.lzk_field.specs.Sums.{entry}
-use Rattle.lzk_reduce.specs.Attached.{IsReducedAsserting}
-use Rattle.lzk_reduce.specs.Reduced.{IsReduced}
-use Rattle.lzk_reduce.specs.Renumbering.{at}
+use Rattle.lzk_circuit_reduce.specs.Attached.{IsReducedAsserting}
+use Rattle.lzk_circuit_reduce.specs.Reduced.{IsReduced}
+use Rattle.lzk_circuit_reduce.specs.Renumbering.{at}
 use Rattle.lzk_circbytes.specs.declared.any.AnyCircuit.{AnyCircuit}
 use Rattle.lzk_circbytes.specs.declared.any.AnyCircuit.TheVariants.{Gold, Gf}
 use Rattle.lzk_expr.specs.Trees.{Statement, SourceTree, is_public, is_private, is_assertion}

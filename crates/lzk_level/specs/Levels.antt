@@ -11,9 +11,9 @@ use Rattle.lzk_circuit.specs.Wires.{wires_of}
 use Rattle.lzk_level.specs.declared.node.Gate.{Gate}
 use Rattle.lzk_level.specs.declared.node.Gate.TheVariants.{Constant, Combine, Mul}
 use Rattle.lzk_level.specs.Nodes.{AreGates, combined, gate_value}
-use Rattle.lzk_reduce.specs.Renumbering.{at}
+use Rattle.lzk_circuit_reduce.specs.Renumbering.{at}
 use Rattle.lzk_level.specs.Bounds.{gate_depth, gate_weight}
-use Rattle.lzk_reduce.specs.Rows.{IsRow, row_value, ordered}
+use Rattle.lzk_circuit_reduce.specs.Rows.{IsRow, row_value, ordered}
 
 -- node k has a wire in a level: it is no deeper, and some level above it, up to its last one, needs the node
 abbrev pub has_wire : List ℕ → List ℕ → ℕ → ℕ → Bool

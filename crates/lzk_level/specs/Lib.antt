@@ -3,11 +3,15 @@ pub mod Bounds
 pub mod Meanings
 pub mod Levels
 pub mod Spans
+pub mod NodeRows
 pub mod Stacking
 pub mod Checking
+pub mod Layouts
 pub mod Compilable
+pub mod Making
 pub mod Compiling
 pub mod Compiled
+pub mod Finished
 pub mod SomeCircuit
 pub mod Upgraded
 pub use Rattle.lzk_field.specs

@@ -7,14 +7,32 @@ use Rattle.lzk_circuit.specs.declared.layer.Layer.{Layer}
 use Rattle.lzk_circuit.specs.declared.layer.Term.{Term}
 use Rattle.lzk_circuit.specs.Valid.{AreLayers, AreTerms, under_of}
 use Rattle.lzk_circuit.specs.Wires.{coef, wire, wires_of}
-use Rattle.lzk_reduce.specs.Reduced.{HaveOnes}
-use Rattle.lzk_reduce.specs.Renumbering.{at}
-use Rattle.lzk_reduce.specs.Rows.{row_value}
-use Rattle.lzk_reduce.specs.Targets.{AreAllTerms}
+use Rattle.lzk_circuit_reduce.specs.Reduced.{HaveOnes}
+use Rattle.lzk_circuit_reduce.specs.Renumbering.{at}
+use Rattle.lzk_circuit_reduce.specs.Rows.{row_value}
+use Rattle.lzk_circuit_reduce.specs.Targets.{AreAllTerms}
 use Rattle.lzk_level.specs.declared.node.Gate.{Gate}
 use Rattle.lzk_level.specs.Bounds.{total}
 use Rattle.lzk_level.specs.Levels.{has_wire, place_in, width_of, row_at, lengths_in, lengths_of, AreRows, AreShort}
 use Rattle.lzk_level.specs.Levels.{AreWeights, AreValues, HaveValues, Stands, StandBelow, StartsWithOne, Begins, HaveWidthsBelow}
+
+-- the places of the nodes with a wire in a level
+abbrev pub AreWirePlaces : List ℕ → List ℕ → ℕ → List ℕ → Type 0
+AreWirePlaces depths last level places =
+    (length places ≡ length depths)
+    × ((k : ℕ) → k < length depths → has_wire depths last level k ≡ true → at places k ≡ place_in depths last level k)
+
+-- a level above the wires with these places, up to which the one goes on
+pub record IsAbove (depths last : List ℕ) (level : ℕ) (places : List ℕ) : Type 0 where
+  pub some : 1 ≤ level
+  pub high : level ≤ at last 0
+  pub places_are : AreWirePlaces depths last (level - 1) places
+
+-- of the nodes before this one, the level and those above it need the one alone
+pub record ArePassedBy (last : List ℕ) (level first : ℕ) : Type 0 where
+  pub some : 1 ≤ first
+  pub most : first ≤ length last
+  pub each : (j : ℕ) → 1 ≤ j → j < first → at last j < level
 
 -- a level needs the row of node k: the node is no deeper, and this level or one above needs it
 pub record IsNeeded (depths last : List ℕ) (level k : ℕ) : Type 0 where

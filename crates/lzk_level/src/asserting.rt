@@ -2,13 +2,14 @@
 //! layer above its own, with no copies up to the outputs.
 
 ghost use Rattle.std.specs.Prelude.{◌≡◌, ℕ, ◌+◌, ◌<◌, ◌≤◌, None, length, IfOk, IfErr};
-ghost use Rattle.lzk_profile.specs.Profile.{most_privates, most_wires};
+ghost use Rattle.lzk_profile.specs.Profile.{most_wires};
 ghost use Rattle.lzk_circuit.specs.Checks.{check_count};
-ghost use Rattle.lzk_circuit.specs.Valid.{AreLayersOf, wiring_of};
-ghost use Rattle.lzk_reduce.specs.Attached.{IsReducedAsserting};
-ghost use Rattle.lzk_reduce.specs.Renumbering.{at};
+ghost use Rattle.lzk_circuit.specs.Valid.{IsValid, wiring_of};
+ghost use Rattle.lzk_circuit_reduce.specs.Attached.{IsReducedAsserting};
+ghost use Rattle.lzk_circuit_reduce.specs.Renumbering.{at};
 ghost use Rattle.lzk_level.specs.Bounds.{layer_count, level_fault_v2, IsFaultOf};
 ghost use Rattle.lzk_level.specs.Checking.{of_depth, level_targets, targets_below, HasChecks, HasFewOutputs, AreAsserts, AreAsserting};
+ghost use Rattle.lzk_level.specs.Layouts.{IsLaidOutV2};
 ghost use Rattle.lzk_level.specs.Nodes.{IsNode, node_count};
 
 use crate::builder::Builder;
@@ -17,10 +18,10 @@ use crate::finish::{measured, stacked_levels};
 use crate::graph::Graph;
 use crate::last::last_asserting;
 use crate::levels::places;
-use crate::node::{Gate, Node};
+use crate::node::{Gate, Node, of_node};
 use lzk_circuit::{Circuit, Layer};
+use lzk_circuit_reduce::{Targets, asserting};
 use lzk_field::Field;
-use lzk_reduce::{Targets, asserting};
 use std::alloc::{AllocError, Global};
 
 // The nodes with a depth, in their order.
@@ -30,13 +31,13 @@ fn of_depth(
     nodes: &[Node],
     depth: u32,
 ) -> Result<Vec<Node>, AllocError>
-    requires { (i : ℕ) → i < length nodes.now → at nodes.now i < length depths.now }
     ensures { IfOk result (λ found. found.items ≡ of_depth depths.now depth nodes.now) }
 {
     let mut found = Vec::new(alloc);
     for i in 0..nodes.len() {
-        if depths[nodes[i].number() as usize] == depth {
-            found.push(nodes[i])?;
+        let node = nodes[i];
+        if of_node(depths, node) == depth {
+            found.push(node)?;
         }
     }
     Ok(found)
@@ -82,11 +83,7 @@ fn all_targets<F>(
 }
 
 fn circuit_of<F: Field>(publics: u32, privates: u32, layers: Vec<Layer<F>>) -> Circuit<F>
-    requires publics { publics ≤ 65535 }
-    requires privates { privates ≤ most_privates }
-    requires some { 1 ≤ length layers.items }
-    requires most { length layers.items ≤ 512 }
-    requires layers { AreLayersOf F.ops 2 (1 + publics + privates) layers.items }
+    requires { IsValid F.ops (wiring_of 2 publics privates layers.items) }
     ensures { result ≡ wiring_of 2 publics privates layers.items }
 {
     match Circuit::of_layers_v2(publics, privates, layers) {
@@ -127,15 +124,7 @@ fn laid_out<F: Field>(builder: &Builder<F>, asserts: &[Node]) -> Result<Circuit<
     requires some { 1 ≤ length asserts.now }
     requires asserts { length asserts.now ≤ most_wires }
     requires nodes { (i : ℕ) → i < length asserts.now → IsNode (node_count builder.now) (at asserts.now i) }
-    ensures version { IfOk result (λ c. c.version ≡ 2) }
-    ensures publics { IfOk result (λ c. c.publics ≡ builder.now.publics) }
-    ensures privates { IfOk result (λ c. c.privates ≡ builder.now.privates) }
-    ensures layers { IfOk result (λ c. length c.layers ≡ layer_count builder.now asserts.now) }
-    ensures count { IfOk result (λ c. check_count F.coding.number c.layers ≡ length asserts.now) }
-    ensures checks { IfOk result (HasChecks F.ops F.coding.number builder.now asserts.now) }
-    ensures outputs { IfOk result (HasFewOutputs builder.now asserts.now) }
-    ensures reduced { IfOk result (λ c. IsReducedAsserting F.ops c.layers) }
-    ensures within { IfOk result (λ _. level_fault_v2 builder.now asserts.now ≡ None) }
+    ensures circuit { IfOk result (IsLaidOutV2 F.ops F.coding.number builder.now asserts.now) }
     ensures fault { IfErr result (IsFaultOf (level_fault_v2 builder.now asserts.now)) }
 {
     let (depths, count) = measured(builder, asserts, asserts.len() as u32)?;

@@ -99,7 +99,7 @@ impl<F: Field> Builder<F> {
         self.combine_list(list)
     }
 
-    // The same of a list, which the node keeps.
+    // The sum of the coefficients times the nodes of a list, which the node keeps.
     pub(crate) fn combine_list(&mut self, parts: Vec<(F, Node)>) -> Result<Node, AllocError>
         requires room { node_count self.old < 2147483648 }
         requires some { 1 ≤ length parts.items }

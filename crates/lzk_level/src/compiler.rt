@@ -1,16 +1,16 @@
 //! Circuits of sources.
 
-ghost use Rattle.std.specs.Prelude.{◌≡◌, ◌+◌, ◌≤◌, ◌++◌, None, count_by, length, IfOk, IfErr, OnOk};
+ghost use Rattle.std.specs.Prelude.{◌≡◌, ◌+◌, ◌≤◌, ◌++◌, None, count_by, IfOk, IfErr, OnOk};
 ghost use Rattle.lzk_expr.specs.Trees.{is_public, is_private};
 ghost use Rattle.lzk_expr.specs.View.{expr_of, statement_of, statements_of, tree_of};
-ghost use Rattle.lzk_reduce.specs.Reduced.{IsReduced};
-ghost use Rattle.lzk_level.specs.Nodes.{node_count};
 ghost use Rattle.lzk_level.specs.Bounds.{IsFaultOf};
-ghost use Rattle.lzk_level.specs.Compilable.{IsWithin, size_of, AreOperands, IsStatementWithin, statement_size};
+ghost use Rattle.lzk_level.specs.Making.{CanMake, CanSubtract, CanTake};
 ghost use Rattle.lzk_level.specs.Compiling.{scope, let_nodes, let_operand, made_assert, statement_lets, statement_nodes, statement_outputs, nodes_of};
-ghost use Rattle.lzk_level.specs.Compiled.{IsCompilable, HasValues, layers_needed, limit_passed, version_of, field_of};
+ghost use Rattle.lzk_level.specs.Compiled.{IsCompilable, limit_passed, version_of, field_of};
 ghost use Rattle.lzk_level.specs.Compiled.{publics_of, privates_of, depth_of, HasSourceValues, HasReducedLayers};
 ghost use Rattle.lzk_level.specs.Compiled.{source_layers, source_limit};
+ghost use Rattle.lzk_level.specs.Finished.{AreBuilt, IsCircuitOver};
+ghost use Rattle.lzk_level.specs.SomeCircuit.{IsCircuitOf};
 
 use crate::builder::Builder;
 use crate::constants::constant;
@@ -31,9 +31,7 @@ fn define<F: Field>(
     lets: &[Operand<F>],
     expr: &Expr,
 ) -> Result<Operand<F>, AllocError>
-    requires inputs { IsWithin builder.old.publics builder.old.privates (expr_of expr.now) }
-    requires lets { AreOperands (node_count builder.old) lets.now }
-    requires room { node_count builder.old + size_of (expr_of expr.now) ≤ 2147483648 }
+    requires { CanMake builder.old lets.now (expr_of expr.now) }
     ensures nodes { IfOk result
         (λ _. builder.new ≡ let_nodes (scope F.ops F.coding.element lets.now) builder.old (expr_of expr.now)) }
     ensures operand { IfOk result
@@ -53,10 +51,7 @@ fn subtract<F: Field>(
     left: &Expr,
     right: &Expr,
 ) -> Result<Node, AllocError>
-    requires left { IsWithin builder.old.publics builder.old.privates (expr_of left.now) }
-    requires right { IsWithin builder.old.publics builder.old.privates (expr_of right.now) }
-    requires lets { AreOperands (node_count builder.old) lets.now }
-    requires room { node_count builder.old + 1 + size_of (expr_of left.now) + size_of (expr_of right.now) ≤ 2147483648 }
+    requires { CanSubtract builder.old lets.now (expr_of left.now) (expr_of right.now) }
     ensures nodes { IfOk result (λ _.
         builder.new
         ≡ (made_assert (scope F.ops F.coding.element lets.now) builder.old (expr_of left.now)
@@ -81,9 +76,7 @@ fn take_statement<F: Field>(
     lets: &mut Vec<Operand<F>>,
     outputs: &mut Vec<Node>,
 ) -> Result<(), AllocError>
-    requires inputs { IsStatementWithin builder.old.publics builder.old.privates (statement_of statement.now) }
-    requires lets { AreOperands (node_count builder.old) lets.old.items }
-    requires room { node_count builder.old + statement_size (statement_of statement.now) ≤ 2147483648 }
+    requires { CanTake builder.old lets.old.items (statement_of statement.now) }
     ensures nodes { OnOk result (builder.new
         ≡ statement_nodes (scope F.ops F.coding.element lets.old.items) builder.old (statement_of statement.now)) }
     ensures lets { OnOk result (lets.new.items
@@ -108,8 +101,8 @@ fn take_statement<F: Field>(
     Ok(())
 }
 
-/// The nodes of a source's statements, and its outputs.
-pub fn build<F: Field>(
+// The nodes of a source's statements, and its outputs.
+fn build<F: Field>(
     alloc: Global,
     publics: u32,
     privates: u32,
@@ -132,30 +125,52 @@ pub fn build<F: Field>(
     Ok((builder, outputs))
 }
 
-// The circuit of a source's statements over a field.
-fn compile_over<F: Field>(
+/// The nodes and outputs of a source.
+pub(crate) fn source_nodes<F: Field>(
     alloc: Global,
-    publics: u32,
-    privates: u32,
-    statements: &[Statement],
-) -> Result<Circuit<F>, LevelError>
-    requires publics { publics ≡ count_by is_public (statements_of statements.now) }
-    requires privates { privates ≡ count_by is_private (statements_of statements.now) }
-    requires compilable { IsCompilable (statements_of statements.now) }
-    ensures version { IfOk result (λ c. c.version ≡ 1) }
-    ensures publics { IfOk result (λ c. c.publics ≡ publics) }
-    ensures privates { IfOk result (λ c. c.privates ≡ privates) }
-    ensures layers { IfOk result
-        (λ c. length c.layers ≡ layers_needed (nodes_of F.ops F.coding.element (statements_of statements.now))) }
-    ensures outputs { IfOk result (HasValues F.ops F.coding.element (statements_of statements.now)) }
-    ensures reduced { IfOk result (λ c. IsReduced F.ops c.layers) }
-    ensures within { IfOk result
-        (λ _. limit_passed (nodes_of F.ops F.coding.element (statements_of statements.now)) ≡ None) }
-    ensures fault { IfErr result
-        (IsFaultOf (limit_passed (nodes_of F.ops F.coding.element (statements_of statements.now)))) }
+    source: &Source,
+) -> Result<(Builder<F>, Vec<Node>), AllocError>
+    ensures { IfOk result
+        (λ made. AreBuilt F.ops F.coding.element (statements_of source.now.statements) made.0 made.1.items) }
 {
-    let (builder, outputs) = build::<F>(alloc, publics, privates, statements)?;
+    let publics = source.publics();
+    let privates = source.privates();
+    build(alloc, publics, privates, source.statements())
+}
+
+/// Those of a source that has no other use: it is dropped, and the levels may be laid out in its memory.
+pub(crate) fn dropped_nodes<F: Field>(
+    alloc: Global,
+    source: Source,
+) -> Result<(Builder<F>, Vec<Node>), AllocError>
+    ensures { IfOk result
+        (λ made. AreBuilt F.ops F.coding.element (statements_of source.statements) made.0 made.1.items) }
+{
+    let made = source_nodes(alloc, &source);
+    drop(source);
+    made
+}
+
+// The circuit of a source over a field.
+fn compile_over<F: Field>(alloc: Global, source: &Source) -> Result<Circuit<F>, LevelError>
+    ensures circuit { IfOk result (IsCircuitOver F.ops F.coding.element (statements_of source.now.statements)) }
+    ensures fault { IfErr result
+        (IsFaultOf (limit_passed (nodes_of F.ops F.coding.element (statements_of source.now.statements)))) }
+{
+    let (builder, outputs) = source_nodes::<F>(alloc, source)?;
     builder.finish(&outputs)
+}
+
+// The circuit of a source over the field that it names.
+fn compiled(alloc: Global, source: &Source) -> Result<AnyCircuit, LevelError>
+    ensures circuit { IfOk result (IsCircuitOf (tree_of source.now)) }
+    ensures within { IfOk result (λ _. source_limit (tree_of source.now) ≡ None) }
+    ensures fault { IfErr result (IsFaultOf (source_limit (tree_of source.now))) }
+{
+    match source.field() {
+        FieldId::Goldilocks => Ok(AnyCircuit::Gold(compile_over(alloc, source)?)),
+        FieldId::Gf2_128 => Ok(AnyCircuit::Gf(compile_over(alloc, source)?)),
+    }
 }
 
 /// The reduced circuit of a source: the nodes that the profile in docs/FORMATS.md makes of it, finished with
@@ -171,53 +186,29 @@ pub fn compile(alloc: Global, source: &Source) -> Result<AnyCircuit, LevelError>
     ensures within { IfOk result (λ _. source_limit (tree_of source.now) ≡ None) }
     ensures fault { IfErr result (IsFaultOf (source_limit (tree_of source.now))) }
 {
-    let publics = source.publics();
-    let privates = source.privates();
-    let statements = source.statements();
-    match source.field() {
-        FieldId::Goldilocks => Ok(AnyCircuit::Gold(compile_over(
-            alloc, publics, privates, statements,
-        )?)),
-        FieldId::Gf2_128 => Ok(AnyCircuit::Gf(compile_over(alloc, publics, privates, statements)?)),
-    }
-}
-
-/// The nodes and outputs of a source that has no other use: it is dropped, and the levels may be laid out in its
-/// memory.
-pub fn build_dropping<F: Field>(
-    alloc: Global,
-    source: Source,
-) -> Result<(Builder<F>, Vec<Node>), AllocError>
-    ensures compilable { IsCompilable (statements_of source.statements) }
-    ensures nodes { IfOk result
-        (λ built. built.0 ≡ (nodes_of F.ops F.coding.element (statements_of source.statements)).nodes) }
-    ensures outputs { IfOk result
-        (λ built. built.1.items ≡ (nodes_of F.ops F.coding.element (statements_of source.statements)).outputs) }
-{
-    let publics = source.publics();
-    let privates = source.privates();
-    let statements = source.statements();
-    let built = build(alloc, publics, privates, statements);
-    drop(source);
-    built
+    compiled(alloc, source)
 }
 
 // The circuit of a source that has no other use.
 fn compile_dropping<F: Field>(alloc: Global, source: Source) -> Result<Circuit<F>, LevelError>
-    ensures version { IfOk result (λ c. c.version ≡ 1) }
-    ensures publics { IfOk result (λ c. c.publics ≡ count_by is_public (statements_of source.statements)) }
-    ensures privates { IfOk result (λ c. c.privates ≡ count_by is_private (statements_of source.statements)) }
-    ensures layers { IfOk result
-        (λ c. length c.layers ≡ layers_needed (nodes_of F.ops F.coding.element (statements_of source.statements))) }
-    ensures outputs { IfOk result (HasValues F.ops F.coding.element (statements_of source.statements)) }
-    ensures reduced { IfOk result (λ c. IsReduced F.ops c.layers) }
-    ensures within { IfOk result
-        (λ _. limit_passed (nodes_of F.ops F.coding.element (statements_of source.statements)) ≡ None) }
+    ensures circuit { IfOk result (IsCircuitOver F.ops F.coding.element (statements_of source.statements)) }
     ensures fault { IfErr result
         (IsFaultOf (limit_passed (nodes_of F.ops F.coding.element (statements_of source.statements)))) }
 {
-    let (builder, outputs) = build_dropping::<F>(alloc, source)?;
+    let (builder, outputs) = dropped_nodes::<F>(alloc, source)?;
     builder.finish(&outputs)
+}
+
+// Its circuit over the field that it names.
+fn compiled_dropping(alloc: Global, source: Source) -> Result<AnyCircuit, LevelError>
+    ensures circuit { IfOk result (IsCircuitOf (tree_of source)) }
+    ensures within { IfOk result (λ _. source_limit (tree_of source) ≡ None) }
+    ensures fault { IfErr result (IsFaultOf (source_limit (tree_of source))) }
+{
+    match source.field() {
+        FieldId::Goldilocks => Ok(AnyCircuit::Gold(compile_dropping(alloc, source)?)),
+        FieldId::Gf2_128 => Ok(AnyCircuit::Gf(compile_dropping(alloc, source)?)),
+    }
 }
 
 /// What [`compile`] makes of a source that has no other use, in less memory.
@@ -232,8 +223,5 @@ pub fn compile_owned(alloc: Global, source: Source) -> Result<AnyCircuit, LevelE
     ensures within { IfOk result (λ _. source_limit (tree_of source) ≡ None) }
     ensures fault { IfErr result (IsFaultOf (source_limit (tree_of source))) }
 {
-    match source.field() {
-        FieldId::Goldilocks => Ok(AnyCircuit::Gold(compile_dropping(alloc, source)?)),
-        FieldId::Gf2_128 => Ok(AnyCircuit::Gf(compile_dropping(alloc, source)?)),
-    }
+    compiled_dropping(alloc, source)
 }

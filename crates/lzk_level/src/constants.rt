@@ -10,7 +10,7 @@ use crate::lets::Operand;
 use lzk_expr::{Expr, Part};
 use lzk_field::Field;
 
-pub fn let_at<F: Field>(lets: &[Operand<F>], i: u32) -> Operand<F>
+pub(crate) fn let_at<F: Field>(lets: &[Operand<F>], i: u32) -> Operand<F>
     ensures { result ≡ let_at (scope F.ops F.coding.element lets.now) i }
 {
     match lets.get(i as usize) {
@@ -29,7 +29,7 @@ fn let_constant<F: Field>(lets: &[Operand<F>], i: u32) -> Option<F>
 }
 
 /// `x`, or with `minus` its negative.
-pub fn signed<F: Field>(minus: bool, x: F) -> F
+pub(crate) fn signed<F: Field>(minus: bool, x: F) -> F
     ensures { result ≡ signed F.ops minus x }
 {
     if minus { x.neg() } else { x }
@@ -37,7 +37,7 @@ pub fn signed<F: Field>(minus: bool, x: F) -> F
 
 /// The value of a constant expression, and none of any other.
 #[cycle(constant)]
-pub fn constant<F: Field>(lets: &[Operand<F>], expr: &Expr) -> Option<F>
+pub(crate) fn constant<F: Field>(lets: &[Operand<F>], expr: &Expr) -> Option<F>
     ensures { result ≡ constant_of (scope F.ops F.coding.element lets.now) (expr_of expr.now) }
 {
     match expr {
@@ -80,7 +80,7 @@ fn constant_product<F: Field>(lets: &[Operand<F>], factors: &[Expr]) -> Option<F
 }
 
 /// The product of the constant factors, where there is one.
-pub fn constant_factor<F: Field>(lets: &[Operand<F>], factors: &[Expr]) -> Option<F>
+pub(crate) fn constant_factor<F: Field>(lets: &[Operand<F>], factors: &[Expr]) -> Option<F>
     ensures { result ≡ constant_factor (scope F.ops F.coding.element lets.now) (expr_list factors.now) }
 {
     let mut product = None;

@@ -1,12 +1,13 @@
 //! Circuits of nodes.
 
 ghost use Rattle.std.specs.Prelude.{◌≡◌, ℕ, ◌+◌, ◌<◌, ◌≤◌, None, length, IfOk, IfErr};
-ghost use Rattle.lzk_profile.specs.Profile.{most_privates, most_wires};
-ghost use Rattle.lzk_circuit.specs.Valid.{AreLayers, wiring};
-ghost use Rattle.lzk_reduce.specs.Reduced.{IsReduced};
+ghost use Rattle.lzk_profile.specs.Profile.{most_wires};
+ghost use Rattle.lzk_circuit.specs.Valid.{IsValid, wiring};
+ghost use Rattle.lzk_circuit_reduce.specs.Reduced.{IsReduced};
 ghost use Rattle.lzk_level.specs.Nodes.{IsNode, node_count};
-ghost use Rattle.lzk_reduce.specs.Renumbering.{at};
+ghost use Rattle.lzk_circuit_reduce.specs.Renumbering.{at};
 ghost use Rattle.lzk_level.specs.Bounds.{layer_count, level_fault, level_fault_with, node_depths, IsLevelError, IsFaultOf};
+ghost use Rattle.lzk_level.specs.Layouts.{IsLaidOut};
 ghost use Rattle.lzk_level.specs.Meanings.{HasOutputs};
 ghost use Rattle.lzk_level.specs.Levels.{IsGraph};
 ghost use Rattle.lzk_level.specs.Stacking.{AreOutputs, AreNeededTo, AreStacked, HaveStack};
@@ -15,19 +16,19 @@ use crate::builder::Builder;
 use crate::fault::LevelError;
 use crate::graph::Graph;
 use crate::last::last_levels;
-use crate::levels::{level_rows, places};
+use crate::levels::{first_open, level_rows, places};
 use crate::measure::{check_limits, depths_of, weights_of};
 use crate::node::{Gate, Node};
 use crate::rows::Rows;
 use crate::stack::{inner_layer, output_layer};
 use lzk_circuit::{Circuit, Layer};
+use lzk_circuit_reduce::reduced;
 use lzk_field::Field;
-use lzk_reduce::reduced;
 use std::alloc::{AllocError, Global};
 
 /// The layers for these outputs, the last first. In an inner layer each node has a wire from the level of its
 /// depth on, as far as a level above needs it.
-pub fn stacked_levels<F: Field>(
+pub(crate) fn stacked_levels<F: Field>(
     alloc: Global,
     graph: &Graph<'_, F>,
     outputs: &[Node],
@@ -42,11 +43,13 @@ pub fn stacked_levels<F: Field>(
     let mut layers = Vec::new(alloc);
     let mut rows = Rows::new(alloc);
     let mut below = places(alloc, graph, 0)?;
+    let mut first = 1;
     for level in 1..count {
-        level_rows(alloc, graph, level, &below, &mut rows)?;
-        layers.push(inner_layer(alloc, graph, level, &rows, &mut below)?)?;
+        first = first_open(graph.last, level, first);
+        level_rows(alloc, graph, level, first, &below, &mut rows)?;
+        layers.push(inner_layer(alloc, graph, level, first, &rows, &mut below)?)?;
     }
-    level_rows(alloc, graph, count, &below, &mut rows)?;
+    level_rows(alloc, graph, count, first, &below, &mut rows)?;
     layers.push(output_layer(alloc, &rows, outputs)?)?;
     Ok(layers)
 }
@@ -76,13 +79,12 @@ fn stacked<F: Field>(
 
 /// The depths of the one and all nodes, and how many layers the outputs need, where they keep the limits with so
 /// many further wires in a layer.
-pub fn measured<F: Field>(
+pub(crate) fn measured<F: Field>(
     builder: &Builder<F>,
     outputs: &[Node],
     further: u32,
 ) -> Result<(Vec<u32>, u32), LevelError>
-    requires further { further ≤ most_wires }
-    requires nodes { (i : ℕ) → i < length outputs.now → IsNode (node_count builder.now) (at outputs.now i) }
+    requires { further ≤ most_wires }
     ensures depths { IfOk result (λ sizes. sizes.0.items ≡ node_depths builder.now) }
     ensures count { IfOk result (λ sizes. sizes.1 ≡ layer_count builder.now outputs.now) }
     ensures within { IfOk result (λ _. level_fault_with further builder.now outputs.now ≡ None) }
@@ -98,11 +100,7 @@ pub fn measured<F: Field>(
 }
 
 fn circuit_of<F: Field>(publics: u32, privates: u32, layers: Vec<Layer<F>>) -> Circuit<F>
-    requires publics { publics ≤ 65535 }
-    requires privates { privates ≤ most_privates }
-    requires some { 1 ≤ length layers.items }
-    requires most { length layers.items ≤ 512 }
-    requires layers { AreLayers F.ops (1 + publics + privates) layers.items }
+    requires { IsValid F.ops (wiring publics privates layers.items) }
     ensures { result ≡ wiring publics privates layers.items }
 {
     match Circuit::of_layers(publics, privates, layers) {
@@ -116,13 +114,7 @@ fn laid_out<F: Field>(builder: &Builder<F>, outputs: &[Node]) -> Result<Circuit<
     requires some { 1 ≤ length outputs.now }
     requires outputs { length outputs.now ≤ most_wires }
     requires nodes { (i : ℕ) → i < length outputs.now → IsNode (node_count builder.now) (at outputs.now i) }
-    ensures version { IfOk result (λ c. c.version ≡ 1) }
-    ensures publics { IfOk result (λ c. c.publics ≡ builder.now.publics) }
-    ensures privates { IfOk result (λ c. c.privates ≡ builder.now.privates) }
-    ensures layers { IfOk result (λ c. length c.layers ≡ layer_count builder.now outputs.now) }
-    ensures outputs { IfOk result (HasOutputs F.ops builder.now outputs.now) }
-    ensures reduced { IfOk result (λ c. IsReduced F.ops c.layers) }
-    ensures within { IfOk result (λ _. level_fault builder.now outputs.now ≡ None) }
+    ensures circuit { IfOk result (IsLaidOut F.ops builder.now outputs.now) }
     ensures fault { IfErr result (IsLevelError builder.now outputs.now) }
 {
     let (depths, count) = measured(builder, outputs, 0)?;

@@ -9,7 +9,7 @@ use crate::node::Gate;
 /// Nodes with their depths, and the last level that needs each: the one and the inputs, and behind them the gates over
 /// what stands before each.
 #[derive(Drop)]
-pub struct Graph<'a, F> {
+pub(crate) struct Graph<'a, F> {
     /// How many there are of the one and the inputs.
     pub inputs: usize,
     /// The gates.

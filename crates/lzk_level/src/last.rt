@@ -1,7 +1,7 @@
 //! The last level that needs each node.
 
 ghost use Rattle.std.specs.Prelude.{◌≡◌, ℕ, ◌+◌, ◌-◌, ◌<◌, ◌≤◌, min, length, slice_index_or, IfOk};
-ghost use Rattle.lzk_reduce.specs.Renumbering.{at};
+ghost use Rattle.lzk_circuit_reduce.specs.Renumbering.{at};
 ghost use Rattle.lzk_level.specs.Nodes.{ArePartsOf, IsGate};
 ghost use Rattle.lzk_level.specs.Stacking.{AreOutputs, AreNeededTo};
 ghost use Rattle.lzk_level.specs.Levels.{IsGraph, AreLast, AreNeeded, ArePartsNeeded};
@@ -137,7 +137,7 @@ fn need_all<F>(last: &mut Vec<u32>, inputs: usize, made: &[Gate<F>], depths: &[u
 }
 
 /// The last level that needs each node. An output is needed up to the uppermost.
-pub fn last_levels<F>(
+pub(crate) fn last_levels<F>(
     alloc: Global,
     inputs: usize,
     made: &[Gate<F>],
@@ -157,7 +157,7 @@ pub fn last_levels<F>(
 
 /// The last level that needs each node, where the asserted nodes are needed at the level above their own, or at the
 /// uppermost.
-pub fn last_asserting<F>(
+pub(crate) fn last_asserting<F>(
     alloc: Global,
     inputs: usize,
     made: &[Gate<F>],

@@ -2,9 +2,9 @@
 
 ghost use Rattle.std.specs.Prelude.{◌≡◌, ◌+◌, ◌<◌, ◌≤◌, false, None, IfOk};
 ghost use Rattle.lzk_expr.specs.View.{expr_of, part_list, expr_list};
-ghost use Rattle.lzk_level.specs.Nodes.{node_count, IsNode};
-ghost use Rattle.lzk_level.specs.Compilable.{IsWithin, ArePartsWithin, AreFactorsWithin, size_of, parts_size};
-ghost use Rattle.lzk_level.specs.Compilable.{factors_size, IsOperand, AreOperands, IsNodeOrNone};
+ghost use Rattle.lzk_level.specs.Nodes.{node_count};
+ghost use Rattle.lzk_level.specs.Compilable.{size_of, IsOperand, IsNodeOrNone};
+ghost use Rattle.lzk_level.specs.Making.{CanUse, CanMake, CanMakeParts, CanMakeFactors};
 ghost use Rattle.lzk_level.specs.Compiling.{scope, is_constant, there, at_let, multiple, scaled, joined, factored, made, made_parts, made_factors};
 
 use crate::builder::Builder;
@@ -34,8 +34,7 @@ fn multiply<F: Field>(
     factor: F,
     node: Node,
 ) -> Result<Node, AllocError>
-    requires room { node_count builder.old < 2147483648 }
-    requires node { IsNode (node_count builder.old) node }
+    requires { CanUse builder.old node }
     ensures nodes { IfOk result (λ _. builder.new ≡ (multiple factor (there builder.old node)).nodes) }
     ensures node { IfOk result (λ multiple. multiple ≡ 1 + node_count builder.old) }
 {
@@ -51,8 +50,7 @@ fn scale<F: Field>(
     factor: Option<F>,
     node: Node,
 ) -> Result<Node, AllocError>
-    requires room { node_count builder.old < 2147483648 }
-    requires node { IsNode (node_count builder.old) node }
+    requires { CanUse builder.old node }
     ensures nodes { IfOk result (λ _. builder.new ≡ (scaled factor (there builder.old node)).nodes) }
     ensures node { IfOk result (λ multiple. multiple ≡ (scaled factor (there builder.old node)).node) }
 {
@@ -68,9 +66,8 @@ fn join<F: Field>(
     before: Option<Node>,
     node: Node,
 ) -> Result<Node, AllocError>
-    requires room { node_count builder.old < 2147483648 }
+    requires can { CanUse builder.old node }
     requires before { IsNodeOrNone (node_count builder.old) before }
-    requires node { IsNode (node_count builder.old) node }
     ensures nodes { IfOk result (λ _. builder.new ≡ (joined before (there builder.old node)).nodes) }
     ensures node { IfOk result (λ product. product ≡ (joined before (there builder.old node)).node) }
 {
@@ -82,15 +79,13 @@ fn join<F: Field>(
 
 /// Makes the nodes of an expression, and tells which one it is.
 #[cycle(make)]
-pub fn make<F: Field>(
+pub(crate) fn make<F: Field>(
     alloc: Global,
     builder: &mut Builder<F>,
     lets: &[Operand<F>],
     expr: &Expr,
 ) -> Result<Node, AllocError>
-    requires inputs { IsWithin builder.old.publics builder.old.privates (expr_of expr.now) }
-    requires lets { AreOperands (node_count builder.old) lets.now }
-    requires room { node_count builder.old + size_of (expr_of expr.now) ≤ 2147483648 }
+    requires { CanMake builder.old lets.now (expr_of expr.now) }
     ensures nodes { IfOk result
         (λ _. builder.new ≡ (made (scope F.ops F.coding.element lets.now) builder.old (expr_of expr.now)).nodes) }
     ensures node { IfOk result
@@ -102,7 +97,7 @@ pub fn make<F: Field>(
     }
 }
 
-// The same of an expression in which an input occurs.
+// Makes the nodes of an expression in which an input occurs, and tells which one it is.
 #[cycle(make)]
 fn make_free<F: Field>(
     alloc: Global,
@@ -110,10 +105,8 @@ fn make_free<F: Field>(
     lets: &[Operand<F>],
     expr: &Expr,
 ) -> Result<Node, AllocError>
-    requires inputs { IsWithin builder.old.publics builder.old.privates (expr_of expr.now) }
+    requires can { CanMake builder.old lets.now (expr_of expr.now) }
     requires free { is_constant (scope F.ops F.coding.element lets.now) (expr_of expr.now) ≡ false }
-    requires lets { AreOperands (node_count builder.old) lets.now }
-    requires room { node_count builder.old + size_of (expr_of expr.now) ≤ 2147483648 }
     ensures nodes { IfOk result
         (λ _. builder.new ≡ (made (scope F.ops F.coding.element lets.now) builder.old (expr_of expr.now)).nodes) }
     ensures node { IfOk result
@@ -146,9 +139,7 @@ fn make_parts<F: Field>(
     lets: &[Operand<F>],
     parts: &[Part],
 ) -> Result<Vec<(F, Node)>, AllocError>
-    requires inputs { ArePartsWithin builder.old.publics builder.old.privates (part_list parts.now) }
-    requires lets { AreOperands (node_count builder.old) lets.now }
-    requires room { node_count builder.old + parts_size (part_list parts.now) ≤ 2147483648 }
+    requires { CanMakeParts builder.old lets.now (part_list parts.now) }
     ensures nodes { IfOk result (λ _.
         builder.new ≡ (made_parts (scope F.ops F.coding.element lets.now) builder.old (part_list parts.now)).nodes) }
     ensures parts { IfOk result (λ list.
@@ -171,9 +162,7 @@ fn make_factors<F: Field>(
     lets: &[Operand<F>],
     factors: &[Expr],
 ) -> Result<Option<Node>, AllocError>
-    requires inputs { AreFactorsWithin builder.old.publics builder.old.privates (expr_list factors.now) }
-    requires lets { AreOperands (node_count builder.old) lets.now }
-    requires room { node_count builder.old + factors_size (expr_list factors.now) ≤ 2147483648 }
+    requires { CanMakeFactors builder.old lets.now (expr_list factors.now) }
     ensures nodes { IfOk result (λ _.
         builder.new
         ≡ (made_factors (scope F.ops F.coding.element lets.now) builder.old None (expr_list factors.now)).nodes) }
@@ -196,8 +185,7 @@ fn make_factor<F: Field>(
     before: Option<Node>,
     expr: &Expr,
 ) -> Result<Option<Node>, AllocError>
-    requires inputs { IsWithin builder.old.publics builder.old.privates (expr_of expr.now) }
-    requires lets { AreOperands (node_count builder.old) lets.now }
+    requires can { CanMake builder.old lets.now (expr_of expr.now) }
     requires before { IsNodeOrNone (node_count builder.old) before }
     requires room { node_count builder.old + 1 + size_of (expr_of expr.now) ≤ 2147483648 }
     ensures nodes { IfOk result (λ _.

@@ -1,14 +1,15 @@
 //! Depths, weights and limits.
 
-ghost use Rattle.std.specs.Prelude.{◌≡◌, ℕ, ◌+◌, ◌-◌, ◌*◌, ◌^◌, ◌<◌, ◌≤◌, max, min, List, [], ◌∷◌, length, map, replicate, IfOk, MatchResult, None, Some};
+ghost use Rattle.std.specs.Prelude.{◌≡◌, ℕ, ◌+◌, ◌-◌, ◌*◌, ◌^◌, ◌≤◌, max, min, List, [], ◌∷◌, length, map, replicate, IfOk, MatchResult, None, Some};
 ghost use Rattle.lzk_profile.specs.Profile.{most_wires};
-ghost use Rattle.lzk_level.specs.Nodes.{ArePartsOf, IsGate, AreGates, after};
-ghost use Rattle.lzk_reduce.specs.Renumbering.{at};
+ghost use Rattle.lzk_level.specs.Nodes.{AreGates, after};
+ghost use Rattle.lzk_circuit_reduce.specs.Renumbering.{at};
 ghost use Rattle.lzk_level.specs.Bounds.{at_parts, greatest, total, gate_depth, gate_weight, limit_fault};
 
 use crate::fault::LevelFault;
-use crate::node::{Gate, Node};
+use crate::node::{Gate, Node, of_node};
 use lzk_circuit::{MOST_IN_ALL, MOST_LAYERS, MOST_WIRES};
+use lzk_field::Field;
 use std::alloc::{AllocError, Global};
 
 fn larger(a: u32, b: u32) -> u32
@@ -18,47 +19,54 @@ fn larger(a: u32, b: u32) -> u32
 }
 
 // A sum is no less deep than any part, and at least 1.
-fn parts_depth<F>(depths: &[u32], parts: &[(F, Node)]) -> u32
-    requires { ArePartsOf (length depths.now - 1) parts.now }
+fn parts_depth<F: Field>(depths: &[u32], parts: &[(F, Node)]) -> u32
     ensures { result ≡ greatest 1 (at_parts depths.now parts.now) }
 {
     let mut depth = 1;
     for i in 0..parts.len() {
-        depth = larger(depth, depths[parts[i].1.number() as usize]);
+        let part = parts[i];
+        depth = larger(depth, of_node(depths, part.1));
     }
     depth
 }
 
-fn parts_weight<F>(weights: &[u64], parts: &[(F, Node)]) -> u64
-    requires { ArePartsOf (length weights.now - 1) parts.now }
+// What a list has for a node, and 0 where it is shorter.
+fn weight_at(weights: &[u64], node: Node) -> u64
+    ensures { result ≡ at weights.now node }
+{
+    match weights.get(node.number() as usize) {
+        Some(weight) => *weight,
+        None => 0,
+    }
+}
+
+fn parts_weight<F: Field>(weights: &[u64], parts: &[(F, Node)]) -> u64
     ensures { result ≡ min (2 ^ 64 - 1) (total (at_parts weights.now parts.now)) }
 {
     let mut weight = 0u64;
     for i in 0..parts.len() {
-        weight = weight.saturating_add(weights[parts[i].1.number() as usize]);
+        let part = parts[i];
+        weight = weight.saturating_add(weight_at(weights, part.1));
     }
     weight
 }
 
-fn depth_of<F>(depths: &[u32], gate: &Gate<F>) -> u32
-    requires gate { IsGate (length depths.now - 1) gate.now }
-    requires few { length depths.now ≤ 2147483649 }
-    requires below { (k : ℕ) → k < length depths.now → at depths.now k < length depths.now }
+fn depth_of<F: Field>(depths: &[u32], gate: &Gate<F>) -> u32
+    requires low { (k : ℕ) → at depths.now k ≤ 2147483649 }
     ensures depth { result ≡ gate_depth depths.now gate.now }
 {
     match gate {
         Gate::Constant(_) => 1,
         Gate::Combine(parts) => parts_depth(depths, parts.as_slice()),
         Gate::Mul(x, y) => {
-            let left = depths[x.number() as usize];
-            let right = depths[y.number() as usize];
+            let left = of_node(depths, *x);
+            let right = of_node(depths, *y);
             1 + larger(left, right)
         }
     }
 }
 
-fn weight_of<F>(weights: &[u64], gate: &Gate<F>) -> u64
-    requires gate { IsGate (length weights.now - 1) gate.now }
+fn weight_of<F: Field>(weights: &[u64], gate: &Gate<F>) -> u64
     ensures { result ≡ min (2 ^ 64 - 1) (gate_weight weights.now gate.now) }
 {
     match gate {
@@ -69,7 +77,11 @@ fn weight_of<F>(weights: &[u64], gate: &Gate<F>) -> u64
 }
 
 /// The depths of the one, of so many inputs, and of these gates.
-pub fn depths_of<F>(alloc: Global, inputs: u32, made: &[Gate<F>]) -> Result<Vec<u32>, AllocError>
+pub(crate) fn depths_of<F: Field>(
+    alloc: Global,
+    inputs: u32,
+    made: &[Gate<F>],
+) -> Result<Vec<u32>, AllocError>
     requires few { inputs + length made.now ≤ 2147483648 }
     requires gates { AreGates inputs made.now }
     ensures { IfOk result (λ depths. depths.items ≡ after gate_depth (replicate (1 + inputs) 0) made.now) }
@@ -85,9 +97,11 @@ pub fn depths_of<F>(alloc: Global, inputs: u32, made: &[Gate<F>]) -> Result<Vec<
 }
 
 /// Their weights, which stop at the last value of u64. The one weighs nothing.
-pub fn weights_of<F>(alloc: Global, inputs: u32, made: &[Gate<F>]) -> Result<Vec<u64>, AllocError>
-    requires few { inputs + length made.now ≤ 2147483648 }
-    requires gates { AreGates inputs made.now }
+pub(crate) fn weights_of<F: Field>(
+    alloc: Global,
+    inputs: u32,
+    made: &[Gate<F>],
+) -> Result<Vec<u64>, AllocError>
     ensures { IfOk result
         (λ weights. weights.items ≡ map (min (2 ^ 64 - 1)) (after gate_weight (0 ∷ replicate inputs 1) made.now)) }
 {
@@ -102,12 +116,12 @@ pub fn weights_of<F>(alloc: Global, inputs: u32, made: &[Gate<F>]) -> Result<Vec
 
 // The greatest depth of the outputs, and at least 1.
 fn layers_of(depths: &[u32], outputs: &[Node]) -> u32
-    requires { (i : ℕ) → i < length outputs.now → at outputs.now i < length depths.now }
     ensures { result ≡ greatest 1 (map (at depths.now) outputs.now) }
 {
     let mut layers = 1;
     for i in 0..outputs.len() {
-        layers = larger(layers, depths[outputs[i].number() as usize]);
+        let node = outputs[i];
+        layers = larger(layers, of_node(depths, node));
     }
     layers
 }
@@ -123,14 +137,14 @@ fn add_all(start: u64, weights: &[u64]) -> u64
     sum
 }
 
-// The same for the weights of outputs.
+// Adds up the weights of outputs to a number, as far as u64 goes.
 fn add_outputs(start: u64, weights: &[u64], outputs: &[Node]) -> u64
-    requires { (i : ℕ) → i < length outputs.now → at outputs.now i < length weights.now }
     ensures { result ≡ min (2 ^ 64 - 1) (start + total (map (at weights.now) outputs.now)) }
 {
     let mut sum = start;
     for i in 0..outputs.len() {
-        sum = sum.saturating_add(weights[outputs[i].number() as usize]);
+        let node = outputs[i];
+        sum = sum.saturating_add(weight_at(weights, node));
     }
     sum
 }
@@ -153,15 +167,13 @@ fn check(layers: u32, wires: u32, terms: u64) -> Result<u32, LevelFault>
 }
 
 /// How many layers the outputs need, where they keep the limits with so many further wires in a layer.
-pub fn check_limits(
+pub(crate) fn check_limits(
     depths: &[u32],
     weights: &[u64],
     outputs: &[Node],
     further: u32,
 ) -> Result<u32, LevelFault>
-    requires few { length depths.now + further ≤ 2147483649 + most_wires }
-    requires same { length weights.now ≡ length depths.now }
-    requires nodes { (i : ℕ) → i < length outputs.now → at outputs.now i < length depths.now }
+    requires { length depths.now + further ≤ 2147483649 + most_wires }
     ensures { (all : List ℕ) → weights.now ≡ map (min (2 ^ 64 - 1)) all
         → (let layers = greatest 1 (map (at depths.now) outputs.now) in
         let wires = length depths.now + further in

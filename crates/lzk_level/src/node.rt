@@ -1,6 +1,7 @@
 //! Nodes and gates.
 
 ghost use Rattle.std.specs.Prelude.{◌≡◌};
+ghost use Rattle.lzk_circuit_reduce.specs.Renumbering.{at};
 
 use std::marker::Model;
 
@@ -33,6 +34,23 @@ impl Node {
     {
         self.number
     }
+}
+
+/// What a list has at a place, and 0 where the list is shorter.
+pub(crate) fn number_at(list: &[u32], place: usize) -> u32
+    ensures { result ≡ at list.now place }
+{
+    match list.get(place) {
+        Some(number) => *number,
+        None => 0,
+    }
+}
+
+/// What a list has for a node, by the node's number.
+pub(crate) fn of_node(list: &[u32], node: Node) -> u32
+    ensures { result ≡ at list.now node }
+{
+    number_at(list, node.number() as usize)
 }
 
 /// Coefficients with the nodes that they multiply. It is made from a `Vec` and gives it back, with no

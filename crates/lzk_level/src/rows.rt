@@ -1,6 +1,7 @@
 //! The rows of a level's nodes.
 
-ghost use Rattle.std.specs.Prelude.{◌≡◌, ◌-◌, ◌<◌, ◌≤◌, [], ◌∷◌, ◌++◌, length, replicate, IfOk};
+ghost use Rattle.std.specs.Prelude.{◌≡◌, ◌-◌, ◌≤◌, [], ◌∷◌, ◌++◌, length, replicate, slice_index_or, IfOk};
+ghost use Rattle.lzk_circuit_reduce.specs.Rows.{ordered};
 ghost use Rattle.lzk_level.specs.Levels.{row_at};
 ghost use Rattle.lzk_level.specs.Spans.{piece};
 
@@ -11,7 +12,7 @@ use std::marker::Model;
 
 /// Rows by number. Their terms stand in one list, and each row knows where its own begin and end.
 #[derive(Drop)]
-pub struct Rows<F> {
+pub(crate) struct Rows<F> {
     terms: Vec<Term<F>>,
     spans: Vec<(usize, usize)>,
 }
@@ -36,6 +37,16 @@ fn piece<F: Field>(terms: &[Term<F>], span: (usize, usize)) -> &[Term<F>]
 {
     let (begin, end) = span;
     &terms[begin..end]
+}
+
+// Where a row begins and ends, and an empty piece where there is no such row.
+fn span_at(spans: &[(usize, usize)], k: usize) -> (usize, usize)
+    ensures { result ≡ slice_index_or spans.now k (0, 0) }
+{
+    match spans.get(k) {
+        Some(span) => *span,
+        None => (0, 0),
+    }
 }
 
 impl<F: Field> Rows<F> {
@@ -64,12 +75,11 @@ impl<F: Field> Rows<F> {
         self.spans.len()
     }
 
-    /// The row with a number.
+    /// The row with a number; it has no terms where there is no such row.
     pub fn row(&self, k: usize) -> &[Term<F>]
-        requires there { k < length self.now }
         ensures { result.now ≡ row_at self.now k }
     {
-        piece(&self.terms, self.spans[k])
+        piece(&self.terms, span_at(&self.spans, k))
     }
 
     /// So many rows, of which those behind the ones that are there have no terms.
@@ -87,6 +97,21 @@ impl<F: Field> Rows<F> {
     {
         let begin = self.terms.len();
         self.terms.extend_from_slice(row)?;
+        self.spans.push((begin, self.terms.len()))?;
+        Ok(())
+    }
+
+    /// The row of a wire that goes on from below.
+    pub fn push_copy(&mut self, place: u32) -> Result<(), AllocError>
+        ensures { IfOk result (λ _. self.new ≡ self.old ++ (ordered F.ops.one 0 place ∷ []) ∷ []) }
+    {
+        let begin = self.terms.len();
+        self.terms.push(Term {
+            g: 0,
+            a: 0,
+            b: place,
+            coef: F::one(),
+        })?;
         self.spans.push((begin, self.terms.len()))?;
         Ok(())
     }

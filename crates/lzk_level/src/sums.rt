@@ -1,43 +1,26 @@
 //! The rows of sums.
 
-ghost use Rattle.std.specs.Prelude.{◌≡◌, ℕ, ◌+◌, ◌-◌, ◌<◌, ◌≤◌, List, length, map, true, IfOk};
-ghost use Rattle.lzk_level.specs.Nodes.{combined, ArePartsOf};
-ghost use Rattle.lzk_level.specs.Bounds.{at_parts, total};
-ghost use Rattle.lzk_reduce.specs.Rows.{IsRow, row_value};
-ghost use Rattle.lzk_level.specs.Levels.{row_at};
+ghost use Rattle.std.specs.Prelude.{◌≡◌, ℕ, ◌+◌, ◌≤◌, List, length, false, IfOk};
+ghost use Rattle.lzk_circuit_reduce.specs.Rows.{IsRow, row_value};
+ghost use Rattle.lzk_level.specs.NodeRows.{IsSumOf};
 
 use crate::node::Node;
 use crate::rows::Rows;
 use lzk_circuit::Term;
+use lzk_circuit_reduce::{add_term, merged};
 use lzk_field::Field;
-use lzk_reduce::{add_term, merged, scaled};
 use std::alloc::{AllocError, Global};
 
 // So many terms are added one by one.
 const FEW: usize = 16;
 
-// A part's row.
-fn part_row<F: Field>(
-    alloc: Global,
-    rows: &Rows<F>,
-    factor: F,
-    node: Node,
-) -> Result<Vec<Term<F>>, AllocError>
-    requires { node < length rows.now }
-    ensures row { (width : ℕ) → IsRow F.ops width (row_at rows.now node)
-        → IfOk result (λ row. IsRow F.ops width row.items) }
-    ensures value { (below : List F) → IfOk result (λ row. row_value F.ops below row.items ≡
-        F.ops.times factor (row_value F.ops below (row_at rows.now node))) }
-    ensures short { IfOk result (λ row. length row.items ≤ length (row_at rows.now node)) }
-{
-    scaled(alloc, factor, rows.row(node.number() as usize))
-}
-
-// Whether the parts and their rows are few.
+// Whether the parts and their rows are few, or there is one part at most.
 fn are_few<F: Field>(rows: &Rows<F>, parts: &[(F, Node)]) -> bool
-    requires nodes { ArePartsOf (length rows.now - 1) parts.now }
-    ensures { result ≡ true → length parts.now ≤ 16 }
+    ensures { result ≡ false → 2 ≤ length parts.now }
 {
+    if parts.len() < 2 {
+        return true;
+    }
     if parts.len() > FEW {
         return false;
     }
@@ -69,12 +52,7 @@ fn add_parts<F: Field>(
     parts: &[(F, Node)],
     row: &mut Vec<Term<F>>,
 ) -> Result<(), AllocError>
-    requires nodes { ArePartsOf (length rows.now - 1) parts.now }
-    ensures row { (width : ℕ) → ((k : ℕ) → 1 ≤ k → k < length rows.now → IsRow F.ops width (row_at rows.now k)) →
-        IfOk result (λ _. IsRow F.ops width row.new.items) }
-    ensures value { (below : List F) → IfOk result (λ _. row_value F.ops below row.new.items ≡
-        combined F.ops (map (row_value F.ops below) rows.now) parts.now) }
-    ensures short { IfOk result (λ _. length row.new.items ≤ total (at_parts (map length rows.now) parts.now)) }
+    ensures { IfOk result (λ _. IsSumOf F.ops rows.now parts.now row.new.items) }
 {
     row.clear();
     for i in 0..parts.len() {
@@ -90,23 +68,12 @@ fn combined<F: Field>(
     rows: &Rows<F>,
     parts: &[(F, Node)],
 ) -> Result<Vec<Term<F>>, AllocError>
-    requires some { 1 ≤ length parts.now }
-    requires nodes { ArePartsOf (length rows.now - 1) parts.now }
-    ensures row { (width : ℕ) → ((k : ℕ) → 1 ≤ k → k < length rows.now → IsRow F.ops width (row_at rows.now k)) →
-        IfOk result (λ row. IsRow F.ops width row.items) }
-    ensures value { (below : List F)
-        → IfOk result
-        (λ row. row_value F.ops below row.items ≡ combined F.ops (map (row_value F.ops below) rows.now) parts.now) }
-    ensures short { IfOk result (λ row. length row.items ≤ total (at_parts (map length rows.now) parts.now)) }
+    ensures { IfOk result (λ row. IsSumOf F.ops rows.now parts.now row.items) }
 {
     if are_few(rows, parts) {
         let mut row = Vec::with_capacity(alloc, FEW)?;
         add_parts(rows, parts, &mut row)?;
         return Ok(row);
-    }
-    if parts.len() == 1 {
-        let part = parts[0];
-        return part_row(alloc, rows, part.0, part.1);
     }
     let (left, right) = parts.split_at(parts.len() / 2);
     let left = combined(alloc, rows, left)?;
@@ -115,19 +82,13 @@ fn combined<F: Field>(
 }
 
 /// The sum of the parts' rows. Few terms are added one by one, with no memory taken for the parts.
-pub fn sum_row<F: Field>(
+pub(crate) fn sum_row<F: Field>(
     alloc: Global,
     rows: &Rows<F>,
     parts: &[(F, Node)],
     row: &mut Vec<Term<F>>,
 ) -> Result<(), AllocError>
-    requires some { 1 ≤ length parts.now }
-    requires nodes { ArePartsOf (length rows.now - 1) parts.now }
-    ensures row { (width : ℕ) → ((k : ℕ) → 1 ≤ k → k < length rows.now → IsRow F.ops width (row_at rows.now k)) →
-        IfOk result (λ _. IsRow F.ops width row.new.items) }
-    ensures value { (below : List F) → IfOk result (λ _. row_value F.ops below row.new.items ≡
-        combined F.ops (map (row_value F.ops below) rows.now) parts.now) }
-    ensures short { IfOk result (λ _. length row.new.items ≤ total (at_parts (map length rows.now) parts.now)) }
+    ensures { IfOk result (λ _. IsSumOf F.ops rows.now parts.now row.new.items) }
 {
     if are_few(rows, parts) {
         return add_parts(rows, parts, row);

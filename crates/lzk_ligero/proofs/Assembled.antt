@@ -12,10 +12,10 @@ use Rattle.lzk_merkle.specs.Nodes.{tree_node, path_nodes}
 use Rattle.lzk_sumcheck.specs.Messages.{AreMessages}
 use Rattle.lzk_sumcheck.specs.Opening.{opening}
 use Rattle.lzk_accept.specs.Challenges.{Transcript, transcript}
-use Rattle.lzk_tableau.specs.Tableau as prover
-use Rattle.lzk_complete.specs.Answered.{Answers, AreSent, answers_of}
+use Rattle.lzk_ligero_tableau.specs.Tableau as prover
+use Rattle.lzk_ligero_proof.specs.Answered.{Answers, AreSent, answers_of}
 use Rattle.lzk_circbytes.specs.Files.{id_of}
-use Rattle.lzk_complete.specs.Proving.{given, rows, digests, pads, IsProofBy}
+use Rattle.lzk_ligero_proof.specs.Proving.{given, rows, digests, pads, IsProofBy}
 
 -- Of a proof the tape reads root, sent elements and answers alone.
 pub transcript_of : {A : Type 0} (o : Ops A) (e : Coding A) (c : Wiring A) (session id : List ℕ) (public : List A) (q r : Proof A)

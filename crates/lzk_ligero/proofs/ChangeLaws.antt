@@ -5,7 +5,7 @@ use Rattle.std.proofs.Math.Seq.{take-set-lt}
 use Rattle.std.proofs.lemmas.List.{take-set-le, drop-set-lt, drop-set-add, get_or-take, get_or-drop}
 use Rattle.lzk_field.specs.Ring.{Ops}
 use Rattle.lzk_field.specs.Sums.{entry}
-use Rattle.lzk_answers.specs.Answers.{changed}
+use Rattle.lzk_ligero_answers.specs.Answers.{changed}
 
 module _ {A : Type 0} (o : Ops A) (n : ℕ) (by : A) (values part : List A) where
   abbrev sum : A

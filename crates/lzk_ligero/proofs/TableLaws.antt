@@ -6,9 +6,9 @@ use Rattle.lzk_field.specs.Coding.{Coding}
 use Rattle.lzk_field.specs.Ring.{Ops}
 use Rattle.lzk_circuit.specs.Valid.{Wiring}
 use Rattle.lzk_layout.specs.Sizes.{params_of}
-use Rattle.lzk_answers.specs.Rows.{IsTableOf}
-use Rattle.lzk_tableau.specs.Table.{IsTable}
-use Rattle.lzk_tableau.specs.Tableau.{tableau, row_at}
+use Rattle.lzk_ligero_answers.specs.Rows.{IsTableOf}
+use Rattle.lzk_ligero_tableau.specs.Table.{IsTable}
+use Rattle.lzk_ligero_tableau.specs.Tableau.{tableau, row_at}
 
 -- a table of rows is one
 pub table_of : {A : Type 0} (o : Ops A) (point : ℕ → A) (width : ℕ) (rows : List (List A)) (table : List A) → IsTable o point width rows table → IsTableOf o point width rows table

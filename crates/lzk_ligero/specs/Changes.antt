@@ -2,8 +2,8 @@
 use Rattle.std.specs.Prelude.{Option, Some, None}
 use Rattle.lzk_field.specs.Ring.{Ops}
 use Rattle.lzk_layout.specs.declared.params.Params.{Params}
-use Rattle.lzk_complete.specs.Answered.{Answers}
-use Rattle.lzk_complete.specs.Changed.{unchanged, with_added, IsSentPlace}
+use Rattle.lzk_ligero_proof.specs.Answered.{Answers}
+use Rattle.lzk_ligero_proof.specs.Changed.{unchanged, with_added, IsSentPlace}
 use Rattle.lzk_ligero.specs.declared.changing.Change.{Change}
 
 -- what it does to answers

@@ -3,16 +3,15 @@
 ghost use Rattle.lzk_profile.specs.Profile.{opened_count};
 ghost use Rattle.std.specs.Prelude.{◌≡◌, ◌-◌, ◌<◌, List, length, take, drop};
 ghost use Rattle.lzk_layout.specs.Proofs.{HasLengths};
-ghost use Rattle.lzk_layout.specs.Sizes.{AreBounded};
-ghost use Rattle.lzk_answers.specs.Answers.{changed};
-ghost use Rattle.lzk_complete.specs.Answered.{Answers, AreSent};
-ghost use Rattle.lzk_complete.specs.Changed.{IsSentPlace};
-ghost use Rattle.lzk_complete.specs.declared.answer.Answer.TheVariants.{Quad};
+ghost use Rattle.lzk_ligero_answers.specs.Answers.{changed};
+ghost use Rattle.lzk_ligero_proof.specs.Answered.{Answers, AreSent};
+ghost use Rattle.lzk_ligero_proof.specs.Changed.{IsSentPlace};
+ghost use Rattle.lzk_ligero_proof.specs.declared.answer.Answer.TheVariants.{Quad};
 ghost use Rattle.lzk_ligero.specs.Changes.{change_of, IsChangeOf};
 
-use lzk_complete::Answer;
 use lzk_field::Field;
-use lzk_layout::{Elements, Params, Proof};
+use lzk_layout::{Elements, Plan, Proof};
+use lzk_ligero_proof::Answer;
 
 /// What is added to which value of which answer.
 #[derive(Clone, Copy)]
@@ -37,24 +36,23 @@ fn add_at<F: Field>(values: &mut Elements<F>, place: usize, by: F)
 
 // Adds to one of the quadratic answer's values that are sent.
 fn add_to_quadratic<F: Field>(
-    params: &Params,
+    plan: &Plan<F>,
     place: usize,
     by: F,
     head: &mut Elements<F>,
     tail: &mut Elements<F>,
 )
-    requires bounded { AreBounded params.now }
-    requires place { IsSentPlace params.now Quad place }
+    requires place { IsSentPlace plan.now.params Quad place }
     requires head { length head.old ≡ opened_count }
-    requires tail { length tail.old ≡ params.now.dblock - params.now.block }
+    requires tail { length tail.old ≡ plan.now.params.dblock - plan.now.params.block }
     ensures head_length { length head.new ≡ opened_count }
-    ensures tail_length { length tail.new ≡ params.now.dblock - params.now.block }
+    ensures tail_length { length tail.new ≡ plan.now.params.dblock - plan.now.params.block }
     ensures head { (values : List F) → head.old ≡ take opened_count values
         → head.new ≡ take opened_count (changed F.ops values place by) }
-    ensures tail { (values : List F) → tail.old ≡ drop params.now.block values
-        → tail.new ≡ drop params.now.block (changed F.ops values place by) }
+    ensures tail { (values : List F) → tail.old ≡ drop plan.now.params.block values
+        → tail.new ≡ drop plan.now.params.block (changed F.ops values place by) }
 {
-    let block = params.block as usize;
+    let block = plan.params.block as usize;
     if place < block {
         add_at(head, place, by);
     } else {
@@ -63,21 +61,16 @@ fn add_to_quadratic<F: Field>(
 }
 
 /// Makes a change to a proof's answers, where there is one.
-pub(crate) fn make_change<F: Field>(
-    params: &Params,
-    change: Option<Change<F>>,
-    proof: &mut Proof<F>,
-)
-    requires bounded { AreBounded params.now }
-    requires change { IsChangeOf params.now change }
-    requires lengths { HasLengths params.now proof.old }
-    ensures lengths { HasLengths params.now proof.new }
+pub(crate) fn make_change<F: Field>(plan: &Plan<F>, change: Option<Change<F>>, proof: &mut Proof<F>)
+    requires change { IsChangeOf plan.now.params change }
+    requires lengths { HasLengths plan.now.params proof.old }
+    ensures lengths { HasLengths plan.now.params proof.new }
     ensures id { proof.new.id ≡ proof.old.id }
     ensures root { proof.new.root ≡ proof.old.root }
     ensures messages { proof.new.messages ≡ proof.old.messages }
     ensures path { proof.new.path ≡ proof.old.path }
-    ensures answers { (answers : Answers F) → AreSent params.now answers proof.old
-        → AreSent params.now (change_of F.ops change answers) proof.new }
+    ensures answers { (answers : Answers F) → AreSent plan.now.params answers proof.old
+        → AreSent plan.now.params (change_of F.ops change answers) proof.new }
 {
     let Some(Change { answer, place, by }) = change else {
         return;
@@ -87,7 +80,7 @@ pub(crate) fn make_change<F: Field>(
         Answer::LowDegree => add_at(&mut proof.ldt, place, by),
         Answer::Dot => add_at(&mut proof.dot, place, by),
         Answer::Quad => add_to_quadratic(
-            params,
+            plan,
             place,
             by,
             &mut proof.quad_head,

@@ -20,6 +20,6 @@ mod proving;
 mod sending;
 mod works;
 
-pub use lzk_complete::Answer;
+pub use lzk_ligero_proof::Answer;
 pub use lzk_ligero_steps::Unsatisfied;
 pub use works::WorksOver;

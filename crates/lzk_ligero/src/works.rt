@@ -6,10 +6,10 @@ ghost use Rattle.lzk_circbytes.specs.Files.{id_of};
 ghost use Rattle.lzk_field.specs.Sums.{entry};
 ghost use Rattle.lzk_circuit.specs.Checks.{checks_of, IsSatisfied};
 ghost use Rattle.lzk_circuit.specs.Wires.{all_values, inputs_of, IsFirstNonzero};
-ghost use Rattle.lzk_complete.specs.Changed.{IsSentPlace};
-ghost use Rattle.lzk_complete.specs.Proving.{IsChangedFile, IsFileBy, IsProofFile, words_of};
-ghost use Rattle.lzk_complete.specs.AnyInputs.{AllButSum};
-ghost use Rattle.lzk_complete.specs.Refused.{IsRefused};
+ghost use Rattle.lzk_ligero_proof.specs.Changed.{IsSentPlace};
+ghost use Rattle.lzk_ligero_proof.specs.Proving.{IsChangedFile, IsFileBy, IsProofFile, words_of};
+ghost use Rattle.lzk_ligero_proof.specs.AnyInputs.{AllButSum};
+ghost use Rattle.lzk_ligero_proof.specs.Refused.{IsRefused};
 ghost use Rattle.lzk_verify.specs.Verdict.{IsVerdict};
 ghost use Rattle.lzk_verify.specs.declared.verdict.Verdict.TheVariants.{Accepted};
 ghost use Rattle.lzk_layout.specs.Sizes.{params_of};
@@ -17,60 +17,19 @@ ghost use Rattle.lzk_ligero.specs.Changes.{change_of, IsChangeOf};
 ghost use Rattle.lzk_ligero_steps.specs.Parts.{ArePartsFor};
 
 use crate::changing::Change;
-use crate::proving::write_proof;
+use crate::proving::write;
 use lzk_circbytes::id;
 use lzk_circuit::Circuit;
-use lzk_complete::{Answer, accepted_laws, checked_laws, refused_laws};
-use lzk_crew::Crew;
 use lzk_field::{Field, Gate, Words};
-use lzk_hands::Hands;
-use lzk_ligero_steps::{Parts, Statement, Unsatisfied};
+use lzk_layout::Plan;
+use lzk_ligero_proof::{Answer, accepted_laws, checked_laws, refused_laws};
+use lzk_ligero_steps::{Parts, Unsatisfied};
+use lzk_ligero_tableau::Given;
 use lzk_poly::RowExtend;
+use lzk_work_crew::Crew;
+use lzk_work_threads::Hands;
 use std::alloc::{AllocError, Global};
 use std::marker::Model;
-
-// Makes the proof for wires of these values, with a change of an answer where there is one, and writes its file in
-// front.
-// How many bytes it has.
-fn write<R: Hands, F: Field, W: Words, X: RowExtend<F>, G: Gate>(
-    crew: &Crew<R, G>,
-    circuit: &Circuit<F>,
-    session: &[u8],
-    public: &[F],
-    private: &[F],
-    words: &W,
-    change: Option<Change<F>>,
-    parts: &mut Parts<F, X>,
-) -> usize
-    requires public { length public.now ≡ circuit.now.publics }
-    requires private { length private.now ≡ circuit.now.privates }
-    requires parts { ArePartsFor F.ops F.coding X.reach X.rooms circuit.now parts.old }
-    requires change { IsChangeOf (params_of circuit.now) change }
-    requires values { parts.old.values.wires
-        ≡ all_values F.ops circuit.now.layers (inputs_of F.ops public.now private.now) }
-    ensures parts { ArePartsFor F.ops F.coding X.reach X.rooms circuit.now parts.new }
-    ensures inside { result ≤ length parts.new.answering.bytes.items }
-    ensures file { IsFileBy F.ops F.coding circuit.now session.now public.now private.now (words_of (W.at words.now))
-        (change_of F.ops change) (take result parts.new.answering.bytes.items) }
-{
-    let statement = Statement {
-        circuit,
-        params: &parts.params,
-        values: &parts.values,
-        session,
-        public,
-        private,
-    };
-    write_proof(
-        crew,
-        &statement,
-        words,
-        &parts.extenders,
-        change,
-        &mut parts.committed,
-        &mut parts.answering,
-    )
-}
 
 /// A prover over one circuit, which extends rows by X.
 ///
@@ -107,7 +66,7 @@ impl<'c, F: Field, X: RowExtend<F>> WorksOver<'c, F, X> {
         WorksOver::with_id(alloc, circuit, id)
     }
 
-    /// The same for a circuit whose id is known, as SHA-256 of the file that it was read from.
+    /// A prover over a circuit whose id is known, as SHA-256 of the file that it was read from.
     ///
     /// # Errors
     ///
@@ -155,18 +114,20 @@ impl<'c, F: Field, X: RowExtend<F>> WorksOver<'c, F, X> {
     {
         checked_laws::<F>();
         self.circuit.valid_laws();
-        self.parts.evaluate(self.circuit, public, private);
-        let crew = Crew { rt, gate, workers };
-        let len = write(
-            &crew,
-            self.circuit,
+        let plan = Plan {
+            circuit: self.circuit,
+            params: self.parts.params,
+        };
+        let given = Given {
+            plan: &plan,
             session,
             public,
             private,
             words,
-            None,
-            &mut self.parts,
-        );
+        };
+        self.parts.evaluate(&given);
+        let crew = Crew { rt, gate, workers };
+        let len = write(&crew, &given, None, &mut self.parts);
         &self.parts.answering.bytes[..len]
     }
 
@@ -201,18 +162,21 @@ impl<'c, F: Field, X: RowExtend<F>> WorksOver<'c, F, X> {
     {
         refused_laws::<F>();
         self.circuit.valid_laws();
-        self.parts.evaluate(self.circuit, public, private);
-        let crew = Crew { rt, gate, workers };
-        let len = write(
-            &crew,
-            self.circuit,
+        let plan = Plan {
+            circuit: self.circuit,
+            params: self.parts.params,
+        };
+        let given = Given {
+            plan: &plan,
             session,
             public,
             private,
             words,
-            Some(Change { answer, place, by }),
-            &mut self.parts,
-        );
+        };
+        self.parts.evaluate(&given);
+        let crew = Crew { rt, gate, workers };
+        let change = Some(Change { answer, place, by });
+        let len = write(&crew, &given, change, &mut self.parts);
         &self.parts.answering.bytes[..len]
     }
 
@@ -248,22 +212,24 @@ impl<'c, F: Field, X: RowExtend<F>> WorksOver<'c, F, X> {
         ensures accepted { IfOk result (λ bytes. IsVerdict F.ops F.coding self.old session.now public.now
             bytes.now Accepted) }
     {
-        if let Some(output) = self.parts.evaluate(self.circuit, public, private) {
+        let plan = Plan {
+            circuit: self.circuit,
+            params: self.parts.params,
+        };
+        let given = Given {
+            plan: &plan,
+            session,
+            public,
+            private,
+            words,
+        };
+        if let Some(output) = self.parts.evaluate(&given) {
             return Err(self.parts.fault(output));
         }
         accepted_laws::<F>();
         self.circuit.valid_laws();
         let crew = Crew { rt, gate, workers };
-        let len = write(
-            &crew,
-            self.circuit,
-            session,
-            public,
-            private,
-            words,
-            None,
-            &mut self.parts,
-        );
+        let len = write(&crew, &given, None, &mut self.parts);
         Ok(&self.parts.answering.bytes[..len])
     }
 }

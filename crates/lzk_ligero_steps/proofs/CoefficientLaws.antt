@@ -17,7 +17,7 @@ use Rattle.lzk_accept.specs.declared.challenges.Challenges.{Challenges}
 use Rattle.lzk_accept.specs.declared.factored.Factored.{Factored}
 use Rattle.lzk_accept.specs.Combination.{combined, combined_row}
 use Rattle.lzk_accept.specs.Factored.{GivesCombined, HasRoomFor}
-use Rattle.lzk_answers.specs.Coefficients.{AreCoefficients, AreFactored, AreListed}
+use Rattle.lzk_ligero_answers.specs.Coefficients.{AreCoefficients, AreFactored, AreListed}
 
 module _ {A : Type 0} (o : Ops A) (c : Wiring A) (f : ℕ → ℕ → A) (ch : Challenges A) where
   abbrev row_front : List A

@@ -1,5 +1,5 @@
 pub mod Parts
 pub mod Rooms
-pub use Rattle.lzk_rounds.specs as lzk_rounds
-pub use Rattle.lzk_tableau.specs as lzk_tableau
-pub use Rattle.lzk_answers.specs as lzk_answers
+pub use Rattle.lzk_sumcheck_rounds.specs as lzk_sumcheck_rounds
+pub use Rattle.lzk_ligero_tableau.specs as lzk_ligero_tableau
+pub use Rattle.lzk_ligero_answers.specs as lzk_ligero_answers

@@ -8,12 +8,12 @@ use Rattle.lzk_circuit.specs.Checks.{check_count}
 use Rattle.lzk_circuit.specs.Valid.{Wiring, HaveWidths}
 use Rattle.lzk_layout.specs.declared.params.Params.{Params}
 use Rattle.lzk_layout.specs.Sizes.{AreBounded, AreParams, params_of, proof_length}
-use Rattle.lzk_tableau.specs.Filled.{AreReaching}
-use Rattle.lzk_tableau.specs.Table.{IsTableOf}
+use Rattle.lzk_ligero_tableau.specs.declared.given.Extenders.{Extenders}
+use Rattle.lzk_ligero_tableau.specs.Filled.{AreReaching}
+use Rattle.lzk_ligero_tableau.specs.Table.{IsTableOf}
 use Rattle.lzk_ligero_steps.specs.Rooms.{IsRoomFor, IsSentFor, coefficient_reach}
 use Rattle.lzk_ligero_steps.specs.declared.parts.Answering.{Answering}
 use Rattle.lzk_ligero_steps.specs.declared.parts.Committed.{Committed}
-use Rattle.lzk_ligero_steps.specs.declared.parts.Extenders.{Extenders}
 use Rattle.lzk_ligero_steps.specs.declared.evaluating.Parts.{Parts}
 
 -- what extends rows, rows of products and rows of coefficients has these reaches

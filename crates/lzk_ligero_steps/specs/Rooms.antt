@@ -7,7 +7,7 @@ use Rattle.lzk_poly.specs.Extension.{Reach}
 use Rattle.lzk_circuit.specs.Valid.{Wiring}
 use Rattle.lzk_layout.specs.declared.params.Params.{Params}
 use Rattle.lzk_layout.specs.Proofs.{HasLengths}
-use Rattle.lzk_rounds.specs.Room.{IsRoomOf}
+use Rattle.lzk_sumcheck_rounds.specs.Room.{IsRoomOf}
 use Rattle.lzk_sumcheck.specs.Script as sumcheck
 use Rattle.lzk_accept.specs.Challenges as accept
 use Rattle.lzk_accept.specs.Factored.{HasRoomFor}

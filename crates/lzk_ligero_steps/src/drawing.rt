@@ -3,12 +3,11 @@
 ghost use Rattle.lzk_profile.specs.Profile.{opened_count};
 ghost use Rattle.std.specs.Prelude.{◌≡◌, length};
 ghost use Rattle.lzk_merkle.specs.Nodes.{AreOpened};
-ghost use Rattle.lzk_layout.specs.Sizes.{AreBounded};
 ghost use Rattle.lzk_sumcheck.specs.Opening.{opening};
 ghost use Rattle.lzk_accept.specs.Challenges as spec;
 
 use lzk_field::Field;
-use lzk_layout::{Params, Proof};
+use lzk_layout::{Plan, Proof};
 use lzk_sumcheck::{draw_opened, public_tape};
 use lzk_transcript::Tape;
 
@@ -23,20 +22,27 @@ pub fn open_tape<F: Field>(session: &[u8], id: &[u8; 32], public: &[F], root: &[
 
 /// Writes the answers, and draws the columns that are opened.
 pub fn draw_columns<F: Field>(
-    params: &Params,
+    plan: &Plan<F>,
     tape: &mut Tape,
     proof: &Proof<F>,
     columns: &mut [u32],
 )
-    requires bounded { AreBounded params.now }
     requires room { length columns.old ≡ opened_count }
-    ensures columns { columns.new ≡ spec.columns F.coding params.now proof.now tape.old }
-    ensures opened { AreOpened params.now.mcol columns.new }
+    ensures columns { columns.new ≡ spec.columns F.coding plan.now.params proof.now tape.old }
+    ensures opened { AreOpened plan.now.params.mcol columns.new }
     ensures room { length columns.new ≡ opened_count }
 {
     let low_degree = proof.ldt.as_slice();
     let linear = proof.dot.as_slice();
     let head = proof.quad_head.as_slice();
     let tail = proof.quad_tail.as_slice();
-    draw_opened(params.mcol, low_degree, linear, head, tail, tape, columns);
+    draw_opened(
+        plan.params.mcol,
+        low_degree,
+        linear,
+        head,
+        tail,
+        tape,
+        columns,
+    );
 }

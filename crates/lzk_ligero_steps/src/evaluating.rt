@@ -7,10 +7,11 @@ ghost use Rattle.lzk_circuit.specs.Checks.{checks_of};
 ghost use Rattle.lzk_circuit.specs.Wires.{all_values, inputs_of, IsFirstNonzero};
 ghost use Rattle.lzk_ligero_steps.specs.Parts.{ArePartsFor};
 
-use crate::parts::{Answering, Committed, Extenders, make_extenders};
+use crate::parts::{Answering, Committed, make_extenders};
 use lzk_circuit::{Circuit, Values};
 use lzk_field::Field;
 use lzk_layout::{Params, Plan};
+use lzk_ligero_tableau::{Extenders, Given};
 use lzk_poly::RowExtend;
 use std::alloc::{AllocError, Global};
 
@@ -68,21 +69,25 @@ impl<F: Field, X: RowExtend<F>> Parts<F, X> {
 
     /// Sets the wires and the checks to their values on these inputs. Gives the number of the first check that is not
     /// 0.
-    pub fn evaluate(&mut self, circuit: &Circuit<F>, public: &[F], private: &[F]) -> Option<u32>
-        requires public { length public.now ≡ circuit.now.publics }
-        requires private { length private.now ≡ circuit.now.privates }
-        requires parts { ArePartsFor F.ops F.coding X.reach X.rooms circuit.now self.old }
-        ensures parts { ArePartsFor F.ops F.coding X.reach X.rooms circuit.now self.new }
-        ensures values { self.new.values.wires
-            ≡ all_values F.ops circuit.now.layers (inputs_of F.ops public.now private.now) }
-        ensures checks { self.new.values.checks
-            ≡ checks_of F.ops F.coding.number circuit.now.layers (inputs_of F.ops public.now private.now) }
-        ensures outputs { let outputs = checks_of F.ops F.coding.number circuit.now.layers
-            (inputs_of F.ops public.now private.now) in
+    pub fn evaluate<W>(&mut self, given: &Given<F, W>) -> Option<u32>
+        requires parts { ArePartsFor F.ops F.coding X.reach X.rooms given.now.plan.now.circuit.now self.old }
+        ensures parts { ArePartsFor F.ops F.coding X.reach X.rooms given.now.plan.now.circuit.now self.new }
+        ensures values { let k = given.now in self.new.values.wires
+            ≡ all_values F.ops k.plan.now.circuit.now.layers (inputs_of F.ops k.public.now k.private.now) }
+        ensures checks { let k = given.now in
+            self.new.values.checks
+            ≡ checks_of F.ops F.coding.number k.plan.now.circuit.now.layers
+            (inputs_of F.ops k.public.now k.private.now) }
+        ensures outputs { let k = given.now in
+            let outputs = checks_of F.ops F.coding.number k.plan.now.circuit.now.layers
+            (inputs_of F.ops k.public.now k.private.now) in
             MatchOption result (IsFirstNonzero F.ops outputs None)
             (λ k. IsFirstNonzero F.ops outputs (Some (k, entry F.ops outputs k))) }
     {
-        circuit.eval(public, private, &mut self.values);
+        given
+            .plan
+            .circuit
+            .eval(given.public, given.private, &mut self.values);
         match self.values.first_nonzero() {
             None => None,
             Some((output, _)) => Some(output),

@@ -6,26 +6,27 @@
 //!
 //! ```text
 //! let mut parts: Parts<Gold, NttExtender<Gold>> = Parts::new(alloc, &circuit, id)?;
-//! if let Some(output) = parts.evaluate(&circuit, &public, &private) {
+//! let given = Given { plan: &plan, session: &session, public: &public, private: &private, words: &words };
+//! if let Some(output) = parts.evaluate(&given) {
 //!     return Err(parts.fault(output));
 //! }
 //! ```
 #![tactic(auto)]
 
 mod answering;
+mod asked;
 mod drawing;
 mod evaluating;
 mod opening;
 mod parts;
 mod room;
-mod statement;
 mod writing;
 
 pub use answering::{answer_linear, answer_low_degree, answer_quadratic};
+pub use asked::Asked;
 pub use drawing::{draw_columns, open_tape};
 pub use evaluating::{Parts, Unsatisfied};
-pub use opening::{open_columns, open_path};
-pub use parts::{Answering, Committed, Extenders};
+pub use opening::{Opened, open_columns, open_nonces, open_path};
+pub use parts::{Answering, Committed};
 pub use room::{Room, Sent};
-pub use statement::Statement;
 pub use writing::write_file;

@@ -2,30 +2,18 @@
 
 ghost use Rattle.std.specs.Prelude.{◌≡◌, IfOk};
 ghost use Rattle.lzk_circbytes.specs.Files.{id_of};
-ghost use Rattle.lzk_layout.specs.Sizes.{AreParams};
 ghost use Rattle.lzk_ligero_steps.specs.Parts.{AreExtendersFor, IsCommittedFor, IsAnsweringFor};
 
 use crate::room::{Room, Sent, file_room};
 use lzk_field::Field;
 use lzk_layout::Plan;
+use lzk_ligero_tableau::{Extenders, Tableau};
 use lzk_merkle::Tree;
 use lzk_poly::RowExtend;
-use lzk_tableau::Tableau;
 use std::alloc::{AllocError, Global};
 
-/// What extends rows, rows of products, and rows of coefficients.
-#[derive(Drop)]
-pub struct Extenders<X: Drop> {
-    /// What extends rows of `block` values.
-    pub short: X,
-    /// What extends rows of `dblock` values.
-    pub long: X,
-    /// What extends rows of coefficients.
-    pub coefficients: X,
-}
-
 /// Extenders for a circuit's parameters.
-pub fn make_extenders<F: Field, X: RowExtend<F>>(
+pub(crate) fn make_extenders<F: Field, X: RowExtend<F>>(
     alloc: Global,
     plan: &Plan<'_, F>,
 ) -> Result<Extenders<X>, AllocError>
@@ -71,20 +59,19 @@ pub struct Answering<F: Field> {
 }
 
 impl<F: Field> Answering<F> {
-    /// Where an extension of a row of coefficients takes so many elements.
+    /// Parts for a circuit, with room for an extender of coefficients that takes so many elements.
     pub fn new(
         alloc: Global,
         plan: &Plan<'_, F>,
         room: usize,
         id: [u8; 32],
     ) -> Result<Answering<F>, AllocError>
-        requires valid { AreParams F.ops plan.now.params }
         requires id { id ≡ id_of F.coding plan.now.circuit.now }
         ensures { IfOk result (IsAnsweringFor F.ops F.coding plan.now.circuit.now plan.now.params room) }
     {
         // What is made last is dropped at no exit.
         Ok(Answering {
-            bytes: file_room::<F>(alloc, &plan.params)?,
+            bytes: file_room(alloc, plan)?,
             sent: Sent::new(alloc, plan, id)?,
             room: Room::new(alloc, plan, room)?,
         })

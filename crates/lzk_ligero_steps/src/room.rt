@@ -3,14 +3,14 @@
 ghost use Rattle.lzk_profile.specs.Profile.{most_digests};
 ghost use Rattle.std.specs.Prelude.{◌≡◌, ◌+◌, ◌*◌, length, IfOk, IfSome};
 ghost use Rattle.lzk_circbytes.specs.Files.{id_of};
-ghost use Rattle.lzk_layout.specs.Sizes.{AreBounded, AreParams, proof_length};
+ghost use Rattle.lzk_layout.specs.Sizes.{AreParams, proof_length};
 ghost use Rattle.lzk_ligero_steps.specs.Rooms.{IsRoomFor, IsSentFor};
 
 use lzk_accept::{Challenges, Factored, Forms};
 use lzk_field::Field;
-use lzk_layout::{Elements, MOST_DIGESTS, OPENED, Params, Plan, Proof, proof_len};
-use lzk_rounds::Rounds;
+use lzk_layout::{Elements, MOST_DIGESTS, OPENED, Plan, Proof, proof_len};
 use lzk_sumcheck::Script;
+use lzk_sumcheck_rounds::Rounds;
 use std::alloc::{AllocError, Global};
 
 /// What is computed on the way to a proof.
@@ -43,11 +43,17 @@ pub struct Sent<F: Field> {
 
 // How many elements the linear answer takes, where its extender takes so many. None where no number of the machine says
 // it.
-fn sums_len(params: &Params, extender_room: usize) -> Option<usize>
-    requires { AreBounded params.now }
-    ensures { IfSome result (λ len. len ≡ extender_room + 2 * params.now.dblock) }
+fn sums_len<F: Field>(plan: &Plan<F>, extender_room: usize) -> Option<usize>
+    ensures { IfSome result (λ len. len ≡ extender_room + 2 * plan.now.params.dblock) }
 {
-    extender_room.checked_add(2 * params.dblock as usize)
+    extender_room.checked_add(2 * plan.params.dblock as usize)
+}
+
+/// The parameters of a plan are those of a valid circuit. The body does nothing.
+pub(crate) fn params_laws<F: Field>(plan: &Plan<F>)
+    ensures { AreParams F.ops plan.now.params }
+{
+    plan.circuit.valid_laws();
 }
 
 impl<F: Field> Room<F> {
@@ -59,7 +65,7 @@ impl<F: Field> Room<F> {
     ) -> Result<Room<F>, AllocError>
         ensures { IfOk result (λ room. IsRoomFor F.ops plan.now.circuit.now plan.now.params extender_room room) }
     {
-        let Some(len) = sums_len(&plan.params, extender_room) else {
+        let Some(len) = sums_len(plan, extender_room) else {
             return Err(AllocError);
         };
         // What is made last is dropped at no exit.
@@ -76,10 +82,10 @@ impl<F: Field> Room<F> {
 impl<F: Field> Sent<F> {
     /// A proof of zeros over this circuit, with its id.
     pub fn new(alloc: Global, plan: &Plan<'_, F>, id: [u8; 32]) -> Result<Sent<F>, AllocError>
-        requires valid { AreParams F.ops plan.now.params }
         requires id { id ≡ id_of F.coding plan.now.circuit.now }
         ensures { IfOk result (λ sent. IsSentFor F.coding plan.now.circuit.now plan.now.params sent) }
     {
+        params_laws(plan);
         // What is made last is dropped at no exit.
         let script = Script::new(alloc, plan.circuit)?;
         let challenges = Challenges::new(alloc, &plan.params)?;
@@ -94,12 +100,16 @@ impl<F: Field> Sent<F> {
     }
 }
 
-/// Room for the longest file of a proof with these parameters.
-pub fn file_room<F: Field>(alloc: Global, params: &Params) -> Result<Vec<u8>, AllocError>
-    requires { AreParams F.ops params.now }
-    ensures { IfOk result (λ bytes. length bytes.items ≡ proof_length F.coding.bytes params.now most_digests) }
+/// Room for the longest file of a proof over a circuit.
+pub(crate) fn file_room<F: Field>(alloc: Global, plan: &Plan<F>) -> Result<Vec<u8>, AllocError>
+    ensures { IfOk result (λ bytes.
+        length bytes.items ≡ proof_length F.coding.bytes plan.now.params most_digests) }
 {
+    params_laws(plan);
     let mut bytes = Vec::new(alloc);
-    bytes.resize(proof_len::<F>(params, MOST_DIGESTS as u32) as usize, 0)?;
+    bytes.resize(
+        proof_len::<F>(&plan.params, MOST_DIGESTS as u32) as usize,
+        0,
+    )?;
     Ok(bytes)
 }

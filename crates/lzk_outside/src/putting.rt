@@ -224,7 +224,7 @@ fn put_found<R: Files>(
 /// Makes a name hold these bytes. A link to a regular file stays, and that file is put whole. A device, a pipe, an open
 /// file of a process and what any other link leads to are written in place, and so is a file where none may be made
 /// beside it or renamed to it.
-pub fn put_at<R: Files>(rt: &R, alloc: Global, name: &str, bytes: &[u8]) -> io::Result<()> {
+pub(crate) fn put_at<R: Files>(rt: &R, alloc: Global, name: &str, bytes: &[u8]) -> io::Result<()> {
     match found_at(rt, name) {
         Found::Link => match target_of(rt, alloc, name) {
             Some(target) => put_found(rt, alloc, &target, bytes, found_at(rt, &target)),

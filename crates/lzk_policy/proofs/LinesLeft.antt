@@ -1,5 +1,5 @@
 -- A policy, line after line.
-use Rattle.std.proofs.Common.{◌≡◌, ℕ, ◌+◌, ◌≤◌, List, [], ◌∷◌, length, Option, Some, None, Ok, Err, Bor, MatchOption, refl, sym, ap, ◌∙◌, arith}
+use Rattle.std.proofs.Common.{◌≡◌, ℕ, ◌+◌, ◌≤◌, List, [], ◌∷◌, length, Option, Some, None, Ok, Err, Bor, refl, ap, ◌∙◌, arith}
 use Rattle.lzk_expr.specs.Texts.{lines}
 use Rattle.lzk_expr.proofs.Taking.{lines_left, left_size, IsNext}
 use Rattle.lzk_policy.specs.declared.fault.PolicyFault.{PolicyFault}

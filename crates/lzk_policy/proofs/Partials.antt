@@ -1,5 +1,5 @@
 -- What lines say of a policy stays well formed.
-use Rattle.std.proofs.Common.{◌≡◌, ◌⊎◌, ℕ, ◌+◌, ◌<◌, ◌≤◌, Bool, true, false, not, List, [], ◌∷◌, ◌++◌, length, length-append, Option, Some, None, Result, Ok, Err, refl, sym, ap, subst, ◌∙◌, inl, inr, arith}
+use Rattle.std.proofs.Common.{◌≡◌, ℕ, ◌≤◌, Bool, true, false, not, List, [], ◌∷◌, ◌++◌, length, length-append, Option, Some, None, Result, Ok, Err, refl, sym, ap, subst, ◌∙◌, arith}
 use Rattle.std.specs.Prelude.{if◌then◌else◌, nat_lt, nat_le, ◌&&◌, ◌||◌, IsTrue, slice_get, is_some}
 use Rattle.std.specs.List.{AllByRecursion}
 use Rattle.std.proofs.lemmas.Bool.{leb-true, ltb-true}
@@ -11,9 +11,8 @@ use Rattle.lzk_policy.specs.declared.line.Line.{Line}
 use Rattle.lzk_policy.specs.declared.line.Line.TheVariants as lines
 use Rattle.lzk_policy.specs.declared.fault.PolicyKind.{PolicyKind}
 use Rattle.lzk_policy.specs.declared.fault.PolicyKind.TheVariants as faults
-use Rattle.lzk_policy.specs.declared.fault.PolicyFault.{PolicyFault}
 use Rattle.lzk_policy.specs.Lines.{line_of, is_skipped}
-use Rattle.lzk_policy.specs.Policies.{Contents, Partial, IsPartial, IsPolicy, IsField, IsShowOf, most_bytes, most_fields, most_shows, has_size, lies_within, suits, claim_for, field_number, with_size, with_field, with_field_behind, with_new_field, with_digest, with_root, with_claim, with_number, with_show, with_said, with_line, with_bytes, at_line, whole_of}
+use Rattle.lzk_policy.specs.Policies.{Partial, IsPartial, IsPolicy, IsField, IsShowOf, most_bytes, most_fields, most_shows, has_size, lies_within, suits, claim_for, field_number, with_size, with_field, with_field_behind, with_new_field, with_digest, with_root, with_claim, with_number, with_show, with_said, with_line, with_bytes, at_line}
 
 all_behind : {A : Type 0} (P : A → Type 0) (xs : List A) (x : A) → AllByRecursion P xs → P x → AllByRecursion P (xs ++ x ∷ [])
 all_behind P [] x h p = (p, tt)

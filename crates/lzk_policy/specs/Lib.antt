@@ -1,4 +1,3 @@
 pub mod Lines
 pub mod Policies
-pub mod Texts
 pub use Rattle.lzk_expr.specs

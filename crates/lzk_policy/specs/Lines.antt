@@ -1,14 +1,12 @@
 -- The lines of a policy: what each one says, by its words.
-use Rattle.std.specs.Prelude.{ℕ, ◌+◌, ◌-◌, ◌*◌, nat_lt, nat_le, ◌==◌, ◌&&◌, ◌||◌, Bool, not, List, [], ◌∷◌, ◌++◌, length, slice_index, codes, Option, Some, None, zero, suc, if◌then◌else◌}
+use Rattle.std.specs.Prelude.{ℕ, ◌+◌, ◌-◌, ◌*◌, nat_lt, nat_le, ◌==◌, ◌&&◌, Bool, List, [], ◌∷◌, ◌++◌, length, slice_index, codes, Option, Some, None, zero, suc, if◌then◌else◌}
 use Rattle.std.specs.Str.{bytes_eq}
 use Rattle.std.specs.List.{list_all}
 use Rattle.lzk_expr.specs.Texts.{content, runs, is_plain, is_blank}
 use Rattle.lzk_policy.specs.declared.policy.FieldKind.{FieldKind}
 use Rattle.lzk_policy.specs.declared.policy.FieldKind.TheVariants as kinds
-use Rattle.lzk_policy.specs.declared.policy.RecordField.{RecordField}
 use Rattle.lzk_policy.specs.declared.policy.Claim.{Claim}
 use Rattle.lzk_policy.specs.declared.policy.Claim.TheVariants as claims
-use Rattle.lzk_policy.specs.Texts.{Texts}
 use Rattle.lzk_policy.specs.declared.line.Line.{Line}
 use Rattle.lzk_policy.specs.declared.line.Line.TheVariants as lines
 
@@ -56,27 +54,26 @@ only_name words = and_then (only words) name_of
 
 -- ---- texts
 
--- a text has at most 7 bytes, and a line at most 16 texts
+-- a text has one to 32 bytes, and a line at most 16 texts
 abbrev pub most_text : ℕ
-most_text = 7
+most_text = 32
 
 abbrev pub most_texts : ℕ
 most_texts = 16
 
--- the numbers of words of this size behind those that stand before
-unfoldable pub numbers_behind : ℕ → List ℕ → List (List ℕ) → Option (List ℕ)
-numbers_behind size have [] = Some have
-numbers_behind size have (word ∷ words) =
+-- words of this size behind those that stand before
+unfoldable pub texts_behind : ℕ → List (List ℕ) → List (List ℕ) → Option (List (List ℕ))
+texts_behind size have [] = Some have
+texts_behind size have (word ∷ words) =
     if (length word == size) && nat_lt (length have) most_texts
-    then numbers_behind size (have ++ number_at word 0 size ∷ []) words else None
+    then texts_behind size (have ++ word ∷ []) words else None
 
 -- the texts that words are: all of one size
-unfoldable pub texts_of : List (List ℕ) → Option Texts
+unfoldable pub texts_of : List (List ℕ) → Option (List (List ℕ))
 texts_of [] = None
 texts_of (word ∷ words) =
-    if nat_le (length word) most_text
-    then and_then (numbers_behind (length word) [] (word ∷ words))
-    (λ ns. Some (record { size = length word; numbers = ns })) else None
+    if nat_le 1 (length word) && nat_le (length word) most_text
+    then texts_behind (length word) [] (word ∷ words) else None
 
 -- ---- record N
 

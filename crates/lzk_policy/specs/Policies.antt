@@ -1,5 +1,5 @@
 -- Policies, and the texts that are some.
-use Rattle.std.specs.Prelude.{◌≡◌, ℕ, ◌+◌, ◌^◌, ◌≤◌, ◌<◌, nat_lt, nat_le, ◌==◌, ◌&&◌, ◌||◌, Bool, true, false, not, IsTrue, List, [], ◌∷◌, ◌++◌, length, Option, Some, None, Result, Ok, Err, slice_get, is_some, if◌then◌else◌}
+use Rattle.std.specs.Prelude.{◌≡◌, ℕ, ◌+◌, ◌≤◌, nat_lt, nat_le, ◌==◌, ◌&&◌, ◌||◌, Bool, true, false, not, IsTrue, List, [], ◌∷◌, ◌++◌, length, Option, Some, None, Result, Ok, Err, slice_get, is_some, if◌then◌else◌}
 use Rattle.std.specs.Str.{bytes_eq}
 use Rattle.std.specs.List.{list_all, AllByRecursion}
 use Rattle.lzk_profile.specs.Profile.{most_levels}
@@ -20,7 +20,7 @@ use Rattle.lzk_policy.specs.declared.fault.PolicyError.TheVariants as whole_erro
 use Rattle.lzk_policy.specs.declared.fault.LineError.{LineError}
 use Rattle.lzk_policy.specs.declared.fault.LineError.TheVariants as errors
 use Rattle.lzk_policy.specs.declared.draft.Draft.{Draft}
-use Rattle.lzk_policy.specs.Lines.{line_of, is_skipped}
+use Rattle.lzk_policy.specs.Lines.{line_of, is_skipped, most_texts}
 
 -- what a policy says: how many bytes a record has, how many levels the root that is shown stands above its digest
 -- (none, where the digest is shown), where its fields stand, and what else is shown of it
@@ -81,9 +81,15 @@ is_short f = is_text f.kind && nat_le f.size 7
 abbrev pub is_long : RecordField → Bool
 is_long f = is_text f.kind && nat_lt 7 f.size
 
--- each is the number of at most seven bytes
-abbrev pub are_small : List ℕ → Bool
-are_small numbers = list_all (λ n. nat_lt n (2 ^ 56)) numbers
+-- bytes, so many of them, and texts of so many each
+abbrev pub are_bytes : List ℕ → Bool
+are_bytes text = list_all (λ b. nat_lt b 256) text
+
+abbrev pub is_text_of : ℕ → List ℕ → Bool
+is_text_of size text = (length text == size) && are_bytes text
+
+abbrev pub are_texts_of : ℕ → List (List ℕ) → Bool
+are_texts_of size texts = list_all (is_text_of size) texts
 
 -- the bytes of a pseudonym's label, and those of a service's tag
 abbrev pub label_size : ℕ
@@ -99,8 +105,7 @@ suits f (claims.AtMost value) = is_date f.kind
 suits f (claims.AtLeast value) = is_date f.kind
 suits f (claims.Equal value) = is_date f.kind || is_short f
 suits f (claims.Spelled value) = is_long f
-suits f (claims.OneOf texts) =
-    is_short f && (texts.size == f.size) && nat_le (length texts.numbers) 16 && are_small texts.numbers
+suits f (claims.OneOf texts) = is_text f.kind && nat_le (length texts) most_texts && are_texts_of f.size texts
 suits f (claims.Pseudonym value) = is_bytes f.kind && nat_le (label_size + f.size + tag_size) most_message
 suits f (claims.Sealed value) = is_sealed f.kind && (f.size == 32)
 

@@ -15,7 +15,7 @@ use std::alloc::Global;
 
 /// What the lines so far say.
 #[derive(Drop)]
-pub struct Draft {
+pub(crate) struct Draft {
     /// How many bytes a record has.
     pub size: Option<u32>,
     /// The fields.
@@ -47,9 +47,6 @@ const SHORT_TEXT: u32 = 7;
 
 /// The most texts of a line.
 const MOST_TEXTS: usize = 16;
-
-/// The number behind those of seven bytes.
-const MOST_NUMBER: u64 = 1 << 56;
 
 /// The bytes of a pseudonym's label and of a service's tag.
 const LABEL_AND_TAG: u32 = 20;
@@ -107,11 +104,24 @@ fn lies_within(size: u32, field: &RecordField) -> bool
     u64::from(field.place) + u64::from(field.size) <= u64::from(size)
 }
 
-// Whether each is the number of at most seven bytes.
-fn are_small(numbers: &[u64]) -> bool
-    ensures { result ≡ policies.are_small numbers.now }
+fn are_bytes(bytes: &[u8]) -> bool
+    ensures { result ≡ policies.are_bytes bytes.now }
 {
-    numbers.iter().all(|n| *n < MOST_NUMBER)
+    bytes.iter().all(|b| u32::from(*b) < 256)
+}
+
+// Whether this is a text of so many bytes.
+fn is_text_of(size: u32, text: &Name) -> bool
+    ensures { result ≡ policies.is_text_of size text.now }
+{
+    let bytes = text.text();
+    bytes.len() == size as usize && are_bytes(bytes)
+}
+
+fn are_texts_of(size: u32, texts: &[Name]) -> bool
+    ensures { result ≡ policies.are_texts_of size texts.now }
+{
+    texts.iter().all(|text| is_text_of(size, text))
 }
 
 fn is_short(field: &RecordField) -> bool
@@ -135,10 +145,9 @@ fn suits(field: &RecordField, claim: &Claim) -> bool
         Claim::Equal(_) => is_date(field.kind) || is_short(field),
         Claim::Spelled(_) => is_long(field),
         Claim::OneOf(texts) => {
-            is_short(field)
-                && texts.size() == field.size
-                && texts.numbers().len() <= MOST_TEXTS
-                && are_small(texts.numbers())
+            is_text(field.kind)
+                && texts.texts().len() <= MOST_TEXTS
+                && are_texts_of(field.size, texts.texts())
         }
         Claim::Pseudonym(_) => is_bytes(field.kind) && field.size <= MOST_MESSAGE - LABEL_AND_TAG,
         Claim::Sealed(_) => is_sealed(field.kind) && field.size == 32,

@@ -45,7 +45,7 @@ pub enum PolicyError {
 
 /// Why a line adds nothing: the rule that it breaks, or want of memory.
 #[derive(Debug, Drop)]
-pub enum LineError {
+pub(crate) enum LineError {
     Kind(PolicyKind),
     OutOfMemory,
 }

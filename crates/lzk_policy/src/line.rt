@@ -5,7 +5,7 @@ use lzk_expr::Name;
 
 /// What a line of a policy says.
 #[derive(Drop)]
-pub enum Line {
+pub(crate) enum Line {
     /// A record has so many bytes.
     Record(u32),
     /// It has this field.

@@ -11,7 +11,7 @@ use std::marker::Model;
 pub enum FieldKind {
     /// A day as the number YYYYMMDD, in four bytes, the first worth most.
     Date,
-    /// One to 32 bytes that are told as a whole; up to seven can be compared.
+    /// One to 32 bytes that are told, or compared, as a whole.
     Text,
     /// Bytes that are never shown.
     Bytes,
@@ -32,41 +32,33 @@ pub struct RecordField {
     pub size: u32,
 }
 
-/// The texts that a field may have, each as the number that its bytes are, the first worth most.
+/// The texts that a field may have, in the order of their line.
 #[derive(Drop)]
 pub struct TextList {
-    size: u32,
-    numbers: Vec<u64>,
+    texts: Vec<Name>,
 }
 
 impl Model for TextList {
-    ghost use Rattle.lzk_policy.specs.Texts.{Texts};
+    ghost use Rattle.std.specs.Prelude.{List, ℕ};
 
-    ghost Value = { Texts };
+    ghost Value = { List (List ℕ) };
 
-    ghost view = { λ t. record { size = t.size; numbers = t.numbers.items } };
+    ghost view = { λ t. t.texts.items };
 }
 
 impl TextList {
-    /// Texts of so many bytes.
-    pub fn new(size: u32, numbers: Vec<u64>) -> TextList
-        ensures { result ≡ record { size = size; numbers = numbers.items } }
+    /// These texts: a text is held in place, as a name is.
+    pub fn new(texts: Vec<Name>) -> TextList
+        ensures { result ≡ texts.items }
     {
-        TextList { size, numbers }
+        TextList { texts }
     }
 
-    /// How many bytes each text has.
-    pub fn size(&self) -> u32
-        ensures { result ≡ self.now.size }
+    /// The texts.
+    pub fn texts(&self) -> &[Name]
+        ensures { result.now ≡ self.now }
     {
-        self.size
-    }
-
-    /// The texts' numbers.
-    pub fn numbers(&self) -> &[u64]
-        ensures { result.now ≡ self.now.numbers }
-    {
-        &self.numbers
+        &self.texts
     }
 }
 

@@ -6,7 +6,6 @@ ghost use Rattle.lzk_expr.specs.Texts.{runs, is_plain};
 ghost use Rattle.lzk_policy.specs.Lines as said;
 
 use crate::line::Line;
-use crate::number::number_at;
 use crate::policy::{Claim, FieldKind, RecordField, TextList};
 use crate::words::only_word;
 use lzk_expr::Name;
@@ -14,7 +13,7 @@ use lzk_expr::words::{content, next_word};
 use std::alloc::{AllocError, Global};
 
 /// The most bytes of a text.
-const MOST_TEXT: usize = 7;
+const MOST_TEXT: usize = 32;
 
 /// The most texts of a line.
 const MOST_TEXTS: usize = 16;
@@ -84,22 +83,23 @@ fn only_name(words: &[u8]) -> Option<Name>
     name_of(word)
 }
 
-// The numbers of words of one size.
-fn numbers_of(alloc: Global, size: u32, words: &[u8]) -> Result<Option<Vec<u64>>, AllocError>
-    requires { size ≤ 7 }
+// Words of one size.
+fn texts_behind(alloc: Global, size: usize, words: &[u8]) -> Result<Option<Vec<Name>>, AllocError>
+    requires some { 1 ≤ size }
+    requires few { size ≤ 32 }
     ensures { IfOk result (λ o. option_map (λ v. v.items) o ≡
-        said.numbers_behind size [] (runs is_plain words.now)) }
+        said.texts_behind size [] (runs is_plain words.now)) }
 {
-    let mut numbers = Vec::new(alloc);
+    let mut texts = Vec::new(alloc);
     let mut left = words;
     while let Some((word, rest)) = next_word(left) {
-        if word.len() != size as usize || numbers.len() >= MOST_TEXTS {
+        if word.len() != size || texts.len() >= MOST_TEXTS {
             return Ok(None);
         }
-        numbers.push(number_at(word, 0, size))?;
+        texts.push(Name::new(word))?;
         left = rest;
     }
-    Ok(Some(numbers))
+    Ok(Some(texts))
 }
 
 // The texts that words are.
@@ -110,14 +110,13 @@ fn texts_of(alloc: Global, words: &[u8]) -> Result<Option<TextList>, AllocError>
     let Some((word, _)) = next_word(words) else {
         return Ok(None);
     };
-    if word.len() > MOST_TEXT {
-        return Ok(None);
+    if 1 <= word.len() && word.len() <= MOST_TEXT {
+        let Some(texts) = texts_behind(alloc, word.len(), words)? else {
+            return Ok(None);
+        };
+        return Ok(Some(TextList::new(texts)));
     }
-    let size = word.len() as u32;
-    let Some(numbers) = numbers_of(alloc, size, words)? else {
-        return Ok(None);
-    };
-    Ok(Some(TextList::new(size, numbers)))
+    Ok(None)
 }
 
 #[tactic(auto, unfolding(crate::specs::Lines::record_line))]
@@ -372,7 +371,7 @@ fn words_line(alloc: Global, words: &[u8]) -> Result<Option<Line>, AllocError>
 
 /// What a line says, if it is of one of the forms that a line may have.
 #[tactic(auto, unfolding(crate::specs::Lines::line_of))]
-pub fn read_line(alloc: Global, line: &[u8]) -> Result<Option<Line>, AllocError>
+pub(crate) fn read_line(alloc: Global, line: &[u8]) -> Result<Option<Line>, AllocError>
     ensures { IfOk result (λ o. o ≡ said.line_of line.now) }
 {
     words_line(alloc, content(line))

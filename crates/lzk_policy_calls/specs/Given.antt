@@ -4,8 +4,8 @@ use Rattle.lzk_policy.specs.Policies.{Contents}
 use Rattle.lzk_policy_inputs.specs.declared.value.Value.{Value}
 use Rattle.lzk_policy_inputs.specs.declared.error.InputsError.{InputsError}
 use Rattle.lzk_policy_inputs.specs.declared.error.InputsError.TheVariants as causes
-use Rattle.lzk_policies.specs.declared.refusal.RootedInputsError.{RootedInputsError}
-use Rattle.lzk_policies.specs.declared.refusal.RootedInputsError.TheVariants as rooted
+use Rattle.lzk_policy_inputs.specs.declared.refusal.RootedInputsError.{RootedInputsError}
+use Rattle.lzk_policy_inputs.specs.declared.refusal.RootedInputsError.TheVariants as rooted
 use Rattle.lzk_sha_path.specs.declared.error.PathError.{PathError}
 use Rattle.lzk_sha_path.specs.declared.error.PathError.TheVariants as paths
 use Rattle.lzk_policy_texts.specs.declared.entries.ValuesFault.{ValuesFault}

@@ -4,8 +4,8 @@ use Rattle.lzk_goldilocks.specs.Elements.{number}
 use Rattle.lzk_policy.specs.Policies.{Contents}
 use Rattle.lzk_policy_inputs.specs.declared.value.Value.{Value}
 use Rattle.lzk_policy_inputs.specs.Both.{Inputs}
-use Rattle.lzk_policies.specs.declared.refusal.RootedInputsError.{RootedInputsError}
-use Rattle.lzk_policies.specs.Placed.{IsCredentialRefusal}
+use Rattle.lzk_policy_inputs.specs.declared.refusal.RootedInputsError.{RootedInputsError}
+use Rattle.lzk_policy_inputs.specs.Placed.{IsCredentialRefusal}
 use Rattle.lzk_policy_texts.specs.Inputs.{IsInputs}
 use Rattle.lzk_policy_texts.specs.Numbers.{number_lines}
 use Rattle.lzk_policy_texts.specs.Paths.{Placed}

@@ -1,7 +1,7 @@
 -- The policy that a text is, for the calls.
 use Rattle.std.specs.Prelude.{◌≡◌, ◌<◌, ◌≤◌, ℕ, List, length, Ok, Err}
 use Rattle.lzk_policy.specs.Policies.{Contents, policy_of}
-use Rattle.lzk_policies.specs.Hashes.{hash_count, most_hashes}
+use Rattle.lzk_policy_inputs.specs.Hashes.{hash_count, most_hashes}
 use Rattle.lzk_policy_calls.specs.declared.refusal.PolicyRefusal.{PolicyRefusal}
 use Rattle.lzk_policy_calls.specs.declared.refusal.PolicyRefusal.TheVariants.{TooLong, NoPolicy, OverLimit, OutOfMemory}
 

@@ -2,7 +2,7 @@
 //! digest of a record, the numbers that show one, the text of what is shown, and the public numbers of that text.
 //!
 //! A caller hands in the bytes of texts and room for bytes, and is told what came of it. docs/POLICY.md has the texts,
-//! and this follows no standard. `lzk_c_calls` exports the calls to C. A caller writes
+//! and this follows no standard. `lzk_c` exports the calls to C. A caller writes
 //!
 //! ```text
 //! let told = show(alloc, policy, &mut room);

@@ -21,9 +21,10 @@ use crate::digests::check_record;
 use crate::reading::{MOST_TEXT, policy_of};
 use crate::refusal::PolicyRefusal;
 use crate::room::put;
-use lzk_policies::{Place, RootedInputs, RootedInputsError, credential_inputs};
 use lzk_policy::Policy;
-use lzk_policy_inputs::{InputsError, Value};
+use lzk_policy_inputs::{
+    InputsError, Place, PolicyInputs, RootedInputsError, Value, credential_inputs,
+};
 use lzk_policy_texts::{Path, ValuesError, is_sealed, number_text, parse_path, read_values};
 use lzk_sha_path::PathError;
 use std::alloc::{AllocError, Global};
@@ -58,7 +59,7 @@ pub struct TextsPut {
 
 /// Two texts, one after another.
 #[derive(Drop)]
-pub struct Texts {
+pub(crate) struct Texts {
     pub both: String,
     pub public: u64,
 }
@@ -168,7 +169,7 @@ fn placed_inputs(
     record: &[u8],
     values: &[Value],
     path: &Path,
-) -> Result<RootedInputs, PolicyRefusal>
+) -> Result<PolicyInputs, PolicyRefusal>
     ensures inputs { IfOk result (ArePlacedInputs policy.now record.now values.now (placed_of path.now)) }
     ensures refused { IfErr result (LacksPlacedInputs policy.now record.now values.now (placed_of path.now)) }
 {
@@ -188,7 +189,7 @@ fn valued_inputs(
     policy: &Policy,
     given: &Given<'_>,
     path: &Path,
-) -> Result<RootedInputs, PolicyRefusal>
+) -> Result<PolicyInputs, PolicyRefusal>
     requires { length given.now.values.now ≤ 65536 }
     ensures inputs { let g = given.now in
         IfOk result (AreInputsFor g.record.now g.values.now g.secret.now policy.now (placed_of path.now)) }
@@ -205,7 +206,7 @@ pub(crate) fn inputs_for(
     alloc: Global,
     policy: &Policy,
     given: &Given<'_>,
-) -> Result<RootedInputs, PolicyRefusal>
+) -> Result<PolicyInputs, PolicyRefusal>
     requires values { length given.now.values.now ≤ 65536 }
     requires path { length given.now.path.now ≤ 65536 }
     ensures inputs { let g = given.now in
@@ -219,7 +220,7 @@ pub(crate) fn inputs_for(
 }
 
 // Two texts of the public and of the private numbers.
-fn texts_of(alloc: Global, inputs: &RootedInputs) -> Result<Texts, AllocError>
+fn texts_of(alloc: Global, inputs: &PolicyInputs) -> Result<Texts, AllocError>
     ensures { IfOk result (λ t. TextsOf inputs.now (string_bytes t.both) t.public) }
 {
     let mut both = number_text(alloc, inputs.public())?;

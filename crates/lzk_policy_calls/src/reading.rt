@@ -4,8 +4,8 @@ ghost use Rattle.std.specs.Prelude.{IfErr, IfOk};
 ghost use Rattle.lzk_policy_calls.specs.Policies.{IsPolicyText, LacksPolicy};
 
 use crate::refusal::PolicyRefusal;
-use lzk_policies::has_room;
 use lzk_policy::{Policy, PolicyError, parse_policy};
+use lzk_policy_inputs::has_room;
 use std::alloc::Global;
 
 /// The most bytes of a text.

@@ -34,7 +34,8 @@ pub enum PolicyRefusal {
     Unfit,
     /// The text does not say what was shown.
     NoShown(ValuesFault),
-    /// No text says what is shown: a text of the record has a blank or `#`, or one name would stand for two values.
+    /// No text says what is shown: a text of the record has a blank, a line feed or `#`, or one name would stand for
+    /// two values.
     Unsaid,
     /// So many bytes are to be written, and the room is smaller.
     NoRoom(u64),

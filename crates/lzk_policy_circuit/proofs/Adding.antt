@@ -1,8 +1,8 @@
 -- How what a statement of a policy claims is put together.
 use Rattle.std.proofs.Common.{◌≡◌, ℕ, ◌+◌, ◌-◌, ◌*◌, ◌<◌, ◌≤◌, List, [], ◌∷◌, length, take, drop, zero, suc, refl, sym, ap, subst, ◌∙◌, arith, inl, inr, mul-suc, Option, Some, ◌++◌, length-drop}
-use Rattle.std.specs.Prelude.{◌↔◌, MatchOption, slice_get, Bool, true, false, ◌&&◌, ◌==◌, nat_le, IsTrue, map}
+use Rattle.std.specs.Prelude.{◌↔◌, MatchOption, slice_get, ◌&&◌, nat_le, IsTrue}
 use Rattle.std.proofs.lemmas.Bool.{leb-true}
-use Rattle.std.proofs.lemmas.List.{get_or-drop, length-map, map-append, take_more}
+use Rattle.std.proofs.lemmas.List.{get_or-drop, map-append, take_more}
 use Rattle.lzk_field.specs.Sums.{entry}
 use Rattle.lzk_goldilocks.specs.Elements.{ops, of_number}
 use Rattle.lzk_goldilocks.specs.declared.element.Gold.{Gold}
@@ -14,12 +14,13 @@ use Rattle.lzk_policy.specs.declared.policy.RecordField.{RecordField}
 use Rattle.lzk_policy.specs.declared.policy.Show.{Show}
 use Rattle.lzk_policy.specs.declared.policy.Claim.{Claim}
 use Rattle.lzk_policy.specs.declared.policy.Claim.TheVariants as claims
-use Rattle.lzk_policy.specs.Texts.{Texts}
-use Rattle.lzk_policy.specs.Policies.{suits, is_short, are_small}
+use Rattle.lzk_policy.specs.Lines.{most_texts}
+use Rattle.lzk_policy.specs.Policies.{suits, is_text, are_texts_of}
 use Rattle.lzk_policy_circuit.specs.Meaning.{value_count, piece_start, piece_size}
 use Rattle.lzk_policy_circuit.specs.Layout.{own_of, own_of_claim, own_count, asserts_of_claim, asserts_of_field, asserts_of}
-use Rattle.lzk_policy_circuit.specs.Met.{byte_worth, number_worth, AreSameBytes, IsLabelled, IsTagged, IsComposed, IsSealComposed, IsOrdered, IsStated, AreStated, IsPiece, IsSpelledBy}
+use Rattle.lzk_policy_circuit.specs.Met.{byte_worth, number_worth, AreSameBytes, IsLabelled, IsTagged, IsComposed, IsSealComposed, IsOrdered, IsStated, AreStated, IsPiece, IsSpelledBy, IsOneOf}
 use Rattle.lzk_policy_circuit.proofs.Lists.{drop_twice}
+use Rattle.lzk_policy_circuit.proofs.Squares.{both_true}
 
 abbrev pub Stated : Type 0
 Stated = Claims Gold
@@ -253,15 +254,15 @@ shows_claim fields s ss f p q i own next behind there en eb =
 -- the list of what is shown is its first and the others
 pub shows_added : (fields : List RecordField) (all : List Show) (s : Show) (ss : List Show) (f : RecordField) (a t u : Stated) (i own next behind : ℕ) → all ≡ s ∷ ss → slice_get fields s.field ≡ Some f
     → next ≡ i + value_count s.claim → behind ≡ own + own_of_claim f s.claim
-    → Adds ops 2000 (asserts_of_claim f s.claim) a t (λ p q. IsStated q f s.claim (drop i p) (drop own q))
-    → Adds ops (2000 * length ss) (asserts_of fields ss) t u (λ p q. AreStated q fields ss (drop next p) (drop behind q))
-    → Adds ops (2000 * length all) (asserts_of fields all) a u (λ p q. AreStated q fields all (drop i p) (drop own q))
+    → Adds ops 4000 (asserts_of_claim f s.claim) a t (λ p q. IsStated q f s.claim (drop i p) (drop own q))
+    → Adds ops (4000 * length ss) (asserts_of fields ss) t u (λ p q. AreStated q fields ss (drop next p) (drop behind q))
+    → Adds ops (4000 * length all) (asserts_of fields all) a u (λ p q. AreStated q fields all (drop i p) (drop own q))
 shows_added fields all s ss f a t u i own next behind e there en eb d g =
     let count : asserts_of_claim f s.claim + asserts_of fields ss ≡ asserts_of fields (s ∷ ss) = ap (λ o. asserts_of_field o s.claim + asserts_of fields ss) (sym there) in
-    subst (λ (l : List Show). Adds ops (2000 * length l) (asserts_of fields l) a u (λ p q. AreStated q fields l (drop i p) (drop own q))) (sym e)
-    (adds_then ops 2000 (2000 * length ss) (2000 * length (s ∷ ss)) (asserts_of_claim f s.claim) (asserts_of fields ss) (asserts_of fields (s ∷ ss)) a t u
+    subst (λ (l : List Show). Adds ops (4000 * length l) (asserts_of fields l) a u (λ p q. AreStated q fields l (drop i p) (drop own q))) (sym e)
+    (adds_then ops 4000 (4000 * length ss) (4000 * length (s ∷ ss)) (asserts_of_claim f s.claim) (asserts_of fields ss) (asserts_of fields (s ∷ ss)) a t u
     (λ p q. IsStated q f s.claim (drop i p) (drop own q)) (λ p q. AreStated q fields ss (drop next p) (drop behind q)) (λ p q. AreStated q fields (s ∷ ss) (drop i p) (drop own q))
-    d g (omega (arith, mul-suc 2000 (length ss))) count (λ p q k. shows_claim fields s ss f p q i own next behind there en eb))
+    d g (omega (arith, mul-suc 4000 (length ss))) count (λ p q k. shows_claim fields s ss f p q i own next behind there en eb))
 
 -- ---- inputs in a row
 
@@ -275,54 +276,46 @@ bits_more s p q bits more node at k e before here lt =
 
 -- ---- what is shown of a field
 
-few_texts : (f : RecordField) (texts : Texts) → IsTrue (suits f (claims.OneOf texts)) → length texts.numbers ≤ 16
-few_texts f texts w = leb-true (length texts.numbers) 16 (third (is_short f && (texts.size == f.size)) (nat_le (length texts.numbers) 16) (are_small texts.numbers) w) where
-  third : (a b c : Bool) → (a && b && c) ≡ true → b ≡ true
-  third true true c h = refl
-  third true false c h = absurd cc
-  third false b c h = absurd cc
+pub texts_suit : (f : RecordField) (claim : Claim) (texts : List (List ℕ)) → claim ≡ claims.OneOf texts → IsTrue (suits f claim) → (length texts ≤ 16) × IsTrue (are_texts_of f.size texts)
+texts_suit f claim texts e w =
+    let t = both_true (is_text f.kind && nat_le (length texts) most_texts) (are_texts_of f.size texts) (subst (λ (k : Claim). IsTrue (suits f k)) e w) in
+    (leb-true (length texts) 16 (both_true (is_text f.kind) (nat_le (length texts) most_texts) t.0).1, t.1)
 
 module _ (f : RecordField) (claim : Claim) (s u : Stated) (i own : ℕ) (small : f.size ≤ 119) where
   abbrev pub IsClaimed : Type 0
-  IsClaimed = Adds ops 2000 (asserts_of_claim f claim) s u (λ p q. IsStated q f claim (drop i p) (drop own q))
+  IsClaimed = Adds ops 4000 (asserts_of_claim f claim) s u (λ p q. IsStated q f claim (drop i p) (drop own q))
 
-  claimed : (c : Claim) → claim ≡ c → Adds ops 2000 (asserts_of_claim f c) s u (λ p q. IsStated q f c (drop i p) (drop own q)) → IsClaimed
-  claimed c e d = subst (λ (k : Claim). Adds ops 2000 (asserts_of_claim f k) s u (λ p q. IsStated q f k (drop i p) (drop own q))) (sym e) d
+  claimed : (c : Claim) → claim ≡ c → Adds ops 4000 (asserts_of_claim f c) s u (λ p q. IsStated q f c (drop i p) (drop own q)) → IsClaimed
+  claimed c e d = subst (λ (k : Claim). Adds ops 4000 (asserts_of_claim f k) s u (λ p q. IsStated q f k (drop i p) (drop own q))) (sym e) d
 
   pub claim_most : (v : List ℕ) → claim ≡ claims.AtMost v
       → Adds ops (198 + 10 * f.size) 66 s u (λ p q. IsOrdered (difference (entry ops p i) (number_worth q (8 * f.place) f.size)) (entry ops p i) (drop own q)) → IsClaimed
   claim_most v e d =
       let D = λ (p q : List Gold). IsOrdered (difference (entry ops p i) (number_worth q (8 * f.place) f.size)) (entry ops p i) (drop own q) in
-      claimed (claims.AtMost v) e (adds_as 2000 66 s u D (λ p q. IsStated q f (claims.AtMost v) (drop i p) (drop own q)) (adds_most (198 + 10 * f.size) 2000 66 66 s u D d (omega (arith, small)) refl)
+      claimed (claims.AtMost v) e (adds_as 4000 66 s u D (λ p q. IsStated q f (claims.AtMost v) (drop i p) (drop own q)) (adds_most (198 + 10 * f.size) 4000 66 66 s u D d (omega (arith, small)) refl)
       (λ p q k. by_entry (λ g. IsOrdered (difference g (number_worth q (8 * f.place) f.size)) g (drop own q)) (entry ops p i) (entry ops (drop i p) 0) (first_entry p i)))
 
   pub claim_least : (v : List ℕ) → claim ≡ claims.AtLeast v
       → Adds ops (198 + 10 * f.size) 66 s u (λ p q. IsOrdered (difference (number_worth q (8 * f.place) f.size) (entry ops p i)) (entry ops p i) (drop own q)) → IsClaimed
   claim_least v e d =
       let D = λ (p q : List Gold). IsOrdered (difference (number_worth q (8 * f.place) f.size) (entry ops p i)) (entry ops p i) (drop own q) in
-      claimed (claims.AtLeast v) e (adds_as 2000 66 s u D (λ p q. IsStated q f (claims.AtLeast v) (drop i p) (drop own q)) (adds_most (198 + 10 * f.size) 2000 66 66 s u D d (omega (arith, small)) refl)
+      claimed (claims.AtLeast v) e (adds_as 4000 66 s u D (λ p q. IsStated q f (claims.AtLeast v) (drop i p) (drop own q)) (adds_most (198 + 10 * f.size) 4000 66 66 s u D d (omega (arith, small)) refl)
       (λ p q k. by_entry (λ g. IsOrdered (difference (number_worth q (8 * f.place) f.size) g) g (drop own q)) (entry ops p i) (entry ops (drop i p) 0) (first_entry p i)))
 
   pub claim_equal : (v : List ℕ) → claim ≡ claims.Equal v → Adds ops (2 + 10 * f.size) 1 s u (λ p q. number_worth q (8 * f.place) f.size ≡ entry ops p i) → IsClaimed
   claim_equal v e d =
       let D = λ (p q : List Gold). number_worth q (8 * f.place) f.size ≡ entry ops p i in
-      claimed (claims.Equal v) e (adds_as 2000 1 s u D (λ p q. IsStated q f (claims.Equal v) (drop i p) (drop own q)) (adds_most (2 + 10 * f.size) 2000 1 1 s u D d (omega (arith, small)) refl)
+      claimed (claims.Equal v) e (adds_as 4000 1 s u D (λ p q. IsStated q f (claims.Equal v) (drop i p) (drop own q)) (adds_most (2 + 10 * f.size) 4000 1 1 s u D d (omega (arith, small)) refl)
       (λ p q k. by_entry (λ g. number_worth q (8 * f.place) f.size ≡ g) (entry ops p i) (entry ops (drop i p) 0) (first_entry p i)))
 
   pub claim_spelled : (v : List ℕ) → claim ≡ claims.Spelled v → Adds ops 360 5 s u (λ p q. IsSpelledBy q f (drop i p)) → IsClaimed
-  claim_spelled v e d = claimed (claims.Spelled v) e (adds_most 360 2000 5 5 s u (λ p q. IsSpelledBy q f (drop i p)) d (omega arith) refl)
+  claim_spelled v e d = claimed (claims.Spelled v) e (adds_most 360 4000 5 5 s u (λ p q. IsSpelledBy q f (drop i p)) d (omega arith) refl)
 
-  pub claim_text : (texts : Texts) (cs : List Gold) → claim ≡ claims.OneOf texts → IsTrue (suits f claim) → cs ≡ map of_number texts.numbers
-      → Adds ops (2 + 10 * f.size + 3 * length cs) 1 s u (λ p q. IsAmong (number_worth q (8 * f.place) f.size) cs) → IsClaimed
-  claim_text texts cs e w ec d =
-      let D = λ (p q : List Gold). IsAmong (number_worth q (8 * f.place) f.size) cs in
-      let few = few_texts f texts (subst (λ (k : Claim). IsTrue (suits f k)) e w) in
-      let long : length cs ≡ length texts.numbers = ap length ec ∙ length-map texts.numbers of_number in
-      claimed (claims.OneOf texts) e (adds_as 2000 1 s u D (λ p q. IsStated q f (claims.OneOf texts) (drop i p) (drop own q)) (adds_most (2 + 10 * f.size + 3 * length cs) 2000 1 1 s u D d (omega (arith, small, long, few)) refl)
-      (λ p q k. among_by (number_worth q (8 * f.place) f.size) (number_worth q (8 * f.place) f.size) cs (map of_number texts.numbers) refl ec))
+  pub claim_text : (texts : List (List ℕ)) → claim ≡ claims.OneOf texts → Adds ops 4000 1 s u (λ p q. IsOneOf q (8 * f.place) f.size texts) → IsClaimed
+  claim_text texts e d = claimed (claims.OneOf texts) e d
 
-  pub claim_sealed : (v : List ℕ) → claim ≡ claims.Sealed v → Adds ops 2000 36 s u (λ p q. IsSealComposed q f (drop i p) (drop own q)) → IsClaimed
+  pub claim_sealed : (v : List ℕ) → claim ≡ claims.Sealed v → Adds ops 4000 36 s u (λ p q. IsSealComposed q f (drop i p) (drop own q)) → IsClaimed
   claim_sealed v e d = claimed (claims.Sealed v) e d
 
-  pub claim_pseudonym : (v : List ℕ) → claim ≡ claims.Pseudonym v → Adds ops 2000 (8 + f.size) s u (λ p q. IsComposed q f (drop i p) (drop own q)) → IsClaimed
+  pub claim_pseudonym : (v : List ℕ) → claim ≡ claims.Pseudonym v → Adds ops 4000 (8 + f.size) s u (λ p q. IsComposed q f (drop i p) (drop own q)) → IsClaimed
   claim_pseudonym v e d = claimed (claims.Pseudonym v) e d

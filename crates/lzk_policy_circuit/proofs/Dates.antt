@@ -1,16 +1,12 @@
--- What is asserted of dates and texts, and what is shown of them.
-use Rattle.std.proofs.Common.{◌≡◌, ℕ, ◌-◌, ◌^◌, ◌<◌, ◌≤◌, List, [], ◌∷◌, ◌++◌, length, take, drop, map, zero, suc, refl, sym, ap, subst, ◌∙◌, arith, inl, inr, mod-eq_of_lt, append_assoc, length-append, length-drop}
-use Rattle.std.specs.Prelude.{IsTrue, Contains, slice_index_or, Bool, true, false, nat_lt, ◌&&◌}
-use Rattle.std.specs.List.{list_all}
-use Rattle.std.proofs.lemmas.Bool.{ltb-true}
+-- What is asserted of dates, and what is shown of them.
+use Rattle.std.proofs.Common.{◌≡◌, ℕ, ◌-◌, ◌^◌, ◌<◌, ◌≤◌, List, ◌++◌, length, take, drop, refl, sym, ap, subst, ◌∙◌, arith, mod-eq_of_lt, append_assoc, length-append, length-drop}
 use Rattle.std.proofs.lemmas.List.{length-take-le}
 use Rattle.lzk_goldilocks.specs.Prime.{p}
 use Rattle.lzk_goldilocks.specs.Elements.{of_number, Gold-ext}
 use Rattle.lzk_goldilocks.specs.declared.element.Gold.{Gold}
-use Rattle.lzk_gadgets.specs.Inverses.{difference, IsAmong}
+use Rattle.lzk_gadgets.specs.Inverses.{difference}
 use Rattle.lzk_gadgets.specs.Spelled.{Spells}
 use Rattle.lzk_gadgets.proofs.SpelledLaws.{spelled_are_below, below_are_spelled, at_most_forward, at_most_backward}
-use Rattle.lzk_sha_circuit.proofs.Numbered.{gold_numbered}
 use Rattle.lzk_policy_circuit.specs.Met.{IsOrdered}
 use Rattle.lzk_policy_circuit.proofs.Lists.{take_front, drop_front}
 
@@ -90,31 +86,3 @@ pub ordered : (low high v : Gold) → low.n ≤ high.n → high.n < 2 ^ 32 → v
 ordered low high v le lh lv =
     let b = some_bits (high.n - low.n) v.n (omega (arith, lh)) lv in
     (b.own, b.size_is, λ more. ordered_by low high v more le b)
-
--- ---- texts
-
-big : (n : ℕ) → n < 2 ^ 56 → n < p
-big n l = omega (arith, l)
-
-all_tests : (k : ℕ) (ns : List ℕ) → IsTrue (list_all (λ n. nat_lt n (2 ^ 56)) (k ∷ ns)) → (k < 2 ^ 56) × IsTrue (list_all (λ n. nat_lt n (2 ^ 56)) ns)
-all_tests k ns h = both (nat_lt k (2 ^ 56)) (list_all (λ n. nat_lt n (2 ^ 56)) ns) (λ e. ltb-true k (2 ^ 56) e) h where
-  both : (a b : Bool) → ((a ≡ true) → k < 2 ^ 56) → IsTrue (a && b) → (k < 2 ^ 56) × IsTrue b
-  both true b f h = (f refl, h)
-  both false b f h = absurd cc
-
-pub among_forward : (n : ℕ) (ns : List ℕ) → n < 2 ^ 56 → IsTrue (list_all (λ k. nat_lt k (2 ^ 56)) ns) → IsAmong (of_number n) (map of_number ns) → Contains ns n
-among_forward n [] l h a = absurd a
-among_forward n (k ∷ ns) l h a =
-    let t = all_tests k ns h in
-    elim a [
-      | inl e ↦ (0, omega arith, sym (gold_numbered.same n k (big n l) (big k t.0) e))
-      | inr b ↦ let r = among_forward n ns l t.1 b in (suc r.0, omega (arith, r.1), r.2)
-    ]
-
-among_at : (n : ℕ) (ns : List ℕ) (i : ℕ) → i < length ns → slice_index_or ns i n ≡ n → IsAmong (of_number n) (map of_number ns)
-among_at n [] i l e = absurd (omega (arith, l))
-among_at n (k ∷ ns) zero l e = inl (ap of_number (sym e))
-among_at n (k ∷ ns) (suc i) l e = inr (among_at n ns i (omega (arith, l)) e)
-
-pub among_backward : (n : ℕ) (ns : List ℕ) → Contains ns n → IsAmong (of_number n) (map of_number ns)
-among_backward n ns c = among_at n ns c.0 c.1 c.2

@@ -9,11 +9,11 @@ use Rattle.lzk_goldilocks.specs.Elements.{ops, of_number, number, laws}
 use Rattle.lzk_goldilocks.specs.declared.element.Gold.{Gold}
 use Rattle.std.proofs.Math.Seq.{take-length}
 use Rattle.lzk_circuit.specs.declared.layer.Layer.{Layer}
-use Rattle.lzk_circuit.specs.Checks.{checks_of, IsSatisfied}
+use Rattle.lzk_circuit.specs.Checks.{IsSatisfied}
 use Rattle.lzk_circuit.specs.Valid.{Wiring, input_width, IsValid}
 use Rattle.lzk_circuit.specs.Wires.{wires_of, inputs_of, IsFirstNonzero}
 use Rattle.lzk_gadgets.specs.Claims.{AreAllZero, Holds}
-use Rattle.lzk_beside.specs.Chosen.{chosen}
+use Rattle.lzk_circuit_beside.specs.Chosen.{chosen}
 use Rattle.lzk_sha_blocks.specs.Hashed.{AreHashing}
 use Rattle.lzk_sha_blocks.specs.Layout.{private_count}
 use Rattle.lzk_policy.specs.declared.policy.RecordField.{RecordField}

@@ -10,3 +10,6 @@ pub mod SealClaims
 pub mod Sealing
 pub mod Joined
 pub mod Answering
+pub mod Squares
+pub mod OneOf
+pub mod TextClaims

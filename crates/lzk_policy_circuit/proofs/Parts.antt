@@ -1,5 +1,5 @@
 -- What parts of the circuit see of the whole's inputs.
-use Rattle.std.proofs.Common.{◌≡◌, ℕ, ◌+◌, ◌-◌, ◌<◌, ◌≤◌, List, [], ◌∷◌, ◌++◌, length, take, drop, map, zero, suc, refl, sym, ap, ◌∙◌, arith, ext_get_or, get_or-take, get_or-append-add, append_assoc, length-append, length-drop, None}
+use Rattle.std.proofs.Common.{◌≡◌, ℕ, ◌+◌, ◌<◌, ◌≤◌, List, [], ◌∷◌, ◌++◌, length, take, drop, map, zero, suc, refl, sym, ap, ◌∙◌, arith, ext_get_or, get_or-take, get_or-append-add, append_assoc, length-append, length-drop, None}
 use Rattle.std.specs.List.{range_with_len}
 use Rattle.std.proofs.lemmas.List.{get_or_append_left, length-take-le, get_or-drop, map-append}
 use Rattle.std.proofs.lemmas.List.FromFn.{length-map-range_with_len, get_or-map-range_with_len, length-range_with_len}
@@ -12,9 +12,9 @@ use Rattle.lzk_circuit.specs.Wires.{wires_of, inputs_of, IsFirstNonzero}
 use Rattle.lzk_circuit.proofs.CheckLaws.{one-checks}
 use Rattle.lzk_circuit.proofs.VersionLaws.{valid-one}
 use Rattle.lzk_gadgets.specs.Claims.{AreAllZero}
-use Rattle.lzk_reduce.specs.Renumbering.{at, AreNumbersBelow}
-use Rattle.lzk_beside.specs.Chosen.{chosen}
-use Rattle.lzk_beside.proofs.PlaceLaws.{row_below, both_below}
+use Rattle.lzk_circuit_reduce.specs.Renumbering.{AreNumbersBelow}
+use Rattle.lzk_circuit_beside.specs.Chosen.{chosen}
+use Rattle.lzk_circuit_beside.proofs.PlaceLaws.{row_below, both_below}
 use Rattle.lzk_policy_circuit.specs.Places.{hash_places}
 
 -- ---- places

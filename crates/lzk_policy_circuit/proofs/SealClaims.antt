@@ -1,5 +1,5 @@
 -- How what a statement claims of a sealed secret is put together.
-use Rattle.std.proofs.Common.{◌≡◌, ℕ, ◌+◌, ◌-◌, ◌*◌, ◌<◌, List, length, drop, zero, suc, refl, sym, ap, subst, ◌∙◌, arith, mul-suc}
+use Rattle.std.proofs.Common.{◌≡◌, ℕ, ◌+◌, ◌-◌, ◌*◌, ◌<◌, List, drop, zero, suc, sym, ap, subst, ◌∙◌, arith, mul-suc}
 use Rattle.std.specs.Prelude.{◌↔◌}
 use Rattle.std.proofs.lemmas.List.{get_or-drop}
 use Rattle.lzk_field.specs.Sums.{entry}
@@ -8,8 +8,7 @@ use Rattle.lzk_goldilocks.specs.declared.element.Gold.{Gold}
 use Rattle.lzk_gadgets.specs.Claims.{Adds}
 use Rattle.lzk_gadgets.proofs.ClaimLaws.{adds_nothing}
 use Rattle.lzk_policy.specs.declared.policy.RecordField.{RecordField}
-use Rattle.lzk_policy_circuit.specs.Layout.{secret_field}
-use Rattle.lzk_policy_circuit.specs.Met.{byte_worth, number_worth, AreSameBytes, IsLabelled, IsSealLabelled, AreWordsOf, IsTagged, IsComposed, IsSealComposed}
+use Rattle.lzk_policy_circuit.specs.Met.{byte_worth, number_worth, AreSameBytes, IsLabelled, IsSealLabelled, AreWordsOf, IsTagged, IsSealComposed}
 use Rattle.lzk_policy_circuit.proofs.Adding.{Stated, adds_as, adds_both, byte_behind, same_behind, same_by, tag_behind}
 use Rattle.lzk_policy_circuit.proofs.Lists.{drop_twice}
 

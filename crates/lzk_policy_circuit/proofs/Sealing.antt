@@ -1,5 +1,5 @@
 -- What is asserted of a sealed secret, and what is shown of it.
-use Rattle.std.proofs.Common.{◌≡◌, ℕ, ◌+◌, ◌*◌, ◌/◌, ◌%◌, ◌-◌, ◌^◌, ◌<◌, ◌≤◌, List, [], ◌∷◌, ◌++◌, length, take, drop, map, zero, suc, refl, sym, ap, subst, ◌∙◌, arith, inl, inr, slice_index, get_or, ext_get_or, get_or-take, get_or-append-add, length-append, length-drop, append_assoc}
+use Rattle.std.proofs.Common.{◌≡◌, ℕ, ◌+◌, ◌*◌, ◌/◌, ◌%◌, ◌-◌, ◌^◌, ◌<◌, ◌≤◌, List, ◌++◌, length, take, drop, map, zero, suc, refl, sym, ap, subst, ◌∙◌, arith, inl, inr, slice_index, ext_get_or, get_or-take, length-append, length-drop, append_assoc}
 use Rattle.std.specs.Int.{bit_at}
 use Rattle.std.proofs.lemmas.Bool.{cases_lt}
 use Rattle.std.proofs.lemmas.List.{length-map, length-take-le, get_or-drop, take-append-drop, get_or-map, take_all}
@@ -8,7 +8,7 @@ use Rattle.lzk_field.specs.Sums.{entry}
 use Rattle.lzk_goldilocks.specs.Prime.{p}
 use Rattle.lzk_goldilocks.specs.Elements.{ops, of_number}
 use Rattle.lzk_goldilocks.specs.declared.element.Gold.{Gold}
-use Rattle.sha2.specs.Sha256.{compress, initial_hash_256, padded_message}
+use Rattle.sha2.specs.Sha256.{initial_hash_256, padded_message}
 use Rattle.lzk_sha_circuit.specs.Digest.{AreBytes, digest_words, message_bits}
 use Rattle.lzk_sha_blocks.specs.Hashed.{AreHashing}
 use Rattle.lzk_sha_circuit.proofs.Messages.{compress_below, digest_words_are}
@@ -17,12 +17,12 @@ use Rattle.lzk_sha_circuit.proofs.Standard.{eight_cases}
 use Rattle.lzk_policy.specs.declared.policy.RecordField.{RecordField}
 use Rattle.lzk_policy.specs.Lines.{number_at}
 use Rattle.lzk_policy_circuit.specs.Held.{HoldsSecret}
-use Rattle.lzk_policy_circuit.specs.Meaning.{label, seal_label, seal_message, sealed_message, field_bytes, field_words, tag_words, AreBytesOf, IsSealedBy}
-use Rattle.lzk_policy_circuit.specs.Layout.{hash_rest, secret_field, message_size}
-use Rattle.lzk_policy_circuit.specs.Met.{byte_worth, number_worth, IsSealLabelled, AreWordsOf, IsComposed, IsSealComposed, AreSealHashed}
+use Rattle.lzk_policy_circuit.specs.Meaning.{label, seal_label, seal_message, sealed_message, field_bytes, field_words, tag_words, AreBytesOf}
+use Rattle.lzk_policy_circuit.specs.Layout.{hash_rest, secret_field}
+use Rattle.lzk_policy_circuit.specs.Met.{byte_worth, number_worth, AreWordsOf, IsSealComposed, AreSealHashed}
 use Rattle.lzk_policy_circuit.proofs.Bytes.{AreBitsOf, byte_is, number_is, number_below, same_byte}
-use Rattle.lzk_policy_circuit.proofs.Lists.{drop_front, take_front, drop_twice}
-use Rattle.lzk_policy_circuit.proofs.Pseudonyms.{Spelt, spelt, bytes_append, bytes_drop, bytes_label, long_label, four_of, pseudonym_forward, pseudonym_backward}
+use Rattle.lzk_policy_circuit.proofs.Lists.{drop_front, take_front}
+use Rattle.lzk_policy_circuit.proofs.Pseudonyms.{spelt, bytes_append, bytes_drop, bytes_label, long_label, four_of, pseudonym_forward, pseudonym_backward}
 
 -- ---- words
 

@@ -10,7 +10,7 @@ use Rattle.std.proofs.lemmas.List.FromFn.{length-map-range_with_len, get_or-map-
 use Rattle.lzk_field.specs.Sums.{entry}
 use Rattle.lzk_goldilocks.specs.Elements.{ops, of_number}
 use Rattle.lzk_goldilocks.specs.declared.element.Gold.{Gold}
-use Rattle.lzk_gadgets.specs.Inverses.{difference, IsAmong}
+use Rattle.lzk_gadgets.specs.Inverses.{difference}
 use Rattle.lzk_sha_circuit.specs.Digest.{AreBytes, digest_words, message_bits}
 use Rattle.lzk_sha_blocks.specs.Hashed.{AreHashing}
 use Rattle.lzk_policy.specs.declared.policy.FieldKind.{FieldKind}
@@ -19,14 +19,16 @@ use Rattle.lzk_policy.specs.declared.policy.RecordField.{RecordField}
 use Rattle.lzk_policy.specs.declared.policy.Claim.{Claim}
 use Rattle.lzk_policy.specs.declared.policy.Claim.TheVariants as claims
 use Rattle.lzk_policy.specs.declared.policy.Show.{Show}
-use Rattle.lzk_policy.specs.Policies.{Contents, IsPolicy, IsField, IsShowOf, has_size, suits, are_small, is_date, is_text, is_short, is_bytes, is_sealed}
-use Rattle.lzk_policy_circuit.specs.Meaning.{field_number, value_count, values_of, pseudonym_message, seal_message, sealed_message, IsTrueOf, AreTrueOf, IsShown, public_count, piece_start, piece_size, piece_number, piece_numbers}
+use Rattle.lzk_policy.specs.Lines.{most_texts}
+use Rattle.lzk_policy.specs.Policies.{Contents, IsPolicy, IsField, IsShowOf, has_size, suits, are_texts_of, is_date, is_text, is_bytes, is_sealed}
+use Rattle.lzk_policy_circuit.specs.Meaning.{field_number, value_count, values_of, pseudonym_message, seal_message, sealed_message, IsTrueOf, AreTrueOf, IsShown, public_count, piece_start, piece_size, piece_number}
 use Rattle.lzk_policy_circuit.specs.Layout.{hash_rest, rest_of_hash, message_size, own_of, own_of_claim, rest_of_claim, own_count, owns_of, rests_of, stated_count, needed_count, private_count, padded}
 use Rattle.lzk_policy_circuit.specs.Held.{RecordsAreHeld, IsSecretHeld, AreSecretsHeld}
 use Rattle.lzk_policy_circuit.specs.Met.{field_worth, number_worth, IsOrdered, IsStated, AreStated, IsHashed, AreHashed, Satisfy}
 use Rattle.lzk_policy_circuit.proofs.Lists.{drop_front, take_front, drop_twice}
 use Rattle.lzk_policy_circuit.proofs.Bytes.{AreBitsOf, number_is, number_below}
-use Rattle.lzk_policy_circuit.proofs.Dates.{most_forward, least_forward, ordered, among_forward, among_backward, number_of_small, own_number}
+use Rattle.lzk_policy_circuit.proofs.Dates.{most_forward, least_forward, ordered, number_of_small, own_number}
+use Rattle.lzk_policy_circuit.proofs.OneOf.{one_of_forward, one_of_backward}
 use Rattle.lzk_policy_circuit.proofs.Sealing.{bytes_seal, bytes_sealed, long_seal, long_sealed, long_words, sealed_forward, sealed_hashed, sealed_stated}
 use Rattle.lzk_policy_circuit.proofs.Pseudonyms.{spelt, message_front, message_rest, length-message_front, length-message_rest, message_bits_are, message_satisfies_parts, pseudonym_forward, pseudonym_backward, bytes_message, long_message}
 
@@ -53,6 +55,12 @@ told_size kinds.Date n d h = omega (arith, equal n 4 h)
 told_size kinds.Text n d h = at_most n 7 d
 told_size kinds.Bytes n d h = absurd cc
 told_size kinds.Sealed n d h = absurd cc
+
+text_size : (k : FieldKind) (n : ℕ) → IsTrue (is_text k) → IsTrue (has_size k n) → n ≤ 32
+text_size kinds.Text n d h = at_most n 32 (both (nat_le 1 n) (nat_le n 32) h).1
+text_size kinds.Date n d h = absurd cc
+text_size kinds.Bytes n d h = absurd cc
+text_size kinds.Sealed n d h = absurd cc
 
 five_entries : (xs : List Gold) → 5 ≤ length xs → take 5 xs ≡ entry ops xs 0 ∷ entry ops xs 1 ∷ entry ops xs 2 ∷ entry ops xs 3 ∷ entry ops xs 4 ∷ []
 five_entries [] l = absurd (omega (arith, l))
@@ -124,11 +132,9 @@ module _ (m : List ℕ) (bytes : AreBytes m) (f : RecordField) (is : IsField (le
       let one = λ (k : ℕ). piece_is bits h k in
       five_entries public lp ∙ (λ i. (sym a.0 ∙ one 0) i ∷ (sym a.1 ∙ one 1) i ∷ (sym a.2 ∙ one 2) i ∷ (sym a.3 ∙ one 3) i ∷ (sym a.4 ∙ one 4) i ∷ [])
   claim_forward (claims.OneOf texts) s bits public own rests h lp lo lr a b =
-      let t = both (is_short f && (texts.size == f.size) && nat_le (length texts.numbers) 16) (are_small texts.numbers) s in
-      let v = both (is_short f && (texts.size == f.size)) (nat_le (length texts.numbers) 16) t.0 in
-      let u = both (is_short f) (texts.size == f.size) v.0 in
-      among_forward (field_number m f) texts.numbers (small_text (at_most f.size 7 (both (is_text f.kind) (nat_le f.size 7) u.0).1)) t.1
-      (subst (λ (x : Gold). IsAmong x (map of_number texts.numbers)) (worth_is bits h) a)
+      let t = both (is_text f.kind && nat_le (length texts) most_texts) (are_texts_of f.size texts) s in
+      let few = text_size f.kind f.size (both (is_text f.kind) (nat_le (length texts) most_texts) t.0).0 is.0 in
+      one_of_forward m bytes f.place f.size within bits h texts (omega (arith, few)) t.1 a
   claim_forward (claims.Pseudonym value) s bits public own rests h lp lo lr a b =
       let len = message_size f in
       let few : len ≤ 55 = at_most len 55 (both (is_bytes f.kind) (nat_le len 55) s).1 in
@@ -216,7 +222,7 @@ module _ (m : List ℕ) (bytes : AreBytes m) (f : RecordField) (is : IsField (le
     rest = [];
     own_size = refl;
     rest_size = refl;
-    stated = λ bits more h. subst (λ (x : Gold). IsAmong x (map of_number texts.numbers)) (sym (worth_is bits h)) (among_backward (field_number m f) texts.numbers t);
+    stated = λ bits more h. one_of_backward m bytes f.place f.size within bits h texts t;
     hashed = λ more others. tt;
   }
   claim_backward (claims.Pseudonym value) s public t =

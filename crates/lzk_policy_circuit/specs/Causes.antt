@@ -5,7 +5,7 @@ use Rattle.lzk_goldilocks.specs.declared.element.Gold.{Gold}
 use Rattle.lzk_circuit.specs.Valid.{Wiring}
 use Rattle.lzk_level.specs.Nodes.{Nodes}
 use Rattle.lzk_level.specs.Bounds.{IsLevelError}
-use Rattle.lzk_beside.specs.Levels.{IsCause}
+use Rattle.lzk_circuit_beside.specs.Levels.{IsCause}
 use Rattle.lzk_policy_circuit.specs.declared.error.PolicyCircuitError.{PolicyCircuitError}
 use Rattle.lzk_policy_circuit.specs.declared.error.PolicyCircuitError.TheVariants.{Statement, Beside, Privates, OutOfMemory}
 use Rattle.lzk_policy.specs.Policies.{Contents}

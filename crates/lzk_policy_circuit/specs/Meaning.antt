@@ -105,7 +105,7 @@ IsTrueOf m f (claims.AtMost value) values =
 IsTrueOf m f (claims.AtLeast value) values = (entry ops values 0).n ≤ field_number m f
 IsTrueOf m f (claims.Equal value) values = (entry ops values 0).n ≡ field_number m f
 IsTrueOf m f (claims.Spelled value) values = take 5 values ≡ map of_number (piece_numbers m f)
-IsTrueOf m f (claims.OneOf texts) values = Contains texts.numbers (field_number m f)
+IsTrueOf m f (claims.OneOf texts) values = Contains texts (field_bytes m f)
 IsTrueOf m f (claims.Pseudonym value) values = IsPseudonym m f values
 IsTrueOf m f (claims.Sealed value) values = (secret : List ℕ) × IsSealedBy m f secret values
 

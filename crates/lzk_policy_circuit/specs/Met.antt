@@ -1,5 +1,5 @@
 -- When inputs satisfy a policy's circuit, in terms of elements: what the statement asserts, and what the hashes do.
-use Rattle.std.specs.Prelude.{◌≡◌, ℕ, ◌+◌, ◌*◌, List, [], ◌∷◌, ◌++◌, map, take, drop, slice_get, slice_index, MatchOption, zero, suc}
+use Rattle.std.specs.Prelude.{◌≡◌, ℕ, ◌+◌, ◌*◌, List, [], ◌∷◌, ◌++◌, map, take, drop, slice_get, slice_index, MatchOption, zero, suc, length, nat_le, Bool, true, false}
 use Rattle.lzk_field.specs.Sums.{entry}
 use Rattle.lzk_goldilocks.specs.Elements.{ops, of_number}
 use Rattle.lzk_goldilocks.specs.declared.element.Gold.{Gold}
@@ -10,10 +10,12 @@ use Rattle.lzk_policy.specs.declared.policy.RecordField.{RecordField}
 use Rattle.lzk_policy.specs.declared.policy.Claim.{Claim}
 use Rattle.lzk_policy.specs.declared.policy.Claim.TheVariants as claims
 use Rattle.lzk_policy.specs.declared.policy.Show.{Show}
+use Rattle.lzk_policy.specs.Lines.{number_at}
 use Rattle.lzk_policy.specs.Policies.{Contents}
 use Rattle.lzk_policy_circuit.specs.declared.claims.Side.{Side}
 use Rattle.lzk_policy_circuit.specs.declared.claims.Side.TheVariants as sides
 use Rattle.lzk_policy_circuit.specs.Meaning.{label, seal_label, value_count, piece_start, piece_size}
+use Rattle.lzk_policy_circuit.specs.Squares.{IsAtText}
 use Rattle.lzk_policy_circuit.specs.Layout.{hash_rest, rest_of_hash, message_size, seal_size, secret_field, own_count, rest_of_claim, stated_count}
 
 -- eight entries from a place on, the last one first
@@ -31,6 +33,11 @@ unfoldable pub number_worth : List Gold → ℕ → ℕ → Gold
 number_worth xs at zero = ops.zero
 number_worth xs at (suc n) =
     ops.plus (ops.times ops.one (byte_worth xs (at + 8 * n))) (ops.times (of_number 256) (number_worth xs at n))
+
+-- what they are worth one by one
+abbrev pub byte_worths : List Gold → ℕ → ℕ → List Gold
+byte_worths xs at zero = []
+byte_worths xs at (suc n) = byte_worths xs at n ++ byte_worth xs (at + 8 * n) ∷ []
 
 -- the entries of n bytes are worth as much, byte by byte, as those of another list
 abbrev pub AreSameBytes : List Gold → ℕ → List Gold → ℕ → ℕ → Type 0
@@ -100,6 +107,19 @@ IsSpelledBy bits f values =
     IsPiece bits f values 0 × IsPiece bits f values 1 × IsPiece bits f values 2 × IsPiece bits f values 3 ×
     IsPiece bits f values 4
 
+-- the number of a text's bytes as an element
+abbrev pub text_element : List ℕ → Gold
+text_element text = of_number (number_at text 0 (length text))
+
+-- The entries of n bytes from a place on are worth one of some texts: up to seven bytes by their number, and more by
+-- their distance from the text.
+abbrev pub IsOneOfBy : Bool → List Gold → ℕ → ℕ → List (List ℕ) → Type 0
+IsOneOfBy true bits at n texts = IsAmong (number_worth bits at n) (map text_element texts)
+IsOneOfBy false bits at n texts = IsAtText (byte_worths bits at n) texts
+
+abbrev pub IsOneOf : List Gold → ℕ → ℕ → List (List ℕ) → Type 0
+IsOneOf bits at n texts = IsOneOfBy (nat_le n 7) bits at n texts
+
 -- what the statement asserts of what is shown of a field
 abbrev pub IsStated : List Gold → RecordField → Claim → List Gold → List Gold → Type 0
 IsStated bits f (claims.AtMost value) values own =
@@ -108,7 +128,7 @@ IsStated bits f (claims.AtLeast value) values own =
     IsOrdered (difference (field_worth bits f) (entry ops values 0)) (entry ops values 0) own
 IsStated bits f (claims.Equal value) values own = field_worth bits f ≡ entry ops values 0
 IsStated bits f (claims.Spelled value) values own = IsSpelledBy bits f values
-IsStated bits f (claims.OneOf texts) values own = IsAmong (field_worth bits f) (map of_number texts.numbers)
+IsStated bits f (claims.OneOf texts) values own = IsOneOf bits (8 * f.place) f.size texts
 IsStated bits f (claims.Pseudonym value) values own = IsComposed bits f values own
 IsStated bits f (claims.Sealed value) values own = IsSealComposed bits f values own
 

@@ -22,8 +22,8 @@ use crate::counts::{
 use crate::error::PolicyCircuitError;
 use crate::places::{HashPlaces, hash_places, row};
 use crate::shows::assert_shows;
-use lzk_beside::{Part, beside};
 use lzk_circuit::{Circuit, MOST_PRIVATES};
+use lzk_circuit_beside::{Part, beside};
 use lzk_gadgets::Statement;
 use lzk_goldilocks::Gold;
 use lzk_policy::{Claim, Policy, RecordField, Show};

@@ -1,11 +1,10 @@
 //! What a statement asserts of the bits of a record and of a pseudonym's message.
 
-ghost use Rattle.std.specs.Prelude.{◌≡◌, ◌+◌, ◌*◌, ◌≤◌, ◌<◌, List, drop, length, IfOk};
+ghost use Rattle.std.specs.Prelude.{◌≡◌, ◌+◌, ◌*◌, ◌≤◌, ◌<◌, List, drop, IfOk};
 ghost use Rattle.lzk_field.specs.Sums.{entry};
 ghost use Rattle.lzk_goldilocks.specs.Elements.{ops, of_number};
 ghost use Rattle.lzk_goldilocks.specs.declared.element.Gold.{Gold};
 ghost use Rattle.lzk_gadgets.specs.Claims.{Adds, AreInputs, Makes, value};
-ghost use Rattle.lzk_gadgets.specs.Inverses.{IsAmong};
 ghost use Rattle.lzk_level.specs.Nodes.{IsNode, node_count};
 ghost use Rattle.lzk_policy_circuit.specs.Met.{byte_worth, gap_of, number_worth, AreSameBytes, IsLabelled, IsTagged, IsOrdered, IsPiece, IsSpelledBy};
 
@@ -19,7 +18,7 @@ use lzk_policy::RecordField;
 use std::alloc::{AllocError, Global};
 
 /// Claims that the number of some bytes is a public input.
-pub fn assert_number(s: &mut Statement, at: u32, size: u32, i: u32) -> Result<(), AllocError>
+pub(crate) fn assert_number(s: &mut Statement, at: u32, size: u32, i: u32) -> Result<(), AllocError>
     requires there { at + 8 * size ≤ s.old.nodes.privates }
     requires value { i < s.old.nodes.publics }
     ensures { IfOk result (λ _. Adds ops (2 + 10 * size) 1 s.old s.new
@@ -47,7 +46,11 @@ fn assert_piece(s: &mut Statement, field: &RecordField, k: u32, i: u32) -> Resul
 }
 
 /// Claims that the numbers of the five pieces of a field are public inputs from `i` on.
-pub fn assert_pieces(s: &mut Statement, field: &RecordField, i: u32) -> Result<(), AllocError>
+pub(crate) fn assert_pieces(
+    s: &mut Statement,
+    field: &RecordField,
+    i: u32,
+) -> Result<(), AllocError>
     requires few { field.now.place + field.now.size ≤ 119 }
     requires there { 8 * (field.now.place + field.now.size) ≤ s.old.nodes.privates }
     requires values { i + 5 ≤ s.old.nodes.publics }
@@ -65,7 +68,7 @@ pub fn assert_pieces(s: &mut Statement, field: &RecordField, i: u32) -> Result<(
 
 /// On which side of a public input a number is.
 #[derive(Clone, Copy)]
-pub enum Side {
+pub(crate) enum Side {
     /// It is at most the public input.
     AtMost,
     /// It is at least the public input.
@@ -88,7 +91,7 @@ fn gap(s: &mut Statement, x: Node, side: Side, y: Node) -> Result<Node, AllocErr
 
 /// Claims that the number of some bytes is on this side of a public input: by the bits of the difference, and those of
 /// the public input.
-pub fn assert_side(
+pub(crate) fn assert_side(
     alloc: Global,
     s: &mut Statement,
     at: u32,
@@ -114,22 +117,6 @@ pub fn assert_side(
     Ok(())
 }
 
-/// Claims that the number of some bytes is one of these.
-pub fn assert_text(
-    s: &mut Statement,
-    at: u32,
-    size: u32,
-    choices: &[Gold],
-) -> Result<(), AllocError>
-    requires there { at + 8 * size ≤ s.old.nodes.privates }
-    ensures { IfOk result (λ _. Adds ops (2 + 10 * size + 3 * length choices.now) 1 s.old s.new
-        (λ public private. IsAmong (number_worth private at size) choices.now)) }
-{
-    let x = number(s, at, size)?;
-    s.assert_among(x, choices)?;
-    Ok(())
-}
-
 /// Claims that a byte is this one.
 pub(crate) fn assert_byte(s: &mut Statement, at: u32, constant: u8) -> Result<(), AllocError>
     requires there { at + 8 ≤ s.old.nodes.privates }
@@ -142,7 +129,7 @@ pub(crate) fn assert_byte(s: &mut Statement, at: u32, constant: u8) -> Result<()
 }
 
 /// Claims that four bytes are the label.
-pub fn assert_label(s: &mut Statement, own: u32) -> Result<(), AllocError>
+pub(crate) fn assert_label(s: &mut Statement, own: u32) -> Result<(), AllocError>
     requires there { own + 32 ≤ s.old.nodes.privates }
     ensures { IfOk result (λ _. Adds ops 52 4 s.old s.new (λ public private. IsLabelled (drop own private))) }
 {
@@ -155,7 +142,12 @@ pub fn assert_label(s: &mut Statement, own: u32) -> Result<(), AllocError>
 }
 
 /// Claims that some bytes are the same as others.
-pub fn assert_same(s: &mut Statement, at: u32, from: u32, size: u32) -> Result<(), AllocError>
+pub(crate) fn assert_same(
+    s: &mut Statement,
+    at: u32,
+    from: u32,
+    size: u32,
+) -> Result<(), AllocError>
     requires there { at + 8 * size ≤ s.old.nodes.privates }
     requires other { from + 8 * size ≤ s.old.nodes.privates }
     ensures { IfOk result (λ _. Adds ops (19 * size) size s.old s.new
@@ -173,7 +165,7 @@ pub fn assert_same(s: &mut Statement, at: u32, from: u32, size: u32) -> Result<(
 }
 
 /// Claims that sixteen bytes are four public inputs, four bytes each.
-pub fn assert_tag(s: &mut Statement, at: u32, i: u32) -> Result<(), AllocError>
+pub(crate) fn assert_tag(s: &mut Statement, at: u32, i: u32) -> Result<(), AllocError>
     requires there { at + 128 ≤ s.old.nodes.privates }
     requires values { i + 4 ≤ s.old.nodes.publics }
     ensures { IfOk result (λ _. Adds ops 168 4 s.old s.new

@@ -10,7 +10,7 @@ ghost use Rattle.lzk_circuit.specs.Limits.{most_privates};
 use lzk_policy::{Claim, Policy, RecordField, Show};
 
 /// The private inputs of a hash of one block beside the bits of its message.
-pub const HASH_REST: u32 = 6376;
+pub(crate) const HASH_REST: u32 = 6376;
 
 /// From so many private inputs on idle ones make a proof shorter, up to so many in all.
 const IDLE_FROM: u32 = 9000;
@@ -18,7 +18,7 @@ const IDLE_FROM: u32 = 9000;
 const IDLE_TO: u32 = 16_384;
 
 /// The private inputs of a hash of `len` bytes beside the bits of its message.
-pub fn rest_of_hash(len: u32) -> u32
+pub(crate) fn rest_of_hash(len: u32) -> u32
     requires { len ≤ 119 }
     ensures count { result ≡ layout.rest_of_hash len }
     ensures few { result ≤ 12760 }
@@ -46,7 +46,7 @@ pub fn piece_size(size: u32, k: u32) -> u32
 }
 
 /// How many public inputs go with what is shown.
-pub fn value_count(claim: &Claim) -> u32
+pub(crate) fn value_count(claim: &Claim) -> u32
     ensures count { result ≡ meaning.value_count claim.now }
     ensures few { result ≤ 12 }
 {
@@ -62,7 +62,7 @@ pub fn value_count(claim: &Claim) -> u32
 }
 
 /// How many of the statement's private inputs do.
-pub fn own_of_claim(field: &RecordField, claim: &Claim) -> u32
+pub(crate) fn own_of_claim(field: &RecordField, claim: &Claim) -> u32
     requires { IsTrue (suits field.now claim.now) }
     ensures count { result ≡ layout.own_of_claim field.now claim.now }
     ensures few { result ≤ 600 }
@@ -79,7 +79,7 @@ pub fn own_of_claim(field: &RecordField, claim: &Claim) -> u32
 }
 
 /// And how many of a hash.
-pub fn rest_of_claim(claim: &Claim) -> u32
+pub(crate) fn rest_of_claim(claim: &Claim) -> u32
     ensures count { result ≡ layout.rest_of_claim claim.now }
     ensures few { result ≤ 12752 }
 {
@@ -91,7 +91,7 @@ pub fn rest_of_claim(claim: &Claim) -> u32
 }
 
 /// The field of which something is shown.
-pub fn field_of<'a>(fields: &'a [RecordField], show: &Show) -> &'a RecordField
+pub(crate) fn field_of<'a>(fields: &'a [RecordField], show: &Show) -> &'a RecordField
     requires { IsShowOf fields.now show.now }
     ensures there { slice_get fields.now show.now.field ≡ Some result.now }
     ensures suits { IsTrue (suits result.now show.now.claim) }
@@ -101,7 +101,7 @@ pub fn field_of<'a>(fields: &'a [RecordField], show: &Show) -> &'a RecordField
 
 /// How many private inputs there are where so many have a meaning: some are idle where these make a proof shorter.
 #[tactic(auto, unfolding(crate::specs::Layout::padded))]
-pub fn padded(needed: u32) -> u32
+pub(crate) fn padded(needed: u32) -> u32
     ensures count { result ≡ layout.padded needed }
     ensures enough { needed ≤ result }
     ensures few { needed ≤ most_privates → result ≤ most_privates }
@@ -114,7 +114,7 @@ pub fn padded(needed: u32) -> u32
 }
 
 /// How many public inputs go with all that is shown.
-pub fn values_of(shows: &[Show]) -> u32
+pub(crate) fn values_of(shows: &[Show]) -> u32
     requires { length shows.now ≤ 8 }
     ensures count { result ≡ meaning.values_of shows.now }
     ensures few { result ≤ 12 * length shows.now }
@@ -126,7 +126,7 @@ pub fn values_of(shows: &[Show]) -> u32
 }
 
 /// How many of the statement's private inputs do.
-pub fn owns_of(fields: &[RecordField], shows: &[Show]) -> u32
+pub(crate) fn owns_of(fields: &[RecordField], shows: &[Show]) -> u32
     requires few { length shows.now ≤ 8 }
     requires shows { AllByRecursion (IsShowOf fields.now) shows.now }
     ensures count { result ≡ layout.owns_of fields.now shows.now }
@@ -140,7 +140,7 @@ pub fn owns_of(fields: &[RecordField], shows: &[Show]) -> u32
 }
 
 /// And how many of hashes.
-pub fn rests_of(shows: &[Show]) -> u32
+pub(crate) fn rests_of(shows: &[Show]) -> u32
     requires { length shows.now ≤ 8 }
     ensures count { result ≡ layout.rests_of shows.now }
     ensures few { result ≤ 12752 * length shows.now }

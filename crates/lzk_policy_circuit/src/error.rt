@@ -2,8 +2,8 @@
 
 ghost use Rattle.std.specs.Prelude.{◌≡◌};
 
-use lzk_beside::BesideError;
 use lzk_circuit::MOST_PRIVATES;
+use lzk_circuit_beside::BesideError;
 use lzk_level::LevelError;
 use std::alloc::AllocError;
 use thiserror::Error;

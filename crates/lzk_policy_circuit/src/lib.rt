@@ -3,8 +3,8 @@
 //!
 //! A policy (`lzk_policy`) says what a record is and what is shown of it; docs/POLICY.md has its lines, and which
 //! public and private inputs the circuit has. It is a statement of gadgets (`lzk_gadgets`) beside the circuit of
-//! SHA-256 for the record, for each pseudonym and for each seal (`lzk_sha_circuit`, `lzk_beside`), over the prime field
-//! alone, since that is the field of the circuit of SHA-256. This follows no standard. A caller writes
+//! SHA-256 for the record, for each pseudonym and for each seal (`lzk_sha_circuit`, `lzk_circuit_beside`), over the
+//! prime field alone, since that is the field of the circuit of SHA-256. This follows no standard. A caller writes
 //!
 //! ```text
 //! let policy = parse_policy(alloc, text)?;
@@ -23,6 +23,7 @@ mod numbers;
 mod places;
 mod seals;
 mod shows;
+mod texts;
 
 pub use circuit::policy_circuit;
 pub use counts::{idle_count, piece_size, piece_start};

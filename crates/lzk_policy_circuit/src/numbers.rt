@@ -15,7 +15,7 @@ use lzk_level::Node;
 use std::alloc::{AllocError, Global};
 
 /// The byte whose bits stand from private input `at` on, the highest first.
-pub fn byte(s: &mut Statement, at: u32) -> Result<Node, AllocError>
+pub(crate) fn byte(s: &mut Statement, at: u32) -> Result<Node, AllocError>
     requires there { at + 8 ≤ s.old.nodes.privates }
     ensures makes { IfOk result (λ node. Makes ops 9 s.old s.new node) }
     ensures value { (public private : List Gold) → AreInputs s.old public private →
@@ -37,7 +37,7 @@ pub fn byte(s: &mut Statement, at: u32) -> Result<Node, AllocError>
 }
 
 /// The number of `size` bytes whose bits stand from private input `at` on.
-pub fn number(s: &mut Statement, at: u32, size: u32) -> Result<Node, AllocError>
+pub(crate) fn number(s: &mut Statement, at: u32, size: u32) -> Result<Node, AllocError>
     requires there { at + 8 * size ≤ s.old.nodes.privates }
     ensures makes { IfOk result (λ node. Makes ops (1 + 10 * size) s.old s.new node) }
     ensures value { (public private : List Gold) → AreInputs s.old public private →
@@ -71,7 +71,12 @@ fn bits_from(alloc: Global, s: &Statement, at: u32, count: u32) -> Result<Vec<No
 }
 
 /// Claims that a node is a number of 32 bits, which are the private inputs from `at` on, the lowest first.
-pub fn assert_word(alloc: Global, s: &mut Statement, x: Node, at: u32) -> Result<(), AllocError>
+pub(crate) fn assert_word(
+    alloc: Global,
+    s: &mut Statement,
+    x: Node,
+    at: u32,
+) -> Result<(), AllocError>
     requires there { at + 32 ≤ s.old.nodes.privates }
     requires node { IsNode (node_count s.old.nodes) x }
     ensures { IfOk result (λ _. Adds ops 98 33 s.old s.new

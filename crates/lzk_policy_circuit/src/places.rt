@@ -13,7 +13,7 @@ use std::alloc::{AllocError, Global};
 /// private input `bits` on, the rest from `rest` on, and the words of the digest from `words` on among all, of which
 /// the public ones are first.
 #[derive(Drop)]
-pub struct HashPlaces {
+pub(crate) struct HashPlaces {
     pub publics: u32,
     pub privates: u32,
     pub len: u32,
@@ -40,7 +40,7 @@ fn push_range(places: &mut Vec<u32>, start: u32, count: u32) -> Result<(), Alloc
 }
 
 /// So many places in a row.
-pub fn row(alloc: Global, start: u32, count: u32) -> Result<Vec<u32>, AllocError>
+pub(crate) fn row(alloc: Global, start: u32, count: u32) -> Result<Vec<u32>, AllocError>
     requires { start + count ≤ 2 * most_width }
     ensures { IfOk result (λ places. places.items ≡ range_with_len start count) }
 {
@@ -50,7 +50,7 @@ pub fn row(alloc: Global, start: u32, count: u32) -> Result<Vec<u32>, AllocError
 }
 
 /// Their places in the input layer, which begins with the one.
-pub fn hash_places(alloc: Global, hash: &HashPlaces) -> Result<Vec<u32>, AllocError>
+pub(crate) fn hash_places(alloc: Global, hash: &HashPlaces) -> Result<Vec<u32>, AllocError>
     ensures { IfOk result (λ places. places.items ≡ spots.hash_places (1 + hash.now.words)
         (1 + hash.now.publics + hash.now.bits) (8 * hash.now.len) (1 + hash.now.publics + hash.now.rest)
         (layout.rest_of_hash hash.now.len)) }

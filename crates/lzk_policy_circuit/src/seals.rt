@@ -66,7 +66,7 @@ pub(crate) fn assert_sealed(
     requires there { 8 * field.now.place + 256 ≤ s.old.nodes.privates }
     requires message { own + 456 ≤ s.old.nodes.privates }
     requires values { i + 12 ≤ s.old.nodes.publics }
-    ensures { IfOk result (λ _. Adds ops 2000 36 s.old s.new
+    ensures { IfOk result (λ _. Adds ops 4000 36 s.old s.new
         (λ public private. IsSealComposed private field.now (drop i public) (drop own private))) }
 {
     s.room_laws();

@@ -1,8 +1,8 @@
 //! What a statement asserts of all that is shown.
 
-ghost use Rattle.std.specs.Prelude.{◌≡◌, ◌+◌, ◌*◌, ◌≤◌, IsTrue, Some, drop, map, length, IfOk};
+ghost use Rattle.std.specs.Prelude.{◌≡◌, ◌+◌, ◌*◌, ◌≤◌, IsTrue, Some, drop, length, IfOk};
 ghost use Rattle.std.specs.List.{AllByRecursion};
-ghost use Rattle.lzk_goldilocks.specs.Elements.{ops, of_number};
+ghost use Rattle.lzk_goldilocks.specs.Elements.{ops};
 ghost use Rattle.lzk_goldilocks.specs.declared.element.Gold.{Gold};
 ghost use Rattle.lzk_gadgets.specs.Claims.{Adds};
 ghost use Rattle.lzk_policy.specs.Policies.{IsField, IsShowOf, suits};
@@ -12,26 +12,13 @@ ghost use Rattle.lzk_policy_circuit.specs.Met.{IsComposed, IsStated, AreStated};
 
 use crate::claims::{
     Side, assert_label, assert_number, assert_pieces, assert_same, assert_side, assert_tag,
-    assert_text,
 };
 use crate::counts::{field_of, own_of_claim, value_count};
 use crate::seals::assert_sealed;
-use lzk_field::Field;
+use crate::texts::assert_one_of;
 use lzk_gadgets::Statement;
-use lzk_goldilocks::Gold;
-use lzk_policy::{Claim, RecordField, Show, TextList};
+use lzk_policy::{Claim, RecordField, Show};
 use std::alloc::{AllocError, Global};
-
-// The texts' numbers as elements.
-fn elements_of(alloc: Global, texts: &TextList) -> Result<Vec<Gold>, AllocError>
-    ensures { IfOk result (λ list. list.items ≡ map of_number texts.now.numbers) }
-{
-    let mut elements = Vec::new(alloc);
-    for number in texts.numbers() {
-        elements.push(Gold::of_word(u128::from(*number)))?;
-    }
-    Ok(elements)
-}
 
 // Claims that a pseudonym's message is label, field and tag.
 fn assert_composed(
@@ -44,7 +31,7 @@ fn assert_composed(
     requires there { 8 * (field.now.place + field.now.size) ≤ s.old.nodes.privates }
     requires message { own + 8 * layout.message_size field.now ≤ s.old.nodes.privates }
     requires values { i + 12 ≤ s.old.nodes.publics }
-    ensures { IfOk result (λ _. Adds ops 2000 (8 + field.now.size) s.old s.new
+    ensures { IfOk result (λ _. Adds ops 4000 (8 + field.now.size) s.old s.new
         (λ public private. IsComposed private field.now (drop i public) (drop own private))) }
 {
     s.room_laws();
@@ -68,7 +55,7 @@ fn assert_claim(
     requires there { 8 * (field.now.place + field.now.size) ≤ s.old.nodes.privates }
     requires bits { own + layout.own_of_claim field.now claim.now ≤ s.old.nodes.privates }
     requires values { i + meaning.value_count claim.now ≤ s.old.nodes.publics }
-    ensures { IfOk result (λ _. Adds ops 2000 (layout.asserts_of_claim field.now claim.now) s.old s.new
+    ensures { IfOk result (λ _. Adds ops 4000 (layout.asserts_of_claim field.now claim.now) s.old s.new
         (λ public private. IsStated private field.now claim.now (drop i public) (drop own private))) }
 {
     match claim {
@@ -93,8 +80,7 @@ fn assert_claim(
         Claim::Equal(_) => assert_number(s, 8 * field.place, field.size, i),
         Claim::Spelled(_) => assert_pieces(s, field, i),
         Claim::OneOf(texts) => {
-            let choices = elements_of(alloc, texts)?;
-            assert_text(s, 8 * field.place, field.size, &choices)
+            assert_one_of(alloc, s, 8 * field.place, field.size, texts.texts())
         }
         Claim::Pseudonym(_) => assert_composed(s, field, i, own),
         Claim::Sealed(_) => assert_sealed(s, field, i, own),
@@ -102,7 +88,7 @@ fn assert_claim(
 }
 
 /// Claims all that is shown: its values stand from public input `i` on, its bits from private input `own` on.
-pub fn assert_shows(
+pub(crate) fn assert_shows(
     alloc: Global,
     s: &mut Statement,
     size: u32,
@@ -117,7 +103,7 @@ pub fn assert_shows(
     requires there { 8 * size ≤ s.old.nodes.privates }
     requires bits { own + layout.owns_of fields.now shows.now ≤ s.old.nodes.privates }
     requires values { i + meaning.values_of shows.now ≤ s.old.nodes.publics }
-    ensures { IfOk result (λ _. Adds ops (2000 * length shows.now) (layout.asserts_of fields.now shows.now) s.old s.new
+    ensures { IfOk result (λ _. Adds ops (4000 * length shows.now) (layout.asserts_of fields.now shows.now) s.old s.new
         (λ public private. AreStated private fields.now shows.now (drop i public) (drop own private))) }
 {
     let Some((show, others)) = shows.split_first() else {

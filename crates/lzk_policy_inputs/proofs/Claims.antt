@@ -6,7 +6,7 @@ use Rattle.std.proofs.Math.Nat.{pow-le-pow_right}
 use Rattle.lzk_goldilocks.specs.Prime.{p}
 use Rattle.lzk_goldilocks.specs.Elements.{ops, of_number}
 use Rattle.lzk_goldilocks.specs.declared.element.Gold.{Gold}
-use Rattle.lzk_gadgets.specs.Inverses.{difference, IsAmong}
+use Rattle.lzk_gadgets.specs.Inverses.{difference}
 use Rattle.lzk_sha_circuit.specs.Digest.{AreBytes, digest_words}
 use Rattle.lzk_sha_blocks.specs.Hashed.{AreHashing}
 use Rattle.lzk_policy.specs.declared.policy.FieldKind.{FieldKind}
@@ -20,7 +20,8 @@ use Rattle.lzk_policy_circuit.specs.Layout.{hash_rest, rest_of_hash, message_siz
 use Rattle.lzk_policy_circuit.specs.Met.{field_worth, number_worth, IsOrdered, IsStated, IsHashed}
 use Rattle.lzk_policy_circuit.proofs.Lists.{take_front, drop_front}
 use Rattle.lzk_policy_circuit.proofs.Bytes.{AreBitsOf, number_is, number_below}
-use Rattle.lzk_policy_circuit.proofs.Dates.{number_of_small, own_number, among_backward}
+use Rattle.lzk_policy_circuit.proofs.Dates.{number_of_small, own_number}
+use Rattle.lzk_policy_circuit.proofs.OneOf.{one_of_backward}
 use Rattle.lzk_policy_circuit.proofs.Sealing.{bytes_seal, bytes_sealed, long_seal, long_sealed, sealed_hashed, sealed_stated}
 use Rattle.lzk_policy_circuit.proofs.Pseudonyms.{message_front, message_rest, length-message_front, length-message_rest, message_parts, message_bits_are, message_satisfies_parts, pseudonym_backward, bytes_message, long_message}
 use Rattle.lzk_policy_inputs.specs.declared.value.Value.{Value}
@@ -302,7 +303,7 @@ module _ (m : List ℕ) (bytes : AreBytes m) (f : RecordField) (is : IsField (le
       let one = λ (k : ℕ) (e : piece_of m f v k ≡ piece_number m f k). piece_is bits h k ∙ ap of_number (sym e) in
       (one 0 r.1.0, one 1 r.1.1, one 2 r.1.2, one 3 r.1.3, one 4 r.1.4)
   stated_of (claims.OneOf texts) s v r bits numbers own h =
-      subst (λ (x : Gold). IsAmong x (map of_number texts.numbers)) (sym (worth_is bits h)) (among_backward (field_number m f) texts.numbers r.1)
+      one_of_backward m bytes f.place f.size within bits h texts r.1
   stated_of (claims.Pseudonym name) s v r bits numbers own h =
       let w = pseudonym_message m f (tag_of v) in
       let few = few_bytes name s in

@@ -1,6 +1,6 @@
 -- The inputs of all that is shown satisfy a policy's circuit.
-use Rattle.std.proofs.Common.{◌≡◌, ℕ, ◌+◌, ◌*◌, ◌<◌, ◌≤◌, List, [], ◌∷◌, ◌++◌, length, take, drop, map, zero, suc, refl, sym, ap, subst, ◌∙◌, arith, Option, Some, None, length-append, append_assoc}
-use Rattle.std.specs.Prelude.{◌-◌, replicate, MatchOption, slice_get}
+use Rattle.std.proofs.Common.{◌≡◌, ℕ, ◌+◌, ◌*◌, ◌<◌, List, [], ◌∷◌, ◌++◌, length, take, drop, map, zero, suc, refl, sym, ap, subst, ◌∙◌, arith, Option, Some, None, length-append, append_assoc}
+use Rattle.std.specs.Prelude.{MatchOption, slice_get}
 use Rattle.std.specs.List.{AllByRecursion}
 use Rattle.lzk_goldilocks.specs.Elements.{ops, of_number}
 use Rattle.lzk_goldilocks.specs.declared.element.Gold.{Gold}

@@ -3,4 +3,10 @@ pub mod Refused
 pub mod Filled
 pub mod Both
 pub mod Circuits
+pub mod Causes
+pub mod Depths
+pub mod Hashes
+pub mod Issued
+pub mod Placed
+pub mod Rooted
 pub use Rattle.lzk_policy_circuit.specs

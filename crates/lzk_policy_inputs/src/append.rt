@@ -12,7 +12,7 @@ ghost use Rattle.lzk_policy_inputs.specs.Refused.{IsRight, AtAll};
 ghost use Rattle.lzk_policy_inputs.specs.Filled.{low_bits, order_bits, front_of, rest_of, own_of, hashed_of};
 
 use crate::check::field_of;
-use crate::value::{Value, chosen_number, chosen_piece, own_number};
+use crate::value::{Held, Value, chosen_number, chosen_piece, own_number};
 use lzk_field::Field;
 use lzk_gadgets::spelling;
 use lzk_goldilocks::Gold;
@@ -22,7 +22,7 @@ use std::alloc::{AllocError, Global};
 
 /// The inputs so far.
 #[derive(Drop)]
-pub struct Draft {
+pub(crate) struct Draft {
     /// The public inputs.
     pub public: Vec<Gold>,
     /// The private inputs of the statement.
@@ -41,8 +41,8 @@ fn append_bits(alloc: Global, number: u64, bits: &mut Vec<Gold>) -> Result<(), A
     Ok(())
 }
 
-// A service's tag as four numbers.
-fn tag_numbers(tag: &[u8; 16]) -> [Gold; 4]
+/// A service's tag as four numbers.
+pub fn tag_numbers(tag: &[u8; 16]) -> [Gold; 4]
     ensures { result ≡ map of_number (meaning.tag_words tag.now) }
 {
     [
@@ -117,25 +117,18 @@ impl Draft {
     }
 
     // Appends the numbers of a long text that is told.
-    fn append_pieces(
-        &mut self,
-        bytes: &[u8],
-        field: &RecordField,
-        value: &Value,
-    ) -> Result<(), AllocError>
-        requires few { length bytes.now ≤ 119 }
-        requires within { field.now.place + field.now.size ≤ length bytes.now }
-        ensures public { OnOk result (self.new.public.items
-            ≡ self.old.public.items ++ map of_number (pieces_of bytes.now field.now value.now)) }
+    fn append_pieces(&mut self, held: &Held<'_>, value: &Value) -> Result<(), AllocError>
+        ensures public { OnOk result (self.new.public.items ≡ self.old.public.items
+            ++ map of_number (pieces_of held.now.bytes.now held.now.field.now value.now)) }
         ensures stated { self.new.stated.items ≡ self.old.stated.items }
         ensures hashed { self.new.hashed.items ≡ self.old.hashed.items }
     {
         let pieces = [
-            Gold::of_word(u128::from(chosen_piece(bytes, field, value, 0))),
-            Gold::of_word(u128::from(chosen_piece(bytes, field, value, 1))),
-            Gold::of_word(u128::from(chosen_piece(bytes, field, value, 2))),
-            Gold::of_word(u128::from(chosen_piece(bytes, field, value, 3))),
-            Gold::of_word(u128::from(chosen_piece(bytes, field, value, 4))),
+            Gold::of_word(u128::from(chosen_piece(held, value, 0))),
+            Gold::of_word(u128::from(chosen_piece(held, value, 1))),
+            Gold::of_word(u128::from(chosen_piece(held, value, 2))),
+            Gold::of_word(u128::from(chosen_piece(held, value, 3))),
+            Gold::of_word(u128::from(chosen_piece(held, value, 4))),
         ];
         self.public.extend_from_slice(&pieces)
     }
@@ -262,17 +255,18 @@ impl Draft {
         ensures hashed { OnOk result (self.new.hashed.items
             ≡ self.old.hashed.items ++ hashed_of bytes.now field.now claim.now value.now) }
     {
+        let held = Held { bytes, field };
         match claim {
             Claim::AtMost(_) => {
-                let number = chosen_number(bytes, field, value);
-                self.append_order(alloc, number - own_number(bytes, field), number)
+                let number = chosen_number(&held, value);
+                self.append_order(alloc, number - own_number(&held), number)
             }
             Claim::AtLeast(_) => {
-                let number = chosen_number(bytes, field, value);
-                self.append_order(alloc, own_number(bytes, field) - number, number)
+                let number = chosen_number(&held, value);
+                self.append_order(alloc, own_number(&held) - number, number)
             }
-            Claim::Equal(_) => self.append_number(chosen_number(bytes, field, value)),
-            Claim::Spelled(_) => self.append_pieces(bytes, field, value),
+            Claim::Equal(_) => self.append_number(chosen_number(&held, value)),
+            Claim::Spelled(_) => self.append_pieces(&held, value),
             Claim::OneOf(_) => Ok(()),
             Claim::Pseudonym(_) => match value {
                 Value::Tag(tag) => self.append_pseudonym(alloc, bytes, field, tag),

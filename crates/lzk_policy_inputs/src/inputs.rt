@@ -29,8 +29,8 @@ use std::marker::Model;
 /// The public and the private inputs of a policy's circuit.
 #[derive(Drop)]
 pub struct PolicyInputs {
-    public: Vec<Gold>,
-    private: Vec<Gold>,
+    pub(crate) public: Vec<Gold>,
+    pub(crate) private: Vec<Gold>,
 }
 
 impl Model for PolicyInputs {

@@ -9,12 +9,12 @@ ghost use Rattle.lzk_policy_inputs.specs.Refused.{IsSealOf};
 use lzk_policy::{RecordField, number_at};
 use sha2::{Digest, Sha256};
 
-// The word whose first byte stands here.
-fn word_at(digest: &[u8; 32], at: usize) -> u64
+/// The word of a digest whose first byte stands here.
+pub fn word_at(digest: &[u8; 32], at: usize) -> u32
     requires { at + 4 ≤ 32 }
     ensures { result ≡ word_at digest.now at }
 {
-    u64::from(u32::from_be_bytes([digest[at], digest[at + 1], digest[at + 2], digest[at + 3]]))
+    u32::from_be_bytes([digest[at], digest[at + 1], digest[at + 2], digest[at + 3]])
 }
 
 // The digest of a seal's message.
@@ -33,14 +33,14 @@ fn seal_words(secret: &[u8; 16]) -> [u64; 8]
 {
     let digest = seal_digest(secret);
     [
-        word_at(&digest, 0),
-        word_at(&digest, 4),
-        word_at(&digest, 8),
-        word_at(&digest, 12),
-        word_at(&digest, 16),
-        word_at(&digest, 20),
-        word_at(&digest, 24),
-        word_at(&digest, 28),
+        u64::from(word_at(&digest, 0)),
+        u64::from(word_at(&digest, 4)),
+        u64::from(word_at(&digest, 8)),
+        u64::from(word_at(&digest, 12)),
+        u64::from(word_at(&digest, 16)),
+        u64::from(word_at(&digest, 20)),
+        u64::from(word_at(&digest, 24)),
+        u64::from(word_at(&digest, 28)),
     ]
 }
 

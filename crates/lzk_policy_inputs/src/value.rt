@@ -48,7 +48,7 @@ fn is_tag(bytes: &[u8]) -> bool
 }
 
 /// Whether the value is of the kind that goes with what is shown.
-pub fn has_kind(claim: &Claim, value: &Value) -> bool
+pub(crate) fn has_kind(claim: &Claim, value: &Value) -> bool
     ensures { IsTrue result ↔ HasKind claim.now value.now }
 {
     match claim {
@@ -68,57 +68,62 @@ pub fn has_kind(claim: &Claim, value: &Value) -> bool
     }
 }
 
+/// A field of a record, with the record's bytes.
+#[derive(Drop)]
+pub(crate) struct Held<'a> {
+    pub(crate) bytes: &'a [u8],
+    pub(crate) field: &'a RecordField,
+    ghost few: { length bytes.now ≤ 119 },
+    ghost within: { field.now.place + field.now.size ≤ length bytes.now },
+}
+
 /// The number of a field of the record.
-pub fn own_number(bytes: &[u8], field: &RecordField) -> u64
-    requires few { field.now.size ≤ 7 }
-    requires within { field.now.place + field.now.size ≤ length bytes.now }
-    ensures { result ≡ meaning.field_number bytes.now field.now }
+pub(crate) fn own_number(held: &Held<'_>) -> u64
+    requires few { held.now.field.now.size ≤ 7 }
+    ensures { result ≡ meaning.field_number held.now.bytes.now held.now.field.now }
 {
-    number_at(bytes, field.place, field.size)
+    number_at(held.bytes, held.field.place, held.field.size)
 }
 
 /// The number that is chosen, or the record's own.
-pub fn chosen_number(bytes: &[u8], field: &RecordField, value: &Value) -> u64
-    requires few { field.now.size ≤ 7 }
-    requires within { field.now.place + field.now.size ≤ length bytes.now }
-    ensures { result ≡ chosen.number_of bytes.now field.now value.now }
+pub(crate) fn chosen_number(held: &Held<'_>, value: &Value) -> u64
+    requires few { held.now.field.now.size ≤ 7 }
+    ensures { result ≡ chosen.number_of held.now.bytes.now held.now.field.now value.now }
 {
     match value {
         Value::Number(n) => *n,
-        _ => own_number(bytes, field),
+        _ => own_number(held),
     }
 }
 
 // The number of piece `k` of a field of the record.
-fn own_piece(bytes: &[u8], field: &RecordField, k: u32) -> u64
+fn own_piece(held: &Held<'_>, k: u32) -> u64
     requires piece { k < 5 }
-    requires few { length bytes.now ≤ 119 }
-    requires within { field.now.place + field.now.size ≤ length bytes.now }
-    ensures { result ≡ meaning.piece_number bytes.now field.now k }
+    ensures { result ≡ meaning.piece_number held.now.bytes.now held.now.field.now k }
 {
-    let start = field.place + piece_start(field.size, k);
-    number_at(bytes, start, piece_size(field.size, k))
+    let (place, size) = (held.field.place, held.field.size);
+    number_at(
+        held.bytes,
+        place + piece_start(size, k),
+        piece_size(size, k),
+    )
 }
 
 /// The number of piece `k` of the text that is chosen, or the record's own.
-pub fn chosen_piece(bytes: &[u8], field: &RecordField, value: &Value, k: u32) -> u64
+pub(crate) fn chosen_piece(held: &Held<'_>, value: &Value, k: u32) -> u64
     requires piece { k < 5 }
-    requires few { length bytes.now ≤ 119 }
-    requires within { field.now.place + field.now.size ≤ length bytes.now }
-    ensures { result ≡ chosen.piece_of bytes.now field.now value.now k }
+    ensures { result ≡ chosen.piece_of held.now.bytes.now held.now.field.now value.now k }
 {
     match value {
         Value::Spelled(numbers) => numbers[k as usize],
-        _ => own_piece(bytes, field, k),
+        _ => own_piece(held, k),
     }
 }
 
 /// Whether it is the record's own.
-pub fn is_own_piece(bytes: &[u8], field: &RecordField, value: &Value, k: u32) -> bool
+pub(crate) fn is_own_piece(held: &Held<'_>, value: &Value, k: u32) -> bool
     requires piece { k < 5 }
-    requires few { length bytes.now ≤ 119 }
-    requires within { field.now.place + field.now.size ≤ length bytes.now }
-    ensures { IsTrue result ↔ IsOwnPiece bytes.now field.now value.now k }
+    ensures { IsTrue result ↔ IsOwnPiece held.now.bytes.now held.now.field.now value.now k }
 {
-    chosen_piece(bytes, field, value, k) == own_piece(bytes, field, k)
+    chosen_piece(held, value, k) == own_piece(held, k)
 }

@@ -16,10 +16,10 @@ use Rattle.lzk_policy_circuit.specs.Layout.{needed_count, stated_count}
 use Rattle.lzk_policy_circuit.specs.Meaning.{values_of}
 use Rattle.lzk_policy_circuit.proofs.Whole.{satisfied_held, padded_most}
 use Rattle.lzk_sha_path.proofs.Climbing.{climb_forward}
-use Rattle.lzk_policies.specs.Rooted.{IsShownUnder}
-use Rattle.lzk_policies.specs.Depths.{SatisfyAt, private_count}
-use Rattle.lzk_policies.proofs.Depths.{shown_none, shown_some}
-use Rattle.lzk_policies.proofs.Under.{shown_under, words_behind}
+use Rattle.lzk_policy_inputs.specs.Rooted.{IsShownUnder}
+use Rattle.lzk_policy_inputs.specs.Depths.{SatisfyAt, private_count}
+use Rattle.lzk_policy_inputs.proofs.Depths.{shown_none, shown_some}
+use Rattle.lzk_policy_inputs.proofs.Under.{shown_under, words_behind}
 use Rattle.lzk_soundness.specs.Extract.Extraction.{extracted}
 use Rattle.lzk_soundness.proofs.ExtractLaws.Decoding.{extracted_count}
 use Rattle.lzk_soundness.specs.Count.Game.{Strategy}

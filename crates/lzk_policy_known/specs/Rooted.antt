@@ -10,9 +10,9 @@ use Rattle.lzk_policy_circuit.specs.Held.{AreSecretsHeld}
 use Rattle.lzk_policy_circuit.specs.Layout.{stated_count}
 use Rattle.lzk_policy_circuit.specs.Meaning.{public_count, values_of}
 use Rattle.lzk_sha_circuit.specs.Digest.{message_bits}
-use Rattle.lzk_policies.specs.Rooted.{IsShownUnder, SatisfyUnder}
-use Rattle.lzk_policies.specs.Rooted as rooted
-use Rattle.lzk_policies.specs.Depths.{IsShownBy, SatisfyAt, private_count}
+use Rattle.lzk_policy_inputs.specs.Rooted.{IsShownUnder, SatisfyUnder}
+use Rattle.lzk_policy_inputs.specs.Rooted as rooted
+use Rattle.lzk_policy_inputs.specs.Depths.{IsShownBy, SatisfyAt, private_count}
 use Rattle.lzk_soundness.specs.Extract.Extraction.{extracted}
 use Rattle.lzk_soundness.specs.Count.Game.{Strategy}
 use Rattle.lzk_soundness.specs.Count.Laws.{IsPlayer, SaysYesRarely, bad_count}

@@ -1,7 +1,6 @@
 -- Bytes of a policy as a person reads them.
-use Rattle.std.specs.Prelude.{ℕ, ◌-◌, nat_le, ◌==◌, ◌&&◌, Bool, not, List, [], ◌∷◌, ◌++◌, codes, drop, if◌then◌else◌}
+use Rattle.std.specs.Prelude.{ℕ, nat_le, ◌==◌, ◌&&◌, Bool, not, List, [], ◌∷◌, ◌++◌, codes, if◌then◌else◌}
 use Rattle.std.specs.List.{flat_map}
-use Rattle.std.specs.Int.{w64, to_be_bytes}
 use Rattle.hex.specs.Hex.{encode_lower}
 
 -- a byte of ASCII that is seen, but for the mark of the others
@@ -18,7 +17,3 @@ shown_byte b = if is_seen b then b ∷ [] else marked (encode_lower (b ∷ []))
 
 abbrev pub shown_bytes : List ℕ → List ℕ
 shown_bytes bytes = flat_map shown_byte bytes
-
--- the text of so many bytes that a number is, the first worth most
-abbrev pub text_bytes : ℕ → ℕ → List ℕ
-text_bytes size number = drop (8 - size) (to_be_bytes w64 number)

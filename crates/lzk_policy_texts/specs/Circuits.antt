@@ -8,16 +8,16 @@ use Rattle.lzk_circuit.specs.Wires.{inputs_of}
 use Rattle.lzk_circbytes.specs.declared.any.AnyCircuit.TheVariants.{Gold as OverGold}
 use Rattle.lzk_circbytes.specs.Files.{CircuitBytes}
 use Rattle.lzk_level.specs.declared.fault.LevelError.TheVariants as levels
-use Rattle.lzk_beside.specs.declared.error.BesideError.TheVariants as besides
+use Rattle.lzk_circuit_beside.specs.declared.error.BesideError.TheVariants as besides
 use Rattle.lzk_policy.specs.Policies.{Contents}
 use Rattle.lzk_policy_circuit.specs.declared.error.PolicyCircuitError.TheVariants as errors
 use Rattle.lzk_policy_circuit.specs.Meaning.{public_count, values_of}
 use Rattle.lzk_sha_path.specs.declared.error.PathError.TheVariants as paths
-use Rattle.lzk_policies.specs.declared.error.RootedError.{RootedError}
-use Rattle.lzk_policies.specs.declared.error.RootedError.TheVariants as roots
-use Rattle.lzk_policies.specs.Causes.{IsCredentialCause}
-use Rattle.lzk_policies.specs.Hashes.{hash_count, most_hashes}
-use Rattle.lzk_policies.specs.Depths.{IsShownBy, SatisfyAt, private_count}
+use Rattle.lzk_policy_inputs.specs.declared.root_error.RootedError.{RootedError}
+use Rattle.lzk_policy_inputs.specs.declared.root_error.RootedError.TheVariants as roots
+use Rattle.lzk_policy_inputs.specs.Causes.{IsCredentialCause}
+use Rattle.lzk_policy_inputs.specs.Hashes.{hash_count, most_hashes}
+use Rattle.lzk_policy_inputs.specs.Depths.{IsShownBy, SatisfyAt, private_count}
 use Rattle.lzk_policy_texts.specs.declared.error.PolicyProofError.{PolicyProofError}
 use Rattle.lzk_policy_texts.specs.declared.error.PolicyProofError.TheVariants.{Limit, OutOfMemory}
 

@@ -5,8 +5,8 @@ use Rattle.lzk_policy_circuit.specs.Meaning.{public_count}
 use Rattle.lzk_policy_inputs.specs.declared.value.Value.{Value}
 use Rattle.lzk_policy_inputs.specs.Both.{Inputs}
 use Rattle.lzk_policy_inputs.specs.Filled.{private_of}
-use Rattle.lzk_policies.specs.Depths.{IsShownBy, SatisfyAt, private_count}
-use Rattle.lzk_policies.specs.Placed.{root_words, shown_numbers}
+use Rattle.lzk_policy_inputs.specs.Depths.{IsShownBy, SatisfyAt, private_count}
+use Rattle.lzk_policy_inputs.specs.Placed.{root_words, shown_numbers}
 use Rattle.lzk_policy_texts.specs.Paths.{Placed}
 
 -- The inputs of a policy's circuit for a record, values and a leaf: all that is shown is true, and they satisfy the

@@ -6,16 +6,16 @@ use Rattle.lzk_policy.specs.declared.policy.Claim.{Claim}
 use Rattle.lzk_policy.specs.declared.policy.Claim.TheVariants as claims
 use Rattle.lzk_policy.specs.declared.policy.Show.{Show}
 use Rattle.lzk_policy.specs.Policies.{Contents}
-use Rattle.lzk_policy_texts.specs.Bytes.{shown_bytes, text_bytes}
+use Rattle.lzk_policy_texts.specs.Bytes.{shown_bytes}
 
 -- words of a line, one behind another
 abbrev pub said : List ℕ → List ℕ → List ℕ → List ℕ
 said first middle last = shown_bytes first ++ middle ++ shown_bytes last ++ 10 ∷ []
 
--- texts of so many bytes, each behind a space
-abbrev pub shown_texts : ℕ → List ℕ → List ℕ
-shown_texts size [] = []
-shown_texts size (number ∷ numbers) = codes " " ++ shown_bytes (text_bytes size number) ++ shown_texts size numbers
+-- texts, each behind a space
+abbrev pub shown_texts : List (List ℕ) → List ℕ
+shown_texts [] = []
+shown_texts (text ∷ texts) = codes " " ++ shown_bytes text ++ shown_texts texts
 
 -- what is shown of a field with this name
 abbrev pub shown_claim : List ℕ → Claim → List ℕ
@@ -24,7 +24,7 @@ shown_claim name (claims.AtLeast value) = said name (codes " is at least ") valu
 shown_claim name (claims.Equal value) = said name (codes " is ") value
 shown_claim name (claims.Spelled value) = said name (codes " is ") value
 shown_claim name (claims.OneOf texts) =
-    shown_bytes name ++ codes " is one of" ++ shown_texts texts.size texts.numbers ++ 10 ∷ []
+    shown_bytes name ++ codes " is one of" ++ shown_texts texts ++ 10 ∷ []
 shown_claim name (claims.Pseudonym value) = codes "a pseudonym of " ++ said name (codes " for ") value
 shown_claim name (claims.Sealed value) = codes "a pseudonym of " ++ said name (codes " for ") value
 

@@ -1,5 +1,5 @@
 -- What a verifier was shown, as a text: the digest of the record or the root, then the pseudonyms, then values.
-use Rattle.std.specs.Prelude.{ℕ, ◌+◌, ◌*◌, nat_lt, ◌==◌, List, [], ◌∷◌, ◌++◌, length, map, take, drop, codes, slice_get, Option, Some, None, Result, Ok, Err, if◌then◌else◌, slice_index}
+use Rattle.std.specs.Prelude.{ℕ, ◌+◌, ◌*◌, nat_lt, ◌==◌, List, [], ◌∷◌, ◌++◌, length, map, take, drop, codes, Option, Some, None, Result, Ok, Err, if◌then◌else◌, slice_index}
 use Rattle.std.specs.Str.{bytes_eq}
 use Rattle.lzk_expr.specs.Texts.{lines, content, runs, is_plain}
 use Rattle.lzk_goldilocks.specs.Elements.{of_number}

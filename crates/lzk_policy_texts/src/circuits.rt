@@ -3,13 +3,13 @@
 ghost use Rattle.lzk_policy_texts.specs.Circuits.{MakesCircuit};
 
 use crate::error::PolicyProofError;
-use lzk_beside::BesideError;
 use lzk_circuit::Circuit;
+use lzk_circuit_beside::BesideError;
 use lzk_goldilocks::Gold;
 use lzk_level::LevelError;
-use lzk_policies::{RootedError, credential_circuit};
 use lzk_policy::Policy;
 use lzk_policy_circuit::PolicyCircuitError;
+use lzk_policy_inputs::{RootedError, credential_circuit};
 use lzk_sha_path::PathError;
 use std::alloc::Global;
 

@@ -12,7 +12,7 @@ use std::alloc::{AllocFailed, Global};
 
 /// A line: a name, and the word that it stands for.
 #[derive(Drop)]
-pub struct Entry {
+pub(crate) struct Entry {
     pub line: u32,
     pub name: Name,
     pub word: Name,

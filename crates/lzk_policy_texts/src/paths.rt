@@ -1,7 +1,6 @@
 //! The path of a leaf to a root, as a text.
 
 ghost use Rattle.std.specs.Prelude.{◌≡◌, ◌+◌, ◌≤◌, Ok, Some, length, MatchResult};
-ghost use Rattle.sha2.specs.Sha256.{word_at};
 ghost use Rattle.lzk_policy_texts.specs.Entries.{Fails};
 ghost use Rattle.lzk_policy_texts.specs.Paths as said;
 
@@ -10,6 +9,7 @@ use crate::values::number_from;
 use hex::FromHex;
 use lzk_expr::words::{content, next_line};
 use lzk_policy::{is_skipped, only_word};
+use lzk_policy_inputs::word_at;
 use lzk_profile::MOST_LEVELS;
 use std::alloc::Global;
 
@@ -26,7 +26,7 @@ pub struct Path {
 
 /// What lines of a path said so far.
 #[derive(Drop)]
-pub struct Draft {
+pub(crate) struct Draft {
     leaf: Option<u32>,
     nodes: Vec<[u32; 8]>,
 }
@@ -41,14 +41,6 @@ fn leaf_of(word: &[u8]) -> Option<u32>
         return Some(number as u32);
     }
     None
-}
-
-// The word whose first byte stands here.
-fn word_at(bytes: &[u8; 32], at: usize) -> u32
-    requires { at + 4 ≤ 32 }
-    ensures { result ≡ word_at bytes.now at }
-{
-    u32::from_be_bytes([bytes[at], bytes[at + 1], bytes[at + 2], bytes[at + 3]])
 }
 
 // The words of these bytes.

@@ -3,7 +3,8 @@
 ghost use Rattle.std.specs.Prelude.{◌≡◌, ◌++◌, IfOk, OnOk, slice_get, string_bytes};
 ghost use Rattle.lzk_policy_texts.specs.Shown as shown;
 
-use crate::texts::{push_bytes, push_number};
+use crate::texts::push_bytes;
+use lzk_expr::Name;
 use lzk_policy::{Claim, Policy, RecordField, Show};
 use std::alloc::{AllocError, Global};
 
@@ -24,21 +25,16 @@ fn push_line(
     text.push_str("\n")
 }
 
-// Appends texts of so many bytes, each behind a space.
-fn push_texts(
-    alloc: Global,
-    text: &mut String,
-    size: u32,
-    numbers: &[u64],
-) -> Result<(), AllocError>
-    ensures { OnOk result (string_bytes text.new ≡ string_bytes text.old ++ shown.shown_texts size numbers.now) }
+// Appends texts, each behind a space.
+fn push_texts(alloc: Global, text: &mut String, texts: &[Name]) -> Result<(), AllocError>
+    ensures { OnOk result (string_bytes text.new ≡ string_bytes text.old ++ shown.shown_texts texts.now) }
 {
-    let Some((&number, others)) = numbers.split_first() else {
+    let Some((first, others)) = texts.split_first() else {
         return Ok(());
     };
     text.push_str(" ")?;
-    push_number(alloc, text, size, number)?;
-    push_texts(alloc, text, size, others)
+    push_bytes(alloc, text, first.text())?;
+    push_texts(alloc, text, others)
 }
 
 // Appends the line of what is shown of a field.
@@ -58,7 +54,7 @@ fn push_claim(
         Claim::OneOf(texts) => {
             push_bytes(alloc, text, name)?;
             text.push_str(" is one of")?;
-            push_texts(alloc, text, texts.size(), texts.numbers())?;
+            push_texts(alloc, text, texts.texts())?;
             text.push_str("\n")
         }
         Claim::Pseudonym(value) => {

@@ -38,17 +38,3 @@ pub(crate) fn push_bytes(alloc: Global, text: &mut String, bytes: &[u8]) -> Resu
     }
     Ok(())
 }
-
-/// Appends the text of so many bytes that a number is.
-pub(crate) fn push_number(
-    alloc: Global,
-    text: &mut String,
-    size: u32,
-    number: u64,
-) -> Result<(), AllocError>
-    ensures { OnOk result
-        (string_bytes text.new ≡ string_bytes text.old ++ lines.shown_bytes (lines.text_bytes size number)) }
-{
-    let bytes = number.to_be_bytes();
-    push_bytes(alloc, text, &bytes[8usize.saturating_sub(size as usize)..])
-}

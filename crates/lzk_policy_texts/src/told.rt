@@ -13,13 +13,13 @@ use crate::values::values_for;
 use lzk_expr::words::{content, next_line, next_word};
 use lzk_field::Field;
 use lzk_goldilocks::Gold;
-use lzk_policy::{Claim, Policy, Show, is_skipped, number_at, only_word};
-use lzk_policy_inputs::Value;
+use lzk_policy::{Claim, Policy, Show, is_skipped, only_word};
+use lzk_policy_inputs::{Value, tag_numbers};
 use std::alloc::{AllocError, Global};
 
 /// What lines said so far: the words of digests, eight each, and lines of values.
 #[derive(Drop)]
-pub struct Told {
+pub(crate) struct Told {
     words: Vec<u32>,
     entries: Vec<Entry>,
 }
@@ -156,18 +156,6 @@ fn push_words(words: &[u32], numbers: &mut Vec<Gold>) -> Result<(), AllocError>
         numbers.push(Gold::of_word(u128::from(*word)))?;
     }
     Ok(())
-}
-
-// A service's tag as four numbers.
-fn tag_numbers(tag: &[u8; 16]) -> [Gold; 4]
-    ensures { result ≡ map of_number (tag_words tag.now) }
-{
-    [
-        Gold::of_word(u128::from(number_at(tag, 0, 4))),
-        Gold::of_word(u128::from(number_at(tag, 4, 4))),
-        Gold::of_word(u128::from(number_at(tag, 8, 4))),
-        Gold::of_word(u128::from(number_at(tag, 12, 4))),
-    ]
 }
 
 // Appends the words of a tag and of a pseudonym.

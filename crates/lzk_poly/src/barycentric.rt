@@ -4,7 +4,7 @@ ghost use Rattle.std.specs.Prelude.{◌≡◌, ◌+◌, ◌≤◌, ◌↔◌, le
 ghost use Rattle.lzk_poly.specs.Extension.{Reach};
 ghost use Rattle.lzk_poly.specs.Weights.{IsEven, IsInverseTable, IsPassed, IsWeights};
 
-use crate::factors::{Products, inverse_table, inverted_products, running_products};
+use crate::factors::{Products, Running, inverse_table, inverted_products, running_products};
 use crate::spacing::Spacing;
 use crate::tables::Points;
 use lzk_field::Field;
@@ -70,8 +70,13 @@ impl<F: Field> Weights<F> {
         let spacing = Spacing::of::<F>(upto);
         let size = spacing.size(upto);
         let running = running_products(alloc, size)?;
-        let inverted = inverted_products(alloc, size, &running)?;
+        let products = Running {
+            size,
+            products: &running,
+        };
+        let inverted = inverted_products(alloc, &products)?;
         let points = Points {
+            given: n,
             upto,
             spacing,
             products: Products {
@@ -80,8 +85,8 @@ impl<F: Field> Weights<F> {
                 inverted: &inverted,
             },
         };
-        let weights = points.weights(alloc, n)?;
-        let passed = points.passed_products(alloc, n)?;
+        let weights = points.weights(alloc)?;
+        let passed = points.passed_products(alloc)?;
         let inverses = inverse_table(alloc, &points.products)?;
         Ok(Weights {
             weights,

@@ -6,7 +6,7 @@ ghost use Rattle.lzk_poly.specs.Extension.{AreFurther, IsExtension, IsInterpolat
 ghost use Rattle.lzk_poly.specs.Weights.{parts, quotient_sum};
 
 use crate::barycentric::Weights;
-use crate::quotients::{by_numbers, by_steps, fill_block, inverse_of};
+use crate::quotients::{fill_block, inverse_of};
 use lzk_field::Field;
 use std::alloc::{AllocError, Global};
 use std::marker::Model;
@@ -81,29 +81,11 @@ impl<F: Field> Extender<F> {
         ensures through { IsExtension F.ops F.coding.element values.now j result }
         ensures value { result ≡ extension F.ops F.coding.element values.now j }
     {
-        let count = self.weights.count();
-        if j < count {
-            return values[j as usize];
-        }
-        let product = self.weights.passed()[(j - count) as usize];
-        self.sum_at(values, F::point(j)).mul(product)
-    }
-
-    // The sum of what each value adds at `x`.
-    fn sum_at(&self, values: &[F], x: F) -> F
-        requires fits { length values.now ≡ self.now.count }
-        requires apart { (i : ℕ) → i < length values.now → x ≢ F.coding.element i }
-        ensures { result ≡ parts F.ops F.coding.element values.now (length values.now) x }
-    {
-        let weights = self.weights.weights();
-        let inverses = self.weights.inverses();
-        let mut total = F::zero();
-        for i in 0..values.len() {
-            let scaled = values[i].mul(weights[i]);
-            let difference = x.sub(F::point(i as u32));
-            total = total.add(scaled.mul(inverse_of(inverses, difference)));
-        }
-        total
+        let row = Row {
+            weights: &self.weights,
+            values,
+        };
+        row.value_at(j)
     }
 
     /// Writes the values at points `count` and on of the polynomial through `values`.
@@ -117,41 +99,94 @@ impl<F: Field> Extender<F> {
         ensures value { (k : ℕ) → k < length out.new
             → entry F.ops out.new k ≡ extension F.ops F.coding.element values.now (self.now.count + k) }
     {
-        self.extend_from(values, self.count(), out);
+        let row = Row {
+            weights: &self.weights,
+            values,
+        };
+        row.extend_from(self.count(), out);
+    }
+}
+
+// Values, and what extends them.
+#[derive(Drop)]
+struct Row<'a, F: Field> {
+    weights: &'a Weights<F>,
+    values: &'a [F],
+    ghost fits: { length values.now ≡ weights.now.count },
+    ghost order: { weights.now.count ≤ weights.now.upto },
+    ghost limit: { weights.now.upto ≤ 65536 },
+}
+
+impl<'a, F: Field> Row<'a, F> {
+    // The value at point `j` of the polynomial through the values.
+    fn value_at(&self, j: u32) -> F
+        requires { j < self.now.weights.now.upto }
+        ensures { result ≡ extension F.ops F.coding.element self.now.values.now j }
+    {
+        let values = self.values;
+        let count = self.weights.count();
+        if j < count {
+            return values[j as usize];
+        }
+        let product = self.weights.passed()[(j - count) as usize];
+        self.sum_at(F::point(j)).mul(product)
+    }
+
+    // The sum of what each value adds at `x`.
+    fn sum_at(&self, x: F) -> F
+        requires apart { (i : ℕ) → i < length self.now.values.now → x ≢ F.coding.element i }
+        ensures { result ≡ parts F.ops F.coding.element self.now.values.now (length self.now.values.now) x }
+    {
+        let values = self.values;
+        let weights = self.weights.weights();
+        let inverses = self.weights.inverses();
+        let mut total = F::zero();
+        for i in 0..values.len() {
+            let scaled = values[i].mul(weights[i]);
+            let difference = x.sub(F::point(i as u32));
+            total = total.add(scaled.mul(inverse_of(inverses, difference)));
+        }
+        total
     }
 
     // The values at points `from` and on. Until its own turn comes, the end of `out` is room for values
     // times weights.
-    fn extend_from(&self, values: &[F], from: u32, out: &mut [F])
-        requires fits { length values.now ≡ self.now.count }
-        requires further { AreFurther self.now from (length out.old) }
-        requires limit { self.now.upto ≤ 65536 }
+    fn extend_from(&self, from: u32, out: &mut [F])
+        requires { AreFurther self.now.weights.now from (length out.old) }
         ensures { (k : ℕ) → k < length out.new
-            → entry F.ops out.new k ≡ extension F.ops F.coding.element values.now (from + k) }
+            → entry F.ops out.new k ≡ extension F.ops F.coding.element self.now.values.now (from + k) }
     {
         if out.is_empty() {
             return;
         }
         if out.len() == 1 {
-            out[0] = self.extend_at(values, from);
+            out[0] = self.value_at(from);
             return;
         }
         let half = out.len() / 2;
         let size = half.min(BLOCK);
         let (head, room) = out.split_at_mut(out.len() - size);
-        self.extend_in(values, from, head, room);
-        self.extend_from(values, from + head.len() as u32, room);
+        self.extend_in(from, head, room);
+        self.extend_from(from + head.len() as u32, room);
     }
 
     // The values at points `from` and on, with room for some values times weights.
-    fn extend_in(&self, values: &[F], from: u32, out: &mut [F], room: &mut [F])
-        requires fits { length values.now ≡ self.now.count }
-        requires further { AreFurther self.now from (length out.old) }
+    fn extend_in(&self, from: u32, out: &mut [F], room: &mut [F])
+        requires further { AreFurther self.now.weights.now from (length out.old) }
         requires room { 1 ≤ length room.old }
         ensures { (k : ℕ) → k < length out.new
-            → entry F.ops out.new k ≡ extension F.ops F.coding.element values.now (from + k) }
+            → entry F.ops out.new k ≡ extension F.ops F.coding.element self.now.values.now (from + k) }
     {
-        self.sum_parts(values, from, out, room);
+        for k in 0..out.len() {
+            out[k] = F::zero();
+        }
+        let mut start = 0;
+        while start < self.values.len() {
+            let rest = self.values.len() - start;
+            let size = rest.min(room.len());
+            self.add_parts(start, from, out, &mut room[..size]);
+            start += size;
+        }
         let first = (from - self.weights.count()) as usize;
         let passed = self.weights.passed();
         for t in 0..out.len() {
@@ -159,38 +194,18 @@ impl<F: Field> Extender<F> {
         }
     }
 
-    // At points `from` and on, the sum of what each value adds.
-    fn sum_parts(&self, values: &[F], from: u32, out: &mut [F], room: &mut [F])
-        requires fits { length values.now ≡ self.now.count }
-        requires further { AreFurther self.now from (length out.old) }
-        requires room { 1 ≤ length room.old }
-        ensures { (k : ℕ) → k < length out.new → entry F.ops out.new k ≡
-            parts F.ops F.coding.element values.now (length values.now) (F.coding.element (from + k)) }
-    {
-        for t in 0..out.len() {
-            out[t] = F::zero();
-        }
-        let mut start = 0;
-        while start < values.len() {
-            let rest = values.len() - start;
-            let size = rest.min(room.len());
-            self.add_parts(values, start, from, out, &mut room[..size]);
-            start += size;
-        }
-    }
-
     // Adds what the values from `start` on add, as many as fit into the block.
-    fn add_parts(&self, values: &[F], start: usize, from: u32, out: &mut [F], block: &mut [F])
-        requires fits { length values.now ≡ self.now.count }
-        requires within { start + length block.old ≤ length values.now }
-        requires further { AreFurther self.now from (length out.old) }
+    fn add_parts(&self, start: usize, from: u32, out: &mut [F], block: &mut [F])
+        requires within { start + length block.old ≤ length self.now.values.now }
+        requires further { AreFurther self.now.weights.now from (length out.old) }
         ensures { (k : ℕ) → k < length out.new → (let x = F.coding.element (from + k) in
-            entry F.ops out.old k ≡ parts F.ops F.coding.element values.now start x →
-            entry F.ops out.new k ≡ parts F.ops F.coding.element values.now (start + length block.old) x) }
+            let values = self.now.values.now in
+            entry F.ops out.old k ≡ parts F.ops F.coding.element values start x →
+            entry F.ops out.new k ≡ parts F.ops F.coding.element values (start + length block.old) x) }
     {
         let end = start + block.len();
         fill_block(
-            &values[start..end],
+            &self.values[start..end],
             &self.weights.weights()[start..end],
             block,
         );
@@ -202,14 +217,21 @@ impl<F: Field> Extender<F> {
     // The block's values over the differences of point `j` from their points.
     fn quotients(&self, block: &[F], end: u32, j: u32) -> F
         requires enough { length block.now ≤ end }
-        requires within { end ≤ self.now.count }
-        requires further { AreFurther self.now j 1 }
+        requires within { end ≤ self.now.weights.now.count }
+        requires further { AreFurther self.now.weights.now j 1 }
         ensures { result ≡ quotient_sum F.ops F.coding.element block.now end (F.coding.element j) }
     {
         let inverses = self.weights.inverses();
         if self.weights.is_even() {
-            return by_steps(block, inverses, (j + 1 - end) as usize);
+            let first = (j + 1 - end) as usize;
+            return F::dot(block, &inverses[first..first + block.len()]);
         }
-        by_numbers(block, inverses, end, F::point(j))
+        let at = F::point(j);
+        let mut total = F::zero();
+        for k in 0..block.len() {
+            let difference = at.sub(F::point(end - 1 - k as u32));
+            total = total.add(block[k].mul(inverse_of(inverses, difference)));
+        }
+        total
     }
 }

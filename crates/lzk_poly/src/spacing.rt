@@ -9,7 +9,7 @@ use lzk_field::Field;
 
 /// How the points below an end lie.
 #[derive(Clone, Copy)]
-pub enum Spacing {
+pub(crate) enum Spacing {
     /// They are zero, one, one more and so on.
     Even,
     /// The field is binary and the points with numbers of so many bits, enough for all, are sums of

@@ -1,7 +1,7 @@
 //! The program `zk`.
 #![tactic(auto)]
 
-use lzk_main::run_program;
+use lzk_cmd::run_program;
 use std::process::ExitCode;
 
 fn main(rt: HostRuntime) -> ExitCode {

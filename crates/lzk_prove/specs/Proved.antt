@@ -12,7 +12,7 @@ use Rattle.lzk_field.specs.Words.{seeded_word}
 use Rattle.lzk_goldilocks.specs.Drawn.{drawn}
 use Rattle.lzk_goldilocks.specs.Elements as gold
 use Rattle.lzk_gf128.specs.Elements as gf
-use Rattle.lzk_complete.specs.Proving.{IsProofFile, words_of}
+use Rattle.lzk_ligero_proof.specs.Proving.{IsProofFile, words_of}
 use Rattle.lzk_verify.specs.Verdict.{IsVerdict}
 use Rattle.lzk_verify.specs.declared.verdict.Verdict.TheVariants.{Accepted}
 use Rattle.lzk_calls.specs.declared.refusal.Refusal.{Refusal}

@@ -12,10 +12,10 @@ use lzk_circuit::Circuit;
 use lzk_field::{Field, Open, Seeded, Words};
 use lzk_gf128::Gf128;
 use lzk_goldilocks::{Drawn, Gold};
-use lzk_hands::Hands;
 use lzk_ligero::WorksOver;
-use lzk_ntt::NttExtender;
 use lzk_poly::RowExtend;
+use lzk_poly_ntt::NttExtender;
+use lzk_work_threads::Hands;
 use std::alloc::Global;
 
 /// What a proof is made with beside its circuit and inputs.
@@ -39,6 +39,23 @@ struct Named<'a, F: Field> {
     ghost own: { id ≡ id_of F.coding circuit.now },
 }
 
+// Inputs that fit a circuit.
+#[derive(Drop)]
+struct Fitting<'n, 'c, 'p, 'q, F: Field> {
+    named: &'n Named<'c, F>,
+    publics: &'p [F],
+    privates: &'q [F],
+    ghost publics_fit: { length publics.now ≡ named.now.circuit.now.publics },
+    ghost privates_fit: { length privates.now ≡ named.now.circuit.now.privates },
+}
+
+// The texts of two lists of numbers.
+#[derive(Clone, Copy)]
+struct Texts<'a> {
+    public: &'a [u8],
+    private: &'a [u8],
+}
+
 // The random words of a seed over the prime field.
 fn gold_words(seed: [u8; 32]) -> Drawn<Seeded>
     ensures { result.words ≡ seed }
@@ -51,27 +68,23 @@ fn gold_words(seed: [u8; 32]) -> Drawn<Seeded>
 // Proves with a prover for the circuit, and puts the proof into a room.
 fn put_proof<R: Hands, F: Field, X: RowExtend<F>, W: Words>(
     rt: &R,
-    circuit: &Circuit<F>,
     works: &mut WorksOver<'_, F, X>,
-    publics: &[F],
-    privates: &[F],
+    inputs: &Fitting<'_, '_, '_, '_, F>,
     words: &W,
     with: &With<'_>,
     room: &mut [u8],
 ) -> Result<u64, Refusal>
-    requires works { works.old ≡ circuit.now }
-    requires publics { length publics.now ≡ circuit.now.publics }
-    requires privates { length privates.now ≡ circuit.now.privates }
+    requires works { works.old ≡ inputs.now.named.now.circuit.now }
     requires session { length with.now.session.now ≤ 64 }
-    ensures { let w = with.now in
-        ProvesInputs F.ops F.coding circuit.now w.session.now (W.at words.now) room.old room.new result publics.now
-        privates.now }
+    ensures { let w = with.now in let i = inputs.now in
+        ProvesInputs F.ops F.coding i.named.now.circuit.now w.session.now (W.at words.now) room.old room.new result
+        i.publics.now i.privates.now }
 {
     match works.prove(
         rt,
         with.session,
-        publics,
-        privates,
+        inputs.publics,
+        inputs.privates,
         words,
         with.workers,
         &Open,
@@ -81,37 +94,24 @@ fn put_proof<R: Hands, F: Field, X: RowExtend<F>, W: Words>(
     }
 }
 
-// The same, with a prover of its own.
+// Proves with a prover that this function makes, and puts the proof into a room.
 fn prove_inputs<R: Hands, F: Field, X: RowExtend<F>, W: Words>(
     rt: &R,
     alloc: Global,
-    named: &Named<'_, F>,
-    publics: &[F],
-    privates: &[F],
+    inputs: &Fitting<'_, '_, '_, '_, F>,
     words: &W,
     with: &With<'_>,
     room: &mut [u8],
 ) -> Result<u64, Refusal>
-    requires publics { length publics.now ≡ named.now.circuit.now.publics }
-    requires privates { length privates.now ≡ named.now.circuit.now.privates }
     requires session { length with.now.session.now ≤ 64 }
-    ensures { let w = with.now in
+    ensures { let w = with.now in let i = inputs.now in
         ((result ≡ Err OutOfMemory) × (room.new ≡ room.old))
-        ⊎ ProvesInputs F.ops F.coding named.now.circuit.now w.session.now (W.at words.now) room.old room.new result
-        publics.now privates.now }
+        ⊎ ProvesInputs F.ops F.coding i.named.now.circuit.now w.session.now (W.at words.now) room.old room.new result
+        i.publics.now i.privates.now }
 {
-    match WorksOver::<F, X>::with_id(alloc, named.circuit, named.id) {
+    match WorksOver::<F, X>::with_id(alloc, inputs.named.circuit, inputs.named.id) {
         Ok(mut works) => {
-            let told = put_proof(
-                rt,
-                named.circuit,
-                &mut works,
-                publics,
-                privates,
-                words,
-                with,
-                room,
-            );
+            let told = put_proof(rt, &mut works, inputs, words, with, room);
             works.close();
             told
         }
@@ -119,32 +119,30 @@ fn prove_inputs<R: Hands, F: Field, X: RowExtend<F>, W: Words>(
     }
 }
 
-// The same, on two texts.
+// Proves for the inputs in two texts, and puts the proof into a room.
 fn prove_over<R: Hands, F: Field, X: RowExtend<F>, W: Words>(
     rt: &R,
     alloc: Global,
     named: &Named<'_, F>,
-    public: &[u8],
-    private: &[u8],
+    texts: &Texts<'_>,
     words: &W,
     with: &With<'_>,
     room: &mut [u8],
 ) -> Result<u64, Refusal>
     ensures { let w = with.now in
         ProvesOver F.ops F.coding named.now.circuit.now w.session.now (W.at words.now) room.old room.new result
-        public.now private.now }
+        texts.now.public.now texts.now.private.now }
 {
+    let Texts { public, private } = *texts;
     match inputs_of(alloc, named.circuit, with.session, public, private) {
-        Ok(inputs) => prove_inputs::<R, F, X, W>(
-            rt,
-            alloc,
-            named,
-            &inputs.publics,
-            &inputs.privates,
-            words,
-            with,
-            room,
-        ),
+        Ok(inputs) => {
+            let fitting = Fitting {
+                named,
+                publics: &inputs.publics,
+                privates: &inputs.privates,
+            };
+            prove_inputs::<R, F, X, W>(rt, alloc, &fitting, words, with, room)
+        }
         Err(refusal) => Err(refusal),
     }
 }
@@ -155,13 +153,13 @@ fn prove_any<R: Hands>(
     alloc: Global,
     circuit: &AnyCircuit,
     bytes: &[u8],
-    public: &[u8],
-    private: &[u8],
+    texts: &Texts<'_>,
     with: &With<'_>,
     room: &mut [u8],
 ) -> Result<u64, Refusal>
     requires file { CircuitBytes circuit.now bytes.now }
-    ensures { ProvesOf circuit.now with.now.session.now with.now.seed room.old room.new result public.now private.now }
+    ensures { ProvesOf circuit.now with.now.session.now with.now.seed room.old room.new result texts.now.public.now
+        texts.now.private.now }
 {
     let id = id_of_file(bytes);
     match circuit {
@@ -169,8 +167,7 @@ fn prove_any<R: Hands>(
             rt,
             alloc,
             &Named { circuit: c, id },
-            public,
-            private,
+            texts,
             &gold_words(with.seed),
             with,
             room,
@@ -179,8 +176,7 @@ fn prove_any<R: Hands>(
             rt,
             alloc,
             &Named { circuit: c, id },
-            public,
-            private,
+            texts,
             &Seeded::new(with.seed),
             with,
             room,
@@ -201,7 +197,10 @@ pub fn prove<R: Hands>(
     ensures { Proves circuit.now public.now private.now with.now.session.now with.now.seed room.old room.new result }
 {
     match circuit_of(alloc, circuit) {
-        Ok(any) => prove_any(rt, alloc, &any, circuit, public, private, with, room),
+        Ok(any) => {
+            let texts = Texts { public, private };
+            prove_any(rt, alloc, &any, circuit, &texts, with, room)
+        }
         Err(refusal) => Err(refusal),
     }
 }

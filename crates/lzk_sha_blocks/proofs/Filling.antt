@@ -1,5 +1,5 @@
 -- The private inputs of a message satisfy every block.
-use Rattle.std.specs.Prelude.{◌≡◌, ℕ, ◌+◌, ◌-◌, ◌*◌, ◌/◌, ◌%◌, ◌^◌, ◌<◌, ◌≤◌, List, [], ◌∷◌, ◌++◌, length, map, take, drop, slice_index, slice_index_or}
+use Rattle.std.specs.Prelude.{◌≡◌, ℕ, ◌+◌, ◌-◌, ◌*◌, ◌/◌, ◌%◌, ◌^◌, ◌<◌, ◌≤◌, List, [], ◌++◌, length, map, take, drop, slice_index, slice_index_or}
 use Rattle.std.specs.List.{range_with_len, flat_map}
 use Rattle.std.specs.Int.{bit_at}
 use Rattle.std.proofs.Common.{zero, suc, refl, sym, ap, ◌∙◌, arith, inl, inr, subst, length-append, length-take-le, get_or-take, get_or-append-add, ext_get_or}
@@ -10,23 +10,21 @@ use Rattle.std.proofs.lemmas.Nat.Bits.{bit_at-lt}
 use Rattle.lzk_field.specs.Ring.{Ops}
 use Rattle.lzk_field.specs.Sums.{entry}
 use Rattle.lzk_circuit.specs.Wires.{inputs_of}
-use Rattle.sha2.specs.Sha256.{compress, hash_after}
-use Rattle.lzk_sha_circuit.specs.declared.bit.Bit.TheVariants.{Zero, Input}
-use Rattle.lzk_sha_circuit.specs.Compression.{Finds, IsCompression, AreBits}
+use Rattle.sha2.specs.Sha256.{compress}
+use Rattle.lzk_sha_circuit.specs.Compression.{Finds}
 use Rattle.lzk_sha_circuit.specs.Digest.{AreBytes, HaveDigest, digest_words}
 use Rattle.lzk_sha_circuit.specs.Inputs.{bit_list, compression_private}
 use Rattle.lzk_sha_circuit.specs.Outputs.{AreCompressing}
-use Rattle.lzk_sha_circuit.specs.Places.{bit_of, bit_value}
+use Rattle.lzk_sha_circuit.specs.Places.{bit_value}
 use Rattle.lzk_sha_circuit.proofs.Chunks.{range_entry, length-range_chunks}
 use Rattle.lzk_sha_circuit.proofs.Completeness.{compressing}
-use Rattle.lzk_sha_circuit.proofs.Compressed.{length-compress}
 use Rattle.lzk_sha_circuit.proofs.Found.{found_at, are_bits, finds_first}
 use Rattle.lzk_sha_circuit.proofs.Lookups.{length-compression_private, length-message, message_entry}
 use Rattle.lzk_sha_circuit.proofs.Numbered.{Numbered, IsBit}
 use Rattle.lzk_sha_circuit.proofs.Soundness.{begins_with}
 use Rattle.lzk_sha_blocks.specs.Hashed.{block_public, block_private, AreHashing}
 use Rattle.lzk_sha_blocks.specs.Witness.{state_of, block_of, block_added, digest_private}
-use Rattle.lzk_sha_blocks.specs.Layout.{blocks, held, added, private_count, state_count, given_count, state_bits, block_places, public_wire, public_wires, private_wires}
+use Rattle.lzk_sha_blocks.specs.Layout.{blocks, held, added, private_count, state_count, given_count, state_bits, block_places, public_wire, public_wires}
 use Rattle.lzk_sha_blocks.proofs.LayoutLaws.{block_placed, length-state_bits, state_bit_at, public_inner, public_last}
 use Rattle.lzk_sha_blocks.proofs.Steps.{is_state, next_state, digest_words_are, length-seen_public, length-seen_private, private_input, public_input, added_entry, own, compressed, first_finds, next_finds}
 

@@ -1,7 +1,6 @@
 -- The blocks' circuits beside one another.
-use Rattle.std.specs.Prelude.{◌≡◌, ℕ, suc, ◌+◌, ◌-◌, ◌*◌, ◌/◌, ◌<◌, ◌≤◌, ◌↔◌, List, [], ◌∷◌, ◌++◌, length, map}
-use Rattle.std.specs.List.{range_with_len}
-use Rattle.std.proofs.Common.{refl, sym, ap, ◌∙◌, arith, inl, inr, subst, ext_get_or, length-append}
+use Rattle.std.specs.Prelude.{◌≡◌, ℕ, ◌+◌, ◌-◌, ◌*◌, ◌<◌, ◌≤◌, ◌↔◌, List, length, map}
+use Rattle.std.proofs.Common.{sym, ap, ◌∙◌, arith, inl, inr, subst, ext_get_or}
 use Rattle.std.proofs.lemmas.Bool.{cases_lt}
 use Rattle.std.proofs.lemmas.List.{length-map, get_or-map}
 use Rattle.std.proofs.lemmas.List.FromFn.{length-map-range_with_len, get_or-map-range_with_len}
@@ -12,7 +11,7 @@ use Rattle.lzk_sha_circuit.specs.Outputs.{AreCompressing}
 use Rattle.lzk_sha_blocks.specs.Hashed.{block_public, block_private, IsBlockSatisfied, AreBlocksSatisfied, AreHashing}
 use Rattle.lzk_sha_blocks.specs.Layout.{blocks, held, private_count, given_count, block_places, public_wire, private_wire, public_wires, private_wires}
 use Rattle.lzk_sha_blocks.proofs.LayoutLaws.{public_last, message_at, added_at}
-use Rattle.lzk_sha_blocks.proofs.Steps.{private_entry, private_input, public_input, own_entry}
+use Rattle.lzk_sha_blocks.proofs.Steps.{private_entry, private_input, public_input}
 
 module _ {A : Type 0} (o : Ops A) (element : ℕ → A) (len : ℕ) (inputs : List A) where
   -- one block more

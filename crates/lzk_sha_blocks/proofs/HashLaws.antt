@@ -1,36 +1,24 @@
 -- Where every block is satisfied, the private inputs begin with a message, and the public inputs are the words of its digest.
-use Rattle.std.specs.Prelude.{◌≡◌, ℕ, ◌+◌, ◌-◌, ◌*◌, ◌/◌, ◌%◌, ◌^◌, ◌<◌, ◌≤◌, nat_lt, if◌then◌else◌, List, [], ◌∷◌, ◌++◌, length, map, take, drop, replicate, slice_index, slice_index_or}
-use Rattle.std.specs.List.{range_with_len}
-use Rattle.std.specs.Int.{bit_at, w64, to_be_bytes}
-use Rattle.std.proofs.Common.{zero, suc, refl, sym, ap, ◌∙◌, arith, inl, inr, subst, lt-ltb, le-ltb, length-append, length-take-le, get_or-take, get_or-append-add, ext_get_or}
+use Rattle.std.specs.Prelude.{◌≡◌, ℕ, ◌+◌, ◌-◌, ◌*◌, ◌/◌, ◌%◌, ◌^◌, ◌<◌, ◌≤◌, List, length, map, take, slice_index}
+use Rattle.std.specs.Int.{bit_at}
+use Rattle.std.proofs.Common.{zero, suc, sym, ap, ◌∙◌, arith, inl, inr, subst, length-take-le, get_or-take, ext_get_or}
 use Rattle.std.proofs.lemmas.Bool.{cases_lt}
-use Rattle.std.proofs.lemmas.List.{length-map, length-replicate, length-drop, get_or-map, get_or-drop, get_or_past, get_or_append_left, get_or-append_right}
+use Rattle.std.proofs.lemmas.List.{length-map, get_or-map, get_or_past}
 use Rattle.std.proofs.lemmas.List.FromFn.{length-map-range_with_len, get_or-map-range_with_len}
-use Rattle.std.proofs.lemmas.Nat.Bits.{bit_at-lt}
 use Rattle.lzk_field.specs.Ring.{Ops}
 use Rattle.lzk_field.specs.Sums.{entry}
-use Rattle.lzk_circuit.specs.Wires.{inputs_of}
-use Rattle.sha2.specs.Sha256.{initial_hash_256, padding, padded_message, word_at, compress, hash_after, digest_bytes, final_hash, sha256}
-use Rattle.lzk_sha_circuit.specs.declared.bit.Bit.{Bit}
-use Rattle.lzk_sha_circuit.specs.declared.bit.Bit.TheVariants.{Zero, Input}
-use Rattle.lzk_sha_circuit.specs.Compression.{IsState, IsBlock, Finds, IsCompression, AreBits, result_bits}
-use Rattle.lzk_sha_circuit.specs.Digest.{AreBytes, HaveDigest, digest_words}
+use Rattle.lzk_sha_circuit.specs.Compression.{Finds}
+use Rattle.lzk_sha_circuit.specs.Digest.{AreBytes, HaveDigest}
 use Rattle.lzk_sha_circuit.specs.Outputs.{AreCompressing}
-use Rattle.lzk_sha_circuit.specs.Places.{IsPlaced, bit_of, bit_value, bit_constant, f_place}
-use Rattle.lzk_sha_circuit.proofs.Block.{message_bytes, padding_bytes, both_bytes}
-use Rattle.lzk_sha_circuit.proofs.Compressed.{length-compress, found_is_compressed, satisfied_is_compression}
-use Rattle.lzk_sha_circuit.proofs.Digests.{word_of_digest}
-use Rattle.lzk_sha_circuit.proofs.Found.{found_is, found_at, each_bit}
-use Rattle.lzk_sha_circuit.proofs.MessagePlaces.{constant_value, initial_value, length-initial_state}
-use Rattle.lzk_sha_circuit.proofs.Messages.{compress_below}
+use Rattle.lzk_sha_circuit.proofs.Compressed.{satisfied_is_compression}
+use Rattle.lzk_sha_circuit.proofs.Found.{each_bit}
 use Rattle.lzk_sha_circuit.proofs.Numbered.{Numbered, IsBit}
 use Rattle.lzk_sha_circuit.proofs.Soundness.{spelled, length-spelled, spelled_bytes, spelled_bit, begins_with}
-use Rattle.lzk_sha_circuit.proofs.WordSums.{initial_below}
 use Rattle.lzk_sha_blocks.specs.Hashed.{block_public, block_private, AreHashing, HashingIsOfMessage}
 use Rattle.lzk_sha_blocks.specs.Witness.{state_of, block_of}
-use Rattle.lzk_sha_blocks.specs.Layout.{blocks, held, added, private_count, state_count, given_count, block_bit, block_bits, state_bits, block_places, public_wire, state_wire, private_wire, public_wires, private_wires}
-use Rattle.lzk_sha_blocks.proofs.LayoutLaws.{block_placed, length-block_bits, block_bit_at, length-state_bits, state_bit_at, state_few, public_last, message_at, state_at, added_at}
-use Rattle.lzk_sha_blocks.proofs.Steps.{next_state, digest_words_are, inputs, own_entry, private_entry, public_input, private_input, compressed, first_finds, next_finds}
+use Rattle.lzk_sha_blocks.specs.Layout.{blocks, held, private_count, given_count, block_places, public_wire, private_wire, public_wires, private_wires}
+use Rattle.lzk_sha_blocks.proofs.LayoutLaws.{block_placed, public_last}
+use Rattle.lzk_sha_blocks.proofs.Steps.{next_state, digest_words_are, inputs, own_entry, public_input, compressed, first_finds, next_finds}
 
 -- ---- from outputs to a message
 module _ {A : Type 0} (o : Ops A) (element : ℕ → A) (size : ℕ) (h : Numbered o element size) (big : 8 * 2 ^ 32 ≤ size)

@@ -1,5 +1,5 @@
 -- Where the blocks of a message are, and what they see of the whole.
-use Rattle.std.specs.Prelude.{◌≡◌, ℕ, ◌+◌, ◌-◌, ◌*◌, ◌/◌, ◌%◌, ◌<◌, ◌≤◌, nat_lt, if◌then◌else◌, Bool, true, false, List, [], ◌∷◌, ◌++◌, length, map, slice_index}
+use Rattle.std.specs.Prelude.{◌≡◌, ℕ, ◌+◌, ◌-◌, ◌*◌, ◌/◌, ◌%◌, ◌<◌, ◌≤◌, nat_lt, if◌then◌else◌, Bool, true, false, List, ◌∷◌, ◌++◌, length, map, slice_index}
 use Rattle.std.specs.List.{range_with_len}
 use Rattle.std.specs.Int.{bit_at}
 use Rattle.std.proofs.Common.{zero, suc, refl, sym, ap, ◌∙◌, arith, inl, inr, subst, lt-ltb, le-ltb, length-append, ext_get_or, get_or-append-add}
@@ -9,8 +9,8 @@ use Rattle.std.proofs.lemmas.List.FromFn.{length-map-range_with_len, get_or-map-
 use Rattle.lzk_field.specs.Ring.{Ops}
 use Rattle.lzk_field.specs.Sums.{entry}
 use Rattle.lzk_circuit.specs.Wires.{inputs_of}
-use Rattle.lzk_reduce.specs.Renumbering.{at, AreNumbersBelow}
-use Rattle.lzk_beside.specs.Chosen.{chosen}
+use Rattle.lzk_circuit_reduce.specs.Renumbering.{at, AreNumbersBelow}
+use Rattle.lzk_circuit_beside.specs.Chosen.{chosen}
 use Rattle.sha2.specs.Sha256.{padding}
 use Rattle.lzk_sha_circuit.specs.declared.bit.Bit.{Bit}
 use Rattle.lzk_sha_circuit.specs.declared.bit.Bit.TheVariants.{Zero, Input}

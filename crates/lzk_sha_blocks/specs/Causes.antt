@@ -1,6 +1,6 @@
 -- When a message has no circuit.
 use Rattle.std.specs.Prelude.{ℕ, ◌<◌}
-use Rattle.lzk_beside.specs.Levels as levels
+use Rattle.lzk_circuit_beside.specs.Levels as levels
 use Rattle.lzk_circuit.specs.Valid.{Wiring}
 use Rattle.lzk_goldilocks.specs.declared.element.Gold.{Gold}
 use Rattle.lzk_sha_blocks.specs.declared.error.DigestError.{DigestError}

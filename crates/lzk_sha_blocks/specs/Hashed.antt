@@ -1,9 +1,9 @@
 -- What the blocks of a message claim together.
-use Rattle.std.specs.Prelude.{◌≡◌, ℕ, ◌+◌, ◌*◌, ◌<◌, ◌↔◌, List, ◌++◌, length, map, take}
+use Rattle.std.specs.Prelude.{◌≡◌, ℕ, ◌<◌, List, length, map}
 use Rattle.lzk_field.specs.Ring.{Ops}
 use Rattle.lzk_field.specs.Sums.{entry}
 use Rattle.lzk_circuit.specs.Wires.{inputs_of}
-use Rattle.lzk_sha_circuit.specs.Digest.{AreBytes, HaveDigest, message_bits, digest_words}
+use Rattle.lzk_sha_circuit.specs.Digest.{AreBytes, HaveDigest, digest_words}
 use Rattle.lzk_sha_circuit.specs.Outputs.{AreCompressing}
 use Rattle.lzk_sha_blocks.specs.Witness.{digest_private}
 use Rattle.lzk_sha_blocks.specs.Layout.{blocks, private_count, block_places, public_wires, private_wires}

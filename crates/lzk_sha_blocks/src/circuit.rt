@@ -3,70 +3,65 @@
 ghost use Rattle.std.specs.Prelude.{◌≡◌, ℕ, ◌+◌, ◌*◌, ◌<◌, ◌≤◌, ◌↔◌, List, length, IfOk, IfErr};
 ghost use Rattle.lzk_goldilocks.specs.Elements.{ops, number, of_number};
 ghost use Rattle.lzk_goldilocks.specs.declared.element.Gold.{Gold};
-ghost use Rattle.lzk_beside.specs.Chosen.{chosen};
+ghost use Rattle.lzk_circuit_beside.specs.Chosen.{chosen};
 ghost use Rattle.lzk_circuit.specs.Checks.{IsSatisfied};
 ghost use Rattle.lzk_circuit.specs.Wires.{inputs_of};
-ghost use Rattle.lzk_reduce.specs.Renumbering.{AreNumbersBelow};
+ghost use Rattle.lzk_circuit_reduce.specs.Renumbering.{AreNumbersBelow};
 ghost use Rattle.lzk_sha_circuit.specs.Outputs.{AreCompressing};
-ghost use Rattle.lzk_sha_blocks.specs.Layout.{blocks, private_count, given_count, block_places};
+ghost use Rattle.lzk_sha_blocks.specs.Layout.{private_count, given_count, block_places};
 ghost use Rattle.lzk_sha_blocks.specs.Hashed.{IsBlockSatisfied, AreHashing};
 ghost use Rattle.lzk_sha_blocks.specs.Causes.{IsCause};
 
 use crate::error::DigestError;
 use crate::given::block_given;
-use crate::layout::{all_wires, block_count, wires};
-use lzk_beside::{Part, beside};
+use crate::layout::{Block, all_wires, block_count, wires};
 use lzk_circuit::Circuit;
+use lzk_circuit_beside::{Part, beside};
 use lzk_goldilocks::Gold;
 use lzk_sha_circuit::compression_circuit;
 use std::alloc::{AllocError, Global};
 
-// The circuit of block `i`.
-fn block_circuit(alloc: Global, len: u32, i: u32) -> Result<Circuit<Gold>, AllocError>
-    requires few { len ≤ 503 }
-    requires block { i < blocks len }
+// The circuit of the block.
+fn block_circuit(alloc: Global, block: Block) -> Result<Circuit<Gold>, AllocError>
     ensures version { IfOk result (λ circuit. circuit.version ≡ 1) }
     ensures publics { IfOk result (λ circuit. circuit.publics ≡ 8) }
-    ensures privates { IfOk result (λ circuit. circuit.privates ≡ given_count len i + 6376) }
+    ensures privates { IfOk result (λ circuit. circuit.privates ≡ given_count block.len block.i + 6376) }
     ensures satisfied { IfOk result (λ circuit.
-        (public private : List Gold) → length public ≡ 8 → length private ≡ given_count len i + 6376
+        (public private : List Gold) → length public ≡ 8 → length private ≡ given_count block.len block.i + 6376
         → IsSatisfied ops number circuit.layers (inputs_of ops public private)
-        ↔ AreCompressing ops of_number (block_places len i) public private) }
+        ↔ AreCompressing ops of_number (block_places block.len block.i) public private) }
 {
-    let given = block_given(alloc, len, i)?;
+    let given = block_given(alloc, block)?;
     let circuit = compression_circuit(alloc, &given)?;
     Ok(circuit)
 }
 
-// A circuit over the inputs that it sees, and block `i` beside it.
+// A circuit over the inputs that it sees, and the block beside it.
 fn with_block(
     alloc: Global,
-    len: u32,
-    i: u32,
+    block: Block,
     before: &Circuit<Gold>,
     seen: &[u32],
 ) -> Result<Circuit<Gold>, DigestError>
-    requires few { len ≤ 503 }
-    requires long { 55 < len }
-    requires block { i < blocks len }
+    requires long { 55 < block.len }
     requires version { before.now.version ≡ 1 }
     requires count { length seen.now ≡ before.now.publics + before.now.privates }
-    requires below { AreNumbersBelow (9 + private_count len) seen.now }
+    requires below { AreNumbersBelow (9 + private_count block.len) seen.now }
     ensures version { IfOk result (λ circuit. circuit.version ≡ 1) }
     ensures publics { IfOk result (λ circuit. circuit.publics ≡ 8) }
-    ensures privates { IfOk result (λ circuit. circuit.privates ≡ private_count len) }
-    ensures satisfied { (public private : List Gold) → length public ≡ 8 → length private ≡ private_count len
+    ensures privates { IfOk result (λ circuit. circuit.privates ≡ private_count block.len) }
+    ensures satisfied { (public private : List Gold) → length public ≡ 8 → length private ≡ private_count block.len
         → IfOk result (λ circuit.
         let inputs = inputs_of ops public private in
         IsSatisfied ops number circuit.layers inputs
         ↔ (IsSatisfied ops number before.now.layers (chosen ops seen.now inputs)
-        × IsBlockSatisfied ops of_number len inputs i)) }
-    ensures cause { IfErr result (IsCause len) }
+        × IsBlockSatisfied ops of_number block.len inputs block.i)) }
+    ensures cause { IfErr result (IsCause block.len) }
 {
-    let Ok(next) = block_circuit(alloc, len, i) else {
+    let Ok(next) = block_circuit(alloc, block) else {
         return Err(DigestError::OutOfMemory);
     };
-    let Ok(places) = wires(alloc, len, i) else {
+    let Ok(places) = wires(alloc, block) else {
         return Err(DigestError::OutOfMemory);
     };
     let first = Part {
@@ -80,7 +75,7 @@ fn with_block(
     match beside(
         alloc,
         8,
-        8 * len + 6384 * block_count(len) - 8,
+        8 * block.len + 6384 * block_count(block.len) - 8,
         &first,
         &second,
     ) {
@@ -106,22 +101,23 @@ pub fn digest_circuit(alloc: Global, len: u32) -> Result<Circuit<Gold>, DigestEr
     if len > 503 {
         return Err(DigestError::TooLong);
     }
-    let Ok(first) = block_circuit(alloc, len, 0) else {
+    let block = Block { len, i: 0 };
+    let Ok(first) = block_circuit(alloc, block) else {
         return Err(DigestError::OutOfMemory);
     };
     if len < 56 {
         return Ok(first);
     }
     let blocks = block_count(len);
-    let Ok(seen) = wires(alloc, len, 0) else {
+    let Ok(seen) = wires(alloc, block) else {
         return Err(DigestError::OutOfMemory);
     };
     let Ok(all) = all_wires(alloc, 8 * len + 6384 * blocks) else {
         return Err(DigestError::OutOfMemory);
     };
-    let mut whole = with_block(alloc, len, 1, &first, &seen)?;
+    let mut whole = with_block(alloc, Block { len, i: 1 }, &first, &seen)?;
     for i in 2..blocks {
-        let next = with_block(alloc, len, i, &whole, &all)?;
+        let next = with_block(alloc, Block { len, i }, &whole, &all)?;
         whole = next;
     }
     Ok(whole)

@@ -1,6 +1,6 @@
 //! Why a message has no circuit.
 
-use lzk_beside::BesideError;
+use lzk_circuit_beside::BesideError;
 use thiserror::Error;
 
 /// Why there is no circuit for messages of so many bytes.

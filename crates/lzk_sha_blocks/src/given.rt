@@ -4,27 +4,18 @@ ghost use Rattle.std.specs.Prelude.{◌≡◌, ◌+◌, ◌*◌, ◌<◌, ◌≤
 ghost use Rattle.std.specs.List.{range_with_len};
 ghost use Rattle.lzk_sha_circuit.specs.declared.bit.Bit.TheVariants.{Input};
 ghost use Rattle.lzk_sha_circuit.specs.Found.{places_of};
-ghost use Rattle.lzk_sha_blocks.specs.Layout.{blocks, block_bit, block_bits, state_bits, block_places};
+ghost use Rattle.lzk_sha_blocks.specs.Layout.{block_bit, block_bits, state_bits, block_places};
 
 use crate::layout::{Block, held, state_count};
 use lzk_sha_circuit::{Bit, Given, constant, initial_state, padding_byte};
 use std::alloc::{AllocError, Global};
 
-// A block that the message has.
-#[derive(Clone, Copy)]
-struct OwnBlock {
-    len: u32,
-    i: u32,
-    ghost few: { len ≤ 503 },
-    ghost within: { i < blocks len },
-}
-
 // Bit `j` of the block.
-fn block_bit(block: OwnBlock, j: u32) -> Bit
+fn block_bit(block: Block, j: u32) -> Bit
     requires { j < 512 }
     ensures { result ≡ block_bit block.len block.i j }
 {
-    let OwnBlock { len, i } = block;
+    let Block { len, i } = block;
     let at = 512 * i + j;
     if at < 8 * len {
         Bit::Input(j)
@@ -34,7 +25,7 @@ fn block_bit(block: OwnBlock, j: u32) -> Bit
 }
 
 // The bits of the block.
-fn block_bits(alloc: Global, block: OwnBlock) -> Result<Vec<Bit>, AllocError>
+fn block_bits(alloc: Global, block: Block) -> Result<Vec<Bit>, AllocError>
     ensures { IfOk result (λ bits. bits.items ≡ block_bits block.len block.i) }
 {
     let mut bits = Vec::with_capacity(alloc, 512)?;
@@ -67,18 +58,15 @@ fn state_bits(alloc: Global, block: Block) -> Result<Vec<Bit>, AllocError>
     }
 }
 
-// What block `i` is given.
-pub(crate) fn block_given(alloc: Global, len: u32, i: u32) -> Result<Given, AllocError>
-    requires few { len ≤ 503 }
-    requires block { i < blocks len }
-    ensures { IfOk result (λ given. places_of given ≡ block_places len i) }
+// What the block is given.
+pub(crate) fn block_given(alloc: Global, block: Block) -> Result<Given, AllocError>
+    ensures { IfOk result (λ given. places_of given ≡ block_places block.len block.i) }
 {
-    let at = Block { len, i };
-    let state = state_bits(alloc, at)?;
-    let block = block_bits(alloc, OwnBlock { len, i })?;
+    let state = state_bits(alloc, block)?;
+    let bits = block_bits(alloc, block)?;
     Ok(Given {
-        inputs: 8 * held(at) + state_count(i),
+        inputs: 8 * held(block) + state_count(block.i),
         state,
-        block,
+        block: bits,
     })
 }

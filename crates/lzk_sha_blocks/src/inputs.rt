@@ -10,10 +10,10 @@ ghost use Rattle.lzk_sha_blocks.specs.Layout.{private_count};
 ghost use Rattle.lzk_sha_blocks.specs.Witness.{digest_private};
 
 use lzk_goldilocks::Gold;
-use lzk_lanes::INITIAL_HASH;
 use lzk_sha_circuit::{
     ShaInputs, compression_inputs, numbers_of, padded, state_from, write_message,
 };
+use lzk_sha_lanes::INITIAL_HASH;
 use std::alloc::{AllocError, Global};
 
 // Writes what the compression of a block adds. Gives the words of the state behind it.

@@ -2,19 +2,19 @@
 
 ghost use Rattle.std.specs.Prelude.{◌≡◌, ◌+◌, ◌*◌, ◌<◌, ◌≤◌, ◌++◌, map, IfOk};
 ghost use Rattle.std.specs.List.{range_with_len};
-ghost use Rattle.lzk_sha_blocks.specs.Layout.{blocks, held, added, state_count, given_count};
-ghost use Rattle.lzk_sha_blocks.specs.Layout.{public_wire, state_wire, private_wire, public_wires, private_wires};
+ghost use Rattle.lzk_sha_blocks.specs.Layout.{blocks, held, state_count, given_count};
+ghost use Rattle.lzk_sha_blocks.specs.Layout.{public_wire, private_wire, public_wires, private_wires};
 
 use std::alloc::{AllocError, Global};
 
-/// A block of a message, by its number.
+/// A block that a message has, by its number.
 #[derive(Clone, Copy)]
 pub(crate) struct Block {
     /// How many bytes the message has.
     pub len: u32,
     pub i: u32,
     pub ghost few: { len ≤ 503 },
-    pub ghost eighth: { i < 8 },
+    pub ghost within: { i < blocks len },
 }
 
 // How many blocks the message has.
@@ -65,16 +65,6 @@ fn public_wire(block: Block, k: u32) -> u32
     }
 }
 
-// Where bit `j` of the state behind block `i` is.
-fn state_wire(len: u32, i: u32, j: u32) -> u32
-    requires few { len ≤ 503 }
-    requires block { i < 8 }
-    requires bit { j < 256 }
-    ensures { result ≡ state_wire len i j }
-{
-    9 + (8 * len + 6384 * i) + 6112 + 33 * (j / 32) + j % 32
-}
-
 // Where private input `j` of the block is.
 fn private_wire(block: Block, j: u32) -> u32
     requires { j < given_count block.len block.i + 6376 }
@@ -86,24 +76,24 @@ fn private_wire(block: Block, j: u32) -> u32
     if j < own {
         9 + 512 * i + j
     } else if j < given {
-        state_wire(len, i - 1, j - own)
+        // A bit of the state behind the block before.
+        let bit = j - own;
+        9 + (8 * len + 6384 * (i - 1)) + 6112 + 33 * (bit / 32) + bit % 32
     } else {
         9 + (8 * len + 6384 * i) + (j - given)
     }
 }
 
-// The wires of the whole's input layer that block `i` sees.
-pub(crate) fn wires(alloc: Global, len: u32, i: u32) -> Result<Vec<u32>, AllocError>
-    requires few { len ≤ 503 }
-    requires block { i < 8 }
-    ensures { IfOk result (λ wires. wires.items ≡ public_wires len i ++ private_wires len i) }
+// The wires of the whole's input layer that the block sees.
+pub(crate) fn wires(alloc: Global, block: Block) -> Result<Vec<u32>, AllocError>
+    ensures { IfOk result (λ wires.
+        wires.items ≡ public_wires block.len block.i ++ private_wires block.len block.i) }
 {
-    let block = Block { len, i };
     let mut wires = Vec::new(alloc);
     for k in 0..8 {
         wires.push(public_wire(block, k))?;
     }
-    let count = 8 * held(block) + state_count(i) + 6376;
+    let count = 8 * held(block) + state_count(block.i) + 6376;
     for j in 0..count {
         wires.push(private_wire(block, j))?;
     }

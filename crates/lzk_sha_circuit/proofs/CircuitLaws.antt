@@ -5,7 +5,7 @@ use Rattle.lzk_field.specs.Ring.{Ops}
 use Rattle.lzk_circuit.specs.declared.layer.Term.{Term}
 use Rattle.lzk_circuit.specs.declared.layer.Layer.{Layer}
 use Rattle.lzk_circuit.specs.Valid.{AreTerms, AreLayers}
-use Rattle.lzk_reduce.specs.Reduced.{HaveOnes}
+use Rattle.lzk_circuit_reduce.specs.Reduced.{HaveOnes}
 use Rattle.lzk_sha_circuit.specs.Places.{Places, IsPlaced}
 use Rattle.lzk_sha_circuit.specs.Layers.{IsBuilt, input_count, inner_count, inner_rows, output_rows}
 use Rattle.lzk_sha_circuit.proofs.InnerValues.{length-inner_rows, pass_at}

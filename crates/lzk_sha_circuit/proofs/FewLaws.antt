@@ -5,7 +5,7 @@ use Rattle.std.proofs.lemmas.List.{drop_more, drop_all}
 use Rattle.lzk_field.specs.Ring.{Ops}
 use Rattle.lzk_field.specs.Sums.{entry}
 use Rattle.lzk_circuit.specs.declared.layer.Term.{Term}
-use Rattle.lzk_reduce.specs.Rows.{IsRow, row_value, ordered}
+use Rattle.lzk_circuit_reduce.specs.Rows.{IsRow, row_value, ordered}
 use Rattle.lzk_sha_circuit.specs.declared.products.Product.{Product}
 use Rattle.lzk_sha_circuit.specs.Products.{AreWithin, product_value, products_value}
 use Rattle.lzk_sha_circuit.specs.Layers.{one_row}

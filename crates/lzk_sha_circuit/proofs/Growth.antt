@@ -9,9 +9,9 @@ use Rattle.lzk_field.specs.Ring.{Ops}
 use Rattle.lzk_circuit.specs.declared.layer.Term.{Term}
 use Rattle.lzk_circuit.specs.Valid.{AreTerms}
 use Rattle.lzk_circuit.specs.Wires.{coef, wire}
-use Rattle.lzk_reduce.specs.Rows.{IsRow, row_value, placed, ordered}
-use Rattle.lzk_reduce.specs.Reduced.{terms_of}
-use Rattle.lzk_reduce.proofs.KeptLaws.{own-before}
+use Rattle.lzk_circuit_reduce.specs.Rows.{IsRow, row_value, placed, ordered}
+use Rattle.lzk_circuit_reduce.specs.Reduced.{terms_of}
+use Rattle.lzk_circuit_reduce.proofs.KeptLaws.{own-before}
 use Rattle.lzk_sha_circuit.specs.declared.products.Product.{Product}
 use Rattle.lzk_sha_circuit.specs.Products.{products_value, AreWithin, sizes}
 use Rattle.lzk_sha_circuit.specs.Layers.{row_at, one_row, IsBuilt, Grows}

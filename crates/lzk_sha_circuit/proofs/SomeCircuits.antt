@@ -12,10 +12,10 @@ use Rattle.lzk_circuit.specs.declared.layer.Term.{Term}
 use Rattle.lzk_circuit.specs.Valid.{IsValid, AreLayers, wiring}
 use Rattle.lzk_circuit.proofs.VersionLaws.{one-valid}
 use Rattle.lzk_circuit.specs.Wires.{inputs_of}
-use Rattle.lzk_reduce.specs.Rows.{row_value, ordered, placed}
-use Rattle.lzk_reduce.proofs.AppendLaws.{stacked-terms, stacked-before, stacked-added}
-use Rattle.lzk_reduce.proofs.EachReduced.{some_reduced}
-use Rattle.lzk_reduce.proofs.NormalLaws.{ZeroOrNot, zero_or_not, AreOfRow, ordered-of-row, ordered-value, normal}
+use Rattle.lzk_circuit_reduce.specs.Rows.{row_value, ordered, placed}
+use Rattle.lzk_circuit_reduce.proofs.AppendLaws.{stacked-terms, stacked-before, stacked-added}
+use Rattle.lzk_circuit_reduce.proofs.EachReduced.{some_reduced}
+use Rattle.lzk_circuit_reduce.proofs.NormalLaws.{ZeroOrNot, zero_or_not, AreOfRow, ordered-of-row, ordered-value, normal}
 use Rattle.lzk_sha_circuit.specs.Places.{Places, IsPlaced, message_places, total_count}
 use Rattle.lzk_sha_circuit.specs.declared.products.Product.{Product}
 use Rattle.lzk_sha_circuit.specs.declared.entries.Word.{Word}

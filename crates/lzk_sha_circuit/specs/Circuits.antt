@@ -4,7 +4,7 @@ use Rattle.lzk_goldilocks.specs.Elements.{ops, of_number}
 use Rattle.lzk_goldilocks.specs.declared.element.Gold.{Gold}
 use Rattle.lzk_circuit.specs.Valid.{Wiring, IsValid}
 use Rattle.lzk_circuit.specs.Wires.{inputs_of, wires_of}
-use Rattle.lzk_reduce.specs.Reduced.{IsReduced}
+use Rattle.lzk_circuit_reduce.specs.Reduced.{IsReduced}
 use Rattle.lzk_sha_circuit.specs.Digest.{AreBytes, digest_words}
 use Rattle.lzk_sha_circuit.specs.Inputs.{sha_private}
 use Rattle.lzk_sha_circuit.specs.Outputs.{AreSatisfying, compression_outputs, sha_outputs}

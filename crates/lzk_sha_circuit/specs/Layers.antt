@@ -5,7 +5,7 @@ use Rattle.lzk_field.specs.Ring.{Ops}
 use Rattle.lzk_circuit.specs.declared.layer.Term.{Term}
 use Rattle.lzk_circuit.specs.Valid.{AreTerms}
 use Rattle.lzk_circuit.specs.Wires.{coef, wire}
-use Rattle.lzk_reduce.specs.Reduced.{terms_of}
+use Rattle.lzk_circuit_reduce.specs.Reduced.{terms_of}
 use Rattle.sha2.specs.Sha256.{round_constants}
 use Rattle.lzk_sha_circuit.specs.declared.products.Product.{Product}
 use Rattle.lzk_sha_circuit.specs.declared.products.Entry.{Entry}

@@ -1,25 +1,24 @@
 //! The circuit.
 
-ghost use Rattle.std.specs.Prelude.{◌≡◌, ◌+◌, ◌*◌, ◌≤◌, ◌↔◌, List, length, IfOk};
+ghost use Rattle.std.specs.Prelude.{◌≡◌, ◌≤◌, ◌↔◌, List, length, IfOk};
 ghost use Rattle.lzk_goldilocks.specs.Elements.{ops, number, of_number};
 ghost use Rattle.lzk_goldilocks.specs.declared.element.Gold.{Gold};
 ghost use Rattle.lzk_circuit.specs.Checks.{IsSatisfied};
-ghost use Rattle.lzk_circuit.specs.Valid.{AreLayers, IsValid, wiring};
+ghost use Rattle.lzk_circuit.specs.Valid.{AreLayers};
 ghost use Rattle.lzk_circuit.specs.Wires.{inputs_of, wires_of};
-ghost use Rattle.lzk_reduce.specs.Reduced.{HaveOnes, IsReduced};
+ghost use Rattle.lzk_circuit_reduce.specs.Reduced.{HaveOnes, IsReduced};
 ghost use Rattle.lzk_sha_circuit.specs.Places.{private_count, total_count};
 ghost use Rattle.lzk_sha_circuit.specs.Found.{places_of};
 ghost use Rattle.lzk_sha_circuit.specs.Outputs.{AreCompressing, compression_outputs, sha_outputs};
 ghost use Rattle.lzk_sha_circuit.specs.Layers.{input_count};
-ghost use Rattle.lzk_circuit.specs.Limits.{most_privates, most_layers};
 
 use crate::given::Given;
 use crate::inner::inner_terms;
 use crate::message::{ShortLength, message_given};
 use crate::outer::output_terms;
 use lzk_circuit::{Circuit, Layer, Terms};
+use lzk_circuit_reduce::reduced;
 use lzk_goldilocks::Gold;
-use lzk_reduce::reduced;
 use std::alloc::{AllocError, Global};
 
 // The two layers, the outputs' first.
@@ -45,20 +44,6 @@ fn layers_of(alloc: Global, given: &Given) -> Result<Vec<Layer<Gold>>, AllocErro
     Ok(layers)
 }
 
-fn circuit_of(privates: u32, layers: Vec<Layer<Gold>>) -> Circuit<Gold>
-    requires privates { privates ≤ most_privates }
-    requires some { 1 ≤ length layers.items }
-    requires most { length layers.items ≤ most_layers }
-    requires layers { AreLayers ops (1 + 8 + privates) layers.items }
-    ensures circuit { result ≡ wiring 8 privates layers.items }
-    ensures valid { IsValid ops result }
-{
-    match Circuit::of_layers(8, privates, layers) {
-        Ok(circuit) => circuit,
-        Err(_) => unreachable!(),
-    }
-}
-
 /// The circuit of one compression. `Err` where there is no memory for it: no limit is passed.
 ///
 /// Where its outputs are all 0, the public inputs are the words of the state behind the block
@@ -80,7 +65,7 @@ pub fn compression_circuit(alloc: Global, given: &Given) -> Result<Circuit<Gold>
 {
     let layers = layers_of(alloc, given)?;
     let kept = reduced(alloc, given.inputs + 6385, &layers)?;
-    Ok(circuit_of(given.inputs + 6376, kept))
+    Ok(Circuit::of_valid(1, 8, given.inputs + 6376, kept))
 }
 
 /// The circuit for messages of `len` bytes, at most 55. `Err` where there is no memory for it: no limit is passed.

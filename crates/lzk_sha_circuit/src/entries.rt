@@ -16,7 +16,7 @@ use lzk_goldilocks::Gold;
 
 /// A word of the circuit.
 #[derive(Clone, Copy)]
-pub enum Word {
+pub(crate) enum Word {
     /// Word i of the state.
     State(u32),
     /// W t.
@@ -29,7 +29,7 @@ pub enum Word {
 
 /// How a word's places move.
 #[derive(Clone, Copy)]
-pub enum Move {
+pub(crate) enum Move {
     /// Rotated right by so many.
     Turned(u8),
     /// Shifted right by so many.
@@ -37,7 +37,7 @@ pub enum Move {
 }
 
 // The wire itself.
-pub fn wire_entry(wire: u32) -> Entry<Gold>
+pub(crate) fn wire_entry(wire: u32) -> Entry<Gold>
     ensures { result ≡ wire_entry ops wire }
 {
     Entry {
@@ -65,7 +65,7 @@ fn bit_entry(bit: Bit) -> Entry<Gold>
 }
 
 // An entry of private inputs in a row, the most significant of which stands first.
-pub fn bits_entry(row: Row, i: u32) -> Entry<Gold>
+pub(crate) fn bits_entry(row: Row, i: u32) -> Entry<Gold>
     requires { i < row.count }
     ensures { result ≡ bits_entry ops row.place row.count i }
 {
@@ -74,7 +74,7 @@ pub fn bits_entry(row: Row, i: u32) -> Entry<Gold>
 
 // An entry of a word.
 #[tactic(auto, unfolding(crate::specs::Layers::word_entry))]
-pub fn entry(given: &Given, word: Placed, i: u32) -> Entry<Gold>
+pub(crate) fn entry(given: &Given, word: Placed, i: u32) -> Entry<Gold>
     requires { i < 32 }
     ensures { result ≡ word_entry ops of_number (places_of given.now) word.word i }
 {
@@ -108,7 +108,7 @@ pub fn entry(given: &Given, word: Placed, i: u32) -> Entry<Gold>
 }
 
 // An entry of a word that is rotated right by `k` places.
-pub fn turned_entry(given: &Given, word: Placed, k: u8, i: u32) -> Entry<Gold>
+pub(crate) fn turned_entry(given: &Given, word: Placed, k: u8, i: u32) -> Entry<Gold>
     requires { i < 32 }
     ensures { result ≡ turned_entry ops of_number (places_of given.now) word.word k i }
 {
@@ -132,7 +132,7 @@ fn shifted_entry(given: &Given, word: Placed, k: u8, i: u32) -> Entry<Gold>
 }
 
 // An entry of a word whose places move.
-pub fn moved_entry(given: &Given, word: Placed, by: Move, i: u32) -> Entry<Gold>
+pub(crate) fn moved_entry(given: &Given, word: Placed, by: Move, i: u32) -> Entry<Gold>
     requires { i < 32 }
     ensures { result ≡ moved_entry ops of_number (places_of given.now) word.word by i }
 {

@@ -102,7 +102,7 @@ fn push_round_pairs(
 }
 
 // The terms of the inner layer.
-pub fn inner_terms(alloc: Global, given: &Given) -> Result<Vec<Term<Gold>>, AllocError>
+pub(crate) fn inner_terms(alloc: Global, given: &Given) -> Result<Vec<Term<Gold>>, AllocError>
     ensures { IfOk result (λ terms.
         IsBuilt ops (input_count (places_of given.now)) (inner_rows ops of_number (places_of given.now)) terms.items) }
 {

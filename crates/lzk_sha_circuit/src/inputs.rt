@@ -15,7 +15,7 @@ use crate::bits::{write_bits, write_sum};
 use crate::words::{big_sigma0, big_sigma1, ch, maj, padded, small_sigma0, small_sigma1, word_at};
 use lzk_field::Field;
 use lzk_goldilocks::Gold;
-use lzk_lanes::{INITIAL_HASH, ROUND_CONSTANTS};
+use lzk_sha_lanes::{INITIAL_HASH, ROUND_CONSTANTS};
 use std::alloc::{AllocError, Global};
 
 /// Inputs of the circuit.

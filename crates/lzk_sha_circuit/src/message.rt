@@ -8,7 +8,7 @@ ghost use Rattle.lzk_sha_circuit.specs.Places.{bit_constant, message_bit, messag
 
 use crate::bit::{Bit, constant};
 use crate::given::Given;
-use lzk_lanes::INITIAL_HASH;
+use lzk_sha_lanes::INITIAL_HASH;
 use std::alloc::{AllocError, Global};
 
 /// The length of a message that one block holds.

@@ -16,7 +16,7 @@ use crate::sums::{push_carry, push_ch, push_maj, push_or_word, push_row_worth, p
 use lzk_circuit::Term;
 use lzk_field::Field;
 use lzk_goldilocks::Gold;
-use lzk_lanes::ROUND_CONSTANTS;
+use lzk_sha_lanes::ROUND_CONSTANTS;
 use std::alloc::{AllocError, Global};
 
 // A number, as a product of the one with itself.
@@ -163,7 +163,7 @@ fn digest_products(
 }
 
 // The terms of the outputs' layer.
-pub fn output_terms(alloc: Global, given: &Given) -> Result<Vec<Term<Gold>>, AllocError>
+pub(crate) fn output_terms(alloc: Global, given: &Given) -> Result<Vec<Term<Gold>>, AllocError>
     ensures { IfOk result (λ terms.
         IsBuilt ops (inner_count (places_of given.now)) (output_rows ops of_number (places_of given.now)) terms.items) }
 {

@@ -7,14 +7,14 @@ use crate::entries::Word;
 
 /// A word that the circuit has.
 #[derive(Clone, Copy)]
-pub struct Placed {
+pub(crate) struct Placed {
     pub word: Word,
     pub ghost there: { IsWord word },
 }
 
 /// Private inputs in a row, as many as a word has at most.
 #[derive(Clone, Copy)]
-pub struct Row {
+pub(crate) struct Row {
     /// The first of them.
     pub place: u32,
     pub count: u32,
@@ -24,7 +24,7 @@ pub struct Row {
 
 /// A word among the private inputs, and its carry behind it.
 #[derive(Clone, Copy)]
-pub struct Carried {
+pub(crate) struct Carried {
     /// Where the word begins.
     pub place: u32,
     /// The bits of its carry.
@@ -35,7 +35,7 @@ pub struct Carried {
 
 /// Exclusive ors of a word's entries: 32 wires in a row.
 #[derive(Clone, Copy)]
-pub struct Ors {
+pub(crate) struct Ors {
     pub first: u32,
     pub ghost few: { first ≤ 65536 },
 }

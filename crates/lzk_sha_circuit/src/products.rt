@@ -10,7 +10,7 @@ use std::alloc::AllocError;
 
 /// `coef` times two wires of the layer below.
 #[derive(Clone, Copy)]
-pub struct Product<F> {
+pub(crate) struct Product<F> {
     pub coef: F,
     pub a: u32,
     pub b: u32,
@@ -18,13 +18,13 @@ pub struct Product<F> {
 
 /// `factor` times a wire: an entry of a word.
 #[derive(Clone, Copy)]
-pub struct Entry<F> {
+pub(crate) struct Entry<F> {
     pub factor: F,
     pub wire: u32,
 }
 
 // 2 to the power of `i`.
-pub fn power(i: u32) -> Gold
+pub(crate) fn power(i: u32) -> Gold
     requires { i < 64 }
     ensures { result ≡ of_number (2 ^ i) }
 {
@@ -32,7 +32,7 @@ pub fn power(i: u32) -> Gold
 }
 
 // An entry, times a scale. Wire 0 is the one.
-pub fn linear(scale: Gold, x: Entry<Gold>) -> Product<Gold>
+pub(crate) fn linear(scale: Gold, x: Entry<Gold>) -> Product<Gold>
     ensures { result ≡ linear ops scale x }
 {
     Product {
@@ -43,7 +43,7 @@ pub fn linear(scale: Gold, x: Entry<Gold>) -> Product<Gold>
 }
 
 // The product of two entries, times a scale.
-pub fn bilinear(scale: Gold, x: Entry<Gold>, y: Entry<Gold>) -> Product<Gold>
+pub(crate) fn bilinear(scale: Gold, x: Entry<Gold>, y: Entry<Gold>) -> Product<Gold>
     ensures { result ≡ bilinear ops scale x y }
 {
     Product {
@@ -54,7 +54,7 @@ pub fn bilinear(scale: Gold, x: Entry<Gold>, y: Entry<Gold>) -> Product<Gold>
 }
 
 // x + y - 2 * x * y, times a scale.
-pub fn push_or(
+pub(crate) fn push_or(
     scale: Gold,
     x: Entry<Gold>,
     y: Entry<Gold>,
@@ -69,7 +69,7 @@ pub fn push_or(
 }
 
 // e * f - e * g + g, times a scale.
-pub fn push_chosen(
+pub(crate) fn push_chosen(
     scale: Gold,
     e: Entry<Gold>,
     f: Entry<Gold>,
@@ -85,7 +85,7 @@ pub fn push_chosen(
 }
 
 // x * y + z * u, times a scale.
-pub fn push_most(
+pub(crate) fn push_most(
     scale: Gold,
     x: Entry<Gold>,
     y: Entry<Gold>,

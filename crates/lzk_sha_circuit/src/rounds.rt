@@ -4,14 +4,14 @@ ghost use Rattle.std.specs.Prelude.{◌<◌, ◌≤◌};
 
 /// The number of a round.
 #[derive(Clone, Copy)]
-pub struct Round {
+pub(crate) struct Round {
     pub t: u32,
     pub ghost high: { t < 64 },
 }
 
 /// The number of a round whose word follows from the words before it.
 #[derive(Clone, Copy)]
-pub struct LaterRound {
+pub(crate) struct LaterRound {
     pub t: u32,
     pub ghost low: { 16 ≤ t },
     pub ghost high: { t < 64 },
@@ -19,7 +19,7 @@ pub struct LaterRound {
 
 /// The number of a word of a state.
 #[derive(Clone, Copy)]
-pub struct StateWord {
+pub(crate) struct StateWord {
     pub i: u32,
     pub ghost high: { i < 8 },
 }

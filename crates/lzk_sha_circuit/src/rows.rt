@@ -3,14 +3,14 @@
 ghost use Rattle.std.specs.Prelude.{◌≡◌, ℕ, ◌≤◌, List, [], ◌∷◌, length, IfOk, OnOk};
 ghost use Rattle.lzk_goldilocks.specs.Elements.{ops};
 ghost use Rattle.lzk_goldilocks.specs.declared.element.Gold.{Gold};
-ghost use Rattle.lzk_reduce.specs.Rows.{IsRow, row_value, ordered};
+ghost use Rattle.lzk_circuit_reduce.specs.Rows.{IsRow, row_value, ordered};
 ghost use Rattle.lzk_sha_circuit.specs.Products.{AreWithin, products_value};
 ghost use Rattle.lzk_sha_circuit.specs.Layers.{one_row, Grows};
 
 use crate::products::Product;
 use lzk_circuit::Term;
+use lzk_circuit_reduce::{add_term, append, merged};
 use lzk_goldilocks::Gold;
-use lzk_reduce::{add_term, append, merged};
 use std::alloc::{AllocError, Global};
 
 // So many products are added to a row one by one.
@@ -50,7 +50,7 @@ fn row_of(alloc: Global, products: &[Product<Gold>]) -> Result<Vec<Term<Gold>>, 
 }
 
 // Appends what the products add up to as the terms of a wire, which is the next one.
-pub fn push_row(
+pub(crate) fn push_row(
     alloc: Global,
     wire: u32,
     products: &[Product<Gold>],

@@ -8,14 +8,6 @@ use lzk_field::Field;
 use lzk_goldilocks::Gold;
 use std::alloc::{AllocError, Global};
 
-// A word that is an element.
-fn word(x: Gold) -> u32
-    requires { number x < 2 ^ 32 }
-    ensures { result ≡ number x }
-{
-    x.number() as u32
-}
-
 /// Words that are elements.
 pub fn numbers_of(alloc: Global, elements: &[Gold]) -> Result<Vec<u32>, AllocError>
     requires { (k : ℕ) → k < length elements.now → number (entry ops elements.now k) < 2 ^ 32 }
@@ -23,7 +15,7 @@ pub fn numbers_of(alloc: Global, elements: &[Gold]) -> Result<Vec<u32>, AllocErr
 {
     let mut words = Vec::new(alloc);
     for i in 0..elements.len() {
-        words.push(word(elements[i]))?;
+        words.push(elements[i].number() as u32)?;
     }
     Ok(words)
 }

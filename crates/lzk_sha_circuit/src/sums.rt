@@ -15,7 +15,7 @@ use lzk_goldilocks::Gold;
 use std::alloc::AllocError;
 
 // What a word is worth, times a scale.
-pub fn push_worth(
+pub(crate) fn push_worth(
     given: &Given,
     scale: Gold,
     word: Placed,
@@ -32,7 +32,7 @@ pub fn push_worth(
 }
 
 // What private inputs in a row are worth, times a scale.
-pub fn push_row_worth(
+pub(crate) fn push_row_worth(
     scale: Gold,
     row: Row,
     products: &mut Vec<Product<Gold>>,
@@ -47,7 +47,7 @@ pub fn push_row_worth(
 }
 
 // What a word is worth that is the exclusive or of 32 wires and a word whose places move.
-pub fn push_or_word(
+pub(crate) fn push_or_word(
     given: &Given,
     ors: Ors,
     word: Placed,
@@ -70,7 +70,7 @@ pub fn push_or_word(
 }
 
 // What Ch of three words is worth.
-pub fn push_ch(
+pub(crate) fn push_ch(
     given: &Given,
     e: Placed,
     f: Placed,
@@ -90,7 +90,7 @@ pub fn push_ch(
 }
 
 // What Maj of three words is worth, where 32 wires are the exclusive or of the first two.
-pub fn push_maj(
+pub(crate) fn push_maj(
     given: &Given,
     x: Placed,
     y: Placed,
@@ -112,7 +112,7 @@ pub fn push_maj(
 }
 
 // Less a word, and 2^32 times its carry.
-pub fn push_carry(word: Carried, products: &mut Vec<Product<Gold>>) -> Result<(), AllocError>
+pub(crate) fn push_carry(word: Carried, products: &mut Vec<Product<Gold>>) -> Result<(), AllocError>
     ensures { OnOk result (products.new.items ≡ products.old.items ++ carry_list ops of_number word.place word.bits) }
 {
     let Carried { place, bits } = word;

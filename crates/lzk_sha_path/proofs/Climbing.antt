@@ -198,14 +198,3 @@ climbs_exactly n leaf root layers count some ll lr e h = (
   λ s. climb_forward n leaf root s.0 some ll lr (s.1 ∙ e) ((h s.0 (s.1 ∙ e)).0 s.2),
   λ c. let s = climb_backward n leaf root some lr c in (s.0, s.1 ∙ sym e, (h s.0 s.1).1 s.2),
 )
-
--- a level and levels above it
-pub climbing_more : (n : ℕ) → 1 ≤ n → (leaf root private : List Gold)
-    → (IsLevel leaf (between private) (take 6889 private) × AreClimbing n (between private) root (drop 6897 private)) ↔ AreClimbing (n + 1) leaf root private
-climbing_more zero some leaf root private = absurd (omega (arith, some))
-climbing_more (suc n) some leaf root private =
-    let e : suc (suc n) ≡ suc n + 1 = omega arith in
-    subst (λ (k : ℕ). (IsLevel leaf (between private) (take 6889 private) × AreClimbing (suc n) (between private) root (drop 6897 private)) ↔ AreClimbing k leaf root private) e (λ h. h, λ h. h)
-
-pub levels_more : (whole level rest first upper all : Type 0) → whole ↔ (level × rest) → level ↔ first → rest ↔ upper → (first × upper) ↔ all → whole ↔ all
-levels_more whole level rest first upper all f g h k = (λ w. let (a, b) = f.0 w in k.0 (g.0 a, h.0 b), λ x. let (a, b) = k.1 x in f.1 (g.1 a, h.1 b))

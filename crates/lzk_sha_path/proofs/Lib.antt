@@ -4,6 +4,7 @@ pub mod Worth
 pub mod Blocks
 pub mod NodeBits
 pub mod LevelLaws
+pub mod Levels
 pub mod Climbing
 pub mod Made
 pub mod Trees

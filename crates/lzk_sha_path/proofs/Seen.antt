@@ -7,9 +7,9 @@ use Rattle.std.proofs.Math.Seq.{take-append-add, drop-append-add, take-append_se
 use Rattle.lzk_field.specs.Ring.{Ops}
 use Rattle.lzk_field.specs.Sums.{entry}
 use Rattle.lzk_circuit.specs.Wires.{inputs_of}
-use Rattle.lzk_reduce.specs.Renumbering.{at, AreNumbersBelow}
-use Rattle.lzk_beside.specs.Chosen.{chosen}
-use Rattle.lzk_beside.proofs.PlaceLaws.{row_below, both_below}
+use Rattle.lzk_circuit_reduce.specs.Renumbering.{at, AreNumbersBelow}
+use Rattle.lzk_circuit_beside.specs.Chosen.{chosen}
+use Rattle.lzk_circuit_beside.proofs.PlaceLaws.{row_below, both_below}
 
 -- ---- rows of places
 map_same : (xs : List ℕ) → map (λ x. x) xs ≡ xs

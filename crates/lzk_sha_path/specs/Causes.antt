@@ -1,7 +1,7 @@
 -- When a depth has no circuit.
 use Rattle.std.specs.Prelude.{◌≡◌, ℕ, ◌<◌, ◌⊎◌, List}
 use Rattle.lzk_profile.specs.Profile.{most_levels}
-use Rattle.lzk_beside.specs.Levels.{IsCause}
+use Rattle.lzk_circuit_beside.specs.Levels.{IsCause}
 use Rattle.lzk_circuit.specs.Valid.{Wiring}
 use Rattle.lzk_goldilocks.specs.declared.element.Gold.{Gold}
 use Rattle.lzk_level.specs.Bounds.{IsLevelError}

@@ -1,6 +1,9 @@
 -- Paths from a leaf to a root, in terms of elements and in terms of nodes.
-use Rattle.std.specs.Prelude.{◌≡◌, ℕ, zero, suc, ◌-◌, ◌*◌, ◌^◌, ◌<◌, List, length, map, take, drop}
-use Rattle.lzk_goldilocks.specs.Elements.{of_number}
+use Rattle.std.specs.Prelude.{◌≡◌, ℕ, zero, suc, ◌-◌, ◌*◌, ◌^◌, ◌<◌, ◌↔◌, List, ◌++◌, length, map, take, drop}
+use Rattle.lzk_circuit.specs.Checks.{IsSatisfied}
+use Rattle.lzk_circuit.specs.Valid.{Wiring}
+use Rattle.lzk_circuit.specs.Wires.{inputs_of}
+use Rattle.lzk_goldilocks.specs.Elements.{ops, number, of_number}
 use Rattle.lzk_goldilocks.specs.declared.element.Gold.{Gold}
 use Rattle.lzk_sha_circuit.specs.Compression.{IsState}
 use Rattle.lzk_sha_path.specs.Levels.{IsLevel}
@@ -17,6 +20,10 @@ private_count depth = 6897 * depth - 8
 -- the words of the first level's upper node, where there are further levels
 abbrev pub between : List Gold → List Gold
 between private = take 8 (drop level_count private)
+
+-- the words of the node above so many levels, where there are further levels
+abbrev pub middle_of : ℕ → List Gold → List Gold
+middle_of count private = take 8 (drop (private_count count) private)
 
 -- so many levels lead from the words of a leaf to those of a root
 abbrev pub AreClimbing : ℕ → List Gold → List Gold → List Gold → Type 0
@@ -38,3 +45,12 @@ pub record IsClimb (depth : ℕ) (leaf root : List Gold) : Type 0 where
   pub within : index < 2 ^ depth
   pub leaf_is : leaf ≡ map of_number node
   pub root_is : root ≡ map of_number (root_of node index siblings)
+
+-- a circuit has the inputs of so many levels, and these lead from the words of a leaf to those of a root
+pub record IsOfLevels (count : ℕ) (c : Wiring Gold) : Type 0 where
+  pub version : c.version ≡ 1
+  pub publics : c.publics ≡ 16
+  pub privates : c.privates ≡ private_count count
+  pub satisfied : (leaf root private : List Gold) → length leaf ≡ 8 → length root ≡ 8
+      → length private ≡ private_count count
+      → IsSatisfied ops number c.layers (inputs_of ops (leaf ++ root) private) ↔ AreClimbing count leaf root private

@@ -3,7 +3,7 @@
 ghost use Rattle.std.specs.Prelude.{◌≡◌};
 ghost use Rattle.lzk_sha_path.specs.declared.error.PathError.TheVariants.{OutOfMemory};
 
-use lzk_beside::BesideError;
+use lzk_circuit_beside::BesideError;
 use lzk_level::LevelError;
 use lzk_profile::MOST_LEVELS;
 use std::alloc::AllocError;

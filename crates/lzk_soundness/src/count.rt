@@ -55,7 +55,7 @@ pub fn number_laws<F: Field>()
     ensures false_gf128 { PassesByOneIn F.ops F.coding most_bad binary_share (2 ^ 128) }
 {}
 
-/// The same by the width of a row, in LZK1 64, 128, 256 or 512 elements: one in how many sets of columns misses, how
+/// The count by the width of a row, in LZK1 64, 128, 256 or 512 elements: one in how many sets of columns misses, how
 /// many elements are bad at most, and by one in how many pairs passes whoever has not committed to satisfying inputs.
 pub fn width_laws<F: Field>()
     ensures shortest { SharesHold F.ops F.coding shortest }

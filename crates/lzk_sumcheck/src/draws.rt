@@ -48,7 +48,7 @@ pub fn replay_round<F: Field>(tape: &mut Tape, messages: &[F], i: usize) -> F
 }
 
 /// The rounds whose elements begin at place `i`, for each bit that of a and then that of b.
-pub fn replay_rounds<F: Field>(
+pub(crate) fn replay_rounds<F: Field>(
     tape: &mut Tape,
     messages: &[F],
     i: usize,

@@ -73,7 +73,7 @@ fn replay_layers<F: Field>(
     }
 }
 
-// The same, of the list.
+// All layers of a list, the outputs' first.
 fn replay_list<F: Field>(
     circuit: &Circuit<F>,
     tape: &mut Tape,

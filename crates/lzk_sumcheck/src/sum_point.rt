@@ -8,7 +8,7 @@ use lzk_field::Field;
 /// The challenges of the rounds before a round, then the round's own variable, and then the bits of `z`, for wires that
 /// are numbered by so many bits.
 #[derive(Drop)]
-pub struct SumPoint<'a, F: Field> {
+pub(crate) struct SumPoint<'a, F: Field> {
     pub bits: usize,
     pub bound: &'a [F],
     pub t: F,

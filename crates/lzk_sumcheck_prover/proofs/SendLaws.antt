@@ -12,11 +12,11 @@ use Rattle.lzk_mle.proofs.TableLaws.{extension-one}
 use Rattle.lzk_circuit.specs.declared.layer.Term.{Term}
 use Rattle.lzk_circuit.specs.Valid.{ArePlaced}
 use Rattle.lzk_circuit.specs.Wires.{weighed}
-use Rattle.lzk_rounds.specs.Pairs.{first_pair, spread}
-use Rattle.lzk_rounds.specs.Rows.{IsKept, counted}
-use Rattle.lzk_rounds.specs.Tables.{KeptTables, AreKept}
-use Rattle.lzk_rounds.proofs.KeptLaws.{first-kept}
-use Rattle.lzk_rounds.proofs.LayerSends.{drawn-front}
+use Rattle.lzk_sumcheck_rounds.specs.Pairs.{first_pair, spread}
+use Rattle.lzk_sumcheck_rounds.specs.Rows.{IsKept, counted}
+use Rattle.lzk_sumcheck_rounds.specs.Tables.{KeptTables, AreKept}
+use Rattle.lzk_sumcheck_rounds.proofs.KeptLaws.{first-kept}
+use Rattle.lzk_sumcheck_rounds.proofs.LayerSends.{drawn-front}
 use Rattle.lzk_sumcheck.specs.Layers.{layer_of_terms}
 use Rattle.lzk_sumcheck.specs.Script.{with_pair, round_challenge}
 use Rattle.lzk_sumcheck.specs.Sending.{after_sent, drawn_sent, AreSent}

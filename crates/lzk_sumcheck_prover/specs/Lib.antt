@@ -1,2 +1,2 @@
 pub mod Scripts
-pub use Rattle.lzk_rounds.specs as lzk_rounds
+pub use Rattle.lzk_sumcheck_rounds.specs as lzk_sumcheck_rounds

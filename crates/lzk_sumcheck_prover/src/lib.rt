@@ -17,5 +17,5 @@ mod proving;
 mod sending;
 mod summing;
 
-pub use lzk_rounds::Rounds;
-pub use proving::prove_layers;
+pub use lzk_sumcheck_rounds::Rounds;
+pub use proving::{Assigned, prove_assigned, prove_layers};

@@ -15,8 +15,8 @@ ghost use Rattle.lzk_sumcheck.specs.Coefficients.{terms_at, AreBounds};
 ghost use Rattle.lzk_sumcheck.specs.Draws.{draws};
 ghost use Rattle.lzk_sumcheck.specs.Layers.{layer_of_terms};
 ghost use Rattle.lzk_sumcheck.specs.Messages.{IsLayerSent, AreMessages};
-ghost use Rattle.lzk_rounds.specs.Orders.{IsOrderOf};
-ghost use Rattle.lzk_rounds.specs.Room.{IsRoomOf};
+ghost use Rattle.lzk_sumcheck_rounds.specs.Orders.{IsOrderOf};
+ghost use Rattle.lzk_sumcheck_rounds.specs.Room.{IsRoomOf};
 ghost use Rattle.lzk_sumcheck.specs.Rounds.{bound_coefficient};
 ghost use Rattle.lzk_sumcheck.specs.Script as spec;
 ghost use Rattle.lzk_sumcheck.specs.Script.{with_pair, after_first, after_rounds, round_challenge, layer_script};
@@ -25,71 +25,15 @@ ghost use Rattle.lzk_sumcheck.specs.Sending.{AreRoundsSent};
 ghost use Rattle.lzk_sumcheck.specs.Weights.{weighted};
 ghost use Rattle.lzk_sumcheck_prover.specs.Scripts.{HaveBits};
 
-use crate::layer::{PaddedLayer, send_layer};
+use crate::layer::{PaddedLayer, prove_layer};
 use lzk_circuit::{Circuit, Values};
-use lzk_crew::Crew;
 use lzk_field::{Field, Open};
-use lzk_hands::Hands;
 use lzk_layout::LayerPlaces;
-use lzk_rounds::{LayerTerms, Order, Rounds, Tables};
-use lzk_sumcheck::{LayerScript, LayerScripts, Script, draw_all, draw_beta};
+use lzk_sumcheck::{LayerScript, Script, draw_all};
+use lzk_sumcheck_rounds::{LayerTerms, Order, Rounds, Tables};
 use lzk_transcript::Tape;
-
-// A layer: alpha and beta are drawn, and the rounds and the factors are sent; gives what the coefficients come to. The
-// tables are those of the layer's two points, and then those of the layer below; `weights` has a place for each wire.
-fn prove_layer<R: Hands, F: Field, G>(
-    layer: &PaddedLayer<R, F, G>,
-    tape: &mut Tape,
-    version: u8,
-    script: &mut LayerScript<F>,
-    tables: &mut Tables<F>,
-    weights: &mut [F],
-    sent: &mut [F],
-) -> F
-    requires bits { HasBits layer.now.bits script.old }
-    requires terms { ArePlaced (length weights.old) (length layer.now.of.values.now) None layer.now.of.terms.now }
-    requires order { IsOrderOf layer.now.of.terms.now layer.now.of.order.now }
-    requires first { length weights.old ≤ length tables.old.first }
-    requires second { length weights.old ≤ length tables.old.second }
-    requires places { 2 ^ layer.now.bits ≤ tables.old.room.places }
-    requires pairs { length layer.now.of.terms.now ≤ tables.old.room.pairs }
-    requires room { length sent.old ≡ 4 * layer.now.bits + 2 }
-    ensures room { tables.new.room ≡ tables.old.room }
-    ensures script { script.new ≡ layer_script F.ops F.coding sent.new version 0 layer.now.bits tape.old }
-    ensures after { tape.new ≡ after_layer F.ops F.coding sent.new version 0 layer.now.bits tape.old }
-    ensures rounds { let o = F.ops in let k = layer.now in
-        let w = weighted o script.new.alpha tables.old.first tables.old.second (length weights.old) in
-        AreRoundsSent o F.coding.element (layer_of_terms o k.of.terms.now script.new.beta w k.of.values.now k.bits)
-        (map (round_challenge o F.coding sent.new 0 (after_first version tape.old)) (range_with_len 0 (2 * k.bits)))
-        k.pads.now sent.new }
-    ensures factor_a { let o = F.ops in let k = layer.now in entry o sent.new (4 * k.bits)
-        ≡ minus o (tilde o k.of.values.now script.new.ra) (entry o k.pads.now (4 * k.bits)) }
-    ensures factor_b { let o = F.ops in let k = layer.now in entry o sent.new (4 * k.bits + 1)
-        ≡ minus o (tilde o k.of.values.now script.new.rb) (entry o k.pads.now (4 * k.bits + 1)) }
-    ensures bound { let w = weighted F.ops script.new.alpha tables.old.first tables.old.second (length weights.old) in
-        result ≡ bound_coefficient F.ops (layer_coefficient F.ops layer.now.of.terms.now script.new.beta) w
-        (length layer.now.of.values.now) script.new.ra script.new.rb }
-    ensures first_length { length tables.new.first ≡ 2 ^ layer.now.bits }
-    ensures second_length { length tables.new.second ≡ 2 ^ layer.now.bits }
-    ensures first { (i : ℕ) → i < 2 ^ layer.now.bits → entry F.ops tables.new.first i ≡ eq F.ops i script.new.ra }
-    ensures second { (i : ℕ) → i < 2 ^ layer.now.bits → entry F.ops tables.new.second i ≡ eq F.ops i script.new.rb }
-{
-    script.alpha = tape.draw();
-    script.beta = draw_beta(version, tape);
-    tables.weigh(script.alpha, weights);
-    let bound = send_layer(
-        layer,
-        tape,
-        script.beta,
-        weights,
-        tables,
-        sent,
-        script.ra.as_mut_slice(),
-        script.rb.as_mut_slice(),
-    );
-    tables.set_points(script.ra.as_slice(), script.rb.as_slice());
-    bound
-}
+use lzk_work_crew::Crew;
+use lzk_work_threads::Hands;
 
 // So many entries of a list, from a place on.
 fn part<F: Field>(list: &[F], begin: usize, count: usize) -> &[F]
@@ -100,14 +44,17 @@ fn part<F: Field>(list: &[F], begin: usize, count: usize) -> &[F]
     &list[begin..begin + count]
 }
 
-// A circuit, the values of its wires, and pads for what is sent.
+/// A circuit, the values of its wires, and pads for what is sent.
 #[derive(Drop)]
-struct Assigned<'a, F: Field> {
-    circuit: &'a Circuit<F>,
-    values: &'a Values<F>,
-    pads: &'a [F],
-    ghost widths: { HaveWidths circuit.now values.now.wires },
-    ghost count: { length pads.now ≡ sent_counts circuit.now },
+pub struct Assigned<'a, F: Field> {
+    /// The circuit.
+    pub circuit: &'a Circuit<F>,
+    /// The values of its wires.
+    pub values: &'a Values<F>,
+    /// A pad for each element that is sent.
+    pub pads: &'a [F],
+    pub ghost widths: { HaveWidths circuit.now values.now.wires },
+    pub ghost count: { length pads.now ≡ sent_counts circuit.now },
 }
 
 // What is given to all layers: who sums their rounds, what is assigned, and orders of their terms.
@@ -180,32 +127,25 @@ fn prove_list<R: Hands, F: Field, G>(
     }
 }
 
-// The same, with the room and the list of scripts.
-fn prove_scripts<R: Hands, F: Field, G>(
+/// As [`prove_layers`], for a caller that has a crew and what is assigned. No gate is entered.
+pub fn prove_assigned<R: Hands, F: Field, G>(
     crew: &Crew<R, G>,
     on: &Assigned<F>,
     tape: &mut Tape,
     room: &mut Rounds<F>,
     messages: &mut [F],
-    point: &mut [F],
-    layers: &mut LayerScripts<F>,
+    script: &mut Script<F>,
 )
-    requires made { IsRoomOf on.now.circuit.now room.old }
+    requires room { IsRoomOf on.now.circuit.now room.old }
     requires messages { length messages.old ≡ sent_counts on.now.circuit.now }
-    requires point { length point.old ≡ output_bits on.now.circuit.now }
-    requires layers { HaveBits on.now.circuit.now layers.old }
-    ensures made { IsRoomOf on.now.circuit.now room.new }
-    ensures point { point.new ≡ draws F.coding 0 (output_bits on.now.circuit.now) tape.old }
-    ensures scripts { let c = on.now.circuit.now in
-        layers.new ≡ layer_scripts F.ops F.coding messages.new c (after_draws (output_bits c) tape.old) }
-    ensures after { let c = on.now.circuit.now in
-        tape.new ≡ after_layers F.ops F.coding messages.new c (depth c) (after_draws (output_bits c) tape.old) }
-    ensures sent { let c = on.now.circuit.now in
-        (l : ℕ) → l < depth c
-        → IsLayerSent F.ops F.coding.element c (spec.script F.ops F.coding messages.new c tape.old)
-        on.now.values.now.wires on.now.pads.now messages.new l }
-    ensures bounds { let c = on.now.circuit.now in
-        AreBounds F.ops c (spec.script F.ops F.coding messages.new c tape.old) room.new.bounds }
+    requires shape { HasShape on.now.circuit.now script.old }
+    ensures messages { let s = on.now in
+        AreMessages F.ops F.coding s.circuit.now s.values.now.wires s.pads.now tape.old messages.new }
+    ensures script { script.new ≡ spec.script F.ops F.coding messages.new on.now.circuit.now tape.old }
+    ensures tape { tape.new ≡ after_script F.ops F.coding messages.new on.now.circuit.now tape.old }
+    ensures shape { HasShape on.now.circuit.now script.new }
+    ensures room { IsRoomOf on.now.circuit.now room.new }
+    ensures bounds { AreBounds F.ops on.now.circuit.now script.new room.new.bounds }
 {
     let given = Given {
         crew,
@@ -219,9 +159,10 @@ fn prove_scripts<R: Hands, F: Field, G>(
         &mut room.weights,
         &mut room.bounds,
         messages,
-        point,
-        &mut layers.list,
+        script.out_point.as_mut_slice(),
+        &mut script.layers.list,
     );
+    script.gamma = tape.draw();
 }
 
 /// Does the writes and draws of `lzk_sumcheck::replay` on the messages that it sets: each is the true value less its
@@ -263,14 +204,5 @@ pub fn prove_layers<R: Hands, F: Field>(
         values,
         pads,
     };
-    prove_scripts(
-        &crew,
-        &on,
-        tape,
-        room,
-        messages,
-        script.out_point.as_mut_slice(),
-        &mut script.layers,
-    );
-    script.gamma = tape.draw();
+    prove_assigned(&crew, &on, tape, room, messages, script);
 }

@@ -5,19 +5,19 @@ ghost use Rattle.lzk_field.specs.Sums.{minus, entry};
 ghost use Rattle.lzk_mle.specs.Multilinear.{tilde};
 ghost use Rattle.lzk_transcript.specs.Tape.{drawn, after_draw};
 ghost use Rattle.lzk_sumcheck.specs.Rounds.{every_other};
-ghost use Rattle.lzk_rounds.specs.Rows.{round_at};
+ghost use Rattle.lzk_sumcheck_rounds.specs.Rows.{round_at};
 ghost use Rattle.lzk_sumcheck.specs.Script.{with_pair};
 ghost use Rattle.lzk_sumcheck.specs.Sending.{after_sent, drawn_sent, AreSent};
 ghost use Rattle.lzk_sumcheck.specs.States.{State, after};
-ghost use Rattle.lzk_rounds.specs.Tables.{AreKept};
+ghost use Rattle.lzk_sumcheck_rounds.specs.Tables.{AreKept};
 
 use crate::summing::sums;
-use lzk_crew::Crew;
 use lzk_field::Field;
-use lzk_hands::Hands;
-use lzk_rounds::{Last, RoundSums, Tables};
 use lzk_sumcheck::replay_round;
+use lzk_sumcheck_rounds::{Last, RoundSums, Tables};
 use lzk_transcript::Tape;
+use lzk_work_crew::Crew;
+use lzk_work_threads::Hands;
 
 // Sends a round's values at points 0 and 2, and draws its challenge.
 fn send_round<F: Field>(tape: &mut Tape, sums: RoundSums<F>, pads: &[F], sent: &mut [F]) -> F

@@ -2,14 +2,14 @@
 
 ghost use Rattle.std.specs.Prelude.{◌≡◌, ℕ, ◌+◌, ◌-◌, ◌*◌, ◌/◌, ◌^◌, ◌<◌, ◌≤◌, min, length};
 ghost use Rattle.lzk_sumcheck.specs.States.{State, bind_state, total};
-ghost use Rattle.lzk_rounds.specs.Parts.{AreSums, BeginsWithSums};
-ghost use Rattle.lzk_rounds.specs.Rows.{round_at, row_at};
-ghost use Rattle.lzk_rounds.specs.Tables.{AreKept};
+ghost use Rattle.lzk_sumcheck_rounds.specs.Parts.{AreSums, BeginsWithSums};
+ghost use Rattle.lzk_sumcheck_rounds.specs.Rows.{round_at, row_at};
+ghost use Rattle.lzk_sumcheck_rounds.specs.Tables.{AreKept};
 
-use lzk_crew::Crew;
 use lzk_field::Field;
-use lzk_hands::{Hands, for_each_chunk_mut};
-use lzk_rounds::{RoundSums, SUMS, Summed, Tables, add_parts, sum_part, sum_whole};
+use lzk_sumcheck_rounds::{RoundSums, SUMS, Summed, Tables, add_parts, sum_part, sum_whole};
+use lzk_work_crew::Crew;
+use lzk_work_threads::{Hands, for_each_chunk_mut};
 
 /// How many pairs and entries of a table make a part that is worth a thread: to start one takes as long as some
 /// thousands of them.
@@ -17,34 +17,35 @@ const WORTH_A_THREAD: usize = 10_000;
 
 // In how many parts a round over so many pairs and entries is summed: at most one for each worker, and each worth a
 // thread.
-fn parts_of(workers: usize, pairs: usize, entries: usize) -> usize
-    requires { 1 ≤ workers }
+fn parts_of<R, G>(crew: &Crew<R, G>, pairs: usize, entries: usize) -> usize
     ensures some { 1 ≤ result }
-    ensures few { result ≤ workers }
+    ensures few { result ≤ 64 }
 {
     let worth = pairs / WORTH_A_THREAD + entries / WORTH_A_THREAD;
     if worth < 2 {
         1
-    } else if worth < workers {
+    } else if worth < crew.workers {
         worth
     } else {
-        workers
+        crew.workers
     }
 }
 
-// Sums the round in so many parts at most, each by a worker with rows of its own.
-fn sum_in_parts<R: Hands, F: Field>(
-    rt: &R,
-    parts: usize,
+// Sums a round, in parts where each is worth a worker, which has rows of its own. The sums are the same for every
+// number of workers. `rows` is written over.
+fn sum_round<R: Hands, F: Field, G>(
+    crew: &Crew<R, G>,
     round: &Summed<F>,
     rows: &mut [F],
 ) -> RoundSums<F>
-    requires some { 1 ≤ parts }
-    requires few { parts ≤ 64 }
-    requires rows { length round.now.first.now + 3 * 64 ≤ length rows.old }
+    requires { length round.now.first.now + 3 * 64 ≤ length rows.old }
     ensures { let r = round.now in
         AreSums F.ops (row_at F.ops r.of_a r.pairs.now r.scale r.linear.now r.second.now) r.first.now result }
 {
+    let parts = parts_of(crew, round.pairs.len(), round.first.len());
+    if parts == 1 {
+        return sum_whole(round, rows);
+    }
     let each = round.first.len().div_ceil(2).div_ceil(parts);
     let count = round.first.len().div_ceil(2 * each);
     let size = SUMS + 2 * each;
@@ -60,27 +61,8 @@ fn sum_in_parts<R: Hands, F: Field>(
     {
         sum_part(round, start / size, each, part);
     };
-    for_each_chunk_mut(rt, used, size, &one);
+    for_each_chunk_mut(crew.rt, used, size, &one);
     add_parts(used, size, count)
-}
-
-/// Sums a round, in parts where each is worth a worker. The sums are the same for every number of workers. `rows` is
-/// written over.
-pub(crate) fn sum_round<R: Hands, F: Field, G>(
-    crew: &Crew<R, G>,
-    round: &Summed<F>,
-    rows: &mut [F],
-) -> RoundSums<F>
-    requires { length round.now.first.now + 3 * 64 ≤ length rows.old }
-    ensures { let r = round.now in
-        AreSums F.ops (row_at F.ops r.of_a r.pairs.now r.scale r.linear.now r.second.now) r.first.now result }
-{
-    let parts = parts_of(crew.workers, round.pairs.len(), round.first.len());
-    if parts == 1 {
-        sum_whole(round, rows)
-    } else {
-        sum_in_parts(crew.rt, parts, round, rows)
-    }
 }
 
 /// The sums of a round.

@@ -8,19 +8,19 @@ use Rattle.lzk_expr.proofs.Tables.{bytes_same}
 use Rattle.lzk_expr.specs.Trees.{SourceTree, is_public, is_private}
 use Rattle.lzk_level.specs.Compiled.{field_of, publics_of, privates_of}
 use Rattle.lzk_outside.specs.Outside.{Files, with_file}
-use Rattle.lzk_cmd_runs.specs.Chains.{AreChained}
+use Rattle.lzk_cmd.specs.Chains.{AreChained}
 use Rattle.lzk_cmd_circuits.specs.Compiled.{CompiledAs, CompileRun, PutsCompiled}
-use Rattle.lzk_cmd_runs.specs.Complete.{HasNumbers, HasInputsOf, IsReady, Completed}
+use Rattle.lzk_cmd.specs.Complete.{HasNumbers, HasInputsOf, IsReady, Completed}
 use Rattle.lzk_cmd_files.specs.Decoded.{source_files}
 use Rattle.lzk_cmd_files.specs.Ends.{End, Nowhere, Leaves}
 use Rattle.lzk_cmd_files.specs.Faults.{Faulted}
-use Rattle.lzk_cmd_runs.specs.Run.{RunOf}
-use Rattle.lzk_cmd_runs.specs.Sights.{Before, After}
+use Rattle.lzk_cmd.specs.Run.{RunOf}
+use Rattle.lzk_cmd.specs.Sights.{Before, After}
 use Rattle.lzk_cmd_words.specs.declared.words.Version.{Version}
 use Rattle.lzk_cmd_words.specs.declared.words.Version.TheVariants.{One, Two}
 use Rattle.lzk_cmd_words.specs.Words.{Eval, Compile}
 use Rattle.lzk_cmd_files.proofs.Laws.{sources}
-use Rattle.lzk_cmd_runs.proofs.Ready.{run_command, ready}
+use Rattle.lzk_cmd.proofs.Ready.{run_command, ready}
 
 -- what never fails has no fault
 pub no_fault : (never : Bool) (before now : ℕ) → IsTrue never → Faulted never before now → ⊥

@@ -1,4 +1,4 @@
-//! Tests of `lzk_ntt` and `lzk_afft`, beside lzk_poly's extender and rows computed elsewhere.
+//! Tests of `lzk_poly_ntt` and `lzk_afft`, beside lzk_poly's extender and rows computed elsewhere.
 //!
 //! They stand above what they test, so that those crates are proved once and not again with their tests.
 

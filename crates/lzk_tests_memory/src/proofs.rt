@@ -8,7 +8,7 @@ use lzk_circuit::Circuit;
 use lzk_field::{Field, Gate, Seeded};
 use lzk_goldilocks::Gold;
 use lzk_ligero::WorksOver;
-use lzk_ntt::NttExtender;
+use lzk_poly_ntt::NttExtender;
 use sha2::{Digest, Sha256};
 use std::alloc::{AllocError, Global};
 use std::marker::Sync;

@@ -23,7 +23,7 @@ fn end_with<T: Threads + Sync>(
     credential: &[String],
     status: u8,
 ) -> bool {
-    lzk_main::run_words(rt, threads, zk) == ExitCode::from(status)
+    lzk_cmd::run_words(rt, threads, zk) == ExitCode::from(status)
         && lzk_credential_run::run_words(rt, threads, credential) == ExitCode::from(status)
 }
 

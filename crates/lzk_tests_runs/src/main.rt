@@ -16,7 +16,7 @@ mod script;
 
 use crate::program::end_as_listed;
 use crate::script::{Tally, played};
-use lzk_main::run_program;
+use lzk_cmd::run_program;
 use std::marker::Sync;
 use std::process::ExitCode;
 use std::rt::Files;

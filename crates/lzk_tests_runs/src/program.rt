@@ -41,7 +41,7 @@ fn ends<T: Threads + Sync>(
     status: u8,
 ) -> Result<bool, AllocError> {
     let words = words_of(rt.alloc(), text)?;
-    Ok(lzk_main::run_words(rt, threads, &words) == ExitCode::from(status))
+    Ok(lzk_cmd::run_words(rt, threads, &words) == ExitCode::from(status))
 }
 
 // Whether words of `zk-credential` end with a status.

@@ -19,7 +19,7 @@ fn passed(picked: &[u32], left: u32) -> usize
 }
 
 /// Puts that column into its place. The last place of the slice is free.
-pub fn insert(columns: &mut [u32], left: u32)
+pub(crate) fn insert(columns: &mut [u32], left: u32)
     requires some { 0 < length columns.old }
     requires room { left + length columns.old < 2 ^ 32 }
     ensures { columns.new ≡ put_in (take (length columns.old - 1) columns.old) left }

@@ -6,7 +6,7 @@ ghost use Rattle.std.specs.Prelude.{◌≡◌, ◌*◌, length, map};
 use lzk_field::Field;
 
 /// Writes the elements' bytes.
-pub fn write_elements<F: Field>(elements: &[F], out: &mut [u8])
+pub(crate) fn write_elements<F: Field>(elements: &[F], out: &mut [u8])
     requires { length out.old ≡ length elements.now * F.coding.bytes }
     ensures { out.new ≡ elements_bytes F.coding.bytes (map F.coding.number elements.now) }
 {

@@ -8,7 +8,6 @@ use Rattle.lzk_field.specs.Ring.{Ops, Laws}
 use Rattle.lzk_circuit.specs.Valid.{Wiring}
 use Rattle.lzk_layout.specs.declared.fault.ProofFault.{ProofFault}
 use Rattle.lzk_layout.specs.declared.fault.ProofKind.{ProofKind}
-use Rattle.lzk_layout.specs.declared.fault.Stop.{Stop}
 use Rattle.lzk_layout.specs.declared.params.Params.{Params}
 use Rattle.lzk_layout.specs.declared.proof.Proof.{Proof}
 use Rattle.lzk_layout.specs.Fields.{Shape, shape, proof_at, ProofFaultAt}
@@ -86,7 +85,7 @@ module _ {A : Type 0} (o : Ops A) (e : Coding A) (c : Wiring A) (laws : Laws o e
       no_fault : (fs : List (List ℕ)) (offset : ℕ) (kind : ProofKind) → proof_at s p bytes ≡ Ok fs → ¬ ProofFaultAt s p bytes offset kind
       no_fault fs offset kind is fault = absurd (let both = sym is ∙ fault.0 in cc)
 
-      go : (r : Result (List (List ℕ)) Stop) → proof_at s p bytes ≡ r → (v : Verdict A) × IsVerdict o e c session public bytes v
+      go : (r : Result (List (List ℕ)) _) → proof_at s p bytes ≡ r → (v : Verdict A) × IsVerdict o e c session public bytes v
       go (Err d) is =
           let fault : ProofFault = record { offset = length bytes - d.left; kind = d.kind } in
           (Format fault, inl (record { fault = fault; first = fault_found s p bytes d.left d.kind is; is = refl }))

@@ -1,7 +1,6 @@
 //! How the answers are checked at an opened column.
 
 ghost use Rattle.std.specs.Prelude.{◌≡◌, ℕ, ◌+◌, ◌<◌, ◌↔◌, IsTrue, List, length};
-ghost use Rattle.lzk_accept.specs.Challenges.{HasShape};
 ghost use Rattle.lzk_accept.specs.Checks.{combined_row_of, wanted_of};
 ghost use Rattle.lzk_accept.specs.Factored.{HasRoomFor};
 ghost use Rattle.lzk_accept.specs.Kept.{AreFormsOf};
@@ -10,17 +9,16 @@ ghost use Rattle.lzk_verify.specs.Desk.{AreRooms, AreWeightedRows, HasRoom, weig
 ghost use Rattle.lzk_verify.specs.Extending.{weighted};
 ghost use Rattle.lzk_verify.specs.Kept.{messages_in};
 
-use crate::column::Column;
-use crate::combining::combine_constraints;
+use crate::column::{Column, ColumnCheck};
 use crate::drawing::Drawn;
-use crate::extending::{last_factor, set_inverses};
+use crate::extending::{Behind, last_factor, set_inverses};
 use crate::linear::is_linear_at;
 use crate::low_degree::is_low_degree_at;
 use crate::quadratic::is_quadratic_at;
 use crate::room::Room;
 use crate::sent::{Sent, messages_of};
 use crate::weighted::weigh_rows;
-use lzk_accept::Challenges;
+use lzk_accept::combine_factored;
 use lzk_field::Field;
 
 /// Which answers are right at a column.
@@ -55,11 +53,12 @@ impl<F: Field> Room<F> {
             ≡ weighted_answers F.ops F.coding.element sent.now.plan.now.params sent.now.elements.now }
     {
         let plan = sent.plan;
-        let wanted = combine_constraints(
-            plan,
+        let wanted = combine_factored(
+            plan.circuit,
             public,
+            &drawn.script,
             messages_of(sent),
-            drawn,
+            &drawn.challenges,
             &mut self.linear.forms,
             &mut self.linear.combined,
         );
@@ -71,60 +70,47 @@ impl<F: Field> Room<F> {
     }
 
     /// Which answers are right at this column.
-    pub(crate) fn check_column(
-        &mut self,
-        index: u32,
-        column: &Column<'_, '_, F>,
-        challenges: &Challenges<F>,
-    ) -> RightAnswers
+    pub(crate) fn check_column(&mut self, index: u32, column: &Column<'_, '_, F>) -> RightAnswers
         requires rooms { AreRooms column.now.plan.now.params self.old }
         requires index { index < column.now.plan.now.params.mcol }
-        requires challenges { HasShape column.now.plan.now.params challenges.now }
         ensures low_degree { let p = column.now.plan.now.params in (values : List F) →
             self.old.answers.ldt ≡ weighted F.ops F.coding.element values → (IsTrue result.low_degree ↔
-            IsLowDegreeIn F.ops F.coding.element p column.now.elements.now (p.dblock + index) values challenges.now.u) }
+            IsLowDegreeIn F.ops F.coding.element p column.now.elements.now (p.dblock + index) values
+            column.now.challenges.now.u) }
         ensures linear { let p = column.now.plan.now.params in (values : List F) (lists : ℕ → List F) →
             self.old.answers.dot ≡ weighted F.ops F.coding.element values →
             AreWeightedRows F.ops F.coding.element p self.old.combined lists → (IsTrue result.linear ↔
             IsLinearIn F.ops F.coding.element p column.now.elements.now (p.dblock + index) values lists) }
         ensures quadratic { let p = column.now.plan.now.params in (values : List F) →
             self.old.answers.quadratic ≡ weighted F.ops F.coding.element values → (IsTrue result.quadratic ↔
-            IsQuadraticIn F.ops F.coding.element p column.now.elements.now (p.dblock + index) values challenges.now.v) }
+            IsQuadraticIn F.ops F.coding.element p column.now.elements.now (p.dblock + index) values
+            column.now.challenges.now.v) }
         ensures room { self.new ≡ self.old }
     {
-        let plan = column.plan;
-        let point = plan.params.dblock + index;
-        set_inverses(&self.weights.products, point, &mut self.answered.inverses);
-        let row_last = last_factor(&self.weights.rows, point);
-        let last = last_factor(&self.weights.products, point);
-        let inverses = self.answered.inverses.as_slice();
-        let row = &inverses[..plan.params.block as usize];
-        let low_degree = is_low_degree_at(
-            &self.answered.answers.ldt,
+        let point = column.plan.params.dblock + index;
+        let rows = Behind {
+            weights: &self.weights.rows,
+            point,
+        };
+        let products = Behind {
+            weights: &self.weights.products,
+            point,
+        };
+        set_inverses(&products, &mut self.answered.inverses);
+        let row_last = last_factor(&rows);
+        let last = last_factor(&products);
+        let check = ColumnCheck {
             column,
-            challenges.u.as_slice(),
-            row,
-            row_last,
-        );
-        let linear = is_linear_at(
-            &self.answered.answers.dot,
-            column,
-            &self.linear.combined,
-            inverses,
+            combined: &self.linear.combined,
+            inverses: &self.answered.inverses,
             row_last,
             last,
-        );
-        let quadratic = is_quadratic_at(
-            &self.answered.answers.quadratic,
-            column,
-            challenges.v.as_slice(),
-            inverses,
-            last,
-        );
+        };
+        let answers = &self.answered.answers;
         RightAnswers {
-            low_degree,
-            linear,
-            quadratic,
+            low_degree: is_low_degree_at(&check, &answers.ldt),
+            linear: is_linear_at(&check, &answers.dot),
+            quadratic: is_quadratic_at(&check, &answers.quadratic),
         }
     }
 }

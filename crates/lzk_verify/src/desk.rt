@@ -73,7 +73,7 @@ impl<'c, F: Field> Desk<'c, F> {
         Desk::with_id(alloc, circuit, id)
     }
 
-    /// The same for a circuit whose id is known, as SHA-256 of the file that it was read from.
+    /// A desk for proofs over a circuit whose id is known, as SHA-256 of the file that it was read from.
     ///
     /// # Errors
     ///

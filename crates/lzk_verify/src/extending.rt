@@ -10,48 +10,49 @@ ghost use Rattle.lzk_verify.specs.Extending.{AreInverseDifferences, Extends};
 use lzk_field::Field;
 use lzk_poly::{Weights, inverse_of};
 
-// The inverse of the difference of two points. Where points are even, it stands in the table at the difference of their
-// numbers.
-fn inverse_between<F: Field>(inverses: &[F], even: bool, point: u32, i: u32) -> F
-    requires table { IsInverseTable F.ops F.coding.element inverses.now }
-    requires even { IsTrue even → IsEven F.ops F.coding.element (point + 1) }
-    requires enough { point < length inverses.now }
-    requires apart { i < point }
-    requires limit { point < 65536 }
-    ensures { result ≡ F.ops.inverse (minus F.ops (F.coding.element point) (F.coding.element i)) }
-{
-    if even {
-        return inverses[(point - i) as usize];
-    }
-    inverse_of(inverses, F::point(point).sub(F::point(i)))
+/// The weights that extend a list of values, and a point behind those of the values.
+#[derive(Drop)]
+pub(crate) struct Behind<'w, F: Field> {
+    pub(crate) weights: &'w Weights<F>,
+    pub(crate) point: u32,
+    ghost behind: { weights.now.count ≤ point },
+    ghost reached: { point < weights.now.upto },
+    ghost limit: { weights.now.upto ≤ 65536 },
 }
 
-/// Sets the inverses of the differences of a point and the first ones.
-pub(crate) fn set_inverses<F: Field>(weights: &Weights<F>, point: u32, list: &mut [F])
-    requires behind { length list.old ≤ point }
-    requires reached { point < weights.now.upto }
-    requires limit { weights.now.upto ≤ 65536 }
+// The inverse of the difference of the point and one before it. Where points are even, it stands in the table at the
+// difference of their numbers.
+fn inverse_between<F: Field>(at: &Behind<'_, F>, i: u32) -> F
+    requires apart { i < at.now.point }
+    ensures { result ≡ F.ops.inverse (minus F.ops (F.coding.element at.now.point) (F.coding.element i)) }
+{
+    let inverses = at.weights.inverses();
+    if at.weights.is_even() {
+        return inverses[(at.point - i) as usize];
+    }
+    inverse_of(inverses, F::point(at.point).sub(F::point(i)))
+}
+
+/// Sets the inverses of the differences of the point and the first ones.
+pub(crate) fn set_inverses<F: Field>(at: &Behind<'_, F>, list: &mut [F])
+    requires behind { length list.old ≤ at.now.point }
     ensures length { length list.new ≡ length list.old }
-    ensures inverses { AreInverseDifferences F.ops F.coding.element point list.new }
+    ensures inverses { AreInverseDifferences F.ops F.coding.element at.now.point list.new }
 {
-    let inverses = weights.inverses();
-    let even = weights.is_even();
     for i in 0..list.len() {
-        list[i] = inverse_between(inverses, even, point, i as u32);
+        list[i] = inverse_between(at, i as u32);
     }
 }
 
-/// What the sum of weighted values' products with the inverses at a point behind theirs is multiplied by, to be the
-/// value there of the polynomial through the values.
-pub(crate) fn last_factor<F: Field>(weights: &Weights<F>, point: u32) -> F
-    requires behind { weights.now.count ≤ point }
-    requires reached { point < weights.now.upto }
-    ensures { (inverses : List F) → length inverses ≡ weights.now.count
-        → AreInverseDifferences F.ops F.coding.element point inverses
-        → Extends F.ops F.coding.element point inverses result }
+/// What the sum of weighted values' products with the inverses at the point is multiplied by, to be the value there of
+/// the polynomial through the values.
+pub(crate) fn last_factor<F: Field>(at: &Behind<'_, F>) -> F
+    ensures { (inverses : List F) → length inverses ≡ at.now.weights.now.count
+        → AreInverseDifferences F.ops F.coding.element at.now.point inverses
+        → Extends F.ops F.coding.element at.now.point inverses result }
 {
-    let at = (point - weights.count()) as usize;
-    weights.passed()[at]
+    let place = (at.point - at.weights.count()) as usize;
+    at.weights.passed()[place]
 }
 
 // Whether they are the same element.

@@ -244,13 +244,15 @@ impl<F: Field> Intake<F> {
             self.old.drawn.challenges.v) index }
         ensures room { room.new ≡ room.old }
     {
+        let drawn = &self.drawn;
         let column = Column {
             plan,
             elements: &self.column,
+            challenges: &drawn.challenges,
         };
-        let index = self.drawn.column(k);
+        let index = drawn.column(k);
         self.leaves.set(k, &self.nonce, column.elements);
-        let right = room.check_column(index, &column, &self.drawn.challenges);
+        let right = room.check_column(index, &column);
         self.failing = Failing {
             low_degree: least(self.failing.low_degree, right.low_degree, index),
             linear: least(self.failing.linear, right.linear, index),

@@ -6,8 +6,8 @@ ghost use Rattle.lzk_verify.specs.Desk.{AreLists, AreFoundAnswers, IsFound};
 
 use crate::intake::Intake;
 use crate::low_degree::check_linear_sum;
-use crate::opening::{check_circuit_id, check_path_count};
-use crate::sent::{Sent, dot_of};
+use crate::opening::{Opened, check_circuit_id, check_path_count};
+use crate::sent::Sent;
 use crate::verdict::Verdict;
 use lzk_field::Field;
 use lzk_layout::Plan;
@@ -25,7 +25,7 @@ fn judge_answers<F: Field>(plan: &Plan<'_, F>, intake: &Intake<F>) -> Verdict<F>
         plan,
         elements: &intake.sent,
     };
-    if let Some(found) = check_linear_sum(plan, dot_of(&sent), wanted) {
+    if let Some(found) = check_linear_sum(&sent, wanted) {
         return Verdict::LinearSum { found, wanted };
     }
     if let Some(column) = intake.failing.linear {
@@ -54,16 +54,16 @@ pub(crate) fn judge<F: Field>(
     if let Some(found) = check_circuit_id(id, &intake.id) {
         return Verdict::CircuitId { found };
     }
-    let columns = intake.drawn.columns.as_slice();
+    let opened = Opened {
+        plan,
+        columns: intake.drawn.columns.as_slice(),
+    };
     let found = intake.count;
-    if let Some(needed) = check_path_count(plan, found, columns) {
+    if let Some(needed) = check_path_count(&opened, found) {
         return Verdict::PathCount { found, needed };
     }
     let path = &intake.digests.as_slice()[..found as usize];
-    if let Some(found) = intake
-        .leaves
-        .check_root(plan, &intake.root, columns, path, nodes)
-    {
+    if let Some(found) = intake.leaves.check_root(&opened, &intake.root, path, nodes) {
         return Verdict::Root { found };
     }
     judge_answers(plan, intake)

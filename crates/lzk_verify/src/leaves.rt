@@ -4,12 +4,11 @@ ghost use Rattle.lzk_profile.specs.Profile.{opened_count};
 ghost use Rattle.std.specs.Prelude.{◌≡◌, ◌+◌, ◌*◌, ◌<◌, cond, length, slice_set, IfOk};
 ghost use Rattle.lzk_merkle.specs.Leaf.{leaf_of};
 ghost use Rattle.lzk_merkle.specs.Nodes as tree;
-ghost use Rattle.lzk_merkle.specs.Nodes.{AreOpened};
 ghost use Rattle.lzk_verify.specs.Checks.{needed_digests};
 ghost use Rattle.lzk_verify.specs.Desk.{IsChecked};
 ghost use Rattle.lzk_verify.specs.Leaves.{FitsIn, AreThree, with_leaf, with_three, with_leaves};
 
-use crate::opening::check_root;
+use crate::opening::{Opened, check_root};
 use crate::room::zero_digests;
 use lzk_circuit::zeros;
 use lzk_field::Field;
@@ -219,23 +218,22 @@ impl<F: Field> Leaves<F> {
     /// afterwards.
     pub(crate) fn check_root(
         &mut self,
-        plan: &Plan<'_, F>,
+        opened: &Opened<'_, '_, F>,
         root: &[u8; 32],
-        columns: &[u32],
         path: &[[u8; 32]],
         nodes: &mut [[u8; 32]],
     ) -> Option<[u8; 32]>
-        requires opened { AreOpened plan.now.params.mcol columns.now }
-        requires path { length path.now ≡ needed_digests plan.now.params columns.now }
-        requires leaves { length self.old.items ≡ length columns.now }
-        requires nodes { length nodes.old ≡ 2 * plan.now.params.mcol }
-        ensures root { let found = tree.root_of plan.now.params.mcol columns.now self.old.items path.now in
+        requires path { length path.now ≡ needed_digests opened.now.plan.now.params opened.now.columns.now }
+        requires leaves { length self.old.items ≡ length opened.now.columns.now }
+        requires nodes { length nodes.old ≡ 2 * opened.now.plan.now.params.mcol }
+        ensures root { let o = opened.now in
+            let found = tree.root_of o.plan.now.params.mcol o.columns.now self.old.items path.now in
             IsChecked (found ≡ root.now) found result }
-        ensures nodes { length nodes.new ≡ 2 * plan.now.params.mcol }
+        ensures nodes { length nodes.new ≡ 2 * opened.now.plan.now.params.mcol }
         ensures same { self.new ≡ self.old }
     {
         make_waiting(self.waiting, &self.columns, &mut self.made);
         self.waiting = 0;
-        check_root(plan, root, columns, &self.made, path, nodes)
+        check_root(opened, root, &self.made, path, nodes)
     }
 }

@@ -6,7 +6,6 @@
 
 mod checking;
 mod column;
-mod combining;
 mod desk;
 mod drawing;
 mod extending;

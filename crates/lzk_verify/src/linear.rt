@@ -5,12 +5,11 @@ ghost use Rattle.lzk_field.specs.Sums.{entry, sum_below};
 ghost use Rattle.lzk_poly.specs.Extension.{extension};
 ghost use Rattle.lzk_accept.specs.Factored.{AreFactorLists};
 ghost use Rattle.lzk_verify.specs.Columns.{IsLinearIn};
-ghost use Rattle.lzk_verify.specs.Desk.{HasFactors, AreWeightedRows};
+ghost use Rattle.lzk_verify.specs.Desk.{AreWeightedRows};
 ghost use Rattle.lzk_verify.specs.Extending.{Extends, row_sum, weighted};
 
-use crate::column::Column;
+use crate::column::ColumnCheck;
 use crate::extending::extend_to;
-use lzk_accept::Factored;
 use lzk_field::Field;
 use lzk_layout::BLINDS;
 
@@ -42,29 +41,9 @@ fn sum_rows<F: Field>(elements: &[F], table: &[F], factors: &[F]) -> F
     sum
 }
 
-// The same of rows whose coefficients are sums of four products: for each of the four, the elements' products with the
-// row factors times the place factors' with the factors.
-fn sum_factored<F: Field>(
-    elements: &[F],
-    row_factors: &[F],
-    place_factors: &[F],
-    factors: &[F],
-) -> F
-    requires { AreFactorLists 4 (length elements.now) (length factors.now) row_factors.now place_factors.now }
-    ensures { let o = F.ops in
-        result
-        ≡ sum_below o 4
-        (λ k. o.times (row_sum o row_factors.now elements.now k) (row_sum o place_factors.now factors.now k)) }
-{
-    let mut sum = F::zero();
-    for k in 0..FACTORS {
-        let multiple = row_dot(row_factors, k, elements);
-        sum = sum.add(multiple.mul(row_dot(place_factors, k, factors)));
-    }
-    sum
-}
-
-// The same, with no product where there are no such rows.
+// The sum, over these elements of a column, of the element times its row's products with the factors, for rows whose
+// coefficients are sums of four products: for each of the four, the elements' products with the row factors times the
+// place factors' with the factors. There is no product where there are no such rows.
 fn sum_private<F: Field>(elements: &[F], row_factors: &[F], place_factors: &[F], factors: &[F]) -> F
     requires { AreFactorLists 4 (length elements.now) (length factors.now) row_factors.now place_factors.now }
     ensures { let o = F.ops in
@@ -75,28 +54,29 @@ fn sum_private<F: Field>(elements: &[F], row_factors: &[F], place_factors: &[F],
     if elements.is_empty() {
         return F::zero();
     }
-    sum_factored(elements, row_factors, place_factors, factors)
+    let mut sum = F::zero();
+    for k in 0..FACTORS {
+        let multiple = row_dot(row_factors, k, elements);
+        sum = sum.add(multiple.mul(row_dot(place_factors, k, factors)));
+    }
+    sum
 }
 
 // The sum, over the rows from row 3 on, of the extension of the combined coefficients' row times a column's element.
 // What gives the coefficients gives each times its weight.
-fn linear_sum<F: Field>(
-    column: &Column<'_, '_, F>,
-    combined: &Factored<F>,
-    inverses: &[F],
-    last: F,
-) -> F
-    requires combined { HasFactors column.now.plan.now.params combined.now }
-    requires inverses { length inverses.now ≡ column.now.plan.now.params.block }
+fn linear_sum<F: Field>(check: &ColumnCheck<F>) -> F
     ensures { let o = F.ops in
-        let p = column.now.plan.now.params in
-        (point : ℕ) (lists : ℕ → List F) → Extends o F.coding.element point inverses.now last
-        → AreWeightedRows o F.coding.element p combined.now lists
+        let column = check.now.column.now in
+        let p = column.plan.now.params in
+        (point : ℕ) (lists : ℕ → List F)
+        → Extends o F.coding.element point (take p.block check.now.inverses.now) check.now.row_last
+        → AreWeightedRows o F.coding.element p check.now.combined.now lists
         → result
         ≡ sum_below o (p.nrow - 3) (λ i.
-        o.times (extension o F.coding.element (lists (3 + i)) point) (entry o column.now.elements.now (3 + i))) }
+        o.times (extension o F.coding.element (lists (3 + i)) point) (entry o column.elements.now (3 + i))) }
 {
-    let elements = column.elements;
+    let (elements, combined) = (check.column.elements, check.combined);
+    let inverses = &check.inverses[..check.column.plan.params.block as usize];
     let behind = 3 + combined.rows as usize;
     let back = &inverses[BLINDS..];
     let private = sum_private(
@@ -106,31 +86,22 @@ fn linear_sum<F: Field>(
         back,
     );
     let others = sum_rows(&elements[behind..], combined.table.as_slice(), back);
-    private.add(others).mul(last)
+    private.add(others).mul(check.row_last)
 }
 
-/// Whether the linear answer, whose weighted values these are, is right at the inverses' point, of a column. The last
-/// factor of the values of a row comes first, and that of the values of a product of two rows behind it.
-pub(crate) fn is_linear_at<F: Field>(
-    dot: &[F],
-    column: &Column<'_, '_, F>,
-    combined: &Factored<F>,
-    inverses: &[F],
-    row_last: F,
-    last: F,
-) -> bool
-    requires dot { length dot.now ≡ column.now.plan.now.params.dblock }
-    requires combined { HasFactors column.now.plan.now.params combined.now }
-    requires inverses { length inverses.now ≡ column.now.plan.now.params.dblock }
-    ensures { let p = column.now.plan.now.params in
-        (point : ℕ) (values : List F) (lists : ℕ → List F) → dot.now ≡ weighted F.ops F.coding.element values
-        → Extends F.ops F.coding.element point (take p.block inverses.now) row_last
-        → Extends F.ops F.coding.element point inverses.now last
-        → AreWeightedRows F.ops F.coding.element p combined.now lists
-        → (IsTrue result ↔ IsLinearIn F.ops F.coding.element p column.now.elements.now point values lists) }
+/// Whether the linear answer, whose weighted values these are, is right at a column.
+pub(crate) fn is_linear_at<F: Field>(check: &ColumnCheck<F>, dot: &[F]) -> bool
+    requires dot { length dot.now ≡ check.now.column.now.plan.now.params.dblock }
+    ensures { let column = check.now.column.now in
+        let p = column.plan.now.params in
+        (point : ℕ) (values : List F) (lists : ℕ → List F)
+        → dot.now ≡ weighted F.ops F.coding.element values
+        → Extends F.ops F.coding.element point (take p.block check.now.inverses.now) check.now.row_last
+        → Extends F.ops F.coding.element point check.now.inverses.now check.now.last
+        → AreWeightedRows F.ops F.coding.element p check.now.combined.now lists
+        → (IsTrue result ↔ IsLinearIn F.ops F.coding.element p column.elements.now point values lists) }
 {
-    let elements = column.elements;
-    let row = &inverses[..column.plan.params.block as usize];
-    let sum = linear_sum(column, combined, row, row_last);
-    extend_to(dot, inverses, last, elements[1].add(sum))
+    let elements = check.column.elements;
+    let wanted = elements[1].add(linear_sum(check));
+    extend_to(dot, check.inverses, check.last, wanted)
 }

@@ -10,6 +10,14 @@ use lzk_field::Field;
 use lzk_layout::Plan;
 use lzk_merkle::{needed, root_of};
 
+/// The columns that are opened.
+#[derive(Drop)]
+pub(crate) struct Opened<'k, 'c, F: Field> {
+    pub(crate) plan: &'k Plan<'c, F>,
+    pub(crate) columns: &'k [u32],
+    ghost opened: { AreOpened plan.now.params.mcol columns.now },
+}
+
 /// A proof's id where it is not this one.
 pub(crate) fn check_circuit_id(id: &[u8; 32], found: &[u8; 32]) -> Option<[u8; 32]>
     ensures { IsChecked (found.now ≡ id.now) found.now result }
@@ -18,37 +26,31 @@ pub(crate) fn check_circuit_id(id: &[u8; 32], found: &[u8; 32]) -> Option<[u8; 3
 }
 
 /// How many digests the drawn columns need, where the proof has another number of them.
-pub(crate) fn check_path_count<F: Field>(
-    plan: &Plan<'_, F>,
-    found: u32,
-    columns: &[u32],
-) -> Option<u32>
-    requires opened { AreOpened plan.now.params.mcol columns.now }
-    ensures { IsChecked (found ≡ needed_digests plan.now.params columns.now)
-        (needed_digests plan.now.params columns.now) result }
+pub(crate) fn check_path_count<F: Field>(opened: &Opened<'_, '_, F>, found: u32) -> Option<u32>
+    ensures { let wanted = needed_digests opened.now.plan.now.params opened.now.columns.now in
+        IsChecked (found ≡ wanted) wanted result }
 {
-    let count = needed(plan.params.mcol, columns);
+    let count = needed(opened.plan.params.mcol, opened.columns);
     if found == count { None } else { Some(count) }
 }
 
 /// The root that the opened columns and the path lead to, where it is not the proof's. `nodes` is room, and says
 /// nothing afterwards.
 pub(crate) fn check_root<F: Field>(
-    plan: &Plan<'_, F>,
+    opened: &Opened<'_, '_, F>,
     root: &[u8; 32],
-    columns: &[u32],
     leaves: &[[u8; 32]],
     path: &[[u8; 32]],
     nodes: &mut [[u8; 32]],
 ) -> Option<[u8; 32]>
-    requires opened { AreOpened plan.now.params.mcol columns.now }
-    requires path { length path.now ≡ needed_digests plan.now.params columns.now }
-    requires leaves { length leaves.now ≡ length columns.now }
-    requires nodes { length nodes.old ≡ 2 * plan.now.params.mcol }
-    ensures root { let found = tree.root_of plan.now.params.mcol columns.now leaves.now path.now in
+    requires path { length path.now ≡ needed_digests opened.now.plan.now.params opened.now.columns.now }
+    requires leaves { length leaves.now ≡ length opened.now.columns.now }
+    requires nodes { length nodes.old ≡ 2 * opened.now.plan.now.params.mcol }
+    ensures root { let o = opened.now in
+        let found = tree.root_of o.plan.now.params.mcol o.columns.now leaves.now path.now in
         IsChecked (found ≡ root.now) found result }
-    ensures nodes { length nodes.new ≡ 2 * plan.now.params.mcol }
+    ensures nodes { length nodes.new ≡ 2 * opened.now.plan.now.params.mcol }
 {
-    let found = root_of(plan.params.mcol, columns, leaves, path, nodes);
+    let found = root_of(opened.plan.params.mcol, opened.columns, leaves, path, nodes);
     if found == *root { None } else { Some(found) }
 }

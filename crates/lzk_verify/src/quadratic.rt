@@ -6,7 +6,7 @@ ghost use Rattle.lzk_verify.specs.Columns.{IsQuadraticIn, in_triple, values_of};
 ghost use Rattle.lzk_verify.specs.Extending.{Extends, weighted};
 ghost use Rattle.lzk_verify.specs.Kept.{head_in, tail_in};
 
-use crate::column::Column;
+use crate::column::{Column, ColumnCheck};
 use crate::extending::extend_to;
 use crate::lists::clear;
 use crate::sent::{Sent, head_of, tail_of};
@@ -47,17 +47,17 @@ fn triple_at<F: Field>(column: &[F], row: usize) -> F
 }
 
 // The sum of each v times what a column's triple gives, and of its third element.
-fn quadratic_sum<F: Field>(column: &Column<'_, '_, F>, v: &[F]) -> F
-    requires v { length v.now ≡ column.now.plan.now.params.ntriple }
+fn quadratic_sum<F: Field>(column: &Column<'_, '_, F>) -> F
     ensures { let o = F.ops in
         let p = column.now.plan.now.params in
         let elements = column.now.elements.now in
         let at = in_triple o p elements in
         result
-        ≡ o.plus (entry o elements 2)
-        (sum_below o p.ntriple (λ i. o.times (entry o v.now i) (minus o (o.times (at i 0) (at i 1)) (at i 2)))) }
+        ≡ o.plus (entry o elements 2) (sum_below o p.ntriple
+        (λ i. o.times (entry o column.now.challenges.now.v i) (minus o (o.times (at i 0) (at i 1)) (at i 2)))) }
 {
     let elements = column.elements;
+    let v = column.challenges.v.as_slice();
     let first = 3 + column.plan.params.nwrow as usize;
     let mut sum = F::zero();
     for i in 0..v.len() {
@@ -66,21 +66,19 @@ fn quadratic_sum<F: Field>(column: &Column<'_, '_, F>, v: &[F]) -> F
     elements[2].add(sum)
 }
 
-/// Whether the quadratic answer, whose weighted values these are, is right at the inverses' point, of a column.
-pub(crate) fn is_quadratic_at<F: Field>(
-    quadratic: &[F],
-    column: &Column<'_, '_, F>,
-    v: &[F],
-    inverses: &[F],
-    last: F,
-) -> bool
-    requires quadratic { length quadratic.now ≡ column.now.plan.now.params.dblock }
-    requires v { length v.now ≡ column.now.plan.now.params.ntriple }
-    requires inverses { length inverses.now ≡ column.now.plan.now.params.dblock }
-    ensures { (point : ℕ) (values : List F) → quadratic.now ≡ weighted F.ops F.coding.element values
-        → Extends F.ops F.coding.element point inverses.now last
-        → (IsTrue result ↔ IsQuadraticIn F.ops F.coding.element column.now.plan.now.params column.now.elements.now point
-        values v.now) }
+/// Whether the quadratic answer, whose weighted values these are, is right at a column.
+pub(crate) fn is_quadratic_at<F: Field>(check: &ColumnCheck<F>, quadratic: &[F]) -> bool
+    requires quadratic { length quadratic.now ≡ check.now.column.now.plan.now.params.dblock }
+    ensures { let column = check.now.column.now in
+        (point : ℕ) (values : List F) → quadratic.now ≡ weighted F.ops F.coding.element values
+        → Extends F.ops F.coding.element point check.now.inverses.now check.now.last
+        → (IsTrue result ↔ IsQuadraticIn F.ops F.coding.element column.plan.now.params column.elements.now point values
+        column.challenges.now.v) }
 {
-    extend_to(quadratic, inverses, last, quadratic_sum(column, v))
+    extend_to(
+        quadratic,
+        check.inverses,
+        check.last,
+        quadratic_sum(check.column),
+    )
 }

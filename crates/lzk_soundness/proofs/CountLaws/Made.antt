@@ -10,8 +10,8 @@ use Rattle.lzk_poly.specs.Through.{values_of}
 use Rattle.lzk_poly.proofs.Through.{extension-values_of, length-values_of}
 use Rattle.lzk_layout.specs.declared.params.Params.{Params}
 use Rattle.lzk_layout.specs.Sizes.{AreBounded}
-use Rattle.lzk_answers.specs.Rows.{row, AreRows}
-use Rattle.lzk_answers.proofs.PassLaws.{apart}
+use Rattle.lzk_ligero_answers.specs.Rows.{row, AreRows}
+use Rattle.lzk_ligero_answers.proofs.PassLaws.{apart}
 use Rattle.lzk_soundness.specs.Tables.Table.{IsNear}
 
 -- row 0 and the rows from row 3 on have the values of the polynomials that the table is near, and rows 1 and 2 those of two others

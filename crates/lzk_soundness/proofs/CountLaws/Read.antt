@@ -5,7 +5,7 @@ use Rattle.lzk_field.specs.Coding.{Coding}
 use Rattle.lzk_field.specs.Ring.{Ops, Laws}
 use Rattle.lzk_circuit.specs.Valid.{Wiring, IsValid}
 use Rattle.lzk_layout.specs.Sizes.{AreBounded, params_of}
-use Rattle.lzk_answers.specs.Rows.{row}
+use Rattle.lzk_ligero_answers.specs.Rows.{row}
 use Rattle.lzk_soundness.specs.Rows.Held.{held}
 use Rattle.lzk_soundness.specs.Tables.Table.{IsNear}
 use Rattle.lzk_soundness.specs.Extract.Extraction.{extracted}

@@ -16,13 +16,13 @@ use Rattle.lzk_layout.specs.declared.params.Params.{Params}
 use Rattle.lzk_layout.specs.Sizes.{AreBounded, params_of}
 use Rattle.lzk_sumcheck.specs.declared.script.Script.{Script}
 use Rattle.lzk_accept.specs.Checks.{at_row, quadratic_values, coefficient_of, right_of, combined_row_of}
-use Rattle.lzk_answers.specs.Answers.{linear_answer, quadratic_answer}
-use Rattle.lzk_answers.specs.Laws.{linear_of, quadratic_of}
-use Rattle.lzk_answers.specs.Rows.{row, AreRows}
-use Rattle.lzk_answers.proofs.AnswerLaws.{eval-linear, eval-quadratic, triple_at}
-use Rattle.lzk_answers.proofs.PassLaws.{apart}
-use Rattle.lzk_answers.proofs.RowLaws.{linear_short, quadratic_short}
-use Rattle.lzk_answers.proofs.StandLaws.{combined_rows}
+use Rattle.lzk_ligero_answers.specs.Answers.{linear_answer, quadratic_answer}
+use Rattle.lzk_ligero_answers.specs.Laws.{linear_of, quadratic_of}
+use Rattle.lzk_ligero_answers.specs.Rows.{row, AreRows}
+use Rattle.lzk_ligero_answers.proofs.AnswerLaws.{eval-linear, eval-quadratic, triple_at}
+use Rattle.lzk_ligero_answers.proofs.PassLaws.{apart}
+use Rattle.lzk_ligero_answers.proofs.RowLaws.{linear_short, quadratic_short}
+use Rattle.lzk_ligero_answers.proofs.StandLaws.{combined_rows}
 use Rattle.lzk_soundness.specs.Draws.Schedule.{script_of}
 use Rattle.lzk_soundness.proofs.DrawsLaws.Deciding.{is_yes, from_yes, dec_same}
 use Rattle.lzk_soundness.specs.Chance.Draws.{count}

@@ -18,8 +18,8 @@ use Rattle.lzk_soundness.proofs.ChanceLaws.Lists.{all_long, count_more}
 use Rattle.lzk_layout.specs.declared.params.Params.{Params}
 use Rattle.lzk_layout.specs.Sizes.{AreBounded, params_of, committed_count, place_of}
 use Rattle.lzk_layout.proofs.SizeLaws.{params_bounded, row_below}
-use Rattle.lzk_answers.specs.Rows.{row}
-use Rattle.lzk_answers.proofs.PassLaws.{apart}
+use Rattle.lzk_ligero_answers.specs.Rows.{row}
+use Rattle.lzk_ligero_answers.proofs.PassLaws.{apart}
 use Rattle.lzk_soundness.specs.Rows.Held.{placed, held}
 use Rattle.lzk_soundness.proofs.NearLaws.Agreeing.{all_range, or_false, count_or, same_but_few}
 use Rattle.lzk_soundness.specs.Tables.Table.{place}

@@ -17,9 +17,9 @@ use Rattle.lzk_circuit.specs.Valid.{Wiring}
 use Rattle.lzk_layout.specs.declared.params.Params.{Params}
 use Rattle.lzk_layout.specs.Sizes.{AreBounded, params_of, committed_count}
 use Rattle.lzk_layout.proofs.SizeLaws.{params_bounded, row_below}
-use Rattle.lzk_answers.specs.Rows.{row}
+use Rattle.lzk_ligero_answers.specs.Rows.{row}
 use Rattle.lzk_soundness.specs.Rows.Held.{placed, held}
-use Rattle.lzk_tableau.specs.Tableau.{random, randoms, rows_words, committed, copy_at, element_at, row_at, tableau, column}
+use Rattle.lzk_ligero_tableau.specs.Tableau.{random, randoms, rows_words, committed, copy_at, element_at, row_at, tableau, column}
 use Rattle.lzk_soundness.specs.Extract.Laws.{HonestAreExtracted}
 use Rattle.lzk_soundness.proofs.ExtractLaws.Decoding.{near_outside, rows_extracted}
 

@@ -17,7 +17,7 @@ use Rattle.lzk_layout.specs.declared.params.Params.{Params}
 use Rattle.lzk_layout.specs.Sizes.{AreBounded, params_of}
 use Rattle.lzk_layout.specs.Places.{depth}
 use Rattle.lzk_accept.specs.Checks.{coefficient_of, right_of}
-use Rattle.lzk_answers.specs.Opened.{AreOpened, element}
+use Rattle.lzk_ligero_answers.specs.Opened.{AreOpened, element}
 use Rattle.lzk_soundness.specs.Draws.Schedule.{draw_count, script_of}
 use Rattle.lzk_soundness.specs.Rows.Weights.{combination}
 use Rattle.lzk_soundness.specs.Rows.Held.{second_sum, product_gap}

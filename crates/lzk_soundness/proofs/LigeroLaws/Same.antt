@@ -13,8 +13,8 @@ use Rattle.lzk_layout.specs.declared.params.Params.{Params}
 use Rattle.lzk_layout.specs.Sizes.{AreBounded, params_of, committed_count}
 use Rattle.lzk_layout.specs.Places.{constrained_at, copy_place_of}
 use Rattle.lzk_sumcheck.proofs.Prefixes.{map-same}
-use Rattle.lzk_answers.specs.Opened.{element}
-use Rattle.lzk_answers.specs.Rows.{row}
+use Rattle.lzk_ligero_answers.specs.Opened.{element}
+use Rattle.lzk_ligero_answers.specs.Rows.{row}
 use Rattle.lzk_soundness.specs.Rows.Held.{placed, held, copy_gap, in_triple, product_gap}
 use Rattle.lzk_soundness.specs.Tables.Table.{IsNear}
 use Rattle.lzk_soundness.proofs.CountLaws.Made.{made, made_row, row_is}

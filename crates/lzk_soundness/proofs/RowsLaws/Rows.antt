@@ -26,16 +26,16 @@ use Rattle.lzk_accept.specs.declared.challenges.Challenges.{Challenges}
 use Rattle.lzk_accept.specs.Checks as checks
 use Rattle.lzk_accept.specs.Checks.{IsLinear, HasLinearSum, IsQuadratic, AtEach, quadratic_values, point_of, at_row}
 use Rattle.lzk_accept.specs.Combination.{combined, combined_row, wanted}
-use Rattle.lzk_answers.specs.Rows.{row, AreRows}
-use Rattle.lzk_answers.specs.Answers.{linear_answer, quadratic_answer}
-use Rattle.lzk_answers.specs.Coefficients.{AreCoefficients}
-use Rattle.lzk_answers.specs.Opened.{AreOpened, Satisfies, element}
-use Rattle.lzk_answers.specs.Laws.{linear_of, quadratic_of}
-use Rattle.lzk_answers.proofs.AnswerLaws.{eval-linear, eval-quadratic, triple_at}
-use Rattle.lzk_answers.proofs.CombinedLaws.{ArePlaces}
-use Rattle.lzk_answers.proofs.PassLaws.{apart, linear_passes}
-use Rattle.lzk_answers.proofs.RowLaws.{in_triple, quadratic_short}
-use Rattle.lzk_answers.proofs.StandLaws.{combined_rows}
+use Rattle.lzk_ligero_answers.specs.Rows.{row, AreRows}
+use Rattle.lzk_ligero_answers.specs.Answers.{linear_answer, quadratic_answer}
+use Rattle.lzk_ligero_answers.specs.Coefficients.{AreCoefficients}
+use Rattle.lzk_ligero_answers.specs.Opened.{AreOpened, Satisfies, element}
+use Rattle.lzk_ligero_answers.specs.Laws.{linear_of, quadratic_of}
+use Rattle.lzk_ligero_answers.proofs.AnswerLaws.{eval-linear, eval-quadratic, triple_at}
+use Rattle.lzk_ligero_answers.proofs.CombinedLaws.{ArePlaces}
+use Rattle.lzk_ligero_answers.proofs.PassLaws.{apart, linear_passes}
+use Rattle.lzk_ligero_answers.proofs.RowLaws.{in_triple, quadratic_short}
+use Rattle.lzk_ligero_answers.proofs.StandLaws.{combined_rows}
 use Rattle.lzk_soundness.specs.Rows.Weights.{combination}
 use Rattle.lzk_soundness.specs.Rows.Held as rows_held
 use Rattle.lzk_soundness.specs.Rows.Held.{placed, held, second_sum, copy_gap, product_gap, linear_gap, linear_rest, NoneBad}

@@ -24,7 +24,7 @@ use Rattle.lzk_circuit.specs.Checks.{asserted, IsSatisfied}
 use Rattle.lzk_layout.specs.declared.params.Params.{Params}
 use Rattle.lzk_layout.specs.Sizes.{AreBounded, params_of, place_of}
 use Rattle.lzk_layout.proofs.SizeLaws.{params_bounded}
-use Rattle.lzk_answers.proofs.PassLaws.{apart}
+use Rattle.lzk_ligero_answers.proofs.PassLaws.{apart}
 use Rattle.lzk_soundness.specs.Extract.Extraction.{decoded, extracted}
 use Rattle.lzk_soundness.proofs.ExtractLaws.Decoding.{near_outside, decoding_unique}
 use Rattle.lzk_soundness.specs.Worked.Zeros.{zeros_sent, ones_table, HasZeroMasks, sees_zeros}

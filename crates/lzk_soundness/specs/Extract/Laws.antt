@@ -6,9 +6,9 @@ use Rattle.lzk_field.specs.Sums.{entry}
 use Rattle.lzk_circuit.specs.Valid.{Wiring, IsValid}
 use Rattle.lzk_layout.specs.declared.params.Params.{Params}
 use Rattle.lzk_layout.specs.Sizes.{AreBounded, params_of}
-use Rattle.lzk_answers.specs.Rows.{row}
+use Rattle.lzk_ligero_answers.specs.Rows.{row}
 use Rattle.lzk_soundness.specs.Rows.Held.{held}
-use Rattle.lzk_tableau.specs.Tableau.{column}
+use Rattle.lzk_ligero_tableau.specs.Tableau.{column}
 use Rattle.lzk_soundness.specs.Extract.Extraction.{distance, decoded, extracted}
 
 -- A row's values that a word is near are those that are decoded, in whatever way they were found.

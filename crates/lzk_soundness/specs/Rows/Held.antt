@@ -10,8 +10,8 @@ use Rattle.lzk_layout.specs.Places.{depth, constrained_at, copy_place_of}
 use Rattle.lzk_accept.specs.declared.challenges.Challenges.{Challenges}
 use Rattle.lzk_accept.specs.Checks.{quadratic_values}
 use Rattle.lzk_accept.specs.Combination.{combined_row}
-use Rattle.lzk_answers.specs.Opened.{element}
-use Rattle.lzk_answers.specs.Laws.{linear_of, quadratic_of}
+use Rattle.lzk_ligero_answers.specs.Opened.{element}
+use Rattle.lzk_ligero_answers.specs.Laws.{linear_of, quadratic_of}
 use Rattle.lzk_soundness.specs.Rows.Weights.{combination, AreGoodWeights, AreBadColumns}
 
 module _ {A : Type 0} (o : Ops A) (c : Wiring A) (rows : List (List A)) where

@@ -10,8 +10,8 @@ use Rattle.lzk_layout.specs.Sizes.{AreBounded, params_of}
 use Rattle.lzk_accept.specs.declared.challenges.Challenges.{Challenges}
 use Rattle.lzk_accept.specs.Checks.{IsLinear, HasLinearSum, IsQuadratic, AtEach}
 use Rattle.lzk_accept.specs.Combination.{combined_row, wanted}
-use Rattle.lzk_answers.specs.Rows.{AreRows}
-use Rattle.lzk_answers.specs.Opened.{AreOpened, Satisfies}
+use Rattle.lzk_ligero_answers.specs.Rows.{AreRows}
+use Rattle.lzk_ligero_answers.specs.Opened.{AreOpened, Satisfies}
 use Rattle.lzk_soundness.specs.Rows.Weights.{combination, IsBadWeight, AreGoodWeights, AgreesAt}
 use Rattle.lzk_soundness.specs.Rows.Held.{held, NoneBad}
 

@@ -1,10 +1,10 @@
 //! Rows over both fields.
 
 use lzk_circuit::Term;
+use lzk_circuit_reduce::{add_term, append, merged, scaled, single};
 use lzk_field::Field;
 use lzk_gf128::Gf128;
 use lzk_goldilocks::Gold;
-use lzk_reduce::{add_term, append, merged, scaled, single};
 use std::alloc::{AllocError, Global};
 use std::test::Fail;
 

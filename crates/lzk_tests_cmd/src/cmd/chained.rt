@@ -2,8 +2,8 @@
 
 ghost use Rattle.std.specs.Prelude.{◌≡◌, ◌⊎◌, IsTrue};
 ghost use Rattle.lzk_outside.specs.Memory.{files_of, settings_of, none_fails, sink_settings_of, no_write_fails};
-ghost use Rattle.lzk_cmd_runs.specs.Chains.{AreChained};
-ghost use Rattle.lzk_cmd_runs.specs.Sights.{texts};
+ghost use Rattle.lzk_cmd.specs.Chains.{AreChained};
+ghost use Rattle.lzk_cmd.specs.Sights.{texts};
 
 use crate::cmd::runs::words_of;
 use lzk_cmd::run;

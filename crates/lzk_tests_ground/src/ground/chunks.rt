@@ -2,7 +2,7 @@
 
 ghost use Rattle.std.specs.Prelude.{◌<◌, ◌≤◌};
 
-use lzk_alone::{Alone, for_each_chunk_mut};
+use lzk_work_alone::{Alone, for_each_chunk_mut};
 
 // Sets each of the first `len` of seven numbers to the place where its chunk begins.
 fn begins_of(len: usize, size: usize) -> [usize; 7]

@@ -5,7 +5,7 @@ ghost use Rattle.std.specs.Prelude.{◌≡◌, ◌≤◌, ◌^◌, length};
 use crate::transforms::rows::{Row, elements, extended, wrong_row};
 use lzk_field::Field;
 use lzk_goldilocks::Gold;
-use lzk_ntt::{NttExtender, Transform, root_of};
+use lzk_poly_ntt::{NttExtender, Transform, root_of};
 use std::test::Fail;
 
 // Rows beside those over any field.

@@ -2,8 +2,7 @@
 
 use lzk_circuit::Circuit;
 use lzk_field::Field;
-use lzk_gadgets::Statement;
-use lzk_gadgets_circuits::{assert_circuit, private_nodes, public_nodes};
+use lzk_gadgets::{Statement, assert_circuit, private_nodes, public_nodes};
 use lzk_goldilocks::Gold;
 use lzk_level::LevelError;
 use lzk_tests_shared::{TermRow, circuit_of, is_satisfied};

@@ -2,8 +2,9 @@
 
 use lzk_circuit::Circuit;
 use lzk_field::Field;
-use lzk_gadgets::{Statement, gadget_laws, inverse_laws, spelling, text_bits, text_laws};
-use lzk_gadgets_circuits::private_nodes;
+use lzk_gadgets::{
+    Statement, gadget_laws, inverse_laws, private_nodes, spelling, text_bits, text_laws,
+};
 use lzk_goldilocks::Gold;
 use lzk_level::LevelError;
 use lzk_tests_shared::{elements, is_satisfied};

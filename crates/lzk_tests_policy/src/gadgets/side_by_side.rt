@@ -1,10 +1,10 @@
 //! Two circuits side by side: what an independent implementation makes of the parts' outputs, one part after the other.
 
 ghost use Rattle.std.specs.Prelude.{◌<◌, ◌↔◌, IfSome, IsTrue, EachIndex, slice_index};
-ghost use Rattle.lzk_reduce.specs.Renumbering.{AreNumbersBelow};
+ghost use Rattle.lzk_circuit_reduce.specs.Renumbering.{AreNumbersBelow};
 
-use lzk_beside::{AnyPart, Part, beside, beside_any};
 use lzk_circuit::{Circuit, Values};
+use lzk_circuit_beside::{AnyPart, Part, beside, beside_any};
 use lzk_field::Field;
 use lzk_gf128::Gf128;
 use lzk_goldilocks::Gold;

@@ -6,8 +6,9 @@ use lzk_circuit::Circuit;
 use lzk_field::Field;
 use lzk_goldilocks::Gold;
 use lzk_outside::MemShelf;
-use lzk_policies::{credential_circuit, has_room};
-use lzk_policy_inputs::{PolicyInputs, Value, policy_inputs, satisfied_circuit};
+use lzk_policy_inputs::{
+    PolicyInputs, Value, credential_circuit, has_room, policy_inputs, satisfied_circuit,
+};
 use lzk_tests_shared::{is_satisfied, word_elements};
 use sha2::{Digest, Sha256};
 use std::alloc::{AllocError, Global};

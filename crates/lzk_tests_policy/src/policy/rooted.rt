@@ -4,11 +4,10 @@ use crate::policy::texts::read;
 use lzk_circuit::Circuit;
 use lzk_field::Field;
 use lzk_goldilocks::Gold;
-use lzk_policies::{
-    Place, RootedInputs, RootedInputsError, credential_circuit, credential_inputs, rooted_circuit,
-    rooted_inputs,
+use lzk_policy_inputs::{
+    InputsError, Place, PolicyInputs, RootedInputsError, Value, credential_circuit,
+    credential_inputs, rooted_circuit, rooted_inputs,
 };
-use lzk_policy_inputs::{InputsError, Value};
 use lzk_sha_path::PathError;
 use lzk_tests_shared::{is_satisfied, word_elements, words};
 use std::alloc::{AllocError, Global};
@@ -50,7 +49,7 @@ fn inputs_of(
     value: Value,
     index: u32,
     depth: usize,
-) -> Option<Result<RootedInputs, RootedInputsError>> {
+) -> Option<Result<PolicyInputs, RootedInputsError>> {
     let policy = read(alloc, POLICY).ok()?;
     let siblings = siblings();
     let place = Place {

@@ -8,7 +8,7 @@ use std::alloc::Global;
 use std::test::Fail;
 
 // Texts with the first line that breaks a rule, and the rule.
-const REFUSED: [(&[u8], u32, PolicyKind); 38] = [
+const REFUSED: [(&[u8], u32, PolicyKind); 42] = [
     (b"", 2, Missing),
     (b"record 47\n", 3, Missing),
     (b"record 47\nfield a date at 0\nshow digest", 4, Missing),
@@ -33,6 +33,27 @@ const REFUSED: [(&[u8], u32, PolicyKind); 38] = [
         b"record 47\nfield a text 8 at 0\nshow digest\nshow a one of abcdefg\n",
         4,
         Claim,
+    ),
+    (
+        b"record 47\nfield a text 2 at 0\nshow digest\nshow a one of abcdefgh\n",
+        4,
+        Claim,
+    ),
+    (
+        b"record 47\nfield a text 32 at 0\nshow digest\nshow a one of abcdefghijklmnopqrstuvwxyz0123456\n",
+        4,
+        Syntax,
+    ),
+    (
+        b"record 47\nfield a text 8 at 0\nshow digest\nshow a one of abcdefgh abcdefg\n",
+        4,
+        Syntax,
+    ),
+    (
+        b"record 47\nfield a text 8 at 0\nshow digest\nshow a one of aaaaaaaa bbbbbbbb cccccccc dddddddd eeeeeeee \
+        ffffffff gggggggg hhhhhhhh iiiiiiii jjjjjjjj kkkkkkkk llllllll mmmmmmmm nnnnnnnn oooooooo pppppppp qqqqqqqq\n",
+        4,
+        Syntax,
     ),
     (b"record 47\nfield a bytes 0 at 0\n", 2, Size),
     (

@@ -2,7 +2,7 @@
 
 ghost use Rattle.std.specs.Prelude.{◌≡◌, ◌≤◌, IsTrue, length};
 ghost use Rattle.lzk_layout.specs.Sizes.{params_of};
-ghost use Rattle.lzk_complete.specs.Changed.{IsSentPlace};
+ghost use Rattle.lzk_ligero_proof.specs.Changed.{IsSentPlace};
 
 use crate::ligero::vectors::{CHANGED, Case, Changed};
 use lzk_field::{Field, Open, Seeded};

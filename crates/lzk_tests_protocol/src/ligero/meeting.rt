@@ -10,7 +10,7 @@ use lzk_circuit::Circuit;
 use lzk_field::{Field, Gate, Words};
 use lzk_goldilocks::Gold;
 use lzk_ligero::WorksOver;
-use lzk_ntt::NttExtender;
+use lzk_poly_ntt::NttExtender;
 use lzk_tests_shared::Meeting;
 use std::alloc::{AllocError, Global};
 use std::marker::Sync;

@@ -1,20 +1,8 @@
-use Rattle.std.proofs.Common.{◌+◌, sym, ap, ◌∙◌, arith, drop}
-use Rattle.std.specs.Prelude.{Some}
-use Rattle.std.proofs.lemmas.Option.{slice_get-get_or}
+use Rattle.std.proofs.Common.{◌+◌, ap, ◌∙◌, arith, drop}
 use Rattle.lzk_circuit.specs.Sums.{sum_list}
 use Rattle.lzk_accept.specs.Bound.{counts}
 use Rattle.lzk_accept.proofs.BoundLaws.{sum_step}
 use Rattle.lzk_accept.proofs.bound.sum_terms.Goals as goal
-
-pub count_of-requires-clause-wire : goal.count_of-requires-clause-wire
-count_of-requires-clause-wire g c κs within =
-    let t = c.index-terms-i.result in
-    (c.requires c.loop-i.i t (slice_get-get_or c.args.terms.now c.loop-i.i t c.loop-i-test.true ∙ ap Some (sym c.index-terms-i.is))).0
-
-pub count_of-requires-clause-first : goal.count_of-requires-clause-first
-count_of-requires-clause-first g c κs within =
-    let t = c.index-terms-i.result in
-    (c.requires c.loop-i.i t (slice_get-get_or c.args.terms.now c.loop-i.i t c.loop-i-test.true ∙ ap Some (sym c.index-terms-i.is))).1
 
 pub loop-i-preserved : goal.loop-i-preserved
 loop-i-preserved g c =

@@ -13,8 +13,8 @@ use Rattle.lzk_accept.proofs.FactorLaws.{width_power, row_end}
 use Rattle.lzk_accept.proofs.PrivateLaws.{filled, same_privates, same_wanted, combined_behind, combined_private}
 use Rattle.lzk_accept.proofs.factored.fill.Goals as goal
 
-pub combine_from-wanted-requires-clause-rows : goal.combine_from-wanted-requires-clause-rows
-combine_from-wanted-requires-clause-rows g c κs within d e are =
+pub invariant_of-combining-clause-filled : goal.invariant_of-combining-clause-filled
+invariant_of-combining-clause-filled g c d e are =
     let o = g.F.Field.ops in
     let w = c.args.scripted.now.circuit.now in
     let wr : c.of-params.result.wr ≡ (params_of w).wr = ap (λ (q : Params). q.wr) c.of-params.ensures.params in

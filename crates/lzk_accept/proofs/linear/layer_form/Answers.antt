@@ -13,8 +13,8 @@ use Rattle.lzk_accept.proofs.LinearLaws.{layer_is}
 use Rattle.lzk_accept.proofs.ShapeLaws.{layer_shape}
 use Rattle.lzk_accept.proofs.linear.layer_form.Goals as goal
 
-pub claim_form-claim-requires-clause-bits : goal.claim_form-claim-requires-clause-bits
-claim_form-claim-requires-clause-bits g c κs within =
+pub invariant_of-rounds-clause-drawn : goal.invariant_of-rounds-clause-drawn
+invariant_of-rounds-clause-drawn g c =
     let o = g.F.Field.ops in
     let w = c.args.turn.now.exchange.now.scripted.circuit.now in
     let bits : bits_under w c.args.turn.now.l ≡ c.args.turn.now.places.bits = sym (ap (λ (p : LayerPlaces). p.bits) c.args.turn.now.placed) in

@@ -2,15 +2,7 @@ use Rattle.std.proofs.Common.{ap, ◌∙◌, arith}
 use Rattle.std.proofs.lemmas.List.{get_or_default}
 use Rattle.lzk_field.specs.Sums.{entry}
 use Rattle.lzk_accept.proofs.LinearLaws.{public_starts, public_more}
-use Rattle.lzk_accept.proofs.ShapeLaws.{width_last}
 use Rattle.lzk_accept.proofs.linear.public_part.Goals as goal
-
-pub joined-total-requires-clause-place : goal.joined-total-requires-clause-place
-joined-total-requires-clause-place g c κs within = omega (arith, width_last c.args.prepared.now.exchange.scripted.circuit.now)
-
-pub joined-requires-clause-place : goal.joined-requires-clause-place
-joined-requires-clause-place g c κs within =
-    omega (arith, width_last c.args.prepared.now.exchange.scripted.circuit.now, c.args.prepared.now.exchange.publics)
 
 pub loop-i-init : goal.loop-i-init
 loop-i-init g c =

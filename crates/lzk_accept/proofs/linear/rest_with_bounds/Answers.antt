@@ -1,8 +1,7 @@
 use Rattle.std.proofs.Common.{◌≡◌, length, sym, ap, ◌∙◌, subst, arith}
 use Rattle.std.specs.Vec.{with_items}
 use Rattle.std.proofs.lemmas.List.{with_items_is}
-use Rattle.lzk_circuit.proofs.BitLaws.{bits_enough}
-use Rattle.lzk_layout.specs.Places.{depth, width_at}
+use Rattle.lzk_layout.specs.Places.{depth}
 use Rattle.lzk_accept.specs.Kept.{LinearForms, AreRest, AreTablesAt, ArePlaced}
 use Rattle.lzk_accept.proofs.linear.rest_with_bounds.Goals as goal
 
@@ -15,24 +14,6 @@ set_input_tables-requires-clause-room g c κs within =
       first = omega (arith, widest, room, c.forms.invariant.0, ap length c.deref_mut.ensures.value);
       second = omega (arith, widest, room, c.forms.invariant.1, ap length c.deref_mut-2.ensures.value);
     }
-
-pub invariant_of-prepared-clause-first_room : goal.invariant_of-prepared-clause-first_room
-invariant_of-prepared-clause-first_room g c =
-    let w = c.args.exchange.scripted.circuit.now in
-    let inside = c.forms.inside in
-    let nf : length c.set_input_tables.new.first ≡ inside.first.len = omega (arith, c.set_input_tables.ensures.first_length, ap length c.deref_mut.ensures.value, inside.first.ok.0) in
-    let room : length inside.weights.items ≡ c.args.forms.now.room = ap (λ (x : LinearForms g.row.F.Denot). x.room) c.forms.view_is in
-    let table = ap length (c.deref.ensures.value ∙ with_items_is inside.first c.set_input_tables.new.first nf) in
-    omega (arith, table, c.set_input_tables.ensures.first_length, ap length c.deref_mut.ensures.value, c.forms.invariant.0, room, c.requires.made.room (depth w) (omega arith), bits_enough (width_at w (depth w)))
-
-pub invariant_of-prepared-clause-second_room : goal.invariant_of-prepared-clause-second_room
-invariant_of-prepared-clause-second_room g c =
-    let w = c.args.exchange.scripted.circuit.now in
-    let inside = c.forms.inside in
-    let ns : length c.set_input_tables.new.second ≡ inside.second.len = omega (arith, c.set_input_tables.ensures.second_length, ap length c.deref_mut-2.ensures.value, inside.second.ok.0) in
-    let room : length inside.weights.items ≡ c.args.forms.now.room = ap (λ (x : LinearForms g.row.F.Denot). x.room) c.forms.view_is in
-    let table = ap length (c.deref-2.ensures.value ∙ with_items_is inside.second c.set_input_tables.new.second ns) in
-    omega (arith, table, c.set_input_tables.ensures.second_length, ap length c.deref_mut-2.ensures.value, c.forms.invariant.1, room, c.requires.made.room (depth w) (omega arith), bits_enough (width_at w (depth w)))
 
 pub invariant_of-prepared-clause-at : goal.invariant_of-prepared-clause-at
 invariant_of-prepared-clause-at g c =

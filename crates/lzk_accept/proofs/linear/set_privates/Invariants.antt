@@ -7,6 +7,6 @@ invariant-loop-k g l =
     let o = g.F.Field.ops in
     record {
       length : length l.own ≡ length l.fn.own;
-      entries : (i : ℕ) → l.prepared.skip ≤ i → i < l.k → entry o l.own i ≡ o.plus (entry o l.prepared.first.now (l.at + i)) (o.times l.prepared.exchange.scripted.script.now.gamma (entry o l.prepared.second.now (l.at + i)));
+      entries : (i : ℕ) → l.prepared.skip ≤ i → i < l.k → entry o l.own i ≡ o.plus (entry o l.prepared.first.now (1 + l.publics + i)) (o.times l.prepared.exchange.scripted.script.now.gamma (entry o l.prepared.second.now (1 + l.publics + i)));
       after : (i : ℕ) → l.k ≤ i → entry o l.own i ≡ entry o l.fn.own i;
     }

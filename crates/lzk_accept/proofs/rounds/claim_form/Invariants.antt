@@ -10,6 +10,6 @@ invariant-loop-j g l =
     record {
       length : length l.own ≡ length l.fn.own;
       before : (k : ℕ) → k < l.at → entry o l.own k ≡ entry o l.fn.own k;
-      after : (k : ℕ) → l.at + 4 * l.bits ≤ k → entry o l.own k ≡ entry o l.fn.own k;
-      back : IsBack o g.F.Field.laws.ring g.F.Field.coding.element (challenge_of o l.layer) (λ k. entry o l.messages (l.sent + k)) l.own l.at (2 * l.bits) (2 * l.j) (4 * l.bits - 4 * l.j) l.claim.constant l.claim.weight;
+      after : (k : ℕ) → l.at + 4 * l.rounds.bits ≤ k → entry o l.own k ≡ entry o l.fn.own k;
+      back : IsBack o g.F.Field.laws.ring g.F.Field.coding.element (challenge_of o l.rounds.layer.now) (λ k. entry o l.rounds.messages.now (l.rounds.sent + k)) l.own l.at (2 * l.rounds.bits) (2 * l.j) (4 * l.rounds.bits - 4 * l.j) l.claim.constant l.claim.weight;
     }

@@ -8,15 +8,8 @@ use Rattle.lzk_layout.specs.Places.{width_at, bits_under}
 use Rattle.lzk_sumcheck.specs.Script.{point_a, point_b}
 use Rattle.lzk_accept.specs.Walks.{counted}
 use Rattle.lzk_accept.proofs.ShapeLaws.{layer_shape}
-use Rattle.lzk_accept.proofs.TermWalks.{bound_by_tables, layer_distinct, distinct_within, some_layer}
+use Rattle.lzk_accept.proofs.TermWalks.{bound_by_tables, layer_distinct, distinct_within}
 use Rattle.lzk_accept.proofs.tables.layer_bound.Goals as goal
-
-pub set_weights-requires-clause-tables : goal.set_weights-requires-clause-tables
-set_weights-requires-clause-tables g c κs within =
-    let w = c.args.scripted.now.circuit.now in
-    let fits : c.width.result ≤ length c.args.weights.now =
-    omega (arith, c.width.ensures, bits_enough (width_at w c.args.l), c.requires.tables.room c.args.l (omega (arith, c.requires.layer))) in
-    record { first = omega (arith, fits, c.requires.tables.first); second = omega (arith, fits, c.requires.tables.second) }
 
 pub set_weights-requires-clause-room : goal.set_weights-requires-clause-room
 set_weights-requires-clause-room g c κs within =
@@ -50,28 +43,21 @@ set_table-requires-2-clause-room g c κs within =
     let e : length c.as_slice-2.result.now ≡ bits_under w c.args.l = ap length (c.as_slice-2.ensures ∙ ap (λ x. x.rb) c.layer_of-layer.ensures.layer) ∙ (layer_shape o w c.args.scripted.now.script.now c.args.scripted.now.shape c.args.l c.requires.layer).rb in
     omega (arith, ap (λ n. 2 ^ n) e, c.requires.tables.room (c.args.l + 1) (omega (arith, c.requires.layer)), c.requires.tables.second)
 
-pub invariant_of-weighed-clause-some : goal.invariant_of-weighed-clause-some
-invariant_of-weighed-clause-some g c =
-    let w = c.args.scripted.now.circuit.now in
-    omega (arith, c.set_weights.ensures.length, some_layer g.F.Field.ops w c.args.l c.layer.result.now c.valid_laws.ensures c.layer.ensures, bits_enough (width_at w c.args.l), c.requires.tables.room c.args.l (omega (arith, c.requires.layer)))
-
-pub invariant_of-weighed-clause-below : goal.invariant_of-weighed-clause-below
-invariant_of-weighed-clause-below g c =
-    let w = c.args.scripted.now.circuit.now in
-    omega (arith, c.set_table.ensures.length, c.requires.tables.first, some_layer g.F.Field.ops w c.args.l c.layer.result.now c.valid_laws.ensures c.layer.ensures, bits_enough (width_at w c.args.l), c.requires.tables.room c.args.l (omega (arith, c.requires.layer)))
-
-pub invariant_of-weighed-clause-placed : goal.invariant_of-weighed-clause-placed
-invariant_of-weighed-clause-placed g c = λ i t is.
-    let o = g.F.Field.ops in
-    let w = c.args.scripted.now.circuit.now in
-    let l = c.args.l in
-    let layer = c.layer.result.now in
-    let below = distinct_within o (width_at w l) (width_at w (l + 1)) layer.terms (layer_distinct o g.F.Field.laws.ring w l layer c.valid_laws.ensures c.layer.ensures) i t
-    (ap (λ ts. slice_get ts i) (sym c.as_slice-3.ensures) ∙ is) in
-    let here : width_at w l ≤ length c.set_weights.new.weights = omega (arith, c.set_weights.ensures.length, bits_enough (width_at w l), c.requires.tables.room l (omega (arith, c.requires.layer))) in
-    let one : width_at w (l + 1) ≤ length c.set_table.new.table = omega (arith, c.set_table.ensures.length, bits_enough (width_at w (l + 1)), c.requires.tables.room (l + 1) (omega (arith, c.requires.layer)), c.requires.tables.first) in
-    let two : width_at w (l + 1) ≤ length c.set_table-2.new.table = omega (arith, c.set_table-2.ensures.length, bits_enough (width_at w (l + 1)), c.requires.tables.room (l + 1) (omega (arith, c.requires.layer)), c.requires.tables.second) in
-    (omega (arith, below.0), omega (arith, below.1), omega (arith, below.2))
+pub invariant_of-weighed : goal.invariant_of-weighed
+invariant_of-weighed g c =
+    record {
+      placed = λ i t is.
+          let o = g.F.Field.ops in
+          let w = c.args.scripted.now.circuit.now in
+          let l = c.args.l in
+          let layer = c.layer.result.now in
+          let below = distinct_within o (width_at w l) (width_at w (l + 1)) layer.terms (layer_distinct o g.F.Field.laws.ring w l layer c.valid_laws.ensures c.layer.ensures) i t
+          (ap (λ ts. slice_get ts i) (sym c.as_slice-3.ensures) ∙ is) in
+          let here : width_at w l ≤ length c.set_weights.new.weights = omega (arith, c.set_weights.ensures.length, bits_enough (width_at w l), c.requires.tables.room l (omega (arith, c.requires.layer))) in
+          let one : width_at w (l + 1) ≤ length c.set_table.new.table = omega (arith, c.set_table.ensures.length, bits_enough (width_at w (l + 1)), c.requires.tables.room (l + 1) (omega (arith, c.requires.layer)), c.requires.tables.first) in
+          let two : width_at w (l + 1) ≤ length c.set_table-2.new.table = omega (arith, c.set_table-2.ensures.length, bits_enough (width_at w (l + 1)), c.requires.tables.room (l + 1) (omega (arith, c.requires.layer)), c.requires.tables.second) in
+          (omega (arith, below.0), omega (arith, below.1), omega (arith, below.2));
+    }
 
 pub returns-clause-at : goal.returns-clause-at
 returns-clause-at g c =

@@ -1,6 +1,6 @@
 use Rattle.std.proofs.Common.{◌≡◌, length}
 use Rattle.lzk_layout.specs.Sizes.{sent_counts}
-use Rattle.lzk_rounds.specs.Room.{IsRoomOf}
+use Rattle.lzk_sumcheck_rounds.specs.Room.{IsRoomOf}
 use Rattle.lzk_sumcheck.specs.Script.{HasShape}
 use Rattle.lzk_bench.proofs.messages.send_often.Given as goal
 

@@ -5,7 +5,7 @@ use Rattle.lzk_circuit.specs.Valid.{AreLayers, input_width}
 use Rattle.lzk_circuit.proofs.VersionLaws.{valid-one}
 use Rattle.lzk_goldilocks.specs.Elements.{ops}
 use Rattle.lzk_goldilocks.specs.declared.element.Gold.{Gold}
-use Rattle.lzk_reduce.specs.Reduced.{AreReducedUnder, HaveOnes, HaveOnesUnder, IsReduced}
+use Rattle.lzk_circuit_reduce.specs.Reduced.{AreReducedUnder, HaveOnes, HaveOnesUnder, IsReduced}
 use Rattle.lzk_bench.proofs.reducing.reduced_of.Goals as goal
 
 ones_under : {A : Type 0} (o : Ops A) (above : Layer A) (layers : List (Layer A)) → AreReducedUnder o above layers → HaveOnesUnder o layers

@@ -29,8 +29,8 @@ constants_part-requires g c =
     let len : length flags ≡ length (coefs_of c.args.version numbers) = omega (arith, stay, c.deref_mut.ensures.len, ap length c.deref_mut.ensures.value, c.in_ok-used.ensures.len, c.len.ensures, many) in
     omega (arith, zeros_few c.args.version numbers, len, ap length back)
 
-pub layers_of-requires-clause-few : goal.layers_of-requires-clause-few
-layers_of-requires-clause-few g c =
+pub invariant_of-among-clause-few : goal.invariant_of-among-clause-few
+invariant_of-among-clause-few g c =
     let number = g.F.Field.coding.number in
     let s : Shape = shape g.F.Field.coding.id g.F.Field.coding.bytes g.F.Field.coding.size in
     let bytes = c.args.bytes.now in
@@ -40,15 +40,15 @@ layers_of-requires-clause-few g c =
     let coefs = c.in_ok-coefs.coefs.items in
     omega (arith, are.many, length-map items number, length-map coefs number, ap length c.in_ok-coefs.ensures, coefs_few c.args.version numbers, ap length c.deref.ensures.value, c.requires)
 
-pub layers_of-requires-clause-rising : goal.layers_of-requires-clause-rising
-layers_of-requires-clause-rising g c =
+pub invariant_of-among-clause-rising : goal.invariant_of-among-clause-rising
+invariant_of-among-clause-rising g c =
     let number = g.F.Field.coding.number in
     let s : Shape = shape g.F.Field.coding.id g.F.Field.coding.bytes g.F.Field.coding.size in
     let bytes = c.args.bytes.now in
     let items = c.in_ok-constants.constants.items in
     let numbers = map number items in
     let are = constants_are s c.args.count bytes numbers c.in_ok-constants.rest.now (bytes_fit bytes c.type_inv.bytes) c.in_ok-constants.ensures in
-    λ κs outlives. subst IsStrictlyIncreasing (sym (ap (map number) c.deref.ensures.value ∙ c.in_ok-coefs.ensures)) (coefs_rise c.args.version numbers are.above)
+    subst IsStrictlyIncreasing (sym (ap (map number) c.deref.ensures.value ∙ c.in_ok-coefs.ensures)) (coefs_rise c.args.version numbers are.above)
 
 pub check_used-requires : goal.check_used-requires
 check_used-requires g c =

@@ -15,22 +15,22 @@ loop-init g c =
     record {
       wires = lit≤ tt;
       terms = lit≤ tt;
-      flags = c.requires.flags;
-      used = rw c.in_ok-layers.ensures.items (marks_none (map number c.args.constants.now) (is_coefficient []) c.args.used.now (λ n. refl));
-      read = rw c.in_ok-layers.ensures.items (begins above_layer (layer_at (map number c.args.constants.now)) c.args.count (above_inputs c.args.inputs) c.args.bytes.now);
+      flags = c.requires;
+      used = rw c.in_ok-layers.ensures.items (marks_none (map number c.args.coefs.now.list.now) (is_coefficient []) c.args.used.now (λ n. refl));
+      read = rw c.in_ok-layers.ensures.items (begins above_layer (layer_at (map number c.args.coefs.now.list.now)) c.args.count (above_inputs c.args.inputs) c.args.bytes.now);
     }
 
 pub returns-in_err-layer-clause-value : goal.returns-in_err-layer-clause-value
 returns-in_err-layer-clause-value g c =
     let p = err_from_is_err_and c.from_residual-in_err-layer.result c.from_residual-in_err-layer.ensures.1 in
-    let numbers = map g.F.Field.coding.number c.args.constants.now in
+    let numbers = map g.F.Field.coding.number c.args.coefs.now.list.now in
     rw (p.1, p.2) (ends above_layer (layer_at numbers) c.in_err-layer.field-0.0 (map (numbered_layer g.F.Field.coding.number) c.loop.layers.items) c.args.count c.loop.counter (under c.loop.below.width c.loop.below.wires c.loop.below.terms) c.loop.rest.now (layers_at numbers c.args.inputs c.args.count c.args.bytes.now) c.loop-test.true c.in_err-layer.ensures.value c.loop.invariant.read)
 
 pub loop-preserved : goal.loop-preserved
 loop-preserved g c =
     let number = g.F.Field.coding.number in
     let view = numbered_layer number in
-    let numbers = map number c.args.constants.now in
+    let numbers = map number c.args.coefs.now.list.now in
     let l = c.in_ok-layer.layer in
     let e : map view c.push.new.self.items ≡ map view c.loop.layers.items ++ view l ∷ [] = rw c.in_ok-push.ensures.items (map_push _ c.loop.layers.items l) in
     let m : length c.as_slice.result.now ≡ length l.terms = ap length c.as_slice.ensures in
@@ -45,5 +45,5 @@ loop-preserved g c =
 
 pub returns-clause-value : goal.returns-clause-value
 returns-clause-value g c =
-    let numbers = map g.F.Field.coding.number c.args.constants.now in
+    let numbers = map g.F.Field.coding.number c.args.coefs.now.list.now in
     is_done above_layer (layer_at numbers) (map (numbered_layer g.F.Field.coding.number) c.loop.layers.items) c.args.count c.loop.counter (under c.loop.below.width c.loop.below.wires c.loop.below.terms) c.loop.rest.now (layers_at numbers c.args.inputs c.args.count c.args.bytes.now) c.loop-test.false c.loop.invariant.read

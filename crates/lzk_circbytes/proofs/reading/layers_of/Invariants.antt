@@ -13,8 +13,8 @@ invariant-loop g l =
     record {
       wires : l.below.wires ≤ most_total;
       terms : l.below.terms ≤ most_total;
-      flags : length l.used ≡ length l.constants;
-      used : Marks (map number l.constants) (is_coefficient (map (numbered_layer number) l.layers.items)) l.fn.used l.used;
-      read : with_front (map (numbered_layer number) l.layers.items) (many above_layer (layer_at (map number l.constants)) (l.count - l.counter) (under l.below.width l.below.wires l.below.terms) l.rest)
-          ≡ layers_at (map number l.constants) l.inputs l.count l.bytes;
+      flags : length l.used ≡ length l.coefs.list.now;
+      used : Marks (map number l.coefs.list.now) (is_coefficient (map (numbered_layer number) l.layers.items)) l.fn.used l.used;
+      read : with_front (map (numbered_layer number) l.layers.items) (many above_layer (layer_at (map number l.coefs.list.now)) (l.count - l.counter) (under l.below.width l.below.wires l.below.terms) l.rest)
+          ≡ layers_at (map number l.coefs.list.now) l.inputs l.count l.bytes;
     }

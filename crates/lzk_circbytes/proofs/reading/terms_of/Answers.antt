@@ -13,35 +13,35 @@ loop-init g c =
     let number = g.F.Field.coding.number in
     record {
       count = ap length c.in_ok-terms.ensures.items;
-      flags = c.requires.flags;
-      used = rw c.in_ok-terms.ensures.items (marks_none (map number c.args.constants.now) (is_in_terms []) c.args.used.now (λ n. refl));
-      read = rw c.in_ok-terms.ensures.items (begins as_before (term_at (map number c.args.constants.now) c.args.wires c.args.below) c.args.count None c.args.bytes.now);
+      flags = c.requires;
+      used = rw c.in_ok-terms.ensures.items (marks_none (map number c.args.coefs.now.list.now) (is_in_terms []) c.args.used.now (λ n. refl));
+      read = rw c.in_ok-terms.ensures.items (begins as_before (term_at (map number c.args.coefs.now.list.now) c.args.wires c.args.below) c.args.count None c.args.bytes.now);
     }
 
 pub returns-in_err-term-clause-value : goal.returns-in_err-term-clause-value
 returns-in_err-term-clause-value g c =
     let p = err_from_is_err_and c.from_residual-in_err-term.result c.from_residual-in_err-term.ensures.1 in
     let view = numbered_term g.F.Field.coding.number in
-    rw (p.1, p.2) (ends as_before (term_at (map g.F.Field.coding.number c.args.constants.now) c.args.wires c.args.below) c.in_err-term.field-0.0 (map view c.loop.terms.items) c.args.count c.loop.counter (option_map view c.loop.before) c.loop.rest.now (terms_at (map g.F.Field.coding.number c.args.constants.now) c.args.wires c.args.below c.args.count c.args.bytes.now) c.loop-test.true c.in_err-term.ensures.value c.loop.invariant.read)
+    rw (p.1, p.2) (ends as_before (term_at (map g.F.Field.coding.number c.args.coefs.now.list.now) c.args.wires c.args.below) c.in_err-term.field-0.0 (map view c.loop.terms.items) c.args.count c.loop.counter (option_map view c.loop.before) c.loop.rest.now (terms_at (map g.F.Field.coding.number c.args.coefs.now.list.now) c.args.wires c.args.below c.args.count c.args.bytes.now) c.loop-test.true c.in_err-term.ensures.value c.loop.invariant.read)
 
 pub loop-preserved : goal.loop-preserved
 loop-preserved g c =
     let number = g.F.Field.coding.number in
     let view = numbered_term number in
-    let numbers = map number c.args.constants.now in
+    let numbers = map number c.args.coefs.now.list.now in
     let t = c.in_ok-term.term in
     let k = c.in_ok-term.k in
     let e : map view c.push.new.self.items ≡ map view c.loop.terms.items ++ view t ∷ [] = rw c.in_ok-push.ensures.items (map_push _ c.loop.terms.items t) in
-    let in_numbers : k < length numbers = omega (arith, c.in_ok-term.ensures.bound, length-map c.args.constants.now number) in
+    let in_numbers : k < length numbers = omega (arith, c.in_ok-term.ensures.bound, length-map c.args.coefs.now.list.now number) in
     let in_flags : k < length c.loop.used = omega (arith, c.in_ok-term.ensures.bound, c.loop.invariant.flags) in
     record {
       count = omega (arith, length-append c.loop.terms.items (t ∷ []), ap length c.in_ok-push.ensures.items, c.loop.invariant.count);
       flags = length-set c.loop.used k _ ∙ c.loop.invariant.flags;
-      used = rw e (marks_term numbers c.requires.rising (map view c.loop.terms.items) (view t) k c.args.used.now c.loop.used in_numbers in_flags c.in_ok-term.ensures.constant c.loop.invariant.used);
+      used = rw e (marks_term numbers c.args.coefs.now.rising (map view c.loop.terms.items) (view t) k c.args.used.now c.loop.used in_numbers in_flags c.in_ok-term.ensures.constant c.loop.invariant.used);
       read = rw e (goes_on as_before (term_at numbers c.args.wires c.args.below) (map view c.loop.terms.items) c.args.count c.loop.counter (option_map view c.loop.before) c.loop.rest.now (view t) c.in_ok-term.after.now (terms_at numbers c.args.wires c.args.below c.args.count c.args.bytes.now) c.loop-test.true c.in_ok-term.ensures.value c.loop.invariant.read);
     }
 
 pub returns-clause-value : goal.returns-clause-value
 returns-clause-value g c =
     let view = numbered_term g.F.Field.coding.number in
-    is_done as_before (term_at (map g.F.Field.coding.number c.args.constants.now) c.args.wires c.args.below) (map view c.loop.terms.items) c.args.count c.loop.counter (option_map view c.loop.before) c.loop.rest.now (terms_at (map g.F.Field.coding.number c.args.constants.now) c.args.wires c.args.below c.args.count c.args.bytes.now) c.loop-test.false c.loop.invariant.read
+    is_done as_before (term_at (map g.F.Field.coding.number c.args.coefs.now.list.now) c.args.wires c.args.below) (map view c.loop.terms.items) c.args.count c.loop.counter (option_map view c.loop.before) c.loop.rest.now (terms_at (map g.F.Field.coding.number c.args.coefs.now.list.now) c.args.wires c.args.below c.args.count c.args.bytes.now) c.loop-test.false c.loop.invariant.read

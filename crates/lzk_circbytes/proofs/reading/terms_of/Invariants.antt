@@ -11,8 +11,8 @@ invariant-loop g l =
     let number = g.F.Field.coding.number in
     record {
       count : length l.terms.items ≡ l.counter;
-      flags : length l.used ≡ length l.constants;
-      used : Marks (map number l.constants) (is_in_terms (map (numbered_term number) l.terms.items)) l.fn.used l.used;
-      read : with_front (map (numbered_term number) l.terms.items) (many as_before (term_at (map number l.constants) l.wires l.below) (l.count - l.counter) (option_map (numbered_term number) l.before) l.rest)
-          ≡ terms_at (map number l.constants) l.wires l.below l.count l.bytes;
+      flags : length l.used ≡ length l.coefs.list.now;
+      used : Marks (map number l.coefs.list.now) (is_in_terms (map (numbered_term number) l.terms.items)) l.fn.used l.used;
+      read : with_front (map (numbered_term number) l.terms.items) (many as_before (term_at (map number l.coefs.list.now) l.wires l.below) (l.count - l.counter) (option_map (numbered_term number) l.before) l.rest)
+          ≡ terms_at (map number l.coefs.list.now) l.wires l.below l.count l.bytes;
     }

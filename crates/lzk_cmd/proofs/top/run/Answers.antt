@@ -1,6 +1,6 @@
-use Rattle.lzk_cmd_runs.specs.Sights.{before, after}
+use Rattle.lzk_cmd.specs.Sights.{before, after}
 use Rattle.lzk_cmd.proofs.DemoRuns.{demo_concluded, sha_concluded}
-use Rattle.lzk_cmd_runs.proofs.Promises.{concluded}
+use Rattle.lzk_cmd.proofs.Promises.{concluded}
 use Rattle.lzk_cmd.proofs.top.run.Goals as goal
 
 pub returns-clause-run : goal.returns-clause-run

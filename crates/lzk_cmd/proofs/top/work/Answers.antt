@@ -1,6 +1,6 @@
 use Rattle.std.specs.Option.{option_copied}
 use Rattle.lzk_cmd_files.specs.Seen.{seen}
-use Rattle.lzk_cmd_runs.specs.Sights.{texts}
+use Rattle.lzk_cmd.specs.Sights.{texts}
 use Rattle.lzk_cmd_words.specs.Words.{Eval, Compile, Upgrade, Show, Prove, Verify, Batch, Demo, ShaCircuit, Sha256}
 use Rattle.lzk_cmd_words.specs.Keys.{number_of}
 use Rattle.lzk_cmd_words.specs.Digits.{seed_of}

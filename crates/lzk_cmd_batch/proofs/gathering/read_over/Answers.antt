@@ -1,6 +1,6 @@
 use Rattle.std.proofs.Common.{ℕ, List, Ok, Err, subst}
 use Rattle.lzk_batch.specs.Lists.{entry_view}
-use Rattle.lzk_cmd_runs.specs.Batched.{among}
+use Rattle.lzk_cmd_batch.specs.Batched.{among}
 use Rattle.lzk_cmd_files.specs.Decoded.{number_files, proof_files}
 use Rattle.lzk_cmd_files.specs.Seen.{seen}
 use Rattle.lzk_cmd_files.specs.Walks.{Gives}

@@ -1,6 +1,6 @@
 use Rattle.lzk_cmd_words.specs.Keys.{number_of}
 use Rattle.lzk_cmd_words.specs.Digits.{seed_of}
-use Rattle.lzk_cmd_runs.proofs.DemoCounts.{demo_compiled}
+use Rattle.lzk_cmd_prove.proofs.DemoCounts.{demo_compiled}
 use Rattle.lzk_cmd_prove.proofs.Told.{same_end}
 use Rattle.lzk_cmd_prove.proofs.demos.demo.Goals as goal
 

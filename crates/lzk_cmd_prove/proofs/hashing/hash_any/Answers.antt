@@ -1,6 +1,6 @@
 use Rattle.std.proofs.Common.{◌≡◌, false, length, Ok, sym, subst, ◌∙◌}
 use Rattle.lzk_circbytes.specs.declared.any.AnyCircuit.{AnyCircuit}
-use Rattle.lzk_cmd_runs.specs.Hashed.{HashAny, is_for}
+use Rattle.lzk_cmd_prove.specs.Hashed.{HashAny, is_for}
 use Rattle.lzk_cmd_files.specs.Seen.{seen}
 use Rattle.lzk_cmd_files.specs.Walks.{WalksToPut}
 use Rattle.lzk_cmd_prove.proofs.Hashes.{refuses_counts, refuses_field}

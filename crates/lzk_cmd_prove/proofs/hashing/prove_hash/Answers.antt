@@ -1,8 +1,8 @@
 use Rattle.std.proofs.Common.{ℕ, List, subst, ◌∙◌}
 use Rattle.std.specs.Option.{option_copied}
 use Rattle.lzk_goldilocks.specs.Elements.{ops}
-use Rattle.lzk_cmd_runs.specs.Hashed.{ProvesHash}
-use Rattle.lzk_cmd_runs.specs.Proved.{Proves, gold_word}
+use Rattle.lzk_cmd_prove.specs.Hashed.{ProvesHash}
+use Rattle.lzk_cmd_prove.specs.Proved.{Proves, gold_word}
 use Rattle.lzk_cmd_verify.specs.Verified.{gold_coding}
 use Rattle.lzk_cmd_files.specs.Walks.{WalksToPut}
 use Rattle.lzk_cmd_files.specs.Seen.{seen}
@@ -20,10 +20,10 @@ returns-clause-walks g c =
     let circuit = c.args.circuit.now in
     let task = c.args.task.now in
     let digest = option_copied task.digest in
-    let publics = c.deref.result.now in
-    let privates = c.deref-2.result.now in
+    let publics = c.as_slice.result.now in
+    let privates = c.as_slice-2.result.now in
     let old = seen g.S.Shelf c.args.shelf.now in
     let new = seen g.S.Shelf c.prove_inputs.new.shelf in
     let put = subst (λ (seed : List ℕ). WalksToPut (λ files. Proves ops gold_coding circuit task.proof.now digest task.session.now (gold_word seed) publics privates) 3 old new c.prove_inputs.result) c.gold_words.ensures c.prove_inputs.ensures.walks in
     hash_proved circuit c.args.message.now task.proof.now task.session.now task.seed digest publics privates old new c.prove_inputs.result
-    c.requires.digest (c.deref.ensures.value ∙ c.in_ok-inputs.ensures.digest.words) (c.deref-2.ensures.value ∙ c.in_ok-inputs.ensures.exact) put
+    c.requires.digest (c.as_slice.ensures.value ∙ c.in_ok-inputs.ensures.digest.words) (c.as_slice-2.ensures.value ∙ c.in_ok-inputs.ensures.exact) put

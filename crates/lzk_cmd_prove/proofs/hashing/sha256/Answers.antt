@@ -4,7 +4,7 @@ use Rattle.lzk_circbytes.specs.declared.any.AnyCircuit.{AnyCircuit}
 use Rattle.lzk_outside.specs.Outside.{Files}
 use Rattle.lzk_cmd_files.specs.Decoded.{circuit_files}
 use Rattle.lzk_cmd_files.specs.Ends.{End, Stop}
-use Rattle.lzk_cmd_runs.specs.Hashed.{HashAny, HashRun}
+use Rattle.lzk_cmd_prove.specs.Hashed.{HashAny, HashRun}
 use Rattle.lzk_cmd_words.specs.Digits.{message_of, seed_of, session_of}
 use Rattle.lzk_cmd_files.specs.Seen.{seen}
 use Rattle.lzk_cmd_files.specs.Walks.{WalksToPut}

@@ -1,5 +1,5 @@
 use Rattle.std.proofs.Common.{ℕ, List, Option, None, refl, subst}
-use Rattle.lzk_cmd_runs.specs.Proved.{ProveOver}
+use Rattle.lzk_cmd_prove.specs.Proved.{ProveOver}
 use Rattle.lzk_cmd_files.specs.Seen.{seen}
 use Rattle.lzk_cmd_files.specs.Walks.{WalksToPut}
 use Rattle.lzk_cmd_files.proofs.Inputs.{no_publics, no_privates, with_inputs}
@@ -37,8 +37,8 @@ returns-clause-walks g c =
     let privates = c.in_ok-privates.privates in
     let late = seen g.S.Shelf c.read_elements-2.new.shelf in
     let end = seen g.S.Shelf c.prove_inputs.new.shelf in
-    let plain = subst (λ (d : Option (List ℕ)). WalksToPut (WithInputs o e circuit task.proof.now d task.session.now (g.W.Words.at c.args.words.now) c.deref.result.now c.deref-2.result.now) 3 late end c.prove_inputs.result) c.requires.digest c.prove_inputs.ensures.walks in
-    let first = subst (λ (xs : List _). WalksToPut (WithInputs o e circuit task.proof.now None task.session.now (g.W.Words.at c.args.words.now) xs c.deref-2.result.now) 3 late end c.prove_inputs.result) c.deref.ensures.value plain in
-    let both = subst (λ (ys : List _). WalksToPut (WithInputs o e circuit task.proof.now None task.session.now (g.W.Words.at c.args.words.now) publics.items ys) 3 late end c.prove_inputs.result) c.deref-2.ensures.value first in
+    let plain = subst (λ (d : Option (List ℕ)). WalksToPut (WithInputs o e circuit task.proof.now d task.session.now (g.W.Words.at c.args.words.now) c.as_slice.result.now c.as_slice-2.result.now) 3 late end c.prove_inputs.result) c.requires.digest c.prove_inputs.ensures.walks in
+    let first = subst (λ (xs : List _). WalksToPut (WithInputs o e circuit task.proof.now None task.session.now (g.W.Words.at c.args.words.now) xs c.as_slice-2.result.now) 3 late end c.prove_inputs.result) c.as_slice.ensures.value plain in
+    let both = subst (λ (ys : List _). WalksToPut (WithInputs o e circuit task.proof.now None task.session.now (g.W.Words.at c.args.words.now) publics.items ys) 3 late end c.prove_inputs.result) c.as_slice-2.ensures.value first in
     with_inputs e.size e.number circuit.publics circuit.privates c.args.public_file.now c.args.private_file.now (WithInputs o e circuit task.proof.now None task.session.now (g.W.Words.at c.args.words.now)) (Unit {0}) (seen g.S.Shelf c.args.shelf.now) (seen g.S.Shelf c.read_elements.new.shelf) late end c.publics.result c.privates.result c.publics.ensures c.privates.ensures
     publics privates c.prove_inputs.result c.in_ok-publics.ensures.reads c.in_ok-publics.ensures.gives c.in_ok-privates.ensures.reads c.in_ok-privates.ensures.gives both

@@ -1,5 +1,5 @@
 use Rattle.std.proofs.Common.{ℕ, List, length, subst}
-use Rattle.lzk_policies.specs.Placed.{IsCredentialRefusal}
+use Rattle.lzk_policy_inputs.specs.Placed.{IsCredentialRefusal}
 use Rattle.lzk_policy_texts.specs.Paths.{placed_of}
 use Rattle.lzk_credential_run.proofs.InputEnds.{halted}
 use Rattle.lzk_credential_run.proofs.inputs.inputs_of.Goals as goal

@@ -23,7 +23,7 @@ returns-in_err-take_words g c =
     let have = map g.F.Field.coding.number c.loop-left.found.items in
     let now = c.next_line.result.0.now in
     let e = subst (λ (t : List ℕ). Fails c.in_err-take_words.field-0.0 (words_to size c.args.count c.loop-left.line (runs is_plain t) have)) c.content.ensures c.in_err-take_words.ensures in
-    rw (p.1, p.2) (stopped size c.args.count c.loop-left.line c.args.text.now now have c.in-Some.behind c.next_line.result.1 c.in_err-take_words.field-0.0 c.next_line.ensures (subst (λ o. Left size c.args.count c.loop-left.line c.args.text.now o have) c.in-Some.is c.loop-left.invariant) e)
+    rw (p.1, p.2) (stopped size c.args.count c.loop-left.line c.args.text.now.bytes.now now have c.in-Some.behind c.next_line.result.1 c.in_err-take_words.field-0.0 c.next_line.ensures (subst (λ o. Left size c.args.count c.loop-left.line c.args.text.now.bytes.now o have) c.in-Some.is c.loop-left.invariant) e)
 
 pub loop-left-preserved : goal.loop-left-preserved
 loop-left-preserved g c =
@@ -32,16 +32,16 @@ loop-left-preserved g c =
     let more = map g.F.Field.coding.number c.take_words.new.found.items in
     let now = c.next_line.result.0.now in
     let e = rw c.content.ensures at c.in_ok-take_words.ensures in
-    left_next size c.args.count c.loop-left.line c.args.text.now now have more c.in-Some.behind c.next_line.result.1 c.next_line.ensures (subst (λ o. Left size c.args.count c.loop-left.line c.args.text.now o have) c.in-Some.is c.loop-left.invariant) e
+    left_next size c.args.count c.loop-left.line c.args.text.now.bytes.now now have more c.in-Some.behind c.next_line.result.1 c.next_line.ensures (subst (λ o. Left size c.args.count c.loop-left.line c.args.text.now.bytes.now o have) c.in-Some.is c.loop-left.invariant) e
 
 pub returns-then-len-count : goal.returns-then-len-count
 returns-then-len-count g c =
     let size = g.F.Field.coding.size in
     let have = map g.F.Field.coding.number c.loop-left.found.items in
-    left_few size c.args.count c.loop-left.line c.args.text.now have (subst (λ o. Left size c.args.count c.loop-left.line c.args.text.now o have) c.in_default.is c.loop-left.invariant) (omega (arith, length-map c.loop-left.found.items g.F.Field.coding.number, c.len.ensures, c.if-len-count.true))
+    left_few size c.args.count c.loop-left.line c.args.text.now.bytes.now have (subst (λ o. Left size c.args.count c.loop-left.line c.args.text.now.bytes.now o have) c.in_default.is c.loop-left.invariant) (omega (arith, length-map c.loop-left.found.items g.F.Field.coding.number, c.len.ensures, c.if-len-count.true))
 
 pub returns : goal.returns
 returns g c =
     let size = g.F.Field.coding.size in
     let have = map g.F.Field.coding.number c.loop-left.found.items in
-    left_done size c.args.count c.loop-left.line c.args.text.now have (subst (λ o. Left size c.args.count c.loop-left.line c.args.text.now o have) c.in_default.is c.loop-left.invariant) (omega (arith, length-map c.loop-left.found.items g.F.Field.coding.number, c.len.ensures, c.if-len-count.false))
+    left_done size c.args.count c.loop-left.line c.args.text.now.bytes.now have (subst (λ o. Left size c.args.count c.loop-left.line c.args.text.now.bytes.now o have) c.in_default.is c.loop-left.invariant) (omega (arith, length-map c.loop-left.found.items g.F.Field.coding.number, c.len.ensures, c.if-len-count.false))

@@ -3,7 +3,7 @@ use Rattle.std.specs.declared.alloc.Global.{Global}
 use Rattle.lzk_expr.specs.Numbers.{Fails, numbers_of, NumberText}
 use Rattle.lzk_expr.specs.declared.fault.NumberError.{NumberError}
 use Rattle.lzk_expr.specs.declared.fault.NumberError.TheVariants as errors
-use Rattle.lzk_expr.proofs.Laws.{text_take, text_again}
+use Rattle.lzk_expr.proofs.NumberLaws.{text_take, text_again}
 use Rattle.lzk_expr.proofs.numbers.read_numbers.Goals as goal
 
 is_found : {F : Type 0} (num : F → ℕ) (size count : ℕ) (text : List ℕ) (r : Result (Vec F Global) NumberError)

@@ -1,6 +1,6 @@
 use Rattle.std.proofs.Common.{◌≡◌, ◌∙◌, ap, sym, subst, ℕ, ◌+◌, ◌<◌, ◌≤◌, min, length, map, arith}
-use Rattle.lzk_reduce.specs.Attached.{IsAssertingForm}
-use Rattle.lzk_reduce.specs.Renumbering.{at}
+use Rattle.lzk_circuit_reduce.specs.Attached.{IsAssertingForm}
+use Rattle.lzk_circuit_reduce.specs.Renumbering.{at}
 use Rattle.std.proofs.lemmas.Result.{IfOk-weaker}
 use Rattle.lzk_level.specs.Checking.{targets_below, AreAsserting}
 use Rattle.lzk_level.proofs.AssertedLaws.{Laid, laid, laid-asserting, tops}

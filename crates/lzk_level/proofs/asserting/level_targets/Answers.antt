@@ -1,6 +1,6 @@
 use Rattle.std.proofs.Common.{◌≡◌, ◌∙◌, ◌∷◌, [], ◌++◌, ap, sym, arith}
 use Rattle.std.proofs.lemmas.List.{get_or_default}
-use Rattle.lzk_reduce.specs.Renumbering.{at}
+use Rattle.lzk_circuit_reduce.specs.Renumbering.{at}
 use Rattle.lzk_level.specs.Levels.{place_in}
 use Rattle.lzk_level.proofs.CheckingLaws.{targets-here, targets-other}
 use Rattle.lzk_level.proofs.asserting.level_targets.Goals.{then-graph-k+in_ok-push, else-graph-k}

@@ -1,22 +1,29 @@
-use Rattle.std.proofs.Common.{subst}
+use Rattle.std.proofs.Common.{◌≡◌}
+use Rattle.std.specs.Prelude.{count_by}
+use Rattle.std.proofs.lemmas.Result.{IfOk-weaker}
+use Rattle.lzk_expr.specs.Trees.{is_public, is_private}
 use Rattle.lzk_expr.specs.View.{statements_of, tree_of}
-use Rattle.lzk_level.specs.Bounds.{IsFaultOf}
-use Rattle.lzk_level.specs.Compiled.{limit_in, source_limit}
-use Rattle.lzk_level.proofs.CompiledLaws.{handed_on}
+use Rattle.lzk_level.specs.Compiled.{version_of, field_of, publics_of, privates_of, depth_of, source_layers, HasSourceValues, HasReducedLayers}
+use Rattle.lzk_level.specs.SomeCircuit.{IsCircuitOf}
 use Rattle.lzk_level.proofs.compiler.compile_owned.Goals as goal
 
-pub returns-in_err-compile_dropping-in-Goldilocks-clause-fault : goal.returns-in_err-compile_dropping-in-Goldilocks-clause-fault
-returns-in_err-compile_dropping-in-Goldilocks-clause-fault c =
-    let e = c.in_err-compile_dropping-in-Goldilocks.field-0.0 in
-    let ss = c.args.source.statements in
-    let here = c.in_err-compile_dropping-in-Goldilocks.ensures.fault in
-    handed_on c.from_residual.result (IsFaultOf (source_limit (tree_of c.args.source))) e c.from_residual.ensures.1
-    (subst (λ f. IsFaultOf (limit_in f (statements_of ss)) e) (c.in-Goldilocks.ensures) here)
+pub returns-clause-version : goal.returns-clause-version
+returns-clause-version c = IfOk-weaker c.compiled_dropping.result (IsCircuitOf (tree_of c.args.source)) (λ x. version_of x ≡ 1) (λ _ h. h.version_is) c.compiled_dropping.ensures.circuit
 
-pub returns-in_err-compile_dropping-in-Gf2_128-clause-fault : goal.returns-in_err-compile_dropping-in-Gf2_128-clause-fault
-returns-in_err-compile_dropping-in-Gf2_128-clause-fault c =
-    let e = c.in_err-compile_dropping-in-Gf2_128.field-0.0 in
-    let ss = c.args.source.statements in
-    let here = c.in_err-compile_dropping-in-Gf2_128.ensures.fault in
-    handed_on c.from_residual-in_err-compile_dropping-in-Gf2_128.result (IsFaultOf (source_limit (tree_of c.args.source))) e c.from_residual-in_err-compile_dropping-in-Gf2_128.ensures.1
-    (subst (λ f. IsFaultOf (limit_in f (statements_of ss)) e) (c.in-Gf2_128.ensures) here)
+pub returns-clause-field : goal.returns-clause-field
+returns-clause-field c = IfOk-weaker c.compiled_dropping.result (IsCircuitOf (tree_of c.args.source)) (λ x. field_of x ≡ c.args.source.field_is) (λ _ h. h.field_is) c.compiled_dropping.ensures.circuit
+
+pub returns-clause-publics : goal.returns-clause-publics
+returns-clause-publics c = IfOk-weaker c.compiled_dropping.result (IsCircuitOf (tree_of c.args.source)) (λ x. publics_of x ≡ count_by is_public (statements_of c.args.source.statements)) (λ _ h. h.publics) c.compiled_dropping.ensures.circuit
+
+pub returns-clause-privates : goal.returns-clause-privates
+returns-clause-privates c = IfOk-weaker c.compiled_dropping.result (IsCircuitOf (tree_of c.args.source)) (λ x. privates_of x ≡ count_by is_private (statements_of c.args.source.statements)) (λ _ h. h.privates) c.compiled_dropping.ensures.circuit
+
+pub returns-clause-layers : goal.returns-clause-layers
+returns-clause-layers c = IfOk-weaker c.compiled_dropping.result (IsCircuitOf (tree_of c.args.source)) (λ x. depth_of x ≡ source_layers (tree_of c.args.source)) (λ _ h. h.layers) c.compiled_dropping.ensures.circuit
+
+pub returns-clause-outputs : goal.returns-clause-outputs
+returns-clause-outputs c = IfOk-weaker c.compiled_dropping.result (IsCircuitOf (tree_of c.args.source)) (HasSourceValues (statements_of c.args.source.statements)) (λ _ h. h.outputs) c.compiled_dropping.ensures.circuit
+
+pub returns-clause-reduced : goal.returns-clause-reduced
+returns-clause-reduced c = IfOk-weaker c.compiled_dropping.result (IsCircuitOf (tree_of c.args.source)) HasReducedLayers (λ _ h. h.reduced) c.compiled_dropping.ensures.circuit

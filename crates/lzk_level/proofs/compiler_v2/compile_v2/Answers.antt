@@ -1,52 +1,32 @@
-use Rattle.std.proofs.Common.{sym, subst}
-use Rattle.lzk_goldilocks.specs.Elements as gold
-use Rattle.lzk_gf128.specs.Elements as gf
+use Rattle.std.proofs.Common.{◌≡◌}
+use Rattle.std.specs.Prelude.{count_by}
+use Rattle.std.proofs.lemmas.Result.{IfOk-weaker}
+use Rattle.lzk_expr.specs.Trees.{is_public, is_private}
 use Rattle.lzk_expr.specs.View.{statements_of, tree_of}
-use Rattle.lzk_level.specs.Bounds.{IsFaultOf}
-use Rattle.lzk_level.specs.Compiling.{nodes_of}
-use Rattle.lzk_level.specs.Compiled.{IsCompilable, HasAsManyChecks, HasCheckedValues, limit_passed_v2, limit_in_v2, source_limit_v2}
-use Rattle.lzk_level.proofs.CompiledLaws.{handed_on}
-use Rattle.lzk_level.proofs.FormedLaws.{compilable}
+use Rattle.lzk_level.specs.Compiled.{version_of, field_of, publics_of, privates_of, depth_of, source_layers, HasSourceChecks, HasFewSourceOutputs, HasReducedAsserting}
+use Rattle.lzk_level.specs.SomeCircuit.{IsCircuitOfV2}
 use Rattle.lzk_level.proofs.compiler_v2.compile_v2.Goals as goal
 
-pub compile_over-requires-clause-compilable : goal.compile_over-requires-clause-compilable
-compile_over-requires-clause-compilable c κs =
-    subst (λ ss. IsCompilable (statements_of ss)) (sym c.statements-statements.ensures.statements) (compilable (tree_of c.args.source.now) c.statements-statements.ensures.formed)
+pub returns-clause-version : goal.returns-clause-version
+returns-clause-version c = IfOk-weaker c.compiled.result (IsCircuitOfV2 (tree_of c.args.source.now)) (λ x. version_of x ≡ 2) (λ _ h. h.version_is) c.compiled.ensures.circuit
 
-pub compile_over-requires-in-Gf2_128-clause-compilable : goal.compile_over-requires-in-Gf2_128-clause-compilable
-compile_over-requires-in-Gf2_128-clause-compilable c κs =
-    subst (λ ss. IsCompilable (statements_of ss)) (sym c.statements-statements.ensures.statements) (compilable (tree_of c.args.source.now) c.statements-statements.ensures.formed)
+pub returns-clause-field : goal.returns-clause-field
+returns-clause-field c = IfOk-weaker c.compiled.result (IsCircuitOfV2 (tree_of c.args.source.now)) (λ x. field_of x ≡ c.args.source.now.field_is) (λ _ h. h.field_is) c.compiled.ensures.circuit
 
-pub returns-in_err-compile_over-in-Goldilocks-clause-fault : goal.returns-in_err-compile_over-in-Goldilocks-clause-fault
-returns-in_err-compile_over-in-Goldilocks-clause-fault c =
-    let e = c.in_err-compile_over-in-Goldilocks.field-0.0 in
-    let ss = c.args.source.now.statements in
-    let here = subst (λ l. IsFaultOf (limit_passed_v2 (nodes_of gold.ops gold.of_number (statements_of l))) e) c.statements-statements.ensures.statements c.in_err-compile_over-in-Goldilocks.ensures.fault in
-    handed_on c.from_residual.result (IsFaultOf (source_limit_v2 (tree_of c.args.source.now))) e c.from_residual.ensures.1
-    (subst (λ f. IsFaultOf (limit_in_v2 f (statements_of ss)) e) (c.in-Goldilocks.ensures) here)
+pub returns-clause-publics : goal.returns-clause-publics
+returns-clause-publics c = IfOk-weaker c.compiled.result (IsCircuitOfV2 (tree_of c.args.source.now)) (λ x. publics_of x ≡ count_by is_public (statements_of c.args.source.now.statements)) (λ _ h. h.publics) c.compiled.ensures.circuit
 
-pub returns-in_err-compile_over-in-Gf2_128-clause-fault : goal.returns-in_err-compile_over-in-Gf2_128-clause-fault
-returns-in_err-compile_over-in-Gf2_128-clause-fault c =
-    let e = c.in_err-compile_over-in-Gf2_128.field-0.0 in
-    let ss = c.args.source.now.statements in
-    let here = subst (λ l. IsFaultOf (limit_passed_v2 (nodes_of gf.ops gf.of_number (statements_of l))) e) c.statements-statements.ensures.statements c.in_err-compile_over-in-Gf2_128.ensures.fault in
-    handed_on c.from_residual-in_err-compile_over-in-Gf2_128.result (IsFaultOf (source_limit_v2 (tree_of c.args.source.now))) e c.from_residual-in_err-compile_over-in-Gf2_128.ensures.1
-    (subst (λ f. IsFaultOf (limit_in_v2 f (statements_of ss)) e) (c.in-Gf2_128.ensures) here)
+pub returns-clause-privates : goal.returns-clause-privates
+returns-clause-privates c = IfOk-weaker c.compiled.result (IsCircuitOfV2 (tree_of c.args.source.now)) (λ x. privates_of x ≡ count_by is_private (statements_of c.args.source.now.statements)) (λ _ h. h.privates) c.compiled.ensures.circuit
 
-pub returns-in_ok-compile_over-in-Goldilocks-clause-checks : goal.returns-in_ok-compile_over-in-Goldilocks-clause-checks
-returns-in_ok-compile_over-in-Goldilocks-clause-checks c =
-    let circuit = c.in_ok-compile_over-in-Goldilocks.field-0 in
-    let e = c.in_ok-compile_over-in-Goldilocks.ensures in
-    let is = c.statements-statements.ensures.statements in (
-      subst (λ l. HasAsManyChecks gold.number (statements_of l) circuit) is e.count,
-      subst (λ l. HasCheckedValues gold.ops gold.number gold.of_number (statements_of l) circuit) is e.checks,
-    )
+pub returns-clause-layers : goal.returns-clause-layers
+returns-clause-layers c = IfOk-weaker c.compiled.result (IsCircuitOfV2 (tree_of c.args.source.now)) (λ x. depth_of x ≡ source_layers (tree_of c.args.source.now)) (λ _ h. h.layers) c.compiled.ensures.circuit
 
-pub returns-in_ok-compile_over-in-Gf2_128-clause-checks : goal.returns-in_ok-compile_over-in-Gf2_128-clause-checks
-returns-in_ok-compile_over-in-Gf2_128-clause-checks c =
-    let circuit = c.in_ok-compile_over-in-Gf2_128.field-0 in
-    let e = c.in_ok-compile_over-in-Gf2_128.ensures in
-    let is = c.statements-statements.ensures.statements in (
-      subst (λ l. HasAsManyChecks gf.number (statements_of l) circuit) is e.count,
-      subst (λ l. HasCheckedValues gf.ops gf.number gf.of_number (statements_of l) circuit) is e.checks,
-    )
+pub returns-clause-checks : goal.returns-clause-checks
+returns-clause-checks c = IfOk-weaker c.compiled.result (IsCircuitOfV2 (tree_of c.args.source.now)) (HasSourceChecks (statements_of c.args.source.now.statements)) (λ _ h. h.checks) c.compiled.ensures.circuit
+
+pub returns-clause-outputs : goal.returns-clause-outputs
+returns-clause-outputs c = IfOk-weaker c.compiled.result (IsCircuitOfV2 (tree_of c.args.source.now)) (HasFewSourceOutputs (statements_of c.args.source.now.statements)) (λ _ h. h.outputs) c.compiled.ensures.circuit
+
+pub returns-clause-reduced : goal.returns-clause-reduced
+returns-clause-reduced c = IfOk-weaker c.compiled.result (IsCircuitOfV2 (tree_of c.args.source.now)) HasReducedAsserting (λ _ h. h.reduced) c.compiled.ensures.circuit

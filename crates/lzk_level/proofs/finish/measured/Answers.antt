@@ -1,29 +1,15 @@
 use Rattle.std.proofs.Common.{◌≡◌, ◌∙◌, ap, ◌+◌, ◌-◌, ◌^◌, ◌∷◌, length, map, min, replicate, arith, Some, None}
-use Rattle.std.proofs.lemmas.List.{length-map}
 use Rattle.lzk_level.specs.Bounds.{gate_depth, gate_weight, node_depths, node_weights, wire_bound}
 use Rattle.lzk_level.specs.Nodes.{Nodes, after}
 use Rattle.lzk_level.proofs.AfterLaws.{limits-of}
-use Rattle.lzk_level.proofs.FinishLaws.{depths-long, weights-long}
+use Rattle.lzk_level.proofs.FinishLaws.{depths-long}
 use Rattle.lzk_level.proofs.finish.measured.Goals as goal
 
-pub check_limits-requires-clause-few : goal.check_limits-requires-clause-few
-check_limits-requires-clause-few g c =
+pub check_limits-requires : goal.check_limits-requires
+check_limits-requires g c =
     let n = c.args.builder.now in
     let depths : c.deref-3.result.now ≡ node_depths n = c.deref-3.ensures.value ∙ c.in_ok-depths.ensures ∙ ap (after gate_depth (replicate (1 + (c.builder.inside.publics + c.builder.inside.privates)) 0)) c.deref.ensures.value ∙ ap (λ (b : Nodes _). node_depths b) c.builder.view_is in
-    omega (arith, ap length depths, depths-long n.publics n.privates n.made, ap (λ (b : Nodes _). b.publics + b.privates + length b.made) c.builder.view_is, c.builder.invariant.2, c.requires.further)
-
-pub check_limits-requires-clause-same : goal.check_limits-requires-clause-same
-check_limits-requires-clause-same g c =
-    let n = c.args.builder.now in
-    let depths : c.deref-3.result.now ≡ node_depths n = c.deref-3.ensures.value ∙ c.in_ok-depths.ensures ∙ ap (after gate_depth (replicate (1 + (c.builder.inside.publics + c.builder.inside.privates)) 0)) c.deref.ensures.value ∙ ap (λ (b : Nodes _). node_depths b) c.builder.view_is in
-    let weights : c.deref-4.result.now ≡ map (min (2 ^ 64 - 1)) (node_weights n) = c.deref-4.ensures.value ∙ c.in_ok-weights.ensures ∙ ap (λ m. map (min (2 ^ 64 - 1)) (after gate_weight (0 ∷ replicate (c.builder.inside.publics + c.builder.inside.privates) 1) m)) c.deref-2.ensures.value ∙ ap (λ (b : Nodes _). map (min (2 ^ 64 - 1)) (node_weights b)) c.builder.view_is in
-    omega (arith, ap length depths, depths-long n.publics n.privates n.made, ap length weights, length-map (node_weights n) (min (2 ^ 64 - 1)), weights-long n.publics n.privates n.made)
-
-pub check_limits-requires-clause-nodes : goal.check_limits-requires-clause-nodes
-check_limits-requires-clause-nodes g c i l =
-    let n = c.args.builder.now in
-    let depths : c.deref-3.result.now ≡ node_depths n = c.deref-3.ensures.value ∙ c.in_ok-depths.ensures ∙ ap (after gate_depth (replicate (1 + (c.builder.inside.publics + c.builder.inside.privates)) 0)) c.deref.ensures.value ∙ ap (λ (b : Nodes _). node_depths b) c.builder.view_is in
-    omega (arith, ap length depths, depths-long n.publics n.privates n.made, (c.requires.nodes i l).1)
+    omega (arith, ap length depths, depths-long n.publics n.privates n.made, ap (λ (b : Nodes _). b.publics + b.privates + length b.made) c.builder.view_is, c.builder.invariant.2, c.requires)
 
 pub returns-in-Ok-clause-within : goal.returns-in-Ok-clause-within
 returns-in-Ok-clause-within g c =

@@ -1,7 +1,8 @@
 use Rattle.std.proofs.Common.{◌≡◌, sym, subst, ◌+◌, ◌-◌, ◌<◌, length, arith}
 use Rattle.std.proofs.lemmas.List.{with_items_is}
 use Rattle.std.specs.Vec.{with_items}
-use Rattle.lzk_level.specs.Levels.{ArePlaces}
+use Rattle.lzk_level.specs.Stacking.{ArePassedBy, AreWirePlaces}
+use Rattle.lzk_level.proofs.FillLaws.{passed-above}
 use Rattle.lzk_level.proofs.TowerLaws.{Tower, tower-starts, tower-adds, tower-ends}
 use Rattle.lzk_level.proofs.finish.stacked_levels.Goals as goal
 
@@ -11,12 +12,26 @@ loop-level-init g c =
     let depths = graph.depths.now in
     let last = graph.last.now in (
       omega arith,
-      c.in_ok-below.ensures,
+      (c.in_ok-below.ensures.0, λ k l there. c.in_ok-below.ensures.1 k l),
       subst (Tower g.F.Field.ops graph.inputs graph.made.now depths last 0) (sym c.new-layers.ensures.items) (tower-starts g.F.Field.ops graph.inputs graph.made.now depths last graph.graph.depths_are graph.last_are),
+      record { some = omega arith; most = omega (arith, graph.last_are.count, graph.graph.depths_are.count, graph.graph.one); each = λ j one m. absurd (omega (arith, one, m)) },
     )
 
-pub level_rows-requires-clause-high : goal.level_rows-requires-clause-high
-level_rows-requires-clause-high g c κs within = omega (arith, c.loop-level-test.true, c.requires.needed.one)
+pub first_open-first-requires : goal.first_open-first-requires
+first_open-first-requires g c = passed-above c.args.graph.now.last.now (c.loop-level.level - 1) c.loop-level.level c.loop-level.first (omega arith) c.loop-level.invariant.3
+
+pub level_rows-requires-clause-above : goal.level_rows-requires-clause-above
+level_rows-requires-clause-above g c κs within =
+    let depths = c.args.graph.now.depths.now in
+    let last = c.args.graph.now.last.now in
+    record {
+      some = c.loop-level.invariant.0;
+      high = omega (arith, c.loop-level-test.true, c.requires.needed.one);
+      places_are = subst (AreWirePlaces depths last (c.loop-level.level - 1)) (sym c.deref.ensures.value) c.loop-level.invariant.1;
+    }
+
+pub inner_layer-requires-clause-high : goal.inner_layer-requires-clause-high
+inner_layer-requires-clause-high g c κs within = omega (arith, c.loop-level-test.true, c.requires.needed.one)
 
 pub loop-level-preserved : goal.loop-level-preserved
 loop-level-preserved g c =
@@ -36,19 +51,29 @@ loop-level-preserved g c =
     let kept : length c.inner_layer.new.places ≡ c.loop-level.below.len = omega (arith, f.places.0, i.1.0, c.loop-level.below.ok.0) in
     let back : level ≡ level + 1 - 1 = omega arith in (
       omega (arith, i.0),
-      subst (λ n. ArePlaces depths last n (with_items c.loop-level.below c.inner_layer.new.places).items) back (subst (ArePlaces depths last level) (sym (with_items_is c.loop-level.below c.inner_layer.new.places kept)) f.places),
+      subst (λ n. AreWirePlaces depths last n (with_items c.loop-level.below c.inner_layer.new.places).items) back (subst (AreWirePlaces depths last level) (sym (with_items_is c.loop-level.below c.inner_layer.new.places kept)) f.places),
       subst (λ n. Tower o inputs made depths last n c.push.new.self.items) back
           (tower-adds o inputs made depths last level c.loop-level.layers.items c.push.new.self.items c.in_ok-inner_layer.field-0 rows i.0 graph.graph.few graph.graph.one (omega (arith, under, c.requires.needed.one)) graph.graph.depths_are
           c.in_ok-push.ensures.items e.count e.rows.row e.rows.value e.rows.short
-          layer.wires layer.terms layer.values layer.count (f.one (omega (arith, under, c.requires.needed.one)) (e.rows.one (omega (arith, e.count, graph.graph.depths_are.count, graph.graph.one)))) i.2),
+          layer.wires layer.terms layer.values layer.count (f.one (e.rows.one (omega (arith, e.count, graph.graph.depths_are.count, graph.graph.one)))) i.2),
+      subst (λ n. ArePassedBy last n c.first_open-first.result) back c.first_open-first.ensures,
     )
 
-pub level_rows-requires-2-clause-places : goal.level_rows-requires-2-clause-places
-level_rows-requires-2-clause-places g c κs within =
+pub level_rows-requires-2-clause-passed : goal.level_rows-requires-2-clause-passed
+level_rows-requires-2-clause-passed g c κs within =
+    let top : c.loop-level.level ≡ c.args.count = omega (arith, c.loop-level-test.false, c.loop-level.auto.level-end c.requires.outputs.some) in
+    passed-above c.args.graph.now.last.now (c.loop-level.level - 1) c.args.count c.loop-level.first (omega (arith, top)) c.loop-level.invariant.3
+
+pub level_rows-requires-2-clause-above : goal.level_rows-requires-2-clause-above
+level_rows-requires-2-clause-above g c κs within =
     let depths = c.args.graph.now.depths.now in
     let last = c.args.graph.now.last.now in
     let top : c.loop-level.level ≡ c.args.count = omega (arith, c.loop-level-test.false, c.loop-level.auto.level-end c.requires.outputs.some) in
-    subst (λ n. ArePlaces depths last (n - 1) c.deref-2.result.now) top (subst (ArePlaces depths last (c.loop-level.level - 1)) (sym c.deref-2.ensures.value) c.loop-level.invariant.1)
+    record {
+      some = c.requires.outputs.some;
+      high = c.requires.needed.one;
+      places_are = subst (λ n. AreWirePlaces depths last (n - 1) c.deref-2.result.now) top (subst (AreWirePlaces depths last (c.loop-level.level - 1)) (sym c.deref-2.ensures.value) c.loop-level.invariant.1);
+    }
 
 pub returns : goal.returns
 returns g c =

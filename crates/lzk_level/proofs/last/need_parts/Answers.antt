@@ -1,5 +1,5 @@
 use Rattle.std.proofs.Common.{◌∙◌, ap, ◌-◌, length, arith}
-use Rattle.lzk_reduce.specs.Renumbering.{at}
+use Rattle.lzk_circuit_reduce.specs.Renumbering.{at}
 use Rattle.lzk_level.proofs.GateLaws.{part-of}
 use Rattle.lzk_level.proofs.LastLaws.{parts-next}
 use Rattle.lzk_level.proofs.last.need_parts.Goals as goal

@@ -1,6 +1,6 @@
 use Rattle.std.proofs.Common.{◌≡◌, ℕ, ◌<◌, length, take}
 use Rattle.lzk_level.specs.Nodes.{ArePartsOf}
-use Rattle.lzk_reduce.specs.Renumbering.{at}
+use Rattle.lzk_circuit_reduce.specs.Renumbering.{at}
 use Rattle.lzk_level.specs.Levels.{ArePartsNeeded}
 use Rattle.lzk_level.proofs.LastLaws.{AreGrown}
 use Rattle.lzk_level.proofs.last.need_parts.Given as goal

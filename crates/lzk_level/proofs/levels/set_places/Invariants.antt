@@ -1,5 +1,5 @@
 use Rattle.std.proofs.Common.{◌≡◌, ℕ, ◌<◌, length}
-use Rattle.lzk_reduce.specs.Renumbering.{at}
+use Rattle.lzk_circuit_reduce.specs.Renumbering.{at}
 use Rattle.lzk_level.specs.Levels.{place_in}
 use Rattle.lzk_level.proofs.levels.set_places.Given as goal
 

@@ -1,6 +1,6 @@
 use Rattle.std.proofs.Common.{◌≡◌, ◌∙◌, ap, ◌+◌, arith, take}
 use Rattle.std.proofs.lemmas.List.{take_more}
-use Rattle.lzk_reduce.specs.Renumbering.{at}
+use Rattle.lzk_circuit_reduce.specs.Renumbering.{at}
 use Rattle.lzk_level.specs.Bounds.{total}
 use Rattle.lzk_level.proofs.GateLaws.{total-append, capped-more}
 use Rattle.lzk_level.proofs.measure.add_all.Goals as goal

@@ -1,5 +1,5 @@
 use Rattle.std.proofs.Common.{◌≡◌, take, map, min, ◌^◌, ◌-◌, ◌+◌}
-use Rattle.lzk_reduce.specs.Renumbering.{at}
+use Rattle.lzk_circuit_reduce.specs.Renumbering.{at}
 use Rattle.lzk_level.specs.Bounds.{total}
 use Rattle.lzk_level.proofs.measure.add_outputs.Given as goal
 

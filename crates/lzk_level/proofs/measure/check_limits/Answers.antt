@@ -1,6 +1,6 @@
 use Rattle.std.proofs.Common.{◌≡◌, ◌∙◌, ap, subst, ◌+◌, ◌-◌, ◌*◌, ◌^◌, length, map, min, Some, None}
 use Rattle.std.specs.Result.{MatchResult}
-use Rattle.lzk_reduce.specs.Renumbering.{at}
+use Rattle.lzk_circuit_reduce.specs.Renumbering.{at}
 use Rattle.lzk_level.specs.Bounds.{total, greatest, limit_fault}
 use Rattle.lzk_level.proofs.GateLaws.{cap, capped-all}
 use Rattle.lzk_level.proofs.measure.check_limits.Goals as goal

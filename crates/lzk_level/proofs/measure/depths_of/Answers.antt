@@ -1,14 +1,14 @@
-use Rattle.std.proofs.Common.{◌≡◌, ◌∙◌, ap, sym, subst, ℕ, ◌+◌, ◌-◌, ◌<◌, length, replicate, arith, [], ◌∷◌, ◌++◌}
+use Rattle.std.proofs.Common.{List, ◌≡◌, ◌∙◌, ap, sym, subst, ℕ, ◌+◌, ◌-◌, ◌<◌, length, replicate, arith, [], ◌∷◌, ◌++◌}
 use Rattle.std.proofs.lemmas.List.{length-append}
 use Rattle.lzk_level.specs.Nodes.{IsGate}
-use Rattle.lzk_reduce.specs.Renumbering.{at}
+use Rattle.lzk_circuit_reduce.specs.Renumbering.{at}
 use Rattle.lzk_level.specs.Bounds.{gate_depth}
-use Rattle.lzk_level.proofs.GateLaws.{after-next, gate-of, depth-most, below-more}
+use Rattle.lzk_level.proofs.GateLaws.{after-next, gate-of, depth-most, below-more, low-all}
 use Rattle.lzk_level.proofs.measure.depths_of.Goals as goal
 
-pub depth_of-depth-requires-clause-gate : goal.depth_of-depth-requires-clause-gate
-depth_of-depth-requires-clause-gate g c =
-    gate-of c.args.inputs c.loop-i.i (length c.deref.result.now) c.args.made.now c.index-made-i.result (ap length c.deref.ensures.value ∙ c.loop-i.invariant.0) c.loop-i-test.true c.index-made-i.is c.requires.gates
+pub depth_of-depth-requires-clause-low : goal.depth_of-depth-requires-clause-low
+depth_of-depth-requires-clause-low g c κs within k =
+    omega (arith, ap (λ ds. at ds k) c.deref.ensures.value, low-all c.loop-i.depths.items (length c.loop-i.depths.items) c.loop-i.invariant.2 k, c.loop-i.invariant.0, c.loop-i-test.true, c.requires.few)
 
 pub loop-i-preserved : goal.loop-i-preserved
 loop-i-preserved g c =
@@ -20,7 +20,7 @@ loop-i-preserved g c =
     let same : seen ≡ old = c.deref.ensures.value in
     let grown : c.push_reserved.new.self.items ≡ old ++ d ∷ [] = c.push_reserved.ensures.items in
     let is : d ≡ gate_depth old gate = c.depth_of-depth.ensures.depth ∙ ap (λ ds. gate_depth ds gate) same in
-    let start = replicate (1 + c.args.inputs) 0 in
+    let start : List ℕ = replicate (1 + c.args.inputs) 0 in
     let is_gate : IsGate (length old - 1) gate = gate-of c.args.inputs c.loop-i.i (length old) c.args.made.now gate i.0 c.loop-i-test.true c.index-made-i.is c.requires.gates in (
       omega (arith, ap length grown, length-append old (d ∷ []), i.0),
       grown ∙ ap (λ x. old ++ x ∷ []) is ∙ ap (λ ds. ds ++ gate_depth ds gate ∷ []) i.1 ∙ sym (after-next gate_depth start c.args.made.now c.loop-i.i gate c.loop-i-test.true c.index-made-i.is),

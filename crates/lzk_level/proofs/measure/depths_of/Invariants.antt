@@ -1,6 +1,6 @@
 use Rattle.std.proofs.Common.{◌≡◌, ℕ, ◌+◌, ◌<◌, ◌≤◌, length, take, replicate}
 use Rattle.lzk_level.specs.Nodes.{after}
-use Rattle.lzk_reduce.specs.Renumbering.{at}
+use Rattle.lzk_circuit_reduce.specs.Renumbering.{at}
 use Rattle.lzk_level.specs.Bounds.{gate_depth}
 use Rattle.lzk_level.proofs.measure.depths_of.Given as goal
 

@@ -1,5 +1,5 @@
 use Rattle.std.proofs.Common.{◌≡◌, take, map}
-use Rattle.lzk_reduce.specs.Renumbering.{at}
+use Rattle.lzk_circuit_reduce.specs.Renumbering.{at}
 use Rattle.lzk_level.specs.Bounds.{greatest}
 use Rattle.lzk_level.proofs.measure.layers_of.Given as goal
 

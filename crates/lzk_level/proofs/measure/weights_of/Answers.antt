@@ -1,14 +1,18 @@
-use Rattle.std.proofs.Common.{◌≡◌, ◌∙◌, ap, sym, length, take, map, replicate, arith, [], ◌∷◌, ◌++◌}
-use Rattle.std.proofs.lemmas.List.{length-append, map-append}
+use Rattle.std.proofs.Common.{rules, ◌≡◌, ◌+◌, ◌∙◌, ap, sym, ℕ, suc, List, length, take, map, replicate, slice_set, arith, [], ◌∷◌, ◌++◌}
+use Rattle.std.proofs.lemmas.List.{length-append, length-replicate, map-append}
 use Rattle.lzk_level.specs.Nodes.{after}
 use Rattle.lzk_level.specs.Bounds.{gate_weight}
-use Rattle.lzk_level.proofs.GateLaws.{after-next, gate-of, cap, cap-gate}
+use Rattle.lzk_level.proofs.GateLaws.{after-next, cap, cap-gate, capped-ones}
 use Rattle.lzk_level.proofs.measure.weights_of.Goals as goal
 
-pub weight_of-weight-requires : goal.weight_of-weight-requires
-weight_of-weight-requires g c = record {
-  gate = gate-of c.args.inputs c.loop-i.i (length c.deref.result.now) c.args.made.now c.index-made-i.result (ap length c.deref.ensures.value ∙ c.loop-i.invariant.0) c.loop-i-test.true c.index-made-i.is c.requires.gates;
-}
+pub loop-i-init : goal.loop-i-init
+loop-i-init g c =
+    let inputs = c.args.inputs in
+    let one : ℕ = 1 in
+    let all : c.in_ok-weights.weights.items ≡ replicate (1 + inputs) one = search rules in
+    let first : 1 + inputs ≡ suc inputs = omega arith in
+    let is : slice_set c.in_ok-weights.weights.items 0 0 ≡ 0 ∷ replicate inputs one = ap (λ ws. slice_set ws 0 0) (all ∙ ap (λ k. replicate k one) first) in
+    (omega (arith, ap length is, length-replicate inputs one), is ∙ ap (λ ws. 0 ∷ ws) (sym (capped-ones inputs)))
 
 pub loop-i-preserved : goal.loop-i-preserved
 loop-i-preserved g c =
@@ -19,7 +23,7 @@ loop-i-preserved g c =
     let i = c.loop-i.invariant in
     let same : seen ≡ old = c.deref.ensures.value in
     let grown : c.push.new.self.items ≡ old ++ w ∷ [] = c.in_ok-push.ensures.items in
-    let start = 0 ∷ replicate c.args.inputs 1 in
+    let start : List ℕ = 0 ∷ replicate c.args.inputs 1 in
     let all = after gate_weight start (take c.loop-i.i c.args.made.now) in
     let is : w ≡ cap (gate_weight all gate) = c.weight_of-weight.ensures ∙ ap (λ ws. cap (gate_weight ws gate)) (same ∙ i.1) ∙ cap-gate all gate in (
       omega (arith, ap length grown, length-append old (w ∷ []), i.0),

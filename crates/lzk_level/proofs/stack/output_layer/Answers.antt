@@ -1,6 +1,6 @@
 use Rattle.std.proofs.Common.{◌≡◌, ◌∙◌, ap, refl, sym, subst, length, take, None, arith}
 use Rattle.std.proofs.lemmas.List.{get_or_default, take_all}
-use Rattle.lzk_reduce.specs.Renumbering.{at}
+use Rattle.lzk_circuit_reduce.specs.Renumbering.{at}
 use Rattle.lzk_circuit.specs.Valid.{AreTerms}
 use Rattle.lzk_circuit.specs.Wires.{coef, wire}
 use Rattle.lzk_level.specs.Levels.{row_at, lengths_of}
@@ -16,16 +16,8 @@ loop-g-preserved g c =
     let rows = c.args.rows.now in
     let outputs = c.args.outputs.now in
     let i = c.loop-g.g in
-    let within = c.requires.nodes i c.loop-g-test.true in
     let number : c.number.result ≡ at outputs i = c.number.ensures ∙ c.index-outputs-g.is ∙ get_or_default outputs i c.index-outputs-g.result 0 c.loop-g-test.true in
-    outer-adds g.F.Field.ops rows outputs i c.loop-g.terms.items c.append.new.terms.items c.row.result.now c.loop-g-test.true within (c.row.ensures ∙ ap (row_at rows) number) e.terms e.before e.added e.count c.loop-g.invariant
-
-pub row-requires-clause-there : goal.row-requires-clause-there
-row-requires-clause-there g c κs within =
-    let outputs = c.args.outputs.now in
-    let i = c.loop-g.g in
-    let number : c.number.result ≡ at outputs i = c.number.ensures ∙ c.index-outputs-g.is ∙ get_or_default outputs i c.index-outputs-g.result 0 c.loop-g-test.true in
-    omega (arith, number, c.requires.nodes i c.loop-g-test.true)
+    outer-adds g.F.Field.ops rows outputs i c.loop-g.terms.items c.append.new.terms.items c.row.result.now c.loop-g-test.true (c.row.ensures ∙ ap (row_at rows) number) e.terms e.before e.added e.count c.loop-g.invariant
 
 pub returns : goal.returns
 returns g c =

@@ -2,7 +2,7 @@ use Rattle.std.proofs.Common.{◌∙◌, ap, sym, ◌+◌, arith, take, None}
 use Rattle.std.proofs.lemmas.List.{take_all}
 use Rattle.lzk_field.specs.Sums.{entry}
 use Rattle.lzk_field.proofs.RingBasics.{times_zero}
-use Rattle.lzk_reduce.specs.Rows.{row_value}
+use Rattle.lzk_circuit_reduce.specs.Rows.{row_value}
 use Rattle.lzk_level.proofs.SumLaws.{part-value, value-more, term-within}
 use Rattle.lzk_level.proofs.sums.add_part.Goals as goal
 

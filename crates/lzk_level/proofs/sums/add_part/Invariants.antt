@@ -1,5 +1,5 @@
 use Rattle.std.proofs.Common.{◌≡◌, ℕ, List, ◌+◌, ◌≤◌, length, take}
-use Rattle.lzk_reduce.specs.Rows.{IsRow, row_value}
+use Rattle.lzk_circuit_reduce.specs.Rows.{IsRow, row_value}
 use Rattle.lzk_level.proofs.sums.add_part.Given as goal
 
 abbrev pub invariant-loop-i : goal.invariant-loop-i

@@ -5,11 +5,11 @@ use Rattle.std.proofs.lemmas.List.FromFn.{length-range_with_len}
 use Rattle.lzk_goldilocks.specs.Elements.{ops, number}
 use Rattle.lzk_circuit.specs.Checks.{IsSatisfied}
 use Rattle.lzk_circuit.specs.Wires.{inputs_of}
-use Rattle.lzk_reduce.specs.Renumbering.{AreNumbersBelow}
-use Rattle.lzk_beside.specs.Chosen.{chosen}
+use Rattle.lzk_circuit_reduce.specs.Renumbering.{AreNumbersBelow}
+use Rattle.lzk_circuit_beside.specs.Chosen.{chosen}
 use Rattle.lzk_policy_circuit.specs.Places.{hash_places}
 use Rattle.lzk_policy_circuit.specs.Layout.{rest_of_hash}
-use Rattle.lzk_beside.proofs.PlaceLaws.{row_below}
+use Rattle.lzk_circuit_beside.proofs.PlaceLaws.{row_below}
 use Rattle.lzk_policy_circuit.proofs.Parts.{hash_places_below, hash_places_count}
 use Rattle.lzk_policy_circuit.proofs.Joined.{hash_satisfied}
 use Rattle.lzk_policy_circuit.proofs.circuit.with_hash.Goals as goal

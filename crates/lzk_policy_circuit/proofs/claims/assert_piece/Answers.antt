@@ -1,5 +1,4 @@
-use Rattle.std.proofs.Common.{◌≡◌, ◌+◌, ◌*◌, ap}
-use Rattle.lzk_policy_circuit.specs.Meaning.{piece_start}
+use Rattle.std.proofs.Common.{◌+◌, ◌*◌, ap}
 use Rattle.lzk_policy_circuit.proofs.Adding.{piece_added}
 use Rattle.lzk_policy_circuit.proofs.Answering.{ok_map}
 use Rattle.lzk_policy_circuit.proofs.claims.assert_piece.Goals as goal

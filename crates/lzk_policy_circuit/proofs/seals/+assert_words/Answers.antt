@@ -1,5 +1,5 @@
 use Rattle.std.proofs.Common.{◌+◌, ◌-◌, ◌*◌, ◌<◌, refl, arith}
-use Rattle.lzk_policy_circuit.proofs.SealClaims.{words_more, words_none}
+use Rattle.lzk_policy_circuit.proofs.SealClaims.{words_more}
 use Rattle.lzk_policy_circuit.proofs.seals.+assert_words.Goals as goal
 
 pub returns : goal.returns

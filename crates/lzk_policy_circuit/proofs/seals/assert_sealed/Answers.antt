@@ -15,10 +15,10 @@ returns c =
     let v = c.assert_label.new.s in
     let w = c.assert_same.new.s in
     let x = c.assert_tag.new.s in
-    adds_as 2000 36 s x
+    adds_as 4000 36 s x
     (λ p q. (((IsSealLabelled (drop own q) × AreWordsOf q (8 * f.place) q (own + 160) 8) × IsLabelled (drop (own + 168) q)) × AreSameBytes q (own + 32) q (own + 200) 16) × IsTagged q (own + 328) (drop i p))
     (λ p q. IsSealComposed q f (drop i p) (drop own q))
-    (adds_both 744 168 2000 32 4 36 s w x (λ p q. ((IsSealLabelled (drop own q) × AreWordsOf q (8 * f.place) q (own + 160) 8) × IsLabelled (drop (own + 168) q)) × AreSameBytes q (own + 32) q (own + 200) 16) (λ p q. IsTagged q (own + 328) (drop i p))
+    (adds_both 744 168 4000 32 4 36 s w x (λ p q. ((IsSealLabelled (drop own q) × AreWordsOf q (8 * f.place) q (own + 160) 8) × IsLabelled (drop (own + 168) q)) × AreSameBytes q (own + 32) q (own + 200) 16) (λ p q. IsTagged q (own + 328) (drop i p))
     (adds_both 440 304 744 16 16 32 s v w (λ p q. (IsSealLabelled (drop own q) × AreWordsOf q (8 * f.place) q (own + 160) 8) × IsLabelled (drop (own + 168) q)) (λ p q. AreSameBytes q (own + 32) q (own + 200) 16)
     (adds_both 388 52 440 12 4 16 s u v (λ p q. IsSealLabelled (drop own q) × AreWordsOf q (8 * f.place) q (own + 160) 8) (λ p q. IsLabelled (drop (own + 168) q))
     (adds_both 52 336 388 4 8 12 s t u (λ p q. IsSealLabelled (drop own q)) (λ p q. AreWordsOf q (8 * f.place) q (own + 160) 8) c.in_ok-assert_seal_label.ensures c.in_ok-assert_words.ensures (omega arith) (omega arith))

@@ -1,6 +1,11 @@
-use Rattle.std.proofs.Common.{◌∙◌, ◌≤◌, arith}
+use Rattle.std.proofs.Common.{◌≤◌, ◌*◌, List, ℕ, subst, sym, arith, length}
+use Rattle.std.specs.Prelude.{IsTrue}
+use Rattle.lzk_policy.specs.Policies.{are_texts_of}
+use Rattle.lzk_goldilocks.specs.Elements.{ops}
+use Rattle.lzk_gadgets.specs.Claims.{Adds}
+use Rattle.lzk_policy_circuit.specs.Met.{IsOneOf}
 use Rattle.lzk_policy_circuit.proofs.Answering.{ok_map}
-use Rattle.lzk_policy_circuit.proofs.Adding.{claim_most, claim_least, claim_equal, claim_spelled, claim_text, claim_pseudonym, claim_sealed}
+use Rattle.lzk_policy_circuit.proofs.Adding.{claim_most, claim_least, claim_equal, claim_spelled, claim_text, claim_pseudonym, claim_sealed, texts_suit}
 use Rattle.lzk_policy_circuit.proofs.shows.assert_claim.Goals as goal
 
 pub returns-in-AtMost : goal.returns-in-AtMost
@@ -27,12 +32,20 @@ returns-in-Spelled c =
     ok_map c.assert_pieces.result _ _ c.assert_pieces.ensures (λ x d.
     claim_spelled c.args.field.now c.args.claim.now c.args.s.now c.assert_pieces.new.s c.args.i c.args.own small c.in-Spelled.field-0 c.in-Spelled.is d)
 
-pub returns-in_ok-choices-in-OneOf : goal.returns-in_ok-choices-in-OneOf
-returns-in_ok-choices-in-OneOf c =
+pub assert_one_of-requires-clause-count : goal.assert_one_of-requires-clause-count
+assert_one_of-requires-clause-count c =
+    subst (λ (ts : List (List ℕ)). length ts ≤ 16) (sym c.texts.ensures) (texts_suit c.args.field.now c.args.claim.now c.in-OneOf.texts c.in-OneOf.is c.requires.suits).0
+
+pub assert_one_of-requires-clause-texts : goal.assert_one_of-requires-clause-texts
+assert_one_of-requires-clause-texts c =
+    subst (λ (ts : List (List ℕ)). IsTrue (are_texts_of c.args.field.now.size ts)) (sym c.texts.ensures) (texts_suit c.args.field.now c.args.claim.now c.in-OneOf.texts c.in-OneOf.is c.requires.suits).1
+
+pub returns-in-OneOf : goal.returns-in-OneOf
+returns-in-OneOf c =
     let small : c.args.field.now.size ≤ 119 = omega arith in
-    ok_map c.assert_text.result _ _ c.assert_text.ensures (λ x d.
-    claim_text c.args.field.now c.args.claim.now c.args.s.now c.assert_text.new.s c.args.i c.args.own small c.in-OneOf.texts c.deref.result.now c.in-OneOf.is c.requires.suits
-    (c.deref.ensures.value ∙ c.in_ok-choices-in-OneOf.ensures) d)
+    ok_map c.assert_one_of.result _ _ c.assert_one_of.ensures (λ x d.
+    claim_text c.args.field.now c.args.claim.now c.args.s.now c.assert_one_of.new.s c.args.i c.args.own small c.in-OneOf.texts c.in-OneOf.is
+    (subst (λ (ts : List (List ℕ)). Adds ops 4000 1 c.args.s.now c.assert_one_of.new.s (λ p q. IsOneOf q (8 * c.args.field.now.place) c.args.field.now.size ts)) c.texts.ensures d))
 
 pub returns-in-Pseudonym : goal.returns-in-Pseudonym
 returns-in-Pseudonym c =

@@ -14,10 +14,10 @@ returns c =
     let u = c.assert_same.new.s in
     let w = c.assert_tag.new.s in
     let at = own + 32 + 8 * n in
-    adds_as 2000 (8 + n) s w
+    adds_as 4000 (8 + n) s w
     (λ p q. (IsLabelled (drop own q) × AreSameBytes q (8 * f.place) q (own + 32) n) × IsTagged q at (drop i p))
     (λ p q. IsComposed q f (drop i p) (drop own q))
-    (adds_both (52 + 19 * n) 168 2000 (4 + n) 4 (8 + n) s u w (λ p q. IsLabelled (drop own q) × AreSameBytes q (8 * f.place) q (own + 32) n) (λ p q. IsTagged q at (drop i p))
+    (adds_both (52 + 19 * n) 168 4000 (4 + n) 4 (8 + n) s u w (λ p q. IsLabelled (drop own q) × AreSameBytes q (8 * f.place) q (own + 32) n) (λ p q. IsTagged q at (drop i p))
     (adds_both 52 (19 * n) (52 + 19 * n) 4 n (4 + n) s t u (λ p q. IsLabelled (drop own q)) (λ p q. AreSameBytes q (8 * f.place) q (own + 32) n) c.in_ok-assert_label.ensures c.in_ok-assert_same.ensures (omega arith) (omega arith))
     c.in_ok-assert_tag.ensures (omega arith) (omega arith))
     (λ p q a. composed q (drop i p) f own at refl)

@@ -2,4 +2,4 @@ use Rattle.std.proofs.Common.{length}
 use Rattle.lzk_policy_texts.proofs.showing.+push_texts.Given as goal
 
 abbrev pub decreases-push_texts : goal.decreases-push_texts
-decreases-push_texts l = length l.numbers.now
+decreases-push_texts l = length l.texts.now

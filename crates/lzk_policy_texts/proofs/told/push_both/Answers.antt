@@ -1,4 +1,4 @@
-use Rattle.std.proofs.Common.{◌≡◌, ◌++◌, List, map, ap, ◌∙◌}
+use Rattle.std.proofs.Common.{◌++◌, map, ap, ◌∙◌}
 use Rattle.lzk_goldilocks.specs.Elements.{of_number}
 use Rattle.lzk_policy_circuit.specs.Meaning.{tag_words}
 use Rattle.lzk_policy_texts.proofs.Behind.{behind}

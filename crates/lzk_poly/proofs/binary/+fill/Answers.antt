@@ -9,70 +9,109 @@ use Rattle.lzk_poly.proofs.binary.+fill.Goals as goal
 pub returns-then-count-size : goal.returns-then-count-size
 returns-then-count-size g t c =
     let m = g.F.Field in
+    let b = c.args.block.now in
     λ h running inverted i l.
     c.set_all-then-count-size.ensures i l
-    ∙ fill_whole m.ops m.laws.ring m.coding.element h c.args.bits c.args.base c.args.count (length c.args.out.now) i c.args.scale c.with_block.result (zero_element m.laws.numbers) c.requires.whole c.requires.binary c.requires.aligned c.if-count-size.true (omega arith)
+    ∙ fill_whole m.ops m.laws.ring m.coding.element h b.bits b.base c.args.count b.size i c.args.scale c.with_block.result (zero_element m.laws.numbers) b.whole b.binary b.aligned c.if-count-size.true (omega arith)
     (c.with_block.ensures (λ k. h (m.coding.element k)) running inverted)
 
-pub fill-requires-clause-whole : goal.fill-requires-clause-whole
-fill-requires-clause-whole g t c κs within = let half = halves c.args.bits (length c.args.out.now) c.requires.whole (omega arith) in omega (arith, half.1, c.split_at_mut-low.ensures.front_len)
+pub invariant_of-first-clause-whole : goal.invariant_of-first-clause-whole
+invariant_of-first-clause-whole g t c = let b = c.args.block.now in (halves b.bits b.size b.whole (omega arith)).1
 
-pub fill-requires-clause-aligned : goal.fill-requires-clause-aligned
-fill-requires-clause-aligned g t c κs within =
-    let half = halves c.args.bits (length c.args.out.now) c.requires.whole (omega arith) in
-    below_low g.F.Field.ops g.F.Field.laws.ring g.F.Field.coding.element c.args.bits c.args.base half.0 c.requires.aligned
+pub invariant_of-first-clause-runs : goal.invariant_of-first-clause-runs
+invariant_of-first-clause-runs g t c = omega (arith, c.args.block.now.runs)
+
+pub invariant_of-first-clause-inverts : goal.invariant_of-first-clause-inverts
+invariant_of-first-clause-inverts g t c = omega (arith, c.args.block.now.inverts)
+
+pub invariant_of-first-clause-aligned : goal.invariant_of-first-clause-aligned
+invariant_of-first-clause-aligned g t c =
+    let b = c.args.block.now in
+    let half = halves b.bits b.size b.whole (omega arith) in
+    below_low g.F.Field.ops g.F.Field.laws.ring g.F.Field.coding.element b.bits b.base half.0 b.aligned
+
+pub invariant_of-second-clause-whole : goal.invariant_of-second-clause-whole
+invariant_of-second-clause-whole g t c = let b = c.args.block.now in (halves b.bits b.size b.whole (omega arith)).1
+
+pub invariant_of-second-clause-runs : goal.invariant_of-second-clause-runs
+invariant_of-second-clause-runs g t c = omega (arith, c.args.block.now.runs)
+
+pub invariant_of-second-clause-inverts : goal.invariant_of-second-clause-inverts
+invariant_of-second-clause-inverts g t c = omega (arith, c.args.block.now.inverts)
+
+pub invariant_of-second-clause-aligned : goal.invariant_of-second-clause-aligned
+invariant_of-second-clause-aligned g t c =
+    let b = c.args.block.now in
+    let half = halves b.bits b.size b.whole (omega arith) in
+    below_high g.F.Field.ops g.F.Field.laws.ring g.F.Field.coding.element b.bits b.base (b.size / 2) half.0 half.1 b.binary b.aligned
+
+pub invariant_of-first-else-count-half-clause-whole : goal.invariant_of-first-else-count-half-clause-whole
+invariant_of-first-else-count-half-clause-whole g t c = let b = c.args.block.now in (halves b.bits b.size b.whole (omega arith)).1
+
+pub invariant_of-first-else-count-half-clause-runs : goal.invariant_of-first-else-count-half-clause-runs
+invariant_of-first-else-count-half-clause-runs g t c = omega (arith, c.args.block.now.runs)
+
+pub invariant_of-first-else-count-half-clause-inverts : goal.invariant_of-first-else-count-half-clause-inverts
+invariant_of-first-else-count-half-clause-inverts g t c = omega (arith, c.args.block.now.inverts)
+
+pub invariant_of-first-else-count-half-clause-aligned : goal.invariant_of-first-else-count-half-clause-aligned
+invariant_of-first-else-count-half-clause-aligned g t c =
+    let b = c.args.block.now in
+    let half = halves b.bits b.size b.whole (omega arith) in
+    below_low g.F.Field.ops g.F.Field.laws.ring g.F.Field.coding.element b.bits b.base half.0 b.aligned
+
+pub invariant_of-second-else-count-half-clause-whole : goal.invariant_of-second-else-count-half-clause-whole
+invariant_of-second-else-count-half-clause-whole g t c = let b = c.args.block.now in (halves b.bits b.size b.whole (omega arith)).1
+
+pub invariant_of-second-else-count-half-clause-runs : goal.invariant_of-second-else-count-half-clause-runs
+invariant_of-second-else-count-half-clause-runs g t c = omega (arith, c.args.block.now.runs)
+
+pub invariant_of-second-else-count-half-clause-inverts : goal.invariant_of-second-else-count-half-clause-inverts
+invariant_of-second-else-count-half-clause-inverts g t c = omega (arith, c.args.block.now.inverts)
+
+pub invariant_of-second-else-count-half-clause-aligned : goal.invariant_of-second-else-count-half-clause-aligned
+invariant_of-second-else-count-half-clause-aligned g t c =
+    let b = c.args.block.now in
+    let half = halves b.bits b.size b.whole (omega arith) in
+    below_high g.F.Field.ops g.F.Field.laws.ring g.F.Field.coding.element b.bits b.base (b.size / 2) half.0 half.1 b.binary b.aligned
 
 pub fill-requires-then-count-half-clause-whole : goal.fill-requires-then-count-half-clause-whole
-fill-requires-then-count-half-clause-whole g t c κs within = let half = halves c.args.bits (length c.args.out.now) c.requires.whole (omega arith) in omega (arith, half.1, half.2, c.split_at_mut-low.ensures.back_len)
-
-pub fill-requires-then-count-half-clause-aligned : goal.fill-requires-then-count-half-clause-aligned
-fill-requires-then-count-half-clause-aligned g t c κs within =
-    let half = halves c.args.bits (length c.args.out.now) c.requires.whole (omega arith) in
-    below_high g.F.Field.ops g.F.Field.laws.ring g.F.Field.coding.element c.args.bits c.args.base (length c.args.out.now / 2) half.0 half.1 c.requires.binary c.requires.aligned
-
-pub fill-requires-else-count-half-clause-whole : goal.fill-requires-else-count-half-clause-whole
-fill-requires-else-count-half-clause-whole g t c κs within = let half = halves c.args.bits (length c.args.out.now) c.requires.whole (omega arith) in omega (arith, half.1, c.split_at_mut-low.ensures.front_len)
-
-pub fill-requires-else-count-half-clause-aligned : goal.fill-requires-else-count-half-clause-aligned
-fill-requires-else-count-half-clause-aligned g t c κs within =
-    let half = halves c.args.bits (length c.args.out.now) c.requires.whole (omega arith) in
-    below_high g.F.Field.ops g.F.Field.laws.ring g.F.Field.coding.element c.args.bits c.args.base (length c.args.out.now / 2) half.0 half.1 c.requires.binary c.requires.aligned
+fill-requires-then-count-half-clause-whole g t c κs within =
+    let b = c.args.block.now in
+    omega (arith, (halves b.bits b.size b.whole (omega arith)).2, c.split_at_mut-low.ensures.back_len)
 
 pub fill-requires-else-count-half-2-clause-whole : goal.fill-requires-else-count-half-2-clause-whole
-fill-requires-else-count-half-2-clause-whole g t c κs within = let half = halves c.args.bits (length c.args.out.now) c.requires.whole (omega arith) in omega (arith, half.1, half.2, c.split_at_mut-low.ensures.back_len)
-
-pub fill-requires-else-count-half-2-clause-aligned : goal.fill-requires-else-count-half-2-clause-aligned
-fill-requires-else-count-half-2-clause-aligned g t c κs within =
-    let half = halves c.args.bits (length c.args.out.now) c.requires.whole (omega arith) in
-    below_low g.F.Field.ops g.F.Field.laws.ring g.F.Field.coding.element c.args.bits c.args.base half.0 c.requires.aligned
+fill-requires-else-count-half-2-clause-whole g t c κs within =
+    let b = c.args.block.now in
+    omega (arith, (halves b.bits b.size b.whole (omega arith)).2, c.split_at_mut-low.ensures.back_len)
 
 pub returns-then-count-half : goal.returns-then-count-half
 returns-then-count-half g t c =
     let m = g.F.Field in
     let o = m.ops in
-    let size = length c.args.out.now in
+    let b = c.args.block.now in
     let low = c.fill.new.out in
     let high = c.fill-then-count-half.new.out in
-    let front : length low ≡ size / 2 = omega (arith, c.split_at_mut-low.ensures.front_len) in
+    let front : length low ≡ b.size / 2 = omega (arith, c.split_at_mut-low.ensures.front_len) in
     λ h running inverted.
-    entries_joined o (λ i y. y ≡ o.times c.args.scale (spread o h m.coding.element c.args.count (m.coding.element (c.args.base + i)))) low high
+    entries_joined o (λ i y. y ≡ o.times c.args.scale (spread o h m.coding.element c.args.count (m.coding.element (b.base + i)))) low high
     (c.fill.ensures h running inverted)
-    (λ i l. let place : c.args.base + size / 2 + i ≡ c.args.base + (length low + i) = omega (arith, front) in
+    (λ i l. let place : b.base + b.size / 2 + i ≡ b.base + (length low + i) = omega (arith, front) in
     c.fill-then-count-half.ensures h running inverted i l ∙ ap (λ k. o.times c.args.scale (spread o h m.coding.element c.args.count (m.coding.element k))) place)
 
 pub returns-else-count-half : goal.returns-else-count-half
 returns-else-count-half g t c =
     let m = g.F.Field in
     let o = m.ops in
-    let size = length c.args.out.now in
-    let bits = c.args.bits in
-    let base = c.args.base in
-    let half = size / 2 in
+    let b = c.args.block.now in
+    let bits = b.bits in
+    let base = b.base in
+    let half = b.size / 2 in
     let low = c.fill-else-count-half.new.out in
     let high = c.fill-else-count-half-2.new.out in
-    let parts = halves bits size c.requires.whole (omega arith) in
-    let binary : IsBinary o m.coding.element (suc (bits - 1)) = subst (IsBinary o m.coding.element) (sym parts.0) c.requires.binary in
-    let aligned : IsAligned o m.coding.element (suc (bits - 1)) base = subst (λ (b : ℕ). IsAligned o m.coding.element b base) (sym parts.0) c.requires.aligned in
+    let parts = halves bits b.size b.whole (omega arith) in
+    let binary : IsBinary o m.coding.element (suc (bits - 1)) = subst (IsBinary o m.coding.element) (sym parts.0) b.binary in
+    let aligned : IsAligned o m.coding.element (suc (bits - 1)) base = subst (λ (n : ℕ). IsAligned o m.coding.element n base) (sym parts.0) b.aligned in
     let front : length low ≡ half = omega (arith, c.split_at_mut-low.ensures.front_len) in
     let back : length high ≡ half = omega (arith, parts.2, c.split_at_mut-low.ensures.back_len) in
     λ h running inverted.

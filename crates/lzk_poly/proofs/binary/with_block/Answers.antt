@@ -1,4 +1,4 @@
-use Rattle.std.proofs.Common.{◌≡◌, ◌+◌, ap, ◌∙◌}
+use Rattle.std.proofs.Common.{◌≡◌, ◌+◌, ◌<◌, length, ap, ◌∙◌, arith}
 use Rattle.std.proofs.lemmas.List.{get_or_default}
 use Rattle.lzk_field.specs.Sums.{entry}
 use Rattle.lzk_poly.proofs.ProductLaws.{product_between}
@@ -8,12 +8,14 @@ pub returns : goal.returns
 returns g c =
     let m = g.F.Field in
     let o = m.ops in
-    let xs = c.args.running.now in
-    let ys = c.args.inverted.now in
-    let base = c.args.base in
-    let size = c.args.size in
+    let block = c.args.block.now in
+    let xs = block.running.now in
+    let ys = block.inverted.now in
+    let base = block.base in
+    let size = block.size in
+    let starts : base < length ys = omega (arith, block.inverts) in
     λ e running inverted.
-    let first : c.index-running-base.result ≡ entry o xs (base + size) = c.index-running-base.is ∙ get_or_default xs (base + size) c.index-running-base.result o.zero c.requires.running in
-    let second : c.index-inverted-base.result ≡ entry o ys base = c.index-inverted-base.is ∙ get_or_default ys base c.index-inverted-base.result o.zero c.requires.inverted in
+    let first : c.index-running-base.result ≡ entry o xs (base + size) = c.index-running-base.is ∙ get_or_default xs (base + size) c.index-running-base.result o.zero block.runs in
+    let second : c.index-inverted-base.result ≡ entry o ys base = c.index-inverted-base.is ∙ get_or_default ys base c.index-inverted-base.result o.zero starts in
     c.mul-2.ensures
-    ∙ ap (o.times c.args.scale) (c.mul.ensures ∙ product_between o m.laws.ring xs ys e base size c.index-running-base.result c.index-inverted-base.result running inverted c.requires.running c.requires.inverted first second)
+    ∙ ap (o.times c.args.scale) (c.mul.ensures ∙ product_between o m.laws.ring xs ys e base size c.index-running-base.result c.index-inverted-base.result running inverted block.runs starts first second)

@@ -12,5 +12,5 @@ returns-in-Gf g c =
     let old = c.args.room.now in
     let new = c.prove_over-in-Gf.new.room in
     let told = c.prove_over-in-Gf.result in
-    let proved = subst (λ (seed : List ℕ). ProvesOver gf.ops gf_coding c.in-Gf.c task.session.now (seeded_word seed) old new told c.args.public.now c.args.private.now) c.new.ensures c.prove_over-in-Gf.ensures in
-    subst (λ (any : AnyCircuit). ProvesOf any task.session.now task.seed old new told c.args.public.now c.args.private.now) (sym c.in-Gf.is) proved
+    let proved = subst (λ (seed : List ℕ). ProvesOver gf.ops gf_coding c.in-Gf.c task.session.now (seeded_word seed) old new told c.args.texts.now.public.now c.args.texts.now.private.now) c.new.ensures c.prove_over-in-Gf.ensures in
+    subst (λ (any : AnyCircuit). ProvesOf any task.session.now task.seed old new told c.args.texts.now.public.now c.args.texts.now.private.now) (sym c.in-Gf.is) proved

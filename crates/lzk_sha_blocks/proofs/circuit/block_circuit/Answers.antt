@@ -1,6 +1,5 @@
-use Rattle.std.proofs.Common.{◌≡◌, ◌+◌, ◌∙◌, ◌↔◌, List, length, ap, sym, subst}
+use Rattle.std.proofs.Common.{◌≡◌, ◌∙◌, ◌↔◌, ap, sym, subst}
 use Rattle.lzk_goldilocks.specs.Elements.{ops, number, of_number}
-use Rattle.lzk_goldilocks.specs.declared.element.Gold.{Gold}
 use Rattle.lzk_circuit.specs.Checks.{IsSatisfied}
 use Rattle.lzk_circuit.specs.Wires.{inputs_of}
 use Rattle.lzk_sha_circuit.specs.Found.{places_of}
@@ -11,7 +10,7 @@ use Rattle.lzk_sha_blocks.proofs.circuit.block_circuit.Goals as goal
 
 pub returns : goal.returns
 returns c =
-    let same : places_of c.in_ok-given.given ≡ block_places c.args.len c.args.i = c.in_ok-given.ensures in
+    let same : places_of c.in_ok-given.given ≡ block_places c.args.block.len c.args.block.i = c.in_ok-given.ensures in
     let made = c.in_ok-circuit.ensures in
     record {
       version = made.version;

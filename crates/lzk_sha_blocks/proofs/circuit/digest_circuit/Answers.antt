@@ -1,12 +1,12 @@
-use Rattle.std.proofs.Common.{◌≡◌, ℕ, ◌+◌, ◌-◌, ◌*◌, ◌<◌, ◌≤◌, ◌∙◌, ◌↔◌, List, length, ap, sym, subst, arith}
+use Rattle.std.proofs.Common.{◌≡◌, ℕ, ◌+◌, ◌*◌, ◌<◌, ◌≤◌, ◌∙◌, ◌↔◌, List, length, ap, sym, subst, arith}
 use Rattle.std.specs.List.{range_with_len}
 use Rattle.std.proofs.lemmas.List.FromFn.{length-range_with_len}
 use Rattle.lzk_goldilocks.specs.Elements.{ops, number, of_number}
 use Rattle.lzk_goldilocks.specs.declared.element.Gold.{Gold}
-use Rattle.lzk_beside.specs.Chosen.{chosen}
+use Rattle.lzk_circuit_beside.specs.Chosen.{chosen}
 use Rattle.lzk_circuit.specs.Checks.{IsSatisfied}
 use Rattle.lzk_circuit.specs.Wires.{inputs_of}
-use Rattle.lzk_reduce.specs.Renumbering.{AreNumbersBelow}
+use Rattle.lzk_circuit_reduce.specs.Renumbering.{AreNumbersBelow}
 use Rattle.lzk_sha_circuit.specs.Outputs.{AreCompressing}
 use Rattle.lzk_sha_blocks.specs.Hashed.{IsBlockSatisfied, AreBlocksSatisfied, AreHashing, block_public, block_private}
 use Rattle.lzk_sha_blocks.specs.Layout.{blocks, private_count, given_count, block_places}

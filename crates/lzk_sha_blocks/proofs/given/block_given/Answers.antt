@@ -5,7 +5,7 @@ use Rattle.lzk_sha_blocks.proofs.given.block_given.Goals as goal
 
 pub invariant_of-result : goal.invariant_of-result
 invariant_of-result c =
-    let s = state_few c.args.i in
+    let s = state_few c.args.block.i in
     let own = c.held.ensures.count in
     let few = c.held.ensures.few in
     let state = c.state_count.ensures.count in
@@ -13,10 +13,10 @@ invariant_of-result c =
       few = omega (arith, own, few, state, s);
       placed =
           subst IsPlaced
-          (sym (places_are c.args.len c.args.i c.held.result c.state_count.result c.in_ok-state.state.items c.in_ok-block.block.items own state c.in_ok-state.ensures c.in_ok-block.ensures))
-          (block_placed c.args.len c.args.i);
+          (sym (places_are c.args.block.len c.args.block.i c.held.result c.state_count.result c.in_ok-state.state.items c.in_ok-bits.bits.items own state c.in_ok-state.ensures c.in_ok-bits.ensures))
+          (block_placed c.args.block.len c.args.block.i);
     }
 
 pub returns : goal.returns
 returns c =
-    places_are c.args.len c.args.i c.held.result c.state_count.result c.in_ok-state.state.items c.in_ok-block.block.items c.held.ensures.count c.state_count.ensures.count c.in_ok-state.ensures c.in_ok-block.ensures
+    places_are c.args.block.len c.args.block.i c.held.result c.state_count.result c.in_ok-state.state.items c.in_ok-bits.bits.items c.held.ensures.count c.state_count.ensures.count c.in_ok-state.ensures c.in_ok-bits.ensures

@@ -3,8 +3,8 @@ use Rattle.lzk_circuit.specs.declared.layer.Layer.{Layer}
 use Rattle.lzk_circuit.specs.Valid.{AreLayers, Wiring, input_width}
 use Rattle.lzk_circuit.specs.Wires.{inputs_of, wires_of, IsFirstNonzero}
 use Rattle.lzk_circuit.proofs.CheckLaws.{one-checks}
-use Rattle.lzk_circuit.proofs.VersionLaws.{valid-one}
-use Rattle.lzk_reduce.specs.Reduced.{HaveOnes, IsReduced}
+use Rattle.lzk_circuit.proofs.VersionLaws.{one-valid, valid-one}
+use Rattle.lzk_circuit_reduce.specs.Reduced.{HaveOnes, IsReduced}
 use Rattle.lzk_goldilocks.specs.Elements.{ops, number, of_number, laws}
 use Rattle.lzk_goldilocks.specs.Prime.{p, element_bytes}
 use Rattle.lzk_goldilocks.specs.declared.element.Gold.{Gold}
@@ -21,25 +21,21 @@ reduced-requires c =
     let sizes : 1 ≤ length c.deref.result.now = omega (arith, long, two) in
     (search rules, (search rules, (sizes, (subst (AreLayers ops (input_count (places_of c.args.given.now))) (sym same) c.in_ok-layers.ensures.valid, subst (HaveOnes ops) (sym same) c.in_ok-layers.ensures.ones))))
 
-pub circuit_of-requires : goal.circuit_of-requires
-circuit_of-requires c =
+pub of_valid-requires-clause-layers : goal.of_valid-requires-clause-layers
+of_valid-requires-clause-layers c κs =
     let given = places_of c.args.given.now in
     let long = ap length c.deref.ensures.value in
     let two = c.in_ok-layers.ensures.count in
     let kept = c.in_ok-kept.ensures.count in
     let few = c.args.given.now.few in
     let width : given.inputs + 6385 ≡ 1 + 8 + (given.inputs + 6376) = omega arith in
-    record {
-      privates = omega (arith, few);
-      some = omega (arith, long, two, kept);
-      most = omega (arith, long, two, kept);
-      layers = subst (λ n. AreLayers ops n c.in_ok-kept.kept.items) width c.in_ok-kept.ensures.layers;
-    }
+    let some : 1 ≤ length c.in_ok-kept.kept.items = omega (arith, long, two, kept) in
+    one-valid ops 8 (given.inputs + 6376) c.in_ok-kept.kept.items (omega arith) (omega (arith, few)) some (omega (arith, long, two, kept)) (subst (λ n. AreLayers ops n c.in_ok-kept.kept.items) width c.in_ok-kept.ensures.layers)
 
 pub returns : goal.returns
 returns c =
     let given = places_of c.args.given.now in
-    let made = c.circuit_of.ensures.circuit in
+    let made = c.of_valid.ensures.circuit in
     let long = ap length c.deref.ensures.value in
     let two = c.in_ok-layers.ensures.count in
     let kept = c.in_ok-kept.ensures.count in
@@ -56,8 +52,8 @@ returns c =
       layers = ap (λ (w : Wiring Gold). length w.layers) made ∙ kept ∙ long ∙ two;
       outputs = outputs;
       satisfied = λ public private hp hq.
-          let wiring = c.circuit_of.result in
-          let valid = c.circuit_of.ensures.valid in
+          let wiring = c.of_valid.result in
+          let valid = c.of_valid.ensures.valid in
           let inputs = inputs_of ops public private in
           let both = length-append public private in
           let p8 = ap (λ (w : Wiring Gold). w.publics) made in

@@ -2,7 +2,7 @@ use Rattle.std.proofs.Common.{◌≡◌, ◌+◌, ◌∷◌, ◌++◌, [], ◌�
 use Rattle.lzk_circuit.specs.declared.layer.Layer.{Layer}
 use Rattle.lzk_circuit.specs.Valid.{AreLayers}
 use Rattle.lzk_circuit.specs.Wires.{inputs_of, wires_of}
-use Rattle.lzk_reduce.specs.Reduced.{HaveOnes}
+use Rattle.lzk_circuit_reduce.specs.Reduced.{HaveOnes}
 use Rattle.lzk_goldilocks.specs.Elements.{ops, of_number, ring}
 use Rattle.lzk_goldilocks.specs.declared.element.Gold.{Gold}
 use Rattle.lzk_sha_circuit.specs.Found.{places_of}

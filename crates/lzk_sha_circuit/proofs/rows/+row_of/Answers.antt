@@ -1,7 +1,7 @@
 use Rattle.std.proofs.Common.{◌≡◌, ◌∙◌, sym, ap, subst, length, ◌/◌}
 use Rattle.std.proofs.lemmas.Result.{IfOk-weaker}
 use Rattle.lzk_goldilocks.specs.Elements.{ops, ring}
-use Rattle.lzk_reduce.specs.Rows.{IsRow, row_value}
+use Rattle.lzk_circuit_reduce.specs.Rows.{IsRow, row_value}
 use Rattle.lzk_sha_circuit.specs.Products.{AreWithin, products_value}
 use Rattle.lzk_sha_circuit.proofs.RowLaws.{within-split, halves, value-of-halves}
 use Rattle.lzk_sha_circuit.proofs.rows.+row_of.Goals as goal

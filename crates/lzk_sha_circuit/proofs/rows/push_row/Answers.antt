@@ -2,7 +2,7 @@ use Rattle.std.proofs.Common.{◌∙◌, List, ap, subst, sym, length, arith}
 use Rattle.lzk_circuit.specs.declared.layer.Term.{Term}
 use Rattle.lzk_goldilocks.specs.Elements.{ops}
 use Rattle.lzk_goldilocks.specs.declared.element.Gold.{Gold}
-use Rattle.lzk_reduce.specs.Rows.{IsRow, row_value}
+use Rattle.lzk_circuit_reduce.specs.Rows.{IsRow, row_value}
 use Rattle.lzk_sha_circuit.proofs.Growth.{grown}
 use Rattle.lzk_sha_circuit.proofs.rows.push_row.Goals as goal
 

@@ -5,10 +5,10 @@ use Rattle.lzk_goldilocks.specs.Elements.{ops, number}
 use Rattle.lzk_goldilocks.specs.declared.element.Gold.{Gold}
 use Rattle.lzk_circuit.specs.Checks.{IsSatisfied}
 use Rattle.lzk_circuit.specs.Wires.{inputs_of}
-use Rattle.lzk_reduce.specs.Renumbering.{AreNumbersBelow}
-use Rattle.lzk_beside.specs.Chosen.{chosen}
+use Rattle.lzk_circuit_reduce.specs.Renumbering.{AreNumbersBelow}
+use Rattle.lzk_circuit_beside.specs.Chosen.{chosen}
 use Rattle.lzk_sha_path.proofs.LevelLaws.{level_exactly}
-use Rattle.lzk_beside.proofs.PlaceLaws.{row_below}
+use Rattle.lzk_circuit_beside.proofs.PlaceLaws.{row_below}
 use Rattle.lzk_sha_path.proofs.Seen.{front_seen, root_seen, words_length}
 use Rattle.lzk_sha_path.proofs.level.level_circuit.Goals as goal
 

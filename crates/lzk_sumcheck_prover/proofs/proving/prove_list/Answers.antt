@@ -11,10 +11,10 @@ use Rattle.lzk_layout.specs.Places.{depth, width_at, bits_under, output_bits, se
 use Rattle.lzk_sumcheck.specs.Coefficients.{terms_at}
 use Rattle.lzk_sumcheck.specs.Draws.{draws}
 use Rattle.lzk_sumcheck.specs.Layers.{layer_of_terms}
-use Rattle.lzk_rounds.specs.Orders.{IsOrderOf}
+use Rattle.lzk_sumcheck_rounds.specs.Orders.{IsOrderOf}
 use Rattle.lzk_sumcheck.specs.Script.{after_first, round_challenge, layer_script, after_layer}
 use Rattle.lzk_sumcheck.specs.Sending.{AreRoundsSent}
-use Rattle.lzk_rounds.specs.Tables.{TableRoom}
+use Rattle.lzk_sumcheck_rounds.specs.Tables.{TableRoom}
 use Rattle.lzk_sumcheck.specs.Weights.{weighted}
 use Rattle.lzk_sumcheck.proofs.LayerLaws.{AreReplayed, replayed_whole}
 use Rattle.lzk_sumcheck.proofs.LayerShapes.{values_depth, values_width, terms_is, terms_placed}

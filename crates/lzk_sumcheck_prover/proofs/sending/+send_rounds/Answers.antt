@@ -3,10 +3,10 @@ use Rattle.std.specs.Prelude.{true, false}
 use Rattle.lzk_field.specs.Sums.{minus, entry}
 use Rattle.lzk_mle.specs.Multilinear.{tilde}
 use Rattle.lzk_sumcheck.specs.Rounds.{every_other}
-use Rattle.lzk_rounds.specs.Rows.{round_at}
+use Rattle.lzk_sumcheck_rounds.specs.Rows.{round_at}
 use Rattle.lzk_sumcheck.specs.Sending.{drawn_sent, AreSent}
 use Rattle.lzk_sumcheck.specs.States.{bind_state, after, total}
-use Rattle.lzk_rounds.specs.Tables.{KeptTables, AreKept}
+use Rattle.lzk_sumcheck_rounds.specs.Tables.{KeptTables, AreKept}
 use Rattle.lzk_sumcheck_prover.proofs.SendLaws.{drawn-step, after-step, sent-step, rest-whole}
 use Rattle.lzk_sumcheck_prover.proofs.sending.+send_rounds.Goals as goal
 

@@ -2,7 +2,7 @@ use Rattle.std.proofs.Common.{ap, ◌∙◌, arith}
 use Rattle.std.specs.Prelude.{slice_set}
 use Rattle.std.proofs.lemmas.List.{get_or-set_same, get_or-set_other, get_or_default, length-set}
 use Rattle.lzk_field.specs.Sums.{minus}
-use Rattle.lzk_rounds.specs.Rows.{round_at}
+use Rattle.lzk_sumcheck_rounds.specs.Rows.{round_at}
 use Rattle.lzk_sumcheck_prover.proofs.sending.send_round.Goals as goal
 
 pub returns-clause-first : goal.returns-clause-first

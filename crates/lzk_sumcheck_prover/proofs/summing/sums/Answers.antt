@@ -1,8 +1,8 @@
 use Rattle.std.proofs.Common.{◌≡◌, ℕ, ◌+◌, ◌^◌, ◌≤◌, length, subst}
-use Rattle.lzk_rounds.specs.Rows.{round_at}
+use Rattle.lzk_sumcheck_rounds.specs.Rows.{round_at}
 use Rattle.lzk_sumcheck.specs.States.{State, bind_state, total}
-use Rattle.lzk_rounds.specs.Tables.{AreKept}
-use Rattle.lzk_rounds.proofs.TableLaws.{round-kept}
+use Rattle.lzk_sumcheck_rounds.specs.Tables.{AreKept}
+use Rattle.lzk_sumcheck_rounds.proofs.TableLaws.{round-kept}
 use Rattle.lzk_sumcheck_prover.proofs.summing.sums.Goals as goal
 
 pub returns-clause-value : goal.returns-clause-value

@@ -8,10 +8,7 @@ loop-i-preserved g c =
     let f = g.F.Field in
     let o = f.ops in
     let l = c.loop-i in
-    filled_more o.zero (λ k. o.inverse (minus o (f.coding.element c.args.point) (f.coding.element k))) l.i l.list c.inverse_between.result (omega arith) c.inverse_between.ensures l.invariant
-
-pub inverse_between-requires-clause-even : goal.inverse_between-requires-clause-even
-inverse_between-requires-clause-even g c κs within = λ h i j before below. c.is_even-even.ensures.0 h i j before (omega arith)
+    filled_more o.zero (λ k. o.inverse (minus o (f.coding.element c.args.at.now.point) (f.coding.element k))) l.i l.list c.inverse_between.result (omega arith) c.inverse_between.ensures l.invariant
 
 pub returns-clause-inverses : goal.returns-clause-inverses
 returns-clause-inverses g c = λ i h. c.loop-i.invariant i (omega arith)

@@ -6,4 +6,4 @@ abbrev pub invariant-loop-i : goal.invariant-loop-i
 invariant-loop-i g l =
     let f = g.F.Field in
     let o = f.ops in
-    IsFilled o.zero (λ k. o.inverse (minus o (f.coding.element l.point) (f.coding.element k))) l.i l.list
+    IsFilled o.zero (λ k. o.inverse (minus o (f.coding.element l.at.point) (f.coding.element k))) l.i l.list

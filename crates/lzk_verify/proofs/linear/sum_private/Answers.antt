@@ -1,4 +1,4 @@
-use Rattle.std.proofs.Common.{◌≡◌, ◌+◌, ◌*◌, ℕ, length, sym, ap, ◌∙◌, rules}
+use Rattle.std.proofs.Common.{◌≡◌, ◌+◌, ◌*◌, ℕ, length, sym, ap, ◌∙◌, rules, add-one}
 use Rattle.lzk_field.specs.Sums.{entry, sum_below}
 use Rattle.lzk_field.proofs.RingBasics.{zero_times}
 use Rattle.lzk_field.proofs.SumLaws.{sum-ext, sum-zero}
@@ -17,3 +17,9 @@ returns-then-is_empty g c =
     let product : ℕ → g.row.F.Denot = λ k. o.times (row_sum o table elements k) (back k) in
     let each : (k : ℕ) → product k ≡ o.zero = λ k. ap (λ n. o.times (sum_below o n (λ s. o.times (entry o table (k * length elements + s)) (entry o elements s))) (back k)) none ∙ zero_times o r (back k) in
     zero ∙ sym (sum-ext o r 4 product (λ k. o.zero) (λ k h. each k) ∙ sum-zero o r 4)
+
+pub loop-k-preserved : goal.loop-k-preserved
+loop-k-preserved g c =
+    let o = g.F.Field.ops in
+    let before = sum_below o c.loop-k.k (λ k. o.times (row_sum o c.args.row_factors.now c.args.elements.now k) (row_sum o c.args.place_factors.now c.args.factors.now k)) in
+    rw add-one (c.add-sum.ensures ∙ ap (λ z. o.plus z c.mul.result) c.loop-k.invariant ∙ ap (o.plus before) (c.mul.ensures ∙ (λ j. o.times (c.row_dot-multiple.ensures j) (c.row_dot.ensures j))))

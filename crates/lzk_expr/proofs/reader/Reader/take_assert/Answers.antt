@@ -1,6 +1,9 @@
-use Rattle.std.proofs.Common.{sym}
+use Rattle.std.proofs.Common.{◌+◌, refl, sym}
 use Rattle.lzk_expr.specs.Tokens.{tokens}
 use Rattle.lzk_expr.specs.View.{expr_of}
+use Rattle.lzk_expr.specs.declared.reader.Reader.{Reader}
+use Rattle.lzk_expr.specs.declared.ast.Statement.TheVariants as statement
+use Rattle.lzk_expr.proofs.Tables.{declares_assert}
 use Rattle.lzk_expr.proofs.Lines.{assert_inner, assert_no_left, assert_no_right, assert_unknown, assert_large, assert_pass}
 use Rattle.lzk_expr.proofs.reader.Reader.take_assert.Goals as goal
 
@@ -41,5 +44,8 @@ returns c =
     let two = rw c.in-Some-3.is at c.in_ok-right.ensures in
     let x = c.in-Some-2.left in
     let y = c.in-Some-3.right in
-    assert_pass c.args.self.now c.unwrap-field.result (tokens c.args.bytes.now) (tokens c.in-Some.before.now) (tokens c.in-Some.behind.now) (expr_of x.expr) (expr_of y.expr) x.known x.below y.known y.below c.requires.holds c.unwrap-field.ensures c.in-Some.ensures one two
-    c.assert.new.self (sym c.if-not-both.ensures) (sym c.if-not-both-2.ensures) c.in_ok-assert.ensures.declares c.in_ok-assert.ensures.lets
+    let old = c.args.self.now in
+    let after : Reader = record old { statements = c.push.new.self; asserts = old.asserts + 1 } in
+    let d = declares_assert old after (expr_of x.expr) (expr_of y.expr) (statement.Assert x.expr y.expr) c.requires.holds refl c.in_ok-push.ensures.items refl (λ w. refl) refl refl refl refl in
+    assert_pass old c.unwrap-field.result (tokens c.args.bytes.now) (tokens c.in-Some.before.now) (tokens c.in-Some.behind.now) (expr_of x.expr) (expr_of y.expr) x.known x.below y.known y.below c.requires.holds c.unwrap-field.ensures c.in-Some.ensures one two
+    after (sym c.if-not-both.ensures) (sym c.if-not-both-2.ensures) d refl

@@ -10,21 +10,21 @@ use Rattle.lzk_expr.proofs.Taken.{inputs_empty, inputs_other, inputs_twice, inpu
 use Rattle.lzk_expr.proofs.reader.Reader.take_inputs.Goals as goal
 
 pub returns-then-is_none : goal.returns-then-is_none
-returns-then-is_none c = inputs_empty c.args.self.now c.args.input (tokens c.args.bytes.now) (token_none c.args.bytes.now c.next_token.result c.next_token.ensures c.if-is_none.ensures)
+returns-then-is_none c = inputs_empty c.args.self.now c.args.input (tokens c.args.line.now.bytes.now) (token_none c.args.line.now.bytes.now c.next_token.result c.next_token.ensures c.if-is_none.ensures)
 
 pub returns-then-not-are_names : goal.returns-then-not-are_names
-returns-then-not-are_names c = inputs_other c.args.self.now c.args.input (tokens c.args.bytes.now) (sym c.if-not-are_names.ensures)
+returns-then-not-are_names c = inputs_other c.args.self.now c.args.input (tokens c.args.line.now.bytes.now) (sym c.if-not-are_names.ensures)
 
 pub returns-then-is_some : goal.returns-then-is_some
 returns-then-is_some c =
     let l = c.loop-name in
     let e = c.in-Some.ensures in
     let known : is_some (name_of (statements_of l.self.statements.items) c.in-Some.name.now) ≡ true = sym (known_is l.self l.invariant.holds c.in-Some.name.now) ∙ sym (ap is_some c.find.ensures) ∙ sym c.if-is_some.ensures in
-    inputs_break c.args.self.now l.self c.args.input (tokens c.args.bytes.now) (sym c.if-not-are_names.ensures) (token_some c.args.bytes.now c.next_token.result c.next_token.ensures c.if-is_none.ensures)
+    inputs_break c.args.self.now l.self c.args.input (tokens c.args.line.now.bytes.now) (sym c.if-not-are_names.ensures) (token_some c.args.line.now.bytes.now c.next_token.result c.next_token.ensures c.if-is_none.ensures)
     (l.invariant.read ∙ ap (λ (ts : List Token). inputs_read c.args.input (before_of l.self) (names_among ts)) e ∙ inputs_twice c.args.input (before_of l.self) c.in-Some.name.now (names_among (tokens c.in-Some.after.now)) known) l.invariant.lets
 
-pub declare_input-requires-clause-some : goal.declare_input-requires-clause-some
-declare_input-requires-clause-some c = first_filled c.loop-name.rest.now c.in-Some.name.now (tokens c.in-Some.after.now) c.in-Some.ensures
+pub invariant_of-declare_input-clause-some : goal.invariant_of-declare_input-clause-some
+invariant_of-declare_input-clause-some c = first_filled c.loop-name.rest.now c.in-Some.name.now (tokens c.in-Some.after.now) c.in-Some.ensures
 
 pub loop-name-preserved : goal.loop-name-preserved
 loop-name-preserved c =
@@ -47,7 +47,7 @@ loop-name-preserved c =
 pub returns : goal.returns
 returns c =
     let l = c.loop-name in
-    inputs_pass c.args.self.now l.self c.args.input (tokens c.args.bytes.now) (sym c.if-not-are_names.ensures) (token_some c.args.bytes.now c.next_token.result c.next_token.ensures c.if-is_none.ensures)
+    inputs_pass c.args.self.now l.self c.args.input (tokens c.args.line.now.bytes.now) (sym c.if-not-are_names.ensures) (token_some c.args.line.now.bytes.now c.next_token.result c.next_token.ensures c.if-is_none.ensures)
     (l.invariant.read ∙ ap (λ (ts : List Token). inputs_read c.args.input (before_of l.self) (names_among ts)) (names_end (tokens l.rest.now) l.invariant.all c.in_default.ensures) ∙ inputs_done c.args.input (before_of l.self)) l.invariant.holds l.invariant.lets
 
 pub loop-name-smaller : goal.loop-name-smaller

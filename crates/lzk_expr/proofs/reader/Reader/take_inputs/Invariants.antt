@@ -14,7 +14,7 @@ invariant-loop-name l = record {
   room : input_count l.input l.self + length (tokens l.rest) ≤ most_privates;
   holds : IsReader l.self;
   lets : l.self.lets ≡ l.fn.self.lets;
-  read : inputs_read l.input (before_of l.fn.self) (names_among (tokens l.bytes)) ≡ inputs_read l.input (before_of l.self) (names_among (tokens l.rest));
+  read : inputs_read l.input (before_of l.fn.self) (names_among (tokens l.line.bytes.now)) ≡ inputs_read l.input (before_of l.self) (names_among (tokens l.rest));
 }
 
 abbrev pub decreases-loop-name : goal.decreases-loop-name

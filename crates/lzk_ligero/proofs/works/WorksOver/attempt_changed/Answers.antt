@@ -1,7 +1,7 @@
 use Rattle.std.specs.Prelude.{take}
 use Rattle.std.proofs.Common.{refl, sym, subst}
 use Rattle.lzk_circuit.specs.Valid.{IsValid}
-use Rattle.lzk_complete.specs.Proving.{IsChangedFile, words_of}
+use Rattle.lzk_ligero_proof.specs.Proving.{IsChangedFile, words_of}
 use Rattle.lzk_ligero.proofs.works.WorksOver.attempt_changed.Goals as goal
 
 pub returns : goal.returns

@@ -3,7 +3,7 @@ use Rattle.std.proofs.Common.{refl, sym, subst}
 use Rattle.lzk_circuit.specs.Valid.{Wiring, IsValid}
 use Rattle.lzk_circuit.specs.Checks.{checks_of, IsSatisfied}
 use Rattle.lzk_circuit.specs.Wires.{inputs_of, IsFirstNonzero}
-use Rattle.lzk_complete.specs.Proving.{IsProofFile, words_of}
+use Rattle.lzk_ligero_proof.specs.Proving.{IsProofFile, words_of}
 use Rattle.lzk_ligero_steps.proofs.Outputs.{named-output}
 use Rattle.lzk_ligero.proofs.works.WorksOver.prove.Goals as goal
 

@@ -1,6 +1,6 @@
 use Rattle.std.proofs.Common.{inl, inr, refl, ◌∙◌, arith}
 use Rattle.lzk_outside.specs.Memory.{files_of, bytes_of}
-use Rattle.lzk_cmd_runs.specs.Sights.{texts}
+use Rattle.lzk_cmd.specs.Sights.{texts}
 use Rattle.lzk_cmd_words.specs.Words.{Eval, Compile}
 use Rattle.lzk_tests_cmd.proofs.ChainLaws.{no_fault, done_or_memory, chained}
 use Rattle.lzk_tests_cmd.proofs.cmd.chained.compile_then_eval.Goals as goal

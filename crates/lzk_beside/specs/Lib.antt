@@ -1,4 +1,0 @@
-pub mod Asserts
-pub mod Chosen
-pub mod Levels
-pub use Rattle.lzk_reduce.specs

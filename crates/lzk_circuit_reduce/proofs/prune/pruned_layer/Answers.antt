@@ -1,0 +1,92 @@
+use Rattle.std.proofs.Common.{rules, ◌≡◌, ◌<◌, ◌+◌, ◌++◌, ◌∙◌, ap, sym, subst, arith, false, List, ℕ, length, drop, None, get_or}
+use Rattle.lzk_field.specs.Ring.{Ops}
+use Rattle.lzk_circuit.specs.declared.layer.Term.{Term}
+use Rattle.lzk_circuit.specs.Valid.{IsTerm, AreTerms}
+use Rattle.lzk_circuit.proofs.OrderLaws.{term-at}
+use Rattle.lzk_circuit_reduce.specs.Renumbering.{at}
+use Rattle.lzk_circuit_reduce.specs.Marks.{is_marked}
+use Rattle.lzk_circuit_reduce.specs.Used.{used_term, used_terms}
+use Rattle.lzk_circuit_reduce.proofs.AddLaws.{any-default}
+use Rattle.lzk_circuit_reduce.proofs.UsedLaws.{numbered-used, used-marked, used-unmarked}
+use Rattle.lzk_circuit_reduce.proofs.prune.pruned_layer.Goals.{then-index+in_ok-push, else-index}
+use Rattle.lzk_circuit_reduce.proofs.prune.pruned_layer.Goals as goal
+
+-- a term that is read is one of them
+read : {A : Type 0} (o : Ops A) (wires width i : ℕ) (ts : List (Term A)) (t : Term A) → AreTerms o wires width None ts → i < length ts → t ≡ get_or ts i t → IsTerm o wires width t
+read o wires width i ts t h l is = subst (IsTerm o wires width) (sym is) (term-at o wires width i None ts t h l)
+
+pub overflow_cast-term : goal.overflow_cast-term
+overflow_cast-term g c =
+    let t = read g.F.Field.ops (length c.args.above.now.marks.items) (length c.args.below.now.marks.items) c.loop-i.i c.args.terms.now c.index-terms-i.result c.requires c.loop-i-test.true c.index-terms-i.is in
+    omega (arith, t.g)
+
+pub index-requires : goal.index-requires
+index-requires g c =
+    let t = read g.F.Field.ops (length c.args.above.now.marks.items) (length c.args.below.now.marks.items) c.loop-i.i c.args.terms.now c.index-terms-i.result c.requires c.loop-i-test.true c.index-terms-i.is in
+    let l : c.index-terms-i.result.g < length c.args.above.now.marks.items = t.g in
+    search (rules, l)
+
+pub overflow_cast-term-then-index : goal.overflow_cast-term-then-index
+overflow_cast-term-then-index g c =
+    let t = read g.F.Field.ops (length c.args.above.now.marks.items) (length c.args.below.now.marks.items) c.loop-i.i c.args.terms.now c.index-terms-i.result c.requires c.loop-i-test.true c.index-terms-i.is in
+    omega (arith, t.g)
+
+pub index-requires-then-index : goal.index-requires-then-index
+index-requires-then-index g c =
+    let t = read g.F.Field.ops (length c.args.above.now.marks.items) (length c.args.below.now.marks.items) c.loop-i.i c.args.terms.now c.index-terms-i.result c.requires c.loop-i-test.true c.index-terms-i.is in
+    let l : c.index-terms-i.result.g < length c.args.above.now.places.items = omega (arith, t.g, c.args.above.now.placed.0) in
+    search (rules, l)
+
+pub overflow_cast-term-then-index-2 : goal.overflow_cast-term-then-index-2
+overflow_cast-term-then-index-2 g c =
+    let t = read g.F.Field.ops (length c.args.above.now.marks.items) (length c.args.below.now.marks.items) c.loop-i.i c.args.terms.now c.index-terms-i.result c.requires c.loop-i-test.true c.index-terms-i.is in
+    omega (arith, t.a, t.b)
+
+pub index-requires-then-index-2 : goal.index-requires-then-index-2
+index-requires-then-index-2 g c =
+    let t = read g.F.Field.ops (length c.args.above.now.marks.items) (length c.args.below.now.marks.items) c.loop-i.i c.args.terms.now c.index-terms-i.result c.requires c.loop-i-test.true c.index-terms-i.is in
+    let l : c.index-terms-i.result.a < length c.args.below.now.places.items = omega (arith, t.a, t.b, c.args.below.now.placed.0) in
+    search (rules, l)
+
+pub overflow_cast-term-then-index-3 : goal.overflow_cast-term-then-index-3
+overflow_cast-term-then-index-3 g c =
+    let t = read g.F.Field.ops (length c.args.above.now.marks.items) (length c.args.below.now.marks.items) c.loop-i.i c.args.terms.now c.index-terms-i.result c.requires c.loop-i-test.true c.index-terms-i.is in
+    omega (arith, t.b)
+
+pub index-requires-then-index-3 : goal.index-requires-then-index-3
+index-requires-then-index-3 g c =
+    let t = read g.F.Field.ops (length c.args.above.now.marks.items) (length c.args.below.now.marks.items) c.loop-i.i c.args.terms.now c.index-terms-i.result c.requires c.loop-i-test.true c.index-terms-i.is in
+    let l : c.index-terms-i.result.b < length c.args.below.now.places.items = omega (arith, t.b, c.args.below.now.placed.0) in
+    search (rules, l)
+
+pub loop-i-preserved : goal.loop-i-preserved
+loop-i-preserved g c =
+    let ts = c.args.terms.now in
+    let i = c.loop-i.i in
+    let above = c.args.above.now in
+    let below = c.args.below.now in
+    let marks = above.marks.items in
+    let seen = below.marks.items in
+    let d = c.index-terms-i.result in
+    let all = used_terms marks seen ts in
+    let l : i < length ts = c.loop-i-test.true in
+    let t = read g.F.Field.ops (length marks) (length seen) i ts d c.requires l c.index-terms-i.is in
+    let own = ap (λ x. is_marked marks x.g) (sym c.index-terms-i.is) ∙ sym (any-default marks d.g c.index.result.now false t.g c.index.ensures) in
+    elim c.if-index.branch [
+      | then-index+in_ok-push w ↦
+          let first = any-default above.places.items d.g w.index-then-index.result.now 0 (omega (arith, t.g, above.placed.0)) w.index-then-index.ensures in
+          let left = any-default below.places.items d.a w.index-then-index-2.result.now 0 (omega (arith, t.a, t.b, below.placed.0)) w.index-then-index-2.ensures in
+          let right = any-default below.places.items d.b w.index-then-index-3.result.now 0 (omega (arith, t.b, below.placed.0)) w.index-then-index-3.ensures in
+          let pushed : Term _ = record { g = w.index-then-index.result.now; a = w.index-then-index-2.result.now; b = w.index-then-index-3.result.now; coef = d.coef } in
+          let is : pushed ≡ used_term marks seen (get_or ts i d) =
+          ap (λ n. record { g = n; a = w.index-then-index-2.result.now; b = w.index-then-index-3.result.now; coef = d.coef }) first
+          ∙ ap (λ n. record { g = at above.places.items d.g; a = n; b = w.index-then-index-3.result.now; coef = d.coef }) left
+          ∙ ap (λ n. record { g = at above.places.items d.g; a = at below.places.items d.a; b = n; coef = d.coef }) right
+          ∙ numbered-used marks seen above.places.items below.places.items d above.placed below.placed t.g (omega (arith, t.a, t.b)) t.b
+          ∙ ap (used_term marks seen) c.index-terms-i.is in
+          ap (λ v. v.items ++ used_terms marks seen (drop (i + 1) ts)) w.kept-is
+          ∙ ap (λ xs. xs ++ used_terms marks seen (drop (i + 1) ts)) w.in_ok-push.ensures.items
+          ∙ used-marked marks seen ts c.loop-i.kept.items all pushed i d l (own ∙ w.if-index.true) is c.loop-i.invariant
+      | else-index w ↦
+          ap (λ v. v.items ++ used_terms marks seen (drop (i + 1) ts)) w.kept-is ∙ used-unmarked marks seen ts c.loop-i.kept.items all i d l (own ∙ w.if-index.false) c.loop-i.invariant
+    ]

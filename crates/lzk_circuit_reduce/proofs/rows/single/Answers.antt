@@ -1,0 +1,24 @@
+use Rattle.std.proofs.Common.{◌≢◌, ◌∙◌, ap, sym, subst, [], ◌∷◌, ◌++◌}
+use Rattle.lzk_field.specs.Sums.{entry}
+use Rattle.lzk_field.proofs.RingBasics.{zero_times}
+use Rattle.lzk_circuit_reduce.specs.Rows.{IsRow, row_value}
+use Rattle.lzk_circuit_reduce.proofs.RowLaws.{row-of-one}
+use Rattle.lzk_circuit_reduce.proofs.rows.single.Goals as goal
+
+pub returns-then-is_zero-clause-value : goal.returns-then-is_zero-clause-value
+returns-then-is_zero-clause-value g c below =
+    let o = g.F.Field.ops in
+    let product = o.times (entry o below c.args.a) (entry o below c.args.b) in
+    ap (row_value o below) c.new.ensures.items ∙ sym (ap (λ f. o.times f product) (c.is_zero.ensures.yes c.if-is_zero.true) ∙ zero_times o g.F.Field.laws.ring product)
+
+pub returns-clause-row : goal.returns-clause-row
+returns-clause-row g c width la lb =
+    let o = g.F.Field.ops in
+    let nz : c.term_of.result.coef ≢ o.zero = λ e. c.is_zero.ensures.no c.if-is_zero.false (sym c.term_of.ensures.coef ∙ e) in
+    subst (IsRow o width) (sym (c.in_ok-push.ensures.items ∙ ap (λ us. us ++ c.term_of.result ∷ []) c.in_ok-row.ensures.items)) (row-of-one o width c.term_of.result c.term_of.ensures.wire c.term_of.ensures.order (c.term_of.ensures.width width la lb) nz)
+
+pub returns-then-is_zero-clause-exact : goal.returns-then-is_zero-clause-exact
+returns-then-is_zero-clause-exact g c nonzero = absurd (nonzero (c.is_zero.ensures.yes c.if-is_zero.true))
+
+pub returns-clause-exact : goal.returns-clause-exact
+returns-clause-exact g c nonzero = c.in_ok-push.ensures.items ∙ ap (λ us. us ++ c.term_of.result ∷ []) c.in_ok-row.ensures.items ∙ ap (λ t. t ∷ []) c.term_of.ensures.exact

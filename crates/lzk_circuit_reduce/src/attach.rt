@@ -1,0 +1,92 @@
+//! Layers with assertion wires behind their own.
+
+ghost use Rattle.std.specs.Prelude.{◌≡◌, ℕ, ◌+◌, ◌≤◌, ◌<◌, ◌^◌, length, IfOk};
+ghost use Rattle.lzk_circuit.specs.Valid.{AreLayers, under_of};
+ghost use Rattle.lzk_circuit_reduce.specs.Attached.{attached, attached_layers, AreNarrowWith, IsAssertingForm};
+ghost use Rattle.lzk_circuit_reduce.specs.Reduced.{HaveOnes, output_count};
+ghost use Rattle.lzk_circuit_reduce.specs.Targets.{targets_at, AreAllTerms, AreTargets, target_count};
+ghost use Rattle.lzk_circuit.specs.Limits.{most_wires, most_total};
+
+use crate::reduce::reduced_with;
+use crate::reducible::Reducible;
+use crate::targets::Targets;
+use lzk_circuit::{Layer, Term, Terms};
+use lzk_field::Field;
+use std::alloc::{AllocError, Global};
+
+// A layer with an assertion wire for each of these wires below. Its term is that of wire 0 and that wire.
+fn attached_layer<F: Field>(
+    alloc: Global,
+    layer: &Layer<F>,
+    wires: &[u32],
+) -> Result<Layer<F>, AllocError>
+    requires few { layer.now.wires + length wires.now < 2 ^ 32 }
+    ensures { IfOk result (λ all. all ≡ attached F.ops layer.now wires.now) }
+{
+    let mut terms = Vec::from_slice(alloc, layer.terms.as_slice())?;
+    let mut g = layer.wires;
+    for i in 0..wires.len() {
+        terms.push(Term {
+            g,
+            a: 0,
+            b: wires[i],
+            coef: F::zero(),
+        })?;
+        g += 1;
+    }
+    Ok(Layer {
+        wires: g,
+        terms: Terms::new(terms),
+    })
+}
+
+// These layers, each with an assertion wire for each of the wires below that it asserts. The assertion wires come
+// last, in order.
+fn attached<F: Field>(
+    alloc: Global,
+    layers: &[Layer<F>],
+    targets: &[Targets],
+) -> Result<Vec<Layer<F>>, AllocError>
+    requires lists { length targets.now ≡ length layers.now }
+    requires few { AreNarrowWith most_wires targets.now layers.now }
+    ensures { IfOk result (λ all. all.items ≡ attached_layers F.ops targets.now layers.now) }
+{
+    let mut all = Vec::with_capacity(alloc, layers.len())?;
+    for l in 0..layers.len() {
+        all.push(attached_layer(alloc, &layers[l], targets[l].as_slice())?)?;
+    }
+    Ok(all)
+}
+
+/// The reduced form of layers, with an assertion wire for each wire that a layer asserts: the checks are the
+/// outputs, and then the values of the asserted wires, layer by layer.
+pub fn asserting<F: Field>(
+    alloc: Global,
+    inputs: u32,
+    layers: &[Layer<F>],
+    targets: &[Targets],
+) -> Result<Vec<Layer<F>>, AllocError>
+    requires inputs { 1 ≤ inputs }
+    requires some { 1 ≤ length layers.now }
+    requires terms { AreAllTerms F.ops inputs layers.now }
+    requires layers { 2 ≤ length layers.now → AreLayers F.ops inputs layers.now }
+    requires ones { HaveOnes F.ops layers.now }
+    requires targets { AreTargets inputs targets.now layers.now }
+    requires lists { length targets.now ≡ length layers.now }
+    requires checks { 1 ≤ output_count layers.now + length (targets_at targets.now 0) }
+    requires narrow { AreNarrowWith most_wires targets.now layers.now }
+    requires few_wires { (under_of inputs layers.now).wires + target_count targets.now layers.now ≤ most_total }
+    requires few_terms { (under_of inputs layers.now).terms + target_count targets.now layers.now ≤ most_total }
+    ensures { IfOk result (λ all. IsAssertingForm F.ops F.coding.number inputs targets.now layers.now all.items) }
+{
+    if layers.len() == 1 {
+        return attached(alloc, layers, targets);
+    }
+    let given = Reducible {
+        inputs,
+        layers,
+        targets,
+    };
+    let (kept, moved) = reduced_with(alloc, &given)?;
+    attached(alloc, &kept, &moved)
+}

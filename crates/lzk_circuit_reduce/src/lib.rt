@@ -1,0 +1,35 @@
+//! Circuits without needless wires: rows of terms, and the reduced form of layers.
+//!
+//! A row holds the terms of one wire over the layer below. [`reduced`] gives layers with the same outputs in
+//! which no inner wire is there twice, or for nothing (the profile in docs/FORMATS.md). A caller writes
+//!
+//! ```text
+//! let product = single(alloc, coef, a, b)?;
+//! let row = merged(alloc, &scaled(alloc, factor, &product)?, &other)?;
+//! append(&mut terms, g, &row)?;
+//! let layers = reduced(alloc, inputs, &layers)?;
+//! ```
+#![tactic(auto)]
+
+mod add;
+mod attach;
+mod in_order;
+mod kept;
+mod laws;
+mod marks;
+mod prune;
+mod reduce;
+mod reducible;
+mod renumber;
+mod rows;
+mod share;
+mod targets;
+
+pub use add::add_term;
+pub use attach::asserting;
+pub use laws::reduce_laws;
+pub use marks::marked_places;
+pub use reduce::reduced;
+pub use renumber::end_of;
+pub use rows::{append, merged, scaled, single};
+pub use targets::Targets;

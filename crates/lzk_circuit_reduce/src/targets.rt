@@ -1,0 +1,100 @@
+//! The wires that a layer asserts to be 0.
+
+ghost use Rattle.std.specs.Prelude.{◌≡◌, ℕ, ◌<◌, ◌==◌, ◌||◌, List, [], length, map, true, IfOk};
+ghost use Rattle.lzk_circuit_reduce.specs.Marks.{is_marked};
+ghost use Rattle.lzk_circuit_reduce.specs.Renumbering.{at};
+ghost use Rattle.lzk_circuit_reduce.specs.Targets.{is_in, targets_at, AreBelow};
+
+use std::alloc::{AllocError, Global};
+use std::marker::Model;
+
+/// Wires of the layer below, each of which a layer asserts to be 0. They are made from a `Vec`, with no memory
+/// taken.
+#[derive(Drop)]
+pub struct Targets {
+    list: Vec<u32>,
+}
+
+impl Model for Targets {
+    ghost use Rattle.std.specs.Prelude.{List, ℕ};
+
+    ghost Value = { List ℕ };
+
+    ghost view = { λ t. t.list.items };
+}
+
+impl Targets {
+    /// These wires, with no check.
+    pub fn new(list: Vec<u32>) -> Targets
+        ensures { result ≡ list.items }
+    {
+        Targets { list }
+    }
+
+    /// The wires in order.
+    pub fn as_slice(&self) -> &[u32]
+        ensures { result.now ≡ self.now }
+    {
+        &self.list
+    }
+}
+
+// Wires under other numbers.
+fn renumbered(alloc: Global, wires: &[u32], numbers: &[u32]) -> Result<Targets, AllocError>
+    requires { AreBelow (length numbers.now) wires.now }
+    ensures { IfOk result (λ moved. moved ≡ map (at numbers.now) wires.now) }
+{
+    let mut list = Vec::with_capacity(alloc, wires.len())?;
+    for i in 0..wires.len() {
+        list.push(numbers[wires[i] as usize])?;
+    }
+    Ok(Targets::new(list))
+}
+
+/// What layer `l` asserts, under other numbers of the wires below. A layer with no list asserts nothing.
+pub(crate) fn moved_targets(
+    alloc: Global,
+    targets: &[Targets],
+    l: usize,
+    numbers: &[u32],
+) -> Result<Targets, AllocError>
+    requires { AreBelow (length numbers.now) (targets_at targets.now l) }
+    ensures { IfOk result (λ moved. moved ≡ map (at numbers.now) (targets_at targets.now l)) }
+{
+    match targets.get(l) {
+        Some(own) => renumbered(alloc, own.as_slice(), numbers),
+        None => Ok(Targets::new(Vec::new(alloc))),
+    }
+}
+
+// Marks a wire.
+fn mark_one(marks: &mut Vec<bool>, wire: u32)
+    requires { wire < length marks.now.items }
+    ensures count { length marks.new.items ≡ length marks.old.items }
+    ensures marks { (k : ℕ) → is_marked marks.new.items k ≡ (is_marked marks.old.items k || (wire == k)) }
+{
+    marks[wire as usize] = true;
+}
+
+// Marks wires.
+fn mark_each(marks: &mut Vec<bool>, wires: &[u32])
+    requires { AreBelow (length marks.now.items) wires.now }
+    ensures count { length marks.new.items ≡ length marks.old.items }
+    ensures marks { (k : ℕ) → is_marked marks.new.items k ≡ (is_marked marks.old.items k || is_in wires.now k) }
+{
+    for i in 0..wires.len() {
+        mark_one(marks, wires[i]);
+    }
+}
+
+/// Marks the wires that layer `l` asserts.
+pub(crate) fn mark_targets(marks: &mut Vec<bool>, targets: &[Targets], l: usize)
+    requires { AreBelow (length marks.now.items) (targets_at targets.now l) }
+    ensures count { length marks.new.items ≡ length marks.old.items }
+    ensures marks { (k : ℕ)
+        → is_marked marks.new.items k ≡ (is_marked marks.old.items k || is_in (targets_at targets.now l) k) }
+{
+    if let Some(own) = targets.get(l) {
+        mark_each(marks, own.as_slice());
+    }
+}

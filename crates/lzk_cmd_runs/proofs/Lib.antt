@@ -1,9 +1,0 @@
-pub mod DemoCounts
-pub mod HashCounts
-pub mod Lists
-pub mod Accepted
-pub mod Alone
-pub mod Exists
-pub mod Promises
-pub mod Ready
-pub mod Total

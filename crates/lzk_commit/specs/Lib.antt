@@ -1,1 +1,0 @@
-pub use Rattle.lzk_tableau.specs as lzk_tableau

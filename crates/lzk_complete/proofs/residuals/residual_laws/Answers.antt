@@ -1,5 +1,0 @@
-use Rattle.lzk_complete.proofs.Vanish.{vanish}
-use Rattle.lzk_complete.proofs.residuals.residual_laws.Goals as goal
-
-pub returns : goal.returns
-returns g c = let f = g.F.Field in record { vanish = vanish f.ops f.coding f.laws }

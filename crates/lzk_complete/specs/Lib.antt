@@ -1,9 +1,0 @@
-pub mod Answered
-pub mod AnyInputs
-pub mod Changed
-pub mod Complete
-pub mod Proving
-pub mod Refused
-pub mod Residuals
-pub use Rattle.lzk_tableau.specs as lzk_tableau
-pub use Rattle.lzk_answers.specs as lzk_answers

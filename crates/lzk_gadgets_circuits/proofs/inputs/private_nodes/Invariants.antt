@@ -1,6 +1,0 @@
-use Rattle.lzk_goldilocks.specs.Elements.{ops}
-use Rattle.lzk_gadgets_circuits.proofs.InputLaws.{Gathered}
-use Rattle.lzk_gadgets_circuits.proofs.inputs.private_nodes.Given as goal
-
-abbrev pub invariant-loop-k : goal.invariant-loop-k
-invariant-loop-k l = Gathered ops l.s (λ p q. q) l.start l.k l.nodes.items

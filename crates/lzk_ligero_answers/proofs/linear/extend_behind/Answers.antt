@@ -1,0 +1,20 @@
+use Rattle.std.proofs.Common.{◌≡◌, ◌+◌, ℕ, arith, ap, ◌∙◌}
+use Rattle.lzk_field.specs.Sums.{entry}
+use Rattle.lzk_poly.specs.Extension.{extension, Reach}
+use Rattle.lzk_ligero_answers.proofs.TableLaws.{coefficients_are}
+use Rattle.lzk_ligero_answers.proofs.linear.extend_behind.Goals as goal
+
+pub returns-clause-given : goal.returns-clause-given
+returns-clause-given g c list are =
+    let o = g.F.Field.ops in
+    coefficients_are o c.args.given.now.extending.now.table.params.now (entry o c.args.given.now.coefficients.now) list c.fill_row.new.row c.args.given.now.extending.now.table.bounded.block are (omega arith) c.fill_row.ensures.front (λ s q. c.fill_row.ensures.back s (omega arith))
+
+pub returns-clause-further : goal.returns-clause-further
+returns-clause-further g c list are k h =
+    let m = g.F.Field in
+    let o = m.ops in
+    let p = c.args.given.now.extending.now.table.params.now in
+    let values = c.fill_row.new.row in
+    let same : values ≡ list = coefficients_are o p (entry o c.args.given.now.coefficients.now) list values c.args.given.now.extending.now.table.bounded.block are (omega arith) c.fill_row.ensures.front (λ s q. c.fill_row.ensures.back s (omega arith)) in
+    let count : (g.X.RowExtend.reach c.args.given.now.extending.now.extender.now).count ≡ p.block = ap (λ (r : Reach). r.count) c.args.given.now.extending.now.reach in
+    c.extend_row.ensures.value k (omega arith) ∙ ap (λ xs. extension o m.coding.element xs ((g.X.RowExtend.reach c.args.given.now.extending.now.extender.now).count + k)) same ∙ ap (λ (n : ℕ). extension o m.coding.element list (n + k)) count

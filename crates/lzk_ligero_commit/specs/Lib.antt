@@ -1,0 +1,1 @@
+pub use Rattle.lzk_ligero_tableau.specs as lzk_ligero_tableau

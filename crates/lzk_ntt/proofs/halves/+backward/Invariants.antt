@@ -1,4 +1,0 @@
-use Rattle.lzk_ntt.proofs.halves.+backward.Given as goal
-
-abbrev pub decreases-backward : goal.decreases-backward
-decreases-backward g l = l.bits

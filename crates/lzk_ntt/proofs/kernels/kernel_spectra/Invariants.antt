@@ -1,8 +1,0 @@
-use Rattle.lzk_ntt.proofs.Building.{IsBuilt}
-use Rattle.lzk_ntt.proofs.kernels.kernel_spectra.Given as goal
-
-abbrev pub invariant-loop-v : goal.invariant-loop-v
-invariant-loop-v g l = let m = g.F.Field in IsBuilt m.ops m.coding.element l.fn.transform l.fn.plan l.v 0 l.all.items
-
-abbrev pub invariant-loop-p : goal.invariant-loop-p
-invariant-loop-p g l = let m = g.F.Field in IsBuilt m.ops m.coding.element l.fn.transform l.fn.plan l.v l.p l.all.items

@@ -1,6 +1,0 @@
-pub mod Depths
-pub mod Placed
-pub mod Seen
-pub mod Under
-mod Refusing
-mod Issued

@@ -1,6 +1,0 @@
-use Rattle.std.proofs.Common.{◌≡◌, ◌++◌, drop}
-use Rattle.lzk_reduce.specs.Attached.{attached_layers}
-use Rattle.lzk_reduce.proofs.attach.attached.Given as goal
-
-abbrev pub invariant-loop-l : goal.invariant-loop-l
-invariant-loop-l g l = l.all.items ++ attached_layers g.F.Field.ops (drop l.l l.targets) (drop l.l l.layers) ≡ attached_layers g.F.Field.ops l.targets l.layers
