@@ -4,9 +4,8 @@ use lzk_field::Field;
 use lzk_poly::Extender;
 use std::marker::Model;
 
-/// Extends rows by sums, with no room: the plain form beside the transforms of lzk_poly_ntt and lzk_afft, for tests. It is
-/// made by
-/// `RowExtend::make`, at a field that has an `impl`.
+/// Extends rows by sums, with no room: the plain form beside the transforms of lzk_poly_ntt and lzk_afft, for tests. It
+/// is made by `RowExtend::make`, at a field that has an `impl`.
 #[derive(Drop)]
 pub struct Rows<F: Field> {
     pub(crate) extender: Extender<F>,
