@@ -37,7 +37,7 @@ module _ {A : Type 0} where
   all-terms o inputs [] h = tt
   all-terms o inputs (layer ∷ layers) h = let one = h.0 in (one.each, all-terms o inputs layers h.1)
 
-  terms-wider : (o : Ops A) (wires n m : ℕ) (before : Option (Term A)) (ts : List (Term A)) → n ≤ m → AreTerms o wires n before ts → AreTerms o wires m before ts
+  pub terms-wider : (o : Ops A) (wires n m : ℕ) (before : Option (Term A)) (ts : List (Term A)) → n ≤ m → AreTerms o wires n before ts → AreTerms o wires m before ts
   terms-wider o wires n m before [] le h = tt
   terms-wider o wires n m before (t ∷ ts) le h =
       let one = h.0 in

@@ -4,11 +4,11 @@ use Rattle.std.proofs.Common.{inl, inr, refl, ◌∙◌, arith}
 use Rattle.std.proofs.lemmas.Bool.{both_ways}
 use Rattle.lzk_field.specs.Ring.{Ops}
 use Rattle.lzk_circuit.specs.declared.layer.Layer.{Layer}
-use Rattle.lzk_circuit.specs.Valid.{under_of}
+use Rattle.lzk_circuit.specs.Valid.{AreLayers, under_of}
 use Rattle.lzk_circuit_reduce.specs.Asserting.{IsForm, AreFewer, AreAsMany, AreUsedWith, AreReducedWithUnder, IsReducedWith}
 use Rattle.lzk_circuit_reduce.specs.Attached.{AreNarrowWith}
 use Rattle.lzk_circuit_reduce.specs.Reduced.{AreUsed, AreReducedUnder, IsReduced}
-use Rattle.lzk_circuit_reduce.specs.Targets.{targets_at, behind, target_count}
+use Rattle.lzk_circuit_reduce.specs.Targets.{targets_at, behind, AreTargets, target_count}
 
 module _ {A : Type 0} where
   fewer-then : (xs ys zs : List (Layer A)) → AreFewer xs ys → AreFewer ys zs → AreFewer xs zs
@@ -21,6 +21,28 @@ module _ {A : Type 0} where
   many-then us vs ws kept [] e f g = tt
   many-then us vs ws [] (layer ∷ layers) e f g = absurd (omega (arith, e))
   many-then us vs ws (x ∷ kept) (layer ∷ layers) e f g = (f.0 ∙ g.0, many-then (behind us) (behind vs) (behind ws) kept layers (omega (arith, e)) f.1 g.1)
+
+  fewer-same : (layers : List (Layer A)) → AreFewer layers layers
+  fewer-same [] = tt
+  fewer-same (layer ∷ layers) = (omega arith, omega arith, fewer-same layers)
+
+  many-same : (ws : List (List ℕ)) (layers : List (Layer A)) → AreAsMany ws ws layers
+  many-same ws [] = tt
+  many-same ws (layer ∷ layers) = (refl, many-same (behind ws) layers)
+
+  -- layers are a form of themselves
+  pub form-same : (o : Ops A) (inputs : ℕ) (ws : List (List ℕ)) (layers : List (Layer A)) → length ws ≡ length layers → AreLayers o inputs layers → AreTargets inputs ws layers → IsForm o inputs ws layers ws layers
+  form-same o inputs ws layers lists valid t = record {
+    count = refl;
+    lists = lists;
+    valid = valid;
+    outputs = refl;
+    values = λ values e. refl;
+    fewer = fewer-same layers;
+    targets = t;
+    as_many = many-same ws layers;
+    asserted = λ values e. refl;
+  }
 
   -- a form of a form is one of the first layers
   pub form-then : (o : Ops A) (inputs : ℕ) (ws : List (List ℕ)) (layers : List (Layer A)) (vs : List (List ℕ)) (kept : List (Layer A)) (us : List (List ℕ)) (all : List (Layer A)) → IsForm o inputs ws layers vs kept → IsForm o inputs vs kept us all → IsForm o inputs ws layers us all
@@ -78,3 +100,7 @@ module _ {A : Type 0} where
   reduced-alone o vs [] layers e m h = tt
   reduced-alone o vs (x ∷ kept) [] e m h = absurd (omega (arith, e))
   reduced-alone o vs (x ∷ kept) (layer ∷ layers) e m h = alone-under o x vs kept layers layer (omega (arith, e)) m h
+
+  -- layers that assert nothing, with what they use of themselves
+  pub used-alone : (o : Ops A) (layers : List (Layer A)) → IsReducedWith o [] layers → IsReduced o layers
+  used-alone o layers h = reduced-alone o [] layers layers refl (many-same [] layers) h

@@ -2,11 +2,12 @@
 use Rattle.std.specs.Prelude.{◌≡◌, ℕ, ◌+◌, ◌<◌, ◌≤◌, None, List, [], ◌∷◌, ◌++◌, ◌-◌, length, drop, take}
 use Rattle.std.proofs.Common.{◌⊎◌, inl, inr, sym, ap, ◌∙◌, arith, subst, get_or}
 use Rattle.std.proofs.lemmas.List.{drop_more, drop_all, take_all, length-append, length-drop, append-nil}
+use Rattle.std.proofs.lemmas.List.Elements.{All-append, All-drop, All-push}
 use Rattle.lzk_field.specs.Ring.{Ops, RingLaws}
 use Rattle.lzk_field.specs.Sums.{entry}
 use Rattle.lzk_field.proofs.RingBasics.{zero_plus, zero_times, plus_times, plus_swap}
 use Rattle.lzk_circuit.specs.declared.layer.Term.{Term}
-use Rattle.lzk_circuit_reduce.specs.Rows.{IsRow, row_value, term_value, added, IsNext}
+use Rattle.lzk_circuit_reduce.specs.Rows.{IsRow, IsUnder, AreUnder, row_value, term_value, added, IsNext}
 use Rattle.lzk_circuit_reduce.proofs.RowLaws.{Merging, merge_left, merge_right, merge_none, merge_both, value-append, append-terms}
 
 module _ {A : Type 0} (o : Ops A) where
@@ -17,6 +18,7 @@ module _ {A : Type 0} (o : Ops A) where
     pub row : (width : ℕ) → IsRow o width left → IsRow o width right → Merging o width sum (drop i left) (drop j right)
     pub value : (below : List A) → o.plus (row_value o below sum) (o.plus (row_value o below (drop i left)) (row_value o below (drop j right))) ≡ o.plus (row_value o below left) (row_value o below right)
     pub short : length sum ≤ i + j
+    pub under : (ns : List ℕ) (d : ℕ) → AreUnder ns d left → AreUnder ns d right → AreUnder ns d sum
 
 module _ {A : Type 0} (o : Ops A) (r : RingLaws o) where
   open o use {plus, times}
@@ -28,6 +30,7 @@ module _ {A : Type 0} (o : Ops A) (r : RingLaws o) where
     row = λ width h k. record { row = tt; left_after = h; right_after = k };
     value = λ below. zero_plus o r _;
     short = omega arith;
+    under = λ ns d h k i t l. absurd (omega (arith, l));
   }
 
   one_more : (below : List A) (sum : List (Term A)) (t : Term A) → row_value o below (sum ++ t ∷ []) ≡ plus (row_value o below sum) (term_value o below t)
@@ -68,6 +71,7 @@ module _ {A : Type 0} (o : Ops A) (r : RingLaws o) where
           row = λ width h k. subst (λ us. Merging o width (old ++ x ∷ []) (drop (i + 1) left) us) (sym dr) (merge_left o width old (drop (i + 1) left) (drop (j + 1) right) x y c.0 (m width h k));
           value = λ below. ap (λ w. plus w (plus (row_value o below (drop (i + 1) left)) (row_value o below (drop j right)))) (one_more below old x) ∙ from_left _ _ _ _ ∙ ap (λ us. plus (row_value o below old) (plus (row_value o below (x ∷ drop (i + 1) left)) (row_value o below us))) dr ∙ v below;
           short = omega (arith, length-more old x, s.short);
+          under = λ ns d h k. All-push (IsUnder ns d) old x (s.under ns d h k) (subst (IsUnder ns d) (sym ex) (h i x li));
         })))
         | inr (inl c) ↦ subst (λ q. SoFar o left right new (i + q.0) (j + q.1)) (sym c.2) (subst (λ us. SoFar o left right us (i + 0) (j + 1)) (sym c.1) (subst (λ q. SoFar o left right (old ++ y ∷ []) q (j + 1)) none_left (record {
           left_part = omega arith;
@@ -75,6 +79,7 @@ module _ {A : Type 0} (o : Ops A) (r : RingLaws o) where
           row = λ width h k. subst (λ us. Merging o width (old ++ y ∷ []) us (drop (j + 1) right)) (sym dl) (merge_right o width old (drop (i + 1) left) (drop (j + 1) right) x y c.0 (m width h k));
           value = λ below. ap (λ w. plus w (plus (row_value o below (drop i left)) (row_value o below (drop (j + 1) right)))) (one_more below old y) ∙ from_right _ _ _ _ ∙ ap (λ us. plus (row_value o below old) (plus (row_value o below us) (row_value o below (y ∷ drop (j + 1) right)))) dl ∙ v below;
           short = omega (arith, length-more old y, s.short);
+          under = λ ns d h k. All-push (IsUnder ns d) old y (s.under ns d h k) (subst (IsUnder ns d) (sym ey) (k j y lj));
         })))
         | inr (inr c) ↦ subst (λ q. SoFar o left right new (i + q.0) (j + q.1)) (sym c.2) (elim c.3 [
           | inl z ↦ subst (λ us. SoFar o left right us (i + 1) (j + 1)) (sym z.1) (record {
@@ -83,6 +88,7 @@ module _ {A : Type 0} (o : Ops A) (r : RingLaws o) where
             row = λ width h k. merge_none o width old (drop (i + 1) left) (drop (j + 1) right) x y (m width h k);
             value = λ below. ap (λ w. plus w (plus (row_value o below (drop (i + 1) left)) (row_value o below (drop (j + 1) right)))) (sym (r.plus_zero (row_value o below old)) ∙ ap (plus (row_value o below old)) (sym (both_values below x y c.0 c.1 ∙ ap (λ w. times w (times (entry o below x.a) (entry o below x.b))) z.0 ∙ zero_times o r _))) ∙ from_both _ _ _ _ _ ∙ v below;
             short = omega (arith, s.short);
+            under = s.under;
           })
           | inr z ↦ subst (λ us. SoFar o left right us (i + 1) (j + 1)) (sym z.1) (record {
             left_part = omega arith;
@@ -90,6 +96,7 @@ module _ {A : Type 0} (o : Ops A) (r : RingLaws o) where
             row = λ width h k. merge_both o width old (drop (i + 1) left) (drop (j + 1) right) x y c.0 c.1 z.0 (m width h k);
             value = λ below. ap (λ w. plus w (plus (row_value o below (drop (i + 1) left)) (row_value o below (drop (j + 1) right)))) (one_more below old (added o x y) ∙ ap (plus (row_value o below old)) (sym (both_values below x y c.0 c.1))) ∙ from_both _ _ _ _ _ ∙ v below;
             short = omega (arith, length-more old (added o x y), s.short);
+            under = λ ns d h k. All-push (IsUnder ns d) old (added o x y) (s.under ns d h k) (subst (IsUnder ns d) (sym ex) (h i x li));
           })
         ])
       ]
@@ -110,6 +117,10 @@ module _ {A : Type 0} (o : Ops A) (r : RingLaws o) where
   pub merge-short : (left right sum : List (Term A)) (i j : ℕ) → SoFar o left right sum i j → length ((sum ++ drop i left) ++ drop j right) ≤ length left + length right
   merge-short left right sum i j s =
       omega (arith, length-append (sum ++ drop i left) (drop j right), length-append sum (drop i left), length-drop i left, length-drop j right, s.short, s.left_part, s.right_part)
+
+  pub merge-under : (ns : List ℕ) (d : ℕ) (left right sum : List (Term A)) (i j : ℕ) → SoFar o left right sum i j → AreUnder ns d left → AreUnder ns d right → AreUnder ns d ((sum ++ drop i left) ++ drop j right)
+  merge-under ns d left right sum i j s h k =
+      All-append (IsUnder ns d) (sum ++ drop i left) (drop j right) (All-append (IsUnder ns d) sum (drop i left) (s.under ns d h k) (All-drop (IsUnder ns d) i left h)) (All-drop (IsUnder ns d) j right k)
 
 -- a slice from a place on
 pub tail_is : {X : Type 0} (xs : List X) (i : ℕ) → take (length xs - i) (drop i xs) ≡ drop i xs

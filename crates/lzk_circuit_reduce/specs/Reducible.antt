@@ -25,7 +25,7 @@ IsTerm-prop o wires width t = Prim.hlevel logic.props
 IsTrue-prop : (b : Bool) → IsProp (IsTrue b)
 IsTrue-prop b = Coded-set coded_bool b true
 
-AreTerms-prop : {A : Type 0} (o : Ops A) (wires width : ℕ) (before : Option (Term A)) (ts : List (Term A))
+pub AreTerms-prop : {A : Type 0} (o : Ops A) (wires width : ℕ) (before : Option (Term A)) (ts : List (Term A))
     → IsProp (AreTerms o wires width before ts)
 AreTerms-prop o wires width before [] = Unit-prop
 AreTerms-prop o wires width before (t ∷ ts) =

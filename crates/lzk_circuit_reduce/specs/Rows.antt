@@ -1,10 +1,12 @@
 -- Rows: the terms of one wire, and the levels that they make.
 use Rattle.std.specs.Prelude.{◌≡◌, ◌≢◌, ℕ, ◌<◌, min, max, None, List, [], ◌∷◌, ◌++◌}
+use Rattle.std.specs.List.{All}
 use Rattle.std.proofs.Common.{◌⊎◌}
 use Rattle.lzk_field.specs.Ring.{Ops}
 use Rattle.lzk_field.specs.Sums.{entry}
 use Rattle.lzk_circuit.specs.declared.layer.Term.{Term}
 use Rattle.lzk_circuit.specs.Valid.{AreTerms}
+use Rattle.lzk_circuit_reduce.specs.Renumbering.{at}
 
 -- the terms of a single wire, over so many
 abbrev pub IsRow : {A : Type 0} → Ops A → ℕ → List (Term A) → Type 0
@@ -22,6 +24,14 @@ term_value o below t = o.times t.coef (o.times (entry o below t.a) (entry o belo
 abbrev pub row_value : {A : Type 0} → Ops A → List A → List (Term A) → A
 row_value o below [] = o.zero
 row_value o below (t ∷ ts) = o.plus (term_value o below t) (row_value o below ts)
+
+-- both wires that a term names have a number below d in a list
+abbrev pub IsUnder : {A : Type 0} → List ℕ → ℕ → Term A → Type 0
+IsUnder ns d t = (at ns t.a < d) × (at ns t.b < d)
+
+-- so have those of each term
+abbrev pub AreUnder : {A : Type 0} → List ℕ → ℕ → List (Term A) → Type 0
+AreUnder ns d ts = All (IsUnder ns d) ts
 
 -- a row's term as one of wire g
 abbrev pub placed : {A : Type 0} → ℕ → Term A → Term A

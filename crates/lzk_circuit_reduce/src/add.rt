@@ -2,7 +2,8 @@
 
 ghost use Rattle.std.specs.Prelude.{◌≡◌, ℕ, ◌+◌, ◌<◌, ◌≤◌, ◌≢◌, List, [], ◌∷◌, length, slice_index_or, true, false, IfOk};
 ghost use Rattle.lzk_field.specs.Sums.{entry};
-ghost use Rattle.lzk_circuit_reduce.specs.Rows.{IsRow, Less, row_value, term_value, ordered};
+ghost use Rattle.lzk_circuit_reduce.specs.Renumbering.{at};
+ghost use Rattle.lzk_circuit_reduce.specs.Rows.{IsRow, AreUnder, Less, row_value, term_value, ordered};
 
 use crate::rows::{is_zero, term_of};
 use lzk_circuit::Term;
@@ -39,6 +40,7 @@ fn add_coef<F: Field>(row: &mut Vec<Term<F>>, place: usize, coef: F)
         row_value F.ops below row.new.items ≡ F.ops.plus (row_value F.ops below row.old.items)
         (F.ops.times coef (F.ops.times (entry F.ops below t.a) (entry F.ops below t.b))) }
     ensures short { length row.new.items ≤ length row.old.items }
+    ensures under { (ns : List ℕ) (d : ℕ) → AreUnder ns d row.old.items → AreUnder ns d row.new.items }
 {
     let sum = row[place].coef.add(coef);
     if is_zero(sum) {
@@ -58,6 +60,8 @@ pub fn add_term<F: Field>(row: &mut Vec<Term<F>>, coef: F, a: u32, b: u32) -> Re
         ≡ F.ops.plus (F.ops.times coef (F.ops.times (entry F.ops below a) (entry F.ops below b)))
         (row_value F.ops below row.old.items)) }
     ensures short { IfOk result (λ _. length row.new.items ≤ length row.old.items + 1) }
+    ensures under { (ns : List ℕ) (d : ℕ) → AreUnder ns d row.old.items → at ns a < d → at ns b < d
+        → IfOk result (λ _. AreUnder ns d row.new.items) }
     ensures alone { row.old.items ≡ [] → coef ≢ F.ops.zero → IfOk result (λ _. row.new.items ≡ ordered coef a b ∷ []) }
 {
     if is_zero(coef) {

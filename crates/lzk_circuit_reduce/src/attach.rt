@@ -3,11 +3,11 @@
 ghost use Rattle.std.specs.Prelude.{◌≡◌, ℕ, ◌+◌, ◌≤◌, ◌<◌, ◌^◌, length, IfOk};
 ghost use Rattle.lzk_circuit.specs.Valid.{AreLayers, under_of};
 ghost use Rattle.lzk_circuit_reduce.specs.Attached.{attached, attached_layers, AreNarrowWith, IsAssertingForm};
-ghost use Rattle.lzk_circuit_reduce.specs.Reduced.{HaveOnes, output_count};
+ghost use Rattle.lzk_circuit_reduce.specs.Reduced.{HaveOnes, AreInnerDifferent, output_count};
 ghost use Rattle.lzk_circuit_reduce.specs.Targets.{targets_at, AreAllTerms, AreTargets, target_count};
 ghost use Rattle.lzk_circuit.specs.Limits.{most_wires, most_total};
 
-use crate::reduce::reduced_with;
+use crate::reduce::{reduced_with, used_with};
 use crate::reducible::Reducible;
 use crate::targets::Targets;
 use lzk_circuit::{Layer, Term, Terms};
@@ -88,5 +88,34 @@ pub fn asserting<F: Field>(
         targets,
     };
     let (kept, moved) = reduced_with(alloc, &given)?;
+    attached(alloc, &kept, &moved)
+}
+
+/// As `asserting`, for layers in which no two inner wires have the same terms: those that nothing uses go.
+pub fn asserting_used<F: Field>(
+    alloc: Global,
+    inputs: u32,
+    layers: Vec<Layer<F>>,
+    targets: Vec<Targets>,
+) -> Result<Vec<Layer<F>>, AllocError>
+    requires inputs { 1 ≤ inputs }
+    requires some { 1 ≤ length layers.items }
+    requires terms { AreAllTerms F.ops inputs layers.items }
+    requires layers { 2 ≤ length layers.items → AreLayers F.ops inputs layers.items }
+    requires ones { HaveOnes F.ops layers.items }
+    requires different { AreInnerDifferent layers.items }
+    requires targets { AreTargets inputs targets.items layers.items }
+    requires lists { length targets.items ≡ length layers.items }
+    requires checks { 1 ≤ output_count layers.items + length (targets_at targets.items 0) }
+    requires narrow { AreNarrowWith most_wires targets.items layers.items }
+    requires few_wires { (under_of inputs layers.items).wires + target_count targets.items layers.items ≤ most_total }
+    requires few_terms { (under_of inputs layers.items).terms + target_count targets.items layers.items ≤ most_total }
+    ensures { IfOk result
+        (λ all. IsAssertingForm F.ops F.coding.number inputs targets.items layers.items all.items) }
+{
+    if layers.len() == 1 {
+        return attached(alloc, &layers, &targets);
+    }
+    let (kept, moved) = used_with(alloc, inputs, layers, targets)?;
     attached(alloc, &kept, &moved)
 }

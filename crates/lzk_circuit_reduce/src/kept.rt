@@ -14,8 +14,10 @@ use std::alloc::{AllocError, Global};
 
 /// The kept wires of a layer, and their terms. Those whose rows fall into one slot make a chain.
 #[derive(Drop)]
-pub(crate) struct KeptWires<F> {
+pub struct KeptWires<F> {
+    /// How many wires there are.
     pub count: u32,
+    /// Their terms, wire by wire.
     pub terms: Vec<Term<F>>,
     /// Where each wire's terms begin, and where those of the next one will.
     pub starts: Vec<usize>,
@@ -38,7 +40,7 @@ fn empty_slots(alloc: Global, count: u32) -> Result<Vec<Option<u32>>, AllocError
 }
 
 /// No wires yet, of at most so many.
-pub(crate) fn none_kept<F: Field>(alloc: Global, most: u32) -> Result<KeptWires<F>, AllocError>
+pub fn none_kept<F: Field>(alloc: Global, most: u32) -> Result<KeptWires<F>, AllocError>
     requires { 1 ≤ most }
     ensures table { IfOk result IsTable }
     ensures kept { (width : ℕ) → IfOk result (IsKept F.ops F.coding.number width) }
@@ -184,7 +186,7 @@ fn add_wire<F: Field>(
 }
 
 /// The kept wire with this row: an earlier one, or a new one.
-pub(crate) fn wire_of<F: Field>(kept: &mut KeptWires<F>, row: &[Term<F>]) -> Result<u32, AllocError>
+pub fn wire_of<F: Field>(kept: &mut KeptWires<F>, row: &[Term<F>]) -> Result<u32, AllocError>
     requires few { kept.now.count < most_wires }
     requires table { IsTable kept.now }
     ensures table { IfOk result (λ _. IsTable kept.new) }

@@ -2,7 +2,8 @@
 
 ghost use Rattle.std.specs.Prelude.{◌≡◌, ℕ, ◌≤◌, length, IfOk};
 ghost use Rattle.lzk_circuit.specs.Valid.{AreLayers};
-ghost use Rattle.lzk_circuit_reduce.specs.Reduced.{HaveOnes, AreSameOutputs, output_count, IsReduced};
+ghost use Rattle.lzk_circuit_reduce.specs.Reduced.{HaveOnes, AreInnerDifferent, AreSameOutputs, output_count, IsReduced};
+ghost use Rattle.lzk_circuit_reduce.specs.Reducible.{AreReducible};
 ghost use Rattle.lzk_circuit_reduce.specs.Targets.{AreTargets};
 ghost use Rattle.lzk_circuit_reduce.specs.Asserting.{IsForm, IsReducedWith};
 
@@ -14,6 +15,30 @@ use lzk_circuit::Layer;
 use lzk_field::Field;
 use std::alloc::{AllocError, Global};
 
+/// The reduced form of layers in which no two inner wires have the same terms: wires that nothing uses go.
+pub(crate) fn used_with<F: Field>(
+    alloc: Global,
+    inputs: u32,
+    layers: Vec<Layer<F>>,
+    targets: Vec<Targets>,
+) -> Result<(Vec<Layer<F>>, Vec<Targets>), AllocError>
+    requires are { AreReducible F.ops inputs targets.items layers.items }
+    requires lists { length targets.items ≡ length layers.items }
+    requires different { AreInnerDifferent layers.items }
+    ensures form { IfOk result (λ kept. IsForm F.ops inputs targets.items layers.items kept.1.items kept.0.items) }
+    ensures reduced { IfOk result (λ kept. IsReducedWith F.ops kept.1.items kept.0.items) }
+{
+    let given = Reducible {
+        inputs,
+        layers: &layers,
+        targets: &targets,
+    };
+    if are_used(alloc, &given)? {
+        return Ok((layers, targets));
+    }
+    pruned(alloc, &given)
+}
+
 // The reduced form of layers. Where sharing leaves wires that nothing uses, they go.
 fn reduced_by_sharing<F: Field>(
     alloc: Global,
@@ -24,15 +49,7 @@ fn reduced_by_sharing<F: Field>(
     ensures reduced { IfOk result (λ kept. IsReducedWith F.ops kept.1.items kept.0.items) }
 {
     let (different, moved) = shared(alloc, given)?;
-    let left = Reducible {
-        inputs: given.inputs,
-        layers: &different,
-        targets: &moved,
-    };
-    if are_used(alloc, &left)? {
-        return Ok((different, moved));
-    }
-    pruned(alloc, &left)
+    used_with(alloc, given.inputs, different, moved)
 }
 
 /// Outputs and asserted values as they are, by fewer wires: in no inner layer do two wires have the same
@@ -80,5 +97,34 @@ pub fn reduced<F: Field>(
         targets: &none,
     };
     let (kept, _) = reduced_with(alloc, &given)?;
+    Ok(kept)
+}
+
+/// As `reduced`, for layers in which no two inner wires have the same terms: those that nothing uses go.
+pub fn used<F: Field>(
+    alloc: Global,
+    inputs: u32,
+    layers: Vec<Layer<F>>,
+) -> Result<Vec<Layer<F>>, AllocError>
+    requires some { 1 ≤ length layers.items }
+    requires layers { AreLayers F.ops inputs layers.items }
+    requires ones { HaveOnes F.ops layers.items }
+    requires different { AreInnerDifferent layers.items }
+    ensures count { IfOk result (λ kept. length kept.items ≡ length layers.items) }
+    ensures layers { IfOk result (λ kept. AreLayers F.ops inputs kept.items) }
+    ensures outputs { IfOk result (λ kept. output_count kept.items ≡ output_count layers.items) }
+    ensures values { IfOk result (λ kept. AreSameOutputs F.ops inputs kept.items layers.items) }
+    ensures reduced { IfOk result (λ kept. IsReduced F.ops kept.items) }
+{
+    let none = Vec::new(alloc);
+    let given = Reducible {
+        inputs,
+        layers: &layers,
+        targets: &none,
+    };
+    if are_used(alloc, &given)? {
+        return Ok(layers);
+    }
+    let (kept, _) = pruned(alloc, &given)?;
     Ok(kept)
 }

@@ -2,7 +2,8 @@
 
 ghost use Rattle.std.specs.Prelude.{◌≡◌, ◌≢◌, ℕ, ◌+◌, ◌<◌, ◌≤◌, List, [], ◌∷◌, ◌++◌, length, map, IfOk, None, true, false};
 ghost use Rattle.lzk_field.specs.Sums.{entry};
-ghost use Rattle.lzk_circuit_reduce.specs.Rows.{IsRow, IsNext, row_value, term_value, ordered, placed};
+ghost use Rattle.lzk_circuit_reduce.specs.Renumbering.{at};
+ghost use Rattle.lzk_circuit_reduce.specs.Rows.{IsRow, IsUnder, AreUnder, IsNext, row_value, term_value, ordered, placed};
 ghost use Rattle.lzk_circuit.specs.Valid.{AreTerms};
 ghost use Rattle.lzk_circuit.specs.Wires.{coef, wire};
 
@@ -25,6 +26,7 @@ pub(crate) fn term_of<F: Field>(coef: F, a: u32, b: u32) -> Term<F>
     ensures order { result.a ≤ result.b }
     ensures exact { result ≡ ordered coef a b }
     ensures width { (width : ℕ) → a < width → b < width → result.b < width }
+    ensures under { (ns : List ℕ) (d : ℕ) → at ns a < d → at ns b < d → IsUnder ns d result }
     ensures value { (below : List F)
         → term_value F.ops below result ≡ F.ops.times coef (F.ops.times (entry F.ops below a) (entry F.ops below b)) }
 {
@@ -45,6 +47,7 @@ pub fn single<F: Field>(alloc: Global, coef: F, a: u32, b: u32) -> Result<Vec<Te
     ensures value { (below : List F) → IfOk result (λ row. row_value F.ops below row.items ≡
         F.ops.times coef (F.ops.times (entry F.ops below a) (entry F.ops below b))) }
     ensures short { IfOk result (λ row. length row.items ≤ 1) }
+    ensures under { (ns : List ℕ) (d : ℕ) → at ns a < d → at ns b < d → IfOk result (λ row. AreUnder ns d row.items) }
     ensures exact { coef ≢ F.ops.zero → IfOk result (λ row. row.items ≡ ordered coef a b ∷ []) }
 {
     if is_zero(coef) {
@@ -66,6 +69,8 @@ pub fn scaled<F: Field>(
         → IfOk result
         (λ multiple. row_value F.ops below multiple.items ≡ F.ops.times factor (row_value F.ops below row.now)) }
     ensures short { IfOk result (λ multiple. length multiple.items ≤ length row.now) }
+    ensures under { (ns : List ℕ) (d : ℕ) → AreUnder ns d row.now
+        → IfOk result (λ multiple. AreUnder ns d multiple.items) }
 {
     if is_zero(factor) {
         return Ok(Vec::new(alloc));
@@ -115,6 +120,8 @@ pub fn merged<F: Field>(
     ensures value { (below : List F) → IfOk result (λ sum. row_value F.ops below sum.items ≡
         F.ops.plus (row_value F.ops below left.now) (row_value F.ops below right.now)) }
     ensures short { IfOk result (λ sum. length sum.items ≤ length left.now + length right.now) }
+    ensures under { (ns : List ℕ) (d : ℕ) → AreUnder ns d left.now → AreUnder ns d right.now
+        → IfOk result (λ sum. AreUnder ns d sum.items) }
 {
     let mut sum = Vec::with_capacity(alloc, left.len().saturating_add(right.len()))?;
     let (mut i, mut j) = (0, 0);

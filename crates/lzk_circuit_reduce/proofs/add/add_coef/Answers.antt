@@ -1,6 +1,7 @@
-use Rattle.std.proofs.Common.{rules, ◌≡◌, ◌∙◌, ap, sym, subst, slice_set}
+use Rattle.std.proofs.Common.{rules, ◌≡◌, ◌<◌, ◌∙◌, ap, sym, subst, suc, take, drop, length, slice_set}
 use Rattle.std.proofs.lemmas.List.{set_split}
-use Rattle.lzk_circuit_reduce.specs.Rows.{IsRow, row_value}
+use Rattle.std.proofs.lemmas.List.Elements.{All-append, All-take, All-drop, All-set}
+use Rattle.lzk_circuit_reduce.specs.Rows.{IsRow, IsUnder, AreUnder, row_value}
 use Rattle.lzk_circuit_reduce.proofs.AddLaws.{removed-row, changed-row, removed-value, changed-value, same-at}
 use Rattle.lzk_circuit_reduce.proofs.add.add_coef.Goals as goal
 
@@ -34,3 +35,17 @@ returns-clause-value g c below t e =
     ap (λ s. row_value o below (slice_set row c.args.place record { g = s.g; a = s.a; b = s.b; coef = c.add-sum.result })) same
     ∙ ap (λ x. row_value o below (slice_set row c.args.place record { g = t.g; a = t.a; b = t.b; coef = x })) sum
     ∙ ap (row_value o below) (set_split row c.args.place _ (search rules)) ∙ changed-value o g.F.Field.laws.ring below row c.args.place t c.args.coef (search rules) e
+
+pub returns-then-is_zero-clause-under : goal.returns-then-is_zero-clause-under
+returns-then-is_zero-clause-under g c ns d h =
+    let row = c.args.row.now.items in
+    let place = c.args.place in
+    subst (AreUnder ns d) (sym c.remove.ensures.items) (All-append (IsUnder ns d) (take place row) (drop (suc place) row) (All-take (IsUnder ns d) place row h) (All-drop (IsUnder ns d) (suc place) row h))
+
+pub returns-clause-under : goal.returns-clause-under
+returns-clause-under g c ns d h =
+    let row = c.args.row.now.items in
+    let place = c.args.place in
+    let there : place < length row = search rules in
+    let old = c.index_mut.result.now in
+    All-set (IsUnder ns d) row place _ (subst (IsUnder ns d) (sym c.index_mut.ensures.value) (h place old there)) h

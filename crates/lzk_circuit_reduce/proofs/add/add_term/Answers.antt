@@ -1,8 +1,9 @@
-use Rattle.std.proofs.Common.{rules, ◌≡◌, ◌<◌, ◌+◌, ℕ, ◌∙◌, ap, sym, subst, arith, length, get_or}
+use Rattle.std.proofs.Common.{rules, ◌≡◌, ◌<◌, ◌+◌, ℕ, ◌∙◌, ap, sym, subst, arith, length, get_or, take, drop, ◌∷◌}
+use Rattle.std.proofs.lemmas.List.Elements.{All-append, All-cons, All-take, All-drop}
 use Rattle.lzk_field.specs.Sums.{entry}
 use Rattle.lzk_field.proofs.RingBasics.{zero_plus, zero_times}
 use Rattle.lzk_circuit.specs.Valid.{IsTerm}
-use Rattle.lzk_circuit_reduce.specs.Rows.{IsRow, row_value, Less}
+use Rattle.lzk_circuit_reduce.specs.Rows.{IsRow, IsUnder, AreUnder, row_value, Less}
 use Rattle.lzk_circuit_reduce.proofs.AddLaws.{inserted-row, inserted-value, any-default}
 use Rattle.lzk_circuit_reduce.proofs.add.add_term.Goals.{else-place-len-via-then-place-len+else-not-is_before, else-place-len-via-else-place-len}
 use Rattle.lzk_circuit_reduce.proofs.add.add_term.Goals as goal
@@ -36,3 +37,15 @@ returns-clause-value g c below =
     let t = c.term_of-term.result in
     ap (row_value o below) c.in_ok-insert.ensures.items ∙ inserted-value o g.F.Field.laws.ring below c.args.row.now.items c.place_of-place.result t
     ∙ ap (λ x. o.plus x (row_value o below c.args.row.now.items)) (c.term_of-term.ensures.value below)
+
+pub returns-clause-under : goal.returns-clause-under
+returns-clause-under g c ns d h la lb =
+    let row = c.args.row.now.items in
+    let t = c.term_of-term.result in
+    let place = c.place_of-place.result in
+    subst (AreUnder ns d) (sym c.in_ok-insert.ensures.items)
+    (All-append (IsUnder ns d) (take place row) (t ∷ drop place row) (All-take (IsUnder ns d) place row h)
+    (All-cons (IsUnder ns d) t (drop place row) (c.term_of-term.ensures.under ns d la lb) (All-drop (IsUnder ns d) place row h)))
+
+pub returns-then-not-is_before-clause-under : goal.returns-then-not-is_before-clause-under
+returns-then-not-is_before-clause-under g c ns d h la lb = c.add_coef.ensures.under ns d h

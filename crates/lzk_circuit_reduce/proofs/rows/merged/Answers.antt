@@ -1,6 +1,6 @@
 use Rattle.std.proofs.Common.{rules, ◌∙◌, ap, sym, subst, inl, inr}
-use Rattle.lzk_circuit_reduce.specs.Rows.{IsRow, row_value}
-use Rattle.lzk_circuit_reduce.proofs.MergeLaws.{SoFar, merge-starts, merge-step, merge-row, merge-value, two-tails}
+use Rattle.lzk_circuit_reduce.specs.Rows.{IsRow, AreUnder, row_value}
+use Rattle.lzk_circuit_reduce.proofs.MergeLaws.{SoFar, merge-starts, merge-step, merge-row, merge-value, merge-under, two-tails}
 use Rattle.lzk_circuit_reduce.proofs.rows.merged.Goals.{then-loop-i-test+else-j-right, else-loop-i-test}
 use Rattle.lzk_circuit_reduce.proofs.rows.merged.Goals as goal
 
@@ -20,3 +20,8 @@ returns-clause-row g c width h k =
 pub returns-clause-value : goal.returns-clause-value
 returns-clause-value g c below =
     ap (row_value g.F.Field.ops below) (two-tails c.loop-i.sum.items c.args.left.now c.args.right.now c.extend_from_slice.new.self.items c.extend_from_slice-2.new.self.items c.loop-i.i c.loop-i.j c.in_ok-extend_from_slice.ensures.items c.in_ok-extend_from_slice-2.ensures.items) ∙ merge-value g.F.Field.ops g.F.Field.laws.ring below c.args.left.now c.args.right.now c.loop-i.sum.items c.loop-i.i c.loop-i.j c.loop-i.invariant
+
+pub returns-clause-under : goal.returns-clause-under
+returns-clause-under g c ns d h k =
+    subst (AreUnder ns d) (sym (two-tails c.loop-i.sum.items c.args.left.now c.args.right.now c.extend_from_slice.new.self.items c.extend_from_slice-2.new.self.items c.loop-i.i c.loop-i.j c.in_ok-extend_from_slice.ensures.items c.in_ok-extend_from_slice-2.ensures.items))
+    (merge-under g.F.Field.ops g.F.Field.laws.ring ns d c.args.left.now c.args.right.now c.loop-i.sum.items c.loop-i.i c.loop-i.j c.loop-i.invariant h k)

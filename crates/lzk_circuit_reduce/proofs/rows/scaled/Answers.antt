@@ -1,6 +1,7 @@
 use Rattle.std.proofs.Common.{rules, ◌∙◌, ap, sym, subst}
+use Rattle.std.proofs.lemmas.List.Elements.{All-map}
 use Rattle.lzk_field.proofs.RingBasics.{zero_times}
-use Rattle.lzk_circuit_reduce.specs.Rows.{multiplied, row_value, IsRow}
+use Rattle.lzk_circuit_reduce.specs.Rows.{multiplied, row_value, IsRow, IsUnder, AreUnder}
 use Rattle.lzk_circuit_reduce.proofs.RowLaws.{multiple-value, multiple-row, all-mapped}
 use Rattle.lzk_circuit_reduce.proofs.rows.scaled.Goals as goal
 
@@ -22,3 +23,9 @@ returns-clause-value g c below =
     let o = g.F.Field.ops in
     let e = all-mapped (multiplied o c.args.factor) c.args.row.now c.loop-term.multiple.items c.loop-term.term-index (search rules) c.loop-term.invariant in
     ap (row_value o below) e ∙ multiple-value o g.F.Field.laws.ring c.args.factor below c.args.row.now
+
+pub returns-clause-under : goal.returns-clause-under
+returns-clause-under g c ns d h =
+    let o = g.F.Field.ops in
+    let e = all-mapped (multiplied o c.args.factor) c.args.row.now c.loop-term.multiple.items c.loop-term.term-index (search rules) c.loop-term.invariant in
+    subst (AreUnder ns d) (sym e) (All-map (IsUnder ns d) (multiplied o c.args.factor) c.args.row.now h)

@@ -1,7 +1,8 @@
 use Rattle.std.proofs.Common.{◌≢◌, ◌∙◌, ap, sym, subst, [], ◌∷◌, ◌++◌}
+use Rattle.std.proofs.lemmas.List.Elements.{All-cons, All-nil}
 use Rattle.lzk_field.specs.Sums.{entry}
 use Rattle.lzk_field.proofs.RingBasics.{zero_times}
-use Rattle.lzk_circuit_reduce.specs.Rows.{IsRow, row_value}
+use Rattle.lzk_circuit_reduce.specs.Rows.{IsRow, IsUnder, AreUnder, row_value}
 use Rattle.lzk_circuit_reduce.proofs.RowLaws.{row-of-one}
 use Rattle.lzk_circuit_reduce.proofs.rows.single.Goals as goal
 
@@ -22,3 +23,7 @@ returns-then-is_zero-clause-exact g c nonzero = absurd (nonzero (c.is_zero.ensur
 
 pub returns-clause-exact : goal.returns-clause-exact
 returns-clause-exact g c nonzero = c.in_ok-push.ensures.items ∙ ap (λ us. us ++ c.term_of.result ∷ []) c.in_ok-row.ensures.items ∙ ap (λ t. t ∷ []) c.term_of.ensures.exact
+
+pub returns-clause-under : goal.returns-clause-under
+returns-clause-under g c ns d la lb =
+    subst (AreUnder ns d) (sym (c.in_ok-push.ensures.items ∙ ap (λ us. us ++ c.term_of.result ∷ []) c.in_ok-row.ensures.items)) (All-cons (IsUnder ns d) c.term_of.result [] (c.term_of.ensures.under ns d la lb) (All-nil (IsUnder ns d)))
