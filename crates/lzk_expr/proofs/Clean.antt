@@ -43,3 +43,6 @@ clean_first bs rest p h e = clean_step bs rest p h ∙ ap (λ (x : Bool). x && k
 
 pub unclean : (bs rest : List ℕ) (p : Piece) → pieces bs ≡ p ∷ pieces rest → is_clean p ≡ false → keeps_characters bs ≡ false
 unclean bs rest p h e = clean_step bs rest p h ∙ ap (λ (x : Bool). x && keeps_characters rest) e
+
+pub clean_same : (bs cs : List ℕ) → pieces bs ≡ pieces cs → keeps_characters bs ≡ keeps_characters cs
+clean_same bs cs h = sym (clean_pieces bs) ∙ ap (list_all is_clean) h ∙ clean_pieces cs

@@ -1,5 +1,5 @@
 -- What holds of each token of a line.
-use Rattle.std.proofs.Common.{◌≡◌, ℕ, ◌≤◌, Bool, true, false, cond, not, ◌&&◌, ◌==◌, List, [], ◌∷◌, map, length, Option, Some, None, refl, sym, ◌∙◌, ap, arith}
+use Rattle.std.proofs.Common.{◌≡◌, ℕ, ◌≤◌, Bool, true, false, cond, ◌&&◌, ◌==◌, List, [], ◌∷◌, map, length, Option, Some, None, refl, ◌∙◌, ap, arith}
 use Rattle.std.specs.List.{list_all}
 use Rattle.std.proofs.lemmas.Bool.{and_parts}
 use Rattle.std.specs.Str.{bytes_eq}
@@ -7,7 +7,6 @@ use Rattle.std.specs.Prelude.{codes}
 use Rattle.lzk_expr.specs.Texts.{is_plain, begins, number_of}
 use Rattle.lzk_expr.specs.Tokens.{Piece, Word, Sign, in_word, pieces, onto, Token, Number, Name, Key, Misspelt, Plus, Minus, Times, Open, Close, Equals, Other, token_of, word_token, plain_token, number_token, tokens, is_digit}
 use Rattle.lzk_expr.specs.declared.tokens.Keyword.TheVariants as keys
-use Rattle.lzk_expr.specs.Readers.{is_inner}
 use Rattle.lzk_expr.proofs.Pieces.{pieces_onto, pieces_blank, pieces_sign}
 
 -- what holds of words that are not empty, and of the signs whose bytes pass
@@ -60,28 +59,6 @@ word_passes j w n m f p q l a h =
     (either j (bytes_eq w (codes "let")) (Key keys.Let) _ l
     (either j (bytes_eq w (codes "assert")) (Key keys.Assert) (plain_token w) a plain))))
 
--- ---- no sign = where no byte is one
-
-abbrev pub no_equals : ℕ → Bool
-no_equals b = not (b == 61)
-
-abbrev inner_piece : Piece → Bool
-inner_piece (Word w) = true
-inner_piece (Sign b) = no_equals b
-
-last_inner : (c : Bool) → not c ≡ true → is_inner (cond c Equals Other) ≡ true
-last_inner false h = refl
-last_inner true h = h
-
-inner_token : (p : Piece) → inner_piece p ≡ true → is_inner (token_of p) ≡ true
-inner_token (Word w) h = word_passes is_inner w (λ n. refl) refl refl refl refl refl refl refl
-inner_token (Sign b) h =
-    either is_inner (b == 43) Plus _ refl (either is_inner (b == 45) Minus _ refl (either is_inner (b == 42) Times _ refl (either is_inner (b == 40) Open _ refl
-    (either is_inner (b == 41) Close _ refl (last_inner (b == 61) h)))))
-
-pub tokens_inner : (bs : List ℕ) → list_all no_equals bs ≡ true → list_all is_inner (tokens bs) ≡ true
-tokens_inner bs h = tokens_all inner_piece no_equals (λ b w. refl) (λ b e. e) is_inner inner_token bs h
-
 -- ---- names are not empty
 
 abbrev filled : List ℕ → Bool
@@ -112,7 +89,3 @@ tokens_filled bs = tokens_all filled_piece (λ b. true) (λ b w. refl) (λ b e. 
 pub filled_some : (w : List ℕ) → filled w ≡ true → 1 ≤ length w
 filled_some [] h = absurd cc
 filled_some (b ∷ w) h = omega arith
-
--- a name that a line begins with has a byte
-pub first_filled : (bs w : List ℕ) (ts : List Token) → tokens bs ≡ Name w ∷ ts → 1 ≤ length w
-first_filled bs w ts e = filled_some w (and_parts (filled w) (list_all is_filled ts) (sym (ap (list_all is_filled) e) ∙ tokens_filled bs)).0

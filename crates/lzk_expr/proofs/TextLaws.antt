@@ -1,9 +1,8 @@
 -- A text line by line, and that it reads in one way only.
-use Rattle.std.proofs.Common.{◌≡◌, ℕ, ◌+◌, ◌-◌, ◌≤◌, Bool, true, false, cond, ◌||◌, List, [], ◌∷◌, length, Option, Some, None, Ok, Err, Result, refl, sym, ◌∙◌, ap, arith, subst, Bor, MatchResult}
+use Rattle.std.proofs.Common.{◌≡◌, ℕ, ◌+◌, ◌≤◌, Bool, true, false, cond, ◌||◌, List, [], ◌∷◌, length, Option, Some, None, Ok, Err, Result, refl, sym, ◌∙◌, ap, arith, subst, MatchResult}
 use Rattle.std.specs.Prelude.{count_by}
 use Rattle.std.specs.List.{list_any}
 use Rattle.std.proofs.lemmas.List.Sums.{sum_by-cons}
-use Rattle.lzk_expr.specs.declared.reader.Reader.{Reader}
 use Rattle.lzk_expr.specs.declared.ast.FieldId.{FieldId}
 use Rattle.lzk_expr.specs.declared.source_fault.SourceKind.{SourceKind}
 use Rattle.lzk_expr.specs.declared.source_fault.SourceKind.TheVariants as kinds
@@ -13,11 +12,10 @@ use Rattle.lzk_expr.specs.declared.source_fault.SourceError.TheVariants as error
 use Rattle.lzk_expr.specs.Texts.{lines, content}
 use Rattle.lzk_expr.specs.Tokens.{tokens, is_empty_line}
 use Rattle.lzk_expr.specs.Trees.{SourceTree, is_assertion}
-use Rattle.lzk_expr.specs.Sources.{Before, nothing_yet, line_read, LineReads, LineThen, LineAt, LinesRead, ended, ended_read, TextReads, SourceText, IsSourceFault, IsFirstSourceFault, IsSource}
-use Rattle.lzk_expr.specs.View.{Held, tree_of, statements_of}
-use Rattle.lzk_expr.specs.Readers.{before_of, IsReader, StepReads, TakesAny}
+use Rattle.lzk_expr.specs.Sources.{Before, nothing_yet, line_read, LineReads, LineThen, LineAt, LinesRead, ended, ended_read, TextReads, SourceText, IsFirstSourceFault}
+use Rattle.lzk_expr.specs.View.{Held, tree_of}
+use Rattle.lzk_expr.specs.Readers.{StepReads}
 use Rattle.lzk_expr.proofs.Forms.{one_form}
-use Rattle.lzk_expr.proofs.Taking.{lines_left, left_size, IsNext}
 
 -- ---- one reading only
 
@@ -41,13 +39,13 @@ one_lines n b (l ∷ ls) r s h k = one_at n b (content l) r s (λ read next. Lin
 pub one_text : (text : List ℕ) (r s : Result SourceTree SourceFault) → TextReads text r → TextReads text s → r ≡ s
 one_text text r s h k = sym h.read_is ∙ ap (ended_read (length (lines text))) (one_lines 1 nothing_yet (lines text) h.all k.all h.lines_read k.lines_read) ∙ k.read_is
 
-abbrev ok : {A B : Type 0} → A → Result A B
+abbrev pub ok : {A B : Type 0} → A → Result A B
 ok x = Ok x
 
-ok_is : {A B : Type 0} (x y : A) → ok {A = A} {B = B} x ≡ ok {A = A} {B = B} y → x ≡ y
+pub ok_is : {A B : Type 0} (x y : A) → ok {A = A} {B = B} x ≡ ok {A = A} {B = B} y → x ≡ y
 ok_is x y e = cc
 
-only_fault : (text : List ℕ) (source : SourceTree) (e : SourceError) → SourceText text source → IsFirstSourceFault text e → e ≡ errors.OutOfMemory
+pub only_fault : (text : List ℕ) (source : SourceTree) (e : SourceError) → SourceText text source → IsFirstSourceFault text e → e ≡ errors.OutOfMemory
 only_fault text source errors.OutOfMemory h k = refl
 only_fault text source (errors.Fault f) h k = let no = one_text text (Ok source) (Err f) h k in absurd cc
 
@@ -58,14 +56,6 @@ only_source text (Err e) h source k = only_fault text source e k h
 
 -- ---- line by line
 
--- what is left of the text at a line
-pub record SourceLeft (text : List ℕ) (line : ℕ) (r : Reader) (left : Option (Bor (List ℕ))) : Type 0 where
-  pub at : line + length (lines_left left) ≡ 1 + length (lines text)
-  pub room : line + left_size left ≤ 2 + length text
-  pub read : (all : Result Before SourceFault) → LinesRead line (before_of r) (lines_left left) all → LinesRead 1 nothing_yet (lines text) all
-  pub holds : IsReader r
-  pub lets : r.lets + 1 ≤ line
-
 step_at : (n : ℕ) (b next : Before) (bytes : List ℕ) (all : Result Before SourceFault) (rest : Before → Type 0) (empty : Bool) → StepReads b bytes (Ok next) empty → rest next → LineAt n b bytes all rest empty
 step_at n b next bytes all rest true e h = let same : next ≡ b = cc in subst rest same h
 step_at n b next bytes all rest false e h = (Ok next, e, h)
@@ -74,57 +64,19 @@ stop_at : (n : ℕ) (b : Before) (bytes : List ℕ) (kind : SourceKind) (rest : 
 stop_at n b bytes kind rest true e = absurd cc
 stop_at n b bytes kind rest false e = (Err kind, e, refl)
 
-lines_step : (n : ℕ) (b next : Before) (line : List ℕ) (later : List (List ℕ)) (all : Result Before SourceFault) → StepReads b (content line) (Ok next) (is_empty_line (content line)) → LinesRead (n + 1) next later all → LinesRead n b (line ∷ later) all
+pub lines_step : (n : ℕ) (b next : Before) (line : List ℕ) (later : List (List ℕ)) (all : Result Before SourceFault) → StepReads b (content line) (Ok next) (is_empty_line (content line)) → LinesRead (n + 1) next later all → LinesRead n b (line ∷ later) all
 unfolding LinesRead
 lines_step n b next line later all e h = step_at n b next (content line) all (λ c. LinesRead (n + 1) c later all) (is_empty_line (content line)) e h
 
-lines_stop : (n : ℕ) (b : Before) (line : List ℕ) (later : List (List ℕ)) (kind : SourceKind) → StepReads b (content line) (Err kind) (is_empty_line (content line)) → LinesRead n b (line ∷ later) (Err (record { line = n; kind = kind }))
+pub lines_stop : (n : ℕ) (b : Before) (line : List ℕ) (later : List (List ℕ)) (kind : SourceKind) → StepReads b (content line) (Err kind) (is_empty_line (content line)) → LinesRead n b (line ∷ later) (Err (record { line = n; kind = kind }))
 unfolding LinesRead
 lines_stop n b line later kind e = stop_at n b (content line) kind (λ c. LinesRead (n + 1) c later (Err (record { line = n; kind = kind }))) (is_empty_line (content line)) e
 
-lines_end : (n : ℕ) (b : Before) → LinesRead n b [] (Ok b)
+pub lines_end : (n : ℕ) (b : Before) → LinesRead n b [] (Ok b)
 unfolding LinesRead
 lines_end n b = refl
 
-pub left_first : (text : Bor (List ℕ)) (r : Reader) → before_of r ≡ nothing_yet → IsReader r → r.lets ≡ 0 → SourceLeft text.now 1 r (Some text)
-left_first text r e h l = record {
-  at = refl;
-  room = omega arith;
-  read = λ all k. subst (λ b. LinesRead 1 b (lines text.now) all) e k;
-  holds = h;
-  lets = omega (arith, l);
-}
-
-pub left_next : (text now : List ℕ) (line : ℕ) (r new : Reader) (behind : Bor (List ℕ)) (after : Option (Bor (List ℕ))) → IsNext behind.now now after → SourceLeft text line r (Some behind) → TakesAny r new now None → SourceLeft text (line + 1) new after
-left_next text now line r new behind None next h t = record {
-  at = omega (arith, h.at, ap length next);
-  room = omega (arith, h.room);
-  read = λ all k. h.read all (subst (λ ls. LinesRead line (before_of r) ls all) (sym next) (lines_step line (before_of r) (before_of new) now [] all t.reads k));
-  holds = t.holds refl;
-  lets = omega (arith, h.lets, t.lets);
-}
-left_next text now line r new behind (Some rest) next h t = record {
-  at = omega (arith, h.at, ap length next.lines_are);
-  room = omega (arith, h.room, next.shorter);
-  read = λ all k. h.read all (subst (λ ls. LinesRead line (before_of r) ls all) (sym next.lines_are) (lines_step line (before_of r) (before_of new) now (lines rest.now) all t.reads k));
-  holds = t.holds refl;
-  lets = omega (arith, h.lets, t.lets);
-}
-
-fault_at : (text : List ℕ) (f : SourceFault) → LinesRead 1 nothing_yet (lines text) (Err f) → IsSourceFault text f
-fault_at text f h = record { all = Err f; lines_read = h; read_is = refl }
-
-pub left_stop : (text now : List ℕ) (line : ℕ) (r new : Reader) (behind : Bor (List ℕ)) (after : Option (Bor (List ℕ))) (kind : SourceKind) → IsNext behind.now now after → SourceLeft text line r (Some behind) → TakesAny r new now (Some kind)
-    → IsSourceFault text (record { line = line; kind = kind })
-left_stop text now line r new behind None kind next h t = fault_at text _ (h.read _ (subst (λ ls. LinesRead line (before_of r) ls (Err (record { line = line; kind = kind }))) (sym next) (lines_stop line (before_of r) now [] kind t.reads)))
-left_stop text now line r new behind (Some rest) kind next h t = fault_at text _ (h.read _ (subst (λ ls. LinesRead line (before_of r) ls (Err (record { line = line; kind = kind }))) (sym next.lines_are) (lines_stop line (before_of r) now (lines rest.now) kind t.reads)))
-
 -- ---- the end
-
-end_is : (text : List ℕ) (line : ℕ) (r : Reader) → SourceLeft text line r None → (read : Result SourceTree SourceFault) → ended (line - 1) (before_of r) r.field ≡ read → TextReads text read
-end_is text line r h read e =
-    let n : length (lines text) ≡ line - 1 = omega (arith, h.at) in
-    record { all = Ok (before_of r); lines_read = h.read (Ok (before_of r)) (lines_end line (before_of r)); read_is = ap (λ k. ended k (before_of r) r.field) n ∙ e }
 
 no_count_at : {X : Type 0} (p : X → Bool) (x : X) (xs : List X) (b : Bool) → p x ≡ b → cond b 1 0 + count_by p xs ≡ 0 → (count_by p xs ≡ 0 → list_any p xs ≡ false) → (b || list_any p xs) ≡ false
 no_count_at p x xs true e h k = absurd (omega arith)
@@ -142,25 +94,12 @@ pub some_count : {X : Type 0} (p : X → Bool) (xs : List X) → 1 ≤ count_by 
 some_count p [] h = let none : count_by p [] ≡ 0 = refl in absurd (omega arith)
 some_count p (x ∷ xs) h = some_count_at p xs (p x) (subst (λ n. 1 ≤ n) (sum_by-cons (λ y. cond (p y) 1 0) x xs) h) (some_count p xs)
 
-ended_none : (n : ℕ) (b : Before) (o : Option FieldId) → o ≡ None → ended n b o ≡ Err (record { line = n; kind = kinds.NoField })
+pub ended_none : (n : ℕ) (b : Before) (o : Option FieldId) → o ≡ None → ended n b o ≡ Err (record { line = n; kind = kinds.NoField })
 ended_none n b None e = refl
 ended_none n b (Some f) e = absurd cc
 
-pub no_field_end : (text : List ℕ) (line : ℕ) (r : Reader) → SourceLeft text line r None → r.field ≡ None → IsSourceFault text (record { line = line - 1; kind = kinds.NoField })
-no_field_end text line r h e = end_is text line r h _ (ended_none (line - 1) (before_of r) r.field e)
-
-ended_some : (n : ℕ) (b : Before) (o : Option FieldId) (f : FieldId) → o ≡ Some f → list_any is_assertion b.statements ≡ true → ended n b o ≡ Ok (record { field_is = f; statements = b.statements })
+pub ended_some : (n : ℕ) (b : Before) (o : Option FieldId) (f : FieldId) → o ≡ Some f → list_any is_assertion b.statements ≡ true → ended n b o ≡ Ok (record { field_is = f; statements = b.statements })
 ended_some n b o f e h = ap (ended n b) e ∙ rw h refl
 
-ended_no_assert : (n : ℕ) (b : Before) (o : Option FieldId) (f : FieldId) → o ≡ Some f → list_any is_assertion b.statements ≡ false → ended n b o ≡ Err (record { line = n; kind = kinds.NoAssert })
+pub ended_no_assert : (n : ℕ) (b : Before) (o : Option FieldId) (f : FieldId) → o ≡ Some f → list_any is_assertion b.statements ≡ false → ended n b o ≡ Err (record { line = n; kind = kinds.NoAssert })
 ended_no_assert n b o f e h = ap (ended n b) e ∙ rw h refl
-
-pub no_assert_end : (text : List ℕ) (line : ℕ) (r : Reader) (f : FieldId) → SourceLeft text line r None → r.field ≡ Some f → r.asserts ≡ 0 → IsSourceFault text (record { line = line - 1; kind = kinds.NoAssert })
-no_assert_end text line r f h e none = end_is text line r h _ (ended_no_assert (line - 1) (before_of r) r.field f e (no_count is_assertion (statements_of r.statements.items) (sym h.holds.asserts_are ∙ none)))
-
-pub source_end : (text : List ℕ) (line : ℕ) (r : Reader) (f : FieldId) → SourceLeft text line r None → r.field ≡ Some f → 1 ≤ r.asserts → SourceText text (record { field_is = f; statements = statements_of r.statements.items })
-source_end text line r f h e some = end_is text line r h _ (ended_some (line - 1) (before_of r) r.field f e (some_count is_assertion (statements_of r.statements.items) (omega (arith, some, h.holds.asserts_are))))
-
--- a source that was read is well formed
-pub is_source : (text : List ℕ) (r : Reader) (f : FieldId) → length text ≤ 4194304 → IsReader r → SourceText text (record { field_is = f; statements = statements_of r.statements.items }) → IsSource (record { field_is = f; statements = statements_of r.statements.items }) r.publics r.privates r.asserts
-is_source text r f l h t = record { formed = record { text = text; short = l; reads = t }; publics_are = h.publics_are; privates_are = h.privates_are; asserts_are = h.asserts_are }

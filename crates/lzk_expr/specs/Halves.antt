@@ -38,4 +38,3 @@ step_of steps.Minus = meaning.Minus
 step_of steps.Times = meaning.Times
 step_of steps.Open = meaning.Open
 step_of steps.Close = meaning.Close
-step_of steps.Other = meaning.Other

@@ -15,7 +15,17 @@ pub mod Printing
 pub mod Built
 pub mod NameLists
 pub mod Readers
+pub mod SymbolForms
+pub mod Coders
 pub mod SomeReading
 pub use Rattle.lzk_field.specs
 pub mod Keys
 pub mod Kinds
+pub mod Codes
+pub mod CodeTexts
+pub mod Heads
+pub mod Growing
+pub mod Completing
+pub mod Syntaxes
+pub mod SumWords
+pub mod TreeSteps

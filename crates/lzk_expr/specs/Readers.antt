@@ -1,28 +1,19 @@
--- What was read of a source, in memory.
-use Rattle.std.specs.Prelude.{◌≡◌, ℕ, ◌+◌, ◌≤◌, List, [], ◌∷◌, ◌++◌, Bool, true, false, Option, Some, None, Result, Ok, Err, count_by, ◌&&◌}
+-- What a line gives, and what its form asks of its tokens.
+use Rattle.std.specs.Prelude.{◌≡◌, ℕ, List, [], ◌∷◌, ◌++◌, Bool, true, false, Option, Some, None, Result, Ok, Err, ◌&&◌}
 use Rattle.std.specs.List.{list_all}
-use Rattle.std.specs.Map.{update}
-use Rattle.std.specs.Str.{bytes_eq}
-use Rattle.lzk_expr.specs.declared.ast.Statement as memory
-use Rattle.lzk_expr.specs.declared.reader.Reader.{Reader}
-use Rattle.lzk_expr.specs.declared.reader.Input.{Input}
-use Rattle.lzk_expr.specs.declared.reader.Input.TheVariants as inputs
+use Rattle.lzk_expr.specs.declared.heads.Input.{Input}
+use Rattle.lzk_expr.specs.declared.heads.Input.TheVariants as inputs
 use Rattle.lzk_expr.specs.declared.names.Binding.{Binding}
 use Rattle.lzk_expr.specs.declared.tokens.Keyword.{Keyword}
 use Rattle.lzk_expr.specs.declared.tokens.Keyword.TheVariants as keys
 use Rattle.lzk_expr.specs.declared.source_fault.SourceKind.{SourceKind}
 use Rattle.lzk_expr.specs.declared.ast.FieldId.{FieldId}
-use Rattle.lzk_expr.specs.Texts.{content}
-use Rattle.lzk_expr.specs.Tokens.{Token, is_empty_line}
+use Rattle.lzk_expr.specs.Tokens.{Token}
 use Rattle.lzk_expr.specs.Tokens as token
 use Rattle.lzk_expr.specs.Grammar.{Line, IsForm, field_name}
-use Rattle.lzk_expr.specs.Trees.{Expr, Statement, DeclarePublic, DeclarePrivate, Define, name_of, is_public, is_private, is_assertion}
+use Rattle.lzk_expr.specs.Trees.{Expr, Statement, DeclarePublic, DeclarePrivate, Define}
 use Rattle.lzk_expr.specs.Sources.{Before, form_read, LineReads, is_short, is_shallow}
-use Rattle.lzk_expr.specs.Table.{found, binding_expr}
-use Rattle.lzk_expr.specs.View.{statements_of}
-
-abbrev pub before_of : Reader → Before
-before_of r = record { field_is = r.field; statements = statements_of r.statements.items }
+use Rattle.lzk_expr.specs.Table.{binding_expr}
 
 abbrev pub is_define : Statement → Bool
 is_define (Define w e) = true
@@ -31,30 +22,6 @@ is_define _ = false
 abbrev pub named : Option Binding → Option Expr
 named None = None
 named (Some b) = Some (binding_expr (Some b))
-
--- the table has the declared names, and the counts are those of the statements
-pub record IsReader (r : Reader) : Type 0 where
-  pub names_are : (w : List ℕ) → named (found r.names.table w) ≡ name_of (statements_of r.statements.items) w
-  pub publics_are : r.publics ≡ count_by is_public (statements_of r.statements.items)
-  pub privates_are : r.privates ≡ count_by is_private (statements_of r.statements.items)
-  pub lets_are : r.lets ≡ count_by is_define (statements_of r.statements.items)
-  pub asserts_are : r.asserts ≡ count_by is_assertion (statements_of r.statements.items)
-
--- with one more statement in memory, whose name stands for this; the counts are not raised yet
-pub record Binds (old new : Reader) (st : memory.Statement) (v : List ℕ) (b : Binding) : Type 0 where
-  pub field_is : new.field ≡ old.field
-  pub statements_are : new.statements.items ≡ old.statements.items ++ st ∷ []
-  pub names_are : (w : List ℕ) → found new.names.table w ≡ update bytes_eq (found old.names.table) v (Some b) w
-  pub publics_are : new.publics ≡ old.publics
-  pub privates_are : new.privates ≡ old.privates
-  pub lets_are : new.lets ≡ old.lets
-  pub asserts_are : new.asserts ≡ old.asserts
-
--- with one more statement
-pub record Declares (old new : Reader) (s : Statement) : Type 0 where
-  pub field_is : new.field ≡ old.field
-  pub statements_are : statements_of new.statements.items ≡ statements_of old.statements.items ++ s ∷ []
-  pub holds : IsReader new
 
 abbrev pub step_of : Option SourceKind → Before → Result Before SourceKind
 step_of None after = Ok after
@@ -66,28 +33,10 @@ pub record FormReads (b : Before) (ts : List Token) (read : Result Before Source
   pub is_form : IsForm ts form
   pub read_is : form_read b form ≡ read
 
--- The tokens of a line are taken, or break a rule.
-pub record Takes (old new : Reader) (ts : List Token) (broken : Option SourceKind) : Type 0 where
-  pub reads : FormReads (before_of old) ts (step_of broken (before_of new))
-  pub holds : broken ≡ None → IsReader new
-  pub lets : new.lets ≤ old.lets + 1
-
--- A line is taken, or breaks a rule.
-pub record TakesLine (old new : Reader) (bytes : List ℕ) (broken : Option SourceKind) : Type 0 where
-  pub reads : LineReads (before_of old) bytes (step_of broken (before_of new))
-  pub holds : broken ≡ None → IsReader new
-  pub lets : new.lets ≤ old.lets + 1
-
 -- a line with nothing before its comment is skipped
 abbrev pub StepReads : Before → List ℕ → Result Before SourceKind → Bool → Type 0
 StepReads b bytes step true = step ≡ Ok b
 StepReads b bytes step false = LineReads b bytes step
-
--- A line of a text is taken, or breaks a rule.
-pub record TakesAny (old new : Reader) (line : List ℕ) (broken : Option SourceKind) : Type 0 where
-  pub reads : StepReads (before_of old) (content line) (step_of broken (before_of new)) (is_empty_line (content line))
-  pub holds : broken ≡ None → IsReader new
-  pub lets : new.lets ≤ old.lets + 1
 
 -- the field that a field line names
 abbrev pub IsField : List Token → Option FieldId → Type 0
@@ -110,21 +59,6 @@ key_of inputs.Private = keys.Private
 abbrev pub input_statement : Input → List ℕ → Statement
 input_statement inputs.Public w = DeclarePublic w
 input_statement inputs.Private w = DeclarePrivate w
-
-abbrev pub input_count : Input → Reader → ℕ
-input_count inputs.Public r = r.publics
-input_count inputs.Private r = r.privates
-
-abbrev pub first_name : List Token → Option (List ℕ)
-first_name (token.Name w ∷ ts) = Some w
-first_name _ = None
-
-abbrev pub IsNamed : List Token → List ℕ → List Token → Type 0
-IsNamed ts w us = ts ≡ token.Name w ∷ us
-
-abbrev pub begins_equals : List Token → Bool
-begins_equals (token.Equals ∷ ts) = true
-begins_equals _ = false
 
 -- a name with a sign = behind it
 abbrev pub IsDefinition : List Token → List ℕ → List Token → Type 0

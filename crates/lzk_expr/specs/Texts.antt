@@ -31,6 +31,13 @@ lines text = slice_split is_feed text
 abbrev pub content : List ℕ → List ℕ
 content line = before_first is_hash line
 
+-- the first line, and what stands on it before its comment
+abbrev pub first_line : List ℕ → List ℕ
+first_line text = before_first is_feed text
+
+abbrev pub first_content : List ℕ → List ℕ
+first_content text = content (first_line text)
+
 -- the number that a digit stands for, and 16 for another byte
 abbrev pub digit_of : ℕ → ℕ
 digit_of c =

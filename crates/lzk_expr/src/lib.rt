@@ -11,6 +11,9 @@
 //! let text = print(alloc, &source)?;
 //! ```
 //!
+//! `read` refuses the same texts as `parse`, and makes a source's code in place of its trees: flat words in the
+//! order of the text, with names and numbers resolved. `code_of` makes it of trees.
+//!
 //! A number file is a list of numbers in decimal or hexadecimal digits, parted by blanks and line feeds,
 //! with comments from `#` to the end of a line:
 //!
@@ -20,31 +23,43 @@
 #![tactic(auto)]
 
 mod ast;
+mod code;
+mod coder;
+mod completing;
 mod digits;
 mod evaluate;
 mod fault;
+mod growing;
 mod half;
+mod heads;
 mod key;
 mod laws;
+mod lex;
+mod line_forms;
 mod names;
 mod numbers;
 mod parsing;
 mod printing;
-mod reader;
+mod reading;
 mod reads;
 mod rules;
 mod source;
 mod source_fault;
-mod sums;
+mod sum_words;
+mod syntax;
 mod text;
 mod tokens;
+mod tree_code;
 pub mod words;
 
 pub use ast::{Expr, FieldId, Name, Part, Statement};
+pub use code::{Code, Word};
 pub use fault::{NumberError, NumberFault, NumberKind};
 pub use laws::source_laws;
 pub use numbers::read_numbers;
 pub use parsing::parse;
 pub use printing::print;
+pub use reading::read;
 pub use source::Source;
 pub use source_fault::{SourceError, SourceFault, SourceKind};
+pub use tree_code::code_of;

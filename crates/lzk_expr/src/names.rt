@@ -1,6 +1,6 @@
 //! The names that were declared.
 
-ghost use Rattle.std.specs.Prelude.{◌≡◌, None, Some, OnOk, bytes_eq};
+ghost use Rattle.std.specs.Prelude.{◌≡◌, None, Some, IfOk, OnOk, is_some, bytes_eq};
 ghost use Rattle.std.specs.Map.{update};
 ghost use Rattle.lzk_expr.specs.Table.{found};
 
@@ -39,11 +39,13 @@ impl<'a> Names<'a> {
         }
     }
 
-    pub fn declare(&mut self, name: &'a [u8], binding: Binding) -> Result<(), AllocError>
-        ensures { OnOk result
+    // Lets a name stand for this, and answers whether it stood for something before.
+    pub fn declare(&mut self, name: &'a [u8], binding: Binding) -> Result<bool, AllocError>
+        ensures known { IfOk result (λ known. known ≡ is_some (found self.old.table name.now)) }
+        ensures declares { OnOk result
             ((w : _) → found self.new.table w ≡ update bytes_eq (found self.old.table) name.now (Some binding) w) }
     {
-        self.table.insert(Key::new(name), binding)?;
-        Ok(())
+        let before = self.table.insert(Key::new(name), binding)?;
+        Ok(before.is_some())
     }
 }

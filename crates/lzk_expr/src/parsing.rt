@@ -1,53 +1,96 @@
 //! Reading a source.
 
-ghost use Rattle.std.specs.Prelude.{◌≡◌, ◌≤◌, length, Ok, MatchResult, IfOk, IfErr};
+ghost use Rattle.std.specs.Prelude.{◌≡◌, ◌≤◌, [], length, MatchResult, IfOk, IfErr};
 ghost use Rattle.lzk_expr.specs.Built.{IsBuilt};
+ghost use Rattle.lzk_expr.specs.Coders.{IsCoder, TakesHeads, TakesSource, used};
+ghost use Rattle.lzk_expr.specs.Heads.{heads_of};
 ghost use Rattle.lzk_expr.specs.Printing.{source_text};
-ghost use Rattle.lzk_expr.specs.Sources.{SourceText, IsFirstSourceFault};
+ghost use Rattle.lzk_expr.specs.Sources.{SourceText, IsFirstSourceFault, nothing_yet};
 ghost use Rattle.lzk_expr.specs.Trees.{SourceTree};
-ghost use Rattle.lzk_expr.specs.View.{tree_of};
+ghost use Rattle.lzk_expr.specs.View.{statements_of, tree_of};
 ghost use Rattle.lzk_expr.specs.declared.source_fault.SourceError.TheVariants.{OutOfMemory};
 
-use crate::reader::Reader;
+use crate::ast::{FieldId, Statement};
+use crate::coder::Coder;
+use crate::completing::make_statements;
+use crate::heads::{Head, push_heads};
+use crate::reading::ended;
 use crate::source::Source;
-use crate::source_fault::{SourceError, SourceFault, SourceKind};
+use crate::source_fault::{SourceError, SourceFault};
 use crate::text::Text;
-use crate::words::next_line;
+use crate::tokens::Symbol;
 use std::alloc::Global;
+
+// Takes the text's lines, with the heads of their statements, and answers the number of the last line.
+fn take_lines<'a>(
+    coder: &mut Coder<'a>,
+    symbols: &mut Vec<Symbol<'a>>,
+    heads: &mut Vec<Head>,
+    text: &Text<'a>,
+) -> Result<u32, SourceError>
+    requires holds { IsCoder coder.old nothing_yet }
+    requires used { used coder.old ≡ 0 }
+    requires none { heads.old.items ≡ [] }
+    ensures { MatchResult result (λ last. TakesHeads text.now.bytes.now last coder.new (heads_of heads.new.items))
+        (IsFirstSourceFault text.now.bytes.now) }
+{
+    let mut left = Some(text.bytes);
+    let mut line = 1u32;
+    while let Some(behind) = left {
+        let (broken, after) = coder.take(symbols, behind)?;
+        if let Some(kind) = broken {
+            return Err(SourceError::Fault(SourceFault { line, kind }));
+        }
+        push_heads(symbols, heads)?;
+        left = after;
+        line += 1;
+    }
+    Ok(line - 1)
+}
+
+// Takes the text, makes its statements, and answers its field.
+fn take_source<'a>(
+    alloc: Global,
+    coder: &mut Coder<'a>,
+    symbols: &mut Vec<Symbol<'a>>,
+    heads: &mut Vec<Head>,
+    statements: &mut Vec<Statement>,
+    text: &Text<'a>,
+) -> Result<FieldId, SourceError>
+    requires holds { IsCoder coder.old nothing_yet }
+    requires used { used coder.old ≡ 0 }
+    requires none { heads.old.items ≡ [] }
+    requires empty { statements.old.items ≡ [] }
+    ensures { MatchResult result
+        (λ field. TakesSource text.now.bytes.now field coder.new (statements_of statements.new.items))
+        (IsFirstSourceFault text.now.bytes.now) }
+{
+    let last = take_lines(coder, symbols, heads, text)?;
+    let made = make_statements(alloc, &coder.words, &coder.numbers, heads, statements)?;
+    prove!(made);
+    ended(coder, last)
+}
 
 // The source that the text is, or its fault.
 fn source(alloc: Global, text: &Text<'_>) -> Result<Source, SourceError>
     ensures { MatchResult result (λ s. SourceText text.now.bytes.now (tree_of s))
         (IsFirstSourceFault text.now.bytes.now) }
 {
-    let mut reader = Reader::new(alloc);
-    let mut left = Some(text.bytes);
-    let mut line = 1u32;
-    while let Some(behind) = left {
-        let (now, after) = next_line(behind);
-        if let Some(kind) = reader.take(alloc, now)? {
-            return Err(SourceError::Fault(SourceFault { line, kind }));
-        }
-        left = after;
-        line += 1;
-    }
-    let line = line - 1;
-    let Some(field) = reader.field else {
-        return Err(SourceError::Fault(SourceFault {
-            line,
-            kind: SourceKind::NoField,
-        }));
-    };
-    let publics = reader.publics;
-    let privates = reader.privates;
-    let asserts = reader.asserts;
-    if asserts == 0 {
-        return Err(SourceError::Fault(SourceFault {
-            line,
-            kind: SourceKind::NoAssert,
-        }));
-    }
-    let statements = reader.statements;
+    let mut symbols = Vec::new(alloc);
+    let mut heads = Vec::new(alloc);
+    let mut statements = Vec::new(alloc);
+    let mut coder = Coder::new(alloc);
+    let field = take_source(
+        alloc,
+        &mut coder,
+        &mut symbols,
+        &mut heads,
+        &mut statements,
+        text,
+    )?;
+    let publics = coder.publics;
+    let privates = coder.privates;
+    let asserts = coder.asserts;
     Ok(Source::new(field, statements, publics, privates, asserts))
 }
 

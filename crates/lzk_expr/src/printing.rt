@@ -31,7 +31,7 @@ pub enum Place {
     UnderMinus,
 }
 
-fn is_closed_sum(at: Place) -> bool
+pub(crate) fn is_closed_sum(at: Place) -> bool
     ensures { result ≡ closed_sum at }
 {
     match at {
@@ -40,7 +40,7 @@ fn is_closed_sum(at: Place) -> bool
     }
 }
 
-fn is_closed_product(at: Place) -> bool
+pub(crate) fn is_closed_product(at: Place) -> bool
     ensures { result ≡ closed_product at }
 {
     match at {
@@ -50,7 +50,7 @@ fn is_closed_product(at: Place) -> bool
     }
 }
 
-fn is_closed_negative(at: Place) -> bool
+pub(crate) fn is_closed_negative(at: Place) -> bool
     ensures { result ≡ closed_negative at }
 {
     match at {

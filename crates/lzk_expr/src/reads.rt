@@ -19,7 +19,6 @@ pub(crate) enum Step {
     Times,
     Open,
     Close,
-    Other,
 }
 
 // What stands before each open parenthesis, the innermost last; what is read now; and whether a

@@ -1,12 +1,10 @@
 //! The tokens of a line.
 
-ghost use Rattle.std.specs.Prelude.{◌≡◌, ◌≤◌, [], length, MatchOption, not, position};
-ghost use Rattle.std.specs.List.{prefix_len};
-ghost use Rattle.lzk_expr.specs.Tokens.{is_digit, in_word, pieces, tokens, word_token, plain_token, sign_token};
-ghost use Rattle.lzk_expr.specs.TokenReadings.{piece_of, IsPiece, Tells, IsNext};
+ghost use Rattle.std.specs.Prelude.{◌≡◌, false};
+ghost use Rattle.lzk_expr.specs.Tokens.{is_digit, in_word, word_token, plain_token, sign_token};
+ghost use Rattle.lzk_expr.specs.TokenReadings.{Tells};
 
 use crate::digits::{Reading, number};
-use crate::words::word_at;
 
 /// The words that begin a statement line.
 #[derive(Clone, Copy, Debug, PartialEq, Eq)]
@@ -48,50 +46,25 @@ pub(crate) fn is_digit(b: u8) -> bool
     b'0' <= b && b <= b'9'
 }
 
+// Each byte of a word stands at its own place, and a comma at every other place.
+static WORD_BYTES: [u8; 256] = *b"\
+    ,,,,,,,,,,,,,,,,,,,,,,,,,,,,,,,,\
+    ,,,,,,,,,,,,,,,,0123456789,,,,,,\
+    ,ABCDEFGHIJKLMNOPQRSTUVWXYZ,,,,_\
+    ,abcdefghijklmnopqrstuvwxyz,,,,,\
+    ,,,,,,,,,,,,,,,,,,,,,,,,,,,,,,,,\
+    ,,,,,,,,,,,,,,,,,,,,,,,,,,,,,,,,\
+    ,,,,,,,,,,,,,,,,,,,,,,,,,,,,,,,,\
+    ,,,,,,,,,,,,,,,,,,,,,,,,,,,,,,,,";
+
 pub(crate) fn in_word(b: u8) -> bool
     ensures { result ≡ in_word b }
 {
-    b'A' <= b && b <= b'Z' || b'a' <= b && b <= b'z' || is_digit(b) || b == b'_'
-}
-
-fn gap_at(bytes: &[u8]) -> Option<usize>
-    ensures { result ≡ position (λ b. not (in_word b)) bytes.now }
-{
-    bytes.iter().position(|b| !in_word(*b))
-}
-
-// How long the word is that the bytes begin with.
-#[tactic(auto, using(crate::proofs::Runs::found_at, crate::proofs::Runs::found_none))]
-fn word_len(bytes: &[u8]) -> usize
-    ensures len { result ≡ prefix_len in_word bytes.now }
-    ensures within { result ≤ length bytes.now }
-{
-    match gap_at(bytes) {
-        Some(len) => len,
-        None => bytes.len(),
-    }
-}
-
-// The first piece, and what is behind it.
-pub(crate) fn next_piece(bytes: &[u8]) -> Option<(Piece<'_>, &[u8])>
-    ensures { MatchOption result (pieces bytes.now ≡ []) (λ x. IsPiece bytes.now (piece_of x.0) x.1.now) }
-{
-    match word_at(bytes) {
-        None => None,
-        Some(start) => {
-            let (_, rest) = bytes.split_at(start);
-            if in_word(rest[0]) {
-                let len = word_len(rest);
-                let (word, after) = rest.split_at(len);
-                return Some((Piece::Word(word), after));
-            }
-            let (_, after) = rest.split_at(1);
-            Some((Piece::Sign(rest[0]), after))
-        }
-    }
+    WORD_BYTES[b as usize] != b','
 }
 
 // What a word that is no keyword is.
+#[inline(always)]
 fn plain_symbol(word: &[u8]) -> Symbol<'_>
     ensures { Tells result (plain_token word.now) }
 {
@@ -105,8 +78,22 @@ fn plain_symbol(word: &[u8]) -> Symbol<'_>
     }
 }
 
+// Whether a word has as many bytes as a keyword, from three to seven, and begins with a letter from a to p, as all do.
+#[inline(always)]
+fn may_be_key(word: &[u8]) -> bool
+    ensures { result ≡ false → word_token word.now ≡ plain_token word.now }
+{
+    if word.len() < 3 {
+        return false;
+    }
+    if word.len() > 7 {
+        return false;
+    }
+    b'a' <= word[0] && word[0] <= b'p'
+}
+
 #[tactic(auto, unfolding(crate::specs::Tokens::word_token))]
-fn word_symbol(word: &[u8]) -> Symbol<'_>
+fn key_symbol(word: &[u8]) -> Symbol<'_>
     ensures { Tells result (word_token word.now) }
 {
     if word == b"field".as_slice() {
@@ -124,7 +111,18 @@ fn word_symbol(word: &[u8]) -> Symbol<'_>
     }
 }
 
-fn sign_symbol(b: u8) -> Symbol<'static>
+#[inline(always)]
+pub(crate) fn word_symbol(word: &[u8]) -> Symbol<'_>
+    ensures { Tells result (word_token word.now) }
+{
+    if may_be_key(word) {
+        return key_symbol(word);
+    }
+    plain_symbol(word)
+}
+
+#[inline(always)]
+pub(crate) fn sign_symbol(b: u8) -> Symbol<'static>
     ensures { Tells result (sign_token b) }
 {
     match b {
@@ -135,16 +133,5 @@ fn sign_symbol(b: u8) -> Symbol<'static>
         b')' => Symbol::Close,
         b'=' => Symbol::Equals,
         _ => Symbol::Other,
-    }
-}
-
-// The first token, and what is behind it.
-pub(crate) fn next_token(bytes: &[u8]) -> Option<(Symbol<'_>, &[u8])>
-    ensures { MatchOption result (tokens bytes.now ≡ []) (λ x. IsNext bytes.now x.0 x.1.now) }
-{
-    match next_piece(bytes) {
-        None => None,
-        Some((Piece::Word(word), rest)) => Some((word_symbol(word), rest)),
-        Some((Piece::Sign(b), rest)) => Some((sign_symbol(b), rest)),
     }
 }

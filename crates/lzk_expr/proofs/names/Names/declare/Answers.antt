@@ -3,5 +3,5 @@ use Rattle.std.specs.Map.{update}
 use Rattle.lzk_expr.specs.Table.{found}
 use Rattle.lzk_expr.proofs.names.Names.declare.Goals as goal
 
-pub returns : goal.returns
-returns c = λ w. c.in_ok-insert.ensures.updates.0 w ∙ ap (λ (v : List ℕ). update bytes_eq (found c.args.self.now.table) v (Some c.args.binding) w) c.new.ensures
+pub returns-clause-declares : goal.returns-clause-declares
+returns-clause-declares c = λ w. c.in_ok-before.ensures.updates.0 w ∙ ap (λ (v : List ℕ). update bytes_eq (found c.args.self.now.table) v (Some c.args.binding) w) c.new.ensures

@@ -1,0 +1,13 @@
+use Rattle.std.proofs.Common.{◌≡◌, List, vec_len}
+use Rattle.lzk_expr.specs.Trees.{Statement}
+use Rattle.lzk_expr.specs.Codes.{nameless}
+use Rattle.lzk_expr.specs.Heads.{heads_of, headings}
+use Rattle.lzk_expr.specs.Growing.{all_ended}
+use Rattle.lzk_expr.proofs.Completion.{StatementsLeft}
+use Rattle.lzk_expr.proofs.completing.complete.Given as goal
+
+abbrev pub invariant-loop-head : goal.invariant-loop-head
+invariant-loop-head l = (ss : List Statement) → heads_of l.fn.heads.items ≡ headings ss → all_ended l.fn.ended.items ≡ nameless ss → StatementsLeft ss l.heads.items l.ended.items l.statements.items
+
+abbrev pub decreases-loop-head : goal.decreases-loop-head
+decreases-loop-head l = vec_len l.heads

@@ -1,0 +1,49 @@
+use Rattle.std.proofs.Common.{◌≡◌, ◌∙◌, ◌+◌, ◌<◌, ℕ, sym, ap, rules, List, ◌∷◌, drop, drop-cons, get_or, length, add-one, arith}
+use Rattle.std.proofs.lemmas.List.{drop_all}
+use Rattle.lzk_expr.specs.declared.tokens.Symbol.{Symbol}
+use Rattle.lzk_expr.specs.declared.tokens.Symbol.TheVariants as symbol
+use Rattle.lzk_expr.proofs.SumWordLaws.{begun, no_word, no_syntax, one_more, has_end}
+use Rattle.lzk_expr.proofs.sum_words.push_sum.Goals as goal
+
+abbrev at_index : List Symbol → ℕ → Symbol
+at_index ss i = get_or ss i (symbol.Number 0)
+
+from_index : (ss : List Symbol) (i : ℕ) → i < length ss → drop i ss ≡ at_index ss i ∷ drop (i + 1) ss
+from_index ss i h = drop-cons ss i (symbol.Number 0) h ∙ ap (λ n. at_index ss i ∷ drop n ss) (sym (add-one i))
+
+pub loop-symbol-init : goal.loop-symbol-init
+loop-symbol-init c = record {
+  depth = search rules;
+  few = omega arith;
+  begun = λ ts told. rw c.no_words-syntax.ensures (begun c.args.field c.args.names.now.table c.args.symbols.now c.args.words.now.items c.args.numbers.now.items ts told);
+}
+
+pub returns-in_default-clause-sum : goal.returns-in_default-clause-sum
+returns-in_default-clause-sum c =
+    let l = c.loop-symbol in
+    λ ts told. no_word c.args.field c.args.names.now.table _ _ _ _ _ _ _ ts _ _ _ (from_index c.args.symbols.now l.symbol-index c.loop-symbol-test.true) (l.invariant.begun ts told)
+    (rw c.in_default.is at c.in_ok-next.ensures.word)
+
+pub returns-in_default-after-clause-sum : goal.returns-in_default-after-clause-sum
+returns-in_default-after-clause-sum c =
+    let l = c.loop-symbol in
+    λ ts told. no_syntax c.args.field c.args.names.now.table _ _ _ _ _ _ _ ts _ _ _ (from_index c.args.symbols.now l.symbol-index c.loop-symbol-test.true) (l.invariant.begun ts told)
+    _ _ _ _ (rw c.in-Some.is at c.in_ok-next.ensures.word) (rw c.in_default-after.is at c.after.ensures.next)
+
+pub loop-symbol-preserved : goal.loop-symbol-preserved
+loop-symbol-preserved c =
+    let l = c.loop-symbol in
+    record {
+      depth = omega (arith, l.invariant.depth, (rw c.in-Some-after.is at c.after.ensures.depth));
+      few = omega (arith, l.invariant.few, c.in_ok-next.ensures.few);
+      begun = λ ts told.
+          one_more c.args.field c.args.names.now.table _ _ _ _ _ _ _ ts _ _ _ (from_index c.args.symbols.now l.symbol-index c.loop-symbol-test.true) (l.invariant.begun ts told)
+          _ _ _ _ (rw c.in-Some.is at c.in_ok-next.ensures.word) _ _ c.in_ok-push.ensures.items (rw c.in-Some-after.is at c.after.ensures.next)
+          _ _ c.both-known.ensures c.both-below.ensures;
+    }
+
+pub returns-clause-sum : goal.returns-clause-sum
+returns-clause-sum c =
+    let l = c.loop-symbol in
+    λ ts told. has_end c.args.field c.args.names.now.table _ _ _ _ _ _ _ ts _ (drop_all l.symbol-index c.args.symbols.now c.loop-symbol-test.false) (l.invariant.begun ts told)
+    (sym c.is_whole.ensures ∙ c.if-not-is_whole.false)

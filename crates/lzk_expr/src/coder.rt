@@ -1,0 +1,286 @@
+//! Reading statement lines to code.
+
+ghost use Rattle.std.specs.Prelude.{◌≡◌, ◌≤◌, ◌<◌, ◌+◌, ◌^◌, ◌&&◌, ◌||◌, ℕ, List, length, is_some, true, false};
+ghost use Rattle.std.specs.Prelude.{None, IfOk, OnOk, MatchOption, [], ◌∷◌};
+ghost use Rattle.lzk_expr.specs.Texts.{lines, first_line, first_content, IsLine};
+ghost use Rattle.lzk_profile.specs.Profile.{most_privates};
+ghost use Rattle.lzk_expr.specs.Tokens.{tokens, keeps_characters};
+ghost use Rattle.lzk_expr.specs.TokenReadings.{AreTold};
+ghost use Rattle.lzk_expr.specs.Sources.{Before, nothing_yet, is_field};
+ghost use Rattle.lzk_expr.specs.Table.{found};
+ghost use Rattle.lzk_expr.specs.Readers.{keeps_bounds, key_of, input_statement};
+ghost use Rattle.lzk_expr.specs.Coders.{IsCoder, with_statement, TakesSymbols, TakesCodeLine, TakesTextLine};
+ghost use Rattle.lzk_expr.specs.Coders.{input_count, has_room, used, broken_by};
+ghost use Rattle.lzk_expr.specs.declared.tokens.Keyword.TheVariants.{Field, Let, Assert};
+
+use crate::ast::FieldId;
+use crate::code::Word;
+use crate::heads::Input;
+use crate::lex::lex_line;
+use crate::line_forms::{are_names, definition, field_of, first_keyword, halves};
+use crate::names::{Binding, Names};
+use crate::source_fault::SourceKind;
+use crate::sum_words::{Marks, push_sum};
+use crate::tokens::{Keyword, Symbol};
+use lzk_profile::MOST_PRIVATES;
+use std::alloc::{AllocError, Global};
+
+// What was read so far: the field, the statements' code, the declared names, and how many there are of each.
+#[derive(Drop)]
+pub(crate) struct Coder<'a> {
+    pub field: Option<FieldId>,
+    pub words: Vec<Word>,
+    pub numbers: Vec<u128>,
+    pub names: Names<'a>,
+    pub publics: u32,
+    pub privates: u32,
+    pub lets: u32,
+    pub asserts: u32,
+}
+
+// The rule that an expression's names and numbers break.
+fn broken(marks: Marks) -> Option<SourceKind>
+    ensures { result ≡ broken_by marks.known marks.below }
+{
+    if !marks.known {
+        return Some(SourceKind::Unknown);
+    }
+    if !marks.below {
+        return Some(SourceKind::TooLarge);
+    }
+    None
+}
+
+fn both(one: Marks, other: Marks) -> Marks
+    ensures known { result.known ≡ (one.known && other.known) }
+    ensures below { result.below ≡ (one.below && other.below) }
+{
+    Marks {
+        known: one.known && other.known,
+        below: one.below && other.below,
+    }
+}
+
+impl<'a> Coder<'a> {
+    pub fn new(alloc: Global) -> Coder<'a>
+        ensures holds { IsCoder result nothing_yet }
+        ensures used { used result ≡ 0 }
+    {
+        Coder {
+            field: None,
+            words: Vec::new(alloc),
+            numbers: Vec::new(alloc),
+            names: Names::new(alloc),
+            publics: 0,
+            privates: 0,
+            lets: 0,
+            asserts: 0,
+        }
+    }
+
+    // Whether a line may begin so: the first one names the field.
+    fn may_have(&self, keyword: Keyword) -> bool
+        ensures { result ≡ (is_some self.now.field || is_field keyword) }
+    {
+        match keyword {
+            Keyword::Field => true,
+            _ => self.field.is_some(),
+        }
+    }
+
+    // Each token behind public or private counts as an input.
+    fn has_room(&self, keyword: Keyword, symbols: &[Symbol<'a>]) -> bool
+        ensures { result ≡ has_room self.now keyword (length symbols.now) }
+    {
+        match keyword {
+            Keyword::Public => self.publics as usize + symbols.len() <= 65_535,
+            Keyword::Private => self.privates as usize + symbols.len() <= MOST_PRIVATES as usize,
+            Keyword::Assert => self.asserts < 131_072,
+            _ => true,
+        }
+    }
+
+    fn take_field(&mut self, symbols: &[Symbol<'a>]) -> Option<SourceKind>
+        ensures takes { TakesSymbols self.old self.new Field symbols.now result }
+        ensures used { used self.new ≡ used self.old }
+    {
+        let Some(field) = field_of(symbols) else {
+            return Some(SourceKind::Syntax);
+        };
+        if self.field.is_some() {
+            return Some(SourceKind::Twice);
+        }
+        self.field = Some(field);
+        None
+    }
+
+    // Declares an input, and answers whether its name was known.
+    fn declare_input(&mut self, input: Input, name: &'a [u8]) -> Result<bool, AllocError>
+        requires room { input_count input self.old < most_privates }
+        ensures known { IfOk result (λ known. known ≡ is_some (found self.old.names.table name.now)) }
+        ensures declares { IfOk result (λ known. (b : Before) → IsCoder self.old b → known ≡ false →
+            IsCoder self.new (with_statement b (input_statement input name.now))) }
+        ensures count { OnOk result (input_count input self.new ≡ input_count input self.old + 1) }
+        ensures used { OnOk result (used self.new ≡ used self.old) }
+    {
+        match input {
+            Input::Public => {
+                let known = self.names.declare(name, Binding::Public(self.publics))?;
+                self.publics += 1;
+                Ok(known)
+            }
+            Input::Private => {
+                let known = self.names.declare(name, Binding::Private(self.privates))?;
+                self.privates += 1;
+                Ok(known)
+            }
+        }
+    }
+
+    fn take_inputs(
+        &mut self,
+        input: Input,
+        symbols: &[Symbol<'a>],
+    ) -> Result<Option<SourceKind>, AllocError>
+        requires room { input_count input self.old + length symbols.now ≤ most_privates }
+        ensures takes { IfOk result (TakesSymbols self.old self.new (key_of input) symbols.now) }
+        ensures used { OnOk result (used self.new ≡ used self.old) }
+    {
+        if symbols.is_empty() {
+            return Ok(Some(SourceKind::Syntax));
+        }
+        if !are_names(symbols) {
+            return Ok(Some(SourceKind::Syntax));
+        }
+        for symbol in symbols {
+            if let Symbol::Name(name) = *symbol {
+                if self.declare_input(input, name)? {
+                    return Ok(Some(SourceKind::Twice));
+                }
+            }
+        }
+        Ok(None)
+    }
+
+    fn take_let(&mut self, symbols: &[Symbol<'a>]) -> Result<Option<SourceKind>, AllocError>
+        requires field { is_some self.old.field ≡ true }
+        requires few { used self.old + length symbols.now < 2 ^ 32 }
+        ensures takes { IfOk result (TakesSymbols self.old self.new Let symbols.now) }
+        ensures used { OnOk result (used self.new ≤ used self.old + length symbols.now) }
+    {
+        let field = self.field.unwrap();
+        let Some((name, sum)) = definition(symbols) else {
+            return Ok(Some(SourceKind::Syntax));
+        };
+        let pushed = push_sum(field, &self.names, sum, &mut self.words, &mut self.numbers)?;
+        let Some(marks) = pushed else {
+            return Ok(Some(SourceKind::Syntax));
+        };
+        self.words.push(Word::Define)?;
+        if self.names.declare(name, Binding::Named(self.lets))? {
+            return Ok(Some(SourceKind::Twice));
+        }
+        self.lets += 1;
+        Ok(broken(marks))
+    }
+
+    fn take_assert(&mut self, symbols: &[Symbol<'a>]) -> Result<Option<SourceKind>, AllocError>
+        requires field { is_some self.old.field ≡ true }
+        requires room { self.old.asserts < 131072 }
+        requires few { used self.old + length symbols.now < 2 ^ 32 }
+        ensures takes { IfOk result (TakesSymbols self.old self.new Assert symbols.now) }
+        ensures used { OnOk result (used self.new ≤ used self.old + length symbols.now) }
+    {
+        let field = self.field.unwrap();
+        let Some((lhs, rhs)) = halves(symbols) else {
+            return Ok(Some(SourceKind::Syntax));
+        };
+        let first = push_sum(field, &self.names, lhs, &mut self.words, &mut self.numbers)?;
+        let Some(left) = first else {
+            return Ok(Some(SourceKind::Syntax));
+        };
+        self.words.push(Word::Left)?;
+        let second = push_sum(field, &self.names, rhs, &mut self.words, &mut self.numbers)?;
+        let Some(right) = second else {
+            return Ok(Some(SourceKind::Syntax));
+        };
+        self.words.push(Word::Right)?;
+        self.asserts += 1;
+        Ok(broken(both(left, right)))
+    }
+
+    fn take_form(
+        &mut self,
+        keyword: Keyword,
+        symbols: &[Symbol<'a>],
+    ) -> Result<Option<SourceKind>, AllocError>
+        requires field { (is_some self.old.field || is_field keyword) ≡ true }
+        requires room { has_room self.old keyword (length symbols.now) ≡ true }
+        requires few { used self.old + length symbols.now < 2 ^ 32 }
+        ensures takes { IfOk result (TakesSymbols self.old self.new keyword symbols.now) }
+        ensures used { OnOk result (used self.new ≤ used self.old + length symbols.now) }
+    {
+        match keyword {
+            Keyword::Field => Ok(self.take_field(symbols)),
+            Keyword::Public => self.take_inputs(Input::Public, symbols),
+            Keyword::Private => self.take_inputs(Input::Private, symbols),
+            Keyword::Let => self.take_let(symbols),
+            Keyword::Assert => self.take_assert(symbols),
+        }
+    }
+
+    // Takes a statement line's symbols, where it is known whether they keep their bounds.
+    fn take_line(
+        &mut self,
+        bounded: bool,
+        symbols: &[Symbol<'a>],
+    ) -> Result<Option<SourceKind>, AllocError>
+        requires { used self.old + length symbols.now < 2 ^ 32 }
+        ensures takes { IfOk result (λ broken. (b : Before) (bytes : List ℕ) → IsCoder self.old b
+            → keeps_characters bytes ≡ true → AreTold symbols.now (tokens bytes)
+            → bounded ≡ keeps_bounds 0 (tokens bytes) → TakesCodeLine b self.new bytes broken) }
+        ensures used { OnOk result (used self.new ≤ used self.old + length symbols.now) }
+    {
+        let Some((keyword, rest)) = first_keyword(symbols) else {
+            return Ok(Some(SourceKind::Keyword));
+        };
+        if !self.may_have(keyword) {
+            return Ok(Some(SourceKind::NoField));
+        }
+        if !bounded {
+            return Ok(Some(SourceKind::Limit));
+        }
+        if !self.has_room(keyword, rest) {
+            return Ok(Some(SourceKind::Limit));
+        }
+        self.take_form(keyword, rest)
+    }
+
+    // Takes the text's first line, or answers the first rule that it breaks, and answers what is behind its line
+    // feed. A line with nothing before its comment is skipped. The list is that of the line's tokens afterwards.
+    pub fn take(
+        &mut self,
+        symbols: &mut Vec<Symbol<'a>>,
+        text: &'a [u8],
+    ) -> Result<(Option<SourceKind>, Option<&'a [u8]>), AllocError>
+        requires { used self.old + length (first_line text.now) < 2 ^ 32 }
+        ensures takes { IfOk result (λ x. (b : Before) → IsCoder self.old b
+            → TakesTextLine b self.new (first_line text.now) x.0) }
+        ensures told { IfOk result (λ x. x.0 ≡ None
+            → AreTold symbols.new.items (tokens (first_content text.now))) }
+        ensures rest { IfOk result (λ x. MatchOption x.1 (lines text.now ≡ first_line text.now ∷ [])
+            (λ rest. IsLine text.now (first_line text.now) rest.now)) }
+        ensures used { OnOk result (used self.new ≤ used self.old + length (first_line text.now)) }
+    {
+        let (scan, rest) = lex_line(text, symbols)?;
+        if !scan.clean {
+            return Ok((Some(SourceKind::Character), rest));
+        }
+        let found: &[Symbol<'a>] = symbols;
+        if found.is_empty() {
+            return Ok((None, rest));
+        }
+        let broken = self.take_line(scan.bounded, found)?;
+        Ok((broken, rest))
+    }
+}

@@ -1,0 +1,115 @@
+//! The tokens of a text's first line, found once.
+
+ghost use Rattle.std.specs.Prelude.{◌≡◌, ◌≤◌, ◌+◌, List, ◌∷◌, length, drop, true, ◌||◌, [], IfOk, MatchOption};
+ghost use Rattle.std.specs.List.{prefix_len};
+ghost use Rattle.lzk_expr.specs.Texts.{is_feed, is_hash, lines, first_line, first_content, IsLine};
+ghost use Rattle.lzk_expr.specs.Tokens.{Token, tokens, token_of, in_word, keeps_characters};
+ghost use Rattle.lzk_expr.specs.TokenReadings.{piece_of, AreTold};
+ghost use Rattle.lzk_expr.specs.SymbolForms.{left_bounds};
+ghost use Rattle.lzk_expr.specs.Readers.{keeps_bounds};
+
+use crate::rules::{Depth, Scan, behind_piece, is_sign, unopened};
+use crate::tokens::{Piece, Symbol, in_word, sign_symbol, word_symbol};
+use crate::words::{is_blank, next_line};
+use std::alloc::AllocError;
+
+// The depth behind a piece, as long as each piece kept the bounds.
+fn behind_next(depth: Option<Depth>, piece: Piece<'_>) -> Option<Depth>
+    ensures { (behind : List Token)
+        → left_bounds depth (token_of (piece_of piece.entry) ∷ behind) ≡ left_bounds result behind }
+{
+    match depth {
+        Some(depth) => behind_piece(depth, piece),
+        None => None,
+    }
+}
+
+// Where the word ends that goes on from here.
+fn word_end(line: &[u8], from: usize) -> usize
+    requires { from ≤ length line.now }
+    ensures end { result ≡ from + prefix_len in_word (drop from line.now) }
+    ensures within { result ≤ length line.now }
+{
+    for i in from..line.len() {
+        if !in_word(line[i]) {
+            return i;
+        }
+    }
+    line.len()
+}
+
+// Whether a byte ends what stands on a line before its comment.
+fn ends_content(b: u8) -> bool
+    ensures { result ≡ (is_feed b || is_hash b) }
+{
+    b == b'\n' || b == b'#'
+}
+
+// Makes the list that of the tokens on the text's first line, and tells what the line keeps, and to where it was
+// looked at.
+#[inline(never)]
+fn lex_content<'a>(
+    text: &'a [u8],
+    symbols: &mut Vec<Symbol<'a>>,
+) -> Result<(Scan, usize), AllocError>
+    ensures clean { IfOk result (λ x. x.0.clean ≡ keeps_characters (first_content text.now)) }
+    ensures bounded { IfOk result (λ x. x.0.clean ≡ true
+        → x.0.bounded ≡ keeps_bounds 0 (tokens (first_content text.now))) }
+    ensures told { IfOk result (λ x. x.0.clean ≡ true
+        → AreTold symbols.new.items (tokens (first_content text.now))) }
+    ensures within { IfOk result (λ x. x.1 ≤ length (first_content text.now)) }
+{
+    symbols.clear();
+    let mut depth = Some(unopened());
+    let mut at = 0usize;
+    while at < text.len() {
+        let b = text[at];
+        if in_word(b) {
+            let end = word_end(text, at + 1);
+            let word = &text[at..end];
+            symbols.push(word_symbol(word))?;
+            depth = behind_next(depth, Piece::Word(word));
+            at = end;
+            continue;
+        }
+        if is_blank(b) {
+            at += 1;
+            continue;
+        }
+        if !is_sign(b) {
+            let scan = Scan {
+                clean: ends_content(b),
+                bounded: depth.is_some(),
+            };
+            return Ok((scan, at));
+        }
+        symbols.push(sign_symbol(b))?;
+        depth = behind_next(depth, Piece::Sign(b));
+        at += 1;
+    }
+    let scan = Scan {
+        clean: true,
+        bounded: depth.is_some(),
+    };
+    Ok((scan, at))
+}
+
+// Makes the list that of the tokens on the text's first line, and tells what the line keeps, and what is behind its
+// line feed.
+pub(crate) fn lex_line<'a>(
+    text: &'a [u8],
+    symbols: &mut Vec<Symbol<'a>>,
+) -> Result<(Scan, Option<&'a [u8]>), AllocError>
+    ensures clean { IfOk result (λ x. x.0.clean ≡ keeps_characters (first_content text.now)) }
+    ensures bounded { IfOk result (λ x. x.0.clean ≡ true
+        → x.0.bounded ≡ keeps_bounds 0 (tokens (first_content text.now))) }
+    ensures told { IfOk result (λ x. x.0.clean ≡ true
+        → AreTold symbols.new.items (tokens (first_content text.now))) }
+    ensures rest { IfOk result (λ x. MatchOption x.1 (lines text.now ≡ first_line text.now ∷ [])
+        (λ rest. IsLine text.now (first_line text.now) rest.now)) }
+{
+    let (scan, at) = lex_content(text, symbols)?;
+    let (_, behind) = text.split_at(at);
+    let (_, rest) = next_line(behind);
+    Ok((scan, rest))
+}
