@@ -3,13 +3,14 @@
 ghost use Rattle.std.specs.Prelude.{◌≡◌, ◌≤◌, length, IfOk, IfSome};
 ghost use Rattle.lzk_goldilocks.specs.Elements.{ops};
 ghost use Rattle.lzk_circuit_reduce.specs.Reduced.{IsReduced};
+ghost use Rattle.lzk_expr.specs.Codes.{IsSomeCode};
 
 use lzk_circbytes::AnyCircuit;
 use lzk_circuit::Circuit;
-use lzk_expr::{Source, parse, read_numbers};
+use lzk_expr::{Code, Word, read, read_numbers};
 use lzk_field::Field;
 use lzk_goldilocks::Gold;
-use lzk_level::compile;
+use lzk_level::{Version, compile_code};
 use std::alloc::{AllocError, Global};
 
 const COUNT: u32 = 199_728;
@@ -19,7 +20,7 @@ const ASSERTS: u32 = 66_575;
 const BITS: u32 = 16_384;
 
 /// Readings of 199,728 numbers of 20 digits.
-pub fn read(alloc: Global, times: u32) -> Result<u128, AllocError> {
+pub fn numbers(alloc: Global, times: u32) -> Result<u128, AllocError> {
     let mut text = Vec::new(alloc);
     for _ in 0..COUNT {
         text.extend_from_slice(b"18446744069414584320\n")?;
@@ -37,6 +38,28 @@ pub fn read(alloc: Global, times: u32) -> Result<u128, AllocError> {
     Ok(total.number())
 }
 
+// How many statements the source of code has: its inputs are declared one by one.
+fn statement_count(code: &Code) -> u128 {
+    let mut count = code.publics() as u128 + code.privates() as u128;
+    for word in code.words() {
+        match word {
+            Word::Define | Word::Right => count = count.wrapping_add(1),
+            _ => {}
+        }
+    }
+    count
+}
+
+// How many statements a text has, and 0 where it is no source.
+fn statements_of(alloc: Global, text: &[u8]) -> u128
+    requires { length text.now ≤ 4194304 }
+{
+    match read(alloc, text) {
+        Ok(code) => statement_count(&code),
+        Err(_) => 0,
+    }
+}
+
 /// Readings of a source of 66,575 asserts.
 pub fn parsed(alloc: Global, times: u32) -> Result<u128, AllocError> {
     let mut text = Vec::new(alloc);
@@ -49,9 +72,7 @@ pub fn parsed(alloc: Global, times: u32) -> Result<u128, AllocError> {
     let mut total = 0u128;
     if text.len() <= 4_194_304 {
         for _ in 0..times {
-            if let Ok(source) = parse(alloc, &text) {
-                total = total.wrapping_add(source.statements().len() as u128);
-            }
+            total = total.wrapping_add(statements_of(alloc, &text));
         }
     }
     Ok(total)
@@ -129,12 +150,13 @@ fn size(circuit: &Circuit<Gold>) -> u128 {
     total
 }
 
-// The circuit of a source, and none where it has none over Goldilocks.
-fn gold_circuit(alloc: Global, source: &Source) -> Option<Circuit<Gold>>
+// The circuit of code, and none where it has none over Goldilocks.
+fn gold_circuit(alloc: Global, code: Code) -> Option<Circuit<Gold>>
+    requires { IsSomeCode code }
     ensures version { IfSome result (λ circuit. circuit.version ≡ 1) }
     ensures reduced { IfSome result (λ circuit. IsReduced ops circuit.layers) }
 {
-    match compile(alloc, source) {
+    match compile_code(alloc, code, Version::One) {
         Ok(AnyCircuit::Gold(circuit)) => Some(circuit),
         Ok(AnyCircuit::Gf(_)) => None,
         Err(_) => None,
@@ -147,8 +169,8 @@ fn circuit_of(alloc: Global, text: &[u8]) -> Option<Circuit<Gold>>
     ensures version { IfSome result (λ circuit. circuit.version ≡ 1) }
     ensures reduced { IfSome result (λ circuit. IsReduced ops circuit.layers) }
 {
-    match parse(alloc, text) {
-        Ok(source) => gold_circuit(alloc, &source),
+    match read(alloc, text) {
+        Ok(code) => gold_circuit(alloc, code),
         Err(_) => None,
     }
 }
@@ -176,23 +198,13 @@ fn compiled_size(alloc: Global, text: &[u8]) -> u128
     }
 }
 
-// How many statements a text has, and 0 where it is no source.
-fn statement_count(alloc: Global, text: &[u8]) -> u128
-    requires { length text.now ≤ 4194304 }
-{
-    match parse(alloc, text) {
-        Ok(source) => source.statements().len() as u128,
-        Err(_) => 0,
-    }
-}
-
 /// Readings of a source over 16,384 bits: how many statements it has.
 pub fn parity_parsed(alloc: Global, times: u32) -> Result<u128, AllocError> {
     let text = parity_source(alloc)?;
     let mut total = 0u128;
     if text.len() <= 4_194_304 {
         for _ in 0..times {
-            total = total.wrapping_add(statement_count(alloc, &text));
+            total = total.wrapping_add(statements_of(alloc, &text));
         }
     }
     Ok(total)

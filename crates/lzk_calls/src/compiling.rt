@@ -2,8 +2,9 @@
 
 ghost use Rattle.std.specs.Prelude.{◌≡◌, ◌≤◌, None, length, IfErr, IfOk, OnOk};
 ghost use Rattle.lzk_circbytes.specs.Files.{CircuitBytes};
-ghost use Rattle.lzk_expr.specs.View.{tree_of};
-ghost use Rattle.lzk_expr.specs.Sources.{SourceText};
+ghost use Rattle.lzk_expr.specs.Codes.{IsCodeOf};
+ghost use Rattle.lzk_expr.specs.CodeTexts.{IsCodeOfText};
+ghost use Rattle.lzk_expr.specs.Trees.{SourceTree};
 ghost use Rattle.lzk_level.specs.Bounds.{IsFaultOf};
 ghost use Rattle.lzk_calls.specs.Compiled.{CompiledAs, Compiles, CompilesAs, IsFileOf, IsUncompiled, limit_as};
 
@@ -11,38 +12,40 @@ use crate::refusal::Refusal;
 use crate::room::put;
 use crate::version::{Version, version_of};
 use lzk_circbytes::{AnyCircuit, encode};
-use lzk_expr::{Source, SourceError, parse};
-use lzk_level::{LevelError, compile_owned, compile_owned_v2};
+use lzk_expr::{Code, SourceError, read};
+use lzk_level::{LevelError, compile_code};
 use std::alloc::{AllocError, Global};
 
 /// The most bytes of a text.
 pub(crate) const MOST_TEXT: usize = 4_194_304;
 
-// The source of a text.
-fn source_of(alloc: Global, version: Version, text: &[u8]) -> Result<Source, Refusal>
-    ensures source { IfOk result (λ source. SourceText text.now (tree_of source)) }
+// The code of a text's source.
+fn code_of(alloc: Global, version: Version, text: &[u8]) -> Result<Code, Refusal>
+    ensures code { IfOk result (IsCodeOfText text.now) }
     ensures short { OnOk result (length text.now ≤ 4194304) }
     ensures refused { IfErr result (IsUncompiled version text.now) }
 {
     if text.len() > MOST_TEXT {
         return Err(Refusal::TooLong);
     }
-    match parse(alloc, text) {
-        Ok(source) => Ok(source),
+    match read(alloc, text) {
+        Ok(code) => Ok(code),
         Err(SourceError::Fault(fault)) => Err(Refusal::NoSource(fault)),
         Err(SourceError::OutOfMemory) => Err(Refusal::OutOfMemory),
     }
 }
 
-// The circuit of a source in this version.
-fn in_version(alloc: Global, source: Source, version: Version) -> Result<AnyCircuit, LevelError>
-    ensures compiled { IfOk result (CompiledAs version (tree_of source)) }
-    ensures within { IfOk result (λ _. limit_as version (tree_of source) ≡ None) }
-    ensures fault { IfErr result (IsFaultOf (limit_as version (tree_of source))) }
+// The circuit of a source's code in this version.
+fn in_version(alloc: Global, code: Code, version: Version) -> Result<AnyCircuit, LevelError>
+    ensures compiled { (source : SourceTree) → IsCodeOf code source → IfOk result (CompiledAs version source) }
+    ensures within { (source : SourceTree) → IsCodeOf code source
+        → IfOk result (λ _. limit_as version source ≡ None) }
+    ensures fault { (source : SourceTree) → IsCodeOf code source
+        → IfErr result (IsFaultOf (limit_as version source)) }
 {
     match version {
-        Version::One => compile_owned(alloc, source),
-        Version::Two => compile_owned_v2(alloc, source),
+        Version::One => compile_code(alloc, code, lzk_level::Version::One),
+        Version::Two => compile_code(alloc, code, lzk_level::Version::Two),
     }
 }
 
@@ -56,19 +59,14 @@ fn file_of(alloc: Global, circuit: AnyCircuit) -> Result<Vec<u8>, AllocError>
     }
 }
 
-// The file of a source's circuit.
-fn compiled_of(
-    alloc: Global,
-    version: Version,
-    text: &[u8],
-    source: Source,
-) -> Result<Vec<u8>, Refusal>
+// The file of the circuit of a text with this code.
+fn compiled_of(alloc: Global, version: Version, text: &[u8], code: Code) -> Result<Vec<u8>, Refusal>
     requires short { length text.now ≤ 4194304 }
-    requires source { SourceText text.now (tree_of source) }
+    requires code { IsCodeOfText text.now code }
     ensures file { IfOk result (λ bytes. IsFileOf version text.now bytes.items) }
     ensures refused { IfErr result (IsUncompiled version text.now) }
 {
-    match in_version(alloc, source, version) {
+    match in_version(alloc, code, version) {
         Ok(circuit) => match file_of(alloc, circuit) {
             Ok(bytes) => Ok(bytes),
             Err(_) => Err(Refusal::OutOfMemory),
@@ -83,8 +81,8 @@ fn compiled(alloc: Global, version: Version, text: &[u8]) -> Result<Vec<u8>, Ref
     ensures file { IfOk result (λ bytes. IsFileOf version text.now bytes.items) }
     ensures refused { IfErr result (IsUncompiled version text.now) }
 {
-    match source_of(alloc, version, text) {
-        Ok(source) => compiled_of(alloc, version, text, source),
+    match code_of(alloc, version, text) {
+        Ok(code) => compiled_of(alloc, version, text, code),
         Err(refusal) => Err(refusal),
     }
 }

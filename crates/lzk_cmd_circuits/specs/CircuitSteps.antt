@@ -3,6 +3,8 @@ use Rattle.std.specs.Prelude.{◌≡◌, ℕ, List, length, Some, None, Vec, Str
 use Rattle.std.specs.declared.alloc.Global.{Global}
 use Rattle.lzk_circbytes.specs.declared.any.AnyCircuit.{AnyCircuit}
 use Rattle.lzk_circbytes.specs.Files.{CircuitBytes}
+use Rattle.lzk_expr.specs.Codes.{Coded, IsCodeOf}
+use Rattle.lzk_expr.specs.CodeTexts.{IsCodeOfText}
 use Rattle.lzk_expr.specs.Trees.{SourceTree}
 use Rattle.lzk_field.specs.Ring.{Ops}
 use Rattle.lzk_level.specs.declared.fault.LevelFault.{LevelFault}
@@ -10,10 +12,11 @@ use Rattle.lzk_cmd_files.specs.declared.ending.Ending.{Ending}
 use Rattle.lzk_cmd_files.specs.declared.ending.Halt.{Halt}
 use Rattle.lzk_cmd_files.specs.declared.ending.Halt.TheVariants as halts
 use Rattle.lzk_cmd_circuits.specs.Compiled.{CompiledAs, compiled_text, limit_as}
-use Rattle.lzk_cmd_files.specs.Decoded.{level_refused}
+use Rattle.lzk_cmd_files.specs.Decoded.{source_files, level_refused}
 use Rattle.lzk_cmd_files.specs.Ends.{End as Ended}
 use Rattle.lzk_cmd_circuits.specs.Evaluated.{Evaluated}
-use Rattle.lzk_cmd_files.specs.Walks.{IsEnding}
+use Rattle.lzk_cmd_files.specs.Seen.{Seen}
+use Rattle.lzk_cmd_files.specs.Walks.{IsEnding, Decodes, Gives}
 use Rattle.lzk_cmd_words.specs.declared.words.Version.{Version}
 
 -- the end of an evaluation, as the code has it
@@ -25,6 +28,19 @@ abbrev pub Evaluates : {A : Type 0} → Ops A → (A → ℕ) → List A → Res
 Evaluates o number checks (Ok e) = IsEvaluation o number checks e
 Evaluates o number checks (Err halts.Memory) = Unit {0}
 Evaluates o number checks (Err (halts.End e)) = ⊥
+
+-- the code of the source that a text is, or the end at its first fault
+abbrev pub DecodesCode : List ℕ → List ℕ → Result Coded Halt → Type 0
+DecodesCode name text (Ok code) = IsCodeOfText text code
+DecodesCode name text (Err halt) = Decodes source_files (λ (source : SourceTree). source) name text (Err halt)
+
+-- the code of the source in a file, or the end at the file or at its first fault
+abbrev pub GivesCode : Seen → Seen → List ℕ → Result Coded Halt → Type 0
+GivesCode old new name (Ok code) =
+    (source : SourceTree)
+    × IsCodeOf code source
+    × Gives source_files (λ (source : SourceTree). source) old new name (Ok source)
+GivesCode old new name (Err halt) = Gives source_files (λ (source : SourceTree). source) old new name (Err halt)
 
 -- the bytes are the file of a circuit of the source in this version, and the text tells of it
 pub record IsCompiled (version : Version) (source : SourceTree) (circuit bytes text : List ℕ) : Type 0 where

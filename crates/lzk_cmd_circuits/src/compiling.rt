@@ -3,34 +3,34 @@
 ghost use Rattle.std.specs.Prelude.{◌≡◌, ◌≤◌, None, length, IfErr, IfOk, string_bytes};
 ghost use Rattle.lzk_circbytes.specs.Files.{CircuitBytes, IsFile};
 ghost use Rattle.lzk_circbytes.specs.Numbered.{shape};
-ghost use Rattle.lzk_expr.specs.View.{tree_of};
+ghost use Rattle.lzk_expr.specs.Codes.{IsCodeOf};
+ghost use Rattle.lzk_expr.specs.Trees.{SourceTree};
 ghost use Rattle.lzk_level.specs.Bounds.{IsFaultOf};
 ghost use Rattle.lzk_cmd_files.specs.Lines.{compiled_line};
 ghost use Rattle.lzk_cmd_circuits.specs.Compiled.{CompiledAs, CompileRun, CompileTree, compiled_text, limit_as, term_count};
-ghost use Rattle.lzk_cmd_files.specs.Decoded.{source_files};
 ghost use Rattle.lzk_cmd_files.specs.Seen.{seen};
-ghost use Rattle.lzk_cmd_files.specs.Walks.{Moves, OnlyReads, Decodes, Gives, WalksToPut};
-ghost use Rattle.lzk_cmd_circuits.specs.CircuitSteps.{Compiles};
+ghost use Rattle.lzk_cmd_files.specs.Walks.{Moves, OnlyReads, WalksToPut};
+ghost use Rattle.lzk_cmd_circuits.specs.CircuitSteps.{Compiles, DecodesCode, GivesCode};
 
 use lzk_circbytes::{AnyCircuit, encode};
 use lzk_circuit::Circuit;
 use lzk_cmd_files::{Ending, Halt, MOST_TEXT, Means, lines, put_file, read_file};
 use lzk_cmd_words::Version;
-use lzk_expr::{Source, SourceError, parse};
+use lzk_expr::{Code, SourceError, read};
 use lzk_field::{Field, Gate};
-use lzk_level::{LevelError, compile_owned, compile_owned_v2};
+use lzk_level::{LevelError, compile_code};
 use lzk_outside::Shelf;
 use std::alloc::{AllocError, Global};
 use std::marker::Sync;
 use std::thread::Threads;
 
-// The source of this text.
-fn source_of(alloc: Global, name: &str, text: &[u8]) -> Result<Source, Halt>
+// The code of this text's source.
+fn code_of(alloc: Global, name: &str, text: &[u8]) -> Result<Code, Halt>
     requires { length text.now ≤ 4194304 }
-    ensures { Decodes source_files (λ s. tree_of s) name.now text.now result }
+    ensures { DecodesCode name.now text.now result }
 {
-    match parse(alloc, text) {
-        Ok(source) => Ok(source),
+    match read(alloc, text) {
+        Ok(code) => Ok(code),
         Err(SourceError::OutOfMemory) => Err(Halt::Memory),
         Err(SourceError::Fault(fault)) => {
             let text = lines::refuse_source(alloc, name, fault)?;
@@ -39,14 +39,13 @@ fn source_of(alloc: Global, name: &str, text: &[u8]) -> Result<Source, Halt>
     }
 }
 
-// The source in a file.
-fn read_source<S: Shelf>(alloc: Global, shelf: &mut S, name: &str) -> Result<Source, Halt>
-    ensures gives { Gives source_files (λ s. tree_of s) (seen S.Shelf shelf.old) (seen S.Shelf shelf.new) name.now
-        result }
+// The code of the source in a file.
+fn read_source<S: Shelf>(alloc: Global, shelf: &mut S, name: &str) -> Result<Code, Halt>
+    ensures gives { GivesCode (seen S.Shelf shelf.old) (seen S.Shelf shelf.new) name.now result }
     ensures reads { OnlyReads (seen S.Shelf shelf.old) (seen S.Shelf shelf.new) }
 {
     let text = read_file(alloc, shelf, name, MOST_TEXT)?;
-    source_of(alloc, name, &text)
+    code_of(alloc, name, &text)
 }
 
 // How many terms all layers have together.
@@ -90,29 +89,31 @@ fn file_of(alloc: Global, circuit: &AnyCircuit, name: &str) -> Result<(Vec<u8>, 
     }
 }
 
-// The circuit of a source in this version.
-fn in_version(alloc: Global, source: Source, version: Version) -> Result<AnyCircuit, LevelError>
-    ensures compiled { IfOk result (CompiledAs version (tree_of source)) }
-    ensures within { IfOk result (λ _. limit_as version (tree_of source) ≡ None) }
-    ensures fault { IfErr result (IsFaultOf (limit_as version (tree_of source))) }
+// The circuit of a source's code in this version.
+fn in_version(alloc: Global, code: Code, version: Version) -> Result<AnyCircuit, LevelError>
+    ensures compiled { (source : SourceTree) → IsCodeOf code source → IfOk result (CompiledAs version source) }
+    ensures within { (source : SourceTree) → IsCodeOf code source
+        → IfOk result (λ _. limit_as version source ≡ None) }
+    ensures fault { (source : SourceTree) → IsCodeOf code source
+        → IfErr result (IsFaultOf (limit_as version source)) }
 {
     match version {
-        Version::One => compile_owned(alloc, source),
-        Version::Two => compile_owned_v2(alloc, source),
+        Version::One => compile_code(alloc, code, lzk_level::Version::One),
+        Version::Two => compile_code(alloc, code, lzk_level::Version::Two),
     }
 }
 
-// The file of a source's circuit and the line that tells of it, or the limit that the source passes.
+// The file of the circuit of a source's code and the line that tells of it, or the limit that the source passes.
 fn compiled(
     alloc: Global,
     name: &str,
-    source: Source,
+    code: Code,
     circuit: &str,
     version: Version,
 ) -> Result<(Vec<u8>, String), Halt>
-    ensures { Compiles version name.now circuit.now (tree_of source) result }
+    ensures { (source : SourceTree) → IsCodeOf code source → Compiles version name.now circuit.now source result }
 {
-    match in_version(alloc, source, version) {
+    match in_version(alloc, code, version) {
         Ok(made) => Ok(file_of(alloc, &made, circuit)?),
         Err(LevelError::OutOfMemory) => Err(Halt::Memory),
         Err(LevelError::Fault(fault)) => {
@@ -122,20 +123,21 @@ fn compiled(
     }
 }
 
-// Puts the file of a source's circuit.
-fn compile_tree<S: Shelf>(
+// Puts the file of the circuit of a source's code.
+fn put_compiled<S: Shelf>(
     alloc: Global,
     name: &str,
-    source: Source,
+    code: Code,
     circuit: &str,
     version: Version,
     shelf: &mut S,
 ) -> Result<Ending, Halt>
-    ensures walks { WalksToPut (λ files. CompileTree version name.now circuit.now (tree_of source)) 1
-        (seen S.Shelf shelf.old) (seen S.Shelf shelf.new) result }
+    ensures walks { (source : SourceTree) → IsCodeOf code source
+        → WalksToPut (λ files. CompileTree version name.now circuit.now source) 1 (seen S.Shelf shelf.old)
+        (seen S.Shelf shelf.new) result }
     ensures moves { Moves (seen S.Shelf shelf.old) (seen S.Shelf shelf.new) }
 {
-    let (bytes, text) = compiled(alloc, name, source, circuit, version)?;
+    let (bytes, text) = compiled(alloc, name, code, circuit, version)?;
     put_file(alloc, shelf, circuit, &bytes, text)
 }
 
@@ -151,6 +153,6 @@ pub fn compile_source<R: Threads + Sync, S: Shelf, G: Gate>(
         (seen S.Shelf shelf.new) result }
     ensures moves { Moves (seen S.Shelf shelf.old) (seen S.Shelf shelf.new) }
 {
-    let tree = read_source(means.alloc, shelf, source)?;
-    compile_tree(means.alloc, source, tree, circuit, version, shelf)
+    let code = read_source(means.alloc, shelf, source)?;
+    put_compiled(means.alloc, source, code, circuit, version, shelf)
 }

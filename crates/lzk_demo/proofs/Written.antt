@@ -76,14 +76,14 @@ privates_length : (i n : ℕ) → i + n + 1 < 100000 → length (privates_text i
 privates_length i zero few = omega arith
 privates_length i (suc n) few = omega (arith, length-append (private_line i) (privates_text (i + 1) n), private_length (input_name i) (input_short i (omega arith)), privates_length (i + 1) n (omega arith))
 
-length-inputs : (i n : ℕ) → length (inputs_from i n) ≡ n
-length-inputs i zero = refl
-length-inputs i (suc n) = omega (arith, length-inputs (i + 1) n)
+pub length-entries : (i n : ℕ) → length (inputs_from i n) ≡ n
+length-entries i zero = refl
+length-entries i (suc n) = omega (arith, length-entries (i + 1) n)
 
 pub demo_short : (n : ℕ) → 1 ≤ n → n ≤ 16384 → length (demo_text n) ≤ 4194304
 demo_short n some few =
     let es = inputs_from 0 n in
-    let long = length-inputs 0 n in
+    let long = length-entries 0 n in
     omega (
       arith,
       length-append head_text (privates_text 0 n ++ rounds_text n 0 es),
@@ -140,7 +140,7 @@ lets_found (suc n) k es j few h =
 pub demo_finds : (n : ℕ) → 1 ≤ n → Finds (names_of (demo_statements n)) n (n - 1)
 demo_finds n some =
     let es = inputs_from 0 n in
-    let long = length-inputs 0 n in
+    let long = length-entries 0 n in
     record {
       public = refl;
       privates = λ i lt. let e : 0 + i ≡ i = omega arith in private_found 0 n i (rounds n 0 es) lt ∙ ap input_name e;
@@ -218,7 +218,7 @@ unfolding source_text
 demo_printed n some =
     let names = names_of (demo_statements n) in
     let es = inputs_from 0 n in
-    let long = length-inputs 0 n in
+    let long = length-entries 0 n in
     let finds = demo_finds n some in
     let rest = privates_from 0 n ++ rounds n 0 es in
     let behind : flat_map (statement_line names) rest ≡ privates_text 0 n ++ rounds_text n 0 es = flat_map-append (statement_line names) (privates_from 0 n) (rounds n 0 es)
@@ -289,12 +289,12 @@ private_made n i ss more whole lt h m =
     ap (λ (l : List Statement). l ++ privates_from (i + 1) (n - (i + 1))) m ∙ append_assoc ss (DeclarePrivate (input_name i) ∷ []) _ ∙ ap (λ k. ss ++ privates_from i k) (sym e) ∙ h
 
 pub inputs_few : (n : ℕ) (es : List Entry) → es ≡ inputs_from 0 n → n ≤ 16384 → length es ≤ 16384
-inputs_few n es e few = omega (arith, ap length e, length-inputs 0 n)
+inputs_few n es e few = omega (arith, ap length e, length-entries 0 n)
 
 pub demo_made : (n : ℕ) (es : List Entry) (s0 s1 s2 s3 : List Statement) → s1 ≡ s0 ++ DeclarePublic (121 ∷ []) ∷ [] → s2 ≡ s1 ++ privates_from 0 n → es ≡ inputs_from 0 n → s3 ≡ s2 ++ rounds (length es) 0 es
     → s3 ≡ s0 ++ demo_statements n
 demo_made n es s0 s1 s2 s3 public privates e rest =
-    let long : length es ≡ n = ap length e ∙ length-inputs 0 n in
+    let long : length es ≡ n = ap length e ∙ length-entries 0 n in
     let start : s2 ≡ s0 ++ DeclarePublic (121 ∷ []) ∷ privates_from 0 n = privates ∙ ap (λ (l : List Statement). l ++ privates_from 0 n) public ∙ append_assoc s0 (DeclarePublic (121 ∷ []) ∷ []) _ in
     rest ∙ ap (λ (l : List Statement). l ++ rounds (length es) 0 es) start
     ∙ ap (λ (ds : List Entry). (s0 ++ DeclarePublic (121 ∷ []) ∷ privates_from 0 n) ++ rounds (length es) 0 ds) e

@@ -1,18 +1,20 @@
 //! The circuit.
 
-ghost use Rattle.std.specs.Prelude.{◌≡◌, ◌≤◌, length, IfOk};
+ghost use Rattle.std.specs.Prelude.{◌≡◌, ◌≤◌, length, IfOk, IfErr};
 ghost use Rattle.lzk_goldilocks.specs.Elements.{ops, number, of_number};
 ghost use Rattle.lzk_circuit.specs.Checks.{IsSatisfied};
 ghost use Rattle.lzk_circuit.specs.Wires.{inputs_of};
 ghost use Rattle.lzk_expr.specs.declared.ast.FieldId.TheVariants.{Goldilocks};
 ghost use Rattle.lzk_level.specs.Compiled.{HasValues, HasReducedLayers, field_of, source_layers};
+ghost use Rattle.lzk_level.specs.SomeCircuit.{IsCircuitOf};
+ghost use Rattle.lzk_level.specs.declared.fault.LevelError.TheVariants.{OutOfMemory};
 ghost use Rattle.lzk_demo.specs.Demo.{demo_tree, demo_statements, demo_public, demo_private, IsDemoDepth};
 
-use crate::source::demo_source;
+use crate::coding::demo_code;
 use lzk_circbytes::AnyCircuit;
 use lzk_circuit::Circuit;
 use lzk_goldilocks::Gold;
-use lzk_level::{LevelError, compile_owned};
+use lzk_level::{LevelError, Version, compile_code};
 use std::alloc::{AllocError, Global};
 
 // The circuit over the prime field that a circuit is.
@@ -24,6 +26,17 @@ fn gold(circuit: AnyCircuit) -> Circuit<Gold>
         AnyCircuit::Gold(circuit) => circuit,
         AnyCircuit::Gf(_) => unreachable!(),
     }
+}
+
+// The circuit of the source's code: it passes no limit.
+fn compiled(alloc: Global, n: u32) -> Result<AnyCircuit, LevelError>
+    requires some { 1 ≤ n }
+    requires few { n ≤ 16384 }
+    ensures circuit { IfOk result (IsCircuitOf (demo_tree n)) }
+    ensures memory { IfErr result (λ e. e ≡ OutOfMemory) }
+{
+    let code = demo_code(alloc, n)?;
+    compile_code(alloc, code, Version::One)
 }
 
 /// The reduced circuit of the source with `n` private inputs. `Err` where there is no memory for it: no limit is
@@ -43,8 +56,7 @@ pub fn demo_circuit(alloc: Global, n: u32) -> Result<Circuit<Gold>, AllocError>
     ensures satisfied { IfOk result
         (λ circuit. IsSatisfied ops number circuit.layers (inputs_of ops (demo_public ops n) (demo_private ops n))) }
 {
-    let source = demo_source(alloc, n)?;
-    match compile_owned(alloc, source) {
+    match compiled(alloc, n) {
         Ok(circuit) => {
             let circuit = gold(circuit);
             // That tells that the circuit is valid.

@@ -4,7 +4,7 @@ use Rattle.std.proofs.Common.{zero, suc, refl, sym, ap, ◌∙◌, arith, subst}
 use Rattle.std.proofs.lemmas.List.{length-append}
 use Rattle.lzk_field.specs.Ring.{Ops}
 use Rattle.lzk_field.specs.Sums.{entry}
-use Rattle.lzk_level.specs.declared.node.Gate.{Gate}
+use Rattle.lzk_level.specs.Gates.{Gate}
 use Rattle.lzk_level.specs.Nodes.{Nodes, node_count, node_values, with_gate, gate_value, IsNode}
 use Rattle.lzk_level.proofs.MadeLaws.{grown-next, node-more}
 use Rattle.lzk_level.proofs.ValueLaws.{Fits, values-grown, value-next, public-value, private-value}

@@ -6,11 +6,10 @@ use Rattle.std.proofs.Math.Seq.{get_or-append_seam}
 use Rattle.lzk_field.specs.Ring.{Ops}
 use Rattle.lzk_field.specs.Sums.{entry}
 use Rattle.lzk_circuit.specs.Wires.{inputs_of}
-use Rattle.lzk_level.specs.declared.node.Gate.{Gate}
+use Rattle.lzk_level.specs.Gates.{Gate, Constant, Combine, Mul}
 use Rattle.lzk_level.specs.declared.fault.LevelFault.{LevelFault}
 use Rattle.lzk_level.specs.declared.fault.LevelError.{LevelError}
 use Rattle.lzk_level.specs.declared.fault.LevelError.TheVariants.{Fault, OutOfMemory}
-use Rattle.lzk_level.specs.declared.node.Gate.TheVariants.{Constant, Combine, Mul}
 use Rattle.lzk_level.specs.Nodes.{Nodes, combined, gate_value, ArePartsOf, IsGate, AreGates, after}
 use Rattle.lzk_circuit_reduce.specs.Renumbering.{at}
 use Rattle.lzk_level.specs.Bounds.{at_parts, total, greatest, gate_depth, gate_weight, node_depths, layer_count, wire_bound, limit_fault, level_fault_with, level_fault, IsFaultOf, IsLevelError, node_weights}

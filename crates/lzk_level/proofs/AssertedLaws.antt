@@ -14,7 +14,7 @@ use Rattle.lzk_circuit_reduce.specs.Attached.{AreNarrowWith, IsAssertingForm}
 use Rattle.lzk_circuit_reduce.specs.Reduced.{HaveOnes, output_count}
 use Rattle.lzk_circuit_reduce.specs.Renumbering.{at}
 use Rattle.lzk_circuit_reduce.specs.Targets.{targets_at, AreTargets, AreAllTerms, target_count, target_values}
-use Rattle.lzk_level.specs.declared.node.Gate.{Gate}
+use Rattle.lzk_level.specs.Gates.{Gate}
 use Rattle.lzk_level.specs.Bounds.{greatest, total, node_depths, node_weights, layer_count, wire_bound, level_fault_v2}
 use Rattle.lzk_level.specs.Checking.{check_of, of_depth, by_depth, targets_below, KeepLimits, AreAsserts, AreAsserting}
 use Rattle.lzk_level.specs.Levels.{place_in, AreValues, Begins, HaveWidthsBelow, StandBelow}

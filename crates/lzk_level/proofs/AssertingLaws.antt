@@ -25,18 +25,10 @@ map-agree f g h [] same = refl
 map-agree f g h (k ∷ ks) same = ap (λ x. x ∷ map f (map h ks)) (same 0 (omega arith)) ∙ ap (λ xs. g k ∷ xs) (map-agree f g h ks (λ i l. same (suc i) (omega (arith, l))))
 
 module _ {A : Type 0} (depths last : List ℕ) where
-  width-at : (inputs : ℕ) (layers : List (Layer A)) → HaveWidths depths last inputs layers → (under_of inputs layers).width ≡ width_of depths last (length layers)
-  width-at inputs [] h = h
-  width-at inputs (layer ∷ layers) h = h.0
-
   -- there are no more wires than nodes in a level
   pub wires-few : (inputs : ℕ) (layers : List (Layer A)) → HaveWidths depths last inputs layers → (under_of inputs layers).wires ≤ length layers * length depths
   wires-few inputs [] h = omega arith
   wires-few inputs (layer ∷ layers) h = omega (arith, wires-few inputs layers h.1, h.0, place-most depths last (length (layer ∷ layers)) (length depths), suc-mul (length layers) (length depths))
-
-  pub stand-at : (o : Ops A) (values ins : List A) (layers : List (Layer A)) → StandFrom o depths last values ins layers → Stands o depths last (length layers) values (wires_of o layers ins)
-  stand-at o values ins [] h = h
-  stand-at o values ins (layer ∷ layers) h = h.0
 
 module _ (depths last asserts : List ℕ) (count : ℕ) (nodes : (i : ℕ) → i < length asserts → at asserts i < length depths)
     (needed : (i : ℕ) → i < length asserts → min count (at depths (at asserts i) + 1) ≤ at last (at asserts i)) where

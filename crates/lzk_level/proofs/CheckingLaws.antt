@@ -1,14 +1,13 @@
 -- Where asserted nodes stand when they are sorted by depth.
-use Rattle.std.specs.Prelude.{◌≡◌, ℕ, ◌+◌, ◌-◌, ◌<◌, ◌≤◌, ◌==◌, ◌&&◌, nat_lt, cond, true, false, Bool, List, [], ◌∷◌, ◌++◌, length, map, take, count_by}
+use Rattle.std.specs.Prelude.{◌≡◌, ℕ, ◌+◌, ◌<◌, ◌≤◌, ◌==◌, ◌&&◌, nat_lt, cond, true, false, Bool, List, [], ◌∷◌, ◌++◌, length, map, take, count_by}
 use Rattle.std.proofs.Common.{zero, suc, inl, inr, refl, sym, ap, ◌∙◌, arith, subst}
 use Rattle.std.proofs.lemmas.Bool.{cases_Bool, cases_lt, cases_order, lt-ltb, le-ltb, eq-eqb, ne_eqb, eqb-true}
-use Rattle.std.proofs.lemmas.List.{append-nil, append_assoc, map-append, length-append, get_or_append_left, get_or-append-add}
+use Rattle.std.proofs.lemmas.List.{append-nil, length-append, get_or_append_left, get_or-append-add}
 use Rattle.std.proofs.lemmas.List.Sums.{sum_by-cons}
 use Rattle.std.proofs.lemmas.List.Elements.{filter_more}
 use Rattle.lzk_circuit_reduce.specs.Renumbering.{at}
 use Rattle.lzk_level.specs.Bounds.{total, greatest}
-use Rattle.lzk_level.specs.Checking.{check_of, of_depth, by_depth, level_targets, targets_below}
-use Rattle.lzk_level.specs.Levels.{place_in}
+use Rattle.lzk_level.specs.Checking.{check_of, of_depth, by_depth}
 
 count-cons : (p : ℕ → Bool) (d : ℕ) (ds : List ℕ) → count_by p (d ∷ ds) ≡ cond (p d) 1 0 + count_by p ds
 count-cons p d ds = sum_by-cons (λ x. cond (p x) 1 0) d ds
@@ -92,22 +91,6 @@ module _ (depths : List ℕ) where
   pub depth-other : (d : ℕ) (ks : List ℕ) (i : ℕ) → i < length ks → (at depths (at ks i) ≡ d → ⊥) → of_depth depths d (take (i + 1) ks) ≡ of_depth depths d (take i ks)
   depth-other d ks i l n =
       filter_more (λ k. at depths k == d) ks i 0 l ∙ ap (λ b. of_depth depths d (take i ks) ++ cond b (at ks i ∷ []) []) (ne_eqb (at depths (at ks i)) d n) ∙ append-nil (of_depth depths d (take i ks))
-
-  -- one asserted node more
-  pub targets-here : (last : List ℕ) (d : ℕ) (ks : List ℕ) (i : ℕ) → i < length ks → at depths (at ks i) ≡ d → level_targets depths last d (take (i + 1) ks) ≡ level_targets depths last d (take i ks) ++ place_in depths last d (at ks i) ∷ []
-  targets-here last d ks i l e = ap (map (place_in depths last d)) (depth-here d ks i l e) ∙ map-append (place_in depths last d) (of_depth depths d (take i ks)) (at ks i ∷ [])
-
-  pub targets-other : (last : List ℕ) (d : ℕ) (ks : List ℕ) (i : ℕ) → i < length ks → (at depths (at ks i) ≡ d → ⊥) → level_targets depths last d (take (i + 1) ks) ≡ level_targets depths last d (take i ks)
-  targets-other last d ks i l n = ap (map (place_in depths last d)) (depth-other d ks i l n)
-
-  -- one level more
-  pub targets-more : (last asserts : List ℕ) (n l : ℕ) (xs : List (List ℕ)) → l < n
-      → (xs ++ level_targets depths last (n - 1 - l) asserts ∷ []) ++ targets_below depths last asserts (n - (l + 1)) ≡ xs ++ targets_below depths last asserts (n - l)
-  targets-more last asserts n l xs h =
-      let own = level_targets depths last (n - 1 - l) asserts in
-      let low : n - (l + 1) ≡ n - 1 - l = omega arith in
-      let high : n - l ≡ suc (n - 1 - l) = omega (arith, h) in
-      ap (λ k. (xs ++ own ∷ []) ++ targets_below depths last asserts k) low ∙ append_assoc xs (own ∷ []) (targets_below depths last asserts (n - 1 - l)) ∙ ap (λ k. xs ++ targets_below depths last asserts k) (sym high)
 
   pub depth-count : (d : ℕ) (ks : List ℕ) → length (of_depth depths d ks) ≡ count_by (λ e. e == d) (map (at depths) ks)
   depth-count d [] = refl

@@ -9,7 +9,7 @@ use Rattle.lzk_circuit.specs.declared.layer.Layer.{Layer}
 use Rattle.lzk_circuit.proofs.VersionLaws.{one-valid}
 use Rattle.lzk_circuit.specs.Valid.{wiring, wiring_of, AreLayers, AreLayersOf, IsValid}
 use Rattle.lzk_circuit.specs.Wires.{inputs_of}
-use Rattle.lzk_level.specs.declared.node.Gate.{Gate}
+use Rattle.lzk_level.specs.Gates.{Gate}
 use Rattle.lzk_level.specs.declared.fault.LevelFault.{LevelFault}
 use Rattle.lzk_level.specs.declared.fault.LevelFault.TheVariants.{Layers, LayerWires, Terms}
 use Rattle.lzk_level.specs.Nodes.{Nodes, nodes_from, node_values, gate_value, after, AreGates}

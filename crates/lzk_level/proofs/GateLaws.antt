@@ -4,9 +4,8 @@ use Rattle.std.proofs.Common.{zero, suc, inl, inr, refl, sym, ap, ◌∙◌, ari
 use Rattle.std.proofs.lemmas.Bool.{cases_lt}
 use Rattle.std.proofs.lemmas.List.{take_more, length-append, map-append, get_or_append_left}
 use Rattle.std.proofs.Math.Seq.{get_or-append_seam}
-use Rattle.lzk_level.specs.declared.node.Gate.{Gate}
-use Rattle.lzk_level.specs.declared.node.Gate.TheVariants.{Constant, Combine, Mul}
-use Rattle.lzk_level.specs.Nodes.{IsNode, ArePartsOf, IsGate, AreGates, after}
+use Rattle.lzk_level.specs.Gates.{Gate, Constant, Combine, Mul}
+use Rattle.lzk_level.specs.Nodes.{ArePartsOf, IsGate, AreGates, after}
 use Rattle.lzk_circuit_reduce.specs.Renumbering.{at}
 use Rattle.lzk_level.specs.Bounds.{at_parts, total, greatest, gate_depth, gate_weight}
 use Rattle.lzk_level.proofs.NodeLaws.{gate-at}
@@ -15,6 +14,12 @@ module _ {A : Type 0} where
   pub gates-more : (n m : ℕ) (made : List (Gate A)) (gate : Gate A) → m ≡ n + length made → AreGates n made → IsGate m gate → AreGates n (made ++ gate ∷ [])
   gates-more n m [] gate e h k = (let f : m ≡ n = omega (arith, e) in subst (λ i. IsGate i gate) f k, tt)
   gates-more n m (g ∷ gs) gate e h k = (h.0, gates-more (n + 1) m gs gate (omega (arith, e)) h.1 k)
+
+  -- a builder with one more gate
+  pub builder-more : (p q : ℕ) (made new : List (Gate A)) (gate : Gate A) → new ≡ made ++ gate ∷ [] → p + q + length made < 2147483648 → AreGates (p + q) made → IsGate (p + q + length made) gate
+      → (p + q + length new ≤ 2147483648) × AreGates (p + q) new
+  builder-more p q made new gate e room h k =
+      (omega (arith, room, ap length e, length-append made (gate ∷ [])), subst (AreGates (p + q)) (sym e) (gates-more (p + q) (p + q + length made) made gate refl h k))
 
 pub greatest-append : (m n : ℕ) (ns : List ℕ) → greatest m (ns ++ n ∷ []) ≡ max (greatest m ns) n
 greatest-append m n [] = omega arith
@@ -28,11 +33,6 @@ module _ {A : Type 0} where
   pub parts-more : (ns : List ℕ) (ps : List (A × ℕ)) (i : ℕ) (p : A × ℕ) → i < length ps → p ≡ get_or ps i p → at_parts ns (take (i + 1) ps) ≡ at_parts ns (take i ps) ++ at ns p.1 ∷ []
   parts-more ns ps i p l e =
       ap (at_parts ns) (take_more ps i p l) ∙ map-append (λ q. at ns q.1) (take i ps) (get_or ps i p ∷ []) ∙ ap (λ q. at_parts ns (take i ps) ++ at ns q.1 ∷ []) (sym e)
-
-  pub part-of : (n : ℕ) (ps : List (A × ℕ)) (i : ℕ) (p : A × ℕ) → i < length ps → p ≡ get_or ps i p → ArePartsOf n ps → IsNode n p.1
-  part-of n [] i p l e h = absurd (omega (arith, l))
-  part-of n (q ∷ qs) zero p l e h = subst (λ x. IsNode n x.1) (sym e) h.0
-  part-of n (q ∷ qs) (suc i) p l e h = part-of n qs i p (omega (arith, l)) e h.1
 
 pub numbers-more : (ns ks : List ℕ) (i k : ℕ) → i < length ks → k ≡ at ks i → map (at ns) (take (i + 1) ks) ≡ map (at ns) (take i ks) ++ at ns k ∷ []
 numbers-more ns ks i k l e = ap (map (at ns)) (take_more ks i 0 l) ∙ map-append (at ns) (take i ks) (at ks i ∷ []) ∙ ap (λ j. map (at ns) (take i ks) ++ at ns j ∷ []) (sym e)

@@ -1,7 +1,7 @@
 -- What the walks over a level's rows keep.
-use Rattle.std.specs.Prelude.{◌≡◌, ℕ, ◌+◌, ◌-◌, ◌<◌, ◌≤◌, cond, true, false, None, List, [], ◌∷◌, ◌++◌, length, map, take}
-use Rattle.std.proofs.Common.{zero, suc, ◌⊎◌, inl, inr, refl, sym, ap, ◌∙◌, arith, subst}
-use Rattle.std.proofs.lemmas.Bool.{cases_lt, cases_Bool, true≢false}
+use Rattle.std.specs.Prelude.{◌≡◌, ℕ, ◌+◌, ◌<◌, ◌≤◌, cond, true, false, None, List, [], ◌∷◌, ◌++◌, length, map, take}
+use Rattle.std.proofs.Common.{suc, ◌⊎◌, inl, inr, refl, sym, ap, ◌∙◌, arith, subst}
+use Rattle.std.proofs.lemmas.Bool.{cases_lt, true≢false}
 use Rattle.std.proofs.lemmas.List.{take_more}
 use Rattle.lzk_field.specs.Ring.{Ops}
 use Rattle.lzk_circuit.specs.declared.layer.Term.{Term}
@@ -10,8 +10,7 @@ use Rattle.lzk_circuit.specs.Wires.{coef, wire}
 use Rattle.lzk_circuit_reduce.specs.Renumbering.{at}
 use Rattle.lzk_circuit_reduce.specs.Rows.{IsRow, row_value, placed}
 use Rattle.lzk_level.specs.Levels.{place_in, row_at, has_wire, AreRows, lengths_in, lengths_of}
-use Rattle.lzk_level.specs.Stacking.{ArePassedBy}
-use Rattle.lzk_level.proofs.LevelLaws.{place-below, wire-there, wire-needed}
+use Rattle.lzk_level.proofs.LevelLaws.{place-below}
 use Rattle.lzk_level.proofs.NodeRowLaws.{all-rows}
 use Rattle.lzk_level.proofs.OneLaws.{FirstIsRow, first-none, first-skips, first-adds}
 
@@ -68,35 +67,6 @@ module _ {A : Type 0} (o : Ops A) where
         count = count ∙ ap (λ n. n + length row) i.count ∙ sym (ap (λ b. cond b (length (row_at rows k)) 0 + lengths_in depths last level rows k) here ∙ ap (λ us. length us + lengths_in depths last level rows k) (sym is) ∙ omega arith);
         one = first-adds depths last level rows k wires old new row i.next i.count is exact i.one;
       }
-
-  inner-jumps : (depths last : List ℕ) (level : ℕ) (rows : List (List (Term A))) (k d wires : ℕ) (terms : List (Term A)) → ((j : ℕ) → k ≤ j → j < k + d → has_wire depths last level j ≡ false) → Inner depths last level rows k wires terms
-      → Inner depths last level rows (k + d) wires terms
-  inner-jumps depths last level rows k zero wires terms away i = let same : k ≡ k + 0 = omega arith in subst (λ n. Inner depths last level rows n wires terms) same i
-  inner-jumps depths last level rows k (suc d) wires terms away i =
-      let next : suc (k + d) ≡ k + suc d = omega arith in
-      subst (λ n. Inner depths last level rows n wires terms) next
-      (inner-skips depths last level rows (k + d) wires terms (away (k + d) (omega arith) (omega arith)) (inner-jumps depths last level rows k d wires terms (λ j l m. away j l (omega (arith, m))) i))
-
-  wire-away : (depths last : List ℕ) (level k : ℕ) → at last k < level → has_wire depths last level k ≡ false
-  wire-away depths last level k low = elim (cases_Bool (has_wire depths last level k)) [ inl here ↦ absurd (omega (arith, low, wire-needed depths last level k here)) | inr away ↦ away ]
-
-  -- the first wire is that of the one, and no other node before this one has a wire
-  pub inner-begins : (depths last : List ℕ) (level first : ℕ) (rows : List (List (Term A))) (none terms row : List (Term A)) → at depths 0 ≡ 0 → level < at last 0 → 1 ≤ length rows → ArePassedBy last level first → none ≡ [] → row ≡ row_at rows 0
-      → ((width : ℕ) → AreTerms o 0 width None none → IsRow o width row → AreTerms o (0 + 1) width None terms)
-      → ((below : List A) (i : ℕ) → i < 0 → wire o (coef o terms) below i ≡ wire o (coef o none) below i)
-      → ((below : List A) → AreTerms o 0 (length below) None none → IsRow o (length below) row → wire o (coef o terms) below 0 ≡ row_value o below row)
-      → length terms ≡ length none + length row → terms ≡ none ++ map (placed 0) row → Inner depths last level rows first 1 terms
-  inner-begins depths last level first rows none terms row zero_depth high some p empty is ordered before added count exact =
-      let start = subst (Inner depths last level rows 0 0) (sym empty) (inner-starts depths last level rows) in
-      let one : Inner depths last level rows (suc 0) (0 + 1) terms = inner-adds depths last level rows 0 0 none terms row (wire-there depths last level 0 (omega (arith, zero_depth)) high) (omega (arith, some)) is ordered before added count exact start in
-      let last_is : 1 + (first - 1) ≡ first = omega (arith, p.some) in
-      subst (λ n. Inner depths last level rows n 1 terms) last_is
-      (inner-jumps depths last level rows 1 (first - 1) 1 terms (λ j l m. wire-away depths last level j (p.each j l (omega (arith, m, p.some)))) one)
-
-  -- the places of the nodes before it
-  pub places-begin : (depths last : List ℕ) (level first : ℕ) (places : List ℕ) → at places 0 ≡ 0 → ArePassedBy last level first → (j : ℕ) → j < first → has_wire depths last level j ≡ true → at places j ≡ place_in depths last level j
-  places-begin depths last level first places here p zero l there = here
-  places-begin depths last level first places here p (suc j) l there = absurd (true≢false (sym there ∙ wire-away depths last level (suc j) (p.each (suc j) (omega arith) l)))
 
   -- the terms of the first g outputs
   pub record Outer (rows : List (List (Term A))) (outputs : List ℕ) (g : ℕ) (terms : List (Term A)) : Type 0 where

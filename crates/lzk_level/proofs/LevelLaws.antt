@@ -41,14 +41,6 @@ place-step depths last level k l = ap (λ b. cond b 1 0 + place_in depths last l
 pub place-below : (depths last : List ℕ) (level k n : ℕ) → k < n → has_wire depths last level k ≡ true → place_in depths last level k < place_in depths last level n
 place-below depths last level k n l d = omega (arith, place-step depths last level k d, place-more depths last level (suc k) n l)
 
--- one more place
-pub places-next : (f : ℕ → ℕ) (there : ℕ → Bool) (old new : List ℕ) (x k : ℕ) → at new k ≡ x → ((j : ℕ) → j < k → at new j ≡ at old j) → x ≡ f k → ((j : ℕ) → j < k → there j ≡ true → at old j ≡ f j)
-    → (j : ℕ) → j < k + 1 → there j ≡ true → at new j ≡ f j
-places-next f there old new x k here before is h j l t = elim (cases_lt j k) [
-  | inl m ↦ before j m ∙ h j m t
-  | inr m ↦ subst (λ i. at new i ≡ f i) (let e : k ≡ j = omega (arith, l, m) in e) (here ∙ is)
-]
-
 module _ {A : Type 0} where
   -- one more row
   pub row-more : (P : ℕ → List (Term A) → Type 0) (rows : List (List (Term A))) (row : List (Term A)) → ((k : ℕ) → k < length rows → P k (row_at rows k)) → P (length rows) row
@@ -57,9 +49,3 @@ module _ {A : Type 0} where
   row-more P [] row f p (suc k) l = absurd (omega (arith, l))
   row-more P (r ∷ rs) row f p zero l = f 0 (omega arith)
   row-more P (r ∷ rs) row f p (suc k) l = row-more (λ i. P (suc i)) rs row (λ i m. f (suc i) (omega (arith, m))) p k (omega (arith, l))
-
-  -- the same, as a loop comes to it
-  pub row-next : (P : ℕ → List (Term A) → Type 0) (old seen new : List (List (Term A))) (x row : List (Term A)) → seen ≡ old → x ≡ row → new ≡ old ++ x ∷ [] → ((k : ℕ) → k < length old → P k (row_at old k)) → P (length seen) row
-      → (k : ℕ) → k < length new → P k (row_at new k)
-  row-next P old seen new x row s e n f p =
-      subst (λ rows. (k : ℕ) → k < length rows → P k (row_at rows k)) (sym n) (row-more P old x f (subst (λ rows. P (length rows) x) s (subst (P (length seen)) (sym e) p)))

@@ -2,8 +2,8 @@
 use Rattle.std.specs.Prelude.{◌≡◌, ℕ, ◌+◌, ◌≤◌, Bool, true, false, cond, List, [], ◌∷◌, Option, Some, None}
 use Rattle.std.proofs.Common.{refl, arith}
 use Rattle.lzk_expr.specs.Trees.{Expr, Number, PublicInput, PrivateInput, Named, Neg, Added, Multiplied, Parts, NoPart, part, Exprs, NoExpr, factor, Statement, DeclarePublic, DeclarePrivate, Define, Assertion}
-use Rattle.lzk_level.specs.declared.node.Gate.{Gate}
-use Rattle.lzk_level.specs.declared.node.Gate.TheVariants as gate
+use Rattle.lzk_level.specs.Gates.{Gate}
+use Rattle.lzk_level.specs.Gates as gate
 use Rattle.lzk_level.specs.declared.lets.Operand.{Operand}
 use Rattle.lzk_level.specs.declared.lets.Operand.TheVariants.{Constant, AtNode}
 use Rattle.lzk_level.specs.Nodes.{Nodes, node_count, input_count, with_gate, IsGate, AreGates}

@@ -7,8 +7,8 @@ use Rattle.lzk_expr.specs.declared.ast.Expr.{Expr as Held}
 use Rattle.lzk_expr.specs.declared.ast.Part.{Part}
 use Rattle.lzk_expr.specs.View.{expr_of, part_list, expr_list}
 use Rattle.lzk_expr.proofs.Trees.{part_is}
-use Rattle.lzk_level.specs.declared.node.Gate.{Gate}
-use Rattle.lzk_level.specs.declared.node.Gate.TheVariants as gate
+use Rattle.lzk_level.specs.Gates.{Gate}
+use Rattle.lzk_level.specs.Gates as gate
 use Rattle.lzk_level.specs.declared.lets.Operand.{Operand}
 use Rattle.lzk_level.specs.declared.lets.Operand.TheVariants.{Constant, AtNode}
 use Rattle.lzk_level.specs.Nodes.{Nodes, node_count, with_gate, IsNode, ArePartsOf}

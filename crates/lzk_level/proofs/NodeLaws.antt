@@ -6,8 +6,7 @@ use Rattle.lzk_field.specs.Ring.{Ops, RingLaws}
 use Rattle.lzk_field.specs.Sums.{entry}
 use Rattle.lzk_field.proofs.RingBasics.{one_times}
 use Rattle.lzk_circuit.specs.declared.layer.Term.{Term}
-use Rattle.lzk_level.specs.declared.node.Gate.{Gate}
-use Rattle.lzk_level.specs.declared.node.Gate.TheVariants.{Constant, Combine, Mul}
+use Rattle.lzk_level.specs.Gates.{Gate, Constant, Combine, Mul}
 use Rattle.lzk_level.specs.Nodes.{combined, gate_value, ArePartsOf, IsGate, AreGates}
 use Rattle.lzk_circuit_reduce.specs.Renumbering.{at}
 use Rattle.lzk_level.specs.Bounds.{at_parts, total, greatest, gate_depth, gate_weight}
@@ -112,11 +111,6 @@ module _ {A : Type 0} (o : Ops A) (r : RingLaws o) where
   pub copy-counts : (wires : List A) (p : ℕ) (x y : A) → entry o wires 0 ≡ o.one → x ≡ o.one → entry o wires p ≡ y → o.times x (o.times (entry o wires 0) (entry o wires p)) ≡ y
   copy-counts wires p x y one e is =
       ap (λ w. o.times w (o.times (entry o wires 0) (entry o wires p))) e ∙ one_times o r _ ∙ ap (λ w. o.times w (entry o wires p)) one ∙ one_times o r (entry o wires p) ∙ is
-
-module _ {A : Type 0} where
-  -- the one has a wire below each level up to its last
-  pub first-wire : (depths last : List ℕ) (inputs : ℕ) (made : List (Gate A)) (level : ℕ) → 1 ≤ inputs → AreDepths inputs made depths → level ≤ at last 0 → 1 ≤ level → has_wire depths last (level - 1) 0 ≡ true
-  first-wire depths last inputs made level first d high some = wire-there depths last (level - 1) 0 (omega (arith, d.at_inputs 0 first)) (omega (arith, high, some))
 
 module _ {A : Type 0} (o : Ops A) where
   -- what is known of the gate of node k in the level of its depth

@@ -1,22 +1,20 @@
 -- The rows of gates, and of the nodes that a level needs.
-use Rattle.std.specs.Prelude.{◌≡◌, ℕ, ◌+◌, ◌-◌, ◌<◌, ◌≤◌, min, max, true, List, [], ◌∷◌, ◌++◌, length, Result, Ok, Err, IfOk}
+use Rattle.std.specs.Prelude.{◌≡◌, ℕ, ◌-◌, ◌<◌, ◌≤◌, min, max, true, List, [], ◌∷◌, length}
 use Rattle.std.proofs.Common.{zero, suc, inl, inr, refl, sym, ap, ap₂, ◌∙◌, arith, subst, get_or}
 use Rattle.std.proofs.lemmas.Bool.{cases_lt}
 use Rattle.lzk_field.specs.Ring.{Ops, RingLaws, FieldLaws}
 use Rattle.lzk_field.specs.Sums.{entry}
 use Rattle.lzk_field.proofs.RingBasics.{one_times}
 use Rattle.lzk_circuit.specs.declared.layer.Term.{Term}
-use Rattle.lzk_circuit_reduce.specs.Rows.{IsRow, row_value, term_value, ordered}
+use Rattle.lzk_circuit_reduce.specs.Rows.{term_value, ordered}
 use Rattle.lzk_circuit_reduce.specs.Renumbering.{at}
 use Rattle.lzk_circuit_reduce.proofs.RowLaws.{row-of-one}
-use Rattle.lzk_level.specs.declared.node.Gate.{Gate}
-use Rattle.lzk_level.specs.declared.node.Gate.TheVariants.{Constant, Combine, Mul}
+use Rattle.lzk_level.specs.Gates.{Gate, Constant, Combine, Mul}
 use Rattle.lzk_level.specs.Nodes.{AreGates}
-use Rattle.lzk_level.specs.Levels.{place_in, width_of, has_wire, AreDepths, AreLast, AreRows, IsShort}
+use Rattle.lzk_level.specs.Levels.{place_in, width_of, has_wire, AreDepths, AreLast, AreRows}
 use Rattle.lzk_level.specs.NodeRows.{AreAllRows, IsSingle, IsSumOf, IsGateRow, IsNodeRow}
-use Rattle.lzk_level.specs.Stacking.{AreLevelRows, AreWirePlaces}
-use Rattle.lzk_level.proofs.LevelLaws.{place-below, wire-there, row-next}
-use Rattle.lzk_level.proofs.OneLaws.{starts-with-one}
+use Rattle.lzk_level.specs.Stacking.{AreWirePlaces}
+use Rattle.lzk_level.proofs.LevelLaws.{place-below, wire-there}
 use Rattle.lzk_level.proofs.NodeLaws.{gate-counts, copy-counts, first-one, heavy, gate-short, factors-below, gate-facts}
 
 module _ {A : Type 0} (o : Ops A) where
@@ -24,21 +22,6 @@ module _ {A : Type 0} (o : Ops A) where
   all-rows width [] h k = tt
   all-rows width (r ∷ rs) h zero = h 0 (omega arith)
   all-rows width (r ∷ rs) h (suc k) = all-rows width rs (λ i l. h (suc i) (omega (arith, l))) k
-
-module _ {A : Type 0} (o : Ops A) (r : RingLaws o) where
-  -- one term in a row that had none
-  pub single-of : {X E : Type 0} (result : Result X E) (c : A) (a b : ℕ) (none row : List (Term A)) → none ≡ []
-      → ((width : ℕ) → a < width → b < width → IfOk result (λ _. IsRow o width row))
-      → ((below : List A) → IfOk result (λ _. row_value o below row ≡ o.plus (o.times c (o.times (entry o below a) (entry o below b))) (row_value o below none)))
-      → IfOk result (λ _. length row ≤ length none + 1) → IfOk result (λ _. IsSingle o c a b row)
-  single-of (Err e) c a b none row is terms value short = tt
-  single-of (Ok x) c a b none row is terms value short = record {
-    terms = terms;
-    value = λ below.
-        let product = o.times c (o.times (entry o below a) (entry o below b)) in
-        value below ∙ ap (λ us. o.plus product (row_value o below us)) is ∙ r.plus_zero product;
-    short = omega (arith, short, ap length is);
-  }
 
 module _ {A : Type 0} (o : Ops A) (r : RingLaws o) (places : List ℕ) (rows : List (List (Term A))) where
   pub constant-row : (c : A) (row : List (Term A)) → IsSingle o c 0 0 row → IsGateRow o places rows (Constant c) row
@@ -111,23 +94,3 @@ module _ {A : Type 0} (o : Ops A) (r : RingLaws o) (f : FieldLaws o) (made : Lis
             ((λ less. absurd (omega (arith, less, least))), (λ some. omega (arith, n.short, lighter, facts.weight weights h)));
         one = λ none. absurd (omega (arith, none, behind, first));
       }
-
-module _ {A : Type 0} (o : Ops A) where
-  pub copy-term : (c : A) (p : ℕ) → c ≡ o.one → record { g = 0; a = 0; b = p; coef = c } ≡ ordered o.one 0 p
-  copy-term c p is =
-      let one : A → Term A = λ x. record { g = 0; a = 0; b = p; coef = x } in
-      let over : ℕ → ℕ → Term A = λ a b. record { g = 0; a = a; b = b; coef = o.one } in
-      let lesser : 0 ≡ min 0 p = omega arith in
-      let greater : p ≡ max 0 p = omega arith in
-      ap one is ∙ ap₂ over lesser greater
-
-  -- the rows of a level's first nodes, and the next one's
-  pub next-are : (inputs : ℕ) (made : List (Gate A)) (depths last : List ℕ) (level : ℕ) (old new : List (List (Term A))) (row : List (Term A)) → new ≡ old ++ row ∷ []
-      → IsNodeRow o inputs made depths last level old row → AreLevelRows o inputs made depths last level old → AreLevelRows o inputs made depths last level new
-  next-are inputs made depths last level old new row n e h = record {
-    row = row-next (λ k us. IsRow o (width_of depths last (level - 1)) us) old old new row row refl refl n h.row (e.terms h.row);
-    value = λ values wires v s.
-        row-next (λ k us. at depths k ≤ level → level ≤ at last k → row_value o wires us ≡ entry o values k) old old new row row refl refl n (h.value values wires v s) (e.value values wires v s (h.value values wires v s));
-    short = λ weights w. row-next (λ k us. IsShort depths level weights k (length us)) old old new row row refl refl n (h.short weights w) (e.short weights w (h.short weights w));
-    one = λ some. starts-with-one o old old new row row refl refl n h.one e.one;
-  }

@@ -10,8 +10,7 @@ use Rattle.lzk_circuit_reduce.specs.Rows.{row_value, term_value, ordered, multip
 use Rattle.lzk_circuit_reduce.specs.Renumbering.{at}
 use Rattle.lzk_circuit_reduce.proofs.NormalLaws.{ZeroOrNot, AreOfRow, of-row-append, ordered-of-row, ordered-value, IsNormal, normal}
 use Rattle.lzk_circuit_reduce.proofs.RowLaws.{multiple-value, value-append}
-use Rattle.lzk_level.specs.declared.node.Gate.{Gate}
-use Rattle.lzk_level.specs.declared.node.Gate.TheVariants.{Constant, Combine, Mul}
+use Rattle.lzk_level.specs.Gates.{Gate, Constant, Combine, Mul}
 use Rattle.lzk_level.specs.Nodes.{combined}
 use Rattle.lzk_level.specs.Bounds.{at_parts, total}
 use Rattle.lzk_level.specs.Levels.{row_at}

@@ -11,8 +11,7 @@ use Rattle.lzk_circuit.specs.declared.layer.Term.{Term}
 use Rattle.lzk_circuit_reduce.specs.Rows.{IsRow, row_value, ordered}
 use Rattle.lzk_circuit_reduce.specs.Renumbering.{at}
 use Rattle.lzk_circuit_reduce.proofs.NormalLaws.{ZeroOrNot}
-use Rattle.lzk_level.specs.declared.node.Gate.{Gate}
-use Rattle.lzk_level.specs.declared.node.Gate.TheVariants.{Constant}
+use Rattle.lzk_level.specs.Gates.{Gate, Constant}
 use Rattle.lzk_level.specs.Nodes.{AreGates}
 use Rattle.lzk_level.specs.Levels.{place_in, width_of, ArePlaces, StartsWithOne, AreDepths, AreLast, AreWeights, AreValues, AreRows, AreShort, IsShort, HaveValues, Stands}
 use Rattle.lzk_level.specs.NodeRows.{IsNodeRow}

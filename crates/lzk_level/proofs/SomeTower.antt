@@ -12,17 +12,29 @@ use Rattle.lzk_circuit_reduce.specs.Rows.{placed}
 use Rattle.lzk_circuit_reduce.specs.Renumbering.{at}
 use Rattle.lzk_circuit_reduce.proofs.AppendLaws.{stacked-terms, stacked-before, stacked-added}
 use Rattle.lzk_circuit_reduce.proofs.NormalLaws.{ZeroOrNot}
-use Rattle.lzk_level.specs.declared.node.Gate.{Gate}
-use Rattle.lzk_level.specs.declared.node.Gate.TheVariants.{Constant, Combine, Mul}
+use Rattle.lzk_level.specs.Gates.{Gate, Constant, Combine, Mul}
 use Rattle.lzk_level.specs.Nodes.{ArePartsOf, IsGate, AreGates}
 use Rattle.lzk_level.specs.Levels.{place_in, width_of, row_at, has_wire, AreDepths, AreLast, AreNeeded, ArePartsNeeded, lengths_in, lengths_of}
 use Rattle.lzk_level.specs.Stacking.{AreStacked}
 use Rattle.lzk_level.proofs.InnerLaws.{Inner, inner-starts, inner-skips, inner-adds, Outer, outer-starts, outer-adds}
 use Rattle.lzk_level.proofs.NodeLaws.{gate-at}
-use Rattle.lzk_level.proofs.LastLaws.{more-nodes}
 use Rattle.lzk_level.proofs.OneLaws.{has-one}
 use Rattle.lzk_level.proofs.SomeLevelRows.{level-rows}
 use Rattle.lzk_level.proofs.TowerLaws.{Tower, tower-starts, tower-adds, tower-ends}
+
+module _ {A : Type 0} where
+  -- a gate over the first nodes is one over more
+  more-parts : (m n : ℕ) (ps : List (A × ℕ)) → m ≤ n → ArePartsOf m ps → ArePartsOf n ps
+  more-parts m n [] l h = tt
+  more-parts m n (p ∷ ps) l h = let node = h.0 in ((node.0, omega (arith, node.1, l)), more-parts m n ps l h.1)
+
+  more-nodes : (m n : ℕ) (gate : Gate A) → m ≤ n → IsGate m gate → IsGate n gate
+  more-nodes m n (Constant c) l h = tt
+  more-nodes m n (Combine parts) l h = (h.0, more-parts m n parts l h.1)
+  more-nodes m n (Mul x y) l h =
+      let left = h.0 in
+      let right = h.1 in
+      ((left.0, omega (arith, left.1, l)), (right.0, omega (arith, right.1, l)))
 
 module _ {A : Type 0} (o : Ops A) (r : RingLaws o) (rows : List (List (Term A))) where
   -- the terms of an inner layer

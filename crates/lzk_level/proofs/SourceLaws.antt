@@ -8,7 +8,7 @@ use Rattle.lzk_field.specs.Sums.{entry, minus}
 use Rattle.lzk_field.proofs.RingBasics.{one_times, neg_times}
 use Rattle.lzk_expr.specs.Trees.{Expr, Statement, DeclarePublic, DeclarePrivate, Define, Assertion, is_public, is_private, is_assertion}
 use Rattle.lzk_expr.specs.SourceValues.{given, value_of, assert_values, source_value}
-use Rattle.lzk_level.specs.declared.node.Gate.TheVariants as gate
+use Rattle.lzk_level.specs.Gates as gate
 use Rattle.lzk_level.specs.declared.lets.Operand.{Operand}
 use Rattle.lzk_level.specs.declared.lets.Operand.TheVariants.{Constant, AtNode}
 use Rattle.lzk_level.specs.Nodes.{Nodes, node_count, IsNode, node_values}

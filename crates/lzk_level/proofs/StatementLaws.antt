@@ -5,7 +5,7 @@ use Rattle.lzk_field.specs.Ring.{Ops}
 use Rattle.lzk_expr.specs.Trees.{Expr, Statement, DeclarePublic, DeclarePrivate, Define, Assertion}
 use Rattle.lzk_expr.specs.View.{statement_of, statements_of}
 use Rattle.lzk_expr.specs.declared.ast.Statement as memory
-use Rattle.lzk_level.specs.declared.node.Gate.TheVariants as gate
+use Rattle.lzk_level.specs.Gates as gate
 use Rattle.lzk_level.specs.declared.lets.Operand.{Operand}
 use Rattle.lzk_level.specs.declared.lets.Operand.TheVariants.{Constant, AtNode}
 use Rattle.lzk_level.specs.Nodes.{Nodes, node_count, ArePartsOf}

@@ -13,8 +13,7 @@ use Rattle.lzk_circuit.specs.declared.layer.Term.{Term}
 use Rattle.lzk_circuit.specs.declared.layer.Layer.{Layer}
 use Rattle.lzk_circuit.specs.Valid.{under_of, AreTerms, AreLayers}
 use Rattle.lzk_circuit.specs.Wires.{coef, wire, layer_values, wires_of}
-use Rattle.lzk_level.specs.declared.node.Gate.{Gate}
-use Rattle.lzk_level.specs.declared.node.Gate.TheVariants.{Constant, Combine, Mul}
+use Rattle.lzk_level.specs.Gates.{Gate, Constant, Combine, Mul}
 use Rattle.lzk_level.specs.Nodes.{AreGates}
 use Rattle.lzk_circuit_reduce.specs.Renumbering.{at}
 use Rattle.lzk_level.specs.Bounds.{at_parts, total, greatest, gate_depth}

@@ -10,8 +10,8 @@ use Rattle.lzk_field.proofs.RingBasics.{one_times, times_left_comm, neg_times}
 use Rattle.lzk_circuit.specs.Wires.{inputs_of}
 use Rattle.lzk_expr.specs.Trees.{Expr, Number, PublicInput, PrivateInput, Named, Neg, Added, Multiplied, Parts, NoPart, part, Exprs, NoExpr, factor}
 use Rattle.lzk_expr.specs.SourceValues.{Given, given, signed, value_of, parts_value, factors_value}
-use Rattle.lzk_level.specs.declared.node.Gate.{Gate}
-use Rattle.lzk_level.specs.declared.node.Gate.TheVariants as gate
+use Rattle.lzk_level.specs.Gates.{Gate}
+use Rattle.lzk_level.specs.Gates as gate
 use Rattle.lzk_level.specs.declared.lets.Operand.{Operand}
 use Rattle.lzk_level.specs.declared.lets.Operand.TheVariants.{Constant, AtNode}
 use Rattle.lzk_level.specs.Nodes.{Nodes, node_count, with_gate, IsNode, after, gate_value, node_values, combined}

@@ -1,8 +1,7 @@
 -- How deep and how heavy nodes are, and when a circuit of them keeps the limits.
 use Rattle.std.specs.Prelude.{◌≡◌, ℕ, ◌+◌, ◌-◌, ◌*◌, ◌^◌, max, min, nat_le, length, if◌then◌else◌, List, [], ◌∷◌, map, replicate, Option, Some, None}
 use Rattle.lzk_profile.specs.Profile.{most_wires, most_total}
-use Rattle.lzk_level.specs.declared.node.Gate.{Gate}
-use Rattle.lzk_level.specs.declared.node.Gate.TheVariants.{Constant, Combine, Mul}
+use Rattle.lzk_level.specs.Gates.{Gate, Constant, Combine, Mul}
 use Rattle.lzk_level.specs.declared.fault.LevelFault.{LevelFault}
 use Rattle.lzk_level.specs.declared.fault.LevelFault.TheVariants.{Layers, LayerWires, Terms}
 use Rattle.lzk_level.specs.declared.fault.LevelError.{LevelError}

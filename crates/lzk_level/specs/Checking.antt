@@ -15,7 +15,7 @@ use Rattle.lzk_circuit_reduce.specs.Renumbering.{at}
 use Rattle.lzk_level.specs.Bounds.{node_depths, layer_count, total, greatest}
 use Rattle.lzk_level.specs.Levels.{place_in, IsGraph, AreWeights, AreValues, Begins}
 use Rattle.lzk_level.specs.Nodes.{Nodes, node_values}
-use Rattle.lzk_level.specs.declared.node.Gate.{Gate}
+use Rattle.lzk_level.specs.Gates.{Gate}
 
 -- The place of the k-th of nodes with these depths, when they stand by depth from the largest, those of one depth in
 -- their order: so many are deeper, and so many are as deep and stand before it.

@@ -3,8 +3,8 @@ use Rattle.std.specs.Prelude.{ℕ, ◌+◌, Bool, true, false, ◌&&◌, cond, L
 use Rattle.lzk_field.specs.Ring.{Ops}
 use Rattle.lzk_expr.specs.Trees.{Expr, Number, PublicInput, PrivateInput, Named, Neg, Added, Multiplied, Parts, NoPart, part, Exprs, NoExpr, factor, Statement, DeclarePublic, DeclarePrivate, Define, Assertion, is_public, is_private}
 use Rattle.lzk_expr.specs.SourceValues.{Given, given, value_of, parts_value, factors_value, signed}
-use Rattle.lzk_level.specs.declared.node.Gate.{Gate}
-use Rattle.lzk_level.specs.declared.node.Gate.TheVariants as gate
+use Rattle.lzk_level.specs.Gates.{Gate}
+use Rattle.lzk_level.specs.Gates as gate
 use Rattle.lzk_level.specs.declared.lets.Operand.{Operand}
 use Rattle.lzk_level.specs.declared.lets.Operand.TheVariants as operand
 use Rattle.lzk_level.specs.Nodes.{Nodes, node_count, with_gate}

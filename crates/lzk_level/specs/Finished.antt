@@ -17,6 +17,11 @@ pub record AreBuilt {A : Type 0} (o : Ops A) (element : ℕ → A) (ss : List St
   pub nodes : n ≡ (nodes_of o element ss).nodes
   pub outputs_are : outputs ≡ (nodes_of o element ss).outputs
 
+-- those of some source
+pub record IsSomeBuilt {A : Type 0} (o : Ops A) (element : ℕ → A) (n : Nodes A) (outputs : List ℕ) : Type 0 where
+  pub statements : List Statement
+  pub built : AreBuilt o element statements n outputs
+
 -- their circuit of version 1
 pub record IsCircuitOver {A : Type 0} (o : Ops A) (element : ℕ → A) (ss : List Statement) (c : Wiring A) : Type 0 where
   pub version_is : c.version ≡ 1

@@ -8,8 +8,7 @@ use Rattle.lzk_field.specs.Sums.{entry}
 use Rattle.lzk_circuit.specs.declared.layer.Layer.{Layer}
 use Rattle.lzk_circuit.specs.declared.layer.Term.{Term}
 use Rattle.lzk_circuit.specs.Wires.{wires_of}
-use Rattle.lzk_level.specs.declared.node.Gate.{Gate}
-use Rattle.lzk_level.specs.declared.node.Gate.TheVariants.{Constant, Combine, Mul}
+use Rattle.lzk_level.specs.Gates.{Gate, Constant, Combine, Mul}
 use Rattle.lzk_level.specs.Nodes.{AreGates, combined, gate_value}
 use Rattle.lzk_circuit_reduce.specs.Renumbering.{at}
 use Rattle.lzk_level.specs.Bounds.{gate_depth, gate_weight}

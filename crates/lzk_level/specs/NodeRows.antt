@@ -3,7 +3,7 @@ use Rattle.std.specs.Prelude.{◌≡◌, ℕ, ◌-◌, ◌≤◌, ◌<◌, List,
 use Rattle.lzk_field.specs.Ring.{Ops}
 use Rattle.lzk_field.specs.Sums.{entry}
 use Rattle.lzk_circuit.specs.declared.layer.Term.{Term}
-use Rattle.lzk_level.specs.declared.node.Gate.{Gate}
+use Rattle.lzk_level.specs.Gates.{Gate}
 use Rattle.lzk_level.specs.Nodes.{combined}
 use Rattle.lzk_level.specs.Bounds.{at_parts, total, gate_weight}
 use Rattle.lzk_level.specs.Levels.{width_of, row_at, AreRows, AreFactorsBelow, placed_value}

@@ -4,8 +4,7 @@ use Rattle.std.specs.Coded.{×_prop, Unit-prop, le_prop}
 use Rattle.lzk_field.specs.Ring.{Ops}
 use Rattle.lzk_field.specs.Sums.{entry}
 use Rattle.lzk_circuit.specs.Wires.{inputs_of}
-use Rattle.lzk_level.specs.declared.node.Gate.{Gate}
-use Rattle.lzk_level.specs.declared.node.Gate.TheVariants.{Constant, Combine, Mul}
+use Rattle.lzk_level.specs.Gates.{Gate, Constant, Combine, Mul}
 
 -- The nodes of a builder: its inputs, and those that were made, in order. They are numbered from 1, the public inputs
 -- first; number 0 is the one, which is no node.

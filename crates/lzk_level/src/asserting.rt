@@ -8,19 +8,21 @@ ghost use Rattle.lzk_circuit.specs.Valid.{IsValid, wiring_of};
 ghost use Rattle.lzk_circuit_reduce.specs.Attached.{IsReducedAsserting};
 ghost use Rattle.lzk_circuit_reduce.specs.Renumbering.{at};
 ghost use Rattle.lzk_level.specs.Bounds.{layer_count, level_fault_v2, IsFaultOf};
-ghost use Rattle.lzk_level.specs.Checking.{of_depth, level_targets, targets_below, HasChecks, HasFewOutputs, AreAsserts, AreAsserting};
+ghost use Rattle.lzk_level.specs.Checking.{of_depth, HasChecks, HasFewOutputs, AreAsserts, AreAsserting};
 ghost use Rattle.lzk_level.specs.Layouts.{IsLaidOutV2};
 ghost use Rattle.lzk_level.specs.Nodes.{IsNode, node_count};
 
 use crate::builder::Builder;
 use crate::fault::LevelError;
-use crate::finish::{measured, stacked_levels};
+use crate::finish::measured;
+use crate::forms::forms_of;
+use crate::gates::Gates;
 use crate::graph::Graph;
-use crate::last::last_asserting;
-use crate::levels::places;
-use crate::node::{Gate, Node, of_node};
+use crate::node::{Node, of_node};
+use crate::tower::stacked;
+use crate::uses::last_asserting;
 use lzk_circuit::{Circuit, Layer};
-use lzk_circuit_reduce::{Targets, asserting};
+use lzk_circuit_reduce::asserting_used;
 use lzk_field::Field;
 use std::alloc::{AllocError, Global};
 
@@ -43,45 +45,6 @@ fn of_depth(
     Ok(found)
 }
 
-// The wires of a level that are those of the asserted nodes of its depth.
-fn level_targets<F>(
-    alloc: Global,
-    graph: &Graph<'_, F>,
-    level: u32,
-    asserts: &[Node],
-) -> Result<Targets, AllocError>
-    requires nodes { (i : ℕ) → i < length asserts.now → at asserts.now i < length graph.now.depths.now }
-    ensures { IfOk result (λ wires. wires ≡ level_targets graph.now.depths.now graph.now.last.now level asserts.now) }
-{
-    let places = places(alloc, graph, level)?;
-    let mut wires = Vec::new(alloc);
-    for i in 0..asserts.len() {
-        let k = asserts[i].number() as usize;
-        if graph.depths[k] == level {
-            wires.push(places[k])?;
-        }
-    }
-    Ok(Targets::new(wires))
-}
-
-// What the layers assert, the outputs' layer first.
-fn all_targets<F>(
-    alloc: Global,
-    graph: &Graph<'_, F>,
-    asserts: &[Node],
-    count: u32,
-) -> Result<Vec<Targets>, AllocError>
-    requires nodes { (i : ℕ) → i < length asserts.now → at asserts.now i < length graph.now.depths.now }
-    ensures { IfOk result
-        (λ targets. targets.items ≡ targets_below graph.now.depths.now graph.now.last.now asserts.now count) }
-{
-    let mut targets = Vec::with_capacity(alloc, count as usize)?;
-    for l in 0..count {
-        targets.push(level_targets(alloc, graph, count - 1 - l, asserts)?)?;
-    }
-    Ok(targets)
-}
-
 fn circuit_of<F: Field>(publics: u32, privates: u32, layers: Vec<Layer<F>>) -> Circuit<F>
     requires { IsValid F.ops (wiring_of 2 publics privates layers.items) }
     ensures { result ≡ wiring_of 2 publics privates layers.items }
@@ -96,7 +59,7 @@ fn circuit_of<F: Field>(publics: u32, privates: u32, layers: Vec<Layer<F>>) -> C
 fn asserting_layers<F: Field>(
     alloc: Global,
     inputs: u32,
-    made: &[Gate<F>],
+    made: &Gates<F>,
     depths: &[u32],
     asserts: &[Node],
     count: u32,
@@ -105,18 +68,17 @@ fn asserting_layers<F: Field>(
     ensures { IfOk result
         (λ layers. AreAsserting F.ops F.coding.number inputs made.now depths.now asserts.now count layers.items) }
 {
+    let forms = forms_of(alloc, inputs as usize, made, depths)?;
     let outputs = of_depth(alloc, depths, asserts, count)?;
-    let last = last_asserting(alloc, inputs as usize, made, depths, asserts, count)?;
+    let last = last_asserting(alloc, inputs as usize, &forms, depths, asserts, count)?;
     let graph = Graph {
         inputs: inputs as usize,
-        made,
+        forms: &forms,
         depths,
         last: &last,
     };
-    let mut layers = stacked_levels(alloc, &graph, &outputs, count)?;
-    layers.reverse();
-    let targets = all_targets(alloc, &graph, asserts, count)?;
-    asserting(alloc, inputs, &layers, &targets)
+    let tower = stacked(alloc, &graph, &outputs, asserts, count)?;
+    asserting_used(alloc, inputs, tower.layers, tower.targets)
 }
 
 // The reduced circuit whose checks are those of these nodes.
@@ -132,7 +94,7 @@ fn laid_out<F: Field>(builder: &Builder<F>, asserts: &[Node]) -> Result<Circuit<
     let layers = asserting_layers(
         builder.alloc,
         inputs,
-        &builder.made,
+        &builder.gates,
         &depths,
         asserts,
         count,

@@ -1,11 +1,12 @@
 //! Builders.
 
-ghost use Rattle.std.specs.Prelude.{◌≡◌, ◌+◌, ◌<◌, ◌≤◌, length, IfOk, OnErr, [], ◌++◌, ◌∷◌};
+ghost use Rattle.std.specs.Prelude.{◌≡◌, ◌+◌, ◌<◌, ◌≤◌, length, take, IfOk, OnErr, [], ◌++◌, ◌∷◌};
 ghost use Rattle.lzk_profile.specs.Profile.{most_privates};
-ghost use Rattle.lzk_level.specs.Nodes.{node_count, with_gate, IsNode, IsGate, ArePartsOf};
-ghost use Rattle.lzk_level.specs.declared.node.Gate.TheVariants.{Constant, Combine, Mul};
+ghost use Rattle.lzk_level.specs.Nodes.{node_count, nodes_from, with_gate, IsNode, ArePartsOf};
+ghost use Rattle.lzk_level.specs.Gates.{Constant, Combine, Mul};
 
-use crate::node::{Gate, Node, Parts};
+use crate::gates::Gates;
+use crate::node::Node;
 use lzk_field::Field;
 use std::alloc::{AllocError, Global};
 use std::marker::Model;
@@ -16,7 +17,7 @@ pub struct Builder<F: Field> {
     pub(crate) alloc: Global,
     pub(crate) publics: u32,
     pub(crate) privates: u32,
-    pub(crate) made: Vec<Gate<F>>,
+    pub(crate) gates: Gates<F>,
 }
 
 impl<F: Field> Model for Builder<F> {
@@ -26,13 +27,13 @@ impl<F: Field> Model for Builder<F> {
 
     ghost Value = { Nodes F };
 
-    ghost view = { λ b. record { publics = b.publics; privates = b.privates; made = b.made.items } };
+    ghost view = { λ b. record { publics = b.publics; privates = b.privates; made = b.gates } };
 
     ghost invariant = { λ b.
         (b.publics ≤ 65535)
         × (b.privates ≤ most_privates)
-        × (b.publics + b.privates + length b.made.items ≤ 2147483648)
-        × AreGates (b.publics + b.privates) b.made.items };
+        × (b.publics + b.privates + length b.gates ≤ 2147483648)
+        × AreGates (b.publics + b.privates) b.gates };
 }
 
 impl<F: Field> Builder<F> {
@@ -46,7 +47,7 @@ impl<F: Field> Builder<F> {
             alloc,
             publics,
             privates,
-            made: Vec::new(alloc),
+            gates: Gates::new(alloc),
         })
     }
 
@@ -55,7 +56,7 @@ impl<F: Field> Builder<F> {
         ensures count { result ≡ node_count self.now }
         ensures limit { node_count self.now ≤ 2147483648 }
     {
-        self.publics + self.privates + self.made.len() as u32
+        self.publics + self.privates + self.gates.len() as u32
     }
 
     /// Public input `i`.
@@ -83,10 +84,12 @@ impl<F: Field> Builder<F> {
         ensures added { IfOk result (λ _. self.new ≡ with_gate self.old (Constant c)) }
         ensures same { OnErr result (self.new ≡ self.old) }
     {
-        self.add(Gate::Constant(c))
+        let number = 1 + self.len();
+        self.gates.push_constant(c)?;
+        Ok(Node::new(number))
     }
 
-    /// The sum of the coefficients times the nodes.
+    /// The sum of the coefficients times the nodes. All sums have fewer than 2^32 parts: for more there is no memory.
     pub fn combine(&mut self, parts: &[(F, Node)]) -> Result<Node, AllocError>
         requires room { node_count self.old < 2147483648 }
         requires some { 1 ≤ length parts.now }
@@ -95,20 +98,29 @@ impl<F: Field> Builder<F> {
         ensures added { IfOk result (λ _. self.new ≡ with_gate self.old (Combine parts.now)) }
         ensures same { OnErr result (self.new ≡ self.old) }
     {
-        let list = Vec::from_slice(self.alloc, parts)?;
-        self.combine_list(list)
+        let number = 1 + self.len();
+        self.gates.push_sum(parts)?;
+        Ok(Node::new(number))
     }
 
-    // The sum of the coefficients times the nodes of a list, which the node keeps.
-    pub(crate) fn combine_list(&mut self, parts: Vec<(F, Node)>) -> Result<Node, AllocError>
+    /// A multiple of a node.
+    pub(crate) fn multiple(&mut self, c: F, node: Node) -> Result<Node, AllocError>
         requires room { node_count self.old < 2147483648 }
-        requires some { 1 ≤ length parts.items }
-        requires nodes { ArePartsOf (node_count self.old) parts.items }
-        ensures node { IfOk result (λ node. node ≡ 1 + node_count self.old) }
-        ensures added { IfOk result (λ _. self.new ≡ with_gate self.old (Combine parts.items)) }
+        requires node { IsNode (node_count self.old) node }
+        ensures node { IfOk result (λ made. made ≡ 1 + node_count self.old) }
+        ensures added { IfOk result (λ _. self.new ≡ with_gate self.old (Combine ((c, node) ∷ []))) }
         ensures same { OnErr result (self.new ≡ self.old) }
     {
-        self.add(Gate::Combine(Parts::new(parts)))
+        let number = 1 + self.len();
+        self.gates.push_multiple((c, node))?;
+        Ok(Node::new(number))
+    }
+
+    /// How many of them are no inputs.
+    pub(crate) fn gate_count(&self) -> u32
+        ensures { result ≡ length self.now.made }
+    {
+        self.gates.len() as u32
     }
 
     /// The product of two nodes.
@@ -120,19 +132,15 @@ impl<F: Field> Builder<F> {
         ensures added { IfOk result (λ _. self.new ≡ with_gate self.old (Mul x y)) }
         ensures same { OnErr result (self.new ≡ self.old) }
     {
-        self.add(Gate::Mul(x, y))
+        let number = 1 + self.len();
+        self.gates.push_product(x, y)?;
+        Ok(Node::new(number))
     }
 
-    // The next node.
-    fn add(&mut self, gate: Gate<F>) -> Result<Node, AllocError>
-        requires room { node_count self.old < 2147483648 }
-        requires gate { IsGate (node_count self.old) gate }
-        ensures node { IfOk result (λ node. node ≡ 1 + node_count self.old) }
-        ensures added { IfOk result (λ _. self.new ≡ with_gate self.old gate) }
-        ensures same { OnErr result (self.new ≡ self.old) }
+    /// Takes the nodes away that were made behind so many of them.
+    pub(crate) fn cut(&mut self, count: u32)
+        ensures { self.new ≡ nodes_from self.old.publics self.old.privates (take count self.old.made) }
     {
-        let number = 1 + self.len();
-        self.made.push(gate)?;
-        Ok(Node::new(number))
+        self.gates.cut(count as usize);
     }
 }

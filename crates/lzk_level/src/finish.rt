@@ -10,72 +10,22 @@ ghost use Rattle.lzk_level.specs.Bounds.{layer_count, level_fault, level_fault_w
 ghost use Rattle.lzk_level.specs.Layouts.{IsLaidOut};
 ghost use Rattle.lzk_level.specs.Meanings.{HasOutputs};
 ghost use Rattle.lzk_level.specs.Levels.{IsGraph};
-ghost use Rattle.lzk_level.specs.Stacking.{AreOutputs, AreNeededTo, AreStacked, HaveStack};
+ghost use Rattle.lzk_level.specs.Stacking.{AreOutputs};
+ghost use Rattle.lzk_level.specs.Stacks.{AreOutputLayers};
 
 use crate::builder::Builder;
 use crate::fault::LevelError;
+use crate::forms::forms_of;
+use crate::gates::Gates;
 use crate::graph::Graph;
-use crate::last::last_levels;
-use crate::levels::{first_open, level_rows, places};
 use crate::measure::{check_limits, depths_of, weights_of};
-use crate::node::{Gate, Node};
-use crate::rows::Rows;
-use crate::stack::{inner_layer, output_layer};
+use crate::node::Node;
+use crate::tower::stacked;
+use crate::uses::last_uses;
 use lzk_circuit::{Circuit, Layer};
-use lzk_circuit_reduce::reduced;
+use lzk_circuit_reduce::used;
 use lzk_field::Field;
 use std::alloc::{AllocError, Global};
-
-/// The layers for these outputs, the last first. In an inner layer each node has a wire from the level of its
-/// depth on, as far as a level above needs it.
-pub(crate) fn stacked_levels<F: Field>(
-    alloc: Global,
-    graph: &Graph<'_, F>,
-    outputs: &[Node],
-    count: u32,
-) -> Result<Vec<Layer<F>>, AllocError>
-    requires outputs { AreOutputs graph.now.depths.now outputs.now count }
-    requires needed { AreNeededTo graph.now.last.now outputs.now count }
-    ensures { IfOk result (λ layers.
-        AreStacked F.ops graph.now.inputs graph.now.made.now graph.now.depths.now graph.now.last.now count outputs.now
-        layers.items) }
-{
-    let mut layers = Vec::new(alloc);
-    let mut rows = Rows::new(alloc);
-    let mut below = places(alloc, graph, 0)?;
-    let mut first = 1;
-    for level in 1..count {
-        first = first_open(graph.last, level, first);
-        level_rows(alloc, graph, level, first, &below, &mut rows)?;
-        layers.push(inner_layer(alloc, graph, level, first, &rows, &mut below)?)?;
-    }
-    level_rows(alloc, graph, count, first, &below, &mut rows)?;
-    layers.push(output_layer(alloc, &rows, outputs)?)?;
-    Ok(layers)
-}
-
-// The layers for these outputs, the last first.
-fn stacked<F: Field>(
-    alloc: Global,
-    inputs: usize,
-    made: &[Gate<F>],
-    depths: &[u32],
-    outputs: &[Node],
-    count: u32,
-) -> Result<Vec<Layer<F>>, AllocError>
-    requires graph { IsGraph inputs made.now depths.now }
-    requires outputs { AreOutputs depths.now outputs.now count }
-    ensures { IfOk result (λ layers. HaveStack F.ops inputs made.now depths.now count outputs.now layers.items) }
-{
-    let last = last_levels(alloc, inputs, made, depths, outputs, count)?;
-    let graph = Graph {
-        inputs,
-        made,
-        depths,
-        last: &last,
-    };
-    stacked_levels(alloc, &graph, outputs, count)
-}
 
 /// The depths of the one and all nodes, and how many layers the outputs need, where they keep the limits with so
 /// many further wires in a layer.
@@ -91,12 +41,37 @@ pub(crate) fn measured<F: Field>(
     ensures fault { IfErr result (IsFaultOf (level_fault_with further builder.now outputs.now)) }
 {
     let inputs = builder.publics + builder.privates;
-    let depths = depths_of(builder.alloc, inputs, &builder.made)?;
-    let weights = weights_of(builder.alloc, inputs, &builder.made)?;
+    let depths = depths_of(builder.alloc, inputs, &builder.gates)?;
+    let weights = weights_of(builder.alloc, inputs, &builder.gates)?;
     match check_limits(&depths, &weights, outputs, further) {
         Ok(count) => Ok((depths, count)),
         Err(fault) => Err(LevelError::Fault(fault)),
     }
+}
+
+// The layers for these outputs, the outputs' layer first.
+fn output_layers<F: Field>(
+    alloc: Global,
+    inputs: usize,
+    made: &Gates<F>,
+    depths: &[u32],
+    outputs: &[Node],
+    count: u32,
+) -> Result<Vec<Layer<F>>, AllocError>
+    requires graph { IsGraph inputs made.now depths.now }
+    requires outputs { AreOutputs depths.now outputs.now count }
+    ensures { IfOk result (λ layers. AreOutputLayers F.ops inputs made.now depths.now count outputs.now layers.items) }
+{
+    let forms = forms_of(alloc, inputs, made, depths)?;
+    let last = last_uses(alloc, inputs, &forms, depths, outputs, count)?;
+    let graph = Graph {
+        inputs,
+        forms: &forms,
+        depths,
+        last: &last,
+    };
+    let tower = stacked(alloc, &graph, outputs, &[], count)?;
+    Ok(tower.layers)
 }
 
 fn circuit_of<F: Field>(publics: u32, privates: u32, layers: Vec<Layer<F>>) -> Circuit<F>
@@ -119,16 +94,15 @@ fn laid_out<F: Field>(builder: &Builder<F>, outputs: &[Node]) -> Result<Circuit<
 {
     let (depths, count) = measured(builder, outputs, 0)?;
     let inputs = 1 + builder.publics + builder.privates;
-    let mut layers = stacked(
+    let layers = output_layers(
         builder.alloc,
         inputs as usize,
-        &builder.made,
+        &builder.gates,
         &depths,
         outputs,
         count,
     )?;
-    layers.reverse();
-    let layers = reduced(builder.alloc, inputs, &layers)?;
+    let layers = used(builder.alloc, inputs, layers)?;
     Ok(circuit_of(builder.publics, builder.privates, layers))
 }
 

@@ -1,23 +1,21 @@
 //! Graphs of nodes.
 
 ghost use Rattle.std.proofs.Props.{props};
-ghost use Rattle.lzk_level.specs.Levels.{IsGraph, AreLast, AreNeeded-prop};
-ghost use Rattle.lzk_level.specs.Nodes.{AreGates-prop};
+ghost use Rattle.lzk_level.specs.Uses.{node_form, IsFormed, AreUses};
 
-use crate::node::Gate;
+use crate::forms::Forms;
 
-/// Nodes with their depths, and the last level that needs each: the one and the inputs, and behind them the gates over
-/// what stands before each.
+/// Forms of nodes with their depths, and the last level that uses each.
 #[derive(Drop)]
 pub(crate) struct Graph<'a, F> {
     /// How many there are of the one and the inputs.
     pub inputs: usize,
-    /// The gates.
-    pub made: &'a [Gate<F>],
+    /// The forms of the nodes behind them.
+    pub forms: &'a Forms<F>,
     /// The depth of each node by its number.
     pub depths: &'a [u32],
-    /// The last level that needs it.
+    /// The last level that uses it.
     pub last: &'a [u32],
-    ghost graph: { IsGraph inputs made.now depths.now } by { Prim.hlevel (props, AreGates-prop) },
-    ghost last_are: { AreLast inputs made.now depths.now last.now } by { Prim.hlevel (props, AreNeeded-prop) },
+    ghost formed: { IsFormed inputs forms.now depths.now } by { Prim.hlevel props },
+    ghost uses: { AreUses inputs forms.now depths.now last.now } by { Prim.hlevel props },
 }

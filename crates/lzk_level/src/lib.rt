@@ -12,35 +12,38 @@
 //! let circuit = builder.finish(&[difference])?;
 //! ```
 //!
-//! [`compile`] builds and finishes the nodes of a source: its circuit has an output for each assert, which is
-//! left minus right on every input. [`compile_v2`] and `finish_v2` make circuits of version 2, in which a node is
-//! asserted where it stands, with no copies up to the outputs.
+//! [`compile_code`] builds and finishes the nodes of a source's code. In version 1 its circuit has an output for each
+//! assert, which is left minus right on every input; in version 2, as by `finish_v2`, a node is asserted where it
+//! stands, with no copies up to the outputs. [`compile`] and [`compile_v2`] take a source's trees.
 #![tactic(auto)]
 
 mod asserting;
 mod builder;
 mod compiler;
 mod compiler_v2;
-mod constants;
+mod compiling;
 mod fault;
 mod finish;
+mod forms;
+mod gates;
 mod graph;
-mod last;
+mod half;
 mod laws;
 mod lets;
-mod levels;
-mod making;
+mod maker;
 mod measure;
 mod node;
-mod rows;
-mod stack;
-mod sums;
+mod tower;
 mod upgrading;
+mod uses;
+mod value;
+mod wires;
 
 pub use builder::Builder;
 pub use compiler::{compile, compile_owned};
 pub use compiler_v2::{compile_owned_v2, compile_v2};
+pub use compiling::{Version, compile_code};
 pub use fault::{LevelError, LevelFault};
 pub use laws::compile_laws;
-pub use node::{Gate, Node, Parts};
+pub use node::Node;
 pub use upgrading::upgraded_file;

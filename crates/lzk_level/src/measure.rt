@@ -2,12 +2,14 @@
 
 ghost use Rattle.std.specs.Prelude.{◌≡◌, ℕ, ◌+◌, ◌-◌, ◌*◌, ◌^◌, ◌≤◌, max, min, List, [], ◌∷◌, length, map, replicate, IfOk, MatchResult, None, Some};
 ghost use Rattle.lzk_profile.specs.Profile.{most_wires};
+ghost use Rattle.lzk_level.specs.FlatGates.{gate_of};
 ghost use Rattle.lzk_level.specs.Nodes.{AreGates, after};
 ghost use Rattle.lzk_circuit_reduce.specs.Renumbering.{at};
 ghost use Rattle.lzk_level.specs.Bounds.{at_parts, greatest, total, gate_depth, gate_weight, limit_fault};
 
 use crate::fault::LevelFault;
-use crate::node::{Gate, Node, of_node};
+use crate::gates::{GateRef, Gates};
+use crate::node::{Node, of_node};
 use lzk_circuit::{MOST_IN_ALL, MOST_LAYERS, MOST_WIRES};
 use lzk_field::Field;
 use std::alloc::{AllocError, Global};
@@ -51,28 +53,28 @@ fn parts_weight<F: Field>(weights: &[u64], parts: &[(F, Node)]) -> u64
     weight
 }
 
-fn depth_of<F: Field>(depths: &[u32], gate: &Gate<F>) -> u32
+fn depth_of<F: Field>(depths: &[u32], gate: GateRef<'_, F>) -> u32
     requires low { (k : ℕ) → at depths.now k ≤ 2147483649 }
-    ensures depth { result ≡ gate_depth depths.now gate.now }
+    ensures depth { result ≡ gate_depth depths.now (gate_of gate.entry) }
 {
     match gate {
-        Gate::Constant(_) => 1,
-        Gate::Combine(parts) => parts_depth(depths, parts.as_slice()),
-        Gate::Mul(x, y) => {
-            let left = of_node(depths, *x);
-            let right = of_node(depths, *y);
+        GateRef::Constant(_) => 1,
+        GateRef::Combine(parts) => parts_depth(depths, parts),
+        GateRef::Mul(x, y) => {
+            let left = of_node(depths, x);
+            let right = of_node(depths, y);
             1 + larger(left, right)
         }
     }
 }
 
-fn weight_of<F: Field>(weights: &[u64], gate: &Gate<F>) -> u64
-    ensures { result ≡ min (2 ^ 64 - 1) (gate_weight weights.now gate.now) }
+fn weight_of<F: Field>(weights: &[u64], gate: GateRef<'_, F>) -> u64
+    ensures { result ≡ min (2 ^ 64 - 1) (gate_weight weights.now (gate_of gate.entry)) }
 {
     match gate {
-        Gate::Constant(_) => 1,
-        Gate::Combine(parts) => parts_weight(weights, parts.as_slice()),
-        Gate::Mul(_, _) => 1,
+        GateRef::Constant(_) => 1,
+        GateRef::Combine(parts) => parts_weight(weights, parts),
+        GateRef::Mul(_, _) => 1,
     }
 }
 
@@ -80,7 +82,7 @@ fn weight_of<F: Field>(weights: &[u64], gate: &Gate<F>) -> u64
 pub(crate) fn depths_of<F: Field>(
     alloc: Global,
     inputs: u32,
-    made: &[Gate<F>],
+    made: &Gates<F>,
 ) -> Result<Vec<u32>, AllocError>
     requires few { inputs + length made.now ≤ 2147483648 }
     requires gates { AreGates inputs made.now }
@@ -90,7 +92,7 @@ pub(crate) fn depths_of<F: Field>(
     let mut depths = Vec::with_capacity(alloc, first + made.len())?;
     depths.resize(first, 0)?;
     for i in 0..made.len() {
-        let depth = depth_of(&depths, &made[i]);
+        let depth = depth_of(&depths, made.gate(i));
         depths.push_reserved(depth);
     }
     Ok(depths)
@@ -100,7 +102,7 @@ pub(crate) fn depths_of<F: Field>(
 pub(crate) fn weights_of<F: Field>(
     alloc: Global,
     inputs: u32,
-    made: &[Gate<F>],
+    made: &Gates<F>,
 ) -> Result<Vec<u64>, AllocError>
     ensures { IfOk result
         (λ weights. weights.items ≡ map (min (2 ^ 64 - 1)) (after gate_weight (0 ∷ replicate inputs 1) made.now)) }
@@ -108,7 +110,7 @@ pub(crate) fn weights_of<F: Field>(
     let mut weights = vec![in alloc; 1; 1 + inputs as usize]?;
     weights[0] = 0;
     for i in 0..made.len() {
-        let weight = weight_of(&weights, &made[i]);
+        let weight = weight_of(&weights, made.gate(i));
         weights.push(weight)?;
     }
     Ok(weights)

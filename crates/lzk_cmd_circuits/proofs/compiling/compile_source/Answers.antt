@@ -1,6 +1,5 @@
 use Rattle.std.proofs.Common.{ℕ, List}
 use Rattle.lzk_expr.specs.Trees.{SourceTree}
-use Rattle.lzk_expr.specs.View.{tree_of}
 use Rattle.lzk_outside.specs.Outside.{Files}
 use Rattle.lzk_cmd_circuits.specs.Compiled.{CompileTree, CompileRun}
 use Rattle.lzk_cmd_files.specs.Decoded.{source_files}
@@ -15,12 +14,13 @@ use Rattle.lzk_cmd_circuits.proofs.compiling.compile_source.Goals as goal
 abbrev next : Version → List ℕ → List ℕ → Files → Stop → End → SourceTree → Type 0
 next version source circuit files stop end s = CompileTree version source circuit s stop end
 
-pub returns-in_err-tree-clause-walks : goal.returns-in_err-tree-clause-walks
+pub returns-in_err-code-clause-walks : goal.returns-in_err-code-clause-walks
 unfolding CompileRun
-returns-in_err-tree-clause-walks g c =
-    ends source_files (λ s. tree_of s) c.args.source.now 0 (next c.args.version c.args.source.now c.args.circuit.now) (Unit {0}) (seen g.S.Shelf c.args.shelf.now) (seen g.S.Shelf c.read_source.new.shelf) c.in_err-tree.field-0.0 _ (laws.sources.quiet c.args.source.now) c.in_err-tree.ensures.reads c.in_err-tree.ensures.gives c.from_residual.ensures.1
+returns-in_err-code-clause-walks g c =
+    ends source_files (λ (s : SourceTree). s) c.args.source.now 0 (next c.args.version c.args.source.now c.args.circuit.now) (Unit {0}) (seen g.S.Shelf c.args.shelf.now) (seen g.S.Shelf c.read_source.new.shelf) c.in_err-code.field-0.0 _ (laws.sources.quiet c.args.source.now) c.in_err-code.ensures.reads c.in_err-code.ensures.gives c.from_residual.ensures.1
 
 pub returns-clause-walks : goal.returns-clause-walks
 unfolding CompileRun
 returns-clause-walks g c =
-    then source_files (λ s. tree_of s) c.args.source.now 0 (next c.args.version c.args.source.now c.args.circuit.now) (Unit {0}) (seen g.S.Shelf c.args.shelf.now) (seen g.S.Shelf c.read_source.new.shelf) (seen g.S.Shelf c.compile_tree.new.shelf) c.in_ok-tree.tree c.compile_tree.result c.in_ok-tree.ensures.reads c.in_ok-tree.ensures.gives c.compile_tree.ensures.walks
+    let given = c.in_ok-code.ensures.gives in
+    then source_files (λ (s : SourceTree). s) c.args.source.now 0 (next c.args.version c.args.source.now c.args.circuit.now) (Unit {0}) (seen g.S.Shelf c.args.shelf.now) (seen g.S.Shelf c.read_source.new.shelf) (seen g.S.Shelf c.put_compiled.new.shelf) given.0 c.put_compiled.result c.in_ok-code.ensures.reads given.2 (c.put_compiled.ensures.walks given.0 given.1)

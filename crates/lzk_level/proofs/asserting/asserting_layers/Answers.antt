@@ -1,27 +1,38 @@
-use Rattle.std.proofs.Common.{◌≡◌, ◌∙◌, ap, sym, subst, ℕ, ◌+◌, ◌<◌, ◌≤◌, min, length, map, arith}
+use Rattle.std.proofs.Common.{◌∙◌, ap, sym, subst, ℕ, ◌+◌, ◌<◌, ◌≤◌, min, length, map, arith}
+use Rattle.std.proofs.lemmas.Result.{IfOk-weaker}
 use Rattle.lzk_circuit_reduce.specs.Attached.{IsAssertingForm}
 use Rattle.lzk_circuit_reduce.specs.Renumbering.{at}
-use Rattle.std.proofs.lemmas.Result.{IfOk-weaker}
-use Rattle.lzk_level.specs.Checking.{targets_below, AreAsserting}
-use Rattle.lzk_level.proofs.AssertedLaws.{Laid, laid, laid-asserting, tops}
+use Rattle.lzk_level.specs.Checking.{of_depth, AreAsserting}
+use Rattle.lzk_level.specs.Stacks.{AreAssertable, IsStack}
+use Rattle.lzk_level.specs.Uses.{node_form, AreUses}
+use Rattle.lzk_level.proofs.AssertedLaws.{tops}
 use Rattle.lzk_level.proofs.CheckingLaws.{depth-few}
 use Rattle.lzk_level.proofs.FinishLaws.{greatest-some}
+use Rattle.lzk_level.proofs.GraphForms.{formed-graph, values-formed, weights-formed}
+use Rattle.lzk_level.proofs.StackedLaws.{IsReady, assertable, stack-ready, stack-asserting}
 use Rattle.lzk_level.proofs.asserting.asserting_layers.Given.{Over}
-use Rattle.lzk_level.proofs.asserting.asserting_layers.Goals.{After-deref-4}
+use Rattle.lzk_level.proofs.asserting.asserting_layers.Goals.{In_ok-tower}
 use Rattle.lzk_level.proofs.asserting.asserting_layers.Goals as goal
 
 pub last_asserting-requires-clause-some : goal.last_asserting-requires-clause-some
-last_asserting-requires-clause-some g c = omega (arith, c.requires.is, greatest-some 1 (map (at c.args.depths.now) c.args.asserts.now))
+last_asserting-requires-clause-some g c κs within = omega (arith, c.requires.is, greatest-some 1 (map (at c.args.depths.now) c.args.asserts.now))
 
-pub stacked_levels-requires-clause-outputs : goal.stacked_levels-requires-clause-outputs
-stacked_levels-requires-clause-outputs g c κs within =
+pub last_asserting-requires-clause-formed : goal.last_asserting-requires-clause-formed
+last_asserting-requires-clause-formed g c κs within = formed-graph g.F.Field.ops c.args.inputs c.args.made.now c.args.depths.now c.in_ok-forms.forms c.requires.graph c.in_ok-forms.ensures
+
+pub invariant_of-graph : goal.invariant_of-graph
+invariant_of-graph g c = record {
+  formed = formed-graph g.F.Field.ops c.args.inputs c.args.made.now c.args.depths.now c.in_ok-forms.forms c.requires.graph c.in_ok-forms.ensures;
+  uses = subst (AreUses c.args.inputs c.in_ok-forms.forms c.args.depths.now) (sym c.deref.ensures.value) c.in_ok-last.ensures.uses;
+}
+
+pub stacked-requires-clause-outputs : goal.stacked-requires-clause-outputs
+stacked-requires-clause-outputs g c κs within =
     let depths = c.args.depths.now in
     let asserts = c.args.asserts.now in
     let count = c.args.count in
-    let last = c.deref.result.now in
     let own = c.deref-2.ensures.value ∙ c.in_ok-outputs.ensures in
-    let needed = subst (λ ls. (j : ℕ) → j < length asserts → min count (at depths (at asserts j) + 1) ≤ at ls (at asserts j)) (sym c.deref.ensures.value) c.in_ok-last.ensures.asserts in
-    let t = tops g.F.Field.ops c.args.inputs c.args.made.now depths last asserts count c.deref-2.result.now c.requires needed own in
+    let t = tops g.F.Field.ops c.args.inputs c.args.made.now depths c.in_ok-last.last.items asserts count c.deref-2.result.now c.requires c.in_ok-last.ensures.asserts own in
     record {
       some = omega (arith, c.requires.is, greatest-some 1 (map (at depths) asserts));
       few = omega (arith, ap length own, depth-few depths count asserts, c.requires.few);
@@ -29,8 +40,8 @@ stacked_levels-requires-clause-outputs g c κs within =
       deep = λ i l. omega (arith, (t i l).deep_as);
     }
 
-pub stacked_levels-requires-clause-needed : goal.stacked_levels-requires-clause-needed
-stacked_levels-requires-clause-needed g c κs within =
+pub stacked-requires-clause-used : goal.stacked-requires-clause-used
+stacked-requires-clause-used g c κs within =
     let depths = c.args.depths.now in
     let asserts = c.args.asserts.now in
     let count = c.args.count in
@@ -40,51 +51,66 @@ stacked_levels-requires-clause-needed g c κs within =
     let t = tops g.F.Field.ops c.args.inputs c.args.made.now depths last asserts count c.deref-2.result.now c.requires needed own in
     record { one = subst (λ ls. count ≤ at ls 0) (sym c.deref.ensures.value) c.in_ok-last.ensures.one; each = λ i l. (t i l).needed_there }
 
--- the layers are laid as is asked
-are_laid : (g : Over) (c : After-deref-4 g) → Laid g.F.Field.ops c.args.inputs c.args.made.now c.args.depths.now c.deref.result.now c.args.asserts.now c.args.count c.deref-4.result.now c.deref-3.result.now
-are_laid g c =
+pub stacked-requires-clause-asserts : goal.stacked-requires-clause-asserts
+stacked-requires-clause-asserts g c κs within =
+    let depths = c.args.depths.now in
+    let asserts = c.args.asserts.now in
+    let count = c.args.count in
+    subst (λ ls. AreAssertable depths ls asserts count) (sym c.deref.ensures.value) (assertable c.args.inputs c.args.made.now depths c.in_ok-last.last.items asserts count c.requires c.in_ok-last.ensures.asserts)
+
+-- the stack of the asserted nodes' layers
+stack : (g : Over) (c : In_ok-tower g) → IsStack g.F.Field.ops c.args.inputs (node_form c.args.inputs c.in_ok-forms.forms) c.args.depths.now c.args.count (of_depth c.args.depths.now c.args.count c.args.asserts.now) c.args.asserts.now c.in_ok-tower.tower.layers.items c.in_ok-tower.tower.targets.items
+stack g c =
+    let inputs = c.args.inputs in
+    let depths = c.args.depths.now in
+    let t = c.in_ok-tower.tower in
+    subst (λ ks. IsStack g.F.Field.ops inputs (node_form inputs c.in_ok-forms.forms) depths c.args.count ks c.args.asserts.now t.layers.items t.targets.items) (c.deref-2.ensures.value ∙ c.in_ok-outputs.ensures) c.in_ok-tower.ensures
+
+-- which is what the reduction asks
+ready : (g : Over) (c : In_ok-tower g) → IsReady g.F.Field.ops c.args.inputs c.in_ok-tower.tower.layers.items c.in_ok-tower.tower.targets.items
+ready g c =
     let o = g.F.Field.ops in
     let inputs = c.args.inputs in
     let made = c.args.made.now in
     let depths = c.args.depths.now in
-    let asserts = c.args.asserts.now in
-    let count = c.args.count in
-    let last = c.deref.result.now in
-    let layers = c.deref-3.result.now in
-    let ws = c.deref-4.result.now in
-    let e = c.in_ok-layers.ensures in
-    let some : 1 ≤ count = omega (arith, c.requires.is, greatest-some 1 (map (at depths) asserts)) in
-    let needed = subst (λ ls. (j : ℕ) → j < length asserts → min count (at depths (at asserts j) + 1) ≤ at ls (at asserts j)) (sym c.deref.ensures.value) c.in_ok-last.ensures.asserts in
-    let targets : ws ≡ targets_below depths last asserts count = c.deref-4.ensures.value ∙ c.in_ok-targets.ensures in
-    laid o inputs made depths last asserts count c.deref-2.result.now c.in_ok-layers.layers.items layers ws some c.requires needed
-    (c.deref-2.ensures.value ∙ c.in_ok-outputs.ensures) e (c.deref-3.ensures.value ∙ c.reverse.ensures.items) targets
+    let forms = c.in_ok-forms.forms in
+    let graph = c.requires.graph in
+    let are = c.in_ok-forms.ensures in
+    stack-ready o inputs made depths c.args.asserts.now (node_form inputs forms) c.args.count c.requires (values-formed o inputs made depths forms graph are) (weights-formed o inputs made depths forms graph are)
+    c.in_ok-tower.tower.layers.items c.in_ok-tower.tower.targets.items (stack g c)
 
-pub asserting-requires-clause-some : goal.asserting-requires-clause-some
-asserting-requires-clause-some g c κs within = omega (arith, (are_laid g c).long, c.requires.is, greatest-some 1 (map (at c.args.depths.now) c.args.asserts.now))
+pub asserting_used-requires-clause-some : goal.asserting_used-requires-clause-some
+asserting_used-requires-clause-some g c κs within = (ready g c).some
 
-pub asserting-requires-clause-terms : goal.asserting-requires-clause-terms
-asserting-requires-clause-terms g c κs within = (are_laid g c).terms_are
+pub asserting_used-requires-clause-terms : goal.asserting_used-requires-clause-terms
+asserting_used-requires-clause-terms g c κs within = (ready g c).terms
 
-pub asserting-requires-clause-layers : goal.asserting-requires-clause-layers
-asserting-requires-clause-layers g c κs within = (are_laid g c).is_ready.layers_are
+pub asserting_used-requires-clause-layers : goal.asserting_used-requires-clause-layers
+asserting_used-requires-clause-layers g c κs within = (ready g c).layers_are
 
-pub asserting-requires-clause-targets : goal.asserting-requires-clause-targets
-asserting-requires-clause-targets g c κs within = (are_laid g c).is_ready.targets
+pub asserting_used-requires-clause-ones : goal.asserting_used-requires-clause-ones
+asserting_used-requires-clause-ones g c κs within = (ready g c).ones
 
-pub asserting-requires-clause-lists : goal.asserting-requires-clause-lists
-asserting-requires-clause-lists g c κs within = (are_laid g c).lists
+pub asserting_used-requires-clause-different : goal.asserting_used-requires-clause-different
+asserting_used-requires-clause-different g c κs within = (ready g c).different
 
-pub asserting-requires-clause-checks : goal.asserting-requires-clause-checks
-asserting-requires-clause-checks g c κs within = (are_laid g c).is_ready.checks
+pub asserting_used-requires-clause-targets : goal.asserting_used-requires-clause-targets
+asserting_used-requires-clause-targets g c κs within = (ready g c).targets
 
-pub asserting-requires-clause-narrow : goal.asserting-requires-clause-narrow
-asserting-requires-clause-narrow g c κs within = (are_laid g c).is_ready.narrow_are
+pub asserting_used-requires-clause-lists : goal.asserting_used-requires-clause-lists
+asserting_used-requires-clause-lists g c κs within = (ready g c).lists
 
-pub asserting-requires-clause-few_wires : goal.asserting-requires-clause-few_wires
-asserting-requires-clause-few_wires g c κs within = (are_laid g c).is_ready.few_wires
+pub asserting_used-requires-clause-checks : goal.asserting_used-requires-clause-checks
+asserting_used-requires-clause-checks g c κs within = (ready g c).checks
 
-pub asserting-requires-clause-few_terms : goal.asserting-requires-clause-few_terms
-asserting-requires-clause-few_terms g c κs within = (are_laid g c).is_ready.few_terms
+pub asserting_used-requires-clause-narrow : goal.asserting_used-requires-clause-narrow
+asserting_used-requires-clause-narrow g c κs within = (ready g c).narrow
+
+pub asserting_used-requires-clause-few_wires : goal.asserting_used-requires-clause-few_wires
+asserting_used-requires-clause-few_wires g c κs within = (ready g c).few_wires
+
+pub asserting_used-requires-clause-few_terms : goal.asserting_used-requires-clause-few_terms
+asserting_used-requires-clause-few_terms g c κs within = (ready g c).few_terms
 
 pub returns : goal.returns
 returns g c =
@@ -95,9 +121,11 @@ returns g c =
     let depths = c.args.depths.now in
     let asserts = c.args.asserts.now in
     let count = c.args.count in
-    let layers = c.deref-3.result.now in
-    let ws = c.deref-4.result.now in
-    let some : 1 ≤ count = omega (arith, c.requires.is, greatest-some 1 (map (at depths) asserts)) in
-    let all = are_laid g (goal.at.returns g c).After-deref-4 in
-    IfOk-weaker c.asserting.result (λ ls. IsAssertingForm o number inputs ws layers ls.items) (λ ls. AreAsserting o number inputs made depths asserts count ls.items)
-    (λ ls h. laid-asserting o inputs made depths c.deref.result.now asserts number count ws layers ls.items some c.requires.graph.one all h) c.asserting.ensures
+    let forms = c.in_ok-forms.forms in
+    let graph = c.requires.graph in
+    let are = c.in_ok-forms.ensures in
+    let layers = c.in_ok-tower.tower.layers.items in
+    let ws = c.in_ok-tower.tower.targets.items in
+    let s = stack g (goal.at.returns g c).In_ok-tower in
+    IfOk-weaker c.asserting_used.result (λ ls. IsAssertingForm o number inputs ws layers ls.items) (λ ls. AreAsserting o number inputs made depths asserts count ls.items)
+    (λ ls h. stack-asserting o inputs made depths asserts (node_form inputs forms) count c.requires (values-formed o inputs made depths forms graph are) (weights-formed o inputs made depths forms graph are) layers ws s number ls.items h) c.asserting_used.ensures

@@ -24,12 +24,12 @@ asserting_layers-requires-after_bounds g c κs within =
     let inputs = 1 + c.builder.inside.publics + c.builder.inside.privates in
     let width : inputs ≡ 1 + (p + q) = omega (arith, ap (λ (b : Nodes _). b.publics) is_n, ap (λ (b : Nodes _). b.privates) is_n) in
     let gates = subst (λ (b : Nodes _). AreGates (b.publics + b.privates) b.made) is_n c.builder.invariant.3 in
-    let same : c.deref.result.now ≡ n.made = c.deref.ensures.value ∙ ap (λ (b : Nodes _). b.made) c.builder.view_is in
-    let is : c.deref-2.result.now ≡ node_depths n = c.deref-2.ensures.value ∙ c.in_ok-depths.ensures.depths in
+    let same : c.builder.inside.gates ≡ n.made = ap (λ (b : Nodes _). b.made) c.builder.view_is in
+    let is : c.deref.result.now ≡ node_depths n = c.deref.ensures.value ∙ c.in_ok-depths.ensures.depths in
     let made = n.made in
     let are = asserts-of n asserts gates c.requires.some c.requires.nodes e.within in
     let there = subst (λ k. AreAsserts k made (node_depths n) asserts count) (sym width) (subst (AreAsserts (1 + (p + q)) made (node_depths n) asserts) (sym e.count) are) in
-    subst (λ m. AreAsserts inputs m c.deref-2.result.now asserts count) (sym same) (subst (λ ds. AreAsserts inputs made ds asserts count) (sym is) there)
+    subst (λ m. AreAsserts inputs m c.deref.result.now asserts count) (sym same) (subst (λ ds. AreAsserts inputs made ds asserts count) (sym is) there)
 
 pub circuit_of-requires-after_bounds : goal.circuit_of-requires-after_bounds
 circuit_of-requires-after_bounds g c κs within =
@@ -65,13 +65,13 @@ returns-clause-circuit g c =
           let inputs = 1 + c.builder.inside.publics + c.builder.inside.privates in
           let width : inputs ≡ 1 + (p + q) = omega (arith, ap (λ (b : Nodes _). b.publics) is_n, ap (λ (b : Nodes _). b.privates) is_n) in
           let gates = subst (λ (b : Nodes _). AreGates (b.publics + b.privates) b.made) is_n c.builder.invariant.3 in
-          let same : c.deref.result.now ≡ n.made = c.deref.ensures.value ∙ ap (λ (b : Nodes _). b.made) c.builder.view_is in
-          let is : c.deref-2.result.now ≡ node_depths n = c.deref-2.ensures.value ∙ c.in_ok-depths.ensures.depths in
+          let same : c.builder.inside.gates ≡ n.made = ap (λ (b : Nodes _). b.made) c.builder.view_is in
+          let is : c.deref.result.now ≡ node_depths n = c.deref.ensures.value ∙ c.in_ok-depths.ensures.depths in
           let ins = inputs_of o public private in
           let values = node_values o n public private in
           let v = ready-values o p q inputs n.made public private width gates hp hq in
           let b = ready-inputs o p q inputs n.made public private width hp hq in
-          let a = subst (λ ds. AreAsserting o number inputs n.made ds asserts count layers) is (subst (λ m. AreAsserting o number inputs m c.deref-2.result.now asserts count layers) same c.in_ok-layers.ensures) in
+          let a = subst (λ ds. AreAsserting o number inputs n.made ds asserts count layers) is (subst (λ m. AreAsserting o number inputs m c.deref.result.now asserts count layers) same c.in_ok-layers.ensures) in
           ap (λ w. entry o (checks_of o number w.layers ins) (check_of (map (at (node_depths n)) asserts) k)) c.circuit_of.ensures
           ∙ check-value o (node_depths n) asserts count values (checks_of o number layers ins) k l c.in_ok-depths.ensures.count (a.checks values ins v b);
       outputs =
@@ -82,9 +82,9 @@ returns-clause-circuit g c =
           let count = c.in_ok-depths.count in
           let layers = c.in_ok-layers.layers.items in
           let inputs = 1 + c.builder.inside.publics + c.builder.inside.privates in
-          let same : c.deref.result.now ≡ n.made = c.deref.ensures.value ∙ ap (λ (b : Nodes _). b.made) c.builder.view_is in
-          let is : c.deref-2.result.now ≡ node_depths n = c.deref-2.ensures.value ∙ c.in_ok-depths.ensures.depths in
-          let a = subst (λ ds. AreAsserting o number inputs n.made ds asserts count layers) is (subst (λ m. AreAsserting o number inputs m c.deref-2.result.now asserts count layers) same c.in_ok-layers.ensures) in
+          let same : c.builder.inside.gates ≡ n.made = ap (λ (b : Nodes _). b.made) c.builder.view_is in
+          let is : c.deref.result.now ≡ node_depths n = c.deref.ensures.value ∙ c.in_ok-depths.ensures.depths in
+          let a = subst (λ ds. AreAsserting o number inputs n.made ds asserts count layers) is (subst (λ m. AreAsserting o number inputs m c.deref.result.now asserts count layers) same c.in_ok-layers.ensures) in
           let b = subst (λ k. AreAsserting o number inputs n.made (node_depths n) asserts k layers) c.in_ok-depths.ensures.count a in
           ap (λ w. output_count w.layers) c.circuit_of.ensures ∙ b.first_count;
       reduced = subst (λ w. IsReducedAsserting g.F.Field.ops w.layers) (sym is_circuit) all.reduced;

@@ -1,0 +1,76 @@
+-- Gates whose parts stand in one list.
+use Rattle.std.specs.Prelude.{◌≡◌, ℕ, ◌+◌, ◌<◌, ◌≤◌, List, [], ◌∷◌, ◌++◌, length, take, Result, Ok, Err, OnErr}
+use Rattle.std.proofs.Common.{zero, suc, refl, sym, ap, ap₂, ◌∙◌, arith, subst, get_or}
+use Rattle.std.proofs.lemmas.List.{length-append, map-append}
+use Rattle.lzk_level.specs.declared.gates.Made.{Made}
+use Rattle.lzk_level.specs.declared.gates.Made.TheVariants as stored
+use Rattle.lzk_level.specs.Gates.{Gate, Combine}
+use Rattle.lzk_level.specs.Nodes.{AreGates}
+use Rattle.lzk_level.specs.FlatGates.{gate_in, gates_in, IsSpanned, AreSpanned}
+use Rattle.lzk_level.proofs.SpanLaws.{piece-kept, last-piece}
+
+-- what holds anyway
+pub on-err : {T E P : Type 0} → (r : Result T E) → P → OnErr r P
+on-err (Ok x) p = tt
+on-err (Err e) p = p
+
+module _ {A : Type 0} where
+  wider : (m n : ℕ) (gate : Made A) → m ≤ n → IsSpanned m gate → IsSpanned n gate
+  wider m n (stored.Constant c) l h = tt
+  wider m n (stored.Combine begin end) l h = (h.0, omega (arith, h.1, l))
+  wider m n (stored.Mul x y) l h = tt
+
+  -- a longer list of parts
+  pub spanned-wider : (m n : ℕ) (made : List (Made A)) → m ≤ n → AreSpanned m made → AreSpanned n made
+  spanned-wider m n [] l h = tt
+  spanned-wider m n (g ∷ gs) l h = (wider m n g l h.0, spanned-wider m n gs l h.1)
+
+  -- one more gate
+  pub spanned-more : (n : ℕ) (made : List (Made A)) (gate : Made A) → AreSpanned n made → IsSpanned n gate → AreSpanned n (made ++ gate ∷ [])
+  spanned-more n [] gate h k = (k, tt)
+  spanned-more n (g ∷ gs) gate h k = (h.0, spanned-more n gs gate h.1 k)
+
+  -- the first gates
+  pub spanned-take : (n count : ℕ) (made : List (Made A)) → AreSpanned n made → AreSpanned n (take count made)
+  spanned-take n zero made h = tt
+  spanned-take n (suc count) [] h = tt
+  spanned-take n (suc count) (g ∷ gs) h = (h.0, spanned-take n count gs h.1)
+
+  pub spanned-at : (n i : ℕ) (made : List (Made A)) (gate : Made A) → AreSpanned n made → i < length made → gate ≡ get_or made i gate → IsSpanned n gate
+  spanned-at n i [] gate h l e = absurd (omega (arith, l))
+  spanned-at n zero (g ∷ gs) gate h l e = subst (IsSpanned n) (sym e) h.0
+  spanned-at n (suc i) (g ∷ gs) gate h l e = spanned-at n i gs gate h.1 (omega (arith, l)) e
+
+  kept : (ps qs : List (A × ℕ)) (gate : Made A) → IsSpanned (length ps) gate → gate_in (ps ++ qs) gate ≡ gate_in ps gate
+  kept ps qs (stored.Constant c) h = refl
+  kept ps qs (stored.Combine begin end) h = ap (λ p. Combine p) (piece-kept ps qs (begin, end) h.0 h.1)
+  kept ps qs (stored.Mul x y) h = refl
+
+  -- parts behind the others change no gate
+  pub gates-kept : (ps qs : List (A × ℕ)) (made : List (Made A)) → AreSpanned (length ps) made → gates_in (ps ++ qs) made ≡ gates_in ps made
+  gates-kept ps qs [] h = refl
+  gates-kept ps qs (g ∷ gs) h = ap₂ (λ x xs. x ∷ xs) (kept ps qs g h.0) (gates-kept ps qs gs h.1)
+
+  pub gates-with : (ps new : List (A × ℕ)) (qs : List (A × ℕ)) (made : List (Made A)) → new ≡ ps ++ qs → AreSpanned (length ps) made → gates_in new made ≡ gates_in ps made
+  gates-with ps new qs made e h = ap (λ ts. gates_in ts made) e ∙ gates-kept ps qs made h
+
+  -- one more sum, of parts behind those of the others
+  pub sum-more : (ps new qs : List (A × ℕ)) (made more : List (Made A)) (begin end : ℕ) → AreSpanned (length ps) made → new ≡ ps ++ qs → begin ≡ length ps → end ≡ length new → more ≡ made ++ stored.Combine begin end ∷ []
+      → gates_in new more ≡ gates_in ps made ++ Combine qs ∷ []
+  sum-more ps new qs made more begin end h e b f m =
+      let long : end ≡ length ps + length qs = f ∙ ap length e ∙ length-append ps qs in
+      ap (gates_in new) m ∙ map-append (gate_in new) made (stored.Combine begin end ∷ [])
+      ∙ ap₂ (λ xs g. xs ++ g ∷ []) (gates-with ps new qs made e h)
+      (ap (λ ts. gate_in ts (stored.Combine begin end)) e ∙ ap (λ k. gate_in (ps ++ qs) (stored.Combine k end)) b ∙ ap (λ p. Combine p) (last-piece ps qs end long))
+
+  -- it stands within the parts
+  pub sum-spanned : (ps new qs : List (A × ℕ)) (made : List (Made A)) (begin end : ℕ) → AreSpanned (length ps) made → new ≡ ps ++ qs → begin ≡ length ps → end ≡ length new → AreSpanned (length new) (made ++ stored.Combine begin end ∷ [])
+  sum-spanned ps new qs made begin end h e b f =
+      let longer : length ps ≤ length new = omega (arith, ap length e, length-append ps qs) in
+      spanned-more (length new) made (stored.Combine begin end) (spanned-wider (length ps) (length new) made longer h) (omega (arith, longer, b, f), omega (arith, f))
+
+  -- the first gates are over those before them
+  pub gates-take : (n count : ℕ) (made : List (Gate A)) → AreGates n made → AreGates n (take count made)
+  gates-take n zero made h = tt
+  gates-take n (suc count) [] h = tt
+  gates-take n (suc count) (g ∷ gs) h = (h.0, gates-take (n + 1) count gs h.1)

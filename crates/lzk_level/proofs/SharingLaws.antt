@@ -1,0 +1,214 @@
+-- The wires of a level, node by node.
+use Rattle.std.specs.Prelude.{◌≡◌, ℕ, ◌+◌, ◌-◌, ◌<◌, ◌≤◌, nat_le, cond, true, false, None, List, [], ◌∷◌, length}
+use Rattle.std.proofs.Common.{zero, suc, ◌⊎◌, inl, inr, sym, ap, ◌∙◌, arith, subst}
+use Rattle.std.proofs.lemmas.Bool.{cases_lt, true≢false, le-leb, lt-leb}
+use Rattle.std.proofs.lemmas.List.FromFn.{get_or-map-range_with_len}
+use Rattle.lzk_field.specs.Ring.{Ops, RingLaws, FieldLaws}
+use Rattle.lzk_field.specs.Sums.{entry}
+use Rattle.lzk_circuit.specs.declared.layer.Term.{Term}
+use Rattle.lzk_circuit.specs.declared.layer.Layer.{Layer}
+use Rattle.lzk_circuit.specs.Valid.{AreTerms}
+use Rattle.lzk_circuit.specs.Wires.{coef, wire, layer_values}
+use Rattle.lzk_circuit_reduce.specs.declared.kept.KeptWires.{KeptWires}
+use Rattle.lzk_circuit_reduce.specs.Kept.{IsKept, IsTable}
+use Rattle.lzk_circuit_reduce.specs.Reduced.{terms_of}
+use Rattle.lzk_circuit_reduce.specs.Renumbering.{at, of_wire, triples, IsOne}
+use Rattle.lzk_circuit_reduce.specs.Rows.{IsRow, row_value}
+use Rattle.lzk_circuit_reduce.proofs.KeptLaws.{kept-terms, kept-different}
+use Rattle.lzk_circuit_reduce.proofs.RenumberLaws.{wire-value}
+use Rattle.lzk_circuit_reduce.proofs.SharedWireLaws.{Taking, placed-value, placed-one}
+use Rattle.lzk_level.specs.Levels.{has_wire}
+use Rattle.lzk_level.specs.Stacking.{ArePassedBy}
+use Rattle.lzk_level.specs.Wires.{AreFormValues, AreFormWeights, AreWires, CarryValues, IsLight, IsLevelLayer, going_on, weight_in}
+use Rattle.lzk_level.proofs.LevelLaws.{wire-there, wire-needed}
+use Rattle.lzk_level.proofs.NumberedLaws.{goes-on-row, goes-on-value}
+
+-- a node that weighs in a level weighs in the next
+weight-grows : (depths : List ℕ) (level : ℕ) (weights : List ℕ) (k : ℕ) → cond (nat_le (at depths k) (level - 1)) (at weights k) 0 ≤ cond (nat_le (at depths k) level) (at weights k) 0
+weight-grows depths level weights k = elim (cases_lt (level - 1) (at depths k)) [
+  | inl deep ↦ omega (arith, ap (λ b. cond b (at weights k) 0) (lt-leb (at depths k) (level - 1) deep))
+  | inr up ↦ omega (arith, ap (λ b. cond b (at weights k) 0) (le-leb (at depths k) (level - 1) up), ap (λ b. cond b (at weights k) 0) (le-leb (at depths k) level (omega (arith, up))))
+]
+
+weight-more : (depths : List ℕ) (level : ℕ) (weights : List ℕ) (k : ℕ) → weight_in depths (level - 1) weights k ≤ weight_in depths level weights k
+weight-more depths level weights zero = omega arith
+weight-more depths level weights (suc k) = omega (arith, weight-more depths level weights k, weight-grows depths level weights k)
+
+-- one node more, without a wire
+light-skips : (depths : List ℕ) (level : ℕ) (weights : List ℕ) (k n : ℕ) → n + weight_in depths (level - 1) weights k ≤ k + weight_in depths level weights k → n + weight_in depths (level - 1) weights (suc k) ≤ suc k + weight_in depths level weights (suc k)
+light-skips depths level weights k n h = omega (arith, h, weight-grows depths level weights k)
+
+-- one node more, with so many terms
+light-adds : (depths : List ℕ) (level : ℕ) (weights : List ℕ) (k n m more : ℕ) → 1 ≤ level → at depths k ≤ level → IsLight depths level weights k m → more ≤ n + m → n + weight_in depths (level - 1) weights k ≤ k + weight_in depths level weights k
+    → more + weight_in depths (level - 1) weights (suc k) ≤ suc k + weight_in depths level weights (suc k)
+light-adds depths level weights k n m more some up light l h =
+    let heavy = at weights k in
+    let old = weight_in depths (level - 1) weights k in
+    let new = weight_in depths level weights k in
+    elim (cases_lt (at depths k) level) [
+      | inl less ↦ omega (
+        arith,
+        h,
+        l,
+        light.0 less,
+        ap (λ b. cond b heavy 0 + old) (le-leb (at depths k) (level - 1) (omega (arith, less, some))),
+        ap (λ b. cond b heavy 0 + new) (le-leb (at depths k) level up),
+      )
+      | inr same ↦ omega (
+        arith,
+        h,
+        l,
+        light.1 same,
+        ap (λ b. cond b heavy 0 + old) (lt-leb (at depths k) (level - 1) (omega (arith, same, some))),
+        ap (λ b. cond b heavy 0 + new) (le-leb (at depths k) level up),
+      )
+    ]
+
+last_or : (j k : ℕ) → j < suc k → (j < k) ⊎ (j ≡ k)
+last_or j k l = elim (cases_lt j k) [ inl m ↦ inl m | inr m ↦ inr (omega (arith, l, m)) ]
+
+-- a node that no level from here on uses has no wire
+wire-away : (depths last : List ℕ) (level k : ℕ) → at last k < level → has_wire depths last level k ≡ true → ⊥
+wire-away depths last level k low here = omega (arith, low, wire-needed depths last level k here)
+
+module _ {A : Type 0} (o : Ops A) (number_of : A → ℕ) (inputs : ℕ) (form : ℕ → List (Term A)) (depths last : List ℕ) (level : ℕ) (below : List ℕ) where
+  -- the row of node k, over the wires below
+  pub record RowOf (k : ℕ) (row : List (Term A)) : Type 0 where
+    pub is : (width : ℕ) → AreWires depths last (level - 1) width below → IsRow o width row
+    pub value : (values wires : List A) → AreFormValues o inputs (length depths) form values → CarryValues o depths last (level - 1) below values wires → row_value o wires row ≡ entry o values k
+    pub light : (weights : List ℕ) → AreFormWeights inputs (length depths) form weights → IsLight depths level weights k (length row)
+
+  -- that of the one goes on
+  pub one-row : RingLaws o → FieldLaws o → (row : List (Term A)) → 1 ≤ level → at depths 0 ≡ 0 → row ≡ going_on o 0 ∷ [] → RowOf 0 row
+  one-row r f row some zero_depth e = record {
+    is = λ width w. goes-on-row o f width 0 row e w.some;
+    value = λ values wires v c. goes-on-value o r wires 0 row e c.one ∙ c.one ∙ sym v.one;
+    light = λ weights h. ((λ less. omega (arith, ap length e)), (λ deep. absurd (omega (arith, deep, zero_depth, some))));
+  }
+
+  -- the wires of the first k nodes, over so many
+  pub record HaveWires (width k : ℕ) (kept : KeptWires A) (here : List ℕ) : Type 0 where
+    pub is : IsKept o number_of width kept
+    pub numbers : (j : ℕ) → j < k → has_wire depths last level j ≡ true → at here j < kept.count
+    pub first : IsOne o (of_wire 0 kept.terms.items)
+    pub values : (values wires : List A) → AreFormValues o inputs (length depths) form values → CarryValues o depths last (level - 1) below values wires → (j : ℕ) → j < k → has_wire depths last level j ≡ true
+        → row_value o wires (of_wire (at here j) kept.terms.items) ≡ entry o values j
+
+  pub record Sharing (k : ℕ) (kept : KeptWires A) (here : List ℕ) : Type 0 where
+    pub table : IsTable kept
+    pub room : length here ≡ length depths
+    pub some : 1 ≤ kept.count
+    pub few : kept.count ≤ k
+    pub one : at here 0 ≡ 0
+    pub light : (weights : List ℕ) → AreFormWeights inputs (length depths) form weights → length kept.terms.items + weight_in depths (level - 1) weights k ≤ k + weight_in depths level weights k
+    pub over : (width : ℕ) → AreWires depths last (level - 1) width below → HaveWires width k kept here
+
+  -- the first wire is that of the one, and no other node before this one has a wire
+  pub sharing-begins : (first w : ℕ) (none kept : KeptWires A) (here : List ℕ) (row : List (Term A)) → 1 ≤ level → level < at last 0 → ArePassedBy last level first → length here ≡ length depths → at here 0 ≡ w → none.count ≡ 0 → length none.terms.items ≡ 0
+      → ((width : ℕ) → IsKept o number_of width none) → length row ≡ 1 → IsOne o row → RowOf 0 row → Taking o number_of none kept row w → 1 ≤ kept.count → Sharing first kept here
+  sharing-begins first w none kept here row some high p room at_is none_there empty is single one r t some_wire =
+      let least = λ (width : ℕ). t.first width (is width) none_there in
+      record {
+        table = t.table;
+        room = room;
+        some = omega (arith, some_wire);
+        few = omega (arith, t.count, none_there, p.some);
+        one = at_is ∙ least 0;
+        light = λ weights h. omega (arith, t.short, single, empty, p.some, weight-more depths level weights first);
+        over = λ width below_are.
+            let row_is = r.is width below_are in
+            let taken = t.terms width (is width) row_is in
+            record {
+              is = t.still width (is width) row_is;
+              numbers = λ j l there. elim (cases_lt 0 j) [
+                | inl m ↦ absurd (wire-away depths last level j (p.each j m l) there)
+                | inr m ↦ let first_is : 0 ≡ j = omega (arith, m) in subst (λ i. at here i < kept.count) first_is (omega (arith, at_is, t.wire width (is width) row_is))
+              ];
+              first = subst (λ i. IsOne o (of_wire i kept.terms.items)) (least width) (ap triples taken ∙ placed-one o w row one);
+              values = λ values wires v c j l there. elim (cases_lt 0 j) [
+                | inl m ↦ absurd (wire-away depths last level j (p.each j m l) there)
+                | inr m ↦
+                    let first_is : 0 ≡ j = omega (arith, m) in
+                    subst (λ i. row_value o wires (of_wire (at here i) kept.terms.items) ≡ entry o values i) first_is
+                    (ap (λ i. row_value o wires (of_wire i kept.terms.items)) at_is ∙ ap (row_value o wires) taken ∙ placed-value o w wires row ∙ r.value values wires v c)
+              ];
+            };
+      }
+
+  -- a node without a wire
+  pub sharing-skips : (k : ℕ) (kept : KeptWires A) (here : List ℕ) → has_wire depths last level k ≡ false → Sharing k kept here → Sharing (suc k) kept here
+  sharing-skips k kept here away s = record {
+    table = s.table;
+    room = s.room;
+    some = s.some;
+    few = omega (arith, s.few);
+    one = s.one;
+    light = λ weights h. light-skips depths level weights k (length kept.terms.items) (s.light weights h);
+    over = λ width below_are.
+        let v = s.over width below_are in
+        record {
+          is = v.is;
+          numbers = λ j l there. elim (last_or j k l) [ inl m ↦ v.numbers j m there | inr e ↦ absurd (true≢false (sym there ∙ ap (has_wire depths last level) e ∙ away)) ];
+          first = v.first;
+          values = λ values wires f c j l there. elim (last_or j k l) [ inl m ↦ v.values values wires f c j m there | inr e ↦ absurd (true≢false (sym there ∙ ap (has_wire depths last level) e ∙ away)) ];
+        };
+  }
+
+  -- a node with a wire, which has this row
+  pub sharing-adds : (k w : ℕ) (kept more : KeptWires A) (old here : List ℕ) (row : List (Term A)) → 1 ≤ level → 1 ≤ k → at depths k ≤ level → length here ≡ length old → at here k ≡ w → ((j : ℕ) → j < k → at here j ≡ at old j)
+      → RowOf k row → Taking o number_of kept more row w → Sharing k kept old → Sharing (suc k) more here
+  sharing-adds k w kept more old here row some_level behind up room at_is before r t s = record {
+    table = t.table;
+    room = room ∙ s.room;
+    some = omega (arith, s.some, t.grows);
+    few = omega (arith, s.few, t.count);
+    one = before 0 (omega (arith, behind)) ∙ s.one;
+    light = λ weights h. light-adds depths level weights k (length kept.terms.items) (length row) (length more.terms.items) some_level up (r.light weights h) t.short (s.light weights h);
+    over = λ width below_are.
+        let v = s.over width below_are in
+        let row_is = r.is width below_are in
+        let taken = t.terms width v.is row_is in
+        record {
+          is = t.still width v.is row_is;
+          numbers = λ j l there. elim (last_or j k l) [
+            | inl m ↦ omega (arith, before j m, v.numbers j m there, t.grows)
+            | inr e ↦ omega (arith, ap (at here) e, at_is, t.wire width v.is row_is)
+          ];
+          first = ap triples (t.before width v.is row_is 0 (omega (arith, s.some))) ∙ v.first;
+          values = λ values wires f c j l there. elim (last_or j k l) [
+            | inl m ↦
+                ap (λ i. row_value o wires (of_wire i more.terms.items)) (before j m)
+                ∙ ap (row_value o wires) (t.before width v.is row_is (at old j) (v.numbers j m there)) ∙ v.values values wires f c j m there
+            | inr e ↦ subst (λ i. row_value o wires (of_wire (at here i) more.terms.items) ≡ entry o values i) (sym e)
+                (ap (λ i. row_value o wires (of_wire i more.terms.items)) at_is ∙ ap (row_value o wires) taken ∙ placed-value o w wires row ∙ r.value values wires f c)
+          ];
+        };
+  }
+
+module _ {A : Type 0} (o : Ops A) (r : RingLaws o) (number_of : A → ℕ) (inputs : ℕ) (form : ℕ → List (Term A)) (depths last : List ℕ) (level : ℕ) (below : List ℕ) where
+  value-at : (layer : Layer A) (wires : List A) (g : ℕ) → g < layer.wires → AreTerms o layer.wires (length wires) None layer.terms → entry o (layer_values o layer wires) g ≡ row_value o wires (of_wire g layer.terms)
+  value-at layer wires g l h = get_or-map-range_with_len (wire o (coef o layer.terms) wires) 0 layer.wires g g o.zero l (omega arith) ∙ wire-value o r layer.wires layer.terms wires g l h
+
+  -- the layer of these wires
+  pub shared-layer : (width n : ℕ) (kept : KeptWires A) (here : List ℕ) (layer : Layer A) → n ≡ length depths → at depths 0 ≡ 0 → 1 ≤ length depths → level < at last 0 → layer.wires ≡ kept.count → layer.terms ≡ kept.terms.items → AreWires depths last (level - 1) width below
+      → Sharing o number_of inputs form depths last level below n kept here → IsLevelLayer o inputs form depths last (level - 1) level width below here layer
+  shared-layer width n kept here layer top zero_depth some high wires_is terms_is below_are s =
+      let v = s.over width below_are in
+      let terms : AreTerms o layer.wires width None layer.terms = subst (λ ts. AreTerms o layer.wires width None ts) (sym terms_is) (subst (λ k. AreTerms o k width None kept.terms.items) (sym wires_is) (kept-terms o width kept v.is)) in
+      let number : (k : ℕ) → k < length depths → has_wire depths last level k ≡ true → at here k < layer.wires = λ k l there. omega (arith, wires_is, v.numbers k (omega (arith, l, top)) there) in
+      let carried : (values wires : List A) → length wires ≡ width → AreFormValues o inputs (length depths) form values → CarryValues o depths last (level - 1) below values wires → (k : ℕ) → k < length depths → has_wire depths last level k ≡ true
+      → entry o (layer_values o layer wires) (at here k) ≡ entry o values k = λ values wires e f c k l there.
+      value-at layer wires (at here k) (number k l there) (subst (λ w. AreTerms o layer.wires w None layer.terms) (sym e) terms)
+      ∙ ap (λ ts. row_value o wires (of_wire (at here k) ts)) terms_is ∙ v.values values wires f c k (omega (arith, l, top)) there in
+      record {
+        wires = record { count = s.room; some = omega (arith, s.some, wires_is); one = s.one; each = number };
+        few = omega (arith, s.few, wires_is, top);
+        terms = terms;
+        values = λ values wires e f c. record {
+          one = ap (entry o (layer_values o layer wires)) (sym s.one) ∙ carried values wires e f c 0 some (wire-there depths last level 0 (omega (arith, zero_depth)) high) ∙ f.one;
+          each = carried values wires e f c;
+        };
+        one = ap (terms_of 0) terms_is ∙ v.first;
+        different = λ i j l m e. kept-different o width kept v.is i j l (omega (arith, m, wires_is)) (sym (ap (terms_of i) terms_is) ∙ e ∙ ap (terms_of j) terms_is);
+        light = λ weights h. subst (λ k. length layer.terms + weight_in depths (level - 1) weights k ≤ k + weight_in depths level weights k) top (subst (λ ts. length ts + weight_in depths (level - 1) weights n ≤ n + weight_in depths level weights n) (sym terms_is) (s.light weights h));
+      }

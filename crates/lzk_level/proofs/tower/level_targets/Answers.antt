@@ -1,0 +1,24 @@
+use Rattle.std.proofs.Common.{◌≡◌, ◌∙◌, ◌∷◌, [], ◌++◌, ap, sym, map, take}
+use Rattle.std.proofs.lemmas.List.{get_or_default, map-append}
+use Rattle.lzk_circuit_reduce.specs.Renumbering.{at}
+use Rattle.lzk_level.specs.Checking.{of_depth}
+use Rattle.lzk_level.proofs.CheckingLaws.{depth-here, depth-other}
+use Rattle.lzk_level.proofs.tower.level_targets.Goals.{then-of_node-level+in_ok-push, else-of_node-level}
+use Rattle.lzk_level.proofs.tower.level_targets.Goals as goal
+
+pub loop-i-preserved : goal.loop-i-preserved
+loop-i-preserved c =
+    let depths = c.args.depths.now in
+    let numbers = c.args.numbers.now in
+    let level = c.args.level in
+    let asserts = c.args.asserts.now in
+    let i = c.loop-i.i in
+    let l = c.loop-i-test.true in
+    let is : c.index-asserts-i.result ≡ at asserts i = c.index-asserts-i.is ∙ get_or_default asserts i c.index-asserts-i.result 0 l in
+    elim c.if-of_node-level.branch [
+      | then-of_node-level+in_ok-push w ↦
+          ap (λ v. v.items) w.wires-is ∙ w.in_ok-push.ensures.items ∙ ap (λ x. c.loop-i.wires.items ++ x ∷ []) (w.of_node-then-of_node-level.ensures ∙ ap (at numbers) is) ∙ ap (λ xs. xs ++ at numbers (at asserts i) ∷ []) c.loop-i.invariant
+          ∙ sym (ap (map (at numbers)) (depth-here depths level asserts i l (ap (at depths) (sym is) ∙ sym c.of_node.ensures ∙ w.if-of_node-level.true)) ∙ map-append (at numbers) (of_depth depths level (take i asserts)) (at asserts i ∷ []))
+      | else-of_node-level w ↦
+          ap (λ v. v.items) w.wires-is ∙ c.loop-i.invariant ∙ sym (ap (map (at numbers)) (depth-other depths level asserts i l (λ e. w.if-of_node-level.false (c.of_node.ensures ∙ ap (at depths) is ∙ e))))
+    ]

@@ -1,0 +1,50 @@
+use Rattle.std.proofs.Common.{◌≡◌, ◌∙◌, ap, sym, subst, arith, reverse, length, map, suc, ℕ, ◌-◌, ◌∷◌}
+use Rattle.std.proofs.lemmas.List.{with_items_is}
+use Rattle.lzk_circuit.specs.Valid.{under_of}
+use Rattle.lzk_circuit_reduce.specs.Renumbering.{at}
+use Rattle.lzk_level.specs.Checking.{of_depth}
+use Rattle.lzk_level.specs.Stacks.{AreLevels}
+use Rattle.lzk_level.specs.Uses.{node_form}
+use Rattle.lzk_level.specs.Wires.{AreWires, IsLevelLayer}
+use Rattle.lzk_level.proofs.StackLaws.{levels-add, passed-above, turned}
+use Rattle.lzk_level.proofs.tower.raise.Goals as goal
+
+pub first_open-tower-requires : goal.first_open-tower-requires
+first_open-tower-requires g c = passed-above c.args.graph.now.last.now (c.args.level - 1) c.args.level c.args.tower.now.first (omega arith) c.requires.tower.passed
+
+pub inner_layer-requires-clause-room : goal.inner_layer-requires-clause-room
+inner_layer-requires-clause-room g c κs within = ap length c.deref_mut.ensures.value ∙ c.requires.tower.room
+
+pub returns : goal.returns
+returns g c =
+    let o = g.F.Field.ops in
+    let graph = c.args.graph.now in
+    let inputs = graph.inputs in
+    let forms = graph.forms.now in
+    let form = node_form inputs forms in
+    let depths = graph.depths.now in
+    let last = graph.last.now in
+    let asserts = c.args.asserts.now in
+    let level = c.args.level in
+    let under = level - 1 in
+    let above : level ≡ suc under = omega (arith, c.requires.some) in
+    let tower = c.args.tower.now in
+    let s = c.requires.tower in
+    let layer = c.in_ok-layer.layer in
+    let here = c.inner_layer.new.here in
+    let own = c.in_ok-wires.wires in
+    let width = (under_of inputs (reverse tower.layers.items)).width in
+    let own_is : own ≡ map (at tower.below.items) (of_depth depths under asserts) = c.in_ok-wires.ensures ∙ ap (λ ns. map (at ns) (of_depth depths under asserts)) c.deref.ensures.value in
+    let made = subst (λ ns. (n : ℕ) → AreWires depths last under n ns → IsLevelLayer o inputs form depths last under level n ns here layer) c.deref-2.ensures.value c.in_ok-layer.ensures in
+    let t = made width s.levels.wires in
+    let kept : length here ≡ tower.here.len = omega (arith, t.wires.count, s.room, tower.here.ok.0) in
+    let numbers : c.swap.new.x.items ≡ here = ap (λ v. v.items) c.swap.ensures.x_after ∙ with_items_is tower.here here kept in
+    let all = levels-add o inputs forms depths last asserts graph.formed under level layer (reverse tower.layers.items) own (reverse tower.targets.items) tower.below.items here above c.requires.asserts own_is t s.levels in
+    record {
+      passed = c.first_open-tower.ensures;
+      room = ap (λ v. length v.items) c.swap.ensures.y_after ∙ s.levels.wires.count;
+      levels =
+          subst (λ ns. AreLevels o inputs form depths last asserts level (reverse c.push-2.new.self.items) (reverse c.push.new.self.items) ns) (sym numbers)
+          (subst (λ ws. AreLevels o inputs form depths last asserts level (reverse c.push-2.new.self.items) ws here) (sym (turned tower.targets.items c.push.new.self.items own c.in_ok-push.ensures.items))
+          (subst (λ ls. AreLevels o inputs form depths last asserts level ls (own ∷ reverse tower.targets.items) here) (sym (turned tower.layers.items c.push-2.new.self.items layer c.in_ok-push-2.ensures.items)) all));
+    }

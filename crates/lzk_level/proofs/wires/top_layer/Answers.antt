@@ -1,0 +1,53 @@
+use Rattle.std.proofs.Common.{◌≡◌, ◌∙◌, refl, sym, subst, arith, length}
+use Rattle.std.proofs.lemmas.List.{get_or_default}
+use Rattle.lzk_circuit_reduce.specs.Renumbering.{at}
+use Rattle.lzk_level.specs.Uses.{node_form}
+use Rattle.lzk_level.specs.Wires.{IsDue}
+use Rattle.lzk_level.proofs.SharingLaws.{RowOf}
+use Rattle.lzk_level.proofs.TopLaws.{outer-starts, outer-adds, outer-ends}
+use Rattle.lzk_level.proofs.wires.top_layer.Goals as goal
+
+pub loop-g-init : goal.loop-g-init
+loop-g-init g c =
+    let graph = c.args.graph.now in
+    outer-starts g.F.Field.ops g.F.Field.coding.number graph.inputs (node_form graph.inputs graph.forms.now) graph.depths.now graph.last.now c.args.level c.args.below.now c.args.outputs.now c.new-terms.result.items c.new-terms.ensures.items
+
+pub node_row-requires-clause-due : goal.node_row-requires-clause-due
+node_row-requires-clause-due g c κs within =
+    let graph = c.args.graph.now in
+    let outputs = c.args.outputs.now in
+    let i = c.loop-g.g in
+    let l = c.loop-g-test.true in
+    let number : c.number.result ≡ at outputs i = c.number.ensures ∙ c.index-outputs-g.is ∙ get_or_default outputs i c.index-outputs-g.result 0 l in
+    let q = c.requires.outputs in
+    subst (IsDue graph.depths.now graph.last.now c.args.level) (sym number) (record { some = q.some; node = q.nodes i l; up = q.deep i l; used = c.requires.used.each i l })
+
+pub loop-g-preserved : goal.loop-g-preserved
+loop-g-preserved g c =
+    let o = g.F.Field.ops in
+    let code = g.F.Field.coding.number in
+    let graph = c.args.graph.now in
+    let inputs = graph.inputs in
+    let form = node_form inputs graph.forms.now in
+    let depths = graph.depths.now in
+    let last = graph.last.now in
+    let level = c.args.level in
+    let below = c.args.below.now in
+    let outputs = c.args.outputs.now in
+    let i = c.loop-g.g in
+    let l = c.loop-g-test.true in
+    let e = c.in_ok-append.ensures in
+    let own = c.in_ok-node_row.ensures in
+    let row = c.deref.result.now in
+    let number : c.number.result ≡ at outputs i = c.number.ensures ∙ c.index-outputs-g.is ∙ get_or_default outputs i c.index-outputs-g.result 0 l in
+    outer-adds o code inputs form depths last level below outputs i c.loop-g.terms.items c.append.new.terms.items row l c.requires.outputs.nodes
+    (subst (λ k. RowOf o code inputs form depths last level below k row) number (subst (RowOf o code inputs form depths last level below c.number.result) (sym c.deref.ensures.value) (record { is = own.row; value = own.value; light = own.light })))
+    e.terms e.before e.added e.count c.loop-g.invariant
+
+pub returns : goal.returns
+returns g c width w =
+    let graph = c.args.graph.now in
+    let outputs = c.args.outputs.now in
+    let top : c.loop-g.g ≡ length outputs = omega (arith, c.loop-g-test.false, c.loop-g.auto.g-end) in
+    outer-ends g.F.Field.ops g.F.Field.coding.number graph.inputs (node_form graph.inputs graph.forms.now) graph.depths.now graph.last.now c.args.level c.args.below.now outputs width c.loop-g.g c.loop-g.terms.items (record { wires = length outputs; terms = c.new.result })
+    top refl c.new.ensures w c.loop-g.invariant

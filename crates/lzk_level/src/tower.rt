@@ -1,0 +1,164 @@
+//! Levels one above the other, from the inputs up.
+
+ghost use Rattle.std.specs.Prelude.{◌≡◌, ℕ, ◌+◌, ◌-◌, ◌<◌, ◌≤◌, List, length, map, IfOk};
+ghost use Rattle.lzk_circuit_reduce.specs.Renumbering.{at};
+ghost use Rattle.lzk_level.specs.Checking.{of_depth};
+ghost use Rattle.lzk_level.specs.Stacking.{AreOutputs, AreNeededTo};
+ghost use Rattle.lzk_level.specs.Stacks.{AreAssertable, IsTower, IsStack};
+ghost use Rattle.lzk_level.specs.Uses.{node_form};
+
+use crate::graph::Graph;
+use crate::node::{Node, of_node};
+use crate::wires::{first_open, inner_layer, top_layer};
+use lzk_circuit::Layer;
+use lzk_circuit_reduce::Targets;
+use lzk_field::Field;
+use std::alloc::{AllocError, Global};
+
+/// Layers while they are made, the last one first.
+#[derive(Drop)]
+pub(crate) struct Tower<F> {
+    /// The layers.
+    pub layers: Vec<Layer<F>>,
+    /// What each asserts of the level below it.
+    pub targets: Vec<Targets>,
+    /// The number of each node's wire in the uppermost level.
+    pub below: Vec<u32>,
+    /// Room for those of the next.
+    pub here: Vec<u32>,
+    /// The first node but the one that this level or one above it uses.
+    pub first: usize,
+}
+
+// The numbers from 0 on.
+fn numbers_to(alloc: Global, count: u32) -> Result<Vec<u32>, AllocError>
+    ensures count { IfOk result (λ numbers. length numbers.items ≡ count) }
+    ensures each { (k : ℕ) → k < count → IfOk result (λ numbers. at numbers.items k ≡ k) }
+{
+    let mut numbers = Vec::with_capacity(alloc, count as usize)?;
+    for i in 0..count {
+        numbers.push(i)?;
+    }
+    Ok(numbers)
+}
+
+// No layers yet: each input has its own number.
+fn no_layers<F: Field>(alloc: Global, graph: &Graph<'_, F>) -> Result<Tower<F>, AllocError>
+    ensures { (asserts : List ℕ) → IfOk result (IsTower F.ops graph.now.inputs
+        (node_form graph.now.inputs graph.now.forms.now)
+        graph.now.depths.now graph.now.last.now asserts 0) }
+{
+    let nodes = graph.depths.len();
+    let here = vec![in alloc; 0; nodes]?;
+    let below = numbers_to(alloc, nodes as u32)?;
+    Ok(Tower {
+        layers: Vec::new(alloc),
+        targets: Vec::new(alloc),
+        below,
+        here,
+        first: 1,
+    })
+}
+
+// The wires of a level that are those of the asserted nodes of its depth.
+fn level_targets(
+    alloc: Global,
+    depths: &[u32],
+    level: u32,
+    asserts: &[Node],
+    numbers: &[u32],
+) -> Result<Targets, AllocError>
+    ensures { IfOk result (λ wires. wires ≡ map (at numbers.now) (of_depth depths.now level asserts.now)) }
+{
+    let mut wires = Vec::new(alloc);
+    for i in 0..asserts.len() {
+        let node = asserts[i];
+        if of_node(depths, node) == level {
+            wires.push(of_node(numbers, node))?;
+        }
+    }
+    Ok(Targets::new(wires))
+}
+
+// One level more.
+fn raise<F: Field>(
+    alloc: Global,
+    graph: &Graph<'_, F>,
+    asserts: &[Node],
+    level: u32,
+    tower: &mut Tower<F>,
+) -> Result<(), AllocError>
+    requires some { 1 ≤ level }
+    requires high { level < at graph.now.last.now 0 }
+    requires asserts { AreAssertable graph.now.depths.now graph.now.last.now asserts.now level }
+    requires tower { IsTower F.ops graph.now.inputs
+        (node_form graph.now.inputs graph.now.forms.now)
+        graph.now.depths.now graph.now.last.now asserts.now (level - 1) tower.old }
+    ensures { IfOk result (λ _. IsTower F.ops graph.now.inputs
+        (node_form graph.now.inputs graph.now.forms.now)
+        graph.now.depths.now graph.now.last.now asserts.now level tower.new) }
+{
+    let wires = level_targets(alloc, graph.depths, level - 1, asserts, &tower.below)?;
+    tower.targets.push(wires)?;
+    tower.first = first_open(graph.last, level, tower.first);
+    let layer = inner_layer(
+        alloc,
+        graph,
+        level,
+        tower.first,
+        &tower.below,
+        &mut tower.here,
+    )?;
+    tower.layers.push(layer)?;
+    std::mem::swap(&mut tower.below, &mut tower.here);
+    Ok(())
+}
+
+// The outputs' layer on top. The layers and what they assert are turned, so that it comes first.
+fn cap<F: Field>(
+    alloc: Global,
+    graph: &Graph<'_, F>,
+    outputs: &[Node],
+    asserts: &[Node],
+    count: u32,
+    tower: &mut Tower<F>,
+) -> Result<(), AllocError>
+    requires outputs { AreOutputs graph.now.depths.now outputs.now count }
+    requires used { AreNeededTo graph.now.last.now outputs.now count }
+    requires asserts { AreAssertable graph.now.depths.now graph.now.last.now asserts.now count }
+    requires tower { IsTower F.ops graph.now.inputs (node_form graph.now.inputs graph.now.forms.now)
+        graph.now.depths.now graph.now.last.now asserts.now (count - 1) tower.old }
+    ensures { IfOk result (λ _. IsStack F.ops graph.now.inputs (node_form graph.now.inputs graph.now.forms.now)
+        graph.now.depths.now count outputs.now asserts.now tower.new.layers.items tower.new.targets.items) }
+{
+    let wires = level_targets(alloc, graph.depths, count - 1, asserts, &tower.below)?;
+    tower.targets.push(wires)?;
+    let layer = top_layer(alloc, graph, count, outputs, &tower.below)?;
+    tower.layers.push(layer)?;
+    tower.layers.reverse();
+    tower.targets.reverse();
+    Ok(())
+}
+
+/// The layers for these outputs, the outputs' layer first, and what each asserts of the level below it: the wires of
+/// the asserted nodes of that depth.
+pub(crate) fn stacked<F: Field>(
+    alloc: Global,
+    graph: &Graph<'_, F>,
+    outputs: &[Node],
+    asserts: &[Node],
+    count: u32,
+) -> Result<Tower<F>, AllocError>
+    requires outputs { AreOutputs graph.now.depths.now outputs.now count }
+    requires used { AreNeededTo graph.now.last.now outputs.now count }
+    requires asserts { AreAssertable graph.now.depths.now graph.now.last.now asserts.now count }
+    ensures { IfOk result (λ tower. IsStack F.ops graph.now.inputs (node_form graph.now.inputs graph.now.forms.now)
+        graph.now.depths.now count outputs.now asserts.now tower.layers.items tower.targets.items) }
+{
+    let mut tower = no_layers(alloc, graph)?;
+    for level in 1..count {
+        raise(alloc, graph, asserts, level, &mut tower)?;
+    }
+    cap(alloc, graph, outputs, asserts, count, &mut tower)?;
+    Ok(tower)
+}
