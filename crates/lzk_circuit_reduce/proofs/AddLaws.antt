@@ -1,5 +1,5 @@
 -- One term more in a row.
-use Rattle.std.specs.Prelude.{◌≡◌, ◌≢◌, ℕ, ◌+◌, ◌<◌, IsTrue, Option, Some, None, List, [], ◌∷◌, ◌++◌, length, take, drop}
+use Rattle.std.specs.Prelude.{◌≡◌, ◌≢◌, ℕ, ◌+◌, ◌<◌, ◌≤◌, IsTrue, Option, Some, None, List, [], ◌∷◌, ◌++◌, length, take, drop}
 use Rattle.std.proofs.Common.{zero, suc, inl, inr, refl, sym, ap, ◌∙◌, arith, subst, get_or}
 use Rattle.std.proofs.lemmas.Bool.{cases_lt}
 use Rattle.std.proofs.lemmas.List.{take-append-drop, drop_more}
@@ -23,6 +23,10 @@ module _ {X : Type 0} where
 
   pub same-at : (xs : List X) (i : ℕ) (x y : X) → i < length xs → x ≡ get_or xs i x → y ≡ get_or xs i y → x ≡ y
   same-at xs i x y l e f = any-default xs i x y l e ∙ sym f
+
+  -- there is a term in no empty row
+  pub none-behind : (xs ys : List X) → ys ≡ xs → xs ≡ [] → 1 ≤ length ys → ⊥
+  none-behind xs ys e none some = omega (arith, ap length e, ap length none, some)
 
 module _ {A : Type 0} where
   -- two terms of which neither comes before the other stand at one place
@@ -96,6 +100,10 @@ module _ {A : Type 0} (o : Ops A) (r : RingLaws o) where
   inserted-value below ts i t =
       value-append o r below (take i ts) (t ∷ drop i ts) ∙ swapped (row_value o below (take i ts)) (term_value o below t) (row_value o below (drop i ts))
       ∙ ap (plus (term_value o below t)) (sym (value-append o r below (take i ts) (drop i ts)) ∙ ap (row_value o below) (take-append-drop i ts))
+
+  pub pushed-value : (below : List A) (ts : List (Term A)) (t : Term A) → row_value o below (ts ++ t ∷ []) ≡ plus (term_value o below t) (row_value o below ts)
+  pushed-value below ts t =
+      value-append o r below ts (t ∷ []) ∙ ap (plus (row_value o below ts)) (r.plus_zero (term_value o below t)) ∙ r.plus_comm (row_value o below ts) (term_value o below t)
 
   -- a term, and the others
   parted-value : (below : List A) (ts : List (Term A)) (i : ℕ) (t : Term A) → i < length ts → t ≡ get_or ts i t → row_value o below ts ≡ plus (term_value o below t) (row_value o below (take i ts ++ drop (suc i) ts))

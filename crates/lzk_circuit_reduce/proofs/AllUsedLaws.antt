@@ -1,36 +1,50 @@
 -- Layers of which each wire is used.
-use Rattle.std.specs.Prelude.{◌≡◌, ℕ, ◌+◌, ◌<◌, ◌≤◌, ◌==◌, ◌&&◌, ◌||◌, Bool, true, None, List, [], ◌∷◌, length}
-use Rattle.std.proofs.Common.{zero, suc, inl, inr, sym, ◌∙◌, arith, subst, get_or}
-use Rattle.std.proofs.lemmas.Bool.{or_cases, and_parts, eqb-true}
+use Rattle.std.specs.Prelude.{◌≡◌, ℕ, ◌+◌, ◌<◌, ◌≤◌, ◌==◌, ◌||◌, Bool, true, None, List, [], ◌∷◌, length}
+use Rattle.std.proofs.Common.{◌⊎◌, zero, suc, inl, inr, sym, ◌∙◌, arith, subst, get_or}
+use Rattle.std.proofs.lemmas.Bool.{or_cases, eqb-true}
 use Rattle.lzk_field.specs.Ring.{Ops}
 use Rattle.lzk_circuit.specs.declared.layer.Term.{Term}
 use Rattle.lzk_circuit.specs.declared.layer.Layer.{Layer}
 use Rattle.lzk_circuit.specs.Valid.{AreTerms, AreLayers}
-use Rattle.lzk_circuit_reduce.specs.Marks.{is_marked, names}
+use Rattle.lzk_circuit_reduce.specs.Marks.{is_marked}
 use Rattle.lzk_circuit_reduce.specs.Asserting.{AreUsedWith, AreUsedUnderWith, AreAllUsedWith}
 use Rattle.lzk_circuit_reduce.specs.Reduced.{IsNamed}
 use Rattle.lzk_circuit_reduce.proofs.TargetLaws.{behind-at}
 use Rattle.lzk_circuit_reduce.specs.Targets.{targets_at, behind, is_in, AreBelow, AreTargets}
 
 module _ {A : Type 0} where
-  named : (marks : List Bool) (ts : List (Term A)) (g : ℕ) → names marks ts g ≡ true → IsNamed ts g
-  named marks [] g h = absurd cc
-  named marks (t ∷ ts) g h = elim (or_cases (is_marked marks t.g && ((t.a == g) || (t.b == g))) (names marks ts g) h) [
-    | inl k ↦ elim (or_cases (t.a == g) (t.b == g) (and_parts (is_marked marks t.g) ((t.a == g) || (t.b == g)) k).1) [
-      | inl e ↦ inl (inl (eqb-true t.a g e))
-      | inr e ↦ inl (inr (eqb-true t.b g e))
+  -- a term of some names its wires
+  pub named-first : (ts : List (Term A)) (i g : ℕ) (d : Term A) → i < length ts → (get_or ts i d).a ≡ g → IsNamed ts g
+  named-first [] i g d l e = absurd (omega (arith, l))
+  named-first (t ∷ ts) zero g d l e = inl (inl e)
+  named-first (t ∷ ts) (suc i) g d l e = inr (named-first ts i g d (omega (arith, l)) e)
+
+  pub named-second : (ts : List (Term A)) (i g : ℕ) (d : Term A) → i < length ts → (get_or ts i d).b ≡ g → IsNamed ts g
+  named-second [] i g d l e = absurd (omega (arith, l))
+  named-second (t ∷ ts) zero g d l e = inl (inr e)
+  named-second (t ∷ ts) (suc i) g d l e = inr (named-second ts i g d (omega (arith, l)) e)
+
+  -- marks are of wires that were marked before, or that a term names; a term's wires more are marked
+  pub named-more : (ts : List (Term A)) (i : ℕ) (d e : Term A) (old marks more : List Bool) → i < length ts → ((k : ℕ) → is_marked more k ≡ (is_marked marks k || (((get_or ts i d).a == k) || ((get_or ts i e).b == k))))
+      → ((k : ℕ) → is_marked marks k ≡ true → (is_marked old k ≡ true) ⊎ IsNamed ts k) → (k : ℕ) → is_marked more k ≡ true → (is_marked old k ≡ true) ⊎ IsNamed ts k
+  named-more ts i d e old marks more l with_both h k m = elim (or_cases (is_marked marks k) (((get_or ts i d).a == k) || ((get_or ts i e).b == k)) (sym (with_both k) ∙ m)) [
+    | inl before ↦ h k before
+    | inr both ↦ elim (or_cases ((get_or ts i d).a == k) ((get_or ts i e).b == k) both) [
+      | inl first ↦ inr (named-first ts i k d l (eqb-true (get_or ts i d).a k first))
+      | inr second ↦ inr (named-second ts i k e l (eqb-true (get_or ts i e).b k second))
     ]
-    | inr k ↦ inr (named marks ts g k)
   ]
 
   -- a layer whose wires are all marked as named or asserted, or are wire 0
-  pub used-of-marks : (above layer : Layer A) (ws : List ℕ) (marks below more : List Bool) → length below ≡ layer.wires → ((k : ℕ) → k < layer.wires → is_marked below k ≡ ((k == 0) || names marks above.terms k))
-      → length more ≡ length below → ((k : ℕ) → is_marked more k ≡ (is_marked below k || is_in ws k)) → ((k : ℕ) → k < length more → is_marked more k ≡ true) → AreUsedWith above ws layer
-  used-of-marks above layer ws marks below more count is same with_ws all g some l = elim (or_cases (is_marked below g) (is_in ws g) (sym (with_ws g) ∙ all g (omega (arith, l, count, same)))) [
+  pub used-of-marks : (above layer : Layer A) (ws : List ℕ) (ts : List (Term A)) (first below more : List Bool) → ts ≡ above.terms → length more ≡ layer.wires
+      → ((k : ℕ) → k < layer.wires → is_marked first k ≡ (k == 0))
+      → ((k : ℕ) → is_marked below k ≡ true → (is_marked first k ≡ true) ⊎ IsNamed ts k)
+      → ((k : ℕ) → is_marked more k ≡ (is_marked below k || is_in ws k)) → ((k : ℕ) → k < length more → is_marked more k ≡ true) → AreUsedWith above ws layer
+  used-of-marks above layer ws ts first below more e count least named with_ws all g some l = elim (or_cases (is_marked below g) (is_in ws g) (sym (with_ws g) ∙ all g (omega (arith, l, count)))) [
     | inr asserted ↦ inr asserted
-    | inl here ↦ elim (or_cases (g == 0) (names marks above.terms g) (sym (is g l) ∙ here)) [
-      | inl e ↦ absurd (omega (arith, eqb-true g 0 e, some))
-      | inr k ↦ inl (named marks above.terms g k)
+    | inl here ↦ elim (named g here) [
+      | inl zeroth ↦ absurd (omega (arith, eqb-true g 0 (sym (least g l) ∙ zeroth), some))
+      | inr k ↦ inl (subst (λ us. IsNamed us g) e k)
     ]
   ]
 

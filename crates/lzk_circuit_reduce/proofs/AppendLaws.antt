@@ -1,6 +1,7 @@
 -- A layer's terms, wire by wire.
-use Rattle.std.specs.Prelude.{◌≡◌, ℕ, ◌+◌, ◌<◌, ◌==◌, ◌&&◌, ◌||◌, nat_lt, cond, Option, None, Some, IsTrue, List, [], ◌∷◌, ◌++◌, length, map}
-use Rattle.std.proofs.Common.{refl, sym, ap, ◌∙◌, arith}
+use Rattle.std.specs.Prelude.{◌≡◌, ℕ, ◌+◌, ◌<◌, ◌≤◌, ◌==◌, ◌&&◌, ◌||◌, nat_lt, cond, Option, None, Some, IsTrue, List, [], ◌∷◌, ◌++◌, length, map, take}
+use Rattle.std.proofs.Common.{refl, sym, ap, ◌∙◌, arith, get_or}
+use Rattle.std.proofs.lemmas.List.{append_assoc, length-append, length-map, length-take}
 use Rattle.std.proofs.lemmas.Bool.{or_left, lt-ltb, ne_eqb, eq-eqb}
 use Rattle.lzk_field.specs.Ring.{Ops, RingLaws}
 use Rattle.lzk_field.specs.Sums.{entry}
@@ -11,7 +12,7 @@ use Rattle.lzk_circuit.proofs.OrderLaws.{distinct}
 use Rattle.lzk_circuit.specs.Sums.{sum_list}
 use Rattle.lzk_circuit.proofs.TermSums.{share, wire-terms, sum_pairs-ext}
 use Rattle.lzk_circuit_reduce.specs.Rows.{IsRow, row_value, term_value, placed}
-use Rattle.lzk_circuit_reduce.proofs.RowLaws.{last_from, append-terms, precedes-less, less-precedes}
+use Rattle.lzk_circuit_reduce.proofs.RowLaws.{map-more, last_from, append-terms, precedes-less, less-precedes}
 
 module _ {A : Type 0} where
   -- every term is one of wire 0
@@ -107,3 +108,14 @@ module _ {A : Type 0} (o : Ops A) (r : RingLaws o) where
       same-wire (coef o (ts ++ map (placed g) row)) (coef o row) below g 0
       (λ a b. coef-behind o g a b (length below) None ts (map (placed g) row) h ∙ coef-placed o g a b (length below) row (row-zeros o (length below) None row k))
       ∙ row-wire below row k
+
+module _ {A : Type 0} where
+  -- one term more of a row
+  pub placed-more : (g : ℕ) (old row before after : List (Term A)) (i : ℕ) (t : Term A) → i < length row → t ≡ get_or row i t → after ≡ before ++ placed g t ∷ [] → before ≡ old ++ map (placed g) (take i row)
+      → after ≡ old ++ map (placed g) (take (i + 1) row)
+  placed-more g old row before after i t l is e h =
+      let some = map (placed g) (take i row) in
+      e ∙ ap (λ us. us ++ placed g t ∷ []) h ∙ append_assoc old some (placed g t ∷ []) ∙ ap (λ us. old ++ us) (map-more (placed g) row some (some ++ placed g t ∷ []) i t l is refl refl)
+
+  pub placed-count : (g : ℕ) (old row before : List (Term A)) (i : ℕ) → i ≤ length row → before ≡ old ++ map (placed g) (take i row) → length before ≡ length old + i
+  placed-count g old row before i l h = ap length h ∙ omega (arith, length-append old (map (placed g) (take i row)), length-map (take i row) (placed g), length-take i row, l)

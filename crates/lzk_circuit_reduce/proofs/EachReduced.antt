@@ -11,10 +11,10 @@ use Rattle.lzk_circuit_reduce.specs.Reduced.{HaveOnes, HaveOnesUnder}
 use Rattle.lzk_circuit_reduce.specs.Renumbering.{at}
 use Rattle.lzk_circuit_reduce.specs.SomeReduced.{SomeReduced}
 use Rattle.lzk_circuit_reduce.specs.Targets.{targets_at, behind, AreTargets}
-use Rattle.lzk_circuit_reduce.specs.Used.{used_layers, used_targets}
+use Rattle.lzk_circuit_reduce.specs.Used.{all_of, used_layers, used_targets, IsPruned}
 use Rattle.lzk_circuit_reduce.proofs.FormLaws.{form-then, reduced-alone}
 use Rattle.lzk_circuit_reduce.proofs.NormalLaws.{ZeroOrNot, zero_or_not}
-use Rattle.lzk_circuit_reduce.proofs.PrunedLaws.{all_of, IsPruned, pruned-form, pruned-used, pruned-ones, pruned-different}
+use Rattle.lzk_circuit_reduce.proofs.PrunedLaws.{pruned-form, pruned-used, pruned-ones, pruned-different}
 use Rattle.lzk_circuit_reduce.proofs.ReducedLaws.{are-reduced}
 use Rattle.lzk_circuit_reduce.proofs.SharedLayerLaws.{AreShared, AllShared, shared-none, shared-above, shared-last}
 use Rattle.lzk_circuit_reduce.proofs.SomeRows.{moved-layer, shared-layer}

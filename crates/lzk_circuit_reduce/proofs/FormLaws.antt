@@ -31,10 +31,9 @@ module _ {A : Type 0} where
   many-same ws (layer ∷ layers) = (refl, many-same (behind ws) layers)
 
   -- layers are a form of themselves
-  pub form-same : (o : Ops A) (inputs : ℕ) (ws : List (List ℕ)) (layers : List (Layer A)) → length ws ≡ length layers → AreLayers o inputs layers → AreTargets inputs ws layers → IsForm o inputs ws layers ws layers
-  form-same o inputs ws layers lists valid t = record {
+  pub form-same : (o : Ops A) (inputs : ℕ) (ws : List (List ℕ)) (layers : List (Layer A)) → AreLayers o inputs layers → AreTargets inputs ws layers → IsForm o inputs ws layers ws layers
+  form-same o inputs ws layers valid t = record {
     count = refl;
-    lists = lists;
     valid = valid;
     outputs = refl;
     values = λ values e. refl;
@@ -48,7 +47,6 @@ module _ {A : Type 0} where
   pub form-then : (o : Ops A) (inputs : ℕ) (ws : List (List ℕ)) (layers : List (Layer A)) (vs : List (List ℕ)) (kept : List (Layer A)) (us : List (List ℕ)) (all : List (Layer A)) → IsForm o inputs ws layers vs kept → IsForm o inputs vs kept us all → IsForm o inputs ws layers us all
   form-then o inputs ws layers vs kept us all f g = record {
     count = g.count ∙ f.count;
-    lists = g.lists ∙ f.count;
     valid = g.valid;
     outputs = g.outputs ∙ f.outputs;
     values = λ values e. g.values values e ∙ f.values values e;
@@ -100,7 +98,3 @@ module _ {A : Type 0} where
   reduced-alone o vs [] layers e m h = tt
   reduced-alone o vs (x ∷ kept) [] e m h = absurd (omega (arith, e))
   reduced-alone o vs (x ∷ kept) (layer ∷ layers) e m h = alone-under o x vs kept layers layer (omega (arith, e)) m h
-
-  -- layers that assert nothing, with what they use of themselves
-  pub used-alone : (o : Ops A) (layers : List (Layer A)) → IsReducedWith o [] layers → IsReduced o layers
-  used-alone o layers h = reduced-alone o [] layers layers refl (many-same [] layers) h

@@ -13,7 +13,7 @@ use Rattle.lzk_circuit_reduce.proofs.RowLaws.{less-precedes}
 use Rattle.lzk_circuit_reduce.proofs.RenumberLaws.{copied-value, one-count, one-renumbered}
 
 module _ {A : Type 0} where
-  over-at : (width i : ℕ) (ts : List (Term A)) (d : Term A) → i < length ts → AreOver width ts → ((get_or ts i d).a < width) × ((get_or ts i d).b < width)
+  pub over-at : (width i : ℕ) (ts : List (Term A)) (d : Term A) → i < length ts → AreOver width ts → ((get_or ts i d).a < width) × ((get_or ts i d).b < width)
   over-at width i [] d l h = absurd (omega (arith, l))
   over-at width zero (t ∷ ts) d l h = (h.0, h.1)
   over-at width (suc i) (t ∷ ts) d l h = over-at width i ts d (omega (arith, l)) h.2

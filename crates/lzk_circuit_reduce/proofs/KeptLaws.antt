@@ -185,6 +185,25 @@ none-more [] (suc k) e = refl
 none-more (x ∷ xs) zero e = e
 none-more (x ∷ xs) (suc k) e = none-more xs k e
 
+module _ {A : Type 0} (kept : KeptWires A) (count : kept.count ≡ 0) (terms : kept.terms.items ≡ []) where
+  pub none-table : kept.starts.items ≡ 0 ∷ [] → kept.links.items ≡ [] → 1 ≤ length kept.heads.items → ((k : ℕ) → link_at kept.heads.items k ≡ None) → IsTable kept
+  none-table starts links some none = record {
+    starts_count = omega (arith, ap length starts, count);
+    starts_are = λ g l. let z : g ≡ 0 = omega (arith, l, count) in ap (λ ns. at ns g) starts ∙ ap (at (0 ∷ [])) z ∙ sym (ap (terms_before g) terms);
+    whole = ap (terms_before kept.count) terms ∙ sym (ap length terms);
+    slots = some;
+    links_count = ap length links ∙ sym count;
+    heads_below = λ k w e. absurd (no-link w (sym (none k) ∙ e));
+    links_below = λ k w e. absurd (no-link w (sym (ap (λ ls. link_at ls k) links) ∙ e));
+  }
+
+  pub none-kept : (o : Ops A) (number_of : A → ℕ) (width : ℕ) → IsKept o number_of width kept
+  none-kept o number_of width = record {
+    terms = subst (AreTerms o kept.count width None) (sym terms) tt;
+    met = λ g l. absurd (omega (arith, l, count));
+    different = λ g h l m. absurd (omega (arith, m, count));
+  }
+
 -- ---- one wire more
 
 -- what a new wire changes, which falls into this slot

@@ -1,9 +1,10 @@
 -- Each wire's number among the marked ones.
-use Rattle.std.specs.Prelude.{◌≡◌, ℕ, ◌+◌, ◌<◌, ◌≤◌, cond, true, false, Bool, List, length}
-use Rattle.std.proofs.Common.{zero, suc, inl, inr, refl, ap, ◌∙◌, arith}
+use Rattle.std.specs.Prelude.{◌≡◌, ℕ, ◌+◌, ◌<◌, ◌≤◌, cond, true, false, Bool, List, [], ◌∷◌, ◌++◌, length}
+use Rattle.std.proofs.Common.{zero, suc, inl, inr, refl, sym, ap, ◌∙◌, arith}
 use Rattle.std.proofs.lemmas.Bool.{cases_Bool, cases_order, cases_lt, both_ways}
-use Rattle.std.proofs.lemmas.List.{get_or_past}
+use Rattle.std.proofs.lemmas.List.{get_or_past, get_or_append_left}
 use Rattle.std.proofs.lemmas.List.FromFn.{length-map-range_with_len, get_or-map-range_with_len}
+use Rattle.lzk_circuit_reduce.specs.Renumbering.{at}
 use Rattle.lzk_circuit_reduce.specs.Marks.{is_marked, marked_before}
 use Rattle.lzk_circuit_reduce.specs.Used.{all_true}
 
@@ -29,6 +30,26 @@ places-most marks (suc k) = elim (cases_Bool (is_marked marks k)) [
   | inl m ↦ omega (arith, before-marked marks k m, places-most marks k)
   | inr m ↦ omega (arith, before-unmarked marks k m, places-most marks k)
 ]
+
+-- the next number where a wire is marked, and where it is not
+pub next-marked : (marks : List Bool) (k next more : ℕ) → next ≡ marked_before marks k → is_marked marks k ≡ true → more ≡ next + 1 → more ≡ marked_before marks (k + 1)
+next-marked marks k next more is m e = let up : suc k ≡ k + 1 = omega arith in omega (arith, e, is, before-marked marks k m, ap (marked_before marks) up)
+
+pub next-unmarked : (marks : List Bool) (k next more : ℕ) → next ≡ marked_before marks k → is_marked marks k ≡ false → more ≡ next → more ≡ marked_before marks (k + 1)
+next-unmarked marks k next more is m e = let up : suc k ≡ k + 1 = omega arith in omega (arith, e, is, before-unmarked marks k m, ap (marked_before marks) up)
+
+last-of : (ns : List ℕ) (n i : ℕ) → i ≡ length ns → at (ns ++ n ∷ []) i ≡ n
+last-of [] n i e = ap (at (n ∷ [])) e
+last-of (m ∷ ns) n i e = ap (at (m ∷ (ns ++ n ∷ []))) e ∙ last-of ns n (length ns) refl
+
+pub places-more : (marks : List Bool) (places more : List ℕ) (k next : ℕ) → more ≡ places ++ next ∷ [] → length places ≡ k → next ≡ marked_before marks k → ((j : ℕ) → j < k → at places j ≡ marked_before marks j)
+    → (j : ℕ) → j < k + 1 → at more j ≡ marked_before marks j
+places-more marks places more k next e count is each j l =
+    ap (λ ps. at ps j) e
+    ∙ elim (cases_lt j k) [
+      | inl m ↦ get_or_append_left places (next ∷ []) 0 j (omega (arith, m, count)) ∙ each j m
+      | inr m ↦ let same : j ≡ k = omega (arith, l, m) in last-of places next j (omega (arith, same, count)) ∙ is ∙ ap (marked_before marks) (sym same)
+    ]
 
 -- the places of marked wires keep their order
 pub places-ascend : (marks : List Bool) (k l : ℕ) → is_marked marks k ≡ true → k < l → marked_before marks k < marked_before marks l

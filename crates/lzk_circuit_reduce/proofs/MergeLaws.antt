@@ -20,6 +20,12 @@ module _ {A : Type 0} (o : Ops A) where
     pub short : length sum ≤ i + j
     pub under : (ns : List ℕ) (d : ℕ) → AreUnder ns d left → AreUnder ns d right → AreUnder ns d sum
 
+  -- one term of each row at most is taken
+  pub taken-few : (x y : Term A) (old new : List (Term A)) (taken : ℕ × ℕ) → IsNext o x y old new taken → (taken.0 ≤ 1) × (taken.1 ≤ 1)
+  taken-few x y old new taken (inl n) = (omega (arith, ap (λ p. p.0) n.2), omega (arith, ap (λ p. p.1) n.2))
+  taken-few x y old new taken (inr (inl n)) = (omega (arith, ap (λ p. p.0) n.2), omega (arith, ap (λ p. p.1) n.2))
+  taken-few x y old new taken (inr (inr n)) = (omega (arith, ap (λ p. p.0) n.2), omega (arith, ap (λ p. p.1) n.2))
+
 module _ {A : Type 0} (o : Ops A) (r : RingLaws o) where
   open o use {plus, times}
 

@@ -1,6 +1,6 @@
 -- A layer over other numbers, wire by wire.
 use Rattle.std.specs.Prelude.{◌≡◌, ℕ, ◌+◌, ◌<◌, ◌≤◌, None, List, [], length}
-use Rattle.std.proofs.Common.{inl, inr, sym, ◌∙◌, arith, subst}
+use Rattle.std.proofs.Common.{inl, inr, refl, sym, ◌∙◌, arith, subst}
 use Rattle.std.proofs.lemmas.Bool.{cases_lt}
 use Rattle.lzk_field.specs.Ring.{Ops, RingLaws}
 use Rattle.lzk_circuit.specs.declared.layer.Term.{Term}
@@ -10,7 +10,8 @@ use Rattle.lzk_circuit.specs.Wires.{coef, wire}
 use Rattle.lzk_circuit_reduce.specs.Rows.{IsRow, row_value}
 use Rattle.lzk_circuit_reduce.specs.Renumbering.{of_wire, terms_before, AreNumbersBelow, AreCopies}
 use Rattle.lzk_circuit_reduce.proofs.RenumberLaws.{wire-value}
-use Rattle.lzk_circuit_reduce.proofs.WireLaws.{before-none}
+use Rattle.lzk_circuit_reduce.specs.Shared.{IsMovedLayer}
+use Rattle.lzk_circuit_reduce.proofs.WireLaws.{before-none, before-most}
 
 module _ {A : Type 0} (o : Ops A) where
   -- the first g wires stand over the numbers
@@ -26,6 +27,15 @@ module _ {A : Type 0} (o : Ops A) where
     terms = λ width n. tt;
     values = λ old new l n h i k. absurd (omega (arith, k));
     count = omega arith;
+  }
+
+  -- all wires of a layer
+  pub moving-ends : (layer : Layer A) (numbers : List ℕ) (start : ℕ) (kept : List (Term A)) → Moving layer numbers layer.wires start kept → IsMovedLayer o layer numbers (record { wires = layer.wires; terms = kept })
+  moving-ends layer numbers start kept m = record {
+    wires = refl;
+    terms = m.terms;
+    values = m.values;
+    short = omega (arith, m.count, m.start_is, before-most layer.wires layer.terms);
   }
 
 module _ {A : Type 0} (o : Ops A) (r : RingLaws o) where

@@ -10,22 +10,12 @@ use Rattle.lzk_circuit_reduce.specs.Marks.{is_marked, marked_before}
 use Rattle.lzk_circuit_reduce.specs.Asserting.{IsForm, AreAllUsedWith}
 use Rattle.lzk_circuit_reduce.specs.Reduced.{HaveOnes, AreInnerDifferent}
 use Rattle.lzk_circuit_reduce.specs.Targets.{targets_at, behind, AreTargets}
-use Rattle.lzk_circuit_reduce.specs.Used.{all_true, used_terms, marks_of_under, used_layers, used_targets}
+use Rattle.lzk_circuit_reduce.specs.Used.{all_true, all_of, used_terms, marks_of_under, used_layers, used_targets, IsPruned, ArePrunedTo}
 use Rattle.lzk_circuit_reduce.proofs.MarkedPlaceLaws.{all-count, all-marked, all-places}
 use Rattle.lzk_circuit_reduce.proofs.UsedLaws.{marks-as}
 use Rattle.lzk_circuit_reduce.proofs.TargetLaws.{behind-drop, targets-drop}
 use Rattle.lzk_circuit_reduce.proofs.PushedLaws.{pushed-used, pushed-targets, width-fits}
 use Rattle.lzk_circuit_reduce.proofs.UsedLayersLaws.{under-count, AreMarksOf, under-marks, used-are-layers, used-have-ones, used-are-different, used-are-used, used-outputs, used-are-targets, used-as-many, used-asserted, used-no-more}
-
--- marks for all wires of the first layer
-abbrev pub all_of : {A : Type 0} → List (Layer A) → List Bool
-all_of [] = []
-all_of (layer ∷ layers) = all_true layer.wires
-
--- what stays where all wires of the first layer do
-pub record IsPruned {A : Type 0} (inputs : ℕ) (ws : List (List ℕ)) (layers : List (Layer A)) (moved : List (List ℕ)) (kept : List (Layer A)) : Type 0 where
-  pub kept_are : kept ≡ used_layers inputs (all_of layers) ws layers
-  pub moved_are : moved ≡ used_targets inputs (all_of layers) ws layers
 
 module _ {A : Type 0} where
   -- a slice from l on
@@ -39,6 +29,9 @@ module _ {A : Type 0} where
   lists-count : (inputs : ℕ) (marks : List Bool) (ws : List (List ℕ)) (layers : List (Layer A)) → length (used_targets inputs marks ws layers) ≡ length layers
   lists-count inputs marks ws [] = refl
   lists-count inputs marks ws (layer ∷ layers) = ap suc (lists-count inputs (marks_of_under inputs marks layer.terms (targets_at ws 0) layers) (behind ws) layers)
+
+  pub pruned-lists : (inputs : ℕ) (ws : List (List ℕ)) (layers : List (Layer A)) (moved : List (List ℕ)) (kept : List (Layer A)) → IsPruned inputs ws layers moved kept → length moved ≡ length kept
+  pruned-lists inputs ws layers moved kept p = ap length p.moved_are ∙ lists-count inputs (all_of layers) ws layers ∙ sym (ap length p.kept_are ∙ used-count inputs (all_of layers) ws layers)
 
   pub pruned-used : (inputs : ℕ) (ws : List (List ℕ)) (layers : List (Layer A)) (moved : List (List ℕ)) (kept : List (Layer A)) → IsPruned inputs ws layers moved kept → AreAllUsedWith moved kept
   pruned-used inputs ws [] moved kept p = subst (AreAllUsedWith moved) (sym p.kept_are) tt
@@ -70,7 +63,6 @@ module _ {A : Type 0} (o : Ops A) where
       let m = first-marks inputs layer layers one.some in
       record {
         count = used-count inputs marks ws all;
-        lists = lists-count inputs marks ws all;
         valid = used-are-layers o inputs marks ws all h m;
         outputs = all-places layer.wires (length marks) (omega (arith, all-count layer.wires)) ∙ all-count layer.wires;
         values = λ values e. used-outputs o r inputs marks ws layer layers h refl values e;
@@ -88,14 +80,8 @@ module _ {A : Type 0} (o : Ops A) where
       (subst (λ ms. IsForm o inputs ws (layer ∷ layers) ms (used_layers inputs (all_true layer.wires) ws (layer ∷ layers))) (sym p.moved_are) (used-form r inputs ws layer layers h t))
 
 module _ {A : Type 0} (o : Ops A) where
-  -- the first l layers are done, and these wires of the next one stay
-  pub record Pruning (inputs : ℕ) (ws : List (List ℕ)) (layers : List (Layer A)) (marks : List Bool) (l : ℕ) (moved : List (List ℕ)) (kept : List (Layer A)) : Type 0 where
-    pub is : IsPruned inputs ws layers (moved ++ used_targets inputs marks (drop l ws) (drop l layers)) (kept ++ used_layers inputs marks (drop l ws) (drop l layers))
-    pub rest : AreLayers o inputs (drop l layers)
-    pub count : length marks ≡ (under_of inputs (drop l layers)).width
-
   pub pruning-starts : (inputs : ℕ) (ws : List (List ℕ)) (layers : List (Layer A)) (d : Layer A) (marks : List Bool) (moved : List (List ℕ)) (kept : List (Layer A)) → 1 ≤ length layers → AreLayers o inputs layers → length marks ≡ (get_or layers 0 d).wires
-      → ((k : ℕ) → k < (get_or layers 0 d).wires → is_marked marks k ≡ true) → moved ≡ [] → kept ≡ [] → Pruning inputs ws layers marks 0 moved kept
+      → ((k : ℕ) → k < (get_or layers 0 d).wires → is_marked marks k ≡ true) → moved ≡ [] → kept ≡ [] → ArePrunedTo o inputs ws layers marks 0 moved kept
   pruning-starts inputs ws [] d marks moved kept some h count all n none = absurd (omega (arith, some))
   pruning-starts inputs ws (layer ∷ layers) d marks moved kept some h count all n none =
       let same = marks-as (λ k. true) layer.wires marks count all in
@@ -110,7 +96,7 @@ module _ {A : Type 0} (o : Ops A) where
 
   pub pruning-adds : (inputs : ℕ) (ws : List (List ℕ)) (layers : List (Layer A)) (d : Layer A) (marks below : List Bool) (ts : List (Term A)) (pushed : Layer A) (own : List ℕ) (l : ℕ) (moved grown : List (List ℕ)) (kept more : List (Layer A)) → l < length layers → ts ≡ (get_or layers l d).terms
       → below ≡ marks_of_under inputs marks ts (targets_at ws l) (drop (l + 1) layers) → pushed.wires ≡ marked_before marks (length marks) → pushed.terms ≡ used_terms marks below ts → own ≡ map (marked_before below) (targets_at ws l)
-      → more ≡ kept ++ pushed ∷ [] → grown ≡ moved ++ own ∷ [] → Pruning inputs ws layers marks l moved kept → Pruning inputs ws layers below (l + 1) grown more
+      → more ≡ kept ++ pushed ∷ [] → grown ≡ moved ++ own ∷ [] → ArePrunedTo o inputs ws layers marks l moved kept → ArePrunedTo o inputs ws layers below (l + 1) grown more
   pruning-adds inputs ws layers d marks below ts pushed own l moved grown kept more within slice under wires terms targets push grow p =
       let layer = get_or layers l d in
       let rest = drop (l + 1) layers in
@@ -128,7 +114,7 @@ module _ {A : Type 0} (o : Ops A) where
 
   -- the next layer's terms
   pub pruning-terms : (inputs : ℕ) (ws : List (List ℕ)) (layers : List (Layer A)) (d : Layer A) (marks : List Bool) (ts : List (Term A)) (l : ℕ) (moved : List (List ℕ)) (kept : List (Layer A)) → l < length layers → ts ≡ (get_or layers l d).terms
-      → Pruning inputs ws layers marks l moved kept → AreTerms o (length marks) (under_of inputs (drop (l + 1) layers)).width None ts
+      → ArePrunedTo o inputs ws layers marks l moved kept → AreTerms o (length marks) (under_of inputs (drop (l + 1) layers)).width None ts
   pruning-terms inputs ws layers d marks ts l moved kept within slice p =
       let layer = get_or layers l d in
       let rest = drop (l + 1) layers in
@@ -139,16 +125,16 @@ module _ {A : Type 0} (o : Ops A) where
       let wires : layer.wires ≡ length marks = sym (p.count ∙ ap (λ ls. (under_of inputs ls).width) front) in
       subst (AreTerms o (length marks) width None) (sym slice) (subst (λ n. AreTerms o n width None layer.terms) wires one.each)
 
-  pub pruning-fits : (inputs : ℕ) (ws : List (List ℕ)) (layers : List (Layer A)) (marks : List Bool) (l : ℕ) (moved : List (List ℕ)) (kept : List (Layer A)) → inputs < 4294967296 → Pruning inputs ws layers marks l moved kept → length marks < 4294967296
+  pub pruning-fits : (inputs : ℕ) (ws : List (List ℕ)) (layers : List (Layer A)) (marks : List Bool) (l : ℕ) (moved : List (List ℕ)) (kept : List (Layer A)) → inputs < 4294967296 → ArePrunedTo o inputs ws layers marks l moved kept → length marks < 4294967296
   pruning-fits inputs ws layers marks l moved kept i p = omega (arith, p.count, width-fits o inputs (drop l layers) i p.rest)
 
   pub below-fits : (inputs : ℕ) (ws : List (List ℕ)) (layers : List (Layer A)) (d : Layer A) (marks below : List Bool) (l : ℕ) (moved : List (List ℕ)) (kept : List (Layer A)) → inputs < 4294967296 → l < length layers → length below ≡ (under_of inputs (drop (l + 1) layers)).width
-      → Pruning inputs ws layers marks l moved kept → length below < 4294967296
+      → ArePrunedTo o inputs ws layers marks l moved kept → length below < 4294967296
   below-fits inputs ws layers d marks below l moved kept i within count p =
       let h : AreLayers o inputs (get_or layers l d ∷ drop (l + 1) layers) = subst (AreLayers o inputs) (drop_more layers l d within) p.rest in
       omega (arith, count, width-fits o inputs (drop (l + 1) layers) i h.1)
 
-  pub pruning-ends : (inputs : ℕ) (ws : List (List ℕ)) (layers : List (Layer A)) (marks : List Bool) (l : ℕ) (moved : List (List ℕ)) (kept : List (Layer A)) → length layers ≤ l → Pruning inputs ws layers marks l moved kept → IsPruned inputs ws layers moved kept
+  pub pruning-ends : (inputs : ℕ) (ws : List (List ℕ)) (layers : List (Layer A)) (marks : List Bool) (l : ℕ) (moved : List (List ℕ)) (kept : List (Layer A)) → length layers ≤ l → ArePrunedTo o inputs ws layers marks l moved kept → IsPruned inputs ws layers moved kept
   pruning-ends inputs ws layers marks l moved kept h p =
       let none = drop_all l layers h in
       let all : kept ++ used_layers inputs marks (drop l ws) (drop l layers) ≡ kept = ap (λ ls. kept ++ used_layers inputs marks (drop l ws) ls) none ∙ append-nil kept in

@@ -2,18 +2,19 @@
 use Rattle.std.specs.Prelude.{◌≡◌, ℕ, ◌<◌, ◌==◌, ◌≢◌, cond, true, false, Bool, Option, Some, None, List, [], ◌∷◌, ◌++◌, length, take, drop}
 use Rattle.std.proofs.Common.{refl, sym, ap, ◌∙◌, arith, subst, get_or}
 use Rattle.std.proofs.lemmas.List.{take-append-drop, length-map}
+use Rattle.std.proofs.lemmas.List.Elements.{All-take, All-drop}
 use Rattle.lzk_field.specs.Ring.{Ops, RingLaws, FieldLaws}
 use Rattle.lzk_field.specs.Sums.{entry}
 use Rattle.lzk_field.proofs.RingBasics.{zero_plus, times_zero}
 use Rattle.lzk_circuit.specs.declared.layer.Term.{Term}
 use Rattle.lzk_circuit.specs.Valid.{AreTerms}
 use Rattle.lzk_circuit.specs.Wires.{coef, wire}
-use Rattle.lzk_circuit.proofs.OrderLaws.{distinct}
+use Rattle.lzk_circuit.proofs.OrderLaws.{distinct, term-at}
 use Rattle.lzk_circuit.specs.Sums.{sum_list}
 use Rattle.lzk_circuit.proofs.TermSums.{share, wire-terms}
 use Rattle.lzk_circuit_reduce.specs.Renumbering.{at}
 use Rattle.lzk_circuit_reduce.specs.Rows.{row_value, term_value, ordered}
-use Rattle.lzk_circuit_reduce.specs.Renumbering.{of_wire, AreOver, AreCopies, IsOne}
+use Rattle.lzk_circuit_reduce.specs.Renumbering.{of_wire, AreOver, AreNonzero, AreCopies, IsOne}
 use Rattle.lzk_circuit_reduce.proofs.RowLaws.{value-append}
 
 module _ {A : Type 0} where
@@ -29,11 +30,13 @@ module _ {A : Type 0} where
   pub term_halves : (i : ℕ) (ts front back : List (Term A)) → front ≡ take i ts → back ≡ drop i ts → ts ≡ front ++ back
   term_halves i ts front back e f = sym (ap (λ xs. xs ++ back) e ∙ ap (λ ys. take i ts ++ ys) f ∙ take-append-drop i ts)
 
-  pub over-of-one : (width : ℕ) (ts : List (Term A)) (t : Term A) → length ts ≡ 1 → t ≡ get_or ts 0 t → AreOver width ts → (t.a < width) × (t.b < width)
-  over-of-one width ts t l e h = let one = subst (AreOver width) (one_term ts t l e) h in (one.0, one.1)
-
   pub over-halves : (width i : ℕ) (ts front back : List (Term A)) → front ≡ take i ts → back ≡ drop i ts → AreOver width ts → AreOver width front × AreOver width back
   over-halves width i ts front back e f h = over-append width front back (subst (AreOver width) (term_halves i ts front back e f) h)
+
+  pub nonzero-halves : (o : Ops A) (i : ℕ) (ts front back : List (Term A)) → front ≡ take i ts → back ≡ drop i ts → AreNonzero o ts → AreNonzero o front × AreNonzero o back
+  nonzero-halves o i ts front back e f h =
+      let nonzero : Term A → Type 0 = λ t. t.coef ≢ o.zero in
+      (subst (AreNonzero o) (sym e) (All-take nonzero i ts h), subst (AreNonzero o) (sym f) (All-drop nonzero i ts h))
 
   pub over-own : (width g : ℕ) (ts : List (Term A)) → AreOver width ts → AreOver width (of_wire g ts)
   over-own width g [] h = tt
@@ -47,19 +50,15 @@ module _ {A : Type 0} where
   terms-over o wires width before [] h = tt
   terms-over o wires width before (t ∷ ts) h = let one = h.0 in (omega (arith, one.a, one.b), one.b, terms-over o wires width (Some t) ts h.2)
 
+  pub terms-nonzero : (o : Ops A) (wires width : ℕ) (ts : List (Term A)) → AreTerms o wires width None ts → AreNonzero o ts
+  terms-nonzero o wires width ts h i d l = let t = term-at o wires width i None ts d h l in t.coef
+
 module _ {A : Type 0} (o : Ops A) (r : RingLaws o) where
   -- a term's value is that of the term over the numbers
   pub copied-value : (numbers : List ℕ) (old new : List A) (t : Term A) → AreCopies o numbers old new → t.a < length numbers → t.b < length numbers
       → o.times t.coef (o.times (entry o new (at numbers t.a)) (entry o new (at numbers t.b))) ≡ term_value o old t
   copied-value numbers old new t h la lb =
       ap (λ x. o.times t.coef (o.times x (entry o new (at numbers t.b)))) (sym (h t.a la)) ∙ ap (λ y. o.times t.coef (o.times (entry o old t.a) y)) (sym (h t.b lb))
-
-  pub value-of-one-term : (old : List A) (ts : List (Term A)) (t : Term A) → length ts ≡ 1 → t ≡ get_or ts 0 t → term_value o old t ≡ row_value o old ts
-  value-of-one-term old ts t l e = sym (r.plus_zero _) ∙ ap (row_value o old) (sym (one_term ts t l e))
-
-  pub value-of-none : (old : List A) (ts : List (Term A)) → length ts ≡ 0 → o.zero ≡ row_value o old ts
-  value-of-none old [] l = refl
-  value-of-none old (t ∷ ts) l = absurd (omega (arith, l))
 
   pub value-of-term-halves : (old : List A) (i : ℕ) (ts front back : List (Term A)) (x y : A) → front ≡ take i ts → back ≡ drop i ts → x ≡ row_value o old front → y ≡ row_value o old back → o.plus x y ≡ row_value o old ts
   value-of-term-halves old i ts front back x y e f hx hy =

@@ -10,39 +10,18 @@ use Rattle.lzk_field.specs.Ring.{Ops}
 use Rattle.lzk_field.specs.Sums.{entry}
 use Rattle.lzk_circuit.specs.declared.layer.Layer.{Layer}
 use Rattle.lzk_circuit.specs.Valid.{AreTerms, IsLayer, AreLayers, under_of}
-use Rattle.lzk_circuit.specs.Wires.{coef, wire, layer_values, wires_of}
+use Rattle.lzk_circuit.specs.Wires.{coef, wire, wires_of}
 use Rattle.lzk_circuit_reduce.specs.Renumbering.{at, AreNumbersBelow, AreCopies}
 use Rattle.lzk_circuit_reduce.specs.Asserting.{IsForm, AreFewer, AreAsMany}
-use Rattle.lzk_circuit_reduce.specs.Reduced.{HasOne, HaveOnes, HaveOnesUnder, AreDifferent, AreInnerDifferent, AreAllDifferent}
+use Rattle.lzk_circuit_reduce.specs.Reduced.{HasOne, HaveOnes, HaveOnesUnder, AreInnerDifferent, AreAllDifferent}
 use Rattle.lzk_circuit_reduce.specs.Targets.{targets_at, behind, AreBelow, AreTargets, AreSameTargets, target_values}
-use Rattle.lzk_circuit_reduce.proofs.TargetLaws.{behind-drop, targets-drop, targets-rest, targets-here, moved-below, moved-values}
+use Rattle.lzk_circuit_reduce.specs.Shared.{IsSharedLayer, IsMovedLayer}
+use Rattle.lzk_circuit_reduce.proofs.TargetLaws.{no-targets, moved-below, moved-values}
 
 module _ {A : Type 0} (o : Ops A) where
-  -- a layer over the wires below with these numbers, where those that are alike are one; its own wires' numbers in it
-  pub record IsSharedLayer (layer : Layer A) (numbers : List ℕ) (kept : Layer A) (wires : List ℕ) : Type 0 where
-    pub count : length wires ≡ layer.wires
-    pub below : AreNumbersBelow kept.wires wires
-    pub first : at wires 0 ≡ 0
-    pub some : 1 ≤ kept.wires
-    pub fewer : kept.wires ≤ layer.wires
-    pub terms : (width : ℕ) → AreNumbersBelow width numbers → AreTerms o kept.wires width None kept.terms
-    pub values : (old new : List A) → length old ≡ length numbers → AreNumbersBelow (length new) numbers → AreCopies o numbers old new → AreCopies o wires (layer_values o layer old) (layer_values o kept new)
-    pub one : HasOne o layer → at numbers 0 ≡ 0 → HasOne o kept
-    pub different : AreDifferent kept
-    pub short : length kept.terms ≤ length layer.terms
-
-  -- a layer over the wires below with these numbers
-  pub record IsMovedLayer (layer : Layer A) (numbers : List ℕ) (moved : Layer A) : Type 0 where
-    pub wires : moved.wires ≡ layer.wires
-    pub terms : (width : ℕ) → AreNumbersBelow width numbers → AreTerms o layer.wires width None moved.terms
-    pub values : (old new : List A) → length old ≡ length numbers → AreNumbersBelow (length new) numbers → AreCopies o numbers old new
-        → (g : ℕ) → g < layer.wires → wire o (coef o moved.terms) new g ≡ wire o (coef o layer.terms) old g
-    pub short : length moved.terms ≤ length layer.terms
-
   -- inner layers with their wires that are alike as one, what they assert, and the numbers of the uppermost layer's wires
   pub record AreShared (inputs : ℕ) (ws : List (List ℕ)) (layers : List (Layer A)) (moved : List (List ℕ)) (kept : List (Layer A)) (numbers : List ℕ) : Type 0 where
     pub count : length kept ≡ length layers
-    pub lists : length moved ≡ length layers
     pub width : length numbers ≡ (under_of inputs layers).width
     pub below : AreNumbersBelow (under_of inputs kept).width numbers
     pub first : at numbers 0 ≡ 0
@@ -75,7 +54,6 @@ module _ {A : Type 0} (o : Ops A) where
   pub shared-none : (inputs : ℕ) (ws : List (List ℕ)) (numbers : List ℕ) → length numbers ≡ inputs → ((k : ℕ) → k < inputs → at numbers k ≡ k) → AreShared inputs ws [] [] [] numbers
   shared-none inputs ws numbers e each = record {
     count = refl;
-    lists = refl;
     width = e;
     below = λ k l. omega (arith, each k (omega (arith, l, e)), l, e);
     first = elim (cases_lt 0 inputs) [
@@ -107,11 +85,10 @@ module _ {A : Type 0} (o : Ops A) where
       ∙ ap (λ xs. map (entry o (wires_of o layers values)) (targets_at ws 0) ++ xs) (s.asserted values e)
 
   pub shared-above : (inputs : ℕ) (ws : List (List ℕ)) (layer : Layer A) (layers : List (Layer A)) (moved : List (List ℕ)) (kept : List (Layer A)) (numbers : List ℕ) (shared : Layer A) (wires : List ℕ) → IsLayer o (under_of inputs layers) layer → HasOne o layer
-      → AreTargets inputs ws (layer ∷ layers) → IsSharedLayer layer numbers shared wires → AreShared inputs (behind ws) layers moved kept numbers
+      → AreTargets inputs ws (layer ∷ layers) → IsSharedLayer o layer numbers shared wires → AreShared inputs (behind ws) layers moved kept numbers
       → AreShared inputs ws (layer ∷ layers) (map (at numbers) (targets_at ws 0) ∷ moved) (shared ∷ kept) wires
   shared-above inputs ws layer layers moved kept numbers shared wires is one asserts t s = record {
     count = ap suc s.count;
-    lists = ap suc s.lists;
     fewer = (t.fewer, t.short, s.fewer);
     targets = (moved-below (under_of inputs kept).width numbers (targets_at ws 0) (own-targets inputs ws layer layers kept moved numbers asserts s) s.below, s.targets);
     as_many = (length-map (targets_at ws 0) (at numbers), s.as_many);
@@ -146,12 +123,11 @@ module _ {A : Type 0} (o : Ops A) where
       get_or-map-range_with_len f 0 m k k o.zero less (omega arith) ∙ same k (omega (arith, less, e)) ∙ sym (get_or-map-range_with_len h 0 n k k o.zero (omega (arith, less, e)) (omega arith)))
 
   pub shared-last : (inputs : ℕ) (ws : List (List ℕ)) (layer : Layer A) (layers : List (Layer A)) (moved : List (List ℕ)) (kept : List (Layer A)) (numbers : List ℕ) (top : Layer A) → IsLayer o (under_of inputs layers) layer
-      → AreTargets inputs ws (layer ∷ layers) → IsMovedLayer layer numbers top → AreShared inputs (behind ws) layers moved kept numbers
+      → AreTargets inputs ws (layer ∷ layers) → IsMovedLayer o layer numbers top → AreShared inputs (behind ws) layers moved kept numbers
       → AllShared inputs ws (layer ∷ layers) (map (at numbers) (targets_at ws 0) ∷ moved) (top ∷ kept)
   shared-last inputs ws layer layers moved kept numbers top is asserts t s = record {
     form = record {
       count = ap suc s.count;
-      lists = ap suc s.lists;
       valid = (
         record {
           some = omega (arith, t.wires, is.some);
@@ -198,81 +174,68 @@ module _ {A : Type 0} (o : Ops A) where
   one-at (x ∷ xs) zero layer s l e h = absurd (omega (arith, s))
   one-at (x ∷ xs) (suc i) layer s l e h = (subst (HaveOnesUnder o) (from xs i layer (omega (arith, l)) e) (ones-drop i xs h)).0
 
-  -- the layers from one on are shared, and stand in the list from the last one up, and so does what they assert
-  pub record SharedFrom (inputs : ℕ) (ws : List (List ℕ)) (layers : List (Layer A)) (i : ℕ) (moved : List (List ℕ)) (kept : List (Layer A)) (numbers : List ℕ) : Type 0 where
+  -- the layers from one on are shared, and stand in the list from the last one up
+  pub record SharedFrom (inputs : ℕ) (layers : List (Layer A)) (i : ℕ) (kept : List (Layer A)) (numbers : List ℕ) : Type 0 where
     pub inner : 1 ≤ i
-    pub shared : AreShared inputs (drop i ws) (drop i layers) (reverse moved) (reverse kept) numbers
+    pub moved : List (List ℕ)
+    pub shared : AreShared inputs [] (drop i layers) moved (reverse kept) numbers
 
-  pub shared-starts : (inputs : ℕ) (ws : List (List ℕ)) (layers : List (Layer A)) (numbers : List ℕ) → 1 ≤ length layers → length numbers ≡ inputs → ((k : ℕ) → k < inputs → at numbers k ≡ k)
-      → SharedFrom inputs ws layers (length layers) [] [] numbers
-  shared-starts inputs ws layers numbers some e each = record {
+  pub shared-starts : (inputs : ℕ) (layers : List (Layer A)) (numbers : List ℕ) → 1 ≤ length layers → length numbers ≡ inputs → ((k : ℕ) → k < inputs → at numbers k ≡ k) → SharedFrom inputs layers (length layers) [] numbers
+  shared-starts inputs layers numbers some e each = record {
     inner = some;
-    shared = subst (λ xs. AreShared inputs (drop (length layers) ws) xs [] [] numbers) (sym (drop_all (length layers) layers (omega arith))) (shared-none inputs (drop (length layers) ws) numbers e each);
+    moved = [];
+    shared = subst (λ xs. AreShared inputs [] xs [] [] numbers) (sym (drop_all (length layers) layers (omega arith))) (shared-none inputs [] numbers e each);
   }
 
   -- a layer may be shared, which stands before those that are
-  pub layer-before : (inputs : ℕ) (ws : List (List ℕ)) (layers : List (Layer A)) (i : ℕ) (moved : List (List ℕ)) (kept : List (Layer A)) (numbers : List ℕ) (layer : Layer A) → 1 < i → i ≤ length layers → layer ≡ get_or layers (i - 1) layer
-      → AreLayers o inputs layers → SharedFrom inputs ws layers i moved kept numbers → (1 ≤ layer.wires) × (layer.wires ≤ most_wires) × AreTerms o layer.wires (length numbers) None layer.terms
-  layer-before inputs ws layers i moved kept numbers layer some l e valid s =
+  pub layer-before : (inputs : ℕ) (layers : List (Layer A)) (i : ℕ) (kept : List (Layer A)) (numbers : List ℕ) (layer : Layer A) → 1 < i → i ≤ length layers → layer ≡ get_or layers (i - 1) layer
+      → AreLayers o inputs layers → SharedFrom inputs layers i kept numbers → (1 ≤ layer.wires) × (layer.wires ≤ most_wires) × AreTerms o layer.wires (length numbers) None layer.terms
+  layer-before inputs layers i kept numbers layer some l e valid s =
       let is = layer-at inputs layers (i - 1) layer (omega (arith, some, l)) e valid in
       let next : i - 1 + 1 ≡ i = omega (arith, some) in
       (is.some, is.most, subst (λ w. AreTerms o layer.wires w None layer.terms) (ap (λ k. (under_of inputs (drop k layers)).width) next ∙ sym s.shared.width) is.each)
 
-  -- and what it asserts may be moved
-  pub targets-before : (inputs : ℕ) (ws : List (List ℕ)) (layers : List (Layer A)) (i : ℕ) (moved : List (List ℕ)) (kept : List (Layer A)) (numbers : List ℕ) (layer : Layer A) → 1 ≤ i → i ≤ length layers
-      → AreTargets inputs ws layers → SharedFrom inputs ws layers i moved kept numbers → AreBelow (length numbers) (targets_at ws (i - 1))
-  targets-before inputs ws layers i moved kept numbers layer some l asserts s =
-      let next : i - 1 + 1 ≡ i = omega (arith, some) in
-      subst (λ w. AreBelow w (targets_at ws (i - 1))) (ap (λ k. (under_of inputs (drop k layers)).width) next ∙ sym s.shared.width) (targets-here inputs (i - 1) ws layers layer (omega (arith, some, l)) asserts)
-
-  -- what the layers from one on assert
-  targets-from : (inputs : ℕ) (ws : List (List ℕ)) (layers : List (Layer A)) (i : ℕ) (layer : Layer A) → i < length layers → layer ≡ get_or layers i layer → AreTargets inputs ws layers → AreTargets inputs (drop i ws) (layer ∷ drop (i + 1) layers)
-  targets-from inputs ws layers i layer l e asserts = subst (AreTargets inputs (drop i ws)) (from layers i layer l e) (targets-rest inputs i ws layers asserts)
-
-  pub shared-adds : (inputs : ℕ) (ws : List (List ℕ)) (layers : List (Layer A)) (i : ℕ) (moved grown : List (List ℕ)) (own : List ℕ) (kept more : List (Layer A)) (numbers : List ℕ) (layer shared : Layer A) (wires : List ℕ) → 1 < i → i ≤ length layers → layer ≡ get_or layers (i - 1) layer
-      → AreLayers o inputs layers → HaveOnes o layers → AreTargets inputs ws layers → more ≡ kept ++ shared ∷ [] → own ≡ map (at numbers) (targets_at ws (i - 1)) → grown ≡ moved ++ own ∷ [] → IsSharedLayer layer numbers shared wires
-      → SharedFrom inputs ws layers i moved kept numbers → SharedFrom inputs ws layers (i - 1) grown more wires
-  shared-adds inputs ws layers i moved grown own kept more numbers layer shared wires some l e valid ones asserts m is g t s =
+  pub shared-adds : (inputs : ℕ) (layers : List (Layer A)) (i : ℕ) (kept more : List (Layer A)) (numbers : List ℕ) (layer shared : Layer A) (wires : List ℕ) → 1 < i → i ≤ length layers → layer ≡ get_or layers (i - 1) layer
+      → AreLayers o inputs layers → HaveOnes o layers → more ≡ kept ++ shared ∷ [] → IsSharedLayer o layer numbers shared wires → SharedFrom inputs layers i kept numbers → SharedFrom inputs layers (i - 1) more wires
+  shared-adds inputs layers i kept more numbers layer shared wires some l e valid ones m t s =
       let j = i - 1 in
       let inner : 1 ≤ j = omega (arith, some) in
       let less : j < length layers = omega (arith, some, l) in
       let next : i ≡ j + 1 = omega (arith, some) in
-      let rest = drop j ws in
-      let before : AreShared inputs (behind rest) (drop (j + 1) layers) (reverse moved) (reverse kept) numbers =
-      subst (λ xs. AreShared inputs xs (drop (j + 1) layers) (reverse moved) (reverse kept) numbers) (sym (behind-drop j ws)) (subst (λ k. AreShared inputs (drop k ws) (drop k layers) (reverse moved) (reverse kept) numbers) next s.shared) in
-      let above = shared-above inputs rest layer (drop (j + 1) layers) (reverse moved) (reverse kept) numbers shared wires (layer-at inputs layers j layer less e valid) (one-at layers j layer inner less e ones) (targets-from inputs ws layers j layer less e asserts) t before in
-      let own_is : map (at numbers) (targets_at rest 0) ≡ own = ap (map (at numbers)) (targets-drop j ws) ∙ sym is in
+      let rest = drop (j + 1) layers in
+      let before : AreShared inputs [] rest s.moved (reverse kept) numbers = subst (λ k. AreShared inputs [] (drop k layers) s.moved (reverse kept) numbers) next s.shared in
+      let above = shared-above inputs [] layer rest s.moved (reverse kept) numbers shared wires (layer-at inputs layers j layer less e valid) (one-at layers j layer inner less e ones) (no-targets inputs (layer ∷ rest)) t before in
       record {
         inner = inner;
+        moved = [] ∷ s.moved;
         shared =
-            subst (λ xs. AreShared inputs rest (drop j layers) (reverse grown) xs wires) (sym (ap reverse m ∙ reverse-append kept (shared ∷ [])))
-            (subst (λ xs. AreShared inputs rest (drop j layers) xs (shared ∷ reverse kept) wires) (ap (λ x. x ∷ reverse moved) own_is ∙ sym (ap reverse g ∙ reverse-append moved (own ∷ [])))
-            (subst (λ xs. AreShared inputs rest xs (map (at numbers) (targets_at rest 0) ∷ reverse moved) (shared ∷ reverse kept) wires) (sym (from layers j layer less e)) above));
+            subst (λ xs. AreShared inputs [] (drop j layers) ([] ∷ s.moved) xs wires) (sym (ap reverse m ∙ reverse-append kept (shared ∷ [])))
+            (subst (λ xs. AreShared inputs [] xs ([] ∷ s.moved) (shared ∷ reverse kept) wires) (sym (from layers j layer less e)) above);
       }
 
   -- the outputs' layer may be moved
-  pub layer-first : (inputs : ℕ) (ws : List (List ℕ)) (layers : List (Layer A)) (i : ℕ) (moved : List (List ℕ)) (kept : List (Layer A)) (numbers : List ℕ) (layer : Layer A) → i ≤ 1 → 1 ≤ length layers → layer ≡ get_or layers 0 layer
-      → AreLayers o inputs layers → SharedFrom inputs ws layers i moved kept numbers → AreTerms o layer.wires (length numbers) None layer.terms
-  layer-first inputs ws layers i moved kept numbers layer least some e valid s =
+  pub layer-first : (inputs : ℕ) (layers : List (Layer A)) (i : ℕ) (kept : List (Layer A)) (numbers : List ℕ) (layer : Layer A) → i ≤ 1 → 1 ≤ length layers → layer ≡ get_or layers 0 layer
+      → AreLayers o inputs layers → SharedFrom inputs layers i kept numbers → AreTerms o layer.wires (length numbers) None layer.terms
+  layer-first inputs layers i kept numbers layer least some e valid s =
       let is = layer-at inputs layers 0 layer some e valid in
       let last : 1 ≡ i = omega (arith, least, s.inner) in
       subst (λ w. AreTerms o layer.wires w None layer.terms) (ap (λ k. (under_of inputs (drop k layers)).width) last ∙ sym s.shared.width) is.each
 
-  -- and what it asserts, too
-  pub targets-first : (inputs : ℕ) (ws : List (List ℕ)) (layers : List (Layer A)) (i : ℕ) (moved : List (List ℕ)) (kept : List (Layer A)) (numbers : List ℕ) (layer : Layer A) → i ≤ 1 → 1 ≤ length layers
-      → AreTargets inputs ws layers → SharedFrom inputs ws layers i moved kept numbers → AreBelow (length numbers) (targets_at ws 0)
-  targets-first inputs ws layers i moved kept numbers layer least some asserts s =
-      let last : 1 ≡ i = omega (arith, least, s.inner) in
-      subst (λ w. AreBelow w (targets_at ws 0)) (ap (λ k. (under_of inputs (drop k layers)).width) last ∙ sym s.shared.width) (targets-here inputs 0 ws layers layer some asserts)
+  -- all layers, and nothing that they assert
+  pub record IsSharedForm (inputs : ℕ) (layers kept : List (Layer A)) : Type 0 where
+    pub moved : List (List ℕ)
+    pub all : AllShared inputs [] layers moved kept
 
-  pub shared-ends : (inputs : ℕ) (ws : List (List ℕ)) (layers : List (Layer A)) (i : ℕ) (moved grown lists : List (List ℕ)) (own : List ℕ) (kept more all : List (Layer A)) (numbers : List ℕ) (layer top : Layer A) → i ≤ 1 → 1 ≤ length layers → layer ≡ get_or layers 0 layer
-      → AreLayers o inputs layers → AreTargets inputs ws layers → more ≡ kept ++ top ∷ [] → all ≡ reverse more → own ≡ map (at numbers) (targets_at ws 0) → grown ≡ moved ++ own ∷ [] → lists ≡ reverse grown → IsMovedLayer layer numbers top
-      → SharedFrom inputs ws layers i moved kept numbers → AllShared inputs ws layers lists all
-  shared-ends inputs ws layers i moved grown lists own kept more all numbers layer top least some e valid asserts m a is g b t s =
+  pub shared-ends : (inputs : ℕ) (layers : List (Layer A)) (i : ℕ) (kept more all : List (Layer A)) (numbers : List ℕ) (layer top : Layer A) → i ≤ 1 → 1 ≤ length layers → layer ≡ get_or layers 0 layer
+      → AreLayers o inputs layers → more ≡ kept ++ top ∷ [] → all ≡ reverse more → IsMovedLayer o layer numbers top → SharedFrom inputs layers i kept numbers → IsSharedForm inputs layers all
+  shared-ends inputs layers i kept more all numbers layer top least some e valid m a t s =
       let last : i ≡ 1 = omega (arith, least, s.inner) in
-      let before : AreShared inputs (behind ws) (drop 1 layers) (reverse moved) (reverse kept) numbers =
-      subst (λ xs. AreShared inputs xs (drop 1 layers) (reverse moved) (reverse kept) numbers) (sym (behind-drop 0 ws)) (subst (λ k. AreShared inputs (drop k ws) (drop k layers) (reverse moved) (reverse kept) numbers) last s.shared) in
-      let above = shared-last inputs ws layer (drop 1 layers) (reverse moved) (reverse kept) numbers top (layer-at inputs layers 0 layer some e valid) (targets-from inputs ws layers 0 layer some e asserts) t before in
-      subst (AllShared inputs ws layers lists) (sym (a ∙ ap reverse m ∙ reverse-append kept (top ∷ [])))
-      (subst (λ xs. AllShared inputs ws layers xs (top ∷ reverse kept)) (sym (b ∙ ap reverse g ∙ reverse-append moved (own ∷ []) ∙ ap (λ x. x ∷ reverse moved) is))
-      (subst (λ xs. AllShared inputs ws xs (map (at numbers) (targets_at ws 0) ∷ reverse moved) (top ∷ reverse kept)) (sym (from layers 0 layer some e)) above))
+      let rest = drop 1 layers in
+      let before : AreShared inputs [] rest s.moved (reverse kept) numbers = subst (λ k. AreShared inputs [] (drop k layers) s.moved (reverse kept) numbers) last s.shared in
+      let above = shared-last inputs [] layer rest s.moved (reverse kept) numbers top (layer-at inputs layers 0 layer some e valid) (no-targets inputs (layer ∷ rest)) t before in
+      record {
+        moved = [] ∷ s.moved;
+        all =
+            subst (AllShared inputs [] layers ([] ∷ s.moved)) (sym (a ∙ ap reverse m ∙ reverse-append kept (top ∷ [])))
+            (subst (λ xs. AllShared inputs [] xs ([] ∷ s.moved) (top ∷ reverse kept)) (sym (from layers 0 layer some e)) above);
+      }

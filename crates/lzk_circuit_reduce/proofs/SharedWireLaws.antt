@@ -16,7 +16,9 @@ use Rattle.lzk_circuit_reduce.specs.Renumbering.{at, of_wire, terms_before, AreN
 use Rattle.lzk_circuit_reduce.specs.Reduced.{HasOne}
 use Rattle.lzk_circuit_reduce.specs.Kept.{IsKept, IsTable}
 use Rattle.lzk_circuit_reduce.proofs.RenumberLaws.{wire-value}
-use Rattle.lzk_circuit_reduce.proofs.WireLaws.{before-none}
+use Rattle.lzk_circuit_reduce.specs.Shared.{IsSharedLayer}
+use Rattle.lzk_circuit_reduce.proofs.KeptLaws.{kept-terms, kept-different}
+use Rattle.lzk_circuit_reduce.proofs.WireLaws.{before-none, before-most}
 
 -- past each of the numbers
 abbrev pub past : List ℕ → ℕ
@@ -156,3 +158,24 @@ module _ {A : Type 0} (o : Ops A) (r : RingLaws o) where
   shared-values layer kept wires old new e ht hk below rows k l =
       let m : k < layer.wires = omega (arith, l, e) in
       value-at layer old k m ht ∙ sym (value-at kept new (at wires k) (below k l) hk ∙ rows k m)
+
+  -- all wires of a layer are shared
+  pub sharing-ends : (number_of : A → ℕ) (layer : Layer A) (numbers : List ℕ) (start : ℕ) (kept : KeptWires A) (wires : List ℕ) → 1 ≤ layer.wires → AreTerms o layer.wires (length numbers) None layer.terms
+      → Sharing o number_of layer numbers layer.wires start kept wires → IsSharedLayer o layer numbers (record { wires = kept.count; terms = kept.terms.items }) wires
+  sharing-ends number_of layer numbers start kept wires some h s =
+      let over = s.over (past numbers) (past-all numbers) in
+      record {
+        count = s.each;
+        below = over.below;
+        first = over.first;
+        some = omega (arith, over.below 0 (omega (arith, s.each, some)));
+        fewer = s.few;
+        terms = λ width n. let at_width = s.over width n in kept-terms o width kept at_width.is;
+        values = λ old new k n c.
+            let at_new = s.over (length new) n in
+            shared-values layer (record { wires = kept.count; terms = kept.terms.items }) wires old new s.each (subst (λ w. AreTerms o layer.wires w None layer.terms) (sym k) h) (kept-terms o (length new) kept at_new.is)
+            at_new.below (at_new.rows old new c);
+        one = λ is z. over.one is z some;
+        different = kept-different o (past numbers) kept over.is;
+        short = omega (arith, s.short, s.start_is, before-most layer.wires layer.terms);
+      }

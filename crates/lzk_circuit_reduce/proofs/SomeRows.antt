@@ -13,7 +13,7 @@ use Rattle.lzk_circuit_reduce.proofs.NormalLaws.{ZeroOrNot, AreOfRow, ordered-of
 use Rattle.lzk_circuit_reduce.proofs.RenumberLaws.{over-own, terms-over, copied-value, one-count, one-renumbered, wire-value}
 use Rattle.lzk_circuit_reduce.proofs.WireLaws.{before_one, before_same, own_one, own_same, before-most}
 use Rattle.lzk_circuit_reduce.proofs.SharedWireLaws.{past, past-all, placed-value, placed-triples, placed-one, RowOf, shared-values}
-use Rattle.lzk_circuit_reduce.proofs.SharedLayerLaws.{IsSharedLayer, IsMovedLayer}
+use Rattle.lzk_circuit_reduce.specs.Shared.{IsSharedLayer, IsMovedLayer}
 use Rattle.lzk_circuit_reduce.proofs.StackedRows.{row_at, term_total, total-more, each-more, AreRowsOver, stacked, SameOrNot, once}
 
 module _ {A : Type 0} where

@@ -54,7 +54,6 @@ AreAsMany moved ws (layer ∷ layers) =
 pub record IsForm {A : Type 0} (o : Ops A) (inputs : ℕ) (ws : List (List ℕ)) (layers : List (Layer A))
     (moved : List (List ℕ)) (kept : List (Layer A)) : Type 0 where
   pub count : length kept ≡ length layers
-  pub lists : length moved ≡ length layers
   pub valid : AreLayers o inputs kept
   pub outputs : output_count kept ≡ output_count layers
   pub values : AreSameOutputs o inputs kept layers

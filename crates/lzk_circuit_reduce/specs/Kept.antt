@@ -1,5 +1,5 @@
 -- What the kept wires of a layer are.
-use Rattle.std.specs.Prelude.{◌≡◌, ◌≢◌, ℕ, zero, suc, ◌+◌, ◌/◌, ◌%◌, ◌^◌, ◌<◌, ◌≤◌, Option, Some, None, List, length, map, slice_index_or}
+use Rattle.std.specs.Prelude.{◌≡◌, ◌≢◌, ℕ, zero, suc, ◌+◌, ◌*◌, ◌/◌, ◌^◌, ◌<◌, ◌≤◌, Option, Some, None, List, length, map, slice_index_or}
 use Rattle.std.proofs.Common.{◌⊎◌}
 use Rattle.lzk_field.specs.Ring.{Ops}
 use Rattle.lzk_circuit.specs.declared.layer.Term.{Term}
@@ -21,7 +21,7 @@ places_of number_of g ts = map (place_of number_of) (of_wire g ts)
 
 -- the slot of places, of so many
 abbrev pub slot_of : ℕ → List Place → ℕ
-slot_of slots places = hash_from 0 places / 2 ^ 32 % slots
+slot_of slots places = hash_from 0 places / 2 ^ 32 * slots / 2 ^ 32
 
 abbrev pub link_at : List (Option ℕ) → ℕ → Option ℕ
 link_at links k = slice_index_or links k None

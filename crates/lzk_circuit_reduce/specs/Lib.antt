@@ -6,6 +6,7 @@ pub mod Reduced
 pub mod Hash
 pub mod Kept
 pub mod Used
+pub mod Shared
 pub mod SomeReduced
 pub mod Targets
 pub mod Asserting

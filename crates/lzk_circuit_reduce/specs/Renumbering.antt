@@ -1,5 +1,6 @@
 -- Wires under other numbers.
-use Rattle.std.specs.Prelude.{◌≡◌, ℕ, ◌+◌, ◌<◌, ◌==◌, nat_lt, cond, List, [], ◌∷◌, length, map, slice_index_or}
+use Rattle.std.specs.Prelude.{◌≡◌, ◌≢◌, ℕ, ◌+◌, ◌<◌, ◌==◌, nat_lt, cond, List, [], ◌∷◌, length, map, slice_index_or}
+use Rattle.std.specs.List.{All}
 use Rattle.lzk_field.specs.Ring.{Ops}
 use Rattle.lzk_field.specs.Sums.{entry}
 use Rattle.lzk_circuit.specs.declared.layer.Term.{Term}
@@ -21,6 +22,10 @@ terms_before g (t ∷ ts) = cond (nat_lt t.g g) 1 0 + terms_before g ts
 abbrev pub AreOver : {A : Type 0} → ℕ → List (Term A) → Type 0
 AreOver width [] = Unit {0}
 AreOver width (t ∷ ts) = (t.a < width) × (t.b < width) × AreOver width ts
+
+-- no term's coefficient is 0
+abbrev pub AreNonzero : {A : Type 0} → Ops A → List (Term A) → Type 0
+AreNonzero o ts = All (λ t. t.coef ≢ o.zero) ts
 
 -- the numbers are those of so many wires
 abbrev pub AreNumbersBelow : ℕ → List ℕ → Type 0

@@ -1,8 +1,10 @@
 -- Layers without the wires that nothing uses.
-use Rattle.std.specs.Prelude.{ℕ, ◌==◌, ◌||◌, cond, true, Bool, List, [], ◌∷◌, length, map}
+use Rattle.std.specs.Prelude.{◌≡◌, ℕ, ◌==◌, ◌||◌, cond, true, Bool, List, [], ◌∷◌, ◌++◌, length, map, drop}
 use Rattle.std.specs.List.{range_with_len}
 use Rattle.lzk_circuit.specs.declared.layer.Term.{Term}
+use Rattle.lzk_field.specs.Ring.{Ops}
 use Rattle.lzk_circuit.specs.declared.layer.Layer.{Layer}
+use Rattle.lzk_circuit.specs.Valid.{AreLayers, under_of}
 use Rattle.lzk_circuit_reduce.specs.Renumbering.{at}
 use Rattle.lzk_circuit_reduce.specs.Marks.{is_marked, names, marked_before}
 use Rattle.lzk_circuit_reduce.specs.Targets.{targets_at, behind, is_in}
@@ -49,3 +51,23 @@ used_targets inputs marks ws [] = []
 used_targets inputs marks ws (layer ∷ layers) =
     map (marked_before (marks_of_under inputs marks layer.terms (targets_at ws 0) layers)) (targets_at ws 0)
     ∷ used_targets inputs (marks_of_under inputs marks layer.terms (targets_at ws 0) layers) (behind ws) layers
+
+-- marks for all wires of the first layer
+abbrev pub all_of : {A : Type 0} → List (Layer A) → List Bool
+all_of [] = []
+all_of (layer ∷ layers) = all_true layer.wires
+
+-- what stays where all wires of the first layer do
+pub record IsPruned {A : Type 0} (inputs : ℕ) (ws : List (List ℕ)) (layers : List (Layer A)) (moved : List (List ℕ))
+    (kept : List (Layer A)) : Type 0 where
+  pub kept_are : kept ≡ used_layers inputs (all_of layers) ws layers
+  pub moved_are : moved ≡ used_targets inputs (all_of layers) ws layers
+
+-- these are what stays of the first l layers; of the next one these wires stay
+pub record ArePrunedTo {A : Type 0} (o : Ops A) (inputs : ℕ) (ws : List (List ℕ)) (layers : List (Layer A))
+    (marks : List Bool) (l : ℕ) (moved : List (List ℕ)) (kept : List (Layer A)) : Type 0 where
+  pub is : IsPruned inputs ws layers
+      (moved ++ used_targets inputs marks (drop l ws) (drop l layers))
+      (kept ++ used_layers inputs marks (drop l ws) (drop l layers))
+  pub rest : AreLayers o inputs (drop l layers)
+  pub count : length marks ≡ (under_of inputs (drop l layers)).width

@@ -7,8 +7,7 @@ ghost use Rattle.lzk_circuit_reduce.specs.Reduced.{HaveOnes, AreInnerDifferent, 
 ghost use Rattle.lzk_circuit_reduce.specs.Targets.{targets_at, AreAllTerms, AreTargets, target_count};
 ghost use Rattle.lzk_circuit.specs.Limits.{most_wires, most_total};
 
-use crate::reduce::{reduced_with, used_with};
-use crate::reducible::Reducible;
+use crate::reduce::used_with;
 use crate::targets::Targets;
 use lzk_circuit::{Layer, Term, Terms};
 use lzk_field::Field;
@@ -58,40 +57,9 @@ fn attached<F: Field>(
     Ok(all)
 }
 
-/// The reduced form of layers, with an assertion wire for each wire that a layer asserts: the checks are the
-/// outputs, and then the values of the asserted wires, layer by layer.
-pub fn asserting<F: Field>(
-    alloc: Global,
-    inputs: u32,
-    layers: &[Layer<F>],
-    targets: &[Targets],
-) -> Result<Vec<Layer<F>>, AllocError>
-    requires inputs { 1 ≤ inputs }
-    requires some { 1 ≤ length layers.now }
-    requires terms { AreAllTerms F.ops inputs layers.now }
-    requires layers { 2 ≤ length layers.now → AreLayers F.ops inputs layers.now }
-    requires ones { HaveOnes F.ops layers.now }
-    requires targets { AreTargets inputs targets.now layers.now }
-    requires lists { length targets.now ≡ length layers.now }
-    requires checks { 1 ≤ output_count layers.now + length (targets_at targets.now 0) }
-    requires narrow { AreNarrowWith most_wires targets.now layers.now }
-    requires few_wires { (under_of inputs layers.now).wires + target_count targets.now layers.now ≤ most_total }
-    requires few_terms { (under_of inputs layers.now).terms + target_count targets.now layers.now ≤ most_total }
-    ensures { IfOk result (λ all. IsAssertingForm F.ops F.coding.number inputs targets.now layers.now all.items) }
-{
-    if layers.len() == 1 {
-        return attached(alloc, layers, targets);
-    }
-    let given = Reducible {
-        inputs,
-        layers,
-        targets,
-    };
-    let (kept, moved) = reduced_with(alloc, &given)?;
-    attached(alloc, &kept, &moved)
-}
-
-/// As `asserting`, for layers in which no two inner wires have the same terms: those that nothing uses go.
+/// The reduced form of layers in which no two inner wires have the same terms, with an assertion wire for each wire
+/// that a layer asserts: wires that nothing uses go, and the checks are the outputs, and then the values of the
+/// asserted wires, layer by layer.
 pub fn asserting_used<F: Field>(
     alloc: Global,
     inputs: u32,
@@ -114,8 +82,14 @@ pub fn asserting_used<F: Field>(
         (λ all. IsAssertingForm F.ops F.coding.number inputs targets.items layers.items all.items) }
 {
     if layers.len() == 1 {
-        return attached(alloc, &layers, &targets);
+        let all = attached(alloc, &layers, &targets);
+        drop(layers);
+        drop(targets);
+        return all;
     }
     let (kept, moved) = used_with(alloc, inputs, layers, targets)?;
-    attached(alloc, &kept, &moved)
+    let all = attached(alloc, &kept, &moved);
+    drop(kept);
+    drop(moved);
+    all
 }

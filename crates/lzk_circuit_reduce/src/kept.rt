@@ -92,7 +92,7 @@ fn slot_of<F: Field>(row: &[Term<F>], slots: usize) -> usize
     ensures slot { result ≡ slot_of slots (map (place_of F.coding.number) row.now) }
     ensures within { result < slots }
 {
-    (hash_of(row) >> 32) as usize % slots
+    (u128::from(hash_of(row) >> 32) * slots as u128 >> 32) as usize
 }
 
 // Whether two terms stand at one place with one coefficient.

@@ -26,10 +26,9 @@ mod share;
 mod targets;
 
 pub use add::add_term;
-pub use attach::{asserting, asserting_used};
+pub use attach::asserting_used;
 pub use kept::{KeptWires, none_kept, wire_of};
 pub use laws::reduce_laws;
-pub use marks::marked_places;
 pub use reduce::{reduced, used};
 pub use renumber::end_of;
 pub use rows::{append, merged, scaled, single};

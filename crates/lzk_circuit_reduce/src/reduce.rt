@@ -23,9 +23,10 @@ pub(crate) fn used_with<F: Field>(
     targets: Vec<Targets>,
 ) -> Result<(Vec<Layer<F>>, Vec<Targets>), AllocError>
     requires are { AreReducible F.ops inputs targets.items layers.items }
-    requires lists { length targets.items ≡ length layers.items }
     requires different { AreInnerDifferent layers.items }
     ensures form { IfOk result (λ kept. IsForm F.ops inputs targets.items layers.items kept.1.items kept.0.items) }
+    ensures lists { length targets.items ≡ length layers.items
+        → IfOk result (λ kept. length kept.1.items ≡ length kept.0.items) }
     ensures reduced { IfOk result (λ kept. IsReducedWith F.ops kept.1.items kept.0.items) }
 {
     let given = Reducible {
@@ -42,40 +43,25 @@ pub(crate) fn used_with<F: Field>(
 // The reduced form of layers. Where sharing leaves wires that nothing uses, they go.
 fn reduced_by_sharing<F: Field>(
     alloc: Global,
-    given: &Reducible<'_, F>,
-) -> Result<(Vec<Layer<F>>, Vec<Targets>), AllocError>
-    ensures form { IfOk result (λ kept.
-        IsForm F.ops given.now.inputs given.now.targets.now given.now.layers.now kept.1.items kept.0.items) }
-    ensures reduced { IfOk result (λ kept. IsReducedWith F.ops kept.1.items kept.0.items) }
+    inputs: u32,
+    layers: &[Layer<F>],
+) -> Result<Vec<Layer<F>>, AllocError>
+    requires some { 1 ≤ length layers.now }
+    requires layers { AreLayers F.ops inputs layers.now }
+    requires ones { HaveOnes F.ops layers.now }
+    ensures count { IfOk result (λ kept. length kept.items ≡ length layers.now) }
+    ensures layers { IfOk result (λ kept. AreLayers F.ops inputs kept.items) }
+    ensures outputs { IfOk result (λ kept. output_count kept.items ≡ output_count layers.now) }
+    ensures values { IfOk result (λ kept. AreSameOutputs F.ops inputs kept.items layers.now) }
+    ensures reduced { IfOk result (λ kept. IsReduced F.ops kept.items) }
 {
-    let (different, moved) = shared(alloc, given)?;
-    used_with(alloc, given.inputs, different, moved)
+    let different = shared(alloc, inputs, layers)?;
+    used(alloc, inputs, different)
 }
 
-/// Outputs and asserted values as they are, by fewer wires: in no inner layer do two wires have the same
-/// terms, each is used or asserted above or is wire 0, and wire 0 goes on from wire 0 below. What nothing uses
-/// goes first, so that no work is done for it, and again where sharing left more.
-pub(crate) fn reduced_with<F: Field>(
-    alloc: Global,
-    given: &Reducible<'_, F>,
-) -> Result<(Vec<Layer<F>>, Vec<Targets>), AllocError>
-    ensures form { IfOk result (λ kept.
-        IsForm F.ops given.now.inputs given.now.targets.now given.now.layers.now kept.1.items kept.0.items) }
-    ensures reduced { IfOk result (λ kept. IsReducedWith F.ops kept.1.items kept.0.items) }
-{
-    if are_used(alloc, given)? {
-        return reduced_by_sharing(alloc, given);
-    }
-    let (used, moved) = pruned(alloc, given)?;
-    let left = Reducible {
-        inputs: given.inputs,
-        layers: &used,
-        targets: &moved,
-    };
-    reduced_by_sharing(alloc, &left)
-}
-
-/// As `reduced_with`, for layers that assert nothing.
+/// Outputs as they are, by fewer wires: in no inner layer do two wires have the same terms, each is used above or is
+/// wire 0, and wire 0 goes on from wire 0 below. What nothing uses goes first, so that no work is done for it, and
+/// again where sharing left more.
 pub fn reduced<F: Field>(
     alloc: Global,
     inputs: u32,
@@ -90,14 +76,18 @@ pub fn reduced<F: Field>(
     ensures values { IfOk result (λ kept. AreSameOutputs F.ops inputs kept.items layers.now) }
     ensures reduced { IfOk result (λ kept. IsReduced F.ops kept.items) }
 {
-    let none = Vec::new(alloc);
     let given = Reducible {
         inputs,
         layers,
-        targets: &none,
+        targets: &[],
     };
-    let (kept, _) = reduced_with(alloc, &given)?;
-    Ok(kept)
+    if are_used(alloc, &given)? {
+        return reduced_by_sharing(alloc, inputs, layers);
+    }
+    let (left, _) = pruned(alloc, &given)?;
+    let result = reduced_by_sharing(alloc, inputs, &left);
+    drop(left);
+    result
 }
 
 /// As `reduced`, for layers in which no two inner wires have the same terms: those that nothing uses go.
@@ -116,15 +106,6 @@ pub fn used<F: Field>(
     ensures values { IfOk result (λ kept. AreSameOutputs F.ops inputs kept.items layers.items) }
     ensures reduced { IfOk result (λ kept. IsReduced F.ops kept.items) }
 {
-    let none = Vec::new(alloc);
-    let given = Reducible {
-        inputs,
-        layers: &layers,
-        targets: &none,
-    };
-    if are_used(alloc, &given)? {
-        return Ok(layers);
-    }
-    let (kept, _) = pruned(alloc, &given)?;
+    let (kept, _) = used_with(alloc, inputs, layers, Vec::new(alloc))?;
     Ok(kept)
 }

@@ -1,57 +1,27 @@
 //! A wire's terms over other numbers of the wires below.
 
-ghost use Rattle.std.specs.Prelude.{◌≡◌, ℕ, ◌+◌, ◌<◌, ◌≤◌, None, List, length, IfOk};
+ghost use Rattle.std.specs.Prelude.{◌≡◌, ℕ, ◌+◌, ◌≤◌, None, List, length, IfOk};
 ghost use Rattle.lzk_circuit.specs.Valid.{AreTerms};
-ghost use Rattle.lzk_circuit.specs.Wires.{coef, wire};
-ghost use Rattle.lzk_circuit_reduce.specs.Renumbering.{at};
+ghost use Rattle.lzk_circuit_reduce.specs.Renumbering.{at, of_wire, terms_before, AreOver, AreNonzero};
+ghost use Rattle.lzk_circuit_reduce.specs.Renumbering.{AreNumbersBelow, AreCopies, IsOne};
 ghost use Rattle.lzk_circuit_reduce.specs.Rows.{IsRow, row_value};
-ghost use Rattle.lzk_circuit_reduce.specs.Renumbering.{of_wire, terms_before, AreOver, AreNumbersBelow, AreCopies, IsOne};
+ghost use Rattle.lzk_circuit_reduce.specs.Shared.{IsMovedLayer};
 
 use crate::in_order::in_order;
-use crate::rows::{append, merged, single};
+use crate::rows::{append, merged};
 use lzk_circuit::{Layer, Term, Terms};
 use lzk_field::Field;
 use std::alloc::{AllocError, Global};
 
-// A wire's terms over the wires with the numbers of those that they name, as a row.
-fn renumbered<F: Field>(
-    alloc: Global,
-    terms: &[Term<F>],
-    numbers: &[u32],
-) -> Result<Vec<Term<F>>, AllocError>
-    requires terms { AreOver (length numbers.now) terms.now }
-    ensures row { (width : ℕ) → AreNumbersBelow width numbers.now → IfOk result (λ row. IsRow F.ops width row.items) }
-    ensures value { (old new : List F) → AreCopies F.ops numbers.now old new →
-        IfOk result (λ row. row_value F.ops new row.items ≡ row_value F.ops old terms.now) }
-    ensures short { IfOk result (λ row. length row.items ≤ length terms.now) }
-    ensures one { IsOne F.ops terms.now → at numbers.now 0 ≡ 0 → IfOk result (λ row. IsOne F.ops row.items) }
-{
-    if terms.len() == 0 {
-        return Ok(Vec::new(alloc));
-    }
-    if terms.len() == 1 {
-        let term = terms[0];
-        let (a, b) = (numbers[term.a as usize], numbers[term.b as usize]);
-        return single(alloc, term.coef, a, b);
-    }
-    let mut row = Vec::with_capacity(alloc, terms.len())?;
-    if in_order(terms, numbers, &mut row)? {
-        return Ok(row);
-    }
-    let (left, right) = terms.split_at(terms.len() / 2);
-    let left = renumbered(alloc, left, numbers)?;
-    let right = renumbered(alloc, right, numbers)?;
-    merged(alloc, &left, &right)
-}
-
 /// Makes a row of a wire's terms over the wires with the numbers of those that they name.
-pub fn renumber<F: Field>(
+pub(crate) fn renumber<F: Field>(
     alloc: Global,
     terms: &[Term<F>],
     numbers: &[u32],
     row: &mut Vec<Term<F>>,
 ) -> Result<(), AllocError>
     requires terms { AreOver (length numbers.now) terms.now }
+    requires nonzero { AreNonzero F.ops terms.now }
     ensures row { (width : ℕ) → AreNumbersBelow width numbers.now → IfOk result (λ _. IsRow F.ops width row.new.items) }
     ensures value { (old new : List F) → AreCopies F.ops numbers.now old new →
         IfOk result (λ _. row_value F.ops new row.new.items ≡ row_value F.ops old terms.now) }
@@ -61,7 +31,11 @@ pub fn renumber<F: Field>(
     if in_order(terms, numbers, row)? {
         return Ok(());
     }
-    *row = renumbered(alloc, terms, numbers)?;
+    let (front, back) = terms.split_at(terms.len() / 2);
+    let mut left = Vec::with_capacity(alloc, front.len())?;
+    renumber(alloc, front, numbers, &mut left)?;
+    renumber(alloc, back, numbers, row)?;
+    *row = merged(alloc, &left, row)?;
     Ok(())
 }
 
@@ -112,16 +86,8 @@ pub(crate) fn moved_layer<F: Field>(
     layer: &Layer<F>,
     numbers: &[u32],
 ) -> Result<Layer<F>, AllocError>
-    requires terms { AreTerms F.ops layer.now.wires (length numbers.now) None layer.now.terms }
-    ensures wires { IfOk result (λ moved. moved.wires ≡ layer.now.wires) }
-    ensures terms { (width : ℕ) → AreNumbersBelow width numbers.now
-        → IfOk result (λ moved. AreTerms F.ops layer.now.wires width None moved.terms) }
-    ensures values { (old new : List F) → length old ≡ length numbers.now → AreNumbersBelow (length new) numbers.now
-        → AreCopies F.ops numbers.now old new
-        → IfOk result (λ moved.
-        (g : ℕ) → g < layer.now.wires
-        → wire F.ops (coef F.ops moved.terms) new g ≡ wire F.ops (coef F.ops layer.now.terms) old g) }
-    ensures count { IfOk result (λ moved. length moved.terms ≤ length layer.now.terms) }
+    requires { AreTerms F.ops layer.now.wires (length numbers.now) None layer.now.terms }
+    ensures { IfOk result (IsMovedLayer F.ops layer.now numbers.now) }
 {
     let mut terms = Vec::with_capacity(alloc, layer.terms.as_slice().len())?;
     let mut row = Vec::new(alloc);

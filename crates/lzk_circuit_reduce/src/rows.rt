@@ -1,6 +1,6 @@
 //! Rows: the terms of one wire, ascending, each with wire number 0.
 
-ghost use Rattle.std.specs.Prelude.{◌≡◌, ◌≢◌, ℕ, ◌+◌, ◌<◌, ◌≤◌, List, [], ◌∷◌, ◌++◌, length, map, IfOk, None, true, false};
+ghost use Rattle.std.specs.Prelude.{◌≡◌, ◌≢◌, ℕ, ◌+◌, ◌<◌, ◌≤◌, List, [], ◌∷◌, ◌++◌, length, map, vec_len, vec_capacity, IfOk, None, true, false};
 ghost use Rattle.lzk_field.specs.Sums.{entry};
 ghost use Rattle.lzk_circuit_reduce.specs.Renumbering.{at};
 ghost use Rattle.lzk_circuit_reduce.specs.Rows.{IsRow, IsUnder, AreUnder, IsNext, row_value, term_value, ordered, placed};
@@ -54,7 +54,7 @@ pub fn single<F: Field>(alloc: Global, coef: F, a: u32, b: u32) -> Result<Vec<Te
         return Ok(Vec::new(alloc));
     }
     let mut row = Vec::with_capacity(alloc, 1)?;
-    row.push(term_of(coef, a, b))?;
+    row.push_reserved(term_of(coef, a, b));
     Ok(row)
 }
 
@@ -77,36 +77,34 @@ pub fn scaled<F: Field>(
     }
     let mut multiple = Vec::with_capacity(alloc, row.len())?;
     for term in row {
-        multiple.push(Term {
+        multiple.push_reserved(Term {
             coef: factor.mul(term.coef),
             ..*term
-        })?;
+        });
     }
     Ok(multiple)
 }
 
 // Appends the earlier of two terms, or what both add up to where they stand at one place, and tells how
-// many of the left ones and of the right ones that are.
-fn push_next<F: Field>(
-    sum: &mut Vec<Term<F>>,
-    x: Term<F>,
-    y: Term<F>,
-) -> Result<(usize, usize), AllocError>
-    ensures { IfOk result (IsNext F.ops x y sum.old.items sum.new.items) }
+// many of the left ones and of the right ones that are. There is room for one.
+fn push_next<F: Field>(sum: &mut Vec<Term<F>>, x: Term<F>, y: Term<F>) -> (usize, usize)
+    requires { vec_len sum.old < vec_capacity sum.old }
+    ensures next { IsNext F.ops x y sum.old.items sum.new.items result }
+    ensures capacity { vec_capacity sum.new ≡ vec_capacity sum.old }
 {
     if x.a < y.a || (x.a == y.a && x.b < y.b) {
-        sum.push(x)?;
-        return Ok((1, 0));
+        sum.push_reserved(x);
+        return (1, 0);
     }
     if y.a < x.a || y.b < x.b {
-        sum.push(y)?;
-        return Ok((0, 1));
+        sum.push_reserved(y);
+        return (0, 1);
     }
     let coef = x.coef.add(y.coef);
     if !is_zero(coef) {
-        sum.push(Term { coef, ..x })?;
+        sum.push_reserved(Term { coef, ..x });
     }
-    Ok((1, 1))
+    (1, 1)
 }
 
 /// The sum of two rows.
@@ -123,10 +121,13 @@ pub fn merged<F: Field>(
     ensures under { (ns : List ℕ) (d : ℕ) → AreUnder ns d left.now → AreUnder ns d right.now
         → IfOk result (λ sum. AreUnder ns d sum.items) }
 {
-    let mut sum = Vec::with_capacity(alloc, left.len().saturating_add(right.len()))?;
+    let Some(most) = left.len().checked_add(right.len()) else {
+        return Err(AllocError);
+    };
+    let mut sum = Vec::with_capacity(alloc, most)?;
     let (mut i, mut j) = (0, 0);
     while i < left.len() && j < right.len() {
-        let (from_left, from_right) = push_next(&mut sum, left[i], right[j])?;
+        let (from_left, from_right) = push_next(&mut sum, left[i], right[j]);
         i += from_left;
         j += from_right;
     }
@@ -148,8 +149,9 @@ pub fn append<F: Field>(terms: &mut Vec<Term<F>>, g: u32, row: &[Term<F>]) -> Re
     ensures count { IfOk result (λ _. length terms.new.items ≡ length terms.old.items + length row.now) }
     ensures exact { IfOk result (λ _. terms.new.items ≡ terms.old.items ++ map (placed g) row.now) }
 {
+    terms.reserve(row.len())?;
     for term in row {
-        terms.push(Term { g, ..*term })?;
+        terms.push_reserved(Term { g, ..*term });
     }
     Ok(())
 }

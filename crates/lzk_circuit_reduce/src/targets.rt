@@ -39,8 +39,22 @@ impl Targets {
     }
 }
 
-// Wires under other numbers.
-fn renumbered(alloc: Global, wires: &[u32], numbers: &[u32]) -> Result<Targets, AllocError>
+/// What layer `l` asserts. A layer with no list asserts nothing.
+pub(crate) fn targets_of(targets: &[Targets], l: usize) -> &[u32]
+    ensures { result.now ≡ targets_at targets.now l }
+{
+    match targets.get(l) {
+        Some(own) => own.as_slice(),
+        None => &[],
+    }
+}
+
+/// Wires under other numbers.
+pub(crate) fn renumbered(
+    alloc: Global,
+    wires: &[u32],
+    numbers: &[u32],
+) -> Result<Targets, AllocError>
     requires { AreBelow (length numbers.now) wires.now }
     ensures { IfOk result (λ moved. moved ≡ map (at numbers.now) wires.now) }
 {
@@ -49,22 +63,6 @@ fn renumbered(alloc: Global, wires: &[u32], numbers: &[u32]) -> Result<Targets, 
         list.push(numbers[wires[i] as usize])?;
     }
     Ok(Targets::new(list))
-}
-
-/// What layer `l` asserts, under other numbers of the wires below. A layer with no list asserts nothing.
-pub(crate) fn moved_targets(
-    alloc: Global,
-    targets: &[Targets],
-    l: usize,
-    numbers: &[u32],
-) -> Result<Targets, AllocError>
-    requires { AreBelow (length numbers.now) (targets_at targets.now l) }
-    ensures { IfOk result (λ moved. moved ≡ map (at numbers.now) (targets_at targets.now l)) }
-{
-    match targets.get(l) {
-        Some(own) => renumbered(alloc, own.as_slice(), numbers),
-        None => Ok(Targets::new(Vec::new(alloc))),
-    }
 }
 
 // Marks a wire.
@@ -76,25 +74,13 @@ fn mark_one(marks: &mut Vec<bool>, wire: u32)
     marks[wire as usize] = true;
 }
 
-// Marks wires.
-fn mark_each(marks: &mut Vec<bool>, wires: &[u32])
+/// Marks wires.
+pub(crate) fn mark_each(marks: &mut Vec<bool>, wires: &[u32])
     requires { AreBelow (length marks.now.items) wires.now }
     ensures count { length marks.new.items ≡ length marks.old.items }
     ensures marks { (k : ℕ) → is_marked marks.new.items k ≡ (is_marked marks.old.items k || is_in wires.now k) }
 {
     for i in 0..wires.len() {
         mark_one(marks, wires[i]);
-    }
-}
-
-/// Marks the wires that layer `l` asserts.
-pub(crate) fn mark_targets(marks: &mut Vec<bool>, targets: &[Targets], l: usize)
-    requires { AreBelow (length marks.now.items) (targets_at targets.now l) }
-    ensures count { length marks.new.items ≡ length marks.old.items }
-    ensures marks { (k : ℕ)
-        → is_marked marks.new.items k ≡ (is_marked marks.old.items k || is_in (targets_at targets.now l) k) }
-{
-    if let Some(own) = targets.get(l) {
-        mark_each(marks, own.as_slice());
     }
 }

@@ -18,11 +18,11 @@ returns-then-len-eq1 g c =
     let form = single-form o g.F.Field.coding.size number g.F.Field.coding.element g.F.Field.coding.bytes g.F.Field.laws inputs ws layers single r.inputs r.terms r.ones r.targets r.narrow r.checks r.few_wires r.few_terms in
     let lists = c.deref-then-len-eq1.result.now in
     let same = ap (attached_layers o lists) c.deref.ensures.value ∙ ap (λ ms. attached_layers o ms layers) c.deref-then-len-eq1.ensures.value in
-    IfOk-weaker c.attached.result (λ all. all.items ≡ attached_layers o lists c.deref.result.now) (λ all. IsAssertingForm o number inputs ws layers all.items)
-    (λ all e. subst (IsAssertingForm o number inputs ws layers) (sym (e ∙ same)) form) c.attached.ensures
+    IfOk-weaker c.attached-all.result (λ all. all.items ≡ attached_layers o lists c.deref.result.now) (λ all. IsAssertingForm o number inputs ws layers all.items)
+    (λ all e. subst (IsAssertingForm o number inputs ws layers) (sym (e ∙ same)) form) c.attached-all.ensures
 
-pub attached-requires-2-clause-few : goal.attached-requires-2-clause-few
-attached-requires-2-clause-few g c κs within =
+pub attached-all-requires-2-clause-few : goal.attached-all-requires-2-clause-few
+attached-all-requires-2-clause-few g c κs within =
     let f = c.in_ok-kept.ensures.form in
     let moved = c.in_ok-kept.moved.items in
     let kept = c.in_ok-kept.kept.items in
@@ -43,5 +43,5 @@ returns g c =
     let lists = c.deref-3.result.now in
     let form = reduced-form o g.F.Field.coding.size number g.F.Field.coding.element g.F.Field.coding.bytes g.F.Field.laws inputs ws layers moved kept r.some r.inputs r.narrow r.checks r.few_wires r.few_terms e.form e.reduced in
     let same = ap (attached_layers o lists) c.deref-2.ensures.value ∙ ap (λ ms. attached_layers o ms kept) c.deref-3.ensures.value in
-    IfOk-weaker c.attached-2.result (λ all. all.items ≡ attached_layers o lists c.deref-2.result.now) (λ all. IsAssertingForm o number inputs ws layers all.items)
-    (λ all e. subst (IsAssertingForm o number inputs ws layers) (sym (e ∙ same)) form) c.attached-2.ensures
+    IfOk-weaker c.attached-all-2.result (λ all. all.items ≡ attached_layers o lists c.deref-2.result.now) (λ all. IsAssertingForm o number inputs ws layers all.items)
+    (λ all e. subst (IsAssertingForm o number inputs ws layers) (sym (e ∙ same)) form) c.attached-all-2.ensures

@@ -7,6 +7,15 @@ use Rattle.lzk_circuit_reduce.proofs.AddLaws.{any-default}
 use Rattle.lzk_circuit_reduce.proofs.KeptLaws.{IsMore, kept-adds, table-adds, added-own, own-before}
 use Rattle.lzk_circuit_reduce.proofs.kept.add_wire.Goals as goal
 
+pub returns-clause-wire : goal.returns-clause-wire
+returns-clause-wire g c = refl
+
+pub returns-clause-count : goal.returns-clause-count
+returns-clause-count g c = refl
+
+pub returns-clause-short : goal.returns-clause-short
+returns-clause-short g c = c.in_ok-append.ensures.count
+
 pub returns-clause-table : goal.returns-clause-table
 returns-clause-table g c =
     let old = c.args.kept.now in

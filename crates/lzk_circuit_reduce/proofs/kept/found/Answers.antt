@@ -1,4 +1,4 @@
-use Rattle.std.proofs.Common.{rules, arith, ◌≡◌, ◌<◌, ◌∙◌, ap, sym, subst, length, map, None}
+use Rattle.std.proofs.Common.{rules, arith, ℕ, Some, ◌≡◌, ◌<◌, ◌∙◌, ap, sym, subst, length, map, None}
 use Rattle.lzk_circuit_reduce.specs.Kept.{IsMet, link_at, place_of, places_of, slot_of}
 use Rattle.lzk_circuit_reduce.proofs.AddLaws.{any-default}
 use Rattle.lzk_circuit_reduce.proofs.KeptLaws.{kept-slice, met-step, met-nothing, none-of, steps-below}
@@ -12,6 +12,18 @@ loop-link-init g c =
       λ width k i l same.
           subst (IsMet kept.links.items i) (ap (λ ps. link_at kept.heads.items (slot_of (length kept.heads.items) ps)) same ∙ ap (link_at kept.heads.items) (sym c.requires.slot) ∙ sym read) (k.met i l),
     )
+
+some-none : (w : ℕ) → Some w ≡ None → ⊥
+some-none w e = cc
+
+pub terms_of-requires-clause-table : goal.terms_of-requires-clause-table
+terms_of-requires-clause-table g c κs within = c.requires.table
+
+pub terms_of-requires-clause-wire : goal.terms_of-requires-clause-wire
+terms_of-requires-clause-wire g c κs within = c.loop-link.invariant.0 c.in-Some.wire c.in-Some.is
+
+pub returns-then-are_same-clause-none : goal.returns-then-are_same-clause-none
+returns-then-are_same-clause-none g c width k none = absurd (some-none c.in-Some.wire none)
 
 pub returns-then-are_same-clause-below : goal.returns-then-are_same-clause-below
 returns-then-are_same-clause-below g c = c.loop-link.invariant.0 c.in-Some.wire c.in-Some.is

@@ -1,10 +1,26 @@
-use Rattle.std.proofs.Common.{◌∙◌, ap, ◌+◌, ◌==◌, ◌||◌, arith, length, None, get_or, drop}
-use Rattle.std.proofs.lemmas.List.{get_or_default}
+use Rattle.std.proofs.Common.{◌≡◌, ◌∙◌, refl, sym, ap, ◌+◌, ◌==◌, ◌||◌, Bool, true, false, arith, length, None, get_or, drop}
+use Rattle.std.proofs.lemmas.List.{get_or_default, drop_all}
 use Rattle.lzk_circuit.proofs.OrderLaws.{term-at}
 use Rattle.lzk_circuit_reduce.specs.Marks.{is_marked, names}
 use Rattle.lzk_circuit_reduce.proofs.MarkLaws.{names-marked, names-unmarked}
 use Rattle.lzk_circuit_reduce.proofs.marks.marks_below.Goals.{then-marks-terms, else-marks-terms}
 use Rattle.lzk_circuit_reduce.proofs.marks.marks_below.Goals as goal
+
+or-false : (p : Bool) → (p || false) ≡ p
+or-false true = refl
+or-false false = refl
+
+pub loop-i-init : goal.loop-i-init
+loop-i-init g c = (c.in_ok-below.ensures.count, λ k l. ap (λ p. p || names c.args.marks.now c.args.terms.now k) (c.in_ok-below.ensures.marks k l))
+
+pub returns-clause-count : goal.returns-clause-count
+returns-clause-count g c = c.loop-i.invariant.0
+
+pub returns-clause-marks : goal.returns-clause-marks
+returns-clause-marks g c k l =
+    let below = c.loop-i.below.items in
+    let marks = c.args.marks.now in
+    sym (or-false (is_marked below k)) ∙ ap (λ us. is_marked below k || names marks us k) (sym (drop_all c.loop-i.i c.args.terms.now c.loop-i-test.false)) ∙ c.loop-i.invariant.1 k l
 
 pub bounds-marks-terms : goal.bounds-marks-terms
 bounds-marks-terms g c =

@@ -27,7 +27,7 @@ is_used-requires-clause-targets g c κs within =
     let ws = targets_at c.args.given.now.targets.now (l - 1) in
     let next : l ≡ suc (l - 1) = omega (arith, c.loop-l.auto.l) in
     let second : y ≡ get_or layers (suc (l - 1)) x = any-default layers l y x c.loop-l-test.true c.index-layers-l-in-loop-l.is ∙ ap (λ k. get_or layers k x) next in
-    subst (λ v. AreBelow v.wires ws) (sym second) (inner-targets c.args.given.now.inputs c.args.given.now.targets.now layers (l - 1) x (omega (arith, c.loop-l-test.true, next)) c.args.given.now.are.targets)
+    subst (AreBelow y.wires) (sym c.targets_of-own.ensures) (subst (λ v. AreBelow v.wires ws) (sym second) (inner-targets c.args.given.now.inputs c.args.given.now.targets.now layers (l - 1) x (omega (arith, c.loop-l-test.true, next)) c.args.given.now.are.targets))
 
 pub returns : goal.returns
 returns g c e = all-used c.args.given.now.targets.now c.args.given.now.layers.now c.loop-l.l c.loop-l-test.false c.loop-l.invariant

@@ -1,4 +1,5 @@
-use Rattle.std.proofs.Common.{rules, ◌≡◌, ◌<◌, ◌+◌, ◌++◌, ◌∙◌, ap, sym, subst, arith, false, List, ℕ, length, drop, None, get_or}
+use Rattle.std.proofs.Common.{rules, [], ◌∷◌, ◌≡◌, ◌<◌, ◌+◌, ◌++◌, ◌∙◌, ap, sym, subst, arith, false, List, ℕ, length, drop, None, get_or}
+use Rattle.std.proofs.lemmas.List.{length-append}
 use Rattle.lzk_field.specs.Ring.{Ops}
 use Rattle.lzk_circuit.specs.declared.layer.Term.{Term}
 use Rattle.lzk_circuit.specs.Valid.{IsTerm, AreTerms}
@@ -8,7 +9,7 @@ use Rattle.lzk_circuit_reduce.specs.Marks.{is_marked}
 use Rattle.lzk_circuit_reduce.specs.Used.{used_term, used_terms}
 use Rattle.lzk_circuit_reduce.proofs.AddLaws.{any-default}
 use Rattle.lzk_circuit_reduce.proofs.UsedLaws.{numbered-used, used-marked, used-unmarked}
-use Rattle.lzk_circuit_reduce.proofs.prune.pruned_layer.Goals.{then-index+in_ok-push, else-index}
+use Rattle.lzk_circuit_reduce.proofs.prune.pruned_layer.Goals.{then-index, else-index}
 use Rattle.lzk_circuit_reduce.proofs.prune.pruned_layer.Goals as goal
 
 -- a term that is read is one of them
@@ -69,11 +70,12 @@ loop-i-preserved g c =
     let seen = below.marks.items in
     let d = c.index-terms-i.result in
     let all = used_terms marks seen ts in
+    let inv = c.loop-i.invariant in
     let l : i < length ts = c.loop-i-test.true in
     let t = read g.F.Field.ops (length marks) (length seen) i ts d c.requires l c.index-terms-i.is in
     let own = ap (λ x. is_marked marks x.g) (sym c.index-terms-i.is) ∙ sym (any-default marks d.g c.index.result.now false t.g c.index.ensures) in
     elim c.if-index.branch [
-      | then-index+in_ok-push w ↦
+      | then-index w ↦
           let first = any-default above.places.items d.g w.index-then-index.result.now 0 (omega (arith, t.g, above.placed.0)) w.index-then-index.ensures in
           let left = any-default below.places.items d.a w.index-then-index-2.result.now 0 (omega (arith, t.a, t.b, below.placed.0)) w.index-then-index-2.ensures in
           let right = any-default below.places.items d.b w.index-then-index-3.result.now 0 (omega (arith, t.b, below.placed.0)) w.index-then-index-3.ensures in
@@ -84,9 +86,31 @@ loop-i-preserved g c =
           ∙ ap (λ n. record { g = at above.places.items d.g; a = at below.places.items d.a; b = n; coef = d.coef }) right
           ∙ numbered-used marks seen above.places.items below.places.items d above.placed below.placed t.g (omega (arith, t.a, t.b)) t.b
           ∙ ap (used_term marks seen) c.index-terms-i.is in
-          ap (λ v. v.items ++ used_terms marks seen (drop (i + 1) ts)) w.kept-is
-          ∙ ap (λ xs. xs ++ used_terms marks seen (drop (i + 1) ts)) w.in_ok-push.ensures.items
-          ∙ used-marked marks seen ts c.loop-i.kept.items all pushed i d l (own ∙ w.if-index.true) is c.loop-i.invariant
-      | else-index w ↦
-          ap (λ v. v.items ++ used_terms marks seen (drop (i + 1) ts)) w.kept-is ∙ used-unmarked marks seen ts c.loop-i.kept.items all i d l (own ∙ w.if-index.false) c.loop-i.invariant
+          record {
+            all =
+                ap (λ v. v.items ++ used_terms marks seen (drop (i + 1) ts)) w.kept-is
+                ∙ ap (λ xs. xs ++ used_terms marks seen (drop (i + 1) ts)) w.push_reserved.ensures.items
+                ∙ used-marked marks seen ts c.loop-i.kept.items all pushed i d l (own ∙ w.if-index.true) is inv.all;
+            few = omega (arith, ap (λ v. length v.items) w.kept-is, ap length w.push_reserved.ensures.items, length-append c.loop-i.kept.items (pushed ∷ []), inv.few);
+            room = omega (arith, ap (λ v. v.cap) w.kept-is, w.push_reserved.ensures.capacity, inv.room);
+          }
+      | else-index w ↦ record {
+        all = ap (λ v. v.items ++ used_terms marks seen (drop (i + 1) ts)) w.kept-is ∙ used-unmarked marks seen ts c.loop-i.kept.items all i d l (own ∙ w.if-index.false) inv.all;
+        few = omega (arith, ap (λ v. length v.items) w.kept-is, inv.few);
+        room = omega (arith, ap (λ v. v.cap) w.kept-is, inv.room);
+      }
     ]
+
+pub loop-i-init : goal.loop-i-init
+loop-i-init g c =
+    let above = c.args.above.now in
+    let below = c.args.below.now in
+    let ts = c.args.terms.now in
+    record {
+      all = ap (λ xs. xs ++ used_terms above.marks.items below.marks.items ts) c.in_ok-kept.ensures.items;
+      few = omega (arith, ap length c.in_ok-kept.ensures.items);
+      room = omega (arith, c.in_ok-kept.ensures.capacity);
+    }
+
+pub push_reserved-requires : goal.push_reserved-requires
+push_reserved-requires g c = omega (arith, c.loop-i.invariant.few, c.loop-i.invariant.room, c.loop-i-test.true)

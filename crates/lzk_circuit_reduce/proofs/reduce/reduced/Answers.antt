@@ -1,26 +1,44 @@
-use Rattle.std.proofs.Common.{◌∙◌, sym, subst}
-use Rattle.lzk_circuit_reduce.specs.Asserting.{AreAsMany}
-use Rattle.lzk_circuit_reduce.specs.Targets.{AreTargets}
-use Rattle.lzk_circuit_reduce.proofs.FormLaws.{reduced-alone}
+use Rattle.std.proofs.Common.{◌≡◌, ◌∙◌, ap, sym, subst, arith, length}
+use Rattle.std.proofs.lemmas.Result.{IfOk-weaker}
+use Rattle.lzk_circuit.specs.Valid.{AreLayers}
+use Rattle.lzk_circuit_reduce.specs.Reduced.{HaveOnes, AreSameOutputs, output_count}
 use Rattle.lzk_circuit_reduce.proofs.TargetLaws.{no-targets}
 use Rattle.lzk_circuit_reduce.proofs.reduce.reduced.Goals as goal
 
 pub invariant_of-given : goal.invariant_of-given
 invariant_of-given g c =
-    let layers = c.args.layers.now in
-    record {
-      are = record {
-        some = c.requires.some;
-        valid = c.requires.layers;
-        ones = c.requires.ones;
-        targets = subst (λ ws. AreTargets c.args.inputs ws layers) (sym (c.deref.ensures.value ∙ c.new-none.ensures.items)) (no-targets c.args.inputs layers);
-      };
-    }
+    let r = c.requires in
+    record { are = record { some = r.some; valid = r.layers; ones = r.ones; targets = no-targets c.args.inputs c.args.layers.now } }
 
-pub returns-clause-reduced : goal.returns-clause-reduced
-returns-clause-reduced g c =
+pub reduced_by_sharing-result-requires-clause-some : goal.reduced_by_sharing-result-requires-clause-some
+reduced_by_sharing-result-requires-clause-some g c κs within =
+    let f = c.in_ok-left.ensures.form in
+    omega (arith, ap length c.deref.ensures.value, f.count, c.requires.some)
+
+pub reduced_by_sharing-result-requires-clause-layers : goal.reduced_by_sharing-result-requires-clause-layers
+reduced_by_sharing-result-requires-clause-layers g c κs within =
+    let f = c.in_ok-left.ensures.form in
+    subst (AreLayers g.F.Field.ops c.args.inputs) (sym c.deref.ensures.value) f.valid
+
+pub reduced_by_sharing-result-requires-clause-ones : goal.reduced_by_sharing-result-requires-clause-ones
+reduced_by_sharing-result-requires-clause-ones g c κs within = subst (HaveOnes g.F.Field.ops) (sym c.deref.ensures.value) c.in_ok-left.ensures.ones
+
+pub returns : goal.returns
+returns g c =
+    let o = g.F.Field.ops in
+    let inputs = c.args.inputs in
     let layers = c.args.layers.now in
-    let f = c.in_ok-kept.ensures.form in
-    let moved = c.in_ok-kept.field-0-1.items in
-    let many = subst (λ ws. AreAsMany moved ws layers) (c.deref.ensures.value ∙ c.new-none.ensures.items) f.as_many in
-    reduced-alone g.F.Field.ops moved c.in_ok-kept.kept.items layers f.count many c.in_ok-kept.ensures.reduced
+    let left = c.deref.result.now in
+    let is = c.deref.ensures.value in
+    let f = c.in_ok-left.ensures.form in
+    let u = c.reduced_by_sharing-result.ensures in
+    let r = c.reduced_by_sharing-result.result in
+    record {
+      count = IfOk-weaker r (λ kept. length kept.items ≡ length left) (λ kept. length kept.items ≡ length layers) (λ kept e. e ∙ ap length is ∙ f.count) u.count;
+      layers = u.layers;
+      outputs = IfOk-weaker r (λ kept. output_count kept.items ≡ output_count left) (λ kept. output_count kept.items ≡ output_count layers) (λ kept e. e ∙ ap output_count is ∙ f.outputs) u.outputs;
+      values =
+          IfOk-weaker r (λ kept. AreSameOutputs o inputs kept.items left) (λ kept. AreSameOutputs o inputs kept.items layers)
+          (λ kept e values l. (subst (AreSameOutputs o inputs kept.items) is e) values l ∙ f.values values l) u.values;
+      reduced = u.reduced;
+    }

@@ -1,29 +1,33 @@
-use Rattle.std.proofs.Common.{◌∙◌, sym, arith}
+use Rattle.std.proofs.Common.{◌≡◌, ◌∙◌, arith, length}
 use Rattle.std.proofs.lemmas.Result.{IfOk-weaker}
-use Rattle.lzk_circuit_reduce.specs.Asserting.{IsForm}
-use Rattle.lzk_circuit_reduce.proofs.FormLaws.{form-then}
+use Rattle.lzk_circuit_reduce.specs.Reduced.{AreSameOutputs, output_count}
 use Rattle.lzk_circuit_reduce.proofs.reduce.reduced_by_sharing.Goals as goal
 
-pub used_with-requires-clause-are : goal.used_with-requires-clause-are
-used_with-requires-clause-are g c κs within =
-    let f = c.in_ok-different.ensures.form in
-    record {
-      some = omega (arith, f.count, c.args.given.now.are.some);
-      valid = f.valid;
-      ones = c.in_ok-different.ensures.ones;
-      targets = f.targets;
-    }
+pub used-requires-clause-some : goal.used-requires-clause-some
+used-requires-clause-some g c κs within = omega (arith, c.in_ok-different.ensures.count, c.requires.some)
 
-pub used_with-requires-clause-lists : goal.used_with-requires-clause-lists
-used_with-requires-clause-lists g c κs within = let f = c.in_ok-different.ensures.form in f.lists ∙ sym f.count
+pub used-requires-clause-layers : goal.used-requires-clause-layers
+used-requires-clause-layers g c κs within = c.in_ok-different.ensures.layers
 
-pub returns-clause-form : goal.returns-clause-form
-returns-clause-form g c =
+pub used-requires-clause-ones : goal.used-requires-clause-ones
+used-requires-clause-ones g c κs within = c.in_ok-different.ensures.ones
+
+pub used-requires-clause-different : goal.used-requires-clause-different
+used-requires-clause-different g c κs within = c.in_ok-different.ensures.different
+
+pub returns : goal.returns
+returns g c =
     let o = g.F.Field.ops in
-    let inputs = c.args.given.now.inputs in
-    let ws = c.args.given.now.targets.now in
-    let layers = c.args.given.now.layers.now in
-    let moved = c.in_ok-different.moved.items in
-    let kept = c.in_ok-different.different.items in
-    IfOk-weaker c.used_with.result (λ all. IsForm o inputs moved kept all.1.items all.0.items) (λ all. IsForm o inputs ws layers all.1.items all.0.items)
-    (λ all f. form-then o inputs ws layers moved kept all.1.items all.0.items c.in_ok-different.ensures.form f) c.used_with.ensures.form
+    let inputs = c.args.inputs in
+    let layers = c.args.layers.now in
+    let different = c.in_ok-different.different.items in
+    let d = c.in_ok-different.ensures in
+    let u = c.used.ensures in
+    let r = c.used.result in
+    record {
+      count = IfOk-weaker r (λ kept. length kept.items ≡ length different) (λ kept. length kept.items ≡ length layers) (λ kept e. e ∙ d.count) u.count;
+      layers = u.layers;
+      outputs = IfOk-weaker r (λ kept. output_count kept.items ≡ output_count different) (λ kept. output_count kept.items ≡ output_count layers) (λ kept e. e ∙ d.outputs) u.outputs;
+      values = IfOk-weaker r (λ kept. AreSameOutputs o inputs kept.items different) (λ kept. AreSameOutputs o inputs kept.items layers) (λ kept e values l. e values l ∙ d.values values l) u.values;
+      reduced = u.reduced;
+    }

@@ -8,7 +8,10 @@ use Rattle.lzk_circuit_reduce.proofs.reduce.used_with.Goals as goal
 pub returns-then-branch-clause-form : goal.returns-then-branch-clause-form
 returns-then-branch-clause-form g c =
     let are = c.requires.are in
-    form-same g.F.Field.ops c.args.inputs c.args.targets.items c.args.layers.items c.requires.lists are.valid are.targets
+    form-same g.F.Field.ops c.args.inputs c.args.targets.items c.args.layers.items are.valid are.targets
+
+pub returns-then-branch-clause-lists : goal.returns-then-branch-clause-lists
+returns-then-branch-clause-lists g c lists = lists
 
 pub returns-then-branch-clause-reduced : goal.returns-then-branch-clause-reduced
 returns-then-branch-clause-reduced g c =
@@ -16,6 +19,9 @@ returns-then-branch-clause-reduced g c =
     let used = c.in_ok-are_used.ensures c.if-branch.true in
     are-reduced g.F.Field.ops c.args.targets.items layers c.requires.are.ones c.requires.different
     (subst (λ ms. AreAllUsedWith ms layers) c.deref-2.ensures.value (subst (AreAllUsedWith c.deref-2.result.now) c.deref.ensures.value used))
+
+pub returns-clause-lists : goal.returns-clause-lists
+returns-clause-lists g c lists = c.pruned.ensures.lists
 
 pub returns-clause-reduced : goal.returns-clause-reduced
 returns-clause-reduced g c =

@@ -1,27 +1,47 @@
-use Rattle.std.proofs.Common.{rules, ◌∙◌, ap, sym, subst, inl, inr}
+use Rattle.std.proofs.Common.{◌∙◌, arith, ap, sym, subst, inl, inr, length}
 use Rattle.lzk_circuit_reduce.specs.Rows.{IsRow, AreUnder, row_value}
-use Rattle.lzk_circuit_reduce.proofs.MergeLaws.{SoFar, merge-starts, merge-step, merge-row, merge-value, merge-under, two-tails}
+use Rattle.lzk_circuit_reduce.proofs.MergeLaws.{SoFar, merge-starts, merge-step, merge-row, merge-value, merge-short, merge-under, taken-few, two-tails}
 use Rattle.lzk_circuit_reduce.proofs.rows.merged.Goals.{then-loop-i-test+else-j-right, else-loop-i-test}
 use Rattle.lzk_circuit_reduce.proofs.rows.merged.Goals as goal
 
 pub loop-i-init : goal.loop-i-init
-loop-i-init g c = subst (λ us. SoFar g.F.Field.ops c.args.left.now c.args.right.now us 0 0) (sym c.in_ok-sum.ensures.items) (merge-starts g.F.Field.ops g.F.Field.laws.ring c.args.left.now c.args.right.now)
+loop-i-init g c = record {
+  so_far = subst (λ us. SoFar g.F.Field.ops c.args.left.now c.args.right.now us 0 0) (sym c.in_ok-sum.ensures.items) (merge-starts g.F.Field.ops g.F.Field.laws.ring c.args.left.now c.args.right.now);
+  room = omega (arith, c.in-Some.ensures, c.in_ok-sum.ensures.capacity);
+}
+
+pub push_next-from_left-requires-after_bounds : goal.push_next-from_left-requires-after_bounds
+push_next-from_left-requires-after_bounds g c κs within = omega (arith, c.loop-i.invariant.so_far.short, c.loop-i.invariant.room)
+
+pub overflow_add-i : goal.overflow_add-i
+overflow_add-i g c = omega (arith, (taken-few g.F.Field.ops c.index-left-i.result c.index-right-j.result c.loop-i.sum.items c.push_next-from_left.new.sum.items c.push_next-from_left.result c.push_next-from_left.ensures.next).0)
+
+pub overflow_add-j : goal.overflow_add-j
+overflow_add-j g c = omega (arith, (taken-few g.F.Field.ops c.index-left-i.result c.index-right-j.result c.loop-i.sum.items c.push_next-from_left.new.sum.items c.push_next-from_left.result c.push_next-from_left.ensures.next).1)
 
 pub loop-i-preserved : goal.loop-i-preserved
-loop-i-preserved g c =
-    merge-step g.F.Field.ops g.F.Field.laws.ring c.args.left.now c.args.right.now c.loop-i.sum.items c.push_next.new.sum.items c.index-left-i.result c.index-right-j.result
-    (c.in_ok-from_left.from_left, c.in_ok-from_left.from_right) c.loop-i.i c.loop-i.j (search rules) (search rules) (search rules) (search rules) (search rules) c.loop-i.invariant
+loop-i-preserved g c = record {
+  so_far =
+      merge-step g.F.Field.ops g.F.Field.laws.ring c.args.left.now c.args.right.now c.loop-i.sum.items c.push_next-from_left.new.sum.items c.index-left-i.result c.index-right-j.result c.push_next-from_left.result
+      c.loop-i.i c.loop-i.j (omega arith) (omega arith) c.index-left-i.is c.index-right-j.is c.push_next-from_left.ensures.next c.loop-i.invariant.so_far;
+  room = omega (arith, c.push_next-from_left.ensures.capacity, c.loop-i.invariant.room);
+}
 
 pub returns-clause-row : goal.returns-clause-row
 returns-clause-row g c width h k =
     subst (IsRow g.F.Field.ops width) (sym (two-tails c.loop-i.sum.items c.args.left.now c.args.right.now c.extend_from_slice.new.self.items c.extend_from_slice-2.new.self.items c.loop-i.i c.loop-i.j c.in_ok-extend_from_slice.ensures.items c.in_ok-extend_from_slice-2.ensures.items)) (merge-row g.F.Field.ops g.F.Field.laws.ring width c.args.left.now c.args.right.now c.loop-i.sum.items c.loop-i.i c.loop-i.j
-    (elim c.loop-i-test.branch [ then-loop-i-test+else-j-right w ↦ inr (search rules) | else-loop-i-test w ↦ inl (search rules) ]) c.loop-i.invariant h k)
+    (elim c.loop-i-test.branch [ then-loop-i-test+else-j-right w ↦ inr (omega arith) | else-loop-i-test w ↦ inl (omega arith) ]) c.loop-i.invariant.so_far h k)
 
 pub returns-clause-value : goal.returns-clause-value
 returns-clause-value g c below =
-    ap (row_value g.F.Field.ops below) (two-tails c.loop-i.sum.items c.args.left.now c.args.right.now c.extend_from_slice.new.self.items c.extend_from_slice-2.new.self.items c.loop-i.i c.loop-i.j c.in_ok-extend_from_slice.ensures.items c.in_ok-extend_from_slice-2.ensures.items) ∙ merge-value g.F.Field.ops g.F.Field.laws.ring below c.args.left.now c.args.right.now c.loop-i.sum.items c.loop-i.i c.loop-i.j c.loop-i.invariant
+    ap (row_value g.F.Field.ops below) (two-tails c.loop-i.sum.items c.args.left.now c.args.right.now c.extend_from_slice.new.self.items c.extend_from_slice-2.new.self.items c.loop-i.i c.loop-i.j c.in_ok-extend_from_slice.ensures.items c.in_ok-extend_from_slice-2.ensures.items) ∙ merge-value g.F.Field.ops g.F.Field.laws.ring below c.args.left.now c.args.right.now c.loop-i.sum.items c.loop-i.i c.loop-i.j c.loop-i.invariant.so_far
+
+pub returns-clause-short : goal.returns-clause-short
+returns-clause-short g c =
+    let all = two-tails c.loop-i.sum.items c.args.left.now c.args.right.now c.extend_from_slice.new.self.items c.extend_from_slice-2.new.self.items c.loop-i.i c.loop-i.j c.in_ok-extend_from_slice.ensures.items c.in_ok-extend_from_slice-2.ensures.items in
+    omega (arith, ap length all, merge-short g.F.Field.ops g.F.Field.laws.ring c.args.left.now c.args.right.now c.loop-i.sum.items c.loop-i.i c.loop-i.j c.loop-i.invariant.so_far)
 
 pub returns-clause-under : goal.returns-clause-under
 returns-clause-under g c ns d h k =
     subst (AreUnder ns d) (sym (two-tails c.loop-i.sum.items c.args.left.now c.args.right.now c.extend_from_slice.new.self.items c.extend_from_slice-2.new.self.items c.loop-i.i c.loop-i.j c.in_ok-extend_from_slice.ensures.items c.in_ok-extend_from_slice-2.ensures.items))
-    (merge-under g.F.Field.ops g.F.Field.laws.ring ns d c.args.left.now c.args.right.now c.loop-i.sum.items c.loop-i.i c.loop-i.j c.loop-i.invariant h k)
+    (merge-under g.F.Field.ops g.F.Field.laws.ring ns d c.args.left.now c.args.right.now c.loop-i.sum.items c.loop-i.i c.loop-i.j c.loop-i.invariant.so_far h k)

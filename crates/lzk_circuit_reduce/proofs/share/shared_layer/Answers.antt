@@ -1,30 +1,53 @@
-use Rattle.std.proofs.Common.{◌∙◌, ap, sym, subst, arith, length, ◌+◌, None}
+use Rattle.std.proofs.Common.{◌≡◌, ◌∙◌, ap, sym, subst, arith, length, ◌+◌, None}
 use Rattle.lzk_circuit.specs.Valid.{AreTerms}
 use Rattle.lzk_circuit_reduce.specs.Rows.{IsRow, row_value}
-use Rattle.lzk_circuit_reduce.specs.Renumbering.{at, of_wire, IsOne}
-use Rattle.lzk_circuit_reduce.specs.Reduced.{terms_of}
-use Rattle.lzk_circuit_reduce.proofs.KeptLaws.{kept-terms, kept-different}
-use Rattle.lzk_circuit_reduce.proofs.SharedWireLaws.{Sharing, sharing-starts, sharing-adds, past, past-all, shared-values}
-use Rattle.lzk_circuit_reduce.proofs.WireLaws.{before-most}
+use Rattle.lzk_circuit_reduce.specs.Renumbering.{IsOne}
+use Rattle.lzk_circuit_reduce.specs.Shared.{IsSharedLayer}
+use Rattle.lzk_circuit_reduce.proofs.SharedWireLaws.{Sharing, sharing-starts, sharing-adds, sharing-ends}
 use Rattle.lzk_circuit_reduce.proofs.share.shared_layer.Goals as goal
+
+pub none_kept-requires-after_bounds : goal.none_kept-requires-after_bounds
+none_kept-requires-after_bounds g c κs within = c.requires.some
 
 pub loop-g-init : goal.loop-g-init
 loop-g-init g c =
     let o = g.F.Field.ops in
     let kept = c.in_ok-kept.kept in
     let none = c.in_ok-kept.ensures in
-    subst (Sharing o g.F.Field.coding.number c.args.layer.now c.args.numbers.now 0 0 kept) (sym c.in_ok-wires.ensures.items) (sharing-starts o g.F.Field.coding.number c.args.layer.now c.args.numbers.now kept none.table none.kept none.count none.terms)
+    let below = c.as_slice-below.result.now in
+    record {
+      shared = subst (Sharing o g.F.Field.coding.number c.args.layer.now below 0 0 kept) (sym c.in_ok-wires.ensures.items) (sharing-starts o g.F.Field.coding.number c.args.layer.now below kept none.table none.kept none.count none.terms);
+      room = omega (arith, c.in_ok-wires.ensures.capacity);
+    }
+
+pub push_reserved-requires : goal.push_reserved-requires
+push_reserved-requires g c = omega (arith, c.loop-g.invariant.shared.each, c.loop-g.invariant.room, c.loop-g-test.true)
+
+pub wire_row-requires-clause-start : goal.wire_row-requires-clause-start
+wire_row-requires-clause-start g c κs within = c.loop-g.invariant.shared.start_is
+
+pub wire_row-requires-clause-terms : goal.wire_row-requires-clause-terms
+wire_row-requires-clause-terms g c κs within =
+    let layer = c.args.layer.now in
+    subst (λ ns. AreTerms g.F.Field.ops layer.wires (length ns) None layer.terms) (sym c.as_slice-below.ensures.value) c.requires.terms
+
+pub wire_of-requires-clause-few : goal.wire_of-requires-clause-few
+wire_of-requires-clause-few g c κs within = omega (arith, c.loop-g.invariant.shared.few, c.loop-g-test.true, c.requires.most)
+
+pub wire_of-requires-clause-table : goal.wire_of-requires-clause-table
+wire_of-requires-clause-table g c κs within = c.loop-g.invariant.shared.table
 
 pub loop-g-preserved : goal.loop-g-preserved
 loop-g-preserved g c =
     let o = g.F.Field.ops in
     let layer = c.args.layer.now in
-    let numbers = c.args.numbers.now in
+    let below = c.as_slice-below.result.now in
     let is = c.deref.ensures.value in
     let found = c.in_ok-end.ensures in
     let taken = c.in_ok-wire.ensures in
-    subst (Sharing o g.F.Field.coding.number layer numbers (c.loop-g.g + 1) c.in_ok-end.end c.wire_of.new.kept) (sym c.in_ok-push.ensures.items)
-    (sharing-adds o g.F.Field.coding.number layer numbers c.loop-g.g c.loop-g.start c.in_ok-end.end c.in_ok-wire.wire c.loop-g.kept c.wire_of.new.kept c.loop-g.wires.items c.deref.result.now
+    let shared : Sharing o g.F.Field.coding.number layer below (c.loop-g.g + 1) c.in_ok-end.end c.wire_of.new.kept c.push_reserved.new.self.items =
+    subst (Sharing o g.F.Field.coding.number layer below (c.loop-g.g + 1) c.in_ok-end.end c.wire_of.new.kept) (sym c.push_reserved.ensures.items)
+    (sharing-adds o g.F.Field.coding.number layer below c.loop-g.g c.loop-g.start c.in_ok-end.end c.in_ok-wire.wire c.loop-g.kept c.wire_of.new.kept c.loop-g.wires.items c.deref.result.now
     (record {
       end_is = found.end;
       is = λ width n. subst (IsRow o width) (sym is) (found.row width n);
@@ -42,50 +65,20 @@ loop-g-preserved g c =
       grows = taken.more;
       count = taken.count;
       short = taken.short;
-    }) c.loop-g.invariant)
+    }) c.loop-g.invariant.shared) in
+    record { shared = shared; room = omega (arith, c.push_reserved.ensures.capacity, c.loop-g.invariant.room) }
 
-pub returns-clause-below : goal.returns-clause-below
-returns-clause-below g c = let over = c.loop-g.invariant.over (past c.args.numbers.now) (past-all c.args.numbers.now) in over.below
-
-pub returns-clause-first : goal.returns-clause-first
-returns-clause-first g c = let over = c.loop-g.invariant.over (past c.args.numbers.now) (past-all c.args.numbers.now) in over.first
-
-pub returns-clause-some : goal.returns-clause-some
-returns-clause-some g c =
-    let over = c.loop-g.invariant.over (past c.args.numbers.now) (past-all c.args.numbers.now) in
-    omega (arith, over.below 0 (omega (arith, c.loop-g.invariant.each, c.requires.some, c.loop-g-test.false)))
-
-pub returns-clause-terms : goal.returns-clause-terms
-returns-clause-terms g c width n =
+pub returns : goal.returns
+returns g c =
     let o = g.F.Field.ops in
-    let over = c.loop-g.invariant.over width n in
-    subst (AreTerms o c.loop-g.kept.count width None) (sym c.new.ensures) (kept-terms o width c.loop-g.kept over.is)
-
-pub returns-clause-values : goal.returns-clause-values
-returns-clause-values g c old new k n h =
-    let o = g.F.Field.ops in
+    let number = g.F.Field.coding.number in
     let layer = c.args.layer.now in
+    let below = c.as_slice-below.result.now in
+    let kept = c.loop-g.kept in
     let wires = c.loop-g.wires.items in
-    let over = c.loop-g.invariant.over (length new) n in
-    shared-values o g.F.Field.laws.ring layer (record { wires = c.loop-g.kept.count; terms = c.new.result }) wires old new
-    (omega (arith, c.loop-g.invariant.each, c.loop-g-test.false, c.loop-g.auto.g-end))
-    (subst (λ w. AreTerms o layer.wires w None layer.terms) (sym k) c.requires.terms)
-    (subst (AreTerms o c.loop-g.kept.count (length new) None) (sym c.new.ensures) (kept-terms o (length new) c.loop-g.kept over.is))
-    over.below
-    (λ i l. ap (λ ts. row_value o new (of_wire (at wires i) ts)) c.new.ensures ∙ over.rows old new h i (omega (arith, l, c.loop-g-test.false)))
-
-pub returns-clause-one : goal.returns-clause-one
-returns-clause-one g c one first =
-    let o = g.F.Field.ops in
-    let over = c.loop-g.invariant.over (past c.args.numbers.now) (past-all c.args.numbers.now) in
-    subst (λ ts. IsOne o (of_wire 0 ts)) (sym c.new.ensures) (over.one one first (omega (arith, c.requires.some, c.loop-g-test.false)))
-
-pub returns-clause-different : goal.returns-clause-different
-returns-clause-different g c i h l m =
-    let o = g.F.Field.ops in
-    let width = past c.args.numbers.now in
-    let over = c.loop-g.invariant.over width (past-all c.args.numbers.now) in
-    λ e. kept-different o width c.loop-g.kept over.is i h l m (sym (ap (terms_of i) c.new.ensures) ∙ e ∙ ap (terms_of h) c.new.ensures)
-
-pub returns-clause-short : goal.returns-clause-short
-returns-clause-short g c = omega (arith, ap length c.new.ensures, c.loop-g.invariant.short, c.loop-g.invariant.start_is, before-most c.loop-g.g c.args.layer.now.terms)
+    let same = c.as_slice-below.ensures.value in
+    let end : c.loop-g.g ≡ layer.wires = omega (arith, c.loop-g-test.false, c.loop-g.auto.g-end) in
+    let all : Sharing o number layer below layer.wires c.loop-g.start kept wires = subst (λ k. Sharing o number layer below k c.loop-g.start kept wires) end c.loop-g.invariant.shared in
+    let terms = subst (λ ns. AreTerms o layer.wires (length ns) None layer.terms) (sym same) c.requires.terms in
+    subst (λ ts. IsSharedLayer o layer c.args.numbers.now.items (record { wires = kept.count; terms = ts }) wires) (sym c.new.ensures)
+    (subst (λ ns. IsSharedLayer o layer ns (record { wires = kept.count; terms = kept.terms.items }) wires) same (sharing-ends o g.F.Field.laws.ring number layer below c.loop-g.start kept wires c.requires.some terms all))

@@ -1,0 +1,40 @@
+use Rattle.std.proofs.Common.{◌≡◌, ◌<◌, ◌+◌, ℕ, ◌∙◌, ap, sym, subst, arith, length, get_or, take, drop, ◌∷◌}
+use Rattle.std.proofs.lemmas.List.Elements.{All-append, All-cons, All-take, All-drop}
+use Rattle.lzk_circuit.specs.Valid.{IsTerm}
+use Rattle.lzk_circuit_reduce.specs.Rows.{IsRow, IsUnder, AreUnder, row_value, Less}
+use Rattle.lzk_circuit_reduce.proofs.AddLaws.{inserted-row, inserted-value, any-default}
+use Rattle.lzk_circuit_reduce.proofs.add.insert_term.Goals.{else-place-len-via-then-place-len+else-not-is_before, else-place-len-via-else-place-len}
+use Rattle.lzk_circuit_reduce.proofs.add.insert_term.Goals as goal
+
+pub returns-clause-row : goal.returns-clause-row
+returns-clause-row g c width h wire order below =
+    let o = g.F.Field.ops in
+    let row = c.args.row.now.items in
+    let t = c.args.term in
+    let place = c.place_of-place.result in
+    let is : IsTerm o 1 width t = record { g = omega (arith, wire); a = order; b = below; coef = c.requires } in
+    let behind : (j : ℕ) → j + 1 ≡ place → Less (get_or row j t) t = λ j k. subst (λ us. Less (get_or us j t) t) c.deref.ensures.value (c.place_of-place.ensures.behind j t k) in
+    let ahead : place < length row → Less t (get_or row place t) = λ l. elim c.else-place-len.branch [
+      | else-place-len-via-then-place-len+else-not-is_before w ↦ subst (Less t) (any-default row place w.index.result.now t l w.index.ensures) (w.is_before.ensures.yes w.if-not-is_before.false)
+      | else-place-len-via-else-place-len w ↦ absurd (omega (arith, l))
+    ] in
+    subst (IsRow o width) (sym c.in_ok-insert.ensures.items) (inserted-row o width row place t is behind ahead h)
+
+pub returns-clause-value : goal.returns-clause-value
+returns-clause-value g c below =
+    let o = g.F.Field.ops in
+    ap (row_value o below) c.in_ok-insert.ensures.items ∙ inserted-value o g.F.Field.laws.ring below c.args.row.now.items c.place_of-place.result c.args.term
+
+pub returns-clause-under : goal.returns-clause-under
+returns-clause-under g c ns d h under =
+    let row = c.args.row.now.items in
+    let t = c.args.term in
+    let place = c.place_of-place.result in
+    subst (AreUnder ns d) (sym c.in_ok-insert.ensures.items)
+    (All-append (IsUnder ns d) (take place row) (t ∷ drop place row) (All-take (IsUnder ns d) place row h) (All-cons (IsUnder ns d) t (drop place row) under (All-drop (IsUnder ns d) place row h)))
+
+pub returns-then-not-is_before-clause-row : goal.returns-then-not-is_before-clause-row
+returns-then-not-is_before-clause-row g c width h wire order below = c.add_coef.ensures.row width h
+
+pub returns-then-not-is_before-clause-under : goal.returns-then-not-is_before-clause-under
+returns-then-not-is_before-clause-under g c ns d h under = c.add_coef.ensures.under ns d h
