@@ -1,5 +1,5 @@
 -- How many symbols a line has.
-use Rattle.std.proofs.Common.{◌≡◌, ℕ, ◌+◌, ◌<◌, ◌≤◌, ◌^◌, ◌==◌, Bool, true, false, List, [], ◌∷◌, length, refl, ap, subst, arith, length-append}
+use Rattle.std.proofs.Common.{◌≡◌, ℕ, ◌+◌, ◌<◌, ◌≤◌, ◌^◌, ◌==◌, Bool, true, false, List, [], ◌∷◌, length, refl, ap, arith, length-append}
 use Rattle.std.specs.List.{position_or_len, onto_first}
 use Rattle.std.proofs.lemmas.Bool.Decides.{nat_tests}
 use Rattle.std.proofs.lemmas.List.{length-map, length-take}
@@ -84,9 +84,6 @@ content_within line = omega (arith, length-take (position_or_len is_hash line) l
 -- a line has no more symbols than bytes
 pub line_room : (line bytes : List ℕ) (ss : List Symbol) → bytes ≡ content line → AreTold ss (tokens bytes) → length ss ≤ length line
 line_room line bytes ss e h = omega (arith, told_length ss (tokens bytes) h, tokens_within bytes, ap length e, content_within line)
-
-pub told_content : (line bytes : List ℕ) (ss : List Symbol) → bytes ≡ content line → AreTold ss (tokens bytes) → AreTold ss (tokens (content line))
-told_content line bytes ss e h = subst (λ (l : List ℕ). AreTold ss (tokens l)) e h
 
 pub is_zero : (n : ℕ) → (n == 0) ≡ true → n ≡ 0
 is_zero n h = grind (arith, nat_tests)

@@ -1,5 +1,5 @@
 -- Lines with expressions are taken as code, or break a rule.
-use Rattle.std.proofs.Common.{◌≡◌, ℕ, ◌+◌, Bool, true, false, ◌&&◌, List, [], ◌∷◌, ◌++◌, map, Option, Some, None, is_some, Ok, refl, sym, ◌∙◌, ap, ap₂, subst, append_assoc, bytes_eq}
+use Rattle.std.proofs.Common.{◌≡◌, ℕ, ◌+◌, Bool, true, false, ◌&&◌, List, [], ◌∷◌, ◌++◌, map, Option, Some, None, is_some, Ok, refl, sym, ◌∙◌, ap, ap₂, subst, append_assoc, bytes_eq, MatchBool}
 use Rattle.std.specs.Prelude.{count_by}
 use Rattle.std.specs.List.{list_all}
 use Rattle.std.specs.Map.{update}
@@ -40,10 +40,15 @@ use Rattle.lzk_expr.proofs.CodeTaken.{code_syntax, code_breaks, code_passes, cou
 pub steps_of_sum : {S : Type 0} (m : HashMap (List ℕ) Binding S) (ts : List Token) (e : Expr) → sum_read held_number (bound m) ts ≡ Some e → steps_mean (map (step_in m) ts) ≡ Some e
 steps_of_sum m ts e h = ap ends_of (tokens_are_steps held_number (bound m) nothing_read ts) ∙ h
 
-pub broken_cases : (P : Option SourceKind → Type 0) (known below : Bool) → (known ≡ false → P (Some kinds.Unknown)) → (known ≡ true → below ≡ false → P (Some kinds.TooLarge)) → (known ≡ true → below ≡ true → P None) → P (broken_by known below)
+pub broken_cases : (P : Option SourceKind → Type 0) (known below : Bool) → (known ≡ false → P (Some kinds.Unknown)) → (known ≡ true → below ≡ false → P (Some kinds.TooLarge)) → (known ≡ true → below ≡ true → P None) → P (broken_by true false known below)
 broken_cases P false below u l p = u refl
 broken_cases P true false u l p = l refl refl
 broken_cases P true true u l p = p refl refl
+
+-- whether the tokens are an expression
+pub formed_cases : {A B : Type 0} (P : Bool → Type 0) (formed : Bool) → MatchBool formed A B → (A → P true) → (B → P false) → P formed
+formed_cases P true h f g = f h
+formed_cases P false h f g = g h
 
 -- ---- what was read behind a let
 
@@ -88,21 +93,22 @@ coded_no_sum m b new ts us w e h = code_syntax b new (token.Key keys.Let ∷ ts)
 
 module _ (b : Before) (new : Coder) (f : FieldId) (ts us : List Token) (w : List ℕ) (e : Expr) (known below : Bool) (field : b.field_is ≡ Some f)
     (line : IsDefinition ts w us) (s : SumIs b.statements f us e known below) where
-  pub coded_let_twice : is_some (name_of b.statements w) ≡ true → TakesCode b new (token.Key keys.Let ∷ ts) (Some kinds.Twice)
+  coded_let_twice : is_some (name_of b.statements w) ≡ true → TakesCode b new (token.Key keys.Let ∷ ts) (Some kinds.Twice)
   coded_let_twice some = code_breaks b new (token.Key keys.Let ∷ ts) (LetLine w s.sum) kinds.Twice (let_tokens ts us w s.sum line s.tokens_are) (form_twice b (LetLine w s.sum) (let_new b w s.sum true some))
 
   below_of : (t : Bool) → below ≡ t → list_all (is_below b.field_is) (sum_numbers s.sum) ≡ t
   below_of t h = ap (λ (o : Option FieldId). list_all (is_below o) (sum_numbers s.sum)) field ∙ s.below_is ∙ h
 
-  pub coded_let : is_some (name_of b.statements w) ≡ false → (known ≡ true → below ≡ true → IsCoder new (with_statement b (Define w e))) → TakesCode b new (token.Key keys.Let ∷ ts) (broken_by known below)
-  coded_let none holds =
+  pub coded_let : (twice : Bool) → is_some (name_of b.statements w) ≡ twice → (twice ≡ false → known ≡ true → below ≡ true → IsCoder new (with_statement b (Define w e))) → TakesCode b new (token.Key keys.Let ∷ ts) (broken_by true twice known below)
+  coded_let true some holds = coded_let_twice some
+  coded_let false none holds =
       let line_is = let_tokens ts us w s.sum line s.tokens_are in
       let unbound = let_new b w s.sum false none in
       broken_cases (TakesCode b new (token.Key keys.Let ∷ ts)) known below
       (λ k. code_breaks b new (token.Key keys.Let ∷ ts) (LetLine w s.sum) kinds.Unknown line_is (form_unknown b (LetLine w s.sum) unbound (s.known_is ∙ k)))
       (λ k l. code_breaks b new (token.Key keys.Let ∷ ts) (LetLine w s.sum) kinds.TooLarge line_is (form_large b (LetLine w s.sum) unbound (s.known_is ∙ k) (below_of false l)))
       (λ k l. code_passes b (with_statement b (Define w e)) new (token.Key keys.Let ∷ ts) (LetLine w s.sum) line_is
-      (form_good b (LetLine w s.sum) unbound (s.known_is ∙ k) (below_of true l) ∙ ap (λ (x : Expr). Ok (with_statement b (Define w x))) (s.means l)) (holds k l))
+      (form_good b (LetLine w s.sum) unbound (s.known_is ∙ k) (below_of true l) ∙ ap (λ (x : Expr). Ok (with_statement b (Define w x))) (s.means l)) (holds refl k l))
 
 -- ---- what was read behind an assert
 
@@ -157,7 +163,7 @@ module _ (b : Before) (new : Coder) (f : FieldId) (ts xs ys : List Token) (x y :
       ap (λ (o : Option FieldId). list_all (is_below o) (sum_numbers s.sum ++ sum_numbers t.sum)) field
       ∙ list_all-append (is_below (Some f)) (sum_numbers s.sum) (sum_numbers t.sum) ∙ ap₂ (λ (u v : Bool). u && v) s.below_is t.below_is ∙ h
 
-  pub coded_assert : (known_x && known_y ≡ true → below_x && below_y ≡ true → IsCoder new (with_statement b (Assertion x y))) → TakesCode b new (token.Key keys.Assert ∷ ts) (broken_by (known_x && known_y) (below_x && below_y))
+  pub coded_assert : (known_x && known_y ≡ true → below_x && below_y ≡ true → IsCoder new (with_statement b (Assertion x y))) → TakesCode b new (token.Key keys.Assert ∷ ts) (broken_by true false (known_x && known_y) (below_x && below_y))
   coded_assert holds =
       let form = AssertLine s.sum t.sum in
       let line_is : token.Key keys.Assert ∷ ts ≡ line_tokens form = ap (λ (l : List Token). token.Key keys.Assert ∷ l) (line.split ∙ ap₂ (λ (u v : List Token). u ++ (token.Equals ∷ v)) s.tokens_are t.tokens_are) in

@@ -1,5 +1,5 @@
 -- A line's tokens are taken as code, or break a rule.
-use Rattle.std.proofs.Common.{◌≡◌, ℕ, ◌+◌, Bool, true, false, not, ◌&&◌, ◌||◌, ◌-◌, ◌<◌, ◌==◌, length, get_or, drop, Bor, List, [], ◌∷◌, ◌++◌, Option, Some, None, is_some, Ok, Err, Result, refl, sym, ◌∙◌, ap, arith, subst, bytes_eq}
+use Rattle.std.proofs.Common.{◌≡◌, ℕ, ◌+◌, Bool, true, false, not, ◌&&◌, ◌||◌, ◌-◌, ◌<◌, ◌==◌, length, get_or, drop, Bor, List, [], ◌∷◌, ◌++◌, Option, Some, None, is_some, Ok, Err, Result, refl, sym, ◌∙◌, ap, arith, subst, bytes_eq, map}
 use Rattle.std.specs.Prelude.{OnOk, count_by, cond, nat_le, nat_lt}
 use Rattle.lzk_profile.specs.Profile.{most_privates}
 use Rattle.std.specs.List.{list_all}
@@ -26,8 +26,12 @@ use Rattle.lzk_expr.specs.Sources.{Before, form_read, first_keyword, keeps_limit
 use Rattle.lzk_expr.specs.Table.{found}
 use Rattle.lzk_expr.specs.Readers.{is_define, step_of, StepReads, is_name, key_of, input_statement, keeps_bounds}
 use Rattle.lzk_expr.specs.Heads.{with_name, symbol_names}
-use Rattle.lzk_expr.specs.Coders.{IsCoder, with_statement, TakesCode, TakesCodeLine, TakesTextLine, has_room}
+use Rattle.lzk_expr.specs.SymbolForms.{is_name_symbol}
+use Rattle.lzk_expr.specs.Coders.{IsCoder, with_statement, TakesCode, TakesCodeLine, TakesTextLine, has_room, names_broken_by, refused_by}
 use Rattle.lzk_expr.proofs.CodeLaws.{code_public, code_private}
+use Rattle.lzk_expr.proofs.CodeLengths.{is_zero}
+use Rattle.lzk_expr.proofs.Empty.{told_length}
+use Rattle.lzk_expr.proofs.Told.{no_name_symbol}
 use Rattle.lzk_expr.proofs.Declarations.{or_first, public_at, private_at, declared_public, declared_private}
 use Rattle.lzk_expr.proofs.Tables.{names_after, count_more, add_none, zero_more}
 use Rattle.lzk_expr.proofs.Forms.{formed, not_names}
@@ -102,12 +106,12 @@ field_coded_twice b new ts f e some =
 pub coded_other : (b : Before) (new : Coder) (input : Input) (ts : List Token) → list_all is_name ts ≡ false → TakesCode b new (token.Key (key_of input) ∷ ts) (Some kinds.Syntax)
 coded_other b new input ts e = code_syntax b new (token.Key (key_of input) ∷ ts) (no_inputs input ts (not_names ts e))
 
-pub coded_break : (b : Before) (new : Coder) (input : Input) (ts : List Token) → list_all is_name ts ≡ true → (ts ≡ [] → ⊥) → inputs_read input b (names_among ts) ≡ Err kinds.Twice → TakesCode b new (token.Key (key_of input) ∷ ts) (Some kinds.Twice)
+coded_break : (b : Before) (new : Coder) (input : Input) (ts : List Token) → list_all is_name ts ≡ true → (ts ≡ [] → ⊥) → inputs_read input b (names_among ts) ≡ Err kinds.Twice → TakesCode b new (token.Key (key_of input) ∷ ts) (Some kinds.Twice)
 coded_break b new input ts h some e =
     let i = inputs_of ts h some in
     code_breaks b new (token.Key (key_of input) ∷ ts) (line_of input i.first i.others) kinds.Twice (tokens_inputs input ts i) (reads_inputs b input ts i ∙ e)
 
-pub coded_pass : (b next : Before) (new : Coder) (input : Input) (ts : List Token) → list_all is_name ts ≡ true → (ts ≡ [] → ⊥) → inputs_read input b (names_among ts) ≡ Ok next → IsCoder new next → TakesCode b new (token.Key (key_of input) ∷ ts) None
+coded_pass : (b next : Before) (new : Coder) (input : Input) (ts : List Token) → list_all is_name ts ≡ true → (ts ≡ [] → ⊥) → inputs_read input b (names_among ts) ≡ Ok next → IsCoder new next → TakesCode b new (token.Key (key_of input) ∷ ts) None
 coded_pass b next new input ts h some e r =
     let i = inputs_of ts h some in
     code_passes b next new (token.Key (key_of input) ∷ ts) (line_of input i.first i.others) (tokens_inputs input ts i) (reads_inputs b input ts i ∙ e) r
@@ -134,7 +138,7 @@ told_names [] (t ∷ ts) h = absurd h
 told_names (s ∷ ss) [] h = absurd h
 told_names (s ∷ ss) (t ∷ ts) h = first_name s t ts h.0 ∙ ap (with_name s) (told_names ss ts h.1)
 
-pub told_some : (ss : List Symbol) (ts : List Token) → AreTold ss ts → (length ss == 0) ≡ false → ts ≡ [] → ⊥
+told_some : (ss : List Symbol) (ts : List Token) → AreTold ss ts → (length ss == 0) ≡ false → ts ≡ [] → ⊥
 told_some [] ts h e k = absurd cc
 told_some (s ∷ ss) [] h e k = absurd h
 told_some (s ∷ ss) (t ∷ ts) h e k = absurd cc
@@ -150,13 +154,20 @@ without_name s ws h = refl
 pub no_name_left : (ss : List Symbol) (i : ℕ) → i < length ss → ((w : Bor (List ℕ)) → get_or ss i (symbol.Number 0) ≡ symbol.Name w → ⊥) → symbol_names (drop i ss) ≡ symbol_names (drop (i + 1) ss)
 no_name_left ss i lt h = at_drop_more symbol_names ss i (symbol.Number 0) lt ∙ without_name (get_or ss i (symbol.Number 0)) (symbol_names (drop (i + 1) ss)) h
 
+-- whether they are names
+pub names_left : (ss : List Symbol) (i : ℕ) (w : Bor (List ℕ)) → i < length ss → get_or ss i (symbol.Number 0) ≡ symbol.Name w → list_all is_name_symbol (drop i ss) ≡ list_all is_name_symbol (drop (i + 1) ss)
+names_left ss i w lt e = at_drop_more (list_all is_name_symbol) ss i (symbol.Number 0) lt ∙ ap (λ (s : Symbol). is_name_symbol s && list_all is_name_symbol (drop (i + 1) ss)) e
+
+pub other_left : (ss : List Symbol) (i : ℕ) → i < length ss → ((w : Bor (List ℕ)) → get_or ss i (symbol.Number 0) ≡ symbol.Name w → ⊥) → list_all is_name_symbol (drop i ss) ≡ false
+other_left ss i lt h = at_drop_more (list_all is_name_symbol) ss i (symbol.Number 0) lt ∙ ap (λ (t : Bool). t && list_all is_name_symbol (drop (i + 1) ss)) (no_name_symbol (get_or ss i (symbol.Number 0)) h)
+
 -- what was read where some names of a line are declared and these are left
 pub record InputsLeft (b : Before) (c : Coder) (input : Input) (all left : List (List ℕ)) : Type 0 where
   pub now : Before
   pub holds : IsCoder c now
   pub reads : inputs_read input b all ≡ inputs_read input now left
 
-pub inputs_declared : (b : Before) (c new : Coder) (input : Input) (all left : List (List ℕ)) (w : List ℕ) → InputsLeft b c input all (w ∷ left) → is_some (found c.names.table w) ≡ false
+inputs_declared : (b : Before) (c new : Coder) (input : Input) (all left : List (List ℕ)) (w : List ℕ) → InputsLeft b c input all (w ∷ left) → is_some (found c.names.table w) ≡ false
     → ((now : Before) → IsCoder c now → IsCoder new (with_statement now (input_statement input w))) → InputsLeft b new input all left
 inputs_declared b c new input all left w h unknown declares =
     let next = with_statement h.now (input_statement input w) in
@@ -166,11 +177,32 @@ inputs_declared b c new input all left w h unknown declares =
       reads = h.reads ∙ inputs_next input h.now next w left (unknown_name c h.now h.holds w unknown) refl refl;
     }
 
-pub inputs_repeated : (b : Before) (c : Coder) (input : Input) (all left : List (List ℕ)) (w : List ℕ) → InputsLeft b c input all (w ∷ left) → is_some (found c.names.table w) ≡ true → inputs_read input b all ≡ Err kinds.Twice
+inputs_repeated : (b : Before) (c : Coder) (input : Input) (all left : List (List ℕ)) (w : List ℕ) → InputsLeft b c input all (w ∷ left) → is_some (found c.names.table w) ≡ true → inputs_read input b all ≡ Err kinds.Twice
 inputs_repeated b c input all left w h known = h.reads ∙ inputs_twice input h.now w left (sym (known_name c h.now h.holds w) ∙ known)
 
-pub inputs_all : (b : Before) (c : Coder) (input : Input) (all : List (List ℕ)) (h : InputsLeft b c input all []) → inputs_read input b all ≡ Ok h.now
+inputs_all : (b : Before) (c : Coder) (input : Input) (all : List (List ℕ)) (h : InputsLeft b c input all []) → inputs_read input b all ≡ Ok h.now
 inputs_all b c input all h = h.reads ∙ inputs_done input h.now
+
+-- the same, unless a name was declared again
+abbrev pub InputsTaken : Before → Coder → Input → List (List ℕ) → List (List ℕ) → Bool → Type 0
+InputsTaken b c input all left true = inputs_read input b all ≡ Err kinds.Twice
+InputsTaken b c input all left false = InputsLeft b c input all left
+
+pub inputs_more : (b : Before) (c new : Coder) (input : Input) (all left : List (List ℕ)) (w : List ℕ) (twice known now : Bool) → now ≡ (twice || known) → known ≡ is_some (found c.names.table w)
+    → InputsTaken b c input all (w ∷ left) twice → ((before : Before) → IsCoder c before → known ≡ false → IsCoder new (with_statement before (input_statement input w))) → InputsTaken b new input all left now
+inputs_more b c new input all left w true known now e k h declares = subst (InputsTaken b new input all left) (sym e) h
+inputs_more b c new input all left w false true now e k h declares = subst (InputsTaken b new input all left) (sym e) (inputs_repeated b c input all left w h (sym k))
+inputs_more b c new input all left w false false now e k h declares = subst (InputsTaken b new input all left) (sym e) (inputs_declared b c new input all left w h (sym k) (λ before i. declares before i refl))
+
+told_none : (ss : List Symbol) (ts : List Token) → AreTold ss ts → (length ss == 0) ≡ true → (t : Token) (us : List Token) → ts ≡ t ∷ us → ⊥
+told_none ss ts told e t us k = omega (arith, is_zero (length ss) e, told_length ss ts told, ap length k)
+
+-- behind the last one
+pub inputs_end : (b : Before) (new : Coder) (input : Input) (ss : List Symbol) (ts : List Token) (none twice : Bool) → none ≡ (length ss == 0) → AreTold ss ts → list_all is_name ts ≡ true → InputsTaken b new input (symbol_names ss) [] twice
+    → TakesCode b new (token.Key (key_of input) ∷ ts) (names_broken_by none twice)
+inputs_end b new input ss ts true twice e told all h = code_syntax b new (token.Key (key_of input) ∷ ts) (no_inputs input ts (λ w ws k. told_none ss ts told (sym e) (token.Name w) (map token.Name ws) k))
+inputs_end b new input ss ts false true e told all h = coded_break b new input ts all (told_some ss ts told (sym e)) (ap (inputs_read input b) (told_names ss ts told) ∙ h)
+inputs_end b new input ss ts false false e told all h = coded_pass b h.now new input ts all (told_some ss ts told (sym e)) (ap (inputs_read input b) (told_names ss ts told) ∙ inputs_all b new input (symbol_names ss) h) h.holds
 
 -- ---- the limits
 
@@ -185,13 +217,17 @@ bounds_and : (x y z : Bool) → ((x && y) && z) ≡ (x && (y && z))
 bounds_and true y z = refl
 bounds_and false y z = refl
 
-pub limits_are : (c : Coder) (b : Before) (k : Keyword) (ts us : List Token) (n : ℕ) → IsCoder c b → ts ≡ token.Key k ∷ us → n ≡ length us → keeps_bounds 0 ts ≡ true → keeps_limits b.statements k ts ≡ has_room c k n
-limits_are c b k ts us n h e m bounded =
+pub limits_kept : (c : Coder) (b : Before) (k : Keyword) (ts us : List Token) (n : ℕ) (bounded : Bool) → IsCoder c b → ts ≡ token.Key k ∷ us → n ≡ length us → bounded ≡ keeps_bounds 0 ts → keeps_limits b.statements k ts ≡ (bounded && has_room c k n)
+limits_kept c b k ts us n bounded h e m kept =
     let behind : n ≡ length ts - 1 = omega (arith, ap length e) in
-    sym (bounds_and (list_all is_short ts) (is_shallow 0 ts) (is_few b.statements k (length ts - 1))) ∙ ap (λ (x : Bool). x && is_few b.statements k (length ts - 1)) bounded ∙ sym (room_is c b k n h ∙ ap (is_few b.statements k) behind)
+    sym (bounds_and (list_all is_short ts) (is_shallow 0 ts) (is_few b.statements k (length ts - 1)))
+    ∙ ap (λ (x : Bool). x && is_few b.statements k (length ts - 1)) (sym kept)
+    ∙ ap (λ (x : Bool). bounded && x) (sym (room_is c b k n h ∙ ap (is_few b.statements k) behind))
 
-pub unbounded : (ss : List Statement) (k : Keyword) (ts : List Token) → keeps_bounds 0 ts ≡ false → keeps_limits ss k ts ≡ false
-unbounded ss k ts h = sym (bounds_and (list_all is_short ts) (is_shallow 0 ts) (is_few ss k (length ts - 1))) ∙ ap (λ (x : Bool). x && is_few ss k (length ts - 1)) h
+pub refused_none : (may kept : Bool) → None ≡ refused_by may kept → (may ≡ true) × (kept ≡ true)
+refused_none false kept e = absurd cc
+refused_none true false e = absurd cc
+refused_none true true e = (refl, refl)
 
 pub on_ok : {T E : Type 0} (r : Result T E) (P Q : Type 0) → (P → Q) → OnOk r P → OnOk r Q
 on_ok (Ok x) P Q f h = f h
@@ -205,16 +241,26 @@ module _ (b : Before) (new : Coder) (bytes : List ℕ) where
       let f = formed (tokens bytes) in
       record { after = b; reads = record { form = f.form; is_form = f.is_form; read_is = rw h refl }; holds = λ other. absurd cc }
 
+  pub line_no_keyword : keeps_characters bytes ≡ true → first_keyword (tokens bytes) ≡ None → TakesCodeLine b new bytes (Some kinds.Keyword)
+  line_no_keyword clean none =
+      let f = formed (tokens bytes) in
+      record { after = b; reads = record { form = f.form; is_form = f.is_form; read_is = rw (clean, none) refl }; holds = λ other. absurd cc }
+
   module _ (k : Keyword) (ts : List Token) (clean : keeps_characters bytes ≡ true) (keyed : tokens bytes ≡ token.Key k ∷ ts) where
-    pub line_no_field : (is_some b.field_is || is_field k) ≡ false → TakesCodeLine b new bytes (Some kinds.NoField)
+    line_no_field : (is_some b.field_is || is_field k) ≡ false → TakesCodeLine b new bytes (Some kinds.NoField)
     line_no_field none =
         let f = formed (tokens bytes) in
         record { after = b; reads = record { form = f.form; is_form = f.is_form; read_is = line_read_at b bytes f.form k clean (ap first_keyword keyed) ∙ no_field_at b (tokens bytes) f.form k none }; holds = λ other. absurd cc }
 
-    pub line_limit : (is_some b.field_is || is_field k) ≡ true → keeps_limits b.statements k (tokens bytes) ≡ false → TakesCodeLine b new bytes (Some kinds.Limit)
+    line_limit : (is_some b.field_is || is_field k) ≡ true → keeps_limits b.statements k (tokens bytes) ≡ false → TakesCodeLine b new bytes (Some kinds.Limit)
     line_limit some limit =
         let f = formed (tokens bytes) in
         record { after = b; reads = record { form = f.form; is_form = f.is_form; read_is = line_read_at b bytes f.form k clean (ap first_keyword keyed) ∙ limit_at b (tokens bytes) f.form k some limit }; holds = λ other. absurd cc }
+
+    pub line_refused : (may kept : Bool) (kind : SourceKind) → (is_some b.field_is || is_field k) ≡ may → keeps_limits b.statements k (tokens bytes) ≡ kept → Some kind ≡ refused_by may kept → TakesCodeLine b new bytes (Some kind)
+    line_refused false kept kind m l e = subst (λ (o : Option SourceKind). TakesCodeLine b new bytes o) (sym e) (line_no_field m)
+    line_refused true false kind m l e = subst (λ (o : Option SourceKind). TakesCodeLine b new bytes o) (sym e) (line_limit m l)
+    line_refused true true kind m l e = absurd cc
 
     pub line_form : (broken : Option SourceKind) → (is_some b.field_is || is_field k) ≡ true → keeps_limits b.statements k (tokens bytes) ≡ true → TakesCode b new (token.Key k ∷ ts) broken → TakesCodeLine b new bytes broken
     line_form broken some limit t =

@@ -1,17 +1,17 @@
 -- Statements from the last one on, by their heads and by the expressions that ended.
-use Rattle.std.proofs.Common.{◌≡◌, ℕ, ◌+◌, ◌-◌, ◌<◌, ◌≤◌, length, drop, get_or, List, [], ◌∷◌, ◌++◌, take, reverse, Option, Some, None, refl, sym, ◌∙◌, ap, append_assoc, true, false, Bool}
-use Rattle.std.proofs.lemmas.List.{append-nil, map_push, reverse-append, at_drop_more, at_drop_all}
-use Rattle.lzk_expr.specs.declared.code.Word.{Word}
-use Rattle.lzk_expr.specs.declared.code.Word.TheVariants as words
+use Rattle.std.proofs.Common.{◌≡◌, ℕ, List, [], ◌∷◌, ◌++◌, reverse, refl, sym, ◌∙◌, ap, ap₂, append_assoc}
+use Rattle.std.proofs.lemmas.List.{append-nil, map_push, reverse-append}
 use Rattle.lzk_expr.specs.declared.heads.Head.{Head}
-use Rattle.lzk_expr.specs.declared.growing.Ended.{Ended}
+use Rattle.lzk_expr.specs.declared.ast.Expr.{Expr}
 use Rattle.lzk_expr.specs.declared.ast.Statement as memory
-use Rattle.lzk_expr.specs.Trees.{Statement}
-use Rattle.lzk_expr.specs.View.{statement_of, statements_of}
-use Rattle.lzk_expr.specs.Codes.{nameless, CodeReads, code_word, code_words, next_word, then_words, words_read}
-use Rattle.lzk_expr.specs.Heads.{Heading, head_of, heads_of, heading, headings}
-use Rattle.lzk_expr.specs.Growing.{all_ended, GoesOn}
-use Rattle.lzk_expr.proofs.CodeLaws.{nameless_append, words_none, words_more}
+use Rattle.lzk_expr.specs.Trees.{Statement, DeclarePublic, DeclarePrivate, Define, Assertion}
+use Rattle.lzk_expr.specs.Trees as tree
+use Rattle.lzk_expr.specs.View.{expr_of, statement_of, statements_of}
+use Rattle.lzk_expr.specs.Codes.{nameless}
+use Rattle.lzk_expr.specs.Heads.{Heading, OfPublic, OfPrivate, OfLet, OfAssert, head_of, heads_of, heading, headings}
+use Rattle.lzk_expr.specs.Growing.{all_exprs, exprs_of, exprs_in}
+use Rattle.lzk_expr.proofs.CodeLaws.{nameless_append}
+use Rattle.lzk_expr.proofs.GrowthLaws.{exprs_append}
 
 -- a list with a last statement
 pub record HasLast (ss : List Statement) (hs : List Heading) (h : Heading) : Type 0 where
@@ -45,13 +45,13 @@ last_of (s ∷ ss) (x ∷ hs) h e =
     }
 
 -- what is left to make of the statements, the first ones
-pub record StatementsLeft (ss : List Statement) (heads : List Head) (ended : List Ended) (made : List memory.Statement) : Type 0 where
+pub record StatementsLeft (ss : List Statement) (heads : List Head) (ended : List Expr) (made : List memory.Statement) : Type 0 where
   pub left : List Statement
   pub split : ss ≡ left ++ reverse (statements_of made)
   pub heads_are : heads_of heads ≡ headings left
-  pub ended_are : all_ended ended ≡ nameless left
+  pub ended_are : all_exprs ended ≡ exprs_in left
 
-pub all_left : (ss : List Statement) (heads : List Head) (ended : List Ended) (made : List memory.Statement) → made ≡ [] → heads_of heads ≡ headings ss → all_ended ended ≡ nameless ss → StatementsLeft ss heads ended made
+pub all_left : (ss : List Statement) (heads : List Head) (ended : List Expr) (made : List memory.Statement) → made ≡ [] → heads_of heads ≡ headings ss → all_exprs ended ≡ exprs_in ss → StatementsLeft ss heads ended made
 all_left ss heads ended made none h e = record {
   left = ss;
   split = sym (ap (λ (l : List memory.Statement). ss ++ reverse (statements_of l)) none ∙ append-nil ss);
@@ -60,18 +60,19 @@ all_left ss heads ended made none h e = record {
 }
 
 -- the last one that is left
-pub next_last : (ss : List Statement) (heads rest : List Head) (ended : List Ended) (made : List memory.Statement) (head : Head) (l : StatementsLeft ss heads ended made) → heads ≡ rest ++ head ∷ [] → HasLast l.left (heads_of rest) (head_of head)
+pub next_last : (ss : List Statement) (heads rest : List Head) (ended : List Expr) (made : List memory.Statement) (head : Head) (l : StatementsLeft ss heads ended made) → heads ≡ rest ++ head ∷ [] → HasLast l.left (heads_of rest) (head_of head)
 next_last ss heads rest ended made head l e = last_of l.left (heads_of rest) (head_of head) (sym l.heads_are ∙ ap heads_of e ∙ map_push head_of rest head)
 
-pub last_ended : (ss : List Statement) (heads : List Head) (ended : List Ended) (made : List memory.Statement) (hs : List Heading) (h : Heading) (l : StatementsLeft ss heads ended made) (k : HasLast l.left hs h)
-    → all_ended ended ≡ nameless k.front ++ nameless (k.last ∷ [])
-last_ended ss heads ended made hs h l k = l.ended_are ∙ ap nameless k.split ∙ nameless_append k.front (k.last ∷ [])
+pub last_ended : (ss : List Statement) (heads : List Head) (ended : List Expr) (made : List memory.Statement) (hs : List Heading) (h : Heading) (l : StatementsLeft ss heads ended made) (k : HasLast l.left hs h)
+    → all_exprs ended ≡ exprs_in k.front ++ exprs_in (k.last ∷ [])
+last_ended ss heads ended made hs h l k =
+    l.ended_are ∙ ap exprs_in k.split ∙ ap exprs_of (nameless_append k.front (k.last ∷ [])) ∙ exprs_append (nameless k.front) (nameless (k.last ∷ []))
 
 reversed_more : (made : List memory.Statement) (st : memory.Statement) → reverse (statements_of (made ++ st ∷ [])) ≡ statement_of st ∷ reverse (statements_of made)
 reversed_more made st = ap reverse (map_push statement_of made st) ∙ reverse-append (statements_of made) (statement_of st ∷ [])
 
-pub one_made : (ss : List Statement) (heads rest : List Head) (ended left : List Ended) (made new : List memory.Statement) (head : Head) (st : memory.Statement) (l : StatementsLeft ss heads ended made) (k : HasLast l.left (heads_of rest) (head_of head))
-    → statement_of st ≡ k.last → all_ended left ≡ nameless k.front → new ≡ made ++ st ∷ [] → StatementsLeft ss rest left new
+pub one_made : (ss : List Statement) (heads rest : List Head) (ended left : List Expr) (made new : List memory.Statement) (head : Head) (st : memory.Statement) (l : StatementsLeft ss heads ended made) (k : HasLast l.left (heads_of rest) (head_of head))
+    → statement_of st ≡ k.last → all_exprs left ≡ exprs_in k.front → new ≡ made ++ st ∷ [] → StatementsLeft ss rest left new
 one_made ss heads rest ended left made new head st l k same before e = record {
   left = k.front;
   split = l.split ∙ ap (λ (x : List Statement). x ++ reverse (statements_of made)) k.split ∙ append_assoc k.front (k.last ∷ []) (reverse (statements_of made))
@@ -87,40 +88,66 @@ reversed (m ∷ ms) =
     ap statements_of (reverse-append (m ∷ []) ms) ∙ map_push statement_of (reverse ms) m ∙ ap (λ (l : List Statement). l ++ statement_of m ∷ []) (reversed ms)
     ∙ sym (reverse-append (statement_of m ∷ []) (statements_of ms))
 
-pub none_left : (ss : List Statement) (heads : List Head) (ended : List Ended) (made new : List memory.Statement) → StatementsLeft ss heads ended made → heads ≡ [] → new ≡ reverse made → statements_of new ≡ ss
+pub none_left : (ss : List Statement) (heads : List Head) (ended : List Expr) (made new : List memory.Statement) → StatementsLeft ss heads ended made → heads ≡ [] → new ≡ reverse made → statements_of new ≡ ss
 none_left ss heads ended made new l none e =
     let nothing : l.left ≡ [] = no_headings l.left (sym l.heads_are ∙ ap heads_of none) in
     ap statements_of e ∙ reversed made ∙ sym (l.split ∙ ap (λ (x : List Statement). x ++ reverse (statements_of made)) nothing)
 
--- ---- word by word
-
-pub goes : (b : Bool) (o : Option CodeReads) (r : CodeReads) → b ≡ true → GoesOn b o r → o ≡ Some r
-goes true o r e h = h
-goes false o r e h = absurd cc
-
-pub goes_not : (b : Bool) (o : Option CodeReads) (r : CodeReads) → b ≡ false → GoesOn b o r → o ≡ None
-goes_not true o r e h = absurd cc
-goes_not false o r e h = h
-
-first_word : (numbers : List ℕ) (ws : List Word) (i : ℕ) (r : CodeReads) → i < length ws
-    → words_read r (code_words numbers (drop i ws)) ≡ then_words (next_word r (code_word numbers (get_or ws i (words.Number 0)))) (λ more. words_read more (code_words numbers (drop (i + 1) ws)))
-first_word numbers ws i r lt =
-    at_drop_more (λ (l : List Word). words_read r (code_words numbers l)) ws i (words.Number 0) lt
-    ∙ words_more r (code_word numbers (get_or ws i (words.Number 0))) (code_words numbers (drop (i + 1) ws))
-
-pub words_step : (numbers : List ℕ) (ws : List Word) (i : ℕ) (r next : CodeReads) → i < length ws → next_word r (code_word numbers (get_or ws i (words.Number 0))) ≡ Some next
-    → words_read r (code_words numbers (drop i ws)) ≡ words_read next (code_words numbers (drop (i + 1) ws))
-words_step numbers ws i r next lt h = first_word numbers ws i r lt ∙ ap (λ o. then_words o (λ more. words_read more (code_words numbers (drop (i + 1) ws)))) h
-
-pub words_stuck : (numbers : List ℕ) (ws : List Word) (i : ℕ) (r : CodeReads) → i < length ws → next_word r (code_word numbers (get_or ws i (words.Number 0))) ≡ None → words_read r (code_words numbers (drop i ws)) ≡ None
-words_stuck numbers ws i r lt h = first_word numbers ws i r lt ∙ ap (λ o. then_words o (λ more. words_read more (code_words numbers (drop (i + 1) ws)))) h
-
-pub words_end : (numbers : List ℕ) (ws : List Word) (i : ℕ) (r : CodeReads) → length ws ≤ i → words_read r (code_words numbers (drop i ws)) ≡ Some r
-words_end numbers ws i r le = at_drop_all (λ (l : List Word). words_read r (code_words numbers l)) ws i le ∙ words_none r
-
 -- ---- the last of a list
 
-pub popped_none : {X : Type 0} (n : ℕ) (old new : List X) → n ≡ 0 → new ≡ take (n - 1) old → old ≡ new ++ [] → old ≡ []
-popped_none {X = X} n old new e k h =
-    let none : new ≡ [] = k ∙ ap (λ m. take (m - 1) old) e in
-    h ∙ ap (λ (l : List X). l ++ []) none
+no_last : {X : Type 0} (xs : List X) (x : X) → [] ≡ xs ++ x ∷ [] → ⊥
+no_last [] x e = cc
+no_last (y ∷ xs) x e = cc
+
+last_same : {X : Type 0} (xs ys : List X) (x y : X) → xs ++ x ∷ [] ≡ ys ++ y ∷ [] → (x ≡ y) × (xs ≡ ys)
+last_same [] [] x y e = (cc, refl)
+last_same [] (b ∷ ys) x y e = let rest : [] ≡ ys ++ y ∷ [] = cc in absurd (no_last ys y rest)
+last_same (a ∷ xs) [] x y e = let rest : [] ≡ xs ++ x ∷ [] = cc in absurd (no_last xs x rest)
+last_same (a ∷ xs) (b ∷ ys) x y e =
+    let rest : xs ++ x ∷ [] ≡ ys ++ y ∷ [] = cc in
+    let first : a ≡ b = cc in
+    let both = last_same xs ys x y rest in
+    (both.0, ap₂ (λ c cs. c ∷ cs) first both.1)
+
+-- the last expression that ended
+pub popped : (old new : List Expr) (x : Expr) (before : List tree.Expr) (e : tree.Expr) → old ≡ new ++ x ∷ [] → all_exprs old ≡ before ++ e ∷ [] → (expr_of x ≡ e) × (all_exprs new ≡ before)
+popped old new x before e pop h = last_same (all_exprs new) before (expr_of x) e (sym (ap all_exprs pop ∙ map_push expr_of new x) ∙ h)
+
+pub none_popped : (old : List Expr) (before : List tree.Expr) (e : tree.Expr) → old ≡ [] → all_exprs old ≡ before ++ e ∷ [] → ⊥
+none_popped old before e none h = no_last before e (sym (ap all_exprs none) ∙ h)
+
+-- ---- the statement with a head
+
+pub public_made : (w : List ℕ) (s : Statement) (es before : List tree.Expr) → OfPublic w ≡ heading s → es ≡ before ++ exprs_in (s ∷ []) → (DeclarePublic w ≡ s) × (es ≡ before)
+public_made w (DeclarePublic v) es before h e = let same : w ≡ v = cc in (ap DeclarePublic same, e ∙ append-nil before)
+public_made w (DeclarePrivate v) es before h e = absurd cc
+public_made w (Define v x) es before h e = absurd cc
+public_made w (Assertion x y) es before h e = absurd cc
+
+pub private_made : (w : List ℕ) (s : Statement) (es before : List tree.Expr) → OfPrivate w ≡ heading s → es ≡ before ++ exprs_in (s ∷ []) → (DeclarePrivate w ≡ s) × (es ≡ before)
+private_made w (DeclarePublic v) es before h e = absurd cc
+private_made w (DeclarePrivate v) es before h e = let same : w ≡ v = cc in (ap DeclarePrivate same, e ∙ append-nil before)
+private_made w (Define v x) es before h e = absurd cc
+private_made w (Assertion x y) es before h e = absurd cc
+
+-- this ended last
+abbrev pub IsLast : List tree.Expr → List tree.Expr → tree.Expr → Type 0
+IsLast old new x = (before : List tree.Expr) (e : tree.Expr) → old ≡ before ++ e ∷ [] → (x ≡ e) × (new ≡ before)
+
+pub let_made : (w : List ℕ) (s : Statement) (es rest before : List tree.Expr) (x : tree.Expr) → OfLet w ≡ heading s → es ≡ before ++ exprs_in (s ∷ []) → IsLast es rest x → (Define w x ≡ s) × (rest ≡ before)
+let_made w (DeclarePublic v) es rest before x h e last = absurd cc
+let_made w (DeclarePrivate v) es rest before x h e last = absurd cc
+let_made w (Define v y) es rest before x h e last =
+    let same : w ≡ v = cc in
+    let m = last before y e in
+    (ap₂ Define same m.0, m.1)
+let_made w (Assertion y z) es rest before x h e last = absurd cc
+
+pub assert_made : (s : Statement) (es mid rest before : List tree.Expr) (x y : tree.Expr) → OfAssert ≡ heading s → es ≡ before ++ exprs_in (s ∷ []) → IsLast es mid y → IsLast mid rest x → (Assertion x y ≡ s) × (rest ≡ before)
+assert_made (DeclarePublic v) es mid rest before x y h e right left = absurd cc
+assert_made (DeclarePrivate v) es mid rest before x y h e right left = absurd cc
+assert_made (Define v z) es mid rest before x y h e right left = absurd cc
+assert_made (Assertion l r) es mid rest before x y h e right left =
+    let m = right (before ++ l ∷ []) r (e ∙ sym (append_assoc before (l ∷ []) (r ∷ []))) in
+    let n = left before l m.1 in
+    (ap₂ Assertion n.0 m.0, n.1)

@@ -215,10 +215,6 @@ pub lex_equals : (bs : List ℕ) → tokens (32 ∷ 61 ∷ 32 ∷ bs) ≡ token.
 unfolding pieces
 lex_equals bs = refl
 
-pub lex_field : (bs : List ℕ) → tokens (codes "field " ++ bs) ≡ token.Key keys.Field ∷ tokens bs
-unfolding pieces word_token
-lex_field bs = refl
-
 pub lex_public : (bs : List ℕ) → tokens (codes "public " ++ bs) ≡ token.Key keys.Public ∷ tokens bs
 unfolding pieces word_token
 lex_public bs = refl

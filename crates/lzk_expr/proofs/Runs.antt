@@ -1,13 +1,14 @@
 -- The first run.
-use Rattle.std.proofs.Common.{◌≡◌, ℕ, suc, ◌+◌, ◌<◌, ◌≤◌, Bool, true, false, not, cond, List, [], ◌∷◌, length, take, drop, drop-cons, get_or, length-drop, Some, None, ltb, ltb-true, position, refl, sym, ◌∙◌, arith, ap}
+use Rattle.std.proofs.Common.{◌≡◌, ℕ, suc, ◌+◌, ◌<◌, ◌≤◌, ◌==◌, Bool, true, false, not, cond, List, [], ◌∷◌, length, take, drop, drop-cons, get_or, length-drop, Some, None, ltb, ltb-true, position, refl, sym, ◌∙◌, arith, ap}
 use Rattle.std.specs.List.{prefix_len, onto_first, position_or_len}
-use Rattle.std.proofs.lemmas.Bool.{ltb-false, cond-true, cond-false}
-use Rattle.std.proofs.lemmas.List.{drop_all}
+use Rattle.std.proofs.lemmas.Bool.{ltb-false, lt-ltb, le-ltb, cond-true, cond-false}
+use Rattle.std.proofs.lemmas.Bool.Decides.{nat_tests}
+use Rattle.std.proofs.lemmas.List.{drop_all, take_all}
 use Rattle.std.proofs.lemmas.List.Quantifiers.{position-Some}
 use Rattle.std.proofs.lemmas.List.Splits.{slice_split_first, slice_split_none}
-use Rattle.std.proofs.lemmas.List.Sums.{prefix_len-le-length, fails_before_first}
+use Rattle.std.proofs.lemmas.List.Sums.{prefix_len-le-length, prefix_len-drop_no, prefix_len-drop_yes, fails_before_first}
 use Rattle.std.proofs.Math.Numerals.{one-add}
-use Rattle.lzk_expr.specs.Texts.{runs, begins, IsRun, IsLine, lines, is_feed}
+use Rattle.lzk_expr.specs.Texts.{runs, begins, IsRun, IsLine, lines, is_feed, is_hash, content}
 
 module _ (p : ℕ → Bool) where
   skip_at : (b : ℕ) (bs : List ℕ) (t : Bool) → p b ≡ t → (runs p bs ≡ runs p (drop (prefix_len (λ x. not (p x)) bs) bs)) → runs p (b ∷ bs) ≡ runs p (drop (prefix_len (λ x. not (p x)) (b ∷ bs)) (b ∷ bs))
@@ -93,3 +94,35 @@ line_at text i at =
 
 pub no_line : (text : List ℕ) → position is_feed text ≡ None → lines text ≡ text ∷ []
 no_line text e = slice_split_none is_feed text (λ k d lt. fails_before_first is_feed text k d (omega (arith, found_none is_feed text e)))
+
+-- ---- a place that is looked for
+
+pub same_byte : (a b : ℕ) → a ≡ b → (a == b) ≡ true
+same_byte a b h = grind (arith, nat_tests)
+
+pub other_byte : (a b : ℕ) → (a ≡ b → ⊥) → (a == b) ≡ false
+other_byte a b h = grind (arith, nat_tests)
+
+module _ (p : ℕ → Bool) (xs : List ℕ) (i : ℕ) (passed : position_or_len p xs ≡ i + position_or_len p (drop i xs)) where
+  pub len_here : i < length xs → p (get_or xs i 0) ≡ true → i ≡ position_or_len p xs
+  len_here lt h = omega (arith, passed, prefix_len-drop_no (λ x. not (p x)) xs i 0 lt (ap not h))
+
+  pub len_behind : i < length xs → p (get_or xs i 0) ≡ false → position_or_len p xs ≡ (i + 1) + position_or_len p (drop (i + 1) xs)
+  len_behind lt h = omega (arith, passed, prefix_len-drop_yes (λ x. not (p x)) xs i 0 lt (ap not h))
+
+  pub len_end : length xs ≤ i → length xs ≡ position_or_len p xs
+  len_end le = omega (arith, passed, le, prefix_len-le-length (λ x. not (p x)) xs)
+
+  pub place_here : i < length xs → p (get_or xs i 0) ≡ true → Some i ≡ position p xs
+  place_here lt h = sym (ap (λ n. cond (ltb n (length xs)) (Some n) None) (sym (len_here lt h)) ∙ ap (λ t. cond t (Some i) None) (lt-ltb i (length xs) lt))
+
+  pub place_none : length xs ≤ i → None ≡ position p xs
+  place_none le = sym (ap (λ t. cond t (Some (position_or_len p xs)) None) (le-ltb (position_or_len p xs) (length xs) (omega (arith, passed, le))))
+
+-- ---- what stands before a comment
+
+pub content_at : (line : List ℕ) (i : ℕ) → position is_hash line ≡ Some i → take i line ≡ content line
+content_at line i e = ap (λ n. take n line) (sym (found_at is_hash line i e).0)
+
+pub content_none : (line : List ℕ) → position is_hash line ≡ None → line ≡ content line
+content_none line e = sym (ap (λ n. take n line) (found_none is_hash line e) ∙ take_all (length line) line (omega arith))

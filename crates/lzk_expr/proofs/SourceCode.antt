@@ -1,5 +1,5 @@
 -- The code of a source's statements, one by one.
-use Rattle.std.proofs.Common.{◌≡◌, ℕ, zero, suc, ◌+◌, ◌<◌, ◌≤◌, List, [], ◌∷◌, ◌++◌, length, take, get_or, sym, ◌∙◌, ap, subst, arith}
+use Rattle.std.proofs.Common.{◌≡◌, ℕ, zero, suc, ◌+◌, ◌<◌, ◌≤◌, false, List, [], ◌∷◌, ◌++◌, length, take, get_or, sym, ◌∙◌, ap, subst, arith}
 use Rattle.std.proofs.lemmas.List.{map-append, append-nil, take_more, take_all}
 use Rattle.lzk_expr.specs.declared.ast.FieldId.{FieldId}
 use Rattle.lzk_expr.specs.declared.ast.Statement as memory
@@ -43,7 +43,7 @@ taken_more ms i m l is =
     ∙ map-append statement_of (take i ms) (m ∷ [])
 
 -- all of them
-pub all_held : (w : Written) (i : ℕ) (ms all : List memory.Statement) → length ms ≤ i → ms ≡ all → HoldsCode w (statements_of (take i ms)) → AreCodeOf (statements_of all) (code_words w.numbers.items w.words.items)
-all_held w i ms all l e h =
+pub all_held : (w : Written) (i : ℕ) (ms all : List memory.Statement) → length ms ≤ i → ms ≡ all → w.lost ≡ false → HoldsCode w (statements_of (take i ms)) → AreCodeOf (statements_of all) (code_words w.numbers.items w.words.items)
+all_held w i ms all l e kept h =
     subst (λ ss. AreCodeOf (statements_of ss) (code_words w.numbers.items w.words.items)) (take_all i ms l ∙ e)
-    (subst (λ ns. AreCodeOf (statements_of (take i ms)) (code_words ns w.words.items)) (append-nil w.numbers.items) (h []))
+    (subst (λ ns. AreCodeOf (statements_of (take i ms)) (code_words ns w.words.items)) (append-nil w.numbers.items) (h kept []))

@@ -1,5 +1,5 @@
 -- The words of an expression's tokens, put down one by one.
-use Rattle.std.proofs.Common.{◌≡◌, ℕ, Bool, true, false, ◌&&◌, List, [], ◌∷◌, ◌++◌, map, Option, Some, None, refl, sym, ◌∙◌, ap, ap₂, subst, append_assoc, if◌then◌else◌}
+use Rattle.std.proofs.Common.{◌≡◌, ℕ, Bool, true, false, ◌&&◌, List, [], ◌∷◌, ◌++◌, map, Option, Some, None, refl, sym, ◌∙◌, ap, ap₂, subst, append_assoc, length, ◌≤◌, arith, MatchBool, if◌then◌else◌}
 use Rattle.std.specs.List.{list_all}
 use Rattle.std.specs.HashMap.{HashMap}
 use Rattle.std.proofs.lemmas.List.{map-append, append-nil}
@@ -7,6 +7,8 @@ use Rattle.std.proofs.lemmas.List.Folds.{list_all-append}
 use Rattle.lzk_expr.specs.declared.ast.FieldId.{FieldId}
 use Rattle.lzk_expr.specs.declared.names.Binding.{Binding}
 use Rattle.lzk_expr.specs.declared.code.Word.{Word}
+use Rattle.lzk_expr.specs.declared.code.Word.TheVariants as words
+use Rattle.lzk_expr.specs.declared.sum_words.TokenWord.{TokenWord}
 use Rattle.lzk_expr.specs.declared.syntax.Syntax.{Syntax}
 use Rattle.lzk_expr.specs.declared.tokens.Symbol.{Symbol}
 use Rattle.lzk_expr.specs.Tokens.{Token}
@@ -16,7 +18,7 @@ use Rattle.lzk_expr.specs.Meanings.{Step, Other, Reads, nothing_read, next, need
 use Rattle.lzk_expr.specs.Table.{bound, held_number, token_known, token_below}
 use Rattle.lzk_expr.specs.Codes.{CodeWord, Item, code_word, code_words}
 use Rattle.lzk_expr.specs.Syntaxes.{syntax_of, next_syntax, is_whole}
-use Rattle.lzk_expr.specs.SumWords.{step_in, IsWordOf, AreWordsOf, IsCoded}
+use Rattle.lzk_expr.specs.SumWords.{step_in, numbers_of, IsWordOf, AreWordsOf, IsCoded}
 use Rattle.lzk_expr.proofs.CodeLaws.{all_none, all_more}
 use Rattle.lzk_expr.proofs.SyntaxLaws.{no_step, some_step, not_whole, is_ended}
 
@@ -114,24 +116,25 @@ module _ {S : Type 0} (f : FieldId) (m : HashMap (List ℕ) Binding S) where
 
   module _ (ow nw : List Word) (on nn : List ℕ) where
     -- the word of one more token
-    added_word : (before : List Token) (t : Token) (word : Word) (more : List ℕ) (known below : Bool)
-        → AreWordsOf m before ow nw on nn → IsWordOf f m t nn more word known below → AreWordsOf m (before ++ t ∷ []) ow (nw ++ word ∷ []) on more
-    added_word before t word more known below a w = record {
-      words = a.words ++ word ∷ [];
-      words_are = ap (λ ws. ws ++ word ∷ []) a.words_are ∙ append_assoc ow a.words (word ∷ []);
-      numbers = a.numbers ++ w.numbers;
-      numbers_are = w.numbers_are ∙ ap (λ ns. ns ++ w.numbers) a.numbers_are ∙ append_assoc on a.numbers w.numbers;
+    added_word : (before : List Token) (t : Token) (x : TokenWord) (place : ℕ) (more : List ℕ) → place ≡ length nn → more ≡ nn ++ numbers_of x.word x.number
+        → AreWordsOf m before ow nw on nn → IsWordOf f m t place x → AreWordsOf m (before ++ t ∷ []) ow (nw ++ x.word ∷ []) on more
+    added_word before t x place more at e a w = record {
+      words = a.words ++ x.word ∷ [];
+      words_are = ap (λ ws. ws ++ x.word ∷ []) a.words_are ∙ append_assoc ow a.words (x.word ∷ []);
+      numbers = a.numbers ++ numbers_of x.word x.number;
+      numbers_are = e ∙ ap (λ ns. ns ++ numbers_of x.word x.number) a.numbers_are ∙ append_assoc on a.numbers (numbers_of x.word x.number);
       steps_are = λ behind.
-          let all : more ++ behind ≡ nn ++ (w.numbers ++ behind) = ap (λ ns. ns ++ behind) w.numbers_are ∙ append_assoc nn w.numbers behind in
-          let old : code_words (more ++ behind) a.words ≡ map Item (map (step_in m) before) = ap (λ ns. code_words ns a.words) all ∙ a.steps_are (w.numbers ++ behind) in
-          map-append (code_word (more ++ behind)) a.words (word ∷ [])
-          ∙ ap₂ (λ (xs : List CodeWord) (x : CodeWord). xs ++ x ∷ []) old (w.word_is behind)
+          let ns : List ℕ = numbers_of x.word x.number in
+          let all : more ++ behind ≡ nn ++ (ns ++ behind) = ap (λ ks. ks ++ behind) e ∙ append_assoc nn ns behind in
+          let old : code_words (more ++ behind) a.words ≡ map Item (map (step_in m) before) = ap (λ ks. code_words ks a.words) all ∙ a.steps_are (ns ++ behind) in
+          map-append (code_word (more ++ behind)) a.words (x.word ∷ [])
+          ∙ ap₂ (λ (xs : List CodeWord) (y : CodeWord). xs ++ y ∷ []) old (ap (λ ks. code_word (ks ++ behind) x.word) e ∙ w.word_is nn behind (sym at))
           ∙ sym (map-append Item (map (step_in m) before) (step_in m t ∷ []))
           ∙ ap (map Item) (sym (map-append (step_in m) before (t ∷ [])));
     }
 
-    module _ (x : Syntax) (known below : Bool) (ts : List Token) where
-      module _ (all : List Symbol) (s : Symbol) (left : List Symbol) (at : all ≡ s ∷ left) (b : IsBegun f m all x ow nw on nn known below ts) where
+    module _ (y : Syntax) (known below : Bool) (ts : List Token) where
+      module _ (all : List Symbol) (s : Symbol) (left : List Symbol) (at : all ≡ s ∷ left) (b : IsBegun f m all y ow nw on nn known below ts) where
         -- there is no expression where the reading goes no further
         stopped : (e : First s left b.behind) → next b.reads (step_in m e.token) ≡ None → sum_read held_number (bound m) ts ≡ None
         stopped e h =
@@ -143,22 +146,23 @@ module _ {S : Type 0} (f : FieldId) (m : HashMap (List ℕ) Binding S) where
             let e = first all s left b.behind at b.told in
             stopped e (ap (next b.reads) (other e.token e.tells) ∙ next_other b.reads)
 
-        module _ (more : List ℕ) (word : Word) (k l : Bool) (word_of : (t : Token) → Tells s t → IsWordOf f m t nn more word k l) where
-          pub no_syntax : ((numbers : List ℕ) (step : Step) → code_word numbers word ≡ Item step → None ≡ next_syntax x step) → sum_read held_number (bound m) ts ≡ None
+        module _ (x : TokenWord) (place : ℕ) (at_place : place ≡ length nn) (word_of : (t : Token) → Tells s t → IsWordOf f m t place x) where
+          pub no_syntax : ((numbers : List ℕ) (step : Step) → code_word numbers x.word ≡ Item step → None ≡ next_syntax y step) → sum_read held_number (bound m) ts ≡ None
           no_syntax none =
               let e = first all s left b.behind at b.told in
               let w = word_of e.token e.tells in
               stopped e (no_step b.reads (step_in m e.token)
-              (ap (λ y. next_syntax y (step_in m e.token)) b.syntax_is ∙ sym (none (more ++ []) (step_in m e.token) (w.word_is []))))
+              (ap (λ z. next_syntax z (step_in m e.token)) b.syntax_is ∙ sym (none _ (step_in m e.token) (w.word_is nn [] (sym at_place)))))
 
-          pub one_more : (y : Syntax) (words : List Word) → words ≡ nw ++ word ∷ [] → ((numbers : List ℕ) (step : Step) → code_word numbers word ≡ Item step → Some y ≡ next_syntax x step)
-              → (now now_below : Bool) → now ≡ (known && k) → now_below ≡ (below && l)
-              → IsBegun f m left y ow words on more now now_below ts
-          one_more y words pushed goes now now_below now_is now_below_is =
+          pub one_more : (z : Syntax) (words : List Word) (more : List ℕ) → words ≡ nw ++ x.word ∷ [] → more ≡ nn ++ numbers_of x.word x.number
+              → ((numbers : List ℕ) (step : Step) → code_word numbers x.word ≡ Item step → Some z ≡ next_syntax y step)
+              → (now now_below : Bool) → now ≡ (known && x.known) → now_below ≡ (below && x.below)
+              → IsBegun f m left z ow words on more now now_below ts
+          one_more z words more pushed put goes now now_below now_is now_below_is =
               let e = first all s left b.behind at b.told in
               let w = word_of e.token e.tells in
-              let step = some_step b.reads (step_in m e.token) y
-              (ap (λ z. next_syntax z (step_in m e.token)) b.syntax_is ∙ sym (goes (more ++ []) (step_in m e.token) (w.word_is []))) in
+              let step = some_step b.reads (step_in m e.token) z
+              (ap (λ u. next_syntax u (step_in m e.token)) b.syntax_is ∙ sym (goes _ (step_in m e.token) (w.word_is nn [] (sym at_place)))) in
               record {
                 before = b.before ++ e.token ∷ [];
                 behind = e.behind;
@@ -169,23 +173,23 @@ module _ {S : Type 0} (f : FieldId) (m : HashMap (List ℕ) Binding S) where
                 syntax_is = step.2;
                 known_is = list_all-append (token_known m) b.before (e.token ∷ []) ∙ and_is _ _ _ _ b.known_is w.known_is ∙ sym now_is;
                 below_is = list_all-append (token_below f) b.before (e.token ∷ []) ∙ and_is _ _ _ _ b.below_is w.below_is ∙ sym now_below_is;
-                added = subst (λ ws. AreWordsOf m (b.before ++ e.token ∷ []) ow ws on more) (sym pushed) (added_word b.before e.token word more k l b.added w);
+                added = subst (λ ws. AreWordsOf m (b.before ++ e.token ∷ []) ow ws on more) (sym pushed) (added_word b.before e.token x place more at_place put b.added w);
               }
 
       -- ---- behind the last token
 
-      module _ (all : List Symbol) (at : all ≡ []) (b : IsBegun f m all x ow nw on nn known below ts) where
+      module _ (all : List Symbol) (at : all ≡ []) (b : IsBegun f m all y ow nw on nn known below ts) where
         all_before : ts ≡ b.before
         all_before = b.parts ∙ ap (λ us. b.before ++ us) (none_left b.behind (subst (λ ss. AreTold ss b.behind) at b.told)) ∙ append-nil b.before
 
         read_whole : sum_read held_number (bound m) ts ≡ ends b.reads
         read_whole = ap (sum_read held_number (bound m)) all_before ∙ ap ends_of b.read
 
-        pub no_end : is_whole x ≡ false → sum_read held_number (bound m) ts ≡ None
+        no_end : is_whole y ≡ false → sum_read held_number (bound m) ts ≡ None
         no_end h = read_whole ∙ not_whole b.reads (ap is_whole b.syntax_is ∙ h)
 
-        pub has_end : is_whole x ≡ true → IsCoded f m ts ow nw on nn known below
-        has_end h =
+        has_end : (end : Word) (words : List Word) → words ≡ nw ++ end ∷ [] → is_whole y ≡ true → IsCoded f m ts end ow words on nn known below
+        has_end end words pushed h =
             let e = is_ended b.reads (ap is_whole b.syntax_is ∙ h) in
             record {
               expr = e.0;
@@ -194,5 +198,17 @@ module _ {S : Type 0} (f : FieldId) (m : HashMap (List ℕ) Binding S) where
                 known_is = ap (list_all (token_known m)) all_before ∙ b.known_is;
                 below_is = ap (list_all (token_below f)) all_before ∙ b.below_is;
               };
+              ended = nw;
+              ended_is = pushed;
               added = subst (λ us. AreWordsOf m us ow nw on nn) (sym all_before) b.added;
             }
+
+        pub at_end : (end : Word) (words : List Word) → words ≡ nw ++ end ∷ [] → (formed : Bool) → formed ≡ is_whole y
+            → MatchBool formed (IsCoded f m ts end ow words on nn known below) (sum_read held_number (bound m) ts ≡ None)
+        at_end end words pushed true e = has_end end words pushed (sym e)
+        at_end end words pushed false e = no_end (sym e)
+
+-- a word has one number at most
+pub few_numbers : (w : Word) (n : ℕ) → length (numbers_of w n) ≤ 1
+few_numbers (words.Number i) n = omega arith
+few_numbers w n = omega arith

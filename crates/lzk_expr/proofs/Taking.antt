@@ -1,10 +1,19 @@
 -- Words and lines one after the other.
-use Rattle.std.proofs.Common.{◌≡◌, ℕ, ◌+◌, ◌<◌, ◌≤◌, List, [], ◌∷◌, length, Option, Some, None, Ok, Err, refl, ◌∙◌, arith, ap, Bor, ◌-◌, MatchOption}
+use Rattle.std.proofs.Common.{◌≡◌, ℕ, ◌+◌, ◌<◌, ◌≤◌, List, [], ◌∷◌, length, Option, Some, None, Ok, Err, refl, ◌∙◌, arith, sym, ◌++◌, ap, Bor, ◌-◌, MatchOption}
 use Rattle.std.proofs.lemmas.Bool.{lt-ltb, le-ltb}
 use Rattle.lzk_expr.specs.Texts.{runs, is_plain, IsRun, IsLine, lines, content, number_of}
 use Rattle.lzk_expr.specs.Numbers.{word_as, words_to, lines_to, numbers_of}
-use Rattle.lzk_expr.specs.declared.fault.NumberKind.TheVariants.{TooLarge, TooFew}
+use Rattle.lzk_expr.specs.declared.fault.NumberKind.TheVariants.{Syntax, TooLarge, TooFew, TooMany}
 use Rattle.lzk_expr.specs.declared.fault.NumberFault.{NumberFault}
+
+pub not_word : (size count line : ℕ) (before : List ℕ) (o : Option ℕ) → o ≡ None → word_as size count line before o ≡ Err (record { line = line; kind = Syntax })
+not_word size count line before o e = rw e refl
+
+pub many_words : (size count line n : ℕ) (before : List ℕ) (o : Option ℕ) → o ≡ Some n → count ≤ length before → word_as size count line before o ≡ Err (record { line = line; kind = TooMany })
+many_words size count line n before o e full = rw (e, le-ltb (length before) count full) refl
+
+pub one_word : (size count line n m : ℕ) (before : List ℕ) (o : Option ℕ) → o ≡ Some n → length before < count → n < size → m ≡ n → word_as size count line before o ≡ Ok (before ++ m ∷ [])
+one_word size count line n m before o e room small is = rw (e, lt-ltb (length before) count room, lt-ltb n size small) (ap (λ (k : ℕ). Ok (before ++ k ∷ [])) (sym is))
 
 pub large_word : (size count line n : ℕ) (before : List ℕ) (o : Option ℕ) → o ≡ Some n → size ≤ n → length before < count → word_as size count line before o ≡ Err (record { line = line; kind = TooLarge })
 large_word size count line n before o e big room = rw (e, lt-ltb (length before) count room, le-ltb n size big) refl

@@ -1,15 +1,18 @@
 -- Symbols that are tokens, one by one.
-use Rattle.std.proofs.Common.{◌≡◌, ℕ, suc, ◌+◌, ◌<◌, ◌≤◌, Bool, true, false, not, ◌&&◌, cond, List, [], ◌∷◌, ◌++◌, map, length, take, drop, Some, None, position, refl, sym, ◌∙◌, ap, ap₂, subst, arith, add-one, append_assoc, append-nil, ltb, ltb-true}
+use Rattle.std.proofs.Common.{◌≡◌, ℕ, suc, ◌+◌, ◌-◌, ◌<◌, ◌≤◌, Bool, true, false, not, ◌&&◌, List, [], ◌∷◌, ◌++◌, map, length, length-drop, take, drop, get_or, None, Bor, refl, sym, ◌∙◌, ap, ap₂, subst, arith, add-one, append_assoc, append-nil}
 use Rattle.std.specs.List.{list_all, prefix_len}
-use Rattle.std.proofs.lemmas.Bool.{ltb-false}
 use Rattle.std.proofs.lemmas.List.{take_all}
+use Rattle.std.proofs.lemmas.List.Sums.{prefix_len-drop_no, prefix_len-drop_yes}
 use Rattle.std.proofs.Math.Numerals.{one-add}
 use Rattle.lzk_expr.specs.declared.tokens.Symbol.{Symbol}
 use Rattle.lzk_expr.specs.declared.tokens.Symbol.TheVariants as symbol
-use Rattle.lzk_expr.specs.Tokens.{Piece, pieces, Token, Equals, tokens, token_of}
+use Rattle.lzk_expr.specs.declared.tokens.Keyword.{Keyword}
+use Rattle.lzk_expr.specs.Tokens.{Piece, pieces, Token, Name, Equals, tokens, token_of}
 use Rattle.lzk_expr.specs.TokenReadings.{Tells, AreTold}
-use Rattle.lzk_expr.specs.Readers.{is_name, is_inner}
-use Rattle.lzk_expr.specs.SymbolForms.{is_name_symbol, is_equals_symbol, AreHalves}
+use Rattle.lzk_expr.specs.Sources.{first_keyword}
+use Rattle.lzk_expr.specs.Readers.{is_name, is_inner, IsNoDefinition}
+use Rattle.lzk_expr.specs.SymbolForms.{IsKeyed, IsNoLoneName, Defines, is_name_symbol, is_equals_symbol, AreHalves}
+use Rattle.lzk_expr.proofs.Empty.{told_length}
 
 -- with the first piece of the rest
 pub told_more : (done : List Symbol) (s : Symbol) (p : Piece) (line rest after : List ℕ) → ((more : List Symbol) → AreTold more (tokens rest) → AreTold (done ++ more) (tokens line))
@@ -78,18 +81,94 @@ module _ (q : Symbol → Bool) (p : Token → Bool) (same : (s : Symbol) (t : To
 pub names_as : (ss : List Symbol) (ts : List Token) → AreTold ss ts → list_all is_name_symbol ss ≡ list_all is_name ts
 names_as ss ts h = tests_as is_name_symbol is_name name_as ss ts h
 
-abbrev is_inner_symbol : Symbol → Bool
+abbrev pub is_inner_symbol : Symbol → Bool
 is_inner_symbol s = not (is_equals_symbol s)
 
+-- ---- the forms by index
+
+pub no_name_symbol : (s : Symbol) → ((w : Bor (List ℕ)) → s ≡ symbol.Name w → ⊥) → is_name_symbol s ≡ false
+no_name_symbol (symbol.Name w) h = absurd (h w refl)
+no_name_symbol s h = refl
+
+no_name : (s : Symbol) (w : List ℕ) → ((v : Bor (List ℕ)) → s ≡ symbol.Name v → ⊥) → Tells s (Name w) → ⊥
+no_name s w other h = let yes : true ≡ false = name_as s (Name w) h ∙ no_name_symbol s other in cc
+
+no_key : (s : Symbol) (t : Token) (ts : List Token) → ((k : Keyword) → s ≡ symbol.Key k → ⊥) → Tells s t → first_keyword (t ∷ ts) ≡ None
+no_key (symbol.Key k) t ts other h = absurd (other k refl)
+no_key (symbol.Number n) t ts other h = ap (λ (u : Token). first_keyword (u ∷ ts)) h
+no_key symbol.Large t ts other h = ap (λ (u : Token). first_keyword (u ∷ ts)) h.1
+no_key (symbol.Name w) t ts other h = ap (λ (u : Token). first_keyword (u ∷ ts)) h
+no_key symbol.Misspelt t ts other h = ap (λ (u : Token). first_keyword (u ∷ ts)) h
+no_key symbol.Plus t ts other h = ap (λ (u : Token). first_keyword (u ∷ ts)) h
+no_key symbol.Minus t ts other h = ap (λ (u : Token). first_keyword (u ∷ ts)) h
+no_key symbol.Times t ts other h = ap (λ (u : Token). first_keyword (u ∷ ts)) h
+no_key symbol.Open t ts other h = ap (λ (u : Token). first_keyword (u ∷ ts)) h
+no_key symbol.Close t ts other h = ap (λ (u : Token). first_keyword (u ∷ ts)) h
+no_key symbol.Equals t ts other h = ap (λ (u : Token). first_keyword (u ∷ ts)) h
+no_key symbol.Other t ts other h = ap (λ (u : Token). first_keyword (u ∷ ts)) h
+
+first_is : (x y : Token) (xs ys : List Token) → x ∷ xs ≡ y ∷ ys → x ≡ y
+first_is x y xs ys e = cc
+
+second_is : (a b x y : Token) (xs ys : List Token) → a ∷ b ∷ xs ≡ x ∷ y ∷ ys → b ≡ y
+second_is a b x y xs ys e = cc
+
+pub short_told : (ss : List Symbol) (ts : List Token) → length ss < 2 → AreTold ss ts → IsNoDefinition ts
+short_told ss ts lt h w us e = omega (arith, lt, told_length ss ts h, ap length e)
+
+pub long_told : (ss : List Symbol) (ts : List Token) → (length ss ≡ 1 → ⊥) → AreTold ss ts → IsNoLoneName ts
+long_told ss ts other h w e = other (told_length ss ts h ∙ ap length e)
+
+-- the rest behind a place
+pub rest_of : (ss : List Symbol) (n : ℕ) → take (length ss - n) (drop n ss) ≡ drop n ss
+rest_of ss n = take_all (length ss - n) (drop n ss) (omega (arith, length-drop n ss))
+
+module _ (d : Symbol) where
+  pub keyed_at : (ss : List Symbol) (k : Keyword) (ts : List Token) → 0 < length ss → get_or ss 0 d ≡ symbol.Key k → AreTold ss ts → IsKeyed ts k (drop 1 ss)
+  keyed_at [] k ts lt e h = absurd (omega (arith, lt))
+  keyed_at (s ∷ ss) k [] lt e h = absurd h
+  keyed_at (s ∷ ss) k (t ∷ ts) lt e h =
+      let same : Tells (symbol.Key k) t = subst (λ (x : Symbol). Tells x t) e h.0 in
+      record { behind = ts; keyed = ap (λ (x : Token). x ∷ ts) same; told = h.1 }
+
+  pub unkeyed_at : (ss : List Symbol) (ts : List Token) → 0 < length ss → ((k : Keyword) → get_or ss 0 d ≡ symbol.Key k → ⊥) → AreTold ss ts → first_keyword ts ≡ None
+  unkeyed_at [] ts lt other h = absurd (omega (arith, lt))
+  unkeyed_at (s ∷ ss) [] lt other h = absurd h
+  unkeyed_at (s ∷ ss) (t ∷ ts) lt other h = no_key s t ts other h.0
+
+  pub lone_at : (ss : List Symbol) (w : Bor (List ℕ)) (ts : List Token) → length ss ≡ 1 → get_or ss 0 d ≡ symbol.Name w → AreTold ss ts → ts ≡ Name w.now ∷ []
+  lone_at [] w ts one e h = absurd (omega (arith, one))
+  lone_at (s ∷ r ∷ ss) w ts one e h = absurd (omega (arith, one))
+  lone_at (s ∷ []) w [] one e h = absurd h
+  lone_at (s ∷ []) w (t ∷ []) one e h = let same : Tells (symbol.Name w) t = subst (λ (x : Symbol). Tells x t) e h.0 in ap (λ (x : Token). x ∷ []) same
+  lone_at (s ∷ []) w (t ∷ u ∷ ts) one e h = absurd h.1
+
+  -- a first name is a first symbol that is one
+  pub unnamed_at : (ss : List Symbol) (ts us : List Token) (w : List ℕ) → ((v : Bor (List ℕ)) → get_or ss 0 d ≡ symbol.Name v → ⊥) → AreTold ss ts → ts ≡ Name w ∷ us → ⊥
+  unnamed_at [] [] us w other h e = cc
+  unnamed_at [] (t ∷ ts) us w other h e = absurd h
+  unnamed_at (s ∷ ss) [] us w other h e = absurd h
+  unnamed_at (s ∷ ss) (t ∷ ts) us w other h e = no_name s w other (subst (λ (x : Token). Tells s x) (first_is t (Name w) ts us e) h.0)
+
+  pub defined_at : (ss : List Symbol) (w : Bor (List ℕ)) (ts : List Token) → 2 ≤ length ss → is_equals_symbol (get_or ss 1 d) ≡ true → get_or ss 0 d ≡ symbol.Name w → AreTold ss ts → Defines ts w.now (drop 2 ss)
+  defined_at [] w ts le q e h = absurd (omega (arith, le))
+  defined_at (s ∷ []) w ts le q e h = absurd (omega (arith, le))
+  defined_at (s ∷ r ∷ ss) w [] le q e h = absurd h
+  defined_at (s ∷ r ∷ ss) w (t ∷ []) le q e h = absurd h.1
+  defined_at (s ∷ r ∷ ss) w (t ∷ u ∷ ts) le q e h =
+      let same : Tells (symbol.Name w) t = subst (λ (x : Symbol). Tells x t) e h.0 in
+      record { behind = ts; defines = ap₂ (λ (x y : Token). x ∷ y ∷ ts) same (equals_is r u h.1.0 q); told = h.1.1 }
+
+  pub unequal_at : (ss : List Symbol) (ts : List Token) → 2 ≤ length ss → is_equals_symbol (get_or ss 1 d) ≡ false → AreTold ss ts → IsNoDefinition ts
+  unequal_at [] ts le q h = absurd (omega (arith, le))
+  unequal_at (s ∷ []) ts le q h = absurd (omega (arith, le))
+  unequal_at (s ∷ r ∷ ss) [] le q h = absurd h
+  unequal_at (s ∷ r ∷ ss) (t ∷ []) le q h = absurd h.1
+  unequal_at (s ∷ r ∷ ss) (t ∷ u ∷ ts) le q h = λ w us e.
+      let no : false ≡ true = sym (ap is_inner (second_is t u (Name w) Equals ts us e)) ∙ (inner_as r u h.1.0 ∙ ap not q) in
+      cc
+
 -- ---- the halves
-
-place_in : (b : Bool) (n i : ℕ) → cond b (Some n) None ≡ Some i → (b ≡ true) × (n ≡ i)
-place_in true n i e = (refl, cc)
-place_in false n i e = absurd cc
-
-no_place : (b : Bool) (n : ℕ) → cond b (Some n) None ≡ None → b ≡ false
-no_place true n e = absurd cc
-no_place false n e = refl
 
 halves_more : (s : Symbol) (t : Token) (ts : List Token) (before behind : List Symbol) → Tells s t → is_inner t ≡ true → AreHalves ts before behind → AreHalves (t ∷ ts) (s ∷ before) behind
 halves_more s t ts before behind h e k = record {
@@ -133,10 +212,14 @@ halves_in [] ts h lt = absurd (omega arith)
 halves_in (s ∷ ss) [] h lt = absurd h
 halves_in (s ∷ ss) (t ∷ ts) h lt = halves_cons s ss t ts (is_equals_symbol s) refl h.0 h.1 lt (halves_in ss ts h.1)
 
-pub halves_at : (ss : List Symbol) (i : ℕ) → position is_equals_symbol ss ≡ Some i → (ts : List Token) → AreTold ss ts → AreHalves ts (take i ss) (drop (i + 1) ss)
-halves_at ss i at ts h =
-    let p = place_in (ltb (prefix_len is_inner_symbol ss) (length ss)) (prefix_len is_inner_symbol ss) i at in
-    subst (λ n. AreHalves ts (take n ss) (drop (n + 1) ss)) p.1 (halves_in ss ts h (ltb-true (prefix_len is_inner_symbol ss) (length ss) p.0))
+module _ (d : Symbol) (ss : List Symbol) (at : ℕ) (passed : prefix_len is_inner_symbol ss ≡ at + prefix_len is_inner_symbol (drop at ss)) where
+  pub halves_at : at < length ss → is_equals_symbol (get_or ss at d) ≡ true → (ts : List Token) → AreTold ss ts → AreHalves ts (take at ss) (drop (at + 1) ss)
+  halves_at lt e ts h =
+      let here : prefix_len is_inner_symbol ss ≡ at = omega (arith, passed, prefix_len-drop_no is_inner_symbol ss at d lt (ap not e)) in
+      subst (λ n. AreHalves ts (take n ss) (drop (n + 1) ss)) here (halves_in ss ts h (omega (arith, here, lt)))
+
+  pub halves_behind : at < length ss → is_equals_symbol (get_or ss at d) ≡ false → prefix_len is_inner_symbol ss ≡ (at + 1) + prefix_len is_inner_symbol (drop (at + 1) ss)
+  halves_behind lt e = omega (arith, passed, prefix_len-drop_yes is_inner_symbol ss at d lt (ap not e))
 
 pass_at : (q : Symbol → Bool) (s : Symbol) (ss : List Symbol) (t : Bool) → q s ≡ t → list_all q (take (prefix_len q ss) ss) ≡ true → list_all q (take (prefix_len q (s ∷ ss)) (s ∷ ss)) ≡ true
 pass_at q s ss true e h = let len : prefix_len q (s ∷ ss) ≡ suc (prefix_len q ss) = rw (e, one-add) refl in ap (λ n. list_all q (take n (s ∷ ss))) len ∙ ap (λ (b : Bool). b && list_all q (take (prefix_len q ss) ss)) e ∙ h
@@ -149,6 +232,5 @@ pass_before q (s ∷ ss) = pass_at q s ss (q s) refl (pass_before q ss)
 all_inner : (ss : List Symbol) → length ss ≤ prefix_len is_inner_symbol ss → list_all is_inner_symbol ss ≡ true
 all_inner ss le = ap (list_all is_inner_symbol) (sym (take_all (prefix_len is_inner_symbol ss) ss le)) ∙ pass_before is_inner_symbol ss
 
-pub no_halves : (ss : List Symbol) → position is_equals_symbol ss ≡ None → (ts : List Token) → AreTold ss ts → list_all is_inner ts ≡ true
-no_halves ss at ts h =
-    sym (tests_as is_inner_symbol is_inner inner_as ss ts h) ∙ all_inner ss (ltb-false (prefix_len is_inner_symbol ss) (length ss) (no_place (ltb (prefix_len is_inner_symbol ss) (length ss)) (prefix_len is_inner_symbol ss) at))
+pub no_halves : (ss : List Symbol) (at : ℕ) → prefix_len is_inner_symbol ss ≡ at + prefix_len is_inner_symbol (drop at ss) → length ss ≤ at → (ts : List Token) → AreTold ss ts → list_all is_inner ts ≡ true
+no_halves ss at passed le ts h = sym (tests_as is_inner_symbol is_inner inner_as ss ts h) ∙ all_inner ss (omega (arith, passed, le))

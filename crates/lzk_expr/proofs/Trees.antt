@@ -1,16 +1,32 @@
 -- A tree, level by level.
-use Rattle.std.proofs.Common.{◌≡◌, Bool, false, List, [], ◌∷◌, ◌++◌, refl, sym, ap, ◌∙◌, rules, Vec, length, length-append, arith}
+use Rattle.std.proofs.Common.{◌≡◌, ℕ, ◌+◌, ◌<◌, Bool, false, List, [], ◌∷◌, ◌++◌, drop, drop-cons, get_or, refl, sym, ap, ap₂, ◌∙◌, rules, Vec, Box, length, length-append, add-one, arith}
 use Rattle.std.specs.declared.alloc.Global.{Global}
 use Rattle.lzk_expr.specs.Trees.{Added, Multiplied, add_part, add_factor, part, factor, Parts, Exprs}
 use Rattle.lzk_expr.specs.Trees as tree
 use Rattle.lzk_expr.specs.Meanings.{Half, multiplied, added, negated}
-use Rattle.lzk_expr.specs.View.{expr_of, part_of, part_list, expr_list}
+use Rattle.lzk_expr.specs.View.{expr_of, part_of, part_list, expr_list, statement_of, statements_of}
 use Rattle.lzk_expr.specs.declared.ast.Part.{Part}
 use Rattle.lzk_expr.specs.declared.ast.Expr.{Expr, the_lemmas}
-use Rattle.lzk_expr.specs.declared.ast.Expr.TheVariants.{Sum, Product}
+use Rattle.lzk_expr.specs.declared.ast.Statement.{Statement}
+use Rattle.lzk_expr.specs.declared.ast.Expr.TheVariants.{Number, Public, Private, Named, Neg, Sum, Product}
 
 pub part_is : (p : Part) → part_of p ≡ (p.minus, expr_of p.expr)
 part_is p = search (rules, the_lemmas)
+
+pub number_is : (n : ℕ) → expr_of (Number n) ≡ tree.Number n
+number_is n = search (rules, the_lemmas)
+
+pub public_is : (i : ℕ) → expr_of (Public i) ≡ tree.PublicInput i
+public_is i = search (rules, the_lemmas)
+
+pub private_is : (i : ℕ) → expr_of (Private i) ≡ tree.PrivateInput i
+private_is i = search (rules, the_lemmas)
+
+pub named_is : (i : ℕ) → expr_of (Named i) ≡ tree.Named i
+named_is i = search (rules, the_lemmas)
+
+pub neg_is : (b : Box Expr Global) → expr_of (Neg b) ≡ tree.Neg (expr_of b.value)
+neg_is b = search (rules, the_lemmas)
 
 pub sum_is : (v : Vec Part Global) → expr_of (Sum v) ≡ Added (part_list v.items)
 sum_is v = search (rules, the_lemmas)
@@ -58,3 +74,16 @@ pub sum_ended : (ps : List Part) (minus : Bool) (fs : Exprs) (e : Expr) (v : Vec
     → expr_of (Sum v) ≡ added (add_part (part_list ps) minus (multiplied fs))
 sum_ended ps minus fs e v some h same =
     sum_is v ∙ ap (λ l. Added (part_list l)) same ∙ ap Added (part_pushed ps minus e) ∙ ap (λ x. Added (add_part (part_list ps) minus x)) h ∙ more_parts ps minus (multiplied fs) some
+
+-- ---- the first of those that are left
+
+pub parts_at : (ps : List Part) (i : ℕ) (p : Part) → i < length ps → p ≡ get_or ps i p → part_list (drop i ps) ≡ part p.minus (expr_of p.expr) (part_list (drop (i + 1) ps))
+parts_at ps i p l is =
+    ap part_list (drop-cons ps i p l ∙ ap₂ (λ (q : Part) qs. q ∷ qs) (sym is) (ap (λ k. drop k ps) (sym (add-one i))))
+    ∙ ap (λ q. part q.0 q.1 (part_list (drop (i + 1) ps))) (part_is p)
+
+pub factors_at : (es : List Expr) (i : ℕ) (e : Expr) → i < length es → e ≡ get_or es i e → expr_list (drop i es) ≡ factor (expr_of e) (expr_list (drop (i + 1) es))
+factors_at es i e l is = ap expr_list (drop-cons es i e l ∙ ap₂ (λ (x : Expr) xs. x ∷ xs) (sym is) (ap (λ k. drop k es) (sym (add-one i))))
+
+pub statements_at : (ms : List Statement) (i : ℕ) (m : Statement) → i < length ms → m ≡ get_or ms i m → statements_of (drop i ms) ≡ statement_of m ∷ statements_of (drop (i + 1) ms)
+statements_at ms i m l is = ap statements_of (drop-cons ms i m l ∙ ap₂ (λ (x : Statement) xs. x ∷ xs) (sym is) (ap (λ k. drop k ms) (sym (add-one i))))

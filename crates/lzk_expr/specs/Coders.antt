@@ -102,8 +102,24 @@ has_room c keys.Private more = nat_le (c.privates + more) most_privates
 has_room c keys.Assert more = nat_lt c.asserts 131072
 has_room c _ more = true
 
--- the rule that an expression's names and numbers break
-abbrev pub broken_by : Bool → Bool → Option SourceKind
-broken_by false below = Some kinds.Unknown
-broken_by true false = Some kinds.TooLarge
-broken_by true true = None
+-- the first rule that a line with an expression breaks: whether that is one, whether a name is declared again, and
+-- whether the names are known and the numbers are below the field's size
+abbrev pub broken_by : Bool → Bool → Bool → Bool → Option SourceKind
+broken_by false twice known below = Some kinds.Syntax
+broken_by true true known below = Some kinds.Twice
+broken_by true false false below = Some kinds.Unknown
+broken_by true false true false = Some kinds.TooLarge
+broken_by true false true true = None
+
+-- the first rule that a line of names breaks: whether there is none, and whether one is declared again
+abbrev pub names_broken_by : Bool → Bool → Option SourceKind
+names_broken_by true twice = Some kinds.Syntax
+names_broken_by false true = Some kinds.Twice
+names_broken_by false false = None
+
+-- the rule that a line breaks before its form is looked at: whether its keyword may stand here, and whether the limits
+-- are kept
+abbrev pub refused_by : Bool → Bool → Option SourceKind
+refused_by false kept = Some kinds.NoField
+refused_by true false = Some kinds.Limit
+refused_by true true = None

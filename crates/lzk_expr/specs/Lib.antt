@@ -25,7 +25,6 @@ pub mod Codes
 pub mod CodeTexts
 pub mod Heads
 pub mod Growing
-pub mod Completing
 pub mod Syntaxes
 pub mod SumWords
 pub mod TreeSteps

@@ -1,7 +1,8 @@
--- The names that are printed, in memory.
-use Rattle.std.specs.Prelude.{ℕ, List, [], ◌∷◌, map, Bool, true, false, codes}
+-- Names in memory that are printed, and text that is written.
+use Rattle.std.specs.Prelude.{◌≡◌, ℕ, List, [], ◌∷◌, ◌++◌, map, Bool, true, false, codes}
 use Rattle.std.specs.Borrow.{Bor}
 use Rattle.lzk_expr.specs.declared.printing.NameLists.{NameLists}
+use Rattle.lzk_expr.specs.declared.printing.Writer.{Writer}
 use Rattle.lzk_expr.specs.Trees.{Parts, Exprs}
 use Rattle.lzk_expr.specs.Printing.{Names, sign_text, sum_text, parts_text, product_text, factors_text}
 
@@ -15,13 +16,10 @@ lists_of n = record {
   lets = bytes_of n.lets.items;
 }
 
-abbrev pub open_text : Bool → List ℕ
-open_text false = []
-open_text true = 40 ∷ []
-
-abbrev pub close_text : Bool → List ℕ
-close_text false = []
-close_text true = 41 ∷ []
+-- a byte that is written only where it is wanted
+abbrev pub wanted_byte : Bool → ℕ → List ℕ
+wanted_byte false b = []
+wanted_byte true b = b ∷ []
 
 -- what stands before a part and before a factor
 abbrev pub between_parts : Bool → Bool → List ℕ
@@ -40,3 +38,11 @@ sum_rest names false ps = parts_text names ps
 abbrev pub product_rest : Names → Bool → Exprs → List ℕ
 product_rest names true es = product_text names es
 product_rest names false es = factors_text names es
+
+-- This was written, or something was lost.
+abbrev pub Writes : List ℕ → Writer → Writer → Type 0
+Writes text old new = new.lost ≡ false → (old.lost ≡ false) × (new.text.items ≡ old.text.items ++ text)
+
+-- All of this was written but for the rest, or something was lost.
+abbrev pub WritesUpTo : List ℕ → List ℕ → Writer → Writer → Type 0
+WritesUpTo all rest old new = new.lost ≡ false → (old.lost ≡ false) × (new.text.items ++ rest ≡ old.text.items ++ all)

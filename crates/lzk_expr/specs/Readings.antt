@@ -7,3 +7,8 @@ abbrev pub Reads : Reading → Option ℕ → Type 0
 Reads NotNumber o = o ≡ None
 Reads Large o = (n : ℕ) × (o ≡ Some n) × (2 ^ 128 ≤ n)
 Reads (Number n) o = o ≡ Some n
+
+-- a number that is held, or one from 2 ^ 128 on
+abbrev pub IsHeld : Option ℕ → ℕ → Type 0
+IsHeld (Some m) n = n ≡ m
+IsHeld None n = 2 ^ 128 ≤ n

@@ -1,12 +1,13 @@
 -- What the form of a statement line asks of its tokens, where symbols are the tokens behind.
 use Rattle.std.specs.Prelude.{◌≡◌, ℕ, List, [], ◌∷◌, Option, Some, None, Bool, true, false}
-use Rattle.lzk_expr.specs.Tokens.{Token, Key, Name}
+use Rattle.lzk_expr.specs.Tokens.{Token, Key, Name, tokens, keeps_characters}
 use Rattle.lzk_expr.specs.TokenReadings.{AreTold}
 use Rattle.lzk_expr.specs.Readers.{IsDefinition, IsSplit, keeps_bounds}
 use Rattle.lzk_expr.specs.declared.tokens.Keyword.{Keyword}
 use Rattle.lzk_expr.specs.declared.tokens.Symbol.{Symbol}
 use Rattle.lzk_expr.specs.declared.tokens.Symbol.TheVariants as symbol
 use Rattle.lzk_expr.specs.declared.rules.Depth.{Depth}
+use Rattle.lzk_expr.specs.declared.rules.Scan.{Scan}
 
 -- a keyword first, and these symbols behind it
 pub record IsKeyed (ts : List Token) (k : Keyword) (rest : List Symbol) : Type 0 where
@@ -44,3 +45,9 @@ is_equals_symbol _ = false
 abbrev pub left_bounds : Option Depth → List Token → Bool
 left_bounds None ts = false
 left_bounds (Some depth) ts = keeps_bounds depth.count ts
+
+-- what a line keeps, and its tokens, where each byte is a blank or of a token
+pub record IsScanOf (scan : Scan) (bytes : List ℕ) (symbols : List Symbol) : Type 0 where
+  pub clean_is : scan.clean ≡ keeps_characters bytes
+  pub bounded_is : scan.clean ≡ true → scan.bounded ≡ keeps_bounds 0 (tokens bytes)
+  pub told : scan.clean ≡ true → AreTold symbols (tokens bytes)

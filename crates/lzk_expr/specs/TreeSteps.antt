@@ -1,7 +1,8 @@
 -- The steps of a tree, as its text has them: in parentheses where it is part of more and would be read otherwise.
-use Rattle.std.specs.Prelude.{ℕ, Bool, true, false, List, [], ◌∷◌, ◌++◌}
+use Rattle.std.specs.Prelude.{◌≡◌, ℕ, Bool, true, false, List, [], ◌∷◌, ◌++◌}
 use Rattle.lzk_expr.specs.declared.printing.Place.{Place}
 use Rattle.lzk_expr.specs.declared.printing.Place.TheVariants as place
+use Rattle.lzk_expr.specs.declared.code.Word.{Word}
 use Rattle.lzk_expr.specs.declared.tree_code.Written.{Written}
 use Rattle.lzk_expr.specs.Trees.{Expr, Number, PublicInput, PrivateInput, Named, Neg, Added, Multiplied, Parts, NoPart, part, Exprs, NoExpr, factor, Statement, DeclarePublic, DeclarePrivate, Define, Assertion}
 use Rattle.lzk_expr.specs.Meanings.{Step, Atom, Plus, Minus, Times, Open, Close}
@@ -70,12 +71,25 @@ product_rest false es = factors_steps es
 
 -- ---- in memory
 
-abbrev pub Adds : List Step → Written → Written → Type 0
-Adds steps old new = AddsSteps steps old.words.items new.words.items old.numbers.items new.numbers.items
+-- a word that is put down only where it is wanted
+abbrev pub wanted_word : Bool → Word → List Word
+wanted_word false w = []
+wanted_word true w = w ∷ []
 
--- The words are the code of these statements, whatever numbers come behind.
+-- These words were put down, or something was lost.
+abbrev pub Puts : List Word → Written → Written → Type 0
+Puts words old new = new.lost ≡ false
+    → (old.lost ≡ false) × (new.words.items ≡ old.words.items ++ words) × (new.numbers.items ≡ old.numbers.items)
+
+-- These steps were put down, or something was lost.
+abbrev pub Adds : List Step → Written → Written → Type 0
+Adds steps old new = new.lost ≡ false
+    → (old.lost ≡ false) × AddsSteps steps old.words.items new.words.items old.numbers.items new.numbers.items
+
+-- The words are the code of these statements, whatever numbers come behind, or something was lost.
 abbrev pub HoldsCode : Written → List Statement → Type 0
-HoldsCode w ss = (behind : List ℕ) → AreCodeOf ss (code_words (w.numbers.items ++ behind) w.words.items)
+HoldsCode w ss = w.lost ≡ false → (behind : List ℕ)
+    → AreCodeOf ss (code_words (w.numbers.items ++ behind) w.words.items)
 
 -- sums have two parts or more, of which the first is added, and products two factors or more
 abbrev pub HasShape : Expr → Type 0

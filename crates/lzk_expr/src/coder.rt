@@ -1,23 +1,24 @@
 //! Reading statement lines to code.
 
-ghost use Rattle.std.specs.Prelude.{◌≡◌, ◌≤◌, ◌<◌, ◌+◌, ◌^◌, ◌&&◌, ◌||◌, ℕ, List, length, is_some, true, false};
+ghost use Rattle.std.specs.Prelude.{◌≡◌, ◌≤◌, ◌<◌, ◌+◌, ◌^◌, ◌&&◌, ◌||◌, ℕ, List, length};
+ghost use Rattle.std.specs.Prelude.{is_some, true, false};
 ghost use Rattle.std.specs.Prelude.{None, IfOk, OnOk, MatchOption, [], ◌∷◌};
-ghost use Rattle.lzk_expr.specs.Texts.{lines, first_line, first_content, IsLine};
+ghost use Rattle.lzk_expr.specs.Texts.{lines, first_line, first_content, content, IsLine};
 ghost use Rattle.lzk_profile.specs.Profile.{most_privates};
 ghost use Rattle.lzk_expr.specs.Tokens.{tokens, keeps_characters};
 ghost use Rattle.lzk_expr.specs.TokenReadings.{AreTold};
 ghost use Rattle.lzk_expr.specs.Sources.{Before, nothing_yet, is_field};
 ghost use Rattle.lzk_expr.specs.Table.{found};
 ghost use Rattle.lzk_expr.specs.Readers.{keeps_bounds, key_of, input_statement};
-ghost use Rattle.lzk_expr.specs.Coders.{IsCoder, with_statement, TakesSymbols, TakesCodeLine, TakesTextLine};
-ghost use Rattle.lzk_expr.specs.Coders.{input_count, has_room, used, broken_by};
+ghost use Rattle.lzk_expr.specs.Coders.{IsCoder, with_statement, TakesSymbols, TakesTextLine};
+ghost use Rattle.lzk_expr.specs.Coders.{input_count, has_room, used, broken_by, names_broken_by, refused_by};
 ghost use Rattle.lzk_expr.specs.declared.tokens.Keyword.TheVariants.{Field, Let, Assert};
 
 use crate::ast::FieldId;
 use crate::code::Word;
 use crate::heads::Input;
 use crate::lex::lex_line;
-use crate::line_forms::{are_names, definition, field_of, first_keyword, halves};
+use crate::line_forms::{definition, field_of, first_keyword, halves};
 use crate::names::{Binding, Names};
 use crate::source_fault::SourceKind;
 use crate::sum_words::{Marks, push_sum};
@@ -38,10 +39,16 @@ pub(crate) struct Coder<'a> {
     pub asserts: u32,
 }
 
-// The rule that an expression's names and numbers break.
-fn broken(marks: Marks) -> Option<SourceKind>
-    ensures { result ≡ broken_by marks.known marks.below }
+// The first rule that a line with an expression breaks, where it is known whether it declares a name again.
+fn broken(marks: Marks, twice: bool) -> Option<SourceKind>
+    ensures { result ≡ broken_by marks.formed twice marks.known marks.below }
 {
+    if !marks.formed {
+        return Some(SourceKind::Syntax);
+    }
+    if twice {
+        return Some(SourceKind::Twice);
+    }
     if !marks.known {
         return Some(SourceKind::Unknown);
     }
@@ -52,13 +59,36 @@ fn broken(marks: Marks) -> Option<SourceKind>
 }
 
 fn both(one: Marks, other: Marks) -> Marks
-    ensures known { result.known ≡ (one.known && other.known) }
-    ensures below { result.below ≡ (one.below && other.below) }
+    ensures { result ≡ record {
+      formed = one.formed && other.formed;
+      known = one.known && other.known;
+      below = one.below && other.below;
+    } }
 {
     Marks {
+        formed: one.formed && other.formed,
         known: one.known && other.known,
         below: one.below && other.below,
     }
+}
+
+fn either(x: bool, y: bool) -> bool
+    ensures { result ≡ (x || y) }
+{
+    x || y
+}
+
+// The first rule that a line of names breaks.
+fn names_broken(none: bool, twice: bool) -> Option<SourceKind>
+    ensures { result ≡ names_broken_by none twice }
+{
+    if none {
+        return Some(SourceKind::Syntax);
+    }
+    if twice {
+        return Some(SourceKind::Twice);
+    }
+    None
 }
 
 impl<'a> Coder<'a> {
@@ -66,9 +96,18 @@ impl<'a> Coder<'a> {
         ensures holds { IsCoder result nothing_yet }
         ensures used { used result ≡ 0 }
     {
+        Coder::with_words(alloc, Vec::new(alloc))
+    }
+
+    // As `new`, with a list for the words.
+    pub fn with_words(alloc: Global, words: Vec<Word>) -> Coder<'a>
+        requires none { words.items ≡ [] }
+        ensures holds { IsCoder result nothing_yet }
+        ensures used { used result ≡ 0 }
+    {
         Coder {
             field: None,
-            words: Vec::new(alloc),
+            words,
             numbers: Vec::new(alloc),
             names: Names::new(alloc),
             publics: 0,
@@ -146,20 +185,15 @@ impl<'a> Coder<'a> {
         ensures takes { IfOk result (TakesSymbols self.old self.new (key_of input) symbols.now) }
         ensures used { OnOk result (used self.new ≡ used self.old) }
     {
-        if symbols.is_empty() {
-            return Ok(Some(SourceKind::Syntax));
-        }
-        if !are_names(symbols) {
-            return Ok(Some(SourceKind::Syntax));
-        }
+        let mut twice = false;
         for symbol in symbols {
-            if let Symbol::Name(name) = *symbol {
-                if self.declare_input(input, name)? {
-                    return Ok(Some(SourceKind::Twice));
-                }
-            }
+            let Symbol::Name(name) = *symbol else {
+                return Ok(Some(SourceKind::Syntax));
+            };
+            let known = self.declare_input(input, name)?;
+            twice = either(twice, known);
         }
-        Ok(None)
+        Ok(names_broken(symbols.is_empty(), twice))
     }
 
     fn take_let(&mut self, symbols: &[Symbol<'a>]) -> Result<Option<SourceKind>, AllocError>
@@ -172,16 +206,17 @@ impl<'a> Coder<'a> {
         let Some((name, sum)) = definition(symbols) else {
             return Ok(Some(SourceKind::Syntax));
         };
-        let pushed = push_sum(field, &self.names, sum, &mut self.words, &mut self.numbers)?;
-        let Some(marks) = pushed else {
-            return Ok(Some(SourceKind::Syntax));
-        };
-        self.words.push(Word::Define)?;
-        if self.names.declare(name, Binding::Named(self.lets))? {
-            return Ok(Some(SourceKind::Twice));
-        }
+        let marks = push_sum(
+            field,
+            &self.names,
+            sum,
+            Word::Define,
+            &mut self.words,
+            &mut self.numbers,
+        )?;
+        let twice = self.names.declare(name, Binding::Named(self.lets))?;
         self.lets += 1;
-        Ok(broken(marks))
+        Ok(broken(marks, twice))
     }
 
     fn take_assert(&mut self, symbols: &[Symbol<'a>]) -> Result<Option<SourceKind>, AllocError>
@@ -195,18 +230,24 @@ impl<'a> Coder<'a> {
         let Some((lhs, rhs)) = halves(symbols) else {
             return Ok(Some(SourceKind::Syntax));
         };
-        let first = push_sum(field, &self.names, lhs, &mut self.words, &mut self.numbers)?;
-        let Some(left) = first else {
-            return Ok(Some(SourceKind::Syntax));
-        };
-        self.words.push(Word::Left)?;
-        let second = push_sum(field, &self.names, rhs, &mut self.words, &mut self.numbers)?;
-        let Some(right) = second else {
-            return Ok(Some(SourceKind::Syntax));
-        };
-        self.words.push(Word::Right)?;
+        let left = push_sum(
+            field,
+            &self.names,
+            lhs,
+            Word::Left,
+            &mut self.words,
+            &mut self.numbers,
+        )?;
+        let right = push_sum(
+            field,
+            &self.names,
+            rhs,
+            Word::Right,
+            &mut self.words,
+            &mut self.numbers,
+        )?;
         self.asserts += 1;
-        Ok(broken(both(left, right)))
+        Ok(broken(both(left, right), false))
     }
 
     fn take_form(
@@ -229,29 +270,43 @@ impl<'a> Coder<'a> {
         }
     }
 
-    // Takes a statement line's symbols, where it is known whether they keep their bounds.
+    // The rule that a line breaks before its form is looked at.
+    fn refused(&self, bounded: bool, keyword: Keyword, symbols: &[Symbol<'a>]) -> Option<SourceKind>
+        ensures { result ≡ refused_by (is_some self.now.field || is_field keyword)
+            (bounded && has_room self.now keyword (length symbols.now)) }
+    {
+        if !self.may_have(keyword) {
+            return Some(SourceKind::NoField);
+        }
+        if !bounded {
+            return Some(SourceKind::Limit);
+        }
+        if !self.has_room(keyword, symbols) {
+            return Some(SourceKind::Limit);
+        }
+        None
+    }
+
+    // Takes a line's symbols, where it is known whether they keep their bounds. A line with none is skipped.
     fn take_line(
         &mut self,
         bounded: bool,
         symbols: &[Symbol<'a>],
     ) -> Result<Option<SourceKind>, AllocError>
         requires { used self.old + length symbols.now < 2 ^ 32 }
-        ensures takes { IfOk result (λ broken. (b : Before) (bytes : List ℕ) → IsCoder self.old b
-            → keeps_characters bytes ≡ true → AreTold symbols.now (tokens bytes)
-            → bounded ≡ keeps_bounds 0 (tokens bytes) → TakesCodeLine b self.new bytes broken) }
+        ensures takes { IfOk result (λ broken. (b : Before) (line : List ℕ) → IsCoder self.old b
+            → keeps_characters (content line) ≡ true → AreTold symbols.now (tokens (content line))
+            → bounded ≡ keeps_bounds 0 (tokens (content line)) → TakesTextLine b self.new line broken) }
         ensures used { OnOk result (used self.new ≤ used self.old + length symbols.now) }
     {
+        if symbols.is_empty() {
+            return Ok(None);
+        }
         let Some((keyword, rest)) = first_keyword(symbols) else {
             return Ok(Some(SourceKind::Keyword));
         };
-        if !self.may_have(keyword) {
-            return Ok(Some(SourceKind::NoField));
-        }
-        if !bounded {
-            return Ok(Some(SourceKind::Limit));
-        }
-        if !self.has_room(keyword, rest) {
-            return Ok(Some(SourceKind::Limit));
+        if let Some(kind) = self.refused(bounded, keyword, rest) {
+            return Ok(Some(kind));
         }
         self.take_form(keyword, rest)
     }
@@ -277,9 +332,6 @@ impl<'a> Coder<'a> {
             return Ok((Some(SourceKind::Character), rest));
         }
         let found: &[Symbol<'a>] = symbols;
-        if found.is_empty() {
-            return Ok((None, rest));
-        }
         let broken = self.take_line(scan.bounded, found)?;
         Ok((broken, rest))
     }

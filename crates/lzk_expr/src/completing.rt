@@ -1,58 +1,80 @@
 //! Statements that are made of their heads and their code.
 
-ghost use Rattle.std.specs.Prelude.{◌≡◌, ◌++◌, ◌∷◌, [], List, true, IfOk};
+ghost use Rattle.std.specs.Prelude.{◌≡◌, ◌++◌, ◌∷◌, [], List, OnOk};
 ghost use Rattle.lzk_expr.specs.Trees as tree;
-ghost use Rattle.lzk_expr.specs.View.{statements_of};
-ghost use Rattle.lzk_expr.specs.Codes.{Nameless, nameless, AreCodeOf, code_words};
+ghost use Rattle.lzk_expr.specs.View.{expr_of, statement_of, statements_of};
+ghost use Rattle.lzk_expr.specs.Codes.{AreCodeOf, code_words, nothing_coded};
 ghost use Rattle.lzk_expr.specs.Heads.{head_of, heads_of, heading, headings};
-ghost use Rattle.lzk_expr.specs.Growing.{all_ended};
-ghost use Rattle.lzk_expr.specs.Completing.{IsCompleted};
+ghost use Rattle.lzk_expr.specs.Growing.{IsGrown, all_exprs, exprs_in};
 
-use crate::ast::Statement;
+use crate::ast::{Expr, Statement};
 use crate::code::Word;
-use crate::growing::{Ended, Grower};
+use crate::growing::Grower;
 use crate::heads::Head;
 use std::alloc::{AllocError, Global};
 
+// The expression that ended last.
+fn last(ended: &mut Vec<Expr>) -> Expr
+    ensures { (before : List tree.Expr) (e : tree.Expr) → all_exprs ended.old.items ≡ before ++ e ∷ []
+        → (expr_of result ≡ e) × (all_exprs ended.new.items ≡ before) }
+{
+    match ended.pop() {
+        Some(expr) => expr,
+        None => Expr::Number(0),
+    }
+}
+
 // The statement with this head, whose expressions ended last.
-fn completed(head: Head, ended: &mut Vec<Ended>) -> Option<Statement>
-    ensures { (before : List Nameless) (s : tree.Statement) → head_of head ≡ heading s
-        → all_ended ended.old.items ≡ before ++ nameless (s ∷ [])
-        → IsCompleted s before (all_ended ended.new.items) result }
+fn completed(head: Head, ended: &mut Vec<Expr>) -> Statement
+    ensures { (before : List tree.Expr) (s : tree.Statement) → head_of head ≡ heading s
+        → all_exprs ended.old.items ≡ before ++ exprs_in (s ∷ [])
+        → (statement_of result ≡ s) × (all_exprs ended.new.items ≡ before) }
 {
     match head {
-        Head::Public(name) => Some(Statement::Public(name)),
-        Head::Private(name) => Some(Statement::Private(name)),
-        Head::Let(name) => match ended.pop() {
-            Some(Ended::Definition(expr)) => Some(Statement::Let(name, expr)),
-            _ => None,
-        },
-        Head::Assert => match ended.pop() {
-            Some(Ended::Equation(left, right)) => Some(Statement::Assert(left, right)),
-            _ => None,
-        },
+        Head::Public(name) => Statement::Public(name),
+        Head::Private(name) => Statement::Private(name),
+        Head::Let(name) => Statement::Let(name, last(ended)),
+        Head::Assert => {
+            let right = last(ended);
+            let left = last(ended);
+            Statement::Assert(left, right)
+        }
     }
 }
 
 // Makes the statements from the last one on, and puts them in order.
 fn complete(
     heads: &mut Vec<Head>,
-    ended: &mut Vec<Ended>,
+    ended: &mut Vec<Expr>,
     statements: &mut Vec<Statement>,
-) -> Result<bool, AllocError>
+) -> Result<(), AllocError>
     requires { statements.old.items ≡ [] }
     ensures { (ss : List tree.Statement) → heads_of heads.old.items ≡ headings ss
-        → all_ended ended.old.items ≡ nameless ss
-        → IfOk result (λ whole. (whole ≡ true) × (statements_of statements.new.items ≡ ss)) }
+        → all_exprs ended.old.items ≡ exprs_in ss → OnOk result (statements_of statements.new.items ≡ ss) }
 {
     while let Some(head) = heads.pop() {
-        let Some(statement) = completed(head, ended) else {
-            return Ok(false);
-        };
-        statements.push(statement)?;
+        statements.push(completed(head, ended))?;
     }
     statements.reverse();
-    Ok(true)
+    Ok(())
+}
+
+// Takes the code, and makes the statements with these heads of it.
+fn grow(
+    alloc: Global,
+    grower: &mut Grower,
+    words: &[Word],
+    numbers: &[u128],
+    heads: &mut Vec<Head>,
+    statements: &mut Vec<Statement>,
+) -> Result<(), AllocError>
+    requires { statements.old.items ≡ [] }
+    ensures { (ss : List tree.Statement) → IsGrown grower.old nothing_coded → heads_of heads.old.items ≡ headings ss
+        → AreCodeOf ss (code_words numbers.now words.now)
+        → OnOk result (statements_of statements.new.items ≡ ss) }
+{
+    grower.take_all(alloc, words, numbers)?;
+    complete(heads, &mut grower.ended, statements)
 }
 
 // Makes the statements with these heads and this code.
@@ -62,15 +84,14 @@ pub(crate) fn make_statements(
     numbers: &[u128],
     heads: &mut Vec<Head>,
     statements: &mut Vec<Statement>,
-) -> Result<bool, AllocError>
+) -> Result<(), AllocError>
     requires { statements.old.items ≡ [] }
     ensures { (ss : List tree.Statement) → heads_of heads.old.items ≡ headings ss
         → AreCodeOf ss (code_words numbers.now words.now)
-        → IfOk result (λ whole. (whole ≡ true) × (statements_of statements.new.items ≡ ss)) }
+        → OnOk result (statements_of statements.new.items ≡ ss) }
 {
     let mut grower = Grower::new(alloc);
-    if !grower.take_all(alloc, words, numbers)? {
-        return Ok(false);
-    }
-    complete(heads, &mut grower.ended, statements)
+    let made = grow(alloc, &mut grower, words, numbers, heads, statements);
+    drop(grower);
+    made
 }

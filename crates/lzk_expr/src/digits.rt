@@ -1,9 +1,8 @@
 //! Numbers in text.
 
-ghost use Rattle.std.specs.Prelude.{◌≡◌, ℕ, ◌≤◌, ◌<◌, ◌^◌, ◌+◌, ◌*◌, Option, Some, None, length, nat_lt};
-ghost use Rattle.std.specs.List.{list_all};
+ghost use Rattle.std.specs.Prelude.{◌≡◌, ℕ, ◌≤◌, ◌+◌, ◌*◌, length};
 ghost use Rattle.lzk_expr.specs.Texts.{digit_of, value_in, number_of};
-ghost use Rattle.lzk_expr.specs.Readings.{Reads};
+ghost use Rattle.lzk_expr.specs.Readings.{Reads, IsHeld};
 
 /// What a word is: no number, a number from 2 ^ 128 on, or this one.
 #[derive(Clone, Copy)]
@@ -18,6 +17,7 @@ pub(crate) enum Reading {
 struct Base {
     number: u8,
     ghost some: { 1 ≤ number },
+    ghost few: { number ≤ 16 },
 }
 
 fn digit(c: u8) -> u8
@@ -31,43 +31,60 @@ fn digit(c: u8) -> u8
     }
 }
 
+// The number with one more digit, or none from 2 ^ 128 on.
+fn with_digit(have: Option<u128>, base: Base, d: u8) -> Option<u128>
+    ensures { (n : ℕ) → IsHeld have n → IsHeld result (n * base.number + d) }
+{
+    let Some(n) = have else {
+        return None;
+    };
+    let Some(shifted) = n.checked_mul(base.number as u128) else {
+        return None;
+    };
+    shifted.checked_add(d as u128)
+}
+
 fn value(base: Base, digits: &[u8]) -> Reading
     ensures { Reads result (value_in base.number 0 digits.now) }
 {
-    let mut have = 0u128;
-    for i in 0..digits.len() {
-        let d = digit(digits[i]);
+    let mut have = Some(0u128);
+    for c in digits {
+        let d = digit(*c);
         if d >= base.number {
             return Reading::NotNumber;
         }
-        let Some(shifted) = have.checked_mul(base.number as u128) else {
-            let (_, after) = digits.split_at(i + 1);
-            return large(base, after);
-        };
-        let Some(sum) = shifted.checked_add(d as u128) else {
-            let (_, after) = digits.split_at(i + 1);
-            return large(base, after);
-        };
-        have = sum;
+        have = with_digit(have, base, d);
     }
-    Reading::Number(have)
+    match have {
+        Some(n) => Reading::Number(n),
+        None => Reading::Large,
+    }
 }
 
-fn are_digits(base: Base, digits: &[u8]) -> bool
-    ensures { result ≡ list_all (λ c. nat_lt (digit_of c) base.number) digits.now }
+// As `value`, of so few digits that their number has at most 64 bits.
+fn short_value(base: Base, digits: &[u8]) -> Reading
+    requires { length digits.now ≤ 16 }
+    ensures { Reads result (value_in base.number 0 digits.now) }
 {
-    digits.iter().all(|c| digit(*c) < base.number)
+    let mut have = 0u64;
+    for c in digits {
+        let d = digit(*c);
+        if d >= base.number {
+            return Reading::NotNumber;
+        }
+        have = have * base.number as u64 + d as u64;
+    }
+    Reading::Number(have as u128)
 }
 
-// What a number from 2 ^ 128 on reads as with these digits behind it.
-fn large(base: Base, digits: &[u8]) -> Reading
-    ensures { (have : ℕ) → 2 ^ 128 ≤ have → Reads result (value_in base.number have digits.now) }
+// The number that digits of this base are.
+fn value_of(base: Base, digits: &[u8]) -> Reading
+    ensures { Reads result (value_in base.number 0 digits.now) }
 {
-    if are_digits(base, digits) {
-        Reading::Large
-    } else {
-        Reading::NotNumber
+    if digits.len() <= 16 {
+        return short_value(base, digits);
     }
+    value(base, digits)
 }
 
 /// The number that a word is.
@@ -76,10 +93,10 @@ pub(crate) fn number(word: &[u8]) -> Reading
     ensures { Reads result (number_of word.now) }
 {
     if word.len() > 2 && word[0] == b'0' && word[1] == b'x' {
-        return value(Base { number: 16 }, &word[2..]);
+        return value_of(Base { number: 16 }, &word[2..]);
     }
     if word.is_empty() {
         return Reading::NotNumber;
     }
-    value(Base { number: 10 }, word)
+    value_of(Base { number: 10 }, word)
 }

@@ -43,8 +43,9 @@ fn sum<F: Field>(public: &[F], private: &[F], lets: &[F], parts: &[Part]) -> F
     let mut i = parts.len();
     while i > 0 {
         i -= 1;
-        let x = value(public, private, lets, &parts[i].expr);
-        let signed = if parts[i].minus { x.neg() } else { x };
+        let part = &parts[i];
+        let x = value(public, private, lets, &part.expr);
+        let signed = if part.minus { x.neg() } else { x };
         total = signed.add(total);
     }
     total

@@ -2,21 +2,12 @@
 
 ghost use Rattle.std.specs.Prelude.{◌≡◌, OnOk, IfOk};
 ghost use Rattle.lzk_expr.specs.Meanings.{with_atom, next_part, parts_of_half, multiplied, added, negated, empty};
-ghost use Rattle.lzk_expr.specs.View.{expr_of, part_list, expr_list};
-ghost use Rattle.lzk_expr.specs.Trees.{add_factor};
-ghost use Rattle.lzk_expr.specs.Halves.{factors_of, half_of};
+ghost use Rattle.lzk_expr.specs.View.{expr_of, expr_list};
+ghost use Rattle.lzk_expr.specs.Halves.{half_of};
 
 use crate::ast::{Expr, Part};
 use std::alloc::{AllocError, Global};
 use std::mem;
-
-// The factors of a product so far. Most products have one, which needs no list.
-#[derive(Drop)]
-pub(crate) enum Factors {
-    Nothing,
-    One(Expr),
-    Many(Vec<Expr>),
-}
 
 // The parts before, the sign of the product that is read, its factors so far, and whether a minus
 // stands before the next one.
@@ -24,7 +15,7 @@ pub(crate) enum Factors {
 pub(crate) struct Half {
     pub parts: Vec<Part>,
     pub minus: bool,
-    pub factors: Factors,
+    pub factors: Vec<Expr>,
     pub negated: bool,
 }
 
@@ -34,26 +25,8 @@ pub(crate) fn empty(alloc: Global) -> Half
     Half {
         parts: Vec::new(alloc),
         minus: false,
-        factors: Factors::Nothing,
+        factors: Vec::new(alloc),
         negated: false,
-    }
-}
-
-fn with_factor(alloc: Global, factors: Factors, expr: Expr) -> Result<Factors, AllocError>
-    ensures { IfOk result (λ f. factors_of f ≡ add_factor (factors_of factors) (expr_of expr)) }
-{
-    match factors {
-        Factors::Nothing => Ok(Factors::One(expr)),
-        Factors::One(first) => {
-            let mut list = Vec::with_capacity(alloc, 3)?;
-            list.push(first)?;
-            list.push(expr)?;
-            Ok(Factors::Many(list))
-        }
-        Factors::Many(mut list) => {
-            list.push(expr)?;
-            Ok(Factors::Many(list))
-        }
     }
 }
 
@@ -66,16 +39,6 @@ fn joined(mut factors: Vec<Expr>) -> Expr
     match factors.pop() {
         Some(only) => only,
         None => Expr::Product(factors),
-    }
-}
-
-fn product_of(alloc: Global, factors: Factors) -> Expr
-    ensures { expr_of result ≡ multiplied (factors_of factors) }
-{
-    match factors {
-        Factors::Nothing => joined(Vec::new(alloc)),
-        Factors::One(only) => only,
-        Factors::Many(list) => joined(list),
     }
 }
 
@@ -94,9 +57,7 @@ pub(crate) fn take_atom(alloc: Global, half: &mut Half, atom: Expr) -> Result<()
     ensures { OnOk result (half_of half.new ≡ with_atom (half_of half.old) (expr_of atom)) }
 {
     let atom = signed(alloc, half.negated, atom)?;
-    let before = mem::replace(&mut half.factors, Factors::Nothing);
-    let factors = with_factor(alloc, before, atom)?;
-    half.factors = factors;
+    half.factors.push(atom)?;
     half.negated = false;
     Ok(())
 }
@@ -105,11 +66,10 @@ pub(crate) fn take_atom(alloc: Global, half: &mut Half, atom: Expr) -> Result<()
 pub(crate) fn end_product(alloc: Global, half: &mut Half, minus: bool) -> Result<(), AllocError>
     ensures { OnOk result (half_of half.new ≡ next_part (half_of half.old) minus) }
 {
-    let factors = mem::replace(&mut half.factors, Factors::Nothing);
-    let product = product_of(alloc, factors);
+    let factors = mem::replace(&mut half.factors, Vec::new(alloc));
     half.parts.push(Part {
         minus: half.minus,
-        expr: product,
+        expr: joined(factors),
     })?;
     half.minus = minus;
     half.negated = false;
@@ -117,7 +77,7 @@ pub(crate) fn end_product(alloc: Global, half: &mut Half, minus: bool) -> Result
 }
 
 // The sum that was read.
-pub(crate) fn ended(alloc: Global, half: Half) -> Result<Expr, AllocError>
+pub(crate) fn ended(half: Half) -> Result<Expr, AllocError>
     ensures { IfOk result (λ e. expr_of e ≡ added (parts_of_half (half_of half))) }
 {
     let Half {
@@ -126,7 +86,7 @@ pub(crate) fn ended(alloc: Global, half: Half) -> Result<Expr, AllocError>
         factors,
         negated: _,
     } = half;
-    let product = product_of(alloc, factors);
+    let product = joined(factors);
     if parts.is_empty() {
         return Ok(product);
     }

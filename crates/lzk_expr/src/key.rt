@@ -31,7 +31,7 @@ impl<'a> Key<'a> {
 }
 
 #[tactic(auto, using(crate::proofs::Alike::unlike_length, crate::proofs::Alike::unlike_place, crate::proofs::Alike::alike_more, crate::proofs::Alike::alike))]
-fn are_same(v: &[u8], w: &[u8]) -> bool
+pub(crate) fn are_same(v: &[u8], w: &[u8]) -> bool
     ensures { result ≡ bytes_eq v.now w.now }
 {
     if v.len() != w.len() {

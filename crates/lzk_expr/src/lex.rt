@@ -1,12 +1,11 @@
 //! The tokens of a text's first line, found once.
 
-ghost use Rattle.std.specs.Prelude.{◌≡◌, ◌≤◌, ◌+◌, List, ◌∷◌, length, drop, true, ◌||◌, [], IfOk, MatchOption};
+ghost use Rattle.std.specs.Prelude.{◌≡◌, ◌≤◌, ◌+◌, List, ◌∷◌, length, drop, ◌||◌, [], IfOk, MatchOption};
 ghost use Rattle.std.specs.List.{prefix_len};
 ghost use Rattle.lzk_expr.specs.Texts.{is_feed, is_hash, lines, first_line, first_content, IsLine};
-ghost use Rattle.lzk_expr.specs.Tokens.{Token, tokens, token_of, in_word, keeps_characters};
-ghost use Rattle.lzk_expr.specs.TokenReadings.{piece_of, AreTold};
-ghost use Rattle.lzk_expr.specs.SymbolForms.{left_bounds};
-ghost use Rattle.lzk_expr.specs.Readers.{keeps_bounds};
+ghost use Rattle.lzk_expr.specs.Tokens.{Token, token_of, in_word};
+ghost use Rattle.lzk_expr.specs.TokenReadings.{piece_of};
+ghost use Rattle.lzk_expr.specs.SymbolForms.{left_bounds, IsScanOf};
 
 use crate::rules::{Depth, Scan, behind_piece, is_sign, unopened};
 use crate::tokens::{Piece, Symbol, in_word, sign_symbol, word_symbol};
@@ -52,11 +51,7 @@ fn lex_content<'a>(
     text: &'a [u8],
     symbols: &mut Vec<Symbol<'a>>,
 ) -> Result<(Scan, usize), AllocError>
-    ensures clean { IfOk result (λ x. x.0.clean ≡ keeps_characters (first_content text.now)) }
-    ensures bounded { IfOk result (λ x. x.0.clean ≡ true
-        → x.0.bounded ≡ keeps_bounds 0 (tokens (first_content text.now))) }
-    ensures told { IfOk result (λ x. x.0.clean ≡ true
-        → AreTold symbols.new.items (tokens (first_content text.now))) }
+    ensures scan { IfOk result (λ x. IsScanOf x.0 (first_content text.now) symbols.new.items) }
     ensures within { IfOk result (λ x. x.1 ≤ length (first_content text.now)) }
 {
     symbols.clear();
@@ -100,11 +95,7 @@ pub(crate) fn lex_line<'a>(
     text: &'a [u8],
     symbols: &mut Vec<Symbol<'a>>,
 ) -> Result<(Scan, Option<&'a [u8]>), AllocError>
-    ensures clean { IfOk result (λ x. x.0.clean ≡ keeps_characters (first_content text.now)) }
-    ensures bounded { IfOk result (λ x. x.0.clean ≡ true
-        → x.0.bounded ≡ keeps_bounds 0 (tokens (first_content text.now))) }
-    ensures told { IfOk result (λ x. x.0.clean ≡ true
-        → AreTold symbols.new.items (tokens (first_content text.now))) }
+    ensures scan { IfOk result (λ x. IsScanOf x.0 (first_content text.now) symbols.new.items) }
     ensures rest { IfOk result (λ x. MatchOption x.1 (lines text.now ≡ first_line text.now ∷ [])
         (λ rest. IsLine text.now (first_line text.now) rest.now)) }
 {

@@ -66,8 +66,7 @@ fn take_source<'a>(
         (IsFirstSourceFault text.now.bytes.now) }
 {
     let last = take_lines(coder, symbols, heads, text)?;
-    let made = make_statements(alloc, &coder.words, &coder.numbers, heads, statements)?;
-    prove!(made);
+    make_statements(alloc, &coder.words, &coder.numbers, heads, statements)?;
     ended(coder, last)
 }
 

@@ -2,14 +2,14 @@
 
 ghost use Rattle.std.specs.Prelude.{◌≡◌, ◌∷◌, ◌++◌, ◌==◌, [], List, codes, decimal, slice_index_or, IfOk, OnOk};
 ghost use Rattle.lzk_expr.specs.Grammar.{field_name};
-ghost use Rattle.lzk_expr.specs.NameLists.{bytes_of, lists_of, open_text, close_text, between_parts, between_factors};
+ghost use Rattle.lzk_expr.specs.NameLists.{bytes_of, lists_of, wanted_byte, between_parts, between_factors, Writes};
 ghost use Rattle.lzk_expr.specs.Printing.{Names, closed_sum, closed_product, closed_negative, expr_text, sum_text};
-ghost use Rattle.lzk_expr.specs.Printing.{product_text, statement_text, statement_line, source_text, names_of};
+ghost use Rattle.lzk_expr.specs.Printing.{product_text, statement_text, source_text, names_of};
 ghost use Rattle.lzk_expr.specs.Printing.{public_names, private_names, let_names};
 ghost use Rattle.lzk_expr.specs.Sources.{SourceText};
 ghost use Rattle.lzk_expr.specs.View.{expr_of, part_list, expr_list, statement_of, statements_of, tree_of};
 
-use crate::ast::{Expr, FieldId, Part, Statement};
+use crate::ast::{Expr, FieldId, Name, Part, Statement};
 use crate::source::Source;
 use lzk_profile::FIELD_WORD;
 use std::alloc::{AllocError, Global};
@@ -59,73 +59,80 @@ pub(crate) fn is_closed_negative(at: Place) -> bool
     }
 }
 
-fn print_name(names: &[&[u8]], i: u32, text: &mut Vec<u8>) -> Result<(), AllocError>
-    ensures { OnOk result (text.new.items ≡ text.old.items ++ slice_index_or (bytes_of names.now) i []) }
+// Text that is written. What finds no memory is lost, and that is noted.
+#[derive(Drop)]
+pub(crate) struct Writer {
+    pub text: Vec<u8>,
+    pub lost: bool,
+}
+
+impl Writer {
+    fn write(&mut self, bytes: &[u8])
+        ensures { Writes bytes.now self.old self.new }
+    {
+        match self.text.extend_from_slice(bytes) {
+            Ok(()) => {}
+            Err(_) => self.lost = true,
+        }
+    }
+
+    fn put(&mut self, wanted: bool, byte: u8)
+        ensures { Writes (wanted_byte wanted byte) self.old self.new }
+    {
+        if !wanted {
+            return;
+        }
+        match self.text.push(byte) {
+            Ok(()) => {}
+            Err(_) => self.lost = true,
+        }
+    }
+}
+
+fn print_name(names: &[&[u8]], i: u32, text: &mut Writer)
+    ensures { Writes (slice_index_or (bytes_of names.now) i []) text.old text.new }
 {
     match names.get(i as usize) {
-        Some(name) => text.extend_from_slice(name),
-        None => Ok(()),
+        Some(name) => text.write(name),
+        None => {}
     }
 }
 
-fn print_number(alloc: Global, n: u128, text: &mut Vec<u8>) -> Result<(), AllocError>
-    ensures { OnOk result (text.new.items ≡ text.old.items ++ decimal n) }
+fn print_number(alloc: Global, n: u128, text: &mut Writer)
+    ensures { Writes (decimal n) text.old text.new }
 {
-    let digits = n.to_string(alloc)?;
-    text.extend_from_slice(digits.as_bytes())
-}
-
-fn print_open(closed: bool, text: &mut Vec<u8>) -> Result<(), AllocError>
-    ensures { OnOk result (text.new.items ≡ text.old.items ++ open_text closed) }
-{
-    if closed {
-        text.push(b'(')?;
+    match n.to_string(alloc) {
+        Ok(digits) => text.write(digits.as_bytes()),
+        Err(_) => text.lost = true,
     }
-    Ok(())
-}
-
-fn print_close(closed: bool, text: &mut Vec<u8>) -> Result<(), AllocError>
-    ensures { OnOk result (text.new.items ≡ text.old.items ++ close_text closed) }
-{
-    if closed {
-        text.push(b')')?;
-    }
-    Ok(())
 }
 
 // Writes the sign before a part that is not the first.
-fn print_sign(first: bool, minus: bool, text: &mut Vec<u8>) -> Result<(), AllocError>
-    ensures { OnOk result (text.new.items ≡ text.old.items ++ between_parts first minus) }
+fn print_sign(first: bool, minus: bool, text: &mut Writer)
+    ensures { Writes (between_parts first minus) text.old text.new }
 {
     if first {
-        return Ok(());
+        return;
     }
     if minus {
-        text.extend_from_slice(b" - ")
+        text.write(b" - ");
     } else {
-        text.extend_from_slice(b" + ")
+        text.write(b" + ");
     }
 }
 
 // Writes the sign before a factor that is not the first.
-fn print_times(first: bool, text: &mut Vec<u8>) -> Result<(), AllocError>
-    ensures { OnOk result (text.new.items ≡ text.old.items ++ between_factors first) }
+fn print_times(first: bool, text: &mut Writer)
+    ensures { Writes (between_factors first) text.old text.new }
 {
-    if first {
-        return Ok(());
+    if !first {
+        text.write(b" * ");
     }
-    text.extend_from_slice(b" * ")
 }
 
 #[cycle(print)]
-fn print_expr(
-    alloc: Global,
-    names: &NameLists<'_>,
-    at: Place,
-    expr: &Expr,
-    text: &mut Vec<u8>,
-) -> Result<(), AllocError>
-    ensures { OnOk result (text.new.items ≡ text.old.items ++ expr_text (lists_of names.now) at (expr_of expr.now)) }
+fn print_expr(alloc: Global, names: &NameLists<'_>, at: Place, expr: &Expr, text: &mut Writer)
+    ensures { Writes (expr_text (lists_of names.now) at (expr_of expr.now)) text.old text.new }
 {
     match expr {
         Expr::Number(n) => print_number(alloc, *n, text),
@@ -134,104 +141,79 @@ fn print_expr(
         Expr::Named(i) => print_name(&names.lets, *i, text),
         Expr::Neg(inner) => {
             let closed = is_closed_negative(at);
-            print_open(closed, text)?;
-            text.push(b'-')?;
-            print_expr(alloc, names, Place::UnderMinus, inner, text)?;
-            print_close(closed, text)
+            text.put(closed, b'(');
+            text.put(true, b'-');
+            print_expr(alloc, names, Place::UnderMinus, inner, text);
+            text.put(closed, b')');
         }
         Expr::Sum(parts) => {
             let closed = is_closed_sum(at);
-            print_open(closed, text)?;
-            print_sum(alloc, names, parts, text)?;
-            print_close(closed, text)
+            text.put(closed, b'(');
+            print_sum(alloc, names, parts, text);
+            text.put(closed, b')');
         }
         Expr::Product(factors) => {
             let closed = is_closed_product(at);
-            print_open(closed, text)?;
-            print_product(alloc, names, factors, text)?;
-            print_close(closed, text)
+            text.put(closed, b'(');
+            print_product(alloc, names, factors, text);
+            text.put(closed, b')');
         }
     }
 }
 
 #[cycle(print)]
-fn print_sum(
-    alloc: Global,
-    names: &NameLists<'_>,
-    parts: &[Part],
-    text: &mut Vec<u8>,
-) -> Result<(), AllocError>
-    ensures { OnOk result (text.new.items ≡ text.old.items ++ sum_text (lists_of names.now) (part_list parts.now)) }
+fn print_sum(alloc: Global, names: &NameLists<'_>, parts: &[Part], text: &mut Writer)
+    ensures { Writes (sum_text (lists_of names.now) (part_list parts.now)) text.old text.new }
 {
     for i in 0..parts.len() {
-        print_sign(i == 0, parts[i].minus, text)?;
-        print_expr(alloc, names, Place::Part, &parts[i].expr, text)?;
+        let part = &parts[i];
+        print_sign(i == 0, part.minus, text);
+        print_expr(alloc, names, Place::Part, &part.expr, text);
     }
-    Ok(())
 }
 
 #[cycle(print)]
-fn print_product(
-    alloc: Global,
-    names: &NameLists<'_>,
-    factors: &[Expr],
-    text: &mut Vec<u8>,
-) -> Result<(), AllocError>
-    ensures { OnOk result
-        (text.new.items ≡ text.old.items ++ product_text (lists_of names.now) (expr_list factors.now)) }
+fn print_product(alloc: Global, names: &NameLists<'_>, factors: &[Expr], text: &mut Writer)
+    ensures { Writes (product_text (lists_of names.now) (expr_list factors.now)) text.old text.new }
 {
     for i in 0..factors.len() {
-        print_times(i == 0, text)?;
-        print_expr(alloc, names, Place::Factor, &factors[i], text)?;
+        print_times(i == 0, text);
+        print_expr(alloc, names, Place::Factor, &factors[i], text);
     }
-    Ok(())
 }
 
 // Writes a statement without its line feed.
-fn print_words(
-    alloc: Global,
-    names: &NameLists<'_>,
-    statement: &Statement,
-    text: &mut Vec<u8>,
-) -> Result<(), AllocError>
-    ensures { OnOk result
-        (text.new.items ≡ text.old.items ++ statement_text (lists_of names.now) (statement_of statement.now)) }
+fn print_statement(alloc: Global, names: &NameLists<'_>, statement: &Statement, text: &mut Writer)
+    ensures { Writes (statement_text (lists_of names.now) (statement_of statement.now)) text.old text.new }
 {
     match statement {
         Statement::Public(name) => {
-            text.extend_from_slice(b"public ")?;
-            text.extend_from_slice(name.text())
+            text.write(b"public ");
+            text.write(name.text());
         }
         Statement::Private(name) => {
-            text.extend_from_slice(b"private ")?;
-            text.extend_from_slice(name.text())
+            text.write(b"private ");
+            text.write(name.text());
         }
         Statement::Let(name, expr) => {
-            text.extend_from_slice(b"let ")?;
-            text.extend_from_slice(name.text())?;
-            text.extend_from_slice(b" = ")?;
-            print_expr(alloc, names, Place::Alone, expr, text)
+            text.write(b"let ");
+            text.write(name.text());
+            text.write(b" = ");
+            print_expr(alloc, names, Place::Alone, expr, text);
         }
         Statement::Assert(left, right) => {
-            text.extend_from_slice(b"assert ")?;
-            print_expr(alloc, names, Place::Alone, left, text)?;
-            text.extend_from_slice(b" = ")?;
-            print_expr(alloc, names, Place::Alone, right, text)
+            text.write(b"assert ");
+            print_expr(alloc, names, Place::Alone, left, text);
+            text.write(b" = ");
+            print_expr(alloc, names, Place::Alone, right, text);
         }
     }
 }
 
-fn print_statement(
-    alloc: Global,
-    names: &NameLists<'_>,
-    statement: &Statement,
-    text: &mut Vec<u8>,
-) -> Result<(), AllocError>
-    ensures { OnOk result
-        (text.new.items ≡ text.old.items ++ statement_line (lists_of names.now) (statement_of statement.now)) }
+fn push_name<'a>(names: &mut Vec<&'a [u8]>, name: &'a Name) -> Result<(), AllocError>
+    ensures { OnOk result (bytes_of names.new.items ≡ bytes_of names.old.items ++ name.now ∷ []) }
 {
-    print_words(alloc, names, statement, text)?;
-    text.push(b'\n')?;
+    names.push(name.text())?;
     Ok(())
 }
 
@@ -245,12 +227,11 @@ fn list_name<'a>(statement: &'a Statement, names: &mut NameLists<'a>) -> Result<
         bytes_of names.old.lets.items ++ let_names (statement_of statement.now ∷ behind)) }
 {
     match statement {
-        Statement::Public(name) => names.publics.push(name.text())?,
-        Statement::Private(name) => names.privates.push(name.text())?,
-        Statement::Let(name, _) => names.lets.push(name.text())?,
-        Statement::Assert(_, _) => {}
+        Statement::Public(name) => push_name(&mut names.publics, name),
+        Statement::Private(name) => push_name(&mut names.privates, name),
+        Statement::Let(name, _) => push_name(&mut names.lets, name),
+        Statement::Assert(_, _) => Ok(()),
     }
-    Ok(())
 }
 
 fn name_lists(alloc: Global, statements: &[Statement]) -> Result<NameLists<'_>, AllocError>
@@ -276,13 +257,12 @@ fn field_name(field: FieldId) -> &'static [u8]
     }
 }
 
-fn print_field(field: FieldId, text: &mut Vec<u8>) -> Result<(), AllocError>
-    ensures { OnOk result (text.new.items ≡ text.old.items ++ (codes "field " ++ (field_name field ++ (10 ∷ [])))) }
+fn print_field(field: FieldId, text: &mut Writer)
+    ensures { Writes (codes "field " ++ (field_name field ++ (10 ∷ []))) text.old text.new }
 {
-    text.extend_from_slice(b"field ")?;
-    text.extend_from_slice(field_name(field))?;
-    text.push(b'\n')?;
-    Ok(())
+    text.write(b"field ");
+    text.write(field_name(field));
+    text.put(true, b'\n');
 }
 
 /// The text of a source: one statement a line, with one space between tokens, but none behind a minus before
@@ -293,10 +273,18 @@ pub fn print(alloc: Global, source: &Source) -> Result<Vec<u8>, AllocError>
 {
     let statements = source.statements();
     let names = name_lists(alloc, statements)?;
-    let mut text = Vec::new(alloc);
-    print_field(source.field(), &mut text)?;
+    let mut text = Writer {
+        text: Vec::new(alloc),
+        lost: false,
+    };
+    print_field(source.field(), &mut text);
     for i in 0..statements.len() {
-        print_statement(alloc, &names, &statements[i], &mut text)?;
+        print_statement(alloc, &names, &statements[i], &mut text);
+        text.put(true, b'\n');
     }
-    Ok(text)
+    drop(names);
+    if text.lost {
+        return Err(AllocError);
+    }
+    Ok(text.text)
 }

@@ -82,8 +82,10 @@ fn take_text<'a>(
 fn code(alloc: Global, text: &Text<'_>) -> Result<Code, SourceError>
     ensures { MatchResult result (IsCodeOfText text.now.bytes.now) (IsFirstSourceFault text.now.bytes.now) }
 {
+    // Most words have a space before them or behind.
+    let room = Vec::with_capacity(alloc, text.bytes.len() / 2)?;
     let mut symbols = Vec::new(alloc);
-    let mut coder = Coder::new(alloc);
+    let mut coder = Coder::with_words(alloc, room);
     let field = take_text(&mut coder, &mut symbols, text)?;
     let publics = coder.publics;
     let privates = coder.privates;

@@ -1,14 +1,14 @@
 //! The words of an expression's tokens.
 
-ghost use Rattle.std.specs.Prelude.{◌≡◌, ◌≤◌, ◌<◌, ◌+◌, ◌^◌, ◌++◌, ◌∷◌, [], ◌&&◌, List, length, nat_lt};
-ghost use Rattle.std.specs.Prelude.{None, Some, IfOk, OnOk, MatchOption};
+ghost use Rattle.std.specs.Prelude.{◌≡◌, ◌≤◌, ◌<◌, ◌+◌, ◌^◌, ◌++◌, ◌&&◌, List, length, nat_lt, true, false};
+ghost use Rattle.std.specs.Prelude.{None, Some, IfOk, OnOk, MatchOption, MatchBool};
 ghost use Rattle.lzk_expr.specs.Tokens.{Token};
 ghost use Rattle.lzk_expr.specs.TokenReadings.{Tells, AreTold};
 ghost use Rattle.lzk_expr.specs.Sources.{field_size};
 ghost use Rattle.lzk_expr.specs.Meanings.{sum_read, Atom, Other};
 ghost use Rattle.lzk_expr.specs.Table.{binding_expr, bound, held_number};
 ghost use Rattle.lzk_expr.specs.Codes.{code_word, Item};
-ghost use Rattle.lzk_expr.specs.SumWords.{step_in, IsWordOf, IsCoded};
+ghost use Rattle.lzk_expr.specs.SumWords.{step_in, numbers_of, IsWordOf, IsCoded};
 ghost use Rattle.lzk_expr.specs.declared.code.Word.TheVariants.{Number};
 
 use crate::ast::FieldId;
@@ -19,17 +19,20 @@ use crate::tokens::Symbol;
 use lzk_profile::PRIME;
 use std::alloc::AllocError;
 
-// Whether an expression's names are declared, and whether its numbers are below the field's size.
+// Whether tokens are an expression, its names are declared, and its numbers are below the field's size.
 #[derive(Clone, Copy)]
 pub(crate) struct Marks {
+    pub formed: bool,
     pub known: bool,
     pub below: bool,
 }
 
-// A token's word, whether its name is declared, and whether its number is below the field's size.
+// A token's word, with its number if it is one; whether its name is declared, and whether its number is below the
+// field's size.
 #[derive(Clone, Copy)]
 struct TokenWord {
     word: Word,
+    number: u128,
     known: bool,
     below: bool,
 }
@@ -49,15 +52,28 @@ fn both(x: bool, y: bool) -> bool
     x && y
 }
 
-// The word of a number, which is put into the list.
-fn number_word(n: u128, numbers: &mut Vec<u128>) -> Result<Word, AllocError>
-    requires room { length numbers.old.items < 2 ^ 32 }
-    ensures word { IfOk result (λ word. word ≡ Number (length numbers.old.items)) }
-    ensures added { OnOk result (numbers.new.items ≡ numbers.old.items ++ n ∷ []) }
+// The word of a step that is no number.
+fn plain_word(word: Word) -> TokenWord
+    ensures { result ≡ record { word = word; number = 0; known = true; below = true } }
 {
-    let place = numbers.len() as u32;
-    numbers.push(n)?;
-    Ok(Word::Number(place))
+    TokenWord {
+        word,
+        number: 0,
+        known: true,
+        below: true,
+    }
+}
+
+// The word of a number that comes to this place.
+fn number_word(place: u32, number: u128, known: bool, below: bool) -> TokenWord
+    ensures { result ≡ record { word = Number place; number = number; known = known; below = below } }
+{
+    TokenWord {
+        word: Word::Number(place),
+        number,
+        known,
+        below,
+    }
 }
 
 // The word of a declared name.
@@ -71,80 +87,85 @@ fn bound_word(binding: Binding) -> Word
     }
 }
 
-// The word of a token that may stand in an expression. It is that of 0 for a large number and for an unknown name.
-fn word_of(
-    field: FieldId,
-    names: &Names<'_>,
-    symbol: Symbol<'_>,
-    numbers: &mut Vec<u128>,
-) -> Result<Option<TokenWord>, AllocError>
-    requires room { length numbers.old.items < 2 ^ 32 }
-    ensures word { (t : Token) → Tells symbol.entry t → IfOk result (λ o. MatchOption o
-        (step_in names.now.table t ≡ Other)
-        (λ x. IsWordOf field names.now.table t numbers.old.items numbers.new.items x.word x.known x.below)) }
-    ensures few { OnOk result (length numbers.new.items ≤ length numbers.old.items + 1) }
+// The word of a token that may stand in an expression, where a number comes to this place. It is that of 0 for a large
+// number and for an unknown name.
+fn word_of(field: FieldId, names: &Names<'_>, symbol: Symbol<'_>, place: u32) -> Option<TokenWord>
+    ensures { (t : Token) → Tells symbol.entry t → MatchOption result (step_in names.now.table t ≡ Other)
+        (IsWordOf field names.now.table t place) }
 {
-    let mut known = true;
-    let mut below = true;
-    let word = match symbol {
-        Symbol::Number(n) => {
-            below = is_below(field, n);
-            number_word(n, numbers)?
-        }
-        Symbol::Large => {
-            below = false;
-            number_word(0, numbers)?
-        }
+    match symbol {
+        Symbol::Number(n) => Some(number_word(place, n, true, is_below(field, n))),
+        Symbol::Large => Some(number_word(place, 0, true, false)),
         Symbol::Name(name) => match names.find(name) {
-            Some(binding) => bound_word(binding),
-            None => {
-                known = false;
-                number_word(0, numbers)?
-            }
+            Some(binding) => Some(plain_word(bound_word(binding))),
+            None => Some(number_word(place, 0, false, true)),
         },
-        Symbol::Plus => Word::Plus,
-        Symbol::Minus => Word::Minus,
-        Symbol::Times => Word::Times,
-        Symbol::Open => Word::Open,
-        Symbol::Close => Word::Close,
-        _ => return Ok(None),
-    };
-    Ok(Some(TokenWord { word, known, below }))
+        Symbol::Plus => Some(plain_word(Word::Plus)),
+        Symbol::Minus => Some(plain_word(Word::Minus)),
+        Symbol::Times => Some(plain_word(Word::Times)),
+        Symbol::Open => Some(plain_word(Word::Open)),
+        Symbol::Close => Some(plain_word(Word::Close)),
+        _ => None,
+    }
 }
 
-// Puts the words of the tokens behind the words, and their numbers behind the numbers, where the tokens are an
-// expression. Where they are none, some of both may have been put there.
+// Puts the number of a word behind the others, if it is one's.
+fn put_number(next: TokenWord, numbers: &mut Vec<u128>) -> Result<(), AllocError>
+    ensures { OnOk result (numbers.new.items ≡ numbers.old.items ++ numbers_of next.word next.number) }
+{
+    if let Word::Number(_) = next.word {
+        numbers.push(next.number)?;
+    }
+    Ok(())
+}
+
+fn unformed() -> Marks
+    ensures { result.formed ≡ false }
+{
+    Marks {
+        formed: false,
+        known: false,
+        below: false,
+    }
+}
+
+// Puts the words of the tokens and this end behind the words, and their numbers behind the numbers, where the tokens
+// are an expression. Where they are none, some of both may have been put there.
 pub(crate) fn push_sum(
     field: FieldId,
     names: &Names<'_>,
     symbols: &[Symbol<'_>],
+    end: Word,
     words: &mut Vec<Word>,
     numbers: &mut Vec<u128>,
-) -> Result<Option<Marks>, AllocError>
+) -> Result<Marks, AllocError>
     requires room { length numbers.old.items + length symbols.now < 2 ^ 32 }
-    ensures sum { (ts : List Token) → AreTold symbols.now ts → IfOk result (λ o. MatchOption o
-        (sum_read held_number (bound names.now.table) ts ≡ None)
-        (λ marks. IsCoded field names.now.table ts words.old.items words.new.items numbers.old.items
-        numbers.new.items marks.known marks.below)) }
+    ensures sum { (ts : List Token) → AreTold symbols.now ts → IfOk result (λ marks. MatchBool marks.formed
+        (IsCoded field names.now.table ts end words.old.items words.new.items numbers.old.items
+        numbers.new.items marks.known marks.below)
+        (sum_read held_number (bound names.now.table) ts ≡ None)) }
     ensures few { OnOk result (length numbers.new.items ≤ length numbers.old.items + length symbols.now) }
 {
     let mut syntax = no_words();
     let mut known = true;
     let mut below = true;
     for symbol in symbols {
-        let Some(next) = word_of(field, names, *symbol, numbers)? else {
-            return Ok(None);
+        let Some(next) = word_of(field, names, *symbol, numbers.len() as u32) else {
+            return Ok(unformed());
         };
         let Some(behind) = syntax.after(next.word) else {
-            return Ok(None);
+            return Ok(unformed());
         };
+        put_number(next, numbers)?;
+        words.push(next.word)?;
         known = both(known, next.known);
         below = both(below, next.below);
         syntax = behind;
-        words.push(next.word)?;
     }
-    if !syntax.is_whole() {
-        return Ok(None);
-    }
-    Ok(Some(Marks { known, below }))
+    words.push(end)?;
+    Ok(Marks {
+        formed: syntax.is_whole(),
+        known,
+        below,
+    })
 }

@@ -5,9 +5,10 @@ ghost use Rattle.lzk_expr.specs.Tokens.{is_digit, in_word, word_token, plain_tok
 ghost use Rattle.lzk_expr.specs.TokenReadings.{Tells};
 
 use crate::digits::{Reading, number};
+use crate::key::are_same;
 
 /// The words that begin a statement line.
-#[derive(Clone, Copy, Debug, PartialEq, Eq)]
+#[derive(Clone, Copy)]
 pub enum Keyword {
     Field,
     Public,
@@ -96,15 +97,15 @@ fn may_be_key(word: &[u8]) -> bool
 fn key_symbol(word: &[u8]) -> Symbol<'_>
     ensures { Tells result (word_token word.now) }
 {
-    if word == b"field".as_slice() {
+    if are_same(word, b"field") {
         Symbol::Key(Keyword::Field)
-    } else if word == b"public".as_slice() {
+    } else if are_same(word, b"public") {
         Symbol::Key(Keyword::Public)
-    } else if word == b"private".as_slice() {
+    } else if are_same(word, b"private") {
         Symbol::Key(Keyword::Private)
-    } else if word == b"let".as_slice() {
+    } else if are_same(word, b"let") {
         Symbol::Key(Keyword::Let)
-    } else if word == b"assert".as_slice() {
+    } else if are_same(word, b"assert") {
         Symbol::Key(Keyword::Assert)
     } else {
         plain_symbol(word)

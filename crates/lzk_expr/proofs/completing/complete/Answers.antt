@@ -1,20 +1,12 @@
-use Rattle.std.proofs.Common.{refl, sym, vec_len}
-use Rattle.lzk_expr.specs.Codes.{nameless}
+use Rattle.std.proofs.Common.{sym, vec_len}
+use Rattle.lzk_expr.specs.Growing.{exprs_in}
 use Rattle.lzk_expr.specs.Heads.{head_of, heads_of}
-use Rattle.lzk_expr.proofs.Completion.{all_left, next_last, last_ended, one_made, none_left, popped_none}
+use Rattle.lzk_expr.proofs.Completion.{all_left, next_last, last_ended, one_made, none_left}
+use Rattle.lzk_expr.proofs.Popped.{popped_none}
 use Rattle.lzk_expr.proofs.completing.complete.Goals as goal
 
 pub loop-head-init : goal.loop-head-init
 loop-head-init c = λ ss h e. all_left ss c.args.heads.now.items c.args.ended.now.items c.args.statements.now.items c.requires h e
-
-pub returns-in_default-completed : goal.returns-in_default-completed
-returns-in_default-completed c = λ ss h e.
-    let at = c.loop-head in
-    let rest = c.pop.new.self.items in
-    let head = c.in-Some.head in
-    let l = at.invariant ss h e in
-    let k = next_last ss at.heads.items rest at.ended.items at.statements.items head l c.in-Some.ensures.items in
-    absurd (c.in_default-completed.ensures (nameless k.front) k.last (sym k.last_is) (last_ended ss at.heads.items at.ended.items at.statements.items (heads_of rest) (head_of head) l k))
 
 pub loop-head-preserved : goal.loop-head-preserved
 loop-head-preserved c = λ ss h e.
@@ -23,11 +15,11 @@ loop-head-preserved c = λ ss h e.
     let head = c.in-Some.head in
     let l = at.invariant ss h e in
     let k = next_last ss at.heads.items rest at.ended.items at.statements.items head l c.in-Some.ensures.items in
-    let made = c.in-Some-completed.ensures (nameless k.front) k.last (sym k.last_is) (last_ended ss at.heads.items at.ended.items at.statements.items (heads_of rest) (head_of head) l k) in
-    one_made ss at.heads.items rest at.ended.items c.completed.new.ended.items at.statements.items c.push.new.self.items head c.in-Some-completed.statement l k made.0 made.1 c.in_ok-push.ensures.items
+    let made = c.completed.ensures (exprs_in k.front) k.last (sym k.last_is) (last_ended ss at.heads.items at.ended.items at.statements.items (heads_of rest) (head_of head) l k) in
+    one_made ss at.heads.items rest at.ended.items c.completed.new.ended.items at.statements.items c.push.new.self.items head c.completed.result l k made.0 made.1 c.in_ok-push.ensures.items
 
 pub returns : goal.returns
 returns c = λ ss h e.
     let at = c.loop-head in
     let none = popped_none (vec_len at.heads) at.heads.items c.pop.new.self.items c.in_default.ensures.cases.0 c.in_default.ensures.rest c.in_default.ensures.items in
-    (refl, none_left ss at.heads.items at.ended.items at.statements.items c.reverse.new.self.items (at.invariant ss h e) none c.reverse.ensures.items)
+    none_left ss at.heads.items at.ended.items at.statements.items c.reverse.new.self.items (at.invariant ss h e) none c.reverse.ensures.items

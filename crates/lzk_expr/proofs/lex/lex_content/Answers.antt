@@ -1,9 +1,17 @@
-use Rattle.std.proofs.Common.{◌∙◌, ◌+◌, ◌-◌, get_or, take, drop, length, sym, refl, arith}
+use Rattle.std.proofs.Common.{◌∙◌, ◌+◌, ◌-◌, Some, get_or, take, drop, length, sym, ap, refl, arith}
 use Rattle.lzk_expr.specs.Texts.{first_content}
-use Rattle.lzk_expr.specs.Tokens.{Word, Sign}
+use Rattle.lzk_expr.specs.Tokens.{Word, Sign, keeps_characters}
 use Rattle.lzk_expr.proofs.FirstLine.{word_here, word_length, sign_here, sign_length, blank_here, blank_length, end_here, end_behind, stopped}
-use Rattle.lzk_expr.proofs.Lexing.{found_more, found_blank, found_bounds, found_all}
+use Rattle.lzk_expr.specs.Readers.{keeps_bounds}
+use Rattle.lzk_expr.proofs.Lexing.{found_none, found_more, found_blank, found_bounds, found_all}
 use Rattle.lzk_expr.proofs.lex.lex_content.Goals as goal
+
+pub loop-at-init : goal.loop-at-init
+loop-at-init c = record {
+  within = omega arith;
+  passed = omega arith;
+  found = found_none (first_content c.args.text.now) c.clear.new.self.items (Some c.unopened.result) c.clear.ensures.items (λ ts. ap (λ n. keeps_bounds n ts) c.unopened.ensures);
+}
 
 pub loop-at-preserved-then-in_word : goal.loop-at-preserved-then-in_word
 loop-at-preserved-then-in_word c =
@@ -43,31 +51,33 @@ loop-at-preserved c =
           sign c.sign_symbol.ensures c.in_ok-push-2.ensures.items c.behind_next-depth-in-loop-at.ensures;
     }
 
-pub returns-then-not-is_sign-clause-clean : goal.returns-then-not-is_sign-clause-clean
-returns-then-not-is_sign-clause-clean c =
-    let l = c.loop-at in
-    sym (l.invariant.found.clean ∙ stopped c.args.text.now l.at c.ends_content.result c.loop-at-test.true (sym c.in_word.ensures ∙ c.if-in_word.false) (sym c.is_blank.ensures ∙ c.if-is_blank.false) (sym c.is_sign.ensures ∙ c.if-not-is_sign.true) (sym c.ends_content.ensures))
+pub returns-then-not-is_sign-clause-within : goal.returns-then-not-is_sign-clause-within
+returns-then-not-is_sign-clause-within c = omega (arith, c.loop-at.invariant.passed)
 
-pub returns-then-not-is_sign-clause-bounded : goal.returns-then-not-is_sign-clause-bounded
-returns-then-not-is_sign-clause-bounded c = λ ends.
+pub returns-clause-within : goal.returns-clause-within
+returns-clause-within c = omega (arith, c.loop-at.invariant.passed)
+
+pub returns-then-not-is_sign-clause-scan : goal.returns-then-not-is_sign-clause-scan
+returns-then-not-is_sign-clause-scan c =
     let l = c.loop-at in
     let xs = c.args.text.now in
-    c.is_some.ensures ∙ sym (found_bounds (first_content xs) (first_content (drop l.at xs)) l.symbols.items l.depth l.invariant.found (end_here xs l.at c.loop-at-test.true (sym c.ends_content.ensures ∙ ends)))
+    let i = l.at in
+    let bs = first_content (drop i xs) in
+    let lt = c.loop-at-test.true in
+    record {
+      clean_is = sym (l.invariant.found.clean ∙ stopped xs i c.ends_content.result lt (sym c.in_word.ensures ∙ c.if-in_word.false) (sym c.is_blank.ensures ∙ c.if-is_blank.false) (sym c.is_sign.ensures ∙ c.if-not-is_sign.true) (sym c.ends_content.ensures));
+      bounded_is = λ ends. c.is_some.ensures ∙ sym (found_bounds (first_content xs) bs l.symbols.items l.depth l.invariant.found (end_here xs i lt (sym c.ends_content.ensures ∙ ends)));
+      told = λ ends. found_all (first_content xs) bs l.symbols.items l.depth l.invariant.found (end_here xs i lt (sym c.ends_content.ensures ∙ ends));
+    }
 
-pub returns-then-not-is_sign-clause-told : goal.returns-then-not-is_sign-clause-told
-returns-then-not-is_sign-clause-told c = λ ends.
+pub returns-clause-scan : goal.returns-clause-scan
+returns-clause-scan c =
     let l = c.loop-at in
     let xs = c.args.text.now in
-    found_all (first_content xs) (first_content (drop l.at xs)) l.symbols.items l.depth l.invariant.found (end_here xs l.at c.loop-at-test.true (sym c.ends_content.ensures ∙ ends))
-
-pub returns-clause-bounded : goal.returns-clause-bounded
-returns-clause-bounded c = λ _.
-    let l = c.loop-at in
-    let xs = c.args.text.now in
-    c.is_some-2.ensures ∙ sym (found_bounds (first_content xs) (first_content (drop l.at xs)) l.symbols.items l.depth l.invariant.found (end_behind xs l.at c.loop-at-test.false))
-
-pub returns-clause-told : goal.returns-clause-told
-returns-clause-told c = λ _.
-    let l = c.loop-at in
-    let xs = c.args.text.now in
-    found_all (first_content xs) (first_content (drop l.at xs)) l.symbols.items l.depth l.invariant.found (end_behind xs l.at c.loop-at-test.false)
+    let bs = first_content (drop l.at xs) in
+    let none = end_behind xs l.at c.loop-at-test.false in
+    record {
+      clean_is = sym (l.invariant.found.clean ∙ ap keeps_characters none);
+      bounded_is = λ _. c.is_some-2.ensures ∙ sym (found_bounds (first_content xs) bs l.symbols.items l.depth l.invariant.found none);
+      told = λ _. found_all (first_content xs) bs l.symbols.items l.depth l.invariant.found none;
+    }

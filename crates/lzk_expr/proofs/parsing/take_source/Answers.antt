@@ -1,15 +1,5 @@
-use Rattle.std.proofs.Common.{◌≡◌, false, true, sym, ◌∙◌}
 use Rattle.lzk_expr.proofs.ParseLaws.{whole_code, lent_code, source_result}
 use Rattle.lzk_expr.proofs.parsing.take_source.Goals as goal
-
-pub prove-unreachable-requires : goal.prove-unreachable-requires
-prove-unreachable-requires c =
-    let t = c.in_ok-last.ensures in
-    let ss = t.takes.after.statements in
-    let code = lent_code ss c.deref.result.now c.take_lines.new.coder.words.items c.deref-2.result.now c.take_lines.new.coder.numbers.items c.deref.ensures.value c.deref-2.ensures.value (whole_code c.args.text.now.bytes.now c.in_ok-last.last c.take_lines.new.coder t.takes) in
-    let made = c.in_ok-made.ensures ss t.heads_are code in
-    let no : true ≡ false = sym made.0 ∙ c.if-prove.true in
-    cc
 
 pub returns : goal.returns
 returns c =
@@ -17,5 +7,4 @@ returns c =
     let ss = t.takes.after.statements in
     let text = c.args.text.now.bytes.now in
     let code = lent_code ss c.deref.result.now c.take_lines.new.coder.words.items c.deref-2.result.now c.take_lines.new.coder.numbers.items c.deref.ensures.value c.deref-2.ensures.value (whole_code text c.in_ok-last.last c.take_lines.new.coder t.takes) in
-    let made = c.in_ok-made.ensures ss t.heads_are code in
-    source_result text c.in_ok-last.last c.take_lines.new.coder t.takes _ made.1 c.ended.result (c.ended.ensures text t.takes)
+    source_result text c.in_ok-last.last c.take_lines.new.coder t.takes _ (c.in_ok-make_statements.ensures ss t.heads_are code) c.ended.result (c.ended.ensures text t.takes)

@@ -1,8 +1,9 @@
-use Rattle.std.proofs.Common.{◌≡◌, ◌∙◌, ◌+◌, ◌<◌, ℕ, sym, ap, rules, List, ◌∷◌, drop, drop-cons, get_or, length, add-one, arith}
+use Rattle.std.proofs.Common.{◌≡◌, ◌∙◌, ◌+◌, ◌<◌, ℕ, sym, ap, rules, List, ◌∷◌, drop, drop-cons, get_or, length, length-append, add-one, arith}
 use Rattle.std.proofs.lemmas.List.{drop_all}
+use Rattle.lzk_expr.specs.SumWords.{numbers_of}
 use Rattle.lzk_expr.specs.declared.tokens.Symbol.{Symbol}
 use Rattle.lzk_expr.specs.declared.tokens.Symbol.TheVariants as symbol
-use Rattle.lzk_expr.proofs.SumWordLaws.{begun, no_word, no_syntax, one_more, has_end}
+use Rattle.lzk_expr.proofs.SumWordLaws.{begun, no_word, no_syntax, one_more, at_end, few_numbers}
 use Rattle.lzk_expr.proofs.sum_words.push_sum.Goals as goal
 
 abbrev at_index : List Symbol → ℕ → Symbol
@@ -18,32 +19,36 @@ loop-symbol-init c = record {
   begun = λ ts told. rw c.no_words-syntax.ensures (begun c.args.field c.args.names.now.table c.args.symbols.now c.args.words.now.items c.args.numbers.now.items ts told);
 }
 
+pub overflow_cast-len : goal.overflow_cast-len
+overflow_cast-len c = omega (arith, c.requires.room, c.loop-symbol.invariant.few, c.len.ensures, c.loop-symbol-test.true)
+
 pub returns-in_default-clause-sum : goal.returns-in_default-clause-sum
 returns-in_default-clause-sum c =
     let l = c.loop-symbol in
-    λ ts told. no_word c.args.field c.args.names.now.table _ _ _ _ _ _ _ ts _ _ _ (from_index c.args.symbols.now l.symbol-index c.loop-symbol-test.true) (l.invariant.begun ts told)
-    (rw c.in_default.is at c.in_ok-next.ensures.word)
+    λ ts told. rw c.unformed.ensures (no_word c.args.field c.args.names.now.table _ _ _ _ _ _ _ ts _ _ _ (from_index c.args.symbols.now l.symbol-index c.loop-symbol-test.true) (l.invariant.begun ts told)
+    c.in_default.ensures)
 
 pub returns-in_default-after-clause-sum : goal.returns-in_default-after-clause-sum
 returns-in_default-after-clause-sum c =
     let l = c.loop-symbol in
-    λ ts told. no_syntax c.args.field c.args.names.now.table _ _ _ _ _ _ _ ts _ _ _ (from_index c.args.symbols.now l.symbol-index c.loop-symbol-test.true) (l.invariant.begun ts told)
-    _ _ _ _ (rw c.in-Some.is at c.in_ok-next.ensures.word) (rw c.in_default-after.is at c.after.ensures.next)
+    λ ts told. rw c.unformed-in_default-after.ensures (no_syntax c.args.field c.args.names.now.table _ _ _ _ _ _ _ ts _ _ _ (from_index c.args.symbols.now l.symbol-index c.loop-symbol-test.true) (l.invariant.begun ts told)
+    c.in-Some.next c.len.result (omega (arith, c.len.ensures)) c.in-Some.ensures c.in_default-after.ensures.next)
 
 pub loop-symbol-preserved : goal.loop-symbol-preserved
 loop-symbol-preserved c =
     let l = c.loop-symbol in
+    let next = c.in-Some.next in
     record {
-      depth = omega (arith, l.invariant.depth, (rw c.in-Some-after.is at c.after.ensures.depth));
-      few = omega (arith, l.invariant.few, c.in_ok-next.ensures.few);
+      depth = omega (arith, l.invariant.depth, c.in-Some-after.ensures.depth);
+      few = omega (arith, l.invariant.few, ap length c.in_ok-put_number.ensures, length-append l.numbers.items (numbers_of next.word next.number), few_numbers next.word next.number);
       begun = λ ts told.
           one_more c.args.field c.args.names.now.table _ _ _ _ _ _ _ ts _ _ _ (from_index c.args.symbols.now l.symbol-index c.loop-symbol-test.true) (l.invariant.begun ts told)
-          _ _ _ _ (rw c.in-Some.is at c.in_ok-next.ensures.word) _ _ c.in_ok-push.ensures.items (rw c.in-Some-after.is at c.after.ensures.next)
+          next c.len.result (omega (arith, c.len.ensures)) c.in-Some.ensures c.in-Some-after.behind _ _ c.in_ok-push.ensures.items c.in_ok-put_number.ensures c.in-Some-after.ensures.next
           _ _ c.both-known.ensures c.both-below.ensures;
     }
 
 pub returns-clause-sum : goal.returns-clause-sum
 returns-clause-sum c =
     let l = c.loop-symbol in
-    λ ts told. has_end c.args.field c.args.names.now.table _ _ _ _ _ _ _ ts _ (drop_all l.symbol-index c.args.symbols.now c.loop-symbol-test.false) (l.invariant.begun ts told)
-    (sym c.is_whole.ensures ∙ c.if-not-is_whole.false)
+    λ ts told. at_end c.args.field c.args.names.now.table _ _ _ _ _ _ _ ts _ (drop_all l.symbol-index c.args.symbols.now c.loop-symbol-test.false) (l.invariant.begun ts told)
+    c.args.end _ c.in_ok-push-2.ensures.items _ c.is_whole.ensures

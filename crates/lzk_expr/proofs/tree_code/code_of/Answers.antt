@@ -7,7 +7,7 @@ use Rattle.lzk_expr.proofs.SourceCode.{shaped_at, taken_more, all_held}
 use Rattle.lzk_expr.proofs.tree_code.code_of.Goals as goal
 
 pub loop-i-init : goal.loop-i-init
-loop-i-init c = λ behind. rw c.new.ensures.items (words_none nothing_coded)
+loop-i-init c = λ kept behind. rw c.new.ensures.items (words_none nothing_coded)
 
 pub loop-i-preserved : goal.loop-i-preserved
 loop-i-preserved c =
@@ -16,7 +16,7 @@ loop-i-preserved c =
     let s = c.index-statements-i.result in
     let shapes = shaped_at (tree_of c.args.source.now) ms l.i s c.statements-statements.ensures.formed (ap statements_of (sym c.statements-statements.ensures.statements)) c.loop-i-test.true c.index-statements-i.is in
     subst (HoldsCode c.push_statement.new.code) (sym (taken_more ms l.i s c.loop-i-test.true c.index-statements-i.is))
-    (c.in_ok-push_statement.ensures (statements_of (take l.i ms)) shapes l.invariant)
+    (c.push_statement.ensures (statements_of (take l.i ms)) shapes l.invariant)
 
 pub new-requires-3 : goal.new-requires-3
 new-requires-3 c = record {
@@ -26,7 +26,7 @@ new-requires-3 c = record {
     field_is = c.field-field.ensures;
     publics_are = c.publics-publics.ensures;
     privates_are = c.privates-privates.ensures;
-    words_are = all_held c.loop-i.code c.loop-i.i c.statements-statements.result.now c.args.source.now.statements c.loop-i-test.false c.statements-statements.ensures.statements c.loop-i.invariant;
+    words_are = all_held c.loop-i.code c.loop-i.i c.statements-statements.result.now c.args.source.now.statements c.loop-i-test.false c.statements-statements.ensures.statements c.if-code.false c.loop-i.invariant;
   };
 }
 
@@ -35,5 +35,5 @@ returns c = subst (λ x. IsCodeOf x (tree_of c.args.source.now)) (sym c.new-3.en
   field_is = c.field-field.ensures;
   publics_are = c.publics-publics.ensures;
   privates_are = c.privates-privates.ensures;
-  words_are = all_held c.loop-i.code c.loop-i.i c.statements-statements.result.now c.args.source.now.statements c.loop-i-test.false c.statements-statements.ensures.statements c.loop-i.invariant;
+  words_are = all_held c.loop-i.code c.loop-i.i c.statements-statements.result.now c.args.source.now.statements c.loop-i-test.false c.statements-statements.ensures.statements c.if-code.false c.loop-i.invariant;
 })

@@ -1,46 +1,62 @@
-use Rattle.std.proofs.Common.{sym, ap, ◌∙◌, ◌||◌, is_some, length, arith, Option}
+use Rattle.std.proofs.Common.{sym, ap, ◌∙◌, ◌||◌, is_some, length, refl, arith, Option}
+use Rattle.std.proofs.lemmas.Bool.{and_parts}
+use Rattle.lzk_expr.specs.Texts.{content}
 use Rattle.lzk_expr.specs.Tokens.{tokens}
 use Rattle.lzk_expr.specs.Sources.{is_field}
 use Rattle.lzk_expr.specs.declared.ast.FieldId.{FieldId}
 use Rattle.lzk_expr.proofs.Taken.{if_ok}
-use Rattle.lzk_expr.proofs.CodeTaken.{limits_are, unbounded, on_ok, line_no_field, line_limit, line_form}
-use Rattle.lzk_expr.proofs.CodeLengths.{fewer_keyed}
-use Rattle.lzk_expr.proofs.Empty.{told_length}
+use Rattle.lzk_expr.proofs.CodeTaken.{limits_kept, refused_none, on_ok, line_no_keyword, line_refused, line_form, text_line_skipped, text_line_read}
+use Rattle.lzk_expr.proofs.CodeLengths.{fewer_keyed, is_zero, not_zero}
+use Rattle.lzk_expr.proofs.Empty.{told_length, told_empty, told_filled}
 use Rattle.lzk_expr.proofs.coder.Coder.take_line.Goals as goal
 
-pub returns-then-not-may_have-clause-takes : goal.returns-then-not-may_have-clause-takes
-returns-then-not-may_have-clause-takes c = λ b bytes h clean told bounded.
+pub returns-then-is_empty-clause-takes : goal.returns-then-is_empty-clause-takes
+returns-then-is_empty-clause-takes c = λ b line h clean told bounded.
+    let ss = c.args.symbols.now in
+    text_line_skipped b _ line h (told_empty ss (content line) told (is_zero (length ss) (sym c.if-is_empty.ensures)))
+
+pub first_keyword-requires : goal.first_keyword-requires
+first_keyword-requires c = not_zero (length c.args.symbols.now) (sym c.if-is_empty.ensures)
+
+pub returns-in_default-clause-takes : goal.returns-in_default-clause-takes
+returns-in_default-clause-takes c = λ b line h clean told bounded.
+    let ss = c.args.symbols.now in
+    let bytes = content line in
+    text_line_read b _ line bytes _ refl (told_filled ss bytes told (not_zero (length ss) (sym c.if-is_empty.ensures))) (line_no_keyword b _ bytes clean (c.in_default.ensures (tokens bytes) told))
+
+pub returns-in-Some-refused-clause-takes : goal.returns-in-Some-refused-clause-takes
+returns-in-Some-refused-clause-takes c = λ b line h clean told bounded.
+    let ss = c.args.symbols.now in
+    let bytes = content line in
     let k = c.in-Some.keyword in
     let i = c.in-Some.ensures (tokens bytes) told in
-    line_no_field b _ bytes k i.behind clean i.keyed (ap (λ (o : Option FieldId). is_some o || is_field k) (sym h.field_is) ∙ sym c.if-not-may_have.ensures)
+    text_line_read b _ line bytes _ refl (told_filled ss bytes told (not_zero (length ss) (sym c.if-is_empty.ensures)))
+    (line_refused b _ bytes k i.behind clean i.keyed _ _ c.in-Some-refused.kind (ap (λ (o : Option FieldId). is_some o || is_field k) (sym h.field_is))
+    (limits_kept c.args.self.now b k (tokens bytes) i.behind (length c.in-Some.rest.now) c.args.bounded h i.keyed (told_length c.in-Some.rest.now i.behind i.told) bounded) c.in-Some-refused.ensures)
 
-pub returns-then-not-bounded-clause-takes : goal.returns-then-not-bounded-clause-takes
-returns-then-not-bounded-clause-takes c = λ b bytes h clean told bounded.
-    let k = c.in-Some.keyword in
-    let i = c.in-Some.ensures (tokens bytes) told in
-    line_limit b _ bytes k i.behind clean i.keyed (ap (λ (o : Option FieldId). is_some o || is_field k) (sym h.field_is) ∙ sym c.if-not-may_have.ensures)
-    (unbounded b.statements k (tokens bytes) (sym bounded ∙ c.if-not-bounded.true))
-
-pub returns-then-not-has_room-clause-takes : goal.returns-then-not-has_room-clause-takes
-returns-then-not-has_room-clause-takes c = λ b bytes h clean told bounded.
-    let k = c.in-Some.keyword in
-    let i = c.in-Some.ensures (tokens bytes) told in
-    line_limit b _ bytes k i.behind clean i.keyed (ap (λ (o : Option FieldId). is_some o || is_field k) (sym h.field_is) ∙ sym c.if-not-may_have.ensures)
-    (limits_are c.args.self.now b k (tokens bytes) i.behind (length c.in-Some.rest.now) h i.keyed (told_length c.in-Some.rest.now i.behind i.told) (sym bounded ∙ c.if-not-bounded.false) ∙ sym c.if-not-has_room.ensures)
-
-pub take_form-requires-clause-few : goal.take_form-requires-clause-few
-take_form-requires-clause-few c = omega (arith, c.requires, fewer_keyed c.args.symbols.now c.in-Some.rest.now c.in-Some.keyword c.in-Some.ensures)
+pub take_form-requires : goal.take_form-requires
+take_form-requires c =
+    let n = refused_none _ _ c.in_default-refused.ensures in
+    record {
+      field = n.0;
+      room = (and_parts _ _ n.1).1;
+      few = omega (arith, c.requires, fewer_keyed c.args.symbols.now c.in-Some.rest.now c.in-Some.keyword c.in-Some.ensures);
+    }
 
 pub returns-clause-takes : goal.returns-clause-takes
 returns-clause-takes c =
     let k = c.in-Some.keyword in
     let old = c.args.self.now in
     let new = c.take_form.new.self in
-    if_ok c.take_form.result _ _ (λ broken t b bytes h clean told bounded.
+    let ss = c.args.symbols.now in
+    let n = refused_none _ _ c.in_default-refused.ensures in
+    if_ok c.take_form.result _ _ (λ broken t b line h clean told bounded.
+    let bytes = content line in
     let i = c.in-Some.ensures (tokens bytes) told in
-    line_form b new bytes k i.behind clean i.keyed broken (ap (λ (o : Option FieldId). is_some o || is_field k) (sym h.field_is) ∙ sym c.if-not-may_have.ensures)
-    (limits_are old b k (tokens bytes) i.behind (length c.in-Some.rest.now) h i.keyed (told_length c.in-Some.rest.now i.behind i.told) (sym bounded ∙ c.if-not-bounded.false) ∙ sym c.if-not-has_room.ensures)
-    (t b i.behind h i.told)) c.take_form.ensures.takes
+    text_line_read b new line bytes broken refl (told_filled ss bytes told (not_zero (length ss) (sym c.if-is_empty.ensures)))
+    (line_form b new bytes k i.behind clean i.keyed broken (ap (λ (o : Option FieldId). is_some o || is_field k) (sym h.field_is) ∙ n.0)
+    (limits_kept old b k (tokens bytes) i.behind (length c.in-Some.rest.now) c.args.bounded h i.keyed (told_length c.in-Some.rest.now i.behind i.told) bounded ∙ n.1)
+    (t b i.behind h i.told))) c.take_form.ensures.takes
 
 pub returns-clause-used : goal.returns-clause-used
 returns-clause-used c = on_ok c.take_form.result _ _ (λ e. omega (arith, e, fewer_keyed c.args.symbols.now c.in-Some.rest.now c.in-Some.keyword c.in-Some.ensures)) c.take_form.ensures.used

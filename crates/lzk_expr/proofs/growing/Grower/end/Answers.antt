@@ -1,0 +1,10 @@
+use Rattle.std.proofs.Common.{refl, ap, false, ◌∙◌}
+use Rattle.lzk_expr.specs.Halves.{half_of}
+use Rattle.lzk_expr.proofs.GrowthLaws.{end_taken}
+use Rattle.lzk_expr.proofs.growing.Grower.end.Goals as goal
+
+pub returns : goal.returns
+returns c = λ e h.
+    let s = c.args.self.now in
+    end_taken e s (record { reads = record { outer = s.reads.outer; now = c.replace-now.new.dest; ready = false }; ended = c.push.new.self }) c.replace-now.result c.in_ok-expr.expr
+    h refl (ap half_of c.replace-now.ensures.after ∙ c.empty.ensures) refl c.replace-now.ensures.value c.in_ok-expr.ensures c.in_ok-push.ensures.items
