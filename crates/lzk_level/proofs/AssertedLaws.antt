@@ -16,15 +16,15 @@ use Rattle.lzk_circuit_reduce.specs.Renumbering.{at}
 use Rattle.lzk_circuit_reduce.specs.Targets.{targets_at, AreTargets, AreAllTerms, target_count, target_values}
 use Rattle.lzk_level.specs.Gates.{Gate}
 use Rattle.lzk_level.specs.Bounds.{greatest, total, node_depths, node_weights, layer_count, wire_bound, level_fault_v2}
-use Rattle.lzk_level.specs.Checking.{check_of, of_depth, by_depth, targets_below, KeepLimits, AreAsserts, AreAsserting}
-use Rattle.lzk_level.specs.Levels.{place_in, AreValues, Begins, HaveWidthsBelow, StandBelow}
+use Rattle.lzk_level.specs.Checking.{check_of, of_depth, by_depth, KeepLimits, AreAsserts, AreAsserting}
+use Rattle.lzk_level.proofs.Unshared.{targets_below, place_in, HaveWidthsBelow, StandBelow, AreStacked}
+use Rattle.lzk_level.specs.Levels.{AreValues, Begins}
 use Rattle.lzk_level.specs.Nodes.{Nodes, node_count, IsNode, AreGates}
 use Rattle.lzk_level.proofs.AfterLaws.{depths-are}
 use Rattle.lzk_level.proofs.AssertingLaws.{are-targets, asserted-values, asserted-count, narrow, wires-few, lists-count, mul-more}
 use Rattle.lzk_level.proofs.CheckingLaws.{check-place, all-placed, deepest, depth-light, depth-each}
 use Rattle.lzk_level.proofs.FinishLaws.{greatest-each, within-limits, depths-long, ready-weights}
 use Rattle.lzk_level.proofs.TowerLaws.{mapped-at}
-use Rattle.lzk_level.specs.Stacking.{AreStacked}
 
 -- asserted nodes, and how many layers they need
 pub record Asserted {A : Type 0} (inputs : ℕ) (made : List (Gate A)) (depths last asserts : List ℕ) (count : ℕ) : Type 0 where
@@ -242,20 +242,6 @@ module _ {A : Type 0} (o : Ops A) (inputs : ℕ) (made : List (Gate A)) (depths 
   pub laid-asserting : (number : A → ℕ) (count : ℕ) (ws : List (List ℕ)) (layers all : List (Layer A)) → 1 ≤ count → 1 ≤ inputs → Laid count ws layers → IsAssertingForm o number inputs ws layers all → AreAsserting o number inputs made depths asserts count all
   laid-asserting number count ws layers all some first l form =
       are-asserting number count layers all l.long some l.asserted l.widths_are l.outputs_are l.stands first (subst (λ xs. IsAssertingForm o number inputs xs layers all) l.targets_are form)
-
-  -- a node of the uppermost level
-  pub record IsTop (count k : ℕ) : Type 0 where
-    pub within : k < length depths
-    pub deep_as : at depths k ≡ count
-    pub needed_there : count ≤ at last k
-
-  pub tops : (count : ℕ) (outputs : List ℕ) → AreAsserts inputs made depths asserts count → ((i : ℕ) → i < length asserts → min count (at depths (at asserts i) + 1) ≤ at last (at asserts i)) → outputs ≡ of_depth depths count asserts
-      → (i : ℕ) → i < length outputs → IsTop count (at outputs i)
-  tops count outputs given needed e =
-      subst (λ ks. (i : ℕ) → i < length ks → IsTop count (at ks i)) (sym e)
-      (λ i l. let own = depth-each depths (λ k. (k < length depths) × (min count (at depths k + 1) ≤ at last k)) count asserts (λ j m. ((given.nodes j m).1, needed j m)) i l in
-      let both = own.0 in
-      record { within = both.0; deep_as = own.1; needed_there = omega (arith, both.1, own.1) })
 
 -- each node's check is its value
 pub check-value : {A : Type 0} (o : Ops A) (depths asserts : List ℕ) (count : ℕ) (values checks : List A) (k : ℕ) → k < length asserts → count ≡ greatest 1 (map (at depths) asserts) → checks ≡ map (entry o values) (by_depth depths asserts (suc count))

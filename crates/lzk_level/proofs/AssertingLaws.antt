@@ -11,8 +11,9 @@ use Rattle.lzk_circuit.specs.Wires.{wires_of}
 use Rattle.lzk_circuit_reduce.specs.Attached.{AreNarrowWith}
 use Rattle.lzk_circuit_reduce.specs.Renumbering.{at}
 use Rattle.lzk_circuit_reduce.specs.Targets.{AreBelow, AreTargets, target_values, target_count}
-use Rattle.lzk_level.specs.Checking.{of_depth, by_depth, level_targets, targets_below}
-use Rattle.lzk_level.specs.Levels.{has_wire, place_in, width_of, Stands, StandFrom, HaveWidths}
+use Rattle.lzk_level.specs.Checking.{of_depth, by_depth}
+use Rattle.lzk_level.proofs.Unshared.{level_targets, targets_below, place_in, width_of, Stands, StandFrom, HaveWidths}
+use Rattle.lzk_level.specs.Levels.{has_wire}
 use Rattle.lzk_level.proofs.CheckingLaws.{depth-each, depth-few}
 use Rattle.lzk_level.proofs.LevelLaws.{place-most, place-below, wire-there}
 

@@ -1,5 +1,5 @@
 -- Sources with one code are alike.
-use Rattle.std.specs.Prelude.{◌≡◌, ℕ, ◌+◌, ◌≤◌, List, [], ◌∷◌, map, count_by, cond}
+use Rattle.std.specs.Prelude.{◌≡◌, ℕ, ◌+◌, List, [], ◌∷◌, map, count_by, cond}
 use Rattle.std.proofs.Common.{refl, sym, ap, ◌∙◌, arith, subst}
 use Rattle.std.proofs.lemmas.List.Sums.{sum_by-cons}
 use Rattle.lzk_field.specs.Ring.{Ops, RingLaws}
@@ -8,7 +8,7 @@ use Rattle.lzk_expr.specs.Trees as tree
 use Rattle.lzk_expr.specs.Codes.{CodeReads, Coded, IsCodeOf, IsSomeCode, code_words, code_done, nameless}
 use Rattle.lzk_level.specs.Compilable.{AreStatementsWithin, statements_size}
 use Rattle.lzk_level.specs.Compiled.{IsCompilable}
-use Rattle.lzk_level.specs.Finished.{AreBuilt, IsSomeBuilt}
+use Rattle.lzk_level.specs.Finished.{AreBuilt}
 use Rattle.lzk_level.specs.Steps.{Held}
 use Rattle.lzk_level.specs.Makings.{IsOnTheWay, with_some_name}
 use Rattle.lzk_level.proofs.FormedLaws.{compilable}

@@ -9,7 +9,7 @@ use Rattle.lzk_level.specs.Nodes.{combined}
 use Rattle.lzk_circuit_reduce.specs.Renumbering.{at}
 use Rattle.lzk_level.specs.Bounds.{at_parts, total}
 use Rattle.lzk_circuit_reduce.specs.Rows.{row_value}
-use Rattle.lzk_level.specs.Levels.{row_at}
+use Rattle.lzk_level.proofs.Unshared.{row_at}
 
 module _ {A : Type 0} (o : Ops A) (r : RingLaws o) where
   pub combined-append : (values : List A) (ps qs : List (A × ℕ)) → combined o values (ps ++ qs) ≡ o.plus (combined o values ps) (combined o values qs)

@@ -23,7 +23,10 @@ use Rattle.lzk_level.specs.Checking.{check_of, HasChecks, HasFewOutputs}
 use Rattle.lzk_level.specs.Meanings.{HasOutputs}
 use Rattle.lzk_level.specs.Compilable.{statements_size, AreNodes}
 use Rattle.lzk_level.specs.Compiling.{scope, inputs_alone, nodes_of}
-use Rattle.lzk_level.specs.Compiled.{HasValues, HasCheckedValues, limit_passed, limit_passed_v2, layers_in, output_depths, IsCompilable}
+use Rattle.lzk_level.specs.Compiled.{HasValues, HasCheckedValues, limit_passed, limit_passed_v2, layers_in, limit_in, limit_in_v2, output_depths, IsCompilable}
+use Rattle.lzk_level.specs.CompiledCode.{IsCompiled, limit_of, IsCircuitIn, limit_of_made}
+use Rattle.lzk_level.specs.declared.compiling.Version.{Version}
+use Rattle.lzk_level.specs.declared.compiling.Version.TheVariants.{One, Two}
 use Rattle.lzk_level.specs.Finished.{AreBuilt, IsCircuitOver, IsCircuitOverV2}
 use Rattle.lzk_level.specs.SomeCircuit.{IsCircuitOf, IsCircuitOfV2}
 use Rattle.lzk_level.proofs.TowerLaws.{mapped-at}
@@ -79,11 +82,6 @@ module _ {A : Type 0} (o : Ops A) (element : ℕ → A) (ss : List Statement) wh
       ap₂ (λ (m : Nodes A) l. map (entry o (node_values o m public private)) l) is outputs ∙ source-value o r element public private ss (a ∙ p ∙ built-publics n is) (b ∙ q ∙ built-privates n is) good.inputs in
       ap (λ ds. entry o checks (check_of ds k)) (sym depths) ∙ h public private (a ∙ p) (b ∙ q) k within
       ∙ sym (mapped-at o (entry o (node_values o n public private)) ks k within) ∙ ap (λ xs. entry o xs k) values
-
-pub are-built : {A X E : Type 0} (o : Ops A) (element : ℕ → A) (ss : List Statement) → IsCompilable ss → (made : Result X E) (nodes : X → Nodes A) (outputs : X → List ℕ)
-    → IfOk made (λ m. nodes m ≡ (nodes_of o element ss).nodes) → IfOk made (λ m. outputs m ≡ (nodes_of o element ss).outputs) → IfOk made (λ m. AreBuilt o element ss (nodes m) (outputs m))
-are-built o element ss good (Err e) nodes outputs is are = tt
-are-built o element ss good (Ok m) nodes outputs is are = record { compilable = good; nodes = is; outputs_are = are }
 
 module _ {A : Type 0} (o : Ops A) (element : ℕ → A) (ss : List Statement) (r : RingLaws o) (n : Nodes A) (ks : List ℕ) (b : AreBuilt o element ss n ks) where
   pub circuit-over : (circuit : Result (Wiring A) LevelError) → IfOk circuit (λ c. c.version ≡ 1) → IfOk circuit (λ c. c.publics ≡ n.publics) → IfOk circuit (λ c. c.privates ≡ n.privates)
@@ -162,6 +160,31 @@ gf-circuit-v2 s c is h = record {
   outputs = h.outputs;
   reduced = h.reduced;
 }
+
+-- in either version
+pub gold-compiled : (v : Version) (s : SourceTree) (c : Wiring _) → Goldilocks ≡ s.field_is → IsCircuitIn v gold.ops gold.number gold.of_number s.statements c → IsCompiled v s (Gold c)
+gold-compiled One s c is h = gold-circuit s c is h
+gold-compiled Two s c is h = gold-circuit-v2 s c is h
+
+pub gold-limit : (v : Version) (s : SourceTree) → Goldilocks ≡ s.field_is → limit_of_made v (nodes_of gold.ops gold.of_number s.statements) ≡ limit_of v s
+gold-limit One s is = ap (λ f. limit_in f s.statements) is
+gold-limit Two s is = ap (λ f. limit_in_v2 f s.statements) is
+
+pub gold-within : (v : Version) (s : SourceTree) (c : Wiring _) → Goldilocks ≡ s.field_is → IsCircuitIn v gold.ops gold.number gold.of_number s.statements c → limit_of v s ≡ None
+gold-within One s c is h = sym (gold-limit One s is) ∙ h.within
+gold-within Two s c is h = sym (gold-limit Two s is) ∙ h.within
+
+pub gf-compiled : (v : Version) (s : SourceTree) (c : Wiring _) → Gf2_128 ≡ s.field_is → IsCircuitIn v gf.ops gf.number gf.of_number s.statements c → IsCompiled v s (Gf c)
+gf-compiled One s c is h = gf-circuit s c is h
+gf-compiled Two s c is h = gf-circuit-v2 s c is h
+
+pub gf-limit : (v : Version) (s : SourceTree) → Gf2_128 ≡ s.field_is → limit_of_made v (nodes_of gf.ops gf.of_number s.statements) ≡ limit_of v s
+gf-limit One s is = ap (λ f. limit_in f s.statements) is
+gf-limit Two s is = ap (λ f. limit_in_v2 f s.statements) is
+
+pub gf-within : (v : Version) (s : SourceTree) (c : Wiring _) → Gf2_128 ≡ s.field_is → IsCircuitIn v gf.ops gf.number gf.of_number s.statements c → limit_of v s ≡ None
+gf-within One s c is h = sym (gf-limit One s is) ∙ h.within
+gf-within Two s c is h = sym (gf-limit Two s is) ∙ h.within
 
 -- an error that was handed on
 pub handed_on : {X : Type 0} (r : Result X LevelError) (P : LevelError → Type 0) (e : LevelError) → IsErrAnd r (λ d. d ≡ e) → P e → IfErr r P

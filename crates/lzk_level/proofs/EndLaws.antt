@@ -12,7 +12,7 @@ use Rattle.lzk_level.specs.declared.lets.Operand.{Operand}
 use Rattle.lzk_level.specs.declared.lets.Operand.TheVariants.{Constant, AtNode}
 use Rattle.lzk_level.specs.Nodes.{Nodes, nodes_from}
 use Rattle.lzk_level.specs.Compiling.{Scope, scope, are_constant_parts, constants, MadeParts, next, summed, made_parts}
-use Rattle.lzk_level.specs.Steps.{Held, Valued, with_value, held_product, part_total, part_held, cut_to, sum_of_parts, held_sum, held_closed, begun}
+use Rattle.lzk_level.specs.Steps.{Valued, with_value, held_product, part_total, part_held, cut_to, sum_of_parts, held_sum, held_closed, begun}
 use Rattle.lzk_level.specs.Makings.{expr_value, nodes_behind, parts_behind, held_behind, halves_held, reads_held}
 use Rattle.lzk_level.proofs.MadeLaws.{Grown, parts-grown}
 use Rattle.lzk_level.proofs.ReadLaws.{open_held, halves, reads-are, atom-law, product-law, part-total-law, parts-law}
@@ -29,13 +29,13 @@ module _ {A : Type 0} where
       ap (λ xs. nodes_from m.publics m.privates xs) (ap (take (length n.made)) g.behind ∙ take_at n.made g.more (length n.made) refl)
       ∙ ap₂ (λ p q. nodes_from p q n.made) g.publics g.privates
 
-  summed-at : (b : Bool) (n : Nodes A) (t : A) (p : MadeParts A) (m : Held A) → cut_to m.nodes m.now.base ≡ n → record { nodes = m.nodes; parts = drop m.now.begin m.parts } ≡ p
+  summed-at : (b : Bool) (n : Nodes A) (t : A) (p : MadeParts A) (m : Nodes A) (base : ℕ) (parts : List (A × ℕ)) → cut_to m base ≡ n → record { nodes = m; parts = parts } ≡ p
       → record {
         nodes = cond b n (cond b (next n (gate.Constant t)) (summed p)).nodes;
         operand = cond b (Constant t) (AtNode (cond b (next n (gate.Constant t)) (summed p)).node);
-      } ≡ sum_of_parts m (cond b (Some t) None)
-  summed-at true n t p m h k = ap (λ x. record { nodes = x; operand = Constant t }) (sym h)
-  summed-at false n t p m h k = ap (λ (q : MadeParts A). record { nodes = (summed q).nodes; operand = AtNode (summed q).node }) (sym k)
+      } ≡ sum_of_parts m base parts (cond b (Some t) None)
+  summed-at true n t p m base parts h k = ap (λ x. record { nodes = x; operand = Constant t }) (sym h)
+  summed-at false n t p m base parts h k = ap (λ (q : MadeParts A). record { nodes = (summed q).nodes; operand = AtNode (summed q).node }) (sym k)
 
   alone : (outer : List (A × ℕ)) → (length (outer ++ []) == length outer) ≡ true
   alone outer = eq-eqb (length (outer ++ [])) (length outer) (ap length (append-nil outer))
@@ -50,8 +50,9 @@ module _ {A : Type 0} (s : Scope A) (r : RingLaws s.ops) (n : Nodes A) (outputs 
   sum-at hs NoPart minus es negated ready =
       let h : Half = record { parts = NoPart; minus = minus; factors = es; negated = negated } in
       let m = open_held s r n outputs left hs h ready (nodes_behind s n (h ∷ hs)) (parts_behind s n (h ∷ hs)) in
+      let q = part_held s.ops m in
       product-law s r n outputs left hs h ready (parts_behind s n (h ∷ hs))
-      ∙ ap (λ b. if b then held_product s.ops m else sum_of_parts (part_held s.ops m) (part_total s.ops m)) (sym (alone (parts_behind s n hs)))
+      ∙ ap (λ b. if b then held_product s.ops m else sum_of_parts q.nodes m.now.base (drop m.now.begin q.parts) (part_total s.ops m)) (sym (alone (parts_behind s n hs)))
   sum-at hs (part k f ps) minus es negated ready =
       let h : Half = record { parts = part k f ps; minus = minus; factors = es; negated = negated } in
       let m = open_held s r n outputs left hs h ready (nodes_behind s n (h ∷ hs)) (parts_behind s n (h ∷ hs)) in
@@ -60,12 +61,13 @@ module _ {A : Type 0} (s : Scope A) (r : RingLaws s.ops) (n : Nodes A) (outputs 
       let all = parts_of_half h in
       let p = made_parts s base all in
       let same = parts-law s r n outputs left hs h ready in
+      let q = part_held s.ops m in
       ap (expr_value s base) (added-more ps k minus f (multiplied es))
-      ∙ summed-at (are_constant_parts s all) base (parts_value (constants s) all) p (part_held s.ops m)
+      ∙ summed-at (are_constant_parts s all) base (parts_value (constants s) all) p q.nodes m.now.base (drop m.now.begin q.parts)
       (ap (λ (q : MadeParts A). cut_to q.nodes (length base.made)) (sym same) ∙ cut-grown base p.nodes _ (parts-grown s base all))
       (ap (λ (q : MadeParts A). record { nodes = q.nodes; parts = drop (length outer) q.parts }) (sym same) ∙ ap (λ qs. record { nodes = p.nodes; parts = qs }) (drop_at outer p.parts (length outer) refl))
-      ∙ ap (sum_of_parts (part_held s.ops m)) (part-total-law s r n outputs left hs h ready (parts_behind s n (h ∷ hs)))
-      ∙ ap (λ b. if b then held_product s.ops m else sum_of_parts (part_held s.ops m) (part_total s.ops m)) (sym (not-alone outer _ _))
+      ∙ ap (sum_of_parts q.nodes m.now.base (drop m.now.begin q.parts)) (part-total-law s r n outputs left hs h ready (parts_behind s n (h ∷ hs)))
+      ∙ ap (λ b. if b then held_product s.ops m else sum_of_parts q.nodes m.now.base (drop m.now.begin q.parts) (part_total s.ops m)) (sym (not-alone outer _ _))
 
   -- the value of the sum that is read
   pub sum-law : (hs : List Half) (h : Half) (ready : Bool) → expr_value s (nodes_behind s n hs) (added (parts_of_half h)) ≡ held_sum s.ops (halves s r n outputs left hs h ready)

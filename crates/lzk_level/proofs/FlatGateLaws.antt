@@ -1,5 +1,5 @@
 -- Gates whose parts stand in one list.
-use Rattle.std.specs.Prelude.{◌≡◌, ℕ, ◌+◌, ◌<◌, ◌≤◌, List, [], ◌∷◌, ◌++◌, length, take, Result, Ok, Err, OnErr}
+use Rattle.std.specs.Prelude.{◌≡◌, ℕ, ◌+◌, ◌<◌, ◌≤◌, List, [], ◌∷◌, ◌++◌, length, take, Result, Ok, Err, IfOk, OnOk, OnErr, IsErrAnd}
 use Rattle.std.proofs.Common.{zero, suc, refl, sym, ap, ap₂, ◌∙◌, arith, subst, get_or}
 use Rattle.std.proofs.lemmas.List.{length-append, map-append}
 use Rattle.lzk_level.specs.declared.gates.Made.{Made}
@@ -13,6 +13,15 @@ use Rattle.lzk_level.proofs.SpanLaws.{piece-kept, last-piece}
 pub on-err : {T E P : Type 0} → (r : Result T E) → P → OnErr r P
 on-err (Ok x) p = tt
 on-err (Err e) p = p
+
+-- a fault that is handed on answers nothing
+pub not-ok : {T E : Type 0} (r : Result T E) (Q : E → Type 0) (P : T → Type 0) → IsErrAnd r Q → IfOk r P
+not-ok (Ok x) Q P h = absurd h
+not-ok (Err e) Q P h = tt
+
+pub not-on-ok : {T E : Type 0} (P : Type 0) (r : Result T E) (Q : E → Type 0) → IsErrAnd r Q → OnOk r P
+not-on-ok P (Ok x) Q h = absurd h
+not-on-ok P (Err e) Q h = tt
 
 module _ {A : Type 0} where
   wider : (m n : ℕ) (gate : Made A) → m ≤ n → IsSpanned m gate → IsSpanned n gate

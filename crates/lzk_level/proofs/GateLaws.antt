@@ -110,6 +110,6 @@ below-more ds d f l k m = elim (cases_lt k (length ds)) [
       omega (arith, ap (at (ds ++ d ∷ [])) e, get_or-append_seam ds d [] 0, l, length-append ds (d ∷ []))
 ]
 
-pub capped-all : (m n : ℕ) (weights all ks : List ℕ) → m ≡ n → weights ≡ map cap all → cap (cap (m + total weights) + total (map (at weights) ks)) ≡ cap (n + total all + total (map (at all) ks))
+pub capped-all : (m n : ℕ) (weights all ks : List ℕ) → m ≡ n → weights ≡ map cap all → cap (cap (m + total weights) + cap (total (map (at weights) ks))) ≡ cap (n + total all + total (map (at all) ks))
 capped-all m n weights all ks e w =
-    ap (λ ws. cap (cap (m + total ws) + total (map (at ws) ks))) w ∙ omega (arith, e, cap-total all, cap-outputs all ks)
+    ap (λ ws. cap (cap (m + total ws) + cap (total (map (at ws) ks)))) w ∙ omega (arith, e, cap-total all, cap-outputs all ks)

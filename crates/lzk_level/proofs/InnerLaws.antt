@@ -9,7 +9,8 @@ use Rattle.lzk_circuit.specs.Valid.{AreTerms}
 use Rattle.lzk_circuit.specs.Wires.{coef, wire}
 use Rattle.lzk_circuit_reduce.specs.Renumbering.{at}
 use Rattle.lzk_circuit_reduce.specs.Rows.{IsRow, row_value, placed}
-use Rattle.lzk_level.specs.Levels.{place_in, row_at, has_wire, AreRows, lengths_in, lengths_of}
+use Rattle.lzk_level.specs.Levels.{has_wire}
+use Rattle.lzk_level.proofs.Unshared.{place_in, row_at, AreRows, lengths_in, lengths_of}
 use Rattle.lzk_level.proofs.LevelLaws.{place-below}
 use Rattle.lzk_level.proofs.NodeRowLaws.{all-rows}
 use Rattle.lzk_level.proofs.OneLaws.{FirstIsRow, first-none, first-skips, first-adds}

@@ -4,7 +4,8 @@ use Rattle.std.proofs.Common.{zero, suc, ◌⊎◌, inl, inr, sym, ap, ◌∙◌
 use Rattle.std.proofs.lemmas.Bool.{cases_lt, leb-true, ltb-true, le-leb, lt-ltb, and_from, and_parts}
 use Rattle.lzk_circuit_reduce.specs.Renumbering.{at}
 use Rattle.lzk_circuit.specs.declared.layer.Term.{Term}
-use Rattle.lzk_level.specs.Levels.{has_wire, place_in, row_at}
+use Rattle.lzk_level.specs.Levels.{has_wire}
+use Rattle.lzk_level.proofs.Unshared.{place_in, row_at}
 
 -- when a node has a wire
 pub wire-there : (depths last : List ℕ) (level k : ℕ) → at depths k ≤ level → level < at last k → has_wire depths last level k ≡ true

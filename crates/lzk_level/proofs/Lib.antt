@@ -1,3 +1,4 @@
+pub mod Unshared
 pub mod LevelLaws
 pub mod SpanLaws
 pub mod NodeForms
@@ -50,6 +51,5 @@ pub mod MadeGates
 pub mod SomeTower
 pub mod SomeCircuits
 pub mod SomeCircuitsV2
-pub mod Versions
 pub mod TakeLaws
 pub mod CodeSources

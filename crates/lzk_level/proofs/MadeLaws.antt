@@ -1,20 +1,15 @@
 -- How the nodes of expressions grow.
-use Rattle.std.specs.Prelude.{◌≡◌, ℕ, ◌+◌, ◌<◌, ◌≤◌, Bool, true, false, ◌&&◌, cond, List, [], ◌∷◌, ◌++◌, length, Option, Some, None, unwrap_or}
-use Rattle.std.proofs.Common.{zero, suc, refl, sym, ap, ap₂, ◌∙◌, arith, subst, get_or, length-append, append_assoc, append-nil, drop, drop-cons, add-one}
+use Rattle.std.specs.Prelude.{◌≡◌, ℕ, ◌+◌, ◌≤◌, Bool, true, false, ◌&&◌, cond, List, [], ◌∷◌, ◌++◌, length, Option, Some, None, unwrap_or}
+use Rattle.std.proofs.Common.{zero, suc, refl, sym, ap, ◌∙◌, arith, subst, get_or, length-append, append_assoc, append-nil}
 use Rattle.lzk_expr.specs.Trees.{Expr, Number, PublicInput, PrivateInput, Named, Neg, Added, Multiplied, Parts, NoPart, part, Exprs, NoExpr, factor}
-use Rattle.lzk_expr.specs.SourceValues.{signed}
-use Rattle.lzk_expr.specs.declared.ast.Expr.{Expr as Held}
-use Rattle.lzk_expr.specs.declared.ast.Part.{Part}
-use Rattle.lzk_expr.specs.View.{expr_of, part_list, expr_list}
-use Rattle.lzk_expr.proofs.Trees.{part_is}
 use Rattle.lzk_level.specs.Gates.{Gate}
 use Rattle.lzk_level.specs.Gates as gate
 use Rattle.lzk_level.specs.declared.lets.Operand.{Operand}
 use Rattle.lzk_level.specs.declared.lets.Operand.TheVariants.{Constant, AtNode}
 use Rattle.lzk_level.specs.Nodes.{Nodes, node_count, with_gate, IsNode, ArePartsOf}
 use Rattle.lzk_level.specs.Compilable.{IsWithin, ArePartsWithin, AreFactorsWithin, size_of, parts_size, factors_size, IsOperand, AreOperands, IsNodeOrNone}
-use Rattle.lzk_level.specs.Compiling.{Scope, let_at, is_known, known, is_constant, are_constant_parts, are_constant, constant, constant_of, constant_factor, Made, MadeFactors, next, at_let, multiple, summed, joined, factored, scaled, product, made, made_parts, made_factors}
-use Rattle.lzk_level.proofs.ConstantLaws.{known-at, constant-is}
+use Rattle.lzk_level.specs.Compiling.{Scope, let_at, is_known, known, is_constant, are_constant_parts, are_constant, constant, constant_factor, Made, MadeFactors, next, at_let, multiple, summed, joined, factored, scaled, product, made, made_parts, made_factors}
+use Rattle.lzk_level.proofs.ConstantLaws.{known-at}
 
 pub node-more : (n m k : ℕ) → n ≤ m → IsNode n k → IsNode m k
 node-more n m k l h = (h.0, omega (arith, l, h.1))
@@ -271,56 +266,3 @@ module _ {A : Type 0} (s : Scope A) where
 
   pub made-node : (n x : Nodes A) (k : ℕ) (e : Expr) → x ≡ (made s n e).nodes → k ≡ (made s n e).node → IsWithin n.publics n.privates e → AreOperands (node_count n) s.lets → IsNode (node_count x) k
   made-node n x k e is at w h = subst (λ (y : Nodes A). IsNode (node_count y) k) (sym is) (subst (λ i. IsNode (node_count (made s n e).nodes) i) (sym at) (made-there n e w h))
-
-  pub made-known : (n : Nodes A) (e : Expr) (c : A) → constant_of s e ≡ Some c → made s n e ≡ next n (gate.Constant c)
-  made-known n e c h = let is = constant-is s e c h in made-constant n e is.0 ∙ ap (λ x. next n (gate.Constant x)) is.1
-
-  -- an operand of the list
-  pub let-operand : (n i : ℕ) (x : Operand A) → x ≡ let_at s i → AreOperands n s.lets → IsOperand n x
-  let-operand n i x is h = subst (IsOperand n) (sym is) (operand-at n s.lets i s.ops.zero h)
-
-  -- what holds behind a factor
-  pub factored-count : (n x : Nodes A) (before : Option ℕ) (e : Expr) → x ≡ (factored s n before e (made s n e)).nodes → (node_count n ≤ node_count x) × (node_count x ≤ node_count n + (1 + size_of e))
-  factored-count n x before e is =
-      let P : Nodes A → Type 0 = λ y. (node_count n ≤ node_count y) × (node_count y ≤ node_count n + (1 + size_of e)) in
-      subst P (sym is) (grown-count n _ (1 + size_of e) (grown-factored n before e (made s n e) (size_of e) (made-grown n e)))
-
-  pub factored-inputs : (n x : Nodes A) (before : Option ℕ) (e : Expr) (P : ℕ → ℕ → Type 0) → x ≡ (factored s n before e (made s n e)).nodes → P n.publics n.privates → P x.publics x.privates
-  factored-inputs n x before e P is h = subst (λ (y : Nodes A). P y.publics y.privates) (sym is) (same-inputs n _ (1 + size_of e) P (grown-factored n before e (made s n e) (size_of e) (made-grown n e)) h)
-
-  pub factored-node : (n x : Nodes A) (before k : Option ℕ) (e : Expr) → x ≡ (factored s n before e (made s n e)).nodes → k ≡ (factored s n before e (made s n e)).node → IsWithin n.publics n.privates e → AreOperands (node_count n) s.lets → IsNodeOrNone (node_count n) before → IsNodeOrNone (node_count x) k
-  factored-node n x before k e is at w h b =
-      subst (λ (y : Nodes A). IsNodeOrNone (node_count y) k) (sym is) (subst (λ i. IsNodeOrNone (node_count (factored s n before e (made s n e)).nodes) i) (sym at) (factored-there n before e (made s n e) b (made-there n e w h)))
-
-  pub parts-count : (n x : Nodes A) (ps : Parts) → x ≡ (made_parts s n ps).nodes → node_count x ≤ node_count n + parts_size ps
-  parts-count n x ps is = let P : Nodes A → Type 0 = λ y. node_count y ≤ node_count n + parts_size ps in subst P (sym is) (grown-count n _ (parts_size ps) (parts-grown n ps)).1
-
-  pub parts-nodes : (n x : Nodes A) (ps : Parts) (list : List (A × ℕ)) → x ≡ (made_parts s n ps).nodes → list ≡ (made_parts s n ps).parts → ArePartsWithin n.publics n.privates ps → AreOperands (node_count n) s.lets → ArePartsOf (node_count x) list
-  parts-nodes n x ps list is at w h = subst (λ (y : Nodes A). ArePartsOf (node_count y) list) (sym is) (subst (λ l. ArePartsOf (node_count (made_parts s n ps).nodes) l) (sym at) (parts-there n ps w h))
-
-  pub factors-count : (n x : Nodes A) (es : Exprs) → x ≡ (made_factors s n None es).nodes → node_count x ≤ node_count n + factors_size es
-  factors-count n x es is = let P : Nodes A → Type 0 = λ y. node_count y ≤ node_count n + factors_size es in subst P (sym is) (grown-count n _ (factors_size es) (factors-grown n None es)).1
-
-  pub factors-node : (n x : Nodes A) (es : Exprs) (k : ℕ) → x ≡ (made_factors s n None es).nodes → Some k ≡ (made_factors s n None es).node → AreFactorsWithin n.publics n.privates es → AreOperands (node_count n) s.lets → IsNode (node_count x) k
-  factors-node n x es k is at w h = subst (λ (y : Nodes A). IsNode (node_count y) k) (sym is) (subst (λ i. IsNodeOrNone (node_count (made_factors s n None es).nodes) i) (sym at) (factors-there n None es w h tt))
-
-  pub factors-not-none : (n : Nodes A) (es : Exprs) → are_constant s es ≡ false → None ≡ (made_factors s n None es).node → ⊥
-  factors-not-none n es free h = let k = factors-some n None es free in let e : None ≡ Some k.0 = h ∙ k.1 in absurd cc
-
-  -- one part more in front of the others
-  pub part-pushed : (n x : Nodes A) (minus : Bool) (e : Expr) (rest : Parts) (front pushed all : List (A × ℕ)) (coef : A) (k : ℕ)
-      → x ≡ (made s n e).nodes → k ≡ (made s n e).node → coef ≡ signed s.ops minus s.ops.one → pushed ≡ front ++ (coef, k) ∷ [] → front ++ (made_parts s n (part minus e rest)).parts ≡ all → pushed ++ (made_parts s x rest).parts ≡ all
-  part-pushed n x minus e rest front pushed all coef k is at c p h =
-      ap₂ (λ (l : List (A × ℕ)) (y : Nodes A). l ++ (made_parts s y rest).parts) p is
-      ∙ append_assoc front ((coef, k) ∷ []) (made_parts s (made s n e).nodes rest).parts
-      ∙ ap₂ (λ (b : A) (i : ℕ). front ++ (b, i) ∷ (made_parts s (made s n e).nodes rest).parts) c at
-      ∙ h
-
--- ---- the list from one on
-pub parts-at : (ps : List Part) (i : ℕ) (p : Part) → i < length ps → p ≡ get_or ps i p → part_list (drop i ps) ≡ part p.minus (expr_of p.expr) (part_list (drop (i + 1) ps))
-parts-at ps i p l is =
-    ap part_list (drop-cons ps i p l ∙ ap₂ (λ (q : Part) qs. q ∷ qs) (sym is) (ap (λ k. drop k ps) (sym (add-one i))))
-    ∙ ap (λ q. part q.0 q.1 (part_list (drop (i + 1) ps))) (part_is p)
-
-pub factors-at : (es : List Held) (i : ℕ) (e : Held) → i < length es → e ≡ get_or es i e → expr_list (drop i es) ≡ factor (expr_of e) (expr_list (drop (i + 1) es))
-factors-at es i e l is = ap expr_list (drop-cons es i e l ∙ ap₂ (λ (x : Held) xs. x ∷ xs) (sym is) (ap (λ k. drop k es) (sym (add-one i))))

@@ -148,14 +148,13 @@ module _ {A : Type 0} (o : Ops A) (r : RingLaws o) where
       }
 
   -- both halves of a sum, merged
-  pub sum-of-two : {X E : Type 0} (result : Result X E) (items : X → List (Term A)) (inputs : ℕ) (made : List (Gate A)) (depths : List ℕ) (n depth i : ℕ) (ps front back : List (A × ℕ)) (left right : List (Term A)) → front ≡ take i ps → back ≡ drop i ps
+  pub sum-of-two : (inputs : ℕ) (made : List (Gate A)) (depths : List ℕ) (n depth i : ℕ) (ps front back : List (A × ℕ)) (left right sum : List (Term A)) → front ≡ take i ps → back ≡ drop i ps
       → IsSumForm o inputs made depths n depth front left → IsSumForm o inputs made depths n depth back right
-      → ((width : ℕ) → IsRow o width left → IsRow o width right → IfOk result (λ s. IsRow o width (items s)))
-      → ((ns : List ℕ) (d : ℕ) → AreUnder ns d left → AreUnder ns d right → IfOk result (λ s. AreUnder ns d (items s)))
-      → ((below : List A) → IfOk result (λ s. row_value o below (items s) ≡ plus (row_value o below left) (row_value o below right)))
-      → IfOk result (λ s. length (items s) ≤ length left + length right) → IfOk result (λ s. IsSumForm o inputs made depths n depth ps (items s))
-  sum-of-two (Err e) items inputs made depths n depth i ps front back left right f b l m terms under value short = tt
-  sum-of-two (Ok s) items inputs made depths n depth i ps front back left right f b l m terms under value short =
+      → ((width : ℕ) → IsRow o width left → IsRow o width right → IsRow o width sum)
+      → ((ns : List ℕ) (d : ℕ) → AreUnder ns d left → AreUnder ns d right → AreUnder ns d sum)
+      → ((below : List A) → row_value o below sum ≡ plus (row_value o below left) (row_value o below right))
+      → length sum ≤ length left + length right → IsSumForm o inputs made depths n depth ps sum
+  sum-of-two inputs made depths n depth i ps front back left right sum f b l m terms under value short =
       let whole : ps ≡ front ++ back = sym (ap (λ xs. xs ++ back) f ∙ ap (λ ys. take i ps ++ ys) b ∙ take-append-drop i ps) in
       record {
         terms = terms n l.terms m.terms;

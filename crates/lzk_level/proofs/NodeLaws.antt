@@ -11,8 +11,8 @@ use Rattle.lzk_level.specs.Nodes.{combined, gate_value, ArePartsOf, IsGate, AreG
 use Rattle.lzk_circuit_reduce.specs.Renumbering.{at}
 use Rattle.lzk_level.specs.Bounds.{at_parts, total, greatest, gate_depth, gate_weight}
 use Rattle.lzk_circuit_reduce.specs.Rows.{row_value}
-use Rattle.lzk_level.specs.Levels.{width_of, AreDepths, AreWeights, AreValues, AreShort, AreFactorsBelow, AreNeeded, ArePartsNeeded, AreLast, HaveValues, Stands, has_wire, placed_value}
-use Rattle.lzk_level.specs.Stacking.{AreWirePlaces}
+use Rattle.lzk_level.specs.Levels.{AreDepths, AreWeights, AreValues, has_wire}
+use Rattle.lzk_level.proofs.Unshared.{width_of, AreShort, AreFactorsBelow, AreNeeded, ArePartsNeeded, AreLast, HaveValues, Stands, placed_value, AreWirePlaces}
 use Rattle.lzk_level.proofs.CombineLaws.{value-at, length-at}
 use Rattle.lzk_level.proofs.LevelLaws.{place-below, wire-there}
 

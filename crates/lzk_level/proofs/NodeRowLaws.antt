@@ -11,9 +11,8 @@ use Rattle.lzk_circuit_reduce.specs.Renumbering.{at}
 use Rattle.lzk_circuit_reduce.proofs.RowLaws.{row-of-one}
 use Rattle.lzk_level.specs.Gates.{Gate, Constant, Combine, Mul}
 use Rattle.lzk_level.specs.Nodes.{AreGates}
-use Rattle.lzk_level.specs.Levels.{place_in, width_of, has_wire, AreDepths, AreLast, AreRows}
-use Rattle.lzk_level.specs.NodeRows.{AreAllRows, IsSingle, IsSumOf, IsGateRow, IsNodeRow}
-use Rattle.lzk_level.specs.Stacking.{AreWirePlaces}
+use Rattle.lzk_level.specs.Levels.{has_wire, AreDepths}
+use Rattle.lzk_level.proofs.Unshared.{place_in, width_of, AreLast, AreRows, AreAllRows, IsSingle, IsSumOf, IsGateRow, IsNodeRow, AreWirePlaces}
 use Rattle.lzk_level.proofs.LevelLaws.{place-below, wire-there}
 use Rattle.lzk_level.proofs.NodeLaws.{gate-counts, copy-counts, first-one, heavy, gate-short, factors-below, gate-facts}
 

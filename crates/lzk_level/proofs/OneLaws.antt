@@ -6,7 +6,8 @@ use Rattle.lzk_circuit.specs.declared.layer.Term.{Term}
 use Rattle.lzk_circuit_reduce.specs.Rows.{placed, ordered}
 use Rattle.lzk_circuit_reduce.specs.Renumbering.{at, of_wire}
 use Rattle.lzk_circuit_reduce.specs.Reduced.{terms_of}
-use Rattle.lzk_level.specs.Levels.{place_in, row_at, lengths_in, StartsWithOne, has_wire}
+use Rattle.lzk_level.specs.Levels.{has_wire}
+use Rattle.lzk_level.proofs.Unshared.{place_in, row_at, lengths_in, StartsWithOne}
 use Rattle.lzk_circuit_reduce.proofs.KeptLaws.{own-placed, own-before}
 use Rattle.lzk_level.proofs.LevelLaws.{place-below, wire-there}
 use Rattle.std.proofs.lemmas.Bool.{true≢false}

@@ -1,6 +1,6 @@
 -- The wires of a level, node by node.
-use Rattle.std.specs.Prelude.{◌≡◌, ℕ, ◌+◌, ◌-◌, ◌<◌, ◌≤◌, nat_le, cond, true, false, None, List, [], ◌∷◌, length}
-use Rattle.std.proofs.Common.{zero, suc, ◌⊎◌, inl, inr, sym, ap, ◌∙◌, arith, subst}
+use Rattle.std.specs.Prelude.{◌≡◌, ℕ, ◌+◌, ◌-◌, ◌<◌, ◌≤◌, nat_le, cond, Bool, true, false, None, List, [], ◌∷◌, length}
+use Rattle.std.proofs.Common.{zero, suc, ◌⊎◌, inl, inr, refl, sym, ap, ◌∙◌, arith, subst}
 use Rattle.std.proofs.lemmas.Bool.{cases_lt, true≢false, le-leb, lt-leb}
 use Rattle.std.proofs.lemmas.List.FromFn.{get_or-map-range_with_len}
 use Rattle.lzk_field.specs.Ring.{Ops, RingLaws, FieldLaws}
@@ -13,13 +13,12 @@ use Rattle.lzk_circuit_reduce.specs.declared.kept.KeptWires.{KeptWires}
 use Rattle.lzk_circuit_reduce.specs.Kept.{IsKept, IsTable}
 use Rattle.lzk_circuit_reduce.specs.Reduced.{terms_of}
 use Rattle.lzk_circuit_reduce.specs.Renumbering.{at, of_wire, triples, IsOne}
-use Rattle.lzk_circuit_reduce.specs.Rows.{IsRow, row_value}
+use Rattle.lzk_circuit_reduce.specs.Rows.{row_value}
 use Rattle.lzk_circuit_reduce.proofs.KeptLaws.{kept-terms, kept-different}
 use Rattle.lzk_circuit_reduce.proofs.RenumberLaws.{wire-value}
 use Rattle.lzk_circuit_reduce.proofs.SharedWireLaws.{Taking, placed-value, placed-one}
 use Rattle.lzk_level.specs.Levels.{has_wire}
-use Rattle.lzk_level.specs.Stacking.{ArePassedBy}
-use Rattle.lzk_level.specs.Wires.{AreFormValues, AreFormWeights, AreWires, CarryValues, IsLight, IsLevelLayer, going_on, weight_in}
+use Rattle.lzk_level.specs.Wires.{AreFormValues, AreFormWeights, AreWires, CarryValues, IsLight, IsNodeRow, IsLevelLayer, going_on, weight_in}
 use Rattle.lzk_level.proofs.LevelLaws.{wire-there, wire-needed}
 use Rattle.lzk_level.proofs.NumberedLaws.{goes-on-row, goes-on-value}
 
@@ -64,22 +63,20 @@ light-adds depths level weights k n m more some up light l h =
       )
     ]
 
+not_true : (b : Bool) → (b ≡ true → ⊥) → b ≡ false
+not_true true h = absurd (h refl)
+not_true false h = refl
+
 last_or : (j k : ℕ) → j < suc k → (j < k) ⊎ (j ≡ k)
 last_or j k l = elim (cases_lt j k) [ inl m ↦ inl m | inr m ↦ inr (omega (arith, l, m)) ]
 
--- a node that no level from here on uses has no wire
-wire-away : (depths last : List ℕ) (level k : ℕ) → at last k < level → has_wire depths last level k ≡ true → ⊥
+-- a node that no level above uses has no wire
+wire-away : (depths last : List ℕ) (level k : ℕ) → at last k ≤ level → has_wire depths last level k ≡ true → ⊥
 wire-away depths last level k low here = omega (arith, low, wire-needed depths last level k here)
 
 module _ {A : Type 0} (o : Ops A) (number_of : A → ℕ) (inputs : ℕ) (form : ℕ → List (Term A)) (depths last : List ℕ) (level : ℕ) (below : List ℕ) where
-  -- the row of node k, over the wires below
-  pub record RowOf (k : ℕ) (row : List (Term A)) : Type 0 where
-    pub is : (width : ℕ) → AreWires depths last (level - 1) width below → IsRow o width row
-    pub value : (values wires : List A) → AreFormValues o inputs (length depths) form values → CarryValues o depths last (level - 1) below values wires → row_value o wires row ≡ entry o values k
-    pub light : (weights : List ℕ) → AreFormWeights inputs (length depths) form weights → IsLight depths level weights k (length row)
-
-  -- that of the one goes on
-  pub one-row : RingLaws o → FieldLaws o → (row : List (Term A)) → 1 ≤ level → at depths 0 ≡ 0 → row ≡ going_on o 0 ∷ [] → RowOf 0 row
+  -- the row of the one goes on
+  pub one-row : RingLaws o → FieldLaws o → (row : List (Term A)) → 1 ≤ level → at depths 0 ≡ 0 → row ≡ going_on o 0 ∷ [] → IsNodeRow o inputs form depths last level below 0 row
   one-row r f row some zero_depth e = record {
     is = λ width w. goes-on-row o f width 0 row e w.some;
     value = λ values wires v c. goes-on-value o r wires 0 row e c.one ∙ c.one ∙ sym v.one;
@@ -104,29 +101,29 @@ module _ {A : Type 0} (o : Ops A) (number_of : A → ℕ) (inputs : ℕ) (form :
     pub over : (width : ℕ) → AreWires depths last (level - 1) width below → HaveWires width k kept here
 
   -- the first wire is that of the one, and no other node before this one has a wire
-  pub sharing-begins : (first w : ℕ) (none kept : KeptWires A) (here : List ℕ) (row : List (Term A)) → 1 ≤ level → level < at last 0 → ArePassedBy last level first → length here ≡ length depths → at here 0 ≡ w → none.count ≡ 0 → length none.terms.items ≡ 0
-      → ((width : ℕ) → IsKept o number_of width none) → length row ≡ 1 → IsOne o row → RowOf 0 row → Taking o number_of none kept row w → 1 ≤ kept.count → Sharing first kept here
-  sharing-begins first w none kept here row some high p room at_is none_there empty is single one r t some_wire =
+  pub sharing-begins : (first w : ℕ) (none kept : KeptWires A) (here : List ℕ) (row : List (Term A)) → 1 ≤ level → 1 ≤ first → ((j : ℕ) → 0 < j → j < first → at last j ≤ level) → length here ≡ length depths → at here 0 ≡ w → none.count ≡ 0 → length none.terms.items ≡ 0
+      → ((width : ℕ) → IsKept o number_of width none) → length row ≡ 1 → IsOne o row → IsNodeRow o inputs form depths last level below 0 row → Taking o number_of none kept row w → 1 ≤ kept.count → Sharing first kept here
+  sharing-begins first w none kept here row some begin passed room at_is none_there empty is single one r t some_wire =
       let least = λ (width : ℕ). t.first width (is width) none_there in
       record {
         table = t.table;
         room = room;
         some = omega (arith, some_wire);
-        few = omega (arith, t.count, none_there, p.some);
+        few = omega (arith, t.count, none_there, begin);
         one = at_is ∙ least 0;
-        light = λ weights h. omega (arith, t.short, single, empty, p.some, weight-more depths level weights first);
+        light = λ weights h. omega (arith, t.short, single, empty, begin, weight-more depths level weights first);
         over = λ width below_are.
             let row_is = r.is width below_are in
             let taken = t.terms width (is width) row_is in
             record {
               is = t.still width (is width) row_is;
               numbers = λ j l there. elim (cases_lt 0 j) [
-                | inl m ↦ absurd (wire-away depths last level j (p.each j m l) there)
+                | inl m ↦ absurd (wire-away depths last level j (passed j m l) there)
                 | inr m ↦ let first_is : 0 ≡ j = omega (arith, m) in subst (λ i. at here i < kept.count) first_is (omega (arith, at_is, t.wire width (is width) row_is))
               ];
               first = subst (λ i. IsOne o (of_wire i kept.terms.items)) (least width) (ap triples taken ∙ placed-one o w row one);
               values = λ values wires v c j l there. elim (cases_lt 0 j) [
-                | inl m ↦ absurd (wire-away depths last level j (p.each j m l) there)
+                | inl m ↦ absurd (wire-away depths last level j (passed j m l) there)
                 | inr m ↦
                     let first_is : 0 ≡ j = omega (arith, m) in
                     subst (λ i. row_value o wires (of_wire (at here i) kept.terms.items) ≡ entry o values i) first_is
@@ -154,9 +151,19 @@ module _ {A : Type 0} (o : Ops A) (number_of : A → ℕ) (inputs : ℕ) (form :
         };
   }
 
+  -- nodes that are passed
+  pub sharing-passes : (n k : ℕ) (kept : KeptWires A) (here : List ℕ) → k ≤ n → ((j : ℕ) → k ≤ j → j < n → at last j ≤ level) → Sharing k kept here → Sharing n kept here
+  sharing-passes zero k kept here up passed s = subst (λ i. Sharing i kept here) (let e : k ≡ 0 = omega (arith, up) in e) s
+  sharing-passes (suc n) k kept here up passed s = elim (cases_lt n k) [
+    | inl top ↦ subst (λ i. Sharing i kept here) (let e : k ≡ suc n = omega (arith, up, top) in e) s
+    | inr below_top ↦
+        let old = sharing-passes n k kept here below_top (λ j l m. passed j l (omega (arith, m))) s in
+        sharing-skips n kept here (not_true (has_wire depths last level n) (wire-away depths last level n (passed n below_top (omega arith)))) old
+  ]
+
   -- a node with a wire, which has this row
   pub sharing-adds : (k w : ℕ) (kept more : KeptWires A) (old here : List ℕ) (row : List (Term A)) → 1 ≤ level → 1 ≤ k → at depths k ≤ level → length here ≡ length old → at here k ≡ w → ((j : ℕ) → j < k → at here j ≡ at old j)
-      → RowOf k row → Taking o number_of kept more row w → Sharing k kept old → Sharing (suc k) more here
+      → IsNodeRow o inputs form depths last level below k row → Taking o number_of kept more row w → Sharing k kept old → Sharing (suc k) more here
   sharing-adds k w kept more old here row some_level behind up room at_is before r t s = record {
     table = t.table;
     room = room ∙ s.room;

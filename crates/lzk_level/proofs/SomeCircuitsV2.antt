@@ -23,7 +23,8 @@ use Rattle.lzk_circuit_reduce.proofs.AssertedForm.{some_asserting}
 use Rattle.lzk_circuit_reduce.proofs.NormalLaws.{zero_or_not}
 use Rattle.lzk_level.specs.Nodes.{Nodes, node_count, IsNode, node_values}
 use Rattle.lzk_level.specs.Bounds.{node_depths, node_weights, layer_count, wire_bound, total, level_fault_v2}
-use Rattle.lzk_level.specs.Checking.{of_depth, targets_below, HasChecks, HasFewOutputs}
+use Rattle.lzk_level.specs.Checking.{of_depth, HasChecks, HasFewOutputs}
+use Rattle.lzk_level.proofs.Unshared.{targets_below}
 use Rattle.lzk_level.specs.Compiling.{scope, inputs_alone, nodes_of}
 use Rattle.lzk_level.specs.Compiled.{HasCheckedValues, HasAsManyChecks, HasFewMade, limit_passed_v2, limit_in_v2, layers_in, layers_needed, IsCompilable}
 use Rattle.lzk_level.specs.SomeCircuit.{HasSomeCircuitV2, SomeCircuitV2}

@@ -13,8 +13,7 @@ use Rattle.lzk_circuit_reduce.proofs.RowLaws.{multiple-value, value-append}
 use Rattle.lzk_level.specs.Gates.{Gate, Constant, Combine, Mul}
 use Rattle.lzk_level.specs.Nodes.{combined}
 use Rattle.lzk_level.specs.Bounds.{at_parts, total}
-use Rattle.lzk_level.specs.Levels.{row_at}
-use Rattle.lzk_level.specs.NodeRows.{AreAllRows, IsSingle, IsGateRow}
+use Rattle.lzk_level.proofs.Unshared.{row_at, AreAllRows, IsSingle, IsGateRow}
 use Rattle.lzk_level.proofs.CombineLaws.{value-at, length-at}
 use Rattle.lzk_level.proofs.NodeRowLaws.{constant-row, sum-row, product-row}
 

@@ -13,9 +13,8 @@ use Rattle.lzk_circuit_reduce.specs.Renumbering.{at}
 use Rattle.lzk_circuit_reduce.proofs.NormalLaws.{ZeroOrNot}
 use Rattle.lzk_level.specs.Gates.{Gate, Constant}
 use Rattle.lzk_level.specs.Nodes.{AreGates}
-use Rattle.lzk_level.specs.Levels.{place_in, width_of, ArePlaces, StartsWithOne, AreDepths, AreLast, AreWeights, AreValues, AreRows, AreShort, IsShort, HaveValues, Stands}
-use Rattle.lzk_level.specs.NodeRows.{IsNodeRow}
-use Rattle.lzk_level.specs.Stacking.{AreWirePlaces}
+use Rattle.lzk_level.specs.Levels.{AreDepths, AreWeights, AreValues}
+use Rattle.lzk_level.proofs.Unshared.{ArePlaces, place_in, width_of, StartsWithOne, AreLast, AreRows, AreShort, IsShort, HaveValues, Stands, IsNodeRow, AreWirePlaces}
 use Rattle.lzk_level.proofs.LevelLaws.{row-more}
 use Rattle.lzk_level.proofs.NodeRowLaws.{copied, gated}
 use Rattle.lzk_level.proofs.OneLaws.{starts-with-one}

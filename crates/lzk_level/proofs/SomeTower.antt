@@ -14,8 +14,8 @@ use Rattle.lzk_circuit_reduce.proofs.AppendLaws.{stacked-terms, stacked-before, 
 use Rattle.lzk_circuit_reduce.proofs.NormalLaws.{ZeroOrNot}
 use Rattle.lzk_level.specs.Gates.{Gate, Constant, Combine, Mul}
 use Rattle.lzk_level.specs.Nodes.{ArePartsOf, IsGate, AreGates}
-use Rattle.lzk_level.specs.Levels.{place_in, width_of, row_at, has_wire, AreDepths, AreLast, AreNeeded, ArePartsNeeded, lengths_in, lengths_of}
-use Rattle.lzk_level.specs.Stacking.{AreStacked}
+use Rattle.lzk_level.specs.Levels.{has_wire, AreDepths}
+use Rattle.lzk_level.proofs.Unshared.{place_in, width_of, row_at, AreLast, AreNeeded, ArePartsNeeded, lengths_in, lengths_of, AreStacked}
 use Rattle.lzk_level.proofs.InnerLaws.{Inner, inner-starts, inner-skips, inner-adds, Outer, outer-starts, outer-adds}
 use Rattle.lzk_level.proofs.NodeLaws.{gate-at}
 use Rattle.lzk_level.proofs.OneLaws.{has-one}

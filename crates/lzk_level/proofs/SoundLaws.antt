@@ -32,11 +32,6 @@ module _ {A : Type 0} where
   halves-add n [] x h k = (k, tt)
   halves-add n (y ∷ hs) x h k = (h.0, halves-add n hs x h.1 k)
 
-  -- of those that stand before another
-  pub halves-before : (n : ℕ) (hs : List (memory.Half A)) (x : memory.Half A) → AreHalvesOf n (hs ++ x ∷ []) → AreHalvesOf n hs × IsNodeOrNone n x.node
-  halves-before n [] x h = (tt, h.0)
-  halves-before n (y ∷ hs) x h = let r = halves-before n hs x h.1 in ((h.0, r.0), r.1)
-
 -- ---- nodes of an expression that is read
 module _ {A : Type 0} (s : Scope A) (n : Nodes A) (lets : AreOperands (node_count n) s.lets) where
   half-node : (base : Nodes A) (h : Half) → AreOperands (node_count base) s.lets → IsHalfWithin base.publics base.privates h → IsNodeOrNone (node_count (half_factors s base h).nodes) (half_factors s base h).node
@@ -105,12 +100,6 @@ module _ {A : Type 0} (s : Scope A) (n : Nodes A) (lets : AreOperands (node_coun
           lets = lets-behind (reads.now ∷ hs);
           left = or-none-more (node_count n) (node_count (held_sum s.ops (reads_held s n outputs left reads)).nodes) left (omega (arith, sum-count reads, count-behind hs)) side;
         }
-
-    -- the sums around it are there when it has ended
-    pub reads-outer : (reads : Reads) → AreHalvesWithin n.publics n.privates reads.outer → AreHalvesOf (node_count (held_sum s.ops (reads_held s n outputs left reads)).nodes) (reads_held s n outputs left reads).outer
-    unfolding reads_held
-    reads-outer reads w =
-        halves-more (node_count (nodes_behind s n reads.outer)) (node_count (held_sum s.ops (reads_held s n outputs left reads)).nodes) (halves_held s n reads.outer) (sum-count reads) (halves-behind reads.outer w)
 
 -- ---- statements
 module _ {A : Type 0} where
@@ -188,11 +177,3 @@ module _ {A : Type 0} (o : Ops A) (r : RingLaws o) (element : ℕ → A) (p q : 
       let within = same-inputs inputs (side c).nodes _ (λ x y. AreHalvesWithin x y (c.reads.now ∷ c.reads.outer)) (side-grown c) (w.now, w.outer) in
       subst (IsSound o) (sym (held-is o r element p q c))
       (reads-sound t (side c).nodes (side-lets c w) r (before c).outputs (side c).node c.reads within (side-left c w))
-
-  -- also those of the sums around it, when the sum that is read has ended
-  pub held-outer : (c : CodeReads) → IsCodeWithin p q c → AreHalvesOf (node_count (held_sum o (held c)).nodes) (held c).outer
-  held-outer c w =
-      let t = names o r element p q c in
-      let within = same-inputs inputs (side c).nodes _ (λ x y. AreHalvesWithin x y c.reads.outer) (side-grown c) w.outer in
-      subst (λ (m : Held A). AreHalvesOf (node_count (held_sum o m).nodes) m.outer) (sym (held-is o r element p q c))
-      (reads-outer t (side c).nodes (side-lets c w) r (before c).outputs (side c).node c.reads within)

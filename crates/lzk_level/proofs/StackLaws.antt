@@ -17,7 +17,7 @@ use Rattle.lzk_level.specs.declared.forms.Forms.{Forms}
 use Rattle.lzk_level.specs.Bounds.{total}
 use Rattle.lzk_level.specs.Checking.{of_depth, by_depth}
 use Rattle.lzk_level.specs.Levels.{has_wire}
-use Rattle.lzk_level.specs.Stacking.{ArePassedBy}
+use Rattle.lzk_level.specs.Stacking.{ArePassed}
 use Rattle.lzk_level.specs.Stacks.{AreAssertable, HaveFewWires, AreLevels, IsStack}
 use Rattle.lzk_level.specs.Uses.{node_form, IsFormed}
 use Rattle.lzk_level.specs.Wires.{AreWires, CarryValues, IsLevelLayer, IsTopLayer, weight_in}
@@ -49,19 +49,42 @@ outputs-heavy weights (k ∷ ks) h = omega (arith, h 0 (omega arith), outputs-he
 
 -- ---- what is passed, and what is turned
 
-pub passed-above : (last : List ℕ) (under level first : ℕ) → under ≤ level → ArePassedBy last under first → ArePassedBy last level first
-passed-above last under level first up p = record { some = p.some; most = p.most; each = λ j one m. omega (arith, up, p.each j one m) }
+pub passed-above : (last next : List ℕ) (under level : ℕ) → under ≤ level → ArePassed last next under → ArePassed last next level
+passed-above last next under level up p = record { count = p.count; behind = p.behind; each = λ k j l m n. omega (arith, up, p.each k j l m n) }
 
--- one node more that the level and those above it do not use
-pub passed-next : (last : List ℕ) (level k : ℕ) → k < length last → at last k < level → ArePassedBy last level k → ArePassedBy last level (k + 1)
-passed-next last level k l low p = record {
-  some = omega (arith, p.some);
-  most = omega (arith, l);
-  each = λ j one m. elim (cases_lt j k) [
-    | inl n ↦ p.each j one n
-    | inr n ↦ subst (λ i. at last i < level) (let e : k ≡ j = omega (arith, m, n) in e) low
-  ];
-}
+record Passes (last new : List ℕ) (level i : ℕ) : Type 0 where
+  pub up : i < at new i
+  pub most : at new i ≤ length last
+  pub each : (j : ℕ) → i < j → j < at new i → at last j ≤ level
+
+-- node j, which is the one behind k, is passed
+pub passed-one : (last next new : List ℕ) (level k j behind : ℕ) → k < length last → j < length last → at next k ≡ j → behind ≡ at next j → at last j ≤ level → length new ≡ length next → at new k ≡ behind → ((i : ℕ) → i < k → at new i ≡ at next i)
+    → ((i : ℕ) → k < i → at new i ≡ at next i) → ArePassed last next level → ArePassed last new level
+passed-one last next new level k j behind lk lj at_k is low same here before after p =
+    let over_k = p.behind k lk in
+    let over_j = p.behind j lj in
+    let own : Passes last new level k = record {
+      up = omega (arith, here, is, over_k.0, at_k, over_j.0);
+      most = omega (arith, here, is, over_j.1);
+      each = λ m a b. elim (cases_lt m j) [
+        | inl c ↦ p.each k m lk a (omega (arith, c, at_k))
+        | inr c ↦ elim (cases_lt j m) [
+          | inl d ↦ p.each j m lj d (omega (arith, b, here, is))
+          | inr d ↦ subst (λ i. at last i ≤ level) (let e : j ≡ m = omega (arith, c, d) in e) low
+        ]
+      ];
+    } in
+    let as_was : (i : ℕ) → i < length last → at new i ≡ at next i → Passes last new level i = λ i l e.
+    let over = p.behind i l in
+    record { up = omega (arith, e, over.0); most = omega (arith, e, over.1); each = λ m a b. p.each i m l a (omega (arith, e, b)) } in
+    let all : (i : ℕ) → i < length last → Passes last new level i = λ i l. elim (cases_lt i k) [
+      | inl m ↦ as_was i l (before i m)
+      | inr m ↦ elim (cases_lt k i) [
+        | inl n ↦ as_was i l (after i n)
+        | inr n ↦ subst (Passes last new level) (let e : k ≡ i = omega (arith, m, n) in e) own
+      ]
+    ] in
+    record { count = omega (arith, same, p.count); behind = λ i l. let q = all i l in (q.up, q.most); each = λ i m l a b. let q = all i l in q.each m a b }
 
 pub turned : {X : Type 0} (xs all : List X) (x : X) → all ≡ xs ++ x ∷ [] → reverse all ≡ x ∷ reverse xs
 turned xs all x e = ap reverse e ∙ reverse-append xs (x ∷ [])

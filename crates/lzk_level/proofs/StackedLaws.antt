@@ -1,5 +1,5 @@
 -- From a stack of layers to a circuit of version 2.
-use Rattle.std.specs.Prelude.{◌≡◌, ℕ, ◌+◌, ◌-◌, ◌*◌, ◌<◌, ◌≤◌, min, List, [], ◌++◌, length, map}
+use Rattle.std.specs.Prelude.{◌≡◌, ℕ, ◌+◌, ◌-◌, ◌*◌, ◌<◌, ◌≤◌, List, [], ◌++◌, length, map}
 use Rattle.std.proofs.Common.{zero, suc, refl, sym, ap, ◌∙◌, arith, subst}
 use Rattle.std.proofs.Math.Nat.{suc-mul}
 use Rattle.std.proofs.lemmas.List.{length-append, map-append}
@@ -17,7 +17,7 @@ use Rattle.lzk_level.specs.Gates.{Gate}
 use Rattle.lzk_level.specs.Bounds.{total}
 use Rattle.lzk_level.specs.Checking.{of_depth, by_depth, AreAsserts, AreAsserting}
 use Rattle.lzk_level.specs.Levels.{AreValues, AreWeights}
-use Rattle.lzk_level.specs.Stacks.{AreAssertable, IsStack}
+use Rattle.lzk_level.specs.Stacks.{IsStack}
 use Rattle.lzk_level.specs.Wires.{AreFormValues, AreFormWeights}
 use Rattle.lzk_level.proofs.AssertingLaws.{mul-more}
 use Rattle.lzk_level.proofs.CheckingLaws.{all-placed, deepest, depth-light, depth-each}
@@ -37,10 +37,15 @@ pub record IsReady {A : Type 0} (o : Ops A) (inputs : ℕ) (layers : List (Layer
   pub few_wires : (under_of inputs layers).wires + target_count ws layers ≤ most_total
   pub few_terms : (under_of inputs layers).terms + target_count ws layers ≤ most_total
 
--- asserted nodes that are used above their depth may be asserted
-pub assertable : {A : Type 0} (inputs : ℕ) (made : List (Gate A)) (depths last asserts : List ℕ) (count : ℕ) → AreAsserts inputs made depths asserts count
-    → ((i : ℕ) → i < length asserts → min count (at depths (at asserts i) + 1) ≤ at last (at asserts i)) → AreAssertable depths last asserts count
-assertable inputs made depths last asserts count a used = record { nodes = λ i l. (a.nodes i l).1; used = used }
+-- a node of the uppermost level
+pub record IsTop (depths : List ℕ) (count k : ℕ) : Type 0 where
+  pub within : k < length depths
+  pub deep_as : at depths k ≡ count
+
+pub tops : (depths asserts outputs : List ℕ) (count : ℕ) → ((i : ℕ) → i < length asserts → at asserts i < length depths) → outputs ≡ of_depth depths count asserts → (i : ℕ) → i < length outputs → IsTop depths count (at outputs i)
+tops depths asserts outputs count there e =
+    subst (λ ks. (i : ℕ) → i < length ks → IsTop depths count (at ks i)) (sym e)
+    (λ i l. let own = depth-each depths (λ k. k < length depths) count asserts there i l in record { within = own.0; deep_as = own.1 })
 
 module _ {A : Type 0} (o : Ops A) (inputs : ℕ) (made : List (Gate A)) (depths asserts : List ℕ) (form : ℕ → List (Term A)) (count : ℕ) (a : AreAsserts inputs made depths asserts count)
     (values_are : (values : List A) → AreValues o inputs made values → AreFormValues o inputs (length depths) form values) (weights_are : (weights : List ℕ) → AreWeights inputs made weights → AreFormWeights inputs (length depths) form weights)

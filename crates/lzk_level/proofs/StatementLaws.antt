@@ -1,17 +1,13 @@
 -- How the nodes of statements grow.
-use Rattle.std.specs.Prelude.{◌≡◌, ℕ, ◌+◌, ◌<◌, ◌≤◌, Bool, true, false, cond, List, [], ◌∷◌, ◌++◌, length, drop}
-use Rattle.std.proofs.Common.{sym, ap, ap₂, ◌∙◌, arith, subst, get_or, append-nil, append_assoc, drop-cons, add-one}
-use Rattle.lzk_field.specs.Ring.{Ops}
+use Rattle.std.specs.Prelude.{◌≡◌, ℕ, ◌+◌, Bool, true, false, cond, [], ◌∷◌, ◌++◌}
+use Rattle.std.proofs.Common.{sym, arith, subst, append-nil}
 use Rattle.lzk_expr.specs.Trees.{Expr, Statement, DeclarePublic, DeclarePrivate, Define, Assertion}
-use Rattle.lzk_expr.specs.View.{statement_of, statements_of}
-use Rattle.lzk_expr.specs.declared.ast.Statement as memory
 use Rattle.lzk_level.specs.Gates as gate
-use Rattle.lzk_level.specs.declared.lets.Operand.{Operand}
 use Rattle.lzk_level.specs.declared.lets.Operand.TheVariants.{Constant, AtNode}
 use Rattle.lzk_level.specs.Nodes.{Nodes, node_count, ArePartsOf}
 use Rattle.lzk_level.specs.Compilable.{IsWithin, size_of, IsOperand, AreOperands, IsStatementWithin, statement_size}
-use Rattle.lzk_level.specs.Compiling.{Scope, scope, with_lets, is_constant, constant, Made, MadeOutputs, made, made_assert, let_nodes, let_operand, statement_lets, statement_nodes, statement_outputs, statements_made}
-use Rattle.lzk_level.proofs.MadeLaws.{Grown, grown-same, grown-next, grown-then, grown-count, same-inputs, node-more, operands-more, operands-add, next-there, IsThere, made-grown, made-there, made-count, made-operands, made-inputs, made-node}
+use Rattle.lzk_level.specs.Compiling.{Scope, is_constant, constant, Made, made, made_assert, let_nodes, let_operand, statement_lets, statement_nodes}
+use Rattle.lzk_level.proofs.MadeLaws.{Grown, grown-same, grown-next, grown-then, grown-count, node-more, operands-more, operands-add, next-there, IsThere, made-grown, made-there, made-count, made-operands, made-inputs, made-node}
 
 module _ {A : Type 0} (s : Scope A) where
   -- ---- asserts
@@ -67,30 +63,3 @@ module _ {A : Type 0} (s : Scope A) where
   statement-lets n (Assertion e f) i h =
       let more = (grown-count n _ (1 + size_of e + size_of f) (assert-grown n e f)).0 in
       lets-same (node_count (made_assert s n e f).nodes) (operands-more (node_count n) (node_count (made_assert s n e f).nodes) s.lets more h)
-
-  -- the same of what is known to be these
-  pub taken-count : (n x : Nodes A) (st : Statement) → x ≡ statement_nodes s n st → node_count x ≤ node_count n + statement_size st
-  taken-count n x st is = let P : Nodes A → Type 0 = λ y. node_count y ≤ node_count n + statement_size st in subst P (sym is) (grown-count n _ (statement_size st) (statement-grown n st)).1
-
-  pub taken-inputs : (n x : Nodes A) (st : Statement) (P : ℕ → ℕ → Type 0) → x ≡ statement_nodes s n st → P n.publics n.privates → P x.publics x.privates
-  taken-inputs n x st P is h = subst (λ (y : Nodes A). P y.publics y.privates) (sym is) (same-inputs n _ (statement_size st) P (statement-grown n st) h)
-
-  pub taken-lets : (n x : Nodes A) (st : Statement) (lets : List (Operand A)) → x ≡ statement_nodes s n st → lets ≡ s.lets ++ statement_lets s n st → IsStatementWithin n.publics n.privates st → AreOperands (node_count n) s.lets → AreOperands (node_count x) lets
-  taken-lets n x st lets is at w h = subst (λ (y : Nodes A). AreOperands (node_count y) lets) (sym is) (subst (λ l. AreOperands (node_count (statement_nodes s n st)) l) (sym at) (statement-lets n st w h))
-
-module _ {A : Type 0} where
-  -- outputs that are there already, in front of the others
-  abbrev pub behind : List ℕ → MadeOutputs A → MadeOutputs A
-  behind outputs m = record { nodes = m.nodes; outputs = outputs ++ m.outputs }
-
-  pub taken-made : (o : Ops A) (element : ℕ → A) (n x : Nodes A) (st : Statement) (rest : List Statement) (lets new : List (Operand A)) (outputs more : List ℕ) (all : MadeOutputs A)
-      → x ≡ statement_nodes (scope o element lets) n st → new ≡ lets ++ statement_lets (scope o element lets) n st → more ≡ outputs ++ statement_outputs (scope o element lets) n st
-      → behind outputs (statements_made (scope o element lets) n (st ∷ rest)) ≡ all → behind more (statements_made (scope o element new) x rest) ≡ all
-  taken-made o element n x st rest lets new outputs more all xn ln on h =
-      let s = scope o element lets in
-      let t = statements_made (with_lets s (statement_lets s n st)) (statement_nodes s n st) rest in
-      ap₂ (λ (y : Nodes A) (l : List (Operand A)). behind more (statements_made (scope o element l) y rest)) xn ln
-      ∙ ap (λ l. behind l t) on ∙ ap (λ l. record { nodes = t.nodes; outputs = l }) (append_assoc outputs (statement_outputs s n st) t.outputs) ∙ h
-
-pub statements-at : (ss : List memory.Statement) (i : ℕ) (st : memory.Statement) → i < length ss → st ≡ get_or ss i st → statements_of (drop i ss) ≡ statement_of st ∷ statements_of (drop (i + 1) ss)
-statements-at ss i st l is = ap statements_of (drop-cons ss i st l ∙ ap₂ (λ (x : memory.Statement) xs. x ∷ xs) (sym is) (ap (λ k. drop k ss) (sym (add-one i))))

@@ -1,17 +1,15 @@
 -- What a word of code leads to.
-use Rattle.std.specs.Prelude.{◌≡◌, ℕ, ◌+◌, ◌<◌, ◌≤◌, false, List, [], ◌∷◌, ◌++◌, length, count_by, Option, Some, None, Result, Ok, Err, OnOk}
-use Rattle.std.proofs.Common.{refl, sym, ap, ap₂, ◌∙◌, arith, subst, get_or, drop, drop-cons, add-one}
+use Rattle.std.specs.Prelude.{◌≡◌, ℕ, ◌+◌, ◌<◌, false, List, [], ◌∷◌, ◌++◌, length, count_by, Some, Result, Ok, Err, OnOk}
+use Rattle.std.proofs.Common.{sym, ap, ap₂, ◌∙◌, subst, get_or, drop, drop-cons, add-one}
 use Rattle.lzk_field.specs.Ring.{Ops, RingLaws}
-use Rattle.lzk_expr.specs.Trees.{Number, PublicInput, PrivateInput, Named, Statement, SourceTree, is_public, is_private}
-use Rattle.lzk_expr.specs.Meanings.{Atom, Plus, Minus, Times, Open, Close}
+use Rattle.lzk_expr.specs.Trees.{SourceTree, is_public, is_private}
 use Rattle.lzk_expr.specs.Sources.{IsWellFormed}
 use Rattle.lzk_expr.specs.declared.code.Word.{Word}
 use Rattle.lzk_expr.specs.declared.code.Word.TheVariants as word
-use Rattle.lzk_expr.specs.Codes.{CodeWord, Item, Define, Left, Right, CodeReads, code_word, code_words, code_done, nameless}
+use Rattle.lzk_expr.specs.Codes.{CodeWord, code_word, code_words, code_done, nameless}
 use Rattle.lzk_level.specs.declared.half.Half as memory
 use Rattle.lzk_level.specs.declared.lets.Operand.{Operand}
 use Rattle.lzk_level.specs.declared.lets.Operand.TheVariants.{Constant, AtNode}
-use Rattle.lzk_level.specs.Nodes.{node_count}
 use Rattle.lzk_level.specs.Compiling.{scope, let_at}
 use Rattle.lzk_level.specs.Steps.{Held, with_value, next_part_held, held_minus, held_times, held_opened, held_closed, held_defined, held_left, held_right}
 use Rattle.lzk_level.specs.Makings.{IsOnTheWay, IsTaken, IsWordWithin, CanTakeWord}
@@ -67,13 +65,6 @@ on-ok-one (Err e) P Q h = tt
 pub on-ok-two : {T E X Y : Type 0} (r : Result T E) (P Q : X → Y → Type 0) → ((x : X) (y : Y) → P x y → OnOk r (Q x y)) → OnOk r ((x : X) (y : Y) → P x y → Q x y)
 on-ok-two (Ok t) P Q h = h
 on-ok-two (Err e) P Q h = tt
-
--- the input of an atom is declared
-pub public-within : (p q : ℕ) (numbers : List ℕ) (w : Word) (i : ℕ) → w ≡ word.Public i → IsWordWithin p q (code_word numbers w) → i < p
-public-within p q numbers w i e h = let P : Word → Type 0 = λ u. IsWordWithin p q (code_word numbers u) in subst P e h
-
-pub private-within : (p q : ℕ) (numbers : List ℕ) (w : Word) (i : ℕ) → w ≡ word.Private i → IsWordWithin p q (code_word numbers w) → i < q
-private-within p q numbers w i e h = let P : Word → Type 0 = λ u. IsWordWithin p q (code_word numbers u) in subst P e h
 
 -- the words from one on
 pub words-from : (numbers ns : List ℕ) (all ws : List Word) (i : ℕ) (d : Word) → ws ≡ all → ns ≡ numbers → i < length ws → code_words numbers (drop i all) ≡ code_word ns (get_or ws i d) ∷ code_words numbers (drop (i + 1) all)

@@ -14,8 +14,7 @@ use Rattle.lzk_circuit.specs.Wires.{coef, wire}
 use Rattle.lzk_circuit_reduce.specs.Renumbering.{at}
 use Rattle.lzk_circuit_reduce.specs.Rows.{IsRow, row_value}
 use Rattle.lzk_level.specs.Bounds.{total}
-use Rattle.lzk_level.specs.Wires.{AreFormValues, AreFormWeights, AreWires, CarryValues, IsLight, IsTopLayer}
-use Rattle.lzk_level.proofs.SharingLaws.{RowOf}
+use Rattle.lzk_level.specs.Wires.{AreFormValues, AreFormWeights, AreWires, CarryValues, IsLight, IsNodeRow, IsTopLayer}
 
 total-last : (ns : List ℕ) (n : ℕ) → total (ns ++ n ∷ []) ≡ total ns + n
 total-last [] n = omega arith
@@ -37,7 +36,7 @@ mapped-at o f (k ∷ ks) (suc i) l = mapped-at o f ks i (omega (arith, l))
 last_or : (j k : ℕ) → j < k + 1 → (j < k) ⊎ (j ≡ k)
 last_or j k l = elim (cases_lt j k) [ inl m ↦ inl m | inr m ↦ inr (omega (arith, l, m)) ]
 
-module _ {A : Type 0} (o : Ops A) (number_of : A → ℕ) (inputs : ℕ) (form : ℕ → List (Term A)) (depths last : List ℕ) (level : ℕ) (below outputs : List ℕ) where
+module _ {A : Type 0} (o : Ops A) (inputs : ℕ) (form : ℕ → List (Term A)) (depths last : List ℕ) (level : ℕ) (below outputs : List ℕ) where
   -- the terms of the first g outputs
   pub record Outer (g : ℕ) (terms : List (Term A)) : Type 0 where
     pub ordered : (width : ℕ) → AreWires depths last (level - 1) width below → AreTerms o g width None terms
@@ -48,7 +47,7 @@ module _ {A : Type 0} (o : Ops A) (number_of : A → ℕ) (inputs : ℕ) (form :
   pub outer-starts : (terms : List (Term A)) → terms ≡ [] → Outer 0 terms
   outer-starts terms e = subst (Outer 0) (sym e) (record { ordered = λ width w. tt; values = λ width w values wires e f c i l. absurd (omega (arith, l)); light = λ weights h ones. omega arith })
 
-  pub outer-adds : (g : ℕ) (old new row : List (Term A)) → g < length outputs → ((i : ℕ) → i < length outputs → at outputs i < length depths) → RowOf o number_of inputs form depths last level below (at outputs g) row
+  pub outer-adds : (g : ℕ) (old new row : List (Term A)) → g < length outputs → ((i : ℕ) → i < length outputs → at outputs i < length depths) → IsNodeRow o inputs form depths last level below (at outputs g) row
       → ((width : ℕ) → AreTerms o g width None old → IsRow o width row → AreTerms o (g + 1) width None new)
       → ((wires : List A) (i : ℕ) → i < g → wire o (coef o new) wires i ≡ wire o (coef o old) wires i)
       → ((wires : List A) → AreTerms o g (length wires) None old → IsRow o (length wires) row → wire o (coef o new) wires g ≡ row_value o wires row)

@@ -19,8 +19,8 @@ use Rattle.lzk_circuit_reduce.specs.Renumbering.{at}
 use Rattle.lzk_level.specs.Bounds.{at_parts, total, greatest, gate_depth}
 use Rattle.lzk_circuit_reduce.specs.Rows.{row_value}
 use Rattle.lzk_circuit_reduce.specs.Reduced.{HasOne, HaveOnes, HaveOnesUnder}
-use Rattle.lzk_level.specs.Levels.{HaveWidths, HaveWidthsBelow, StandFrom, StandBelow, place_in, width_of, row_at, AreDepths, AreWeights, AreValues, AreRows, AreShort, HaveValues, Stands, Begins, AreLast, has_wire, lengths_in, lengths_of}
-use Rattle.lzk_level.specs.Stacking.{AreStacked}
+use Rattle.lzk_level.specs.Levels.{AreDepths, AreWeights, AreValues, Begins, has_wire}
+use Rattle.lzk_level.proofs.Unshared.{HaveWidths, HaveWidthsBelow, StandFrom, StandBelow, place_in, width_of, row_at, AreRows, AreShort, HaveValues, Stands, AreLast, lengths_in, lengths_of, AreStacked}
 use Rattle.lzk_circuit_reduce.specs.Targets.{AreAllTerms}
 use Rattle.lzk_circuit_reduce.proofs.AttachedLayers.{all-terms}
 use Rattle.lzk_level.proofs.LevelLaws.{place-most, place-below, wire-there, wire-no-deeper, wire-needed}

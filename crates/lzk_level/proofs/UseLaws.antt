@@ -1,6 +1,6 @@
 -- What stays used as more is.
-use Rattle.std.specs.Prelude.{◌≡◌, ℕ, ◌+◌, ◌-◌, ◌<◌, ◌≤◌, List, length, take}
-use Rattle.std.proofs.Common.{inl, inr, sym, ap, arith, subst, get_or}
+use Rattle.std.specs.Prelude.{◌≡◌, ℕ, ◌+◌, ◌-◌, ◌<◌, ◌≤◌, List, length, take, replicate}
+use Rattle.std.proofs.Common.{zero, suc, slice_set, inl, inr, refl, sym, ap, arith, subst, get_or}
 use Rattle.std.proofs.lemmas.Bool.{cases_lt}
 use Rattle.std.proofs.lemmas.List.Elements.{All-weaker, All-more}
 use Rattle.lzk_circuit.specs.declared.layer.Term.{Term}
@@ -12,6 +12,21 @@ use Rattle.lzk_level.specs.Uses.{node_form, IsBefore, AreBefore, IsUsedTo, AreUs
 -- no number is less than it was
 abbrev pub AreGrown : List ℕ → List ℕ → Type 0
 AreGrown old new = (k : ℕ) → at old k ≤ at new k
+
+-- each node is used at the first level, and the first up to another
+pub uses-start : (n count k : ℕ) → 1 ≤ count → k < n → 1 ≤ at (slice_set (replicate n 1) 0 count) k
+uses-start zero count k some l = absurd (omega (arith, l))
+uses-start (suc n) count zero some l = some
+uses-start (suc n) count (suc k) some l = ones n k (omega (arith, l))
+  where
+    ones : (n k : ℕ) → k < n → 1 ≤ at (replicate n 1) k
+    ones zero k l = absurd (omega (arith, l))
+    ones (suc n) zero l = omega arith
+    ones (suc n) (suc k) l = ones n k (omega (arith, l))
+
+pub uses-first : (n count : ℕ) → 1 ≤ n → at (slice_set (replicate n 1) 0 count) 0 ≡ count
+uses-first zero count l = absurd (omega (arith, l))
+uses-first (suc n) count l = refl
 
 module _ {A : Type 0} where
   -- the form of a made node, by the node's number

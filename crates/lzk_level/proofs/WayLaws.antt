@@ -10,11 +10,11 @@ use Rattle.lzk_level.specs.declared.lets.Operand.TheVariants.{Constant, AtNode}
 use Rattle.lzk_level.specs.Nodes.{node_count}
 use Rattle.lzk_level.specs.Compilable.{statements_size}
 use Rattle.lzk_level.specs.Compiling.{scope, let_at, nodes_of}
-use Rattle.lzk_level.specs.Steps.{Held, nothing_held, with_value, next_part_held, held_minus, held_times, held_sum, held_opened, held_closed, held_defined, held_left, held_right, AreHalvesOf, IsSound}
+use Rattle.lzk_level.specs.Steps.{Held, nothing_held, with_value, next_part_held, held_minus, held_times, held_opened, held_closed, held_defined, held_left, held_right, IsSound}
 use Rattle.lzk_level.specs.Makings.{code_held, IsOnTheWay, IsWordWithin}
 use Rattle.lzk_level.proofs.WithinLaws.{IsCodeWithin, same-code, words-within, first-within}
 use Rattle.lzk_level.proofs.SizeLaws.{code_size, words-size, end-size}
-use Rattle.lzk_level.proofs.SoundLaws.{publics-are, privates-are, held-count, held-sound, held-outer}
+use Rattle.lzk_level.proofs.SoundLaws.{publics-are, privates-are, held-count, held-sound}
 use Rattle.lzk_level.proofs.CodeLaws.{number-step, public-step, private-step, named-step, plus-step, minus-step, times-step, open-step, close-step, define-step, left-step, right-step, start-law, finish-nodes, finish-outputs}
 
 -- the first word, and the others
@@ -43,9 +43,6 @@ module _ {A : Type 0} (o : Ops A) (r : RingLaws o) (element : ℕ → A) (p q : 
 
   pub way-sound : (ws : List CodeWord) (m : Held A) → IsOnTheWay o element p q ws end m → IsCodeWithin p q end → IsSound o m
   way-sound ws m h w = subst (IsSound o) (sym h.is) (held-sound o r element p q h.reads (words-within p q ws h.reads end h.rest w))
-
-  pub way-outer : (ws : List CodeWord) (m : Held A) → IsOnTheWay o element p q ws end m → IsCodeWithin p q end → AreHalvesOf (node_count (held_sum o m).nodes) m.outer
-  way-outer ws m h w = subst (λ (x : Held A). AreHalvesOf (node_count (held_sum o x).nodes) x.outer) (sym h.is) (held-outer o r element p q h.reads (words-within p q ws h.reads end h.rest w))
 
   pub way-count : (ws : List CodeWord) (m : Held A) → IsOnTheWay o element p q ws end m → node_count m.nodes ≤ p + q + code_size end
   way-count ws m h = omega (arith, held-count o r element p q h.reads, words-size ws h.reads end h.rest, ap (λ (x : Held A). node_count x.nodes) h.is)
@@ -94,13 +91,6 @@ module _ {A : Type 0} (o : Ops A) (r : RingLaws o) (element : ℕ → A) (p q : 
   pub way-open : (ws : List CodeWord) (m more : Held A) → more ≡ held_opened o m → IsOnTheWay o element p q (Item Open ∷ ws) end m → IsOnTheWay o element p q ws end more
   way-open ws m more is h = way-at (Item Open) ws m more (held_opened o) (open-step o r element p q) is h
 
-  -- a sum stands around the one that closes
-  pub way-outside : (ws : List CodeWord) (m : Held A) → IsOnTheWay o element p q (Item Close ∷ ws) end m → (outer : List (memory.Half A)) × (before : memory.Half A) × (m.outer ≡ outer ++ before ∷ [])
-  way-outside ws m h =
-      let g = goes h.reads (Item Close) ws end h.rest in
-      let k = close-step o r element p q h.reads g.more g.next_is in
-      (k.outer, k.before, ap (λ (x : Held A). x.outer) h.is ∙ k.outer_is)
-
   pub way-close : (ws : List CodeWord) (m more : Held A) → ((outer : List (memory.Half A)) (before : memory.Half A) → m.outer ≡ outer ++ before ∷ [] → more ≡ held_closed o m outer before)
       → IsOnTheWay o element p q (Item Close ∷ ws) end m → IsOnTheWay o element p q ws end more
   way-close ws m more is h =
@@ -117,13 +107,6 @@ module _ {A : Type 0} (o : Ops A) (r : RingLaws o) (element : ℕ → A) (p q : 
 
   pub way-left : (ws : List CodeWord) (m more : Held A) → more ≡ held_left o m → IsOnTheWay o element p q (Left ∷ ws) end m → IsOnTheWay o element p q ws end more
   way-left ws m more is h = way-at Left ws m more (held_left o) (left-step o r element p q) is h
-
-  -- the left side has a node where the right one ends
-  pub way-side : (ws : List CodeWord) (m : Held A) → IsOnTheWay o element p q (Right ∷ ws) end m → (left : ℕ) × (m.left ≡ Some left)
-  way-side ws m h =
-      let g = goes h.reads Right ws end h.rest in
-      let k = right-step o r element p q h.reads g.more g.next_is in
-      (k.left, ap (λ (x : Held A). x.left) h.is ∙ k.left_is)
 
   pub way-right : (ws : List CodeWord) (m more : Held A) → ((left : ℕ) → m.left ≡ Some left → more ≡ held_right o m left) → IsOnTheWay o element p q (Right ∷ ws) end m → IsOnTheWay o element p q ws end more
   way-right ws m more is h =

@@ -56,28 +56,10 @@ module _ (p q : ℕ) where
   multiplied-within (factor e NoExpr) h = (h, tt)
   multiplied-within (factor e (factor f es)) h = h
 
-  pub within-multiplied : (es : Exprs) → AreFactorsWithin p q es → IsWithin p q (multiplied es)
-  within-multiplied NoExpr h = tt
-  within-multiplied (factor e NoExpr) h = h.0
-  within-multiplied (factor e (factor f es)) h = h
-
   added-within : (ps : Parts) → IsWithin p q (added ps) → ArePartsWithin p q ps
   added-within NoPart h = tt
   added-within (part m e NoPart) h = (h, tt)
   added-within (part m e (part n f ps)) h = h
-
-  within-added : (ps : Parts) → ArePartsWithin p q ps → IsWithin p q (added ps)
-  within-added NoPart h = tt
-  within-added (part m e NoPart) h = h.0
-  within-added (part m e (part n f ps)) h = h
-
-  within-part : (ps : Parts) (m : Bool) (e : Expr) → ArePartsWithin p q ps → IsWithin p q e → ArePartsWithin p q (add_part ps m e)
-  within-part NoPart m e h k = (k, tt)
-  within-part (part l f ps) m e h k = (h.0, within-part ps m e h.1 k)
-
-  -- the sum that would end here
-  pub sum-within : (h : Half) → IsHalfWithin p q h → IsWithin p q (added (parts_of_half h))
-  sum-within h w = within-added (parts_of_half h) (within-part h.parts h.minus (multiplied h.factors) w.0 (within-multiplied h.factors w.1))
 
   atom-within : (h : Half) (e : Expr) → IsHalfWithin p q (with_atom h e) → IsHalfWithin p q h × IsWithin p q e
   atom-within h e w = let r = factor-within h.factors (negated h.negated e) w.1 in ((w.0, r.0), negated-within h.negated e r.1)

@@ -1,5 +1,5 @@
 -- The checks of asserted nodes, in a circuit of version 2.
-use Rattle.std.specs.Prelude.{◌≡◌, ℕ, ◌+◌, ◌-◌, ◌*◌, ◌<◌, ◌≤◌, ◌==◌, nat_lt, List, [], ◌∷◌, ◌++◌, length, map, take, count_by}
+use Rattle.std.specs.Prelude.{◌≡◌, ℕ, ◌+◌, ◌-◌, ◌*◌, ◌<◌, ◌≤◌, ◌==◌, nat_lt, List, [], ◌++◌, length, map, take, count_by}
 use Rattle.std.proofs.Common.{zero, suc}
 use Rattle.std.specs.List.{filter}
 use Rattle.lzk_profile.specs.Profile.{most_wires, most_total}
@@ -13,7 +13,7 @@ use Rattle.lzk_circuit_reduce.specs.Attached.{IsReducedAsserting}
 use Rattle.lzk_circuit_reduce.specs.Reduced.{output_count}
 use Rattle.lzk_circuit_reduce.specs.Renumbering.{at}
 use Rattle.lzk_level.specs.Bounds.{node_depths, layer_count, total, greatest}
-use Rattle.lzk_level.specs.Levels.{place_in, IsGraph, AreWeights, AreValues, Begins}
+use Rattle.lzk_level.specs.Levels.{IsGraph, AreWeights, AreValues, Begins}
 use Rattle.lzk_level.specs.Nodes.{Nodes, node_values}
 use Rattle.lzk_level.specs.Gates.{Gate}
 
@@ -40,16 +40,6 @@ HasFewOutputs n asserts c =
     let depths = node_depths n in
     let count = layer_count n asserts in
     output_count c.layers ≡ length (of_depth depths count asserts) + length (of_depth depths (count - 1) asserts)
-
--- the wires of a level that are those of the asserted nodes of its depth
-abbrev pub level_targets : List ℕ → List ℕ → ℕ → List ℕ → List ℕ
-level_targets depths last level asserts = map (place_in depths last level) (of_depth depths level asserts)
-
--- those of so many levels, the uppermost first
-abbrev pub targets_below : List ℕ → List ℕ → List ℕ → ℕ → List (List ℕ)
-targets_below depths last asserts zero = []
-targets_below depths last asserts (suc level) =
-    level_targets depths last level asserts ∷ targets_below depths last asserts level
 
 -- the nodes of depths below one, the deepest first
 abbrev pub by_depth : List ℕ → List ℕ → ℕ → List ℕ

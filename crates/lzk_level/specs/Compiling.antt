@@ -2,7 +2,7 @@
 use Rattle.std.specs.Prelude.{ℕ, ◌+◌, Bool, true, false, ◌&&◌, cond, List, [], ◌∷◌, ◌++◌, map, count_by, unwrap_or, Option, Some, None, slice_index_or}
 use Rattle.lzk_field.specs.Ring.{Ops}
 use Rattle.lzk_expr.specs.Trees.{Expr, Number, PublicInput, PrivateInput, Named, Neg, Added, Multiplied, Parts, NoPart, part, Exprs, NoExpr, factor, Statement, DeclarePublic, DeclarePrivate, Define, Assertion, is_public, is_private}
-use Rattle.lzk_expr.specs.SourceValues.{Given, given, value_of, parts_value, factors_value, signed}
+use Rattle.lzk_expr.specs.SourceValues.{Given, given, value_of, parts_value, signed}
 use Rattle.lzk_level.specs.Gates.{Gate}
 use Rattle.lzk_level.specs.Gates as gate
 use Rattle.lzk_level.specs.declared.lets.Operand.{Operand}
@@ -59,15 +59,9 @@ constants s = given s.ops s.element [] [] (map (known s.ops) s.lets)
 abbrev pub constant : {A : Type 0} → Scope A → Expr → A
 constant s e = value_of (constants s) e
 
-abbrev pub constant_of : {A : Type 0} → Scope A → Expr → Option A
-constant_of s e = cond (is_constant s e) (Some (constant s e)) None
-
--- the same for all of a sum's parts, and for all of a product's factors
+-- the value of a sum's parts, where all of them are constant
 abbrev pub constant_parts : {A : Type 0} → Scope A → Parts → Option A
 constant_parts s ps = cond (are_constant_parts s ps) (Some (parts_value (constants s) ps)) None
-
-abbrev pub constant_factors : {A : Type 0} → Scope A → Exprs → Option A
-constant_factors s es = cond (are_constant s es) (Some (factors_value (constants s) es)) None
 
 -- the product of the constant factors; none where there is no such factor
 abbrev pub constant_factor : {A : Type 0} → Scope A → Exprs → Option A

@@ -9,7 +9,6 @@ pub mod Uses
 pub mod Wires
 pub mod Stacks
 pub mod FlatGates
-pub mod NodeRows
 pub mod Stacking
 pub mod Checking
 pub mod Layouts

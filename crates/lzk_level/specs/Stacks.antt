@@ -17,7 +17,7 @@ use Rattle.lzk_level.specs.declared.tower.Tower.{Tower}
 use Rattle.lzk_level.specs.Bounds.{total}
 use Rattle.lzk_level.specs.Checking.{of_depth, by_depth}
 use Rattle.lzk_level.specs.Levels.{AreValues, AreWeights, Begins}
-use Rattle.lzk_level.specs.Stacking.{ArePassedBy}
+use Rattle.lzk_level.specs.Stacking.{ArePassed}
 use Rattle.lzk_level.specs.Wires.{AreFormValues, AreFormWeights, AreWires, CarryValues, weight_in}
 
 -- asserted nodes are used at the level above their depth, or at the uppermost
@@ -56,7 +56,7 @@ pub record AreLevels {A : Type 0} (o : Ops A) (inputs : ℕ) (form : ℕ → Lis
 -- the same, in a tower
 pub record IsTower {A : Type 0} (o : Ops A) (inputs : ℕ) (form : ℕ → List (Term A)) (depths last asserts : List ℕ)
     (level : ℕ) (tower : Tower A) : Type 0 where
-  pub passed : ArePassedBy last level tower.first
+  pub passed : ArePassed last tower.next.items level
   pub room : length tower.here.items ≡ length depths
   pub levels : AreLevels o inputs form depths last asserts level (reverse tower.layers.items)
       (reverse tower.targets.items) tower.below.items
@@ -91,15 +91,11 @@ pub record IsStack {A : Type 0} (o : Ops A) (inputs : ℕ) (form : ℕ → List 
       → length outputs + length (of_depth depths (count - 1) asserts) ≤ most_wires
       → AreNarrowWith most_wires targets layers
 
--- such layers over the gates of a graph, as far as a circuit of version 1 needs them
-pub record AreOutputLayers {A : Type 0} (o : Ops A) (inputs : ℕ) (made : List (Gate A)) (depths : List ℕ) (count : ℕ)
-    (outputs : List ℕ) (layers : List (Layer A)) : Type 0 where
-  pub count_is : length layers ≡ count
-  pub values : (values ins : List A) → AreValues o inputs made values → Begins o inputs values ins
-      → wires_of o layers ins ≡ map (entry o values) outputs
-  pub ones : HaveOnes o layers
-  pub different : AreInnerDifferent layers
-  pub valid : (weights : List ℕ) → AreWeights inputs made weights → 1 ≤ length outputs
-      → ((i : ℕ) → i < length outputs → 1 ≤ at outputs i)
-      → count * length depths + total weights + total (map (at weights) outputs) ≤ most_total
-      → AreLayers o inputs layers
+-- such layers over the gates of a graph, by some forms of its nodes
+pub record IsStackOver {A : Type 0} (o : Ops A) (inputs : ℕ) (made : List (Gate A)) (depths : List ℕ) (count : ℕ)
+    (outputs asserts : List ℕ) (layers : List (Layer A)) (targets : List (List ℕ)) : Type 0 where
+  pub form : ℕ → List (Term A)
+  pub stack : IsStack o inputs form depths count outputs asserts layers targets
+  pub values : (values : List A) → AreValues o inputs made values → AreFormValues o inputs (length depths) form values
+  pub weights : (weights : List ℕ) → AreWeights inputs made weights
+      → AreFormWeights inputs (length depths) form weights

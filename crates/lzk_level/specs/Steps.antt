@@ -1,5 +1,5 @@
 -- What the maker of nodes holds, and what each step of code changes of it.
-use Rattle.std.specs.Prelude.{ℕ, ◌≤◌, ◌==◌, Bool, true, false, List, [], ◌∷◌, ◌++◌, length, take, drop, Option, Some, None, unwrap_or, if◌then◌else◌}
+use Rattle.std.specs.Prelude.{ℕ, ◌+◌, ◌≤◌, ◌==◌, Bool, true, false, List, [], ◌∷◌, ◌++◌, length, take, drop, Option, Some, None, unwrap_or, if◌then◌else◌}
 use Rattle.lzk_field.specs.Ring.{Ops}
 use Rattle.lzk_expr.specs.SourceValues.{signed}
 use Rattle.lzk_level.specs.Gates as gate
@@ -8,7 +8,7 @@ use Rattle.lzk_level.specs.declared.maker.Maker.{Maker}
 use Rattle.lzk_level.specs.declared.lets.Operand.{Operand}
 use Rattle.lzk_level.specs.declared.lets.Operand.TheVariants.{Constant, AtNode}
 use Rattle.lzk_level.specs.Nodes.{Nodes, nodes_from, node_count, IsNode, ArePartsOf}
-use Rattle.lzk_level.specs.Compilable.{IsNodeOrNone, AreOperands}
+use Rattle.lzk_level.specs.Compilable.{IsNodeOrNone, IsOperand, AreOperands}
 use Rattle.lzk_level.specs.Compiling.{Made, MadeFactors, next, there, at_let, scaled, multiple, joined, difference}
 
 -- Nodes; what is read of each open sum, the innermost last, and of the one inside of all; whether a product is there;
@@ -133,19 +133,34 @@ CanJoin n before (AtNode k) = IsNode n k × IsNodeOrNone n before
 
 -- ---- one more part
 
-abbrev pub held_product : {A : Type 0} → Ops A → Held A → Valued A
-held_product o m = product_in o m.nodes m.now.number m.now.node
+-- of a half sum: the product that is read
+abbrev pub product_read : {A : Type 0} → Ops A → Nodes A → Half A → Valued A
+product_read o n h = product_in o n h.number h.node
 
 -- the sum of the parts, where all of them are numbers
 abbrev pub total_with : {A : Type 0} → Ops A → Bool → Option A → Operand A → Option A
 total_with o minus (Some t) (Constant c) = Some (o.plus t (signed o minus c))
 total_with o minus _ _ = None
 
+-- with the product that is read as one more part: their sum, its node, and all parts
+abbrev pub total_read : {A : Type 0} → Ops A → Nodes A → Half A → Option A
+total_read o n h = total_with o h.minus h.total (product_read o n h).operand
+
+abbrev pub part_read : {A : Type 0} → Ops A → Nodes A → Half A → Made A
+part_read o n h = at_let (product_read o n h).nodes (product_read o n h).operand
+
+abbrev pub parts_read : {A : Type 0} → Ops A → Nodes A → Half A → List (A × ℕ) → List (A × ℕ)
+parts_read o n h parts = parts ++ (signed o h.minus o.one, (part_read o n h).node) ∷ []
+
+-- the same of what is held
+abbrev pub held_product : {A : Type 0} → Ops A → Held A → Valued A
+held_product o m = product_read o m.nodes m.now
+
 abbrev pub part_total : {A : Type 0} → Ops A → Held A → Option A
-part_total o m = total_with o m.now.minus m.now.total (held_product o m).operand
+part_total o m = total_read o m.nodes m.now
 
 abbrev pub part_made : {A : Type 0} → Ops A → Held A → Made A
-part_made o m = at_let (held_product o m).nodes (held_product o m).operand
+part_made o m = part_read o m.nodes m.now
 
 -- with the product as one more part
 abbrev pub part_held : {A : Type 0} → Ops A → Held A → Held A
@@ -154,7 +169,7 @@ part_held o m = record {
   outer = m.outer;
   now = m.now;
   ready = m.ready;
-  parts = m.parts ++ (signed o m.now.minus o.one, (part_made o m).node) ∷ [];
+  parts = parts_read o m.nodes m.now m.parts;
   lets = m.lets;
   outputs = m.outputs;
   left = m.left;
@@ -220,45 +235,36 @@ held_times m = record {
 abbrev pub cut_to : {A : Type 0} → Nodes A → ℕ → Nodes A
 cut_to n count = nodes_from n.publics n.privates (take count n.made)
 
--- numbers alone are a number, and their nodes go; other parts are a node
-abbrev pub sum_of_parts : {A : Type 0} → Held A → Option A → Valued A
-sum_of_parts m (Some t) = valued (cut_to m.nodes m.now.base) (Constant t)
-sum_of_parts m None = at_made (next m.nodes (gate.Combine (drop m.now.begin m.parts)))
+-- numbers alone are a number, and their nodes go, which stand behind so many gates; other parts are a node
+abbrev pub sum_of_parts : {A : Type 0} → Nodes A → ℕ → List (A × ℕ) → Option A → Valued A
+sum_of_parts n base parts (Some t) = valued (cut_to n base) (Constant t)
+sum_of_parts n base parts None = at_made (next n (gate.Combine parts))
 
--- what is held behind these nodes
-abbrev pub behind : {A : Type 0} → Held A → Nodes A → Held A
-behind m n = record {
+-- the value of the sum that is read, behind all open parts; without parts of its own it is the product
+abbrev pub sum_read : {A : Type 0} → Ops A → Nodes A → Half A → List (A × ℕ) → Valued A
+sum_read o n h parts =
+    if length parts == h.begin then product_read o n h
+    else sum_of_parts (part_read o n h).nodes h.base (drop h.begin (parts_read o n h parts)) (total_read o n h)
+
+-- what is held with these nodes and parts
+abbrev pub held_with : {A : Type 0} → Held A → Nodes A → List (A × ℕ) → Held A
+held_with m n parts = record {
   nodes = n;
   outer = m.outer;
   now = m.now;
   ready = m.ready;
-  parts = m.parts;
+  parts = parts;
   lets = m.lets;
   outputs = m.outputs;
   left = m.left;
 }
 
--- what is held behind these nodes without the parts of the sum that is read
-abbrev pub without_parts : {A : Type 0} → Held A → Nodes A → Held A
-without_parts m n = record {
-  nodes = n;
-  outer = m.outer;
-  now = m.now;
-  ready = m.ready;
-  parts = take m.now.begin m.parts;
-  lets = m.lets;
-  outputs = m.outputs;
-  left = m.left;
-}
-
--- the value of the sum that is read; without parts before it is the product
 abbrev pub held_sum : {A : Type 0} → Ops A → Held A → Valued A
-held_sum o m =
-    if length m.parts == m.now.begin then held_product o m else sum_of_parts (part_held o m) (part_total o m)
+held_sum o m = sum_read o m.nodes m.now m.parts
 
 -- what is held when the sum has ended
 abbrev pub sum_ended : {A : Type 0} → Ops A → Held A → Held A
-sum_ended o m = without_parts m (held_sum o m).nodes
+sum_ended o m = held_with m (held_sum o m).nodes (take m.now.begin m.parts)
 
 -- ---- parentheses
 
@@ -330,6 +336,30 @@ held_right o m left =
     let made = difference o left (sum_made o m) in begun o m made.nodes m.lets (m.outputs ++ made.node ∷ []) None
 
 -- ---- what the steps need
+
+-- there is room for the product that is read and for a node of it, and its node is there
+pub record HasProduct {A : Type 0} (n : Nodes A) (h : Half A) : Type 0 where
+  pub room : node_count n + 2 ≤ 2147483648
+  pub node : IsNodeOrNone (node_count n) h.node
+
+-- there are parts, whose nodes are there, and there is room for one
+pub record HasParts {A : Type 0} (n : Nodes A) (parts : List (A × ℕ)) : Type 0 where
+  pub room : node_count n + 1 ≤ 2147483648
+  pub some : 1 ≤ length parts
+  pub nodes : ArePartsOf (node_count n) parts
+
+-- the sum that is read can end: its nodes are there, and there is room for more
+pub record HasSum {A : Type 0} (n : Nodes A) (h : Half A) (parts : List (A × ℕ)) : Type 0 where
+  pub room : node_count n + 5 ≤ 2147483648
+  pub node : IsNodeOrNone (node_count n) h.node
+  pub begin : h.begin ≤ length parts
+  pub parts_are : ArePartsOf (node_count n) parts
+
+-- a value is there, and what it is compared with, and there is room for a node of each
+pub record HasSides {A : Type 0} (n : Nodes A) (left : Option ℕ) (right : Operand A) : Type 0 where
+  pub room : node_count n + 2 ≤ 2147483648
+  pub left_is : IsNodeOrNone (node_count n) left
+  pub right_is : IsOperand (node_count n) right
 
 -- each is one of the first n nodes
 abbrev pub AreHalvesOf : {A : Type 0} → ℕ → List (Half A) → Type 0

@@ -1,5 +1,5 @@
 -- The wires of a level while layers are made, where nodes with the same row share one.
-use Rattle.std.specs.Prelude.{◌≡◌, ℕ, ◌+◌, ◌<◌, ◌≤◌, nat_le, cond, true, None, List, length, map}
+use Rattle.std.specs.Prelude.{◌≡◌, ℕ, ◌+◌, ◌-◌, ◌<◌, ◌≤◌, nat_le, cond, true, None, List, length, map}
 use Rattle.std.specs.List.{All}
 use Rattle.std.proofs.Common.{zero, suc}
 use Rattle.lzk_field.specs.Ring.{Ops}
@@ -10,7 +10,7 @@ use Rattle.lzk_circuit.specs.Valid.{AreTerms}
 use Rattle.lzk_circuit.specs.Wires.{layer_values}
 use Rattle.lzk_circuit_reduce.specs.Reduced.{HasOne, AreDifferent}
 use Rattle.lzk_circuit_reduce.specs.Renumbering.{at}
-use Rattle.lzk_circuit_reduce.specs.Rows.{row_value}
+use Rattle.lzk_circuit_reduce.specs.Rows.{IsRow, AreUnder, row_value}
 use Rattle.lzk_level.specs.Bounds.{total}
 use Rattle.lzk_level.specs.Levels.{has_wire}
 
@@ -54,6 +54,13 @@ CarryTerm o numbers values wires t =
 abbrev pub CarryTerms : {A : Type 0} → Ops A → List ℕ → List A → List A → List (Term A) → Type 0
 CarryTerms o numbers values wires ts = All (CarryTerm o numbers values wires) ts
 
+-- the row of a form, over the numbers of the wires that its nodes have
+pub record IsFormRow {A : Type 0} (o : Ops A) (numbers : List ℕ) (form row : List (Term A)) : Type 0 where
+  pub is : (width : ℕ) → AreUnder numbers width form → IsRow o width row
+  pub value : (values wires : List A) → CarryTerms o numbers values wires form
+      → row_value o wires row ≡ row_value o values form
+  pub short : length row ≤ length form
+
 -- a level needs the row of node k: the node is no deeper, and this level or one above uses it
 pub record IsDue (depths last : List ℕ) (level k : ℕ) : Type 0 where
   pub some : 1 ≤ level
@@ -64,6 +71,15 @@ pub record IsDue (depths last : List ℕ) (level k : ℕ) : Type 0 where
 -- a row has one term for a node that goes on from below, and else as many as the node weighs
 abbrev pub IsLight : List ℕ → ℕ → List ℕ → ℕ → ℕ → Type 0
 IsLight depths level weights k n = (at depths k < level → n ≤ 1) × (level ≤ at depths k → n ≤ at weights k)
+
+-- the row of node k in a level, over the numbers of the wires below
+pub record IsNodeRow {A : Type 0} (o : Ops A) (inputs : ℕ) (form : ℕ → List (Term A)) (depths last : List ℕ)
+    (level : ℕ) (below : List ℕ) (k : ℕ) (row : List (Term A)) : Type 0 where
+  pub is : (width : ℕ) → AreWires depths last (level - 1) width below → IsRow o width row
+  pub value : (values wires : List A) → AreFormValues o inputs (length depths) form values
+      → CarryValues o depths last (level - 1) below values wires → row_value o wires row ≡ entry o values k
+  pub light : (weights : List ℕ) → AreFormWeights inputs (length depths) form weights
+      → IsLight depths level weights k (length row)
 
 -- the weights of those of the first k nodes that are no deeper than a level
 abbrev pub weight_in : List ℕ → ℕ → List ℕ → ℕ → ℕ

@@ -14,13 +14,9 @@ ghost use Rattle.lzk_level.specs.Nodes.{IsNode, node_count};
 
 use crate::builder::Builder;
 use crate::fault::LevelError;
-use crate::finish::measured;
-use crate::forms::forms_of;
+use crate::finish::{measured, stack_of};
 use crate::gates::Gates;
-use crate::graph::Graph;
 use crate::node::{Node, of_node};
-use crate::tower::stacked;
-use crate::uses::last_asserting;
 use lzk_circuit::{Circuit, Layer};
 use lzk_circuit_reduce::asserting_used;
 use lzk_field::Field;
@@ -59,42 +55,42 @@ fn circuit_of<F: Field>(publics: u32, privates: u32, layers: Vec<Layer<F>>) -> C
 fn asserting_layers<F: Field>(
     alloc: Global,
     inputs: u32,
-    made: &Gates<F>,
+    made: Gates<F>,
     depths: &[u32],
     asserts: &[Node],
     count: u32,
 ) -> Result<Vec<Layer<F>>, AllocError>
-    requires { AreAsserts inputs made.now depths.now asserts.now count }
+    requires { AreAsserts inputs made depths.now asserts.now count }
     ensures { IfOk result
-        (λ layers. AreAsserting F.ops F.coding.number inputs made.now depths.now asserts.now count layers.items) }
+        (λ layers. AreAsserting F.ops F.coding.number inputs made depths.now asserts.now count layers.items) }
 {
-    let forms = forms_of(alloc, inputs as usize, made, depths)?;
     let outputs = of_depth(alloc, depths, asserts, count)?;
-    let last = last_asserting(alloc, inputs as usize, &forms, depths, asserts, count)?;
-    let graph = Graph {
-        inputs: inputs as usize,
-        forms: &forms,
+    let (layers, targets) = stack_of(
+        alloc,
+        inputs as usize,
+        made,
         depths,
-        last: &last,
-    };
-    let tower = stacked(alloc, &graph, &outputs, asserts, count)?;
-    asserting_used(alloc, inputs, tower.layers, tower.targets)
+        &outputs,
+        asserts,
+        count,
+    )?;
+    asserting_used(alloc, inputs, layers, targets)
 }
 
 // The reduced circuit whose checks are those of these nodes.
-fn laid_out<F: Field>(builder: &Builder<F>, asserts: &[Node]) -> Result<Circuit<F>, LevelError>
+fn laid_out<F: Field>(builder: Builder<F>, asserts: &[Node]) -> Result<Circuit<F>, LevelError>
     requires some { 1 ≤ length asserts.now }
     requires asserts { length asserts.now ≤ most_wires }
-    requires nodes { (i : ℕ) → i < length asserts.now → IsNode (node_count builder.now) (at asserts.now i) }
-    ensures circuit { IfOk result (IsLaidOutV2 F.ops F.coding.number builder.now asserts.now) }
-    ensures fault { IfErr result (IsFaultOf (level_fault_v2 builder.now asserts.now)) }
+    requires nodes { (i : ℕ) → i < length asserts.now → IsNode (node_count builder) (at asserts.now i) }
+    ensures circuit { IfOk result (IsLaidOutV2 F.ops F.coding.number builder asserts.now) }
+    ensures fault { IfErr result (IsFaultOf (level_fault_v2 builder asserts.now)) }
 {
-    let (depths, count) = measured(builder, asserts, asserts.len() as u32)?;
+    let (depths, count) = measured(&builder, asserts, asserts.len() as u32)?;
     let inputs = 1 + builder.publics + builder.privates;
     let layers = asserting_layers(
         builder.alloc,
         inputs,
-        &builder.gates,
+        builder.gates,
         &depths,
         asserts,
         count,
@@ -122,6 +118,6 @@ impl<F: Field> Builder<F> {
         ensures within { IfOk result (λ _. level_fault_v2 self asserts.now ≡ None) }
         ensures fault { IfErr result (IsFaultOf (level_fault_v2 self asserts.now)) }
     {
-        laid_out(&self, asserts)
+        laid_out(self, asserts)
     }
 }

@@ -51,6 +51,26 @@ impl<F: Field> Builder<F> {
         })
     }
 
+    /// Such a builder with room for so many gates and as many parts of sums. Room that is not used takes no memory.
+    pub(crate) fn with_room(
+        alloc: Global,
+        publics: u32,
+        privates: u32,
+        room: usize,
+    ) -> Result<Builder<F>, AllocError>
+        requires publics { publics ≤ 65535 }
+        requires privates { privates ≤ most_privates }
+        ensures inputs { IfOk result (λ b. b ≡ record { publics = publics; privates = privates; made = [] }) }
+    {
+        let gates = Gates::with_room(alloc, room)?;
+        Ok(Builder {
+            alloc,
+            publics,
+            privates,
+            gates,
+        })
+    }
+
     /// How many nodes there are, the inputs among them.
     pub fn len(&self) -> u32
         ensures count { result ≡ node_count self.now }

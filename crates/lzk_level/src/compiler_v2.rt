@@ -31,22 +31,3 @@ pub fn compile_v2(alloc: Global, source: &Source) -> Result<AnyCircuit, LevelErr
     let code = code_of(alloc, source)?;
     compile_code(alloc, code, Version::Two)
 }
-
-/// What [`compile_v2`] makes of a source that has no other use, in less memory.
-pub fn compile_owned_v2(alloc: Global, source: Source) -> Result<AnyCircuit, LevelError>
-    ensures version { IfOk result (λ c. version_of c ≡ 2) }
-    ensures field { IfOk result (λ c. field_of c ≡ source.field_is) }
-    ensures publics { IfOk result (λ c. publics_of c ≡ count_by is_public (statements_of source.statements)) }
-    ensures privates { IfOk result (λ c. privates_of c ≡ count_by is_private (statements_of source.statements)) }
-    ensures layers { IfOk result (λ c. depth_of c ≡ source_layers (tree_of source)) }
-    ensures checks { IfOk result (HasSourceChecks (statements_of source.statements)) }
-    ensures outputs { IfOk result (HasFewSourceOutputs (statements_of source.statements)) }
-    ensures reduced { IfOk result HasReducedAsserting }
-    ensures within { IfOk result (λ _. source_limit_v2 (tree_of source) ≡ None) }
-    ensures fault { IfErr result (IsFaultOf (source_limit_v2 (tree_of source))) }
-{
-    let made = code_of(alloc, &source);
-    drop(source);
-    let code = made?;
-    compile_code(alloc, code, Version::Two)
-}

@@ -5,10 +5,8 @@ ghost use Rattle.lzk_expr.specs.Codes.{IsCodeOf};
 ghost use Rattle.lzk_expr.specs.Trees.{SourceTree};
 ghost use Rattle.lzk_level.specs.Bounds.{IsFaultOf};
 ghost use Rattle.lzk_level.specs.Compiling.{nodes_of};
-ghost use Rattle.lzk_level.specs.Compiled.{limit_passed, limit_passed_v2, source_limit, source_limit_v2};
-ghost use Rattle.lzk_level.specs.CompiledCode.{IsCompiled, limit_of};
-ghost use Rattle.lzk_level.specs.Finished.{AreBuilt, IsSomeBuilt, IsCircuitOver, IsCircuitOverV2};
-ghost use Rattle.lzk_level.specs.SomeCircuit.{IsCircuitOf, IsCircuitOfV2};
+ghost use Rattle.lzk_level.specs.CompiledCode.{IsCompiled, limit_of, IsCircuitIn, limit_of_made};
+ghost use Rattle.lzk_level.specs.Finished.{AreBuilt, IsSomeBuilt};
 
 use crate::builder::Builder;
 use crate::fault::LevelError;
@@ -40,51 +38,21 @@ fn built<F: Field>(alloc: Global, code: Code) -> Result<(Builder<F>, Vec<Node>),
     made
 }
 
-// The circuit of version 1 of code over a field.
-fn compile_one<F: Field>(alloc: Global, code: Code) -> Result<Circuit<F>, LevelError>
+// The circuit of code over a field, in a version.
+fn compile_over<F: Field>(
+    alloc: Global,
+    code: Code,
+    version: Version,
+) -> Result<Circuit<F>, LevelError>
     ensures circuit { (source : SourceTree) → IsCodeOf code source
-        → IfOk result (IsCircuitOver F.ops F.coding.element source.statements) }
+        → IfOk result (IsCircuitIn version F.ops F.coding.number F.coding.element source.statements) }
     ensures fault { (source : SourceTree) → IsCodeOf code source
-        → IfErr result (IsFaultOf (limit_passed (nodes_of F.ops F.coding.element source.statements))) }
+        → IfErr result (IsFaultOf (limit_of_made version (nodes_of F.ops F.coding.element source.statements))) }
 {
     let (builder, outputs) = built::<F>(alloc, code)?;
-    builder.finish(&outputs)
-}
-
-// The circuit of version 2 of code over a field.
-fn compile_two<F: Field>(alloc: Global, code: Code) -> Result<Circuit<F>, LevelError>
-    ensures circuit { (source : SourceTree) → IsCodeOf code source
-        → IfOk result (IsCircuitOverV2 F.ops F.coding.number F.coding.element source.statements) }
-    ensures fault { (source : SourceTree) → IsCodeOf code source
-        → IfErr result (IsFaultOf (limit_passed_v2 (nodes_of F.ops F.coding.element source.statements))) }
-{
-    let (builder, asserts) = built::<F>(alloc, code)?;
-    builder.finish_v2(&asserts)
-}
-
-// The circuit of version 1 of code over the field that it names.
-fn compiled_one(alloc: Global, code: Code) -> Result<AnyCircuit, LevelError>
-    ensures circuit { (source : SourceTree) → IsCodeOf code source → IfOk result (IsCircuitOf source) }
-    ensures within { (source : SourceTree) → IsCodeOf code source → IfOk result (λ _. source_limit source ≡ None) }
-    ensures fault { (source : SourceTree) → IsCodeOf code source → IfErr result (IsFaultOf (source_limit source)) }
-{
-    match code.field() {
-        FieldId::Goldilocks => Ok(AnyCircuit::Gold(compile_one(alloc, code)?)),
-        FieldId::Gf2_128 => Ok(AnyCircuit::Gf(compile_one(alloc, code)?)),
-    }
-}
-
-// The circuit of version 2 of code over the field that it names.
-fn compiled_two(alloc: Global, code: Code) -> Result<AnyCircuit, LevelError>
-    ensures circuit { (source : SourceTree) → IsCodeOf code source → IfOk result (IsCircuitOfV2 source) }
-    ensures within { (source : SourceTree) → IsCodeOf code source
-        → IfOk result (λ _. source_limit_v2 source ≡ None) }
-    ensures fault { (source : SourceTree) → IsCodeOf code source
-        → IfErr result (IsFaultOf (source_limit_v2 source)) }
-{
-    match code.field() {
-        FieldId::Goldilocks => Ok(AnyCircuit::Gold(compile_two(alloc, code)?)),
-        FieldId::Gf2_128 => Ok(AnyCircuit::Gf(compile_two(alloc, code)?)),
+    match version {
+        Version::One => builder.finish(&outputs),
+        Version::Two => builder.finish_v2(&outputs),
     }
 }
 
@@ -98,8 +66,8 @@ pub fn compile_code(alloc: Global, code: Code, version: Version) -> Result<AnyCi
     ensures fault { (source : SourceTree) → IsCodeOf code source
         → IfErr result (IsFaultOf (limit_of version source)) }
 {
-    match version {
-        Version::One => compiled_one(alloc, code),
-        Version::Two => compiled_two(alloc, code),
+    match code.field() {
+        FieldId::Goldilocks => Ok(AnyCircuit::Gold(compile_over(alloc, code, version)?)),
+        FieldId::Gf2_128 => Ok(AnyCircuit::Gf(compile_over(alloc, code, version)?)),
     }
 }

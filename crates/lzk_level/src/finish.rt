@@ -11,19 +11,19 @@ ghost use Rattle.lzk_level.specs.Layouts.{IsLaidOut};
 ghost use Rattle.lzk_level.specs.Meanings.{HasOutputs};
 ghost use Rattle.lzk_level.specs.Levels.{IsGraph};
 ghost use Rattle.lzk_level.specs.Stacking.{AreOutputs};
-ghost use Rattle.lzk_level.specs.Stacks.{AreOutputLayers};
+ghost use Rattle.lzk_level.specs.Stacks.{IsStackOver};
 
 use crate::builder::Builder;
 use crate::fault::LevelError;
 use crate::forms::forms_of;
 use crate::gates::Gates;
 use crate::graph::Graph;
-use crate::measure::{check_limits, depths_of, weights_of};
+use crate::measure::{check_limits, sizes_of};
 use crate::node::Node;
 use crate::tower::stacked;
 use crate::uses::last_uses;
 use lzk_circuit::{Circuit, Layer};
-use lzk_circuit_reduce::used;
+use lzk_circuit_reduce::{Targets, used};
 use lzk_field::Field;
 use std::alloc::{AllocError, Global};
 
@@ -41,37 +41,41 @@ pub(crate) fn measured<F: Field>(
     ensures fault { IfErr result (IsFaultOf (level_fault_with further builder.now outputs.now)) }
 {
     let inputs = builder.publics + builder.privates;
-    let depths = depths_of(builder.alloc, inputs, &builder.gates)?;
-    let weights = weights_of(builder.alloc, inputs, &builder.gates)?;
+    let (depths, weights) = sizes_of(builder.alloc, inputs, &builder.gates)?;
     match check_limits(&depths, &weights, outputs, further) {
         Ok(count) => Ok((depths, count)),
         Err(fault) => Err(LevelError::Fault(fault)),
     }
 }
 
-// The layers for these outputs, the outputs' layer first.
-fn output_layers<F: Field>(
+/// The layers for these outputs over gates, the outputs' layer first, and what each asserts of the level below it. The
+/// gates are dropped as soon as their forms are made.
+pub(crate) fn stack_of<F: Field>(
     alloc: Global,
     inputs: usize,
-    made: &Gates<F>,
+    made: Gates<F>,
     depths: &[u32],
     outputs: &[Node],
+    asserts: &[Node],
     count: u32,
-) -> Result<Vec<Layer<F>>, AllocError>
-    requires graph { IsGraph inputs made.now depths.now }
+) -> Result<(Vec<Layer<F>>, Vec<Targets>), AllocError>
+    requires graph { IsGraph inputs made depths.now }
     requires outputs { AreOutputs depths.now outputs.now count }
-    ensures { IfOk result (λ layers. AreOutputLayers F.ops inputs made.now depths.now count outputs.now layers.items) }
+    requires asserts { (i : ℕ) → i < length asserts.now → at asserts.now i < length depths.now }
+    ensures { IfOk result (λ stack.
+        IsStackOver F.ops inputs made depths.now count outputs.now asserts.now stack.0.items stack.1.items) }
 {
-    let forms = forms_of(alloc, inputs, made, depths)?;
-    let last = last_uses(alloc, inputs, &forms, depths, outputs, count)?;
+    let result = forms_of(alloc, inputs, &made, depths);
+    drop(made);
+    let forms = result?;
+    let last = last_uses(alloc, inputs, &forms, depths, outputs, asserts, count)?;
     let graph = Graph {
         inputs,
         forms: &forms,
         depths,
         last: &last,
     };
-    let tower = stacked(alloc, &graph, outputs, &[], count)?;
-    Ok(tower.layers)
+    stacked(alloc, &graph, outputs, asserts, count)
 }
 
 fn circuit_of<F: Field>(publics: u32, privates: u32, layers: Vec<Layer<F>>) -> Circuit<F>
@@ -85,23 +89,25 @@ fn circuit_of<F: Field>(publics: u32, privates: u32, layers: Vec<Layer<F>>) -> C
 }
 
 // The reduced circuit whose outputs are these nodes.
-fn laid_out<F: Field>(builder: &Builder<F>, outputs: &[Node]) -> Result<Circuit<F>, LevelError>
+fn laid_out<F: Field>(builder: Builder<F>, outputs: &[Node]) -> Result<Circuit<F>, LevelError>
     requires some { 1 ≤ length outputs.now }
     requires outputs { length outputs.now ≤ most_wires }
-    requires nodes { (i : ℕ) → i < length outputs.now → IsNode (node_count builder.now) (at outputs.now i) }
-    ensures circuit { IfOk result (IsLaidOut F.ops builder.now outputs.now) }
-    ensures fault { IfErr result (IsLevelError builder.now outputs.now) }
+    requires nodes { (i : ℕ) → i < length outputs.now → IsNode (node_count builder) (at outputs.now i) }
+    ensures circuit { IfOk result (IsLaidOut F.ops builder outputs.now) }
+    ensures fault { IfErr result (IsLevelError builder outputs.now) }
 {
-    let (depths, count) = measured(builder, outputs, 0)?;
+    let (depths, count) = measured(&builder, outputs, 0)?;
     let inputs = 1 + builder.publics + builder.privates;
-    let layers = output_layers(
+    let (layers, targets) = stack_of(
         builder.alloc,
         inputs as usize,
-        &builder.gates,
+        builder.gates,
         &depths,
         outputs,
+        &[],
         count,
     )?;
+    drop(targets);
     let layers = used(builder.alloc, inputs, layers)?;
     Ok(circuit_of(builder.publics, builder.privates, layers))
 }
@@ -123,6 +129,6 @@ impl<F: Field> Builder<F> {
         ensures within { IfOk result (λ _. level_fault self outputs.now ≡ None) }
         ensures fault { IfErr result (IsLevelError self outputs.now) }
     {
-        laid_out(&self, outputs)
+        laid_out(self, outputs)
     }
 }

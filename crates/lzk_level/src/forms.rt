@@ -1,6 +1,6 @@
 //! Forms: the terms of each made node over the nodes before it, whatever the levels.
 
-ghost use Rattle.std.specs.Prelude.{◌≡◌, ℕ, ◌+◌, ◌<◌, ◌≤◌, List, [], ◌∷◌, ◌++◌, length, false, IfOk};
+ghost use Rattle.std.specs.Prelude.{◌≡◌, ℕ, ◌+◌, ◌<◌, ◌≤◌, List, [], ◌∷◌, ◌++◌, length, true, false, IfOk};
 ghost use Rattle.lzk_circuit_reduce.specs.Renumbering.{at};
 ghost use Rattle.lzk_circuit_reduce.specs.Rows.{IsRow, AreUnder, row_value};
 ghost use Rattle.lzk_level.specs.Forms.{form_at, ArePieces, AreForms, IsNext, IsNext-prop, IsNodeForm};
@@ -99,36 +99,35 @@ fn form_of<'a, F: Field>(next: &'a Next<'_, F>, k: usize) -> &'a [Term<F>]
     form_at(next.terms, next.starts, k - next.inputs)
 }
 
-// How many terms a part has.
-fn part_len<F: Field>(next: &Next<'_, F>, k: usize) -> usize
-    requires { IsPart next.now.depths.now (next.now.inputs + next.now.i) next.now.depth k }
-{
-    if next.depths[k] < next.depth {
-        1
-    } else {
-        form_of(next, k).len()
-    }
-}
+// So many terms are added one by one, in whatever order.
+pub(crate) const FEW: usize = 16;
 
-// So many terms are added one by one.
-const FEW: usize = 16;
-
-// Whether the parts and their terms are few, or there is one part at most.
-fn are_few<F: Field>(next: &Next<'_, F>, parts: &[(F, Node)]) -> bool
-    requires { AreParts next.now.depths.now (next.now.inputs + next.now.i) next.now.depth parts.now }
-    ensures { result ≡ false → 2 ≤ length parts.now }
+/// Whether a row is long, and the term of two nodes or wires comes before its last one.
+pub(crate) fn is_late<F: Field>(row: &[Term<F>], a: u32, b: u32) -> bool
+    ensures { result ≡ true → 1 ≤ length row.now }
 {
-    if parts.len() < 2 {
-        return true;
-    }
-    if parts.len() > FEW {
+    if row.len() <= FEW {
         return false;
     }
-    let mut count = 0usize;
-    for j in 0..parts.len() {
-        count = count.saturating_add(part_len(next, parts[j].1.number() as usize));
+    let last = row[row.len() - 1];
+    let (low, high) = if a <= b { (a, b) } else { (b, a) };
+    low < last.a || (low == last.a && high < last.b)
+}
+
+// Whether a row is long, and a part comes before its last term.
+fn is_part_late<F: Field>(next: &Next<'_, F>, row: &[Term<F>], node: Node) -> bool
+    requires { IsPart next.now.depths.now (next.now.inputs + next.now.i) next.now.depth node }
+    ensures { result ≡ true → 1 ≤ length row.now }
+{
+    let k = node.number() as usize;
+    if next.depths[k] < next.depth {
+        return is_late(row, 0, node.number());
     }
-    count <= FEW
+    let form = form_of(next, k);
+    if form.is_empty() {
+        return false;
+    }
+    is_late(row, form[0].a, form[0].b)
 }
 
 // Adds a part: its form where it is as deep as the next node, and else the node itself.
@@ -151,45 +150,29 @@ fn add_part<F: Field>(
     add_multiple(row, coef, form_of(next, k))
 }
 
-// The sum of the parts, term by term.
+// The sum of the parts, term by term, as far as they are few or in order. Tells whether that is all of them.
 fn add_parts<F: Field>(
     next: &Next<'_, F>,
     parts: &[(F, Node)],
     row: &mut Vec<Term<F>>,
-) -> Result<(), AllocError>
+) -> Result<bool, AllocError>
     requires { AreParts next.now.depths.now (next.now.inputs + next.now.i) next.now.depth parts.now }
-    ensures { IfOk result (λ _. IsSumForm F.ops next.now.inputs next.now.made.now next.now.depths.now
+    ensures all { IfOk result (λ all. all ≡ true → IsSumForm F.ops next.now.inputs next.now.made.now next.now.depths.now
         (next.now.inputs + next.now.i) next.now.depth parts.now row.new.items) }
+    ensures many { IfOk result (λ all. all ≡ false → 2 ≤ length parts.now) }
 {
     row.clear();
     for j in 0..parts.len() {
-        add_part(next, parts[j], row)?;
+        let part = parts[j];
+        if is_part_late(next, row, part.1) {
+            return Ok(false);
+        }
+        add_part(next, part, row)?;
     }
-    Ok(())
+    Ok(true)
 }
 
-// The sum of the parts, half by half as far as they are many.
-fn combined<F: Field>(
-    alloc: Global,
-    next: &Next<'_, F>,
-    parts: &[(F, Node)],
-) -> Result<Vec<Term<F>>, AllocError>
-    requires { AreParts next.now.depths.now (next.now.inputs + next.now.i) next.now.depth parts.now }
-    ensures { IfOk result (λ row. IsSumForm F.ops next.now.inputs next.now.made.now next.now.depths.now
-        (next.now.inputs + next.now.i) next.now.depth parts.now row.items) }
-{
-    if are_few(next, parts) {
-        let mut row = Vec::with_capacity(alloc, FEW)?;
-        add_parts(next, parts, &mut row)?;
-        return Ok(row);
-    }
-    let (left, right) = parts.split_at(parts.len() / 2);
-    let left = combined(alloc, next, left)?;
-    let right = combined(alloc, next, right)?;
-    merged(alloc, &left, &right)
-}
-
-// The sum of the parts. Few terms are added one by one, with no memory taken for the parts.
+// The sum of the parts, half by half as far as they are many and in no order.
 fn fill_sum<F: Field>(
     alloc: Global,
     next: &Next<'_, F>,
@@ -200,10 +183,15 @@ fn fill_sum<F: Field>(
     ensures { IfOk result (λ _. IsSumForm F.ops next.now.inputs next.now.made.now next.now.depths.now
         (next.now.inputs + next.now.i) next.now.depth parts.now row.new.items) }
 {
-    if are_few(next, parts) {
-        return add_parts(next, parts, row);
+    if add_parts(next, parts, row)? {
+        return Ok(());
     }
-    *row = combined(alloc, next, parts)?;
+    let (front, back) = parts.split_at(parts.len() / 2);
+    fill_sum(alloc, next, back, row)?;
+    let mut left = Vec::with_capacity(alloc, FEW)?;
+    fill_sum(alloc, next, front, &mut left)?;
+    let sum = merged(alloc, &left, row)?;
+    *row = sum;
     Ok(())
 }
 
@@ -237,7 +225,8 @@ pub(crate) fn forms_of<F: Field>(
     ensures { IfOk result (λ forms.
         AreForms F.ops inputs made.now depths.now forms.starts.items forms.terms.items) }
 {
-    let mut terms = Vec::with_capacity(alloc, made.len())?;
+    // Most forms have one term or two.
+    let mut terms = Vec::with_capacity(alloc, made.len().saturating_mul(2))?;
     let mut starts = Vec::with_capacity(alloc, made.len())?;
     starts.push(0)?;
     let mut row = Vec::new(alloc);

@@ -11,15 +11,23 @@ use std::marker::Model;
 
 /// How a node is made from those before it: a constant, the sum of the parts from one place of a list to another, or
 /// the product of two.
-#[derive(Clone, Copy)]
+#[derive(Copy)]
 pub(crate) enum Made<F> {
     Constant(F),
     Combine(u32, u32),
     Mul(Node, Node),
 }
 
-/// A gate, whose parts are lent.
-#[derive(Clone, Copy)]
+impl<F: Copy> Clone for Made<F> {
+    ghost is_clone = { λ gate copy. copy ≡ gate };
+
+    fn clone(&self) -> Result<Made<F>, AllocError> {
+        Ok(*self)
+    }
+}
+
+/// A gate with its parts, which are lent.
+#[derive(Drop)]
 pub(crate) enum GateRef<'a, F> {
     Constant(F),
     Combine(&'a [(F, Node)]),
@@ -106,6 +114,15 @@ impl<F: Field> Gates<F> {
             made: Vec::new(alloc),
             parts: Vec::new(alloc),
         }
+    }
+
+    /// No gates, with room for so many gates and as many parts. More are taken where they come.
+    pub fn with_room(alloc: Global, room: usize) -> Result<Gates<F>, AllocError>
+        ensures { IfOk result (λ gates. gates ≡ []) }
+    {
+        let made = Vec::with_capacity(alloc, room)?;
+        let parts = Vec::with_capacity(alloc, room)?;
+        Ok(Gates { made, parts })
     }
 
     /// How many gates there are.

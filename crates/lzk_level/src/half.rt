@@ -6,10 +6,11 @@ ghost use Rattle.lzk_level.specs.Steps.{nothing_of, times_before};
 
 use crate::node::Node;
 use lzk_field::Field;
+use std::alloc::AllocError;
 
 /// What is read of a sum: how many gates and how many open parts there were before it, its parts' value while all of
 /// them are numbers, and of the product that is read its sign, its number, its node and a minus before the next factor.
-#[derive(Clone, Copy)]
+#[derive(Copy)]
 pub(crate) struct Half<F> {
     pub base: u32,
     pub begin: usize,
@@ -18,6 +19,14 @@ pub(crate) struct Half<F> {
     pub number: Option<F>,
     pub node: Option<Node>,
     pub negated: bool,
+}
+
+impl<F: Copy> Clone for Half<F> {
+    ghost is_clone = { λ h copy. copy ≡ h };
+
+    fn clone(&self) -> Result<Half<F>, AllocError> {
+        Ok(*self)
+    }
 }
 
 /// Nothing of a sum, with so many gates and so many open parts before it.

@@ -33,6 +33,7 @@ mod lets;
 mod maker;
 mod measure;
 mod node;
+mod sum;
 mod tower;
 mod upgrading;
 mod uses;
@@ -40,8 +41,8 @@ mod value;
 mod wires;
 
 pub use builder::Builder;
-pub use compiler::{compile, compile_owned};
-pub use compiler_v2::{compile_owned_v2, compile_v2};
+pub use compiler::compile;
+pub use compiler_v2::compile_v2;
 pub use compiling::{Version, compile_code};
 pub use fault::{LevelError, LevelFault};
 pub use laws::compile_laws;

@@ -1,23 +1,23 @@
 //! The nodes of code, made word by word.
 
-ghost use Rattle.std.specs.Prelude.{◌≡◌, ℕ, ◌+◌, ◌≤◌, ◌++◌, List, [], ◌∷◌, length, drop, slice_index_or, Some, None, OnOk, IfOk};
+ghost use Rattle.std.specs.Prelude.{◌≡◌, ℕ, ◌+◌, ◌≤◌, ◌++◌, List, [], ◌∷◌, slice_index_or, Some, OnOk, IfOk};
 ghost use Rattle.lzk_expr.specs.Codes.{IsCodeOf, IsSomeCode, code_word, code_done, nameless};
 ghost use Rattle.lzk_expr.specs.Trees.{SourceTree};
-ghost use Rattle.lzk_level.specs.Nodes.{node_count, IsNode, ArePartsOf};
+ghost use Rattle.lzk_level.specs.Nodes.{node_count};
 ghost use Rattle.lzk_level.specs.Compilable.{IsNodeOrNone};
-ghost use Rattle.lzk_level.specs.Compiling.{there, difference};
 ghost use Rattle.lzk_level.specs.Finished.{AreBuilt, IsSomeBuilt};
-ghost use Rattle.lzk_level.specs.Steps.{Held, held_in, nothing_held, CanJoin, AreHalvesOf, behind, without_parts};
-ghost use Rattle.lzk_level.specs.Steps.{with_value, total_with, part_held, part_total, next_part_held, held_minus, held_times};
-ghost use Rattle.lzk_level.specs.Steps.{sum_of_parts, held_sum, sum_ended, held_begun, held_opened, held_closed};
-ghost use Rattle.lzk_level.specs.Steps.{held_defined, sum_made, held_left, held_right};
+ghost use Rattle.lzk_level.specs.Steps.{Held, held_in, nothing_held, CanJoin, AreHalvesOf};
+ghost use Rattle.lzk_level.specs.Steps.{with_value, next_part_held, held_minus, held_times};
+ghost use Rattle.lzk_level.specs.Steps.{held_sum, sum_ended, held_begun, held_opened, held_closed};
+ghost use Rattle.lzk_level.specs.Steps.{held_defined, held_left, held_right, HasProduct, HasSum};
 ghost use Rattle.lzk_level.specs.Makings.{IsOnTheWay, IsTaken, CanTakeWord};
 
 use crate::builder::Builder;
-use crate::half::{Half, nothing_of, signed, times_before};
+use crate::half::{Half, nothing_of, times_before};
 use crate::lets::{Operand, let_at};
 use crate::node::Node;
-use crate::value::{join, node_of, product, signed_value};
+use crate::sum::{add_part, equate, sum_of};
+use crate::value::{join, node_of, signed_value};
 use lzk_expr::{Code, Word};
 use lzk_field::Field;
 use std::alloc::{AllocError, Global};
@@ -39,15 +39,17 @@ pub(crate) struct Maker<F: Field> {
 fn new_maker<F: Field>(alloc: Global, code: &Code) -> Result<Maker<F>, AllocError>
     ensures { IfOk result (λ maker. held_in maker ≡ nothing_held F.ops code.now.publics code.now.privates) }
 {
-    // The code is that of some source, so its counts are small.
-    let _words = code.words();
-    let builder = Builder::new(alloc, code.publics(), code.privates())?;
+    // The code is that of some source, so its counts are small. Most gates and most parts take two words or more.
+    let words = code.words();
+    let room = words.len() / 2;
+    let parts = Vec::with_capacity(alloc, room)?;
+    let builder = Builder::with_room(alloc, code.publics(), code.privates(), room)?;
     Ok(Maker {
         builder,
         outer: Vec::new(alloc),
         now: nothing_of(0, 0),
         ready: false,
-        parts: Vec::new(alloc),
+        parts,
         lets: Vec::new(alloc),
         outputs: Vec::new(alloc),
         left: None,
@@ -62,24 +64,6 @@ fn number_in(numbers: &[u128], place: u32) -> u128
         Some(number) => *number,
         None => 0,
     }
-}
-
-/// The sum of a sum's parts with one more, where all of them are numbers.
-fn total_with<F: Field>(minus: bool, total: Option<F>, part: Operand<F>) -> Option<F>
-    ensures { result ≡ total_with F.ops minus total part }
-{
-    match part {
-        Operand::Constant(c) => Some(total?.add(signed(minus, c))),
-        Operand::AtNode(_) => None,
-    }
-}
-
-// The parts of a sum, behind those of the sums around it.
-fn parts_from<F>(parts: &[(F, Node)], begin: usize) -> &[(F, Node)]
-    requires { begin ≤ length parts.now }
-    ensures { result.now ≡ drop begin parts.now }
-{
-    &parts[begin..]
 }
 
 impl<F: Field> Maker<F> {
@@ -101,26 +85,12 @@ impl<F: Field> Maker<F> {
         Ok(())
     }
 
-    // The product as one more part; answers the sum of all parts, where they are numbers.
-    fn add_part(&mut self) -> Result<Option<F>, AllocError>
-        requires room { node_count self.old.builder + 2 ≤ 2147483648 }
-        requires node { IsNodeOrNone (node_count self.old.builder) self.old.now.node }
-        ensures held { IfOk result (λ _. held_in self.new ≡ part_held F.ops (held_in self.old)) }
-        ensures total { IfOk result (λ total. total ≡ part_total F.ops (held_in self.old)) }
-    {
-        let product = product(&mut self.builder, self.now.number, self.now.node)?;
-        let node = node_of(&mut self.builder, product)?;
-        self.parts.push((signed(self.now.minus, F::one()), node))?;
-        Ok(total_with(self.now.minus, self.now.total, product))
-    }
-
     // The product is a part, and the next one has this sign.
     fn part(&mut self, minus: bool) -> Result<(), AllocError>
-        requires room { node_count self.old.builder + 2 ≤ 2147483648 }
-        requires node { IsNodeOrNone (node_count self.old.builder) self.old.now.node }
+        requires { HasProduct self.old.builder self.old.now }
         ensures { OnOk result (held_in self.new ≡ next_part_held F.ops (held_in self.old) minus) }
     {
-        self.now.total = self.add_part()?;
+        self.now.total = add_part(&mut self.builder, &mut self.parts, &self.now)?;
         self.now.minus = minus;
         self.now.number = None;
         self.now.node = None;
@@ -129,52 +99,13 @@ impl<F: Field> Maker<F> {
         Ok(())
     }
 
-    fn combine_parts(&mut self) -> Result<Node, AllocError>
-        requires room { node_count self.old.builder + 1 ≤ 2147483648 }
-        requires some { self.old.now.begin + 1 ≤ length self.old.parts.items }
-        requires nodes { ArePartsOf (node_count self.old.builder) self.old.parts.items }
-        ensures held { IfOk result (λ _.
-            held_in self.new ≡ behind (held_in self.old) (sum_of_parts (held_in self.old) None).nodes) }
-        ensures node { IfOk result (λ node. node ≡ 1 + node_count self.old.builder) }
-    {
-        let parts = parts_from(&self.parts, self.now.begin);
-        self.builder.combine(parts)
-    }
-
-    // The value of the parts: where all are numbers, their nodes go.
-    fn sum_of_parts(&mut self, total: Option<F>) -> Result<Operand<F>, AllocError>
-        requires room { node_count self.old.builder + 1 ≤ 2147483648 }
-        requires some { self.old.now.begin + 1 ≤ length self.old.parts.items }
-        requires nodes { ArePartsOf (node_count self.old.builder) self.old.parts.items }
-        ensures held { IfOk result (λ _.
-            held_in self.new ≡ without_parts (held_in self.old) (sum_of_parts (held_in self.old) total).nodes) }
-        ensures value { IfOk result (λ value. value ≡ (sum_of_parts (held_in self.old) total).operand) }
-    {
-        let operand = match total {
-            Some(total) => {
-                self.builder.cut(self.now.base);
-                Operand::Constant(total)
-            }
-            None => Operand::AtNode(self.combine_parts()?),
-        };
-        self.parts.truncate(self.now.begin);
-        Ok(operand)
-    }
-
     // The value of the sum that was read, whose parts go.
     fn sum(&mut self) -> Result<Operand<F>, AllocError>
-        requires room { node_count self.old.builder + 3 ≤ 2147483648 }
-        requires node { IsNodeOrNone (node_count self.old.builder) self.old.now.node }
-        requires begin { self.old.now.begin ≤ length self.old.parts.items }
-        requires parts { ArePartsOf (node_count self.old.builder) self.old.parts.items }
+        requires { HasSum self.old.builder self.old.now self.old.parts.items }
         ensures held { IfOk result (λ _. held_in self.new ≡ sum_ended F.ops (held_in self.old)) }
         ensures value { IfOk result (λ value. value ≡ (held_sum F.ops (held_in self.old)).operand) }
     {
-        if self.parts.len() == self.now.begin {
-            return product(&mut self.builder, self.now.number, self.now.node);
-        }
-        let total = self.add_part()?;
-        self.sum_of_parts(total)
+        sum_of(&mut self.builder, &mut self.parts, &self.now)
     }
 
     // The next sum begins.
@@ -194,11 +125,8 @@ impl<F: Field> Maker<F> {
     }
 
     fn close(&mut self) -> Result<(), AllocError>
-        requires room { node_count self.old.builder + 5 ≤ 2147483648 }
-        requires node { IsNodeOrNone (node_count self.old.builder) self.old.now.node }
+        requires can { HasSum self.old.builder self.old.now self.old.parts.items }
         requires outer { AreHalvesOf (node_count self.old.builder) self.old.outer.items }
-        requires begin { self.old.now.begin ≤ length self.old.parts.items }
-        requires parts { ArePartsOf (node_count self.old.builder) self.old.parts.items }
         ensures { (outer : List (Half F)) (before : Half F) → self.old.outer.items ≡ outer ++ before ∷ []
             → OnOk result (held_in self.new ≡ held_closed F.ops (held_in self.old) outer before) }
     {
@@ -213,8 +141,7 @@ impl<F: Field> Maker<F> {
     }
 
     fn minus(&mut self) -> Result<(), AllocError>
-        requires room { node_count self.old.builder + 2 ≤ 2147483648 }
-        requires node { IsNodeOrNone (node_count self.old.builder) self.old.now.node }
+        requires { HasProduct self.old.builder self.old.now }
         ensures { OnOk result (held_in self.new ≡ held_minus F.ops (held_in self.old)) }
     {
         if self.ready {
@@ -239,10 +166,7 @@ impl<F: Field> Maker<F> {
     }
 
     fn define(&mut self) -> Result<(), AllocError>
-        requires room { node_count self.old.builder + 3 ≤ 2147483648 }
-        requires node { IsNodeOrNone (node_count self.old.builder) self.old.now.node }
-        requires begin { self.old.now.begin ≤ length self.old.parts.items }
-        requires parts { ArePartsOf (node_count self.old.builder) self.old.parts.items }
+        requires { HasSum self.old.builder self.old.now self.old.parts.items }
         ensures { OnOk result (held_in self.new ≡ held_defined F.ops (held_in self.old)) }
     {
         let operand = self.sum()?;
@@ -251,66 +175,26 @@ impl<F: Field> Maker<F> {
         Ok(())
     }
 
-    // The node of a side of an equation, whose parts go.
-    fn side(&mut self) -> Result<Node, AllocError>
-        requires room { node_count self.old.builder + 4 ≤ 2147483648 }
-        requires node { IsNodeOrNone (node_count self.old.builder) self.old.now.node }
-        requires begin { self.old.now.begin ≤ length self.old.parts.items }
-        requires parts { ArePartsOf (node_count self.old.builder) self.old.parts.items }
-        ensures held { IfOk result (λ _.
-            held_in self.new ≡ without_parts (held_in self.old) (sum_made F.ops (held_in self.old)).nodes) }
-        ensures node { IfOk result (λ node. node ≡ (sum_made F.ops (held_in self.old)).node) }
-    {
-        let operand = self.sum()?;
-        node_of(&mut self.builder, operand)
-    }
-
     fn left(&mut self) -> Result<(), AllocError>
-        requires room { node_count self.old.builder + 4 ≤ 2147483648 }
-        requires node { IsNodeOrNone (node_count self.old.builder) self.old.now.node }
-        requires begin { self.old.now.begin ≤ length self.old.parts.items }
-        requires parts { ArePartsOf (node_count self.old.builder) self.old.parts.items }
+        requires { HasSum self.old.builder self.old.now self.old.parts.items }
         ensures { OnOk result (held_in self.new ≡ held_left F.ops (held_in self.old)) }
     {
-        let node = self.side()?;
+        let operand = self.sum()?;
+        let node = node_of(&mut self.builder, operand)?;
         self.left = Some(node);
         self.begin();
         Ok(())
     }
 
-    // The difference of two nodes, whose parts stand for a while behind the open ones.
-    #[tactic(auto, using(crate::proofs::StepLaws::two_behind, crate::proofs::StepLaws::two_before))]
-    fn difference(&mut self, left: Node, right: Node) -> Result<Node, AllocError>
-        requires room { node_count self.old.builder + 1 ≤ 2147483648 }
-        requires left { IsNode (node_count self.old.builder) left }
-        requires right { IsNode (node_count self.old.builder) right }
-        ensures held { IfOk result (λ _. held_in self.new
-            ≡ behind (held_in self.old) (difference F.ops left (there self.old.builder right)).nodes) }
-        ensures node { IfOk result (λ node.
-            node ≡ (difference F.ops left (there self.old.builder right)).node) }
-    {
-        let begin = self.parts.len();
-        self.parts.push((F::one(), left))?;
-        self.parts.push((F::one().neg(), right))?;
-        let node = self.builder.combine(parts_from(&self.parts, begin))?;
-        self.parts.truncate(begin);
-        Ok(node)
-    }
-
     fn right(&mut self) -> Result<(), AllocError>
-        requires room { node_count self.old.builder + 5 ≤ 2147483648 }
-        requires node { IsNodeOrNone (node_count self.old.builder) self.old.now.node }
-        requires begin { self.old.now.begin ≤ length self.old.parts.items }
-        requires parts { ArePartsOf (node_count self.old.builder) self.old.parts.items }
+        requires can { HasSum self.old.builder self.old.now self.old.parts.items }
         requires left { IsNodeOrNone (node_count (held_sum F.ops (held_in self.old)).nodes) self.old.left }
         ensures { (left : ℕ) → self.old.left ≡ Some left
             → OnOk result (held_in self.new ≡ held_right F.ops (held_in self.old) left) }
     {
-        let right = self.side()?;
-        if let Some(left) = self.left {
-            let node = self.difference(left, right)?;
-            self.outputs.push(node)?;
-        }
+        let operand = self.sum()?;
+        let node = equate(&mut self.builder, &mut self.parts, self.left, operand)?;
+        self.outputs.push(node)?;
         self.left = None;
         self.begin();
         Ok(())

@@ -20,18 +20,6 @@ fn larger(a: u32, b: u32) -> u32
     if a < b { b } else { a }
 }
 
-// A sum is no less deep than any part, and at least 1.
-fn parts_depth<F: Field>(depths: &[u32], parts: &[(F, Node)]) -> u32
-    ensures { result ≡ greatest 1 (at_parts depths.now parts.now) }
-{
-    let mut depth = 1;
-    for i in 0..parts.len() {
-        let part = parts[i];
-        depth = larger(depth, of_node(depths, part.1));
-    }
-    depth
-}
-
 // What a list has for a node, and 0 where it is shorter.
 fn weight_at(weights: &[u64], node: Node) -> u64
     ensures { result ≡ at weights.now node }
@@ -42,90 +30,79 @@ fn weight_at(weights: &[u64], node: Node) -> u64
     }
 }
 
-fn parts_weight<F: Field>(weights: &[u64], parts: &[(F, Node)]) -> u64
-    ensures { result ≡ min (2 ^ 64 - 1) (total (at_parts weights.now parts.now)) }
+// The depth and the weight of a sum: no less deep than any part and than 1, and as heavy as all parts, as far as u64
+// goes.
+fn parts_sizes<F: Field>(depths: &[u32], weights: &[u64], parts: &[(F, Node)]) -> (u32, u64)
+    ensures depth { result.0 ≡ greatest 1 (at_parts depths.now parts.now) }
+    ensures weight { result.1 ≡ min (2 ^ 64 - 1) (total (at_parts weights.now parts.now)) }
 {
+    let mut depth = 1;
     let mut weight = 0u64;
     for i in 0..parts.len() {
         let part = parts[i];
+        depth = larger(depth, of_node(depths, part.1));
         weight = weight.saturating_add(weight_at(weights, part.1));
     }
-    weight
+    (depth, weight)
 }
 
-fn depth_of<F: Field>(depths: &[u32], gate: GateRef<'_, F>) -> u32
+// Those of a gate.
+fn gate_sizes<F: Field>(depths: &[u32], weights: &[u64], gate: GateRef<'_, F>) -> (u32, u64)
     requires low { (k : ℕ) → at depths.now k ≤ 2147483649 }
-    ensures depth { result ≡ gate_depth depths.now (gate_of gate.entry) }
+    ensures depth { result.0 ≡ gate_depth depths.now (gate_of gate.entry) }
+    ensures weight { result.1 ≡ min (2 ^ 64 - 1) (gate_weight weights.now (gate_of gate.entry)) }
 {
     match gate {
-        GateRef::Constant(_) => 1,
-        GateRef::Combine(parts) => parts_depth(depths, parts),
+        GateRef::Constant(_) => (1, 1),
+        GateRef::Combine(parts) => parts_sizes(depths, weights, parts),
         GateRef::Mul(x, y) => {
             let left = of_node(depths, x);
             let right = of_node(depths, y);
-            1 + larger(left, right)
+            (1 + larger(left, right), 1)
         }
     }
 }
 
-fn weight_of<F: Field>(weights: &[u64], gate: GateRef<'_, F>) -> u64
-    ensures { result ≡ min (2 ^ 64 - 1) (gate_weight weights.now (gate_of gate.entry)) }
-{
-    match gate {
-        GateRef::Constant(_) => 1,
-        GateRef::Combine(parts) => parts_weight(weights, parts),
-        GateRef::Mul(_, _) => 1,
-    }
-}
-
-/// The depths of the one, of so many inputs, and of these gates.
-pub(crate) fn depths_of<F: Field>(
+/// The depths of the one, of so many inputs, and of these gates, and their weights, which stop at the last value of
+/// u64. The one weighs nothing.
+pub(crate) fn sizes_of<F: Field>(
     alloc: Global,
     inputs: u32,
     made: &Gates<F>,
-) -> Result<Vec<u32>, AllocError>
+) -> Result<(Vec<u32>, Vec<u64>), AllocError>
     requires few { inputs + length made.now ≤ 2147483648 }
     requires gates { AreGates inputs made.now }
-    ensures { IfOk result (λ depths. depths.items ≡ after gate_depth (replicate (1 + inputs) 0) made.now) }
+    ensures depths { IfOk result (λ sizes. sizes.0.items ≡ after gate_depth (replicate (1 + inputs) 0) made.now) }
+    ensures weights { IfOk result (λ sizes.
+        sizes.1.items ≡ map (min (2 ^ 64 - 1)) (after gate_weight (0 ∷ replicate inputs 1) made.now)) }
 {
     let first = 1 + inputs as usize;
     let mut depths = Vec::with_capacity(alloc, first + made.len())?;
     depths.resize(first, 0)?;
+    let mut weights = Vec::with_capacity(alloc, first + made.len())?;
+    weights.push_reserved(0);
+    weights.resize(first, 1)?;
     for i in 0..made.len() {
-        let depth = depth_of(&depths, made.gate(i));
+        let (depth, weight) = gate_sizes(&depths, &weights, made.gate(i));
         depths.push_reserved(depth);
+        weights.push_reserved(weight);
     }
-    Ok(depths)
+    Ok((depths, weights))
 }
 
-/// Their weights, which stop at the last value of u64. The one weighs nothing.
-pub(crate) fn weights_of<F: Field>(
-    alloc: Global,
-    inputs: u32,
-    made: &Gates<F>,
-) -> Result<Vec<u64>, AllocError>
-    ensures { IfOk result
-        (λ weights. weights.items ≡ map (min (2 ^ 64 - 1)) (after gate_weight (0 ∷ replicate inputs 1) made.now)) }
+// The greatest depth of outputs, and at least 1, and their weights together, as far as u64 goes.
+fn outputs_sizes(depths: &[u32], weights: &[u64], outputs: &[Node]) -> (u32, u64)
+    ensures depth { result.0 ≡ greatest 1 (map (at depths.now) outputs.now) }
+    ensures weight { result.1 ≡ min (2 ^ 64 - 1) (total (map (at weights.now) outputs.now)) }
 {
-    let mut weights = vec![in alloc; 1; 1 + inputs as usize]?;
-    weights[0] = 0;
-    for i in 0..made.len() {
-        let weight = weight_of(&weights, made.gate(i));
-        weights.push(weight)?;
-    }
-    Ok(weights)
-}
-
-// The greatest depth of the outputs, and at least 1.
-fn layers_of(depths: &[u32], outputs: &[Node]) -> u32
-    ensures { result ≡ greatest 1 (map (at depths.now) outputs.now) }
-{
-    let mut layers = 1;
+    let mut depth = 1;
+    let mut weight = 0u64;
     for i in 0..outputs.len() {
         let node = outputs[i];
-        layers = larger(layers, of_node(depths, node));
+        depth = larger(depth, of_node(depths, node));
+        weight = weight.saturating_add(weight_at(weights, node));
     }
-    layers
+    (depth, weight)
 }
 
 // Adds up weights to a number, as far as u64 goes.
@@ -135,18 +112,6 @@ fn add_all(start: u64, weights: &[u64]) -> u64
     let mut sum = start;
     for i in 0..weights.len() {
         sum = sum.saturating_add(weights[i]);
-    }
-    sum
-}
-
-// Adds up the weights of outputs to a number, as far as u64 goes.
-fn add_outputs(start: u64, weights: &[u64], outputs: &[Node]) -> u64
-    ensures { result ≡ min (2 ^ 64 - 1) (start + total (map (at weights.now) outputs.now)) }
-{
-    let mut sum = start;
-    for i in 0..outputs.len() {
-        let node = outputs[i];
-        sum = sum.saturating_add(weight_at(weights, node));
     }
     sum
 }
@@ -183,9 +148,9 @@ pub(crate) fn check_limits(
         MatchResult result (λ count. (count ≡ layers) × (limit_fault layers wires terms ≡ None))
         (λ fault. limit_fault layers wires terms ≡ Some fault)) }
 {
-    let layers = layers_of(depths, outputs);
+    let (layers, own) = outputs_sizes(depths, weights, outputs);
     let wires = depths.len() as u32 + further;
     let copies = layers as u64 * wires as u64;
-    let terms = add_outputs(add_all(copies, weights), weights, outputs);
+    let terms = add_all(copies, weights).saturating_add(own);
     check(layers, wires, terms)
 }

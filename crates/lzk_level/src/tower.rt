@@ -9,7 +9,7 @@ ghost use Rattle.lzk_level.specs.Uses.{node_form};
 
 use crate::graph::Graph;
 use crate::node::{Node, of_node};
-use crate::wires::{first_open, inner_layer, top_layer};
+use crate::wires::{inner_layer, pass_nodes, top_layer};
 use lzk_circuit::Layer;
 use lzk_circuit_reduce::Targets;
 use lzk_field::Field;
@@ -26,18 +26,19 @@ pub(crate) struct Tower<F> {
     pub below: Vec<u32>,
     /// Room for those of the next.
     pub here: Vec<u32>,
-    /// The first node but the one that this level or one above it uses.
-    pub first: usize,
+    /// For each node one behind it: for those between them neither this level nor one above it has a wire.
+    pub next: Vec<u32>,
 }
 
-// The numbers from 0 on.
-fn numbers_to(alloc: Global, count: u32) -> Result<Vec<u32>, AllocError>
+// So many numbers, from one on.
+fn numbers_from(alloc: Global, first: u32, count: u32) -> Result<Vec<u32>, AllocError>
+    requires { first + count ≤ 4294967295 }
     ensures count { IfOk result (λ numbers. length numbers.items ≡ count) }
-    ensures each { (k : ℕ) → k < count → IfOk result (λ numbers. at numbers.items k ≡ k) }
+    ensures each { (k : ℕ) → k < count → IfOk result (λ numbers. at numbers.items k ≡ first + k) }
 {
     let mut numbers = Vec::with_capacity(alloc, count as usize)?;
     for i in 0..count {
-        numbers.push(i)?;
+        numbers.push_reserved(first + i);
     }
     Ok(numbers)
 }
@@ -50,13 +51,14 @@ fn no_layers<F: Field>(alloc: Global, graph: &Graph<'_, F>) -> Result<Tower<F>, 
 {
     let nodes = graph.depths.len();
     let here = vec![in alloc; 0; nodes]?;
-    let below = numbers_to(alloc, nodes as u32)?;
+    let below = numbers_from(alloc, 0, nodes as u32)?;
+    let next = numbers_from(alloc, 1, nodes as u32)?;
     Ok(Tower {
         layers: Vec::new(alloc),
         targets: Vec::new(alloc),
         below,
         here,
-        first: 1,
+        next,
     })
 }
 
@@ -100,12 +102,13 @@ fn raise<F: Field>(
 {
     let wires = level_targets(alloc, graph.depths, level - 1, asserts, &tower.below)?;
     tower.targets.push(wires)?;
-    tower.first = first_open(graph.last, level, tower.first);
+    let most = pass_nodes(graph, level, &mut tower.next);
     let layer = inner_layer(
         alloc,
         graph,
         level,
-        tower.first,
+        most,
+        &tower.next,
         &tower.below,
         &mut tower.here,
     )?;
@@ -114,8 +117,8 @@ fn raise<F: Field>(
     Ok(())
 }
 
-// The outputs' layer on top. The layers and what they assert are turned, so that it comes first.
-fn cap<F: Field>(
+// All levels, and the outputs' layer on top. The layers and what they assert are turned, so that it comes first.
+fn raise_all<F: Field>(
     alloc: Global,
     graph: &Graph<'_, F>,
     outputs: &[Node],
@@ -127,10 +130,13 @@ fn cap<F: Field>(
     requires used { AreNeededTo graph.now.last.now outputs.now count }
     requires asserts { AreAssertable graph.now.depths.now graph.now.last.now asserts.now count }
     requires tower { IsTower F.ops graph.now.inputs (node_form graph.now.inputs graph.now.forms.now)
-        graph.now.depths.now graph.now.last.now asserts.now (count - 1) tower.old }
+        graph.now.depths.now graph.now.last.now asserts.now 0 tower.old }
     ensures { IfOk result (λ _. IsStack F.ops graph.now.inputs (node_form graph.now.inputs graph.now.forms.now)
         graph.now.depths.now count outputs.now asserts.now tower.new.layers.items tower.new.targets.items) }
 {
+    for level in 1..count {
+        raise(alloc, graph, asserts, level, tower)?;
+    }
     let wires = level_targets(alloc, graph.depths, count - 1, asserts, &tower.below)?;
     tower.targets.push(wires)?;
     let layer = top_layer(alloc, graph, count, outputs, &tower.below)?;
@@ -148,17 +154,14 @@ pub(crate) fn stacked<F: Field>(
     outputs: &[Node],
     asserts: &[Node],
     count: u32,
-) -> Result<Tower<F>, AllocError>
+) -> Result<(Vec<Layer<F>>, Vec<Targets>), AllocError>
     requires outputs { AreOutputs graph.now.depths.now outputs.now count }
     requires used { AreNeededTo graph.now.last.now outputs.now count }
     requires asserts { AreAssertable graph.now.depths.now graph.now.last.now asserts.now count }
-    ensures { IfOk result (λ tower. IsStack F.ops graph.now.inputs (node_form graph.now.inputs graph.now.forms.now)
-        graph.now.depths.now count outputs.now asserts.now tower.layers.items tower.targets.items) }
+    ensures { IfOk result (λ stack. IsStack F.ops graph.now.inputs (node_form graph.now.inputs graph.now.forms.now)
+        graph.now.depths.now count outputs.now asserts.now stack.0.items stack.1.items) }
 {
     let mut tower = no_layers(alloc, graph)?;
-    for level in 1..count {
-        raise(alloc, graph, asserts, level, &mut tower)?;
-    }
-    cap(alloc, graph, outputs, asserts, count, &mut tower)?;
-    Ok(tower)
+    raise_all(alloc, graph, outputs, asserts, count, &mut tower)?;
+    Ok((tower.layers, tower.targets))
 }

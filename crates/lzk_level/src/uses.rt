@@ -3,10 +3,11 @@
 ghost use Rattle.std.specs.Prelude.{◌≡◌, ℕ, ◌+◌, ◌-◌, ◌<◌, ◌≤◌, min, length, IfOk};
 ghost use Rattle.lzk_circuit_reduce.specs.Renumbering.{at};
 ghost use Rattle.lzk_level.specs.Stacking.{AreOutputs, AreNeededTo};
+ghost use Rattle.lzk_level.specs.Stacks.{AreAssertable};
 ghost use Rattle.lzk_level.specs.Uses.{node_form, IsFormed, AreBefore, AreUsedTo, AreUses};
 
 use crate::forms::Forms;
-use crate::node::Node;
+use crate::node::{Node, of_node};
 use lzk_circuit::Term;
 use lzk_field::Field;
 use std::alloc::{AllocError, Global};
@@ -72,97 +73,48 @@ fn use_forms<F: Field>(last: &mut Vec<u32>, inputs: usize, forms: &Forms<F>, dep
     }
 }
 
-// The outputs are used up to the uppermost level, and so is the one; all inputs are there.
-fn used_above(
-    alloc: Global,
-    nodes: usize,
-    outputs: &[Node],
-    count: u32,
-) -> Result<Vec<u32>, AllocError>
-    requires some { 1 ≤ count }
-    requires one { 1 ≤ nodes }
-    requires outputs { (i : ℕ) → i < length outputs.now → at outputs.now i < nodes }
-    ensures nodes { IfOk result (λ last. length last.items ≡ nodes) }
-    ensures each { IfOk result (λ last. (k : ℕ) → k < nodes → 1 ≤ at last.items k) }
-    ensures one { IfOk result (λ last. count ≤ at last.items 0) }
-    ensures outputs { IfOk result
-        (λ last. (i : ℕ) → i < length outputs.now → count ≤ at last.items (at outputs.now i)) }
+// Nodes are used up to the level above their own, or the uppermost, and all of them up to the lowest of some levels.
+fn use_nodes(last: &mut Vec<u32>, depths: &[u32], nodes: &[Node], lowest: u32, count: u32)
+    requires count { length last.now.items ≡ length depths.now }
+    requires nodes { (i : ℕ) → i < length nodes.now → at nodes.now i < length depths.now }
+    ensures count { length last.new.items ≡ length last.old.items }
+    ensures grown { (j : ℕ) → at last.old.items j ≤ at last.new.items j }
+    ensures lowest { (i : ℕ) → i < length nodes.now → lowest ≤ at last.new.items (at nodes.now i) }
+    ensures used { (i : ℕ) → i < length nodes.now
+        → min count (at depths.now (at nodes.now i) + 1) ≤ at last.new.items (at nodes.now i) }
 {
-    let mut last = vec![in alloc; 1; nodes]?;
-    last[0] = count;
-    for i in 0..outputs.len() {
-        use_node(&mut last, outputs[i].number(), count);
-    }
-    Ok(last)
-}
-
-// The asserted nodes of the uppermost level are used there, and each other at the level above its own, where it is
-// asserted.
-fn used_asserts(
-    alloc: Global,
-    depths: &[u32],
-    asserts: &[Node],
-    count: u32,
-) -> Result<Vec<u32>, AllocError>
-    requires some { 1 ≤ count }
-    requires one { 1 ≤ length depths.now }
-    requires asserts { (i : ℕ) → i < length asserts.now → at asserts.now i < length depths.now }
-    ensures nodes { IfOk result (λ last. length last.items ≡ length depths.now) }
-    ensures each { IfOk result (λ last. (k : ℕ) → k < length depths.now → 1 ≤ at last.items k) }
-    ensures one { IfOk result (λ last. count ≤ at last.items 0) }
-    ensures asserts { IfOk result (λ last. (i : ℕ) → i < length asserts.now →
-        min count (at depths.now (at asserts.now i) + 1) ≤ at last.items (at asserts.now i)) }
-{
-    let mut last = vec![in alloc; 1; depths.len()]?;
-    last[0] = count;
-    for i in 0..asserts.len() {
-        let depth = depths[asserts[i].number() as usize];
+    for i in 0..nodes.len() {
+        let node = nodes[i];
+        let k = node.number();
+        let depth = of_node(depths, node);
         let level = if depth < count { depth + 1 } else { count };
-        use_node(&mut last, asserts[i].number(), level);
+        use_node(last, k, level);
+        use_node(last, k, lowest);
     }
-    Ok(last)
 }
 
-/// The last level that uses each node. An output is used up to the uppermost.
+/// The last level that uses each node. The outputs and the one are used up to the uppermost, and the asserted nodes at
+/// the level above their own, or at the uppermost.
 pub(crate) fn last_uses<F: Field>(
     alloc: Global,
     inputs: usize,
     forms: &Forms<F>,
     depths: &[u32],
     outputs: &[Node],
+    asserts: &[Node],
     count: u32,
 ) -> Result<Vec<u32>, AllocError>
     requires formed { IsFormed inputs forms.now depths.now }
     requires outputs { AreOutputs depths.now outputs.now count }
-    ensures uses { IfOk result
-        (λ last. AreUses inputs forms.now depths.now last.items) }
-    ensures outputs { IfOk result (λ last. AreNeededTo last.items outputs.now count) }
-{
-    let mut last = used_above(alloc, depths.len(), outputs, count)?;
-    use_forms(&mut last, inputs, forms, depths);
-    Ok(last)
-}
-
-/// The last level that uses each node, where the asserted nodes are used at the level above their own, or at the
-/// uppermost.
-pub(crate) fn last_asserting<F: Field>(
-    alloc: Global,
-    inputs: usize,
-    forms: &Forms<F>,
-    depths: &[u32],
-    asserts: &[Node],
-    count: u32,
-) -> Result<Vec<u32>, AllocError>
-    requires some { 1 ≤ count }
-    requires formed { IsFormed inputs forms.now depths.now }
     requires asserts { (i : ℕ) → i < length asserts.now → at asserts.now i < length depths.now }
-    ensures uses { IfOk result
-        (λ last. AreUses inputs forms.now depths.now last.items) }
-    ensures one { IfOk result (λ last. count ≤ at last.items 0) }
-    ensures asserts { IfOk result (λ last. (i : ℕ) → i < length asserts.now →
-        min count (at depths.now (at asserts.now i) + 1) ≤ at last.items (at asserts.now i)) }
+    ensures uses { IfOk result (λ last. AreUses inputs forms.now depths.now last.items) }
+    ensures outputs { IfOk result (λ last. AreNeededTo last.items outputs.now count) }
+    ensures asserts { IfOk result (λ last. AreAssertable depths.now last.items asserts.now count) }
 {
-    let mut last = used_asserts(alloc, depths, asserts, count)?;
+    let mut last = vec![in alloc; 1; depths.len()]?;
+    last[0] = count;
+    use_nodes(&mut last, depths, outputs, count, count);
+    use_nodes(&mut last, depths, asserts, 0, count);
     use_forms(&mut last, inputs, forms, depths);
     Ok(last)
 }

@@ -2,14 +2,12 @@
 
 ghost use Rattle.std.specs.Prelude.{◌≡◌, ℕ, ◌+◌, ◌-◌, ◌<◌, ◌≤◌, List, [], ◌∷◌, length, true, false, IfOk};
 ghost use Rattle.lzk_circuit_reduce.specs.Renumbering.{at};
-ghost use Rattle.lzk_circuit_reduce.specs.Rows.{IsRow, AreUnder, row_value};
-ghost use Rattle.lzk_field.specs.Sums.{entry};
 ghost use Rattle.lzk_level.specs.Levels.{has_wire};
-ghost use Rattle.lzk_level.specs.Stacking.{AreOutputs, AreNeededTo, ArePassedBy};
+ghost use Rattle.lzk_level.specs.Stacking.{AreOutputs, AreNeededTo, ArePassed};
 ghost use Rattle.lzk_level.specs.Uses.{node_form};
-ghost use Rattle.lzk_level.specs.Wires.{AreFormValues, AreFormWeights, AreWires, CarryValues, CarryTerms, going_on};
-ghost use Rattle.lzk_level.specs.Wires.{IsDue, IsLight, IsLevelLayer, IsTopLayer};
+ghost use Rattle.lzk_level.specs.Wires.{AreWires, IsDue, IsFormRow, IsNodeRow, IsLevelLayer, IsTopLayer, going_on};
 
+use crate::forms::{FEW, is_late};
 use crate::graph::Graph;
 use crate::node::{Node, number_at};
 use lzk_circuit::{Layer, Term, Terms};
@@ -25,118 +23,46 @@ pub(crate) fn has_wire<F>(graph: &Graph<'_, F>, level: u32, k: usize) -> bool
     graph.depths[k] <= level && level < graph.last[k]
 }
 
-// Whether a level or one above it uses a node.
-fn is_open(last: &[u32], level: u32, k: usize) -> bool
-    requires { k < length last.now }
-    ensures { result ≡ false → at last.now k < level }
-{
-    level <= last[k]
-}
-
-/// The first node but the one that a level or one above it uses, where those before `first` are passed already.
-pub(crate) fn first_open(last: &[u32], level: u32, first: usize) -> usize
-    requires { ArePassedBy last.now level first }
-    ensures { ArePassedBy last.now level result }
-{
-    for k in first..last.len() {
-        if is_open(last, level, k) {
-            return k;
-        }
-    }
-    last.len()
-}
-
-// So many terms are sorted one by one.
-const FEW: usize = 16;
-
-// The numbers of both nodes of a term.
-fn numbers_of<F: Field>(term: &Term<F>, numbers: &[u32]) -> (u32, u32)
-    ensures a { result.0 ≡ at numbers.now term.now.a }
-    ensures b { result.1 ≡ at numbers.now term.now.b }
-{
-    let a = number_at(numbers, term.a as usize);
-    let b = number_at(numbers, term.b as usize);
-    (a, b)
-}
-
-// Whether the terms of a form are few, or stand in order by the numbers of their nodes.
-fn are_in_order<F: Field>(form: &[Term<F>], numbers: &[u32]) -> bool {
-    if form.len() <= FEW {
-        return true;
-    }
-    let mut before = 0u64;
-    for term in form {
-        let (a, b) = numbers_of(term, numbers);
-        let (low, high) = if a <= b { (a, b) } else { (b, a) };
-        let place = u64::from(low) << 32 | u64::from(high);
-        if place < before {
-            return false;
-        }
-        before = place;
-    }
-    true
-}
-
-// Adds the terms of a form to a row, one by one, each over the numbers of its nodes.
+// Makes the row of a form term by term, each over the numbers of its nodes, as far as they are few or in order. Tells
+// whether that is all of them.
 fn add_terms<F: Field>(
     form: &[Term<F>],
     numbers: &[u32],
     row: &mut Vec<Term<F>>,
-) -> Result<(), AllocError>
-    ensures row { (width : ℕ) → AreUnder numbers.now width form.now → IsRow F.ops width row.old.items
-        → IfOk result (λ _. IsRow F.ops width row.new.items) }
-    ensures value { (values wires : List F) → CarryTerms F.ops numbers.now values wires form.now
-        → IfOk result (λ _. row_value F.ops wires row.new.items
-        ≡ F.ops.plus (row_value F.ops wires row.old.items) (row_value F.ops values form.now)) }
-    ensures short { IfOk result (λ _. length row.new.items ≤ length row.old.items + length form.now) }
+) -> Result<bool, AllocError>
+    ensures all { IfOk result (λ all. all ≡ true → IsFormRow F.ops numbers.now form.now row.new.items) }
+    ensures many { IfOk result (λ all. all ≡ false → 2 ≤ length form.now) }
 {
+    row.clear();
     for term in form {
-        let (a, b) = numbers_of(term, numbers);
+        let a = number_at(numbers, term.a as usize);
+        let b = number_at(numbers, term.b as usize);
+        if is_late(row, a, b) {
+            return Ok(false);
+        }
         add_term(row, term.coef, a, b)?;
     }
-    Ok(())
+    Ok(true)
 }
 
-// The row of a form over the numbers of its nodes, sorted half by half as far as it is long.
-fn sorted_row<F: Field>(
-    alloc: Global,
-    form: &[Term<F>],
-    numbers: &[u32],
-) -> Result<Vec<Term<F>>, AllocError>
-    ensures row { (width : ℕ) → AreUnder numbers.now width form.now → IfOk result (λ row. IsRow F.ops width row.items) }
-    ensures value { (values wires : List F) → CarryTerms F.ops numbers.now values wires form.now
-        → IfOk result (λ row. row_value F.ops wires row.items ≡ row_value F.ops values form.now) }
-    ensures short { IfOk result (λ row. length row.items ≤ length form.now) }
-{
-    if form.len() <= FEW {
-        let mut row = Vec::with_capacity(alloc, FEW)?;
-        add_terms(form, numbers, &mut row)?;
-        return Ok(row);
-    }
-    let (left, right) = form.split_at(form.len() / 2);
-    let left = sorted_row(alloc, left, numbers)?;
-    let right = sorted_row(alloc, right, numbers)?;
-    merged(alloc, &left, &right)
-}
-
-// Makes the row of a form over the numbers of its nodes.
+// Makes the row of a form over the numbers of its nodes, half by half as far as it is long and in no order.
 fn form_row<F: Field>(
     alloc: Global,
     form: &[Term<F>],
     numbers: &[u32],
     row: &mut Vec<Term<F>>,
 ) -> Result<(), AllocError>
-    ensures row { (width : ℕ) → AreUnder numbers.now width form.now
-        → IfOk result (λ _. IsRow F.ops width row.new.items) }
-    ensures value { (values wires : List F) → CarryTerms F.ops numbers.now values wires form.now
-        → IfOk result (λ _. row_value F.ops wires row.new.items ≡ row_value F.ops values form.now) }
-    ensures short { IfOk result (λ _. length row.new.items ≤ length form.now) }
+    ensures { IfOk result (λ _. IsFormRow F.ops numbers.now form.now row.new.items) }
 {
-    if are_in_order(form, numbers) {
-        row.clear();
-        return add_terms(form, numbers, row);
+    if add_terms(form, numbers, row)? {
+        return Ok(());
     }
-    *row = sorted_row(alloc, form, numbers)?;
+    let (front, back) = form.split_at(form.len() / 2);
+    form_row(alloc, back, numbers, row)?;
+    let mut left = Vec::with_capacity(alloc, FEW)?;
+    form_row(alloc, front, numbers, &mut left)?;
+    let sum = merged(alloc, &left, row)?;
+    *row = sum;
     Ok(())
 }
 
@@ -164,19 +90,8 @@ fn node_row<F: Field>(
     row: &mut Vec<Term<F>>,
 ) -> Result<(), AllocError>
     requires due { IsDue graph.now.depths.now graph.now.last.now level k }
-    ensures row { (width : ℕ) → AreWires graph.now.depths.now graph.now.last.now (level - 1) width below.now
-        → IfOk result (λ _. IsRow F.ops width row.new.items) }
-    ensures value { (values wires : List F) → (let inputs = graph.now.inputs in
-        let depths = graph.now.depths.now in
-        let form = node_form inputs graph.now.forms.now in
-        AreFormValues F.ops inputs (length depths) form values
-        → CarryValues F.ops depths graph.now.last.now (level - 1) below.now values wires
-        → IfOk result (λ _. row_value F.ops wires row.new.items ≡ entry F.ops values k)) }
-    ensures light { (weights : List ℕ) → (let inputs = graph.now.inputs in
-        let depths = graph.now.depths.now in
-        let form = node_form inputs graph.now.forms.now in
-        AreFormWeights inputs (length depths) form weights
-        → IfOk result (λ _. IsLight depths level weights k (length row.new.items))) }
+    ensures { IfOk result (λ _. IsNodeRow F.ops graph.now.inputs (node_form graph.now.inputs graph.now.forms.now)
+        graph.now.depths.now graph.now.last.now level below.now k row.new.items) }
 {
     if graph.depths[k] < level {
         return copy_row(row, number_at(below, k));
@@ -190,53 +105,68 @@ fn set_number(numbers: &mut [u32], k: usize, number: u32)
     ensures count { length numbers.new ≡ length numbers.old }
     ensures here { at numbers.new k ≡ number }
     ensures before { (j : ℕ) → j < k → at numbers.new j ≡ at numbers.old j }
+    ensures behind { (j : ℕ) → k < j → at numbers.new j ≡ at numbers.old j }
 {
     numbers[k] = number;
 }
 
-// How many nodes have a wire in a level, of the one and those from `first` on.
-fn count_wires<F>(graph: &Graph<'_, F>, level: u32, first: usize) -> u32
-    ensures { 1 ≤ result }
+/// Passes the nodes that neither a level nor one above it has a wire for, and tells how many wires the level has at
+/// most. For each node `next` has one behind it: those between them are passed.
+pub(crate) fn pass_nodes<F>(graph: &Graph<'_, F>, level: u32, next: &mut [u32]) -> u32
+    requires { ArePassed graph.now.last.now next.old level }
+    ensures some { 1 ≤ result }
+    ensures passed { ArePassed graph.now.last.now next.new level }
 {
     let mut count = 1;
-    for k in first..graph.depths.len() {
-        if has_wire(graph, level, k) {
-            count += 1;
+    let mut k = 0;
+    let mut j = next[0] as usize;
+    while j < graph.last.len() {
+        let behind = next[j];
+        if graph.last[j] <= level {
+            set_number(next, k, behind);
+        } else {
+            count += u32::from(graph.depths[j] <= level);
+            k = j;
         }
+        j = behind as usize;
     }
     count
 }
 
-/// The layer of a level, over the numbers of the wires below, and the number of each node's wire in it. None of the
-/// nodes before `first` has a wire but the one.
+/// The layer of a level, over the numbers of the wires below, and the number of each node's wire in it. It has about
+/// `most` wires, and none for the nodes that `next` passes.
 pub(crate) fn inner_layer<F: Field>(
     alloc: Global,
     graph: &Graph<'_, F>,
     level: u32,
-    first: usize,
+    most: u32,
+    next: &[u32],
     below: &[u32],
     here: &mut [u32],
 ) -> Result<Layer<F>, AllocError>
     requires some { 1 ≤ level }
     requires high { level < at graph.now.last.now 0 }
-    requires passed { ArePassedBy graph.now.last.now level first }
+    requires wires { 1 ≤ most }
+    requires passed { ArePassed graph.now.last.now next.now level }
     requires room { length here.old ≡ length graph.now.depths.now }
     ensures { (width : ℕ) → AreWires graph.now.depths.now graph.now.last.now (level - 1) width below.now
         → IfOk result (λ layer. IsLevelLayer F.ops graph.now.inputs
         (node_form graph.now.inputs graph.now.forms.now)
         graph.now.depths.now graph.now.last.now (level - 1) level width below.now here.new layer) }
 {
-    let mut kept = none_kept(alloc, count_wires(graph, level, first))?;
+    let mut kept = none_kept(alloc, most)?;
     let mut row = Vec::new(alloc);
     copy_row(&mut row, 0)?;
     let one = wire_of(&mut kept, &row)?;
     set_number(here, 0, one);
-    for k in first..here.len() {
+    let mut k = number_at(next, 0) as usize;
+    while k < here.len() {
         if has_wire(graph, level, k) {
             node_row(alloc, graph, level, k, below, &mut row)?;
             let wire = wire_of(&mut kept, &row)?;
             set_number(here, k, wire);
         }
+        k = number_at(next, k) as usize;
     }
     Ok(Layer {
         wires: kept.count,

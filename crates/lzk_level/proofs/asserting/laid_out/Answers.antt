@@ -14,7 +14,7 @@ use Rattle.lzk_level.proofs.asserting.laid_out.Goals as goal
 
 pub asserting_layers-requires-after_bounds : goal.asserting_layers-requires-after_bounds
 asserting_layers-requires-after_bounds g c κs within =
-    let n = c.args.builder.now in
+    let n = c.args.builder in
     let p = n.publics in
     let q = n.privates in
     let asserts = c.args.asserts.now in
@@ -33,7 +33,7 @@ asserting_layers-requires-after_bounds g c κs within =
 
 pub circuit_of-requires-after_bounds : goal.circuit_of-requires-after_bounds
 circuit_of-requires-after_bounds g c κs within =
-    let n = c.args.builder.now in
+    let n = c.args.builder in
     let asserts = c.args.asserts.now in
     let p = c.builder.inside.publics in
     let q = c.builder.inside.privates in
@@ -55,7 +55,7 @@ returns-clause-circuit g c =
       checks = λ public private hp hq k l.
           let o = g.F.Field.ops in
           let number = g.F.Field.coding.number in
-          let n = c.args.builder.now in
+          let n = c.args.builder in
           let p = n.publics in
           let q = n.privates in
           let asserts = c.args.asserts.now in
@@ -77,7 +77,7 @@ returns-clause-circuit g c =
       outputs =
           let o = g.F.Field.ops in
           let number = g.F.Field.coding.number in
-          let n = c.args.builder.now in
+          let n = c.args.builder in
           let asserts = c.args.asserts.now in
           let count = c.in_ok-depths.count in
           let layers = c.in_ok-layers.layers.items in

@@ -3,17 +3,18 @@ use Rattle.std.proofs.lemmas.List.{with_items_is}
 use Rattle.lzk_circuit.specs.Valid.{under_of}
 use Rattle.lzk_circuit_reduce.specs.Renumbering.{at}
 use Rattle.lzk_level.specs.Checking.{of_depth}
+use Rattle.lzk_level.specs.Stacking.{ArePassed}
 use Rattle.lzk_level.specs.Stacks.{AreLevels}
 use Rattle.lzk_level.specs.Uses.{node_form}
 use Rattle.lzk_level.specs.Wires.{AreWires, IsLevelLayer}
 use Rattle.lzk_level.proofs.StackLaws.{levels-add, passed-above, turned}
 use Rattle.lzk_level.proofs.tower.raise.Goals as goal
 
-pub first_open-tower-requires : goal.first_open-tower-requires
-first_open-tower-requires g c = passed-above c.args.graph.now.last.now (c.args.level - 1) c.args.level c.args.tower.now.first (omega arith) c.requires.tower.passed
+pub pass_nodes-most-requires : goal.pass_nodes-most-requires
+pass_nodes-most-requires g c = subst (λ ns. ArePassed c.args.graph.now.last.now ns c.args.level) (sym c.deref_mut.ensures.value) (passed-above c.args.graph.now.last.now c.args.tower.now.next.items (c.args.level - 1) c.args.level (omega arith) c.requires.tower.passed)
 
 pub inner_layer-requires-clause-room : goal.inner_layer-requires-clause-room
-inner_layer-requires-clause-room g c κs within = ap length c.deref_mut.ensures.value ∙ c.requires.tower.room
+inner_layer-requires-clause-room g c κs within = ap length c.deref_mut-2.ensures.value ∙ c.requires.tower.room
 
 pub returns : goal.returns
 returns g c =
@@ -35,13 +36,16 @@ returns g c =
     let own = c.in_ok-wires.wires in
     let width = (under_of inputs (reverse tower.layers.items)).width in
     let own_is : own ≡ map (at tower.below.items) (of_depth depths under asserts) = c.in_ok-wires.ensures ∙ ap (λ ns. map (at ns) (of_depth depths under asserts)) c.deref.ensures.value in
-    let made = subst (λ ns. (n : ℕ) → AreWires depths last under n ns → IsLevelLayer o inputs form depths last under level n ns here layer) c.deref-2.ensures.value c.in_ok-layer.ensures in
+    let made = subst (λ ns. (n : ℕ) → AreWires depths last under n ns → IsLevelLayer o inputs form depths last under level n ns here layer) c.deref-3.ensures.value c.in_ok-layer.ensures in
     let t = made width s.levels.wires in
     let kept : length here ≡ tower.here.len = omega (arith, t.wires.count, s.room, tower.here.ok.0) in
+    let next = c.pass_nodes-most.new.next in
+    let passed = c.pass_nodes-most.ensures in
+    let kept_next : length next ≡ tower.next.len = omega (arith, passed.passed.count, s.passed.count, tower.next.ok.0) in
     let numbers : c.swap.new.x.items ≡ here = ap (λ v. v.items) c.swap.ensures.x_after ∙ with_items_is tower.here here kept in
     let all = levels-add o inputs forms depths last asserts graph.formed under level layer (reverse tower.layers.items) own (reverse tower.targets.items) tower.below.items here above c.requires.asserts own_is t s.levels in
     record {
-      passed = c.first_open-tower.ensures;
+      passed = subst (λ ns. ArePassed last ns level) (sym (with_items_is tower.next next kept_next)) passed.passed;
       room = ap (λ v. length v.items) c.swap.ensures.y_after ∙ s.levels.wires.count;
       levels =
           subst (λ ns. AreLevels o inputs form depths last asserts level (reverse c.push-2.new.self.items) (reverse c.push.new.self.items) ns) (sym numbers)

@@ -2,15 +2,14 @@ use Rattle.std.proofs.Common.{◌≡◌, ◌∙◌, refl, sym, subst, arith, len
 use Rattle.std.proofs.lemmas.List.{get_or_default}
 use Rattle.lzk_circuit_reduce.specs.Renumbering.{at}
 use Rattle.lzk_level.specs.Uses.{node_form}
-use Rattle.lzk_level.specs.Wires.{IsDue}
-use Rattle.lzk_level.proofs.SharingLaws.{RowOf}
+use Rattle.lzk_level.specs.Wires.{IsDue, IsNodeRow}
 use Rattle.lzk_level.proofs.TopLaws.{outer-starts, outer-adds, outer-ends}
 use Rattle.lzk_level.proofs.wires.top_layer.Goals as goal
 
 pub loop-g-init : goal.loop-g-init
 loop-g-init g c =
     let graph = c.args.graph.now in
-    outer-starts g.F.Field.ops g.F.Field.coding.number graph.inputs (node_form graph.inputs graph.forms.now) graph.depths.now graph.last.now c.args.level c.args.below.now c.args.outputs.now c.new-terms.result.items c.new-terms.ensures.items
+    outer-starts g.F.Field.ops graph.inputs (node_form graph.inputs graph.forms.now) graph.depths.now graph.last.now c.args.level c.args.below.now c.args.outputs.now c.new-terms.result.items c.new-terms.ensures.items
 
 pub node_row-requires-clause-due : goal.node_row-requires-clause-due
 node_row-requires-clause-due g c κs within =
@@ -25,7 +24,6 @@ node_row-requires-clause-due g c κs within =
 pub loop-g-preserved : goal.loop-g-preserved
 loop-g-preserved g c =
     let o = g.F.Field.ops in
-    let code = g.F.Field.coding.number in
     let graph = c.args.graph.now in
     let inputs = graph.inputs in
     let form = node_form inputs graph.forms.now in
@@ -40,8 +38,8 @@ loop-g-preserved g c =
     let own = c.in_ok-node_row.ensures in
     let row = c.deref.result.now in
     let number : c.number.result ≡ at outputs i = c.number.ensures ∙ c.index-outputs-g.is ∙ get_or_default outputs i c.index-outputs-g.result 0 l in
-    outer-adds o code inputs form depths last level below outputs i c.loop-g.terms.items c.append.new.terms.items row l c.requires.outputs.nodes
-    (subst (λ k. RowOf o code inputs form depths last level below k row) number (subst (RowOf o code inputs form depths last level below c.number.result) (sym c.deref.ensures.value) (record { is = own.row; value = own.value; light = own.light })))
+    outer-adds o inputs form depths last level below outputs i c.loop-g.terms.items c.append.new.terms.items row l c.requires.outputs.nodes
+    (subst (λ k. IsNodeRow o inputs form depths last level below k row) number (subst (IsNodeRow o inputs form depths last level below c.number.result) (sym c.deref.ensures.value) own))
     e.terms e.before e.added e.count c.loop-g.invariant
 
 pub returns : goal.returns
@@ -49,5 +47,5 @@ returns g c width w =
     let graph = c.args.graph.now in
     let outputs = c.args.outputs.now in
     let top : c.loop-g.g ≡ length outputs = omega (arith, c.loop-g-test.false, c.loop-g.auto.g-end) in
-    outer-ends g.F.Field.ops g.F.Field.coding.number graph.inputs (node_form graph.inputs graph.forms.now) graph.depths.now graph.last.now c.args.level c.args.below.now outputs width c.loop-g.g c.loop-g.terms.items (record { wires = length outputs; terms = c.new.result })
+    outer-ends g.F.Field.ops graph.inputs (node_form graph.inputs graph.forms.now) graph.depths.now graph.last.now c.args.level c.args.below.now outputs width c.loop-g.g c.loop-g.terms.items (record { wires = length outputs; terms = c.new.result })
     top refl c.new.ensures w c.loop-g.invariant

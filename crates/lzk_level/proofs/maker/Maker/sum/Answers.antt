@@ -1,9 +1,12 @@
-use Rattle.std.proofs.Common.{sym, subst}
-use Rattle.lzk_level.specs.Nodes.{node_count, ArePartsOf}
-use Rattle.lzk_level.specs.Steps.{Held, held_in}
-use Rattle.lzk_level.proofs.StepLaws.{part-parts}
+use Rattle.std.proofs.Common.{◌≡◌, ap₂, take}
+use Rattle.lzk_level.specs.Steps.{held_in, held_with, sum_ended, held_sum}
+use Rattle.lzk_level.proofs.StepLaws.{ok-both}
 use Rattle.lzk_level.proofs.maker.Maker.sum.Goals as goal
 
-pub sum_of_parts-requires-clause-nodes : goal.sum_of_parts-requires-clause-nodes
-sum_of_parts-requires-clause-nodes g c κs within =
-    subst (λ (m : Held _). ArePartsOf (node_count m.nodes) m.parts) (sym c.in_ok-total.ensures.held) (part-parts g.F.Field.ops (held_in c.args.self.now) c.requires.node c.requires.parts)
+pub returns-clause-held : goal.returns-clause-held
+returns-clause-held g c =
+    let o = g.F.Field.ops in
+    let m = held_in c.args.self.now in
+    let n = c.sum_of.new.builder in
+    let ps = c.sum_of.new.parts.items in
+    ok-both c.sum_of.result (λ _. n ≡ (held_sum o m).nodes) (λ _. ps ≡ take m.now.begin m.parts) (λ _. held_with m n ps ≡ sum_ended o m) (λ _ e f. ap₂ (held_with m) e f) c.sum_of.ensures.nodes c.sum_of.ensures.parts

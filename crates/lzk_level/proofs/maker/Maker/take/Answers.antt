@@ -1,4 +1,4 @@
-use Rattle.std.proofs.Common.{◌∙◌, ap, sym, subst, ◌≡◌, ℕ, List, [], ◌∷◌, ◌++◌, Some}
+use Rattle.std.proofs.Common.{arith, ◌∙◌, ap, sym, subst, ◌≡◌, ℕ, List, [], ◌∷◌, ◌++◌, Some}
 use Rattle.std.proofs.lemmas.Result.{on_ok_weaker}
 use Rattle.lzk_level.specs.Nodes.{node_count}
 use Rattle.lzk_level.specs.Compilable.{IsOperand}
@@ -100,3 +100,21 @@ returns-in-Right g c =
 pub returns-in-Times : goal.returns-in-Times
 returns-in-Times g c =
     taken-times g.F.Field.ops g.F.Field.laws.ring g.F.Field.coding.element c.args.numbers.now c.args.word (held_in c.args.self.now) (held_in c.times.new.self) c.in-Times.is c.times.ensures
+
+pub part-requires-after_bounds : goal.part-requires-after_bounds
+part-requires-after_bounds g c κs within = record { room = omega (arith, c.requires.room); node = c.requires.sound.node }
+
+pub minus-requires-after_bounds : goal.minus-requires-after_bounds
+minus-requires-after_bounds g c κs within = record { room = omega (arith, c.requires.room); node = c.requires.sound.node }
+
+pub define-requires-after_bounds : goal.define-requires-after_bounds
+define-requires-after_bounds g c κs within = record { room = omega (arith, c.requires.room); node = c.requires.sound.node; begin = c.requires.sound.begin; parts_are = c.requires.sound.parts }
+
+pub left-requires-after_bounds : goal.left-requires-after_bounds
+left-requires-after_bounds g c κs within = record { room = omega (arith, c.requires.room); node = c.requires.sound.node; begin = c.requires.sound.begin; parts_are = c.requires.sound.parts }
+
+pub close-requires-clause-can : goal.close-requires-clause-can
+close-requires-clause-can g c κs within = record { room = omega (arith, c.requires.room); node = c.requires.sound.node; begin = c.requires.sound.begin; parts_are = c.requires.sound.parts }
+
+pub right-requires-clause-can : goal.right-requires-clause-can
+right-requires-clause-can g c κs within = record { room = omega (arith, c.requires.room); node = c.requires.sound.node; begin = c.requires.sound.begin; parts_are = c.requires.sound.parts }
