@@ -1,22 +1,20 @@
 -- The demo's statements fit behind each other.
-use Rattle.std.proofs.Common.{◌≡◌, ℕ, zero, suc, ◌+◌, ◌≤◌, ◌<◌, below_more, List, [], ◌∷◌, ◌++◌, length, Some, None, refl, sym, ◌∙◌, ap, subst, arith}
+use Rattle.std.proofs.Common.{◌≡◌, ℕ, zero, suc, ◌+◌, ◌≤◌, ◌<◌, below_more, List, [], ◌∷◌, ◌++◌, length, Some, None, refl, ◌∙◌, ap, subst, arith}
 use Rattle.std.specs.Prelude.{count_by}
 use Rattle.lzk_expr.specs.declared.ast.FieldId.TheVariants.{Goldilocks}
 use Rattle.lzk_expr.specs.Readers.{is_define}
 use Rattle.lzk_expr.specs.Trees.{Expr, PublicInput, PrivateInput, Named, Statement, DeclarePublic, DeclarePrivate, Define, Assertion, name_of, is_private, is_assertion}
 use Rattle.lzk_expr.specs.declared.printing.Place.TheVariants as place
-use Rattle.lzk_expr.specs.Sources.{IsSource}
 use Rattle.lzk_expr.specs.Built.{Good, Leaf, expr_depth, GoodExpr, BuiltFrom, IsBuilt}
 use Rattle.lzk_expr.proofs.Tables.{count_more}
-use Rattle.lzk_expr.proofs.Declarations.{let_known, let_new, let_here, private_known, private_new, private_here}
+use Rattle.lzk_demo.proofs.Declared.{let_known, let_new, let_here, private_known, private_new, private_here}
 use Rattle.lzk_expr.proofs.TextLaws.{some_count}
 use Rattle.lzk_demo.specs.declared.entry.Entry.{Entry}
 use Rattle.lzk_demo.specs.declared.entry.Entry.TheVariants.{Input, Made}
 use Rattle.lzk_demo.specs.Demo.{input_name, let_name, expr_of, exclusive_or, first_of, rounds, inputs_from, privates_from, demo_statements, demo_tree}
 use Rattle.lzk_demo.proofs.Rounds.{rounds_with, one_left, Ats, all_rounds}
 use Rattle.lzk_demo.proofs.Names.{input_word, let_word, public_word, input_fits, let_fits, inputs_apart, lets_apart, input_let_apart}
-use Rattle.lzk_demo.proofs.Limits.{demo_publics, demo_privates, demo_asserts}
-use Rattle.lzk_demo.proofs.Written.{demo_formed}
+use Rattle.lzk_demo.proofs.Limits.{demo_asserts}
 
 abbrev IsLeaf : List Statement → Expr → Type 0
 IsLeaf = Leaf Goldilocks
@@ -162,13 +160,4 @@ demo_built n some few = record {
         (λ q l ds same is h. last q l _ ds (rounds_with (λ x y. x) n (units n)) is h (one_left (λ x y. x) n (units n) (omega (arith, length-units n)) (omega (arith, length-units n))))),
   );
   some = some_count is_assertion (demo_statements n) (omega (arith, demo_asserts n));
-}
-
--- the demo's source is that of a text, with these counts
-pub demo_source_is : (n : ℕ) → 1 ≤ n → n ≤ 16384 → IsSource (demo_tree n) 1 n 1
-demo_source_is n some few = record {
-  formed = demo_formed n some few (demo_built n some few);
-  publics_are = sym (demo_publics n);
-  privates_are = sym (demo_privates n);
-  asserts_are = sym (demo_asserts n);
 }

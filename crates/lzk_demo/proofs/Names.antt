@@ -64,9 +64,3 @@ lets_apart i j h k d = named_apart 116 i j h k d
 
 pub input_let_apart : (i j : ℕ) → bytes_eq (input_name i) (let_name j) ≡ false
 input_let_apart i j = refl
-
-pub public_input_apart : (j : ℕ) → bytes_eq (121 ∷ []) (input_name j) ≡ false
-public_input_apart j = refl
-
-pub public_let_apart : (j : ℕ) → bytes_eq (121 ∷ []) (let_name j) ≡ false
-public_let_apart j = refl

@@ -1,17 +1,17 @@
 -- The words of the demo's code, statement for statement.
-use Rattle.std.proofs.Common.{◌≡◌, ℕ, zero, suc, ◌+◌, ◌-◌, ◌*◌, ◌/◌, ◌≤◌, ◌<◌, List, [], ◌∷◌, ◌++◌, map, length, get_or, drop, Option, Some, Result, Ok, Err, OnOk, is_ok, if◌then◌else◌, refl, sym, subst, ◌∙◌, ap, ap₂, arith}
-use Rattle.std.proofs.lemmas.List.{append-nil, map-append, length-drop}
+use Rattle.std.proofs.Common.{◌≡◌, ℕ, zero, suc, ◌+◌, ◌-◌, ◌*◌, ◌/◌, ◌≤◌, ◌<◌, List, [], ◌∷◌, ◌++◌, map, length, get_or, drop, Some, Result, Ok, Err, OnOk, is_ok, if◌then◌else◌, refl, sym, subst, ◌∙◌, ap, ap₂, arith}
+use Rattle.std.proofs.lemmas.List.{map-append}
 use Rattle.std.specs.declared.alloc.AllocError.{AllocError}
 use Rattle.lzk_expr.specs.declared.code.Word.{Word}
 use Rattle.lzk_expr.specs.declared.code.Word.TheVariants as words
 use Rattle.lzk_expr.specs.Trees.{Expr, Number, PublicInput, Statement, DeclarePublic, Define, Assertion}
-use Rattle.lzk_expr.specs.Meanings.{Step, Atom, Plus, Minus, Times, nothing_read, next}
+use Rattle.lzk_expr.specs.Meanings.{Step, Atom, Plus, Minus, Times, next}
 use Rattle.lzk_expr.specs.Codes.{CodeWord, Item, nameless, code_done, nothing_coded, code_word, code_words, steps_read, steps_mean, AreCodeOf}
 use Rattle.lzk_expr.specs.Codes as code
 use Rattle.lzk_expr.proofs.CodeLaws.{words_none, code_let, code_assert}
 use Rattle.lzk_demo.specs.declared.entry.Entry.{Entry}
 use Rattle.lzk_demo.specs.declared.entry.Entry.TheVariants.{Input, Made}
-use Rattle.lzk_demo.specs.Demo.{expr_of, exclusive_or, let_name, round_lets, paired, rounds, inputs_from, privates_from, demo_statements}
+use Rattle.lzk_demo.specs.Demo.{expr_of, exclusive_or, let_name, round_lets, paired, rounds, privates_from}
 use Rattle.lzk_demo.specs.Words.{entry_word, demo_numbers, AreWordsOf}
 use Rattle.lzk_demo.proofs.Written.{pair_made, round_made, assert_made}
 
@@ -79,20 +79,6 @@ pub record AreWordsBefore (ws : List Word) (rest whole : List Statement) : Type 
   pub words_are : AreWordsOf now ws
   pub whole_is : now ++ rest ≡ whole
 
--- nothing is behind
-pub all_words : (ws : List Word) (rest whole : List Statement) → rest ≡ [] → AreWordsBefore ws rest whole → AreWordsOf whole ws
-all_words ws rest whole none b =
-    subst (λ (ss : List Statement). AreWordsOf ss ws) (sym (append-nil b.now) ∙ ap (λ (l : List Statement). b.now ++ l) (sym none) ∙ b.whole_is) b.words_are
-
-no_lets : (k : ℕ) (es : List Entry) → length es ≤ 1 → round_lets k es ≡ []
-no_lets k [] few = refl
-no_lets k (a ∷ []) few = refl
-no_lets k (a ∷ b ∷ es) few = absurd (omega arith)
-
--- a round is over behind its last pair
-pub round_over : (k i : ℕ) (es : List Entry) → length es ≤ 2 * i + 1 → round_lets k (drop (2 * i) es) ≡ []
-round_over k i es few = no_lets k (drop (2 * i) es) (omega (arith, few, length-drop (2 * i) es))
-
 -- one more pair of a round
 pub pair_words : (es : List Entry) (first i : ℕ) (d : Entry) (whole : List Statement) (old new : List Word) → i < length es / 2
     → ((ss : List Statement) → AreWordsOf ss old → AreWordsOf (with_let (first + i) (get_or es (2 * i) d) (get_or es (2 * i + 1) d) ss) new)
@@ -127,15 +113,6 @@ pub last_words : (k : ℕ) (es : List Entry) (e : Entry) (whole : List Statement
 last_words k es e whole old new r some few same more h =
     let b = h.before in
     subst (λ (ss : List Statement). OnOk r (AreWordsOf ss new)) (assert_made h.left k es e b.now (with_assert e b.now) whole some few same b.whole_is refl) (more b.now b.words_are)
-
--- before the first pair, and before the first round
-pub round_begins : (first : ℕ) (es : List Entry) (ss : List Statement) (ws : List Word) → AreWordsOf ss ws → AreWordsBefore ws (round_lets (first + 0) (drop (2 * 0) es)) (ss ++ round_lets first es)
-round_begins first es ss ws h =
-    let same : first + 0 ≡ first = omega arith in
-    record { now = ss; words_are = h; whole_is = ap (λ k. ss ++ round_lets k es) same }
-
-pub rounds_begin : (es : List Entry) (ss : List Statement) (ws : List Word) → AreWordsOf ss ws → AreRoundsLeft ws 0 es (ss ++ rounds (length es) 0 es)
-rounds_begin es ss ws h = record { left = length es; enough = omega arith; before = record { now = ss; words_are = h; whole_is = refl } }
 
 -- ---- the whole
 

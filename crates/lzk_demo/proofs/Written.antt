@@ -11,7 +11,7 @@ use Rattle.lzk_expr.specs.declared.printing.Place.{Place}
 use Rattle.lzk_expr.specs.declared.printing.Place.TheVariants as place
 use Rattle.lzk_expr.specs.Built.{IsBuilt}
 use Rattle.lzk_expr.specs.Sources.{IsWellFormed}
-use Rattle.lzk_expr.specs.Trees.{PublicInput, Statement, DeclarePublic, DeclarePrivate, Define, Assertion}
+use Rattle.lzk_expr.specs.Trees.{PublicInput, Statement, Define, Assertion}
 use Rattle.lzk_expr.specs.Printing.{Names, names_of, private_names, let_names, expr_text, statement_line, source_text}
 use Rattle.lzk_demo.specs.declared.entry.Entry.{Entry}
 use Rattle.lzk_demo.specs.declared.entry.Entry.TheVariants.{Input, Made}
@@ -283,23 +283,8 @@ private_listed n i list more whole lt h m =
     let e : n - i ≡ suc (n - (i + 1)) = omega arith in
     ap (λ (l : List Entry). l ++ inputs_from (i + 1) (n - (i + 1))) m ∙ append_assoc list (Input i ∷ []) _ ∙ ap (λ k. list ++ inputs_from i k) (sym e) ∙ h
 
-pub private_made : (n i : ℕ) (ss more whole : List Statement) → i < n → ss ++ privates_from i (n - i) ≡ whole → more ≡ ss ++ DeclarePrivate (input_name i) ∷ [] → more ++ privates_from (i + 1) (n - (i + 1)) ≡ whole
-private_made n i ss more whole lt h m =
-    let e : n - i ≡ suc (n - (i + 1)) = omega arith in
-    ap (λ (l : List Statement). l ++ privates_from (i + 1) (n - (i + 1))) m ∙ append_assoc ss (DeclarePrivate (input_name i) ∷ []) _ ∙ ap (λ k. ss ++ privates_from i k) (sym e) ∙ h
-
 pub inputs_few : (n : ℕ) (es : List Entry) → es ≡ inputs_from 0 n → n ≤ 16384 → length es ≤ 16384
 inputs_few n es e few = omega (arith, ap length e, length-entries 0 n)
-
-pub demo_made : (n : ℕ) (es : List Entry) (s0 s1 s2 s3 : List Statement) → s1 ≡ s0 ++ DeclarePublic (121 ∷ []) ∷ [] → s2 ≡ s1 ++ privates_from 0 n → es ≡ inputs_from 0 n → s3 ≡ s2 ++ rounds (length es) 0 es
-    → s3 ≡ s0 ++ demo_statements n
-demo_made n es s0 s1 s2 s3 public privates e rest =
-    let long : length es ≡ n = ap length e ∙ length-entries 0 n in
-    let start : s2 ≡ s0 ++ DeclarePublic (121 ∷ []) ∷ privates_from 0 n = privates ∙ ap (λ (l : List Statement). l ++ privates_from 0 n) public ∙ append_assoc s0 (DeclarePublic (121 ∷ []) ∷ []) _ in
-    rest ∙ ap (λ (l : List Statement). l ++ rounds (length es) 0 es) start
-    ∙ ap (λ (ds : List Entry). (s0 ++ DeclarePublic (121 ∷ []) ∷ privates_from 0 n) ++ rounds (length es) 0 ds) e
-    ∙ ap (λ m. (s0 ++ DeclarePublic (121 ∷ []) ∷ privates_from 0 n) ++ rounds m 0 (inputs_from 0 n)) long
-    ∙ append_assoc s0 (DeclarePublic (121 ∷ []) ∷ privates_from 0 n) _
 
 -- the demo's source is that of a text
 pub demo_formed : (n : ℕ) → 1 ≤ n → n ≤ 16384 → IsBuilt (demo_tree n) → IsWellFormed (demo_tree n)

@@ -13,16 +13,13 @@
 //! and has a circuit that the inputs satisfy.
 #![tactic(auto)]
 
-mod building;
 mod circuit;
 mod coding;
 mod entry;
 mod inputs;
 mod laws;
-mod source;
 
 pub use circuit::demo_circuit;
 pub use coding::demo_code;
 pub use inputs::{DemoInputs, demo_inputs};
 pub use laws::demo_laws;
-pub use source::demo_source;

@@ -3,6 +3,8 @@
 //! They stand above what they test, so that a generic crate lists no field and a field's change proves
 //! none of them again.
 
+pub(crate) mod codes;
 mod prints;
 mod rows_of_terms;
 mod sources;
+mod unused;

@@ -50,7 +50,7 @@ fn mixed<F: Field>(alloc: Global) -> Result<Circuit<F>, LevelError> {
 }
 
 // The first row that is not the circuit's term in this order, or where the circuit has more terms.
-fn wrong_term<F: Field>(circuit: &Circuit<F>, rows: &[TermRow]) -> Option<usize> {
+pub(crate) fn wrong_term<F: Field>(circuit: &Circuit<F>, rows: &[TermRow]) -> Option<usize> {
     let mut next = 0;
     for l in 0..circuit.depth() {
         for term in circuit.layer(l).terms.as_slice() {
