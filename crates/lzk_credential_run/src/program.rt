@@ -7,7 +7,7 @@ ghost use Rattle.lzk_credential_run.specs.Status.{IsAnswered, IsEndedBy};
 
 use crate::running::run;
 use lzk_field::Open;
-use lzk_outside::{DiskShelf, StdoutSink, ended, words_after_name};
+use lzk_outside::{DiskShelf, StdoutSink, ended, keep_large_blocks, words_after_name};
 use std::alloc::AllocError;
 use std::io;
 use std::marker::Sync;
@@ -41,6 +41,7 @@ pub fn run_words<T: Threads + Sync>(rt: &HostRuntime, threads: &T, words: &[Stri
 pub fn run_program<T: Threads + Sync>(rt: &HostRuntime, threads: &T) -> ExitCode
     ensures status { exit_status result ≤ 6 }
 {
+    keep_large_blocks(rt.alloc());
     match words_after_name(rt) {
         Ok(words) => run_words(rt, threads, &words),
         Err(e) if e.kind() == io::ErrorKind::OutOfMemory => ended(Err(AllocError)),

@@ -7,8 +7,8 @@
 //!
 //! `MemShelf` and `MemSink` keep all in memory, tell their contents, and fail at the calls that are
 //! numbered when they are made. `DiskShelf` and `StdoutSink` are files of the system and standard
-//! output, and tell nothing of contents. `words_after_name` and `ended` are how a program begins and
-//! ends. This layer is the project's own: no outside document describes it.
+//! output, and tell nothing of contents. `keep_large_blocks`, `words_after_name` and `ended` are how a
+//! program begins and ends. This layer is the project's own: no outside document describes it.
 //!
 //! ```text
 //! let mut shelf = MemShelf::new(alloc, Vec::new(alloc), None);
@@ -28,5 +28,5 @@ mod real;
 
 pub use memory::{MemShelf, MemSink};
 pub use outside::{PutFault, Shelf, ShelfFault, Sink, SinkFault};
-pub use program::{ended, words_after_name};
+pub use program::{ended, keep_large_blocks, words_after_name};
 pub use real::{DiskShelf, StdoutSink};
