@@ -40,7 +40,8 @@ const CODES: [CodeRow<'_>; 5] = [
         b"y0*-y0--(y0*y0)=#340282366920938463463374607431768211455.-(-x0)=(y0-x0)*(y0*x0)*x0.",
     ),
     (
-        b"\t\r\nfield gf2_128\nprivate x\nlet a = x\nlet b = (a) * ((a * a) * a)\nassert 0 = 000 - b - 1*1\npublic late",
+        b"\t\r\nfield gf2_128\nprivate x\nlet a = x\nlet b = (a) * ((a * a) * a)\n\
+            assert 0 = 000 - b - 1*1\npublic late",
         FieldId::Gf2_128,
         1,
         1,
