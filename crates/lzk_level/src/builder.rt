@@ -51,7 +51,7 @@ impl<F: Field> Builder<F> {
         })
     }
 
-    /// Such a builder with room for so many gates and as many parts of sums. Room that is not used takes no memory.
+    /// Such a builder with room for so many gates and as many parts of sums. More are taken where they come.
     pub(crate) fn with_room(
         alloc: Global,
         publics: u32,
