@@ -41,7 +41,7 @@ pub fn run_words<T: Threads + Sync>(rt: &HostRuntime, threads: &T, words: &[Stri
 pub fn run_program<T: Threads + Sync>(rt: &HostRuntime, threads: &T) -> ExitCode
     ensures status { exit_status result ≤ 6 }
 {
-    keep_large_blocks(rt.alloc());
+    keep_large_blocks(rt);
     match words_after_name(rt) {
         Ok(words) => run_words(rt, threads, &words),
         Err(e) if e.kind() == io::ErrorKind::OutOfMemory => ended(Err(AllocError)),

@@ -3,18 +3,25 @@
 ghost use Rattle.std.specs.Prelude.{◌≡◌, IfOk, IsErr};
 ghost use Rattle.std.specs.Process.{exit_status};
 
-use std::alloc::{AllocError, Global};
+use std::alloc::AllocError;
 use std::process::ExitCode;
 use std::{env, io};
 
 // How many bytes the first block has: as many as the C library's allocator takes for the most that it keeps.
 const LARGE: usize = 33_000_000;
 
+// The variable by which a caller sets the C library's allocator.
+const SETTINGS: &str = "GLIBC_TUNABLES";
+
 /// Takes a large block of memory and gives it back, untouched, for a program that is about to begin. The C library's
 /// allocator keeps blocks for the next ones up to the largest that was given back, and else returns each large one to
-/// the system, which hands it out page by page. Where there is no such memory, nothing happens.
-pub fn keep_large_blocks(alloc: Global) {
-    if let Ok(block) = Vec::<u8>::with_capacity(alloc, LARGE) {
+/// the system, which hands it out page by page. Where there is no such memory, or where the caller's environment sets
+/// the allocator by `GLIBC_TUNABLES`, nothing happens.
+pub fn keep_large_blocks(rt: &HostRuntime) {
+    if env::var(rt, SETTINGS).is_ok() {
+        return;
+    }
+    if let Ok(block) = Vec::<u8>::with_capacity(rt.alloc(), LARGE) {
         drop(block);
     }
 }
