@@ -10,7 +10,7 @@ use Rattle.lzk_circuit_reduce.specs.declared.kept.KeptWires.{KeptWires}
 use Rattle.lzk_circuit_reduce.specs.Rows.{IsRow, placed}
 use Rattle.lzk_circuit_reduce.specs.Renumbering.{at, of_wire, terms_before}
 use Rattle.lzk_circuit_reduce.specs.Reduced.{terms_of}
-use Rattle.lzk_circuit_reduce.specs.Kept.{Place, place_of, places_of, slot_of, link_at, IsMetWithin, IsMet, IsTable, IsKept}
+use Rattle.lzk_circuit_reduce.specs.Kept.{Place, place_of, places_of, slot_of, link_at, IsMetWithin, IsMet, IsTable, IsKept, HasOneMore}
 use Rattle.lzk_circuit_reduce.proofs.AppendLaws.{stacked-terms}
 use Rattle.lzk_circuit_reduce.proofs.WireLaws.{before_one, before_same, before-most, before-more, own-slice}
 
@@ -206,16 +206,7 @@ module _ {A : Type 0} (kept : KeptWires A) (count : kept.count ≡ 0) (terms : k
 
 -- ---- one wire more
 
--- what a new wire changes, which falls into this slot
-pub record IsMore {A : Type 0} (old new : KeptWires A) (row : List (Term A)) (slot : ℕ) : Type 0 where
-  pub count : new.count ≡ old.count + 1
-  pub terms : new.terms.items ≡ old.terms.items ++ map (placed old.count) row
-  pub starts : new.starts.items ≡ old.starts.items ++ length new.terms.items ∷ []
-  pub links : new.links.items ≡ old.links.items ++ link_at old.heads.items slot ∷ []
-  pub heads : new.heads.items ≡ slice_set old.heads.items slot (Some old.count)
-  pub within : slot < length old.heads.items
-
-module _ {A : Type 0} (old new : KeptWires A) (row : List (Term A)) (slot : ℕ) (k : IsTable old) (m : IsMore old new row slot) where
+module _ {A : Type 0} (old new : KeptWires A) (row : List (Term A)) (slot : ℕ) (k : IsTable old) (m : HasOneMore old new row slot) where
   whole-adds : terms_before new.count new.terms.items ≡ length new.terms.items
   whole-adds =
       let c = old.count in
@@ -280,7 +271,7 @@ module _ {A : Type 0} (o : Ops A) (number_of : A → ℕ) (width : ℕ) (old new
   before-places : (i : ℕ) → i < old.count → places_of number_of i new.terms.items ≡ places_of number_of i old.terms.items
   before-places i l = ap (map (place_of number_of)) (added-before i l)
 
-  module _ (is_row : IsRow o width row) (slot : ℕ) (table : IsTable old) (m : IsMore old new row slot) (own_slot : slot ≡ slot_of (length old.heads.items) (map (place_of number_of) row))
+  module _ (is_row : IsRow o width row) (slot : ℕ) (table : IsTable old) (m : HasOneMore old new row slot) (own_slot : slot ≡ slot_of (length old.heads.items) (map (place_of number_of) row))
       (none : (g : ℕ) → g < old.count → places_of number_of g old.terms.items ≢ map (place_of number_of) row) where
     slots_stay : length new.heads.items ≡ length old.heads.items
     slots_stay = ap length m.heads ∙ length-set old.heads.items slot (Some old.count)

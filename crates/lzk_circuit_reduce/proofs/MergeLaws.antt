@@ -26,6 +26,12 @@ module _ {A : Type 0} (o : Ops A) where
   taken-few x y old new taken (inr (inl n)) = (omega (arith, ap (λ p. p.0) n.2), omega (arith, ap (λ p. p.1) n.2))
   taken-few x y old new taken (inr (inr n)) = (omega (arith, ap (λ p. p.0) n.2), omega (arith, ap (λ p. p.1) n.2))
 
+  -- and at least one of both
+  pub taken-some : (x y : Term A) (old new : List (Term A)) (taken : ℕ × ℕ) → IsNext o x y old new taken → 1 ≤ taken.0 + taken.1
+  taken-some x y old new taken (inl n) = omega (arith, ap (λ p. p.0) n.2)
+  taken-some x y old new taken (inr (inl n)) = omega (arith, ap (λ p. p.1) n.2)
+  taken-some x y old new taken (inr (inr n)) = omega (arith, ap (λ p. p.0) n.2)
+
 module _ {A : Type 0} (o : Ops A) (r : RingLaws o) where
   open o use {plus, times}
 

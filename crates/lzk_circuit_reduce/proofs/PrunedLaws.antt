@@ -14,7 +14,7 @@ use Rattle.lzk_circuit_reduce.specs.Used.{all_true, all_of, used_terms, marks_of
 use Rattle.lzk_circuit_reduce.proofs.MarkedPlaceLaws.{all-count, all-marked, all-places}
 use Rattle.lzk_circuit_reduce.proofs.UsedLaws.{marks-as}
 use Rattle.lzk_circuit_reduce.proofs.TargetLaws.{behind-drop, targets-drop}
-use Rattle.lzk_circuit_reduce.proofs.PushedLaws.{pushed-used, pushed-targets, width-fits}
+use Rattle.lzk_circuit_reduce.proofs.PushedLaws.{pushed-used, pushed-targets}
 use Rattle.lzk_circuit_reduce.proofs.UsedLayersLaws.{under-count, AreMarksOf, under-marks, used-are-layers, used-have-ones, used-are-different, used-are-used, used-outputs, used-are-targets, used-as-many, used-asserted, used-no-more}
 
 module _ {A : Type 0} where
@@ -124,15 +124,6 @@ module _ {A : Type 0} (o : Ops A) where
       let one = h.0 in
       let wires : layer.wires ≡ length marks = sym (p.count ∙ ap (λ ls. (under_of inputs ls).width) front) in
       subst (AreTerms o (length marks) width None) (sym slice) (subst (λ n. AreTerms o n width None layer.terms) wires one.each)
-
-  pub pruning-fits : (inputs : ℕ) (ws : List (List ℕ)) (layers : List (Layer A)) (marks : List Bool) (l : ℕ) (moved : List (List ℕ)) (kept : List (Layer A)) → inputs < 4294967296 → ArePrunedTo o inputs ws layers marks l moved kept → length marks < 4294967296
-  pruning-fits inputs ws layers marks l moved kept i p = omega (arith, p.count, width-fits o inputs (drop l layers) i p.rest)
-
-  pub below-fits : (inputs : ℕ) (ws : List (List ℕ)) (layers : List (Layer A)) (d : Layer A) (marks below : List Bool) (l : ℕ) (moved : List (List ℕ)) (kept : List (Layer A)) → inputs < 4294967296 → l < length layers → length below ≡ (under_of inputs (drop (l + 1) layers)).width
-      → ArePrunedTo o inputs ws layers marks l moved kept → length below < 4294967296
-  below-fits inputs ws layers d marks below l moved kept i within count p =
-      let h : AreLayers o inputs (get_or layers l d ∷ drop (l + 1) layers) = subst (AreLayers o inputs) (drop_more layers l d within) p.rest in
-      omega (arith, count, width-fits o inputs (drop (l + 1) layers) i h.1)
 
   pub pruning-ends : (inputs : ℕ) (ws : List (List ℕ)) (layers : List (Layer A)) (marks : List Bool) (l : ℕ) (moved : List (List ℕ)) (kept : List (Layer A)) → length layers ≤ l → ArePrunedTo o inputs ws layers marks l moved kept → IsPruned inputs ws layers moved kept
   pruning-ends inputs ws layers marks l moved kept h p =

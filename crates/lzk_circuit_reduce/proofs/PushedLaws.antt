@@ -6,10 +6,9 @@ use Rattle.std.specs.declared.result.Result.TheVariants.{Ok, Err}
 use Rattle.std.proofs.Common.{refl, sym, ap, ◌∙◌, arith}
 use Rattle.std.proofs.lemmas.Bool.{or_left}
 use Rattle.std.proofs.lemmas.List.{append_assoc}
-use Rattle.lzk_field.specs.Ring.{Ops}
 use Rattle.lzk_circuit.specs.declared.layer.Term.{Term}
 use Rattle.lzk_circuit.specs.declared.layer.Layer.{Layer}
-use Rattle.lzk_circuit.specs.Valid.{under_of, AreLayers}
+use Rattle.lzk_circuit.specs.Valid.{under_of}
 use Rattle.lzk_circuit_reduce.specs.Marks.{is_marked, names, marked_before}
 use Rattle.lzk_circuit_reduce.specs.Targets.{targets_at, behind, is_in}
 use Rattle.lzk_circuit_reduce.specs.Used.{all_true, used_terms, used_layer, marks_of_under, used_layers, used_targets}
@@ -73,9 +72,3 @@ module _ {A : Type 0} where
       ap (λ xs. xs ++ used_targets inputs below (behind ws) rest) push ∙ append_assoc old (pushed ∷ []) (used_targets inputs below (behind ws) rest)
       ∙ ap (λ x. old ++ x ∷ used_targets inputs below (behind ws) rest) own
       ∙ ap (λ b. old ++ map (marked_before b) (targets_at ws 0) ∷ used_targets inputs b (behind ws) rest) under
-
-module _ {A : Type 0} (o : Ops A) where
-  -- no layer has more wires than a u32 counts
-  pub width-fits : (inputs : ℕ) (layers : List (Layer A)) → inputs < 4294967296 → AreLayers o inputs layers → (under_of inputs layers).width < 4294967296
-  width-fits inputs [] l h = l
-  width-fits inputs (layer ∷ layers) l h = let one = h.0 in omega (arith, one.most)

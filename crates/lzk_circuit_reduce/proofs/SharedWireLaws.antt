@@ -16,7 +16,7 @@ use Rattle.lzk_circuit_reduce.specs.Renumbering.{at, of_wire, terms_before, AreN
 use Rattle.lzk_circuit_reduce.specs.Reduced.{HasOne}
 use Rattle.lzk_circuit_reduce.specs.Kept.{IsKept, IsTable}
 use Rattle.lzk_circuit_reduce.proofs.RenumberLaws.{wire-value}
-use Rattle.lzk_circuit_reduce.specs.Shared.{IsSharedLayer}
+use Rattle.lzk_circuit_reduce.specs.Shared.{IsSharedLayer, IsRowOf}
 use Rattle.lzk_circuit_reduce.proofs.KeptLaws.{kept-terms, kept-different}
 use Rattle.lzk_circuit_reduce.proofs.WireLaws.{before-none, before-most}
 
@@ -63,14 +63,6 @@ module _ {A : Type 0} (o : Ops A) (number_of : A → ℕ) where
     pub count : more.count ≤ kept.count + 1
     pub short : length more.terms.items ≤ length kept.terms.items + length row
 
-  -- the row of a layer's wire g over the numbers, with the terms from start to end
-  pub record RowOf (layer : Layer A) (numbers : List ℕ) (g start end : ℕ) (row : List (Term A)) : Type 0 where
-    pub end_is : end ≡ terms_before (g + 1) layer.terms
-    pub is : (width : ℕ) → AreNumbersBelow width numbers → IsRow o width row
-    pub value : (old new : List A) → AreCopies o numbers old new → row_value o new row ≡ row_value o old (of_wire g layer.terms)
-    pub short : start + length row ≤ end
-    pub one : IsOne o (of_wire g layer.terms) → at numbers 0 ≡ 0 → IsOne o row
-
   -- the first g wires of a layer are among the kept ones, over so many wires
   pub record SharedOver (layer : Layer A) (numbers : List ℕ) (width g : ℕ) (kept : KeptWires A) (wires : List ℕ) : Type 0 where
     pub is : IsKept o number_of width kept
@@ -104,7 +96,7 @@ module _ {A : Type 0} (o : Ops A) (number_of : A → ℕ) where
   }
 
   shared-more : (layer : Layer A) (numbers : List ℕ) (width g start end w : ℕ) (kept more : KeptWires A) (wires : List ℕ) (row : List (Term A)) → length wires ≡ g → kept.count ≤ g
-      → RowOf layer numbers g start end row → Taking kept more row w → AreNumbersBelow width numbers → SharedOver layer numbers width g kept wires → SharedOver layer numbers width (g + 1) more (wires ++ w ∷ [])
+      → IsRowOf o layer numbers g start end row → Taking kept more row w → AreNumbersBelow width numbers → SharedOver layer numbers width g kept wires → SharedOver layer numbers width (g + 1) more (wires ++ w ∷ [])
   shared-more layer numbers width g start end w kept more wires row e few r t n s =
       let is_row = r.is width n in
       let taken = t.terms width s.is is_row in
@@ -137,7 +129,7 @@ module _ {A : Type 0} (o : Ops A) (number_of : A → ℕ) where
       }
 
   pub sharing-adds : (layer : Layer A) (numbers : List ℕ) (g start end w : ℕ) (kept more : KeptWires A) (wires : List ℕ) (row : List (Term A))
-      → RowOf layer numbers g start end row → Taking kept more row w → Sharing layer numbers g start kept wires → Sharing layer numbers (g + 1) end more (wires ++ w ∷ [])
+      → IsRowOf o layer numbers g start end row → Taking kept more row w → Sharing layer numbers g start kept wires → Sharing layer numbers (g + 1) end more (wires ++ w ∷ [])
   sharing-adds layer numbers g start end w kept more wires row r t s = record {
     table = t.table;
     start_is = r.end_is;

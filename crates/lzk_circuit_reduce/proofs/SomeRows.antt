@@ -12,8 +12,8 @@ use Rattle.lzk_circuit_reduce.specs.Renumbering.{at, of_wire, terms_before, AreO
 use Rattle.lzk_circuit_reduce.proofs.NormalLaws.{ZeroOrNot, AreOfRow, ordered-of-row, ordered-value, IsNormal, normal}
 use Rattle.lzk_circuit_reduce.proofs.RenumberLaws.{over-own, terms-over, copied-value, one-count, one-renumbered, wire-value}
 use Rattle.lzk_circuit_reduce.proofs.WireLaws.{before_one, before_same, own_one, own_same, before-most}
-use Rattle.lzk_circuit_reduce.proofs.SharedWireLaws.{past, past-all, placed-value, placed-triples, placed-one, RowOf, shared-values}
-use Rattle.lzk_circuit_reduce.specs.Shared.{IsSharedLayer, IsMovedLayer}
+use Rattle.lzk_circuit_reduce.proofs.SharedWireLaws.{past, past-all, placed-value, placed-triples, placed-one, shared-values}
+use Rattle.lzk_circuit_reduce.specs.Shared.{IsSharedLayer, IsMovedLayer, IsRowOf}
 use Rattle.lzk_circuit_reduce.proofs.StackedRows.{row_at, term_total, total-more, each-more, AreRowsOver, stacked, SameOrNot, once}
 
 module _ {A : Type 0} where
@@ -70,10 +70,10 @@ module _ {A : Type 0} (o : Ops A) (r : RingLaws o) (f : FieldLaws o) (decide : Z
   moved-one numbers (t ∷ u ∷ ts) row n h z = absurd (omega (arith, one-count o (t ∷ u ∷ ts) h))
 
   module _ (layer : Layer A) (numbers : List ℕ) (terms : AreTerms o layer.wires (length numbers) None layer.terms) where
-    abbrev IsRowOf : ℕ → List (Term A) → Type 0
-    IsRowOf g row = RowOf o number_of layer numbers g (terms_before g layer.terms) (terms_before (g + 1) layer.terms) row
+    abbrev IsOwnRow : ℕ → List (Term A) → Type 0
+    IsOwnRow g row = IsRowOf o layer numbers g (terms_before g layer.terms) (terms_before (g + 1) layer.terms) row
 
-    row-of : (g : ℕ) → (row : List (Term A)) × IsRowOf g row
+    row-of : (g : ℕ) → (row : List (Term A)) × IsOwnRow g row
     row-of g =
         let ts = of_wire g layer.terms in
         let over = over-own (length numbers) g layer.terms (terms-over o layer.wires (length numbers) None layer.terms terms) in
@@ -91,7 +91,7 @@ module _ {A : Type 0} (o : Ops A) (r : RingLaws o) (f : FieldLaws o) (decide : Z
     -- the rows of the first n wires
     record AreRowsOf (n : ℕ) (rows : List (List (Term A))) : Type 0 where
       pub count : length rows ≡ n
-      pub each : (g : ℕ) → g < length rows → IsRowOf g (row_at rows g)
+      pub each : (g : ℕ) → g < length rows → IsOwnRow g (row_at rows g)
       pub short : term_total rows ≤ terms_before n layer.terms
 
     rows-of : (n : ℕ) → (rows : List (List (Term A))) × AreRowsOf n rows
@@ -103,7 +103,7 @@ module _ {A : Type 0} (o : Ops A) (r : RingLaws o) (f : FieldLaws o) (decide : Z
           rows ++ row ∷ [],
           record {
             count = length-append rows (row ∷ []) ∙ omega (arith, are.count);
-            each = each-more [] IsRowOf rows row are.each (subst (λ g. IsRowOf g row) (sym are.count) is);
+            each = each-more [] IsOwnRow rows row are.each (subst (λ g. IsOwnRow g row) (sym are.count) is);
             short = omega (arith, are.short, is.short, total-more rows row, ap (λ k. terms_before k layer.terms) next);
           },
         )

@@ -1,10 +1,11 @@
 -- What the kept wires of a layer are.
-use Rattle.std.specs.Prelude.{◌≡◌, ◌≢◌, ℕ, zero, suc, ◌+◌, ◌*◌, ◌/◌, ◌^◌, ◌<◌, ◌≤◌, Option, Some, None, List, length, map, slice_index_or}
+use Rattle.std.specs.Prelude.{◌≡◌, ◌≢◌, ℕ, zero, suc, ◌+◌, ◌*◌, ◌/◌, ◌^◌, ◌<◌, ◌≤◌, Option, Some, None, List, [], ◌∷◌, ◌++◌, length, map, slice_index_or, slice_set}
 use Rattle.std.proofs.Common.{◌⊎◌}
 use Rattle.lzk_field.specs.Ring.{Ops}
 use Rattle.lzk_circuit.specs.declared.layer.Term.{Term}
 use Rattle.lzk_circuit.specs.Valid.{AreTerms}
 use Rattle.lzk_circuit_reduce.specs.declared.kept.KeptWires.{KeptWires}
+use Rattle.lzk_circuit_reduce.specs.Rows.{placed}
 use Rattle.lzk_circuit_reduce.specs.Renumbering.{at, of_wire, terms_before}
 use Rattle.lzk_circuit_reduce.specs.Hash.{hash_from}
 
@@ -54,3 +55,12 @@ pub record IsKept {A : Type 0} (o : Ops A) (number_of : A → ℕ) (width : ℕ)
       (link_at kept.heads.items (slot_of (length kept.heads.items) (places_of number_of g kept.terms.items)))
   pub different : (g h : ℕ) → g < h → h < kept.count
       → places_of number_of g kept.terms.items ≢ places_of number_of h kept.terms.items
+
+-- the kept wires and one more, with this row, which falls into this slot
+pub record HasOneMore {A : Type 0} (old new : KeptWires A) (row : List (Term A)) (slot : ℕ) : Type 0 where
+  pub count : new.count ≡ old.count + 1
+  pub terms : new.terms.items ≡ old.terms.items ++ map (placed old.count) row
+  pub starts : new.starts.items ≡ old.starts.items ++ length new.terms.items ∷ []
+  pub links : new.links.items ≡ old.links.items ++ link_at old.heads.items slot ∷ []
+  pub heads : new.heads.items ≡ slice_set old.heads.items slot (Some old.count)
+  pub within : slot < length old.heads.items

@@ -5,6 +5,7 @@ ghost use Rattle.lzk_field.specs.Sums.{entry};
 ghost use Rattle.lzk_circuit_reduce.specs.Renumbering.{at};
 ghost use Rattle.lzk_circuit_reduce.specs.Rows.{IsRow, IsUnder, AreUnder, Less, row_value, term_value, ordered};
 
+use crate::push::push;
 use crate::rows::{is_zero, term_of};
 use lzk_circuit::Term;
 use lzk_field::Field;
@@ -103,8 +104,7 @@ pub fn add_term<F: Field>(row: &mut Vec<Term<F>>, coef: F, a: u32, b: u32) -> Re
     }
     let term = term_of(coef, a, b);
     if is_behind(row, term) {
-        row.push(term)?;
-        return Ok(());
+        return push(row, term);
     }
     insert_term(row, term)
 }

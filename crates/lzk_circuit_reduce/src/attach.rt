@@ -7,6 +7,7 @@ ghost use Rattle.lzk_circuit_reduce.specs.Reduced.{HaveOnes, AreInnerDifferent, 
 ghost use Rattle.lzk_circuit_reduce.specs.Targets.{targets_at, AreAllTerms, AreTargets, target_count};
 ghost use Rattle.lzk_circuit.specs.Limits.{most_wires, most_total};
 
+use crate::push::push;
 use crate::reduce::used_with;
 use crate::targets::Targets;
 use lzk_circuit::{Layer, Term, Terms};
@@ -25,12 +26,13 @@ fn attached_layer<F: Field>(
     let mut terms = Vec::from_slice(alloc, layer.terms.as_slice())?;
     let mut g = layer.wires;
     for i in 0..wires.len() {
-        terms.push(Term {
+        let term = Term {
             g,
             a: 0,
             b: wires[i],
             coef: F::zero(),
-        })?;
+        };
+        push(&mut terms, term)?;
         g += 1;
     }
     Ok(Layer {
@@ -52,7 +54,7 @@ fn attached<F: Field>(
 {
     let mut all = Vec::with_capacity(alloc, layers.len())?;
     for l in 0..layers.len() {
-        all.push(attached_layer(alloc, &layers[l], targets[l].as_slice())?)?;
+        all.push_reserved(attached_layer(alloc, &layers[l], targets[l].as_slice())?);
     }
     Ok(all)
 }

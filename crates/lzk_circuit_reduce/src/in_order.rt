@@ -1,11 +1,11 @@
 //! Terms that stay in order over other numbers of the wires below: they are a row as they stand.
 
-ghost use Rattle.std.specs.Prelude.{◌≡◌, ℕ, ◌≤◌, length, map, true, false, IfOk};
-ghost use Rattle.lzk_circuit_reduce.specs.Renumbering.{AreOver, AreNonzero, AreNumbersBelow};
-ghost use Rattle.lzk_circuit_reduce.specs.InOrder.{over_numbers};
-ghost use Rattle.lzk_circuit_reduce.specs.Rows.{IsRow};
+ghost use Rattle.std.specs.Prelude.{◌≡◌, ℕ, ◌≤◌, length, true, false, IfOk};
+ghost use Rattle.lzk_circuit_reduce.specs.Renumbering.{AreOver, AreNonzero};
+ghost use Rattle.lzk_circuit_reduce.specs.Shared.{IsRenumbered};
 
 use crate::add::is_behind;
+use crate::push::push;
 use crate::rows::term_of;
 use lzk_circuit::Term;
 use lzk_field::Field;
@@ -20,9 +20,7 @@ pub(crate) fn in_order<F: Field>(
 ) -> Result<bool, AllocError>
     requires terms { AreOver (length numbers.now) terms.now }
     requires nonzero { AreNonzero F.ops terms.now }
-    ensures row { (width : ℕ) → AreNumbersBelow width numbers.now
-        → IfOk result (λ found. found ≡ true → IsRow F.ops width row.new.items) }
-    ensures exact { IfOk result (λ found. found ≡ true → row.new.items ≡ map (over_numbers numbers.now) terms.now) }
+    ensures row { IfOk result (λ found. found ≡ true → IsRenumbered F.ops numbers.now terms.now row.new.items) }
     ensures two { IfOk result (λ found. found ≡ false → 2 ≤ length terms.now) }
 {
     row.clear();
@@ -33,7 +31,7 @@ pub(crate) fn in_order<F: Field>(
         if !is_behind(row, moved) {
             return Ok(false);
         }
-        row.push(moved)?;
+        push(row, moved)?;
     }
     Ok(true)
 }

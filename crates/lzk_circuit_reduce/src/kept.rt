@@ -3,10 +3,11 @@
 ghost use Rattle.std.specs.Prelude.{◌≡◌, ◌≢◌, ℕ, ◌+◌, ◌-◌, ◌<◌, ◌≤◌, None, [], length, map, take, drop, true, false, IfOk, IfSome};
 ghost use Rattle.lzk_circuit_reduce.specs.Rows.{IsRow, placed};
 ghost use Rattle.lzk_circuit_reduce.specs.Renumbering.{at, of_wire};
-ghost use Rattle.lzk_circuit_reduce.specs.Kept.{IsKept, IsTable, place_of, places_of, slot_of, link_at};
+ghost use Rattle.lzk_circuit_reduce.specs.Kept.{IsKept, IsTable, HasOneMore, place_of, places_of, slot_of, link_at};
 ghost use Rattle.lzk_circuit_reduce.specs.Hash.{mixed, hash_from};
 ghost use Rattle.lzk_circuit.specs.Limits.{most_wires};
 
+use crate::push::push;
 use crate::rows::append;
 use lzk_circuit::Term;
 use lzk_field::Field;
@@ -32,10 +33,8 @@ fn empty_slots(alloc: Global, count: u32) -> Result<Vec<Option<u32>>, AllocError
     ensures count { IfOk result (λ slots. length slots.items ≡ count) }
     ensures none { (k : ℕ) → IfOk result (λ slots. link_at slots.items k ≡ None) }
 {
-    let mut slots = Vec::with_capacity(alloc, count as usize)?;
-    for _k in 0..count {
-        slots.push(None)?;
-    }
+    let mut slots = Vec::new(alloc);
+    slots.resize(count as usize, None)?;
     Ok(slots)
 }
 
@@ -47,9 +46,8 @@ pub fn none_kept<F: Field>(alloc: Global, most: u32) -> Result<KeptWires<F>, All
     ensures count { IfOk result (λ kept. kept.count ≡ 0) }
     ensures terms { IfOk result (λ kept. kept.terms.items ≡ []) }
 {
+    let starts = Vec::from_slice(alloc, &[0])?;
     let heads = empty_slots(alloc, most)?;
-    let mut starts = Vec::new(alloc);
-    starts.push(0)?;
     Ok(KeptWires {
         count: 0,
         terms: Vec::new(alloc),
@@ -153,33 +151,21 @@ fn found<F: Field>(kept: &KeptWires<F>, row: &[Term<F>], slot: usize) -> Option<
     None
 }
 
-// The next wire, with this row, which none of the others has.
+// The next wire, with this row, which falls into this slot.
 fn add_wire<F: Field>(
     kept: &mut KeptWires<F>,
     row: &[Term<F>],
     slot: usize,
 ) -> Result<u32, AllocError>
     requires few { kept.now.count < most_wires }
-    requires table { IsTable kept.now }
-    requires slot { slot ≡ slot_of (length kept.now.heads.items) (map (place_of F.coding.number) row.now) }
     requires within { slot < length kept.now.heads.items }
     ensures wire { IfOk result (λ g. g ≡ kept.old.count) }
-    ensures count { IfOk result (λ _. kept.new.count ≡ kept.old.count + 1) }
-    ensures table { IfOk result (λ _. IsTable kept.new) }
-    ensures kept { (width : ℕ) → IsKept F.ops F.coding.number width kept.old → IsRow F.ops width row.now
-        → ((g : ℕ) → g < kept.old.count
-        → places_of F.coding.number g kept.old.terms.items ≢ map (place_of F.coding.number) row.now)
-        → IfOk result (λ _. IsKept F.ops F.coding.number width kept.new) }
-    ensures terms { (width : ℕ) → IsKept F.ops F.coding.number width kept.old
-        → IfOk result (λ g. of_wire g kept.new.terms.items ≡ map (placed g) row.now) }
-    ensures before { (i : ℕ) → i < kept.old.count
-        → IfOk result (λ _. of_wire i kept.new.terms.items ≡ of_wire i kept.old.terms.items) }
-    ensures short { IfOk result (λ _. length kept.new.terms.items ≡ length kept.old.terms.items + length row.now) }
+    ensures more { IfOk result (λ _. HasOneMore kept.old kept.new row.now slot) }
 {
     let wire = kept.count;
     append(&mut kept.terms, wire, row)?;
-    kept.starts.push(kept.terms.len())?;
-    kept.links.push(kept.heads[slot])?;
+    push(&mut kept.starts, kept.terms.len())?;
+    push(&mut kept.links, kept.heads[slot])?;
     kept.heads[slot] = Some(wire);
     kept.count = wire + 1;
     Ok(wire)

@@ -18,6 +18,7 @@ mod kept;
 mod laws;
 mod marks;
 mod prune;
+mod push;
 mod reduce;
 mod reducible;
 mod renumber;

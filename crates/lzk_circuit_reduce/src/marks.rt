@@ -31,6 +31,7 @@ pub(crate) fn marked_places(alloc: Global, marks: &[bool]) -> Result<(Vec<u32>, 
 /// Marks for so many wires, of which the first alone is marked.
 pub(crate) fn first_marked(alloc: Global, width: u32) -> Result<Vec<bool>, AllocError>
     ensures count { IfOk result (λ marks. length marks.items ≡ width) }
+    ensures few { IfOk result (λ marks. length marks.items < 2 ^ 32) }
     ensures marks { IfOk result (λ marks. (k : ℕ) → k < width → is_marked marks.items k ≡ (k == 0)) }
 {
     let mut marks = Vec::with_capacity(alloc, width as usize)?;
@@ -41,45 +42,34 @@ pub(crate) fn first_marked(alloc: Global, width: u32) -> Result<Vec<bool>, Alloc
 }
 
 // Marks two wires.
-fn mark_both(marks: &mut Vec<bool>, a: u32, b: u32)
-    requires first { a < length marks.now.items }
-    requires second { b < length marks.now.items }
-    ensures count { length marks.new.items ≡ length marks.old.items }
-    ensures marks { (k : ℕ) → is_marked marks.new.items k ≡ (is_marked marks.old.items k || ((a == k) || (b == k))) }
+fn mark_both(marks: &mut [bool], a: u32, b: u32)
+    requires first { a < length marks.now }
+    requires second { b < length marks.now }
+    ensures { (k : ℕ) → is_marked marks.new k ≡ (is_marked marks.old k || ((a == k) || (b == k))) }
 {
     marks[a as usize] = true;
     marks[b as usize] = true;
 }
 
 /// Marks the wires that terms name.
-pub(crate) fn mark_named<F: Field>(marks: &mut Vec<bool>, terms: &[Term<F>])
-    requires { AreOver (length marks.now.items) terms.now }
-    ensures count { length marks.new.items ≡ length marks.old.items }
-    ensures marks { (k : ℕ) → is_marked marks.new.items k ≡ true
-        → (is_marked marks.old.items k ≡ true) ⊎ IsNamed terms.now k }
+pub(crate) fn mark_named<F: Field>(marks: &mut [bool], terms: &[Term<F>])
+    requires { AreOver (length marks.now) terms.now }
+    ensures { (k : ℕ) → is_marked marks.new k ≡ true → (is_marked marks.old k ≡ true) ⊎ IsNamed terms.now k }
 {
     for i in 0..terms.len() {
         mark_both(marks, terms[i].a, terms[i].b);
     }
 }
 
-/// Which of so many wires below the terms of marked wires name; wire 0 is marked, too.
-pub(crate) fn marks_below<F: Field>(
-    alloc: Global,
-    terms: &[Term<F>],
-    marks: &[bool],
-    width: u32,
-) -> Result<Vec<bool>, AllocError>
-    requires terms { AreTerms F.ops (length marks.now) width None terms.now }
-    ensures count { IfOk result (λ below. length below.items ≡ width) }
-    ensures marks { IfOk result
-        (λ below. (k : ℕ) → k < width → is_marked below.items k ≡ ((k == 0) || names marks.now terms.now k)) }
+/// Marks the wires below that the terms of marked wires name.
+pub(crate) fn mark_used<F: Field>(below: &mut [bool], terms: &[Term<F>], marks: &[bool])
+    requires { AreTerms F.ops (length marks.now) (length below.now) None terms.now }
+    ensures { (k : ℕ) → is_marked below.new k ≡ (is_marked below.old k || names marks.now terms.now k) }
 {
-    let mut below = first_marked(alloc, width)?;
     for i in 0..terms.len() {
-        if marks[terms[i].g as usize] {
-            mark_both(&mut below, terms[i].a, terms[i].b);
+        let term = terms[i];
+        if marks[term.g as usize] {
+            mark_both(below, term.a, term.b);
         }
     }
-    Ok(below)
 }

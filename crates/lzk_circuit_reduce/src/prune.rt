@@ -1,51 +1,19 @@
 //! Wires that nothing uses go, from the outputs down.
 
-ghost use Rattle.std.specs.Prelude.{◌≡◌, ℕ, ◌+◌, ◌<◌, ◌^◌, None, true, length, IfOk};
+ghost use Rattle.std.specs.Prelude.{◌≡◌, ℕ, ◌+◌, ◌<◌, ◌^◌, None, true, [], ◌∷◌, ◌++◌, length, IfOk};
 ghost use Rattle.lzk_circuit.specs.Valid.{AreTerms, under_of};
 ghost use Rattle.lzk_circuit_reduce.specs.Marks.{is_marked, marked_before, AreMarkedPlaces};
 ghost use Rattle.lzk_circuit_reduce.specs.Targets.{AreBelow};
-ghost use Rattle.lzk_circuit_reduce.specs.Used.{used_terms, marks_of_under, ArePrunedTo};
-ghost use Rattle.lzk_circuit_reduce.specs.Reduced.{HaveOnes, AreInnerDifferent};
-ghost use Rattle.lzk_circuit_reduce.specs.Asserting.{IsForm, AreUsedWith, AreAllUsedWith};
+ghost use Rattle.lzk_circuit_reduce.specs.Used.{used_layer, marks_of_under, IsPruned, ArePrunedTo};
+ghost use Rattle.lzk_circuit_reduce.specs.Asserting.{AreUsedWith, AreAllUsedWith};
 
-use crate::marks::{first_marked, mark_named, marked_places, marks_below};
+use crate::marks::{first_marked, mark_named, mark_used, marked_places};
+use crate::push::push;
 use crate::reducible::Reducible;
-use crate::targets::{Targets, mark_each, renumbered, targets_of};
+use crate::targets::{Targets, add_renumbered, mark_each, targets_of};
 use lzk_circuit::{Layer, Term, Terms};
 use lzk_field::Field;
 use std::alloc::{AllocError, Global};
-
-// Marks for so many wires, all of them marked.
-fn all_marked(alloc: Global, count: u32) -> Result<Vec<bool>, AllocError>
-    ensures count { IfOk result (λ marks. length marks.items ≡ count) }
-    ensures marks { IfOk result (λ marks. (k : ℕ) → k < count → is_marked marks.items k ≡ true) }
-{
-    let mut marks = Vec::new(alloc);
-    marks.resize(count as usize, true)?;
-    Ok(marks)
-}
-
-// Marks for the wires below a layer, that is of the first of the layers under it: those that its terms name, and
-// those that it asserts. All inputs are marked.
-fn marks_with<F: Field>(
-    alloc: Global,
-    inputs: u32,
-    terms: &[Term<F>],
-    marks: &[bool],
-    own: &[u32],
-    under: &[Layer<F>],
-) -> Result<Vec<bool>, AllocError>
-    requires terms { AreTerms F.ops (length marks.now) (under_of inputs under.now).width None terms.now }
-    requires targets { AreBelow (under_of inputs under.now).width own.now }
-    ensures { IfOk result (λ below. below.items ≡ marks_of_under inputs marks.now terms.now own.now under.now) }
-{
-    let Some(layer) = under.first() else {
-        return all_marked(alloc, inputs);
-    };
-    let mut below = marks_below(alloc, terms, marks, layer.wires)?;
-    mark_each(&mut below, own);
-    Ok(below)
-}
 
 // Which wires of a layer stay.
 #[derive(Drop)]
@@ -72,24 +40,59 @@ fn with_places(alloc: Global, marks: Vec<bool>) -> Result<Marked, AllocError>
     })
 }
 
-// The marked wires of a layer, over the marked ones below.
-fn pruned_layer<F: Field>(
+// So many wires, all of them marked.
+fn all_marked(alloc: Global, count: u32) -> Result<Marked, AllocError>
+    ensures count { IfOk result (λ all. length all.marks.items ≡ count) }
+    ensures marks { IfOk result (λ all. (k : ℕ) → k < count → is_marked all.marks.items k ≡ true) }
+{
+    let mut marks = Vec::new(alloc);
+    marks.resize(count as usize, true)?;
+    with_places(alloc, marks)
+}
+
+// The wires below a layer, that is of the first of the layers under it. Those that its terms name are marked, and
+// those that it asserts. All inputs are marked.
+fn marks_with<F: Field>(
     alloc: Global,
-    terms: &[Term<F>],
+    inputs: u32,
+    layer: &Layer<F>,
+    marks: &[bool],
+    own: &[u32],
+    under: &[Layer<F>],
+) -> Result<Marked, AllocError>
+    requires terms { AreTerms F.ops (length marks.now) (under_of inputs under.now).width None layer.now.terms }
+    requires targets { AreBelow (under_of inputs under.now).width own.now }
+    ensures { IfOk result
+        (λ below. below.marks.items ≡ marks_of_under inputs marks.now layer.now.terms own.now under.now) }
+{
+    let Some(first) = under.first() else {
+        return all_marked(alloc, inputs);
+    };
+    let mut below = first_marked(alloc, first.wires)?;
+    let named = below.as_mut_slice();
+    mark_used(named, layer.terms.as_slice(), marks);
+    mark_each(named, own);
+    with_places(alloc, below)
+}
+
+// Adds the marked wires of a layer, over the marked ones below, to the layers.
+fn add_marked<F: Field>(
+    alloc: Global,
+    layer: &Layer<F>,
     above: &Marked,
     below: &Marked,
-) -> Result<Layer<F>, AllocError>
-    requires { AreTerms F.ops (length above.now.marks.items) (length below.now.marks.items) None terms.now }
-    ensures wires { IfOk result
-        (λ layer. layer.wires ≡ marked_before above.now.marks.items (length above.now.marks.items)) }
-    ensures terms { IfOk result
-        (λ layer. layer.terms ≡ used_terms above.now.marks.items below.now.marks.items terms.now) }
+    kept: &mut Vec<Layer<F>>,
+) -> Result<(), AllocError>
+    requires { AreTerms F.ops (length above.now.marks.items) (length below.now.marks.items) None layer.now.terms }
+    ensures { IfOk result (λ _.
+        kept.new.items ≡ kept.old.items ++ used_layer above.now.marks.items below.now.marks.items layer.now ∷ []) }
 {
-    let mut kept = Vec::with_capacity(alloc, terms.len())?;
+    let terms = layer.terms.as_slice();
+    let mut used = Vec::with_capacity(alloc, terms.len())?;
     for i in 0..terms.len() {
         let term = terms[i];
         if above.marks[term.g as usize] {
-            kept.push_reserved(Term {
+            used.push_reserved(Term {
                 g: above.places[term.g as usize],
                 a: below.places[term.a as usize],
                 b: below.places[term.b as usize],
@@ -97,10 +100,13 @@ fn pruned_layer<F: Field>(
             });
         }
     }
-    Ok(Layer {
-        wires: above.count,
-        terms: Terms::new(kept),
-    })
+    push(
+        kept,
+        Layer {
+            wires: above.count,
+            terms: Terms::new(used),
+        },
+    )
 }
 
 // Whether all of these wires are marked.
@@ -127,9 +133,10 @@ fn is_used<F: Field>(
     ensures { IfOk result (λ used. used ≡ true → AreUsedWith above.now own.now layer.now) }
 {
     let mut below = first_marked(alloc, layer.wires)?;
-    mark_named(&mut below, above.terms.as_slice());
-    mark_each(&mut below, own);
-    Ok(are_marked(&below))
+    let marks = below.as_mut_slice();
+    mark_named(marks, above.terms.as_slice());
+    mark_each(marks, own);
+    Ok(are_marked(marks))
 }
 
 /// Whether each wire of an inner layer, other than wire 0, is named by a term above, or asserted there.
@@ -166,19 +173,18 @@ fn add_pruned<F: Field>(
         moved.new.items kept.new.items) }
 {
     let layers = given.layers;
-    let terms = layers[l].terms.as_slice();
+    let layer = &layers[l];
     let own = targets_of(given.targets, l);
-    let marks = marks_with(
+    let below = marks_with(
         alloc,
         given.inputs,
-        terms,
+        layer,
         &above.marks,
         own,
         &layers[l + 1..],
     )?;
-    let below = with_places(alloc, marks)?;
-    kept.push(pruned_layer(alloc, terms, above, &below)?)?;
-    moved.push(renumbered(alloc, own, &below.places)?)?;
+    add_marked(alloc, layer, above, &below, kept)?;
+    add_renumbered(alloc, own, &below.places, moved)?;
     Ok(below)
 }
 
@@ -188,17 +194,11 @@ pub(crate) fn pruned<F: Field>(
     alloc: Global,
     given: &Reducible<'_, F>,
 ) -> Result<(Vec<Layer<F>>, Vec<Targets>), AllocError>
-    ensures form { IfOk result (λ kept.
-        IsForm F.ops given.now.inputs given.now.targets.now given.now.layers.now kept.1.items kept.0.items) }
-    ensures ones { IfOk result (λ kept. HaveOnes F.ops kept.0.items) }
-    ensures used { IfOk result (λ kept. AreAllUsedWith kept.1.items kept.0.items) }
-    ensures lists { IfOk result (λ kept. length kept.1.items ≡ length kept.0.items) }
-    ensures different { AreInnerDifferent given.now.layers.now
-        → IfOk result (λ kept. AreInnerDifferent kept.0.items) }
+    ensures { IfOk result (λ kept.
+        IsPruned given.now.inputs given.now.targets.now given.now.layers.now kept.1.items kept.0.items) }
 {
     let layers = given.layers;
-    let all = all_marked(alloc, layers[0].wires)?;
-    let mut above = with_places(alloc, all)?;
+    let mut above = all_marked(alloc, layers[0].wires)?;
     let mut kept = Vec::new(alloc);
     let mut moved = Vec::new(alloc);
     for l in 0..layers.len() {

@@ -37,7 +37,10 @@ pub(crate) fn used_with<F: Field>(
     if are_used(alloc, &given)? {
         return Ok((layers, targets));
     }
-    pruned(alloc, &given)
+    let kept = pruned(alloc, &given);
+    drop(layers);
+    drop(targets);
+    kept
 }
 
 // The reduced form of layers. Where sharing leaves wires that nothing uses, they go.

@@ -1,11 +1,9 @@
 //! A wire's terms over other numbers of the wires below.
 
-ghost use Rattle.std.specs.Prelude.{◌≡◌, ℕ, ◌+◌, ◌≤◌, None, List, length, IfOk};
+ghost use Rattle.std.specs.Prelude.{◌≡◌, ℕ, ◌+◌, ◌≤◌, None, length, IfOk};
 ghost use Rattle.lzk_circuit.specs.Valid.{AreTerms};
-ghost use Rattle.lzk_circuit_reduce.specs.Renumbering.{at, of_wire, terms_before, AreOver, AreNonzero};
-ghost use Rattle.lzk_circuit_reduce.specs.Renumbering.{AreNumbersBelow, AreCopies, IsOne};
-ghost use Rattle.lzk_circuit_reduce.specs.Rows.{IsRow, row_value};
-ghost use Rattle.lzk_circuit_reduce.specs.Shared.{IsMovedLayer};
+ghost use Rattle.lzk_circuit_reduce.specs.Renumbering.{terms_before, AreOver, AreNonzero};
+ghost use Rattle.lzk_circuit_reduce.specs.Shared.{IsRenumbered, IsRowOf, IsMovedLayer};
 
 use crate::in_order::in_order;
 use crate::rows::{append, merged};
@@ -22,20 +20,17 @@ pub(crate) fn renumber<F: Field>(
 ) -> Result<(), AllocError>
     requires terms { AreOver (length numbers.now) terms.now }
     requires nonzero { AreNonzero F.ops terms.now }
-    ensures row { (width : ℕ) → AreNumbersBelow width numbers.now → IfOk result (λ _. IsRow F.ops width row.new.items) }
-    ensures value { (old new : List F) → AreCopies F.ops numbers.now old new →
-        IfOk result (λ _. row_value F.ops new row.new.items ≡ row_value F.ops old terms.now) }
-    ensures short { IfOk result (λ _. length row.new.items ≤ length terms.now) }
-    ensures one { IsOne F.ops terms.now → at numbers.now 0 ≡ 0 → IfOk result (λ _. IsOne F.ops row.new.items) }
+    ensures { IfOk result (λ _. IsRenumbered F.ops numbers.now terms.now row.new.items) }
 {
     if in_order(terms, numbers, row)? {
         return Ok(());
     }
     let (front, back) = terms.split_at(terms.len() / 2);
+    renumber(alloc, back, numbers, row)?;
     let mut left = Vec::with_capacity(alloc, front.len())?;
     renumber(alloc, front, numbers, &mut left)?;
-    renumber(alloc, back, numbers, row)?;
     *row = merged(alloc, &left, row)?;
+    drop(left);
     Ok(())
 }
 
@@ -66,13 +61,7 @@ pub(crate) fn wire_row<F: Field>(
 ) -> Result<usize, AllocError>
     requires start { start ≡ terms_before g layer.now.terms }
     requires terms { AreTerms F.ops layer.now.wires (length numbers.now) None layer.now.terms }
-    ensures end { IfOk result (λ end. end ≡ terms_before (g + 1) layer.now.terms) }
-    ensures row { (width : ℕ) → AreNumbersBelow width numbers.now → IfOk result (λ _. IsRow F.ops width row.new.items) }
-    ensures value { (old new : List F) → AreCopies F.ops numbers.now old new →
-        IfOk result (λ _. row_value F.ops new row.new.items ≡ row_value F.ops old (of_wire g layer.now.terms)) }
-    ensures short { IfOk result (λ end. start + length row.new.items ≤ end) }
-    ensures one { IsOne F.ops (of_wire g layer.now.terms) → at numbers.now 0 ≡ 0
-        → IfOk result (λ _. IsOne F.ops row.new.items) }
+    ensures { IfOk result (λ end. IsRowOf F.ops layer.now numbers.now g start end row.new.items) }
 {
     let terms = layer.terms.as_slice();
     let end = end_of(terms, start, g);

@@ -3,8 +3,8 @@
 ghost use Rattle.std.specs.Prelude.{◌≡◌, ℕ, ◌<◌, ◌≤◌, None, length, IfOk};
 ghost use Rattle.lzk_circuit.specs.Valid.{AreTerms, AreLayers};
 ghost use Rattle.lzk_circuit_reduce.specs.Renumbering.{at};
-ghost use Rattle.lzk_circuit_reduce.specs.Reduced.{HaveOnes, AreInnerDifferent, AreSameOutputs, output_count};
-ghost use Rattle.lzk_circuit_reduce.specs.Shared.{IsSharedLayer};
+ghost use Rattle.lzk_circuit_reduce.specs.Reduced.{HaveOnes};
+ghost use Rattle.lzk_circuit_reduce.specs.Shared.{IsSharedLayer, AreSharedLayers};
 ghost use Rattle.lzk_circuit.specs.Limits.{most_wires};
 
 use crate::kept::{none_kept, wire_of};
@@ -25,8 +25,8 @@ fn shared_layer<F: Field>(
     requires most { layer.now.wires ≤ most_wires }
     ensures { IfOk result (λ shared. IsSharedLayer F.ops layer.now numbers.old.items shared numbers.new.items) }
 {
-    let mut kept = none_kept(alloc, layer.wires)?;
     let mut wires = Vec::with_capacity(alloc, layer.wires as usize)?;
+    let mut kept = none_kept(alloc, layer.wires)?;
     let mut row = Vec::new(alloc);
     let below = numbers.as_slice();
     let mut start = 0;
@@ -36,6 +36,7 @@ fn shared_layer<F: Field>(
         wires.push_reserved(wire);
         start = end;
     }
+    drop(row);
     *numbers = wires;
     Ok(Layer {
         wires: kept.count,
@@ -65,19 +66,14 @@ pub(crate) fn shared<F: Field>(
     requires some { 1 ≤ length layers.now }
     requires layers { AreLayers F.ops inputs layers.now }
     requires ones { HaveOnes F.ops layers.now }
-    ensures count { IfOk result (λ kept. length kept.items ≡ length layers.now) }
-    ensures layers { IfOk result (λ kept. AreLayers F.ops inputs kept.items) }
-    ensures outputs { IfOk result (λ kept. output_count kept.items ≡ output_count layers.now) }
-    ensures values { IfOk result (λ kept. AreSameOutputs F.ops inputs kept.items layers.now) }
-    ensures ones { IfOk result (λ kept. HaveOnes F.ops kept.items) }
-    ensures different { IfOk result (λ kept. AreInnerDifferent kept.items) }
+    ensures { IfOk result (λ kept. AreSharedLayers F.ops inputs layers.now kept.items) }
 {
+    let mut kept = Vec::with_capacity(alloc, layers.len())?;
     let mut numbers = numbers_below(alloc, inputs)?;
-    let mut kept = Vec::new(alloc);
     for l in (1..layers.len()).rev() {
-        kept.push(shared_layer(alloc, &layers[l], &mut numbers)?)?;
+        kept.push_reserved(shared_layer(alloc, &layers[l], &mut numbers)?);
     }
-    kept.push(moved_layer(alloc, &layers[0], &numbers)?)?;
+    kept.push_reserved(moved_layer(alloc, &layers[0], &numbers)?);
     drop(numbers);
     kept.reverse();
     Ok(kept)

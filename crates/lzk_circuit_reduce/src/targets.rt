@@ -1,10 +1,11 @@
 //! The wires that a layer asserts to be 0.
 
-ghost use Rattle.std.specs.Prelude.{◌≡◌, ℕ, ◌<◌, ◌==◌, ◌||◌, List, [], length, map, true, IfOk};
+ghost use Rattle.std.specs.Prelude.{◌≡◌, ℕ, ◌<◌, ◌==◌, ◌||◌, List, [], ◌∷◌, ◌++◌, length, map, true, IfOk};
 ghost use Rattle.lzk_circuit_reduce.specs.Marks.{is_marked};
 ghost use Rattle.lzk_circuit_reduce.specs.Renumbering.{at};
 ghost use Rattle.lzk_circuit_reduce.specs.Targets.{is_in, targets_at, AreBelow};
 
+use crate::push::push;
 use std::alloc::{AllocError, Global};
 use std::marker::Model;
 
@@ -49,36 +50,35 @@ pub(crate) fn targets_of(targets: &[Targets], l: usize) -> &[u32]
     }
 }
 
-/// Wires under other numbers.
-pub(crate) fn renumbered(
+/// Adds wires under other numbers to what layers assert.
+pub(crate) fn add_renumbered(
     alloc: Global,
     wires: &[u32],
     numbers: &[u32],
-) -> Result<Targets, AllocError>
+    moved: &mut Vec<Targets>,
+) -> Result<(), AllocError>
     requires { AreBelow (length numbers.now) wires.now }
-    ensures { IfOk result (λ moved. moved ≡ map (at numbers.now) wires.now) }
+    ensures { IfOk result (λ _. moved.new.items ≡ moved.old.items ++ map (at numbers.now) wires.now ∷ []) }
 {
     let mut list = Vec::with_capacity(alloc, wires.len())?;
     for i in 0..wires.len() {
-        list.push(numbers[wires[i] as usize])?;
+        push(&mut list, numbers[wires[i] as usize])?;
     }
-    Ok(Targets::new(list))
+    push(moved, Targets::new(list))
 }
 
 // Marks a wire.
-fn mark_one(marks: &mut Vec<bool>, wire: u32)
-    requires { wire < length marks.now.items }
-    ensures count { length marks.new.items ≡ length marks.old.items }
-    ensures marks { (k : ℕ) → is_marked marks.new.items k ≡ (is_marked marks.old.items k || (wire == k)) }
+fn mark_one(marks: &mut [bool], wire: u32)
+    requires { wire < length marks.now }
+    ensures { (k : ℕ) → is_marked marks.new k ≡ (is_marked marks.old k || (wire == k)) }
 {
     marks[wire as usize] = true;
 }
 
 /// Marks wires.
-pub(crate) fn mark_each(marks: &mut Vec<bool>, wires: &[u32])
-    requires { AreBelow (length marks.now.items) wires.now }
-    ensures count { length marks.new.items ≡ length marks.old.items }
-    ensures marks { (k : ℕ) → is_marked marks.new.items k ≡ (is_marked marks.old.items k || is_in wires.now k) }
+pub(crate) fn mark_each(marks: &mut [bool], wires: &[u32])
+    requires { AreBelow (length marks.now) wires.now }
+    ensures { (k : ℕ) → is_marked marks.new k ≡ (is_marked marks.old k || is_in wires.now k) }
 {
     for i in 0..wires.len() {
         mark_one(marks, wires[i]);

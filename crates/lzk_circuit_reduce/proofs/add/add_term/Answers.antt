@@ -1,9 +1,10 @@
-use Rattle.std.proofs.Common.{◌≡◌, ◌≢◌, ◌∙◌, ◌++◌, ◌∷◌, [], ap, sym, subst}
+use Rattle.std.proofs.Common.{◌≡◌, ◌≢◌, ◌≤◌, ◌+◌, ◌∙◌, ◌++◌, ◌∷◌, [], ap, sym, subst, arith, length}
+use Rattle.std.proofs.lemmas.List.{length-append}
 use Rattle.std.proofs.lemmas.List.Elements.{All-push}
 use Rattle.std.proofs.lemmas.Result.{IfOk-weaker}
 use Rattle.lzk_field.specs.Sums.{entry}
 use Rattle.lzk_field.proofs.RingBasics.{zero_plus, zero_times}
-use Rattle.lzk_circuit_reduce.specs.Rows.{IsRow, IsUnder, AreUnder, row_value, term_value}
+use Rattle.lzk_circuit_reduce.specs.Rows.{IsRow, IsUnder, AreUnder, row_value, term_value, ordered}
 use Rattle.lzk_circuit_reduce.proofs.AddLaws.{pushed-value, none-behind}
 use Rattle.lzk_circuit_reduce.proofs.add.add_term.Goals as goal
 
@@ -25,22 +26,40 @@ returns-then-is_behind-clause-row g c width h la lb =
     let e = c.term_of-term.ensures in
     let nonzero : t.coef ≢ o.zero = λ z. c.is_zero.ensures.no c.if-is_zero.false (sym e.coef ∙ z) in
     let grown = c.is_behind.ensures.row width (subst (IsRow o width) (sym c.deref.ensures.value) h) nonzero e.wire e.order (e.width width la lb) c.if-is_behind.true in
-    subst (IsRow o width) (ap (λ us. us ++ t ∷ []) c.deref.ensures.value ∙ sym c.in_ok-push.ensures.items) grown
+    let row = c.args.row.now.items in
+    let new = c.push.new.list.items in
+    IfOk-weaker c.push.result (λ _. new ≡ row ++ t ∷ []) (λ _. IsRow o width new) (λ _ is. subst (IsRow o width) (ap (λ us. us ++ t ∷ []) c.deref.ensures.value ∙ sym is) grown) c.push.ensures
 
 pub returns-then-is_behind-clause-value : goal.returns-then-is_behind-clause-value
 returns-then-is_behind-clause-value g c below =
     let o = g.F.Field.ops in
     let row = c.args.row.now.items in
-    ap (row_value o below) c.in_ok-push.ensures.items ∙ pushed-value o g.F.Field.laws.ring below row c.term_of-term.result ∙ ap (λ x. o.plus x (row_value o below row)) (c.term_of-term.ensures.value below)
+    let t = c.term_of-term.result in
+    let new = c.push.new.list.items in
+    let p = o.times c.args.coef (o.times (entry o below c.args.a) (entry o below c.args.b)) in
+    IfOk-weaker c.push.result (λ _. new ≡ row ++ t ∷ []) (λ _. row_value o below new ≡ o.plus p (row_value o below row))
+    (λ _ is. ap (row_value o below) is ∙ pushed-value o g.F.Field.laws.ring below row t ∙ ap (λ x. o.plus x (row_value o below row)) (c.term_of-term.ensures.value below)) c.push.ensures
+
+pub returns-then-is_behind-clause-short : goal.returns-then-is_behind-clause-short
+returns-then-is_behind-clause-short g c =
+    let row = c.args.row.now.items in
+    let t = c.term_of-term.result in
+    let new = c.push.new.list.items in
+    IfOk-weaker c.push.result (λ _. new ≡ row ++ t ∷ []) (λ _. length new ≤ length row + 1) (λ _ is. omega (arith, ap length is, length-append row (t ∷ []))) c.push.ensures
 
 pub returns-then-is_behind-clause-under : goal.returns-then-is_behind-clause-under
 returns-then-is_behind-clause-under g c ns d h la lb =
-    subst (AreUnder ns d) (sym c.in_ok-push.ensures.items) (All-push (IsUnder ns d) c.args.row.now.items c.term_of-term.result h (c.term_of-term.ensures.under ns d la lb))
+    let row = c.args.row.now.items in
+    let t = c.term_of-term.result in
+    let new = c.push.new.list.items in
+    IfOk-weaker c.push.result (λ _. new ≡ row ++ t ∷ []) (λ _. AreUnder ns d new) (λ _ is. subst (AreUnder ns d) (sym is) (All-push (IsUnder ns d) row t h (c.term_of-term.ensures.under ns d la lb))) c.push.ensures
 
 pub returns-then-is_behind-clause-alone : goal.returns-then-is_behind-clause-alone
 returns-then-is_behind-clause-alone g c none nonzero =
+    let row = c.args.row.now.items in
     let t = c.term_of-term.result in
-    c.in_ok-push.ensures.items ∙ ap (λ us. us ++ t ∷ []) none ∙ ap (λ u. u ∷ []) c.term_of-term.ensures.exact
+    let new = c.push.new.list.items in
+    IfOk-weaker c.push.result (λ _. new ≡ row ++ t ∷ []) (λ _. new ≡ ordered c.args.coef c.args.a c.args.b ∷ []) (λ _ is. is ∙ ap (λ us. us ++ t ∷ []) none ∙ ap (λ u. u ∷ []) c.term_of-term.ensures.exact) c.push.ensures
 
 pub insert_term-requires-after_bounds : goal.insert_term-requires-after_bounds
 insert_term-requires-after_bounds g c κs within z = c.is_zero.ensures.no c.if-is_zero.false (sym c.term_of-term.ensures.coef ∙ z)

@@ -1,5 +1,5 @@
 use Rattle.std.proofs.Common.{◌≡◌, ℕ, ◌+◌, ◌<◌, ◌∙◌, ap, sym, arith, List, length, [], ◌∷◌, ◌++◌, get_or, drop}
-use Rattle.std.proofs.lemmas.List.{append_assoc, append-nil, drop_all, drop_more}
+use Rattle.std.proofs.lemmas.List.{append_assoc, append-nil, drop_all, drop_more, length-append}
 use Rattle.lzk_field.specs.Ring.{Ops}
 use Rattle.lzk_circuit.specs.declared.layer.Layer.{Layer}
 use Rattle.lzk_circuit.specs.Limits.{most_wires}
@@ -22,7 +22,14 @@ attached-more o ws layers before more all l layer own within is own_is push h =
     ap (λ xs. xs ++ after) push ∙ append_assoc before (attached o layer own ∷ []) after ∙ ap (λ xs. before ++ xs) (sym here) ∙ h
 
 pub loop-l-init : goal.loop-l-init
-loop-l-init g c = ap (λ xs. xs ++ attached_layers g.F.Field.ops c.args.targets.now c.args.layers.now) c.in_ok-all.ensures.items
+loop-l-init g c = record {
+  all = ap (λ xs. xs ++ attached_layers g.F.Field.ops c.args.targets.now c.args.layers.now) c.in_ok-all.ensures.items;
+  count = ap length c.in_ok-all.ensures.items;
+  room = omega (arith, c.in_ok-all.ensures.capacity);
+}
+
+pub push_reserved-requires : goal.push_reserved-requires
+push_reserved-requires g c = omega (arith, c.loop-l.invariant.count, c.loop-l.invariant.room, c.loop-l-test.true)
 
 pub attached_layer-requires-clause-few : goal.attached_layer-requires-clause-few
 attached_layer-requires-clause-few g c κs within =
@@ -40,11 +47,18 @@ loop-l-preserved g c =
     let l = c.loop-l.l in
     let layer = c.index-layers-l.result in
     let own = c.as_slice.ensures ∙ any-default ws l c.index-targets-l.result [] (omega (arith, c.loop-l-test.true, c.requires.lists)) c.index-targets-l.is in
-    attached-more o ws layers c.loop-l.all.items c.push.new.self.items (attached_layers o ws layers) l layer c.as_slice.result.now c.loop-l-test.true c.index-layers-l.is own
-    (c.in_ok-push.ensures.items ∙ ap (λ x. c.loop-l.all.items ++ x ∷ []) c.in_ok-attached_layer.ensures) c.loop-l.invariant
+    let before = c.loop-l.all.items in
+    let push = c.push_reserved.ensures in
+    record {
+      all =
+          attached-more o ws layers before c.push_reserved.new.self.items (attached_layers o ws layers) l layer c.as_slice.result.now c.loop-l-test.true c.index-layers-l.is own
+          (push.items ∙ ap (λ x. before ++ x ∷ []) c.in_ok-attached_layer.ensures) c.loop-l.invariant.all;
+      count = omega (arith, ap length push.items, length-append before (c.in_ok-attached_layer.field-0 ∷ []), c.loop-l.invariant.count);
+      room = omega (arith, push.capacity, c.loop-l.invariant.room);
+    }
 
 pub returns : goal.returns
 returns g c =
     let o = g.F.Field.ops in
     let all = c.loop-l.all.items in
-    sym (append-nil all) ∙ ap (λ ls. all ++ attached_layers o (drop c.loop-l.l c.args.targets.now) ls) (sym (drop_all c.loop-l.l c.args.layers.now c.loop-l-test.false)) ∙ c.loop-l.invariant
+    sym (append-nil all) ∙ ap (λ ls. all ++ attached_layers o (drop c.loop-l.l c.args.targets.now) ls) (sym (drop_all c.loop-l.l c.args.layers.now c.loop-l-test.false)) ∙ c.loop-l.invariant.all

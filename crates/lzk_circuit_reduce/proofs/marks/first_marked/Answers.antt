@@ -31,3 +31,6 @@ loop-k-preserved c =
 
 pub returns-clause-count : goal.returns-clause-count
 returns-clause-count c = omega (arith, c.loop-k.invariant.0, c.loop-k-test.false, c.loop-k.auto.k-end)
+
+pub returns-clause-few : goal.returns-clause-few
+returns-clause-few c = omega (arith, c.loop-k.invariant.0, c.loop-k.auto.k-end, c.ranges.width)

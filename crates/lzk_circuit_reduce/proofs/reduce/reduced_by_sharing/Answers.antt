@@ -7,7 +7,7 @@ pub used-requires-clause-some : goal.used-requires-clause-some
 used-requires-clause-some g c κs within = omega (arith, c.in_ok-different.ensures.count, c.requires.some)
 
 pub used-requires-clause-layers : goal.used-requires-clause-layers
-used-requires-clause-layers g c κs within = c.in_ok-different.ensures.layers
+used-requires-clause-layers g c κs within = c.in_ok-different.ensures.valid
 
 pub used-requires-clause-ones : goal.used-requires-clause-ones
 used-requires-clause-ones g c κs within = c.in_ok-different.ensures.ones

@@ -23,8 +23,8 @@ loop-g-preserved g c =
     let found = c.in_ok-end.ensures in
     let e = c.in_ok-append.ensures in
     moving-adds o g.F.Field.laws.ring c.args.layer.now c.args.numbers.now c.loop-g.g c.loop-g.start c.in_ok-end.end c.loop-g.terms.items row c.append.new.terms.items c.loop-g-test.true c.requires
-    found.end
-    (λ width n. subst (IsRow o width) (sym is) (found.row width n))
+    found.end_is
+    (λ width n. subst (IsRow o width) (sym is) (found.is width n))
     (λ old new h. ap (row_value o new) is ∙ found.value old new h)
     (omega (arith, ap length is, found.short))
     e.terms e.before e.added e.count c.loop-g.invariant

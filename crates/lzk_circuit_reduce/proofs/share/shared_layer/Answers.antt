@@ -49,8 +49,8 @@ loop-g-preserved g c =
     subst (Sharing o g.F.Field.coding.number layer below (c.loop-g.g + 1) c.in_ok-end.end c.wire_of.new.kept) (sym c.push_reserved.ensures.items)
     (sharing-adds o g.F.Field.coding.number layer below c.loop-g.g c.loop-g.start c.in_ok-end.end c.in_ok-wire.wire c.loop-g.kept c.wire_of.new.kept c.loop-g.wires.items c.deref.result.now
     (record {
-      end_is = found.end;
-      is = λ width n. subst (IsRow o width) (sym is) (found.row width n);
+      end_is = found.end_is;
+      is = λ width n. subst (IsRow o width) (sym is) (found.is width n);
       value = λ old new h. ap (row_value o new) is ∙ found.value old new h;
       short = omega (arith, ap length is, found.short);
       one = λ h z. subst (IsOne o) (sym is) (found.one h z);
